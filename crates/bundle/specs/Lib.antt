@@ -1,0 +1,6 @@
+-- Constraint bundles: reading, writing, showing a constraint.
+pub mod Bundle
+pub mod Layout
+pub mod Read
+pub mod Write
+pub mod Show

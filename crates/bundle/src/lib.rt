@@ -1,0 +1,1 @@
+// Constraint bundles: what reading, writing and showing one gives, in specs/.

@@ -1,0 +1,60 @@
+-- The two fields with which each file starts, and what may stand after all is read. Document 01, "Fields" and "What each operation refuses". Assumes nothing.
+use mathlib.Core.Option.{Option, none, some}
+use mathlib.Core.Bool.{Bool, true, false, _&&_, _||_}
+use mathlib.Core.List.{List, [], _∷_, _++_}
+use Prim.Native.Nat.{ℕ}
+use lib.Dec.{leb, eqb}
+use lib.ListN.{length, getD}
+use Rattle.forms.specs.Edition.{Edition, editionNumbered}
+use Rattle.fields.specs.declared.Answer.{Answer}
+use Rattle.fields.specs.Answers.{answer, Result, refused, accepted, _>>=_, _>>_, need, found}
+use Rattle.fields.specs.Fields.{Field, Fields, ends, cut, _▸_, fieldBytes}
+
+-- The tags 0x01 (edition) and 0x02 (K), of every kind of file.
+unfoldable pub headerTag : ℕ → Bool
+headerTag tag = eqb tag 0x01 || eqb tag 0x02
+
+-- What the header tells, and the fields after it.
+pub record Header : Type 0 where
+  pub edition : Edition
+  pub K : ℕ
+  pub rest : Fields
+
+-- K must be the one given, if one is.
+unfoldable pub agrees : Option ℕ → ℕ → Bool
+agrees none K = true
+agrees (some given) K = eqb K given
+
+-- `file` is the file's number, and `known` tells the tags that this kind of file has.
+module _ (file : ℕ) (known : ℕ → Bool) where
+  -- A header field: its place, its one byte, and the fields after it. 2, 3, 4, 6.
+  unfoldable pub headerField : ℕ → Fields → Result (ℕ × ℕ × Fields)
+  headerField tag (ends at) = refused (answer 2 file at)
+  headerField tag (cut at) = refused (answer 2 file at)
+  headerField tag (f ▸ fs) = do
+    need (answer 3 file (f .at)) (known (f .tag))
+    need (answer 4 file (f .at)) (eqb (f .tag) tag)
+    need (answer 6 file (f .at)) (eqb (length (f .contents)) 1)
+    accepted (f .at, getD (f .contents) 0 0, fs)
+
+  -- Apart from notes each file starts with 0x01 (edition, must be 1) and then 0x02 (K, 1 to 16), once each. 5, 7, 9.
+  unfoldable pub header : Option ℕ → Fields → Result Header
+  header given fs = do
+    (at, number, fs1) ← headerField 0x01 fs
+    e ← found (answer 5 file at) (editionNumbered number)
+    (at2, K, fs2) ← headerField 0x02 fs1
+    need (answer 7 file at2) (leb 1 K && leb K (e .constants))
+    need (answer 9 file at2) (agrees given K)
+    accepted (record { edition = e; K = K; rest = fs2 })
+
+  -- After the root is closed, or the formula is whole, the file ends. 2, 3, 19.
+  unfoldable pub finished : Fields → Result (Unit {0})
+  finished (ends at) = accepted tt
+  finished (cut at) = refused (answer 2 file at)
+  finished (f ▸ fs) = do
+    need (answer 3 file (f .at)) (known (f .tag))
+    refused (answer 19 file (f .at))
+
+-- The two header fields as edition 1 writes them.
+unfoldable pub headerBytes : ℕ → List ℕ
+headerBytes K = fieldBytes 0x01 (1 ∷ []) ++ fieldBytes 0x02 (K ∷ [])

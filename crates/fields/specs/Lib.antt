@@ -1,0 +1,5 @@
+-- Bytes to fields and numbers, and the answers of the operations.
+pub mod Answers
+pub mod Numbers
+pub mod Fields
+pub mod Header

@@ -1,0 +1,68 @@
+-- Big-endian numbers of any width, unsigned and two's complement. Document 01, "Fields". Assumes nothing.
+use mathlib.Core.Path.{_≡_, refl}
+use mathlib.Core.Bool.{cond}
+use mathlib.Core.List.{List, [], _∷_, _++_}
+use Prim.Native.Nat.{ℕ, zero, suc, _+_, _*_, _-_, _/_, _%_, _^_}
+use lib.Dec.{ltb}
+use lib.IntN.{ℤ, pos, negsuc, _-ℤ_}
+use lib.ListN.{length, take, drop}
+use Rattle.forms.specs.Forms.{Form}
+
+-- The number whose first part is n and whose other bytes these are.
+abbrev pub natFrom : ℕ → List ℕ → ℕ
+natFrom n [] = n
+natFrom n (b ∷ bs) = natFrom (n * 256 + b) bs
+
+-- All numbers are big-endian.
+unfoldable pub unsigned : List ℕ → ℕ
+unsigned bs = natFrom 0 bs
+
+-- Signed ones are two's complement: n, below full, stands for n or, in the upper half, for n - full.
+unfoldable pub complement : (full n : ℕ) → ℤ
+complement full n = cond (ltb (n + n) full) (pos n) (pos n -ℤ pos full)
+
+unfoldable pub signed : List ℕ → ℤ
+signed bs = complement (256 ^ length bs) (unsigned bs)
+
+-- The other way: w bytes of a number.
+unfoldable pub unsignedBytes : (w : ℕ) → ℕ → List ℕ
+unsignedBytes zero n = []
+unsignedBytes (suc w) n = unsignedBytes w (n / 256) ++ (n % 256 ∷ [])
+
+unfoldable pub residue : (full : ℕ) → ℤ → ℕ
+residue full (pos n) = n
+residue full (negsuc n) = full - suc n
+
+unfoldable pub signedBytes : (w : ℕ) → ℤ → List ℕ
+signedBytes w z = unsignedBytes w (residue (256 ^ w) z)
+
+-- n signed numbers of w bytes each.
+unfoldable pub signeds : (w n : ℕ) → List ℕ → List ℤ
+signeds w zero bs = []
+signeds w (suc n) bs = signed (take w bs) ∷ signeds w n (drop w bs)
+
+unfoldable pub signedsBytes : (w : ℕ) → List ℤ → List ℕ
+signedsBytes w [] = []
+signedsBytes w (z ∷ zs) = signedBytes w z ++ signedsBytes w zs
+
+-- A form as K+1 numbers: the K coefficients, then d.
+unfoldable pub flat : Form → List ℤ
+flat t = t .coeffs ++ (t .d ∷ [])
+
+unfoldable pub formFrom : (w K : ℕ) → List ℕ → Form
+formFrom w K bs = record { coeffs = signeds w K bs; d = signed (take w (drop (K * w) bs)) }
+
+unfoldable pub formBytes : (w : ℕ) → Form → List ℕ
+formBytes w t = signedsBytes w (flat t)
+
+-- the bytes of one form
+abbrev pub formWidth : (w K : ℕ) → ℕ
+formWidth w K = suc K * w
+
+minus-two : signed (0xFF ∷ 0xFE ∷ []) ≡ negsuc 1
+unfolding signed unsigned complement
+minus-two = refl
+
+minus-two-bytes : signedBytes 4 (negsuc 1) ≡ 0xFF ∷ 0xFF ∷ 0xFF ∷ 0xFE ∷ []
+unfolding signedBytes unsignedBytes residue
+minus-two-bytes = refl

@@ -1,0 +1,1 @@
+// Forms, constraints, lines and formulas, and what they say: specs/.

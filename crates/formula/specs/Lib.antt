@@ -1,0 +1,3 @@
+-- Formulas on bytes: writing, reading, testing.
+pub mod Formula
+pub mod Test

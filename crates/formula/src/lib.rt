@@ -1,0 +1,1 @@
+// Formulas on bytes: what writing, reading and testing one gives, in specs/.

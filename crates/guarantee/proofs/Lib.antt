@@ -1,0 +1,2 @@
+-- The theorems over all layers.
+pub mod Stages

@@ -1,0 +1,2 @@
+-- The starred stages, and the theorems over all layers.
+pub mod Stages

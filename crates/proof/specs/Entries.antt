@@ -1,0 +1,97 @@
+-- How a proof file states its rows and claims. Document 01, "The rows" and "Fields". Assumes nothing.
+use mathlib.Core.Option.{Option, none, some}
+use mathlib.Core.Bool.{Bool, true, false, not, _&&_, _||_}
+use mathlib.Core.List.{List}
+use Prim.Native.Nat.{ℕ, _+_, _*_}
+use lib.Dec.{leb, eqb}
+use lib.ListN.{length, take, drop}
+use Rattle.forms.specs.Edition.{Edition}
+use Rattle.forms.specs.Forms.{Line}
+use Rattle.calculus.specs.Rules.{Combine, Reduce, Scale, Derive, Strengthen, CloseNumber, CloseStride, Entry, row, claim}
+use Rattle.fields.specs.Answers.{answer, fileProof, Result, accepted, _>>=_, _>>_, need, found}
+use Rattle.fields.specs.Numbers.{unsigned, signed, formFrom, formWidth}
+use Rattle.fields.specs.Fields.{Field}
+use Rattle.fields.specs.Header.{headerTag}
+
+pub data Tagged : Type 0 where
+  combineTag reduceTag scaleTag strengthenTag numberTag strideTag claimTag : Tagged
+
+unfoldable pub entryTagged : ℕ → Option Tagged
+entryTagged tag =
+    elim (eqb tag 0x10) [
+      | true ↦ some combineTag
+      | false ↦
+          elim (eqb tag 0x11) [
+            | true ↦ some reduceTag
+            | false ↦
+                elim (eqb tag 0x12) [
+                  | true ↦ some scaleTag
+                  | false ↦
+                      elim (eqb tag 0x13) [
+                        | true ↦ some strengthenTag
+                        | false ↦
+                            elim (eqb tag 0x14) [
+                              | true ↦ some numberTag
+                              | false ↦
+                                  elim (eqb tag 0x15) [
+                                    | true ↦ some strideTag
+                                    | false ↦
+                                        elim (eqb tag 0x20) [ true ↦ some claimTag | false ↦ none ]
+                                  ]
+                            ]
+                      ]
+                ]
+          ]
+    ]
+
+-- The tags that a proof has.
+unfoldable pub proofTag : ℕ → Bool
+proofTag tag = headerTag tag || leb 0x10 tag && leb tag 0x15 || eqb tag 0x20
+
+-- A claim stands directly after a row 0x10 to 0x12 only; `made` is the line that the row before it made, if it is one of these.
+unfoldable pub inPlace : (made : Option Line) → Tagged → Bool
+inPlace made combineTag = true
+inPlace made reduceTag = true
+inPlace made scaleTag = true
+inPlace made strengthenTag = true
+inPlace made numberTag = true
+inPlace made strideTag = true
+inPlace none claimTag = false
+inPlace (some l) claimTag = true
+
+module _ (e : Edition) where
+  -- Line number i of a row, and the bytes of its multiplier i (or g) behind n line numbers.
+  unfoldable pub lineNumber : (i : ℕ) → List ℕ → ℕ
+  lineNumber i bs = unsigned (take (e .lineWidth) (drop (i * e .lineWidth) bs))
+
+  unfoldable pub multiplier : (n i : ℕ) → List ℕ → List ℕ
+  multiplier n i bs = take (e .multiplierWidth) (drop (n * e .lineWidth + i * e .multiplierWidth) bs)
+
+  module _ (K : ℕ) where
+    unfoldable pub sizeOf : Tagged → ℕ
+    sizeOf combineTag = 2 * e .lineWidth + 2 * e .multiplierWidth
+    sizeOf reduceTag = 2 * e .lineWidth + e .multiplierWidth
+    sizeOf scaleTag = e .lineWidth + e .multiplierWidth
+    sizeOf strengthenTag = e .lineWidth
+    sizeOf numberTag = e .lineWidth
+    sizeOf strideTag = e .lineWidth + e .multiplierWidth
+    sizeOf claimTag = 2 * formWidth (e .termWidth) K
+
+    -- Parameters in the order given; multipliers are signed only in 0x11. A claim is t then tA.
+    unfoldable pub entryFrom : Tagged → List ℕ → Entry
+    entryFrom combineTag bs = row (Derive (Combine (lineNumber 0 bs) (lineNumber 1 bs) (unsigned (multiplier 2 0 bs)) (unsigned (multiplier 2 1 bs))))
+    entryFrom reduceTag bs = row (Derive (Reduce (lineNumber 0 bs) (lineNumber 1 bs) (signed (multiplier 2 0 bs))))
+    entryFrom scaleTag bs = row (Derive (Scale (lineNumber 0 bs) (unsigned (multiplier 1 0 bs))))
+    entryFrom strengthenTag bs = row (Strengthen (lineNumber 0 bs))
+    entryFrom numberTag bs = row (CloseNumber (lineNumber 0 bs))
+    entryFrom strideTag bs = row (CloseStride (lineNumber 0 bs) (unsigned (multiplier 1 0 bs)))
+    entryFrom claimTag bs = claim (formFrom (e .termWidth) K bs) (formFrom (e .termWidth) K (drop (formWidth (e .termWidth) K) bs))
+
+    -- The entry that a field states. 3, 4, 6.
+    unfoldable pub entry : (made : Option Line) → Field → Result Entry
+    entry made f = do
+      need (answer 3 fileProof (f .at)) (proofTag (f .tag))
+      tagged ← found (answer 4 fileProof (f .at)) (entryTagged (f .tag))
+      need (answer 4 fileProof (f .at)) (inPlace made tagged)
+      need (answer 6 fileProof (f .at)) (eqb (length (f .contents)) (sizeOf tagged))
+      accepted (entryFrom tagged (f .contents))

@@ -1,0 +1,5 @@
+-- Checking a proof: its entries, the rows, the branches, the whole.
+pub mod Entries
+pub mod Rows
+pub mod Check
+pub mod Layout

@@ -1,0 +1,1 @@
+// Checking a proof: what the check gives, in specs/.
