@@ -1,16 +1,17 @@
 -- A bundle of constraints and how a file states it. Document 01, "Fields" and "Read a bundle". Assumes nothing.
 use mathlib.Core.Option.{Option, none, some}
-use mathlib.Core.Bool.{Bool, true, false, _||_}
+use mathlib.Core.Bool.{true, false}
 use mathlib.Core.List.{List, [], _∷_}
 use Prim.Native.Nat.{ℕ, suc}
 use lib.Dec.{leb, ltb, eqb}
 use lib.ListN.{length}
 use Rattle.forms.specs.Edition.{Edition, edition1}
 use Rattle.forms.specs.Forms.{Kind, ≤0, =0, Constraint}
+use Rattle.fields.specs.declared.FileKind.{FileKind}
 use Rattle.fields.specs.Answers.{answer, fileA, fileB, Result, refused, accepted, _>>=_, _>>_, need, found}
 use Rattle.fields.specs.Numbers.{formFrom, formWidth}
 use Rattle.fields.specs.Fields.{Field, Fields, ends, cut, _▸_, fields}
-use Rattle.fields.specs.Header.{Header, headerTag, header}
+use Rattle.fields.specs.Header.{Header, known, header}
 
 -- K constants, and constraints in file order.
 pub record Bundle : Type 0 where
@@ -20,10 +21,6 @@ pub record Bundle : Type 0 where
 -- 0x03 "t ≤ 0", 0x04 "t = 0".
 unfoldable pub kindTagged : ℕ → Option Kind
 kindTagged tag = elim (eqb tag 0x03) [ true ↦ some ≤0 | false ↦ elim (eqb tag 0x04) [ true ↦ some =0 | false ↦ none ] ]
-
--- The tags that a bundle has.
-unfoldable pub bundleTag : ℕ → Bool
-bundleTag tag = headerTag tag || eqb tag 0x03 || eqb tag 0x04
 
 -- 1, too long.
 unfoldable pub atMost : (limit file : ℕ) → List ℕ → Result (Unit {0})
@@ -35,7 +32,7 @@ module _ (file : ℕ) where
   constraints e K n (ends at) = accepted []
   constraints e K n (cut at) = refused (answer 2 file at)
   constraints e K n (f ▸ fs) = do
-    need (answer 3 file (f .at)) (bundleTag (f .tag))
+    need (answer 3 file (f .at)) (known FileKind.Bundle (f .tag))
     kind ← found (answer 4 file (f .at)) (kindTagged (f .tag))
     need (answer 6 file (f .at)) (eqb (length (f .contents)) (formWidth (e .coefficientWidth) K))
     need (answer 8 file (f .at)) (ltb n (e .constraints))
@@ -45,7 +42,7 @@ module _ (file : ℕ) where
   -- What a bundle's fields state; K must be the given one, if one is given.
   unfoldable pub bundle : Option ℕ → Fields → Result Bundle
   bundle given fs = do
-    h ← header file bundleTag given fs
+    h ← header FileKind.Bundle file given fs
     cs ← constraints (h .edition) (h .K) 0 (h .rest)
     accepted (record { K = h .K; constraints = cs })
 

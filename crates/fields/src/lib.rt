@@ -6,3 +6,10 @@ pub struct Answer {
     pub file: u8,
     pub place: usize,
 }
+
+// The kinds of file, each with tags of its own.
+pub enum FileKind {
+    Bundle,
+    Proof,
+    Formula,
+}

@@ -1,18 +1,19 @@
 -- How a file states a formula. Document 01, "Fields" and "Test a formula". Assumes nothing.
 use mathlib.Core.Option.{Option, none, some}
-use mathlib.Core.Bool.{Bool, true, false, _&&_, _||_}
+use mathlib.Core.Bool.{true, false}
 use mathlib.Core.List.{List, [], _∷_, _++_}
 use Prim.Native.Nat.{ℕ, zero, suc, _+_}
-use lib.Dec.{leb, eqb}
+use lib.Dec.{eqb}
 use lib.ListN.{length, take, drop}
 use lib.IntN.{ℤ, pos, natAbs}
 use lib.Signed.{leZ}
 use Rattle.forms.specs.Edition.{Edition, edition1}
 use Rattle.forms.specs.Forms.{Kind, ≤0, =0, Form, Formula, literal, _divides_, _and_, _or_}
+use Rattle.fields.specs.declared.FileKind.{FileKind}
 use Rattle.fields.specs.Answers.{answer, fileProof, Result, refused, accepted, _>>=_, _>>_, need, found}
 use Rattle.fields.specs.Numbers.{signed, signedBytes, formFrom, formBytes, formWidth}
 use Rattle.fields.specs.Fields.{Field, Fields, ends, cut, _▸_, fields, fieldBytes}
-use Rattle.fields.specs.Header.{Header, headerTag, header, finished, headerBytes}
+use Rattle.fields.specs.Header.{Header, known, header, finished, headerBytes}
 
 -- ---- writing
 -- 0x31 or, 0x32 and (length 0, two formulas follow); 0x33 "t ≤ 0", 0x34 "t = 0"; 0x35 stride (g in four signed bytes, then the form).
@@ -57,10 +58,6 @@ formulaTagged tag =
           ]
     ]
 
--- The tags that a formula has.
-unfoldable pub formulaTag : ℕ → Bool
-formulaTag tag = headerTag tag || leb 0x31 tag && leb tag 0x35
-
 unfoldable pub joined : Connective → Formula → Formula → Formula
 joined disjunction I J = I or J
 joined conjunction I J = I and J
@@ -90,7 +87,7 @@ module _ (e : Edition) (K : ℕ) where
   formulaField two (ends at) = refused (answer 2 fileProof at)
   formulaField two (cut at) = refused (answer 2 fileProof at)
   formulaField two (f ▸ fs) = do
-    need (answer 3 fileProof (f .at)) (formulaTag (f .tag))
+    need (answer 3 fileProof (f .at)) (known FileKind.Formula (f .tag))
     tagged ← found (answer 4 fileProof (f .at)) (formulaTagged (f .tag))
     need (answer 6 fileProof (f .at)) (eqb (length (f .contents)) (sizeOf tagged))
     formulaOf two f fs tagged
@@ -110,7 +107,7 @@ module _ (e : Edition) (K : ℕ) where
 -- The formula of a file over the given number of constants. 2, 3, 19, 4, 6, 5, 7, 9, 12, 17.
 unfoldable pub readFormula : (K : ℕ) → Fields → Result Formula
 readFormula given fs = do
-  h ← header fileProof formulaTag (some given) fs
+  h ← header FileKind.Formula fileProof (some given) fs
   (I, after) ← formulaWithin (h .edition) (h .K) (h .edition .levels) (h .rest)
-  finished fileProof formulaTag after
+  finished FileKind.Formula fileProof after
   accepted I

@@ -7,14 +7,14 @@ use Rattle.calculus.specs.Rules.{small, every, inRange}
 use Rattle.fields.specs.Answers.{_>>=_, _>>_, need, found, over, fit, written}
 use Rattle.fields.specs.Numbers.{unsigned, complement, signed, unsignedBytes, residue, signedBytes, signeds, signedsBytes, flat, formFrom, formBytes}
 use Rattle.fields.specs.Fields.{front, note, unlessNote, fieldsFrom, fields, fieldBytes}
-use Rattle.fields.specs.Header.{headerTag, agrees, headerField, header, finished, headerBytes}
-use Rattle.bundle.specs.Bundle.{kindTagged, bundleTag, atMost, constraints, bundle, bundles}
+use Rattle.fields.specs.Header.{headerTag, known, agrees, headerField, header, finished, headerBytes}
+use Rattle.bundle.specs.Bundle.{kindTagged, atMost, constraints, bundle, bundles}
 use Rattle.formula.specs.Formula.{encode, formulaFile}
-use Rattle.proof.specs.Entries.{entryTagged, proofTag, inPlace, lineNumber, multiplier, sizeOf, entryFrom, entry}
+use Rattle.proof.specs.Entries.{entryTagged, inPlace, lineNumber, multiplier, sizeOf, entryFrom, entry}
 use Rattle.proof.specs.Rows.{is, fails, common, equals, sameForm, lineAt, derived, fitting, inequality, naming, byNumber, byStride, states}
 use Rattle.proof.specs.Check.{checkRow, agreeing, checkEntry, checkEntries, checkBranch, checkProof, interpolant, check}
 use Rattle.guarantee.specs.Stages.{Stage, table, lent}
 
 pub stages : All (λ s. check (s .A) (s .B) (s .proof) lent ≡ s .leaves) table
-unfolding editionNumbered coeff sum value sums _⊞_ _·_ _plus_ only within nonzero occurs small every inRange _>>=_ _>>_ need found over fit written unsigned complement signed unsignedBytes residue signedBytes signeds signedsBytes flat formFrom formBytes front note unlessNote fieldsFrom fields fieldBytes headerTag agrees headerField header finished headerBytes kindTagged bundleTag atMost constraints bundle bundles encode formulaFile entryTagged proofTag inPlace lineNumber multiplier sizeOf entryFrom entry is fails common equals sameForm lineAt derived fitting inequality naming byNumber byStride states checkRow agreeing checkEntry checkEntries checkBranch checkProof interpolant check
+unfolding editionNumbered coeff sum value sums _⊞_ _·_ _plus_ only within nonzero occurs small every inRange _>>=_ _>>_ need found over fit written unsigned complement signed unsignedBytes residue signedBytes signeds signedsBytes flat formFrom formBytes front note unlessNote fieldsFrom fields fieldBytes headerTag known agrees headerField header finished headerBytes kindTagged atMost constraints bundle bundles encode formulaFile entryTagged inPlace lineNumber multiplier sizeOf entryFrom entry is fails common equals sameForm lineAt derived fitting inequality naming byNumber byStride states checkRow agreeing checkEntry checkEntries checkBranch checkProof interpolant check
 stages = cons refl (cons refl (cons refl (cons refl (cons refl (cons refl (cons refl (cons refl (cons refl (cons refl (cons refl nil))))))))))

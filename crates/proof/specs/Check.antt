@@ -8,12 +8,13 @@ use Rattle.forms.specs.Edition.{Edition, edition1}
 use Rattle.forms.specs.Forms.{Form, ≤0, =0, Line, line, lines, Formula, _and_, _or_, occurs, _plus_}
 use Rattle.calculus.specs.Rules.{_▷_, Row, Derive, Strengthen, CloseNumber, CloseStride, Entry, row, claim}
 use Rattle.fields.specs.declared.Answer.{Answer}
+use Rattle.fields.specs.declared.FileKind.{FileKind}
 use Rattle.fields.specs.Answers.{answer, fileA, fileB, fileProof, Result, refused, accepted, _>>=_, _>>_, need, found, Written, written}
 use Rattle.fields.specs.Fields.{Field, Fields, ends, cut, _▸_, fields}
 use Rattle.fields.specs.Header.{Header, header, finished}
 use Rattle.bundle.specs.Bundle.{Bundle, atMost, bundles}
 use Rattle.formula.specs.Formula.{formulaFile}
-use Rattle.proof.specs.Entries.{proofTag, entry}
+use Rattle.proof.specs.Entries.{entry}
 use Rattle.proof.specs.Rows.{derived, fitting, inequality, byNumber, byStride, states}
 
 -- A closed branch: its formula, how many rows there are up to its close row, and the fields after that.
@@ -87,9 +88,9 @@ module _ (e : Edition) (K : ℕ) (inA inB : ℕ → Bool) where
 -- The formula that the proof's fields derive from A and B. 2, 3, 19, 4, 6, 5, 7, 9, 18, 10, 11, 12, 15, 22, 17, 16, 13, 14, 20.
 unfoldable pub checkProof : Bundle → Bundle → Fields → Result Formula
 checkProof a b fs = do
-  h ← header fileProof proofTag (some (a .K)) fs
+  h ← header FileKind.Proof fileProof (some (a .K)) fs
   root ← checkBranch (h .edition) (h .K) (occurs (a .constraints)) (occurs (b .constraints)) (h .edition .strengthens) 0 (lines (a .constraints) (b .constraints)) (h .rest)
-  finished fileProof proofTag (root .after)
+  finished FileKind.Proof fileProof (root .after)
   accepted (root .formula)
 
 -- 1 for A, B, proof in turn. Then A is read, then B, then the proof. K and the formula that the rules assign.

@@ -1,17 +1,18 @@
 -- How a proof file states its rows and claims. Document 01, "The rows" and "Fields". Assumes nothing.
 use mathlib.Core.Option.{Option, none, some}
-use mathlib.Core.Bool.{Bool, true, false, not, _&&_, _||_}
+use mathlib.Core.Bool.{Bool, true, false}
 use mathlib.Core.List.{List}
 use Prim.Native.Nat.{ℕ, _+_, _*_}
-use lib.Dec.{leb, eqb}
+use lib.Dec.{eqb}
 use lib.ListN.{length, take, drop}
 use Rattle.forms.specs.Edition.{Edition}
 use Rattle.forms.specs.Forms.{Line}
 use Rattle.calculus.specs.Rules.{Combine, Reduce, Scale, Derive, Strengthen, CloseNumber, CloseStride, Entry, row, claim}
+use Rattle.fields.specs.declared.FileKind.{FileKind}
 use Rattle.fields.specs.Answers.{answer, fileProof, Result, accepted, _>>=_, _>>_, need, found}
 use Rattle.fields.specs.Numbers.{unsigned, signed, formFrom, formWidth}
 use Rattle.fields.specs.Fields.{Field}
-use Rattle.fields.specs.Header.{headerTag}
+use Rattle.fields.specs.Header.{known}
 
 pub data Tagged : Type 0 where
   combineTag reduceTag scaleTag strengthenTag numberTag strideTag claimTag : Tagged
@@ -43,10 +44,6 @@ entryTagged tag =
                 ]
           ]
     ]
-
--- The tags that a proof has.
-unfoldable pub proofTag : ℕ → Bool
-proofTag tag = headerTag tag || leb 0x10 tag && leb tag 0x15 || eqb tag 0x20
 
 -- A claim stands directly after a row 0x10 to 0x12 only; `made` is the line that the row before it made, if it is one of these.
 unfoldable pub inPlace : (made : Option Line) → Tagged → Bool
@@ -90,7 +87,7 @@ module _ (e : Edition) where
     -- The entry that a field states. 3, 4, 6.
     unfoldable pub entry : (made : Option Line) → Field → Result Entry
     entry made f = do
-      need (answer 3 fileProof (f .at)) (proofTag (f .tag))
+      need (answer 3 fileProof (f .at)) (known FileKind.Proof (f .tag))
       tagged ← found (answer 4 fileProof (f .at)) (entryTagged (f .tag))
       need (answer 4 fileProof (f .at)) (inPlace made tagged)
       need (answer 6 fileProof (f .at)) (eqb (length (f .contents)) (sizeOf tagged))
