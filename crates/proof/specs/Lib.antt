@@ -3,3 +3,4 @@ pub mod Entries
 pub mod Rows
 pub mod Check
 pub mod Layout
+pub mod Stages

@@ -1,0 +1,2 @@
+-- Laws of fields and numbers.
+pub mod Notes

@@ -1,2 +1,0 @@
--- The theorems over all layers.
-pub mod Stages

@@ -1,2 +1,0 @@
--- The starred stages, and the theorems over all layers.
-pub mod Stages

@@ -1,0 +1,2 @@
+-- The starred stages.
+pub mod Stages
