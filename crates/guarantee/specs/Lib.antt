@@ -1,0 +1,2 @@
+-- What is promised of the operations together.
+pub mod Soundness

@@ -1,0 +1,1 @@
+// What is promised of the operations together: statements in specs/, proofs in proofs/.
