@@ -1,0 +1,3 @@
+-- Laws of numbers, framing and places.
+pub mod NumberLaws
+pub mod Framing
