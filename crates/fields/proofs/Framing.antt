@@ -62,15 +62,15 @@ front-shorter bs e = rw e at (shorter bs)
 
 -- ---- the fields of a file
 module _ (fuel at : ℕ) (bs : List ℕ) where
-  from-nothing : front bs ≡ nothing → fieldsFrom (suc fuel) at bs ≡ ends at
+  pub from-nothing : front bs ≡ nothing → fieldsFrom (suc fuel) at bs ≡ ends at
   unfolding fieldsFrom
   from-nothing e = rw (e, fieldsFrom)
 
-  from-broken : front bs ≡ broken → fieldsFrom (suc fuel) at bs ≡ cut at
+  pub from-broken : front bs ≡ broken → fieldsFrom (suc fuel) at bs ≡ cut at
   unfolding fieldsFrom
   from-broken e = rw (e, fieldsFrom)
 
-  from-whole : {tag : ℕ} {contents after : List ℕ} → front bs ≡ whole tag contents after
+  pub from-whole : {tag : ℕ} {contents after : List ℕ} → front bs ≡ whole tag contents after
       → fieldsFrom (suc fuel) at bs ≡ unlessNote (note tag) (record { at = at; tag = tag; contents = contents }) (fieldsFrom fuel (at + 3 + length contents) after)
   unfolding fieldsFrom
   from-whole e = rw (e, fieldsFrom)
