@@ -117,6 +117,18 @@ module _ {X Y : Type 0} (f : X → Y) where
   then-bare (refused a) r′ s s′ d e = ap (λ r. r >> s′) d
   then-bare (accepted u) r′ s s′ d e = e ∙ ap (λ r. r >> s′) d
 
+  -- Two blocks, part by part.
+  pub bind-same : {Z : Type 0} (r s : Result Z) (k l : Z → Result X) → bareOf r ≡ bareOf s → ((z : Z) → bareResult f (k z) ≡ bareResult f (l z))
+      → bareResult f (r >>= k) ≡ bareResult f (s >>= l)
+  bind-same r s k l d e =
+      bind-bare (λ z. z) r (bareOf s) k (λ z. bareResult f (l z)) d e
+      ∙ sym (bind-bare (λ z. z) s (bareOf s) l (λ z. bareResult f (l z)) refl (λ z. refl))
+
+  pub then-same : (r : Result (Unit {0})) (s t : Result X) → bareResult f s ≡ bareResult f t → bareResult f (r >> s) ≡ bareResult f (r >> t)
+  unfolding _>>_
+  then-same (refused a) s t e = refl
+  then-same (accepted u) s t e = e
+
 -- ---- the header and the end of a file
 abbrev pub bareHeader : Header → Header
 bareHeader h = record { edition = h .edition; K = h .K; rest = bare (h .rest) }

@@ -1,0 +1,2 @@
+-- Reading a bundle, places apart.
+pub mod Bare
