@@ -93,6 +93,13 @@ bareResult f (accepted x) = accepted (f x)
 abbrev pub bareOf : {X : Type 0} → Result X → Result X
 bareOf = bareResult (λ x. x)
 
+-- A test at the end of a block.
+pub test-bare : (a : Answer) (t : Bool) → bareOf (need a t) ≡ need (bareAnswer a) t
+unfolding need
+test-bare a true = refl
+test-bare a false = refl
+
+-- The rules by which a block's proof reads like the block: f erases the places in what the block gives.
 module _ {X Y : Type 0} (f : X → Y) where
   pub need-bare : (a : Answer) (t : Bool) (r : Result X) (r′ : Result Y) → bareResult f r ≡ r′ → bareResult f (need a t >> r) ≡ (need (bareAnswer a) t >> r′)
   unfolding need _>>_

@@ -1,0 +1,3 @@
+-- The check, places apart: notes change nothing.
+pub mod Bare
+pub mod Notes
