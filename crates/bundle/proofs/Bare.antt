@@ -1,27 +1,19 @@
 -- What a bundle states does not depend on places, and so not on notes. Assumes nothing.
 use mathlib.Core.Path.{_≡_, refl, sym, ap, _∙_}
-use mathlib.Core.Logic.{_⊎_, inl, inr}
 use mathlib.Core.Option.{Option, none, some}
 use mathlib.Core.List.{List}
 use Prim.Native.Nat.{ℕ, suc, _≤_}
-use native.Mathlib.Omega.{arith}
-use lib.ListN.{length}
-use borrow.Author.Tests.{le-leb}
 use Rattle.forms.specs.Edition.{Edition}
 use Rattle.fields.specs.declared.FileKind.{FileKind}
 use Rattle.fields.specs.Answers.{answer, fileA, fileB, Result, _>>=_, need}
 use Rattle.fields.specs.Fields.{Fields, ends, cut, _▸_, fields, Noted}
 use Rattle.fields.specs.Header.{Header}
-use Rattle.fields.proofs.Bare.{bare, bareHeader, bareResult, bareOf, Kept, noted-bare, noted-longer, need-bare, found-bare, bind-bare, bind-same, header-bare}
+use Rattle.fields.proofs.Bare.{bare, bareHeader, bareResult, bareOf, Kept, kept-length, need-bare, found-bare, bind-bare, bind-same, header-bare}
 use Rattle.bundle.specs.Bundle.{Bundle, atMost, constraints, bundle, bundles}
 
--- A file keeps within its length where its notes do.
 pub atMost-kept : (limit file : ℕ) {xs ys : List ℕ} → Noted xs ys → Kept limit xs ys → atMost limit file ys ≡ atMost limit file xs
 unfolding atMost
-atMost-kept limit file r (inl e) = rw e
-atMost-kept limit file {xs} {ys} r (inr h) =
-    let l = noted-longer r in
-    rw (le-leb (length ys) limit (omega arith), le-leb (length xs) limit (omega arith))
+atMost-kept limit file r k = rw (kept-length limit r k)
 
 module _ (file : ℕ) where
   pub constraints-bare : (e : Edition) (K n : ℕ) (fs : Fields) → bareOf (constraints file e K n fs) ≡ constraints file e K n (bare fs)

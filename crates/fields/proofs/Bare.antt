@@ -1,13 +1,14 @@
 -- Places apart: notes change no field, and neither the header nor the end of a file depends on places. Assumes nothing.
 use mathlib.Core.Path.{_≡_, refl, sym, ap, _∙_}
-use mathlib.Core.Logic.{_⊎_}
+use mathlib.Core.Logic.{_⊎_, inl, inr}
 use mathlib.Core.Option.{Option, none, some}
 use mathlib.Core.Bool.{Bool, true, false}
 use mathlib.Core.List.{List, [], _∷_, _++_}
 use Prim.Native.Nat.{ℕ, zero, suc, _+_, _≤_}
 use native.Mathlib.Omega.{arith}
-use lib.Dec.{T}
+use lib.Dec.{T, leb}
 use lib.ListN.{length, length-append}
+use borrow.Author.Tests.{le-leb}
 use Rattle.fields.specs.declared.Answer.{Answer}
 use Rattle.fields.specs.declared.FileKind.{FileKind}
 use Rattle.fields.specs.Answers.{answer, Result, refused, accepted, _>>=_, _>>_, need, found, Written, over, fit, written}
@@ -79,6 +80,13 @@ noted-longer (passed {xs = xs} {ys = ys} i h r) =
 -- "Each file that gets some staying within its length".
 abbrev pub Kept : ℕ → List ℕ → List ℕ → Type 0
 Kept limit xs ys = (ys ≡ xs) ⊎ (length ys ≤ limit)
+
+-- Whether a file is too long does not change then.
+pub kept-length : (limit : ℕ) {xs ys : List ℕ} → Noted xs ys → Kept limit xs ys → leb (length ys) limit ≡ leb (length xs) limit
+kept-length limit r (inl e) = rw e
+kept-length limit {xs} {ys} r (inr h) =
+    let l = noted-longer r in
+    le-leb (length ys) limit (omega arith) ∙ sym (le-leb (length xs) limit (omega arith))
 
 -- ---- answers and results
 abbrev pub bareAnswer : Answer → Answer
