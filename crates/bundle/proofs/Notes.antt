@@ -7,10 +7,10 @@ use lib.IntN.{ℤ}
 use Rattle.forms.specs.Edition.{edition1}
 use Rattle.fields.specs.Answers.{fileA, Result, refused, accepted, _>>_}
 use Rattle.fields.specs.Fields.{fields, Noted}
-use Rattle.fields.proofs.Bare.{bareAnswer, bareOf, Kept, noted-bare, then-same}
+use Rattle.fields.proofs.Bare.{bareAnswer, bareOf, Same, Kept, then-same, noted-same}
 use Rattle.bundle.specs.Bundle.{Bundle, atMost, bundle}
 use Rattle.bundle.specs.Read.{BundleRead, unread, stored, readBundle}
-use Rattle.bundle.proofs.Bare.{atMost-kept, bundle-same}
+use Rattle.bundle.proofs.Bare.{atMost-kept, bundle-bare}
 
 abbrev bareRead : BundleRead → BundleRead
 bareRead r = record { answer = bareAnswer (r .answer); count = r .count; K = r .K; kinds = r .kinds; numbers = r .numbers }
@@ -22,14 +22,13 @@ module _ (kinds : List ℕ) (numbers : List ℤ) where
   stored-of (accepted b) = refl
 
   module _ {f f′ : List ℕ} (n : Noted f f′) (kept : Kept (edition1 .bundleBytes) f f′) where
+    reading : Same (atMost (edition1 .bundleBytes) fileA f′ >> bundle fileA none (fields f′)) (atMost (edition1 .bundleBytes) fileA f >> bundle fileA none (fields f))
+    reading = rw (atMost-kept (edition1 .bundleBytes) fileA n kept) (then-same _ (noted-same (bundle-bare fileA none) n))
+
     -- All that reading leaves, the answer's place apart.
     read-noted : bareRead (readBundle kinds numbers f′) ≡ bareRead (readBundle kinds numbers f)
     unfolding readBundle
-    read-noted =
-        stored-of _
-        ∙ ap (λ (r : Result Bundle). bareRead (stored kinds numbers r))
-        (rw (atMost-kept (edition1 .bundleBytes) fileA n kept) (then-same _ _ _ _ (bundle-same fileA none (fields f′) (fields f) (sym (noted-bare n)))))
-        ∙ sym (stored-of _)
+    read-noted = stored-of _ ∙ ap (λ (r : Result Bundle). bareRead (stored kinds numbers r)) (reading .equal) ∙ sym (stored-of _)
 
     pub notes-change-no-reading : (readBundle kinds numbers f′ .answer .number ≡ readBundle kinds numbers f .answer .number)
         × (readBundle kinds numbers f′ .answer .file ≡ readBundle kinds numbers f .answer .file)

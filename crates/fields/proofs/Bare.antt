@@ -101,48 +101,63 @@ bareResult f (accepted x) = accepted (f x)
 abbrev pub bareOf : {X : Type 0} → Result X → Result X
 bareOf = bareResult (λ x. x)
 
+pub record Erased {X Y : Type 0} (f : X → Y) (r : Result X) (r′ : Result Y) : Type 0 where
+  pub equal : bareResult f r ≡ r′
+
+-- The same, the refusal's place apart.
+pub record Same {X : Type 0} (r s : Result X) : Type 0 where
+  pub equal : bareOf r ≡ bareOf s
+
 -- A test at the end of a block.
-pub test-bare : (a : Answer) (t : Bool) → bareOf (need a t) ≡ need (bareAnswer a) t
+pub test-bare : (a : Answer) (t : Bool) → Erased (λ x. x) (need a t) (need (bareAnswer a) t)
 unfolding need
-test-bare a true = refl
-test-bare a false = refl
+test-bare a true = record { equal = refl }
+test-bare a false = record { equal = refl }
 
--- The rules by which a block's proof reads like the block: f erases the places in what the block gives.
-module _ {X Y : Type 0} (f : X → Y) where
-  pub need-bare : (a : Answer) (t : Bool) (r : Result X) (r′ : Result Y) → bareResult f r ≡ r′ → bareResult f (need a t >> r) ≡ (need (bareAnswer a) t >> r′)
+-- The rules by which a block's proof reads like the block.
+module _ {X Y : Type 0} {f : X → Y} where
+  -- By computation.
+  pub computed : {r : Result X} → Erased f r (bareResult f r)
+  computed = record { equal = refl }
+
+  pub need-bare : (a : Answer) (t : Bool) {r : Result X} {r′ : Result Y} → Erased f r r′ → Erased f (need a t >> r) (need (bareAnswer a) t >> r′)
   unfolding need _>>_
-  need-bare a true r r′ e = e
-  need-bare a false r r′ e = refl
+  need-bare a true e = e
+  need-bare a false e = computed
 
-  pub found-bare : {Z : Type 0} (a : Answer) (o : Option Z) (k : Z → Result X) (k′ : Z → Result Y) → ((z : Z) → bareResult f (k z) ≡ k′ z)
-      → bareResult f (found a o >>= k) ≡ (found (bareAnswer a) o >>= k′)
+  pub found-bare : {Z : Type 0} (a : Answer) (o : Option Z) {k : Z → Result X} {k′ : Z → Result Y} → ((z : Z) → Erased f (k z) (k′ z))
+      → Erased f (found a o >>= k) (found (bareAnswer a) o >>= k′)
   unfolding found _>>=_
-  found-bare a none k k′ e = refl
-  found-bare a (some z) k k′ e = e z
+  found-bare a none e = computed
+  found-bare a (some z) e = e z
 
-  -- g erases the places in what the first part gives.
-  pub bind-bare : {Z W : Type 0} (g : Z → W) (r : Result Z) (r′ : Result W) (k : Z → Result X) (k′ : W → Result Y)
-      → bareResult g r ≡ r′ → ((z : Z) → bareResult f (k z) ≡ k′ (g z)) → bareResult f (r >>= k) ≡ (r′ >>= k′)
+  pub bind-bare : {Z W : Type 0} {g : Z → W} {r : Result Z} {r′ : Result W} {k : Z → Result X} (k′ : W → Result Y)
+      → Erased g r r′ → ((z : Z) → Erased f (k z) (k′ (g z))) → Erased f (r >>= k) (r′ >>= k′)
   unfolding _>>=_
-  bind-bare g (refused a) r′ k k′ d e = ap (λ r. r >>= k′) d
-  bind-bare g (accepted z) r′ k k′ d e = e z ∙ ap (λ r. r >>= k′) d
+  bind-bare {r = refused a} k′ d e = record { equal = ap (λ s. s >>= k′) (d .equal) }
+  bind-bare {r = accepted z} k′ d e = record { equal = e z .equal ∙ ap (λ s. s >>= k′) (d .equal) }
 
-  pub then-bare : (r r′ : Result (Unit {0})) (s : Result X) (s′ : Result Y) → bareOf r ≡ r′ → bareResult f s ≡ s′ → bareResult f (r >> s) ≡ (r′ >> s′)
+  pub then-bare : {r r′ : Result (Unit {0})} {s : Result X} {s′ : Result Y} → Erased (λ x. x) r r′ → Erased f s s′ → Erased f (r >> s) (r′ >> s′)
   unfolding _>>_
-  then-bare (refused a) r′ s s′ d e = ap (λ r. r >> s′) d
-  then-bare (accepted u) r′ s s′ d e = e ∙ ap (λ r. r >> s′) d
+  then-bare {r = refused a} {s′ = s′} d e = record { equal = ap (λ t. t >> s′) (d .equal) }
+  then-bare {r = accepted u} {s′ = s′} d e = record { equal = e .equal ∙ ap (λ t. t >> s′) (d .equal) }
 
-  -- Two blocks, part by part.
-  pub bind-same : {Z : Type 0} (r s : Result Z) (k l : Z → Result X) → bareOf r ≡ bareOf s → ((z : Z) → bareResult f (k z) ≡ bareResult f (l z))
-      → bareResult f (r >>= k) ≡ bareResult f (s >>= l)
-  bind-same r s k l d e =
-      bind-bare (λ z. z) r (bareOf s) k (λ z. bareResult f (l z)) d e
-      ∙ sym (bind-bare (λ z. z) s (bareOf s) l (λ z. bareResult f (l z)) refl (λ z. refl))
+-- The same of two blocks, part by part.
+module _ {X : Type 0} where
+  pub bind-same : {Z : Type 0} {r s : Result Z} {k l : Z → Result X} → Same r s → ((z : Z) → Same (k z) (l z)) → Same (r >>= k) (s >>= l)
+  bind-same {r} {s} {k} {l} d e =
+      let there : Erased (λ x. x) (r >>= k) (bareOf s >>= λ z. bareOf (l z)) = bind-bare _ (record { equal = d .equal }) (λ z. record { equal = e z .equal }) in
+      let back : Erased (λ x. x) (s >>= l) (bareOf s >>= λ z. bareOf (l z)) = bind-bare _ computed (λ z. computed) in
+      record { equal = there .equal ∙ sym (back .equal) }
 
-  pub then-same : (r : Result (Unit {0})) (s t : Result X) → bareResult f s ≡ bareResult f t → bareResult f (r >> s) ≡ bareResult f (r >> t)
+  pub then-same : (r : Result (Unit {0})) {s t : Result X} → Same s t → Same (r >> s) (r >> t)
   unfolding _>>_
-  then-same (refused a) s t e = refl
-  then-same (accepted u) s t e = e
+  then-same (refused a) e = record { equal = refl }
+  then-same (accepted u) e = e
+
+  -- What does not depend on places does not depend on notes.
+  pub noted-same : {φ : Fields → Result X} → ((fs : Fields) → Erased (λ x. x) (φ fs) (φ (bare fs))) → {xs ys : List ℕ} → Noted xs ys → Same (φ (fields ys)) (φ (fields xs))
+  noted-same {φ} e {xs} {ys} r = record { equal = e (fields ys) .equal ∙ ap φ (sym (noted-bare r)) ∙ sym (e (fields xs) .equal) }
 
 -- ---- the header and the end of a file
 abbrev pub bareHeader : Header → Header
@@ -152,25 +167,25 @@ abbrev bareHeaderField : ℕ × ℕ × Fields → ℕ × ℕ × Fields
 bareHeaderField x = (0, x .1, bare (x .2))
 
 module _ (kind : FileKind) (file : ℕ) where
-  headerField-bare : (tag : ℕ) (fs : Fields) → bareResult bareHeaderField (headerField kind file tag fs) ≡ headerField kind file tag (bare fs)
+  headerField-bare : (tag : ℕ) (fs : Fields) → Erased bareHeaderField (headerField kind file tag fs) (headerField kind file tag (bare fs))
   unfolding headerField
-  headerField-bare tag (ends at) = refl
-  headerField-bare tag (cut at) = refl
-  headerField-bare tag (f ▸ fs) = need-bare _ _ _ _ _ (need-bare _ _ _ _ _ (need-bare _ _ _ _ _ refl))
+  headerField-bare tag (ends at) = computed
+  headerField-bare tag (cut at) = computed
+  headerField-bare tag (f ▸ fs) = need-bare _ _ (need-bare _ _ (need-bare _ _ computed))
 
-  pub header-bare : (given : Option ℕ) (fs : Fields) → bareResult bareHeader (header kind file given fs) ≡ header kind file given (bare fs)
+  pub header-bare : (given : Option ℕ) (fs : Fields) → Erased bareHeader (header kind file given fs) (header kind file given (bare fs))
   unfolding header
   header-bare given fs =
-      bind-bare _ bareHeaderField _ _ _ _ (headerField-bare 0x01 fs) λ x.
-      found-bare _ _ _ _ _ λ e.
-      bind-bare _ bareHeaderField _ _ _ _ (headerField-bare 0x02 (x .2)) λ y.
-      need-bare _ _ _ _ _ (need-bare _ _ _ _ _ refl)
+      bind-bare _ (headerField-bare 0x01 fs) λ x.
+      found-bare _ _ λ e.
+      bind-bare _ (headerField-bare 0x02 (x .2)) λ y.
+      need-bare _ _ (need-bare _ _ computed)
 
-  pub finished-bare : (fs : Fields) → bareOf (finished kind file fs) ≡ finished kind file (bare fs)
+  pub finished-bare : (fs : Fields) → Erased (λ x. x) (finished kind file fs) (finished kind file (bare fs))
   unfolding finished
-  finished-bare (ends at) = refl
-  finished-bare (cut at) = refl
-  finished-bare (f ▸ fs) = need-bare _ _ _ _ _ refl
+  finished-bare (ends at) = computed
+  finished-bare (cut at) = computed
+  finished-bare (f ▸ fs) = need-bare _ _ computed
 
 -- ---- what is written
 abbrev pub bareWritten : Written → Written
@@ -181,5 +196,5 @@ unfolding written
 written-of (refused a) out = refl
 written-of (accepted bytes) out = refl
 
-pub written-bare : (r s : Result (List ℕ)) (out : List ℕ) → bareOf r ≡ bareOf s → bareWritten (written r out) ≡ bareWritten (written s out)
-written-bare r s out e = written-of r out ∙ ap (λ (x : Result (List ℕ)). bareWritten (written x out)) e ∙ sym (written-of s out)
+pub written-same : {r s : Result (List ℕ)} (out : List ℕ) → Same r s → bareWritten (written r out) ≡ bareWritten (written s out)
+written-same {r} {s} out e = written-of r out ∙ ap (λ (x : Result (List ℕ)). bareWritten (written x out)) (e .equal) ∙ sym (written-of s out)

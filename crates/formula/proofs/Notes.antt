@@ -10,7 +10,7 @@ use Rattle.fields.specs.declared.FileKind.{FileKind}
 use Rattle.fields.specs.Answers.{fileProof, Result, refused, accepted, _>>=_, _>>_, need}
 use Rattle.fields.specs.Fields.{Field, Fields, ends, cut, _▸_, fields, Noted}
 use Rattle.fields.specs.Header.{Header}
-use Rattle.fields.proofs.Bare.{bareField, bare, bareAnswer, bareHeader, bareResult, bareOf, Kept, kept-length, noted-bare, need-bare, found-bare, bind-bare, then-bare, then-same, header-bare, finished-bare}
+use Rattle.fields.proofs.Bare.{bareField, bare, bareAnswer, bareOf, Erased, Same, Kept, kept-length, computed, need-bare, found-bare, bind-bare, then-bare, then-same, noted-same, header-bare, finished-bare}
 use Rattle.formula.specs.Formula.{Tagged, pair, atom, stride, Reader, formulaOf, formulaField, twoParts, formulaWithin, readFormula}
 use Rattle.formula.specs.Test.{tested, Tested, judged, testFormula}
 
@@ -22,44 +22,40 @@ bareTwo x = (x .0, x .1, bare (x .2))
 
 -- Readers that do not depend on places: of a formula, and of the two parts of an and/or.
 abbrev Placeless : Reader → Type 0
-Placeless r = (fs : Fields) → bareResult bareRead (r fs) ≡ r (bare fs)
+Placeless r = (fs : Fields) → Erased bareRead (r fs) (r (bare fs))
 
 abbrev PlacelessTwo : (ℕ → Fields → Result (Formula × Formula × Fields)) → Type 0
-PlacelessTwo two = (at : ℕ) (fs : Fields) → bareResult bareTwo (two at fs) ≡ two 0 (bare fs)
+PlacelessTwo two = (at : ℕ) (fs : Fields) → Erased bareTwo (two at fs) (two 0 (bare fs))
 
 module _ (e : Edition) (K : ℕ) where
   formulaOf-bare : (two : ℕ → Fields → Result (Formula × Formula × Fields)) → PlacelessTwo two → (f : Field) (fs : Fields) (tagged : Tagged)
-      → bareResult bareRead (formulaOf e K two f fs tagged) ≡ formulaOf e K two (bareField f) (bare fs) tagged
+      → Erased bareRead (formulaOf e K two f fs tagged) (formulaOf e K two (bareField f) (bare fs) tagged)
   unfolding formulaOf
-  formulaOf-bare two p f fs (pair c) = bind-bare _ bareTwo _ _ _ _ (p (f .at) fs) λ x. refl
-  formulaOf-bare two p f fs (atom k) = refl
-  formulaOf-bare two p f fs stride = need-bare _ _ _ _ _ refl
+  formulaOf-bare two p f fs (pair c) = bind-bare _ (p (f .at) fs) λ x. computed
+  formulaOf-bare two p f fs (atom k) = computed
+  formulaOf-bare two p f fs stride = need-bare _ _ computed
 
   formulaField-bare : (two : ℕ → Fields → Result (Formula × Formula × Fields)) → PlacelessTwo two → Placeless (formulaField e K two)
   unfolding formulaField
-  formulaField-bare two p (ends at) = refl
-  formulaField-bare two p (cut at) = refl
-  formulaField-bare two p (f ▸ fs) = need-bare _ _ _ _ _ (found-bare _ _ _ _ _ λ tagged. need-bare _ _ _ _ _ (formulaOf-bare two p f fs tagged))
+  formulaField-bare two p (ends at) = computed
+  formulaField-bare two p (cut at) = computed
+  formulaField-bare two p (f ▸ fs) = need-bare _ _ (found-bare _ _ λ tagged. need-bare _ _ (formulaOf-bare two p f fs tagged))
 
-  twoParts-bare : (part : Reader) → Placeless part → (fs : Fields) → bareResult bareTwo (twoParts e K part fs) ≡ twoParts e K part (bare fs)
+  twoParts-bare : (part : Reader) → Placeless part → (fs : Fields) → Erased bareTwo (twoParts e K part fs) (twoParts e K part (bare fs))
   unfolding twoParts
-  twoParts-bare part p fs = bind-bare _ bareRead _ _ _ _ (p fs) λ x. bind-bare _ bareRead _ _ _ _ (p (x .1)) λ y. refl
+  twoParts-bare part p fs = bind-bare _ (p fs) λ x. bind-bare _ (p (x .1)) λ y. computed
 
   pub formulaWithin-bare : (levels : ℕ) → Placeless (formulaWithin e K levels)
   unfolding formulaWithin
-  formulaWithin-bare zero = formulaField-bare _ (λ at fs. refl)
+  formulaWithin-bare zero = formulaField-bare _ (λ at fs. computed)
   formulaWithin-bare (suc levels) = formulaField-bare _ (λ at fs. twoParts-bare (formulaWithin e K levels) (formulaWithin-bare levels) fs)
 
-pub readFormula-bare : (K : ℕ) (fs : Fields) → bareOf (readFormula K fs) ≡ readFormula K (bare fs)
+pub readFormula-bare : (K : ℕ) (fs : Fields) → Erased (λ x. x) (readFormula K fs) (readFormula K (bare fs))
 unfolding readFormula
 readFormula-bare K fs =
-    bind-bare _ bareHeader _ _ _ _ (header-bare FileKind.Formula fileProof (some K) fs) λ h.
-    bind-bare _ bareRead _ _ _ _ (formulaWithin-bare (h .edition) (h .K) (h .edition .levels) (h .rest)) λ x.
-    then-bare _ _ _ _ _ (finished-bare FileKind.Formula fileProof (x .1)) refl
-
--- Formulas with the same fields, places apart.
-readFormula-same : (K : ℕ) (fs gs : Fields) → bare fs ≡ bare gs → bareOf (readFormula K fs) ≡ bareOf (readFormula K gs)
-readFormula-same K fs gs e = readFormula-bare K fs ∙ ap (readFormula K) e ∙ sym (readFormula-bare K gs)
+    bind-bare _ (header-bare FileKind.Formula fileProof (some K) fs) λ h.
+    bind-bare _ (formulaWithin-bare (h .edition) (h .K) (h .edition .levels) (h .rest)) λ x.
+    then-bare (finished-bare FileKind.Formula fileProof (x .1)) computed
 
 abbrev bareTested : Tested → Tested
 bareTested t = record { answer = bareAnswer (t .answer); holds = t .holds }
@@ -70,17 +66,15 @@ judged-of values (refused a) = refl
 judged-of values (accepted I) = refl
 
 module _ {f f′ : List ℕ} (values : List ℤ) (n : Noted f f′) (kept : Kept (edition1 .formulaBytes) f f′) where
-  tested-noted : bareOf (tested f′ values) ≡ bareOf (tested f values)
+  tested-noted : Same (tested f′ values) (tested f values)
   unfolding tested
-  tested-noted =
-      rw (kept-length (edition1 .formulaBytes) n kept)
-      (then-same _ _ _ _ (then-same _ _ _ _ (then-same _ _ _ _ (readFormula-same _ (fields f′) (fields f) (sym (noted-bare n))))))
+  tested-noted = rw (kept-length (edition1 .formulaBytes) n kept) (then-same _ (then-same _ (then-same _ (noted-same (readFormula-bare _) n))))
 
   test-noted : bareTested (testFormula f′ values) ≡ bareTested (testFormula f values)
   unfolding testFormula
   test-noted =
       judged-of values (tested f′ values)
-      ∙ ap (λ (r : Result Formula). bareTested (judged values r)) tested-noted
+      ∙ ap (λ (r : Result Formula). bareTested (judged values r)) (tested-noted .equal)
       ∙ sym (judged-of values (tested f values))
 
   pub notes-change-no-test : (testFormula f′ values .answer .number ≡ testFormula f values .answer .number)
