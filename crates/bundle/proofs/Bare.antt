@@ -1,13 +1,12 @@
 -- What a bundle states does not depend on places, and so not on notes. Assumes nothing.
-use mathlib.Core.Path.{_≡_, refl, sym, ap, _∙_}
+use mathlib.Core.Path.{_≡_, refl}
 use mathlib.Core.Option.{Option, none, some}
 use mathlib.Core.List.{List}
-use Prim.Native.Nat.{ℕ, suc, _≤_}
+use Prim.Native.Nat.{ℕ, suc}
 use Rattle.forms.specs.Edition.{Edition}
 use Rattle.fields.specs.declared.FileKind.{FileKind}
-use Rattle.fields.specs.Answers.{answer, fileA, fileB, Result, _>>=_, need}
-use Rattle.fields.specs.Fields.{Fields, ends, cut, _▸_, fields, Noted}
-use Rattle.fields.specs.Header.{Header}
+use Rattle.fields.specs.Answers.{fileA, fileB}
+use Rattle.fields.specs.Fields.{Fields, ends, cut, _▸_, Noted}
 use Rattle.fields.proofs.Bare.{bare, Erased, Same, Kept, kept-length, computed, need-bare, found-bare, bind-bare, bind-same, noted-same, header-bare}
 use Rattle.bundle.specs.Bundle.{Bundle, atMost, constraints, bundle, bundles}
 

@@ -3,7 +3,7 @@ use mathlib.Core.Path.{_≡_, refl, sym, ap, _∙_}
 use mathlib.Core.Logic.{_⊎_, inl, inr}
 use mathlib.Core.Option.{Option, none, some}
 use mathlib.Core.Bool.{Bool, true, false}
-use mathlib.Core.List.{List, [], _∷_, _++_}
+use mathlib.Core.List.{List}
 use Prim.Native.Nat.{ℕ, zero, suc, _+_, _≤_}
 use native.Mathlib.Omega.{arith}
 use lib.Dec.{T, leb}
@@ -11,8 +11,8 @@ use lib.ListN.{length, length-append}
 use borrow.Author.Tests.{le-leb}
 use Rattle.fields.specs.declared.Answer.{Answer}
 use Rattle.fields.specs.declared.FileKind.{FileKind}
-use Rattle.fields.specs.Answers.{answer, Result, refused, accepted, _>>=_, _>>_, need, found, Written, over, fit, written}
-use Rattle.fields.specs.Fields.{Field, Front, whole, broken, nothing, front, Fields, ends, cut, _▸_, note, unlessNote, fieldsFrom, fields, fieldBytes, Item, Framed, Noted, same, noted, passed}
+use Rattle.fields.specs.Answers.{answer, Result, refused, accepted, _>>=_, _>>_, need, found, Written, written}
+use Rattle.fields.specs.Fields.{Field, Front, whole, broken, nothing, front, Fields, ends, cut, _▸_, note, unlessNote, fieldsFrom, fields, Noted, same, noted, passed}
 use Rattle.fields.specs.Header.{Header, headerField, header, finished}
 use Rattle.fields.proofs.Framing.{from-nothing, from-broken, from-whole, fieldsAt, fieldsAt-field}
 

@@ -1,6 +1,6 @@
 -- A file is read back as the fields of which it was made. Assumes nothing.
 use mathlib.Core.Path.{_≡_, refl, sym, ap, _∙_}
-use mathlib.Core.Option.{Option, none, some, Option·map}
+use mathlib.Core.Option.{some}
 use mathlib.Core.Bool.{Bool, true, false}
 use mathlib.Core.List.{List, [], _∷_, _++_}
 use Prim.Native.Nat.{ℕ, zero, suc, _+_, _/_, _%_, _≤_, _<_}
@@ -11,8 +11,8 @@ use lib.Seq.{take-at, drop-at}
 use borrow.Author.Tests.{le-leb}
 use Rattle.forms.specs.Forms.{All, nil, cons}
 use Rattle.fields.specs.Numbers.{unsigned, unsignedBytes}
-use Rattle.fields.specs.Fields.{Field, Front, whole, broken, nothing, front, Fields, ends, cut, _▸_, note, unlessNote, fieldsFrom, fields, fieldBytes, Item, item, items, Framed, fileOf, unlessNoteItem, withoutNotes}
-use Rattle.fields.proofs.NumberLaws.{unsigned-unsignedBytes, length-unsignedBytes}
+use Rattle.fields.specs.Fields.{Field, Front, whole, broken, nothing, front, Fields, ends, cut, note, unlessNote, fieldsFrom, fields, fieldBytes, Item, item, items, Framed, fileOf, unlessNoteItem, withoutNotes}
+use Rattle.fields.proofs.NumberLaws.{unsigned-unsignedBytes}
 
 -- ---- what a list of bytes begins with
 -- What follows three header bytes, where the length stated is n.

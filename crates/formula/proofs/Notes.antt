@@ -7,9 +7,8 @@ use lib.IntN.{ℤ}
 use Rattle.forms.specs.Edition.{Edition, edition1}
 use Rattle.forms.specs.Forms.{Formula}
 use Rattle.fields.specs.declared.FileKind.{FileKind}
-use Rattle.fields.specs.Answers.{fileProof, Result, refused, accepted, _>>=_, _>>_, need}
-use Rattle.fields.specs.Fields.{Field, Fields, ends, cut, _▸_, fields, Noted}
-use Rattle.fields.specs.Header.{Header}
+use Rattle.fields.specs.Answers.{fileProof, Result, refused, accepted}
+use Rattle.fields.specs.Fields.{Field, Fields, ends, cut, _▸_, Noted}
 use Rattle.fields.proofs.Bare.{bareField, bare, bareAnswer, bareOf, Erased, Same, Kept, kept-length, computed, need-bare, found-bare, bind-bare, then-bare, then-same, noted-same, header-bare, finished-bare}
 use Rattle.formula.specs.Formula.{Tagged, pair, atom, stride, Reader, formulaOf, formulaField, twoParts, formulaWithin, readFormula}
 use Rattle.formula.specs.Test.{tested, Tested, judged, testFormula}

@@ -1,17 +1,15 @@
 -- What the check gives does not depend on places. Assumes nothing.
-use mathlib.Core.Path.{_≡_, refl, sym, ap, _∙_}
 use mathlib.Core.Option.{Option, none, some}
 use mathlib.Core.Bool.{Bool}
 use mathlib.Core.List.{List}
 use Prim.Native.Nat.{ℕ, zero, suc}
 use Rattle.forms.specs.Edition.{Edition}
-use Rattle.forms.specs.Forms.{Form, ≤0, =0, Line, line, lines, occurs, _plus_}
-use Rattle.calculus.specs.Rules.{_▷_, Row, Derive, Strengthen, CloseNumber, CloseStride, Step, Combine, Reduce, Scale, Entry, row, claim}
+use Rattle.forms.specs.Forms.{Form, Line}
+use Rattle.calculus.specs.Rules.{Row, Derive, Strengthen, CloseNumber, CloseStride, Step, Combine, Reduce, Scale, Entry, row, claim}
 use Rattle.fields.specs.declared.Answer.{Answer}
 use Rattle.fields.specs.declared.FileKind.{FileKind}
-use Rattle.fields.specs.Answers.{fileProof, Result, refused, accepted, _>>=_, _>>_, found}
+use Rattle.fields.specs.Answers.{fileProof, Result, _>>=_, _>>_, found}
 use Rattle.fields.specs.Fields.{Field, Fields, ends, cut, _▸_}
-use Rattle.fields.specs.Header.{Header}
 use Rattle.fields.proofs.Bare.{bareField, bare, bareAnswer, Erased, computed, test-bare, need-bare, found-bare, bind-bare, then-bare, header-bare, finished-bare}
 use Rattle.bundle.specs.Bundle.{Bundle}
 use Rattle.proof.specs.Entries.{entry}

@@ -1,15 +1,13 @@
 -- Notes change nothing of what the check gives but places. Document 01, "Fields". Assumes nothing.
-use mathlib.Core.Path.{_≡_, refl, sym, ap, _∙_}
+use mathlib.Core.Path.{_≡_, refl, ap}
 use mathlib.Core.List.{List}
 use Prim.Native.Nat.{ℕ}
 use Rattle.forms.specs.Edition.{edition1}
-use Rattle.forms.specs.Forms.{Formula}
-use Rattle.fields.specs.Answers.{fileA, fileB, fileProof, Result, accepted, _>>=_, _>>_, Written, written}
-use Rattle.fields.specs.Fields.{Fields, fields, Noted}
+use Rattle.fields.specs.Answers.{fileA, fileB, fileProof, Written}
+use Rattle.fields.specs.Fields.{Noted}
 use Rattle.fields.proofs.Bare.{bareWritten, Same, Kept, bind-same, then-same, noted-same, written-same}
-use Rattle.bundle.specs.Bundle.{Bundle, atMost, bundles}
 use Rattle.bundle.proofs.Bare.{atMost-kept, bundles-noted}
-use Rattle.proof.specs.Check.{checkProof, interpolant, check}
+use Rattle.proof.specs.Check.{interpolant, check}
 use Rattle.proof.proofs.Bare.{checkProof-bare}
 
 module _ {A A′ B B′ P P′ : List ℕ} (a : Noted A A′) (b : Noted B B′) (p : Noted P P′)
