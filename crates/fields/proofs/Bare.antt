@@ -57,7 +57,7 @@ unless-true false h f fs = absurd h
 
 noted-from : (a b : ℕ) {xs ys : List ℕ} → Noted xs ys → bare (fieldsAt a xs) ≡ bare (fieldsAt b ys)
 noted-from a b (same {xs = xs}) = from-bare (length xs) a b xs
-noted-from a b (noted {xs = xs} {ys = ys} i h n r) =
+noted-from a b (noted {ys = ys} i h n r) =
     noted-from a (b + 3 + length (i .contents)) r ∙ ap bare (sym (fieldsAt-field b i h ys ∙ unless-true (note (i .tag)) n _ _))
 noted-from a b (passed {xs = xs} {ys = ys} i h r) =
     ap bare (fieldsAt-field a i h xs)
@@ -72,10 +72,8 @@ noted-bare r = noted-from 0 0 r
 -- Notes make no file shorter.
 pub noted-longer : {xs ys : List ℕ} → Noted xs ys → length xs ≤ length ys
 noted-longer same = omega arith
-noted-longer (noted {ys = ys} i h n r) =
-    let l = noted-longer r in rw length-append (omega arith)
-noted-longer (passed {xs = xs} {ys = ys} i h r) =
-    let l = noted-longer r in simp length-append (omega arith)
+noted-longer (noted i h n r) = let l = noted-longer r in rw length-append (omega arith)
+noted-longer (passed i h r) = let l = noted-longer r in simp length-append (omega arith)
 
 -- "Each file that gets some staying within its length".
 abbrev pub Kept : ℕ → List ℕ → List ℕ → Type 0
@@ -101,6 +99,7 @@ bareResult f (accepted x) = accepted (f x)
 abbrev pub bareOf : {X : Type 0} → Result X → Result X
 bareOf = bareResult (λ x. x)
 
+-- r′ is r with its places erased. (A record, as the next, so that r and r′ are found from a proof.)
 pub record Erased {X Y : Type 0} (f : X → Y) (r : Result X) (r′ : Result Y) : Type 0 where
   pub equal : bareResult f r ≡ r′
 

@@ -37,6 +37,7 @@ front-whole tag contents bs h =
     front-header tag (n / 256 % 256) (n % 256) (contents ++ bs)
     ∙ contained-whole tag _ contents bs (sym (unsigned-unsignedBytes 2 n h))
 
+-- What follows the field, if one is in front, has less than n bytes.
 abbrev Shorter : Front → ℕ → Type 0
 Shorter (whole tag contents after) n = length after < n
 Shorter broken n = Unit

@@ -12,7 +12,8 @@ use Rattle.proof.proofs.Bare.{checkProof-bare}
 
 module _ {A A′ B B′ P P′ : List ℕ} (a : Noted A A′) (b : Noted B B′) (p : Noted P P′)
     (keptA : Kept (edition1 .bundleBytes) A A′) (keptB : Kept (edition1 .bundleBytes) B B′) (keptP : Kept (edition1 .proofBytes) P P′) where
-  interpolant-noted : Same (interpolant A′ B′ P′) (interpolant A B P)
+  -- K and the formula, or the refusal, its place apart.
+  pub interpolant-noted : Same (interpolant A′ B′ P′) (interpolant A B P)
   unfolding interpolant
   interpolant-noted =
       rw (atMost-kept (edition1 .bundleBytes) fileA a keptA, atMost-kept (edition1 .bundleBytes) fileB b keptB, atMost-kept (edition1 .proofBytes) fileProof p keptP)
