@@ -1,2 +1,5 @@
--- Laws of fields and numbers.
+-- The laws of numbers, of framing and notes, and that places do not matter.
 pub mod Notes
+pub mod NumberLaws
+pub mod Framing
+pub mod Bare

@@ -1,9 +1,11 @@
 -- A file as its fields. Notes are dealt with here, and nothing above ever sees one. Document 01, "Fields". Assumes nothing.
+use mathlib.Core.Path.{_≡_}
+use mathlib.Core.Logic.{_⊎_}
 use mathlib.Core.Option.{Option, none, some, Option·map}
 use mathlib.Core.Bool.{Bool, true, false}
 use mathlib.Core.List.{List, [], _∷_, _++_}
-use Prim.Native.Nat.{ℕ, zero, suc, _+_, _<_}
-use lib.Dec.{T, leb}
+use Prim.Native.Nat.{ℕ, zero, suc, _+_, _<_, _≤_}
+use lib.Dec.{leb}
 use lib.ListN.{length, take, drop}
 use Rattle.fields.specs.Numbers.{unsigned, unsignedBytes}
 
@@ -102,5 +104,9 @@ withoutNotes (i ∷ is) = unlessNoteItem (note (i .tag)) i (withoutNotes is)
 -- ys is xs with whole notes put in wherever the file so far is whole fields only, or nothing.
 pub data Noted : List ℕ → List ℕ → Type 0 where
   same : {xs : List ℕ} → Noted xs xs
-  noted : {xs ys : List ℕ} (i : Item) → Framed i → T (note (i .tag)) → Noted xs ys → Noted xs (fieldBytes (i .tag) (i .contents) ++ ys)
+  noted : {xs ys : List ℕ} (i : Item) → Framed i → 0x80 ≤ i .tag → Noted xs ys → Noted xs (fieldBytes (i .tag) (i .contents) ++ ys)
   passed : {xs ys : List ℕ} (i : Item) → Framed i → Noted xs ys → Noted (fieldBytes (i .tag) (i .contents) ++ xs) (fieldBytes (i .tag) (i .contents) ++ ys)
+
+-- A file that gets notes stays within its length: ys is xs, or not longer than the limit.
+abbrev pub Kept : (limit : ℕ) (xs ys : List ℕ) → Type 0
+Kept limit xs ys = (ys ≡ xs) ⊎ (length ys ≤ limit)

@@ -1,6 +1,5 @@
 -- Demand 3 of the user, in one piece: what an accepted check is worth, for whatever any writer made and meant. Assumes nothing.
 use mathlib.Core.Path.{_≡_}
-use mathlib.Core.Logic.{_⊎_}
 use mathlib.Core.List.{List, [], _∷_, _++_}
 use mathlib.Core.Option.{some}
 use Prim.Native.Nat.{ℕ, _≤_}
@@ -9,11 +8,10 @@ use Rattle.forms.specs.Edition.{edition1}
 use Rattle.forms.specs.Forms.{All, Constraint, Formula}
 use Rattle.calculus.specs.Rules.{Entry, row, claim, Row, Derive, Step, Interpolant}
 use Rattle.fields.specs.Answers.{acceptance, Written}
-use Rattle.fields.specs.Fields.{Item, item, Framed, fileOf, withoutNotes, fields, items, Noted}
+use Rattle.fields.specs.Fields.{Item, item, Framed, fileOf, withoutNotes, fields, items, Noted, Kept}
 use Rattle.bundle.specs.Layout.{Each, StatesAll}
 use Rattle.formula.specs.Formula.{formulaFile}
 use Rattle.proof.specs.Layout.{Enters, Certifies}
-
 
 -- ---- what a writer stated
 -- What a writer stated is given by any function of his list of fields. It gives a K and constraints.
@@ -47,10 +45,6 @@ pub record LaidProof (file : List ℕ) : Type 0 where
   pub high : K ≤ edition1 .constants
   pub enters : Each (Enters edition1 K) body entries
   pub placed : Placed entries
-
--- ys is xs, or stays within the file's length.
-abbrev pub Kept : ℕ → List ℕ → List ℕ → Type 0
-Kept limit xs ys = (ys ≡ xs) ⊎ (length ys ≤ limit)
 
 -- ---- demand 3
 -- What one accepted check of the files of FA and FB leaves: the bytes of demand 2's formula, which interpolates what the writers stated.

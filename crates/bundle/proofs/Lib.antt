@@ -1,0 +1,3 @@
+-- Reading a bundle, places apart.
+pub mod Bare
+pub mod Notes

@@ -1,0 +1,2 @@
+-- Reading and testing a formula, places apart.
+pub mod Notes
