@@ -29,6 +29,14 @@ or-left : (a b : Bool) → T a → T (a || b)
 or-left true b t = tt
 or-left false b t = absurd t
 
+-- what a list of tags gives: P holds of the tag n, and of the tags that the rest of the list gives
+pub by-tag : {X : Type 0} (P : ℕ → Type 0) (tag n : ℕ) (x : X) {y : X} {o : Option X} → P n → (o ≡ some y → P tag) → elim (eqb tag n) as (λ _. Option X) [ true ↦ some x | false ↦ o ] ≡ some y → P tag
+by-tag {X} P tag n x {y} {o} p k h = go (eqb tag n) refl h
+  where
+    go : (b : Bool) → eqb tag n ≡ b → elim b as (λ _. Option X) [ true ↦ some x | false ↦ o ] ≡ some y → P tag
+    go true t q = rw (eqb→eq tag n (rw t tt)) p
+    go false t q = k q
+
 -- ---- the first field of a file
 one-byte : (bs : List ℕ) → length bs ≡ 1 → bs ≡ getD bs 0 0 ∷ []
 one-byte [] h = absurd (omega arith)
@@ -61,7 +69,7 @@ first-of (f ▸ fs) i is h = go (items fs) refl h
         let rest : js ≡ is = cc in
         record { first = f; after = fs; are = refl; tag = ap (λ (i : Item). i .tag) same; contents = ap (λ (i : Item). i .contents) same; rest = q ∙ ap some rest }
 
-not-empty : (f : Field) (fs : Fields) → items (f ▸ fs) ≡ some [] → ⊥
+pub not-empty : (f : Field) (fs : Fields) → items (f ▸ fs) ≡ some [] → ⊥
 unfolding items
 not-empty f fs h = go (items fs) h
   where
