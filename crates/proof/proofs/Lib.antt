@@ -1,0 +1,3 @@
+-- The check and the rules agree.
+pub mod Entered
+pub mod RowsAgree
