@@ -1,0 +1,1 @@
+-- The check and the rules agree. Assumes nothing.
