@@ -3,16 +3,16 @@ use mathlib.Core.Path.{_≡_, refl, sym, _∙_, ap, subst}
 use mathlib.Core.Option.{Option, none, some}
 use mathlib.Core.Bool.{Bool, true, false}
 use mathlib.Core.List.{List, [], _∷_}
-use Prim.Native.Nat.{ℕ, zero, suc, _+_, _≤_, _<_}
+use Prim.Native.Nat.{ℕ, zero, suc, max, _+_, _≤_, _<_}
 use native.Mathlib.Omega.{arith}
 use lib.Dec.{T, ltb→lt, lt→ltb}
 use Rattle.forms.specs.Edition.{Edition}
-use Rattle.forms.specs.Forms.{Form, ≤0, =0, Line, line, Formula, _plus_}
-use Rattle.calculus.specs.Rules.{_▷_, Closed, derive, strengthen, number, stride, Row, Derive, Strengthen, CloseNumber, CloseStride, Step, Entry, row, claim, claims, step, entries, rowCount, depth}
+use Rattle.forms.specs.Forms.{Form, ≤0, =0, Line, line, Formula, _and_, _or_, _plus_}
+use Rattle.calculus.specs.Rules.{Nth, _▷_, Room, Closed, derive, strengthen, number, stride, Row, Derive, Strengthen, CloseNumber, CloseStride, Step, Entry, row, claim, claims, step, entries, rowCount, depth}
 use Rattle.calculus.proofs.Sides.{Side, A, B}
 use Rattle.calculus.proofs.Vocabulary.{Words, words-new, words-1, words-E, words-0}
 use Rattle.fields.specs.declared.Answer.{Answer}
-use Rattle.fields.specs.Answers.{Result, accepted, found}
+use Rattle.fields.specs.Answers.{Result, accepted, _>>=_, found}
 use Rattle.fields.specs.Fields.{Field, Fields, ends, cut, _▸_, item}
 use Rattle.fields.proofs.Results.{Gives, refuses, accepts, weaken, bind, seq, test, binds, passes, needs, found-some}
 use Rattle.bundle.proofs.Laid.{Lists, done, next}
@@ -115,3 +115,71 @@ module _ (e : Edition) (K : ℕ) (occ : Side → ℕ → Bool) where
   unfolding checkBranch
   branch-derives zero rows ls fs w = entries-derive zero none shut fs rows none ls w
   branch-derives (suc room) rows ls fs w = entries-derive (suc room) _ (opens (branch-derives room)) fs rows none ls w
+
+  -- ---- backwards
+  -- The result is the formula I after n rows, and the fields that are left state es.
+  pub record Passed (r : Result Closing) (I : Formula) (n : ℕ) (es : List Entry) : Type 0 where
+    pub after : Fields
+    pub lists : Lists (Enters e K) after es
+    pub is : r ≡ accepted (record { formula = I; rows = n; after = after })
+
+  abbrev Accepts : ℕ → Checker → Type 0
+  Accepts room checker = (rows : ℕ) (ls : List Line) (I : Formula) (p : Closed e (occ B) ls I) (es : List Entry) (fs : Fields) → Words occ ls
+      → depth p ≤ room → (n : ℕ) → n ≡ rows + rowCount p → n ≤ e .rows → Lists (Enters e K) fs (entries p es) → Passed (checker rows ls fs) I n es
+
+  -- steps that are accepted before it
+  after-steps : {r s : Result Closing} {I : Formula} {n : ℕ} {es : List Entry} → r ≡ s → Passed s I n es → Passed r I n es
+  after-steps q p = record { after = p .after; lists = p .lists; is = q ∙ p .is }
+
+  -- a branch, and then what follows it
+  then : {m : Result Closing} {I J : Formula} {n k : ℕ} {es ds : List Entry} (f : Closing → Result Closing) → Passed m I n es
+      → ((after : Fields) → Lists (Enters e K) after es → Passed (f (record { formula = I; rows = n; after = after })) J k ds) → Passed (m >>= f) J k ds
+  then f a h = after-steps (binds f (a .is)) (h (a .after) (a .lists))
+
+  -- the end of a branch
+  closes : {m n : ℕ} {I : Formula} {fs : Fields} {es : List Entry} → m ≡ n → Lists (Enters e K) fs es → Passed (accepted (record { formula = I; rows = m; after = fs })) I n es
+  closes {fs = fs} q t = record { after = fs; lists = t; is = rw q }
+
+  module _ (at : ℕ) (fs : Fields) (following : Next) (rows : ℕ) (ls : List Line) (w : Words occ ls) {t tA : Form} (i : ℕ) (p : Nth ls i (line ≤0 t tA)) (r : Room e ls (line ≤0 (t plus 1) (tA plus 1)))
+      {I1 E I0 : Formula} (p1 : Closed e (occ B) (ls ▷ line ≤0 (t plus 1) (tA plus 1)) I1) (pE : Closed e (occ B) (ls ▷ line =0 t tA) E) (p0 : Closed e (occ B) (ls ▷ line ≤0 (t plus 1) tA) I0)
+      (es : List Entry) where
+    -- the three branches, complete one after the other
+    branches-accepted : {room : ℕ} {checker : Checker} → Accepts room checker → depth p1 ≤ room → depth pE ≤ room → depth p0 ≤ room
+        → (n : ℕ) → n ≡ suc (rows + rowCount p1 + rowCount pE + rowCount p0) → n ≤ e .rows → Lists (Enters e K) fs (entries p1 (entries pE (entries p0 es)))
+        → Passed (checkRow e K (occ A) (occ B) (some checker) following at rows ls fs (Strengthen i)) (I1 or (E and I0)) n es
+    unfolding checkRow
+    branches-accepted h d1 dE d0 n q b t =
+        after-steps (binds _ (inequality-accepted at ls i p) ∙ binds _ (found-some _ refl) ∙ passes _ (fitting-accepted at ls e _ r))
+        (then _ (h (suc rows) _ I1 p1 (entries pE (entries p0 es)) fs (words-1 occ w i p) d1 (suc (rows + rowCount p1)) (omega arith) (omega arith) t) λ fsE tE.
+        then _ (h _ _ E pE (entries p0 es) fsE (words-E occ w i p) dE (suc (rows + rowCount p1 + rowCount pE)) (omega arith) (omega arith) tE) λ fs0 t0.
+        then _ (h _ _ I0 p0 es fs0 (words-0 occ w i p) d0 n (omega arith) b t0) λ after u. closes refl u)
+
+    strengthen-accepted : {room : ℕ} {deeper : Option Checker} → Deeper Accepts room deeper → suc (max (depth p1) (max (depth pE) (depth p0))) ≤ room
+        → (n : ℕ) → n ≡ rows + suc (rowCount p1 + rowCount pE + rowCount p0) → n ≤ e .rows → Lists (Enters e K) fs (entries p1 (entries pE (entries p0 es)))
+        → Passed (checkRow e K (occ A) (occ B) deeper following at rows ls fs (Strengthen i)) (I1 or (E and I0)) n es
+    strengthen-accepted shut d n q b t = absurd (omega arith)
+    strengthen-accepted (opens h) d n q b t = branches-accepted h (omega arith) (omega arith) (omega arith) n (omega arith) b t
+
+  module _ (room : ℕ) (deeper : Option Checker) (g : Deeper Accepts room deeper) where
+    entries-accept : (made : Option Line) (rows : ℕ) (ls : List Line) (I : Formula) (p : Closed e (occ B) ls I) (es : List Entry) (fs : Fields) → Words occ ls
+        → depth p ≤ room → (n : ℕ) → n ≡ rows + rowCount p → n ≤ e .rows → Lists (Enters e K) fs (entries p es) → Passed (checkEntries e K (occ A) (occ B) deeper fs rows made ls) I n es
+    unfolding checkEntries checkEntry checkRow
+    entries-accept made rows ls I (derive {l = l} false m r p) es _ w d n q b (next f {fs = fs} x t) =
+        after-steps (binds _ (row-accepted e K made f x) ∙ needs _ _ _ (lt→ltb rows (e .rows) (omega arith)) ∙ binds _ (derived-accepted (f .at) ls m) ∙ passes _ (fitting-accepted (f .at) ls e l r))
+        (entries-accept (some l) (suc rows) (ls ▷ l) I p es fs (words-new occ w m) d n (omega arith) b t)
+    entries-accept made rows ls I (derive {l = l} true m r p) es _ w d n q b (next f x (next f2 {fs = fs} x2 t)) =
+        after-steps (binds _ (row-accepted e K made f x) ∙ needs _ _ _ (lt→ltb rows (e .rows) (omega arith)) ∙ binds _ (derived-accepted (f .at) ls m) ∙ passes _ (fitting-accepted (f .at) ls e l r)
+            ∙ binds _ (claim-accepted e K l f2 x2) ∙ passes _ (agreeing-accepts e K (occ A) (occ B) (f2 .at) l))
+        (entries-accept none (suc rows) (ls ▷ l) I p es fs (words-new occ w m) d n (omega arith) b t)
+    entries-accept made rows ls I (strengthen i p r p1 pE p0) es _ w d n q b (next f {fs = fs} x t) =
+        after-steps (binds _ (row-accepted e K made f x) ∙ needs _ _ _ (lt→ltb rows (e .rows) (omega arith)))
+        (strengthen-accepted (f .at) fs (checkEntries e K (occ A) (occ B) deeper fs) rows ls w i p r p1 pE p0 es g d n q b t)
+    entries-accept made rows ls I (number i p z h) es _ w d n q b (next f {fs = fs} x t) =
+        after-steps (binds _ (row-accepted e K made f x) ∙ needs _ _ _ (lt→ltb rows (e .rows) (omega arith)) ∙ binds _ (number-accepted occ (f .at) ls w i p z h)) (closes (omega arith) t)
+    entries-accept made rows ls I (stride i k p h all m) es _ w d n q b (next f {fs = fs} x t) =
+        after-steps (binds _ (row-accepted e K made f x) ∙ needs _ _ _ (lt→ltb rows (e .rows) (omega arith)) ∙ binds _ (stride-accepted occ (f .at) ls w i k p h all m)) (closes (omega arith) t)
+
+  pub branch-accepts : (room : ℕ) → Accepts room (checkBranch e K (occ A) (occ B) room)
+  unfolding checkBranch
+  branch-accepts zero rows ls I p es fs w d n q b t = entries-accept zero none shut none rows ls I p es fs w d n q b t
+  branch-accepts (suc room) rows ls I p es fs w d n q b t = entries-accept (suc room) _ (opens (branch-accepts room)) none rows ls I p es fs w d n q b t
