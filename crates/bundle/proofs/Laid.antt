@@ -37,6 +37,10 @@ module _ {X : Type 0} {R : Item → X → Type 0} where
   itemed (done at) = record { list = []; are = refl; each = nil }
   itemed (next f {fs} r h) = let t = itemed h in record { list = item (f .tag) (f .contents) ∷ t .list; are = next-items f fs (t .are); each = cons r (t .each) }
 
+  pub no-items : {fs : Fields} → Lists R fs [] → items fs ≡ some []
+  unfolding items
+  no-items (done at) = refl
+
   empty : (fs : Fields) → items fs ≡ some [] → Lists R fs []
   unfolding items
   empty (ends at) h = done at

@@ -12,6 +12,9 @@ use Rattle.fields.specs.Answers.{Result, refused, accepted, _>>=_, _>>_,
 pub never : {X : Type 0} {a : Answer} {x : X} → refused a ≡ accepted x → ⊥
 never e = let z : _≡_ {A = ℕ} 0 1 = cc in omega arith
 
+pub one-value : {X : Type 0} {r : Result X} {x y : X} → r ≡ accepted x → r ≡ accepted y → x ≡ y
+one-value p q = cc
+
 pub record Gives {X : Type 0} (r : Result X) (P : X → Type 0) : Type 0 where
   pub gives : (x : X) → r ≡ accepted x → P x
   pub not-22 : (a : Answer) → r ≡ refused a → ¬ (a .number ≡ 22)

@@ -1,22 +1,21 @@
 -- A branch is accepted just where its fields state the entries of a closed branch within the limits. Assumes nothing.
-use mathlib.Core.Path.{_≡_, refl, sym, _∙_, ap, subst}
+use mathlib.Core.Path.{_≡_, refl, sym, _∙_, subst}
 use mathlib.Core.Option.{Option, none, some}
 use mathlib.Core.Bool.{Bool, true, false}
-use mathlib.Core.List.{List, [], _∷_}
+use mathlib.Core.List.{List}
 use Prim.Native.Nat.{ℕ, zero, suc, max, _+_, _≤_, _<_}
 use native.Mathlib.Omega.{arith}
-use lib.Dec.{T, ltb→lt, lt→ltb}
+use lib.Dec.{ltb→lt, lt→ltb}
 use Rattle.forms.specs.Edition.{Edition}
 use Rattle.forms.specs.Forms.{Form, ≤0, =0, Line, line, Formula, _and_, _or_, _plus_}
-use Rattle.calculus.specs.Rules.{Nth, _▷_, Room, Closed, derive, strengthen, number, stride, Row, Derive, Strengthen, CloseNumber, CloseStride, Step, Entry, row, claim, claims, step, entries, rowCount, depth}
+use Rattle.calculus.specs.Rules.{Nth, _▷_, Room, Closed, derive, strengthen, number, stride, Row, Derive, Strengthen, CloseNumber, CloseStride, Step, Entry, row, claim, claims, entries, rowCount, depth}
 use Rattle.calculus.proofs.Sides.{Side, A, B}
 use Rattle.calculus.proofs.Vocabulary.{Words, words-new, words-1, words-E, words-0}
-use Rattle.fields.specs.declared.Answer.{Answer}
 use Rattle.fields.specs.Answers.{Result, accepted, _>>=_, found}
 use Rattle.fields.specs.Fields.{Field, Fields, ends, cut, _▸_, item}
 use Rattle.fields.proofs.Results.{Gives, refuses, accepts, weaken, bind, seq, test, binds, passes, needs, found-some}
-use Rattle.bundle.proofs.Laid.{Lists, done, next}
-use Rattle.proof.specs.Check.{Closing, Checker, Next, refusal, checkRow, agreeing, checkEntry, checkEntries, checkBranch}
+use Rattle.bundle.proofs.Laid.{Lists, next}
+use Rattle.proof.specs.Check.{Closing, Checker, Next, refusal, checkRow, checkEntry, checkEntries, checkBranch}
 use Rattle.proof.specs.Layout.{Enters}
 use Rattle.proof.proofs.Entered.{entry-gives, row-accepted, claim-accepted, claimed, agreeing-gives, agreeing-accepts}
 use Rattle.proof.proofs.RowsAgree.{fitting-gives, fitting-accepted, inequality-gives, inequality-accepted, derived-gives, derived-accepted, Closes, number-gives, number-accepted, stride-gives, stride-accepted}
@@ -169,7 +168,7 @@ module _ (e : Edition) (K : ℕ) (occ : Side → ℕ → Bool) where
         (entries-accept (some l) (suc rows) (ls ▷ l) I p es fs (words-new occ w m) d n (omega arith) b t)
     entries-accept made rows ls I (derive {l = l} true m r p) es _ w d n q b (next f x (next f2 {fs = fs} x2 t)) =
         after-steps (binds _ (row-accepted e K made f x) ∙ needs _ _ _ (lt→ltb rows (e .rows) (omega arith)) ∙ binds _ (derived-accepted (f .at) ls m) ∙ passes _ (fitting-accepted (f .at) ls e l r)
-            ∙ binds _ (claim-accepted e K l f2 x2) ∙ passes _ (agreeing-accepts e K (occ A) (occ B) (f2 .at) l))
+        ∙ binds _ (claim-accepted e K l f2 x2) ∙ passes _ (agreeing-accepts e K (occ A) (occ B) (f2 .at) l))
         (entries-accept none (suc rows) (ls ▷ l) I p es fs (words-new occ w m) d n (omega arith) b t)
     entries-accept made rows ls I (strengthen i p r p1 pE p0) es _ w d n q b (next f {fs = fs} x t) =
         after-steps (binds _ (row-accepted e K made f x) ∙ needs _ _ _ (lt→ltb rows (e .rows) (omega arith)))
