@@ -8,7 +8,7 @@ use native.Mathlib.Omega.{arith}
 use lib.Dec.{ltb→lt, lt→ltb}
 use Rattle.forms.specs.Edition.{Edition}
 use Rattle.forms.specs.Forms.{Form, ≤0, =0, Line, line, Formula, _and_, _or_, _plus_}
-use Rattle.calculus.specs.Rules.{Nth, _▷_, Room, Closed, derive, strengthen, number, stride, Row, Derive, Strengthen, CloseNumber, CloseStride, Step, Entry, row, claim, claims, entries, rowCount, depth}
+use Rattle.calculus.specs.Rules.{Nth, _▷_, Room, Closed, derive, strengthen, number, stride, Row, Derive, Strengthen, CloseNumber, CloseStride, Step, Entry, row, claim, entries, rowCount, depth}
 use Rattle.calculus.proofs.Sides.{Side, A, B}
 use Rattle.calculus.proofs.Vocabulary.{Words, words-new, words-1, words-E, words-0}
 use Rattle.fields.specs.Answers.{Result, accepted, _>>=_, found}
