@@ -1,3 +1,4 @@
--- Reading a bundle, places apart.
+-- What is accepted as a bundle, and that notes change nothing of it.
+pub mod Laid
 pub mod Bare
 pub mod Notes

@@ -1,5 +1,7 @@
--- The laws of numbers, of framing and notes, and that places do not matter.
+-- The laws of results, of numbers, of framing and notes, of headers, and that places do not matter.
+pub mod Results
 pub mod Notes
 pub mod NumberLaws
 pub mod Framing
+pub mod Headers
 pub mod Bare

@@ -78,7 +78,7 @@ deeper-bare none p a e = computed
 deeper-bare (some c) p a e = e c p
 
 module _ (e : Edition) (K : ℕ) (inA inB : ℕ → Bool) where
-  agreeing-bare : (at : ℕ) (t tA : Form) (made : Option Line) → Erased (λ x. x) (agreeing e K inA inB at t tA made) (agreeing e K inA inB 0 t tA made)
+  agreeing-bare : (at : ℕ) (t tA : Form) (made : Option Line) → Erased (λ x. x) (agreeing at t tA made) (agreeing 0 t tA made)
   unfolding agreeing
   agreeing-bare at t tA none = computed
   agreeing-bare at t tA (some l) = test-bare _ _

@@ -1,4 +1,8 @@
--- The starred stages, and that places, and so notes, do not matter to the check.
+-- The starred stages; accepted just where the files certify a formula; places, and so notes, do not matter.
 pub mod Stages
+pub mod Entered
+pub mod RowsAgree
+pub mod Branches
+pub mod Agree
 pub mod Bare
 pub mod Notes

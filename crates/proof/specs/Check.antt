@@ -35,6 +35,11 @@ Next = (rows : ℕ) (made : Option Line) → List Line → Result Closing
 abbrev pub refusal : (at n : ℕ) → Answer
 refusal at n = answer n fileProof at
 
+-- 14, a claim that differs from the line made last. (`entry` has refused a claim where there is none.)
+unfoldable pub agreeing : (at : ℕ) (t tA : Form) → Option Line → Result (Unit {0})
+agreeing at t tA none = refused (refusal at 4)
+agreeing at t tA (some l) = need (refusal at 14) (states t tA l)
+
 module _ (e : Edition) (K : ℕ) (inA inB : ℕ → Bool) where
   -- A row, and what follows it. `deeper` checks the branches of a strengthen, if one more may be opened: 17.
   -- The lines made in a branch go when it is closed: each branch of a strengthen starts with ls and its own new line.
@@ -57,11 +62,6 @@ module _ (e : Edition) (K : ℕ) (inA inB : ℕ → Bool) where
   checkRow deeper next at rows ls fs (CloseStride i g) = do
     I ← byStride (refusal at) ls inA inB i g
     accepted (record { formula = I; rows = suc rows; after = fs })
-
-  -- 14, a claim that differs from the line made last. (`entry` has refused a claim where there is none.)
-  unfoldable pub agreeing : (at : ℕ) (t tA : Form) → Option Line → Result (Unit {0})
-  agreeing at t tA none = refused (refusal at 4)
-  agreeing at t tA (some l) = need (refusal at 14) (states t tA l)
 
   -- A row is counted first: 18, a 1,025th row.
   unfoldable pub checkEntry : (deeper : Option Checker) (next : Next) (at rows : ℕ) (made : Option Line) → List Line → Fields → Entry → Result Closing

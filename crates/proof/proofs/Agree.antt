@@ -1,0 +1,140 @@
+-- The check accepts just where the three files certify the formula, never refuses by 22, and what it accepts is an interpolant. Assumes nothing.
+use mathlib.Core.Path.{_≡_, refl, sym, _∙_, ap, subst, subst₂}
+use mathlib.Core.Logic.{_↔_}
+use mathlib.Core.Option.{none, some}
+use mathlib.Core.Bool.{Bool}
+use mathlib.Core.List.{List, [], _∷_}
+use Prim.Native.Nat.{ℕ, _≤_}
+use native.Mathlib.Omega.{arith}
+use lib.Dec.{T, eqb→eq, eqb-refl}
+use lib.ListN.{length}
+use Rattle.forms.specs.Edition.{Edition, edition1}
+use Rattle.forms.specs.Forms.{Formula, lines, occurs}
+use Rattle.calculus.specs.Rules.{Entry, entries, Proves, Interpolant}
+use Rattle.calculus.proofs.Sides.{Side}
+use Rattle.calculus.proofs.Interpolation.{interpolation, initial-words, sides}
+use Rattle.fields.specs.declared.Answer.{Answer}
+use Rattle.fields.specs.declared.FileKind.{FileKind}
+use Rattle.fields.specs.Answers.{fileA, fileB, fileProof, refused, accepted}
+use Rattle.fields.specs.Fields.{Fields, Item, item, fields, items}
+use Rattle.fields.specs.Header.{Header, agrees}
+use Rattle.fields.proofs.Results.{one-value, Gives, accepts, bind, seq, binds, passes}
+use Rattle.fields.proofs.Headers.{Headed, header-gives, header-read, finished-gives, finished-ends}
+use Rattle.bundle.specs.Bundle.{Bundle}
+use Rattle.bundle.specs.Layout.{Each, nil, BundleFile}
+use Rattle.bundle.proofs.Laid.{Itemed, itemed, no-items, listed, BothLaid, laid-file, file-laid, bundles-give, bundles-accept, short-gives, short-accepted}
+use Rattle.proof.specs.Check.{Closing, checkProof, interpolant}
+use Rattle.proof.specs.Layout.{Enters, Certifies}
+use Rattle.proof.proofs.Branches.{Derived, branch-derives, branch-accepts}
+
+-- which constants occur in A and in B
+abbrev occurring : Bundle → Bundle → Side → ℕ → Bool
+occurring a b σ = occurs (sides (a .constraints) (b .constraints) σ)
+
+-- ---- the proof
+-- The fields fs are laid out as a proof of I from a and b.
+pub record Proof (a b : Bundle) (fs : Fields) (I : Formula) : Type 0 where
+  pub es : List Entry
+  pub body : List Item
+  pub whole : items fs ≡ some (item 0x01 (1 ∷ []) ∷ item 0x02 (a .K ∷ []) ∷ body)
+  pub low : 1 ≤ a .K
+  pub high : a .K ≤ edition1 .constants
+  pub enters : Each (Enters edition1 (a .K)) body es
+  pub proves : Proves edition1 (a .constraints) (b .constraints) es I
+
+agreed : (K L : ℕ) → T (agrees (some K) L) → L ≡ K
+unfolding agrees
+agreed K L t = eqb→eq L K t
+
+agrees-refl : (K : ℕ) → T (agrees (some K) K)
+unfolding agrees
+agrees-refl K = eqb-refl K
+
+module _ (a b : Bundle) (fs : Fields) where
+  -- what the check of the root finds
+  abbrev Root : Edition → ℕ → Fields → Closing → Type 0
+  Root e K rest root = Derived e K (occurring a b) (e .strengthens) 0 none (lines (a .constraints) (b .constraints)) rest root
+
+  root-proof : (rest : Fields) (root : Closing) → Root edition1 (a .K) rest root → items (root .after) ≡ some [] → 1 ≤ a .K → a .K ≤ edition1 .constants
+      → ((is : List Item) → items rest ≡ some is → items fs ≡ some (item 0x01 (1 ∷ []) ∷ item 0x02 (a .K ∷ []) ∷ is)) → Proof a b fs (root .formula)
+  root-proof rest root r ended low high from =
+      let t : Itemed (Enters edition1 (a .K)) rest (entries (r .proof) []) = itemed (r .from [] (listed (root .after) ended nil)) in
+      record {
+        es = entries (r .proof) [];
+        body = t .list;
+        whole = from (t .list) (t .are);
+        low = low;
+        high = high;
+        enters = t .each;
+        proves = record { proof = r .proof; are = refl; rows = omega (arith, r .count, r .few); opened = r .fits };
+      }
+
+  -- there is one edition, and K is that of A
+  header-proof : (h : Header) → Headed (some (a .K)) fs h → (root : Closing) → Root (h .edition) (h .K) (h .rest) root → items (root .after) ≡ some [] → Proof a b fs (root .formula)
+  header-proof h d root r ended =
+      let k : h .K ≡ a .K = agreed (a .K) (h .K) (d .agree) in
+      root-proof (h .rest) root (subst₂ (λ (e : Edition) (K : ℕ). Root e K (h .rest) root) (d .edition) k r) ended (rw k at (d .low)) (rw k at (d .high)) (λ is q. rw k at (d .from is q))
+
+  proof-gives : Gives (checkProof a b fs) (Proof a b fs)
+  unfolding checkProof
+  proof-gives = bind (header-gives FileKind.Proof fileProof (some (a .K)) fs) λ h d.
+      bind (branch-derives (h .edition) (h .K) (occurring a b) (h .edition .strengthens) 0 _ (h .rest) (initial-words (sides (a .constraints) (b .constraints)))) λ root r.
+      seq (finished-gives FileKind.Proof fileProof (root .after)) λ ended. accepts (header-proof h d root r ended)
+
+  proof-accepts : (I : Formula) → Proof a b fs I → checkProof a b fs ≡ accepted I
+  unfolding checkProof
+  proof-accepts I p =
+      let h = header-read FileKind.Proof fileProof (some (a .K)) fs (a .K) (p .body) (p .whole) (p .low) (p .high) (agrees-refl (a .K)) in
+      let r = branch-accepts edition1 (a .K) (occurring a b) (edition1 .strengthens) 0 _ I (p .proves .proof) [] (h .after) (initial-words (sides (a .constraints) (b .constraints)))
+      (p .proves .opened) _ refl (omega (arith, p .proves .rows)) (listed (h .after) (h .rest) (subst (Each (Enters edition1 (a .K)) (p .body)) (sym (p .proves .are)) (p .enters))) in
+      binds _ (h .reads) ∙ binds _ (r .is) ∙ passes _ (finished-ends FileKind.Proof fileProof (r .after) (no-items (r .lists)))
+
+  pub proof-iff : (I : Formula) → checkProof a b fs ≡ accepted I ↔ Proof a b fs I
+  proof-iff I = (proof-gives .gives I, proof-accepts I)
+
+-- ---- the three files
+module _ (A B P : List ℕ) where
+  certified : (a b : Bundle) → BothLaid A B (a, b) → length A ≤ edition1 .bundleBytes → length B ≤ edition1 .bundleBytes → length P ≤ edition1 .proofBytes
+      → (I : Formula) → Proof a b (fields P) I → Certifies A B P (a .K) I
+  certified a b l sA sB sP I p = record {
+    a = a .constraints;
+    b = b .constraints;
+    es = p .es;
+    fileA = laid-file A a sA (l .laidA);
+    fileB = subst (λ (K : ℕ). BundleFile B K (b .constraints)) (agreed (a .K) (b .K) (l .laidB .agree)) (laid-file B b sB (l .laidB));
+    fileProof = record { short = sP; body = p .body; whole = p .whole; low = p .low; high = p .high; enters = p .enters };
+    proves = p .proves;
+  }
+
+  interpolant-gives : Gives (interpolant A B P) (λ r. Certifies A B P (r .0) (r .1))
+  unfolding interpolant
+  interpolant-gives = seq (short-gives _ fileA A) λ sA. seq (short-gives _ fileB B) λ sB. seq (short-gives _ fileProof P) λ sP.
+      bind (bundles-give A B) λ (a, b) l. bind (proof-gives a b (fields P)) λ I p. accepts (certified a b l sA sB sP I p)
+
+  interpolant-accepts : (K : ℕ) (I : Formula) → Certifies A B P K I → interpolant A B P ≡ accepted (K, I)
+  unfolding interpolant agrees
+  interpolant-accepts K I c =
+      let a : Bundle = record { K = K; constraints = c .a } in
+      let b : Bundle = record { K = K; constraints = c .b } in
+      let f = c .fileProof in
+      passes _ (short-accepted _ fileA A (c .fileA .short)) ∙ passes _ (short-accepted _ fileB B (c .fileB .short)) ∙ passes _ (short-accepted _ fileProof P (f .short))
+      ∙ binds _ (bundles-accept A B a b (record { laidA = file-laid A a (c .fileA) tt; laidB = file-laid B b (c .fileB) (agrees-refl K) }))
+      ∙ binds _ (proof-accepts a b (fields P) I (record { es = c .es; body = f .body; whole = f .whole; low = f .low; high = f .high; enters = f .enters; proves = c .proves }))
+
+  -- the check accepts with K and I just where the files certify I over K constants
+  pub interpolant-iff : (K : ℕ) (I : Formula) → interpolant A B P ≡ accepted (K, I) ↔ Certifies A B P K I
+  interpolant-iff K I = (interpolant-gives .gives (K, I), interpolant-accepts K I)
+
+  -- the refusal by 22 never comes
+  pub never-22 : (a : Answer) → interpolant A B P ≡ refused a → ¬ (a .number ≡ 22)
+  never-22 a e = interpolant-gives .not-22 a e
+
+-- three files certify one formula at most
+pub one-formula : {A B P : List ℕ} {K K′ : ℕ} {I I′ : Formula} → Certifies A B P K I → Certifies A B P K′ I′ → (K ≡ K′) × (I ≡ I′)
+one-formula {A} {B} {P} {K} {K′} {I} {I′} c c′ =
+    let same : _≡_ {A = ℕ × Formula} (K, I) (K′, I′) = one-value (interpolant-accepts A B P K I c) (interpolant-accepts A B P K′ I′ c′) in
+    (ap (λ (r : ℕ × Formula). r .0) same, ap (λ (r : ℕ × Formula). r .1) same)
+
+-- and it is an interpolant of what A and B state
+pub certified-interpolant : {A B P : List ℕ} {K : ℕ} {I : Formula} (c : Certifies A B P K I) → Interpolant (c .a) (c .b) I
+certified-interpolant c = interpolation (c .a) (c .b) (c .proves .proof)
