@@ -1,14 +1,24 @@
 -- Rules to reason about a `do` block of results, one for each form of step, forwards and backwards. Assumes nothing.
 use mathlib.Core.Path.{_≡_, refl, sym, ap, subst}
 use mathlib.Core.Option.{Option, none, some}
-use mathlib.Core.Bool.{Bool, true, false, not}
+use mathlib.Core.Bool.{Bool, true, false, not, _&&_}
 use Prim.Native.Nat.{ℕ}
 use native.Mathlib.Omega.{arith}
-use lib.Dec.{T, eqb, T-not}
+use lib.Dec.{T, eqb}
 use Rattle.fields.specs.declared.Answer.{Answer}
 use Rattle.fields.specs.Answers.{Result, refused, accepted, _>>=_, _>>_, need, found}
 
--- ---- forwards: if r is accepted, P holds of its value; and it is not refused by 22
+-- ---- forwards: if r is accepted, P holds of its value; if it is refused, then by a number that can come
+-- A refusal's number is not that of acceptance, and 22 never comes.
+abbrev pub given : ℕ → Bool
+given n = not (eqb n 0) && not (eqb n 22)
+
+pub not-0 : {n : ℕ} → T (given n) → ¬ (n ≡ 0)
+not-0 t e = subst (λ (n : ℕ). T (given n)) e t
+
+pub not-22 : {n : ℕ} → T (given n) → ¬ (n ≡ 22)
+not-22 t e = subst (λ (n : ℕ). T (given n)) e t
+
 pub never : {X : Type 0} {a : Answer} {x : X} → refused a ≡ accepted x → ⊥
 never e = let z : _≡_ {A = ℕ} 0 1 = cc in omega arith
 
@@ -17,23 +27,23 @@ one-value p q = cc
 
 pub record Gives {X : Type 0} (r : Result X) (P : X → Type 0) : Type 0 where
   pub gives : (x : X) → r ≡ accepted x → P x
-  pub not-22 : (a : Answer) → r ≡ refused a → ¬ (a .number ≡ 22)
+  pub refusal : (a : Answer) → r ≡ refused a → T (given (a .number))
 
-pub refuses : {X : Type 0} {P : X → Type 0} (a : Answer) → T (not (eqb (a .number) 22)) → Gives (refused a) P
+pub refuses : {X : Type 0} {P : X → Type 0} (a : Answer) → T (given (a .number)) → Gives (refused a) P
 refuses a t = record {
   gives = λ x e. absurd (never e);
-  not-22 = λ b e q. T-not (eqb (a .number) 22) t (let p : a ≡ b = cc in rw p (rw q tt));
+  refusal = λ b e. subst (λ (x : Answer). T (given (x .number))) (let p : a ≡ b = cc in p) t;
 }
 
 pub accepts : {X : Type 0} {P : X → Type 0} {x : X} → P x → Gives (accepted x) P
-accepts {P = P} {x = x} h = record { gives = λ y e. subst P (let q : x ≡ y = cc in q) h; not-22 = λ a e. absurd (never (sym e)) }
+accepts {P = P} {x = x} h = record { gives = λ y e. subst P (let q : x ≡ y = cc in q) h; refusal = λ a e. absurd (never (sym e)) }
 
 pub weaken : {X : Type 0} {r : Result X} {P Q : X → Type 0} → Gives r P → ((x : X) → P x → Q x) → Gives r Q
-weaken h k = record { gives = λ x e. k x (h .gives x e); not-22 = h .not-22 }
+weaken h k = record { gives = λ x e. k x (h .gives x e); refusal = h .refusal }
 
 -- what a refused first step leaves of the rest
 stops : {X Y : Type 0} {a : Answer} {P : X → Type 0} {Q : Y → Type 0} → Gives {X = X} (refused a) P → Gives {X = Y} (refused a) Q
-stops {a = a} h = record { gives = λ x e. absurd (never e); not-22 = λ b e. h .not-22 b (let p : a ≡ b = cc in ap refused p) }
+stops {a = a} h = record { gives = λ x e. absurd (never e); refusal = λ b e. h .refusal b (let p : a ≡ b = cc in ap refused p) }
 
 pub bind : {X Y : Type 0} {m : Result X} {f : X → Result Y} {P : X → Type 0} {Q : Y → Type 0} → Gives m P → ((x : X) → P x → Gives (f x) Q) → Gives (m >>= f) Q
 unfolding _>>=_
@@ -45,12 +55,12 @@ unfolding _>>_
 seq {m = refused a} h k = stops h
 seq {m = accepted x} h k = k (h .gives x refl)
 
-pub tested : (a : Answer) (b : Bool) → T (not (eqb (a .number) 22)) → Gives (need a b) (λ _. T b)
+pub tested : (a : Answer) (b : Bool) → T (given (a .number)) → Gives (need a b) (λ _. T b)
 unfolding need
 tested a true t = accepts tt
 tested a false t = refuses a t
 
-pub test : {Y : Type 0} {Q : Y → Type 0} (a : Answer) (b : Bool) {r : Result Y} → T (not (eqb (a .number) 22)) → (T b → Gives r Q) → Gives (need a b >> r) Q
+pub test : {Y : Type 0} {Q : Y → Type 0} (a : Answer) (b : Bool) {r : Result Y} → T (given (a .number)) → (T b → Gives r Q) → Gives (need a b >> r) Q
 test a b t k = seq (tested a b t) k
 
 -- a test that never fails, whatever its number
@@ -59,7 +69,7 @@ unfolding need _>>_
 passed a true t g = g
 passed a false t g = absurd t
 
-pub finds : {X : Type 0} (a : Answer) (o : Option X) → T (not (eqb (a .number) 22)) → Gives (found a o) (λ x. o ≡ some x)
+pub finds : {X : Type 0} (a : Answer) (o : Option X) → T (given (a .number)) → Gives (found a o) (λ x. o ≡ some x)
 unfolding found
 finds a none t = refuses a t
 finds a (some x) t = accepts refl

@@ -18,7 +18,7 @@ use Rattle.fields.specs.declared.FileKind.{FileKind}
 use Rattle.fields.specs.Answers.{fileA, fileB, fileProof, refused, accepted}
 use Rattle.fields.specs.Fields.{Fields, Item, item, fields, items}
 use Rattle.fields.specs.Header.{Header, agrees}
-use Rattle.fields.proofs.Results.{one-value, Gives, accepts, bind, seq, binds, passes}
+use Rattle.fields.proofs.Results.{one-value, Gives, accepts, bind, seq, binds, passes, not-0, not-22}
 use Rattle.fields.proofs.Headers.{Headed, header-gives, header-read, finished-gives, finished-ends}
 use Rattle.bundle.specs.Bundle.{Bundle}
 use Rattle.bundle.specs.Layout.{Each, nil, BundleFile}
@@ -127,7 +127,11 @@ module _ (A B P : List ℕ) where
 
   -- the refusal by 22 never comes
   pub never-22 : (a : Answer) → interpolant A B P ≡ refused a → ¬ (a .number ≡ 22)
-  never-22 a e = interpolant-gives .not-22 a e
+  never-22 a e = not-22 (interpolant-gives .refusal a e)
+
+  -- a refusal's number is never that of acceptance
+  pub never-0 : (a : Answer) → interpolant A B P ≡ refused a → ¬ (a .number ≡ 0)
+  never-0 a e = not-0 (interpolant-gives .refusal a e)
 
 -- three files certify one formula at most
 pub one-formula : {A B P : List ℕ} {K K′ : ℕ} {I I′ : Formula} → Certifies A B P K I → Certifies A B P K′ I′ → (K ≡ K′) × (I ≡ I′)

@@ -1,0 +1,3 @@
+-- Proofs of what is promised of the operations together.
+pub mod Accepted
+pub mod Soundness

@@ -1,0 +1,92 @@
+//! Answers: accepted, or a refusal with its number, file and place.
+
+/// What an operation answers. Accepted is 0, 0, 0.
+#[derive(Clone, Copy, PartialEq, Eq, Debug)]
+pub struct Answer {
+    /// 0 for accepted, else the number of the refusal.
+    pub number: u8,
+    /// A or a bundle read alone 1, B 2, proof or formula 3, no file or a lent output 4.
+    pub file: u8,
+    /// The byte at which the field at fault starts, if nothing else is said.
+    pub place: usize,
+}
+
+impl Answer {
+    pub(crate) const ACCEPTED: Answer = Answer {
+        number: 0,
+        file: 0,
+        place: 0,
+    };
+
+    pub(crate) fn refused(number: u8, file: u8, place: usize) -> Answer {
+        Answer {
+            number,
+            file,
+            place,
+        }
+    }
+}
+
+pub(crate) const FILE_A: u8 = 1;
+pub(crate) const FILE_B: u8 = 2;
+/// The proof, or a formula that is tested.
+pub(crate) const FILE_PROOF: u8 = 3;
+/// A lent output, and whatever concerns no file.
+pub(crate) const FILE_OUTPUT: u8 = 4;
+
+pub(crate) const TOO_LONG: u8 = 1;
+pub(crate) const NOT_WHOLE: u8 = 2;
+pub(crate) const UNKNOWN_TAG: u8 = 3;
+pub(crate) const OUT_OF_PLACE: u8 = 4;
+pub(crate) const WRONG_EDITION: u8 = 5;
+pub(crate) const WRONG_LENGTH: u8 = 6;
+pub(crate) const WRONG_K: u8 = 7;
+pub(crate) const TOO_MANY_CONSTRAINTS: u8 = 8;
+pub(crate) const OTHER_K: u8 = 9;
+pub(crate) const NO_SUCH_LINE: u8 = 10;
+pub(crate) const WRONG_KIND: u8 = 11;
+pub(crate) const WRONG_MULTIPLIER: u8 = 12;
+pub(crate) const OUT_OF_RANGE: u8 = 13;
+pub(crate) const CLAIM_DIFFERS: u8 = 14;
+pub(crate) const NOT_CLOSED: u8 = 15;
+pub(crate) const TOO_MANY_LINES: u8 = 16;
+pub(crate) const TOO_DEEP: u8 = 17;
+pub(crate) const TOO_MANY_ROWS: u8 = 18;
+pub(crate) const AFTER_THE_END: u8 = 19;
+pub(crate) const STILL_OPEN: u8 = 20;
+pub(crate) const OUTPUT_TOO_SHORT: u8 = 21;
+pub(crate) const STRANGER: u8 = 22;
+pub(crate) const VALUE_OUT_OF_RANGE: u8 = 23;
+pub(crate) const WRONG_LIST: u8 = 24;
+
+/// The meaning of an answer's number in words.
+pub fn meaning(number: u8) -> &'static str {
+    match number {
+        0 => "accepted",
+        TOO_LONG => "the file is too long",
+        NOT_WHOLE => "a field runs past the end of the file, or the file ends unfinished",
+        UNKNOWN_TAG => "a tag below 0x80 that this kind of file does not have",
+        OUT_OF_PLACE => "a known tag out of place",
+        WRONG_EDITION => "the edition is not 1",
+        WRONG_LENGTH => "a field of the wrong length",
+        WRONG_K => "the number of constants or values is outside 1 to 16",
+        TOO_MANY_CONSTRAINTS => "a 33rd constraint",
+        OTHER_K => "the number of constants is not the one already given",
+        NO_SUCH_LINE => "a line that is not there",
+        WRONG_KIND => "a line of the wrong kind",
+        WRONG_MULTIPLIER => "a multiplier of 0, or a stride below 2",
+        OUT_OF_RANGE => "a number of a new line is out of range",
+        CLAIM_DIFFERS => "a claim that differs from the new line",
+        NOT_CLOSED => "a close whose condition is not met",
+        TOO_MANY_LINES => "a 129th line on a branch",
+        TOO_DEEP => "a 33rd open strengthen, or a 65th level of and/or",
+        TOO_MANY_ROWS => "a 1,025th row",
+        AFTER_THE_END => "a known field after the root is closed",
+        STILL_OPEN => "branches are still open at the end of the proof",
+        OUTPUT_TOO_SHORT => "a lent output is too short",
+        STRANGER => "a close whose formula would name a constant not occurring in both bundles",
+        VALUE_OUT_OF_RANGE => "a value outside -1,000,000 to 1,000,000",
+        WRONG_LIST => "a kind that is not 0 or 1, or a wrong count of numbers",
+        _ => "no number of this edition",
+    }
+}

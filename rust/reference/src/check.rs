@@ -1,0 +1,345 @@
+//! Checking a proof and writing its interpolant.
+
+use crate::answer::*;
+use crate::bundle::{length_within, Bundle, WriteResult};
+use crate::field::{signed, unsigned, Field, Fields, Unfinished};
+use crate::formula::{push_comparison, push_junction, push_stride, TAG_AND, TAG_OR};
+use crate::header::{header_bytes, Header, Step, TAG_CONSTANTS, TAG_EDITION};
+use crate::limits;
+use crate::line::{Lines, OutOfRange};
+
+const COMBINE: u8 = 0x10;
+const REDUCE: u8 = 0x11;
+const SCALE: u8 = 0x12;
+const STRENGTHEN: u8 = 0x13;
+const CLOSE_BY_NUMBER: u8 = 0x14;
+const CLOSE_BY_STRIDE: u8 = 0x15;
+const CLAIM: u8 = 0x20;
+
+/// Checks a proof over the lines of A and B and writes the interpolant's file.
+pub fn check(a: &[u8], b: &[u8], proof: &[u8], out: &mut [u8]) -> WriteResult {
+    let formula = match interpolant(a, b, proof) {
+        Ok(formula) => formula,
+        Err(answer) => return WriteResult::refused(answer),
+    };
+    let needed = formula.len();
+    match out.get_mut(..needed) {
+        Some(part) => {
+            part.copy_from_slice(&formula);
+            WriteResult::accepted(needed)
+        }
+        None => WriteResult::refused(Answer::refused(OUTPUT_TOO_SHORT, FILE_OUTPUT, needed)),
+    }
+}
+
+/// The interpolant's file, before it is known whether the output can hold it.
+fn interpolant(a: &[u8], b: &[u8], proof: &[u8]) -> Result<Vec<u8>, Answer> {
+    length_within(a, limits::BUNDLE_BYTES, FILE_A)?;
+    length_within(b, limits::BUNDLE_BYTES, FILE_B)?;
+    length_within(proof, limits::PROOF_BYTES, FILE_PROOF)?;
+    let a = Bundle::read(a, FILE_A, None)?;
+    let b = Bundle::read(b, FILE_B, Some(a.k))?;
+    let mut header = Header::Start;
+    let mut table = Table::over(&a, &b);
+    let mut fields = Fields::of(proof);
+    loop {
+        let field = match fields.take() {
+            Ok(Some(field)) => field,
+            Ok(None) => break,
+            Err(Unfinished(place)) => return Err(Answer::refused(NOT_WHOLE, FILE_PROOF, place)),
+        };
+        let refuse = |number| Err(Answer::refused(number, FILE_PROOF, field.place));
+        let length = match field.tag {
+            TAG_EDITION | TAG_CONSTANTS => 1,
+            COMBINE => 6,
+            REDUCE => 4,
+            SCALE => 3,
+            STRENGTHEN => 1,
+            CLOSE_BY_NUMBER => 1,
+            CLOSE_BY_STRIDE => 3,
+            CLAIM => 2 * 4 * (a.k + 1),
+            _ => return refuse(UNKNOWN_TAG),
+        };
+        if table.root_closed {
+            return refuse(AFTER_THE_END);
+        }
+        match header.take(&field, Some(a.k)) {
+            Err(number) => return refuse(number),
+            Ok(Step::Header(next)) => {
+                header = next;
+                continue;
+            }
+            Ok(Step::Body(_)) => {}
+        }
+        if let Err(number) = table.take(&field, length) {
+            return refuse(number);
+        }
+    }
+    if !matches!(header, Header::Complete(_)) {
+        return Err(Answer::refused(NOT_WHOLE, FILE_PROOF, proof.len()));
+    }
+    if !table.root_closed {
+        return Err(Answer::refused(STILL_OPEN, FILE_PROOF, proof.len()));
+    }
+    Ok(table.formula)
+}
+
+/// Which of its three branches an open strengthen has reached.
+#[derive(Clone, Copy)]
+enum Branch {
+    First,
+    Second,
+    Third,
+}
+
+/// A strengthen whose third branch is not yet closed.
+struct Strengthen {
+    /// The line that it strengthens.
+    line: usize,
+    /// The lines that all its branches start from, before their own new one.
+    lines: usize,
+    branch: Branch,
+}
+
+/// The proof table as far as it has been read.
+struct Table {
+    lines: Lines,
+    /// The strengthens around the current branch, outermost first.
+    open: Vec<Strengthen>,
+    rows: usize,
+    /// Whether the field before, notes aside, was a row 0x10 to 0x12.
+    claim_in_place: bool,
+    root_closed: bool,
+    /// The constants that occur in A and those that occur in B, a bit each.
+    in_a: u32,
+    in_b: u32,
+    /// The interpolant's file so far. A formula comes before its parts and
+    /// the branches come in the order of the parts, so it only ever grows.
+    formula: Vec<u8>,
+}
+
+impl Table {
+    fn over(a: &Bundle, b: &Bundle) -> Table {
+        let mut formula = Vec::with_capacity(128);
+        // K is at most 16, so one byte holds it.
+        formula.extend_from_slice(&header_bytes(a.k as u8));
+        Table {
+            lines: Lines::of(a, b),
+            open: Vec::new(),
+            rows: 0,
+            claim_in_place: false,
+            root_closed: false,
+            in_a: occurring(a),
+            in_b: occurring(b),
+            formula,
+        }
+    }
+
+    /// Takes a row or a claim, given the length that its tag asks for.
+    fn take(&mut self, field: &Field, length: usize) -> Result<(), u8> {
+        if field.tag == CLAIM && !self.claim_in_place {
+            return Err(OUT_OF_PLACE);
+        }
+        if field.contents.len() != length {
+            return Err(WRONG_LENGTH);
+        }
+        if field.tag == CLAIM {
+            self.claim_in_place = false;
+            return if self.lines.newest_is(field.contents) {
+                Ok(())
+            } else {
+                Err(CLAIM_DIFFERS)
+            };
+        }
+        if self.rows == limits::ROWS {
+            return Err(TOO_MANY_ROWS);
+        }
+        self.rows += 1;
+        self.claim_in_place = matches!(field.tag, COMBINE | REDUCE | SCALE);
+        let contents = field.contents;
+        match field.tag {
+            COMBINE => self.combine(
+                contents[0],
+                contents[1],
+                unsigned(&contents[2..]),
+                unsigned(&contents[4..]),
+            ),
+            REDUCE => self.reduce(contents[0], contents[1], signed(&contents[2..])),
+            SCALE => self.scale(contents[0], unsigned(&contents[1..])),
+            STRENGTHEN => self.strengthen(contents[0]),
+            CLOSE_BY_NUMBER => self.close_by_number(contents[0]),
+            // The caller lets no other tag through.
+            _ => self.close_by_stride(contents[0], unsigned(&contents[1..])),
+        }
+    }
+
+    fn combine(&mut self, s: u8, t: u8, alpha: u16, beta: u16) -> Result<(), u8> {
+        let s = self.line(s)?;
+        let t = self.line(t)?;
+        if self.lines.is_equality(s) || self.lines.is_equality(t) {
+            return Err(WRONG_KIND);
+        }
+        if alpha == 0 || beta == 0 {
+            return Err(WRONG_MULTIPLIER);
+        }
+        self.room_for_a_line()?;
+        in_range(self.lines.add_sum(s, i64::from(alpha), t, i64::from(beta)))
+    }
+
+    fn reduce(&mut self, s: u8, t: u8, alpha: i16) -> Result<(), u8> {
+        let s = self.line(s)?;
+        let t = self.line(t)?;
+        if !self.lines.is_equality(t) {
+            return Err(WRONG_KIND);
+        }
+        if alpha == 0 {
+            return Err(WRONG_MULTIPLIER);
+        }
+        self.room_for_a_line()?;
+        in_range(self.lines.add_sum(s, 1, t, i64::from(alpha)))
+    }
+
+    fn scale(&mut self, t: u8, alpha: u16) -> Result<(), u8> {
+        let t = self.line(t)?;
+        if alpha == 0 {
+            return Err(WRONG_MULTIPLIER);
+        }
+        self.room_for_a_line()?;
+        in_range(self.lines.add_multiple(t, i64::from(alpha)))
+    }
+
+    /// Opens the three branches and enters the first. That the new lines of
+    /// the other two are in range and have room follows: their numbers are
+    /// t's, tA's and those of t+1, and they start from as many lines.
+    fn strengthen(&mut self, t: u8) -> Result<(), u8> {
+        let line = self.line(t)?;
+        if self.lines.is_equality(line) {
+            return Err(WRONG_KIND);
+        }
+        if self.open.len() == limits::STRENGTHENS {
+            return Err(TOO_DEEP);
+        }
+        self.room_for_a_line()?;
+        let lines = self.lines.count();
+        in_range(self.lines.add_raised(line, false, 1, 1))?;
+        self.open.push(Strengthen {
+            line,
+            lines,
+            branch: Branch::First,
+        });
+        push_junction(&mut self.formula, TAG_OR);
+        Ok(())
+    }
+
+    fn close_by_number(&mut self, t: u8) -> Result<(), u8> {
+        let t = self.line(t)?;
+        let equality = self.lines.is_equality(t);
+        let d = self.lines.constant(t);
+        let impossible = if equality { d != 0 } else { d > 0 };
+        if !impossible || self.lines.coefficients(t).iter().any(|&c| c != 0) {
+            return Err(NOT_CLOSED);
+        }
+        let form = self.lines.partial(t);
+        self.common_only(form)?;
+        push_comparison(&mut self.formula, equality, form);
+        self.close_branch()
+    }
+
+    fn close_by_stride(&mut self, t: u8, g: u16) -> Result<(), u8> {
+        let t = self.line(t)?;
+        if !self.lines.is_equality(t) {
+            return Err(WRONG_KIND);
+        }
+        if g < 2 {
+            return Err(WRONG_MULTIPLIER);
+        }
+        let divides = |number: i32| i64::from(number) % i64::from(g) == 0;
+        let coefficients = self.lines.coefficients(t);
+        if !coefficients.iter().all(|&c| divides(c)) || divides(self.lines.constant(t)) {
+            return Err(NOT_CLOSED);
+        }
+        // Constants that B lacks leave the formula; d, in the last place, stays.
+        let mut form = [0; limits::CONSTANTS + 1];
+        let form = &mut form[..=coefficients.len()];
+        form.copy_from_slice(self.lines.partial(t));
+        for (constant, coefficient) in form[..coefficients.len()].iter_mut().enumerate() {
+            if self.in_b >> constant & 1 == 0 {
+                *coefficient = 0;
+            }
+        }
+        self.common_only(form)?;
+        push_stride(&mut self.formula, g, form);
+        self.close_branch()
+    }
+
+    /// Ends the current branch and enters the next one, if any is open.
+    fn close_branch(&mut self) -> Result<(), u8> {
+        while let Some(step) = self.open.last_mut() {
+            self.lines.fall_back_to(step.lines);
+            let added = match step.branch {
+                Branch::First => {
+                    step.branch = Branch::Second;
+                    push_junction(&mut self.formula, TAG_AND);
+                    self.lines.add_raised(step.line, true, 0, 0)
+                }
+                Branch::Second => {
+                    step.branch = Branch::Third;
+                    self.lines.add_raised(step.line, false, 1, 0)
+                }
+                Branch::Third => {
+                    self.open.pop();
+                    continue;
+                }
+            };
+            return in_range(added);
+        }
+        self.root_closed = true;
+        Ok(())
+    }
+
+    fn line(&self, number: u8) -> Result<usize, u8> {
+        let line = usize::from(number);
+        if self.lines.has(line) {
+            Ok(line)
+        } else {
+            Err(NO_SUCH_LINE)
+        }
+    }
+
+    fn room_for_a_line(&self) -> Result<(), u8> {
+        if self.lines.is_full() {
+            return Err(TOO_MANY_LINES);
+        }
+        Ok(())
+    }
+
+    /// Refuses a form, K coefficients and d, with a constant that does not
+    /// occur in both bundles.
+    fn common_only(&self, form: &[i32]) -> Result<(), u8> {
+        let common = self.in_a & self.in_b;
+        let coefficients = &form[..form.len() - 1];
+        let stranger = |(constant, &c): (usize, &i32)| c != 0 && common >> constant & 1 == 0;
+        if coefficients.iter().enumerate().any(stranger) {
+            return Err(STRANGER);
+        }
+        Ok(())
+    }
+}
+
+fn in_range(added: Result<(), OutOfRange>) -> Result<(), u8> {
+    added.map_err(|OutOfRange| OUT_OF_RANGE)
+}
+
+/// The constants to which some constraint gives a non-zero coefficient, a bit
+/// each.
+fn occurring(bundle: &Bundle) -> u32 {
+    let mut found = 0;
+    for constraint in bundle.constraints() {
+        for (constant, number) in constraint.numbers().take(bundle.k).enumerate() {
+            if number != 0 {
+                found |= 1 << constant;
+            }
+        }
+    }
+    found
+}

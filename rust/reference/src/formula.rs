@@ -1,0 +1,205 @@
+//! Formulas: the parts that a check writes, and testing one at register values.
+
+use crate::answer::*;
+use crate::bundle::length_within;
+use crate::field::{push_field_header, signed_long, Fields, Unfinished};
+use crate::header::{Header, Step, TAG_CONSTANTS, TAG_EDITION};
+use crate::limits;
+
+pub(crate) const TAG_OR: u8 = 0x31;
+pub(crate) const TAG_AND: u8 = 0x32;
+const TAG_INEQUALITY: u8 = 0x33;
+const TAG_EQUALITY: u8 = 0x34;
+const TAG_STRIDE: u8 = 0x35;
+
+/// Appends "or" or "and"; its two formulas follow.
+pub(crate) fn push_junction(out: &mut Vec<u8>, tag: u8) {
+    push_field_header(out, tag, 0);
+}
+
+/// Appends "form = 0" or "form ≤ 0". The form is K coefficients and d.
+pub(crate) fn push_comparison(out: &mut Vec<u8>, equality: bool, form: &[i32]) {
+    let tag = if equality {
+        TAG_EQUALITY
+    } else {
+        TAG_INEQUALITY
+    };
+    push_field_header(out, tag, 4 * form.len() as u16);
+    for number in form {
+        out.extend_from_slice(&number.to_be_bytes());
+    }
+}
+
+/// Appends "g divides the form", given as its numbers.
+pub(crate) fn push_stride(out: &mut Vec<u8>, g: u16, form: &[i32]) {
+    push_field_header(out, TAG_STRIDE, 4 + 4 * form.len() as u16);
+    out.extend_from_slice(&i32::from(g).to_be_bytes());
+    for number in form {
+        out.extend_from_slice(&number.to_be_bytes());
+    }
+}
+
+/// What testing a formula gives; `holds` is false on refusal.
+#[derive(Clone, Copy, PartialEq, Eq, Debug)]
+pub struct TestResult {
+    pub answer: Answer,
+    pub holds: bool,
+}
+
+/// Tests a formula at K register values.
+pub fn test_formula(formula: &[u8], values: &[i32]) -> TestResult {
+    match judge(formula, values) {
+        Ok(holds) => TestResult {
+            answer: Answer::ACCEPTED,
+            holds,
+        },
+        Err(answer) => TestResult {
+            answer,
+            holds: false,
+        },
+    }
+}
+
+/// An and/or some of whose two parts are still to come.
+#[derive(Clone, Copy)]
+struct Junction {
+    and: bool,
+    /// The first part's value, once that part is read.
+    first: Option<bool>,
+}
+
+/// The and/ors around the place that has been reached. Their number is the
+/// level there, since each goes as soon as its second part is complete.
+struct Junctions {
+    open: [Junction; limits::LEVELS],
+    level: usize,
+}
+
+impl Junctions {
+    fn none() -> Junctions {
+        let unused = Junction {
+            and: false,
+            first: None,
+        };
+        Junctions {
+            open: [unused; limits::LEVELS],
+            level: 0,
+        }
+    }
+
+    /// Goes one level down; not possible at the last level.
+    fn enter(&mut self, and: bool) -> bool {
+        match self.open.get_mut(self.level) {
+            Some(slot) => {
+                *slot = Junction { and, first: None };
+                self.level += 1;
+                true
+            }
+            None => false,
+        }
+    }
+
+    /// Takes the value of a complete part. Gives the whole formula's value if
+    /// this completes it.
+    fn complete(&mut self, mut value: bool) -> Option<bool> {
+        while self.level > 0 {
+            let junction = &mut self.open[self.level - 1];
+            match junction.first {
+                None => {
+                    junction.first = Some(value);
+                    return None;
+                }
+                Some(first) if junction.and => value &= first,
+                Some(first) => value |= first,
+            }
+            self.level -= 1;
+        }
+        Some(value)
+    }
+}
+
+fn judge(formula: &[u8], values: &[i32]) -> Result<bool, Answer> {
+    let k = values.len();
+    if k == 0 || k > limits::CONSTANTS {
+        return Err(Answer::refused(WRONG_K, FILE_OUTPUT, 0));
+    }
+    let outside = |value: &i32| !(-limits::VALUE..=limits::VALUE).contains(value);
+    if let Some(index) = values.iter().position(outside) {
+        return Err(Answer::refused(VALUE_OUT_OF_RANGE, FILE_OUTPUT, index));
+    }
+    length_within(formula, limits::PROOF_BYTES, FILE_PROOF)?;
+
+    let mut header = Header::Start;
+    let mut junctions = Junctions::none();
+    // The whole formula's value, once it is complete.
+    let mut verdict = None;
+    let mut fields = Fields::of(formula);
+    loop {
+        let field = match fields.take() {
+            Ok(Some(field)) => field,
+            Ok(None) => break,
+            Err(Unfinished(place)) => return Err(Answer::refused(NOT_WHOLE, FILE_PROOF, place)),
+        };
+        let refuse = |number| Err(Answer::refused(number, FILE_PROOF, field.place));
+        let form_bytes = 4 * (k + 1);
+        let length = match field.tag {
+            TAG_EDITION | TAG_CONSTANTS => 1,
+            TAG_OR | TAG_AND => 0,
+            TAG_INEQUALITY | TAG_EQUALITY => form_bytes,
+            TAG_STRIDE => 4 + form_bytes,
+            _ => return refuse(UNKNOWN_TAG),
+        };
+        if verdict.is_some() {
+            return refuse(AFTER_THE_END);
+        }
+        match header.take(&field, Some(k)) {
+            Err(number) => return refuse(number),
+            Ok(Step::Header(next)) => {
+                header = next;
+                continue;
+            }
+            // Its K is the number of values, or 9 had been given.
+            Ok(Step::Body(_)) => {}
+        }
+        if field.contents.len() != length {
+            return refuse(WRONG_LENGTH);
+        }
+        let part = match field.tag {
+            TAG_OR | TAG_AND => {
+                if !junctions.enter(field.tag == TAG_AND) {
+                    return refuse(TOO_DEEP);
+                }
+                continue;
+            }
+            TAG_INEQUALITY => value_of(field.contents, values) <= 0,
+            TAG_EQUALITY => value_of(field.contents, values) == 0,
+            _ => {
+                let (g, form) = field.contents.split_at(4);
+                let g = i64::from(signed_long(g));
+                if g < 2 {
+                    return refuse(WRONG_MULTIPLIER);
+                }
+                value_of(form, values) % g == 0
+            }
+        };
+        verdict = junctions.complete(part);
+    }
+    // A file that ends inside its header or before its formula is complete.
+    verdict.ok_or(Answer::refused(NOT_WHOLE, FILE_PROOF, formula.len()))
+}
+
+/// The value of a form, given as K coefficients and d of four bytes each.
+///
+/// Nothing overflows: a coefficient is within ±2^31 and a value within
+/// ±2^20, so 16 products and d stay within ±2^56.
+fn value_of(form: &[u8], values: &[i32]) -> i64 {
+    let mut numbers = form
+        .chunks_exact(4)
+        .map(|bytes| i64::from(signed_long(bytes)));
+    let sum: i64 = values
+        .iter()
+        .zip(numbers.by_ref())
+        .map(|(&value, coefficient)| i64::from(value) * coefficient)
+        .sum();
+    sum + numbers.next().unwrap_or(0)
+}

@@ -1,0 +1,53 @@
+//! Independent checker of interpolating proofs over linear integer
+//! constraints, written from document 01 alone.
+//!
+//! It is what another implementation is compared with, so it is built
+//! differently from the paper's own words where they are recursive: the
+//! proof is read once from front to back with a stack of open strengthens,
+//! the lines of the current branch stand in one flat list, and the
+//! interpolant is written down in the order in which its parts arise, which
+//! is already the order of the formula file.
+//!
+//! Every function is total: whatever bytes and numbers it is given, it
+//! answers, and a refusal leaves every lent buffer as it was.
+
+#![forbid(unsafe_code)]
+
+mod answer;
+mod bundle;
+mod check;
+mod field;
+mod formula;
+mod header;
+mod line;
+mod show;
+
+pub use answer::{meaning, Answer};
+pub use bundle::{read_bundle, write_bundle, ReadResult, WriteResult};
+pub use check::check;
+pub use formula::{test_formula, TestResult};
+pub use show::{show, show_answer};
+
+/// The limits that the paper sets.
+pub mod limits {
+    /// Most constants of a file.
+    pub const CONSTANTS: usize = 16;
+    /// Most constraints of a bundle.
+    pub const CONSTRAINTS: usize = 32;
+    /// Most rows of a proof.
+    pub const ROWS: usize = 1_024;
+    /// Most lines on a branch.
+    pub const LINES: usize = 128;
+    /// Most strengthens open at once.
+    pub const STRENGTHENS: usize = 32;
+    /// Most levels of and/or in a formula.
+    pub const LEVELS: usize = 64;
+    /// Most bytes of a bundle.
+    pub const BUNDLE_BYTES: usize = 4_096;
+    /// Most bytes of a proof or of a formula.
+    pub const PROOF_BYTES: usize = 65_536;
+    /// Largest number in a line, and with a minus sign the smallest.
+    pub const NUMBER: i64 = 2_147_483_647;
+    /// Largest register value in a test, and with a minus sign the smallest.
+    pub const VALUE: i32 = 1_000_000;
+}

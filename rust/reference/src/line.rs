@@ -1,0 +1,163 @@
+//! The lines of the current branch, in one flat list.
+
+use crate::bundle::Bundle;
+use crate::field::signed_long;
+use crate::limits;
+
+/// A number of a new line is outside the range.
+pub(crate) struct OutOfRange;
+
+/// The lines of a branch. Line n has the numbers n*2w .. (n+1)*2w with
+/// w = K+1: t's coefficients and d, then tA's.
+pub(crate) struct Lines {
+    width: usize,
+    equality: Vec<bool>,
+    numbers: Vec<i32>,
+}
+
+impl Lines {
+    /// A's constraints with tA = t, then B's with tA = 0.
+    pub fn of(a: &Bundle, b: &Bundle) -> Lines {
+        let width = a.k + 1;
+        let count = a.count() + b.count();
+        let mut lines = Lines {
+            width,
+            equality: Vec::with_capacity(count + 16),
+            numbers: Vec::with_capacity((count + 16) * 2 * width),
+        };
+        for constraint in a.constraints() {
+            lines.equality.push(constraint.equality);
+            lines.numbers.extend(constraint.numbers().map(i32::from));
+            lines.numbers.extend(constraint.numbers().map(i32::from));
+        }
+        for constraint in b.constraints() {
+            lines.equality.push(constraint.equality);
+            lines.numbers.extend(constraint.numbers().map(i32::from));
+            let filled = lines.numbers.len();
+            lines.numbers.resize(filled + width, 0);
+        }
+        lines
+    }
+
+    pub fn count(&self) -> usize {
+        self.equality.len()
+    }
+
+    pub fn is_full(&self) -> bool {
+        self.count() >= limits::LINES
+    }
+
+    pub fn has(&self, line: usize) -> bool {
+        line < self.count()
+    }
+
+    /// Whether a line that is there is an equality.
+    pub fn is_equality(&self, line: usize) -> bool {
+        self.equality[line]
+    }
+
+    /// t and tA in one, t first.
+    fn both(&self, line: usize) -> &[i32] {
+        &self.numbers[line * 2 * self.width..(line + 1) * 2 * self.width]
+    }
+
+    /// t's coefficients.
+    pub fn coefficients(&self, line: usize) -> &[i32] {
+        &self.both(line)[..self.width - 1]
+    }
+
+    /// t's d.
+    pub fn constant(&self, line: usize) -> i32 {
+        self.both(line)[self.width - 1]
+    }
+
+    /// tA, coefficients and d.
+    pub fn partial(&self, line: usize) -> &[i32] {
+        &self.both(line)[self.width..]
+    }
+
+    /// Adds α times one line plus β times another, of the first one's kind,
+    /// partial interpolants likewise. A row out of range ends the check, so
+    /// what it leaves behind does not matter.
+    ///
+    /// Nothing overflows: α and β are within ±65,535 and the old numbers
+    /// within ±(2^31 - 1), so each sum is within ±2^48.
+    pub fn add_sum(&mut self, s: usize, alpha: i64, t: usize, beta: i64) -> Result<(), OutOfRange> {
+        let (old, new) = self.room();
+        let size = new.len();
+        let s_numbers = &old[s * size..][..size];
+        let t_numbers = &old[t * size..][..size];
+        for (slot, (&s, &t)) in new.iter_mut().zip(s_numbers.iter().zip(t_numbers)) {
+            *slot = within(alpha * i64::from(s) + beta * i64::from(t))?;
+        }
+        self.equality.push(self.equality[s]);
+        Ok(())
+    }
+
+    /// Adds α times a line, of the same kind. As above, nothing overflows.
+    pub fn add_multiple(&mut self, t: usize, alpha: i64) -> Result<(), OutOfRange> {
+        let (old, new) = self.room();
+        let size = new.len();
+        for (slot, &number) in new.iter_mut().zip(&old[t * size..][..size]) {
+            *slot = within(alpha * i64::from(number))?;
+        }
+        self.equality.push(self.equality[t]);
+        Ok(())
+    }
+
+    /// Makes room for one more line; gives the numbers of the old ones and
+    /// the place for the new ones.
+    fn room(&mut self) -> (&[i32], &mut [i32]) {
+        let filled = self.numbers.len();
+        self.numbers.resize(filled + 2 * self.width, 0);
+        let (old, new) = self.numbers.split_at_mut(filled);
+        (old, new)
+    }
+
+    /// Adds the line that starts a branch of a strengthen of line t:
+    /// t + `raise` with tA + `raise_partial`.
+    pub fn add_raised(
+        &mut self,
+        t: usize,
+        equality: bool,
+        raise: i64,
+        raise_partial: i64,
+    ) -> Result<(), OutOfRange> {
+        let size = 2 * self.width;
+        let start = t * size;
+        let constant = within(i64::from(self.constant(t)) + raise)?;
+        let partial = within(i64::from(self.numbers[start + size - 1]) + raise_partial)?;
+        let new = self.numbers.len();
+        self.numbers.extend_from_within(start..start + size);
+        self.numbers[new + self.width - 1] = constant;
+        self.numbers[new + size - 1] = partial;
+        self.equality.push(equality);
+        Ok(())
+    }
+
+    /// Whether the newest line has exactly these numbers, four bytes each,
+    /// t first. The bytes are as many as the line needs.
+    pub fn newest_is(&self, stated: &[u8]) -> bool {
+        let newest = &self.numbers[self.numbers.len() - 2 * self.width..];
+        stated
+            .chunks_exact(4)
+            .map(signed_long)
+            .eq(newest.iter().copied())
+    }
+
+    /// Drops the lines from `count` on, those that a closed branch made.
+    pub fn fall_back_to(&mut self, count: usize) {
+        self.equality.truncate(count);
+        self.numbers.truncate(count * 2 * self.width);
+    }
+}
+
+/// The number, if a line may hold it. -2^31 is outside.
+#[inline]
+fn within(number: i64) -> Result<i32, OutOfRange> {
+    if (-limits::NUMBER..=limits::NUMBER).contains(&number) {
+        Ok(number as i32)
+    } else {
+        Err(OutOfRange)
+    }
+}

@@ -1,0 +1,189 @@
+//! The worked stages of the paper, with every variant.
+
+mod common;
+use common::*;
+
+const STAGE_1_A: &str = "01000101 02000103 040008 FFFE000100000000";
+const STAGE_1_B: &str = "01000101 02000103 040008 0000FFFF00020001";
+const STAGE_1_PROOF: &str = "01000101 02000103 110004 01000001 150003 020002";
+const STAGE_1_FORMULA: &str = "01000101020001033500140000000200000000000000010000000000000000";
+
+fn stage_1() -> (Vec<u8>, Vec<u8>, Vec<u8>) {
+    (hex(STAGE_1_A), hex(STAGE_1_B), hex(STAGE_1_PROOF))
+}
+
+#[test]
+fn stage_1_reduce_and_close_by_stride() {
+    let (a, b, proof) = stage_1();
+    let written = formula(&a, &b, &proof);
+    assert_eq!(written.len(), 31);
+    assert_eq!(written, hex(STAGE_1_FORMULA));
+    assert_eq!(written, file(3, &[divides(2, &[0, 1, 0, 0])]));
+    // The new line is 2z-2x+1 = 0 with y-2x.
+    let claimed = file(
+        3,
+        &[
+            reduce(1, 0, 1),
+            claim(&[-2, 0, 2, 1], &[-2, 1, 0, 0]),
+            stride(2, 2),
+        ],
+    );
+    assert_eq!(formula(&a, &b, &claimed), hex(STAGE_1_FORMULA));
+}
+
+#[test]
+fn stage_1_the_builders_give_the_papers_bytes() {
+    let (a, b, proof) = stage_1();
+    assert_eq!(a, file(3, &[eq(&[-2, 1, 0, 0])]));
+    assert_eq!(b, file(3, &[eq(&[0, -1, 2, 1])]));
+    assert_eq!(proof, file(3, &[reduce(1, 0, 1), stride(2, 2)]));
+}
+
+#[test]
+fn stage_2_stride_3_does_not_close() {
+    let (a, b, _) = stage_1();
+    let proof = file(3, &[reduce(1, 0, 1), stride(2, 3)]);
+    assert_eq!(answer(&a, &b, &proof), refused(15, 3, 15));
+}
+
+#[test]
+fn stage_3_combine_and_close_by_number() {
+    let a = file(1, &[le(&[1, 0])]);
+    let b = file(1, &[le(&[-1, 1])]);
+    let proof = file(1, &[combine(0, 1, 1, 1), close(2)]);
+    assert_eq!(formula(&a, &b, &proof), file(1, &[at_most(&[1, 0])]));
+}
+
+#[test]
+fn stage_4_zero_is_not_above_zero() {
+    let a = file(1, &[le(&[1, 0])]);
+    let b = file(1, &[le(&[-1, 0])]);
+    let proof = file(1, &[combine(0, 1, 1, 1), close(2)]);
+    assert_eq!(answer(&a, &b, &proof), refused(15, 3, 17));
+}
+
+#[test]
+fn stage_5_strengthen() {
+    let a = file(1, &[le(&[2, -1])]);
+    let b = file(1, &[le(&[-2, 1])]);
+    let proof = file(
+        1,
+        &[
+            strengthen(0),
+            combine(2, 1, 1, 1),
+            close(3),
+            stride(2, 2),
+            combine(2, 1, 1, 1),
+            close(3),
+        ],
+    );
+    let expected = file(
+        1,
+        &[
+            or(),
+            at_most(&[2, 0]),
+            and(),
+            divides(2, &[2, -1]),
+            at_most(&[2, -1]),
+        ],
+    );
+    assert_eq!(formula(&a, &b, &proof), expected);
+}
+
+#[test]
+fn stage_6_one_bundle_alone() {
+    let one = file(1, &[le(&[0, 1])]);
+    let empty = file(1, &[]);
+    let proof = file(1, &[close(0)]);
+    assert_eq!(formula(&one, &empty, &proof), file(1, &[at_most(&[0, 1])]));
+    assert_eq!(formula(&empty, &one, &proof), file(1, &[at_most(&[0, 0])]));
+}
+
+#[test]
+fn stage_6_with_more_constants_and_as_an_equality() {
+    for k in 1..=16 {
+        let mut numbers = vec![0; k + 1];
+        numbers[k] = -1;
+        let mut form = vec![0; k + 1];
+        form[k] = -1;
+        let one = file(k as u8, &[eq(&numbers)]);
+        let empty = file(k as u8, &[]);
+        let proof = file(k as u8, &[close(0)]);
+        let expected = file(k as u8, &[equals(&form)]);
+        assert_eq!(formula(&one, &empty, &proof), expected);
+        let zero = file(k as u8, &[equals(&vec![0; k + 1])]);
+        assert_eq!(formula(&empty, &one, &proof), zero);
+    }
+}
+
+#[test]
+fn stage_7_headers_only() {
+    let headers = file(1, &[]);
+    assert_eq!(headers.len(), 8);
+    assert_eq!(answer(&headers, &headers, &headers), refused(20, 3, 8));
+}
+
+#[test]
+fn stage_8_a_note_changes_nothing() {
+    let files = stage_1();
+    let files = [files.0, files.1, files.2];
+    for index in 0..3 {
+        let mut noted = files.clone();
+        noted[index].splice(8..8, field(0x80, &[1, 2, 3]));
+        assert_eq!(
+            formula(&noted[0], &noted[1], &noted[2]),
+            hex(STAGE_1_FORMULA)
+        );
+    }
+}
+
+#[test]
+fn stage_8_an_unknown_tag_is_refused() {
+    let files = stage_1();
+    let files = [files.0, files.1, files.2];
+    for index in 0..3 {
+        let mut noted = files.clone();
+        noted[index].splice(8..8, field(0x06, &[1, 2, 3]));
+        let expected = refused(3, index as u8 + 1, 8);
+        assert_eq!(answer(&noted[0], &noted[1], &noted[2]), expected);
+    }
+}
+
+#[test]
+fn stage_8_edition_2_is_refused() {
+    let files = stage_1();
+    let files = [files.0, files.1, files.2];
+    for index in 0..3 {
+        let mut other = files.clone();
+        other[index][3] = 2;
+        let expected = refused(5, index as u8 + 1, 0);
+        assert_eq!(answer(&other[0], &other[1], &other[2]), expected);
+    }
+}
+
+#[test]
+fn stage_9_the_range_of_numbers() {
+    let a = file(1, &[le(&[-32_768, 0])]);
+    let b = file(1, &[]);
+    let claimed = claim(&[-2_147_450_880, 0], &[-2_147_450_880, 0]);
+    let stands = file(1, &[scale(0, 65_535), claimed.clone()]);
+    assert_eq!(answer(&a, &b, &stands), refused(20, 3, stands.len()));
+    let again = file(1, &[scale(0, 65_535), claimed, scale(1, 2)]);
+    assert_eq!(answer(&a, &b, &again), refused(13, 3, stands.len()));
+}
+
+#[test]
+fn stage_10_sizes() {
+    let constraint = le(&[0; 17]);
+    let sixteen = file(16, &[constraint.clone()]);
+    let result = read(&sixteen);
+    assert_eq!((result.answer, result.count, result.k), (ACCEPTED, 1, 16));
+    let seventeen = file(17, &[le(&[0; 18])]);
+    assert_eq!(read(&seventeen).answer, refused(7, 1, 4));
+
+    let full = file(16, &vec![constraint.clone(); 32]);
+    let result = read(&full);
+    assert_eq!((result.answer, result.count, result.k), (ACCEPTED, 32, 16));
+    let over = file(16, &vec![constraint; 33]);
+    assert_eq!(read(&over).answer, refused(8, 1, full.len()));
+}

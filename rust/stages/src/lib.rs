@@ -1,0 +1,20 @@
+//! Test cases for check and the other operations, from a seed.
+//!
+//! `stream` gives an endless row of cases of a chosen operation and class;
+//! `list` gives the mixed list that the program prints.
+#![forbid(unsafe_code)]
+
+pub mod build;
+pub mod case;
+pub mod damage;
+pub mod directed;
+pub mod limit;
+mod list;
+pub mod other;
+pub mod rng;
+mod stream;
+pub mod table;
+
+pub use case::{Case, Operation, Outcome, Output, OPERATIONS};
+pub use list::{heavy_list, list, HEAVY};
+pub use stream::{stream, Class, Stream, CLASSES};

@@ -1,0 +1,725 @@
+//! Random closed tables: two bundles and a proof that check accepts.
+//!
+//! Contradictions are built into the bundles, each with the rows that close a
+//! branch by it. As lines never leave a branch before it ends, one of them is
+//! at hand in every branch, whatever rows come before.
+
+use crate::build;
+use crate::rng::Rng;
+
+pub const MOST: i64 = 2_147_483_647;
+/// Lines that are kept free for the rows that close a branch.
+const RESERVE: usize = 8;
+
+/// K coefficients, then d; what follows is 0.
+pub type Form = [i64; 17];
+
+/// How large a table may grow.
+#[derive(Clone, Copy)]
+pub struct Size {
+    /// Most constants.
+    pub constants: usize,
+    /// Most contradictions built in.
+    pub contradictions: usize,
+    /// Most further constraints.
+    pub others: usize,
+    /// Most strengthens in all.
+    pub strengthens: usize,
+    /// Most further rows in a branch before it is closed or split.
+    pub derivations: usize,
+}
+
+impl Size {
+    /// Files of some tens to a few hundred bytes.
+    pub const SMALL: Size = Size {
+        constants: 4,
+        contradictions: 2,
+        others: 2,
+        strengthens: 3,
+        derivations: 2,
+    };
+    pub const MEDIUM: Size = Size {
+        constants: 16,
+        contradictions: 3,
+        others: 6,
+        strengthens: 8,
+        derivations: 4,
+    };
+    /// At most 30 strengthens, so 91 stretches of rows between them and the
+    /// ends of branches, and 6 rows to close each of 61 branches: below 1,024.
+    pub const LARGE: Size = Size {
+        constants: 16,
+        contradictions: 4,
+        others: 20,
+        strengthens: 30,
+        derivations: 6,
+    };
+}
+
+/// Two bundles and a proof over them.
+pub struct Table {
+    pub k: usize,
+    pub a: Vec<u8>,
+    pub b: Vec<u8>,
+    pub proof: Vec<u8>,
+}
+
+#[derive(Clone, Copy)]
+struct Line {
+    equality: bool,
+    t: Form,
+    partial: Form,
+}
+
+/// A line that a planned row uses: one of the contradiction's constraints, or
+/// a line that an earlier row of the plan made.
+#[derive(Clone, Copy)]
+enum Of {
+    Given(usize),
+    Made(usize),
+}
+
+#[derive(Clone, Copy)]
+enum Row {
+    Combine(Of, Of, i64, i64),
+    Reduce(Of, Of, i64),
+    Scale(Of, i64),
+    Close(Of),
+    Stride(Of, i64),
+    /// Strengthen the first, close the outer branches by combining with the
+    /// second, the middle one by the stride.
+    Round(Of, Of, i64),
+}
+
+/// Constraints that contradict each other, and the rows that show it.
+struct Contradiction {
+    constraints: Vec<(bool, Form)>,
+    plan: Vec<Row>,
+}
+
+/// A constraint of either bundle.
+struct Placed {
+    equality: bool,
+    form: Form,
+    /// The number of the contradiction that it belongs to, and its place there.
+    part: Option<(usize, usize)>,
+}
+
+/// A contradiction as part of the table: its constraints' line numbers.
+struct Built {
+    lines: Vec<usize>,
+    plan: Vec<Row>,
+}
+
+/// A form with coefficients of a random size, many of them 0, and no d.
+fn random_form(rng: &mut Rng, k: usize, largest: i64) -> Form {
+    let mut form = [0; 17];
+    let zeros = *rng.pick(&[0, 1, 1, 2, 3]);
+    for coefficient in &mut form[..k] {
+        if !rng.chance(zeros, 4) {
+            *coefficient = rng.within(-largest, largest);
+        }
+    }
+    // A form without any constant is of little use, so only now and then.
+    if form == [0; 17] && !rng.chance(1, 12) {
+        form[rng.below(k)] = rng.within(1, largest);
+    }
+    form
+}
+
+fn random_size(rng: &mut Rng) -> i64 {
+    match rng.below(12) {
+        0..=7 => 3,
+        8..=9 => 12,
+        10 => 400,
+        _ => 32_767,
+    }
+}
+
+/// α times one form plus β times another.
+fn sum(alpha: i64, s: &Form, beta: i64, t: &Form) -> Form {
+    let mut form = [0; 17];
+    for (slot, (s, t)) in form.iter_mut().zip(s.iter().zip(t)) {
+        *slot = alpha * s + beta * t;
+    }
+    form
+}
+
+fn raised(form: &Form, k: usize, by: i64) -> Form {
+    let mut form = *form;
+    form[k] += by;
+    form
+}
+
+fn in_range(form: &Form) -> bool {
+    form.iter().all(|n| (-MOST..=MOST).contains(n))
+}
+
+fn gcd(mut a: i64, mut b: i64) -> i64 {
+    while b != 0 {
+        (a, b) = (b, a % b);
+    }
+    a.abs()
+}
+
+/// A number that g does not divide.
+fn not_divided(rng: &mut Rng, g: i64) -> i64 {
+    rng.within(1, g - 1) + g * rng.within(-2, 2)
+}
+
+fn random_contradiction(rng: &mut Rng, k: usize) -> Contradiction {
+    use Of::{Given, Made};
+    for _ in 0..20 {
+        let size = random_size(rng);
+        let f = random_form(rng, k, size);
+        let h = random_form(rng, k, size.min(400));
+        let other = random_form(rng, k, size.min(400));
+        let zero = [0; 17];
+        let (p, q) = (rng.within(1, 3), rng.within(1, 3));
+        let sign = if rng.chance(1, 2) { 1 } else { -1 };
+        let alpha = sign * p;
+        let g = match rng.below(6) {
+            0..=3 => rng.within(2, 7),
+            4 => rng.within(8, 300),
+            _ => rng.within(300, 65_535),
+        };
+        let (d1, d2) = (rng.within(-9, 9), rng.within(-9, 9));
+        let positive = rng.within(1, 5);
+        let (constraints, plan) = match rng.below(16) {
+            // Two inequalities.
+            0..=4 => (
+                vec![
+                    (false, raised(&sum(p, &f, 0, &zero), k, d1 * p)),
+                    (false, raised(&sum(-q, &f, 0, &zero), k, positive - d1 * q)),
+                ],
+                vec![Row::Combine(Given(0), Given(1), q, p), Row::Close(Made(0))],
+            ),
+            // Three inequalities.
+            5..=6 => (
+                vec![
+                    (false, raised(&f, k, d1)),
+                    (false, raised(&h, k, d2)),
+                    (false, raised(&sum(-1, &f, -1, &h), k, positive - d1 - d2)),
+                ],
+                vec![
+                    Row::Combine(Given(0), Given(1), p, p),
+                    Row::Scale(Given(2), p),
+                    Row::Combine(Made(1), Made(0), q, q),
+                    Row::Close(Made(2)),
+                ],
+            ),
+            // Two equalities that leave a multiple of g and a rest.
+            7..=9 => {
+                let g = if size > 3 {
+                    rng.within(2, 5)
+                } else {
+                    g.min(3_000)
+                };
+                let e = raised(&sum(1, &f, g, &h), k, d1);
+                let rest = not_divided(rng, g);
+                let other = raised(&sum(-alpha, &f, g, &other), k, rest - alpha * d1);
+                (
+                    vec![(true, e), (true, other)],
+                    vec![
+                        Row::Reduce(Given(1), Given(0), alpha),
+                        Row::Stride(Made(0), g),
+                    ],
+                )
+            }
+            // Two equalities that leave a number.
+            10 => (
+                vec![
+                    (true, raised(&f, k, d1)),
+                    (
+                        true,
+                        raised(&sum(-alpha, &f, 0, &zero), k, sign * positive - alpha * d1),
+                    ),
+                ],
+                vec![Row::Reduce(Given(1), Given(0), alpha), Row::Close(Made(0))],
+            ),
+            // An inequality and an equality.
+            11..=12 => (
+                vec![
+                    (true, raised(&f, k, d1)),
+                    (
+                        false,
+                        raised(&sum(-alpha, &f, 0, &zero), k, positive - alpha * d1),
+                    ),
+                ],
+                vec![
+                    Row::Reduce(Given(1), Given(0), alpha),
+                    Row::Scale(Made(0), q),
+                    Row::Close(Made(1)),
+                ],
+            ),
+            // One constraint alone, by number or by stride.
+            13 => {
+                let equality = rng.chance(1, 2);
+                let d = if equality { sign * positive } else { positive };
+                (
+                    vec![(equality, raised(&zero, k, d))],
+                    vec![Row::Close(Given(0))],
+                )
+            }
+            14 => {
+                let g = if size > 3 {
+                    rng.within(2, 5)
+                } else {
+                    g.min(9_000)
+                };
+                let rest = not_divided(rng, g);
+                (
+                    vec![(true, raised(&sum(g, &h, 0, &zero), k, rest))],
+                    vec![Row::Stride(Given(0), g)],
+                )
+            }
+            // Contradictory only over the whole numbers, as in stage 5.
+            _ => {
+                let g = rng.within(2, 5);
+                let rest = not_divided(rng, g);
+                let t = raised(&sum(g, &h, 0, &zero), k, rest);
+                (
+                    vec![(false, t), (false, sum(-1, &t, 0, &zero))],
+                    vec![Row::Round(Given(0), Given(1), g)],
+                )
+            }
+        };
+        let short = |form: &Form| form.iter().all(|n| (-32_768..=32_767).contains(n));
+        if constraints.iter().all(|(_, form)| short(form)) {
+            return Contradiction { constraints, plan };
+        }
+    }
+    Contradiction {
+        constraints: vec![(false, raised(&[0; 17], k, 1))],
+        plan: vec![Row::Close(Of::Given(0))],
+    }
+}
+
+/// A random table that check accepts.
+pub fn closed_table(rng: &mut Rng, size: &Size) -> Table {
+    table(rng, size, false)
+}
+
+/// A random table like a closed one, except that a row may take a number out
+/// of range.
+pub fn careless_table(rng: &mut Rng, size: &Size) -> Table {
+    table(rng, size, true)
+}
+
+fn table(rng: &mut Rng, size: &Size, careless: bool) -> Table {
+    let k = 1 + rng.below(size.constants);
+    let mut all: Vec<Placed> = Vec::new();
+    let mut plans = Vec::new();
+    let contradictions = 1 + rng.below(size.contradictions);
+    for number in 0..contradictions {
+        let new = random_contradiction(rng, k);
+        for (place, (equality, form)) in new.constraints.iter().enumerate() {
+            all.push(Placed {
+                equality: *equality,
+                form: *form,
+                part: Some((number, place)),
+            });
+        }
+        plans.push(Built {
+            lines: vec![0; new.constraints.len()],
+            plan: new.plan,
+        });
+    }
+    for _ in 0..rng.below(size.others + 1) {
+        let largest = random_size(rng);
+        let form = random_form(rng, k, largest);
+        let d = rng.within(-largest - 1, largest);
+        all.push(Placed {
+            equality: rng.chance(1, 2),
+            form: raised(&form, k, d),
+            part: None,
+        });
+    }
+    rng.shuffle(&mut all);
+    // All in one bundle now and then, else each where chance puts it, or the
+    // constraints of a contradiction in turn.
+    let way = rng.below(12);
+    let first_in_a = rng.chance(1, 2);
+    let (of_a, of_b): (Vec<Placed>, Vec<Placed>) =
+        all.into_iter().partition(|given| match (way, given.part) {
+            (0, _) => false,
+            (1, _) => true,
+            (2..=7, Some((_, place))) => (place % 2 == 0) == first_in_a,
+            _ => rng.chance(1, 2),
+        });
+
+    let mut maker = Maker {
+        k,
+        lines: Vec::new(),
+        proof: build::header(k as u8),
+        strengthens: rng.below(size.strengthens + 1),
+        derivations: size.derivations,
+        multiplier: *rng.pick(&[4, 4, 4, 4, 4, 60, 65_535]),
+        careless,
+        claims: *rng.pick(&[0, 0, 1, 4]),
+        notes: *rng.pick(&[0, 0, 0, 1, 3]),
+        plans,
+    };
+    let mut bundles = [build::header(k as u8), build::header(k as u8)];
+    for (bundle, (own, constraints)) in bundles.iter_mut().zip([(true, &of_a), (false, &of_b)]) {
+        for given in constraints {
+            let form = given.form;
+            let numbers: Vec<i16> = form[..=k].iter().map(|&n| n as i16).collect();
+            random_notes(rng, maker.notes, bundle);
+            bundle.extend(build::constraint(given.equality, &numbers));
+            if let Some((number, place)) = given.part {
+                maker.plans[number].lines[place] = maker.lines.len();
+            }
+            maker.lines.push(Line {
+                equality: given.equality,
+                t: form,
+                partial: if own { form } else { [0; 17] },
+            });
+        }
+        random_notes(rng, maker.notes, bundle);
+        if maker.notes > 0 && rng.chance(1, 3) {
+            let mut start = Vec::new();
+            random_notes(rng, 6, &mut start);
+            bundle.splice(0..0, start);
+        }
+    }
+    maker.branch(rng, 0);
+    random_notes(rng, maker.notes, &mut maker.proof);
+    let [a, b] = bundles;
+    Table {
+        k,
+        a,
+        b,
+        proof: maker.proof,
+    }
+}
+
+/// Appends a note or two, `share` times out of 8.
+fn random_notes(rng: &mut Rng, share: usize, out: &mut Vec<u8>) {
+    while share > 0 && rng.chance(share, 8) {
+        let length = rng.below(5);
+        let contents = rng.bytes(length);
+        build::push_field(out, 0x80 | rng.byte(), &contents);
+    }
+}
+
+struct Maker {
+    k: usize,
+    lines: Vec<Line>,
+    proof: Vec<u8>,
+    /// Strengthens that may still be used.
+    strengthens: usize,
+    derivations: usize,
+    /// What most multipliers are at most.
+    multiplier: i64,
+    /// Whether rows whose numbers are out of range are put in too.
+    careless: bool,
+    /// How often, out of 8, a new line is claimed and a note is put in.
+    claims: usize,
+    notes: usize,
+    plans: Vec<Built>,
+}
+
+impl Maker {
+    /// Writes the rows of a branch up to its end. The caller drops its lines.
+    fn branch(&mut self, rng: &mut Rng, depth: usize) {
+        for _ in 0..rng.below(self.derivations + 1) {
+            if self.lines.len() + RESERVE < 128 {
+                self.derive(rng);
+            }
+        }
+        let room = depth < 24 && self.lines.len() + RESERVE < 128;
+        if self.strengthens > 0 && room && rng.chance(6, 8) {
+            if let Some(line) = self.line_to_strengthen(rng) {
+                self.strengthens -= 1;
+                self.emit(rng, &build::strengthen(line as u8));
+                for part in 0..3 {
+                    let before = self.lines.len();
+                    self.enter(line, part);
+                    self.branch(rng, depth + 1);
+                    self.lines.truncate(before);
+                }
+                return;
+            }
+        }
+        self.finish(rng);
+    }
+
+    /// An inequality whose d may be raised, if a few tries find one.
+    fn line_to_strengthen(&self, rng: &mut Rng) -> Option<usize> {
+        for _ in 0..4 {
+            let number = rng.below(self.lines.len());
+            let line = &self.lines[number];
+            if !line.equality && line.t[self.k] < MOST && line.partial[self.k] < MOST {
+                return Some(number);
+            }
+        }
+        None
+    }
+
+    /// Adds the new line of a strengthen's first, second or third branch.
+    fn enter(&mut self, line: usize, part: usize) {
+        let Line { t, partial, .. } = self.lines[line];
+        self.lines.push(match part {
+            0 => Line {
+                equality: false,
+                t: raised(&t, self.k, 1),
+                partial: raised(&partial, self.k, 1),
+            },
+            1 => Line {
+                equality: true,
+                t,
+                partial,
+            },
+            _ => Line {
+                equality: false,
+                t: raised(&t, self.k, 1),
+                partial,
+            },
+        });
+    }
+
+    fn emit(&mut self, rng: &mut Rng, row: &[u8]) {
+        random_notes(rng, self.notes, &mut self.proof);
+        self.proof.extend_from_slice(row);
+    }
+
+    /// Adds a line and its row, if the numbers allow it.
+    fn add(&mut self, rng: &mut Rng, line: Line, row: &[u8]) -> bool {
+        if !in_range(&line.t) || !in_range(&line.partial) {
+            // Refused with 13; what comes after it does not matter.
+            if self.careless {
+                self.emit(rng, row);
+            }
+            return false;
+        }
+        self.emit(rng, row);
+        self.lines.push(line);
+        if rng.chance(self.claims, 8) {
+            let numbers =
+                |form: &Form| -> Vec<i32> { form[..=self.k].iter().map(|&n| n as i32).collect() };
+            let claim = build::claim(&numbers(&line.t), &numbers(&line.partial));
+            self.emit(rng, &claim);
+        }
+        true
+    }
+
+    fn combine(&mut self, rng: &mut Rng, s: usize, t: usize, alpha: i64, beta: i64) -> bool {
+        let (first, second) = (self.lines[s], self.lines[t]);
+        let line = Line {
+            equality: false,
+            t: sum(alpha, &first.t, beta, &second.t),
+            partial: sum(alpha, &first.partial, beta, &second.partial),
+        };
+        let row = build::combine(s as u8, t as u8, alpha as u16, beta as u16);
+        self.add(rng, line, &row)
+    }
+
+    fn reduce(&mut self, rng: &mut Rng, s: usize, t: usize, alpha: i64) -> bool {
+        let (first, second) = (self.lines[s], self.lines[t]);
+        let line = Line {
+            equality: first.equality,
+            t: sum(1, &first.t, alpha, &second.t),
+            partial: sum(1, &first.partial, alpha, &second.partial),
+        };
+        let row = build::reduce(s as u8, t as u8, alpha as i16);
+        self.add(rng, line, &row)
+    }
+
+    fn scale(&mut self, rng: &mut Rng, t: usize, alpha: i64) -> bool {
+        let old = self.lines[t];
+        let line = Line {
+            equality: old.equality,
+            t: sum(alpha, &old.t, 0, &old.t),
+            partial: sum(alpha, &old.partial, 0, &old.partial),
+        };
+        let row = build::scale(t as u8, alpha as u16);
+        self.add(rng, line, &row)
+    }
+
+    /// One row 0x10 to 0x12 on random lines, where their kinds allow it.
+    fn derive(&mut self, rng: &mut Rng) {
+        let s = rng.below(self.lines.len());
+        let t = rng.below(self.lines.len());
+        let largest = self.multiplier;
+        let multiplier = |rng: &mut Rng| match rng.below(10) {
+            0..=7 => rng.within(1, largest),
+            8 => rng.within(1, 300),
+            _ => rng.within(1, 65_535),
+        };
+        let (alpha, beta) = (multiplier(rng), multiplier(rng));
+        match (self.lines[s].equality, self.lines[t].equality) {
+            _ if rng.chance(1, 5) => self.scale(rng, s, alpha),
+            (_, true) => {
+                let signed = (if rng.chance(1, 2) { alpha } else { -alpha }).clamp(-32_768, 32_767);
+                self.reduce(rng, s, t, signed)
+            }
+            (false, false) => self.combine(rng, s, t, alpha, beta),
+            (true, false) => self.scale(rng, s, alpha),
+        };
+    }
+
+    /// Closes the branch: by a line as it stands, by two lines that fit, or
+    /// by a contradiction that was built in.
+    fn finish(&mut self, rng: &mut Rng) {
+        if rng.chance(2, 3) {
+            if let Some(row) = self.closing_line(rng) {
+                self.emit(rng, &row);
+                return;
+            }
+        }
+        if rng.chance(2, 3) && self.lines.len() + RESERVE < 128 && self.close_by_two(rng) {
+            return;
+        }
+        let number = rng.below(self.plans.len());
+        self.follow(rng, number);
+    }
+
+    /// A close row for a line that already allows one.
+    fn closing_line(&mut self, rng: &mut Rng) -> Option<Vec<u8>> {
+        let start = rng.below(self.lines.len());
+        for offset in 0..self.lines.len() {
+            let line = (start + offset) % self.lines.len();
+            let Line { equality, t, .. } = &self.lines[line];
+            if let Some(closing) = closing(rng, self.k, *equality, t) {
+                return Some(closing.row(line));
+            }
+        }
+        None
+    }
+
+    /// Looks for two lines that can be combined or reduced to a closing one;
+    /// with many lines not all pairs are tried, as that would be slow.
+    fn close_by_two(&mut self, rng: &mut Rng) -> bool {
+        let count = self.lines.len();
+        let start = rng.below(count * count);
+        for offset in 0..(count * count).min(150) {
+            let pair = (start + offset) % (count * count);
+            let (s, t) = (pair / count, pair % count);
+            let (first, second) = (self.lines[s], self.lines[t]);
+            if second.equality {
+                let alpha = *rng.pick(&[1, -1, 2, -2, 3, -3]);
+                let new = sum(1, &first.t, alpha, &second.t);
+                if let Some(closing) = closing(rng, self.k, first.equality, &new) {
+                    if self.reduce(rng, s, t, alpha) {
+                        let row = closing.row(self.lines.len() - 1);
+                        self.emit(rng, &row);
+                        return true;
+                    }
+                }
+            } else if !first.equality {
+                let Some(place) = (0..self.k).find(|&i| first.t[i] != 0) else {
+                    continue;
+                };
+                let (x, y) = (first.t[place], second.t[place]);
+                if x.signum() * y.signum() != -1 {
+                    continue;
+                }
+                let common = gcd(x, y);
+                let (alpha, beta) = (y.abs() / common, x.abs() / common);
+                if alpha > 65_535 || beta > 65_535 {
+                    continue;
+                }
+                let new = sum(alpha, &first.t, beta, &second.t);
+                if let Some(closing) = closing(rng, self.k, false, &new) {
+                    if self.combine(rng, s, t, alpha, beta) {
+                        let row = closing.row(self.lines.len() - 1);
+                        self.emit(rng, &row);
+                        return true;
+                    }
+                }
+            }
+        }
+        false
+    }
+
+    /// The rows of a contradiction that was built in. Their numbers are far
+    /// inside the range, as the constraints have two bytes and the
+    /// multipliers are at most 3.
+    fn follow(&mut self, rng: &mut Rng, number: usize) {
+        let made = self.lines.len();
+        for index in 0..self.plans[number].plan.len() {
+            let Built { lines, plan } = &self.plans[number];
+            let line = |of: Of| match of {
+                Of::Given(place) => lines[place],
+                Of::Made(place) => made + place,
+            };
+            match plan[index] {
+                Row::Combine(s, t, alpha, beta) => {
+                    let (s, t) = (line(s), line(t));
+                    self.combine(rng, s, t, alpha, beta);
+                }
+                Row::Reduce(s, t, alpha) => {
+                    let (s, t) = (line(s), line(t));
+                    self.reduce(rng, s, t, alpha);
+                }
+                Row::Scale(t, alpha) => {
+                    let t = line(t);
+                    self.scale(rng, t, alpha);
+                }
+                Row::Close(t) => {
+                    let row = build::close(line(t) as u8);
+                    self.emit(rng, &row);
+                }
+                Row::Stride(t, g) => {
+                    let row = build::stride(line(t) as u8, g as u16);
+                    self.emit(rng, &row);
+                }
+                Row::Round(t, minus, g) => {
+                    let (t, minus) = (line(t), line(minus));
+                    self.emit(rng, &build::strengthen(t as u8));
+                    for part in 0..3 {
+                        self.lines.truncate(made);
+                        self.enter(t, part);
+                        if part == 1 {
+                            self.emit(rng, &build::stride(made as u8, g as u16));
+                        } else {
+                            self.combine(rng, made, minus, 1, 1);
+                            self.emit(rng, &build::close(made as u8 + 1));
+                        }
+                    }
+                }
+            }
+        }
+    }
+}
+
+enum Closing {
+    Number,
+    Stride(u16),
+}
+
+impl Closing {
+    fn row(&self, line: usize) -> Vec<u8> {
+        match *self {
+            Closing::Number => build::close(line as u8),
+            Closing::Stride(g) => build::stride(line as u8, g),
+        }
+    }
+}
+
+/// How a line closes a branch, if it does.
+fn closing(rng: &mut Rng, k: usize, equality: bool, t: &Form) -> Option<Closing> {
+    let d = t[k];
+    let common = t[..k].iter().fold(0, |common, &c| gcd(common, c));
+    if common == 0 {
+        let by_number = if equality { d != 0 } else { d > 0 };
+        if !by_number {
+            return None;
+        }
+        let g = rng.within(2, 9);
+        if equality && d % g != 0 && rng.chance(1, 2) {
+            return Some(Closing::Stride(g as u16));
+        }
+        return Some(Closing::Number);
+    }
+    if !equality {
+        return None;
+    }
+    // The common divisor itself, or a small divisor of it.
+    let small = rng.within(2, 9);
+    [small, common]
+        .into_iter()
+        .find(|&g| (2..=65_535).contains(&g) && common % g == 0 && d % g != 0)
+        .map(|g| Closing::Stride(g as u16))
+}

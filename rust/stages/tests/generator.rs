@@ -1,0 +1,265 @@
+//! The generator does what it says: sound tables are accepted, aimed cases
+//! meet their number, the printed list covers every refusal.
+
+use stages::case::parse_bytes;
+use stages::rng::Rng;
+use stages::table::{closed_table, Size, Table};
+use stages::{
+    directed, heavy_list, limit, list, stream, Case, Class, Operation, Output, CLASSES, HEAVY,
+    OPERATIONS,
+};
+use std::collections::BTreeSet;
+
+fn accepted(table: &Table) -> Vec<u8> {
+    let mut out = vec![0; 65_536];
+    let result = reference::check(&table.a, &table.b, &table.proof, &mut out);
+    assert_eq!(result.answer.number, 0, "{:?}", result.answer);
+    out.truncate(result.written);
+    out
+}
+
+#[test]
+fn closed_tables_are_accepted() {
+    for (size, count) in [
+        (Size::SMALL, 20_000),
+        (Size::MEDIUM, 5_000),
+        (Size::LARGE, 1_000),
+    ] {
+        let mut rng = Rng::new(11);
+        for _ in 0..count {
+            accepted(&closed_table(&mut rng, &size));
+        }
+    }
+}
+
+#[test]
+fn closed_tables_are_of_many_shapes() {
+    let mut rng = Rng::new(12);
+    let mut rows = [0_usize; 256];
+    let (mut notes, mut deep, mut lone, mut constants) = (0, 0, 0, BTreeSet::new());
+    for _ in 0..2_000 {
+        let table = closed_table(&mut rng, &Size::MEDIUM);
+        constants.insert(table.k);
+        let mut open = 0_usize;
+        for part in stages::damage::fields(&table.proof) {
+            let tag = table.proof[part.start];
+            rows[usize::from(tag)] += 1;
+            open += usize::from(tag == 0x13);
+            notes += usize::from(tag >= 0x80);
+        }
+        deep += usize::from(open >= 3);
+        lone += usize::from(table.a.len() == 8 || table.b.len() == 8);
+    }
+    for tag in [0x10, 0x11, 0x12, 0x13, 0x14, 0x15, 0x20] {
+        assert!(rows[tag] > 500, "tag {tag:02X}: {}", rows[tag]);
+    }
+    assert!(notes > 500 && deep > 200 && lone > 50);
+    assert_eq!(constants, (1..=16).collect());
+}
+
+#[test]
+fn aimed_cases_meet_their_number() {
+    for seed in 0..20 {
+        let mut rng = Rng::new(seed);
+        for operation in OPERATIONS {
+            let mut aimed = directed::directed(&mut rng, operation);
+            aimed.extend(limit::light(&mut rng, operation));
+            if seed == 0 {
+                aimed.extend(limit::heavy(&mut rng, operation));
+            }
+            for (number, case) in aimed {
+                let answer = case.outcome().answer;
+                assert_eq!(answer.number, number, "{answer:?} {}", case.print());
+            }
+        }
+    }
+}
+
+/// The refusals that each operation can give, with their file; 0 is accepted.
+fn all_answers(operation: Operation) -> Vec<(u8, u8)> {
+    let bundle = [1, 2, 3, 4, 5, 6, 7, 8];
+    let of = |file: u8, numbers: &[u8]| -> Vec<(u8, u8)> {
+        numbers.iter().map(|&number| (number, file)).collect()
+    };
+    let accepted = vec![(0, 0)];
+    let parts = match operation {
+        Operation::Read => vec![accepted, of(1, &bundle), of(4, &[21])],
+        Operation::Write => vec![accepted, of(4, &[7, 8, 24, 21])],
+        Operation::Show => vec![
+            accepted,
+            of(1, &bundle),
+            of(2, &bundle),
+            of(2, &[9]),
+            of(1, &[10]),
+        ],
+        Operation::Test => vec![
+            accepted,
+            of(4, &[7, 23]),
+            of(3, &[1, 2, 3, 4, 5, 6, 7, 9, 12, 17, 19]),
+        ],
+        Operation::Check => vec![
+            accepted,
+            of(1, &bundle),
+            of(2, &bundle),
+            of(2, &[9]),
+            of(
+                3,
+                &[
+                    1, 2, 3, 4, 5, 6, 7, 9, 10, 11, 12, 13, 14, 15, 16, 17, 18, 19, 20,
+                ],
+            ),
+            of(4, &[21]),
+        ],
+    };
+    parts.concat()
+}
+
+#[test]
+fn the_list_covers_every_refusal() {
+    for seed in 0..10 {
+        let cases = list(seed, 300, false);
+        assert_eq!(cases.len(), 300);
+        for operation in OPERATIONS {
+            let met: BTreeSet<(u8, u8)> = cases
+                .iter()
+                .filter(|(_, case)| case.operation() == operation)
+                .map(|(_, case)| case.outcome().answer)
+                .map(|answer| (answer.number, answer.file))
+                .collect();
+            let all: BTreeSet<(u8, u8)> = all_answers(operation).into_iter().collect();
+            assert_eq!(met, all, "{operation:?} with seed {seed}");
+        }
+    }
+}
+
+#[test]
+fn no_stream_meets_an_answer_that_cannot_be() {
+    for operation in OPERATIONS {
+        let all: BTreeSet<(u8, u8)> = all_answers(operation).into_iter().collect();
+        for class in CLASSES {
+            let count = if class == Class::Limit { 300 } else { 3_000 };
+            for case in stream(operation, class, Size::SMALL, 5).take(count) {
+                assert_eq!(case.operation(), operation);
+                let answer = case.outcome().answer;
+                assert!(all.contains(&(answer.number, answer.file)), "{answer:?}");
+            }
+        }
+    }
+}
+
+#[test]
+fn the_lists_keep_to_their_sizes() {
+    for (_, case) in list(3, 600, true) {
+        assert!(case.longest_file() <= HEAVY);
+    }
+    for (_, case) in list(3, 600, false) {
+        let number = case.outcome().answer.number;
+        assert!(case.longest_file() <= HEAVY || number == 1 || number == 18);
+    }
+    let heavy = heavy_list(3, 60);
+    assert_eq!(heavy.len(), 60);
+    assert!(heavy.iter().any(|(_, case)| case.longest_file() > 65_000));
+}
+
+#[test]
+fn the_same_seed_gives_the_same_list_and_another_seed_another() {
+    assert_eq!(list(7, 400, false), list(7, 400, false));
+    assert_ne!(list(7, 400, false), list(8, 400, false));
+}
+
+/// Reads a printed line back.
+fn parse(line: &str) -> (Case, Vec<String>) {
+    let words: Vec<&str> = line.split(' ').collect();
+    let bytes = |index: usize| parse_bytes(words[index]).unwrap();
+    let number = |index: usize| words[index].parse::<usize>().unwrap();
+    fn numbers<T: std::str::FromStr>(word: &str) -> Vec<T> {
+        if word == "-" {
+            return Vec::new();
+        }
+        let parse = |part: &str| part.parse().ok().unwrap();
+        word.split(',').map(parse).collect()
+    }
+    let (case, used) = match words[0] {
+        "check" => (
+            Case::Check {
+                a: bytes(1),
+                b: bytes(2),
+                proof: bytes(3),
+                out: number(4),
+            },
+            5,
+        ),
+        "read" => (
+            Case::Read {
+                file: bytes(1),
+                kinds: number(2),
+                numbers: number(3),
+            },
+            4,
+        ),
+        "write" => (
+            Case::Write {
+                k: number(1) as u8,
+                kinds: numbers(words[2]),
+                numbers: numbers(words[3]),
+                out: number(4),
+            },
+            5,
+        ),
+        "show" => (
+            Case::Show {
+                a: bytes(1),
+                b: bytes(2),
+                line: number(3),
+            },
+            4,
+        ),
+        "test" => (
+            Case::Test {
+                formula: bytes(1),
+                values: numbers(words[2]),
+            },
+            3,
+        ),
+        other => panic!("{other}"),
+    };
+    let rest = words[used..].iter().map(|word| word.to_string()).collect();
+    (case, rest)
+}
+
+#[test]
+fn printed_lines_say_what_the_case_is_and_its_answer() {
+    let cases = list(9, 600, false).into_iter().chain(heavy_list(9, 60));
+    for (_, case) in cases {
+        let (read, words) = parse(&case.print());
+        assert_eq!(read, case);
+        let outcome = case.outcome();
+        let answer = outcome.answer;
+        let head = [
+            answer.number.to_string(),
+            answer.file.to_string(),
+            answer.place.to_string(),
+        ];
+        assert_eq!(words[..3], head);
+        match outcome.result {
+            Output::Bytes(bytes) => {
+                assert_eq!(words.len(), 4);
+                assert_eq!(parse_bytes(&words[3]), Some(bytes));
+            }
+            Output::Bundle { k, kinds, .. } => {
+                assert_eq!(words.len(), 7);
+                assert_eq!(words[3], kinds.len().to_string());
+                assert_eq!(words[4], k.to_string());
+            }
+            Output::Part(file, start, end) => {
+                assert_eq!(words.len(), 4);
+                assert_eq!(words[3], format!("{file}:{start}:{end}"));
+            }
+            Output::Verdict(holds) => assert_eq!(words[3..], [holds.to_string()]),
+            Output::Nothing if case.operation() == Operation::Read => {
+                assert_eq!(words[3..], ["0", "0", "-", "-"]);
+            }
+            Output::Nothing => assert_eq!(words[3..], ["-"]),
+        }
+    }
+}

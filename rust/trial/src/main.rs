@@ -1,0 +1,223 @@
+//! Writes a crate of statements: for each case on standard input, one that the definitions give the answer and the
+//! buffers that the reference checker gave. Each is proved by evaluation.
+//!
+//! usage: trial DIR < CASES
+
+use std::fmt::Write as _;
+use std::io::Read as _;
+use std::path::Path;
+
+/// How many cases stand in one file.
+const CASES_A_FILE: usize = 25;
+
+const USES: &str = "use mathlib.Core.Path.{_≡_, refl}
+use mathlib.Core.List.{List, [], _∷_, _++_}
+use mathlib.Core.Bool.{true, false}
+use Prim.Native.Nat.{ℕ, zero, suc}
+use lib.ListN.{replicate}
+use lib.IntN.{ℤ, pos, negsuc}
+use Rattle.forms.specs.Edition.{editionNumbered}
+use Rattle.forms.specs.Forms.{coeff, sum, value, sums, _⊞_, _·_, _plus_, only, within, nonzero, occurs}
+use Rattle.calculus.specs.Rules.{small, every, inRange}
+use Rattle.fields.specs.Answers.{answer, _>>=_, _>>_, need, found, each, over, fit, written}
+use Rattle.fields.specs.Numbers.{unsigned, complement, signed, unsignedBytes, residue, signedBytes, signeds, signedsBytes, flat, formFrom, formBytes}
+use Rattle.fields.specs.Fields.{front, note, unlessNote, fieldsFrom, fields, fieldBytes, nth}
+use Rattle.fields.specs.Header.{headerTag, known, agrees, headerField, header, finished, headerBytes}
+use Rattle.bundle.specs.Bundle.{kindTagged, atMost, constraints, bundle, bundles}
+use Rattle.bundle.specs.Read.{kindNumber, kindsOf, numbersOf, unread, store, stored, readBundle}
+use Rattle.bundle.specs.Write.{constraintsBytes, bundleBytes, writeBundle}
+use Rattle.bundle.specs.Show.{partOf, constraintPart, shownPart, answerOf, showAnswer, handed, showPart}
+use Rattle.formula.specs.Formula.{encode, formulaFile, formulaTagged, joined, sizeOf as formulaSize, formulaOf, formulaField, twoParts, formulaWithin, readFormula}
+use Rattle.formula.specs.Test.{holds, judge, tested, judged, testFormula}
+use Rattle.proof.specs.Entries.{entryTagged, inPlace, lineNumber, multiplier, sizeOf, entryFrom, entry}
+use Rattle.proof.specs.Rows.{is, fails, common, equals, sameForm, lineAt, derived, fitting, inequality, naming, byNumber, byStride, states}
+use Rattle.proof.specs.Check.{checkRow, agreeing, checkEntry, checkEntries, checkBranch, checkProof, interpolant, check}
+
+";
+
+/// The names that one operation's evaluation opens.
+const SHARED: &str = "editionNumbered _>>=_ _>>_ need found unsigned complement signed signeds formFrom front note unlessNote fieldsFrom fields headerTag known agrees headerField header";
+const BUNDLES: &str = "kindTagged atMost constraints bundle bundles";
+const WRITING: &str =
+    "over fit written unsignedBytes residue signedBytes signedsBytes fieldBytes headerBytes";
+const CHECK: &str = "coeff sum value sums _⊞_ _·_ _plus_ only within nonzero occurs small every inRange flat formBytes finished encode formulaFile entryTagged inPlace lineNumber multiplier sizeOf entryFrom entry is fails common equals sameForm lineAt derived fitting inequality naming byNumber byStride states checkRow agreeing checkEntry checkEntries checkBranch checkProof interpolant check";
+const READ: &str = "over flat kindNumber kindsOf numbersOf unread store stored readBundle";
+const WRITE: &str = "each constraintsBytes bundleBytes writeBundle";
+const SHOW: &str = "nth partOf constraintPart shownPart answerOf showAnswer handed showPart";
+const TEST: &str = "each sum value finished formulaTagged joined formulaSize formulaOf formulaField twoParts formulaWithin readFormula holds judge tested judged testFormula";
+
+fn list(items: impl Iterator<Item = String>) -> String {
+    let mut text = String::new();
+    for item in items {
+        let _ = write!(text, "{item} ∷ ");
+    }
+    text + "[]"
+}
+
+fn hex_list(hex: &str) -> String {
+    list((0..hex.len() / 2).map(|i| format!("0x{}", &hex[2 * i..2 * i + 2])))
+}
+
+/// Bytes as the case list writes them: chunks joined by `+`, each HEX or HEX*N.
+fn bytes(field: &str) -> String {
+    if field == "-" {
+        return "[]".to_string();
+    }
+    let chunks = field.split('+').map(|chunk| match chunk.split_once('*') {
+        None => format!("({})", hex_list(chunk)),
+        Some((hex, n)) if hex.len() == 2 => format!("(replicate {n} 0x{hex})"),
+        Some((hex, n)) => format!("(times {n} ({}))", hex_list(hex)),
+    });
+    format!("({})", chunks.collect::<Vec<_>>().join(" ++ "))
+}
+
+/// How many bytes the field stands for.
+fn size(field: &str) -> usize {
+    if field == "-" {
+        return 0;
+    }
+    let chunk = |c: &str| match c.split_once('*') {
+        None => c.len() / 2,
+        Some((hex, n)) => hex.len() / 2 * n.parse::<usize>().expect("a count"),
+    };
+    field.split('+').map(chunk).sum()
+}
+
+fn numbers(field: &str) -> Vec<i64> {
+    if field == "-" {
+        return Vec::new();
+    }
+    field
+        .split(',')
+        .map(|n| n.parse().expect("a number"))
+        .collect()
+}
+
+fn naturals(field: &str) -> String {
+    list(numbers(field).iter().map(i64::to_string))
+}
+
+fn integers(field: &str) -> String {
+    list(numbers(field).iter().map(|&z| {
+        if z < 0 {
+            format!("negsuc {}", -(z + 1))
+        } else {
+            format!("pos {z}")
+        }
+    }))
+}
+
+fn left(lent: &str, used: usize) -> usize {
+    lent.parse::<usize>().expect("a length") - used
+}
+
+fn written(answer: &[&str], lent: &str, output: &str) -> String {
+    let used = size(output);
+    format!(
+        "record {{ answer = answer {}; count = {used}; output = {} ++ replicate {} 0xAA }}",
+        answer.join(" "),
+        bytes(output),
+        left(lent, used)
+    )
+}
+
+/// The statement of a case, and the names that its evaluation opens.
+fn statement(case: &[&str]) -> (String, String) {
+    match case {
+        ["check", a, b, p, lent, n, f, place, output] => (
+            format!(
+                "check {} {} {} (replicate {lent} 0xAA) ≡ {}",
+                bytes(a),
+                bytes(b),
+                bytes(p),
+                written(&[n, f, place], lent, output)
+            ),
+            format!("{SHARED} {BUNDLES} {WRITING} {CHECK}"),
+        ),
+        ["read", file, kinds, nums, n, f, place, count, k, out_kinds, out_nums] => (
+            format!(
+                "readBundle (replicate {kinds} 0xAA) (replicate {nums} (pos 0x55)) {} ≡ record {{ answer = answer {n} {f} {place}; count = {count}; K = {k}; kinds = ({}) ++ replicate {} 0xAA; numbers = ({}) ++ replicate {} (pos 0x55) }}",
+                bytes(file),
+                naturals(out_kinds),
+                left(kinds, numbers(out_kinds).len()),
+                integers(out_nums),
+                left(nums, numbers(out_nums).len())
+            ),
+            format!("{SHARED} {BUNDLES} {READ}"),
+        ),
+        ["write", k, kinds, nums, lent, n, f, place, output] => (
+            format!(
+                "writeBundle {k} ({}) ({}) (replicate {lent} 0xAA) ≡ {}",
+                naturals(kinds),
+                integers(nums),
+                written(&[n, f, place], lent, output)
+            ),
+            format!("{SHARED} {WRITING} {WRITE}"),
+        ),
+        ["show", a, b, line, n, f, place, part] => {
+            let part = if *part == "-" { "1:0:0" } else { part };
+            let at: Vec<usize> = part.split(':').map(|x| x.parse().expect("a part")).collect();
+            let (a, b) = (bytes(a), bytes(b));
+            (
+                format!(
+                    "(showAnswer {a} {b} {line} ≡ answer {n} {f} {place}) × (showPart {a} {b} {line} ≡ record {{ file = {}; start = {}; size = {} }})",
+                    at[0],
+                    at[1],
+                    at[2] - at[1]
+                ),
+                format!("{SHARED} {BUNDLES} {SHOW}"),
+            )
+        }
+        ["test", file, values, n, f, place, result] => (
+            format!(
+                "testFormula {} ({}) ≡ record {{ answer = answer {n} {f} {place}; holds = {} }}",
+                bytes(file),
+                integers(values),
+                if *result == "true" { "true" } else { "false" }
+            ),
+            format!("{SHARED} {TEST}"),
+        ),
+        other => panic!("no case: {other:?}"),
+    }
+}
+
+fn main() {
+    let folder = std::env::args().nth(1).expect("usage: trial DIR < CASES");
+    let folder = Path::new(&folder);
+    let mut cases = String::new();
+    std::io::stdin()
+        .read_to_string(&mut cases)
+        .expect("cases on standard input");
+    let cases: Vec<&str> = cases.lines().filter(|l| !l.is_empty()).collect();
+
+    for sub in ["src", "specs", "proofs"] {
+        std::fs::create_dir_all(folder.join(sub)).expect("a folder");
+    }
+    let put = |name: &str, text: &str| std::fs::write(folder.join(name), text).expect("a file");
+    put(
+        "src/lib.rt",
+        "// The definitions against the reference checker.\n",
+    );
+    put("specs/Lib.antt", "-- Nothing.\n");
+    let mut modules = String::from("-- The cases.\n");
+    for (number, chunk) in cases.chunks(CASES_A_FILE).enumerate() {
+        let mut text = format!("-- Cases of the reference checker. By evaluation.\n{USES}abbrev times : ℕ → List ℕ → List ℕ\ntimes zero bs = []\ntimes (suc n) bs = bs ++ times n bs\n");
+        for (i, case) in chunk.iter().enumerate() {
+            let words: Vec<&str> = case.split(' ').collect();
+            let (statement, names) = statement(&words);
+            let name = format!("case-{}", number * CASES_A_FILE + i);
+            let proof = if words[0] == "show" {
+                "(refl, refl)"
+            } else {
+                "refl"
+            };
+            let _ = write!(
+                text,
+                "\n{name} : {statement}\nunfolding {names}\n{name} = {proof}\n"
+            );
+        }
+        put(&format!("proofs/Cases{number}.antt"), &text);
+        let _ = writeln!(modules, "pub mod Cases{number}");
+    }
+    put("proofs/Lib.antt", &modules);
+}
