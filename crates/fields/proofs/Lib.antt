@@ -1,0 +1,2 @@
+-- Laws of bytes, numbers and fields.
+pub mod Signed
