@@ -1,0 +1,152 @@
+-- A formula reads back from the bytes that it is written as. Assumes nothing.
+use mathlib.Core.Path.{_≡_, refl, sym, _∙_, ap, ap₂}
+use mathlib.Core.Option.{Option, none, some}
+use mathlib.Core.Bool.{Bool, true, false, _&&_}
+use mathlib.Core.List.{List, [], _∷_, _++_, append-assoc, append-nil}
+use Prim.Native.Nat.{ℕ, zero, suc, max, _+_, _*_, _-_, _<_, _≤_}
+use native.Mathlib.Nat.{mul-le-mul-right}
+use native.Mathlib.Omega.{arith}
+use lib.Dec.{leb, eqb}
+use lib.ListN.{length, take, drop, length-append}
+use lib.Seq.{take-at, drop-at}
+use lib.IntN.{ℤ, pos, natAbs}
+use lib.Signed.{leZ}
+use borrow.Author.Tests.{le-leb, eq-eqb}
+use Rattle.forms.specs.Edition.{Edition, edition1}
+use Rattle.forms.specs.Forms.{Kind, ≤0, =0, Form, Formula, literal, _divides_, _and_, _or_}
+use Rattle.fields.specs.declared.FileKind.{FileKind}
+use Rattle.fields.specs.Answers.{answer, fileProof, Result, refused, accepted, _>>=_, _>>_, need, found}
+use Rattle.fields.specs.Numbers.{unsignedBytes, signed, signedBytes, formFrom, formBytes, formWidth}
+use Rattle.fields.specs.Fields.{Field, Fields, ends, cut, _▸_, note, fields, fieldsFrom, fieldBytes}
+use Rattle.fields.specs.Header.{Header, known, headerTag, header, headerField, finished, headerBytes}
+use Rattle.fields.proofs.Signed.{InWidth, FormInWidth, length-signedBytes, signed-signedBytes, length-formBytes, formFrom-written}
+use Rattle.formula.specs.Formula.{encode, formulaFile, Connective, disjunction, conjunction, Tagged, pair, atom, stride, formulaTagged, joined, sizeOf, formulaOf, formulaField, twoParts, formulaWithin, readFormula}
+use Rattle.formula.proofs.Fronts.{pass, got, bind, fields-field, fields-end, fuel-enough}
+
+-- Every form has K coefficients, every number fits its four bytes, and g is at least 2.
+abbrev pub Encodable : ℕ → Formula → Type 0
+Encodable K (literal k t) = FormInWidth 4 K t
+Encodable K (g divides t) = (2 ≤ g) × InWidth 4 (pos g) × FormInWidth 4 K t
+Encodable K (I and J) = Encodable K I × Encodable K J
+Encodable K (I or J) = Encodable K I × Encodable K J
+
+-- How many levels of and/or a formula has.
+abbrev pub height : Formula → ℕ
+height (literal k t) = 0
+height (g divides t) = 0
+height (I and J) = suc (max (height I) (height J))
+height (I or J) = suc (max (height I) (height J))
+
+-- The fuel for the fields of a formula, and then so much more.
+abbrev fuelled : Formula → ℕ → ℕ
+fuelled (literal k t) n = suc n
+fuelled (g divides t) n = suc n
+fuelled (I and J) n = suc (fuelled I (fuelled J n))
+fuelled (I or J) n = suc (fuelled I (fuelled J n))
+
+abbrev field : ℕ → ℕ → List ℕ → Field
+field at tag contents = record { at = at; tag = tag; contents = contents }
+
+abbrev Two : Type 0
+Two = ℕ → Fields → Result (Formula × Formula × Fields)
+
+length-fieldBytes : (tag : ℕ) (contents : List ℕ) → length (fieldBytes tag contents) ≡ 3 + length contents
+unfolding fieldBytes unsignedBytes
+length-fieldBytes tag contents = omega arith
+
+-- ---- one field
+module _ (K : ℕ) (two : Two) (fs : Fields) (at : ℕ) where
+  -- A field of a formula's tag and its length gives what it states.
+  field-read : (tag : ℕ) (contents : List ℕ) (tagged : Tagged) → known FileKind.Formula tag ≡ true → formulaTagged tag ≡ some tagged → length contents ≡ sizeOf edition1 K tagged
+      → formulaField edition1 K two (field at tag contents ▸ fs) ≡ formulaOf edition1 K two (field at tag contents) fs tagged
+  unfolding formulaField
+  field-read tag contents tagged k t s =
+      let f = field at tag contents in
+      pass (answer 3 fileProof at) _ k
+      ∙ got (answer 4 fileProof at) (λ x. need (answer 6 fileProof at) (eqb (length contents) (sizeOf edition1 K x)) >> formulaOf edition1 K two f fs x) t
+      ∙ pass (answer 6 fileProof at) (formulaOf edition1 K two f fs tagged) (eq-eqb (length contents) (sizeOf edition1 K tagged) s)
+
+  atom-read : (tag : ℕ) (k : Kind) (t : Form) → known FileKind.Formula tag ≡ true → formulaTagged tag ≡ some (atom k) → FormInWidth 4 K t
+      → formulaField edition1 K two (field at tag (formBytes 4 t) ▸ fs) ≡ accepted (literal k t, fs)
+  unfolding formulaOf sizeOf
+  atom-read tag k t n e h = field-read tag (formBytes 4 t) (atom k) n e (length-formBytes 4 K t (h .size)) ∙ rw (formFrom-written 4 K h)
+
+  stride-read : (g : ℕ) (t : Form) → 2 ≤ g → InWidth 4 (pos g) → FormInWidth 4 K t
+      → formulaField edition1 K two (field at 0x35 (signedBytes 4 (pos g) ++ formBytes 4 t) ▸ fs) ≡ accepted (g divides t, fs)
+  unfolding formulaOf sizeOf known headerTag formulaTagged
+  stride-read g t low w h =
+      let contents = signedBytes 4 (pos g) ++ formBytes 4 t in
+      let own = length-signedBytes 4 (pos g) in
+      let size : length contents ≡ 4 + formWidth 4 K = length-append (signedBytes 4 (pos g)) (formBytes 4 t) ∙ ap₂ _+_ own (length-formBytes 4 K t (h .size)) in
+      let front : take 4 contents ≡ signedBytes 4 (pos g) = take-at (signedBytes 4 (pos g)) (formBytes 4 t) 4 own in
+      let back : drop 4 contents ≡ formBytes 4 t = drop-at (signedBytes 4 (pos g)) (formBytes 4 t) 4 own in
+      let number : signed (take 4 contents) ≡ pos g = ap signed front ∙ signed-signedBytes 4 (pos g) w in
+      let form : formFrom 4 K (drop 4 contents) ≡ t = ap (formFrom 4 K) back ∙ formFrom-written 4 K h in
+      field-read 0x35 contents stride refl refl size
+      ∙ pass (answer 12 fileProof at) _ (rw number (le-leb 2 g low))
+      ∙ ap₂ (λ (z : ℤ) (u : Form). accepted (natAbs z divides u, fs)) number form
+
+  pair-read : (tag : ℕ) (c : Connective) {I J : Formula} {after : Fields} → known FileKind.Formula tag ≡ true → formulaTagged tag ≡ some (pair c) → two at fs ≡ accepted (I, J, after)
+      → formulaField edition1 K two (field at tag [] ▸ fs) ≡ accepted (joined c I J, after)
+  unfolding formulaOf sizeOf
+  pair-read tag c {I} {J} {after} n e h = field-read tag [] (pair c) n e refl ∙ bind _ h
+
+module _ (K : ℕ) where
+  -- A field that is no and/or reads alike at every level.
+  leaf-within : (levels : ℕ) (fs : Fields) {r : Result (Formula × Fields)} → ((two : Two) → formulaField edition1 K two fs ≡ r) → formulaWithin edition1 K levels fs ≡ r
+  unfolding formulaWithin
+  leaf-within zero fs h = h _
+  leaf-within (suc levels) fs h = h _
+
+  two-read : (part : Fields → Result (Formula × Fields)) (fs : Fields) {fs1 fs2 : Fields} {I J : Formula} → part fs ≡ accepted (I, fs1) → part fs1 ≡ accepted (J, fs2) → twoParts edition1 K part fs ≡ accepted (I, J, fs2)
+  unfolding twoParts
+  two-read part fs h k = bind _ h ∙ bind _ k
+
+  -- The formula at the front of the fields is read, and leaves the fields after it.
+  Reads : (levels : ℕ) → Formula → Type 0
+  Reads levels I = (fuel at : ℕ) (bs : List ℕ)
+      → formulaWithin edition1 K levels (fieldsFrom (fuelled I fuel) at (encode edition1 I ++ bs)) ≡ accepted (I, fieldsFrom fuel (at + length (encode edition1 I)) bs)
+
+  leaf-reads : (levels tag : ℕ) (contents : List ℕ) (I : Formula) → length contents < 0x10000 → note tag ≡ false
+      → ((two : Two) (fs : Fields) (at : ℕ) → formulaField edition1 K two (field at tag contents ▸ fs) ≡ accepted (I, fs)) → (fuel at : ℕ) (bs : List ℕ)
+      → formulaWithin edition1 K levels (fieldsFrom (suc fuel) at (fieldBytes tag contents ++ bs)) ≡ accepted (I, fieldsFrom fuel (at + length (fieldBytes tag contents)) bs)
+  leaf-reads levels tag contents I short n h fuel at bs =
+      let place : at + 3 + length contents ≡ at + length (fieldBytes tag contents) = omega (arith, length-fieldBytes tag contents) in
+      ap (formulaWithin edition1 K levels) (fields-field tag contents bs fuel at short n)
+      ∙ leaf-within levels _ (λ two. h two (fieldsFrom fuel (at + 3 + length contents) bs) at)
+      ∙ ap (λ (p : ℕ). accepted (I, fieldsFrom fuel p bs)) place
+
+  pair-reads : (levels tag : ℕ) (c : Connective) (I J : Formula) → note tag ≡ false → known FileKind.Formula tag ≡ true → formulaTagged tag ≡ some (pair c) → Reads levels I → Reads levels J
+      → (fuel at : ℕ) (bs : List ℕ) → formulaWithin edition1 K (suc levels) (fieldsFrom (suc (fuelled I (fuelled J fuel))) at (fieldBytes tag [] ++ encode edition1 I ++ encode edition1 J ++ bs))
+      ≡ accepted (joined c I J, fieldsFrom fuel (at + length (fieldBytes tag [] ++ encode edition1 I ++ encode edition1 J)) bs)
+  unfolding Reads formulaWithin
+  pair-reads levels tag c I J n k t hI hJ fuel at bs =
+      let F = fieldBytes tag [] in
+      let X = encode edition1 I in
+      let Y = encode edition1 J in
+      let fuel1 = fuelled I (fuelled J fuel) in
+      let bytes : F ++ X ++ Y ++ bs ≡ F ++ (X ++ (Y ++ bs)) = append-assoc (F ++ X) Y bs ∙ append-assoc F X (Y ++ bs) in
+      let place : at + 3 + 0 + length X + length Y ≡ at + length (F ++ X ++ Y) = omega (arith, length-append (F ++ X) Y, length-append F X, length-fieldBytes tag []) in
+      ap (λ (b : List ℕ). formulaWithin edition1 K (suc levels) (fieldsFrom (suc fuel1) at b)) bytes
+      ∙ ap (formulaWithin edition1 K (suc levels)) (fields-field tag [] (X ++ (Y ++ bs)) fuel1 at (omega arith) n)
+      ∙ pair-read K _ (fieldsFrom fuel1 (at + 3 + 0) (X ++ (Y ++ bs))) at tag c k t
+      (two-read (formulaWithin edition1 K levels) _ (hI (fuelled J fuel) (at + 3 + 0) (Y ++ bs)) (hJ fuel (at + 3 + 0 + length X) bs))
+      ∙ ap (λ (p : ℕ). accepted (joined c I J, fieldsFrom fuel p bs)) place
+
+  -- A form, also with g in front, is short enough for a field.
+  form-short : (t : Form) → K ≤ 16 → length (t .coeffs) ≡ K → length (formBytes 4 t) ≤ 68
+  form-short t k h = omega (arith, length-formBytes 4 K t h)
+
+  stride-short : (g : ℕ) (t : Form) → K ≤ 16 → length (t .coeffs) ≡ K → length (signedBytes 4 (pos g) ++ formBytes 4 t) ≤ 72
+  stride-short g t k h = omega (arith, length-append (signedBytes 4 (pos g)) (formBytes 4 t), length-signedBytes 4 (pos g), form-short t k h)
+
+  module _ (k : K ≤ 16) where
+    fuelled-reads : (levels : ℕ) (I : Formula) → Encodable K I → height I ≤ levels → Reads levels I
+    unfolding encode Reads known headerTag formulaTagged joined note
+    fuelled-reads levels (literal ≤0 t) h l = leaf-reads levels 0x33 (formBytes 4 t) (literal ≤0 t) (omega (arith, form-short t k (h .size))) refl (λ two fs at. atom-read K two fs at 0x33 ≤0 t refl refl h)
+    fuelled-reads levels (literal =0 t) h l = leaf-reads levels 0x34 (formBytes 4 t) (literal =0 t) (omega (arith, form-short t k (h .size))) refl (λ two fs at. atom-read K two fs at 0x34 =0 t refl refl h)
+    fuelled-reads levels (g divides t) h l = leaf-reads levels 0x35 (signedBytes 4 (pos g) ++ formBytes 4 t) (g divides t) (omega (arith, stride-short g t k (h .2 .size))) refl (λ two fs at. stride-read K two fs at g t (h .0) (h .1) (h .2))
+    fuelled-reads zero (I and J) h l = absurd (omega arith)
+    fuelled-reads zero (I or J) h l = absurd (omega arith)
+    fuelled-reads (suc levels) (I and J) h l = pair-reads levels 0x32 conjunction I J refl refl refl (fuelled-reads levels I (h .0) (omega arith)) (fuelled-reads levels J (h .1) (omega arith))
+    fuelled-reads (suc levels) (I or J) h l = pair-reads levels 0x31 disjunction I J refl refl refl (fuelled-reads levels I (h .0) (omega arith)) (fuelled-reads levels J (h .1) (omega arith))
