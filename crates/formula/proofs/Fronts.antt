@@ -21,6 +21,10 @@ module _ {Y : Type 0} where
   unfolding _>>_ need
   pass a r e = rw e
 
+  pub done : (r : Result Y) → (accepted tt >> r) ≡ r
+  unfolding _>>_
+  done r = refl
+
   pub got : {X : Type 0} (a : Answer) {o : Option X} {x : X} (f : X → Result Y) → o ≡ some x → (found a o >>= f) ≡ f x
   unfolding _>>=_ found
   got a f e = rw e

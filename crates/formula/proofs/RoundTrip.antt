@@ -12,16 +12,16 @@ use lib.Seq.{take-at, drop-at}
 use lib.IntN.{ℤ, pos, natAbs}
 use lib.Signed.{leZ}
 use borrow.Author.Tests.{le-leb, eq-eqb}
-use Rattle.forms.specs.Edition.{Edition, edition1}
+use Rattle.forms.specs.Edition.{Edition, edition1, editionNumbered}
 use Rattle.forms.specs.Forms.{Kind, ≤0, =0, Form, Formula, literal, _divides_, _and_, _or_}
 use Rattle.fields.specs.declared.FileKind.{FileKind}
 use Rattle.fields.specs.Answers.{answer, fileProof, Result, refused, accepted, _>>=_, _>>_, need, found}
 use Rattle.fields.specs.Numbers.{unsignedBytes, signed, signedBytes, formFrom, formBytes, formWidth}
 use Rattle.fields.specs.Fields.{Field, Fields, ends, cut, _▸_, note, fields, fieldsFrom, fieldBytes}
-use Rattle.fields.specs.Header.{Header, known, headerTag, header, headerField, finished, headerBytes}
+use Rattle.fields.specs.Header.{Header, agrees, known, headerTag, header, headerField, finished, headerBytes}
 use Rattle.fields.proofs.Signed.{InWidth, FormInWidth, length-signedBytes, signed-signedBytes, length-formBytes, formFrom-written}
 use Rattle.formula.specs.Formula.{encode, formulaFile, Connective, disjunction, conjunction, Tagged, pair, atom, stride, formulaTagged, joined, sizeOf, formulaOf, formulaField, twoParts, formulaWithin, readFormula}
-use Rattle.formula.proofs.Fronts.{pass, got, bind, fields-field, fields-end, fuel-enough}
+use Rattle.formula.proofs.Fronts.{pass, done, got, bind, fields-field, fields-end, fuel-enough}
 
 -- Every form has K coefficients, every number fits its four bytes, and g is at least 2.
 abbrev pub Encodable : ℕ → Formula → Type 0
@@ -150,3 +150,86 @@ module _ (K : ℕ) where
     fuelled-reads zero (I or J) h l = absurd (omega arith)
     fuelled-reads (suc levels) (I and J) h l = pair-reads levels 0x32 conjunction I J refl refl refl (fuelled-reads levels I (h .0) (omega arith)) (fuelled-reads levels J (h .1) (omega arith))
     fuelled-reads (suc levels) (I or J) h l = pair-reads levels 0x31 disjunction I J refl refl refl (fuelled-reads levels I (h .0) (omega arith)) (fuelled-reads levels J (h .1) (omega arith))
+
+-- ---- fuel
+-- How many fields a formula has.
+abbrev count : Formula → ℕ
+count (literal k t) = 1
+count (g divides t) = 1
+count (I and J) = suc (count I + count J)
+count (I or J) = suc (count I + count J)
+
+fuelled-count : (I : Formula) (n : ℕ) → fuelled I n ≡ count I + n
+fuelled-count (literal k t) n = omega arith
+fuelled-count (g divides t) n = omega arith
+fuelled-count (I and J) n = omega (arith, fuelled-count I (fuelled J n), fuelled-count J n)
+fuelled-count (I or J) n = omega (arith, fuelled-count I (fuelled J n), fuelled-count J n)
+
+pair-length : (tag : ℕ) (xs ys : List ℕ) → length (fieldBytes tag [] ++ xs ++ ys) ≡ 3 + length xs + length ys
+pair-length tag xs ys = omega (arith, length-append (fieldBytes tag [] ++ xs) ys, length-append (fieldBytes tag []) xs, length-fieldBytes tag [])
+
+count-below : (I : Formula) → count I ≤ length (encode edition1 I)
+unfolding encode
+count-below (literal ≤0 t) = omega (arith, length-fieldBytes 0x33 (formBytes 4 t))
+count-below (literal =0 t) = omega (arith, length-fieldBytes 0x34 (formBytes 4 t))
+count-below (g divides t) = omega (arith, length-fieldBytes 0x35 (signedBytes 4 (pos g) ++ formBytes 4 t))
+count-below (I and J) = omega (arith, pair-length 0x32 (encode edition1 I) (encode edition1 J), count-below I, count-below J)
+count-below (I or J) = omega (arith, pair-length 0x31 (encode edition1 I) (encode edition1 J), count-below I, count-below J)
+
+-- With as much fuel as there are bytes, the formula at their front is read.
+pub formula-read : (K levels : ℕ) (I : Formula) → K ≤ 16 → Encodable K I → height I ≤ levels → (fuel at : ℕ) (bs : List ℕ) → length (encode edition1 I ++ bs) ≤ fuel
+    → formulaWithin edition1 K levels (fieldsFrom fuel at (encode edition1 I ++ bs)) ≡ accepted (I, fieldsFrom fuel (at + length (encode edition1 I)) bs)
+unfolding Reads
+formula-read K levels I k h l fuel at bs enough =
+    let n = fuel - count I in
+    let both = length-append (encode edition1 I) bs in
+    let fuels : fuel ≡ fuelled I n = omega (arith, fuelled-count I n, count-below I) in
+    ap (λ (m : ℕ). formulaWithin edition1 K levels (fieldsFrom m at (encode edition1 I ++ bs))) fuels
+    ∙ fuelled-reads K k levels I h l n at bs
+    ∙ ap (λ (fs : Fields). accepted (I, fs)) (fuel-enough n fuel (at + length (encode edition1 I)) bs (omega (arith, count-below I)) (omega arith))
+
+-- ---- the file
+header-field-read : (tag at b : ℕ) (fs : Fields) → known FileKind.Formula tag ≡ true → headerField FileKind.Formula fileProof tag (field at tag (b ∷ []) ▸ fs) ≡ accepted (at, b, fs)
+unfolding headerField
+header-field-read tag at b fs k = pass _ _ k ∙ pass _ _ (eq-eqb tag tag refl) ∙ pass _ _ refl
+
+header-read : (K : ℕ) (fs : Fields) → 1 ≤ K → K ≤ 16 → header FileKind.Formula fileProof (some K) (field 0 0x01 (1 ∷ []) ▸ field 4 0x02 (K ∷ []) ▸ fs) ≡ accepted (record { edition = edition1; K = K; rest = fs })
+unfolding header editionNumbered agrees known headerTag
+header-read K fs low high =
+    bind _ (header-field-read 0x01 0 1 (field 4 0x02 (K ∷ []) ▸ fs) refl)
+    ∙ got _ _ refl
+    ∙ bind _ (header-field-read 0x02 4 K fs refl)
+    ∙ pass _ _ (rw (le-leb 1 K low, le-leb K 16 high))
+    ∙ pass _ _ (eq-eqb K K refl)
+
+header-fields : (K fuel : ℕ) (bs : List ℕ) → fieldsFrom (suc (suc fuel)) 0 (headerBytes K ++ bs) ≡ field 0 0x01 (1 ∷ []) ▸ field 4 0x02 (K ∷ []) ▸ fieldsFrom fuel 8 bs
+unfolding headerBytes note
+header-fields K fuel bs =
+    ap (fieldsFrom (suc (suc fuel)) 0) (append-assoc (fieldBytes 0x01 (1 ∷ [])) (fieldBytes 0x02 (K ∷ [])) bs)
+    ∙ fields-field 0x01 (1 ∷ []) (fieldBytes 0x02 (K ∷ []) ++ bs) (suc fuel) 0 (omega arith) refl
+    ∙ ap (λ (fs : Fields). field 0 0x01 (1 ∷ []) ▸ fs) (fields-field 0x02 (K ∷ []) bs fuel 4 (omega arith) refl)
+
+pub length-headerBytes : (K : ℕ) → length (headerBytes K) ≡ 8
+unfolding headerBytes
+length-headerBytes K = omega (arith, length-append (fieldBytes 0x01 (1 ∷ [])) (fieldBytes 0x02 (K ∷ [])), length-fieldBytes 0x01 (1 ∷ []), length-fieldBytes 0x02 (K ∷ []))
+
+pub length-formulaFile : (K : ℕ) (I : Formula) → length (formulaFile edition1 K I) ≡ 8 + length (encode edition1 I)
+unfolding formulaFile
+length-formulaFile K I = omega (arith, length-append (headerBytes K) (encode edition1 I), length-headerBytes K)
+
+-- A formula's file reads back as that formula.
+pub read-written : (K : ℕ) (I : Formula) → 1 ≤ K → K ≤ 16 → Encodable K I → height I ≤ 64 → readFormula K (fields (formulaFile edition1 K I)) ≡ accepted I
+unfolding readFormula fields formulaFile finished
+read-written K I low high h l =
+    let X = encode edition1 I in
+    let n = 6 + length X in
+    let size : length (headerBytes K ++ X) ≡ suc (suc n) = omega (arith, length-append (headerBytes K) X, length-headerBytes K) in
+    let own : length (X ++ []) ≤ n = rw append-nil (omega arith) in
+    let part : formulaWithin edition1 K 64 (fieldsFrom n 8 X) ≡ accepted (I, ends (8 + length X))
+    = ap (λ (bs : List ℕ). formulaWithin edition1 K 64 (fieldsFrom n 8 bs)) (sym (append-nil X))
+    ∙ formula-read K 64 I high h l n 8 [] own
+    ∙ ap (λ (fs : Fields). accepted (I, fs)) (fields-end n (8 + length X)) in
+    ap (readFormula K) (ap (λ (m : ℕ). fieldsFrom m 0 (headerBytes K ++ X)) size ∙ header-fields K n X)
+    ∙ bind _ (header-read K (fieldsFrom n 8 X) low high)
+    ∙ bind _ part
+    ∙ done (accepted I)
