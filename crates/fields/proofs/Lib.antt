@@ -1,2 +1,3 @@
 -- Laws of bytes, numbers and fields.
 pub mod Signed
+pub mod Contents

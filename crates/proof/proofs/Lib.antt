@@ -1,0 +1,2 @@
+-- What the check gives, apart from how it goes about it.
+pub mod Sizes
