@@ -233,3 +233,20 @@ read-written K I low high h l =
     ∙ bind _ (header-read K (fieldsFrom n 8 X) low high)
     ∙ bind _ part
     ∙ done (accepted I)
+
+-- ---- length
+-- How many literals and stride parts a formula has.
+abbrev pub leaves : Formula → ℕ
+leaves (literal k t) = 1
+leaves (g divides t) = 1
+leaves (I and J) = leaves I + leaves J
+leaves (I or J) = leaves I + leaves J
+
+-- A leaf has at most 75 bytes, and an and/or adds 3.
+pub length-encode : (K : ℕ) → K ≤ 16 → (I : Formula) → Encodable K I → length (encode edition1 I) + 3 ≤ 78 * leaves I
+unfolding encode
+length-encode K k (literal ≤0 t) h = omega (arith, length-fieldBytes 0x33 (formBytes 4 t), form-short K t k (h .size))
+length-encode K k (literal =0 t) h = omega (arith, length-fieldBytes 0x34 (formBytes 4 t), form-short K t k (h .size))
+length-encode K k (g divides t) h = omega (arith, length-fieldBytes 0x35 (signedBytes 4 (pos g) ++ formBytes 4 t), stride-short K g t k (h .2 .size))
+length-encode K k (I and J) h = omega (arith, pair-length 0x32 (encode edition1 I) (encode edition1 J), length-encode K k I (h .0), length-encode K k J (h .1))
+length-encode K k (I or J) h = omega (arith, pair-length 0x31 (encode edition1 I) (encode edition1 J), length-encode K k I (h .0), length-encode K k J (h .1))

@@ -21,7 +21,7 @@ use Rattle.fields.proofs.Signed.{Bytes, InWidth, FormInWidth, all-take, all-dro
 use Rattle.fields.proofs.Contents.{ItemBytes, contents-bytes}
 use Rattle.bundle.specs.Layout.{Each, States, StatesAll, BundleFile}
 use Rattle.formula.specs.Formula.{encode, formulaFile, readFormula}
-use Rattle.formula.proofs.RoundTrip.{Encodable, height, read-written, length-formulaFile}
+use Rattle.formula.proofs.RoundTrip.{Encodable, height, leaves, read-written, length-encode, length-formulaFile}
 use Rattle.proof.specs.Entries.{Tagged, combineTag, reduceTag, scaleTag, strengthenTag, numberTag, strideTag, claimTag, entryFrom, multiplier}
 use Rattle.proof.specs.Layout.{Enters, ProofFile, Certifies}
 
@@ -65,37 +65,37 @@ pub record Ranged (range : ℕ) (t : Form) : Type 0 where
   pub coeffs : All (Within range) (t .coeffs)
   pub d : Within range (t .d)
 
+and-both : (a b : Bool) → T (a && b) → T a × T b
+and-both true b t = (tt, t)
+and-both false b t = absurd t
+
 module _ {range : ℕ} where
   small-within : (z : ℤ) → T (small range z) → Within range z
   unfolding small
   small-within z t = record { abs = leb→le (natAbs z) range t }
-
-  and-both : (a b : Bool) → T (a && b) → T a × T b
-  and-both true b t = (tt, t)
-  and-both false b t = absurd t
 
   every-within : (zs : List ℤ) → T (every (small range) zs) → All (Within range) zs
   unfolding every
   every-within [] t = nil
   every-within (z ∷ zs) t = let b = and-both (small range z) (every (small range) zs) t in cons (small-within z (b .0)) (every-within zs (b .1))
 
-  line-ranged : (l : Line) → T (inRange range l) → Ranged range (l .t) × Ranged range (l .tA)
+  tA-ranged : (l : Line) → T (inRange range l) → Ranged range (l .tA)
   unfolding inRange
-  line-ranged l t =
-      let t3 = and-both (every (small range) (l .t .coeffs) && small range (l .t .d) && every (small range) (l .tA .coeffs)) (small range (l .tA .d)) t in
-      let t2 = and-both (every (small range) (l .t .coeffs) && small range (l .t .d)) (every (small range) (l .tA .coeffs)) (t3 .0) in
-      let t1 = and-both (every (small range) (l .t .coeffs)) (small range (l .t .d)) (t2 .0) in (
-        record { coeffs = every-within (l .t .coeffs) (t1 .0); d = small-within (l .t .d) (t1 .1) },
-        record { coeffs = every-within (l .tA .coeffs) (t2 .1); d = small-within (l .tA .d) (t3 .1) },
-      )
+  tA-ranged l t =
+      let last = and-both (every (small range) (l .t .coeffs) && small range (l .t .d) && every (small range) (l .tA .coeffs)) (small range (l .tA .d)) t in
+      let third = and-both (every (small range) (l .t .coeffs) && small range (l .t .d)) (every (small range) (l .tA .coeffs)) (last .0) in
+      record { coeffs = every-within (l .tA .coeffs) (third .1); d = small-within (l .tA .d) (last .1) }
+
+  zero-within : (z : ℤ) → Within range (pos 0 *ℤ z)
+  zero-within z = rw zero-*ℤ (record { abs = omega arith })
 
   zeros-within : (zs : List ℤ) → All (Within range) (map (λ (c : ℤ). pos 0 *ℤ c) zs)
   zeros-within [] = nil
-  zeros-within (z ∷ zs) = cons (rw zero-*ℤ (record { abs = omega arith })) (zeros-within zs)
+  zeros-within (z ∷ zs) = cons (zero-within z) (zeros-within zs)
 
   zero-ranged : (t : Form) → Ranged range (pos 0 · t)
   unfolding _·_
-  zero-ranged t = record { coeffs = zeros-within (t .coeffs); d = rw zero-*ℤ (record { abs = omega arith }) }
+  zero-ranged t = record { coeffs = zeros-within (t .coeffs); d = zero-within (t .d) }
 
   cond-within : (b : Bool) (z : ℤ) → Within range z → Within range (cond b z (pos 0))
   cond-within true z h = h
@@ -109,3 +109,186 @@ module _ {range : ℕ} where
   within-ranged : (p : ℕ → Bool) {t : Form} → Ranged range t → Ranged range (within p t)
   unfolding within
   within-ranged p h = record { coeffs = only-within p (h .coeffs); d = h .d }
+
+-- ---- the partial interpolants of a branch
+-- A form of K coefficients whose numbers are within edition 1's range.
+pub record Fit (K : ℕ) (t : Form) : Type 0 where
+  pub sized : Size K t
+  pub ranged : Ranged 2147483647 t
+
+record FitLine (K : ℕ) (l : Line) : Type 0 where
+  fit : Fit K (l .tA)
+
+abbrev FitFormula : ℕ → Formula → Type 0
+FitFormula K (literal k t) = Fit K t
+FitFormula K (g divides t) = (2 ≤ g) × Fit K t
+FitFormula K (I and J) = FitFormula K I × FitFormula K J
+FitFormula K (I or J) = FitFormula K I × FitFormula K J
+
+module _ (K : ℕ) where
+  initial-fit : {a b : List Constraint} → All (λ c. Fit K (c .form)) a → All (λ c. Fit K (c .form)) b → All (FitLine K) (lines a b)
+  initial-fit a b = all-append
+      (all-map lineA (λ c h. record { fit = h }) a)
+      (all-map lineB (λ c h. record { fit = record { sized = size-times (pos 0) (h .sized); ranged = zero-ranged (c .form) } }) b)
+
+  new-sized : {ls : List Line} {l : Line} → All (FitLine K) ls → New ls l → Size K (l .tA)
+  new-sized h (combine i j α β p q _ _) = size-sum (size-times (pos α) ((all-nth i h p) .fit .sized)) (size-times (pos β) ((all-nth j h q) .fit .sized))
+  new-sized h (reduce i j α p q _) = size-sum ((all-nth i h p) .fit .sized) (size-times α ((all-nth j h q) .fit .sized))
+  new-sized h (scale i α p _) = size-times (pos α) ((all-nth i h p) .fit .sized)
+
+  closed-fit : {inB : ℕ → Bool} {ls : List Line} {I : Formula} → Closed edition1 inB ls I → All (FitLine K) ls → FitFormula K I
+  closed-fit (derive {l = l} _ n room c) h = closed-fit c (all-and h (record { fit = record { sized = new-sized h n; ranged = tA-ranged l (room .range) } }))
+  closed-fit (strengthen {t = t} {tA = tA} i p room c1 cE c0) h =
+      let own = (all-nth i h p) .fit in (
+        closed-fit c1 (all-and h (record { fit = record { sized = size-plus 1 (own .sized); ranged = tA-ranged (line ≤0 (t plus 1) (tA plus 1)) (room .range) } })),
+        (closed-fit cE (all-and h (record { fit = own })), closed-fit c0 (all-and h (record { fit = own }))),
+      )
+  closed-fit (number i p _ _) h = (all-nth i h p) .fit
+  closed-fit {inB} (stride i g p low _ _) h = let own = (all-nth i h p) .fit in (low, record { sized = size-within inB (own .sized); ranged = within-ranged inB (own .ranged) })
+
+-- ---- the strides
+-- The row of a close by stride gives g two bytes.
+abbrev RowShort : Row → Type 0
+RowShort (Derive s) = Unit {0}
+RowShort (Strengthen t) = Unit {0}
+RowShort (CloseNumber t) = Unit {0}
+RowShort (CloseStride t g) = g < 65536
+
+abbrev Short : Entry → Type 0
+Short (row r) = RowShort r
+Short (claim t tA) = Unit {0}
+
+abbrev ShortFormula : Formula → Type 0
+ShortFormula (literal k t) = Unit {0}
+ShortFormula (g divides t) = g < 65536
+ShortFormula (I and J) = ShortFormula I × ShortFormula J
+ShortFormula (I or J) = ShortFormula I × ShortFormula J
+
+all-head : {P : Entry → Type 0} {x : Entry} {xs : List Entry} → All P (x ∷ xs) → P x
+all-head (cons h hs) = h
+
+all-tail : {P : Entry → Type 0} {x : Entry} {xs : List Entry} → All P (x ∷ xs) → All P xs
+all-tail (cons h hs) = hs
+
+unclaimed : (claimed : Bool) (l : Line) (es : List Entry) → All Short (claims claimed l es) → All Short es
+unclaimed true l es h = all-tail h
+unclaimed false l es h = h
+
+closed-short : {e : Edition} {inB : ℕ → Bool} {ls : List Line} {I : Formula} (p : Closed e inB ls I) (es : List Entry) → All Short (entries p es) → ShortFormula I × All Short es
+closed-short (derive {l = l} claimed n _ p) es h = closed-short p es (unclaimed claimed l (entries p es) (all-tail h))
+closed-short (strengthen i _ _ p1 pE p0) es h =
+    let first = closed-short p1 (entries pE (entries p0 es)) (all-tail h) in
+    let second = closed-short pE (entries p0 es) (first .1) in
+    let third = closed-short p0 es (second .1) in
+    ((first .0, (second .0, third .0)), third .1)
+closed-short (number i _ _ _) es h = (tt, all-tail h)
+closed-short (stride i g _ _ _ _) es h = (all-head h, all-tail h)
+
+-- ---- what fits can be written
+in-four : (z : ℤ) → natAbs z ≤ 2147483647 → InWidth 4 z
+in-four (pos n) h = record { high = omega arith; low = omega arith }
+in-four (negsuc n) h = record { high = omega arith; low = omega arith }
+
+-- Two bytes are within the range.
+in-two : {z : ℤ} → InWidth 2 z → Within 2147483647 z
+in-two {z = pos n} h = record { abs = omega arith }
+in-two {z = negsuc n} h = record { abs = omega arith }
+
+all-in-two : {zs : List ℤ} → All (InWidth 2) zs → All (Within 2147483647) zs
+all-in-two nil = nil
+all-in-two (cons h hs) = cons (in-two h) (all-in-two hs)
+
+two-fit : {K : ℕ} {cs : List Constraint} → All (λ c. FormInWidth 2 K (c .form)) cs → All (λ c. Fit K (c .form)) cs
+two-fit nil = nil
+two-fit (cons h hs) = cons (record { sized = record { size = h .size }; ranged = record { coeffs = all-in-two (h .coeffs); d = in-two (h .d) } }) (two-fit hs)
+
+all-in-four : {zs : List ℤ} → All (Within 2147483647) zs → All (InWidth 4) zs
+all-in-four nil = nil
+all-in-four (cons {x = z} h hs) = cons (in-four z (h .abs)) (all-in-four hs)
+
+fit-in-four : {K : ℕ} {t : Form} → Fit K t → FormInWidth 4 K t
+fit-in-four {t = t} h = record { size = h .sized .size; coeffs = all-in-four (h .ranged .coeffs); d = in-four (t .d) (h .ranged .d .abs) }
+
+encodable : (K : ℕ) (I : Formula) → FitFormula K I → ShortFormula I → Encodable K I
+encodable K (literal k t) h s = fit-in-four h
+encodable K (g divides t) h s = (h .0, in-four (pos g) (omega arith), fit-in-four (h .1))
+encodable K (I and J) h s = (encodable K I (h .0) (s .0), encodable K J (h .1) (s .1))
+encodable K (I or J) h s = (encodable K I (h .0) (s .0), encodable K J (h .1) (s .1))
+
+-- ---- levels and length
+closed-height : {e : Edition} {inB : ℕ → Bool} {ls : List Line} {I : Formula} (p : Closed e inB ls I) → height I ≤ depth p + depth p
+closed-height (derive _ n _ p) = closed-height p
+closed-height (strengthen i _ _ p1 pE p0) = omega (arith, closed-height p1, closed-height pE, closed-height p0)
+closed-height (number i _ _ _) = omega arith
+closed-height (stride i g _ _ _ _) = omega arith
+
+-- A strengthen is one row and adds two leaves to those of a branch.
+closed-leaves : {e : Edition} {inB : ℕ → Bool} {ls : List Line} {I : Formula} (p : Closed e inB ls I) → 3 * leaves I ≤ 2 * rowCount p + 1
+closed-leaves (derive _ n _ p) = omega (arith, closed-leaves p)
+closed-leaves (strengthen i _ _ p1 pE p0) = omega (arith, closed-leaves p1, closed-leaves pE, closed-leaves p0)
+closed-leaves (number i _ _ _) = omega arith
+closed-leaves (stride i g _ _ _ _) = omega arith
+
+-- ---- a closed proof
+-- The numbers of a and b have two bytes each, and the strides of the entries too.
+module _ (K : ℕ) {a b : List Constraint} {es : List Entry} {I : Formula} (p : Proves edition1 a b es I)
+    (inA : All (λ c. FormInWidth 2 K (c .form)) a) (inB : All (λ c. FormInWidth 2 K (c .form)) b) (short : All Short es) where
+  pub proves-encodable : Encodable K I
+  proves-encodable = encodable K I (closed-fit K (p .proof) (initial-fit K (two-fit inA) (two-fit inB))) (closed-short (p .proof) [] (rw (p .are) short) .0)
+
+  pub proves-height : height I ≤ 64
+  proves-height = omega (arith, closed-height (p .proof), p .opened)
+
+  pub proves-length : K ≤ 16 → length (encode edition1 I) ≤ 52 * rowCount (p .proof) + 23
+  proves-length k = omega (arith, closed-leaves (p .proof), length-encode K k I proves-encodable)
+
+-- ---- from the files
+abbrev Stated : ℕ → List Constraint → Type 0
+Stated K cs = All (λ c. FormInWidth 2 K (c .form)) cs
+
+states-in : (K : ℕ) {is : List Item} {cs : List Constraint} → All ItemBytes is → Each (States edition1 K) is cs → Stated K cs
+states-in K h Each.nil = nil
+states-in K (cons {x = i} h hs) (Each.cons s ss) = cons (subst (FormInWidth 2 K) (s .form) (formFrom-in 2 K (i .contents) (s .size) (h .bytes))) (states-in K hs ss)
+
+bundle-in : {file : List ℕ} {K : ℕ} {cs : List Constraint} → Bytes file → BundleFile file K cs → Stated K cs
+bundle-in {file} {K} h f = states-in K (all-drop 2 (rw (f .laid .are) at (contents-bytes file h (f .whole)))) (f .laid .states)
+
+-- g is read from two bytes.
+two-bytes : (bs : List ℕ) → Bytes bs → unsigned (multiplier edition1 1 0 bs) < 65536
+unfolding multiplier
+two-bytes bs h =
+    let own = take 2 (drop 1 bs) in
+    let few : length own ≤ 2 = rw length-take (omega arith) in
+    let most : 256 ^ length own ≤ 256 ^ 2 = pow-le-pow-right (omega arith) few in
+    omega (arith, unsigned-below own (all-take 2 (all-drop 1 h)))
+
+entry-short : (K : ℕ) (tagged : Tagged) (bs : List ℕ) → Bytes bs → Short (entryFrom edition1 K tagged bs)
+unfolding entryFrom
+entry-short K combineTag bs h = tt
+entry-short K reduceTag bs h = tt
+entry-short K scaleTag bs h = tt
+entry-short K strengthenTag bs h = tt
+entry-short K numberTag bs h = tt
+entry-short K strideTag bs h = two-bytes bs h
+entry-short K claimTag bs h = tt
+
+enters-short : (K : ℕ) {is : List Item} {es : List Entry} → All ItemBytes is → Each (Enters edition1 K) is es → All Short es
+enters-short K h Each.nil = nil
+enters-short K (cons {x = i} h hs) (Each.cons s ss) = cons (subst Short (s .entry) (entry-short K (s .tagged) (i .contents) (h .bytes))) (enters-short K hs ss)
+
+proof-short : {file : List ℕ} {K : ℕ} {es : List Entry} → Bytes file → ProofFile file K es → All Short es
+proof-short {file} {K} h f = enters-short K (all-drop 2 (contents-bytes file h (f .whole))) (f .enters)
+
+-- What three files certify is written as a file that reads back, and is not too long.
+pub written-reads-back : (A B P : List ℕ) {K : ℕ} {I : Formula} → All (λ x. x < 256) A → All (λ x. x < 256) B → All (λ x. x < 256) P → Certifies A B P K I
+    → (readFormula K (fields (formulaFile edition1 K I)) ≡ accepted I) × (length (formulaFile edition1 K I) ≤ edition1 .formulaBytes)
+written-reads-back A B P {K} {I} hA hB hP c =
+    let inA = bundle-in hA (c .fileA) in
+    let inB = bundle-in hB (c .fileB) in
+    let short = proof-short hP (c .fileProof) in
+    let low = c .fileProof .low in
+    let high = c .fileProof .high in
+    let rows = c .proves .rows in (
+      read-written K I low high (proves-encodable K (c .proves) inA inB short) (proves-height K (c .proves) inA inB short),
+      omega (arith, length-formulaFile K I, proves-length K (c .proves) inA inB short high),
+    )
