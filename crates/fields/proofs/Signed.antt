@@ -2,10 +2,10 @@
 use mathlib.Core.Path.{_≡_, refl, sym, _∙_, ap, ap₂, subst}
 use mathlib.Core.List.{List, [], _∷_, _++_, append-assoc, append-nil}
 use Prim.Native.Nat.{ℕ, zero, suc, _+_, _*_, _-_, _/_, _%_, _^_, _<_, _≤_}
-use native.Mathlib.Nat.{zero-mul, suc-mul, zero-add, add-zero, div-lt-iff-lt-mul, div-add-mod', pow-suc}
+use native.Mathlib.Nat.{zero-mul, suc-mul, zero-add, add-zero, div-lt-iff-lt-mul, pow-suc}
 use native.Mathlib.Numerals.{add-one}
 use native.Mathlib.Omega.{arith}
-use lib.Dec.{T, ltb, ltb→lt, nltb→le}
+use lib.Dec.{ltb, ltb→lt, nltb→le}
 use lib.Arith.{digits-div, digits-mod, digits-lt}
 use lib.IntN.{ℤ, pos, negsuc, negℤ, _-ℤ_}
 use lib.ListN.{length, take, drop, length-append, length-drop, take-append-drop}
@@ -23,8 +23,12 @@ pub record InWidth (w : ℕ) (z : ℤ) : Type 0 where
   pub high : pp z + pp z < 256 ^ w
   pub low : np z + np z ≤ 256 ^ w
 
--- ---- parts of a list
+-- ---- what holds of each element
 module _ {X : Type 0} {P : X → Type 0} where
+  pub all-weaken : {Q : X → Type 0} → ((x : X) → P x → Q x) → {xs : List X} → All P xs → All Q xs
+  all-weaken f nil = nil
+  all-weaken f (cons {x = x} h hs) = cons (f x h) (all-weaken f hs)
+
   pub all-take : (n : ℕ) {xs : List X} → All P xs → All P (take n xs)
   all-take zero h = nil
   all-take (suc n) nil = nil

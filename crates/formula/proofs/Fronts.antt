@@ -1,18 +1,18 @@
 -- A written field is the front of its file, and what a `do` block of results gives where each test is passed. Assumes nothing.
-use mathlib.Core.Path.{_≡_, refl, sym, _∙_, ap}
-use mathlib.Core.Option.{Option, none, some}
+use mathlib.Core.Path.{_≡_, refl, sym, _∙_}
+use mathlib.Core.Option.{Option, some}
 use mathlib.Core.Bool.{Bool, true, false}
 use mathlib.Core.List.{List, [], _∷_, _++_}
-use Prim.Native.Nat.{ℕ, zero, suc, _+_, _*_, _/_, _%_, _^_, _<_, _≤_}
+use Prim.Native.Nat.{ℕ, zero, suc, _+_, _/_, _%_, _<_, _≤_}
 use native.Mathlib.Omega.{arith}
 use lib.ListN.{length, take, drop, length-append, length-drop}
 use lib.Seq.{take-at, drop-at}
 use lib.Dec.{leb}
-use borrow.Author.Tests.{le-leb, leb-true}
+use borrow.Author.Tests.{le-leb}
 use Rattle.fields.specs.declared.Answer.{Answer}
-use Rattle.fields.specs.Answers.{Result, refused, accepted, _>>=_, _>>_, need, found}
+use Rattle.fields.specs.Answers.{Result, accepted, _>>=_, _>>_, need, found}
 use Rattle.fields.specs.Numbers.{unsigned, unsignedBytes}
-use Rattle.fields.specs.Fields.{Field, Front, whole, broken, nothing, front, Fields, ends, cut, _▸_, note, unlessNote, fieldsFrom, fieldBytes}
+use Rattle.fields.specs.Fields.{Front, whole, broken, nothing, front, ends, _▸_, note, unlessNote, fieldsFrom, fieldBytes}
 use Rattle.fields.proofs.Signed.{unsigned-unsignedBytes}
 
 -- ---- results

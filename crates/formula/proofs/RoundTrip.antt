@@ -1,24 +1,22 @@
 -- A formula reads back from the bytes that it is written as. Assumes nothing.
 use mathlib.Core.Path.{_≡_, refl, sym, _∙_, ap, ap₂}
-use mathlib.Core.Option.{Option, none, some}
-use mathlib.Core.Bool.{Bool, true, false, _&&_}
+use mathlib.Core.Option.{some}
+use mathlib.Core.Bool.{true, false}
 use mathlib.Core.List.{List, [], _∷_, _++_, append-assoc, append-nil}
 use Prim.Native.Nat.{ℕ, zero, suc, max, _+_, _*_, _-_, _<_, _≤_}
-use native.Mathlib.Nat.{mul-le-mul-right}
 use native.Mathlib.Omega.{arith}
-use lib.Dec.{leb, eqb}
+use lib.Dec.{eqb}
 use lib.ListN.{length, take, drop, length-append}
 use lib.Seq.{take-at, drop-at}
 use lib.IntN.{ℤ, pos, natAbs}
-use lib.Signed.{leZ}
 use borrow.Author.Tests.{le-leb, eq-eqb}
-use Rattle.forms.specs.Edition.{Edition, edition1, editionNumbered}
+use Rattle.forms.specs.Edition.{edition1, editionNumbered}
 use Rattle.forms.specs.Forms.{Kind, ≤0, =0, Form, Formula, literal, _divides_, _and_, _or_}
 use Rattle.fields.specs.declared.FileKind.{FileKind}
-use Rattle.fields.specs.Answers.{answer, fileProof, Result, refused, accepted, _>>=_, _>>_, need, found}
+use Rattle.fields.specs.Answers.{answer, fileProof, Result, accepted, _>>_, need}
 use Rattle.fields.specs.Numbers.{unsignedBytes, signed, signedBytes, formFrom, formBytes, formWidth}
-use Rattle.fields.specs.Fields.{Field, Fields, ends, cut, _▸_, note, fields, fieldsFrom, fieldBytes}
-use Rattle.fields.specs.Header.{Header, agrees, known, headerTag, header, headerField, finished, headerBytes}
+use Rattle.fields.specs.Fields.{Field, Fields, ends, _▸_, note, fields, fieldsFrom, fieldBytes}
+use Rattle.fields.specs.Header.{agrees, known, headerTag, header, headerField, finished, headerBytes}
 use Rattle.fields.proofs.Signed.{InWidth, FormInWidth, length-signedBytes, signed-signedBytes, length-formBytes, formFrom-written}
 use Rattle.formula.specs.Formula.{encode, formulaFile, Connective, disjunction, conjunction, Tagged, pair, atom, stride, formulaTagged, joined, sizeOf, formulaOf, formulaField, twoParts, formulaWithin, readFormula}
 use Rattle.formula.proofs.Fronts.{pass, done, got, bind, fields-field, fields-end, fuel-enough}

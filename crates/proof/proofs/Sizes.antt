@@ -1,25 +1,23 @@
 -- What three files certify can be written: every number fits its bytes, the levels and the length stay within limits, and the file reads back. Assumes nothing.
 use mathlib.Core.Path.{_≡_, refl, sym, _∙_, ap, subst}
 use mathlib.Core.Bool.{Bool, true, false, cond, _&&_}
-use mathlib.Core.Option.{some}
-use mathlib.Core.List.{List, [], _∷_, _++_, map}
-use Prim.Native.Nat.{ℕ, zero, suc, max, _+_, _*_, _^_, _<_, _≤_}
+use mathlib.Core.List.{List, [], _∷_, map}
+use Prim.Native.Nat.{ℕ, suc, _+_, _*_, _^_, _<_, _≤_}
 use native.Mathlib.Nat.{pow-le-pow-right}
 use native.Mathlib.Omega.{arith}
-use lib.Dec.{T, leb, leb→le}
-use lib.ListN.{length, take, drop, length-map, length-append, length-take}
-use lib.IntN.{ℤ, pos, negsuc, natAbs, _+ℤ_, _*ℤ_, zero-*ℤ}
-use Rattle.integers.specs.Linear.{pp, np}
+use lib.Dec.{T, leb→le}
+use lib.ListN.{length, take, drop, length-map, length-take}
+use lib.IntN.{ℤ, pos, negsuc, natAbs, _*ℤ_, zero-*ℤ}
 use Rattle.forms.specs.Edition.{Edition, edition1}
-use Rattle.forms.specs.Forms.{Form, Kind, ≤0, =0, Constraint, Line, line, lineA, lineB, lines, All, nil, cons, sums, _⊞_, _·_, _plus_, only, within, rest, Formula, literal, _divides_, _and_, _or_}
-use Rattle.calculus.specs.Rules.{_▷_, Row, CloseStride, Derive, Strengthen, CloseNumber, Entry, row, claim, small, every, inRange, Room, New, combine, reduce, scale, Closed, derive, strengthen, number, stride, claims, entries, rowCount, depth, Proves}
+use Rattle.forms.specs.Forms.{Form, ≤0, Constraint, Line, line, lineA, lineB, lines, All, nil, cons, sums, _⊞_, _·_, _plus_, only, within, rest, Formula, literal, _divides_, _and_, _or_}
+use Rattle.calculus.specs.Rules.{Row, CloseStride, Derive, Strengthen, CloseNumber, Entry, row, claim, small, every, inRange, New, combine, reduce, scale, Closed, derive, strengthen, number, stride, claims, entries, rowCount, depth, Proves}
 use Rattle.calculus.proofs.Sides.{all-nth, all-and, all-map, all-append}
 use Rattle.fields.specs.Answers.{accepted}
-use Rattle.fields.specs.Numbers.{unsigned, signed, formFrom, formBytes, signedBytes}
-use Rattle.fields.specs.Fields.{Item, item, fields, items, fieldBytes}
-use Rattle.fields.proofs.Signed.{Bytes, InWidth, FormInWidth, all-take, all-drop, unsigned-below, formFrom-in}
+use Rattle.fields.specs.Numbers.{unsigned}
+use Rattle.fields.specs.Fields.{Item, fields}
+use Rattle.fields.proofs.Signed.{Bytes, InWidth, FormInWidth, all-weaken, all-take, all-drop, unsigned-below, formFrom-in}
 use Rattle.fields.proofs.Contents.{ItemBytes, contents-bytes}
-use Rattle.bundle.specs.Layout.{Each, States, StatesAll, BundleFile}
+use Rattle.bundle.specs.Layout.{Each, States, BundleFile}
 use Rattle.formula.specs.Formula.{encode, formulaFile, readFormula}
 use Rattle.formula.proofs.RoundTrip.{Encodable, height, leaves, read-written, length-encode, length-formulaFile}
 use Rattle.proof.specs.Entries.{Tagged, combineTag, reduceTag, scaleTag, strengthenTag, numberTag, strideTag, claimTag, entryFrom, multiplier}
@@ -148,13 +146,13 @@ module _ (K : ℕ) where
 
 -- ---- the strides
 -- The row of a close by stride gives g two bytes.
-abbrev RowShort : Row → Type 0
+abbrev pub RowShort : Row → Type 0
 RowShort (Derive s) = Unit {0}
 RowShort (Strengthen t) = Unit {0}
 RowShort (CloseNumber t) = Unit {0}
 RowShort (CloseStride t g) = g < 65536
 
-abbrev Short : Entry → Type 0
+abbrev pub Short : Entry → Type 0
 Short (row r) = RowShort r
 Short (claim t tA) = Unit {0}
 
@@ -185,33 +183,24 @@ closed-short (number i _ _ _) es h = (tt, all-tail h)
 closed-short (stride i g _ _ _ _) es h = (all-head h, all-tail h)
 
 -- ---- what fits can be written
-in-four : (z : ℤ) → natAbs z ≤ 2147483647 → InWidth 4 z
+-- The range is that of four bytes, but for -2,147,483,648.
+in-four : (z : ℤ) → Within 2147483647 z → InWidth 4 z
 in-four (pos n) h = record { high = omega arith; low = omega arith }
 in-four (negsuc n) h = record { high = omega arith; low = omega arith }
 
--- Two bytes are within the range.
-in-two : {z : ℤ} → InWidth 2 z → Within 2147483647 z
-in-two {z = pos n} h = record { abs = omega arith }
-in-two {z = negsuc n} h = record { abs = omega arith }
-
-all-in-two : {zs : List ℤ} → All (InWidth 2) zs → All (Within 2147483647) zs
-all-in-two nil = nil
-all-in-two (cons h hs) = cons (in-two h) (all-in-two hs)
-
-two-fit : {K : ℕ} {cs : List Constraint} → All (λ c. FormInWidth 2 K (c .form)) cs → All (λ c. Fit K (c .form)) cs
-two-fit nil = nil
-two-fit (cons h hs) = cons (record { sized = record { size = h .size }; ranged = record { coeffs = all-in-two (h .coeffs); d = in-two (h .d) } }) (two-fit hs)
-
-all-in-four : {zs : List ℤ} → All (Within 2147483647) zs → All (InWidth 4) zs
-all-in-four nil = nil
-all-in-four (cons {x = z} h hs) = cons (in-four z (h .abs)) (all-in-four hs)
+in-two : (z : ℤ) → InWidth 2 z → Within 2147483647 z
+in-two (pos n) h = record { abs = omega arith }
+in-two (negsuc n) h = record { abs = omega arith }
 
 fit-in-four : {K : ℕ} {t : Form} → Fit K t → FormInWidth 4 K t
-fit-in-four {t = t} h = record { size = h .sized .size; coeffs = all-in-four (h .ranged .coeffs); d = in-four (t .d) (h .ranged .d .abs) }
+fit-in-four {t = t} h = record { size = h .sized .size; coeffs = all-weaken in-four (h .ranged .coeffs); d = in-four (t .d) (h .ranged .d) }
+
+two-fit : {K : ℕ} {t : Form} → FormInWidth 2 K t → Fit K t
+two-fit {t = t} h = record { sized = record { size = h .size }; ranged = record { coeffs = all-weaken in-two (h .coeffs); d = in-two (t .d) (h .d) } }
 
 encodable : (K : ℕ) (I : Formula) → FitFormula K I → ShortFormula I → Encodable K I
 encodable K (literal k t) h s = fit-in-four h
-encodable K (g divides t) h s = (h .0, in-four (pos g) (omega arith), fit-in-four (h .1))
+encodable K (g divides t) h s = (h .0, in-four (pos g) (record { abs = omega arith }), fit-in-four (h .1))
 encodable K (I and J) h s = (encodable K I (h .0) (s .0), encodable K J (h .1) (s .1))
 encodable K (I or J) h s = (encodable K I (h .0) (s .0), encodable K J (h .1) (s .1))
 
@@ -230,22 +219,21 @@ closed-leaves (number i _ _ _) = omega arith
 closed-leaves (stride i g _ _ _ _) = omega arith
 
 -- ---- a closed proof
--- The numbers of a and b have two bytes each, and the strides of the entries too.
-module _ (K : ℕ) {a b : List Constraint} {es : List Entry} {I : Formula} (p : Proves edition1 a b es I)
-    (inA : All (λ c. FormInWidth 2 K (c .form)) a) (inB : All (λ c. FormInWidth 2 K (c .form)) b) (short : All Short es) where
-  pub proves-encodable : Encodable K I
-  proves-encodable = encodable K I (closed-fit K (p .proof) (initial-fit K (two-fit inA) (two-fit inB))) (closed-short (p .proof) [] (rw (p .are) short) .0)
+-- Every form has K coefficients, and every number two bytes.
+abbrev pub Stated : ℕ → List Constraint → Type 0
+Stated K cs = All (λ c. FormInWidth 2 K (c .form)) cs
 
-  pub proves-height : height I ≤ 64
-  proves-height = omega (arith, closed-height (p .proof), p .opened)
+pub proves-height : {a b : List Constraint} {es : List Entry} {I : Formula} → Proves edition1 a b es I → height I ≤ 64
+proves-height p = omega (arith, closed-height (p .proof), p .opened)
+
+module _ (K : ℕ) {a b : List Constraint} {es : List Entry} {I : Formula} (p : Proves edition1 a b es I) (inA : Stated K a) (inB : Stated K b) (short : All Short es) where
+  pub proves-encodable : Encodable K I
+  proves-encodable = encodable K I (closed-fit K (p .proof) (initial-fit K (all-weaken (λ _. two-fit) inA) (all-weaken (λ _. two-fit) inB))) (closed-short (p .proof) [] (rw (p .are) short) .0)
 
   pub proves-length : K ≤ 16 → length (encode edition1 I) ≤ 52 * rowCount (p .proof) + 23
   proves-length k = omega (arith, closed-leaves (p .proof), length-encode K k I proves-encodable)
 
 -- ---- from the files
-abbrev Stated : ℕ → List Constraint → Type 0
-Stated K cs = All (λ c. FormInWidth 2 K (c .form)) cs
-
 states-in : (K : ℕ) {is : List Item} {cs : List Constraint} → All ItemBytes is → Each (States edition1 K) is cs → Stated K cs
 states-in K h Each.nil = nil
 states-in K (cons {x = i} h hs) (Each.cons s ss) = cons (subst (FormInWidth 2 K) (s .form) (formFrom-in 2 K (i .contents) (s .size) (h .bytes))) (states-in K hs ss)
@@ -289,6 +277,6 @@ written-reads-back A B P {K} {I} hA hB hP c =
     let low = c .fileProof .low in
     let high = c .fileProof .high in
     let rows = c .proves .rows in (
-      read-written K I low high (proves-encodable K (c .proves) inA inB short) (proves-height K (c .proves) inA inB short),
+      read-written K I low high (proves-encodable K (c .proves) inA inB short) (proves-height (c .proves)),
       omega (arith, length-formulaFile K I, proves-length K (c .proves) inA inB short high),
     )
