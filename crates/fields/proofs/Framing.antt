@@ -12,7 +12,7 @@ use borrow.Author.Tests.{le-leb}
 use Rattle.forms.specs.Forms.{All, nil, cons}
 use Rattle.fields.specs.Numbers.{unsigned, unsignedBytes}
 use Rattle.fields.specs.Fields.{Field, Front, whole, broken, nothing, front, Fields, ends, cut, note, unlessNote, fieldsFrom, fields, fieldBytes, Item, item, items, Framed, fileOf, unlessNoteItem, withoutNotes}
-use Rattle.fields.proofs.NumberLaws.{unsigned-unsignedBytes}
+use Rattle.fields.proofs.Signed.{unsigned-unsignedBytes}
 
 -- ---- what a list of bytes begins with
 -- What follows three header bytes, where the length stated is n.

@@ -1,2 +1,4 @@
--- Reading and testing a formula, places apart.
+-- A formula's file reads back, and notes change nothing of it.
+mod Fronts
+pub mod RoundTrip
 pub mod Notes

@@ -1,0 +1,282 @@
+-- What three files certify can be written: every number fits its bytes, the levels and the length stay within limits, and the file reads back. Assumes nothing.
+use mathlib.Core.Path.{_≡_, refl, sym, _∙_, ap, subst}
+use mathlib.Core.Bool.{Bool, true, false, cond, _&&_}
+use mathlib.Core.List.{List, [], _∷_, map}
+use Prim.Native.Nat.{ℕ, suc, _+_, _*_, _^_, _<_, _≤_}
+use native.Mathlib.Nat.{pow-le-pow-right}
+use native.Mathlib.Omega.{arith}
+use lib.Dec.{T, leb→le}
+use lib.ListN.{length, take, drop, length-map, length-take}
+use lib.IntN.{ℤ, pos, negsuc, natAbs, _*ℤ_, zero-*ℤ}
+use Rattle.forms.specs.Edition.{Edition, edition1}
+use Rattle.forms.specs.Forms.{Form, ≤0, Constraint, Line, line, lineA, lineB, lines, All, nil, cons, sums, _⊞_, _·_, _plus_, only, within, rest, Formula, literal, _divides_, _and_, _or_}
+use Rattle.calculus.specs.Rules.{Row, CloseStride, Derive, Strengthen, CloseNumber, Entry, row, claim, small, every, inRange, New, combine, reduce, scale, Closed, derive, strengthen, number, stride, claims, entries, rowCount, depth, Proves}
+use Rattle.calculus.proofs.Sides.{all-nth, all-and, all-map, all-append}
+use Rattle.fields.specs.Answers.{accepted}
+use Rattle.fields.specs.Numbers.{unsigned}
+use Rattle.fields.specs.Fields.{Item, fields}
+use Rattle.fields.proofs.Signed.{Bytes, InWidth, FormInWidth, all-weaken, all-take, all-drop, unsigned-below, formFrom-in}
+use Rattle.fields.proofs.Contents.{ItemBytes, contents-bytes}
+use Rattle.bundle.specs.Layout.{Each, States, BundleFile}
+use Rattle.formula.specs.Formula.{encode, formulaFile, readFormula}
+use Rattle.formula.proofs.RoundTrip.{Encodable, height, leaves, read-written, length-encode, length-formulaFile}
+use Rattle.proof.specs.Entries.{Tagged, combineTag, reduceTag, scaleTag, strengthenTag, numberTag, strideTag, claimTag, entryFrom, multiplier}
+use Rattle.proof.specs.Layout.{Enters, ProofFile, Certifies}
+
+-- ---- forms of K coefficients
+pub record Size (K : ℕ) (t : Form) : Type 0 where
+  pub size : length (t .coeffs) ≡ K
+
+length-sums : (a b : List ℤ) → length a ≡ length b → length (sums a b) ≡ length a
+unfolding sums
+length-sums [] b h = sym h
+length-sums (x ∷ a) [] h = refl
+length-sums (x ∷ a) (y ∷ b) h = ap suc (length-sums a b (omega arith))
+
+length-only : (p : ℕ → Bool) (a : List ℤ) → length (only p a) ≡ length a
+unfolding only
+length-only p [] = refl
+length-only p (x ∷ a) = ap suc (length-only (rest p) a)
+
+module _ {K : ℕ} where
+  size-sum : {s t : Form} → Size K s → Size K t → Size K (s ⊞ t)
+  unfolding _⊞_
+  size-sum {s} {t} h g = record { size = length-sums (s .coeffs) (t .coeffs) (h .size ∙ sym (g .size)) ∙ h .size }
+
+  size-times : (α : ℤ) {t : Form} → Size K t → Size K (α · t)
+  unfolding _·_
+  size-times α {t} h = record { size = length-map (t .coeffs) (λ (c : ℤ). α *ℤ c) ∙ h .size }
+
+  size-plus : (n : ℕ) {t : Form} → Size K t → Size K (t plus n)
+  unfolding _plus_
+  size-plus n h = record { size = h .size }
+
+  size-within : (p : ℕ → Bool) {t : Form} → Size K t → Size K (within p t)
+  unfolding within
+  size-within p {t} h = record { size = length-only p (t .coeffs) ∙ h .size }
+
+-- ---- forms of numbers within the edition's range
+pub record Within (range : ℕ) (z : ℤ) : Type 0 where
+  pub abs : natAbs z ≤ range
+
+pub record Ranged (range : ℕ) (t : Form) : Type 0 where
+  pub coeffs : All (Within range) (t .coeffs)
+  pub d : Within range (t .d)
+
+and-both : (a b : Bool) → T (a && b) → T a × T b
+and-both true b t = (tt, t)
+and-both false b t = absurd t
+
+module _ {range : ℕ} where
+  small-within : (z : ℤ) → T (small range z) → Within range z
+  unfolding small
+  small-within z t = record { abs = leb→le (natAbs z) range t }
+
+  every-within : (zs : List ℤ) → T (every (small range) zs) → All (Within range) zs
+  unfolding every
+  every-within [] t = nil
+  every-within (z ∷ zs) t = let b = and-both (small range z) (every (small range) zs) t in cons (small-within z (b .0)) (every-within zs (b .1))
+
+  tA-ranged : (l : Line) → T (inRange range l) → Ranged range (l .tA)
+  unfolding inRange
+  tA-ranged l t =
+      let last = and-both (every (small range) (l .t .coeffs) && small range (l .t .d) && every (small range) (l .tA .coeffs)) (small range (l .tA .d)) t in
+      let third = and-both (every (small range) (l .t .coeffs) && small range (l .t .d)) (every (small range) (l .tA .coeffs)) (last .0) in
+      record { coeffs = every-within (l .tA .coeffs) (third .1); d = small-within (l .tA .d) (last .1) }
+
+  zero-within : (z : ℤ) → Within range (pos 0 *ℤ z)
+  zero-within z = rw zero-*ℤ (record { abs = omega arith })
+
+  zeros-within : (zs : List ℤ) → All (Within range) (map (λ (c : ℤ). pos 0 *ℤ c) zs)
+  zeros-within [] = nil
+  zeros-within (z ∷ zs) = cons (zero-within z) (zeros-within zs)
+
+  zero-ranged : (t : Form) → Ranged range (pos 0 · t)
+  unfolding _·_
+  zero-ranged t = record { coeffs = zeros-within (t .coeffs); d = zero-within (t .d) }
+
+  cond-within : (b : Bool) (z : ℤ) → Within range z → Within range (cond b z (pos 0))
+  cond-within true z h = h
+  cond-within false z h = record { abs = omega arith }
+
+  only-within : (p : ℕ → Bool) {zs : List ℤ} → All (Within range) zs → All (Within range) (only p zs)
+  unfolding only
+  only-within p nil = nil
+  only-within p (cons {x = z} h hs) = cons (cond-within (p 0) z h) (only-within (rest p) hs)
+
+  within-ranged : (p : ℕ → Bool) {t : Form} → Ranged range t → Ranged range (within p t)
+  unfolding within
+  within-ranged p h = record { coeffs = only-within p (h .coeffs); d = h .d }
+
+-- ---- the partial interpolants of a branch
+-- A form of K coefficients whose numbers are within edition 1's range.
+pub record Fit (K : ℕ) (t : Form) : Type 0 where
+  pub sized : Size K t
+  pub ranged : Ranged 2147483647 t
+
+record FitLine (K : ℕ) (l : Line) : Type 0 where
+  fit : Fit K (l .tA)
+
+abbrev FitFormula : ℕ → Formula → Type 0
+FitFormula K (literal k t) = Fit K t
+FitFormula K (g divides t) = (2 ≤ g) × Fit K t
+FitFormula K (I and J) = FitFormula K I × FitFormula K J
+FitFormula K (I or J) = FitFormula K I × FitFormula K J
+
+module _ (K : ℕ) where
+  initial-fit : {a b : List Constraint} → All (λ c. Fit K (c .form)) a → All (λ c. Fit K (c .form)) b → All (FitLine K) (lines a b)
+  initial-fit a b = all-append
+      (all-map lineA (λ c h. record { fit = h }) a)
+      (all-map lineB (λ c h. record { fit = record { sized = size-times (pos 0) (h .sized); ranged = zero-ranged (c .form) } }) b)
+
+  new-sized : {ls : List Line} {l : Line} → All (FitLine K) ls → New ls l → Size K (l .tA)
+  new-sized h (combine i j α β p q _ _) = size-sum (size-times (pos α) ((all-nth i h p) .fit .sized)) (size-times (pos β) ((all-nth j h q) .fit .sized))
+  new-sized h (reduce i j α p q _) = size-sum ((all-nth i h p) .fit .sized) (size-times α ((all-nth j h q) .fit .sized))
+  new-sized h (scale i α p _) = size-times (pos α) ((all-nth i h p) .fit .sized)
+
+  closed-fit : {inB : ℕ → Bool} {ls : List Line} {I : Formula} → Closed edition1 inB ls I → All (FitLine K) ls → FitFormula K I
+  closed-fit (derive {l = l} _ n room c) h = closed-fit c (all-and h (record { fit = record { sized = new-sized h n; ranged = tA-ranged l (room .range) } }))
+  closed-fit (strengthen {t = t} {tA = tA} i p room c1 cE c0) h =
+      let own = (all-nth i h p) .fit in (
+        closed-fit c1 (all-and h (record { fit = record { sized = size-plus 1 (own .sized); ranged = tA-ranged (line ≤0 (t plus 1) (tA plus 1)) (room .range) } })),
+        (closed-fit cE (all-and h (record { fit = own })), closed-fit c0 (all-and h (record { fit = own }))),
+      )
+  closed-fit (number i p _ _) h = (all-nth i h p) .fit
+  closed-fit {inB} (stride i g p low _ _) h = let own = (all-nth i h p) .fit in (low, record { sized = size-within inB (own .sized); ranged = within-ranged inB (own .ranged) })
+
+-- ---- the strides
+-- The row of a close by stride gives g two bytes.
+abbrev pub RowShort : Row → Type 0
+RowShort (Derive s) = Unit {0}
+RowShort (Strengthen t) = Unit {0}
+RowShort (CloseNumber t) = Unit {0}
+RowShort (CloseStride t g) = g < 65536
+
+abbrev pub Short : Entry → Type 0
+Short (row r) = RowShort r
+Short (claim t tA) = Unit {0}
+
+abbrev ShortFormula : Formula → Type 0
+ShortFormula (literal k t) = Unit {0}
+ShortFormula (g divides t) = g < 65536
+ShortFormula (I and J) = ShortFormula I × ShortFormula J
+ShortFormula (I or J) = ShortFormula I × ShortFormula J
+
+all-head : {P : Entry → Type 0} {x : Entry} {xs : List Entry} → All P (x ∷ xs) → P x
+all-head (cons h hs) = h
+
+all-tail : {P : Entry → Type 0} {x : Entry} {xs : List Entry} → All P (x ∷ xs) → All P xs
+all-tail (cons h hs) = hs
+
+unclaimed : (claimed : Bool) (l : Line) (es : List Entry) → All Short (claims claimed l es) → All Short es
+unclaimed true l es h = all-tail h
+unclaimed false l es h = h
+
+closed-short : {e : Edition} {inB : ℕ → Bool} {ls : List Line} {I : Formula} (p : Closed e inB ls I) (es : List Entry) → All Short (entries p es) → ShortFormula I × All Short es
+closed-short (derive {l = l} claimed n _ p) es h = closed-short p es (unclaimed claimed l (entries p es) (all-tail h))
+closed-short (strengthen i _ _ p1 pE p0) es h =
+    let first = closed-short p1 (entries pE (entries p0 es)) (all-tail h) in
+    let second = closed-short pE (entries p0 es) (first .1) in
+    let third = closed-short p0 es (second .1) in
+    ((first .0, (second .0, third .0)), third .1)
+closed-short (number i _ _ _) es h = (tt, all-tail h)
+closed-short (stride i g _ _ _ _) es h = (all-head h, all-tail h)
+
+-- ---- what fits can be written
+-- The range is that of four bytes, but for -2,147,483,648.
+in-four : (z : ℤ) → Within 2147483647 z → InWidth 4 z
+in-four (pos n) h = record { high = omega arith; low = omega arith }
+in-four (negsuc n) h = record { high = omega arith; low = omega arith }
+
+in-two : (z : ℤ) → InWidth 2 z → Within 2147483647 z
+in-two (pos n) h = record { abs = omega arith }
+in-two (negsuc n) h = record { abs = omega arith }
+
+fit-in-four : {K : ℕ} {t : Form} → Fit K t → FormInWidth 4 K t
+fit-in-four {t = t} h = record { size = h .sized .size; coeffs = all-weaken in-four (h .ranged .coeffs); d = in-four (t .d) (h .ranged .d) }
+
+two-fit : {K : ℕ} {t : Form} → FormInWidth 2 K t → Fit K t
+two-fit {t = t} h = record { sized = record { size = h .size }; ranged = record { coeffs = all-weaken in-two (h .coeffs); d = in-two (t .d) (h .d) } }
+
+encodable : (K : ℕ) (I : Formula) → FitFormula K I → ShortFormula I → Encodable K I
+encodable K (literal k t) h s = fit-in-four h
+encodable K (g divides t) h s = (h .0, in-four (pos g) (record { abs = omega arith }), fit-in-four (h .1))
+encodable K (I and J) h s = (encodable K I (h .0) (s .0), encodable K J (h .1) (s .1))
+encodable K (I or J) h s = (encodable K I (h .0) (s .0), encodable K J (h .1) (s .1))
+
+-- ---- levels and length
+closed-height : {e : Edition} {inB : ℕ → Bool} {ls : List Line} {I : Formula} (p : Closed e inB ls I) → height I ≤ depth p + depth p
+closed-height (derive _ n _ p) = closed-height p
+closed-height (strengthen i _ _ p1 pE p0) = omega (arith, closed-height p1, closed-height pE, closed-height p0)
+closed-height (number i _ _ _) = omega arith
+closed-height (stride i g _ _ _ _) = omega arith
+
+-- A strengthen is one row and adds two leaves to those of a branch.
+closed-leaves : {e : Edition} {inB : ℕ → Bool} {ls : List Line} {I : Formula} (p : Closed e inB ls I) → 3 * leaves I ≤ 2 * rowCount p + 1
+closed-leaves (derive _ n _ p) = omega (arith, closed-leaves p)
+closed-leaves (strengthen i _ _ p1 pE p0) = omega (arith, closed-leaves p1, closed-leaves pE, closed-leaves p0)
+closed-leaves (number i _ _ _) = omega arith
+closed-leaves (stride i g _ _ _ _) = omega arith
+
+-- ---- a closed proof
+-- Every form has K coefficients, and every number two bytes.
+abbrev pub Stated : ℕ → List Constraint → Type 0
+Stated K cs = All (λ c. FormInWidth 2 K (c .form)) cs
+
+pub proves-height : {a b : List Constraint} {es : List Entry} {I : Formula} → Proves edition1 a b es I → height I ≤ 64
+proves-height p = omega (arith, closed-height (p .proof), p .opened)
+
+module _ (K : ℕ) {a b : List Constraint} {es : List Entry} {I : Formula} (p : Proves edition1 a b es I) (inA : Stated K a) (inB : Stated K b) (short : All Short es) where
+  pub proves-encodable : Encodable K I
+  proves-encodable = encodable K I (closed-fit K (p .proof) (initial-fit K (all-weaken (λ _. two-fit) inA) (all-weaken (λ _. two-fit) inB))) (closed-short (p .proof) [] (rw (p .are) short) .0)
+
+  pub proves-length : K ≤ 16 → length (encode edition1 I) ≤ 52 * rowCount (p .proof) + 23
+  proves-length k = omega (arith, closed-leaves (p .proof), length-encode K k I proves-encodable)
+
+-- ---- from the files
+states-in : (K : ℕ) {is : List Item} {cs : List Constraint} → All ItemBytes is → Each (States edition1 K) is cs → Stated K cs
+states-in K h Each.nil = nil
+states-in K (cons {x = i} h hs) (Each.cons s ss) = cons (subst (FormInWidth 2 K) (s .form) (formFrom-in 2 K (i .contents) (s .size) (h .bytes))) (states-in K hs ss)
+
+bundle-in : {file : List ℕ} {K : ℕ} {cs : List Constraint} → Bytes file → BundleFile file K cs → Stated K cs
+bundle-in {file} {K} h f = states-in K (all-drop 2 (rw (f .laid .are) at (contents-bytes file h (f .whole)))) (f .laid .states)
+
+-- g is read from two bytes.
+two-bytes : (bs : List ℕ) → Bytes bs → unsigned (multiplier edition1 1 0 bs) < 65536
+unfolding multiplier
+two-bytes bs h =
+    let own = take 2 (drop 1 bs) in
+    let few : length own ≤ 2 = rw length-take (omega arith) in
+    let most : 256 ^ length own ≤ 256 ^ 2 = pow-le-pow-right (omega arith) few in
+    omega (arith, unsigned-below own (all-take 2 (all-drop 1 h)))
+
+entry-short : (K : ℕ) (tagged : Tagged) (bs : List ℕ) → Bytes bs → Short (entryFrom edition1 K tagged bs)
+unfolding entryFrom
+entry-short K combineTag bs h = tt
+entry-short K reduceTag bs h = tt
+entry-short K scaleTag bs h = tt
+entry-short K strengthenTag bs h = tt
+entry-short K numberTag bs h = tt
+entry-short K strideTag bs h = two-bytes bs h
+entry-short K claimTag bs h = tt
+
+enters-short : (K : ℕ) {is : List Item} {es : List Entry} → All ItemBytes is → Each (Enters edition1 K) is es → All Short es
+enters-short K h Each.nil = nil
+enters-short K (cons {x = i} h hs) (Each.cons s ss) = cons (subst Short (s .entry) (entry-short K (s .tagged) (i .contents) (h .bytes))) (enters-short K hs ss)
+
+proof-short : {file : List ℕ} {K : ℕ} {es : List Entry} → Bytes file → ProofFile file K es → All Short es
+proof-short {file} {K} h f = enters-short K (all-drop 2 (contents-bytes file h (f .whole))) (f .enters)
+
+-- What three files certify is written as a file that reads back, and is not too long.
+pub written-reads-back : (A B P : List ℕ) {K : ℕ} {I : Formula} → All (λ x. x < 256) A → All (λ x. x < 256) B → All (λ x. x < 256) P → Certifies A B P K I
+    → (readFormula K (fields (formulaFile edition1 K I)) ≡ accepted I) × (length (formulaFile edition1 K I) ≤ edition1 .formulaBytes)
+written-reads-back A B P {K} {I} hA hB hP c =
+    let inA = bundle-in hA (c .fileA) in
+    let inB = bundle-in hB (c .fileB) in
+    let short = proof-short hP (c .fileProof) in
+    let low = c .fileProof .low in
+    let high = c .fileProof .high in
+    let rows = c .proves .rows in (
+      read-written K I low high (proves-encodable K (c .proves) inA inB short) (proves-height (c .proves)),
+      omega (arith, length-formulaFile K I, proves-length K (c .proves) inA inB short high),
+    )
