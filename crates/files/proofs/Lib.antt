@@ -1,0 +1,2 @@
+-- Laws of text in a lent buffer.
+pub mod Texts
