@@ -2,3 +2,5 @@
 pub mod Laid
 pub mod Bare
 pub mod Notes
+pub mod Writing
+pub mod RoundTrips
