@@ -2,10 +2,10 @@
 use mathlib.Core.Path.{_≡_, refl, sym, _∙_, ap, ap₂, subst}
 use mathlib.Core.Option.{none, some}
 use mathlib.Core.Bool.{Bool, true, false, _&&_}
-use mathlib.Core.List.{List, [], _∷_, _++_, map}
+use mathlib.Core.List.{List, [], _∷_, map}
 use Prim.Native.Nat.{ℕ, suc, _*_, _≤_}
 use native.Mathlib.Omega.{arith}
-use lib.Dec.{T, leb, leb→le, le→leb}
+use lib.Dec.{leb}
 use lib.IntN.{ℤ}
 use lib.ListN.{length, take, drop}
 use lib.Seq.{take-at}
@@ -13,19 +13,20 @@ use borrow.Author.Tests.{le-leb}
 use Rattle.forms.specs.Edition.{edition1}
 use Rattle.forms.specs.Forms.{Constraint, All, nil, cons}
 use Rattle.fields.specs.declared.Answer.{Answer}
-use Rattle.fields.specs.Answers.{answer, acceptance, fileA, Result, refused, accepted, _>>_, Written, over, fit, written}
+use Rattle.fields.specs.Answers.{answer, acceptance, fileA, Result, refused, accepted, Written, over, fit, written}
 use Rattle.fields.specs.Fields.{Item, item, fields, items, Framed, fileOf, withoutNotes, unlessNoteItem, note}
 use Rattle.fields.specs.Header.{agrees}
 use Rattle.fields.proofs.Results.{Gives, weaken, seq, not-0, passes}
 use Rattle.fields.proofs.Signed.{Bytes, InWidth}
 use Rattle.fields.proofs.Framing.{items-fileOf}
-use Rattle.fields.proofs.Contents.{ItemBytes, contents-bytes}
-use Rattle.bundle.specs.Bundle.{Bundle, atMost, bundle}
+use Rattle.fields.proofs.Contents.{ItemBytes}
+use Rattle.bundle.specs.Bundle.{Bundle}
 use Rattle.bundle.specs.Layout.{StatesAll, BundleFile}
 use Rattle.bundle.specs.Read.{kindsOf, numbersOf, BundleRead, unread, store, stored, readBundle}
-use Rattle.bundle.specs.Write.{bundleBytes, writeBundle}
+use Rattle.bundle.specs.Write.{writeBundle}
 use Rattle.bundle.proofs.Laid.{bundle-gives, bundle-accepts, short-gives, short-accepted, laid-file, file-laid}
-use Rattle.bundle.proofs.Writing.{Writable, bytesOf, bundleBytes-gives, bundleBytes-accepted, FormsInWidth, Given, constraints-given, constraintItem, bundleItems, bytesOf-file, bundle-framed, bundle-states, bundle-short, bundle-bare, length-kindsOf, kinds-binary, sized, length-numbersOf, restated}
+use Rattle.bundle.proofs.Whole.{FileOf, whole-file}
+use Rattle.bundle.proofs.Writing.{Writable, bytesOf, bundleBytes-gives, bundleBytes-accepted, FormsInWidth, Given, constraints-given, constraintItem, bundleItems, bytesOf-file, bundleItems-framed, constraintItems-state, bundleItems-short, bundleItems-bare, length-kindsOf, kinds-binary, sized, length-numbersOf, restated}
 
 -- ---- what an accepted writing leaves
 -- What writing these bytes leaves, if it is accepted.
@@ -96,41 +97,42 @@ unfolding over
 writtenAs-bytes bytes output = take-at bytes (drop (length bytes) output) (length bytes) refl
 
 -- The fields of constraints are a bundle's file.
-items-file : {K : ℕ} {cs : List Constraint} → 1 ≤ K → K ≤ 16 → length cs ≤ 32 → FormsInWidth 2 K cs → BundleFile (fileOf (bundleItems 2 K cs)) K cs
+items-file : {K : ℕ} {cs : List Constraint} → 1 ≤ K → K ≤ edition1 .constants → length cs ≤ edition1 .constraints → FormsInWidth 2 K cs → BundleFile (fileOf (bundleItems 2 K cs)) K cs
 items-file {K} {cs} low high few t = record {
-  short = bundle-short high t few;
+  short = bundleItems-short high t few;
   list = bundleItems 2 K cs;
-  whole = items-fileOf (bundleItems 2 K cs) (bundle-framed high t) ∙ ap some (bundle-bare 2 K cs);
-  laid = record { body = map (constraintItem 2) cs; are = refl; low = low; high = high; states = bundle-states t };
+  whole = items-fileOf (bundleItems 2 K cs) (bundleItems-framed high t) ∙ ap some (bundleItems-bare 2 K cs);
+  laid = record { body = map (constraintItem 2) cs; are = refl; low = low; high = high; states = constraintItems-state t };
   few = few;
 }
 
 -- What can be written, its numbers within two bytes, is a bundle's file.
 writable-file : (K : ℕ) (kinds : List ℕ) (numbers : List ℤ) → Writable K kinds numbers → (g : Given 2 K kinds numbers) → BundleFile (bytesOf K kinds numbers) K (g .constraints)
 writable-file K kinds numbers w g =
-    let few : length (g .constraints) ≤ 32 = omega (arith, length-kindsOf (g .constraints), ap length (g .kinds-are), w .few) in
+    let few : length (g .constraints) ≤ edition1 .constraints = omega (arith, length-kindsOf (g .constraints), ap length (g .kinds-are), w .few) in
     let same : fileOf (bundleItems 2 K (g .constraints)) ≡ bytesOf K kinds numbers = sym (bytesOf-file K (sized (g .widths))) ∙ ap₂ (bytesOf K) (g .kinds-are) (g .numbers-are) in
     subst (λ (bs : List ℕ). BundleFile bs K (g .constraints)) same (items-file (w .low) (w .high) few (g .widths))
 
-module _ (K : ℕ) (kinds : List ℕ) (numbers : List ℤ) (h : All (InWidth 2) numbers) where
-  bytes-read : Writable K kinds numbers → (kinds′ : List ℕ) (numbers′ : List ℤ) → length kinds ≤ length kinds′ → length numbers ≤ length numbers′
-      → readBundle kinds′ numbers′ (bytesOf K kinds numbers) ≡ readAs K kinds numbers kinds′ numbers′
-  bytes-read w kinds′ numbers′ l m =
-      let g = constraints-given 2 K numbers (w .binary) (w .size) h in
-      let b : Bundle = record { K = K; constraints = g .constraints } in
-      rw (g .kinds-are, g .numbers-are) at (read-file kinds′ numbers′ (bytesOf K kinds numbers) b (writable-file K kinds numbers w g) (rw (g .kinds-are) l) (rw (g .numbers-are) m))
+bytes-read : (K : ℕ) (kinds : List ℕ) (numbers : List ℤ) → All (InWidth 2) numbers → Writable K kinds numbers → (kinds′ : List ℕ) (numbers′ : List ℤ) → length kinds ≤ length kinds′ → length numbers ≤ length numbers′
+    → readBundle kinds′ numbers′ (bytesOf K kinds numbers) ≡ readAs K kinds numbers kinds′ numbers′
+bytes-read K kinds numbers h w kinds′ numbers′ l m =
+    let g = constraints-given 2 K numbers (w .binary) (w .size) h in
+    let b : Bundle = record { K = K; constraints = g .constraints } in
+    rw (g .kinds-are, g .numbers-are) at (read-file kinds′ numbers′ (bytesOf K kinds numbers) b (writable-file K kinds numbers w g) (rw (g .kinds-are) l) (rw (g .numbers-are) m))
 
-  -- Write then read is the same constraints: where the numbers fit their two bytes, what was written is read as the same K, kinds and numbers, into any outputs that are long enough.
-  pub write-then-read : (output : List ℕ) → writeBundle K kinds numbers output .answer ≡ acceptance
-      → (kinds′ : List ℕ) (numbers′ : List ℤ) → length kinds ≤ length kinds′ → length numbers ≤ length numbers′
-      → readBundle kinds′ numbers′ (bytesWritten (writeBundle K kinds numbers output)) ≡ readAs K kinds numbers kinds′ numbers′
-  unfolding writeBundle
-  write-then-read output a kinds′ numbers′ l m =
-      let (bytes, we, is) = written-accepted output _ (bundleBytes-gives K kinds numbers) a in
-      ap (λ (w : Written). readBundle kinds′ numbers′ (bytesWritten w)) is ∙ ap (readBundle kinds′ numbers′) (writtenAs-bytes bytes output ∙ we .1) ∙ bytes-read (we .0) kinds′ numbers′ l m
+-- Write then read is the same constraints: where the numbers fit their two bytes, what was written is read as the same K, kinds and numbers, into any outputs that are long enough.
+pub write-then-read : (K : ℕ) (kinds : List ℕ) (numbers : List ℤ) → All (InWidth 2) numbers → (output : List ℕ) → writeBundle K kinds numbers output .answer ≡ acceptance
+    → (kinds′ : List ℕ) (numbers′ : List ℤ) → length kinds ≤ length kinds′ → length numbers ≤ length numbers′
+    → readBundle kinds′ numbers′ (bytesWritten (writeBundle K kinds numbers output)) ≡ readAs K kinds numbers kinds′ numbers′
+unfolding writeBundle
+write-then-read K kinds numbers h output a kinds′ numbers′ l m =
+    let (bytes, w, is) = written-accepted output _ (bundleBytes-gives K kinds numbers) a in
+    ap (λ (w : Written). readBundle kinds′ numbers′ (bytesWritten w)) is
+    ∙ ap (readBundle kinds′ numbers′) (writtenAs-bytes bytes output ∙ w .1)
+    ∙ bytes-read K kinds numbers h (w .0) kinds′ numbers′ l m
 
 -- ---- read then write
--- What writing leaves of what was read: of K, and of the kinds and numbers without those behind the ones used.
+-- What was read is written: K, the kinds and the numbers, without the elements behind those used.
 abbrev pub rewritten : BundleRead → List ℕ → Written
 rewritten r output = writeBundle (r .K) (take (r .count) (r .kinds)) (take (r .count * suc (r .K)) (r .numbers)) output
 
@@ -141,7 +143,7 @@ unfolding over
 used K kinds numbers kinds′ numbers′ output w = ap₂ (λ (ks : List ℕ) (zs : List ℤ). writeBundle K ks zs output) (take-at kinds _ (length kinds) refl) (take-at numbers _ (length kinds * suc K) (w .size))
 
 -- The constraints of a file can be written.
-writable : {K : ℕ} {cs : List Constraint} → 1 ≤ K → K ≤ 16 → length cs ≤ 32 → FormsInWidth 2 K cs → Writable K (kindsOf cs) (numbersOf cs)
+writable : {K : ℕ} {cs : List Constraint} → 1 ≤ K → K ≤ edition1 .constants → length cs ≤ edition1 .constraints → FormsInWidth 2 K cs → Writable K (kindsOf cs) (numbersOf cs)
 writable {K} {cs} low high few t = record {
   low = low;
   high = high;
@@ -151,7 +153,7 @@ writable {K} {cs} low high few t = record {
 }
 
 -- The bundle that fields state is written again as these fields, if their contents are bytes.
-list-rewritten : {K : ℕ} {list : List Item} {cs : List Constraint} → All ItemBytes list → StatesAll list K cs → length cs ≤ 32 → (kinds : List ℕ) (numbers : List ℤ) (output : List ℕ)
+list-rewritten : {K : ℕ} {list : List Item} {cs : List Constraint} → All ItemBytes list → StatesAll list K cs → length cs ≤ edition1 .constraints → (kinds : List ℕ) (numbers : List ℤ) (output : List ℕ)
     → length (fileOf list) ≤ length output → rewritten (readAs K (kindsOf cs) (numbersOf cs) kinds numbers) output ≡ writtenAs (fileOf list) output
 unfolding writeBundle
 list-rewritten {K} {list} {cs} b l few kinds numbers output h =
@@ -187,3 +189,19 @@ pub read-then-write : (F : List Item) → All Framed F → All ItemBytes F → (
     → (output : List ℕ) → length (fileOf (withoutNotes F)) ≤ length output
     → rewritten (readBundle kinds numbers (fileOf F)) output ≡ writtenAs (fileOf (withoutNotes F)) output
 read-then-write F framed bytes kinds numbers a output h = file-rewritten kinds numbers (fileOf F) a (withoutNotes F) (items-fileOf F framed) (bytes-bare bytes) output h
+
+-- The same of a file given as bytes: it is the file of some list of framed fields, and is written again as the file of these without notes.
+pub record Rewritten (kinds : List ℕ) (numbers : List ℤ) (file : List ℕ) : Type 0 where
+  pub of : FileOf file
+  pub rewrites : (output : List ℕ) → length (fileOf (withoutNotes (of .list))) ≤ length output
+      → rewritten (readBundle kinds numbers file) output ≡ writtenAs (fileOf (withoutNotes (of .list))) output
+
+pub read-then-write-bytes : (file : List ℕ) → Bytes file → (kinds : List ℕ) (numbers : List ℤ) → readBundle kinds numbers file .answer ≡ acceptance → Rewritten kinds numbers file
+read-then-write-bytes file k kinds numbers a =
+    let (b, f, is) = read-accepted kinds numbers file a in
+    let o = whole-file file k (f .list) (f .whole) in
+    let accepts : readBundle kinds numbers (fileOf (o .list)) .answer ≡ acceptance = rw (← o .are) a in
+    record {
+      of = o;
+      rewrites = λ output h. ap (λ (bs : List ℕ). rewritten (readBundle kinds numbers bs) output) (o .are) ∙ read-then-write (o .list) (o .framed) (o .bytes) kinds numbers accepts output h;
+    }

@@ -1,7 +1,7 @@
 -- Writing a bundle is accepted just where its parts are in order, and what it writes are the fields of its constraints. Assumes nothing.
 use mathlib.Core.Path.{_≡_, refl, sym, _∙_, ap, ap₂, subst}
 use mathlib.Core.Option.{Option, none, some}
-use mathlib.Core.Bool.{Bool, true, false, _&&_}
+use mathlib.Core.Bool.{Bool, true, false}
 use mathlib.Core.List.{List, [], _∷_, _++_, map, append-assoc}
 use Prim.Native.Nat.{ℕ, zero, suc, _+_, _*_, _≤_, _<_}
 use native.Mathlib.Numerals.{add-one}
@@ -15,11 +15,11 @@ use mir.Facts.{and-yes, yes-and}
 use Rattle.forms.specs.Edition.{Edition, edition1}
 use Rattle.forms.specs.Forms.{Form, Kind, ≤0, =0, Constraint, All, nil, cons}
 use Rattle.fields.specs.declared.Answer.{Answer}
-use Rattle.fields.specs.Answers.{accepted, Result, each, _>>_}
-use Rattle.fields.specs.Numbers.{unsignedBytes, signedsBytes, flat, formFrom, formBytes, formWidth}
+use Rattle.fields.specs.Answers.{accepted, each}
+use Rattle.fields.specs.Numbers.{unsignedBytes, signedsBytes, flat, formBytes}
 use Rattle.fields.specs.Fields.{Item, item, fieldBytes, fileOf, Framed, note, withoutNotes, unlessNoteItem}
 use Rattle.fields.specs.Header.{headerBytes}
-use Rattle.fields.proofs.Results.{Gives, refuses, accepts, test, seq, given, needs, passes}
+use Rattle.fields.proofs.Results.{Gives, accepts, test, seq, given, needs, passes}
 use Rattle.fields.proofs.Signed.{InWidth, all-take, all-drop, FormInWidth, length-formBytes, formFrom-written, all-weaken, formBytes-formFrom, formFrom-in}
 use Rattle.fields.proofs.Contents.{ItemBytes}
 use Rattle.bundle.specs.Bundle.{kindTagged}
@@ -29,6 +29,7 @@ use Rattle.bundle.specs.Write.{constraintsBytes, bundleBytes}
 
 -- ---- when writing is accepted
 module _ {X : Type 0} (at : ℕ → Answer) (p : X → Bool) where
+  -- The steps of `each`, by the rules for results.
   pub each-gives : ((i : ℕ) → T (given (at i .number))) → (i : ℕ) (xs : List X) → Gives (each at p i xs) (λ _. All (λ x. T (p x)) xs)
   unfolding each
   each-gives t i [] = accepts nil
@@ -156,19 +157,19 @@ kind-no-note ≤0 = refl
 kind-no-note =0 = refl
 
 module _ {K : ℕ} where
-  framed-constraints : K ≤ 16 → {cs : List Constraint} → FormsInWidth 2 K cs → All Framed (map (constraintItem 2) cs)
+  framed-constraints : K ≤ edition1 .constants → {cs : List Constraint} → FormsInWidth 2 K cs → All Framed (map (constraintItem 2) cs)
   framed-constraints h nil = nil
   framed-constraints h (cons {x = c} t ts) = cons {x = constraintItem 2 c} (record { framed = rw (length-formBytes 2 K (c .form) (t .size)) (omega arith) }) (framed-constraints h ts)
 
-  pub bundle-framed : K ≤ 16 → {cs : List Constraint} → FormsInWidth 2 K cs → All Framed (bundleItems 2 K cs)
-  bundle-framed h t = cons {x = item 0x01 (1 ∷ [])} (record { framed = omega arith }) (cons {x = item 0x02 (K ∷ [])} (record { framed = omega arith }) (framed-constraints h t))
+  pub bundleItems-framed : K ≤ edition1 .constants → {cs : List Constraint} → FormsInWidth 2 K cs → All Framed (bundleItems 2 K cs)
+  bundleItems-framed h t = cons {x = item 0x01 (1 ∷ [])} (record { framed = omega arith }) (cons {x = item 0x02 (K ∷ [])} (record { framed = omega arith }) (framed-constraints h t))
 
-  pub bundle-states : {cs : List Constraint} → FormsInWidth 2 K cs → Each (States edition1 K) (map (constraintItem 2) cs) cs
-  bundle-states nil = Each.nil
-  bundle-states (cons {x = c} t ts) = Each.cons (record { kind = kind-tagged (c .kind); size = length-formBytes 2 K (c .form) (t .size); form = formFrom-written 2 K t }) (bundle-states ts)
+  pub constraintItems-state : {cs : List Constraint} → FormsInWidth 2 K cs → Each (States edition1 K) (map (constraintItem 2) cs) cs
+  constraintItems-state nil = Each.nil
+  constraintItems-state (cons {x = c} t ts) = Each.cons (record { kind = kind-tagged (c .kind); size = length-formBytes 2 K (c .form) (t .size); form = formFrom-written 2 K t }) (constraintItems-state ts)
 
   -- At most 37 bytes a constraint.
-  constraints-short : K ≤ 16 → {cs : List Constraint} → FormsInWidth 2 K cs → length (fileOf (map (constraintItem 2) cs)) ≤ 37 * length cs
+  constraints-short : K ≤ edition1 .constants → {cs : List Constraint} → FormsInWidth 2 K cs → length (fileOf (map (constraintItem 2) cs)) ≤ 37 * length cs
   unfolding fileOf fieldBytes unsignedBytes
   constraints-short h nil = omega arith
   constraints-short h (cons {x = c} {xs = cs} t ts) =
@@ -176,18 +177,18 @@ module _ {K : ℕ} where
       let rest = constraints-short h ts in
       rw length-append (omega arith)
 
-  pub bundle-short : K ≤ 16 → {cs : List Constraint} → FormsInWidth 2 K cs → length cs ≤ 32 → length (fileOf (bundleItems 2 K cs)) ≤ 4_096
+  pub bundleItems-short : K ≤ edition1 .constants → {cs : List Constraint} → FormsInWidth 2 K cs → length cs ≤ edition1 .constraints → length (fileOf (bundleItems 2 K cs)) ≤ edition1 .bundleBytes
   unfolding fileOf fieldBytes unsignedBytes
-  bundle-short h {cs} t few = let rest = constraints-short h t in omega arith
+  bundleItems-short h {cs} t few = let rest = constraints-short h t in omega arith
 
 bare-constraints : (w : ℕ) (cs : List Constraint) → withoutNotes (map (constraintItem w) cs) ≡ map (constraintItem w) cs
 unfolding withoutNotes unlessNoteItem
 bare-constraints w [] = refl
 bare-constraints w (c ∷ cs) = rw (kind-no-note (c .kind)) (ap (λ (is : List Item). constraintItem w c ∷ is) (bare-constraints w cs))
 
-pub bundle-bare : (w K : ℕ) (cs : List Constraint) → withoutNotes (bundleItems w K cs) ≡ bundleItems w K cs
+pub bundleItems-bare : (w K : ℕ) (cs : List Constraint) → withoutNotes (bundleItems w K cs) ≡ bundleItems w K cs
 unfolding withoutNotes unlessNoteItem note
-bundle-bare w K cs = ap (λ (is : List Item). item 0x01 (1 ∷ []) ∷ item 0x02 (K ∷ []) ∷ is) (bare-constraints w cs)
+bundleItems-bare w K cs = ap (λ (is : List Item). item 0x01 (1 ∷ []) ∷ item 0x02 (K ∷ []) ∷ is) (bare-constraints w cs)
 
 -- ---- the other way: the kinds and numbers of constraints can be written, and fields that state constraints are those written
 pub length-kindsOf : (cs : List Constraint) → length (kindsOf cs) ≡ length cs
@@ -210,6 +211,7 @@ module _ {w K : ℕ} where
       let rest = length-numbersOf hs in
       length-append (flat (c .form)) (numbersOf cs) ∙ omega (arith, length-flat (c .form), h .size)
 
+-- The tag that gives a kind is the one written for it.
 tag-of : (tag : ℕ) (k : Kind) → kindTagged tag ≡ some k → tag ≡ 0x03 + kindNumber k
 unfolding kindTagged kindNumber
 tag-of tag k h = go (eqb tag 0x03) refl (eqb tag 0x04) refl h
@@ -219,11 +221,12 @@ tag-of tag k h = go (eqb tag 0x03) refl (eqb tag 0x04) refl h
     go false p true q h = eqb-true tag 0x04 q ∙ ap (λ (k : Kind). 0x03 + kindNumber k) (let same : =0 ≡ k = cc in same)
     go false p false q h = absurd (let z : _≡_ {A = ℕ} 0 1 = cc in omega arith)
 
--- Fields whose contents are bytes and that state constraints are the fields of these constraints.
+-- The fields of constraints, whose numbers have two bytes.
 pub record Restated (K : ℕ) (is : List Item) (cs : List Constraint) : Type 0 where
   pub are : is ≡ map (constraintItem 2) cs
   pub widths : FormsInWidth 2 K cs
 
+-- Fields that state constraints are the fields of these, if their contents are bytes.
 pub restated : {K : ℕ} {is : List Item} {cs : List Constraint} → All ItemBytes is → Each (States edition1 K) is cs → Restated K is cs
 restated h Each.nil = record { are = refl; widths = nil }
 restated {K} (cons {x = i} b bs) (Each.cons {y = c} s ss) =
