@@ -1,4 +1,7 @@
--- What is accepted as a bundle, and that notes change nothing of it.
+-- What is accepted as a bundle, that notes change nothing of it, and the round trips.
 pub mod Laid
 pub mod Bare
 pub mod Notes
+pub mod Writing
+pub mod Whole
+pub mod RoundTrips
