@@ -3,5 +3,4 @@ pub mod Laid
 pub mod Bare
 pub mod Notes
 pub mod Writing
-pub mod Whole
 pub mod RoundTrips

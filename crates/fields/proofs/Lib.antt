@@ -4,5 +4,6 @@ pub mod Notes
 pub mod Signed
 pub mod Contents
 pub mod Framing
+pub mod Whole
 pub mod HeaderLaid
 pub mod Bare
