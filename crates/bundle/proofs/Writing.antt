@@ -14,12 +14,11 @@ use borrow.Author.Tests.{eqb-true}
 use mir.Facts.{and-yes, yes-and}
 use Rattle.forms.specs.Edition.{Edition, edition1}
 use Rattle.forms.specs.Forms.{Form, Kind, ≤0, =0, Constraint, All, nil, cons}
-use Rattle.fields.specs.declared.Answer.{Answer}
-use Rattle.fields.specs.Answers.{accepted, each}
+use Rattle.fields.specs.Answers.{accepted}
 use Rattle.fields.specs.Numbers.{unsignedBytes, signedsBytes, flat, formBytes}
 use Rattle.fields.specs.Fields.{Item, item, fieldBytes, fileOf, Framed, note, withoutNotes, unlessNoteItem}
 use Rattle.fields.specs.Header.{headerBytes}
-use Rattle.fields.proofs.Results.{Gives, accepts, test, seq, given, needs, passes}
+use Rattle.fields.proofs.Results.{Gives, accepts, test, seq, needs, passes, each-gives, each-accepted}
 use Rattle.fields.proofs.Signed.{InWidth, all-take, all-drop, FormInWidth, length-formBytes, formFrom-written, all-weaken, formBytes-formFrom, formFrom-in}
 use Rattle.fields.proofs.Contents.{ItemBytes}
 use Rattle.bundle.specs.Bundle.{kindTagged}
@@ -28,21 +27,6 @@ use Rattle.bundle.specs.Read.{kindNumber, kindsOf, numbersOf}
 use Rattle.bundle.specs.Write.{constraintsBytes, bundleBytes}
 
 -- ---- when writing is accepted
-module _ {X : Type 0} (at : ℕ → Answer) (p : X → Bool) where
-  -- The steps of `each`, by the rules for results.
-  pub each-gives : ((i : ℕ) → T (given (at i .number))) → (i : ℕ) (xs : List X) → Gives (each at p i xs) (λ _. All (λ x. T (p x)) xs)
-  unfolding each
-  each-gives t i [] = accepts nil
-  each-gives t i (x ∷ xs) = test (at i) (p x) (t i) λ h. record {
-    gives = λ u e. cons h (each-gives t (suc i) xs .gives u e);
-    refusal = each-gives t (suc i) xs .refusal;
-  }
-
-  pub each-accepted : (i : ℕ) {xs : List X} → All (λ x. T (p x)) xs → each at p i xs ≡ accepted tt
-  unfolding each
-  each-accepted i nil = refl
-  each-accepted i (cons h hs) = needs _ _ _ h ∙ each-accepted (suc i) hs
-
 -- K is 1 to 16, there are at most 32 kinds, each is 0 or 1, and K+1 numbers for each.
 pub record Writable (K : ℕ) (kinds : List ℕ) (numbers : List ℤ) : Type 0 where
   pub low : 1 ≤ K

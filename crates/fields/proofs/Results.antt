@@ -1,12 +1,14 @@
 -- Rules to reason about a `do` block of results, one for each form of step, forwards and backwards. Assumes nothing.
-use mathlib.Core.Path.{_≡_, refl, sym, ap, subst}
+use mathlib.Core.Path.{_≡_, refl, sym, _∙_, ap, subst}
+use mathlib.Core.List.{List, [], _∷_}
 use mathlib.Core.Option.{Option, none, some}
 use mathlib.Core.Bool.{Bool, true, false, not, _&&_}
-use Prim.Native.Nat.{ℕ}
+use Prim.Native.Nat.{ℕ, suc}
 use native.Mathlib.Omega.{arith}
 use lib.Dec.{T, eqb}
+use Rattle.forms.specs.Forms.{All, nil, cons}
 use Rattle.fields.specs.declared.Answer.{Answer}
-use Rattle.fields.specs.Answers.{Result, refused, accepted, _>>=_, _>>_, need, found}
+use Rattle.fields.specs.Answers.{Result, refused, accepted, _>>=_, _>>_, need, found, each}
 
 -- ---- forwards: if r is accepted, P holds of its value; if it is refused, then by a number that can come
 -- A refusal's number is not that of acceptance, and 22 never comes.
@@ -94,3 +96,18 @@ needs a b r t = passes r (need-yes a b t)
 pub found-some : {X : Type 0} (a : Answer) {o : Option X} {x : X} → o ≡ some x → found a o ≡ accepted x
 unfolding found
 found-some a e = rw e
+
+-- ---- each element of a list passes a test
+module _ {X : Type 0} (at : ℕ → Answer) (p : X → Bool) where
+  pub each-gives : ((i : ℕ) → T (given (at i .number))) → (i : ℕ) (xs : List X) → Gives (each at p i xs) (λ _. All (λ x. T (p x)) xs)
+  unfolding each
+  each-gives t i [] = accepts nil
+  each-gives t i (x ∷ xs) = test (at i) (p x) (t i) λ h. record {
+    gives = λ u e. cons h (each-gives t (suc i) xs .gives u e);
+    refusal = each-gives t (suc i) xs .refusal;
+  }
+
+  pub each-accepted : (i : ℕ) {xs : List X} → All (λ x. T (p x)) xs → each at p i xs ≡ accepted tt
+  unfolding each
+  each-accepted i nil = refl
+  each-accepted i (cons h hs) = needs _ _ _ h ∙ each-accepted (suc i) hs
