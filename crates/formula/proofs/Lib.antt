@@ -2,3 +2,4 @@
 mod Fronts
 pub mod RoundTrip
 pub mod Notes
+pub mod Judge

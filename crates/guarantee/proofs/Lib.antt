@@ -1,3 +1,4 @@
 -- Proofs of what is promised of the operations together.
 pub mod Accepted
 pub mod Soundness
+pub mod Guard

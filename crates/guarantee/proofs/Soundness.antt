@@ -23,10 +23,17 @@ use Rattle.guarantee.proofs.Accepted.{Accepted, accepted-leaves}
 some-is : {X : Type 0} {x y : X} → some x ≡ some y → x ≡ y
 some-is e = cc
 
-stated : (F : List Item) → All Framed F → (M : Meaning) → Faithful M → (K : ℕ) (cs : List Constraint) → BundleFile (fileOf F) K cs → M F .1 ≡ cs
-stated F framed M faithful K cs b =
+meaning-is : (F : List Item) → All Framed F → (M : Meaning) → Faithful M → (K : ℕ) (cs : List Constraint) → BundleFile (fileOf F) K cs → M F ≡ (K, cs)
+meaning-is F framed M faithful K cs b =
     let e : withoutNotes F ≡ b .list = some-is (sym (items-fileOf F framed) ∙ b .whole) in
-    ap (λ (m : ℕ × List Constraint). m .1) (faithful F K cs (subst (λ (l : List Item). StatesAll l K cs) (sym e) (b .laid)))
+    faithful F K cs (subst (λ (l : List Item). StatesAll l K cs) (sym e) (b .laid))
+
+module _ (F : List Item) (framed : All Framed F) (M : Meaning) (faithful : Faithful M) (K : ℕ) (cs : List Constraint) (b : BundleFile (fileOf F) K cs) where
+  pub stated-K : M F .0 ≡ K
+  stated-K = ap (λ (m : ℕ × List Constraint). m .0) (meaning-is F framed M faithful K cs b)
+
+  stated : M F .1 ≡ cs
+  stated = ap (λ (m : ℕ × List Constraint). m .1) (meaning-is F framed M faithful K cs b)
 
 -- ---- claims stand only where they may
 claims-placed : {e : Edition} {inB : ℕ → Bool} {ls : List Line} {I : Formula} (p : Closed e inB ls I) (rest : List Entry) → Placed rest → Placed (entries p rest)
@@ -51,16 +58,21 @@ laid-proof {K = K} c = record {
   placed = subst Placed (c .proves .are) (claims-placed (c .proves .proof) [] none);
 }
 
-delivered : (FA FB : List Item) → All Framed FA → All Framed FB → (MA MB : Meaning) → Faithful MA → Faithful MB → (proof output : List ℕ) {left : Written}
-    → Accepted (fileOf FA) (fileOf FB) proof output left → Delivered FA FB MA MB proof output (left .output)
-delivered FA FB framedA framedB MA MB faithfulA faithfulB proof output a = record {
-  K = a .K;
-  formula = a .formula;
-  certified = a .certified;
-  fits = a .fits;
-  bytes = ap (λ (w : Written). w .output) (a .leaves);
-  interpolant = rw (stated FA framedA MA faithfulA (a .K) _ (a .certified .fileA), stated FB framedB MB faithfulB (a .K) _ (a .certified .fileB)) (certified-interpolant (a .certified));
-}
+module _ (FA FB : List Item) (framedA : All Framed FA) (framedB : All Framed FB) (MA MB : Meaning) (faithfulA : Faithful MA) (faithfulB : Faithful MB)
+    (proof output : List ℕ) {left : Written} (a : Accepted (fileOf FA) (fileOf FB) proof output left) where
+  pub interpolates : Interpolant (MA FA .1) (MB FB .1) (a .formula)
+  interpolates =
+      rw (stated FA framedA MA faithfulA (a .K) _ (a .certified .fileA), stated FB framedB MB faithfulB (a .K) _ (a .certified .fileB)) (certified-interpolant (a .certified))
+
+  delivered : Delivered FA FB MA MB proof output (left .output)
+  delivered = record {
+    K = a .K;
+    formula = a .formula;
+    certified = a .certified;
+    fits = a .fits;
+    bytes = ap (λ (w : Written). w .output) (a .leaves);
+    interpolant = interpolates;
+  }
 
 -- Demand 3.
 pub soundness : Soundness check

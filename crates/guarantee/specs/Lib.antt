@@ -1,2 +1,3 @@
 -- What is promised of the operations together.
 pub mod Soundness
+pub mod Guard
