@@ -1,0 +1,4 @@
+use Rattle.bundle.proofs.read.Statement.{statement}
+
+pub read-spec : {M : Type 1} → statement M
+read-spec = ?
