@@ -1,3 +1,4 @@
 -- Laws that belong to no one function.
 pub mod Scanning
 pub mod Storing
+pub mod Reading

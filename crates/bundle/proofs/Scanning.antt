@@ -142,15 +142,15 @@ module _ (file K : ℕ) where
       (no-kind (f .tag)) (kind-of (f .tag))
       (rw (constraints-counted (suc n) fs) (after f fs (counted K (suc n) fs)))
 
-passed-count : (x a m : ℕ) (c : Counted) → passed x a c ≡ Counted.Count m → c ≡ Counted.Count m
-passed-count zero a m c e = e
-passed-count (suc x) a m c e = absurd (let z : _≡_ {A = ℕ} 0 1 = cc in omega arith)
+pub passed-both : (x a m : ℕ) (c : Counted) → passed x a c ≡ Counted.Count m → (x ≡ 0) × (c ≡ Counted.Count m)
+passed-both zero a m c e = (refl, e)
+passed-both (suc x) a m c e = absurd (let z : _≡_ {A = ℕ} 0 1 = cc in omega arith)
 
 pub count-is : (K n m : ℕ) (fs : Fields) → counted K n fs ≡ Counted.Count m → m ≡ n + length (stated K fs)
 unfolding counted stated
 count-is K n m (ends at) e = let q : n ≡ m = cc in omega arith
 count-is K n m (cut at) e = absurd (let z : _≡_ {A = ℕ} 0 1 = cc in omega arith)
-count-is K n m (f ▸ fs) e = omega (arith, count-is K (suc n) m fs (passed-count (faultOf K n (f .tag) (length (f .contents))) (f .at) m (counted K (suc n) fs) e))
+count-is K n m (f ▸ fs) e = omega (arith, count-is K (suc n) m fs (passed-both (faultOf K n (f .tag) (length (f .contents))) (f .at) m (counted K (suc n) fs) e .1))
 
 -- ---- a whole bundle
 module _ {given : ℕ} {s : List ℕ} {r : Headed} (h : IsHeader FileKind.Bundle given s r) where

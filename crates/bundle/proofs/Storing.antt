@@ -23,7 +23,7 @@ use Rattle.bundle.specs.Scan.{pick, faultOf, passed, counted, stated}
 use Rattle.bundle.specs.Read.{kindNumber, kindsOf, numbersOf}
 use Rattle.bundle.specs.Store.{Storable}
 use Rattle.bundle.specs.declared.constraints.Counted.{Counted}
-use Rattle.bundle.proofs.Scanning.{Right, counted-on, count-is, right-of, tag-most}
+use Rattle.bundle.proofs.Scanning.{Right, counted-on, count-is, right-of, tag-most, passed-both}
 
 -- ---- numbers of some bytes each, over the width
 pub length-signeds : (w n : ℕ) (bs : List ℕ) → length (signeds w n bs) ≡ n
@@ -93,10 +93,6 @@ pub record Storing (s : List ℕ) (at K : ℕ) (kinds₀ : List ℕ) (numbers₀
 
 pub storing-start : {s : List ℕ} {at K : ℕ} {kinds : List ℕ} {numbers : List ℤ} → Storable K 0 (fieldsAt s at) kinds numbers → Storing s at K kinds numbers kinds numbers at 0
 storing-start {K} a = record { able = a; kinds-is = refl; numbers-is = rw (zero-mul (suc K)); kinds-long = refl; numbers-long = refl }
-
-passed-both : (x a m : ℕ) (c : Counted) → passed x a c ≡ Counted.Count m → (x ≡ 0) × (c ≡ Counted.Count m)
-passed-both zero a m c e = (refl, e)
-passed-both (suc x) a m c e = absurd (let z : _≡_ {A = ℕ} 0 1 = cc in omega arith)
 
 -- what a turn needs: the field is a constraint, and its kind and numbers have room
 pub record Room (s : List ℕ) (K n tag start len next : ℕ) (kinds : List ℕ) (numbers : List ℤ) : Type 0 where
