@@ -1,6 +1,8 @@
 -- Constraint bundles: reading, writing, showing a constraint.
 pub mod Bundle
 pub mod Layout
+pub mod Scan
 pub mod Read
+pub mod Store
 pub mod Write
 pub mod Show
