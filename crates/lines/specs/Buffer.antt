@@ -42,9 +42,13 @@ pub record Branch (K : ℕ) (buf : List ℤ) (n : ℕ) : Type 0 where
   pub room : 128 * size K ≤ length buf
   pub bounded : Bounded K buf n
 
+-- f times each number.
+abbrev pub times : ℤ → List ℤ → List ℤ
+times f l = map (λ (c : ℤ). f *ℤ c) l
+
 -- f times the w numbers at a and g times those at b, summed number by number.
 unfoldable pub mixed : (f : ℤ) (a : ℕ) (g : ℤ) (b w : ℕ) → List ℤ → List ℤ
-mixed f a g b w buf = sums (map (λ (c : ℤ). f *ℤ c) (part a w buf)) (map (λ (c : ℤ). g *ℤ c) (part b w buf))
+mixed f a g b w buf = sums (times f (part a w buf)) (times g (part b w buf))
 
 -- The buffer with f times line i and g times line j, summed, as line n.
 unfoldable pub mixedLine : (K : ℕ) (f : ℤ) (i : ℕ) (g : ℤ) (j n : ℕ) → List ℤ → List ℤ

@@ -2,3 +2,4 @@
 pub mod Parts
 pub mod Buffer
 pub mod Lines
+pub mod Mix
