@@ -53,3 +53,21 @@ mixed f a g b w buf = sums (times f (part a w buf)) (times g (part b w buf))
 -- The buffer with f times line i and g times line j, summed, as line n.
 unfoldable pub mixedLine : (K : ℕ) (f : ℤ) (i : ℕ) (g : ℤ) (j n : ℕ) → List ℤ → List ℤ
 mixedLine K f i g j n buf = paste buf (n * size K) (mixed f (i * size K) g (j * size K) (size K) buf) (size K)
+
+-- What a sum of multiples asks: the w numbers at a and at b lie before the w numbers at d, the numbers before d are within the range, and the factors are small.
+pub record Terms (buf : List ℤ) (f : ℤ) (a : ℕ) (g : ℤ) (b d w : ℕ) : Type 0 where
+  pub first : a + w ≤ d
+  pub second : b + w ≤ d
+  pub third : d + w ≤ length buf
+  pub small : (x : ℕ) → x < d → Within 2147483647 (getD buf x (pos 0))
+  pub f-in : Within 65535 f
+  pub g-in : Within 65535 g
+
+-- Lines i and j of a branch of n lines that has room for one more, and small factors.
+pub record LineTerms (K : ℕ) (buf : List ℤ) (f : ℤ) (i : ℕ) (g : ℤ) (j n : ℕ) : Type 0 where
+  pub branch : Branch K buf n
+  pub first : i < n
+  pub second : j < n
+  pub space : n < 128
+  pub f-in : Within 65535 f
+  pub g-in : Within 65535 g
