@@ -5,3 +5,4 @@ pub mod Lines
 pub mod Mix
 pub mod Range
 pub mod Plus
+pub mod Occurrence
