@@ -1,14 +1,15 @@
 -- `lines::all_zero` meets its contract: after x turns the first x numbers pass. Assumes nothing.
 use Prim.Native.Nat.{_-_}
 use native.Mathlib.Omega.{arith}
-use Rattle.lines.proofs.Every.{Passed, passed-none, passed-next, passed-fails, passed-all}
-use lib.IntN.{pos}
+use mathlib.Core.Path.{_∙_}
+use Rattle.lines.proofs.Every.{Passed, passed-none, passed-next, passed-fails, passed-all, every-passing}
+use lib.IntN.{ℤ, pos}
 use Rattle.integers.specs.Linear.{eqZ}
 use Rattle.lines.proofs.all_zero.Statement.{statement}
 use Rattle.lines.proofs.all_zero.Tie as tie
 
 abbrev Inv-loop : tie.InvT-loop
-Inv-loop lines at k x₀ x = Passed (λ c. eqZ c (pos 0)) lines at k x
+Inv-loop lines at k x₀ x = Passed (λ _. λ z. eqZ z (pos 0)) lines at k x
 
 abbrev μ-loop : tie.MeasureT-loop
 μ-loop lines at k x₀ x = k - x
@@ -29,7 +30,9 @@ is-zero-requires : tie.Need-is-zero-requires Inv-loop μ-loop
 is-zero-requires c κs = tt
 
 returns : tie.Need-returns Inv-loop μ-loop
-returns c = passed-fails (c .before .before .before .before .before .pre) (c .before .before .before .before .loop .inv) (c .before .before .before .loop-test .taken) (c .before .before .is-zero-arg .given) (c .before .is-zero .ensures) (c .if1 .taken)
+returns c =
+    let s = c .before .before .before .before .before in
+    passed-fails (s .pre) (c .before .before .before .before .loop .inv) (c .before .before .before .loop-test .taken) (c .before .before .is-zero-arg .given) (c .before .is-zero .ensures) (c .if1 .taken) ∙ every-passing (λ (z : ℤ). eqZ z (pos 0)) 0 _
 
 add-x : tie.Need-add-x Inv-loop μ-loop
 add-x c = omega arith
@@ -38,10 +41,14 @@ loop-less : tie.Need-loop-less Inv-loop μ-loop
 loop-less c = omega arith
 
 loop-again : tie.Need-loop-again Inv-loop μ-loop
-loop-again c = passed-next (c .before .before .before .before .before .pre) (c .before .before .before .before .loop .inv) (c .before .before .before .loop-test .taken) (c .before .before .is-zero-arg .given) (c .before .is-zero .ensures) (c .if1 .left)
+loop-again c =
+    let s = c .before .before .before .before .before in
+    passed-next (s .pre) (c .before .before .before .before .loop .inv) (c .before .before .before .loop-test .taken) (c .before .before .is-zero-arg .given) (c .before .is-zero .ensures) (c .if1 .left)
 
 returns-2 : tie.Need-returns-2 Inv-loop μ-loop
-returns-2 c = passed-all (c .before .before .pre) (c .before .loop .inv) (omega arith)
+returns-2 c =
+    let s = c .before .before in
+    passed-all (s .pre) (c .before .loop .inv) (omega arith) ∙ every-passing (λ (z : ℤ). eqZ z (pos 0)) 0 _
 
 pub all-zero-spec : {M : Type 1} → statement M
 all-zero-spec =
