@@ -40,6 +40,13 @@ bits p (suc n) = bit (p 0) ∷ bits (rest p) n
 unfoldable pub told : List ℕ → ℕ → Bool
 told mask c = eqb (getD mask c 0) 1
 
+-- The lines from `from` up to `to` stand in the buffer.
+pub record Span (K : ℕ) (buf : List ℤ) (from to : ℕ) : Type 0 where
+  pub constants : K ≤ 16
+  pub ordered : from ≤ to
+  pub lines : to ≤ 128
+  pub room : to * size K ≤ length buf
+
 -- ---- the constraints of the lines, from the front
 drop-some : {A : Type 0} (l : List A) (i : ℕ) (x : A) → getElem? l i ≡ some x → drop i l ≡ x ∷ drop (suc i) l
 drop-some [] i x e = absurd (let z : _≡_ {A = ℕ} 0 1 = cc in omega arith)

@@ -1,6 +1,8 @@
 // The lines of a branch in one flat lent buffer: the functions that read and write them.
 ghost use mathlib.Core.Path.{_≡_};
+ghost use mathlib.Core.Bool.{not, _&&_, _||_};
 ghost use Prim.Native.Nat.{_+_, _*_, _<_, _≤_};
+ghost use lib.Dec.{eqb};
 ghost use lib.ListN.{length, getD};
 ghost use lib.Seq.{paste};
 ghost use lib.IntN.{pos};
@@ -8,9 +10,13 @@ ghost use lib.Signed.{_≤ℤ_};
 ghost use Rattle.integers.specs.Magnitude.{Within};
 ghost use Rattle.integers.specs.Linear.{eqZ};
 ghost use Rattle.integers.specs.Divides.{divb};
+ghost use Rattle.forms.specs.Forms.{nonzero, within};
 ghost use Rattle.calculus.specs.Rules.{small, every};
+ghost use Rattle.fields.specs.Numbers.{flat};
+ghost use Rattle.proof.specs.Rows.{common};
 ghost use Rattle.lines.specs.Parts.{part};
-ghost use Rattle.lines.specs.Buffer.{size, Terms, LineTerms, mixed, mixedLine, plusOne};
+ghost use Rattle.lines.specs.Buffer.{size, formIn, Terms, LineTerms, mixed, mixedLine, plusOne};
+ghost use Rattle.lines.specs.Occurrence.{Span, occursIn, bit, bits, told};
 
 // Where the numbers of line i's t start, with k constants.
 pub fn place(i: usize, k: usize) -> usize
@@ -107,4 +113,49 @@ pub fn all_divisible(lines: &[i64], at: usize, k: usize, g: i64) -> bool
         x += 1;
     }
     true
+}
+
+// Whether some t of the lines from..to has a non-zero coefficient of constant c.
+fn occurs_in(lines: &[i64], from: usize, to: usize, k: usize, c: usize) -> bool
+    requires { ⌜ Span k (now lines) from to ⌝ }
+    requires { ⌜ c < k ⌝ }
+    ensures { λ r. ⌜ r ≡ occursIn k (now (lines .entry)) from to c ⌝ }
+{
+    let mut i = from;
+    while i < to {
+        let at = place(i, k);
+        if !integers::is_zero(lines[at + c]) {
+            return true;
+        }
+        i += 1;
+    }
+    false
+}
+
+// The mask's byte for constant c; no line has a coefficient for a constant past the last.
+fn occurrence(lines: &[i64], from: usize, to: usize, k: usize, c: usize) -> u8
+    requires { ⌜ Span k (now lines) from to ⌝ }
+    ensures { λ r. ⌜ r ≡ bit (occursIn k (now (lines .entry)) from to c) ⌝ }
+{
+    if k <= c {
+        return 0;
+    }
+    if occurs_in(lines, from, to, k, c) {
+        return 1;
+    }
+    0
+}
+
+// The mask of the constants that occur in the constraints of the lines from..to.
+pub fn occurrences(lines: &[i64], from: usize, to: usize, k: usize, mask: &mut [u8])
+    requires { ⌜ Span k (now lines) from to ⌝ }
+    requires { ⌜ length (now mask) ≡ 16 ⌝ }
+    ensures { λ _. ⌜ now (mask .exit) ≡ bits (occursIn k (now (lines .entry)) from to) 16 ⌝ }
+{
+    let mut c = 0;
+    while c < 16 {
+        let b = occurrence(lines, from, to, k, c);
+        mask[c] = b;
+        c += 1;
+    }
 }
