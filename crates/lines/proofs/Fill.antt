@@ -23,7 +23,7 @@ module _ {A : Type 0} {l : List A} {d : ℕ} {s : List A} where
 
     -- Before d nothing has changed.
     pub filled-before : (k : ℕ) (z : A) → k < d → getD m k z ≡ getD l k z
-    filled-before k z h = ap (λ (x : List A). getD x k z) (v .is) ∙ agree-getD (agree-paste d l d s j (omega arith) (omega arith)) k z h
+    filled-before k z h = ap (λ (x : List A). getD x k z) (v .is) ∙ sym (agree-getD (agree-paste d l d s j (omega arith) (omega arith)) k z h)
 
     pub filled-next : (x z : A) → x ≡ getD s j z → j < length s → Filled l d s (set m (d + j) x) (j + 1)
     filled-next x z e h = record {

@@ -58,6 +58,16 @@ mixedLine K f i g j n buf = paste buf (n * size K) (mixed f (i * size K) g (j * 
 unfoldable pub plusOne : (at : ℕ) → List ℤ → List ℤ
 plusOne at buf = set buf at (getD buf at (pos 0) +ℤ pos 1)
 
+-- The buffer with line i again as line n: as it stands, with t + 1, and with t + 1 and tA + 1.
+unfoldable pub copiedLine : (K i n : ℕ) → List ℤ → List ℤ
+copiedLine K i n buf = mixedLine K (pos 1) i (pos 0) i n buf
+
+unfoldable pub strengthenedT : (K i n : ℕ) → List ℤ → List ℤ
+strengthenedT K i n buf = plusOne (n * size K + K) (copiedLine K i n buf)
+
+unfoldable pub strengthenedBoth : (K i n : ℕ) → List ℤ → List ℤ
+strengthenedBoth K i n buf = plusOne (n * size K + (K + 1) + K) (strengthenedT K i n buf)
+
 -- What a sum of multiples asks: the w numbers at a and at b lie before the w numbers at d, the numbers before d are within the range, and the factors are small.
 pub record Terms (buf : List ℤ) (f : ℤ) (a : ℕ) (g : ℤ) (b d w : ℕ) : Type 0 where
   pub first : a + w ≤ d
@@ -75,3 +85,9 @@ pub record LineTerms (K : ℕ) (buf : List ℤ) (f : ℤ) (i : ℕ) (g : ℤ) (j
   pub space : n < 128
   pub f-in : Within 65535 f
   pub g-in : Within 65535 g
+
+-- Line i of a branch of n lines that has room for one more.
+pub record LineCopy (K : ℕ) (buf : List ℤ) (i n : ℕ) : Type 0 where
+  pub branch : Branch K buf n
+  pub first : i < n
+  pub space : n < 128

@@ -7,3 +7,5 @@ pub mod Range
 pub mod Plus
 pub mod Occurrence
 pub mod Restrict
+pub mod Branch
+pub mod Strengthen

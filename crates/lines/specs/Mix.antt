@@ -104,7 +104,7 @@ module _ (f : ℤ) (a : ℕ) (g : ℤ) (b w : ℕ) (buf : List ℤ) where
         (rw add-assoc (getD-paste buf d (mixed f a g b w buf) w hd (o + K) (pos 0) full h ∙ rw (add-assoc, add-assoc) (getD-mixed (o + K) h)))
 
 module _ (K : ℕ) (f : ℤ) (i : ℕ) (g : ℤ) (j n : ℕ) (buf : List ℤ) (room : 128 * size K ≤ length buf) (hi : i < n) (hj : j < n) (hn : n < 128) where
-  pub mixed-keeps : Agree (n * size K) (mixedLine K f i g j n buf) buf
+  pub mixed-keeps : Agree (n * size K) buf (mixedLine K f i g j n buf)
   unfolding mixedLine
   mixed-keeps = agree-paste (n * size K) buf (n * size K) (mixed f (i * size K) g (j * size K) (size K) buf) (size K) (omega (arith, before K hn)) (omega arith)
 

@@ -96,8 +96,8 @@ module _ {A : Type 0} where
   agree-part {m} {l} {k} a at n h = sym (part-take at n m l h) ∙ ap (part at n) (a .first) ∙ part-take at n m k h
 
   -- A store behind the first m elements.
-  pub agree-set : (m : ℕ) (l : List A) (i : ℕ) (x : A) → m ≤ i → Agree m (set l i x) l
-  agree-set m l i x h = record { first = take-set-le m l i x h }
+  pub agree-set : (m : ℕ) (l : List A) (i : ℕ) (x : A) → m ≤ i → Agree m l (set l i x)
+  agree-set m l i x h = record { first = sym (take-set-le m l i x h) }
 
-  pub agree-paste : (m : ℕ) (l : List A) (d : ℕ) (s : List A) (w : ℕ) → d ≤ length l → m ≤ d → Agree m (paste l d s w) l
-  agree-paste m l d s w room h = record { first = take-paste-below l d s w room m h }
+  pub agree-paste : (m : ℕ) (l : List A) (d : ℕ) (s : List A) (w : ℕ) → d ≤ length l → m ≤ d → Agree m l (paste l d s w)
+  agree-paste m l d s w room h = record { first = sym (take-paste-below l d s w room m h) }

@@ -1,5 +1,5 @@
 -- One more in the constant term of a line's t or tA: the laws of `plusOne`. Assumes nothing.
-use mathlib.Core.Path.{_≡_, refl, _∙_, ap}
+use mathlib.Core.Path.{_≡_, refl, sym, _∙_, ap}
 use mathlib.Core.List.{List}
 use Prim.Native.Nat.{ℕ, _+_, _*_, _<_, _≤_}
 use native.Mathlib.Omega.{arith}
@@ -16,7 +16,7 @@ module _ (buf : List ℤ) (at : ℕ) where
   unfolding plusOne
   length-plusOne = length-set buf at (getD buf at (pos 0) +ℤ pos 1)
 
-  pub plus-keeps : (m : ℕ) → m ≤ at → Agree m (plusOne at buf) buf
+  pub plus-keeps : (m : ℕ) → m ≤ at → Agree m buf (plusOne at buf)
   unfolding plusOne
   plus-keeps m h = agree-set m buf at (getD buf at (pos 0) +ℤ pos 1) h
 
@@ -26,7 +26,7 @@ module _ (K : ℕ) (buf : List ℤ) (at : ℕ) where
   unfolding plusOne _plus_
   form-plus h =
       let v = getD buf (at + K) (pos 0) +ℤ pos 1 in
-      form-ext (agree-part (agree-set (at + K) buf (at + K) v (omega arith)) at K (omega arith)) (getD-set-same buf (at + K) v (pos 0) h)
+      form-ext (sym (agree-part (agree-set (at + K) buf (at + K) v (omega arith)) at K (omega arith))) (getD-set-same buf (at + K) v (pos 0) h)
 
   form-behind : (x : ℕ) → x < at → formIn K (plusOne x buf) at ≡ formIn K buf at
   unfolding plusOne
@@ -35,7 +35,7 @@ module _ (K : ℕ) (buf : List ℤ) (at : ℕ) where
       form-ext (ap (take K) (drop-set-lt at buf x v h)) (getD-set-other buf x (at + K) v (pos 0) (λ e. omega arith))
 
   form-before : (x : ℕ) → at + K < x → formIn K (plusOne x buf) at ≡ formIn K buf at
-  form-before x h = form-same K (plus-keeps buf x x (omega arith)) at h
+  form-before x h = sym (form-same K (plus-keeps buf x x (omega arith)) at h)
 
 module _ (K : ℕ) (kinds : List ℕ) (buf : List ℤ) (n : ℕ) (room : n * size K + size K ≤ length buf) (l : Line) (is : lineIn K kinds buf n ≡ l) where
   pub plus-t : lineIn K kinds (plusOne (n * size K + K) buf) n ≡ line (l .kind) (l .t plus 1) (l .tA)

@@ -28,28 +28,29 @@ every-snoc : (p : ℤ → Bool) (l : List ℤ) (c : ℤ) → every p (l ++ (c �
 unfolding every
 every-snoc p l c = every-append p l (c ∷ []) ∙ ap (λ (b : Bool). every p l && b) (and-true (p c))
 
-left : (a b : Bool) → T (a && b) → T a
-left true b t = tt
-left false b t = absurd t
+-- ---- both of two tests
+pub and-left : (a b : Bool) → T (a && b) → T a
+and-left true b t = tt
+and-left false b t = absurd t
 
-right : (a b : Bool) → T (a && b) → T b
-right true b t = t
-right false b t = absurd t
+pub and-right : (a b : Bool) → T (a && b) → T b
+and-right true b t = t
+and-right false b t = absurd t
 
-both : (a b : Bool) → T a → T b → T (a && b)
-both true b s t = t
-both false b s t = absurd s
+pub and-both : (a b : Bool) → T a → T b → T (a && b)
+and-both true b s t = t
+and-both false b s t = absurd s
 
 pub every-at : (p : ℤ → Bool) (l : List ℤ) (i : ℕ) (z : ℤ) → T (every p l) → i < length l → T (p (getD l i z))
 unfolding every
 every-at p [] i z t h = absurd (omega arith)
-every-at p (c ∷ l) zero z t h = left (p c) (every p l) t
-every-at p (c ∷ l) (suc i) z t h = every-at p l i z (right (p c) (every p l) t) (omega arith)
+every-at p (c ∷ l) zero z t h = and-left (p c) (every p l) t
+every-at p (c ∷ l) (suc i) z t h = every-at p l i z (and-right (p c) (every p l) t) (omega arith)
 
 pub every-all : (p : ℤ → Bool) (l : List ℤ) (z : ℤ) → ((i : ℕ) → i < length l → T (p (getD l i z))) → T (every p l)
 unfolding every
 every-all p [] z f = tt
-every-all p (c ∷ l) z f = both (p c) (every p l) (f 0 (omega arith)) (every-all p l z (λ i h. f (suc i) (omega arith)))
+every-all p (c ∷ l) z f = and-both (p c) (every p l) (f 0 (omega arith)) (every-all p l z (λ i h. f (suc i) (omega arith)))
 
 -- ---- the numbers of a form, and of a line
 part-add : {A : Type 0} (at n m : ℕ) (l : List A) → part at (n + m) l ≡ part at n l ++ part (at + n) m l
