@@ -1,12 +1,13 @@
 -- The lines that the three branches of a strengthen start with: the laws of `copiedLine`, `strengthenedT` and `strengthenedBoth`. Assumes nothing.
-use mathlib.Core.Path.{_≡_, refl, _∙_}
-use mathlib.Core.List.{List}
+use mathlib.Core.Path.{_≡_, refl, _∙_, ap}
+use mathlib.Core.List.{List, []}
 use mathlib.Core.Bool.{Bool, _&&_}
-use Prim.Native.Nat.{ℕ, _+_, _*_}
+use Prim.Native.Nat.{ℕ, _+_, _*_, _<_}
 use native.Mathlib.Omega.{arith}
 use lib.Dec.{T}
 use lib.IntN.{ℤ, pos, _+ℤ_}
 use lib.ListN.{length, getD}
+use Rattle.integers.specs.Magnitude.{Within}
 use Rattle.forms.specs.Forms.{Form, Kind, Line, line, _plus_}
 use Rattle.calculus.specs.Rules.{small, every, inRange}
 use Rattle.lines.specs.Parts.{Agree, agree-trans}
@@ -68,6 +69,25 @@ module _ {K : ℕ} {buf : List ℤ} {i n : ℕ} (p : LineCopy K buf i n) where
     pub both-line : lineIn K kinds′ (strengthenedBoth K i n buf) n ≡ line (kindOf (getD kinds′ n 0)) (s .t plus 1) (s .tA plus 1)
     unfolding strengthenedBoth
     both-line = plus-tA K kinds′ (strengthenedT K i n buf) n (omega (arith, before K (p .space), p .branch .room, length-t)) _ t-line
+
+  -- ---- the constant terms before they are raised are those of line i, so they can be
+  term : (at : ℕ) (buf′ : List ℤ) (x y : ℕ) → at + K ≡ x → x < n * size K + size K → length buf′ ≡ length buf → getD buf′ x (pos 0) ≡ getD buf y (pos 0) → y < n * size K
+      → (at + K < length buf′) × Within 2147483647 (getD buf′ (at + K) (pos 0))
+  term at buf′ x y e h l d g = (omega (arith, before K (p .space), p .branch .room), rw (e, d) (p .branch .bounded .small y g))
+
+  pub t-term : (at : ℕ) (buf′ : List ℤ) → at ≡ n * size K → buf′ ≡ copiedLine K i n buf → (at + K < length buf′) × Within 2147483647 (getD buf′ (at + K) (pos 0))
+  unfolding lineIn
+  t-term at buf′ e b =
+      term at buf′ (n * size K + K) (i * size K + K) (omega arith) (omega arith) (ap length b ∙ length-copied)
+      (ap (λ (l : List ℤ). getD l (n * size K + K) (pos 0)) b ∙ ap (λ (l : Line). l .t .d) (copied-line [] [] refl))
+      (omega (arith, before K (p .first)))
+
+  pub tA-term : (at : ℕ) (buf′ : List ℤ) → at ≡ n * size K + (K + 1) → buf′ ≡ strengthenedT K i n buf → (at + K < length buf′) × Within 2147483647 (getD buf′ (at + K) (pos 0))
+  unfolding lineIn
+  tA-term at buf′ e b =
+      term at buf′ (n * size K + (K + 1) + K) (i * size K + (K + 1) + K) (omega arith) (omega arith) (ap length b ∙ length-t)
+      (ap (λ (l : List ℤ). getD l (n * size K + (K + 1) + K) (pos 0)) b ∙ ap (λ (l : Line). l .tA .d) (t-line [] [] refl))
+      (omega (arith, before K (p .first)))
 
 -- ---- ranges: the line of the third branch is in range where line i and the first branch's line are
 pub third-range : (r : ℕ) (k k′ k″ : Kind) (t tA : Form) → T (inRange r (line k t tA)) → T (inRange r (line k′ (t plus 1) (tA plus 1))) → T (inRange r (line k″ (t plus 1) tA))

@@ -15,7 +15,7 @@ ghost use Rattle.calculus.specs.Rules.{small, every};
 ghost use Rattle.fields.specs.Numbers.{flat};
 ghost use Rattle.proof.specs.Rows.{common};
 ghost use Rattle.lines.specs.Parts.{part};
-ghost use Rattle.lines.specs.Buffer.{size, formIn, Terms, LineTerms, mixed, mixedLine, plusOne};
+ghost use Rattle.lines.specs.Buffer.{size, formIn, Terms, LineTerms, LineCopy, mixed, mixedLine, plusOne, copiedLine, strengthenedT, strengthenedBoth};
 ghost use Rattle.lines.specs.Occurrence.{Span, occursIn, bit, bits, told};
 
 // Where the numbers of line i's t start, with k constants.
@@ -67,6 +67,34 @@ pub fn add_one(lines: &mut [i64], at: usize)
     let x = lines[at];
     let sum = integers::linear(1, x, 1, 1);
     lines[at] = sum;
+}
+
+// Line n becomes line i.
+pub fn copy_line(lines: &mut [i64], i: usize, n: usize, k: usize)
+    requires { ⌜ LineCopy k (now lines) i n ⌝ }
+    ensures { λ _. ⌜ now (lines .exit) ≡ copiedLine k i n (now (lines .entry)) ⌝ }
+{
+    mix(lines, 1, i, 0, i, n, k);
+}
+
+// Line n becomes line i with t + 1.
+pub fn strengthen_t(lines: &mut [i64], i: usize, n: usize, k: usize)
+    requires { ⌜ LineCopy k (now lines) i n ⌝ }
+    ensures { λ _. ⌜ now (lines .exit) ≡ strengthenedT k i n (now (lines .entry)) ⌝ }
+{
+    copy_line(lines, i, n, k);
+    let at = place(n, k);
+    add_one(lines, at + k);
+}
+
+// Line n becomes line i with t + 1 and tA + 1.
+pub fn strengthen_both(lines: &mut [i64], i: usize, n: usize, k: usize)
+    requires { ⌜ LineCopy k (now lines) i n ⌝ }
+    ensures { λ _. ⌜ now (lines .exit) ≡ strengthenedBoth k i n (now (lines .entry)) ⌝ }
+{
+    strengthen_t(lines, i, n, k);
+    let at = place_a(n, k);
+    add_one(lines, at + k);
 }
 
 // Whether all of the numbers at a place are within the range.
