@@ -1,3 +1,5 @@
 -- Formulas on bytes: writing, reading, testing.
 pub mod Formula
 pub mod Test
+pub mod Registers
+pub mod Nodes

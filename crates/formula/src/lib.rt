@@ -1,1 +1,3 @@
-// Formulas on bytes: what writing, reading and testing one gives, in specs/.
+// Formulas on bytes: reading one and testing it at register values.
+mod node;
+mod values;

@@ -1,0 +1,91 @@
+use borrow.Author.Needs.{needs}
+use Rattle.formula.proofs.node.node_of.Statement.{statement}
+use Rattle.formula.proofs.node.node_of.Tie as tie
+use Rattle.formula.proofs.node.node_of.Reads as reads
+use Rattle.formula.proofs.node.node_of.Lts as lts
+use Rattle.formula.proofs.node.sized.Reads as sized-reads
+
+-- src/node.rt:30:17
+add-form : tie.Need-add-form
+add-form c = search needs
+
+-- src/node.rt:30:16
+mul-form : tie.Need-mul-form
+mul-form c = search needs
+
+-- src/node.rt:32:17
+sized-requires : tie.Need-sized-requires
+sized-requires c κs = search needs
+
+-- src/node.rt:33:17
+sized-requires-2 : tie.Need-sized-requires-2
+sized-requires-2 c κs = search needs
+
+-- src/node.rt:34:17
+sized-requires-3 : tie.Need-sized-requires-3
+sized-requires-3 c κs = search needs
+
+-- src/node.rt:35:17
+sized-requires-4 : tie.Need-sized-requires-4
+sized-requires-4 c κs = search needs
+
+-- src/node.rt:36:28
+add-sized : tie.Need-add-sized
+add-sized c = search needs
+
+-- src/node.rt:36:17
+sized-requires-5 : tie.Need-sized-requires-5
+sized-requires-5 c κs = search needs
+
+-- src/node.rt:26:1
+returns : tie.Need-returns
+returns c = ?
+
+-- src/node.rt:26:1
+returns-2 : tie.Need-returns-2
+returns-2 c = ?
+
+-- src/node.rt:26:1
+returns-3 : tie.Need-returns-3
+returns-3 c = ?
+
+-- src/node.rt:26:1
+returns-4 : tie.Need-returns-4
+returns-4 c = ?
+
+-- src/node.rt:26:1
+returns-5 : tie.Need-returns-5
+returns-5 c = ?
+
+-- src/node.rt:26:1
+returns-6 : tie.Need-returns-6
+returns-6 c = ?
+
+-- src/node.rt:26:1
+returns-7 : tie.Need-returns-7
+returns-7 c = ?
+
+-- src/node.rt:26:1
+returns-8 : tie.Need-returns-8
+returns-8 c = ?
+
+pub node-of-spec : {M : Type 1} → statement M
+node-of-spec =
+    tie.close
+    (tie.spec
+    add-form
+    mul-form
+    sized-requires
+    sized-requires-2
+    sized-requires-3
+    sized-requires-4
+    add-sized
+    sized-requires-5
+    returns
+    returns-2
+    returns-3
+    returns-4
+    returns-5
+    returns-6
+    returns-7
+    returns-8)
