@@ -1,2 +1,4 @@
 -- Laws that belong to no one function.
 pub mod Registers
+pub mod Nodes
+pub mod Value

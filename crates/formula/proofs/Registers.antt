@@ -1,13 +1,13 @@
 -- Register values by index: those before i are in range, and what follows of the first that is not. Assumes nothing.
 use mathlib.Core.Path.{_≡_, refl, sym, ap, _∙_}
 use mathlib.Core.Bool.{Bool, true, false}
-use mathlib.Core.List.{List, [], _∷_}
+use mathlib.Core.List.{List}
 use Prim.Native.Nat.{ℕ, zero, suc, _+_, _≤_, _<_}
 use native.Mathlib.Numerals.{add-one}
 use native.Mathlib.Omega.{arith}
 use lib.Dec.{leb, ltb}
 use lib.IntN.{ℤ, pos, natAbs}
-use lib.ListN.{length, getD, drop, drop-of-length-le}
+use lib.ListN.{length, getD, drop, drop-of-length-le, List·getD-eq-default}
 use lib.Seq.{drop-cons}
 use borrow.Author.Tests.{leb-true, ltb-true, ltb-false}
 use borrow.Author.Count.{below-more}
@@ -41,17 +41,12 @@ module _ {values : List ℤ} {i : ℕ} (p : Passed values i) (h : i < length val
     within = λ e. absurd (omega arith);
   }
 
-past : (l : List ℤ) (k : ℕ) → length l ≤ k → getD l k (pos 0) ≡ pos 0
-past [] k h = refl
-past (x ∷ l) zero h = absurd (omega arith)
-past (x ∷ l) (suc k) h = past l k (omega arith)
-
 all-within : {values : List ℤ} {i : ℕ} → Passed values i → length values ≤ i → (k : ℕ) → Within 1_000_000 (getD values k (pos 0))
 all-within {values} {i} p h k = go (ltb k i) refl
   where
     go : (b : Bool) → ltb k i ≡ b → Within 1_000_000 (getD values k (pos 0))
     go true e = p .before k (ltb-true k i e)
-    go false e = rw (past values k (omega (arith, ltb-false k i e))) (record { abs = omega arith })
+    go false e = rw (List·getD-eq-default values (pos 0) {n = k} (omega (arith, ltb-false k i e))) (record { abs = omega arith })
 
 pub none-outside : {values : List ℤ} {i : ℕ} → Passed values i → length values ≤ i → FirstOutside values i
 unfolding ranged each

@@ -3,3 +3,4 @@ pub mod Formula
 pub mod Test
 pub mod Registers
 pub mod Nodes
+pub mod FormAt

@@ -1,3 +1,4 @@
 // Formulas on bytes: reading one and testing it at register values.
+mod form;
 mod node;
 mod values;

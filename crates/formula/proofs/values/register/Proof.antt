@@ -1,5 +1,5 @@
 use mathlib.Core.Path.{_∙_}
-use mir.Syntax.{w64}
+use mir.Syntax.{w32, w64}
 use mir.ValLaws.{toZ-ofZ}
 use borrow.Author.Needs.{needs}
 use Rattle.formula.proofs.values.register.Statement.{statement}
@@ -22,7 +22,7 @@ wide-requires c κs = search needs
 
 -- src/values.rt:15:1
 returns : tie.Need-returns
-returns c = toZ-ofZ w64 (c .wide .result) (record { sfits = c .wide .ok }) ∙ c .wide .ensures ∙ ?
+returns c = toZ-ofZ w64 (c .wide .result) (record { sfits = c .wide .ok }) ∙ c .wide .ensures ∙ toZ-ofZ w32 _ (search needs)
 
 pub register-spec : {M : Type 1} → statement M
 register-spec = tie.close (tie.spec mul-wide shared-slice-copy-out-wide wide-requires returns)
