@@ -7,17 +7,27 @@ use lib.ListN.{length, getD, take, drop}
 use lib.Seq.{drop-cons, drop-drop, take-take, take-nil, drop-nil}
 use lib.IntN.{ℤ, pos, negsuc, natAbs, _+ℤ_, _*ℤ_, +ℤ-assoc, +ℤ-idl}
 use lib.Signed.{mag, natAbs-le}
-use Rattle.integers.specs.Magnitude.{Within, within-add, within-mul, within-le}
+use mir.Syntax.{w64}
+use mir.Val.{SFits}
+use Rattle.integers.specs.Magnitude.{Within, within-add, within-mul, within-le, within-fits}
 use Rattle.forms.specs.Forms.{Form, sum, value}
 use Rattle.fields.specs.Numbers.{signed, signeds, formFrom, formWidth}
 use Rattle.fields.specs.Ranges.{Half, Held}
 use Rattle.formula.specs.Test.{registers}
 use Rattle.formula.specs.Registers.{AllWithin}
-use Rattle.formula.specs.FormAt.{formAt}
+use Rattle.formula.specs.FormAt.{formAt, Added}
 
 -- a number of four bytes
 pub four-within : {z : ℤ} → Held 4 z → Within 2_147_483_648 z
 four-within {z} h = record { abs = natAbs-le z (omega (arith, h .held .half)) }
+
+-- the product and the sum fit a machine word
+module _ {c x : ℤ} (h : Held 4 c) (k : Within 1_000_000 x) where
+  pub product-fits : SFits w64 (c *ℤ x)
+  product-fits = within-fits (within-mul (four-within h) k) tt
+
+  pub sum-fits : {t : ℤ} → Within 40_000_000_000_000_000 t → SFits w64 (c *ℤ x +ℤ t)
+  sum-fits l = within-fits (within-add (within-mul (four-within h) k) l) tt
 
 -- the first term, and the form of the others
 value-suc : (n : ℕ) (bs : List ℕ) (x : ℤ) (vs : List ℤ)
@@ -58,14 +68,20 @@ module _ (s : List ℕ) (at : ℕ) (values : List ℤ) (K : ℕ) where
       }
 
   module _ (all : AllWithin values) (count : length values ≡ K) {i : ℕ} {total : ℤ} (p : Summed s at values K i total) where
-    pub summed-more : {j : ℕ} {c t : ℤ} → i ≡ suc j → c ≡ signed (take 4 (drop (at + j * 4) s)) → Held 4 c
-        → t ≡ c *ℤ getD values j (pos 0) +ℤ total → Summed s at values K j t
-    summed-more {j} {c} {t} e f h g =
+    pub summed-more : {j : ℕ} {t : ℤ} → i ≡ suc j → Added s (at + j * 4) values j total t → Summed s at values K j t
+    summed-more {j} {t} e g =
         let z : K - j ≡ suc (K - suc j) = omega (arith, p .upto) in
         let y : j * 4 + 4 ≡ suc j * 4 = omega arith in
         let b : j < length values = omega (arith, p .upto) in
         record {
           upto = omega (arith, p .upto);
-          is = g ∙ rw (z, drop-cons values j (pos 0) b, value-suc, number j (omega (arith, p .upto)), drop-drop 4 (j * 4), y, ← f) (ap (λ (u : ℤ). c *ℤ getD values j (pos 0) +ℤ u) (p .is ∙ rw e));
-          bound = rw g (within-le (omega (arith, p .upto)) (within-add (within-mul (four-within h) (all .at j)) (p .bound)));
+          is = g .is ∙ rw (z, drop-cons values j (pos 0) b, value-suc, number j (omega (arith, p .upto)), drop-drop 4 (j * 4), y, ← g .read) (ap (λ (u : ℤ). g .coefficient *ℤ getD values j (pos 0) +ℤ u) (p .is ∙ rw e));
+          bound = rw (g .is) (within-le (omega (arith, p .upto)) (within-add (within-mul (four-within (g .held)) (all .at j)) (p .bound)));
         }
+
+  pub summed-all : {i : ℕ} {total : ℤ} → Summed s at values K i total → i ≤ 0 → total ≡ value (formAt s at K) (registers values)
+  unfolding formAt
+  summed-all {i} p h =
+      let z : i ≡ 0 = omega arith in
+      let y : K - 0 ≡ K = omega arith in
+      p .is ∙ rw (z, y)

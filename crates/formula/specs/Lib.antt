@@ -4,3 +4,4 @@ pub mod Test
 pub mod Registers
 pub mod Nodes
 pub mod FormAt
+pub mod Judging

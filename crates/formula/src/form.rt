@@ -2,18 +2,15 @@
 use crate::values::register;
 use fields::numbers::signed_at;
 ghost use mathlib.Core.Path.{_≡_};
-ghost use lib.ListN.{take, drop, getD};
-ghost use lib.IntN.{pos, _+ℤ_, _*ℤ_};
 ghost use Rattle.forms.specs.Forms.{value};
-ghost use Rattle.fields.specs.Numbers.{signed};
 ghost use Rattle.formula.specs.Test.{registers};
 ghost use Rattle.formula.specs.Registers.{Registers};
-ghost use Rattle.formula.specs.FormAt.{formAt, Whole, Summand};
+ghost use Rattle.formula.specs.FormAt.{formAt, Whole, Summand, Added};
 
 // The coefficient at a place times register i, and the total so far.
 fn with_term(s: &[u8], at: usize, values: &[i32], i: usize, total: i64) -> i64
     requires { ⌜ Summand (now s) at (now values) i total ⌝ }
-    ensures { λ r. ⌜ r ≡ signed (take 4 (drop at (now (s .entry)))) *ℤ getD (now (values .entry)) i (pos 0) +ℤ total ⌝ }
+    ensures { λ r. ⌜ Added (now (s .entry)) at (now (values .entry)) i total r ⌝ }
 {
     let c = signed_at(s, at, 4);
     let x = register(values, i);

@@ -1,31 +1,58 @@
+-- `formula::form::with_term` meets its contract. Assumes nothing.
+use mathlib.Core.Path.{_≡_, refl, _∙_}
+use mathlib.Core.Logic.{inr}
+use mir.Syntax.{w64}
+use mir.ValLaws.{toZ-ofZ}
+use Rattle.integers.specs.Magnitude.{Within, within-fits}
+use Rattle.formula.proofs.Value.{product-fits, sum-fits}
 use borrow.Author.Needs.{needs}
 use Rattle.formula.proofs.form.with_term.Statement.{statement}
 use Rattle.formula.proofs.form.with_term.Tie as tie
 use Rattle.formula.proofs.form.with_term.Reads as reads
 use Rattle.formula.proofs.form.with_term.Lts as lts
-use Rattle.fields.proofs.numbers.signed_at.Reads as signed-at-reads
-use Rattle.formula.proofs.values.register.Reads as register-reads
 
--- src/form.rt:18:9
 signed-at-requires : tie.Need-signed-at-requires
-signed-at-requires c κs = ?
+signed-at-requires c κs = (inr refl, c .before .pre .coefficient)
 
--- src/form.rt:19:9
 register-requires : tie.Need-register-requires
 register-requires c κs = search needs
 
--- src/form.rt:20:5
 mul-result : tie.Need-mul-result
-mul-result c = ?
+mul-result c =
+    let x : Within 1_000_000 (c .register .result) = rw (c .register .ensures) (c .before .before .before .pre .all .at (c .before .before .before .args .i)) in
+    rw (toZ-ofZ w64 (c .before .signed-at .result) (record { sfits = c .before .signed-at .ok }), toZ-ofZ w64 (c .register .result) (record { sfits = c .register .ok }))
+    (product-fits (c .before .signed-at .ensures .1) x)
 
--- src/form.rt:20:5
 add-result : tie.Need-add-result
-add-result c = ?
+add-result c =
+    let x : Within 1_000_000 (c .register .result) = rw (c .register .ensures) (c .before .before .before .pre .all .at (c .before .before .before .args .i)) in
+    let p = product-fits (c .before .signed-at .ensures .1) x in
+    rw (
+      toZ-ofZ w64 (c .before .signed-at .result) (record { sfits = c .before .signed-at .ok }),
+      toZ-ofZ w64 (c .register .result) (record { sfits = c .register .ok }),
+      toZ-ofZ w64 _ p,
+      toZ-ofZ w64 (c .before .before .before .args .total) (c .before .before .before .fits .total),
+    )
+    (sum-fits (c .before .signed-at .ensures .1) x (c .before .before .before .pre .small))
 
--- src/form.rt:14:1
 returns : tie.Need-returns
-returns c = ?
+returns c =
+    let x : Within 1_000_000 (c .register .result) = rw (c .register .ensures) (c .before .before .before .pre .all .at (c .before .before .before .args .i)) in
+    let p = product-fits (c .before .signed-at .ensures .1) x in
+    let q = sum-fits (c .before .signed-at .ensures .1) x (c .before .before .before .pre .small) in
+    record {
+      coefficient = c .before .signed-at .result;
+      read = c .before .signed-at .ensures .0;
+      held = c .before .signed-at .ensures .1;
+      is = rw (
+        toZ-ofZ w64 (c .before .signed-at .result) (record { sfits = c .before .signed-at .ok }),
+        toZ-ofZ w64 (c .register .result) (record { sfits = c .register .ok }),
+        toZ-ofZ w64 _ p,
+        toZ-ofZ w64 (c .before .before .before .args .total) (c .before .before .before .fits .total),
+        toZ-ofZ w64 _ q,
+        c .register .ensures,
+      );
+    }
 
 pub with-term-spec : {M : Type 1} → statement M
-with-term-spec =
-    tie.close (tie.spec signed-at-requires register-requires mul-result add-result returns)
+with-term-spec = tie.close (tie.spec signed-at-requires register-requires mul-result add-result returns)
