@@ -2,3 +2,4 @@
 pub mod Registers
 pub mod Nodes
 pub mod Value
+pub mod Parts

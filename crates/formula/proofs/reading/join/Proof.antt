@@ -1,3 +1,5 @@
+-- `formula::reading::join` meets its contract. Assumes nothing.
+use Rattle.formula.proofs.Parts.{joined-fault, joined-both}
 use borrow.Author.Needs.{needs}
 use Rattle.formula.proofs.reading.join.Statement.{statement}
 use Rattle.formula.proofs.reading.join.Tie as tie
@@ -5,25 +7,20 @@ use Rattle.formula.proofs.reading.join.Reads as reads
 use Rattle.formula.proofs.reading.join.Lts as lts
 use Rattle.formula.proofs.reading.connect.Reads as connect-reads
 
--- src/reading.rt:83:23
 enum-known-pair : tie.Need-enum-known-pair
 enum-known-pair c = search needs
 
--- src/reading.rt:84:22
 enum-known-pair-2 : tie.Need-enum-known-pair-2
 enum-known-pair-2 c = search needs
 
--- src/reading.rt:84:70
 connect-requires : tie.Need-connect-requires
 connect-requires c κs = search needs
 
--- src/reading.rt:79:1
 returns : tie.Need-returns
-returns c = ?
+returns c = joined-fault _ (c .before .pair .given .1)
 
--- src/reading.rt:79:1
 returns-2 : tie.Need-returns-2
-returns-2 c = ?
+returns-2 c = joined-both _ (c .before .before .pair2 .given .1) (c .connect .ensures)
 
 pub join-spec : {M : Type 1} → statement M
 join-spec =

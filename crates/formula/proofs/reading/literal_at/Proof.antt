@@ -1,3 +1,12 @@
+-- `formula::reading::literal_at` meets its contract. Assumes nothing.
+use mathlib.Core.Path.{ap, _∙_}
+use mathlib.Core.Bool.{Bool}
+use lib.IntN.{ℤ}
+use mir.Syntax.{w64}
+use mir.ValLaws.{toZ-ofZ}
+use Rattle.formula.specs.Test.{holds}
+use Rattle.formula.specs.Nodes.{kindOf}
+use Rattle.formula.specs.declared.reading.Judged.{Judged}
 use borrow.Author.Needs.{needs}
 use Rattle.formula.proofs.reading.literal_at.Statement.{statement}
 use Rattle.formula.proofs.reading.literal_at.Tie as tie
@@ -6,17 +15,14 @@ use Rattle.formula.proofs.reading.literal_at.Lts as lts
 use Rattle.formula.proofs.form.value_at.Reads as value-at-reads
 use Rattle.formula.proofs.reading.says.Reads as says-reads
 
--- src/reading.rt:53:9
 value-at-requires : tie.Need-value-at-requires
 value-at-requires c κs = search needs
 
--- src/reading.rt:54:28
 says-requires : tie.Need-says-requires
 says-requires c κs = search needs
 
--- src/reading.rt:48:1
 returns : tie.Need-returns
-returns c = ?
+returns c = ap (λ (b : Bool). Judged.Value b (c .before .before .before .args .next)) (c .says .ensures ∙ ap (holds (kindOf (c .before .before .before .args .equality))) (toZ-ofZ w64 (c .before .value-at .result) (record { sfits = c .before .value-at .ok }) ∙ c .before .value-at .ensures))
 
 pub literal-at-spec : {M : Type 1} → statement M
 literal-at-spec = tie.close (tie.spec value-at-requires says-requires returns)
