@@ -2,3 +2,4 @@
 pub mod Places
 pub mod Stores
 pub mod Digits
+pub mod Headers
