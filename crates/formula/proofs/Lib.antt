@@ -3,3 +3,4 @@ pub mod Registers
 pub mod Nodes
 pub mod Value
 pub mod Parts
+pub mod Ways

@@ -117,3 +117,63 @@ fn join(pair: Pair, either: bool) -> Judged
         },
     }
 }
+
+// Reading a formula calls on reading its two parts, each again a formula: the two functions call each other in a cycle,
+// and the levels still allowed and the unread bytes fall.
+pub fn formula_at(s: &[u8], at: usize, values: &[i32], k: usize, levels: usize) -> Judged
+    requires { ⌜ Registers (now values) k ⌝ }
+    ensures { λ r. ⌜ FormulaRead (now (s .entry)) at (now (values .entry)) k levels r ⌝ }
+{
+    match next_field(s, at) {
+        Next::Ends { at: place } => Judged::Fault {
+            number: 2,
+            at: place,
+        },
+        Next::Cut { at: place } => Judged::Fault {
+            number: 2,
+            at: place,
+        },
+        Next::Field {
+            at: place,
+            tag,
+            start,
+            len,
+            next,
+        } => match node_of(tag, len, k) {
+            Node::Refused { number } => Judged::Fault { number, at: place },
+            Node::Literal { equality } => literal_at(s, start, next, values, k, equality),
+            Node::Stride => stride_at(s, place, start, next, values, k),
+            Node::Pair { either } => join(pair_at(s, place, next, values, k, levels), either),
+        },
+    }
+}
+
+// The two parts of an and/or whose field starts at place; they start at `at`.
+fn pair_at(s: &[u8], place: usize, at: usize, values: &[i32], k: usize, levels: usize) -> Pair
+    requires { ⌜ Registers (now values) k ⌝ }
+    ensures { λ r. ⌜ PairRead (now (s .entry)) place at (now (values .entry)) k levels r ⌝ }
+{
+    if levels == 0 {
+        return Pair::Fault {
+            number: 17,
+            at: place,
+        };
+    }
+    match formula_at(s, at, values, k, levels - 1) {
+        Judged::Fault { number, at: fault } => Pair::Fault { number, at: fault },
+        Judged::Value {
+            holds: first,
+            next: middle,
+        } => match formula_at(s, middle, values, k, levels - 1) {
+            Judged::Fault { number, at: fault } => Pair::Fault { number, at: fault },
+            Judged::Value {
+                holds: second,
+                next,
+            } => Pair::Both {
+                first,
+                second,
+                next,
+            },
+        },
+    }
+}
