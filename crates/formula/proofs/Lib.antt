@@ -4,3 +4,4 @@ pub mod Nodes
 pub mod Value
 pub mod Parts
 pub mod Ways
+pub mod Whole

@@ -5,3 +5,4 @@ pub mod Registers
 pub mod Nodes
 pub mod FormAt
 pub mod Judging
+pub mod Outcomes

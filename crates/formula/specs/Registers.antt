@@ -27,4 +27,5 @@ pub record FirstOutside (values : List ℤ) (r : ℕ) : Type 0 where
 pub record Registers (values : List ℤ) (K : ℕ) : Type 0 where
   pub all : AllWithin values
   pub count : length values ≡ K
+  pub some : 1 ≤ K
   pub few : K ≤ 16
