@@ -5,3 +5,4 @@ pub mod Value
 pub mod Parts
 pub mod Ways
 pub mod Whole
+pub mod Judge

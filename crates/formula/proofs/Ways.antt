@@ -119,6 +119,9 @@ joined-truth values true I J u v = ap₂ _||_ u v
 joined-truth values false I J u v = ap₂ _&&_ u v
 
 module _ {s : List ℕ} {at place tag start len next : ℕ} (k : Starts s at place tag start len next) (K : ℕ) {node : Node} (e : node ≡ nodeOf K tag len) where
+  further : at ≤ next
+  further = omega (arith, k .from, k .start-is, k .next-is)
+
   pub literal-whole : {equality : Bool} → node ≡ Node.Literal equality → Whole s start K
   literal-whole f =
       let h : len ≡ formWidth 4 K = rw (sym e ∙ f) at (sizes K tag len) in
@@ -148,7 +151,7 @@ module _ {s : List ℕ} {at place tag start len next : ℕ} (k : Starts s at pla
     unfolding nodeRead formulaOf formAt judge
     formula-literal {equality} f g =
         let h : len ≡ formWidth 4 K = rw (sym e ∙ f) at (sizes K tag len) in
-        rw g (record { judged = record { formula = literal (kindOf equality) (formAt s start K); is = formula-node f ∙ rw h; truth = refl } })
+        rw g (record { judged = record { formula = literal (kindOf equality) (formAt s start K); is = formula-node f ∙ rw h; truth = refl; on = further } })
 
     module _ (f : node ≡ Node.Stride) where
       stride-is : formulaWithin edition1 K levels (fieldsAt s at) ≡ (need (answer 12 fileProof place) (leZ (pos 2) (signed (take 4 (drop start s))))
@@ -161,7 +164,7 @@ module _ {s : List ℕ} {at place tag start len next : ℕ} (k : Starts s at pla
       stride-by : (b : Bool) → leZ (pos 2) (signed (take 4 (drop start s))) ≡ b
           → FormulaRead s at values K levels (cond b (Judged.Value (divb (signed (take 4 (drop start s))) (value (formAt s (start + 4) K) (registers values))) next) (Judged.Fault 12 place))
       unfolding need _>>_ judge
-      stride-by true h = record { judged = record { formula = natAbs (signed (take 4 (drop start s))) divides formAt s (start + 4) K; is = stride-is ∙ rw h; truth = refl } }
+      stride-by true h = record { judged = record { formula = natAbs (signed (take 4 (drop start s))) divides formAt s (start + 4) K; is = stride-is ∙ rw h; truth = refl; on = further } }
       stride-by false h = record { judged = stride-is ∙ rw h }
 
       pub formula-stride : {r : Judged} → r ≡ strideJudged place next (signed (take 4 (drop start s))) (value (formAt s (start + 4) K) (registers values))
@@ -178,6 +181,7 @@ module _ {s : List ℕ} {at place tag start len next : ℕ} (k : Starts s at pla
           formula = joined (connective either) (b .judged .left) (b .judged .right);
           is = formula-node f ∙ bind-accepted _ (b .judged .is);
           truth = joined-truth values either _ _ (b .judged .left-truth) (b .judged .right-truth);
+          on = omega (arith, further, b .judged .on);
         };
       }
 
@@ -185,6 +189,9 @@ module _ {s : List ℕ} {at place tag start len next : ℕ} (k : Starts s at pla
       formula-pair {p} b g = rw g (pair-by p b)
 
 -- ---- the two parts
+pub read-on : {s : List ℕ} {values : List ℤ} {K levels at : ℕ} {r : Judged} → FormulaRead s at values K levels r → {holds : Bool} {next : ℕ} → r ≡ Judged.Value holds next → at ≤ next
+read-on b e = let x = rw e at (b .judged) in x .on
+
 pub no-level : (s : List ℕ) (place at : ℕ) (values : List ℤ) (K : ℕ) {levels : ℕ} → levels ≡ 0 → PairRead s place at values K levels (Pair.Fault 17 place)
 unfolding twoWithin
 no-level s place at values K z = record { judged = rw z }
@@ -217,5 +224,6 @@ module _ {s : List ℕ} {values : List ℤ} {K at : ℕ} (place levels : ℕ) (z
             is = two-is ∙ bind-accepted _ (x .is) ∙ bind-accepted _ (y .is);
             left-truth = x .truth;
             right-truth = y .truth;
+            on = omega (arith, x .on, y .on);
           };
         }

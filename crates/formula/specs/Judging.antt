@@ -22,33 +22,35 @@ unfoldable pub twoWithin : (K levels at : ℕ) → Fields → Result (Formula ×
 twoWithin K zero at fs = refused (answer 17 fileProof at)
 twoWithin K (suc levels) at fs = twoParts edition1 K (formulaWithin edition1 K levels) fs
 
--- A formula read as w up to a place, and its truth at the registers.
-pub record One (s : List ℕ) (values : List ℤ) (w : Result (Formula × Fields)) (holds : Bool) (next : ℕ) : Type 0 where
+-- A formula read as w from a place to the next, and its truth at the registers.
+pub record One (s : List ℕ) (at : ℕ) (values : List ℤ) (w : Result (Formula × Fields)) (holds : Bool) (next : ℕ) : Type 0 where
   pub formula : Formula
   pub is : w ≡ accepted (formula, fieldsAt s next)
   pub truth : holds ≡ judge formula (registers values)
+  pub on : at ≤ next
 
-pub record Two (s : List ℕ) (values : List ℤ) (w : Result (Formula × Formula × Fields)) (first second : Bool) (next : ℕ) : Type 0 where
+pub record Two (s : List ℕ) (at : ℕ) (values : List ℤ) (w : Result (Formula × Formula × Fields)) (first second : Bool) (next : ℕ) : Type 0 where
   pub left : Formula
   pub right : Formula
   pub is : w ≡ accepted (left, right, fieldsAt s next)
   pub left-truth : first ≡ judge left (registers values)
   pub right-truth : second ≡ judge right (registers values)
+  pub on : at ≤ next
 
-abbrev pub Judges : List ℕ → List ℤ → Result (Formula × Fields) → Judged → Type 0
-Judges s values w (Judged.Fault number at) = w ≡ refused (answer number fileProof at)
-Judges s values w (Judged.Value holds next) = One s values w holds next
+abbrev pub Judges : List ℕ → ℕ → List ℤ → Result (Formula × Fields) → Judged → Type 0
+Judges s from values w (Judged.Fault number at) = w ≡ refused (answer number fileProof at)
+Judges s from values w (Judged.Value holds next) = One s from values w holds next
 
-abbrev pub JudgesTwo : List ℕ → List ℤ → Result (Formula × Formula × Fields) → Pair → Type 0
-JudgesTwo s values w (Pair.Fault number at) = w ≡ refused (answer number fileProof at)
-JudgesTwo s values w (Pair.Both first second next) = Two s values w first second next
+abbrev pub JudgesTwo : List ℕ → ℕ → List ℤ → Result (Formula × Formula × Fields) → Pair → Type 0
+JudgesTwo s from values w (Pair.Fault number at) = w ≡ refused (answer number fileProof at)
+JudgesTwo s from values w (Pair.Both first second next) = Two s from values w first second next
 
 -- What the formula reader and the pair reader ensure.
 pub record FormulaRead (s : List ℕ) (at : ℕ) (values : List ℤ) (K levels : ℕ) (r : Judged) : Type 0 where
-  pub judged : Judges s values (formulaWithin edition1 K levels (fieldsAt s at)) r
+  pub judged : Judges s at values (formulaWithin edition1 K levels (fieldsAt s at)) r
 
 pub record PairRead (s : List ℕ) (place at : ℕ) (values : List ℤ) (K levels : ℕ) (r : Pair) : Type 0 where
-  pub judged : JudgesTwo s values (twoWithin K levels place (fieldsAt s at)) r
+  pub judged : JudgesTwo s at values (twoWithin K levels place (fieldsAt s at)) r
 
 -- The truth of an and/or.
 abbrev pub connected : (either first second : Bool) → Bool

@@ -1,10 +1,11 @@
--- The proof of the cycle {formula_at, pair_at}. Reading a pair needs as many levels as reading its formula, and each part one less, so the measures are
--- twice the levels and one, and twice the levels. Each answer collects the facts on its way and cites a lemma of `Ways`. Assumes nothing.
+-- The proof of the cycle {formula_at, pair_at}. The measure of both is the number of unread bytes and of levels: the bytes fall where the formula reader
+-- calls the pair reader, and the levels where that calls back. Each answer collects the facts on its way and cites a lemma of `Ways`. Assumes nothing.
 use native.Mathlib.Omega.{arith}
-use Rattle.fields.proofs.Places.{starts}
-use Rattle.formula.proofs.Ways.{formula-ends, formula-cut, literal-whole, stride-whole, formula-refused, formula-literal, formula-stride, formula-pair, no-level, first-fault, second-fault, both-read}
+use Rattle.fields.proofs.Places.{starts, starts-less}
+use lib.ListN.{length}
+use Rattle.formula.proofs.Ways.{formula-ends, formula-cut, literal-whole, stride-whole, formula-refused, formula-literal, formula-stride, formula-pair, no-level, first-fault, second-fault, both-read, read-on}
 use borrow.Author.Needs.{needs}
-use Prim.Native.Nat.{ℕ, _+_, _<_}
+use Prim.Native.Nat.{ℕ, _+_, _-_, _<_}
 use borrow.Fn.Kinds.{In}
 use borrow.Fn.PlainCycle.{Measures, is, falls, and}
 use Rattle.formula.proofs.reading.formula_at.Reads as formula-at
@@ -22,10 +23,10 @@ use Rattle.formula.proofs.reading.+formula_at+pair_at.{statement}
 use Rattle.formula.proofs.reading.+formula_at+pair_at.Tie.{close}
 
 abbrev μ-formula-at : Measures 2 formula-at-kinds.ps ℕ
-μ-formula-at κs a = a .1 .1 .1 .1 .0 + a .1 .1 .1 .1 .0 + 1
+μ-formula-at κs a = (length (a .0 .now) - a .1 .0) + a .1 .1 .1 .1 .0
 
 abbrev μ-pair-at : Measures 2 pair-at-kinds.ps ℕ
-μ-pair-at κs a = a .1 .1 .1 .1 .1 .0 + a .1 .1 .1 .1 .1 .0
+μ-pair-at κs a = (length (a .0 .now) - a .1 .1 .0) + a .1 .1 .1 .1 .1 .0
 
 abbrev formula-at-at : ℕ → In 2 formula-at-kinds.ps
 formula-at-at t =
@@ -231,7 +232,7 @@ formula-at-pair-at-requires : (t : ℕ) → formula-at-lts.Need-pair-at-requires
   join-reads.Asked,
   join-reads.Learnt,
 ) (formula-at-at t) formula-at.Post
-formula-at-pair-at-requires t c κs = (omega arith, c .before .before .before .before .before .before .before .before .before .pre .1)
+formula-at-pair-at-requires t c κs = (omega (arith, starts-less (starts {s = c .before .before .before .before .before .before .before .before .before .args .s .now} (c .before .before .before .before .before .before .before .next-field .ensures) (c .before .before .before .before .before .place3 .given .1))), c .before .before .before .before .before .before .before .before .before .pre .1)
 
 formula-at-join-requires : (t : ℕ) → formula-at-lts.Need-join-requires (
   next-field-reads.Asked,
@@ -384,7 +385,7 @@ pair-at-formula-at-requires-2 : (t : ℕ) → pair-at-lts.Need-formula-at-requir
   formula-at-below t,
   formula-at.Post,
 ) (pair-at-at t) pair-at.Post
-pair-at-formula-at-requires-2 t c κs = (omega arith, c .before .before .before .before .before .before .pre .1)
+pair-at-formula-at-requires-2 t c κs = (omega (arith, read-on (c .before .before .before .formula-at .ensures) (c .before .first .given .1)), c .before .before .before .before .before .before .pre .1)
 
 pair-at-enum-known-number-2 : (t : ℕ) → pair-at-lts.Need-enum-known-number-2 (
   formula-at-below t,
