@@ -1,8 +1,8 @@
 -- Register values by index: those before i are in range, and what follows of the first that is not. Assumes nothing.
-use mathlib.Core.Path.{_≡_, refl, sym, ap, _∙_}
+use mathlib.Core.Path.{_≡_, refl, _∙_}
 use mathlib.Core.Bool.{Bool, true, false}
 use mathlib.Core.List.{List}
-use Prim.Native.Nat.{ℕ, zero, suc, _+_, _≤_, _<_}
+use Prim.Native.Nat.{ℕ, _+_, _≤_, _<_}
 use native.Mathlib.Numerals.{add-one}
 use native.Mathlib.Omega.{arith}
 use lib.Dec.{leb, ltb}
@@ -12,8 +12,8 @@ use lib.Seq.{drop-cons}
 use borrow.Author.Tests.{leb-true, ltb-true, ltb-false}
 use borrow.Author.Count.{below-more}
 use Rattle.integers.specs.Magnitude.{Within}
-use Rattle.fields.specs.Answers.{answer, fileLent, Result, refused, accepted, _>>_, need, each}
-use Rattle.formula.specs.Registers.{ranged, AllWithin, FirstOutside}
+use Rattle.fields.specs.Answers.{_>>_, need, each}
+use Rattle.formula.specs.Registers.{ranged, FirstOutside}
 
 -- The values before i are in range, so that the first one out of range is the first from i on.
 pub record Passed (values : List ℤ) (i : ℕ) : Type 0 where

@@ -1,18 +1,18 @@
 -- The value of a form, summed from its last term to its first. Assumes nothing.
-use mathlib.Core.Path.{_≡_, refl, sym, ap, ap₂, _∙_}
+use mathlib.Core.Path.{_≡_, refl, ap, _∙_}
 use mathlib.Core.List.{List, [], _∷_}
 use Prim.Native.Nat.{ℕ, zero, suc, _+_, _*_, _-_, _≤_, _<_}
 use native.Mathlib.Omega.{arith}
 use lib.ListN.{length, getD, take, drop}
-use lib.Seq.{drop-cons, drop-drop, take-take, take-nil, drop-nil}
-use lib.IntN.{ℤ, pos, negsuc, natAbs, _+ℤ_, _*ℤ_, +ℤ-assoc, +ℤ-idl}
-use lib.Signed.{mag, natAbs-le}
+use lib.Seq.{drop-cons, drop-drop, take-take}
+use lib.IntN.{ℤ, pos, _+ℤ_, _*ℤ_, +ℤ-assoc, +ℤ-idl}
+use lib.Signed.{natAbs-le}
 use mir.Syntax.{w64}
 use mir.Val.{SFits}
 use Rattle.integers.specs.Magnitude.{Within, within-add, within-mul, within-le, within-fits}
-use Rattle.forms.specs.Forms.{Form, sum, value}
+use Rattle.forms.specs.Forms.{sum, value}
 use Rattle.fields.specs.Numbers.{signed, signeds, formFrom, formWidth}
-use Rattle.fields.specs.Ranges.{Half, Held}
+use Rattle.fields.specs.Ranges.{Held}
 use Rattle.formula.specs.Test.{registers}
 use Rattle.formula.specs.Registers.{AllWithin}
 use Rattle.formula.specs.FormAt.{formAt, Added}

@@ -13,12 +13,12 @@ use lib.Seq.{take-take, take-nil, drop-drop}
 use borrow.Author.Tests.{eqb-true}
 use Rattle.integers.specs.Divides.{divb}
 use Rattle.forms.specs.Edition.{edition1}
-use Rattle.forms.specs.Forms.{≤0, =0, value, Formula, literal, _divides_, _and_, _or_}
+use Rattle.forms.specs.Forms.{≤0, =0, value, Formula, literal, _divides_, _or_}
 use Rattle.fields.specs.declared.FileKind.{FileKind}
 use Rattle.fields.specs.declared.Next.{Next}
 use Rattle.fields.specs.Answers.{answer, fileProof, Result, refused, accepted, _>>=_, _>>_, need, found}
-use Rattle.fields.specs.Numbers.{signed, formFrom, formWidth}
-use Rattle.fields.specs.Fields.{Field, Fields, ends, cut, _▸_}
+use Rattle.fields.specs.Numbers.{signed, formWidth}
+use Rattle.fields.specs.Fields.{Field, Fields, _▸_}
 use Rattle.fields.specs.Header.{known}
 use Rattle.fields.specs.Places.{fieldsAt, nextOf}
 use Rattle.fields.proofs.Places.{Starts, starts-size, next-cut, next-ends}
@@ -26,7 +26,7 @@ use Rattle.formula.specs.Formula.{disjunction, conjunction, Tagged, pair
 use Rattle.formula.specs.Test.{holds, judge, registers}
 use Rattle.formula.specs.FormAt.{formAt, Whole}
 use Rattle.formula.specs.Nodes.{connective, kindOf, nodeTagged, sized, nodeIf, nodeOf, nodeRead}
-use Rattle.formula.specs.Judging.{twoWithin, One, Two, Judges, FormulaRead, PairRead, connected, joinedPair, strideJudged}
+use Rattle.formula.specs.Judging.{twoWithin, FormulaRead, PairRead, connected, joinedPair, strideJudged}
 use Rattle.formula.specs.declared.node.Node.{Node}
 use Rattle.formula.specs.declared.reading.Judged.{Judged}
 use Rattle.formula.specs.declared.reading.Pair.{Pair}

@@ -1,12 +1,12 @@
 -- Each way through testing a formula, over plain values. Assumes nothing.
 use mathlib.Core.Path.{_≡_, refl, sym, ap, _∙_}
 use mathlib.Core.Option.{some}
-use mathlib.Core.Bool.{Bool, true, false, _&&_}
+use mathlib.Core.Bool.{Bool, true, false}
 use mathlib.Core.List.{List}
 use Prim.Native.Nat.{ℕ, zero, suc, _≤_, _<_}
 use native.Mathlib.Omega.{arith}
-use lib.Dec.{eqb, leb}
-use lib.IntN.{ℤ, pos, natAbs}
+use lib.Dec.{leb}
+use lib.IntN.{ℤ}
 use lib.ListN.{length}
 use borrow.Author.Tests.{eqb-true, le-leb, lt-leb}
 use Rattle.forms.specs.Edition.{edition1}
@@ -15,15 +15,15 @@ use Rattle.fields.specs.declared.Answer.{Answer}
 use Rattle.fields.specs.declared.FileKind.{FileKind}
 use Rattle.fields.specs.declared.Next.{Next}
 use Rattle.fields.specs.declared.header.Headed.{Headed}
-use Rattle.fields.specs.Answers.{answer, fileProof, fileLent, Result, refused, accepted, _>>=_, _>>_, need, each}
-use Rattle.fields.specs.Fields.{Fields, fields, ends, cut, _▸_}
+use Rattle.fields.specs.Answers.{answer, fileProof, fileLent, Result, refused, accepted, _>>=_, _>>_, need}
+use Rattle.fields.specs.Fields.{Fields, fields}
 use Rattle.fields.specs.Header.{Header, known, agrees, header, finished}
 use Rattle.fields.specs.Places.{fieldsAt, nextOf, givenK, headedOf, IsHeader}
 use Rattle.fields.proofs.Places.{Starts, next-cut, next-ends}
-use Rattle.formula.specs.Formula.{formulaWithin, readFormula}
+use Rattle.formula.specs.Formula.{readFormula}
 use Rattle.formula.specs.Test.{judge, registers, judged, tested, testFormula}
 use Rattle.formula.specs.Registers.{ranged, FirstOutside, Registers}
-use Rattle.formula.specs.Judging.{One, FormulaRead}
+use Rattle.formula.specs.Judging.{FormulaRead}
 use Rattle.formula.specs.Outcomes.{asTested, refusal, IsEnding, endTested, Finish}
 use Rattle.formula.specs.declared.Tested.{Tested}
 use Rattle.formula.specs.declared.ending.Ending.{Ending}

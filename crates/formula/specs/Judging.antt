@@ -3,9 +3,8 @@ use mathlib.Core.Path.{_≡_}
 use mathlib.Core.Bool.{Bool, true, false, _&&_, _||_, cond}
 use mathlib.Core.List.{List}
 use Prim.Native.Nat.{ℕ, zero, suc, _≤_}
-use lib.IntN.{ℤ, pos, natAbs}
+use lib.IntN.{ℤ, pos}
 use lib.Signed.{leZ}
-use lib.ListN.{length}
 use Rattle.integers.specs.Divides.{divb}
 use Rattle.forms.specs.Edition.{edition1}
 use Rattle.forms.specs.Forms.{Formula}

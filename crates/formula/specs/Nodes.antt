@@ -6,7 +6,7 @@ use lib.Dec.{eqb}
 use Rattle.forms.specs.Edition.{edition1}
 use Rattle.forms.specs.Forms.{Kind, ≤0, =0, Formula}
 use Rattle.fields.specs.declared.FileKind.{FileKind}
-use Rattle.fields.specs.Answers.{answer, fileProof, Result, refused, accepted}
+use Rattle.fields.specs.Answers.{answer, fileProof, Result, refused}
 use Rattle.fields.specs.Fields.{Field, Fields}
 use Rattle.fields.specs.Header.{known}
 use Rattle.formula.specs.Formula.{Connective, disjunction, conjunction, Tagged, pair, atom, stride, formulaTagged, sizeOf, formulaOf}

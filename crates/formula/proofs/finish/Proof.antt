@@ -3,10 +3,6 @@ use Rattle.formula.proofs.Whole.{finish-ended, finish-fault}
 use borrow.Author.Needs.{needs}
 use Rattle.formula.proofs.finish.Statement.{statement}
 use Rattle.formula.proofs.finish.Tie as tie
-use Rattle.formula.proofs.finish.Reads as reads
-use Rattle.formula.proofs.finish.Lts as lts
-use Rattle.formula.proofs.ending.ending_at.Reads as ending-at-reads
-use Rattle.formula.proofs.refuse.Reads as refuse-reads
 
 ending-at-requires : tie.Need-ending-at-requires
 ending-at-requires c κs = search needs

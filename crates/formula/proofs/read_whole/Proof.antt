@@ -3,12 +3,6 @@ use Rattle.formula.proofs.Whole.{header-refused, formula-fault, formula
 use borrow.Author.Needs.{needs}
 use Rattle.formula.proofs.read_whole.Statement.{statement}
 use Rattle.formula.proofs.read_whole.Tie as tie
-use Rattle.formula.proofs.read_whole.Reads as reads
-use Rattle.formula.proofs.read_whole.Lts as lts
-use Rattle.fields.proofs.header.read_header.Reads as read-header-reads
-use Rattle.formula.proofs.finish.Reads as finish-reads
-use Rattle.formula.proofs.reading.formula_at.Reads as formula-at-reads
-use Rattle.formula.proofs.refuse.Reads as refuse-reads
 
 cast-read-header : tie.Need-cast-read-header
 cast-read-header c = search needs

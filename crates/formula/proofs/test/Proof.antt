@@ -3,11 +3,6 @@ use Rattle.formula.proofs.Whole.{no-values, many-values, value-outside,
 use borrow.Author.Needs.{needs}
 use Rattle.formula.proofs.test.Statement.{statement}
 use Rattle.formula.proofs.test.Tie as tie
-use Rattle.formula.proofs.test.Reads as reads
-use Rattle.formula.proofs.test.Lts as lts
-use Rattle.formula.proofs.read_whole.Reads as read-whole-reads
-use Rattle.formula.proofs.refuse.Reads as refuse-reads
-use Rattle.formula.proofs.values.first_outside.Reads as first-outside-reads
 
 refuse-requires : tie.Need-refuse-requires
 refuse-requires c κs = search needs

@@ -5,10 +5,6 @@ use Rattle.formula.proofs.Whole.{ending-none, ending-cut, ending-known,
 use borrow.Author.Needs.{needs}
 use Rattle.formula.proofs.ending.ending_at.Statement.{statement}
 use Rattle.formula.proofs.ending.ending_at.Tie as tie
-use Rattle.formula.proofs.ending.ending_at.Reads as reads
-use Rattle.formula.proofs.ending.ending_at.Lts as lts
-use Rattle.fields.proofs.header.known.Reads as known-reads
-use Rattle.fields.proofs.next_field.Reads as next-field-reads
 
 next-field-requires : tie.Need-next-field-requires
 next-field-requires c κs = search needs

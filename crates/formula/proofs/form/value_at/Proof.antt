@@ -9,10 +9,6 @@ use Rattle.integers.specs.Magnitude.{within-le}
 use Rattle.formula.proofs.Value.{Summed, summed-none, summed-more, summed-all}
 use Rattle.formula.proofs.form.value_at.Statement.{statement}
 use Rattle.formula.proofs.form.value_at.Tie as tie
-use Rattle.formula.proofs.form.value_at.Reads as reads
-use Rattle.formula.proofs.form.value_at.Lts as lts
-use Rattle.fields.proofs.numbers.signed_at.Reads as signed-at-reads
-use Rattle.formula.proofs.form.with_term.Reads as with-term-reads
 
 abbrev Inv-loop : tie.InvT-loop
 Inv-loop s at values k total₀ i₀ total i = Summed s at values k i (toZ w64 total)

@@ -1,15 +1,13 @@
 -- `formula::form::with_term` meets its contract. Assumes nothing.
-use mathlib.Core.Path.{_≡_, refl, _∙_}
+use mathlib.Core.Path.{refl}
 use mathlib.Core.Logic.{inr}
 use mir.Syntax.{w64}
 use mir.ValLaws.{toZ-ofZ}
-use Rattle.integers.specs.Magnitude.{Within, within-fits}
+use Rattle.integers.specs.Magnitude.{Within}
 use Rattle.formula.proofs.Value.{product-fits, sum-fits}
 use borrow.Author.Needs.{needs}
 use Rattle.formula.proofs.form.with_term.Statement.{statement}
 use Rattle.formula.proofs.form.with_term.Tie as tie
-use Rattle.formula.proofs.form.with_term.Reads as reads
-use Rattle.formula.proofs.form.with_term.Lts as lts
 
 signed-at-requires : tie.Need-signed-at-requires
 signed-at-requires c κs = (inr refl, c .before .pre .coefficient)

@@ -1,16 +1,12 @@
-use mathlib.Core.Path.{_≡_, refl, _∙_}
+use mathlib.Core.Path.{refl, _∙_}
 use native.Mathlib.Omega.{arith}
 use Rattle.forms.specs.Forms.{≤0, =0}
 use Rattle.fields.specs.Header.{known, headerTag}
 use Rattle.formula.specs.Formula.{disjunction, conjunction, pair, atom, stride, formulaTagged, sizeOf}
-use Rattle.formula.specs.Nodes.{nodeIf, nodeOf}
 use Rattle.formula.proofs.Nodes.{by-tag, not-known, unknown, header-tag}
 use borrow.Author.Needs.{needs}
 use Rattle.formula.proofs.node.node_of.Statement.{statement}
 use Rattle.formula.proofs.node.node_of.Tie as tie
-use Rattle.formula.proofs.node.node_of.Reads as reads
-use Rattle.formula.proofs.node.node_of.Lts as lts
-use Rattle.formula.proofs.node.sized.Reads as sized-reads
 
 -- src/node.rt:30:17
 add-form : tie.Need-add-form

@@ -42,393 +42,110 @@ pair-at-at t = and 2 pair-at-kinds.ps (is 2 pair-at-kinds.ps μ-pair-at t) pair-
 abbrev pair-at-below : ℕ → In 2 pair-at-kinds.ps
 pair-at-below t = and 2 pair-at-kinds.ps (falls 2 pair-at-kinds.ps _<_ μ-pair-at t) pair-at.Pre
 
-formula-at-next-field-requires : (t : ℕ) → formula-at-lts.Need-next-field-requires (
-  next-field-reads.Asked,
-  next-field-reads.Learnt,
-  node-of-reads.Asked,
-  node-of-reads.Learnt,
-  literal-at-reads.Asked,
-  literal-at-reads.Learnt,
-  stride-at-reads.Asked,
-  stride-at-reads.Learnt,
-  pair-at-below t,
-  pair-at.Post,
-  join-reads.Asked,
-  join-reads.Learnt,
-) (formula-at-at t) formula-at.Post
-formula-at-next-field-requires t c κs = search needs
+-- what is known of the functions that each calls
+abbrev formula-claims : ℕ → formula-at-lts.Claims
+formula-claims t =
+    (next-field-reads.Asked, next-field-reads.Learnt, node-of-reads.Asked, node-of-reads.Learnt, literal-at-reads.Asked, literal-at-reads.Learnt, stride-at-reads.Asked, stride-at-reads.Learnt, pair-at-below t, pair-at.Post, join-reads.Asked, join-reads.Learnt)
 
-formula-at-enum-known-place : (t : ℕ) → formula-at-lts.Need-enum-known-place (
-  next-field-reads.Asked,
-  next-field-reads.Learnt,
-  node-of-reads.Asked,
-  node-of-reads.Learnt,
-  literal-at-reads.Asked,
-  literal-at-reads.Learnt,
-  stride-at-reads.Asked,
-  stride-at-reads.Learnt,
-  pair-at-below t,
-  pair-at.Post,
-  join-reads.Asked,
-  join-reads.Learnt,
-) (formula-at-at t) formula-at.Post
-formula-at-enum-known-place t c = search needs
+abbrev pair-claims : ℕ → pair-at-lts.Claims
+pair-claims t = (formula-at-below t, formula-at.Post)
 
-formula-at-enum-known-place-2 : (t : ℕ) → formula-at-lts.Need-enum-known-place-2 (
-  next-field-reads.Asked,
-  next-field-reads.Learnt,
-  node-of-reads.Asked,
-  node-of-reads.Learnt,
-  literal-at-reads.Asked,
-  literal-at-reads.Learnt,
-  stride-at-reads.Asked,
-  stride-at-reads.Learnt,
-  pair-at-below t,
-  pair-at.Post,
-  join-reads.Asked,
-  join-reads.Learnt,
-) (formula-at-at t) formula-at.Post
-formula-at-enum-known-place-2 t c = search needs
+module _ (t : ℕ) where
+  formula-at-next-field-requires : formula-at-lts.Need-next-field-requires (formula-claims t) (formula-at-at t) formula-at.Post
+  formula-at-next-field-requires c κs = search needs
 
-formula-at-enum-known-place-3 : (t : ℕ) → formula-at-lts.Need-enum-known-place-3 (
-  next-field-reads.Asked,
-  next-field-reads.Learnt,
-  node-of-reads.Asked,
-  node-of-reads.Learnt,
-  literal-at-reads.Asked,
-  literal-at-reads.Learnt,
-  stride-at-reads.Asked,
-  stride-at-reads.Learnt,
-  pair-at-below t,
-  pair-at.Post,
-  join-reads.Asked,
-  join-reads.Learnt,
-) (formula-at-at t) formula-at.Post
-formula-at-enum-known-place-3 t c = search needs
+  formula-at-enum-known-place : formula-at-lts.Need-enum-known-place (formula-claims t) (formula-at-at t) formula-at.Post
+  formula-at-enum-known-place c = search needs
 
-formula-at-node-of-requires : (t : ℕ) → formula-at-lts.Need-node-of-requires (
-  next-field-reads.Asked,
-  next-field-reads.Learnt,
-  node-of-reads.Asked,
-  node-of-reads.Learnt,
-  literal-at-reads.Asked,
-  literal-at-reads.Learnt,
-  stride-at-reads.Asked,
-  stride-at-reads.Learnt,
-  pair-at-below t,
-  pair-at.Post,
-  join-reads.Asked,
-  join-reads.Learnt,
-) (formula-at-at t) formula-at.Post
-formula-at-node-of-requires t c κs = c .before .before .before .before .before .pre .1 .few
+  formula-at-enum-known-place-2 : formula-at-lts.Need-enum-known-place-2 (formula-claims t) (formula-at-at t) formula-at.Post
+  formula-at-enum-known-place-2 c = search needs
 
-formula-at-enum-known-number : (t : ℕ) → formula-at-lts.Need-enum-known-number (
-  next-field-reads.Asked,
-  next-field-reads.Learnt,
-  node-of-reads.Asked,
-  node-of-reads.Learnt,
-  literal-at-reads.Asked,
-  literal-at-reads.Learnt,
-  stride-at-reads.Asked,
-  stride-at-reads.Learnt,
-  pair-at-below t,
-  pair-at.Post,
-  join-reads.Asked,
-  join-reads.Learnt,
-) (formula-at-at t) formula-at.Post
-formula-at-enum-known-number t c = search needs
+  formula-at-enum-known-place-3 : formula-at-lts.Need-enum-known-place-3 (formula-claims t) (formula-at-at t) formula-at.Post
+  formula-at-enum-known-place-3 c = search needs
 
-formula-at-enum-known-equality : (t : ℕ) → formula-at-lts.Need-enum-known-equality (
-  next-field-reads.Asked,
-  next-field-reads.Learnt,
-  node-of-reads.Asked,
-  node-of-reads.Learnt,
-  literal-at-reads.Asked,
-  literal-at-reads.Learnt,
-  stride-at-reads.Asked,
-  stride-at-reads.Learnt,
-  pair-at-below t,
-  pair-at.Post,
-  join-reads.Asked,
-  join-reads.Learnt,
-) (formula-at-at t) formula-at.Post
-formula-at-enum-known-equality t c = search needs
+  formula-at-node-of-requires : formula-at-lts.Need-node-of-requires (formula-claims t) (formula-at-at t) formula-at.Post
+  formula-at-node-of-requires c κs = c .before .before .before .before .before .pre .1 .few
 
-formula-at-literal-at-requires : (t : ℕ) → formula-at-lts.Need-literal-at-requires (
-  next-field-reads.Asked,
-  next-field-reads.Learnt,
-  node-of-reads.Asked,
-  node-of-reads.Learnt,
-  literal-at-reads.Asked,
-  literal-at-reads.Learnt,
-  stride-at-reads.Asked,
-  stride-at-reads.Learnt,
-  pair-at-below t,
-  pair-at.Post,
-  join-reads.Asked,
-  join-reads.Learnt,
-) (formula-at-at t) formula-at.Post
-formula-at-literal-at-requires t c κs = (literal-whole (starts (c .before .before .before .before .before .before .before .next-field .ensures) (c .before .before .before .before .before .place3 .given .1)) _ (c .before .before .before .node-of .ensures) (c .before .equality .given .1), c .before .before .before .before .before .before .before .before .before .pre .1)
+  formula-at-enum-known-number : formula-at-lts.Need-enum-known-number (formula-claims t) (formula-at-at t) formula-at.Post
+  formula-at-enum-known-number c = search needs
 
-formula-at-enum-told : (t : ℕ) → formula-at-lts.Need-enum-told (
-  next-field-reads.Asked,
-  next-field-reads.Learnt,
-  node-of-reads.Asked,
-  node-of-reads.Learnt,
-  literal-at-reads.Asked,
-  literal-at-reads.Learnt,
-  stride-at-reads.Asked,
-  stride-at-reads.Learnt,
-  pair-at-below t,
-  pair-at.Post,
-  join-reads.Asked,
-  join-reads.Learnt,
-) (formula-at-at t) formula-at.Post
-formula-at-enum-told t c = search needs
+  formula-at-enum-known-equality : formula-at-lts.Need-enum-known-equality (formula-claims t) (formula-at-at t) formula-at.Post
+  formula-at-enum-known-equality c = search needs
 
-formula-at-stride-at-requires : (t : ℕ) → formula-at-lts.Need-stride-at-requires (
-  next-field-reads.Asked,
-  next-field-reads.Learnt,
-  node-of-reads.Asked,
-  node-of-reads.Learnt,
-  literal-at-reads.Asked,
-  literal-at-reads.Learnt,
-  stride-at-reads.Asked,
-  stride-at-reads.Learnt,
-  pair-at-below t,
-  pair-at.Post,
-  join-reads.Asked,
-  join-reads.Learnt,
-) (formula-at-at t) formula-at.Post
-formula-at-stride-at-requires t c κs = (stride-whole (starts (c .before .before .before .before .before .before .next-field .ensures) (c .before .before .before .before .place3 .given .1)) _ (c .before .before .node-of .ensures) (c .enum-told .given .1), c .before .before .before .before .before .before .before .before .pre .1)
+  formula-at-literal-at-requires : formula-at-lts.Need-literal-at-requires (formula-claims t) (formula-at-at t) formula-at.Post
+  formula-at-literal-at-requires c κs = (literal-whole (starts (c .before .before .before .before .before .before .before .next-field .ensures) (c .before .before .before .before .before .place3 .given .1)) _ (c .before .before .before .node-of .ensures) (c .before .equality .given .1), c .before .before .before .before .before .before .before .before .before .pre .1)
 
-formula-at-enum-known-either : (t : ℕ) → formula-at-lts.Need-enum-known-either (
-  next-field-reads.Asked,
-  next-field-reads.Learnt,
-  node-of-reads.Asked,
-  node-of-reads.Learnt,
-  literal-at-reads.Asked,
-  literal-at-reads.Learnt,
-  stride-at-reads.Asked,
-  stride-at-reads.Learnt,
-  pair-at-below t,
-  pair-at.Post,
-  join-reads.Asked,
-  join-reads.Learnt,
-) (formula-at-at t) formula-at.Post
-formula-at-enum-known-either t c = search needs
+  formula-at-enum-told : formula-at-lts.Need-enum-told (formula-claims t) (formula-at-at t) formula-at.Post
+  formula-at-enum-told c = search needs
 
-formula-at-pair-at-requires : (t : ℕ) → formula-at-lts.Need-pair-at-requires (
-  next-field-reads.Asked,
-  next-field-reads.Learnt,
-  node-of-reads.Asked,
-  node-of-reads.Learnt,
-  literal-at-reads.Asked,
-  literal-at-reads.Learnt,
-  stride-at-reads.Asked,
-  stride-at-reads.Learnt,
-  pair-at-below t,
-  pair-at.Post,
-  join-reads.Asked,
-  join-reads.Learnt,
-) (formula-at-at t) formula-at.Post
-formula-at-pair-at-requires t c κs = (omega (arith, starts-less (starts {s = c .before .before .before .before .before .before .before .before .before .args .s .now} (c .before .before .before .before .before .before .before .next-field .ensures) (c .before .before .before .before .before .place3 .given .1))), c .before .before .before .before .before .before .before .before .before .pre .1)
+  formula-at-stride-at-requires : formula-at-lts.Need-stride-at-requires (formula-claims t) (formula-at-at t) formula-at.Post
+  formula-at-stride-at-requires c κs = (stride-whole (starts (c .before .before .before .before .before .before .next-field .ensures) (c .before .before .before .before .place3 .given .1)) _ (c .before .before .node-of .ensures) (c .enum-told .given .1), c .before .before .before .before .before .before .before .before .pre .1)
 
-formula-at-join-requires : (t : ℕ) → formula-at-lts.Need-join-requires (
-  next-field-reads.Asked,
-  next-field-reads.Learnt,
-  node-of-reads.Asked,
-  node-of-reads.Learnt,
-  literal-at-reads.Asked,
-  literal-at-reads.Learnt,
-  stride-at-reads.Asked,
-  stride-at-reads.Learnt,
-  pair-at-below t,
-  pair-at.Post,
-  join-reads.Asked,
-  join-reads.Learnt,
-) (formula-at-at t) formula-at.Post
-formula-at-join-requires t c κs = search needs
+  formula-at-enum-known-either : formula-at-lts.Need-enum-known-either (formula-claims t) (formula-at-at t) formula-at.Post
+  formula-at-enum-known-either c = search needs
 
-formula-at-returns : (t : ℕ) → formula-at-lts.Need-returns (
-  next-field-reads.Asked,
-  next-field-reads.Learnt,
-  node-of-reads.Asked,
-  node-of-reads.Learnt,
-  literal-at-reads.Asked,
-  literal-at-reads.Learnt,
-  stride-at-reads.Asked,
-  stride-at-reads.Learnt,
-  pair-at-below t,
-  pair-at.Post,
-  join-reads.Asked,
-  join-reads.Learnt,
-) (formula-at-at t) formula-at.Post
-formula-at-returns t c = formula-ends _ _ _ _ _ (c .before .before .before .next-field .ensures) (c .before .place .given .1)
+  formula-at-pair-at-requires : formula-at-lts.Need-pair-at-requires (formula-claims t) (formula-at-at t) formula-at.Post
+  formula-at-pair-at-requires c κs = (omega (arith, starts-less (starts {s = c .before .before .before .before .before .before .before .before .before .args .s .now} (c .before .before .before .before .before .before .before .next-field .ensures) (c .before .before .before .before .before .place3 .given .1))), c .before .before .before .before .before .before .before .before .before .pre .1)
 
-formula-at-returns-2 : (t : ℕ) → formula-at-lts.Need-returns-2 (
-  next-field-reads.Asked,
-  next-field-reads.Learnt,
-  node-of-reads.Asked,
-  node-of-reads.Learnt,
-  literal-at-reads.Asked,
-  literal-at-reads.Learnt,
-  stride-at-reads.Asked,
-  stride-at-reads.Learnt,
-  pair-at-below t,
-  pair-at.Post,
-  join-reads.Asked,
-  join-reads.Learnt,
-) (formula-at-at t) formula-at.Post
-formula-at-returns-2 t c = formula-cut _ _ _ _ _ (c .before .before .before .next-field .ensures) (c .before .place2 .given .1)
+  formula-at-join-requires : formula-at-lts.Need-join-requires (formula-claims t) (formula-at-at t) formula-at.Post
+  formula-at-join-requires c κs = search needs
 
-formula-at-returns-3 : (t : ℕ) → formula-at-lts.Need-returns-3 (
-  next-field-reads.Asked,
-  next-field-reads.Learnt,
-  node-of-reads.Asked,
-  node-of-reads.Learnt,
-  literal-at-reads.Asked,
-  literal-at-reads.Learnt,
-  stride-at-reads.Asked,
-  stride-at-reads.Learnt,
-  pair-at-below t,
-  pair-at.Post,
-  join-reads.Asked,
-  join-reads.Learnt,
-) (formula-at-at t) formula-at.Post
-formula-at-returns-3 t c = formula-refused (starts (c .before .before .before .before .before .before .before .next-field .ensures) (c .before .before .before .before .before .place3 .given .1)) _ (c .before .before .before .node-of .ensures) _ _ (c .before .number .given .1)
+  formula-at-returns : formula-at-lts.Need-returns (formula-claims t) (formula-at-at t) formula-at.Post
+  formula-at-returns c = formula-ends _ _ _ _ _ (c .before .before .before .next-field .ensures) (c .before .place .given .1)
 
-formula-at-returns-4 : (t : ℕ) → formula-at-lts.Need-returns-4 (
-  next-field-reads.Asked,
-  next-field-reads.Learnt,
-  node-of-reads.Asked,
-  node-of-reads.Learnt,
-  literal-at-reads.Asked,
-  literal-at-reads.Learnt,
-  stride-at-reads.Asked,
-  stride-at-reads.Learnt,
-  pair-at-below t,
-  pair-at.Post,
-  join-reads.Asked,
-  join-reads.Learnt,
-) (formula-at-at t) formula-at.Post
-formula-at-returns-4 t c = formula-literal (starts (c .before .before .before .before .before .before .before .before .next-field .ensures) (c .before .before .before .before .before .before .place3 .given .1)) _ (c .before .before .before .before .node-of .ensures) _ _ (c .before .before .equality .given .1) (c .literal-at .ensures)
+  formula-at-returns-2 : formula-at-lts.Need-returns-2 (formula-claims t) (formula-at-at t) formula-at.Post
+  formula-at-returns-2 c = formula-cut _ _ _ _ _ (c .before .before .before .next-field .ensures) (c .before .place2 .given .1)
 
-formula-at-returns-5 : (t : ℕ) → formula-at-lts.Need-returns-5 (
-  next-field-reads.Asked,
-  next-field-reads.Learnt,
-  node-of-reads.Asked,
-  node-of-reads.Learnt,
-  literal-at-reads.Asked,
-  literal-at-reads.Learnt,
-  stride-at-reads.Asked,
-  stride-at-reads.Learnt,
-  pair-at-below t,
-  pair-at.Post,
-  join-reads.Asked,
-  join-reads.Learnt,
-) (formula-at-at t) formula-at.Post
-formula-at-returns-5 t c = formula-stride (starts (c .before .before .before .before .before .before .before .next-field .ensures) (c .before .before .before .before .before .place3 .given .1)) _ (c .before .before .before .node-of .ensures) _ _ (c .before .enum-told .given .1) (c .stride-at .ensures)
+  formula-at-returns-3 : formula-at-lts.Need-returns-3 (formula-claims t) (formula-at-at t) formula-at.Post
+  formula-at-returns-3 c = formula-refused (starts (c .before .before .before .before .before .before .before .next-field .ensures) (c .before .before .before .before .before .place3 .given .1)) _ (c .before .before .before .node-of .ensures) _ _ (c .before .number .given .1)
 
-formula-at-returns-6 : (t : ℕ) → formula-at-lts.Need-returns-6 (
-  next-field-reads.Asked,
-  next-field-reads.Learnt,
-  node-of-reads.Asked,
-  node-of-reads.Learnt,
-  literal-at-reads.Asked,
-  literal-at-reads.Learnt,
-  stride-at-reads.Asked,
-  stride-at-reads.Learnt,
-  pair-at-below t,
-  pair-at.Post,
-  join-reads.Asked,
-  join-reads.Learnt,
-) (formula-at-at t) formula-at.Post
-formula-at-returns-6 t c = formula-pair (starts (c .before .before .before .before .before .before .before .before .before .next-field .ensures) (c .before .before .before .before .before .before .before .place3 .given .1)) _ (c .before .before .before .before .before .node-of .ensures) _ _ (c .before .before .before .either .given .1) (c .before .pair-at .ensures) (c .join .ensures)
+  formula-at-returns-4 : formula-at-lts.Need-returns-4 (formula-claims t) (formula-at-at t) formula-at.Post
+  formula-at-returns-4 c = formula-literal (starts (c .before .before .before .before .before .before .before .before .next-field .ensures) (c .before .before .before .before .before .before .place3 .given .1)) _ (c .before .before .before .before .node-of .ensures) _ _ (c .before .before .equality .given .1) (c .literal-at .ensures)
 
-pair-at-returns :
-    (t : ℕ) →
-    pair-at-lts.Need-returns (formula-at-below t, formula-at.Post) (pair-at-at t) pair-at.Post
-pair-at-returns t c = no-level _ _ _ _ _ (c .if1 .taken)
+  formula-at-returns-5 : formula-at-lts.Need-returns-5 (formula-claims t) (formula-at-at t) formula-at.Post
+  formula-at-returns-5 c = formula-stride (starts (c .before .before .before .before .before .before .before .next-field .ensures) (c .before .before .before .before .before .place3 .given .1)) _ (c .before .before .before .node-of .ensures) _ _ (c .before .enum-told .given .1) (c .stride-at .ensures)
 
-pair-at-sub-formula-at : (t : ℕ) → pair-at-lts.Need-sub-formula-at (
-  formula-at-below t,
-  formula-at.Post,
-) (pair-at-at t) pair-at.Post
-pair-at-sub-formula-at t c = search needs
+  formula-at-returns-6 : formula-at-lts.Need-returns-6 (formula-claims t) (formula-at-at t) formula-at.Post
+  formula-at-returns-6 c = formula-pair (starts (c .before .before .before .before .before .before .before .before .before .next-field .ensures) (c .before .before .before .before .before .before .before .place3 .given .1)) _ (c .before .before .before .before .before .node-of .ensures) _ _ (c .before .before .before .either .given .1) (c .before .pair-at .ensures) (c .join .ensures)
 
-pair-at-formula-at-requires : (t : ℕ) → pair-at-lts.Need-formula-at-requires (
-  formula-at-below t,
-  formula-at.Post,
-) (pair-at-at t) pair-at.Post
-pair-at-formula-at-requires t c κs = (omega arith, c .before .before .pre .1)
+  pair-at-returns : pair-at-lts.Need-returns (pair-claims t) (pair-at-at t) pair-at.Post
+  pair-at-returns c = no-level _ _ _ _ _ (c .if1 .taken)
 
-pair-at-enum-known-number : (t : ℕ) → pair-at-lts.Need-enum-known-number (
-  formula-at-below t,
-  formula-at.Post,
-) (pair-at-at t) pair-at.Post
-pair-at-enum-known-number t c = search needs
+  pair-at-sub-formula-at : pair-at-lts.Need-sub-formula-at (pair-claims t) (pair-at-at t) pair-at.Post
+  pair-at-sub-formula-at c = search needs
 
-pair-at-enum-known-first : (t : ℕ) → pair-at-lts.Need-enum-known-first (
-  formula-at-below t,
-  formula-at.Post,
-) (pair-at-at t) pair-at.Post
-pair-at-enum-known-first t c = search needs
+  pair-at-formula-at-requires : pair-at-lts.Need-formula-at-requires (pair-claims t) (pair-at-at t) pair-at.Post
+  pair-at-formula-at-requires c κs = (omega arith, c .before .before .pre .1)
 
-pair-at-sub-formula-at-2 : (t : ℕ) → pair-at-lts.Need-sub-formula-at-2 (
-  formula-at-below t,
-  formula-at.Post,
-) (pair-at-at t) pair-at.Post
-pair-at-sub-formula-at-2 t c = search needs
+  pair-at-enum-known-number : pair-at-lts.Need-enum-known-number (pair-claims t) (pair-at-at t) pair-at.Post
+  pair-at-enum-known-number c = search needs
 
-pair-at-formula-at-requires-2 : (t : ℕ) → pair-at-lts.Need-formula-at-requires-2 (
-  formula-at-below t,
-  formula-at.Post,
-) (pair-at-at t) pair-at.Post
-pair-at-formula-at-requires-2 t c κs = (omega (arith, read-on (c .before .before .before .formula-at .ensures) (c .before .first .given .1)), c .before .before .before .before .before .before .pre .1)
+  pair-at-enum-known-first : pair-at-lts.Need-enum-known-first (pair-claims t) (pair-at-at t) pair-at.Post
+  pair-at-enum-known-first c = search needs
 
-pair-at-enum-known-number-2 : (t : ℕ) → pair-at-lts.Need-enum-known-number-2 (
-  formula-at-below t,
-  formula-at.Post,
-) (pair-at-at t) pair-at.Post
-pair-at-enum-known-number-2 t c = search needs
+  pair-at-sub-formula-at-2 : pair-at-lts.Need-sub-formula-at-2 (pair-claims t) (pair-at-at t) pair-at.Post
+  pair-at-sub-formula-at-2 c = search needs
 
-pair-at-enum-known-second : (t : ℕ) → pair-at-lts.Need-enum-known-second (
-  formula-at-below t,
-  formula-at.Post,
-) (pair-at-at t) pair-at.Post
-pair-at-enum-known-second t c = search needs
+  pair-at-formula-at-requires-2 : pair-at-lts.Need-formula-at-requires-2 (pair-claims t) (pair-at-at t) pair-at.Post
+  pair-at-formula-at-requires-2 c κs = (omega (arith, read-on (c .before .before .before .formula-at .ensures) (c .before .first .given .1)), c .before .before .before .before .before .before .pre .1)
 
-pair-at-returns-2 :
-    (t : ℕ) →
-    pair-at-lts.Need-returns-2 (formula-at-below t, formula-at.Post) (pair-at-at t) pair-at.Post
-pair-at-returns-2 t c = first-fault _ _ (c .before .before .before .before .if1 .left) (c .before .before .before .formula-at .ensures) (c .before .number .given .1)
+  pair-at-enum-known-number-2 : pair-at-lts.Need-enum-known-number-2 (pair-claims t) (pair-at-at t) pair-at.Post
+  pair-at-enum-known-number-2 c = search needs
 
-pair-at-returns-3 :
-    (t : ℕ) →
-    pair-at-lts.Need-returns-3 (formula-at-below t, formula-at.Post) (pair-at-at t) pair-at.Post
-pair-at-returns-3 t c = second-fault _ _ (c .before .before .before .before .before .before .before .before .if1 .left) (c .before .before .before .before .before .before .before .formula-at .ensures) (c .before .before .before .before .before .first .given .1) (c .before .before .before .formula-at2 .ensures) (c .before .number2 .given .1)
+  pair-at-enum-known-second : pair-at-lts.Need-enum-known-second (pair-claims t) (pair-at-at t) pair-at.Post
+  pair-at-enum-known-second c = search needs
 
-pair-at-returns-4 :
-    (t : ℕ) →
-    pair-at-lts.Need-returns-4 (formula-at-below t, formula-at.Post) (pair-at-at t) pair-at.Post
-pair-at-returns-4 t c = both-read _ _ (c .before .before .before .before .before .before .before .before .if1 .left) (c .before .before .before .before .before .before .before .formula-at .ensures) (c .before .before .before .before .before .first .given .1) (c .before .before .before .formula-at2 .ensures) (c .before .second .given .1)
+  pair-at-returns-2 : pair-at-lts.Need-returns-2 (pair-claims t) (pair-at-at t) pair-at.Post
+  pair-at-returns-2 c = first-fault _ _ (c .before .before .before .before .if1 .left) (c .before .before .before .formula-at .ensures) (c .before .number .given .1)
+
+  pair-at-returns-3 : pair-at-lts.Need-returns-3 (pair-claims t) (pair-at-at t) pair-at.Post
+  pair-at-returns-3 c = second-fault _ _ (c .before .before .before .before .before .before .before .before .if1 .left) (c .before .before .before .before .before .before .before .formula-at .ensures) (c .before .before .before .before .before .first .given .1) (c .before .before .before .formula-at2 .ensures) (c .before .number2 .given .1)
+
+  pair-at-returns-4 : pair-at-lts.Need-returns-4 (pair-claims t) (pair-at-at t) pair-at.Post
+  pair-at-returns-4 c = both-read _ _ (c .before .before .before .before .before .before .before .before .if1 .left) (c .before .before .before .before .before .before .before .formula-at .ensures) (c .before .before .before .before .before .first .given .1) (c .before .before .before .formula-at2 .ensures) (c .before .second .given .1)
 
 pub +formula-at+pair-at-spec : {M : Type 1} → statement M
-+formula-at+pair-at-spec = close μ-formula-at μ-pair-at (λ t. formula-at-lts.spec (
-  next-field-reads.Asked,
-  next-field-reads.Learnt,
-  node-of-reads.Asked,
-  node-of-reads.Learnt,
-  literal-at-reads.Asked,
-  literal-at-reads.Learnt,
-  stride-at-reads.Asked,
-  stride-at-reads.Learnt,
-  pair-at-below t,
-  pair-at.Post,
-  join-reads.Asked,
-  join-reads.Learnt,
-)
++formula-at+pair-at-spec = close μ-formula-at μ-pair-at (λ t. formula-at-lts.spec (formula-claims t)
     (formula-at-at t)
     formula-at.Post
     (formula-at-next-field-requires t)
@@ -451,7 +168,7 @@ pub +formula-at+pair-at-spec : {M : Type 1} → statement M
     (formula-at-returns-5 t)
     (formula-at-returns-6 t))
     λ t. pair-at-lts.spec
-    (formula-at-below t, formula-at.Post)
+    (pair-claims t)
     (pair-at-at t)
     pair-at.Post
     (pair-at-returns t)

@@ -3,9 +3,6 @@ use Rattle.formula.proofs.Parts.{joined-fault, joined-both}
 use borrow.Author.Needs.{needs}
 use Rattle.formula.proofs.reading.join.Statement.{statement}
 use Rattle.formula.proofs.reading.join.Tie as tie
-use Rattle.formula.proofs.reading.join.Reads as reads
-use Rattle.formula.proofs.reading.join.Lts as lts
-use Rattle.formula.proofs.reading.connect.Reads as connect-reads
 
 enum-known-pair : tie.Need-enum-known-pair
 enum-known-pair c = search needs

@@ -1,7 +1,6 @@
 -- `formula::reading::literal_at` meets its contract. Assumes nothing.
 use mathlib.Core.Path.{ap, _∙_}
 use mathlib.Core.Bool.{Bool}
-use lib.IntN.{ℤ}
 use mir.Syntax.{w64}
 use mir.ValLaws.{toZ-ofZ}
 use Rattle.formula.specs.Test.{holds}
@@ -10,10 +9,6 @@ use Rattle.formula.specs.declared.reading.Judged.{Judged}
 use borrow.Author.Needs.{needs}
 use Rattle.formula.proofs.reading.literal_at.Statement.{statement}
 use Rattle.formula.proofs.reading.literal_at.Tie as tie
-use Rattle.formula.proofs.reading.literal_at.Reads as reads
-use Rattle.formula.proofs.reading.literal_at.Lts as lts
-use Rattle.formula.proofs.form.value_at.Reads as value-at-reads
-use Rattle.formula.proofs.reading.says.Reads as says-reads
 
 value-at-requires : tie.Need-value-at-requires
 value-at-requires c κs = search needs

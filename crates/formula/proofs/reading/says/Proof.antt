@@ -9,10 +9,6 @@ use Rattle.formula.specs.Test.{holds}
 use borrow.Author.Needs.{needs}
 use Rattle.formula.proofs.reading.says.Statement.{statement}
 use Rattle.formula.proofs.reading.says.Tie as tie
-use Rattle.formula.proofs.reading.says.Reads as reads
-use Rattle.formula.proofs.reading.says.Lts as lts
-use Rattle.formula.proofs.reading.nonpositive.Reads as nonpositive-reads
-use Rattle.integers.proofs.is_zero.Reads as is-zero-reads
 
 is-zero-requires : tie.Need-is-zero-requires
 is-zero-requires c κs = search needs

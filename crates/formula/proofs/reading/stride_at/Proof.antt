@@ -8,11 +8,6 @@ use Rattle.formula.proofs.Parts.{at-least-two, stride-refused, stride-j
 use borrow.Author.Needs.{needs}
 use Rattle.formula.proofs.reading.stride_at.Statement.{statement}
 use Rattle.formula.proofs.reading.stride_at.Tie as tie
-use Rattle.formula.proofs.reading.stride_at.Reads as reads
-use Rattle.formula.proofs.reading.stride_at.Lts as lts
-use Rattle.fields.proofs.numbers.signed_at.Reads as signed-at-reads
-use Rattle.formula.proofs.form.value_at.Reads as value-at-reads
-use Rattle.integers.proofs.divides.Reads as divides-reads
 
 signed-at-requires : tie.Need-signed-at-requires
 signed-at-requires c κs =

@@ -11,8 +11,6 @@ use borrow.Author.Tests.{not-true, not-false}
 use borrow.Author.Needs.{needs}
 use Rattle.formula.proofs.values.first_outside.Statement.{statement}
 use Rattle.formula.proofs.values.first_outside.Tie as tie
-use Rattle.formula.proofs.values.first_outside.Reads as reads
-use Rattle.formula.proofs.values.first_outside.Lts as lts
 
 abbrev Inv-loop : tie.InvT-loop
 Inv-loop values i₀ i = Passed values i

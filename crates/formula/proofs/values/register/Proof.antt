@@ -4,9 +4,6 @@ use mir.ValLaws.{toZ-ofZ}
 use borrow.Author.Needs.{needs}
 use Rattle.formula.proofs.values.register.Statement.{statement}
 use Rattle.formula.proofs.values.register.Tie as tie
-use Rattle.formula.proofs.values.register.Reads as reads
-use Rattle.formula.proofs.values.register.Lts as lts
-use Rattle.formula.proofs.values.wide.Reads as wide-reads
 
 -- src/values.rt:19:10
 mul-wide : tie.Need-mul-wide
