@@ -1,5 +1,11 @@
--- A formula's file reads back, and notes change nothing of it.
+-- Laws that belong to no one function: a formula's file reads back, notes change nothing of it, and what the code reads and judges.
 mod Fronts
 pub mod RoundTrip
 pub mod Notes
 pub mod Judge
+pub mod Registers
+pub mod Nodes
+pub mod Value
+pub mod Parts
+pub mod Ways
+pub mod Whole

@@ -1,3 +1,8 @@
 -- Formulas on bytes: writing, reading, testing.
 pub mod Formula
 pub mod Test
+pub mod Registers
+pub mod Nodes
+pub mod FormAt
+pub mod Judging
+pub mod Outcomes

@@ -1,1 +1,94 @@
-// Formulas on bytes: what writing, reading and testing one gives, in specs/.
+// Formulas on bytes: reading one and testing it at register values.
+use fields::Answer;
+use fields::FileKind;
+use fields::header::Headed;
+use fields::header::read_header;
+ghost use mathlib.Core.Path.{_≡_};
+ghost use Rattle.fields.specs.Fields.{fields};
+ghost use Rattle.formula.specs.Formula.{readFormula};
+ghost use Rattle.formula.specs.Test.{judged, testFormula};
+ghost use Rattle.formula.specs.Registers.{Registers};
+ghost use Rattle.formula.specs.Outcomes.{asTested, refusal, endTested, Finish};
+
+mod ending;
+mod form;
+mod node;
+mod reading;
+mod values;
+
+use ending::Ending;
+use ending::ending_at;
+use reading::Judged;
+use reading::formula_at;
+use values::first_outside;
+
+// What testing gives: the answer, and whether the formula holds (false where it is refused).
+pub struct Tested {
+    pub answer: Answer,
+    pub holds: bool,
+}
+
+fn refuse(number: u8, file: u8, place: usize) -> Tested
+    ensures { λ r. ⌜ r ≡ refusal number file place ⌝ }
+{
+    Tested {
+        answer: Answer {
+            number,
+            file,
+            place,
+        },
+        holds: false,
+    }
+}
+
+// The formula ends at a place; nothing may follow.
+fn finish(formula: &[u8], at: usize, holds: bool) -> Tested
+    ensures { λ r. ⌜ Finish (now (formula .entry)) at holds r ⌝ }
+{
+    match ending_at(formula, at) {
+        Ending::Ended => Tested {
+            answer: Answer {
+                number: 0,
+                file: 0,
+                place: 0,
+            },
+            holds,
+        },
+        Ending::Fault { number, at: place } => refuse(number, 3, place),
+    }
+}
+
+// The formula is read whole before its truth is given.
+fn read_whole(formula: &[u8], values: &[i32], k: usize) -> Tested
+    requires { ⌜ Registers (now values) k ⌝ }
+    ensures { λ r. ⌜ r ≡ asTested (judged (now (values .entry)) (readFormula k (fields (now (formula .entry))))) ⌝ }
+{
+    match read_header(formula, FileKind::Formula, k as u8) {
+        Headed::Refused { number, place } => refuse(number, 3, place),
+        Headed::Header { k: _, next } => match formula_at(formula, next, values, k, 64) {
+            Judged::Fault { number, at } => refuse(number, 3, at),
+            Judged::Value { holds, next: end } => finish(formula, end, holds),
+        },
+    }
+}
+
+// Tests a formula at K register values. Refuses: 7, 23, 1, then as the formula is read.
+pub fn test(formula: &[u8], values: &[i32]) -> Tested
+    ensures { λ r. ⌜ r ≡ asTested (testFormula (now (formula .entry)) (now (values .entry))) ⌝ }
+{
+    let k = values.len();
+    if k < 1 {
+        return refuse(7, 4, 0);
+    }
+    if 16 < k {
+        return refuse(7, 4, 0);
+    }
+    let i = first_outside(values);
+    if i < k {
+        return refuse(23, 4, i);
+    }
+    if 65536 < formula.len() {
+        return refuse(1, 3, 0);
+    }
+    read_whole(formula, values, k)
+}

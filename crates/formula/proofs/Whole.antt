@@ -1,0 +1,174 @@
+-- Each way through testing a formula, over plain values. Assumes nothing.
+use mathlib.Core.Path.{_≡_, refl, sym, ap, _∙_}
+use mathlib.Core.Option.{some}
+use mathlib.Core.Bool.{Bool, true, false}
+use mathlib.Core.List.{List}
+use Prim.Native.Nat.{ℕ, zero, suc, _≤_, _<_}
+use native.Mathlib.Omega.{arith}
+use lib.Dec.{leb}
+use lib.IntN.{ℤ}
+use lib.ListN.{length}
+use borrow.Author.Tests.{eqb-true, le-leb, lt-leb}
+use Rattle.forms.specs.Edition.{edition1}
+use Rattle.forms.specs.Forms.{Formula}
+use Rattle.fields.specs.declared.Answer.{Answer}
+use Rattle.fields.specs.declared.FileKind.{FileKind}
+use Rattle.fields.specs.declared.Next.{Next}
+use Rattle.fields.specs.declared.header.Headed.{Headed}
+use Rattle.fields.specs.Answers.{answer, fileProof, fileLent, Result, refused, accepted, _>>=_, _>>_, need}
+use Rattle.fields.specs.Fields.{Fields, fields}
+use Rattle.fields.specs.Header.{Header, known, agrees, header, finished}
+use Rattle.fields.specs.Places.{fieldsAt, nextOf, givenK, headedOf, IsHeader}
+use Rattle.fields.proofs.Places.{Starts, next-cut, next-ends}
+use Rattle.formula.specs.Formula.{readFormula}
+use Rattle.formula.specs.Test.{judge, registers, judged, tested, testFormula}
+use Rattle.formula.specs.Registers.{ranged, FirstOutside, Registers}
+use Rattle.formula.specs.Judging.{FormulaRead}
+use Rattle.formula.specs.Outcomes.{asTested, refusal, IsEnding, endTested, Finish}
+use Rattle.formula.specs.declared.Tested.{Tested}
+use Rattle.formula.specs.declared.ending.Ending.{Ending}
+use Rattle.formula.specs.declared.reading.Judged.{Judged}
+use Rattle.formula.proofs.Ways.{bind-refused, bind-accepted}
+
+-- ---- what may stand after the formula
+module _ {s : List ℕ} {at : ℕ} {r : Next} (e : r ≡ nextOf (fieldsAt s at)) where
+  pub ending-none : {a : ℕ} → r ≡ Next.Ends a → IsEnding s at Ending.Ended
+  unfolding finished
+  ending-none q = record { is = rw (next-ends (fieldsAt s at) e q) }
+
+  pub ending-cut : {a : ℕ} → r ≡ Next.Cut a → IsEnding s at (Ending.Fault 2 a)
+  unfolding finished
+  ending-cut q = record { is = rw (next-cut (fieldsAt s at) e q) }
+
+module _ {s : List ℕ} {at a tag start len next : ℕ} (k : Starts s at a tag start len next) where
+  pub ending-known : known FileKind.Formula tag ≡ true → IsEnding s at (Ending.Fault 19 a)
+  unfolding finished need _>>_
+  ending-known h = record { is = rw (k .is, h) }
+
+  pub ending-unknown : known FileKind.Formula tag ≡ false → IsEnding s at (Ending.Fault 3 a)
+  unfolding finished need _>>_
+  ending-unknown h = record { is = rw (k .is, h) }
+
+module _ {s : List ℕ} {at : ℕ} (holds : Bool) {e : Ending} (k : IsEnding s at e) where
+  pub finish-ended : e ≡ Ending.Ended → Finish s at holds (record { answer = answer 0 0 0; holds = holds })
+  finish-ended q = record { is = sym (ap (endTested holds) (k .is) ∙ rw q) }
+
+  pub finish-fault : {number p : ℕ} {r : Tested} → e ≡ Ending.Fault number p → r ≡ refusal number fileProof p → Finish s at holds r
+  finish-fault q f = record { is = f ∙ sym (ap (endTested holds) (k .is) ∙ rw q) }
+
+-- ---- K is the number of values
+abbrev GivesK : ℕ → Result Header → Type 0
+GivesK g (refused a) = Unit {0}
+GivesK g (accepted h) = h .K ≡ g
+
+bind-gives : {X : Type 0} (g : ℕ) (m : Result X) (f : X → Result Header) → ((x : X) → GivesK g (f x)) → GivesK g (m >>= f)
+unfolding _>>=_
+bind-gives g (refused a) f h = tt
+bind-gives g (accepted x) f h = h x
+
+then-gives : (g : ℕ) (a : Answer) (b : Bool) (r : Result Header) → (b ≡ true → GivesK g r) → GivesK g (need a b >> r)
+unfolding need _>>_
+then-gives g a true r h = h refl
+then-gives g a false r h = tt
+
+header-gives : (kind : FileKind) (file g : ℕ) (fs : Fields) → GivesK g (header kind file (some g) fs)
+unfolding header agrees
+header-gives kind file g fs =
+    bind-gives g _ _ (λ x. bind-gives g _ _ (λ e. bind-gives g _ _ (λ y. then-gives g _ _ _ (λ h. then-gives g _ _ _ (λ a. eqb-true _ _ a)))))
+
+given-some : (k : ℕ) → 1 ≤ k → givenK k ≡ some k
+given-some zero h = absurd (omega arith)
+given-some (suc k) h = refl
+
+-- ---- reading the formula whole
+end-judged : (values : List ℤ) (I : Formula) {holds : Bool} → holds ≡ judge I (registers values) → (w : Result (Unit {0}))
+    → endTested holds w ≡ asTested (judged values (w >> accepted I))
+unfolding judged _>>_
+end-judged values I e (refused a) = refl
+end-judged values I e (accepted x) = rw e
+
+module _ {s : List ℕ} {values : List ℤ} {K : ℕ} (g : Registers values K) {h : Headed} (k : IsHeader FileKind.Formula K s h) where
+  header-is : header FileKind.Formula fileProof (some K) (fields s) ≡ headedOf fileProof s h
+  header-is = ap (λ o. header FileKind.Formula fileProof o (fields s)) (sym (given-some K (g .some))) ∙ k .is fileProof
+
+  pub header-refused : {number place : ℕ} {r : Tested} → h ≡ Headed.Refused number place → r ≡ refusal number fileProof place
+      → r ≡ asTested (judged values (readFormula K (fields s)))
+  unfolding readFormula judged
+  header-refused e f = f ∙ sym (ap (λ w. asTested (judged values w)) (bind-refused _ (header-is ∙ rw e)))
+
+  module _ {k′ next : ℕ} (e : h ≡ Headed.Header k′ next) where
+    header-K : header FileKind.Formula fileProof (some K) (fields s) ≡ accepted (record { edition = edition1; K = K; rest = fieldsAt s next })
+    header-K =
+        let p : header FileKind.Formula fileProof (some K) (fields s) ≡ accepted (record { edition = edition1; K = k′; rest = fieldsAt s next }) = header-is ∙ rw e in
+        let q : k′ ≡ K = rw p at (header-gives FileKind.Formula fileProof K (fields s)) in
+        p ∙ rw q
+
+    module _ {j : Judged} (b : FormulaRead s next values K 64 j) where
+      pub formula-fault : {number place : ℕ} {r : Tested} → j ≡ Judged.Fault number place → r ≡ refusal number fileProof place
+          → r ≡ asTested (judged values (readFormula K (fields s)))
+      unfolding readFormula judged
+      formula-fault q f = f ∙ sym (ap (λ w. asTested (judged values w)) (bind-accepted _ header-K ∙ bind-refused _ (rw q at (b .judged))))
+
+      pub formula-value : {holds : Bool} {end : ℕ} {r : Tested} → j ≡ Judged.Value holds end → Finish s end holds r
+          → r ≡ asTested (judged values (readFormula K (fields s)))
+      unfolding readFormula
+      formula-value q f =
+          let x = rw q at (b .judged) in
+          f .is ∙ end-judged values (x .formula) (x .truth) (finished FileKind.Formula fileProof (fieldsAt s _))
+          ∙ sym (ap (λ w. asTested (judged values w)) (bind-accepted _ header-K ∙ bind-accepted _ (x .is)))
+
+-- ---- the values, then the length, then the formula
+pub then-refused : {Y : Type 0} {m : Result (Unit {0})} {a : Answer} (r : Result Y) → m ≡ refused a → (m >> r) ≡ refused a
+unfolding _>>_
+then-refused r e = rw e
+
+pub then-accepted : {Y : Type 0} {m : Result (Unit {0})} {x : Unit {0}} (r : Result Y) → m ≡ accepted x → (m >> r) ≡ r
+unfolding _>>_
+then-accepted r e = rw e
+
+need-true : (a : Answer) {b : Bool} → b ≡ true → need a b ≡ accepted tt
+unfolding need
+need-true a e = rw e
+
+need-false : (a : Answer) {b : Bool} → b ≡ false → need a b ≡ refused a
+unfolding need
+need-false a e = rw e
+
+module _ (formula : List ℕ) (values : List ℤ) where
+  by-tested : {r : Tested} {w : Result Formula} → tested formula values ≡ w → r ≡ asTested (judged values w) → r ≡ asTested (testFormula formula values)
+  unfolding testFormula
+  by-tested e f = f ∙ sym (ap (λ w. asTested (judged values w)) e)
+
+  pub no-values : {r : Tested} → length values < 1 → r ≡ refusal 7 fileLent 0 → r ≡ asTested (testFormula formula values)
+  unfolding tested judged
+  no-values h f = by-tested (then-refused _ (need-false _ (rw (lt-leb 1 (length values) h)))) f
+
+  module _ (some : 1 ≤ length values) where
+    pub many-values : {r : Tested} → 16 < length values → r ≡ refusal 7 fileLent 0 → r ≡ asTested (testFormula formula values)
+    unfolding tested judged
+    many-values h f = by-tested (then-refused _ (need-false _ (rw (le-leb 1 (length values) some, lt-leb (length values) 16 h)))) f
+
+    module _ (few : length values ≤ 16) where
+      counted : tested formula values ≡ (ranged 0 values >> (need (answer 1 fileProof 0) (leb (length formula) 65_536) >> readFormula (length values) (fields formula)))
+      unfolding tested ranged
+      counted = then-accepted _ (need-true _ (rw (le-leb 1 (length values) some, le-leb (length values) 16 few)))
+
+      module _ {i : ℕ} (o : FirstOutside values i) where
+        pub value-outside : {r : Tested} → i < length values → r ≡ refusal 23 fileLent i → r ≡ asTested (testFormula formula values)
+        unfolding judged
+        value-outside h f = by-tested (counted ∙ then-refused _ (o .outside h)) f
+
+        module _ (all : length values ≤ i) where
+          is-count : i ≡ length values
+          is-count = omega (arith, o .upto)
+
+          pub in-registers : Registers values (length values)
+          in-registers = record { all = o .within is-count .1; count = refl; some = some; few = few }
+
+          pub too-long : {r : Tested} → 65_536 < length formula → r ≡ refusal 1 fileProof 0 → r ≡ asTested (testFormula formula values)
+          unfolding judged
+          too-long h f = by-tested (counted ∙ then-accepted _ (o .within is-count .0) ∙ then-refused _ (need-false _ (lt-leb (length formula) 65_536 h))) f
+
+          pub whole-read : {r : Tested} → length formula ≤ 65_536 → r ≡ asTested (judged values (readFormula (length values) (fields formula)))
+              → r ≡ asTested (testFormula formula values)
+          whole-read h f = by-tested (counted ∙ then-accepted _ (o .within is-count .0) ∙ then-accepted _ (need-true _ (le-leb (length formula) 65_536 h))) f
