@@ -1,10 +1,10 @@
 -- The lines of a branch after each row that makes one. Document 01, "The rows". Assumes nothing.
-use mathlib.Core.Path.{_≡_, refl, sym, _∙_, ap}
+use mathlib.Core.Path.{_≡_, refl, _∙_, ap}
 use mathlib.Core.List.{List}
-use Prim.Native.Nat.{ℕ, suc, _*_}
+use Prim.Native.Nat.{ℕ, suc}
 use lib.IntN.{ℤ, pos}
 use lib.ListN.{getD}
-use Rattle.forms.specs.Forms.{Form, Kind, Line, line, _⊞_, _·_, _plus_}
+use Rattle.forms.specs.Forms.{Kind, Line, line, _⊞_, _·_, _plus_}
 use Rattle.calculus.specs.Rules.{_▷_}
 use Rattle.lines.specs.Parts.{Agree}
 use Rattle.lines.specs.Buffer.{kindOf, lineIn, linesIn, mixedLine, LineTerms, LineCopy, copiedLine, strengthenedT, strengthenedBoth}
