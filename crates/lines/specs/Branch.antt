@@ -1,22 +1,20 @@
 -- A branch in the buffer and its next line: what the row that makes it leaves. Assumes nothing.
-use mathlib.Core.Path.{_≡_, refl, sym, _∙_, ap, subst}
+use mathlib.Core.Path.{_≡_, refl, sym, _∙_, ap}
 use mathlib.Core.List.{List}
-use mathlib.Core.Bool.{Bool, true, false, not, _&&_}
+use mathlib.Core.Bool.{Bool, true, false, not}
 use mathlib.Core.Option.{some}
-use Prim.Native.Nat.{ℕ, suc, _+_, _*_, _<_, _≤_}
+use Prim.Native.Nat.{ℕ, suc, _*_, _<_, _≤_}
 use native.Mathlib.Omega.{arith}
-use borrow.Author.Tests.{eq-eqb, ne-eqb}
 use lib.Dec.{T, eqb}
-use lib.IntN.{ℤ, pos}
+use lib.IntN.{ℤ}
 use lib.ListN.{length, getD, set, getElem?}
 use lib.Seq.{getD-set-same}
-use Rattle.forms.specs.Forms.{Form, Kind, ≤0, =0, Line, line, _⊞_, _·_, _plus_}
+use Rattle.forms.specs.Forms.{≤0, =0, Line, line}
 use Rattle.calculus.specs.Rules.{_▷_, inRange}
 use Rattle.proof.specs.Rows.{is}
-use Rattle.lines.specs.Parts.{Agree, agree-sym, agree-set}
-use Rattle.lines.specs.Buffer.{size, kindOf, lineIn, linesIn, Bounded, Branch, mixedLine, LineTerms}
+use Rattle.lines.specs.Parts.{Agree}
+use Rattle.lines.specs.Buffer.{size, kindOf, lineIn, linesIn, Branch}
 use Rattle.lines.specs.Lines.{before, line-at, lines-more, bounded-same}
-use Rattle.lines.specs.Mix.{mixed-keeps, mixed-line, length-mixedLine}
 use Rattle.lines.specs.Range.{bounded-more}
 
 -- ---- kinds: what a test of the kind's byte tells
@@ -35,6 +33,18 @@ kind-=0 b = go (eqb b 0)
     go : (t : Bool) → is =0 (elim t [ true ↦ ≤0 | false ↦ =0 ]) ≡ not t
     go true = refl
     go false = refl
+
+pub inequality-byte : kindOf 0 ≡ ≤0
+unfolding kindOf
+inequality-byte = refl
+
+pub equality-byte : kindOf 1 ≡ =0
+unfolding kindOf
+equality-byte = refl
+
+-- The kind that a store at n gives line n.
+pub kind-stored : (kinds : List ℕ) (n b : ℕ) → n < length kinds → kindOf (getD (set kinds n b) n 0) ≡ kindOf b
+kind-stored kinds n b h = ap kindOf (getD-set-same kinds n b 0 h)
 
 -- ---- a line by its number
 some-same : {A : Type 0} {x y : A} → some x ≡ some y → x ≡ y

@@ -1,13 +1,13 @@
 -- The lines of a branch in one flat buffer. With K constants a form has K + 1 numbers, the coefficients first and d last; line i has its t and then its tA. Assumes nothing.
-use mathlib.Core.List.{List, [], _∷_, map}
-use mathlib.Core.Bool.{Bool, true, false, cond}
+use mathlib.Core.List.{List, [], map}
+use mathlib.Core.Bool.{true, false}
 use Prim.Native.Nat.{ℕ, zero, suc, _+_, _*_, _<_, _≤_}
 use lib.Dec.{eqb}
 use lib.ListN.{length, getD, set}
 use lib.Seq.{paste}
 use lib.IntN.{ℤ, pos, _+ℤ_, _*ℤ_}
 use Rattle.integers.specs.Magnitude.{Within}
-use Rattle.forms.specs.Forms.{Form, Kind, ≤0, =0, Line, line, Constraint, sums}
+use Rattle.forms.specs.Forms.{Form, Kind, ≤0, =0, Line, line, sums}
 use Rattle.calculus.specs.Rules.{_▷_}
 use Rattle.lines.specs.Parts.{part}
 

@@ -9,3 +9,4 @@ pub mod Occurrence
 pub mod Restrict
 pub mod Branch
 pub mod Strengthen
+pub mod Next

@@ -1,13 +1,13 @@
 -- The laws of the lines in a buffer: the line at a number, and what a new line leaves of those before it. Assumes nothing.
 use mathlib.Core.Path.{_≡_, refl, sym, _∙_, ap, ap₂}
-use mathlib.Core.List.{List, [], _∷_, _++_}
+use mathlib.Core.List.{List, [], _∷_}
 use mathlib.Core.Logic.{⊎-elim}
 use mathlib.Core.Option.{none, some}
 use Prim.Native.Nat.{ℕ, zero, suc, _+_, _*_, _<_, _≤_}
 use native.Mathlib.Nat.{mul-le-mul, mul-le-mul-right, eq-or-lt-of-le}
 use native.Mathlib.Omega.{arith}
 use lib.IntN.{ℤ, pos}
-use lib.ListN.{length, getD, getElem?, length-append}
+use lib.ListN.{length, getElem?, length-append}
 use Rattle.forms.specs.Forms.{Form, Kind, Line, line}
 use Rattle.calculus.specs.Rules.{_▷_}
 use Rattle.lines.specs.Parts.{Agree, agree-le, agree-getD, agree-part, getElem?-snoc-below, getElem?-snoc, getElem?-past}

@@ -4,11 +4,11 @@ use mathlib.Core.List.{List}
 use Prim.Native.Nat.{ℕ, _+_, _*_, _<_, _≤_}
 use native.Mathlib.Omega.{arith}
 use lib.IntN.{ℤ, pos, _+ℤ_}
-use lib.ListN.{length, getD, take, set, length-set}
+use lib.ListN.{length, getD, take, length-set}
 use lib.Seq.{drop-set-lt, getD-set-same, getD-set-other}
-use Rattle.forms.specs.Forms.{Form, Line, line, _plus_}
+use Rattle.forms.specs.Forms.{Line, line, _plus_}
 use Rattle.lines.specs.Parts.{Agree, agree-set, agree-part}
-use Rattle.lines.specs.Buffer.{size, formIn, kindOf, lineIn, plusOne}
+use Rattle.lines.specs.Buffer.{size, formIn, lineIn, plusOne}
 use Rattle.lines.specs.Lines.{form-ext, line-ext, form-same}
 
 module _ (buf : List ℤ) (at : ℕ) where

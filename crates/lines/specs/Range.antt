@@ -8,11 +8,10 @@ use native.Mathlib.Nat.{eq-zero-or-pos}
 use native.Mathlib.Numerals.{add-one}
 use native.Mathlib.Omega.{arith}
 use lib.Dec.{T, leb→le, le→leb}
-use lib.IntN.{ℤ, pos, natAbs}
+use lib.IntN.{ℤ, pos}
 use lib.ListN.{length, getD, take, drop, length-drop}
 use lib.Seq.{length-take-le, take-suc, take-add, drop-drop, getD-drop}
 use Rattle.integers.specs.Magnitude.{Within}
-use Rattle.forms.specs.Forms.{Line}
 use Rattle.calculus.specs.Rules.{small, every, inRange}
 use Rattle.lines.specs.Parts.{part, getD-part}
 use Rattle.lines.specs.Buffer.{size, lineIn, Bounded}

@@ -11,7 +11,7 @@ use Rattle.integers.specs.Magnitude.{Within}
 use Rattle.forms.specs.Forms.{Form, Kind, Line, line, _plus_}
 use Rattle.calculus.specs.Rules.{small, every, inRange}
 use Rattle.lines.specs.Parts.{Agree, agree-trans}
-use Rattle.lines.specs.Buffer.{size, kindOf, lineIn, LineTerms, LineCopy, plusOne, copiedLine, strengthenedT, strengthenedBoth}
+use Rattle.lines.specs.Buffer.{size, kindOf, lineIn, LineTerms, LineCopy, copiedLine, strengthenedT, strengthenedBoth}
 use Rattle.lines.specs.Lines.{before, line-ext}
 use Rattle.lines.specs.Mix.{mixed-keeps, mixed-line, length-mixedLine, mix-copy}
 use Rattle.lines.specs.Range.{and-left, and-right, and-both}

@@ -53,6 +53,10 @@ module _ {l : List ℤ} {a b d w : ℕ} {f g : ℤ} (t : Terms l f a g b d w) wh
       value : f *ℤ getD m (a + x) (pos 0) +ℤ g *ℤ getD m (b + x) (pos 0) ≡ getD (mixed f a g b w l) x (pos 0)
       value = rw (at-a, at-b) (sym (getD-mixed f a g b w l x h))
 
+-- What the source asks, of the factors' bits.
+terms : (s : tie.Start Inv-loop μ-loop) → Terms (s .args .lines .now) (toZ w64 (ofZ w64 (s .args .f))) (s .args .a) (toZ w64 (ofZ w64 (s .args .g))) (s .args .b) (s .args .d) (s .args .w)
+terms s = let ff = s .fits .f in let fg = s .fits .g in simp toZ-ofZ (s .pre)
+
 loop-holds : tie.Need-loop-holds Inv-loop μ-loop
 loop-holds c = filled-none
 
@@ -63,12 +67,7 @@ mul-s : tie.Need-mul-s Inv-loop μ-loop
 mul-s c = omega arith
 
 slice-copy-out-s : tie.Need-slice-copy-out-s Inv-loop μ-loop
-slice-copy-out-s c =
-    let s = c .before .before in
-    let ff = s .fits .f in
-    let fg = s .fits .g in
-    let v = simp toZ-ofZ at (c .before .loop .inv) in
-    omega (arith, len (s .pre) v)
+slice-copy-out-s c = omega (arith, len (terms (c .before .before)) (c .before .loop .inv))
 
 add-t : tie.Need-add-t Inv-loop μ-loop
 add-t c = omega arith
@@ -77,25 +76,16 @@ mul-t : tie.Need-mul-t Inv-loop μ-loop
 mul-t c = omega arith
 
 slice-copy-out-t : tie.Need-slice-copy-out-t Inv-loop μ-loop
-slice-copy-out-t c =
-    let s = c .before .before .before in
-    let ff = s .fits .f in
-    let fg = s .fits .g in
-    let v = simp toZ-ofZ at (c .before .before .loop .inv) in
-    omega (arith, len (s .pre) v)
+slice-copy-out-t c = omega (arith, len (terms (c .before .before .before)) (c .before .before .loop .inv))
 
 linear-requires : tie.Need-linear-requires Inv-loop μ-loop
 linear-requires c κs =
-    let s = c .before .before .before .before in
-    let ff = s .fits .f in
-    let fg = s .fits .g in
-    let v = simp toZ-ofZ at (c .before .before .before .loop .inv) in
+    let t = terms (c .before .before .before .before) in
+    let v = c .before .before .before .loop .inv in
     let h = c .before .before .loop-test .taken in
-    let x = in-a (s .pre) v h in
-    let y = in-b (s .pre) v h in
-    let fx = within-fits x tt in
-    let fy = within-fits y tt in
-    simp toZ-ofZ (record { a-in = s .pre .f-in; x-in = x; b-in = s .pre .g-in; y-in = y })
+    let fx = within-fits (in-a t v h) tt in
+    let fy = within-fits (in-b t v h) tt in
+    simp toZ-ofZ (record { a-in = t .f-in; x-in = in-a t v h; b-in = t .g-in; y-in = in-b t v h })
 
 add-sum : tie.Need-add-sum Inv-loop μ-loop
 add-sum c = omega arith
@@ -104,12 +94,7 @@ mul-sum : tie.Need-mul-sum Inv-loop μ-loop
 mul-sum c = omega arith
 
 slice-set-from-sum : tie.Need-slice-set-from-sum Inv-loop μ-loop
-slice-set-from-sum c =
-    let s = c .before .before .before .before .before in
-    let ff = s .fits .f in
-    let fg = s .fits .g in
-    let v = simp toZ-ofZ at (c .before .before .before .before .loop .inv) in
-    omega (arith, len (s .pre) v)
+slice-set-from-sum c = omega (arith, len (terms (c .before .before .before .before .before)) (c .before .before .before .before .loop .inv))
 
 add-x : tie.Need-add-x Inv-loop μ-loop
 add-x c = omega arith
@@ -119,34 +104,26 @@ loop-less c = omega arith
 
 loop-again : tie.Need-loop-again Inv-loop μ-loop
 loop-again c =
-    let s = c .before .before .before .before .before in
-    let ff = s .fits .f in
-    let fg = s .fits .g in
-    let v = simp toZ-ofZ at (c .before .before .before .before .loop .inv) in
+    let t = terms (c .before .before .before .before .before) in
+    let v = c .before .before .before .before .loop .inv in
     let h = c .before .before .before .loop-test .taken in
-    let fx = within-fits (in-a (s .pre) v h) tt in
-    let fy = within-fits (in-b (s .pre) v h) tt in
-    simp toZ-ofZ
-    (filled-next (room (s .pre) v) v _ (pos 0)
-    (toZ-ofZ w64 (c .linear .result) (record { sfits = c .linear .ok }) ∙ c .linear .ensures ∙ simp toZ-ofZ (value (s .pre) v h))
-    (omega (arith, sums-length (s .pre))))
+    let fx = within-fits (in-a t v h) tt in
+    let fy = within-fits (in-b t v h) tt in
+    filled-next (room t v) v _ (pos 0)
+    (toZ-ofZ w64 (c .linear .result) (record { sfits = c .linear .ok }) ∙ c .linear .ensures ∙ simp toZ-ofZ (value t v h))
+    (omega (arith, sums-length t))
 
 same-length : tie.Need-same-length Inv-loop μ-loop
-same-length c =
-    let s = c .before .before in
-    let ff = s .fits .f in
-    let fg = s .fits .g in
-    let v = simp toZ-ofZ at (c .before .loop .inv) in
-    len (s .pre) v
+same-length c = len (terms (c .before .before)) (c .before .loop .inv)
 
 returns : tie.Need-returns Inv-loop μ-loop
 returns c =
     let s = c .before .before in
+    let v = c .before .loop .inv in
+    let e : c .before .loop .x ≡ s .args .w = omega (arith, below (terms s) v) in
     let ff = s .fits .f in
     let fg = s .fits .g in
-    let v = simp toZ-ofZ at (c .before .loop .inv) in
-    let e : c .before .loop .x ≡ s .args .w = omega (arith, below (s .pre) v) in
-    rw e at (v .is)
+    rw e at (simp toZ-ofZ at (v .is))
 
 pub mix-numbers-spec : {M : Type 1} → statement M
 mix-numbers-spec =
