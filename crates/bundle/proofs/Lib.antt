@@ -2,3 +2,5 @@
 pub mod Scanning
 pub mod Storing
 pub mod Reading
+pub mod Putting
+pub mod Writing
