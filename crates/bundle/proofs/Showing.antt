@@ -1,30 +1,29 @@
 -- Showing a constraint: each way through the code as a law over plain values. Assumes nothing.
-use mathlib.Core.Path.{_≡_, refl, sym, ap, _∙_}
+use mathlib.Core.Path.{_≡_, refl, ap, _∙_}
 use mathlib.Core.Option.{Option, none, some}
 use mathlib.Core.Bool.{Bool, true, false}
-use mathlib.Core.List.{List, [], _∷_}
+use mathlib.Core.List.{List}
 use Prim.Native.Nat.{ℕ, zero, suc, _+_, _-_, _≤_, _<_}
 use native.Mathlib.Numerals.{sub-one}
 use native.Mathlib.Omega.{arith}
 use lib.Dec.{leb, ltb, eqb}
-use lib.ListN.{length, take, drop}
+use lib.ListN.{length}
 use borrow.Author.Tests.{le-leb, lt-leb, lt-ltb, le-ltb, eq-eqb, ne-eqb}
-use Rattle.forms.specs.Edition.{edition1}
 use Rattle.fields.specs.declared.Answer.{Answer}
 use Rattle.fields.specs.Answers.{answer, acceptance, fileA, fileB, Result, refused, accepted, _>>=_, _>>_, need, found}
-use Rattle.fields.specs.Fields.{Field, Fields, ends, cut, _▸_, fields, nth}
+use Rattle.fields.specs.Fields.{Field, ends, cut, fields, nth}
 use Rattle.fields.specs.Places.{fieldsAt, givenK}
-use Rattle.fields.proofs.Places.{Starts, starts-size, fields-whole-file}
+use Rattle.fields.proofs.Places.{Starts, starts-size}
 use Rattle.fields.proofs.Refusals.{Numbered, Gives, no, yes, bind, passing, numbered}
 use Rattle.bundle.specs.Bundle.{Bundle, atMost, bundle, bundles}
-use Rattle.bundle.specs.Scan.{pick, scanned}
+use Rattle.bundle.specs.Scan.{pick}
 use Rattle.bundle.specs.Show.{Part, partOf, constraintPart, shownPart, answerOf, showAnswer, handed, showPart}
 use Rattle.bundle.specs.Locate.{placeOf, Inside, Placed, bothBundles, pairOf, partAt, locatedOf, ofFile, LiesIn, IsLocated}
 use Rattle.bundle.specs.declared.Scanned.{Scanned}
 use Rattle.bundle.specs.declared.locate.Place.{Place}
 use Rattle.bundle.specs.declared.locate.Located.{Located}
 use Rattle.bundle.specs.declared.locate.Pair.{Pair}
-use Rattle.bundle.proofs.Reading.{Shaped, shaped, Taken}
+use Rattle.bundle.proofs.Reading.{shaped, Taken}
 
 -- ---- the i-th field
 module _ {s : List ℕ} {here a t start len next : ℕ} (k : Starts s here a t start len next) where

@@ -1,8 +1,8 @@
 // Constraint bundles: reading, writing and showing a constraint.
-pub mod constraints;
-pub mod locate;
-pub mod put;
-pub mod store;
+mod constraints;
+mod locate;
+mod put;
+mod store;
 
 use constraints::Counted;
 use constraints::count_constraints;

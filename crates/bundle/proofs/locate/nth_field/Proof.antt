@@ -1,5 +1,5 @@
 -- `bundle::locate::nth_field` meets its contract: the field looked for is still as many ahead as are left. Assumes nothing.
-use mathlib.Core.Path.{_≡_, refl, sym, ap, _∙_}
+use mathlib.Core.Path.{_≡_, ap}
 use Prim.Native.Nat.{_-_}
 use native.Mathlib.Omega.{arith}
 use lib.ListN.{length}

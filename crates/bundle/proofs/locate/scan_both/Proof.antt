@@ -1,5 +1,5 @@
 -- `bundle::locate::scan_both` meets its contract: each `return` cites the law for its way. Assumes nothing.
-use mathlib.Core.Path.{_≡_, refl, sym, ap, _∙_}
+use mathlib.Core.Path.{sym, ap, _∙_}
 use mathlib.Core.Option.{none}
 use Rattle.fields.specs.Fields.{fields}
 use Rattle.fields.specs.Places.{givenK}
