@@ -1,9 +1,12 @@
--- Laws that belong to no one function: what is accepted as a bundle, that notes change nothing of it, the round trips, and going over one.
+-- Laws that belong to no one function: what is accepted as a bundle, that notes change nothing of it, the round trips, and what the code goes over.
 pub mod Laid
 pub mod Bare
 pub mod Notes
-pub mod Writing
+pub mod Writable
 pub mod RoundTrips
 pub mod Scanning
 pub mod Storing
 pub mod Reading
+pub mod Putting
+pub mod Writing
+pub mod Showing

@@ -26,7 +26,7 @@ use Rattle.bundle.specs.Read.{kindsOf, numbersOf, BundleRead, unread, st
 use Rattle.bundle.specs.Write.{writeBundle}
 use Rattle.bundle.proofs.Laid.{bundle-gives, bundle-accepts, short-gives, short-accepted, laid-file, file-laid}
 use Rattle.fields.proofs.Whole.{FileOf, whole-file}
-use Rattle.bundle.proofs.Writing.{Writable, bytesOf, bundleBytes-gives, bundleBytes-accepted, FormsInWidth, Given, constraints-given, constraintItem, bundleItems, bytesOf-file, bundleItems-framed, constraintItems-state, bundleItems-short, bundleItems-bare, length-kindsOf, kinds-binary, sized, length-numbersOf, restated}
+use Rattle.bundle.proofs.Writable.{Writable, bytesOf, bundleBytes-gives, bundleBytes-accepted, FormsInWidth, Given, constraints-given, constraintItem, bundleItems, bytesOf-file, bundleItems-framed, constraintItems-state, bundleItems-short, bundleItems-bare, length-kindsOf, kinds-binary, sized, length-numbersOf, restated}
 
 -- ---- what an accepted writing leaves
 -- What writing these bytes leaves, if it is accepted.

@@ -1,222 +1,191 @@
--- Writing a bundle is accepted just where its parts are in order, and what it writes are the fields of its constraints. Assumes nothing.
-use mathlib.Core.Path.{_≡_, refl, sym, _∙_, ap, ap₂, subst}
-use mathlib.Core.Option.{Option, none, some}
-use mathlib.Core.Bool.{Bool, true, false}
-use mathlib.Core.List.{List, [], _∷_, _++_, map, append-assoc}
+-- Writing a bundle: what an accepted one is like, and each way through `write` as a law over plain values. Assumes nothing.
+use mathlib.Core.Path.{_≡_, refl, sym, ap, _∙_}
+use mathlib.Core.Bool.{Bool, true, false, _&&_}
+use mathlib.Core.List.{List, [], _∷_, _++_}
 use Prim.Native.Nat.{ℕ, zero, suc, _+_, _*_, _≤_, _<_}
-use native.Mathlib.Numerals.{add-one}
 use native.Mathlib.Omega.{arith}
-use lib.Dec.{T, leb, leb→le, le→leb, eqb, eqb→eq, eqb-refl}
-use lib.IntN.{ℤ, pos}
-use lib.ListN.{length, take, drop, getD, length-append, length-drop, length-map, take-append-drop}
-use lib.Seq.{take-at, drop-at, take-suc, length-take-le}
-use borrow.Author.Tests.{eqb-true}
-use mir.Facts.{and-yes, yes-and}
-use Rattle.forms.specs.Edition.{Edition, edition1}
-use Rattle.forms.specs.Forms.{Form, Kind, ≤0, =0, Constraint, All, nil, cons}
-use Rattle.fields.specs.Answers.{accepted}
-use Rattle.fields.specs.Numbers.{unsignedBytes, signedsBytes, flat, formBytes}
-use Rattle.fields.specs.Fields.{Item, item, fieldBytes, fileOf, Framed, note, withoutNotes, unlessNoteItem}
+use lib.Dec.{leb}
+use lib.IntN.{ℤ}
+use lib.ListN.{length, getD}
+use lib.Seq.{sets}
+use borrow.Author.Tests.{le-leb, lt-leb, eq-eqb, ne-eqb, leb-true, eqb-true}
+use Rattle.forms.specs.Edition.{edition1}
+use Rattle.fields.specs.declared.Answer.{Answer}
+use Rattle.fields.specs.Answers.{answer, acceptance, fileLent, Result, refused, accepted, _>>_, need, each, over, fit, written}
 use Rattle.fields.specs.Header.{headerBytes}
-use Rattle.fields.proofs.Results.{Gives, accepts, test, seq, needs, passes, each-gives, each-accepted}
-use Rattle.fields.proofs.Signed.{InWidth, all-take, all-drop, FormInWidth, length-formBytes, formFrom-written, all-weaken, formBytes-formFrom, formFrom-in}
-use Rattle.fields.proofs.Contents.{ItemBytes}
-use Rattle.bundle.specs.Bundle.{kindTagged}
-use Rattle.bundle.specs.Layout.{Each, States}
-use Rattle.bundle.specs.Read.{kindNumber, kindsOf, numbersOf}
-use Rattle.bundle.specs.Write.{constraintsBytes, bundleBytes}
+use Rattle.fields.specs.Fields.{fieldBytes}
+use Rattle.fields.specs.Numbers.{unsignedBytes}
+use Rattle.fields.proofs.Refusals.{Numbered, Gives, no, yes, passing, numbered, both}
+use Rattle.fields.proofs.Stores.{sets-append, sets-over}
+use Rattle.bundle.specs.Scan.{pick}
+use Rattle.bundle.specs.Show.{answerOf}
+use Rattle.bundle.specs.Write.{constraintsBytes, bundleBytes, writeBundle}
+use Rattle.bundle.specs.Put.{firstBad, fieldSize, Writable, writtenOf}
+use Rattle.bundle.proofs.Putting.{bundle-size}
 
--- ---- when writing is accepted
--- K is 1 to 16, there are at most 32 kinds, each is 0 or 1, and K+1 numbers for each.
-pub record Writable (K : ℕ) (kinds : List ℕ) (numbers : List ℤ) : Type 0 where
-  pub low : 1 ≤ K
-  pub high : K ≤ edition1 .constants
-  pub few : length kinds ≤ edition1 .constraints
-  pub binary : All (λ kind. T (leb kind 1)) kinds
-  pub size : length numbers ≡ length kinds * suc K
-
-module _ (K : ℕ) (kinds : List ℕ) (numbers : List ℤ) where
-  -- The bytes of a bundle.
-  abbrev pub bytesOf : List ℕ
-  bytesOf = headerBytes K ++ constraintsBytes edition1 K kinds numbers
-
-  pub bundleBytes-gives : Gives (bundleBytes edition1 K kinds numbers) (λ bytes. Writable K kinds numbers × (bytes ≡ bytesOf))
-  unfolding bundleBytes
-  bundleBytes-gives = test _ _ tt λ b. test _ _ tt λ f. seq (each-gives _ _ (λ i. tt) 0 kinds) λ a. test _ _ tt λ s.
-      let (l, m) = and-yes (leb 1 K) (leb K (edition1 .constants)) b in
-      accepts (record { low = leb→le 1 K l; high = leb→le K (edition1 .constants) m; few = leb→le _ _ f; binary = a; size = eqb→eq _ _ s }, refl)
-
-  pub bundleBytes-accepted : Writable K kinds numbers → bundleBytes edition1 K kinds numbers ≡ accepted bytesOf
-  unfolding bundleBytes
-  bundleBytes-accepted h = needs _ _ _ (yes-and (leb 1 K) (leb K (edition1 .constants)) (le→leb 1 K (h .low)) (le→leb K (edition1 .constants) (h .high)))
-      ∙ needs _ _ _ (le→leb _ _ (h .few)) ∙ passes _ (each-accepted _ _ 0 (h .binary)) ∙ needs _ _ _ (rw (h .size) (eqb-refl (length kinds * suc K)))
-
--- ---- kinds and numbers as constraints
-pub length-flat : (t : Form) → length (flat t) ≡ suc (length (t .coeffs))
-unfolding flat
-length-flat t = length-append (t .coeffs) (t .d ∷ []) ∙ add-one (length (t .coeffs))
-
--- Each form has K coefficients, and its numbers have two's complements of w bytes.
-abbrev pub FormsInWidth : (w K : ℕ) → List Constraint → Type 0
-FormsInWidth w K = All (λ c. FormInWidth w K (c .form))
-
--- The constraints that kinds and numbers give.
-pub record Given (w K : ℕ) (kinds : List ℕ) (numbers : List ℤ) : Type 0 where
-  pub constraints : List Constraint
-  pub kinds-are : kindsOf constraints ≡ kinds
-  pub numbers-are : numbersOf constraints ≡ numbers
-  pub widths : FormsInWidth w K constraints
-
-all-getD : {X : Type 0} {P : X → Type 0} {xs : List X} (i : ℕ) (x : X) → All P xs → i < length xs → P (getD xs i x)
-all-getD i x nil h = absurd (omega arith)
-all-getD zero x (cons p ps) h = p
-all-getD (suc i) x (cons p ps) h = all-getD i x ps (omega arith)
-
--- The kind of a number that is 0 or 1.
-kind-of : (n : ℕ) → T (leb n 1) → (k : Kind) × (kindNumber k ≡ n)
-unfolding kindNumber
-kind-of zero h = (≤0, refl)
-kind-of (suc zero) h = (=0, refl)
-kind-of (suc (suc n)) h = absurd (let l = leb→le (suc (suc n)) 1 h in omega arith)
-
-module _ (w K : ℕ) where
-  -- The first kind and the first K+1 numbers are the first constraint.
-  first-given : (n : ℕ) (kinds : List ℕ) (numbers : List ℤ) → T (leb n 1) → K < length numbers → All (InWidth w) numbers → Given w K kinds (drop (suc K) numbers) → Given w K (n ∷ kinds) numbers
-  unfolding kindsOf numbersOf flat
-  first-given n kinds numbers b long h rest =
-      let (k, e) = kind-of n b in
-      record {
-        constraints = record { kind = k; form = record { coeffs = take K numbers; d = getD numbers K (pos 0) } } ∷ rest .constraints;
-        kinds-are = ap₂ (λ (n : ℕ) (ns : List ℕ). n ∷ ns) e (rest .kinds-are);
-        numbers-are = ap₂ (λ (xs ys : List ℤ). xs ++ ys) (sym (take-suc numbers K (pos 0) long)) (rest .numbers-are) ∙ take-append-drop (suc K) numbers;
-        widths = cons (record { size = length-take-le K numbers (omega arith); coeffs = all-take K h; d = all-getD K (pos 0) h long }) (rest .widths);
-      }
-
-  pub constraints-given : {kinds : List ℕ} (numbers : List ℤ) → All (λ kind. T (leb kind 1)) kinds → length numbers ≡ length kinds * suc K → All (InWidth w) numbers → Given w K kinds numbers
-  unfolding kindsOf numbersOf
-  constraints-given [] nil s h = record { constraints = []; kinds-are = refl; numbers-are = refl; widths = nil }
-  constraints-given (z ∷ zs) nil s h = absurd (omega arith)
-  constraints-given numbers (cons {x = n} {xs = kinds} b bs) s h =
-      first-given n kinds numbers b (omega arith) h (constraints-given (drop (suc K) numbers) bs (rw length-drop (omega arith)) (all-drop (suc K) h))
-
--- ---- the fields of a bundle
--- A constraint's field.
-abbrev pub constraintItem : (w : ℕ) → Constraint → Item
-constraintItem w c = item (0x03 + kindNumber (c .kind)) (formBytes w (c .form))
-
--- A bundle's fields, the header's two first.
-abbrev pub bundleItems : (w K : ℕ) → List Constraint → List Item
-bundleItems w K cs = item 0x01 (1 ∷ []) ∷ item 0x02 (K ∷ []) ∷ map (constraintItem w) cs
-
-constraints-bytes : (e : Edition) (K : ℕ) {cs : List Constraint} → All (λ c. length (c .form .coeffs) ≡ K) cs → constraintsBytes e K (kindsOf cs) (numbersOf cs) ≡ fileOf (map (constraintItem (e .coefficientWidth)) cs)
-unfolding constraintsBytes kindsOf numbersOf fileOf formBytes
-constraints-bytes e K nil = refl
-constraints-bytes e K (cons {x = c} {xs = cs} h hs) =
-    let own : length (flat (c .form)) ≡ suc K = length-flat (c .form) ∙ ap suc h in
-    rw (take-at (flat (c .form)) (numbersOf cs) (suc K) own, drop-at (flat (c .form)) (numbersOf cs) (suc K) own)
-    (ap (λ (bs : List ℕ). fieldBytes (0x03 + kindNumber (c .kind)) (signedsBytes (e .coefficientWidth) (flat (c .form))) ++ bs) (constraints-bytes e K hs))
-
-header-file : (K : ℕ) (is : List Item) → fileOf (item 0x01 (1 ∷ []) ∷ item 0x02 (K ∷ []) ∷ is) ≡ headerBytes K ++ fileOf is
-unfolding fileOf headerBytes
-header-file K is = sym (append-assoc (fieldBytes 0x01 (1 ∷ [])) (fieldBytes 0x02 (K ∷ [])) (fileOf is))
-
--- What is written is the bundle's fields, end to end.
-pub bytesOf-file : (K : ℕ) {cs : List Constraint} → All (λ c. length (c .form .coeffs) ≡ K) cs → bytesOf K (kindsOf cs) (numbersOf cs) ≡ fileOf (bundleItems 2 K cs)
-bytesOf-file K {cs} h = ap (λ (bs : List ℕ). headerBytes K ++ bs) (constraints-bytes edition1 K h) ∙ sym (header-file K (map (constraintItem 2) cs))
-
--- ---- these fields are framed, none is a note, and each states its constraint
-kind-tagged : (k : Kind) → kindTagged (0x03 + kindNumber k) ≡ some k
-unfolding kindTagged kindNumber
-kind-tagged ≤0 = refl
-kind-tagged =0 = refl
-
-binary : (k : Kind) → T (leb (kindNumber k) 1)
-unfolding kindNumber
-binary ≤0 = tt
-binary =0 = tt
-
-kind-no-note : (k : Kind) → note (0x03 + kindNumber k) ≡ false
-unfolding note kindNumber
-kind-no-note ≤0 = refl
-kind-no-note =0 = refl
-
-module _ {K : ℕ} where
-  framed-constraints : K ≤ edition1 .constants → {cs : List Constraint} → FormsInWidth 2 K cs → All Framed (map (constraintItem 2) cs)
-  framed-constraints h nil = nil
-  framed-constraints h (cons {x = c} t ts) = cons {x = constraintItem 2 c} (record { framed = rw (length-formBytes 2 K (c .form) (t .size)) (omega arith) }) (framed-constraints h ts)
-
-  pub bundleItems-framed : K ≤ edition1 .constants → {cs : List Constraint} → FormsInWidth 2 K cs → All Framed (bundleItems 2 K cs)
-  bundleItems-framed h t = cons {x = item 0x01 (1 ∷ [])} (record { framed = omega arith }) (cons {x = item 0x02 (K ∷ [])} (record { framed = omega arith }) (framed-constraints h t))
-
-  pub constraintItems-state : {cs : List Constraint} → FormsInWidth 2 K cs → Each (States edition1 K) (map (constraintItem 2) cs) cs
-  constraintItems-state nil = Each.nil
-  constraintItems-state (cons {x = c} t ts) = Each.cons (record { kind = kind-tagged (c .kind); size = length-formBytes 2 K (c .form) (t .size); form = formFrom-written 2 K t }) (constraintItems-state ts)
-
-  -- At most 37 bytes a constraint.
-  constraints-short : K ≤ edition1 .constants → {cs : List Constraint} → FormsInWidth 2 K cs → length (fileOf (map (constraintItem 2) cs)) ≤ 37 * length cs
-  unfolding fileOf fieldBytes unsignedBytes
-  constraints-short h nil = omega arith
-  constraints-short h (cons {x = c} {xs = cs} t ts) =
-      let own = length-formBytes 2 K (c .form) (t .size) in
-      let rest = constraints-short h ts in
-      rw length-append (omega arith)
-
-  pub bundleItems-short : K ≤ edition1 .constants → {cs : List Constraint} → FormsInWidth 2 K cs → length cs ≤ edition1 .constraints → length (fileOf (bundleItems 2 K cs)) ≤ edition1 .bundleBytes
-  unfolding fileOf fieldBytes unsignedBytes
-  bundleItems-short h {cs} t few = let rest = constraints-short h t in omega arith
-
-bare-constraints : (w : ℕ) (cs : List Constraint) → withoutNotes (map (constraintItem w) cs) ≡ map (constraintItem w) cs
-unfolding withoutNotes unlessNoteItem
-bare-constraints w [] = refl
-bare-constraints w (c ∷ cs) = rw (kind-no-note (c .kind)) (ap (λ (is : List Item). constraintItem w c ∷ is) (bare-constraints w cs))
-
-pub bundleItems-bare : (w K : ℕ) (cs : List Constraint) → withoutNotes (bundleItems w K cs) ≡ bundleItems w K cs
-unfolding withoutNotes unlessNoteItem note
-bundleItems-bare w K cs = ap (λ (is : List Item). item 0x01 (1 ∷ []) ∷ item 0x02 (K ∷ []) ∷ is) (bare-constraints w cs)
-
--- ---- the other way: the kinds and numbers of constraints can be written, and fields that state constraints are those written
-pub length-kindsOf : (cs : List Constraint) → length (kindsOf cs) ≡ length cs
-unfolding kindsOf
-length-kindsOf cs = length-map cs (λ c. kindNumber (c .kind))
-
-pub kinds-binary : (cs : List Constraint) → All (λ kind. T (leb kind 1)) (kindsOf cs)
-unfolding kindsOf
-kinds-binary [] = nil
-kinds-binary (c ∷ cs) = cons (binary (c .kind)) (kinds-binary cs)
-
-module _ {w K : ℕ} where
-  pub sized : {cs : List Constraint} → FormsInWidth w K cs → All (λ c. length (c .form .coeffs) ≡ K) cs
-  sized = all-weaken λ c h. h .size
-
-  pub length-numbersOf : {cs : List Constraint} → FormsInWidth w K cs → length (numbersOf cs) ≡ length cs * suc K
-  unfolding numbersOf
-  length-numbersOf nil = omega arith
-  length-numbersOf (cons {x = c} {xs = cs} h hs) =
-      let rest = length-numbersOf hs in
-      length-append (flat (c .form)) (numbersOf cs) ∙ omega (arith, length-flat (c .form), h .size)
-
--- The tag that gives a kind is the one written for it.
-tag-of : (tag : ℕ) (k : Kind) → kindTagged tag ≡ some k → tag ≡ 0x03 + kindNumber k
-unfolding kindTagged kindNumber
-tag-of tag k h = go (eqb tag 0x03) refl (eqb tag 0x04) refl h
+-- ---- the kinds, tested one by one
+firstBad-from : (i : ℕ) (kinds : List ℕ) → i ≤ firstBad i kinds
+firstBad-from i [] = omega arith
+firstBad-from i (x ∷ xs) = go (leb x 1) (firstBad-from (suc i) xs)
   where
-    go : (a : Bool) → eqb tag 0x03 ≡ a → (b : Bool) → eqb tag 0x04 ≡ b → elim a as (λ _. Option Kind) [ true ↦ some ≤0 | false ↦ elim b [ true ↦ some =0 | false ↦ none ] ] ≡ some k → tag ≡ 0x03 + kindNumber k
-    go true p b q h = eqb-true tag 0x03 p ∙ ap (λ (k : Kind). 0x03 + kindNumber k) (let same : ≤0 ≡ k = cc in same)
-    go false p true q h = eqb-true tag 0x04 q ∙ ap (λ (k : Kind). 0x03 + kindNumber k) (let same : =0 ≡ k = cc in same)
-    go false p false q h = absurd (let z : _≡_ {A = ℕ} 0 1 = cc in omega arith)
+    go : (b : Bool) → suc i ≤ firstBad (suc i) xs → i ≤ pick b (firstBad (suc i) xs) i
+    go true h = omega arith
+    go false h = omega arith
 
--- The fields of constraints, whose numbers have two bytes.
-pub record Restated (K : ℕ) (is : List Item) (cs : List Constraint) : Type 0 where
-  pub are : is ≡ map (constraintItem 2) cs
-  pub widths : FormsInWidth 2 K cs
+-- what holds of a value implies another
+following : {P : Answer → Type 0} {Q R : Type 0} {r : Result (Unit {0})} → Gives P (λ (u : Unit {0}). Q) r → (Q → R) → Gives P (λ (u : Unit {0}). R) r
+following (no p) k = no p
+following (yes q) k = yes (k q)
 
--- Fields that state constraints are the fields of these, if their contents are bytes.
-pub restated : {K : ℕ} {is : List Item} {cs : List Constraint} → All ItemBytes is → Each (States edition1 K) is cs → Restated K is cs
-restated h Each.nil = record { are = refl; widths = nil }
-restated {K} (cons {x = i} b bs) (Each.cons {y = c} s ss) =
-    let rest = restated bs ss in
-    let contents : i .contents ≡ formBytes 2 (c .form) = sym (formBytes-formFrom 2 K (i .contents) (s .size) (b .bytes)) ∙ ap (formBytes 2) (s .form) in
-    record {
-      are = ap₂ (λ (i : Item) (is : List Item). i ∷ is) (ap₂ item (tag-of (i .tag) (c .kind) (s .kind)) contents) (rest .are);
-      widths = cons (subst (FormInWidth 2 K) (s .form) (formFrom-in 2 K (i .contents) (s .size) (b .bytes))) (rest .widths);
-    }
+-- a test that tells more than that it is passed
+then : {Y : Type 0} {P : Answer → Type 0} {Q : Type 0} {R : Y → Type 0} {r : Result (Unit {0})} (s : Result Y)
+    → Gives P (λ (u : Unit {0}). Q) r → (Q → Gives P R s) → Gives P R (r >> s)
+unfolding _>>_
+then s (no p) k = no p
+then s (yes q) k = k q
+
+module _ (at : ℕ → Answer) where
+  each-good : (i : ℕ) (kinds : List ℕ) → i + length kinds ≤ firstBad i kinds → each at (λ kind. leb kind 1) i kinds ≡ accepted tt
+  unfolding each need _>>_
+  each-good i [] h = refl
+  each-good i (x ∷ xs) h = go (leb x 1) h (each-good (suc i) xs)
+    where
+      go : (b : Bool) → i + suc (length xs) ≤ pick b (firstBad (suc i) xs) i
+          → (suc i + length xs ≤ firstBad (suc i) xs → each at (λ kind. leb kind 1) (suc i) xs ≡ accepted tt)
+          → (need (at i) b >> each at (λ kind. leb kind 1) (suc i) xs) ≡ accepted tt
+      go true h k = k (omega arith)
+      go false h k = absurd (omega arith)
+
+  each-bad : (i : ℕ) (kinds : List ℕ) → firstBad i kinds < i + length kinds → each at (λ kind. leb kind 1) i kinds ≡ refused (at (firstBad i kinds))
+  unfolding each need _>>_
+  each-bad i [] h = absurd (omega arith)
+  each-bad i (x ∷ xs) h = go (leb x 1) h (each-bad (suc i) xs)
+    where
+      go : (b : Bool) → pick b (firstBad (suc i) xs) i < i + suc (length xs)
+          → (firstBad (suc i) xs < suc i + length xs → each at (λ kind. leb kind 1) (suc i) xs ≡ refused (at (firstBad (suc i) xs)))
+          → (need (at i) b >> each at (λ kind. leb kind 1) (suc i) xs) ≡ refused (at (pick b (firstBad (suc i) xs) i))
+      go true h k = k (omega arith)
+      go false h k = refl
+
+  -- all are 0 or 1, or the refusal is one at an index
+  each-gives : (P : Answer → Type 0) → ((i : ℕ) → P (at i)) → (i : ℕ) (kinds : List ℕ)
+      → Gives P (λ (u : Unit {0}). (j : ℕ) → j < length kinds → getD kinds j 0 ≤ 1) (each at (λ kind. leb kind 1) i kinds)
+  unfolding each
+  each-gives P p i [] = yes (λ j h. absurd (omega arith))
+  each-gives P p i (x ∷ xs) = passing _ _ _ (p i) (λ e. following (each-gives P p (suc i) xs) (λ q. more e q))
+    where
+      more : leb x 1 ≡ true → ((j : ℕ) → j < length xs → getD xs j 0 ≤ 1) → (j : ℕ) → j < suc (length xs) → getD (x ∷ xs) j 0 ≤ 1
+      more e q zero h = leb-true x 1 e
+      more e q (suc j) h = q j (omega arith)
+
+-- ---- what `write_fault` answers
+module _ (K : ℕ) (kinds : List ℕ) (numbers : List ℤ) where
+  pub fault-k : (leb 1 K && leb K 16) ≡ false → answerOf (bundleBytes edition1 K kinds numbers) ≡ answer 7 4 0
+  unfolding bundleBytes answerOf need _>>_
+  fault-k h = rw h
+
+  module _ (h : (leb 1 K && leb K 16) ≡ true) where
+    pub fault-count : 32 < length kinds → answerOf (bundleBytes edition1 K kinds numbers) ≡ answer 8 4 0
+    unfolding bundleBytes answerOf need _>>_
+    fault-count l = rw (h, lt-leb (length kinds) 32 l)
+
+    module _ (l : length kinds ≤ 32) where
+      pub fault-kind : firstBad 0 kinds < length kinds → answerOf (bundleBytes edition1 K kinds numbers) ≡ answer 24 4 (firstBad 0 kinds)
+      unfolding bundleBytes answerOf need _>>_
+      fault-kind b = rw (h, le-leb (length kinds) 32 l, each-bad (λ i. answer 24 fileLent i) 0 kinds (omega arith))
+
+      module _ (g : length kinds ≤ firstBad 0 kinds) where
+        pub fault-size : (length numbers ≡ length kinds * (K + 1) → ⊥) → answerOf (bundleBytes edition1 K kinds numbers) ≡ answer 24 4 (length kinds)
+        unfolding bundleBytes answerOf need _>>_
+        fault-size n =
+            let e : K + 1 ≡ suc K = omega arith in
+            rw (h, le-leb (length kinds) 32 l, each-good (λ i. answer 24 fileLent i) 0 kinds (omega arith), ne-eqb (length numbers) (length kinds * suc K) (rw e at n))
+
+        pub fault-none : length numbers ≡ length kinds * (K + 1) → answerOf (bundleBytes edition1 K kinds numbers) ≡ acceptance
+        unfolding bundleBytes answerOf need _>>_
+        fault-none n =
+            let e : K + 1 ≡ suc K = omega arith in
+            rw (h, le-leb (length kinds) 32 l, each-good (λ i. answer 24 fileLent i) 0 kinds (omega arith), eq-eqb (length numbers) (length kinds * suc K) (rw e at n))
+
+-- ---- a bundle that can be written
+pub record Ready (K : ℕ) (kinds : List ℕ) (numbers : List ℤ) (bytes : List ℕ) : Type 0 where
+  pub is : bytes ≡ headerBytes K ++ constraintsBytes edition1 K kinds numbers
+  pub kinds-are : (i : ℕ) → i < length kinds → getD kinds i 0 ≤ 1
+  pub few : length kinds ≤ 32
+  pub high : K ≤ 16
+  pub size : length numbers ≡ length kinds * (K + 1)
+
+pub bytes-give : (K : ℕ) (kinds : List ℕ) (numbers : List ℤ) → Gives Numbered (Ready K kinds numbers) (bundleBytes edition1 K kinds numbers)
+unfolding bundleBytes
+bytes-give K kinds numbers =
+    passing _ _ _ (numbered 7 fileLent 0 tt) λ range.
+    passing _ _ _ (numbered 8 fileLent 0 tt) λ few.
+    then _ (each-gives (λ i. answer 24 fileLent i) Numbered (λ i. numbered 24 fileLent i tt) 0 kinds) λ are.
+    passing _ _ _ (numbered 24 fileLent (length kinds) tt) λ size.
+    let e : suc K ≡ K + 1 = omega arith in
+    yes (record {
+      is = refl;
+      kinds-are = are;
+      few = leb-true (length kinds) 32 few;
+      high = leb-true K 16 (both (leb 1 K) (leb K 16) range .1);
+      size = rw e at (eqb-true (length numbers) (length kinds * suc K) size);
+    })
+
+-- ---- each way through `write`
+-- what stands behind the header
+after-header : (K : ℕ) (bytes out : List ℕ) → sets (sets out 0 (headerBytes K)) 8 bytes ≡ sets out 0 (headerBytes K ++ bytes)
+unfolding headerBytes fieldBytes unsignedBytes
+after-header K bytes out = sym (sets-append (headerBytes K) bytes out 0)
+
+pub record Granted (K : ℕ) (kinds : List ℕ) (numbers : List ℤ) (B : Result (List ℕ)) (a : Answer) : Type 0 where
+  pub bytes : List ℕ
+  pub grants : B ≡ accepted bytes
+  pub ready : Ready K kinds numbers bytes
+  pub answer-is : a ≡ acceptance
+
+module _ {K : ℕ} {kinds : List ℕ} {numbers : List ℤ} {B : Result (List ℕ)} {a : Answer} (g : Gives Numbered (Ready K kinds numbers) B) (e : a ≡ answerOf B) where
+  pub granted : a .number ≡ 0 → Granted K kinds numbers B a
+  unfolding answerOf
+  granted z = go B g e
+    where
+      go : (B : Result (List ℕ)) → Gives Numbered (Ready K kinds numbers) B → a ≡ answerOf B → Granted K kinds numbers B a
+      go (refused r) (no p) e = absurd (p .not-0 (rw e at z))
+      go (accepted bytes) (yes q) e = record { bytes = bytes; grants = refl; ready = q; answer-is = e }
+
+  pub not-granted : (a .number ≡ 0 → ⊥) → B ≡ refused a
+  unfolding answerOf
+  not-granted z = go B g e
+    where
+      go : (B : Result (List ℕ)) → Gives Numbered (Ready K kinds numbers) B → a ≡ answerOf B → B ≡ refused a
+      go (refused r) (no p) e = rw e
+      go (accepted bytes) (yes q) e = absurd (z (rw e))
+
+module _ (K : ℕ) (kinds : List ℕ) (numbers : List ℤ) (out : List ℕ) where
+  pub write-refused : {a : Answer} → bundleBytes edition1 K kinds numbers ≡ refused a
+      → writtenOf (record { answer = a; count = 0 }) out ≡ writeBundle K kinds numbers out
+  unfolding writeBundle written
+  write-refused e = rw e
+
+  module _ {a : Answer} (t : Granted K kinds numbers (bundleBytes edition1 K kinds numbers) a) where
+    size-is : length (t .bytes) ≡ 8 + length kinds * fieldSize K
+    size-is = ap length (t .ready .is) ∙ bundle-size K kinds numbers (t .ready .size)
+
+    pub write-short : length out < 8 + length kinds * fieldSize K
+        → writtenOf (record { answer = answer 21 4 (8 + length kinds * fieldSize K); count = 0 }) out ≡ writeBundle K kinds numbers out
+    unfolding writeBundle written fit
+    write-short h = rw (t .grants, size-is, lt-leb (8 + length kinds * fieldSize K) (length out) h, size-is)
+
+    module _ (h : 8 + length kinds * fieldSize K ≤ length out) where
+      pub writable : {out′ : List ℕ} → length out′ ≡ length out → Writable K kinds numbers out′ 8
+      writable e = record { kinds-are = t .ready .kinds-are; few = t .ready .few; high = t .ready .high; size = t .ready .size; fits = omega arith }
+
+      pub write-all : {out₁ out₂ : List ℕ} → out₁ ≡ sets out 0 (headerBytes K) → out₂ ≡ sets out₁ 8 (constraintsBytes edition1 K kinds numbers)
+          → writtenOf (record { answer = a; count = 8 + length kinds * fieldSize K }) out₂ ≡ writeBundle K kinds numbers out
+      unfolding writeBundle written fit
+      write-all {out₂} e₁ e₂ =
+          let o : out₂ ≡ over (t .bytes) out
+          = e₂ ∙ ap (λ (l : List ℕ). sets l 8 (constraintsBytes edition1 K kinds numbers)) e₁
+          ∙ after-header K (constraintsBytes edition1 K kinds numbers) out
+          ∙ ap (λ (l : List ℕ). sets out 0 l) (sym (t .ready .is))
+          ∙ sets-over (t .bytes) out (omega (arith, size-is)) in
+          rw (t .grants, o, size-is, le-leb (8 + length kinds * fieldSize K) (length out) h, t .answer-is, size-is)

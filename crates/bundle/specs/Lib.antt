@@ -5,4 +5,6 @@ pub mod Scan
 pub mod Read
 pub mod Store
 pub mod Write
+pub mod Put
 pub mod Show
+pub mod Locate

@@ -1,13 +1,21 @@
 // Constraint bundles: reading, writing and showing a constraint.
-pub mod constraints;
-pub mod store;
+mod constraints;
+mod locate;
+mod put;
+mod store;
 
 use constraints::Counted;
 use constraints::count_constraints;
 use fields::Answer;
 use fields::FileKind;
 use fields::header::Headed;
+use fields::header::between;
+use fields::header::put_header;
 use fields::header::read_header;
+use locate::Located;
+use locate::locate;
+use put::first_bad;
+use put::put_constraints;
 use store::store;
 ghost use mathlib.Core.Path.{_≡_};
 ghost use Rattle.fields.specs.Answers.{answer};
@@ -17,6 +25,11 @@ ghost use Rattle.bundle.specs.Bundle.{bundle};
 ghost use Rattle.bundle.specs.Scan.{scanned};
 ghost use Rattle.bundle.specs.Read.{readBundle};
 ghost use Rattle.bundle.specs.Store.{readOf};
+ghost use Rattle.bundle.specs.Write.{bundleBytes, writeBundle};
+ghost use Rattle.bundle.specs.Put.{writtenOf};
+ghost use Rattle.bundle.specs.Show.{answerOf, showPart, showAnswer};
+ghost use Rattle.bundle.specs.Locate.{partBytes, partPlace};
+ghost use Rattle.forms.specs.Edition.{edition1};
 
 // What going over a bundle tells: K and how many constraints there are, or the refusal, with 0 for both.
 pub struct Scanned {
@@ -108,4 +121,117 @@ pub fn read(file: &[u8], kinds: &mut [u8], numbers: &mut [i16]) -> ReadResult
     }
     store(file, kinds, numbers);
     ReadResult { answer, count, k }
+}
+
+// What a bundle to write is refused for, apart from the output: its answer, or that of an accepted one.
+fn write_fault(k: u8, kinds: &[u8], numbers: &[i16]) -> Answer
+    ensures { λ r. ⌜ r ≡ answerOf (bundleBytes edition1 k (now (kinds .entry)) (now (numbers .entry))) ⌝ }
+{
+    if between(k, 1, 16) {
+        let count = kinds.len();
+        if count > 32 {
+            return Answer {
+                number: 8,
+                file: 4,
+                place: 0,
+            };
+        }
+        let bad = first_bad(kinds);
+        if bad < count {
+            return Answer {
+                number: 24,
+                file: 4,
+                place: bad,
+            };
+        }
+        if numbers.len() != count * (k as usize + 1) {
+            return Answer {
+                number: 24,
+                file: 4,
+                place: count,
+            };
+        }
+        return Answer {
+            number: 0,
+            file: 0,
+            place: 0,
+        };
+    }
+    Answer {
+        number: 7,
+        file: 4,
+        place: 0,
+    }
+}
+
+// What writing a bundle answers: the bytes written, 0 where it is refused.
+pub struct WriteResult {
+    pub answer: Answer,
+    pub count: usize,
+}
+
+// Writes a bundle from K, kinds and numbers.
+pub fn write(k: u8, kinds: &[u8], numbers: &[i16], out: &mut [u8]) -> WriteResult
+    ensures { λ r. ⌜ writtenOf r (now (out .exit)) ≡ writeBundle k (now (kinds .entry)) (now (numbers .entry)) (now (out .entry)) ⌝ }
+{
+    let answer = write_fault(k, kinds, numbers);
+    let number = answer.number;
+    if number != 0 {
+        return WriteResult { answer, count: 0 };
+    }
+    let needed = 8 + kinds.len() * (3 + (k as usize + 1) * 2);
+    if out.len() < needed {
+        return WriteResult {
+            answer: Answer {
+                number: 21,
+                file: 4,
+                place: needed,
+            },
+            count: 0,
+        };
+    }
+    put_header(out, k);
+    put_constraints(out, 8, k, kinds, numbers);
+    WriteResult {
+        answer,
+        count: needed,
+    }
+}
+
+// A line's number: A's constraints in file order, then B's.
+pub struct Line(pub u16);
+
+// The field of the constraint that a line number names, out of A's or B's buffer; the empty part at A's start where it is refused.
+pub fn show<'a>(a: &'a [u8], b: &'a [u8], line: Line) -> &'a [u8]
+    ensures bytes { λ r. ⌜ now r ≡ partBytes (showPart (now (a .entry)) (now (b .entry)) (line .0)) (now (a .entry)) (now (b .entry)) ⌝ }
+    ensures place { λ r. ⌜ r .ptr ≡ partPlace (showPart (now (a .entry)) (now (b .entry)) (line .0)) (a .entry) (b .entry) ⌝ }
+{
+    match locate(a, b, line) {
+        Located::Part { file, start, size } => {
+            let end = start + size;
+            if file == 1 {
+                return &a[start..end];
+            }
+            &b[start..end]
+        }
+        Located::Refused { answer: _ } => &a[0..0],
+    }
+}
+
+// The answer to the same call.
+pub fn show_answer(a: &[u8], b: &[u8], line: Line) -> Answer
+    ensures { λ r. ⌜ r ≡ showAnswer (now (a .entry)) (now (b .entry)) (line .0) ⌝ }
+{
+    match locate(a, b, line) {
+        Located::Part {
+            file: _,
+            start: _,
+            size: _,
+        } => Answer {
+            number: 0,
+            file: 0,
+            place: 0,
+        },
+        Located::Refused { answer } => answer,
+    }
 }
