@@ -1,18 +1,31 @@
 // Constraint bundles: reading, writing and showing a constraint.
 pub mod constraints;
+pub mod put;
+pub mod store;
 
 use constraints::Counted;
 use constraints::count_constraints;
 use fields::Answer;
 use fields::FileKind;
 use fields::header::Headed;
+use fields::header::between;
+use fields::header::put_header;
 use fields::header::read_header;
+use put::first_bad;
+use put::put_constraints;
+use store::store;
 ghost use mathlib.Core.Path.{_≡_};
 ghost use Rattle.fields.specs.Answers.{answer};
 ghost use Rattle.fields.specs.Fields.{fields};
 ghost use Rattle.fields.specs.Places.{givenK};
 ghost use Rattle.bundle.specs.Bundle.{bundle};
 ghost use Rattle.bundle.specs.Scan.{scanned};
+ghost use Rattle.bundle.specs.Read.{readBundle};
+ghost use Rattle.bundle.specs.Store.{readOf};
+ghost use Rattle.bundle.specs.Write.{bundleBytes, writeBundle};
+ghost use Rattle.bundle.specs.Put.{writtenOf};
+ghost use Rattle.bundle.specs.Show.{answerOf};
+ghost use Rattle.forms.specs.Edition.{edition1};
 
 // What going over a bundle tells: K and how many constraints there are, or the refusal, with 0 for both.
 pub struct Scanned {
@@ -53,5 +66,130 @@ pub fn scan(s: &[u8], file: u8, given: u8) -> Scanned
             Counted::Refused { number, place } => refused_scan(number, file, place),
         },
         Headed::Refused { number, place } => refused_scan(number, file, place),
+    }
+}
+
+// What reading a bundle answers: how many constraints and K, 0 for both where it is refused.
+pub struct ReadResult {
+    pub answer: Answer,
+    pub count: usize,
+    pub k: u8,
+}
+
+fn refused_read(number: u8, file: u8, place: usize) -> ReadResult
+    ensures { λ r. ⌜ r ≡ record { answer = answer number file place; count = 0; k = 0 } ⌝ }
+{
+    ReadResult {
+        answer: Answer {
+            number,
+            file,
+            place,
+        },
+        count: 0,
+        k: 0,
+    }
+}
+
+// Reads a bundle into kinds (0 inequality, 1 equality) and numbers, K+1 a constraint.
+pub fn read(file: &[u8], kinds: &mut [u8], numbers: &mut [i16]) -> ReadResult
+    ensures { λ r. ⌜ readOf r (now (kinds .exit)) (now (numbers .exit)) ≡ readBundle (now (kinds .entry)) (now (numbers .entry)) (now (file .entry)) ⌝ }
+{
+    if file.len() > 4096 {
+        return refused_read(1, 1, 0);
+    }
+    let found = scan(file, 1, 0);
+    let answer = found.answer;
+    let number = answer.number;
+    if number != 0 {
+        return ReadResult {
+            answer,
+            count: 0,
+            k: 0,
+        };
+    }
+    let count = found.count;
+    let k = found.k;
+    if kinds.len() < count {
+        return refused_read(21, 4, count);
+    }
+    if numbers.len() < count * (k as usize + 1) {
+        return refused_read(21, 4, count);
+    }
+    store(file, kinds, numbers);
+    ReadResult { answer, count, k }
+}
+
+// What a bundle to write is refused for, apart from the output: its answer, or that of an accepted one.
+fn write_fault(k: u8, kinds: &[u8], numbers: &[i16]) -> Answer
+    ensures { λ r. ⌜ r ≡ answerOf (bundleBytes edition1 k (now (kinds .entry)) (now (numbers .entry))) ⌝ }
+{
+    if between(k, 1, 16) {
+        let count = kinds.len();
+        if count > 32 {
+            return Answer {
+                number: 8,
+                file: 4,
+                place: 0,
+            };
+        }
+        let bad = first_bad(kinds);
+        if bad < count {
+            return Answer {
+                number: 24,
+                file: 4,
+                place: bad,
+            };
+        }
+        if numbers.len() != count * (k as usize + 1) {
+            return Answer {
+                number: 24,
+                file: 4,
+                place: count,
+            };
+        }
+        return Answer {
+            number: 0,
+            file: 0,
+            place: 0,
+        };
+    }
+    Answer {
+        number: 7,
+        file: 4,
+        place: 0,
+    }
+}
+
+// What writing a bundle answers: the bytes written, 0 where it is refused.
+pub struct WriteResult {
+    pub answer: Answer,
+    pub count: usize,
+}
+
+// Writes a bundle from K, kinds and numbers.
+pub fn write(k: u8, kinds: &[u8], numbers: &[i16], out: &mut [u8]) -> WriteResult
+    ensures { λ r. ⌜ writtenOf r (now (out .exit)) ≡ writeBundle k (now (kinds .entry)) (now (numbers .entry)) (now (out .entry)) ⌝ }
+{
+    let answer = write_fault(k, kinds, numbers);
+    let number = answer.number;
+    if number != 0 {
+        return WriteResult { answer, count: 0 };
+    }
+    let needed = 8 + kinds.len() * (3 + (k as usize + 1) * 2);
+    if out.len() < needed {
+        return WriteResult {
+            answer: Answer {
+                number: 21,
+                file: 4,
+                place: needed,
+            },
+            count: 0,
+        };
+    }
+    put_header(out, k);
+    put_constraints(out, 8, k, kinds, numbers);
+    WriteResult {
+        answer,
+        count: needed,
     }
 }

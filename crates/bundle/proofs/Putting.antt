@@ -1,0 +1,149 @@
+-- Writing constraints: one turn of each loop, as laws over plain values, and how many bytes there are. Assumes nothing.
+use mathlib.Core.Path.{_≡_, refl, sym, ap, _∙_}
+use mathlib.Core.Bool.{Bool, true, false}
+use mathlib.Core.List.{List, [], _∷_, _++_}
+use Prim.Native.Nat.{ℕ, zero, suc, _+_, _*_, _-_, _≤_, _<_}
+use native.Mathlib.Nat.{suc-mul, zero-mul, mul-le-mul-right}
+use native.Mathlib.Numerals.{add-one}
+use native.Mathlib.Omega.{arith}
+use lib.Dec.{leb}
+use lib.IntN.{ℤ, pos}
+use lib.ListN.{length, getD, take, drop, length-append, length-drop, drop-of-length-le}
+use lib.Seq.{sets, length-sets, drop-cons, drop-drop, length-take-le}
+use borrow.Author.Tests.{le-leb, lt-leb}
+use Rattle.forms.specs.Edition.{edition1}
+use Rattle.fields.specs.Fields.{fieldBytes}
+use Rattle.fields.specs.Header.{headerBytes}
+use Rattle.fields.specs.Numbers.{residue, unsignedBytes, signedBytes, signedsBytes}
+use Rattle.fields.proofs.Digits.{length-bytes}
+use Rattle.fields.proofs.Stores.{sets-append}
+use Rattle.bundle.specs.Write.{constraintsBytes}
+use Rattle.bundle.specs.Put.{firstBad, fieldSize, Writable}
+
+-- ---- kinds
+module _ (kinds : List ℕ) (i : ℕ) where
+  pub bad-next : i < length kinds → getD kinds i 0 ≤ 1 → firstBad i (drop i kinds) ≡ firstBad (i + 1) (drop (i + 1) kinds)
+  bad-next h l = rw (drop-cons kinds i 0 h, le-leb (getD kinds i 0) 1 l, add-one)
+
+  pub bad-here : i < length kinds → 1 < getD kinds i 0 → firstBad i (drop i kinds) ≡ i
+  bad-here h l = rw (drop-cons kinds i 0 h, lt-leb (getD kinds i 0) 1 l)
+
+  pub bad-none : length kinds ≤ i → firstBad i (drop i kinds) ≡ i
+  bad-none h = rw (drop-of-length-le kinds h)
+
+-- ---- numbers
+length-signed : (w : ℕ) (z : ℤ) → length (signedBytes w z) ≡ w
+unfolding signedBytes
+length-signed w z = length-bytes w _
+
+pub length-signeds-bytes : (w : ℕ) (zs : List ℤ) → length (signedsBytes w zs) ≡ length zs * w
+unfolding signedsBytes
+length-signeds-bytes w [] = sym (zero-mul w)
+length-signeds-bytes w (z ∷ zs) =
+    length-append (signedBytes w z) (signedsBytes w zs)
+    ∙ omega (arith, length-signed w z, length-signeds-bytes w zs, suc-mul (length zs) w)
+
+pub put-next : (out : List ℕ) (at i n : ℕ) (numbers : List ℤ) (from : ℕ) → i < n → from + n ≤ length numbers
+    → sets (sets out (at + i * 2) (signedBytes 2 (getD numbers (from + i) (pos 0)))) (at + (i + 1) * 2) (signedsBytes 2 (take (n - (i + 1)) (drop (from + (i + 1)) numbers)))
+    ≡ sets out (at + i * 2) (signedsBytes 2 (take (n - i) (drop (from + i) numbers)))
+unfolding signedsBytes
+put-next out at i n numbers from h l =
+    let x = getD numbers (from + i) (pos 0) in
+    let rest = signedsBytes 2 (take (n - (i + 1)) (drop (suc (from + i)) numbers)) in
+    let m : n - i ≡ suc (n - (i + 1)) = omega arith in
+    let f : from + (i + 1) ≡ suc (from + i) = omega arith in
+    let a : at + (i + 1) * 2 ≡ at + i * 2 + 2 = omega arith in
+    let b : from + i < length numbers = omega arith in
+    rw (m, f, a, drop-cons numbers (from + i) (pos 0) b)
+    (sym (sets-append (signedBytes 2 x) rest out (at + i * 2) ∙ rw (length-signed 2 x)))
+
+pub numbers-bytes : (numbers : List ℤ) (from n : ℕ) → from + n ≤ length numbers → length (signedsBytes 2 (take n (drop from numbers))) ≡ n * 2
+numbers-bytes numbers from n h =
+    let l : length (take n (drop from numbers)) ≡ n = length-take-le n (drop from numbers) (simp length-drop (omega arith)) in
+    length-signeds-bytes 2 (take n (drop from numbers)) ∙ rw l
+
+-- ---- a field
+pub put-field : (out : List ℕ) (at tag : ℕ) (contents : List ℕ) (n : ℕ) → length contents ≡ n
+    → sets (sets out at (tag ∷ unsignedBytes 2 n)) (at + 3) contents ≡ sets out at (fieldBytes tag contents)
+unfolding fieldBytes unsignedBytes
+put-field out at tag contents n e = rw e (sym (sets-append (tag ∷ unsignedBytes 2 n) contents out at))
+
+pub field-size : (tag : ℕ) (contents : List ℕ) → length (fieldBytes tag contents) ≡ 3 + length contents
+unfolding fieldBytes unsignedBytes
+field-size tag contents = omega arith
+
+-- ---- all constraints
+-- the invariant: what is left to write gives what the whole gives
+pub record Putting (K : ℕ) (kinds : List ℕ) (numbers : List ℤ) (out₀ : List ℕ) (at : ℕ) (out : List ℕ) (here n : ℕ) : Type 0 where
+  pub can : Writable K kinds numbers out₀ at
+  pub here-is : here ≡ at + n * fieldSize K
+  pub upto : n ≤ length kinds
+  pub is : sets out here (constraintsBytes edition1 K (drop n kinds) (drop (n * (K + 1)) numbers)) ≡ sets out₀ at (constraintsBytes edition1 K kinds numbers)
+  pub long : length out ≡ length out₀
+
+pub putting-start : {K : ℕ} {kinds : List ℕ} {numbers : List ℤ} {out : List ℕ} {at : ℕ} → Writable K kinds numbers out at → Putting K kinds numbers out at out at 0
+putting-start {K} {at} w = record {
+  can = w;
+  here-is = (let z = zero-mul (fieldSize K) in omega arith);
+  upto = omega arith;
+  is = rw (zero-mul (K + 1));
+  long = refl;
+}
+
+module _ {K : ℕ} {kinds : List ℕ} {numbers : List ℤ} {out₀ : List ℕ} {at : ℕ} {out : List ℕ} {here n : ℕ} (v : Putting K kinds numbers out₀ at out here n) where
+  pub putting-done : length kinds ≤ n → out ≡ sets out₀ at (constraintsBytes edition1 K kinds numbers)
+  unfolding constraintsBytes
+  putting-done h = rw (drop-of-length-le kinds h) at (v .is)
+
+  module _ (h : n < length kinds) where
+    pub numbers-left : n * (K + 1) + (K + 1) ≤ length numbers
+    numbers-left = omega (arith, mul-le-mul-right {m = suc n} {n = length kinds} (K + 1) h, suc-mul n (K + 1), v .can .size)
+
+    pub out-left : here + fieldSize K ≤ length out
+    out-left = omega (arith, mul-le-mul-right {m = suc n} {n = length kinds} (fieldSize K) h, suc-mul n (fieldSize K), v .can .fits, v .long, v .here-is)
+
+    pub putting-next : {out′ : List ℕ}
+        → out′ ≡ sets out here (fieldBytes (3 + getD kinds n 0) (signedsBytes 2 (take (K + 1) (drop (n * (K + 1)) numbers))))
+        → Putting K kinds numbers out₀ at out′ (here + fieldSize K) (n + 1)
+    unfolding constraintsBytes
+    putting-next {out′} w =
+        let f = fieldBytes (3 + getD kinds n 0) (signedsBytes 2 (take (K + 1) (drop (n * (K + 1)) numbers))) in
+        let rest = constraintsBytes edition1 K (drop (suc n) kinds) (drop (suc n * (K + 1)) numbers) in
+        let e : suc K ≡ K + 1 = omega arith in
+        let z : n + 1 ≡ suc n = omega arith in
+        let l : length f ≡ fieldSize K = field-size _ _ ∙ rw (numbers-bytes numbers (n * (K + 1)) (K + 1) numbers-left) in
+        let d : drop (K + 1) (drop (n * (K + 1)) numbers) ≡ drop (suc n * (K + 1)) numbers = drop-drop (K + 1) (n * (K + 1)) numbers ∙ rw (suc-mul n (K + 1)) in
+        let q : sets out here (constraintsBytes edition1 K (drop n kinds) (drop (n * (K + 1)) numbers)) ≡ sets out′ (here + fieldSize K) rest
+        = rw (drop-cons kinds n 0 h, e, d) (sets-append f rest out here ∙ rw (l, w)) in
+        record {
+          can = v .can;
+          here-is = omega (arith, suc-mul n (fieldSize K), v .here-is);
+          upto = omega arith;
+          is = rw z (sym q ∙ v .is);
+          long = ap length w ∙ length-sets out here f ∙ v .long;
+        }
+
+-- ---- how many bytes
+constraints-size : (K : ℕ) (kinds : List ℕ) (numbers : List ℤ) → length numbers ≡ length kinds * (K + 1)
+    → length (constraintsBytes edition1 K kinds numbers) ≡ length kinds * fieldSize K
+unfolding constraintsBytes
+constraints-size K [] numbers h = sym (zero-mul (fieldSize K))
+constraints-size K (kind ∷ kinds) numbers h =
+    let e : suc K ≡ K + 1 = omega arith in
+    let s = suc-mul (length kinds) (K + 1) in
+    let l : length (take (suc K) numbers) ≡ suc K = length-take-le (suc K) numbers (omega arith) in
+    let d : length (drop (suc K) numbers) ≡ length kinds * (K + 1) = length-drop (suc K) numbers ∙ omega arith in
+    length-append (fieldBytes (3 + kind) (signedsBytes 2 (take (suc K) numbers))) (constraintsBytes edition1 K kinds (drop (suc K) numbers))
+    ∙ omega (
+      arith,
+      field-size (3 + kind) (signedsBytes 2 (take (suc K) numbers)),
+      length-signeds-bytes 2 (take (suc K) numbers),
+      l,
+      constraints-size K kinds (drop (suc K) numbers) d,
+      suc-mul (length kinds) (fieldSize K),
+    )
+
+pub bundle-size : (K : ℕ) (kinds : List ℕ) (numbers : List ℤ) → length numbers ≡ length kinds * (K + 1)
+    → length (headerBytes K ++ constraintsBytes edition1 K kinds numbers) ≡ 8 + length kinds * fieldSize K
+unfolding headerBytes fieldBytes unsignedBytes
+bundle-size K kinds numbers h = omega (arith, constraints-size K kinds numbers h)

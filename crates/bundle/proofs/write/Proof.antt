@@ -1,0 +1,82 @@
+-- `bundle::write` meets its contract: each `return` cites the law for its way. Assumes nothing.
+use mathlib.Core.Path.{_≡_, refl, sym, ap, _∙_}
+use native.Mathlib.Omega.{arith}
+use Prim.Native.Nat.{_+_, _*_, _≤_}
+use native.Mathlib.Nat.{mul-le-mul}
+use lib.ListN.{length}
+use Rattle.bundle.proofs.Writing.{bytes-give, granted, not-granted, write-refused, write-short, writable, write-all}
+use borrow.Author.Needs.{needs}
+use Rattle.bundle.proofs.write.Statement.{statement}
+use Rattle.bundle.proofs.write.Tie as tie
+
+write-fault-requires : tie.Need-write-fault-requires
+write-fault-requires c κs = search needs
+
+returns : tie.Need-returns
+returns c =
+    let a = c .before .before .before .before .args in
+    write-refused _ _ _ _ (not-granted (bytes-give (a .k) (a .kinds .now) (a .numbers .now)) (c .before .write-fault .ensures) (c .if1 .taken))
+
+add-needed : tie.Need-add-needed
+add-needed c = search needs
+
+mul-needed : tie.Need-mul-needed
+mul-needed c = search needs
+
+add-needed-2 : tie.Need-add-needed-2
+add-needed-2 c = search needs
+
+mul-needed-2 : tie.Need-mul-needed-2
+mul-needed-2 c =
+    let a = c .before .before .before .before .args in
+    let t = granted (bytes-give (a .k) (a .kinds .now) (a .numbers .now)) (c .before .write-fault .ensures) (c .if1 .left) in
+    let k : 3 + (a .k + 1) * 2 ≤ 37 = omega (arith, t .ready .high) in
+    record { fits = omega (arith, mul-le-mul (t .ready .few) k) }
+
+add-needed-3 : tie.Need-add-needed-3
+add-needed-3 c =
+    let a = c .before .before .before .before .args in
+    let t = granted (bytes-give (a .k) (a .kinds .now) (a .numbers .now)) (c .before .write-fault .ensures) (c .if1 .left) in
+    let k : 3 + (a .k + 1) * 2 ≤ 37 = omega (arith, t .ready .high) in
+    record { fits = omega (arith, mul-le-mul (t .ready .few) k) }
+
+returns-2 : tie.Need-returns-2
+returns-2 c =
+    let a = c .before .before .before .before .before .args in
+    let t = granted (bytes-give (a .k) (a .kinds .now) (a .numbers .now)) (c .before .before .write-fault .ensures) (c .before .if1 .left) in
+    write-short _ _ _ _ t (c .if2 .taken)
+
+put-header-requires : tie.Need-put-header-requires
+put-header-requires c κs = omega arith
+
+put-constraints-requires : tie.Need-put-constraints-requires
+put-constraints-requires c κs =
+    let a = c .before .before .before .before .before .before .before .before .before .before .args in
+    let t = granted (bytes-give (a .k) (a .kinds .now) (a .numbers .now)) (c .before .before .before .before .before .before .before .write-fault .ensures) (c .before .before .before .before .before .before .if1 .left) in
+    writable _ _ _ (a .out .now) t (c .before .before .before .before .before .if2 .left) (c .before .before .before .put-header .kept .0)
+
+same-length : tie.Need-same-length
+same-length c = c .before .before .put-constraints .kept .0 ∙ c .before .before .before .before .before .before .put-header .kept .0
+
+returns-3 : tie.Need-returns-3
+returns-3 c =
+    let a = c .before .before .before .before .before .before .before .before .before .before .before .before .before .args in
+    let t = granted (bytes-give (a .k) (a .kinds .now) (a .numbers .now)) (c .before .before .before .before .before .before .before .before .before .before .write-fault .ensures) (c .before .before .before .before .before .before .before .before .before .if1 .left) in
+    write-all _ _ _ _ t (c .before .before .before .before .before .before .before .before .if2 .left) (c .before .before .before .before .before .before .put-header .ensures) (c .before .before .put-constraints .ensures)
+
+pub write-spec : {M : Type 1} → statement M
+write-spec =
+    tie.close
+    (tie.spec
+    write-fault-requires
+    returns
+    add-needed
+    mul-needed
+    add-needed-2
+    mul-needed-2
+    add-needed-3
+    returns-2
+    put-header-requires
+    put-constraints-requires
+    same-length
+    returns-3)

@@ -1,0 +1,76 @@
+// The constraints of a bundle, written as fields.
+use fields::numbers::put_head;
+use fields::numbers::put_signed;
+ghost use mathlib.Core.Path.{_≡_};
+ghost use Prim.Native.Nat.{_+_, _*_, _≤_};
+ghost use lib.ListN.{length, take, drop};
+ghost use lib.Seq.{sets};
+ghost use Rattle.forms.specs.Edition.{edition1};
+ghost use Rattle.fields.specs.Fields.{fieldBytes};
+ghost use Rattle.fields.specs.Numbers.{signedBytes, signedsBytes};
+ghost use Rattle.bundle.specs.Write.{constraintsBytes};
+ghost use Rattle.bundle.specs.Put.{firstBad, fieldSize, Writable};
+
+// The index of the first kind that is not 0 or 1, or how many there are.
+pub fn first_bad(kinds: &[u8]) -> usize
+    ensures { λ r. ⌜ r ≡ firstBad 0 (now (kinds .entry)) ⌝ }
+{
+    let mut i = 0;
+    while i < kinds.len() {
+        if kinds[i] > 1 {
+            return i;
+        }
+        i += 1;
+    }
+    i
+}
+
+fn put_number(out: &mut [u8], at: usize, x: i16)
+    requires { ⌜ at + 2 ≤ length (now out) ⌝ }
+    ensures { λ _. ⌜ now (out .exit) ≡ sets (now (out .entry)) at (signedBytes 2 x) ⌝ }
+{
+    put_signed(out, at, 2, x as i64);
+}
+
+// n numbers of two bytes each, from index from on.
+fn put_numbers(out: &mut [u8], at: usize, numbers: &[i16], from: usize, n: usize)
+    requires { ⌜ at + n * 2 ≤ length (now out) ⌝ }
+    requires { ⌜ from + n ≤ length (now numbers) ⌝ }
+    ensures { λ _. ⌜ now (out .exit) ≡ sets (now (out .entry)) at (signedsBytes 2 (take n (drop from (now (numbers .entry))))) ⌝ }
+{
+    let mut i = 0;
+    while i < n {
+        let x = numbers[from + i];
+        put_number(out, at + i * 2, x);
+        i += 1;
+    }
+}
+
+// One constraint's field.
+fn put_constraint(out: &mut [u8], at: usize, k: u8, kind: u8, numbers: &[i16], from: usize)
+    requires { ⌜ kind ≤ 1 ⌝ }
+    requires { ⌜ at + fieldSize k ≤ length (now out) ⌝ }
+    requires { ⌜ from + (k + 1) ≤ length (now numbers) ⌝ }
+    ensures { λ _. ⌜ now (out .exit) ≡ sets (now (out .entry)) at (fieldBytes (3 + kind) (signedsBytes 2 (take (k + 1) (drop from (now (numbers .entry)))))) ⌝ }
+{
+    let n = k as usize + 1;
+    put_head(out, at, 3 + kind, n * 2);
+    put_numbers(out, at + 3, numbers, from, n);
+}
+
+// All constraints, from at on.
+pub fn put_constraints(out: &mut [u8], at: usize, k: u8, kinds: &[u8], numbers: &[i16])
+    requires { ⌜ Writable k (now kinds) (now numbers) (now out) at ⌝ }
+    ensures { λ _. ⌜ now (out .exit) ≡ sets (now (out .entry)) at (constraintsBytes edition1 k (now (kinds .entry)) (now (numbers .entry))) ⌝ }
+{
+    let width = k as usize + 1;
+    let size = 3 + width * 2;
+    let mut here = at;
+    let mut n: usize = 0;
+    while n < kinds.len() {
+        let kind = kinds[n];
+        put_constraint(out, here, k, kind, numbers, n * width);
+        here += size;
+        n += 1;
+    }
+}
