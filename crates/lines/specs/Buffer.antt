@@ -1,13 +1,13 @@
 -- The lines of a branch in one flat buffer. With K constants a form has K + 1 numbers, the coefficients first and d last; line i has its t and then its tA. Assumes nothing.
-use mathlib.Core.List.{List, [], _∷_, map}
-use mathlib.Core.Bool.{Bool, true, false, cond}
+use mathlib.Core.List.{List, [], map}
+use mathlib.Core.Bool.{true, false}
 use Prim.Native.Nat.{ℕ, zero, suc, _+_, _*_, _<_, _≤_}
 use lib.Dec.{eqb}
-use lib.ListN.{length, getD, take, drop}
+use lib.ListN.{length, getD, set}
 use lib.Seq.{paste}
-use lib.IntN.{ℤ, pos, _*ℤ_}
+use lib.IntN.{ℤ, pos, _+ℤ_, _*ℤ_}
 use Rattle.integers.specs.Magnitude.{Within}
-use Rattle.forms.specs.Forms.{Form, Kind, ≤0, =0, Line, line, Constraint, sums}
+use Rattle.forms.specs.Forms.{Form, Kind, ≤0, =0, Line, line, sums}
 use Rattle.calculus.specs.Rules.{_▷_}
 use Rattle.lines.specs.Parts.{part}
 
@@ -42,10 +42,52 @@ pub record Branch (K : ℕ) (buf : List ℤ) (n : ℕ) : Type 0 where
   pub room : 128 * size K ≤ length buf
   pub bounded : Bounded K buf n
 
+-- f times each number.
+abbrev pub times : ℤ → List ℤ → List ℤ
+times f l = map (λ (c : ℤ). f *ℤ c) l
+
 -- f times the w numbers at a and g times those at b, summed number by number.
 unfoldable pub mixed : (f : ℤ) (a : ℕ) (g : ℤ) (b w : ℕ) → List ℤ → List ℤ
-mixed f a g b w buf = sums (map (λ (c : ℤ). f *ℤ c) (part a w buf)) (map (λ (c : ℤ). g *ℤ c) (part b w buf))
+mixed f a g b w buf = sums (times f (part a w buf)) (times g (part b w buf))
 
 -- The buffer with f times line i and g times line j, summed, as line n.
 unfoldable pub mixedLine : (K : ℕ) (f : ℤ) (i : ℕ) (g : ℤ) (j n : ℕ) → List ℤ → List ℤ
 mixedLine K f i g j n buf = paste buf (n * size K) (mixed f (i * size K) g (j * size K) (size K) buf) (size K)
+
+-- The buffer with one more at a place.
+unfoldable pub plusOne : (at : ℕ) → List ℤ → List ℤ
+plusOne at buf = set buf at (getD buf at (pos 0) +ℤ pos 1)
+
+-- The buffer with line i again as line n: as it stands, with t + 1, and with t + 1 and tA + 1.
+unfoldable pub copiedLine : (K i n : ℕ) → List ℤ → List ℤ
+copiedLine K i n buf = mixedLine K (pos 1) i (pos 0) i n buf
+
+unfoldable pub strengthenedT : (K i n : ℕ) → List ℤ → List ℤ
+strengthenedT K i n buf = plusOne (n * size K + K) (copiedLine K i n buf)
+
+unfoldable pub strengthenedBoth : (K i n : ℕ) → List ℤ → List ℤ
+strengthenedBoth K i n buf = plusOne (n * size K + (K + 1) + K) (strengthenedT K i n buf)
+
+-- What a sum of multiples asks: the w numbers at a and at b lie before the w numbers at d, the numbers before d are within the range, and the factors are small.
+pub record Terms (buf : List ℤ) (f : ℤ) (a : ℕ) (g : ℤ) (b d w : ℕ) : Type 0 where
+  pub first : a + w ≤ d
+  pub second : b + w ≤ d
+  pub third : d + w ≤ length buf
+  pub small : (x : ℕ) → x < d → Within 2147483647 (getD buf x (pos 0))
+  pub f-in : Within 65535 f
+  pub g-in : Within 65535 g
+
+-- Lines i and j of a branch of n lines that has room for one more, and small factors.
+pub record LineTerms (K : ℕ) (buf : List ℤ) (f : ℤ) (i : ℕ) (g : ℤ) (j n : ℕ) : Type 0 where
+  pub branch : Branch K buf n
+  pub first : i < n
+  pub second : j < n
+  pub space : n < 128
+  pub f-in : Within 65535 f
+  pub g-in : Within 65535 g
+
+-- Line i of a branch of n lines that has room for one more.
+pub record LineCopy (K : ℕ) (buf : List ℤ) (i n : ℕ) : Type 0 where
+  pub branch : Branch K buf n
+  pub first : i < n
+  pub space : n < 128

@@ -2,3 +2,11 @@
 pub mod Parts
 pub mod Buffer
 pub mod Lines
+pub mod Mix
+pub mod Range
+pub mod Plus
+pub mod Occurrence
+pub mod Restrict
+pub mod Branch
+pub mod Strengthen
+pub mod Next

@@ -1,5 +1,4 @@
 -- `integers::divides` meets its contract. Assumes nothing.
-use native.Mathlib.Omega.{arith}
 use lib.IntN.{pos}
 use lib.Signed.{_≤ℤ_}
 use mir.Syntax.{w64}

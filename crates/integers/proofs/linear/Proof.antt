@@ -3,7 +3,7 @@ use borrow.Author.Needs.{needs}
 use lib.IntN.{ℤ, _+ℤ_, _*ℤ_}
 use mir.Syntax.{w64}
 use mir.Val.{SFits}
-use Rattle.integers.specs.Magnitude.{Within, within-add, within-mul, within-fits}
+use Rattle.integers.specs.Magnitude.{within-add, within-mul, within-fits}
 use Rattle.integers.proofs.linear.Statement.{statement}
 use Rattle.integers.proofs.linear.Tie as tie
 

@@ -1,0 +1,99 @@
+-- The lines that the three branches of a strengthen start with: the laws of `copiedLine`, `strengthenedT` and `strengthenedBoth`. Assumes nothing.
+use mathlib.Core.Path.{_≡_, refl, _∙_, ap}
+use mathlib.Core.List.{List, []}
+use mathlib.Core.Bool.{Bool, _&&_}
+use Prim.Native.Nat.{ℕ, _+_, _*_, _<_}
+use native.Mathlib.Omega.{arith}
+use lib.Dec.{T}
+use lib.IntN.{ℤ, pos, _+ℤ_}
+use lib.ListN.{length, getD}
+use Rattle.integers.specs.Magnitude.{Within}
+use Rattle.forms.specs.Forms.{Form, Kind, Line, line, _plus_}
+use Rattle.calculus.specs.Rules.{small, every, inRange}
+use Rattle.lines.specs.Parts.{Agree, agree-trans}
+use Rattle.lines.specs.Buffer.{size, kindOf, lineIn, LineTerms, LineCopy, copiedLine, strengthenedT, strengthenedBoth}
+use Rattle.lines.specs.Lines.{before, line-ext}
+use Rattle.lines.specs.Mix.{mixed-keeps, mixed-line, length-mixedLine, mix-copy}
+use Rattle.lines.specs.Range.{and-left, and-right, and-both}
+use Rattle.lines.specs.Plus.{length-plusOne, plus-keeps, plus-t, plus-tA}
+
+-- A copy is a sum of multiples, by 1 and by 0.
+pub copy-terms : {K : ℕ} {buf : List ℤ} {i n : ℕ} → LineCopy K buf i n → LineTerms K buf (pos 1) i (pos 0) i n
+copy-terms p = record {
+  branch = p .branch;
+  first = p .first;
+  second = p .first;
+  space = p .space;
+  f-in = record { abs = omega arith };
+  g-in = record { abs = omega arith };
+}
+
+module _ {K : ℕ} {buf : List ℤ} {i n : ℕ} (p : LineCopy K buf i n) where
+  -- ---- what stays
+  pub length-copied : length (copiedLine K i n buf) ≡ length buf
+  unfolding copiedLine
+  length-copied = length-mixedLine K (pos 1) i (pos 0) i n buf (p .branch .room) (p .first) (p .first) (p .space)
+
+  pub length-t : length (strengthenedT K i n buf) ≡ length buf
+  unfolding strengthenedT
+  length-t = length-plusOne (copiedLine K i n buf) (n * size K + K) ∙ length-copied
+
+  pub length-both : length (strengthenedBoth K i n buf) ≡ length buf
+  unfolding strengthenedBoth
+  length-both = length-plusOne (strengthenedT K i n buf) (n * size K + (K + 1) + K) ∙ length-t
+
+  pub copied-keeps : Agree (n * size K) buf (copiedLine K i n buf)
+  unfolding copiedLine
+  copied-keeps = mixed-keeps K (pos 1) i (pos 0) i n buf (p .branch .room) (p .first) (p .first) (p .space)
+
+  pub t-keeps : Agree (n * size K) buf (strengthenedT K i n buf)
+  unfolding strengthenedT
+  t-keeps = agree-trans copied-keeps (plus-keeps (copiedLine K i n buf) (n * size K + K) (n * size K) (omega arith))
+
+  pub both-keeps : Agree (n * size K) buf (strengthenedBoth K i n buf)
+  unfolding strengthenedBoth
+  both-keeps = agree-trans t-keeps (plus-keeps (strengthenedT K i n buf) (n * size K + (K + 1) + K) (n * size K) (omega arith))
+
+  -- ---- the new line
+  module _ (kinds kinds′ : List ℕ) {s : Line} (es : lineIn K kinds buf i ≡ s) where
+    pub copied-line : lineIn K kinds′ (copiedLine K i n buf) n ≡ line (kindOf (getD kinds′ n 0)) (s .t) (s .tA)
+    unfolding copiedLine
+    copied-line =
+        mixed-line K (pos 1) i (pos 0) i n buf (p .branch .room) (p .first) (p .first) (p .space) kinds kinds′ s s es es
+        ∙ line-ext refl (mix-copy (s .t)) (mix-copy (s .tA))
+
+    pub t-line : lineIn K kinds′ (strengthenedT K i n buf) n ≡ line (kindOf (getD kinds′ n 0)) (s .t plus 1) (s .tA)
+    unfolding strengthenedT
+    t-line = plus-t K kinds′ (copiedLine K i n buf) n (omega (arith, before K (p .space), p .branch .room, length-copied)) _ copied-line
+
+    pub both-line : lineIn K kinds′ (strengthenedBoth K i n buf) n ≡ line (kindOf (getD kinds′ n 0)) (s .t plus 1) (s .tA plus 1)
+    unfolding strengthenedBoth
+    both-line = plus-tA K kinds′ (strengthenedT K i n buf) n (omega (arith, before K (p .space), p .branch .room, length-t)) _ t-line
+
+  -- ---- the constant terms before they are raised are those of line i, so they can be
+  term : (at : ℕ) (buf′ : List ℤ) (x y : ℕ) → at + K ≡ x → x < n * size K + size K → length buf′ ≡ length buf → getD buf′ x (pos 0) ≡ getD buf y (pos 0) → y < n * size K
+      → (at + K < length buf′) × Within 2147483647 (getD buf′ (at + K) (pos 0))
+  term at buf′ x y e h l d g = (omega (arith, before K (p .space), p .branch .room), rw (e, d) (p .branch .bounded .small y g))
+
+  pub t-term : (at : ℕ) (buf′ : List ℤ) → at ≡ n * size K → buf′ ≡ copiedLine K i n buf → (at + K < length buf′) × Within 2147483647 (getD buf′ (at + K) (pos 0))
+  unfolding lineIn
+  t-term at buf′ e b =
+      term at buf′ (n * size K + K) (i * size K + K) (omega arith) (omega arith) (ap length b ∙ length-copied)
+      (ap (λ (l : List ℤ). getD l (n * size K + K) (pos 0)) b ∙ ap (λ (l : Line). l .t .d) (copied-line [] [] refl))
+      (omega (arith, before K (p .first)))
+
+  pub tA-term : (at : ℕ) (buf′ : List ℤ) → at ≡ n * size K + (K + 1) → buf′ ≡ strengthenedT K i n buf → (at + K < length buf′) × Within 2147483647 (getD buf′ (at + K) (pos 0))
+  unfolding lineIn
+  tA-term at buf′ e b =
+      term at buf′ (n * size K + (K + 1) + K) (i * size K + (K + 1) + K) (omega arith) (omega arith) (ap length b ∙ length-t)
+      (ap (λ (l : List ℤ). getD l (n * size K + (K + 1) + K) (pos 0)) b ∙ ap (λ (l : Line). l .tA .d) (t-line [] [] refl))
+      (omega (arith, before K (p .first)))
+
+-- ---- ranges: the line of the third branch is in range where line i and the first branch's line are
+pub third-range : (r : ℕ) (k k′ k″ : Kind) (t tA : Form) → T (inRange r (line k t tA)) → T (inRange r (line k′ (t plus 1) (tA plus 1))) → T (inRange r (line k″ (t plus 1) tA))
+unfolding inRange _plus_
+third-range r k k′ k″ t tA h l =
+    let all : List ℤ → Bool = every (small r) in
+    let old = all (t .coeffs) && small r (t .d) && all (tA .coeffs) in
+    let up = all (t .coeffs) && small r (t .d +ℤ pos 1) && all (tA .coeffs) in
+    and-both up (small r (tA .d)) (and-left up (small r (tA .d +ℤ pos 1)) l) (and-right old (small r (tA .d)) h)
