@@ -4,3 +4,4 @@ pub mod Storing
 pub mod Reading
 pub mod Putting
 pub mod Writing
+pub mod Showing

@@ -1,12 +1,10 @@
 -- Writing constraints: one turn of each loop, as laws over plain values, and how many bytes there are. Assumes nothing.
 use mathlib.Core.Path.{_≡_, refl, sym, ap, _∙_}
-use mathlib.Core.Bool.{Bool, true, false}
 use mathlib.Core.List.{List, [], _∷_, _++_}
-use Prim.Native.Nat.{ℕ, zero, suc, _+_, _*_, _-_, _≤_, _<_}
+use Prim.Native.Nat.{ℕ, suc, _+_, _*_, _-_, _≤_, _<_}
 use native.Mathlib.Nat.{suc-mul, zero-mul, mul-le-mul-right}
 use native.Mathlib.Numerals.{add-one}
 use native.Mathlib.Omega.{arith}
-use lib.Dec.{leb}
 use lib.IntN.{ℤ, pos}
 use lib.ListN.{length, getD, take, drop, length-append, length-drop, drop-of-length-le}
 use lib.Seq.{sets, length-sets, drop-cons, drop-drop, length-take-le}
@@ -14,7 +12,7 @@ use borrow.Author.Tests.{le-leb, lt-leb}
 use Rattle.forms.specs.Edition.{edition1}
 use Rattle.fields.specs.Fields.{fieldBytes}
 use Rattle.fields.specs.Header.{headerBytes}
-use Rattle.fields.specs.Numbers.{residue, unsignedBytes, signedBytes, signedsBytes}
+use Rattle.fields.specs.Numbers.{unsignedBytes, signedBytes, signedsBytes}
 use Rattle.fields.proofs.Digits.{length-bytes}
 use Rattle.fields.proofs.Stores.{sets-append}
 use Rattle.bundle.specs.Write.{constraintsBytes}
@@ -63,10 +61,10 @@ numbers-bytes numbers from n h =
     length-signeds-bytes 2 (take n (drop from numbers)) ∙ rw l
 
 -- ---- a field
-pub put-field : (out : List ℕ) (at tag : ℕ) (contents : List ℕ) (n : ℕ) → length contents ≡ n
-    → sets (sets out at (tag ∷ unsignedBytes 2 n)) (at + 3) contents ≡ sets out at (fieldBytes tag contents)
+pub put-field : (out : List ℕ) {out₁ out₂ : List ℕ} (at tag n : ℕ) (contents : List ℕ) → out₁ ≡ sets out at (tag ∷ unsignedBytes 2 n) → out₂ ≡ sets out₁ (at + 3) contents
+    → length contents ≡ n → out₂ ≡ sets out at (fieldBytes tag contents)
 unfolding fieldBytes unsignedBytes
-put-field out at tag contents n e = rw e (sym (sets-append (tag ∷ unsignedBytes 2 n) contents out at))
+put-field out at tag n contents e₁ e₂ l = e₂ ∙ rw (e₁, l) (sym (sets-append (tag ∷ unsignedBytes 2 n) contents out at))
 
 pub field-size : (tag : ℕ) (contents : List ℕ) → length (fieldBytes tag contents) ≡ 3 + length contents
 unfolding fieldBytes unsignedBytes

@@ -1,34 +1,32 @@
 -- Reading a bundle: what an accepted one is like, and each way through `read` as a law over plain values. Assumes nothing.
 use mathlib.Core.Path.{_≡_, refl, sym, ap, _∙_}
-use mathlib.Core.Option.{Option, none, some}
-use mathlib.Core.Bool.{Bool, true, false, _&&_}
-use mathlib.Core.List.{List, [], _∷_, _++_, map}
+use mathlib.Core.Option.{Option, none}
+use mathlib.Core.List.{List}
 use Prim.Native.Nat.{ℕ, zero, suc, _+_, _*_, _≤_, _<_}
 use native.Mathlib.Omega.{arith}
-use lib.Dec.{leb}
 use lib.IntN.{ℤ}
 use lib.ListN.{length, length-map}
 use lib.Seq.{sets}
 use borrow.Author.Tests.{le-leb, lt-leb, ltb-true}
 use Rattle.forms.specs.Edition.{edition1}
-use Rattle.forms.specs.Forms.{Kind, Constraint}
+use Rattle.forms.specs.Forms.{Constraint}
 use Rattle.fields.specs.declared.Answer.{Answer}
 use Rattle.fields.specs.declared.FileKind.{FileKind}
 use Rattle.fields.specs.declared.header.Headed.{Headed}
-use Rattle.fields.specs.Answers.{answer, acceptance, fileA, fileLent, Result, refused, accepted, _>>=_, _>>_, need, over}
-use Rattle.fields.specs.Fields.{Field, Fields, ends, cut, _▸_, fields}
-use Rattle.fields.specs.Places.{fieldsAt, givenK, IsHeader}
+use Rattle.fields.specs.Answers.{answer, acceptance, fileA, Result, refused, accepted, _>>_, need, over}
+use Rattle.fields.specs.Fields.{Fields, ends, cut, _▸_, fields}
+use Rattle.fields.specs.Places.{fieldsAt, IsHeader}
 use Rattle.fields.proofs.Refusals as refusals
-use Rattle.fields.proofs.Refusals.{Numbered, Gives, no, yes, bind, numbered, header-gives}
+use Rattle.fields.proofs.Refusals.{Numbered, Gives, no, yes, bind, header-gives}
 use Rattle.fields.proofs.Stores.{sets-over}
 use Rattle.bundle.specs.Bundle.{Bundle, atMost, constraints, bundle}
 use Rattle.bundle.specs.Scan.{faultOf, passed, counted, stated, countedOf, scanned}
-use Rattle.bundle.specs.Read.{BundleRead, kindsOf, numbersOf, unread, store, stored, readBundle}
+use Rattle.bundle.specs.Read.{kindsOf, numbersOf, unread, store, stored, readBundle}
 use Rattle.bundle.specs.Store.{Storable, Fitting, kindsIn, numbersIn, readOf}
 use Rattle.bundle.specs.declared.constraints.Counted.{Counted}
 use Rattle.bundle.specs.declared.Scanned.{Scanned}
 use Rattle.bundle.specs.declared.ReadResult.{ReadResult}
-use Rattle.bundle.proofs.Scanning.{count-is, right-of, passed-both, constraints-counted, scan-header, scan-fault, scan-bundle}
+use Rattle.bundle.proofs.Scanning.{count-is, proper-of, passed-both, constraints-counted, scan-fault, scan-bundle}
 use Rattle.bundle.proofs.Storing.{numbers-size}
 
 -- ---- an accepted bundle
@@ -44,7 +42,7 @@ most K n m (ends at) h e = let q : n ≡ m = cc in omega arith
 most K n m (cut at) h e = absurd (let z : _≡_ {A = ℕ} 0 1 = cc in omega arith)
 most K n m (f ▸ fs) h e =
     let p = passed-both (faultOf K n (f .tag) (length (f .contents))) (f .at) m (counted K (suc n) fs) e in
-    most K (suc n) m fs (omega (arith, ltb-true n 32 (right-of K n (f .tag) (length (f .contents)) (p .0) .room))) (p .1)
+    most K (suc n) m fs (omega (arith, ltb-true n 32 (proper-of K n (f .tag) (length (f .contents)) (p .0) .room))) (p .1)
 
 fault-numbered : (file K n number place : ℕ) (fs : Fields) → counted K n fs ≡ Counted.Refused number place → Numbered (answer number file place)
 unfolding counted

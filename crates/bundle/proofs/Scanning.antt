@@ -1,13 +1,13 @@
 -- Going over a bundle: the code's count and faults are those of the definitions. Assumes nothing.
 use mathlib.Core.Path.{_≡_, refl, sym, ap, _∙_}
 use mathlib.Core.Option.{Option, none, some}
-use mathlib.Core.Bool.{Bool, true, false, _&&_, _||_}
-use mathlib.Core.List.{List, [], _∷_}
+use mathlib.Core.Bool.{Bool, true, false}
+use mathlib.Core.List.{List, _∷_}
 use Prim.Native.Nat.{ℕ, zero, suc, _+_, _<_, _≤_}
 use native.Mathlib.Omega.{arith}
 use lib.Dec.{leb, ltb, eqb}
 use lib.ListN.{length}
-use borrow.Author.Tests.{ltb-true, ltb-false, eqb-true, eqb-false, leb-true, leb-false, eq-eqb, ne-eqb, le-leb, lt-leb}
+use borrow.Author.Tests.{ltb-true, ltb-false, eqb-false, leb-true, leb-false, ne-eqb, le-leb}
 use Rattle.forms.specs.Edition.{edition1}
 use Rattle.forms.specs.Forms.{Kind, ≤0, =0, Form, Constraint}
 use Rattle.fields.specs.declared.FileKind.{FileKind}
@@ -15,8 +15,8 @@ use Rattle.fields.specs.declared.header.Headed.{Headed}
 use Rattle.fields.specs.Answers.{answer, acceptance, Result, refused, accepted, _>>=_, _>>_, need, found}
 use Rattle.fields.specs.Numbers.{formFrom, formWidth}
 use Rattle.fields.specs.Fields.{Field, Fields, ends, cut, _▸_, fields}
-use Rattle.fields.specs.Header.{Header, headerTag, known, header}
-use Rattle.fields.specs.Places.{fieldsAt, givenK, headedOf, IsHeader}
+use Rattle.fields.specs.Header.{Header, headerTag, known}
+use Rattle.fields.specs.Places.{fieldsAt, givenK, IsHeader}
 use Rattle.fields.proofs.Places.{Starts, starts-size}
 use Rattle.bundle.specs.Bundle.{Bundle, kindTagged, constraints, bundle}
 use Rattle.bundle.specs.Scan.{pick, faultOf, passed, counted, stated, countedOf, scanned}
@@ -50,18 +50,18 @@ unfolding counted
 counted-ends K n e = rw e
 
 -- ---- a field without fault
-pub record Right (K n tag len : ℕ) : Type 0 where
+pub record Proper (K n tag len : ℕ) : Type 0 where
   pub has : known FileKind.Bundle tag ≡ true
   pub from : ltb tag 0x03 ≡ false
   pub size : eqb len (formWidth 2 K) ≡ true
   pub room : ltb n 32 ≡ true
 
 -- the fault by its tests, each with its equation
-pub right-of : (K n tag len : ℕ) → faultOf K n tag len ≡ 0 → Right K n tag len
-right-of K n tag len e = go (known FileKind.Bundle tag) (ltb tag 0x03) (eqb len (formWidth 2 K)) (ltb n 32) refl refl refl refl e
+pub proper-of : (K n tag len : ℕ) → faultOf K n tag len ≡ 0 → Proper K n tag len
+proper-of K n tag len e = go (known FileKind.Bundle tag) (ltb tag 0x03) (eqb len (formWidth 2 K)) (ltb n 32) refl refl refl refl e
   where
     go : (p q r u : Bool) → known FileKind.Bundle tag ≡ p → ltb tag 0x03 ≡ q → eqb len (formWidth 2 K) ≡ r → ltb n 32 ≡ u
-        → _≡_ {A = ℕ} (pick p (pick q 4 (pick r (pick u 0 8) 6)) 3) 0 → Right K n tag len
+        → _≡_ {A = ℕ} (pick p (pick q 4 (pick r (pick u 0 8) 6)) 3) 0 → Proper K n tag len
     go true false true true a b c d e = record { has = a; from = b; size = c; room = d }
     go true false true false a b c d e = absurd (omega arith)
     go true false false u a b c d e = absurd (omega arith)
@@ -69,7 +69,7 @@ right-of K n tag len e = go (known FileKind.Bundle tag) (ltb tag 0x03) (eqb len 
     go false q r u a b c d e = absurd (omega arith)
 
 pub counted-room : (K n tag len : ℕ) {number : ℕ} → number ≡ faultOf K n tag len → number ≡ 0 → n < 32
-counted-room K n tag len f e = ltb-true n 32 (right-of K n tag len (sym f ∙ e) .room)
+counted-room K n tag len f e = ltb-true n 32 (proper-of K n tag len (sym f ∙ e) .room)
 
 -- ---- the definitions
 -- a constraint's tag is 0x03 or 0x04

@@ -1,29 +1,28 @@
 -- Storing constraints: one turn of each loop, as laws over plain values. Assumes nothing.
 use mathlib.Core.Path.{_≡_, refl, sym, ap, _∙_}
-use mathlib.Core.Bool.{Bool, true, false, _&&_, _||_}
-use mathlib.Core.List.{List, [], _∷_, _++_, map}
+use mathlib.Core.Bool.{Bool, true, false}
+use mathlib.Core.List.{List, _∷_, _++_}
 use Prim.Native.Nat.{ℕ, zero, suc, _+_, _*_, _-_, _≤_, _<_}
 use native.Mathlib.Nat.{suc-mul, zero-mul, mul-le-mul-right}
-use native.Mathlib.Numerals.{add-one}
 use native.Mathlib.Omega.{arith}
-use lib.Dec.{leb, ltb, eqb}
+use lib.Dec.{ltb, eqb}
 use lib.IntN.{ℤ}
-use lib.ListN.{length, take, drop, set, length-append, length-drop, length-set, length-map}
+use lib.ListN.{length, take, drop, set, length-append, length-drop, length-set}
 use lib.Seq.{sets, length-sets, take-add, take-take, drop-drop, drop-at, length-take-le}
 use borrow.Author.Tests.{ltb-true, ltb-false, eqb-true, eqb-false}
-use Rattle.forms.specs.Forms.{Kind, ≤0, =0, Form, Constraint}
+use Rattle.forms.specs.Forms.{≤0, =0}
 use Rattle.fields.specs.declared.FileKind.{FileKind}
-use Rattle.fields.specs.Fields.{Field, Fields, ends, cut, _▸_}
+use Rattle.fields.specs.Fields.{Fields, ends, cut, _▸_}
 use Rattle.fields.specs.Header.{known}
-use Rattle.fields.specs.Numbers.{signed, signeds, flat, formFrom, formWidth}
+use Rattle.fields.specs.Numbers.{signed, signeds, flat, formFrom}
 use Rattle.fields.specs.Places.{fieldsAt}
-use Rattle.fields.proofs.Places.{Starts, starts-size}
+use Rattle.fields.proofs.Places.{Starts}
 use Rattle.fields.proofs.Stores.{sets-append}
-use Rattle.bundle.specs.Scan.{pick, faultOf, passed, counted, stated}
+use Rattle.bundle.specs.Scan.{pick, faultOf, counted, stated}
 use Rattle.bundle.specs.Read.{kindNumber, kindsOf, numbersOf}
 use Rattle.bundle.specs.Store.{Storable}
 use Rattle.bundle.specs.declared.constraints.Counted.{Counted}
-use Rattle.bundle.proofs.Scanning.{Right, counted-on, count-is, right-of, tag-most, passed-both}
+use Rattle.bundle.proofs.Scanning.{Proper, counted-on, count-is, proper-of, tag-most, passed-both}
 
 -- ---- numbers of some bytes each, over the width
 pub length-signeds : (w n : ℕ) (bs : List ℕ) → length (signeds w n bs) ≡ n
@@ -96,7 +95,7 @@ storing-start {K} a = record { able = a; kinds-is = refl; numbers-is = rw (zero-
 
 -- what a turn needs: the field is a constraint, and its kind and numbers have room
 pub record Room (s : List ℕ) (K n tag start len next : ℕ) (kinds : List ℕ) (numbers : List ℤ) : Type 0 where
-  pub right : Right K n tag len
+  pub proper : Proper K n tag len
   pub from : 3 ≤ tag
   pub few : n < 32
   pub size : len ≡ suc K * 2
@@ -109,13 +108,13 @@ module _ {s : List ℕ} {here a tag start len next : ℕ} (k : Starts s here a t
   pub room : {K n : ℕ} {kinds : List ℕ} {numbers : List ℤ} → Storable K n (fieldsAt s here) kinds numbers → Room s K n tag start len next kinds numbers
   room {K} {n} {kinds} {numbers} v =
       let p = passed-both (faultOf K n tag len) a (v .count) (counted K (suc n) (fieldsAt s next)) (sym (counted-on k K n) ∙ v .is) in
-      let r = right-of K n tag len (p .0) in
+      let r = proper-of K n tag len (p .0) in
       let m = count-is K (suc n) (v .count) (fieldsAt s next) (p .1) in
       let l = eqb-true len (suc K * 2) (r .size) in
       let g : suc n * suc K ≤ v .count * suc K = mul-le-mul-right (suc K) (omega arith) in
       let e : suc K ≡ K + 1 = omega arith in
       record {
-        right = r;
+        proper = r;
         from = ltb-false tag 3 (r .from);
         few = ltb-true n 32 (r .room);
         size = l;
@@ -143,7 +142,7 @@ module _ {s : List ℕ} {here a tag start len next : ℕ} (k : Starts s here a t
       = flat-signeds 2 K (take len (drop start s)) ∙ rw (r .size) (signeds-take 2 (suc K) (drop start s) long) in
       let after = numbersOf (stated K (fieldsAt s next)) in
       let kq : sets kinds n (kindsOf (stated K (fieldsAt s here))) ≡ sets (set kinds n (tag - 3)) (suc n) (kindsOf (stated K (fieldsAt s next)))
-      = rw (k .is, kind-number tag (r .right .has) (r .right .from)) in
+      = rw (k .is, kind-number tag (r .proper .has) (r .proper .from)) in
       let nq : sets numbers (n * suc K) (numbersOf (stated K (fieldsAt s here))) ≡ sets numbers′ (suc n * suc K) (numbersOf (stated K (fieldsAt s next)))
       = ap (λ (fs : Fields). sets numbers (n * suc K) (numbersOf (stated K fs))) (k .is)
       ∙ ap (λ (zs : List ℤ). sets numbers (n * suc K) (zs ++ after)) form

@@ -3,16 +3,15 @@ use mathlib.Core.Path.{_≡_, refl, sym, ap, _∙_}
 use mathlib.Core.Bool.{Bool, true, false, _&&_}
 use mathlib.Core.List.{List, [], _∷_, _++_}
 use Prim.Native.Nat.{ℕ, zero, suc, _+_, _*_, _≤_, _<_}
-use native.Mathlib.Nat.{add-zero}
 use native.Mathlib.Omega.{arith}
-use lib.Dec.{leb, ltb, eqb}
+use lib.Dec.{leb}
 use lib.IntN.{ℤ}
 use lib.ListN.{length, getD}
-use lib.Seq.{sets, length-sets}
-use borrow.Author.Tests.{le-leb, lt-leb, lt-ltb, le-ltb, eq-eqb, ne-eqb, leb-true, eqb-true}
+use lib.Seq.{sets}
+use borrow.Author.Tests.{le-leb, lt-leb, eq-eqb, ne-eqb, leb-true, eqb-true}
 use Rattle.forms.specs.Edition.{edition1}
 use Rattle.fields.specs.declared.Answer.{Answer}
-use Rattle.fields.specs.Answers.{answer, acceptance, fileLent, Result, refused, accepted, _>>=_, _>>_, need, each, Written, over, fit, written}
+use Rattle.fields.specs.Answers.{answer, acceptance, fileLent, Result, refused, accepted, _>>_, need, each, over, fit, written}
 use Rattle.fields.specs.Header.{headerBytes}
 use Rattle.fields.specs.Fields.{fieldBytes}
 use Rattle.fields.specs.Numbers.{unsignedBytes}
@@ -22,7 +21,6 @@ use Rattle.bundle.specs.Scan.{pick}
 use Rattle.bundle.specs.Show.{answerOf}
 use Rattle.bundle.specs.Write.{constraintsBytes, bundleBytes, writeBundle}
 use Rattle.bundle.specs.Put.{firstBad, fieldSize, Writable, writtenOf}
-use Rattle.bundle.specs.declared.WriteResult.{WriteResult}
 use Rattle.bundle.proofs.Putting.{bundle-size}
 
 -- ---- the kinds, tested one by one

@@ -7,3 +7,4 @@ pub mod Store
 pub mod Write
 pub mod Put
 pub mod Show
+pub mod Locate

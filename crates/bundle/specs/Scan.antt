@@ -2,14 +2,13 @@
 use mathlib.Core.Bool.{Bool, true, false}
 use mathlib.Core.List.{List, [], _∷_}
 use Prim.Native.Nat.{ℕ, zero, suc}
-use lib.Dec.{leb, ltb, eqb}
+use lib.Dec.{ltb, eqb}
 use lib.ListN.{length}
-use Rattle.forms.specs.Edition.{edition1}
-use Rattle.forms.specs.Forms.{Kind, ≤0, =0, Constraint}
+use Rattle.forms.specs.Forms.{≤0, =0, Constraint}
 use Rattle.fields.specs.declared.FileKind.{FileKind}
 use Rattle.fields.specs.Answers.{answer, acceptance, Result, refused, accepted}
 use Rattle.fields.specs.Numbers.{formFrom, formWidth}
-use Rattle.fields.specs.Fields.{Field, Fields, ends, cut, _▸_}
+use Rattle.fields.specs.Fields.{Fields, ends, cut, _▸_}
 use Rattle.fields.specs.Header.{known}
 use Rattle.bundle.specs.Bundle.{Bundle}
 use Rattle.bundle.specs.declared.constraints.Counted.{Counted}

@@ -1,7 +1,8 @@
 // Constraint bundles: reading, writing and showing a constraint.
-pub mod constraints;
-pub mod put;
-pub mod store;
+mod constraints;
+mod locate;
+mod put;
+mod store;
 
 use constraints::Counted;
 use constraints::count_constraints;
@@ -11,6 +12,8 @@ use fields::header::Headed;
 use fields::header::between;
 use fields::header::put_header;
 use fields::header::read_header;
+use locate::Located;
+use locate::locate;
 use put::first_bad;
 use put::put_constraints;
 use store::store;
@@ -24,7 +27,8 @@ ghost use Rattle.bundle.specs.Read.{readBundle};
 ghost use Rattle.bundle.specs.Store.{readOf};
 ghost use Rattle.bundle.specs.Write.{bundleBytes, writeBundle};
 ghost use Rattle.bundle.specs.Put.{writtenOf};
-ghost use Rattle.bundle.specs.Show.{answerOf};
+ghost use Rattle.bundle.specs.Show.{answerOf, showPart, showAnswer};
+ghost use Rattle.bundle.specs.Locate.{partBytes, partPlace};
 ghost use Rattle.forms.specs.Edition.{edition1};
 
 // What going over a bundle tells: K and how many constraints there are, or the refusal, with 0 for both.
@@ -191,5 +195,43 @@ pub fn write(k: u8, kinds: &[u8], numbers: &[i16], out: &mut [u8]) -> WriteResul
     WriteResult {
         answer,
         count: needed,
+    }
+}
+
+// A line's number: A's constraints in file order, then B's.
+pub struct Line(pub u16);
+
+// The field of the constraint that a line number names, out of A's or B's buffer; the empty part at A's start where it is refused.
+pub fn show<'a>(a: &'a [u8], b: &'a [u8], line: Line) -> &'a [u8]
+    ensures bytes { λ r. ⌜ now r ≡ partBytes (showPart (now (a .entry)) (now (b .entry)) (line .0)) (now (a .entry)) (now (b .entry)) ⌝ }
+    ensures place { λ r. ⌜ r .ptr ≡ partPlace (showPart (now (a .entry)) (now (b .entry)) (line .0)) (a .entry) (b .entry) ⌝ }
+{
+    match locate(a, b, line) {
+        Located::Part { file, start, size } => {
+            let end = start + size;
+            if file == 1 {
+                return &a[start..end];
+            }
+            &b[start..end]
+        }
+        Located::Refused { answer: _ } => &a[0..0],
+    }
+}
+
+// The answer to the same call.
+pub fn show_answer(a: &[u8], b: &[u8], line: Line) -> Answer
+    ensures { λ r. ⌜ r ≡ showAnswer (now (a .entry)) (now (b .entry)) (line .0) ⌝ }
+{
+    match locate(a, b, line) {
+        Located::Part {
+            file: _,
+            start: _,
+            size: _,
+        } => Answer {
+            number: 0,
+            file: 0,
+            place: 0,
+        },
+        Located::Refused { answer } => answer,
     }
 }

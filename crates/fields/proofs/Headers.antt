@@ -1,20 +1,20 @@
 -- The tags of each kind of file and the header, by the tests of the code: each way through a function is a law over plain values. Assumes nothing.
-use mathlib.Core.Path.{_≡_, refl, sym, ap, _∙_}
+use mathlib.Core.Path.{_≡_, refl, _∙_}
 use mathlib.Core.Option.{Option, none, some}
-use mathlib.Core.Bool.{Bool, true, false, _&&_, _||_}
+use mathlib.Core.Bool.{Bool, true, false, _&&_}
 use mathlib.Core.List.{List}
-use Prim.Native.Nat.{ℕ, zero, suc, _+_, _<_}
+use Prim.Native.Nat.{ℕ, zero, suc}
 use native.Mathlib.Nat.{add-zero}
 use native.Mathlib.Omega.{arith}
 use lib.Dec.{leb, eqb}
-use lib.ListN.{length, getD, take, drop}
+use lib.ListN.{getD, take, drop}
 use lib.Seq.{getD-take, getD-drop}
 use borrow.Author.Tests.{eq-eqb, ne-eqb}
 use Rattle.forms.specs.Edition.{Edition, editionNumbered, edition1}
-use Rattle.fields.specs.Answers.{answer, Result, refused, accepted, _>>=_, _>>_, need, found}
-use Rattle.fields.specs.Fields.{Field, Fields, ends, cut, _▸_, fields}
+use Rattle.fields.specs.Answers.{_>>=_, _>>_, need, found}
+use Rattle.fields.specs.Fields.{ends, cut}
 use Rattle.fields.specs.Header.{headerTag, known, agrees, headerField, header}
-use Rattle.fields.specs.Places.{fieldsAt, givenK, headerFieldOf, headedOf, headerK, IsHeaderField, IsHeaderK, IsHeader}
+use Rattle.fields.specs.Places.{fieldsAt, givenK, headerK, IsHeaderField, IsHeaderK, IsHeader}
 use Rattle.fields.specs.declared.FileKind.{FileKind}
 use Rattle.fields.specs.declared.header.HeaderField.{HeaderField}
 use Rattle.fields.specs.declared.header.Headed.{Headed}

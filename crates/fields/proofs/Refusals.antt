@@ -1,5 +1,5 @@
 -- What a result tells of its refusal and of its value, by the parts of a `do` block; and of the header. Assumes nothing.
-use mathlib.Core.Path.{_≡_, refl, sym, ap, _∙_}
+use mathlib.Core.Path.{_≡_, refl}
 use mathlib.Core.Option.{Option, none, some}
 use mathlib.Core.Bool.{Bool, true, false, _&&_}
 use Prim.Native.Nat.{ℕ, _≤_}
@@ -8,8 +8,8 @@ use lib.Dec.{T, leb, ltb, eqb, ltb→lt}
 use borrow.Author.Tests.{leb-true}
 use Rattle.forms.specs.Edition.{Edition, editionNumbered, edition1}
 use Rattle.fields.specs.Answers.{answer, Result, refused, accepted, _>>=_, _>>_, need, found}
-use Rattle.fields.specs.Fields.{Field, Fields, ends, cut, _▸_}
-use Rattle.fields.specs.Header.{Header, known, agrees, headerField, header}
+use Rattle.fields.specs.Fields.{Fields, ends, cut, _▸_}
+use Rattle.fields.specs.Header.{Header, headerField, header}
 use Rattle.fields.specs.declared.Answer.{Answer}
 use Rattle.fields.specs.declared.FileKind.{FileKind}
 
@@ -41,7 +41,8 @@ module _ {Y : Type 0} {P : Answer → Type 0} {R : Y → Type 0} where
   finding a (some x) f p k = k x refl
 
 -- ---- the header
-pub record Right (h : Header) : Type 0 where
+-- what an accepted one tells
+pub record ProperHeader (h : Header) : Type 0 where
   pub edition-is : h .edition ≡ edition1
   pub low : 1 ≤ h .K
   pub high : h .K ≤ 16
@@ -72,7 +73,7 @@ module _ (kind : FileKind) (file : ℕ) where
       passing _ _ _ (numbered 4 file (f .at) tt) λ b.
       passing _ _ _ (numbered 6 file (f .at) tt) λ c. yes tt
 
-  pub header-gives : (given : Option ℕ) (fs : Fields) → Gives Numbered Right (header kind file given fs)
+  pub header-gives : (given : Option ℕ) (fs : Fields) → Gives Numbered ProperHeader (header kind file given fs)
   unfolding header
   header-gives given fs =
       bind (header-field-gives 0x01 fs) λ x u.

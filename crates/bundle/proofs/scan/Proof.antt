@@ -1,5 +1,5 @@
 -- `bundle::scan` meets its contract: each `return` cites the law for its way. Assumes nothing.
-use mathlib.Core.Path.{_≡_, sym, ap, _∙_}
+use mathlib.Core.Path.{sym, ap, _∙_}
 use Rattle.bundle.specs.Scan.{scanned}
 use Rattle.bundle.proofs.Scanning.{scan-header, scan-fault, scan-count}
 use borrow.Author.Needs.{needs}

@@ -1,9 +1,8 @@
 -- `bundle::write` meets its contract: each `return` cites the law for its way. Assumes nothing.
-use mathlib.Core.Path.{_≡_, refl, sym, ap, _∙_}
+use mathlib.Core.Path.{_∙_}
 use native.Mathlib.Omega.{arith}
 use Prim.Native.Nat.{_+_, _*_, _≤_}
 use native.Mathlib.Nat.{mul-le-mul}
-use lib.ListN.{length}
 use Rattle.bundle.proofs.Writing.{bytes-give, granted, not-granted, write-refused, write-short, writable, write-all}
 use borrow.Author.Needs.{needs}
 use Rattle.bundle.proofs.write.Statement.{statement}

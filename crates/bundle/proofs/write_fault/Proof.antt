@@ -1,9 +1,8 @@
 -- `bundle::write_fault` meets its contract: each `return` cites the law for its way. Assumes nothing.
-use mathlib.Core.Path.{_≡_, refl, sym, ap, _∙_}
+use mathlib.Core.Path.{sym, ap, _∙_}
 use native.Mathlib.Omega.{arith}
-use Prim.Native.Nat.{ℕ, _+_, _*_, _≤_}
+use Prim.Native.Nat.{ℕ, _+_, _≤_}
 use native.Mathlib.Nat.{mul-le-mul}
-use lib.ListN.{length}
 use Rattle.fields.specs.Answers.{answer}
 use Rattle.bundle.proofs.Writing.{fault-k, fault-count, fault-kind, fault-size, fault-none}
 use borrow.Author.Needs.{needs}

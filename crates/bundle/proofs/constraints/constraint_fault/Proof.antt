@@ -1,6 +1,6 @@
 -- `bundle::constraints::constraint_fault` meets its contract. Assumes nothing.
-use mathlib.Core.Path.{_≡_, sym, ap, _∙_}
-use Prim.Native.Nat.{_+_, _*_, suc}
+use mathlib.Core.Path.{sym, _∙_}
+use Prim.Native.Nat.{_*_, suc}
 use native.Mathlib.Omega.{arith}
 use borrow.Author.Tests.{lt-ltb, le-ltb, eq-eqb, ne-eqb}
 use borrow.Author.Needs.{needs}

@@ -1,5 +1,5 @@
 -- `bundle::constraints::count_constraints` meets its contract. The invariant: going on from here gives what the start gives. Assumes nothing.
-use mathlib.Core.Path.{_≡_, refl, sym, ap, _∙_}
+use mathlib.Core.Path.{_≡_, refl, sym, _∙_}
 use Prim.Native.Nat.{_-_}
 use native.Mathlib.Omega.{arith}
 use lib.ListN.{length}

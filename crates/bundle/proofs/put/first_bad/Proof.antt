@@ -1,7 +1,6 @@
 -- `bundle::put::first_bad` meets its contract: looking on from here finds what the start finds. Assumes nothing.
-use mathlib.Core.Path.{_≡_, refl, sym, ap, _∙_}
+use mathlib.Core.Path.{_≡_, refl, sym, _∙_}
 use Prim.Native.Nat.{_-_}
-use native.Mathlib.Omega.{arith}
 use lib.ListN.{length, drop}
 use Rattle.bundle.specs.Put.{firstBad}
 use Rattle.bundle.proofs.Putting.{bad-next, bad-here, bad-none}

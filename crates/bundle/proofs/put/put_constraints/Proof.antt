@@ -1,5 +1,4 @@
 -- `bundle::put::put_constraints` meets its contract. The invariant `Putting`: what is left to write gives what the whole gives. Assumes nothing.
-use mathlib.Core.Path.{_≡_, refl, sym, ap, _∙_}
 use Prim.Native.Nat.{_-_}
 use native.Mathlib.Omega.{arith}
 use lib.ListN.{length}

@@ -1,11 +1,10 @@
 -- `bundle::put::put_number` meets its contract: a 16-bit number is one of two bytes. Assumes nothing.
-use mathlib.Core.Path.{_≡_, refl, sym, ap, _∙_}
+use mathlib.Core.Path.{refl, _∙_}
 use mathlib.Core.Logic.{inl}
 use native.Mathlib.Omega.{arith}
 use mir.Syntax.{w16, w64}
 use mir.Val.{toZ, ofZ}
 use mir.ValLaws.{toZ-ofZ}
-use Rattle.fields.specs.Ranges.{Half, Held}
 use borrow.Author.Needs.{needs}
 use Rattle.bundle.proofs.put.put_number.Statement.{statement}
 use Rattle.bundle.proofs.put.put_number.Tie as tie

@@ -1,10 +1,9 @@
 -- `bundle::store::number_at` meets its contract: a number of two bytes fits 16 bits. Assumes nothing.
-use mathlib.Core.Path.{_≡_, refl, sym, ap, _∙_}
+use mathlib.Core.Path.{refl, _∙_}
 use mathlib.Core.Logic.{inl}
 use native.Mathlib.Omega.{arith}
 use mir.Syntax.{w16, w64}
 use mir.ValLaws.{toZ-ofZ}
-use borrow.Author.Needs.{needs}
 use Rattle.bundle.proofs.store.number_at.Statement.{statement}
 use Rattle.bundle.proofs.store.number_at.Tie as tie
 

@@ -1,5 +1,4 @@
 -- `bundle::store::store` meets its contract. Assumes nothing.
-use mathlib.Core.Path.{_≡_, refl, sym, ap, _∙_}
 use Rattle.fields.specs.Answers.{fileA}
 use Rattle.bundle.proofs.Scanning.{scan-header}
 use Rattle.bundle.proofs.Reading.{fitting-storable, fitting-bundle}

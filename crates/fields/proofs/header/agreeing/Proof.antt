@@ -1,7 +1,6 @@
 -- `fields::header::agreeing` meets its contract. Assumes nothing.
 use Rattle.fields.proofs.Headers.{agrees-none, agrees-some}
 use mathlib.Core.Path.{sym}
-use borrow.Author.Needs.{needs}
 use Rattle.fields.proofs.header.agreeing.Statement.{statement}
 use Rattle.fields.proofs.header.agreeing.Tie as tie
 

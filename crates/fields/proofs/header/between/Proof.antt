@@ -1,6 +1,5 @@
 -- `fields::header::between` meets its contract. Assumes nothing.
 use borrow.Author.Tests.{le-leb, lt-leb}
-use borrow.Author.Needs.{needs}
 use Rattle.fields.proofs.header.between.Statement.{statement}
 use Rattle.fields.proofs.header.between.Tie as tie
 

@@ -1,5 +1,5 @@
 -- `fields::header::header_field` meets its contract: each `return` cites the law for its way. Assumes nothing.
-use mathlib.Core.Path.{_≡_, sym, ap, _∙_}
+use mathlib.Core.Path.{sym, _∙_}
 use native.Mathlib.Omega.{arith}
 use Rattle.fields.proofs.Places.{starts, next-cut, next-ends}
 use Rattle.fields.proofs.Headers.{field-unknown, field-other, field-size, field-value, field-cut, field-ends}

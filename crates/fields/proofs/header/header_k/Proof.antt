@@ -1,5 +1,5 @@
 -- `fields::header::header_k` meets its contract: each `return` cites the law for its way. Assumes nothing.
-use mathlib.Core.Path.{_≡_, sym, ap, _∙_}
+use mathlib.Core.Path.{sym, _∙_}
 use Rattle.fields.proofs.Headers.{k-refused, k-range, k-other, k-agrees}
 use borrow.Author.Needs.{needs}
 use Rattle.fields.proofs.header.header_k.Statement.{statement}

@@ -1,7 +1,6 @@
 -- `fields::header::header_tag` meets its contract. Assumes nothing.
 use borrow.Author.Tests.{eq-eqb, ne-eqb}
 use Rattle.fields.specs.Header.{headerTag}
-use borrow.Author.Needs.{needs}
 use Rattle.fields.proofs.header.header_tag.Statement.{statement}
 use Rattle.fields.proofs.header.header_tag.Tie as tie
 

@@ -1,6 +1,5 @@
 -- `fields::header::known` meets its contract. Assumes nothing.
-use mathlib.Core.Path.{_≡_, sym, ap, _∙_}
-use Rattle.fields.specs.Header.{known}
+use mathlib.Core.Path.{sym, _∙_}
 use Rattle.fields.proofs.Headers.{known-header, known-bundle, known-proof-row, known-proof-claim, known-formula}
 use borrow.Author.Needs.{needs}
 use Rattle.fields.proofs.header.known.Statement.{statement}

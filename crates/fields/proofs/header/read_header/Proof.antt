@@ -1,5 +1,4 @@
 -- `fields::header::read_header` meets its contract: each `return` cites the law for its way. Assumes nothing.
-use mathlib.Core.Path.{_≡_, sym, ap, _∙_}
 use Rattle.fields.proofs.Headers.{header-refused, header-edition, header-rest}
 use borrow.Author.Needs.{needs}
 use Rattle.fields.proofs.header.read_header.Statement.{statement}

@@ -1,9 +1,6 @@
 -- `fields::numbers::count_of` meets its contract. Assumes nothing.
-use mathlib.Core.Path.{_≡_, sym, ap}
 use mathlib.Core.Logic.{⊎-elim}
-use Prim.Native.Nat.{ℕ, _^_}
 use native.Mathlib.Omega.{arith}
-use borrow.Author.Needs.{needs}
 use Rattle.fields.proofs.numbers.count_of.Statement.{statement}
 use Rattle.fields.proofs.numbers.count_of.Tie as tie
 

@@ -1,5 +1,5 @@
 -- `fields::numbers::signed_at` meets its contract. Assumes nothing.
-use mathlib.Core.Path.{_≡_, refl, sym, _∙_, ap, ap₂}
+use mathlib.Core.Path.{_≡_, sym, _∙_, ap, ap₂}
 use mathlib.Core.Logic.{⊎-elim}
 use Prim.Native.Nat.{ℕ, _^_}
 use native.Mathlib.Omega.{arith}
@@ -7,7 +7,7 @@ use lib.ListN.{length, take, drop, length-drop}
 use lib.Seq.{length-take-le}
 use mir.Syntax.{w64}
 use mir.ValLaws.{toZ-ofZ}
-use Rattle.fields.specs.Numbers.{unsigned, complement, signed}
+use Rattle.fields.specs.Numbers.{complement, signed}
 use Rattle.fields.proofs.Digits.{complement-half}
 use borrow.Author.Needs.{needs}
 use Rattle.fields.proofs.numbers.signed_at.Statement.{statement}

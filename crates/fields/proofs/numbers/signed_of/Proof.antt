@@ -1,10 +1,7 @@
 -- `fields::numbers::signed_of` meets its contract. Assumes nothing.
-use mathlib.Core.Path.{_≡_, sym, _∙_}
-use Prim.Native.Nat.{suc, _-_}
+use mathlib.Core.Path.{sym, _∙_}
 use native.Mathlib.Omega.{arith}
-use lib.IntN.{ℤ, pos, _-ℤ_}
 use mir.Syntax.{w64}
-use mir.Val.{SFits}
 use mir.ValLaws.{toZ-pos, toZ-ofZ}
 use Rattle.fields.proofs.Digits.{complement-low, complement-high, below-full}
 use borrow.Author.Needs.{needs}
