@@ -7,7 +7,8 @@ use Prim.Native.Nat.{ℕ, suc, _*_, _<_, _≤_}
 use native.Mathlib.Omega.{arith}
 use lib.Dec.{T, eqb}
 use lib.IntN.{ℤ}
-use lib.ListN.{length, getElem?}
+use lib.ListN.{length, getD, set, getElem?}
+use lib.Seq.{getD-set-same}
 use Rattle.forms.specs.Forms.{≤0, =0, Line, line}
 use Rattle.calculus.specs.Rules.{_▷_, inRange}
 use Rattle.proof.specs.Rows.{is}
@@ -32,6 +33,18 @@ kind-=0 b = go (eqb b 0)
     go : (t : Bool) → is =0 (elim t [ true ↦ ≤0 | false ↦ =0 ]) ≡ not t
     go true = refl
     go false = refl
+
+pub inequality-byte : kindOf 0 ≡ ≤0
+unfolding kindOf
+inequality-byte = refl
+
+pub equality-byte : kindOf 1 ≡ =0
+unfolding kindOf
+equality-byte = refl
+
+-- The kind that a store at n gives line n.
+pub kind-stored : (kinds : List ℕ) (n b : ℕ) → n < length kinds → kindOf (getD (set kinds n b) n 0) ≡ kindOf b
+kind-stored kinds n b h = ap kindOf (getD-set-same kinds n b 0 h)
 
 -- ---- a line by its number
 some-same : {A : Type 0} {x y : A} → some x ≡ some y → x ≡ y
