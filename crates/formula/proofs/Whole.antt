@@ -20,6 +20,7 @@ use Rattle.fields.specs.Fields.{Fields, fields}
 use Rattle.fields.specs.Header.{Header, known, agrees, header, finished}
 use Rattle.fields.specs.Places.{fieldsAt, nextOf, givenK, headedOf, IsHeader}
 use Rattle.fields.proofs.Places.{Starts, next-cut, next-ends}
+use Rattle.fields.proofs.Refusals.{Gives, no, yes, bind, passing, finding}
 use Rattle.formula.specs.Formula.{readFormula}
 use Rattle.formula.specs.Test.{judge, registers, judged, tested, testFormula}
 use Rattle.formula.specs.Registers.{ranged, FirstOutside, Registers}
@@ -57,24 +58,21 @@ module _ {s : List ℕ} {at : ℕ} (holds : Bool) {e : Ending} (k : IsEnding s a
   finish-fault q f = record { is = f ∙ sym (ap (endTested holds) (k .is) ∙ rw q) }
 
 -- ---- K is the number of values
-abbrev GivesK : ℕ → Result Header → Type 0
-GivesK g (refused a) = Unit {0}
-GivesK g (accepted h) = h .K ≡ g
+any : {X : Type 0} (r : Result X) → Gives (λ a. Unit {0}) (λ x. Unit {0}) r
+any (refused a) = no tt
+any (accepted x) = yes tt
 
-bind-gives : {X : Type 0} (g : ℕ) (m : Result X) (f : X → Result Header) → ((x : X) → GivesK g (f x)) → GivesK g (m >>= f)
-unfolding _>>=_
-bind-gives g (refused a) f h = tt
-bind-gives g (accepted x) f h = h x
-
-then-gives : (g : ℕ) (a : Answer) (b : Bool) (r : Result Header) → (b ≡ true → GivesK g r) → GivesK g (need a b >> r)
-unfolding need _>>_
-then-gives g a true r h = h refl
-then-gives g a false r h = tt
-
-header-gives : (kind : FileKind) (file g : ℕ) (fs : Fields) → GivesK g (header kind file (some g) fs)
+header-gives : (kind : FileKind) (file g : ℕ) (fs : Fields) → Gives (λ a. Unit {0}) (λ (h : Header). h .K ≡ g) (header kind file (some g) fs)
 unfolding header agrees
 header-gives kind file g fs =
-    bind-gives g _ _ (λ x. bind-gives g _ _ (λ e. bind-gives g _ _ (λ y. then-gives g _ _ _ (λ h. then-gives g _ _ _ (λ a. eqb-true _ _ a)))))
+    bind (any _) λ x u.
+    finding _ _ _ tt λ e q.
+    bind (any _) λ y v.
+    passing _ _ _ tt λ range.
+    passing _ _ _ tt λ same. yes (eqb-true _ _ same)
+
+given : {h : Header} {g : ℕ} → Gives (λ a. Unit {0}) (λ (h : Header). h .K ≡ g) (accepted h) → h .K ≡ g
+given (yes q) = q
 
 given-some : (k : ℕ) → 1 ≤ k → givenK k ≡ some k
 given-some zero h = absurd (omega arith)
@@ -100,7 +98,7 @@ module _ {s : List ℕ} {values : List ℤ} {K : ℕ} (g : Registers values K) {
     header-K : header FileKind.Formula fileProof (some K) (fields s) ≡ accepted (record { edition = edition1; K = K; rest = fieldsAt s next })
     header-K =
         let p : header FileKind.Formula fileProof (some K) (fields s) ≡ accepted (record { edition = edition1; K = k′; rest = fieldsAt s next }) = header-is ∙ rw e in
-        let q : k′ ≡ K = rw p at (header-gives FileKind.Formula fileProof K (fields s)) in
+        let q : k′ ≡ K = given (rw p at (header-gives FileKind.Formula fileProof K (fields s))) in
         p ∙ rw q
 
     module _ {j : Judged} (b : FormulaRead s next values K 64 j) where

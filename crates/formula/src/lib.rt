@@ -8,7 +8,7 @@ ghost use Rattle.fields.specs.Fields.{fields};
 ghost use Rattle.formula.specs.Formula.{readFormula};
 ghost use Rattle.formula.specs.Test.{judged, testFormula};
 ghost use Rattle.formula.specs.Registers.{Registers};
-ghost use Rattle.formula.specs.Outcomes.{asTested, refusal, endTested, Finish};
+ghost use Rattle.formula.specs.Outcomes.{asTested, refusal, Finish};
 
 mod ending;
 mod form;

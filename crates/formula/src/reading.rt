@@ -8,10 +8,8 @@ use fields::numbers::signed_at;
 use integers::divides;
 use integers::is_zero;
 ghost use mathlib.Core.Path.{_≡_};
-ghost use Prim.Native.Nat.{_+_, _≤_};
-ghost use lib.IntN.{pos};
-ghost use lib.Signed.{leZ};
-ghost use lib.ListN.{take, drop, length};
+ghost use Prim.Native.Nat.{_+_};
+ghost use lib.ListN.{take, drop};
 ghost use Rattle.forms.specs.Forms.{value};
 ghost use Rattle.fields.specs.Numbers.{signed};
 ghost use Rattle.formula.specs.Test.{holds, registers};
@@ -40,19 +38,13 @@ pub enum Pair {
     },
 }
 
-fn nonpositive(x: i64) -> bool
-    ensures { λ r. ⌜ r ≡ leZ x (pos 0) ⌝ }
-{
-    x <= 0
-}
-
 fn says(equality: bool, x: i64) -> bool
     ensures { λ r. ⌜ r ≡ holds (kindOf equality) x ⌝ }
 {
     if equality {
         return is_zero(x);
     }
-    nonpositive(x)
+    x <= 0
 }
 
 fn literal_at(

@@ -1,7 +1,9 @@
 -- `formula::form::with_term` meets its contract. Assumes nothing.
-use mathlib.Core.Path.{refl}
+use mathlib.Core.Path.{_≡_, refl}
 use mathlib.Core.Logic.{inr}
+use lib.IntN.{_+ℤ_, _*ℤ_}
 use mir.Syntax.{w64}
+use mir.Val.{SFits, toZ, ofZ}
 use mir.ValLaws.{toZ-ofZ}
 use Rattle.integers.specs.Magnitude.{Within}
 use Rattle.formula.proofs.Value.{product-fits, sum-fits}
@@ -15,42 +17,39 @@ signed-at-requires c κs = (inr refl, c .before .pre .coefficient)
 register-requires : tie.Need-register-requires
 register-requires c κs = search needs
 
+module _ (c : tie.After-register) where
+  value-in : Within 1_000_000 (c .register .result)
+  value-in = rw (c .register .ensures) (c .before .before .before .pre .all .at (c .before .before .before .args .i))
+
+  product-in : SFits w64 (c .before .signed-at .result *ℤ c .register .result)
+  product-in = product-fits (c .before .signed-at .ensures .1) value-in
+
+  sum-in : SFits w64 (c .before .signed-at .result *ℤ c .register .result +ℤ c .before .before .before .args .total)
+  sum-in = sum-fits (c .before .signed-at .ensures .1) value-in (c .before .before .before .pre .small)
+
+  -- the factors, the product and the total as the machine reads them back
+  coefficient-is : toZ w64 (ofZ w64 (c .before .signed-at .result)) ≡ c .before .signed-at .result
+  coefficient-is = toZ-ofZ w64 (c .before .signed-at .result) (record { sfits = c .before .signed-at .ok })
+
+  value-is : toZ w64 (ofZ w64 (c .register .result)) ≡ c .register .result
+  value-is = toZ-ofZ w64 (c .register .result) (record { sfits = c .register .ok })
+
+  total-is : toZ w64 (ofZ w64 (c .before .before .before .args .total)) ≡ c .before .before .before .args .total
+  total-is = toZ-ofZ w64 (c .before .before .before .args .total) (c .before .before .before .fits .total)
+
 mul-result : tie.Need-mul-result
-mul-result c =
-    let x : Within 1_000_000 (c .register .result) = rw (c .register .ensures) (c .before .before .before .pre .all .at (c .before .before .before .args .i)) in
-    rw (toZ-ofZ w64 (c .before .signed-at .result) (record { sfits = c .before .signed-at .ok }), toZ-ofZ w64 (c .register .result) (record { sfits = c .register .ok }))
-    (product-fits (c .before .signed-at .ensures .1) x)
+mul-result c = rw (coefficient-is c, value-is c) (product-in c)
 
 add-result : tie.Need-add-result
-add-result c =
-    let x : Within 1_000_000 (c .register .result) = rw (c .register .ensures) (c .before .before .before .pre .all .at (c .before .before .before .args .i)) in
-    let p = product-fits (c .before .signed-at .ensures .1) x in
-    rw (
-      toZ-ofZ w64 (c .before .signed-at .result) (record { sfits = c .before .signed-at .ok }),
-      toZ-ofZ w64 (c .register .result) (record { sfits = c .register .ok }),
-      toZ-ofZ w64 _ p,
-      toZ-ofZ w64 (c .before .before .before .args .total) (c .before .before .before .fits .total),
-    )
-    (sum-fits (c .before .signed-at .ensures .1) x (c .before .before .before .pre .small))
+add-result c = rw (coefficient-is c, value-is c, toZ-ofZ w64 _ (product-in c), total-is c) (sum-in c)
 
 returns : tie.Need-returns
-returns c =
-    let x : Within 1_000_000 (c .register .result) = rw (c .register .ensures) (c .before .before .before .pre .all .at (c .before .before .before .args .i)) in
-    let p = product-fits (c .before .signed-at .ensures .1) x in
-    let q = sum-fits (c .before .signed-at .ensures .1) x (c .before .before .before .pre .small) in
-    record {
-      coefficient = c .before .signed-at .result;
-      read = c .before .signed-at .ensures .0;
-      held = c .before .signed-at .ensures .1;
-      is = rw (
-        toZ-ofZ w64 (c .before .signed-at .result) (record { sfits = c .before .signed-at .ok }),
-        toZ-ofZ w64 (c .register .result) (record { sfits = c .register .ok }),
-        toZ-ofZ w64 _ p,
-        toZ-ofZ w64 (c .before .before .before .args .total) (c .before .before .before .fits .total),
-        toZ-ofZ w64 _ q,
-        c .register .ensures,
-      );
-    }
+returns c = record {
+  coefficient = c .before .signed-at .result;
+  read = c .before .signed-at .ensures .0;
+  held = c .before .signed-at .ensures .1;
+  is = rw (coefficient-is c, value-is c, toZ-ofZ w64 _ (product-in c), total-is c, toZ-ofZ w64 _ (sum-in c), c .register .ensures);
+}
 
 pub with-term-spec : {M : Type 1} → statement M
 with-term-spec = tie.close (tie.spec signed-at-requires register-requires mul-result add-result returns)

@@ -1,3 +1,4 @@
+-- `formula::node::node_of` meets its contract: each arm is the node of its tag. Assumes nothing.
 use mathlib.Core.Path.{refl, _∙_}
 use native.Mathlib.Omega.{arith}
 use Rattle.forms.specs.Forms.{≤0, =0}

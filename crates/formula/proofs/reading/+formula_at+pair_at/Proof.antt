@@ -1,5 +1,5 @@
--- The proof of the cycle {formula_at, pair_at}. The measure of both is the number of unread bytes and of levels: the bytes fall where the formula reader
--- calls the pair reader, and the levels where that calls back. Each answer collects the facts on its way and cites a lemma of `Ways`. Assumes nothing.
+-- The proof of the cycle {formula_at, pair_at}: the measure of both is the number of unread bytes and of levels. Assumes nothing.
+-- The bytes fall where the formula reader calls the pair reader, and the levels where that calls back. Each answer collects the facts on its way and cites a lemma of `Ways`.
 use native.Mathlib.Omega.{arith}
 use Rattle.fields.proofs.Places.{starts, starts-less}
 use lib.ListN.{length}

@@ -17,12 +17,9 @@ returns : tie.Need-returns
 unfolding holds
 returns c = rw (c .before .if1 .taken) (c .is-zero .ensures ∙ ap (λ (z : ℤ). eqZ z (pos 0)) (toZ-ofZ w64 _ (c .before .before .fits .x)))
 
-nonpositive-requires : tie.Need-nonpositive-requires
-nonpositive-requires c κs = search needs
-
 returns-2 : tie.Need-returns-2
 unfolding holds
-returns-2 c = rw (c .before .if1 .left) (c .nonpositive .ensures ∙ ap (λ (z : ℤ). leZ z (pos 0)) (toZ-ofZ w64 _ (c .before .before .fits .x)))
+returns-2 c = rw (c .if1 .left) (ap (λ (z : ℤ). leZ z (pos 0)) (toZ-ofZ w64 _ (c .before .fits .x)))
 
 pub says-spec : {M : Type 1} → statement M
-says-spec = tie.close (tie.spec is-zero-requires returns nonpositive-requires returns-2)
+says-spec = tie.close (tie.spec is-zero-requires returns returns-2)
