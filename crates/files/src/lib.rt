@@ -112,6 +112,16 @@ pub fn put_number(buf: &mut [u8], at: usize, word: &[u8], n: u64) -> usize
     put_decimal(buf, end, n)
 }
 
+// The line of a refusal: its number, file and place.
+pub fn put_refused(buf: &mut [u8], number: u8, file: u8, place: usize) -> usize
+    ensures { λ r. ⌜ Counts r (now (buf .exit)) ⌝ }
+{
+    let mut end = put_number(buf, 0, b"refused ", number as u64);
+    end = put_number(buf, end, b" file ", file as u64);
+    end = put_number(buf, end, b" at ", place as u64);
+    put_text(buf, end, b"\n")
+}
+
 // Writes all of text, whatever pieces write() takes.
 pub fn write(fd: i32, text: &[u8]) -> bool {
     io::write_all(fd, text)

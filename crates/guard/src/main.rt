@@ -1,0 +1,69 @@
+// Reads a formula from the file f and register values, four signed bytes each, from the file v of the working directory,
+// and prints `true`, `false` or the line of a refusal.
+ghost use mathlib.Core.Path.{_≡_};
+ghost use Prim.Native.Nat.{_≤_, _+_, _*_};
+ghost use lib.ListN.{length};
+ghost use Rattle.io.specs.Counts.{Counts};
+use fields::numbers::signed_at;
+use libc::STDOUT_FILENO;
+
+// The number of four bytes at a place.
+fn value_at(v: &[u8], at: usize) -> i32
+    requires { ⌜ at + 4 ≤ length (now v) ⌝ }
+{
+    signed_at(v, at, 4) as i32
+}
+
+// The first count values of v.
+fn load(v: &[u8], count: usize, values: &mut [i32])
+    requires { ⌜ (count * 4 ≤ length (now v)) × (count ≤ length (now values)) ⌝ }
+    ensures { λ _. ⌜ length (now (values .exit)) ≡ length (now (values .entry)) ⌝ }
+{
+    let mut i = 0;
+    while i < count {
+        values[i] = value_at(v, i * 4);
+        i += 1;
+    }
+}
+
+// How many values v has, 17 at most: that many are as wrong as any more.
+fn count(v: &[u8]) -> usize
+    ensures { λ r. ⌜ (r * 4 ≤ length (now (v .entry))) × (r ≤ 17) ⌝ }
+{
+    let n = v.len() / 4;
+    if n < 17 {
+        return n;
+    }
+    17
+}
+
+// What is to be printed of the two files, at the start of text.
+fn answer(f: &[u8], v: &[u8], text: &mut [u8]) -> usize
+    ensures { λ r. ⌜ Counts r (now (text .exit)) ⌝ }
+{
+    if v.len() % 4 != 0 {
+        return files::put_refused(text, 7, 4, 0);
+    }
+    let mut values = [0i32; 17];
+    let n = count(v);
+    load(v, n, &mut values);
+    let r = formula::test(f, &values[..n]);
+    let a = r.answer;
+    if a.number != 0 {
+        return files::put_refused(text, a.number, a.file, a.place);
+    }
+    if r.holds {
+        return files::put_text(text, 0, b"true\n");
+    }
+    files::put_text(text, 0, b"false\n")
+}
+
+fn main() {
+    let mut f = [0u8; 65537];
+    let mut v = [0u8; 68];
+    let mut text = [0u8; 64];
+    let nf = files::read(b"f", &mut f);
+    let nv = files::read(b"v", &mut v);
+    let n = answer(&f[..nf], &v[..nv], &mut text);
+    files::write(STDOUT_FILENO, &text[..n]);
+}
