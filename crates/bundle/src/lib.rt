@@ -74,6 +74,7 @@ pub fn scan(s: &[u8], file: u8, given: u8) -> Scanned
 }
 
 // What reading a bundle answers: how many constraints and K, 0 for both where it is refused.
+#[repr(C)]
 pub struct ReadResult {
     pub answer: Answer,
     pub count: usize,
@@ -165,6 +166,7 @@ fn write_fault(k: u8, kinds: &[u8], numbers: &[i16]) -> Answer
 }
 
 // What writing a bundle answers: the bytes written, 0 where it is refused.
+#[repr(C)]
 pub struct WriteResult {
     pub answer: Answer,
     pub count: usize,

@@ -6,6 +6,7 @@ pub mod header;
 pub mod numbers;
 
 // An answer: a refusal's number, the file and the place at fault. All three are 0 for accepted.
+#[repr(C)]
 pub struct Answer {
     pub number: u8,
     pub file: u8,

@@ -23,6 +23,7 @@ use reading::formula_at;
 use values::first_outside;
 
 // What testing gives: the answer, and whether the formula holds (false where it is refused).
+#[repr(C)]
 pub struct Tested {
     pub answer: Answer,
     pub holds: bool,

@@ -1,0 +1,2 @@
+-- What the exported functions say beyond the operations.
+pub mod Copied

@@ -1,0 +1,79 @@
+// The operations for other programs: what a static library has for Rust and C. Thin, over the proved operations.
+// A slice is a pointer and a length; what is lent as `&mut` overlaps nothing else that is passed.
+ghost use mathlib.Core.Path.{_≡_};
+ghost use mathlib.Core.List.{_++_};
+ghost use Prim.Native.Nat.{_≤_};
+ghost use lib.ListN.{length, drop};
+ghost use Rattle.exports.specs.Copied.{Copied};
+ghost use Rattle.bundle.specs.Read.{readBundle};
+ghost use Rattle.bundle.specs.Store.{readOf};
+ghost use Rattle.bundle.specs.Put.{writtenOf};
+ghost use Rattle.bundle.specs.Locate.{partBytes};
+ghost use Rattle.bundle.specs.Write.{writeBundle};
+ghost use Rattle.bundle.specs.Show.{showAnswer, showPart};
+ghost use Rattle.formula.specs.Test.{testFormula};
+ghost use Rattle.formula.specs.Outcomes.{asTested};
+use bundle::Line;
+use bundle::ReadResult;
+use bundle::WriteResult;
+use fields::Answer;
+use formula::Tested;
+
+#[no_mangle]
+pub extern "C" fn dulgaverk_read(file: &[u8], kinds: &mut [u8], numbers: &mut [i16]) -> ReadResult
+    ensures { λ r. ⌜ readOf r (now (kinds .exit)) (now (numbers .exit)) ≡ readBundle (now (kinds .entry)) (now (numbers .entry)) (now (file .entry)) ⌝ }
+{
+    bundle::read(file, kinds, numbers)
+}
+
+#[no_mangle]
+pub extern "C" fn dulgaverk_write(
+    k: u8,
+    kinds: &[u8],
+    numbers: &[i16],
+    out: &mut [u8],
+) -> WriteResult
+    ensures { λ r. ⌜ writtenOf r (now (out .exit)) ≡ writeBundle k (now (kinds .entry)) (now (numbers .entry)) (now (out .entry)) ⌝ }
+{
+    bundle::write(k, kinds, numbers, out)
+}
+
+#[no_mangle]
+pub extern "C" fn dulgaverk_show_answer(a: &[u8], b: &[u8], line: u16) -> Answer
+    ensures { λ r. ⌜ r ≡ showAnswer (now (a .entry)) (now (b .entry)) line ⌝ }
+{
+    bundle::show_answer(a, b, Line(line))
+}
+
+// The first bytes of `to` become those of `from`.
+fn copy(from: &[u8], to: &mut [u8])
+    requires { ⌜ length (now from) ≤ length (now to) ⌝ }
+    ensures { λ _. ⌜ now (to .exit) ≡ now (from .entry) ++ drop (length (now (from .entry))) (now (to .entry)) ⌝ }
+{
+    let mut i = 0;
+    while i < from.len() {
+        to[i] = from[i];
+        i += 1;
+    }
+}
+
+// The constraint's field, copied into `out`, and its length. (An exported function cannot return a reference.) Where it does not fit, nothing is copied.
+#[no_mangle]
+pub extern "C" fn dulgaverk_show<'a>(a: &'a [u8], b: &'a [u8], line: u16, out: &mut [u8]) -> usize
+    ensures { λ r. ⌜ Copied (partBytes (showPart (now (a .entry)) (now (b .entry)) line) (now (a .entry)) (now (b .entry))) (now (out .entry)) (now (out .exit)) r ⌝ }
+{
+    let part = bundle::show(a, b, Line(line));
+    let n = part.len();
+    if out.len() < n {
+        return n;
+    }
+    copy(part, out);
+    n
+}
+
+#[no_mangle]
+pub extern "C" fn dulgaverk_test(formula: &[u8], values: &[i32]) -> Tested
+    ensures { λ r. ⌜ r ≡ asTested (testFormula (now (formula .entry)) (now (values .entry))) ⌝ }
+{
+    formula::test(formula, values)
+}

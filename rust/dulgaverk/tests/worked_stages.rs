@@ -1,0 +1,64 @@
+//! Worked stages of the paper through the verified operations.
+
+use dulgaverk::{read_bundle, show, test_formula, write_bundle, Counts, Refusal};
+
+fn refused<T>(number: u8, file: u8, place: usize) -> Result<T, Refusal> {
+    Err(Refusal {
+        number,
+        file,
+        place,
+    })
+}
+
+/// Stage 10: K 16 is read, 17 gives 7; 32 constraints, the 33rd gives 8.
+#[test]
+fn stage_10() {
+    let kinds: Vec<u8> = (0..32).map(|i| i % 2).collect();
+    let numbers: Vec<i16> = (0..32 * 17).map(|i| i * 120 - 32_640).collect();
+    let mut file = vec![0; 8 + 32 * 37];
+    assert_eq!(write_bundle(16, &kinds, &numbers, &mut file), Ok(1192));
+
+    let mut read = (vec![9; 32], vec![9; 32 * 17]);
+    let counts = Counts {
+        constraints: 32,
+        constants: 16,
+    };
+    assert_eq!(read_bundle(&file, &mut read.0, &mut read.1), Ok(counts));
+    assert_eq!(read, (kinds.clone(), numbers.clone()));
+
+    let mut seventeen = file.clone();
+    seventeen[7] = 17;
+    assert_eq!(
+        read_bundle(&seventeen, &mut read.0, &mut read.1),
+        refused(7, 1, 4)
+    );
+    assert_eq!(
+        write_bundle(17, &kinds, &numbers, &mut file),
+        refused(7, 4, 0)
+    );
+
+    let mut more = file.clone();
+    more.extend_from_slice(&file[8..45]);
+    assert_eq!(
+        read_bundle(&more, &mut read.0, &mut read.1),
+        refused(8, 1, 1192)
+    );
+    assert_eq!(read, (kinds, numbers));
+}
+
+/// The bundles of stage 1, shown; and its formula, "2 divides y", tested.
+#[test]
+fn stage_1() {
+    let a = b"\x01\0\x01\x01\x02\0\x01\x03\x04\0\x08\xFF\xFE\0\x01\0\0\0\0";
+    let b = b"\x01\0\x01\x01\x02\0\x01\x03\x04\0\x08\0\0\xFF\xFF\0\x02\0\x01";
+    assert_eq!(show(a, b, 0), Ok(a[8..].to_vec()));
+    assert_eq!(show(a, b, 1), Ok(b[8..].to_vec()));
+    assert_eq!(show(a, b, 2), refused(10, 1, 0));
+
+    let formula =
+        b"\x01\0\x01\x01\x02\0\x01\x03\x35\0\x14\0\0\0\x02\0\0\0\0\0\0\0\x01\0\0\0\0\0\0\0\0";
+    assert_eq!(test_formula(formula, &[1, 4, -7]), Ok(true));
+    assert_eq!(test_formula(formula, &[1, -3, 0]), Ok(false));
+    assert_eq!(test_formula(formula, &[1, 1_000_001, 0]), refused(23, 4, 1));
+    assert_eq!(test_formula(&formula[..30], &[1, 4, 0]), refused(2, 3, 8));
+}
