@@ -15,7 +15,7 @@ use Rattle.fields.specs.Numbers.{formWidth}
 use Rattle.fields.specs.Fields.{Field, Fields, ends, cut, _▸_, Item, item, items, fields}
 use Rattle.fields.specs.Header.{headerTag, known, agrees, Header}
 use Rattle.fields.proofs.Results.{Gives, refuses, accepts, weaken, bind, tested, test, finds, binds, need-yes, needs, found-some}
-use Rattle.fields.proofs.Headers.{by-tag, next-items, not-empty, first-of, Headed, header-gives, header-read}
+use Rattle.fields.proofs.HeaderLaid.{by-tag, next-items, not-empty, first-of, Headed, header-gives, header-read}
 use Rattle.bundle.specs.Bundle.{Bundle, kindTagged, atMost, constraints, bundle, bundles}
 use Rattle.bundle.specs.Layout.{Each, nil, cons, States, StatesAll, BundleFile}
 

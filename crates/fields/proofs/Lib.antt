@@ -4,5 +4,5 @@ pub mod Notes
 pub mod Signed
 pub mod Contents
 pub mod Framing
-pub mod Headers
+pub mod HeaderLaid
 pub mod Bare

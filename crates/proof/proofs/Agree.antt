@@ -19,7 +19,7 @@ use Rattle.fields.specs.Answers.{fileA, fileB, fileProof, refused, accepted}
 use Rattle.fields.specs.Fields.{Fields, Item, item, fields, items}
 use Rattle.fields.specs.Header.{Header, agrees}
 use Rattle.fields.proofs.Results.{one-value, Gives, accepts, bind, seq, binds, passes, not-0, not-22}
-use Rattle.fields.proofs.Headers.{Headed, header-gives, header-read, finished-gives, finished-ends}
+use Rattle.fields.proofs.HeaderLaid.{Headed, header-gives, header-read, finished-gives, finished-ends}
 use Rattle.bundle.specs.Bundle.{Bundle}
 use Rattle.bundle.specs.Layout.{Each, nil, BundleFile}
 use Rattle.bundle.proofs.Laid.{Itemed, itemed, no-items, listed, BothLaid, laid-file, file-laid, bundles-give, bundles-accept, short-gives, short-accepted}

@@ -18,7 +18,7 @@ use Rattle.fields.specs.Answers.{accepted}
 use Rattle.fields.specs.Fields.{Field, item}
 use Rattle.fields.specs.Header.{headerTag, known}
 use Rattle.fields.proofs.Results.{Gives, refuses, accepts, weaken, bind, tested, test, finds, binds, need-yes, needs, found-some}
-use Rattle.fields.proofs.Headers.{by-tag}
+use Rattle.fields.proofs.HeaderLaid.{by-tag}
 use Rattle.proof.specs.Entries.{Tagged, combineTag, reduceTag, scaleTag, strengthenTag, numberTag, strideTag, claimTag, entryTagged, inPlace, sizeOf, entryFrom, entry}
 use Rattle.proof.specs.Rows.{equals, sameForm, states}
 use Rattle.proof.specs.Check.{agreeing}
