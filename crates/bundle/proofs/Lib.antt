@@ -1,4 +1,5 @@
--- What is accepted as a bundle, and that notes change nothing of it.
+-- Laws that belong to no one function: what is accepted as a bundle, that notes change nothing of it, and going over one.
 pub mod Laid
 pub mod Bare
 pub mod Notes
+pub mod Scanning
