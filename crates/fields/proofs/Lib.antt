@@ -10,4 +10,3 @@ pub mod Places
 pub mod Stores
 pub mod Digits
 pub mod Headers
-pub mod Refusals
