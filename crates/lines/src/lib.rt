@@ -207,3 +207,35 @@ pub fn restricted(lines: &[i64], at: usize, k: usize, in_b: &[u8], x: usize) -> 
     }
     0
 }
+
+// Whether a coefficient may stand where the constants that B lacks are left out.
+fn is_shared_or_left_out(x: i64, a: u8, b: u8) -> bool
+    ensures { λ r. ⌜ r ≡ (eqb a 1 || not (eqb b 1)) || not (nonzero x) ⌝ }
+{
+    if a == 1 {
+        return true;
+    }
+    if b != 1 {
+        return true;
+    }
+    integers::is_zero(x)
+}
+
+// The same as `shared_only` for the form at a place without the constants that B lacks.
+pub fn restricted_shared_only(lines: &[i64], at: usize, k: usize, in_a: &[u8], in_b: &[u8]) -> bool
+    requires { ⌜ at + k ≤ length (now lines) ⌝ }
+    requires { ⌜ k ≤ length (now in_a) ⌝ }
+    requires { ⌜ k ≤ length (now in_b) ⌝ }
+    ensures { λ r. ⌜ r ≡ common (λ c. told (now (in_a .entry)) c && told (now (in_b .entry)) c) (within (told (now (in_b .entry))) (formIn k (now (lines .entry)) at) .coeffs) ⌝ }
+{
+    let mut x = 0;
+    while x < k {
+        let a = in_a[x];
+        let b = in_b[x];
+        if !is_shared_or_left_out(lines[at + x], a, b) {
+            return false;
+        }
+        x += 1;
+    }
+    true
+}

@@ -1,26 +1,13 @@
 -- `lines::is_shared` meets its contract. Assumes nothing.
-use mathlib.Core.Path.{_≡_, refl, sym, _∙_, ap, ap₂}
-use mathlib.Core.Bool.{Bool, true, false, not, _&&_, _||_}
+use mathlib.Core.Path.{sym, ap, ap₂}
+use mathlib.Core.Bool.{Bool, not, _&&_, _||_}
 use borrow.Author.Tests.{eq-eqb, ne-eqb}
 use lib.Dec.{eqb}
-use lib.IntN.{ℤ, pos}
-use mir.Syntax.{w64}
-use mir.Val.{SFits, toZ, ofZ}
-use mir.ValLaws.{toZ-ofZ}
-use Rattle.integers.specs.Linear.{eqZ}
 use Rattle.forms.specs.Forms.{nonzero}
+use Rattle.lines.proofs.Zero.{zero-decides}
 use borrow.Author.Needs.{needs}
 use Rattle.lines.proofs.is_shared.Statement.{statement}
 use Rattle.lines.proofs.is_shared.Tie as tie
-
-not-not : (b : Bool) → not (not b) ≡ b
-not-not true = refl
-not-not false = refl
-
--- Where t fails, the test that x is 0 decides.
-zero-decides : {r t : Bool} (x : ℤ) → SFits w64 x → r ≡ eqZ (toZ w64 (ofZ w64 x)) (pos 0) → t ≡ false → r ≡ t || not (nonzero x)
-unfolding nonzero
-zero-decides x f e h = sym (ap (λ (b : Bool). b || not (nonzero x)) h ∙ not-not (eqZ x (pos 0)) ∙ sym (e ∙ ap (λ (z : ℤ). eqZ z (pos 0)) (toZ-ofZ w64 x f)))
 
 is-zero-requires : tie.Need-is-zero-requires
 is-zero-requires c κs = search needs
