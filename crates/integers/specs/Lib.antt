@@ -3,3 +3,4 @@ pub mod Linear
 pub mod Ring
 pub mod Laws
 pub mod Divides
+pub mod Magnitude

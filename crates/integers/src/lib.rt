@@ -1,1 +1,50 @@
-// The laws of the integers: specs/.
+// The integers: laws in specs/, and the signed arithmetic of the machine.
+// Every function here says what it gives in ℤ, so that nothing above meets a machine word.
+ghost use mathlib.Core.Path.{_≡_};
+ghost use lib.Dec.{leb};
+ghost use lib.IntN.{pos, natAbs, _+ℤ_, _*ℤ_};
+ghost use lib.Signed.{_≤ℤ_, ltZ};
+ghost use Rattle.integers.specs.Linear.{eqZ};
+ghost use Rattle.integers.specs.Divides.{divb};
+ghost use Rattle.integers.specs.Magnitude.{Factors};
+
+// a·x + b·y, of factors small enough that the sum fits a machine word.
+pub fn linear(a: i64, x: i64, b: i64, y: i64) -> i64
+    requires { ⌜ Factors a x b y ⌝ }
+    ensures { λ r. ⌜ r ≡ a *ℤ x +ℤ b *ℤ y ⌝ }
+{
+    a * x + b * y
+}
+
+// Whether x is within ±2,147,483,647.
+pub fn in_range(x: i64) -> bool
+    ensures { λ r. ⌜ r ≡ leb (natAbs x) 2147483647 ⌝ }
+{
+    x <= 2147483647 && -2147483647 <= x
+}
+
+// Whether g divides x.
+pub fn divides(g: i64, x: i64) -> bool
+    requires { ⌜ (pos 2) ≤ℤ g ⌝ }
+    ensures { λ r. ⌜ r ≡ divb g x ⌝ }
+{
+    x % g == 0
+}
+
+pub fn is_zero(x: i64) -> bool
+    ensures { λ r. ⌜ r ≡ eqZ x (pos 0) ⌝ }
+{
+    x == 0
+}
+
+pub fn is_positive(x: i64) -> bool
+    ensures { λ r. ⌜ r ≡ ltZ (pos 0) x ⌝ }
+{
+    0 < x
+}
+
+pub fn same(x: i64, y: i64) -> bool
+    ensures { λ r. ⌜ r ≡ eqZ x y ⌝ }
+{
+    x == y
+}

@@ -1,0 +1,2 @@
+-- The machine's tests of signed numbers.
+pub mod Machine

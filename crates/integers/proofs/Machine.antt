@@ -1,0 +1,74 @@
+-- The machine's tests and remainders of signed numbers, in ℤ. Assumes nothing.
+use mathlib.Core.Path.{_≡_, refl, sym, _∙_, ap}
+use mathlib.Core.Bool.{true, false}
+use Prim.Native.Nat.{ℕ, zero, suc, _-_, _/_, _%_, _^_, _<_, _≤_}
+use native.Mathlib.Nat.{div-le-self}
+use native.Mathlib.Decide.{ℕ-discrete}
+use native.Mathlib.Omega.{arith}
+use borrow.Author.Tests.{eq-eqb, ne-eqb}
+use lib.Dec.{leb, eqb, leb→le, leb·suc-suc, eqb·suc-zero}
+use lib.IntN.{ℤ, pos, negsuc, negℤ, natAbs}
+use lib.Signed.{mag, leZ, quotZ, remZ, mag-rem, _≤ℤ_}
+use mir.Syntax.{Width, w64}
+use mir.Val.{SFits, ofZ}
+use mir.ValLaws.{sfits-le}
+use Rattle.integers.specs.Linear.{eqZ}
+use Rattle.integers.specs.Divides.{divb}
+
+-- A quotient by a positive number fits.
+mag-neg : (r : ℕ) {a : ℕ} → r ≤ suc a → mag (negℤ (pos r)) ≤ a
+mag-neg zero h = omega arith
+mag-neg (suc r) h = omega arith
+
+mag-quot : (x g : ℤ) → pos 1 ≤ℤ g → mag (quotZ x g) ≤ mag x
+mag-quot (pos a) (pos b) h = div-le-self a b
+mag-quot (negsuc a) (pos b) h = mag-neg (suc a / b) (div-le-self (suc a) b)
+mag-quot x (negsuc b) h = absurd (h .le)
+
+pub quot-fits : {w : Width} {x g : ℤ} → pos 1 ≤ℤ g → SFits w x → SFits w (quotZ x g)
+quot-fits {x = x} {g = g} h f = sfits-le (mag-quot x g h) f
+
+pub bits-pos : (w : Width) {g : ℤ} → pos 1 ≤ℤ g → 0 < ofZ w g
+bits-pos w {g = pos n} h = leb→le 1 n (h .le)
+bits-pos w {g = negsuc n} h = absurd (h .le)
+
+-- The bits are 0 where the number is.
+eqb-pos : (m : ℕ) → 0 < m → eqb m 0 ≡ false
+eqb-pos zero h = absurd (omega arith)
+eqb-pos (suc m) h = eqb·suc-zero m
+
+eqb-bits : (z : ℤ) → SFits w64 z → eqb (ofZ w64 z) 0 ≡ eqb (natAbs z) 0
+eqb-bits (pos n) f = refl
+eqb-bits (negsuc n) f = eqb-pos (2 ^ 64 - suc n) (omega arith) ∙ sym (eqb-pos (suc n) (omega arith))
+
+abs-rem : (x g : ℤ) → natAbs (remZ x g) ≡ natAbs x % natAbs g
+abs-rem (pos a) g = refl
+abs-rem (negsuc a) g = go (suc a % natAbs g)
+  where
+    go : (r : ℕ) → natAbs (negℤ (pos r)) ≡ r
+    go zero = refl
+    go (suc r) = refl
+
+pub rem-test : (g x : ℤ) → SFits w64 x → eqb (ofZ w64 (remZ x g)) 0 ≡ divb g x
+rem-test g x f = eqb-bits (remZ x g) (sfits-le (mag-rem x g) f) ∙ ap (λ (n : ℕ). eqb n 0) (abs-rem x g)
+
+-- Both sides of a range, as one test of the absolute value.
+module _ (k : ℕ) where
+  pub low-test : (x : ℤ) → leZ x (pos (suc k)) ≡ true → leZ (negsuc k) x ≡ leb (natAbs x) (suc k)
+  low-test (pos n) h = sym h
+  low-test (negsuc n) h = sym (leb·suc-suc n k)
+
+  pub high-test : (x : ℤ) → leZ x (pos (suc k)) ≡ false → leZ x (pos (suc k)) ≡ leb (natAbs x) (suc k)
+  high-test (pos n) h = refl
+  high-test (negsuc n) h = absurd (omega (arith, (let z : _≡_ {A = ℕ} 0 1 = cc in z)))
+
+-- The bits are equal where the numbers are.
+pub test-eq : (a b : ℤ) → SFits w64 a → SFits w64 b → eqb (ofZ w64 a) (ofZ w64 b) ≡ eqZ a b
+test-eq (pos m) (pos n) f g = refl
+test-eq (pos m) (negsuc n) f g = ne-eqb m (2 ^ 64 - suc n) (omega arith)
+test-eq (negsuc m) (pos n) f g = ne-eqb (2 ^ 64 - suc m) n (omega arith)
+test-eq (negsuc m) (negsuc n) f g = go (ℕ-discrete m n)
+  where
+    go : Dec (m ≡ n) → eqb (2 ^ 64 - suc m) (2 ^ 64 - suc n) ≡ eqb m n
+    go (yes e) = eq-eqb (2 ^ 64 - suc m) (2 ^ 64 - suc n) (omega arith) ∙ sym (eq-eqb m n e)
+    go (no d) = ne-eqb (2 ^ 64 - suc m) (2 ^ 64 - suc n) (λ e. d (omega arith)) ∙ sym (ne-eqb m n d)

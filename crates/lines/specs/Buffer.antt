@@ -1,0 +1,73 @@
+-- The lines of a branch in one flat buffer. With K constants a form has K + 1 numbers, the coefficients first and d last; line i has its t and then its tA. Assumes nothing.
+use mathlib.Core.List.{List, [], _∷_, map}
+use mathlib.Core.Bool.{Bool, true, false, cond}
+use Prim.Native.Nat.{ℕ, zero, suc, _+_, _*_, _<_, _≤_}
+use lib.Dec.{eqb}
+use lib.ListN.{length, getD, take, drop}
+use lib.Seq.{paste}
+use lib.IntN.{ℤ, pos, _*ℤ_}
+use Rattle.integers.specs.Magnitude.{Within}
+use Rattle.forms.specs.Forms.{Form, Kind, ≤0, =0, Line, line, Constraint, sums}
+use Rattle.calculus.specs.Rules.{_▷_}
+use Rattle.lines.specs.Parts.{part}
+
+-- How many numbers a line has.
+abbrev pub size : ℕ → ℕ
+size K = 2 * (K + 1)
+
+-- The form whose K + 1 numbers stand at a place.
+abbrev pub formIn : (K : ℕ) → List ℤ → (at : ℕ) → Form
+formIn K buf at = record { coeffs = part at K buf; d = getD buf (at + K) (pos 0) }
+
+-- 0 for t ≤ 0, 1 for t = 0.
+unfoldable pub kindOf : ℕ → Kind
+kindOf b = elim (eqb b 0) [ true ↦ ≤0 | false ↦ =0 ]
+
+-- Line i of the buffer.
+unfoldable pub lineIn : (K : ℕ) (kinds : List ℕ) (buf : List ℤ) (i : ℕ) → Line
+lineIn K kinds buf i = line (kindOf (getD kinds i 0)) (formIn K buf (i * size K)) (formIn K buf (i * size K + (K + 1)))
+
+-- The first n lines of the buffer.
+unfoldable pub linesIn : (K : ℕ) (kinds : List ℕ) (buf : List ℤ) (n : ℕ) → List Line
+linesIn K kinds buf zero = []
+linesIn K kinds buf (suc n) = linesIn K kinds buf n ▷ lineIn K kinds buf n
+
+-- Every number of the first n lines is within the range.
+pub record Bounded (K : ℕ) (buf : List ℤ) (n : ℕ) : Type 0 where
+  pub small : (x : ℕ) → x < n * size K → Within 2147483647 (getD buf x (pos 0))
+
+-- A branch of n lines: they are bounded, and the buffer has room for all the lines that a branch may have.
+pub record Branch (K : ℕ) (buf : List ℤ) (n : ℕ) : Type 0 where
+  pub constants : K ≤ 16
+  pub room : 128 * size K ≤ length buf
+  pub bounded : Bounded K buf n
+
+-- f times each number.
+abbrev pub times : ℤ → List ℤ → List ℤ
+times f l = map (λ (c : ℤ). f *ℤ c) l
+
+-- f times the w numbers at a and g times those at b, summed number by number.
+unfoldable pub mixed : (f : ℤ) (a : ℕ) (g : ℤ) (b w : ℕ) → List ℤ → List ℤ
+mixed f a g b w buf = sums (times f (part a w buf)) (times g (part b w buf))
+
+-- The buffer with f times line i and g times line j, summed, as line n.
+unfoldable pub mixedLine : (K : ℕ) (f : ℤ) (i : ℕ) (g : ℤ) (j n : ℕ) → List ℤ → List ℤ
+mixedLine K f i g j n buf = paste buf (n * size K) (mixed f (i * size K) g (j * size K) (size K) buf) (size K)
+
+-- What a sum of multiples asks: the w numbers at a and at b lie before the w numbers at d, the numbers before d are within the range, and the factors are small.
+pub record Terms (buf : List ℤ) (f : ℤ) (a : ℕ) (g : ℤ) (b d w : ℕ) : Type 0 where
+  pub first : a + w ≤ d
+  pub second : b + w ≤ d
+  pub third : d + w ≤ length buf
+  pub small : (x : ℕ) → x < d → Within 2147483647 (getD buf x (pos 0))
+  pub f-in : Within 65535 f
+  pub g-in : Within 65535 g
+
+-- Lines i and j of a branch of n lines that has room for one more, and small factors.
+pub record LineTerms (K : ℕ) (buf : List ℤ) (f : ℤ) (i : ℕ) (g : ℤ) (j n : ℕ) : Type 0 where
+  pub branch : Branch K buf n
+  pub first : i < n
+  pub second : j < n
+  pub space : n < 128
+  pub f-in : Within 65535 f
+  pub g-in : Within 65535 g

@@ -1,0 +1,5 @@
+-- The lines of a branch in a flat buffer, and the laws of what the functions leave there.
+pub mod Parts
+pub mod Buffer
+pub mod Lines
+pub mod Mix

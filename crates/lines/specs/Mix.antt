@@ -1,0 +1,155 @@
+-- A new line as a sum of multiples of two lines: the laws of `mixed` and `mixedLine`. Assumes nothing.
+use mathlib.Core.Path.{_≡_, refl, sym, _∙_, ap, ap₂}
+use mathlib.Core.List.{List, [], _∷_}
+use Prim.Native.Nat.{ℕ, zero, suc, _+_, _*_, _<_, _≤_}
+use native.Mathlib.Nat.{add-assoc, add-zero}
+use native.Mathlib.Omega.{arith}
+use lib.IntN.{ℤ, pos, _+ℤ_, _*ℤ_, +ℤ-idl, +ℤ-idr, *ℤ-zero}
+use lib.ListN.{length, getD, take, drop, length-drop, length-map, List·getD-map}
+use lib.Seq.{paste, length-take-le, length-paste}
+use Rattle.integers.specs.Ring.{var, ring, poly}
+use Rattle.forms.specs.Forms.{Form, Line, line, sums, _⊞_, _·_}
+use Rattle.lines.specs.Parts.{part, part-part, part-paste, getD-part, getD-paste, Agree, agree-paste}
+use Rattle.lines.specs.Buffer.{size, formIn, kindOf, lineIn, times, mixed, mixedLine}
+use Rattle.lines.specs.Lines.{form-ext, line-ext, before}
+
+-- ---- sums and multiples of lists, and their parts
+take-sums : (n : ℕ) (l m : List ℤ) → take n (sums l m) ≡ sums (take n l) (take n m)
+unfolding sums
+take-sums zero l m = refl
+take-sums (suc n) [] m = refl
+take-sums (suc n) (a ∷ l) [] = refl
+take-sums (suc n) (a ∷ l) (b ∷ m) = ap (λ (x : List ℤ). (a +ℤ b) ∷ x) (take-sums n l m)
+
+drop-sums : (n : ℕ) (l m : List ℤ) → drop n (sums l m) ≡ sums (drop n l) (drop n m)
+unfolding sums
+drop-sums zero l m = refl
+drop-sums (suc n) [] m = refl
+drop-sums (suc n) (a ∷ l) [] = sym (right (drop n l))
+  where
+    right : (l : List ℤ) → sums l [] ≡ l
+    right [] = refl
+    right (a ∷ l) = refl
+drop-sums (suc n) (a ∷ l) (b ∷ m) = drop-sums n l m
+
+getD-sums : (l m : List ℤ) (j : ℕ) → getD (sums l m) j (pos 0) ≡ getD l j (pos 0) +ℤ getD m j (pos 0)
+unfolding sums
+getD-sums [] m j = sym (+ℤ-idl (getD m j (pos 0)))
+getD-sums (a ∷ l) [] j = sym (+ℤ-idr (getD (a ∷ l) j (pos 0)))
+getD-sums (a ∷ l) (b ∷ m) zero = refl
+getD-sums (a ∷ l) (b ∷ m) (suc j) = getD-sums l m j
+
+length-sums : (l m : List ℤ) → length l ≡ length m → length (sums l m) ≡ length l
+unfolding sums
+length-sums [] [] h = refl
+length-sums [] (b ∷ m) h = sym h
+length-sums (a ∷ l) [] h = refl
+length-sums (a ∷ l) (b ∷ m) h = ap suc (length-sums l m (omega arith))
+
+take-times : (n : ℕ) (f : ℤ) (l : List ℤ) → take n (times f l) ≡ times f (take n l)
+take-times zero f l = refl
+take-times (suc n) f [] = refl
+take-times (suc n) f (a ∷ l) = ap (λ (x : List ℤ). (f *ℤ a) ∷ x) (take-times n f l)
+
+drop-times : (n : ℕ) (f : ℤ) (l : List ℤ) → drop n (times f l) ≡ times f (drop n l)
+drop-times zero f l = refl
+drop-times (suc n) f [] = refl
+drop-times (suc n) f (a ∷ l) = drop-times n f l
+
+getD-times : (f : ℤ) (l : List ℤ) (j : ℕ) → getD (times f l) j (pos 0) ≡ f *ℤ getD l j (pos 0)
+getD-times f [] j = sym (*ℤ-zero f)
+getD-times f (a ∷ l) zero = refl
+getD-times f (a ∷ l) (suc j) = getD-times f l j
+
+part-sums : (o n : ℕ) (l m : List ℤ) → part o n (sums l m) ≡ sums (part o n l) (part o n m)
+part-sums o n l m = ap (take n) (drop-sums o l m) ∙ take-sums n (drop o l) (drop o m)
+
+part-times : (o n : ℕ) (f : ℤ) (l : List ℤ) → part o n (times f l) ≡ times f (part o n l)
+part-times o n f l = ap (take n) (drop-times o f l) ∙ take-times n f (drop o l)
+
+length-part : (at w : ℕ) (l : List ℤ) → at + w ≤ length l → length (part at w l) ≡ w
+length-part at w l h = length-take-le w (drop at l) (simp length-drop (omega arith))
+
+-- ---- the mixed numbers, and the form and the line that they are
+module _ (f : ℤ) (a : ℕ) (g : ℤ) (b w : ℕ) (buf : List ℤ) where
+  pub part-mixed : (o n : ℕ) → o + n ≤ w → part o n (mixed f a g b w buf) ≡ sums (times f (part (a + o) n buf)) (times g (part (b + o) n buf))
+  unfolding mixed
+  part-mixed o n h =
+      part-sums o n (times f (part a w buf)) (times g (part b w buf))
+      ∙ ap₂ sums (part-times o n f (part a w buf) ∙ ap (times f) (part-part o n a w buf h)) (part-times o n g (part b w buf) ∙ ap (times g) (part-part o n b w buf h))
+
+  pub getD-mixed : (j : ℕ) → j < w → getD (mixed f a g b w buf) j (pos 0) ≡ f *ℤ getD buf (a + j) (pos 0) +ℤ g *ℤ getD buf (b + j) (pos 0)
+  unfolding mixed
+  getD-mixed j h =
+      getD-sums (times f (part a w buf)) (times g (part b w buf)) j
+      ∙ ap₂ _+ℤ_
+      (getD-times f (part a w buf) j ∙ ap (λ (z : ℤ). f *ℤ z) (getD-part a w buf j (pos 0) h))
+      (getD-times g (part b w buf) j ∙ ap (λ (z : ℤ). g *ℤ z) (getD-part b w buf j (pos 0) h))
+
+  module _ (ha : a + w ≤ length buf) (hb : b + w ≤ length buf) where
+    pub length-mixed : length (mixed f a g b w buf) ≡ w
+    unfolding mixed
+    length-mixed =
+        let la = length-map (part a w buf) (λ (c : ℤ). f *ℤ c) ∙ length-part a w buf ha in
+        let lb = length-map (part b w buf) (λ (c : ℤ). g *ℤ c) ∙ length-part b w buf hb in
+        length-sums (times f (part a w buf)) (times g (part b w buf)) (la ∙ sym lb) ∙ la
+
+    pub mixed-form : (K d o : ℕ) → d ≤ length buf → o + K < w
+        → formIn K (paste buf d (mixed f a g b w buf) w) (d + o) ≡ f · formIn K buf (a + o) ⊞ g · formIn K buf (b + o)
+    unfolding _⊞_ _·_
+    mixed-form K d o hd h =
+        let full : w ≤ length (mixed f a g b w buf) = omega (arith, length-mixed) in
+        form-ext
+        (part-paste buf d (mixed f a g b w buf) w hd o K full (omega arith) ∙ part-mixed o K (omega arith))
+        (rw add-assoc (getD-paste buf d (mixed f a g b w buf) w hd (o + K) (pos 0) full h ∙ rw (add-assoc, add-assoc) (getD-mixed (o + K) h)))
+
+module _ (K : ℕ) (f : ℤ) (i : ℕ) (g : ℤ) (j n : ℕ) (buf : List ℤ) (room : 128 * size K ≤ length buf) (hi : i < n) (hj : j < n) (hn : n < 128) where
+  pub mixed-keeps : Agree (n * size K) (mixedLine K f i g j n buf) buf
+  unfolding mixedLine
+  mixed-keeps = agree-paste (n * size K) buf (n * size K) (mixed f (i * size K) g (j * size K) (size K) buf) (size K) (omega (arith, before K hn)) (omega arith)
+
+  pub length-mixedLine : length (mixedLine K f i g j n buf) ≡ length buf
+  unfolding mixedLine
+  length-mixedLine =
+      length-paste buf (n * size K) (mixed f (i * size K) g (j * size K) (size K) buf) (size K) (omega (arith, before K hn))
+      (omega (arith, before K hi, before K hj, before K hn, length-mixed f (i * size K) g (j * size K) (size K) buf (omega (arith, before K hi, before K hn)) (omega (arith, before K hj, before K hn))))
+
+  pub mixed-line : (kinds : List ℕ) (s t : Line) → lineIn K kinds buf i ≡ s → lineIn K kinds buf j ≡ t
+      → lineIn K kinds (mixedLine K f i g j n buf) n ≡ line (kindOf (getD kinds n 0)) (f · s .t ⊞ g · t .t) (f · s .tA ⊞ g · t .tA)
+  unfolding lineIn mixedLine
+  mixed-line kinds s t es et =
+      let m = mixed-form f (i * size K) g (j * size K) (size K) buf (omega (arith, before K hi, before K hn)) (omega (arith, before K hj, before K hn)) K (n * size K) in
+      line-ext refl
+      (rw (add-zero, add-zero, add-zero) at (m 0 (omega (arith, before K hn)) (omega arith)) ∙ ap₂ (λ (x y : Line). f · x .t ⊞ g · y .t) es et)
+      (m (K + 1) (omega (arith, before K hn)) (omega arith) ∙ ap₂ (λ (x y : Line). f · x .tA ⊞ g · y .tA) es et)
+
+-- ---- one factor 1, the other 0
+one-mul : (a : ℤ) → pos 1 *ℤ a ≡ a
+one-mul a = let x = var a in ring (search poly) x (omega arith)
+
+add-zero-mul : (x a : ℤ) → x +ℤ pos 0 *ℤ a ≡ x
+add-zero-mul x a = let y = var x in let z = var a in ring (search poly) y (omega arith)
+
+one-times : (l : List ℤ) → times (pos 1) l ≡ l
+one-times [] = refl
+one-times (a ∷ l) = ap₂ (λ (x : ℤ) (y : List ℤ). x ∷ y) (one-mul a) (one-times l)
+
+sums-zero : (f : ℤ) (l : List ℤ) → sums (times f l) (times (pos 0) l) ≡ times f l
+unfolding sums
+sums-zero f [] = refl
+sums-zero f (a ∷ l) = ap₂ (λ (x : ℤ) (y : List ℤ). x ∷ y) (add-zero-mul (f *ℤ a) a) (sums-zero f l)
+
+pub one-form : (t : Form) → pos 1 · t ≡ t
+unfolding _·_
+one-form t = form-ext (one-times (t .coeffs)) (one-mul (t .d))
+
+-- 1·s + g·t and f·t + 0·t: what a reduce, a scale and a copy write.
+pub mix-one : (s : Form) (g : ℤ) (t : Form) → pos 1 · s ⊞ g · t ≡ s ⊞ g · t
+mix-one s g t = ap (λ (x : Form). x ⊞ g · t) (one-form s)
+
+pub mix-zero : (f : ℤ) (t : Form) → f · t ⊞ pos 0 · t ≡ f · t
+unfolding _⊞_ _·_
+mix-zero f t = form-ext (sums-zero f (t .coeffs)) (add-zero-mul (f *ℤ t .d) (t .d))
+
+pub mix-copy : (t : Form) → pos 1 · t ⊞ pos 0 · t ≡ t
+mix-copy t = mix-zero (pos 1) t ∙ one-form t
