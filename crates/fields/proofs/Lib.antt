@@ -1,5 +1,6 @@
--- The laws of numbers, of framing and notes, and that places do not matter.
+-- The laws of numbers, of framing and notes, of places, and that places do not matter.
 pub mod Notes
 pub mod NumberLaws
 pub mod Framing
 pub mod Bare
+pub mod Places

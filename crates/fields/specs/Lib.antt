@@ -3,3 +3,4 @@ pub mod Answers
 pub mod Numbers
 pub mod Fields
 pub mod Header
+pub mod Places

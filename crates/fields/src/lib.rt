@@ -1,4 +1,6 @@
 // Fields of a file, numbers of any width, and the answer that every operation gives.
+ghost use mathlib.Core.Path.{_≡_};
+ghost use Rattle.fields.specs.Places.{foundAt, fieldsAt, nextOf};
 
 // An answer: a refusal's number, the file and the place at fault. All three are 0 for accepted.
 pub struct Answer {
@@ -12,4 +14,96 @@ pub enum FileKind {
     Bundle,
     Proof,
     Formula,
+}
+
+// What stands at a place of a file.
+pub enum Found {
+    // A whole field: its contents start at start and have len bytes; next is the place after it.
+    Whole {
+        tag: u8,
+        start: usize,
+        len: usize,
+        next: usize,
+    },
+    // Header or contents that run past the end.
+    Broken,
+    // Nothing left.
+    End,
+}
+
+pub fn field_at(s: &[u8], at: usize) -> Found
+    ensures { λ r. ⌜ r ≡ foundAt (now (s .entry)) at ⌝ }
+{
+    if s.len() <= at {
+        return Found::End;
+    }
+    let left = s.len() - at;
+    if left < 3 {
+        return Found::Broken;
+    }
+    let tag = s[at];
+    let high = s[at + 1] as usize;
+    let low = s[at + 2] as usize;
+    let len = high * 256 + low;
+    if left - 3 < len {
+        return Found::Broken;
+    }
+    Found::Whole {
+        tag,
+        start: at + 3,
+        len,
+        next: at + 3 + len,
+    }
+}
+
+// The next field that is no note, with its place, or how the file ends.
+pub enum Next {
+    Field {
+        at: usize,
+        tag: u8,
+        start: usize,
+        len: usize,
+        next: usize,
+    },
+    // Bytes that are no whole field.
+    Cut {
+        at: usize,
+    },
+    Ends {
+        at: usize,
+    },
+}
+
+// Notes are passed over here, and nowhere else.
+pub fn next_field(s: &[u8], at: usize) -> Next
+    ensures { λ r. ⌜ r ≡ nextOf (fieldsAt (now (s .entry)) at) ⌝ }
+{
+    let mut here = at;
+    loop {
+        match field_at(s, here) {
+            Found::Whole {
+                tag,
+                start,
+                len,
+                next,
+            } => {
+                if tag < 0x80 {
+                    return Next::Field {
+                        at: here,
+                        tag,
+                        start,
+                        len,
+                        next,
+                    };
+                }
+                here = next;
+            }
+            Found::Broken => {
+                return Next::Cut { at: here };
+            }
+            Found::End => {
+                return Next::Ends { at: here };
+            }
+        }
+    }
 }
