@@ -4,3 +4,5 @@ pub mod NumberLaws
 pub mod Framing
 pub mod Bare
 pub mod Places
+pub mod Stores
+pub mod Digits

@@ -1,0 +1,110 @@
+// Big-endian numbers of some bytes, unsigned and two's complement, read and written.
+ghost use mathlib.Core.Path.{_≡_};
+ghost use mathlib.Core.Logic.{_⊎_};
+ghost use mathlib.Core.List.{_∷_};
+ghost use Prim.Native.Nat.{_+_, _^_, _<_, _≤_};
+ghost use lib.ListN.{length, take, drop};
+ghost use lib.Seq.{sets};
+ghost use Rattle.fields.specs.Numbers.{unsigned, signed, complement, residue, unsignedBytes, signedBytes};
+ghost use Rattle.fields.specs.Ranges.{Half, Held};
+
+fn wide(x: u8) -> u64
+    ensures { λ r. ⌜ (r ≡ x) × (r < 256) ⌝ }
+{
+    x as u64
+}
+
+// The number of `width` bytes at `at`.
+pub fn unsigned_at(s: &[u8], at: usize, width: usize) -> u64
+    requires { ⌜ width ≤ 4 ⌝ }
+    requires { ⌜ at + width ≤ length (now s) ⌝ }
+    ensures is { λ r. ⌜ r ≡ unsigned (take width (drop at (now (s .entry)))) ⌝ }
+    ensures below { λ r. ⌜ r < 256 ^ width ⌝ }
+{
+    let mut n: u64 = 0;
+    let mut i = 0;
+    while i < width {
+        n = n * 256 + wide(s[at + i]);
+        i += 1;
+    }
+    n
+}
+
+// How many numbers a signed width has.
+fn count_of(width: usize) -> u64
+    requires { ⌜ (width ≡ 2) ⊎ (width ≡ 4) ⌝ }
+    ensures { λ r. ⌜ (r ≡ 256 ^ width) × (r ≤ 0x1_0000_0000) ⌝ }
+{
+    if width == 2 { 0x1_0000 } else { 0x1_0000_0000 }
+}
+
+// n, below full, read as two's complement.
+fn signed_of(n: u64, full: u64) -> i64
+    requires { ⌜ (n < full) × (full ≤ 0x1_0000_0000) ⌝ }
+    ensures { λ r. ⌜ r ≡ complement full n ⌝ }
+{
+    if n + n < full {
+        n as i64
+    } else {
+        n as i64 - full as i64
+    }
+}
+
+// The two's complement number of `width` bytes at `at`.
+pub fn signed_at(s: &[u8], at: usize, width: usize) -> i64
+    requires { ⌜ (width ≡ 2) ⊎ (width ≡ 4) ⌝ }
+    requires { ⌜ at + width ≤ length (now s) ⌝ }
+    ensures is { λ r. ⌜ r ≡ signed (take width (drop at (now (s .entry)))) ⌝ }
+    ensures range { λ r. ⌜ Held width r ⌝ }
+{
+    let n = unsigned_at(s, at, width);
+    let full = count_of(width);
+    signed_of(n, full)
+}
+
+// The `width` last bytes of n, from the last one on.
+pub fn put_unsigned(out: &mut [u8], at: usize, width: usize, n: u64)
+    requires { ⌜ at + width ≤ length (now out) ⌝ }
+    ensures { λ _. ⌜ now (out .exit) ≡ sets (now (out .entry)) at (unsignedBytes width n) ⌝ }
+{
+    let mut m = n;
+    let mut i = width;
+    while 0 < i {
+        i -= 1;
+        out[at + i] = (m % 256) as u8;
+        m /= 256;
+    }
+}
+
+// The other way from signed_of.
+fn residue_of(value: i64, full: u64) -> u64
+    requires { ⌜ Half full value ⌝ }
+    requires { ⌜ full ≤ 0x1_0000_0000 ⌝ }
+    ensures { λ r. ⌜ r ≡ residue full value ⌝ }
+{
+    if value < 0 {
+        (value + full as i64) as u64
+    } else {
+        value as u64
+    }
+}
+
+pub fn put_signed(out: &mut [u8], at: usize, width: usize, value: i64)
+    requires { ⌜ (width ≡ 2) ⊎ (width ≡ 4) ⌝ }
+    requires { ⌜ at + width ≤ length (now out) ⌝ }
+    requires { ⌜ Held width value ⌝ }
+    ensures { λ _. ⌜ now (out .exit) ≡ sets (now (out .entry)) at (signedBytes width value) ⌝ }
+{
+    let full = count_of(width);
+    let n = residue_of(value, full);
+    put_unsigned(out, at, width, n);
+}
+
+// The tag and the two length bytes of a field.
+pub fn put_head(out: &mut [u8], at: usize, tag: u8, len: usize)
+    requires { ⌜ at + 3 ≤ length (now out) ⌝ }
+    ensures { λ _. ⌜ now (out .exit) ≡ sets (now (out .entry)) at (tag ∷ unsignedBytes 2 len) ⌝ }
+{
+    out[at] = tag;
+    put_unsigned(out, at + 1, 2, len as u64);
+}
