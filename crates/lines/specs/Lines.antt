@@ -4,7 +4,7 @@ use mathlib.Core.List.{List, [], _∷_, _++_}
 use mathlib.Core.Logic.{⊎-elim}
 use mathlib.Core.Option.{none, some}
 use Prim.Native.Nat.{ℕ, zero, suc, _+_, _*_, _<_, _≤_}
-use native.Mathlib.Nat.{mul-le-mul-right, eq-or-lt-of-le}
+use native.Mathlib.Nat.{mul-le-mul, mul-le-mul-right, eq-or-lt-of-le}
 use native.Mathlib.Omega.{arith}
 use lib.IntN.{ℤ, pos}
 use lib.ListN.{length, getD, take, drop, getElem?, length-append}
@@ -23,6 +23,10 @@ line-ext e f g = cc
 -- Line i ends before line n starts.
 pub before : (K : ℕ) {i n : ℕ} → i < n → i * size K + size K ≤ n * size K
 before K {i} {n} h = omega (arith, mul-le-mul-right (size K) h)
+
+-- A line's place is a small number.
+pub place-small : {K i : ℕ} → K ≤ 16 → i ≤ 128 → i * size K ≤ 4352
+place-small {K} {i} hK hi = let h : size K ≤ 34 = omega arith in omega (arith, mul-le-mul hi h)
 
 module _ (K : ℕ) (kinds : List ℕ) (buf : List ℤ) where
   pub length-lines : (n : ℕ) → length (linesIn K kinds buf n) ≡ n
