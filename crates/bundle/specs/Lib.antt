@@ -1,6 +1,7 @@
 -- Constraint bundles: reading, writing, showing a constraint.
 pub mod Bundle
 pub mod Layout
+pub mod Scan
 pub mod Read
 pub mod Write
 pub mod Show

@@ -6,3 +6,4 @@ pub mod Bare
 pub mod Places
 pub mod Stores
 pub mod Digits
+pub mod Headers

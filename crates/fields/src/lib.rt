@@ -2,6 +2,7 @@
 ghost use mathlib.Core.Path.{_≡_};
 ghost use Rattle.fields.specs.Places.{foundAt, fieldsAt, nextOf};
 
+pub mod header;
 pub mod numbers;
 
 // An answer: a refusal's number, the file and the place at fault. All three are 0 for accepted.

@@ -1,0 +1,173 @@
+-- Going over a bundle: the code's count and faults are those of the definitions. Assumes nothing.
+use mathlib.Core.Path.{_≡_, refl, sym, ap, _∙_}
+use mathlib.Core.Option.{Option, none, some}
+use mathlib.Core.Bool.{Bool, true, false, _&&_, _||_}
+use mathlib.Core.List.{List, [], _∷_}
+use Prim.Native.Nat.{ℕ, zero, suc, _+_, _<_, _≤_}
+use native.Mathlib.Omega.{arith}
+use lib.Dec.{leb, ltb, eqb}
+use lib.ListN.{length}
+use borrow.Author.Tests.{ltb-true, ltb-false, eqb-true, eqb-false, leb-true, leb-false, eq-eqb, ne-eqb, le-leb, lt-leb}
+use Rattle.forms.specs.Edition.{edition1}
+use Rattle.forms.specs.Forms.{Kind, ≤0, =0, Form, Constraint}
+use Rattle.fields.specs.declared.FileKind.{FileKind}
+use Rattle.fields.specs.declared.header.Headed.{Headed}
+use Rattle.fields.specs.Answers.{answer, acceptance, Result, refused, accepted, _>>=_, _>>_, need, found}
+use Rattle.fields.specs.Numbers.{formFrom, formWidth}
+use Rattle.fields.specs.Fields.{Field, Fields, ends, cut, _▸_, fields}
+use Rattle.fields.specs.Header.{Header, headerTag, known, header}
+use Rattle.fields.specs.Places.{fieldsAt, givenK, headedOf, IsHeader}
+use Rattle.fields.proofs.Places.{Starts, starts-size}
+use Rattle.bundle.specs.Bundle.{Bundle, kindTagged, constraints, bundle}
+use Rattle.bundle.specs.Scan.{pick, faultOf, passed, counted, stated, countedOf, scanned}
+use Rattle.bundle.specs.declared.constraints.Counted.{Counted}
+
+-- ---- one turn
+module _ {s : List ℕ} {at a t start len next : ℕ} (k : Starts s at a t start len next) (K n : ℕ) where
+  counted-on : counted K n (fieldsAt s at) ≡ passed (faultOf K n t len) a (counted K (suc n) (fieldsAt s next))
+  unfolding counted
+  counted-on = rw (k .is, starts-size k)
+
+  module _ {number : ℕ} (f : number ≡ faultOf K n t len) where
+    pub counted-fault : (number ≡ 0 → ⊥) → counted K n (fieldsAt s at) ≡ Counted.Refused number a
+    counted-fault h = counted-on ∙ rw (← f) (go number h)
+      where
+        go : (m : ℕ) → (m ≡ 0 → ⊥) → passed m a (counted K (suc n) (fieldsAt s next)) ≡ Counted.Refused m a
+        go zero h = absurd (h refl)
+        go (suc m) h = refl
+
+    pub counted-next : number ≡ 0 → counted K n (fieldsAt s at) ≡ counted K (n + 1) (fieldsAt s next)
+    counted-next e =
+        let z : suc n ≡ n + 1 = omega arith in
+        counted-on ∙ rw (← f, e, z)
+
+pub counted-cut : (K n : ℕ) {fs : Fields} {a : ℕ} → fs ≡ cut a → counted K n fs ≡ Counted.Refused 2 a
+unfolding counted
+counted-cut K n e = rw e
+
+pub counted-ends : (K n : ℕ) {fs : Fields} {a : ℕ} → fs ≡ ends a → counted K n fs ≡ Counted.Count n
+unfolding counted
+counted-ends K n e = rw e
+
+-- ---- a field without fault
+pub record Right (K n tag len : ℕ) : Type 0 where
+  pub has : known FileKind.Bundle tag ≡ true
+  pub from : ltb tag 0x03 ≡ false
+  pub size : eqb len (formWidth 2 K) ≡ true
+  pub room : ltb n 32 ≡ true
+
+-- the fault by its tests, each with its equation
+right-of : (K n tag len : ℕ) → faultOf K n tag len ≡ 0 → Right K n tag len
+right-of K n tag len e = go (known FileKind.Bundle tag) (ltb tag 0x03) (eqb len (formWidth 2 K)) (ltb n 32) refl refl refl refl e
+  where
+    go : (p q r u : Bool) → known FileKind.Bundle tag ≡ p → ltb tag 0x03 ≡ q → eqb len (formWidth 2 K) ≡ r → ltb n 32 ≡ u
+        → _≡_ {A = ℕ} (pick p (pick q 4 (pick r (pick u 0 8) 6)) 3) 0 → Right K n tag len
+    go true false true true a b c d e = record { has = a; from = b; size = c; room = d }
+    go true false true false a b c d e = absurd (omega arith)
+    go true false false u a b c d e = absurd (omega arith)
+    go true true r u a b c d e = absurd (omega arith)
+    go false q r u a b c d e = absurd (omega arith)
+
+pub counted-room : (K n tag len : ℕ) {number : ℕ} → number ≡ faultOf K n tag len → number ≡ 0 → n < 32
+counted-room K n tag len f e = ltb-true n 32 (right-of K n tag len (sym f ∙ e) .room)
+
+-- ---- the definitions
+-- the kind that a tag names, by the tests of the code
+kind-of : (tag : ℕ) → known FileKind.Bundle tag ≡ true → ltb tag 0x03 ≡ false → kindTagged tag ≡ some (pick (eqb tag 0x03) ≤0 =0)
+unfolding kindTagged known headerTag
+kind-of tag h l = go (eqb tag 0x03) (eqb tag 0x04) refl refl
+  where
+    go : (p q : Bool) → eqb tag 0x03 ≡ p → eqb tag 0x04 ≡ q
+        → _≡_ {A = Option Kind} (elim p [ true ↦ some ≤0 | false ↦ elim q [ true ↦ some =0 | false ↦ none ] ]) (some (pick p ≤0 =0))
+    go true q a b = refl
+    go false true a b = refl
+    go false false a b =
+        let from = ltb-false tag 3 l in
+        let three = eqb-false tag 3 a in
+        let four = eqb-false tag 4 b in
+        let big : 4 < tag = go2 from three four in
+        let one : eqb tag 1 ≡ false = ne-eqb tag 1 (λ e. omega arith) in
+        let two : eqb tag 2 ≡ false = ne-eqb tag 2 (λ e. omega arith) in
+        let no : leb tag 4 ≡ false = lt-leb tag 4 big in
+        let yes : leb 3 tag ≡ true = le-leb 3 tag from in
+        absurd (let z : _≡_ {A = Bool} true false = sym h ∙ rw (one, two, yes, no) in let w : _≡_ {A = ℕ} 0 1 = cc in omega arith)
+      where
+        go2 : 3 ≤ tag → (tag ≡ 3 → ⊥) → (tag ≡ 4 → ⊥) → 4 < tag
+        go2 x y z = omega arith
+
+no-kind : (tag : ℕ) → ltb tag 0x03 ≡ true → kindTagged tag ≡ none
+unfolding kindTagged
+no-kind tag l =
+    let small = ltb-true tag 3 l in
+    go (eqb tag 0x03) (eqb tag 0x04) (ne-eqb tag 3 (λ e. omega arith)) (ne-eqb tag 4 (λ e. omega arith))
+  where
+    go : (p q : Bool) → p ≡ false → q ≡ false → _≡_ {A = Option Kind} (elim p [ true ↦ some ≤0 | false ↦ elim q [ true ↦ some =0 | false ↦ none ] ]) none
+    go true q a b = absurd (let z : _≡_ {A = ℕ} 0 1 = cc in omega arith)
+    go false true a b = absurd (let z : _≡_ {A = ℕ} 0 1 = cc in omega arith)
+    go false false a b = refl
+
+module _ (file K : ℕ) where
+  -- the constraint of a field before those after it
+  after : (f : Field) (fs : Fields) (r : Counted)
+      → (countedOf file K fs r >>= (λ (cs : List Constraint). accepted (record { kind = pick (eqb (f .tag) 0x03) ≤0 =0; form = formFrom 2 K (f .contents) } ∷ cs)))
+      ≡ countedOf file K (f ▸ fs) r
+  unfolding _>>=_ stated
+  after f fs (Counted.Count n) = refl
+  after f fs (Counted.Refused n a) = refl
+
+  -- the tests of one field, each way
+  tests : (a : ℕ) (form : Form) (fs : Fields) (κ : Kind) (o : Option Kind) (X : Result (List Constraint)) (c : Counted) (p q r u : Bool)
+      → (q ≡ true → o ≡ none) → (p ≡ true → q ≡ false → o ≡ some κ)
+      → (X >>= (λ (cs : List Constraint). accepted (record { kind = κ; form = form } ∷ cs))) ≡ countedOf file K fs c
+      → (need (answer 3 file a) p >> (found (answer 4 file a) o >>= (λ (kind : Kind).
+      need (answer 6 file a) r >> (need (answer 8 file a) u >> (X >>= (λ (cs : List Constraint). accepted (record { kind = kind; form = form } ∷ cs)))))))
+      ≡ countedOf file K fs (passed (pick p (pick q 4 (pick r (pick u 0 8) 6)) 3) a c)
+  unfolding need _>>_ _>>=_ found
+  tests a form fs κ o X c false q r u none-if some-if e = refl
+  tests a form fs κ o X c true true r u none-if some-if e = rw (none-if refl)
+  tests a form fs κ o X c true false false u none-if some-if e = rw (some-if refl refl)
+  tests a form fs κ o X c true false true false none-if some-if e = rw (some-if refl refl)
+  tests a form fs κ o X c true false true true none-if some-if e = rw (some-if refl refl) e
+
+  pub constraints-counted : (n : ℕ) (fs : Fields) → constraints file edition1 K n fs ≡ countedOf file K fs (counted K n fs)
+  unfolding constraints counted stated
+  constraints-counted n (ends at) = refl
+  constraints-counted n (cut at) = refl
+  constraints-counted n (f ▸ fs) =
+      tests (f .at) (formFrom 2 K (f .contents)) (f ▸ fs) (pick (eqb (f .tag) 0x03) ≤0 =0) (kindTagged (f .tag))
+      (constraints file edition1 K (suc n) fs) (counted K (suc n) fs)
+      (known FileKind.Bundle (f .tag)) (ltb (f .tag) 0x03) (eqb (length (f .contents)) (formWidth 2 K)) (ltb n 32)
+      (no-kind (f .tag)) (kind-of (f .tag))
+      (rw (constraints-counted (suc n) fs) (after f fs (counted K (suc n) fs)))
+
+passed-count : (x a m : ℕ) (c : Counted) → passed x a c ≡ Counted.Count m → c ≡ Counted.Count m
+passed-count zero a m c e = e
+passed-count (suc x) a m c e = absurd (let z : _≡_ {A = ℕ} 0 1 = cc in omega arith)
+
+pub count-is : (K n m : ℕ) (fs : Fields) → counted K n fs ≡ Counted.Count m → m ≡ n + length (stated K fs)
+unfolding counted stated
+count-is K n m (ends at) e = let q : n ≡ m = cc in omega arith
+count-is K n m (cut at) e = absurd (let z : _≡_ {A = ℕ} 0 1 = cc in omega arith)
+count-is K n m (f ▸ fs) e = omega (arith, count-is K (suc n) m fs (passed-count (faultOf K n (f .tag) (length (f .contents))) (f .at) m (counted K (suc n) fs) e))
+
+-- ---- a whole bundle
+module _ {given : ℕ} {s : List ℕ} {r : Headed} (h : IsHeader FileKind.Bundle given s r) where
+  pub scan-header : (file : ℕ) {n a : ℕ} → r ≡ Headed.Refused n a → bundle file (givenK given) (fields s) ≡ refused (answer n file a)
+  unfolding bundle _>>=_
+  scan-header file e = rw (h .is file, e)
+
+  module _ {k next : ℕ} (e : r ≡ Headed.Header k next) (file : ℕ) {q : Counted} (c : q ≡ counted k 0 (fieldsAt s next)) where
+    pub scan-fault : {n a : ℕ} → q ≡ Counted.Refused n a → bundle file (givenK given) (fields s) ≡ refused (answer n file a)
+    unfolding bundle _>>=_
+    scan-fault t = rw (h .is file, e, constraints-counted file k 0 (fieldsAt s next), ← c, t)
+
+    pub scan-bundle : {n : ℕ} → q ≡ Counted.Count n
+        → bundle file (givenK given) (fields s) ≡ accepted (record { K = k; constraints = stated k (fieldsAt s next) })
+    unfolding bundle _>>=_
+    scan-bundle t = rw (h .is file, e, constraints-counted file k 0 (fieldsAt s next), ← c, t)
+
+    pub scan-count : {n : ℕ} → q ≡ Counted.Count n
+        → scanned (bundle file (givenK given) (fields s)) ≡ record { answer = acceptance; k = k; count = n }
+    scan-count {n} t =
+        let m : length (stated k (fieldsAt s next)) ≡ n = omega (arith, count-is k 0 n (fieldsAt s next) (sym c ∙ t)) in
+        ap scanned (scan-bundle t) ∙ rw m

@@ -1,0 +1,56 @@
+-- `bundle::scan` meets its contract: each `return` cites the law for its way. Assumes nothing.
+use mathlib.Core.Path.{_≡_, sym, ap, _∙_}
+use Rattle.bundle.specs.Scan.{scanned}
+use Rattle.bundle.proofs.Scanning.{scan-header, scan-fault, scan-count}
+use borrow.Author.Needs.{needs}
+use Rattle.bundle.proofs.scan.Statement.{statement}
+use Rattle.bundle.proofs.scan.Tie as tie
+
+read-header-requires : tie.Need-read-header-requires
+read-header-requires c κs = search needs
+
+enum-known-k : tie.Need-enum-known-k
+enum-known-k c = search needs
+
+count-constraints-requires : tie.Need-count-constraints-requires
+count-constraints-requires c κs = search needs
+
+enum-known-count : tie.Need-enum-known-count
+enum-known-count c = search needs
+
+enum-known-number : tie.Need-enum-known-number
+enum-known-number c = search needs
+
+refused-scan-requires : tie.Need-refused-scan-requires
+refused-scan-requires c κs = search needs
+
+enum-known-number-2 : tie.Need-enum-known-number-2
+enum-known-number-2 c = search needs
+
+refused-scan-requires-2 : tie.Need-refused-scan-requires-2
+refused-scan-requires-2 c κs = search needs
+
+returns : tie.Need-returns
+returns c = sym (scan-count (c .before .before .before .before .before .before .before .read-header .ensures) (c .before .before .before .before .before .k .given .1) _ (c .before .before .before .count-constraints .ensures) (c .before .count .given .1))
+
+returns-2 : tie.Need-returns-2
+returns-2 c = c .refused-scan .ensures ∙ sym (ap scanned (scan-fault (c .before .before .before .before .before .before .before .before .read-header .ensures) (c .before .before .before .before .before .before .k .given .1) _ (c .before .before .before .before .count-constraints .ensures) (c .before .before .number .given .1)))
+
+returns-3 : tie.Need-returns-3
+returns-3 c = c .refused-scan2 .ensures ∙ sym (ap scanned (scan-header (c .before .before .before .before .read-header .ensures) _ (c .before .before .number2 .given .1)))
+
+pub scan-spec : {M : Type 1} → statement M
+scan-spec =
+    tie.close
+    (tie.spec
+    read-header-requires
+    enum-known-k
+    count-constraints-requires
+    enum-known-count
+    enum-known-number
+    refused-scan-requires
+    enum-known-number-2
+    refused-scan-requires-2
+    returns
+    returns-2
+    returns-3)

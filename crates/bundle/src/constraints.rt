@@ -1,0 +1,64 @@
+// The constraints after a bundle's header, gone over one by one.
+use fields::FileKind;
+use fields::Next;
+use fields::header::known;
+use fields::next_field;
+ghost use mathlib.Core.Path.{_≡_};
+ghost use Rattle.fields.specs.Places.{fieldsAt};
+ghost use Rattle.bundle.specs.Scan.{faultOf, counted};
+
+// How many constraints, or the first fault.
+pub enum Counted {
+    Count { count: usize },
+    Refused { number: u8, place: usize },
+}
+
+// What a field is refused for as constraint n; 0 for nothing.
+fn constraint_fault(k: u8, n: usize, tag: u8, len: usize) -> u8
+    ensures { λ r. ⌜ r ≡ faultOf k n tag len ⌝ }
+{
+    if known(FileKind::Bundle, tag) {
+        if tag < 0x03 {
+            return 4;
+        }
+        if len != (k as usize + 1) * 2 {
+            return 6;
+        }
+        if n < 32 {
+            return 0;
+        }
+        return 8;
+    }
+    3
+}
+
+pub fn count_constraints(s: &[u8], at: usize, k: u8) -> Counted
+    ensures { λ r. ⌜ r ≡ counted k 0 (fieldsAt (now (s .entry)) at) ⌝ }
+{
+    let mut here = at;
+    let mut n: usize = 0;
+    loop {
+        match next_field(s, here) {
+            Next::Field {
+                at: place,
+                tag,
+                start: _,
+                len,
+                next,
+            } => {
+                let number = constraint_fault(k, n, tag, len);
+                if number != 0 {
+                    return Counted::Refused { number, place };
+                }
+                n += 1;
+                here = next;
+            }
+            Next::Cut { at: place } => {
+                return Counted::Refused { number: 2, place };
+            }
+            Next::Ends { at: _ } => {
+                return Counted::Count { count: n };
+            }
+        }
+    }
+}

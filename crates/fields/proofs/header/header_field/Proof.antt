@@ -1,0 +1,64 @@
+-- `fields::header::header_field` meets its contract: each `return` cites the law for its way. Assumes nothing.
+use mathlib.Core.Path.{_≡_, sym, ap, _∙_}
+use native.Mathlib.Omega.{arith}
+use Rattle.fields.proofs.Places.{starts, next-cut, next-ends}
+use Rattle.fields.proofs.Headers.{field-unknown, field-other, field-size, field-value, field-cut, field-ends}
+use borrow.Author.Needs.{needs}
+use Rattle.fields.proofs.header.header_field.Statement.{statement}
+use Rattle.fields.proofs.header.header_field.Tie as tie
+
+next-field-requires : tie.Need-next-field-requires
+next-field-requires c κs = search needs
+
+enum-known-place : tie.Need-enum-known-place
+enum-known-place c = search needs
+
+known-requires : tie.Need-known-requires
+known-requires c κs = search needs
+
+returns : tie.Need-returns
+returns c = field-other (starts (c .before .before .before .before .before .before .next-field .ensures) (c .before .before .before .before .place .given .1)) (sym (c .before .before .known .ensures) ∙ c .before .if1 .taken) (c .if2 .taken)
+
+returns-2 : tie.Need-returns-2
+returns-2 c = field-size (starts (c .before .before .before .before .before .before .before .next-field .ensures) (c .before .before .before .before .before .place .given .1)) (sym (c .before .before .before .known .ensures) ∙ c .before .before .if1 .taken) (c .before .if2 .left) (c .if3 .taken)
+
+shared-slice-read-t17 : tie.Need-shared-slice-read-t17
+shared-slice-read-t17 c =
+    let k = starts (c .before .before .before .before .before .before .before .before .next-field .ensures) (c .before .before .before .before .before .before .place .given .1) in
+    let l = c .before .if3 .left in
+    omega (arith, k .upto, k .next-is, l)
+
+returns-3 : tie.Need-returns-3
+returns-3 c = field-value (starts (c .before .before .before .before .before .before .before .before .next-field .ensures) (c .before .before .before .before .before .before .place .given .1)) (sym (c .before .before .before .before .known .ensures) ∙ c .before .before .before .if1 .taken) (c .before .before .if2 .left) (c .before .if3 .left)
+
+enum-known-place-2 : tie.Need-enum-known-place-2
+enum-known-place-2 c = search needs
+
+enum-known-place-3 : tie.Need-enum-known-place-3
+enum-known-place-3 c = search needs
+
+returns-4 : tie.Need-returns-4
+returns-4 c = field-unknown (starts (c .before .before .before .before .before .next-field .ensures) (c .before .before .before .place .given .1)) (sym (c .before .known .ensures) ∙ c .if1 .left)
+
+returns-5 : tie.Need-returns-5
+returns-5 c = field-cut _ _ (next-cut _ (c .before .before .before .next-field .ensures) (c .before .place2 .given .1))
+
+returns-6 : tie.Need-returns-6
+returns-6 c = field-ends _ _ (next-ends _ (c .before .before .before .next-field .ensures) (c .before .place3 .given .1))
+
+pub header-field-spec : {M : Type 1} → statement M
+header-field-spec =
+    tie.close
+    (tie.spec
+    next-field-requires
+    enum-known-place
+    known-requires
+    returns
+    returns-2
+    shared-slice-read-t17
+    returns-3
+    enum-known-place-2
+    enum-known-place-3
+    returns-4
+    returns-5
+    returns-6)
