@@ -3,9 +3,9 @@ use mathlib.Core.List.{List, [], _∷_, map}
 use mathlib.Core.Bool.{Bool, true, false, cond}
 use Prim.Native.Nat.{ℕ, zero, suc, _+_, _*_, _<_, _≤_}
 use lib.Dec.{eqb}
-use lib.ListN.{length, getD, take, drop}
+use lib.ListN.{length, getD, set}
 use lib.Seq.{paste}
-use lib.IntN.{ℤ, pos, _*ℤ_}
+use lib.IntN.{ℤ, pos, _+ℤ_, _*ℤ_}
 use Rattle.integers.specs.Magnitude.{Within}
 use Rattle.forms.specs.Forms.{Form, Kind, ≤0, =0, Line, line, Constraint, sums}
 use Rattle.calculus.specs.Rules.{_▷_}
@@ -53,6 +53,10 @@ mixed f a g b w buf = sums (times f (part a w buf)) (times g (part b w buf))
 -- The buffer with f times line i and g times line j, summed, as line n.
 unfoldable pub mixedLine : (K : ℕ) (f : ℤ) (i : ℕ) (g : ℤ) (j n : ℕ) → List ℤ → List ℤ
 mixedLine K f i g j n buf = paste buf (n * size K) (mixed f (i * size K) g (j * size K) (size K) buf) (size K)
+
+-- The buffer with one more at a place.
+unfoldable pub plusOne : (at : ℕ) → List ℤ → List ℤ
+plusOne at buf = set buf at (getD buf at (pos 0) +ℤ pos 1)
 
 -- What a sum of multiples asks: the w numbers at a and at b lie before the w numbers at d, the numbers before d are within the range, and the factors are small.
 pub record Terms (buf : List ℤ) (f : ℤ) (a : ℕ) (g : ℤ) (b d w : ℕ) : Type 0 where

@@ -3,3 +3,6 @@ pub mod Parts
 pub mod Buffer
 pub mod Lines
 pub mod Mix
+pub mod Range
+pub mod Plus
+pub mod Occurrence

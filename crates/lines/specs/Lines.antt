@@ -7,11 +7,10 @@ use Prim.Native.Nat.{ℕ, zero, suc, _+_, _*_, _<_, _≤_}
 use native.Mathlib.Nat.{mul-le-mul, mul-le-mul-right, eq-or-lt-of-le}
 use native.Mathlib.Omega.{arith}
 use lib.IntN.{ℤ, pos}
-use lib.ListN.{length, getD, take, drop, getElem?, length-append}
-use lib.Seq.{getD-take}
+use lib.ListN.{length, getD, getElem?, length-append}
 use Rattle.forms.specs.Forms.{Form, Kind, Line, line}
 use Rattle.calculus.specs.Rules.{_▷_}
-use Rattle.lines.specs.Parts.{part-take, Agree, agree-le, agree-getD, getElem?-snoc-below, getElem?-snoc, getElem?-past}
+use Rattle.lines.specs.Parts.{Agree, agree-le, agree-getD, agree-part, getElem?-snoc-below, getElem?-snoc, getElem?-past}
 use Rattle.lines.specs.Buffer.{size, formIn, kindOf, lineIn, linesIn, Bounded}
 
 pub form-ext : {s t : Form} → s .coeffs ≡ t .coeffs → s .d ≡ t .d → s ≡ t
@@ -47,12 +46,9 @@ module _ (K : ℕ) (kinds : List ℕ) (buf : List ℤ) where
   line-past n i h = getElem?-past (linesIn K kinds buf n) i (omega (arith, length-lines n))
 
 -- A form depends on the numbers up to its end only.
-pub form-take : (K : ℕ) (buf : List ℤ) (at m : ℕ) → at + K < m → formIn K (take m buf) at ≡ formIn K buf at
-form-take K buf at m h = form-ext (part-take at K m buf (omega arith)) (getD-take m buf (at + K) (pos 0) h)
-
 module _ (K : ℕ) {buf buf′ : List ℤ} where
   pub form-same : {m : ℕ} → Agree m buf buf′ → (at : ℕ) → at + K < m → formIn K buf at ≡ formIn K buf′ at
-  form-same {m} a at h = sym (form-take K buf at m h) ∙ ap (λ (l : List ℤ). formIn K l at) (a .first) ∙ form-take K buf′ at m h
+  form-same a at h = form-ext (agree-part a at K (omega arith)) (agree-getD a (at + K) (pos 0) h)
 
   module _ {kinds kinds′ : List ℕ} where
     pub line-same : {n : ℕ} → Agree (n * size K) buf buf′ → Agree n kinds kinds′ → (i : ℕ) → i < n → lineIn K kinds buf i ≡ lineIn K kinds′ buf′ i

@@ -114,10 +114,11 @@ module _ (K : ℕ) (f : ℤ) (i : ℕ) (g : ℤ) (j n : ℕ) (buf : List ℤ) (r
       length-paste buf (n * size K) (mixed f (i * size K) g (j * size K) (size K) buf) (size K) (omega (arith, before K hn))
       (omega (arith, before K hi, before K hj, before K hn, length-mixed f (i * size K) g (j * size K) (size K) buf (omega (arith, before K hi, before K hn)) (omega (arith, before K hj, before K hn))))
 
-  pub mixed-line : (kinds : List ℕ) (s t : Line) → lineIn K kinds buf i ≡ s → lineIn K kinds buf j ≡ t
-      → lineIn K kinds (mixedLine K f i g j n buf) n ≡ line (kindOf (getD kinds n 0)) (f · s .t ⊞ g · t .t) (f · s .tA ⊞ g · t .tA)
+  -- (kinds′ may have the new line's kind already.)
+  pub mixed-line : (kinds kinds′ : List ℕ) (s t : Line) → lineIn K kinds buf i ≡ s → lineIn K kinds buf j ≡ t
+      → lineIn K kinds′ (mixedLine K f i g j n buf) n ≡ line (kindOf (getD kinds′ n 0)) (f · s .t ⊞ g · t .t) (f · s .tA ⊞ g · t .tA)
   unfolding lineIn mixedLine
-  mixed-line kinds s t es et =
+  mixed-line kinds kinds′ s t es et =
       let m = mixed-form f (i * size K) g (j * size K) (size K) buf (omega (arith, before K hi, before K hn)) (omega (arith, before K hj, before K hn)) K (n * size K) in
       line-ext refl
       (rw (add-zero, add-zero, add-zero) at (m 0 (omega (arith, before K hn)) (omega arith)) ∙ ap₂ (λ (x y : Line). f · x .t ⊞ g · y .t) es et)

@@ -92,6 +92,9 @@ module _ {A : Type 0} where
   pub agree-getD : {m : ℕ} {l k : List A} → Agree m l k → (i : ℕ) (z : A) → i < m → getD l i z ≡ getD k i z
   agree-getD {m} {l} {k} a i z h = sym (getD-take m l i z h) ∙ ap (λ (x : List A). getD x i z) (a .first) ∙ getD-take m k i z h
 
+  pub agree-part : {m : ℕ} {l k : List A} → Agree m l k → (at n : ℕ) → at + n ≤ m → part at n l ≡ part at n k
+  agree-part {m} {l} {k} a at n h = sym (part-take at n m l h) ∙ ap (part at n) (a .first) ∙ part-take at n m k h
+
   -- A store behind the first m elements.
   pub agree-set : (m : ℕ) (l : List A) (i : ℕ) (x : A) → m ≤ i → Agree m (set l i x) l
   agree-set m l i x h = record { first = take-set-le m l i x h }

@@ -1,7 +1,38 @@
 // The lines of a branch in one flat lent buffer: the functions that read and write them.
 ghost use mathlib.Core.Path.{_≡_};
+ghost use mathlib.Core.Bool.{not, _&&_, _||_};
+ghost use Prim.Native.Nat.{_+_, _*_, _<_, _≤_};
+ghost use lib.Dec.{eqb};
+ghost use lib.ListN.{length, getD};
 ghost use lib.Seq.{paste};
-ghost use Rattle.lines.specs.Buffer.{Terms, LineTerms, mixed, mixedLine};
+ghost use lib.IntN.{pos};
+ghost use lib.Signed.{_≤ℤ_};
+ghost use Rattle.integers.specs.Magnitude.{Within};
+ghost use Rattle.integers.specs.Linear.{eqZ};
+ghost use Rattle.integers.specs.Divides.{divb};
+ghost use Rattle.forms.specs.Forms.{nonzero, within};
+ghost use Rattle.calculus.specs.Rules.{small, every};
+ghost use Rattle.fields.specs.Numbers.{flat};
+ghost use Rattle.proof.specs.Rows.{common};
+ghost use Rattle.lines.specs.Parts.{part};
+ghost use Rattle.lines.specs.Buffer.{size, formIn, Terms, LineTerms, mixed, mixedLine, plusOne};
+ghost use Rattle.lines.specs.Occurrence.{Span, occursIn, bit, bits, told};
+
+// Where the numbers of line i's t start, with k constants.
+pub fn place(i: usize, k: usize) -> usize
+    requires { ⌜ (i ≤ 128) × (k ≤ 16) ⌝ }
+    ensures { λ r. ⌜ r ≡ i * size k ⌝ }
+{
+    i * (2 * (k + 1))
+}
+
+// Where the numbers of line i's tA start.
+pub fn place_a(i: usize, k: usize) -> usize
+    requires { ⌜ (i ≤ 128) × (k ≤ 16) ⌝ }
+    ensures { λ r. ⌜ r ≡ i * size k + (k + 1) ⌝ }
+{
+    i * (2 * (k + 1)) + (k + 1)
+}
 
 // f times the w numbers at a and g times those at b, summed, in place of the w numbers at d.
 fn mix_numbers(lines: &mut [i64], f: i64, a: usize, g: i64, b: usize, d: usize, w: usize)
@@ -25,4 +56,106 @@ pub fn mix(lines: &mut [i64], f: i64, i: usize, g: i64, j: usize, n: usize, k: u
 {
     let size = 2 * (k + 1);
     mix_numbers(lines, f, i * size, g, j * size, n * size, size);
+}
+
+// One more at a place.
+pub fn add_one(lines: &mut [i64], at: usize)
+    requires { ⌜ at < length (now lines) ⌝ }
+    requires { ⌜ Within 2147483647 (getD (now lines) at (pos 0)) ⌝ }
+    ensures { λ _. ⌜ now (lines .exit) ≡ plusOne at (now (lines .entry)) ⌝ }
+{
+    let x = lines[at];
+    let sum = integers::linear(1, x, 1, 1);
+    lines[at] = sum;
+}
+
+// Whether all of the numbers at a place are within the range.
+pub fn fits(lines: &[i64], at: usize, count: usize) -> bool
+    requires { ⌜ at + count ≤ length (now lines) ⌝ }
+    ensures { λ r. ⌜ r ≡ every (small 2147483647) (part at count (now (lines .entry))) ⌝ }
+{
+    let mut x = 0;
+    while x < count {
+        if !integers::in_range(lines[at + x]) {
+            return false;
+        }
+        x += 1;
+    }
+    true
+}
+
+// Whether the k coefficients at a place are all 0.
+pub fn all_zero(lines: &[i64], at: usize, k: usize) -> bool
+    requires { ⌜ at + k ≤ length (now lines) ⌝ }
+    ensures { λ r. ⌜ r ≡ every (λ c. eqZ c (pos 0)) (part at k (now (lines .entry))) ⌝ }
+{
+    let mut x = 0;
+    while x < k {
+        if !integers::is_zero(lines[at + x]) {
+            return false;
+        }
+        x += 1;
+    }
+    true
+}
+
+// Whether g divides each of the k coefficients at a place.
+pub fn all_divisible(lines: &[i64], at: usize, k: usize, g: i64) -> bool
+    requires { ⌜ at + k ≤ length (now lines) ⌝ }
+    requires { ⌜ (pos 2) ≤ℤ g ⌝ }
+    ensures { λ r. ⌜ r ≡ every (divb g) (part at k (now (lines .entry))) ⌝ }
+{
+    let mut x = 0;
+    while x < k {
+        if !integers::divides(g, lines[at + x]) {
+            return false;
+        }
+        x += 1;
+    }
+    true
+}
+
+// Whether some t of the lines from..to has a non-zero coefficient of constant c.
+fn occurs_in(lines: &[i64], from: usize, to: usize, k: usize, c: usize) -> bool
+    requires { ⌜ Span k (now lines) from to ⌝ }
+    requires { ⌜ c < k ⌝ }
+    ensures { λ r. ⌜ r ≡ occursIn k (now (lines .entry)) from to c ⌝ }
+{
+    let mut i = from;
+    while i < to {
+        let at = place(i, k);
+        if !integers::is_zero(lines[at + c]) {
+            return true;
+        }
+        i += 1;
+    }
+    false
+}
+
+// The mask's byte for constant c; no line has a coefficient for a constant past the last.
+fn occurrence(lines: &[i64], from: usize, to: usize, k: usize, c: usize) -> u8
+    requires { ⌜ Span k (now lines) from to ⌝ }
+    ensures { λ r. ⌜ r ≡ bit (occursIn k (now (lines .entry)) from to c) ⌝ }
+{
+    if k <= c {
+        return 0;
+    }
+    if occurs_in(lines, from, to, k, c) {
+        return 1;
+    }
+    0
+}
+
+// The mask of the constants that occur in the constraints of the lines from..to.
+pub fn occurrences(lines: &[i64], from: usize, to: usize, k: usize, mask: &mut [u8])
+    requires { ⌜ Span k (now lines) from to ⌝ }
+    requires { ⌜ length (now mask) ≡ 16 ⌝ }
+    ensures { λ _. ⌜ now (mask .exit) ≡ bits (occursIn k (now (lines .entry)) from to) 16 ⌝ }
+{
+    let mut c = 0;
+    while c < 16 {
+        let b = occurrence(lines, from, to, k, c);
+        mask[c] = b;
+        c += 1;
+    }
 }

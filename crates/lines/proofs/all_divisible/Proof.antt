@@ -1,0 +1,72 @@
+-- `lines::all_divisible` meets its contract: after x turns the first x numbers pass. Assumes nothing.
+use Prim.Native.Nat.{_-_}
+use native.Mathlib.Omega.{arith}
+use mathlib.Core.Path.{_∙_}
+use Rattle.lines.proofs.Every.{Passed, passed-none, passed-next, passed-fails, passed-all, every-passing}
+use mir.Syntax.{w64}
+use mir.Val.{toZ, ofZ}
+use mir.ValLaws.{toZ-ofZ}
+use Rattle.integers.specs.Divides.{divb}
+use Rattle.lines.proofs.all_divisible.Statement.{statement}
+use Rattle.lines.proofs.all_divisible.Tie as tie
+
+abbrev Inv-loop : tie.InvT-loop
+Inv-loop lines at k g x₀ x = Passed (λ _. divb (toZ w64 g)) lines at k x
+
+abbrev μ-loop : tie.MeasureT-loop
+μ-loop lines at k g x₀ x = k - x
+
+loop-holds : tie.Need-loop-holds Inv-loop μ-loop
+loop-holds c = passed-none
+
+add-divides : tie.Need-add-divides Inv-loop μ-loop
+add-divides c = omega arith
+
+mul-divides : tie.Need-mul-divides Inv-loop μ-loop
+mul-divides c = omega arith
+
+shared-slice-copy-out-divides : tie.Need-shared-slice-copy-out-divides Inv-loop μ-loop
+shared-slice-copy-out-divides c = omega arith
+
+divides-requires : tie.Need-divides-requires Inv-loop μ-loop
+divides-requires c κs = let s = c .before .before .before in rw (toZ-ofZ w64 (s .args .g) (s .fits .g)) (s .pre .1)
+
+returns : tie.Need-returns Inv-loop μ-loop
+returns c =
+    let s = c .before .before .before .before .before in
+    let fg = s .fits .g in
+    simp toZ-ofZ at (passed-fails (s .pre .0) (c .before .before .before .before .loop .inv) (c .before .before .before .loop-test .taken) (c .before .before .divides-arg .given) (c .before .divides .ensures) (c .if1 .taken) ∙ every-passing (divb (toZ w64 (ofZ w64 (s .args .g)))) 0 _)
+
+add-x : tie.Need-add-x Inv-loop μ-loop
+add-x c = omega arith
+
+loop-less : tie.Need-loop-less Inv-loop μ-loop
+loop-less c = omega arith
+
+loop-again : tie.Need-loop-again Inv-loop μ-loop
+loop-again c =
+    let s = c .before .before .before .before .before in
+    passed-next (s .pre .0) (c .before .before .before .before .loop .inv) (c .before .before .before .loop-test .taken) (c .before .before .divides-arg .given) (c .before .divides .ensures) (c .if1 .left)
+
+returns-2 : tie.Need-returns-2 Inv-loop μ-loop
+returns-2 c =
+    let s = c .before .before in
+    let fg = s .fits .g in
+    simp toZ-ofZ at (passed-all (s .pre .0) (c .before .loop .inv) (omega arith) ∙ every-passing (divb (toZ w64 (ofZ w64 (s .args .g)))) 0 _)
+
+pub all-divisible-spec : {M : Type 1} → statement M
+all-divisible-spec =
+    tie.close
+    (tie.spec
+    Inv-loop
+    μ-loop
+    loop-holds
+    add-divides
+    mul-divides
+    shared-slice-copy-out-divides
+    divides-requires
+    returns
+    add-x
+    loop-less
+    loop-again
+    returns-2)

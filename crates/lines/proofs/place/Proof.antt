@@ -1,0 +1,21 @@
+-- `lines::place` meets its contract. Assumes nothing.
+use native.Mathlib.Omega.{arith}
+use Rattle.lines.specs.Lines.{place-small}
+use borrow.Author.Needs.{needs}
+use Rattle.lines.proofs.place.Statement.{statement}
+use Rattle.lines.proofs.place.Tie as tie
+
+add-result : tie.Need-add-result
+add-result c = search needs
+
+mul-result : tie.Need-mul-result
+mul-result c = search needs
+
+mul-result-2 : tie.Need-mul-result-2
+mul-result-2 c = omega (arith, place-small (c .pre .1) (c .pre .0))
+
+returns : tie.Need-returns
+returns c = search needs
+
+pub place-spec : {M : Type 1} → statement M
+place-spec = tie.close (tie.spec add-result mul-result mul-result-2 returns)
