@@ -1,0 +1,3 @@
+-- The contracts of the check's functions.
+pub mod Tally
+pub mod Entries
