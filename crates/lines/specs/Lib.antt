@@ -6,3 +6,4 @@ pub mod Mix
 pub mod Range
 pub mod Plus
 pub mod Occurrence
+pub mod Restrict

@@ -55,7 +55,7 @@ every-all p (c ∷ l) z f = both (p c) (every p l) (f 0 (omega arith)) (every-al
 part-add : {A : Type 0} (at n m : ℕ) (l : List A) → part at (n + m) l ≡ part at n l ++ part (at + n) m l
 part-add at n m l = take-add n m (drop at l) ∙ ap (λ (r : List _). part at n l ++ take m r) (drop-drop n at l)
 
-part-form : (at K : ℕ) (buf : List ℤ) → at + K < length buf → part at (K + 1) buf ≡ part at K buf ++ (getD buf (at + K) (pos 0) ∷ [])
+pub part-form : (at K : ℕ) (buf : List ℤ) → at + K < length buf → part at (K + 1) buf ≡ part at K buf ++ (getD buf (at + K) (pos 0) ∷ [])
 part-form at K buf h =
     ap (λ (n : ℕ). part at n buf) (add-one K)
     ∙ take-suc (drop at buf) K (pos 0) (simp length-drop (omega arith))

@@ -159,3 +159,51 @@ pub fn occurrences(lines: &[i64], from: usize, to: usize, k: usize, mask: &mut [
         c += 1;
     }
 }
+
+// Whether a coefficient may stand: its constant occurs in both bundles, as the masks' bytes a and b tell, or it is 0.
+fn is_shared(x: i64, a: u8, b: u8) -> bool
+    ensures { λ r. ⌜ r ≡ (eqb a 1 && eqb b 1) || not (nonzero x) ⌝ }
+{
+    if a != 1 {
+        return integers::is_zero(x);
+    }
+    if b != 1 {
+        return integers::is_zero(x);
+    }
+    true
+}
+
+// Whether only constants that occur in both bundles have a non-zero coefficient in the form at a place.
+pub fn shared_only(lines: &[i64], at: usize, k: usize, in_a: &[u8], in_b: &[u8]) -> bool
+    requires { ⌜ at + k ≤ length (now lines) ⌝ }
+    requires { ⌜ k ≤ length (now in_a) ⌝ }
+    requires { ⌜ k ≤ length (now in_b) ⌝ }
+    ensures { λ r. ⌜ r ≡ common (λ c. told (now (in_a .entry)) c && told (now (in_b .entry)) c) (formIn k (now (lines .entry)) at .coeffs) ⌝ }
+{
+    let mut x = 0;
+    while x < k {
+        let a = in_a[x];
+        let b = in_b[x];
+        if !is_shared(lines[at + x], a, b) {
+            return false;
+        }
+        x += 1;
+    }
+    true
+}
+
+// Number x, the coefficients first and then d, of the form at a place without the constants that B lacks.
+pub fn restricted(lines: &[i64], at: usize, k: usize, in_b: &[u8], x: usize) -> i64
+    requires { ⌜ at + k < length (now lines) ⌝ }
+    requires { ⌜ k ≤ length (now in_b) ⌝ }
+    requires { ⌜ x ≤ k ⌝ }
+    ensures { λ r. ⌜ r ≡ getD (flat (within (told (now (in_b .entry))) (formIn k (now (lines .entry)) at))) x (pos 0) ⌝ }
+{
+    if x == k {
+        return lines[at + x];
+    }
+    if in_b[x] == 1 {
+        return lines[at + x];
+    }
+    0
+}

@@ -1,0 +1,64 @@
+-- A form of the buffer as its numbers, and without the constants that B lacks. Assumes nothing.
+use mathlib.Core.Path.{_≡_, refl, sym, _∙_, ap, ap₂}
+use mathlib.Core.List.{List, [], _∷_, _++_}
+use mathlib.Core.Bool.{Bool, true, false, not, cond, _&&_, _||_}
+use Prim.Native.Nat.{ℕ, zero, suc, _+_, _<_, _≤_}
+use native.Mathlib.Omega.{arith}
+use lib.IntN.{ℤ, pos}
+use lib.ListN.{length, getD, drop, length-drop, List·getD-append}
+use lib.Seq.{length-take-le, getD-at}
+use Rattle.forms.specs.Forms.{only, within, nonzero, rest}
+use Rattle.fields.specs.Numbers.{flat}
+use Rattle.proof.specs.Rows.{common}
+use Rattle.lines.specs.Parts.{part, getD-part}
+use Rattle.lines.specs.Buffer.{formIn}
+use Rattle.lines.specs.Range.{part-form}
+
+-- The K + 1 numbers of a form, as they stand in the buffer.
+pub flat-form : (K : ℕ) (buf : List ℤ) (at : ℕ) → at + K < length buf → flat (formIn K buf at) ≡ part at (K + 1) buf
+unfolding flat
+flat-form K buf at h = sym (part-form at K buf h)
+
+-- ---- number x of a restricted form
+cond-same : (b : Bool) (z : ℤ) → z ≡ cond b z z
+cond-same true z = refl
+cond-same false z = refl
+
+getD-only : (p : ℕ → Bool) (l : List ℤ) (c : ℕ) → getD (only p l) c (pos 0) ≡ cond (p c) (getD l c (pos 0)) (pos 0)
+unfolding only
+getD-only p [] c = cond-same (p c) (pos 0)
+getD-only p (z ∷ l) zero = refl
+getD-only p (z ∷ l) (suc c) = getD-only (rest p) l c
+
+length-only : (p : ℕ → Bool) (l : List ℤ) → length (only p l) ≡ length l
+unfolding only
+length-only p [] = refl
+length-only p (z ∷ l) = ap suc (length-only (rest p) l)
+
+module _ (p : ℕ → Bool) (K : ℕ) (buf : List ℤ) (at : ℕ) (room : at + K < length buf) where
+  len : length (only p (part at K buf)) ≡ K
+  len = length-only p (part at K buf) ∙ length-take-le K (drop at buf) (simp length-drop (omega arith))
+
+  pub restricted-coeff : (x : ℕ) → x < K → getD (flat (within p (formIn K buf at))) x (pos 0) ≡ cond (p x) (getD buf (at + x) (pos 0)) (pos 0)
+  unfolding flat within
+  restricted-coeff x h =
+      List·getD-append (only p (part at K buf)) (getD buf (at + K) (pos 0) ∷ []) (pos 0) x (omega (arith, len))
+      ∙ getD-only p (part at K buf) x
+      ∙ ap (λ (z : ℤ). cond (p x) z (pos 0)) (getD-part at K buf x (pos 0) h)
+
+  pub restricted-last : getD (flat (within p (formIn K buf at))) K (pos 0) ≡ getD buf (at + K) (pos 0)
+  unfolding flat within
+  restricted-last = getD-at (only p (part at K buf)) (getD buf (at + K) (pos 0)) [] (pos 0) K len
+
+-- ---- which constants a restricted form names
+step : (a b : Bool) (z : ℤ) → (a && b) || not (nonzero (cond b z (pos 0))) ≡ (a || not b) || not (nonzero z)
+unfolding nonzero
+step true true z = refl
+step true false z = refl
+step false true z = refl
+step false false z = refl
+
+pub common-only : (a b : ℕ → Bool) (l : List ℤ) → common (λ c. a c && b c) (only b l) ≡ common (λ c. a c || not (b c)) l
+unfolding common only
+common-only a b [] = refl
+common-only a b (z ∷ l) = ap₂ _&&_ (step (a 0) (b 0) z) (common-only (rest a) (rest b) l)
