@@ -1,1 +1,3 @@
--- The contracts of the check.
+-- The contracts of the check's functions.
+pub mod Tally
+pub mod Entries

@@ -1,1 +1,3 @@
-// The check of a proof.
+// The check of a proof: rows, branches, and the whole operation.
+pub mod entries;
+pub mod tally;

@@ -1,0 +1,2 @@
+-- Laws that the proofs of the functions cite: each way through a function as a lemma over plain values.
+pub mod Reading

@@ -1,0 +1,80 @@
+// The tally of a check: the numbers of the next row and the next line, and the strengthens open.
+ghost use mathlib.Core.Path.{_≡_};
+ghost use Rattle.checking.specs.Tally.{rowCounted, lineCounted, openCounted};
+
+// A row is numbered in the file, a line on its branch.
+pub struct Row(pub u16);
+
+pub struct Line(pub u16);
+
+pub struct Tally {
+    pub rows: Row,
+    pub lines: Line,
+    pub open: u16,
+}
+
+// The tally after a step, and whether the step was made. A refused step leaves the tally as it was.
+pub struct Counted {
+    pub made: bool,
+    pub tally: Tally,
+}
+
+pub fn row_counted(t: Tally) -> Counted
+    ensures { λ r. ⌜ r ≡ rowCounted t ⌝ }
+{
+    let row = t.rows;
+    let line = t.lines;
+    let n = row.0;
+    if n < 1024 {
+        let tally = Tally {
+            rows: Row(n + 1),
+            lines: line,
+            open: t.open,
+        };
+        return Counted { made: true, tally };
+    }
+    Counted {
+        made: false,
+        tally: t,
+    }
+}
+
+pub fn line_counted(t: Tally) -> Counted
+    ensures { λ r. ⌜ r ≡ lineCounted t ⌝ }
+{
+    let row = t.rows;
+    let line = t.lines;
+    let n = line.0;
+    if n < 128 {
+        let tally = Tally {
+            rows: row,
+            lines: Line(n + 1),
+            open: t.open,
+        };
+        return Counted { made: true, tally };
+    }
+    Counted {
+        made: false,
+        tally: t,
+    }
+}
+
+pub fn open_counted(t: Tally) -> Counted
+    ensures { λ r. ⌜ r ≡ openCounted t ⌝ }
+{
+    let row = t.rows;
+    let line = t.lines;
+    let n = t.open;
+    if n < 32 {
+        let tally = Tally {
+            rows: row,
+            lines: line,
+            open: n + 1,
+        };
+        return Counted { made: true, tally };
+    }
+    Counted {
+        made: false,
+        tally: t,
+    }
+}
