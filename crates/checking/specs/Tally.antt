@@ -1,4 +1,5 @@
 -- What each step of the tally leaves. Document 01, "Forms and lines". Assumes nothing.
+use mathlib.Core.Path.{_≡_}
 use mathlib.Core.Bool.{Bool, true, false}
 use Prim.Native.Nat.{ℕ, _+_}
 use lib.Dec.{ltb}
@@ -24,3 +25,9 @@ lineCounted t = counted (ltb (t .lines .0) (edition1 .lines)) (tally (t .rows .0
 
 unfoldable pub openCounted : Tally → Counted
 openCounted t = counted (ltb (t .«open») (edition1 .strengthens)) (tally (t .rows .0) (t .lines .0) (t .«open» + 1)) t
+
+-- A step on a tally that is lent, by what f says of it: the tally before and after, and whether the step was made. A refused step leaves the tally as it was.
+pub record Advanced (f : Tally → Counted) (before after : Tally) (made : Bool) : Type 0 where
+  pub tally-is : after ≡ f before .tally
+  pub made-is : made ≡ f before .made
+  pub refused : made ≡ false → after ≡ before

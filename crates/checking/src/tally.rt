@@ -1,6 +1,6 @@
 // The tally of a check: the numbers of the next row and the next line, and the strengthens open.
 ghost use mathlib.Core.Path.{_≡_};
-ghost use Rattle.checking.specs.Tally.{rowCounted, lineCounted, openCounted};
+ghost use Rattle.checking.specs.Tally.{rowCounted, lineCounted, openCounted, Advanced};
 
 // A row is numbered in the file, a line on its branch.
 pub struct Row(pub u16);
@@ -19,7 +19,8 @@ pub struct Counted {
     pub tally: Tally,
 }
 
-pub fn row_counted(t: Tally) -> Counted
+// The steps on a value that is passed in and out.
+fn next_row(t: Tally) -> Counted
     ensures { λ r. ⌜ r ≡ rowCounted t ⌝ }
 {
     let row = t.rows;
@@ -39,7 +40,7 @@ pub fn row_counted(t: Tally) -> Counted
     }
 }
 
-pub fn line_counted(t: Tally) -> Counted
+fn next_line(t: Tally) -> Counted
     ensures { λ r. ⌜ r ≡ lineCounted t ⌝ }
 {
     let row = t.rows;
@@ -59,7 +60,7 @@ pub fn line_counted(t: Tally) -> Counted
     }
 }
 
-pub fn open_counted(t: Tally) -> Counted
+fn next_open(t: Tally) -> Counted
     ensures { λ r. ⌜ r ≡ openCounted t ⌝ }
 {
     let row = t.rows;
@@ -77,4 +78,51 @@ pub fn open_counted(t: Tally) -> Counted
         made: false,
         tally: t,
     }
+}
+
+// The steps on a tally that is lent: whether each is made, and the tally advanced if so.
+pub fn count_row(t: &mut Tally) -> bool
+    ensures { λ r. ⌜ Advanced rowCounted (now (t .entry)) (now (t .exit)) r ⌝ }
+{
+    let c = next_row(*t);
+    *t = c.tally;
+    c.made
+}
+
+pub fn count_line(t: &mut Tally) -> bool
+    ensures { λ r. ⌜ Advanced lineCounted (now (t .entry)) (now (t .exit)) r ⌝ }
+{
+    let c = next_line(*t);
+    *t = c.tally;
+    c.made
+}
+
+pub fn count_open(t: &mut Tally) -> bool
+    ensures { λ r. ⌜ Advanced openCounted (now (t .entry)) (now (t .exit)) r ⌝ }
+{
+    let c = next_open(*t);
+    *t = c.tally;
+    c.made
+}
+
+// What every other function calls: no reference to a struct is in its contract, so its callers' proofs need no walk.
+pub fn row_counted(mut t: Tally) -> Counted
+    ensures { λ r. ⌜ r ≡ rowCounted t ⌝ }
+{
+    let made = count_row(&mut t);
+    Counted { made, tally: t }
+}
+
+pub fn line_counted(mut t: Tally) -> Counted
+    ensures { λ r. ⌜ r ≡ lineCounted t ⌝ }
+{
+    let made = count_line(&mut t);
+    Counted { made, tally: t }
+}
+
+pub fn open_counted(mut t: Tally) -> Counted
+    ensures { λ r. ⌜ r ≡ openCounted t ⌝ }
+{
+    let made = count_open(&mut t);
+    Counted { made, tally: t }
 }

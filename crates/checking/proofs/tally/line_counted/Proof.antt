@@ -1,25 +1,22 @@
--- `checking::tally::line_counted` meets its contract. Assumes nothing.
-use borrow.Author.Needs.{needs}
-use borrow.Author.Tests.{lt-ltb, le-ltb}
+-- `checking::tally::line_counted` meets its contract: it lends a tally (`Lending.antt`) to `count_line`. Assumes nothing.
+use contract.Running.{givenOf, tables, tablesOf}
+use denote.Triple.Spec.{tripleOf}
+use denote.Triple.Table.{entered, cited}
 use Rattle.checking.specs.Tally.{lineCounted}
-use Rattle.checking.proofs.tally.line_counted.Statement.{statement}
-use Rattle.checking.proofs.tally.line_counted.Tie as tie
-use Rattle.checking.proofs.tally.line_counted.Reads as reads
-use Rattle.checking.proofs.tally.line_counted.Lts as lts
+use Rattle.checking.proofs.Lent.{Lent}
+use Rattle.checking.proofs.Lending.{lending-meets}
+use Rattle.checking.proofs.tally.count_line.Symbol as callee-def
+use Rattle.checking.proofs.tally.count_line.Symbol.{name as #callee}
+use Rattle.checking.proofs.tally.count_line.Met as callee-thm
+use Rattle.checking.proofs.tally.line_counted.Key.{name as #self}
+use Rattle.checking.proofs.tally.line_counted as self
+use Rattle.checking.proofs.tally.line_counted.Statement as stated
+use Rattle.checking.proofs.tally.line_counted.Code as code
 
--- src/tally.rt:50:25
-add-t7 : tie.Need-add-t7
-add-t7 c = search needs
-
--- src/tally.rt:53:9
-returns : tie.Need-returns
-unfolding lineCounted
-returns c = simp (lt-ltb _ _ (c .if1 .taken))
-
--- src/tally.rt:41:1
-returns-2 : tie.Need-returns-2
-unfolding lineCounted
-returns-2 c = simp (le-ltb _ _ (c .if1 .left))
-
-pub line-counted-spec : {M : Type 1} → statement M
-line-counted-spec = tie.close (tie.spec add-t7 returns returns-2)
+pub line-counted-spec : {M : Type 1} → stated.statement M
+unfolding code.routine tablesOf
+line-counted-spec 𝓤 H 𝓜 𝓖 𝓡 =
+    entered 𝓤 H (tripleOf 𝓤 H (𝓖 .A) self.signature (self.spec 𝓤 H (𝓖 .A) (𝓜 .mem) (𝓡 .run)))
+    (tables 𝓤 H 𝓜 𝓡 code.env .C) (tables 𝓤 H 𝓜 𝓡 code.env .Λ) #self code.function (code.unfolded 𝓤 H 𝓜 𝓡)
+    (lending-meets lineCounted 𝓤 H (𝓖 .A) (givenOf 𝓤 H 𝓜 𝓖) (tablesOf 𝓤 H 𝓜 (tables 𝓤 H 𝓜 𝓡 code.env)) #callee
+    (cited 𝓤 H (Lent lineCounted 𝓤 H (𝓖 .A)) 𝓜 𝓡 code.env #callee callee-def.routine code.calls-checking·tally·count-line (callee-thm.met 𝓤 H 𝓜 𝓖 𝓡)))
