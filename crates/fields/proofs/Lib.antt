@@ -1,4 +1,4 @@
--- Laws that belong to no one function: results, numbers, framing and notes, headers, places, and that places do not matter.
+-- Laws that belong to no one function: results, numbers, framing and notes, headers, places, that places do not matter, and the walks of the field reader.
 pub mod Results
 pub mod Notes
 pub mod Signed
@@ -12,3 +12,5 @@ pub mod Stores
 pub mod Digits
 pub mod Headers
 pub mod Refusals
+pub mod Apart
+pub mod Together

@@ -79,7 +79,7 @@ pub enum Next {
 }
 
 // Notes are passed over here, and nowhere else.
-pub fn next_field(s: &[u8], at: usize) -> Next
+fn next_at(s: &[u8], at: usize) -> Next
     ensures { λ r. ⌜ r ≡ nextOf (fieldsAt (now (s .entry)) at) ⌝ }
 {
     let mut here = at;
@@ -110,4 +110,25 @@ pub fn next_field(s: &[u8], at: usize) -> Next
             }
         }
     }
+}
+
+// The reader: a file and a place in it, carried together.
+pub struct Fields<'a> {
+    pub file: &'a [u8],
+    pub at: usize,
+}
+
+impl<'a> Fields<'a> {
+    pub fn next(self) -> Next
+        ensures { λ r. ⌜ r ≡ nextOf (fieldsAt (now (self .entry .file)) (self .entry .at)) ⌝ }
+    {
+        next_at(self.file, self.at)
+    }
+}
+
+// What every other function calls: its parameters are plain, so its callers' proofs need no walk.
+pub fn next_field(s: &[u8], at: usize) -> Next
+    ensures { λ r. ⌜ r ≡ nextOf (fieldsAt (now (s .entry)) at) ⌝ }
+{
+    Fields { file: s, at }.next()
 }

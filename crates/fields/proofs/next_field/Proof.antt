@@ -1,62 +1,32 @@
--- `fields::next_field` meets its contract. The invariant: the fields from here on are those from the start on. Assumes nothing.
-use mathlib.Core.Path.{_≡_, refl, sym, ap, _∙_}
-use Prim.Native.Nat.{_-_}
-use lib.ListN.{length}
+-- `fields::next_field` meets its contract: it puts a reader together (`Together.antt`) and calls `next` on it. Assumes nothing.
+use mathlib.Core.List.{List}
+use Prim.Native.Nat.{ℕ}
+use contract.Running.{givenOf, tables, tablesOf}
+use denote.Enum.Laws as EL
+use denote.Triple.Spec.{tripleOf}
+use denote.Triple.Table.{entered, cited}
 use Rattle.fields.specs.Places.{fieldsAt, nextOf}
-use Rattle.fields.proofs.Places.{took, took-next, took-note, took-less, cut-at, ends-at}
-use borrow.Author.Needs.{needs}
-use Rattle.fields.proofs.next_field.Statement.{statement}
-use Rattle.fields.proofs.next_field.Tie as tie
+use Rattle.fields.specs.declared.Next.{Next}
+use Rattle.fields.proofs.Next as N
+use Rattle.fields.proofs.Next.Laws as N′
+use Rattle.fields.proofs.Apart.{Carried}
+use Rattle.fields.proofs.Together.{together-meets}
+use Rattle.fields.proofs.Fields.next.Symbol as callee-def
+use Rattle.fields.proofs.Fields.next.Symbol.{name as #callee}
+use Rattle.fields.proofs.Fields.next.Met as callee-thm
+use Rattle.fields.proofs.next_field.Key.{name as #self}
+use Rattle.fields.proofs.next_field as self
+use Rattle.fields.proofs.next_field.Statement as stated
+use Rattle.fields.proofs.next_field.Code as code
 
-abbrev Inv-loop : tie.InvT-loop
-Inv-loop s at here₀ here = fieldsAt s at ≡ fieldsAt s here
+abbrev f : List ℕ → ℕ → Next
+f s at = nextOf (fieldsAt s at)
 
-abbrev μ-loop : tie.MeasureT-loop
-μ-loop s at here₀ here = length s - here
-
-loop-holds : tie.Need-loop-holds Inv-loop μ-loop
-loop-holds c = refl
-
-field-at-requires : tie.Need-field-at-requires Inv-loop μ-loop
-field-at-requires c κs = search needs
-
-enum-known-tag : tie.Need-enum-known-tag Inv-loop μ-loop
-enum-known-tag c = search needs
-
-returns : tie.Need-returns Inv-loop μ-loop
-returns c = sym (ap nextOf (c .before .before .before .before .before .loop .inv) ∙ took-next (took (c .before .before .before .before .field-at .ensures) (c .before .before .tag .given .1)) (c .if1 .taken))
-
-loop-less : tie.Need-loop-less Inv-loop μ-loop
-loop-less c = took-less (took (c .before .before .before .before .field-at .ensures) (c .before .before .tag .given .1))
-
-loop-again : tie.Need-loop-again Inv-loop μ-loop
-loop-again c = c .before .before .before .before .before .loop .inv ∙ took-note (took (c .before .before .before .before .field-at .ensures) (c .before .before .tag .given .1)) (c .if1 .left)
-
-enum-told : tie.Need-enum-told Inv-loop μ-loop
-enum-told c = search needs
-
-returns-2 : tie.Need-returns-2 Inv-loop μ-loop
-returns-2 c = sym (ap nextOf (c .before .before .before .loop .inv ∙ cut-at _ _ (c .before .before .field-at .ensures) (c .enum-told .given .1)))
-
-enum-told-2 : tie.Need-enum-told-2 Inv-loop μ-loop
-enum-told-2 c = search needs
-
-returns-3 : tie.Need-returns-3 Inv-loop μ-loop
-returns-3 c = sym (ap nextOf (c .before .before .before .loop .inv ∙ ends-at _ _ (c .before .before .field-at .ensures) (c .enum-told2 .given .1)))
-
-pub next-field-spec : {M : Type 1} → statement M
-next-field-spec =
-    tie.close
-    (tie.spec
-    Inv-loop
-    μ-loop
-    loop-holds
-    field-at-requires
-    enum-known-tag
-    returns
-    loop-less
-    loop-again
-    enum-told
-    returns-2
-    enum-told-2
-    returns-3)
+pub next-field-spec : {M : Type 1} → stated.statement M
+unfolding code.routine tablesOf
+next-field-spec 𝓤 H 𝓜 𝓖 𝓡 =
+    entered 𝓤 H (tripleOf 𝓤 H (𝓖 .A) self.signature (self.spec 𝓤 H (𝓖 .A) (𝓜 .mem) (𝓡 .run)))
+    (tables 𝓤 H 𝓜 𝓡 code.env .C) (tables 𝓤 H 𝓜 𝓡 code.env .Λ) #self code.function (code.unfolded 𝓤 H 𝓜 𝓡)
+    (together-meets N.the-row N′.mir (λ r u is. EL.lawful N.the-type N′.the-laws 𝓤 H (𝓖 .A) (givenOf 𝓤 H 𝓜 𝓖) tt .typed r _ is .0) f
+    𝓤 H (𝓖 .A) (givenOf 𝓤 H 𝓜 𝓖) (tablesOf 𝓤 H 𝓜 (tables 𝓤 H 𝓜 𝓡 code.env)) #callee
+    (cited 𝓤 H (Carried N.the-row f 𝓤 H (𝓖 .A)) 𝓜 𝓡 code.env #callee callee-def.routine code.calls-fields·Fields·next (callee-thm.met 𝓤 H 𝓜 𝓖 𝓡)))

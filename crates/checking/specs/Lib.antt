@@ -1,0 +1,4 @@
+-- The contracts of the check's functions.
+pub mod Tally
+pub mod Entries
+pub mod Rows

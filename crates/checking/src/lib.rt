@@ -1,0 +1,4 @@
+// The check of a proof: rows, branches, and the whole operation.
+pub mod entries;
+pub mod rows;
+pub mod tally;
