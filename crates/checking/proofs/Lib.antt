@@ -2,3 +2,4 @@
 pub mod Reading
 pub mod Deriving
 pub mod Testing
+pub mod Claiming

@@ -2,3 +2,4 @@
 pub mod Tally
 pub mod Entries
 pub mod Rows
+pub mod Claims

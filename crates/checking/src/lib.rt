@@ -1,4 +1,5 @@
 // The check of a proof: rows, branches, and the whole operation.
+pub mod claims;
 pub mod entries;
 pub mod rows;
 pub mod tally;
