@@ -3,3 +3,4 @@ pub mod Reading
 pub mod Deriving
 pub mod Testing
 pub mod Claiming
+pub mod Stepping

@@ -3,3 +3,4 @@ pub mod Tally
 pub mod Entries
 pub mod Rows
 pub mod Claims
+pub mod Steps

@@ -66,7 +66,7 @@ fn kind_of(kinds: &[u8], i: Line) -> u8
 }
 
 // 10, 11, 12, then as `append`.
-fn combine(
+pub fn combine(
     lines: &mut [i64],
     kinds: &mut [u8],
     tally: Tally,
@@ -102,7 +102,7 @@ fn combine(
 }
 
 // The new line is of s's kind.
-fn reduce(
+pub fn reduce(
     lines: &mut [i64],
     kinds: &mut [u8],
     tally: Tally,
@@ -131,7 +131,7 @@ fn reduce(
     append(lines, kinds, tally, 1, s, alpha, t, kind, k)
 }
 
-fn scale(
+pub fn scale(
     lines: &mut [i64],
     kinds: &mut [u8],
     tally: Tally,

@@ -1,0 +1,103 @@
+// One entry of a branch: a row or a claim, tested and applied.
+ghost use mathlib.Core.Path.{_≡_};
+ghost use mathlib.Core.Bool.{true};
+ghost use Prim.Native.Nat.{_+_, _<_, _≤_};
+ghost use lib.ListN.{length};
+ghost use lib.IntN.{natAbs};
+ghost use Rattle.integers.specs.Magnitude.{Within};
+ghost use Rattle.calculus.specs.Rules.{Derive, Combine, Reduce, Scale};
+ghost use Rattle.checking.specs.Entries.{Multiplies};
+ghost use Rattle.checking.specs.Rows.{Ready};
+ghost use Rattle.checking.specs.Steps.{steppedOf, rowChecked, Steps};
+
+use crate::claims::claim_holds;
+use crate::entries::Entry;
+use crate::entries::entry_at;
+use crate::rows::Derived;
+use crate::rows::combine;
+use crate::rows::reduce;
+use crate::rows::scale;
+use crate::tally::Line;
+use crate::tally::Tally;
+use crate::tally::row_counted;
+
+pub enum Stepped {
+    Refused {
+        number: u8,
+    },
+    // A row 0x10 to 0x12 made a line.
+    Made {
+        tally: Tally,
+    },
+    // A claim stated the line made last.
+    Claimed,
+    // A row that splits the branch or ends it, counted but not yet tested.
+    Strengthens {
+        t: Line,
+        tally: Tally,
+    },
+    ClosesNumber {
+        t: Line,
+        tally: Tally,
+    },
+    ClosesStride {
+        t: Line,
+        g: i64,
+        tally: Tally,
+    },
+}
+
+fn stepped_of(d: Derived) -> Stepped
+    ensures { λ r. ⌜ r ≡ steppedOf d ⌝ }
+{
+    match d {
+        Derived::Refused { number } => Stepped::Refused { number },
+        Derived::Made { tally } => Stepped::Made { tally },
+    }
+}
+
+// Each row is counted first. 18.
+pub fn combine_row(lines: &mut [i64], kinds: &mut [u8], tally: Tally, s: Line, t: Line, alpha: i64, beta: i64, k: usize) -> Stepped
+    requires { ⌜ Ready k (now kinds) (now lines) (tally .lines .0) ⌝ }
+    requires { ⌜ Multiplies (natAbs alpha) alpha × Multiplies (natAbs beta) beta ⌝ }
+    ensures { λ r. ⌜ Steps (rowChecked k (now (kinds .entry)) (now (lines .entry)) tally (Derive (Combine (s .0) (t .0) (natAbs alpha) (natAbs beta)))) k (now (kinds .entry)) (now (lines .entry)) tally (now (kinds .exit)) (now (lines .exit)) r ⌝ }
+{
+    let counted = row_counted(tally);
+    let made = counted.made;
+    let next = counted.tally;
+    if made {
+        let d = combine(lines, kinds, next, s, t, alpha, beta, k);
+        return stepped_of(d);
+    }
+    Stepped::Refused { number: 18 }
+}
+
+pub fn reduce_row(lines: &mut [i64], kinds: &mut [u8], tally: Tally, s: Line, t: Line, alpha: i64, k: usize) -> Stepped
+    requires { ⌜ Ready k (now kinds) (now lines) (tally .lines .0) ⌝ }
+    requires { ⌜ Within 65535 alpha ⌝ }
+    ensures { λ r. ⌜ Steps (rowChecked k (now (kinds .entry)) (now (lines .entry)) tally (Derive (Reduce (s .0) (t .0) alpha))) k (now (kinds .entry)) (now (lines .entry)) tally (now (kinds .exit)) (now (lines .exit)) r ⌝ }
+{
+    let counted = row_counted(tally);
+    let made = counted.made;
+    let next = counted.tally;
+    if made {
+        let d = reduce(lines, kinds, next, s, t, alpha, k);
+        return stepped_of(d);
+    }
+    Stepped::Refused { number: 18 }
+}
+
+pub fn scale_row(lines: &mut [i64], kinds: &mut [u8], tally: Tally, t: Line, alpha: i64, k: usize) -> Stepped
+    requires { ⌜ Ready k (now kinds) (now lines) (tally .lines .0) ⌝ }
+    requires { ⌜ Multiplies (natAbs alpha) alpha ⌝ }
+    ensures { λ r. ⌜ Steps (rowChecked k (now (kinds .entry)) (now (lines .entry)) tally (Derive (Scale (t .0) (natAbs alpha)))) k (now (kinds .entry)) (now (lines .entry)) tally (now (kinds .exit)) (now (lines .exit)) r ⌝ }
+{
+    let counted = row_counted(tally);
+    let made = counted.made;
+    let next = counted.tally;
+    if made {
+        let d = scale(lines, kinds, next, t, alpha, k);
+        return stepped_of(d);
+    }
+    Stepped::Refused { number: 18 }
+}
