@@ -3,13 +3,15 @@ use mathlib.Core.Path.{_≡_}
 use mathlib.Core.Bool.{Bool, true, false}
 use mathlib.Core.List.{List}
 use mathlib.Core.Option.{Option, none, some}
-use Prim.Native.Nat.{ℕ, suc, _+_, _-_, _≤_}
+use Prim.Native.Nat.{ℕ, suc, _+_, _-_, _*_}
 use lib.Dec.{ltb}
+use lib.ListN.{take, drop}
 use lib.IntN.{ℤ, natAbs}
 use Rattle.forms.specs.Edition.{edition1}
 use Rattle.forms.specs.Forms.{Line}
 use Rattle.calculus.specs.Rules as rules
 use Rattle.fields.specs.Answers.{Result, refused, _>>=_, _>>_, need}
+use Rattle.fields.specs.Numbers.{formFrom, formWidth}
 use Rattle.fields.specs.Fields.{Field, Fields}
 use Rattle.lines.specs.Buffer.{lineIn, linesIn}
 use Rattle.proof.specs.Entries.{entry}
@@ -72,3 +74,17 @@ abbrev pub fieldChecked : (K : ℕ) (kinds : List ℕ) (buf : List ℤ) (t : Tal
 fieldChecked K kinds buf t made tag contents inA inB deeper next at fs =
     entry edition1 K (lastMade made K kinds buf (t .lines .0)) (record { at = at; tag = tag; contents = contents })
     >>= λ x. checkEntry edition1 K inA inB deeper next at (t .rows .0) (lastMade made K kinds buf (t .lines .0)) (linesIn K kinds buf (t .lines .0)) fs x
+
+-- A row that splits or ends the branch is counted and left as it is, in any buffers.
+pub record Counts (row : rules.Row) (t : Tally) (r : Stepped) : Type 0 where
+  pub steps : (K : ℕ) (kinds : List ℕ) (buf : List ℤ) → Steps (rowChecked K kinds buf t row) K kinds buf t kinds buf r
+
+-- The claim whose contents start there, checked. 4, 14.
+abbrev pub claimChecked : (K : ℕ) (p : List ℕ) (start : ℕ) (made : Bool) (kinds : List ℕ) (buf : List ℤ) (t : Tally) (len : ℕ) → Checked
+claimChecked K p start made kinds buf t len inA inB deeper next at fs =
+    checkEntry edition1 K inA inB deeper next at (t .rows .0) (lastMade made K kinds buf (t .lines .0)) (linesIn K kinds buf (t .lines .0)) fs
+    (rules.claim (formFrom (edition1 .termWidth) K (take len (drop start p))) (formFrom (edition1 .termWidth) K (drop (formWidth (edition1 .termWidth) K) (take len (drop start p)))))
+
+pub record Claims (K : ℕ) (p : List ℕ) (start : ℕ) (made : Bool) (buf : List ℤ) (t : Tally) (r : Stepped) : Type 0 where
+  pub steps : (len : ℕ) (kinds : List ℕ) → len ≡ 2 * formWidth (edition1 .termWidth) K
+      → Steps (claimChecked K p start made kinds buf t len) K kinds buf t kinds buf r

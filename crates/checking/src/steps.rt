@@ -1,14 +1,14 @@
 // One entry of a branch: a row or a claim, tested and applied.
 ghost use mathlib.Core.Path.{_≡_};
 ghost use mathlib.Core.Bool.{true};
-ghost use Prim.Native.Nat.{_+_, _<_, _≤_};
-ghost use lib.ListN.{length};
+ghost use Prim.Native.Nat.{_+_, _*_, _≤_};
+ghost use lib.ListN.{length, take, drop};
 ghost use lib.IntN.{natAbs};
 ghost use Rattle.integers.specs.Magnitude.{Within};
-ghost use Rattle.calculus.specs.Rules.{Derive, Combine, Reduce, Scale};
+ghost use Rattle.calculus.specs.Rules.{Derive, Combine, Reduce, Scale, Strengthen, CloseNumber, CloseStride};
 ghost use Rattle.checking.specs.Entries.{Multiplies};
 ghost use Rattle.checking.specs.Rows.{Ready};
-ghost use Rattle.checking.specs.Steps.{steppedOf, rowChecked, Steps};
+ghost use Rattle.checking.specs.Steps.{steppedOf, rowChecked, fieldChecked, Steps, Counts, Claims};
 
 use crate::claims::claim_holds;
 use crate::entries::Entry;
@@ -100,4 +100,58 @@ pub fn scale_row(lines: &mut [i64], kinds: &mut [u8], tally: Tally, t: Line, alp
         return stepped_of(d);
     }
     Stepped::Refused { number: 18 }
+}
+
+fn strengthen_row(tally: Tally, t: Line) -> Stepped
+    ensures { λ r. ⌜ Counts (Strengthen (t .0)) tally r ⌝ }
+{
+    let counted = row_counted(tally);
+    let made = counted.made;
+    let next = counted.tally;
+    if made {
+        return Stepped::Strengthens { t, tally: next };
+    }
+    Stepped::Refused { number: 18 }
+}
+
+fn number_row(tally: Tally, t: Line) -> Stepped
+    ensures { λ r. ⌜ Counts (CloseNumber (t .0)) tally r ⌝ }
+{
+    let counted = row_counted(tally);
+    let made = counted.made;
+    let next = counted.tally;
+    if made {
+        return Stepped::ClosesNumber { t, tally: next };
+    }
+    Stepped::Refused { number: 18 }
+}
+
+fn stride_row(tally: Tally, t: Line, g: i64) -> Stepped
+    requires { ⌜ Multiplies (natAbs g) g ⌝ }
+    ensures { λ r. ⌜ Counts (CloseStride (t .0) (natAbs g)) tally r ⌝ }
+{
+    let counted = row_counted(tally);
+    let made = counted.made;
+    let next = counted.tally;
+    if made {
+        return Stepped::ClosesStride { t, g, tally: next };
+    }
+    Stepped::Refused { number: 18 }
+}
+
+// A claim of the line made last. 4, 14.
+fn claim_step(p: &[u8], start: usize, made: bool, lines: &[i64], tally: Tally, k: usize) -> Stepped
+    requires { ⌜ (k ≤ 16) × (start + 8 * (k + 1) ≤ length (now p)) × (tally .lines .0 ≤ 128) × (128 * (2 * (k + 1)) ≤ length (now lines)) ⌝ }
+    requires { ⌜ (made ≡ true → 1 ≤ tally .lines .0) ⌝ }
+    ensures { λ r. ⌜ Claims k (now (p .entry)) start made (now (lines .entry)) tally r ⌝ }
+{
+    let count = tally.lines;
+    if made {
+        let last = Line(count.0 - 1);
+        if claim_holds(p, start, lines, last, k) {
+            return Stepped::Claimed;
+        }
+        return Stepped::Refused { number: 14 };
+    }
+    Stepped::Refused { number: 4 }
 }
