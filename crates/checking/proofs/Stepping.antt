@@ -135,18 +135,18 @@ there-made true K kinds buf n = refl
 there-made false K kinds buf n = refl
 
 module _ {K : ℕ} (kinds : List ℕ) (buf : List ℤ) (t : Tally) {p : List ℕ} {tag start len : ℕ} (made : Bool) {x : entries.Entry} (e : Entered K p tag start len made x) where
-  enters : (y : Result rules.Entry) → ((at : ℕ) → stated K at (take len (drop start p)) x ≡ y)
-      → (inA inB : ℕ → Bool) (deeper : Option Checker) (next : Next) (at : ℕ) (fs : Fields)
+  enters : (y : Result rules.Entry) (at : ℕ) → stated K at (take len (drop start p)) x ≡ y
+      → (inA inB : ℕ → Bool) (deeper : Option Checker) (next : Next) (fs : Fields)
       → fieldChecked K kinds buf t made tag (take len (drop start p)) inA inB deeper next at fs
       ≡ (y >>= λ z. checkEntry edition1 K inA inB deeper next at (t .rows .0) (lastMade made K kinds buf (t .lines .0)) (linesIn K kinds buf (t .lines .0)) fs z)
-  enters y q inA inB deeper next at fs =
+  enters y at q inA inB deeper next fs =
       ap (λ (w : Result rules.Entry). w >>= λ z. checkEntry edition1 K inA inB deeper next at (t .rows .0) (lastMade made K kinds buf (t .lines .0)) (linesIn K kinds buf (t .lines .0)) fs z)
-      (e .is at (lastMade made K kinds buf (t .lines .0)) (there-made made K kinds buf (t .lines .0)) ∙ q at)
+      (e .is at (lastMade made K kinds buf (t .lines .0)) (there-made made K kinds buf (t .lines .0)) ∙ q)
 
   field-row : (row : rules.Row) → ((at : ℕ) → stated K at (take len (drop start p)) x ≡ accepted (rules.row row))
       → Same (fieldChecked K kinds buf t made tag (take len (drop start p))) (rowChecked K kinds buf t row)
   unfolding _>>=_ checkEntry
-  field-row row q = record { is = λ inA inB deeper next at fs. enters (accepted (rules.row row)) q inA inB deeper next at fs }
+  field-row row q = record { is = λ inA inB deeper next at fs. enters (accepted (rules.row row)) at (q at) inA inB deeper next fs }
 
   pub step-row : (row : rules.Row) → ((at : ℕ) → stated K at (take len (drop start p)) x ≡ accepted (rules.row row)) → {kinds′ : List ℕ} {buf′ : List ℤ} {r : Stepped}
       → Steps (rowChecked K kinds buf t row) K kinds buf t kinds′ buf′ r
@@ -158,5 +158,12 @@ module _ {K : ℕ} (kinds : List ℕ) (buf : List ℤ) (t : Tally) {p : List ℕ
   unfolding _>>=_
   step-claim {from} {r} ex ef el c =
       steps-same r
-      (record { is = λ inA inB deeper next at fs. enters (stated K at (take len (drop start p)) (entry-of.Claim from)) (λ a. ap (stated K a (take len (drop start p))) ex) inA inB deeper next at fs })
+      (record { is = λ inA inB deeper next at fs. enters (stated K at (take len (drop start p)) (entry-of.Claim from)) at (ap (stated K at (take len (drop start p))) ex) inA inB deeper next fs })
       ((rw ef at c) .steps len kinds el)
+
+  pub step-refused : {n : ℕ} → x ≡ entry-of.Refused n → Steps (fieldChecked K kinds buf t made tag (take len (drop start p))) K kinds buf t kinds buf (Refused n)
+  unfolding _>>=_
+  step-refused {n} ex = record {
+    kept = kept-refl;
+    by = record { is = λ inA inB deeper next at fs. enters (stated K at (take len (drop start p)) (entry-of.Refused n)) at (ap (stated K at (take len (drop start p))) ex) inA inB deeper next fs };
+  }

@@ -1,6 +1,6 @@
 // The check of a proof: rows, branches, and the whole operation.
 pub mod claims;
-pub mod steps;
 pub mod entries;
 pub mod rows;
+pub mod steps;
 pub mod tally;

@@ -13,19 +13,19 @@ claim-holds-requires : tie.Need-claim-holds-requires
 claim-holds-requires c κs = search needs
 
 returns : tie.Need-returns
-returns c = 
+returns c =
     let s = c .before .before .before .before .before .before in
     let a = s .args in
     claim-right (a .made) (a .tally) (c .before .before .before .if1 .taken) refl (c .before .claim-holds .ensures) (c .if2 .taken)
 
 returns-2 : tie.Need-returns-2
-returns-2 c = 
+returns-2 c =
     let s = c .before .before .before .before .before .before in
     let a = s .args in
     claim-wrong (a .made) (a .tally) (c .before .before .before .if1 .taken) refl (c .before .claim-holds .ensures) (c .if2 .left)
 
 returns-3 : tie.Need-returns-3
-returns-3 c = 
+returns-3 c =
     let s = c .before .before .before in
     let a = s .args in
     claim-out (a .made) (a .tally) (c .if1 .left)

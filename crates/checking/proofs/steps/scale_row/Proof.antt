@@ -10,7 +10,7 @@ row-counted-requires : tie.Need-row-counted-requires
 row-counted-requires c κs = search needs
 
 scale-requires : tie.Need-scale-requires
-scale-requires c κs = 
+scale-requires c κs =
     let s = c .before .before .before .before .before .before in
     let a = s .args in
     let f0 = s .fits .alpha in
@@ -27,7 +27,7 @@ same-length-2 : tie.Need-same-length-2
 same-length-2 c = search needs
 
 returns : tie.Need-returns
-returns c = 
+returns c =
     let s = c .before .before .before .before .before .before .before .before .before .before .before in
     let a = s .args in
     let f0 = s .fits .alpha in
@@ -35,7 +35,7 @@ returns c =
     row-derived (a .tally) (h .0) (h .1) (simp toZ-ofZ at (c .before .before .before .before .scale .ensures)) (c .stepped-of .ensures)
 
 returns-2 : tie.Need-returns-2
-returns-2 c = 
+returns-2 c =
     let s = c .before .before .before .before in
     let a = s .args in
     row-full _ _ _ (a .tally) _ (full-row (a .tally) (c .before .before .row-counted .ensures) (c .if1 .left))

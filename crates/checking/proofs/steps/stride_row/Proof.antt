@@ -10,7 +10,7 @@ row-counted-requires : tie.Need-row-counted-requires
 row-counted-requires c κs = search needs
 
 returns : tie.Need-returns
-returns c = 
+returns c =
     let s = c .before .before .before in
     let a = s .args in
     let fg = s .fits .g in
@@ -18,7 +18,7 @@ returns c =
     simp toZ-ofZ (counts-stride (a .tally) (h .0) (h .1) (a .t) (s .pre))
 
 returns-2 : tie.Need-returns-2
-returns-2 c = 
+returns-2 c =
     let s = c .before .before .before in
     let a = s .args in
     counts-full _ (a .tally) (full-row (a .tally) (c .before .before .row-counted .ensures) (c .if1 .left))
