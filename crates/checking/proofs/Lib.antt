@@ -4,3 +4,4 @@ pub mod Deriving
 pub mod Testing
 pub mod Claiming
 pub mod Stepping
+pub mod Going

@@ -4,3 +4,4 @@ pub mod Entries
 pub mod Rows
 pub mod Claims
 pub mod Steps
+pub mod Branches
