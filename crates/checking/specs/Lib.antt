@@ -2,3 +2,6 @@
 pub mod Tally
 pub mod Entries
 pub mod Rows
+pub mod Claims
+pub mod Steps
+pub mod Branches

@@ -20,7 +20,7 @@ cast-mix-2 : tie.Need-cast-mix-2
 cast-mix-2 c = search needs
 
 mix-requires : tie.Need-mix-requires
-mix-requires c κs = 
+mix-requires c κs =
     let s = c .before .before .before .before .before .before .before .before .before in
     let ff = s .fits .f in
     let fg = s .fits .g in
@@ -40,7 +40,7 @@ mul-fits : tie.Need-mul-fits
 mul-fits c = search needs
 
 fits-requires : tie.Need-fits-requires
-fits-requires c κs = 
+fits-requires c κs =
     let s = c .before .before .before .before .before .before .before .before .before .before .before .before .before in
     let ff = s .fits .f in
     let fg = s .fits .g in
@@ -55,7 +55,7 @@ same-length-2 : tie.Need-same-length-2
 same-length-2 c = search needs
 
 returns : tie.Need-returns
-returns c = 
+returns c =
     let s = c .before .before .before .before .before .before .before .before .before .before .before .before .before .before .before in
     let ff = s .fits .f in
     let fg = s .fits .g in
@@ -70,7 +70,7 @@ same-length-4 : tie.Need-same-length-4
 same-length-4 c = search needs
 
 returns-2 : tie.Need-returns-2
-returns-2 c = 
+returns-2 c =
     let s = c .before .before .before .before .before .before .before .before .before .before .before .before .before .before .before in
     let ff = s .fits .f in
     let fg = s .fits .g in
