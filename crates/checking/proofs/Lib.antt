@@ -5,3 +5,4 @@ pub mod Testing
 pub mod Claiming
 pub mod Stepping
 pub mod Going
+pub mod Closes
