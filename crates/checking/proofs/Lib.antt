@@ -8,3 +8,4 @@ pub mod Testing
 pub mod Claiming
 pub mod Stepping
 pub mod Going
+pub mod Closes

@@ -5,3 +5,4 @@ pub mod Rows
 pub mod Claims
 pub mod Steps
 pub mod Branches
+pub mod Closing

@@ -50,14 +50,14 @@ fn append(
 }
 
 // A lookup takes a line: whether it is there, and its kind.
-fn is_there(tally: Tally, i: Line) -> bool
+pub fn is_there(tally: Tally, i: Line) -> bool
     ensures { λ r. ⌜ r ≡ ltb (i .0) (tally .lines .0) ⌝ }
 {
     let count = tally.lines;
     i.0 < count.0
 }
 
-fn kind_of(kinds: &[u8], i: Line) -> u8
+pub fn kind_of(kinds: &[u8], i: Line) -> u8
     requires { ⌜ i .0 < length (now kinds) ⌝ }
     ensures { λ r. ⌜ r ≡ getD (now (kinds .entry)) (i .0) 0 ⌝ }
 {
