@@ -60,8 +60,8 @@ module _ {K : ℕ} {kinds : List ℕ} {buf : List ℤ} (t : Tally) (f : ℤ) (i 
 
     pub append-kept : Kept K (t .lines .0) kinds buf kinds′ buf′
     append-kept = record {
-      lines-same = rw mixes (mixed-keeps K f i g j (t .lines .0) buf room (terms .first) (terms .second) space);
-      kinds-same = rw sets (agree-set (t .lines .0) kinds (t .lines .0) kind (omega arith));
+      lines-same = record { first = rw mixes (sym (mixed-keeps K f i g j (t .lines .0) buf room (terms .first) (terms .second) space .first)) };
+      kinds-same = record { first = rw sets (sym (agree-set (t .lines .0) kinds (t .lines .0) kind (omega arith) .first)) };
       lines-length = rw mixes (length-mixedLine K f i g j (t .lines .0) buf room (terms .first) (terms .second) space);
       kinds-length = rw sets (length-set kinds (t .lines .0) kind);
     }
