@@ -6,3 +6,5 @@ pub mod Writing
 pub mod Whole
 pub mod RoundTrips
 pub mod Scanning
+pub mod Storing
+pub mod Reading

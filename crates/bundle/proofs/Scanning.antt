@@ -24,7 +24,7 @@ use Rattle.bundle.specs.declared.constraints.Counted.{Counted}
 
 -- ---- one turn
 module _ {s : List ℕ} {at a t start len next : ℕ} (k : Starts s at a t start len next) (K n : ℕ) where
-  counted-on : counted K n (fieldsAt s at) ≡ passed (faultOf K n t len) a (counted K (suc n) (fieldsAt s next))
+  pub counted-on : counted K n (fieldsAt s at) ≡ passed (faultOf K n t len) a (counted K (suc n) (fieldsAt s next))
   unfolding counted
   counted-on = rw (k .is, starts-size k)
 
@@ -57,7 +57,7 @@ pub record Right (K n tag len : ℕ) : Type 0 where
   pub room : ltb n 32 ≡ true
 
 -- the fault by its tests, each with its equation
-right-of : (K n tag len : ℕ) → faultOf K n tag len ≡ 0 → Right K n tag len
+pub right-of : (K n tag len : ℕ) → faultOf K n tag len ≡ 0 → Right K n tag len
 right-of K n tag len e = go (known FileKind.Bundle tag) (ltb tag 0x03) (eqb len (formWidth 2 K)) (ltb n 32) refl refl refl refl e
   where
     go : (p q r u : Bool) → known FileKind.Bundle tag ≡ p → ltb tag 0x03 ≡ q → eqb len (formWidth 2 K) ≡ r → ltb n 32 ≡ u
@@ -72,28 +72,30 @@ pub counted-room : (K n tag len : ℕ) {number : ℕ} → number ≡ faultOf K n
 counted-room K n tag len f e = ltb-true n 32 (right-of K n tag len (sym f ∙ e) .room)
 
 -- ---- the definitions
+-- a constraint's tag is 0x03 or 0x04
+pub tag-most : (tag : ℕ) → known FileKind.Bundle tag ≡ true → ltb tag 0x03 ≡ false → tag ≤ 4
+unfolding known headerTag
+tag-most tag h l = go (leb tag 4) refl
+  where
+    go : (p : Bool) → leb tag 4 ≡ p → tag ≤ 4
+    go true e = leb-true tag 4 e
+    go false e =
+        let big = leb-false tag 4 e in
+        let one : eqb tag 1 ≡ false = ne-eqb tag 1 (λ q. omega arith) in
+        let two : eqb tag 2 ≡ false = ne-eqb tag 2 (λ q. omega arith) in
+        let three : leb 3 tag ≡ true = le-leb 3 tag (omega arith) in
+        absurd (let z : _≡_ {A = Bool} true false = sym h ∙ rw (one, two, three, e) in let w : _≡_ {A = ℕ} 0 1 = cc in omega arith)
+
 -- the kind that a tag names, by the tests of the code
 kind-of : (tag : ℕ) → known FileKind.Bundle tag ≡ true → ltb tag 0x03 ≡ false → kindTagged tag ≡ some (pick (eqb tag 0x03) ≤0 =0)
-unfolding kindTagged known headerTag
+unfolding kindTagged
 kind-of tag h l = go (eqb tag 0x03) (eqb tag 0x04) refl refl
   where
     go : (p q : Bool) → eqb tag 0x03 ≡ p → eqb tag 0x04 ≡ q
         → _≡_ {A = Option Kind} (elim p [ true ↦ some ≤0 | false ↦ elim q [ true ↦ some =0 | false ↦ none ] ]) (some (pick p ≤0 =0))
     go true q a b = refl
     go false true a b = refl
-    go false false a b =
-        let from = ltb-false tag 3 l in
-        let three = eqb-false tag 3 a in
-        let four = eqb-false tag 4 b in
-        let big : 4 < tag = go2 from three four in
-        let one : eqb tag 1 ≡ false = ne-eqb tag 1 (λ e. omega arith) in
-        let two : eqb tag 2 ≡ false = ne-eqb tag 2 (λ e. omega arith) in
-        let no : leb tag 4 ≡ false = lt-leb tag 4 big in
-        let yes : leb 3 tag ≡ true = le-leb 3 tag from in
-        absurd (let z : _≡_ {A = Bool} true false = sym h ∙ rw (one, two, yes, no) in let w : _≡_ {A = ℕ} 0 1 = cc in omega arith)
-      where
-        go2 : 3 ≤ tag → (tag ≡ 3 → ⊥) → (tag ≡ 4 → ⊥) → 4 < tag
-        go2 x y z = omega arith
+    go false false a b = absurd (omega (arith, tag-most tag h l, ltb-false tag 3 l, eqb-false tag 3 a, eqb-false tag 4 b))
 
 no-kind : (tag : ℕ) → ltb tag 0x03 ≡ true → kindTagged tag ≡ none
 unfolding kindTagged
@@ -140,15 +142,15 @@ module _ (file K : ℕ) where
       (no-kind (f .tag)) (kind-of (f .tag))
       (rw (constraints-counted (suc n) fs) (after f fs (counted K (suc n) fs)))
 
-passed-count : (x a m : ℕ) (c : Counted) → passed x a c ≡ Counted.Count m → c ≡ Counted.Count m
-passed-count zero a m c e = e
-passed-count (suc x) a m c e = absurd (let z : _≡_ {A = ℕ} 0 1 = cc in omega arith)
+pub passed-both : (x a m : ℕ) (c : Counted) → passed x a c ≡ Counted.Count m → (x ≡ 0) × (c ≡ Counted.Count m)
+passed-both zero a m c e = (refl, e)
+passed-both (suc x) a m c e = absurd (let z : _≡_ {A = ℕ} 0 1 = cc in omega arith)
 
 pub count-is : (K n m : ℕ) (fs : Fields) → counted K n fs ≡ Counted.Count m → m ≡ n + length (stated K fs)
 unfolding counted stated
 count-is K n m (ends at) e = let q : n ≡ m = cc in omega arith
 count-is K n m (cut at) e = absurd (let z : _≡_ {A = ℕ} 0 1 = cc in omega arith)
-count-is K n m (f ▸ fs) e = omega (arith, count-is K (suc n) m fs (passed-count (faultOf K n (f .tag) (length (f .contents))) (f .at) m (counted K (suc n) fs) e))
+count-is K n m (f ▸ fs) e = omega (arith, count-is K (suc n) m fs (passed-both (faultOf K n (f .tag) (length (f .contents))) (f .at) m (counted K (suc n) fs) e .1))
 
 -- ---- a whole bundle
 module _ {given : ℕ} {s : List ℕ} {r : Headed} (h : IsHeader FileKind.Bundle given s r) where

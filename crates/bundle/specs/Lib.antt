@@ -3,5 +3,6 @@ pub mod Bundle
 pub mod Layout
 pub mod Scan
 pub mod Read
+pub mod Store
 pub mod Write
 pub mod Show

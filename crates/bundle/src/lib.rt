@@ -1,5 +1,6 @@
 // Constraint bundles: reading, writing and showing a constraint.
 pub mod constraints;
+pub mod store;
 
 use constraints::Counted;
 use constraints::count_constraints;
@@ -7,12 +8,15 @@ use fields::Answer;
 use fields::FileKind;
 use fields::header::Headed;
 use fields::header::read_header;
+use store::store;
 ghost use mathlib.Core.Path.{_≡_};
 ghost use Rattle.fields.specs.Answers.{answer};
 ghost use Rattle.fields.specs.Fields.{fields};
 ghost use Rattle.fields.specs.Places.{givenK};
 ghost use Rattle.bundle.specs.Bundle.{bundle};
 ghost use Rattle.bundle.specs.Scan.{scanned};
+ghost use Rattle.bundle.specs.Read.{readBundle};
+ghost use Rattle.bundle.specs.Store.{readOf};
 
 // What going over a bundle tells: K and how many constraints there are, or the refusal, with 0 for both.
 pub struct Scanned {
@@ -54,4 +58,54 @@ pub fn scan(s: &[u8], file: u8, given: u8) -> Scanned
         },
         Headed::Refused { number, place } => refused_scan(number, file, place),
     }
+}
+
+// What reading a bundle answers: how many constraints and K, 0 for both where it is refused.
+pub struct ReadResult {
+    pub answer: Answer,
+    pub count: usize,
+    pub k: u8,
+}
+
+fn refused_read(number: u8, file: u8, place: usize) -> ReadResult
+    ensures { λ r. ⌜ r ≡ record { answer = answer number file place; count = 0; k = 0 } ⌝ }
+{
+    ReadResult {
+        answer: Answer {
+            number,
+            file,
+            place,
+        },
+        count: 0,
+        k: 0,
+    }
+}
+
+// Reads a bundle into kinds (0 inequality, 1 equality) and numbers, K+1 a constraint.
+pub fn read(file: &[u8], kinds: &mut [u8], numbers: &mut [i16]) -> ReadResult
+    ensures { λ r. ⌜ readOf r (now (kinds .exit)) (now (numbers .exit)) ≡ readBundle (now (kinds .entry)) (now (numbers .entry)) (now (file .entry)) ⌝ }
+{
+    if file.len() > 4096 {
+        return refused_read(1, 1, 0);
+    }
+    let found = scan(file, 1, 0);
+    let answer = found.answer;
+    let number = answer.number;
+    if number != 0 {
+        return ReadResult {
+            answer,
+            count: 0,
+            k: 0,
+        };
+    }
+    let count = found.count;
+    let k = found.k;
+    if kinds.len() < count {
+        return refused_read(21, 4, count);
+    }
+    if numbers.len() < count * (k as usize + 1) {
+        return refused_read(21, 4, count);
+    }
+    store(file, kinds, numbers);
+    ReadResult { answer, count, k }
 }

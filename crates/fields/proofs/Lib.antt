@@ -10,3 +10,4 @@ pub mod Places
 pub mod Stores
 pub mod Digits
 pub mod Headers
+pub mod Refusals

@@ -5,7 +5,8 @@ use Prim.Native.Nat.{ℕ, zero, suc, _+_, _≤_, _<_}
 use native.Mathlib.Nat.{add-zero}
 use native.Mathlib.Omega.{arith}
 use lib.ListN.{length, set}
-use lib.Seq.{sets, set-comm}
+use lib.Seq.{sets, sets-eq, set-comm}
+use Rattle.fields.specs.Answers.{over}
 
 module _ {A : Type 0} where
   pub sets-append : (xs ys l : List A) (i : ℕ) → sets l i (xs ++ ys) ≡ sets (sets l i xs) (i + length xs) ys
@@ -20,3 +21,10 @@ module _ {A : Type 0} where
   sets-set (v ∷ vs) l i j a h =
       ap (λ (m : List A). sets m (suc i) vs) (set-comm l j i a v (λ e. absurd (omega arith)))
       ∙ sets-set vs (set l i v) (suc i) j a (omega arith)
+
+  -- a run from the front, and what stands behind it stays
+  pub sets-over : (vs l : List A) → length vs ≤ length l → sets l 0 vs ≡ over vs l
+  unfolding over
+  sets-over vs l h =
+      let z : 0 + length vs ≡ length vs = omega arith in
+      sets-eq vs l 0 (omega arith) ∙ rw z
