@@ -46,7 +46,7 @@ pub record Right (h : Header) : Type 0 where
   pub low : 1 ≤ h .K
   pub high : h .K ≤ 16
 
-both : (p q : Bool) → (p && q) ≡ true → (p ≡ true) × (q ≡ true)
+pub both : (p q : Bool) → (p && q) ≡ true → (p ≡ true) × (q ≡ true)
 both true true e = (refl, refl)
 both true false e = absurd (let z : _≡_ {A = ℕ} 0 1 = cc in omega arith)
 both false q e = absurd (let z : _≡_ {A = ℕ} 0 1 = cc in omega arith)

@@ -4,8 +4,11 @@ use super::Next;
 use super::next_field;
 ghost use mathlib.Core.Path.{_≡_};
 ghost use mathlib.Core.Bool.{_&&_};
+ghost use Prim.Native.Nat.{_≤_};
 ghost use lib.Dec.{leb};
-ghost use Rattle.fields.specs.Header.{headerTag, known, agrees};
+ghost use lib.ListN.{length};
+ghost use lib.Seq.{sets};
+ghost use Rattle.fields.specs.Header.{headerTag, known, agrees, headerBytes};
 ghost use Rattle.fields.specs.Places.{givenK, IsHeaderField, IsHeaderK, IsHeader};
 
 pub fn between(x: u8, low: u8, high: u8) -> bool
@@ -133,4 +136,19 @@ pub fn read_header(s: &[u8], kind: FileKind, given: u8) -> Headed
         }
         HeaderField::Refused { number, place } => Headed::Refused { number, place },
     }
+}
+
+// The two header fields, as edition 1 writes them.
+pub fn put_header(out: &mut [u8], k: u8)
+    requires { ⌜ 8 ≤ length (now out) ⌝ }
+    ensures { λ _. ⌜ now (out .exit) ≡ sets (now (out .entry)) 0 (headerBytes k) ⌝ }
+{
+    out[0] = 0x01;
+    out[1] = 0;
+    out[2] = 1;
+    out[3] = 1;
+    out[4] = 0x02;
+    out[5] = 0;
+    out[6] = 1;
+    out[7] = k;
 }
