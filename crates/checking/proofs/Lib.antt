@@ -1,2 +1,4 @@
 -- Laws that the proofs of the functions cite: each way through a function as a lemma over plain values.
 pub mod Reading
+pub mod Loading
+pub mod Endings
