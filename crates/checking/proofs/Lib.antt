@@ -2,3 +2,6 @@
 pub mod Reading
 pub mod Loading
 pub mod Endings
+pub mod Delivering
+pub mod Preparing
+pub mod Stages

@@ -3,3 +3,4 @@ pub mod Tally
 pub mod Entries
 pub mod Load
 pub mod Ending
+pub mod Whole
