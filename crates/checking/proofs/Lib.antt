@@ -9,3 +9,8 @@ pub mod Claiming
 pub mod Stepping
 pub mod Going
 pub mod Closes
+pub mod Loading
+pub mod Endings
+pub mod Delivering
+pub mod Preparing
+pub mod Stages

@@ -6,3 +6,6 @@ pub mod Claims
 pub mod Steps
 pub mod Branches
 pub mod Closing
+pub mod Load
+pub mod Ending
+pub mod Whole

@@ -1,0 +1,92 @@
+-- The end of the check, over plain values: what follows the root, and the output. Assumes nothing.
+use mathlib.Core.Path.{_≡_, refl, sym, ap, _∙_}
+use mathlib.Core.Bool.{Bool}
+use mathlib.Core.List.{List, _++_}
+use Prim.Native.Nat.{ℕ, _+_, _≤_, _<_}
+use native.Mathlib.Omega.{arith}
+use lib.ListN.{length, take, drop, set, getD, length-append}
+use lib.Seq.{sets, sets-eq, paste, take-at, take-all, drop-append-add, drop-drop, length-take-le, getD-take}
+use borrow.Author.Tests.{le-leb, lt-leb}
+use Rattle.fields.specs.declared.FileKind.{FileKind}
+use Rattle.fields.specs.Answers.{answer, accepted, _>>_, Written, over, fit, written}
+use Rattle.fields.specs.Numbers.{unsignedBytes}
+use Rattle.fields.specs.Fields.{fieldBytes}
+use Rattle.fields.specs.Header.{headerBytes}
+use Rattle.lines.proofs.Fill.{Filled, filled-length, filled-next}
+use Rattle.checking.specs.Ending.{IsEnding}
+use Rattle.checking.specs.Whole.{Delivers, Finishes, Ended}
+use Rattle.checking.specs.declared.check.Checked.{Checked}
+use Rattle.checking.specs.declared.ending.Ending.{Ending}
+
+abbrev pub unwritten : (number file place : ℕ) → Checked
+unwritten number file place = record { answer = answer number file place; count = 0 }
+
+-- ---- the output
+header-length : (K : ℕ) → length (headerBytes K) ≡ 8
+unfolding headerBytes fieldBytes unsignedBytes
+header-length K = refl
+
+-- a header and then some bytes over the front of the output
+delivered : (h f out : List ℕ) (n o : ℕ) → length h ≡ n → length f ≡ o → n + o ≤ length out → paste (sets out 0 h) n f o ≡ over (h ++ f) out
+unfolding over
+delivered h f out n o eh ef l =
+    let s : sets out 0 h ≡ h ++ drop n out = sets-eq h out 0 (omega arith) ∙ (let z : 0 + length h ≡ n = omega arith in rw z) in
+    let t : take n (h ++ drop n out) ≡ h = take-at h (drop n out) n eh in
+    let u : drop (n + o) (h ++ drop n out) ≡ drop (n + o) out = rw eh at (drop-append-add h (drop n out) o) ∙ drop-drop o n out in
+    let v : take o f ≡ f = take-all o f (omega arith) in
+    let w : length (h ++ f) ≡ n + o = length-append h f ∙ omega arith in
+    rw (s, t, u, v, w)
+
+size : (K : ℕ) (S : List ℕ) (o : ℕ) → o ≤ length S → length (headerBytes K ++ take o S) ≡ 8 + o
+size K S o room = length-append (headerBytes K) (take o S) ∙ omega (arith, header-length K, length-take-le o S room)
+
+abbrev done : List ℕ → List ℕ → ℕ → Written
+done bytes out n = record { answer = answer 0 0 0; count = n; output = over bytes out }
+
+fit-short : (bytes out : List ℕ) (n : ℕ) → length bytes ≡ n → length out < n → written (accepted bytes) out ≡ record { answer = answer 21 4 n; count = 0; output = out }
+unfolding written fit
+fit-short bytes out n e h = ap (λ (b : Bool). fit out b bytes) (lt-leb (length bytes) (length out) (omega arith)) ∙ rw e
+
+fit-done : (bytes out : List ℕ) (n : ℕ) → length bytes ≡ n → n ≤ length out → written (accepted bytes) out ≡ record { answer = answer 0 0 0; count = n; output = over bytes out }
+unfolding written fit
+fit-done bytes out n e h = ap (λ (b : Bool). fit out b bytes) (le-leb (length bytes) (length out) (omega arith)) ∙ ap (done bytes out) e
+
+module _ {K : ℕ} {S : List ℕ} {o : ℕ} {out : List ℕ} (room : o ≤ length S) where
+  pub deliver-short : {r : Checked} → length out < 8 + o → r ≡ unwritten 21 4 (8 + o) → Delivers K S o out out r
+  deliver-short h e = record { is = rw e (sym (fit-short (headerBytes K ++ take o S) out (8 + o) (size K S o room) h)) }
+
+  pub deliver-done : {out₁ out₂ : List ℕ} → 8 + o ≤ length out → out₁ ≡ sets out 0 (headerBytes K) → out₂ ≡ paste out₁ 8 (take o S) o
+      → Delivers K S o out out₂ (record { answer = answer 0 0 0; count = 8 + o })
+  deliver-done {out₁} {out₂} h p q =
+      let w : out₂ ≡ over (headerBytes K ++ take o S) out
+      = q ∙ ap (λ (x : List ℕ). paste x 8 (take o S) o) p ∙ delivered (headerBytes K) (take o S) out 8 o (header-length K) (length-take-le o S room) h in
+      record { is = rw w (sym (fit-done (headerBytes K ++ take o S) out (8 + o) (size K S o room) h)) }
+
+-- ---- a copy
+module _ {to₀ : List ℕ} {at : ℕ} (n : ℕ) (from : List ℕ) {to : List ℕ} {i : ℕ} (hf : n ≤ length from) (ht : at + n ≤ length to₀) (v : Filled to₀ at (take n from) to i) where
+  len : length (take n from) ≡ n
+  len = length-take-le n from hf
+
+  pub copy-length : length to ≡ length to₀
+  copy-length = filled-length (omega (arith, len)) v
+
+  pub copy-next : i < n → Filled to₀ at (take n from) (set to (at + i) (getD from i 0)) (i + 1)
+  copy-next h = filled-next (omega (arith, len)) v (getD from i 0) 0 (sym (getD-take n from i 0 h)) (omega (arith, len))
+
+  pub copy-done : n ≤ i → to ≡ paste to₀ at (take n from) n
+  copy-done h =
+      let z : i ≡ n = omega (arith, v .upto, len) in
+      rw z at (v .is)
+
+-- ---- what follows the root
+module _ {P : List ℕ} {at : ℕ} {e : Ending} (k : IsEnding FileKind.Proof P at e) {K : ℕ} {S : List ℕ} {o : ℕ} {out : List ℕ} where
+  pub finish-fault : {number place : ℕ} {r : Checked} → e ≡ Ending.Fault number place → r ≡ unwritten number 3 place → Finishes K P at S o out out r
+  unfolding _>>_ written
+  finish-fault q f = record { is = rw (k .is 3, q, f) }
+
+  pub finish-ended : {out′ : List ℕ} {r : Checked} → e ≡ Ending.Ended → Delivers K S o out out′ r → Finishes K P at S o out out′ r
+  unfolding _>>_
+  finish-ended q l = record { is = rw (k .is 3, q) (l .is) }
+
+pub ended-room : {P : List ℕ} {at : ℕ} {e : Ending} {o : ℕ} {S : List ℕ} → IsEnding FileKind.Proof P at e → e ≡ Ending.Ended → Ended P at o S → o ≤ length S
+ended-room k q t = t .room (k .is 3 ∙ rw q)

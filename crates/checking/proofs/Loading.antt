@@ -1,0 +1,395 @@
+-- Loading the constraints of a bundle: one turn of each loop, and what the lines of the buffer then are. Assumes nothing.
+use mathlib.Core.Path.{_≡_, refl, sym, ap, ap₂, _∙_, subst}
+use mathlib.Core.Bool.{Bool, true, false}
+use mathlib.Core.List.{List, [], _∷_, _++_, map, append-assoc, append-nil}
+use mathlib.Core.Logic.{_⊎_, inl, inr, ⊎-elim}
+use Prim.Native.Nat.{ℕ, zero, suc, _+_, _*_, _-_, _≤_, _<_}
+use native.Mathlib.Nat.{suc-mul, mul-le-mul-right, eq-or-lt-of-le, eq-zero-or-pos}
+use native.Mathlib.Numerals.{add-one}
+use native.Mathlib.Omega.{arith}
+use lib.Dec.{eqb}
+use borrow.Author.Tests.{ltb-true, ltb-false, eqb-true, eqb-false, eq-eqb, ne-eqb}
+use lib.IntN.{ℤ, pos, negsuc, natAbs, _*ℤ_, zero-*ℤ}
+use lib.Signed.{mag}
+use lib.ListN.{length, getD, take, drop, set, replicate, length-replicate, getD-replicate, length-append, length-map, length-set}
+use lib.Seq.{paste, drop-drop, ext-getD, length-paste, take-take, take-all, take-at, getD-at, getD-set-same}
+use Rattle.integers.specs.Magnitude.{Within}
+use Rattle.forms.specs.Forms.{Form, Kind, ≤0, =0, Line, line, Constraint, _·_}
+use Rattle.calculus.specs.Rules.{_▷_}
+use Rattle.fields.specs.Numbers.{signed, signeds, flat, formFrom}
+use Rattle.fields.specs.Ranges.{Half, Held}
+use Rattle.fields.specs.declared.FileKind.{FileKind}
+use Rattle.fields.specs.declared.header.Headed.{Headed}
+use Rattle.fields.specs.Answers.{answer, refused, accepted}
+use Rattle.fields.specs.Fields.{Fields, ends, cut, _▸_, fields}
+use Rattle.fields.specs.Places.{fieldsAt, givenK, IsHeader}
+use Rattle.fields.proofs.Results.{one-value}
+use Rattle.fields.proofs.Places.{Starts}
+use Rattle.bundle.specs.Bundle.{Bundle, bundle}
+use Rattle.bundle.specs.Scan.{pick, faultOf, counted, stated}
+use Rattle.bundle.specs.declared.constraints.Counted.{Counted}
+use Rattle.bundle.proofs.Scanning.{counted-on, passed-both, right-of, scan-header, scan-fault, scan-bundle}
+use Rattle.fields.proofs.Signed.{length-signeds, signeds-last}
+use Rattle.lines.specs.Parts.{part, part-take, part-paste, getD-part, Agree, agree-sym, agree-trans, agree-le, agree-getD, agree-part, agree-set, agree-paste}
+use Rattle.lines.specs.Buffer.{size, times, formIn, kindOf, lineIn, linesIn, Bounded}
+use Rattle.lines.specs.Lines.{form-ext, line-ext, before, lines-more}
+use Rattle.lines.proofs.Fill.{Filled, filled-none, filled-length, filled-next}
+use Rattle.checking.specs.Load.{Copies, Put, partialOf, partialForm, lineOf, Space, Loads, Loaded, formLine, Able, Bundled, BundleLoaded}
+
+le-or-lt : (a b : ℕ) → (a ≤ b) ⊎ (b < a)
+le-or-lt a b = ⊎-elim (λ e. inl (omega arith)) (λ h. inr (omega arith)) (eq-zero-or-pos (a - b))
+
+-- ---- numbers in a row
+pub getD-signeds : (w n : ℕ) (bs : List ℕ) (j : ℕ) → j < n → getD (signeds w n bs) j (pos 0) ≡ signed (take w (drop (j * w) bs))
+unfolding signeds
+getD-signeds w zero bs j h = absurd (omega arith)
+getD-signeds w (suc n) bs zero h = let z : 0 * w ≡ 0 = omega arith in rw z
+getD-signeds w (suc n) bs (suc j) h =
+    let z : w + j * w ≡ suc j * w = omega (arith, suc-mul j w) in
+    getD-signeds w n (drop w bs) j (omega arith) ∙ rw (drop-drop (j * w) w bs, z)
+
+abs-mag : (z : ℤ) → natAbs z ≤ mag z + 1
+abs-mag (pos n) = omega arith
+abs-mag (negsuc n) = omega arith
+
+small-held : {z : ℤ} → Held 2 z → Within 2147483647 z
+small-held {z} h = record { abs = omega (arith, abs-mag z, h .held .half) }
+
+-- The first i numbers are in place.
+pub record Turn (s : List ℕ) (start n : ℕ) (buf₀ : List ℤ) (at : ℕ) (buf : List ℤ) (i : ℕ) : Type 0 where
+  pub filled : Filled buf₀ at (signeds 2 n (drop start s)) buf i
+  pub small : (j : ℕ) → j < i → Within 2147483647 (getD (signeds 2 n (drop start s)) j (pos 0))
+
+pub turn-none : {s : List ℕ} {start n : ℕ} {buf : List ℤ} {at : ℕ} → Turn s start n buf at buf 0
+turn-none = record { filled = filled-none; small = λ j h. absurd (omega arith) }
+
+module _ {s : List ℕ} {start n : ℕ} {buf₀ : List ℤ} {at : ℕ} (q : Copies s start n buf₀ at) {buf : List ℤ} {i : ℕ} (v : Turn s start n buf₀ at buf i) where
+  fits : at + length (signeds 2 n (drop start s)) ≤ length buf₀
+  fits = omega (arith, q .room, length-signeds 2 n (drop start s))
+
+  pub turn-length : length buf ≡ length buf₀
+  turn-length = filled-length fits (v .filled)
+
+  pub turn-most : i ≤ n
+  turn-most = omega (arith, v .filled .upto, length-signeds 2 n (drop start s))
+
+  pub turn-next : {x : ℤ} → i < n → x ≡ signed (take 2 (drop (start + i * 2) s)) → Held 2 x → Turn s start n buf₀ at (set buf (at + i) x) (i + 1)
+  turn-next {x} h e r =
+      let is : x ≡ getD (signeds 2 n (drop start s)) i (pos 0) = e ∙ sym (getD-signeds 2 n (drop start s) i h ∙ rw (drop-drop (i * 2) start s)) in
+      record {
+        filled = filled-next fits (v .filled) x (pos 0) is (omega (arith, length-signeds 2 n (drop start s)));
+        small = λ j l. ⊎-elim
+            (λ (z : j ≡ i). rw (z, ← is) (small-held r))
+            (λ (m : j < i). v .small j m)
+            (eq-or-lt-of-le (omega arith));
+      }
+
+  pub turn-done : n ≤ i → Put buf₀ at (signeds 2 n (drop start s)) n buf
+  turn-done h =
+      let z : i ≡ n = omega (arith, turn-most) in
+      record { is = rw z at (v .filled .is); small = λ j l. v .small j (omega arith) }
+
+-- ---- zeros
+zero-small : Within 2147483647 (pos 0)
+zero-small = record { abs = omega arith }
+
+module _ {buf₀ : List ℤ} {at : ℕ} (n : ℕ) {buf : List ℤ} {i : ℕ} (h : at + n ≤ length buf₀) (v : Filled buf₀ at (replicate n (pos 0)) buf i) where
+  clear-room : at + length (replicate n (pos 0)) ≤ length buf₀
+  clear-room = omega (arith, length-replicate n (pos 0))
+
+  pub clear-length : length buf ≡ length buf₀
+  clear-length = filled-length clear-room v
+
+  pub clear-next : {x : ℤ} → i < n → x ≡ pos 0 → Filled buf₀ at (replicate n (pos 0)) (set buf (at + i) x) (i + 1)
+  clear-next {x} l e = filled-next clear-room v x (pos 0) (e ∙ sym (getD-replicate n i (pos 0) (pos 0) l)) (omega (arith, length-replicate n (pos 0)))
+
+  pub clear-done : n ≤ i → Put buf₀ at (replicate n (pos 0)) n buf
+  clear-done l =
+      let z : i ≡ n = omega (arith, v .upto, length-replicate n (pos 0)) in
+      record { is = rw z at (v .is); small = λ j m. rw (getD-replicate n j (pos 0) (pos 0) m) zero-small }
+
+-- ---- tA
+zeros : (zs : List ℤ) → replicate (length zs) (pos 0) ≡ times (pos 0) zs
+zeros [] = refl
+zeros (z ∷ zs) = ap₂ (λ (x : ℤ) (y : List ℤ). x ∷ y) (sym (zero-*ℤ z)) (zeros zs)
+
+module _ (inA : Bool) (zs : List ℤ) {buf : List ℤ} {at n : ℕ} {buf′ : List ℤ} where
+  pub partial-A : inA ≡ true → Put buf at zs n buf′ → Put buf at (partialOf inA zs) n buf′
+  partial-A e p = rw e p
+
+  pub partial-B : inA ≡ false → length zs ≡ n → Put buf at (replicate n (pos 0)) n buf′ → Put buf at (partialOf inA zs) n buf′
+  partial-B e l p =
+      let z : replicate n (pos 0) ≡ times (pos 0) zs = ap (λ (m : ℕ). replicate m (pos 0)) (sym l) ∙ zeros zs in
+      rw e (rw z at p)
+
+-- ---- the form that K + 1 numbers are
+pub form-of : (K : ℕ) (buf : List ℤ) (at : ℕ) (t : Form) → length (t .coeffs) ≡ K → part at (K + 1) buf ≡ flat t → formIn K buf at ≡ t
+unfolding flat
+form-of K buf at t h e =
+    form-ext
+    (sym (take-take K (K + 1) (drop at buf) (omega arith)) ∙ ap (take K) e ∙ take-at (t .coeffs) (t .d ∷ []) K h)
+    (sym (getD-part at (K + 1) buf K (pos 0) (omega arith)) ∙ ap (λ (l : List ℤ). getD l K (pos 0)) e ∙ getD-at (t .coeffs) (t .d) [] (pos 0) K h)
+
+flat-from : (w K : ℕ) (bs : List ℕ) → flat (formFrom w K bs) ≡ signeds w (K + 1) bs
+unfolding flat formFrom
+flat-from w K bs = sym (rw (add-one K) (signeds-last w K bs))
+
+map-snoc : (f : ℤ → ℤ) (l : List ℤ) (z : ℤ) → map f l ++ (f z ∷ []) ≡ map f (l ++ (z ∷ []))
+map-snoc f [] z = refl
+map-snoc f (x ∷ l) z = ap (λ (m : List ℤ). f x ∷ m) (map-snoc f l z)
+
+flat-partial : (inA : Bool) (t : Form) → flat (partialForm inA t) ≡ partialOf inA (flat t)
+unfolding flat _·_
+flat-partial true t = refl
+flat-partial false t = map-snoc (λ (c : ℤ). pos 0 *ℤ c) (t .coeffs) (t .d)
+
+partial-coeffs : (inA : Bool) (t : Form) → length (partialForm inA t .coeffs) ≡ length (t .coeffs)
+unfolding _·_
+partial-coeffs true t = refl
+partial-coeffs false t = length-map (t .coeffs) (λ (c : ℤ). pos 0 *ℤ c)
+
+partial-length : (inA : Bool) (zs : List ℤ) → length (partialOf inA zs) ≡ length zs
+partial-length true zs = refl
+partial-length false zs = length-map zs (λ (c : ℤ). pos 0 *ℤ c)
+
+from-coeffs : (w K : ℕ) (bs : List ℕ) → length (formFrom w K bs .coeffs) ≡ K
+unfolding formFrom
+from-coeffs w K bs = length-signeds w K bs
+
+-- ---- a line is loaded by its two forms
+put-part : (l : List ℤ) (d : ℕ) (s : List ℤ) (w : ℕ) → d ≤ length l → length s ≡ w → part d w (paste l d s w) ≡ s
+put-part l d s w h e =
+    let z : d + 0 ≡ d = omega arith in
+    (rw z at (part-paste l d s w h 0 w (omega arith) (omega arith))) ∙ take-all w s (omega arith)
+
+module _ (K : ℕ) (kinds : List ℕ) (buf : List ℤ) (n : ℕ) (kind : ℕ) (zs za : List ℤ) (few : n < 128) (sp : Space K kinds buf) (lz : length zs ≡ K + 1) (la : length za ≡ K + 1)
+    {buf₁ buf₂ : List ℤ} (p : Put buf (n * size K) zs (K + 1) buf₁) (q : Put buf₁ (n * size K + (K + 1)) za (K + 1) buf₂) where
+  end : n * size K + size K ≤ length buf
+  end = omega (arith, sp .room, before K few)
+
+  len₁ : length buf₁ ≡ length buf
+  len₁ = ap length (p .is) ∙ length-paste buf (n * size K) zs (K + 1) (omega (arith, end)) (omega arith)
+
+  len₂ : length buf₂ ≡ length buf
+  len₂ = ap length (q .is) ∙ length-paste buf₁ (n * size K + (K + 1)) za (K + 1) (omega (arith, end, len₁)) (omega arith) ∙ len₁
+
+  agree₁ : Agree (n * size K) buf₁ buf
+  agree₁ = rw (p .is) (agree-paste (n * size K) buf (n * size K) zs (K + 1) (omega (arith, end)) (omega arith))
+
+  agree₂ : Agree (n * size K + (K + 1)) buf₂ buf₁
+  agree₂ = rw (q .is) (agree-paste (n * size K + (K + 1)) buf₁ (n * size K + (K + 1)) za (K + 1) (omega (arith, end, len₁)) (omega arith))
+
+  kept : Agree (n * size K) buf₂ buf
+  kept = agree-trans (agree-le (omega arith) agree₂) agree₁
+
+  t-part : part (n * size K) (K + 1) buf₂ ≡ zs
+  t-part = agree-part agree₂ (n * size K) (K + 1) (omega arith) ∙ ap (part (n * size K) (K + 1)) (p .is) ∙ put-part buf (n * size K) zs (K + 1) (omega (arith, end)) lz
+
+  tA-part : part (n * size K + (K + 1)) (K + 1) buf₂ ≡ za
+  tA-part = ap (part (n * size K + (K + 1)) (K + 1)) (q .is) ∙ put-part buf₁ (n * size K + (K + 1)) za (K + 1) (omega (arith, end, len₁)) la
+
+  -- a number of the new line
+  small-t : (y : ℕ) → y < K + 1 → Within 2147483647 (getD buf₂ (n * size K + y) (pos 0))
+  small-t y h =
+      let e : getD zs y (pos 0) ≡ getD buf₂ (n * size K + y) (pos 0) = ap (λ (l : List ℤ). getD l y (pos 0)) (sym t-part) ∙ getD-part (n * size K) (K + 1) buf₂ y (pos 0) h in
+      rw e at (p .small y h)
+
+  small-tA : (y : ℕ) → y < K + 1 → Within 2147483647 (getD buf₂ (n * size K + (K + 1) + y) (pos 0))
+  small-tA y h =
+      let e : getD za y (pos 0) ≡ getD buf₂ (n * size K + (K + 1) + y) (pos 0)
+      = ap (λ (l : List ℤ). getD l y (pos 0)) (sym tA-part) ∙ getD-part (n * size K + (K + 1)) (K + 1) buf₂ y (pos 0) h in
+      rw e at (q .small y h)
+
+  small-at : Bounded K buf n → (x : ℕ) → x < (n + 1) * size K → Within 2147483647 (getD buf₂ x (pos 0))
+  small-at b x h =
+      let whole : (n + 1) * size K ≡ n * size K + size K = (let z : n + 1 ≡ suc n = omega arith in rw z (suc-mul n (size K))) in
+      ⊎-elim
+      (λ (g : n * size K ≤ x). ⊎-elim
+      (λ (g₂ : n * size K + (K + 1) ≤ x).
+      let e : n * size K + (K + 1) + (x - (n * size K + (K + 1))) ≡ x = omega arith in
+      rw e at (small-tA (x - (n * size K + (K + 1))) (omega (arith, whole))))
+      (λ (l₂ : x < n * size K + (K + 1)).
+      let e : n * size K + (x - n * size K) ≡ x = omega arith in
+      rw e at (small-t (x - n * size K) (omega arith)))
+      (le-or-lt (n * size K + (K + 1)) x))
+      (λ (l : x < n * size K). rw (agree-getD kept x (pos 0) l) (b .small x l))
+      (le-or-lt (n * size K) x)
+
+  pub line-loaded : (t tA : Form) → length (t .coeffs) ≡ K → length (tA .coeffs) ≡ K → flat t ≡ zs → flat tA ≡ za
+      → Loaded K kinds buf n (line (kindOf kind) t tA ∷ []) (set kinds n kind) buf₂
+  unfolding lineIn
+  line-loaded t tA ct cA ft fA =
+      let one : n + 1 ≡ suc n = omega arith in
+      let is : lineIn K (set kinds n kind) buf₂ n ≡ line (kindOf kind) t tA
+      = line-ext (ap kindOf (getD-set-same kinds n kind 0 (omega (arith, sp .kinds-room))))
+      (form-of K buf₂ (n * size K) t ct (t-part ∙ sym ft))
+      (form-of K buf₂ (n * size K + (K + 1)) tA cA (tA-part ∙ sym fA)) in
+      record {
+        lines = rw one (lines-more K n (agree-sym kept) (agree-sym (agree-set n kinds n kind (omega arith))) ∙ ap (λ (l : Line). linesIn K kinds buf n ▷ l) is);
+        bounded = λ b. record { small = small-at b };
+        kinds-length = length-set kinds n kind;
+        lines-length = len₂;
+      }
+
+-- The form at a place and its tA.
+module _ {s : List ℕ} {start K : ℕ} {kinds : List ℕ} {buf : List ℤ} {n : ℕ} (g : Loads s start K kinds buf n) (inA : Bool) (kind : ℕ) where
+  pub form-loaded : {buf₁ buf₂ : List ℤ} → Put buf (n * size K) (signeds 2 (K + 1) (drop start s)) (K + 1) buf₁
+      → Put buf₁ (n * size K + (K + 1)) (partialOf inA (signeds 2 (K + 1) (drop start s))) (K + 1) buf₂
+      → Loaded K kinds buf n (formLine inA K kind s start ∷ []) (set kinds n kind) buf₂
+  form-loaded p q =
+      let t = formFrom 2 K (drop start s) in
+      let l = length-signeds 2 (K + 1) (drop start s) in
+      line-loaded K kinds buf n kind (signeds 2 (K + 1) (drop start s)) (partialOf inA (signeds 2 (K + 1) (drop start s))) (g .few) (g .space) l
+      (partial-length inA (signeds 2 (K + 1) (drop start s)) ∙ l) p q
+      t (partialForm inA t) (from-coeffs 2 K (drop start s)) (partial-coeffs inA t ∙ from-coeffs 2 K (drop start s)) (flat-from 2 K (drop start s))
+      (flat-partial inA t ∙ ap (partialOf inA) (flat-from 2 K (drop start s)))
+
+-- ---- lines one after the other
+pub loaded-none : {K : ℕ} {kinds : List ℕ} {buf : List ℤ} {n : ℕ} → Loaded K kinds buf n [] kinds buf
+loaded-none {K} {kinds} {buf} {n} =
+    let z : n + 0 ≡ n = omega arith in
+    record { lines = rw z (sym (append-nil (linesIn K kinds buf n))); bounded = λ b. rw z b; kinds-length = refl; lines-length = refl }
+
+pub loaded-then : {K : ℕ} {kinds kinds₁ kinds₂ : List ℕ} {buf buf₁ buf₂ : List ℤ} {n : ℕ} {ls ms : List Line}
+    → Loaded K kinds buf n ls kinds₁ buf₁ → Loaded K kinds₁ buf₁ (n + length ls) ms kinds₂ buf₂ → Loaded K kinds buf n (ls ++ ms) kinds₂ buf₂
+loaded-then {K} {kinds} {buf} {n} {ls} {ms} p q =
+    let z : n + length (ls ++ ms) ≡ n + length ls + length ms = omega (arith, length-append ls ms) in
+    record {
+      lines = rw z (q .lines ∙ ap (λ (x : List Line). x ++ ms) (p .lines) ∙ append-assoc (linesIn K kinds buf n) ls ms);
+      bounded = λ b. rw z (q .bounded (p .bounded b));
+      kinds-length = q .kinds-length ∙ p .kinds-length;
+      lines-length = q .lines-length ∙ p .lines-length;
+    }
+
+-- ---- what stands behind a form's bytes does not matter
+signeds-front : (w n m : ℕ) (bs : List ℕ) → n * w ≤ m → signeds w n (take m bs) ≡ signeds w n bs
+signeds-front w n m bs h =
+    ext-getD (pos 0) (signeds w n (take m bs)) (signeds w n bs) (length-signeds w n (take m bs) ∙ sym (length-signeds w n bs))
+    (λ i l.
+    let b : i < n = omega (arith, length-signeds w n (take m bs)) in
+    getD-signeds w n (take m bs) i b
+    ∙ ap signed (part-take (i * w) w m bs (omega (arith, mul-le-mul-right w b, suc-mul i w)))
+    ∙ sym (getD-signeds w n bs i b))
+
+form-front : (w K m : ℕ) (bs : List ℕ) → suc K * w ≤ m → formFrom w K (take m bs) ≡ formFrom w K bs
+unfolding formFrom
+form-front w K m bs h =
+    form-ext
+    (signeds-front w K m bs (omega (arith, suc-mul K w)))
+    (ap signed (part-take (K * w) w m bs (omega (arith, suc-mul K w))))
+
+-- ---- the kind that a tag names
+kind-of : (tag : ℕ) → 3 ≤ tag → kindOf (tag - 3) ≡ pick (eqb tag 0x03) ≤0 =0
+unfolding kindOf
+kind-of tag h = go (eqb tag 3) refl
+  where
+    by : (p : Bool) → eqb (tag - 3) 0 ≡ p → _≡_ {A = Kind} (elim (eqb (tag - 3) 0) [ true ↦ ≤0 | false ↦ =0 ]) (pick p ≤0 =0)
+    by true e = rw e
+    by false e = rw e
+
+    go : (p : Bool) → eqb tag 3 ≡ p → _≡_ {A = Kind} (elim (eqb (tag - 3) 0) [ true ↦ ≤0 | false ↦ =0 ]) (pick p ≤0 =0)
+    go true e = by true (eq-eqb (tag - 3) 0 (omega (arith, eqb-true tag 3 e)))
+    go false e = by false (ne-eqb (tag - 3) 0 (λ z. eqb-false tag 3 e (omega arith)))
+
+-- ---- the fields of a bundle
+-- The invariant: what is left to load gives what the whole gives.
+pub record Loading (inA : Bool) (s : List ℕ) (at K : ℕ) (kinds₀ : List ℕ) (buf₀ : List ℤ) (n : ℕ) (kinds : List ℕ) (buf : List ℤ) (here m : ℕ) : Type 0 where
+  pub space : Space K kinds buf
+  pub few : n ≤ 96
+  pub done : ℕ
+  pub m-is : m ≡ n + done
+  pub count : ℕ
+  pub is : counted K done (fieldsAt s here) ≡ Counted.Count count
+  pub kinds-length : length kinds ≡ length kinds₀
+  pub lines-length : length buf ≡ length buf₀
+  pub rest : {kinds′ : List ℕ} {buf′ : List ℤ} → Loaded K kinds buf m (map (lineOf inA) (stated K (fieldsAt s here))) kinds′ buf′
+      → Loaded K kinds₀ buf₀ n (map (lineOf inA) (stated K (fieldsAt s at))) kinds′ buf′
+
+pub loading-start : {inA : Bool} {s : List ℕ} {at K : ℕ} {kinds : List ℕ} {buf : List ℤ} {n : ℕ} → Able K (fieldsAt s at) kinds buf n → Loading inA s at K kinds buf n kinds buf at n
+loading-start a = record { space = a .space; few = a .few; done = 0; m-is = omega arith; count = a .count; is = a .is; kinds-length = refl; lines-length = refl; rest = λ l. l }
+
+-- What a turn needs.
+pub record Fit (s : List ℕ) (K : ℕ) (kinds : List ℕ) (buf : List ℤ) (m tag start len : ℕ) : Type 0 where
+  pub from : 3 ≤ tag
+  pub len-is : len ≡ suc K * 2
+  pub loads : Loads s start K kinds buf m
+
+module _ {inA : Bool} {s : List ℕ} {at K : ℕ} {kinds₀ : List ℕ} {buf₀ : List ℤ} {n : ℕ} {kinds : List ℕ} {buf : List ℤ} {here m : ℕ}
+    (v : Loading inA s at K kinds₀ buf₀ n kinds buf here m) where
+  module _ {a tag start len next : ℕ} (k : Starts s here a tag start len next) where
+    on : (faultOf K (v .done) tag len ≡ 0) × (counted K (suc (v .done)) (fieldsAt s next) ≡ Counted.Count (v .count))
+    on = passed-both (faultOf K (v .done) tag len) a (v .count) (counted K (suc (v .done)) (fieldsAt s next)) (sym (counted-on k K (v .done)) ∙ v .is)
+
+    pub fit : Fit s K kinds buf m tag start len
+    fit =
+        let r = right-of K (v .done) tag len (on .0) in
+        let l = eqb-true len (suc K * 2) (r .size) in
+        record {
+          from = ltb-false tag 3 (r .from);
+          len-is = l;
+          loads = record { space = v .space; bytes = omega (arith, k .upto, k .next-is, l); few = omega (arith, v .few, v .m-is, ltb-true (v .done) 32 (r .room)) };
+        }
+
+    line-is : formLine inA K (tag - 3) s start ≡ lineOf inA (record { kind = pick (eqb tag 0x03) ≤0 =0; form = formFrom 2 K (take len (drop start s)) })
+    line-is =
+        let f : formFrom 2 K (drop start s) ≡ formFrom 2 K (take len (drop start s)) = sym (form-front 2 K len (drop start s) (omega (arith, fit .len-is))) in
+        ap₂ (λ (κ : Kind) (t : Form). lineOf inA (record { kind = κ; form = t })) (kind-of tag (fit .from)) f
+
+    pub loading-next : {kinds₁ : List ℕ} {buf₁ : List ℤ} → Loaded K kinds buf m (formLine inA K (tag - 3) s start ∷ []) kinds₁ buf₁
+        → Loading inA s at K kinds₀ buf₀ n kinds₁ buf₁ next (m + 1)
+    unfolding stated
+    loading-next p =
+        let fs : map (lineOf inA) (stated K (fieldsAt s here)) ≡ formLine inA K (tag - 3) s start ∷ map (lineOf inA) (stated K (fieldsAt s next))
+        = rw (k .is) (ap (λ (l : Line). l ∷ map (lineOf inA) (stated K (fieldsAt s next))) (sym line-is)) in
+        record {
+          space = record { constants = v .space .constants; room = omega (arith, v .space .room, p .lines-length); kinds-room = omega (arith, v .space .kinds-room, p .kinds-length) };
+          few = v .few;
+          done = suc (v .done);
+          m-is = omega (arith, v .m-is);
+          count = v .count;
+          is = on .1;
+          kinds-length = p .kinds-length ∙ v .kinds-length;
+          lines-length = p .lines-length ∙ v .lines-length;
+          rest = λ l. v .rest (rw fs (loaded-then p l));
+        }
+
+  -- bytes that are no whole field would be a fault
+  pub loading-cut : {a : ℕ} → fieldsAt s here ≡ cut a → ⊥
+  unfolding counted
+  loading-cut {a} e =
+      let q : Counted.Refused 2 a ≡ Counted.Count (v .count) = sym (rw e) ∙ v .is in
+      let z : _≡_ {A = ℕ} 0 1 = cc in omega arith
+
+  pub loading-done : {a : ℕ} → fieldsAt s here ≡ ends a → Loaded K kinds₀ buf₀ n (map (lineOf inA) (stated K (fieldsAt s at))) kinds buf
+  unfolding stated
+  loading-done e = v .rest (rw e loaded-none)
+
+-- ---- a whole bundle
+module _ {given : ℕ} {s : List ℕ} {r : Headed} (h : IsHeader FileKind.Bundle given s r) {kinds : List ℕ} {buf : List ℤ} {n : ℕ} (b : Bundled given s kinds buf n) where
+  pub never-refused : {x a : ℕ} → r ≡ Headed.Refused x a → ⊥
+  never-refused {x} {a} e =
+      let q : refused (answer x (b .file) a) ≡ accepted (b .states) = sym (scan-header h (b .file) e) ∙ b .is in
+      let z : _≡_ {A = ℕ} 0 1 = cc in omega arith
+
+  module _ {k next : ℕ} (e : r ≡ Headed.Header k next) where
+    counting : (x : Counted) → x ≡ counted k 0 (fieldsAt s next) → Able k (fieldsAt s next) kinds buf n
+    counting (Counted.Refused y a) c =
+        absurd
+        (let q : refused (answer y (b .file) a) ≡ accepted (b .states) = sym (scan-fault h e (b .file) c refl) ∙ b .is in
+        let z : _≡_ {A = ℕ} 0 1 = cc in omega arith)
+    counting (Counted.Count m) c =
+        let q : accepted (record { K = k; constraints = stated k (fieldsAt s next) }) ≡ accepted (b .states) = sym (scan-bundle h e (b .file) c refl) ∙ b .is in
+        let same : b .states .K ≡ k = ap (λ (x : Bundle). x .K) (let z : b .states ≡ record { K = k; constraints = stated k (fieldsAt s next) } = cc in z) in
+        record { space = rw same at (b .space); few = b .few; count = m; is = sym c }
+
+    pub able : Able k (fieldsAt s next) kinds buf n
+    able = counting (counted k 0 (fieldsAt s next)) refl
+
+    pub bundle-loaded : {inA : Bool} {kinds′ : List ℕ} {buf′ : List ℤ} → Loaded k kinds buf n (map (lineOf inA) (stated k (fieldsAt s next))) kinds′ buf′
+        → BundleLoaded inA given s kinds buf n kinds′ buf′
+    bundle-loaded {inA} {kinds′} {buf′} l = record {
+      loaded = λ file x q.
+          let t = scan-bundle h e file refl (able .is) in
+          let z : record { K = k; constraints = stated k (fieldsAt s next) } ≡ x = one-value t q in
+          subst (λ (y : Bundle). Loaded (y .K) kinds buf n (map (lineOf inA) (y .constraints)) kinds′ buf′) z l;
+    }

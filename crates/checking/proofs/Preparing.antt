@@ -1,0 +1,94 @@
+-- The lines of both bundles and the masks, over plain values. Assumes nothing.
+use mathlib.Core.Path.{_≡_, refl, sym, ap, ap₂, _∙_}
+use mathlib.Core.Bool.{true, false}
+use mathlib.Core.Option.{some}
+use mathlib.Core.List.{List, [], _∷_, _++_, map}
+use Prim.Native.Nat.{ℕ, zero, suc, _+_, _*_, _≤_, _<_}
+use native.Mathlib.Nat.{mul-le-mul-right}
+use native.Mathlib.Omega.{arith}
+use lib.IntN.{ℤ}
+use lib.ListN.{length, length-map, length-append}
+use Rattle.forms.specs.Forms.{Line, lineA, lineB, lines, occurs}
+use Rattle.fields.specs.Answers.{fileA, fileB, accepted}
+use Rattle.fields.specs.Fields.{fields}
+use Rattle.bundle.specs.Bundle.{bundle}
+use Rattle.fields.specs.Places.{givenK}
+use Rattle.lines.specs.Buffer.{size, linesIn, Bounded}
+use Rattle.lines.specs.Occurrence.{Span, held, occursIn, bits, told, told-occurs, held-A, held-B, length-bits}
+use Rattle.checking.specs.Load.{lineOf, Space, Loaded, Bundled, BundleLoaded}
+use Rattle.checking.specs.Whole.{Both, Buffers, Holding, Prepared}
+use Rattle.checking.proofs.Loading.{loaded-then}
+
+-- A given K is one that is not 0.
+pub given-some : (K : ℕ) → 1 ≤ K → givenK K ≡ some K
+given-some zero h = absurd (omega arith)
+given-some (suc K) h = refl
+
+module _ {A B : List ℕ} {K m n : ℕ} (w : Both A B K m n) where
+  pub bundled-A : {kinds : List ℕ} {buf : List ℤ} → Space K kinds buf → Bundled 0 A kinds buf 0
+  bundled-A s = record { file = fileA; states = w .a; is = w .a-is; space = rw (w .a-constants) s; few = omega arith }
+
+  b-accepted : bundle fileB (givenK K) (fields B) ≡ accepted (w .b)
+  b-accepted = rw (given-some K (w .low), ← w .a-constants) (w .b-is)
+
+  pub bundled-B : {kinds : List ℕ} {buf : List ℤ} → Space K kinds buf → Bundled K B kinds buf m
+  bundled-B s = record { file = fileB; states = w .b; is = b-accepted; space = rw (w .b-constants) s; few = omega (arith, w .a-few) }
+
+  pub span-A : {kinds : List ℕ} {buf : List ℤ} → Space K kinds buf → Span K buf 0 m
+  span-A s = record { constants = w .high; ordered = omega arith; lines = omega (arith, w .a-few); room = omega (arith, s .room, mul-le-mul-right (size K) (most (w .a-few))) }
+    where
+      most : m ≤ 32 → m ≤ 128
+      most h = omega arith
+
+  pub span-B : {kinds : List ℕ} {buf : List ℤ} → Space K kinds buf → Span K buf m (m + n)
+  span-B s = record { constants = w .high; ordered = omega arith; lines = omega (arith, w .a-few, w .b-few); room = omega (arith, s .room, mul-le-mul-right (size K) (most (w .a-few) (w .b-few))) }
+    where
+      most : m ≤ 32 → n ≤ 32 → m + n ≤ 128
+      most h k = omega arith
+
+  -- The buffers keep their room.
+  pub space-A : {kinds kinds₁ : List ℕ} {buf buf₁ : List ℤ} → BundleLoaded true 0 A kinds buf 0 kinds₁ buf₁ → Space K kinds buf → Space K kinds₁ buf₁
+  space-A p s =
+      let l = p .loaded fileA (w .a) (w .a-is) in
+      record { constants = s .constants; room = omega (arith, s .room, l .lines-length); kinds-room = omega (arith, s .kinds-room, l .kinds-length) }
+
+  module _ {kinds kinds₁ kinds₂ : List ℕ} {buf buf₁ buf₂ : List ℤ} (p : BundleLoaded true 0 A kinds buf 0 kinds₁ buf₁) (q : BundleLoaded false K B kinds₁ buf₁ m kinds₂ buf₂) where
+    pub space-both : Space K kinds buf → Space K kinds₂ buf₂
+    space-both s =
+        let l = q .loaded fileB (w .b) b-accepted in
+        let t = space-A p s in
+        record { constants = t .constants; room = omega (arith, t .room, l .lines-length); kinds-room = omega (arith, t .kinds-room, l .kinds-length) }
+
+    both-loaded : Loaded K kinds buf 0 (lines (w .a .constraints) (w .b .constraints)) kinds₂ buf₂
+    both-loaded =
+        let l = rw (w .a-constants) at (p .loaded fileA (w .a) (w .a-is)) in
+        let r = rw (w .b-constants) at (q .loaded fileB (w .b) b-accepted) in
+        let z : m ≡ 0 + length (map lineA (w .a .constraints)) = omega (arith, length-map (w .a .constraints) lineA, w .a-count) in
+        loaded-then l (rw z at r)
+
+    total : 0 + length (lines (w .a .constraints) (w .b .constraints)) ≡ m + n
+    total =
+        omega (arith, length-append (map lineA (w .a .constraints)) (map lineB (w .b .constraints)), length-map (w .a .constraints) lineA, length-map (w .b .constraints) lineB, w .a-count, w .b-count)
+
+    lines-are : linesIn K kinds₂ buf₂ (m + n) ≡ lines (w .a .constraints) (w .b .constraints)
+    unfolding linesIn
+    lines-are = rw (← total) (both-loaded .lines)
+
+    are : linesIn K kinds₂ buf₂ (length (w .a .constraints) + length (w .b .constraints)) ≡ lines (w .a .constraints) (w .b .constraints)
+    are = rw (w .a-count, w .b-count) lines-are
+
+    pub holding : {maskA maskB : List ℕ} → maskA ≡ bits (occursIn K buf₂ 0 m) 16 → maskB ≡ bits (occursIn K buf₂ m (m + n)) 16
+        → Holding (w .a) (w .b) K kinds₂ buf₂ maskA maskB (m + n)
+    holding x y =
+        let hA : held K kinds₂ buf₂ 0 m ≡ w .a .constraints = rw (w .a-count) at (held-A K kinds₂ buf₂ (w .a .constraints) (w .b .constraints) are) in
+        let hB : held K kinds₂ buf₂ m (m + n) ≡ w .b .constraints = rw (w .a-count, w .b-count) at (held-B K kinds₂ buf₂ (w .a .constraints) (w .b .constraints) are) in
+        record {
+          lines-are = lines-are;
+          bounded = rw total at (both-loaded .bounded (record { small = λ j h. absurd (omega arith) }));
+          a-tells = ap told x ∙ told-occurs K kinds₂ buf₂ 0 m 16 (omega arith) (w .high) ∙ ap occurs hA;
+          b-tells = ap told y ∙ told-occurs K kinds₂ buf₂ m (m + n) 16 (omega arith) (w .high) ∙ ap occurs hB;
+        }
+
+    pub prepared : Space K kinds buf → {maskA maskB : List ℕ} → maskA ≡ bits (occursIn K buf₂ 0 m) 16 → maskB ≡ bits (occursIn K buf₂ m (m + n)) 16
+        → Buffers K kinds₂ buf₂ maskA maskB
+    prepared s x y = record { space = space-both s; a = ap length x ∙ length-bits (occursIn K buf₂ 0 m) 16; b = ap length y ∙ length-bits (occursIn K buf₂ m (m + n)) 16 }

@@ -1,0 +1,273 @@
+-- The check stage by stage, over plain values: each refusal, the root, and that an accepted formula fits the scratch. Assumes nothing.
+use mathlib.Core.Path.{_≡_, refl, sym, ap, _∙_, subst}
+use mathlib.Core.Option.{Option, none, some}
+use mathlib.Core.Bool.{Bool, true, false}
+use mathlib.Core.List.{List, [], _∷_, _++_}
+use Prim.Native.Nat.{ℕ, zero, suc, _+_, _≤_, _<_}
+use native.Mathlib.Omega.{arith}
+use lib.Dec.{T, eqb→eq}
+use lib.IntN.{ℤ}
+use lib.ListN.{length, getD, take, length-append}
+use lib.Seq.{sets, sets-eq, length-sets, take-at}
+use borrow.Author.Tests.{le-leb, lt-leb}
+use Rattle.forms.specs.Edition.{edition1}
+use Rattle.forms.specs.Forms.{Line, Formula, lines, occurs, All, nil, cons}
+use Rattle.fields.specs.declared.Answer.{Answer}
+use Rattle.fields.specs.declared.FileKind.{FileKind}
+use Rattle.fields.specs.declared.header.Headed.{Headed}
+use Rattle.fields.specs.Answers.{answer, fileA, fileB, fileProof, Result, refused, accepted, _>>=_, _>>_, need, written}
+use Rattle.fields.specs.Fields.{Fields, fields}
+use Rattle.fields.specs.Header.{Header, agrees, header, finished, headerBytes}
+use Rattle.fields.specs.Places.{fieldsAt, givenK, headedOf, IsHeader}
+use Rattle.fields.proofs.HeaderLaid.{header-gives}
+use Rattle.bundle.specs.Bundle.{Bundle, atMost, bundle, bundles}
+use Rattle.bundle.specs.Scan.{scanned}
+use Rattle.bundle.specs.declared.Scanned.{Scanned}
+use Rattle.bundle.proofs.Laid.{bundle-gives}
+use Rattle.bundle.proofs.Reading.{Taken, shaped, taken, not-taken}
+use Rattle.formula.specs.Formula.{encode, formulaFile}
+use Rattle.lines.specs.Buffer.{linesIn}
+use Rattle.lines.specs.Occurrence.{told}
+use Rattle.proof.specs.Check.{Closing, checkBranch, checkProof, interpolant, check}
+use Rattle.proof.proofs.Agree.{interpolant-iff}
+use Rattle.proof.proofs.Sizes.{written-reads-back}
+use Rattle.checking.specs.Whole.{Short, Both, Holding, Prepared, Begun, finishing, rooted, Finishes, Roots, Rootable, Fits, Ended, Checks}
+use Rattle.checking.specs.declared.check.Checked.{Checked}
+use Rattle.checking.proofs.Delivering.{unwritten}
+use Rattle.checking.proofs.Preparing.{given-some}
+
+pub checks-refused : {A B P out : List ℕ} {number file place : ℕ} {r : Checked} → interpolant A B P ≡ refused (answer number file place) → r ≡ unwritten number file place
+    → Checks A B P out out r
+unfolding check written _>>=_
+checks-refused e q = record { is = rw (e, q) }
+
+-- ---- too long
+module _ (A B P : List ℕ) where
+  pub long-A : 4096 < length A → interpolant A B P ≡ refused (answer 1 1 0)
+  unfolding interpolant atMost need _>>_
+  long-A h = rw (lt-leb (length A) 4096 h)
+
+  module _ (a : length A ≤ 4096) where
+    pub long-B : 4096 < length B → interpolant A B P ≡ refused (answer 1 2 0)
+    unfolding interpolant atMost need _>>_
+    long-B h = rw (le-leb (length A) 4096 a, lt-leb (length B) 4096 h)
+
+    module _ (b : length B ≤ 4096) where
+      pub long-P : 65536 < length P → interpolant A B P ≡ refused (answer 1 3 0)
+      unfolding interpolant atMost need _>>_
+      long-P h = rw (le-leb (length A) 4096 a, le-leb (length B) 4096 b, lt-leb (length P) 65536 h)
+
+-- ---- the bundles
+module _ {A B P : List ℕ} (s : Short A B P) where
+  short-is : interpolant A B P ≡ (bundles A B >>= λ (a, b). (checkProof a b (fields P) >>= λ I. accepted (a .K, I)))
+  unfolding interpolant atMost need _>>_
+  short-is = rw (le-leb (length A) 4096 (s .a), le-leb (length B) 4096 (s .b), le-leb (length P) 65536 (s .p))
+
+  pub refused-A : {x : Answer} → bundle fileA none (fields A) ≡ refused x → interpolant A B P ≡ refused x
+  unfolding bundles _>>=_
+  refused-A e = short-is ∙ rw e
+
+  pub refused-B : {x : Answer} (a : Bundle) → bundle fileA none (fields A) ≡ accepted a → bundle fileB (some (a .K)) (fields B) ≡ refused x → interpolant A B P ≡ refused x
+  unfolding bundles _>>=_
+  refused-B a e f = short-is ∙ rw (e, f)
+
+  module _ {K m n : ℕ} (w : Both A B K m n) where
+    both-is : interpolant A B P ≡ (checkProof (w .a) (w .b) (fields P) >>= λ I. accepted (w .a .K, I))
+    unfolding bundles _>>=_
+    both-is = short-is ∙ rw (w .a-is, w .b-is)
+
+    K-is : interpolant A B P ≡ (checkProof (w .a) (w .b) (fields P) >>= λ I. accepted (K, I))
+    K-is = both-is ∙ ap (λ (k : ℕ). checkProof (w .a) (w .b) (fields P) >>= λ I. accepted (k, I)) (w .a-constants)
+
+    pub refused-P : {x : Answer} → header FileKind.Proof fileProof (some K) (fields P) ≡ refused x → interpolant A B P ≡ refused x
+    unfolding checkProof _>>=_
+    refused-P e = both-is ∙ rw (w .a-constants, e)
+
+-- ---- the root
+proof-root : (a b : Bundle) (K : ℕ) (fs rest : Fields) → a .K ≡ K → header FileKind.Proof fileProof (some K) fs ≡ accepted (record { edition = edition1; K = K; rest = rest })
+    → checkProof a b fs
+    ≡ (checkBranch edition1 K (occurs (a .constraints)) (occurs (b .constraints)) 32 0 (lines (a .constraints) (b .constraints)) rest
+    >>= λ c. (finished FileKind.Proof fileProof (c .after) >> accepted (c .formula)))
+unfolding checkProof _>>=_
+proof-root a b K fs rest e h = rw (e, h)
+
+module _ {A B P : List ℕ} {K m n at : ℕ} (g : Begun A B P K m n at) where
+  a : Bundle
+  a = g .both .a
+
+  b : Bundle
+  b = g .both .b
+
+  abbrev root : Result Closing
+  root = checkBranch edition1 K (occurs (a .constraints)) (occurs (b .constraints)) 32 0 (lines (a .constraints) (b .constraints)) (fieldsAt P at)
+
+  begun-is : interpolant A B P ≡ ((root >>= λ c. (finished FileKind.Proof fileProof (c .after) >> accepted (c .formula))) >>= λ I. accepted (K, I))
+  unfolding a b
+  begun-is =
+      K-is (g .short) (g .both)
+      ∙ ap (λ (x : Result Formula). x >>= λ I. accepted (K, I)) (proof-root (g .both .a) (g .both .b) K (fields P) (fieldsAt P at) (g .both .a-constants) (g .header-is))
+
+-- one step after the other, by what the root gives
+end-bytes : (K : ℕ) (I : Formula) (y : Result (Unit {0}))
+    → (((y >> accepted I) >>= λ J. accepted (K, J)) >>= λ (k, J). accepted (formulaFile edition1 k J)) ≡ (y >> accepted (headerBytes K ++ encode edition1 I))
+unfolding _>>=_ _>>_ formulaFile
+end-bytes K I (refused z) = refl
+end-bytes K I (accepted z) = refl
+
+then-bytes : (K : ℕ) (x : Result Closing)
+    → (((x >>= λ c. (finished FileKind.Proof fileProof (c .after) >> accepted (c .formula))) >>= λ I. accepted (K, I)) >>= λ (k, I). accepted (formulaFile edition1 k I))
+    ≡ (x >>= λ c. finishing K (c .after) (encode edition1 (c .formula)))
+unfolding _>>=_
+then-bytes K (refused y) = refl
+then-bytes K (accepted c) = end-bytes K (c .formula) (finished FileKind.Proof fileProof (c .after))
+
+file-length : (K : ℕ) (I : Formula) → length (encode edition1 I) ≤ length (formulaFile edition1 K I)
+unfolding formulaFile
+file-length K I = omega (arith, length-append (headerBytes K) (encode edition1 I))
+
+pub all-bytes : (s : List ℕ) → ((i : ℕ) → getD s i 0 < 256) → All (λ x. x < 256) s
+all-bytes [] h = nil
+all-bytes (x ∷ s) h = cons (h 0) (all-bytes s (λ i. h (suc i)))
+
+module _ {A B P : List ℕ} {K m n at : ℕ} (g : Begun A B P K m n at) {kinds : List ℕ} {buf : List ℤ} {maskA maskB : List ℕ} (q : Prepared A B K kinds buf maskA maskB m n) where
+  h : Holding (g .both .a) (g .both .b) K kinds buf maskA maskB (m + n)
+  h = q .holds (g .both)
+
+  same-root : checkBranch edition1 K (told maskA) (told maskB) 32 0 (linesIn K kinds buf (m + n)) (fieldsAt P at) ≡ root g
+  unfolding a b
+  same-root = rw (h .a-tells, h .b-tells, h .lines-are)
+
+  same-bytes : rooted K (told maskA) (told maskB) (linesIn K kinds buf (m + n)) (fieldsAt P at) ≡ (interpolant A B P >>= λ (k, I). accepted (formulaFile edition1 k I))
+  same-bytes =
+      ap (λ (x : Result Closing). x >>= λ c. finishing K (c .after) (encode edition1 (c .formula))) same-root
+      ∙ sym (ap (λ (x : Result (ℕ × Formula)). x >>= λ (k, I). accepted (formulaFile edition1 k I)) (begun-is g) ∙ then-bytes K (root g))
+
+  pub checks-root : {out out′ : List ℕ} {r : Checked} → Roots K (told maskA) (told maskB) (linesIn K kinds buf (m + n)) P at out out′ r → Checks A B P out out′ r
+  unfolding check
+  checks-root {out} l = record { is = l .is ∙ ap (λ (R : Result (List ℕ)). written R out) same-bytes }
+
+  accepts : (c : Closing) → root g ≡ accepted c → finished FileKind.Proof fileProof (c .after) ≡ accepted tt → interpolant A B P ≡ accepted (K, c .formula)
+  unfolding _>>=_ _>>_
+  accepts c e f = begun-is g ∙ rw (e, f)
+
+  pub fits-scratch : All (λ x. x < 256) A → All (λ x. x < 256) B → All (λ x. x < 256) P
+      → Fits K (told maskA) (told maskB) (linesIn K kinds buf (m + n)) P at
+  fits-scratch x y z = record {
+    fits = λ c e f.
+        let i = accepts c (sym same-root ∙ e) f in
+        let l = written-reads-back A B P x y z (interpolant-iff A B P K (c .formula) .0 i) .1 in
+        omega (arith, l, file-length K (c .formula));
+  }
+
+-- ---- each way from the root
+module _ {K : ℕ} {inA inB : ℕ → Bool} {ls : List Line} {P : List ℕ} {at : ℕ} where
+  pub root-fault : {out : List ℕ} {number place : ℕ} {r : Checked} → checkBranch edition1 K inA inB 32 0 ls (fieldsAt P at) ≡ refused (answer number 3 place) → r ≡ unwritten number 3 place
+      → Roots K inA inB ls P at out out r
+  unfolding _>>=_ written
+  root-fault e q = record { is = rw (e, q) }
+
+  module _ (t : Fits K inA inB ls P at) (c : Closing) (e : checkBranch edition1 K inA inB 32 0 ls (fieldsAt P at) ≡ accepted c)
+      (end o : ℕ) (after : c .after ≡ fieldsAt P end) (o-is : o ≡ length (encode edition1 (c .formula))) (S : List ℕ) {S′ : List ℕ} (len : length S ≡ 65536)
+      (stored : length (encode edition1 (c .formula)) ≤ length S → S′ ≡ sets S 0 (encode edition1 (c .formula))) where
+    pub root-ended : Ended P end o S′
+    root-ended = record {
+      room = λ f.
+          let l = t .fits c e (rw after f) in
+          let m = ap length (stored (omega arith)) ∙ length-sets S 0 (encode edition1 (c .formula)) in
+          omega (arith, o-is, len);
+    }
+
+    bytes-are : finished FileKind.Proof fileProof (fieldsAt P end) ≡ accepted tt → take o S′ ≡ encode edition1 (c .formula)
+    bytes-are f =
+        let l = t .fits c e (rw after f) in
+        let x = encode edition1 (c .formula) in
+        rw (stored (omega arith), sets-eq x S 0 (omega arith)) (take-at x _ o (sym o-is))
+
+    same-end : (y : Result (Unit {0})) → finished FileKind.Proof fileProof (fieldsAt P end) ≡ y → (y >> accepted (headerBytes K ++ take o S′)) ≡ (y >> accepted (headerBytes K ++ encode edition1 (c .formula)))
+    unfolding _>>_
+    same-end (refused z) f = refl
+    same-end (accepted u) f = ap (λ (x : List ℕ). accepted (headerBytes K ++ x)) (bytes-are f)
+
+    rooted-is : finishing K (fieldsAt P end) (take o S′) ≡ rooted K inA inB ls (fieldsAt P at)
+    unfolding _>>=_
+    rooted-is = same-end (finished FileKind.Proof fileProof (fieldsAt P end)) refl ∙ rw (e, after)
+
+    pub root-closed : {out out′ : List ℕ} {r : Checked} → Finishes K P end S′ o out out′ r → Roots K inA inB ls P at out out′ r
+    root-closed {out} l = record { is = l .is ∙ ap (λ (R : Result (List ℕ)). written R out) rooted-is }
+
+-- ---- what the scans and the header tell
+agreed : (K L : ℕ) → T (agrees (some K) L) → L ≡ K
+unfolding agrees
+agreed K L t = eqb→eq L K t
+
+pub checks-answer : {A B P out : List ℕ} {x : Answer} → interpolant A B P ≡ refused x → Checks A B P out out (record { answer = x; count = 0 })
+unfolding check written _>>=_
+checks-answer e = record { is = rw e }
+
+module _ (A : List ℕ) {r : Scanned} (e : r ≡ scanned (bundle 1 none (fields A))) where
+  pub scanned-A : r .answer .number ≡ 0 → Taken (bundle 1 none (fields A)) r
+  scanned-A z = taken (shaped 1 none (fields A)) e z
+
+  pub unscanned-A : (r .answer .number ≡ 0 → ⊥) → bundle 1 none (fields A) ≡ refused (r .answer)
+  unscanned-A z = not-taken (shaped 1 none (fields A)) e z
+
+  module _ (B : List ℕ) {q : Scanned} (z : r .answer .number ≡ 0) (f : q ≡ scanned (bundle 2 (givenK (r .k)) (fields B))) where
+    t : Taken (bundle 1 none (fields A)) r
+    t = scanned-A z
+
+    k-is : r .k ≡ t .bundle .K
+    k-is = ap (λ (x : Scanned). x .k) (t .scan-is)
+
+    given-is : givenK (r .k) ≡ some (t .bundle .K)
+    given-is = ap givenK k-is ∙ given-some (t .bundle .K) (t .shape .low)
+
+    f′ : q ≡ scanned (bundle 2 (some (t .bundle .K)) (fields B))
+    f′ = f ∙ ap (λ (o : Option ℕ). scanned (bundle 2 o (fields B))) given-is
+
+    pub unscanned-B : {P : List ℕ} → Short A B P → (q .answer .number ≡ 0 → ⊥) → interpolant A B P ≡ refused (q .answer)
+    unscanned-B s y = refused-B s (t .bundle) (t .is) (not-taken (shaped 2 (some (t .bundle .K)) (fields B)) f′ y)
+
+    pub scanned-both : q .answer .number ≡ 0 → Both A B (r .k) (r .count) (q .count)
+    scanned-both y =
+        let u = taken (shaped 2 (some (t .bundle .K)) (fields B)) f′ y in
+        let same = agreed (t .bundle .K) (u .bundle .K) (bundle-gives 2 (some (t .bundle .K)) (fields B) .gives (u .bundle) (u .is) .agree) in
+        let cA : r .count ≡ length (t .bundle .constraints) = ap (λ (x : Scanned). x .count) (t .scan-is) in
+        let cB : q .count ≡ length (u .bundle .constraints) = ap (λ (x : Scanned). x .count) (u .scan-is) in
+        record {
+          a = t .bundle;
+          b = u .bundle;
+          a-is = t .is;
+          b-is = u .is;
+          a-constants = sym k-is;
+          b-constants = same ∙ sym k-is;
+          low = omega (arith, k-is, t .shape .low);
+          high = omega (arith, k-is, t .shape .high);
+          a-count = sym cA;
+          b-count = sym cB;
+          a-few = omega (arith, cA, t .shape .few);
+          b-few = omega (arith, cB, u .shape .few);
+        }
+
+module _ {A B P : List ℕ} {K m n : ℕ} (s : Short A B P) (w : Both A B K m n) {r : Headed} (h : IsHeader FileKind.Proof K P r) where
+  header-as : header FileKind.Proof fileProof (some K) (fields P) ≡ headedOf fileProof P r
+  header-as = ap (λ (o : Option ℕ). header FileKind.Proof fileProof o (fields P)) (sym (given-some K (w .low))) ∙ h .is fileProof
+
+  pub unheaded : {x a : ℕ} → r ≡ Headed.Refused x a → interpolant A B P ≡ refused (answer x 3 a)
+  unheaded e = refused-P s w (header-as ∙ rw e)
+
+  pub begun : {k next : ℕ} → r ≡ Headed.Header k next → Begun A B P K m n next
+  begun {k} {next} e =
+      let d : header FileKind.Proof fileProof (some K) (fields P) ≡ accepted (record { edition = edition1; K = k; rest = fieldsAt P next }) = header-as ∙ rw e in
+      let z : k ≡ K = agreed K k (header-gives FileKind.Proof fileProof (some K) (fields P) .gives _ d .agree) in
+      record { short = s; both = w; header-is = d ∙ ap (λ (x : ℕ). accepted (record { edition = edition1; K = x; rest = fieldsAt P next })) z }
+
+-- ---- what the root asks
+module _ {A B P : List ℕ} {K m n at : ℕ} (g : Begun A B P K m n at) {kinds : List ℕ} {buf : List ℤ} {maskA maskB : List ℕ} (q : Prepared A B K kinds buf maskA maskB m n) where
+  pub rootable : Rootable K kinds buf maskA maskB (m + n)
+  rootable = record {
+    branch = record { constants = g .both .high; room = q .buffers .space .room; bounded = q .holds (g .both) .bounded };
+    kinds-room = q .buffers .space .kinds-room;
+    few = omega (arith, g .both .a-few, g .both .b-few);
+    a-mask = omega (arith, g .both .high, q .buffers .a);
+    b-mask = omega (arith, g .both .high, q .buffers .b);
+  }

@@ -1,0 +1,62 @@
+-- `checking::check::prepare` meets its contract: A's lines, B's lines, and the two masks. Assumes nothing.
+use mathlib.Core.Path.{_≡_, refl}
+use native.Mathlib.Omega.{arith}
+use Rattle.checking.proofs.Preparing.{bundled-A, bundled-B, span-A, span-B, space-A, space-both, holding, prepared}
+use borrow.Author.Needs.{needs}
+use Rattle.checking.proofs.check.prepare.Statement.{statement}
+use Rattle.checking.proofs.check.prepare.Tie as tie
+
+load-requires : tie.Need-load-requires
+load-requires c κs = bundled-A (c .before .before .before .before .before .before .before .pre .0) (c .before .before .before .before .before .before .before .pre .1 .space)
+
+load-requires-2 : tie.Need-load-requires-2
+load-requires-2 c κs = bundled-B (c .before .before .before .before .before .before .before .before .before .before .before .before .before .pre .0) (space-A (c .before .before .before .before .before .before .before .before .before .before .before .before .before .pre .0) (c .before .before .before .before .before .load .ensures) (c .before .before .before .before .before .before .before .before .before .before .before .before .before .pre .1 .space))
+
+occurrences-requires : tie.Need-occurrences-requires
+occurrences-requires c κs =
+    let w = c .before .before .before .before .before .before .before .before .before .before .before .before .before .before .before .before .before .before .before .pre .0 in
+    (span-A w (space-both w (c .before .before .before .before .before .before .before .before .before .before .before .load .ensures) (c .before .before .before .before .before .load2 .ensures) (c .before .before .before .before .before .before .before .before .before .before .before .before .before .before .before .before .before .before .before .pre .1 .space)), (c .before .before .before .before .before .before .before .before .before .before .before .before .before .before .before .before .before .before .before .pre .1 .a))
+
+add-occurrences : tie.Need-add-occurrences
+add-occurrences c = search needs
+
+occurrences-requires-2 : tie.Need-occurrences-requires-2
+occurrences-requires-2 c κs =
+    let w = c .before .before .before .before .before .before .before .before .before .before .before .before .before .before .before .before .before .before .before .before .before .before .before .before .pre .0 in
+    (span-B w (space-both w (c .before .before .before .before .before .before .before .before .before .before .before .before .before .before .before .before .load .ensures) (c .before .before .before .before .before .before .before .before .before .before .load2 .ensures) (c .before .before .before .before .before .before .before .before .before .before .before .before .before .before .before .before .before .before .before .before .before .before .before .before .pre .1 .space)), (c .before .before .before .before .before .before .before .before .before .before .before .before .before .before .before .before .before .before .before .before .before .before .before .before .pre .1 .b))
+
+same-length : tie.Need-same-length
+same-length c = search needs
+
+same-length-2 : tie.Need-same-length-2
+same-length-2 c = search needs
+
+same-length-3 : tie.Need-same-length-3
+same-length-3 c = search needs
+
+same-length-4 : tie.Need-same-length-4
+same-length-4 c = search needs
+
+returns : tie.Need-returns
+returns c =
+    let v = c .before .before .before .before .before .before .before .before .before .before .before .before .before .before .before .before .before .before .before .before .before .before .before .before .before .before .before .pre in
+    let p = c .before .before .before .before .before .before .before .before .before .before .before .before .before .before .before .before .before .before .before .load .ensures in
+    let q = c .before .before .before .before .before .before .before .before .before .before .before .before .before .load2 .ensures in
+    let x = c .before .before .before .before .before .before .before .occurrences .ensures in
+    let y = c .before .before .occurrences2 .ensures in
+    record { holds = λ w. holding w p q x y; buffers = prepared (v .0) p q (v .1 .space) x y }
+
+pub prepare-spec : {M : Type 1} → statement M
+prepare-spec =
+    tie.close
+    (tie.spec
+    load-requires
+    load-requires-2
+    occurrences-requires
+    add-occurrences
+    occurrences-requires-2
+    same-length
+    same-length-2
+    same-length-3
+    same-length-4
+    returns)

@@ -1,0 +1,54 @@
+-- `checking::load::load_line` meets its contract: t, then tA, then the kind. Assumes nothing.
+use native.Mathlib.Omega.{arith}
+use Rattle.lines.specs.Lines.{before}
+use Rattle.checking.proofs.Loading.{form-loaded}
+use borrow.Author.Needs.{needs}
+use Rattle.checking.proofs.load.load_line.Statement.{statement}
+use Rattle.checking.proofs.load.load_line.Tie as tie
+
+add-w : tie.Need-add-w
+add-w c = search needs
+
+place-requires : tie.Need-place-requires
+place-requires c κs = search needs
+
+load-numbers-requires : tie.Need-load-numbers-requires
+load-numbers-requires c κs =
+    let p = c .before .before .before .before .pre in
+    record { bytes = p .bytes; room = omega (arith, before (c .before .before .before .before .args .k) (p .few), p .space .room, c .before .place .ensures) }
+
+add-load-partial : tie.Need-add-load-partial
+add-load-partial c =
+    let p = c .before .before .before .before .before .before .before .pre in
+    omega (arith, before (c .before .before .before .before .before .before .before .args .k) (p .few), p .space .room, c .before .before .before .before .place .ensures)
+
+load-partial-requires : tie.Need-load-partial-requires
+load-partial-requires c κs =
+    let p = c .before .before .before .before .before .before .before .pre in
+    record { bytes = p .bytes; room = omega (arith, before (c .before .before .before .before .before .before .before .args .k) (p .few), p .space .room, c .before .before .before .before .place .ensures) }
+
+slice-write-kinds : tie.Need-slice-write-kinds
+slice-write-kinds c = search needs
+
+same-length : tie.Need-same-length
+same-length c = search needs
+
+same-length-2 : tie.Need-same-length-2
+same-length-2 c = search needs
+
+returns : tie.Need-returns
+returns c = form-loaded (c .before .before .before .before .before .before .before .before .before .pre) (c .before .before .before .before .before .before .before .before .before .args .in-a) (c .before .before .before .before .before .before .before .before .before .args .kind) (rw (c .before .before .before .before .before .before .place .ensures) at (c .before .before .before .before .load-numbers .ensures)) (rw (c .before .before .before .before .before .before .place .ensures) at (c .before .load-partial .ensures))
+
+pub load-line-spec : {M : Type 1} → statement M
+load-line-spec =
+    tie.close
+    (tie.spec
+    add-w
+    place-requires
+    load-numbers-requires
+    add-load-partial
+    load-partial-requires
+    slice-write-kinds
+    same-length
+    same-length-2
+    returns)

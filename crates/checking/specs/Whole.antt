@@ -1,0 +1,109 @@
+-- The stages of the check: what each asks of those before it, and what it leaves. Document 01, "Check". Assumes nothing.
+use mathlib.Core.Path.{_≡_}
+use mathlib.Core.Option.{none, some}
+use mathlib.Core.Bool.{Bool}
+use mathlib.Core.List.{List, _++_}
+use Prim.Native.Nat.{ℕ, _+_, _*_, _≤_}
+use lib.IntN.{ℤ}
+use lib.ListN.{length, take}
+use Rattle.forms.specs.Edition.{edition1}
+use Rattle.forms.specs.Forms.{Line, lines, occurs}
+use Rattle.fields.specs.declared.FileKind.{FileKind}
+use Rattle.fields.specs.Answers.{fileA, fileB, fileProof, Result, accepted, _>>=_, _>>_, Written, written}
+use Rattle.fields.specs.Fields.{Fields, fields}
+use Rattle.fields.specs.Header.{Header, header, finished, headerBytes}
+use Rattle.fields.specs.Places.{fieldsAt}
+use Rattle.bundle.specs.Bundle.{Bundle, bundle}
+use Rattle.formula.specs.Formula.{encode}
+use Rattle.lines.specs.Buffer.{linesIn, Bounded, Branch}
+use Rattle.lines.specs.Occurrence.{told}
+use Rattle.proof.specs.Check.{Closing, checkBranch, check}
+use Rattle.checking.specs.Load.{Space}
+use Rattle.checking.specs.declared.check.Checked.{Checked}
+
+-- The code's struct, with the output afterwards, as what an operation that writes bytes leaves.
+abbrev pub writtenOf : Checked → List ℕ → Written
+writtenOf r out = record { answer = r .answer; count = r .count; output = out }
+
+-- No file is too long.
+pub record Short (A B P : List ℕ) : Type 0 where
+  pub a : length A ≤ edition1 .bundleBytes
+  pub b : length B ≤ edition1 .bundleBytes
+  pub p : length P ≤ edition1 .proofBytes
+
+-- A and B were gone over: they are accepted, with K constants, and m and n constraints.
+pub record Both (A B : List ℕ) (K m n : ℕ) : Type 0 where
+  pub a : Bundle
+  pub b : Bundle
+  pub a-is : bundle fileA none (fields A) ≡ accepted a
+  pub b-is : bundle fileB (some (a .K)) (fields B) ≡ accepted b
+  pub a-constants : a .K ≡ K
+  pub b-constants : b .K ≡ K
+  pub low : 1 ≤ K
+  pub high : K ≤ 16
+  pub a-count : length (a .constraints) ≡ m
+  pub b-count : length (b .constraints) ≡ n
+  pub a-few : m ≤ 32
+  pub b-few : n ≤ 32
+
+-- The buffers have their room.
+pub record Buffers (K : ℕ) (kinds : List ℕ) (buf : List ℤ) (maskA maskB : List ℕ) : Type 0 where
+  pub space : Space K kinds buf
+  pub a : length maskA ≡ 16
+  pub b : length maskB ≡ 16
+
+-- The lines of both bundles are in the buffers, and the masks tell which constants occur in each.
+pub record Holding (a b : Bundle) (K : ℕ) (kinds : List ℕ) (buf : List ℤ) (maskA maskB : List ℕ) (count : ℕ) : Type 0 where
+  pub lines-are : linesIn K kinds buf count ≡ lines (a .constraints) (b .constraints)
+  pub bounded : Bounded K buf count
+  pub a-tells : told maskA ≡ occurs (a .constraints)
+  pub b-tells : told maskB ≡ occurs (b .constraints)
+
+pub record Prepared (A B : List ℕ) (K : ℕ) (kinds : List ℕ) (buf : List ℤ) (maskA maskB : List ℕ) (m n : ℕ) : Type 0 where
+  pub holds : (both : Both A B K m n) → Holding (both .a) (both .b) K kinds buf maskA maskB (m + n)
+  pub buffers : Buffers K kinds buf maskA maskB
+
+-- The proof's header is read too, and what follows it starts at a place.
+pub record Begun (A B P : List ℕ) (K m n at : ℕ) : Type 0 where
+  pub short : Short A B P
+  pub both : Both A B K m n
+  pub header-is : header FileKind.Proof fileProof (some K) (fields P) ≡ accepted (record { edition = edition1; K = K; rest = fieldsAt P at })
+
+-- What may follow the root, and then the formula's bytes behind the two header fields.
+abbrev pub finishing : (K : ℕ) → Fields → List ℕ → Result (List ℕ)
+finishing K fs bytes = finished FileKind.Proof fileProof fs >> accepted (headerBytes K ++ bytes)
+
+-- The root, what follows it, and the formula's file.
+abbrev pub rooted : (K : ℕ) (inA inB : ℕ → Bool) → List Line → Fields → Result (List ℕ)
+rooted K inA inB ls fs = checkBranch edition1 K inA inB (edition1 .strengthens) 0 ls fs >>= λ c. finishing K (c .after) (encode edition1 (c .formula))
+
+-- The answer, the count and the output, from each of these places on.
+pub record Delivers (K : ℕ) (scratch : List ℕ) (o : ℕ) (out out′ : List ℕ) (r : Checked) : Type 0 where
+  pub is : writtenOf r out′ ≡ written (accepted (headerBytes K ++ take o scratch)) out
+
+pub record Finishes (K : ℕ) (P : List ℕ) (at : ℕ) (scratch : List ℕ) (o : ℕ) (out out′ : List ℕ) (r : Checked) : Type 0 where
+  pub is : writtenOf r out′ ≡ written (finishing K (fieldsAt P at) (take o scratch)) out
+
+pub record Roots (K : ℕ) (inA inB : ℕ → Bool) (ls : List Line) (P : List ℕ) (at : ℕ) (out out′ : List ℕ) (r : Checked) : Type 0 where
+  pub is : writtenOf r out′ ≡ written (rooted K inA inB ls (fieldsAt P at)) out
+
+-- A formula that the check accepts fits the scratch.
+pub record Fits (K : ℕ) (inA inB : ℕ → Bool) (ls : List Line) (P : List ℕ) (at : ℕ) : Type 0 where
+  pub fits : (c : Closing) → checkBranch edition1 K inA inB (edition1 .strengthens) 0 ls (fieldsAt P at) ≡ accepted c → finished FileKind.Proof fileProof (c .after) ≡ accepted tt
+      → length (encode edition1 (c .formula)) ≤ 65536
+
+-- The bytes stand in the scratch, where the check accepts.
+pub record Ended (P : List ℕ) (at o : ℕ) (scratch : List ℕ) : Type 0 where
+  pub room : finished FileKind.Proof fileProof (fieldsAt P at) ≡ accepted tt → o ≤ length scratch
+
+-- What the whole check leaves.
+pub record Checks (A B P out out′ : List ℕ) (r : Checked) : Type 0 where
+  pub is : writtenOf r out′ ≡ check A B P out
+
+-- What the root asks of the buffers.
+pub record Rootable (K : ℕ) (kinds : List ℕ) (buf : List ℤ) (maskA maskB : List ℕ) (count : ℕ) : Type 0 where
+  pub branch : Branch K buf count
+  pub kinds-room : 128 ≤ length kinds
+  pub few : count ≤ 64
+  pub a-mask : K ≤ length maskA
+  pub b-mask : K ≤ length maskB

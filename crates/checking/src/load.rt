@@ -1,0 +1,128 @@
+// The constraints of a bundle as lines, behind the lines that the buffer has.
+use fields::FileKind;
+use fields::Next;
+use fields::header::Headed;
+use fields::header::read_header;
+use fields::next_field;
+use fields::numbers::signed_at;
+ghost use mathlib.Core.List.{[], _∷_, map};
+ghost use Prim.Native.Nat.{_+_, _≤_};
+ghost use lib.IntN.{pos};
+ghost use lib.ListN.{length, drop, replicate};
+ghost use Rattle.fields.specs.Numbers.{signeds};
+ghost use Rattle.fields.specs.Places.{fieldsAt};
+ghost use Rattle.bundle.specs.Scan.{stated};
+ghost use Rattle.checking.specs.Load.{Copies, Put, partialOf, lineOf, Loads, Loaded, formLine, Able, Bundled, BundleLoaded};
+
+// n numbers of two bytes from start on, in place of the n numbers at a place.
+fn load_numbers(s: &[u8], start: usize, n: usize, lines: &mut [i64], at: usize)
+    requires { ⌜ Copies (now s) start n (now lines) at ⌝ }
+    ensures { λ _. ⌜ Put (now (lines .entry)) at (signeds 2 n (drop start (now (s .entry)))) n (now (lines .exit)) ⌝ }
+{
+    let mut i = 0;
+    while i < n {
+        let x = signed_at(s, start + i * 2, 2);
+        lines[at + i] = x;
+        i += 1;
+    }
+}
+
+// n times 0 in place of the n numbers at a place.
+fn clear_numbers(lines: &mut [i64], at: usize, n: usize)
+    requires { ⌜ at + n ≤ length (now lines) ⌝ }
+    ensures { λ _. ⌜ Put (now (lines .entry)) at (replicate n (pos 0)) n (now (lines .exit)) ⌝ }
+{
+    let mut i = 0;
+    while i < n {
+        lines[at + i] = 0;
+        i += 1;
+    }
+}
+
+// The numbers of tA: those of t for a line of A, 0 for one of B.
+fn load_partial(s: &[u8], start: usize, n: usize, lines: &mut [i64], at: usize, in_a: bool)
+    requires { ⌜ Copies (now s) start n (now lines) at ⌝ }
+    ensures { λ _. ⌜ Put (now (lines .entry)) at (partialOf in_a (signeds 2 n (drop start (now (s .entry))))) n (now (lines .exit)) ⌝ }
+{
+    if in_a {
+        load_numbers(s, start, n, lines, at);
+        return;
+    }
+    clear_numbers(lines, at, n);
+}
+
+// The form that starts at a place, as line n.
+fn load_line(
+    s: &[u8],
+    start: usize,
+    kind: u8,
+    in_a: bool,
+    lines: &mut [i64],
+    kinds: &mut [u8],
+    n: usize,
+    k: usize,
+)
+    requires { ⌜ Loads (now s) start k (now kinds) (now lines) n ⌝ }
+    ensures { λ _. ⌜ Loaded k (now (kinds .entry)) (now (lines .entry)) n (formLine in_a k kind (now (s .entry)) start ∷ []) (now (kinds .exit)) (now (lines .exit)) ⌝ }
+{
+    let w = k + 1;
+    let at = lines::place(n, k);
+    load_numbers(s, start, w, lines, at);
+    load_partial(s, start, w, lines, at + w, in_a);
+    kinds[n] = kind;
+}
+
+// The fields from at on, which are constraints without fault, as lines behind the first n.
+fn load_constraints(
+    s: &[u8],
+    at: usize,
+    k: u8,
+    in_a: bool,
+    lines: &mut [i64],
+    kinds: &mut [u8],
+    n: usize,
+)
+    requires { ⌜ Able k (fieldsAt (now s) at) (now kinds) (now lines) n ⌝ }
+    ensures { λ _. ⌜ Loaded k (now (kinds .entry)) (now (lines .entry)) n (map (lineOf in_a) (stated k (fieldsAt (now (s .entry)) at))) (now (kinds .exit)) (now (lines .exit)) ⌝ }
+{
+    let constants = k as usize;
+    let mut here = at;
+    let mut m = n;
+    loop {
+        match next_field(s, here) {
+            Next::Field {
+                at: _,
+                tag,
+                start,
+                len: _,
+                next,
+            } => {
+                load_line(s, start, tag - 3, in_a, lines, kinds, m, constants);
+                m += 1;
+                here = next;
+            }
+            Next::Cut { at: _ } => {
+                return;
+            }
+            Next::Ends { at: _ } => {
+                return;
+            }
+        }
+    }
+}
+
+// A bundle that was gone over, with the same given K, as lines behind the first n.
+pub fn load(s: &[u8], given: u8, in_a: bool, lines: &mut [i64], kinds: &mut [u8], n: usize)
+    requires { ⌜ Bundled given (now s) (now kinds) (now lines) n ⌝ }
+    ensures { λ _. ⌜ BundleLoaded in_a given (now (s .entry)) (now (kinds .entry)) (now (lines .entry)) n (now (kinds .exit)) (now (lines .exit)) ⌝ }
+{
+    match read_header(s, FileKind::Bundle, given) {
+        Headed::Header { k, next } => {
+            load_constraints(s, next, k, in_a, lines, kinds, n);
+        }
+        Headed::Refused {
+            number: _,
+            place: _,
+        } => {}
+    }
+}
