@@ -5,3 +5,9 @@ pub mod Endings
 pub mod Delivering
 pub mod Preparing
 pub mod Stages
+pub mod Deriving
+pub mod Testing
+pub mod Claiming
+pub mod Stepping
+pub mod Going
+pub mod Closes

@@ -1,0 +1,61 @@
+// The tests of the rows that close a branch.
+ghost use mathlib.Core.Path.{_≡_};
+ghost use Prim.Native.Nat.{_≤_};
+ghost use lib.ListN.{length};
+ghost use Rattle.lines.specs.Buffer.{kindOf};
+ghost use Rattle.proof.specs.Rows.{fails};
+ghost use Rattle.checking.specs.Rows.{Ready};
+ghost use Rattle.checking.specs.Closing.{ByNumber};
+use crate::rows::is_there;
+use crate::rows::kind_of;
+use crate::tally::Line;
+use crate::tally::Tally;
+
+pub enum Test {
+    Refused { number: u8 },
+    Passed,
+}
+
+// d > 0 for an inequality, d ≠ 0 for an equality.
+fn is_false(kind: u8, d: i64) -> bool
+    ensures { λ r. ⌜ r ≡ fails (kindOf kind) d ⌝ }
+{
+    if kind == 0 {
+        return integers::is_positive(d);
+    }
+    !integers::is_zero(d)
+}
+
+// Close by number. 10, 15, 22.
+pub fn test_number(
+    lines: &[i64],
+    kinds: &[u8],
+    tally: Tally,
+    i: Line,
+    in_a: &[u8],
+    in_b: &[u8],
+    k: usize,
+) -> Test
+    requires { ⌜ Ready k (now kinds) (now lines) (tally .lines .0) ⌝ }
+    requires { ⌜ (k ≤ length (now in_a)) × (k ≤ length (now in_b)) ⌝ }
+    ensures { λ r. ⌜ ByNumber k (now (kinds .entry)) (now (lines .entry)) tally (i .0) (now (in_a .entry)) (now (in_b .entry)) r ⌝ }
+{
+    if !is_there(tally, i) {
+        return Test::Refused { number: 10 };
+    }
+    let n = i.0 as usize;
+    let t = lines::place(n, k);
+    let ta = lines::place_a(n, k);
+    if !lines::all_zero(lines, t, k) {
+        return Test::Refused { number: 15 };
+    }
+    let kind = kind_of(kinds, i);
+    let d = lines[t + k];
+    if !is_false(kind, d) {
+        return Test::Refused { number: 15 };
+    }
+    if !lines::shared_only(lines, ta, k, in_a, in_b) {
+        return Test::Refused { number: 22 };
+    }
+    Test::Passed
+}
