@@ -28,7 +28,7 @@ use Rattle.fields.proofs.Places.{Starts}
 use Rattle.bundle.specs.Bundle.{Bundle, bundle}
 use Rattle.bundle.specs.Scan.{pick, faultOf, counted, stated}
 use Rattle.bundle.specs.declared.constraints.Counted.{Counted}
-use Rattle.bundle.proofs.Scanning.{counted-on, passed-both, right-of, scan-header, scan-fault, scan-bundle}
+use Rattle.bundle.proofs.Scanning.{counted-on, passed-both, proper-of, scan-header, scan-fault, scan-bundle}
 use Rattle.fields.proofs.Signed.{length-signeds, signeds-last}
 use Rattle.lines.specs.Parts.{part, part-take, part-paste, getD-part, Agree, agree-sym, agree-trans, agree-le, agree-getD, agree-part, agree-set, agree-paste}
 use Rattle.lines.specs.Buffer.{size, times, formIn, kindOf, lineIn, linesIn, Bounded}
@@ -322,7 +322,7 @@ module _ {inA : Bool} {s : List ℕ} {at K : ℕ} {kinds₀ : List ℕ} {buf₀ 
 
     pub fit : Fit s K kinds buf m tag start len
     fit =
-        let r = right-of K (v .done) tag len (on .0) in
+        let r = proper-of K (v .done) tag len (on .0) in
         let l = eqb-true len (suc K * 2) (r .size) in
         record {
           from = ltb-false tag 3 (r .from);
