@@ -14,7 +14,7 @@ use Rattle.forms.specs.Edition.{edition1}
 use Rattle.forms.specs.Forms.{Line, line}
 use Rattle.calculus.specs.Rules.{small, every, inRange}
 use Rattle.fields.specs.Answers.{refused, accepted, _>>_, need}
-use Rattle.lines.specs.Parts.{part, Agree, agree-refl, agree-set}
+use Rattle.lines.specs.Parts.{part, Agree, agree-refl, agree-set, agree-sym}
 use Rattle.lines.specs.Buffer.{size, kindOf, lineIn, linesIn, mixedLine}
 use Rattle.lines.specs.Lines.{length-lines, before, bounded-same}
 use Rattle.lines.specs.Mix.{mixed-keeps, length-mixedLine, mixed-line}
@@ -60,8 +60,8 @@ module _ {K : ℕ} {kinds : List ℕ} {buf : List ℤ} (t : Tally) (f : ℤ) (i 
 
     pub append-kept : Kept K (t .lines .0) kinds buf kinds′ buf′
     append-kept = record {
-      lines-same = record { first = rw mixes (sym (mixed-keeps K f i g j (t .lines .0) buf room (terms .first) (terms .second) space .first)) };
-      kinds-same = record { first = rw sets (sym (agree-set (t .lines .0) kinds (t .lines .0) kind (omega arith) .first)) };
+      lines-same = rw mixes (agree-sym (mixed-keeps K f i g j (t .lines .0) buf room (terms .first) (terms .second) space));
+      kinds-same = rw sets (agree-sym (agree-set (t .lines .0) kinds (t .lines .0) kind (omega arith)));
       lines-length = rw mixes (length-mixedLine K f i g j (t .lines .0) buf room (terms .first) (terms .second) space);
       kinds-length = rw sets (length-set kinds (t .lines .0) kind);
     }

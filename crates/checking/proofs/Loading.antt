@@ -174,10 +174,10 @@ module _ (K : ℕ) (kinds : List ℕ) (buf : List ℤ) (n : ℕ) (kind : ℕ) (z
   len₂ = ap length (q .is) ∙ length-paste buf₁ (n * size K + (K + 1)) za (K + 1) (omega (arith, end, len₁)) (omega arith) ∙ len₁
 
   agree₁ : Agree (n * size K) buf₁ buf
-  agree₁ = rw (p .is) (agree-paste (n * size K) buf (n * size K) zs (K + 1) (omega (arith, end)) (omega arith))
+  agree₁ = rw (p .is) (agree-sym (agree-paste (n * size K) buf (n * size K) zs (K + 1) (omega (arith, end)) (omega arith)))
 
   agree₂ : Agree (n * size K + (K + 1)) buf₂ buf₁
-  agree₂ = rw (q .is) (agree-paste (n * size K + (K + 1)) buf₁ (n * size K + (K + 1)) za (K + 1) (omega (arith, end, len₁)) (omega arith))
+  agree₂ = rw (q .is) (agree-sym (agree-paste (n * size K + (K + 1)) buf₁ (n * size K + (K + 1)) za (K + 1) (omega (arith, end, len₁)) (omega arith)))
 
   kept : Agree (n * size K) buf₂ buf
   kept = agree-trans (agree-le (omega arith) agree₂) agree₁
@@ -225,7 +225,7 @@ module _ (K : ℕ) (kinds : List ℕ) (buf : List ℤ) (n : ℕ) (kind : ℕ) (z
       (form-of K buf₂ (n * size K) t ct (t-part ∙ sym ft))
       (form-of K buf₂ (n * size K + (K + 1)) tA cA (tA-part ∙ sym fA)) in
       record {
-        lines = rw one (lines-more K n (agree-sym kept) (agree-sym (agree-set n kinds n kind (omega arith))) ∙ ap (λ (l : Line). linesIn K kinds buf n ▷ l) is);
+        lines = rw one (lines-more K n (agree-sym kept) (agree-set n kinds n kind (omega arith)) ∙ ap (λ (l : Line). linesIn K kinds buf n ▷ l) is);
         bounded = λ b. record { small = small-at b };
         kinds-length = length-set kinds n kind;
         lines-length = len₂;
