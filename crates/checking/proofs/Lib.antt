@@ -9,6 +9,8 @@ pub mod Claiming
 pub mod Stepping
 pub mod Going
 pub mod Closes
+pub mod Strides
+pub mod Scratch
 pub mod Loading
 pub mod Endings
 pub mod Delivering

@@ -6,6 +6,8 @@ pub mod Claims
 pub mod Steps
 pub mod Branches
 pub mod Closing
+pub mod Striding
+pub mod Formulas
 pub mod Load
 pub mod Ending
 pub mod Whole

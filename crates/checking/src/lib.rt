@@ -5,6 +5,7 @@ pub mod claims;
 pub mod closing;
 pub mod ending;
 pub mod entries;
+pub mod formulas;
 pub mod load;
 pub mod rows;
 pub mod steps;
