@@ -11,6 +11,7 @@ pub mod Going
 pub mod Closes
 pub mod Strides
 pub mod Scratch
+pub mod Splitting
 pub mod Loading
 pub mod Endings
 pub mod Delivering
