@@ -12,6 +12,7 @@ pub mod Closes
 pub mod Strides
 pub mod Scratch
 pub mod Splitting
+pub mod Staging
 pub mod Loading
 pub mod Endings
 pub mod Delivering

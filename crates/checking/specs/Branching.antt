@@ -22,6 +22,8 @@ use Rattle.checking.specs.Formulas.{Puts}
 use Rattle.checking.specs.declared.tally.Tally.{Tally}
 use Rattle.checking.specs.declared.rows.Derived.{Derived}
 use Rattle.checking.specs.declared.rows.Derived.the-variants.{Refused, Made}
+use Rattle.checking.specs.declared.branches.Branched as branched
+use Rattle.checking.specs.declared.branches.Branched.the-variants as branched-of
 use Rattle.checking.specs.declared.ends.Ended as ended
 use Rattle.checking.specs.declared.ends.Ended.the-variants as ended-of
 
@@ -77,3 +79,42 @@ SplitBy K kinds buf t i kinds′ buf′ (Made t′) = Opened K kinds buf t i kin
 pub record Splits (K : ℕ) (kinds : List ℕ) (buf : List ℤ) (t : Tally) (i : ℕ) (kinds′ : List ℕ) (buf′ : List ℤ) (r : Derived) : Type 0 where
   pub kept : Kept K (t .lines .0) kinds buf kinds′ buf′
   pub by : SplitBy K kinds buf t i kinds′ buf′ r
+
+-- ---- the whole branch
+-- A tally with the lines and open strengthens of the one given.
+abbrev pub returnedTo : Tally → (given : Tally) → Tally
+returnedTo t given = tally (t .rows .0) (given .lines .0) (given .«open»)
+
+abbrev pub closedBy : ended.Ended → (at next : ℕ) → Tally → branched.Branched
+closedBy (ended-of.Refused x) at next t = branched-of.Fault x at
+closedBy (ended-of.Written o) at next t = branched-of.Closed next o t
+
+-- What a branch asks: its lines, the masks, and that what is written so far has at most 78 bytes for each byte read.
+pub record Started (K : ℕ) (kinds : List ℕ) (buf : List ℤ) (maskA maskB : List ℕ) (t : Tally) (p : List ℕ) (at o : ℕ) : Type 0 where
+  pub ready : Ready K kinds buf (t .lines .0)
+  pub a-mask : K ≤ length maskA
+  pub b-mask : K ≤ length maskB
+  pub size : length p ≤ 65536
+  pub upto : at ≤ length p
+  pub room : o ≤ 78 * at
+
+-- R accepts a formula, whose bytes stand from o on if there is room for them; the fields go on at a.
+pub record Closes (R : Result Closing) (p : List ℕ) (t : Tally) (a : ℕ) (scratch : List ℕ) (o o′ : ℕ) (scratch′ : List ℕ) (t′ : Tally) : Type 0 where
+  pub formula : Formula
+  pub is : R ≡ accepted (record { formula = formula; rows = t′ .rows .0; after = fieldsAt p a })
+  pub o-is : o′ ≡ o + length (encode edition1 formula)
+  pub stored : o + length (encode edition1 formula) ≤ length scratch → scratch′ ≡ sets scratch o (encode edition1 formula)
+  pub within : o′ + 3 ≤ 78 * a
+  pub upto : a ≤ length p
+  pub lines-is : t′ .lines .0 ≡ t .lines .0
+  pub open-is : t′ .«open» ≡ t .«open»
+
+abbrev pub BranchedBy : (R : Result Closing) (p : List ℕ) (t : Tally) (scratch : List ℕ) (o : ℕ) (scratch′ : List ℕ) → branched.Branched → Type 0
+BranchedBy R p t scratch o scratch′ (branched-of.Fault x at) = R ≡ refused (refusal at x)
+BranchedBy R p t scratch o scratch′ (branched-of.Closed a o′ t′) = Closes R p t a scratch o o′ scratch′ t′
+
+pub record Branches (K : ℕ) (p : List ℕ) (at : ℕ) (inA inB : ℕ → Bool) (kinds : List ℕ) (buf : List ℤ) (t : Tally) (scratch : List ℕ) (o : ℕ)
+    (kinds′ : List ℕ) (buf′ : List ℤ) (scratch′ : List ℕ) (r : branched.Branched) : Type 0 where
+  pub kept : Kept K (t .lines .0) kinds buf kinds′ buf′
+  pub long : length scratch′ ≡ length scratch
+  pub by : BranchedBy (checkBranch edition1 K inA inB (32 - t .«open») (t .rows .0) (linesIn K kinds buf (t .lines .0)) (fieldsAt p at)) p t scratch o scratch′ r
