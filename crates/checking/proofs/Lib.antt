@@ -13,6 +13,7 @@ pub mod Strides
 pub mod Scratch
 pub mod Splitting
 pub mod Staging
+pub mod Starting
 pub mod Loading
 pub mod Endings
 pub mod Delivering

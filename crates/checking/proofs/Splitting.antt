@@ -141,7 +141,7 @@ module _ (t : Tally) {r q : Counted} (e : r ≡ openCounted t) (h : r .made ≡ 
   pub full-both : q .made ≡ false → 128 ≤ t .lines .0
   full-both k = omega (arith, full-line (r .tally) f k, same-lines)
 
-longer-from : {K n : ℕ} {kinds : List ℕ} {buf : List ℤ} {kinds′ : List ℕ} {buf′ : List ℤ} {l : Line} → Ready K kinds buf n → n < 128 → Kept K n kinds buf kinds′ buf′
+pub longer-from : {K n : ℕ} {kinds : List ℕ} {buf : List ℤ} {kinds′ : List ℕ} {buf′ : List ℤ} {l : Line} → Ready K kinds buf n → n < 128 → Kept K n kinds buf kinds′ buf′
     → linesIn K kinds′ buf′ (suc n) ≡ linesIn K kinds buf n ▷ l → T (inRange 2147483647 (lineIn K kinds′ buf′ n)) → Longer K kinds buf n l kinds′ buf′
 longer-from {K} {n} {kinds′ = kinds′} {buf′ = buf′} r h k e t = record {
   kept = k;
