@@ -14,6 +14,7 @@ pub mod Scratch
 pub mod Splitting
 pub mod Staging
 pub mod Starting
+pub mod Finishing
 pub mod Loading
 pub mod Endings
 pub mod Delivering
