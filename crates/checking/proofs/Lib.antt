@@ -11,6 +11,10 @@ pub mod Going
 pub mod Closes
 pub mod Strides
 pub mod Scratch
+pub mod Splitting
+pub mod Staging
+pub mod Starting
+pub mod Finishing
 pub mod Loading
 pub mod Endings
 pub mod Delivering

@@ -122,7 +122,7 @@ unfolding encode
 length-stride g t = field-size 0x35 (signedBytes 4 (pos g) ++ formBytes 4 t) ∙ omega (arith, length-append (signedBytes 4 (pos g)) (formBytes 4 t), length-signedBytes 4 (pos g))
 
 module _ {K : ℕ} {buf : List ℤ} {at : ℕ} (n : Numbered K buf at) where
-  literal-size : (k : Kind) → length (encode edition1 (literal k (formIn K buf at))) ≡ 3 + 4 * (K + 1)
+  pub literal-size : (k : Kind) → length (encode edition1 (literal k (formIn K buf at))) ≡ 3 + 4 * (K + 1)
   literal-size k = length-literal k (formIn K buf at) ∙ omega (arith, length-formBytes 4 K (formIn K buf at) (coeffs-long n))
 
   pub literal-out : (b : ℕ) {out : List ℕ} {o o′ : ℕ} → o′ ≡ o + 3 + 4 * (K + 1) → length out < o′ → Puts out o (literal (kindOf b) (formIn K buf at)) out o′
@@ -151,7 +151,7 @@ module _ {K : ℕ} {buf : List ℤ} {at : ℕ} (n : Numbered K buf at) where
   }
 
   module _ (p : ℕ → Bool) (g : ℕ) where
-    stride-size : length (encode edition1 (g divides within p (formIn K buf at))) ≡ 7 + 4 * (K + 1)
+    pub stride-size : length (encode edition1 (g divides within p (formIn K buf at))) ≡ 7 + 4 * (K + 1)
     stride-size = length-stride g (within p (formIn K buf at)) ∙ omega (arith, length-formBytes 4 K (within p (formIn K buf at)) (within-long n p))
 
     pub stride-out : {out : List ℕ} {o o′ : ℕ} → o′ ≡ o + 3 + 4 * (K + 2) → length out < o′ → Puts out o (g divides within p (formIn K buf at)) out o′

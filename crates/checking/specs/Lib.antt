@@ -8,6 +8,7 @@ pub mod Branches
 pub mod Closing
 pub mod Striding
 pub mod Formulas
+pub mod Branching
 pub mod Load
 pub mod Ending
 pub mod Whole

@@ -1,6 +1,9 @@
 // The entries of a branch, up to the row that splits or ends it.
 ghost use Rattle.checking.specs.Rows.{Ready};
 ghost use Rattle.checking.specs.Branches.{Stopped};
+ghost use mathlib.Core.Path.{_≡_};
+ghost use Rattle.checking.specs.Branching.{returnedTo, closedBy};
+use crate::ends::Ended;
 use crate::steps::Stepped;
 use crate::steps::step;
 use crate::tally::Line;
@@ -106,5 +109,33 @@ pub fn rows(
                 return Stop::Fault { number: 20, at: a };
             }
         }
+    }
+}
+
+pub enum Branched {
+    Fault { number: u8, at: usize },
+    // The fields go on at `at`, and the formula's bytes end at o.
+    Closed { at: usize, o: usize, tally: Tally },
+}
+
+// The lines and open strengthens are again those of the tally given.
+fn returned(t: Tally, given: Tally) -> Tally
+    ensures { λ r. ⌜ r ≡ returnedTo t given ⌝ }
+{
+    let rows = t.rows;
+    let lines = given.lines;
+    Tally {
+        rows,
+        lines,
+        open: given.open,
+    }
+}
+
+fn closed(e: Ended, at: usize, next: usize, tally: Tally) -> Branched
+    ensures { λ r. ⌜ r ≡ closedBy e at next tally ⌝ }
+{
+    match e {
+        Ended::Refused { number } => Branched::Fault { number, at },
+        Ended::Written { o } => Branched::Closed { at: next, o, tally },
     }
 }

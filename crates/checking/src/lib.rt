@@ -4,6 +4,7 @@ pub mod check;
 pub mod claims;
 pub mod closing;
 pub mod ending;
+pub mod ends;
 pub mod entries;
 pub mod formulas;
 pub mod load;
