@@ -1,20 +1,4 @@
--- Laws that the proofs of the functions cite: each way through a function as a lemma over plain values, and the walks over a tally that is lent.
-pub mod Reading
-pub mod Deriving
-pub mod Counting
-pub mod Lent
-pub mod Lending
-pub mod Testing
-pub mod Claiming
-pub mod Stepping
-pub mod Going
-pub mod Closes
-pub mod Strides
-pub mod Scratch
-pub mod Splitting
-pub mod Staging
-pub mod Starting
-pub mod Finishing
+-- Laws that the proofs of the functions cite: each way through a function as a lemma over plain values.
 pub mod Loading
 pub mod Endings
 pub mod Delivering

@@ -1,13 +1,4 @@
-// The check of a proof: rows, branches, and the whole operation.
-pub mod branches;
+// The check of a proof: its bundles loaded, its branches checked, and the formula handed over.
 pub mod check;
-pub mod claims;
-pub mod closing;
 pub mod ending;
-pub mod ends;
-pub mod entries;
-pub mod formulas;
 pub mod load;
-pub mod rows;
-pub mod steps;
-pub mod tally;

@@ -1,0 +1,193 @@
+-- The check of a branch as plain mathematics: each way through it is a lemma over plain values. Assumes nothing.
+use mathlib.Core.Path.{_≡_, refl, sym, ap, _∙_}
+use mathlib.Core.Bool.{Bool}
+use mathlib.Core.List.{List, [], _∷_, _++_}
+use mathlib.Core.Option.{Option, none, some}
+use Prim.Native.Nat.{ℕ, zero, suc, _+_, _*_, _-_, _≤_, _<_}
+use native.Mathlib.Numerals.{add-one}
+use native.Mathlib.Omega.{arith}
+use lib.IntN.{ℤ, natAbs}
+use lib.ListN.{length, length-append}
+use lib.Seq.{sets}
+use Rattle.forms.specs.Edition.{edition1}
+use Rattle.forms.specs.Forms.{Line, Formula}
+use Rattle.calculus.specs.Rules as rules
+use Rattle.fields.specs.Answers.{Result, refused, accepted, _>>=_}
+use Rattle.fields.specs.Fields.{Fields, fieldBytes}
+use Rattle.fields.specs.Places.{fieldsAt}
+use Rattle.fields.proofs.Stores.{sets-append}
+use Rattle.formula.specs.Formula.{encode}
+use Rattle.bundle.proofs.Putting.{field-size}
+use Rattle.lines.specs.Buffer.{linesIn}
+use Rattle.lines.specs.Occurrence.{told}
+use Rattle.proof.specs.Rows.{byNumber, byStride}
+use Rattle.proof.specs.Check.{Closing, refusal, checkRow, checkEntries, checkBranch}
+use Rattle.rows.specs.Rows.{Ready, Kept}
+use Rattle.branches.specs.Branches.{Comes, Stopped}
+use Rattle.branches.specs.Formulas.{Heads, Puts}
+use Rattle.branches.specs.Branching.{Wrote, EndedBy, below, strengthened, Splits, returnedTo, closedBy, Started, Closes, Branches}
+use Rattle.rows.specs.declared.tally.Line as tally
+use Rattle.rows.specs.declared.tally.Tally.{Tally}
+use Rattle.rows.specs.declared.derive.Derived.{Derived}
+use Rattle.rows.specs.declared.derive.Derived.the-variants as derived
+use Rattle.branches.specs.declared.ends.Ended.{Ended}
+use Rattle.branches.specs.declared.ends.Ended.the-variants as ended
+use Rattle.branches.specs.declared.branch.Stop.{Stop}
+use Rattle.branches.specs.declared.branch.Branched.{Branched}
+use Rattle.branches.specs.declared.branch.Branched.the-variants as branched
+use Rattle.branches.proofs.Going.{kept-trans}
+
+-- A branch is its entries.
+pub branch-entries : (K : ℕ) (inA inB : ℕ → Bool) (room rows : ℕ) (ls : List Line) (fs : Fields)
+    → checkBranch edition1 K inA inB room rows ls fs ≡ checkEntries edition1 K inA inB (below K inA inB room) fs rows none ls
+unfolding checkBranch
+branch-entries K inA inB zero rows ls fs = refl
+branch-entries K inA inB (suc room) rows ls fs = refl
+
+module _ {K : ℕ} {p : List ℕ} {at : ℕ} {kinds : List ℕ} {buf : List ℤ} {t : Tally} {kinds′ : List ℕ} {buf′ : List ℤ} where
+  pub stopped-fault : {r : Stop} {x a : ℕ} (inA inB : ℕ → Bool) (scratch : List ℕ) (o : ℕ) → Stopped K p at kinds buf t kinds′ buf′ r → r ≡ Stop.Fault x a
+      → Branches K p at inA inB kinds buf t scratch o kinds′ buf′ scratch (branched.Fault x a)
+  stopped-fault inA inB scratch o s e = record {
+    kept = s .kept;
+    long = refl;
+    by = branch-entries K inA inB (32 - t .«open») _ _ _ ∙ (rw e at s) .by inA inB (below K inA inB (32 - t .«open»));
+  }
+
+  module _ {row : rules.Row} {a next : ℕ} {u : Tally} (m : Comes K p at kinds buf t kinds′ buf′ row a next u) (inA inB : ℕ → Bool) where
+    -- The row that the entries come to.
+    pub comes-row : checkBranch edition1 K inA inB (32 - t .«open») (t .rows .0) (linesIn K kinds buf (t .lines .0)) (fieldsAt p at)
+        ≡ checkRow edition1 K inA inB (below K inA inB (32 - t .«open»)) (checkEntries edition1 K inA inB (below K inA inB (32 - t .«open»)) (fieldsAt p next)) a (m .rows) (linesIn K kinds′ buf′ (u .lines .0)) (fieldsAt p next) row
+    comes-row = branch-entries K inA inB (32 - t .«open») (t .rows .0) (linesIn K kinds buf (t .lines .0)) (fieldsAt p at) ∙ m .is inA inB (below K inA inB (32 - t .«open»))
+
+  -- ---- a row that closes the branch
+  -- `row` gives the formula that f gives.
+  module _ {row : rules.Row} {a next : ℕ} {u : Tally} (m : Comes K p at kinds buf t kinds′ buf′ row a next u) (k : Kept K (t .lines .0) kinds buf kinds′ buf′)
+      {maskA maskB : List ℕ} {o : ℕ} (st : Started K kinds buf maskA maskB t p at o) (f : ℕ → Result Formula)
+      (row-is : checkRow edition1 K (told maskA) (told maskB) (below K (told maskA) (told maskB) (32 - t .«open»)) (checkEntries edition1 K (told maskA) (told maskB) (below K (told maskA) (told maskB) (32 - t .«open»)) (fieldsAt p next)) a (m .rows) (linesIn K kinds′ buf′ (u .lines .0)) (fieldsAt p next) row
+      ≡ (f a >>= λ I. accepted (record { formula = I; rows = suc (m .rows); after = fieldsAt p next }))) where
+    pub row-closed : {scratch scratch′ : List ℕ} (e : Ended) → EndedBy f scratch o scratch′ e
+        → Branches K p at (told maskA) (told maskB) kinds buf t scratch o kinds′ buf′ scratch′ (closedBy e a next (returnedTo u t))
+    unfolding _>>=_
+    row-closed (ended.Refused x) w = record { kept = k; long = w .1; by = comes-row m (told maskA) (told maskB) ∙ row-is ∙ rw (w .0 a) }
+    row-closed (ended.Written o′) w =
+        let q : suc (m .rows) ≡ u .rows .0 = omega (arith, m .rows-is) in
+        record {
+          kept = k;
+          long = w .puts .long;
+          by = record {
+            formula = w .formula;
+            is = comes-row m (told maskA) (told maskB) ∙ row-is ∙ rw (w .is a, q);
+            o-is = w .puts .o-is;
+            stored = w .puts .stored;
+            within = omega (arith, w .short, st .room, m .on);
+            upto = m .upto;
+            lines-is = refl;
+            open-is = refl;
+          };
+        }
+
+  module _ {r : Stop} (s : Stopped K p at kinds buf t kinds′ buf′ r) {maskA maskB : List ℕ} {o : ℕ} (st : Started K kinds buf maskA maskB t p at o) (scratch scratch′ : List ℕ) (e : Ended) where
+    pub number-closed : {i : tally.Line} {a next : ℕ} {u : Tally} {b : Branched} {v : Tally} → r ≡ Stop.ClosesNumber i a next u
+        → EndedBy (λ at. byNumber (refusal at) (linesIn K kinds′ buf′ (u .lines .0)) (told maskA) (told maskB) (i .0)) scratch o scratch′ e
+        → v ≡ returnedTo u t → b ≡ closedBy e a next v
+        → Branches K p at (told maskA) (told maskB) kinds buf t scratch o kinds′ buf′ scratch′ b
+    unfolding checkRow
+    number-closed {i} {a} {next} {u} q w ev eb =
+        rw (eb, ev) (row-closed (rw q at (s .by)) (s .kept) st (λ at. byNumber (refusal at) (linesIn K kinds′ buf′ (u .lines .0)) (told maskA) (told maskB) (i .0)) refl e w)
+
+    pub stride-closed : {i : tally.Line} {g : ℤ} {a next : ℕ} {u : Tally} {b : Branched} {v : Tally} → r ≡ Stop.ClosesStride i g a next u
+        → EndedBy (λ at. byStride (refusal at) (linesIn K kinds′ buf′ (u .lines .0)) (told maskA) (told maskB) (i .0) (natAbs g)) scratch o scratch′ e
+        → v ≡ returnedTo u t → b ≡ closedBy e a next v
+        → Branches K p at (told maskA) (told maskB) kinds buf t scratch o kinds′ buf′ scratch′ b
+    unfolding checkRow
+    stride-closed {i} {g} {a} {next} {u} q w ev eb =
+        rw (eb, ev) (row-closed ((rw q at (s .by)) .0) (s .kept) st (λ at. byStride (refusal at) (linesIn K kinds′ buf′ (u .lines .0)) (told maskA) (told maskB) (i .0) (natAbs g)) refl e w)
+
+  -- ---- a row that splits it
+  module _ {i a next : ℕ} {u : Tally} (m : Comes K p at kinds buf t kinds′ buf′ (rules.Strengthen i) a next u) (k : Kept K (t .lines .0) kinds buf kinds′ buf′) (inA inB : ℕ → Bool) where
+    pub comes-split : checkBranch edition1 K inA inB (32 - t .«open») (t .rows .0) (linesIn K kinds buf (t .lines .0)) (fieldsAt p at)
+        ≡ strengthened K kinds′ buf′ u i inA inB (checkEntries edition1 K inA inB (below K inA inB (32 - t .«open»)) (fieldsAt p next)) a (m .rows) (fieldsAt p next)
+    comes-split = comes-row m inA inB ∙ ap (λ (n : ℕ). checkRow edition1 K inA inB (below K inA inB (32 - n)) (checkEntries edition1 K inA inB (below K inA inB (32 - t .«open»)) (fieldsAt p next)) a (m .rows) (linesIn K kinds′ buf′ (u .lines .0)) (fieldsAt p next) (rules.Strengthen i)) (sym (m .open-is))
+
+    pub split-refused : {r : Derived} {x : ℕ} {kinds″ : List ℕ} {buf″ : List ℤ} (scratch : List ℕ) (o : ℕ) → Splits K kinds′ buf′ u i kinds″ buf″ r → r ≡ derived.Refused x
+        → Branches K p at inA inB kinds buf t scratch o kinds″ buf″ scratch (branched.Fault x a)
+    split-refused scratch o s e = record {
+      kept = kept-trans (m .from) k (s .kept);
+      long = refl;
+      by = comes-split ∙ (rw e at s) .by inA inB _ a (m .rows) (fieldsAt p next);
+    }
+
+-- ---- between the calls
+-- R is what is left to do from the fields at a on, after so many rows; the n first lines are as they were, and `bytes` are written.
+pub record Pending (K : ℕ) (p : List ℕ) (R : Result Closing) (n : ℕ) (kinds : List ℕ) (buf : List ℤ) (scratch₀ : List ℕ) (o₀ : ℕ)
+    (kinds′ : List ℕ) (buf′ : List ℤ) (a rows : ℕ) (scratch : List ℕ) (o : ℕ) (left : ℕ → Fields → Result Closing) (bytes : List ℕ) : Type 0 where
+  pub is : R ≡ left rows (fieldsAt p a)
+  pub kept : Kept K n kinds buf kinds′ buf′
+  pub long : length scratch ≡ length scratch₀
+  pub o-is : o ≡ o₀ + length bytes
+  pub stored : o₀ + length bytes ≤ length scratch₀ → scratch ≡ sets scratch₀ o₀ bytes
+
+-- What is written behind a run that is written.
+both-stored : (scratch₀ : List ℕ) (o₀ : ℕ) (bytes bs : List ℕ) {scratch scratch′ : List ℕ} {o : ℕ} → o ≡ o₀ + length bytes → length scratch ≡ length scratch₀
+    → (o₀ + length bytes ≤ length scratch₀ → scratch ≡ sets scratch₀ o₀ bytes) → (o + length bs ≤ length scratch → scratch′ ≡ sets scratch o bs)
+    → o₀ + length (bytes ++ bs) ≤ length scratch₀ → scratch′ ≡ sets scratch₀ o₀ (bytes ++ bs)
+both-stored scratch₀ o₀ bytes bs {o = o} e l f g h =
+    let s = length-append bytes bs in
+    g (omega arith) ∙ rw (f (omega arith), e) (sym (sets-append bytes bs scratch₀ o₀))
+
+module _ {K : ℕ} {p : List ℕ} {R : Result Closing} {n : ℕ} {kinds : List ℕ} {buf : List ℤ} {scratch₀ : List ℕ} {o₀ : ℕ}
+    {kinds′ : List ℕ} {buf′ : List ℤ} {a rows : ℕ} {scratch : List ℕ} {o : ℕ} where
+  -- The head of an and or an or.
+  pub headed : {left : ℕ → Fields → Result Closing} {bytes : List ℕ} (tag : ℕ) {scratch′ : List ℕ} {o′ : ℕ}
+      → Pending K p R n kinds buf scratch₀ o₀ kinds′ buf′ a rows scratch o left bytes → Heads scratch o tag scratch′ o′
+      → Pending K p R n kinds buf scratch₀ o₀ kinds′ buf′ a rows scratch′ o′ left (bytes ++ fieldBytes tag [])
+  headed {bytes = bytes} tag g h =
+      let w : length (fieldBytes tag []) ≡ 3 = field-size tag [] in
+      record {
+        is = g .is;
+        kept = g .kept;
+        long = h .long ∙ g .long;
+        o-is = omega (arith, h .o-is, g .o-is, length-append bytes (fieldBytes tag []));
+        stored = both-stored scratch₀ o₀ bytes (fieldBytes tag []) (g .o-is) (g .long) (g .stored) (λ l. h .stored (omega arith));
+      }
+
+  -- The next line is in its place.
+  pub lined : {left : ℕ → Fields → Result Closing} {bytes : List ℕ} {kinds″ : List ℕ} {buf″ : List ℤ}
+      → Pending K p R n kinds buf scratch₀ o₀ kinds′ buf′ a rows scratch o left bytes → Kept K n kinds′ buf′ kinds″ buf″
+      → Pending K p R n kinds buf scratch₀ o₀ kinds″ buf″ a rows scratch o left bytes
+  lined g k = record { is = g .is; kept = kept-trans (omega arith) (g .kept) k; long = g .long; o-is = g .o-is; stored = g .stored }
+
+  -- A branch of the line l more is checked, and `go` is left.
+  module _ {inA inB : ℕ → Bool} {room : ℕ} {ls : List Line} (go : Closing → Result Closing) {bytes : List ℕ}
+      (g : Pending K p R n kinds buf scratch₀ o₀ kinds′ buf′ a rows scratch o (λ rows fs. checkBranch edition1 K inA inB room rows ls fs >>= go) bytes)
+      {v : Tally} (v-rows : v .rows .0 ≡ rows) (v-lines : v .lines .0 ≡ n + 1) (v-open : 32 - v .«open» ≡ room) (lines-are : linesIn K kinds′ buf′ (n + 1) ≡ ls)
+      {kinds″ : List ℕ} {buf″ : List ℤ} {scratch′ : List ℕ} {r : Branched} (b : Branches K p a inA inB kinds′ buf′ v scratch o kinds″ buf″ scratch′ r) where
+    call-is : checkBranch edition1 K inA inB (32 - v .«open») (v .rows .0) (linesIn K kinds′ buf′ (v .lines .0)) (fieldsAt p a) ≡ checkBranch edition1 K inA inB room rows ls (fieldsAt p a)
+    call-is = rw (v-open, v-rows, v-lines, lines-are)
+
+    pub call-kept : Kept K n kinds buf kinds″ buf″
+    call-kept = kept-trans {n = v .lines .0} (omega arith) (g .kept) (shorter (b .kept))
+      where
+        shorter : Kept K (v .lines .0) kinds′ buf′ kinds″ buf″ → Kept K (v .lines .0) kinds′ buf′ kinds″ buf″
+        shorter k = k
+
+    pub call-failed : {x c : ℕ} → r ≡ branched.Fault x c → R ≡ refused (refusal c x)
+    unfolding _>>=_
+    call-failed e = g .is ∙ rw (← call-is, rw e at (b .by))
+
+    call-passed-of : {c o′ : ℕ} {v′ : Tally} (x : Closes (checkBranch edition1 K inA inB (32 - v .«open») (v .rows .0) (linesIn K kinds′ buf′ (v .lines .0)) (fieldsAt p a)) p v c scratch o o′ scratch′ v′)
+        → Pending K p R n kinds buf scratch₀ o₀ kinds″ buf″ c (v′ .rows .0) scratch′ o′ (λ rows fs. go (record { formula = x .formula; rows = rows; after = fs })) (bytes ++ encode edition1 (x .formula))
+    unfolding _>>=_
+    call-passed-of x = record {
+      is = g .is ∙ rw (← call-is, x .is);
+      kept = call-kept;
+      long = b .long ∙ g .long;
+      o-is = omega (arith, x .o-is, g .o-is, length-append bytes (encode edition1 (x .formula)));
+      stored = both-stored scratch₀ o₀ bytes (encode edition1 (x .formula)) (g .o-is) (g .long) (g .stored) (x .stored);
+    }
+
+    pub call-passed : {c o′ : ℕ} {v′ : Tally} → r ≡ branched.Closed c o′ v′
+        → (I : Formula) × Pending K p R n kinds buf scratch₀ o₀ kinds″ buf″ c (v′ .rows .0) scratch′ o′ (λ rows fs. go (record { formula = I; rows = rows; after = fs })) (bytes ++ encode edition1 I)
+    call-passed e =
+        let x = rw e at (b .by) in
+        (x .formula, call-passed-of x)

@@ -1,0 +1,73 @@
+-- The lines that the second and the third branch of a strengthen start with, in buffers that kept the lines before. Assumes nothing.
+use mathlib.Core.Path.{_≡_, refl, sym, ap, ap₂, subst, _∙_}
+use mathlib.Core.List.{List}
+use Prim.Native.Nat.{ℕ, suc, _+_, _*_, _<_}
+use native.Mathlib.Omega.{arith}
+use lib.Dec.{T}
+use lib.IntN.{ℤ}
+use lib.ListN.{length, getD, set, length-set}
+use Rattle.forms.specs.Forms.{≤0, =0, Line, line, _plus_}
+use Rattle.calculus.specs.Rules.{_▷_, inRange}
+use Rattle.lines.specs.Parts.{agree-set, agree-sym}
+use Rattle.lines.specs.Buffer.{size, kindOf, lineIn, linesIn, LineCopy, copiedLine, strengthenedT}
+use Rattle.lines.specs.Lines.{line-ext, line-same, lines-same, before}
+use Rattle.lines.specs.Range.{bounded-line}
+use Rattle.lines.specs.Branch.{kind-stored, inequality-byte, equality-byte}
+use Rattle.lines.specs.Strengthen.{length-copied, length-t, copied-keeps, t-keeps, copied-line, t-line, third-range}
+use Rattle.lines.specs.Next.{second-branch, third-branch}
+use Rattle.rows.specs.Rows.{Ready, Kept}
+use Rattle.branches.specs.Branching.{Longer}
+use Rattle.branches.proofs.Going.{ready-kept}
+use Rattle.branches.proofs.Splitting.{longer-from}
+
+module _ {K n : ℕ} {kinds : List ℕ} {buf : List ℤ} (ready : Ready K kinds buf n) {i : ℕ} (hi : i < n) (space : n < 128)
+    {kinds₁ : List ℕ} {buf₁ : List ℤ} (k : Kept K n kinds buf kinds₁ buf₁) where
+  now-ready : Ready K kinds₁ buf₁ n
+  now-ready = ready-kept ready k
+
+  pub now-copy : LineCopy K buf₁ i n
+  now-copy = record { branch = now-ready .branch; first = hi; space = space }
+
+  now-line : lineIn K kinds₁ buf₁ i ≡ lineIn K kinds buf i
+  now-line = line-same K (k .lines-same) (k .kinds-same) i hi
+
+  now-lines : linesIn K kinds₁ buf₁ n ≡ linesIn K kinds buf n
+  now-lines = lines-same K n (k .lines-same) (k .kinds-same)
+
+  in-range : T (inRange 2147483647 (lineIn K kinds buf i))
+  in-range = bounded-line K buf i (omega (arith, before K hi, before K space, ready .branch .room)) kinds (ready .branch .bounded) hi
+
+  any-kind : (l : Line) → T (inRange 2147483647 l) → T (inRange 2147483647 (line =0 (l .t) (l .tA)))
+  unfolding inRange
+  any-kind l h = h
+
+  module _ {kinds′ : List ℕ} {buf′ : List ℤ} where
+    pub second-starts : buf′ ≡ copiedLine K i n buf₁ → kinds′ ≡ set kinds₁ n 1 → Longer K kinds₁ buf₁ n (line =0 (lineIn K kinds buf i .t) (lineIn K kinds buf i .tA)) kinds′ buf′
+    second-starts e f =
+        let c = now-copy in
+        let s : Kept K n kinds₁ buf₁ kinds′ buf′ = record {
+          lines-same = rw e (agree-sym (copied-keeps c));
+          kinds-same = rw f (agree-sym (agree-set n kinds₁ n 1 (omega arith)));
+          lines-length = rw e (length-copied c);
+          kinds-length = rw f (length-set kinds₁ n 1);
+        } in
+        let new : kindOf (getD kinds′ n 0) ≡ =0 = rw f (kind-stored kinds₁ n 1 (omega (arith, now-ready .room)) ∙ equality-byte) in
+        let last : lineIn K kinds′ buf′ n ≡ line =0 (lineIn K kinds buf i .t) (lineIn K kinds buf i .tA) = rw e (copied-line c kinds₁ kinds′ now-line ∙ line-ext new refl refl) in
+        longer-from now-ready space s (rw e (second-branch K kinds₁ kinds′ buf₁ n (agree-sym (s .kinds-same)) new c now-line))
+        (subst (λ (l : Line). T (inRange 2147483647 l)) (sym last) (any-kind (lineIn K kinds buf i) in-range))
+
+    pub third-starts : T (inRange 2147483647 (line ≤0 (lineIn K kinds buf i .t plus 1) (lineIn K kinds buf i .tA plus 1))) → buf′ ≡ strengthenedT K i n buf₁ → kinds′ ≡ set kinds₁ n 0
+        → Longer K kinds₁ buf₁ n (line ≤0 (lineIn K kinds buf i .t plus 1) (lineIn K kinds buf i .tA)) kinds′ buf′
+    third-starts first e f =
+        let c = now-copy in
+        let s : Kept K n kinds₁ buf₁ kinds′ buf′ = record {
+          lines-same = rw e (agree-sym (t-keeps c));
+          kinds-same = rw f (agree-sym (agree-set n kinds₁ n 0 (omega arith)));
+          lines-length = rw e (length-t c);
+          kinds-length = rw f (length-set kinds₁ n 0);
+        } in
+        let new : kindOf (getD kinds′ n 0) ≡ ≤0 = rw f (kind-stored kinds₁ n 0 (omega (arith, now-ready .room)) ∙ inequality-byte) in
+        let last : lineIn K kinds′ buf′ n ≡ line ≤0 (lineIn K kinds buf i .t plus 1) (lineIn K kinds buf i .tA) = rw e (t-line c kinds₁ kinds′ now-line ∙ line-ext new refl refl) in
+        longer-from now-ready space s (rw e (third-branch K kinds₁ kinds′ buf₁ n (agree-sym (s .kinds-same)) new c now-line))
+        (subst (λ (l : Line). T (inRange 2147483647 l)) (sym last)
+        (third-range 2147483647 (lineIn K kinds buf i .kind) ≤0 ≤0 (lineIn K kinds buf i .t) (lineIn K kinds buf i .tA) in-range first))

@@ -1,0 +1,120 @@
+-- A branch and the branches it opens, by the answers of the code. Document 01, "The rows" and "Check". Assumes nothing.
+use mathlib.Core.Path.{_≡_}
+use mathlib.Core.Bool.{Bool}
+use mathlib.Core.List.{List}
+use mathlib.Core.Option.{Option, none, some}
+use Prim.Native.Nat.{ℕ, zero, suc, _+_, _-_, _*_, _<_, _≤_}
+use lib.IntN.{ℤ}
+use lib.ListN.{length}
+use lib.Seq.{sets}
+use Rattle.forms.specs.Edition.{edition1}
+use Rattle.forms.specs.Forms.{≤0, =0, Line, line, Formula, _and_, _or_, _plus_}
+use Rattle.calculus.specs.Rules.{_▷_, Strengthen}
+use Rattle.fields.specs.Answers.{Result, refused, accepted, _>>=_}
+use Rattle.fields.specs.Fields.{Fields}
+use Rattle.fields.specs.Places.{fieldsAt}
+use Rattle.formula.specs.Formula.{encode}
+use Rattle.lines.specs.Buffer.{lineIn, linesIn, LineCopy}
+use Rattle.proof.specs.Check.{Closing, Checker, Next, refusal, checkRow, checkBranch}
+use Rattle.rows.specs.Tally.{tally}
+use Rattle.rows.specs.Rows.{Ready, Kept}
+use Rattle.branches.specs.Formulas.{Puts}
+use Rattle.rows.specs.declared.tally.Tally.{Tally}
+use Rattle.rows.specs.declared.derive.Derived.{Derived}
+use Rattle.rows.specs.declared.derive.Derived.the-variants.{Refused, Made}
+use Rattle.branches.specs.declared.branch.Branched as branched
+use Rattle.branches.specs.declared.branch.Branched.the-variants as branched-of
+use Rattle.branches.specs.declared.ends.Ended as ended
+use Rattle.branches.specs.declared.ends.Ended.the-variants as ended-of
+
+-- ---- a row that closes the branch
+-- The formula I, and its bytes in the scratch: 75 of them at most.
+pub record Wrote (f : ℕ → Result Formula) (scratch : List ℕ) (o : ℕ) (scratch′ : List ℕ) (o′ : ℕ) : Type 0 where
+  pub formula : Formula
+  pub is : (at : ℕ) → f at ≡ accepted formula
+  pub puts : Puts scratch o formula scratch′ o′
+  pub short : o′ ≤ o + 75
+
+abbrev pub EndedBy : (f : ℕ → Result Formula) (scratch : List ℕ) (o : ℕ) (scratch′ : List ℕ) → ended.Ended → Type 0
+EndedBy f scratch o scratch′ (ended-of.Refused x) = ((at : ℕ) → f at ≡ refused (refusal at x)) × (length scratch′ ≡ length scratch)
+EndedBy f scratch o scratch′ (ended-of.Written o′) = Wrote f scratch o scratch′ o′
+
+-- ---- a row that splits it
+-- What checks the branches that a branch opens, if so many more may be open.
+abbrev pub below : (K : ℕ) (inA inB : ℕ → Bool) (room : ℕ) → Option Checker
+below K inA inB zero = none
+below K inA inB (suc room) = some (checkBranch edition1 K inA inB room)
+
+-- The three branches of a strengthen of line l.
+abbrev pub three : (branch : Checker) (ls : List Line) (l : Line) (rows : ℕ) (fs : Fields) → Result Closing
+three branch ls l rows fs =
+    branch rows (ls ▷ line ≤0 (l .t plus 1) (l .tA plus 1)) fs >>= λ first.
+    (branch (first .rows) (ls ▷ line =0 (l .t) (l .tA)) (first .after) >>= λ second.
+    (branch (second .rows) (ls ▷ line ≤0 (l .t plus 1) (l .tA)) (second .after) >>= λ third.
+    accepted (record { formula = first .formula or (second .formula and third .formula); rows = third .rows; after = third .after })))
+
+-- The branch of n lines has the line l more.
+pub record Longer (K : ℕ) (kinds : List ℕ) (buf : List ℤ) (n : ℕ) (l : Line) (kinds′ : List ℕ) (buf′ : List ℤ) : Type 0 where
+  pub kept : Kept K n kinds buf kinds′ buf′
+  pub ready : Ready K kinds′ buf′ (n + 1)
+  pub lines : linesIn K kinds′ buf′ (n + 1) ≡ linesIn K kinds buf n ▷ l
+
+abbrev pub strengthened : (K : ℕ) (kinds : List ℕ) (buf : List ℤ) (t : Tally) (i : ℕ) (inA inB : ℕ → Bool) (next : Next) (at rows : ℕ) (fs : Fields) → Result Closing
+strengthened K kinds buf t i inA inB next at rows fs = checkRow edition1 K inA inB (below K inA inB (32 - t .«open»)) next at rows (linesIn K kinds buf (t .lines .0)) fs (Strengthen i)
+
+pub record Opened (K : ℕ) (kinds : List ℕ) (buf : List ℤ) (t : Tally) (i : ℕ) (kinds′ : List ℕ) (buf′ : List ℤ) (t′ : Tally) : Type 0 where
+  pub is : (inA inB : ℕ → Bool) (next : Next) (at rows : ℕ) (fs : Fields)
+      → strengthened K kinds buf t i inA inB next at rows fs
+      ≡ three (checkBranch edition1 K inA inB (31 - t .«open»)) (linesIn K kinds buf (t .lines .0)) (lineIn K kinds buf i) (suc rows) fs
+  pub longer : Longer K kinds buf (t .lines .0) (line ≤0 (lineIn K kinds buf i .t plus 1) (lineIn K kinds buf i .tA plus 1)) kinds′ buf′
+  pub tally-is : t′ ≡ tally (t .rows .0) (t .lines .0 + 1) (t .«open» + 1)
+  pub copy : LineCopy K buf i (t .lines .0)
+  pub open-less : t .«open» < 32
+
+abbrev pub SplitBy : (K : ℕ) (kinds : List ℕ) (buf : List ℤ) (t : Tally) (i : ℕ) (kinds′ : List ℕ) (buf′ : List ℤ) → Derived → Type 0
+SplitBy K kinds buf t i kinds′ buf′ (Refused x) =
+    (inA inB : ℕ → Bool) (next : Next) (at rows : ℕ) (fs : Fields) → strengthened K kinds buf t i inA inB next at rows fs ≡ refused (refusal at x)
+SplitBy K kinds buf t i kinds′ buf′ (Made t′) = Opened K kinds buf t i kinds′ buf′ t′
+
+pub record Splits (K : ℕ) (kinds : List ℕ) (buf : List ℤ) (t : Tally) (i : ℕ) (kinds′ : List ℕ) (buf′ : List ℤ) (r : Derived) : Type 0 where
+  pub kept : Kept K (t .lines .0) kinds buf kinds′ buf′
+  pub by : SplitBy K kinds buf t i kinds′ buf′ r
+
+-- ---- the whole branch
+-- A tally with the lines and open strengthens of the one given.
+abbrev pub returnedTo : Tally → (given : Tally) → Tally
+returnedTo t given = tally (t .rows .0) (given .lines .0) (given .«open»)
+
+abbrev pub closedBy : ended.Ended → (at next : ℕ) → Tally → branched.Branched
+closedBy (ended-of.Refused x) at next t = branched-of.Fault x at
+closedBy (ended-of.Written o) at next t = branched-of.Closed next o t
+
+-- What a branch asks: its lines, the masks, and that what is written so far has at most 78 bytes for each byte read.
+pub record Started (K : ℕ) (kinds : List ℕ) (buf : List ℤ) (maskA maskB : List ℕ) (t : Tally) (p : List ℕ) (at o : ℕ) : Type 0 where
+  pub ready : Ready K kinds buf (t .lines .0)
+  pub a-mask : K ≤ length maskA
+  pub b-mask : K ≤ length maskB
+  pub size : length p ≤ 65536
+  pub upto : at ≤ length p
+  pub room : o ≤ 78 * at
+
+-- R accepts a formula, whose bytes stand from o on if there is room for them; the fields go on at a.
+pub record Closes (R : Result Closing) (p : List ℕ) (t : Tally) (a : ℕ) (scratch : List ℕ) (o o′ : ℕ) (scratch′ : List ℕ) (t′ : Tally) : Type 0 where
+  pub formula : Formula
+  pub is : R ≡ accepted (record { formula = formula; rows = t′ .rows .0; after = fieldsAt p a })
+  pub o-is : o′ ≡ o + length (encode edition1 formula)
+  pub stored : o + length (encode edition1 formula) ≤ length scratch → scratch′ ≡ sets scratch o (encode edition1 formula)
+  pub within : o′ + 3 ≤ 78 * a
+  pub upto : a ≤ length p
+  pub lines-is : t′ .lines .0 ≡ t .lines .0
+  pub open-is : t′ .«open» ≡ t .«open»
+
+abbrev pub BranchedBy : (R : Result Closing) (p : List ℕ) (t : Tally) (scratch : List ℕ) (o : ℕ) (scratch′ : List ℕ) → branched.Branched → Type 0
+BranchedBy R p t scratch o scratch′ (branched-of.Fault x at) = R ≡ refused (refusal at x)
+BranchedBy R p t scratch o scratch′ (branched-of.Closed a o′ t′) = Closes R p t a scratch o o′ scratch′ t′
+
+pub record Branches (K : ℕ) (p : List ℕ) (at : ℕ) (inA inB : ℕ → Bool) (kinds : List ℕ) (buf : List ℤ) (t : Tally) (scratch : List ℕ) (o : ℕ)
+    (kinds′ : List ℕ) (buf′ : List ℤ) (scratch′ : List ℕ) (r : branched.Branched) : Type 0 where
+  pub kept : Kept K (t .lines .0) kinds buf kinds′ buf′
+  pub long : length scratch′ ≡ length scratch
+  pub by : BranchedBy (checkBranch edition1 K inA inB (32 - t .«open») (t .rows .0) (linesIn K kinds buf (t .lines .0)) (fieldsAt p at)) p t scratch o scratch′ r

@@ -1,0 +1,258 @@
+-- What the code reads of a field is what the definitions give of its contents. Assumes nothing.
+use mathlib.Core.Path.{_≡_, refl, sym, ap, ap₂, _∙_}
+use mathlib.Core.Bool.{Bool, true, false, _&&_}
+use mathlib.Core.List.{List}
+use mathlib.Core.Option.{Option, none, some}
+use Prim.Native.Nat.{ℕ, suc, _+_, _*_, _≤_, _<_}
+use native.Mathlib.Nat.{add-zero}
+use native.Mathlib.Omega.{arith}
+use lib.Dec.{eqb, leb}
+use lib.ListN.{length, take, drop, length-drop}
+use lib.Seq.{length-take-le}
+use lib.IntN.{ℤ, pos, negsuc, natAbs}
+use lib.Signed.{mag}
+use borrow.Author.Tests.{eq-eqb, ne-eqb, leb-true, eqb-true}
+use Rattle.integers.specs.Magnitude.{Within}
+use Rattle.forms.specs.Edition.{edition1}
+use Rattle.forms.specs.Forms as forms
+use Rattle.calculus.specs.Rules as rules
+use Rattle.fields.specs.Answers.{answer, fileProof, Result, refused, accepted, _>>=_, _>>_, need, found}
+use Rattle.fields.specs.declared.FileKind.{FileKind}
+use Rattle.fields.specs.Fields.{Field}
+use Rattle.fields.specs.Header.{known, headerTag}
+use Rattle.fields.specs.Numbers.{unsigned, signed, formWidth}
+use Rattle.fields.specs.Ranges.{Held}
+use Rattle.lines.specs.Parts.{part-part}
+use Rattle.proof.specs.Entries.{Tagged, combineTag, reduceTag, scaleTag, strengthenTag, numberTag, strideTag, claimTag, sizeOf, entryFrom, lineNumber, multiplier, entryTagged, inPlace, entry}
+use Rattle.rows.specs.Entries.{Multiplies, stated, Ranged, Shaped, claimed, there, Entered}
+use Rattle.rows.specs.declared.tally.Line.{Line}
+use Rattle.rows.specs.declared.entries.Entry.{Entry}
+use Rattle.rows.specs.declared.entries.Entry.the-variants.{Combine, Reduce, Scale, Strengthen, CloseNumber, CloseStride, Claim, Refused}
+
+pub multiplies-abs : {n : ℕ} {z : ℤ} → Multiplies n z → n ≡ natAbs z
+multiplies-abs m = sym (ap natAbs (m .is))
+
+pub multiplies-own : {n : ℕ} {z : ℤ} → Multiplies n z → Multiplies (natAbs z) z
+multiplies-own m = record { is = m .is ∙ ap pos (multiplies-abs m); within = m .within }
+
+-- A number whose width is two bytes.
+pub multiplies : {n : ℕ} {z : ℤ} → z ≡ pos n → n < 65536 → Multiplies n z
+multiplies {n} {z} e h = record { is = e; within = record { abs = rw e (omega arith) } }
+
+held-abs : (z : ℤ) → mag z + mag z < 65536 → natAbs z ≤ 65535
+held-abs (pos n) h = omega arith
+held-abs (negsuc n) h = omega arith
+
+held-within : {z : ℤ} → Held 2 z → Within 65535 z
+held-within {z} h = record { abs = held-abs z (h .held .half) }
+
+module _ (p : List ℕ) (start len : ℕ) (there : start + len ≤ length p) where
+  -- the contents
+  bs : List ℕ
+  bs = take len (drop start p)
+
+  bytes : (o k : ℕ) → o + k ≤ len → take k (drop (start + o) p) ≡ take k (drop o (take len (drop start p)))
+  bytes o k h = sym (part-part o k start len p h)
+
+  first : (k : ℕ) → k ≤ len → take k (drop start p) ≡ take k (take len (drop start p))
+  first k h = rw add-zero at (bytes 0 k (omega arith))
+
+  size : length (take len (drop start p)) ≡ len
+  size = length-take-le len (drop start p) (simp length-drop (omega arith))
+
+  module _ (tagged : Tagged) (n : ℕ) (sizes : (K : ℕ) → sizeOf edition1 K tagged ≡ n) where
+    pub wrong-size : (len ≡ n → ⊥) → Shaped tagged p start len (Refused 6)
+    unfolding _>>_ need
+    wrong-size h = record { is = λ K at. rw (size, sizes K, ne-eqb len n h); ranged = λ K. tt }
+
+    right-size : {r : Entry} → len ≡ n → ((K at : ℕ) → stated K at (take len (drop start p)) r ≡ accepted (entryFrom edition1 K tagged (take len (drop start p))))
+        → ((K : ℕ) → Ranged K start len r) → Shaped tagged p start len r
+    unfolding _>>_ need
+    right-size h e g = record { is = λ K at. rw (size, sizes K, eq-eqb len n h) (e K at); ranged = g }
+
+  pub combine-is : {s t : Line} {α β : ℤ} → len ≡ 6
+      → s .0 ≡ unsigned (take 1 (drop start p)) → t .0 ≡ unsigned (take 1 (drop (start + 1) p))
+      → Multiplies (unsigned (take 2 (drop (start + 2) p))) α → Multiplies (unsigned (take 2 (drop (start + 4) p))) β
+      → Shaped combineTag p start len (Combine s t α β)
+  unfolding sizeOf entryFrom lineNumber multiplier
+  combine-is {s} {t} {α} {β} h es et a b =
+      right-size combineTag 6 (λ K. refl) h
+      (λ K at.
+      let e₁ = es ∙ ap unsigned (first 1 (omega arith)) in
+      let e₂ = et ∙ ap unsigned (bytes 1 1 (omega arith)) in
+      let e₃ = sym (multiplies-abs a) ∙ ap unsigned (bytes 2 2 (omega arith)) in
+      let e₄ = sym (multiplies-abs b) ∙ ap unsigned (bytes 4 2 (omega arith)) in
+      rw (e₁, e₂, e₃, e₄))
+      (λ K. (multiplies-own a, multiplies-own b))
+
+  pub reduce-is : {s t : Line} {α : ℤ} → len ≡ 4
+      → s .0 ≡ unsigned (take 1 (drop start p)) → t .0 ≡ unsigned (take 1 (drop (start + 1) p))
+      → α ≡ signed (take 2 (drop (start + 2) p)) → Held 2 α
+      → Shaped reduceTag p start len (Reduce s t α)
+  unfolding sizeOf entryFrom lineNumber multiplier
+  reduce-is {s} {t} {α} h es et a held =
+      right-size reduceTag 4 (λ K. refl) h
+      (λ K at.
+      let e₁ = es ∙ ap unsigned (first 1 (omega arith)) in
+      let e₂ = et ∙ ap unsigned (bytes 1 1 (omega arith)) in
+      let e₃ = a ∙ ap signed (bytes 2 2 (omega arith)) in
+      ap (λ (x : ℕ). accepted (rules.row (rules.Derive (rules.Reduce x (t .0) α)))) e₁
+      ∙ ap₂ (λ (x : ℕ) (y : ℤ). accepted (rules.row (rules.Derive (rules.Reduce (unsigned (take 1 (take len (drop start p)))) x y)))) e₂ e₃)
+      (λ K. held-within held)
+
+  pub scale-is : {t : Line} {α : ℤ} → len ≡ 3 → t .0 ≡ unsigned (take 1 (drop start p)) → Multiplies (unsigned (take 2 (drop (start + 1) p))) α
+      → Shaped scaleTag p start len (Scale t α)
+  unfolding sizeOf entryFrom lineNumber multiplier
+  scale-is h et a =
+      right-size scaleTag 3 (λ K. refl) h
+      (λ K at.
+      let e₁ = et ∙ ap unsigned (first 1 (omega arith)) in
+      let e₂ = sym (multiplies-abs a) ∙ ap unsigned (bytes 1 2 (omega arith)) in
+      rw (e₁, e₂))
+      (λ K. multiplies-own a)
+
+  pub stride-is : {t : Line} {g : ℤ} → len ≡ 3 → t .0 ≡ unsigned (take 1 (drop start p)) → Multiplies (unsigned (take 2 (drop (start + 1) p))) g
+      → Shaped strideTag p start len (CloseStride t g)
+  unfolding sizeOf entryFrom lineNumber multiplier
+  stride-is h et a =
+      right-size strideTag 3 (λ K. refl) h
+      (λ K at.
+      let e₁ = et ∙ ap unsigned (first 1 (omega arith)) in
+      let e₂ = sym (multiplies-abs a) ∙ ap unsigned (bytes 1 2 (omega arith)) in
+      rw (e₁, e₂))
+      (λ K. multiplies-own a)
+
+  pub strengthen-is : {t : Line} → len ≡ 1 → t .0 ≡ unsigned (take 1 (drop start p)) → Shaped strengthenTag p start len (Strengthen t)
+  unfolding sizeOf entryFrom lineNumber
+  strengthen-is h et =
+      right-size strengthenTag 1 (λ K. refl) h
+      (λ K at. let e₁ = et ∙ ap unsigned (first 1 (omega arith)) in rw e₁)
+      (λ K. tt)
+
+  pub number-is : {t : Line} → len ≡ 1 → t .0 ≡ unsigned (take 1 (drop start p)) → Shaped numberTag p start len (CloseNumber t)
+  unfolding sizeOf entryFrom lineNumber
+  number-is h et =
+      right-size numberTag 1 (λ K. refl) h
+      (λ K at. let e₁ = et ∙ ap unsigned (first 1 (omega arith)) in rw e₁)
+      (λ K. tt)
+
+-- ---- the entry of a field, by its tag
+abbrev fieldOf : (at tag : ℕ) → List ℕ → Field
+fieldOf at tag bs = record { at = at; tag = tag; contents = bs }
+
+module _ (K at tag : ℕ) (bs : List ℕ) (l : Option forms.Line) where
+  entry-unknown : known FileKind.Proof tag ≡ false → entry edition1 K l (fieldOf at tag bs) ≡ refused (answer 3 fileProof at)
+  unfolding entry _>>_ need
+  entry-unknown e = rw e
+
+  entry-none : known FileKind.Proof tag ≡ true → entryTagged tag ≡ none → entry edition1 K l (fieldOf at tag bs) ≡ refused (answer 4 fileProof at)
+  unfolding entry _>>_ _>>=_ need found
+  entry-none e f = rw (e, f)
+
+  module _ (x : Tagged) (e : known FileKind.Proof tag ≡ true) (f : entryTagged tag ≡ some x) where
+    entry-out : inPlace l x ≡ false → entry edition1 K l (fieldOf at tag bs) ≡ refused (answer 4 fileProof at)
+    unfolding entry _>>_ _>>=_ need found
+    entry-out g = rw (e, f, g)
+
+    entry-in : inPlace l x ≡ true
+        → entry edition1 K l (fieldOf at tag bs) ≡ (need (answer 6 fileProof at) (eqb (length bs) (sizeOf edition1 K x)) >> accepted (entryFrom edition1 K x bs))
+    unfolding entry _>>_ _>>=_ need found
+    entry-in g = rw (e, f, g)
+
+module _ {p : List ℕ} {tag start len : ℕ} (K : ℕ) (made : Bool) where
+  -- of each tag below 0x20
+  entered : (x : Tagged) → known FileKind.Proof tag ≡ true → entryTagged tag ≡ some x → ((l : Option forms.Line) → inPlace l x ≡ true)
+      → {r : Entry} → Shaped x p start len r → Entered K p tag start len made r
+  entered x e f g s = record { is = λ at l h. entry-in K at tag _ l x e f (g l) ∙ sym (s .is K at); ranged = s .ranged K }
+
+  module _ {r : Entry} where
+    pub combine-in : tag ≡ 0x10 → Shaped combineTag p start len r → Entered K p tag start len made r
+    unfolding known headerTag entryTagged inPlace
+    combine-in e s = entered combineTag (rw e) (rw e) (λ l. refl) s
+
+    pub reduce-in : tag ≡ 0x11 → Shaped reduceTag p start len r → Entered K p tag start len made r
+    unfolding known headerTag entryTagged inPlace
+    reduce-in e s = entered reduceTag (rw e) (rw e) (λ l. refl) s
+
+    pub scale-in : tag ≡ 0x12 → Shaped scaleTag p start len r → Entered K p tag start len made r
+    unfolding known headerTag entryTagged inPlace
+    scale-in e s = entered scaleTag (rw e) (rw e) (λ l. refl) s
+
+    pub strengthen-in : tag ≡ 0x13 → Shaped strengthenTag p start len r → Entered K p tag start len made r
+    unfolding known headerTag entryTagged inPlace
+    strengthen-in e s = entered strengthenTag (rw e) (rw e) (λ l. refl) s
+
+    pub number-in : tag ≡ 0x14 → Shaped numberTag p start len r → Entered K p tag start len made r
+    unfolding known headerTag entryTagged inPlace
+    number-in e s = entered numberTag (rw e) (rw e) (λ l. refl) s
+
+    pub stride-in : tag ≡ 0x15 → Shaped strideTag p start len r → Entered K p tag start len made r
+    unfolding known headerTag entryTagged inPlace
+    stride-in e s = entered strideTag (rw e) (rw e) (λ l. refl) s
+
+  pub header-in : tag ≡ 0x01 → Entered K p tag start len made (Refused 4)
+  unfolding known headerTag entryTagged
+  header-in e = record { is = λ at l h. entry-none K at tag _ l (rw e) (rw e); ranged = tt }
+
+  pub header-in-2 : tag ≡ 0x02 → Entered K p tag start len made (Refused 4)
+  unfolding known headerTag entryTagged
+  header-in-2 e = record { is = λ at l h. entry-none K at tag _ l (rw e) (rw e); ranged = tt }
+
+  claimed-by : (b : Bool) → tag ≡ 0x20 → start + len ≤ length p → eqb len (8 * (K + 1)) ≡ b → Entered K p tag start len true (elim b [ true ↦ Claim start | false ↦ Refused 6 ])
+  unfolding known headerTag entryTagged inPlace sizeOf entryFrom _>>_ need
+  claimed-by b e h q = record { is = is; ranged = ranged b q }
+    where
+      size-is : sizeOf edition1 K claimTag ≡ 8 * (K + 1)
+      size-is = omega arith
+
+      by : (b : Bool) (at : ℕ) → eqb len (8 * (K + 1)) ≡ b
+          → (need (answer 6 fileProof at) (eqb (length (take len (drop start p))) (sizeOf edition1 K claimTag)) >> accepted (entryFrom edition1 K claimTag (take len (drop start p))))
+          ≡ stated K at (take len (drop start p)) (elim b [ true ↦ Claim start | false ↦ Refused 6 ])
+      by true at q = rw (size p start len h, size-is, q)
+      by false at q = rw (size p start len h, size-is, q)
+
+      is : (at : ℕ) (l : Option forms.Line) → there l ≡ true
+          → entry edition1 K l (fieldOf at tag (take len (drop start p))) ≡ stated K at (take len (drop start p)) (elim b [ true ↦ Claim start | false ↦ Refused 6 ])
+      is at none t = absurd (let z : _≡_ {A = ℕ} 0 1 = cc in omega arith)
+      is at (some l) t = entry-in K at tag _ (some l) claimTag (rw e) (rw e) refl ∙ by b at q
+
+      ranged : (b : Bool) → eqb len (8 * (K + 1)) ≡ b → Ranged K start len (elim b [ true ↦ Claim start | false ↦ Refused 6 ])
+      ranged true q = (refl, omega (arith, eqb-true len (8 * (K + 1)) q))
+      ranged false q = tt
+
+  unclaimed : tag ≡ 0x20 → Entered K p tag start len false (Refused 4)
+  unfolding known headerTag entryTagged inPlace
+  unclaimed e = record { is = is; ranged = tt }
+    where
+      is : (at : ℕ) (l : Option forms.Line) → there l ≡ false
+          → entry edition1 K l (fieldOf at tag (take len (drop start p))) ≡ refused (answer 4 fileProof at)
+      is at none t = entry-out K at tag _ none claimTag (rw e) (rw e) refl
+      is at (some l) t = absurd (let z : _≡_ {A = ℕ} 0 1 = cc in omega arith)
+
+pub claim-in : {p : List ℕ} {tag start len K : ℕ} (made : Bool) {r : Entry} → tag ≡ 0x20 → start + len ≤ length p → r ≡ claimed K start len made → Entered K p tag start len made r
+claim-in {len = len} {K = K} true e h q = rw q (claimed-by K true (eqb len (8 * (K + 1))) e h refl)
+claim-in {K = K} false e h q = rw q (unclaimed K false e)
+
+above : (n : ℕ) {tag : ℕ} → n ≤ tag → (tag ≡ n → ⊥) → suc n ≤ tag
+above n h k = omega arith
+
+clash : {tag n : ℕ} {P : Type 0} → suc n ≤ tag → tag ≤ n → P
+clash h k = absurd (omega arith)
+
+between : (tag : ℕ) → (tag ≡ 0x10 → ⊥) → (tag ≡ 0x11 → ⊥) → (tag ≡ 0x12 → ⊥) → (tag ≡ 0x13 → ⊥) → (tag ≡ 0x14 → ⊥) → (tag ≡ 0x15 → ⊥)
+    → leb 0x10 tag && leb tag 0x15 ≡ false
+between tag a b c d e f = go (leb 0x10 tag) (leb tag 0x15) refl refl
+  where
+    go : (x y : Bool) → leb 0x10 tag ≡ x → leb tag 0x15 ≡ y → x && y ≡ false
+    go true true p q = clash (above 0x15 (above 0x14 (above 0x13 (above 0x12 (above 0x11 (above 0x10 (leb-true 0x10 tag p) a) b) c) d) e) f) (leb-true tag 0x15 q)
+    go true false p q = refl
+    go false y p q = refl
+
+pub unknown-in : {p : List ℕ} {tag start len : ℕ} (K : ℕ) (made : Bool)
+    → (tag ≡ 0x10 → ⊥) → (tag ≡ 0x11 → ⊥) → (tag ≡ 0x12 → ⊥) → (tag ≡ 0x13 → ⊥) → (tag ≡ 0x14 → ⊥) → (tag ≡ 0x15 → ⊥) → (tag ≡ 0x20 → ⊥)
+    → (tag ≡ 0x01 → ⊥) → (tag ≡ 0x02 → ⊥) → Entered K p tag start len made (Refused 3)
+unfolding known headerTag
+unknown-in {tag = tag} K made a b c d e f g x y = record {
+  is = λ at l h. entry-unknown K at tag _ l (rw (ne-eqb tag 0x01 x, ne-eqb tag 0x02 y, between tag a b c d e f, ne-eqb tag 0x20 g));
+  ranged = tt;
+}

@@ -1,0 +1,169 @@
+-- The rows of a branch, counted and applied: each way through a function. Assumes nothing.
+use mathlib.Core.Path.{_≡_, refl, sym, ap, _∙_}
+use mathlib.Core.Bool.{Bool, true, false}
+use mathlib.Core.List.{List}
+use mathlib.Core.Option.{Option, none, some}
+use Prim.Native.Nat.{ℕ, suc, _+_, _-_, _*_, _≤_, _<_}
+use native.Mathlib.Numerals.{add-one}
+use native.Mathlib.Omega.{arith}
+use lib.Dec.{ltb}
+use lib.ListN.{take, drop}
+use lib.IntN.{ℤ, pos, natAbs}
+use borrow.Author.Tests.{lt-ltb, le-ltb, ltb-true, ltb-false}
+use Rattle.forms.specs.Edition.{edition1}
+use Rattle.forms.specs.Forms.{Line}
+use Rattle.calculus.specs.Rules as rules
+use Rattle.calculus.specs.Rules.{_▷_}
+use Rattle.fields.specs.Fields.{Fields}
+use Rattle.fields.specs.Numbers.{formWidth}
+use Rattle.fields.specs.Answers.{Result, refused, accepted, _>>=_, _>>_, need}
+use Rattle.lines.specs.Parts.{agree-sym}
+use Rattle.lines.specs.Buffer.{lineIn, linesIn}
+use Rattle.lines.specs.Lines.{lines-more}
+use Rattle.proof.specs.Check.{refusal, checkRow, agreeing, checkEntry, Checker, Next}
+use Rattle.rows.specs.Tally.{rowCounted}
+use Rattle.rows.specs.Rows.{Ready, Kept, moreLines, Derives}
+use Rattle.rows.specs.Steps.{steppedOf, Checked, Same, lastMade, fieldChecked, rowChecked, rowLeft, moreRows, Steps, Counts, Claims}
+use Rattle.rows.specs.Claims.{Claimed}
+use Rattle.rows.specs.Entries.{Multiplies, stated, there, Entered}
+use Rattle.rows.specs.declared.entries.Entry as entries
+use Rattle.rows.specs.declared.entries.Entry.the-variants as entry-of
+use Rattle.rows.specs.declared.tally.Line as tally
+use Rattle.rows.specs.declared.tally.Tally.{Tally}
+use Rattle.rows.specs.declared.tally.Counted.{Counted}
+use Rattle.rows.specs.declared.derive.Derived.{Derived}
+use Rattle.rows.specs.declared.derive.Derived.the-variants as derived-of
+use Rattle.rows.specs.declared.steps.Stepped.{Stepped}
+use Rattle.rows.specs.declared.steps.Stepped.the-variants.{Refused, Made, Strengthens, ClosesNumber, ClosesStride}
+use Rattle.rows.proofs.Deriving.{kept-refl}
+
+pub counted-row : {t : Tally} {r : Counted} → r ≡ rowCounted t → r .made ≡ true → (t .rows .0 < 1024) × (r .tally ≡ moreRows t)
+unfolding rowCounted
+counted-row {t} {r} e h = go (ltb (t .rows .0) 1024) refl
+  where
+    go : (b : Bool) → ltb (t .rows .0) 1024 ≡ b → (t .rows .0 < 1024) × (r .tally ≡ moreRows t)
+    go true q = (ltb-true (t .rows .0) 1024 q, ap (λ (x : Counted). x .tally) e ∙ rw q)
+    go false q = absurd (let z : r .made ≡ false = ap (λ (x : Counted). x .made) e ∙ rw q in let y : _≡_ {A = ℕ} 0 1 = cc in omega arith)
+
+pub full-row : (t : Tally) {r : Counted} → r ≡ rowCounted t → r .made ≡ false → 1024 ≤ t .rows .0
+unfolding rowCounted
+full-row t {r} e h = go (ltb (t .rows .0) 1024) refl
+  where
+    go : (b : Bool) → ltb (t .rows .0) 1024 ≡ b → 1024 ≤ t .rows .0
+    go true q = absurd (let z : r .made ≡ true = ap (λ (x : Counted). x .made) e ∙ rw q in let y : _≡_ {A = ℕ} 0 1 = cc in omega arith)
+    go false q = ltb-false (t .rows .0) 1024 q
+
+module _ (K : ℕ) (kinds : List ℕ) (buf : List ℤ) (t : Tally) (row : rules.Row) where
+  pub row-full : 1024 ≤ t .rows .0 → Steps (rowChecked K kinds buf t row) K kinds buf t kinds buf (Refused 18)
+  unfolding _>>_ need
+  row-full h = record { kept = kept-refl; by = record { is = λ inA inB deeper next at fs. rw (le-ltb (t .rows .0) 1024 h) } }
+
+  row-counted : t .rows .0 < 1024 → Same (rowChecked K kinds buf t row) (rowLeft K kinds buf t row)
+  unfolding _>>_ need
+  row-counted h = record { is = λ inA inB deeper next at fs. rw (lt-ltb (t .rows .0) 1024 h) }
+
+-- A row that makes a line, from what `combine`, `reduce` or `scale` answers.
+module _ {K : ℕ} {kinds : List ℕ} {buf : List ℤ} (t : Tally) {s : rules.Step} {kinds′ : List ℕ} {buf′ : List ℤ} (h : t .rows .0 < 1024) where
+  derive-by : (d : Derived) → Derives K kinds buf (moreRows t) s kinds′ buf′ d → Steps (rowChecked K kinds buf t (rules.Derive s)) K kinds buf t kinds′ buf′ (steppedOf d)
+  unfolding checkRow
+  derive-by (derived-of.Refused x) a = record {
+    kept = a .kept;
+    by = record { is = λ inA inB deeper next at fs. row-counted K kinds buf t (rules.Derive s) h .is inA inB deeper next at fs ∙ a .by at (λ l. next (suc (t .rows .0)) (some l) (linesIn K kinds buf (t .lines .0) ▷ l)) };
+  }
+  derive-by (derived-of.Made t′) a = record {
+    kept = a .kept;
+    by = (
+      record {
+        is = λ inA inB deeper next at fs.
+            row-counted K kinds buf t (rules.Derive s) h .is inA inB deeper next at fs
+            ∙ a .by .0 at (λ l. next (suc (t .rows .0)) (some l) (linesIn K kinds buf (t .lines .0) ▷ l))
+            ∙ rw (add-one, add-one, lines-more K (t .lines .0) (agree-sym (a .kept .lines-same)) (agree-sym (a .kept .kinds-same)));
+      },
+      a .by .1,
+      a .by .2,
+    );
+  }
+
+  pub row-derived : {u : Tally} {d : Derived} {r : Stepped} → u ≡ moreRows t → Derives K kinds buf u s kinds′ buf′ d → r ≡ steppedOf d
+      → Steps (rowChecked K kinds buf t (rules.Derive s)) K kinds buf t kinds′ buf′ r
+  row-derived {u} {d} eu a er = rw er (derive-by d (rw eu at a))
+
+-- ---- rows that split or end the branch
+pub counts-full : (row : rules.Row) (t : Tally) → 1024 ≤ t .rows .0 → Counts row t (Refused 18)
+counts-full row t h = record { steps = λ K kinds buf. row-full K kinds buf t row h }
+
+module _ (t : Tally) (h : t .rows .0 < 1024) {u : Tally} (e : u ≡ moreRows t) (i : tally.Line) where
+  pub counts-strengthen : Counts (rules.Strengthen (i .0)) t (Strengthens i u)
+  counts-strengthen = record { steps = λ K kinds buf. record { kept = kept-refl; by = (row-counted K kinds buf t (rules.Strengthen (i .0)) h, e) } }
+
+  pub counts-number : Counts (rules.CloseNumber (i .0)) t (ClosesNumber i u)
+  counts-number = record { steps = λ K kinds buf. record { kept = kept-refl; by = (row-counted K kinds buf t (rules.CloseNumber (i .0)) h, e) } }
+
+  pub counts-stride : {g : ℤ} → Multiplies (natAbs g) g → Counts (rules.CloseStride (i .0) (natAbs g)) t (ClosesStride i g u)
+  counts-stride {g} m = record { steps = λ K kinds buf. record { kept = kept-refl; by = (row-counted K kinds buf t (rules.CloseStride (i .0) (natAbs g)) h, e, m) } }
+
+-- ---- claims
+module _ {K : ℕ} {p : List ℕ} {start : ℕ} {buf : List ℤ} (made : Bool) (t : Tally) where
+  pub claim-out : made ≡ false → Claims K p start made buf t (Refused 4)
+  unfolding checkEntry agreeing _>>_
+  claim-out h = record { steps = λ len kinds el. record { kept = kept-refl; by = record { is = λ inA inB deeper next at fs. rw h } } }
+
+  module _ {n : ℕ} {b : Bool} (h : made ≡ true) (en : n ≡ t .lines .0 - 1) (c : Claimed K p start buf n b) where
+    pub claim-wrong : b ≡ false → Claims K p start made buf t (Refused 14)
+    unfolding checkEntry agreeing _>>_ need
+    claim-wrong e = record { steps = λ len kinds el. record { kept = kept-refl; by = record { is = λ inA inB deeper next at fs. rw (h, ← en, c .is len kinds el, e) } } }
+
+    pub claim-right : b ≡ true → Claims K p start made buf t Stepped.Claimed
+    unfolding checkEntry agreeing _>>_ need
+    claim-right e = record { steps = λ len kinds el. record { kept = kept-refl; by = record { is = λ inA inB deeper next at fs. rw (h, ← en, c .is len kinds el, e) } } }
+
+-- ---- the field of a branch, by its entry
+same-trans : {f g h : Checked} → Same f g → Same g h → Same f h
+same-trans a b = record { is = λ inA inB deeper next at fs. a .is inA inB deeper next at fs ∙ b .is inA inB deeper next at fs }
+
+pub steps-same : {f g : Checked} {K : ℕ} {kinds : List ℕ} {buf : List ℤ} {t : Tally} {kinds′ : List ℕ} {buf′ : List ℤ} (r : Stepped)
+    → Same f g → Steps g K kinds buf t kinds′ buf′ r → Steps f K kinds buf t kinds′ buf′ r
+steps-same (Refused x) a s = record { kept = s .kept; by = same-trans a (s .by) }
+steps-same (Made u) a s = record { kept = s .kept; by = (same-trans a (s .by .0), s .by .1, s .by .2) }
+steps-same Stepped.Claimed a s = record { kept = s .kept; by = same-trans a (s .by) }
+steps-same (Strengthens i u) a s = record { kept = s .kept; by = (same-trans a (s .by .0), s .by .1) }
+steps-same (ClosesNumber i u) a s = record { kept = s .kept; by = (same-trans a (s .by .0), s .by .1) }
+steps-same (ClosesStride i g u) a s = record { kept = s .kept; by = (same-trans a (s .by .0), s .by .1, s .by .2) }
+
+there-made : (made : Bool) (K : ℕ) (kinds : List ℕ) (buf : List ℤ) (n : ℕ) → there (lastMade made K kinds buf n) ≡ made
+there-made true K kinds buf n = refl
+there-made false K kinds buf n = refl
+
+module _ {K : ℕ} (kinds : List ℕ) (buf : List ℤ) (t : Tally) {p : List ℕ} {tag start len : ℕ} (made : Bool) {x : entries.Entry} (e : Entered K p tag start len made x) where
+  enters : (y : Result rules.Entry) (at : ℕ) → stated K at (take len (drop start p)) x ≡ y
+      → (inA inB : ℕ → Bool) (deeper : Option Checker) (next : Next) (fs : Fields)
+      → fieldChecked K kinds buf t made tag (take len (drop start p)) inA inB deeper next at fs
+      ≡ (y >>= λ z. checkEntry edition1 K inA inB deeper next at (t .rows .0) (lastMade made K kinds buf (t .lines .0)) (linesIn K kinds buf (t .lines .0)) fs z)
+  enters y at q inA inB deeper next fs =
+      ap (λ (w : Result rules.Entry). w >>= λ z. checkEntry edition1 K inA inB deeper next at (t .rows .0) (lastMade made K kinds buf (t .lines .0)) (linesIn K kinds buf (t .lines .0)) fs z)
+      (e .is at (lastMade made K kinds buf (t .lines .0)) (there-made made K kinds buf (t .lines .0)) ∙ q)
+
+  field-row : (row : rules.Row) → ((at : ℕ) → stated K at (take len (drop start p)) x ≡ accepted (rules.row row))
+      → Same (fieldChecked K kinds buf t made tag (take len (drop start p))) (rowChecked K kinds buf t row)
+  unfolding _>>=_ checkEntry
+  field-row row q = record { is = λ inA inB deeper next at fs. enters (accepted (rules.row row)) at (q at) inA inB deeper next fs }
+
+  pub step-row : (row : rules.Row) → ((at : ℕ) → stated K at (take len (drop start p)) x ≡ accepted (rules.row row)) → {kinds′ : List ℕ} {buf′ : List ℤ} {r : Stepped}
+      → Steps (rowChecked K kinds buf t row) K kinds buf t kinds′ buf′ r
+      → Steps (fieldChecked K kinds buf t made tag (take len (drop start p))) K kinds buf t kinds′ buf′ r
+  step-row row q {r = r} s = steps-same r (field-row row q) s
+
+  pub step-claim : {from : ℕ} {r : Stepped} → x ≡ entry-of.Claim from → from ≡ start → len ≡ 2 * formWidth (edition1 .termWidth) K → Claims K p from made buf t r
+      → Steps (fieldChecked K kinds buf t made tag (take len (drop start p))) K kinds buf t kinds buf r
+  unfolding _>>=_
+  step-claim {from} {r} ex ef el c =
+      steps-same r
+      (record { is = λ inA inB deeper next at fs. enters (stated K at (take len (drop start p)) (entry-of.Claim from)) at (ap (stated K at (take len (drop start p))) ex) inA inB deeper next fs })
+      ((rw ef at c) .steps len kinds el)
+
+  pub step-refused : {n : ℕ} → x ≡ entry-of.Refused n → Steps (fieldChecked K kinds buf t made tag (take len (drop start p))) K kinds buf t kinds buf (Refused n)
+  unfolding _>>=_
+  step-refused {n} ex = record {
+    kept = kept-refl;
+    by = record { is = λ inA inB deeper next at fs. enters (stated K at (take len (drop start p)) (entry-of.Refused n)) at (ap (stated K at (take len (drop start p))) ex) inA inB deeper next fs };
+  }

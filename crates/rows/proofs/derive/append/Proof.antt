@@ -1,0 +1,85 @@
+-- `rows::derive::append` meets its contract. Assumes nothing.
+use borrow.Author.Needs.{needs}
+use native.Mathlib.Omega.{arith}
+use mathlib.Core.Path.{refl}
+use mir.ValLaws.{toZ-ofZ}
+use Rattle.rows.proofs.Deriving.{counted-line, full-line, append-end, append-full, append-range, append-made}
+use Rattle.rows.proofs.derive.append.Statement.{statement}
+use Rattle.rows.proofs.derive.append.Tie as tie
+
+line-counted-requires : tie.Need-line-counted-requires
+line-counted-requires c κs = search needs
+
+cast-n : tie.Need-cast-n
+cast-n c = search needs
+
+cast-mix : tie.Need-cast-mix
+cast-mix c = search needs
+
+cast-mix-2 : tie.Need-cast-mix-2
+cast-mix-2 c = search needs
+
+mix-requires : tie.Need-mix-requires
+mix-requires c κs =
+    let s = c .before .before .before .before .before .before .before .before .before in
+    let ff = s .fits .f in
+    let fg = s .fits .g in
+    let h = counted-line (c .before .before .before .before .before .before .before .line-counted .ensures) (c .before .before .before .if1 .taken) in
+    simp toZ-ofZ (record { branch = s .pre .0 .branch; first = s .pre .1 .first; second = s .pre .1 .second; space = h .0; f-in = s .pre .1 .f-in; g-in = s .pre .1 .g-in })
+
+slice-write-kinds : tie.Need-slice-write-kinds
+slice-write-kinds c = omega (arith, counted-line (c .before .before .before .before .before .before .before .before .before .line-counted .ensures) (c .before .before .before .before .before .if1 .taken), c .before .before .before .before .before .before .before .before .before .before .before .pre .0 .room)
+
+place-requires : tie.Need-place-requires
+place-requires c κs = search needs
+
+add-fits : tie.Need-add-fits
+add-fits c = search needs
+
+mul-fits : tie.Need-mul-fits
+mul-fits c = search needs
+
+fits-requires : tie.Need-fits-requires
+fits-requires c κs =
+    let s = c .before .before .before .before .before .before .before .before .before .before .before .before .before in
+    let ff = s .fits .f in
+    let fg = s .fits .g in
+    let h = counted-line (c .before .before .before .before .before .before .before .before .before .before .before .line-counted .ensures) (c .before .before .before .before .before .before .before .if1 .taken) in
+    let m = simp toZ-ofZ at (c .before .before .before .mix .ensures) in
+    omega (arith, append-end (s .args .tally) _ _ _ _ _ (s .pre .0) (s .pre .1) (h .0) m refl, c .place .ensures)
+
+same-length : tie.Need-same-length
+same-length c = search needs
+
+same-length-2 : tie.Need-same-length-2
+same-length-2 c = search needs
+
+returns : tie.Need-returns
+returns c =
+    let s = c .before .before .before .before .before .before .before .before .before .before .before .before .before .before .before in
+    let ff = s .fits .f in
+    let fg = s .fits .g in
+    let h = counted-line (c .before .before .before .before .before .before .before .before .before .before .before .before .before .line-counted .ensures) (c .before .before .before .before .before .before .before .before .before .if1 .taken) in
+    let m = simp toZ-ofZ at (c .before .before .before .before .before .mix .ensures) in
+    append-made _ _ _ _ _ _ (s .pre .0) (s .pre .1) (h .0) m refl (c .before .before .place .ensures) (c .before .fits2 .ensures) (c .if2 .taken) (h .1)
+
+same-length-3 : tie.Need-same-length-3
+same-length-3 c = search needs
+
+same-length-4 : tie.Need-same-length-4
+same-length-4 c = search needs
+
+returns-2 : tie.Need-returns-2
+returns-2 c =
+    let s = c .before .before .before .before .before .before .before .before .before .before .before .before .before .before .before in
+    let ff = s .fits .f in
+    let fg = s .fits .g in
+    let h = counted-line (c .before .before .before .before .before .before .before .before .before .before .before .before .before .line-counted .ensures) (c .before .before .before .before .before .before .before .before .before .if1 .taken) in
+    let m = simp toZ-ofZ at (c .before .before .before .before .before .mix .ensures) in
+    append-range _ _ _ _ _ _ (s .pre .0) (s .pre .1) (h .0) m refl (c .before .before .place .ensures) (c .before .fits2 .ensures) (c .if2 .left)
+
+returns-3 : tie.Need-returns-3
+returns-3 c = append-full _ _ _ _ _ _ (c .before .before .before .before .before .before .pre .0) (full-line _ (c .before .before .before .before .line-counted .ensures) (c .if1 .left))
+
+pub append-spec : {M : Type 1} → statement M
+append-spec = tie.close (tie.spec line-counted-requires cast-n cast-mix cast-mix-2 mix-requires slice-write-kinds place-requires add-fits mul-fits fits-requires same-length same-length-2 returns same-length-3 same-length-4 returns-2 returns-3)

@@ -1,0 +1,34 @@
+-- `rows::steps::claim_step` meets its contract. Assumes nothing.
+use borrow.Author.Needs.{needs}
+use native.Mathlib.Omega.{arith}
+use mathlib.Core.Path.{refl}
+use Rattle.rows.proofs.Stepping.{claim-out, claim-wrong, claim-right}
+use Rattle.rows.proofs.steps.claim_step.Statement.{statement}
+use Rattle.rows.proofs.steps.claim_step.Tie as tie
+
+sub-t10 : tie.Need-sub-t10
+sub-t10 c = omega (arith, c .before .before .before .before .pre .1 (c .before .if1 .taken))
+
+claim-holds-requires : tie.Need-claim-holds-requires
+claim-holds-requires c κs = search needs
+
+returns : tie.Need-returns
+returns c =
+    let s = c .before .before .before .before .before .before in
+    let a = s .args in
+    claim-right (a .made) (a .tally) (c .before .before .before .if1 .taken) refl (c .before .claim-holds .ensures) (c .if2 .taken)
+
+returns-2 : tie.Need-returns-2
+returns-2 c =
+    let s = c .before .before .before .before .before .before in
+    let a = s .args in
+    claim-wrong (a .made) (a .tally) (c .before .before .before .if1 .taken) refl (c .before .claim-holds .ensures) (c .if2 .left)
+
+returns-3 : tie.Need-returns-3
+returns-3 c =
+    let s = c .before .before .before in
+    let a = s .args in
+    claim-out (a .made) (a .tally) (c .if1 .left)
+
+pub claim-step-spec : {M : Type 1} → statement M
+claim-step-spec = tie.close (tie.spec sub-t10 claim-holds-requires returns returns-2 returns-3)

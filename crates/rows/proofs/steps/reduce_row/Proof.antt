@@ -1,0 +1,44 @@
+-- `rows::steps::reduce_row` meets its contract. Assumes nothing.
+use borrow.Author.Needs.{needs}
+use native.Mathlib.Omega.{arith}
+use mir.ValLaws.{toZ-ofZ}
+use Rattle.rows.proofs.Stepping.{counted-row, full-row, row-full, row-derived}
+use Rattle.rows.proofs.steps.reduce_row.Statement.{statement}
+use Rattle.rows.proofs.steps.reduce_row.Tie as tie
+
+row-counted-requires : tie.Need-row-counted-requires
+row-counted-requires c κs = search needs
+
+reduce-requires : tie.Need-reduce-requires
+reduce-requires c κs =
+    let s = c .before .before .before .before .before .before in
+    let a = s .args in
+    let f0 = s .fits .alpha in
+    let h = counted-row (c .before .before .before .before .row-counted .ensures) (c .before .before .if1 .taken) in
+    simp toZ-ofZ (rw (h .1) (s .pre .0), s .pre .1)
+
+stepped-of-requires : tie.Need-stepped-of-requires
+stepped-of-requires c κs = search needs
+
+same-length : tie.Need-same-length
+same-length c = search needs
+
+same-length-2 : tie.Need-same-length-2
+same-length-2 c = search needs
+
+returns : tie.Need-returns
+returns c =
+    let s = c .before .before .before .before .before .before .before .before .before .before .before in
+    let a = s .args in
+    let f0 = s .fits .alpha in
+    let h = counted-row (c .before .before .before .before .before .before .before .before .before .row-counted .ensures) (c .before .before .before .before .before .before .before .if1 .taken) in
+    row-derived (a .tally) (h .0) (h .1) (simp toZ-ofZ at (c .before .before .before .before .reduce .ensures)) (c .stepped-of .ensures)
+
+returns-2 : tie.Need-returns-2
+returns-2 c =
+    let s = c .before .before .before .before in
+    let a = s .args in
+    row-full _ _ _ (a .tally) _ (full-row (a .tally) (c .before .before .row-counted .ensures) (c .if1 .left))
+
+pub reduce-row-spec : {M : Type 1} → statement M
+reduce-row-spec = tie.close (tie.spec row-counted-requires reduce-requires stepped-of-requires same-length same-length-2 returns returns-2)

@@ -1,0 +1,20 @@
+-- `rows::tally::next_line` meets its contract. Assumes nothing.
+use borrow.Author.Needs.{needs}
+use borrow.Author.Tests.{lt-ltb, le-ltb}
+use Rattle.rows.specs.Tally.{lineCounted}
+use Rattle.rows.proofs.tally.next_line.Statement.{statement}
+use Rattle.rows.proofs.tally.next_line.Tie as tie
+
+add-t7 : tie.Need-add-t7
+add-t7 c = search needs
+
+returns : tie.Need-returns
+unfolding lineCounted
+returns c = simp (lt-ltb _ _ (c .if1 .taken))
+
+returns-2 : tie.Need-returns-2
+unfolding lineCounted
+returns-2 c = simp (le-ltb _ _ (c .if1 .left))
+
+pub next-line-spec : {M : Type 1} → statement M
+next-line-spec = tie.close (tie.spec add-t7 returns returns-2)

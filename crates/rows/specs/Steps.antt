@@ -1,0 +1,90 @@
+-- One entry of a branch: what the definitions make of it, by the answer of the code. Document 01, "The rows" and "Check". Assumes nothing.
+use mathlib.Core.Path.{_≡_}
+use mathlib.Core.Bool.{Bool, true, false}
+use mathlib.Core.List.{List}
+use mathlib.Core.Option.{Option, none, some}
+use Prim.Native.Nat.{ℕ, suc, _+_, _-_, _*_}
+use lib.Dec.{ltb}
+use lib.ListN.{take, drop}
+use lib.IntN.{ℤ, natAbs}
+use Rattle.forms.specs.Edition.{edition1}
+use Rattle.forms.specs.Forms.{Line}
+use Rattle.calculus.specs.Rules as rules
+use Rattle.fields.specs.Answers.{Result, refused, _>>=_, _>>_, need}
+use Rattle.fields.specs.Numbers.{formFrom, formWidth}
+use Rattle.fields.specs.Fields.{Field, Fields}
+use Rattle.lines.specs.Buffer.{lineIn, linesIn}
+use Rattle.proof.specs.Entries.{entry}
+use Rattle.proof.specs.Check.{Closing, Checker, Next, refusal, checkRow, checkEntry, checkEntries}
+use Rattle.rows.specs.Tally.{tally}
+use Rattle.rows.specs.Entries.{Multiplies}
+use Rattle.rows.specs.Rows.{Ready, Kept, moreLines}
+use Rattle.rows.specs.declared.tally.Tally.{Tally}
+use Rattle.rows.specs.declared.derive.Derived as derived
+use Rattle.rows.specs.declared.derive.Derived.the-variants as derived-of
+use Rattle.rows.specs.declared.steps.Stepped.{Stepped}
+use Rattle.rows.specs.declared.steps.Stepped.the-variants.{Refused, Made, Claimed, Strengthens, ClosesNumber, ClosesStride}
+
+abbrev pub steppedOf : derived.Derived → Stepped
+steppedOf (derived-of.Refused x) = Refused x
+steppedOf (derived-of.Made t) = Made t
+
+-- What is checked at a place of any proof: given the masks, what checks deeper branches, what follows in this branch, the place, and the fields after it.
+abbrev pub Checked : Type 0
+Checked = (inA inB : ℕ → Bool) (deeper : Option Checker) (next : Next) (at : ℕ) (fs : Fields) → Result Closing
+
+pub record Same (f g : Checked) : Type 0 where
+  pub is : (inA inB : ℕ → Bool) (deeper : Option Checker) (next : Next) (at : ℕ) (fs : Fields) → f inA inB deeper next at fs ≡ g inA inB deeper next at fs
+
+-- A row, counted first, in a branch of the tally's lines.
+abbrev pub rowChecked : (K : ℕ) (kinds : List ℕ) (buf : List ℤ) (t : Tally) → rules.Row → Checked
+rowChecked K kinds buf t row inA inB deeper next at fs =
+    need (refusal at 18) (ltb (t .rows .0) (edition1 .rows)) >> checkRow edition1 K inA inB deeper next at (t .rows .0) (linesIn K kinds buf (t .lines .0)) fs row
+
+-- The same row, counted already.
+abbrev pub rowLeft : (K : ℕ) (kinds : List ℕ) (buf : List ℤ) (t : Tally) → rules.Row → Checked
+rowLeft K kinds buf t row inA inB deeper next at fs = checkRow edition1 K inA inB deeper next at (t .rows .0) (linesIn K kinds buf (t .lines .0)) fs row
+
+abbrev pub moreRows : Tally → Tally
+moreRows t = tally (t .rows .0 + 1) (t .lines .0) (t .«open»)
+
+-- What f is, by the code's answer.
+abbrev pub SteppedBy : (f : Checked) (K : ℕ) (kinds : List ℕ) (buf : List ℤ) (t : Tally) (kinds′ : List ℕ) (buf′ : List ℤ) → Stepped → Type 0
+SteppedBy f K kinds buf t kinds′ buf′ (Refused x) = Same f (λ inA inB deeper next at fs. refused (refusal at x))
+SteppedBy f K kinds buf t kinds′ buf′ (Made t′) =
+    Same f (λ inA inB deeper next at fs. next (t .rows .0 + 1) (some (lineIn K kinds′ buf′ (t .lines .0))) (linesIn K kinds′ buf′ (t .lines .0 + 1)))
+    × Ready K kinds′ buf′ (t .lines .0 + 1) × (t′ ≡ moreLines (moreRows t))
+SteppedBy f K kinds buf t kinds′ buf′ Claimed = Same f (λ inA inB deeper next at fs. next (t .rows .0) none (linesIn K kinds buf (t .lines .0)))
+SteppedBy f K kinds buf t kinds′ buf′ (Strengthens i t′) = Same f (rowLeft K kinds buf t (rules.Strengthen (i .0))) × (t′ ≡ moreRows t)
+SteppedBy f K kinds buf t kinds′ buf′ (ClosesNumber i t′) = Same f (rowLeft K kinds buf t (rules.CloseNumber (i .0))) × (t′ ≡ moreRows t)
+SteppedBy f K kinds buf t kinds′ buf′ (ClosesStride i g t′) =
+    Same f (rowLeft K kinds buf t (rules.CloseStride (i .0) (natAbs g))) × (t′ ≡ moreRows t) × Multiplies (natAbs g) g
+
+pub record Steps (f : Checked) (K : ℕ) (kinds : List ℕ) (buf : List ℤ) (t : Tally) (kinds′ : List ℕ) (buf′ : List ℤ) (r : Stepped) : Type 0 where
+  pub kept : Kept K (t .lines .0) kinds buf kinds′ buf′
+  pub by : SteppedBy f K kinds buf t kinds′ buf′ r
+
+-- The line that a claim may state: the last one, if a row 0x10 to 0x12 made it directly before.
+abbrev pub lastMade : Bool → (K : ℕ) (kinds : List ℕ) (buf : List ℤ) (n : ℕ) → Option Line
+lastMade true K kinds buf n = some (lineIn K kinds buf (n - 1))
+lastMade false K kinds buf n = none
+
+-- A field of the branch, read and then checked.
+abbrev pub fieldChecked : (K : ℕ) (kinds : List ℕ) (buf : List ℤ) (t : Tally) (made : Bool) (tag : ℕ) (contents : List ℕ) → Checked
+fieldChecked K kinds buf t made tag contents inA inB deeper next at fs =
+    entry edition1 K (lastMade made K kinds buf (t .lines .0)) (record { at = at; tag = tag; contents = contents })
+    >>= λ x. checkEntry edition1 K inA inB deeper next at (t .rows .0) (lastMade made K kinds buf (t .lines .0)) (linesIn K kinds buf (t .lines .0)) fs x
+
+-- A row that splits or ends the branch is counted and left as it is, in any buffers.
+pub record Counts (row : rules.Row) (t : Tally) (r : Stepped) : Type 0 where
+  pub steps : (K : ℕ) (kinds : List ℕ) (buf : List ℤ) → Steps (rowChecked K kinds buf t row) K kinds buf t kinds buf r
+
+-- The claim whose contents start there, checked. 4, 14.
+abbrev pub claimChecked : (K : ℕ) (p : List ℕ) (start : ℕ) (made : Bool) (kinds : List ℕ) (buf : List ℤ) (t : Tally) (len : ℕ) → Checked
+claimChecked K p start made kinds buf t len inA inB deeper next at fs =
+    checkEntry edition1 K inA inB deeper next at (t .rows .0) (lastMade made K kinds buf (t .lines .0)) (linesIn K kinds buf (t .lines .0)) fs
+    (rules.claim (formFrom (edition1 .termWidth) K (take len (drop start p))) (formFrom (edition1 .termWidth) K (drop (formWidth (edition1 .termWidth) K) (take len (drop start p)))))
+
+pub record Claims (K : ℕ) (p : List ℕ) (start : ℕ) (made : Bool) (buf : List ℤ) (t : Tally) (r : Stepped) : Type 0 where
+  pub steps : (len : ℕ) (kinds : List ℕ) → len ≡ 2 * formWidth (edition1 .termWidth) K
+      → Steps (claimChecked K p start made kinds buf t len) K kinds buf t kinds buf r

@@ -1,0 +1,39 @@
+// A claim states the line made last.
+ghost use mathlib.Core.Path.{_≡_};
+ghost use Prim.Native.Nat.{_+_, _*_, _≤_, _<_};
+ghost use lib.ListN.{length, drop};
+ghost use Rattle.fields.specs.Numbers.{signeds};
+ghost use Rattle.lines.specs.Parts.{part};
+ghost use Rattle.proof.specs.Rows.{equals};
+ghost use Rattle.rows.specs.Claims.{Claimed};
+use crate::tally::Line;
+
+// Whether the k + 1 four-byte numbers at start are those of the form at a place.
+fn same_form(p: &[u8], start: usize, lines: &[i64], at: usize, k: usize) -> bool
+    requires { ⌜ (k ≤ 16) × (start + 4 * (k + 1) ≤ length (now p)) × (at + k < length (now lines)) ⌝ }
+    ensures { λ r. ⌜ r ≡ equals (signeds 4 (k + 1) (drop start (now (p .entry)))) (part at (k + 1) (now (lines .entry))) ⌝ }
+{
+    let mut x = 0;
+    while x <= k {
+        let n = fields::numbers::signed_at(p, start + 4 * x, 4);
+        if !integers::same(n, lines[at + x]) {
+            return false;
+        }
+        x += 1;
+    }
+    true
+}
+
+// Whether t, and then tA, are those of line i.
+pub fn claim_holds(p: &[u8], start: usize, lines: &[i64], i: Line, k: usize) -> bool
+    requires { ⌜ (k ≤ 16) × (start + 8 * (k + 1) ≤ length (now p)) × (i .0 < 128) × (128 * (2 * (k + 1)) ≤ length (now lines)) ⌝ }
+    ensures { λ r. ⌜ Claimed k (now (p .entry)) start (now (lines .entry)) (i .0) r ⌝ }
+{
+    let n = i.0 as usize;
+    let t = lines::place(n, k);
+    let ta = lines::place_a(n, k);
+    if same_form(p, start, lines, t, k) {
+        return same_form(p, start + 4 * (k + 1), lines, ta, k);
+    }
+    false
+}

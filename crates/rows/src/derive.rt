@@ -1,0 +1,154 @@
+// The rows that make a line: their tests, and the new line behind the branch's lines.
+ghost use mathlib.Core.Path.{_≡_};
+ghost use Prim.Native.Nat.{_<_};
+ghost use lib.Dec.{ltb};
+ghost use lib.IntN.{natAbs};
+ghost use lib.ListN.{length, getD};
+ghost use Rattle.integers.specs.Magnitude.{Within};
+ghost use Rattle.calculus.specs.Rules.{Combine, Reduce, Scale};
+ghost use Rattle.rows.specs.Entries.{Multiplies};
+ghost use Rattle.rows.specs.Rows.{Ready, Terms, Appended, Derives};
+use crate::tally::Line;
+use crate::tally::Tally;
+use crate::tally::line_counted;
+
+pub enum Derived {
+    Refused { number: u8 },
+    Made { tally: Tally },
+}
+
+// One line more: f times line i plus g times line j, of the kind given. 16, 13.
+fn append(
+    lines: &mut [i64],
+    kinds: &mut [u8],
+    tally: Tally,
+    f: i64,
+    i: Line,
+    g: i64,
+    j: Line,
+    kind: u8,
+    k: usize,
+) -> Derived
+    requires { ⌜ Ready k (now kinds) (now lines) (tally .lines .0) ⌝ }
+    requires { ⌜ Terms (tally .lines .0) f (i .0) g (j .0) kind ⌝ }
+    ensures { λ r. ⌜ Appended k (now (kinds .entry)) (now (lines .entry)) tally f (i .0) g (j .0) kind (now (kinds .exit)) (now (lines .exit)) r ⌝ }
+{
+    let counted = line_counted(tally);
+    let made = counted.made;
+    let next = counted.tally;
+    let count = tally.lines;
+    let n = count.0 as usize;
+    if made {
+        lines::mix(lines, f, i.0 as usize, g, j.0 as usize, n, k);
+        kinds[n] = kind;
+        if lines::fits(lines, lines::place(n, k), 2 * (k + 1)) {
+            return Derived::Made { tally: next };
+        }
+        return Derived::Refused { number: 13 };
+    }
+    Derived::Refused { number: 16 }
+}
+
+// A lookup takes a line: whether it is there, and its kind.
+pub fn is_there(tally: Tally, i: Line) -> bool
+    ensures { λ r. ⌜ r ≡ ltb (i .0) (tally .lines .0) ⌝ }
+{
+    let count = tally.lines;
+    i.0 < count.0
+}
+
+pub fn kind_of(kinds: &[u8], i: Line) -> u8
+    requires { ⌜ i .0 < length (now kinds) ⌝ }
+    ensures { λ r. ⌜ r ≡ getD (now (kinds .entry)) (i .0) 0 ⌝ }
+{
+    let x = i.0 as usize;
+    kinds[x]
+}
+
+// 10, 11, 12, then as `append`.
+pub fn combine(
+    lines: &mut [i64],
+    kinds: &mut [u8],
+    tally: Tally,
+    s: Line,
+    t: Line,
+    alpha: i64,
+    beta: i64,
+    k: usize,
+) -> Derived
+    requires { ⌜ Ready k (now kinds) (now lines) (tally .lines .0) ⌝ }
+    requires { ⌜ Multiplies (natAbs alpha) alpha × Multiplies (natAbs beta) beta ⌝ }
+    ensures { λ r. ⌜ Derives k (now (kinds .entry)) (now (lines .entry)) tally (Combine (s .0) (t .0) (natAbs alpha) (natAbs beta)) (now (kinds .exit)) (now (lines .exit)) r ⌝ }
+{
+    if !is_there(tally, s) {
+        return Derived::Refused { number: 10 };
+    }
+    if !is_there(tally, t) {
+        return Derived::Refused { number: 10 };
+    }
+    if kind_of(kinds, s) != 0 {
+        return Derived::Refused { number: 11 };
+    }
+    if kind_of(kinds, t) != 0 {
+        return Derived::Refused { number: 11 };
+    }
+    if integers::is_zero(alpha) {
+        return Derived::Refused { number: 12 };
+    }
+    if integers::is_zero(beta) {
+        return Derived::Refused { number: 12 };
+    }
+    append(lines, kinds, tally, alpha, s, beta, t, 0, k)
+}
+
+// The new line is of s's kind.
+pub fn reduce(
+    lines: &mut [i64],
+    kinds: &mut [u8],
+    tally: Tally,
+    s: Line,
+    t: Line,
+    alpha: i64,
+    k: usize,
+) -> Derived
+    requires { ⌜ Ready k (now kinds) (now lines) (tally .lines .0) ⌝ }
+    requires { ⌜ Within 65535 alpha ⌝ }
+    ensures { λ r. ⌜ Derives k (now (kinds .entry)) (now (lines .entry)) tally (Reduce (s .0) (t .0) alpha) (now (kinds .exit)) (now (lines .exit)) r ⌝ }
+{
+    if !is_there(tally, s) {
+        return Derived::Refused { number: 10 };
+    }
+    if !is_there(tally, t) {
+        return Derived::Refused { number: 10 };
+    }
+    let kind = kind_of(kinds, s);
+    if kind_of(kinds, t) == 0 {
+        return Derived::Refused { number: 11 };
+    }
+    if integers::is_zero(alpha) {
+        return Derived::Refused { number: 12 };
+    }
+    append(lines, kinds, tally, 1, s, alpha, t, kind, k)
+}
+
+pub fn scale(
+    lines: &mut [i64],
+    kinds: &mut [u8],
+    tally: Tally,
+    t: Line,
+    alpha: i64,
+    k: usize,
+) -> Derived
+    requires { ⌜ Ready k (now kinds) (now lines) (tally .lines .0) ⌝ }
+    requires { ⌜ Multiplies (natAbs alpha) alpha ⌝ }
+    ensures { λ r. ⌜ Derives k (now (kinds .entry)) (now (lines .entry)) tally (Scale (t .0) (natAbs alpha)) (now (kinds .exit)) (now (lines .exit)) r ⌝ }
+{
+    if !is_there(tally, t) {
+        return Derived::Refused { number: 10 };
+    }
+    let kind = kind_of(kinds, t);
+    if integers::is_zero(alpha) {
+        return Derived::Refused { number: 12 };
+    }
+    append(lines, kinds, tally, alpha, t, 0, t, kind, k)
+}

@@ -1,0 +1,211 @@
+// One entry of a branch: a row or a claim, tested and applied.
+ghost use mathlib.Core.Path.{_≡_};
+ghost use mathlib.Core.Bool.{true};
+ghost use Prim.Native.Nat.{_+_, _*_, _≤_};
+ghost use lib.ListN.{length, take, drop};
+ghost use lib.IntN.{natAbs};
+ghost use Rattle.integers.specs.Magnitude.{Within};
+ghost use Rattle.calculus.specs.Rules.{Derive, Combine, Reduce, Scale, Strengthen, CloseNumber, CloseStride};
+ghost use Rattle.rows.specs.Entries.{Multiplies};
+ghost use Rattle.rows.specs.Rows.{Ready};
+ghost use Rattle.rows.specs.Steps.{steppedOf, rowChecked, fieldChecked, Steps, Counts, Claims};
+use crate::claims::claim_holds;
+use crate::derive::Derived;
+use crate::derive::combine;
+use crate::derive::reduce;
+use crate::derive::scale;
+use crate::entries::Entry;
+use crate::entries::entry_at;
+use crate::tally::Line;
+use crate::tally::Tally;
+use crate::tally::row_counted;
+
+pub enum Stepped {
+    Refused { number: u8 },
+    // A row 0x10 to 0x12 made a line.
+    Made { tally: Tally },
+    // A claim stated the line made last.
+    Claimed,
+    // A row that splits the branch or ends it, counted but not yet tested.
+    Strengthens { t: Line, tally: Tally },
+    ClosesNumber { t: Line, tally: Tally },
+    ClosesStride { t: Line, g: i64, tally: Tally },
+}
+
+fn stepped_of(d: Derived) -> Stepped
+    ensures { λ r. ⌜ r ≡ steppedOf d ⌝ }
+{
+    match d {
+        Derived::Refused { number } => Stepped::Refused { number },
+        Derived::Made { tally } => Stepped::Made { tally },
+    }
+}
+
+// Each row is counted first. 18.
+pub fn combine_row(
+    lines: &mut [i64],
+    kinds: &mut [u8],
+    tally: Tally,
+    s: Line,
+    t: Line,
+    alpha: i64,
+    beta: i64,
+    k: usize,
+) -> Stepped
+    requires { ⌜ Ready k (now kinds) (now lines) (tally .lines .0) ⌝ }
+    requires { ⌜ Multiplies (natAbs alpha) alpha × Multiplies (natAbs beta) beta ⌝ }
+    ensures { λ r. ⌜ Steps (rowChecked k (now (kinds .entry)) (now (lines .entry)) tally (Derive (Combine (s .0) (t .0) (natAbs alpha) (natAbs beta)))) k (now (kinds .entry)) (now (lines .entry)) tally (now (kinds .exit)) (now (lines .exit)) r ⌝ }
+{
+    let counted = row_counted(tally);
+    let made = counted.made;
+    let next = counted.tally;
+    if made {
+        let d = combine(lines, kinds, next, s, t, alpha, beta, k);
+        return stepped_of(d);
+    }
+    Stepped::Refused { number: 18 }
+}
+
+pub fn reduce_row(
+    lines: &mut [i64],
+    kinds: &mut [u8],
+    tally: Tally,
+    s: Line,
+    t: Line,
+    alpha: i64,
+    k: usize,
+) -> Stepped
+    requires { ⌜ Ready k (now kinds) (now lines) (tally .lines .0) ⌝ }
+    requires { ⌜ Within 65535 alpha ⌝ }
+    ensures { λ r. ⌜ Steps (rowChecked k (now (kinds .entry)) (now (lines .entry)) tally (Derive (Reduce (s .0) (t .0) alpha))) k (now (kinds .entry)) (now (lines .entry)) tally (now (kinds .exit)) (now (lines .exit)) r ⌝ }
+{
+    let counted = row_counted(tally);
+    let made = counted.made;
+    let next = counted.tally;
+    if made {
+        let d = reduce(lines, kinds, next, s, t, alpha, k);
+        return stepped_of(d);
+    }
+    Stepped::Refused { number: 18 }
+}
+
+pub fn scale_row(
+    lines: &mut [i64],
+    kinds: &mut [u8],
+    tally: Tally,
+    t: Line,
+    alpha: i64,
+    k: usize,
+) -> Stepped
+    requires { ⌜ Ready k (now kinds) (now lines) (tally .lines .0) ⌝ }
+    requires { ⌜ Multiplies (natAbs alpha) alpha ⌝ }
+    ensures { λ r. ⌜ Steps (rowChecked k (now (kinds .entry)) (now (lines .entry)) tally (Derive (Scale (t .0) (natAbs alpha)))) k (now (kinds .entry)) (now (lines .entry)) tally (now (kinds .exit)) (now (lines .exit)) r ⌝ }
+{
+    let counted = row_counted(tally);
+    let made = counted.made;
+    let next = counted.tally;
+    if made {
+        let d = scale(lines, kinds, next, t, alpha, k);
+        return stepped_of(d);
+    }
+    Stepped::Refused { number: 18 }
+}
+
+fn strengthen_row(tally: Tally, t: Line) -> Stepped
+    ensures { λ r. ⌜ Counts (Strengthen (t .0)) tally r ⌝ }
+{
+    let counted = row_counted(tally);
+    let made = counted.made;
+    let next = counted.tally;
+    if made {
+        return Stepped::Strengthens { t, tally: next };
+    }
+    Stepped::Refused { number: 18 }
+}
+
+fn number_row(tally: Tally, t: Line) -> Stepped
+    ensures { λ r. ⌜ Counts (CloseNumber (t .0)) tally r ⌝ }
+{
+    let counted = row_counted(tally);
+    let made = counted.made;
+    let next = counted.tally;
+    if made {
+        return Stepped::ClosesNumber { t, tally: next };
+    }
+    Stepped::Refused { number: 18 }
+}
+
+fn stride_row(tally: Tally, t: Line, g: i64) -> Stepped
+    requires { ⌜ Multiplies (natAbs g) g ⌝ }
+    ensures { λ r. ⌜ Counts (CloseStride (t .0) (natAbs g)) tally r ⌝ }
+{
+    let counted = row_counted(tally);
+    let made = counted.made;
+    let next = counted.tally;
+    if made {
+        return Stepped::ClosesStride { t, g, tally: next };
+    }
+    Stepped::Refused { number: 18 }
+}
+
+// A claim of the line made last. 4, 14.
+fn claim_step(p: &[u8], start: usize, made: bool, lines: &[i64], tally: Tally, k: usize) -> Stepped
+    requires { ⌜ (k ≤ 16) × (start + 8 * (k + 1) ≤ length (now p)) × (tally .lines .0 ≤ 128) × (128 * (2 * (k + 1)) ≤ length (now lines)) ⌝ }
+    requires { ⌜ (made ≡ true → 1 ≤ tally .lines .0) ⌝ }
+    ensures { λ r. ⌜ Claims k (now (p .entry)) start made (now (lines .entry)) tally r ⌝ }
+{
+    let count = tally.lines;
+    if made {
+        let last = Line(count.0 - 1);
+        if claim_holds(p, start, lines, last, k) {
+            return Stepped::Claimed;
+        }
+        return Stepped::Refused { number: 14 };
+    }
+    Stepped::Refused { number: 4 }
+}
+
+// One entry of a branch. 3, 4, 6, 18, then as the row or the claim.
+pub fn step(
+    p: &[u8],
+    tag: u8,
+    start: usize,
+    len: usize,
+    made: bool,
+    lines: &mut [i64],
+    kinds: &mut [u8],
+    tally: Tally,
+    k: usize,
+) -> Stepped
+    requires { ⌜ Ready k (now kinds) (now lines) (tally .lines .0) ⌝ }
+    requires { ⌜ (start + len ≤ length (now p)) × (made ≡ true → 1 ≤ tally .lines .0) ⌝ }
+    ensures { λ r. ⌜ Steps (fieldChecked k (now (kinds .entry)) (now (lines .entry)) tally made tag (take len (drop start (now (p .entry))))) k (now (kinds .entry)) (now (lines .entry)) tally (now (kinds .exit)) (now (lines .exit)) r ⌝ }
+{
+    let entry = entry_at(p, tag, start, len, k, made);
+    match entry {
+        Entry::Combine { s, t, alpha, beta } => {
+            return combine_row(lines, kinds, tally, s, t, alpha, beta, k);
+        }
+        Entry::Reduce { s, t, alpha } => {
+            return reduce_row(lines, kinds, tally, s, t, alpha, k);
+        }
+        Entry::Scale { t, alpha } => {
+            return scale_row(lines, kinds, tally, t, alpha, k);
+        }
+        Entry::Strengthen { t } => {
+            return strengthen_row(tally, t);
+        }
+        Entry::CloseNumber { t } => {
+            return number_row(tally, t);
+        }
+        Entry::CloseStride { t, g } => {
+            return stride_row(tally, t, g);
+        }
+        Entry::Claim { start: from } => {
+            return claim_step(p, from, made, lines, tally, k);
+        }
+        Entry::Refused { number } => {
+            return Stepped::Refused { number };
+        }
+    }
+}

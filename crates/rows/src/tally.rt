@@ -1,0 +1,128 @@
+// The tally of a check: the numbers of the next row and the next line, and the strengthens open.
+ghost use mathlib.Core.Path.{_≡_};
+ghost use Rattle.rows.specs.Tally.{rowCounted, lineCounted, openCounted, Advanced};
+
+// A row is numbered in the file, a line on its branch.
+pub struct Row(pub u16);
+
+pub struct Line(pub u16);
+
+pub struct Tally {
+    pub rows: Row,
+    pub lines: Line,
+    pub open: u16,
+}
+
+// The tally after a step, and whether the step was made. A refused step leaves the tally as it was.
+pub struct Counted {
+    pub made: bool,
+    pub tally: Tally,
+}
+
+// The steps on a value that is passed in and out.
+fn next_row(t: Tally) -> Counted
+    ensures { λ r. ⌜ r ≡ rowCounted t ⌝ }
+{
+    let row = t.rows;
+    let line = t.lines;
+    let n = row.0;
+    if n < 1024 {
+        let tally = Tally {
+            rows: Row(n + 1),
+            lines: line,
+            open: t.open,
+        };
+        return Counted { made: true, tally };
+    }
+    Counted {
+        made: false,
+        tally: t,
+    }
+}
+
+fn next_line(t: Tally) -> Counted
+    ensures { λ r. ⌜ r ≡ lineCounted t ⌝ }
+{
+    let row = t.rows;
+    let line = t.lines;
+    let n = line.0;
+    if n < 128 {
+        let tally = Tally {
+            rows: row,
+            lines: Line(n + 1),
+            open: t.open,
+        };
+        return Counted { made: true, tally };
+    }
+    Counted {
+        made: false,
+        tally: t,
+    }
+}
+
+fn next_open(t: Tally) -> Counted
+    ensures { λ r. ⌜ r ≡ openCounted t ⌝ }
+{
+    let row = t.rows;
+    let line = t.lines;
+    let n = t.open;
+    if n < 32 {
+        let tally = Tally {
+            rows: row,
+            lines: line,
+            open: n + 1,
+        };
+        return Counted { made: true, tally };
+    }
+    Counted {
+        made: false,
+        tally: t,
+    }
+}
+
+// The steps on a tally that is lent: whether each is made, and the tally advanced if so.
+pub fn count_row(t: &mut Tally) -> bool
+    ensures { λ r. ⌜ Advanced rowCounted (now (t .entry)) (now (t .exit)) r ⌝ }
+{
+    let c = next_row(*t);
+    *t = c.tally;
+    c.made
+}
+
+pub fn count_line(t: &mut Tally) -> bool
+    ensures { λ r. ⌜ Advanced lineCounted (now (t .entry)) (now (t .exit)) r ⌝ }
+{
+    let c = next_line(*t);
+    *t = c.tally;
+    c.made
+}
+
+pub fn count_open(t: &mut Tally) -> bool
+    ensures { λ r. ⌜ Advanced openCounted (now (t .entry)) (now (t .exit)) r ⌝ }
+{
+    let c = next_open(*t);
+    *t = c.tally;
+    c.made
+}
+
+// What every other function calls: no reference to a struct is in its contract, so its callers' proofs need no walk.
+pub fn row_counted(mut t: Tally) -> Counted
+    ensures { λ r. ⌜ r ≡ rowCounted t ⌝ }
+{
+    let made = count_row(&mut t);
+    Counted { made, tally: t }
+}
+
+pub fn line_counted(mut t: Tally) -> Counted
+    ensures { λ r. ⌜ r ≡ lineCounted t ⌝ }
+{
+    let made = count_line(&mut t);
+    Counted { made, tally: t }
+}
+
+pub fn open_counted(mut t: Tally) -> Counted
+    ensures { λ r. ⌜ r ≡ openCounted t ⌝ }
+{
+    let made = count_open(&mut t);
+    Counted { made, tally: t }
+}
