@@ -3,4 +3,6 @@ pub mod Loading
 pub mod Endings
 pub mod Delivering
 pub mod Preparing
+pub mod Upto
 pub mod Stages
+pub mod Rooting

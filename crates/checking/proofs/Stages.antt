@@ -31,10 +31,13 @@ use Rattle.lines.specs.Occurrence.{told}
 use Rattle.proof.specs.Check.{Closing, checkBranch, checkProof, interpolant, check}
 use Rattle.proof.proofs.Agree.{interpolant-iff}
 use Rattle.proof.proofs.Sizes.{written-reads-back}
-use Rattle.checking.specs.Whole.{Short, Both, Holding, Prepared, Begun, finishing, rooted, Finishes, Roots, Rootable, Fits, Ended, Checks}
+use Rattle.rows.specs.Tally.{tally}
+use Rattle.branches.specs.Branching.{Started}
+use Rattle.checking.specs.Whole.{Short, Both, Holding, Prepared, Begun, finishing, rooted, Finishes, Roots, Fits, Ended, Checks}
 use Rattle.checking.specs.declared.check.Checked.{Checked}
 use Rattle.checking.proofs.Delivering.{unwritten}
 use Rattle.checking.proofs.Preparing.{given-some}
+use Rattle.checking.proofs.Upto.{header-upto}
 
 pub checks-refused : {A B P out : List ℕ} {number file place : ℕ} {r : Checked} → interpolant A B P ≡ refused (answer number file place) → r ≡ unwritten number file place
     → Checks A B P out out r
@@ -263,11 +266,16 @@ module _ {A B P : List ℕ} {K m n : ℕ} (s : Short A B P) (w : Both A B K m n)
 
 -- ---- what the root asks
 module _ {A B P : List ℕ} {K m n at : ℕ} (g : Begun A B P K m n at) {kinds : List ℕ} {buf : List ℤ} {maskA maskB : List ℕ} (q : Prepared A B K kinds buf maskA maskB m n) where
-  pub rootable : Rootable K kinds buf maskA maskB (m + n)
-  rootable = record {
-    branch = record { constants = g .both .high; room = q .buffers .space .room; bounded = q .holds (g .both) .bounded };
-    kinds-room = q .buffers .space .kinds-room;
-    few = omega (arith, g .both .a-few, g .both .b-few);
+  pub started : Started K kinds buf maskA maskB (tally 0 (m + n) 0) P at 0
+  started = record {
+    ready = record {
+      branch = record { constants = g .both .high; room = q .buffers .space .room; bounded = q .holds (g .both) .bounded };
+      room = q .buffers .space .kinds-room;
+      most = omega (arith, g .both .a-few, g .both .b-few);
+    };
     a-mask = omega (arith, g .both .high, q .buffers .a);
     b-mask = omega (arith, g .both .high, q .buffers .b);
+    size = g .short .p;
+    upto = header-upto FileKind.Proof fileProof (some K) P at _ (g .header-is) refl;
+    room = omega arith;
   }

@@ -15,7 +15,7 @@ use Rattle.fields.specs.Header.{Header, header, finished, headerBytes}
 use Rattle.fields.specs.Places.{fieldsAt}
 use Rattle.bundle.specs.Bundle.{Bundle, bundle}
 use Rattle.formula.specs.Formula.{encode}
-use Rattle.lines.specs.Buffer.{linesIn, Bounded, Branch}
+use Rattle.lines.specs.Buffer.{linesIn, Bounded}
 use Rattle.lines.specs.Occurrence.{told}
 use Rattle.proof.specs.Check.{Closing, checkBranch, check}
 use Rattle.checking.specs.Load.{Space}
@@ -99,11 +99,3 @@ pub record Ended (P : List ℕ) (at o : ℕ) (scratch : List ℕ) : Type 0 where
 -- What the whole check leaves.
 pub record Checks (A B P out out′ : List ℕ) (r : Checked) : Type 0 where
   pub is : writtenOf r out′ ≡ check A B P out
-
--- What the root asks of the buffers.
-pub record Rootable (K : ℕ) (kinds : List ℕ) (buf : List ℤ) (maskA maskB : List ℕ) (count : ℕ) : Type 0 where
-  pub branch : Branch K buf count
-  pub kinds-room : 128 ≤ length kinds
-  pub few : count ≤ 64
-  pub a-mask : K ≤ length maskA
-  pub b-mask : K ≤ length maskB

@@ -2,18 +2,28 @@
 use crate::ending::Ending;
 use crate::ending::ending_at;
 use crate::load::load;
+use crate::standin::check_branch;
+use branches::branch::Branched;
 use bundle::scan;
 use fields::Answer;
 use fields::FileKind;
 use fields::header::Headed;
 use fields::header::put_header;
 use fields::header::read_header;
+use rows::tally::Line;
+use rows::tally::Row;
+use rows::tally::Tally;
 ghost use mathlib.Core.Path.{_≡_};
 ghost use Prim.Native.Nat.{_+_, _≤_};
 ghost use lib.ListN.{length, take};
 ghost use lib.Seq.{paste};
 ghost use Rattle.fields.specs.Answers.{answer};
-ghost use Rattle.checking.specs.Whole.{Both, Buffers, Prepared, Ended, Delivers, Finishes};
+ghost use Rattle.lines.specs.Buffer.{linesIn};
+ghost use Rattle.lines.specs.Occurrence.{told};
+ghost use Rattle.proof.specs.Check.{check};
+ghost use Rattle.rows.specs.Tally.{tally};
+ghost use Rattle.branches.specs.Branching.{Started};
+ghost use Rattle.checking.specs.Whole.{Short, Both, Buffers, Prepared, Begun, Ended, Delivers, Finishes, Roots, Fits, Checks, writtenOf};
 
 // What checking answers: the bytes written, 0 where it is refused.
 pub struct Checked {
@@ -100,4 +110,140 @@ fn prepare(
     let constants = k as usize;
     lines::occurrences(lines, 0, m, constants, in_a);
     lines::occurrences(lines, m, m + n, constants, in_b);
+}
+
+// The root, from a place of the proof on, and all that follows. The buffers hold the lines and the masks.
+fn check_root(
+    proof: &[u8],
+    at: usize,
+    k: u8,
+    count: usize,
+    lines: &mut [i64],
+    kinds: &mut [u8],
+    in_a: &[u8],
+    in_b: &[u8],
+    out: &mut [u8],
+) -> Checked
+    requires { ⌜ Started k (now kinds) (now lines) (now in_a) (now in_b) (tally 0 count 0) (now proof) at 0 ⌝ }
+    requires { ⌜ Fits k (told (now in_a)) (told (now in_b)) (linesIn k (now kinds) (now lines) count) (now proof) at ⌝ }
+    ensures { λ r. ⌜ Roots k (told (now (in_a .entry))) (told (now (in_b .entry))) (linesIn k (now (kinds .entry)) (now (lines .entry)) count) (now (proof .entry)) at (now (out .entry)) (now (out .exit)) r ⌝ }
+{
+    let mut scratch = [0u8; 65536];
+    let rows = Row(0);
+    let made = Line(count as u16);
+    let tally = Tally {
+        rows,
+        lines: made,
+        open: 0,
+    };
+    match check_branch(
+        proof,
+        at,
+        lines,
+        kinds,
+        tally,
+        k as usize,
+        in_a,
+        in_b,
+        &mut scratch,
+        0,
+    ) {
+        Branched::Fault { number, at: place } => refusal(number, 3, place),
+        Branched::Closed {
+            at: end,
+            o,
+            tally: _,
+        } => finish(proof, end, &scratch, o, k, out),
+    }
+}
+
+// The lines, and then the root. All working memory is here.
+fn check_lines(
+    a: &[u8],
+    b: &[u8],
+    proof: &[u8],
+    at: usize,
+    k: u8,
+    m: usize,
+    n: usize,
+    out: &mut [u8],
+) -> Checked
+    requires { ⌜ Begun (now a) (now b) (now proof) k m n at ⌝ }
+    ensures { λ r. ⌜ Checks (now (a .entry)) (now (b .entry)) (now (proof .entry)) (now (out .entry)) (now (out .exit)) r ⌝ }
+{
+    let mut lines = [0i64; 4352];
+    let mut kinds = [0u8; 128];
+    let mut in_a = [0u8; 16];
+    let mut in_b = [0u8; 16];
+    prepare(a, b, k, m, n, &mut lines, &mut kinds, &mut in_a, &mut in_b);
+    check_root(
+        proof,
+        at,
+        k,
+        m + n,
+        &mut lines,
+        &mut kinds,
+        &in_a,
+        &in_b,
+        out,
+    )
+}
+
+// The proof's header, where both bundles were gone over. 2, 3, 4, 6, 5, 7, 9.
+fn check_header(
+    a: &[u8],
+    b: &[u8],
+    proof: &[u8],
+    k: u8,
+    m: usize,
+    n: usize,
+    out: &mut [u8],
+) -> Checked
+    requires { ⌜ Short (now a) (now b) (now proof) ⌝ }
+    requires { ⌜ Both (now a) (now b) k m n ⌝ }
+    ensures { λ r. ⌜ Checks (now (a .entry)) (now (b .entry)) (now (proof .entry)) (now (out .entry)) (now (out .exit)) r ⌝ }
+{
+    match read_header(proof, FileKind::Proof, k) {
+        Headed::Header { k: _, next } => check_lines(a, b, proof, next, k, m, n, out),
+        Headed::Refused { number, place } => refusal(number, 3, place),
+    }
+}
+
+// A, and then B with A's K.
+fn check_bundles(a: &[u8], b: &[u8], proof: &[u8], out: &mut [u8]) -> Checked
+    requires { ⌜ Short (now a) (now b) (now proof) ⌝ }
+    ensures { λ r. ⌜ Checks (now (a .entry)) (now (b .entry)) (now (proof .entry)) (now (out .entry)) (now (out .exit)) r ⌝ }
+{
+    let first = scan(a, 1, 0);
+    let answer = first.answer;
+    let number = answer.number;
+    if number != 0 {
+        return Checked { answer, count: 0 };
+    }
+    let k = first.k;
+    let second = scan(b, 2, k);
+    let answer = second.answer;
+    let number = answer.number;
+    if number != 0 {
+        return Checked { answer, count: 0 };
+    }
+    let m = first.count;
+    let n = second.count;
+    check_header(a, b, proof, k, m, n, out)
+}
+
+// Checks a proof over the bundles A and B, and writes the formula that it derives.
+pub fn check(a: &[u8], b: &[u8], proof: &[u8], out: &mut [u8]) -> Checked
+    ensures { λ r. ⌜ writtenOf r (now (out .exit)) ≡ check (now (a .entry)) (now (b .entry)) (now (proof .entry)) (now (out .entry)) ⌝ }
+{
+    if a.len() > 4096 {
+        return refusal(1, 1, 0);
+    }
+    if b.len() > 4096 {
+        return refusal(1, 2, 0);
+    }
+    if proof.len() > 65536 {
+        return refusal(1, 3, 0);
+    }
+    check_bundles(a, b, proof, out)
 }

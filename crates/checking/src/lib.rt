@@ -2,3 +2,4 @@
 pub mod check;
 pub mod ending;
 pub mod load;
+pub mod standin;
