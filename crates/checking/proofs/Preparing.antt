@@ -1,6 +1,6 @@
 -- The lines of both bundles and the masks, over plain values. Assumes nothing.
 use mathlib.Core.Path.{_≡_, refl, sym, ap, ap₂, _∙_}
-use mathlib.Core.Bool.{true, false}
+use mathlib.Core.Bool.{Bool, true, false}
 use mathlib.Core.Option.{some}
 use mathlib.Core.List.{List, [], _∷_, _++_, map}
 use Prim.Native.Nat.{ℕ, zero, suc, _+_, _*_, _≤_, _<_}
@@ -34,31 +34,24 @@ module _ {A B : List ℕ} {K m n : ℕ} (w : Both A B K m n) where
   pub bundled-B : {kinds : List ℕ} {buf : List ℤ} → Space K kinds buf → Bundled K B kinds buf m
   bundled-B s = record { file = fileB; states = w .b; is = b-accepted; space = rw (w .b-constants) s; few = omega (arith, w .a-few) }
 
-  pub span-A : {kinds : List ℕ} {buf : List ℤ} → Space K kinds buf → Span K buf 0 m
-  span-A s = record { constants = w .high; ordered = omega arith; lines = omega (arith, w .a-few); room = omega (arith, s .room, mul-le-mul-right (size K) (most (w .a-few))) }
+  pub span-of : {kinds : List ℕ} {buf : List ℤ} {from to : ℕ} → Space K kinds buf → from ≤ to → to ≤ m + n → Span K buf from to
+  span-of {to = to} s l u = record { constants = w .high; ordered = l; lines = most (w .a-few) (w .b-few) u; room = omega (arith, s .room, mul-le-mul-right (size K) (most (w .a-few) (w .b-few) u)) }
     where
-      most : m ≤ 32 → m ≤ 128
-      most h = omega arith
-
-  pub span-B : {kinds : List ℕ} {buf : List ℤ} → Space K kinds buf → Span K buf m (m + n)
-  span-B s = record { constants = w .high; ordered = omega arith; lines = omega (arith, w .a-few, w .b-few); room = omega (arith, s .room, mul-le-mul-right (size K) (most (w .a-few) (w .b-few))) }
-    where
-      most : m ≤ 32 → n ≤ 32 → m + n ≤ 128
-      most h k = omega arith
+      most : m ≤ 32 → n ≤ 32 → to ≤ m + n → to ≤ 128
+      most h k u = omega arith
 
   -- The buffers keep their room.
-  pub space-A : {kinds kinds₁ : List ℕ} {buf buf₁ : List ℤ} → BundleLoaded true 0 A kinds buf 0 kinds₁ buf₁ → Space K kinds buf → Space K kinds₁ buf₁
+  pub space-A : {x : Bool} {kinds kinds₁ : List ℕ} {buf buf₁ : List ℤ} → BundleLoaded x 0 A kinds buf 0 kinds₁ buf₁ → Space K kinds buf → Space K kinds₁ buf₁
   space-A p s =
       let l = p .loaded fileA (w .a) (w .a-is) in
       record { constants = s .constants; room = omega (arith, s .room, l .lines-length); kinds-room = omega (arith, s .kinds-room, l .kinds-length) }
 
-  module _ {kinds kinds₁ kinds₂ : List ℕ} {buf buf₁ buf₂ : List ℤ} (p : BundleLoaded true 0 A kinds buf 0 kinds₁ buf₁) (q : BundleLoaded false K B kinds₁ buf₁ m kinds₂ buf₂) where
-    pub space-both : Space K kinds buf → Space K kinds₂ buf₂
-    space-both s =
-        let l = q .loaded fileB (w .b) b-accepted in
-        let t = space-A p s in
-        record { constants = t .constants; room = omega (arith, t .room, l .lines-length); kinds-room = omega (arith, t .kinds-room, l .kinds-length) }
+  pub space-B : {x : Bool} {kinds kinds₁ : List ℕ} {buf buf₁ : List ℤ} → BundleLoaded x K B kinds buf m kinds₁ buf₁ → Space K kinds buf → Space K kinds₁ buf₁
+  space-B q s =
+      let l = q .loaded fileB (w .b) b-accepted in
+      record { constants = s .constants; room = omega (arith, s .room, l .lines-length); kinds-room = omega (arith, s .kinds-room, l .kinds-length) }
 
+  module _ {kinds kinds₁ kinds₂ : List ℕ} {buf buf₁ buf₂ : List ℤ} (p : BundleLoaded true 0 A kinds buf 0 kinds₁ buf₁) (q : BundleLoaded false K B kinds₁ buf₁ m kinds₂ buf₂) where
     both-loaded : Loaded K kinds buf 0 (lines (w .a .constraints) (w .b .constraints)) kinds₂ buf₂
     both-loaded =
         let l = rw (w .a-constants) at (p .loaded fileA (w .a) (w .a-is)) in
@@ -91,4 +84,4 @@ module _ {A B : List ℕ} {K m n : ℕ} (w : Both A B K m n) where
 
     pub prepared : Space K kinds buf → {maskA maskB : List ℕ} → maskA ≡ bits (occursIn K buf₂ 0 m) 16 → maskB ≡ bits (occursIn K buf₂ m (m + n)) 16
         → Buffers K kinds₂ buf₂ maskA maskB
-    prepared s x y = record { space = space-both s; a = ap length x ∙ length-bits (occursIn K buf₂ 0 m) 16; b = ap length y ∙ length-bits (occursIn K buf₂ m (m + n)) 16 }
+    prepared s x y = record { space = space-B q (space-A p s); a = ap length x ∙ length-bits (occursIn K buf₂ 0 m) 16; b = ap length y ∙ length-bits (occursIn K buf₂ m (m + n)) 16 }

@@ -266,15 +266,15 @@ module _ {A B P : List ℕ} {K m n : ℕ} (s : Short A B P) (w : Both A B K m n)
 
 -- ---- what the root asks
 module _ {A B P : List ℕ} {K m n at : ℕ} (g : Begun A B P K m n at) {kinds : List ℕ} {buf : List ℤ} {maskA maskB : List ℕ} (q : Prepared A B K kinds buf maskA maskB m n) where
-  pub started : Started K kinds buf maskA maskB (tally 0 (m + n) 0) P at 0
-  started = record {
+  pub started : {in-a in-b : List ℕ} → length in-a ≡ 16 → length in-b ≡ 16 → Started K kinds buf in-a in-b (tally 0 (m + n) 0) P at 0
+  started x y = record {
     ready = record {
       branch = record { constants = g .both .high; room = q .buffers .space .room; bounded = q .holds (g .both) .bounded };
       room = q .buffers .space .kinds-room;
       most = omega (arith, g .both .a-few, g .both .b-few);
     };
-    a-mask = omega (arith, g .both .high, q .buffers .a);
-    b-mask = omega (arith, g .both .high, q .buffers .b);
+    a-mask = omega (arith, g .both .high, x);
+    b-mask = omega (arith, g .both .high, y);
     size = g .short .p;
     upto = header-upto FileKind.Proof fileProof (some K) P at _ (g .header-is) refl;
     room = omega arith;

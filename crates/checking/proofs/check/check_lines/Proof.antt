@@ -57,7 +57,7 @@ check-root-requires c κs =
     let a = all-bytes (c .before .before .before .before .before .before .before .before .before .before .before .before .before .before .before .before .before .before .args .a .now) (λ i. omega (arith, c .before .before .before .before .before .before .before .before .before .before .before .before .before .before .before .before .before .shared-slice-known .given i)) in
     let b = all-bytes (c .before .before .before .before .before .before .before .before .before .before .before .before .before .before .before .before .before .before .args .b .now) (λ i. omega (arith, c .before .before .before .before .before .before .before .before .before .before .before .before .before .before .before .before .shared-slice-known2 .given i)) in
     let p = all-bytes (c .before .before .before .before .before .before .before .before .before .before .before .before .before .before .before .before .before .before .args .proof .now) (λ i. omega (arith, c .before .before .before .before .before .before .before .before .before .before .before .before .before .before .before .shared-slice-known3 .given i)) in
-    (started g q, fits-scratch g q a b p)
+    (started g q (omega (arith, q .buffers .a, q .buffers .b)) (omega (arith, q .buffers .a, q .buffers .b)), fits-scratch g q a b p)
 
 same-length : tie.Need-same-length
 same-length c = search needs

@@ -1,4 +1,5 @@
 -- `checking::check::check_root` meets its contract: each answer cites the law for its way. Assumes nothing.
+use mathlib.Core.Path.{refl}
 use Prim.Native.Nat.{ℕ}
 use lib.ListN.{length-replicate}
 use Rattle.checking.proofs.Rooting.{by-fault, by-closed-ended, by-closed}
@@ -28,7 +29,7 @@ slice-aggregate-finish : tie.Need-slice-aggregate-finish
 slice-aggregate-finish c = search needs
 
 finish-requires : tie.Need-finish-requires
-finish-requires c κs = by-closed-ended (c .before .before .before .before .before .before .before .before .before .check-branch .ensures) (c .before .before .before .before .before .before .before .before .before .before .before .before .before .before .before .before .before .before .pre .1) (length-replicate {A = ℕ} 65536 0) (c .before .before .before .end .given .1)
+finish-requires c κs = by-closed-ended (c .before .before .before .before .before .before .before .before .before .check-branch .ensures) refl (c .before .before .before .before .before .before .before .before .before .before .before .before .before .before .before .before .before .before .pre .1) (length-replicate {A = ℕ} 65536 0) (c .before .before .before .end .given .1)
 
 same-length : tie.Need-same-length
 same-length c = search needs
@@ -37,7 +38,7 @@ same-length-2 : tie.Need-same-length-2
 same-length-2 c = search needs
 
 returns : tie.Need-returns
-returns c = by-fault (c .before .before .before .before .before .before .before .before .check-branch .ensures) (c .before .before .number .given .1) (c .refusal .ensures)
+returns c = by-fault (c .before .before .before .before .before .before .before .before .check-branch .ensures) refl (c .before .before .number .given .1) (c .refusal .ensures)
 
 same-length-3 : tie.Need-same-length-3
 same-length-3 c = search needs
@@ -49,7 +50,7 @@ same-length-5 : tie.Need-same-length-5
 same-length-5 c = search needs
 
 returns-2 : tie.Need-returns-2
-returns-2 c = by-closed (c .before .before .before .before .before .before .before .before .before .before .before .before .check-branch .ensures) (c .before .before .before .before .before .before .before .before .before .before .before .before .before .before .before .before .before .before .before .before .before .pre .1) (length-replicate {A = ℕ} 65536 0) (c .before .before .before .before .before .before .end .given .1) (c .before .before .finish .ensures)
+returns-2 c = by-closed (c .before .before .before .before .before .before .before .before .before .before .before .before .check-branch .ensures) refl (c .before .before .before .before .before .before .before .before .before .before .before .before .before .before .before .before .before .before .before .before .before .pre .1) (length-replicate {A = ℕ} 65536 0) (c .before .before .before .before .before .before .end .given .1) (c .before .before .finish .ensures)
 
 pub check-root-spec : {M : Type 1} → statement M
 check-root-spec =

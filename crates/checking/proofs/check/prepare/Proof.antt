@@ -1,7 +1,7 @@
 -- `checking::check::prepare` meets its contract: A's lines, B's lines, and the two masks. Assumes nothing.
 use mathlib.Core.Path.{_≡_, refl}
 use native.Mathlib.Omega.{arith}
-use Rattle.checking.proofs.Preparing.{bundled-A, bundled-B, span-A, span-B, space-A, space-both, holding, prepared}
+use Rattle.checking.proofs.Preparing.{bundled-A, bundled-B, span-of, space-A, space-B, holding, prepared}
 use borrow.Author.Needs.{needs}
 use Rattle.checking.proofs.check.prepare.Statement.{statement}
 use Rattle.checking.proofs.check.prepare.Tie as tie
@@ -14,16 +14,16 @@ load-requires-2 c κs = bundled-B (c .before .before .before .before .before .be
 
 occurrences-requires : tie.Need-occurrences-requires
 occurrences-requires c κs =
-    let w = c .before .before .before .before .before .before .before .before .before .before .before .before .before .before .before .before .before .before .before .pre .0 in
-    (span-A w (space-both w (c .before .before .before .before .before .before .before .before .before .before .before .load .ensures) (c .before .before .before .before .before .load2 .ensures) (c .before .before .before .before .before .before .before .before .before .before .before .before .before .before .before .before .before .before .before .pre .1 .space)), (c .before .before .before .before .before .before .before .before .before .before .before .before .before .before .before .before .before .before .before .pre .1 .a))
+    let v = c .before .before .before .before .before .before .before .before .before .before .before .before .before .before .before .before .before .before .before .pre in
+    (span-of (v .0) (space-B (v .0) (c .before .before .before .before .before .load2 .ensures) (space-A (v .0) (c .before .before .before .before .before .before .before .before .before .before .before .load .ensures) (v .1 .space))) (omega arith) (omega arith), v .1 .a)
 
 add-occurrences : tie.Need-add-occurrences
 add-occurrences c = search needs
 
 occurrences-requires-2 : tie.Need-occurrences-requires-2
 occurrences-requires-2 c κs =
-    let w = c .before .before .before .before .before .before .before .before .before .before .before .before .before .before .before .before .before .before .before .before .before .before .before .before .pre .0 in
-    (span-B w (space-both w (c .before .before .before .before .before .before .before .before .before .before .before .before .before .before .before .before .load .ensures) (c .before .before .before .before .before .before .before .before .before .before .load2 .ensures) (c .before .before .before .before .before .before .before .before .before .before .before .before .before .before .before .before .before .before .before .before .before .before .before .before .pre .1 .space)), (c .before .before .before .before .before .before .before .before .before .before .before .before .before .before .before .before .before .before .before .before .before .before .before .before .pre .1 .b))
+    let v = c .before .before .before .before .before .before .before .before .before .before .before .before .before .before .before .before .before .before .before .before .before .before .before .before .pre in
+    (span-of (v .0) (space-B (v .0) (c .before .before .before .before .before .before .before .before .before .before .load2 .ensures) (space-A (v .0) (c .before .before .before .before .before .before .before .before .before .before .before .before .before .before .before .before .load .ensures) (v .1 .space))) (omega arith) (omega arith), v .1 .b)
 
 same-length : tie.Need-same-length
 same-length c = search needs
