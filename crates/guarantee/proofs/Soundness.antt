@@ -64,7 +64,7 @@ module _ (FA FB : List Item) (framedA : All Framed FA) (framedB : All Framed FB)
   interpolates =
       rw (stated FA framedA MA faithfulA (a .K) _ (a .certified .fileA), stated FB framedB MB faithfulB (a .K) _ (a .certified .fileB)) (certified-interpolant (a .certified))
 
-  delivered : Delivered FA FB MA MB proof output (left .output)
+  unfoldable pub delivered : Delivered FA FB MA MB proof output (left .output)
   delivered = record {
     K = a .K;
     formula = a .formula;

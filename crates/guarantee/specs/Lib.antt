@@ -1,3 +1,4 @@
 -- What is promised of the operations together.
 pub mod Soundness
+pub mod Operation
 pub mod Guard
