@@ -1,69 +1,287 @@
--- The split of a branch, from its first call to its last. Assumes nothing.
-use mathlib.Core.Path.{_≡_, refl, ap, _∙_}
+-- The branches of a strengthen: what one leaves for the next, and their formulas as one. Assumes nothing.
+use mathlib.Core.Path.{_≡_, refl, sym, ap, subst, _∙_}
 use mathlib.Core.Bool.{Bool}
-use mathlib.Core.List.{List, [], _∷_, _++_, append-assoc}
-use Prim.Native.Nat.{ℕ, suc, _+_, _*_, _-_, _≤_}
+use mathlib.Core.List.{List, [], _∷_, _++_}
+use Prim.Native.Nat.{ℕ, suc, _+_, _*_, _-_, _≤_, _<_}
 use native.Mathlib.Omega.{arith}
+use lib.Dec.{T}
 use lib.IntN.{ℤ}
-use lib.ListN.{length}
+use lib.ListN.{length, set, length-append}
 use lib.Seq.{sets}
 use Rattle.forms.specs.Edition.{edition1}
-use Rattle.forms.specs.Forms.{Formula, _and_, _or_}
+use Rattle.forms.specs.Forms.{Line, Formula, _and_, _or_}
 use Rattle.calculus.specs.Rules as rules
-use Rattle.fields.specs.Answers.{accepted, _>>=_}
-use Rattle.fields.specs.Fields.{fieldBytes}
+use Rattle.calculus.specs.Rules.{_▷_, inRange}
+use Rattle.fields.specs.Answers.{Result, refused, accepted, _>>=_}
+use Rattle.fields.specs.Fields.{Fields, fieldBytes}
 use Rattle.fields.specs.Places.{fieldsAt}
+use Rattle.fields.proofs.Stores.{sets-append}
 use Rattle.formula.specs.Formula.{encode}
-use Rattle.lines.specs.Buffer.{lineIn, linesIn}
-use Rattle.proof.specs.Check.{checkBranch}
-use Rattle.rows.specs.Rows.{Kept}
-use Rattle.branches.specs.Branches.{Comes}
-use Rattle.branches.specs.Branching.{three, Opened, returnedTo, Branches}
+use Rattle.bundle.proofs.Putting.{field-size}
+use Rattle.lines.specs.Buffer.{lineIn, linesIn, LineCopy, copiedLine, strengthenedT}
+use Rattle.lines.specs.Lines.{line-same, lines-same}
+use Rattle.lines.specs.Occurrence.{told}
+use Rattle.proof.specs.Check.{Closing, refusal, checkBranch}
+use Rattle.rows.specs.Rows.{Ready, Kept}
 use Rattle.rows.specs.declared.tally.Tally.{Tally}
+use Rattle.rows.specs.declared.derive.Derived.{Derived}
+use Rattle.rows.specs.declared.derive.Derived.the-variants as derived
+use Rattle.branches.specs.Branches.{Comes}
+use Rattle.branches.specs.Formulas.{Heads}
+use Rattle.branches.specs.Branching.{joined, firstLine, secondLine, thirdLine, lastTwo, three, Longer, Opened, Splits, resumedBy, Started, Closes, BranchedBy, Checks, Branches, Divided, FirstStands, ChecksRest, ChecksSplit}
+use Rattle.branches.specs.declared.branch.Branched.{Branched}
 use Rattle.branches.specs.declared.branch.Branched.the-variants as branched
-use Rattle.branches.proofs.Going.{kept-trans}
-use Rattle.branches.proofs.Staging.{comes-split, Pending}
+use Rattle.branches.proofs.Going.{kept-trans, ready-kept}
+use Rattle.rows.proofs.Deriving.{kept-refl}
+use Rattle.branches.proofs.Staging.{comes-split}
+use Rattle.branches.proofs.Starting.{now-copy, second-starts, third-starts}
 
-module _ {K : ℕ} {p : List ℕ} {at : ℕ} {kinds : List ℕ} {buf : List ℤ} {t : Tally} {kinds′ : List ℕ} {buf′ : List ℤ} {i a next : ℕ} {u : Tally}
-    (m : Comes K p at kinds buf t kinds′ buf′ (rules.Strengthen i) a next u) (k : Kept K (t .lines .0) kinds buf kinds′ buf′) (inA inB : ℕ → Bool) (scratch : List ℕ) (o : ℕ) where
-  -- Before the first call.
-  pub opened : {kinds″ : List ℕ} {buf″ : List ℤ} {v : Tally} → Opened K kinds′ buf′ u i kinds″ buf″ v
-      → Pending K p (checkBranch edition1 K inA inB (32 - t .«open») (t .rows .0) (linesIn K kinds buf (t .lines .0)) (fieldsAt p at)) (u .lines .0) kinds′ buf′ scratch o kinds″ buf″ next (suc (m .rows)) scratch o
-      (λ rows fs. three (checkBranch edition1 K inA inB (31 - u .«open»)) (linesIn K kinds′ buf′ (u .lines .0)) (lineIn K kinds′ buf′ i) rows fs) []
-  opened w = record {
-    is = comes-split m k inA inB ∙ w .is inA inB _ a (m .rows) (fieldsAt p next);
-    kept = w .longer .kept;
-    long = refl;
-    o-is = omega arith;
-    stored = λ _. refl;
+-- ---- two closings as one
+-- What is written behind a run that is written.
+both-stored : (scratch₀ : List ℕ) (o₀ : ℕ) (bytes bs : List ℕ) {scratch scratch′ : List ℕ} {o : ℕ} → o ≡ o₀ + length bytes → length scratch ≡ length scratch₀
+    → (o₀ + length bytes ≤ length scratch₀ → scratch ≡ sets scratch₀ o₀ bytes) → (o + length bs ≤ length scratch → scratch′ ≡ sets scratch o bs)
+    → o₀ + length (bytes ++ bs) ≤ length scratch₀ → scratch′ ≡ sets scratch₀ o₀ (bytes ++ bs)
+both-stored scratch₀ o₀ bytes bs {o = o} e l f g h =
+    let s = length-append bytes bs in
+    g (omega arith) ∙ rw (f (omega arith), e) (sym (sets-append bytes bs scratch₀ o₀))
+
+-- A formula of two, whose bytes are a head and theirs.
+module _ (make : Formula → Formula → Formula) (tag : ℕ) (bytes : (f g : Formula) → encode edition1 (make f g) ≡ fieldBytes tag [] ++ encode edition1 f ++ encode edition1 g)
+    {R : Result Closing} (second : ℕ → Fields → Result Closing) {p : List ℕ} {t : Tally} {scratch : List ℕ} {o : ℕ} {scratch₁ : List ℕ} {o₁ : ℕ} (h : Heads scratch o tag scratch₁ o₁) where
+  module _ {a o₂ : ℕ} {scratch₂ : List ℕ} {t₁ : Tally} (c : Closes R p t a scratch₁ o₁ o₂ scratch₂ t₁) (l : length scratch₂ ≡ length scratch₁) where
+    joined-refused : {x b : ℕ} → second (t₁ .rows .0) (fieldsAt p a) ≡ refused (refusal b x) → joined make R second ≡ refused (refusal b x)
+    unfolding _>>=_
+    joined-refused e = rw (c .is, e)
+
+    joined-closes : {b o₃ : ℕ} {t₂ : Tally} {scratch₃ : List ℕ} → Closes (second (t₁ .rows .0) (fieldsAt p a)) p t₁ b scratch₂ o₂ o₃ scratch₃ t₂ → Closes (joined make R second) p t b scratch o o₃ scratch₃ t₂
+    unfolding _>>=_
+    joined-closes d =
+        let w : length (fieldBytes tag []) ≡ 3 = field-size tag [] in
+        let f = encode edition1 (c .formula) in
+        let g = encode edition1 (d .formula) in
+        let e = bytes (c .formula) (d .formula) in
+        let n₁ = length-append (fieldBytes tag []) f in
+        let n₂ = length-append (fieldBytes tag [] ++ f) g in
+        let n : o₂ ≡ o + length (fieldBytes tag [] ++ f) = omega (arith, h .o-is, c .o-is) in
+        record {
+          formula = make (c .formula) (d .formula);
+          is = rw (c .is, d .is);
+          o-is = rw e (omega (arith, d .o-is));
+          stored = rw e (both-stored scratch o (fieldBytes tag [] ++ f) g n (l ∙ h .long)
+              (both-stored scratch o (fieldBytes tag []) f (omega (arith, h .o-is)) (h .long) (λ r. h .stored (omega arith)) (c .stored)) (d .stored));
+          within = d .within;
+          upto = d .upto;
+          lines-is = d .lines-is ∙ c .lines-is;
+          open-is = d .open-is ∙ c .open-is;
+        }
+
+    joined-by : (scratch₃ : List ℕ) (r : Branched) → BranchedBy (second (t₁ .rows .0) (fieldsAt p a)) p t₁ scratch₂ o₂ scratch₃ r → BranchedBy (joined make R second) p t scratch o scratch₃ r
+    joined-by scratch₃ (branched.Fault x b) e = joined-refused e
+    joined-by scratch₃ (branched.Closed b o₃ t₂) d = joined-closes d
+
+  module _ {K n : ℕ} {kinds : List ℕ} {buf : List ℤ} {kinds₁ : List ℕ} {buf₁ : List ℤ} {scratch₂ : List ℕ} {r₁ : Branched} (c : Checks R K n p kinds buf t scratch₁ o₁ kinds₁ buf₁ scratch₂ r₁) where
+    pub joined-fault : {x b : ℕ} → r₁ ≡ branched.Fault x b → Checks (joined make R second) K n p kinds buf t scratch o kinds₁ buf₁ scratch₂ (branched.Fault x b)
+    unfolding _>>=_
+    joined-fault e = record { kept = c .kept; long = c .long ∙ h .long; by = rw (rw e at (c .by)) }
+
+    pub joined-checks : {a o₂ : ℕ} {t₁ : Tally} → r₁ ≡ branched.Closed a o₂ t₁
+        → {kinds₂ : List ℕ} {buf₂ : List ℤ} {scratch₃ : List ℕ} {r : Branched} → Checks (second (t₁ .rows .0) (fieldsAt p a)) K n p kinds buf t₁ scratch₂ o₂ kinds₂ buf₂ scratch₃ r
+        → Checks (joined make R second) K n p kinds buf t scratch o kinds₂ buf₂ scratch₃ r
+    joined-checks e {scratch₃ = scratch₃} {r = r} d = record {
+      kept = d .kept;
+      long = d .long ∙ c .long ∙ h .long;
+      by = joined-by (rw e at (c .by)) (c .long) scratch₃ r (d .by);
+    }
+
+or-bytes : (f g : Formula) → encode edition1 (f or g) ≡ fieldBytes 0x31 [] ++ encode edition1 f ++ encode edition1 g
+unfolding encode
+or-bytes f g = refl
+
+and-bytes : (f g : Formula) → encode edition1 (f and g) ≡ fieldBytes 0x32 [] ++ encode edition1 f ++ encode edition1 g
+unfolding encode
+and-bytes f g = refl
+
+-- ---- what one branch leaves for the next
+kept-less : {K m n : ℕ} {kinds : List ℕ} {buf : List ℤ} {kinds′ : List ℕ} {buf′ : List ℤ} → m ≤ n → Kept K n kinds buf kinds′ buf′ → Kept K m kinds buf kinds′ buf′
+kept-less h k = kept-trans h kept-refl k
+
+longer-start : {K n : ℕ} {kinds : List ℕ} {buf : List ℤ} {kinds₁ : List ℕ} {buf₁ : List ℤ} {kinds₂ : List ℕ} {buf₂ : List ℤ} {l : Line}
+    → Kept K n kinds buf kinds₁ buf₁ → Longer K kinds₁ buf₁ n l kinds₂ buf₂ → Longer K kinds buf n l kinds₂ buf₂
+longer-start {K} {n} {l = l} k g = record {
+  kept = kept-trans (omega arith) k (g .kept);
+  ready = g .ready;
+  lines = g .lines ∙ ap (λ (ls : List Line). ls ▷ l) (lines-same K n (k .lines-same) (k .kinds-same));
+  small = g .small;
+}
+
+module _ {K n : ℕ} {p : List ℕ} {kinds : List ℕ} {buf : List ℤ} {kinds₁ : List ℕ} {buf₁ : List ℤ} {l : Line} (g : Longer K kinds buf n l kinds₁ buf₁) {t : Tally} (e : t .lines .0 ≡ n + 1) where
+  -- A branch of n lines and l.
+  as-branch : (at : ℕ) (inA inB : ℕ → Bool) {scratch : List ℕ} {o : ℕ} {kinds₂ : List ℕ} {buf₂ : List ℤ} {scratch₂ : List ℕ} {r : Branched}
+      → Branches K p at inA inB kinds₁ buf₁ t scratch o kinds₂ buf₂ scratch₂ r
+      → Checks (checkBranch edition1 K inA inB (32 - t .«open») (t .rows .0) (linesIn K kinds buf n ▷ l) (fieldsAt p at)) K n p kinds buf t scratch o kinds₂ buf₂ scratch₂ r
+  as-branch at inA inB {scratch} {o} {scratch₂ = scratch₂} {r} b = record {
+    kept = kept-trans {n = t .lines .0} (omega arith) (g .kept) (b .kept);
+    long = b .long;
+    by = subst (λ (ls : List Line). BranchedBy (checkBranch edition1 K inA inB (32 - t .«open») (t .rows .0) ls (fieldsAt p at)) p t scratch o scratch₂ r) (ap (linesIn K kinds₁ buf₁) e ∙ g .lines) (b .by);
   }
 
-  bytes-are : (f g h : Formula) → ((([] ++ fieldBytes 0x31 []) ++ encode edition1 f) ++ fieldBytes 0x32 []) ++ encode edition1 g ++ encode edition1 h ≡ encode edition1 (f or (g and h))
-  unfolding encode
-  bytes-are f g h =
-      let x = fieldBytes 0x31 [] ++ encode edition1 f in
-      ap (λ (l : List ℕ). l ++ encode edition1 h) (append-assoc x (fieldBytes 0x32 []) (encode edition1 g))
-      ∙ append-assoc x (fieldBytes 0x32 [] ++ encode edition1 g) (encode edition1 h)
+module _ {K n : ℕ} {p : List ℕ} {kinds : List ℕ} {buf : List ℤ} {maskA maskB : List ℕ} {t : Tally} {i at o : ℕ} (d : Divided K n kinds buf maskA maskB t i p at o) where
+  pub room-left : o ≤ 5242880
+  room-left = omega (arith, d .room, d .upto, d .size)
 
-  -- After the last.
-  pub ended : (f g h : Formula) (v : Tally) {kinds″ : List ℕ} {buf″ : List ℤ} {scratch′ : List ℕ} {c o′ : ℕ}
-      → Pending K p (checkBranch edition1 K inA inB (32 - t .«open») (t .rows .0) (linesIn K kinds buf (t .lines .0)) (fieldsAt p at)) (u .lines .0) kinds′ buf′ scratch o kinds″ buf″ c (v .rows .0) scratch′ o′
-      (λ rows fs. accepted (record { formula = f or (g and h); rows = rows; after = fs })) (((([] ++ fieldBytes 0x31 []) ++ encode edition1 f) ++ fieldBytes 0x32 []) ++ encode edition1 g ++ encode edition1 h)
-      → o′ + 3 ≤ 78 * c → c ≤ length p
-      → Branches K p at inA inB kinds buf t scratch o kinds″ buf″ scratch′ (branched.Closed c o′ (returnedTo v t))
-  ended f g h v q w l =
-      let e = bytes-are f g h in
-      record {
-        kept = kept-trans (m .from) k (q .kept);
-        long = q .long;
-        by = record {
-          formula = f or (g and h);
-          is = q .is;
-          o-is = q .o-is ∙ ap (λ (b : List ℕ). o + length b) e;
-          stored = λ r. q .stored (rw e r) ∙ ap (sets scratch o) e;
-          within = w;
-          upto = l;
-          lines-is = refl;
-          open-is = refl;
-        };
-      }
+  starts-branch : {kinds₁ : List ℕ} {buf₁ : List ℤ} {l : Line} → Longer K kinds buf n l kinds₁ buf₁ → {t₁ : Tally} {a o₁ : ℕ} → t₁ .lines .0 ≡ n + 1 → a ≤ length p → o₁ ≤ 78 * a
+      → Started K kinds₁ buf₁ maskA maskB t₁ p a o₁
+  starts-branch {kinds₁} {buf₁} g e u r = record { ready = subst (Ready K kinds₁ buf₁) (sym e) (g .ready); a-mask = d .a-mask; b-mask = d .b-mask; size = d .size; upto = u; room = r }
+
+  -- ---- the first branch, and the rest
+  module _ (f : FirstStands K n kinds buf i) {scratch : List ℕ} {scratch₁ : List ℕ} {o₁ : ℕ} (h : Heads scratch o 0x31 scratch₁ o₁) where
+    pub first-started : Started K kinds buf maskA maskB t p at o₁
+    first-started = starts-branch f (d .lines-is) (d .upto) (omega (arith, h .o-is, d .room))
+
+    module _ {kinds₁ : List ℕ} {buf₁ : List ℤ} {scratch₂ : List ℕ} {r₁ : Branched} (b : Branches K p at (told maskA) (told maskB) kinds buf t scratch₁ o₁ kinds₁ buf₁ scratch₂ r₁) where
+      pub split-fault : {x a : ℕ} → r₁ ≡ branched.Fault x a → ChecksSplit K n p at (told maskA) (told maskB) kinds buf t i scratch o kinds₁ buf₁ scratch₂ (branched.Fault x a)
+      split-fault e = joined-fault _or_ 0x31 or-bytes (λ rows fs. lastTwo (checkBranch edition1 K (told maskA) (told maskB) (32 - t .«open»)) (linesIn K kinds buf n) (lineIn K kinds buf i) rows fs) h (as-branch f (d .lines-is) at (told maskA) (told maskB) b) e
+
+      module _ {a o₂ : ℕ} {t₁ : Tally} (e : r₁ ≡ branched.Closed a o₂ t₁) where
+        c : Closes (checkBranch edition1 K (told maskA) (told maskB) (32 - t .«open») (t .rows .0) (linesIn K kinds buf (t .lines .0)) (fieldsAt p at)) p t a scratch₁ o₁ o₂ scratch₂ t₁
+        c = rw e at (b .by)
+
+        k : Kept K n kinds buf kinds₁ buf₁
+        k = kept-less {n = t .lines .0} (omega (arith, d .lines-is)) (b .kept)
+
+        line-is : lineIn K kinds₁ buf₁ i ≡ lineIn K kinds buf i
+        line-is = line-same K (k .lines-same) (k .kinds-same) i (d .line)
+
+        pub rest-open : t₁ .«open» ≡ t .«open»
+        rest-open = c .open-is
+
+        pub rest-divided : Divided K n kinds₁ buf₁ maskA maskB t₁ i p a o₂
+        rest-divided = record {
+          ready = ready-kept (d .ready) k;
+          a-mask = d .a-mask;
+          b-mask = d .b-mask;
+          size = d .size;
+          upto = c .upto;
+          room = c .within;
+          line = d .line;
+          space = d .space;
+          lines-is = c .lines-is ∙ d .lines-is;
+          small = subst (λ (l : Line). T (inRange 2147483647 (firstLine l))) (sym line-is) (d .small);
+        }
+
+        rest-same : {kinds₂ : List ℕ} {buf₂ : List ℤ} {scratch₃ : List ℕ} {r : Branched} → ChecksRest K n p a (told maskA) (told maskB) kinds₁ buf₁ t₁ i scratch₂ o₂ kinds₂ buf₂ scratch₃ r
+            → Checks (lastTwo (checkBranch edition1 K (told maskA) (told maskB) (32 - t .«open»)) (linesIn K kinds buf n) (lineIn K kinds buf i) (t₁ .rows .0) (fieldsAt p a)) K n p kinds buf t₁ scratch₂ o₂ kinds₂ buf₂ scratch₃ r
+        rest-same {scratch₃ = scratch₃} {r = r} x =
+            let same : lastTwo (checkBranch edition1 K (told maskA) (told maskB) (32 - t₁ .«open»)) (linesIn K kinds₁ buf₁ n) (lineIn K kinds₁ buf₁ i) (t₁ .rows .0) (fieldsAt p a)
+            ≡ lastTwo (checkBranch edition1 K (told maskA) (told maskB) (32 - t .«open»)) (linesIn K kinds buf n) (lineIn K kinds buf i) (t₁ .rows .0) (fieldsAt p a)
+            = rw (c .open-is, line-is, lines-same K n (k .lines-same) (k .kinds-same)) in
+            record {
+              kept = kept-trans (omega arith) k (x .kept);
+              long = x .long;
+              by = subst (λ (R : Result Closing). BranchedBy R p t₁ scratch₂ o₂ scratch₃ r) same (x .by);
+            }
+
+        pub split-checks : {kinds₂ : List ℕ} {buf₂ : List ℤ} {scratch₃ : List ℕ} {r : Branched} → ChecksRest K n p a (told maskA) (told maskB) kinds₁ buf₁ t₁ i scratch₂ o₂ kinds₂ buf₂ scratch₃ r
+            → ChecksSplit K n p at (told maskA) (told maskB) kinds buf t i scratch o kinds₂ buf₂ scratch₃ r
+        split-checks x = joined-checks _or_ 0x31 or-bytes (λ rows fs. lastTwo (checkBranch edition1 K (told maskA) (told maskB) (32 - t .«open»)) (linesIn K kinds buf n) (lineIn K kinds buf i) rows fs) h (as-branch f (d .lines-is) at (told maskA) (told maskB) b) e (rest-same x)
+
+  -- ---- the second branch and the third
+  pub second-copy : LineCopy K buf i n × (128 ≤ length kinds)
+  second-copy = (now-copy (d .ready) (d .line) (d .space) kept-refl, d .ready .room)
+
+  module _ {kinds₁ : List ℕ} {buf₁ : List ℤ} (eb : buf₁ ≡ copiedLine K i n buf) (ek : kinds₁ ≡ set kinds n 1) {scratch : List ℕ} {scratch₁ : List ℕ} {o₁ : ℕ} (h : Heads scratch o 0x32 scratch₁ o₁) where
+    second : Longer K kinds buf n (secondLine (lineIn K kinds buf i)) kinds₁ buf₁
+    second = second-starts (d .ready) (d .line) (d .space) kept-refl eb ek
+
+    pub second-started : Started K kinds₁ buf₁ maskA maskB t p at o₁
+    second-started = starts-branch second (d .lines-is) (d .upto) (omega (arith, h .o-is, d .room))
+
+    module _ {kinds₂ : List ℕ} {buf₂ : List ℤ} {scratch₂ : List ℕ} {r₁ : Branched} (b : Branches K p at (told maskA) (told maskB) kinds₁ buf₁ t scratch₁ o₁ kinds₂ buf₂ scratch₂ r₁) where
+      pub rest-fault : {x a : ℕ} → r₁ ≡ branched.Fault x a → ChecksRest K n p at (told maskA) (told maskB) kinds buf t i scratch o kinds₂ buf₂ scratch₂ (branched.Fault x a)
+      rest-fault e = joined-fault _and_ 0x32 and-bytes (λ rows fs. checkBranch edition1 K (told maskA) (told maskB) (32 - t .«open») rows (linesIn K kinds buf n ▷ thirdLine (lineIn K kinds buf i)) fs) h (as-branch second (d .lines-is) at (told maskA) (told maskB) b) e
+
+      module _ {a o₂ : ℕ} {t₁ : Tally} (e : r₁ ≡ branched.Closed a o₂ t₁) where
+        closes : Closes (checkBranch edition1 K (told maskA) (told maskB) (32 - t .«open») (t .rows .0) (linesIn K kinds₁ buf₁ (t .lines .0)) (fieldsAt p at)) p t a scratch₁ o₁ o₂ scratch₂ t₁
+        closes = rw e at (b .by)
+
+        pub third-open : t₁ .«open» ≡ t .«open»
+        third-open = closes .open-is
+
+        on : Kept K n kinds buf kinds₂ buf₂
+        on = as-branch second (d .lines-is) at (told maskA) (told maskB) b .kept
+
+        pub third-copy : LineCopy K buf₂ i n × (128 ≤ length kinds₂)
+        third-copy = (now-copy (d .ready) (d .line) (d .space) on, ready-kept (d .ready) on .room)
+
+        module _ {kinds₃ : List ℕ} {buf₃ : List ℤ} (eb₃ : buf₃ ≡ strengthenedT K i n buf₂) (ek₃ : kinds₃ ≡ set kinds₂ n 0) where
+          third : Longer K kinds buf n (thirdLine (lineIn K kinds buf i)) kinds₃ buf₃
+          third = longer-start on (third-starts (d .ready) (d .line) (d .space) on (d .small) eb₃ ek₃)
+
+          pub third-started : Started K kinds₃ buf₃ maskA maskB t₁ p a o₂
+          third-started = starts-branch third (closes .lines-is ∙ d .lines-is) (closes .upto) (omega (arith, closes .within))
+
+          pub rest-checks : {kinds₄ : List ℕ} {buf₄ : List ℤ} {scratch₃ : List ℕ} {r : Branched} → Branches K p a (told maskA) (told maskB) kinds₃ buf₃ t₁ scratch₂ o₂ kinds₄ buf₄ scratch₃ r
+              → ChecksRest K n p at (told maskA) (told maskB) kinds buf t i scratch o kinds₄ buf₄ scratch₃ r
+          rest-checks x =
+              joined-checks _and_ 0x32 and-bytes (λ rows fs. checkBranch edition1 K (told maskA) (told maskB) (32 - t .«open») rows (linesIn K kinds buf n ▷ thirdLine (lineIn K kinds buf i)) fs) h (as-branch second (d .lines-is) at (told maskA) (told maskB) b) e
+              (rw (← closes .open-is) (as-branch third (closes .lines-is ∙ d .lines-is) a (told maskA) (told maskB) x))
+
+-- ---- the branch that is split
+module _ {K : ℕ} {p : List ℕ} {at : ℕ} {kinds : List ℕ} {buf : List ℤ} {t : Tally} {kinds′ : List ℕ} {buf′ : List ℤ} {i a next : ℕ} {u : Tally}
+    (m : Comes K p at kinds buf t kinds′ buf′ (rules.Strengthen i) a next u) (k : Kept K (t .lines .0) kinds buf kinds′ buf′)
+    {kinds″ : List ℕ} {buf″ : List ℤ} {s : Derived} {v : Tally} (w : Splits K kinds′ buf′ u i kinds″ buf″ s) (e : s ≡ derived.Made v) where
+  opens : Opened K kinds′ buf′ u i kinds″ buf″ v
+  opens = rw e at (w .by)
+
+  same-line : lineIn K kinds″ buf″ i ≡ lineIn K kinds′ buf′ i
+  same-line = line-same K (w .kept .lines-same) (w .kept .kinds-same) i (opens .copy .first)
+
+  same-lines : linesIn K kinds″ buf″ (u .lines .0) ≡ linesIn K kinds′ buf′ (u .lines .0)
+  same-lines = lines-same K (u .lines .0) (w .kept .lines-same) (w .kept .kinds-same)
+
+  pub opens-less : v .«open» ≡ t .«open» + 1
+  opens-less = ap (λ (x : Tally). x .«open») (opens .tally-is) ∙ rw (m .open-is)
+
+  pub few-open : t .«open» < 32
+  few-open = omega (arith, opens .open-less, m .open-is)
+
+  module _ {maskA maskB : List ℕ} {o : ℕ} (st : Started K kinds buf maskA maskB t p at o) where
+    pub divided : Divided K (u .lines .0) kinds″ buf″ maskA maskB v i p next o
+    divided = record {
+      ready = ready-kept (m .ready) (w .kept);
+      a-mask = st .a-mask;
+      b-mask = st .b-mask;
+      size = st .size;
+      upto = m .upto;
+      room = omega (arith, st .room, m .on);
+      line = opens .copy .first;
+      space = opens .copy .space;
+      lines-is = ap (λ (x : Tally). x .lines .0) (opens .tally-is);
+      small = subst (λ (l : Line). T (inRange 2147483647 (firstLine l))) (sym same-line) (opens .longer .small);
+    }
+
+  pub first-stands : FirstStands K (u .lines .0) kinds″ buf″ i
+  first-stands =
+      let g = opens .longer in
+      rw same-line (record { kept = kept-refl; ready = g .ready; lines = g .lines ∙ rw same-lines; small = g .small })
+
+  module _ (inA inB : ℕ → Bool) {scratch : List ℕ} {o : ℕ} {kinds₁ : List ℕ} {buf₁ : List ℤ} {scratch₁ : List ℕ} {b : Branched}
+      (x : ChecksSplit K (u .lines .0) p next inA inB kinds″ buf″ v i scratch o kinds₁ buf₁ scratch₁ b) where
+    splits : checkBranch edition1 K inA inB (32 - t .«open») (t .rows .0) (linesIn K kinds buf (t .lines .0)) (fieldsAt p at)
+        ≡ three (checkBranch edition1 K inA inB (32 - v .«open»)) (linesIn K kinds″ buf″ (u .lines .0)) (lineIn K kinds″ buf″ i) (v .rows .0) (fieldsAt p next)
+    splits =
+        let r : v .rows .0 ≡ suc (m .rows) = omega (arith, ap (λ (x : Tally). x .rows .0) (opens .tally-is), m .rows-is) in
+        let n : 32 - v .«open» ≡ 31 - u .«open» = omega (arith, opens-less, m .open-is) in
+        comes-split m k inA inB ∙ opens .is inA inB _ a (m .rows) (fieldsAt p next) ∙ rw (same-line, same-lines, r, n)
+
+    resumed-by : (b : Branched) → BranchedBy (checkBranch edition1 K inA inB (32 - t .«open») (t .rows .0) (linesIn K kinds buf (t .lines .0)) (fieldsAt p at)) p v scratch o scratch₁ b
+        → BranchedBy (checkBranch edition1 K inA inB (32 - t .«open») (t .rows .0) (linesIn K kinds buf (t .lines .0)) (fieldsAt p at)) p t scratch o scratch₁ (resumedBy b t)
+    resumed-by (branched.Fault x a) y = y
+    resumed-by (branched.Closed a o′ v′) y = record { formula = y .formula; is = y .is; o-is = y .o-is; stored = y .stored; within = y .within; upto = y .upto; lines-is = refl; open-is = refl }
+
+    pub resumed-checks : {r : Branched} → r ≡ resumedBy b t → Branches K p at inA inB kinds buf t scratch o kinds₁ buf₁ scratch₁ r
+    resumed-checks q = rw q (record {
+      kept = kept-trans (m .from) k (kept-trans (omega arith) (w .kept) (x .kept));
+      long = x .long;
+      by = resumed-by b (subst (λ (R : Result Closing). BranchedBy R p v scratch o scratch₁ b) (sym splits) (x .by));
+    })

@@ -12,10 +12,10 @@ use lib.ListN.{length, getD, set, length-set}
 use lib.IntN.{ℤ, pos}
 use borrow.Author.Tests.{lt-ltb, le-ltb, ltb-true, ltb-false}
 use Rattle.forms.specs.Edition.{edition1}
-use Rattle.forms.specs.Forms.{≤0, =0, Line, line, literal, _divides_, within, _plus_}
+use Rattle.forms.specs.Forms.{≤0, =0, Line, line, literal, _divides_, within, _and_, _or_, _plus_}
 use Rattle.calculus.specs.Rules.{_▷_, small, every, inRange}
 use Rattle.fields.specs.declared.Answer.{Answer}
-use Rattle.fields.specs.Answers.{refused, accepted, _>>=_, _>>_, need, found}
+use Rattle.fields.specs.Answers.{Result, refused, accepted, _>>=_, _>>_, need, found}
 use Rattle.fields.specs.Fields.{Fields}
 use Rattle.lines.specs.Parts.{part, Agree, agree-set, agree-sym}
 use Rattle.lines.specs.Buffer.{size, formIn, kindOf, lineIn, linesIn, LineCopy, copiedLine, strengthenedT, strengthenedBoth}
@@ -26,13 +26,13 @@ use Rattle.lines.specs.Strengthen.{length-copied, length-t, length-both, copied
 use Rattle.lines.specs.Next.{first-branch, second-branch, third-branch}
 use Rattle.lines.specs.Occurrence.{told}
 use Rattle.proof.specs.Rows.{is, lineAt, inequality, fitting, byNumber, byStride}
-use Rattle.proof.specs.Check.{Next, refusal, checkRow, checkBranch}
+use Rattle.proof.specs.Check.{Closing, Next, refusal, checkRow, checkBranch}
 use Rattle.rows.specs.Tally.{tally, lineCounted, openCounted}
 use Rattle.rows.specs.Rows.{Ready, Kept, moreLines}
 use Rattle.branches.specs.Closing.{ByNumber}
 use Rattle.branches.specs.Striding.{ByStride}
 use Rattle.branches.specs.Formulas.{Numbered, Puts}
-use Rattle.branches.specs.Branching.{EndedBy, below, three, Longer, strengthened, Opened, Splits}
+use Rattle.branches.specs.Branching.{EndedBy, below, joining, joined, firstLine, secondLine, thirdLine, three, Longer, strengthened, Opened, Splits}
 use Rattle.rows.specs.declared.tally.Tally.{Tally}
 use Rattle.rows.specs.declared.tally.Counted.{Counted}
 use Rattle.branches.specs.declared.closing.Test.{Test}
@@ -142,12 +142,35 @@ module _ (t : Tally) {r q : Counted} (e : r ≡ openCounted t) (h : r .made ≡ 
   full-both k = omega (arith, full-line (r .tally) f k, same-lines)
 
 pub longer-from : {K n : ℕ} {kinds : List ℕ} {buf : List ℤ} {kinds′ : List ℕ} {buf′ : List ℤ} {l : Line} → Ready K kinds buf n → n < 128 → Kept K n kinds buf kinds′ buf′
-    → linesIn K kinds′ buf′ (suc n) ≡ linesIn K kinds buf n ▷ l → T (inRange 2147483647 (lineIn K kinds′ buf′ n)) → Longer K kinds buf n l kinds′ buf′
-longer-from {K} {n} {kinds′ = kinds′} {buf′ = buf′} r h k e t = record {
+    → linesIn K kinds′ buf′ (suc n) ≡ linesIn K kinds buf n ▷ l → lineIn K kinds′ buf′ n ≡ l → T (inRange 2147483647 l) → Longer K kinds buf n l kinds′ buf′
+longer-from {K} {n} {kinds′ = kinds′} {buf′ = buf′} r h k e last t = record {
   kept = k;
-  ready = rw add-one (record { branch = branch-more kinds′ (branch-kept (r .branch) (agree-sym (k .lines-same)) (k .lines-length)) h t; room = omega (arith, r .room, k .kinds-length); most = omega arith });
+  ready = rw add-one (record {
+    branch = branch-more kinds′ (branch-kept (r .branch) (agree-sym (k .lines-same)) (k .lines-length)) h (subst (λ (l : Line). T (inRange 2147483647 l)) (sym last) t);
+    room = omega (arith, r .room, k .kinds-length);
+    most = omega arith;
+  });
   lines = rw add-one e;
+  small = t;
 }
+
+-- The three branches of a strengthen one after the other, as one and two.
+three-joined : (first : Result Closing) (second third : ℕ → Fields → Result Closing)
+    → (first >>= λ x. (second (x .rows) (x .after) >>= λ y. (third (y .rows) (y .after) >>= λ z. accepted (joining _or_ x (joining _and_ y z)))))
+    ≡ joined _or_ first (λ rows fs. joined _and_ (second rows fs) third)
+unfolding _>>=_
+three-joined (refused a) second third = refl
+three-joined (accepted x) second third = last-two (second (x .rows) (x .after))
+  where
+    last-one : (y : Closing) (r : Result Closing)
+        → (r >>= λ z. accepted (joining _or_ x (joining _and_ y z))) ≡ ((r >>= λ z. accepted (joining _and_ y z)) >>= λ w. accepted (joining _or_ x w))
+    last-one y (refused a) = refl
+    last-one y (accepted z) = refl
+
+    last-two : (r : Result Closing)
+        → (r >>= λ y. (third (y .rows) (y .after) >>= λ z. accepted (joining _or_ x (joining _and_ y z)))) ≡ (joined _and_ r third >>= λ w. accepted (joining _or_ x w))
+    last-two (refused a) = refl
+    last-two (accepted y) = last-one y (third (y .rows) (y .after))
 
 module _ {K : ℕ} {kinds : List ℕ} {buf : List ℤ} (t : Tally) (i : ℕ) (ready : Ready K kinds buf (t .lines .0)) where
   pub split-none : t .lines .0 ≤ i → Splits K kinds buf t i kinds buf (Refused 10)
@@ -168,12 +191,15 @@ module _ {K : ℕ} {kinds : List ℕ} {buf : List ℤ} (t : Tally) (i : ℕ) (re
 
       module _ (ho : t .«open» < 32) where
         tests : (inA inB : ℕ → Bool) (next : Next) (at rows : ℕ) (fs : Fields) → strengthened K kinds buf t i inA inB next at rows fs
-            ≡ (fitting (refusal at) (linesIn K kinds buf (t .lines .0)) edition1 (line ≤0 (lineIn K kinds buf i .t plus 1) (lineIn K kinds buf i .tA plus 1))
+            ≡ (fitting (refusal at) (linesIn K kinds buf (t .lines .0)) edition1 (firstLine (lineIn K kinds buf i))
             >> three (checkBranch edition1 K inA inB (31 - t .«open»)) (linesIn K kinds buf (t .lines .0)) (lineIn K kinds buf i) (suc rows) fs)
         unfolding checkRow inequality lineAt _>>=_ _>>_ found need is
         tests inA inB next at rows fs =
             let z : 32 - t .«open» ≡ suc (31 - t .«open») = omega arith in
-            rw (line-at K kinds buf (t .lines .0) i hi, kind-≤ K kinds buf i hk, z)
+            let branch = checkBranch edition1 K inA inB (31 - t .«open») in
+            let ls = linesIn K kinds buf (t .lines .0) in
+            let l = lineIn K kinds buf i in
+            rw (line-at K kinds buf (t .lines .0) i hi, kind-≤ K kinds buf i hk, z, three-joined (branch (suc rows) (ls ▷ firstLine l) fs) (λ rows fs. branch rows (ls ▷ secondLine l) fs) (λ rows fs. branch rows (ls ▷ thirdLine l) fs))
 
         pub split-full : 128 ≤ t .lines .0 → Splits K kinds buf t i kinds buf (Refused 16)
         unfolding fitting _>>_ need
@@ -194,10 +220,10 @@ module _ {K : ℕ} {kinds : List ℕ} {buf : List ℤ} (t : Tally) (i : ℕ) (re
           new : kindOf (getD kinds′ (t .lines .0) 0) ≡ ≤0
           new = rw sets (kind-stored kinds (t .lines .0) 0 (omega (arith, ready .room)) ∙ inequality-byte)
 
-          next-lines : linesIn K kinds′ buf′ (suc (t .lines .0)) ≡ linesIn K kinds buf (t .lines .0) ▷ line ≤0 (lineIn K kinds buf i .t plus 1) (lineIn K kinds buf i .tA plus 1)
+          next-lines : linesIn K kinds′ buf′ (suc (t .lines .0)) ≡ linesIn K kinds buf (t .lines .0) ▷ firstLine (lineIn K kinds buf i)
           next-lines = rw strengthens (first-branch K kinds kinds′ buf (t .lines .0) (agree-sym (split-kept .kinds-same)) new copy refl)
 
-          last : lineIn K kinds′ buf′ (t .lines .0) ≡ line ≤0 (lineIn K kinds buf i .t plus 1) (lineIn K kinds buf i .tA plus 1)
+          last : lineIn K kinds′ buf′ (t .lines .0) ≡ firstLine (lineIn K kinds buf i)
           last = rw strengthens (both-line copy kinds kinds′ refl ∙ line-ext new refl refl)
 
           pub split-end : t .lines .0 * size K + size K ≤ length buf′
@@ -220,7 +246,7 @@ module _ {K : ℕ} {kinds : List ℕ} {buf : List ℤ} (t : Tally) (i : ℕ) (re
               kept = split-kept;
               by = record {
                 is = λ inA inB next at rows fs. tests inA inB next at rows fs ∙ rw (length-lines K kinds buf (t .lines .0), lt-ltb (t .lines .0) 128 space, ← last, range, e);
-                longer = longer-from ready space split-kept next-lines (subst T (sym (range ∙ e)) tt);
+                longer = longer-from ready space split-kept next-lines last (subst (λ (l : Line). T (inRange 2147483647 l)) last (subst T (sym (range ∙ e)) tt));
                 tally-is = u;
                 copy = copy;
                 open-less = ho;

@@ -22,6 +22,7 @@ use Rattle.lines.specs.Buffer.{linesIn}
 use Rattle.lines.specs.Occurrence.{told}
 use Rattle.proof.specs.Rows.{byNumber, byStride}
 use Rattle.proof.specs.Check.{Closing, refusal, checkRow, checkEntries, checkBranch}
+use Rattle.rows.specs.Entries.{Multiplies}
 use Rattle.rows.specs.Rows.{Ready, Kept}
 use Rattle.branches.specs.Branches.{Comes, Stopped}
 use Rattle.branches.specs.Formulas.{Heads, Puts}
@@ -36,6 +37,9 @@ use Rattle.branches.specs.declared.branch.Stop.{Stop}
 use Rattle.branches.specs.declared.branch.Branched.{Branched}
 use Rattle.branches.specs.declared.branch.Branched.the-variants as branched
 use Rattle.branches.proofs.Going.{kept-trans}
+
+pub started-room : {K : ℕ} {kinds : List ℕ} {buf : List ℤ} {maskA maskB : List ℕ} {t : Tally} {p : List ℕ} {at o : ℕ} → Started K kinds buf maskA maskB t p at o → o ≤ 5242880
+started-room s = omega (arith, s .room, s .upto, s .size)
 
 -- A branch is its entries.
 pub branch-entries : (K : ℕ) (inA inB : ℕ → Bool) (room rows : ℕ) (ls : List Line) (fs : Fields)
@@ -52,6 +56,17 @@ module _ {K : ℕ} {p : List ℕ} {at : ℕ} {kinds : List ℕ} {buf : List ℤ}
     long = refl;
     by = branch-entries K inA inB (32 - t .«open») _ _ _ ∙ (rw e at s) .by inA inB (below K inA inB (32 - t .«open»));
   }
+
+  -- The row that the entries come to, by the code's answer.
+  module _ {r : Stop} (s : Stopped K p at kinds buf t kinds′ buf′ r) {i : tally.Line} {a next : ℕ} {u : Tally} where
+    pub number-comes : r ≡ Stop.ClosesNumber i a next u → Comes K p at kinds buf t kinds′ buf′ (rules.CloseNumber (i .0)) a next u
+    number-comes e = rw e at (s .by)
+
+    pub stride-comes : {g : ℤ} → r ≡ Stop.ClosesStride i g a next u → Comes K p at kinds buf t kinds′ buf′ (rules.CloseStride (i .0) (natAbs g)) a next u × Multiplies (natAbs g) g
+    stride-comes e = rw e at (s .by)
+
+    pub split-comes : r ≡ Stop.Strengthens i a next u → Comes K p at kinds buf t kinds′ buf′ (rules.Strengthen (i .0)) a next u
+    split-comes e = rw e at (s .by)
 
   module _ {row : rules.Row} {a next : ℕ} {u : Tally} (m : Comes K p at kinds buf t kinds′ buf′ row a next u) (inA inB : ℕ → Bool) where
     -- The row that the entries come to.
@@ -93,7 +108,7 @@ module _ {K : ℕ} {p : List ℕ} {at : ℕ} {kinds : List ℕ} {buf : List ℤ}
         → Branches K p at (told maskA) (told maskB) kinds buf t scratch o kinds′ buf′ scratch′ b
     unfolding checkRow
     number-closed {i} {a} {next} {u} q w ev eb =
-        rw (eb, ev) (row-closed (rw q at (s .by)) (s .kept) st (λ at. byNumber (refusal at) (linesIn K kinds′ buf′ (u .lines .0)) (told maskA) (told maskB) (i .0)) refl e w)
+        rw (eb, ev) (row-closed (number-comes s q) (s .kept) st (λ at. byNumber (refusal at) (linesIn K kinds′ buf′ (u .lines .0)) (told maskA) (told maskB) (i .0)) refl e w)
 
     pub stride-closed : {i : tally.Line} {g : ℤ} {a next : ℕ} {u : Tally} {b : Branched} {v : Tally} → r ≡ Stop.ClosesStride i g a next u
         → EndedBy (λ at. byStride (refusal at) (linesIn K kinds′ buf′ (u .lines .0)) (told maskA) (told maskB) (i .0) (natAbs g)) scratch o scratch′ e
@@ -101,7 +116,7 @@ module _ {K : ℕ} {p : List ℕ} {at : ℕ} {kinds : List ℕ} {buf : List ℤ}
         → Branches K p at (told maskA) (told maskB) kinds buf t scratch o kinds′ buf′ scratch′ b
     unfolding checkRow
     stride-closed {i} {g} {a} {next} {u} q w ev eb =
-        rw (eb, ev) (row-closed ((rw q at (s .by)) .0) (s .kept) st (λ at. byStride (refusal at) (linesIn K kinds′ buf′ (u .lines .0)) (told maskA) (told maskB) (i .0) (natAbs g)) refl e w)
+        rw (eb, ev) (row-closed (stride-comes s q .0) (s .kept) st (λ at. byStride (refusal at) (linesIn K kinds′ buf′ (u .lines .0)) (told maskA) (told maskB) (i .0) (natAbs g)) refl e w)
 
   -- ---- a row that splits it
   module _ {i a next : ℕ} {u : Tally} (m : Comes K p at kinds buf t kinds′ buf′ (rules.Strengthen i) a next u) (k : Kept K (t .lines .0) kinds buf kinds′ buf′) (inA inB : ℕ → Bool) where
@@ -116,78 +131,3 @@ module _ {K : ℕ} {p : List ℕ} {at : ℕ} {kinds : List ℕ} {buf : List ℤ}
       long = refl;
       by = comes-split ∙ (rw e at s) .by inA inB _ a (m .rows) (fieldsAt p next);
     }
-
--- ---- between the calls
--- R is what is left to do from the fields at a on, after so many rows; the n first lines are as they were, and `bytes` are written.
-pub record Pending (K : ℕ) (p : List ℕ) (R : Result Closing) (n : ℕ) (kinds : List ℕ) (buf : List ℤ) (scratch₀ : List ℕ) (o₀ : ℕ)
-    (kinds′ : List ℕ) (buf′ : List ℤ) (a rows : ℕ) (scratch : List ℕ) (o : ℕ) (left : ℕ → Fields → Result Closing) (bytes : List ℕ) : Type 0 where
-  pub is : R ≡ left rows (fieldsAt p a)
-  pub kept : Kept K n kinds buf kinds′ buf′
-  pub long : length scratch ≡ length scratch₀
-  pub o-is : o ≡ o₀ + length bytes
-  pub stored : o₀ + length bytes ≤ length scratch₀ → scratch ≡ sets scratch₀ o₀ bytes
-
--- What is written behind a run that is written.
-both-stored : (scratch₀ : List ℕ) (o₀ : ℕ) (bytes bs : List ℕ) {scratch scratch′ : List ℕ} {o : ℕ} → o ≡ o₀ + length bytes → length scratch ≡ length scratch₀
-    → (o₀ + length bytes ≤ length scratch₀ → scratch ≡ sets scratch₀ o₀ bytes) → (o + length bs ≤ length scratch → scratch′ ≡ sets scratch o bs)
-    → o₀ + length (bytes ++ bs) ≤ length scratch₀ → scratch′ ≡ sets scratch₀ o₀ (bytes ++ bs)
-both-stored scratch₀ o₀ bytes bs {o = o} e l f g h =
-    let s = length-append bytes bs in
-    g (omega arith) ∙ rw (f (omega arith), e) (sym (sets-append bytes bs scratch₀ o₀))
-
-module _ {K : ℕ} {p : List ℕ} {R : Result Closing} {n : ℕ} {kinds : List ℕ} {buf : List ℤ} {scratch₀ : List ℕ} {o₀ : ℕ}
-    {kinds′ : List ℕ} {buf′ : List ℤ} {a rows : ℕ} {scratch : List ℕ} {o : ℕ} where
-  -- The head of an and or an or.
-  pub headed : {left : ℕ → Fields → Result Closing} {bytes : List ℕ} (tag : ℕ) {scratch′ : List ℕ} {o′ : ℕ}
-      → Pending K p R n kinds buf scratch₀ o₀ kinds′ buf′ a rows scratch o left bytes → Heads scratch o tag scratch′ o′
-      → Pending K p R n kinds buf scratch₀ o₀ kinds′ buf′ a rows scratch′ o′ left (bytes ++ fieldBytes tag [])
-  headed {bytes = bytes} tag g h =
-      let w : length (fieldBytes tag []) ≡ 3 = field-size tag [] in
-      record {
-        is = g .is;
-        kept = g .kept;
-        long = h .long ∙ g .long;
-        o-is = omega (arith, h .o-is, g .o-is, length-append bytes (fieldBytes tag []));
-        stored = both-stored scratch₀ o₀ bytes (fieldBytes tag []) (g .o-is) (g .long) (g .stored) (λ l. h .stored (omega arith));
-      }
-
-  -- The next line is in its place.
-  pub lined : {left : ℕ → Fields → Result Closing} {bytes : List ℕ} {kinds″ : List ℕ} {buf″ : List ℤ}
-      → Pending K p R n kinds buf scratch₀ o₀ kinds′ buf′ a rows scratch o left bytes → Kept K n kinds′ buf′ kinds″ buf″
-      → Pending K p R n kinds buf scratch₀ o₀ kinds″ buf″ a rows scratch o left bytes
-  lined g k = record { is = g .is; kept = kept-trans (omega arith) (g .kept) k; long = g .long; o-is = g .o-is; stored = g .stored }
-
-  -- A branch of the line l more is checked, and `go` is left.
-  module _ {inA inB : ℕ → Bool} {room : ℕ} {ls : List Line} (go : Closing → Result Closing) {bytes : List ℕ}
-      (g : Pending K p R n kinds buf scratch₀ o₀ kinds′ buf′ a rows scratch o (λ rows fs. checkBranch edition1 K inA inB room rows ls fs >>= go) bytes)
-      {v : Tally} (v-rows : v .rows .0 ≡ rows) (v-lines : v .lines .0 ≡ n + 1) (v-open : 32 - v .«open» ≡ room) (lines-are : linesIn K kinds′ buf′ (n + 1) ≡ ls)
-      {kinds″ : List ℕ} {buf″ : List ℤ} {scratch′ : List ℕ} {r : Branched} (b : Branches K p a inA inB kinds′ buf′ v scratch o kinds″ buf″ scratch′ r) where
-    call-is : checkBranch edition1 K inA inB (32 - v .«open») (v .rows .0) (linesIn K kinds′ buf′ (v .lines .0)) (fieldsAt p a) ≡ checkBranch edition1 K inA inB room rows ls (fieldsAt p a)
-    call-is = rw (v-open, v-rows, v-lines, lines-are)
-
-    pub call-kept : Kept K n kinds buf kinds″ buf″
-    call-kept = kept-trans {n = v .lines .0} (omega arith) (g .kept) (shorter (b .kept))
-      where
-        shorter : Kept K (v .lines .0) kinds′ buf′ kinds″ buf″ → Kept K (v .lines .0) kinds′ buf′ kinds″ buf″
-        shorter k = k
-
-    pub call-failed : {x c : ℕ} → r ≡ branched.Fault x c → R ≡ refused (refusal c x)
-    unfolding _>>=_
-    call-failed e = g .is ∙ rw (← call-is, rw e at (b .by))
-
-    call-passed-of : {c o′ : ℕ} {v′ : Tally} (x : Closes (checkBranch edition1 K inA inB (32 - v .«open») (v .rows .0) (linesIn K kinds′ buf′ (v .lines .0)) (fieldsAt p a)) p v c scratch o o′ scratch′ v′)
-        → Pending K p R n kinds buf scratch₀ o₀ kinds″ buf″ c (v′ .rows .0) scratch′ o′ (λ rows fs. go (record { formula = x .formula; rows = rows; after = fs })) (bytes ++ encode edition1 (x .formula))
-    unfolding _>>=_
-    call-passed-of x = record {
-      is = g .is ∙ rw (← call-is, x .is);
-      kept = call-kept;
-      long = b .long ∙ g .long;
-      o-is = omega (arith, x .o-is, g .o-is, length-append bytes (encode edition1 (x .formula)));
-      stored = both-stored scratch₀ o₀ bytes (encode edition1 (x .formula)) (g .o-is) (g .long) (g .stored) (x .stored);
-    }
-
-    pub call-passed : {c o′ : ℕ} {v′ : Tally} → r ≡ branched.Closed c o′ v′
-        → (I : Formula) × Pending K p R n kinds buf scratch₀ o₀ kinds″ buf″ c (v′ .rows .0) scratch′ o′ (λ rows fs. go (record { formula = I; rows = rows; after = fs })) (bytes ++ encode edition1 I)
-    call-passed e =
-        let x = rw e at (b .by) in
-        (x .formula, call-passed-of x)

@@ -16,7 +16,7 @@ use Rattle.lines.specs.Branch.{kind-stored, inequality-byte, equality-byte}
 use Rattle.lines.specs.Strengthen.{length-copied, length-t, copied-keeps, t-keeps, copied-line, t-line, third-range}
 use Rattle.lines.specs.Next.{second-branch, third-branch}
 use Rattle.rows.specs.Rows.{Ready, Kept}
-use Rattle.branches.specs.Branching.{Longer}
+use Rattle.branches.specs.Branching.{firstLine, secondLine, thirdLine, Longer}
 use Rattle.branches.proofs.Going.{ready-kept}
 use Rattle.branches.proofs.Splitting.{longer-from}
 
@@ -42,7 +42,7 @@ module _ {K n : ℕ} {kinds : List ℕ} {buf : List ℤ} (ready : Ready K kinds 
   any-kind l h = h
 
   module _ {kinds′ : List ℕ} {buf′ : List ℤ} where
-    pub second-starts : buf′ ≡ copiedLine K i n buf₁ → kinds′ ≡ set kinds₁ n 1 → Longer K kinds₁ buf₁ n (line =0 (lineIn K kinds buf i .t) (lineIn K kinds buf i .tA)) kinds′ buf′
+    pub second-starts : buf′ ≡ copiedLine K i n buf₁ → kinds′ ≡ set kinds₁ n 1 → Longer K kinds₁ buf₁ n (secondLine (lineIn K kinds buf i)) kinds′ buf′
     second-starts e f =
         let c = now-copy in
         let s : Kept K n kinds₁ buf₁ kinds′ buf′ = record {
@@ -54,10 +54,10 @@ module _ {K n : ℕ} {kinds : List ℕ} {buf : List ℤ} (ready : Ready K kinds 
         let new : kindOf (getD kinds′ n 0) ≡ =0 = rw f (kind-stored kinds₁ n 1 (omega (arith, now-ready .room)) ∙ equality-byte) in
         let last : lineIn K kinds′ buf′ n ≡ line =0 (lineIn K kinds buf i .t) (lineIn K kinds buf i .tA) = rw e (copied-line c kinds₁ kinds′ now-line ∙ line-ext new refl refl) in
         longer-from now-ready space s (rw e (second-branch K kinds₁ kinds′ buf₁ n (agree-sym (s .kinds-same)) new c now-line))
-        (subst (λ (l : Line). T (inRange 2147483647 l)) (sym last) (any-kind (lineIn K kinds buf i) in-range))
+        last (any-kind (lineIn K kinds buf i) in-range)
 
-    pub third-starts : T (inRange 2147483647 (line ≤0 (lineIn K kinds buf i .t plus 1) (lineIn K kinds buf i .tA plus 1))) → buf′ ≡ strengthenedT K i n buf₁ → kinds′ ≡ set kinds₁ n 0
-        → Longer K kinds₁ buf₁ n (line ≤0 (lineIn K kinds buf i .t plus 1) (lineIn K kinds buf i .tA)) kinds′ buf′
+    pub third-starts : T (inRange 2147483647 (firstLine (lineIn K kinds buf i))) → buf′ ≡ strengthenedT K i n buf₁ → kinds′ ≡ set kinds₁ n 0
+        → Longer K kinds₁ buf₁ n (thirdLine (lineIn K kinds buf i)) kinds′ buf′
     third-starts first e f =
         let c = now-copy in
         let s : Kept K n kinds₁ buf₁ kinds′ buf′ = record {
@@ -69,5 +69,4 @@ module _ {K n : ℕ} {kinds : List ℕ} {buf : List ℤ} (ready : Ready K kinds 
         let new : kindOf (getD kinds′ n 0) ≡ ≤0 = rw f (kind-stored kinds₁ n 0 (omega (arith, now-ready .room)) ∙ inequality-byte) in
         let last : lineIn K kinds′ buf′ n ≡ line ≤0 (lineIn K kinds buf i .t plus 1) (lineIn K kinds buf i .tA) = rw e (t-line c kinds₁ kinds′ now-line ∙ line-ext new refl refl) in
         longer-from now-ready space s (rw e (third-branch K kinds₁ kinds′ buf₁ n (agree-sym (s .kinds-same)) new c now-line))
-        (subst (λ (l : Line). T (inRange 2147483647 l)) (sym last)
-        (third-range 2147483647 (lineIn K kinds buf i .kind) ≤0 ≤0 (lineIn K kinds buf i .t) (lineIn K kinds buf i .tA) in-range first))
+        last (third-range 2147483647 (lineIn K kinds buf i .kind) ≤0 ≤0 (lineIn K kinds buf i .t) (lineIn K kinds buf i .tA) in-range first)

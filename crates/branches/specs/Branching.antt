@@ -4,12 +4,13 @@ use mathlib.Core.Bool.{Bool}
 use mathlib.Core.List.{List}
 use mathlib.Core.Option.{Option, none, some}
 use Prim.Native.Nat.{ℕ, zero, suc, _+_, _-_, _*_, _<_, _≤_}
+use lib.Dec.{T}
 use lib.IntN.{ℤ}
 use lib.ListN.{length}
 use lib.Seq.{sets}
 use Rattle.forms.specs.Edition.{edition1}
 use Rattle.forms.specs.Forms.{≤0, =0, Line, line, Formula, _and_, _or_, _plus_}
-use Rattle.calculus.specs.Rules.{_▷_, Strengthen}
+use Rattle.calculus.specs.Rules.{_▷_, Strengthen, inRange}
 use Rattle.fields.specs.Answers.{Result, refused, accepted, _>>=_}
 use Rattle.fields.specs.Fields.{Fields}
 use Rattle.fields.specs.Places.{fieldsAt}
@@ -45,19 +46,36 @@ abbrev pub below : (K : ℕ) (inA inB : ℕ → Bool) (room : ℕ) → Option Ch
 below K inA inB zero = none
 below K inA inB (suc room) = some (checkBranch edition1 K inA inB room)
 
--- The three branches of a strengthen of line l.
+-- A closing, and one of the fields behind it, as one.
+abbrev pub joining : (Formula → Formula → Formula) → Closing → Closing → Closing
+joining make x y = record { formula = make (x .formula) (y .formula); rows = y .rows; after = y .after }
+
+abbrev pub joined : (Formula → Formula → Formula) → Result Closing → (ℕ → Fields → Result Closing) → Result Closing
+joined make first second = first >>= λ x. (second (x .rows) (x .after) >>= λ y. accepted (joining make x y))
+
+-- The lines that the branches of a strengthen of line l start with.
+abbrev pub firstLine : Line → Line
+firstLine l = line ≤0 (l .t plus 1) (l .tA plus 1)
+
+abbrev pub secondLine : Line → Line
+secondLine l = line =0 (l .t) (l .tA)
+
+abbrev pub thirdLine : Line → Line
+thirdLine l = line ≤0 (l .t plus 1) (l .tA)
+
+-- Its second branch and its third, and all three.
+abbrev pub lastTwo : (branch : Checker) (ls : List Line) (l : Line) (rows : ℕ) (fs : Fields) → Result Closing
+lastTwo branch ls l rows fs = joined _and_ (branch rows (ls ▷ secondLine l) fs) (λ rows fs. branch rows (ls ▷ thirdLine l) fs)
+
 abbrev pub three : (branch : Checker) (ls : List Line) (l : Line) (rows : ℕ) (fs : Fields) → Result Closing
-three branch ls l rows fs =
-    branch rows (ls ▷ line ≤0 (l .t plus 1) (l .tA plus 1)) fs >>= λ first.
-    (branch (first .rows) (ls ▷ line =0 (l .t) (l .tA)) (first .after) >>= λ second.
-    (branch (second .rows) (ls ▷ line ≤0 (l .t plus 1) (l .tA)) (second .after) >>= λ third.
-    accepted (record { formula = first .formula or (second .formula and third .formula); rows = third .rows; after = third .after })))
+three branch ls l rows fs = joined _or_ (branch rows (ls ▷ firstLine l) fs) (λ rows fs. lastTwo branch ls l rows fs)
 
 -- The branch of n lines has the line l more.
 pub record Longer (K : ℕ) (kinds : List ℕ) (buf : List ℤ) (n : ℕ) (l : Line) (kinds′ : List ℕ) (buf′ : List ℤ) : Type 0 where
   pub kept : Kept K n kinds buf kinds′ buf′
   pub ready : Ready K kinds′ buf′ (n + 1)
   pub lines : linesIn K kinds′ buf′ (n + 1) ≡ linesIn K kinds buf n ▷ l
+  pub small : T (inRange 2147483647 l)
 
 abbrev pub strengthened : (K : ℕ) (kinds : List ℕ) (buf : List ℤ) (t : Tally) (i : ℕ) (inA inB : ℕ → Bool) (next : Next) (at rows : ℕ) (fs : Fields) → Result Closing
 strengthened K kinds buf t i inA inB next at rows fs = checkRow edition1 K inA inB (below K inA inB (32 - t .«open»)) next at rows (linesIn K kinds buf (t .lines .0)) fs (Strengthen i)
@@ -66,7 +84,7 @@ pub record Opened (K : ℕ) (kinds : List ℕ) (buf : List ℤ) (t : Tally) (i :
   pub is : (inA inB : ℕ → Bool) (next : Next) (at rows : ℕ) (fs : Fields)
       → strengthened K kinds buf t i inA inB next at rows fs
       ≡ three (checkBranch edition1 K inA inB (31 - t .«open»)) (linesIn K kinds buf (t .lines .0)) (lineIn K kinds buf i) (suc rows) fs
-  pub longer : Longer K kinds buf (t .lines .0) (line ≤0 (lineIn K kinds buf i .t plus 1) (lineIn K kinds buf i .tA plus 1)) kinds′ buf′
+  pub longer : Longer K kinds buf (t .lines .0) (firstLine (lineIn K kinds buf i)) kinds′ buf′
   pub tally-is : t′ ≡ tally (t .rows .0) (t .lines .0 + 1) (t .«open» + 1)
   pub copy : LineCopy K buf i (t .lines .0)
   pub open-less : t .«open» < 32
@@ -88,6 +106,11 @@ returnedTo t given = tally (t .rows .0) (given .lines .0) (given .«open»)
 abbrev pub closedBy : ended.Ended → (at next : ℕ) → Tally → branched.Branched
 closedBy (ended-of.Refused x) at next t = branched-of.Fault x at
 closedBy (ended-of.Written o) at next t = branched-of.Closed next o t
+
+-- The branch goes on where the branches that it opened end.
+abbrev pub resumedBy : branched.Branched → (given : Tally) → branched.Branched
+resumedBy (branched-of.Fault x at) given = branched-of.Fault x at
+resumedBy (branched-of.Closed at o t) given = branched-of.Closed at o (returnedTo t given)
 
 -- What a branch asks: its lines, the masks, and that what is written so far has at most 78 bytes for each byte read.
 pub record Started (K : ℕ) (kinds : List ℕ) (buf : List ℤ) (maskA maskB : List ℕ) (t : Tally) (p : List ℕ) (at o : ℕ) : Type 0 where
@@ -113,8 +136,42 @@ abbrev pub BranchedBy : (R : Result Closing) (p : List ℕ) (t : Tally) (scratch
 BranchedBy R p t scratch o scratch′ (branched-of.Fault x at) = R ≡ refused (refusal at x)
 BranchedBy R p t scratch o scratch′ (branched-of.Closed a o′ t′) = Closes R p t a scratch o o′ scratch′ t′
 
-pub record Branches (K : ℕ) (p : List ℕ) (at : ℕ) (inA inB : ℕ → Bool) (kinds : List ℕ) (buf : List ℤ) (t : Tally) (scratch : List ℕ) (o : ℕ)
+-- R is checked from the n first lines on, which are kept.
+pub record Checks (R : Result Closing) (K n : ℕ) (p : List ℕ) (kinds : List ℕ) (buf : List ℤ) (t : Tally) (scratch : List ℕ) (o : ℕ)
     (kinds′ : List ℕ) (buf′ : List ℤ) (scratch′ : List ℕ) (r : branched.Branched) : Type 0 where
-  pub kept : Kept K (t .lines .0) kinds buf kinds′ buf′
+  pub kept : Kept K n kinds buf kinds′ buf′
   pub long : length scratch′ ≡ length scratch
-  pub by : BranchedBy (checkBranch edition1 K inA inB (32 - t .«open») (t .rows .0) (linesIn K kinds buf (t .lines .0)) (fieldsAt p at)) p t scratch o scratch′ r
+  pub by : BranchedBy R p t scratch o scratch′ r
+
+abbrev pub Branches : (K : ℕ) (p : List ℕ) (at : ℕ) (inA inB : ℕ → Bool) (kinds : List ℕ) (buf : List ℤ) (t : Tally) (scratch : List ℕ) (o : ℕ)
+    (kinds′ : List ℕ) (buf′ : List ℤ) (scratch′ : List ℕ) (r : branched.Branched) → Type 0
+Branches K p at inA inB kinds buf t scratch o kinds′ buf′ scratch′ r =
+    Checks (checkBranch edition1 K inA inB (32 - t .«open») (t .rows .0) (linesIn K kinds buf (t .lines .0)) (fieldsAt p at)) K (t .lines .0) p kinds buf t scratch o kinds′ buf′ scratch′ r
+
+-- ---- its split
+-- What the branches of a strengthen of line i ask, where n lines stand before their own: there is room for the head of their formula too.
+pub record Divided (K n : ℕ) (kinds : List ℕ) (buf : List ℤ) (maskA maskB : List ℕ) (t : Tally) (i : ℕ) (p : List ℕ) (at o : ℕ) : Type 0 where
+  pub ready : Ready K kinds buf n
+  pub a-mask : K ≤ length maskA
+  pub b-mask : K ≤ length maskB
+  pub size : length p ≤ 65536
+  pub upto : at ≤ length p
+  pub room : o + 3 ≤ 78 * at
+  pub line : i < n
+  pub space : n < 128
+  pub lines-is : t .lines .0 ≡ n + 1
+  pub small : T (inRange 2147483647 (firstLine (lineIn K kinds buf i)))
+
+-- The first branch's line stands behind the n lines.
+abbrev pub FirstStands : (K n : ℕ) (kinds : List ℕ) (buf : List ℤ) (i : ℕ) → Type 0
+FirstStands K n kinds buf i = Longer K kinds buf n (firstLine (lineIn K kinds buf i)) kinds buf
+
+abbrev pub ChecksRest : (K n : ℕ) (p : List ℕ) (at : ℕ) (inA inB : ℕ → Bool) (kinds : List ℕ) (buf : List ℤ) (t : Tally) (i : ℕ) (scratch : List ℕ) (o : ℕ)
+    (kinds′ : List ℕ) (buf′ : List ℤ) (scratch′ : List ℕ) (r : branched.Branched) → Type 0
+ChecksRest K n p at inA inB kinds buf t i scratch o kinds′ buf′ scratch′ r =
+    Checks (lastTwo (checkBranch edition1 K inA inB (32 - t .«open»)) (linesIn K kinds buf n) (lineIn K kinds buf i) (t .rows .0) (fieldsAt p at)) K n p kinds buf t scratch o kinds′ buf′ scratch′ r
+
+abbrev pub ChecksSplit : (K n : ℕ) (p : List ℕ) (at : ℕ) (inA inB : ℕ → Bool) (kinds : List ℕ) (buf : List ℤ) (t : Tally) (i : ℕ) (scratch : List ℕ) (o : ℕ)
+    (kinds′ : List ℕ) (buf′ : List ℤ) (scratch′ : List ℕ) (r : branched.Branched) → Type 0
+ChecksSplit K n p at inA inB kinds buf t i scratch o kinds′ buf′ scratch′ r =
+    Checks (three (checkBranch edition1 K inA inB (32 - t .«open»)) (linesIn K kinds buf n) (lineIn K kinds buf i) (t .rows .0) (fieldsAt p at)) K n p kinds buf t scratch o kinds′ buf′ scratch′ r

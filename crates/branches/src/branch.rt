@@ -1,11 +1,19 @@
-// The entries of a branch, up to the row that splits or ends it.
+// A branch: its entries up to the row that splits or ends it, and the branches that it opens.
 ghost use Rattle.rows.specs.Rows.{Ready};
 ghost use Rattle.branches.specs.Branches.{Stopped};
 ghost use mathlib.Core.Path.{_≡_};
-ghost use Rattle.branches.specs.Branching.{returnedTo, closedBy};
+ghost use Rattle.lines.specs.Occurrence.{told};
+ghost use Rattle.branches.specs.Branching.{returnedTo, closedBy, resumedBy, Started, Branches, Divided, FirstStands, ChecksRest, ChecksSplit};
 use crate::ends::Ended;
+use crate::ends::close_number;
+use crate::ends::close_stride;
+use crate::ends::split;
+use crate::ends::start_second;
+use crate::ends::start_third;
+use crate::formulas::put_pair;
 use fields::Next;
 use fields::next_field;
+use rows::derive::Derived;
 use rows::steps::Stepped;
 use rows::steps::step;
 use rows::tally::Line;
@@ -137,5 +145,148 @@ fn closed(e: Ended, at: usize, next: usize, tally: Tally) -> Branched
     match e {
         Ended::Refused { number } => Branched::Fault { number, at },
         Ended::Written { o } => Branched::Closed { at: next, o, tally },
+    }
+}
+
+fn resumed(b: Branched, given: Tally) -> Branched
+    ensures { λ r. ⌜ r ≡ resumedBy b given ⌝ }
+{
+    match b {
+        Branched::Fault { number, at } => Branched::Fault { number, at },
+        Branched::Closed { at, o, tally } => {
+            let t = returned(tally, given);
+            Branched::Closed { at, o, tally: t }
+        }
+    }
+}
+
+// The formula's bytes go into the scratch from o on, as far as they fit.
+pub fn check_branch(
+    p: &[u8],
+    at: usize,
+    lines: &mut [i64],
+    kinds: &mut [u8],
+    tally: Tally,
+    k: usize,
+    in_a: &[u8],
+    in_b: &[u8],
+    scratch: &mut [u8],
+    o: usize,
+) -> Branched
+    requires { ⌜ Started k (now kinds) (now lines) (now in_a) (now in_b) tally (now p) at o ⌝ }
+    ensures { λ r. ⌜ Branches k (now (p .entry)) at (told (now (in_a .entry))) (told (now (in_b .entry))) (now (kinds .entry)) (now (lines .entry)) tally (now (scratch .entry)) o (now (kinds .exit)) (now (lines .exit)) (now (scratch .exit)) r ⌝ }
+{
+    match entries(p, at, lines, kinds, tally, k) {
+        Stop::Fault { number, at: a } => {
+            return Branched::Fault { number, at: a };
+        }
+        Stop::ClosesNumber {
+            t,
+            at: a,
+            next,
+            tally: u,
+        } => {
+            let e = close_number(lines, kinds, u, t, in_a, in_b, k, scratch, o);
+            let v = returned(u, tally);
+            return closed(e, a, next, v);
+        }
+        Stop::ClosesStride {
+            t,
+            g,
+            at: a,
+            next,
+            tally: u,
+        } => {
+            let e = close_stride(lines, kinds, u, t, g, in_a, in_b, k, scratch, o);
+            let v = returned(u, tally);
+            return closed(e, a, next, v);
+        }
+        Stop::Strengthens {
+            t,
+            at: a,
+            next,
+            tally: u,
+        } => {
+            match split(lines, kinds, u, t, k) {
+                Derived::Refused { number } => {
+                    return Branched::Fault { number, at: a };
+                }
+                Derived::Made { tally: v } => {
+                    let count = u.lines;
+                    let n = count.0 as usize;
+                    let b = check_split(p, next, lines, kinds, v, t, n, k, in_a, in_b, scratch, o);
+                    return resumed(b, tally);
+                }
+            }
+        }
+    }
+}
+
+// The branches of a strengthen of line i, each from n lines and its own: the first, or both others.
+fn check_split(
+    p: &[u8],
+    at: usize,
+    lines: &mut [i64],
+    kinds: &mut [u8],
+    tally: Tally,
+    i: Line,
+    n: usize,
+    k: usize,
+    in_a: &[u8],
+    in_b: &[u8],
+    scratch: &mut [u8],
+    o: usize,
+) -> Branched
+    requires { ⌜ Divided k n (now kinds) (now lines) (now in_a) (now in_b) tally (i .0) (now p) at o ⌝ }
+    requires { ⌜ FirstStands k n (now kinds) (now lines) (i .0) ⌝ }
+    ensures { λ r. ⌜ ChecksSplit k n (now (p .entry)) at (told (now (in_a .entry))) (told (now (in_b .entry))) (now (kinds .entry)) (now (lines .entry)) tally (i .0) (now (scratch .entry)) o (now (kinds .exit)) (now (lines .exit)) (now (scratch .exit)) r ⌝ }
+{
+    let head = put_pair(scratch, o, 0x31);
+    match check_branch(p, at, lines, kinds, tally, k, in_a, in_b, scratch, head) {
+        Branched::Fault { number, at: a } => {
+            return Branched::Fault { number, at: a };
+        }
+        Branched::Closed {
+            at: a,
+            o: end,
+            tally: t,
+        } => {
+            return check_rest(p, a, lines, kinds, t, i, n, k, in_a, in_b, scratch, end);
+        }
+    }
+}
+
+// The second branch and the third.
+fn check_rest(
+    p: &[u8],
+    at: usize,
+    lines: &mut [i64],
+    kinds: &mut [u8],
+    tally: Tally,
+    i: Line,
+    n: usize,
+    k: usize,
+    in_a: &[u8],
+    in_b: &[u8],
+    scratch: &mut [u8],
+    o: usize,
+) -> Branched
+    requires { ⌜ Divided k n (now kinds) (now lines) (now in_a) (now in_b) tally (i .0) (now p) at o ⌝ }
+    ensures { λ r. ⌜ ChecksRest k n (now (p .entry)) at (told (now (in_a .entry))) (told (now (in_b .entry))) (now (kinds .entry)) (now (lines .entry)) tally (i .0) (now (scratch .entry)) o (now (kinds .exit)) (now (lines .exit)) (now (scratch .exit)) r ⌝ }
+{
+    start_second(lines, kinds, i, n, k);
+    let head = put_pair(scratch, o, 0x32);
+    match check_branch(p, at, lines, kinds, tally, k, in_a, in_b, scratch, head) {
+        Branched::Fault { number, at: a } => {
+            return Branched::Fault { number, at: a };
+        }
+        Branched::Closed {
+            at: a,
+            o: end,
+            tally: t,
+        } => {
+            start_third(lines, kinds, i, n, k);
+            return check_branch(p, a, lines, kinds, t, k, in_a, in_b, scratch, end);
+        }
     }
 }
