@@ -2,8 +2,8 @@
 use crate::ending::Ending;
 use crate::ending::ending_at;
 use crate::load::load;
-use crate::standin::check_branch;
 use branches::branch::Branched;
+use branches::branch::check_branch;
 use bundle::scan;
 use fields::Answer;
 use fields::FileKind;

@@ -2,4 +2,3 @@
 pub mod check;
 pub mod ending;
 pub mod load;
-pub mod standin;
