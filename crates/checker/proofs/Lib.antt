@@ -1,0 +1,2 @@
+-- What is printed is what the check leaves.
+pub mod Printing

@@ -1,0 +1,2 @@
+-- What the check program prints.
+pub mod Said
