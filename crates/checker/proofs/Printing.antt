@@ -8,12 +8,12 @@ use lib.ListN.{length, take, drop, length-append, length-take}
 use lib.Seq.{take-all}
 use lib.Dec.{leb}
 use Rattle.fields.specs.Answers.{Result, refused, accepted, Written, over, fit, written}
-use Rattle.files.specs.Text.{Put, PutNumber, PutRefused, RefusedLine, hexOf, end-line}
+use Rattle.files.specs.Text.{Put, PutNumber, PutRefused, RefusedLine, ascii, hexOf}
 use Rattle.files.proofs.Texts.{both}
 use Rattle.proof.specs.Check.{check}
 use Rattle.checking.specs.declared.check.Checked.{Checked}
 use Rattle.checking.specs.Whole.{writtenOf}
-use Rattle.checker.specs.Said.{accepted-word, AcceptedLines, Printed, PutAccepted, Room}
+use Rattle.checker.specs.Said.{AcceptedLines, Printed, PutAccepted, Room}
 
 -- ---- the bytes written are there
 fit-counts : (out bytes : List ℕ) (b : Bool) → fit out b bytes .count ≤ length (fit out b bytes .output)
@@ -39,13 +39,13 @@ unfolding hexOf
 hex-length [] = refl
 hex-length (b ∷ bytes) = omega (arith, hex-length bytes)
 
-pub accepted-put : {was one two three is : List ℕ} {r s t u : ℕ} (bytes : List ℕ) → PutNumber was 0 accepted-word (length bytes) one r → Put one r end-line two s → Put two s (hexOf bytes) three t → Put three t end-line is u → PutAccepted was bytes is u
+pub accepted-put : {was one two three is : List ℕ} {r s t u : ℕ} (bytes : List ℕ) → PutNumber was 0 (ascii "accepted ") (length bytes) one r → Put one r (ascii "\n") two s → Put two s (hexOf bytes) three t → Put three t (ascii "\n") is u → PutAccepted was bytes is u
 accepted-put bytes n e h l =
-    let first = accepted-word ++ n .text ++ end-line in
+    let first = ascii "accepted " ++ n .text ++ ascii "\n" in
     record {
-      lines = first ++ hexOf bytes ++ end-line;
+      lines = first ++ hexOf bytes ++ ascii "\n";
       acceptance = record { count-text = n .text; count-is = n .decimal; is = refl };
-      few = omega (arith, length-append (first ++ hexOf bytes) end-line, length-append first (hexOf bytes), length-append (accepted-word ++ n .text) end-line, length-append accepted-word (n .text), n .few, hex-length bytes);
+      few = omega (arith, length-append (first ++ hexOf bytes) (ascii "\n"), length-append first (hexOf bytes), length-append (ascii "accepted " ++ n .text) (ascii "\n"), length-append (ascii "accepted ") (n .text), n .few, hex-length bytes);
       put = both (both (both (n .put) e) h) l;
     }
 

@@ -1,2 +1,3 @@
--- What the check program prints.
+-- What the check program prints, and what document 01 shows of it.
 pub mod Said
+pub mod Shown

@@ -1,20 +1,16 @@
 -- What the check program prints. Document 01, after "Worked stages". Assumes nothing.
 use Prim.Native.Nat.{ℕ, _+_, _*_, _≤_}
 use mathlib.Core.Path.{_≡_}
-use mathlib.Core.List.{List, [], _∷_, _++_}
+use mathlib.Core.List.{List, _++_}
 use lib.ListN.{length, take}
 use Rattle.fields.specs.Answers.{Written}
-use Rattle.files.specs.Text.{Put, Decimal, RefusedLine, hexOf, end-line}
-
--- `accepted `
-abbrev pub accepted-word : List ℕ
-accepted-word = 97 ∷ 99 ∷ 99 ∷ 101 ∷ 112 ∷ 116 ∷ 101 ∷ 100 ∷ 32 ∷ []
+use Rattle.files.specs.Text.{Put, Decimal, RefusedLine, ascii, hexOf}
 
 -- s is two lines: the word and how many bytes there are, then their capital hexadecimal digits
 pub record AcceptedLines (bytes s : List ℕ) : Type 0 where
   pub count-text : List ℕ
   pub count-is : Decimal (length bytes) count-text
-  pub is : s ≡ accepted-word ++ count-text ++ end-line ++ hexOf bytes ++ end-line
+  pub is : s ≡ ascii "accepted " ++ count-text ++ ascii "\n" ++ hexOf bytes ++ ascii "\n"
 
 -- s is what is printed of what a check leaves: the bytes written, or the number, file and place of its refusal
 pub record Printed (w : Written) (s : List ℕ) : Type 0 where
