@@ -147,31 +147,3 @@ abbrev pub Branches : (K : ℕ) (p : List ℕ) (at : ℕ) (inA inB : ℕ → Boo
     (kinds′ : List ℕ) (buf′ : List ℤ) (scratch′ : List ℕ) (r : branched.Branched) → Type 0
 Branches K p at inA inB kinds buf t scratch o kinds′ buf′ scratch′ r =
     Checks (checkBranch edition1 K inA inB (32 - t .«open») (t .rows .0) (linesIn K kinds buf (t .lines .0)) (fieldsAt p at)) K (t .lines .0) p kinds buf t scratch o kinds′ buf′ scratch′ r
-
--- ---- its split
--- What the branches of a strengthen of line i ask, where n lines stand before their own: there is room for the head of their formula too.
-pub record Divided (K n : ℕ) (kinds : List ℕ) (buf : List ℤ) (maskA maskB : List ℕ) (t : Tally) (i : ℕ) (p : List ℕ) (at o : ℕ) : Type 0 where
-  pub ready : Ready K kinds buf n
-  pub a-mask : K ≤ length maskA
-  pub b-mask : K ≤ length maskB
-  pub size : length p ≤ 65536
-  pub upto : at ≤ length p
-  pub room : o + 3 ≤ 78 * at
-  pub line : i < n
-  pub space : n < 128
-  pub lines-is : t .lines .0 ≡ n + 1
-  pub small : T (inRange 2147483647 (firstLine (lineIn K kinds buf i)))
-
--- The first branch's line stands behind the n lines.
-abbrev pub FirstStands : (K n : ℕ) (kinds : List ℕ) (buf : List ℤ) (i : ℕ) → Type 0
-FirstStands K n kinds buf i = Longer K kinds buf n (firstLine (lineIn K kinds buf i)) kinds buf
-
-abbrev pub ChecksRest : (K n : ℕ) (p : List ℕ) (at : ℕ) (inA inB : ℕ → Bool) (kinds : List ℕ) (buf : List ℤ) (t : Tally) (i : ℕ) (scratch : List ℕ) (o : ℕ)
-    (kinds′ : List ℕ) (buf′ : List ℤ) (scratch′ : List ℕ) (r : branched.Branched) → Type 0
-ChecksRest K n p at inA inB kinds buf t i scratch o kinds′ buf′ scratch′ r =
-    Checks (lastTwo (checkBranch edition1 K inA inB (32 - t .«open»)) (linesIn K kinds buf n) (lineIn K kinds buf i) (t .rows .0) (fieldsAt p at)) K n p kinds buf t scratch o kinds′ buf′ scratch′ r
-
-abbrev pub ChecksSplit : (K n : ℕ) (p : List ℕ) (at : ℕ) (inA inB : ℕ → Bool) (kinds : List ℕ) (buf : List ℤ) (t : Tally) (i : ℕ) (scratch : List ℕ) (o : ℕ)
-    (kinds′ : List ℕ) (buf′ : List ℤ) (scratch′ : List ℕ) (r : branched.Branched) → Type 0
-ChecksSplit K n p at inA inB kinds buf t i scratch o kinds′ buf′ scratch′ r =
-    Checks (three (checkBranch edition1 K inA inB (32 - t .«open»)) (linesIn K kinds buf n) (lineIn K kinds buf i) (t .rows .0) (fieldsAt p at)) K n p kinds buf t scratch o kinds′ buf′ scratch′ r

@@ -3,7 +3,7 @@ ghost use Rattle.rows.specs.Rows.{Ready};
 ghost use Rattle.branches.specs.Branches.{Stopped};
 ghost use mathlib.Core.Path.{_≡_};
 ghost use Rattle.lines.specs.Occurrence.{told};
-ghost use Rattle.branches.specs.Branching.{returnedTo, closedBy, resumedBy, Started, Branches, Divided, FirstStands, ChecksRest, ChecksSplit};
+ghost use Rattle.branches.specs.Branching.{returnedTo, closedBy, resumedBy, Started, Branches};
 use crate::ends::Ended;
 use crate::ends::close_number;
 use crate::ends::close_stride;
@@ -214,79 +214,54 @@ pub fn check_branch(
                 Derived::Made { tally: v } => {
                     let count = u.lines;
                     let n = count.0 as usize;
-                    let b = check_split(p, next, lines, kinds, v, t, n, k, in_a, in_b, scratch, o);
-                    return resumed(b, tally);
+                    let head = put_pair(scratch, o, 0x31);
+                    let first = check_branch(
+                        p,
+                        next,
+                        lines,
+                        kinds,
+                        v,
+                        k,
+                        in_a,
+                        in_b,
+                        scratch,
+                        head,
+                    );
+                    let Branched::Closed {
+                        at: a1,
+                        o: o1,
+                        tally: v1,
+                    } = first
+                    else {
+                        return first;
+                    };
+                    start_second(lines, kinds, t, n, k);
+                    let head2 = put_pair(scratch, o1, 0x32);
+                    let second = check_branch(
+                        p,
+                        a1,
+                        lines,
+                        kinds,
+                        v1,
+                        k,
+                        in_a,
+                        in_b,
+                        scratch,
+                        head2,
+                    );
+                    let Branched::Closed {
+                        at: a2,
+                        o: o2,
+                        tally: v2,
+                    } = second
+                    else {
+                        return second;
+                    };
+                    start_third(lines, kinds, t, n, k);
+                    let third = check_branch(p, a2, lines, kinds, v2, k, in_a, in_b, scratch, o2);
+                    return resumed(third, tally);
                 }
             }
-        }
-    }
-}
-
-// The branches of a strengthen of line i, each from n lines and its own: the first, or both others.
-fn check_split(
-    p: &[u8],
-    at: usize,
-    lines: &mut [i64],
-    kinds: &mut [u8],
-    tally: Tally,
-    i: Line,
-    n: usize,
-    k: usize,
-    in_a: &[u8],
-    in_b: &[u8],
-    scratch: &mut [u8],
-    o: usize,
-) -> Branched
-    requires { ⌜ Divided k n (now kinds) (now lines) (now in_a) (now in_b) tally (i .0) (now p) at o ⌝ }
-    requires { ⌜ FirstStands k n (now kinds) (now lines) (i .0) ⌝ }
-    ensures { λ r. ⌜ ChecksSplit k n (now (p .entry)) at (told (now (in_a .entry))) (told (now (in_b .entry))) (now (kinds .entry)) (now (lines .entry)) tally (i .0) (now (scratch .entry)) o (now (kinds .exit)) (now (lines .exit)) (now (scratch .exit)) r ⌝ }
-{
-    let head = put_pair(scratch, o, 0x31);
-    match check_branch(p, at, lines, kinds, tally, k, in_a, in_b, scratch, head) {
-        Branched::Fault { number, at: a } => {
-            return Branched::Fault { number, at: a };
-        }
-        Branched::Closed {
-            at: a,
-            o: end,
-            tally: t,
-        } => {
-            return check_rest(p, a, lines, kinds, t, i, n, k, in_a, in_b, scratch, end);
-        }
-    }
-}
-
-// The second branch and the third.
-fn check_rest(
-    p: &[u8],
-    at: usize,
-    lines: &mut [i64],
-    kinds: &mut [u8],
-    tally: Tally,
-    i: Line,
-    n: usize,
-    k: usize,
-    in_a: &[u8],
-    in_b: &[u8],
-    scratch: &mut [u8],
-    o: usize,
-) -> Branched
-    requires { ⌜ Divided k n (now kinds) (now lines) (now in_a) (now in_b) tally (i .0) (now p) at o ⌝ }
-    ensures { λ r. ⌜ ChecksRest k n (now (p .entry)) at (told (now (in_a .entry))) (told (now (in_b .entry))) (now (kinds .entry)) (now (lines .entry)) tally (i .0) (now (scratch .entry)) o (now (kinds .exit)) (now (lines .exit)) (now (scratch .exit)) r ⌝ }
-{
-    start_second(lines, kinds, i, n, k);
-    let head = put_pair(scratch, o, 0x32);
-    match check_branch(p, at, lines, kinds, tally, k, in_a, in_b, scratch, head) {
-        Branched::Fault { number, at: a } => {
-            return Branched::Fault { number, at: a };
-        }
-        Branched::Closed {
-            at: a,
-            o: end,
-            tally: t,
-        } => {
-            start_third(lines, kinds, i, n, k);
-            return check_branch(p, a, lines, kinds, t, k, in_a, in_b, scratch, end);
         }
     }
 }

@@ -3,7 +3,7 @@
 ghost use Prim.Native.Nat.{_≤_, _<_, min};
 ghost use mathlib.Core.Path.{_≡_};
 ghost use mathlib.Core.List.{[]};
-ghost use Rattle.files.specs.Text.{Put, PutNumber, glyph, pairOf, hexOf};
+ghost use Rattle.files.specs.Text.{Put, PutNumber, PutRefused, glyph, pairOf, hexOf};
 ghost use Rattle.io.specs.Counts.{Counts};
 
 // Reads to the end of what fd has, or until buf is full. A read that fails makes it 0, as if nothing were there.
@@ -115,6 +115,7 @@ pub fn put_number(buf: &mut [u8], at: usize, word: &[u8], n: u64) -> usize
 // The line of a refusal: its number, file and place.
 pub fn put_refused(buf: &mut [u8], number: u8, file: u8, place: usize) -> usize
     ensures { λ r. ⌜ Counts r (now (buf .exit)) ⌝ }
+    ensures { λ r. ⌜ PutRefused (now (buf .entry)) number file place (now (buf .exit)) r ⌝ }
 {
     let mut end = put_number(buf, 0, b"refused ", number as u64);
     end = put_number(buf, end, b" file ", file as u64);

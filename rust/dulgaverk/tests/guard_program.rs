@@ -1,61 +1,30 @@
 //! The guard program at its edges: what it prints for files that are right, wrong, missing, long or no files at all.
 
-use std::fs;
-use std::path::PathBuf;
-use std::process::Command;
+mod common;
+use common::Folder;
 
 /// "2 divides y" over x, y, z.
 const FORMULA: &[u8] =
     b"\x01\0\x01\x01\x02\0\x01\x03\x35\0\x14\0\0\0\x02\0\0\0\0\0\0\0\x01\0\0\0\0\0\0\0\0";
 
-fn program() -> PathBuf {
-    PathBuf::from(env!("CARGO_MANIFEST_DIR")).join("../../target/bin/guard")
-}
-
 fn values(list: &[i32]) -> Vec<u8> {
     list.iter().flat_map(|v| v.to_be_bytes()).collect()
 }
 
-/// A working directory of its own for each run.
-struct Folder(PathBuf);
-
-impl Folder {
-    fn new(name: &str) -> Folder {
-        let path = std::env::temp_dir().join(format!("guard-{}-{name}", std::process::id()));
-        let _ = fs::remove_dir_all(&path);
-        fs::create_dir_all(&path).expect("a folder");
-        Folder(path)
-    }
-
-    fn with(self, name: &str, bytes: &[u8]) -> Folder {
-        fs::write(self.0.join(name), bytes).expect("a file");
-        self
-    }
-
-    fn prints(self, expected: &str) {
-        let output = Command::new(program())
-            .current_dir(&self.0)
-            .output()
-            .expect("the guard program, which rt check builds");
-        let _ = fs::remove_dir_all(&self.0);
-        assert_eq!(String::from_utf8_lossy(&output.stdout), expected);
-    }
+fn folder(name: &str) -> Folder {
+    Folder::new("guard", name)
 }
 
 #[test]
 fn true_and_false() {
-    let run = |name: &str, list: &[i32]| {
-        Folder::new(name)
-            .with("f", FORMULA)
-            .with("v", &values(list))
-    };
+    let run = |name: &str, list: &[i32]| folder(name).with("f", FORMULA).with("v", &values(list));
     run("true", &[1, 4, -7]).prints("true\n");
     run("false", &[1, -3, 0]).prints("false\n");
 }
 
 #[test]
 fn values_out_of_range_or_number() {
-    let run = |name: &str, v: &[u8]| Folder::new(name).with("f", FORMULA).with("v", v);
+    let run = |name: &str, v: &[u8]| folder(name).with("f", FORMULA).with("v", v);
     run("range", &values(&[0, 0, -1_000_001])).prints("refused 23 file 4 at 2\n");
     run("two", &values(&[0, 0])).prints("refused 9 file 3 at 4\n");
     run("sixteen", &values(&[0; 16])).prints("refused 9 file 3 at 4\n");
@@ -68,15 +37,16 @@ fn values_out_of_range_or_number() {
 /// A file that cannot be opened, or read through, counts as empty.
 #[test]
 fn missing_files() {
-    Folder::new("no v")
+    folder("no v")
         .with("f", FORMULA)
         .prints("refused 7 file 4 at 0\n");
-    Folder::new("no f")
+    folder("no f")
         .with("v", &values(&[1, 2, 3]))
         .prints("refused 2 file 3 at 0\n");
-    let folder = Folder::new("directory").with("v", &values(&[1, 2, 3]));
-    fs::create_dir(folder.0.join("f")).expect("a folder");
-    folder.prints("refused 2 file 3 at 0\n");
+    folder("directory")
+        .with("v", &values(&[1, 2, 3]))
+        .with_folder("f")
+        .prints("refused 2 file 3 at 0\n");
 }
 
 /// A file above its limit is refused with 1, and never cut to one that fits.
@@ -93,7 +63,7 @@ fn long_files() {
         file
     };
     let run = |name: &str, length: usize| {
-        Folder::new(name)
+        folder(name)
             .with("f", &note(length))
             .with("v", &values(&[0, 2, 0]))
     };

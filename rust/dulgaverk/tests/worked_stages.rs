@@ -49,8 +49,8 @@ fn stage_10() {
 /// The bundles of stage 1, shown; and its formula, "2 divides y", tested.
 #[test]
 fn stage_1() {
-    let a = b"\x01\0\x01\x01\x02\0\x01\x03\x04\0\x08\xFF\xFE\0\x01\0\0\0\0";
-    let b = b"\x01\0\x01\x01\x02\0\x01\x03\x04\0\x08\0\0\xFF\xFF\0\x02\0\x01";
+    let a = include_bytes!("../../../examples/stage-1/a");
+    let b = include_bytes!("../../../examples/stage-1/b");
     assert_eq!(show(a, b, 0), Ok(a[8..].to_vec()));
     assert_eq!(show(a, b, 1), Ok(b[8..].to_vec()));
     assert_eq!(show(a, b, 2), refused(10, 1, 0));

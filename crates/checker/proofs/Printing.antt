@@ -1,0 +1,68 @@
+-- What the check program prints, over plain values. Assumes nothing.
+use Prim.Native.Nat.{ℕ, _+_, _*_, _≤_, _<_}
+use mathlib.Core.Path.{_≡_, refl, sym, ap, _∙_, subst}
+use mathlib.Core.Bool.{Bool, true, false}
+use mathlib.Core.List.{List, [], _∷_, _++_}
+use native.Mathlib.Omega.{arith}
+use lib.ListN.{length, take, drop, length-append, length-take}
+use lib.Seq.{take-all}
+use lib.Dec.{leb}
+use Rattle.fields.specs.Answers.{Result, refused, accepted, Written, over, fit, written}
+use Rattle.files.specs.Text.{Put, PutNumber, PutRefused, RefusedLine, ascii, hexOf}
+use Rattle.files.proofs.Texts.{both}
+use Rattle.proof.specs.Check.{check}
+use Rattle.checking.specs.declared.check.Checked.{Checked}
+use Rattle.checking.specs.Whole.{writtenOf}
+use Rattle.checker.specs.Said.{AcceptedLines, Printed, PutAccepted, Room}
+
+-- ---- the bytes written are there
+fit-counts : (out bytes : List ℕ) (b : Bool) → fit out b bytes .count ≤ length (fit out b bytes .output)
+unfolding fit over
+fit-counts out bytes true = omega (arith, length-append bytes (drop (length bytes) out))
+fit-counts out bytes false = omega arith
+
+written-counts : (x : Result (List ℕ)) (out : List ℕ) → written x out .count ≤ length (written x out .output)
+unfolding written
+written-counts (refused a) out = omega arith
+written-counts (accepted bytes) out = fit-counts out bytes (leb (length bytes) (length out))
+
+check-counts : (A B P out : List ℕ) → check A B P out .count ≤ length (check A B P out .output)
+unfolding check
+check-counts A B P out = written-counts _ out
+
+pub counted : (A B P out : List ℕ) (c : Checked) (out₁ : List ℕ) → writtenOf c out₁ ≡ check A B P out → c .count ≤ length out₁
+counted A B P out c out₁ is = subst (λ (w : Written). w .count ≤ length (w .output)) (sym is) (check-counts A B P out)
+
+-- ---- the lines of an acceptance
+hex-length : (bytes : List ℕ) → length (hexOf bytes) ≡ length bytes * 2
+unfolding hexOf
+hex-length [] = refl
+hex-length (b ∷ bytes) = omega (arith, hex-length bytes)
+
+pub accepted-put : {was one two three is : List ℕ} {r s t u : ℕ} (bytes : List ℕ) → PutNumber was 0 (ascii "accepted ") (length bytes) one r → Put one r (ascii "\n") two s → Put two s (hexOf bytes) three t → Put three t (ascii "\n") is u → PutAccepted was bytes is u
+accepted-put bytes n e h l =
+    let first = ascii "accepted " ++ n .text ++ ascii "\n" in
+    record {
+      lines = first ++ hexOf bytes ++ ascii "\n";
+      acceptance = record { count-text = n .text; count-is = n .decimal; is = refl };
+      few = omega (arith, length-append (first ++ hexOf bytes) (ascii "\n"), length-append first (hexOf bytes), length-append (ascii "accepted " ++ n .text) (ascii "\n"), length-append (ascii "accepted ") (n .text), n .few, hex-length bytes);
+      put = both (both (both (n .put) e) h) l;
+    }
+
+-- ---- what is printed
+-- with room for all of it, the text is at the buffer's start
+uncut : {was line is : List ℕ} {r : ℕ} → Put was 0 line is r → length line ≤ length was → line ≡ take r is
+uncut {was} {line} p h = sym (p .said ∙ take-all (length was) line h)
+
+module _ (c : Checked) (out out₁ : List ℕ) {w : Written} {was text : List ℕ} {r : ℕ} (is : writtenOf c out₁ ≡ w) (room : Room out was) where
+  pub prints-refusal : 0 < c .answer .number → PutRefused was (c .answer .number) (c .answer .file) (c .answer .place) text r → Printed w (take r text)
+  prints-refusal h p =
+      let s : RefusedLine (c .answer .number) (c .answer .file) (c .answer .place) (take r text)
+      = subst (λ (s : List ℕ). RefusedLine (c .answer .number) (c .answer .file) (c .answer .place) s) (uncut (p .put) (omega (arith, p .few))) (p .refusal) in
+      subst (λ (w : Written). Printed w (take r text)) is (record { if-accepted = λ e. absurd (omega arith); if-refused = λ _. s })
+
+  pub prints-acceptance : c .answer .number ≡ 0 → length out₁ ≡ length out → PutAccepted was (take (c .count) out₁) text r → Printed w (take r text)
+  prints-acceptance e l p =
+      let s : AcceptedLines (take (c .count) out₁) (take r text)
+      = subst (λ (s : List ℕ). AcceptedLines (take (c .count) out₁) s) (uncut (p .put) (omega (arith, p .few, length-take (c .count) out₁))) (p .acceptance) in
+      subst (λ (w : Written). Printed w (take r text)) is (record { if-accepted = λ _. s; if-refused = λ h. absurd (omega arith) })
