@@ -8,8 +8,7 @@ use crate::ends::Ended;
 use crate::ends::close_number;
 use crate::ends::close_stride;
 use crate::ends::split;
-use crate::ends::start_second;
-use crate::ends::start_third;
+use crate::ends::start;
 use crate::formulas::put_pair;
 use fields::Next;
 use fields::next_field;
@@ -235,7 +234,7 @@ pub fn check_branch(
                     else {
                         return first;
                     };
-                    start_second(lines, kinds, t, n, k);
+                    start(lines, kinds, t, n, k, 1, false, false);
                     let head2 = put_pair(scratch, o1, 0x32);
                     let second = check_branch(
                         p,
@@ -257,7 +256,7 @@ pub fn check_branch(
                     else {
                         return second;
                     };
-                    start_third(lines, kinds, t, n, k);
+                    start(lines, kinds, t, n, k, 0, true, false);
                     let third = check_branch(p, a2, lines, kinds, v2, k, in_a, in_b, scratch, o2);
                     return resumed(third, tally);
                 }

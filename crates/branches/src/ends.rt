@@ -3,7 +3,7 @@ ghost use Prim.Native.Nat.{_+_, _≤_};
 ghost use lib.ListN.{length, set};
 ghost use lib.IntN.{natAbs};
 ghost use mathlib.Core.Path.{_≡_};
-ghost use Rattle.lines.specs.Buffer.{linesIn, LineCopy, copiedLine, strengthenedT, strengthenedBoth};
+ghost use Rattle.lines.specs.Buffer.{linesIn, LineCopy, startedLine};
 ghost use Rattle.lines.specs.Occurrence.{told};
 ghost use Rattle.proof.specs.Rows.{byNumber, byStride};
 ghost use Rattle.proof.specs.Check.{refusal};
@@ -88,23 +88,23 @@ pub fn close_stride(
     }
 }
 
-// Line n, of the kind given, as a branch of a strengthen starts: line i, or with t + 1.
-pub fn start_second(lines: &mut [i64], kinds: &mut [u8], i: Line, n: usize, k: usize)
+// Line n, of the kind given, as a branch of a strengthen of line i starts: with t + 1, and then with tA + 1 too, where it is said.
+pub fn start(
+    lines: &mut [i64],
+    kinds: &mut [u8],
+    i: Line,
+    n: usize,
+    k: usize,
+    kind: u8,
+    t: bool,
+    ta: bool,
+)
     requires { ⌜ LineCopy k (now lines) (i .0) n × (128 ≤ length (now kinds)) ⌝ }
-    ensures lines { λ _. ⌜ now (lines .exit) ≡ copiedLine k (i .0) n (now (lines .entry)) ⌝ }
-    ensures kinds { λ _. ⌜ now (kinds .exit) ≡ set (now (kinds .entry)) n 1 ⌝ }
+    ensures lines { λ _. ⌜ now (lines .exit) ≡ startedLine k (i .0) n t ta (now (lines .entry)) ⌝ }
+    ensures kinds { λ _. ⌜ now (kinds .exit) ≡ set (now (kinds .entry)) n kind ⌝ }
 {
-    lines::copy_line(lines, i.0 as usize, n, k);
-    kinds[n] = 1;
-}
-
-pub fn start_third(lines: &mut [i64], kinds: &mut [u8], i: Line, n: usize, k: usize)
-    requires { ⌜ LineCopy k (now lines) (i .0) n × (128 ≤ length (now kinds)) ⌝ }
-    ensures lines { λ _. ⌜ now (lines .exit) ≡ strengthenedT k (i .0) n (now (lines .entry)) ⌝ }
-    ensures kinds { λ _. ⌜ now (kinds .exit) ≡ set (now (kinds .entry)) n 0 ⌝ }
-{
-    lines::strengthen_t(lines, i.0 as usize, n, k);
-    kinds[n] = 0;
+    lines::start_line(lines, i.0 as usize, n, k, t, ta);
+    kinds[n] = kind;
 }
 
 // The tests of a strengthen, and the line that its first branch starts with. 10, 11, 17, 16, 13.
@@ -132,7 +132,7 @@ pub fn split(lines: &mut [i64], kinds: &mut [u8], tally: Tally, i: Line, k: usiz
     }
     let count = tally.lines;
     let n = count.0 as usize;
-    lines::strengthen_both(lines, i.0 as usize, n, k);
+    lines::start_line(lines, i.0 as usize, n, k, true, true);
     kinds[n] = 0;
     if lines::fits(lines, lines::place(n, k), 2 * (k + 1)) {
         return Derived::Made { tally: next };

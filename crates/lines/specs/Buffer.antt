@@ -1,6 +1,6 @@
 -- The lines of a branch in one flat buffer. With K constants a form has K + 1 numbers, the coefficients first and d last; line i has its t and then its tA. Assumes nothing.
 use mathlib.Core.List.{List, [], map}
-use mathlib.Core.Bool.{true, false}
+use mathlib.Core.Bool.{Bool, true, false}
 use Prim.Native.Nat.{ℕ, zero, suc, _+_, _*_, _<_, _≤_}
 use lib.Dec.{eqb}
 use lib.ListN.{length, getD, set}
@@ -67,6 +67,12 @@ strengthenedT K i n buf = plusOne (n * size K + K) (copiedLine K i n buf)
 
 unfoldable pub strengthenedBoth : (K i n : ℕ) → List ℤ → List ℤ
 strengthenedBoth K i n buf = plusOne (n * size K + (K + 1) + K) (strengthenedT K i n buf)
+
+-- One of the three, as it is said whether t and then tA is raised.
+abbrev pub startedLine : (K i n : ℕ) (t tA : Bool) → List ℤ → List ℤ
+startedLine K i n false tA buf = copiedLine K i n buf
+startedLine K i n true false buf = strengthenedT K i n buf
+startedLine K i n true true buf = strengthenedBoth K i n buf
 
 -- What a sum of multiples asks: the w numbers at a and at b lie before the w numbers at d, the numbers before d are within the range, and the factors are small.
 pub record Terms (buf : List ℤ) (f : ℤ) (a : ℕ) (g : ℤ) (b d w : ℕ) : Type 0 where

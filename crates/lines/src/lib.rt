@@ -15,7 +15,7 @@ ghost use Rattle.calculus.specs.Rules.{small, every};
 ghost use Rattle.fields.specs.Numbers.{flat};
 ghost use Rattle.proof.specs.Rows.{common};
 ghost use Rattle.lines.specs.Parts.{part};
-ghost use Rattle.lines.specs.Buffer.{size, formIn, Terms, LineTerms, LineCopy, mixed, mixedLine, plusOne, copiedLine, strengthenedT, strengthenedBoth};
+ghost use Rattle.lines.specs.Buffer.{size, formIn, Terms, LineTerms, LineCopy, mixed, mixedLine, plusOne, copiedLine, strengthenedT, strengthenedBoth, startedLine};
 ghost use Rattle.lines.specs.Occurrence.{Span, occursIn, bit, bits, told};
 
 // Where the numbers of line i's t start, with k constants.
@@ -70,7 +70,7 @@ pub fn add_one(lines: &mut [i64], at: usize)
 }
 
 // Line n becomes line i.
-pub fn copy_line(lines: &mut [i64], i: usize, n: usize, k: usize)
+fn copy_line(lines: &mut [i64], i: usize, n: usize, k: usize)
     requires { ⌜ LineCopy k (now lines) i n ⌝ }
     ensures { λ _. ⌜ now (lines .exit) ≡ copiedLine k i n (now (lines .entry)) ⌝ }
 {
@@ -78,7 +78,7 @@ pub fn copy_line(lines: &mut [i64], i: usize, n: usize, k: usize)
 }
 
 // Line n becomes line i with t + 1.
-pub fn strengthen_t(lines: &mut [i64], i: usize, n: usize, k: usize)
+fn strengthen_t(lines: &mut [i64], i: usize, n: usize, k: usize)
     requires { ⌜ LineCopy k (now lines) i n ⌝ }
     ensures { λ _. ⌜ now (lines .exit) ≡ strengthenedT k i n (now (lines .entry)) ⌝ }
 {
@@ -88,13 +88,29 @@ pub fn strengthen_t(lines: &mut [i64], i: usize, n: usize, k: usize)
 }
 
 // Line n becomes line i with t + 1 and tA + 1.
-pub fn strengthen_both(lines: &mut [i64], i: usize, n: usize, k: usize)
+fn strengthen_both(lines: &mut [i64], i: usize, n: usize, k: usize)
     requires { ⌜ LineCopy k (now lines) i n ⌝ }
     ensures { λ _. ⌜ now (lines .exit) ≡ strengthenedBoth k i n (now (lines .entry)) ⌝ }
 {
     strengthen_t(lines, i, n, k);
     let at = place_a(n, k);
     add_one(lines, at + k);
+}
+
+// Line n becomes line i as a branch of a strengthen starts: with t + 1, and then with tA + 1 too, where it is said.
+pub fn start_line(lines: &mut [i64], i: usize, n: usize, k: usize, t: bool, ta: bool)
+    requires { ⌜ LineCopy k (now lines) i n ⌝ }
+    ensures { λ _. ⌜ now (lines .exit) ≡ startedLine k i n t ta (now (lines .entry)) ⌝ }
+{
+    if t {
+        if ta {
+            strengthen_both(lines, i, n, k);
+            return;
+        }
+        strengthen_t(lines, i, n, k);
+        return;
+    }
+    copy_line(lines, i, n, k);
 }
 
 // Whether all of the numbers at a place are within the range.

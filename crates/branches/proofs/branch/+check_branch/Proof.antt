@@ -20,8 +20,7 @@ use Rattle.branches.proofs.branch.returned.Reads as returned-reads
 use Rattle.branches.proofs.ends.close_number.Reads as close-number-reads
 use Rattle.branches.proofs.ends.close_stride.Reads as close-stride-reads
 use Rattle.branches.proofs.ends.split.Reads as split-reads
-use Rattle.branches.proofs.ends.start_second.Reads as start-second-reads
-use Rattle.branches.proofs.ends.start_third.Reads as start-third-reads
+use Rattle.branches.proofs.ends.start.Reads as start-reads
 use Rattle.branches.proofs.formulas.put_pair.Reads as put-pair-reads
 use Rattle.branches.proofs.branch.+check_branch.{statement}
 use Rattle.branches.proofs.branch.+check_branch.Tie.{close}
@@ -44,7 +43,7 @@ check-branch-below t =
 -- what is known of the functions that it calls
 abbrev check-branch-claims : ℕ → check-branch-lts.Claims
 check-branch-claims t =
-    (entries-reads.Asked, entries-reads.Learnt, close-number-reads.Asked, close-number-reads.Learnt, returned-reads.Asked, returned-reads.Learnt, closed-reads.Asked, closed-reads.Learnt, close-stride-reads.Asked, close-stride-reads.Learnt, split-reads.Asked, split-reads.Learnt, put-pair-reads.Asked, put-pair-reads.Learnt, check-branch-below t, check-branch.Post, start-second-reads.Asked, start-second-reads.Learnt, start-third-reads.Asked, start-third-reads.Learnt, resumed-reads.Asked, resumed-reads.Learnt)
+    (entries-reads.Asked, entries-reads.Learnt, close-number-reads.Asked, close-number-reads.Learnt, returned-reads.Asked, returned-reads.Learnt, closed-reads.Asked, closed-reads.Learnt, close-stride-reads.Asked, close-stride-reads.Learnt, split-reads.Asked, split-reads.Learnt, put-pair-reads.Asked, put-pair-reads.Learnt, check-branch-below t, check-branch.Post, start-reads.Asked, start-reads.Learnt, resumed-reads.Asked, resumed-reads.Learnt)
 
 module _ (t : ℕ) where
   check-branch-entries-requires : check-branch-lts.Need-entries-requires (check-branch-claims t) (check-branch-at t) check-branch.Post
@@ -231,8 +230,8 @@ module _ (t : ℕ) where
       let b = c .before .before .before .before .before .before .before .check-branch .ensures in
       resumed-checks m (stop .kept) s made (told (c .before .before .before .before .before .before .before .before .before .before .before .before .before .before .before .before .before .before .before .before .before .before .before .before .before .before .before .before .before .before .before .before .before .before .before .before .before .before .before .before .args .in-a .now)) (told (c .before .before .before .before .before .before .before .before .before .before .before .before .before .before .before .before .before .before .before .before .before .before .before .before .before .before .before .before .before .before .before .before .before .before .before .before .before .before .before .before .args .in-b .now)) (split-fault d f h b (c .enum-told .given .1)) (c .enum-told .given .1)
 
-  check-branch-start-second-requires : check-branch-lts.Need-start-second-requires (check-branch-claims t) (check-branch-at t) check-branch.Post
-  check-branch-start-second-requires c κs =
+  check-branch-start-requires : check-branch-lts.Need-start-requires (check-branch-claims t) (check-branch-at t) check-branch.Post
+  check-branch-start-requires c κs =
       let st = c .before .before .before .before .before .before .before .before .before .before .before .before .before .before .before .before .before .before .before .before .before .before .before .before .before .before .before .before .before .before .before .before .before .before .before .before .before .before .before .before .before .before .before .pre .1 in
       let stop = c .before .before .before .before .before .before .before .before .before .before .before .before .before .before .before .before .before .before .before .before .before .before .before .before .before .before .before .before .before .before .before .before .before .before .before .entries .ensures in
       let m = split-comes stop (c .before .before .before .before .before .before .before .before .before .before .before .before .before .before .before .before .before .before .before .before .before .before .before .before .before .before .before .before .before .before .t3 .given .1) in
@@ -274,8 +273,8 @@ module _ (t : ℕ) where
       let b = c .before .before .before .before .before .before .before .before .before .before .before .before .before .before .before .before .before .before .before .before .before .check-branch .ensures in
       let e = c .before .before .before .before .before .before .before .before .before .before .before .before .before .before .first .given .1 in
       let d₂ = rest-divided d f h b e in
-      let lines₂ = c .before .before .before .before .before .before .before .before .before .before .start-second .ensures .0 in
-      let kinds₂ = c .before .before .before .before .before .before .before .before .before .before .start-second .ensures .1 in
+      let lines₂ = c .before .before .before .before .before .before .before .before .before .before .start .ensures .0 in
+      let kinds₂ = c .before .before .before .before .before .before .before .before .before .before .start .ensures .1 in
       let h₂ = c .before .before .before .before .before .put-pair2 .ensures in
       (omega (arith, opens-less m (stop .kept) s made, few-open m (stop .kept) s made, rest-open d f h b e, c .before .before .before .before .before .before .before .before .before .before .before .before .before .before .before .before .before .before .before .before .before .before .before .before .before .before .before .before .before .before .before .before .before .before .before .before .before .before .before .before .before .before .before .before .before .before .before .before .before .before .before .before .before .before .pre .0), second-started d₂ lines₂ kinds₂ h₂)
 
@@ -298,8 +297,8 @@ module _ (t : ℕ) where
       let b = c .before .before .before .before .before .before .before .before .before .before .before .before .before .before .before .before .before .before .before .before .before .before .before .before .before .before .before .before .before .check-branch .ensures in
       let e = c .before .before .before .before .before .before .before .before .before .before .before .before .before .before .before .before .before .before .before .before .before .before .first .given .1 in
       let d₂ = rest-divided d f h b e in
-      let lines₂ = c .before .before .before .before .before .before .before .before .before .before .before .before .before .before .before .before .before .before .start-second .ensures .0 in
-      let kinds₂ = c .before .before .before .before .before .before .before .before .before .before .before .before .before .before .before .before .before .before .start-second .ensures .1 in
+      let lines₂ = c .before .before .before .before .before .before .before .before .before .before .before .before .before .before .before .before .before .before .start .ensures .0 in
+      let kinds₂ = c .before .before .before .before .before .before .before .before .before .before .before .before .before .before .before .before .before .before .start .ensures .1 in
       let h₂ = c .before .before .before .before .before .before .before .before .before .before .before .before .before .put-pair2 .ensures in
       let b₂ = c .before .before .before .before .before .before .before .check-branch2 .ensures in
       (resumed-checks m (stop .kept) s made (told (c .before .before .before .before .before .before .before .before .before .before .before .before .before .before .before .before .before .before .before .before .before .before .before .before .before .before .before .before .before .before .before .before .before .before .before .before .before .before .before .before .before .before .before .before .before .before .before .before .before .before .before .before .before .before .before .before .before .before .before .before .before .before .args .in-a .now)) (told (c .before .before .before .before .before .before .before .before .before .before .before .before .before .before .before .before .before .before .before .before .before .before .before .before .before .before .before .before .before .before .before .before .before .before .before .before .before .before .before .before .before .before .before .before .before .before .before .before .before .before .before .before .before .before .before .before .before .before .before .before .before .before .args .in-b .now)) (split-checks d f h b e (rest-fault d₂ lines₂ kinds₂ h₂ b₂ (c .enum-told2 .given .1))) (c .enum-told2 .given .1)) .kept .lines-length
@@ -317,8 +316,8 @@ module _ (t : ℕ) where
       let b = c .before .before .before .before .before .before .before .before .before .before .before .before .before .before .before .before .before .before .before .before .before .before .before .before .before .before .before .before .before .check-branch .ensures in
       let e = c .before .before .before .before .before .before .before .before .before .before .before .before .before .before .before .before .before .before .before .before .before .before .first .given .1 in
       let d₂ = rest-divided d f h b e in
-      let lines₂ = c .before .before .before .before .before .before .before .before .before .before .before .before .before .before .before .before .before .before .start-second .ensures .0 in
-      let kinds₂ = c .before .before .before .before .before .before .before .before .before .before .before .before .before .before .before .before .before .before .start-second .ensures .1 in
+      let lines₂ = c .before .before .before .before .before .before .before .before .before .before .before .before .before .before .before .before .before .before .start .ensures .0 in
+      let kinds₂ = c .before .before .before .before .before .before .before .before .before .before .before .before .before .before .before .before .before .before .start .ensures .1 in
       let h₂ = c .before .before .before .before .before .before .before .before .before .before .before .before .before .put-pair2 .ensures in
       let b₂ = c .before .before .before .before .before .before .before .check-branch2 .ensures in
       (resumed-checks m (stop .kept) s made (told (c .before .before .before .before .before .before .before .before .before .before .before .before .before .before .before .before .before .before .before .before .before .before .before .before .before .before .before .before .before .before .before .before .before .before .before .before .before .before .before .before .before .before .before .before .before .before .before .before .before .before .before .before .before .before .before .before .before .before .before .before .before .before .args .in-a .now)) (told (c .before .before .before .before .before .before .before .before .before .before .before .before .before .before .before .before .before .before .before .before .before .before .before .before .before .before .before .before .before .before .before .before .before .before .before .before .before .before .before .before .before .before .before .before .before .before .before .before .before .before .before .before .before .before .before .before .before .before .before .before .before .before .args .in-b .now)) (split-checks d f h b e (rest-fault d₂ lines₂ kinds₂ h₂ b₂ (c .enum-told2 .given .1))) (c .enum-told2 .given .1)) .kept .kinds-length
@@ -336,8 +335,8 @@ module _ (t : ℕ) where
       let b = c .before .before .before .before .before .before .before .before .before .before .before .before .before .before .before .before .before .before .before .before .before .before .before .before .before .before .before .before .before .check-branch .ensures in
       let e = c .before .before .before .before .before .before .before .before .before .before .before .before .before .before .before .before .before .before .before .before .before .before .first .given .1 in
       let d₂ = rest-divided d f h b e in
-      let lines₂ = c .before .before .before .before .before .before .before .before .before .before .before .before .before .before .before .before .before .before .start-second .ensures .0 in
-      let kinds₂ = c .before .before .before .before .before .before .before .before .before .before .before .before .before .before .before .before .before .before .start-second .ensures .1 in
+      let lines₂ = c .before .before .before .before .before .before .before .before .before .before .before .before .before .before .before .before .before .before .start .ensures .0 in
+      let kinds₂ = c .before .before .before .before .before .before .before .before .before .before .before .before .before .before .before .before .before .before .start .ensures .1 in
       let h₂ = c .before .before .before .before .before .before .before .before .before .before .before .before .before .put-pair2 .ensures in
       let b₂ = c .before .before .before .before .before .before .before .check-branch2 .ensures in
       (resumed-checks m (stop .kept) s made (told (c .before .before .before .before .before .before .before .before .before .before .before .before .before .before .before .before .before .before .before .before .before .before .before .before .before .before .before .before .before .before .before .before .before .before .before .before .before .before .before .before .before .before .before .before .before .before .before .before .before .before .before .before .before .before .before .before .before .before .before .before .before .before .args .in-a .now)) (told (c .before .before .before .before .before .before .before .before .before .before .before .before .before .before .before .before .before .before .before .before .before .before .before .before .before .before .before .before .before .before .before .before .before .before .before .before .before .before .before .before .before .before .before .before .before .before .before .before .before .before .before .before .before .before .before .before .before .before .before .before .before .before .args .in-b .now)) (split-checks d f h b e (rest-fault d₂ lines₂ kinds₂ h₂ b₂ (c .enum-told2 .given .1))) (c .enum-told2 .given .1)) .long
@@ -355,14 +354,14 @@ module _ (t : ℕ) where
       let b = c .before .before .before .before .before .before .before .before .before .before .before .before .before .before .before .before .before .before .before .before .before .before .before .before .before .before .before .before .before .check-branch .ensures in
       let e = c .before .before .before .before .before .before .before .before .before .before .before .before .before .before .before .before .before .before .before .before .before .before .first .given .1 in
       let d₂ = rest-divided d f h b e in
-      let lines₂ = c .before .before .before .before .before .before .before .before .before .before .before .before .before .before .before .before .before .before .start-second .ensures .0 in
-      let kinds₂ = c .before .before .before .before .before .before .before .before .before .before .before .before .before .before .before .before .before .before .start-second .ensures .1 in
+      let lines₂ = c .before .before .before .before .before .before .before .before .before .before .before .before .before .before .before .before .before .before .start .ensures .0 in
+      let kinds₂ = c .before .before .before .before .before .before .before .before .before .before .before .before .before .before .before .before .before .before .start .ensures .1 in
       let h₂ = c .before .before .before .before .before .before .before .before .before .before .before .before .before .put-pair2 .ensures in
       let b₂ = c .before .before .before .before .before .before .before .check-branch2 .ensures in
       resumed-checks m (stop .kept) s made (told (c .before .before .before .before .before .before .before .before .before .before .before .before .before .before .before .before .before .before .before .before .before .before .before .before .before .before .before .before .before .before .before .before .before .before .before .before .before .before .before .before .before .before .before .before .before .before .before .before .before .before .before .before .before .before .before .before .before .before .before .before .before .before .args .in-a .now)) (told (c .before .before .before .before .before .before .before .before .before .before .before .before .before .before .before .before .before .before .before .before .before .before .before .before .before .before .before .before .before .before .before .before .before .before .before .before .before .before .before .before .before .before .before .before .before .before .before .before .before .before .before .before .before .before .before .before .before .before .before .before .before .before .args .in-b .now)) (split-checks d f h b e (rest-fault d₂ lines₂ kinds₂ h₂ b₂ (c .enum-told2 .given .1))) (c .enum-told2 .given .1)
 
-  check-branch-start-third-requires : check-branch-lts.Need-start-third-requires (check-branch-claims t) (check-branch-at t) check-branch.Post
-  check-branch-start-third-requires c κs =
+  check-branch-start-requires-2 : check-branch-lts.Need-start-requires-2 (check-branch-claims t) (check-branch-at t) check-branch.Post
+  check-branch-start-requires-2 c κs =
       let st = c .before .before .before .before .before .before .before .before .before .before .before .before .before .before .before .before .before .before .before .before .before .before .before .before .before .before .before .before .before .before .before .before .before .before .before .before .before .before .before .before .before .before .before .before .before .before .before .before .before .before .before .before .before .before .before .before .before .before .before .before .before .before .before .before .before .pre .1 in
       let stop = c .before .before .before .before .before .before .before .before .before .before .before .before .before .before .before .before .before .before .before .before .before .before .before .before .before .before .before .before .before .before .before .before .before .before .before .before .before .before .before .before .before .before .before .before .before .before .before .before .before .before .before .before .before .before .before .before .before .entries .ensures in
       let m = split-comes stop (c .before .before .before .before .before .before .before .before .before .before .before .before .before .before .before .before .before .before .before .before .before .before .before .before .before .before .before .before .before .before .before .before .before .before .before .before .before .before .before .before .before .before .before .before .before .before .before .before .before .before .before .before .t3 .given .1) in
@@ -374,8 +373,8 @@ module _ (t : ℕ) where
       let b = c .before .before .before .before .before .before .before .before .before .before .before .before .before .before .before .before .before .before .before .before .before .before .before .before .before .before .before .before .before .before .before .before .check-branch .ensures in
       let e = c .before .before .before .before .before .before .before .before .before .before .before .before .before .before .before .before .before .before .before .before .before .before .before .before .before .first .given .1 in
       let d₂ = rest-divided d f h b e in
-      let lines₂ = c .before .before .before .before .before .before .before .before .before .before .before .before .before .before .before .before .before .before .before .before .before .start-second .ensures .0 in
-      let kinds₂ = c .before .before .before .before .before .before .before .before .before .before .before .before .before .before .before .before .before .before .before .before .before .start-second .ensures .1 in
+      let lines₂ = c .before .before .before .before .before .before .before .before .before .before .before .before .before .before .before .before .before .before .before .before .before .start .ensures .0 in
+      let kinds₂ = c .before .before .before .before .before .before .before .before .before .before .before .before .before .before .before .before .before .before .before .before .before .start .ensures .1 in
       let h₂ = c .before .before .before .before .before .before .before .before .before .before .before .before .before .before .before .before .put-pair2 .ensures in
       let b₂ = c .before .before .before .before .before .before .before .before .before .before .check-branch2 .ensures in
       let e₂ = c .before .before .before .second .given .1 in
@@ -394,13 +393,13 @@ module _ (t : ℕ) where
       let b = c .before .before .before .before .before .before .before .before .before .before .before .before .before .before .before .before .before .before .before .before .before .before .before .before .before .before .before .before .before .before .before .before .before .before .before .before .before .before .before .check-branch .ensures in
       let e = c .before .before .before .before .before .before .before .before .before .before .before .before .before .before .before .before .before .before .before .before .before .before .before .before .before .before .before .before .before .before .before .before .first .given .1 in
       let d₂ = rest-divided d f h b e in
-      let lines₂ = c .before .before .before .before .before .before .before .before .before .before .before .before .before .before .before .before .before .before .before .before .before .before .before .before .before .before .before .before .start-second .ensures .0 in
-      let kinds₂ = c .before .before .before .before .before .before .before .before .before .before .before .before .before .before .before .before .before .before .before .before .before .before .before .before .before .before .before .before .start-second .ensures .1 in
+      let lines₂ = c .before .before .before .before .before .before .before .before .before .before .before .before .before .before .before .before .before .before .before .before .before .before .before .before .before .before .before .before .start .ensures .0 in
+      let kinds₂ = c .before .before .before .before .before .before .before .before .before .before .before .before .before .before .before .before .before .before .before .before .before .before .before .before .before .before .before .before .start .ensures .1 in
       let h₂ = c .before .before .before .before .before .before .before .before .before .before .before .before .before .before .before .before .before .before .before .before .before .before .before .put-pair2 .ensures in
       let b₂ = c .before .before .before .before .before .before .before .before .before .before .before .before .before .before .before .before .before .check-branch2 .ensures in
       let e₂ = c .before .before .before .before .before .before .before .before .before .before .second .given .1 in
-      let lines₃ = c .before .before .before .before .before .before .start-third .ensures .0 in
-      let kinds₃ = c .before .before .before .before .before .before .start-third .ensures .1 in
+      let lines₃ = c .before .before .before .before .before .before .start2 .ensures .0 in
+      let kinds₃ = c .before .before .before .before .before .before .start2 .ensures .1 in
       (omega (arith, opens-less m (stop .kept) s made, few-open m (stop .kept) s made, rest-open d f h b e, third-open d₂ lines₂ kinds₂ h₂ b₂ e₂, c .before .before .before .before .before .before .before .before .before .before .before .before .before .before .before .before .before .before .before .before .before .before .before .before .before .before .before .before .before .before .before .before .before .before .before .before .before .before .before .before .before .before .before .before .before .before .before .before .before .before .before .before .before .before .before .before .before .before .before .before .before .before .before .before .before .before .before .before .before .before .before .before .pre .0), third-started d₂ lines₂ kinds₂ h₂ b₂ e₂ lines₃ kinds₃)
 
   check-branch-resumed-requires : check-branch-lts.Need-resumed-requires (check-branch-claims t) (check-branch-at t) check-branch.Post
@@ -419,13 +418,13 @@ module _ (t : ℕ) where
       let b = c .before .before .before .before .before .before .before .before .before .before .before .before .before .before .before .before .before .before .before .before .before .before .before .before .before .before .before .before .before .before .before .before .before .before .before .before .before .before .before .before .before .before .before .before .before .before .check-branch .ensures in
       let e = c .before .before .before .before .before .before .before .before .before .before .before .before .before .before .before .before .before .before .before .before .before .before .before .before .before .before .before .before .before .before .before .before .before .before .before .before .before .before .before .first .given .1 in
       let d₂ = rest-divided d f h b e in
-      let lines₂ = c .before .before .before .before .before .before .before .before .before .before .before .before .before .before .before .before .before .before .before .before .before .before .before .before .before .before .before .before .before .before .before .before .before .before .before .start-second .ensures .0 in
-      let kinds₂ = c .before .before .before .before .before .before .before .before .before .before .before .before .before .before .before .before .before .before .before .before .before .before .before .before .before .before .before .before .before .before .before .before .before .before .before .start-second .ensures .1 in
+      let lines₂ = c .before .before .before .before .before .before .before .before .before .before .before .before .before .before .before .before .before .before .before .before .before .before .before .before .before .before .before .before .before .before .before .before .before .before .before .start .ensures .0 in
+      let kinds₂ = c .before .before .before .before .before .before .before .before .before .before .before .before .before .before .before .before .before .before .before .before .before .before .before .before .before .before .before .before .before .before .before .before .before .before .before .start .ensures .1 in
       let h₂ = c .before .before .before .before .before .before .before .before .before .before .before .before .before .before .before .before .before .before .before .before .before .before .before .before .before .before .before .before .before .before .put-pair2 .ensures in
       let b₂ = c .before .before .before .before .before .before .before .before .before .before .before .before .before .before .before .before .before .before .before .before .before .before .before .before .check-branch2 .ensures in
       let e₂ = c .before .before .before .before .before .before .before .before .before .before .before .before .before .before .before .before .before .second .given .1 in
-      let lines₃ = c .before .before .before .before .before .before .before .before .before .before .before .before .before .start-third .ensures .0 in
-      let kinds₃ = c .before .before .before .before .before .before .before .before .before .before .before .before .before .start-third .ensures .1 in
+      let lines₃ = c .before .before .before .before .before .before .before .before .before .before .before .before .before .start2 .ensures .0 in
+      let kinds₃ = c .before .before .before .before .before .before .before .before .before .before .before .before .before .start2 .ensures .1 in
       let b₃ = c .before .before .before .before .before .before .check-branch3 .ensures in
       (resumed-checks m (stop .kept) s made (told (c .before .before .before .before .before .before .before .before .before .before .before .before .before .before .before .before .before .before .before .before .before .before .before .before .before .before .before .before .before .before .before .before .before .before .before .before .before .before .before .before .before .before .before .before .before .before .before .before .before .before .before .before .before .before .before .before .before .before .before .before .before .before .before .before .before .before .before .before .before .before .before .before .before .before .before .before .before .before .before .args .in-a .now)) (told (c .before .before .before .before .before .before .before .before .before .before .before .before .before .before .before .before .before .before .before .before .before .before .before .before .before .before .before .before .before .before .before .before .before .before .before .before .before .before .before .before .before .before .before .before .before .before .before .before .before .before .before .before .before .before .before .before .before .before .before .before .before .before .before .before .before .before .before .before .before .before .before .before .before .before .before .before .before .before .before .args .in-b .now)) (split-checks d f h b e (rest-checks d₂ lines₂ kinds₂ h₂ b₂ e₂ lines₃ kinds₃ b₃)) (c .resumed .ensures)) .kept .lines-length
 
@@ -442,13 +441,13 @@ module _ (t : ℕ) where
       let b = c .before .before .before .before .before .before .before .before .before .before .before .before .before .before .before .before .before .before .before .before .before .before .before .before .before .before .before .before .before .before .before .before .before .before .before .before .before .before .before .before .before .before .before .before .before .before .check-branch .ensures in
       let e = c .before .before .before .before .before .before .before .before .before .before .before .before .before .before .before .before .before .before .before .before .before .before .before .before .before .before .before .before .before .before .before .before .before .before .before .before .before .before .before .first .given .1 in
       let d₂ = rest-divided d f h b e in
-      let lines₂ = c .before .before .before .before .before .before .before .before .before .before .before .before .before .before .before .before .before .before .before .before .before .before .before .before .before .before .before .before .before .before .before .before .before .before .before .start-second .ensures .0 in
-      let kinds₂ = c .before .before .before .before .before .before .before .before .before .before .before .before .before .before .before .before .before .before .before .before .before .before .before .before .before .before .before .before .before .before .before .before .before .before .before .start-second .ensures .1 in
+      let lines₂ = c .before .before .before .before .before .before .before .before .before .before .before .before .before .before .before .before .before .before .before .before .before .before .before .before .before .before .before .before .before .before .before .before .before .before .before .start .ensures .0 in
+      let kinds₂ = c .before .before .before .before .before .before .before .before .before .before .before .before .before .before .before .before .before .before .before .before .before .before .before .before .before .before .before .before .before .before .before .before .before .before .before .start .ensures .1 in
       let h₂ = c .before .before .before .before .before .before .before .before .before .before .before .before .before .before .before .before .before .before .before .before .before .before .before .before .before .before .before .before .before .before .put-pair2 .ensures in
       let b₂ = c .before .before .before .before .before .before .before .before .before .before .before .before .before .before .before .before .before .before .before .before .before .before .before .before .check-branch2 .ensures in
       let e₂ = c .before .before .before .before .before .before .before .before .before .before .before .before .before .before .before .before .before .second .given .1 in
-      let lines₃ = c .before .before .before .before .before .before .before .before .before .before .before .before .before .start-third .ensures .0 in
-      let kinds₃ = c .before .before .before .before .before .before .before .before .before .before .before .before .before .start-third .ensures .1 in
+      let lines₃ = c .before .before .before .before .before .before .before .before .before .before .before .before .before .start2 .ensures .0 in
+      let kinds₃ = c .before .before .before .before .before .before .before .before .before .before .before .before .before .start2 .ensures .1 in
       let b₃ = c .before .before .before .before .before .before .check-branch3 .ensures in
       (resumed-checks m (stop .kept) s made (told (c .before .before .before .before .before .before .before .before .before .before .before .before .before .before .before .before .before .before .before .before .before .before .before .before .before .before .before .before .before .before .before .before .before .before .before .before .before .before .before .before .before .before .before .before .before .before .before .before .before .before .before .before .before .before .before .before .before .before .before .before .before .before .before .before .before .before .before .before .before .before .before .before .before .before .before .before .before .before .before .args .in-a .now)) (told (c .before .before .before .before .before .before .before .before .before .before .before .before .before .before .before .before .before .before .before .before .before .before .before .before .before .before .before .before .before .before .before .before .before .before .before .before .before .before .before .before .before .before .before .before .before .before .before .before .before .before .before .before .before .before .before .before .before .before .before .before .before .before .before .before .before .before .before .before .before .before .before .before .before .before .before .before .before .before .before .args .in-b .now)) (split-checks d f h b e (rest-checks d₂ lines₂ kinds₂ h₂ b₂ e₂ lines₃ kinds₃ b₃)) (c .resumed .ensures)) .kept .kinds-length
 
@@ -465,13 +464,13 @@ module _ (t : ℕ) where
       let b = c .before .before .before .before .before .before .before .before .before .before .before .before .before .before .before .before .before .before .before .before .before .before .before .before .before .before .before .before .before .before .before .before .before .before .before .before .before .before .before .before .before .before .before .before .before .before .check-branch .ensures in
       let e = c .before .before .before .before .before .before .before .before .before .before .before .before .before .before .before .before .before .before .before .before .before .before .before .before .before .before .before .before .before .before .before .before .before .before .before .before .before .before .before .first .given .1 in
       let d₂ = rest-divided d f h b e in
-      let lines₂ = c .before .before .before .before .before .before .before .before .before .before .before .before .before .before .before .before .before .before .before .before .before .before .before .before .before .before .before .before .before .before .before .before .before .before .before .start-second .ensures .0 in
-      let kinds₂ = c .before .before .before .before .before .before .before .before .before .before .before .before .before .before .before .before .before .before .before .before .before .before .before .before .before .before .before .before .before .before .before .before .before .before .before .start-second .ensures .1 in
+      let lines₂ = c .before .before .before .before .before .before .before .before .before .before .before .before .before .before .before .before .before .before .before .before .before .before .before .before .before .before .before .before .before .before .before .before .before .before .before .start .ensures .0 in
+      let kinds₂ = c .before .before .before .before .before .before .before .before .before .before .before .before .before .before .before .before .before .before .before .before .before .before .before .before .before .before .before .before .before .before .before .before .before .before .before .start .ensures .1 in
       let h₂ = c .before .before .before .before .before .before .before .before .before .before .before .before .before .before .before .before .before .before .before .before .before .before .before .before .before .before .before .before .before .before .put-pair2 .ensures in
       let b₂ = c .before .before .before .before .before .before .before .before .before .before .before .before .before .before .before .before .before .before .before .before .before .before .before .before .check-branch2 .ensures in
       let e₂ = c .before .before .before .before .before .before .before .before .before .before .before .before .before .before .before .before .before .second .given .1 in
-      let lines₃ = c .before .before .before .before .before .before .before .before .before .before .before .before .before .start-third .ensures .0 in
-      let kinds₃ = c .before .before .before .before .before .before .before .before .before .before .before .before .before .start-third .ensures .1 in
+      let lines₃ = c .before .before .before .before .before .before .before .before .before .before .before .before .before .start2 .ensures .0 in
+      let kinds₃ = c .before .before .before .before .before .before .before .before .before .before .before .before .before .start2 .ensures .1 in
       let b₃ = c .before .before .before .before .before .before .check-branch3 .ensures in
       (resumed-checks m (stop .kept) s made (told (c .before .before .before .before .before .before .before .before .before .before .before .before .before .before .before .before .before .before .before .before .before .before .before .before .before .before .before .before .before .before .before .before .before .before .before .before .before .before .before .before .before .before .before .before .before .before .before .before .before .before .before .before .before .before .before .before .before .before .before .before .before .before .before .before .before .before .before .before .before .before .before .before .before .before .before .before .before .before .before .args .in-a .now)) (told (c .before .before .before .before .before .before .before .before .before .before .before .before .before .before .before .before .before .before .before .before .before .before .before .before .before .before .before .before .before .before .before .before .before .before .before .before .before .before .before .before .before .before .before .before .before .before .before .before .before .before .before .before .before .before .before .before .before .before .before .before .before .before .before .before .before .before .before .before .before .before .before .before .before .before .before .before .before .before .before .args .in-b .now)) (split-checks d f h b e (rest-checks d₂ lines₂ kinds₂ h₂ b₂ e₂ lines₃ kinds₃ b₃)) (c .resumed .ensures)) .long
 
@@ -488,13 +487,13 @@ module _ (t : ℕ) where
       let b = c .before .before .before .before .before .before .before .before .before .before .before .before .before .before .before .before .before .before .before .before .before .before .before .before .before .before .before .before .before .before .before .before .before .before .before .before .before .before .before .before .before .before .before .before .before .before .check-branch .ensures in
       let e = c .before .before .before .before .before .before .before .before .before .before .before .before .before .before .before .before .before .before .before .before .before .before .before .before .before .before .before .before .before .before .before .before .before .before .before .before .before .before .before .first .given .1 in
       let d₂ = rest-divided d f h b e in
-      let lines₂ = c .before .before .before .before .before .before .before .before .before .before .before .before .before .before .before .before .before .before .before .before .before .before .before .before .before .before .before .before .before .before .before .before .before .before .before .start-second .ensures .0 in
-      let kinds₂ = c .before .before .before .before .before .before .before .before .before .before .before .before .before .before .before .before .before .before .before .before .before .before .before .before .before .before .before .before .before .before .before .before .before .before .before .start-second .ensures .1 in
+      let lines₂ = c .before .before .before .before .before .before .before .before .before .before .before .before .before .before .before .before .before .before .before .before .before .before .before .before .before .before .before .before .before .before .before .before .before .before .before .start .ensures .0 in
+      let kinds₂ = c .before .before .before .before .before .before .before .before .before .before .before .before .before .before .before .before .before .before .before .before .before .before .before .before .before .before .before .before .before .before .before .before .before .before .before .start .ensures .1 in
       let h₂ = c .before .before .before .before .before .before .before .before .before .before .before .before .before .before .before .before .before .before .before .before .before .before .before .before .before .before .before .before .before .before .put-pair2 .ensures in
       let b₂ = c .before .before .before .before .before .before .before .before .before .before .before .before .before .before .before .before .before .before .before .before .before .before .before .before .check-branch2 .ensures in
       let e₂ = c .before .before .before .before .before .before .before .before .before .before .before .before .before .before .before .before .before .second .given .1 in
-      let lines₃ = c .before .before .before .before .before .before .before .before .before .before .before .before .before .start-third .ensures .0 in
-      let kinds₃ = c .before .before .before .before .before .before .before .before .before .before .before .before .before .start-third .ensures .1 in
+      let lines₃ = c .before .before .before .before .before .before .before .before .before .before .before .before .before .start2 .ensures .0 in
+      let kinds₃ = c .before .before .before .before .before .before .before .before .before .before .before .before .before .start2 .ensures .1 in
       let b₃ = c .before .before .before .before .before .before .check-branch3 .ensures in
       resumed-checks m (stop .kept) s made (told (c .before .before .before .before .before .before .before .before .before .before .before .before .before .before .before .before .before .before .before .before .before .before .before .before .before .before .before .before .before .before .before .before .before .before .before .before .before .before .before .before .before .before .before .before .before .before .before .before .before .before .before .before .before .before .before .before .before .before .before .before .before .before .before .before .before .before .before .before .before .before .before .before .before .before .before .before .before .before .before .args .in-a .now)) (told (c .before .before .before .before .before .before .before .before .before .before .before .before .before .before .before .before .before .before .before .before .before .before .before .before .before .before .before .before .before .before .before .before .before .before .before .before .before .before .before .before .before .before .before .before .before .before .before .before .before .before .before .before .before .before .before .before .before .before .before .before .before .before .before .before .before .before .before .before .before .before .before .before .before .before .before .before .before .before .before .args .in-b .now)) (split-checks d f h b e (rest-checks d₂ lines₂ kinds₂ h₂ b₂ e₂ lines₃ kinds₃ b₃)) (c .resumed .ensures)
 
@@ -516,10 +515,8 @@ pub +check-branch-spec : {M : Type 1} → statement M
   put-pair-reads.Learnt,
   check-branch-below t,
   check-branch.Post,
-  start-second-reads.Asked,
-  start-second-reads.Learnt,
-  start-third-reads.Asked,
-  start-third-reads.Learnt,
+  start-reads.Asked,
+  start-reads.Learnt,
   resumed-reads.Asked,
   resumed-reads.Learnt,
 )
@@ -562,7 +559,7 @@ pub +check-branch-spec : {M : Type 1} → statement M
     (check-branch-same-length-12 t)
     (check-branch-same-length-13 t)
     (check-branch-returns-5 t)
-    (check-branch-start-second-requires t)
+    (check-branch-start-requires t)
     (check-branch-put-pair-requires-2 t)
     (check-branch-check-branch-requires-2 t)
     (check-branch-enum-known-second t)
@@ -571,7 +568,7 @@ pub +check-branch-spec : {M : Type 1} → statement M
     (check-branch-same-length-15 t)
     (check-branch-same-length-16 t)
     (check-branch-returns-6 t)
-    (check-branch-start-third-requires t)
+    (check-branch-start-requires-2 t)
     (check-branch-check-branch-requires-3 t)
     (check-branch-resumed-requires t)
     (check-branch-same-length-17 t)
