@@ -5,10 +5,7 @@ ghost use lib.ListN.{length, take};
 ghost use Rattle.io.specs.Counts.{Counts};
 ghost use Rattle.proof.specs.Check.{check as Check·check};
 ghost use Rattle.checker.specs.Said.{PutAccepted, Printed, Room};
-
-mod standin;
-
-use crate::standin::check;
+use checking::check::check;
 use libc::STDOUT_FILENO;
 
 // The lines of an acceptance: how many bytes were written, and these.
