@@ -13,49 +13,30 @@ use Rattle.forms.specs.Edition.{edition1}
 use Rattle.forms.specs.Forms.{Formula}
 use Rattle.fields.specs.declared.Answer.{Answer}
 use Rattle.fields.specs.declared.FileKind.{FileKind}
-use Rattle.fields.specs.declared.Next.{Next}
+use Rattle.fields.specs.declared.ending.Ending.{Ending}
 use Rattle.fields.specs.declared.header.Headed.{Headed}
 use Rattle.fields.specs.Answers.{answer, fileProof, fileLent, Result, refused, accepted, _>>=_, _>>_, need}
 use Rattle.fields.specs.Fields.{Fields, fields}
-use Rattle.fields.specs.Header.{Header, known, agrees, header, finished}
-use Rattle.fields.specs.Places.{fieldsAt, nextOf, givenK, headedOf, IsHeader}
-use Rattle.fields.proofs.Places.{Starts, next-cut, next-ends}
+use Rattle.fields.specs.Header.{Header, agrees, header, finished}
+use Rattle.fields.specs.Places.{fieldsAt, givenK, headedOf, IsHeader}
+use Rattle.fields.specs.Ending.{IsEnding}
 use Rattle.fields.proofs.Refusals.{Gives, no, yes, bind, passing, finding}
 use Rattle.formula.specs.Formula.{readFormula}
 use Rattle.formula.specs.Test.{judge, registers, judged, tested, testFormula}
 use Rattle.formula.specs.Registers.{ranged, FirstOutside, Registers}
 use Rattle.formula.specs.Judging.{FormulaRead}
-use Rattle.formula.specs.Outcomes.{asTested, refusal, IsEnding, endTested, Finish}
+use Rattle.formula.specs.Outcomes.{asTested, refusal, endTested, Finish}
 use Rattle.formula.specs.declared.Tested.{Tested}
-use Rattle.formula.specs.declared.ending.Ending.{Ending}
 use Rattle.formula.specs.declared.reading.Judged.{Judged}
 use Rattle.formula.proofs.Ways.{bind-refused, bind-accepted}
 
 -- ---- what may stand after the formula
-module _ {s : List ℕ} {at : ℕ} {r : Next} (e : r ≡ nextOf (fieldsAt s at)) where
-  pub ending-none : {a : ℕ} → r ≡ Next.Ends a → IsEnding s at Ending.Ended
-  unfolding finished
-  ending-none q = record { is = rw (next-ends (fieldsAt s at) e q) }
-
-  pub ending-cut : {a : ℕ} → r ≡ Next.Cut a → IsEnding s at (Ending.Fault 2 a)
-  unfolding finished
-  ending-cut q = record { is = rw (next-cut (fieldsAt s at) e q) }
-
-module _ {s : List ℕ} {at a tag start len next : ℕ} (k : Starts s at a tag start len next) where
-  pub ending-known : known FileKind.Formula tag ≡ true → IsEnding s at (Ending.Fault 19 a)
-  unfolding finished need _>>_
-  ending-known h = record { is = rw (k .is, h) }
-
-  pub ending-unknown : known FileKind.Formula tag ≡ false → IsEnding s at (Ending.Fault 3 a)
-  unfolding finished need _>>_
-  ending-unknown h = record { is = rw (k .is, h) }
-
-module _ {s : List ℕ} {at : ℕ} (holds : Bool) {e : Ending} (k : IsEnding s at e) where
+module _ {s : List ℕ} {at : ℕ} (holds : Bool) {e : Ending} (k : IsEnding FileKind.Formula s at e) where
   pub finish-ended : e ≡ Ending.Ended → Finish s at holds (record { answer = answer 0 0 0; holds = holds })
-  finish-ended q = record { is = sym (ap (endTested holds) (k .is) ∙ rw q) }
+  finish-ended q = record { is = sym (ap (endTested holds) (k .is fileProof) ∙ rw q) }
 
   pub finish-fault : {number p : ℕ} {r : Tested} → e ≡ Ending.Fault number p → r ≡ refusal number fileProof p → Finish s at holds r
-  finish-fault q f = record { is = f ∙ sym (ap (endTested holds) (k .is) ∙ rw q) }
+  finish-fault q f = record { is = f ∙ sym (ap (endTested holds) (k .is fileProof) ∙ rw q) }
 
 -- ---- K is the number of values
 any : {X : Type 0} (r : Result X) → Gives (λ a. Unit {0}) (λ x. Unit {0}) r

@@ -1,6 +1,8 @@
 // Formulas on bytes: reading one and testing it at register values.
 use fields::Answer;
 use fields::FileKind;
+use fields::ending::Ending;
+use fields::ending::ending_at;
 use fields::header::Headed;
 use fields::header::read_header;
 ghost use mathlib.Core.Path.{_≡_};
@@ -10,14 +12,11 @@ ghost use Rattle.formula.specs.Test.{judged, testFormula};
 ghost use Rattle.formula.specs.Registers.{Registers};
 ghost use Rattle.formula.specs.Outcomes.{asTested, refusal, Finish};
 
-mod ending;
 mod form;
 mod node;
 mod reading;
 mod values;
 
-use ending::Ending;
-use ending::ending_at;
 use reading::Judged;
 use reading::formula_at;
 use values::first_outside;
@@ -46,7 +45,7 @@ fn refuse(number: u8, file: u8, place: usize) -> Tested
 fn finish(formula: &[u8], at: usize, holds: bool) -> Tested
     ensures { λ r. ⌜ Finish (now (formula .entry)) at holds r ⌝ }
 {
-    match ending_at(formula, at) {
+    match ending_at(formula, at, FileKind::Formula) {
         Ending::Ended => Tested {
             answer: Answer {
                 number: 0,
