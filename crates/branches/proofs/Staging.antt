@@ -26,7 +26,7 @@ use Rattle.rows.specs.Rows.{Ready, Kept}
 use Rattle.branches.specs.Branches.{Comes, Stopped}
 use Rattle.branches.specs.Formulas.{Heads, Puts}
 use Rattle.branches.specs.Branching.{Wrote, EndedBy, below, strengthened, Splits, returnedTo, closedBy, Started, Closes, Branches}
-use Rattle.rows.specs.declared.tally.Line as tally
+use Rattle.bundle.specs.declared.Line as tally
 use Rattle.rows.specs.declared.tally.Tally.{Tally}
 use Rattle.rows.specs.declared.derive.Derived.{Derived}
 use Rattle.rows.specs.declared.derive.Derived.the-variants as derived

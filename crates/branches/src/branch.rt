@@ -4,11 +4,11 @@ ghost use Rattle.branches.specs.Branches.{Stopped};
 ghost use mathlib.Core.Path.{_≡_};
 ghost use Rattle.branches.specs.Branching.{returnedTo, closedBy};
 use crate::ends::Ended;
+use bundle::Line;
 use fields::Next;
 use fields::next_field;
 use rows::steps::Stepped;
 use rows::steps::step;
-use rows::tally::Line;
 use rows::tally::Tally;
 
 pub enum Stop {

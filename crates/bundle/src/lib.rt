@@ -200,7 +200,7 @@ pub fn write(k: u8, kinds: &[u8], numbers: &[i16], out: &mut [u8]) -> WriteResul
     }
 }
 
-// A line's number: A's constraints in file order, then B's.
+// A line's number on its branch: A's constraints in file order, then B's, then the lines that rows make.
 pub struct Line(pub u16);
 
 // The field of the constraint that a line number names, out of A's or B's buffer; the empty part at A's start where it is refused.

@@ -25,7 +25,7 @@ use Rattle.fields.specs.Ranges.{Held}
 use Rattle.lines.specs.Parts.{part-part}
 use Rattle.proof.specs.Entries.{Tagged, combineTag, reduceTag, scaleTag, strengthenTag, numberTag, strideTag, claimTag, sizeOf, entryFrom, lineNumber, multiplier, entryTagged, inPlace, entry}
 use Rattle.rows.specs.Entries.{Multiplies, stated, Ranged, Shaped, claimed, there, Entered}
-use Rattle.rows.specs.declared.tally.Line.{Line}
+use Rattle.bundle.specs.declared.Line.{Line}
 use Rattle.rows.specs.declared.entries.Entry.{Entry}
 use Rattle.rows.specs.declared.entries.Entry.the-variants.{Combine, Reduce, Scale, Strengthen, CloseNumber, CloseStride, Claim, Refused}
 

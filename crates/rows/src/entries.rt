@@ -5,7 +5,7 @@ ghost use lib.ListN.{length, take, drop};
 ghost use Rattle.proof.specs.Entries.{combineTag, reduceTag, scaleTag, strengthenTag, numberTag, strideTag, claimTag};
 ghost use Rattle.fields.specs.Numbers.{unsigned};
 ghost use Rattle.rows.specs.Entries.{Multiplies, Shaped, claimed, Entered};
-use crate::tally::Line;
+use bundle::Line;
 
 pub enum Entry {
     Combine {

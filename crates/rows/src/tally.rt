@@ -1,11 +1,10 @@
 // The tally of a check: the numbers of the next row and the next line, and the strengthens open.
+use bundle::Line;
 ghost use mathlib.Core.Path.{_≡_};
 ghost use Rattle.rows.specs.Tally.{rowCounted, lineCounted, openCounted, Advanced};
 
 // A row is numbered in the file, a line on its branch.
 pub struct Row(pub u16);
-
-pub struct Line(pub u16);
 
 pub struct Tally {
     pub rows: Row,
