@@ -20,8 +20,8 @@ use Rattle.fields.specs.Header.{agrees, known, headerTag, header, headerField, 
 use Rattle.fields.proofs.Signed.{InWidth, FormInWidth, length-signedBytes, signed-signedBytes, length-formBytes, formFrom-written}
 use Rattle.formula.specs.Formula.{encode, formulaFile, Connective, disjunction, conjunction, Tagged, pair, atom, stride, formulaTagged, joined, sizeOf, formulaOf, formulaField, twoParts, formulaWithin, readFormula}
 use Rattle.fields.proofs.Framing.{fuel-irrelevant}
-use Rattle.fields.proofs.Results.{binds}
-use Rattle.formula.proofs.Fronts.{pass, done, got, fields-field, fields-end}
+use Rattle.fields.proofs.Results.{binds, passes, found-some, pass}
+use Rattle.formula.proofs.Fronts.{fields-field, fields-end}
 
 -- Every form has K coefficients, every number fits its four bytes, and g is at least 2.
 abbrev pub Encodable : ℕ → Formula → Type 0
@@ -63,7 +63,7 @@ module _ (K : ℕ) (two : Two) (fs : Fields) (at : ℕ) where
   field-read tag contents tagged k t s =
       let f = field at tag contents in
       pass (answer 3 fileProof at) _ k
-      ∙ got (answer 4 fileProof at) (λ x. need (answer 6 fileProof at) (eqb (length contents) (sizeOf edition1 K x)) >> formulaOf edition1 K two f fs x) t
+      ∙ binds (λ x. need (answer 6 fileProof at) (eqb (length contents) (sizeOf edition1 K x)) >> formulaOf edition1 K two f fs x) (found-some (answer 4 fileProof at) t)
       ∙ pass (answer 6 fileProof at) (formulaOf edition1 K two f fs tagged) (eq-eqb (length contents) (sizeOf edition1 K tagged) s)
 
   atom-read : (tag : ℕ) (k : Kind) (t : Form) → known FileKind.Formula tag ≡ true → formulaTagged tag ≡ some (atom k) → FormInWidth 4 K t
@@ -197,7 +197,7 @@ header-read : (K : ℕ) (fs : Fields) → 1 ≤ K → K ≤ 16 → header FileKi
 unfolding header editionNumbered agrees known headerTag
 header-read K fs low high =
     binds _ (header-field-read 0x01 0 1 (field 4 0x02 (K ∷ []) ▸ fs) refl)
-    ∙ got _ _ refl
+    ∙ binds _ (found-some _ refl)
     ∙ binds _ (header-field-read 0x02 4 K fs refl)
     ∙ pass _ _ (rw (le-leb 1 K low, le-leb K 16 high))
     ∙ pass _ _ (eq-eqb K K refl)
@@ -232,7 +232,7 @@ read-written K I low high h l =
     ap (readFormula K) (ap (λ (m : ℕ). fieldsFrom m 0 (headerBytes K ++ X)) size ∙ header-fields K n X)
     ∙ binds _ (header-read K (fieldsFrom n 8 X) low high)
     ∙ binds _ part
-    ∙ done (accepted I)
+    ∙ passes (accepted I) refl
 
 -- ---- length
 -- How many literals and stride parts a formula has.
