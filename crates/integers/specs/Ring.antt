@@ -41,12 +41,6 @@ _⊗_ {a} {b} p q = record { up = p .up * q .up + p .dn * q .dn; dn = p .up * q 
 pub ring : {a b : ℤ} (p : Rep a) (q : Rep b) → p .up + q .dn ≡ q .up + p .dn → a ≡ b
 ring {a} {b} p q h = eq-pn a b (omega (arith, p .fact, q .fact))
 
-pub ringle : {a b : ℤ} (p : Rep a) (q : Rep b) → p .up + q .dn ≤ q .up + p .dn → a ≤ℤ b
-ringle {a} {b} p q h = le-pn a b (omega (arith, p .fact, q .fact))
-
-pub leof : {a b : ℤ} (p : Rep a) (q : Rep b) → a ≤ℤ b → p .up + q .dn ≤ q .up + p .dn
-leof p q h = omega (arith, p .fact, q .fact, pn-le h)
-
 pub eqof : {a b : ℤ} (p : Rep a) (q : Rep b) → a ≡ b → p .up + q .dn ≡ q .up + p .dn
 eqof p q h = omega (arith, p .fact, q .fact, pn-eq h)
 
