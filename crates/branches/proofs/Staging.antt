@@ -17,7 +17,7 @@ use Rattle.fields.specs.Fields.{Fields, fieldBytes}
 use Rattle.fields.specs.Places.{fieldsAt}
 use Rattle.fields.proofs.Stores.{sets-append}
 use Rattle.formula.specs.Formula.{encode}
-use Rattle.bundle.proofs.Putting.{field-size}
+use Rattle.fields.proofs.Framing.{length-fieldBytes as field-size}
 use Rattle.lines.specs.Buffer.{linesIn}
 use Rattle.lines.specs.Occurrence.{told}
 use Rattle.proof.specs.Rows.{byNumber, byStride}

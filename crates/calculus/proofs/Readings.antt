@@ -3,7 +3,7 @@ use mathlib.Core.Path.{_≡_, refl, sym, _∙_, ap}
 use mathlib.Core.List.{List, [], _∷_, map}
 use mathlib.Core.Bool.{Bool, true, false, cond}
 use Prim.Native.Nat.{ℕ, zero, suc}
-use lib.ListN.{getD}
+use lib.ListN.{length, getD}
 use native.Mathlib.Omega.{arith}
 use lib.IntN.{ℤ, pos, negsuc, _+ℤ_, _-ℤ_, _*ℤ_, +ℤ-assoc}
 use Rattle.integers.specs.Ring.{var, ring, poly}
@@ -30,17 +30,23 @@ abbrev scaled : ℤ → List ℤ → List ℤ
 scaled α = map (λ (c : ℤ). α *ℤ c)
 
 -- ---- the coefficient of constant k
-getD-sums : (a b : List ℤ) (k : ℕ) → getD (sums a b) k (pos 0) ≡ getD a k (pos 0) +ℤ getD b k (pos 0)
+pub getD-sums : (a b : List ℤ) (k : ℕ) → getD (sums a b) k (pos 0) ≡ getD a k (pos 0) +ℤ getD b k (pos 0)
 unfolding sums
 getD-sums [] b k = simp ring-laws
 getD-sums (x ∷ a) [] k = simp ring-laws
 getD-sums (x ∷ a) (y ∷ b) zero = refl
 getD-sums (x ∷ a) (y ∷ b) (suc k) = getD-sums a b k
 
-getD-scaled : (α : ℤ) (a : List ℤ) (k : ℕ) → getD (scaled α a) k (pos 0) ≡ α *ℤ getD a k (pos 0)
+pub getD-scaled : (α : ℤ) (a : List ℤ) (k : ℕ) → getD (scaled α a) k (pos 0) ≡ α *ℤ getD a k (pos 0)
 getD-scaled α [] k = simp ring-laws
 getD-scaled α (x ∷ a) zero = refl
 getD-scaled α (x ∷ a) (suc k) = getD-scaled α a k
+
+pub length-sums : (a b : List ℤ) → length a ≡ length b → length (sums a b) ≡ length a
+unfolding sums
+length-sums [] b h = sym h
+length-sums (x ∷ a) [] h = refl
+length-sums (x ∷ a) (y ∷ b) h = ap suc (length-sums a b (omega arith))
 
 pub coeff-reading : (k : ℕ) → Reading (λ t. coeff t k)
 unfolding coeff _⊞_ _·_
@@ -83,7 +89,7 @@ pub coeff-plus : (t : Form) (n : ℕ) (k : ℕ) → coeff (t plus n) k ≡ coeff
 unfolding coeff _plus_
 coeff-plus t n k = refl
 
-getD-only : (p : ℕ → Bool) (a : List ℤ) (k : ℕ) → getD (only p a) k (pos 0) ≡ cond (p k) (getD a k (pos 0)) (pos 0)
+pub getD-only : (p : ℕ → Bool) (a : List ℤ) (k : ℕ) → getD (only p a) k (pos 0) ≡ cond (p k) (getD a k (pos 0)) (pos 0)
 unfolding only
 getD-only p [] k = never (p k)
   where
@@ -92,6 +98,11 @@ getD-only p [] k = never (p k)
     never false = refl
 getD-only p (x ∷ a) zero = refl
 getD-only p (x ∷ a) (suc k) = getD-only (rest p) a k
+
+pub length-only : (p : ℕ → Bool) (a : List ℤ) → length (only p a) ≡ length a
+unfolding only
+length-only p [] = refl
+length-only p (x ∷ a) = ap suc (length-only (rest p) a)
 
 pub coeff-within : (p : ℕ → Bool) (t : Form) (k : ℕ) → coeff (within p t) k ≡ cond (p k) (coeff t k) (pos 0)
 unfolding coeff within

@@ -57,6 +57,10 @@ shorter (t ∷ h ∷ l ∷ bs) = go (leb n (length bs))
     go true = rw length-drop (omega arith)
     go false = tt
 
+pub length-fieldBytes : (tag : ℕ) (contents : List ℕ) → length (fieldBytes tag contents) ≡ 3 + length contents
+unfolding fieldBytes unsignedBytes
+length-fieldBytes tag contents = omega arith
+
 -- What follows a whole field is shorter.
 pub front-shorter : (bs : List ℕ) {tag : ℕ} {contents after : List ℕ} → front bs ≡ whole tag contents after → length after < length bs
 front-shorter bs e = rw e at (shorter bs)

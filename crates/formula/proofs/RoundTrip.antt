@@ -19,7 +19,8 @@ use Rattle.fields.specs.Fields.{Field, Fields, ends, _▸_, note, fields, field
 use Rattle.fields.specs.Header.{agrees, known, headerTag, header, headerField, finished, headerBytes}
 use Rattle.fields.proofs.Signed.{InWidth, FormInWidth, length-signedBytes, signed-signedBytes, length-formBytes, formFrom-written}
 use Rattle.formula.specs.Formula.{encode, formulaFile, Connective, disjunction, conjunction, Tagged, pair, atom, stride, formulaTagged, joined, sizeOf, formulaOf, formulaField, twoParts, formulaWithin, readFormula}
-use Rattle.fields.proofs.Framing.{fuel-irrelevant}
+use Rattle.fields.proofs.Framing.{fuel-irrelevant, length-fieldBytes}
+use Rattle.fields.proofs.Headers.{length-headerBytes}
 use Rattle.fields.proofs.Results.{binds, passes, found-some, pass}
 use Rattle.formula.proofs.Fronts.{fields-field, fields-end}
 
@@ -49,10 +50,6 @@ field at tag contents = record { at = at; tag = tag; contents = contents }
 
 abbrev Two : Type 0
 Two = ℕ → Fields → Result (Formula × Formula × Fields)
-
-length-fieldBytes : (tag : ℕ) (contents : List ℕ) → length (fieldBytes tag contents) ≡ 3 + length contents
-unfolding fieldBytes unsignedBytes
-length-fieldBytes tag contents = omega arith
 
 -- ---- one field
 module _ (K : ℕ) (two : Two) (fs : Fields) (at : ℕ) where
@@ -208,10 +205,6 @@ header-fields K fuel bs =
     ap (fieldsFrom (suc (suc fuel)) 0) (append-assoc (fieldBytes 0x01 (1 ∷ [])) (fieldBytes 0x02 (K ∷ [])) bs)
     ∙ fields-field 0x01 (1 ∷ []) (fieldBytes 0x02 (K ∷ []) ++ bs) (suc fuel) 0 (omega arith) refl
     ∙ ap (λ (fs : Fields). field 0 0x01 (1 ∷ []) ▸ fs) (fields-field 0x02 (K ∷ []) bs fuel 4 (omega arith) refl)
-
-pub length-headerBytes : (K : ℕ) → length (headerBytes K) ≡ 8
-unfolding headerBytes
-length-headerBytes K = omega (arith, length-append (fieldBytes 0x01 (1 ∷ [])) (fieldBytes 0x02 (K ∷ [])), length-fieldBytes 0x01 (1 ∷ []), length-fieldBytes 0x02 (K ∷ []))
 
 pub length-formulaFile : (K : ℕ) (I : Formula) → length (formulaFile edition1 K I) ≡ 8 + length (encode edition1 I)
 unfolding formulaFile

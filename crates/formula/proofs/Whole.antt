@@ -19,6 +19,7 @@ use Rattle.fields.specs.Fields.{Fields, fields}
 use Rattle.fields.specs.Header.{Header, agrees, header, finished}
 use Rattle.fields.specs.Places.{fieldsAt, givenK, headedOf, IsHeader}
 use Rattle.fields.specs.Ending.{IsEnding}
+use Rattle.fields.proofs.Headers.{given-some}
 use Rattle.fields.proofs.Refusals.{Gives, no, yes, bind, passing, finding}
 use Rattle.fields.proofs.Results.{binds, passes, pass, fail, bind-refused, then-refused}
 use Rattle.formula.specs.Formula.{readFormula}
@@ -53,10 +54,6 @@ header-gives kind file g fs =
 
 given : {h : Header} {g : ℕ} → Gives (λ a. Unit {0}) (λ (h : Header). h .K ≡ g) (accepted h) → h .K ≡ g
 given (yes q) = q
-
-given-some : (k : ℕ) → 1 ≤ k → givenK k ≡ some k
-given-some zero h = absurd (omega arith)
-given-some (suc k) h = refl
 
 -- ---- reading the formula whole
 end-judged : (values : List ℤ) (I : Formula) {holds : Bool} → holds ≡ judge I (registers values) → (w : Result (Unit {0}))

@@ -27,6 +27,7 @@ use Rattle.rows.specs.Rows.{Ready, Kept, Terms, moreLines, sumOf, Grown,
 use Rattle.rows.specs.declared.tally.Tally.{Tally}
 use Rattle.rows.specs.declared.tally.Counted.{Counted}
 use Rattle.rows.specs.declared.derive.Derived.the-variants.{Refused, Made}
+use Rattle.rows.proofs.Counting.{counted-made, counted-full}
 
 pub kept-refl : {K n : ℕ} {kinds : List ℕ} {buf : List ℤ} → Kept K n kinds buf kinds buf
 kept-refl = record { lines-same = agree-refl; kinds-same = agree-refl; lines-length = refl; kinds-length = refl }
@@ -34,19 +35,11 @@ kept-refl = record { lines-same = agree-refl; kinds-same = agree-refl; lines-len
 -- ---- one more line
 pub counted-line : {t : Tally} {r : Counted} → r ≡ lineCounted t → r .made ≡ true → (t .lines .0 < 128) × (r .tally ≡ moreLines t)
 unfolding lineCounted
-counted-line {t} {r} e h = go (ltb (t .lines .0) 128) refl
-  where
-    go : (b : Bool) → ltb (t .lines .0) 128 ≡ b → (t .lines .0 < 128) × (r .tally ≡ moreLines t)
-    go true q = (ltb-true (t .lines .0) 128 q, ap (λ (x : Counted). x .tally) e ∙ rw q)
-    go false q = absurd (let z : r .made ≡ false = ap (λ (x : Counted). x .made) e ∙ rw q in let y : _≡_ {A = ℕ} 0 1 = cc in omega arith)
+counted-line {t} e h = let c = counted-made (ltb (t .lines .0) 128) (moreLines t) t e h in (ltb-true (t .lines .0) 128 (c .0), c .1)
 
 pub full-line : (t : Tally) {r : Counted} → r ≡ lineCounted t → r .made ≡ false → 128 ≤ t .lines .0
 unfolding lineCounted
-full-line t {r} e h = go (ltb (t .lines .0) 128) refl
-  where
-    go : (b : Bool) → ltb (t .lines .0) 128 ≡ b → 128 ≤ t .lines .0
-    go true q = absurd (let z : r .made ≡ true = ap (λ (x : Counted). x .made) e ∙ rw q in let y : _≡_ {A = ℕ} 0 1 = cc in omega arith)
-    go false q = ltb-false (t .lines .0) 128 q
+full-line t e h = ltb-false (t .lines .0) 128 (counted-full (ltb (t .lines .0) 128) (moreLines t) t e h)
 
 module _ {K : ℕ} {kinds : List ℕ} {buf : List ℤ} (t : Tally) (f : ℤ) (i : ℕ) (g : ℤ) (j kind : ℕ) (ready : Ready K kinds buf (t .lines .0)) where
   pub append-full : 128 ≤ t .lines .0 → Appended K kinds buf t f i g j kind kinds buf (Refused 16)

@@ -36,22 +36,15 @@ use Rattle.rows.specs.declared.derive.Derived.the-variants as derived-of
 use Rattle.rows.specs.declared.steps.Stepped.{Stepped}
 use Rattle.rows.specs.declared.steps.Stepped.the-variants.{Refused, Made, Strengthens, ClosesNumber, ClosesStride}
 use Rattle.rows.proofs.Deriving.{kept-refl}
+use Rattle.rows.proofs.Counting.{counted-made, counted-full}
 
 pub counted-row : {t : Tally} {r : Counted} → r ≡ rowCounted t → r .made ≡ true → (t .rows .0 < 1024) × (r .tally ≡ moreRows t)
 unfolding rowCounted
-counted-row {t} {r} e h = go (ltb (t .rows .0) 1024) refl
-  where
-    go : (b : Bool) → ltb (t .rows .0) 1024 ≡ b → (t .rows .0 < 1024) × (r .tally ≡ moreRows t)
-    go true q = (ltb-true (t .rows .0) 1024 q, ap (λ (x : Counted). x .tally) e ∙ rw q)
-    go false q = absurd (let z : r .made ≡ false = ap (λ (x : Counted). x .made) e ∙ rw q in let y : _≡_ {A = ℕ} 0 1 = cc in omega arith)
+counted-row {t} e h = let c = counted-made (ltb (t .rows .0) 1024) (moreRows t) t e h in (ltb-true (t .rows .0) 1024 (c .0), c .1)
 
 pub full-row : (t : Tally) {r : Counted} → r ≡ rowCounted t → r .made ≡ false → 1024 ≤ t .rows .0
 unfolding rowCounted
-full-row t {r} e h = go (ltb (t .rows .0) 1024) refl
-  where
-    go : (b : Bool) → ltb (t .rows .0) 1024 ≡ b → 1024 ≤ t .rows .0
-    go true q = absurd (let z : r .made ≡ true = ap (λ (x : Counted). x .made) e ∙ rw q in let y : _≡_ {A = ℕ} 0 1 = cc in omega arith)
-    go false q = ltb-false (t .rows .0) 1024 q
+full-row t e h = ltb-false (t .rows .0) 1024 (counted-full (ltb (t .rows .0) 1024) (moreRows t) t e h)
 
 module _ (K : ℕ) (kinds : List ℕ) (buf : List ℤ) (t : Tally) (row : rules.Row) where
   pub row-full : 1024 ≤ t .rows .0 → Steps (rowChecked K kinds buf t row) K kinds buf t kinds buf (Refused 18)
