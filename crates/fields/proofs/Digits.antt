@@ -1,7 +1,7 @@
 -- Laws of big-endian numbers: one byte more, two's complement and back, over any width. Assumes nothing.
 use mathlib.Core.Path.{_≡_, refl, sym, _∙_}
 use mathlib.Core.Bool.{true, false}
-use mathlib.Core.List.{List, [], _∷_, _++_}
+use mathlib.Core.List.{List, [], _∷_}
 use Prim.Native.Nat.{ℕ, zero, suc, _+_, _*_, _-_, _/_, _%_, _^_, _≤_, _<_}
 use native.Mathlib.Nat.{pow-le-pow-right}
 use native.Mathlib.Numerals.{add-one}
@@ -9,11 +9,11 @@ use native.Mathlib.Omega.{arith}
 use lib.Dec.{ltb, ltb→lt, nltb→le}
 use lib.IntN.{ℤ, pos, negsuc, negℤ, _+ℤ_, _-ℤ_}
 use lib.Signed.{ltZ}
-use lib.ListN.{length, getD, take, drop, set, length-append, length-drop}
+use lib.ListN.{length, getD, take, drop, set, length-drop}
 use lib.Seq.{sets, take-suc, getD-drop}
 use borrow.Author.Tests.{ltb-true}
 use Rattle.integers.specs.Linear.{ints, add-pn, neg-pn, cond-ind}
-use Rattle.fields.specs.Numbers.{natFrom, unsigned, complement, residue, unsignedBytes}
+use Rattle.fields.specs.Numbers.{unsigned, complement, residue, unsignedBytes}
 use Rattle.fields.specs.Ranges.{Half}
 use Rattle.fields.proofs.Stores.{sets-append, sets-set}
 use Rattle.fields.proofs.Signed.{length-unsignedBytes, natFrom-append}

@@ -106,12 +106,6 @@ module _ (at : ℕ) (bs : List ℕ) where
   more-fuel : fieldsAt at bs ≡ fieldsFrom (suc (length bs)) at bs
   more-fuel = fuel-irrelevant (length bs) (suc (length bs)) at bs (omega arith) (omega arith)
 
-  pub fieldsAt-nothing : front bs ≡ nothing → fieldsAt at bs ≡ ends at
-  fieldsAt-nothing e = more-fuel ∙ from-nothing (length bs) at bs e
-
-  pub fieldsAt-broken : front bs ≡ broken → fieldsAt at bs ≡ cut at
-  fieldsAt-broken e = more-fuel ∙ from-broken (length bs) at bs e
-
   pub fieldsAt-whole : {tag : ℕ} {contents after : List ℕ} → front bs ≡ whole tag contents after
       → fieldsAt at bs ≡ unlessNote (note tag) (record { at = at; tag = tag; contents = contents }) (fieldsAt (at + 3 + length contents) after)
   fieldsAt-whole {tag} {contents} {after} e =

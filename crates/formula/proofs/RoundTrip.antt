@@ -14,7 +14,7 @@ use Rattle.forms.specs.Edition.{edition1, editionNumbered}
 use Rattle.forms.specs.Forms.{Kind, ≤0, =0, Form, Formula, literal, _divides_, _and_, _or_}
 use Rattle.fields.specs.declared.FileKind.{FileKind}
 use Rattle.fields.specs.Answers.{answer, fileProof, Result, accepted, _>>_, need}
-use Rattle.fields.specs.Numbers.{unsignedBytes, signed, signedBytes, formFrom, formBytes, formWidth}
+use Rattle.fields.specs.Numbers.{signed, signedBytes, formFrom, formBytes, formWidth}
 use Rattle.fields.specs.Fields.{Field, Fields, ends, _▸_, note, fields, fieldsFrom, fieldBytes}
 use Rattle.fields.specs.Header.{agrees, known, headerTag, header, headerField, finished, headerBytes}
 use Rattle.fields.proofs.Signed.{InWidth, FormInWidth, length-signedBytes, signed-signedBytes, length-formBytes, formFrom-written}

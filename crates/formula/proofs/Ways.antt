@@ -16,7 +16,7 @@ use Rattle.forms.specs.Edition.{edition1}
 use Rattle.forms.specs.Forms.{≤0, =0, value, Formula, literal, _divides_}
 use Rattle.fields.specs.declared.FileKind.{FileKind}
 use Rattle.fields.specs.declared.Next.{Next}
-use Rattle.fields.specs.Answers.{answer, fileProof, Result, refused, accepted, _>>=_, _>>_, need, found}
+use Rattle.fields.specs.Answers.{answer, fileProof, Result, accepted, _>>=_, _>>_, need, found}
 use Rattle.fields.specs.Numbers.{signed, formWidth}
 use Rattle.fields.specs.Fields.{Field, Fields, _▸_}
 use Rattle.fields.specs.Header.{known}

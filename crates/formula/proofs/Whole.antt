@@ -1,9 +1,9 @@
 -- Each way through testing a formula, over plain values. Assumes nothing.
 use mathlib.Core.Path.{_≡_, refl, sym, ap, _∙_}
 use mathlib.Core.Option.{some}
-use mathlib.Core.Bool.{Bool, true}
+use mathlib.Core.Bool.{Bool}
 use mathlib.Core.List.{List}
-use Prim.Native.Nat.{ℕ, zero, suc, _≤_, _<_}
+use Prim.Native.Nat.{ℕ, _≤_, _<_}
 use native.Mathlib.Omega.{arith}
 use lib.Dec.{leb}
 use lib.IntN.{ℤ}
@@ -17,7 +17,7 @@ use Rattle.fields.specs.declared.header.Headed.{Headed}
 use Rattle.fields.specs.Answers.{answer, fileProof, fileLent, Result, refused, accepted, _>>_, need}
 use Rattle.fields.specs.Fields.{Fields, fields}
 use Rattle.fields.specs.Header.{Header, agrees, header, finished}
-use Rattle.fields.specs.Places.{fieldsAt, givenK, headedOf, IsHeader}
+use Rattle.fields.specs.Places.{fieldsAt, headedOf, IsHeader}
 use Rattle.fields.specs.Ending.{IsEnding}
 use Rattle.fields.proofs.Headers.{given-some}
 use Rattle.fields.proofs.Refusals.{Gives, no, yes, bind, passing, finding}

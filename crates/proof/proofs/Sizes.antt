@@ -1,8 +1,8 @@
 -- What three files certify can be written: every number fits its bytes, the levels and the length stay within limits, and the file reads back. Assumes nothing.
-use mathlib.Core.Path.{_≡_, refl, sym, _∙_, ap, subst}
+use mathlib.Core.Path.{_≡_, sym, _∙_, subst}
 use mathlib.Core.Bool.{Bool, true, false, cond, _&&_}
 use mathlib.Core.List.{List, [], _∷_, map}
-use Prim.Native.Nat.{ℕ, suc, _+_, _*_, _^_, _<_, _≤_}
+use Prim.Native.Nat.{ℕ, _+_, _*_, _^_, _<_, _≤_}
 use native.Mathlib.Nat.{pow-le-pow-right}
 use native.Mathlib.Omega.{arith}
 use lib.Dec.{T, leb→le}
@@ -10,7 +10,7 @@ use lib.ListN.{length, take, drop, length-map, length-take}
 use lib.IntN.{ℤ, pos, negsuc, natAbs, _*ℤ_, zero-*ℤ}
 use Rattle.integers.specs.Magnitude.{Within}
 use Rattle.forms.specs.Edition.{Edition, edition1}
-use Rattle.forms.specs.Forms.{Form, ≤0, Constraint, Line, line, lineA, lineB, lines, All, nil, cons, sums, _⊞_, _·_, _plus_, only, within, rest, Formula, literal, _divides_, _and_, _or_}
+use Rattle.forms.specs.Forms.{Form, ≤0, Constraint, Line, line, lineA, lineB, lines, All, nil, cons, _⊞_, _·_, _plus_, only, within, rest, Formula, literal, _divides_, _and_, _or_}
 use Rattle.calculus.specs.Rules.{Row, CloseStride, Derive, Strengthen, CloseNumber, Entry, row, claim, small, every, inRange, New, combine, reduce, scale, Closed, derive, strengthen, number, stride, claims, entries, rowCount, depth, Proves}
 use Rattle.calculus.proofs.Readings.{length-sums, length-only}
 use Rattle.calculus.proofs.Sides.{all-nth, all-and, all-map, all-append}

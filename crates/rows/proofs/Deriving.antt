@@ -1,29 +1,27 @@
 -- The rows that make a line, as plain mathematics: the new line, its limits, and each test. Assumes nothing.
-use mathlib.Core.Path.{_≡_, refl, sym, ap, ap₂, subst, _∙_}
-use mathlib.Core.Bool.{Bool, true, false, _&&_}
+use mathlib.Core.Path.{_≡_, refl, sym, ap, subst, _∙_}
+use mathlib.Core.Bool.{Bool, true, false}
 use mathlib.Core.List.{List}
-use Prim.Native.Nat.{ℕ, suc, _+_, _*_, _≤_, _<_}
+use Prim.Native.Nat.{ℕ, _+_, _*_, _≤_, _<_}
 use native.Mathlib.Numerals.{add-one}
 use native.Mathlib.Omega.{arith}
 use lib.Dec.{T, ltb}
 use lib.ListN.{length, getD, set, length-set}
 use lib.Seq.{getD-set-same}
-use lib.IntN.{ℤ, pos}
+use lib.IntN.{ℤ}
 use borrow.Author.Tests.{lt-ltb, le-ltb, ltb-true, ltb-false}
-use Rattle.forms.specs.Edition.{edition1}
-use Rattle.forms.specs.Forms.{Line, line}
+use Rattle.forms.specs.Forms.{line}
 use Rattle.calculus.specs.Rules.{small, every, inRange}
-use Rattle.fields.specs.Answers.{refused, accepted, _>>_, need}
-use Rattle.lines.specs.Parts.{part, Agree, agree-refl, agree-set, agree-sym}
-use Rattle.lines.specs.Buffer.{size, kindOf, lineIn, linesIn, mixedLine}
+use Rattle.fields.specs.Answers.{_>>_, need}
+use Rattle.lines.specs.Parts.{part, agree-refl, agree-set, agree-sym}
+use Rattle.lines.specs.Buffer.{size, kindOf, lineIn, mixedLine}
 use Rattle.lines.specs.Lines.{length-lines, before, bounded-same}
 use Rattle.lines.specs.Mix.{mixed-keeps, length-mixedLine, mixed-line}
 use Rattle.lines.specs.Range.{fits-line, bounded-more}
 use Rattle.lines.specs.Parts.{agree-sym}
 use Rattle.proof.specs.Rows.{fitting}
-use Rattle.proof.specs.Check.{refusal}
 use Rattle.rows.specs.Tally.{lineCounted}
-use Rattle.rows.specs.Rows.{Ready, Kept, Terms, moreLines, sumOf, Grown, Appended}
+use Rattle.rows.specs.Rows.{Ready, Kept, Terms, moreLines, sumOf, Appended}
 use Rattle.rows.specs.declared.tally.Tally.{Tally}
 use Rattle.rows.specs.declared.tally.Counted.{Counted}
 use Rattle.rows.specs.declared.derive.Derived.the-variants.{Refused, Made}

@@ -16,11 +16,11 @@ use Rattle.integers.specs.Magnitude.{Within}
 use Rattle.forms.specs.Edition.{edition1}
 use Rattle.forms.specs.Forms as forms
 use Rattle.calculus.specs.Rules as rules
-use Rattle.fields.specs.Answers.{answer, fileProof, Result, refused, accepted, _>>=_, _>>_, need, found}
+use Rattle.fields.specs.Answers.{answer, fileProof, refused, accepted, _>>=_, _>>_, need, found}
 use Rattle.fields.specs.declared.FileKind.{FileKind}
 use Rattle.fields.specs.Fields.{Field}
 use Rattle.fields.specs.Header.{known, headerTag}
-use Rattle.fields.specs.Numbers.{unsigned, signed, formWidth}
+use Rattle.fields.specs.Numbers.{unsigned, signed}
 use Rattle.fields.specs.Ranges.{Held}
 use Rattle.lines.specs.Parts.{part-part}
 use Rattle.proof.specs.Entries.{Tagged, combineTag, reduceTag, scaleTag, strengthenTag, numberTag, strideTag, claimTag, sizeOf, entryFrom, lineNumber, multiplier, entryTagged, inPlace, entry}

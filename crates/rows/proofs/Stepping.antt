@@ -1,14 +1,13 @@
 -- The rows of a branch, counted and applied: each way through a function. Assumes nothing.
-use mathlib.Core.Path.{_≡_, refl, sym, ap, _∙_}
+use mathlib.Core.Path.{_≡_, refl, ap, _∙_}
 use mathlib.Core.Bool.{Bool, true, false}
 use mathlib.Core.List.{List}
-use mathlib.Core.Option.{Option, none, some}
-use Prim.Native.Nat.{ℕ, suc, _+_, _-_, _*_, _≤_, _<_}
+use mathlib.Core.Option.{Option, some}
+use Prim.Native.Nat.{ℕ, suc, _-_, _*_, _≤_, _<_}
 use native.Mathlib.Numerals.{add-one}
-use native.Mathlib.Omega.{arith}
 use lib.Dec.{ltb}
 use lib.ListN.{take, drop}
-use lib.IntN.{ℤ, pos, natAbs}
+use lib.IntN.{ℤ, natAbs}
 use borrow.Author.Tests.{lt-ltb, le-ltb, ltb-true, ltb-false}
 use Rattle.forms.specs.Edition.{edition1}
 use Rattle.forms.specs.Forms.{Line}
@@ -16,13 +15,13 @@ use Rattle.calculus.specs.Rules as rules
 use Rattle.calculus.specs.Rules.{_▷_}
 use Rattle.fields.specs.Fields.{Fields}
 use Rattle.fields.specs.Numbers.{formWidth}
-use Rattle.fields.specs.Answers.{Result, refused, accepted, _>>=_, _>>_, need}
+use Rattle.fields.specs.Answers.{Result, accepted, _>>=_, _>>_, need}
 use Rattle.lines.specs.Parts.{agree-sym}
-use Rattle.lines.specs.Buffer.{lineIn, linesIn}
+use Rattle.lines.specs.Buffer.{linesIn}
 use Rattle.lines.specs.Lines.{lines-more}
-use Rattle.proof.specs.Check.{refusal, checkRow, agreeing, checkEntry, Checker, Next}
+use Rattle.proof.specs.Check.{checkRow, agreeing, checkEntry, Checker, Next}
 use Rattle.rows.specs.Tally.{rowCounted}
-use Rattle.rows.specs.Rows.{Ready, Kept, moreLines, Derives}
+use Rattle.rows.specs.Rows.{Derives}
 use Rattle.rows.specs.Steps.{steppedOf, Checked, Same, lastMade, fieldChecked, rowChecked, rowLeft, moreRows, Steps, Counts, Claims}
 use Rattle.rows.specs.Claims.{Claimed}
 use Rattle.rows.specs.Entries.{Multiplies, stated, there, Entered}
