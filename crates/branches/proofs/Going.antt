@@ -25,7 +25,7 @@ use Rattle.rows.specs.Entries.{Multiplies}
 use Rattle.rows.specs.Rows.{Ready, Kept, moreLines}
 use Rattle.rows.specs.Steps.{Same, rowLeft, moreRows, lastMade, fieldChecked, Steps}
 use Rattle.branches.specs.Branches.{entriesFrom, Comes, Stopped}
-use Rattle.rows.specs.declared.tally.Line as tally
+use Rattle.bundle.specs.declared.Line as tally
 use Rattle.rows.specs.declared.tally.Tally.{Tally}
 use Rattle.rows.specs.declared.steps.Stepped.{Stepped}
 use Rattle.rows.specs.declared.steps.Stepped.the-variants.{Refused, Made, Strengthens, ClosesNumber, ClosesStride}

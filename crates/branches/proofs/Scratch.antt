@@ -16,11 +16,11 @@ use Rattle.forms.specs.Forms.{Kind, ≤0, =0, Form, literal, _divides_, within,
 use Rattle.fields.specs.Fields.{fieldBytes}
 use Rattle.fields.specs.Numbers.{unsignedBytes, signedBytes, signedsBytes, flat, formBytes}
 use Rattle.fields.specs.Ranges.{Held}
-use Rattle.fields.proofs.Digits.{length-bytes}
 use Rattle.fields.proofs.Stores.{sets-append}
 use Rattle.fields.proofs.Signed.{length-formBytes, length-signedBytes}
 use Rattle.formula.specs.Formula.{encode}
-use Rattle.bundle.proofs.Putting.{put-field, field-size}
+use Rattle.bundle.proofs.Putting.{put-field}
+use Rattle.fields.proofs.Framing.{length-fieldBytes as field-size}
 use Rattle.lines.specs.Parts.{part, getD-part}
 use Rattle.lines.specs.Buffer.{formIn, kindOf}
 use Rattle.lines.specs.Restrict.{flat-form, restricted-coeff, restricted-last}

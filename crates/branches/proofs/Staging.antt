@@ -17,7 +17,7 @@ use Rattle.fields.specs.Fields.{Fields, fieldBytes}
 use Rattle.fields.specs.Places.{fieldsAt}
 use Rattle.fields.proofs.Stores.{sets-append}
 use Rattle.formula.specs.Formula.{encode}
-use Rattle.bundle.proofs.Putting.{field-size}
+use Rattle.fields.proofs.Framing.{length-fieldBytes as field-size}
 use Rattle.lines.specs.Buffer.{linesIn}
 use Rattle.lines.specs.Occurrence.{told}
 use Rattle.proof.specs.Rows.{byNumber, byStride}
@@ -27,7 +27,7 @@ use Rattle.rows.specs.Rows.{Ready, Kept}
 use Rattle.branches.specs.Branches.{Comes, Stopped}
 use Rattle.branches.specs.Formulas.{Heads, Puts}
 use Rattle.branches.specs.Branching.{Wrote, EndedBy, below, strengthened, Splits, returnedTo, closedBy, Started, Closes, Branches}
-use Rattle.rows.specs.declared.tally.Line as tally
+use Rattle.bundle.specs.declared.Line as tally
 use Rattle.rows.specs.declared.tally.Tally.{Tally}
 use Rattle.rows.specs.declared.derive.Derived.{Derived}
 use Rattle.rows.specs.declared.derive.Derived.the-variants as derived

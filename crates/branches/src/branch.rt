@@ -10,12 +10,12 @@ use crate::ends::close_stride;
 use crate::ends::split;
 use crate::ends::start;
 use crate::formulas::put_pair;
+use bundle::Line;
 use fields::Next;
 use fields::next_field;
 use rows::derive::Derived;
 use rows::steps::Stepped;
 use rows::steps::step;
-use rows::tally::Line;
 use rows::tally::Tally;
 
 pub enum Stop {

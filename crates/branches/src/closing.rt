@@ -10,9 +10,9 @@ ghost use Rattle.rows.specs.Rows.{Ready};
 ghost use Rattle.rows.specs.Entries.{Multiplies};
 ghost use Rattle.branches.specs.Closing.{ByNumber};
 ghost use Rattle.branches.specs.Striding.{ByStride};
+use bundle::Line;
 use rows::derive::is_there;
 use rows::derive::kind_of;
-use rows::tally::Line;
 use rows::tally::Tally;
 
 pub enum Test {

@@ -141,6 +141,3 @@ bundles-give A B = bind (bundle-gives fileA none (fields A)) λ a l. bind (bundl
 pub bundles-accept : (A B : List ℕ) (a b : Bundle) → BothLaid A B (a, b) → bundles A B ≡ accepted (a, b)
 unfolding bundles
 bundles-accept A B a b l = binds _ (bundle-accepts fileA none (fields A) a (l .laidA)) ∙ binds _ (bundle-accepts fileB (some (a .K)) (fields B) b (l .laidB))
-
-pub bundles-iff : (A B : List ℕ) (a b : Bundle) → bundles A B ≡ accepted (a, b) ↔ BothLaid A B (a, b)
-bundles-iff A B a b = (bundles-give A B .gives (a, b), bundles-accept A B a b)

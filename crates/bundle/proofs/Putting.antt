@@ -13,7 +13,8 @@ use Rattle.forms.specs.Edition.{edition1}
 use Rattle.fields.specs.Fields.{fieldBytes}
 use Rattle.fields.specs.Header.{headerBytes}
 use Rattle.fields.specs.Numbers.{unsignedBytes, signedBytes, signedsBytes}
-use Rattle.fields.proofs.Digits.{length-bytes}
+use Rattle.fields.proofs.Framing.{length-fieldBytes}
+use Rattle.fields.proofs.Signed.{length-signedBytes}
 use Rattle.fields.proofs.Stores.{sets-append}
 use Rattle.bundle.specs.Write.{constraintsBytes}
 use Rattle.bundle.specs.Put.{firstBad, fieldSize, Writable}
@@ -30,16 +31,12 @@ module _ (kinds : List ℕ) (i : ℕ) where
   bad-none h = rw (drop-of-length-le kinds h)
 
 -- ---- numbers
-length-signed : (w : ℕ) (z : ℤ) → length (signedBytes w z) ≡ w
-unfolding signedBytes
-length-signed w z = length-bytes w _
-
 pub length-signeds-bytes : (w : ℕ) (zs : List ℤ) → length (signedsBytes w zs) ≡ length zs * w
 unfolding signedsBytes
 length-signeds-bytes w [] = sym (zero-mul w)
 length-signeds-bytes w (z ∷ zs) =
     length-append (signedBytes w z) (signedsBytes w zs)
-    ∙ omega (arith, length-signed w z, length-signeds-bytes w zs, suc-mul (length zs) w)
+    ∙ omega (arith, length-signedBytes w z, length-signeds-bytes w zs, suc-mul (length zs) w)
 
 pub put-next : (out : List ℕ) (at i n : ℕ) (numbers : List ℤ) (from : ℕ) → i < n → from + n ≤ length numbers
     → sets (sets out (at + i * 2) (signedBytes 2 (getD numbers (from + i) (pos 0)))) (at + (i + 1) * 2) (signedsBytes 2 (take (n - (i + 1)) (drop (from + (i + 1)) numbers)))
@@ -53,7 +50,7 @@ put-next out at i n numbers from h l =
     let a : at + (i + 1) * 2 ≡ at + i * 2 + 2 = omega arith in
     let b : from + i < length numbers = omega arith in
     rw (m, f, a, drop-cons numbers (from + i) (pos 0) b)
-    (sym (sets-append (signedBytes 2 x) rest out (at + i * 2) ∙ rw (length-signed 2 x)))
+    (sym (sets-append (signedBytes 2 x) rest out (at + i * 2) ∙ rw (length-signedBytes 2 x)))
 
 pub numbers-bytes : (numbers : List ℤ) (from n : ℕ) → from + n ≤ length numbers → length (signedsBytes 2 (take n (drop from numbers))) ≡ n * 2
 numbers-bytes numbers from n h =
@@ -65,10 +62,6 @@ pub put-field : (out : List ℕ) {out₁ out₂ : List ℕ} (at tag n : ℕ) (co
     → length contents ≡ n → out₂ ≡ sets out at (fieldBytes tag contents)
 unfolding fieldBytes unsignedBytes
 put-field out at tag n contents e₁ e₂ l = e₂ ∙ rw (e₁, l) (sym (sets-append (tag ∷ unsignedBytes 2 n) contents out at))
-
-pub field-size : (tag : ℕ) (contents : List ℕ) → length (fieldBytes tag contents) ≡ 3 + length contents
-unfolding fieldBytes unsignedBytes
-field-size tag contents = omega arith
 
 -- ---- all constraints
 -- the invariant: what is left to write gives what the whole gives
@@ -109,7 +102,7 @@ module _ {K : ℕ} {kinds : List ℕ} {numbers : List ℤ} {out₀ : List ℕ} {
         let rest = constraintsBytes edition1 K (drop (suc n) kinds) (drop (suc n * (K + 1)) numbers) in
         let e : suc K ≡ K + 1 = omega arith in
         let z : n + 1 ≡ suc n = omega arith in
-        let l : length f ≡ fieldSize K = field-size _ _ ∙ rw (numbers-bytes numbers (n * (K + 1)) (K + 1) numbers-left) in
+        let l : length f ≡ fieldSize K = length-fieldBytes _ _ ∙ rw (numbers-bytes numbers (n * (K + 1)) (K + 1) numbers-left) in
         let d : drop (K + 1) (drop (n * (K + 1)) numbers) ≡ drop (suc n * (K + 1)) numbers = drop-drop (K + 1) (n * (K + 1)) numbers ∙ rw (suc-mul n (K + 1)) in
         let q : sets out here (constraintsBytes edition1 K (drop n kinds) (drop (n * (K + 1)) numbers)) ≡ sets out′ (here + fieldSize K) rest
         = rw (drop-cons kinds n 0 h, e, d) (sets-append f rest out here ∙ rw (l, w)) in
@@ -134,7 +127,7 @@ constraints-size K (kind ∷ kinds) numbers h =
     length-append (fieldBytes (3 + kind) (signedsBytes 2 (take (suc K) numbers))) (constraintsBytes edition1 K kinds (drop (suc K) numbers))
     ∙ omega (
       arith,
-      field-size (3 + kind) (signedsBytes 2 (take (suc K) numbers)),
+      length-fieldBytes (3 + kind) (signedsBytes 2 (take (suc K) numbers)),
       length-signeds-bytes 2 (take (suc K) numbers),
       l,
       constraints-size K kinds (drop (suc K) numbers) d,

@@ -16,7 +16,6 @@ use Rattle.fields.specs.declared.header.Headed.{Headed}
 use Rattle.fields.specs.Answers.{answer, acceptance, fileA, Result, refused, accepted, _>>_, need, over}
 use Rattle.fields.specs.Fields.{Fields, ends, cut, _▸_, fields}
 use Rattle.fields.specs.Places.{fieldsAt, IsHeader}
-use Rattle.fields.proofs.Refusals as refusals
 use Rattle.fields.proofs.Refusals.{Numbered, Gives, no, yes, bind, header-gives}
 use Rattle.fields.proofs.Stores.{sets-over}
 use Rattle.bundle.specs.Bundle.{Bundle, atMost, constraints, bundle}

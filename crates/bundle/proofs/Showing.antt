@@ -13,6 +13,7 @@ use Rattle.fields.specs.declared.Answer.{Answer}
 use Rattle.fields.specs.Answers.{answer, acceptance, fileA, fileB, Result, refused, accepted, _>>=_, _>>_, need, found}
 use Rattle.fields.specs.Fields.{Field, ends, cut, fields, nth}
 use Rattle.fields.specs.Places.{fieldsAt, givenK}
+use Rattle.fields.proofs.Headers.{given-some}
 use Rattle.fields.proofs.Places.{Starts, starts-size}
 use Rattle.fields.proofs.Refusals.{Numbered, Gives, no, yes, bind, passing, numbered}
 use Rattle.bundle.specs.Bundle.{Bundle, atMost, bundle, bundles}
@@ -71,11 +72,7 @@ module _ (A B : List ℕ) where
       module _ {r : Scanned} (t : Taken (bundle fileA none (fields A)) r) where
         -- K is not 0, so it is given
         given-is : givenK (r .k) ≡ some (t .bundle .K)
-        given-is = ap (λ (x : Scanned). givenK (x .k)) (t .scan-is) ∙ go (t .bundle .K) (t .shape .low)
-          where
-            go : (K : ℕ) → 1 ≤ K → givenK K ≡ some K
-            go zero h = absurd (omega arith)
-            go (suc K) h = refl
+        given-is = ap (λ (x : Scanned). givenK (x .k)) (t .scan-is) ∙ given-some (t .bundle .K) (t .shape .low)
 
         pub refused-B : {x : Answer} → bundle fileB (givenK (r .k)) (fields B) ≡ refused x → bothBundles A B ≡ refused x
         unfolding bundles _>>=_

@@ -24,14 +24,6 @@ use Rattle.bundle.specs.Put.{firstBad, fieldSize, Writable, writtenOf}
 use Rattle.bundle.proofs.Putting.{bundle-size}
 
 -- ---- the kinds, tested one by one
-firstBad-from : (i : ℕ) (kinds : List ℕ) → i ≤ firstBad i kinds
-firstBad-from i [] = omega arith
-firstBad-from i (x ∷ xs) = go (leb x 1) (firstBad-from (suc i) xs)
-  where
-    go : (b : Bool) → suc i ≤ firstBad (suc i) xs → i ≤ pick b (firstBad (suc i) xs) i
-    go true h = omega arith
-    go false h = omega arith
-
 -- what holds of a value implies another
 following : {P : Answer → Type 0} {Q R : Type 0} {r : Result (Unit {0})} → Gives P (λ (u : Unit {0}). Q) r → (Q → R) → Gives P (λ (u : Unit {0}). R) r
 following (no p) k = no p

@@ -5,13 +5,13 @@ use mathlib.Core.List.{List, [], _∷_}
 use Prim.Native.Nat.{ℕ, suc}
 use lib.Dec.{leb, ltb, eqb}
 use lib.ListN.{length}
-use Rattle.forms.specs.Edition.{Edition, edition1}
+use Rattle.forms.specs.Edition.{Edition}
 use Rattle.forms.specs.Forms.{Kind, ≤0, =0, Constraint}
 use Rattle.fields.specs.declared.FileKind.{FileKind}
 use Rattle.fields.specs.Answers.{answer, fileA, fileB, Result, refused, accepted, _>>=_, _>>_, need, found}
 use Rattle.fields.specs.Numbers.{formFrom, formWidth}
-use Rattle.fields.specs.Fields.{Field, Fields, ends, cut, _▸_, fields}
-use Rattle.fields.specs.Header.{Header, known, header}
+use Rattle.fields.specs.Fields.{Fields, ends, cut, _▸_, fields}
+use Rattle.fields.specs.Header.{known, header}
 
 -- K constants, and constraints in file order.
 pub record Bundle : Type 0 where

@@ -1,15 +1,15 @@
 -- Showing a constraint by its line number. Document 01, "Show a constraint". Assumes nothing.
 use mathlib.Core.Option.{Option, none, some}
-use mathlib.Core.Bool.{Bool, true, false}
-use mathlib.Core.List.{List, [], _∷_}
+use mathlib.Core.Bool.{true, false}
+use mathlib.Core.List.{List}
 use Prim.Native.Nat.{ℕ, _+_, _-_}
 use lib.Dec.{ltb}
-use lib.ListN.{length, take, drop}
+use lib.ListN.{length}
 use Rattle.forms.specs.Edition.{edition1}
 use Rattle.fields.specs.declared.Answer.{Answer}
 use Rattle.fields.specs.Answers.{answer, acceptance, fileA, fileB, Result, refused, accepted, _>>=_, _>>_, found}
 use Rattle.fields.specs.Fields.{Field, fields, nth}
-use Rattle.bundle.specs.Bundle.{Bundle, atMost, bundles}
+use Rattle.bundle.specs.Bundle.{atMost, bundles}
 
 -- A part of A's or B's buffer: the file, where the part starts there, and how many bytes it has.
 pub record Part : Type 0 where

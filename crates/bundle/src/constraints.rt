@@ -3,6 +3,7 @@ use fields::FileKind;
 use fields::Next;
 use fields::header::known;
 use fields::next_field;
+use forms::CONSTRAINTS;
 ghost use mathlib.Core.Path.{_≡_};
 ghost use Rattle.fields.specs.Places.{fieldsAt};
 ghost use Rattle.bundle.specs.Scan.{faultOf, counted};
@@ -24,7 +25,7 @@ fn constraint_fault(k: u8, n: usize, tag: u8, len: usize) -> u8
         if len != (k as usize + 1) * 2 {
             return 6;
         }
-        if n < 32 {
+        if n < CONSTRAINTS {
             return 0;
         }
         return 8;

@@ -12,6 +12,9 @@ use fields::header::Headed;
 use fields::header::between;
 use fields::header::put_header;
 use fields::header::read_header;
+use forms::BUNDLE_BYTES;
+use forms::CONSTANTS;
+use forms::CONSTRAINTS;
 use locate::Located;
 use locate::locate;
 use put::first_bad;
@@ -99,7 +102,7 @@ fn refused_read(number: u8, file: u8, place: usize) -> ReadResult
 pub fn read(file: &[u8], kinds: &mut [u8], numbers: &mut [i16]) -> ReadResult
     ensures { λ r. ⌜ readOf r (now (kinds .exit)) (now (numbers .exit)) ≡ readBundle (now (kinds .entry)) (now (numbers .entry)) (now (file .entry)) ⌝ }
 {
-    if file.len() > 4096 {
+    if file.len() > BUNDLE_BYTES {
         return refused_read(1, 1, 0);
     }
     let found = scan(file, 1, 0);
@@ -128,9 +131,9 @@ pub fn read(file: &[u8], kinds: &mut [u8], numbers: &mut [i16]) -> ReadResult
 fn write_fault(k: u8, kinds: &[u8], numbers: &[i16]) -> Answer
     ensures { λ r. ⌜ r ≡ answerOf (bundleBytes edition1 k (now (kinds .entry)) (now (numbers .entry))) ⌝ }
 {
-    if between(k, 1, 16) {
+    if between(k, 1, CONSTANTS) {
         let count = kinds.len();
-        if count > 32 {
+        if count > CONSTRAINTS {
             return Answer {
                 number: 8,
                 file: 4,
@@ -200,7 +203,7 @@ pub fn write(k: u8, kinds: &[u8], numbers: &[i16], out: &mut [u8]) -> WriteResul
     }
 }
 
-// A line's number: A's constraints in file order, then B's.
+// A line's number on its branch: A's constraints in file order, then B's, then the lines that rows make.
 pub struct Line(pub u16);
 
 // The field of the constraint that a line number names, out of A's or B's buffer; the empty part at A's start where it is refused.

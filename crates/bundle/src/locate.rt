@@ -4,6 +4,7 @@ use super::scan;
 use fields::Answer;
 use fields::Next;
 use fields::next_field;
+use forms::BUNDLE_BYTES;
 ghost use mathlib.Core.Path.{_≡_};
 ghost use Rattle.fields.specs.Answers.{answer};
 ghost use Rattle.bundle.specs.Locate.{Placed, bothBundles, pairOf, partAt, IsLocated};
@@ -70,10 +71,10 @@ fn refused_pair(number: u8, file: u8, place: usize) -> Pair
 fn scan_both(a: &[u8], b: &[u8]) -> Pair
     ensures { λ r. ⌜ r ≡ pairOf (bothBundles (now (a .entry)) (now (b .entry))) ⌝ }
 {
-    if a.len() > 4096 {
+    if a.len() > BUNDLE_BYTES {
         return refused_pair(1, 1, 0);
     }
-    if b.len() > 4096 {
+    if b.len() > BUNDLE_BYTES {
         return refused_pair(1, 2, 0);
     }
     let first = scan(a, 1, 0);

@@ -13,10 +13,10 @@ use Rattle.fields.specs.Numbers.{unsignedBytes}
 use Rattle.fields.specs.Fields.{fieldBytes}
 use Rattle.fields.specs.Header.{headerBytes}
 use Rattle.lines.proofs.Fill.{Filled, filled-length, filled-next}
-use Rattle.checking.specs.Ending.{IsEnding}
+use Rattle.fields.specs.Ending.{IsEnding}
 use Rattle.checking.specs.Whole.{Delivers, Finishes, Ended}
 use Rattle.checking.specs.declared.check.Checked.{Checked}
-use Rattle.checking.specs.declared.ending.Ending.{Ending}
+use Rattle.fields.specs.declared.ending.Ending.{Ending}
 
 abbrev pub unwritten : (number file place : ℕ) → Checked
 unwritten number file place = record { answer = answer number file place; count = 0 }

@@ -1,6 +1,5 @@
 -- Laws that the proofs of the functions cite: each way through a function as a lemma over plain values.
 pub mod Loading
-pub mod Endings
 pub mod Delivering
 pub mod Preparing
 pub mod Upto

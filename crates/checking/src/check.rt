@@ -1,12 +1,12 @@
 // The whole operation: the bundles, the proof's header, the lines, the root, what follows it, and the output.
-use crate::ending::Ending;
-use crate::ending::ending_at;
 use crate::load::load;
 use branches::branch::Branched;
 use branches::branch::check_branch;
 use bundle::scan;
 use fields::Answer;
 use fields::FileKind;
+use fields::ending::Ending;
+use fields::ending::ending_at;
 use fields::header::Headed;
 use fields::header::put_header;
 use fields::header::read_header;

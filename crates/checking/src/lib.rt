@@ -1,4 +1,3 @@
 // The check of a proof: its bundles loaded, its branches checked, and the formula handed over.
 pub mod check;
-pub mod ending;
 pub mod load;

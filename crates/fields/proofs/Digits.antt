@@ -1,7 +1,7 @@
 -- Laws of big-endian numbers: one byte more, two's complement and back, over any width. Assumes nothing.
 use mathlib.Core.Path.{_≡_, refl, sym, _∙_}
 use mathlib.Core.Bool.{true, false}
-use mathlib.Core.List.{List, [], _∷_, _++_}
+use mathlib.Core.List.{List, [], _∷_}
 use Prim.Native.Nat.{ℕ, zero, suc, _+_, _*_, _-_, _/_, _%_, _^_, _≤_, _<_}
 use native.Mathlib.Nat.{pow-le-pow-right}
 use native.Mathlib.Numerals.{add-one}
@@ -9,17 +9,14 @@ use native.Mathlib.Omega.{arith}
 use lib.Dec.{ltb, ltb→lt, nltb→le}
 use lib.IntN.{ℤ, pos, negsuc, negℤ, _+ℤ_, _-ℤ_}
 use lib.Signed.{ltZ}
-use lib.ListN.{length, getD, take, drop, set, length-append, length-drop}
+use lib.ListN.{length, getD, take, drop, set, length-drop}
 use lib.Seq.{sets, take-suc, getD-drop}
 use borrow.Author.Tests.{ltb-true}
 use Rattle.integers.specs.Linear.{ints, add-pn, neg-pn, cond-ind}
-use Rattle.fields.specs.Numbers.{natFrom, unsigned, complement, residue, unsignedBytes}
+use Rattle.fields.specs.Numbers.{unsigned, complement, residue, unsignedBytes}
 use Rattle.fields.specs.Ranges.{Half}
 use Rattle.fields.proofs.Stores.{sets-append, sets-set}
-
-natFrom-append : (n : ℕ) (xs ys : List ℕ) → natFrom n (xs ++ ys) ≡ natFrom (natFrom n xs) ys
-natFrom-append n [] ys = refl
-natFrom-append n (x ∷ xs) ys = natFrom-append (n * 256 + x) xs ys
+use Rattle.fields.proofs.Signed.{length-unsignedBytes, natFrom-append}
 
 -- one more byte
 pub unsigned-next : (l : List ℕ) (at i : ℕ) → at + i < length l
@@ -73,11 +70,6 @@ module _ (full : ℕ) where
   residue-below (negsuc n) h = omega (arith, h .half)
 
 -- ---- writing
-pub length-bytes : (w n : ℕ) → length (unsignedBytes w n) ≡ w
-unfolding unsignedBytes
-length-bytes zero n = refl
-length-bytes (suc w) n = length-append (unsignedBytes w (n / 256)) (n % 256 ∷ []) ∙ rw (length-bytes w (n / 256)) (omega arith)
-
 -- the last byte first, and then the others before it
 pub last-first : (out : List ℕ) (at i m : ℕ) → 0 < i
     → sets (set out (at + (i - 1)) (m % 256)) at (unsignedBytes (i - 1) (m / 256)) ≡ sets out at (unsignedBytes i m)
@@ -85,7 +77,7 @@ unfolding unsignedBytes
 last-first out at zero m h = absurd (omega arith)
 last-first out at (suc j) m h =
     let e : suc j - 1 ≡ j = omega arith in
-    let l = length-bytes j (m / 256) in
+    let l = length-unsignedBytes j (m / 256) in
     rw e
     (sets-set (unsignedBytes j (m / 256)) out at (at + j) (m % 256) (omega arith)
     ∙ sym (sets-append (unsignedBytes j (m / 256)) (m % 256 ∷ []) out at ∙ rw l))

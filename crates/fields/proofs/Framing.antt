@@ -57,6 +57,10 @@ shorter (t ∷ h ∷ l ∷ bs) = go (leb n (length bs))
     go true = rw length-drop (omega arith)
     go false = tt
 
+pub length-fieldBytes : (tag : ℕ) (contents : List ℕ) → length (fieldBytes tag contents) ≡ 3 + length contents
+unfolding fieldBytes unsignedBytes
+length-fieldBytes tag contents = omega arith
+
 -- What follows a whole field is shorter.
 pub front-shorter : (bs : List ℕ) {tag : ℕ} {contents after : List ℕ} → front bs ≡ whole tag contents after → length after < length bs
 front-shorter bs e = rw e at (shorter bs)
@@ -101,12 +105,6 @@ fieldsAt at bs = fieldsFrom (length bs) at bs
 module _ (at : ℕ) (bs : List ℕ) where
   more-fuel : fieldsAt at bs ≡ fieldsFrom (suc (length bs)) at bs
   more-fuel = fuel-irrelevant (length bs) (suc (length bs)) at bs (omega arith) (omega arith)
-
-  pub fieldsAt-nothing : front bs ≡ nothing → fieldsAt at bs ≡ ends at
-  fieldsAt-nothing e = more-fuel ∙ from-nothing (length bs) at bs e
-
-  pub fieldsAt-broken : front bs ≡ broken → fieldsAt at bs ≡ cut at
-  fieldsAt-broken e = more-fuel ∙ from-broken (length bs) at bs e
 
   pub fieldsAt-whole : {tag : ℕ} {contents after : List ℕ} → front bs ≡ whole tag contents after
       → fieldsAt at bs ≡ unlessNote (note tag) (record { at = at; tag = tag; contents = contents }) (fieldsAt (at + 3 + length contents) after)

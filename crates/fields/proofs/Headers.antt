@@ -3,17 +3,18 @@ use mathlib.Core.Path.{_≡_, refl, _∙_}
 use mathlib.Core.Option.{Option, none, some}
 use mathlib.Core.Bool.{Bool, true, false, _&&_}
 use mathlib.Core.List.{List}
-use Prim.Native.Nat.{ℕ, zero, suc}
+use Prim.Native.Nat.{ℕ, zero, suc, _≤_}
 use native.Mathlib.Nat.{add-zero}
 use native.Mathlib.Omega.{arith}
 use lib.Dec.{leb, eqb}
-use lib.ListN.{getD, take, drop}
+use lib.ListN.{length, getD, take, drop}
 use lib.Seq.{getD-take, getD-drop}
 use borrow.Author.Tests.{eq-eqb, ne-eqb}
 use Rattle.forms.specs.Edition.{Edition, editionNumbered, edition1}
 use Rattle.fields.specs.Answers.{_>>=_, _>>_, need, found}
-use Rattle.fields.specs.Fields.{ends, cut}
-use Rattle.fields.specs.Header.{headerTag, known, agrees, headerField, header}
+use Rattle.fields.specs.Numbers.{unsignedBytes}
+use Rattle.fields.specs.Fields.{ends, cut, fieldBytes}
+use Rattle.fields.specs.Header.{headerTag, known, agrees, headerField, header, headerBytes}
 use Rattle.fields.specs.Places.{fieldsAt, givenK, headerK, IsHeaderField, IsHeaderK, IsHeader}
 use Rattle.fields.specs.declared.FileKind.{FileKind}
 use Rattle.fields.specs.declared.header.HeaderField.{HeaderField}
@@ -57,6 +58,14 @@ pub agrees-some : (given K : ℕ) → (given ≡ 0 → ⊥) → agrees (givenK g
 unfolding agrees
 agrees-some zero K e = absurd (e refl)
 agrees-some (suc g) K e = refl
+
+pub given-some : (K : ℕ) → 1 ≤ K → givenK K ≡ some K
+given-some zero h = absurd (omega arith)
+given-some (suc K) h = refl
+
+pub length-headerBytes : (K : ℕ) → length (headerBytes K) ≡ 8
+unfolding headerBytes fieldBytes unsignedBytes
+length-headerBytes K = refl
 
 -- ---- one header field
 module _ {kind : FileKind} {tag : ℕ} {s : List ℕ} {at a t start len next : ℕ} (k : Starts s at a t start len next) where

@@ -1,4 +1,4 @@
--- Laws that belong to no one function: results, numbers, framing and notes, headers, places, that places do not matter, and the walks of the field reader.
+-- Laws that belong to no one function: results, numbers, framing and notes, headers, places, what may stand after all is read, that places do not matter, and the walks of the field reader.
 pub mod Results
 pub mod Notes
 pub mod Signed
@@ -11,6 +11,7 @@ pub mod Places
 pub mod Stores
 pub mod Digits
 pub mod Headers
+pub mod Endings
 pub mod Refusals
 pub mod Apart
 pub mod Together

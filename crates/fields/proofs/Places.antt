@@ -13,6 +13,7 @@ use Rattle.fields.specs.Fields.{Field, Front, whole, broken, nothing, fr
 use Rattle.fields.specs.Places.{foundIn, foundAt, fieldsAt, nextOf}
 use Rattle.fields.specs.declared.Found.{Found}
 use Rattle.fields.specs.declared.Next.{Next}
+use Rattle.fields.proofs.Framing.{fuel-irrelevant}
 
 -- ---- what the tests of `field_at` say
 pub found-end : (s : List ℕ) (at : ℕ) → length s ≤ at → foundAt s at ≡ Found.End
@@ -140,27 +141,11 @@ same-rest f g at bs broken p e = refl
 same-rest f g at bs (whole tag contents after) p e =
     ap (unlessNote (note tag) (record { at = at; tag = tag; contents = contents })) (e (length contents) after (p .rest) (p .size))
 
--- the fuel does not matter where it is enough
-enough : (k j at : ℕ) (bs : List ℕ) → length bs ≤ k → length bs ≤ j → fieldsFrom k at bs ≡ fieldsFrom j at bs
-unfolding fieldsFrom front
-enough zero zero at bs h l = refl
-enough zero (suc j) at [] h l = refl
-enough zero (suc j) at (b ∷ bs) h l = absurd (omega arith)
-enough (suc k) zero at [] h l = refl
-enough (suc k) zero at (b ∷ bs) h l = absurd (omega arith)
-enough (suc k) (suc j) at bs h l =
-    fields-suc k at bs
-    ∙ same-rest (fieldsFrom k) (fieldsFrom j) at bs (front bs) (parts bs)
-    (λ n after e m.
-    let a : length after ≡ length bs - (3 + n) = ap length e ∙ length-drop (3 + n) bs in
-    enough k j (at + 3 + n) after (omega arith) (omega arith))
-    ∙ sym (fields-suc j at bs)
-
 -- ---- the fields at a place, by what stands there
 pub fields-at : (s : List ℕ) (at : ℕ) → fieldsAt s at ≡ fieldsIn at (λ n after. fieldsAt s n) (front (drop at s))
 unfolding fieldsAt
 fields-at s at =
-    enough (length s) (suc (length s)) at (drop at s) (simp length-drop (omega arith)) (simp length-drop (omega arith))
+    fuel-irrelevant (length s) (suc (length s)) at (drop at s) (simp length-drop (omega arith)) (simp length-drop (omega arith))
     ∙ fields-suc (length s) at (drop at s)
     ∙ same-rest (fieldsFrom (length s)) (λ n after. fieldsAt s n) at (drop at s) (front (drop at s)) (parts (drop at s))
     (λ n after e m. ap (fieldsFrom (length s) (at + 3 + n)) (let z : at + (3 + n) ≡ at + 3 + n = omega arith in e ∙ drop-drop (3 + n) at s ∙ rw z))

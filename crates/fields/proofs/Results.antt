@@ -97,6 +97,23 @@ pub found-some : {X : Type 0} (a : Answer) {o : Option X} {x : X} → o ≡ some
 unfolding found
 found-some a e = rw e
 
+-- a test by its equation: passed, or refused whatever would follow
+pub pass : {Y : Type 0} (a : Answer) {b : Bool} (r : Result Y) → b ≡ true → (need a b >> r) ≡ r
+pass a {b} r e = needs a b r (rw e tt)
+
+pub fail : {Y : Type 0} (a : Answer) {b : Bool} (r : Result Y) → b ≡ false → (need a b >> r) ≡ refused a
+unfolding need _>>_
+fail a r e = rw e
+
+-- a step that is refused is the last
+pub bind-refused : {X Y : Type 0} {m : Result X} {a : Answer} (f : X → Result Y) → m ≡ refused a → (m >>= f) ≡ refused a
+unfolding _>>=_
+bind-refused f e = rw e
+
+pub then-refused : {Y : Type 0} {m : Result (Unit {0})} {a : Answer} (r : Result Y) → m ≡ refused a → (m >> r) ≡ refused a
+unfolding _>>_
+then-refused r e = rw e
+
 -- ---- each element of a list passes a test
 module _ {X : Type 0} (at : ℕ → Answer) (p : X → Bool) where
   pub each-gives : ((i : ℕ) → T (given (at i .number))) → (i : ℕ) (xs : List X) → Gives (each at p i xs) (λ _. All (λ x. T (p x)) xs)

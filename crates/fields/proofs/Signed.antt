@@ -45,7 +45,7 @@ unfolding unsignedBytes
 length-unsignedBytes zero n = refl
 length-unsignedBytes (suc w) n = length-append (unsignedBytes w (n / 256)) (n % 256 ∷ []) ∙ omega (arith, length-unsignedBytes w (n / 256))
 
-natFrom-append : (n : ℕ) (xs ys : List ℕ) → natFrom n (xs ++ ys) ≡ natFrom (natFrom n xs) ys
+pub natFrom-append : (n : ℕ) (xs ys : List ℕ) → natFrom n (xs ++ ys) ≡ natFrom (natFrom n xs) ys
 natFrom-append n [] ys = refl
 natFrom-append n (x ∷ xs) ys = natFrom-append (n * 256 + x) xs ys
 

@@ -14,7 +14,6 @@ use denote.Ref.{now, RefT}
 use denote.Signature.{namedLft, plain}
 use denote.Slice.{sliceTy, sliceVal, ShrSlice, slice-vals, shr-slice-tells, shr-slice-lawful, shr-slice-copy}
 use denote.Steps.{owned, peeks, heard, nothing}
-use denote.Struct.Laws as LL
 use denote.Struct.Rest.{own-shut}
 use denote.Triple.Call.{calls-at}
 use denote.Triple.Clauses.{ensured, lasts, closing}

@@ -1,6 +1,6 @@
 -- The two fields with which each file starts, and what may stand after all is read. Document 01, "Fields" and "What each operation refuses". Assumes nothing.
 use mathlib.Core.Option.{Option, none, some}
-use mathlib.Core.Bool.{Bool, true, false, _&&_, _||_}
+use mathlib.Core.Bool.{Bool, true, _&&_, _||_}
 use mathlib.Core.List.{List, [], _∷_, _++_}
 use Prim.Native.Nat.{ℕ}
 use lib.Dec.{leb, eqb}
@@ -9,7 +9,7 @@ use Rattle.forms.specs.Edition.{Edition, editionNumbered}
 use Rattle.fields.specs.declared.FileKind.{FileKind}
 use Rattle.fields.specs.declared.FileKind.the-variants.{Bundle, Proof, Formula}
 use Rattle.fields.specs.Answers.{answer, Result, refused, accepted, _>>=_, _>>_, need, found}
-use Rattle.fields.specs.Fields.{Field, Fields, ends, cut, _▸_, fieldBytes}
+use Rattle.fields.specs.Fields.{Fields, ends, cut, _▸_, fieldBytes}
 
 -- The tags 0x01 (edition) and 0x02 (K), of every kind of file.
 unfoldable pub headerTag : ℕ → Bool

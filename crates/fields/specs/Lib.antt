@@ -5,3 +5,4 @@ pub mod Ranges
 pub mod Fields
 pub mod Header
 pub mod Places
+pub mod Ending

@@ -1,5 +1,4 @@
 -- Big-endian numbers of any width, unsigned and two's complement. Document 01, "Fields". Assumes nothing.
-use mathlib.Core.Path.{_≡_, refl}
 use mathlib.Core.Bool.{cond}
 use mathlib.Core.List.{List, [], _∷_, _++_}
 use Prim.Native.Nat.{ℕ, zero, suc, _+_, _*_, _-_, _/_, _%_, _^_}
@@ -58,11 +57,3 @@ formBytes w t = signedsBytes w (flat t)
 -- the bytes of one form
 abbrev pub formWidth : (w K : ℕ) → ℕ
 formWidth w K = suc K * w
-
-minus-two : signed (0xFF ∷ 0xFE ∷ []) ≡ negsuc 1
-unfolding signed unsigned complement
-minus-two = refl
-
-minus-two-bytes : signedBytes 4 (negsuc 1) ≡ 0xFF ∷ 0xFF ∷ 0xFF ∷ 0xFE ∷ []
-unfolding signedBytes unsignedBytes residue
-minus-two-bytes = refl

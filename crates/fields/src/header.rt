@@ -2,6 +2,7 @@
 use super::FileKind;
 use super::Next;
 use super::next_field;
+use forms::CONSTANTS;
 ghost use mathlib.Core.Path.{_≡_};
 ghost use mathlib.Core.Bool.{_&&_};
 ghost use Prim.Native.Nat.{_≤_};
@@ -107,7 +108,7 @@ fn header_k(s: &[u8], at: usize, kind: FileKind, given: u8) -> Headed
             value,
             next,
         } => {
-            if between(value, 1, 16) {
+            if between(value, 1, CONSTANTS) {
                 if agreeing(given, value) {
                     return Headed::Header { k: value, next };
                 }

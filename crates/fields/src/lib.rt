@@ -2,6 +2,7 @@
 ghost use mathlib.Core.Path.{_≡_};
 ghost use Rattle.fields.specs.Places.{foundAt, fieldsAt, nextOf};
 
+pub mod ending;
 pub mod header;
 pub mod numbers;
 

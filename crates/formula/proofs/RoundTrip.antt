@@ -14,14 +14,15 @@ use Rattle.forms.specs.Edition.{edition1, editionNumbered}
 use Rattle.forms.specs.Forms.{Kind, ≤0, =0, Form, Formula, literal, _divides_, _and_, _or_}
 use Rattle.fields.specs.declared.FileKind.{FileKind}
 use Rattle.fields.specs.Answers.{answer, fileProof, Result, accepted, _>>_, need}
-use Rattle.fields.specs.Numbers.{unsignedBytes, signed, signedBytes, formFrom, formBytes, formWidth}
+use Rattle.fields.specs.Numbers.{signed, signedBytes, formFrom, formBytes, formWidth}
 use Rattle.fields.specs.Fields.{Field, Fields, ends, _▸_, note, fields, fieldsFrom, fieldBytes}
 use Rattle.fields.specs.Header.{agrees, known, headerTag, header, headerField, finished, headerBytes}
 use Rattle.fields.proofs.Signed.{InWidth, FormInWidth, length-signedBytes, signed-signedBytes, length-formBytes, formFrom-written}
 use Rattle.formula.specs.Formula.{encode, formulaFile, Connective, disjunction, conjunction, Tagged, pair, atom, stride, formulaTagged, joined, sizeOf, formulaOf, formulaField, twoParts, formulaWithin, readFormula}
-use Rattle.fields.proofs.Framing.{fuel-irrelevant}
-use Rattle.fields.proofs.Results.{binds}
-use Rattle.formula.proofs.Fronts.{pass, done, got, fields-field, fields-end}
+use Rattle.fields.proofs.Framing.{fuel-irrelevant, length-fieldBytes}
+use Rattle.fields.proofs.Headers.{length-headerBytes}
+use Rattle.fields.proofs.Results.{binds, passes, found-some, pass}
+use Rattle.formula.proofs.Fronts.{fields-field, fields-end}
 
 -- Every form has K coefficients, every number fits its four bytes, and g is at least 2.
 abbrev pub Encodable : ℕ → Formula → Type 0
@@ -50,10 +51,6 @@ field at tag contents = record { at = at; tag = tag; contents = contents }
 abbrev Two : Type 0
 Two = ℕ → Fields → Result (Formula × Formula × Fields)
 
-length-fieldBytes : (tag : ℕ) (contents : List ℕ) → length (fieldBytes tag contents) ≡ 3 + length contents
-unfolding fieldBytes unsignedBytes
-length-fieldBytes tag contents = omega arith
-
 -- ---- one field
 module _ (K : ℕ) (two : Two) (fs : Fields) (at : ℕ) where
   -- A field of a formula's tag and its length gives what it states.
@@ -63,7 +60,7 @@ module _ (K : ℕ) (two : Two) (fs : Fields) (at : ℕ) where
   field-read tag contents tagged k t s =
       let f = field at tag contents in
       pass (answer 3 fileProof at) _ k
-      ∙ got (answer 4 fileProof at) (λ x. need (answer 6 fileProof at) (eqb (length contents) (sizeOf edition1 K x)) >> formulaOf edition1 K two f fs x) t
+      ∙ binds (λ x. need (answer 6 fileProof at) (eqb (length contents) (sizeOf edition1 K x)) >> formulaOf edition1 K two f fs x) (found-some (answer 4 fileProof at) t)
       ∙ pass (answer 6 fileProof at) (formulaOf edition1 K two f fs tagged) (eq-eqb (length contents) (sizeOf edition1 K tagged) s)
 
   atom-read : (tag : ℕ) (k : Kind) (t : Form) → known FileKind.Formula tag ≡ true → formulaTagged tag ≡ some (atom k) → FormInWidth 4 K t
@@ -197,7 +194,7 @@ header-read : (K : ℕ) (fs : Fields) → 1 ≤ K → K ≤ 16 → header FileKi
 unfolding header editionNumbered agrees known headerTag
 header-read K fs low high =
     binds _ (header-field-read 0x01 0 1 (field 4 0x02 (K ∷ []) ▸ fs) refl)
-    ∙ got _ _ refl
+    ∙ binds _ (found-some _ refl)
     ∙ binds _ (header-field-read 0x02 4 K fs refl)
     ∙ pass _ _ (rw (le-leb 1 K low, le-leb K 16 high))
     ∙ pass _ _ (eq-eqb K K refl)
@@ -208,10 +205,6 @@ header-fields K fuel bs =
     ap (fieldsFrom (suc (suc fuel)) 0) (append-assoc (fieldBytes 0x01 (1 ∷ [])) (fieldBytes 0x02 (K ∷ [])) bs)
     ∙ fields-field 0x01 (1 ∷ []) (fieldBytes 0x02 (K ∷ []) ++ bs) (suc fuel) 0 (omega arith) refl
     ∙ ap (λ (fs : Fields). field 0 0x01 (1 ∷ []) ▸ fs) (fields-field 0x02 (K ∷ []) bs fuel 4 (omega arith) refl)
-
-pub length-headerBytes : (K : ℕ) → length (headerBytes K) ≡ 8
-unfolding headerBytes
-length-headerBytes K = omega (arith, length-append (fieldBytes 0x01 (1 ∷ [])) (fieldBytes 0x02 (K ∷ [])), length-fieldBytes 0x01 (1 ∷ []), length-fieldBytes 0x02 (K ∷ []))
 
 pub length-formulaFile : (K : ℕ) (I : Formula) → length (formulaFile edition1 K I) ≡ 8 + length (encode edition1 I)
 unfolding formulaFile
@@ -232,7 +225,7 @@ read-written K I low high h l =
     ap (readFormula K) (ap (λ (m : ℕ). fieldsFrom m 0 (headerBytes K ++ X)) size ∙ header-fields K n X)
     ∙ binds _ (header-read K (fieldsFrom n 8 X) low high)
     ∙ binds _ part
-    ∙ done (accepted I)
+    ∙ passes (accepted I) refl
 
 -- ---- length
 -- How many literals and stride parts a formula has.

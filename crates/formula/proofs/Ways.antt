@@ -13,15 +13,16 @@ use lib.Seq.{take-take, take-nil, drop-drop}
 use borrow.Author.Tests.{eqb-true}
 use Rattle.integers.specs.Divides.{divb}
 use Rattle.forms.specs.Edition.{edition1}
-use Rattle.forms.specs.Forms.{≤0, =0, value, Formula, literal, _divides_, _or_}
+use Rattle.forms.specs.Forms.{≤0, =0, value, Formula, literal, _divides_}
 use Rattle.fields.specs.declared.FileKind.{FileKind}
 use Rattle.fields.specs.declared.Next.{Next}
-use Rattle.fields.specs.Answers.{answer, fileProof, Result, refused, accepted, _>>=_, _>>_, need, found}
+use Rattle.fields.specs.Answers.{answer, fileProof, Result, accepted, _>>=_, _>>_, need, found}
 use Rattle.fields.specs.Numbers.{signed, formWidth}
 use Rattle.fields.specs.Fields.{Field, Fields, _▸_}
 use Rattle.fields.specs.Header.{known}
 use Rattle.fields.specs.Places.{fieldsAt, nextOf}
 use Rattle.fields.proofs.Places.{Starts, starts-size, next-cut, next-ends}
+use Rattle.fields.proofs.Results.{binds, bind-refused}
 use Rattle.formula.specs.Formula.{disjunction, conjunction, Tagged, pair, atom, stride, formulaTagged, joined, sizeOf, formulaOf, formulaField, twoParts, formulaWithin}
 use Rattle.formula.specs.Test.{holds, judge, registers}
 use Rattle.formula.specs.FormAt.{formAt, Whole}
@@ -30,15 +31,6 @@ use Rattle.formula.specs.Judging.{twoWithin, FormulaRead, PairRead, conn
 use Rattle.formula.specs.declared.node.Node.{Node}
 use Rattle.formula.specs.declared.reading.Judged.{Judged}
 use Rattle.formula.specs.declared.reading.Pair.{Pair}
-
--- ---- the first refusal that applies
-pub bind-refused : {X Y : Type 0} {m : Result X} {a : _} (f : X → Result Y) → m ≡ refused a → (m >>= f) ≡ refused a
-unfolding _>>=_
-bind-refused f e = rw e
-
-pub bind-accepted : {X Y : Type 0} {m : Result X} {x : X} (f : X → Result Y) → m ≡ accepted x → (m >>= f) ≡ f x
-unfolding _>>=_
-bind-accepted f e = rw e
 
 -- ---- a formula by its first field
 within-field : (K levels : ℕ) (fs : Fields) → formulaWithin edition1 K levels fs ≡ formulaField edition1 K (twoWithin K levels) fs
@@ -179,7 +171,7 @@ module _ {s : List ℕ} {at place tag start len next : ℕ} (k : Starts s at pla
       pair-by (Pair.Both x y n) b = record {
         judged = record {
           formula = joined (connective either) (b .judged .left) (b .judged .right);
-          is = formula-node f ∙ bind-accepted _ (b .judged .is);
+          is = formula-node f ∙ binds _ (b .judged .is);
           truth = joined-truth values either _ _ (b .judged .left-truth) (b .judged .right-truth);
           on = omega (arith, further, b .judged .on);
         };
@@ -210,7 +202,7 @@ module _ {s : List ℕ} {values : List ℤ} {K at : ℕ} (place levels : ℕ) (z
     unfolding twoParts
     second-fault f =
         let x = rw e at (b .judged) in
-        record { judged = two-is ∙ bind-accepted _ (x .is) ∙ bind-refused _ (rw f at (d .judged)) }
+        record { judged = two-is ∙ binds _ (x .is) ∙ bind-refused _ (rw f at (d .judged)) }
 
     pub both-read : {second : Bool} {next : ℕ} → q ≡ Judged.Value second next → PairRead s place at values K levels (Pair.Both first second next)
     unfolding twoParts
@@ -221,7 +213,7 @@ module _ {s : List ℕ} {values : List ℤ} {K at : ℕ} (place levels : ℕ) (z
           judged = record {
             left = x .formula;
             right = y .formula;
-            is = two-is ∙ bind-accepted _ (x .is) ∙ bind-accepted _ (y .is);
+            is = two-is ∙ binds _ (x .is) ∙ binds _ (y .is);
             left-truth = x .truth;
             right-truth = y .truth;
             on = omega (arith, x .on, y .on);

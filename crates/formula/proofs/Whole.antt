@@ -1,9 +1,9 @@
 -- Each way through testing a formula, over plain values. Assumes nothing.
 use mathlib.Core.Path.{_≡_, refl, sym, ap, _∙_}
 use mathlib.Core.Option.{some}
-use mathlib.Core.Bool.{Bool, true, false}
+use mathlib.Core.Bool.{Bool}
 use mathlib.Core.List.{List}
-use Prim.Native.Nat.{ℕ, zero, suc, _≤_, _<_}
+use Prim.Native.Nat.{ℕ, _≤_, _<_}
 use native.Mathlib.Omega.{arith}
 use lib.Dec.{leb}
 use lib.IntN.{ℤ}
@@ -11,51 +11,32 @@ use lib.ListN.{length}
 use borrow.Author.Tests.{eqb-true, le-leb, lt-leb}
 use Rattle.forms.specs.Edition.{edition1}
 use Rattle.forms.specs.Forms.{Formula}
-use Rattle.fields.specs.declared.Answer.{Answer}
 use Rattle.fields.specs.declared.FileKind.{FileKind}
-use Rattle.fields.specs.declared.Next.{Next}
+use Rattle.fields.specs.declared.ending.Ending.{Ending}
 use Rattle.fields.specs.declared.header.Headed.{Headed}
-use Rattle.fields.specs.Answers.{answer, fileProof, fileLent, Result, refused, accepted, _>>=_, _>>_, need}
+use Rattle.fields.specs.Answers.{answer, fileProof, fileLent, Result, refused, accepted, _>>_, need}
 use Rattle.fields.specs.Fields.{Fields, fields}
-use Rattle.fields.specs.Header.{Header, known, agrees, header, finished}
-use Rattle.fields.specs.Places.{fieldsAt, nextOf, givenK, headedOf, IsHeader}
-use Rattle.fields.proofs.Places.{Starts, next-cut, next-ends}
+use Rattle.fields.specs.Header.{Header, agrees, header, finished}
+use Rattle.fields.specs.Places.{fieldsAt, headedOf, IsHeader}
+use Rattle.fields.specs.Ending.{IsEnding}
+use Rattle.fields.proofs.Headers.{given-some}
 use Rattle.fields.proofs.Refusals.{Gives, no, yes, bind, passing, finding}
+use Rattle.fields.proofs.Results.{binds, passes, pass, fail, bind-refused, then-refused}
 use Rattle.formula.specs.Formula.{readFormula}
 use Rattle.formula.specs.Test.{judge, registers, judged, tested, testFormula}
 use Rattle.formula.specs.Registers.{ranged, FirstOutside, Registers}
 use Rattle.formula.specs.Judging.{FormulaRead}
-use Rattle.formula.specs.Outcomes.{asTested, refusal, IsEnding, endTested, Finish}
+use Rattle.formula.specs.Outcomes.{asTested, refusal, endTested, Finish}
 use Rattle.formula.specs.declared.Tested.{Tested}
-use Rattle.formula.specs.declared.ending.Ending.{Ending}
 use Rattle.formula.specs.declared.reading.Judged.{Judged}
-use Rattle.formula.proofs.Ways.{bind-refused, bind-accepted}
 
 -- ---- what may stand after the formula
-module _ {s : List ℕ} {at : ℕ} {r : Next} (e : r ≡ nextOf (fieldsAt s at)) where
-  pub ending-none : {a : ℕ} → r ≡ Next.Ends a → IsEnding s at Ending.Ended
-  unfolding finished
-  ending-none q = record { is = rw (next-ends (fieldsAt s at) e q) }
-
-  pub ending-cut : {a : ℕ} → r ≡ Next.Cut a → IsEnding s at (Ending.Fault 2 a)
-  unfolding finished
-  ending-cut q = record { is = rw (next-cut (fieldsAt s at) e q) }
-
-module _ {s : List ℕ} {at a tag start len next : ℕ} (k : Starts s at a tag start len next) where
-  pub ending-known : known FileKind.Formula tag ≡ true → IsEnding s at (Ending.Fault 19 a)
-  unfolding finished need _>>_
-  ending-known h = record { is = rw (k .is, h) }
-
-  pub ending-unknown : known FileKind.Formula tag ≡ false → IsEnding s at (Ending.Fault 3 a)
-  unfolding finished need _>>_
-  ending-unknown h = record { is = rw (k .is, h) }
-
-module _ {s : List ℕ} {at : ℕ} (holds : Bool) {e : Ending} (k : IsEnding s at e) where
+module _ {s : List ℕ} {at : ℕ} (holds : Bool) {e : Ending} (k : IsEnding FileKind.Formula s at e) where
   pub finish-ended : e ≡ Ending.Ended → Finish s at holds (record { answer = answer 0 0 0; holds = holds })
-  finish-ended q = record { is = sym (ap (endTested holds) (k .is) ∙ rw q) }
+  finish-ended q = record { is = sym (ap (endTested holds) (k .is fileProof) ∙ rw q) }
 
   pub finish-fault : {number p : ℕ} {r : Tested} → e ≡ Ending.Fault number p → r ≡ refusal number fileProof p → Finish s at holds r
-  finish-fault q f = record { is = f ∙ sym (ap (endTested holds) (k .is) ∙ rw q) }
+  finish-fault q f = record { is = f ∙ sym (ap (endTested holds) (k .is fileProof) ∙ rw q) }
 
 -- ---- K is the number of values
 any : {X : Type 0} (r : Result X) → Gives (λ a. Unit {0}) (λ x. Unit {0}) r
@@ -73,10 +54,6 @@ header-gives kind file g fs =
 
 given : {h : Header} {g : ℕ} → Gives (λ a. Unit {0}) (λ (h : Header). h .K ≡ g) (accepted h) → h .K ≡ g
 given (yes q) = q
-
-given-some : (k : ℕ) → 1 ≤ k → givenK k ≡ some k
-given-some zero h = absurd (omega arith)
-given-some (suc k) h = refl
 
 -- ---- reading the formula whole
 end-judged : (values : List ℤ) (I : Formula) {holds : Bool} → holds ≡ judge I (registers values) → (w : Result (Unit {0}))
@@ -105,7 +82,7 @@ module _ {s : List ℕ} {values : List ℤ} {K : ℕ} (g : Registers values K) {
       pub formula-fault : {number place : ℕ} {r : Tested} → j ≡ Judged.Fault number place → r ≡ refusal number fileProof place
           → r ≡ asTested (judged values (readFormula K (fields s)))
       unfolding readFormula judged
-      formula-fault q f = f ∙ sym (ap (λ w. asTested (judged values w)) (bind-accepted _ header-K ∙ bind-refused _ (rw q at (b .judged))))
+      formula-fault q f = f ∙ sym (ap (λ w. asTested (judged values w)) (binds _ header-K ∙ bind-refused _ (rw q at (b .judged))))
 
       pub formula-value : {holds : Bool} {end : ℕ} {r : Tested} → j ≡ Judged.Value holds end → Finish s end holds r
           → r ≡ asTested (judged values (readFormula K (fields s)))
@@ -113,25 +90,9 @@ module _ {s : List ℕ} {values : List ℤ} {K : ℕ} (g : Registers values K) {
       formula-value q f =
           let x = rw q at (b .judged) in
           f .is ∙ end-judged values (x .formula) (x .truth) (finished FileKind.Formula fileProof (fieldsAt s _))
-          ∙ sym (ap (λ w. asTested (judged values w)) (bind-accepted _ header-K ∙ bind-accepted _ (x .is)))
+          ∙ sym (ap (λ w. asTested (judged values w)) (binds _ header-K ∙ binds _ (x .is)))
 
 -- ---- the values, then the length, then the formula
-pub then-refused : {Y : Type 0} {m : Result (Unit {0})} {a : Answer} (r : Result Y) → m ≡ refused a → (m >> r) ≡ refused a
-unfolding _>>_
-then-refused r e = rw e
-
-pub then-accepted : {Y : Type 0} {m : Result (Unit {0})} {x : Unit {0}} (r : Result Y) → m ≡ accepted x → (m >> r) ≡ r
-unfolding _>>_
-then-accepted r e = rw e
-
-need-true : (a : Answer) {b : Bool} → b ≡ true → need a b ≡ accepted tt
-unfolding need
-need-true a e = rw e
-
-need-false : (a : Answer) {b : Bool} → b ≡ false → need a b ≡ refused a
-unfolding need
-need-false a e = rw e
-
 module _ (formula : List ℕ) (values : List ℤ) where
   by-tested : {r : Tested} {w : Result Formula} → tested formula values ≡ w → r ≡ asTested (judged values w) → r ≡ asTested (testFormula formula values)
   unfolding testFormula
@@ -139,17 +100,17 @@ module _ (formula : List ℕ) (values : List ℤ) where
 
   pub no-values : {r : Tested} → length values < 1 → r ≡ refusal 7 fileLent 0 → r ≡ asTested (testFormula formula values)
   unfolding tested judged
-  no-values h f = by-tested (then-refused _ (need-false _ (rw (lt-leb 1 (length values) h)))) f
+  no-values h f = by-tested (fail _ _ (rw (lt-leb 1 (length values) h))) f
 
   module _ (some : 1 ≤ length values) where
     pub many-values : {r : Tested} → 16 < length values → r ≡ refusal 7 fileLent 0 → r ≡ asTested (testFormula formula values)
     unfolding tested judged
-    many-values h f = by-tested (then-refused _ (need-false _ (rw (le-leb 1 (length values) some, lt-leb (length values) 16 h)))) f
+    many-values h f = by-tested (fail _ _ (rw (le-leb 1 (length values) some, lt-leb (length values) 16 h))) f
 
     module _ (few : length values ≤ 16) where
       counted : tested formula values ≡ (ranged 0 values >> (need (answer 1 fileProof 0) (leb (length formula) 65_536) >> readFormula (length values) (fields formula)))
       unfolding tested ranged
-      counted = then-accepted _ (need-true _ (rw (le-leb 1 (length values) some, le-leb (length values) 16 few)))
+      counted = pass _ _ (rw (le-leb 1 (length values) some, le-leb (length values) 16 few))
 
       module _ {i : ℕ} (o : FirstOutside values i) where
         pub value-outside : {r : Tested} → i < length values → r ≡ refusal 23 fileLent i → r ≡ asTested (testFormula formula values)
@@ -165,8 +126,8 @@ module _ (formula : List ℕ) (values : List ℤ) where
 
           pub too-long : {r : Tested} → 65_536 < length formula → r ≡ refusal 1 fileProof 0 → r ≡ asTested (testFormula formula values)
           unfolding judged
-          too-long h f = by-tested (counted ∙ then-accepted _ (o .within is-count .0) ∙ then-refused _ (need-false _ (lt-leb (length formula) 65_536 h))) f
+          too-long h f = by-tested (counted ∙ passes _ (o .within is-count .0) ∙ fail _ _ (lt-leb (length formula) 65_536 h)) f
 
           pub whole-read : {r : Tested} → length formula ≤ 65_536 → r ≡ asTested (judged values (readFormula (length values) (fields formula)))
               → r ≡ asTested (testFormula formula values)
-          whole-read h f = by-tested (counted ∙ then-accepted _ (o .within is-count .0) ∙ then-accepted _ (need-true _ (le-leb (length formula) 65_536 h))) f
+          whole-read h f = by-tested (counted ∙ passes _ (o .within is-count .0) ∙ pass _ _ (le-leb (length formula) 65_536 h)) f

@@ -1,19 +1,19 @@
 -- How a file states a formula. Document 01, "Fields" and "Test a formula". Assumes nothing.
 use mathlib.Core.Option.{Option, none, some}
 use mathlib.Core.Bool.{true, false}
-use mathlib.Core.List.{List, [], _∷_, _++_}
+use mathlib.Core.List.{List, [], _++_}
 use Prim.Native.Nat.{ℕ, zero, suc, _+_}
 use lib.Dec.{eqb}
 use lib.ListN.{length, take, drop}
-use lib.IntN.{ℤ, pos, natAbs}
+use lib.IntN.{pos, natAbs}
 use lib.Signed.{leZ}
-use Rattle.forms.specs.Edition.{Edition, edition1}
-use Rattle.forms.specs.Forms.{Kind, ≤0, =0, Form, Formula, literal, _divides_, _and_, _or_}
+use Rattle.forms.specs.Edition.{Edition}
+use Rattle.forms.specs.Forms.{Kind, ≤0, =0, Formula, literal, _divides_, _and_, _or_}
 use Rattle.fields.specs.declared.FileKind.{FileKind}
 use Rattle.fields.specs.Answers.{answer, fileProof, Result, refused, accepted, _>>=_, _>>_, need, found}
 use Rattle.fields.specs.Numbers.{signed, signedBytes, formFrom, formBytes, formWidth}
-use Rattle.fields.specs.Fields.{Field, Fields, ends, cut, _▸_, fields, fieldBytes}
-use Rattle.fields.specs.Header.{Header, known, header, finished, headerBytes}
+use Rattle.fields.specs.Fields.{Field, Fields, ends, cut, _▸_, fieldBytes}
+use Rattle.fields.specs.Header.{known, header, finished, headerBytes}
 
 -- ---- writing
 -- 0x31 or, 0x32 and (length 0, two formulas follow); 0x33 "t ≤ 0", 0x34 "t = 0"; 0x35 stride (g in four signed bytes, then the form).

@@ -9,7 +9,6 @@ use Rattle.fields.specs.Header.{finished}
 use Rattle.fields.specs.Places.{fieldsAt}
 use Rattle.formula.specs.Test.{Tested as Outcome}
 use Rattle.formula.specs.declared.Tested.{Tested}
-use Rattle.formula.specs.declared.ending.Ending.{Ending}
 
 -- The code's struct for what testing gives.
 abbrev pub asTested : Outcome → Tested
@@ -17,14 +16,6 @@ asTested t = record { answer = t .answer; holds = t .holds }
 
 abbrev pub refusal : (number file place : ℕ) → Tested
 refusal number file place = record { answer = answer number file place; holds = false }
-
--- What may stand after the formula, by the code's answer.
-abbrev pub endingOf : Ending → Result (Unit {0})
-endingOf Ending.Ended = accepted tt
-endingOf (Ending.Fault number at) = refused (answer number fileProof at)
-
-pub record IsEnding (s : List ℕ) (at : ℕ) (r : Ending) : Type 0 where
-  pub is : finished FileKind.Formula fileProof (fieldsAt s at) ≡ endingOf r
 
 -- The truth of the formula is given where nothing stands after it.
 abbrev pub endTested : Bool → Result (Unit {0}) → Tested

@@ -1,8 +1,13 @@
 // Formulas on bytes: reading one and testing it at register values.
 use fields::Answer;
 use fields::FileKind;
+use fields::ending::Ending;
+use fields::ending::ending_at;
 use fields::header::Headed;
 use fields::header::read_header;
+use forms::CONSTANTS;
+use forms::FORMULA_BYTES;
+use forms::LEVELS;
 ghost use mathlib.Core.Path.{_≡_};
 ghost use Rattle.fields.specs.Fields.{fields};
 ghost use Rattle.formula.specs.Formula.{readFormula};
@@ -10,14 +15,11 @@ ghost use Rattle.formula.specs.Test.{judged, testFormula};
 ghost use Rattle.formula.specs.Registers.{Registers};
 ghost use Rattle.formula.specs.Outcomes.{asTested, refusal, Finish};
 
-mod ending;
 mod form;
 mod node;
 mod reading;
 mod values;
 
-use ending::Ending;
-use ending::ending_at;
 use reading::Judged;
 use reading::formula_at;
 use values::first_outside;
@@ -46,7 +48,7 @@ fn refuse(number: u8, file: u8, place: usize) -> Tested
 fn finish(formula: &[u8], at: usize, holds: bool) -> Tested
     ensures { λ r. ⌜ Finish (now (formula .entry)) at holds r ⌝ }
 {
-    match ending_at(formula, at) {
+    match ending_at(formula, at, FileKind::Formula) {
         Ending::Ended => Tested {
             answer: Answer {
                 number: 0,
@@ -66,12 +68,15 @@ fn read_whole(formula: &[u8], values: &[i32], k: usize) -> Tested
 {
     match read_header(formula, FileKind::Formula, k as u8) {
         Headed::Refused { number, place } => refuse(number, 3, place),
-        Headed::Header { k: _, next } => match formula_at(formula, next, values, k, 64) {
+        Headed::Header { k: _, next } => match formula_at(formula, next, values, k, LEVELS) {
             Judged::Fault { number, at } => refuse(number, 3, at),
             Judged::Value { holds, next: end } => finish(formula, end, holds),
         },
     }
 }
+
+// The most values, one for each constant.
+const MOST: usize = CONSTANTS as usize;
 
 // Tests a formula at K register values. Refuses: 7, 23, 1, then as the formula is read.
 pub fn test(formula: &[u8], values: &[i32]) -> Tested
@@ -81,14 +86,14 @@ pub fn test(formula: &[u8], values: &[i32]) -> Tested
     if k < 1 {
         return refuse(7, 4, 0);
     }
-    if 16 < k {
+    if MOST < k {
         return refuse(7, 4, 0);
     }
     let i = first_outside(values);
     if i < k {
         return refuse(23, 4, i);
     }
-    if 65536 < formula.len() {
+    if FORMULA_BYTES < formula.len() {
         return refuse(1, 3, 0);
     }
     read_whole(formula, values, k)

@@ -1,4 +1,5 @@
 // Register values: each one as a number, and the first that is out of range.
+use forms::VALUES;
 ghost use mathlib.Core.Path.{_≡_};
 ghost use Prim.Native.Nat.{_<_};
 ghost use lib.Dec.{leb};
@@ -19,11 +20,13 @@ pub fn register(values: &[i32], i: usize) -> i64
     wide(values[i])
 }
 
-// Whether x is within ±1,000,000.
+const LEAST: i64 = -VALUES;
+
+// Whether x is in the range of register values.
 fn in_range(x: i64) -> bool
     ensures { λ r. ⌜ r ≡ leb (natAbs x) 1000000 ⌝ }
 {
-    x <= 1000000 && -1000000 <= x
+    x <= VALUES && LEAST <= x
 }
 
 pub fn first_outside(values: &[i32]) -> usize

@@ -1,27 +1,26 @@
 -- What testing a filed guard tells of the registers holds of check and of testing a formula. Assumes nothing.
 use mathlib.Core.Path.{_≡_, refl, sym, _∙_, ap, subst}
-use mathlib.Core.Bool.{Bool, true, false, _&&_}
-use mathlib.Core.List.{List, [], _∷_, _++_}
-use Prim.Native.Nat.{ℕ, _≤_, _<_}
+use mathlib.Core.Bool.{Bool, true, false}
+use mathlib.Core.List.{List}
+use Prim.Native.Nat.{ℕ, _≤_}
 use native.Mathlib.Omega.{arith}
 use mir.Facts.{yes-and}
 use lib.Dec.{T, leb, le→leb}
-use lib.ListN.{length, take, drop}
+use lib.ListN.{length, take}
 use lib.Seq.{take-at}
 use lib.IntN.{ℤ, natAbs}
 use Rattle.forms.specs.Edition.{edition1}
-use Rattle.forms.specs.Forms.{All, nil, cons, Meets, Constraint, Formula}
-use Rattle.fields.specs.Answers.{answer, acceptance, fileLent, fileProof, accepted, Written}
-use Rattle.fields.specs.Fields.{Item, Framed, fileOf, fields}
+use Rattle.forms.specs.Forms.{All, nil, cons, Formula}
+use Rattle.fields.specs.Answers.{answer, acceptance, fileProof, accepted, Written}
+use Rattle.fields.specs.Fields.{fileOf, fields}
 use Rattle.fields.proofs.Results.{needs, passes, each-accepted}
 use Rattle.formula.specs.Formula.{formulaFile, readFormula}
-use Rattle.formula.specs.Test.{judge, registers, tested, judged, Tested, testFormula}
+use Rattle.formula.specs.Test.{judge, registers, tested, judged, testFormula}
 use Rattle.formula.proofs.Judge.{judge-true}
 use Rattle.proof.specs.Check.{check}
 use Rattle.proof.proofs.Sizes.{written-reads-back}
-use Rattle.guarantee.specs.Soundness.{Meaning, Faithful}
 use Rattle.guarantee.specs.Guard.{GuardTells}
-use Rattle.guarantee.proofs.Accepted.{Accepted, accepted-leaves}
+use Rattle.guarantee.proofs.Accepted.{accepted-leaves}
 use Rattle.guarantee.proofs.Soundness.{interpolates, stated-K}
 
 bool-true : (b : Bool) → T b → b ≡ true

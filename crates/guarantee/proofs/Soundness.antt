@@ -1,15 +1,14 @@
 -- Demand 3 holds of the check. Assumes nothing.
-use mathlib.Core.Path.{_≡_, refl, sym, _∙_, ap, subst}
-use mathlib.Core.Logic.{_⊎_}
+use mathlib.Core.Path.{_≡_, sym, _∙_, ap, subst}
 use mathlib.Core.Bool.{Bool, true, false}
-use mathlib.Core.List.{List, [], _∷_}
-use mathlib.Core.Option.{Option, some}
+use mathlib.Core.List.{List, []}
+use mathlib.Core.Option.{some}
 use Prim.Native.Nat.{ℕ}
-use Rattle.forms.specs.Edition.{Edition, edition1}
+use Rattle.forms.specs.Edition.{Edition}
 use Rattle.forms.specs.Forms.{All, Line, Constraint, Formula}
 use Rattle.calculus.specs.Rules.{Entry, Derive, Closed, derive, strengthen, number, stride, step, entries, Interpolant}
-use Rattle.fields.specs.Answers.{acceptance, Written}
-use Rattle.fields.specs.Fields.{Item, Framed, fileOf, withoutNotes, items, fields}
+use Rattle.fields.specs.Answers.{Written}
+use Rattle.fields.specs.Fields.{Item, Framed, fileOf, withoutNotes}
 use Rattle.fields.proofs.Framing.{items-fileOf}
 use Rattle.bundle.specs.Layout.{StatesAll, BundleFile}
 use Rattle.proof.specs.Check.{check}

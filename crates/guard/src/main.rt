@@ -5,6 +5,8 @@ ghost use Prim.Native.Nat.{_≤_, _+_, _*_};
 ghost use lib.ListN.{length};
 ghost use Rattle.io.specs.Counts.{Counts};
 use fields::numbers::signed_at;
+use forms::CONSTANTS;
+use forms::FORMULA_BYTES;
 use libc::STDOUT_FILENO;
 
 // The number of four bytes at a place.
@@ -26,15 +28,18 @@ fn load(v: &[u8], count: usize, values: &mut [i32])
     }
 }
 
-// How many values v has, 17 at most: that many are as wrong as any more.
+// One value more than may be: that many are as wrong as any more.
+const MANY: usize = CONSTANTS as usize + 1;
+
+// How many values v has, 17 at most.
 fn count(v: &[u8]) -> usize
     ensures { λ r. ⌜ (r * 4 ≤ length (now (v .entry))) × (r ≤ 17) ⌝ }
 {
     let n = v.len() / 4;
-    if n < 17 {
+    if n < MANY {
         return n;
     }
-    17
+    MANY
 }
 
 // What is to be printed of the two files, at the start of text.
@@ -44,7 +49,7 @@ fn answer(f: &[u8], v: &[u8], text: &mut [u8]) -> usize
     if v.len() % 4 != 0 {
         return files::put_refused(text, 7, 4, 0);
     }
-    let mut values = [0i32; 17];
+    let mut values = [0i32; MANY];
     let n = count(v);
     load(v, n, &mut values);
     let r = formula::test(f, &values[..n]);
@@ -59,8 +64,8 @@ fn answer(f: &[u8], v: &[u8], text: &mut [u8]) -> usize
 }
 
 fn main() {
-    let mut f = [0u8; 65537];
-    let mut v = [0u8; 68];
+    let mut f = [0u8; FORMULA_BYTES + 1];
+    let mut v = [0u8; MANY * 4];
     let mut text = [0u8; 64];
     let nf = files::read(b"f", &mut f);
     let nv = files::read(b"v", &mut v);

@@ -1,7 +1,6 @@
 -- Divisibility over ℤ. Assumes nothing.
 use mathlib.Core.Path.{_≡_, refl, _∙_, ap, ap₂}
-use mathlib.Core.List.{List, [], _∷_}
-use mathlib.Core.Bool.{Bool, true, _&&_}
+use mathlib.Core.Bool.{Bool}
 use Prim.Native.Nat.{ℕ, zero, suc, _%_, _/_, _*_}
 use native.Mathlib.Omega.{arith}
 use native.Mathlib.Nat.{div-add-mod', mul-mod-left}
@@ -30,13 +29,6 @@ module _ {g : ℤ} where
 -- the test: |z| % |g| is 0
 abbrev pub divb : ℤ → ℤ → Bool
 divb g z = eqb (natAbs z % natAbs g) 0
-
-abbrev pub alldiv : ℤ → List ℤ → Bool
-alldiv g [] = true
-alldiv g (c ∷ cs) = divb g c && alldiv g cs
-
-divb-test : T (divb (pos 3) (negsuc 11))
-divb-test = tt
 
 -- ---- the test tells of the proposition
 abs-neg : (n : ℕ) → natAbs (negℤ (pos n)) ≡ n

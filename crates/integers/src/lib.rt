@@ -16,11 +16,16 @@ pub fn linear(a: i64, x: i64, b: i64, y: i64) -> i64
     a * x + b * y
 }
 
-// Whether x is within ±2,147,483,647.
+// All numbers of t and tA stay within ± this. Document 01, "Forms and lines".
+const RANGE: i64 = 2147483647;
+
+const LEAST: i64 = -RANGE;
+
+// Whether x is within the range.
 pub fn in_range(x: i64) -> bool
     ensures { λ r. ⌜ r ≡ leb (natAbs x) 2147483647 ⌝ }
 {
-    x <= 2147483647 && -2147483647 <= x
+    x <= RANGE && LEAST <= x
 }
 
 // Whether g divides x.

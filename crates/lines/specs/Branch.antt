@@ -1,39 +1,20 @@
 -- A branch in the buffer and its next line: what the row that makes it leaves. Assumes nothing.
-use mathlib.Core.Path.{_≡_, refl, sym, _∙_, ap}
+use mathlib.Core.Path.{_≡_, refl, _∙_, ap}
 use mathlib.Core.List.{List}
-use mathlib.Core.Bool.{Bool, true, false, not}
-use mathlib.Core.Option.{some}
 use Prim.Native.Nat.{ℕ, suc, _*_, _<_, _≤_}
 use native.Mathlib.Omega.{arith}
-use lib.Dec.{T, eqb}
+use lib.Dec.{T}
 use lib.IntN.{ℤ}
-use lib.ListN.{length, getD, set, getElem?}
+use lib.ListN.{length, getD, set}
 use lib.Seq.{getD-set-same}
-use Rattle.forms.specs.Forms.{≤0, =0, Line, line}
+use Rattle.forms.specs.Forms.{≤0, =0, Line}
 use Rattle.calculus.specs.Rules.{_▷_, inRange}
-use Rattle.proof.specs.Rows.{is}
 use Rattle.lines.specs.Parts.{Agree}
 use Rattle.lines.specs.Buffer.{size, kindOf, lineIn, linesIn, Branch}
-use Rattle.lines.specs.Lines.{before, line-at, lines-more, bounded-same}
+use Rattle.lines.specs.Lines.{before, lines-more, bounded-same}
 use Rattle.lines.specs.Range.{bounded-more}
 
--- ---- kinds: what a test of the kind's byte tells
-pub kind-≤0 : (b : ℕ) → is ≤0 (kindOf b) ≡ eqb b 0
-unfolding kindOf is
-kind-≤0 b = go (eqb b 0)
-  where
-    go : (t : Bool) → is ≤0 (elim t [ true ↦ ≤0 | false ↦ =0 ]) ≡ t
-    go true = refl
-    go false = refl
-
-pub kind-=0 : (b : ℕ) → is =0 (kindOf b) ≡ not (eqb b 0)
-unfolding kindOf is
-kind-=0 b = go (eqb b 0)
-  where
-    go : (t : Bool) → is =0 (elim t [ true ↦ ≤0 | false ↦ =0 ]) ≡ not t
-    go true = refl
-    go false = refl
-
+-- ---- kinds by their bytes
 pub inequality-byte : kindOf 0 ≡ ≤0
 unfolding kindOf
 inequality-byte = refl
@@ -45,13 +26,6 @@ equality-byte = refl
 -- The kind that a store at n gives line n.
 pub kind-stored : (kinds : List ℕ) (n b : ℕ) → n < length kinds → kindOf (getD (set kinds n b) n 0) ≡ kindOf b
 kind-stored kinds n b h = ap kindOf (getD-set-same kinds n b 0 h)
-
--- ---- a line by its number
-some-same : {A : Type 0} {x y : A} → some x ≡ some y → x ≡ y
-some-same e = cc
-
-pub line-is : (K : ℕ) (kinds : List ℕ) (buf : List ℤ) (n i : ℕ) {l : Line} → i < n → getElem? (linesIn K kinds buf n) i ≡ some l → lineIn K kinds buf i ≡ l
-line-is K kinds buf n i h e = some-same (sym (line-at K kinds buf n i h) ∙ e)
 
 -- ---- one line more
 -- buf′ and kinds′ keep the first n lines, and l is line n.

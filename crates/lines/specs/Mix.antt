@@ -4,11 +4,12 @@ use mathlib.Core.List.{List, [], _∷_}
 use Prim.Native.Nat.{ℕ, zero, suc, _+_, _*_, _<_, _≤_}
 use native.Mathlib.Nat.{add-assoc, add-zero}
 use native.Mathlib.Omega.{arith}
-use lib.IntN.{ℤ, pos, _+ℤ_, _*ℤ_, +ℤ-idl, +ℤ-idr, *ℤ-zero}
+use lib.IntN.{ℤ, pos, _+ℤ_, _*ℤ_}
 use lib.ListN.{length, getD, take, drop, length-drop, length-map}
 use lib.Seq.{paste, length-take-le, length-paste}
 use Rattle.integers.specs.Ring.{var, ring, poly}
 use Rattle.forms.specs.Forms.{Form, Line, line, sums, _⊞_, _·_}
+use Rattle.calculus.proofs.Readings.{getD-sums, getD-scaled, length-sums}
 use Rattle.lines.specs.Parts.{part, part-part, part-paste, getD-part, getD-paste, Agree, agree-paste}
 use Rattle.lines.specs.Buffer.{size, formIn, kindOf, lineIn, times, mixed, mixedLine}
 use Rattle.lines.specs.Lines.{form-ext, line-ext, before}
@@ -32,20 +33,6 @@ drop-sums (suc n) (a ∷ l) [] = sym (right (drop n l))
     right (a ∷ l) = refl
 drop-sums (suc n) (a ∷ l) (b ∷ m) = drop-sums n l m
 
-getD-sums : (l m : List ℤ) (j : ℕ) → getD (sums l m) j (pos 0) ≡ getD l j (pos 0) +ℤ getD m j (pos 0)
-unfolding sums
-getD-sums [] m j = sym (+ℤ-idl (getD m j (pos 0)))
-getD-sums (a ∷ l) [] j = sym (+ℤ-idr (getD (a ∷ l) j (pos 0)))
-getD-sums (a ∷ l) (b ∷ m) zero = refl
-getD-sums (a ∷ l) (b ∷ m) (suc j) = getD-sums l m j
-
-length-sums : (l m : List ℤ) → length l ≡ length m → length (sums l m) ≡ length l
-unfolding sums
-length-sums [] [] h = refl
-length-sums [] (b ∷ m) h = sym h
-length-sums (a ∷ l) [] h = refl
-length-sums (a ∷ l) (b ∷ m) h = ap suc (length-sums l m (omega arith))
-
 take-times : (n : ℕ) (f : ℤ) (l : List ℤ) → take n (times f l) ≡ times f (take n l)
 take-times zero f l = refl
 take-times (suc n) f [] = refl
@@ -55,11 +42,6 @@ drop-times : (n : ℕ) (f : ℤ) (l : List ℤ) → drop n (times f l) ≡ times
 drop-times zero f l = refl
 drop-times (suc n) f [] = refl
 drop-times (suc n) f (a ∷ l) = drop-times n f l
-
-getD-times : (f : ℤ) (l : List ℤ) (j : ℕ) → getD (times f l) j (pos 0) ≡ f *ℤ getD l j (pos 0)
-getD-times f [] j = sym (*ℤ-zero f)
-getD-times f (a ∷ l) zero = refl
-getD-times f (a ∷ l) (suc j) = getD-times f l j
 
 part-sums : (o n : ℕ) (l m : List ℤ) → part o n (sums l m) ≡ sums (part o n l) (part o n m)
 part-sums o n l m = ap (take n) (drop-sums o l m) ∙ take-sums n (drop o l) (drop o m)
@@ -83,8 +65,8 @@ module _ (f : ℤ) (a : ℕ) (g : ℤ) (b w : ℕ) (buf : List ℤ) where
   getD-mixed j h =
       getD-sums (times f (part a w buf)) (times g (part b w buf)) j
       ∙ ap₂ _+ℤ_
-      (getD-times f (part a w buf) j ∙ ap (λ (z : ℤ). f *ℤ z) (getD-part a w buf j (pos 0) h))
-      (getD-times g (part b w buf) j ∙ ap (λ (z : ℤ). g *ℤ z) (getD-part b w buf j (pos 0) h))
+      (getD-scaled f (part a w buf) j ∙ ap (λ (z : ℤ). f *ℤ z) (getD-part a w buf j (pos 0) h))
+      (getD-scaled g (part b w buf) j ∙ ap (λ (z : ℤ). g *ℤ z) (getD-part b w buf j (pos 0) h))
 
   module _ (ha : a + w ≤ length buf) (hb : b + w ≤ length buf) where
     pub length-mixed : length (mixed f a g b w buf) ≡ w

@@ -173,11 +173,3 @@ module _ (K : ℕ) (kinds : List ℕ) (buf : List ℤ) (A B : List Constraint) (
   pub held-B : held K kinds buf (length A) (length A + length B) ≡ B
   unfolding held
   held-B = ap (λ (ls : List Line). map constraintOf (drop (length A) ls)) are ∙ ap (map constraintOf) (drop-at (map lineA A) (map lineB B) (length A) (length-map A lineA)) ∙ as-B B
-
-  -- The masks of A's lines and of B's lines tell what occurs in A and in B.
-  module _ (n : ℕ) (h : K ≤ n) where
-    pub mask-A : told (bits (occursIn K buf 0 (length A)) n) ≡ occurs A
-    mask-A = told-occurs K kinds buf 0 (length A) n (omega arith) h ∙ ap occurs held-A
-
-    pub mask-B : told (bits (occursIn K buf (length A) (length A + length B)) n) ≡ occurs B
-    mask-B = told-occurs K kinds buf (length A) (length A + length B) n (omega arith) h ∙ ap occurs held-B

@@ -2,13 +2,14 @@
 use mathlib.Core.Path.{_≡_, refl, sym, _∙_, ap, ap₂}
 use mathlib.Core.List.{List, [], _∷_}
 use mathlib.Core.Bool.{Bool, true, false, not, cond, _&&_, _||_}
-use Prim.Native.Nat.{ℕ, zero, suc, _+_, _<_}
+use Prim.Native.Nat.{ℕ, _+_, _<_}
 use native.Mathlib.Omega.{arith}
 use lib.IntN.{ℤ, pos}
 use lib.ListN.{length, getD, drop, length-drop, List·getD-append}
 use lib.Seq.{length-take-le, getD-at}
 use Rattle.forms.specs.Forms.{only, within, nonzero, rest}
 use Rattle.fields.specs.Numbers.{flat}
+use Rattle.calculus.proofs.Readings.{getD-only, length-only}
 use Rattle.proof.specs.Rows.{common}
 use Rattle.lines.specs.Parts.{part, getD-part}
 use Rattle.lines.specs.Buffer.{formIn}
@@ -20,21 +21,6 @@ unfolding flat
 flat-form K buf at h = sym (part-form at K buf h)
 
 -- ---- number x of a restricted form
-cond-same : (b : Bool) (z : ℤ) → z ≡ cond b z z
-cond-same true z = refl
-cond-same false z = refl
-
-getD-only : (p : ℕ → Bool) (l : List ℤ) (c : ℕ) → getD (only p l) c (pos 0) ≡ cond (p c) (getD l c (pos 0)) (pos 0)
-unfolding only
-getD-only p [] c = cond-same (p c) (pos 0)
-getD-only p (z ∷ l) zero = refl
-getD-only p (z ∷ l) (suc c) = getD-only (rest p) l c
-
-length-only : (p : ℕ → Bool) (l : List ℤ) → length (only p l) ≡ length l
-unfolding only
-length-only p [] = refl
-length-only p (z ∷ l) = ap suc (length-only (rest p) l)
-
 module _ (p : ℕ → Bool) (K : ℕ) (buf : List ℤ) (at : ℕ) (room : at + K < length buf) where
   len : length (only p (part at K buf)) ≡ K
   len = length-only p (part at K buf) ∙ length-take-le K (drop at buf) (simp length-drop (omega arith))

@@ -11,22 +11,11 @@ use Rattle.integers.specs.Magnitude.{Within}
 use Rattle.forms.specs.Forms.{Form, Kind, Line, line, _plus_}
 use Rattle.calculus.specs.Rules.{small, every, inRange}
 use Rattle.lines.specs.Parts.{Agree, agree-trans}
-use Rattle.lines.specs.Buffer.{size, kindOf, lineIn, LineTerms, LineCopy, copiedLine, strengthenedT, strengthenedBoth}
+use Rattle.lines.specs.Buffer.{size, kindOf, lineIn, LineCopy, copiedLine, strengthenedT, strengthenedBoth}
 use Rattle.lines.specs.Lines.{before, line-ext}
 use Rattle.lines.specs.Mix.{mixed-keeps, mixed-line, length-mixedLine, mix-copy}
 use Rattle.lines.specs.Range.{and-left, and-right, and-both}
 use Rattle.lines.specs.Plus.{length-plusOne, plus-keeps, plus-t, plus-tA}
-
--- A copy is a sum of multiples, by 1 and by 0.
-pub copy-terms : {K : ℕ} {buf : List ℤ} {i n : ℕ} → LineCopy K buf i n → LineTerms K buf (pos 1) i (pos 0) i n
-copy-terms p = record {
-  branch = p .branch;
-  first = p .first;
-  second = p .first;
-  space = p .space;
-  f-in = record { abs = omega arith };
-  g-in = record { abs = omega arith };
-}
 
 module _ {K : ℕ} {buf : List ℤ} {i n : ℕ} (p : LineCopy K buf i n) where
   -- ---- what stays

@@ -1,4 +1,5 @@
 // The lines of a branch in one flat lent buffer: the functions that read and write them.
+use forms::CONSTANTS;
 ghost use mathlib.Core.Path.{_≡_};
 ghost use mathlib.Core.Bool.{not, _&&_, _||_};
 ghost use Prim.Native.Nat.{_+_, _*_, _<_, _≤_};
@@ -190,6 +191,9 @@ fn occurrence(lines: &[i64], from: usize, to: usize, k: usize, c: usize) -> u8
     0
 }
 
+// The bytes of a mask, one for each constant.
+const MASK: usize = CONSTANTS as usize;
+
 // The mask of the constants that occur in the constraints of the lines from..to.
 pub fn occurrences(lines: &[i64], from: usize, to: usize, k: usize, mask: &mut [u8])
     requires { ⌜ Span k (now lines) from to ⌝ }
@@ -197,7 +201,7 @@ pub fn occurrences(lines: &[i64], from: usize, to: usize, k: usize, mask: &mut [
     ensures { λ _. ⌜ now (mask .exit) ≡ bits (occursIn k (now (lines .entry)) from to) 16 ⌝ }
 {
     let mut c = 0;
-    while c < 16 {
+    while c < MASK {
         let b = occurrence(lines, from, to, k, c);
         mask[c] = b;
         c += 1;

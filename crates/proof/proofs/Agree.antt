@@ -89,9 +89,6 @@ module _ (a b : Bundle) (fs : Fields) where
       (p .proves .opened) _ refl (omega (arith, p .proves .rows)) (listed (h .after) (h .rest) (subst (Each (Enters edition1 (a .K)) (p .body)) (sym (p .proves .are)) (p .enters))) in
       binds _ (h .reads) ∙ binds _ (r .is) ∙ passes _ (finished-ends FileKind.Proof fileProof (r .after) (no-items (r .lists)))
 
-  pub proof-iff : (I : Formula) → checkProof a b fs ≡ accepted I ↔ Proof a b fs I
-  proof-iff I = (proof-gives .gives I, proof-accepts I)
-
 -- ---- the three files
 module _ (A B P : List ℕ) where
   certified : (a b : Bundle) → BothLaid A B (a, b) → length A ≤ edition1 .bundleBytes → length B ≤ edition1 .bundleBytes → length P ≤ edition1 .proofBytes

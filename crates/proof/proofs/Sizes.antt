@@ -1,16 +1,18 @@
 -- What three files certify can be written: every number fits its bytes, the levels and the length stay within limits, and the file reads back. Assumes nothing.
-use mathlib.Core.Path.{_≡_, refl, sym, _∙_, ap, subst}
+use mathlib.Core.Path.{_≡_, sym, _∙_, subst}
 use mathlib.Core.Bool.{Bool, true, false, cond, _&&_}
 use mathlib.Core.List.{List, [], _∷_, map}
-use Prim.Native.Nat.{ℕ, suc, _+_, _*_, _^_, _<_, _≤_}
+use Prim.Native.Nat.{ℕ, _+_, _*_, _^_, _<_, _≤_}
 use native.Mathlib.Nat.{pow-le-pow-right}
 use native.Mathlib.Omega.{arith}
 use lib.Dec.{T, leb→le}
 use lib.ListN.{length, take, drop, length-map, length-take}
 use lib.IntN.{ℤ, pos, negsuc, natAbs, _*ℤ_, zero-*ℤ}
+use Rattle.integers.specs.Magnitude.{Within}
 use Rattle.forms.specs.Edition.{Edition, edition1}
-use Rattle.forms.specs.Forms.{Form, ≤0, Constraint, Line, line, lineA, lineB, lines, All, nil, cons, sums, _⊞_, _·_, _plus_, only, within, rest, Formula, literal, _divides_, _and_, _or_}
+use Rattle.forms.specs.Forms.{Form, ≤0, Constraint, Line, line, lineA, lineB, lines, All, nil, cons, _⊞_, _·_, _plus_, only, within, rest, Formula, literal, _divides_, _and_, _or_}
 use Rattle.calculus.specs.Rules.{Row, CloseStride, Derive, Strengthen, CloseNumber, Entry, row, claim, small, every, inRange, New, combine, reduce, scale, Closed, derive, strengthen, number, stride, claims, entries, rowCount, depth, Proves}
+use Rattle.calculus.proofs.Readings.{length-sums, length-only}
 use Rattle.calculus.proofs.Sides.{all-nth, all-and, all-map, all-append}
 use Rattle.fields.specs.Answers.{accepted}
 use Rattle.fields.specs.Numbers.{unsigned}
@@ -26,17 +28,6 @@ use Rattle.proof.specs.Layout.{Enters, ProofFile, Certifies}
 -- ---- forms of K coefficients
 pub record Size (K : ℕ) (t : Form) : Type 0 where
   pub size : length (t .coeffs) ≡ K
-
-length-sums : (a b : List ℤ) → length a ≡ length b → length (sums a b) ≡ length a
-unfolding sums
-length-sums [] b h = sym h
-length-sums (x ∷ a) [] h = refl
-length-sums (x ∷ a) (y ∷ b) h = ap suc (length-sums a b (omega arith))
-
-length-only : (p : ℕ → Bool) (a : List ℤ) → length (only p a) ≡ length a
-unfolding only
-length-only p [] = refl
-length-only p (x ∷ a) = ap suc (length-only (rest p) a)
 
 module _ {K : ℕ} where
   size-sum : {s t : Form} → Size K s → Size K t → Size K (s ⊞ t)
@@ -56,9 +47,6 @@ module _ {K : ℕ} where
   size-within p {t} h = record { size = length-only p (t .coeffs) ∙ h .size }
 
 -- ---- forms of numbers within the edition's range
-pub record Within (range : ℕ) (z : ℤ) : Type 0 where
-  pub abs : natAbs z ≤ range
-
 pub record Ranged (range : ℕ) (t : Form) : Type 0 where
   pub coeffs : All (Within range) (t .coeffs)
   pub d : Within range (t .d)

@@ -10,8 +10,8 @@ use Rattle.calculus.specs.Rules.{_▷_, Row, Derive, Strengthen, CloseNumber, C
 use Rattle.fields.specs.declared.Answer.{Answer}
 use Rattle.fields.specs.declared.FileKind.{FileKind}
 use Rattle.fields.specs.Answers.{answer, fileA, fileB, fileProof, Result, refused, accepted, _>>=_, _>>_, need, found, Written, written}
-use Rattle.fields.specs.Fields.{Field, Fields, ends, cut, _▸_, fields}
-use Rattle.fields.specs.Header.{Header, header, finished}
+use Rattle.fields.specs.Fields.{Fields, ends, cut, _▸_, fields}
+use Rattle.fields.specs.Header.{header, finished}
 use Rattle.bundle.specs.Bundle.{Bundle, atMost, bundles}
 use Rattle.formula.specs.Formula.{formulaFile}
 use Rattle.proof.specs.Entries.{entry}

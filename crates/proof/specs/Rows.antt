@@ -9,7 +9,7 @@ use lib.Signed.{ltZ}
 use Rattle.integers.specs.Linear.{eqZ}
 use Rattle.integers.specs.Divides.{divb}
 use Rattle.forms.specs.Edition.{Edition}
-use Rattle.forms.specs.Forms.{Form, Kind, ≤0, =0, Line, line, Formula, literal, _divides_, nonzero, _⊞_, _·_, _plus_, within, rest}
+use Rattle.forms.specs.Forms.{Form, Kind, ≤0, =0, Line, line, Formula, literal, _divides_, nonzero, _⊞_, _·_, within, rest}
 use Rattle.calculus.specs.Rules.{every, inRange, Step, Combine, Reduce, Scale}
 use Rattle.fields.specs.declared.Answer.{Answer}
 use Rattle.fields.specs.Answers.{Result, accepted, _>>=_, _>>_, need, found}

@@ -14,7 +14,6 @@ use mir.Syntax.{w64}
 use mir.Val.{toZ, ofZ, hbits}
 use mir.ValLaws.{toZ-ofZ}
 use Rattle.integers.specs.Linear.{eqZ}
-use Rattle.forms.specs.Edition.{edition1}
 use Rattle.fields.specs.Numbers.{signed, signeds, formFrom, formWidth}
 use Rattle.lines.specs.Parts.{part, part-take}
 use Rattle.lines.specs.Buffer.{size, formIn, lineIn}

@@ -1,14 +1,13 @@
 -- The rows of a branch, counted and applied: each way through a function. Assumes nothing.
-use mathlib.Core.Path.{_≡_, refl, sym, ap, _∙_}
+use mathlib.Core.Path.{_≡_, refl, ap, _∙_}
 use mathlib.Core.Bool.{Bool, true, false}
 use mathlib.Core.List.{List}
-use mathlib.Core.Option.{Option, none, some}
-use Prim.Native.Nat.{ℕ, suc, _+_, _-_, _*_, _≤_, _<_}
+use mathlib.Core.Option.{Option, some}
+use Prim.Native.Nat.{ℕ, suc, _-_, _*_, _≤_, _<_}
 use native.Mathlib.Numerals.{add-one}
-use native.Mathlib.Omega.{arith}
 use lib.Dec.{ltb}
 use lib.ListN.{take, drop}
-use lib.IntN.{ℤ, pos, natAbs}
+use lib.IntN.{ℤ, natAbs}
 use borrow.Author.Tests.{lt-ltb, le-ltb, ltb-true, ltb-false}
 use Rattle.forms.specs.Edition.{edition1}
 use Rattle.forms.specs.Forms.{Line}
@@ -16,19 +15,19 @@ use Rattle.calculus.specs.Rules as rules
 use Rattle.calculus.specs.Rules.{_▷_}
 use Rattle.fields.specs.Fields.{Fields}
 use Rattle.fields.specs.Numbers.{formWidth}
-use Rattle.fields.specs.Answers.{Result, refused, accepted, _>>=_, _>>_, need}
+use Rattle.fields.specs.Answers.{Result, accepted, _>>=_, _>>_, need}
 use Rattle.lines.specs.Parts.{agree-sym}
-use Rattle.lines.specs.Buffer.{lineIn, linesIn}
+use Rattle.lines.specs.Buffer.{linesIn}
 use Rattle.lines.specs.Lines.{lines-more}
-use Rattle.proof.specs.Check.{refusal, checkRow, agreeing, checkEntry, Checker, Next}
+use Rattle.proof.specs.Check.{checkRow, agreeing, checkEntry, Checker, Next}
 use Rattle.rows.specs.Tally.{rowCounted}
-use Rattle.rows.specs.Rows.{Ready, Kept, moreLines, Derives}
+use Rattle.rows.specs.Rows.{Derives}
 use Rattle.rows.specs.Steps.{steppedOf, Checked, Same, lastMade, fieldChecked, rowChecked, rowLeft, moreRows, Steps, Counts, Claims}
 use Rattle.rows.specs.Claims.{Claimed}
 use Rattle.rows.specs.Entries.{Multiplies, stated, there, Entered}
 use Rattle.rows.specs.declared.entries.Entry as entries
 use Rattle.rows.specs.declared.entries.Entry.the-variants as entry-of
-use Rattle.rows.specs.declared.tally.Line as tally
+use Rattle.bundle.specs.declared.Line as numbered
 use Rattle.rows.specs.declared.tally.Tally.{Tally}
 use Rattle.rows.specs.declared.tally.Counted.{Counted}
 use Rattle.rows.specs.declared.derive.Derived.{Derived}
@@ -36,22 +35,15 @@ use Rattle.rows.specs.declared.derive.Derived.the-variants as derived-of
 use Rattle.rows.specs.declared.steps.Stepped.{Stepped}
 use Rattle.rows.specs.declared.steps.Stepped.the-variants.{Refused, Made, Strengthens, ClosesNumber, ClosesStride}
 use Rattle.rows.proofs.Deriving.{kept-refl}
+use Rattle.rows.proofs.Counting.{counted-made, counted-full}
 
 pub counted-row : {t : Tally} {r : Counted} → r ≡ rowCounted t → r .made ≡ true → (t .rows .0 < 1024) × (r .tally ≡ moreRows t)
 unfolding rowCounted
-counted-row {t} {r} e h = go (ltb (t .rows .0) 1024) refl
-  where
-    go : (b : Bool) → ltb (t .rows .0) 1024 ≡ b → (t .rows .0 < 1024) × (r .tally ≡ moreRows t)
-    go true q = (ltb-true (t .rows .0) 1024 q, ap (λ (x : Counted). x .tally) e ∙ rw q)
-    go false q = absurd (let z : r .made ≡ false = ap (λ (x : Counted). x .made) e ∙ rw q in let y : _≡_ {A = ℕ} 0 1 = cc in omega arith)
+counted-row {t} e h = let c = counted-made (ltb (t .rows .0) 1024) (moreRows t) t e h in (ltb-true (t .rows .0) 1024 (c .0), c .1)
 
 pub full-row : (t : Tally) {r : Counted} → r ≡ rowCounted t → r .made ≡ false → 1024 ≤ t .rows .0
 unfolding rowCounted
-full-row t {r} e h = go (ltb (t .rows .0) 1024) refl
-  where
-    go : (b : Bool) → ltb (t .rows .0) 1024 ≡ b → 1024 ≤ t .rows .0
-    go true q = absurd (let z : r .made ≡ true = ap (λ (x : Counted). x .made) e ∙ rw q in let y : _≡_ {A = ℕ} 0 1 = cc in omega arith)
-    go false q = ltb-false (t .rows .0) 1024 q
+full-row t e h = ltb-false (t .rows .0) 1024 (counted-full (ltb (t .rows .0) 1024) (moreRows t) t e h)
 
 module _ (K : ℕ) (kinds : List ℕ) (buf : List ℤ) (t : Tally) (row : rules.Row) where
   pub row-full : 1024 ≤ t .rows .0 → Steps (rowChecked K kinds buf t row) K kinds buf t kinds buf (Refused 18)
@@ -92,7 +84,7 @@ module _ {K : ℕ} {kinds : List ℕ} {buf : List ℤ} (t : Tally) {s : rules.St
 pub counts-full : (row : rules.Row) (t : Tally) → 1024 ≤ t .rows .0 → Counts row t (Refused 18)
 counts-full row t h = record { steps = λ K kinds buf. row-full K kinds buf t row h }
 
-module _ (t : Tally) (h : t .rows .0 < 1024) {u : Tally} (e : u ≡ moreRows t) (i : tally.Line) where
+module _ (t : Tally) (h : t .rows .0 < 1024) {u : Tally} (e : u ≡ moreRows t) (i : numbered.Line) where
   pub counts-strengthen : Counts (rules.Strengthen (i .0)) t (Strengthens i u)
   counts-strengthen = record { steps = λ K kinds buf. record { kept = kept-refl; by = (row-counted K kinds buf t (rules.Strengthen (i .0)) h, e) } }
 

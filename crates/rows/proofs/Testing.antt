@@ -1,26 +1,23 @@
 -- The tests of the rows that make a line, one way through each function after the other. Assumes nothing.
-use mathlib.Core.Path.{_≡_, refl, sym, ap, ap₂, _∙_}
+use mathlib.Core.Path.{_≡_, refl, sym, ap, _∙_}
 use mathlib.Core.Bool.{Bool, true, false, not, _&&_}
 use mathlib.Core.List.{List}
-use Prim.Native.Nat.{ℕ, zero, suc, _+_, _*_, _≤_, _<_}
+use Prim.Native.Nat.{ℕ, zero, suc, _≤_, _<_}
 use native.Mathlib.Omega.{arith}
 use lib.Dec.{ltb, leb}
-use lib.ListN.{getD, getElem?}
+use lib.ListN.{getD}
 use lib.IntN.{ℤ, pos, negsuc, natAbs}
 use borrow.Author.Tests.{ltb-true, ltb-false, le-leb, lt-leb, eq-eqb, ne-eqb, eqb-true, eqb-false}
 use Rattle.integers.specs.Linear.{eqZ}
-use Rattle.integers.specs.Magnitude.{Within}
-use Rattle.forms.specs.Edition.{edition1}
-use Rattle.forms.specs.Forms.{Form, Kind, ≤0, =0, Line, line, nonzero, _⊞_, _·_}
+use Rattle.forms.specs.Forms.{≤0, =0, Line, line, nonzero, _⊞_, _·_}
 use Rattle.calculus.specs.Rules.{Step, Combine, Reduce, Scale}
-use Rattle.fields.specs.Answers.{Result, refused, accepted, _>>=_, _>>_, need, found}
+use Rattle.fields.specs.Answers.{refused, accepted, _>>=_, _>>_, need, found}
 use Rattle.lines.specs.Buffer.{kindOf, lineIn, linesIn}
 use Rattle.lines.specs.Lines.{line-at, line-past, line-ext}
 use Rattle.lines.specs.Mix.{mix-one, mix-zero}
-use Rattle.proof.specs.Rows.{is, lineAt, derived, fitting}
-use Rattle.proof.specs.Check.{Closing, refusal}
-use Rattle.rows.specs.Entries.{Multiplies}
-use Rattle.rows.specs.Rows.{Ready, Kept, sumOf, Grown, Appended, followed, Derives}
+use Rattle.proof.specs.Rows.{is, lineAt, derived}
+use Rattle.proof.specs.Check.{refusal}
+use Rattle.rows.specs.Rows.{sumOf, Appended, Derives}
 use Rattle.rows.specs.declared.tally.Tally.{Tally}
 use Rattle.rows.specs.declared.derive.Derived.{Derived}
 use Rattle.rows.specs.declared.derive.Derived.the-variants.{Refused, Made}

@@ -13,7 +13,6 @@ use Rattle.forms.specs.Forms.{Line}
 use Rattle.calculus.specs.Rules as rules
 use Rattle.fields.specs.Answers.{answer, fileProof, Result, refused, accepted, _>>_, need}
 use Rattle.fields.specs.Numbers.{formFrom, formWidth}
-use Rattle.fields.specs.Fields.{Field}
 use Rattle.proof.specs.Entries.{Tagged, sizeOf, entryFrom, entry}
 use Rattle.rows.specs.declared.entries.Entry.{Entry}
 use Rattle.rows.specs.declared.entries.Entry.the-variants.{Combine, Reduce, Scale, Strengthen, CloseNumber, CloseStride, Claim, Refused}

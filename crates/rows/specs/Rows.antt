@@ -1,17 +1,16 @@
 -- What the rows that make a line leave: the answer, and the branch with the new line. Document 01, "The rows" and "Check". Assumes nothing.
 use mathlib.Core.Path.{_≡_}
 use mathlib.Core.List.{List}
-use Prim.Native.Nat.{ℕ, suc, _+_, _*_, _≤_, _<_}
+use Prim.Native.Nat.{ℕ, _+_, _*_, _≤_, _<_}
 use lib.ListN.{length}
 use lib.IntN.{ℤ}
 use Rattle.integers.specs.Magnitude.{Within}
 use Rattle.forms.specs.Edition.{edition1}
 use Rattle.forms.specs.Forms.{Line, line, _⊞_, _·_}
 use Rattle.calculus.specs.Rules as rules
-use Rattle.fields.specs.declared.Answer.{Answer}
 use Rattle.fields.specs.Answers.{Result, refused, accepted, _>>=_, _>>_}
 use Rattle.lines.specs.Parts.{Agree}
-use Rattle.lines.specs.Buffer.{size, kindOf, lineIn, linesIn, Bounded, Branch}
+use Rattle.lines.specs.Buffer.{size, kindOf, lineIn, linesIn, Branch}
 use Rattle.proof.specs.Rows.{derived, fitting}
 use Rattle.proof.specs.Check.{Closing, refusal}
 use Rattle.rows.specs.Tally.{tally}

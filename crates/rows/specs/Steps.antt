@@ -3,7 +3,7 @@ use mathlib.Core.Path.{_≡_}
 use mathlib.Core.Bool.{Bool, true, false}
 use mathlib.Core.List.{List}
 use mathlib.Core.Option.{Option, none, some}
-use Prim.Native.Nat.{ℕ, suc, _+_, _-_, _*_}
+use Prim.Native.Nat.{ℕ, _+_, _-_, _*_}
 use lib.Dec.{ltb}
 use lib.ListN.{take, drop}
 use lib.IntN.{ℤ, natAbs}
@@ -12,10 +12,10 @@ use Rattle.forms.specs.Forms.{Line}
 use Rattle.calculus.specs.Rules as rules
 use Rattle.fields.specs.Answers.{Result, refused, _>>=_, _>>_, need}
 use Rattle.fields.specs.Numbers.{formFrom, formWidth}
-use Rattle.fields.specs.Fields.{Field, Fields}
+use Rattle.fields.specs.Fields.{Fields}
 use Rattle.lines.specs.Buffer.{lineIn, linesIn}
 use Rattle.proof.specs.Entries.{entry}
-use Rattle.proof.specs.Check.{Closing, Checker, Next, refusal, checkRow, checkEntry, checkEntries}
+use Rattle.proof.specs.Check.{Closing, Checker, Next, refusal, checkRow, checkEntry}
 use Rattle.rows.specs.Tally.{tally}
 use Rattle.rows.specs.Entries.{Multiplies}
 use Rattle.rows.specs.Rows.{Ready, Kept, moreLines}

@@ -6,7 +6,7 @@ ghost use Rattle.fields.specs.Numbers.{signeds};
 ghost use Rattle.lines.specs.Parts.{part};
 ghost use Rattle.proof.specs.Rows.{equals};
 ghost use Rattle.rows.specs.Claims.{Claimed};
-use crate::tally::Line;
+use bundle::Line;
 
 // Whether the k + 1 four-byte numbers at start are those of the form at a place.
 fn same_form(p: &[u8], start: usize, lines: &[i64], at: usize, k: usize) -> bool

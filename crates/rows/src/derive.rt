@@ -8,9 +8,9 @@ ghost use Rattle.integers.specs.Magnitude.{Within};
 ghost use Rattle.calculus.specs.Rules.{Combine, Reduce, Scale};
 ghost use Rattle.rows.specs.Entries.{Multiplies};
 ghost use Rattle.rows.specs.Rows.{Ready, Terms, Appended, Derives};
-use crate::tally::Line;
 use crate::tally::Tally;
 use crate::tally::line_counted;
+use bundle::Line;
 
 pub enum Derived {
     Refused { number: u8 },

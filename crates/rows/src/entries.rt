@@ -2,10 +2,10 @@
 ghost use mathlib.Core.Path.{_≡_};
 ghost use Prim.Native.Nat.{_+_, _≤_};
 ghost use lib.ListN.{length, take, drop};
-ghost use Rattle.proof.specs.Entries.{combineTag, reduceTag, scaleTag, strengthenTag, numberTag, strideTag, claimTag};
+ghost use Rattle.proof.specs.Entries.{combineTag, reduceTag, scaleTag, strengthenTag, numberTag, strideTag};
 ghost use Rattle.fields.specs.Numbers.{unsigned};
 ghost use Rattle.rows.specs.Entries.{Multiplies, Shaped, claimed, Entered};
-use crate::tally::Line;
+use bundle::Line;
 
 pub enum Entry {
     Combine {

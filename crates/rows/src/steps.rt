@@ -16,9 +16,9 @@ use crate::derive::reduce;
 use crate::derive::scale;
 use crate::entries::Entry;
 use crate::entries::entry_at;
-use crate::tally::Line;
 use crate::tally::Tally;
 use crate::tally::row_counted;
+use bundle::Line;
 
 pub enum Stepped {
     Refused { number: u8 },

@@ -1,11 +1,13 @@
 // The tally of a check: the numbers of the next row and the next line, and the strengthens open.
+use bundle::Line;
+use forms::LINES;
+use forms::ROWS;
+use forms::STRENGTHENS;
 ghost use mathlib.Core.Path.{_≡_};
 ghost use Rattle.rows.specs.Tally.{rowCounted, lineCounted, openCounted, Advanced};
 
 // A row is numbered in the file, a line on its branch.
 pub struct Row(pub u16);
-
-pub struct Line(pub u16);
 
 pub struct Tally {
     pub rows: Row,
@@ -26,7 +28,7 @@ fn next_row(t: Tally) -> Counted
     let row = t.rows;
     let line = t.lines;
     let n = row.0;
-    if n < 1024 {
+    if n < ROWS {
         let tally = Tally {
             rows: Row(n + 1),
             lines: line,
@@ -46,7 +48,7 @@ fn next_line(t: Tally) -> Counted
     let row = t.rows;
     let line = t.lines;
     let n = line.0;
-    if n < 128 {
+    if n < LINES {
         let tally = Tally {
             rows: row,
             lines: Line(n + 1),
@@ -66,7 +68,7 @@ fn next_open(t: Tally) -> Counted
     let row = t.rows;
     let line = t.lines;
     let n = t.open;
-    if n < 32 {
+    if n < STRENGTHENS {
         let tally = Tally {
             rows: row,
             lines: line,

@@ -1,6 +1,5 @@
 -- `files::put_hex` puts two digits for each byte. The invariant: what is put so far is the digits of the bytes passed. Assumes nothing.
 use Prim.Native.Nat.{_≤_, _-_}
-use mathlib.Core.Path.{_≡_}
 use native.Mathlib.Omega.{arith}
 use lib.ListN.{length, take}
 use Rattle.files.specs.Text.{Put, hexOf}

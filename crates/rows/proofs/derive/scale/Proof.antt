@@ -1,7 +1,6 @@
 -- `rows::derive::scale` meets its contract. Assumes nothing.
 use borrow.Author.Needs.{needs}
 use native.Mathlib.Omega.{arith}
-use mathlib.Core.Path.{sym, _∙_}
 use mir.ValLaws.{toZ-ofZ}
 use Rattle.rows.proofs.Testing.{below, past, zero-abs, some-abs, scale-none, scale-zero, scale-made}
 use Rattle.rows.proofs.derive.scale.Statement.{statement}

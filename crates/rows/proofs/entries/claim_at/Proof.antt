@@ -3,8 +3,6 @@ use borrow.Author.Tests.{eq-eqb, ne-eqb}
 use borrow.Author.Needs.{needs}
 use Rattle.rows.proofs.entries.claim_at.Statement.{statement}
 use Rattle.rows.proofs.entries.claim_at.Tie as tie
-use Rattle.rows.proofs.entries.claim_at.Reads as reads
-use Rattle.rows.proofs.entries.claim_at.Lts as lts
 
 add-if2 : tie.Need-add-if2
 add-if2 c = search needs

@@ -3,15 +3,6 @@ use Rattle.rows.proofs.Reading.{combine-in, reduce-in, scale-in, streng
 use borrow.Author.Needs.{needs}
 use Rattle.rows.proofs.entries.entry_at.Statement.{statement}
 use Rattle.rows.proofs.entries.entry_at.Tie as tie
-use Rattle.rows.proofs.entries.entry_at.Reads as reads
-use Rattle.rows.proofs.entries.entry_at.Lts as lts
-use Rattle.rows.proofs.entries.claim_at.Reads as claim-at-reads
-use Rattle.rows.proofs.entries.combine_at.Reads as combine-at-reads
-use Rattle.rows.proofs.entries.number_at.Reads as number-at-reads
-use Rattle.rows.proofs.entries.reduce_at.Reads as reduce-at-reads
-use Rattle.rows.proofs.entries.scale_at.Reads as scale-at-reads
-use Rattle.rows.proofs.entries.strengthen_at.Reads as strengthen-at-reads
-use Rattle.rows.proofs.entries.stride_at.Reads as stride-at-reads
 
 combine-at-requires : tie.Need-combine-at-requires
 combine-at-requires c κs = search needs

@@ -6,9 +6,6 @@ use native.Mathlib.Omega.{arith}
 use borrow.Author.Needs.{needs}
 use Rattle.rows.proofs.entries.multiplier_at.Statement.{statement}
 use Rattle.rows.proofs.entries.multiplier_at.Tie as tie
-use Rattle.rows.proofs.entries.multiplier_at.Reads as reads
-use Rattle.rows.proofs.entries.multiplier_at.Lts as lts
-use Rattle.fields.proofs.numbers.unsigned_at.Reads as unsigned-at-reads
 
 unsigned-at-requires : tie.Need-unsigned-at-requires
 unsigned-at-requires c κs = search needs

@@ -5,9 +5,6 @@ use Rattle.proof.specs.Entries.{sizeOf}
 use borrow.Author.Needs.{needs}
 use Rattle.rows.proofs.entries.number_at.Statement.{statement}
 use Rattle.rows.proofs.entries.number_at.Tie as tie
-use Rattle.rows.proofs.entries.number_at.Reads as reads
-use Rattle.rows.proofs.entries.number_at.Lts as lts
-use Rattle.rows.proofs.entries.line_at.Reads as line-at-reads
 
 line-at-requires : tie.Need-line-at-requires
 line-at-requires c κs = search needs

@@ -8,10 +8,6 @@ use mathlib.Core.Logic.{inl}
 use borrow.Author.Needs.{needs}
 use Rattle.rows.proofs.entries.reduce_at.Statement.{statement}
 use Rattle.rows.proofs.entries.reduce_at.Tie as tie
-use Rattle.rows.proofs.entries.reduce_at.Reads as reads
-use Rattle.rows.proofs.entries.reduce_at.Lts as lts
-use Rattle.rows.proofs.entries.line_at.Reads as line-at-reads
-use Rattle.fields.proofs.numbers.signed_at.Reads as signed-at-reads
 
 line-at-requires : tie.Need-line-at-requires
 line-at-requires c κs = search needs

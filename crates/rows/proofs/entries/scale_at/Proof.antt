@@ -7,10 +7,6 @@ use Rattle.proof.specs.Entries.{sizeOf}
 use borrow.Author.Needs.{needs}
 use Rattle.rows.proofs.entries.scale_at.Statement.{statement}
 use Rattle.rows.proofs.entries.scale_at.Tie as tie
-use Rattle.rows.proofs.entries.scale_at.Reads as reads
-use Rattle.rows.proofs.entries.scale_at.Lts as lts
-use Rattle.rows.proofs.entries.line_at.Reads as line-at-reads
-use Rattle.rows.proofs.entries.multiplier_at.Reads as multiplier-at-reads
 
 line-at-requires : tie.Need-line-at-requires
 line-at-requires c κs = search needs

@@ -1,6 +1,5 @@
 -- `rows::steps::reduce_row` meets its contract. Assumes nothing.
 use borrow.Author.Needs.{needs}
-use native.Mathlib.Omega.{arith}
 use mir.ValLaws.{toZ-ofZ}
 use Rattle.rows.proofs.Stepping.{counted-row, full-row, row-full, row-derived}
 use Rattle.rows.proofs.steps.reduce_row.Statement.{statement}

@@ -1,6 +1,5 @@
 -- `rows::steps::stepped_of` meets its contract. Assumes nothing.
 use borrow.Author.Needs.{needs}
-use native.Mathlib.Omega.{arith}
 use Rattle.rows.proofs.steps.stepped_of.Statement.{statement}
 use Rattle.rows.proofs.steps.stepped_of.Tie as tie
 

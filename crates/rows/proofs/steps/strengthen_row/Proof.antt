@@ -1,7 +1,5 @@
 -- `rows::steps::strengthen_row` meets its contract. Assumes nothing.
 use borrow.Author.Needs.{needs}
-use native.Mathlib.Omega.{arith}
-use mir.ValLaws.{toZ-ofZ}
 use Rattle.rows.proofs.Stepping.{counted-row, full-row, counts-full, counts-strengthen}
 use Rattle.rows.proofs.steps.strengthen_row.Statement.{statement}
 use Rattle.rows.proofs.steps.strengthen_row.Tie as tie

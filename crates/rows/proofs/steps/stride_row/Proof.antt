@@ -1,6 +1,5 @@
 -- `rows::steps::stride_row` meets its contract. Assumes nothing.
 use borrow.Author.Needs.{needs}
-use native.Mathlib.Omega.{arith}
 use mir.ValLaws.{toZ-ofZ}
 use Rattle.rows.proofs.Stepping.{counted-row, full-row, counts-full, counts-stride}
 use Rattle.rows.proofs.steps.stride_row.Statement.{statement}

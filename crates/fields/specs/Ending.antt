@@ -1,12 +1,12 @@
--- What may stand after the root is closed, by the code's answer. Document 01, "Check". Assumes nothing.
+-- What may stand after the root is closed, or the formula is whole, by the code's answer. Document 01, "What each operation refuses". Assumes nothing.
 use mathlib.Core.Path.{_≡_}
 use mathlib.Core.List.{List}
 use Prim.Native.Nat.{ℕ}
 use Rattle.fields.specs.declared.FileKind.{FileKind}
 use Rattle.fields.specs.Answers.{answer, Result, refused, accepted}
 use Rattle.fields.specs.Header.{finished}
 use Rattle.fields.specs.Places.{fieldsAt}
-use Rattle.checking.specs.declared.ending.Ending.{Ending}
+use Rattle.fields.specs.declared.ending.Ending.{Ending}
 
 -- `file` is the number that an answer names the file by.
 abbrev pub endingOf : (file : ℕ) → Ending → Result (Unit {0})

@@ -1,10 +1,10 @@
--- `checking::ending::ending_at` meets its contract: each answer cites the law for its way. Assumes nothing.
+-- `fields::ending::ending_at` meets its contract: each answer cites the law for its way. Assumes nothing.
 use mathlib.Core.Path.{sym, _∙_}
 use Rattle.fields.proofs.Places.{starts}
-use Rattle.checking.proofs.Endings.{ending-none, ending-cut, ending-known, ending-unknown}
+use Rattle.fields.proofs.Endings.{ending-none, ending-cut, ending-known, ending-unknown}
 use borrow.Author.Needs.{needs}
-use Rattle.checking.proofs.ending.ending_at.Statement.{statement}
-use Rattle.checking.proofs.ending.ending_at.Tie as tie
+use Rattle.fields.proofs.ending.ending_at.Statement.{statement}
+use Rattle.fields.proofs.ending.ending_at.Tie as tie
 
 next-field-requires : tie.Need-next-field-requires
 next-field-requires c κs = search needs

@@ -1,9 +1,9 @@
-// What stands after the formula.
-use fields::FileKind;
-use fields::Next;
-use fields::header::known;
-use fields::next_field;
-ghost use Rattle.formula.specs.Outcomes.{IsEnding};
+// What may stand after all is read.
+use super::FileKind;
+use super::Next;
+use super::header::known;
+use super::next_field;
+ghost use Rattle.fields.specs.Ending.{IsEnding};
 
 pub enum Ending {
     // Nothing but notes.
@@ -12,15 +12,10 @@ pub enum Ending {
 }
 
 // 2, 3, 19.
-pub fn ending_at(s: &[u8], at: usize) -> Ending
-    ensures { λ r. ⌜ IsEnding (now (s .entry)) at r ⌝ }
+pub fn ending_at(s: &[u8], at: usize, kind: FileKind) -> Ending
+    ensures { λ r. ⌜ IsEnding kind (now (s .entry)) at r ⌝ }
 {
     match next_field(s, at) {
-        Next::Ends { at: _ } => Ending::Ended,
-        Next::Cut { at: place } => Ending::Fault {
-            number: 2,
-            at: place,
-        },
         Next::Field {
             at: place,
             tag,
@@ -28,7 +23,7 @@ pub fn ending_at(s: &[u8], at: usize) -> Ending
             len: _,
             next: _,
         } => {
-            if known(FileKind::Formula, tag) {
+            if known(kind, tag) {
                 return Ending::Fault {
                     number: 19,
                     at: place,
@@ -39,5 +34,10 @@ pub fn ending_at(s: &[u8], at: usize) -> Ending
                 at: place,
             }
         }
+        Next::Cut { at: place } => Ending::Fault {
+            number: 2,
+            at: place,
+        },
+        Next::Ends { at: _ } => Ending::Ended,
     }
 }
