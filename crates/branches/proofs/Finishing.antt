@@ -17,7 +17,7 @@ use Rattle.fields.specs.Fields.{Fields, fieldBytes}
 use Rattle.fields.specs.Places.{fieldsAt}
 use Rattle.fields.proofs.Stores.{sets-append}
 use Rattle.formula.specs.Formula.{encode}
-use Rattle.bundle.proofs.Putting.{field-size}
+use Rattle.fields.proofs.Framing.{length-fieldBytes as field-size}
 use Rattle.lines.specs.Buffer.{lineIn, linesIn, LineCopy, copiedLine, strengthenedT}
 use Rattle.lines.specs.Lines.{line-same, lines-same}
 use Rattle.lines.specs.Occurrence.{told}
