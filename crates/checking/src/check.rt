@@ -2,6 +2,7 @@
 use crate::load::load;
 use branches::branch::Branched;
 use branches::branch::check_branch;
+use bundle::Line;
 use bundle::scan;
 use fields::Answer;
 use fields::FileKind;
@@ -10,7 +11,6 @@ use fields::ending::ending_at;
 use fields::header::Headed;
 use fields::header::put_header;
 use fields::header::read_header;
-use rows::tally::Line;
 use rows::tally::Row;
 use rows::tally::Tally;
 ghost use mathlib.Core.Path.{_≡_};
@@ -26,6 +26,7 @@ ghost use Rattle.branches.specs.Branching.{Started};
 ghost use Rattle.checking.specs.Whole.{Short, Both, Buffers, Prepared, Begun, Ended, Delivers, Finishes, Roots, Fits, Checks, writtenOf};
 
 // What checking answers: the bytes written, 0 where it is refused.
+#[repr(C)]
 pub struct Checked {
     pub answer: Answer,
     pub count: usize,

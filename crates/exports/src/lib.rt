@@ -13,9 +13,13 @@ ghost use Rattle.bundle.specs.Write.{writeBundle};
 ghost use Rattle.bundle.specs.Show.{showAnswer, showPart};
 ghost use Rattle.formula.specs.Test.{testFormula};
 ghost use Rattle.formula.specs.Outcomes.{asTested};
+ghost use Rattle.proof.specs.Check.{check as Check·check};
+ghost use Rattle.checking.specs.Whole.{writtenOf as Whole·writtenOf};
 use bundle::Line;
 use bundle::ReadResult;
 use bundle::WriteResult;
+use checking::check::Checked;
+use checking::check::check;
 use fields::Answer;
 use formula::Tested;
 
@@ -55,6 +59,14 @@ fn copy(from: &[u8], to: &mut [u8])
         to[i] = from[i];
         i += 1;
     }
+}
+
+// The check of a proof; the formula's file goes into `out`.
+#[no_mangle]
+pub extern "C" fn dulgaverk_check(a: &[u8], b: &[u8], proof: &[u8], out: &mut [u8]) -> Checked
+    ensures { λ r. ⌜ Whole·writtenOf r (now (out .exit)) ≡ Check·check (now (a .entry)) (now (b .entry)) (now (proof .entry)) (now (out .entry)) ⌝ }
+{
+    check(a, b, proof, out)
 }
 
 // The constraint's field, copied into `out`, and its length. (An exported function cannot return a reference.) Where it does not fit, nothing is copied.
