@@ -1,6 +1,6 @@
 //! The verified operations beside the independent checker: the same answers, and the same contents of every lent buffer.
 
-use dulgaverk::{read_bundle, show, test_formula, write_bundle, Counts, Refusal};
+use dulgaverk::{read_bundle_into, show, test_formula, write_bundle_into, Counts, Refusal};
 use reference::Answer;
 use stages::table::Size;
 use stages::{stream, Case, Class, Operation, CLASSES};
@@ -34,7 +34,7 @@ fn agree(case: &Case) {
         } => {
             let mut lent = (vec![0xAA; *kinds], vec![0x55; *numbers]);
             let mut other = lent.clone();
-            let verified = read_bundle(file, &mut lent.0, &mut lent.1);
+            let verified = read_bundle_into(file, &mut lent.0, &mut lent.1);
             let r = reference::read_bundle(file, &mut other.0, &mut other.1);
             let counts = Counts {
                 constraints: r.count,
@@ -51,7 +51,7 @@ fn agree(case: &Case) {
         } => {
             let mut lent = vec![0xAA; *out];
             let mut other = lent.clone();
-            let verified = write_bundle(*k, kinds, numbers, &mut lent);
+            let verified = write_bundle_into(*k, kinds, numbers, &mut lent);
             let r = reference::write_bundle(*k, kinds, numbers, &mut other);
             assert_eq!(verified, outcome(r.answer, r.written), "{case:?}");
             assert_eq!(lent, other, "{case:?}");
