@@ -182,9 +182,7 @@ pub fn show(a: &[u8], b: &[u8], line: u16) -> Result<Vec<u8>, Refusal> {
 /// assert_eq!((refusal.number, refusal.file, refusal.place), (21, 4, 7));
 /// ```
 pub fn show_into(a: &[u8], b: &[u8], line: u16, out: &mut [u8]) -> Result<usize, Refusal> {
-    let answer =
-        unsafe { boundary::dulgaverk_show_answer(a.as_ptr(), a.len(), b.as_ptr(), b.len(), line) };
-    accepted(answer, ())?;
+    show_answer(a, b, line)?;
     let size = unsafe {
         boundary::dulgaverk_show(
             a.as_ptr(),
@@ -204,6 +202,19 @@ pub fn show_into(a: &[u8], b: &[u8], line: u16, out: &mut [u8]) -> Result<usize,
         });
     }
     Ok(size)
+}
+
+/// Whether A and B have a constraint for a line number, without its bytes.
+///
+/// ```
+/// let a = b"\x01\0\x01\x01\x02\0\x01\x01\x04\0\x04\0\x03\xFF\xFF";
+/// assert_eq!(dulgaverk::show_answer(a, a, 1), Ok(()));
+/// assert_eq!(dulgaverk::show_answer(a, a, 2).unwrap_err().number, 10);
+/// ```
+pub fn show_answer(a: &[u8], b: &[u8], line: u16) -> Result<(), Refusal> {
+    let answer =
+        unsafe { boundary::dulgaverk_show_answer(a.as_ptr(), a.len(), b.as_ptr(), b.len(), line) };
+    accepted(answer, ())
 }
 
 /// Whether the formula holds at these register values, one for each constant.

@@ -1,0 +1,53 @@
+//! The table, on a line each and as a page.
+
+use crate::measure::Time;
+use crate::work::Work;
+use std::fmt::Write;
+
+/// Nanoseconds in a unit that reads well.
+pub fn duration(nanoseconds: f64) -> String {
+    if nanoseconds < 1_000.0 {
+        format!("{nanoseconds:.0} ns")
+    } else {
+        format!("{:.1} µs", nanoseconds / 1_000.0)
+    }
+}
+
+pub fn line(work: &Work, time: &Time) -> String {
+    format!(
+        "{:<66} {:>10} {:>10} {:>6.2}",
+        work.name,
+        duration(time.rattle),
+        duration(time.rust),
+        time.ratio()
+    )
+}
+
+pub fn page(timed: &[(Work, Time)], rounds: usize, machine: &str) -> String {
+    let mut text = String::from("# Speed\n\n");
+    let most = timed
+        .iter()
+        .map(|(_, time)| time.ratio())
+        .fold(0.0, f64::max);
+    let _ = write!(
+        text,
+        "Written by `./bench`: the verified operations, called through the static library, beside the independent Rust \
+         checker, called through functions that are not inlined. Both are optimised builds for plain x86-64; Rust's has \
+         link-time optimisation. Medians of {rounds} rounds, the two sides in turn; a ratio above 1 says that Rattle \
+         is slower. Largest ratio: {most:.2}. Measured on {machine}.\n\n\
+         | Call | Rattle | Rust | Ratio | Middle half of the rounds |\n|---|---|---|---|---|\n"
+    );
+    for (work, time) in timed {
+        let (low, high) = time.quartiles;
+        let _ = writeln!(
+            text,
+            "| {} | {} | {} | {:.2} | {low:.2} to {high:.2} |",
+            work.name,
+            duration(time.rattle),
+            duration(time.rust),
+            time.ratio()
+        );
+    }
+    text.push_str("\n![Ratios, and cost against size](bench.svg)\n");
+    text
+}
