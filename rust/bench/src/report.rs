@@ -23,6 +23,23 @@ pub fn line(work: &Work, time: &Time) -> String {
     )
 }
 
+/// What was found where Rattle is slower. (Not measured: change it with the code.)
+const REASONS: &str = "
+## Where Rattle is slower
+
+- Reading a large bundle. A number of two bytes is built as 256 times the first plus the second. Rust's compiler makes \
+one load and a byte swap of `from_be_bytes`, eight numbers at once (two shifts and an or); Rattle's loop is compiled to \
+a load for each byte. Other forms of the loop were tried in C with the same compiler: from the last number on (a tenth \
+faster), with a second way out (no difference), two and four numbers at once, and by way of a local array (all \
+slower). A bundle is also gone over twice, first to test it and then to store it, so that a refusal leaves the outputs \
+alone.
+- Writing a large bundle. The two bytes of eight numbers are woven together by six instructions where Rust's compiler \
+has three.
+- Testing a formula took 1.6 times as long as Rust while each number was read where it was used; now a form's numbers \
+are read first and summed afterwards. About a tenth of the time goes into entering and leaving the function that reads \
+a part, where the Rust checker keeps a stack of its own.
+";
+
 pub fn page(timed: &[(Work, Time)], rounds: usize, machine: &str) -> String {
     let mut text = String::from("# Speed\n\n");
     let most = timed
@@ -48,6 +65,7 @@ pub fn page(timed: &[(Work, Time)], rounds: usize, machine: &str) -> String {
             time.ratio()
         );
     }
+    text.push_str(REASONS);
     text.push_str("\n![Ratios, and cost against size](bench.svg)\n");
     text
 }

@@ -146,7 +146,7 @@ fn formula(k: u8, parts: usize) -> Vec<u8> {
     while let Some(level) = levels.pop() {
         if left > 0 && level < 60 {
             left -= 1;
-            file.extend(if left % 2 == 0 {
+            file.extend(if left.is_multiple_of(2) {
                 build::or()
             } else {
                 build::and()
