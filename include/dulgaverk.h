@@ -77,7 +77,7 @@ typedef struct dulgaverk_read_result {
     uint8_t k;    /* constants */
 } dulgaverk_read_result;
 
-/* What writing gives. A refusal has count 0. */
+/* What writing and checking give. A refusal has count 0. */
 typedef struct dulgaverk_write_result {
     dulgaverk_answer answer;
     size_t count; /* bytes written */
@@ -120,6 +120,17 @@ dulgaverk_answer dulgaverk_show_answer(const uint8_t *a, size_t a_length, const 
  */
 size_t dulgaverk_show(const uint8_t *a, size_t a_length, const uint8_t *b, size_t b_length, uint16_t line,
                       uint8_t *out, size_t out_length);
+
+/* Checks a proof of at most 65,536 bytes that A and B contradict each other.
+ *
+ * Accepted: `count` bytes of `out` are the file of the interpolant, a formula that holds wherever A is met, fails wherever
+ * B is met, and names only constants that both use. 65,536 bytes are always enough.
+ * Refused: 1 for A, B and the proof (files 1, 2, 3, place 0); then what reading refuses of A and of B, for B also 9; then
+ * 2 to 7 and 9 to 20 with file 3; 21 with file 4, and as place the bytes needed, where `out` is too short. 22 is proved
+ * never to come.
+ */
+dulgaverk_write_result dulgaverk_check(const uint8_t *a, size_t a_length, const uint8_t *b, size_t b_length,
+                                       const uint8_t *proof, size_t proof_length, uint8_t *out, size_t out_length);
 
 /* Tests a formula of at most 65,536 bytes at register values, one for each constant, each within +-1,000,000.
  *

@@ -25,12 +25,18 @@ pub struct Work {
 /// Everything that is timed, in the order of the table.
 pub fn all() -> Vec<Work> {
     let mut list = Vec::new();
+    checks(&mut list);
     bundles(&mut list);
     formulas(&mut list);
     list
 }
 
 // The Rust checker through plain functions of its own, as the verified operations are called through the library.
+
+#[inline(never)]
+fn rust_check(a: &[u8], b: &[u8], proof: &[u8], out: &mut [u8]) -> usize {
+    reference::check(a, b, proof, out).written
+}
 
 #[inline(never)]
 fn rust_read(file: &[u8], kinds: &mut [u8], numbers: &mut [i16]) -> usize {
@@ -50,6 +56,127 @@ fn rust_show(a: &[u8], b: &[u8], line: usize) -> usize {
 #[inline(never)]
 fn rust_test(formula: &[u8], values: &[i32]) -> usize {
     usize::from(reference::test_formula(formula, values).holds)
+}
+
+/// Three files: A, B and a proof.
+type Stage = [Vec<u8>; 3];
+
+/// Stage 1 of the paper: a reduce and a close by stride.
+fn stage_1() -> Stage {
+    [
+        build::file(3, &[build::constraint(true, &[-2, 1, 0, 0])]),
+        build::file(3, &[build::constraint(true, &[0, -1, 2, 1])]),
+        build::file(3, &[build::reduce(1, 0, 1), build::stride(2, 2)]),
+    ]
+}
+
+/// A table of so many rows over 16 constants: f ≤ 0 in A, -f + 1 ≤ 0 in B, strengthens up to 30 deep, and each branch
+/// closed by combining the two. With claims, each combine is followed by one.
+fn nested(rows: usize, claims: bool) -> Stage {
+    let f: Vec<i16> = (0..17).map(|i| i * 37 - 300).collect();
+    let mut minus: Vec<i16> = f.iter().map(|n| -n).collect();
+    minus[16] += 1;
+    let strengthens = (rows - 2) / 5;
+    let extra = rows - (5 * strengthens + 2);
+    let mut proof = build::header(16);
+    for _ in 0..extra {
+        proof.extend(build::scale(0, 3));
+    }
+    let mut t = [0; 17];
+    t[16] = 1;
+    let partial: Vec<i32> = f.iter().map(|&n| i32::from(n)).collect();
+    let claim = build::claim(&t, &partial);
+    let mut left = strengthens;
+    let mut branches = vec![0];
+    while let Some(depth) = branches.pop() {
+        if left > 0 && depth < 30 {
+            left -= 1;
+            proof.extend(build::strengthen(0));
+            branches.extend([depth + 1; 3]);
+        } else {
+            proof.extend(build::combine(0, 1, 1, 1));
+            if claims {
+                proof.extend_from_slice(&claim);
+            }
+            proof.extend(build::close((2 + extra + depth) as u8));
+        }
+    }
+    [
+        build::file(16, &[build::constraint(false, &f)]),
+        build::file(16, &[build::constraint(false, &minus)]),
+        proof,
+    ]
+}
+
+/// 341 strengthens and 683 closes by stride over 16 constants: the longest formula that there is.
+fn longest() -> Stage {
+    let mut one = vec![0; 17];
+    one[16] = 1;
+    let rows: Vec<Vec<u8>> = stages::directed::bushy(341, 1)
+        .into_iter()
+        .map(|row| {
+            if row[0] == 0x14 {
+                build::stride(1, 7)
+            } else {
+                row
+            }
+        })
+        .collect();
+    let bundle = [
+        build::constraint(false, &one),
+        build::constraint(true, &one),
+    ];
+    [
+        build::file(16, &bundle),
+        build::file(16, &[]),
+        build::file(16, &rows),
+    ]
+}
+
+fn checks(list: &mut Vec<Work>) {
+    list.push(check("stage 1, 2 rows".to_string(), stage_1(), None));
+    for rows in [8, 32, 128, 256, 512, 1_024] {
+        let point = Point {
+            curve: "check a proof",
+            unit: "rows",
+            size: rows,
+        };
+        let name = format!("{rows} rows, 16 constants, nested strengthens");
+        list.push(check(name, nested(rows, false), Some(point)));
+    }
+    for rows in [128, 1_024] {
+        let name = format!("the same with {rows} rows and claims");
+        list.push(check(name, nested(rows, true), None));
+    }
+    let name = "1,024 rows, the longest formula".to_string();
+    list.push(check(name, longest(), None));
+}
+
+fn check(name: String, stage: Stage, point: Option<Point>) -> Work {
+    let name = format!("check: {name}");
+    let [a, b, proof] = stage;
+    assert!(dulgaverk::check(&a, &b, &proof).is_ok(), "{name}");
+    let other = [a.clone(), b.clone(), proof.clone()];
+    Work {
+        name,
+        rattle: Box::new(move |times| {
+            let mut out = vec![0; 65_536];
+            (0..times)
+                .map(|_| {
+                    let proof = black_box(proof.as_slice());
+                    dulgaverk::check_into(&a, &b, proof, &mut out).unwrap_or(0)
+                })
+                .sum()
+        }),
+        rust: Box::new(move |times| {
+            let mut out = vec![0; 65_536];
+            let [a, b, proof] = &other;
+            (0..times)
+                .map(|_| rust_check(a, b, black_box(proof.as_slice()), &mut out))
+                .sum()
+        }),
+        point,
+    }
 }
 
 /// K, kinds and numbers of a bundle.

@@ -16,7 +16,8 @@ use stages::rng::Rng;
 use stages::{Case, Operation};
 
 /// The operations that are compared.
-pub const COMPARED: [Operation; 4] = [
+pub const COMPARED: [Operation; 5] = [
+    Operation::Check,
     Operation::Read,
     Operation::Write,
     Operation::Show,
@@ -84,9 +85,20 @@ pub fn compare(case: &Case, rng: &mut Rng, tally: &mut Tally) {
                 call(&next, rng, tally);
             }
         }
+        Case::Check { a, b, proof, out } => {
+            let needed = reference::check(a, b, proof, &mut vec![0; *out]).written;
+            for out in [needed, needed - 1] {
+                let next = Case::Check {
+                    a: a.clone(),
+                    b: b.clone(),
+                    proof: proof.clone(),
+                    out,
+                };
+                call(&next, rng, tally);
+            }
+        }
         // The outputs of show are tried in the call itself; a test has none.
         Case::Show { .. } | Case::Test { .. } => {}
-        Case::Check { .. } => {}
     }
 }
 
@@ -166,7 +178,18 @@ fn call(case: &Case, rng: &mut Rng, tally: &mut Tally) -> u8 {
                 dulgaverk::test_formula(formula, values) == expected,
             )
         }
-        Case::Check { .. } => return 0,
+        Case::Check { a, b, proof, out } => {
+            let before = bytes(rng, *out);
+            let (mut lent, mut other) = (before.clone(), before.clone());
+            let verified = dulgaverk::check_into(a, b, proof, &mut lent);
+            let r = reference::check(a, b, proof, &mut other);
+            let expected = outcome(r.answer, r.written);
+            let kept = expected.is_ok() || lent == before;
+            (
+                number(&expected),
+                verified == expected && lent == other && kept,
+            )
+        }
     };
     tally.count(case, number, same);
     number

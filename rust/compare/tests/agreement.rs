@@ -34,6 +34,19 @@ fn agree(operation: Operation, seed: u64, cases: usize, numbers: &[u8]) {
     }
 }
 
+/// 20,000 random closed tables of each size, as many damaged ones, and the rest.
+#[test]
+fn checking_proofs() {
+    agree(
+        Operation::Check,
+        2,
+        20_000,
+        &[
+            0, 1, 2, 3, 4, 5, 6, 7, 8, 9, 10, 11, 12, 13, 14, 15, 16, 17, 18, 19, 20, 21,
+        ],
+    );
+}
+
 #[test]
 fn reading_bundles() {
     agree(

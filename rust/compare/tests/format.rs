@@ -56,10 +56,7 @@ fn the_worked_stage_is_right() {
         [a.len(), b.len(), proof.len(), formula.len()],
         [15, 15, 78, 51]
     );
-    let mut out = vec![0x77; 60];
-    let result = reference::check(a, b, proof, &mut out);
-    assert_eq!((result.answer.number, result.written), (0, 51));
-    assert_eq!(out[..51], formula[..]);
+    assert_eq!(dulgaverk::check(a, b, proof).as_ref(), Ok(formula));
 
     let read = dulgaverk::read_bundle(a).expect("A is read");
     assert_eq!((read.kinds, read.numbers), (vec![0], vec![2, -1]));
@@ -70,7 +67,6 @@ fn the_worked_stage_is_right() {
 
     let mut other = proof.clone();
     other[77] = 2;
-    let result = reference::check(a, b, &other, &mut out);
-    let answer = result.answer;
-    assert_eq!((answer.number, answer.file, answer.place), (15, 3, 74));
+    let refusal = dulgaverk::check(a, b, &other).expect_err("line 2 closes nothing");
+    assert_eq!((refusal.number, refusal.file, refusal.place), (15, 3, 74));
 }

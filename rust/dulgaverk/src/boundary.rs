@@ -60,6 +60,16 @@ extern "C" {
         out: *mut u8,
         out_len: usize,
     ) -> usize;
+    pub fn dulgaverk_check(
+        a: *const u8,
+        a_len: usize,
+        b: *const u8,
+        b_len: usize,
+        proof: *const u8,
+        proof_len: usize,
+        out: *mut u8,
+        out_len: usize,
+    ) -> WriteResult;
     pub fn dulgaverk_test(
         formula: *const u8,
         formula_len: usize,

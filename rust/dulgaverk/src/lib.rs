@@ -217,6 +217,58 @@ pub fn show_answer(a: &[u8], b: &[u8], line: u16) -> Result<(), Refusal> {
     accepted(answer, ())
 }
 
+/// Checks a proof that A and B contradict each other, and gives the file of the interpolant: a formula that holds where
+/// A is met, fails where B is met, and names only constants that both use.
+///
+/// ```
+/// // Stage 3: x ≤ 0 in A, -x + 1 ≤ 0 in B; combine lines 0 and 1, close line 2 by number.
+/// let a = b"\x01\0\x01\x01\x02\0\x01\x01\x03\0\x04\0\x01\0\0";
+/// let b = b"\x01\0\x01\x01\x02\0\x01\x01\x03\0\x04\xFF\xFF\0\x01";
+/// let proof = b"\x01\0\x01\x01\x02\0\x01\x01\x10\0\x06\0\x01\0\x01\0\x01\x14\0\x01\x02";
+/// let formula = dulgaverk::check(a, b, proof)?;
+/// assert_eq!(formula, b"\x01\0\x01\x01\x02\0\x01\x01\x33\0\x08\0\0\0\x01\0\0\0\0"); // x ≤ 0
+/// assert!(dulgaverk::test_formula(&formula, &[-5])?);
+/// assert!(!dulgaverk::test_formula(&formula, &[1])?);
+///
+/// let refusal = dulgaverk::check(a, a, proof).unwrap_err();
+/// assert_eq!((refusal.number, refusal.file, refusal.place), (15, 3, 17));
+/// # Ok::<(), dulgaverk::Refusal>(())
+/// ```
+pub fn check(a: &[u8], b: &[u8], proof: &[u8]) -> Result<Vec<u8>, Refusal> {
+    let mut out = vec![0; FORMULA];
+    let written = check_into(a, b, proof, &mut out)?;
+    out.truncate(written);
+    Ok(out)
+}
+
+/// Checks a proof and writes the interpolant's file into an output; gives the number of bytes written.
+///
+/// ```
+/// // Stage 6: 1 ≤ 0 in A, nothing in B; close line 0 by number.
+/// let a = b"\x01\0\x01\x01\x02\0\x01\x01\x03\0\x04\0\0\0\x01";
+/// let proof = b"\x01\0\x01\x01\x02\0\x01\x01\x14\0\x01\0";
+/// let mut out = [7; 20];
+/// assert_eq!(dulgaverk::check_into(a, &a[..8], proof, &mut out), Ok(19));
+/// assert_eq!(out, *b"\x01\0\x01\x01\x02\0\x01\x01\x33\0\x08\0\0\0\0\0\0\0\x01\x07");
+/// let refusal = dulgaverk::check_into(a, &a[..8], proof, &mut out[..18]).unwrap_err();
+/// assert_eq!((refusal.number, refusal.file, refusal.place), (21, 4, 19));
+/// ```
+pub fn check_into(a: &[u8], b: &[u8], proof: &[u8], out: &mut [u8]) -> Result<usize, Refusal> {
+    let r = unsafe {
+        boundary::dulgaverk_check(
+            a.as_ptr(),
+            a.len(),
+            b.as_ptr(),
+            b.len(),
+            proof.as_ptr(),
+            proof.len(),
+            out.as_mut_ptr(),
+            out.len(),
+        )
+    };
+    accepted(r.answer, r.count)
+}
+
 /// Whether the formula holds at these register values, one for each constant.
 ///
 /// ```

@@ -157,6 +157,50 @@ static void showing(void) {
     EXPECT(memcmp(out, b + 8, 11) == 0 && all(out + 11, 2, 0xA5));
 }
 
+static void checking(void) {
+    static const uint8_t proof[] = {0x01, 0, 1, 1, 0x02, 0, 1, 3, 0x11, 0, 4, 1, 0, 0, 1, 0x15, 0, 3, 2, 0, 2};
+    uint8_t out[sizeof formula + 3], other[sizeof proof];
+    FILL(out);
+    /* Stage 2, the same with stride 3: 15. */
+    memcpy(other, proof, sizeof proof);
+    other[20] = 3;
+    dulgaverk_write_result r =
+        dulgaverk_check(a, sizeof a, b, sizeof b, other, sizeof other, out, sizeof out);
+    EXPECT(is(r.answer, 15, 3, 15) && r.count == 0);
+    /* Stage 7: 20 at place 8. */
+    r = dulgaverk_check(a, 8, b, 8, proof, 8, out, sizeof out);
+    EXPECT(is(r.answer, 20, 3, 8) && r.count == 0);
+    /* Nothing at all, and too much. */
+    r = dulgaverk_check(NULL, 0, NULL, 0, NULL, 0, out, sizeof out);
+    EXPECT(is(r.answer, 2, 1, 0));
+    r = dulgaverk_check(a, sizeof a, NULL, 0, NULL, 0, out, sizeof out);
+    EXPECT(is(r.answer, 2, 2, 0));
+    r = dulgaverk_check(a, sizeof a, b, sizeof b, NULL, 0, out, sizeof out);
+    EXPECT(is(r.answer, 2, 3, 0));
+    static const uint8_t long_file[DULGAVERK_PROOF + 1];
+    r = dulgaverk_check(a, sizeof a, b, sizeof b, long_file, sizeof long_file, out, sizeof out);
+    EXPECT(is(r.answer, 1, 3, 0));
+    r = dulgaverk_check(a, sizeof a, long_file, DULGAVERK_BUNDLE + 1, proof, sizeof proof, out, sizeof out);
+    EXPECT(is(r.answer, 1, 2, 0));
+    /* One byte too short. */
+    r = dulgaverk_check(a, sizeof a, b, sizeof b, proof, sizeof proof, out, sizeof formula - 1);
+    EXPECT(is(r.answer, 21, 4, sizeof formula) && r.count == 0);
+    r = dulgaverk_check(a, sizeof a, b, sizeof b, proof, sizeof proof, NULL, 0);
+    EXPECT(is(r.answer, 21, 4, sizeof formula));
+    UNCHANGED(out);
+    /* Stage 1. */
+    r = dulgaverk_check(a, sizeof a, b, sizeof b, proof, sizeof proof, out, sizeof out);
+    EXPECT(is(r.answer, 0, 0, 0) && r.count == sizeof formula);
+    EXPECT(memcmp(out, formula, sizeof formula) == 0 && all(out + sizeof formula, 3, 0xA5));
+    /* Stage 8: a note after 0x02 changes nothing. */
+    static const uint8_t noted[] = {0x01, 0,    1, 1, 0x02, 0, 1, 3, 0x90, 0, 1, 7,
+                                    0x11, 0,    4, 1, 0,    0, 1, 0x15, 0, 3, 2, 0, 2};
+    FILL(out);
+    r = dulgaverk_check(a, sizeof a, b, sizeof b, noted, sizeof noted, out, sizeof formula);
+    EXPECT(is(r.answer, 0, 0, 0) && r.count == sizeof formula);
+    EXPECT(memcmp(out, formula, sizeof formula) == 0 && all(out + sizeof formula, 3, 0xA5));
+}
+
 static void testing(void) {
     static const int32_t even[] = {1, 4, -7}, odd[] = {1, -3, 0}, outside[] = {1, 4, -1000001};
     dulgaverk_tested t = dulgaverk_test(formula, sizeof formula, even, 3);
@@ -183,6 +227,7 @@ int main(void) {
     writing();
     largest();
     showing();
+    checking();
     testing();
     return differences < 100 ? differences : 100;
 }
