@@ -1,92 +1,40 @@
 //! The verified operations, with ordinary Rust types.
 //!
-//! A refusal says by which number, in which file (1 A or a bundle, 2 B, 3 proof or formula, 4 a lent output) and at
-//! which place; it leaves every lent buffer as it was. Nothing has to be tested before a call.
+//! Each comes in two shapes: one that gives what it makes, and one, ending in `_into`, that is lent the outputs.
+//! A refusal says by which number, in which file and at which place ([`Refusal`]); it leaves every lent output as it
+//! was. Accepted, what lies behind the bytes or numbers used stays. Nothing has to be tested before a call.
 
-/// Why a call was refused.
-#[derive(Clone, Copy, PartialEq, Eq, Debug)]
-pub struct Refusal {
-    pub number: u8,
-    pub file: u8,
-    pub place: usize,
-}
+mod boundary;
+mod refusal;
 
-/// What a bundle holds.
+pub use refusal::{Refusal, MEANINGS};
+
+/// Most constants of a file.
+pub const CONSTANTS: usize = 16;
+/// Most constraints of a bundle.
+pub const CONSTRAINTS: usize = 32;
+/// Most numbers of a bundle.
+pub const NUMBERS: usize = CONSTRAINTS * (CONSTANTS + 1);
+/// Most bytes that writing a bundle takes.
+pub const WRITTEN_BUNDLE: usize = 8 + CONSTRAINTS * 3 + NUMBERS * 2;
+/// Most bytes of a constraint's field.
+pub const CONSTRAINT_FIELD: usize = 3 + 2 * (CONSTANTS + 1);
+/// Most bytes of a proof or of a formula.
+pub const FORMULA: usize = 65_536;
+
+/// How much a bundle holds.
 #[derive(Clone, Copy, PartialEq, Eq, Debug)]
 pub struct Counts {
     pub constraints: usize,
     pub constants: usize,
 }
 
-/// The declared boundary: a slice is a pointer and a length, in that order.
-mod boundary {
-    #[repr(C)]
-    pub struct Answer {
-        pub number: u8,
-        pub file: u8,
-        pub place: usize,
-    }
-
-    #[repr(C)]
-    pub struct ReadResult {
-        pub answer: Answer,
-        pub count: usize,
-        pub k: u8,
-    }
-
-    #[repr(C)]
-    pub struct WriteResult {
-        pub answer: Answer,
-        pub count: usize,
-    }
-
-    #[repr(C)]
-    pub struct Tested {
-        pub answer: Answer,
-        pub holds: bool,
-    }
-
-    extern "C" {
-        pub fn dulgaverk_read(
-            file: *const u8,
-            file_len: usize,
-            kinds: *mut u8,
-            kinds_len: usize,
-            numbers: *mut i16,
-            numbers_len: usize,
-        ) -> ReadResult;
-        pub fn dulgaverk_write(
-            k: u8,
-            kinds: *const u8,
-            kinds_len: usize,
-            numbers: *const i16,
-            numbers_len: usize,
-            out: *mut u8,
-            out_len: usize,
-        ) -> WriteResult;
-        pub fn dulgaverk_show_answer(
-            a: *const u8,
-            a_len: usize,
-            b: *const u8,
-            b_len: usize,
-            line: u16,
-        ) -> Answer;
-        pub fn dulgaverk_show(
-            a: *const u8,
-            a_len: usize,
-            b: *const u8,
-            b_len: usize,
-            line: u16,
-            out: *mut u8,
-            out_len: usize,
-        ) -> usize;
-        pub fn dulgaverk_test(
-            formula: *const u8,
-            formula_len: usize,
-            values: *const i32,
-            values_len: usize,
-        ) -> Tested;
-    }
+/// What a bundle holds: for each constraint its kind (0 "t ≤ 0", 1 "t = 0") and K+1 numbers, the coefficients and d.
+#[derive(Clone, PartialEq, Eq, Debug)]
+pub struct Bundle {
+    pub constants: usize,
+    pub kinds: Vec<u8>,
+    pub numbers: Vec<i16>,
 }
 
 fn accepted<T>(answer: boundary::Answer, value: T) -> Result<T, Refusal> {
@@ -103,8 +51,46 @@ fn accepted<T>(answer: boundary::Answer, value: T) -> Result<T, Refusal> {
 // In each call below the pointers and lengths are those of Rust slices, and what is lent as `&mut` overlaps nothing
 // else: that is all that the proved functions count on.
 
-/// Reads a bundle: kinds (0 inequality, 1 equality) and K+1 numbers for each constraint.
-pub fn read_bundle(file: &[u8], kinds: &mut [u8], numbers: &mut [i16]) -> Result<Counts, Refusal> {
+/// Reads a bundle.
+///
+/// ```
+/// // x - 2 ≤ 0 and 3x = 0.
+/// let file = b"\x01\0\x01\x01\x02\0\x01\x01\x03\0\x04\0\x01\xFF\xFE\x04\0\x04\0\x03\0\0";
+/// let bundle = dulgaverk::read_bundle(file)?;
+/// assert_eq!(bundle.constants, 1);
+/// assert_eq!(bundle.kinds, [0, 1]);
+/// assert_eq!(bundle.numbers, [1, -2, 3, 0]);
+/// # Ok::<(), dulgaverk::Refusal>(())
+/// ```
+pub fn read_bundle(file: &[u8]) -> Result<Bundle, Refusal> {
+    let (mut kinds, mut numbers) = (vec![0; CONSTRAINTS], vec![0; NUMBERS]);
+    let counts = read_bundle_into(file, &mut kinds, &mut numbers)?;
+    kinds.truncate(counts.constraints);
+    numbers.truncate(counts.constraints * (counts.constants + 1));
+    Ok(Bundle {
+        constants: counts.constants,
+        kinds,
+        numbers,
+    })
+}
+
+/// Reads a bundle into kinds (0 inequality, 1 equality) and K+1 numbers for each constraint.
+///
+/// ```
+/// let file = b"\x01\0\x01\x01\x02\0\x01\x01\x04\0\x04\0\x03\xFF\xFF";
+/// let (mut kinds, mut numbers) = ([9; 4], [9; 4]);
+/// let counts = dulgaverk::read_bundle_into(file, &mut kinds, &mut numbers)?;
+/// assert_eq!((counts.constraints, counts.constants), (1, 1));
+/// assert_eq!((kinds, numbers), ([1, 9, 9, 9], [3, -1, 9, 9]));
+/// let refusal = dulgaverk::read_bundle_into(file, &mut kinds, &mut numbers[..1]).unwrap_err();
+/// assert_eq!((refusal.number, refusal.file, refusal.place), (21, 4, 1));
+/// # Ok::<(), dulgaverk::Refusal>(())
+/// ```
+pub fn read_bundle_into(
+    file: &[u8],
+    kinds: &mut [u8],
+    numbers: &mut [i16],
+) -> Result<Counts, Refusal> {
     let r = unsafe {
         boundary::dulgaverk_read(
             file.as_ptr(),
@@ -122,8 +108,32 @@ pub fn read_bundle(file: &[u8], kinds: &mut [u8], numbers: &mut [i16]) -> Result
     accepted(r.answer, counts)
 }
 
-/// Writes a bundle, and gives the number of bytes written.
-pub fn write_bundle(
+/// Writes a bundle of K constants from kinds and K+1 numbers for each constraint.
+///
+/// ```
+/// let file = dulgaverk::write_bundle(1, &[1], &[3, -1])?;
+/// assert_eq!(file, b"\x01\0\x01\x01\x02\0\x01\x01\x04\0\x04\0\x03\xFF\xFF");
+/// let refusal = dulgaverk::write_bundle(1, &[2], &[3, -1]).unwrap_err();
+/// assert_eq!((refusal.number, refusal.file, refusal.place), (24, 4, 0));
+/// # Ok::<(), dulgaverk::Refusal>(())
+/// ```
+pub fn write_bundle(k: u8, kinds: &[u8], numbers: &[i16]) -> Result<Vec<u8>, Refusal> {
+    let mut out = vec![0; WRITTEN_BUNDLE];
+    let written = write_bundle_into(k, kinds, numbers, &mut out)?;
+    out.truncate(written);
+    Ok(out)
+}
+
+/// Writes a bundle into an output, and gives the number of bytes written.
+///
+/// ```
+/// let mut out = [7; 16];
+/// assert_eq!(dulgaverk::write_bundle_into(1, &[1], &[3, -1], &mut out), Ok(15));
+/// assert_eq!(out, *b"\x01\0\x01\x01\x02\0\x01\x01\x04\0\x04\0\x03\xFF\xFF\x07");
+/// let refusal = dulgaverk::write_bundle_into(1, &[1], &[3, -1], &mut out[..14]).unwrap_err();
+/// assert_eq!((refusal.number, refusal.file, refusal.place), (21, 4, 15));
+/// ```
+pub fn write_bundle_into(
     k: u8,
     kinds: &[u8],
     numbers: &[i16],
@@ -143,12 +153,37 @@ pub fn write_bundle(
     accepted(r.answer, r.count)
 }
 
-/// The field of the constraint that a line number names.
+/// The field of the constraint that a line number names, out of A or B.
+///
+/// ```
+/// let a = b"\x01\0\x01\x01\x02\0\x01\x01\x04\0\x04\0\x03\xFF\xFF";
+/// let b = b"\x01\0\x01\x01\x02\0\x01\x01\x03\0\x04\0\x01\0\0";
+/// assert_eq!(dulgaverk::show(a, b, 0)?, a[8..]);
+/// assert_eq!(dulgaverk::show(a, b, 1)?, b[8..]);
+/// let refusal = dulgaverk::show(a, b, 2).unwrap_err();
+/// assert_eq!((refusal.number, refusal.file, refusal.place), (10, 1, 0));
+/// # Ok::<(), dulgaverk::Refusal>(())
+/// ```
 pub fn show(a: &[u8], b: &[u8], line: u16) -> Result<Vec<u8>, Refusal> {
-    let answer =
-        unsafe { boundary::dulgaverk_show_answer(a.as_ptr(), a.len(), b.as_ptr(), b.len(), line) };
-    accepted(answer, ())?;
-    let call = |out: &mut [u8]| unsafe {
+    let mut out = vec![0; CONSTRAINT_FIELD];
+    let size = show_into(a, b, line, &mut out)?;
+    out.truncate(size);
+    Ok(out)
+}
+
+/// Copies that field into an output, and gives its length. An output that is too short is refused with 21.
+///
+/// ```
+/// let a = b"\x01\0\x01\x01\x02\0\x01\x01\x04\0\x04\0\x03\xFF\xFF";
+/// let mut out = [7; 8];
+/// assert_eq!(dulgaverk::show_into(a, &a[..8], 0, &mut out), Ok(7));
+/// assert_eq!(out, *b"\x04\0\x04\0\x03\xFF\xFF\x07");
+/// let refusal = dulgaverk::show_into(a, &a[..8], 0, &mut out[..6]).unwrap_err();
+/// assert_eq!((refusal.number, refusal.file, refusal.place), (21, 4, 7));
+/// ```
+pub fn show_into(a: &[u8], b: &[u8], line: u16, out: &mut [u8]) -> Result<usize, Refusal> {
+    show_answer(a, b, line)?;
+    let size = unsafe {
         boundary::dulgaverk_show(
             a.as_ptr(),
             a.len(),
@@ -159,12 +194,92 @@ pub fn show(a: &[u8], b: &[u8], line: u16) -> Result<Vec<u8>, Refusal> {
             out.len(),
         )
     };
-    let mut part = vec![0; call(&mut [])];
-    call(&mut part);
-    Ok(part)
+    if size > out.len() {
+        return Err(Refusal {
+            number: 21,
+            file: 4,
+            place: size,
+        });
+    }
+    Ok(size)
 }
 
-/// Whether the formula holds at these register values.
+/// Whether A and B have a constraint for a line number, without its bytes.
+///
+/// ```
+/// let a = b"\x01\0\x01\x01\x02\0\x01\x01\x04\0\x04\0\x03\xFF\xFF";
+/// assert_eq!(dulgaverk::show_answer(a, a, 1), Ok(()));
+/// assert_eq!(dulgaverk::show_answer(a, a, 2).unwrap_err().number, 10);
+/// ```
+pub fn show_answer(a: &[u8], b: &[u8], line: u16) -> Result<(), Refusal> {
+    let answer =
+        unsafe { boundary::dulgaverk_show_answer(a.as_ptr(), a.len(), b.as_ptr(), b.len(), line) };
+    accepted(answer, ())
+}
+
+/// Checks a proof that A and B contradict each other, and gives the file of the interpolant: a formula that holds where
+/// A is met, fails where B is met, and names only constants that both use.
+///
+/// ```
+/// // Stage 3: x ≤ 0 in A, -x + 1 ≤ 0 in B; combine lines 0 and 1, close line 2 by number.
+/// let a = b"\x01\0\x01\x01\x02\0\x01\x01\x03\0\x04\0\x01\0\0";
+/// let b = b"\x01\0\x01\x01\x02\0\x01\x01\x03\0\x04\xFF\xFF\0\x01";
+/// let proof = b"\x01\0\x01\x01\x02\0\x01\x01\x10\0\x06\0\x01\0\x01\0\x01\x14\0\x01\x02";
+/// let formula = dulgaverk::check(a, b, proof)?;
+/// assert_eq!(formula, b"\x01\0\x01\x01\x02\0\x01\x01\x33\0\x08\0\0\0\x01\0\0\0\0"); // x ≤ 0
+/// assert!(dulgaverk::test_formula(&formula, &[-5])?);
+/// assert!(!dulgaverk::test_formula(&formula, &[1])?);
+///
+/// let refusal = dulgaverk::check(a, a, proof).unwrap_err();
+/// assert_eq!((refusal.number, refusal.file, refusal.place), (15, 3, 17));
+/// # Ok::<(), dulgaverk::Refusal>(())
+/// ```
+pub fn check(a: &[u8], b: &[u8], proof: &[u8]) -> Result<Vec<u8>, Refusal> {
+    let mut out = vec![0; FORMULA];
+    let written = check_into(a, b, proof, &mut out)?;
+    out.truncate(written);
+    Ok(out)
+}
+
+/// Checks a proof and writes the interpolant's file into an output; gives the number of bytes written.
+///
+/// ```
+/// // Stage 6: 1 ≤ 0 in A, nothing in B; close line 0 by number.
+/// let a = b"\x01\0\x01\x01\x02\0\x01\x01\x03\0\x04\0\0\0\x01";
+/// let proof = b"\x01\0\x01\x01\x02\0\x01\x01\x14\0\x01\0";
+/// let mut out = [7; 20];
+/// assert_eq!(dulgaverk::check_into(a, &a[..8], proof, &mut out), Ok(19));
+/// assert_eq!(out, *b"\x01\0\x01\x01\x02\0\x01\x01\x33\0\x08\0\0\0\0\0\0\0\x01\x07");
+/// let refusal = dulgaverk::check_into(a, &a[..8], proof, &mut out[..18]).unwrap_err();
+/// assert_eq!((refusal.number, refusal.file, refusal.place), (21, 4, 19));
+/// ```
+pub fn check_into(a: &[u8], b: &[u8], proof: &[u8], out: &mut [u8]) -> Result<usize, Refusal> {
+    let r = unsafe {
+        boundary::dulgaverk_check(
+            a.as_ptr(),
+            a.len(),
+            b.as_ptr(),
+            b.len(),
+            proof.as_ptr(),
+            proof.len(),
+            out.as_mut_ptr(),
+            out.len(),
+        )
+    };
+    accepted(r.answer, r.count)
+}
+
+/// Whether the formula holds at these register values, one for each constant.
+///
+/// ```
+/// // 2 divides y, over x, y, z.
+/// let formula = b"\x01\0\x01\x01\x02\0\x01\x03\x35\0\x14\0\0\0\x02\0\0\0\0\0\0\0\x01\0\0\0\0\0\0\0\0";
+/// assert!(dulgaverk::test_formula(formula, &[1, 4, -7])?);
+/// assert!(!dulgaverk::test_formula(formula, &[1, -3, 0])?);
+/// let refusal = dulgaverk::test_formula(formula, &[1, 4, 1_000_001]).unwrap_err();
+/// assert_eq!((refusal.number, refusal.file, refusal.place), (23, 4, 2));
+/// # Ok::<(), dulgaverk::Refusal>(())
+/// ```
 pub fn test_formula(formula: &[u8], values: &[i32]) -> Result<bool, Refusal> {
     let r = unsafe {
         boundary::dulgaverk_test(

@@ -1,6 +1,6 @@
 //! Worked stages of the paper through the verified operations.
 
-use dulgaverk::{read_bundle, show, test_formula, write_bundle, Counts, Refusal};
+use dulgaverk::{read_bundle_into, show, test_formula, write_bundle_into, Counts, Refusal};
 
 fn refused<T>(number: u8, file: u8, place: usize) -> Result<T, Refusal> {
     Err(Refusal {
@@ -16,31 +16,34 @@ fn stage_10() {
     let kinds: Vec<u8> = (0..32).map(|i| i % 2).collect();
     let numbers: Vec<i16> = (0..32 * 17).map(|i| i * 120 - 32_640).collect();
     let mut file = vec![0; 8 + 32 * 37];
-    assert_eq!(write_bundle(16, &kinds, &numbers, &mut file), Ok(1192));
+    assert_eq!(write_bundle_into(16, &kinds, &numbers, &mut file), Ok(1192));
 
     let mut read = (vec![9; 32], vec![9; 32 * 17]);
     let counts = Counts {
         constraints: 32,
         constants: 16,
     };
-    assert_eq!(read_bundle(&file, &mut read.0, &mut read.1), Ok(counts));
+    assert_eq!(
+        read_bundle_into(&file, &mut read.0, &mut read.1),
+        Ok(counts)
+    );
     assert_eq!(read, (kinds.clone(), numbers.clone()));
 
     let mut seventeen = file.clone();
     seventeen[7] = 17;
     assert_eq!(
-        read_bundle(&seventeen, &mut read.0, &mut read.1),
+        read_bundle_into(&seventeen, &mut read.0, &mut read.1),
         refused(7, 1, 4)
     );
     assert_eq!(
-        write_bundle(17, &kinds, &numbers, &mut file),
+        write_bundle_into(17, &kinds, &numbers, &mut file),
         refused(7, 4, 0)
     );
 
     let mut more = file.clone();
     more.extend_from_slice(&file[8..45]);
     assert_eq!(
-        read_bundle(&more, &mut read.0, &mut read.1),
+        read_bundle_into(&more, &mut read.0, &mut read.1),
         refused(8, 1, 1192)
     );
     assert_eq!(read, (kinds, numbers));

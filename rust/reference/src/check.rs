@@ -15,6 +15,9 @@ const STRENGTHEN: u8 = 0x13;
 const CLOSE_BY_NUMBER: u8 = 0x14;
 const CLOSE_BY_STRIDE: u8 = 0x15;
 const CLAIM: u8 = 0x20;
+/// The header, and 1,024 rows as 341 strengthens and 683 closes by stride
+/// over 16 constants.
+const LONGEST_FORMULA: usize = 8 + 341 * 6 + 683 * 75;
 
 /// Checks a proof over the lines of A and B and writes the interpolant's file.
 pub fn check(a: &[u8], b: &[u8], proof: &[u8], out: &mut [u8]) -> WriteResult {
@@ -40,7 +43,7 @@ fn interpolant(a: &[u8], b: &[u8], proof: &[u8]) -> Result<Vec<u8>, Answer> {
     let a = Bundle::read(a, FILE_A, None)?;
     let b = Bundle::read(b, FILE_B, Some(a.k))?;
     let mut header = Header::Start;
-    let mut table = Table::over(&a, &b);
+    let mut table = Table::over(&a, &b, proof.len());
     let mut fields = Fields::of(proof);
     loop {
         let field = match fields.take() {
@@ -119,12 +122,16 @@ struct Table {
 }
 
 impl Table {
-    fn over(a: &Bundle, b: &Bundle) -> Table {
-        let mut formula = Vec::with_capacity(128);
+    /// The table before its first row. The proof's length tells how much
+    /// room is enough: a row has at least 4 bytes, makes one line at most
+    /// (a strengthen is counted once for its branch), and adds at most 71
+    /// bytes to the formula, or 75 if it has 6.
+    fn over(a: &Bundle, b: &Bundle, proof: usize) -> Table {
+        let mut formula = Vec::with_capacity((8 + 18 * proof).min(LONGEST_FORMULA));
         // K is at most 16, so one byte holds it.
         formula.extend_from_slice(&header_bytes(a.k as u8));
         Table {
-            lines: Lines::of(a, b),
+            lines: Lines::of(a, b, proof / 4),
             open: Vec::new(),
             rows: 0,
             claim_in_place: false,
@@ -253,7 +260,7 @@ impl Table {
         if g < 2 {
             return Err(WRONG_MULTIPLIER);
         }
-        let divides = |number: i32| i64::from(number) % i64::from(g) == 0;
+        let divides = |number: i32| number % i32::from(g) == 0;
         let coefficients = self.lines.coefficients(t);
         if !coefficients.iter().all(|&c| divides(c)) || divides(self.lines.constant(t)) {
             return Err(NOT_CLOSED);

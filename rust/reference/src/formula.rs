@@ -25,18 +25,23 @@ pub(crate) fn push_comparison(out: &mut Vec<u8>, equality: bool, form: &[i32]) {
         TAG_INEQUALITY
     };
     push_field_header(out, tag, 4 * form.len() as u16);
-    for number in form {
-        out.extend_from_slice(&number.to_be_bytes());
+    push_form(out, form);
+}
+
+/// Appends the numbers of a form, at most 17, at one stroke.
+fn push_form(out: &mut Vec<u8>, form: &[i32]) {
+    let mut bytes = [0; 4 * (limits::CONSTANTS + 1)];
+    for (slot, number) in bytes.chunks_exact_mut(4).zip(form) {
+        slot.copy_from_slice(&number.to_be_bytes());
     }
+    out.extend_from_slice(&bytes[..4 * form.len()]);
 }
 
 /// Appends "g divides the form", given as its numbers.
 pub(crate) fn push_stride(out: &mut Vec<u8>, g: u16, form: &[i32]) {
     push_field_header(out, TAG_STRIDE, 4 + 4 * form.len() as u16);
     out.extend_from_slice(&i32::from(g).to_be_bytes());
-    for number in form {
-        out.extend_from_slice(&number.to_be_bytes());
-    }
+    push_form(out, form);
 }
 
 /// What testing a formula gives; `holds` is false on refusal.

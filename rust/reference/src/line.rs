@@ -16,14 +16,15 @@ pub(crate) struct Lines {
 }
 
 impl Lines {
-    /// A's constraints with tA = t, then B's with tA = 0.
-    pub fn of(a: &Bundle, b: &Bundle) -> Lines {
+    /// A's constraints with tA = t, then B's with tA = 0. A proof that makes
+    /// at most `more` lines needs no further room.
+    pub fn of(a: &Bundle, b: &Bundle, more: usize) -> Lines {
         let width = a.k + 1;
-        let count = a.count() + b.count();
+        let count = (a.count() + b.count() + more).min(limits::LINES);
         let mut lines = Lines {
             width,
-            equality: Vec::with_capacity(count + 16),
-            numbers: Vec::with_capacity((count + 16) * 2 * width),
+            equality: Vec::with_capacity(count),
+            numbers: Vec::with_capacity(count * 2 * width),
         };
         for constraint in a.constraints() {
             lines.equality.push(constraint.equality);
@@ -87,22 +88,36 @@ impl Lines {
         let size = new.len();
         let s_numbers = &old[s * size..][..size];
         let t_numbers = &old[t * size..][..size];
+        let mut all_within = true;
         for (slot, (&s, &t)) in new.iter_mut().zip(s_numbers.iter().zip(t_numbers)) {
-            *slot = within(alpha * i64::from(s) + beta * i64::from(t))?;
+            let number = alpha * i64::from(s) + beta * i64::from(t);
+            all_within &= within(number);
+            *slot = number as i32;
         }
         self.equality.push(self.equality[s]);
-        Ok(())
+        if all_within {
+            Ok(())
+        } else {
+            Err(OutOfRange)
+        }
     }
 
     /// Adds α times a line, of the same kind. As above, nothing overflows.
     pub fn add_multiple(&mut self, t: usize, alpha: i64) -> Result<(), OutOfRange> {
         let (old, new) = self.room();
         let size = new.len();
+        let mut all_within = true;
         for (slot, &number) in new.iter_mut().zip(&old[t * size..][..size]) {
-            *slot = within(alpha * i64::from(number))?;
+            let number = alpha * i64::from(number);
+            all_within &= within(number);
+            *slot = number as i32;
         }
         self.equality.push(self.equality[t]);
-        Ok(())
+        if all_within {
+            Ok(())
+        } else {
+            Err(OutOfRange)
+        }
     }
 
     /// Makes room for one more line; gives the numbers of the old ones and
@@ -125,12 +140,15 @@ impl Lines {
     ) -> Result<(), OutOfRange> {
         let size = 2 * self.width;
         let start = t * size;
-        let constant = within(i64::from(self.constant(t)) + raise)?;
-        let partial = within(i64::from(self.numbers[start + size - 1]) + raise_partial)?;
+        let constant = i64::from(self.constant(t)) + raise;
+        let partial = i64::from(self.numbers[start + size - 1]) + raise_partial;
+        if !within(constant) || !within(partial) {
+            return Err(OutOfRange);
+        }
         let new = self.numbers.len();
         self.numbers.extend_from_within(start..start + size);
-        self.numbers[new + self.width - 1] = constant;
-        self.numbers[new + size - 1] = partial;
+        self.numbers[new + self.width - 1] = constant as i32;
+        self.numbers[new + size - 1] = partial as i32;
         self.equality.push(equality);
         Ok(())
     }
@@ -152,12 +170,8 @@ impl Lines {
     }
 }
 
-/// The number, if a line may hold it. -2^31 is outside.
+/// Whether a line may hold the number. -2^31 is outside.
 #[inline]
-fn within(number: i64) -> Result<i32, OutOfRange> {
-    if (-limits::NUMBER..=limits::NUMBER).contains(&number) {
-        Ok(number as i32)
-    } else {
-        Err(OutOfRange)
-    }
+fn within(number: i64) -> bool {
+    (-limits::NUMBER..=limits::NUMBER).contains(&number)
 }

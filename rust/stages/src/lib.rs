@@ -8,6 +8,7 @@ pub mod build;
 pub mod case;
 pub mod damage;
 pub mod directed;
+pub mod edge;
 pub mod limit;
 mod list;
 pub mod other;

@@ -4,7 +4,7 @@ use crate::case::{Case, Operation};
 use crate::damage::{damage, noise};
 use crate::rng::Rng;
 use crate::table::{careless_table, closed_table, Size, Table};
-use crate::{directed, limit, other};
+use crate::{directed, edge, limit, other};
 
 /// What sort of cases are wanted.
 #[derive(Clone, Copy, PartialEq, Eq, Debug)]
@@ -17,15 +17,18 @@ pub enum Class {
     Directed,
     /// Both sides of each limit, with short and long files.
     Limit,
+    /// At a limit or just past it, in a random way.
+    Edge,
     /// Bytes and numbers without plan.
     Noise,
 }
 
-pub const CLASSES: [Class; 5] = [
+pub const CLASSES: [Class; 6] = [
     Class::Sound,
     Class::Damaged,
     Class::Directed,
     Class::Limit,
+    Class::Edge,
     Class::Noise,
 ];
 
@@ -59,6 +62,7 @@ impl Iterator for Stream {
             Class::Sound => Some(sound(rng, self.operation, &self.size)),
             Class::Damaged => Some(damaged(rng, self.operation, &self.size)),
             Class::Noise => Some(random(rng, self.operation)),
+            Class::Edge => Some(edge::edge(rng, self.operation).1),
             Class::Directed | Class::Limit => {
                 if self.waiting.is_empty() {
                     let aimed = if self.class == Class::Directed {

@@ -5,8 +5,8 @@ use stages::case::parse_bytes;
 use stages::rng::Rng;
 use stages::table::{closed_table, Size, Table};
 use stages::{
-    directed, heavy_list, limit, list, stream, Case, Class, Operation, Output, CLASSES, HEAVY,
-    OPERATIONS,
+    directed, edge, heavy_list, limit, list, stream, Case, Class, Operation, Output, CLASSES,
+    HEAVY, OPERATIONS,
 };
 use std::collections::BTreeSet;
 
@@ -72,6 +72,28 @@ fn aimed_cases_meet_their_number() {
                 assert_eq!(answer.number, number, "{answer:?} {}", case.print());
             }
         }
+    }
+}
+
+#[test]
+fn edge_cases_meet_their_number_on_both_sides() {
+    for operation in OPERATIONS {
+        let mut rng = Rng::new(31);
+        let mut met = BTreeSet::new();
+        for _ in 0..2_000 {
+            let (number, case) = edge::edge(&mut rng, operation);
+            let answer = case.outcome().answer;
+            assert_eq!(answer.number, number, "{answer:?} {}", case.print());
+            met.insert(number);
+        }
+        let all: &[u8] = match operation {
+            Operation::Check => &[0, 1, 8, 13, 16, 17, 18],
+            Operation::Read => &[0, 1, 8],
+            Operation::Write => &[0, 8, 21],
+            Operation::Show => &[0, 10],
+            Operation::Test => &[0, 1, 17, 23],
+        };
+        assert_eq!(met, all.iter().copied().collect(), "{operation:?}");
     }
 }
 

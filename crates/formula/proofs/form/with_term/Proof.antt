@@ -1,41 +1,44 @@
 -- `formula::form::with_term` meets its contract. Assumes nothing.
 use mathlib.Core.Path.{_≡_, refl}
-use mathlib.Core.Logic.{inr}
-use lib.IntN.{_+ℤ_, _*ℤ_}
+use lib.ListN.{getD}
+use lib.IntN.{pos, _+ℤ_, _*ℤ_}
 use mir.Syntax.{w64}
 use mir.Val.{SFits, toZ, ofZ}
 use mir.ValLaws.{toZ-ofZ}
 use Rattle.integers.specs.Magnitude.{Within}
+use Rattle.fields.specs.Ranges.{Held}
 use Rattle.formula.proofs.Value.{product-fits, sum-fits}
-use borrow.Author.Needs.{needs}
 use Rattle.formula.proofs.form.with_term.Statement.{statement}
 use Rattle.formula.proofs.form.with_term.Tie as tie
 
-signed-at-requires : tie.Need-signed-at-requires
-signed-at-requires c κs = (inr refl, c .before .pre .coefficient)
-
 register-requires : tie.Need-register-requires
-register-requires c κs = search needs
+register-requires c κs = c .pre .coefficient
 
-module _ (c : tie.After-register) where
-  value-in : Within 1_000_000 (c .register .result)
-  value-in = rw (c .register .ensures) (c .before .before .before .pre .all .at (c .before .before .before .args .i))
+register-requires-2 : tie.Need-register-requires-2
+register-requires-2 c κs = c .before .pre .register
 
-  product-in : SFits w64 (c .before .signed-at .result *ℤ c .register .result)
-  product-in = product-fits (c .before .signed-at .ensures .1) value-in
+module _ (c : tie.After-register2) where
+  held : Held 4 (c .before .register .result)
+  held = rw (c .before .register .ensures) (c .before .before .pre .held)
 
-  sum-in : SFits w64 (c .before .signed-at .result *ℤ c .register .result +ℤ c .before .before .before .args .total)
-  sum-in = sum-fits (c .before .signed-at .ensures .1) value-in (c .before .before .before .pre .small)
+  value-in : Within 1_000_000 (c .register2 .result)
+  value-in = rw (c .register2 .ensures) (c .before .before .pre .all .at (c .before .before .args .i))
+
+  product-in : SFits w64 (c .before .register .result *ℤ c .register2 .result)
+  product-in = product-fits held value-in
+
+  sum-in : SFits w64 (c .before .register .result *ℤ c .register2 .result +ℤ c .before .before .args .total)
+  sum-in = sum-fits held value-in (c .before .before .pre .small)
 
   -- the factors, the product and the total as the machine reads them back
-  coefficient-is : toZ w64 (ofZ w64 (c .before .signed-at .result)) ≡ c .before .signed-at .result
-  coefficient-is = toZ-ofZ w64 (c .before .signed-at .result) (record { sfits = c .before .signed-at .ok })
+  coefficient-is : toZ w64 (ofZ w64 (c .before .register .result)) ≡ c .before .register .result
+  coefficient-is = toZ-ofZ w64 (c .before .register .result) (record { sfits = c .before .register .ok })
 
-  value-is : toZ w64 (ofZ w64 (c .register .result)) ≡ c .register .result
-  value-is = toZ-ofZ w64 (c .register .result) (record { sfits = c .register .ok })
+  value-is : toZ w64 (ofZ w64 (c .register2 .result)) ≡ c .register2 .result
+  value-is = toZ-ofZ w64 (c .register2 .result) (record { sfits = c .register2 .ok })
 
-  total-is : toZ w64 (ofZ w64 (c .before .before .before .args .total)) ≡ c .before .before .before .args .total
-  total-is = toZ-ofZ w64 (c .before .before .before .args .total) (c .before .before .before .fits .total)
+  total-is : toZ w64 (ofZ w64 (c .before .before .args .total)) ≡ c .before .before .args .total
+  total-is = toZ-ofZ w64 (c .before .before .args .total) (c .before .before .fits .total)
 
 mul-result : tie.Need-mul-result
 mul-result c = rw (coefficient-is c, value-is c) (product-in c)
@@ -44,12 +47,7 @@ add-result : tie.Need-add-result
 add-result c = rw (coefficient-is c, value-is c, toZ-ofZ w64 _ (product-in c), total-is c) (sum-in c)
 
 returns : tie.Need-returns
-returns c = record {
-  coefficient = c .before .signed-at .result;
-  read = c .before .signed-at .ensures .0;
-  held = c .before .signed-at .ensures .1;
-  is = rw (coefficient-is c, value-is c, toZ-ofZ w64 _ (product-in c), total-is c, toZ-ofZ w64 _ (sum-in c), c .register .ensures);
-}
+returns c = rw (coefficient-is c, value-is c, toZ-ofZ w64 _ (product-in c), total-is c, toZ-ofZ w64 _ (sum-in c), c .before .register .ensures, c .register2 .ensures)
 
 pub with-term-spec : {M : Type 1} → statement M
-with-term-spec = tie.close (tie.spec signed-at-requires register-requires mul-result add-result returns)
+with-term-spec = tie.close (tie.spec register-requires register-requires-2 mul-result add-result returns)

@@ -1,0 +1,148 @@
+/* Dulgaverk, the verified office checker: its operations for C and C++.
+ *
+ * Link target/staticlib/libexports.a, which `rt staticlib exports` writes (x86-64 Linux). It needs nothing but the C library.
+ *
+ * In every call
+ * - a file or list is a pointer and a length. The length counts elements, not bytes. Where it is 0 the pointer is never
+ *   looked at, and may be NULL.
+ * - any bytes and numbers may be given: nothing has to be tested before a call. Only the memory must be there: `length`
+ *   elements to read, and for what is lent without `const` as many to write, which overlap nothing else that is passed.
+ * - a refusal leaves every lent output as it was. An accepted call changes the elements used, from the front, and
+ *   leaves those behind them as they were.
+ * - nothing is allocated, kept or shared: calls may run in several threads at once.
+ *
+ * docs/FORMAT.md has the layout of the files and the order in which each operation tests them.
+ */
+#ifndef DULGAVERK_H
+#define DULGAVERK_H
+
+#include <stdbool.h>
+#include <stddef.h>
+#include <stdint.h>
+
+#ifdef __cplusplus
+extern "C" {
+#endif
+
+/* The limits of edition 1. */
+#define DULGAVERK_CONSTANTS 16        /* constants of a file */
+#define DULGAVERK_CONSTRAINTS 32      /* constraints of a bundle */
+#define DULGAVERK_NUMBERS 544         /* numbers of a bundle: 32 constraints of 16 coefficients and d */
+#define DULGAVERK_BUNDLE 4096         /* bytes of a bundle */
+#define DULGAVERK_WRITTEN_BUNDLE 1192 /* bytes of a bundle that dulgaverk_write makes */
+#define DULGAVERK_FIELD 37            /* bytes of a constraint's field */
+#define DULGAVERK_PROOF 65536         /* bytes of a proof, and of a formula */
+
+/* What an operation answers. Accepted is 0, 0, 0.
+ *
+ * number  meaning
+ *      1  a file is longer than its limit
+ *      2  bytes are no whole field, or a file ends too early
+ *      3  a tag below 0x80 that this kind of file does not have
+ *      4  a known tag where it may not stand
+ *      5  the edition is not 1
+ *      6  a field of the wrong length
+ *      7  the number of constants, or of values, is not 1 to 16
+ *      8  more than 32 constraints
+ *      9  the number of constants is not the one given before
+ *     10  a line that is not there
+ *     11  a line of the wrong kind
+ *     12  a multiplier of 0, or a stride below 2
+ *     13  a number of a new line is out of range
+ *     14  a claim that is not the new line
+ *     15  a close whose condition is not met
+ *     16  a 129th line on a branch
+ *     17  a 33rd open strengthen, or in a formula a 65th level of and/or
+ *     18  a 1,025th row
+ *     19  a known field after the end of the proof or formula
+ *     20  branches are still open at the end of the proof
+ *     21  a lent output is too short
+ *     22  a close whose formula would name a constant that A or B lacks
+ *     23  a register value outside -1,000,000 to 1,000,000
+ *     24  a kind that is not 0 or 1, or the wrong count of numbers
+ *
+ *   file  1 A, or a bundle read alone; 2 B; 3 the proof or formula; 4 a lent output, or no file
+ *  place  the byte at which the field at fault starts, if nothing else is said
+ */
+typedef struct dulgaverk_answer {
+    uint8_t number;
+    uint8_t file;
+    size_t place;
+} dulgaverk_answer;
+
+/* What reading a bundle gives. A refusal has count 0 and k 0. */
+typedef struct dulgaverk_read_result {
+    dulgaverk_answer answer;
+    size_t count; /* constraints */
+    uint8_t k;    /* constants */
+} dulgaverk_read_result;
+
+/* What writing and checking give. A refusal has count 0. */
+typedef struct dulgaverk_write_result {
+    dulgaverk_answer answer;
+    size_t count; /* bytes written */
+} dulgaverk_write_result;
+
+/* What testing a formula gives. A refusal has holds false. */
+typedef struct dulgaverk_tested {
+    dulgaverk_answer answer;
+    bool holds;
+} dulgaverk_tested;
+
+/* Reads a bundle of at most 4,096 bytes.
+ *
+ * Accepted: `count` constraints over `k` constants. kinds[i] is 0 where constraint i says "t <= 0" and 1 where it says
+ * "t = 0"; numbers[i * (k + 1)] and the k numbers after it are its coefficients and then d. 32 kinds and 544 numbers
+ * are always enough.
+ * Refused: 1 to 8 with file 1; 21 with file 4, and as place the number of constraints, where either output is too short.
+ */
+dulgaverk_read_result dulgaverk_read(const uint8_t *file, size_t file_length, uint8_t *kinds, size_t kinds_length,
+                                     int16_t *numbers, size_t numbers_length);
+
+/* Writes a bundle over k constants: one kind and k + 1 numbers for each constraint, as dulgaverk_read gives them.
+ *
+ * Accepted: `count` bytes of `out`, at most 1,192.
+ * Refused, all with file 4: 7 for k and 8 for more than 32 kinds (place 0); 24 for a kind (place its index), else for
+ * the count of numbers (place the number of kinds); 21 where `out` is too short (place the bytes needed).
+ */
+dulgaverk_write_result dulgaverk_write(uint8_t k, const uint8_t *kinds, size_t kinds_length, const int16_t *numbers,
+                                       size_t numbers_length, uint8_t *out, size_t out_length);
+
+/* Whether there is a constraint for a line number: A's are 0, 1, .. in file order, then B's.
+ *
+ * Refused: what a check refuses of A (file 1) and of B (file 2), then 10 with file 1 and place 0.
+ */
+dulgaverk_answer dulgaverk_show_answer(const uint8_t *a, size_t a_length, const uint8_t *b, size_t b_length,
+                                       uint16_t line);
+
+/* Copies that constraint's field, tag and length and contents, to the front of `out`, and returns its length: at most
+ * 37, and 0 where dulgaverk_show_answer refuses. A length above out_length says that nothing was copied.
+ */
+size_t dulgaverk_show(const uint8_t *a, size_t a_length, const uint8_t *b, size_t b_length, uint16_t line,
+                      uint8_t *out, size_t out_length);
+
+/* Checks a proof of at most 65,536 bytes that A and B contradict each other.
+ *
+ * Accepted: `count` bytes of `out` are the file of the interpolant, a formula that holds wherever A is met, fails wherever
+ * B is met, and names only constants that both use. 65,536 bytes are always enough.
+ * Refused: 1 for A, B and the proof (files 1, 2, 3, place 0); then what reading refuses of A and of B, for B also 9; then
+ * 2 to 7 and 9 to 20 with file 3; 21 with file 4, and as place the bytes needed, where `out` is too short. 22 is proved
+ * never to come.
+ */
+dulgaverk_write_result dulgaverk_check(const uint8_t *a, size_t a_length, const uint8_t *b, size_t b_length,
+                                       const uint8_t *proof, size_t proof_length, uint8_t *out, size_t out_length);
+
+/* Tests a formula of at most 65,536 bytes at register values, one for each constant, each within +-1,000,000.
+ *
+ * Accepted: whether it holds.
+ * Refused: 7 for the number of values (file 4, place 0) and 23 for a value (file 4, place its index); then 1, 2, 3, 19,
+ * 4, 6, 5, 7, 9, 12 and 17 with file 3. 9 says that the formula's constants are not as many as the values.
+ */
+dulgaverk_tested dulgaverk_test(const uint8_t *formula, size_t formula_length, const int32_t *values,
+                                size_t values_length);
+
+#ifdef __cplusplus
+}
+#endif
+
+#endif

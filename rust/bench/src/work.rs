@@ -1,0 +1,338 @@
+//! What is timed: calls of each operation, small and as large as can be.
+
+use stages::build;
+use stages::rng::Rng;
+use std::hint::black_box;
+
+/// Calls one side so many times and gives a sum of what came out.
+type Side = Box<dyn Fn(usize) -> usize>;
+
+/// A point of a curve: cost against size.
+pub struct Point {
+    pub curve: &'static str,
+    /// What the size counts.
+    pub unit: &'static str,
+    pub size: usize,
+}
+
+pub struct Work {
+    pub name: String,
+    pub rattle: Side,
+    pub rust: Side,
+    pub point: Option<Point>,
+}
+
+/// Everything that is timed, in the order of the table.
+pub fn all() -> Vec<Work> {
+    let mut list = Vec::new();
+    checks(&mut list);
+    bundles(&mut list);
+    formulas(&mut list);
+    list
+}
+
+// The Rust checker through plain functions of its own, as the verified operations are called through the library.
+
+#[inline(never)]
+fn rust_check(a: &[u8], b: &[u8], proof: &[u8], out: &mut [u8]) -> usize {
+    reference::check(a, b, proof, out).written
+}
+
+#[inline(never)]
+fn rust_read(file: &[u8], kinds: &mut [u8], numbers: &mut [i16]) -> usize {
+    reference::read_bundle(file, kinds, numbers).count
+}
+
+#[inline(never)]
+fn rust_write(k: u8, kinds: &[u8], numbers: &[i16], out: &mut [u8]) -> usize {
+    reference::write_bundle(k, kinds, numbers, out).written
+}
+
+#[inline(never)]
+fn rust_show(a: &[u8], b: &[u8], line: usize) -> usize {
+    usize::from(reference::show_answer(a, b, line).number)
+}
+
+#[inline(never)]
+fn rust_test(formula: &[u8], values: &[i32]) -> usize {
+    usize::from(reference::test_formula(formula, values).holds)
+}
+
+/// Three files: A, B and a proof.
+type Stage = [Vec<u8>; 3];
+
+/// Stage 1 of the paper: a reduce and a close by stride.
+fn stage_1() -> Stage {
+    [
+        build::file(3, &[build::constraint(true, &[-2, 1, 0, 0])]),
+        build::file(3, &[build::constraint(true, &[0, -1, 2, 1])]),
+        build::file(3, &[build::reduce(1, 0, 1), build::stride(2, 2)]),
+    ]
+}
+
+/// A table of so many rows over 16 constants: f ≤ 0 in A, -f + 1 ≤ 0 in B, strengthens up to 30 deep, and each branch
+/// closed by combining the two. With claims, each combine is followed by one.
+fn nested(rows: usize, claims: bool) -> Stage {
+    let f: Vec<i16> = (0..17).map(|i| i * 37 - 300).collect();
+    let mut minus: Vec<i16> = f.iter().map(|n| -n).collect();
+    minus[16] += 1;
+    let strengthens = (rows - 2) / 5;
+    let extra = rows - (5 * strengthens + 2);
+    let mut proof = build::header(16);
+    for _ in 0..extra {
+        proof.extend(build::scale(0, 3));
+    }
+    let mut t = [0; 17];
+    t[16] = 1;
+    let partial: Vec<i32> = f.iter().map(|&n| i32::from(n)).collect();
+    let claim = build::claim(&t, &partial);
+    let mut left = strengthens;
+    let mut branches = vec![0];
+    while let Some(depth) = branches.pop() {
+        if left > 0 && depth < 30 {
+            left -= 1;
+            proof.extend(build::strengthen(0));
+            branches.extend([depth + 1; 3]);
+        } else {
+            proof.extend(build::combine(0, 1, 1, 1));
+            if claims {
+                proof.extend_from_slice(&claim);
+            }
+            proof.extend(build::close((2 + extra + depth) as u8));
+        }
+    }
+    [
+        build::file(16, &[build::constraint(false, &f)]),
+        build::file(16, &[build::constraint(false, &minus)]),
+        proof,
+    ]
+}
+
+/// 341 strengthens and 683 closes by stride over 16 constants: the longest formula that there is.
+fn longest() -> Stage {
+    let mut one = vec![0; 17];
+    one[16] = 1;
+    let rows: Vec<Vec<u8>> = stages::directed::bushy(341, 1)
+        .into_iter()
+        .map(|row| {
+            if row[0] == 0x14 {
+                build::stride(1, 7)
+            } else {
+                row
+            }
+        })
+        .collect();
+    let bundle = [
+        build::constraint(false, &one),
+        build::constraint(true, &one),
+    ];
+    [
+        build::file(16, &bundle),
+        build::file(16, &[]),
+        build::file(16, &rows),
+    ]
+}
+
+fn checks(list: &mut Vec<Work>) {
+    list.push(check("stage 1, 2 rows".to_string(), stage_1(), None));
+    for rows in [8, 32, 128, 256, 512, 1_024] {
+        let point = Point {
+            curve: "check a proof",
+            unit: "rows",
+            size: rows,
+        };
+        let name = format!("{rows} rows, 16 constants, nested strengthens");
+        list.push(check(name, nested(rows, false), Some(point)));
+    }
+    for rows in [128, 1_024] {
+        let name = format!("the same with {rows} rows and claims");
+        list.push(check(name, nested(rows, true), None));
+    }
+    let name = "1,024 rows, the longest formula".to_string();
+    list.push(check(name, longest(), None));
+}
+
+fn check(name: String, stage: Stage, point: Option<Point>) -> Work {
+    let name = format!("check: {name}");
+    let [a, b, proof] = stage;
+    assert!(dulgaverk::check(&a, &b, &proof).is_ok(), "{name}");
+    let other = [a.clone(), b.clone(), proof.clone()];
+    Work {
+        name,
+        rattle: Box::new(move |times| {
+            let mut out = vec![0; 65_536];
+            (0..times)
+                .map(|_| {
+                    let proof = black_box(proof.as_slice());
+                    dulgaverk::check_into(&a, &b, proof, &mut out).unwrap_or(0)
+                })
+                .sum()
+        }),
+        rust: Box::new(move |times| {
+            let mut out = vec![0; 65_536];
+            let [a, b, proof] = &other;
+            (0..times)
+                .map(|_| rust_check(a, b, black_box(proof.as_slice()), &mut out))
+                .sum()
+        }),
+        point,
+    }
+}
+
+/// K, kinds and numbers of a bundle.
+fn lists(k: u8, count: usize) -> (Vec<u8>, Vec<i16>) {
+    let mut rng = Rng::new(u64::from(k));
+    let kinds = (0..count).map(|_| rng.below(2) as u8).collect();
+    let numbers = (0..count * (usize::from(k) + 1))
+        .map(|_| rng.word() as i16)
+        .collect();
+    (kinds, numbers)
+}
+
+fn bundles(list: &mut Vec<Work>) {
+    for (size, k, count) in [
+        ("3 constants, 2 constraints", 3, 2),
+        ("16 constants, 32 constraints", 16, 32),
+    ] {
+        let (kinds, numbers) = lists(k, count);
+        let file = dulgaverk::write_bundle(k, &kinds, &numbers).expect("a sound bundle");
+        let read = (file.clone(), [0; 32], [0; 544]);
+        let other = read.clone();
+        list.push(Work {
+            name: format!("read a bundle: {size}"),
+            rattle: Box::new(move |times| {
+                let (file, mut kinds, mut numbers) = read.clone();
+                (0..times)
+                    .map(|_| {
+                        let file = black_box(file.as_slice());
+                        dulgaverk::read_bundle_into(file, &mut kinds, &mut numbers)
+                            .map_or(0, |counts| counts.constraints)
+                    })
+                    .sum()
+            }),
+            rust: Box::new(move |times| {
+                let (file, mut kinds, mut numbers) = other.clone();
+                (0..times)
+                    .map(|_| rust_read(black_box(file.as_slice()), &mut kinds, &mut numbers))
+                    .sum()
+            }),
+            point: None,
+        });
+        let write = (kinds, numbers, vec![0; 1_192]);
+        let other = write.clone();
+        list.push(Work {
+            name: format!("write a bundle: {size}"),
+            rattle: Box::new(move |times| {
+                let (kinds, numbers, mut out) = write.clone();
+                (0..times)
+                    .map(|_| {
+                        let kinds = black_box(kinds.as_slice());
+                        dulgaverk::write_bundle_into(k, kinds, &numbers, &mut out).unwrap_or(0)
+                    })
+                    .sum()
+            }),
+            rust: Box::new(move |times| {
+                let (kinds, numbers, mut out) = other.clone();
+                (0..times)
+                    .map(|_| rust_write(k, black_box(kinds.as_slice()), &numbers, &mut out))
+                    .sum()
+            }),
+            point: None,
+        });
+        let last = 2 * count - 1;
+        let other = file.clone();
+        list.push(Work {
+            name: format!("show the last line of two bundles: {size} each"),
+            rattle: Box::new(move |times| {
+                (0..times)
+                    .map(|_| {
+                        let file = black_box(file.as_slice());
+                        usize::from(dulgaverk::show_answer(file, file, last as u16).is_err())
+                    })
+                    .sum()
+            }),
+            rust: Box::new(move |times| {
+                (0..times)
+                    .map(|_| {
+                        let file = black_box(other.as_slice());
+                        rust_show(file, file, last)
+                    })
+                    .sum()
+            }),
+            point: None,
+        });
+    }
+}
+
+/// So many comparisons and strides over K constants, joined by and/or as a check joins them.
+fn formula(k: u8, parts: usize) -> Vec<u8> {
+    let mut rng = Rng::new(parts as u64);
+    let mut file = build::header(k);
+    let mut left = parts - 1;
+    let mut levels = vec![0];
+    while let Some(level) = levels.pop() {
+        if left > 0 && level < 60 {
+            left -= 1;
+            file.extend(if left.is_multiple_of(2) {
+                build::or()
+            } else {
+                build::and()
+            });
+            levels.extend([level + 1, level + 1]);
+            continue;
+        }
+        let numbers: Vec<i32> = (0..=k).map(|_| rng.word() as i32).collect();
+        file.extend(match rng.below(3) {
+            0 => build::comparison(false, &numbers),
+            1 => build::comparison(true, &numbers),
+            _ => build::divides(rng.within(2, 65_535) as i32, &numbers),
+        });
+    }
+    file
+}
+
+fn formulas(list: &mut Vec<Work>) {
+    let small = build::file(3, &[build::divides(2, &[0, 1, 0, 0])]);
+    list.push(test(
+        "test a formula: \"2 divides y\" of stage 1".to_string(),
+        small,
+        vec![1, 4, -7],
+        None,
+    ));
+    for parts in [8, 32, 128, 256, 512, 860] {
+        let file = formula(16, parts);
+        let values = (0..16).map(|i| i * 7_919 - 60_000).collect();
+        let name = format!(
+            "test a formula: {parts} parts over 16 constants, {} bytes",
+            file.len()
+        );
+        let point = Point {
+            curve: "test a formula",
+            unit: "parts",
+            size: parts,
+        };
+        list.push(test(name, file, values, Some(point)));
+    }
+}
+
+fn test(name: String, file: Vec<u8>, values: Vec<i32>, point: Option<Point>) -> Work {
+    assert!(dulgaverk::test_formula(&file, &values).is_ok(), "{name}");
+    let (other, same) = (file.clone(), values.clone());
+    Work {
+        name,
+        rattle: Box::new(move |times| {
+            (0..times)
+                .map(|_| {
+                    let file = black_box(file.as_slice());
+                    dulgaverk::test_formula(file, &values).map_or(0, usize::from)
+                })
+                .sum()
+        }),
+        rust: Box::new(move |times| {
+            (0..times)
+                .map(|_| rust_test(black_box(other.as_slice()), &same))
+                .sum()
+        }),
+        point,
+    }
+}

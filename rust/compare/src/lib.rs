@@ -1,0 +1,211 @@
+//! The verified operations beside the independent checker: the same answers, and the same contents of every lent buffer.
+//!
+//! Each case is called as it is. Where it is accepted, it is called again with each output just long enough, and with
+//! each output one short. Lent buffers hold random contents before; afterwards they must be as the checker leaves them,
+//! and after a refusal as they were.
+
+#![forbid(unsafe_code)]
+
+mod tally;
+
+pub use tally::Tally;
+
+use dulgaverk::{Counts, Refusal};
+use reference::Answer;
+use stages::rng::Rng;
+use stages::{Case, Operation};
+
+/// The operations that are compared.
+pub const COMPARED: [Operation; 5] = [
+    Operation::Check,
+    Operation::Read,
+    Operation::Write,
+    Operation::Show,
+    Operation::Test,
+];
+
+/// The reference's answer as a result.
+fn outcome<T>(answer: Answer, value: T) -> Result<T, Refusal> {
+    if answer.number == 0 {
+        return Ok(value);
+    }
+    Err(Refusal {
+        number: answer.number,
+        file: answer.file,
+        place: answer.place,
+    })
+}
+
+/// The number of a result, 0 for an accepted one.
+fn number<T>(result: &Result<T, Refusal>) -> u8 {
+    result.as_ref().map_or_else(|refusal| refusal.number, |_| 0)
+}
+
+/// Compares one case, and the cases next to it; every call is counted.
+pub fn compare(case: &Case, rng: &mut Rng, tally: &mut Tally) {
+    if call(case, rng, tally) != 0 {
+        return;
+    }
+    match case {
+        Case::Read {
+            file,
+            kinds,
+            numbers,
+        } => {
+            let found = reference::read_bundle(file, &mut vec![0; *kinds], &mut vec![0; *numbers]);
+            let (count, all) = (found.count, found.count * (found.k + 1));
+            for (kinds, numbers) in [
+                Some((count, all)),
+                count.checked_sub(1).map(|fewer| (fewer, all)),
+                all.checked_sub(1).map(|fewer| (count, fewer)),
+            ]
+            .into_iter()
+            .flatten()
+            {
+                let file = file.clone();
+                let next = Case::Read {
+                    file,
+                    kinds,
+                    numbers,
+                };
+                call(&next, rng, tally);
+            }
+        }
+        Case::Write {
+            k, kinds, numbers, ..
+        } => {
+            let needed = 8 + 3 * kinds.len() + 2 * numbers.len();
+            for out in [needed, needed - 1] {
+                let next = Case::Write {
+                    k: *k,
+                    kinds: kinds.clone(),
+                    numbers: numbers.clone(),
+                    out,
+                };
+                call(&next, rng, tally);
+            }
+        }
+        Case::Check { a, b, proof, out } => {
+            let needed = reference::check(a, b, proof, &mut vec![0; *out]).written;
+            for out in [needed, needed - 1] {
+                let next = Case::Check {
+                    a: a.clone(),
+                    b: b.clone(),
+                    proof: proof.clone(),
+                    out,
+                };
+                call(&next, rng, tally);
+            }
+        }
+        // The outputs of show are tried in the call itself; a test has none.
+        Case::Show { .. } | Case::Test { .. } => {}
+    }
+}
+
+/// Calls both sides once, counts it, and gives the reference's number.
+fn call(case: &Case, rng: &mut Rng, tally: &mut Tally) -> u8 {
+    let (number, same) = match case {
+        Case::Read {
+            file,
+            kinds,
+            numbers,
+        } => {
+            let before = (bytes(rng, *kinds), words(rng, *numbers));
+            let (mut lent, mut other) = (before.clone(), before.clone());
+            let verified = dulgaverk::read_bundle_into(file, &mut lent.0, &mut lent.1);
+            let r = reference::read_bundle(file, &mut other.0, &mut other.1);
+            let counts = Counts {
+                constraints: r.count,
+                constants: r.k,
+            };
+            let expected = outcome(r.answer, counts);
+            let kept = expected.is_ok() || lent == before;
+            (
+                number(&expected),
+                verified == expected && lent == other && kept,
+            )
+        }
+        Case::Write {
+            k,
+            kinds,
+            numbers,
+            out,
+        } => {
+            let before = bytes(rng, *out);
+            let (mut lent, mut other) = (before.clone(), before.clone());
+            let verified = dulgaverk::write_bundle_into(*k, kinds, numbers, &mut lent);
+            let r = reference::write_bundle(*k, kinds, numbers, &mut other);
+            let expected = outcome(r.answer, r.written);
+            let kept = expected.is_ok() || lent == before;
+            (
+                number(&expected),
+                verified == expected && lent == other && kept,
+            )
+        }
+        Case::Show { a, b, line } => {
+            // A line number has two bytes at most.
+            let line = u16::try_from(*line).unwrap_or(u16::MAX);
+            let part = reference::show(a, b, usize::from(line));
+            let answer = reference::show_answer(a, b, usize::from(line));
+            let expected = outcome(answer, part.len());
+            let mut same = dulgaverk::show_answer(a, b, line) == outcome(answer, ());
+            same &= dulgaverk::show(a, b, line) == outcome(answer, part.to_vec());
+            // Too short by one, just long enough, longer.
+            for length in [part.len().saturating_sub(1), part.len(), part.len() + 3] {
+                let before = bytes(rng, length);
+                let mut lent = before.clone();
+                let result = dulgaverk::show_into(a, b, line, &mut lent);
+                let room = length >= part.len();
+                let mut after = before;
+                if room {
+                    after[..part.len()].copy_from_slice(part);
+                }
+                let short = Refusal {
+                    number: 21,
+                    file: 4,
+                    place: part.len(),
+                };
+                same &= result == if room { expected } else { Err(short) };
+                same &= lent == after;
+            }
+            (number(&expected), same)
+        }
+        Case::Test { formula, values } => {
+            let r = reference::test_formula(formula, values);
+            let expected = outcome(r.answer, r.holds);
+            (
+                number(&expected),
+                dulgaverk::test_formula(formula, values) == expected,
+            )
+        }
+        Case::Check { a, b, proof, out } => {
+            let before = bytes(rng, *out);
+            let (mut lent, mut other) = (before.clone(), before.clone());
+            let verified = dulgaverk::check_into(a, b, proof, &mut lent);
+            let r = reference::check(a, b, proof, &mut other);
+            let expected = outcome(r.answer, r.written);
+            let kept = expected.is_ok() || lent == before;
+            (
+                number(&expected),
+                verified == expected && lent == other && kept,
+            )
+        }
+    };
+    tally.count(case, number, same);
+    number
+}
+
+fn bytes(rng: &mut Rng, count: usize) -> Vec<u8> {
+    // One random byte, then a step from each to the next: quick, and no two neighbours are alike.
+    let (start, step) = (rng.byte(), rng.byte() | 1);
+    (0..count)
+        .map(|index| start.wrapping_add(step.wrapping_mul(index as u8)))
+        .collect()
+}
+
+fn words(rng: &mut Rng, count: usize) -> Vec<i16> {
+    let (start, step) = (rng.word() as i16, rng.word() as i16 | 1);
+    (0..count)
+        .map(|index| start.wrapping_add(step.wrapping_mul(index as i16)))
+        .collect()
+}

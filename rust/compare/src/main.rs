@@ -1,0 +1,55 @@
+//! Compares the verified operations with the independent checker until so many calls are made.
+
+use compare::{compare, Tally, COMPARED};
+use stages::rng::Rng;
+use stages::table::Size;
+use stages::{stream, Class, CLASSES};
+use std::process::ExitCode;
+
+fn main() -> ExitCode {
+    let numbers: Option<Vec<u64>> = std::env::args()
+        .skip(1)
+        .map(|word| word.parse().ok())
+        .collect();
+    let (seed, calls) = match numbers.as_deref() {
+        Some([]) => (1, 10_000_000),
+        Some([seed]) => (*seed, 10_000_000),
+        Some([seed, calls]) => (*seed, *calls),
+        _ => {
+            eprintln!("usage: compare [SEED [CALLS]]");
+            return ExitCode::FAILURE;
+        }
+    };
+    let start = std::time::Instant::now();
+    let mut rng = Rng::new(seed);
+    let mut tally = Tally::default();
+    let mut streams = Vec::new();
+    for operation in COMPARED {
+        for class in CLASSES {
+            for size in [Size::SMALL, Size::MEDIUM, Size::LARGE] {
+                streams.push((class, stream(operation, class, size, rng.word())));
+            }
+        }
+    }
+    while tally.all_calls() < calls {
+        for (class, cases) in &mut streams {
+            // Limits and edges are dear; most of the rest is random tables and damaged ones.
+            let share = match class {
+                Class::Sound | Class::Damaged => 40,
+                Class::Noise => 20,
+                Class::Directed => 10,
+                Class::Limit | Class::Edge => 4,
+            };
+            for case in cases.take(share) {
+                compare(&case, &mut rng, &mut tally);
+            }
+        }
+    }
+    println!("{tally}");
+    println!("seed {seed}, {} s", start.elapsed().as_secs());
+    if tally.differences() == 0 {
+        ExitCode::SUCCESS
+    } else {
+        ExitCode::FAILURE
+    }
+}

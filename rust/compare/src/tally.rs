@@ -1,0 +1,71 @@
+//! How many calls there were, by operation and answer, and where the two sides differed.
+
+use crate::COMPARED;
+use stages::{Case, Operation};
+use std::fmt;
+
+/// A difference is printed with its case; after so many no more are kept.
+const KEPT: usize = 10;
+
+#[derive(Default)]
+pub struct Tally {
+    /// Calls by operation and by number, 0 for accepted.
+    calls: [[u64; 25]; 5],
+    differences: u64,
+    /// The first ones, as lines that say what was called and what the Rust checker answers.
+    kept: Vec<String>,
+}
+
+impl Tally {
+    pub(crate) fn count(&mut self, case: &Case, number: u8, same: bool) {
+        self.calls[case.operation() as usize][usize::from(number)] += 1;
+        if !same {
+            self.differences += 1;
+            if self.kept.len() < KEPT {
+                self.kept.push(case.print());
+            }
+        }
+    }
+
+    pub fn calls(&self, operation: Operation) -> u64 {
+        self.calls[operation as usize].iter().sum()
+    }
+
+    pub fn all_calls(&self) -> u64 {
+        self.calls.iter().flatten().sum()
+    }
+
+    /// Calls that were answered with a number.
+    pub fn answered(&self, operation: Operation, number: u8) -> u64 {
+        self.calls[operation as usize][usize::from(number)]
+    }
+
+    pub fn differences(&self) -> u64 {
+        self.differences
+    }
+}
+
+impl fmt::Display for Tally {
+    fn fmt(&self, f: &mut fmt::Formatter<'_>) -> fmt::Result {
+        for operation in COMPARED {
+            let calls = &self.calls[operation as usize];
+            writeln!(f, "{operation:?}: {} calls", self.calls(operation))?;
+            write!(f, "    accepted {}; refused", calls[0])?;
+            for (number, count) in calls.iter().enumerate().skip(1) {
+                if *count > 0 {
+                    write!(f, " {number}: {count}")?;
+                }
+            }
+            writeln!(f)?;
+        }
+        for line in &self.kept {
+            writeln!(f, "differs: {line}")?;
+        }
+        write!(
+            f,
+            "{} calls, {} differences",
+            self.all_calls(),
+            self.differences
+        )
+    }
+}

@@ -1,0 +1,83 @@
+//! The comparison in the gate: fixed seeds, every class of stages, every operation.
+
+use compare::{compare, Tally};
+use stages::rng::Rng;
+use stages::table::Size;
+use stages::{stream, Class, Operation, CLASSES};
+
+/// So many cases of each class and size; those at the limits have long files, so a part of that.
+fn share(class: Class, cases: usize) -> usize {
+    match class {
+        Class::Limit | Class::Edge => cases / 8,
+        _ => cases,
+    }
+}
+
+fn agree(operation: Operation, seed: u64, cases: usize, numbers: &[u8]) {
+    let mut tally = Tally::default();
+    let mut rng = Rng::new(seed);
+    for class in CLASSES {
+        for size in [Size::SMALL, Size::MEDIUM, Size::LARGE] {
+            for case in stream(operation, class, size, rng.word()).take(share(class, cases)) {
+                compare(&case, &mut rng, &mut tally);
+            }
+        }
+    }
+    println!("{operation:?}: {} calls", tally.calls(operation));
+    assert_eq!(tally.differences(), 0, "{tally}");
+    // Every answer that the operation can give was met, and often.
+    for number in numbers {
+        assert!(
+            tally.answered(operation, *number) >= 1_000,
+            "{number}: {tally}"
+        );
+    }
+}
+
+/// 20,000 random closed tables of each size, as many damaged ones, and the rest.
+#[test]
+fn checking_proofs() {
+    agree(
+        Operation::Check,
+        2,
+        20_000,
+        &[
+            0, 1, 2, 3, 4, 5, 6, 7, 8, 9, 10, 11, 12, 13, 14, 15, 16, 17, 18, 19, 20, 21,
+        ],
+    );
+}
+
+#[test]
+fn reading_bundles() {
+    agree(
+        Operation::Read,
+        3,
+        100_000,
+        &[0, 1, 2, 3, 4, 5, 6, 7, 8, 21],
+    );
+}
+
+#[test]
+fn writing_bundles() {
+    agree(Operation::Write, 4, 100_000, &[0, 7, 8, 21, 24]);
+}
+
+#[test]
+fn showing_constraints() {
+    agree(
+        Operation::Show,
+        5,
+        100_000,
+        &[0, 1, 2, 3, 4, 5, 6, 7, 8, 9, 10],
+    );
+}
+
+#[test]
+fn testing_formulas() {
+    agree(
+        Operation::Test,
+        6,
+        100_000,
+        &[0, 1, 2, 3, 4, 5, 6, 7, 9, 12, 17, 19, 23],
+    );
+}

@@ -1,0 +1,79 @@
+//! The declared boundary, as in include/dulgaverk.h: a slice is a pointer and a length, in that order.
+
+#[repr(C)]
+pub struct Answer {
+    pub number: u8,
+    pub file: u8,
+    pub place: usize,
+}
+
+#[repr(C)]
+pub struct ReadResult {
+    pub answer: Answer,
+    pub count: usize,
+    pub k: u8,
+}
+
+#[repr(C)]
+pub struct WriteResult {
+    pub answer: Answer,
+    pub count: usize,
+}
+
+#[repr(C)]
+pub struct Tested {
+    pub answer: Answer,
+    pub holds: bool,
+}
+
+extern "C" {
+    pub fn dulgaverk_read(
+        file: *const u8,
+        file_len: usize,
+        kinds: *mut u8,
+        kinds_len: usize,
+        numbers: *mut i16,
+        numbers_len: usize,
+    ) -> ReadResult;
+    pub fn dulgaverk_write(
+        k: u8,
+        kinds: *const u8,
+        kinds_len: usize,
+        numbers: *const i16,
+        numbers_len: usize,
+        out: *mut u8,
+        out_len: usize,
+    ) -> WriteResult;
+    pub fn dulgaverk_show_answer(
+        a: *const u8,
+        a_len: usize,
+        b: *const u8,
+        b_len: usize,
+        line: u16,
+    ) -> Answer;
+    pub fn dulgaverk_show(
+        a: *const u8,
+        a_len: usize,
+        b: *const u8,
+        b_len: usize,
+        line: u16,
+        out: *mut u8,
+        out_len: usize,
+    ) -> usize;
+    pub fn dulgaverk_check(
+        a: *const u8,
+        a_len: usize,
+        b: *const u8,
+        b_len: usize,
+        proof: *const u8,
+        proof_len: usize,
+        out: *mut u8,
+        out_len: usize,
+    ) -> WriteResult;
+    pub fn dulgaverk_test(
+        formula: *const u8,
+        formula_len: usize,
+        values: *const i32,
+        values_len: usize,
+    ) -> Tested;
+}

@@ -1,0 +1,99 @@
+//! Refusals, and what their numbers mean.
+
+use std::error::Error;
+use std::fmt;
+
+/// Why a call was refused.
+///
+/// ```
+/// let refusal = dulgaverk::read_bundle(&[1, 0, 1, 2]).unwrap_err();
+/// assert_eq!((refusal.number, refusal.file, refusal.place), (5, 1, 0));
+/// assert_eq!(refusal.meaning(), "the edition is not 1");
+/// assert_eq!(
+///     refusal.to_string(),
+///     "refused 5 file 1 at 0: the edition is not 1 (A, or a bundle read alone)"
+/// );
+/// ```
+#[derive(Clone, Copy, PartialEq, Eq, Hash, Debug)]
+pub struct Refusal {
+    /// The number of the refusal, 1 to 24.
+    pub number: u8,
+    /// 1 A or a bundle read alone, 2 B, 3 the proof or formula, 4 a lent output or what concerns no file.
+    pub file: u8,
+    /// The byte at which the field at fault starts, if the operation says nothing else.
+    pub place: usize,
+}
+
+impl Refusal {
+    /// What the number means.
+    pub fn meaning(&self) -> &'static str {
+        MEANINGS
+            .iter()
+            .find(|(number, _)| *number == self.number)
+            .map_or("no refusal of this edition", |(_, meaning)| meaning)
+    }
+
+    /// Which file the refusal is about.
+    pub fn file_name(&self) -> &'static str {
+        match self.file {
+            1 => "A, or a bundle read alone",
+            2 => "B",
+            3 => "the proof or formula",
+            _ => "a lent output, or no file",
+        }
+    }
+}
+
+impl fmt::Display for Refusal {
+    fn fmt(&self, f: &mut fmt::Formatter<'_>) -> fmt::Result {
+        let Refusal {
+            number,
+            file,
+            place,
+        } = self;
+        let (meaning, name) = (self.meaning(), self.file_name());
+        write!(
+            f,
+            "refused {number} file {file} at {place}: {meaning} ({name})"
+        )
+    }
+}
+
+impl Error for Refusal {}
+
+/// Every refusal of edition 1, by number. (include/dulgaverk.h and docs/FORMAT.md have the same words.)
+pub const MEANINGS: [(u8, &str); 24] = [
+    (1, "a file is longer than its limit"),
+    (2, "bytes are no whole field, or a file ends too early"),
+    (3, "a tag below 0x80 that this kind of file does not have"),
+    (4, "a known tag where it may not stand"),
+    (5, "the edition is not 1"),
+    (6, "a field of the wrong length"),
+    (7, "the number of constants, or of values, is not 1 to 16"),
+    (8, "more than 32 constraints"),
+    (9, "the number of constants is not the one given before"),
+    (10, "a line that is not there"),
+    (11, "a line of the wrong kind"),
+    (12, "a multiplier of 0, or a stride below 2"),
+    (13, "a number of a new line is out of range"),
+    (14, "a claim that is not the new line"),
+    (15, "a close whose condition is not met"),
+    (16, "a 129th line on a branch"),
+    (
+        17,
+        "a 33rd open strengthen, or in a formula a 65th level of and/or",
+    ),
+    (18, "a 1,025th row"),
+    (19, "a known field after the end of the proof or formula"),
+    (20, "branches are still open at the end of the proof"),
+    (21, "a lent output is too short"),
+    (
+        22,
+        "a close whose formula would name a constant that A or B lacks",
+    ),
+    (23, "a register value outside -1,000,000 to 1,000,000"),
+    (
+        24,
+        "a kind that is not 0 or 1, or the wrong count of numbers",
+    ),
+];

@@ -1,0 +1,233 @@
+/* Worked stages through the C boundary. Prints each difference, and exits with their number (at most 100). */
+#include "dulgaverk.h"
+
+#include <stdio.h>
+#include <string.h>
+
+/* The layouts that the library was compiled for. */
+_Static_assert(sizeof(size_t) == 8, "a place has 8 bytes");
+_Static_assert(sizeof(bool) == 1, "a truth value has 1 byte");
+_Static_assert(sizeof(dulgaverk_answer) == 16 && offsetof(dulgaverk_answer, number) == 0 &&
+                   offsetof(dulgaverk_answer, file) == 1 && offsetof(dulgaverk_answer, place) == 8,
+               "an answer");
+_Static_assert(sizeof(dulgaverk_read_result) == 32 && offsetof(dulgaverk_read_result, answer) == 0 &&
+                   offsetof(dulgaverk_read_result, count) == 16 && offsetof(dulgaverk_read_result, k) == 24,
+               "what reading gives");
+_Static_assert(sizeof(dulgaverk_write_result) == 24 && offsetof(dulgaverk_write_result, answer) == 0 &&
+                   offsetof(dulgaverk_write_result, count) == 16,
+               "what writing gives");
+_Static_assert(sizeof(dulgaverk_tested) == 24 && offsetof(dulgaverk_tested, answer) == 0 &&
+                   offsetof(dulgaverk_tested, holds) == 16,
+               "what testing gives");
+
+static int differences = 0;
+
+static void expect(bool right, const char *what, int line) {
+    if (!right) {
+        printf("line %d: %s\n", line, what);
+        differences += 1;
+    }
+}
+#define EXPECT(condition) expect((condition), #condition, __LINE__)
+
+static bool is(dulgaverk_answer answer, uint8_t number, uint8_t file, size_t place) {
+    return answer.number == number && answer.file == file && answer.place == place;
+}
+
+/* Whether all bytes of a buffer are as `fill` left them. */
+static bool all(const void *buffer, size_t length, uint8_t byte) {
+    const uint8_t *bytes = buffer;
+    for (size_t i = 0; i < length; i += 1) {
+        if (bytes[i] != byte) {
+            return false;
+        }
+    }
+    return true;
+}
+#define FILL(buffer) memset(buffer, 0xA5, sizeof(buffer))
+#define UNCHANGED(buffer) EXPECT(all(buffer, sizeof(buffer), 0xA5))
+
+/* Stage 1: A is y-2x = 0, B is -y+2z+1 = 0, over x, y, z; its formula is "2 divides y". */
+static const uint8_t a[] = {0x01, 0, 1, 1, 0x02, 0, 1, 3, 0x04, 0, 8, 0xFF, 0xFE, 0, 1, 0, 0, 0, 0};
+static const uint8_t b[] = {0x01, 0, 1, 1, 0x02, 0, 1, 3, 0x04, 0, 8, 0, 0, 0xFF, 0xFF, 0, 2, 0, 1};
+static const uint8_t formula[] = {0x01, 0, 1, 1, 0x02, 0, 1, 3, 0x35, 0, 20, 0, 0, 0, 2, 0,
+                                  0,    0, 0, 0, 0,    0, 1, 0, 0,    0, 0,  0, 0, 0, 0};
+
+static void reading(void) {
+    uint8_t kinds[3];
+    int16_t numbers[6];
+    FILL(kinds);
+    FILL(numbers);
+    /* Refused by 1, 2, 3, 5, 21: nothing changes. */
+    static const uint8_t long_file[DULGAVERK_BUNDLE + 1];
+    dulgaverk_read_result r = dulgaverk_read(long_file, sizeof long_file, kinds, 3, numbers, 6);
+    EXPECT(is(r.answer, 1, 1, 0) && r.count == 0 && r.k == 0);
+    r = dulgaverk_read(a, sizeof a - 1, kinds, 3, numbers, 6);
+    EXPECT(is(r.answer, 2, 1, 8) && r.count == 0 && r.k == 0);
+    r = dulgaverk_read(NULL, 0, kinds, 3, numbers, 6);
+    EXPECT(is(r.answer, 2, 1, 0));
+    uint8_t other[sizeof a];
+    memcpy(other, a, sizeof a);
+    other[8] = 0x06;
+    r = dulgaverk_read(other, sizeof other, kinds, 3, numbers, 6);
+    EXPECT(is(r.answer, 3, 1, 8));
+    memcpy(other, a, sizeof a);
+    other[3] = 2;
+    r = dulgaverk_read(other, sizeof other, kinds, 3, numbers, 6);
+    EXPECT(is(r.answer, 5, 1, 0));
+    r = dulgaverk_read(a, sizeof a, kinds, 3, numbers, 3);
+    EXPECT(is(r.answer, 21, 4, 1) && r.count == 0 && r.k == 0);
+    r = dulgaverk_read(a, sizeof a, NULL, 0, numbers, 6);
+    EXPECT(is(r.answer, 21, 4, 1));
+    UNCHANGED(kinds);
+    UNCHANGED(numbers);
+    /* Accepted: what is behind the used elements stays. */
+    r = dulgaverk_read(a, sizeof a, kinds, 3, numbers, 6);
+    EXPECT(is(r.answer, 0, 0, 0) && r.count == 1 && r.k == 3);
+    EXPECT(kinds[0] == 1 && all(kinds + 1, 2, 0xA5));
+    EXPECT(numbers[0] == -2 && numbers[1] == 1 && numbers[2] == 0 && numbers[3] == 0);
+    EXPECT(all(numbers + 4, 2 * sizeof numbers[0], 0xA5));
+    r = dulgaverk_read(a, 8, NULL, 0, NULL, 0);
+    EXPECT(is(r.answer, 0, 0, 0) && r.count == 0 && r.k == 3);
+}
+
+static void writing(void) {
+    static const uint8_t kinds[33] = {1};
+    static const int16_t numbers[] = {-2, 1, 0, 0};
+    uint8_t out[sizeof a + 4];
+    FILL(out);
+    dulgaverk_write_result r = dulgaverk_write(17, kinds, 1, numbers, 4, out, sizeof out);
+    EXPECT(is(r.answer, 7, 4, 0) && r.count == 0);
+    r = dulgaverk_write(0, NULL, 0, NULL, 0, out, sizeof out);
+    EXPECT(is(r.answer, 7, 4, 0));
+    r = dulgaverk_write(3, kinds, 33, numbers, 4, out, sizeof out);
+    EXPECT(is(r.answer, 8, 4, 0));
+    static const uint8_t wrong[] = {0, 2};
+    r = dulgaverk_write(1, wrong, 2, numbers, 4, out, sizeof out);
+    EXPECT(is(r.answer, 24, 4, 1));
+    r = dulgaverk_write(3, kinds, 1, numbers, 3, out, sizeof out);
+    EXPECT(is(r.answer, 24, 4, 1));
+    r = dulgaverk_write(3, kinds, 1, numbers, 4, out, sizeof a - 1);
+    EXPECT(is(r.answer, 21, 4, sizeof a) && r.count == 0);
+    UNCHANGED(out);
+    r = dulgaverk_write(3, kinds, 1, numbers, 4, out, sizeof out);
+    EXPECT(is(r.answer, 0, 0, 0) && r.count == sizeof a);
+    EXPECT(memcmp(out, a, sizeof a) == 0 && all(out + sizeof a, 4, 0xA5));
+}
+
+/* Stage 10: K 16 with 32 constraints is written and read back; the 33rd is refused. */
+static void largest(void) {
+    uint8_t kinds[32], kinds_back[32], file[DULGAVERK_WRITTEN_BUNDLE + DULGAVERK_FIELD];
+    int16_t numbers[DULGAVERK_NUMBERS], numbers_back[DULGAVERK_NUMBERS];
+    for (int i = 0; i < 32; i += 1) {
+        kinds[i] = (uint8_t)(i % 2);
+    }
+    for (int i = 0; i < DULGAVERK_NUMBERS; i += 1) {
+        numbers[i] = (int16_t)(i * 120 - 32640);
+    }
+    dulgaverk_write_result w =
+        dulgaverk_write(16, kinds, 32, numbers, DULGAVERK_NUMBERS, file, DULGAVERK_WRITTEN_BUNDLE);
+    EXPECT(is(w.answer, 0, 0, 0) && w.count == DULGAVERK_WRITTEN_BUNDLE);
+    dulgaverk_read_result r = dulgaverk_read(file, w.count, kinds_back, 32, numbers_back, DULGAVERK_NUMBERS);
+    EXPECT(is(r.answer, 0, 0, 0) && r.count == 32 && r.k == 16);
+    EXPECT(memcmp(kinds, kinds_back, sizeof kinds) == 0 && memcmp(numbers, numbers_back, sizeof numbers) == 0);
+    memcpy(file + DULGAVERK_WRITTEN_BUNDLE, file + 8, DULGAVERK_FIELD);
+    r = dulgaverk_read(file, sizeof file, kinds_back, 32, numbers_back, DULGAVERK_NUMBERS);
+    EXPECT(is(r.answer, 8, 1, DULGAVERK_WRITTEN_BUNDLE));
+}
+
+static void showing(void) {
+    uint8_t out[13];
+    FILL(out);
+    EXPECT(is(dulgaverk_show_answer(a, sizeof a, b, sizeof b, 2), 10, 1, 0));
+    EXPECT(dulgaverk_show(a, sizeof a, b, sizeof b, 2, out, sizeof out) == 0);
+    EXPECT(is(dulgaverk_show_answer(a, sizeof a, b, 8, 65535), 10, 1, 0));
+    EXPECT(is(dulgaverk_show_answer(a, sizeof a, b, 7, 0), 2, 2, 4));
+    EXPECT(dulgaverk_show(a, sizeof a, b, 7, 0, out, sizeof out) == 0);
+    EXPECT(is(dulgaverk_show_answer(NULL, 0, NULL, 0, 0), 2, 1, 0));
+    EXPECT(dulgaverk_show(NULL, 0, NULL, 0, 0, out, sizeof out) == 0);
+    /* One byte too short: the length needed, and nothing copied. */
+    EXPECT(dulgaverk_show(a, sizeof a, b, sizeof b, 0, out, 10) == 11);
+    EXPECT(dulgaverk_show(a, sizeof a, b, sizeof b, 0, NULL, 0) == 11);
+    UNCHANGED(out);
+    EXPECT(is(dulgaverk_show_answer(a, sizeof a, b, sizeof b, 0), 0, 0, 0));
+    EXPECT(dulgaverk_show(a, sizeof a, b, sizeof b, 0, out, 11) == 11);
+    EXPECT(memcmp(out, a + 8, 11) == 0 && all(out + 11, 2, 0xA5));
+    EXPECT(dulgaverk_show(a, sizeof a, b, sizeof b, 1, out, sizeof out) == 11);
+    EXPECT(memcmp(out, b + 8, 11) == 0 && all(out + 11, 2, 0xA5));
+}
+
+static void checking(void) {
+    static const uint8_t proof[] = {0x01, 0, 1, 1, 0x02, 0, 1, 3, 0x11, 0, 4, 1, 0, 0, 1, 0x15, 0, 3, 2, 0, 2};
+    uint8_t out[sizeof formula + 3], other[sizeof proof];
+    FILL(out);
+    /* Stage 2, the same with stride 3: 15. */
+    memcpy(other, proof, sizeof proof);
+    other[20] = 3;
+    dulgaverk_write_result r =
+        dulgaverk_check(a, sizeof a, b, sizeof b, other, sizeof other, out, sizeof out);
+    EXPECT(is(r.answer, 15, 3, 15) && r.count == 0);
+    /* Stage 7: 20 at place 8. */
+    r = dulgaverk_check(a, 8, b, 8, proof, 8, out, sizeof out);
+    EXPECT(is(r.answer, 20, 3, 8) && r.count == 0);
+    /* Nothing at all, and too much. */
+    r = dulgaverk_check(NULL, 0, NULL, 0, NULL, 0, out, sizeof out);
+    EXPECT(is(r.answer, 2, 1, 0));
+    r = dulgaverk_check(a, sizeof a, NULL, 0, NULL, 0, out, sizeof out);
+    EXPECT(is(r.answer, 2, 2, 0));
+    r = dulgaverk_check(a, sizeof a, b, sizeof b, NULL, 0, out, sizeof out);
+    EXPECT(is(r.answer, 2, 3, 0));
+    static const uint8_t long_file[DULGAVERK_PROOF + 1];
+    r = dulgaverk_check(a, sizeof a, b, sizeof b, long_file, sizeof long_file, out, sizeof out);
+    EXPECT(is(r.answer, 1, 3, 0));
+    r = dulgaverk_check(a, sizeof a, long_file, DULGAVERK_BUNDLE + 1, proof, sizeof proof, out, sizeof out);
+    EXPECT(is(r.answer, 1, 2, 0));
+    /* One byte too short. */
+    r = dulgaverk_check(a, sizeof a, b, sizeof b, proof, sizeof proof, out, sizeof formula - 1);
+    EXPECT(is(r.answer, 21, 4, sizeof formula) && r.count == 0);
+    r = dulgaverk_check(a, sizeof a, b, sizeof b, proof, sizeof proof, NULL, 0);
+    EXPECT(is(r.answer, 21, 4, sizeof formula));
+    UNCHANGED(out);
+    /* Stage 1. */
+    r = dulgaverk_check(a, sizeof a, b, sizeof b, proof, sizeof proof, out, sizeof out);
+    EXPECT(is(r.answer, 0, 0, 0) && r.count == sizeof formula);
+    EXPECT(memcmp(out, formula, sizeof formula) == 0 && all(out + sizeof formula, 3, 0xA5));
+    /* Stage 8: a note after 0x02 changes nothing. */
+    static const uint8_t noted[] = {0x01, 0,    1, 1, 0x02, 0, 1, 3, 0x90, 0, 1, 7,
+                                    0x11, 0,    4, 1, 0,    0, 1, 0x15, 0, 3, 2, 0, 2};
+    FILL(out);
+    r = dulgaverk_check(a, sizeof a, b, sizeof b, noted, sizeof noted, out, sizeof formula);
+    EXPECT(is(r.answer, 0, 0, 0) && r.count == sizeof formula);
+    EXPECT(memcmp(out, formula, sizeof formula) == 0 && all(out + sizeof formula, 3, 0xA5));
+}
+
+static void testing(void) {
+    static const int32_t even[] = {1, 4, -7}, odd[] = {1, -3, 0}, outside[] = {1, 4, -1000001};
+    dulgaverk_tested t = dulgaverk_test(formula, sizeof formula, even, 3);
+    EXPECT(is(t.answer, 0, 0, 0) && t.holds);
+    t = dulgaverk_test(formula, sizeof formula, odd, 3);
+    EXPECT(is(t.answer, 0, 0, 0) && !t.holds);
+    t = dulgaverk_test(formula, sizeof formula, outside, 3);
+    EXPECT(is(t.answer, 23, 4, 2) && !t.holds);
+    t = dulgaverk_test(formula, sizeof formula, even, 2);
+    EXPECT(is(t.answer, 9, 3, 4) && !t.holds);
+    t = dulgaverk_test(formula, sizeof formula, NULL, 0);
+    EXPECT(is(t.answer, 7, 4, 0) && !t.holds);
+    t = dulgaverk_test(formula, 8, even, 3);
+    EXPECT(is(t.answer, 2, 3, 8) && !t.holds);
+    t = dulgaverk_test(NULL, 0, even, 3);
+    EXPECT(is(t.answer, 2, 3, 0) && !t.holds);
+    static const uint8_t long_file[DULGAVERK_PROOF + 1];
+    t = dulgaverk_test(long_file, sizeof long_file, even, 3);
+    EXPECT(is(t.answer, 1, 3, 0) && !t.holds);
+}
+
+int main(void) {
+    reading();
+    writing();
+    largest();
+    showing();
+    checking();
+    testing();
+    return differences < 100 ? differences : 100;
+}

@@ -1,0 +1,182 @@
+//! The worked stages of the paper that are checks, through the verified operation.
+
+use dulgaverk::{check, check_into, Refusal};
+
+type Bytes = Vec<u8>;
+
+fn field(tag: u8, contents: &[u8]) -> Bytes {
+    let length = (contents.len() as u16).to_be_bytes();
+    [&[tag, length[0], length[1]], contents].concat()
+}
+
+fn file(k: u8, fields: &[Bytes]) -> Bytes {
+    [&[1, 0, 1, 1, 2, 0, 1, k], fields.concat().as_slice()].concat()
+}
+
+fn shorts(numbers: &[i16]) -> Bytes {
+    numbers.iter().flat_map(|n| n.to_be_bytes()).collect()
+}
+
+fn longs(numbers: &[i32]) -> Bytes {
+    numbers.iter().flat_map(|n| n.to_be_bytes()).collect()
+}
+
+fn at_most(numbers: &[i16]) -> Bytes {
+    field(0x03, &shorts(numbers))
+}
+
+fn equals(numbers: &[i16]) -> Bytes {
+    field(0x04, &shorts(numbers))
+}
+
+fn refused<T>(number: u8, file: u8, place: usize) -> Result<T, Refusal> {
+    Err(Refusal {
+        number,
+        file,
+        place,
+    })
+}
+
+/// A, B and the proof of stage 1, with a field put in after the proof's 0x02.
+fn stage_1(put_in: &[u8], g: u8) -> [Bytes; 3] {
+    let rows = [
+        put_in.to_vec(),
+        field(0x11, &[1, 0, 0, 1]),
+        field(0x15, &[2, 0, g]),
+    ];
+    [
+        file(3, &[equals(&[-2, 1, 0, 0])]),
+        file(3, &[equals(&[0, -1, 2, 1])]),
+        file(3, &rows),
+    ]
+}
+
+/// "2 divides y".
+fn formula_1() -> Bytes {
+    file(3, &[field(0x35, &longs(&[2, 0, 1, 0, 0]))])
+}
+
+fn of([a, b, proof]: [Bytes; 3]) -> Result<Bytes, Refusal> {
+    check(&a, &b, &proof)
+}
+
+#[test]
+fn stages_1_and_2() {
+    assert_eq!(of(stage_1(&[], 2)), Ok(formula_1()));
+    assert_eq!(of(stage_1(&[], 3)), refused(15, 3, 15));
+}
+
+#[test]
+fn stages_3_and_4() {
+    let rows = file(1, &[field(0x10, &[0, 1, 0, 1, 0, 1]), field(0x14, &[2])]);
+    let a = file(1, &[at_most(&[1, 0])]);
+    let b = file(1, &[at_most(&[-1, 1])]);
+    let expected = file(1, &[field(0x33, &longs(&[1, 0]))]);
+    assert_eq!(check(&a, &b, &rows), Ok(expected));
+    let b = file(1, &[at_most(&[-1, 0])]);
+    assert_eq!(check(&a, &b, &rows), refused(15, 3, 17));
+}
+
+#[test]
+fn stage_5() {
+    let outer = [field(0x10, &[2, 1, 0, 1, 0, 1]), field(0x14, &[3])].concat();
+    let rows = [
+        field(0x13, &[0]),
+        outer.clone(),
+        field(0x15, &[2, 0, 2]),
+        outer,
+    ];
+    let expected = file(
+        1,
+        &[
+            field(0x31, &[]),
+            field(0x33, &longs(&[2, 0])),
+            field(0x32, &[]),
+            field(0x35, &longs(&[2, 2, -1])),
+            field(0x33, &longs(&[2, -1])),
+        ],
+    );
+    let (a, b) = (file(1, &[at_most(&[2, -1])]), file(1, &[at_most(&[-2, 1])]));
+    assert_eq!(check(&a, &b, &file(1, &rows)), Ok(expected));
+}
+
+#[test]
+fn stages_6_and_7() {
+    let (one, none) = (file(1, &[at_most(&[0, 1])]), file(1, &[]));
+    let rows = file(1, &[field(0x14, &[0])]);
+    let expected = |d: i32| file(1, &[field(0x33, &longs(&[0, d]))]);
+    assert_eq!(check(&one, &none, &rows), Ok(expected(1)));
+    assert_eq!(check(&none, &one, &rows), Ok(expected(0)));
+    assert_eq!(check(&none, &none, &none), refused(20, 3, 8));
+}
+
+#[test]
+fn stage_8() {
+    assert_eq!(of(stage_1(&field(0x80, b"note"), 2)), Ok(formula_1()));
+    assert_eq!(of(stage_1(&field(0x06, b"note"), 2)), refused(3, 3, 8));
+    let [mut a, b, proof] = stage_1(&[], 2);
+    a[3] = 2;
+    assert_eq!(check(&a, &b, &proof), refused(5, 1, 0));
+}
+
+/// -32,768 times 65,535 stands, with its claim; twice that does not.
+#[test]
+fn stage_9() {
+    let a = file(1, &[at_most(&[-32_768, 0])]);
+    let most = [-2_147_450_880, 0, -2_147_450_880, 0];
+    let mut rows = vec![field(0x12, &[0, 0xFF, 0xFF]), field(0x20, &longs(&most))];
+    let length = file(1, &rows).len();
+    assert_eq!(
+        check(&a, &file(1, &[]), &file(1, &rows)),
+        refused(20, 3, length)
+    );
+    rows.push(field(0x12, &[1, 0, 2]));
+    assert_eq!(
+        check(&a, &file(1, &[]), &file(1, &rows)),
+        refused(13, 3, length)
+    );
+}
+
+/// K 16 with 32 constraints in A and in B; K 17; a 33rd constraint in B.
+#[test]
+fn stage_10() {
+    let mut one = vec![0; 17];
+    one[16] = 1;
+    let full = file(16, &vec![at_most(&one); 32]);
+    let expected = |d: i32| {
+        let mut form = vec![0; 17];
+        form[16] = d;
+        file(16, &[field(0x33, &longs(&form))])
+    };
+    for (line, d) in [(0, 1), (31, 1), (32, 0), (63, 0)] {
+        let proof = file(16, &[field(0x14, &[line])]);
+        assert_eq!(check(&full, &full, &proof), Ok(expected(d)));
+    }
+    let proof = file(16, &[field(0x14, &[64])]);
+    assert_eq!(check(&full, &full, &proof), refused(10, 3, 8));
+    let more = [full.clone(), at_most(&one)].concat();
+    assert_eq!(check(&full, &more, &proof), refused(8, 2, full.len()));
+    let mut other = full.clone();
+    other[7] = 17;
+    assert_eq!(check(&full, &other, &proof), refused(7, 2, 4));
+    other[7] = 15;
+    assert_eq!(check(&full, &other, &proof), refused(9, 2, 4));
+}
+
+/// The output too short by one, just long enough, and longer.
+#[test]
+fn outputs() {
+    let [a, b, proof] = stage_1(&[], 2);
+    let expected = formula_1();
+    let mut out = vec![9; 40];
+    assert_eq!(
+        check_into(&a, &b, &proof, &mut out[..30]),
+        refused(21, 4, 31)
+    );
+    assert_eq!(out, [9; 40]);
+    assert_eq!(check_into(&a, &b, &proof, &mut out[..31]), Ok(31));
+    assert_eq!((&out[..31], &out[31..]), (&expected[..], &[9; 9][..]));
+    let mut out = vec![9; 40];
+    assert_eq!(check_into(&a, &b, &proof, &mut out), Ok(31));
+    assert_eq!((&out[..31], &out[31..]), (&expected[..], &[9; 9][..]));
+}

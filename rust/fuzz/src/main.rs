@@ -1,0 +1,27 @@
+//! Writes inputs to start from, a file each: stages of every operation and class.
+//!
+//! usage: fuzz FOLDER
+
+use stages::table::Size;
+use stages::{stream, CLASSES, OPERATIONS};
+use std::path::Path;
+
+fn main() -> std::io::Result<()> {
+    let Some(folder) = std::env::args().nth(1) else {
+        eprintln!("usage: fuzz FOLDER");
+        std::process::exit(2);
+    };
+    std::fs::create_dir_all(&folder)?;
+    for operation in OPERATIONS {
+        for class in CLASSES {
+            let cases = stream(operation, class, Size::SMALL, 1)
+                .take(100)
+                .filter(|case| case.longest_file() < 2_000);
+            for (index, case) in cases.enumerate() {
+                let name = format!("{operation:?}-{class:?}-{index}");
+                std::fs::write(Path::new(&folder).join(name), fuzz::encode(&case))?;
+            }
+        }
+    }
+    Ok(())
+}
