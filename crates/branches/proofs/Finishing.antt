@@ -1,7 +1,7 @@
 -- The branches of a strengthen: what one leaves for the next, and their formulas as one. Assumes nothing.
 use mathlib.Core.Path.{_≡_, refl, sym, ap, subst, _∙_}
 use mathlib.Core.Bool.{Bool}
-use mathlib.Core.List.{List, [], _∷_, _++_}
+use mathlib.Core.List.{List, [], _++_}
 use Prim.Native.Nat.{ℕ, suc, _+_, _*_, _-_, _≤_, _<_}
 use native.Mathlib.Omega.{arith}
 use lib.Dec.{T}
@@ -12,7 +12,7 @@ use Rattle.forms.specs.Edition.{edition1}
 use Rattle.forms.specs.Forms.{Line, Formula, _and_, _or_}
 use Rattle.calculus.specs.Rules as rules
 use Rattle.calculus.specs.Rules.{_▷_, inRange}
-use Rattle.fields.specs.Answers.{Result, refused, accepted, _>>=_}
+use Rattle.fields.specs.Answers.{Result, refused, _>>=_}
 use Rattle.fields.specs.Fields.{Fields, fieldBytes}
 use Rattle.fields.specs.Places.{fieldsAt}
 use Rattle.fields.proofs.Stores.{sets-append}
@@ -27,8 +27,9 @@ use Rattle.rows.specs.declared.tally.Tally.{Tally}
 use Rattle.rows.specs.declared.derive.Derived.{Derived}
 use Rattle.rows.specs.declared.derive.Derived.the-variants as derived
 use Rattle.branches.specs.Branches.{Comes}
-use Rattle.branches.specs.Formulas.{Heads}
-use Rattle.branches.specs.Branching.{joined, firstLine, secondLine, thirdLine, lastTwo, three, Longer, Opened, Splits, resumedBy, Started, Closes, BranchedBy, Checks, Branches}
+use Rattle.closes.specs.Formulas.{Heads}
+use Rattle.closes.specs.Ends.{joined, firstLine, secondLine, thirdLine, lastTwo, three, Longer, Opened, Splits}
+use Rattle.branches.specs.Branching.{resumedBy, Started, Closes, BranchedBy, Checks, Branches}
 use Rattle.branches.specs.declared.branch.Branched.{Branched}
 use Rattle.branches.specs.declared.branch.Branched.the-variants as branched
 use Rattle.branches.proofs.Going.{kept-trans, ready-kept}

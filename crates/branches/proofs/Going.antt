@@ -1,28 +1,26 @@
 -- The entries of a branch, one after the other: what is left gives the same result. Assumes nothing.
-use mathlib.Core.Path.{_≡_, refl, sym, ap, _∙_}
+use mathlib.Core.Path.{_≡_, refl, _∙_}
 use mathlib.Core.Bool.{Bool, true, false}
 use mathlib.Core.List.{List}
-use mathlib.Core.Option.{Option, none, some}
-use Prim.Native.Nat.{ℕ, suc, _+_, _-_, _*_, _≤_, _<_}
+use mathlib.Core.Option.{Option}
+use Prim.Native.Nat.{ℕ, _+_, _-_, _≤_, _<_}
 use native.Mathlib.Nat.{mul-le-mul-right}
 use native.Mathlib.Omega.{arith}
-use lib.ListN.{length, take, drop}
-use lib.IntN.{ℤ, natAbs}
+use lib.ListN.{take, drop}
+use lib.IntN.{ℤ}
 use Rattle.forms.specs.Edition.{edition1}
 use Rattle.forms.specs.Forms.{Line}
 use Rattle.calculus.specs.Rules as rules
-use Rattle.fields.specs.declared.Next as fields
-use Rattle.fields.specs.Answers.{Result, refused}
-use Rattle.fields.specs.Fields.{Fields, ends, cut}
-use Rattle.fields.specs.Places.{fieldsAt, nextOf}
+use Rattle.fields.specs.Answers.{Result}
+use Rattle.fields.specs.Fields.{ends, cut}
+use Rattle.fields.specs.Places.{fieldsAt}
 use Rattle.fields.proofs.Places.{Starts}
 use Rattle.lines.specs.Parts.{agree-trans, agree-le, agree-sym}
 use Rattle.lines.specs.Lines.{lines-same, bounded-same}
 use Rattle.rows.proofs.Deriving.{kept-refl}
-use Rattle.lines.specs.Buffer.{size, lineIn, linesIn}
-use Rattle.proof.specs.Check.{Closing, Checker, refusal, checkRow, checkEntries}
-use Rattle.rows.specs.Entries.{Multiplies}
-use Rattle.rows.specs.Rows.{Ready, Kept, moreLines}
+use Rattle.lines.specs.Buffer.{size, linesIn}
+use Rattle.proof.specs.Check.{Closing, Checker, checkEntries}
+use Rattle.rows.specs.Rows.{Ready, Kept}
 use Rattle.rows.specs.Steps.{Same, rowLeft, moreRows, lastMade, fieldChecked, Steps}
 use Rattle.branches.specs.Branches.{entriesFrom, Comes, Stopped}
 use Rattle.bundle.specs.declared.Line as tally

@@ -1,9 +1,5 @@
 -- Laws that the proofs of the functions cite: each way through a function as a lemma over plain values.
 pub mod Going
-pub mod Closes
-pub mod Strides
-pub mod Scratch
-pub mod Splitting
 pub mod Staging
 pub mod Starting
 pub mod Finishing

@@ -1,38 +1,32 @@
 -- The check of a branch as plain mathematics: each way through it is a lemma over plain values. Assumes nothing.
 use mathlib.Core.Path.{_≡_, refl, sym, ap, _∙_}
 use mathlib.Core.Bool.{Bool}
-use mathlib.Core.List.{List, [], _∷_, _++_}
-use mathlib.Core.Option.{Option, none, some}
-use Prim.Native.Nat.{ℕ, zero, suc, _+_, _*_, _-_, _≤_, _<_}
-use native.Mathlib.Numerals.{add-one}
+use mathlib.Core.List.{List}
+use mathlib.Core.Option.{none}
+use Prim.Native.Nat.{ℕ, zero, suc, _-_, _≤_}
 use native.Mathlib.Omega.{arith}
 use lib.IntN.{ℤ, natAbs}
-use lib.ListN.{length, length-append}
-use lib.Seq.{sets}
 use Rattle.forms.specs.Edition.{edition1}
 use Rattle.forms.specs.Forms.{Line, Formula}
 use Rattle.calculus.specs.Rules as rules
-use Rattle.fields.specs.Answers.{Result, refused, accepted, _>>=_}
-use Rattle.fields.specs.Fields.{Fields, fieldBytes}
+use Rattle.fields.specs.Answers.{Result, accepted, _>>=_}
+use Rattle.fields.specs.Fields.{Fields}
 use Rattle.fields.specs.Places.{fieldsAt}
-use Rattle.fields.proofs.Stores.{sets-append}
-use Rattle.formula.specs.Formula.{encode}
-use Rattle.fields.proofs.Framing.{length-fieldBytes as field-size}
 use Rattle.lines.specs.Buffer.{linesIn}
 use Rattle.lines.specs.Occurrence.{told}
 use Rattle.proof.specs.Rows.{byNumber, byStride}
-use Rattle.proof.specs.Check.{Closing, refusal, checkRow, checkEntries, checkBranch}
+use Rattle.proof.specs.Check.{refusal, checkRow, checkEntries, checkBranch}
 use Rattle.rows.specs.Entries.{Multiplies}
-use Rattle.rows.specs.Rows.{Ready, Kept}
+use Rattle.rows.specs.Rows.{Kept}
 use Rattle.branches.specs.Branches.{Comes, Stopped}
-use Rattle.branches.specs.Formulas.{Heads, Puts}
-use Rattle.branches.specs.Branching.{Wrote, EndedBy, below, strengthened, Splits, returnedTo, closedBy, Started, Closes, Branches}
+use Rattle.closes.specs.Ends.{EndedBy, below, strengthened, Splits}
+use Rattle.branches.specs.Branching.{returnedTo, closedBy, Started, Branches}
 use Rattle.bundle.specs.declared.Line as tally
 use Rattle.rows.specs.declared.tally.Tally.{Tally}
 use Rattle.rows.specs.declared.derive.Derived.{Derived}
 use Rattle.rows.specs.declared.derive.Derived.the-variants as derived
-use Rattle.branches.specs.declared.ends.Ended.{Ended}
-use Rattle.branches.specs.declared.ends.Ended.the-variants as ended
+use Rattle.closes.specs.declared.ends.Ended.{Ended}
+use Rattle.closes.specs.declared.ends.Ended.the-variants as ended
 use Rattle.branches.specs.declared.branch.Stop.{Stop}
 use Rattle.branches.specs.declared.branch.Branched.{Branched}
 use Rattle.branches.specs.declared.branch.Branched.the-variants as branched

@@ -1,24 +1,24 @@
 -- The lines that the second and the third branch of a strengthen start with, in buffers that kept the lines before. Assumes nothing.
-use mathlib.Core.Path.{_≡_, refl, sym, ap, ap₂, subst, _∙_}
+use mathlib.Core.Path.{_≡_, refl, _∙_}
 use mathlib.Core.List.{List}
-use Prim.Native.Nat.{ℕ, suc, _+_, _*_, _<_}
+use Prim.Native.Nat.{ℕ, _<_}
 use native.Mathlib.Omega.{arith}
 use lib.Dec.{T}
 use lib.IntN.{ℤ}
-use lib.ListN.{length, getD, set, length-set}
+use lib.ListN.{getD, set, length-set}
 use Rattle.forms.specs.Forms.{≤0, =0, Line, line, _plus_}
-use Rattle.calculus.specs.Rules.{_▷_, inRange}
+use Rattle.calculus.specs.Rules.{inRange}
 use Rattle.lines.specs.Parts.{agree-set, agree-sym}
-use Rattle.lines.specs.Buffer.{size, kindOf, lineIn, linesIn, LineCopy, copiedLine, strengthenedT}
+use Rattle.lines.specs.Buffer.{kindOf, lineIn, linesIn, LineCopy, copiedLine, strengthenedT}
 use Rattle.lines.specs.Lines.{line-ext, line-same, lines-same, before}
 use Rattle.lines.specs.Range.{bounded-line}
 use Rattle.lines.specs.Branch.{kind-stored, inequality-byte, equality-byte}
 use Rattle.lines.specs.Strengthen.{length-copied, length-t, copied-keeps, t-keeps, copied-line, t-line, third-range}
 use Rattle.lines.specs.Next.{second-branch, third-branch}
 use Rattle.rows.specs.Rows.{Ready, Kept}
-use Rattle.branches.specs.Branching.{firstLine, secondLine, thirdLine, Longer}
+use Rattle.closes.specs.Ends.{firstLine, secondLine, thirdLine, Longer}
 use Rattle.branches.proofs.Going.{ready-kept}
-use Rattle.branches.proofs.Splitting.{longer-from}
+use Rattle.closes.proofs.Splitting.{longer-from}
 
 module _ {K n : ℕ} {kinds : List ℕ} {buf : List ℤ} (ready : Ready K kinds buf n) {i : ℕ} (hi : i < n) (space : n < 128)
     {kinds₁ : List ℕ} {buf₁ : List ℤ} (k : Kept K n kinds buf kinds₁ buf₁) where

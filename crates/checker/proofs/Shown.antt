@@ -1,21 +1,20 @@
 -- What is printed of a check is one text, and for stages 1 and 2 the one that document 01 shows. Assumes nothing.
 use Prim.Native.Nat.{ℕ, _≤_, _<_}
-use mathlib.Core.Path.{_≡_, refl, sym, ap, _∙_, subst}
+use mathlib.Core.Path.{_≡_, refl, sym, _∙_, subst}
 use mathlib.Core.Logic.{⊎-elim}
-use mathlib.Core.List.{List, [], _∷_, _++_}
+use mathlib.Core.List.{List, _∷_}
 use native.Mathlib.Nat.{eq-zero-or-pos}
 use native.Mathlib.Omega.{arith}
-use lib.ListN.{length}
 use Rattle.io.specs.Digits.{digits}
-use Rattle.forms.specs.Forms.{All, nil, cons}
+use Rattle.forms.specs.Forms.{All, cons}
 use Rattle.fields.specs.Answers.{Written}
 use Rattle.files.specs.Text.{Decimal, ascii, hexOf}
 use Rattle.files.proofs.Texts.{decimal-once, refused-once}
 use Rattle.proof.specs.Check.{check}
-use Rattle.proof.specs.Stages.{Stage, table, lent}
+use Rattle.proof.specs.Stages.{lent}
 use Rattle.proof.proofs.Stages.{stages}
 use Rattle.checker.specs.Said.{AcceptedLines, Printed}
-use Rattle.checker.specs.Shown.{Shown, stage-1, stage-2}
+use Rattle.checker.specs.Shown.{stage-1, stage-2}
 
 accepted-once : {bytes s t : List ℕ} → AcceptedLines bytes s → AcceptedLines bytes t → s ≡ t
 accepted-once p q =

@@ -1,7 +1,6 @@
 // Reads two bundles from the files a and b and a proof from the file p of the working directory, and prints the bytes of
 // the formula that the check assigns, or the line of a refusal.
-ghost use Prim.Native.Nat.{_≤_};
-ghost use lib.ListN.{length, take};
+ghost use lib.ListN.{take};
 ghost use Rattle.io.specs.Counts.{Counts};
 ghost use Rattle.proof.specs.Check.{check as Check·check};
 ghost use Rattle.checker.specs.Said.{PutAccepted, Printed, Room};

@@ -14,15 +14,15 @@ use lib.Signed.{mag}
 use lib.ListN.{length, getD, take, drop, set, replicate, length-replicate, getD-replicate, length-append, length-map, length-set}
 use lib.Seq.{paste, drop-drop, ext-getD, length-paste, take-take, take-all, take-at, getD-at, getD-set-same}
 use Rattle.integers.specs.Magnitude.{Within}
-use Rattle.forms.specs.Forms.{Form, Kind, ≤0, =0, Line, line, Constraint, _·_}
+use Rattle.forms.specs.Forms.{Form, Kind, ≤0, =0, Line, line, _·_}
 use Rattle.calculus.specs.Rules.{_▷_}
 use Rattle.fields.specs.Numbers.{signed, signeds, flat, formFrom}
-use Rattle.fields.specs.Ranges.{Half, Held}
+use Rattle.fields.specs.Ranges.{Held}
 use Rattle.fields.specs.declared.FileKind.{FileKind}
 use Rattle.fields.specs.declared.header.Headed.{Headed}
 use Rattle.fields.specs.Answers.{answer, refused, accepted}
-use Rattle.fields.specs.Fields.{Fields, ends, cut, _▸_, fields}
-use Rattle.fields.specs.Places.{fieldsAt, givenK, IsHeader}
+use Rattle.fields.specs.Fields.{ends, cut, fields}
+use Rattle.fields.specs.Places.{fieldsAt, IsHeader}
 use Rattle.fields.proofs.Results.{one-value}
 use Rattle.fields.proofs.Places.{Starts}
 use Rattle.bundle.specs.Bundle.{Bundle, bundle}

@@ -1,22 +1,22 @@
 -- The lines of both bundles and the masks, over plain values. Assumes nothing.
-use mathlib.Core.Path.{_≡_, refl, sym, ap, ap₂, _∙_}
+use mathlib.Core.Path.{_≡_, refl, ap, _∙_}
 use mathlib.Core.Bool.{Bool, true, false}
 use mathlib.Core.Option.{some}
-use mathlib.Core.List.{List, [], _∷_, _++_, map}
-use Prim.Native.Nat.{ℕ, zero, suc, _+_, _*_, _≤_, _<_}
+use mathlib.Core.List.{List, map}
+use Prim.Native.Nat.{ℕ, zero, suc, _+_, _≤_}
 use native.Mathlib.Nat.{mul-le-mul-right}
 use native.Mathlib.Omega.{arith}
 use lib.IntN.{ℤ}
 use lib.ListN.{length, length-map, length-append}
-use Rattle.forms.specs.Forms.{Line, lineA, lineB, lines, occurs}
+use Rattle.forms.specs.Forms.{lineA, lineB, lines, occurs}
 use Rattle.fields.specs.Answers.{fileA, fileB, accepted}
 use Rattle.fields.specs.Fields.{fields}
 use Rattle.bundle.specs.Bundle.{bundle}
 use Rattle.fields.specs.Places.{givenK}
-use Rattle.lines.specs.Buffer.{size, linesIn, Bounded}
+use Rattle.lines.specs.Buffer.{size, linesIn}
 use Rattle.lines.specs.Occurrence.{Span, held, occursIn, bits, told, told-occurs, held-A, held-B, length-bits}
-use Rattle.checking.specs.Load.{lineOf, Space, Loaded, Bundled, BundleLoaded}
-use Rattle.checking.specs.Whole.{Both, Buffers, Holding, Prepared}
+use Rattle.checking.specs.Load.{Space, Loaded, Bundled, BundleLoaded}
+use Rattle.checking.specs.Whole.{Both, Buffers, Holding}
 use Rattle.checking.proofs.Loading.{loaded-then}
 
 -- A given K is one that is not 0.

@@ -3,7 +3,7 @@ use mathlib.Core.Path.{_≡_}
 use mathlib.Core.Option.{none, some}
 use mathlib.Core.Bool.{Bool}
 use mathlib.Core.List.{List, _++_}
-use Prim.Native.Nat.{ℕ, _+_, _*_, _≤_}
+use Prim.Native.Nat.{ℕ, _+_, _≤_}
 use lib.IntN.{ℤ}
 use lib.ListN.{length, take}
 use Rattle.forms.specs.Edition.{edition1}
@@ -11,7 +11,7 @@ use Rattle.forms.specs.Forms.{Line, lines, occurs}
 use Rattle.fields.specs.declared.FileKind.{FileKind}
 use Rattle.fields.specs.Answers.{fileA, fileB, fileProof, Result, accepted, _>>=_, _>>_, Written, written}
 use Rattle.fields.specs.Fields.{Fields, fields}
-use Rattle.fields.specs.Header.{Header, header, finished, headerBytes}
+use Rattle.fields.specs.Header.{header, finished, headerBytes}
 use Rattle.fields.specs.Places.{fieldsAt}
 use Rattle.bundle.specs.Bundle.{Bundle, bundle}
 use Rattle.formula.specs.Formula.{encode}

@@ -4,7 +4,6 @@ use mathlib.Core.List.{List}
 use Prim.Native.Nat.{ℕ}
 use Rattle.fields.specs.declared.Answer.{Answer}
 use Rattle.fields.specs.Answers.{acceptance, Written}
-use Rattle.fields.specs.Fields.{fileOf}
 use Rattle.proof.specs.Check.{check}
 use Rattle.checking.specs.Whole.{writtenOf, Checks}
 use Rattle.checking.specs.declared.check.Checked.{Checked}

@@ -17,11 +17,11 @@ use Rattle.branches.proofs.branch.closed.Reads as closed-reads
 use Rattle.branches.proofs.branch.entries.Reads as entries-reads
 use Rattle.branches.proofs.branch.resumed.Reads as resumed-reads
 use Rattle.branches.proofs.branch.returned.Reads as returned-reads
-use Rattle.branches.proofs.ends.close_number.Reads as close-number-reads
-use Rattle.branches.proofs.ends.close_stride.Reads as close-stride-reads
-use Rattle.branches.proofs.ends.split.Reads as split-reads
-use Rattle.branches.proofs.ends.start.Reads as start-reads
-use Rattle.branches.proofs.formulas.put_pair.Reads as put-pair-reads
+use Rattle.closes.proofs.ends.close_number.Reads as close-number-reads
+use Rattle.closes.proofs.ends.close_stride.Reads as close-stride-reads
+use Rattle.closes.proofs.ends.split.Reads as split-reads
+use Rattle.closes.proofs.ends.start.Reads as start-reads
+use Rattle.closes.proofs.formulas.put_pair.Reads as put-pair-reads
 use Rattle.branches.proofs.branch.+check_branch.{statement}
 use Rattle.branches.proofs.branch.+check_branch.Tie.{close}
 

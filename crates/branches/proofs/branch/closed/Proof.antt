@@ -1,6 +1,5 @@
 -- `branches::branch::closed` meets its contract. Assumes nothing.
 use borrow.Author.Needs.{needs}
-use native.Mathlib.Omega.{arith}
 use Rattle.branches.proofs.branch.closed.Statement.{statement}
 use Rattle.branches.proofs.branch.closed.Tie as tie
 

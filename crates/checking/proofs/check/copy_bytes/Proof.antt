@@ -4,7 +4,6 @@ use native.Mathlib.Omega.{arith}
 use lib.ListN.{take}
 use Rattle.lines.proofs.Fill.{Filled, filled-none}
 use Rattle.checking.proofs.Delivering.{copy-length, copy-next, copy-done}
-use borrow.Author.Needs.{needs}
 use Rattle.checking.proofs.check.copy_bytes.Statement.{statement}
 use Rattle.checking.proofs.check.copy_bytes.Tie as tie
 

@@ -1,5 +1,4 @@
 -- `checking::check::prepare` meets its contract: A's lines, B's lines, and the two masks. Assumes nothing.
-use mathlib.Core.Path.{_≡_, refl}
 use native.Mathlib.Omega.{arith}
 use Rattle.checking.proofs.Preparing.{bundled-A, bundled-B, span-of, space-A, space-B, holding, prepared}
 use borrow.Author.Needs.{needs}

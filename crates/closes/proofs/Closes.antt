@@ -1,0 +1,75 @@
+-- The tests of the close rows, one way after the other. Assumes nothing.
+use mathlib.Core.Path.{_≡_, sym, ap}
+use mathlib.Core.Bool.{Bool, true, false, not, _&&_}
+use mathlib.Core.List.{List}
+use Prim.Native.Nat.{ℕ, _+_, _*_, _≤_, _<_}
+use lib.ListN.{getD}
+use lib.IntN.{ℤ, pos}
+use borrow.Author.Tests.{eq-eqb, ne-eqb}
+use lib.Signed.{ltZ}
+use Rattle.integers.specs.Linear.{eqZ}
+use Rattle.forms.specs.Forms.{≤0, =0, nonzero}
+use Rattle.calculus.specs.Rules.{every}
+use Rattle.fields.specs.Answers.{_>>=_, _>>_, need, found}
+use Rattle.lines.specs.Parts.{part}
+use Rattle.lines.specs.Buffer.{size, formIn, kindOf, lineIn}
+use Rattle.lines.specs.Lines.{line-at, line-past}
+use Rattle.lines.specs.Occurrence.{told}
+use Rattle.proof.specs.Rows.{fails, common, lineAt, naming, byNumber}
+use Rattle.closes.specs.Closing.{ByNumber}
+use Rattle.rows.specs.declared.tally.Tally.{Tally}
+use Rattle.closes.specs.declared.closing.Test.the-variants.{Refused, Passed}
+use Rattle.rows.proofs.Testing.{unnot}
+
+pub kind-zero : {b : ℕ} → b ≡ 0 → kindOf b ≡ ≤0
+unfolding kindOf
+kind-zero {b} h = ap (λ (x : Bool). elim x [ true ↦ ≤0 | false ↦ =0 ]) (eq-eqb b 0 h)
+
+pub kind-one : {b : ℕ} → (b ≡ 0 → ⊥) → kindOf b ≡ =0
+unfolding kindOf
+kind-one {b} h = ap (λ (x : Bool). elim x [ true ↦ ≤0 | false ↦ =0 ]) (ne-eqb b 0 h)
+
+pub false-≤ : {b : ℕ} (d : ℤ) {r : Bool} → b ≡ 0 → r ≡ ltZ (pos 0) d → r ≡ fails (kindOf b) d
+unfolding fails
+false-≤ d h e = rw (kind-zero h) e
+
+pub false-= : {b : ℕ} (d : ℤ) {r : Bool} → (b ≡ 0 → ⊥) → r ≡ eqZ d (pos 0) → not r ≡ fails (kindOf b) d
+unfolding fails nonzero
+false-= d h e = rw (kind-one h) (ap not e)
+
+module _ (K : ℕ) (kinds : List ℕ) (buf : List ℤ) (t : Tally) (i : ℕ) (inA inB : List ℕ) where
+  pub number-none : t .lines .0 ≤ i → ByNumber K kinds buf t i inA inB (Refused 10)
+  unfolding byNumber lineAt _>>=_ found
+  number-none h = record { by = λ at. rw (line-past K kinds buf (t .lines .0) i h) }
+
+  module _ (hi : i < t .lines .0) {x y : ℕ} (ex : x ≡ i * size K) (ey : y ≡ i * size K + (K + 1))
+      {b : Bool} (zero : b ≡ every (λ c. eqZ c (pos 0)) (part x K buf)) where
+    zeros : every (λ c. eqZ c (pos 0)) (lineIn K kinds buf i .t .coeffs) ≡ b
+    unfolding lineIn
+    zeros = sym (rw ex at zero)
+
+    pub number-coeffs : not b ≡ true → ByNumber K kinds buf t i inA inB (Refused 15)
+    unfolding byNumber lineAt _>>=_ _>>_ found need
+    number-coeffs h = record { by = λ at. rw (line-at K kinds buf (t .lines .0) i hi, zeros, unnot b h) }
+
+    module _ (h : not b ≡ false) {c : Bool} {kind : ℕ} {d : ℤ} (ek : kind ≡ getD kinds i 0) (ed : d ≡ getD buf (x + K) (pos 0)) (false-is : c ≡ fails (kindOf kind) d) where
+      falses : fails (lineIn K kinds buf i .kind) (lineIn K kinds buf i .t .d) ≡ c
+      unfolding lineIn
+      falses = sym (rw (ek, ed, ex) at false-is)
+
+      pub number-d : not c ≡ true → ByNumber K kinds buf t i inA inB (Refused 15)
+      unfolding byNumber lineAt _>>=_ _>>_ found need
+      number-d k = record { by = λ at. rw (line-at K kinds buf (t .lines .0) i hi, zeros, unnot b h, falses, unnot c k) }
+
+      module _ (k : not c ≡ false) {s : Bool} (shared : s ≡ common (λ z. told inA z && told inB z) (formIn K buf y .coeffs)) where
+        names-is : common (λ z. told inA z && told inB z) (lineIn K kinds buf i .tA .coeffs) ≡ s
+        unfolding lineIn
+        names-is = sym (rw ey at shared)
+
+        pub number-names : not s ≡ true → ByNumber K kinds buf t i inA inB (Refused 22)
+        unfolding byNumber lineAt naming _>>=_ _>>_ found need
+        number-names l = record { by = λ at. rw (line-at K kinds buf (t .lines .0) i hi, zeros, unnot b h, falses, unnot c k, names-is, unnot s l) }
+
+        pub number-passed : not s ≡ false → ByNumber K kinds buf t i inA inB Passed
+        unfolding byNumber lineAt naming _>>=_ _>>_ found need
+        number-passed l = record { by = λ at. rw (line-at K kinds buf (t .lines .0) i hi, zeros, unnot b h, falses, unnot c k, names-is, unnot s l) }

@@ -1,0 +1,64 @@
+-- `closes::formulas::put_form` meets its contract. Assumes nothing.
+use borrow.Author.Needs.{needs}
+use native.Mathlib.Omega.{arith}
+use Prim.Native.Nat.{_+_, _-_}
+use mathlib.Core.Logic.{inr}
+use mathlib.Core.Path.{refl, sym, _∙_}
+use lib.IntN.{pos}
+use lib.ListN.{getD}
+use mir.Syntax.{w64}
+use mir.ValLaws.{toZ-ofZ}
+use Rattle.fields.specs.Numbers.{flat}
+use Rattle.lines.specs.Buffer.{formIn}
+use Rattle.closes.proofs.Scratch.{Putting, putting-start, putting-on, form-end, form-long, form-number, held}
+use Rattle.closes.proofs.formulas.put_form.Statement.{statement}
+use Rattle.closes.proofs.formulas.put_form.Tie as tie
+
+abbrev Inv-loop : tie.InvT-loop
+Inv-loop lines at k scratch₀ o x₀ scratch x = Putting (flat (formIn k lines at)) scratch₀ o scratch x
+
+abbrev μ-loop : tie.MeasureT-loop
+μ-loop lines at k scratch₀ o x₀ scratch x = k + 1 - x
+
+loop-holds : tie.Need-loop-holds Inv-loop μ-loop
+loop-holds c = putting-start _ _ _
+
+add-n : tie.Need-add-n Inv-loop μ-loop
+add-n c = omega (arith, c .before .before .before .pre .0 .room)
+
+mul-n : tie.Need-mul-n Inv-loop μ-loop
+mul-n c = search needs
+
+shared-slice-copy-out-n : tie.Need-shared-slice-copy-out-n Inv-loop μ-loop
+shared-slice-copy-out-n c = omega (arith, c .before .before .before .pre .0 .room)
+
+mul-put-signed : tie.Need-mul-put-signed Inv-loop μ-loop
+mul-put-signed c = omega (arith, c .before .before .before .before .before .pre .0 .constants)
+
+add-put-signed : tie.Need-add-put-signed Inv-loop μ-loop
+add-put-signed c = search needs
+
+put-signed-requires : tie.Need-put-signed-requires Inv-loop μ-loop
+put-signed-requires c κs =
+    let e = toZ-ofZ w64 (getD (c .before .before .before .before .before .args .lines .now) (c .before .before .before .before .before .args .at + c .before .before .before .loop .x) (pos 0)) (record { sfits = c .before .n .given }) in
+    (inr refl, (omega (arith, c .before .before .before .loop .inv .long), rw e (held (c .before .before .before .before .before .pre .0 .small (c .before .before .before .loop .x) (omega arith)))))
+
+add-x : tie.Need-add-x Inv-loop μ-loop
+add-x c = omega (arith, c .before .before .before .before .before .before .before .before .pre .0 .constants)
+
+loop-less : tie.Need-loop-less Inv-loop μ-loop
+loop-less c = search needs
+
+loop-again : tie.Need-loop-again Inv-loop μ-loop
+loop-again c =
+    let e = toZ-ofZ w64 (getD (c .before .before .before .before .before .before .before .before .args .lines .now) (c .before .before .before .before .before .before .before .before .args .at + c .before .before .before .before .before .before .loop .x) (pos 0)) (record { sfits = c .before .before .before .before .n .given }) in
+    putting-on (c .before .before .before .before .before .before .loop .inv) (omega (arith, form-long (c .before .before .before .before .before .before .before .before .pre .0))) (e ∙ sym (form-number (c .before .before .before .before .before .before .before .before .pre .0) (c .before .before .before .before .before .before .loop .x) (omega arith))) (c .before .before .put-signed .ensures)
+
+same-length : tie.Need-same-length Inv-loop μ-loop
+same-length c = c .before .loop .inv .long
+
+returns : tie.Need-returns Inv-loop μ-loop
+returns c = form-end _ (c .before .loop .inv) (omega (arith, form-long (c .before .before .before .pre .0)))
+
+pub put-form-spec : {M : Type 1} → statement M
+put-form-spec = tie.close (tie.spec Inv-loop μ-loop loop-holds add-n mul-n shared-slice-copy-out-n mul-put-signed add-put-signed put-signed-requires add-x loop-less loop-again same-length returns)

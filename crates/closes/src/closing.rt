@@ -1,0 +1,117 @@
+// The tests of the rows that close a branch.
+ghost use mathlib.Core.Path.{_≡_};
+ghost use Prim.Native.Nat.{_≤_};
+ghost use lib.Dec.{leb};
+ghost use lib.ListN.{length};
+ghost use lib.IntN.{natAbs};
+ghost use Rattle.lines.specs.Buffer.{kindOf};
+ghost use Rattle.proof.specs.Rows.{fails};
+ghost use Rattle.rows.specs.Rows.{Ready};
+ghost use Rattle.rows.specs.Entries.{Multiplies};
+ghost use Rattle.closes.specs.Closing.{ByNumber};
+ghost use Rattle.closes.specs.Striding.{ByStride};
+use bundle::Line;
+use rows::derive::is_there;
+use rows::derive::kind_of;
+use rows::tally::Tally;
+
+pub enum Test {
+    Refused { number: u8 },
+    Passed,
+}
+
+// d > 0 for an inequality, d ≠ 0 for an equality.
+fn is_false(kind: u8, d: i64) -> bool
+    ensures { λ r. ⌜ r ≡ fails (kindOf kind) d ⌝ }
+{
+    if kind == 0 {
+        return integers::is_positive(d);
+    }
+    !integers::is_zero(d)
+}
+
+// Close by number. 10, 15, 22.
+pub fn test_number(
+    lines: &[i64],
+    kinds: &[u8],
+    tally: Tally,
+    i: Line,
+    in_a: &[u8],
+    in_b: &[u8],
+    k: usize,
+) -> Test
+    requires { ⌜ Ready k (now kinds) (now lines) (tally .lines .0) ⌝ }
+    requires { ⌜ (k ≤ length (now in_a)) × (k ≤ length (now in_b)) ⌝ }
+    ensures { λ r. ⌜ ByNumber k (now (kinds .entry)) (now (lines .entry)) tally (i .0) (now (in_a .entry)) (now (in_b .entry)) r ⌝ }
+{
+    if !is_there(tally, i) {
+        return Test::Refused { number: 10 };
+    }
+    let n = i.0 as usize;
+    let t = lines::place(n, k);
+    let ta = lines::place_a(n, k);
+    if !lines::all_zero(lines, t, k) {
+        return Test::Refused { number: 15 };
+    }
+    let kind = kind_of(kinds, i);
+    let d = lines[t + k];
+    if !is_false(kind, d) {
+        return Test::Refused { number: 15 };
+    }
+    if !lines::shared_only(lines, ta, k, in_a, in_b) {
+        return Test::Refused { number: 22 };
+    }
+    Test::Passed
+}
+
+// A stride is 2 at least.
+fn is_stride(g: i64) -> bool
+    requires { ⌜ Multiplies (natAbs g) g ⌝ }
+    ensures { λ r. ⌜ r ≡ leb 2 (natAbs g) ⌝ }
+{
+    if integers::is_zero(g) {
+        return false;
+    }
+    !integers::same(g, 1)
+}
+
+// Close by stride. 10, 11, 12, 15, 22.
+pub fn test_stride(
+    lines: &[i64],
+    kinds: &[u8],
+    tally: Tally,
+    i: Line,
+    g: i64,
+    in_a: &[u8],
+    in_b: &[u8],
+    k: usize,
+) -> Test
+    requires { ⌜ Ready k (now kinds) (now lines) (tally .lines .0) ⌝ }
+    requires { ⌜ Multiplies (natAbs g) g ⌝ }
+    requires { ⌜ (k ≤ length (now in_a)) × (k ≤ length (now in_b)) ⌝ }
+    ensures { λ r. ⌜ ByStride k (now (kinds .entry)) (now (lines .entry)) tally (i .0) (natAbs g) (now (in_a .entry)) (now (in_b .entry)) r ⌝ }
+{
+    if !is_there(tally, i) {
+        return Test::Refused { number: 10 };
+    }
+    if kind_of(kinds, i) == 0 {
+        return Test::Refused { number: 11 };
+    }
+    if !is_stride(g) {
+        return Test::Refused { number: 12 };
+    }
+    let n = i.0 as usize;
+    let t = lines::place(n, k);
+    let ta = lines::place_a(n, k);
+    if !lines::all_divisible(lines, t, k, g) {
+        return Test::Refused { number: 15 };
+    }
+    let d = lines[t + k];
+    if integers::divides(g, d) {
+        return Test::Refused { number: 15 };
+    }
+    if !lines::restricted_shared_only(lines, ta, k, in_a, in_b) {
+        return Test::Refused { number: 22 };
+    }
+    Test::Passed
+}

@@ -1,0 +1,109 @@
+// Writing a formula's bytes into a scratch that is lent. Where they do not fit nothing is written.
+ghost use mathlib.Core.Path.{_≡_};
+ghost use Prim.Native.Nat.{_+_, _*_, _≤_};
+ghost use lib.IntN.{natAbs};
+ghost use lib.ListN.{length};
+ghost use lib.Seq.{sets};
+ghost use Rattle.forms.specs.Forms.{literal, _divides_, within};
+ghost use Rattle.fields.specs.Numbers.{formBytes};
+ghost use Rattle.lines.specs.Buffer.{formIn, kindOf};
+ghost use Rattle.lines.specs.Occurrence.{told};
+ghost use Rattle.rows.specs.Entries.{Multiplies};
+ghost use Rattle.closes.specs.Formulas.{Numbered, Heads, Puts};
+use fields::numbers::put_head;
+use fields::numbers::put_signed;
+
+// The numbers of the form at a place, of four bytes each.
+fn put_form(lines: &[i64], at: usize, k: usize, scratch: &mut [u8], o: usize)
+    requires { ⌜ Numbered k (now lines) at ⌝ }
+    requires { ⌜ o + 4 * (k + 1) ≤ length (now scratch) ⌝ }
+    ensures { λ _. ⌜ now (scratch .exit) ≡ sets (now (scratch .entry)) o (formBytes 4 (formIn k (now (lines .entry)) at)) ⌝ }
+{
+    let mut x = 0;
+    while x <= k {
+        let n = lines[at + x];
+        put_signed(scratch, o + 4 * x, 4, n);
+        x += 1;
+    }
+}
+
+// The same without the constants that B lacks.
+fn put_restricted(lines: &[i64], at: usize, k: usize, in_b: &[u8], scratch: &mut [u8], o: usize)
+    requires { ⌜ Numbered k (now lines) at × (k ≤ length (now in_b)) ⌝ }
+    requires { ⌜ o + 4 * (k + 1) ≤ length (now scratch) ⌝ }
+    ensures { λ _. ⌜ now (scratch .exit) ≡ sets (now (scratch .entry)) o (formBytes 4 (within (told (now (in_b .entry))) (formIn k (now (lines .entry)) at))) ⌝ }
+{
+    let mut x = 0;
+    while x <= k {
+        let n = lines::restricted(lines, at, k, in_b, x);
+        put_signed(scratch, o + 4 * x, 4, n);
+        x += 1;
+    }
+}
+
+// The three bytes of an and or an or; its two parts follow.
+pub fn put_pair(scratch: &mut [u8], o: usize, tag: u8) -> usize
+    requires { ⌜ o ≤ 5242880 ⌝ }
+    ensures { λ r. ⌜ Heads (now (scratch .entry)) o tag (now (scratch .exit)) r ⌝ }
+{
+    let end = o + 3;
+    if scratch.len() < end {
+        return end;
+    }
+    put_head(scratch, o, tag, 0);
+    end
+}
+
+// t ≤ 0 or t = 0, by the kind's byte.
+pub fn put_literal(
+    lines: &[i64],
+    at: usize,
+    k: usize,
+    kind: u8,
+    scratch: &mut [u8],
+    o: usize,
+) -> usize
+    requires { ⌜ Numbered k (now lines) at ⌝ }
+    requires { ⌜ o ≤ 5242880 ⌝ }
+    ensures { λ r. ⌜ Puts (now (scratch .entry)) o (literal (kindOf kind) (formIn k (now (lines .entry)) at)) (now (scratch .exit)) r ⌝ }
+{
+    let len = 4 * (k + 1);
+    let end = o + 3 + len;
+    if scratch.len() < end {
+        return end;
+    }
+    if kind == 0 {
+        put_head(scratch, o, 0x33, len);
+        put_form(lines, at, k, scratch, o + 3);
+        return end;
+    }
+    put_head(scratch, o, 0x34, len);
+    put_form(lines, at, k, scratch, o + 3);
+    end
+}
+
+// g divides the form without the constants that B lacks.
+pub fn put_stride(
+    lines: &[i64],
+    at: usize,
+    k: usize,
+    g: i64,
+    in_b: &[u8],
+    scratch: &mut [u8],
+    o: usize,
+) -> usize
+    requires { ⌜ Numbered k (now lines) at × (k ≤ length (now in_b)) ⌝ }
+    requires { ⌜ Multiplies (natAbs g) g ⌝ }
+    requires { ⌜ o ≤ 5242880 ⌝ }
+    ensures { λ r. ⌜ Puts (now (scratch .entry)) o (natAbs g divides within (told (now (in_b .entry))) (formIn k (now (lines .entry)) at)) (now (scratch .exit)) r ⌝ }
+{
+    let len = 4 * (k + 2);
+    let end = o + 3 + len;
+    if scratch.len() < end {
+        return end;
+    }
+    put_head(scratch, o, 0x35, len);
+    put_signed(scratch, o + 3, 4, g);
+    put_restricted(lines, at, k, in_b, scratch, o + 7);
+    end
+}
