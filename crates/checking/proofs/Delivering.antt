@@ -1,5 +1,5 @@
 -- The end of the check, over plain values: what follows the root, and the output. Assumes nothing.
-use mathlib.Core.Path.{_≡_, refl, sym, ap, _∙_}
+use mathlib.Core.Path.{_≡_, sym, ap, _∙_}
 use mathlib.Core.Bool.{Bool}
 use mathlib.Core.List.{List, _++_}
 use Prim.Native.Nat.{ℕ, _+_, _≤_, _<_}
@@ -9,9 +9,8 @@ use lib.Seq.{sets, sets-eq, paste, take-at, take-all, drop-append-add, drop-drop
 use borrow.Author.Tests.{le-leb, lt-leb}
 use Rattle.fields.specs.declared.FileKind.{FileKind}
 use Rattle.fields.specs.Answers.{answer, accepted, _>>_, Written, over, fit, written}
-use Rattle.fields.specs.Numbers.{unsignedBytes}
-use Rattle.fields.specs.Fields.{fieldBytes}
 use Rattle.fields.specs.Header.{headerBytes}
+use Rattle.fields.proofs.Headers.{length-headerBytes}
 use Rattle.lines.proofs.Fill.{Filled, filled-length, filled-next}
 use Rattle.fields.specs.Ending.{IsEnding}
 use Rattle.checking.specs.Whole.{Delivers, Finishes, Ended}
@@ -22,10 +21,6 @@ abbrev pub unwritten : (number file place : ℕ) → Checked
 unwritten number file place = record { answer = answer number file place; count = 0 }
 
 -- ---- the output
-header-length : (K : ℕ) → length (headerBytes K) ≡ 8
-unfolding headerBytes fieldBytes unsignedBytes
-header-length K = refl
-
 -- a header and then some bytes over the front of the output
 delivered : (h f out : List ℕ) (n o : ℕ) → length h ≡ n → length f ≡ o → n + o ≤ length out → paste (sets out 0 h) n f o ≡ over (h ++ f) out
 unfolding over
@@ -38,7 +33,7 @@ delivered h f out n o eh ef l =
     rw (s, t, u, v, w)
 
 size : (K : ℕ) (S : List ℕ) (o : ℕ) → o ≤ length S → length (headerBytes K ++ take o S) ≡ 8 + o
-size K S o room = length-append (headerBytes K) (take o S) ∙ omega (arith, header-length K, length-take-le o S room)
+size K S o room = length-append (headerBytes K) (take o S) ∙ omega (arith, length-headerBytes K, length-take-le o S room)
 
 abbrev done : List ℕ → List ℕ → ℕ → Written
 done bytes out n = record { answer = answer 0 0 0; count = n; output = over bytes out }
@@ -59,7 +54,7 @@ module _ {K : ℕ} {S : List ℕ} {o : ℕ} {out : List ℕ} (room : o ≤ lengt
       → Delivers K S o out out₂ (record { answer = answer 0 0 0; count = 8 + o })
   deliver-done {out₁} {out₂} h p q =
       let w : out₂ ≡ over (headerBytes K ++ take o S) out
-      = q ∙ ap (λ (x : List ℕ). paste x 8 (take o S) o) p ∙ delivered (headerBytes K) (take o S) out 8 o (header-length K) (length-take-le o S room) h in
+      = q ∙ ap (λ (x : List ℕ). paste x 8 (take o S) o) p ∙ delivered (headerBytes K) (take o S) out 8 o (length-headerBytes K) (length-take-le o S room) h in
       record { is = rw w (sym (fit-done (headerBytes K ++ take o S) out (8 + o) (size K S o room) h)) }
 
 -- ---- a copy

@@ -1,9 +1,8 @@
 -- The lines of both bundles and the masks, over plain values. Assumes nothing.
-use mathlib.Core.Path.{_≡_, refl, ap, _∙_}
+use mathlib.Core.Path.{_≡_, ap, _∙_}
 use mathlib.Core.Bool.{Bool, true, false}
-use mathlib.Core.Option.{some}
 use mathlib.Core.List.{List, map}
-use Prim.Native.Nat.{ℕ, zero, suc, _+_, _≤_}
+use Prim.Native.Nat.{ℕ, _+_, _≤_}
 use native.Mathlib.Nat.{mul-le-mul-right}
 use native.Mathlib.Omega.{arith}
 use lib.IntN.{ℤ}
@@ -13,6 +12,7 @@ use Rattle.fields.specs.Answers.{fileA, fileB, accepted}
 use Rattle.fields.specs.Fields.{fields}
 use Rattle.bundle.specs.Bundle.{bundle}
 use Rattle.fields.specs.Places.{givenK}
+use Rattle.fields.proofs.Headers.{given-some}
 use Rattle.lines.specs.Buffer.{size, linesIn}
 use Rattle.lines.specs.Occurrence.{Span, held, occursIn, bits, told, told-occurs, held-A, held-B, length-bits}
 use Rattle.checking.specs.Load.{Space, Loaded, Bundled, BundleLoaded}
@@ -20,10 +20,6 @@ use Rattle.checking.specs.Whole.{Both, Buffers, Holding}
 use Rattle.checking.proofs.Loading.{loaded-then}
 
 -- A given K is one that is not 0.
-pub given-some : (K : ℕ) → 1 ≤ K → givenK K ≡ some K
-given-some zero h = absurd (omega arith)
-given-some (suc K) h = refl
-
 module _ {A B : List ℕ} {K m n : ℕ} (w : Both A B K m n) where
   pub bundled-A : {kinds : List ℕ} {buf : List ℤ} → Space K kinds buf → Bundled 0 A kinds buf 0
   bundled-A s = record { file = fileA; states = w .a; is = w .a-is; space = rw (w .a-constants) s; few = omega arith }

@@ -5,7 +5,6 @@ use mathlib.Core.Bool.{Bool}
 use mathlib.Core.List.{List, [], _∷_, _++_}
 use Prim.Native.Nat.{ℕ, suc, _+_, _≤_, _<_}
 use native.Mathlib.Omega.{arith}
-use lib.Dec.{T, eqb→eq}
 use lib.IntN.{ℤ}
 use lib.ListN.{length, getD, take, length-append}
 use lib.Seq.{sets, sets-eq, length-sets, take-at}
@@ -17,7 +16,7 @@ use Rattle.fields.specs.declared.FileKind.{FileKind}
 use Rattle.fields.specs.declared.header.Headed.{Headed}
 use Rattle.fields.specs.Answers.{answer, fileA, fileB, fileProof, Result, refused, accepted, _>>=_, _>>_, need, written}
 use Rattle.fields.specs.Fields.{Fields, fields}
-use Rattle.fields.specs.Header.{Header, agrees, header, finished, headerBytes}
+use Rattle.fields.specs.Header.{Header, header, finished, headerBytes}
 use Rattle.fields.specs.Places.{fieldsAt, givenK, headedOf, IsHeader}
 use Rattle.fields.proofs.HeaderLaid.{header-gives}
 use Rattle.bundle.specs.Bundle.{Bundle, atMost, bundle, bundles}
@@ -36,7 +35,8 @@ use Rattle.branches.specs.Branching.{Started}
 use Rattle.checking.specs.Whole.{Short, Both, Holding, Prepared, Begun, finishing, rooted, Finishes, Roots, Fits, Ended, Checks}
 use Rattle.checking.specs.declared.check.Checked.{Checked}
 use Rattle.checking.proofs.Delivering.{unwritten}
-use Rattle.checking.proofs.Preparing.{given-some}
+use Rattle.fields.proofs.Headers.{given-some}
+use Rattle.proof.proofs.Agree.{agreed}
 use Rattle.checking.proofs.Upto.{header-upto}
 
 pub checks-refused : {A B P out : List ℕ} {number file place : ℕ} {r : Checked} → interpolant A B P ≡ refused (answer number file place) → r ≡ unwritten number file place
@@ -199,10 +199,6 @@ module _ {K : ℕ} {inA inB : ℕ → Bool} {ls : List Line} {P : List ℕ} {at 
     root-closed {out} l = record { is = l .is ∙ ap (λ (R : Result (List ℕ)). written R out) rooted-is }
 
 -- ---- what the scans and the header tell
-agreed : (K L : ℕ) → T (agrees (some K) L) → L ≡ K
-unfolding agrees
-agreed K L t = eqb→eq L K t
-
 pub checks-answer : {A B P out : List ℕ} {x : Answer} → interpolant A B P ≡ refused x → Checks A B P out out (record { answer = x; count = 0 })
 unfolding check written _>>=_
 checks-answer e = record { is = rw e }

@@ -12,7 +12,7 @@ use lib.Seq.{sets, length-sets, drop-cons, length-take-le}
 use Rattle.integers.specs.Magnitude.{Within}
 use lib.Signed.{mag}
 use Rattle.forms.specs.Edition.{edition1}
-use Rattle.forms.specs.Forms.{Kind, ≤0, =0, Form, literal, _divides_, within, only, rest}
+use Rattle.forms.specs.Forms.{Kind, ≤0, =0, Form, literal, _divides_, within, rest}
 use Rattle.fields.specs.Fields.{fieldBytes}
 use Rattle.fields.specs.Numbers.{unsignedBytes, signedBytes, signedsBytes, flat, formBytes}
 use Rattle.fields.specs.Ranges.{Held}
@@ -21,6 +21,7 @@ use Rattle.fields.proofs.Signed.{length-formBytes, length-signedBytes}
 use Rattle.formula.specs.Formula.{encode}
 use Rattle.bundle.proofs.Putting.{put-field}
 use Rattle.fields.proofs.Framing.{length-fieldBytes as field-size}
+use Rattle.calculus.proofs.Readings.{length-only}
 use Rattle.lines.specs.Parts.{part, getD-part}
 use Rattle.lines.specs.Buffer.{formIn, kindOf}
 use Rattle.lines.specs.Restrict.{flat-form, restricted-coeff, restricted-last}
@@ -37,11 +38,6 @@ held {z} h = record { held = record { half = omega (arith, mag-abs z, h .abs) } 
 
 pub held-small : {z : ℤ} → Within 65535 z → Held 4 z
 held-small {z} h = record { held = record { half = omega (arith, mag-abs z, h .abs) } }
-
-length-only : (p : ℕ → Bool) (l : List ℤ) → length (only p l) ≡ length l
-unfolding only
-length-only p [] = refl
-length-only p (z ∷ l) = ap suc (length-only (rest p) l)
 
 module _ {K : ℕ} {buf : List ℤ} {at : ℕ} (n : Numbered K buf at) where
   pub coeffs-long : length (formIn K buf at .coeffs) ≡ K

@@ -14,7 +14,6 @@ use borrow.Author.Tests.{lt-ltb, le-ltb, ltb-true, ltb-false}
 use Rattle.forms.specs.Edition.{edition1}
 use Rattle.forms.specs.Forms.{≤0, Line, literal, _divides_, within, _and_, _or_}
 use Rattle.calculus.specs.Rules.{_▷_, small, every, inRange}
-use Rattle.fields.specs.declared.Answer.{Answer}
 use Rattle.fields.specs.Answers.{Result, refused, accepted, _>>=_, _>>_, need, found}
 use Rattle.fields.specs.Fields.{Fields}
 use Rattle.lines.specs.Parts.{part, agree-set, agree-sym}
@@ -39,6 +38,8 @@ use Rattle.closes.specs.declared.closing.Test.{Test}
 use Rattle.closes.specs.declared.closing.Test.the-variants as test
 use Rattle.rows.specs.declared.derive.Derived.the-variants.{Refused, Made}
 use Rattle.closes.specs.declared.ends.Ended.the-variants as ended
+use Rattle.fields.proofs.Results.{never}
+use Rattle.rows.proofs.Counting.{counted-made, counted-full}
 use Rattle.rows.proofs.Deriving.{kept-refl, counted-line, full-line}
 use Rattle.rows.proofs.Testing.{kind-≤, kind-=}
 use Rattle.closes.proofs.Closes.{number-none}
@@ -46,9 +47,6 @@ use Rattle.closes.proofs.Strides.{stride-none}
 use Rattle.closes.proofs.Scratch.{literal-size, stride-size}
 
 -- ---- the rows that close
-pub clash : {A : Type 0} {a : Answer} {x : A} → refused a ≡ accepted x → ⊥
-clash e = let z : _≡_ {A = ℕ} 0 1 = cc in omega arith
-
 pub numbered : {K : ℕ} {kinds : List ℕ} {buf : List ℤ} {n i x : ℕ} → Ready K kinds buf n → i < n → x ≡ i * size K + (K + 1) → Numbered K buf x
 numbered {K} {buf = buf} {n = n} {i = i} r h e =
     let b : i * size K + size K ≤ n * size K = before K h in
@@ -66,14 +64,14 @@ module _ {K : ℕ} {kinds : List ℕ} {buf : List ℤ} {t : Tally} {i : ℕ} {in
   pub number-there : ByNumber K kinds buf t i inA inB test.Passed → i < t .lines .0
   number-there b =
       ⊎-elim
-      (λ (g : t .lines .0 - i ≡ 0). absurd (clash (sym (number-none K kinds buf t i inA inB (omega arith) .by 0) ∙ b .by 0)))
+      (λ (g : t .lines .0 - i ≡ 0). absurd (never (sym (number-none K kinds buf t i inA inB (omega arith) .by 0) ∙ b .by 0)))
       (λ (l : 0 < t .lines .0 - i). omega arith)
       (eq-zero-or-pos (t .lines .0 - i))
 
   pub stride-there : {g : ℕ} → ByStride K kinds buf t i g inA inB test.Passed → i < t .lines .0
   stride-there {g} b =
       ⊎-elim
-      (λ (z : t .lines .0 - i ≡ 0). absurd (clash (sym (stride-none K kinds buf t i g inA inB (omega arith) .by 0) ∙ b .by 0)))
+      (λ (z : t .lines .0 - i ≡ 0). absurd (never (sym (stride-none K kinds buf t i g inA inB (omega arith) .by 0) ∙ b .by 0)))
       (λ (l : 0 < t .lines .0 - i). omega arith)
       (eq-zero-or-pos (t .lines .0 - i))
 
@@ -117,19 +115,11 @@ module _ {K : ℕ} {kinds : List ℕ} {buf : List ℤ} {t : Tally} {i : ℕ} {in
 -- ---- the row that splits
 pub counted-open : {t : Tally} {r : Counted} → r ≡ openCounted t → r .made ≡ true → (t .«open» < 32) × (r .tally ≡ tally (t .rows .0) (t .lines .0) (t .«open» + 1))
 unfolding openCounted
-counted-open {t} {r} e h = go (ltb (t .«open») 32) refl
-  where
-    go : (b : Bool) → ltb (t .«open») 32 ≡ b → (t .«open» < 32) × (r .tally ≡ tally (t .rows .0) (t .lines .0) (t .«open» + 1))
-    go true q = (ltb-true (t .«open») 32 q, ap (λ (x : Counted). x .tally) e ∙ rw q)
-    go false q = absurd (let z : r .made ≡ false = ap (λ (x : Counted). x .made) e ∙ rw q in let y : _≡_ {A = ℕ} 0 1 = cc in omega arith)
+counted-open {t} e h = let m = counted-made (ltb (t .«open») 32) (tally (t .rows .0) (t .lines .0) (t .«open» + 1)) t e h in (ltb-true (t .«open») 32 (m .0), m .1)
 
 pub full-open : (t : Tally) {r : Counted} → r ≡ openCounted t → r .made ≡ false → 32 ≤ t .«open»
 unfolding openCounted
-full-open t {r} e h = go (ltb (t .«open») 32) refl
-  where
-    go : (b : Bool) → ltb (t .«open») 32 ≡ b → 32 ≤ t .«open»
-    go true q = absurd (let z : r .made ≡ true = ap (λ (x : Counted). x .made) e ∙ rw q in let y : _≡_ {A = ℕ} 0 1 = cc in omega arith)
-    go false q = ltb-false (t .«open») 32 q
+full-open t e h = ltb-false (t .«open») 32 (counted-full (ltb (t .«open») 32) (tally (t .rows .0) (t .lines .0) (t .«open» + 1)) t e h)
 
 module _ (t : Tally) {r q : Counted} (e : r ≡ openCounted t) (h : r .made ≡ true) (f : q ≡ lineCounted (r .tally)) where
   same-lines : r .tally .lines .0 ≡ t .lines .0

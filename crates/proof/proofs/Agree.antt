@@ -42,7 +42,7 @@ pub record Proof (a b : Bundle) (fs : Fields) (I : Formula) : Type 0 where
   pub enters : Each (Enters edition1 (a .K)) body es
   pub proves : Proves edition1 (a .constraints) (b .constraints) es I
 
-agreed : (K L : ℕ) → T (agrees (some K) L) → L ≡ K
+pub agreed : (K L : ℕ) → T (agrees (some K) L) → L ≡ K
 unfolding agrees
 agreed K L t = eqb→eq L K t
 
