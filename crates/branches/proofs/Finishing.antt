@@ -45,7 +45,7 @@ pub record Divided (K n : ℕ) (kinds : List ℕ) (buf : List ℤ) (maskA maskB 
   pub b-mask : K ≤ length maskB
   pub size : length p ≤ 65536
   pub upto : at ≤ length p
-  pub room : o + 3 ≤ 78 * at
+  pub room : o + 3 ≤ 26 * at
   pub line : i < n
   pub space : n < 128
   pub lines-is : t .lines .0 ≡ n + 1
@@ -158,7 +158,7 @@ module _ {K n : ℕ} {p : List ℕ} {kinds : List ℕ} {buf : List ℤ} {maskA m
   pub room-left : o ≤ 5242880
   room-left = omega (arith, d .room, d .upto, d .size)
 
-  starts-branch : {kinds₁ : List ℕ} {buf₁ : List ℤ} {l : Line} → Longer K kinds buf n l kinds₁ buf₁ → {t₁ : Tally} {a o₁ : ℕ} → t₁ .lines .0 ≡ n + 1 → a ≤ length p → o₁ ≤ 78 * a
+  starts-branch : {kinds₁ : List ℕ} {buf₁ : List ℤ} {l : Line} → Longer K kinds buf n l kinds₁ buf₁ → {t₁ : Tally} {a o₁ : ℕ} → t₁ .lines .0 ≡ n + 1 → a ≤ length p → o₁ ≤ 26 * a
       → Started K kinds₁ buf₁ maskA maskB t₁ p a o₁
   starts-branch {kinds₁} {buf₁} g e u r = record { ready = subst (Ready K kinds₁ buf₁) (sym e) (g .ready); a-mask = d .a-mask; b-mask = d .b-mask; size = d .size; upto = u; room = r }
 

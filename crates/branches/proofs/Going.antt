@@ -91,7 +91,7 @@ module _ {K : ℕ} {p : List ℕ} {at : ℕ} {kinds₀ : List ℕ} {buf₀ : Lis
     pub going-refused : {n : ℕ} → r ≡ Refused n → Stopped K p at kinds₀ buf₀ t₀ kinds′ buf′ (Stop.Fault n a)
     going-refused e = let y = rw e at x in record { kept = all-kept; by = by-same (y .by) }
 
-    further : at < next
+    further : at + 3 ≤ next
     further = omega (arith, g .on, s .from, s .start-is, s .next-is)
 
     pub going-made : {u : Tally} → r ≡ Made u → Going K p at kinds₀ buf₀ t₀ kinds′ buf′ next u true

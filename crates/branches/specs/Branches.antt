@@ -32,7 +32,7 @@ pub record Comes (K : ℕ) (p : List ℕ) (at : ℕ) (kinds : List ℕ) (buf : L
   pub ready : Ready K kinds′ buf′ (t′ .lines .0)
   pub from : t .lines .0 ≤ t′ .lines .0
   pub open-is : t′ .«open» ≡ t .«open»
-  pub on : at < next
+  pub on : at + 3 ≤ next
   pub upto : next ≤ length p
 
 abbrev pub StoppedBy : (K : ℕ) (p : List ℕ) (at : ℕ) (kinds : List ℕ) (buf : List ℤ) (t : Tally) (kinds′ : List ℕ) (buf′ : List ℤ) → Stop → Type 0

@@ -36,14 +36,14 @@ abbrev pub resumedBy : branched.Branched → (given : Tally) → branched.Branch
 resumedBy (branched-of.Fault x at) given = branched-of.Fault x at
 resumedBy (branched-of.Closed at o t) given = branched-of.Closed at o (returnedTo t given)
 
--- What a branch asks: its lines, the masks, and that what is written so far has at most 78 bytes for each byte read.
+-- What a branch asks: its lines, the masks, and that what is written so far has at most 26 bytes for each byte read.
 pub record Started (K : ℕ) (kinds : List ℕ) (buf : List ℤ) (maskA maskB : List ℕ) (t : Tally) (p : List ℕ) (at o : ℕ) : Type 0 where
   pub ready : Ready K kinds buf (t .lines .0)
   pub a-mask : K ≤ length maskA
   pub b-mask : K ≤ length maskB
   pub size : length p ≤ 65536
   pub upto : at ≤ length p
-  pub room : o ≤ 78 * at
+  pub room : o ≤ 26 * at
 
 -- R accepts a formula, whose bytes stand from o on if there is room for them; the fields go on at a.
 pub record Closes (R : Result Closing) (p : List ℕ) (t : Tally) (a : ℕ) (scratch : List ℕ) (o o′ : ℕ) (scratch′ : List ℕ) (t′ : Tally) : Type 0 where
@@ -51,7 +51,7 @@ pub record Closes (R : Result Closing) (p : List ℕ) (t : Tally) (a : ℕ) (scr
   pub is : R ≡ accepted (record { formula = formula; rows = t′ .rows .0; after = fieldsAt p a })
   pub o-is : o′ ≡ o + length (encode edition1 formula)
   pub stored : o + length (encode edition1 formula) ≤ length scratch → scratch′ ≡ sets scratch o (encode edition1 formula)
-  pub within : o′ + 3 ≤ 78 * a
+  pub within : o′ + 3 ≤ 26 * a
   pub upto : a ≤ length p
   pub lines-is : t′ .lines .0 ≡ t .lines .0
   pub open-is : t′ .«open» ≡ t .«open»

@@ -5,7 +5,6 @@ use mathlib.Core.List.{List}
 use Prim.Native.Nat.{ℕ}
 use native.Mathlib.Omega.{arith}
 use lib.IntN.{ℤ}
-use lib.ListN.{length}
 use Rattle.forms.specs.Edition.{edition1}
 use Rattle.fields.specs.Places.{fieldsAt}
 use Rattle.lines.specs.Buffer.{linesIn}
@@ -14,7 +13,7 @@ use Rattle.rows.specs.Tally.{tally}
 use Rattle.rows.specs.declared.tally.Tally.{Tally}
 use Rattle.branches.specs.Branching.{Closes, Branches}
 use Rattle.branches.specs.declared.branch.Branched.{Branched}
-use Rattle.checking.specs.Whole.{Finishes, Roots, Fits, Ended}
+use Rattle.checking.specs.Whole.{Finishes, Roots, Fits, Enough, Ended}
 use Rattle.checking.specs.declared.check.Checked.{Checked}
 use Rattle.checking.proofs.Delivering.{unwritten}
 use Rattle.checking.proofs.Stages.{root-fault, root-ended, root-closed}
@@ -25,12 +24,12 @@ module _ {K : ℕ} {inA inB : ℕ → Bool} {P : List ℕ} {at n rows : ℕ} {ki
       → Roots K inA inB (linesIn K kinds buf n) P at out out r
   by-fault e q = root-fault (rw (e, none) at (b .by)) q
 
-  module _ (t : Fits K inA inB (linesIn K kinds buf n) P at) (len : length S ≡ 65536) {end o : ℕ} {t′ : Tally} (e : x ≡ Branched.Closed end o t′) where
+  module _ (t : Fits K inA inB (linesIn K kinds buf n) P at) (len : Enough P S) {end o : ℕ} {t′ : Tally} (e : x ≡ Branched.Closed end o t′) where
     c : Closes (checkBranch edition1 K inA inB 32 0 (linesIn K kinds buf n) (fieldsAt P at)) P (tally 0 n 0) end S 0 o S′ t′
     c = rw (e, none) at (b .by)
 
     pub by-closed-ended : Ended P end o S′
-    by-closed-ended = root-ended t (record { formula = c .formula; rows = t′ .rows .0; after = fieldsAt P end }) (c .is) end o refl (omega (arith, c .o-is)) S len (λ h. c .stored (omega arith))
+    by-closed-ended = root-ended t (record { formula = c .formula; rows = t′ .rows .0; after = fieldsAt P end }) (c .is) end o refl (omega (arith, c .o-is)) S len (omega (arith, c .within, c .upto)) (λ h. c .stored (omega arith))
 
     pub by-closed : {out out′ : List ℕ} {r : Checked} → Finishes K P end S′ o out out′ r → Roots K inA inB (linesIn K kinds buf n) P at out out′ r
-    by-closed l = root-closed t (record { formula = c .formula; rows = t′ .rows .0; after = fieldsAt P end }) (c .is) end o refl (omega (arith, c .o-is)) S len (λ h. c .stored (omega arith)) l
+    by-closed l = root-closed t (record { formula = c .formula; rows = t′ .rows .0; after = fieldsAt P end }) (c .is) end o refl (omega (arith, c .o-is)) S len (omega (arith, c .within, c .upto)) (λ h. c .stored (omega arith)) l

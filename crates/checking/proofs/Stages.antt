@@ -3,7 +3,7 @@ use mathlib.Core.Path.{_≡_, refl, sym, ap, _∙_}
 use mathlib.Core.Option.{Option, none, some}
 use mathlib.Core.Bool.{Bool}
 use mathlib.Core.List.{List, [], _∷_, _++_}
-use Prim.Native.Nat.{ℕ, suc, _+_, _≤_, _<_}
+use Prim.Native.Nat.{ℕ, suc, _+_, _*_, _≤_, _<_}
 use native.Mathlib.Omega.{arith}
 use lib.IntN.{ℤ}
 use lib.ListN.{length, getD, take, length-append}
@@ -32,7 +32,7 @@ use Rattle.proof.proofs.Agree.{interpolant-iff}
 use Rattle.proof.proofs.Sizes.{written-reads-back}
 use Rattle.rows.specs.Tally.{tally}
 use Rattle.branches.specs.Branching.{Started}
-use Rattle.checking.specs.Whole.{Short, Both, Holding, Prepared, Begun, finishing, rooted, Finishes, Roots, Fits, Ended, Checks}
+use Rattle.checking.specs.Whole.{Short, Both, Holding, Prepared, Begun, finishing, rooted, Finishes, Roots, Fits, Enough, Ended, Checks}
 use Rattle.checking.specs.declared.check.Checked.{Checked}
 use Rattle.checking.proofs.Delivering.{unwritten}
 use Rattle.fields.proofs.Headers.{given-some}
@@ -170,19 +170,19 @@ module _ {K : ℕ} {inA inB : ℕ → Bool} {ls : List Line} {P : List ℕ} {at 
   root-fault e q = record { is = rw (e, q) }
 
   module _ (t : Fits K inA inB ls P at) (c : Closing) (e : checkBranch edition1 K inA inB 32 0 ls (fieldsAt P at) ≡ accepted c)
-      (end o : ℕ) (after : c .after ≡ fieldsAt P end) (o-is : o ≡ length (encode edition1 (c .formula))) (S : List ℕ) {S′ : List ℕ} (len : length S ≡ 65536)
+      (end o : ℕ) (after : c .after ≡ fieldsAt P end) (o-is : o ≡ length (encode edition1 (c .formula))) (S : List ℕ) {S′ : List ℕ} (len : Enough P S) (within : o ≤ 26 * length P)
       (stored : length (encode edition1 (c .formula)) ≤ length S → S′ ≡ sets S 0 (encode edition1 (c .formula))) where
     pub root-ended : Ended P end o S′
     root-ended = record {
       room = λ f.
-          let l = t .fits c e (rw after f) in
+          let l = len .enough (length (encode edition1 (c .formula))) (omega (arith, within, o-is)) (t .fits c e (rw after f)) in
           let m = ap length (stored (omega arith)) ∙ length-sets S 0 (encode edition1 (c .formula)) in
-          omega (arith, o-is, len);
+          omega (arith, o-is);
     }
 
     bytes-are : finished FileKind.Proof fileProof (fieldsAt P end) ≡ accepted tt → take o S′ ≡ encode edition1 (c .formula)
     bytes-are f =
-        let l = t .fits c e (rw after f) in
+        let l = len .enough (length (encode edition1 (c .formula))) (omega (arith, within, o-is)) (t .fits c e (rw after f)) in
         let x = encode edition1 (c .formula) in
         rw (stored (omega arith), sets-eq x S 0 (omega arith)) (take-at x _ o (sym o-is))
 

@@ -87,10 +87,14 @@ pub record Finishes (K : ℕ) (P : List ℕ) (at : ℕ) (scratch : List ℕ) (o 
 pub record Roots (K : ℕ) (inA inB : ℕ → Bool) (ls : List Line) (P : List ℕ) (at : ℕ) (out out′ : List ℕ) (r : Checked) : Type 0 where
   pub is : writtenOf r out′ ≡ written (rooted K inA inB ls (fieldsAt P at)) out
 
--- A formula that the check accepts fits the scratch.
+-- A formula that the check accepts has 65,536 bytes at most.
 pub record Fits (K : ℕ) (inA inB : ℕ → Bool) (ls : List Line) (P : List ℕ) (at : ℕ) : Type 0 where
   pub fits : (c : Closing) → checkBranch edition1 K inA inB (edition1 .strengthens) 0 ls (fieldsAt P at) ≡ accepted c → finished FileKind.Proof fileProof (c .after) ≡ accepted tt
       → length (encode edition1 (c .formula)) ≤ 65536
+
+-- A scratch of that length does, and so does one with 26 bytes for each byte of the proof.
+pub record Enough (P scratch : List ℕ) : Type 0 where
+  pub enough : (l : ℕ) → l ≤ 26 * length P → l ≤ 65536 → l ≤ length scratch
 
 -- The bytes stand in the scratch, where the check accepts.
 pub record Ended (P : List ℕ) (at o : ℕ) (scratch : List ℕ) : Type 0 where

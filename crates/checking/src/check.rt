@@ -14,16 +14,16 @@ use fields::header::read_header;
 use rows::tally::Row;
 use rows::tally::Tally;
 ghost use mathlib.Core.Path.{_≡_};
-ghost use Prim.Native.Nat.{_+_, _≤_};
+ghost use Prim.Native.Nat.{_+_, _*_, _≤_};
 ghost use lib.ListN.{length, take};
 ghost use lib.Seq.{paste};
 ghost use Rattle.fields.specs.Answers.{answer};
-ghost use Rattle.lines.specs.Buffer.{linesIn};
+ghost use Rattle.lines.specs.Buffer.{size, linesIn};
 ghost use Rattle.lines.specs.Occurrence.{told};
 ghost use Rattle.proof.specs.Check.{check};
 ghost use Rattle.rows.specs.Tally.{tally};
 ghost use Rattle.branches.specs.Branching.{Started};
-ghost use Rattle.checking.specs.Whole.{Short, Both, Buffers, Prepared, Begun, Ended, Delivers, Finishes, Roots, Fits, Checks, writtenOf};
+ghost use Rattle.checking.specs.Whole.{Short, Both, Buffers, Prepared, Begun, Ended, Delivers, Finishes, Roots, Fits, Enough, Checks, writtenOf};
 
 // What checking answers: the bytes written, 0 where it is refused.
 #[repr(C)]
@@ -113,7 +113,7 @@ fn prepare(
     lines::occurrences(lines, m, m + n, constants, in_b);
 }
 
-// The root, from a place of the proof on, and all that follows. The buffers hold the lines and the masks.
+// The root, from a place of the proof on, and all that follows. The buffers hold the lines and the masks, and the scratch takes the formula.
 fn check_root(
     proof: &[u8],
     at: usize,
@@ -123,13 +123,14 @@ fn check_root(
     kinds: &mut [u8],
     in_a: &[u8],
     in_b: &[u8],
+    scratch: &mut [u8],
     out: &mut [u8],
 ) -> Checked
     requires { ⌜ Started k (now kinds) (now lines) (now in_a) (now in_b) (tally 0 count 0) (now proof) at 0 ⌝ }
     requires { ⌜ Fits k (told (now in_a)) (told (now in_b)) (linesIn k (now kinds) (now lines) count) (now proof) at ⌝ }
+    requires { ⌜ Enough (now proof) (now scratch) ⌝ }
     ensures { λ r. ⌜ Roots k (told (now (in_a .entry))) (told (now (in_b .entry))) (linesIn k (now (kinds .entry)) (now (lines .entry)) count) (now (proof .entry)) at (now (out .entry)) (now (out .exit)) r ⌝ }
 {
-    let mut scratch = [0u8; 65536];
     let rows = Row(0);
     let made = Line(count as u16);
     let tally = Tally {
@@ -146,7 +147,7 @@ fn check_root(
         k as usize,
         in_a,
         in_b,
-        &mut scratch,
+        scratch,
         0,
     ) {
         Branched::Fault { number, at: place } => refusal(number, 3, place),
@@ -154,12 +155,108 @@ fn check_root(
             at: end,
             o,
             tally: _,
-        } => finish(proof, end, &scratch, o, k, out),
+        } => finish(proof, end, scratch, o, k, out),
     }
 }
 
-// The lines, and then the root. All working memory is here.
-fn check_lines(
+// The lines, and then the root, with room for 128 lines and for the formula.
+fn check_within(
+    a: &[u8],
+    b: &[u8],
+    proof: &[u8],
+    at: usize,
+    k: u8,
+    m: usize,
+    n: usize,
+    lines: &mut [i64],
+    scratch: &mut [u8],
+    out: &mut [u8],
+) -> Checked
+    requires { ⌜ Begun (now a) (now b) (now proof) k m n at ⌝ }
+    requires { ⌜ 128 * size k ≤ length (now lines) ⌝ }
+    requires { ⌜ Enough (now proof) (now scratch) ⌝ }
+    ensures { λ r. ⌜ Checks (now (a .entry)) (now (b .entry)) (now (proof .entry)) (now (out .entry)) (now (out .exit)) r ⌝ }
+{
+    let mut kinds = [0u8; 128];
+    let mut in_a = [0u8; 16];
+    let mut in_b = [0u8; 16];
+    prepare(a, b, k, m, n, lines, &mut kinds, &mut in_a, &mut in_b);
+    check_root(
+        proof,
+        at,
+        k,
+        m + n,
+        lines,
+        &mut kinds,
+        &in_a,
+        &in_b,
+        scratch,
+        out,
+    )
+}
+
+// Working memory is cleared before it is used, so a small proof is given little of it: here 3 constants, 78 bytes of proof at most.
+fn check_small(
+    a: &[u8],
+    b: &[u8],
+    proof: &[u8],
+    at: usize,
+    k: u8,
+    m: usize,
+    n: usize,
+    out: &mut [u8],
+) -> Checked
+    requires { ⌜ Begun (now a) (now b) (now proof) k m n at ⌝ }
+    requires { ⌜ (k ≤ 3) × (length (now proof) ≤ 78) ⌝ }
+    ensures { λ r. ⌜ Checks (now (a .entry)) (now (b .entry)) (now (proof .entry)) (now (out .entry)) (now (out .exit)) r ⌝ }
+{
+    let mut lines = [0i64; 1024];
+    let mut scratch = [0u8; 2048];
+    check_within(a, b, proof, at, k, m, n, &mut lines, &mut scratch, out)
+}
+
+// 315 bytes of proof at most.
+fn check_short(
+    a: &[u8],
+    b: &[u8],
+    proof: &[u8],
+    at: usize,
+    k: u8,
+    m: usize,
+    n: usize,
+    out: &mut [u8],
+) -> Checked
+    requires { ⌜ Begun (now a) (now b) (now proof) k m n at ⌝ }
+    requires { ⌜ length (now proof) ≤ 315 ⌝ }
+    ensures { λ r. ⌜ Checks (now (a .entry)) (now (b .entry)) (now (proof .entry)) (now (out .entry)) (now (out .exit)) r ⌝ }
+{
+    let mut lines = [0i64; 4352];
+    let mut scratch = [0u8; 8192];
+    check_within(a, b, proof, at, k, m, n, &mut lines, &mut scratch, out)
+}
+
+// 1,260 bytes of proof at most.
+fn check_middle(
+    a: &[u8],
+    b: &[u8],
+    proof: &[u8],
+    at: usize,
+    k: u8,
+    m: usize,
+    n: usize,
+    out: &mut [u8],
+) -> Checked
+    requires { ⌜ Begun (now a) (now b) (now proof) k m n at ⌝ }
+    requires { ⌜ length (now proof) ≤ 1260 ⌝ }
+    ensures { λ r. ⌜ Checks (now (a .entry)) (now (b .entry)) (now (proof .entry)) (now (out .entry)) (now (out .exit)) r ⌝ }
+{
+    let mut lines = [0i64; 4352];
+    let mut scratch = [0u8; 32768];
+    check_within(a, b, proof, at, k, m, n, &mut lines, &mut scratch, out)
+}
+
+// Any proof.
+fn check_long(
     a: &[u8],
     b: &[u8],
     proof: &[u8],
@@ -173,21 +270,37 @@ fn check_lines(
     ensures { λ r. ⌜ Checks (now (a .entry)) (now (b .entry)) (now (proof .entry)) (now (out .entry)) (now (out .exit)) r ⌝ }
 {
     let mut lines = [0i64; 4352];
-    let mut kinds = [0u8; 128];
-    let mut in_a = [0u8; 16];
-    let mut in_b = [0u8; 16];
-    prepare(a, b, k, m, n, &mut lines, &mut kinds, &mut in_a, &mut in_b);
-    check_root(
-        proof,
-        at,
-        k,
-        m + n,
-        &mut lines,
-        &mut kinds,
-        &in_a,
-        &in_b,
-        out,
-    )
+    let mut scratch = [0u8; 65536];
+    check_within(a, b, proof, at, k, m, n, &mut lines, &mut scratch, out)
+}
+
+// The lines, and then the root.
+fn check_lines(
+    a: &[u8],
+    b: &[u8],
+    proof: &[u8],
+    at: usize,
+    k: u8,
+    m: usize,
+    n: usize,
+    out: &mut [u8],
+) -> Checked
+    requires { ⌜ Begun (now a) (now b) (now proof) k m n at ⌝ }
+    ensures { λ r. ⌜ Checks (now (a .entry)) (now (b .entry)) (now (proof .entry)) (now (out .entry)) (now (out .exit)) r ⌝ }
+{
+    let len = proof.len();
+    if len <= 78 {
+        if k <= 3 {
+            return check_small(a, b, proof, at, k, m, n, out);
+        }
+    }
+    if len <= 315 {
+        return check_short(a, b, proof, at, k, m, n, out);
+    }
+    if len <= 1260 {
+        return check_middle(a, b, proof, at, k, m, n, out);
+    }
+    check_long(a, b, proof, at, k, m, n, out)
 }
 
 // The proof's header, where both bundles were gone over. 2, 3, 4, 6, 5, 7, 9.

@@ -1,7 +1,5 @@
 -- `checking::check::check_root` meets its contract: each answer cites the law for its way. Assumes nothing.
 use mathlib.Core.Path.{refl}
-use Prim.Native.Nat.{ℕ}
-use lib.ListN.{length-replicate}
 use Rattle.checking.proofs.Rooting.{by-fault, by-closed-ended, by-closed}
 use borrow.Author.Needs.{needs}
 use Rattle.checking.proofs.check.check_root.Statement.{statement}
@@ -9,9 +7,6 @@ use Rattle.checking.proofs.check.check_root.Tie as tie
 
 cast-t18 : tie.Need-cast-t18
 cast-t18 c = search needs
-
-slice-aggregate-check-branch : tie.Need-slice-aggregate-check-branch
-slice-aggregate-check-branch c = search needs
 
 check-branch-requires : tie.Need-check-branch-requires
 check-branch-requires c κs = search needs
@@ -25,11 +20,8 @@ refusal-requires c κs = search needs
 enum-known-end : tie.Need-enum-known-end
 enum-known-end c = search needs
 
-slice-aggregate-finish : tie.Need-slice-aggregate-finish
-slice-aggregate-finish c = search needs
-
 finish-requires : tie.Need-finish-requires
-finish-requires c κs = by-closed-ended (c .before .before .before .before .before .before .before .before .before .check-branch .ensures) refl (c .before .before .before .before .before .before .before .before .before .before .before .before .before .before .before .before .before .before .pre .1) (length-replicate {A = ℕ} 65536 0) (c .before .before .before .end .given .1)
+finish-requires c κs = by-closed-ended (c .before .before .before .before .before .before .before .before .before .before .check-branch .ensures) refl (c .before .before .before .before .before .before .before .before .before .before .before .before .before .before .before .before .before .before .before .before .pre .1 .0) (c .before .before .before .before .before .before .before .before .before .before .before .before .before .before .before .before .before .before .before .before .pre .1 .1) (c .before .before .before .end .given .1)
 
 same-length : tie.Need-same-length
 same-length c = search needs
@@ -37,11 +29,11 @@ same-length c = search needs
 same-length-2 : tie.Need-same-length-2
 same-length-2 c = search needs
 
-returns : tie.Need-returns
-returns c = by-fault (c .before .before .before .before .before .before .before .before .check-branch .ensures) refl (c .before .before .number .given .1) (c .refusal .ensures)
-
 same-length-3 : tie.Need-same-length-3
 same-length-3 c = search needs
+
+returns : tie.Need-returns
+returns c = by-fault (c .before .before .before .before .before .before .before .before .before .check-branch .ensures) refl (c .before .before .number .given .1) (c .refusal .ensures)
 
 same-length-4 : tie.Need-same-length-4
 same-length-4 c = search needs
@@ -49,25 +41,31 @@ same-length-4 c = search needs
 same-length-5 : tie.Need-same-length-5
 same-length-5 c = search needs
 
+same-length-6 : tie.Need-same-length-6
+same-length-6 c = search needs
+
+same-length-7 : tie.Need-same-length-7
+same-length-7 c = search needs
+
 returns-2 : tie.Need-returns-2
-returns-2 c = by-closed (c .before .before .before .before .before .before .before .before .before .before .before .before .check-branch .ensures) refl (c .before .before .before .before .before .before .before .before .before .before .before .before .before .before .before .before .before .before .before .before .before .pre .1) (length-replicate {A = ℕ} 65536 0) (c .before .before .before .before .before .before .end .given .1) (c .before .before .finish .ensures)
+returns-2 c = by-closed (c .before .before .before .before .before .before .before .before .before .before .before .before .before .check-branch .ensures) refl (c .before .before .before .before .before .before .before .before .before .before .before .before .before .before .before .before .before .before .before .before .before .before .before .pre .1 .0) (c .before .before .before .before .before .before .before .before .before .before .before .before .before .before .before .before .before .before .before .before .before .before .before .pre .1 .1) (c .before .before .before .before .before .before .end .given .1) (c .before .before .finish .ensures)
 
 pub check-root-spec : {M : Type 1} → statement M
 check-root-spec =
     tie.close
     (tie.spec
     cast-t18
-    slice-aggregate-check-branch
     check-branch-requires
     enum-known-number
     refusal-requires
     enum-known-end
-    slice-aggregate-finish
     finish-requires
     same-length
     same-length-2
-    returns
     same-length-3
+    returns
     same-length-4
     same-length-5
+    same-length-6
+    same-length-7
     returns-2)

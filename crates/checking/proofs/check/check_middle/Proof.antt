@@ -1,0 +1,35 @@
+-- `checking::check::check_middle` meets its contract: its buffers have the room that is asked. Assumes nothing.
+use native.Mathlib.Omega.{arith}
+use Prim.Native.Nat.{ℕ}
+use lib.IntN.{ℤ, pos}
+use lib.ListN.{length-replicate}
+use borrow.Author.Needs.{needs}
+use Rattle.checking.proofs.check.check_middle.Statement.{statement}
+use Rattle.checking.proofs.check.check_middle.Tie as tie
+
+slice-aggregate-check-within : tie.Need-slice-aggregate-check-within
+slice-aggregate-check-within c = search needs
+
+slice-aggregate-check-within-2 : tie.Need-slice-aggregate-check-within-2
+slice-aggregate-check-within-2 c = search needs
+
+check-within-requires : tie.Need-check-within-requires
+check-within-requires c κs =
+    let g = c .before .before .before .before .before .before .before .pre .0 in
+    (g, (omega (arith, g .both .high, length-replicate {A = ℤ} 4352 (pos 0)), record { enough = λ l h w. omega (arith, length-replicate {A = ℕ} 32768 0) }))
+
+same-length : tie.Need-same-length
+same-length c = search needs
+
+returns : tie.Need-returns
+returns c = search needs
+
+pub check-middle-spec : {M : Type 1} → statement M
+check-middle-spec =
+    tie.close
+    (tie.spec
+    slice-aggregate-check-within
+    slice-aggregate-check-within-2
+    check-within-requires
+    same-length
+    returns)
