@@ -140,13 +140,13 @@ module _ {K : ℕ} {p : List ℕ} {at : ℕ} {kinds₀ : List ℕ} {buf₀ : Lis
           upto = s .upto;
         })
 
-    pub going-strengthens : {i : tally.Line} {u : Tally} → r ≡ Strengthens i u → Stopped K p at kinds₀ buf₀ t₀ kinds′ buf′ (Stop.Strengthens i a next u)
+    pub going-strengthens : {i : tally.Line} {u : Tally} → r ≡ Strengthens u i → Stopped K p at kinds₀ buf₀ t₀ kinds′ buf′ (Stop.Strengthens i a next u)
     going-strengthens e = let y = rw e at x in record { kept = all-kept; by = comes (y .by .0) (y .by .1) }
 
-    pub going-number : {i : tally.Line} {u : Tally} → r ≡ ClosesNumber i u → Stopped K p at kinds₀ buf₀ t₀ kinds′ buf′ (Stop.ClosesNumber i a next u)
+    pub going-number : {i : tally.Line} {u : Tally} → r ≡ ClosesNumber u i → Stopped K p at kinds₀ buf₀ t₀ kinds′ buf′ (Stop.ClosesNumber i a next u)
     going-number e = let y = rw e at x in record { kept = all-kept; by = comes (y .by .0) (y .by .1) }
 
-    pub going-stride : {i : tally.Line} {h : ℤ} {u : Tally} → r ≡ ClosesStride i h u → Stopped K p at kinds₀ buf₀ t₀ kinds′ buf′ (Stop.ClosesStride i h a next u)
+    pub going-stride : {i : tally.Line} {h : ℤ} {u : Tally} → r ≡ ClosesStride u i h → Stopped K p at kinds₀ buf₀ t₀ kinds′ buf′ (Stop.ClosesStride i a next u h)
     going-stride e = let y = rw e at x in record { kept = all-kept; by = (comes (y .by .0) (y .by .1), y .by .2) }
 
 pub going-start : {K : ℕ} {p : List ℕ} {at : ℕ} {kinds : List ℕ} {buf : List ℤ} {t : Tally} → Ready K kinds buf (t .lines .0) → Going K p at kinds buf t kinds buf at t false

@@ -56,7 +56,7 @@ module _ {K : ℕ} {p : List ℕ} {at : ℕ} {kinds : List ℕ} {buf : List ℤ}
     pub number-comes : r ≡ Stop.ClosesNumber i a next u → Comes K p at kinds buf t kinds′ buf′ (rules.CloseNumber (i .0)) a next u
     number-comes e = rw e at (s .by)
 
-    pub stride-comes : {g : ℤ} → r ≡ Stop.ClosesStride i g a next u → Comes K p at kinds buf t kinds′ buf′ (rules.CloseStride (i .0) (natAbs g)) a next u × Multiplies (natAbs g) g
+    pub stride-comes : {g : ℤ} → r ≡ Stop.ClosesStride i a next u g → Comes K p at kinds buf t kinds′ buf′ (rules.CloseStride (i .0) (natAbs g)) a next u × Multiplies (natAbs g) g
     stride-comes e = rw e at (s .by)
 
     pub split-comes : r ≡ Stop.Strengthens i a next u → Comes K p at kinds buf t kinds′ buf′ (rules.Strengthen (i .0)) a next u
@@ -104,7 +104,7 @@ module _ {K : ℕ} {p : List ℕ} {at : ℕ} {kinds : List ℕ} {buf : List ℤ}
     number-closed {i} {a} {next} {u} q w ev eb =
         rw (eb, ev) (row-closed (number-comes s q) (s .kept) st (λ at. byNumber (refusal at) (linesIn K kinds′ buf′ (u .lines .0)) (told maskA) (told maskB) (i .0)) refl e w)
 
-    pub stride-closed : {i : tally.Line} {g : ℤ} {a next : ℕ} {u : Tally} {b : Branched} {v : Tally} → r ≡ Stop.ClosesStride i g a next u
+    pub stride-closed : {i : tally.Line} {g : ℤ} {a next : ℕ} {u : Tally} {b : Branched} {v : Tally} → r ≡ Stop.ClosesStride i a next u g
         → EndedBy (λ at. byStride (refusal at) (linesIn K kinds′ buf′ (u .lines .0)) (told maskA) (told maskB) (i .0) (natAbs g)) scratch o scratch′ e
         → v ≡ returnedTo u t → b ≡ closedBy e a next v
         → Branches K p at (told maskA) (told maskB) kinds buf t scratch o kinds′ buf′ scratch′ b

@@ -40,7 +40,7 @@ StoppedBy K p at kinds buf t kinds′ buf′ (Fault x a) =
     (inA inB : ℕ → Bool) (deeper : Option Checker) → entriesFrom K p at kinds buf t inA inB deeper ≡ refused (refusal a x)
 StoppedBy K p at kinds buf t kinds′ buf′ (Strengthens i a next t′) = Comes K p at kinds buf t kinds′ buf′ (rules.Strengthen (i .0)) a next t′
 StoppedBy K p at kinds buf t kinds′ buf′ (ClosesNumber i a next t′) = Comes K p at kinds buf t kinds′ buf′ (rules.CloseNumber (i .0)) a next t′
-StoppedBy K p at kinds buf t kinds′ buf′ (ClosesStride i g a next t′) =
+StoppedBy K p at kinds buf t kinds′ buf′ (ClosesStride i a next t′ g) =
     Comes K p at kinds buf t kinds′ buf′ (rules.CloseStride (i .0) (natAbs g)) a next t′ × Multiplies (natAbs g) g
 
 pub record Stopped (K : ℕ) (p : List ℕ) (at : ℕ) (kinds : List ℕ) (buf : List ℤ) (t : Tally) (kinds′ : List ℕ) (buf′ : List ℤ) (r : Stop) : Type 0 where

@@ -38,10 +38,10 @@ pub enum Stop {
     },
     ClosesStride {
         t: Line,
-        g: i64,
         at: usize,
         next: usize,
         tally: Tally,
+        g: i64,
     },
 }
 

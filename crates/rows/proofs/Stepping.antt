@@ -85,13 +85,13 @@ pub counts-full : (row : rules.Row) (t : Tally) → 1024 ≤ t .rows .0 → Coun
 counts-full row t h = record { steps = λ K kinds buf. row-full K kinds buf t row h }
 
 module _ (t : Tally) (h : t .rows .0 < 1024) {u : Tally} (e : u ≡ moreRows t) (i : numbered.Line) where
-  pub counts-strengthen : Counts (rules.Strengthen (i .0)) t (Strengthens i u)
+  pub counts-strengthen : Counts (rules.Strengthen (i .0)) t (Strengthens u i)
   counts-strengthen = record { steps = λ K kinds buf. record { kept = kept-refl; by = (row-counted K kinds buf t (rules.Strengthen (i .0)) h, e) } }
 
-  pub counts-number : Counts (rules.CloseNumber (i .0)) t (ClosesNumber i u)
+  pub counts-number : Counts (rules.CloseNumber (i .0)) t (ClosesNumber u i)
   counts-number = record { steps = λ K kinds buf. record { kept = kept-refl; by = (row-counted K kinds buf t (rules.CloseNumber (i .0)) h, e) } }
 
-  pub counts-stride : {g : ℤ} → Multiplies (natAbs g) g → Counts (rules.CloseStride (i .0) (natAbs g)) t (ClosesStride i g u)
+  pub counts-stride : {g : ℤ} → Multiplies (natAbs g) g → Counts (rules.CloseStride (i .0) (natAbs g)) t (ClosesStride u i g)
   counts-stride {g} m = record { steps = λ K kinds buf. record { kept = kept-refl; by = (row-counted K kinds buf t (rules.CloseStride (i .0) (natAbs g)) h, e, m) } }
 
 -- ---- claims
@@ -118,9 +118,9 @@ pub steps-same : {f g : Checked} {K : ℕ} {kinds : List ℕ} {buf : List ℤ} {
 steps-same (Refused x) a s = record { kept = s .kept; by = same-trans a (s .by) }
 steps-same (Made u) a s = record { kept = s .kept; by = (same-trans a (s .by .0), s .by .1, s .by .2) }
 steps-same Stepped.Claimed a s = record { kept = s .kept; by = same-trans a (s .by) }
-steps-same (Strengthens i u) a s = record { kept = s .kept; by = (same-trans a (s .by .0), s .by .1) }
-steps-same (ClosesNumber i u) a s = record { kept = s .kept; by = (same-trans a (s .by .0), s .by .1) }
-steps-same (ClosesStride i g u) a s = record { kept = s .kept; by = (same-trans a (s .by .0), s .by .1, s .by .2) }
+steps-same (Strengthens u i) a s = record { kept = s .kept; by = (same-trans a (s .by .0), s .by .1) }
+steps-same (ClosesNumber u i) a s = record { kept = s .kept; by = (same-trans a (s .by .0), s .by .1) }
+steps-same (ClosesStride u i g) a s = record { kept = s .kept; by = (same-trans a (s .by .0), s .by .1, s .by .2) }
 
 there-made : (made : Bool) (K : ℕ) (kinds : List ℕ) (buf : List ℤ) (n : ℕ) → there (lastMade made K kinds buf n) ≡ made
 there-made true K kinds buf n = refl

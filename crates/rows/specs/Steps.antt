@@ -55,9 +55,9 @@ SteppedBy f K kinds buf t kinds′ buf′ (Made t′) =
     Same f (λ inA inB deeper next at fs. next (t .rows .0 + 1) (some (lineIn K kinds′ buf′ (t .lines .0))) (linesIn K kinds′ buf′ (t .lines .0 + 1)))
     × Ready K kinds′ buf′ (t .lines .0 + 1) × (t′ ≡ moreLines (moreRows t))
 SteppedBy f K kinds buf t kinds′ buf′ Claimed = Same f (λ inA inB deeper next at fs. next (t .rows .0) none (linesIn K kinds buf (t .lines .0)))
-SteppedBy f K kinds buf t kinds′ buf′ (Strengthens i t′) = Same f (rowLeft K kinds buf t (rules.Strengthen (i .0))) × (t′ ≡ moreRows t)
-SteppedBy f K kinds buf t kinds′ buf′ (ClosesNumber i t′) = Same f (rowLeft K kinds buf t (rules.CloseNumber (i .0))) × (t′ ≡ moreRows t)
-SteppedBy f K kinds buf t kinds′ buf′ (ClosesStride i g t′) =
+SteppedBy f K kinds buf t kinds′ buf′ (Strengthens t′ i) = Same f (rowLeft K kinds buf t (rules.Strengthen (i .0))) × (t′ ≡ moreRows t)
+SteppedBy f K kinds buf t kinds′ buf′ (ClosesNumber t′ i) = Same f (rowLeft K kinds buf t (rules.CloseNumber (i .0))) × (t′ ≡ moreRows t)
+SteppedBy f K kinds buf t kinds′ buf′ (ClosesStride t′ i g) =
     Same f (rowLeft K kinds buf t (rules.CloseStride (i .0) (natAbs g))) × (t′ ≡ moreRows t) × Multiplies (natAbs g) g
 
 pub record Steps (f : Checked) (K : ℕ) (kinds : List ℕ) (buf : List ℤ) (t : Tally) (kinds′ : List ℕ) (buf′ : List ℤ) (r : Stepped) : Type 0 where

@@ -27,9 +27,9 @@ pub enum Stepped {
     // A claim stated the line made last.
     Claimed,
     // A row that splits the branch or ends it, counted but not yet tested.
-    Strengthens { t: Line, tally: Tally },
-    ClosesNumber { t: Line, tally: Tally },
-    ClosesStride { t: Line, g: i64, tally: Tally },
+    Strengthens { tally: Tally, t: Line },
+    ClosesNumber { tally: Tally, t: Line },
+    ClosesStride { tally: Tally, t: Line, g: i64 },
 }
 
 fn stepped_of(d: Derived) -> Stepped

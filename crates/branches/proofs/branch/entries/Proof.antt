@@ -59,8 +59,8 @@ loop-less-2 c = starts-less (starts (c .before .before .before .before .before .
 loop-again-2 : tie.Need-loop-again-2 Inv-loop μ-loop
 loop-again-2 c = going-claimed (c .before .before .before .before .before .before .before .before .before .before .before .before .loop .inv) (starts (c .before .before .before .before .before .before .before .before .before .before .before .next-field .ensures) (c .before .before .before .before .before .before .before .before .before .a .given .1)) (c .before .before .before .before .before .step .ensures) (c .enum-told .given .1)
 
-enum-known-t : tie.Need-enum-known-t Inv-loop μ-loop
-enum-known-t c = search needs
+enum-known-u-2 : tie.Need-enum-known-u-2 Inv-loop μ-loop
+enum-known-u-2 c = search needs
 
 same-length-3 : tie.Need-same-length-3 Inv-loop μ-loop
 same-length-3 c = c .before .before .before .before .before .before .step .ensures .kept .lines-length ∙ c .before .before .before .before .before .before .before .before .before .before .before .before .before .loop .inv .kept .lines-length
@@ -69,10 +69,10 @@ same-length-4 : tie.Need-same-length-4 Inv-loop μ-loop
 same-length-4 c = c .before .before .before .before .before .before .step .ensures .kept .kinds-length ∙ c .before .before .before .before .before .before .before .before .before .before .before .before .before .loop .inv .kept .kinds-length
 
 returns-2 : tie.Need-returns-2 Inv-loop μ-loop
-returns-2 c = going-strengthens (c .before .before .before .before .before .before .before .before .before .before .before .before .before .loop .inv) (starts (c .before .before .before .before .before .before .before .before .before .before .before .before .next-field .ensures) (c .before .before .before .before .before .before .before .before .before .before .a .given .1)) (c .before .before .before .before .before .before .step .ensures) (c .before .t .given .1)
+returns-2 c = going-strengthens (c .before .before .before .before .before .before .before .before .before .before .before .before .before .loop .inv) (starts (c .before .before .before .before .before .before .before .before .before .before .before .before .next-field .ensures) (c .before .before .before .before .before .before .before .before .before .before .a .given .1)) (c .before .before .before .before .before .before .step .ensures) (c .before .u2 .given .1)
 
-enum-known-t-2 : tie.Need-enum-known-t-2 Inv-loop μ-loop
-enum-known-t-2 c = search needs
+enum-known-u-3 : tie.Need-enum-known-u-3 Inv-loop μ-loop
+enum-known-u-3 c = search needs
 
 same-length-5 : tie.Need-same-length-5 Inv-loop μ-loop
 same-length-5 c = c .before .before .before .before .before .before .step .ensures .kept .lines-length ∙ c .before .before .before .before .before .before .before .before .before .before .before .before .before .loop .inv .kept .lines-length
@@ -81,10 +81,10 @@ same-length-6 : tie.Need-same-length-6 Inv-loop μ-loop
 same-length-6 c = c .before .before .before .before .before .before .step .ensures .kept .kinds-length ∙ c .before .before .before .before .before .before .before .before .before .before .before .before .before .loop .inv .kept .kinds-length
 
 returns-3 : tie.Need-returns-3 Inv-loop μ-loop
-returns-3 c = going-number (c .before .before .before .before .before .before .before .before .before .before .before .before .before .loop .inv) (starts (c .before .before .before .before .before .before .before .before .before .before .before .before .next-field .ensures) (c .before .before .before .before .before .before .before .before .before .before .a .given .1)) (c .before .before .before .before .before .before .step .ensures) (c .before .t2 .given .1)
+returns-3 c = going-number (c .before .before .before .before .before .before .before .before .before .before .before .before .before .loop .inv) (starts (c .before .before .before .before .before .before .before .before .before .before .before .before .next-field .ensures) (c .before .before .before .before .before .before .before .before .before .before .a .given .1)) (c .before .before .before .before .before .before .step .ensures) (c .before .u3 .given .1)
 
-enum-known-t-3 : tie.Need-enum-known-t-3 Inv-loop μ-loop
-enum-known-t-3 c = search needs
+enum-known-u-4 : tie.Need-enum-known-u-4 Inv-loop μ-loop
+enum-known-u-4 c = search needs
 
 same-length-7 : tie.Need-same-length-7 Inv-loop μ-loop
 same-length-7 c = c .before .before .before .before .before .before .step .ensures .kept .lines-length ∙ c .before .before .before .before .before .before .before .before .before .before .before .before .before .loop .inv .kept .lines-length
@@ -94,9 +94,9 @@ same-length-8 c = c .before .before .before .before .before .before .step .ensur
 
 returns-4 : tie.Need-returns-4 Inv-loop μ-loop
 returns-4 c =
-    let y = rw (c .before .t3 .given .1) at (c .before .before .before .before .before .before .step .ensures) in
+    let y = rw (c .before .u4 .given .1) at (c .before .before .before .before .before .before .step .ensures) in
     let f = within-fits (y .by .2 .within) tt in
-    simp toZ-ofZ (going-stride (c .before .before .before .before .before .before .before .before .before .before .before .before .before .loop .inv) (starts (c .before .before .before .before .before .before .before .before .before .before .before .before .next-field .ensures) (c .before .before .before .before .before .before .before .before .before .before .a .given .1)) (c .before .before .before .before .before .before .step .ensures) (c .before .t3 .given .1))
+    simp toZ-ofZ (going-stride (c .before .before .before .before .before .before .before .before .before .before .before .before .before .loop .inv) (starts (c .before .before .before .before .before .before .before .before .before .before .before .before .next-field .ensures) (c .before .before .before .before .before .before .before .before .before .before .a .given .1)) (c .before .before .before .before .before .before .step .ensures) (c .before .u4 .given .1))
 
 enum-known-a-2 : tie.Need-enum-known-a-2 Inv-loop μ-loop
 enum-known-a-2 c = search needs
@@ -123,4 +123,4 @@ returns-6 : tie.Need-returns-6 Inv-loop μ-loop
 returns-6 c = going-ends (c .before .before .before .before .loop .inv) (next-ends _ (c .before .before .before .next-field .ensures) (c .before .a3 .given .1))
 
 pub entries-spec : {M : Type 1} → statement M
-entries-spec = tie.close (tie.spec Inv-loop μ-loop loop-holds next-field-requires enum-known-a step-requires enum-known-number same-length same-length-2 returns enum-known-u loop-less loop-again enum-told loop-less-2 loop-again-2 enum-known-t same-length-3 same-length-4 returns-2 enum-known-t-2 same-length-5 same-length-6 returns-3 enum-known-t-3 same-length-7 same-length-8 returns-4 enum-known-a-2 same-length-9 same-length-10 returns-5 enum-known-a-3 same-length-11 same-length-12 returns-6)
+entries-spec = tie.close (tie.spec Inv-loop μ-loop loop-holds next-field-requires enum-known-a step-requires enum-known-number same-length same-length-2 returns enum-known-u loop-less loop-again enum-told loop-less-2 loop-again-2 enum-known-u-2 same-length-3 same-length-4 returns-2 enum-known-u-3 same-length-5 same-length-6 returns-3 enum-known-u-4 same-length-7 same-length-8 returns-4 enum-known-a-2 same-length-9 same-length-10 returns-5 enum-known-a-3 same-length-11 same-length-12 returns-6)
