@@ -11,6 +11,8 @@ use fields::ending::ending_at;
 use fields::header::Headed;
 use fields::header::put_header;
 use fields::header::read_header;
+use forms::BUNDLE_BYTES;
+use forms::PROOF_BYTES;
 use rows::tally::Row;
 use rows::tally::Tally;
 ghost use mathlib.Core.Path.{_≡_};
@@ -350,13 +352,13 @@ fn check_bundles(a: &[u8], b: &[u8], proof: &[u8], out: &mut [u8]) -> Checked
 pub fn check(a: &[u8], b: &[u8], proof: &[u8], out: &mut [u8]) -> Checked
     ensures { λ r. ⌜ writtenOf r (now (out .exit)) ≡ check (now (a .entry)) (now (b .entry)) (now (proof .entry)) (now (out .entry)) ⌝ }
 {
-    if a.len() > 4096 {
+    if a.len() > BUNDLE_BYTES {
         return refusal(1, 1, 0);
     }
-    if b.len() > 4096 {
+    if b.len() > BUNDLE_BYTES {
         return refusal(1, 2, 0);
     }
-    if proof.len() > 65536 {
+    if proof.len() > PROOF_BYTES {
         return refusal(1, 3, 0);
     }
     check_bundles(a, b, proof, out)

@@ -17,6 +17,8 @@ pub const STRENGTHENS: u16 = 32;
 // The most bytes of a file.
 pub const BUNDLE_BYTES: usize = 4096;
 
+pub const PROOF_BYTES: usize = 65536;
+
 pub const FORMULA_BYTES: usize = 65536;
 
 // The most levels of and/or in a formula.
