@@ -8,7 +8,7 @@ ghost use Rattle.integers.specs.Magnitude.{Within};
 ghost use Rattle.calculus.specs.Rules.{Derive, Combine, Reduce, Scale, Strengthen, CloseNumber, CloseStride};
 ghost use Rattle.rows.specs.Entries.{Multiplies};
 ghost use Rattle.rows.specs.Rows.{Ready};
-ghost use Rattle.rows.specs.Steps.{steppedOf, rowChecked, fieldChecked, Steps, Counts, Claims};
+ghost use Rattle.rows.specs.Steps.{rowChecked, fieldChecked, Steps, Counts, Claims};
 use crate::claims::claim_holds;
 use crate::derive::Derived;
 use crate::derive::combine;
@@ -32,15 +32,6 @@ pub enum Stepped {
     ClosesStride { tally: Tally, t: Line, g: i64 },
 }
 
-fn stepped_of(d: Derived) -> Stepped
-    ensures { λ r. ⌜ r ≡ steppedOf d ⌝ }
-{
-    match d {
-        Derived::Refused { number } => Stepped::Refused { number },
-        Derived::Made { tally } => Stepped::Made { tally },
-    }
-}
-
 // Each row is counted first. 18.
 pub fn combine_row(
     lines: &mut [i64],
@@ -60,8 +51,14 @@ pub fn combine_row(
     let made = counted.made;
     let next = counted.tally;
     if made {
-        let d = combine(lines, kinds, next, s, t, alpha, beta, k);
-        return stepped_of(d);
+        match combine(lines, kinds, next, s, t, alpha, beta, k) {
+            Derived::Refused { number } => {
+                return Stepped::Refused { number };
+            }
+            Derived::Made { tally: u } => {
+                return Stepped::Made { tally: u };
+            }
+        }
     }
     Stepped::Refused { number: 18 }
 }
@@ -83,8 +80,14 @@ pub fn reduce_row(
     let made = counted.made;
     let next = counted.tally;
     if made {
-        let d = reduce(lines, kinds, next, s, t, alpha, k);
-        return stepped_of(d);
+        match reduce(lines, kinds, next, s, t, alpha, k) {
+            Derived::Refused { number } => {
+                return Stepped::Refused { number };
+            }
+            Derived::Made { tally: u } => {
+                return Stepped::Made { tally: u };
+            }
+        }
     }
     Stepped::Refused { number: 18 }
 }
@@ -105,8 +108,14 @@ pub fn scale_row(
     let made = counted.made;
     let next = counted.tally;
     if made {
-        let d = scale(lines, kinds, next, t, alpha, k);
-        return stepped_of(d);
+        match scale(lines, kinds, next, t, alpha, k) {
+            Derived::Refused { number } => {
+                return Stepped::Refused { number };
+            }
+            Derived::Made { tally: u } => {
+                return Stepped::Made { tally: u };
+            }
+        }
     }
     Stepped::Refused { number: 18 }
 }

@@ -16,8 +16,8 @@ scale-requires c κs =
     let h = counted-row (c .before .before .before .before .row-counted .ensures) (c .before .before .if1 .taken) in
     simp toZ-ofZ (rw (h .1) (s .pre .0), s .pre .1)
 
-stepped-of-requires : tie.Need-stepped-of-requires
-stepped-of-requires c κs = search needs
+enum-known-number : tie.Need-enum-known-number
+enum-known-number c = search needs
 
 same-length : tie.Need-same-length
 same-length c = search needs
@@ -27,17 +27,47 @@ same-length-2 c = search needs
 
 returns : tie.Need-returns
 returns c =
-    let s = c .before .before .before .before .before .before .before .before .before .before .before in
+    let s = c .before .before .before .before .before .before .before .before .before .before .before .before .before in
     let a = s .args in
     let f0 = s .fits .alpha in
-    let h = counted-row (c .before .before .before .before .before .before .before .before .before .row-counted .ensures) (c .before .before .before .before .before .before .before .if1 .taken) in
-    row-derived (a .tally) (h .0) (h .1) (simp toZ-ofZ at (c .before .before .before .before .scale .ensures)) (c .stepped-of .ensures)
+    let h = counted-row (c .before .before .before .before .before .before .before .before .before .before .before .row-counted .ensures) (c .before .before .before .before .before .before .before .before .before .if1 .taken) in
+    row-derived (a .tally) (h .0) (h .1) (simp toZ-ofZ at (c .before .before .before .before .before .before .scale .ensures)) (rw (c .before .number .given .1))
+
+enum-known-u : tie.Need-enum-known-u
+enum-known-u c = search needs
+
+same-length-3 : tie.Need-same-length-3
+same-length-3 c = search needs
+
+same-length-4 : tie.Need-same-length-4
+same-length-4 c = search needs
 
 returns-2 : tie.Need-returns-2
 returns-2 c =
+    let s = c .before .before .before .before .before .before .before .before .before .before .before .before .before in
+    let a = s .args in
+    let f0 = s .fits .alpha in
+    let h = counted-row (c .before .before .before .before .before .before .before .before .before .before .before .row-counted .ensures) (c .before .before .before .before .before .before .before .before .before .if1 .taken) in
+    row-derived (a .tally) (h .0) (h .1) (simp toZ-ofZ at (c .before .before .before .before .before .before .scale .ensures)) (rw (c .before .u .given .1))
+
+returns-3 : tie.Need-returns-3
+returns-3 c =
     let s = c .before .before .before .before in
     let a = s .args in
     row-full _ _ _ (a .tally) _ (full-row (a .tally) (c .before .before .row-counted .ensures) (c .if1 .left))
 
 pub scale-row-spec : {M : Type 1} → statement M
-scale-row-spec = tie.close (tie.spec row-counted-requires scale-requires stepped-of-requires same-length same-length-2 returns returns-2)
+scale-row-spec =
+    tie.close
+    (tie.spec
+    row-counted-requires
+    scale-requires
+    enum-known-number
+    same-length
+    same-length-2
+    returns
+    enum-known-u
+    same-length-3
+    same-length-4
+    returns-2
+    returns-3)
