@@ -1,13 +1,13 @@
 // The constraints of a bundle, written as fields.
 use fields::numbers::put_head;
-use fields::numbers::put_signed;
+use fields::words::put_short;
 ghost use mathlib.Core.Path.{_≡_};
 ghost use Prim.Native.Nat.{_+_, _*_, _≤_};
 ghost use lib.ListN.{length, take, drop};
 ghost use lib.Seq.{sets};
 ghost use Rattle.forms.specs.Edition.{edition1};
 ghost use Rattle.fields.specs.Fields.{fieldBytes};
-ghost use Rattle.fields.specs.Numbers.{signedBytes, signedsBytes};
+ghost use Rattle.fields.specs.Numbers.{signedsBytes};
 ghost use Rattle.bundle.specs.Write.{constraintsBytes};
 ghost use Rattle.bundle.specs.Put.{firstBad, fieldSize, Writable};
 
@@ -25,13 +25,6 @@ pub fn first_bad(kinds: &[u8]) -> usize
     i
 }
 
-fn put_number(out: &mut [u8], at: usize, x: i16)
-    requires { ⌜ at + 2 ≤ length (now out) ⌝ }
-    ensures { λ _. ⌜ now (out .exit) ≡ sets (now (out .entry)) at (signedBytes 2 x) ⌝ }
-{
-    put_signed(out, at, 2, x as i64);
-}
-
 // n numbers of two bytes each, from index from on.
 fn put_numbers(out: &mut [u8], at: usize, numbers: &[i16], from: usize, n: usize)
     requires { ⌜ at + n * 2 ≤ length (now out) ⌝ }
@@ -41,7 +34,7 @@ fn put_numbers(out: &mut [u8], at: usize, numbers: &[i16], from: usize, n: usize
     let mut i = 0;
     while i < n {
         let x = numbers[from + i];
-        put_number(out, at + i * 2, x);
+        put_short(out, at + i * 2, x);
         i += 1;
     }
 }

@@ -4,27 +4,20 @@ use fields::Next;
 use fields::header::Headed;
 use fields::header::read_header;
 use fields::next_field;
-use fields::numbers::signed_at;
+use fields::words::short_at;
 ghost use mathlib.Core.Path.{_≡_};
 ghost use mathlib.Core.Option.{none};
 ghost use Prim.Native.Nat.{_+_, _*_, _≤_};
-ghost use lib.ListN.{length, take, drop};
+ghost use lib.ListN.{length, drop};
 ghost use lib.Seq.{sets};
 ghost use Rattle.fields.specs.Answers.{fileA};
 ghost use Rattle.fields.specs.Fields.{fields};
-ghost use Rattle.fields.specs.Numbers.{signed, signeds};
+ghost use Rattle.fields.specs.Numbers.{signeds};
 ghost use Rattle.fields.specs.Places.{fieldsAt};
 ghost use Rattle.bundle.specs.Bundle.{bundle};
 ghost use Rattle.bundle.specs.Scan.{stated};
 ghost use Rattle.bundle.specs.Read.{kindsOf, numbersOf};
 ghost use Rattle.bundle.specs.Store.{Storable, Fitting, kindsIn, numbersIn};
-
-fn number_at(s: &[u8], at: usize) -> i16
-    requires { ⌜ at + 2 ≤ length (now s) ⌝ }
-    ensures { λ r. ⌜ r ≡ signed (take 2 (drop at (now (s .entry)))) ⌝ }
-{
-    signed_at(s, at, 2) as i16
-}
 
 // n numbers of two bytes from start on, into numbers from at on.
 fn store_numbers(s: &[u8], start: usize, n: usize, numbers: &mut [i16], at: usize)
@@ -34,7 +27,7 @@ fn store_numbers(s: &[u8], start: usize, n: usize, numbers: &mut [i16], at: usiz
 {
     let mut i = 0;
     while i < n {
-        let x = number_at(s, start + i * 2);
+        let x = short_at(s, start + i * 2);
         numbers[at + i] = x;
         i += 1;
     }

@@ -1,4 +1,4 @@
--- Laws that belong to no one function: results, numbers, framing and notes, headers, places, what may stand after all is read, that places do not matter, and the walks of the field reader.
+-- Laws that belong to no one function: results, numbers and words, framing and notes, headers, places, what may stand after all is read, that places do not matter, and the walks of the field reader.
 pub mod Results
 pub mod Notes
 pub mod Signed
@@ -10,6 +10,7 @@ pub mod Bare
 pub mod Places
 pub mod Stores
 pub mod Digits
+pub mod Turned
 pub mod Headers
 pub mod Endings
 pub mod Refusals

@@ -5,6 +5,7 @@ ghost use Rattle.fields.specs.Places.{foundAt, fieldsAt, nextOf};
 pub mod ending;
 pub mod header;
 pub mod numbers;
+pub mod words;
 
 // An answer: a refusal's number, the file and the place at fault. All three are 0 for accepted.
 #[repr(C)]

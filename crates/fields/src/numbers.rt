@@ -39,7 +39,7 @@ fn count_of(width: usize) -> u64
 }
 
 // n, below full, read as two's complement.
-fn signed_of(n: u64, full: u64) -> i64
+pub fn signed_of(n: u64, full: u64) -> i64
     requires { ⌜ (n < full) × (full ≤ 0x1_0000_0000) ⌝ }
     ensures { λ r. ⌜ r ≡ complement full n ⌝ }
 {
@@ -77,7 +77,7 @@ pub fn put_unsigned(out: &mut [u8], at: usize, width: usize, n: u64)
 }
 
 // The other way from signed_of.
-fn residue_of(value: i64, full: u64) -> u64
+pub fn residue_of(value: i64, full: u64) -> u64
     requires { ⌜ Half full value ⌝ }
     requires { ⌜ full ≤ 0x1_0000_0000 ⌝ }
     ensures { λ r. ⌜ r ≡ residue full value ⌝ }

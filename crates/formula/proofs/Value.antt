@@ -1,24 +1,21 @@
 -- The value of a form, summed from its last term to its first. Assumes nothing.
 use mathlib.Core.Path.{_≡_, refl, ap, _∙_}
 use mathlib.Core.List.{List, [], _∷_}
-use mathlib.Core.Logic.{⊎-elim}
 use Prim.Native.Nat.{ℕ, zero, suc, _+_, _*_, _-_, _≤_, _<_}
-use native.Mathlib.Nat.{eq-or-lt-of-le}
 use native.Mathlib.Omega.{arith}
-use lib.ListN.{length, getD, take, drop, set}
-use lib.Seq.{drop-cons, drop-drop, take-take, getD-set-same}
+use lib.ListN.{length, getD, take, drop}
+use lib.Seq.{drop-cons, drop-drop, take-take}
 use lib.IntN.{ℤ, pos, _+ℤ_, _*ℤ_, +ℤ-assoc, +ℤ-idl}
 use lib.Signed.{natAbs-le}
 use mir.Syntax.{w64}
 use mir.Val.{SFits}
-use borrow.Author.Needs.{read-below}
 use Rattle.integers.specs.Magnitude.{Within, within-add, within-mul, within-le, within-fits}
 use Rattle.forms.specs.Forms.{sum, value}
 use Rattle.fields.specs.Numbers.{signed, signeds, formFrom, formWidth}
 use Rattle.fields.specs.Ranges.{Held}
 use Rattle.formula.specs.Test.{registers}
 use Rattle.formula.specs.Registers.{AllWithin}
-use Rattle.formula.specs.FormAt.{formAt, Loaded}
+use Rattle.formula.specs.FormAt.{formAt}
 
 -- a number of four bytes
 pub four-within : {z : ℤ} → Held 4 z → Within 2_147_483_648 z
@@ -88,26 +85,3 @@ module _ (s : List ℕ) (at : ℕ) (values : List ℤ) (K : ℕ) where
       let z : i ≡ 0 = omega arith in
       let y : K - 0 ≡ K = omega arith in
       p .is ∙ rw (z, y)
-
--- the numbers loaded so far, and one more
-pub loaded-none : (s : List ℕ) (at : ℕ) (form : List ℤ) → Loaded s at form 0
-loaded-none s at form = record { each = λ i h. absurd (omega arith); held = λ i h. absurd (omega arith) }
-
-module _ {s : List ℕ} {at : ℕ} {form : List ℤ} {i : ℕ} (p : Loaded s at form i) (room : i < length form) {z : ℤ} (e : z ≡ signed (take 4 (drop (at + i * 4) s))) (h : Held 4 z) where
-  kept : (j : ℕ) → j < i → getD (set form i z) j (pos 0) ≡ getD form j (pos 0)
-  kept j l = read-below ℤ form i j z (pos 0) (getD form j (pos 0)) l refl
-
-  there : getD (set form i z) i (pos 0) ≡ z
-  there = getD-set-same form i z (pos 0) room
-
-  pub loaded-more : Loaded s at (set form i z) (i + 1)
-  loaded-more = record {
-    each = λ j b. ⊎-elim
-        (λ (q : j ≡ i). rw q (there ∙ e))
-        (λ (l : j < i). kept j l ∙ p .each j l)
-        (eq-or-lt-of-le (omega arith));
-    held = λ j b. ⊎-elim
-        (λ (q : j ≡ i). rw (q, there) h)
-        (λ (l : j < i). rw (kept j l) (p .held j l))
-        (eq-or-lt-of-le (omega arith));
-  }

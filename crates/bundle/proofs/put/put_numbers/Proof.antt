@@ -40,14 +40,14 @@ mul-x c =
 shared-slice-copy-out-x : tie.Need-shared-slice-copy-out-x Inv-loop μ-loop
 shared-slice-copy-out-x c = search needs
 
-mul-put-number : tie.Need-mul-put-number Inv-loop μ-loop
-mul-put-number c = search needs
+mul-put-short : tie.Need-mul-put-short Inv-loop μ-loop
+mul-put-short c = search needs
 
-add-put-number : tie.Need-add-put-number Inv-loop μ-loop
-add-put-number c = search needs
+add-put-short : tie.Need-add-put-short Inv-loop μ-loop
+add-put-short c = search needs
 
-put-number-requires : tie.Need-put-number-requires Inv-loop μ-loop
-put-number-requires c κs = search needs
+put-short-requires : tie.Need-put-short-requires Inv-loop μ-loop
+put-short-requires c κs = search needs
 
 add-i : tie.Need-add-i Inv-loop μ-loop
 add-i c = search needs
@@ -60,9 +60,9 @@ loop-again c =
     let a = c .before .before .before .before .before .before .before .before .args in
     let x = getD (a .numbers .now) (a .from + c .before .before .before .before .before .before .loop .i) (pos 0) in
     let e = toZ-ofZ w16 x (record { sfits = c .before .before .before .before .x .given }) in
-    let o : c .before .before .put-number .last .0 ≡ sets (c .before .before .before .before .before .before .loop .out) (a .at + c .before .before .before .before .before .before .loop .i * 2) (signedBytes 2 x) = c .before .before .put-number .ensures ∙ rw e in (
+    let o : c .before .before .put-short .last .0 ≡ sets (c .before .before .before .before .before .before .loop .out) (a .at + c .before .before .before .before .before .before .loop .i * 2) (signedBytes 2 x) = c .before .before .put-short .ensures ∙ rw e in (
       rw o (put-next (c .before .before .before .before .before .before .loop .out) (a .at) (c .before .before .before .before .before .before .loop .i) (a .n) (a .numbers .now) (a .from) (c .before .before .before .before .before .loop-test .taken) (c .before .before .before .before .before .before .before .before .pre .1) ∙ c .before .before .before .before .before .before .loop .inv .0),
-      c .before .before .put-number .kept .0 ∙ c .before .before .before .before .before .before .loop .inv .1,
+      c .before .before .put-short .kept .0 ∙ c .before .before .before .before .before .before .loop .inv .1,
       omega arith,
     )
 
@@ -85,9 +85,9 @@ put-numbers-spec =
     add-x
     mul-x
     shared-slice-copy-out-x
-    mul-put-number
-    add-put-number
-    put-number-requires
+    mul-put-short
+    add-put-short
+    put-short-requires
     add-i
     loop-less
     loop-again

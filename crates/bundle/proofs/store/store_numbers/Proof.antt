@@ -28,14 +28,14 @@ loop-holds c =
     let z : a .start + 0 ≡ a .start = omega arith in
     (rw (x, y, z), refl, omega arith)
 
-mul-number-at : tie.Need-mul-number-at Inv-loop μ-loop
-mul-number-at c = search needs
+mul-short-at : tie.Need-mul-short-at Inv-loop μ-loop
+mul-short-at c = search needs
 
-add-number-at : tie.Need-add-number-at Inv-loop μ-loop
-add-number-at c = search needs
+add-short-at : tie.Need-add-short-at Inv-loop μ-loop
+add-short-at c = search needs
 
-number-at-requires : tie.Need-number-at-requires Inv-loop μ-loop
-number-at-requires c κs = search needs
+short-at-requires : tie.Need-short-at-requires Inv-loop μ-loop
+short-at-requires c κs = search needs
 
 add-x : tie.Need-add-x Inv-loop μ-loop
 add-x c = search needs
@@ -57,7 +57,7 @@ loop-less c = search needs
 loop-again : tie.Need-loop-again Inv-loop μ-loop
 loop-again c =
     let a = c .before .before .before .before .args in
-    let x = toZ-ofZ w16 (c .number-at .result) (record { sfits = c .number-at .ok }) ∙ c .number-at .ensures in (
+    let x = toZ-ofZ w16 (c .short-at .result) (record { sfits = c .short-at .ok }) ∙ c .short-at .ensures in (
       rw x (stored-next (c .before .before .loop .numbers) (a .at) (c .before .before .loop .i) (a .n) (a .s .now) (a .start) (c .before .loop-test .taken) ∙ c .before .before .loop .inv .0),
       simp length-set (c .before .before .loop .inv .1),
       omega arith,
@@ -79,9 +79,9 @@ store-numbers-spec =
     Inv-loop
     μ-loop
     loop-holds
-    mul-number-at
-    add-number-at
-    number-at-requires
+    mul-short-at
+    add-short-at
+    short-at-requires
     add-x
     mul-x
     slice-set-from-x

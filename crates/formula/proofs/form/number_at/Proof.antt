@@ -1,22 +1,22 @@
--- `formula::form::number_at` meets its contract: a number of four bytes fits 32 bits. Assumes nothing.
-use mathlib.Core.Path.{_≡_, refl, _∙_}
-use mathlib.Core.Logic.{inr}
-use native.Mathlib.Omega.{arith}
+-- `formula::form::number_at` meets its contract. Assumes nothing.
+use mathlib.Core.Path.{_∙_}
 use mir.Syntax.{w32, w64}
 use mir.ValLaws.{toZ-ofZ}
+use borrow.Author.Needs.{needs}
 use Rattle.formula.proofs.form.number_at.Statement.{statement}
 use Rattle.formula.proofs.form.number_at.Tie as tie
 
-signed-at-requires : tie.Need-signed-at-requires
-signed-at-requires c κs = (inr refl, c .before .pre)
+long-at-requires : tie.Need-long-at-requires
+long-at-requires c κs = c .before .pre
 
-cast-result : tie.Need-cast-result
-cast-result c = rw (toZ-ofZ w64 (c .signed-at .result) (record { sfits = c .signed-at .ok })) (record { sfits = omega (arith, c .signed-at .ensures .1 .held .half) })
+wide-requires : tie.Need-wide-requires
+wide-requires c κs = search needs
 
 returns : tie.Need-returns
 returns c =
-    let back = toZ-ofZ w32 _ (cast-result c) ∙ toZ-ofZ w64 (c .signed-at .result) (record { sfits = c .signed-at .ok }) in
-    (back ∙ c .signed-at .ensures .0, rw back (c .signed-at .ensures .1))
+    let r = c .before .long-at in
+    let back = toZ-ofZ w64 (c .wide .result) (record { sfits = c .wide .ok }) ∙ c .wide .ensures ∙ toZ-ofZ w32 (r .result) (record { sfits = r .ok }) in
+    (back ∙ r .ensures .0, rw back (r .ensures .1))
 
 pub number-at-spec : {M : Type 1} → statement M
-number-at-spec = tie.close (tie.spec signed-at-requires cast-result returns)
+number-at-spec = tie.close (tie.spec long-at-requires wide-requires returns)

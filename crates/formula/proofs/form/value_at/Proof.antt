@@ -1,5 +1,5 @@
 -- `formula::form::value_at` meets its contract. The invariant: the terms from i on are summed. Assumes nothing.
-use Prim.Native.Nat.{_+_, _-_, _<_}
+use mathlib.Core.Path.{refl}
 use native.Mathlib.Omega.{arith}
 use mir.Syntax.{w64}
 use mir.Val.{toZ}
@@ -11,58 +11,47 @@ use Rattle.formula.proofs.form.value_at.Statement.{statement}
 use Rattle.formula.proofs.form.value_at.Tie as tie
 
 abbrev Inv-loop : tie.InvT-loop
-Inv-loop s at values k form total₀ i₀ total i = Summed s at values k i (toZ w64 total)
+Inv-loop s at values k total₀ i₀ total i = Summed s at values k i (toZ w64 total)
 
 abbrev μ-loop : tie.MeasureT-loop
-μ-loop s at values k form total₀ i₀ total i = i
+μ-loop s at values k total₀ i₀ total i = i
 
-slice-aggregate-load-form : tie.Need-slice-aggregate-load-form Inv-loop μ-loop
-slice-aggregate-load-form c = search needs
+mul-number-at : tie.Need-mul-number-at Inv-loop μ-loop
+mul-number-at c = omega arith
 
-add-load-form : tie.Need-add-load-form Inv-loop μ-loop
-add-load-form c = omega arith
+add-number-at : tie.Need-add-number-at Inv-loop μ-loop
+add-number-at c = omega arith
 
-load-form-requires : tie.Need-load-form-requires Inv-loop μ-loop
-load-form-requires c κs = (omega arith, omega arith)
-
-slice-aggregate-register : tie.Need-slice-aggregate-register Inv-loop μ-loop
-slice-aggregate-register c = search needs
-
-register-requires : tie.Need-register-requires Inv-loop μ-loop
-register-requires c κs = omega (arith, slice-aggregate-register c)
+number-at-requires : tie.Need-number-at-requires Inv-loop μ-loop
+number-at-requires c κs = omega arith
 
 loop-holds : tie.Need-loop-holds Inv-loop μ-loop
-loop-holds c =
-    let loaded = c .before .before .before .load-form .ensures in
-    let k = c .before .before .before .before .before .before .args .k in
-    let here : k < k + 1 = omega arith in
-    rw (toZ-ofZ w64 (c .register .result) (record { sfits = c .register .ok }), c .register .ensures) (summed-none _ _ _ _ (loaded .each k here) (loaded .held k here))
+loop-holds c = rw (toZ-ofZ w64 (c .number-at .result) (record { sfits = c .number-at .ok })) (summed-none _ _ _ _ (c .number-at .ensures .0) (c .number-at .ensures .1))
 
 sub-i : tie.Need-sub-i Inv-loop μ-loop
 sub-i c = c .loop-test .taken
 
-slice-aggregate-with-term : tie.Need-slice-aggregate-with-term Inv-loop μ-loop
-slice-aggregate-with-term c = search needs
+mul-with-term : tie.Need-mul-with-term Inv-loop μ-loop
+mul-with-term c = omega (arith, c .before .loop .inv .upto)
+
+add-with-term : tie.Need-add-with-term Inv-loop μ-loop
+add-with-term c = omega (arith, c .before .loop .inv .upto)
 
 with-term-requires : tie.Need-with-term-requires Inv-loop μ-loop
-with-term-requires c κs = record {
-  coefficient = omega (arith, slice-aggregate-with-term c);
-  held = c .before .before .before .before .before .before .load-form .ensures .held (c .before .before .loop .i - 1) (omega (arith, c .before .before .loop .inv .upto));
-  register = omega arith;
-  all = c .before .before .before .before .before .before .before .before .before .pre .1 .all;
-  small = within-le (omega arith) (c .before .before .loop .inv .bound);
-}
+with-term-requires c κs =
+    let pre = c .before .before .before .before .pre in (
+      omega (arith, c .before .loop .inv .upto),
+      record { register = omega (arith, c .before .loop .inv .upto); all = pre .1 .all; small = within-le (omega arith) (c .before .loop .inv .bound) },
+    )
 
 loop-less : tie.Need-loop-less Inv-loop μ-loop
 loop-less c = omega arith
 
 loop-again : tie.Need-loop-again Inv-loop μ-loop
 loop-again c =
-    let loaded = c .before .before .before .before .before .before .before .load-form .ensures in
-    let pre = c .before .before .before .before .before .before .before .before .before .before .pre in
-    let i = c .before .before .before .loop .i in
+    let pre = c .before .before .before .before .before .pre in
     rw (toZ-ofZ w64 (c .with-term .result) (record { sfits = c .with-term .ok }))
-    (summed-more _ _ _ _ (pre .1 .all) (pre .1 .count) (c .before .before .before .loop .inv) (omega arith) (loaded .each (i - 1) (omega (arith, c .before .before .before .loop .inv .upto))) (loaded .held (i - 1) (omega (arith, c .before .before .before .loop .inv .upto))) (c .with-term .ensures))
+    (summed-more _ _ _ _ (pre .1 .all) (pre .1 .count) (c .before .before .loop .inv) (omega arith) refl (c .with-term .ensures .1) (c .with-term .ensures .0))
 
 returns : tie.Need-returns Inv-loop μ-loop
 returns c = summed-all _ _ _ _ (c .before .loop .inv) (c .loop-test .left)
@@ -73,14 +62,13 @@ value-at-spec =
     (tie.spec
     Inv-loop
     μ-loop
-    slice-aggregate-load-form
-    add-load-form
-    load-form-requires
-    slice-aggregate-register
-    register-requires
+    mul-number-at
+    add-number-at
+    number-at-requires
     loop-holds
     sub-i
-    slice-aggregate-with-term
+    mul-with-term
+    add-with-term
     with-term-requires
     loop-less
     loop-again

@@ -1,44 +1,39 @@
 -- `formula::form::with_term` meets its contract. Assumes nothing.
 use mathlib.Core.Path.{_≡_, refl}
-use lib.ListN.{getD}
 use lib.IntN.{pos, _+ℤ_, _*ℤ_}
 use mir.Syntax.{w64}
 use mir.Val.{SFits, toZ, ofZ}
 use mir.ValLaws.{toZ-ofZ}
 use Rattle.integers.specs.Magnitude.{Within}
-use Rattle.fields.specs.Ranges.{Held}
 use Rattle.formula.proofs.Value.{product-fits, sum-fits}
 use Rattle.formula.proofs.form.with_term.Statement.{statement}
 use Rattle.formula.proofs.form.with_term.Tie as tie
 
+number-at-requires : tie.Need-number-at-requires
+number-at-requires c κs = c .before .pre .0
+
 register-requires : tie.Need-register-requires
-register-requires c κs = c .pre .coefficient
+register-requires c κs = c .before .before .pre .1 .register
 
-register-requires-2 : tie.Need-register-requires-2
-register-requires-2 c κs = c .before .pre .register
+module _ (c : tie.After-register) where
+  value-in : Within 1_000_000 (c .register .result)
+  value-in = rw (c .register .ensures) (c .before .before .before .pre .1 .all .at (c .before .before .before .args .i))
 
-module _ (c : tie.After-register2) where
-  held : Held 4 (c .before .register .result)
-  held = rw (c .before .register .ensures) (c .before .before .pre .held)
+  product-in : SFits w64 (c .before .number-at .result *ℤ c .register .result)
+  product-in = product-fits (c .before .number-at .ensures .1) value-in
 
-  value-in : Within 1_000_000 (c .register2 .result)
-  value-in = rw (c .register2 .ensures) (c .before .before .pre .all .at (c .before .before .args .i))
-
-  product-in : SFits w64 (c .before .register .result *ℤ c .register2 .result)
-  product-in = product-fits held value-in
-
-  sum-in : SFits w64 (c .before .register .result *ℤ c .register2 .result +ℤ c .before .before .args .total)
-  sum-in = sum-fits held value-in (c .before .before .pre .small)
+  sum-in : SFits w64 (c .before .number-at .result *ℤ c .register .result +ℤ c .before .before .before .args .total)
+  sum-in = sum-fits (c .before .number-at .ensures .1) value-in (c .before .before .before .pre .1 .small)
 
   -- the factors, the product and the total as the machine reads them back
-  coefficient-is : toZ w64 (ofZ w64 (c .before .register .result)) ≡ c .before .register .result
-  coefficient-is = toZ-ofZ w64 (c .before .register .result) (record { sfits = c .before .register .ok })
+  coefficient-is : toZ w64 (ofZ w64 (c .before .number-at .result)) ≡ c .before .number-at .result
+  coefficient-is = toZ-ofZ w64 (c .before .number-at .result) (record { sfits = c .before .number-at .ok })
 
-  value-is : toZ w64 (ofZ w64 (c .register2 .result)) ≡ c .register2 .result
-  value-is = toZ-ofZ w64 (c .register2 .result) (record { sfits = c .register2 .ok })
+  value-is : toZ w64 (ofZ w64 (c .register .result)) ≡ c .register .result
+  value-is = toZ-ofZ w64 (c .register .result) (record { sfits = c .register .ok })
 
-  total-is : toZ w64 (ofZ w64 (c .before .before .args .total)) ≡ c .before .before .args .total
-  total-is = toZ-ofZ w64 (c .before .before .args .total) (c .before .before .fits .total)
+  total-is : toZ w64 (ofZ w64 (c .before .before .before .args .total)) ≡ c .before .before .before .args .total
+  total-is = toZ-ofZ w64 (c .before .before .before .args .total) (c .before .before .before .fits .total)
 
 mul-result : tie.Need-mul-result
 mul-result c = rw (coefficient-is c, value-is c) (product-in c)
@@ -47,7 +42,10 @@ add-result : tie.Need-add-result
 add-result c = rw (coefficient-is c, value-is c, toZ-ofZ w64 _ (product-in c), total-is c) (sum-in c)
 
 returns : tie.Need-returns
-returns c = rw (coefficient-is c, value-is c, toZ-ofZ w64 _ (product-in c), total-is c, toZ-ofZ w64 _ (sum-in c), c .before .register .ensures, c .register2 .ensures)
+returns c = (
+  rw (coefficient-is c, value-is c, toZ-ofZ w64 _ (product-in c), total-is c, toZ-ofZ w64 _ (sum-in c), c .before .number-at .ensures .0, c .register .ensures),
+  rw (c .before .number-at .ensures .0) at (c .before .number-at .ensures .1),
+)
 
 pub with-term-spec : {M : Type 1} → statement M
-with-term-spec = tie.close (tie.spec register-requires register-requires-2 mul-result add-result returns)
+with-term-spec = tie.close (tie.spec number-at-requires register-requires mul-result add-result returns)
