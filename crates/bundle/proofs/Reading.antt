@@ -12,20 +12,18 @@ use Rattle.forms.specs.Edition.{edition1}
 use Rattle.forms.specs.Forms.{Constraint}
 use Rattle.fields.specs.declared.Answer.{Answer}
 use Rattle.fields.specs.declared.FileKind.{FileKind}
-use Rattle.fields.specs.declared.header.Headed.{Headed}
 use Rattle.fields.specs.Answers.{answer, acceptance, fileA, Result, refused, accepted, _>>_, need, over}
 use Rattle.fields.specs.Fields.{Fields, ends, cut, _▸_, fields}
-use Rattle.fields.specs.Places.{fieldsAt, IsHeader}
 use Rattle.fields.proofs.Refusals.{Numbered, Gives, no, yes, bind, header-gives}
 use Rattle.fields.proofs.Stores.{sets-over}
 use Rattle.bundle.specs.Bundle.{Bundle, atMost, constraints, bundle}
 use Rattle.bundle.specs.Scan.{faultOf, passed, counted, stated, countedOf, scanned}
 use Rattle.bundle.specs.Read.{kindsOf, numbersOf, unread, store, stored, readBundle}
-use Rattle.bundle.specs.Store.{Storable, Fitting, kindsIn, numbersIn, readOf}
+use Rattle.bundle.specs.Store.{kindsIn, numbersIn, readOf}
 use Rattle.bundle.specs.declared.constraints.Counted.{Counted}
 use Rattle.bundle.specs.declared.Scanned.{Scanned}
 use Rattle.bundle.specs.declared.ReadResult.{ReadResult}
-use Rattle.bundle.proofs.Scanning.{count-is, proper-of, passed-both, constraints-counted, scan-fault, scan-bundle}
+use Rattle.bundle.proofs.Scanning.{count-is, proper-of, passed-both, constraints-counted}
 use Rattle.bundle.proofs.Storing.{numbers-size}
 
 -- ---- an accepted bundle
@@ -72,25 +70,6 @@ shaped file given fs =
     let g : Gives Numbered (Few (h .K)) (constraints file (h .edition) (h .K) 0 (h .rest)) = rw (r .edition-is) (constraints-gives file (h .K) (h .rest)) in
     bind g λ cs f.
     yes (record { low = r .low; high = r .high; few = f .few; size = f .size })
-
--- ---- storing it
-module _ {s : List ℕ} {r : Headed} (h : IsHeader FileKind.Bundle 0 s r) {k next : ℕ} (e : r ≡ Headed.Header k next) {kinds : List ℕ} {numbers : List ℤ}
-    (fit : Fitting (bundle fileA none (fields s)) kinds numbers) where
-  pub fitting-storable : Storable k 0 (fieldsAt s next) kinds numbers
-  fitting-storable = go (counted k 0 (fieldsAt s next)) refl
-    where
-      go : (c : Counted) → c ≡ counted k 0 (fieldsAt s next) → Storable k 0 (fieldsAt s next) kinds numbers
-      go (Counted.Count n) c =
-          let b : fit .bundle ≡ record { K = k; constraints = stated k (fieldsAt s next) } = (let q = sym (fit .is) ∙ scan-bundle h e fileA c refl in cc) in
-          let m = count-is k 0 n (fieldsAt s next) (sym c) in
-          let f = rw b at (fit .kinds-fit) in
-          let g = rw b at (fit .numbers-fit) in
-          let z : n ≡ length (stated k (fieldsAt s next)) = omega arith in
-          record { count = n; is = sym c; kinds-fit = rw z f; numbers-fit = rw z g }
-      go (Counted.Refused n a) c = absurd (let q = sym (fit .is) ∙ scan-fault h e fileA c refl in let z : _≡_ {A = ℕ} 0 1 = cc in omega arith)
-
-  pub fitting-bundle : bundle fileA none (fields s) ≡ accepted (record { K = k; constraints = stated k (fieldsAt s next) })
-  fitting-bundle = scan-bundle h e fileA refl (fitting-storable .is)
 
 -- ---- each way through `read`
 -- what `scan` tells of an accepted bundle
@@ -164,16 +143,6 @@ module _ (kinds : List ℕ) (numbers : List ℤ) where
           rw (t .is, kinds-size, le-leb (r .count) (length kinds) fits, numbers-count, lt-leb (r .count * (r .k + 1)) (length numbers) h, n)
 
       module _ (fit : r .count * (r .k + 1) ≤ length numbers) where
-        pub fitting : Fitting R kinds numbers
-        fitting =
-            let n : length (t .bundle .constraints) ≡ r .count = sym (ap (λ (x : Scanned). x .count) (t .scan-is)) in
-            record {
-              bundle = t .bundle;
-              is = t .is;
-              kinds-fit = omega arith;
-              numbers-fit = omega (arith, t .shape .size, numbers-count);
-            }
-
         pub read-stored : {kinds′ : List ℕ} {numbers′ : List ℤ} → kinds′ ≡ sets kinds 0 (kindsIn R) → numbers′ ≡ sets numbers 0 (numbersIn R)
             → readOf (record { answer = r .answer; count = r .count; k = r .k }) kinds′ numbers′ ≡ stored kinds numbers R
         unfolding stored store

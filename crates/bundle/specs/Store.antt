@@ -12,9 +12,8 @@ use Rattle.bundle.specs.Read.{BundleRead, kindsOf, numbersOf}
 use Rattle.bundle.specs.declared.constraints.Counted.{Counted}
 use Rattle.bundle.specs.declared.ReadResult.{ReadResult}
 
--- The constraints of the fields, n before them, have no fault and fit.
-pub record Storable (K n : ℕ) (fs : Fields) (kinds : List ℕ) (numbers : List ℤ) : Type 0 where
-  pub count : ℕ
+-- The constraints of the fields, n before them and `count` with those, have no fault and fit.
+pub record Storable (K n count : ℕ) (fs : Fields) (kinds : List ℕ) (numbers : List ℤ) : Type 0 where
   pub is : counted K n fs ≡ Counted.Count count
   pub kinds-fit : count ≤ length kinds
   pub numbers-fit : count * suc K ≤ length numbers
@@ -27,13 +26,6 @@ kindsIn (accepted b) = kindsOf (b .constraints)
 abbrev pub numbersIn : Result Bundle → List ℤ
 numbersIn (refused a) = []
 numbersIn (accepted b) = numbersOf (b .constraints)
-
--- It is accepted, and fits.
-pub record Fitting (r : Result Bundle) (kinds : List ℕ) (numbers : List ℤ) : Type 0 where
-  pub bundle : Bundle
-  pub is : r ≡ accepted bundle
-  pub kinds-fit : length (bundle .constraints) ≤ length kinds
-  pub numbers-fit : length (bundle .constraints) * suc (bundle .K) ≤ length numbers
 
 -- What `read` answers and leaves, as what reading gives.
 abbrev pub readOf : ReadResult → List ℕ → List ℤ → BundleRead

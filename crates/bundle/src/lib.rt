@@ -19,14 +19,17 @@ use locate::Located;
 use locate::locate;
 use put::first_bad;
 use put::put_constraints;
-use store::store;
+use store::store_constraints;
 ghost use mathlib.Core.Path.{_≡_};
-ghost use Rattle.fields.specs.Answers.{answer};
+ghost use mathlib.Core.Option.{none};
+ghost use Rattle.fields.specs.Answers.{answer, fileA};
 ghost use Rattle.fields.specs.Fields.{fields};
-ghost use Rattle.fields.specs.Places.{givenK};
+ghost use Rattle.fields.specs.Places.{givenK, IsHeader};
+ghost use Rattle.fields.specs.declared.FileKind.{FileKind};
+ghost use Rattle.fields.specs.declared.header.Headed.{Headed};
 ghost use Rattle.bundle.specs.Bundle.{bundle};
 ghost use Rattle.bundle.specs.Scan.{scanned};
-ghost use Rattle.bundle.specs.Read.{readBundle};
+ghost use Rattle.bundle.specs.Read.{stored, readBundle};
 ghost use Rattle.bundle.specs.Store.{readOf};
 ghost use Rattle.bundle.specs.Write.{bundleBytes, writeBundle};
 ghost use Rattle.bundle.specs.Put.{writtenOf};
@@ -98,6 +101,40 @@ fn refused_read(number: u8, file: u8, place: usize) -> ReadResult
     }
 }
 
+// The constraints after the header, which ends at a place.
+fn read_constraints(
+    file: &[u8],
+    at: usize,
+    k: u8,
+    kinds: &mut [u8],
+    numbers: &mut [i16],
+) -> ReadResult
+    requires { ⌜ IsHeader FileKind.Bundle 0 (now file) (Headed.Header k at) ⌝ }
+    ensures { λ r. ⌜ readOf r (now (kinds .exit)) (now (numbers .exit)) ≡ stored (now (kinds .entry)) (now (numbers .entry)) (bundle fileA none (fields (now (file .entry)))) ⌝ }
+{
+    match count_constraints(file, at, k) {
+        Counted::Count { count } => {
+            if kinds.len() < count {
+                return refused_read(21, 4, count);
+            }
+            if numbers.len() < count * (k as usize + 1) {
+                return refused_read(21, 4, count);
+            }
+            store_constraints(file, at, k, count, kinds, numbers);
+            ReadResult {
+                answer: Answer {
+                    number: 0,
+                    file: 0,
+                    place: 0,
+                },
+                count,
+                k,
+            }
+        }
+        Counted::Refused { number, place } => refused_read(number, 1, place),
+    }
+}
+
 // Reads a bundle into kinds (0 inequality, 1 equality) and numbers, K+1 a constraint.
 pub fn read(file: &[u8], kinds: &mut [u8], numbers: &mut [i16]) -> ReadResult
     ensures { λ r. ⌜ readOf r (now (kinds .exit)) (now (numbers .exit)) ≡ readBundle (now (kinds .entry)) (now (numbers .entry)) (now (file .entry)) ⌝ }
@@ -105,26 +142,10 @@ pub fn read(file: &[u8], kinds: &mut [u8], numbers: &mut [i16]) -> ReadResult
     if file.len() > BUNDLE_BYTES {
         return refused_read(1, 1, 0);
     }
-    let found = scan(file, 1, 0);
-    let answer = found.answer;
-    let number = answer.number;
-    if number != 0 {
-        return ReadResult {
-            answer,
-            count: 0,
-            k: 0,
-        };
+    match read_header(file, FileKind::Bundle, 0) {
+        Headed::Header { k, next } => read_constraints(file, next, k, kinds, numbers),
+        Headed::Refused { number, place } => refused_read(number, 1, place),
     }
-    let count = found.count;
-    let k = found.k;
-    if kinds.len() < count {
-        return refused_read(21, 4, count);
-    }
-    if numbers.len() < count * (k as usize + 1) {
-        return refused_read(21, 4, count);
-    }
-    store(file, kinds, numbers);
-    ReadResult { answer, count, k }
 }
 
 // What a bundle to write is refused for, apart from the output: its answer, or that of an accepted one.

@@ -27,17 +27,12 @@ pub fn line(work: &Work, time: &Time) -> String {
 const REASONS: &str = "
 ## Where Rattle is slower
 
-- Reading a large bundle. A number of two bytes is built as 256 times the first plus the second. Rust's compiler makes \
-one load and a byte swap of `from_be_bytes`, eight numbers at once (two shifts and an or); Rattle's loop is compiled to \
-a load for each byte. Other forms of the loop were tried in C with the same compiler: from the last number on (a tenth \
-faster), with a second way out (no difference), two and four numbers at once, and by way of a local array (all \
-slower). A bundle is also gone over twice, first to test it and then to store it, so that a refusal leaves the outputs \
-alone.
-- Writing a large bundle. The two bytes of eight numbers are woven together by six instructions where Rust's compiler \
-has three.
-- Testing a formula took 1.6 times as long as Rust while each number was read where it was used; now a form's numbers \
-are read first and summed afterwards. About a tenth of the time goes into entering and leaving the function that reads \
-a part, where the Rust checker keeps a stack of its own.
+- Writing a large bundle. The numbers take as long as Rust's since they are written as words: a load, two shifts, an \
+or and a store for eight of them. What is left is the work between them: the loop over a constraint's numbers is \
+compiled into the loop over the constraints, and about ten values of the two lie on the stack.
+- Testing a formula whose and/ors lie more than 16 deep, as they do here. A balanced formula of any size takes as long \
+as with Rust, and so does a chain of 16 levels; each level beyond takes about 17 ns more, since it is a call, where the \
+Rust checker keeps a stack of its own.
 ";
 
 pub fn page(timed: &[(Work, Time)], rounds: usize, machine: &str) -> String {
