@@ -42,6 +42,7 @@ pub fn plot(timed: &[(Work, Time)]) -> String {
     svg
 }
 
+/// Words with a white edge, so that they can be read over a line.
 fn text(svg: &mut String, x: f64, y: f64, anchor: &str, words: &str) {
     let words = words
         .replace('&', "&amp;")
@@ -49,7 +50,8 @@ fn text(svg: &mut String, x: f64, y: f64, anchor: &str, words: &str) {
         .replace('"', "&quot;");
     let _ = writeln!(
         svg,
-        "<text x=\"{x:.1}\" y=\"{y:.1}\" text-anchor=\"{anchor}\">{words}</text>"
+        "<text x=\"{x:.1}\" y=\"{y:.1}\" text-anchor=\"{anchor}\" stroke=\"white\" stroke-width=\"3\" \
+         paint-order=\"stroke\">{words}</text>"
     );
 }
 
