@@ -3,5 +3,6 @@ pub mod Loading
 pub mod Delivering
 pub mod Preparing
 pub mod Upto
+pub mod Counting
 pub mod Stages
 pub mod Rooting

@@ -25,7 +25,7 @@ use Rattle.bundle.specs.declared.Scanned.{Scanned}
 use Rattle.bundle.proofs.Laid.{bundle-gives}
 use Rattle.bundle.proofs.Reading.{Taken, shaped, taken, not-taken}
 use Rattle.formula.specs.Formula.{encode, formulaFile}
-use Rattle.lines.specs.Buffer.{linesIn}
+use Rattle.lines.specs.Buffer.{size, linesIn}
 use Rattle.lines.specs.Occurrence.{told}
 use Rattle.proof.specs.Check.{Closing, checkBranch, checkProof, interpolant, check}
 use Rattle.proof.proofs.Agree.{interpolant-iff}
@@ -262,10 +262,10 @@ module _ {A B P : List ℕ} {K m n : ℕ} (s : Short A B P) (w : Both A B K m n)
 
 -- ---- what the root asks
 module _ {A B P : List ℕ} {K m n at : ℕ} (g : Begun A B P K m n at) {kinds : List ℕ} {buf : List ℤ} {maskA maskB : List ℕ} (q : Prepared A B K kinds buf maskA maskB m n) where
-  pub started : {in-a in-b : List ℕ} → length in-a ≡ 16 → length in-b ≡ 16 → Started K kinds buf in-a in-b (tally 0 (m + n) 0) P at 0
-  started x y = record {
+  pub started : {in-a in-b : List ℕ} → length in-a ≡ 16 → length in-b ≡ 16 → 128 * size K ≤ length buf → Started K kinds buf in-a in-b (tally 0 (m + n) 0) P at 0
+  started x y z = record {
     ready = record {
-      branch = record { constants = g .both .high; room = q .buffers .space .room; bounded = q .holds (g .both) .bounded };
+      branch = record { constants = g .both .high; room = z; bounded = q .holds (g .both) .bounded };
       room = q .buffers .space .kinds-room;
       most = omega (arith, g .both .a-few, g .both .b-few);
     };

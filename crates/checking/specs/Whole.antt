@@ -46,9 +46,9 @@ pub record Both (A B : List ℕ) (K m n : ℕ) : Type 0 where
   pub a-few : m ≤ 32
   pub b-few : n ≤ 32
 
--- The buffers have their room.
-pub record Buffers (K : ℕ) (kinds : List ℕ) (buf : List ℤ) (maskA maskB : List ℕ) : Type 0 where
-  pub space : Space K kinds buf
+-- The buffers have room for c lines and for the masks.
+pub record Buffers (K c : ℕ) (kinds : List ℕ) (buf : List ℤ) (maskA maskB : List ℕ) : Type 0 where
+  pub space : Space K c kinds buf
   pub a : length maskA ≡ 16
   pub b : length maskB ≡ 16
 
@@ -61,7 +61,7 @@ pub record Holding (a b : Bundle) (K : ℕ) (kinds : List ℕ) (buf : List ℤ) 
 
 pub record Prepared (A B : List ℕ) (K : ℕ) (kinds : List ℕ) (buf : List ℤ) (maskA maskB : List ℕ) (m n : ℕ) : Type 0 where
   pub holds : (both : Both A B K m n) → Holding (both .a) (both .b) K kinds buf maskA maskB (m + n)
-  pub buffers : Buffers K kinds buf maskA maskB
+  pub buffers : Buffers K (m + n) kinds buf maskA maskB
 
 -- The proof's header is read too, and what follows it starts at a place.
 pub record Begun (A B P : List ℕ) (K m n at : ℕ) : Type 0 where

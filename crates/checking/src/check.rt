@@ -6,11 +6,13 @@ use bundle::Line;
 use bundle::scan;
 use fields::Answer;
 use fields::FileKind;
+use fields::Next;
 use fields::ending::Ending;
 use fields::ending::ending_at;
 use fields::header::Headed;
 use fields::header::put_header;
 use fields::header::read_header;
+use fields::next_field;
 use forms::BUNDLE_BYTES;
 use forms::PROOF_BYTES;
 use rows::tally::Row;
@@ -20,10 +22,12 @@ ghost use Prim.Native.Nat.{_+_, _*_, _≤_};
 ghost use lib.ListN.{length, take};
 ghost use lib.Seq.{paste};
 ghost use Rattle.fields.specs.Answers.{answer};
+ghost use Rattle.fields.specs.Places.{fieldsAt};
 ghost use Rattle.lines.specs.Buffer.{size, linesIn};
 ghost use Rattle.lines.specs.Occurrence.{told};
 ghost use Rattle.proof.specs.Check.{check};
 ghost use Rattle.rows.specs.Tally.{tally};
+ghost use Rattle.branches.specs.Room.{fieldCount};
 ghost use Rattle.branches.specs.Branching.{Started};
 ghost use Rattle.checking.specs.Whole.{Short, Both, Buffers, Prepared, Begun, Ended, Delivers, Finishes, Roots, Fits, Enough, Checks, writtenOf};
 
@@ -105,7 +109,7 @@ fn prepare(
     in_b: &mut [u8],
 )
     requires { ⌜ Both (now a) (now b) k m n ⌝ }
-    requires { ⌜ Buffers k (now kinds) (now lines) (now in_a) (now in_b) ⌝ }
+    requires { ⌜ Buffers k (m + n) (now kinds) (now lines) (now in_a) (now in_b) ⌝ }
     ensures { λ _. ⌜ Prepared (now (a .entry)) (now (b .entry)) k (now (kinds .exit)) (now (lines .exit)) (now (in_a .exit)) (now (in_b .exit)) m n ⌝ }
 {
     load(a, 0, true, lines, kinds, 0);
@@ -274,6 +278,35 @@ fn check_long(
     let mut lines = [0i64; 4352];
     let mut scratch = [0u8; 65536];
     check_within(a, b, proof, at, k, m, n, &mut lines, &mut scratch, out)
+}
+
+// How many fields the proof has from a place on.
+fn count_fields(p: &[u8], at: usize) -> usize
+    ensures is { λ r. ⌜ r ≡ fieldCount (fieldsAt (now (p .entry)) at) ⌝ }
+    ensures few { λ r. ⌜ r ≤ length (now (p .entry)) ⌝ }
+{
+    let mut here = at;
+    let mut n = 0;
+    loop {
+        match next_field(p, here) {
+            Next::Field {
+                at: _,
+                tag: _,
+                start: _,
+                len: _,
+                next,
+            } => {
+                n += 1;
+                here = next;
+            }
+            Next::Cut { at: _ } => {
+                return n;
+            }
+            Next::Ends { at: _ } => {
+                return n;
+            }
+        }
+    }
 }
 
 // The lines, and then the root.
