@@ -7,12 +7,12 @@ use lib.ListN.{length}
 use Rattle.fields.specs.Fields.{ends, cut}
 use Rattle.fields.specs.Places.{fieldsAt}
 use Rattle.fields.proofs.Places.{Starts}
-use Rattle.branches.specs.Room.{fieldCount}
+use Rattle.branches.specs.Room.{fieldsLeft}
 use Rattle.branches.proofs.Counting.{count-starts, count-cut, count-ends}
 
 -- The invariant: n fields stand before `here`, and each has a byte at least.
 pub record Counting (p : List ℕ) (at here n : ℕ) : Type 0 where
-  pub total : n + fieldCount (fieldsAt p here) ≡ fieldCount (fieldsAt p at)
+  pub total : n + fieldsLeft p here ≡ fieldsLeft p at
   pub on : n ≤ here
   pub few : n ≤ length p
 
@@ -27,8 +27,8 @@ module _ {p : List ℕ} {at here n : ℕ} (v : Counting p at here n) where
     pub counting-next : Counting p at next (n + 1)
     counting-next = record { total = omega (arith, v .total, count-starts k); on = omega (arith, v .on, k .from, k .start-is, k .next-is); few = omega (arith, counting-room) }
 
-  pub counting-cut : {a : ℕ} → fieldsAt p here ≡ cut a → n ≡ fieldCount (fieldsAt p at)
+  pub counting-cut : {a : ℕ} → fieldsAt p here ≡ cut a → n ≡ fieldsLeft p at
   counting-cut e = omega (arith, v .total, count-cut e)
 
-  pub counting-ends : {a : ℕ} → fieldsAt p here ≡ ends a → n ≡ fieldCount (fieldsAt p at)
+  pub counting-ends : {a : ℕ} → fieldsAt p here ≡ ends a → n ≡ fieldsLeft p at
   counting-ends e = omega (arith, v .total, count-ends e)

@@ -14,6 +14,7 @@ use Rattle.fields.specs.Places.{givenK}
 use Rattle.fields.proofs.Headers.{given-some}
 use Rattle.lines.specs.Buffer.{linesIn}
 use Rattle.lines.specs.Occurrence.{Span, held, occursIn, bits, told, told-occurs, held-A, held-B, length-bits}
+use Rattle.branches.specs.Room.{Spare}
 use Rattle.checking.specs.Load.{Space, Loaded, Bundled, BundleLoaded}
 use Rattle.checking.specs.Whole.{Both, Buffers, Holding}
 use Rattle.checking.proofs.Loading.{space-less, space-kept, loaded-then}
@@ -22,6 +23,9 @@ use Rattle.checking.proofs.Loading.{space-less, space-kept, loaded-then
 module _ {A B : List ℕ} {K m n : ℕ} (w : Both A B K m n) where
   pub few : m + n ≤ 128
   few = omega (arith, w .a-few, w .b-few)
+
+  pub space-from : {c : ℕ} {kinds : List ℕ} {buf : List ℤ} → Spare K c buf → m + n ≤ c → 128 ≤ length kinds → Space K (m + n) kinds buf
+  space-from s h k = record { constants = w .high; room = omega (arith, s .room (m + n) few h); most = few; kinds-room = k }
 
   pub bundled-A : {kinds : List ℕ} {buf : List ℤ} → Space K (m + n) kinds buf → Bundled 0 A kinds buf 0
   bundled-A s = record { file = fileA; states = w .a; is = w .a-is; space = rw (w .a-constants) (space-less (omega (arith, w .a-count)) s) }

@@ -18,6 +18,7 @@ use Rattle.formula.specs.Formula.{encode}
 use Rattle.lines.specs.Buffer.{linesIn, Bounded}
 use Rattle.lines.specs.Occurrence.{told}
 use Rattle.proof.specs.Check.{Closing, checkBranch, check}
+use Rattle.branches.specs.Room.{fieldsLeft}
 use Rattle.checking.specs.Load.{Space}
 use Rattle.checking.specs.declared.check.Checked.{Checked}
 
@@ -92,9 +93,10 @@ pub record Fits (K : ℕ) (inA inB : ℕ → Bool) (ls : List Line) (P : List �
   pub fits : (c : Closing) → checkBranch edition1 K inA inB (edition1 .strengthens) 0 ls (fieldsAt P at) ≡ accepted c → finished FileKind.Proof fileProof (c .after) ≡ accepted tt
       → length (encode edition1 (c .formula)) ≤ 65536
 
--- A scratch of that length does, and so does one with 26 bytes for each byte of the proof.
-pub record Enough (P scratch : List ℕ) : Type 0 where
-  pub enough : (l : ℕ) → l ≤ 26 * length P → l ≤ 65536 → l ≤ length scratch
+-- A scratch of that length does, and so does one with 78 bytes for each field of the proof.
+pub record Enough (P : List ℕ) (at : ℕ) (scratch : List ℕ) : Type 0 where
+  pub few : fieldsLeft P at ≤ 65536
+  pub enough : (l : ℕ) → l ≤ 78 * fieldsLeft P at → l ≤ 65536 → l ≤ length scratch
 
 -- The bytes stand in the scratch, where the check accepts.
 pub record Ended (P : List ℕ) (at o : ℕ) (scratch : List ℕ) : Type 0 where

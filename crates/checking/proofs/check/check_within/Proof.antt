@@ -1,10 +1,9 @@
 -- `checking::check::check_within` meets its contract: the bytes of the files are below 256, so the formula fits the scratch. Assumes nothing.
 use native.Mathlib.Omega.{arith}
 use Prim.Native.Nat.{ℕ}
-use native.Mathlib.Nat.{mul-le-mul-right}
 use lib.ListN.{length-replicate}
-use Rattle.lines.specs.Buffer.{size}
-use Rattle.checking.proofs.Preparing.{few}
+use Rattle.branches.proofs.Counting.{spare-less}
+use Rattle.checking.proofs.Preparing.{space-from}
 use Rattle.checking.proofs.Stages.{all-bytes, started, fits-scratch, checks-root}
 use borrow.Author.Needs.{needs}
 use Rattle.checking.proofs.check.check_within.Statement.{statement}
@@ -24,12 +23,7 @@ prepare-requires c κs =
     let g = c .before .before .before .before .before .before .before .before .before .pre .0 in (
       g .both,
       record {
-        space = record {
-          constants = g .both .high;
-          room = omega (arith, c .before .before .before .before .before .before .before .before .before .pre .1 .0, mul-le-mul-right (size (c .before .before .before .before .before .before .before .before .before .args .k)) (few (g .both)));
-          most = few (g .both);
-          kinds-room = omega (arith, length-replicate {A = ℕ} 128 0);
-        };
+        space = space-from (g .both) (c .before .before .before .before .before .before .before .before .before .pre .1 .0) (omega arith) (omega (arith, length-replicate {A = ℕ} 128 0));
         a = length-replicate {A = ℕ} 16 0;
         b = length-replicate {A = ℕ} 16 0;
       },
@@ -49,12 +43,13 @@ slice-aggregate-check-root-3 c = search needs
 
 check-root-requires : tie.Need-check-root-requires
 check-root-requires c κs =
+    let w = c .before .before .before .before .before .before .before .before .before .before .before .before .before .before .before .before .before .before .before .before .pre .1 in
     let g = c .before .before .before .before .before .before .before .before .before .before .before .before .before .before .before .before .before .before .before .before .pre .0 in
     let q = c .before .before .before .before .before .before .before .before .before .before .prepare .ensures in
     let a = all-bytes (c .before .before .before .before .before .before .before .before .before .before .before .before .before .before .before .before .before .before .before .before .args .a .now) (λ i. omega (arith, c .before .before .before .before .before .before .before .before .before .before .before .before .before .before .before .before .before .before .before .shared-slice-known .given i)) in
     let b = all-bytes (c .before .before .before .before .before .before .before .before .before .before .before .before .before .before .before .before .before .before .before .before .args .b .now) (λ i. omega (arith, c .before .before .before .before .before .before .before .before .before .before .before .before .before .before .before .before .before .before .shared-slice-known2 .given i)) in
     let p = all-bytes (c .before .before .before .before .before .before .before .before .before .before .before .before .before .before .before .before .before .before .before .before .args .proof .now) (λ i. omega (arith, c .before .before .before .before .before .before .before .before .before .before .before .before .before .before .before .before .before .shared-slice-known3 .given i)) in
-    (started g q (omega (arith, q .buffers .a, q .buffers .b)) (omega (arith, q .buffers .a, q .buffers .b)) (omega (arith, c .before .before .before .before .before .before .before .before .before .before .before .before .before .before .before .before .before .before .before .before .pre .1 .0)), (fits-scratch g q a b p, c .before .before .before .before .before .before .before .before .before .before .before .before .before .before .before .before .before .before .before .before .pre .1 .1))
+    (started g q (omega (arith, q .buffers .a, q .buffers .b)) (omega (arith, q .buffers .a, q .buffers .b)) (spare-less (omega arith) (omega arith) (w .0)) (w .1 .few), (fits-scratch g q a b p, w .1))
 
 same-length : tie.Need-same-length
 same-length c = search needs
