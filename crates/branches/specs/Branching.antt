@@ -7,7 +7,7 @@ use lib.IntN.{ℤ}
 use lib.ListN.{length}
 use lib.Seq.{sets}
 use Rattle.forms.specs.Edition.{edition1}
-use Rattle.forms.specs.Forms.{Formula, _and_, _or_}
+use Rattle.forms.specs.Forms.{Formula}
 use Rattle.fields.specs.Answers.{Result, refused, accepted}
 use Rattle.fields.specs.Places.{fieldsAt}
 use Rattle.formula.specs.Formula.{encode}

@@ -17,6 +17,6 @@ fieldCount (f ▸ fs) = suc (fieldCount fs)
 abbrev pub fieldsLeft : (p : List ℕ) (at : ℕ) → ℕ
 fieldsLeft p at = fieldCount (fieldsAt p at)
 
--- A branch may have up to c lines, at most 128: the buffer has room for one more than it has.
+-- A branch may come to have c lines, but never more than 128: with each count of them the buffer has room for one more.
 pub record Spare (K c : ℕ) (buf : List ℤ) : Type 0 where
   pub room : (n : ℕ) → n ≤ 128 → n ≤ c → n * size K + size K ≤ length buf

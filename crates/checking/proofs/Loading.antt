@@ -8,7 +8,7 @@ use native.Mathlib.Nat.{suc-mul, mul-le-mul-right, eq-or-lt-of-le, eq-zero-or-po
 use native.Mathlib.Numerals.{add-one}
 use native.Mathlib.Omega.{arith}
 use lib.Dec.{eqb}
-use borrow.Author.Tests.{ltb-true, ltb-false, eqb-true, eqb-false, eq-eqb, ne-eqb}
+use borrow.Author.Tests.{ltb-false, eqb-true, eqb-false, eq-eqb, ne-eqb}
 use lib.IntN.{ℤ, pos, negsuc, natAbs, _*ℤ_, zero-*ℤ}
 use lib.Signed.{mag}
 use mir.Syntax.{w16}
@@ -22,11 +22,11 @@ use Rattle.fields.specs.Numbers.{signed, signeds, flat, formFrom}
 use Rattle.fields.specs.declared.FileKind.{FileKind}
 use Rattle.fields.specs.declared.header.Headed.{Headed}
 use Rattle.fields.specs.Answers.{answer, refused, accepted}
-use Rattle.fields.specs.Fields.{ends, cut, fields}
+use Rattle.fields.specs.Fields.{ends, cut}
 use Rattle.fields.specs.Places.{fieldsAt, IsHeader}
 use Rattle.fields.proofs.Results.{one-value}
 use Rattle.fields.proofs.Places.{Starts}
-use Rattle.bundle.specs.Bundle.{Bundle, bundle}
+use Rattle.bundle.specs.Bundle.{Bundle}
 use Rattle.bundle.specs.Scan.{pick, faultOf, counted, stated}
 use Rattle.bundle.specs.declared.constraints.Counted.{Counted}
 use Rattle.bundle.proofs.Scanning.{counted-on, passed-both, count-is, proper-of, scan-header, scan-fault, scan-bundle}
