@@ -16,5 +16,5 @@ pub spare-most : {K : ℕ} (c : ℕ) {buf : List ℤ} → (c + 1) * size K ≤ l
 spare-most {K} c h = record { room = λ n m k. omega (arith, before K {i = n} {n = c + 1} (omega arith)) }
 
 -- The numbers of the lines that may come are few enough to count.
-pub numbers-small : (n K : ℕ) → n ≤ 65601 → K ≤ 16 → n * size K ≤ 2230434
-numbers-small n K h k = mul-le-mul {n₂ = 65601} {m₂ = 34} h (omega arith)
+pub numbers-small : (n K : ℕ) → n ≤ 486 → K ≤ 16 → n * size K ≤ 16524
+numbers-small n K h k = mul-le-mul {n₂ = 486} {m₂ = 34} h (omega arith)

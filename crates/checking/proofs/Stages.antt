@@ -36,6 +36,7 @@ use Rattle.branches.specs.Branching.{Started}
 use Rattle.checking.specs.Whole.{Short, Both, Holding, Prepared, Begun, finishing, rooted, Finishes, Roots, Fits, Enough, Ended, Checks}
 use Rattle.checking.specs.declared.check.Checked.{Checked}
 use Rattle.checking.proofs.Delivering.{unwritten}
+use Rattle.checking.proofs.Counting.{fields-few}
 use Rattle.checking.proofs.Preparing.{few}
 use Rattle.fields.proofs.Headers.{given-some}
 use Rattle.proof.proofs.Agree.{agreed}
@@ -263,9 +264,9 @@ module _ {A B P : List ℕ} {K m n : ℕ} (s : Short A B P) (w : Both A B K m n)
 
 -- ---- what the root asks
 module _ {A B P : List ℕ} {K m n at : ℕ} (g : Begun A B P K m n at) {kinds : List ℕ} {buf : List ℤ} {maskA maskB : List ℕ} (q : Prepared A B K kinds buf maskA maskB m n) where
-  pub started : {in-a in-b : List ℕ} → length in-a ≡ 16 → length in-b ≡ 16 → Spare K (m + n + fieldsLeft P at) buf → fieldsLeft P at ≤ 65536
+  pub started : {in-a in-b : List ℕ} → length in-a ≡ 16 → length in-b ≡ 16 → Spare K (m + n + fieldsLeft P at) buf
       → Started K kinds buf in-a in-b (tally 0 (m + n) 0) P at 0
-  started x y spare most = record {
+  started x y spare = record {
     ready = record {
       branch = record { constants = g .both .high; room = spare .room (m + n) (few (g .both)) (omega arith); bounded = q .holds (g .both) .bounded };
       room = q .buffers .space .kinds-room;
@@ -274,5 +275,5 @@ module _ {A B P : List ℕ} {K m n at : ℕ} (g : Begun A B P K m n at) {kinds :
     spare = spare;
     a-mask = omega (arith, g .both .high, x);
     b-mask = omega (arith, g .both .high, y);
-    room = omega arith;
+    room = omega (arith, fields-few P at, g .short .p);
   }

@@ -93,9 +93,8 @@ pub record Fits (K : ℕ) (inA inB : ℕ → Bool) (ls : List Line) (P : List �
   pub fits : (c : Closing) → checkBranch edition1 K inA inB (edition1 .strengthens) 0 ls (fieldsAt P at) ≡ accepted c → finished FileKind.Proof fileProof (c .after) ≡ accepted tt
       → length (encode edition1 (c .formula)) ≤ 65536
 
--- A scratch of that length does, and so does one with 78 bytes for each field of the proof, of which there are 65,536 at most.
+-- A scratch of that length does, and so does one with 78 bytes for each field of the proof.
 pub record Enough (P : List ℕ) (at : ℕ) (scratch : List ℕ) : Type 0 where
-  pub few : fieldsLeft P at ≤ 65536
   pub enough : (l : ℕ) → l ≤ 78 * fieldsLeft P at → l ≤ 65536 → l ≤ length scratch
 
 -- The bytes stand in the scratch, where the check accepts.

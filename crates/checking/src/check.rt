@@ -18,7 +18,7 @@ use forms::PROOF_BYTES;
 use rows::tally::Row;
 use rows::tally::Tally;
 ghost use mathlib.Core.Path.{_≡_};
-ghost use Prim.Native.Nat.{_+_, _*_, _≤_};
+ghost use Prim.Native.Nat.{_+_, _*_, _≤_, min};
 ghost use lib.ListN.{length, take};
 ghost use lib.Seq.{paste};
 ghost use Rattle.fields.specs.Answers.{answer};
@@ -200,9 +200,9 @@ fn check_within(
     )
 }
 
-// An array is cleared before it is used, which takes longer than the check of a short proof, so a short proof is given little:
-// here 13 fields at most, and 256 numbers for the lines that may come.
-fn check_small(
+// An array is cleared before it is used, which takes longer than the check of a short proof, so a short proof is given little.
+// Each function has its name from the fields that it is for; here 256 numbers are enough for the lines that may come.
+fn check_13(
     a: &[u8],
     b: &[u8],
     proof: &[u8],
@@ -222,8 +222,8 @@ fn check_small(
     check_within(a, b, proof, at, k, m, n, &mut lines, &mut scratch, out)
 }
 
-// 32 fields at most, and 1,190 numbers.
-fn check_short(
+// 1,190 numbers: 35 lines of 16 constants.
+fn check_32(
     a: &[u8],
     b: &[u8],
     proof: &[u8],
@@ -243,8 +243,29 @@ fn check_short(
     check_within(a, b, proof, at, k, m, n, &mut lines, &mut scratch, out)
 }
 
-// 210 fields at most. The 4,386 numbers are 129 lines of 16 constants: all that a branch may have, and one more.
-fn check_middle(
+// 2,278 numbers: 67 lines of 16 constants.
+fn check_64(
+    a: &[u8],
+    b: &[u8],
+    proof: &[u8],
+    at: usize,
+    k: u8,
+    m: usize,
+    n: usize,
+    out: &mut [u8],
+) -> Checked
+    requires { ⌜ Begun (now a) (now b) (now proof) k m n at ⌝ }
+    requires { ⌜ fieldsLeft (now proof) at ≤ 64 ⌝ }
+    requires { ⌜ (m + n + fieldsLeft (now proof) at + 1) * size k ≤ 2278 ⌝ }
+    ensures { λ r. ⌜ Checks (now (a .entry)) (now (b .entry)) (now (proof .entry)) (now (out .entry)) (now (out .exit)) r ⌝ }
+{
+    let mut lines = [0i64; 2278];
+    let mut scratch = [0u8; 5120];
+    check_within(a, b, proof, at, k, m, n, &mut lines, &mut scratch, out)
+}
+
+// 4,386 numbers: 129 lines of 16 constants, all that a branch may have and one more.
+fn check_210(
     a: &[u8],
     b: &[u8],
     proof: &[u8],
@@ -263,8 +284,8 @@ fn check_middle(
     check_within(a, b, proof, at, k, m, n, &mut lines, &mut scratch, out)
 }
 
-// 420 fields at most.
-fn check_large(
+// The same, with more room for the formula.
+fn check_420(
     a: &[u8],
     b: &[u8],
     proof: &[u8],
@@ -284,7 +305,7 @@ fn check_large(
 }
 
 // Any proof: a formula has 65,536 bytes at most.
-fn check_long(
+fn check_any(
     a: &[u8],
     b: &[u8],
     proof: &[u8],
@@ -295,7 +316,6 @@ fn check_long(
     out: &mut [u8],
 ) -> Checked
     requires { ⌜ Begun (now a) (now b) (now proof) k m n at ⌝ }
-    requires { ⌜ fieldsLeft (now proof) at ≤ 65536 ⌝ }
     ensures { λ r. ⌜ Checks (now (a .entry)) (now (b .entry)) (now (proof .entry)) (now (out .entry)) (now (out .exit)) r ⌝ }
 {
     let mut lines = [0i64; 4386];
@@ -303,14 +323,13 @@ fn check_long(
     check_within(a, b, proof, at, k, m, n, &mut lines, &mut scratch, out)
 }
 
-// How many fields the proof has from a place on.
-fn count_fields(p: &[u8], at: usize) -> usize
-    ensures is { λ r. ⌜ r ≡ fieldsLeft (now (p .entry)) at ⌝ }
-    ensures few { λ r. ⌜ r ≤ length (now (p .entry)) ⌝ }
+// How many fields the proof has from a place on, counted up to `most`.
+fn count_fields(p: &[u8], at: usize, most: usize) -> usize
+    ensures { λ r. ⌜ r ≡ min most (fieldsLeft (now (p .entry)) at) ⌝ }
 {
     let mut here = at;
     let mut n = 0;
-    loop {
+    while n < most {
         match next_field(p, here) {
             Next::Field {
                 at: _,
@@ -330,9 +349,10 @@ fn count_fields(p: &[u8], at: usize) -> usize
             }
         }
     }
+    n
 }
 
-// The lines, and then the root, with arrays for the fields that the proof has.
+// The lines, and then the root, with arrays for the fields that the proof has. More than 420 need not be counted.
 fn check_lines(
     a: &[u8],
     b: &[u8],
@@ -346,26 +366,31 @@ fn check_lines(
     requires { ⌜ Begun (now a) (now b) (now proof) k m n at ⌝ }
     ensures { λ r. ⌜ Checks (now (a .entry)) (now (b .entry)) (now (proof .entry)) (now (out .entry)) (now (out .exit)) r ⌝ }
 {
-    let fields = count_fields(proof, at);
+    let fields = count_fields(proof, at, 421);
     let size = 2 * (k as usize + 1);
     let numbers = (m + n + fields + 1) * size;
     if fields <= 13 {
         if numbers <= 256 {
-            return check_small(a, b, proof, at, k, m, n, out);
+            return check_13(a, b, proof, at, k, m, n, out);
         }
     }
     if fields <= 32 {
         if numbers <= 1190 {
-            return check_short(a, b, proof, at, k, m, n, out);
+            return check_32(a, b, proof, at, k, m, n, out);
+        }
+    }
+    if fields <= 64 {
+        if numbers <= 2278 {
+            return check_64(a, b, proof, at, k, m, n, out);
         }
     }
     if fields <= 210 {
-        return check_middle(a, b, proof, at, k, m, n, out);
+        return check_210(a, b, proof, at, k, m, n, out);
     }
     if fields <= 420 {
-        return check_large(a, b, proof, at, k, m, n, out);
+        return check_420(a, b, proof, at, k, m, n, out);
     }
-    check_long(a, b, proof, at, k, m, n, out)
+    check_any(a, b, proof, at, k, m, n, out)
 }
 
 // The proof's header, where both bundles were gone over. 2, 3, 4, 6, 5, 7, 9.

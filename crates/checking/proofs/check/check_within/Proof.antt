@@ -49,7 +49,7 @@ check-root-requires c κs =
     let a = all-bytes (c .before .before .before .before .before .before .before .before .before .before .before .before .before .before .before .before .before .before .before .before .args .a .now) (λ i. omega (arith, c .before .before .before .before .before .before .before .before .before .before .before .before .before .before .before .before .before .before .before .shared-slice-known .given i)) in
     let b = all-bytes (c .before .before .before .before .before .before .before .before .before .before .before .before .before .before .before .before .before .before .before .before .args .b .now) (λ i. omega (arith, c .before .before .before .before .before .before .before .before .before .before .before .before .before .before .before .before .before .before .shared-slice-known2 .given i)) in
     let p = all-bytes (c .before .before .before .before .before .before .before .before .before .before .before .before .before .before .before .before .before .before .before .before .args .proof .now) (λ i. omega (arith, c .before .before .before .before .before .before .before .before .before .before .before .before .before .before .before .before .before .shared-slice-known3 .given i)) in
-    (started g q (omega (arith, q .buffers .a, q .buffers .b)) (omega (arith, q .buffers .a, q .buffers .b)) (spare-less (omega arith) (omega arith) (w .0)) (w .1 .few), (fits-scratch g q a b p, w .1))
+    (started g q (omega (arith, q .buffers .a, q .buffers .b)) (omega (arith, q .buffers .a, q .buffers .b)) (spare-less (omega arith) (omega arith) (w .0)), (fits-scratch g q a b p, w .1))
 
 same-length : tie.Need-same-length
 same-length c = search needs
