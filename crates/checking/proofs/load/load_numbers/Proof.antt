@@ -1,6 +1,4 @@
 -- `checking::load::load_numbers` meets its contract: after i turns the first i numbers are in place. Assumes nothing.
-use mathlib.Core.Path.{refl}
-use mathlib.Core.Logic.{inl}
 use Prim.Native.Nat.{_-_}
 use native.Mathlib.Omega.{arith}
 use mir.Syntax.{w64}
@@ -18,14 +16,14 @@ abbrev μ-loop : tie.MeasureT-loop
 loop-holds : tie.Need-loop-holds Inv-loop μ-loop
 loop-holds c = turn-none
 
-mul-signed-at : tie.Need-mul-signed-at Inv-loop μ-loop
-mul-signed-at c = omega arith
+mul-wide-short-at : tie.Need-mul-wide-short-at Inv-loop μ-loop
+mul-wide-short-at c = omega arith
 
-add-signed-at : tie.Need-add-signed-at Inv-loop μ-loop
-add-signed-at c = omega arith
+add-wide-short-at : tie.Need-add-wide-short-at Inv-loop μ-loop
+add-wide-short-at c = omega arith
 
-signed-at-requires : tie.Need-signed-at-requires Inv-loop μ-loop
-signed-at-requires c κs = (inl refl, omega arith)
+wide-short-at-requires : tie.Need-wide-short-at-requires Inv-loop μ-loop
+wide-short-at-requires c κs = omega arith
 
 add-x : tie.Need-add-x Inv-loop μ-loop
 add-x c = omega arith
@@ -44,8 +42,8 @@ loop-less c = omega arith
 
 loop-again : tie.Need-loop-again Inv-loop μ-loop
 loop-again c =
-    let x = toZ-ofZ w64 (c .signed-at .result) (record { sfits = c .signed-at .ok }) in
-    rw x (turn-next (c .before .before .before .before .pre) (c .before .before .loop .inv) (c .before .loop-test .taken) (c .signed-at .ensures .0) (c .signed-at .ensures .1))
+    let x = toZ-ofZ w64 (c .wide-short-at .result) (record { sfits = c .wide-short-at .ok }) in
+    rw x (turn-next (c .before .before .before .before .pre) (c .before .before .loop .inv) (c .before .loop-test .taken) (c .wide-short-at .ensures .0) (c .wide-short-at .ensures .1))
 
 same-length : tie.Need-same-length Inv-loop μ-loop
 same-length c = turn-length (c .before .before .before .pre) (c .before .loop .inv)
@@ -60,9 +58,9 @@ load-numbers-spec =
     Inv-loop
     μ-loop
     loop-holds
-    mul-signed-at
-    add-signed-at
-    signed-at-requires
+    mul-wide-short-at
+    add-wide-short-at
+    wide-short-at-requires
     add-x
     mul-x
     slice-set-from-x
