@@ -26,14 +26,16 @@ use Rattle.rows.specs.Rows.{Ready, Kept}
 use Rattle.rows.specs.declared.tally.Tally.{Tally}
 use Rattle.rows.specs.declared.derive.Derived.{Derived}
 use Rattle.rows.specs.declared.derive.Derived.the-variants as derived
+use Rattle.branches.specs.Room.{fieldsLeft, Spare}
 use Rattle.branches.specs.Branches.{Comes}
 use Rattle.closes.specs.Formulas.{Heads}
 use Rattle.closes.specs.Ends.{joined, firstLine, secondLine, thirdLine, lastTwo, three, Longer, Opened, Splits}
 use Rattle.branches.specs.Branching.{resumedBy, Started, Closes, BranchedBy, Checks, Branches}
 use Rattle.branches.specs.declared.branch.Branched.{Branched}
 use Rattle.branches.specs.declared.branch.Branched.the-variants as branched
+use Rattle.branches.proofs.Counting.{spare-less}
 use Rattle.branches.proofs.Going.{kept-trans, ready-kept}
-use Rattle.rows.proofs.Deriving.{kept-refl}
+use Rattle.rows.proofs.Deriving.{kept-refl, ready-more}
 use Rattle.branches.proofs.Staging.{comes-split}
 use Rattle.branches.proofs.Starting.{now-copy, second-starts, third-starts}
 
@@ -41,11 +43,10 @@ use Rattle.branches.proofs.Starting.{now-copy, second-starts, third-sta
 -- What the branches of a strengthen of line i ask, where n lines stand before their own: there is room for the head of their formula too.
 pub record Divided (K n : ℕ) (kinds : List ℕ) (buf : List ℤ) (maskA maskB : List ℕ) (t : Tally) (i : ℕ) (p : List ℕ) (at o : ℕ) : Type 0 where
   pub ready : Ready K kinds buf n
+  pub spare : Spare K (n + 1 + fieldsLeft p at) buf
   pub a-mask : K ≤ length maskA
   pub b-mask : K ≤ length maskB
-  pub size : length p ≤ 65536
-  pub upto : at ≤ length p
-  pub room : o + 3 ≤ 26 * at
+  pub room : o + 3 + 78 * fieldsLeft p at ≤ 5242880
   pub line : i < n
   pub space : n < 128
   pub lines-is : t .lines .0 ≡ n + 1
@@ -58,12 +59,12 @@ FirstStands K n kinds buf i = Longer K kinds buf n (firstLine (lineIn K kinds bu
 abbrev pub ChecksRest : (K n : ℕ) (p : List ℕ) (at : ℕ) (inA inB : ℕ → Bool) (kinds : List ℕ) (buf : List ℤ) (t : Tally) (i : ℕ) (scratch : List ℕ) (o : ℕ)
     (kinds′ : List ℕ) (buf′ : List ℤ) (scratch′ : List ℕ) (r : Branched) → Type 0
 ChecksRest K n p at inA inB kinds buf t i scratch o kinds′ buf′ scratch′ r =
-    Checks (lastTwo (checkBranch edition1 K inA inB (32 - t .«open»)) (linesIn K kinds buf n) (lineIn K kinds buf i) (t .rows .0) (fieldsAt p at)) K n p kinds buf t scratch o kinds′ buf′ scratch′ r
+    Checks (lastTwo (checkBranch edition1 K inA inB (32 - t .«open»)) (linesIn K kinds buf n) (lineIn K kinds buf i) (t .rows .0) (fieldsAt p at)) K n p at kinds buf t scratch o kinds′ buf′ scratch′ r
 
 abbrev pub ChecksSplit : (K n : ℕ) (p : List ℕ) (at : ℕ) (inA inB : ℕ → Bool) (kinds : List ℕ) (buf : List ℤ) (t : Tally) (i : ℕ) (scratch : List ℕ) (o : ℕ)
     (kinds′ : List ℕ) (buf′ : List ℤ) (scratch′ : List ℕ) (r : Branched) → Type 0
 ChecksSplit K n p at inA inB kinds buf t i scratch o kinds′ buf′ scratch′ r =
-    Checks (three (checkBranch edition1 K inA inB (32 - t .«open»)) (linesIn K kinds buf n) (lineIn K kinds buf i) (t .rows .0) (fieldsAt p at)) K n p kinds buf t scratch o kinds′ buf′ scratch′ r
+    Checks (three (checkBranch edition1 K inA inB (32 - t .«open»)) (linesIn K kinds buf n) (lineIn K kinds buf i) (t .rows .0) (fieldsAt p at)) K n p at kinds buf t scratch o kinds′ buf′ scratch′ r
 
 -- ---- two closings as one
 -- What is written behind a run that is written.
@@ -76,13 +77,13 @@ both-stored scratch₀ o₀ bytes bs {o = o} e l f g h =
 
 -- A formula of two, whose bytes are a head and theirs.
 module _ (make : Formula → Formula → Formula) (tag : ℕ) (bytes : (f g : Formula) → encode edition1 (make f g) ≡ fieldBytes tag [] ++ encode edition1 f ++ encode edition1 g)
-    {R : Result Closing} (second : ℕ → Fields → Result Closing) {p : List ℕ} {t : Tally} {scratch : List ℕ} {o : ℕ} {scratch₁ : List ℕ} {o₁ : ℕ} (h : Heads scratch o tag scratch₁ o₁) where
-  module _ {a o₂ : ℕ} {scratch₂ : List ℕ} {t₁ : Tally} (c : Closes R p t a scratch₁ o₁ o₂ scratch₂ t₁) (l : length scratch₂ ≡ length scratch₁) where
+    {R : Result Closing} (second : ℕ → Fields → Result Closing) {p : List ℕ} {at : ℕ} {t : Tally} {scratch : List ℕ} {o : ℕ} {scratch₁ : List ℕ} {o₁ : ℕ} (h : Heads scratch o tag scratch₁ o₁) where
+  module _ {a o₂ : ℕ} {scratch₂ : List ℕ} {t₁ : Tally} (c : Closes R p at t a scratch₁ o₁ o₂ scratch₂ t₁) (l : length scratch₂ ≡ length scratch₁) where
     joined-refused : {x b : ℕ} → second (t₁ .rows .0) (fieldsAt p a) ≡ refused (refusal b x) → joined make R second ≡ refused (refusal b x)
     unfolding _>>=_
     joined-refused e = rw (c .is, e)
 
-    joined-closes : {b o₃ : ℕ} {t₂ : Tally} {scratch₃ : List ℕ} → Closes (second (t₁ .rows .0) (fieldsAt p a)) p t₁ b scratch₂ o₂ o₃ scratch₃ t₂ → Closes (joined make R second) p t b scratch o o₃ scratch₃ t₂
+    joined-closes : {b o₃ : ℕ} {t₂ : Tally} {scratch₃ : List ℕ} → Closes (second (t₁ .rows .0) (fieldsAt p a)) p a t₁ b scratch₂ o₂ o₃ scratch₃ t₂ → Closes (joined make R second) p at t b scratch o o₃ scratch₃ t₂
     unfolding _>>=_
     joined-closes d =
         let w : length (fieldBytes tag []) ≡ 3 = field-size tag [] in
@@ -98,24 +99,23 @@ module _ (make : Formula → Formula → Formula) (tag : ℕ) (bytes : (f g : Fo
           o-is = rw e (omega (arith, d .o-is));
           stored = rw e (both-stored scratch o (fieldBytes tag [] ++ f) g n (l ∙ h .long)
               (both-stored scratch o (fieldBytes tag []) f (omega (arith, h .o-is)) (h .long) (λ r. h .stored (omega arith)) (c .stored)) (d .stored));
-          within = d .within;
-          upto = d .upto;
+          within = omega (arith, d .within, c .within, h .o-is);
           lines-is = d .lines-is ∙ c .lines-is;
           open-is = d .open-is ∙ c .open-is;
         }
 
-    joined-by : (scratch₃ : List ℕ) (r : Branched) → BranchedBy (second (t₁ .rows .0) (fieldsAt p a)) p t₁ scratch₂ o₂ scratch₃ r → BranchedBy (joined make R second) p t scratch o scratch₃ r
+    joined-by : (scratch₃ : List ℕ) (r : Branched) → BranchedBy (second (t₁ .rows .0) (fieldsAt p a)) p a t₁ scratch₂ o₂ scratch₃ r → BranchedBy (joined make R second) p at t scratch o scratch₃ r
     joined-by scratch₃ (branched.Fault x b) e = joined-refused e
     joined-by scratch₃ (branched.Closed b o₃ t₂) d = joined-closes d
 
-  module _ {K n : ℕ} {kinds : List ℕ} {buf : List ℤ} {kinds₁ : List ℕ} {buf₁ : List ℤ} {scratch₂ : List ℕ} {r₁ : Branched} (c : Checks R K n p kinds buf t scratch₁ o₁ kinds₁ buf₁ scratch₂ r₁) where
-    pub joined-fault : {x b : ℕ} → r₁ ≡ branched.Fault x b → Checks (joined make R second) K n p kinds buf t scratch o kinds₁ buf₁ scratch₂ (branched.Fault x b)
+  module _ {K n : ℕ} {kinds : List ℕ} {buf : List ℤ} {kinds₁ : List ℕ} {buf₁ : List ℤ} {scratch₂ : List ℕ} {r₁ : Branched} (c : Checks R K n p at kinds buf t scratch₁ o₁ kinds₁ buf₁ scratch₂ r₁) where
+    pub joined-fault : {x b : ℕ} → r₁ ≡ branched.Fault x b → Checks (joined make R second) K n p at kinds buf t scratch o kinds₁ buf₁ scratch₂ (branched.Fault x b)
     unfolding _>>=_
     joined-fault e = record { kept = c .kept; long = c .long ∙ h .long; by = rw (rw e at (c .by)) }
 
     pub joined-checks : {a o₂ : ℕ} {t₁ : Tally} → r₁ ≡ branched.Closed a o₂ t₁
-        → {kinds₂ : List ℕ} {buf₂ : List ℤ} {scratch₃ : List ℕ} {r : Branched} → Checks (second (t₁ .rows .0) (fieldsAt p a)) K n p kinds buf t₁ scratch₂ o₂ kinds₂ buf₂ scratch₃ r
-        → Checks (joined make R second) K n p kinds buf t scratch o kinds₂ buf₂ scratch₃ r
+        → {kinds₂ : List ℕ} {buf₂ : List ℤ} {scratch₃ : List ℕ} {r : Branched} → Checks (second (t₁ .rows .0) (fieldsAt p a)) K n p a kinds buf t₁ scratch₂ o₂ kinds₂ buf₂ scratch₃ r
+        → Checks (joined make R second) K n p at kinds buf t scratch o kinds₂ buf₂ scratch₃ r
     joined-checks e {scratch₃ = scratch₃} {r = r} d = record {
       kept = d .kept;
       long = d .long ∙ c .long ∙ h .long;
@@ -138,7 +138,7 @@ longer-start : {K n : ℕ} {kinds : List ℕ} {buf : List ℤ} {kinds₁ : List 
     → Kept K n kinds buf kinds₁ buf₁ → Longer K kinds₁ buf₁ n l kinds₂ buf₂ → Longer K kinds buf n l kinds₂ buf₂
 longer-start {K} {n} {l = l} k g = record {
   kept = kept-trans (omega arith) k (g .kept);
-  ready = g .ready;
+  limited = g .limited;
   lines = g .lines ∙ ap (λ (ls : List Line). ls ▷ l) (lines-same K n (k .lines-same) (k .kinds-same));
   small = g .small;
 }
@@ -147,32 +147,38 @@ module _ {K n : ℕ} {p : List ℕ} {kinds : List ℕ} {buf : List ℤ} {kinds�
   -- A branch of n lines and l.
   as-branch : (at : ℕ) (inA inB : ℕ → Bool) {scratch : List ℕ} {o : ℕ} {kinds₂ : List ℕ} {buf₂ : List ℤ} {scratch₂ : List ℕ} {r : Branched}
       → Branches K p at inA inB kinds₁ buf₁ t scratch o kinds₂ buf₂ scratch₂ r
-      → Checks (checkBranch edition1 K inA inB (32 - t .«open») (t .rows .0) (linesIn K kinds buf n ▷ l) (fieldsAt p at)) K n p kinds buf t scratch o kinds₂ buf₂ scratch₂ r
+      → Checks (checkBranch edition1 K inA inB (32 - t .«open») (t .rows .0) (linesIn K kinds buf n ▷ l) (fieldsAt p at)) K n p at kinds buf t scratch o kinds₂ buf₂ scratch₂ r
   as-branch at inA inB {scratch} {o} {scratch₂ = scratch₂} {r} b = record {
     kept = kept-trans {n = t .lines .0} (omega arith) (g .kept) (b .kept);
     long = b .long;
-    by = subst (λ (ls : List Line). BranchedBy (checkBranch edition1 K inA inB (32 - t .«open») (t .rows .0) ls (fieldsAt p at)) p t scratch o scratch₂ r) (ap (linesIn K kinds₁ buf₁) e ∙ g .lines) (b .by);
+    by = subst (λ (ls : List Line). BranchedBy (checkBranch edition1 K inA inB (32 - t .«open») (t .rows .0) ls (fieldsAt p at)) p at t scratch o scratch₂ r) (ap (linesIn K kinds₁ buf₁) e ∙ g .lines) (b .by);
   }
 
 module _ {K n : ℕ} {p : List ℕ} {kinds : List ℕ} {buf : List ℤ} {maskA maskB : List ℕ} {t : Tally} {i at o : ℕ} (d : Divided K n kinds buf maskA maskB t i p at o) where
   pub room-left : o ≤ 5242880
-  room-left = omega (arith, d .room, d .upto, d .size)
+  room-left = omega (arith, d .room)
 
-  starts-branch : {kinds₁ : List ℕ} {buf₁ : List ℤ} {l : Line} → Longer K kinds buf n l kinds₁ buf₁ → {t₁ : Tally} {a o₁ : ℕ} → t₁ .lines .0 ≡ n + 1 → a ≤ length p → o₁ ≤ 26 * a
+  starts-branch : {kinds₁ : List ℕ} {buf₁ : List ℤ} {l : Line} → Longer K kinds buf n l kinds₁ buf₁ → {t₁ : Tally} {a o₁ : ℕ} → t₁ .lines .0 ≡ n + 1 → fieldsLeft p a ≤ fieldsLeft p at → o₁ + 78 * fieldsLeft p a ≤ 5242880
       → Started K kinds₁ buf₁ maskA maskB t₁ p a o₁
-  starts-branch {kinds₁} {buf₁} g e u r = record { ready = subst (Ready K kinds₁ buf₁) (sym e) (g .ready); a-mask = d .a-mask; b-mask = d .b-mask; size = d .size; upto = u; room = r }
+  starts-branch {kinds₁} {buf₁} g e u r = record {
+    ready = subst (Ready K kinds₁ buf₁) (sym e) (ready-more (d .ready) (g .kept) (g .limited) (d .spare .room (n + 1) (g .limited .most) (omega arith)));
+    spare = spare-less (omega arith) (g .kept .lines-length) (d .spare);
+    a-mask = d .a-mask;
+    b-mask = d .b-mask;
+    room = r;
+  }
 
   -- ---- the first branch, and the rest
   module _ (f : FirstStands K n kinds buf i) {scratch : List ℕ} {scratch₁ : List ℕ} {o₁ : ℕ} (h : Heads scratch o 0x31 scratch₁ o₁) where
     pub first-started : Started K kinds buf maskA maskB t p at o₁
-    first-started = starts-branch f (d .lines-is) (d .upto) (omega (arith, h .o-is, d .room))
+    first-started = starts-branch f (d .lines-is) (omega arith) (omega (arith, h .o-is, d .room))
 
     module _ {kinds₁ : List ℕ} {buf₁ : List ℤ} {scratch₂ : List ℕ} {r₁ : Branched} (b : Branches K p at (told maskA) (told maskB) kinds buf t scratch₁ o₁ kinds₁ buf₁ scratch₂ r₁) where
       pub split-fault : {x a : ℕ} → r₁ ≡ branched.Fault x a → ChecksSplit K n p at (told maskA) (told maskB) kinds buf t i scratch o kinds₁ buf₁ scratch₂ (branched.Fault x a)
       split-fault e = joined-fault _or_ 0x31 or-bytes (λ rows fs. lastTwo (checkBranch edition1 K (told maskA) (told maskB) (32 - t .«open»)) (linesIn K kinds buf n) (lineIn K kinds buf i) rows fs) h (as-branch f (d .lines-is) at (told maskA) (told maskB) b) e
 
       module _ {a o₂ : ℕ} {t₁ : Tally} (e : r₁ ≡ branched.Closed a o₂ t₁) where
-        c : Closes (checkBranch edition1 K (told maskA) (told maskB) (32 - t .«open») (t .rows .0) (linesIn K kinds buf (t .lines .0)) (fieldsAt p at)) p t a scratch₁ o₁ o₂ scratch₂ t₁
+        c : Closes (checkBranch edition1 K (told maskA) (told maskB) (32 - t .«open») (t .rows .0) (linesIn K kinds buf (t .lines .0)) (fieldsAt p at)) p at t a scratch₁ o₁ o₂ scratch₂ t₁
         c = rw e at (b .by)
 
         k : Kept K n kinds buf kinds₁ buf₁
@@ -187,11 +193,10 @@ module _ {K n : ℕ} {p : List ℕ} {kinds : List ℕ} {buf : List ℤ} {maskA m
         pub rest-divided : Divided K n kinds₁ buf₁ maskA maskB t₁ i p a o₂
         rest-divided = record {
           ready = ready-kept (d .ready) k;
+          spare = spare-less (omega (arith, c .within, c .o-is)) (k .lines-length) (d .spare);
           a-mask = d .a-mask;
           b-mask = d .b-mask;
-          size = d .size;
-          upto = c .upto;
-          room = c .within;
+          room = omega (arith, c .within, h .o-is, d .room);
           line = d .line;
           space = d .space;
           lines-is = c .lines-is ∙ d .lines-is;
@@ -199,7 +204,7 @@ module _ {K n : ℕ} {p : List ℕ} {kinds : List ℕ} {buf : List ℤ} {maskA m
         }
 
         rest-same : {kinds₂ : List ℕ} {buf₂ : List ℤ} {scratch₃ : List ℕ} {r : Branched} → ChecksRest K n p a (told maskA) (told maskB) kinds₁ buf₁ t₁ i scratch₂ o₂ kinds₂ buf₂ scratch₃ r
-            → Checks (lastTwo (checkBranch edition1 K (told maskA) (told maskB) (32 - t .«open»)) (linesIn K kinds buf n) (lineIn K kinds buf i) (t₁ .rows .0) (fieldsAt p a)) K n p kinds buf t₁ scratch₂ o₂ kinds₂ buf₂ scratch₃ r
+            → Checks (lastTwo (checkBranch edition1 K (told maskA) (told maskB) (32 - t .«open»)) (linesIn K kinds buf n) (lineIn K kinds buf i) (t₁ .rows .0) (fieldsAt p a)) K n p a kinds buf t₁ scratch₂ o₂ kinds₂ buf₂ scratch₃ r
         rest-same {scratch₃ = scratch₃} {r = r} x =
             let same : lastTwo (checkBranch edition1 K (told maskA) (told maskB) (32 - t₁ .«open»)) (linesIn K kinds₁ buf₁ n) (lineIn K kinds₁ buf₁ i) (t₁ .rows .0) (fieldsAt p a)
             ≡ lastTwo (checkBranch edition1 K (told maskA) (told maskB) (32 - t .«open»)) (linesIn K kinds buf n) (lineIn K kinds buf i) (t₁ .rows .0) (fieldsAt p a)
@@ -207,7 +212,7 @@ module _ {K n : ℕ} {p : List ℕ} {kinds : List ℕ} {buf : List ℤ} {maskA m
             record {
               kept = kept-trans (omega arith) k (x .kept);
               long = x .long;
-              by = subst (λ (R : Result Closing). BranchedBy R p t₁ scratch₂ o₂ scratch₃ r) same (x .by);
+              by = subst (λ (R : Result Closing). BranchedBy R p a t₁ scratch₂ o₂ scratch₃ r) same (x .by);
             }
 
         pub split-checks : {kinds₂ : List ℕ} {buf₂ : List ℤ} {scratch₃ : List ℕ} {r : Branched} → ChecksRest K n p a (told maskA) (told maskB) kinds₁ buf₁ t₁ i scratch₂ o₂ kinds₂ buf₂ scratch₃ r
@@ -223,14 +228,14 @@ module _ {K n : ℕ} {p : List ℕ} {kinds : List ℕ} {buf : List ℤ} {maskA m
     second = second-starts (d .ready) (d .line) (d .space) kept-refl eb ek
 
     pub second-started : Started K kinds₁ buf₁ maskA maskB t p at o₁
-    second-started = starts-branch second (d .lines-is) (d .upto) (omega (arith, h .o-is, d .room))
+    second-started = starts-branch second (d .lines-is) (omega arith) (omega (arith, h .o-is, d .room))
 
     module _ {kinds₂ : List ℕ} {buf₂ : List ℤ} {scratch₂ : List ℕ} {r₁ : Branched} (b : Branches K p at (told maskA) (told maskB) kinds₁ buf₁ t scratch₁ o₁ kinds₂ buf₂ scratch₂ r₁) where
       pub rest-fault : {x a : ℕ} → r₁ ≡ branched.Fault x a → ChecksRest K n p at (told maskA) (told maskB) kinds buf t i scratch o kinds₂ buf₂ scratch₂ (branched.Fault x a)
       rest-fault e = joined-fault _and_ 0x32 and-bytes (λ rows fs. checkBranch edition1 K (told maskA) (told maskB) (32 - t .«open») rows (linesIn K kinds buf n ▷ thirdLine (lineIn K kinds buf i)) fs) h (as-branch second (d .lines-is) at (told maskA) (told maskB) b) e
 
       module _ {a o₂ : ℕ} {t₁ : Tally} (e : r₁ ≡ branched.Closed a o₂ t₁) where
-        closes : Closes (checkBranch edition1 K (told maskA) (told maskB) (32 - t .«open») (t .rows .0) (linesIn K kinds₁ buf₁ (t .lines .0)) (fieldsAt p at)) p t a scratch₁ o₁ o₂ scratch₂ t₁
+        closes : Closes (checkBranch edition1 K (told maskA) (told maskB) (32 - t .«open») (t .rows .0) (linesIn K kinds₁ buf₁ (t .lines .0)) (fieldsAt p at)) p at t a scratch₁ o₁ o₂ scratch₂ t₁
         closes = rw e at (b .by)
 
         pub third-open : t₁ .«open» ≡ t .«open»
@@ -247,7 +252,7 @@ module _ {K n : ℕ} {p : List ℕ} {kinds : List ℕ} {buf : List ℤ} {maskA m
           third = longer-start on (third-starts (d .ready) (d .line) (d .space) on (d .small) eb₃ ek₃)
 
           pub third-started : Started K kinds₃ buf₃ maskA maskB t₁ p a o₂
-          third-started = starts-branch third (closes .lines-is ∙ d .lines-is) (closes .upto) (omega (arith, closes .within))
+          third-started = starts-branch third (closes .lines-is ∙ d .lines-is) (omega (arith, closes .within, closes .o-is)) (omega (arith, closes .within, h .o-is, d .room))
 
           pub rest-checks : {kinds₄ : List ℕ} {buf₄ : List ℤ} {scratch₃ : List ℕ} {r : Branched} → Branches K p a (told maskA) (told maskB) kinds₃ buf₃ t₁ scratch₂ o₂ kinds₄ buf₄ scratch₃ r
               → ChecksRest K n p at (told maskA) (told maskB) kinds buf t i scratch o kinds₄ buf₄ scratch₃ r
@@ -278,11 +283,10 @@ module _ {K : ℕ} {p : List ℕ} {at : ℕ} {kinds : List ℕ} {buf : List ℤ}
     pub divided : Divided K (u .lines .0) kinds″ buf″ maskA maskB v i p next o
     divided = record {
       ready = ready-kept (m .ready) (w .kept);
+      spare = spare-less (omega (arith, m .few)) (w .kept .lines-length ∙ k .lines-length) (st .spare);
       a-mask = st .a-mask;
       b-mask = st .b-mask;
-      size = st .size;
-      upto = m .upto;
-      room = omega (arith, st .room, m .on);
+      room = omega (arith, st .room, m .few, m .from);
       line = opens .copy .first;
       space = opens .copy .space;
       lines-is = ap (λ (x : Tally). x .lines .0) (opens .tally-is);
@@ -292,7 +296,7 @@ module _ {K : ℕ} {p : List ℕ} {at : ℕ} {kinds : List ℕ} {buf : List ℤ}
   pub first-stands : FirstStands K (u .lines .0) kinds″ buf″ i
   first-stands =
       let g = opens .longer in
-      rw same-line (record { kept = kept-refl; ready = g .ready; lines = g .lines ∙ rw same-lines; small = g .small })
+      rw same-line (record { kept = kept-refl; limited = g .limited; lines = g .lines ∙ rw same-lines; small = g .small })
 
   module _ (inA inB : ℕ → Bool) {scratch : List ℕ} {o : ℕ} {kinds₁ : List ℕ} {buf₁ : List ℤ} {scratch₁ : List ℕ} {b : Branched}
       (x : ChecksSplit K (u .lines .0) p next inA inB kinds″ buf″ v i scratch o kinds₁ buf₁ scratch₁ b) where
@@ -303,14 +307,14 @@ module _ {K : ℕ} {p : List ℕ} {at : ℕ} {kinds : List ℕ} {buf : List ℤ}
         let n : 32 - v .«open» ≡ 31 - u .«open» = omega (arith, opens-less, m .open-is) in
         comes-split m k inA inB ∙ opens .is inA inB _ a (m .rows) (fieldsAt p next) ∙ rw (same-line, same-lines, r, n)
 
-    resumed-by : (b : Branched) → BranchedBy (checkBranch edition1 K inA inB (32 - t .«open») (t .rows .0) (linesIn K kinds buf (t .lines .0)) (fieldsAt p at)) p v scratch o scratch₁ b
-        → BranchedBy (checkBranch edition1 K inA inB (32 - t .«open») (t .rows .0) (linesIn K kinds buf (t .lines .0)) (fieldsAt p at)) p t scratch o scratch₁ (resumedBy b t)
+    resumed-by : (b : Branched) → BranchedBy (checkBranch edition1 K inA inB (32 - t .«open») (t .rows .0) (linesIn K kinds buf (t .lines .0)) (fieldsAt p at)) p next v scratch o scratch₁ b
+        → BranchedBy (checkBranch edition1 K inA inB (32 - t .«open») (t .rows .0) (linesIn K kinds buf (t .lines .0)) (fieldsAt p at)) p at t scratch o scratch₁ (resumedBy b t)
     resumed-by (branched.Fault x a) y = y
-    resumed-by (branched.Closed a o′ v′) y = record { formula = y .formula; is = y .is; o-is = y .o-is; stored = y .stored; within = y .within; upto = y .upto; lines-is = refl; open-is = refl }
+    resumed-by (branched.Closed a o′ v′) y = record { formula = y .formula; is = y .is; o-is = y .o-is; stored = y .stored; within = omega (arith, y .within, m .few, m .from); lines-is = refl; open-is = refl }
 
     pub resumed-checks : {r : Branched} → r ≡ resumedBy b t → Branches K p at inA inB kinds buf t scratch o kinds₁ buf₁ scratch₁ r
     resumed-checks q = rw q (record {
       kept = kept-trans (m .from) k (kept-trans (omega arith) (w .kept) (x .kept));
       long = x .long;
-      by = resumed-by b (subst (λ (R : Result Closing). BranchedBy R p v scratch o scratch₁ b) (sym splits) (x .by));
+      by = resumed-by b (subst (λ (R : Result Closing). BranchedBy R p next v scratch o scratch₁ b) (sym splits) (x .by));
     })

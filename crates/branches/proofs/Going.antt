@@ -3,7 +3,7 @@ use mathlib.Core.Path.{_≡_, refl, _∙_}
 use mathlib.Core.Bool.{Bool, true, false}
 use mathlib.Core.List.{List}
 use mathlib.Core.Option.{Option}
-use Prim.Native.Nat.{ℕ, _+_, _-_, _≤_, _<_}
+use Prim.Native.Nat.{ℕ, _+_, _-_, _≤_}
 use native.Mathlib.Nat.{mul-le-mul-right}
 use native.Mathlib.Omega.{arith}
 use lib.ListN.{take, drop}
@@ -17,12 +17,14 @@ use Rattle.fields.specs.Places.{fieldsAt}
 use Rattle.fields.proofs.Places.{Starts}
 use Rattle.lines.specs.Parts.{agree-trans, agree-le, agree-sym}
 use Rattle.lines.specs.Lines.{lines-same, bounded-same}
-use Rattle.rows.proofs.Deriving.{kept-refl}
+use Rattle.rows.proofs.Deriving.{kept-refl, ready-more}
 use Rattle.lines.specs.Buffer.{size, linesIn}
 use Rattle.proof.specs.Check.{Closing, Checker, checkEntries}
 use Rattle.rows.specs.Rows.{Ready, Kept}
 use Rattle.rows.specs.Steps.{Same, rowLeft, moreRows, lastMade, fieldChecked, Steps}
+use Rattle.branches.specs.Room.{fieldsLeft, Spare}
 use Rattle.branches.specs.Branches.{entriesFrom, Comes, Stopped}
+use Rattle.branches.proofs.Counting.{count-starts, spare-less}
 use Rattle.bundle.specs.declared.Line as tally
 use Rattle.rows.specs.declared.tally.Tally.{Tally}
 use Rattle.rows.specs.declared.steps.Stepped.{Stepped}
@@ -61,7 +63,8 @@ pub record Going (K : ℕ) (p : List ℕ) (at : ℕ) (kinds₀ : List ℕ) (buf�
   pub from : t₀ .lines .0 ≤ t .lines .0
   pub open-is : t .«open» ≡ t₀ .«open»
   pub made-one : made ≡ true → 1 ≤ t .lines .0
-  pub on : at ≤ here
+  pub few : t .lines .0 + fieldsLeft p here ≤ t₀ .lines .0 + fieldsLeft p at
+  pub spare : Spare K (t₀ .lines .0 + fieldsLeft p at) buf
 
 module _ {K : ℕ} {p : List ℕ} {at : ℕ} {kinds₀ : List ℕ} {buf₀ : List ℤ} {t₀ : Tally} {kinds : List ℕ} {buf : List ℤ} {here : ℕ} {t : Tally} {made : Bool}
     (g : Going K p at kinds₀ buf₀ t₀ kinds buf here t made) where
@@ -91,8 +94,8 @@ module _ {K : ℕ} {p : List ℕ} {at : ℕ} {kinds₀ : List ℕ} {buf₀ : Lis
     pub going-refused : {n : ℕ} → r ≡ Refused n → Stopped K p at kinds₀ buf₀ t₀ kinds′ buf′ (Stop.Fault n a)
     going-refused e = let y = rw e at x in record { kept = all-kept; by = by-same (y .by) }
 
-    further : at + 3 ≤ next
-    further = omega (arith, g .on, s .from, s .start-is, s .next-is)
+    spare-kept : Spare K (t₀ .lines .0 + fieldsLeft p at) buf′
+    spare-kept = spare-less (omega arith) (x .kept .lines-length) (g .spare)
 
     pub going-made : {u : Tally} → r ≡ Made u → Going K p at kinds₀ buf₀ t₀ kinds′ buf′ next u true
     going-made e =
@@ -102,11 +105,12 @@ module _ {K : ℕ} {p : List ℕ} {at : ℕ} {kinds₀ : List ℕ} {buf₀ : Lis
         record {
           same = λ inA inB deeper. by-same (y .by .0) inA inB deeper ∙ rw z;
           kept = all-kept;
-          ready = y .by .1;
+          ready = ready-more (g .ready) (x .kept) (y .by .1) (g .spare .room (t .lines .0 + 1) (y .by .1 .most) (omega (arith, g .few, count-starts s)));
           from = omega (arith, g .from);
           open-is = g .open-is;
           made-one = λ h. omega arith;
-          on = omega (arith, further);
+          few = omega (arith, g .few, count-starts s);
+          spare = spare-kept;
         })
 
     lines-are : linesIn K kinds buf (t .lines .0) ≡ linesIn K kinds′ buf′ (t .lines .0)
@@ -122,7 +126,8 @@ module _ {K : ℕ} {p : List ℕ} {at : ℕ} {kinds₀ : List ℕ} {buf₀ : Lis
           from = g .from;
           open-is = g .open-is;
           made-one = λ h. absurd (let z : _≡_ {A = ℕ} 0 1 = cc in omega arith);
-          on = omega (arith, further);
+          few = omega (arith, g .few, count-starts s);
+          spare = spare-kept;
         }
 
     comes : {row : rules.Row} {u : Tally} → Same (fieldChecked K kinds buf t made tag (take len (drop start p))) (rowLeft K kinds buf t row) → u ≡ moreRows t
@@ -136,8 +141,7 @@ module _ {K : ℕ} {p : List ℕ} {at : ℕ} {kinds₀ : List ℕ} {buf₀ : Lis
           ready = ready-kept (g .ready) (x .kept);
           from = g .from;
           open-is = g .open-is;
-          on = further;
-          upto = s .upto;
+          few = omega (arith, g .few, count-starts s);
         })
 
     pub going-strengthens : {i : tally.Line} {u : Tally} → r ≡ Strengthens u i → Stopped K p at kinds₀ buf₀ t₀ kinds′ buf′ (Stop.Strengthens i a next u)
@@ -149,13 +153,15 @@ module _ {K : ℕ} {p : List ℕ} {at : ℕ} {kinds₀ : List ℕ} {buf₀ : Lis
     pub going-stride : {i : tally.Line} {h : ℤ} {u : Tally} → r ≡ ClosesStride u i h → Stopped K p at kinds₀ buf₀ t₀ kinds′ buf′ (Stop.ClosesStride i a next u h)
     going-stride e = let y = rw e at x in record { kept = all-kept; by = (comes (y .by .0) (y .by .1), y .by .2) }
 
-pub going-start : {K : ℕ} {p : List ℕ} {at : ℕ} {kinds : List ℕ} {buf : List ℤ} {t : Tally} → Ready K kinds buf (t .lines .0) → Going K p at kinds buf t kinds buf at t false
-going-start h = record {
+pub going-start : {K : ℕ} {p : List ℕ} {at : ℕ} {kinds : List ℕ} {buf : List ℤ} {t : Tally}
+    → Ready K kinds buf (t .lines .0) × Spare K (t .lines .0 + fieldsLeft p at) buf → Going K p at kinds buf t kinds buf at t false
+going-start (h, s) = record {
   same = λ inA inB deeper. refl;
   kept = kept-refl;
   ready = h;
   from = omega arith;
   open-is = refl;
   made-one = λ e. absurd (let z : _≡_ {A = ℕ} 0 1 = cc in omega arith);
-  on = omega arith;
+  few = omega arith;
+  spare = s;
 }

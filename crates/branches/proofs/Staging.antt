@@ -13,7 +13,6 @@ use Rattle.fields.specs.Answers.{Result, accepted, _>>=_}
 use Rattle.fields.specs.Fields.{Fields}
 use Rattle.fields.specs.Places.{fieldsAt}
 use Rattle.lines.specs.Buffer.{linesIn}
-use Rattle.lines.specs.Occurrence.{told}
 use Rattle.proof.specs.Rows.{byNumber, byStride}
 use Rattle.proof.specs.Check.{refusal, checkRow, checkEntries, checkBranch}
 use Rattle.rows.specs.Entries.{Multiplies}
@@ -33,7 +32,7 @@ use Rattle.branches.specs.declared.branch.Branched.the-variants as branc
 use Rattle.branches.proofs.Going.{kept-trans}
 
 pub started-room : {K : ℕ} {kinds : List ℕ} {buf : List ℤ} {maskA maskB : List ℕ} {t : Tally} {p : List ℕ} {at o : ℕ} → Started K kinds buf maskA maskB t p at o → o ≤ 5242880
-started-room s = omega (arith, s .room, s .upto, s .size)
+started-room s = omega (arith, s .room)
 
 -- A branch is its entries.
 pub branch-entries : (K : ℕ) (inA inB : ℕ → Bool) (room rows : ℕ) (ls : List Line) (fs : Fields)
@@ -71,46 +70,45 @@ module _ {K : ℕ} {p : List ℕ} {at : ℕ} {kinds : List ℕ} {buf : List ℤ}
   -- ---- a row that closes the branch
   -- `row` gives the formula that f gives.
   module _ {row : rules.Row} {a next : ℕ} {u : Tally} (m : Comes K p at kinds buf t kinds′ buf′ row a next u) (k : Kept K (t .lines .0) kinds buf kinds′ buf′)
-      {maskA maskB : List ℕ} {o : ℕ} (st : Started K kinds buf maskA maskB t p at o) (f : ℕ → Result Formula)
-      (row-is : checkRow edition1 K (told maskA) (told maskB) (below K (told maskA) (told maskB) (32 - t .«open»)) (checkEntries edition1 K (told maskA) (told maskB) (below K (told maskA) (told maskB) (32 - t .«open»)) (fieldsAt p next)) a (m .rows) (linesIn K kinds′ buf′ (u .lines .0)) (fieldsAt p next) row
+      (inA inB : ℕ → Bool) (f : ℕ → Result Formula)
+      (row-is : checkRow edition1 K inA inB (below K inA inB (32 - t .«open»)) (checkEntries edition1 K inA inB (below K inA inB (32 - t .«open»)) (fieldsAt p next)) a (m .rows) (linesIn K kinds′ buf′ (u .lines .0)) (fieldsAt p next) row
       ≡ (f a >>= λ I. accepted (record { formula = I; rows = suc (m .rows); after = fieldsAt p next }))) where
-    pub row-closed : {scratch scratch′ : List ℕ} (e : Ended) → EndedBy f scratch o scratch′ e
-        → Branches K p at (told maskA) (told maskB) kinds buf t scratch o kinds′ buf′ scratch′ (closedBy e a next (returnedTo u t))
+    pub row-closed : (scratch : List ℕ) (o : ℕ) (scratch′ : List ℕ) (e : Ended) → EndedBy f scratch o scratch′ e
+        → Branches K p at inA inB kinds buf t scratch o kinds′ buf′ scratch′ (closedBy e a next (returnedTo u t))
     unfolding _>>=_
-    row-closed (ended.Refused x) w = record { kept = k; long = w .1; by = comes-row m (told maskA) (told maskB) ∙ row-is ∙ rw (w .0 a) }
-    row-closed (ended.Written o′) w =
+    row-closed scratch o scratch′ (ended.Refused x) w = record { kept = k; long = w .1; by = comes-row m inA inB ∙ row-is ∙ rw (w .0 a) }
+    row-closed scratch o scratch′ (ended.Written o′) w =
         let q : suc (m .rows) ≡ u .rows .0 = omega (arith, m .rows-is) in
         record {
           kept = k;
           long = w .puts .long;
           by = record {
             formula = w .formula;
-            is = comes-row m (told maskA) (told maskB) ∙ row-is ∙ rw (w .is a, q);
+            is = comes-row m inA inB ∙ row-is ∙ rw (w .is a, q);
             o-is = w .puts .o-is;
             stored = w .puts .stored;
-            within = omega (arith, w .short, st .room, m .on);
-            upto = m .upto;
+            within = omega (arith, w .short, m .few, m .from);
             lines-is = refl;
             open-is = refl;
           };
         }
 
-  module _ {r : Stop} (s : Stopped K p at kinds buf t kinds′ buf′ r) {maskA maskB : List ℕ} {o : ℕ} (st : Started K kinds buf maskA maskB t p at o) (scratch scratch′ : List ℕ) (e : Ended) where
+  module _ {r : Stop} (s : Stopped K p at kinds buf t kinds′ buf′ r) (inA inB : ℕ → Bool) (scratch : List ℕ) (o : ℕ) (scratch′ : List ℕ) (e : Ended) where
     pub number-closed : {i : tally.Line} {a next : ℕ} {u : Tally} {b : Branched} {v : Tally} → r ≡ Stop.ClosesNumber i a next u
-        → EndedBy (λ at. byNumber (refusal at) (linesIn K kinds′ buf′ (u .lines .0)) (told maskA) (told maskB) (i .0)) scratch o scratch′ e
+        → EndedBy (λ at. byNumber (refusal at) (linesIn K kinds′ buf′ (u .lines .0)) inA inB (i .0)) scratch o scratch′ e
         → v ≡ returnedTo u t → b ≡ closedBy e a next v
-        → Branches K p at (told maskA) (told maskB) kinds buf t scratch o kinds′ buf′ scratch′ b
+        → Branches K p at inA inB kinds buf t scratch o kinds′ buf′ scratch′ b
     unfolding checkRow
     number-closed {i} {a} {next} {u} q w ev eb =
-        rw (eb, ev) (row-closed (number-comes s q) (s .kept) st (λ at. byNumber (refusal at) (linesIn K kinds′ buf′ (u .lines .0)) (told maskA) (told maskB) (i .0)) refl e w)
+        rw (eb, ev) (row-closed (number-comes s q) (s .kept) inA inB (λ at. byNumber (refusal at) (linesIn K kinds′ buf′ (u .lines .0)) inA inB (i .0)) refl scratch o scratch′ e w)
 
     pub stride-closed : {i : tally.Line} {g : ℤ} {a next : ℕ} {u : Tally} {b : Branched} {v : Tally} → r ≡ Stop.ClosesStride i a next u g
-        → EndedBy (λ at. byStride (refusal at) (linesIn K kinds′ buf′ (u .lines .0)) (told maskA) (told maskB) (i .0) (natAbs g)) scratch o scratch′ e
+        → EndedBy (λ at. byStride (refusal at) (linesIn K kinds′ buf′ (u .lines .0)) inA inB (i .0) (natAbs g)) scratch o scratch′ e
         → v ≡ returnedTo u t → b ≡ closedBy e a next v
-        → Branches K p at (told maskA) (told maskB) kinds buf t scratch o kinds′ buf′ scratch′ b
+        → Branches K p at inA inB kinds buf t scratch o kinds′ buf′ scratch′ b
     unfolding checkRow
     stride-closed {i} {g} {a} {next} {u} q w ev eb =
-        rw (eb, ev) (row-closed (stride-comes s q .0) (s .kept) st (λ at. byStride (refusal at) (linesIn K kinds′ buf′ (u .lines .0)) (told maskA) (told maskB) (i .0) (natAbs g)) refl e w)
+        rw (eb, ev) (row-closed (stride-comes s q .0) (s .kept) inA inB (λ at. byStride (refusal at) (linesIn K kinds′ buf′ (u .lines .0)) inA inB (i .0) (natAbs g)) refl scratch o scratch′ e w)
 
   -- ---- a row that splits it
   module _ {i a next : ℕ} {u : Tally} (m : Comes K p at kinds buf t kinds′ buf′ (rules.Strengthen i) a next u) (k : Kept K (t .lines .0) kinds buf kinds′ buf′) (inA inB : ℕ → Bool) where

@@ -35,7 +35,7 @@ module _ {K n : ℕ} {kinds : List ℕ} {buf : List ℤ} (ready : Ready K kinds 
   now-lines = lines-same K n (k .lines-same) (k .kinds-same)
 
   in-range : T (inRange 2147483647 (lineIn K kinds buf i))
-  in-range = bounded-line K buf i (omega (arith, before K hi, before K space, ready .branch .room)) kinds (ready .branch .bounded) hi
+  in-range = bounded-line K buf i (omega (arith, before K hi, ready .branch .room)) kinds (ready .branch .bounded) hi
 
   any-kind : (l : Line) → T (inRange 2147483647 l) → T (inRange 2147483647 (line =0 (l .t) (l .tA)))
   unfolding inRange

@@ -3,8 +3,7 @@ use mathlib.Core.Path.{_≡_}
 use mathlib.Core.Bool.{Bool}
 use mathlib.Core.List.{List}
 use mathlib.Core.Option.{Option, none}
-use Prim.Native.Nat.{ℕ, _+_, _≤_, _<_}
-use lib.ListN.{length}
+use Prim.Native.Nat.{ℕ, suc, _+_, _≤_}
 use lib.IntN.{ℤ, natAbs}
 use Rattle.forms.specs.Edition.{edition1}
 use Rattle.calculus.specs.Rules as rules
@@ -15,6 +14,7 @@ use Rattle.proof.specs.Check.{Closing, Checker, refusal, checkRow, checkEntries
 use Rattle.rows.specs.Entries.{Multiplies}
 use Rattle.rows.specs.Rows.{Ready, Kept}
 use Rattle.rows.specs.declared.tally.Tally.{Tally}
+use Rattle.branches.specs.Room.{fieldsLeft}
 use Rattle.branches.specs.declared.branch.Stop.{Stop}
 use Rattle.branches.specs.declared.branch.Stop.the-variants.{Fault, Strengthens, ClosesNumber, ClosesStride}
 
@@ -22,7 +22,7 @@ use Rattle.branches.specs.declared.branch.Stop.the-variants.{Fault, Stre
 abbrev pub entriesFrom : (K : ℕ) (p : List ℕ) (at : ℕ) (kinds : List ℕ) (buf : List ℤ) (t : Tally) (inA inB : ℕ → Bool) (deeper : Option Checker) → Result Closing
 entriesFrom K p at kinds buf t inA inB deeper = checkEntries edition1 K inA inB deeper (fieldsAt p at) (t .rows .0) none (linesIn K kinds buf (t .lines .0))
 
--- They come to a row at a, with the lines and rows that there are then.
+-- They come to a row at a, with the lines and rows that there are then; each line more, and the row itself, took a field.
 pub record Comes (K : ℕ) (p : List ℕ) (at : ℕ) (kinds : List ℕ) (buf : List ℤ) (t : Tally) (kinds′ : List ℕ) (buf′ : List ℤ) (row : rules.Row) (a next : ℕ) (t′ : Tally) : Type 0 where
   pub rows : ℕ
   pub rows-is : t′ .rows .0 ≡ rows + 1
@@ -32,8 +32,7 @@ pub record Comes (K : ℕ) (p : List ℕ) (at : ℕ) (kinds : List ℕ) (buf : L
   pub ready : Ready K kinds′ buf′ (t′ .lines .0)
   pub from : t .lines .0 ≤ t′ .lines .0
   pub open-is : t′ .«open» ≡ t .«open»
-  pub on : at + 3 ≤ next
-  pub upto : next ≤ length p
+  pub few : t′ .lines .0 + suc (fieldsLeft p next) ≤ t .lines .0 + fieldsLeft p at
 
 abbrev pub StoppedBy : (K : ℕ) (p : List ℕ) (at : ℕ) (kinds : List ℕ) (buf : List ℤ) (t : Tally) (kinds′ : List ℕ) (buf′ : List ℤ) → Stop → Type 0
 StoppedBy K p at kinds buf t kinds′ buf′ (Fault x a) =

@@ -7,7 +7,7 @@ use lib.IntN.{ℤ}
 use lib.ListN.{length}
 use lib.Seq.{sets}
 use Rattle.forms.specs.Edition.{edition1}
-use Rattle.forms.specs.Forms.{Formula, _and_, _or_}
+use Rattle.forms.specs.Forms.{Formula}
 use Rattle.fields.specs.Answers.{Result, refused, accepted}
 use Rattle.fields.specs.Places.{fieldsAt}
 use Rattle.formula.specs.Formula.{encode}
@@ -17,6 +17,7 @@ use Rattle.rows.specs.Tally.{tally}
 use Rattle.rows.specs.Rows.{Ready, Kept}
 use Rattle.rows.specs.declared.tally.Tally.{Tally}
 use Rattle.rows.specs.declared.derive.Derived.the-variants.{Refused}
+use Rattle.branches.specs.Room.{fieldsLeft, Spare}
 use Rattle.branches.specs.declared.branch.Branched as branched
 use Rattle.branches.specs.declared.branch.Branched.the-variants as branched-of
 use Rattle.closes.specs.declared.ends.Ended as ended
@@ -36,38 +37,37 @@ abbrev pub resumedBy : branched.Branched → (given : Tally) → branched.Branch
 resumedBy (branched-of.Fault x at) given = branched-of.Fault x at
 resumedBy (branched-of.Closed at o t) given = branched-of.Closed at o (returnedTo t given)
 
--- What a branch asks: its lines, the masks, and that what is written so far has at most 26 bytes for each byte read.
+-- What a branch asks: its lines, room for one more for each field that is left, the masks, and that what is written, with 78 bytes for each field that is left, keeps its limit.
 pub record Started (K : ℕ) (kinds : List ℕ) (buf : List ℤ) (maskA maskB : List ℕ) (t : Tally) (p : List ℕ) (at o : ℕ) : Type 0 where
   pub ready : Ready K kinds buf (t .lines .0)
+  pub spare : Spare K (t .lines .0 + fieldsLeft p at) buf
   pub a-mask : K ≤ length maskA
   pub b-mask : K ≤ length maskB
-  pub size : length p ≤ 65536
-  pub upto : at ≤ length p
-  pub room : o ≤ 26 * at
+  pub room : o + 78 * fieldsLeft p at ≤ 5242880
 
--- R accepts a formula, whose bytes stand from o on if there is room for them; the fields go on at a.
-pub record Closes (R : Result Closing) (p : List ℕ) (t : Tally) (a : ℕ) (scratch : List ℕ) (o o′ : ℕ) (scratch′ : List ℕ) (t′ : Tally) : Type 0 where
+-- R, from `at` on, accepts a formula, whose bytes stand from o on if there is room for them; the fields go on at a.
+-- Each field adds 78 bytes at most, with 3 left for the head of an and or an or.
+pub record Closes (R : Result Closing) (p : List ℕ) (at : ℕ) (t : Tally) (a : ℕ) (scratch : List ℕ) (o o′ : ℕ) (scratch′ : List ℕ) (t′ : Tally) : Type 0 where
   pub formula : Formula
   pub is : R ≡ accepted (record { formula = formula; rows = t′ .rows .0; after = fieldsAt p a })
   pub o-is : o′ ≡ o + length (encode edition1 formula)
   pub stored : o + length (encode edition1 formula) ≤ length scratch → scratch′ ≡ sets scratch o (encode edition1 formula)
-  pub within : o′ + 3 ≤ 26 * a
-  pub upto : a ≤ length p
+  pub within : o′ + 3 + 78 * fieldsLeft p a ≤ o + 78 * fieldsLeft p at
   pub lines-is : t′ .lines .0 ≡ t .lines .0
   pub open-is : t′ .«open» ≡ t .«open»
 
-abbrev pub BranchedBy : (R : Result Closing) (p : List ℕ) (t : Tally) (scratch : List ℕ) (o : ℕ) (scratch′ : List ℕ) → branched.Branched → Type 0
-BranchedBy R p t scratch o scratch′ (branched-of.Fault x at) = R ≡ refused (refusal at x)
-BranchedBy R p t scratch o scratch′ (branched-of.Closed a o′ t′) = Closes R p t a scratch o o′ scratch′ t′
+abbrev pub BranchedBy : (R : Result Closing) (p : List ℕ) (at : ℕ) (t : Tally) (scratch : List ℕ) (o : ℕ) (scratch′ : List ℕ) → branched.Branched → Type 0
+BranchedBy R p at t scratch o scratch′ (branched-of.Fault x a) = R ≡ refused (refusal a x)
+BranchedBy R p at t scratch o scratch′ (branched-of.Closed a o′ t′) = Closes R p at t a scratch o o′ scratch′ t′
 
 -- R is checked from the n first lines on, which are kept.
-pub record Checks (R : Result Closing) (K n : ℕ) (p : List ℕ) (kinds : List ℕ) (buf : List ℤ) (t : Tally) (scratch : List ℕ) (o : ℕ)
+pub record Checks (R : Result Closing) (K n : ℕ) (p : List ℕ) (at : ℕ) (kinds : List ℕ) (buf : List ℤ) (t : Tally) (scratch : List ℕ) (o : ℕ)
     (kinds′ : List ℕ) (buf′ : List ℤ) (scratch′ : List ℕ) (r : branched.Branched) : Type 0 where
   pub kept : Kept K n kinds buf kinds′ buf′
   pub long : length scratch′ ≡ length scratch
-  pub by : BranchedBy R p t scratch o scratch′ r
+  pub by : BranchedBy R p at t scratch o scratch′ r
 
 abbrev pub Branches : (K : ℕ) (p : List ℕ) (at : ℕ) (inA inB : ℕ → Bool) (kinds : List ℕ) (buf : List ℤ) (t : Tally) (scratch : List ℕ) (o : ℕ)
     (kinds′ : List ℕ) (buf′ : List ℤ) (scratch′ : List ℕ) (r : branched.Branched) → Type 0
 Branches K p at inA inB kinds buf t scratch o kinds′ buf′ scratch′ r =
-    Checks (checkBranch edition1 K inA inB (32 - t .«open») (t .rows .0) (linesIn K kinds buf (t .lines .0)) (fieldsAt p at)) K (t .lines .0) p kinds buf t scratch o kinds′ buf′ scratch′ r
+    Checks (checkBranch edition1 K inA inB (32 - t .«open») (t .rows .0) (linesIn K kinds buf (t .lines .0)) (fieldsAt p at)) K (t .lines .0) p at kinds buf t scratch o kinds′ buf′ scratch′ r

@@ -1,3 +1,4 @@
 -- The contracts of a branch's functions.
+pub mod Room
 pub mod Branches
 pub mod Branching

@@ -1,7 +1,9 @@
 // A branch: its entries up to the row that splits or ends it, and the branches that it opens.
 ghost use Rattle.rows.specs.Rows.{Ready};
+ghost use Rattle.branches.specs.Room.{fieldsLeft, Spare};
 ghost use Rattle.branches.specs.Branches.{Stopped};
 ghost use mathlib.Core.Path.{_≡_};
+ghost use Prim.Native.Nat.{_+_};
 ghost use Rattle.lines.specs.Occurrence.{told};
 ghost use Rattle.branches.specs.Branching.{returnedTo, closedBy, resumedBy, Started, Branches};
 use bundle::Line;
@@ -55,6 +57,7 @@ pub fn entries(
     k: usize,
 ) -> Stop
     requires { ⌜ Ready k (now kinds) (now lines) (tally .lines .0) ⌝ }
+    requires { ⌜ Spare k (tally .lines .0 + fieldsLeft (now p) at) (now lines) ⌝ }
     ensures { λ r. ⌜ Stopped k (now (p .entry)) at (now (kinds .entry)) (now (lines .entry)) tally (now (kinds .exit)) (now (lines .exit)) r ⌝ }
 {
     let mut here = at;

@@ -2,6 +2,7 @@
 pub mod Loading
 pub mod Delivering
 pub mod Preparing
-pub mod Upto
+pub mod Counting
+pub mod Sparing
 pub mod Stages
 pub mod Rooting

@@ -8,27 +8,28 @@ use native.Mathlib.Nat.{suc-mul, mul-le-mul-right, eq-or-lt-of-le, eq-zero-or-po
 use native.Mathlib.Numerals.{add-one}
 use native.Mathlib.Omega.{arith}
 use lib.Dec.{eqb}
-use borrow.Author.Tests.{ltb-true, ltb-false, eqb-true, eqb-false, eq-eqb, ne-eqb}
+use borrow.Author.Tests.{ltb-false, eqb-true, eqb-false, eq-eqb, ne-eqb}
 use lib.IntN.{ℤ, pos, negsuc, natAbs, _*ℤ_, zero-*ℤ}
 use lib.Signed.{mag}
+use mir.Syntax.{w16}
+use mir.Val.{SFits}
 use lib.ListN.{length, getD, take, drop, set, replicate, length-replicate, getD-replicate, length-append, length-map, length-set}
 use lib.Seq.{paste, drop-drop, ext-getD, length-paste, take-take, take-all, take-at, getD-at, getD-set-same}
 use Rattle.integers.specs.Magnitude.{Within}
 use Rattle.forms.specs.Forms.{Form, Kind, ≤0, =0, Line, line, _·_}
 use Rattle.calculus.specs.Rules.{_▷_}
 use Rattle.fields.specs.Numbers.{signed, signeds, flat, formFrom}
-use Rattle.fields.specs.Ranges.{Held}
 use Rattle.fields.specs.declared.FileKind.{FileKind}
 use Rattle.fields.specs.declared.header.Headed.{Headed}
 use Rattle.fields.specs.Answers.{answer, refused, accepted}
-use Rattle.fields.specs.Fields.{ends, cut, fields}
+use Rattle.fields.specs.Fields.{ends, cut}
 use Rattle.fields.specs.Places.{fieldsAt, IsHeader}
 use Rattle.fields.proofs.Results.{one-value}
 use Rattle.fields.proofs.Places.{Starts}
-use Rattle.bundle.specs.Bundle.{Bundle, bundle}
+use Rattle.bundle.specs.Bundle.{Bundle}
 use Rattle.bundle.specs.Scan.{pick, faultOf, counted, stated}
 use Rattle.bundle.specs.declared.constraints.Counted.{Counted}
-use Rattle.bundle.proofs.Scanning.{counted-on, passed-both, proper-of, scan-header, scan-fault, scan-bundle}
+use Rattle.bundle.proofs.Scanning.{counted-on, passed-both, count-is, proper-of, scan-header, scan-fault, scan-bundle}
 use Rattle.fields.proofs.Signed.{length-signeds, signeds-last}
 use Rattle.lines.specs.Parts.{part, part-take, part-paste, getD-part, Agree, agree-sym, agree-trans, agree-le, agree-getD, agree-part, agree-set, agree-paste}
 use Rattle.lines.specs.Buffer.{size, times, formIn, kindOf, lineIn, linesIn, Bounded}
@@ -52,8 +53,8 @@ abs-mag : (z : ℤ) → natAbs z ≤ mag z + 1
 abs-mag (pos n) = omega arith
 abs-mag (negsuc n) = omega arith
 
-small-held : {z : ℤ} → Held 2 z → Within 2147483647 z
-small-held {z} h = record { abs = omega (arith, abs-mag z, h .held .half) }
+small-short : {z : ℤ} → SFits w16 z → Within 2147483647 z
+small-short {z} h = record { abs = omega (arith, abs-mag z, h .sfits) }
 
 -- The first i numbers are in place.
 pub record Turn (s : List ℕ) (start n : ℕ) (buf₀ : List ℤ) (at : ℕ) (buf : List ℤ) (i : ℕ) : Type 0 where
@@ -73,13 +74,13 @@ module _ {s : List ℕ} {start n : ℕ} {buf₀ : List ℤ} {at : ℕ} (q : Copi
   pub turn-most : i ≤ n
   turn-most = omega (arith, v .filled .upto, length-signeds 2 n (drop start s))
 
-  pub turn-next : {x : ℤ} → i < n → x ≡ signed (take 2 (drop (start + i * 2) s)) → Held 2 x → Turn s start n buf₀ at (set buf (at + i) x) (i + 1)
+  pub turn-next : {x : ℤ} → i < n → x ≡ signed (take 2 (drop (start + i * 2) s)) → SFits w16 x → Turn s start n buf₀ at (set buf (at + i) x) (i + 1)
   turn-next {x} h e r =
       let is : x ≡ getD (signeds 2 n (drop start s)) i (pos 0) = e ∙ sym (getD-signeds 2 n (drop start s) i h ∙ rw (drop-drop (i * 2) start s)) in
       record {
         filled = filled-next fits (v .filled) x (pos 0) is (omega (arith, length-signeds 2 n (drop start s)));
         small = λ j l. ⊎-elim
-            (λ (z : j ≡ i). rw (z, ← is) (small-held r))
+            (λ (z : j ≡ i). rw (z, ← is) (small-short r))
             (λ (m : j < i). v .small j m)
             (eq-or-lt-of-le (omega arith));
       }
@@ -156,16 +157,27 @@ from-coeffs : (w K : ℕ) (bs : List ℕ) → length (formFrom w K bs .coeffs) �
 unfolding formFrom
 from-coeffs w K bs = length-signeds w K bs
 
+-- ---- room for lines
+pub space-less : {K c d : ℕ} {kinds : List ℕ} {buf : List ℤ} → d ≤ c → Space K c kinds buf → Space K d kinds buf
+space-less {K} h s = record { constants = s .constants; room = omega (arith, s .room, mul-le-mul-right (size K) h); most = omega (arith, s .most); kinds-room = s .kinds-room }
+
+-- it is kept where the lengths are
+pub space-kept : {K c : ℕ} {kinds kinds₁ : List ℕ} {buf buf₁ : List ℤ} → length kinds₁ ≡ length kinds → length buf₁ ≡ length buf → Space K c kinds buf → Space K c kinds₁ buf₁
+space-kept k l s = record { constants = s .constants; room = omega (arith, s .room); most = s .most; kinds-room = omega (arith, s .kinds-room) }
+
+pub space-end : {K n : ℕ} {kinds : List ℕ} {buf : List ℤ} → Space K (suc n) kinds buf → n * size K + size K ≤ length buf
+space-end {K} {n} s = omega (arith, s .room, before K {i = n} {n = suc n} (omega arith))
+
 -- ---- a line is loaded by its two forms
 put-part : (l : List ℤ) (d : ℕ) (s : List ℤ) (w : ℕ) → d ≤ length l → length s ≡ w → part d w (paste l d s w) ≡ s
 put-part l d s w h e =
     let z : d + 0 ≡ d = omega arith in
     (rw z at (part-paste l d s w h 0 w (omega arith) (omega arith))) ∙ take-all w s (omega arith)
 
-module _ (K : ℕ) (kinds : List ℕ) (buf : List ℤ) (n : ℕ) (kind : ℕ) (zs za : List ℤ) (few : n < 128) (sp : Space K kinds buf) (lz : length zs ≡ K + 1) (la : length za ≡ K + 1)
+module _ (K : ℕ) (kinds : List ℕ) (buf : List ℤ) (n : ℕ) (kind : ℕ) (zs za : List ℤ) (sp : Space K (suc n) kinds buf) (lz : length zs ≡ K + 1) (la : length za ≡ K + 1)
     {buf₁ buf₂ : List ℤ} (p : Put buf (n * size K) zs (K + 1) buf₁) (q : Put buf₁ (n * size K + (K + 1)) za (K + 1) buf₂) where
   end : n * size K + size K ≤ length buf
-  end = omega (arith, sp .room, before K few)
+  end = space-end sp
 
   len₁ : length buf₁ ≡ length buf
   len₁ = ap length (p .is) ∙ length-paste buf (n * size K) zs (K + 1) (omega (arith, end)) (omega arith)
@@ -221,7 +233,7 @@ module _ (K : ℕ) (kinds : List ℕ) (buf : List ℤ) (n : ℕ) (kind : ℕ) (z
   line-loaded t tA ct cA ft fA =
       let one : n + 1 ≡ suc n = omega arith in
       let is : lineIn K (set kinds n kind) buf₂ n ≡ line (kindOf kind) t tA
-      = line-ext (ap kindOf (getD-set-same kinds n kind 0 (omega (arith, sp .kinds-room))))
+      = line-ext (ap kindOf (getD-set-same kinds n kind 0 (omega (arith, sp .most, sp .kinds-room))))
       (form-of K buf₂ (n * size K) t ct (t-part ∙ sym ft))
       (form-of K buf₂ (n * size K + (K + 1)) tA cA (tA-part ∙ sym fA)) in
       record {
@@ -239,7 +251,7 @@ module _ {s : List ℕ} {start K : ℕ} {kinds : List ℕ} {buf : List ℤ} {n :
   form-loaded p q =
       let t = formFrom 2 K (drop start s) in
       let l = length-signeds 2 (K + 1) (drop start s) in
-      line-loaded K kinds buf n kind (signeds 2 (K + 1) (drop start s)) (partialOf inA (signeds 2 (K + 1) (drop start s))) (g .few) (g .space) l
+      line-loaded K kinds buf n kind (signeds 2 (K + 1) (drop start s)) (partialOf inA (signeds 2 (K + 1) (drop start s))) (g .space) l
       (partial-length inA (signeds 2 (K + 1) (drop start s)) ∙ l) p q
       t (partialForm inA t) (from-coeffs 2 K (drop start s)) (partial-coeffs inA t ∙ from-coeffs 2 K (drop start s)) (flat-from 2 K (drop start s))
       (flat-partial inA t ∙ ap (partialOf inA) (flat-from 2 K (drop start s)))
@@ -294,11 +306,10 @@ kind-of tag h = go (eqb tag 3) refl
 -- ---- the fields of a bundle
 -- The invariant: what is left to load gives what the whole gives.
 pub record Loading (inA : Bool) (s : List ℕ) (at K : ℕ) (kinds₀ : List ℕ) (buf₀ : List ℤ) (n : ℕ) (kinds : List ℕ) (buf : List ℤ) (here m : ℕ) : Type 0 where
-  pub space : Space K kinds buf
-  pub few : n ≤ 96
   pub done : ℕ
   pub m-is : m ≡ n + done
   pub count : ℕ
+  pub space : Space K (n + count) kinds buf
   pub is : counted K done (fieldsAt s here) ≡ Counted.Count count
   pub kinds-length : length kinds ≡ length kinds₀
   pub lines-length : length buf ≡ length buf₀
@@ -306,7 +317,7 @@ pub record Loading (inA : Bool) (s : List ℕ) (at K : ℕ) (kinds₀ : List ℕ
       → Loaded K kinds₀ buf₀ n (map (lineOf inA) (stated K (fieldsAt s at))) kinds′ buf′
 
 pub loading-start : {inA : Bool} {s : List ℕ} {at K : ℕ} {kinds : List ℕ} {buf : List ℤ} {n : ℕ} → Able K (fieldsAt s at) kinds buf n → Loading inA s at K kinds buf n kinds buf at n
-loading-start a = record { space = a .space; few = a .few; done = 0; m-is = omega arith; count = a .count; is = a .is; kinds-length = refl; lines-length = refl; rest = λ l. l }
+loading-start a = record { done = 0; m-is = omega arith; count = a .count; space = a .space; is = a .is; kinds-length = refl; lines-length = refl; rest = λ l. l }
 
 -- What a turn needs.
 pub record Fit (s : List ℕ) (K : ℕ) (kinds : List ℕ) (buf : List ℤ) (m tag start len : ℕ) : Type 0 where
@@ -327,7 +338,7 @@ module _ {inA : Bool} {s : List ℕ} {at K : ℕ} {kinds₀ : List ℕ} {buf₀ 
         record {
           from = ltb-false tag 3 (r .from);
           len-is = l;
-          loads = record { space = v .space; bytes = omega (arith, k .upto, k .next-is, l); few = omega (arith, v .few, v .m-is, ltb-true (v .done) 32 (r .room)) };
+          loads = record { space = space-less (omega (arith, v .m-is, count-is K (suc (v .done)) (v .count) (fieldsAt s next) (on .1))) (v .space); bytes = omega (arith, k .upto, k .next-is, l) };
         }
 
     line-is : formLine inA K (tag - 3) s start ≡ lineOf inA (record { kind = pick (eqb tag 0x03) ≤0 =0; form = formFrom 2 K (take len (drop start s)) })
@@ -342,11 +353,10 @@ module _ {inA : Bool} {s : List ℕ} {at K : ℕ} {kinds₀ : List ℕ} {buf₀ 
         let fs : map (lineOf inA) (stated K (fieldsAt s here)) ≡ formLine inA K (tag - 3) s start ∷ map (lineOf inA) (stated K (fieldsAt s next))
         = rw (k .is) (ap (λ (l : Line). l ∷ map (lineOf inA) (stated K (fieldsAt s next))) (sym line-is)) in
         record {
-          space = record { constants = v .space .constants; room = omega (arith, v .space .room, p .lines-length); kinds-room = omega (arith, v .space .kinds-room, p .kinds-length) };
-          few = v .few;
           done = suc (v .done);
           m-is = omega (arith, v .m-is);
           count = v .count;
+          space = space-kept (p .kinds-length) (p .lines-length) (v .space);
           is = on .1;
           kinds-length = p .kinds-length ∙ v .kinds-length;
           lines-length = p .lines-length ∙ v .lines-length;
@@ -379,8 +389,9 @@ module _ {given : ℕ} {s : List ℕ} {r : Headed} (h : IsHeader FileKind.Bundle
         let z : _≡_ {A = ℕ} 0 1 = cc in omega arith)
     counting (Counted.Count m) c =
         let q : accepted (record { K = k; constraints = stated k (fieldsAt s next) }) ≡ accepted (b .states) = sym (scan-bundle h e (b .file) c refl) ∙ b .is in
-        let same : b .states .K ≡ k = ap (λ (x : Bundle). x .K) (let z : b .states ≡ record { K = k; constraints = stated k (fieldsAt s next) } = cc in z) in
-        record { space = rw same at (b .space); few = b .few; count = m; is = sym c }
+        let same : b .states ≡ record { K = k; constraints = stated k (fieldsAt s next) } = cc in
+        let few : m ≡ 0 + length (stated k (fieldsAt s next)) = count-is k 0 m (fieldsAt s next) (sym c) in
+        record { count = m; is = sym c; space = space-less (omega arith) (rw same at (b .space)) }
 
     pub able : Able k (fieldsAt s next) kinds buf n
     able = counting (counted k 0 (fieldsAt s next)) refl

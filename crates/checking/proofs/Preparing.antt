@@ -3,7 +3,6 @@ use mathlib.Core.Path.{_≡_, ap, _∙_}
 use mathlib.Core.Bool.{Bool, true, false}
 use mathlib.Core.List.{List, map}
 use Prim.Native.Nat.{ℕ, _+_, _≤_}
-use native.Mathlib.Nat.{mul-le-mul-right}
 use native.Mathlib.Omega.{arith}
 use lib.IntN.{ℤ}
 use lib.ListN.{length, length-map, length-append}
@@ -13,39 +12,39 @@ use Rattle.fields.specs.Fields.{fields}
 use Rattle.bundle.specs.Bundle.{bundle}
 use Rattle.fields.specs.Places.{givenK}
 use Rattle.fields.proofs.Headers.{given-some}
-use Rattle.lines.specs.Buffer.{size, linesIn}
+use Rattle.lines.specs.Buffer.{linesIn}
 use Rattle.lines.specs.Occurrence.{Span, held, occursIn, bits, told, told-occurs, held-A, held-B, length-bits}
+use Rattle.branches.specs.Room.{Spare}
 use Rattle.checking.specs.Load.{Space, Loaded, Bundled, BundleLoaded}
 use Rattle.checking.specs.Whole.{Both, Buffers, Holding}
-use Rattle.checking.proofs.Loading.{loaded-then}
+use Rattle.checking.proofs.Loading.{space-less, space-kept, loaded-then}
 
 -- A given K is one that is not 0.
 module _ {A B : List ℕ} {K m n : ℕ} (w : Both A B K m n) where
-  pub bundled-A : {kinds : List ℕ} {buf : List ℤ} → Space K kinds buf → Bundled 0 A kinds buf 0
-  bundled-A s = record { file = fileA; states = w .a; is = w .a-is; space = rw (w .a-constants) s; few = omega arith }
+  pub few : m + n ≤ 128
+  few = omega (arith, w .a-few, w .b-few)
+
+  pub space-from : {c : ℕ} {kinds : List ℕ} {buf : List ℤ} → Spare K c buf → m + n ≤ c → 128 ≤ length kinds → Space K (m + n) kinds buf
+  space-from s h k = record { constants = w .high; room = omega (arith, s .room (m + n) few h); most = few; kinds-room = k }
+
+  pub bundled-A : {kinds : List ℕ} {buf : List ℤ} → Space K (m + n) kinds buf → Bundled 0 A kinds buf 0
+  bundled-A s = record { file = fileA; states = w .a; is = w .a-is; space = rw (w .a-constants) (space-less (omega (arith, w .a-count)) s) }
 
   b-accepted : bundle fileB (givenK K) (fields B) ≡ accepted (w .b)
   b-accepted = rw (given-some K (w .low), ← w .a-constants) (w .b-is)
 
-  pub bundled-B : {kinds : List ℕ} {buf : List ℤ} → Space K kinds buf → Bundled K B kinds buf m
-  bundled-B s = record { file = fileB; states = w .b; is = b-accepted; space = rw (w .b-constants) s; few = omega (arith, w .a-few) }
+  pub bundled-B : {kinds : List ℕ} {buf : List ℤ} → Space K (m + n) kinds buf → Bundled K B kinds buf m
+  bundled-B s = record { file = fileB; states = w .b; is = b-accepted; space = rw (w .b-constants) (space-less (omega (arith, w .b-count)) s) }
 
-  pub span-of : {kinds : List ℕ} {buf : List ℤ} {from to : ℕ} → Space K kinds buf → from ≤ to → to ≤ m + n → Span K buf from to
-  span-of {to = to} s l u = record { constants = w .high; ordered = l; lines = most (w .a-few) (w .b-few) u; room = omega (arith, s .room, mul-le-mul-right (size K) (most (w .a-few) (w .b-few) u)) }
-    where
-      most : m ≤ 32 → n ≤ 32 → to ≤ m + n → to ≤ 128
-      most h k u = omega arith
+  pub span-of : {kinds : List ℕ} {buf : List ℤ} {from to : ℕ} → Space K (m + n) kinds buf → from ≤ to → to ≤ m + n → Span K buf from to
+  span-of s l u = let v = space-less u s in record { constants = w .high; ordered = l; lines = v .most; room = v .room }
 
   -- The buffers keep their room.
-  pub space-A : {x : Bool} {kinds kinds₁ : List ℕ} {buf buf₁ : List ℤ} → BundleLoaded x 0 A kinds buf 0 kinds₁ buf₁ → Space K kinds buf → Space K kinds₁ buf₁
-  space-A p s =
-      let l = p .loaded fileA (w .a) (w .a-is) in
-      record { constants = s .constants; room = omega (arith, s .room, l .lines-length); kinds-room = omega (arith, s .kinds-room, l .kinds-length) }
+  pub space-A : {x : Bool} {kinds kinds₁ : List ℕ} {buf buf₁ : List ℤ} → BundleLoaded x 0 A kinds buf 0 kinds₁ buf₁ → Space K (m + n) kinds buf → Space K (m + n) kinds₁ buf₁
+  space-A p = let l = p .loaded fileA (w .a) (w .a-is) in space-kept (l .kinds-length) (l .lines-length)
 
-  pub space-B : {x : Bool} {kinds kinds₁ : List ℕ} {buf buf₁ : List ℤ} → BundleLoaded x K B kinds buf m kinds₁ buf₁ → Space K kinds buf → Space K kinds₁ buf₁
-  space-B q s =
-      let l = q .loaded fileB (w .b) b-accepted in
-      record { constants = s .constants; room = omega (arith, s .room, l .lines-length); kinds-room = omega (arith, s .kinds-room, l .kinds-length) }
+  pub space-B : {x : Bool} {kinds kinds₁ : List ℕ} {buf buf₁ : List ℤ} → BundleLoaded x K B kinds buf m kinds₁ buf₁ → Space K (m + n) kinds buf → Space K (m + n) kinds₁ buf₁
+  space-B q = let l = q .loaded fileB (w .b) b-accepted in space-kept (l .kinds-length) (l .lines-length)
 
   module _ {kinds kinds₁ kinds₂ : List ℕ} {buf buf₁ buf₂ : List ℤ} (p : BundleLoaded true 0 A kinds buf 0 kinds₁ buf₁) (q : BundleLoaded false K B kinds₁ buf₁ m kinds₂ buf₂) where
     both-loaded : Loaded K kinds buf 0 (lines (w .a .constraints) (w .b .constraints)) kinds₂ buf₂
@@ -78,6 +77,6 @@ module _ {A B : List ℕ} {K m n : ℕ} (w : Both A B K m n) where
           b-tells = ap told y ∙ told-occurs K kinds₂ buf₂ m (m + n) 16 (omega arith) (w .high) ∙ ap occurs hB;
         }
 
-    pub prepared : Space K kinds buf → {maskA maskB : List ℕ} → maskA ≡ bits (occursIn K buf₂ 0 m) 16 → maskB ≡ bits (occursIn K buf₂ m (m + n)) 16
-        → Buffers K kinds₂ buf₂ maskA maskB
+    pub prepared : Space K (m + n) kinds buf → {maskA maskB : List ℕ} → maskA ≡ bits (occursIn K buf₂ 0 m) 16 → maskB ≡ bits (occursIn K buf₂ m (m + n)) 16
+        → Buffers K (m + n) kinds₂ buf₂ maskA maskB
     prepared s x y = record { space = space-B q (space-A p s); a = ap length x ∙ length-bits (occursIn K buf₂ 0 m) 16; b = ap length y ∙ length-bits (occursIn K buf₂ m (m + n)) 16 }

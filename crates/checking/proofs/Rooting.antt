@@ -24,12 +24,12 @@ module _ {K : ℕ} {inA inB : ℕ → Bool} {P : List ℕ} {at n rows : ℕ} {ki
       → Roots K inA inB (linesIn K kinds buf n) P at out out r
   by-fault e q = root-fault (rw (e, none) at (b .by)) q
 
-  module _ (t : Fits K inA inB (linesIn K kinds buf n) P at) (len : Enough P S) {end o : ℕ} {t′ : Tally} (e : x ≡ Branched.Closed end o t′) where
-    c : Closes (checkBranch edition1 K inA inB 32 0 (linesIn K kinds buf n) (fieldsAt P at)) P (tally 0 n 0) end S 0 o S′ t′
+  module _ (t : Fits K inA inB (linesIn K kinds buf n) P at) (len : Enough P at S) {end o : ℕ} {t′ : Tally} (e : x ≡ Branched.Closed end o t′) where
+    c : Closes (checkBranch edition1 K inA inB 32 0 (linesIn K kinds buf n) (fieldsAt P at)) P at (tally 0 n 0) end S 0 o S′ t′
     c = rw (e, none) at (b .by)
 
     pub by-closed-ended : Ended P end o S′
-    by-closed-ended = root-ended t (record { formula = c .formula; rows = t′ .rows .0; after = fieldsAt P end }) (c .is) end o refl (omega (arith, c .o-is)) S len (omega (arith, c .within, c .upto)) (λ h. c .stored (omega arith))
+    by-closed-ended = root-ended t (record { formula = c .formula; rows = t′ .rows .0; after = fieldsAt P end }) (c .is) end o refl (omega (arith, c .o-is)) S len (omega (arith, c .within)) (λ h. c .stored (omega arith))
 
     pub by-closed : {out out′ : List ℕ} {r : Checked} → Finishes K P end S′ o out out′ r → Roots K inA inB (linesIn K kinds buf n) P at out out′ r
-    by-closed l = root-closed t (record { formula = c .formula; rows = t′ .rows .0; after = fieldsAt P end }) (c .is) end o refl (omega (arith, c .o-is)) S len (omega (arith, c .within, c .upto)) (λ h. c .stored (omega arith)) l
+    by-closed l = root-closed t (record { formula = c .formula; rows = t′ .rows .0; after = fieldsAt P end }) (c .is) end o refl (omega (arith, c .o-is)) S len (omega (arith, c .within)) (λ h. c .stored (omega arith)) l

@@ -31,13 +31,14 @@ use Rattle.proof.specs.Check.{Closing, checkBranch, checkProof, interpolant, ch
 use Rattle.proof.proofs.Agree.{interpolant-iff}
 use Rattle.proof.proofs.Sizes.{written-reads-back}
 use Rattle.rows.specs.Tally.{tally}
+use Rattle.branches.specs.Room.{fieldsLeft, Spare}
 use Rattle.branches.specs.Branching.{Started}
 use Rattle.checking.specs.Whole.{Short, Both, Holding, Prepared, Begun, finishing, rooted, Finishes, Roots, Fits, Enough, Ended, Checks}
 use Rattle.checking.specs.declared.check.Checked.{Checked}
 use Rattle.checking.proofs.Delivering.{unwritten}
+use Rattle.checking.proofs.Preparing.{few}
 use Rattle.fields.proofs.Headers.{given-some}
 use Rattle.proof.proofs.Agree.{agreed}
-use Rattle.checking.proofs.Upto.{header-upto}
 
 pub checks-refused : {A B P out : List ℕ} {number file place : ℕ} {r : Checked} → interpolant A B P ≡ refused (answer number file place) → r ≡ unwritten number file place
     → Checks A B P out out r
@@ -170,7 +171,7 @@ module _ {K : ℕ} {inA inB : ℕ → Bool} {ls : List Line} {P : List ℕ} {at 
   root-fault e q = record { is = rw (e, q) }
 
   module _ (t : Fits K inA inB ls P at) (c : Closing) (e : checkBranch edition1 K inA inB 32 0 ls (fieldsAt P at) ≡ accepted c)
-      (end o : ℕ) (after : c .after ≡ fieldsAt P end) (o-is : o ≡ length (encode edition1 (c .formula))) (S : List ℕ) {S′ : List ℕ} (len : Enough P S) (within : o ≤ 26 * length P)
+      (end o : ℕ) (after : c .after ≡ fieldsAt P end) (o-is : o ≡ length (encode edition1 (c .formula))) (S : List ℕ) {S′ : List ℕ} (len : Enough P at S) (within : o ≤ 78 * fieldsLeft P at)
       (stored : length (encode edition1 (c .formula)) ≤ length S → S′ ≡ sets S 0 (encode edition1 (c .formula))) where
     pub root-ended : Ended P end o S′
     root-ended = record {
@@ -262,16 +263,16 @@ module _ {A B P : List ℕ} {K m n : ℕ} (s : Short A B P) (w : Both A B K m n)
 
 -- ---- what the root asks
 module _ {A B P : List ℕ} {K m n at : ℕ} (g : Begun A B P K m n at) {kinds : List ℕ} {buf : List ℤ} {maskA maskB : List ℕ} (q : Prepared A B K kinds buf maskA maskB m n) where
-  pub started : {in-a in-b : List ℕ} → length in-a ≡ 16 → length in-b ≡ 16 → Started K kinds buf in-a in-b (tally 0 (m + n) 0) P at 0
-  started x y = record {
+  pub started : {in-a in-b : List ℕ} → length in-a ≡ 16 → length in-b ≡ 16 → Spare K (m + n + fieldsLeft P at) buf → fieldsLeft P at ≤ 65536
+      → Started K kinds buf in-a in-b (tally 0 (m + n) 0) P at 0
+  started x y spare most = record {
     ready = record {
-      branch = record { constants = g .both .high; room = q .buffers .space .room; bounded = q .holds (g .both) .bounded };
+      branch = record { constants = g .both .high; room = spare .room (m + n) (few (g .both)) (omega arith); bounded = q .holds (g .both) .bounded };
       room = q .buffers .space .kinds-room;
-      most = omega (arith, g .both .a-few, g .both .b-few);
+      most = few (g .both);
     };
+    spare = spare;
     a-mask = omega (arith, g .both .high, x);
     b-mask = omega (arith, g .both .high, y);
-    size = g .short .p;
-    upto = header-upto FileKind.Proof fileProof (some K) P at _ (g .header-is) refl;
     room = omega arith;
   }

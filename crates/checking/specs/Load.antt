@@ -2,7 +2,7 @@
 use mathlib.Core.Path.{_≡_}
 use mathlib.Core.Bool.{Bool, true, false}
 use mathlib.Core.List.{List, _++_, map}
-use Prim.Native.Nat.{ℕ, _+_, _*_, _≤_, _<_}
+use Prim.Native.Nat.{ℕ, suc, _+_, _*_, _≤_, _<_}
 use lib.IntN.{ℤ, pos}
 use lib.ListN.{length, getD, drop}
 use lib.Seq.{paste}
@@ -39,17 +39,17 @@ partialForm false t = pos 0 · t
 abbrev pub lineOf : (inA : Bool) → Constraint → Line
 lineOf inA c = line (c .kind) (c .form) (partialForm inA (c .form))
 
--- The buffers have room for all the lines that a branch may have.
-pub record Space (K : ℕ) (kinds : List ℕ) (buf : List ℤ) : Type 0 where
+-- The buffers have room for c lines.
+pub record Space (K c : ℕ) (kinds : List ℕ) (buf : List ℤ) : Type 0 where
   pub constants : K ≤ 16
-  pub room : 128 * size K ≤ length buf
+  pub room : c * size K ≤ length buf
+  pub most : c ≤ 128
   pub kinds-room : 128 ≤ length kinds
 
 -- Line n with the form that starts at a place.
 pub record Loads (s : List ℕ) (start K : ℕ) (kinds : List ℕ) (buf : List ℤ) (n : ℕ) : Type 0 where
-  pub space : Space K kinds buf
+  pub space : Space K (suc n) kinds buf
   pub bytes : start + (K + 1) * 2 ≤ length s
-  pub few : n < 128
 
 -- The lines ls stand behind the first n, which stay as they were; so do the lengths.
 pub record Loaded (K : ℕ) (kinds : List ℕ) (buf : List ℤ) (n : ℕ) (ls : List Line) (kinds′ : List ℕ) (buf′ : List ℤ) : Type 0 where
@@ -64,18 +64,16 @@ formLine inA K kind s start = lineOf inA (record { kind = kindOf kind; form = fo
 
 -- Fields that are constraints without fault have room behind the first n lines.
 pub record Able (K : ℕ) (fs : Fields) (kinds : List ℕ) (buf : List ℤ) (n : ℕ) : Type 0 where
-  pub space : Space K kinds buf
-  pub few : n ≤ 96
   pub count : ℕ
   pub is : counted K 0 fs ≡ Counted.Count count
+  pub space : Space K (n + count) kinds buf
 
 -- The same of a bundle that is accepted, whatever its file is called.
 pub record Bundled (given : ℕ) (s kinds : List ℕ) (buf : List ℤ) (n : ℕ) : Type 0 where
   pub file : ℕ
   pub states : Bundle
   pub is : bundle file (givenK given) (fields s) ≡ accepted states
-  pub space : Space (states .K) kinds buf
-  pub few : n ≤ 96
+  pub space : Space (states .K) (n + length (states .constraints)) kinds buf
 
 -- Its constraints stand behind the first n lines.
 pub record BundleLoaded (inA : Bool) (given : ℕ) (s kinds : List ℕ) (buf : List ℤ) (n : ℕ) (kinds′ : List ℕ) (buf′ : List ℤ) : Type 0 where

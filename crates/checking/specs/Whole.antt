@@ -18,6 +18,7 @@ use Rattle.formula.specs.Formula.{encode}
 use Rattle.lines.specs.Buffer.{linesIn, Bounded}
 use Rattle.lines.specs.Occurrence.{told}
 use Rattle.proof.specs.Check.{Closing, checkBranch, check}
+use Rattle.branches.specs.Room.{fieldsLeft}
 use Rattle.checking.specs.Load.{Space}
 use Rattle.checking.specs.declared.check.Checked.{Checked}
 
@@ -46,9 +47,9 @@ pub record Both (A B : List ℕ) (K m n : ℕ) : Type 0 where
   pub a-few : m ≤ 32
   pub b-few : n ≤ 32
 
--- The buffers have their room.
-pub record Buffers (K : ℕ) (kinds : List ℕ) (buf : List ℤ) (maskA maskB : List ℕ) : Type 0 where
-  pub space : Space K kinds buf
+-- The buffers have room for c lines and for the masks.
+pub record Buffers (K c : ℕ) (kinds : List ℕ) (buf : List ℤ) (maskA maskB : List ℕ) : Type 0 where
+  pub space : Space K c kinds buf
   pub a : length maskA ≡ 16
   pub b : length maskB ≡ 16
 
@@ -61,7 +62,7 @@ pub record Holding (a b : Bundle) (K : ℕ) (kinds : List ℕ) (buf : List ℤ) 
 
 pub record Prepared (A B : List ℕ) (K : ℕ) (kinds : List ℕ) (buf : List ℤ) (maskA maskB : List ℕ) (m n : ℕ) : Type 0 where
   pub holds : (both : Both A B K m n) → Holding (both .a) (both .b) K kinds buf maskA maskB (m + n)
-  pub buffers : Buffers K kinds buf maskA maskB
+  pub buffers : Buffers K (m + n) kinds buf maskA maskB
 
 -- The proof's header is read too, and what follows it starts at a place.
 pub record Begun (A B P : List ℕ) (K m n at : ℕ) : Type 0 where
@@ -92,9 +93,10 @@ pub record Fits (K : ℕ) (inA inB : ℕ → Bool) (ls : List Line) (P : List �
   pub fits : (c : Closing) → checkBranch edition1 K inA inB (edition1 .strengthens) 0 ls (fieldsAt P at) ≡ accepted c → finished FileKind.Proof fileProof (c .after) ≡ accepted tt
       → length (encode edition1 (c .formula)) ≤ 65536
 
--- A scratch of that length does, and so does one with 26 bytes for each byte of the proof.
-pub record Enough (P scratch : List ℕ) : Type 0 where
-  pub enough : (l : ℕ) → l ≤ 26 * length P → l ≤ 65536 → l ≤ length scratch
+-- A scratch of that length does, and so does one with 78 bytes for each field of the proof, of which there are 65,536 at most.
+pub record Enough (P : List ℕ) (at : ℕ) (scratch : List ℕ) : Type 0 where
+  pub few : fieldsLeft P at ≤ 65536
+  pub enough : (l : ℕ) → l ≤ 78 * fieldsLeft P at → l ≤ 65536 → l ≤ length scratch
 
 -- The bytes stand in the scratch, where the check accepts.
 pub record Ended (P : List ℕ) (at o : ℕ) (scratch : List ℕ) : Type 0 where

@@ -6,11 +6,13 @@ use bundle::Line;
 use bundle::scan;
 use fields::Answer;
 use fields::FileKind;
+use fields::Next;
 use fields::ending::Ending;
 use fields::ending::ending_at;
 use fields::header::Headed;
 use fields::header::put_header;
 use fields::header::read_header;
+use fields::next_field;
 use forms::BUNDLE_BYTES;
 use forms::PROOF_BYTES;
 use rows::tally::Row;
@@ -24,6 +26,7 @@ ghost use Rattle.lines.specs.Buffer.{size, linesIn};
 ghost use Rattle.lines.specs.Occurrence.{told};
 ghost use Rattle.proof.specs.Check.{check};
 ghost use Rattle.rows.specs.Tally.{tally};
+ghost use Rattle.branches.specs.Room.{fieldsLeft, Spare};
 ghost use Rattle.branches.specs.Branching.{Started};
 ghost use Rattle.checking.specs.Whole.{Short, Both, Buffers, Prepared, Begun, Ended, Delivers, Finishes, Roots, Fits, Enough, Checks, writtenOf};
 
@@ -105,7 +108,7 @@ fn prepare(
     in_b: &mut [u8],
 )
     requires { ⌜ Both (now a) (now b) k m n ⌝ }
-    requires { ⌜ Buffers k (now kinds) (now lines) (now in_a) (now in_b) ⌝ }
+    requires { ⌜ Buffers k (m + n) (now kinds) (now lines) (now in_a) (now in_b) ⌝ }
     ensures { λ _. ⌜ Prepared (now (a .entry)) (now (b .entry)) k (now (kinds .exit)) (now (lines .exit)) (now (in_a .exit)) (now (in_b .exit)) m n ⌝ }
 {
     load(a, 0, true, lines, kinds, 0);
@@ -130,7 +133,7 @@ fn check_root(
 ) -> Checked
     requires { ⌜ Started k (now kinds) (now lines) (now in_a) (now in_b) (tally 0 count 0) (now proof) at 0 ⌝ }
     requires { ⌜ Fits k (told (now in_a)) (told (now in_b)) (linesIn k (now kinds) (now lines) count) (now proof) at ⌝ }
-    requires { ⌜ Enough (now proof) (now scratch) ⌝ }
+    requires { ⌜ Enough (now proof) at (now scratch) ⌝ }
     ensures { λ r. ⌜ Roots k (told (now (in_a .entry))) (told (now (in_b .entry))) (linesIn k (now (kinds .entry)) (now (lines .entry)) count) (now (proof .entry)) at (now (out .entry)) (now (out .exit)) r ⌝ }
 {
     let rows = Row(0);
@@ -161,7 +164,7 @@ fn check_root(
     }
 }
 
-// The lines, and then the root, with room for 128 lines and for the formula.
+// The lines, and then the root, with room for the lines that may come and for the formula.
 fn check_within(
     a: &[u8],
     b: &[u8],
@@ -175,8 +178,8 @@ fn check_within(
     out: &mut [u8],
 ) -> Checked
     requires { ⌜ Begun (now a) (now b) (now proof) k m n at ⌝ }
-    requires { ⌜ 128 * size k ≤ length (now lines) ⌝ }
-    requires { ⌜ Enough (now proof) (now scratch) ⌝ }
+    requires { ⌜ Spare k (m + n + fieldsLeft (now proof) at) (now lines) ⌝ }
+    requires { ⌜ Enough (now proof) at (now scratch) ⌝ }
     ensures { λ r. ⌜ Checks (now (a .entry)) (now (b .entry)) (now (proof .entry)) (now (out .entry)) (now (out .exit)) r ⌝ }
 {
     let mut kinds = [0u8; 128];
@@ -197,7 +200,8 @@ fn check_within(
     )
 }
 
-// Working memory is cleared before it is used, so a small proof is given little of it: here 3 constants, 78 bytes of proof at most.
+// An array is cleared before it is used, which takes longer than the check of a short proof, so a short proof is given little:
+// here 13 fields at most, and 256 numbers for the lines that may come.
 fn check_small(
     a: &[u8],
     b: &[u8],
@@ -209,15 +213,16 @@ fn check_small(
     out: &mut [u8],
 ) -> Checked
     requires { ⌜ Begun (now a) (now b) (now proof) k m n at ⌝ }
-    requires { ⌜ (k ≤ 3) × (length (now proof) ≤ 78) ⌝ }
+    requires { ⌜ fieldsLeft (now proof) at ≤ 13 ⌝ }
+    requires { ⌜ (m + n + fieldsLeft (now proof) at + 1) * size k ≤ 256 ⌝ }
     ensures { λ r. ⌜ Checks (now (a .entry)) (now (b .entry)) (now (proof .entry)) (now (out .entry)) (now (out .exit)) r ⌝ }
 {
-    let mut lines = [0i64; 1024];
-    let mut scratch = [0u8; 2048];
+    let mut lines = [0i64; 256];
+    let mut scratch = [0u8; 1024];
     check_within(a, b, proof, at, k, m, n, &mut lines, &mut scratch, out)
 }
 
-// 315 bytes of proof at most.
+// 32 fields at most, and 1,190 numbers.
 fn check_short(
     a: &[u8],
     b: &[u8],
@@ -229,15 +234,16 @@ fn check_short(
     out: &mut [u8],
 ) -> Checked
     requires { ⌜ Begun (now a) (now b) (now proof) k m n at ⌝ }
-    requires { ⌜ length (now proof) ≤ 315 ⌝ }
+    requires { ⌜ fieldsLeft (now proof) at ≤ 32 ⌝ }
+    requires { ⌜ (m + n + fieldsLeft (now proof) at + 1) * size k ≤ 1190 ⌝ }
     ensures { λ r. ⌜ Checks (now (a .entry)) (now (b .entry)) (now (proof .entry)) (now (out .entry)) (now (out .exit)) r ⌝ }
 {
-    let mut lines = [0i64; 4352];
-    let mut scratch = [0u8; 8192];
+    let mut lines = [0i64; 1190];
+    let mut scratch = [0u8; 2560];
     check_within(a, b, proof, at, k, m, n, &mut lines, &mut scratch, out)
 }
 
-// 1,260 bytes of proof at most.
+// 210 fields at most. The 4,386 numbers are 129 lines of 16 constants: all that a branch may have, and one more.
 fn check_middle(
     a: &[u8],
     b: &[u8],
@@ -249,15 +255,35 @@ fn check_middle(
     out: &mut [u8],
 ) -> Checked
     requires { ⌜ Begun (now a) (now b) (now proof) k m n at ⌝ }
-    requires { ⌜ length (now proof) ≤ 1260 ⌝ }
+    requires { ⌜ fieldsLeft (now proof) at ≤ 210 ⌝ }
     ensures { λ r. ⌜ Checks (now (a .entry)) (now (b .entry)) (now (proof .entry)) (now (out .entry)) (now (out .exit)) r ⌝ }
 {
-    let mut lines = [0i64; 4352];
+    let mut lines = [0i64; 4386];
+    let mut scratch = [0u8; 16384];
+    check_within(a, b, proof, at, k, m, n, &mut lines, &mut scratch, out)
+}
+
+// 420 fields at most.
+fn check_large(
+    a: &[u8],
+    b: &[u8],
+    proof: &[u8],
+    at: usize,
+    k: u8,
+    m: usize,
+    n: usize,
+    out: &mut [u8],
+) -> Checked
+    requires { ⌜ Begun (now a) (now b) (now proof) k m n at ⌝ }
+    requires { ⌜ fieldsLeft (now proof) at ≤ 420 ⌝ }
+    ensures { λ r. ⌜ Checks (now (a .entry)) (now (b .entry)) (now (proof .entry)) (now (out .entry)) (now (out .exit)) r ⌝ }
+{
+    let mut lines = [0i64; 4386];
     let mut scratch = [0u8; 32768];
     check_within(a, b, proof, at, k, m, n, &mut lines, &mut scratch, out)
 }
 
-// Any proof.
+// Any proof: a formula has 65,536 bytes at most.
 fn check_long(
     a: &[u8],
     b: &[u8],
@@ -269,14 +295,44 @@ fn check_long(
     out: &mut [u8],
 ) -> Checked
     requires { ⌜ Begun (now a) (now b) (now proof) k m n at ⌝ }
+    requires { ⌜ fieldsLeft (now proof) at ≤ 65536 ⌝ }
     ensures { λ r. ⌜ Checks (now (a .entry)) (now (b .entry)) (now (proof .entry)) (now (out .entry)) (now (out .exit)) r ⌝ }
 {
-    let mut lines = [0i64; 4352];
+    let mut lines = [0i64; 4386];
     let mut scratch = [0u8; 65536];
     check_within(a, b, proof, at, k, m, n, &mut lines, &mut scratch, out)
 }
 
-// The lines, and then the root.
+// How many fields the proof has from a place on.
+fn count_fields(p: &[u8], at: usize) -> usize
+    ensures is { λ r. ⌜ r ≡ fieldsLeft (now (p .entry)) at ⌝ }
+    ensures few { λ r. ⌜ r ≤ length (now (p .entry)) ⌝ }
+{
+    let mut here = at;
+    let mut n = 0;
+    loop {
+        match next_field(p, here) {
+            Next::Field {
+                at: _,
+                tag: _,
+                start: _,
+                len: _,
+                next,
+            } => {
+                n += 1;
+                here = next;
+            }
+            Next::Cut { at: _ } => {
+                return n;
+            }
+            Next::Ends { at: _ } => {
+                return n;
+            }
+        }
+    }
+}
+
+// The lines, and then the root, with arrays for the fields that the proof has.
 fn check_lines(
     a: &[u8],
     b: &[u8],
@@ -290,17 +346,24 @@ fn check_lines(
     requires { ⌜ Begun (now a) (now b) (now proof) k m n at ⌝ }
     ensures { λ r. ⌜ Checks (now (a .entry)) (now (b .entry)) (now (proof .entry)) (now (out .entry)) (now (out .exit)) r ⌝ }
 {
-    let len = proof.len();
-    if len <= 78 {
-        if k <= 3 {
+    let fields = count_fields(proof, at);
+    let size = 2 * (k as usize + 1);
+    let numbers = (m + n + fields + 1) * size;
+    if fields <= 13 {
+        if numbers <= 256 {
             return check_small(a, b, proof, at, k, m, n, out);
         }
     }
-    if len <= 315 {
-        return check_short(a, b, proof, at, k, m, n, out);
+    if fields <= 32 {
+        if numbers <= 1190 {
+            return check_short(a, b, proof, at, k, m, n, out);
+        }
     }
-    if len <= 1260 {
+    if fields <= 210 {
         return check_middle(a, b, proof, at, k, m, n, out);
+    }
+    if fields <= 420 {
+        return check_large(a, b, proof, at, k, m, n, out);
     }
     check_long(a, b, proof, at, k, m, n, out)
 }

@@ -4,7 +4,7 @@ use fields::Next;
 use fields::header::Headed;
 use fields::header::read_header;
 use fields::next_field;
-use fields::words::wide_short_at;
+use fields::words::short_at;
 ghost use mathlib.Core.List.{[], _∷_, map};
 ghost use Prim.Native.Nat.{_+_, _≤_};
 ghost use lib.IntN.{pos};
@@ -21,8 +21,7 @@ fn load_numbers(s: &[u8], start: usize, n: usize, lines: &mut [i64], at: usize)
 {
     let mut i = 0;
     while i < n {
-        let x = wide_short_at(s, start + i * 2);
-        lines[at + i] = x;
+        lines[at + i] = short_at(s, start + i * 2) as i64;
         i += 1;
     }
 }

@@ -3,7 +3,8 @@ use mathlib.Core.Path.{_≡_, sym, ap}
 use mathlib.Core.Bool.{Bool, true, false, not, _&&_}
 use mathlib.Core.List.{List}
 use Prim.Native.Nat.{ℕ, _+_, _*_, _≤_, _<_}
-use lib.ListN.{getD}
+use native.Mathlib.Omega.{arith}
+use lib.ListN.{length, getD}
 use lib.IntN.{ℤ, pos}
 use borrow.Author.Tests.{eq-eqb, ne-eqb}
 use lib.Signed.{ltZ}
@@ -13,9 +14,10 @@ use Rattle.calculus.specs.Rules.{every}
 use Rattle.fields.specs.Answers.{_>>=_, _>>_, need, found}
 use Rattle.lines.specs.Parts.{part}
 use Rattle.lines.specs.Buffer.{size, formIn, kindOf, lineIn}
-use Rattle.lines.specs.Lines.{line-at, line-past}
+use Rattle.lines.specs.Lines.{line-at, line-past, before}
 use Rattle.lines.specs.Occurrence.{told}
 use Rattle.proof.specs.Rows.{fails, common, lineAt, naming, byNumber}
+use Rattle.rows.specs.Rows.{Ready}
 use Rattle.closes.specs.Closing.{ByNumber}
 use Rattle.rows.specs.declared.tally.Tally.{Tally}
 use Rattle.closes.specs.declared.closing.Test.the-variants.{Refused, Passed}
@@ -36,6 +38,10 @@ false-≤ d h e = rw (kind-zero h) e
 pub false-= : {b : ℕ} (d : ℤ) {r : Bool} → (b ≡ 0 → ⊥) → r ≡ eqZ d (pos 0) → not r ≡ fails (kindOf b) d
 unfolding fails nonzero
 false-= d h e = rw (kind-one h) (ap not e)
+
+-- A line of the branch ends within the buffer.
+pub line-end : {K : ℕ} {kinds : List ℕ} {buf : List ℤ} {n i : ℕ} → Ready K kinds buf n → i < n → i * size K + size K ≤ length buf
+line-end {K} r h = omega (arith, before K h, r .branch .room)
 
 module _ (K : ℕ) (kinds : List ℕ) (buf : List ℤ) (t : Tally) (i : ℕ) (inA inB : List ℕ) where
   pub number-none : t .lines .0 ≤ i → ByNumber K kinds buf t i inA inB (Refused 10)

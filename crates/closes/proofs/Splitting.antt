@@ -4,7 +4,7 @@ use mathlib.Core.Bool.{Bool, true, false}
 use mathlib.Core.Logic.{⊎-elim}
 use mathlib.Core.List.{List}
 use Prim.Native.Nat.{ℕ, suc, _+_, _*_, _-_, _≤_, _<_}
-use native.Mathlib.Nat.{eq-zero-or-pos, mul-le-mul-right}
+use native.Mathlib.Nat.{eq-zero-or-pos}
 use native.Mathlib.Numerals.{add-one}
 use native.Mathlib.Omega.{arith}
 use lib.Dec.{T, ltb}
@@ -18,9 +18,9 @@ use Rattle.fields.specs.Answers.{Result, refused, accepted, _>>=_, _>>_, need, 
 use Rattle.fields.specs.Fields.{Fields}
 use Rattle.lines.specs.Parts.{part, agree-set, agree-sym}
 use Rattle.lines.specs.Buffer.{size, formIn, kindOf, lineIn, linesIn, LineCopy, strengthenedBoth}
-use Rattle.lines.specs.Lines.{line-at, line-past, line-ext, before, length-lines}
-use Rattle.lines.specs.Range.{fits-line}
-use Rattle.lines.specs.Branch.{branch-kept, branch-more, kind-stored, inequality-byte}
+use Rattle.lines.specs.Lines.{line-at, line-past, line-ext, before, length-lines, bounded-same}
+use Rattle.lines.specs.Range.{fits-line, bounded-more}
+use Rattle.lines.specs.Branch.{kind-stored, inequality-byte}
 use Rattle.lines.specs.Strengthen.{length-both, both-keeps, both-line}
 use Rattle.lines.specs.Next.{first-branch}
 use Rattle.lines.specs.Occurrence.{told}
@@ -50,15 +50,11 @@ use Rattle.closes.proofs.Scratch.{literal-size, stride-size}
 pub numbered : {K : ℕ} {kinds : List ℕ} {buf : List ℤ} {n i x : ℕ} → Ready K kinds buf n → i < n → x ≡ i * size K + (K + 1) → Numbered K buf x
 numbered {K} {buf = buf} {n = n} {i = i} r h e =
     let b : i * size K + size K ≤ n * size K = before K h in
-    let m : n * size K + 0 ≤ 128 * size K = omega (arith, most K n (r .most)) in
     record {
       constants = r .branch .constants;
       room = omega (arith, r .branch .room);
       small = λ y l. r .branch .bounded .small _ (omega arith);
     }
-  where
-    most : (K n : ℕ) → n ≤ 128 → n * size K ≤ 128 * size K
-    most K n h = mul-le-mul-right {m = n} {n = 128} (size K) h
 
 module _ {K : ℕ} {kinds : List ℕ} {buf : List ℤ} {t : Tally} {i : ℕ} {inA inB : List ℕ} where
   pub number-there : ByNumber K kinds buf t i inA inB test.Passed → i < t .lines .0
@@ -135,9 +131,8 @@ pub longer-from : {K n : ℕ} {kinds : List ℕ} {buf : List ℤ} {kinds′ : Li
     → linesIn K kinds′ buf′ (suc n) ≡ linesIn K kinds buf n ▷ l → lineIn K kinds′ buf′ n ≡ l → T (inRange 2147483647 l) → Longer K kinds buf n l kinds′ buf′
 longer-from {K} {n} {kinds′ = kinds′} {buf′ = buf′} r h k e last t = record {
   kept = k;
-  ready = rw add-one (record {
-    branch = branch-more kinds′ (branch-kept (r .branch) (agree-sym (k .lines-same)) (k .lines-length)) h (subst (λ (l : Line). T (inRange 2147483647 l)) (sym last) t);
-    room = omega (arith, r .room, k .kinds-length);
+  limited = rw add-one (record {
+    bounded = bounded-more K buf′ n (omega (arith, r .branch .room, k .lines-length)) kinds′ (bounded-same (agree-sym (k .lines-same)) (r .branch .bounded)) (subst (λ (l : Line). T (inRange 2147483647 l)) (sym last) t);
     most = omega arith;
   });
   lines = rw add-one e;
@@ -217,7 +212,7 @@ module _ {K : ℕ} {kinds : List ℕ} {buf : List ℤ} (t : Tally) (i : ℕ) (re
           last = rw strengthens (both-line copy kinds kinds′ refl ∙ line-ext new refl refl)
 
           pub split-end : t .lines .0 * size K + size K ≤ length buf′
-          split-end = omega (arith, before K space, split-kept .lines-length, ready .branch .room)
+          split-end = omega (arith, split-kept .lines-length, ready .branch .room)
 
           module _ {b : Bool} {x : ℕ} (placed : x ≡ t .lines .0 * size K) (fits : b ≡ every (small 2147483647) (part x (size K) buf′)) where
             range : inRange 2147483647 (lineIn K kinds′ buf′ (t .lines .0)) ≡ b

@@ -15,7 +15,7 @@ use Rattle.fields.specs.Fields.{Fields}
 use Rattle.lines.specs.Buffer.{lineIn, linesIn, LineCopy}
 use Rattle.proof.specs.Check.{Closing, Checker, Next, refusal, checkRow, checkBranch}
 use Rattle.rows.specs.Tally.{tally}
-use Rattle.rows.specs.Rows.{Ready, Kept}
+use Rattle.rows.specs.Rows.{Limited, Kept}
 use Rattle.closes.specs.Formulas.{Puts}
 use Rattle.rows.specs.declared.tally.Tally.{Tally}
 use Rattle.rows.specs.declared.derive.Derived.{Derived}
@@ -68,7 +68,7 @@ three branch ls l rows fs = joined _or_ (branch rows (ls ▷ firstLine l) fs) (�
 -- The branch of n lines has the line l more.
 pub record Longer (K : ℕ) (kinds : List ℕ) (buf : List ℤ) (n : ℕ) (l : Line) (kinds′ : List ℕ) (buf′ : List ℤ) : Type 0 where
   pub kept : Kept K n kinds buf kinds′ buf′
-  pub ready : Ready K kinds′ buf′ (n + 1)
+  pub limited : Limited K buf′ (n + 1)
   pub lines : linesIn K kinds′ buf′ (n + 1) ≡ linesIn K kinds buf n ▷ l
   pub small : T (inRange 2147483647 l)
 

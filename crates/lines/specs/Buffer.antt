@@ -36,10 +36,10 @@ linesIn K kinds buf (suc n) = linesIn K kinds buf n ▷ lineIn K kinds buf n
 pub record Bounded (K : ℕ) (buf : List ℤ) (n : ℕ) : Type 0 where
   pub small : (x : ℕ) → x < n * size K → Within 2147483647 (getD buf x (pos 0))
 
--- A branch of n lines: they are bounded, and the buffer has room for all the lines that a branch may have.
+-- A branch of n lines: they are bounded, and the buffer has room for one more.
 pub record Branch (K : ℕ) (buf : List ℤ) (n : ℕ) : Type 0 where
   pub constants : K ≤ 16
-  pub room : 128 * size K ≤ length buf
+  pub room : n * size K + size K ≤ length buf
   pub bounded : Bounded K buf n
 
 -- f times each number.

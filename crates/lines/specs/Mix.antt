@@ -85,26 +85,26 @@ module _ (f : ℤ) (a : ℕ) (g : ℤ) (b w : ℕ) (buf : List ℤ) where
         (part-paste buf d (mixed f a g b w buf) w hd o K full (omega arith) ∙ part-mixed o K (omega arith))
         (rw add-assoc (getD-paste buf d (mixed f a g b w buf) w hd (o + K) (pos 0) full h ∙ rw (add-assoc, add-assoc) (getD-mixed (o + K) h)))
 
-module _ (K : ℕ) (f : ℤ) (i : ℕ) (g : ℤ) (j n : ℕ) (buf : List ℤ) (room : 128 * size K ≤ length buf) (hi : i < n) (hj : j < n) (hn : n < 128) where
+module _ (K : ℕ) (f : ℤ) (i : ℕ) (g : ℤ) (j n : ℕ) (buf : List ℤ) (room : n * size K + size K ≤ length buf) (hi : i < n) (hj : j < n) where
   pub mixed-keeps : Agree (n * size K) buf (mixedLine K f i g j n buf)
   unfolding mixedLine
-  mixed-keeps = agree-paste (n * size K) buf (n * size K) (mixed f (i * size K) g (j * size K) (size K) buf) (size K) (omega (arith, before K hn)) (omega arith)
+  mixed-keeps = agree-paste (n * size K) buf (n * size K) (mixed f (i * size K) g (j * size K) (size K) buf) (size K) (omega arith) (omega arith)
 
   pub length-mixedLine : length (mixedLine K f i g j n buf) ≡ length buf
   unfolding mixedLine
   length-mixedLine =
-      length-paste buf (n * size K) (mixed f (i * size K) g (j * size K) (size K) buf) (size K) (omega (arith, before K hn))
-      (omega (arith, before K hi, before K hj, before K hn, length-mixed f (i * size K) g (j * size K) (size K) buf (omega (arith, before K hi, before K hn)) (omega (arith, before K hj, before K hn))))
+      length-paste buf (n * size K) (mixed f (i * size K) g (j * size K) (size K) buf) (size K) (omega arith)
+      (omega (arith, before K hi, before K hj, length-mixed f (i * size K) g (j * size K) (size K) buf (omega (arith, before K hi)) (omega (arith, before K hj))))
 
   -- (kinds′ may have the new line's kind already.)
   pub mixed-line : (kinds kinds′ : List ℕ) (s t : Line) → lineIn K kinds buf i ≡ s → lineIn K kinds buf j ≡ t
       → lineIn K kinds′ (mixedLine K f i g j n buf) n ≡ line (kindOf (getD kinds′ n 0)) (f · s .t ⊞ g · t .t) (f · s .tA ⊞ g · t .tA)
   unfolding lineIn mixedLine
   mixed-line kinds kinds′ s t es et =
-      let m = mixed-form f (i * size K) g (j * size K) (size K) buf (omega (arith, before K hi, before K hn)) (omega (arith, before K hj, before K hn)) K (n * size K) in
+      let m = mixed-form f (i * size K) g (j * size K) (size K) buf (omega (arith, before K hi)) (omega (arith, before K hj)) K (n * size K) in
       line-ext refl
-      (rw (add-zero, add-zero, add-zero) at (m 0 (omega (arith, before K hn)) (omega arith)) ∙ ap₂ (λ (x y : Line). f · x .t ⊞ g · y .t) es et)
-      (m (K + 1) (omega (arith, before K hn)) (omega arith) ∙ ap₂ (λ (x y : Line). f · x .tA ⊞ g · y .tA) es et)
+      (rw (add-zero, add-zero, add-zero) at (m 0 (omega arith) (omega arith)) ∙ ap₂ (λ (x y : Line). f · x .t ⊞ g · y .t) es et)
+      (m (K + 1) (omega arith) (omega arith) ∙ ap₂ (λ (x y : Line). f · x .tA ⊞ g · y .tA) es et)
 
 -- ---- one factor 1, the other 0
 one-mul : (a : ℤ) → pos 1 *ℤ a ≡ a

@@ -21,7 +21,7 @@ module _ {K : ℕ} {buf : List ℤ} {i n : ℕ} (p : LineCopy K buf i n) where
   -- ---- what stays
   pub length-copied : length (copiedLine K i n buf) ≡ length buf
   unfolding copiedLine
-  length-copied = length-mixedLine K (pos 1) i (pos 0) i n buf (p .branch .room) (p .first) (p .first) (p .space)
+  length-copied = length-mixedLine K (pos 1) i (pos 0) i n buf (p .branch .room) (p .first) (p .first)
 
   pub length-t : length (strengthenedT K i n buf) ≡ length buf
   unfolding strengthenedT
@@ -33,7 +33,7 @@ module _ {K : ℕ} {buf : List ℤ} {i n : ℕ} (p : LineCopy K buf i n) where
 
   pub copied-keeps : Agree (n * size K) buf (copiedLine K i n buf)
   unfolding copiedLine
-  copied-keeps = mixed-keeps K (pos 1) i (pos 0) i n buf (p .branch .room) (p .first) (p .first) (p .space)
+  copied-keeps = mixed-keeps K (pos 1) i (pos 0) i n buf (p .branch .room) (p .first) (p .first)
 
   pub t-keeps : Agree (n * size K) buf (strengthenedT K i n buf)
   unfolding strengthenedT
@@ -48,21 +48,21 @@ module _ {K : ℕ} {buf : List ℤ} {i n : ℕ} (p : LineCopy K buf i n) where
     pub copied-line : lineIn K kinds′ (copiedLine K i n buf) n ≡ line (kindOf (getD kinds′ n 0)) (s .t) (s .tA)
     unfolding copiedLine
     copied-line =
-        mixed-line K (pos 1) i (pos 0) i n buf (p .branch .room) (p .first) (p .first) (p .space) kinds kinds′ s s es es
+        mixed-line K (pos 1) i (pos 0) i n buf (p .branch .room) (p .first) (p .first) kinds kinds′ s s es es
         ∙ line-ext refl (mix-copy (s .t)) (mix-copy (s .tA))
 
     pub t-line : lineIn K kinds′ (strengthenedT K i n buf) n ≡ line (kindOf (getD kinds′ n 0)) (s .t plus 1) (s .tA)
     unfolding strengthenedT
-    t-line = plus-t K kinds′ (copiedLine K i n buf) n (omega (arith, before K (p .space), p .branch .room, length-copied)) _ copied-line
+    t-line = plus-t K kinds′ (copiedLine K i n buf) n (omega (arith, p .branch .room, length-copied)) _ copied-line
 
     pub both-line : lineIn K kinds′ (strengthenedBoth K i n buf) n ≡ line (kindOf (getD kinds′ n 0)) (s .t plus 1) (s .tA plus 1)
     unfolding strengthenedBoth
-    both-line = plus-tA K kinds′ (strengthenedT K i n buf) n (omega (arith, before K (p .space), p .branch .room, length-t)) _ t-line
+    both-line = plus-tA K kinds′ (strengthenedT K i n buf) n (omega (arith, p .branch .room, length-t)) _ t-line
 
   -- ---- the constant terms before they are raised are those of line i, so they can be
   term : (at : ℕ) (buf′ : List ℤ) (x y : ℕ) → at + K ≡ x → x < n * size K + size K → length buf′ ≡ length buf → getD buf′ x (pos 0) ≡ getD buf y (pos 0) → y < n * size K
       → (at + K < length buf′) × Within 2147483647 (getD buf′ (at + K) (pos 0))
-  term at buf′ x y e h l d g = (omega (arith, before K (p .space), p .branch .room), rw (e, d) (p .branch .bounded .small y g))
+  term at buf′ x y e h l d g = (omega (arith, p .branch .room), rw (e, d) (p .branch .bounded .small y g))
 
   pub t-term : (at : ℕ) (buf′ : List ℤ) → at ≡ n * size K → buf′ ≡ copiedLine K i n buf → (at + K < length buf′) × Within 2147483647 (getD buf′ (at + K) (pos 0))
   unfolding lineIn

@@ -17,7 +17,6 @@ use Rattle.integers.specs.Linear.{eqZ}
 use Rattle.fields.specs.Numbers.{signed, signeds, formFrom, formWidth}
 use Rattle.lines.specs.Parts.{part, part-take}
 use Rattle.lines.specs.Buffer.{size, formIn, lineIn}
-use Rattle.lines.specs.Lines.{before}
 use Rattle.lines.specs.Range.{part-form}
 use Rattle.proof.specs.Rows.{equals, sameForm, states}
 use Rattle.rows.specs.Claims.{Claimed}
@@ -123,10 +122,7 @@ unfolding formFrom
 form-take K m bs h =
     ap₂ (λ (l : List ℤ) (z : ℤ). record { coeffs = l; d = z }) (signeds-take K m bs (omega arith)) (ap signed (part-take (K * 4) 4 m bs (omega arith)))
 
-module _ (K : ℕ) (p : List ℕ) (start : ℕ) (buf : List ℤ) (i : ℕ) (room : i < 128) (long : 128 * size K ≤ length buf) where
-  pub first-room : i * size K + (K + 1) + K < length buf
-  first-room = omega (arith, before K room)
-
+module _ (K : ℕ) (p : List ℕ) (start : ℕ) (buf : List ℤ) (i : ℕ) (long : i * size K + size K ≤ length buf) where
   claim-is : {x y : ℕ} {b c : Bool} → x ≡ i * size K → y ≡ i * size K + (K + 1)
       → b ≡ equals (signeds 4 (K + 1) (drop start p)) (part x (K + 1) buf)
       → c ≡ equals (signeds 4 (K + 1) (drop (start + 4 * (K + 1)) p)) (part y (K + 1) buf)
@@ -137,14 +133,14 @@ module _ (K : ℕ) (p : List ℕ) (start : ℕ) (buf : List ℤ) (i : ℕ) (room
       first : (len : ℕ) → len ≡ 2 * formWidth 4 K → sameForm (formFrom 4 K (take len (drop start p))) (formIn K buf (i * size K)) ≡ b
       first len el =
           rw (form-take K len (drop start p) (omega arith))
-          (sym (form-same-as K (drop start p) buf (i * size K) (omega (arith, first-room))) ∙ sym (rw ex at eb))
+          (sym (form-same-as K (drop start p) buf (i * size K) (omega arith)) ∙ sym (rw ex at eb))
 
       second : (len : ℕ) → len ≡ 2 * formWidth 4 K
           → sameForm (formFrom 4 K (drop (formWidth 4 K) (take len (drop start p)))) (formIn K buf (i * size K + (K + 1))) ≡ c
       second len el =
           let o : start + suc K * 4 ≡ start + 4 * (K + 1) = omega arith in
           rw (drop-take (suc K * 4) len (drop start p) (omega arith), form-take K (len - suc K * 4) (drop (suc K * 4) (drop start p)) (omega arith), drop-drop (suc K * 4) start p, o)
-          (sym (form-same-as K (drop (start + 4 * (K + 1)) p) buf (i * size K + (K + 1)) first-room) ∙ sym (rw ey at ec))
+          (sym (form-same-as K (drop (start + 4 * (K + 1)) p) buf (i * size K + (K + 1)) (omega arith)) ∙ sym (rw ey at ec))
 
   pub claim-first : {x : ℕ} {b : Bool} → x ≡ i * size K → b ≡ equals (signeds 4 (K + 1) (drop start p)) (part x (K + 1) buf) → b ≡ false → Claimed K p start buf i false
   claim-first ex eb h = rw h at (claim-is ex refl eb refl)

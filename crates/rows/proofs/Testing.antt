@@ -77,7 +77,7 @@ module _ {K : ℕ} {kinds : List ℕ} {buf : List ℤ} {t : Tally} {s : Step} wh
   derives-appended {r = Refused x} e q a = record { kept = a .kept; by = λ at next. rw (e at, ← q, a .by at) }
   derives-appended {r = Made t′} e q a = record {
     kept = a .kept;
-    by = (λ at next. rw (e at, ← q, a .by .0 at, a .by .1 .last), a .by .1 .ready, a .by .1 .tally);
+    by = (λ at next. rw (e at, ← q, a .by .0 at, a .by .1 .last), a .by .1 .limited, a .by .1 .tally);
   }
 
 -- ---- combine

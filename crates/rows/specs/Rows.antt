@@ -10,7 +10,7 @@ use Rattle.forms.specs.Forms.{Line, line, _⊞_, _·_}
 use Rattle.calculus.specs.Rules as rules
 use Rattle.fields.specs.Answers.{Result, refused, accepted, _>>=_, _>>_}
 use Rattle.lines.specs.Parts.{Agree}
-use Rattle.lines.specs.Buffer.{size, kindOf, lineIn, linesIn, Branch}
+use Rattle.lines.specs.Buffer.{size, kindOf, lineIn, linesIn, Bounded, Branch}
 use Rattle.proof.specs.Rows.{derived, fitting}
 use Rattle.proof.specs.Check.{Closing, refusal}
 use Rattle.rows.specs.Tally.{tally}
@@ -18,10 +18,15 @@ use Rattle.rows.specs.declared.tally.Tally.{Tally}
 use Rattle.rows.specs.declared.derive.Derived.{Derived}
 use Rattle.rows.specs.declared.derive.Derived.the-variants.{Refused, Made}
 
--- The n first lines of the buffers are a branch, with room for all that it may have.
+-- The n first lines of the buffers are a branch, with room for one more.
 pub record Ready (K : ℕ) (kinds : List ℕ) (buf : List ℤ) (n : ℕ) : Type 0 where
   pub branch : Branch K buf n
   pub room : 128 ≤ length kinds
+  pub most : n ≤ 128
+
+-- The n first lines keep the limits of a branch. Whether there is room for one more is for the caller to say.
+pub record Limited (K : ℕ) (buf : List ℤ) (n : ℕ) : Type 0 where
+  pub bounded : Bounded K buf n
   pub most : n ≤ 128
 
 -- What is written behind the n first lines keeps them, and the lengths.
@@ -52,7 +57,7 @@ sumOf K kinds buf f i g j kind =
 -- The branch has the line l more, within all limits.
 pub record Grown (K : ℕ) (t : Tally) (l : Line) (kinds′ : List ℕ) (buf′ : List ℤ) (t′ : Tally) : Type 0 where
   pub last : lineIn K kinds′ buf′ (t .lines .0) ≡ l
-  pub ready : Ready K kinds′ buf′ (t .lines .0 + 1)
+  pub limited : Limited K buf′ (t .lines .0 + 1)
   pub tally : t′ ≡ moreLines t
 
 abbrev pub AppendedBy : (K : ℕ) (kinds : List ℕ) (buf : List ℤ) (t : Tally) (l : Line) (kinds′ : List ℕ) (buf′ : List ℤ) → Derived → Type 0
@@ -74,7 +79,7 @@ DerivedBy K kinds buf t s kinds′ buf′ (Refused x) =
 DerivedBy K kinds buf t s kinds′ buf′ (Made t′) =
     ((at : ℕ) (next : Line → Result Closing)
     → followed at (linesIn K kinds buf (t .lines .0)) s next ≡ next (lineIn K kinds′ buf′ (t .lines .0)))
-    × Ready K kinds′ buf′ (t .lines .0 + 1) × (t′ ≡ moreLines t)
+    × Limited K buf′ (t .lines .0 + 1) × (t′ ≡ moreLines t)
 
 pub record Derives (K : ℕ) (kinds : List ℕ) (buf : List ℤ) (t : Tally) (s : rules.Step) (kinds′ : List ℕ) (buf′ : List ℤ) (r : Derived) : Type 0 where
   pub kept : Kept K (t .lines .0) kinds buf kinds′ buf′

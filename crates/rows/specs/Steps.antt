@@ -18,7 +18,7 @@ use Rattle.proof.specs.Entries.{entry}
 use Rattle.proof.specs.Check.{Closing, Checker, Next, refusal, checkRow, checkEntry}
 use Rattle.rows.specs.Tally.{tally}
 use Rattle.rows.specs.Entries.{Multiplies}
-use Rattle.rows.specs.Rows.{Ready, Kept, moreLines}
+use Rattle.rows.specs.Rows.{Kept, Limited, moreLines}
 use Rattle.rows.specs.declared.tally.Tally.{Tally}
 use Rattle.rows.specs.declared.derive.Derived as derived
 use Rattle.rows.specs.declared.derive.Derived.the-variants as derived-of
@@ -53,7 +53,7 @@ abbrev pub SteppedBy : (f : Checked) (K : ℕ) (kinds : List ℕ) (buf : List �
 SteppedBy f K kinds buf t kinds′ buf′ (Refused x) = Same f (λ inA inB deeper next at fs. refused (refusal at x))
 SteppedBy f K kinds buf t kinds′ buf′ (Made t′) =
     Same f (λ inA inB deeper next at fs. next (t .rows .0 + 1) (some (lineIn K kinds′ buf′ (t .lines .0))) (linesIn K kinds′ buf′ (t .lines .0 + 1)))
-    × Ready K kinds′ buf′ (t .lines .0 + 1) × (t′ ≡ moreLines (moreRows t))
+    × Limited K buf′ (t .lines .0 + 1) × (t′ ≡ moreLines (moreRows t))
 SteppedBy f K kinds buf t kinds′ buf′ Claimed = Same f (λ inA inB deeper next at fs. next (t .rows .0) none (linesIn K kinds buf (t .lines .0)))
 SteppedBy f K kinds buf t kinds′ buf′ (Strengthens t′ i) = Same f (rowLeft K kinds buf t (rules.Strengthen (i .0))) × (t′ ≡ moreRows t)
 SteppedBy f K kinds buf t kinds′ buf′ (ClosesNumber t′ i) = Same f (rowLeft K kinds buf t (rules.CloseNumber (i .0))) × (t′ ≡ moreRows t)

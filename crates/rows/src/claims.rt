@@ -26,7 +26,7 @@ fn same_form(p: &[u8], start: usize, lines: &[i64], at: usize, k: usize) -> bool
 
 // Whether t, and then tA, are those of line i.
 pub fn claim_holds(p: &[u8], start: usize, lines: &[i64], i: Line, k: usize) -> bool
-    requires { ⌜ (k ≤ 16) × (start + 8 * (k + 1) ≤ length (now p)) × (i .0 < 128) × (128 * (2 * (k + 1)) ≤ length (now lines)) ⌝ }
+    requires { ⌜ (k ≤ 16) × (start + 8 * (k + 1) ≤ length (now p)) × (i .0 < 128) × (i .0 * (2 * (k + 1)) + 2 * (k + 1) ≤ length (now lines)) ⌝ }
     ensures { λ r. ⌜ Claimed k (now (p .entry)) start (now (lines .entry)) (i .0) r ⌝ }
 {
     let n = i.0 as usize;

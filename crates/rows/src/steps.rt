@@ -159,7 +159,7 @@ fn stride_row(tally: Tally, t: Line, g: i64) -> Stepped
 
 // A claim of the line made last. 4, 14.
 fn claim_step(p: &[u8], start: usize, made: bool, lines: &[i64], tally: Tally, k: usize) -> Stepped
-    requires { ⌜ (k ≤ 16) × (start + 8 * (k + 1) ≤ length (now p)) × (tally .lines .0 ≤ 128) × (128 * (2 * (k + 1)) ≤ length (now lines)) ⌝ }
+    requires { ⌜ (k ≤ 16) × (start + 8 * (k + 1) ≤ length (now p)) × (tally .lines .0 ≤ 128) × (tally .lines .0 * (2 * (k + 1)) ≤ length (now lines)) ⌝ }
     requires { ⌜ (made ≡ true → 1 ≤ tally .lines .0) ⌝ }
     ensures { λ r. ⌜ Claims k (now (p .entry)) start made (now (lines .entry)) tally r ⌝ }
 {

@@ -34,7 +34,7 @@ mix-numbers-requires c κs =
     (record {
       first = before k (p .first);
       second = before k (p .second);
-      third = omega (arith, before k (p .space));
+      third = p .branch .room;
       small = small;
       f-in = p .f-in;
       g-in = p .g-in;

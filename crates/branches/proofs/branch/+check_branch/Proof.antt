@@ -47,7 +47,7 @@ check-branch-claims t =
 
 module _ (t : ℕ) where
   check-branch-entries-requires : check-branch-lts.Need-entries-requires (check-branch-claims t) (check-branch-at t) check-branch.Post
-  check-branch-entries-requires c κs = c .before .before .before .before .before .before .before .pre .1 .ready
+  check-branch-entries-requires c κs = let st = c .before .before .before .before .before .before .before .pre .1 in (st .ready, st .spare)
 
   check-branch-enum-known-number : check-branch-lts.Need-enum-known-number (check-branch-claims t) (check-branch-at t) check-branch.Post
   check-branch-enum-known-number c = search needs
@@ -87,9 +87,8 @@ module _ (t : ℕ) where
 
   check-branch-returns-2 : check-branch-lts.Need-returns-2 (check-branch-claims t) (check-branch-at t) check-branch.Post
   check-branch-returns-2 c =
-      let st = c .before .before .before .before .before .before .before .before .before .before .before .before .before .before .before .before .before .before .before .before .before .before .pre .1 in
       let stop = c .before .before .before .before .before .before .before .before .before .before .before .before .before .before .entries .ensures in
-      number-closed stop st _ _ (c .before .before .before .before .close-number .result) (c .before .before .before .before .before .before .before .before .before .t .given .1) (c .before .before .before .before .close-number .ensures) (c .before .returned .ensures) (c .closed .ensures)
+      number-closed stop _ _ _ _ _ (c .before .before .before .before .close-number .result) (c .before .before .before .before .before .before .before .before .before .t .given .1) (c .before .before .before .before .close-number .ensures) (c .before .returned .ensures) (c .closed .ensures)
 
   check-branch-enum-known-t-2 : check-branch-lts.Need-enum-known-t-2 (check-branch-claims t) (check-branch-at t) check-branch.Post
   check-branch-enum-known-t-2 c = search needs
@@ -119,10 +118,9 @@ module _ (t : ℕ) where
 
   check-branch-returns-3 : check-branch-lts.Need-returns-3 (check-branch-claims t) (check-branch-at t) check-branch.Post
   check-branch-returns-3 c =
-      let st = c .before .before .before .before .before .before .before .before .before .before .before .before .before .before .before .before .before .before .before .before .before .before .pre .1 in
       let stop = c .before .before .before .before .before .before .before .before .before .before .before .before .before .before .entries .ensures in
       let fits = within-fits (stride-comes stop (c .before .before .before .before .before .before .before .before .before .t2 .given .1) .1 .within) tt in
-      stride-closed stop st _ _ (c .before .before .before .before .close-stride .result) (c .before .before .before .before .before .before .before .before .before .t2 .given .1) (simp toZ-ofZ at (c .before .before .before .before .close-stride .ensures)) (c .before .returned2 .ensures) (c .closed2 .ensures)
+      stride-closed stop _ _ _ _ _ (c .before .before .before .before .close-stride .result) (c .before .before .before .before .before .before .before .before .before .t2 .given .1) (simp toZ-ofZ at (c .before .before .before .before .close-stride .ensures)) (c .before .returned2 .ensures) (c .closed2 .ensures)
 
   check-branch-enum-known-t-3 : check-branch-lts.Need-enum-known-t-3 (check-branch-claims t) (check-branch-at t) check-branch.Post
   check-branch-enum-known-t-3 c = search needs

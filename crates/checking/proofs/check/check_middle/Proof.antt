@@ -3,6 +3,7 @@ use native.Mathlib.Omega.{arith}
 use Prim.Native.Nat.{ℕ}
 use lib.IntN.{ℤ, pos}
 use lib.ListN.{length-replicate}
+use Rattle.checking.proofs.Sparing.{spare-all}
 use borrow.Author.Needs.{needs}
 use Rattle.checking.proofs.check.check_middle.Statement.{statement}
 use Rattle.checking.proofs.check.check_middle.Tie as tie
@@ -15,8 +16,8 @@ slice-aggregate-check-within-2 c = search needs
 
 check-within-requires : tie.Need-check-within-requires
 check-within-requires c κs =
-    let g = c .before .before .before .before .before .before .before .pre .0 in
-    (g, (omega (arith, g .both .high, length-replicate {A = ℤ} 4352 (pos 0)), record { enough = λ l h w. omega (arith, length-replicate {A = ℕ} 32768 0) }))
+    let w = c .before .before .before .before .before .before .before .pre in
+    (w .0, (spare-all (w .0 .both .high) (omega (arith, length-replicate {A = ℤ} 4386 (pos 0))), record { few = omega (arith, w .1); enough = λ l h u. omega (arith, w .1, length-replicate {A = ℕ} 16384 0) }))
 
 same-length : tie.Need-same-length
 same-length c = search needs

@@ -1,8 +1,10 @@
 -- `checking::check::check_short` meets its contract: its buffers have the room that is asked. Assumes nothing.
 use native.Mathlib.Omega.{arith}
-use Prim.Native.Nat.{ℕ}
+use Prim.Native.Nat.{ℕ, _+_}
 use lib.IntN.{ℤ, pos}
 use lib.ListN.{length-replicate}
+use Rattle.branches.specs.Room.{fieldsLeft}
+use Rattle.checking.proofs.Sparing.{spare-most}
 use borrow.Author.Needs.{needs}
 use Rattle.checking.proofs.check.check_short.Statement.{statement}
 use Rattle.checking.proofs.check.check_short.Tie as tie
@@ -15,8 +17,8 @@ slice-aggregate-check-within-2 c = search needs
 
 check-within-requires : tie.Need-check-within-requires
 check-within-requires c κs =
-    let g = c .before .before .before .before .before .before .before .pre .0 in
-    (g, (omega (arith, g .both .high, length-replicate {A = ℤ} 4352 (pos 0)), record { enough = λ l h w. omega (arith, length-replicate {A = ℕ} 8192 0) }))
+    let w = c .before .before .before .before .before .before .before .pre in
+    (w .0, (spare-most (c .before .before .before .before .before .before .before .args .m + c .before .before .before .before .before .before .before .args .n + fieldsLeft (c .before .before .before .before .before .before .before .args .proof .now) (c .before .before .before .before .before .before .before .args .at)) (omega (arith, w .1 .1, length-replicate {A = ℤ} 1190 (pos 0))), record { few = omega (arith, w .1 .0); enough = λ l h u. omega (arith, w .1 .0, length-replicate {A = ℕ} 2560 0) }))
 
 same-length : tie.Need-same-length
 same-length c = search needs

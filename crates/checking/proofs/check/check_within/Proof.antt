@@ -2,6 +2,8 @@
 use native.Mathlib.Omega.{arith}
 use Prim.Native.Nat.{ℕ}
 use lib.ListN.{length-replicate}
+use Rattle.branches.proofs.Counting.{spare-less}
+use Rattle.checking.proofs.Preparing.{space-from}
 use Rattle.checking.proofs.Stages.{all-bytes, started, fits-scratch, checks-root}
 use borrow.Author.Needs.{needs}
 use Rattle.checking.proofs.check.check_within.Statement.{statement}
@@ -21,11 +23,7 @@ prepare-requires c κs =
     let g = c .before .before .before .before .before .before .before .before .before .pre .0 in (
       g .both,
       record {
-        space = record {
-          constants = g .both .high;
-          room = c .before .before .before .before .before .before .before .before .before .pre .1 .0;
-          kinds-room = omega (arith, length-replicate {A = ℕ} 128 0);
-        };
+        space = space-from (g .both) (c .before .before .before .before .before .before .before .before .before .pre .1 .0) (omega arith) (omega (arith, length-replicate {A = ℕ} 128 0));
         a = length-replicate {A = ℕ} 16 0;
         b = length-replicate {A = ℕ} 16 0;
       },
@@ -45,12 +43,13 @@ slice-aggregate-check-root-3 c = search needs
 
 check-root-requires : tie.Need-check-root-requires
 check-root-requires c κs =
+    let w = c .before .before .before .before .before .before .before .before .before .before .before .before .before .before .before .before .before .before .before .before .pre .1 in
     let g = c .before .before .before .before .before .before .before .before .before .before .before .before .before .before .before .before .before .before .before .before .pre .0 in
     let q = c .before .before .before .before .before .before .before .before .before .before .prepare .ensures in
     let a = all-bytes (c .before .before .before .before .before .before .before .before .before .before .before .before .before .before .before .before .before .before .before .before .args .a .now) (λ i. omega (arith, c .before .before .before .before .before .before .before .before .before .before .before .before .before .before .before .before .before .before .before .shared-slice-known .given i)) in
     let b = all-bytes (c .before .before .before .before .before .before .before .before .before .before .before .before .before .before .before .before .before .before .before .before .args .b .now) (λ i. omega (arith, c .before .before .before .before .before .before .before .before .before .before .before .before .before .before .before .before .before .before .shared-slice-known2 .given i)) in
     let p = all-bytes (c .before .before .before .before .before .before .before .before .before .before .before .before .before .before .before .before .before .before .before .before .args .proof .now) (λ i. omega (arith, c .before .before .before .before .before .before .before .before .before .before .before .before .before .before .before .before .before .shared-slice-known3 .given i)) in
-    (started g q (omega (arith, q .buffers .a, q .buffers .b)) (omega (arith, q .buffers .a, q .buffers .b)), (fits-scratch g q a b p, c .before .before .before .before .before .before .before .before .before .before .before .before .before .before .before .before .before .before .before .before .pre .1 .1))
+    (started g q (omega (arith, q .buffers .a, q .buffers .b)) (omega (arith, q .buffers .a, q .buffers .b)) (spare-less (omega arith) (omega arith) (w .0)) (w .1 .few), (fits-scratch g q a b p, w .1))
 
 same-length : tie.Need-same-length
 same-length c = search needs

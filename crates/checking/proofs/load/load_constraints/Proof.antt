@@ -30,7 +30,7 @@ load-line-requires : tie.Need-load-line-requires Inv-loop μ-loop
 load-line-requires c κs = fit (c .before .before .before .before .before .before .loop .inv) (starts (c .before .before .before .before .before .next-field .ensures) (c .before .before .before .tag .given .1)) .loads
 
 add-m : tie.Need-add-m Inv-loop μ-loop
-add-m c = omega (arith, fit (c .before .before .before .before .before .before .before .before .before .before .loop .inv) (starts (c .before .before .before .before .before .before .before .before .before .next-field .ensures) (c .before .before .before .before .before .before .before .tag .given .1)) .loads .few)
+add-m c = omega (arith, fit (c .before .before .before .before .before .before .before .before .before .before .loop .inv) (starts (c .before .before .before .before .before .before .before .before .before .next-field .ensures) (c .before .before .before .before .before .before .before .tag .given .1)) .loads .space .most)
 
 loop-less : tie.Need-loop-less Inv-loop μ-loop
 loop-less c = starts-less (starts (c .before .before .before .before .before .before .before .before .before .next-field .ensures) (c .before .before .before .before .before .before .before .tag .given .1))

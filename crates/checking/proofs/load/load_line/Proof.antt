@@ -1,7 +1,6 @@
 -- `checking::load::load_line` meets its contract: t, then tA, then the kind. Assumes nothing.
 use native.Mathlib.Omega.{arith}
-use Rattle.lines.specs.Lines.{before}
-use Rattle.checking.proofs.Loading.{form-loaded}
+use Rattle.checking.proofs.Loading.{space-end, form-loaded}
 use borrow.Author.Needs.{needs}
 use Rattle.checking.proofs.load.load_line.Statement.{statement}
 use Rattle.checking.proofs.load.load_line.Tie as tie
@@ -15,17 +14,17 @@ place-requires c κs = search needs
 load-numbers-requires : tie.Need-load-numbers-requires
 load-numbers-requires c κs =
     let p = c .before .before .before .before .pre in
-    record { bytes = p .bytes; room = omega (arith, before (c .before .before .before .before .args .k) (p .few), p .space .room, c .before .place .ensures) }
+    record { bytes = p .bytes; room = omega (arith, space-end (p .space), c .before .place .ensures) }
 
 add-load-partial : tie.Need-add-load-partial
 add-load-partial c =
     let p = c .before .before .before .before .before .before .before .pre in
-    omega (arith, before (c .before .before .before .before .before .before .before .args .k) (p .few), p .space .room, c .before .before .before .before .place .ensures)
+    omega (arith, space-end (p .space), c .before .before .before .before .place .ensures)
 
 load-partial-requires : tie.Need-load-partial-requires
 load-partial-requires c κs =
     let p = c .before .before .before .before .before .before .before .pre in
-    record { bytes = p .bytes; room = omega (arith, before (c .before .before .before .before .before .before .before .args .k) (p .few), p .space .room, c .before .before .before .before .place .ensures) }
+    record { bytes = p .bytes; room = omega (arith, space-end (p .space), c .before .before .before .before .place .ensures) }
 
 slice-write-kinds : tie.Need-slice-write-kinds
 slice-write-kinds c = search needs

@@ -1,8 +1,11 @@
 -- `checking::load::load_numbers` meets its contract: after i turns the first i numbers are in place. Assumes nothing.
+use mathlib.Core.Path.{sym, subst}
 use Prim.Native.Nat.{_-_}
 use native.Mathlib.Omega.{arith}
-use mir.Syntax.{w64}
+use mir.Syntax.{w16, w64}
+use mir.Val.{SFits}
 use mir.ValLaws.{toZ-ofZ}
+use mir.Facts.{sfits-widen}
 use Rattle.checking.proofs.Loading.{Turn, turn-none, turn-length, turn-next, turn-done}
 use Rattle.checking.proofs.load.load_numbers.Statement.{statement}
 use Rattle.checking.proofs.load.load_numbers.Tie as tie
@@ -16,23 +19,28 @@ abbrev μ-loop : tie.MeasureT-loop
 loop-holds : tie.Need-loop-holds Inv-loop μ-loop
 loop-holds c = turn-none
 
-mul-wide-short-at : tie.Need-mul-wide-short-at Inv-loop μ-loop
-mul-wide-short-at c = omega arith
+mul-short-at : tie.Need-mul-short-at Inv-loop μ-loop
+mul-short-at c = omega arith
 
-add-wide-short-at : tie.Need-add-wide-short-at Inv-loop μ-loop
-add-wide-short-at c = omega arith
+add-short-at : tie.Need-add-short-at Inv-loop μ-loop
+add-short-at c = omega arith
 
-wide-short-at-requires : tie.Need-wide-short-at-requires Inv-loop μ-loop
-wide-short-at-requires c κs = omega arith
+short-at-requires : tie.Need-short-at-requires Inv-loop μ-loop
+short-at-requires c κs = omega arith
 
-add-x : tie.Need-add-x Inv-loop μ-loop
-add-x c = omega arith
+cast-lines : tie.Need-cast-lines Inv-loop μ-loop
+cast-lines c =
+    let f : SFits w16 (c .short-at .result) = record { sfits = c .short-at .ok } in
+    subst (SFits w64) (sym (toZ-ofZ w16 (c .short-at .result) f)) (sfits-widen {w = w16} tt f)
 
-mul-x : tie.Need-mul-x Inv-loop μ-loop
-mul-x c = omega arith
+add-t12 : tie.Need-add-t12 Inv-loop μ-loop
+add-t12 c = omega arith
 
-slice-set-from-x : tie.Need-slice-set-from-x Inv-loop μ-loop
-slice-set-from-x c = omega (arith, turn-length (c .before .before .before .before .pre) (c .before .before .loop .inv))
+mul-t13 : tie.Need-mul-t13 Inv-loop μ-loop
+mul-t13 c = omega arith
+
+slice-set-from-lines : tie.Need-slice-set-from-lines Inv-loop μ-loop
+slice-set-from-lines c = omega (arith, turn-length (c .before .before .before .before .pre) (c .before .before .loop .inv))
 
 add-i : tie.Need-add-i Inv-loop μ-loop
 add-i c = omega arith
@@ -42,8 +50,9 @@ loop-less c = omega arith
 
 loop-again : tie.Need-loop-again Inv-loop μ-loop
 loop-again c =
-    let x = toZ-ofZ w64 (c .wide-short-at .result) (record { sfits = c .wide-short-at .ok }) in
-    rw x (turn-next (c .before .before .before .before .pre) (c .before .before .loop .inv) (c .before .loop-test .taken) (c .wide-short-at .ensures .0) (c .wide-short-at .ensures .1))
+    let f : SFits w16 (c .short-at .result) = record { sfits = c .short-at .ok } in
+    rw (toZ-ofZ w16 (c .short-at .result) f, toZ-ofZ w64 (c .short-at .result) (sfits-widen {w = w16} tt f))
+    (turn-next (c .before .before .before .before .pre) (c .before .before .loop .inv) (c .before .loop-test .taken) (c .short-at .ensures) f)
 
 same-length : tie.Need-same-length Inv-loop μ-loop
 same-length c = turn-length (c .before .before .before .pre) (c .before .loop .inv)
@@ -58,12 +67,13 @@ load-numbers-spec =
     Inv-loop
     μ-loop
     loop-holds
-    mul-wide-short-at
-    add-wide-short-at
-    wide-short-at-requires
-    add-x
-    mul-x
-    slice-set-from-x
+    mul-short-at
+    add-short-at
+    short-at-requires
+    cast-lines
+    add-t12
+    mul-t13
+    slice-set-from-lines
     add-i
     loop-less
     loop-again

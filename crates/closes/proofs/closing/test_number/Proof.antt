@@ -1,14 +1,13 @@
 -- `closes::closing::test_number` meets its contract. Assumes nothing.
 use borrow.Author.Needs.{needs}
 use native.Mathlib.Omega.{arith}
-use Prim.Native.Nat.{_+_, _<_}
+use Prim.Native.Nat.{_+_}
 use lib.ListN.{getD}
 use lib.IntN.{pos}
 use mir.Syntax.{w64}
 use mir.ValLaws.{toZ-ofZ}
 use Rattle.rows.proofs.Testing.{below, past}
-use Rattle.rows.proofs.Claiming.{first-room}
-use Rattle.closes.proofs.Closes.{number-none, number-coeffs, number-d, number-names, number-passed}
+use Rattle.closes.proofs.Closes.{line-end, number-none, number-coeffs, number-d, number-names, number-passed}
 use Rattle.closes.proofs.closing.test_number.Statement.{statement}
 use Rattle.closes.proofs.closing.test_number.Tie as tie
 
@@ -29,26 +28,21 @@ place-requires c κs =
     let s = c .before .before .before .before .before .before in
     let a = s .args in
     let h = below (a .i .0) (a .tally .lines .0) (c .before .before .is-there .ensures) (c .before .if1 .left) in
-    let m : a .i .0 < 128 = omega (arith, s .pre .0 .most) in
-    let r = first-room (a .k) (a .kinds .now) 0 (a .lines .now) (a .i .0) m (s .pre .0 .branch .room) in
-    (omega arith, s .pre .0 .branch .constants)
+    (omega (arith, s .pre .0 .most), s .pre .0 .branch .constants)
 
 place-a-requires : tie.Need-place-a-requires
 place-a-requires c κs =
     let s = c .before .before .before .before .before .before .before in
     let a = s .args in
     let h = below (a .i .0) (a .tally .lines .0) (c .before .before .before .is-there .ensures) (c .before .before .if1 .left) in
-    let m : a .i .0 < 128 = omega (arith, s .pre .0 .most) in
-    let r = first-room (a .k) (a .kinds .now) 0 (a .lines .now) (a .i .0) m (s .pre .0 .branch .room) in
-    (omega arith, s .pre .0 .branch .constants)
+    (omega (arith, s .pre .0 .most), s .pre .0 .branch .constants)
 
 all-zero-requires : tie.Need-all-zero-requires
 all-zero-requires c κs =
     let s = c .before .before .before .before .before .before .before .before in
     let a = s .args in
     let h = below (a .i .0) (a .tally .lines .0) (c .before .before .before .before .is-there .ensures) (c .before .before .before .if1 .left) in
-    let m : a .i .0 < 128 = omega (arith, s .pre .0 .most) in
-    let r = first-room (a .k) (a .kinds .now) 0 (a .lines .now) (a .i .0) m (s .pre .0 .branch .room) in
+    let r = line-end (s .pre .0) h in
     omega (arith, c .before .place .ensures)
 
 returns-2 : tie.Need-returns-2
@@ -63,17 +57,14 @@ kind-of-requires c κs =
     let s = c .before .before .before .before .before .before .before .before .before .before in
     let a = s .args in
     let h = below (a .i .0) (a .tally .lines .0) (c .before .before .before .before .before .before .is-there .ensures) (c .before .before .before .before .before .if1 .left) in
-    let m : a .i .0 < 128 = omega (arith, s .pre .0 .most) in
-    let r = first-room (a .k) (a .kinds .now) 0 (a .lines .now) (a .i .0) m (s .pre .0 .branch .room) in
-    omega (arith, s .pre .0 .room)
+    omega (arith, s .pre .0 .most, s .pre .0 .room)
 
 add-d : tie.Need-add-d
 add-d c =
     let s = c .before .before .before .before .before .before .before .before .before .before .before in
     let a = s .args in
     let h = below (a .i .0) (a .tally .lines .0) (c .before .before .before .before .before .before .before .is-there .ensures) (c .before .before .before .before .before .before .if1 .left) in
-    let m : a .i .0 < 128 = omega (arith, s .pre .0 .most) in
-    let r = first-room (a .k) (a .kinds .now) 0 (a .lines .now) (a .i .0) m (s .pre .0 .branch .room) in
+    let r = line-end (s .pre .0) h in
     omega (arith, c .before .before .before .before .place .ensures)
 
 mul-d : tie.Need-mul-d
@@ -81,8 +72,7 @@ mul-d c =
     let s = c .before .before .before .before .before .before .before .before .before .before .before in
     let a = s .args in
     let h = below (a .i .0) (a .tally .lines .0) (c .before .before .before .before .before .before .before .is-there .ensures) (c .before .before .before .before .before .before .if1 .left) in
-    let m : a .i .0 < 128 = omega (arith, s .pre .0 .most) in
-    let r = first-room (a .k) (a .kinds .now) 0 (a .lines .now) (a .i .0) m (s .pre .0 .branch .room) in
+    let r = line-end (s .pre .0) h in
     omega (arith, c .before .before .before .before .place .ensures)
 
 shared-slice-copy-out-d : tie.Need-shared-slice-copy-out-d
@@ -90,8 +80,7 @@ shared-slice-copy-out-d c =
     let s = c .before .before .before .before .before .before .before .before .before .before .before in
     let a = s .args in
     let h = below (a .i .0) (a .tally .lines .0) (c .before .before .before .before .before .before .before .is-there .ensures) (c .before .before .before .before .before .before .if1 .left) in
-    let m : a .i .0 < 128 = omega (arith, s .pre .0 .most) in
-    let r = first-room (a .k) (a .kinds .now) 0 (a .lines .now) (a .i .0) m (s .pre .0 .branch .room) in
+    let r = line-end (s .pre .0) h in
     omega (arith, c .before .before .before .before .place .ensures)
 
 is-false-requires : tie.Need-is-false-requires
@@ -109,8 +98,7 @@ shared-only-requires c κs =
     let s = c .before .before .before .before .before .before .before .before .before .before .before .before .before .before in
     let a = s .args in
     let h = below (a .i .0) (a .tally .lines .0) (c .before .before .before .before .before .before .before .before .before .before .is-there .ensures) (c .before .before .before .before .before .before .before .before .before .if1 .left) in
-    let m : a .i .0 < 128 = omega (arith, s .pre .0 .most) in
-    let r = first-room (a .k) (a .kinds .now) 0 (a .lines .now) (a .i .0) m (s .pre .0 .branch .room) in
+    let r = line-end (s .pre .0) h in
     (omega (arith, c .before .before .before .before .before .before .place-a .ensures), (s .pre .1 .0, s .pre .1 .1))
 
 returns-4 : tie.Need-returns-4

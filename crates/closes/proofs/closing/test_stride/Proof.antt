@@ -1,14 +1,14 @@
 -- `closes::closing::test_stride` meets its contract. Assumes nothing.
 use borrow.Author.Needs.{needs}
 use native.Mathlib.Omega.{arith}
-use Prim.Native.Nat.{_+_, _<_}
+use Prim.Native.Nat.{_+_}
 use mathlib.Core.Path.{sym, _∙_}
 use lib.ListN.{getD}
 use lib.IntN.{pos, natAbs}
 use mir.Syntax.{w64}
 use mir.ValLaws.{toZ-ofZ}
 use Rattle.rows.proofs.Testing.{below, past, unnot}
-use Rattle.rows.proofs.Claiming.{first-room}
+use Rattle.closes.proofs.Closes.{line-end}
 use Rattle.closes.proofs.Strides.{at-least-two, stride-none, stride-kind, stride-small, stride-coeffs, stride-d, stride-names, stride-passed}
 use Rattle.closes.proofs.closing.test_stride.Statement.{statement}
 use Rattle.closes.proofs.closing.test_stride.Tie as tie
@@ -22,9 +22,7 @@ returns c = stride-none (c .before .before .before .before .before .args .k) (c 
 kind-of-requires : tie.Need-kind-of-requires
 kind-of-requires c κs =
     let h = (below (c .before .before .before .before .before .args .i .0) (c .before .before .before .before .before .args .tally .lines .0) (c .before .is-there .ensures) (c .if1 .left)) in
-    let m : c .before .before .before .before .before .args .i .0 < 128 = omega (arith, c .before .before .before .before .before .pre .0 .most) in
-    let r = first-room (c .before .before .before .before .before .args .k) (c .before .before .before .before .before .args .kinds .now) 0 (c .before .before .before .before .before .args .lines .now) (c .before .before .before .before .before .args .i .0) m (c .before .before .before .before .before .pre .0 .branch .room) in
-    omega (arith, c .before .before .before .before .before .pre .0 .room)
+    omega (arith, c .before .before .before .before .before .pre .0 .most, c .before .before .before .before .before .pre .0 .room)
 
 returns-2 : tie.Need-returns-2
 returns-2 c = stride-kind (c .before .before .before .before .before .before .before .args .k) (c .before .before .before .before .before .before .before .args .kinds .now) (c .before .before .before .before .before .before .before .args .lines .now) (c .before .before .before .before .before .before .before .args .tally) (c .before .before .before .before .before .before .before .args .i .0) (natAbs (c .before .before .before .before .before .before .before .args .g)) (c .before .before .before .before .before .before .before .args .in-a .now) (c .before .before .before .before .before .before .before .args .in-b .now) (below (c .before .before .before .before .before .before .before .args .i .0) (c .before .before .before .before .before .before .before .args .tally .lines .0) (c .before .before .before .is-there .ensures) (c .before .before .if1 .left)) (sym (c .before .kind-of .ensures) ∙ c .if2 .taken)
@@ -41,22 +39,17 @@ cast-n c = search needs
 place-requires : tie.Need-place-requires
 place-requires c κs =
     let h = (below (c .before .before .before .before .before .before .before .before .before .before .args .i .0) (c .before .before .before .before .before .before .before .before .before .before .args .tally .lines .0) (c .before .before .before .before .before .before .is-there .ensures) (c .before .before .before .before .before .if1 .left)) in
-    let m : c .before .before .before .before .before .before .before .before .before .before .args .i .0 < 128 = omega (arith, c .before .before .before .before .before .before .before .before .before .before .pre .0 .most) in
-    let r = first-room (c .before .before .before .before .before .before .before .before .before .before .args .k) (c .before .before .before .before .before .before .before .before .before .before .args .kinds .now) 0 (c .before .before .before .before .before .before .before .before .before .before .args .lines .now) (c .before .before .before .before .before .before .before .before .before .before .args .i .0) m (c .before .before .before .before .before .before .before .before .before .before .pre .0 .branch .room) in
-    (omega arith, c .before .before .before .before .before .before .before .before .before .before .pre .0 .branch .constants)
+    (omega (arith, c .before .before .before .before .before .before .before .before .before .before .pre .0 .most), c .before .before .before .before .before .before .before .before .before .before .pre .0 .branch .constants)
 
 place-a-requires : tie.Need-place-a-requires
 place-a-requires c κs =
     let h = (below (c .before .before .before .before .before .before .before .before .before .before .before .args .i .0) (c .before .before .before .before .before .before .before .before .before .before .before .args .tally .lines .0) (c .before .before .before .before .before .before .before .is-there .ensures) (c .before .before .before .before .before .before .if1 .left)) in
-    let m : c .before .before .before .before .before .before .before .before .before .before .before .args .i .0 < 128 = omega (arith, c .before .before .before .before .before .before .before .before .before .before .before .pre .0 .most) in
-    let r = first-room (c .before .before .before .before .before .before .before .before .before .before .before .args .k) (c .before .before .before .before .before .before .before .before .before .before .before .args .kinds .now) 0 (c .before .before .before .before .before .before .before .before .before .before .before .args .lines .now) (c .before .before .before .before .before .before .before .before .before .before .before .args .i .0) m (c .before .before .before .before .before .before .before .before .before .before .before .pre .0 .branch .room) in
-    (omega arith, c .before .before .before .before .before .before .before .before .before .before .before .pre .0 .branch .constants)
+    (omega (arith, c .before .before .before .before .before .before .before .before .before .before .before .pre .0 .most), c .before .before .before .before .before .before .before .before .before .before .before .pre .0 .branch .constants)
 
 all-divisible-requires : tie.Need-all-divisible-requires
 all-divisible-requires c κs =
     let h = (below (c .before .before .before .before .before .before .before .before .before .before .before .before .args .i .0) (c .before .before .before .before .before .before .before .before .before .before .before .before .args .tally .lines .0) (c .before .before .before .before .before .before .before .before .is-there .ensures) (c .before .before .before .before .before .before .before .if1 .left)) in
-    let m : c .before .before .before .before .before .before .before .before .before .before .before .before .args .i .0 < 128 = omega (arith, c .before .before .before .before .before .before .before .before .before .before .before .before .pre .0 .most) in
-    let r = first-room (c .before .before .before .before .before .before .before .before .before .before .before .before .args .k) (c .before .before .before .before .before .before .before .before .before .before .before .before .args .kinds .now) 0 (c .before .before .before .before .before .before .before .before .before .before .before .before .args .lines .now) (c .before .before .before .before .before .before .before .before .before .before .before .before .args .i .0) m (c .before .before .before .before .before .before .before .before .before .before .before .before .pre .0 .branch .room) in
+    let r = line-end (c .before .before .before .before .before .before .before .before .before .before .before .before .pre .0) h in
     let fg = c .before .before .before .before .before .before .before .before .before .before .before .before .fits .g in
     (omega (arith, c .before .place .ensures), simp toZ-ofZ (at-least-two (c .before .before .before .before .before .before .before .before .before .before .before .before .args .g) (c .before .before .before .before .before .before .before .before .before .before .before .before .pre .1 .0) (simp toZ-ofZ at (c .before .before .before .before .is-stride .ensures)) (unnot _ (c .before .before .before .if3 .left))))
 
@@ -66,22 +59,19 @@ returns-4 c = let fg = c .before .before .before .before .before .before .before
 add-d : tie.Need-add-d
 add-d c =
     let h = (below (c .before .before .before .before .before .before .before .before .before .before .before .before .before .before .args .i .0) (c .before .before .before .before .before .before .before .before .before .before .before .before .before .before .args .tally .lines .0) (c .before .before .before .before .before .before .before .before .before .before .is-there .ensures) (c .before .before .before .before .before .before .before .before .before .if1 .left)) in
-    let m : c .before .before .before .before .before .before .before .before .before .before .before .before .before .before .args .i .0 < 128 = omega (arith, c .before .before .before .before .before .before .before .before .before .before .before .before .before .before .pre .0 .most) in
-    let r = first-room (c .before .before .before .before .before .before .before .before .before .before .before .before .before .before .args .k) (c .before .before .before .before .before .before .before .before .before .before .before .before .before .before .args .kinds .now) 0 (c .before .before .before .before .before .before .before .before .before .before .before .before .before .before .args .lines .now) (c .before .before .before .before .before .before .before .before .before .before .before .before .before .before .args .i .0) m (c .before .before .before .before .before .before .before .before .before .before .before .before .before .before .pre .0 .branch .room) in
+    let r = line-end (c .before .before .before .before .before .before .before .before .before .before .before .before .before .before .pre .0) h in
     omega (arith, c .before .before .before .place .ensures)
 
 mul-d : tie.Need-mul-d
 mul-d c =
     let h = (below (c .before .before .before .before .before .before .before .before .before .before .before .before .before .before .args .i .0) (c .before .before .before .before .before .before .before .before .before .before .before .before .before .before .args .tally .lines .0) (c .before .before .before .before .before .before .before .before .before .before .is-there .ensures) (c .before .before .before .before .before .before .before .before .before .if1 .left)) in
-    let m : c .before .before .before .before .before .before .before .before .before .before .before .before .before .before .args .i .0 < 128 = omega (arith, c .before .before .before .before .before .before .before .before .before .before .before .before .before .before .pre .0 .most) in
-    let r = first-room (c .before .before .before .before .before .before .before .before .before .before .before .before .before .before .args .k) (c .before .before .before .before .before .before .before .before .before .before .before .before .before .before .args .kinds .now) 0 (c .before .before .before .before .before .before .before .before .before .before .before .before .before .before .args .lines .now) (c .before .before .before .before .before .before .before .before .before .before .before .before .before .before .args .i .0) m (c .before .before .before .before .before .before .before .before .before .before .before .before .before .before .pre .0 .branch .room) in
+    let r = line-end (c .before .before .before .before .before .before .before .before .before .before .before .before .before .before .pre .0) h in
     omega (arith, c .before .before .before .place .ensures)
 
 shared-slice-copy-out-d : tie.Need-shared-slice-copy-out-d
 shared-slice-copy-out-d c =
     let h = (below (c .before .before .before .before .before .before .before .before .before .before .before .before .before .before .args .i .0) (c .before .before .before .before .before .before .before .before .before .before .before .before .before .before .args .tally .lines .0) (c .before .before .before .before .before .before .before .before .before .before .is-there .ensures) (c .before .before .before .before .before .before .before .before .before .if1 .left)) in
-    let m : c .before .before .before .before .before .before .before .before .before .before .before .before .before .before .args .i .0 < 128 = omega (arith, c .before .before .before .before .before .before .before .before .before .before .before .before .before .before .pre .0 .most) in
-    let r = first-room (c .before .before .before .before .before .before .before .before .before .before .before .before .before .before .args .k) (c .before .before .before .before .before .before .before .before .before .before .before .before .before .before .args .kinds .now) 0 (c .before .before .before .before .before .before .before .before .before .before .before .before .before .before .args .lines .now) (c .before .before .before .before .before .before .before .before .before .before .before .before .before .before .args .i .0) m (c .before .before .before .before .before .before .before .before .before .before .before .before .before .before .pre .0 .branch .room) in
+    let r = line-end (c .before .before .before .before .before .before .before .before .before .before .before .before .before .before .pre .0) h in
     omega (arith, c .before .before .before .place .ensures)
 
 divides-requires : tie.Need-divides-requires
@@ -94,8 +84,7 @@ returns-5 c = let fg = c .before .before .before .before .before .before .before
 restricted-shared-only-requires : tie.Need-restricted-shared-only-requires
 restricted-shared-only-requires c κs =
     let h = (below (c .before .before .before .before .before .before .before .before .before .before .before .before .before .before .before .before .before .args .i .0) (c .before .before .before .before .before .before .before .before .before .before .before .before .before .before .before .before .before .args .tally .lines .0) (c .before .before .before .before .before .before .before .before .before .before .before .before .before .is-there .ensures) (c .before .before .before .before .before .before .before .before .before .before .before .before .if1 .left)) in
-    let m : c .before .before .before .before .before .before .before .before .before .before .before .before .before .before .before .before .before .args .i .0 < 128 = omega (arith, c .before .before .before .before .before .before .before .before .before .before .before .before .before .before .before .before .before .pre .0 .most) in
-    let r = first-room (c .before .before .before .before .before .before .before .before .before .before .before .before .before .before .before .before .before .args .k) (c .before .before .before .before .before .before .before .before .before .before .before .before .before .before .before .before .before .args .kinds .now) 0 (c .before .before .before .before .before .before .before .before .before .before .before .before .before .before .before .before .before .args .lines .now) (c .before .before .before .before .before .before .before .before .before .before .before .before .before .before .before .before .before .args .i .0) m (c .before .before .before .before .before .before .before .before .before .before .before .before .before .before .before .before .before .pre .0 .branch .room) in
+    let r = line-end (c .before .before .before .before .before .before .before .before .before .before .before .before .before .before .before .before .before .pre .0) h in
     (omega (arith, c .before .before .before .before .before .place-a .ensures), (c .before .before .before .before .before .before .before .before .before .before .before .before .before .before .before .before .before .pre .1 .1 .0, c .before .before .before .before .before .before .before .before .before .before .before .before .before .before .before .before .before .pre .1 .1 .1))
 
 returns-6 : tie.Need-returns-6

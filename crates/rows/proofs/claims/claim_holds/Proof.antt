@@ -1,6 +1,6 @@
 -- `rows::claims::claim_holds` meets its contract. Assumes nothing.
 use native.Mathlib.Omega.{arith}
-use Rattle.rows.proofs.Claiming.{first-room, claim-first, claim-second}
+use Rattle.rows.proofs.Claiming.{claim-first, claim-second}
 use Rattle.rows.proofs.claims.claim_holds.Statement.{statement}
 use Rattle.rows.proofs.claims.claim_holds.Tie as tie
 
@@ -14,7 +14,7 @@ place-a-requires : tie.Need-place-a-requires
 place-a-requires c κs = (omega arith, omega arith)
 
 same-form-requires : tie.Need-same-form-requires
-same-form-requires c κs = let s = c .before .before .before .before in let p = s .pre in let r = first-room (s .args .k) (s .args .p .now) (s .args .start) (s .args .lines .now) (s .args .i .0) (p .2) (p .3) in (p .0, omega arith, omega (arith, r, c .before .place .ensures))
+same-form-requires c κs = let p = c .before .before .before .before .pre in (p .0, omega arith, omega (arith, p .3, c .before .place .ensures))
 
 add-same-form : tie.Need-add-same-form
 add-same-form c = omega arith
@@ -26,13 +26,13 @@ add-same-form-2 : tie.Need-add-same-form-2
 add-same-form-2 c = omega arith
 
 same-form-requires-2 : tie.Need-same-form-requires-2
-same-form-requires-2 c κs = let s = c .before .before .before .before .before .before in let p = s .pre in let r = first-room (s .args .k) (s .args .p .now) (s .args .start) (s .args .lines .now) (s .args .i .0) (p .2) (p .3) in (p .0, omega arith, omega (arith, r, c .before .before .place-a .ensures))
+same-form-requires-2 c κs = let p = c .before .before .before .before .before .before .pre in (p .0, omega arith, omega (arith, p .3, c .before .before .place-a .ensures))
 
 returns : tie.Need-returns
-returns c = let s = c .before .before .before .before .before .before .before in claim-second _ _ _ _ _ (s .pre .2) (s .pre .3) (c .before .before .before .before .place .ensures) (c .before .before .before .place-a .ensures) (c .before .before .same-form .ensures) (c .before .if1 .taken) (c .same-form2 .ensures)
+returns c = let s = c .before .before .before .before .before .before .before in claim-second _ _ _ _ _ (s .pre .3) (c .before .before .before .before .place .ensures) (c .before .before .before .place-a .ensures) (c .before .before .same-form .ensures) (c .before .if1 .taken) (c .same-form2 .ensures)
 
 returns-2 : tie.Need-returns-2
-returns-2 c = let s = c .before .before .before .before .before .before in claim-first _ _ _ _ _ (s .pre .2) (s .pre .3) (c .before .before .before .place .ensures) (c .before .same-form .ensures) (c .if1 .left)
+returns-2 c = let s = c .before .before .before .before .before .before in claim-first _ _ _ _ _ (s .pre .3) (c .before .before .before .place .ensures) (c .before .same-form .ensures) (c .if1 .left)
 
 pub claim-holds-spec : {M : Type 1} → statement M
 claim-holds-spec =

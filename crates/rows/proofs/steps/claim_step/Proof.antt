@@ -1,7 +1,8 @@
 -- `rows::steps::claim_step` meets its contract. Assumes nothing.
-use borrow.Author.Needs.{needs}
 use native.Mathlib.Omega.{arith}
+use Prim.Native.Nat.{_-_, _<_}
 use mathlib.Core.Path.{refl}
+use Rattle.lines.specs.Lines.{before}
 use Rattle.rows.proofs.Stepping.{claim-out, claim-wrong, claim-right}
 use Rattle.rows.proofs.steps.claim_step.Statement.{statement}
 use Rattle.rows.proofs.steps.claim_step.Tie as tie
@@ -10,7 +11,11 @@ sub-t10 : tie.Need-sub-t10
 sub-t10 c = omega (arith, c .before .before .before .before .pre .1 (c .before .if1 .taken))
 
 claim-holds-requires : tie.Need-claim-holds-requires
-claim-holds-requires c κs = search needs
+claim-holds-requires c κs =
+    let s = c .before .before .before .before in
+    let q = s .pre .1 (c .before .if1 .taken) in
+    let h : s .args .tally .lines .0 - 1 < s .args .tally .lines .0 = omega arith in
+    (s .pre .0 .0, s .pre .0 .1, omega arith, omega (arith, before (s .args .k) h))
 
 returns : tie.Need-returns
 returns c =

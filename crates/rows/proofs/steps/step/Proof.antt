@@ -140,7 +140,7 @@ claim-step-requires c κs =
     let s = c .before .before .before .before .before .before .before in
     let a = s .args in
     let e = rw (c .before .before .entry7 .given .1) at (c .before .before .before .before .entry-at .ensures) in
-    ((s .pre .0 .branch .constants, omega (arith, e .ranged .0, e .ranged .1, s .pre .1 .0), s .pre .0 .most, s .pre .0 .branch .room), s .pre .1 .1)
+    ((s .pre .0 .branch .constants, omega (arith, e .ranged .0, e .ranged .1, s .pre .1 .0), s .pre .0 .most, omega (arith, s .pre .0 .branch .room)), s .pre .1 .1)
 
 same-length-7 : tie.Need-same-length-7
 same-length-7 c = search needs

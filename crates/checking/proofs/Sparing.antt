@@ -1,0 +1,20 @@
+-- Buffers that have the room asked for: all that a branch may have, or the lines that may come. Assumes nothing.
+use mathlib.Core.List.{List}
+use Prim.Native.Nat.{ℕ, _+_, _*_, _≤_}
+use native.Mathlib.Nat.{mul-le-mul}
+use native.Mathlib.Omega.{arith}
+use lib.IntN.{ℤ}
+use lib.ListN.{length}
+use Rattle.lines.specs.Buffer.{size}
+use Rattle.lines.specs.Lines.{before, place-small}
+use Rattle.branches.specs.Room.{Spare}
+
+pub spare-all : {K c : ℕ} {buf : List ℤ} → K ≤ 16 → 4386 ≤ length buf → Spare K c buf
+spare-all h l = record { room = λ n m k. omega (arith, place-small h m) }
+
+pub spare-most : {K : ℕ} (c : ℕ) {buf : List ℤ} → (c + 1) * size K ≤ length buf → Spare K c buf
+spare-most {K} c h = record { room = λ n m k. omega (arith, before K {i = n} {n = c + 1} (omega arith)) }
+
+-- The numbers of the lines that may come are few enough to count.
+pub numbers-small : (n K : ℕ) → n ≤ 65601 → K ≤ 16 → n * size K ≤ 2230434
+numbers-small n K h k = mul-le-mul {n₂ = 65601} {m₂ = 34} h (omega arith)
