@@ -7,14 +7,14 @@ use native.Mathlib.Numerals.{add-one}
 use native.Mathlib.Omega.{arith}
 use lib.IntN.{ℤ, pos}
 use lib.ListN.{length, getD, take, drop, length-append, length-drop, drop-of-length-le}
-use lib.Seq.{sets, length-sets, drop-cons, drop-drop, length-take-le}
+use lib.Seq.{sets, length-sets, take-add, drop-cons, drop-drop, length-take-le}
 use borrow.Author.Tests.{le-leb, lt-leb}
 use Rattle.forms.specs.Edition.{edition1}
 use Rattle.fields.specs.Fields.{fieldBytes}
 use Rattle.fields.specs.Header.{headerBytes}
 use Rattle.fields.specs.Numbers.{unsignedBytes, signedBytes, signedsBytes}
 use Rattle.fields.proofs.Framing.{length-fieldBytes}
-use Rattle.fields.proofs.Signed.{length-signedBytes}
+use Rattle.fields.proofs.Signed.{length-signedBytes, signedsBytes-append}
 use Rattle.fields.proofs.Stores.{sets-append}
 use Rattle.bundle.specs.Write.{constraintsBytes}
 use Rattle.bundle.specs.Put.{firstBad, fieldSize, Writable}
@@ -38,24 +38,62 @@ length-signeds-bytes w (z ∷ zs) =
     length-append (signedBytes w z) (signedsBytes w zs)
     ∙ omega (arith, length-signedBytes w z, length-signeds-bytes w zs, suc-mul (length zs) w)
 
+put-first : (out : List ℕ) (at : ℕ) (numbers : List ℤ) (from n : ℕ) → from < length numbers
+    → sets (sets out at (signedBytes 2 (getD numbers from (pos 0)))) (at + 2) (signedsBytes 2 (take n (drop (from + 1) numbers)))
+    ≡ sets out at (signedsBytes 2 (take (suc n) (drop from numbers)))
+unfolding signedsBytes
+put-first out at numbers from n h =
+    let x = getD numbers from (pos 0) in
+    rw (add-one from, drop-cons numbers from (pos 0) h)
+    (sym (sets-append (signedBytes 2 x) (signedsBytes 2 (take n (drop (suc from) numbers))) out at ∙ rw (length-signedBytes 2 x)))
+
 pub put-next : (out : List ℕ) (at i n : ℕ) (numbers : List ℤ) (from : ℕ) → i < n → from + n ≤ length numbers
     → sets (sets out (at + i * 2) (signedBytes 2 (getD numbers (from + i) (pos 0)))) (at + (i + 1) * 2) (signedsBytes 2 (take (n - (i + 1)) (drop (from + (i + 1)) numbers)))
     ≡ sets out (at + i * 2) (signedsBytes 2 (take (n - i) (drop (from + i) numbers)))
-unfolding signedsBytes
 put-next out at i n numbers from h l =
-    let x = getD numbers (from + i) (pos 0) in
-    let rest = signedsBytes 2 (take (n - (i + 1)) (drop (suc (from + i)) numbers)) in
     let m : n - i ≡ suc (n - (i + 1)) = omega arith in
-    let f : from + (i + 1) ≡ suc (from + i) = omega arith in
+    let f : from + (i + 1) ≡ from + i + 1 = omega arith in
     let a : at + (i + 1) * 2 ≡ at + i * 2 + 2 = omega arith in
-    let b : from + i < length numbers = omega arith in
-    rw (m, f, a, drop-cons numbers (from + i) (pos 0) b)
-    (sym (sets-append (signedBytes 2 x) rest out (at + i * 2) ∙ rw (length-signedBytes 2 x)))
+    rw (m, f, a) (put-first out (at + i * 2) numbers (from + i) (n - (i + 1)) (omega arith))
+
+-- one, two and three numbers
+module _ (out : List ℕ) {o₁ : List ℕ} (at : ℕ) (numbers : List ℤ) (from : ℕ) (e₁ : o₁ ≡ sets out at (signedBytes 2 (getD numbers from (pos 0)))) where
+  pub rest-one : from + 1 ≤ length numbers → o₁ ≡ sets out at (signedsBytes 2 (take 1 (drop from numbers)))
+  unfolding signedsBytes
+  rest-one h = e₁ ∙ put-first out at numbers from 0 (omega arith)
+
+  more-behind : {o : List ℕ} (n : ℕ) → from + 1 ≤ length numbers → o ≡ sets o₁ (at + 2) (signedsBytes 2 (take n (drop (from + 1) numbers)))
+      → o ≡ sets out at (signedsBytes 2 (take (suc n) (drop from numbers)))
+  more-behind n h e = e ∙ rw e₁ (put-first out at numbers from n (omega arith))
+
+pub rest-two : (out : List ℕ) {o₁ o₂ : List ℕ} (at : ℕ) (numbers : List ℤ) (from : ℕ) → o₁ ≡ sets out at (signedBytes 2 (getD numbers from (pos 0)))
+    → o₂ ≡ sets o₁ (at + 2) (signedBytes 2 (getD numbers (from + 1) (pos 0))) → from + 2 ≤ length numbers
+    → o₂ ≡ sets out at (signedsBytes 2 (take 2 (drop from numbers)))
+rest-two out {o₁} at numbers from e₁ e₂ h =
+    more-behind out at numbers from e₁ 1 (omega arith) (rest-one o₁ (at + 2) numbers (from + 1) e₂ (omega arith))
+
+pub rest-three : (out : List ℕ) {o₁ o₂ o₃ : List ℕ} (at : ℕ) (numbers : List ℤ) (from : ℕ) → o₁ ≡ sets out at (signedBytes 2 (getD numbers from (pos 0)))
+    → o₂ ≡ sets o₁ (at + 2) (signedBytes 2 (getD numbers (from + 1) (pos 0))) → o₃ ≡ sets o₂ (at + 4) (signedBytes 2 (getD numbers (from + 2) (pos 0)))
+    → from + 3 ≤ length numbers → o₃ ≡ sets out at (signedsBytes 2 (take 3 (drop from numbers)))
+rest-three out {o₁} at numbers from e₁ e₂ e₃ h =
+    let a : at + 4 ≡ at + 2 + 2 = omega arith in
+    let f : from + 2 ≡ from + 1 + 1 = omega arith in
+    more-behind out at numbers from e₁ 2 (omega arith) (rest-two o₁ (at + 2) numbers (from + 1) e₂ (rw (a, f) at e₃) (omega arith))
 
 pub numbers-bytes : (numbers : List ℤ) (from n : ℕ) → from + n ≤ length numbers → length (signedsBytes 2 (take n (drop from numbers))) ≡ n * 2
 numbers-bytes numbers from n h =
     let l : length (take n (drop from numbers)) ≡ n = length-take-le n (drop from numbers) (simp length-drop (omega arith)) in
     length-signeds-bytes 2 (take n (drop from numbers)) ∙ rw l
+
+-- m numbers, and r more behind them
+pub put-runs : (out : List ℕ) {o₁ o₂ : List ℕ} (at : ℕ) (numbers : List ℤ) (from m r n : ℕ) → m + r ≡ n → from + n ≤ length numbers
+    → o₁ ≡ sets out at (signedsBytes 2 (take m (drop from numbers)))
+    → o₂ ≡ sets o₁ (at + m * 2) (signedsBytes 2 (take r (drop (from + m) numbers)))
+    → o₂ ≡ sets out at (signedsBytes 2 (take n (drop from numbers)))
+put-runs out at numbers from m r n e h e₁ e₂ =
+    e₂
+    ∙ rw (e₁, ← e, take-add m r (drop from numbers), drop-drop m from numbers, signedsBytes-append 2 (take m (drop from numbers)) (take r (drop (from + m) numbers)))
+    (sym (sets-append (signedsBytes 2 (take m (drop from numbers))) (signedsBytes 2 (take r (drop (from + m) numbers))) out at ∙ rw (numbers-bytes numbers from m (omega arith))))
 
 -- ---- a field
 pub put-field : (out : List ℕ) {out₁ out₂ : List ℕ} (at tag n : ℕ) (contents : List ℕ) → out₁ ≡ sets out at (tag ∷ unsignedBytes 2 n) → out₂ ≡ sets out₁ (at + 3) contents
@@ -65,50 +103,53 @@ put-field out at tag n contents e₁ e₂ l = e₂ ∙ rw (e₁, l) (sym (sets-a
 
 -- ---- all constraints
 -- the invariant: what is left to write gives what the whole gives
-pub record Putting (K : ℕ) (kinds : List ℕ) (numbers : List ℤ) (out₀ : List ℕ) (at : ℕ) (out : List ℕ) (here n : ℕ) : Type 0 where
+pub record Putting (K : ℕ) (kinds : List ℕ) (numbers : List ℤ) (out₀ : List ℕ) (at : ℕ) (out : List ℕ) (here from n : ℕ) : Type 0 where
   pub can : Writable K kinds numbers out₀ at
   pub here-is : here ≡ at + n * fieldSize K
+  pub from-is : from ≡ n * (K + 1)
   pub upto : n ≤ length kinds
   pub is : sets out here (constraintsBytes edition1 K (drop n kinds) (drop (n * (K + 1)) numbers)) ≡ sets out₀ at (constraintsBytes edition1 K kinds numbers)
   pub long : length out ≡ length out₀
 
-pub putting-start : {K : ℕ} {kinds : List ℕ} {numbers : List ℤ} {out : List ℕ} {at : ℕ} → Writable K kinds numbers out at → Putting K kinds numbers out at out at 0
+pub putting-start : {K : ℕ} {kinds : List ℕ} {numbers : List ℤ} {out : List ℕ} {at : ℕ} → Writable K kinds numbers out at → Putting K kinds numbers out at out at 0 0
 putting-start {K} {at} w = record {
   can = w;
   here-is = (let z = zero-mul (fieldSize K) in omega arith);
+  from-is = sym (zero-mul (K + 1));
   upto = omega arith;
   is = rw (zero-mul (K + 1));
   long = refl;
 }
 
-module _ {K : ℕ} {kinds : List ℕ} {numbers : List ℤ} {out₀ : List ℕ} {at : ℕ} {out : List ℕ} {here n : ℕ} (v : Putting K kinds numbers out₀ at out here n) where
+module _ {K : ℕ} {kinds : List ℕ} {numbers : List ℤ} {out₀ : List ℕ} {at : ℕ} {out : List ℕ} {here from n : ℕ} (v : Putting K kinds numbers out₀ at out here from n) where
   pub putting-done : length kinds ≤ n → out ≡ sets out₀ at (constraintsBytes edition1 K kinds numbers)
   unfolding constraintsBytes
   putting-done h = rw (drop-of-length-le kinds h) at (v .is)
 
   module _ (h : n < length kinds) where
-    pub numbers-left : n * (K + 1) + (K + 1) ≤ length numbers
-    numbers-left = omega (arith, mul-le-mul-right {m = suc n} {n = length kinds} (K + 1) h, suc-mul n (K + 1), v .can .size)
+    pub numbers-left : from + (K + 1) ≤ length numbers
+    numbers-left = omega (arith, mul-le-mul-right {m = suc n} {n = length kinds} (K + 1) h, suc-mul n (K + 1), v .can .size, v .from-is)
 
     pub out-left : here + fieldSize K ≤ length out
     out-left = omega (arith, mul-le-mul-right {m = suc n} {n = length kinds} (fieldSize K) h, suc-mul n (fieldSize K), v .can .fits, v .long, v .here-is)
 
     pub putting-next : {out′ : List ℕ}
-        → out′ ≡ sets out here (fieldBytes (3 + getD kinds n 0) (signedsBytes 2 (take (K + 1) (drop (n * (K + 1)) numbers))))
-        → Putting K kinds numbers out₀ at out′ (here + fieldSize K) (n + 1)
+        → out′ ≡ sets out here (fieldBytes (3 + getD kinds n 0) (signedsBytes 2 (take (K + 1) (drop from numbers))))
+        → Putting K kinds numbers out₀ at out′ (here + fieldSize K) (from + (K + 1)) (n + 1)
     unfolding constraintsBytes
     putting-next {out′} w =
-        let f = fieldBytes (3 + getD kinds n 0) (signedsBytes 2 (take (K + 1) (drop (n * (K + 1)) numbers))) in
+        let f = fieldBytes (3 + getD kinds n 0) (signedsBytes 2 (take (K + 1) (drop from numbers))) in
         let rest = constraintsBytes edition1 K (drop (suc n) kinds) (drop (suc n * (K + 1)) numbers) in
         let e : suc K ≡ K + 1 = omega arith in
         let z : n + 1 ≡ suc n = omega arith in
-        let l : length f ≡ fieldSize K = length-fieldBytes _ _ ∙ rw (numbers-bytes numbers (n * (K + 1)) (K + 1) numbers-left) in
+        let l : length f ≡ fieldSize K = length-fieldBytes _ _ ∙ rw (numbers-bytes numbers from (K + 1) numbers-left) in
         let d : drop (K + 1) (drop (n * (K + 1)) numbers) ≡ drop (suc n * (K + 1)) numbers = drop-drop (K + 1) (n * (K + 1)) numbers ∙ rw (suc-mul n (K + 1)) in
         let q : sets out here (constraintsBytes edition1 K (drop n kinds) (drop (n * (K + 1)) numbers)) ≡ sets out′ (here + fieldSize K) rest
-        = rw (drop-cons kinds n 0 h, e, d) (sets-append f rest out here ∙ rw (l, w)) in
+        = rw (drop-cons kinds n 0 h, e, d, ← v .from-is) (sets-append f rest out here ∙ rw (l, w)) in
         record {
           can = v .can;
           here-is = omega (arith, suc-mul n (fieldSize K), v .here-is);
+          from-is = omega (arith, suc-mul n (K + 1), v .from-is);
           upto = omega arith;
           is = rw z (sym q ∙ v .is);
           long = ap length w ∙ length-sets out here f ∙ v .long;

@@ -26,7 +26,7 @@ pub fn first_bad(kinds: &[u8]) -> usize
 }
 
 // n numbers of two bytes each, from index from on.
-fn put_numbers(out: &mut [u8], at: usize, numbers: &[i16], from: usize, n: usize)
+fn put_run(out: &mut [u8], at: usize, numbers: &[i16], from: usize, n: usize)
     requires { ⌜ at + n * 2 ≤ length (now out) ⌝ }
     requires { ⌜ from + n ≤ length (now numbers) ⌝ }
     ensures { λ _. ⌜ now (out .exit) ≡ sets (now (out .entry)) at (signedsBytes 2 (take n (drop from (now (numbers .entry))))) ⌝ }
@@ -37,6 +37,37 @@ fn put_numbers(out: &mut [u8], at: usize, numbers: &[i16], from: usize, n: usize
         put_short(out, at + i * 2, x);
         i += 1;
     }
+}
+
+// At most three of them, each behind a test: a loop costs more.
+fn put_rest(out: &mut [u8], at: usize, numbers: &[i16], from: usize, n: usize)
+    requires { ⌜ (n ≤ 3) × (at + n * 2 ≤ length (now out)) ⌝ }
+    requires { ⌜ from + n ≤ length (now numbers) ⌝ }
+    ensures { λ _. ⌜ now (out .exit) ≡ sets (now (out .entry)) at (signedsBytes 2 (take n (drop from (now (numbers .entry))))) ⌝ }
+{
+    if n == 0 {
+        return;
+    }
+    put_short(out, at, numbers[from]);
+    if n == 1 {
+        return;
+    }
+    put_short(out, at + 2, numbers[from + 1]);
+    if n == 2 {
+        return;
+    }
+    put_short(out, at + 4, numbers[from + 2]);
+}
+
+// The whole fours, which the compiler turns into words of four numbers with nothing left over, and then the rest.
+fn put_numbers(out: &mut [u8], at: usize, numbers: &[i16], from: usize, n: usize)
+    requires { ⌜ at + n * 2 ≤ length (now out) ⌝ }
+    requires { ⌜ from + n ≤ length (now numbers) ⌝ }
+    ensures { λ _. ⌜ now (out .exit) ≡ sets (now (out .entry)) at (signedsBytes 2 (take n (drop from (now (numbers .entry))))) ⌝ }
+{
+    let m = n / 4 * 4;
+    put_run(out, at, numbers, from, m);
+    put_rest(out, at + m * 2, numbers, from + m, n % 4);
 }
 
 // One constraint's field.
@@ -59,11 +90,13 @@ pub fn put_constraints(out: &mut [u8], at: usize, k: u8, kinds: &[u8], numbers: 
     let width = k as usize + 1;
     let size = 3 + width * 2;
     let mut here = at;
+    let mut from: usize = 0;
     let mut n: usize = 0;
     while n < kinds.len() {
         let kind = kinds[n];
-        put_constraint(out, here, k, kind, numbers, n * width);
+        put_constraint(out, here, k, kind, numbers, from);
         here += size;
+        from += width;
         n += 1;
     }
 }

@@ -5,7 +5,7 @@ ghost use mathlib.Core.List.{_∷_};
 ghost use Prim.Native.Nat.{_+_, _^_, _<_, _≤_};
 ghost use lib.ListN.{length, take, drop};
 ghost use lib.Seq.{sets};
-ghost use Rattle.fields.specs.Numbers.{unsigned, signed, complement, residue, unsignedBytes, signedBytes};
+ghost use Rattle.fields.specs.Numbers.{unsigned, complement, residue, unsignedBytes, signedBytes};
 ghost use Rattle.fields.specs.Ranges.{Half, Held};
 
 fn wide(x: u8) -> u64
@@ -48,18 +48,6 @@ pub fn signed_of(n: u64, full: u64) -> i64
     } else {
         n as i64 - full as i64
     }
-}
-
-// The two's complement number of `width` bytes at `at`.
-pub fn signed_at(s: &[u8], at: usize, width: usize) -> i64
-    requires { ⌜ (width ≡ 2) ⊎ (width ≡ 4) ⌝ }
-    requires { ⌜ at + width ≤ length (now s) ⌝ }
-    ensures is { λ r. ⌜ r ≡ signed (take width (drop at (now (s .entry)))) ⌝ }
-    ensures range { λ r. ⌜ Held width r ⌝ }
-{
-    let n = unsigned_at(s, at, width);
-    let full = count_of(width);
-    signed_of(n, full)
 }
 
 // The `width` last bytes of n, from the last one on.

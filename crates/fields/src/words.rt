@@ -35,6 +35,15 @@ pub fn short_at(s: &[u8], at: usize) -> i16
     signed_of(n as u64, 0x1_0000) as i16
 }
 
+// The same number, widened.
+pub fn wide_short_at(s: &[u8], at: usize) -> i64
+    requires { ⌜ at + 2 ≤ length (now s) ⌝ }
+    ensures is { λ r. ⌜ r ≡ signed (take 2 (drop at (now (s .entry)))) ⌝ }
+    ensures range { λ r. ⌜ Held 2 r ⌝ }
+{
+    short_at(s, at) as i64
+}
+
 // Two bytes, the low one first.
 fn put_pair(out: &mut [u8], at: usize, x: u16)
     requires { ⌜ at + 2 ≤ length (now out) ⌝ }
@@ -80,4 +89,13 @@ pub fn long_at(s: &[u8], at: usize) -> i32
 {
     let n = turned_four(four_at(s, at));
     signed_of(n as u64, 0x1_0000_0000) as i32
+}
+
+// The same number, widened.
+pub fn wide_long_at(s: &[u8], at: usize) -> i64
+    requires { ⌜ at + 4 ≤ length (now s) ⌝ }
+    ensures is { λ r. ⌜ r ≡ signed (take 4 (drop at (now (s .entry)))) ⌝ }
+    ensures range { λ r. ⌜ Held 4 r ⌝ }
+{
+    long_at(s, at) as i64
 }

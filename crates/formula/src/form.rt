@@ -1,7 +1,6 @@
 // The value of a form at the register values.
 use crate::values::register;
-use crate::values::wide;
-use fields::words::long_at;
+use fields::words::wide_long_at;
 ghost use mathlib.Core.Path.{_≡_};
 ghost use Prim.Native.Nat.{_+_, _*_, _≤_};
 ghost use lib.ListN.{length, getD, take, drop};
@@ -13,15 +12,6 @@ ghost use Rattle.fields.specs.Numbers.{signed};
 ghost use Rattle.fields.specs.Ranges.{Held};
 ghost use Rattle.formula.specs.FormAt.{formAt, Whole, Summand};
 
-// The number of four bytes at a place.
-pub fn number_at(s: &[u8], at: usize) -> i64
-    requires { ⌜ at + 4 ≤ length (now s) ⌝ }
-    ensures is { λ r. ⌜ r ≡ signed (take 4 (drop at (now (s .entry)))) ⌝ }
-    ensures range { λ r. ⌜ Held 4 r ⌝ }
-{
-    wide(long_at(s, at))
-}
-
 // The coefficient at a place times register i, and the total so far.
 fn with_term(s: &[u8], at: usize, values: &[i32], i: usize, total: i64) -> i64
     requires { ⌜ at + 4 ≤ length (now s) ⌝ }
@@ -29,7 +19,7 @@ fn with_term(s: &[u8], at: usize, values: &[i32], i: usize, total: i64) -> i64
     ensures is { λ r. ⌜ r ≡ signed (take 4 (drop at (now (s .entry)))) *ℤ getD (now (values .entry)) i (pos 0) +ℤ total ⌝ }
     ensures range { λ r. ⌜ Held 4 (signed (take 4 (drop at (now (s .entry))))) ⌝ }
 {
-    let c = number_at(s, at);
+    let c = wide_long_at(s, at);
     let x = register(values, i);
     c * x + total
 }
@@ -40,7 +30,7 @@ pub fn value_at(s: &[u8], at: usize, values: &[i32], k: usize) -> i64
     requires { ⌜ Registers (now values) k ⌝ }
     ensures { λ r. ⌜ r ≡ value (formAt (now (s .entry)) at k) (registers (now (values .entry))) ⌝ }
 {
-    let mut total = number_at(s, at + k * 4);
+    let mut total = wide_long_at(s, at + k * 4);
     let mut i = k;
     while 0 < i {
         i -= 1;

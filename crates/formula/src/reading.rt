@@ -1,10 +1,10 @@
 // Reading a formula and judging it at the register values, in one pass.
-use crate::form::number_at;
 use crate::form::value_at;
 use crate::node::Node;
 use crate::node::node_of;
 use fields::Next;
 use fields::next_field;
+use fields::words::wide_long_at;
 use integers::divides;
 use integers::is_zero;
 ghost use mathlib.Core.Path.{_≡_};
@@ -71,7 +71,7 @@ fn stride_at(s: &[u8], place: usize, start: usize, next: usize, values: &[i32], 
     requires { ⌜ Registers (now values) k ⌝ }
     ensures { λ r. ⌜ r ≡ strideJudged place next (signed (take 4 (drop start (now (s .entry))))) (value (formAt (now (s .entry)) (start + 4) k) (registers (now (values .entry)))) ⌝ }
 {
-    let g = number_at(s, start);
+    let g = wide_long_at(s, start);
     if g < 2 {
         return Judged::Fault {
             number: 12,

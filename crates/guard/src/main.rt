@@ -1,20 +1,13 @@
 // Reads a formula from the file f and register values, four signed bytes each, from the file v of the working directory,
 // and prints `true`, `false` or the line of a refusal.
 ghost use mathlib.Core.Path.{_≡_};
-ghost use Prim.Native.Nat.{_≤_, _+_, _*_};
+ghost use Prim.Native.Nat.{_≤_, _*_};
 ghost use lib.ListN.{length};
 ghost use Rattle.io.specs.Counts.{Counts};
-use fields::numbers::signed_at;
+use fields::words::long_at;
 use forms::CONSTANTS;
 use forms::FORMULA_BYTES;
 use libc::STDOUT_FILENO;
-
-// The number of four bytes at a place.
-fn value_at(v: &[u8], at: usize) -> i32
-    requires { ⌜ at + 4 ≤ length (now v) ⌝ }
-{
-    signed_at(v, at, 4) as i32
-}
 
 // The first count values of v.
 fn load(v: &[u8], count: usize, values: &mut [i32])
@@ -23,7 +16,7 @@ fn load(v: &[u8], count: usize, values: &mut [i32])
 {
     let mut i = 0;
     while i < count {
-        values[i] = value_at(v, i * 4);
+        values[i] = long_at(v, i * 4);
         i += 1;
     }
 }

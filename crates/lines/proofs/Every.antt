@@ -1,23 +1,27 @@
 -- A loop that tests number after number and stops at the first that fails: its invariant, and the laws of a turn. Assumes nothing.
-use mathlib.Core.Path.{_≡_, refl, sym, _∙_, ap, ap₂, fun-ext}
-use mathlib.Core.List.{List, [], _∷_}
+use mathlib.Core.Path.{_≡_, refl, sym, _∙_, ap, ap₂, subst, fun-ext}
+use mathlib.Core.List.{List, [], _∷_, _++_}
 use mathlib.Core.Bool.{Bool, true, false, not, _&&_, _||_}
-use Prim.Native.Nat.{ℕ, suc, _+_, _^_, _<_, _≤_}
-use native.Mathlib.Nat.{add-zero, zero-add}
+use mathlib.Core.Logic.{⊎-elim}
+use Prim.Native.Nat.{ℕ, suc, _+_, _-_, _^_, _<_, _≤_}
+use native.Mathlib.Nat.{add-zero, zero-add, eq-zero-or-pos}
 use native.Mathlib.Numerals.{add-one}
 use native.Mathlib.Omega.{arith}
 use borrow.Author.Tests.{not-true, not-false}
-use lib.ListN.{length, getD, drop, length-drop, drop-of-length-le}
+use lib.ListN.{length, getD, take, drop, length-drop, drop-of-length-le}
 use lib.IntN.{ℤ, pos}
-use lib.Seq.{drop-cons, length-take-le}
+use lib.Seq.{take-suc, take-add, drop-cons, drop-drop, getD-drop, length-take-le}
 use lib.Signed.{mag}
 use mir.Syntax.{w64}
 use mir.Val.{hbits, toZ, ofZ}
 use mir.ValLaws.{toZ-ofZ}
 use Rattle.forms.specs.Forms.{nonzero}
+use Rattle.fields.proofs.Refusals.{both}
 use Rattle.calculus.specs.Rules.{every}
 use Rattle.proof.specs.Rows.{common}
 use Rattle.lines.specs.Parts.{part, getD-part}
+use Rattle.lines.specs.Range.{every-append, every-snoc}
+use Rattle.lines.specs.Occurrence.{told, AllTold}
 
 -- Each number passes the test at its index, the first one's being x.
 unfoldable pub passing : (ℕ → ℤ → Bool) → (x : ℕ) → List ℤ → Bool
@@ -77,3 +81,74 @@ module _ {q : ℕ → ℤ → Bool} {buf : List ℤ} {at k : ℕ} where
     pub passed-all : k ≤ x → true ≡ passing q 0 (part at k buf)
     unfolding passing
     passed-all h = sym (v .same ∙ ap (passing q x) (drop-of-length-le (part at k buf) {i = x} (omega (arith, len))))
+
+-- ---- a loop that tests all of the numbers: its result so far is that of the numbers passed
+module _ (p : ℤ → Bool) (buf : List ℤ) (at x : ℕ) where
+  part-next : at + x < length buf → part at (x + 1) buf ≡ part at x buf ++ (getD buf (at + x) (pos 0) ∷ [])
+  part-next h =
+      ap (λ (n : ℕ). part at n buf) (add-one x)
+      ∙ take-suc (drop at buf) x (pos 0) (simp length-drop (omega arith))
+      ∙ ap (λ (z : ℤ). part at x buf ++ (z ∷ [])) (getD-drop at buf x (pos 0))
+
+  -- b is what the test of number x, at i, gave: the machine has its bits, and they fit.
+  pub tested-next : {i : ℕ} {ok b : Bool} → i ≡ at + x → at + x < length buf → mag (getD buf i (pos 0)) < 2 ^ hbits w64 → ok ≡ every p (part at x buf)
+      → b ≡ p (toZ w64 (ofZ w64 (getD buf i (pos 0)))) → ok && b ≡ every p (part at (x + 1) buf)
+  tested-next {i} e h f o t =
+      ap₂ _&&_ o (t ∙ ap p (toZ-ofZ w64 (getD buf i (pos 0)) (record { sfits = f }) ∙ ap (λ (n : ℕ). getD buf n (pos 0)) e))
+      ∙ sym (ap (every p) (part-next h) ∙ every-snoc p (part at x buf) (getD buf (at + x) (pos 0)))
+
+-- ---- a loop that tests several numbers at a time and stops where they fail
+-- What is left from number x on decides.
+pub record Left (p : ℤ → Bool) (buf : List ℤ) (at k x : ℕ) : Type 0 where
+  pub same : every p (part at k buf) ≡ every p (part (at + x) (k - x) buf)
+  pub upto : x ≤ k
+
+module _ {p : ℤ → Bool} {buf : List ℤ} {at k : ℕ} where
+  pub left-none : Left p buf at k 0
+  left-none =
+      let e : at ≡ at + 0 = omega arith in
+      let f : k ≡ k - 0 = omega arith in
+      record { same = ap₂ (λ (a n : ℕ). every p (part a n buf)) e f; upto = omega arith }
+
+  module _ {x : ℕ} (v : Left p buf at k x) where
+    pub left-rest : {b : Bool} → b ≡ every p (part (at + x) (k - x) buf) → b ≡ every p (part at k buf)
+    left-rest e = e ∙ sym (v .same)
+
+    -- b is what the test of n numbers gave.
+    module _ (n : ℕ) (h : n ≤ k - x) {b : Bool} (e : b ≡ every p (part (at + x) n buf)) where
+      split : every p (part at k buf) ≡ b && every p (part (at + (x + n)) (k - (x + n)) buf)
+      split =
+          let a : at + x + n ≡ at + (x + n) = omega arith in
+          let m : k - x ≡ n + (k - (x + n)) = omega arith in
+          v .same
+          ∙ ap (λ (j : ℕ). every p (part (at + x) j buf)) m
+          ∙ ap (every p) (take-add n (k - (x + n)) (drop (at + x) buf) ∙ ap (λ (l : List ℤ). part (at + x) n buf ++ take (k - (x + n)) l) (drop-drop n (at + x) buf ∙ ap (λ (j : ℕ). drop j buf) a))
+          ∙ every-append p (part (at + x) n buf) (part (at + (x + n)) (k - (x + n)) buf)
+          ∙ ap (λ (c : Bool). c && every p (part (at + (x + n)) (k - (x + n)) buf)) (sym e)
+
+      pub left-next : not b ≡ false → Left p buf at k (x + n)
+      left-next t = record { same = split ∙ ap (λ (c : Bool). c && every p (part (at + (x + n)) (k - (x + n)) buf)) (not-false b t); upto = omega arith }
+
+      pub left-fails : not b ≡ true → false ≡ every p (part at k buf)
+      left-fails t = sym (split ∙ ap (λ (c : Bool). c && every p (part (at + (x + n)) (k - (x + n)) buf)) (not-true b t))
+
+-- ---- coefficients of constants that may all stand
+pub common-all : (q : ℕ → Bool) (l : List ℤ) → ((c : ℕ) → c < length l → q c ≡ true) → common q l ≡ true
+unfolding common
+common-all q [] f = refl
+common-all q (z ∷ l) f = ap₂ (λ (a b : Bool). (a || not (nonzero z)) && b) (f 0 (omega arith)) (common-all (λ c. q (suc c)) l (λ c h. f (suc c) (omega arith)))
+
+pub told-next : (in-a in-b : List ℕ) (x : ℕ) (s r : Bool) → (s ≡ true → AllTold in-a in-b x) → r ≡ told in-a x && told in-b x → s && r ≡ true
+    → AllTold in-a in-b (x + 1)
+told-next in-a in-b x s r f e t = record {
+  tells = λ c h. ⊎-elim
+      (λ (z : x - c ≡ 0). let k : x ≡ c = omega arith in subst (λ (n : ℕ). told in-a n && told in-b n ≡ true) k (sym e ∙ both s r t .1))
+      (λ (z : 0 < x - c). f (both s r t .0) .tells c (omega arith))
+      (eq-zero-or-pos (x - c));
+}
+
+pub told-all : {in-a in-b : List ℕ} (buf : List ℤ) (at k : ℕ) → at + k ≤ length buf → AllTold in-a in-b k
+    → true ≡ common (λ c. told in-a c && told in-b c) (part at k buf)
+told-all {in-a} {in-b} buf at k room t =
+    let len : length (part at k buf) ≡ k = length-take-le k (drop at buf) (simp length-drop (omega arith)) in
+    sym (common-all (λ c. told in-a c && told in-b c) (part at k buf) (λ c h. t .tells c (rw len at h)))

@@ -1,7 +1,7 @@
 -- Which constants occur in the constraints that lines of the buffer hold, and masks that tell it. Assumes nothing.
 use mathlib.Core.Path.{_≡_, refl, sym, _∙_, ap, fun-ext}
 use mathlib.Core.List.{List, [], _∷_, map}
-use mathlib.Core.Bool.{Bool, true, false, _||_}
+use mathlib.Core.Bool.{Bool, true, false, _&&_, _||_}
 use mathlib.Core.Logic.{⊎-elim}
 use mathlib.Core.Option.{some}
 use Prim.Native.Nat.{ℕ, zero, suc, _+_, _-_, _*_, _<_, _≤_}
@@ -39,6 +39,10 @@ bits p (suc n) = bit (p 0) ∷ bits (rest p) n
 
 unfoldable pub told : List ℕ → ℕ → Bool
 told mask c = eqb (getD mask c 0) 1
+
+-- Both masks tell each of the first k constants.
+pub record AllTold (in-a in-b : List ℕ) (k : ℕ) : Type 0 where
+  pub tells : (c : ℕ) → c < k → told in-a c && told in-b c ≡ true
 
 -- The lines from `from` up to `to` stand in the buffer.
 pub record Span (K : ℕ) (buf : List ℤ) (from to : ℕ) : Type 0 where

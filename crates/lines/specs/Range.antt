@@ -18,12 +18,12 @@ use Rattle.lines.specs.Buffer.{size, lineIn, Bounded}
 use Rattle.lines.specs.Lines.{before}
 
 -- ---- every number of a list
-every-append : (p : ℤ → Bool) (l m : List ℤ) → every p (l ++ m) ≡ every p l && every p m
+pub every-append : (p : ℤ → Bool) (l m : List ℤ) → every p (l ++ m) ≡ every p l && every p m
 unfolding every
 every-append p [] m = refl
 every-append p (c ∷ l) m = ap (λ (b : Bool). p c && b) (every-append p l m) ∙ sym (and-assoc (p c) (every p l) (every p m))
 
-every-snoc : (p : ℤ → Bool) (l : List ℤ) (c : ℤ) → every p (l ++ (c ∷ [])) ≡ every p l && p c
+pub every-snoc : (p : ℤ → Bool) (l : List ℤ) (c : ℤ) → every p (l ++ (c ∷ [])) ≡ every p l && p c
 unfolding every
 every-snoc p l c = every-append p l (c ∷ []) ∙ ap (λ (b : Bool). every p l && b) (and-true (p c))
 

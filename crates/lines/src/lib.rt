@@ -1,7 +1,7 @@
 // The lines of a branch in one flat lent buffer: the functions that read and write them.
 use forms::CONSTANTS;
 ghost use mathlib.Core.Path.{_≡_};
-ghost use mathlib.Core.Bool.{not, _&&_, _||_};
+ghost use mathlib.Core.Bool.{true, not, _&&_, _||_};
 ghost use Prim.Native.Nat.{_+_, _*_, _<_, _≤_};
 ghost use lib.Dec.{eqb};
 ghost use lib.ListN.{length, getD};
@@ -17,7 +17,7 @@ ghost use Rattle.fields.specs.Numbers.{flat};
 ghost use Rattle.proof.specs.Rows.{common};
 ghost use Rattle.lines.specs.Parts.{part};
 ghost use Rattle.lines.specs.Buffer.{size, formIn, Terms, LineTerms, LineCopy, mixed, mixedLine, plusOne, copiedLine, strengthenedT, strengthenedBoth, startedLine};
-ghost use Rattle.lines.specs.Occurrence.{Span, occursIn, bit, bits, told};
+ghost use Rattle.lines.specs.Occurrence.{Span, occursIn, bit, bits, told, AllTold};
 
 // Where the numbers of line i's t start, with k constants.
 pub fn place(i: usize, k: usize) -> usize
@@ -114,8 +114,8 @@ pub fn start_line(lines: &mut [i64], i: usize, n: usize, k: usize, t: bool, ta: 
     copy_line(lines, i, n, k);
 }
 
-// Whether all of the numbers at a place are within the range.
-pub fn fits(lines: &[i64], at: usize, count: usize) -> bool
+// Whether all of the numbers at a place are within the range, one after the other.
+fn each_fits(lines: &[i64], at: usize, count: usize) -> bool
     requires { ⌜ at + count ≤ length (now lines) ⌝ }
     ensures { λ r. ⌜ r ≡ every (small 2147483647) (part at count (now (lines .entry))) ⌝ }
 {
@@ -129,19 +129,45 @@ pub fn fits(lines: &[i64], at: usize, count: usize) -> bool
     true
 }
 
-// Whether the k coefficients at a place are all 0.
+// The same for four numbers.
+fn four_fit(lines: &[i64], at: usize) -> bool
+    requires { ⌜ at + 4 ≤ length (now lines) ⌝ }
+    ensures { λ r. ⌜ r ≡ every (small 2147483647) (part at 4 (now (lines .entry))) ⌝ }
+{
+    let first = integers::in_range(lines[at]);
+    let second = integers::in_range(lines[at + 1]);
+    let third = integers::in_range(lines[at + 2]);
+    let fourth = integers::in_range(lines[at + 3]);
+    first & second & third & fourth
+}
+
+// Whether all of the numbers at a place are within the range. Four at a time take half as long as one by one.
+pub fn fits(lines: &[i64], at: usize, count: usize) -> bool
+    requires { ⌜ at + count ≤ length (now lines) ⌝ }
+    ensures { λ r. ⌜ r ≡ every (small 2147483647) (part at count (now (lines .entry))) ⌝ }
+{
+    let mut x = 0;
+    while 4 <= count - x {
+        if !four_fit(lines, at + x) {
+            return false;
+        }
+        x += 4;
+    }
+    each_fits(lines, at + x, count - x)
+}
+
+// Whether the k coefficients at a place are all 0. All of them are tested, so that the compiler can test several at once.
 pub fn all_zero(lines: &[i64], at: usize, k: usize) -> bool
     requires { ⌜ at + k ≤ length (now lines) ⌝ }
     ensures { λ r. ⌜ r ≡ every (λ c. eqZ c (pos 0)) (part at k (now (lines .entry))) ⌝ }
 {
+    let mut zero = true;
     let mut x = 0;
     while x < k {
-        if !integers::is_zero(lines[at + x]) {
-            return false;
-        }
+        zero = zero & integers::is_zero(lines[at + x]);
         x += 1;
     }
-    true
+    zero
 }
 
 // Whether g divides each of the k coefficients at a place.
@@ -221,13 +247,41 @@ fn is_shared(x: i64, a: u8, b: u8) -> bool
     true
 }
 
+// Whether a constant occurs in both bundles, as the masks' bytes tell.
+fn is_in_both(a: u8, b: u8) -> bool
+    ensures { λ r. ⌜ r ≡ eqb a 1 && eqb b 1 ⌝ }
+{
+    (a == 1) & (b == 1)
+}
+
+// Whether the first k constants all do. All of them are tested, so that the compiler can test several at once.
+fn all_shared(k: usize, in_a: &[u8], in_b: &[u8]) -> bool
+    requires { ⌜ k ≤ length (now in_a) ⌝ }
+    requires { ⌜ k ≤ length (now in_b) ⌝ }
+    ensures { λ r. ⌜ (r ≡ true → AllTold (now (in_a .entry)) (now (in_b .entry)) k) ⌝ }
+{
+    let mut shared = true;
+    let mut x = 0;
+    while x < k {
+        let a = in_a[x];
+        let b = in_b[x];
+        shared = shared & is_in_both(a, b);
+        x += 1;
+    }
+    shared
+}
+
 // Whether only constants that occur in both bundles have a non-zero coefficient in the form at a place.
+// In most proofs all constants do, and then no coefficient is read.
 pub fn shared_only(lines: &[i64], at: usize, k: usize, in_a: &[u8], in_b: &[u8]) -> bool
     requires { ⌜ at + k ≤ length (now lines) ⌝ }
     requires { ⌜ k ≤ length (now in_a) ⌝ }
     requires { ⌜ k ≤ length (now in_b) ⌝ }
     ensures { λ r. ⌜ r ≡ common (λ c. told (now (in_a .entry)) c && told (now (in_b .entry)) c) (formIn k (now (lines .entry)) at .coeffs) ⌝ }
 {
+    if all_shared(k, in_a, in_b) {
+        return true;
+    }
     let mut x = 0;
     while x < k {
         let a = in_a[x];

@@ -15,7 +15,7 @@ fn same_form(p: &[u8], start: usize, lines: &[i64], at: usize, k: usize) -> bool
 {
     let mut x = 0;
     while x <= k {
-        let n = fields::numbers::signed_at(p, start + 4 * x, 4);
+        let n = fields::words::wide_long_at(p, start + 4 * x);
         if !integers::same(n, lines[at + x]) {
             return false;
         }

@@ -82,7 +82,7 @@ fn reduce_at(p: &[u8], start: usize, len: usize) -> Entry
     if len == 4 {
         let s = line_at(p, start);
         let t = line_at(p, start + 1);
-        let alpha = fields::numbers::signed_at(p, start + 2, 2);
+        let alpha = fields::words::wide_short_at(p, start + 2);
         return Entry::Reduce { s, t, alpha };
     }
     Entry::Refused { number: 6 }

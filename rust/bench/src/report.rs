@@ -29,12 +29,10 @@ const REASONS: &str = "
 
 - Checking a short proof. Working memory is cleared before it is used, and the lines' buffer has room for 128 lines \
 whatever the proof: with 16 constants that is 34,816 bytes, a third of the time of a check of 8 rows.
-- Checking claims. The sign of a number is told from its first byte, so that its four bytes are loaded one by one.
 - Checking a long proof. Most of the rest is the sum of two lines, in numbers of 64 bits, whose products take many \
 instructions on plain x86-64.
-- Writing a large bundle. The numbers take as long as Rust's since they are written as words: a load, two shifts, an \
-or and a store for eight of them. What is left is the work between them: the loop over a constraint's numbers is \
-compiled into the loop over the constraints, and about ten values of the two lie on the stack.
+- Writing a large bundle. The numbers take as long as Rust's, or less. The loop over a constraint's numbers is compiled \
+into the loop over the constraints, and some values of the two lie on the stack.
 - Testing a formula whose and/ors lie more than 16 deep, as they do here. A balanced formula of any size takes as long \
 as with Rust, and so does a chain of 16 levels; each level beyond takes about 17 ns more, since it is a call, where the \
 Rust checker keeps a stack of its own.

@@ -16,11 +16,11 @@ abbrev μ-loop : tie.MeasureT-loop
 loop-holds : tie.Need-loop-holds Inv-loop μ-loop
 loop-holds c = search needs
 
-mul-value-at : tie.Need-mul-value-at Inv-loop μ-loop
-mul-value-at c = search needs
+mul-long-at : tie.Need-mul-long-at Inv-loop μ-loop
+mul-long-at c = search needs
 
-value-at-requires : tie.Need-value-at-requires Inv-loop μ-loop
-value-at-requires c κs = search needs
+long-at-requires : tie.Need-long-at-requires Inv-loop μ-loop
+long-at-requires c κs = search needs
 
 mul-t8 : tie.Need-mul-t8 Inv-loop μ-loop
 mul-t8 c = search needs
@@ -50,8 +50,8 @@ load-spec =
     Inv-loop
     μ-loop
     loop-holds
-    mul-value-at
-    value-at-requires
+    mul-long-at
+    long-at-requires
     mul-t8
     slice-set-from-values
     add-i

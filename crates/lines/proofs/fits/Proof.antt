@@ -1,55 +1,53 @@
--- `lines::fits` meets its contract: after x turns the first x numbers pass. Assumes nothing.
+-- `lines::fits` meets its contract: what is left after x numbers decides. Assumes nothing.
 use Prim.Native.Nat.{_-_}
 use native.Mathlib.Omega.{arith}
-use mathlib.Core.Path.{_∙_}
+use borrow.Author.Needs.{needs}
 use Rattle.calculus.specs.Rules.{small}
-use Rattle.lines.proofs.Every.{Passed, passed-none, passed-next, passed-fails, passed-all, every-passing}
+use Rattle.lines.proofs.Every.{Left, left-none, left-next, left-fails, left-rest}
 use Rattle.lines.proofs.fits.Statement.{statement}
 use Rattle.lines.proofs.fits.Tie as tie
 
 abbrev Inv-loop : tie.InvT-loop
-Inv-loop lines at count x₀ x = Passed (λ _. small 2147483647) lines at count x
+Inv-loop lines at count x₀ x = Left (small 2147483647) lines at count x
 
 abbrev μ-loop : tie.MeasureT-loop
 μ-loop lines at count x₀ x = count - x
 
 loop-holds : tie.Need-loop-holds Inv-loop μ-loop
-loop-holds c = passed-none
+loop-holds c = left-none
 
-add-in-range : tie.Need-add-in-range Inv-loop μ-loop
-add-in-range c = omega arith
+sub-loop : tie.Need-sub-loop Inv-loop μ-loop
+sub-loop c = search needs
 
-mul-in-range : tie.Need-mul-in-range Inv-loop μ-loop
-mul-in-range c = omega arith
+add-four-fit : tie.Need-add-four-fit Inv-loop μ-loop
+add-four-fit c = search needs
 
-shared-slice-copy-out-in-range : tie.Need-shared-slice-copy-out-in-range Inv-loop μ-loop
-shared-slice-copy-out-in-range c = omega arith
-
-in-range-requires : tie.Need-in-range-requires Inv-loop μ-loop
-in-range-requires c κs = tt
+four-fit-requires : tie.Need-four-fit-requires Inv-loop μ-loop
+four-fit-requires c κs = search needs
 
 returns : tie.Need-returns Inv-loop μ-loop
-unfolding small
-returns c =
-    let s = c .before .before .before .before .before in
-    passed-fails (s .pre) (c .before .before .before .before .loop .inv) (c .before .before .before .loop-test .taken) (c .before .before .in-range-arg .given) (c .before .in-range .ensures) (c .if1 .taken) ∙ every-passing (small 2147483647) 0 _
+returns c = left-fails (c .before .before .before .loop .inv) 4 (c .before .before .loop-test .taken) (c .before .four-fit .ensures) (c .if1 .taken)
 
 add-x : tie.Need-add-x Inv-loop μ-loop
-add-x c = omega arith
+add-x c = search needs
 
 loop-less : tie.Need-loop-less Inv-loop μ-loop
-loop-less c = omega arith
+loop-less c = search needs
 
 loop-again : tie.Need-loop-again Inv-loop μ-loop
-unfolding small
-loop-again c =
-    let s = c .before .before .before .before .before in
-    passed-next (s .pre) (c .before .before .before .before .loop .inv) (c .before .before .before .loop-test .taken) (c .before .before .in-range-arg .given) (c .before .in-range .ensures) (c .if1 .left)
+loop-again c = left-next (c .before .before .before .loop .inv) 4 (c .before .before .loop-test .taken) (c .before .four-fit .ensures) (c .if1 .left)
+
+add-each-fits : tie.Need-add-each-fits Inv-loop μ-loop
+add-each-fits c = search needs
+
+sub-each-fits : tie.Need-sub-each-fits Inv-loop μ-loop
+sub-each-fits c = search needs
+
+each-fits-requires : tie.Need-each-fits-requires Inv-loop μ-loop
+each-fits-requires c κs = search needs
 
 returns-2 : tie.Need-returns-2 Inv-loop μ-loop
-returns-2 c =
-    let s = c .before .before in
-    passed-all (s .pre) (c .before .loop .inv) (omega arith) ∙ every-passing (small 2147483647) 0 _
+returns-2 c = left-rest (c .before .before .loop .inv) (c .each-fits .ensures)
 
 pub fits-spec : {M : Type 1} → statement M
 fits-spec =
@@ -58,12 +56,14 @@ fits-spec =
     Inv-loop
     μ-loop
     loop-holds
-    add-in-range
-    mul-in-range
-    shared-slice-copy-out-in-range
-    in-range-requires
+    sub-loop
+    add-four-fit
+    four-fit-requires
     returns
     add-x
     loop-less
     loop-again
+    add-each-fits
+    sub-each-fits
+    each-fits-requires
     returns-2)

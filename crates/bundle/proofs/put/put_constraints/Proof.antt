@@ -8,10 +8,10 @@ use Rattle.bundle.proofs.put.put_constraints.Statement.{statement}
 use Rattle.bundle.proofs.put.put_constraints.Tie as tie
 
 abbrev Inv-loop : tie.InvT-loop
-Inv-loop out₀ at k kinds numbers width size here₀ n₀ out here n = Putting k kinds numbers out₀ at out here n
+Inv-loop out₀ at k kinds numbers width size here₀ from₀ n₀ out here from n = Putting k kinds numbers out₀ at out here from n
 
 abbrev μ-loop : tie.MeasureT-loop
-μ-loop out₀ at k kinds numbers width size here₀ n₀ out here n = length kinds - n
+μ-loop out₀ at k kinds numbers width size here₀ from₀ n₀ out here from n = length kinds - n
 
 add-width : tie.Need-add-width Inv-loop μ-loop
 add-width c = search needs
@@ -28,14 +28,14 @@ loop-holds c = putting-start (c .before .before .pre)
 shared-slice-read-kind : tie.Need-shared-slice-read-kind Inv-loop μ-loop
 shared-slice-read-kind c = c .before .loop-test .taken
 
-mul-put-constraint : tie.Need-mul-put-constraint Inv-loop μ-loop
-mul-put-constraint c = omega (arith, numbers-left (c .before .before .before .loop .inv) (c .before .before .loop-test .taken))
-
 put-constraint-requires : tie.Need-put-constraint-requires Inv-loop μ-loop
 put-constraint-requires c κs = (c .before .before .before .loop .inv .can .kinds-are _ (c .before .before .loop-test .taken), (out-left (c .before .before .before .loop .inv) (c .before .before .loop-test .taken), numbers-left (c .before .before .before .loop .inv) (c .before .before .loop-test .taken)))
 
 add-here : tie.Need-add-here Inv-loop μ-loop
 add-here c = omega (arith, out-left (c .before .before .before .before .before .before .loop .inv) (c .before .before .before .before .before .loop-test .taken), c .before .before .before .before .before .before .loop .inv .long)
+
+add-from : tie.Need-add-from Inv-loop μ-loop
+add-from c = omega (arith, numbers-left (c .before .before .before .before .before .before .loop .inv) (c .before .before .before .before .before .loop-test .taken))
 
 add-n : tie.Need-add-n Inv-loop μ-loop
 add-n c = search needs
@@ -63,9 +63,9 @@ put-constraints-spec =
     add-size
     loop-holds
     shared-slice-read-kind
-    mul-put-constraint
     put-constraint-requires
     add-here
+    add-from
     add-n
     loop-less
     loop-again

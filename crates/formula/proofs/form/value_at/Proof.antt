@@ -16,17 +16,17 @@ Inv-loop s at values k total₀ i₀ total i = Summed s at values k i (toZ w64 t
 abbrev μ-loop : tie.MeasureT-loop
 μ-loop s at values k total₀ i₀ total i = i
 
-mul-number-at : tie.Need-mul-number-at Inv-loop μ-loop
-mul-number-at c = omega arith
+mul-wide-long-at : tie.Need-mul-wide-long-at Inv-loop μ-loop
+mul-wide-long-at c = omega arith
 
-add-number-at : tie.Need-add-number-at Inv-loop μ-loop
-add-number-at c = omega arith
+add-wide-long-at : tie.Need-add-wide-long-at Inv-loop μ-loop
+add-wide-long-at c = omega arith
 
-number-at-requires : tie.Need-number-at-requires Inv-loop μ-loop
-number-at-requires c κs = omega arith
+wide-long-at-requires : tie.Need-wide-long-at-requires Inv-loop μ-loop
+wide-long-at-requires c κs = omega arith
 
 loop-holds : tie.Need-loop-holds Inv-loop μ-loop
-loop-holds c = rw (toZ-ofZ w64 (c .number-at .result) (record { sfits = c .number-at .ok })) (summed-none _ _ _ _ (c .number-at .ensures .0) (c .number-at .ensures .1))
+loop-holds c = rw (toZ-ofZ w64 (c .wide-long-at .result) (record { sfits = c .wide-long-at .ok })) (summed-none _ _ _ _ (c .wide-long-at .ensures .0) (c .wide-long-at .ensures .1))
 
 sub-i : tie.Need-sub-i Inv-loop μ-loop
 sub-i c = c .loop-test .taken
@@ -62,9 +62,9 @@ value-at-spec =
     (tie.spec
     Inv-loop
     μ-loop
-    mul-number-at
-    add-number-at
-    number-at-requires
+    mul-wide-long-at
+    add-wide-long-at
+    wide-long-at-requires
     loop-holds
     sub-i
     mul-with-term

@@ -9,8 +9,8 @@ use Rattle.formula.proofs.Value.{product-fits, sum-fits}
 use Rattle.formula.proofs.form.with_term.Statement.{statement}
 use Rattle.formula.proofs.form.with_term.Tie as tie
 
-number-at-requires : tie.Need-number-at-requires
-number-at-requires c κs = c .before .pre .0
+wide-long-at-requires : tie.Need-wide-long-at-requires
+wide-long-at-requires c κs = c .before .pre .0
 
 register-requires : tie.Need-register-requires
 register-requires c κs = c .before .before .pre .1 .register
@@ -19,15 +19,15 @@ module _ (c : tie.After-register) where
   value-in : Within 1_000_000 (c .register .result)
   value-in = rw (c .register .ensures) (c .before .before .before .pre .1 .all .at (c .before .before .before .args .i))
 
-  product-in : SFits w64 (c .before .number-at .result *ℤ c .register .result)
-  product-in = product-fits (c .before .number-at .ensures .1) value-in
+  product-in : SFits w64 (c .before .wide-long-at .result *ℤ c .register .result)
+  product-in = product-fits (c .before .wide-long-at .ensures .1) value-in
 
-  sum-in : SFits w64 (c .before .number-at .result *ℤ c .register .result +ℤ c .before .before .before .args .total)
-  sum-in = sum-fits (c .before .number-at .ensures .1) value-in (c .before .before .before .pre .1 .small)
+  sum-in : SFits w64 (c .before .wide-long-at .result *ℤ c .register .result +ℤ c .before .before .before .args .total)
+  sum-in = sum-fits (c .before .wide-long-at .ensures .1) value-in (c .before .before .before .pre .1 .small)
 
   -- the factors, the product and the total as the machine reads them back
-  coefficient-is : toZ w64 (ofZ w64 (c .before .number-at .result)) ≡ c .before .number-at .result
-  coefficient-is = toZ-ofZ w64 (c .before .number-at .result) (record { sfits = c .before .number-at .ok })
+  coefficient-is : toZ w64 (ofZ w64 (c .before .wide-long-at .result)) ≡ c .before .wide-long-at .result
+  coefficient-is = toZ-ofZ w64 (c .before .wide-long-at .result) (record { sfits = c .before .wide-long-at .ok })
 
   value-is : toZ w64 (ofZ w64 (c .register .result)) ≡ c .register .result
   value-is = toZ-ofZ w64 (c .register .result) (record { sfits = c .register .ok })
@@ -43,9 +43,9 @@ add-result c = rw (coefficient-is c, value-is c, toZ-ofZ w64 _ (product-in c), t
 
 returns : tie.Need-returns
 returns c = (
-  rw (coefficient-is c, value-is c, toZ-ofZ w64 _ (product-in c), total-is c, toZ-ofZ w64 _ (sum-in c), c .before .number-at .ensures .0, c .register .ensures),
-  rw (c .before .number-at .ensures .0) at (c .before .number-at .ensures .1),
+  rw (coefficient-is c, value-is c, toZ-ofZ w64 _ (product-in c), total-is c, toZ-ofZ w64 _ (sum-in c), c .before .wide-long-at .ensures .0, c .register .ensures),
+  rw (c .before .wide-long-at .ensures .0) at (c .before .wide-long-at .ensures .1),
 )
 
 pub with-term-spec : {M : Type 1} → statement M
-with-term-spec = tie.close (tie.spec number-at-requires register-requires mul-result add-result returns)
+with-term-spec = tie.close (tie.spec wide-long-at-requires register-requires mul-result add-result returns)

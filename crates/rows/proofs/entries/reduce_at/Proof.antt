@@ -4,7 +4,6 @@ use mir.ValLaws.{toZ-ofZ}
 use Rattle.rows.proofs.Reading.{reduce-is, wrong-size}
 use mathlib.Core.Path.{refl}
 use Rattle.proof.specs.Entries.{sizeOf}
-use mathlib.Core.Logic.{inl}
 use borrow.Author.Needs.{needs}
 use Rattle.rows.proofs.entries.reduce_at.Statement.{statement}
 use Rattle.rows.proofs.entries.reduce_at.Tie as tie
@@ -18,14 +17,14 @@ add-line-at c = search needs
 line-at-requires-2 : tie.Need-line-at-requires-2
 line-at-requires-2 c κs = search needs
 
-add-signed-at : tie.Need-add-signed-at
-add-signed-at c = search needs
+add-wide-short-at : tie.Need-add-wide-short-at
+add-wide-short-at c = search needs
 
-signed-at-requires : tie.Need-signed-at-requires
-signed-at-requires c κs = (inl refl, search needs)
+wide-short-at-requires : tie.Need-wide-short-at-requires
+wide-short-at-requires c κs = search needs
 
 returns : tie.Need-returns
-returns c = rw (toZ-ofZ w64 (c .signed-at .result) (record { sfits = c .signed-at .ok })) (reduce-is _ _ _ (c .before .before .before .before .before .pre) (c .before .before .before .if1 .taken) (c .before .before .line-at .ensures) (c .before .line-at2 .ensures) (c .signed-at .ensures .0) (c .signed-at .ensures .1))
+returns c = rw (toZ-ofZ w64 (c .wide-short-at .result) (record { sfits = c .wide-short-at .ok })) (reduce-is _ _ _ (c .before .before .before .before .before .pre) (c .before .before .before .if1 .taken) (c .before .before .line-at .ensures) (c .before .line-at2 .ensures) (c .wide-short-at .ensures .0) (c .wide-short-at .ensures .1))
 
 returns-2 : tie.Need-returns-2
 unfolding sizeOf
@@ -38,7 +37,7 @@ reduce-at-spec =
     line-at-requires
     add-line-at
     line-at-requires-2
-    add-signed-at
-    signed-at-requires
+    add-wide-short-at
+    wide-short-at-requires
     returns
     returns-2)
