@@ -1,6 +1,6 @@
 -- The rows that close a branch and the row that splits it, one way after the other. Assumes nothing.
 use mathlib.Core.Path.{_≡_, refl, sym, ap, subst, _∙_}
-use mathlib.Core.Bool.{Bool, true, false}
+use mathlib.Core.Bool.{Bool, true, false, _&&_}
 use mathlib.Core.Logic.{⊎-elim}
 use mathlib.Core.List.{List}
 use Prim.Native.Nat.{ℕ, suc, _+_, _*_, _-_, _≤_, _<_}
@@ -12,16 +12,16 @@ use lib.ListN.{length, getD, set, length-set}
 use lib.IntN.{ℤ}
 use borrow.Author.Tests.{lt-ltb, le-ltb, ltb-true, ltb-false}
 use Rattle.forms.specs.Edition.{edition1}
-use Rattle.forms.specs.Forms.{≤0, Line, literal, _divides_, within, _and_, _or_}
-use Rattle.calculus.specs.Rules.{_▷_, small, every, inRange}
+use Rattle.forms.specs.Forms.{≤0, Line, literal, _divides_, within, _and_, _or_, _plus_}
+use Rattle.calculus.specs.Rules.{_▷_, small, inRange}
 use Rattle.fields.specs.Answers.{Result, refused, accepted, _>>=_, _>>_, need, found}
 use Rattle.fields.specs.Fields.{Fields}
-use Rattle.lines.specs.Parts.{part, agree-set, agree-sym}
+use Rattle.lines.specs.Parts.{agree-set, agree-sym}
 use Rattle.lines.specs.Buffer.{size, formIn, kindOf, lineIn, linesIn, LineCopy, strengthenedBoth}
 use Rattle.lines.specs.Lines.{line-at, line-past, line-ext, before, length-lines, bounded-same}
-use Rattle.lines.specs.Range.{fits-line, bounded-more}
+use Rattle.lines.specs.Range.{bounded-more, bounded-line}
 use Rattle.lines.specs.Branch.{kind-stored, inequality-byte}
-use Rattle.lines.specs.Strengthen.{length-both, both-keeps, both-line}
+use Rattle.lines.specs.Strengthen.{length-both, both-keeps, both-line, first-range}
 use Rattle.lines.specs.Next.{first-branch}
 use Rattle.lines.specs.Occurrence.{told}
 use Rattle.proof.specs.Rows.{is, lineAt, inequality, fitting, byNumber, byStride}
@@ -214,9 +214,20 @@ module _ {K : ℕ} {kinds : List ℕ} {buf : List ℤ} (t : Tally) (i : ℕ) (re
           pub split-end : t .lines .0 * size K + size K ≤ length buf′
           split-end = omega (arith, split-kept .lines-length, ready .branch .room)
 
-          module _ {b : Bool} {x : ℕ} (placed : x ≡ t .lines .0 * size K) (fits : b ≡ every (small 2147483647) (part x (size K) buf′)) where
+          module _ {b : Bool} (fits : b ≡ small 2147483647 (formIn K buf′ (t .lines .0 * size K) .d) && small 2147483647 (formIn K buf′ (t .lines .0 * size K + (K + 1)) .d)) where
+            terms : b ≡ small 2147483647 (lineIn K kinds′ buf′ (t .lines .0) .t .d) && small 2147483647 (lineIn K kinds′ buf′ (t .lines .0) .tA .d)
+            unfolding lineIn
+            terms = fits
+
+            old : T (inRange 2147483647 (lineIn K kinds buf i))
+            old = bounded-line K buf i (omega (arith, before K hi, ready .branch .room)) kinds (ready .branch .bounded) hi
+
             range : inRange 2147483647 (lineIn K kinds′ buf′ (t .lines .0)) ≡ b
-            range = fits-line 2147483647 K kinds′ buf′ (t .lines .0) split-end ∙ sym (rw placed at fits)
+            unfolding _plus_
+            range =
+                ap (inRange 2147483647) last
+                ∙ first-range 2147483647 (lineIn K kinds buf i .kind) ≤0 (lineIn K kinds buf i .t) (lineIn K kinds buf i .tA) old
+                ∙ sym (terms ∙ ap (λ (l : Line). small 2147483647 (l .t .d) && small 2147483647 (l .tA .d)) last)
 
             pub split-range : b ≡ false → Splits K kinds buf t i kinds′ buf′ (Refused 13)
             unfolding fitting _>>_ need

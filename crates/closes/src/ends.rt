@@ -134,7 +134,7 @@ pub fn split(lines: &mut [i64], kinds: &mut [u8], tally: Tally, i: Line, k: usiz
     let n = count.0 as usize;
     lines::start_line(lines, i.0 as usize, n, k, true, true);
     kinds[n] = 0;
-    if lines::fits(lines, lines::place(n, k), 2 * (k + 1)) {
+    if lines::raised_fit(lines, n, k) {
         return Derived::Made { tally: next };
     }
     Derived::Refused { number: 13 }

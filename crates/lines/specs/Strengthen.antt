@@ -1,7 +1,7 @@
 -- The lines that the three branches of a strengthen start with: the laws of `copiedLine`, `strengthenedT` and `strengthenedBoth`. Assumes nothing.
 use mathlib.Core.Path.{_≡_, refl, _∙_, ap}
 use mathlib.Core.List.{List, []}
-use mathlib.Core.Bool.{Bool, _&&_}
+use mathlib.Core.Bool.{Bool, true, false, _&&_, and-true}
 use Prim.Native.Nat.{ℕ, _+_, _*_, _<_}
 use native.Mathlib.Omega.{arith}
 use lib.Dec.{T}
@@ -86,3 +86,18 @@ third-range r k k′ k″ t tA h l =
     let old = all (t .coeffs) && small r (t .d) && all (tA .coeffs) in
     let up = all (t .coeffs) && small r (t .d +ℤ pos 1) && all (tA .coeffs) in
     and-both up (small r (tA .d)) (and-left up (small r (tA .d +ℤ pos 1)) l) (and-right old (small r (tA .d)) h)
+
+-- The line of the first branch is in range if the two constant terms that it raises are.
+pub first-range : (r : ℕ) (k k′ : Kind) (t tA : Form) → T (inRange r (line k t tA)) → inRange r (line k′ (t plus 1) (tA plus 1)) ≡ small r (t .d +ℤ pos 1) && small r (tA .d +ℤ pos 1)
+unfolding inRange _plus_
+first-range r k k′ t tA h =
+    let all : List ℤ → Bool = every (small r) in
+    let one = all (t .coeffs) && small r (t .d) in
+    let both = and-left (one && all (tA .coeffs)) (small r (tA .d)) h in
+    let e : all (t .coeffs) ≡ true = holds (all (t .coeffs)) (and-left (all (t .coeffs)) (small r (t .d)) (and-left one (all (tA .coeffs)) both)) in
+    let f : all (tA .coeffs) ≡ true = holds (all (tA .coeffs)) (and-right one (all (tA .coeffs)) both) in
+    rw (e, f) (ap (λ (b : Bool). b && small r (tA .d +ℤ pos 1)) (and-true (small r (t .d +ℤ pos 1))))
+  where
+    holds : (b : Bool) → T b → b ≡ true
+    holds true h = refl
+    holds false h = absurd h

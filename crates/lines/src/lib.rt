@@ -114,6 +114,18 @@ pub fn start_line(lines: &mut [i64], i: usize, n: usize, k: usize, t: bool, ta: 
     copy_line(lines, i, n, k);
 }
 
+// Whether the two numbers of line n that a strengthen raises are within the range.
+pub fn raised_fit(lines: &[i64], n: usize, k: usize) -> bool
+    requires { ⌜ (n ≤ 128) × (k ≤ 16) × (n * size k + size k ≤ length (now lines)) ⌝ }
+    ensures { λ r. ⌜ r ≡ small 2147483647 (formIn k (now (lines .entry)) (n * size k) .d) && small 2147483647 (formIn k (now (lines .entry)) (n * size k + (k + 1)) .d) ⌝ }
+{
+    let at = place(n, k);
+    let at_a = place_a(n, k);
+    let t = integers::in_range(lines[at + k]);
+    let ta = integers::in_range(lines[at_a + k]);
+    t & ta
+}
+
 // Whether all of the numbers at a place are within the range, one after the other.
 fn each_fits(lines: &[i64], at: usize, count: usize) -> bool
     requires { ⌜ at + count ≤ length (now lines) ⌝ }
