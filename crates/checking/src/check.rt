@@ -6,19 +6,17 @@ use bundle::Line;
 use bundle::scan;
 use fields::Answer;
 use fields::FileKind;
-use fields::Next;
 use fields::ending::Ending;
 use fields::ending::ending_at;
 use fields::header::Headed;
 use fields::header::put_header;
 use fields::header::read_header;
-use fields::next_field;
 use forms::BUNDLE_BYTES;
 use forms::PROOF_BYTES;
 use rows::tally::Row;
 use rows::tally::Tally;
 ghost use mathlib.Core.Path.{_≡_};
-ghost use Prim.Native.Nat.{_+_, _*_, _≤_, min};
+ghost use Prim.Native.Nat.{_+_, _*_, _≤_};
 ghost use lib.ListN.{length, take};
 ghost use lib.Seq.{paste};
 ghost use Rattle.fields.specs.Answers.{answer};
@@ -243,8 +241,8 @@ fn check_32(
     check_within(a, b, proof, at, k, m, n, &mut lines, &mut scratch, out)
 }
 
-// 2,278 numbers: 67 lines of 16 constants.
-fn check_64(
+// 2,380 numbers: 70 lines of 16 constants.
+fn check_70(
     a: &[u8],
     b: &[u8],
     proof: &[u8],
@@ -255,17 +253,17 @@ fn check_64(
     out: &mut [u8],
 ) -> Checked
     requires { ⌜ Begun (now a) (now b) (now proof) k m n at ⌝ }
-    requires { ⌜ fieldsLeft (now proof) at ≤ 64 ⌝ }
-    requires { ⌜ (m + n + fieldsLeft (now proof) at + 1) * size k ≤ 2278 ⌝ }
+    requires { ⌜ fieldsLeft (now proof) at ≤ 70 ⌝ }
+    requires { ⌜ (m + n + fieldsLeft (now proof) at + 1) * size k ≤ 2380 ⌝ }
     ensures { λ r. ⌜ Checks (now (a .entry)) (now (b .entry)) (now (proof .entry)) (now (out .entry)) (now (out .exit)) r ⌝ }
 {
-    let mut lines = [0i64; 2278];
-    let mut scratch = [0u8; 5120];
+    let mut lines = [0i64; 2380];
+    let mut scratch = [0u8; 5504];
     check_within(a, b, proof, at, k, m, n, &mut lines, &mut scratch, out)
 }
 
 // 4,386 numbers: 129 lines of 16 constants, all that a branch may have and one more.
-fn check_210(
+fn check_262(
     a: &[u8],
     b: &[u8],
     proof: &[u8],
@@ -276,16 +274,16 @@ fn check_210(
     out: &mut [u8],
 ) -> Checked
     requires { ⌜ Begun (now a) (now b) (now proof) k m n at ⌝ }
-    requires { ⌜ fieldsLeft (now proof) at ≤ 210 ⌝ }
+    requires { ⌜ fieldsLeft (now proof) at ≤ 262 ⌝ }
     ensures { λ r. ⌜ Checks (now (a .entry)) (now (b .entry)) (now (proof .entry)) (now (out .entry)) (now (out .exit)) r ⌝ }
 {
     let mut lines = [0i64; 4386];
-    let mut scratch = [0u8; 16384];
+    let mut scratch = [0u8; 20480];
     check_within(a, b, proof, at, k, m, n, &mut lines, &mut scratch, out)
 }
 
 // The same, with more room for the formula.
-fn check_420(
+fn check_525(
     a: &[u8],
     b: &[u8],
     proof: &[u8],
@@ -296,11 +294,11 @@ fn check_420(
     out: &mut [u8],
 ) -> Checked
     requires { ⌜ Begun (now a) (now b) (now proof) k m n at ⌝ }
-    requires { ⌜ fieldsLeft (now proof) at ≤ 420 ⌝ }
+    requires { ⌜ fieldsLeft (now proof) at ≤ 525 ⌝ }
     ensures { λ r. ⌜ Checks (now (a .entry)) (now (b .entry)) (now (proof .entry)) (now (out .entry)) (now (out .exit)) r ⌝ }
 {
     let mut lines = [0i64; 4386];
-    let mut scratch = [0u8; 32768];
+    let mut scratch = [0u8; 40960];
     check_within(a, b, proof, at, k, m, n, &mut lines, &mut scratch, out)
 }
 
@@ -323,36 +321,8 @@ fn check_any(
     check_within(a, b, proof, at, k, m, n, &mut lines, &mut scratch, out)
 }
 
-// How many fields the proof has from a place on, counted up to `most`.
-fn count_fields(p: &[u8], at: usize, most: usize) -> usize
-    ensures { λ r. ⌜ r ≡ min most (fieldsLeft (now (p .entry)) at) ⌝ }
-{
-    let mut here = at;
-    let mut n = 0;
-    while n < most {
-        match next_field(p, here) {
-            Next::Field {
-                at: _,
-                tag: _,
-                start: _,
-                len: _,
-                next,
-            } => {
-                n += 1;
-                here = next;
-            }
-            Next::Cut { at: _ } => {
-                return n;
-            }
-            Next::Ends { at: _ } => {
-                return n;
-            }
-        }
-    }
-    n
-}
-
-// The lines, and then the root, with arrays for the fields that the proof has. More than 420 need not be counted.
+// The lines, and then the root, with arrays for the fields that the proof may have: each has three bytes at least.
+// To count them would take longer than to clear what is then not used.
 fn check_lines(
     a: &[u8],
     b: &[u8],
@@ -366,7 +336,7 @@ fn check_lines(
     requires { ⌜ Begun (now a) (now b) (now proof) k m n at ⌝ }
     ensures { λ r. ⌜ Checks (now (a .entry)) (now (b .entry)) (now (proof .entry)) (now (out .entry)) (now (out .exit)) r ⌝ }
 {
-    let fields = count_fields(proof, at, 421);
+    let fields = proof.len() / 3;
     let size = 2 * (k as usize + 1);
     let numbers = (m + n + fields + 1) * size;
     if fields <= 13 {
@@ -379,16 +349,16 @@ fn check_lines(
             return check_32(a, b, proof, at, k, m, n, out);
         }
     }
-    if fields <= 64 {
-        if numbers <= 2278 {
-            return check_64(a, b, proof, at, k, m, n, out);
+    if fields <= 70 {
+        if numbers <= 2380 {
+            return check_70(a, b, proof, at, k, m, n, out);
         }
     }
-    if fields <= 210 {
-        return check_210(a, b, proof, at, k, m, n, out);
+    if fields <= 262 {
+        return check_262(a, b, proof, at, k, m, n, out);
     }
-    if fields <= 420 {
-        return check_420(a, b, proof, at, k, m, n, out);
+    if fields <= 525 {
+        return check_525(a, b, proof, at, k, m, n, out);
     }
     check_any(a, b, proof, at, k, m, n, out)
 }

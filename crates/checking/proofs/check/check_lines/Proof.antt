@@ -1,14 +1,13 @@
--- `checking::check::check_lines` meets its contract: the fields are counted, and each choice has the room that they ask. Assumes nothing.
+-- `checking::check::check_lines` meets its contract: each choice has the room that the fields ask, of which there is one for three bytes at most. Assumes nothing.
 use native.Mathlib.Omega.{arith}
-use Prim.Native.Nat.{_+_}
-use Rattle.checking.proofs.Counting.{all-counted}
-use Rattle.checking.proofs.Sparing.{numbers-small}
+use Prim.Native.Nat.{_+_, _/_}
+use lib.ListN.{length}
+use Rattle.lines.specs.Buffer.{size}
+use Rattle.checking.proofs.Counting.{fields-few}
+use Rattle.checking.proofs.Sparing.{numbers-less, numbers-small}
 use borrow.Author.Needs.{needs}
 use Rattle.checking.proofs.check.check_lines.Statement.{statement}
 use Rattle.checking.proofs.check.check_lines.Tie as tie
-
-count-fields-requires : tie.Need-count-fields-requires
-count-fields-requires c κs = search needs
 
 add-size : tie.Need-add-size
 add-size c = search needs
@@ -27,13 +26,14 @@ add-numbers-3 c = search needs
 
 mul-numbers : tie.Need-mul-numbers
 mul-numbers c =
-    let g = c .before .before .before .before .before .pre in
-    omega (arith, numbers-small (c .before .before .before .before .before .args .m + c .before .before .before .before .before .args .n + c .count-fields .result + 1) (c .before .before .before .before .before .args .k) (omega (arith, c .count-fields .ensures, g .both .a-few, g .both .b-few)) (g .both .high))
+    let s = c .before .before .before .before in
+    omega (arith, numbers-small (s .args .m + s .args .n + length (s .args .proof .now) / 3 + 1) (s .args .k) (omega (arith, s .pre .both .a-few, s .pre .both .b-few, s .pre .short .p)) (s .pre .both .high))
 
 check-13-requires : tie.Need-check-13-requires
 check-13-requires c κs =
-    let e = all-counted (c .before .before .before .count-fields .ensures) (omega (arith, c .before .before .if1 .taken)) in
-    (c .before .before .before .before .before .before .before .before .pre, (omega (arith, e, c .before .before .if1 .taken), rw (← e) (c .before .if2 .taken)))
+    let s = c .before .before .before .before .before .before .before in
+    let few = fields-few (s .args .proof .now) (s .args .at) in
+    (s .pre, (omega (arith, few, c .before .before .if1 .taken), numbers-less (s .args .m + s .args .n) (size (s .args .k)) (omega (arith, few)) (c .before .if2 .taken)))
 
 same-length : tie.Need-same-length
 same-length c = search needs
@@ -43,8 +43,9 @@ returns c = search needs
 
 check-32-requires : tie.Need-check-32-requires
 check-32-requires c κs =
-    let e = all-counted (c .before .before .before .before .count-fields .ensures) (omega (arith, c .before .before .if3 .taken)) in
-    (c .before .before .before .before .before .before .before .before .before .pre, (omega (arith, e, c .before .before .if3 .taken), rw (← e) (c .before .if4 .taken)))
+    let s = c .before .before .before .before .before .before .before .before in
+    let few = fields-few (s .args .proof .now) (s .args .at) in
+    (s .pre, (omega (arith, few, c .before .before .if3 .taken), numbers-less (s .args .m + s .args .n) (size (s .args .k)) (omega (arith, few)) (c .before .if4 .taken)))
 
 same-length-2 : tie.Need-same-length-2
 same-length-2 c = search needs
@@ -52,10 +53,11 @@ same-length-2 c = search needs
 returns-2 : tie.Need-returns-2
 returns-2 c = search needs
 
-check-64-requires : tie.Need-check-64-requires
-check-64-requires c κs =
-    let e = all-counted (c .before .before .before .before .before .count-fields .ensures) (omega (arith, c .before .before .if5 .taken)) in
-    (c .before .before .before .before .before .before .before .before .before .before .pre, (omega (arith, e, c .before .before .if5 .taken), rw (← e) (c .before .if6 .taken)))
+check-70-requires : tie.Need-check-70-requires
+check-70-requires c κs =
+    let s = c .before .before .before .before .before .before .before .before .before in
+    let few = fields-few (s .args .proof .now) (s .args .at) in
+    (s .pre, (omega (arith, few, c .before .before .if5 .taken), numbers-less (s .args .m + s .args .n) (size (s .args .k)) (omega (arith, few)) (c .before .if6 .taken)))
 
 same-length-3 : tie.Need-same-length-3
 same-length-3 c = search needs
@@ -63,10 +65,10 @@ same-length-3 c = search needs
 returns-3 : tie.Need-returns-3
 returns-3 c = search needs
 
-check-210-requires : tie.Need-check-210-requires
-check-210-requires c κs =
-    let e = all-counted (c .before .before .before .before .before .count-fields .ensures) (omega (arith, c .before .if7 .taken)) in
-    (c .before .before .before .before .before .before .before .before .before .before .pre, omega (arith, e, c .before .if7 .taken))
+check-262-requires : tie.Need-check-262-requires
+check-262-requires c κs =
+    let s = c .before .before .before .before .before .before .before .before .before in
+    (s .pre, omega (arith, fields-few (s .args .proof .now) (s .args .at), c .before .if7 .taken))
 
 same-length-4 : tie.Need-same-length-4
 same-length-4 c = search needs
@@ -74,10 +76,10 @@ same-length-4 c = search needs
 returns-4 : tie.Need-returns-4
 returns-4 c = search needs
 
-check-420-requires : tie.Need-check-420-requires
-check-420-requires c κs =
-    let e = all-counted (c .before .before .before .before .before .before .count-fields .ensures) (omega (arith, c .before .if8 .taken)) in
-    (c .before .before .before .before .before .before .before .before .before .before .before .pre, omega (arith, e, c .before .if8 .taken))
+check-525-requires : tie.Need-check-525-requires
+check-525-requires c κs =
+    let s = c .before .before .before .before .before .before .before .before .before .before in
+    (s .pre, omega (arith, fields-few (s .args .proof .now) (s .args .at), c .before .if8 .taken))
 
 same-length-5 : tie.Need-same-length-5
 same-length-5 c = search needs
@@ -86,7 +88,7 @@ returns-5 : tie.Need-returns-5
 returns-5 c = search needs
 
 check-any-requires : tie.Need-check-any-requires
-check-any-requires c κs = c .before .before .before .before .before .before .before .before .before .before .before .pre
+check-any-requires c κs = search needs
 
 same-length-6 : tie.Need-same-length-6
 same-length-6 c = search needs
@@ -98,7 +100,6 @@ pub check-lines-spec : {M : Type 1} → statement M
 check-lines-spec =
     tie.close
     (tie.spec
-    count-fields-requires
     add-size
     mul-size
     add-numbers
@@ -111,13 +112,13 @@ check-lines-spec =
     check-32-requires
     same-length-2
     returns-2
-    check-64-requires
+    check-70-requires
     same-length-3
     returns-3
-    check-210-requires
+    check-262-requires
     same-length-4
     returns-4
-    check-420-requires
+    check-525-requires
     same-length-5
     returns-5
     check-any-requires

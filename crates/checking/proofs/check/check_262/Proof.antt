@@ -1,12 +1,12 @@
--- `checking::check::check_420` meets its contract: its buffers have the room that is asked. Assumes nothing.
+-- `checking::check::check_262` meets its contract: its buffers have the room that is asked. Assumes nothing.
 use native.Mathlib.Omega.{arith}
 use Prim.Native.Nat.{ℕ}
 use lib.IntN.{ℤ, pos}
 use lib.ListN.{length-replicate}
 use Rattle.checking.proofs.Sparing.{spare-all}
 use borrow.Author.Needs.{needs}
-use Rattle.checking.proofs.check.check_420.Statement.{statement}
-use Rattle.checking.proofs.check.check_420.Tie as tie
+use Rattle.checking.proofs.check.check_262.Statement.{statement}
+use Rattle.checking.proofs.check.check_262.Tie as tie
 
 slice-aggregate-check-within : tie.Need-slice-aggregate-check-within
 slice-aggregate-check-within c = search needs
@@ -17,7 +17,7 @@ slice-aggregate-check-within-2 c = search needs
 check-within-requires : tie.Need-check-within-requires
 check-within-requires c κs =
     let w = c .before .before .before .before .before .before .before .pre in
-    (w .0, (spare-all (w .0 .both .high) (omega (arith, length-replicate {A = ℤ} 4386 (pos 0))), record { enough = λ l h u. omega (arith, w .1, length-replicate {A = ℕ} 32768 0) }))
+    (w .0, (spare-all (w .0 .both .high) (omega (arith, length-replicate {A = ℤ} 4386 (pos 0))), record { enough = λ l h u. omega (arith, w .1, length-replicate {A = ℕ} 20480 0) }))
 
 same-length : tie.Need-same-length
 same-length c = search needs
@@ -25,8 +25,8 @@ same-length c = search needs
 returns : tie.Need-returns
 returns c = search needs
 
-pub check-420-spec : {M : Type 1} → statement M
-check-420-spec =
+pub check-262-spec : {M : Type 1} → statement M
+check-262-spec =
     tie.close
     (tie.spec
     slice-aggregate-check-within

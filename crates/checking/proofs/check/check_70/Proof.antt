@@ -1,4 +1,4 @@
--- `checking::check::check_64` meets its contract: its buffers have the room that is asked. Assumes nothing.
+-- `checking::check::check_70` meets its contract: its buffers have the room that is asked. Assumes nothing.
 use native.Mathlib.Omega.{arith}
 use Prim.Native.Nat.{ℕ, _+_}
 use lib.IntN.{ℤ, pos}
@@ -6,8 +6,8 @@ use lib.ListN.{length-replicate}
 use Rattle.branches.specs.Room.{fieldsLeft}
 use Rattle.checking.proofs.Sparing.{spare-most}
 use borrow.Author.Needs.{needs}
-use Rattle.checking.proofs.check.check_64.Statement.{statement}
-use Rattle.checking.proofs.check.check_64.Tie as tie
+use Rattle.checking.proofs.check.check_70.Statement.{statement}
+use Rattle.checking.proofs.check.check_70.Tie as tie
 
 slice-aggregate-check-within : tie.Need-slice-aggregate-check-within
 slice-aggregate-check-within c = search needs
@@ -18,7 +18,7 @@ slice-aggregate-check-within-2 c = search needs
 check-within-requires : tie.Need-check-within-requires
 check-within-requires c κs =
     let w = c .before .before .before .before .before .before .before .pre in
-    (w .0, (spare-most (c .before .before .before .before .before .before .before .args .m + c .before .before .before .before .before .before .before .args .n + fieldsLeft (c .before .before .before .before .before .before .before .args .proof .now) (c .before .before .before .before .before .before .before .args .at)) (omega (arith, w .1 .1, length-replicate {A = ℤ} 2278 (pos 0))), record { enough = λ l h u. omega (arith, w .1 .0, length-replicate {A = ℕ} 5120 0) }))
+    (w .0, (spare-most (c .before .before .before .before .before .before .before .args .m + c .before .before .before .before .before .before .before .args .n + fieldsLeft (c .before .before .before .before .before .before .before .args .proof .now) (c .before .before .before .before .before .before .before .args .at)) (omega (arith, w .1 .1, length-replicate {A = ℤ} 2380 (pos 0))), record { enough = λ l h u. omega (arith, w .1 .0, length-replicate {A = ℕ} 5504 0) }))
 
 same-length : tie.Need-same-length
 same-length c = search needs
@@ -26,8 +26,8 @@ same-length c = search needs
 returns : tie.Need-returns
 returns c = search needs
 
-pub check-64-spec : {M : Type 1} → statement M
-check-64-spec =
+pub check-70-spec : {M : Type 1} → statement M
+check-70-spec =
     tie.close
     (tie.spec
     slice-aggregate-check-within
