@@ -1,17 +1,18 @@
 -- The machine's tests and remainders of signed numbers, in ℤ. Assumes nothing.
-use mathlib.Core.Path.{_≡_, refl, sym, _∙_, ap}
-use mathlib.Core.Bool.{true, false}
+use mathlib.Core.Path.{_≡_, refl, sym, _∙_, ap, ap₂}
+use mathlib.Core.Bool.{Bool, true, false, _&&_}
 use Prim.Native.Nat.{ℕ, zero, suc, _-_, _/_, _%_, _^_, _<_, _≤_}
 use native.Mathlib.Nat.{div-le-self}
 use native.Mathlib.Decide.{ℕ-discrete}
 use native.Mathlib.Omega.{arith}
 use borrow.Author.Tests.{eq-eqb, ne-eqb}
 use lib.Dec.{leb, eqb, leb→le, leb·suc-suc, eqb·suc-zero}
+use lib.Bits.{bitOr, or-zero-l, or-add-and, and-le-r}
 use lib.IntN.{ℤ, pos, negsuc, negℤ, natAbs}
 use lib.Signed.{mag, leZ, quotZ, remZ, mag-rem, _≤ℤ_}
 use mir.Syntax.{Width, w64}
-use mir.Val.{SFits, ofZ}
-use mir.ValLaws.{sfits-le}
+use mir.Val.{Fits, SFits, toZ, ofZ}
+use mir.ValLaws.{sfits-le, toZ-fits, ofZ-fits, ofZ-toZ, fits-or}
 use Rattle.integers.specs.Linear.{eqZ}
 use Rattle.integers.specs.Divides.{divb}
 
@@ -72,3 +73,23 @@ test-eq (negsuc m) (negsuc n) f g = go (ℕ-discrete m n)
     go : Dec (m ≡ n) → eqb (2 ^ 64 - suc m) (2 ^ 64 - suc n) ≡ eqb m n
     go (yes e) = eq-eqb (2 ^ 64 - suc m) (2 ^ 64 - suc n) (omega arith) ∙ sym (eq-eqb m n e)
     go (no d) = ne-eqb (2 ^ 64 - suc m) (2 ^ 64 - suc n) (λ e. d (omega arith)) ∙ sym (ne-eqb m n d)
+
+-- ---- a number that is 0 where two numbers are
+zero-bits : (z : ℤ) → SFits w64 z → eqZ z (pos 0) ≡ eqb (ofZ w64 z) 0
+zero-bits (pos n) f = refl
+zero-bits (negsuc n) f = sym (eqb-pos (2 ^ 64 - suc n) (omega arith))
+
+zero-or : (a b : ℕ) → eqb (bitOr a b) 0 ≡ eqb a 0 && eqb b 0
+zero-or zero b = ap (λ (n : ℕ). eqb n 0) (or-zero-l b)
+zero-or (suc a) b =
+    eqb-pos (bitOr (suc a) b) (omega (arith, or-add-and (suc a) b, and-le-r (suc a) b)) ∙ ap (λ (t : Bool). t && eqb b 0) (sym (eqb·suc-zero a))
+
+pub joined-zero : (x y : ℤ) → SFits w64 x → SFits w64 y → eqZ (toZ w64 (bitOr (ofZ w64 x) (ofZ w64 y))) (pos 0) ≡ eqZ x (pos 0) && eqZ y (pos 0)
+joined-zero x y f g =
+    let a = ofZ w64 x in
+    let b = ofZ w64 y in
+    let h : Fits w64 (bitOr a b) = fits-or a b (ofZ-fits w64 x f) (ofZ-fits w64 y g) in
+    zero-bits (toZ w64 (bitOr a b)) (toZ-fits w64 (bitOr a b) h)
+    ∙ ap (λ (n : ℕ). eqb n 0) (ofZ-toZ w64 (bitOr a b) h)
+    ∙ zero-or a b
+    ∙ sym (ap₂ _&&_ (zero-bits x f) (zero-bits y g))

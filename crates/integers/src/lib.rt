@@ -1,6 +1,7 @@
 // The integers: laws in specs/, and the signed arithmetic of the machine.
 // Every function here says what it gives in ℤ, so that nothing above meets a machine word.
 ghost use mathlib.Core.Path.{_≡_};
+ghost use mathlib.Core.Bool.{_&&_};
 ghost use lib.Dec.{leb};
 ghost use lib.IntN.{pos, natAbs, _+ℤ_, _*ℤ_};
 ghost use lib.Signed.{_≤ℤ_, ltZ};
@@ -40,6 +41,13 @@ pub fn is_zero(x: i64) -> bool
     ensures { λ r. ⌜ r ≡ eqZ x (pos 0) ⌝ }
 {
     x == 0
+}
+
+// A number that is 0 where x and y both are, and only there.
+pub fn joined(x: i64, y: i64) -> i64
+    ensures { λ r. ⌜ eqZ r (pos 0) ≡ eqZ x (pos 0) && eqZ y (pos 0) ⌝ }
+{
+    x | y
 }
 
 pub fn is_positive(x: i64) -> bool

@@ -3,7 +3,7 @@ use mathlib.Core.Path.{_≡_, refl, sym, _∙_, ap, ap₂, subst, fun-ext}
 use mathlib.Core.List.{List, [], _∷_, _++_}
 use mathlib.Core.Bool.{Bool, true, false, not, _&&_, _||_}
 use mathlib.Core.Logic.{⊎-elim}
-use Prim.Native.Nat.{ℕ, suc, _+_, _-_, _^_, _<_, _≤_}
+use Prim.Native.Nat.{ℕ, zero, suc, _+_, _-_, _^_, _<_, _≤_}
 use native.Mathlib.Nat.{add-zero, zero-add, eq-zero-or-pos}
 use native.Mathlib.Numerals.{add-one}
 use native.Mathlib.Omega.{arith}
@@ -15,6 +15,7 @@ use lib.Signed.{mag}
 use mir.Syntax.{w64}
 use mir.Val.{hbits, toZ, ofZ}
 use mir.ValLaws.{toZ-ofZ}
+use Rattle.integers.specs.Linear.{eqZ}
 use Rattle.forms.specs.Forms.{nonzero}
 use Rattle.fields.proofs.Refusals.{both}
 use Rattle.calculus.specs.Rules.{every}
@@ -138,17 +139,45 @@ unfolding common
 common-all q [] f = refl
 common-all q (z ∷ l) f = ap₂ (λ (a b : Bool). (a || not (nonzero z)) && b) (f 0 (omega arith)) (common-all (λ c. q (suc c)) l (λ c h. f (suc c) (omega arith)))
 
-pub told-next : (in-a in-b : List ℕ) (x : ℕ) (s r : Bool) → (s ≡ true → AllTold in-a in-b x) → r ≡ told in-a x && told in-b x → s && r ≡ true
-    → AllTold in-a in-b (x + 1)
-told-next in-a in-b x s r f e t = record {
-  tells = λ c h. ⊎-elim
-      (λ (z : x - c ≡ 0). let k : x ≡ c = omega arith in subst (λ (n : ℕ). told in-a n && told in-b n ≡ true) k (sym e ∙ both s r t .1))
-      (λ (z : 0 < x - c). f (both s r t .0) .tells c (omega arith))
-      (eq-zero-or-pos (x - c));
-}
+module _ {in-a in-b : List ℕ} where
+  pub told-none : (x : ℕ) → AllTold in-a in-b x x
+  told-none x = record { tells = λ c h l. absurd (omega arith) }
 
-pub told-all : {in-a in-b : List ℕ} (buf : List ℤ) (at k : ℕ) → at + k ≤ length buf → AllTold in-a in-b k
-    → true ≡ common (λ c. told in-a c && told in-b c) (part at k buf)
-told-all {in-a} {in-b} buf at k room t =
-    let len : length (part at k buf) ≡ k = length-take-le k (drop at buf) (simp length-drop (omega arith)) in
-    sym (common-all (λ c. told in-a c && told in-b c) (part at k buf) (λ c h. t .tells c (rw len at h)))
+  pub told-join : {x y z : ℕ} → AllTold in-a in-b x y → AllTold in-a in-b y z → AllTold in-a in-b x z
+  told-join {y = y} s t = record {
+    tells = λ c h l. ⊎-elim (λ (e : y - c ≡ 0). t .tells c (omega arith) l) (λ (g : 0 < y - c). s .tells c h (omega arith)) (eq-zero-or-pos (y - c));
+  }
+
+  pub told-below : {x y k : ℕ} → k ≤ y → AllTold in-a in-b x y → AllTold in-a in-b x k
+  told-below g t = record { tells = λ c h l. t .tells c h (omega arith) }
+
+  pub told-one : (x : ℕ) {r : Bool} → r ≡ told in-a x && told in-b x → not r ≡ false → AllTold in-a in-b x (x + 1)
+  told-one x {r} e t = record {
+    tells = λ c h l. let k : x ≡ c = omega arith in subst (λ (n : ℕ). told in-a n && told in-b n ≡ true) k (sym e ∙ not-false r t);
+  }
+
+  pub told-all : (buf : List ℤ) (at k : ℕ) → at + k ≤ length buf → AllTold in-a in-b 0 k → true ≡ common (λ c. told in-a c && told in-b c) (part at k buf)
+  told-all buf at k room t =
+      let len : length (part at k buf) ≡ k = length-take-le k (drop at buf) (simp length-drop (omega arith)) in
+      sym (common-all (λ c. told in-a c && told in-b c) (part at k buf) (λ c h. t .tells c (omega arith) (rw len at h)))
+
+-- four constants from x on
+module _ (in-a in-b : List ℕ) (x : ℕ) {a b c d : Bool} (e₀ : a ≡ told in-a x && told in-b x) (e₁ : b ≡ told in-a (x + 1) && told in-b (x + 1))
+    (e₂ : c ≡ told in-a (x + 2) && told in-b (x + 2)) (e₃ : d ≡ told in-a (x + 3) && told in-b (x + 3)) (t : ((a && b) && c) && d ≡ true) where
+  of-four : (i : ℕ) → i < 4 → told in-a (x + i) && told in-b (x + i) ≡ true
+  of-four zero h = rw (add-zero x) (sym e₀ ∙ both a b (both (a && b) c (both ((a && b) && c) d t .0) .0) .0)
+  of-four (suc zero) h = sym e₁ ∙ both a b (both (a && b) c (both ((a && b) && c) d t .0) .0) .1
+  of-four (suc (suc zero)) h = sym e₂ ∙ both (a && b) c (both ((a && b) && c) d t .0) .1
+  of-four (suc (suc (suc zero))) h = sym e₃ ∙ both ((a && b) && c) d t .1
+  of-four (suc (suc (suc (suc i)))) h = absurd (omega arith)
+
+  pub told-four : AllTold in-a in-b x (x + 4)
+  told-four = record {
+    tells = λ n h l. let e : x + (n - x) ≡ n = omega arith in subst (λ (i : ℕ). told in-a i && told in-b i ≡ true) e (of-four (n - x) (omega arith));
+  }
+
+-- ---- numbers joined into one that is 0 where all are
+pub joined-next : (buf : List ℤ) (at x : ℕ) (j r : ℤ) → at + x < length buf → mag (getD buf (at + x) (pos 0)) < 2 ^ hbits w64
+    → eqZ j (pos 0) ≡ every (λ z. eqZ z (pos 0)) (part at x buf) → eqZ r (pos 0) ≡ eqZ j (pos 0) && eqZ (toZ w64 (ofZ w64 (getD buf (at + x) (pos 0)))) (pos 0)
+    → eqZ r (pos 0) ≡ every (λ z. eqZ z (pos 0)) (part at (x + 1) buf)
+joined-next buf at x j r room f o e = e ∙ tested-next (λ z. eqZ z (pos 0)) buf at x refl room f o refl

@@ -40,9 +40,9 @@ bits p (suc n) = bit (p 0) ∷ bits (rest p) n
 unfoldable pub told : List ℕ → ℕ → Bool
 told mask c = eqb (getD mask c 0) 1
 
--- Both masks tell each of the first k constants.
-pub record AllTold (in-a in-b : List ℕ) (k : ℕ) : Type 0 where
-  pub tells : (c : ℕ) → c < k → told in-a c && told in-b c ≡ true
+-- Both masks tell each constant from..to.
+pub record AllTold (in-a in-b : List ℕ) (from to : ℕ) : Type 0 where
+  pub tells : (c : ℕ) → from ≤ c → c < to → told in-a c && told in-b c ≡ true
 
 -- The lines from `from` up to `to` stand in the buffer.
 pub record Span (K : ℕ) (buf : List ℤ) (from to : ℕ) : Type 0 where

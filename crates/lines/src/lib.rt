@@ -168,18 +168,18 @@ pub fn fits(lines: &[i64], at: usize, count: usize) -> bool
     each_fits(lines, at + x, count - x)
 }
 
-// Whether the k coefficients at a place are all 0. All of them are tested, so that the compiler can test several at once.
+// Whether the k coefficients at a place are all 0. One number stands for those passed, so that the compiler can join several at once.
 pub fn all_zero(lines: &[i64], at: usize, k: usize) -> bool
     requires { ⌜ at + k ≤ length (now lines) ⌝ }
     ensures { λ r. ⌜ r ≡ every (λ c. eqZ c (pos 0)) (part at k (now (lines .entry))) ⌝ }
 {
-    let mut zero = true;
+    let mut joined = 0;
     let mut x = 0;
     while x < k {
-        zero = zero & integers::is_zero(lines[at + x]);
+        joined = integers::joined(joined, lines[at + x]);
         x += 1;
     }
-    zero
+    integers::is_zero(joined)
 }
 
 // Whether g divides each of the k coefficients at a place.
@@ -266,21 +266,51 @@ fn is_in_both(a: u8, b: u8) -> bool
     (a == 1) & (b == 1)
 }
 
-// Whether the first k constants all do. All of them are tested, so that the compiler can test several at once.
-fn all_shared(k: usize, in_a: &[u8], in_b: &[u8]) -> bool
+// Whether the constants from..k all do.
+fn each_shared(from: usize, k: usize, in_a: &[u8], in_b: &[u8]) -> bool
     requires { ⌜ k ≤ length (now in_a) ⌝ }
     requires { ⌜ k ≤ length (now in_b) ⌝ }
-    ensures { λ r. ⌜ (r ≡ true → AllTold (now (in_a .entry)) (now (in_b .entry)) k) ⌝ }
+    ensures { λ r. ⌜ (r ≡ true → AllTold (now (in_a .entry)) (now (in_b .entry)) from k) ⌝ }
 {
-    let mut shared = true;
-    let mut x = 0;
+    let mut x = from;
     while x < k {
         let a = in_a[x];
         let b = in_b[x];
-        shared = shared & is_in_both(a, b);
+        if !is_in_both(a, b) {
+            return false;
+        }
         x += 1;
     }
-    shared
+    true
+}
+
+// The same for the four from x on.
+fn four_shared(x: usize, in_a: &[u8], in_b: &[u8]) -> bool
+    requires { ⌜ x + 4 ≤ length (now in_a) ⌝ }
+    requires { ⌜ x + 4 ≤ length (now in_b) ⌝ }
+    ensures { λ r. ⌜ (r ≡ true → AllTold (now (in_a .entry)) (now (in_b .entry)) x (x + 4)) ⌝ }
+{
+    let first = is_in_both(in_a[x], in_b[x]);
+    let second = is_in_both(in_a[x + 1], in_b[x + 1]);
+    let third = is_in_both(in_a[x + 2], in_b[x + 2]);
+    let fourth = is_in_both(in_a[x + 3], in_b[x + 3]);
+    first & second & third & fourth
+}
+
+// The same for the first k constants.
+fn all_shared(k: usize, in_a: &[u8], in_b: &[u8]) -> bool
+    requires { ⌜ k ≤ length (now in_a) ⌝ }
+    requires { ⌜ k ≤ length (now in_b) ⌝ }
+    ensures { λ r. ⌜ (r ≡ true → AllTold (now (in_a .entry)) (now (in_b .entry)) 0 k) ⌝ }
+{
+    let mut x = 0;
+    while 4 <= k - x {
+        if !four_shared(x, in_a, in_b) {
+            return false;
+        }
+        x += 4;
+    }
+    each_shared(x, k, in_a, in_b)
 }
 
 // Whether only constants that occur in both bundles have a non-zero coefficient in the form at a place.

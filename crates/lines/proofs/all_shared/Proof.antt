@@ -1,31 +1,32 @@
--- `lines::all_shared` meets its contract: after x turns the result is that of the first x constants. Assumes nothing.
-use mathlib.Core.Path.{_≡_}
-use mathlib.Core.Bool.{true}
+-- `lines::all_shared` meets its contract: after x constants the masks tell these. Assumes nothing.
+use mathlib.Core.Path.{sym}
+use mathlib.Core.Bool.{true≢false}
 use Prim.Native.Nat.{_-_, _≤_}
 use native.Mathlib.Omega.{arith}
+use borrow.Author.Tests.{not-false}
 use borrow.Author.Needs.{needs}
-use Rattle.lines.specs.Occurrence.{told, AllTold}
-use Rattle.lines.proofs.Every.{told-next}
+use Rattle.lines.specs.Occurrence.{AllTold}
+use Rattle.lines.proofs.Every.{told-none, told-join}
 use Rattle.lines.proofs.all_shared.Statement.{statement}
 use Rattle.lines.proofs.all_shared.Tie as tie
 
 abbrev Inv-loop : tie.InvT-loop
-Inv-loop k in-a in-b shared₀ x₀ shared x = (shared ≡ true → AllTold in-a in-b x) × (x ≤ k)
+Inv-loop k in-a in-b x₀ x = (AllTold in-a in-b 0 x) × (x ≤ k)
 
 abbrev μ-loop : tie.MeasureT-loop
-μ-loop k in-a in-b shared₀ x₀ shared x = k - x
+μ-loop k in-a in-b x₀ x = k - x
 
 loop-holds : tie.Need-loop-holds Inv-loop μ-loop
-loop-holds c = ((λ e. record { tells = λ n h. absurd (omega arith) }), omega arith)
+loop-holds c = (told-none 0, omega arith)
 
-shared-slice-read-a : tie.Need-shared-slice-read-a Inv-loop μ-loop
-shared-slice-read-a c = search needs
+sub-loop : tie.Need-sub-loop Inv-loop μ-loop
+sub-loop c = search needs
 
-shared-slice-read-b : tie.Need-shared-slice-read-b Inv-loop μ-loop
-shared-slice-read-b c = search needs
+four-shared-requires : tie.Need-four-shared-requires Inv-loop μ-loop
+four-shared-requires c κs = search needs
 
-is-in-both-requires : tie.Need-is-in-both-requires Inv-loop μ-loop
-is-in-both-requires c κs = search needs
+returns : tie.Need-returns Inv-loop μ-loop
+returns c e = absurd (true≢false (sym e))
 
 add-x : tie.Need-add-x Inv-loop μ-loop
 add-x c = search needs
@@ -34,16 +35,13 @@ loop-less : tie.Need-loop-less Inv-loop μ-loop
 loop-less c = search needs
 
 loop-again : tie.Need-loop-again Inv-loop μ-loop
-unfolding told
-loop-again c =
-    let a = c .before .before .before .before .before .before .before .args in
-    let v = c .before .before .before .before .loop in
-    (told-next (a .in-a .now) (a .in-b .now) (v .x) (v .shared) (c .is-in-both .result) (v .inv .0) (c .is-in-both .ensures), omega arith)
+loop-again c = (told-join (c .before .before .before .loop .inv .0) (c .before .four-shared .ensures (not-false _ (c .if1 .left))), omega arith)
 
-returns : tie.Need-returns Inv-loop μ-loop
-returns c =
-    let e : c .before .loop .x ≡ c .before .before .before .before .args .k = omega arith in
-    rw e at (c .before .loop .inv .0)
+each-shared-requires : tie.Need-each-shared-requires Inv-loop μ-loop
+each-shared-requires c κs = search needs
+
+returns-2 : tie.Need-returns-2 Inv-loop μ-loop
+returns-2 c e = told-join (c .before .before .loop .inv .0) (c .each-shared .ensures e)
 
 pub all-shared-spec : {M : Type 1} → statement M
 all-shared-spec =
@@ -52,10 +50,11 @@ all-shared-spec =
     Inv-loop
     μ-loop
     loop-holds
-    shared-slice-read-a
-    shared-slice-read-b
-    is-in-both-requires
+    sub-loop
+    four-shared-requires
+    returns
     add-x
     loop-less
     loop-again
-    returns)
+    each-shared-requires
+    returns-2)

@@ -1,37 +1,40 @@
--- `lines::all_zero` meets its contract: after x turns the result is that of the first x numbers. Assumes nothing.
-use mathlib.Core.Path.{_≡_, refl}
+-- `lines::all_zero` meets its contract: after x turns `joined` is 0 where the first x numbers are. Assumes nothing.
+use mathlib.Core.Path.{_≡_, refl, _∙_}
 use Prim.Native.Nat.{_-_, _≤_}
 use native.Mathlib.Omega.{arith}
 use lib.IntN.{pos}
+use mir.Syntax.{w64}
+use mir.Val.{toZ}
+use mir.ValLaws.{toZ-ofZ}
 use borrow.Author.Needs.{needs}
 use Rattle.integers.specs.Linear.{eqZ}
 use Rattle.calculus.specs.Rules.{every}
 use Rattle.lines.specs.Parts.{part}
-use Rattle.lines.proofs.Every.{tested-next}
+use Rattle.lines.proofs.Every.{joined-next}
 use Rattle.lines.proofs.all_zero.Statement.{statement}
 use Rattle.lines.proofs.all_zero.Tie as tie
 
 abbrev Inv-loop : tie.InvT-loop
-Inv-loop lines at k zero₀ x₀ zero x = (zero ≡ every (λ z. eqZ z (pos 0)) (part at x lines)) × (x ≤ k)
+Inv-loop lines at k joined₀ x₀ joined x = (eqZ (toZ w64 joined) (pos 0) ≡ every (λ z. eqZ z (pos 0)) (part at x lines)) × (x ≤ k)
 
 abbrev μ-loop : tie.MeasureT-loop
-μ-loop lines at k zero₀ x₀ zero x = k - x
+μ-loop lines at k joined₀ x₀ joined x = k - x
 
 loop-holds : tie.Need-loop-holds Inv-loop μ-loop
 unfolding every
 loop-holds c = (refl, omega arith)
 
-add-is-zero : tie.Need-add-is-zero Inv-loop μ-loop
-add-is-zero c = search needs
+add-joined : tie.Need-add-joined Inv-loop μ-loop
+add-joined c = search needs
 
-mul-is-zero : tie.Need-mul-is-zero Inv-loop μ-loop
-mul-is-zero c = search needs
+mul-joined : tie.Need-mul-joined Inv-loop μ-loop
+mul-joined c = search needs
 
-shared-slice-copy-out-is-zero : tie.Need-shared-slice-copy-out-is-zero Inv-loop μ-loop
-shared-slice-copy-out-is-zero c = search needs
+shared-slice-copy-out-joined : tie.Need-shared-slice-copy-out-joined Inv-loop μ-loop
+shared-slice-copy-out-joined c = search needs
 
-is-zero-requires : tie.Need-is-zero-requires Inv-loop μ-loop
-is-zero-requires c κs = search needs
+joined-requires : tie.Need-joined-requires Inv-loop μ-loop
+joined-requires c κs = search needs
 
 add-x : tie.Need-add-x Inv-loop μ-loop
 add-x c = search needs
@@ -43,12 +46,17 @@ loop-again : tie.Need-loop-again Inv-loop μ-loop
 loop-again c =
     let a = c .before .before .before .before .args in
     let v = c .before .before .before .loop in
-    (tested-next (λ z. eqZ z (pos 0)) (a .lines .now) (a .at) (v .x) refl (omega arith) (c .before .is-zero-arg .given) (v .inv .0) (c .is-zero .ensures), omega arith)
+    rw (toZ-ofZ w64 (c .joined .result) (record { sfits = c .joined .ok }))
+    (joined-next (a .lines .now) (a .at) (v .x) (toZ w64 (v .joined)) (c .joined .result) (omega arith) (c .before .joined-arg .given) (v .inv .0) (c .joined .ensures), omega arith)
+
+is-zero-requires : tie.Need-is-zero-requires Inv-loop μ-loop
+is-zero-requires c κs = search needs
 
 returns : tie.Need-returns Inv-loop μ-loop
 returns c =
-    let e : c .before .loop .x ≡ c .before .before .args .k = omega arith in
-    rw e at (c .before .loop .inv .0)
+    let v = c .before .before .loop in
+    let e : v .x ≡ c .before .before .before .args .k = omega arith in
+    c .is-zero .ensures ∙ rw e at (v .inv .0)
 
 pub all-zero-spec : {M : Type 1} → statement M
 all-zero-spec =
@@ -57,11 +65,12 @@ all-zero-spec =
     Inv-loop
     μ-loop
     loop-holds
-    add-is-zero
-    mul-is-zero
-    shared-slice-copy-out-is-zero
-    is-zero-requires
+    add-joined
+    mul-joined
+    shared-slice-copy-out-joined
+    joined-requires
     add-x
     loop-less
     loop-again
+    is-zero-requires
     returns)
