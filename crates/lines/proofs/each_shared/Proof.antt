@@ -2,7 +2,6 @@
 use mathlib.Core.Path.{sym}
 use mathlib.Core.Bool.{true≢false}
 use Prim.Native.Nat.{_-_}
-use native.Mathlib.Omega.{arith}
 use borrow.Author.Needs.{needs}
 use Rattle.lines.specs.Occurrence.{told, AllTold}
 use Rattle.lines.proofs.Every.{told-none, told-join, told-below, told-one}

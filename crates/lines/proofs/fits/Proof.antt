@@ -1,6 +1,5 @@
 -- `lines::fits` meets its contract: what is left after x numbers decides. Assumes nothing.
 use Prim.Native.Nat.{_-_}
-use native.Mathlib.Omega.{arith}
 use borrow.Author.Needs.{needs}
 use Rattle.calculus.specs.Rules.{small}
 use Rattle.lines.proofs.Every.{Left, left-none, left-next, left-fails, left-rest}

@@ -1,9 +1,9 @@
 -- `bundle::put::put_rest` meets its contract: no number, one, two or three. Assumes nothing.
 use mathlib.Core.Path.{_≡_, refl, _∙_}
-use Prim.Native.Nat.{_+_, _≤_}
+use Prim.Native.Nat.{_+_}
 use native.Mathlib.Omega.{arith}
 use lib.IntN.{pos}
-use lib.ListN.{length, getD}
+use lib.ListN.{getD}
 use lib.Seq.{sets}
 use mir.Syntax.{w16}
 use mir.ValLaws.{toZ-ofZ}
