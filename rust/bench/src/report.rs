@@ -27,15 +27,16 @@ pub fn line(work: &Work, time: &Time) -> String {
 const REASONS: &str = "
 ## Where Rattle is slower
 
-- Checking a short proof. Working memory is cleared before it is used, and the lines' buffer has room for 128 lines \
-whatever the proof: with 16 constants that is 34,816 bytes, a third of the time of a check of 8 rows.
-- Checking a long proof. Most of the rest is the sum of two lines, in numbers of 64 bits, whose products take many \
-instructions on plain x86-64.
-- Writing a large bundle. The numbers take as long as Rust's, or less. The loop over a constraint's numbers is compiled \
-into the loop over the constraints, and some values of the two lie on the stack.
-- Testing a formula whose and/ors lie more than 16 deep, as they do here. A balanced formula of any size takes as long \
-as with Rust, and so does a chain of 16 levels; each level beyond takes about 17 ns more, since it is a call, where the \
-Rust checker keeps a stack of its own.
+- Checking a proof of some hundred rows. Working memory is cleared before it is used: 35,088 bytes for the lines as soon \
+as a branch may have 128 of them with 16 constants, and 26 for each byte of the proof for the formula, 65,536 at most. \
+Of a check of 128 rows that is a tenth. Claims make a proof long, so that it is given the most.
+- Checking any proof. Each branch is a call that hands on six lent buffers, where the Rust checker keeps a stack of its \
+own.
+- Writing a large bundle. The loop over a constraint's numbers is compiled into the loop over the constraints, and some \
+values of the two lie on the stack.
+
+On another processor testing a formula whose and/ors lie more than 16 deep, as they do here from 32 parts on, took up to \
+1.45 times as long as with Rust; each level of a formula is a call.
 ";
 
 pub fn page(timed: &[(Work, Time)], rounds: usize, machine: &str) -> String {
