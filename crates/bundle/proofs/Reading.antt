@@ -19,7 +19,8 @@ use Rattle.fields.proofs.Stores.{sets-over}
 use Rattle.bundle.specs.Bundle.{Bundle, atMost, constraints, bundle}
 use Rattle.bundle.specs.Scan.{faultOf, passed, counted, stated, countedOf, scanned}
 use Rattle.bundle.specs.Read.{kindsOf, numbersOf, unread, store, stored, readBundle}
-use Rattle.bundle.specs.Store.{kindsIn, numbersIn, readOf}
+use Rattle.bundle.specs.Store.{kindsIn, numbersIn}
+use Rattle.bundle.specs.Promises.{readOf}
 use Rattle.bundle.specs.declared.constraints.Counted.{Counted}
 use Rattle.bundle.specs.declared.Scanned.{Scanned}
 use Rattle.bundle.specs.declared.ReadResult.{ReadResult}

@@ -17,7 +17,8 @@ use Rattle.fields.specs.Answers.{answer, acceptance, fileA, Result, refused, ac
 use Rattle.fields.specs.Fields.{Item, item, fields, items, Framed, fileOf, withoutNotes, unlessNoteItem, note}
 use Rattle.fields.specs.Header.{agrees}
 use Rattle.fields.proofs.Results.{Gives, weaken, seq, not-0, passes}
-use Rattle.fields.proofs.Signed.{Bytes, InWidth}
+use Rattle.fields.specs.Numbers.{Bytes}
+use Rattle.fields.proofs.Signed.{InWidth}
 use Rattle.fields.proofs.Framing.{items-fileOf}
 use Rattle.fields.proofs.Contents.{ItemBytes}
 use Rattle.bundle.specs.Bundle.{Bundle}
@@ -44,7 +45,7 @@ module _ (output : List ℕ) where
   written-accepted (refused a) g h = absurd (not-0 (g .refusal a refl) (ap (λ (a : Answer). a .number) h))
   written-accepted (accepted bytes) g h = (bytes, g .gives bytes refl, fit-accepted (leb (length bytes) (length output)) bytes h)
 
-  written-fits : (bytes : List ℕ) → length bytes ≤ length output → written (accepted bytes) output ≡ writtenAs bytes output
+  pub written-fits : (bytes : List ℕ) → length bytes ≤ length output → written (accepted bytes) output ≡ writtenAs bytes output
   unfolding written fit
   written-fits bytes h = rw (le-leb (length bytes) (length output) h)
 
@@ -83,7 +84,7 @@ module _ (kinds : List ℕ) (numbers : List ℤ) where
     read-accepted h = stored-accepted _ (seq (short-gives _ _ file) λ s. weaken (bundle-gives fileA none (fields file)) λ b l. laid-file file b s l) h
 
     -- A bundle's file is read into outputs that are long enough.
-    read-file : (b : Bundle) → BundleFile file (b .K) (b .constraints) → length (kindsOf (b .constraints)) ≤ length kinds → length (numbersOf (b .constraints)) ≤ length numbers → readBundle kinds numbers file ≡ readOf b
+    pub read-file : (b : Bundle) → BundleFile file (b .K) (b .constraints) → length (kindsOf (b .constraints)) ≤ length kinds → length (numbersOf (b .constraints)) ≤ length numbers → readBundle kinds numbers file ≡ readOf b
     unfolding readBundle agrees
     read-file b f h l = ap (stored kinds numbers) (passes _ (short-accepted _ _ file (f .short)) ∙ bundle-accepts fileA none (fields file) b (file-laid file b f tt)) ∙ stored-fits b h l
 

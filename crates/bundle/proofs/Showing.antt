@@ -1,7 +1,7 @@
 -- Showing a constraint: each way through the code as a law over plain values. Assumes nothing.
 use mathlib.Core.Path.{_≡_, refl, ap, _∙_}
 use mathlib.Core.Option.{Option, none, some}
-use mathlib.Core.Bool.{Bool, true, false}
+use mathlib.Core.Bool.{Bool, true, false, cond}
 use mathlib.Core.List.{List}
 use Prim.Native.Nat.{ℕ, zero, suc, _+_, _-_, _≤_, _<_}
 use native.Mathlib.Numerals.{sub-one}
@@ -17,9 +17,9 @@ use Rattle.fields.proofs.Headers.{given-some}
 use Rattle.fields.proofs.Places.{Starts, starts-size}
 use Rattle.fields.proofs.Refusals.{Numbered, Gives, no, yes, bind, passing, numbered}
 use Rattle.bundle.specs.Bundle.{Bundle, atMost, bundle, bundles}
-use Rattle.bundle.specs.Scan.{pick}
 use Rattle.bundle.specs.Show.{Part, partOf, constraintPart, shownPart, answerOf, showAnswer, handed, showPart}
-use Rattle.bundle.specs.Locate.{placeOf, Inside, Placed, bothBundles, pairOf, partAt, locatedOf, ofFile, LiesIn, IsLocated}
+use Rattle.bundle.specs.Locate.{placeOf, Inside, Placed, bothBundles, pairOf, partAt, locatedOf, LiesIn, IsLocated}
+use Rattle.bundle.specs.Promises.{ofFile}
 use Rattle.bundle.specs.declared.Scanned.{Scanned}
 use Rattle.bundle.specs.declared.locate.Place.{Place}
 use Rattle.bundle.specs.declared.locate.Located.{Located}
@@ -186,7 +186,7 @@ module _ {A B : List ℕ} {i : ℕ} {r : Located} (k : IsLocated A B i r) where
     pub part-below : (n : ℕ) → length A < n → length B < n → start + size < n
     part-below n a b = go (eqb file fileA) lies-in
       where
-        go : (p : Bool) → start + size ≤ length (pick p A B) → start + size < n
+        go : (p : Bool) → start + size ≤ length (cond p A B) → start + size < n
         go true h = omega arith
         go false h = omega arith
 

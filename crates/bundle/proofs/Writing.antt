@@ -20,7 +20,8 @@ use Rattle.fields.proofs.Stores.{sets-append, sets-over}
 use Rattle.bundle.specs.Scan.{pick}
 use Rattle.bundle.specs.Show.{answerOf}
 use Rattle.bundle.specs.Write.{constraintsBytes, bundleBytes, writeBundle}
-use Rattle.bundle.specs.Put.{firstBad, fieldSize, Writable, writtenOf}
+use Rattle.bundle.specs.Put.{firstBad, fieldSize, Writable}
+use Rattle.bundle.specs.Promises.{Writes}
 use Rattle.bundle.proofs.Putting.{bundle-size}
 
 -- ---- the kinds, tested one by one
@@ -154,25 +155,25 @@ module _ {K : ℕ} {kinds : List ℕ} {numbers : List ℤ} {B : Result (List ℕ
 
 module _ (K : ℕ) (kinds : List ℕ) (numbers : List ℤ) (out : List ℕ) where
   pub write-refused : {a : Answer} → bundleBytes edition1 K kinds numbers ≡ refused a
-      → writtenOf (record { answer = a; count = 0 }) out ≡ writeBundle K kinds numbers out
+      → Writes K kinds numbers out out (record { answer = a; count = 0 })
   unfolding writeBundle written
-  write-refused e = rw e
+  write-refused e = record { is = rw e }
 
   module _ {a : Answer} (t : Granted K kinds numbers (bundleBytes edition1 K kinds numbers) a) where
     size-is : length (t .bytes) ≡ 8 + length kinds * fieldSize K
     size-is = ap length (t .ready .is) ∙ bundle-size K kinds numbers (t .ready .size)
 
     pub write-short : length out < 8 + length kinds * fieldSize K
-        → writtenOf (record { answer = answer 21 4 (8 + length kinds * fieldSize K); count = 0 }) out ≡ writeBundle K kinds numbers out
+        → Writes K kinds numbers out out (record { answer = answer 21 4 (8 + length kinds * fieldSize K); count = 0 })
     unfolding writeBundle written fit
-    write-short h = rw (t .grants, size-is, lt-leb (8 + length kinds * fieldSize K) (length out) h, size-is)
+    write-short h = record { is = rw (t .grants, size-is, lt-leb (8 + length kinds * fieldSize K) (length out) h, size-is) }
 
     module _ (h : 8 + length kinds * fieldSize K ≤ length out) where
       pub writable : {out′ : List ℕ} → length out′ ≡ length out → Writable K kinds numbers out′ 8
       writable e = record { kinds-are = t .ready .kinds-are; few = t .ready .few; high = t .ready .high; size = t .ready .size; fits = omega arith }
 
       pub write-all : {out₁ out₂ : List ℕ} → out₁ ≡ sets out 0 (headerBytes K) → out₂ ≡ sets out₁ 8 (constraintsBytes edition1 K kinds numbers)
-          → writtenOf (record { answer = a; count = 8 + length kinds * fieldSize K }) out₂ ≡ writeBundle K kinds numbers out
+          → Writes K kinds numbers out out₂ (record { answer = a; count = 8 + length kinds * fieldSize K })
       unfolding writeBundle written fit
       write-all {out₂} e₁ e₂ =
           let o : out₂ ≡ over (t .bytes) out
@@ -180,4 +181,4 @@ module _ (K : ℕ) (kinds : List ℕ) (numbers : List ℤ) (out : List ℕ) wher
           ∙ after-header K (constraintsBytes edition1 K kinds numbers) out
           ∙ ap (λ (l : List ℕ). sets out 0 l) (sym (t .ready .is))
           ∙ sets-over (t .bytes) out (omega (arith, size-is)) in
-          rw (t .grants, o, size-is, le-leb (8 + length kinds * fieldSize K) (length out) h, t .answer-is, size-is)
+          record { is = rw (t .grants, o, size-is, le-leb (8 + length kinds * fieldSize K) (length out) h, t .answer-is, size-is) }

@@ -7,4 +7,5 @@ pub mod Store
 pub mod Write
 pub mod Put
 pub mod Show
+pub mod Promises
 pub mod Locate

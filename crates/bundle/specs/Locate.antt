@@ -1,17 +1,15 @@
--- A constraint's field by place, as the code finds it, and where the part that is handed back lies. Assumes nothing.
+-- A constraint's field by place, as the code finds it. Assumes nothing.
 use mathlib.Core.Path.{_≡_}
 use mathlib.Core.Option.{Option, none, some}
 use mathlib.Core.List.{List}
 use Prim.Native.Nat.{ℕ, _+_, _≤_}
-use lib.Dec.{eqb}
-use lib.ListN.{length, take, drop}
-use denote.Ref.{RefT}
+use lib.ListN.{length}
 use Rattle.forms.specs.Edition.{edition1}
 use Rattle.fields.specs.Answers.{answer, acceptance, fileA, fileB, Result, refused, accepted, _>>_}
 use Rattle.fields.specs.Fields.{Field, fields, nth}
 use Rattle.bundle.specs.Bundle.{Bundle, atMost, bundles}
-use Rattle.bundle.specs.Scan.{pick}
 use Rattle.bundle.specs.Show.{Part, shownPart}
+use Rattle.bundle.specs.Promises.{ofFile}
 use Rattle.bundle.specs.declared.locate.Place.{Place}
 use Rattle.bundle.specs.declared.locate.Located.{Located}
 use Rattle.bundle.specs.declared.locate.Pair.{Pair}
@@ -47,10 +45,6 @@ abbrev pub locatedOf : Located → Result Part
 locatedOf (Located.Refused a) = refused a
 locatedOf (Located.Part file start size) = accepted (record { file = file; start = start; size = size })
 
--- A's or B's, by a part's file.
-abbrev pub ofFile : {X : Type 0} → (file : ℕ) → (a b : X) → X
-ofFile file a b = pick (eqb file fileA) a b
-
 abbrev pub LiesIn : (A B : List ℕ) → Located → Type 0
 LiesIn A B (Located.Refused a) = Unit {0}
 LiesIn A B (Located.Part file start size) = start + size ≤ length (ofFile file A B)
@@ -59,13 +53,3 @@ LiesIn A B (Located.Part file start size) = start + size ≤ length (ofFile file
 pub record IsLocated (A B : List ℕ) (line : ℕ) (r : Located) : Type 0 where
   pub is : shownPart A B line ≡ locatedOf r
   pub inside : LiesIn A B r
-
--- The bytes of a part, and where they lie: a part of the buffer itself, `start` bytes behind its beginning.
-abbrev pub partBytes : Part → (A B : List ℕ) → List ℕ
-partBytes p A B = take (p .size) (drop (p .start) (ofFile (p .file) A B))
-
-abbrev pub behind : ℕ × ℕ → ℕ → ℕ × ℕ
-behind p n = (p .0, n + p .1)
-
-abbrev pub partPlace : Part → (a b : RefT (List ℕ)) → ℕ × ℕ
-partPlace p a b = behind (ofFile (p .file) (a .ptr) (b .ptr)) (p .start)

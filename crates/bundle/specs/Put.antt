@@ -5,9 +5,7 @@ use mathlib.Core.Path.{_≡_}
 use lib.Dec.{leb}
 use lib.IntN.{ℤ}
 use lib.ListN.{length, getD}
-use Rattle.fields.specs.Answers.{Written}
 use Rattle.bundle.specs.Scan.{pick}
-use Rattle.bundle.specs.declared.WriteResult.{WriteResult}
 
 -- The index of the first kind that is not 0 or 1, or that of the end; i is the first one's index.
 abbrev pub firstBad : (i : ℕ) → List ℕ → ℕ
@@ -25,7 +23,3 @@ pub record Writable (K : ℕ) (kinds : List ℕ) (numbers : List ℤ) (out : Lis
   pub high : K ≤ 16
   pub size : length numbers ≡ length kinds * (K + 1)
   pub fits : at + length kinds * fieldSize K ≤ length out
-
--- What `write` answers and leaves, as what writing gives.
-abbrev pub writtenOf : WriteResult → List ℕ → Written
-writtenOf r out = record { answer = r .answer; count = r .count; output = out }

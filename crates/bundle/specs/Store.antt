@@ -8,9 +8,8 @@ use Rattle.fields.specs.Answers.{Result, refused, accepted}
 use Rattle.fields.specs.Fields.{Fields}
 use Rattle.bundle.specs.Bundle.{Bundle}
 use Rattle.bundle.specs.Scan.{counted}
-use Rattle.bundle.specs.Read.{BundleRead, kindsOf, numbersOf}
+use Rattle.bundle.specs.Read.{kindsOf, numbersOf}
 use Rattle.bundle.specs.declared.constraints.Counted.{Counted}
-use Rattle.bundle.specs.declared.ReadResult.{ReadResult}
 
 -- The constraints of the fields, n before them and `count` with those, have no fault and fit.
 pub record Storable (K n count : ℕ) (fs : Fields) (kinds : List ℕ) (numbers : List ℤ) : Type 0 where
@@ -26,7 +25,3 @@ kindsIn (accepted b) = kindsOf (b .constraints)
 abbrev pub numbersIn : Result Bundle → List ℤ
 numbersIn (refused a) = []
 numbersIn (accepted b) = numbersOf (b .constraints)
-
--- What `read` answers and leaves, as what reading gives.
-abbrev pub readOf : ReadResult → List ℕ → List ℤ → BundleRead
-readOf r kinds numbers = record { answer = r .answer; count = r .count; K = r .k; kinds = kinds; numbers = numbers }

@@ -29,12 +29,10 @@ ghost use Rattle.fields.specs.declared.FileKind.{FileKind};
 ghost use Rattle.fields.specs.declared.header.Headed.{Headed};
 ghost use Rattle.bundle.specs.Bundle.{bundle};
 ghost use Rattle.bundle.specs.Scan.{scanned};
-ghost use Rattle.bundle.specs.Read.{stored, readBundle};
-ghost use Rattle.bundle.specs.Store.{readOf};
-ghost use Rattle.bundle.specs.Write.{bundleBytes, writeBundle};
-ghost use Rattle.bundle.specs.Put.{writtenOf};
-ghost use Rattle.bundle.specs.Show.{answerOf, showPart, showAnswer};
-ghost use Rattle.bundle.specs.Locate.{partBytes, partPlace};
+ghost use Rattle.bundle.specs.Read.{stored};
+ghost use Rattle.bundle.specs.Write.{bundleBytes};
+ghost use Rattle.bundle.specs.Show.{answerOf};
+ghost use Rattle.bundle.specs.Promises.{readOf, Reads, Writes, Shows, AnswersShow};
 ghost use Rattle.forms.specs.Edition.{edition1};
 
 // What going over a bundle tells: K and how many constraints there are, or the refusal, with 0 for both.
@@ -137,7 +135,7 @@ fn read_constraints(
 
 // Reads a bundle into kinds (0 inequality, 1 equality) and numbers, K+1 a constraint.
 pub fn read(file: &[u8], kinds: &mut [u8], numbers: &mut [i16]) -> ReadResult
-    ensures { λ r. ⌜ readOf r (now (kinds .exit)) (now (numbers .exit)) ≡ readBundle (now (kinds .entry)) (now (numbers .entry)) (now (file .entry)) ⌝ }
+    ensures { λ r. ⌜ Reads (now (file .entry)) (now (kinds .entry)) (now (numbers .entry)) (now (kinds .exit)) (now (numbers .exit)) r ⌝ }
 {
     if file.len() > BUNDLE_BYTES {
         return refused_read(1, 1, 0);
@@ -198,7 +196,7 @@ pub struct WriteResult {
 
 // Writes a bundle from K, kinds and numbers.
 pub fn write(k: u8, kinds: &[u8], numbers: &[i16], out: &mut [u8]) -> WriteResult
-    ensures { λ r. ⌜ writtenOf r (now (out .exit)) ≡ writeBundle k (now (kinds .entry)) (now (numbers .entry)) (now (out .entry)) ⌝ }
+    ensures { λ r. ⌜ Writes k (now (kinds .entry)) (now (numbers .entry)) (now (out .entry)) (now (out .exit)) r ⌝ }
 {
     let answer = write_fault(k, kinds, numbers);
     let number = answer.number;
@@ -229,8 +227,7 @@ pub struct Line(pub u16);
 
 // The field of the constraint that a line number names, out of A's or B's buffer; the empty part at A's start where it is refused.
 pub fn show<'a>(a: &'a [u8], b: &'a [u8], line: Line) -> &'a [u8]
-    ensures bytes { λ r. ⌜ now r ≡ partBytes (showPart (now (a .entry)) (now (b .entry)) (line .0)) (now (a .entry)) (now (b .entry)) ⌝ }
-    ensures place { λ r. ⌜ r .ptr ≡ partPlace (showPart (now (a .entry)) (now (b .entry)) (line .0)) (a .entry) (b .entry) ⌝ }
+    ensures { λ r. ⌜ Shows (a .entry) (b .entry) (line .0) r ⌝ }
 {
     match locate(a, b, line) {
         Located::Part { file, start, size } => {
@@ -246,7 +243,7 @@ pub fn show<'a>(a: &'a [u8], b: &'a [u8], line: Line) -> &'a [u8]
 
 // The answer to the same call.
 pub fn show_answer(a: &[u8], b: &[u8], line: Line) -> Answer
-    ensures { λ r. ⌜ r ≡ showAnswer (now (a .entry)) (now (b .entry)) (line .0) ⌝ }
+    ensures { λ r. ⌜ AnswersShow (now (a .entry)) (now (b .entry)) (line .0) r ⌝ }
 {
     match locate(a, b, line) {
         Located::Part {

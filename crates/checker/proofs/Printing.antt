@@ -12,7 +12,7 @@ use Rattle.files.specs.Text.{Put, PutNumber, PutRefused, RefusedLine, ascii, he
 use Rattle.files.proofs.Texts.{both}
 use Rattle.proof.specs.Check.{check}
 use Rattle.checking.specs.declared.check.Checked.{Checked}
-use Rattle.checking.specs.Whole.{writtenOf}
+use Rattle.checking.specs.Promises.{writtenOf}
 use Rattle.checker.specs.Said.{AcceptedLines, Printed, PutAccepted, Room}
 
 -- ---- the bytes written are there

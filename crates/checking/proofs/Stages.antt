@@ -33,7 +33,8 @@ use Rattle.proof.proofs.Sizes.{written-reads-back}
 use Rattle.rows.specs.Tally.{tally}
 use Rattle.branches.specs.Room.{fieldsLeft, Spare}
 use Rattle.branches.specs.Branching.{Started}
-use Rattle.checking.specs.Whole.{Short, Both, Holding, Prepared, Begun, finishing, rooted, Finishes, Roots, Fits, Enough, Ended, Checks}
+use Rattle.checking.specs.Whole.{Short, Both, Holding, Prepared, Begun, finishing, rooted, Finishes, Roots, Fits, Enough, Ended}
+use Rattle.checking.specs.Promises.{Checks}
 use Rattle.checking.specs.declared.check.Checked.{Checked}
 use Rattle.checking.proofs.Delivering.{unwritten}
 use Rattle.checking.proofs.Counting.{fields-few}

@@ -1,3 +1,4 @@
 -- The contracts of the check's functions.
+pub mod Promises
 pub mod Load
 pub mod Whole

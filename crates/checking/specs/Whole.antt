@@ -9,7 +9,7 @@ use lib.ListN.{length, take}
 use Rattle.forms.specs.Edition.{edition1}
 use Rattle.forms.specs.Forms.{Line, lines, occurs}
 use Rattle.fields.specs.declared.FileKind.{FileKind}
-use Rattle.fields.specs.Answers.{fileA, fileB, fileProof, Result, accepted, _>>=_, _>>_, Written, written}
+use Rattle.fields.specs.Answers.{fileA, fileB, fileProof, Result, accepted, _>>=_, _>>_, written}
 use Rattle.fields.specs.Fields.{Fields, fields}
 use Rattle.fields.specs.Header.{header, finished, headerBytes}
 use Rattle.fields.specs.Places.{fieldsAt}
@@ -17,14 +17,11 @@ use Rattle.bundle.specs.Bundle.{Bundle, bundle}
 use Rattle.formula.specs.Formula.{encode}
 use Rattle.lines.specs.Buffer.{linesIn, Bounded}
 use Rattle.lines.specs.Occurrence.{told}
-use Rattle.proof.specs.Check.{Closing, checkBranch, check}
+use Rattle.proof.specs.Check.{Closing, checkBranch}
 use Rattle.branches.specs.Room.{fieldsLeft}
+use Rattle.checking.specs.Promises.{writtenOf}
 use Rattle.checking.specs.Load.{Space}
 use Rattle.checking.specs.declared.check.Checked.{Checked}
-
--- The code's struct, with the output afterwards, as what an operation that writes bytes leaves.
-abbrev pub writtenOf : Checked → List ℕ → Written
-writtenOf r out = record { answer = r .answer; count = r .count; output = out }
 
 -- No file is too long.
 pub record Short (A B P : List ℕ) : Type 0 where
@@ -100,7 +97,3 @@ pub record Enough (P : List ℕ) (at : ℕ) (scratch : List ℕ) : Type 0 where
 -- The bytes stand in the scratch, where the check accepts.
 pub record Ended (P : List ℕ) (at o : ℕ) (scratch : List ℕ) : Type 0 where
   pub room : finished FileKind.Proof fileProof (fieldsAt P at) ≡ accepted tt → o ≤ length scratch
-
--- What the whole check leaves.
-pub record Checks (A B P out out′ : List ℕ) (r : Checked) : Type 0 where
-  pub is : writtenOf r out′ ≡ check A B P out

@@ -22,11 +22,11 @@ ghost use lib.Seq.{paste};
 ghost use Rattle.fields.specs.Answers.{answer};
 ghost use Rattle.lines.specs.Buffer.{size, linesIn};
 ghost use Rattle.lines.specs.Occurrence.{told};
-ghost use Rattle.proof.specs.Check.{check};
 ghost use Rattle.rows.specs.Tally.{tally};
 ghost use Rattle.branches.specs.Room.{fieldsLeft, Spare};
 ghost use Rattle.branches.specs.Branching.{Started};
-ghost use Rattle.checking.specs.Whole.{Short, Both, Buffers, Prepared, Begun, Ended, Delivers, Finishes, Roots, Fits, Enough, Checks, writtenOf};
+ghost use Rattle.checking.specs.Promises.{Checks};
+ghost use Rattle.checking.specs.Whole.{Short, Both, Buffers, Prepared, Begun, Ended, Delivers, Finishes, Roots, Fits, Enough};
 
 // What checking answers: the bytes written, 0 where it is refused.
 #[repr(C)]
@@ -408,7 +408,7 @@ fn check_bundles(a: &[u8], b: &[u8], proof: &[u8], out: &mut [u8]) -> Checked
 
 // Checks a proof over the bundles A and B, and writes the formula that it derives.
 pub fn check(a: &[u8], b: &[u8], proof: &[u8], out: &mut [u8]) -> Checked
-    ensures { λ r. ⌜ writtenOf r (now (out .exit)) ≡ check (now (a .entry)) (now (b .entry)) (now (proof .entry)) (now (out .entry)) ⌝ }
+    ensures { λ r. ⌜ Checks (now (a .entry)) (now (b .entry)) (now (proof .entry)) (now (out .entry)) (now (out .exit)) r ⌝ }
 {
     if a.len() > BUNDLE_BYTES {
         return refusal(1, 1, 0);

@@ -5,16 +5,10 @@ ghost use mathlib.Core.List.{_++_};
 ghost use Prim.Native.Nat.{_≤_};
 ghost use lib.ListN.{length, drop};
 ghost use Rattle.exports.specs.Copied.{Copied};
-ghost use Rattle.bundle.specs.Read.{readBundle};
-ghost use Rattle.bundle.specs.Store.{readOf};
-ghost use Rattle.bundle.specs.Put.{writtenOf};
-ghost use Rattle.bundle.specs.Locate.{partBytes};
-ghost use Rattle.bundle.specs.Write.{writeBundle};
-ghost use Rattle.bundle.specs.Show.{showAnswer, showPart};
-ghost use Rattle.formula.specs.Test.{testFormula};
-ghost use Rattle.formula.specs.Outcomes.{asTested};
-ghost use Rattle.proof.specs.Check.{check as Check·check};
-ghost use Rattle.checking.specs.Whole.{writtenOf as Whole·writtenOf};
+ghost use Rattle.bundle.specs.Show.{showPart};
+ghost use Rattle.bundle.specs.Promises.{Reads, Writes, AnswersShow, partBytes};
+ghost use Rattle.formula.specs.Promises.{Tests};
+ghost use Rattle.checking.specs.Promises.{Checks};
 use bundle::Line;
 use bundle::ReadResult;
 use bundle::WriteResult;
@@ -25,7 +19,7 @@ use formula::Tested;
 
 #[no_mangle]
 pub extern "C" fn dulgaverk_read(file: &[u8], kinds: &mut [u8], numbers: &mut [i16]) -> ReadResult
-    ensures { λ r. ⌜ readOf r (now (kinds .exit)) (now (numbers .exit)) ≡ readBundle (now (kinds .entry)) (now (numbers .entry)) (now (file .entry)) ⌝ }
+    ensures { λ r. ⌜ Reads (now (file .entry)) (now (kinds .entry)) (now (numbers .entry)) (now (kinds .exit)) (now (numbers .exit)) r ⌝ }
 {
     bundle::read(file, kinds, numbers)
 }
@@ -37,14 +31,14 @@ pub extern "C" fn dulgaverk_write(
     numbers: &[i16],
     out: &mut [u8],
 ) -> WriteResult
-    ensures { λ r. ⌜ writtenOf r (now (out .exit)) ≡ writeBundle k (now (kinds .entry)) (now (numbers .entry)) (now (out .entry)) ⌝ }
+    ensures { λ r. ⌜ Writes k (now (kinds .entry)) (now (numbers .entry)) (now (out .entry)) (now (out .exit)) r ⌝ }
 {
     bundle::write(k, kinds, numbers, out)
 }
 
 #[no_mangle]
 pub extern "C" fn dulgaverk_show_answer(a: &[u8], b: &[u8], line: u16) -> Answer
-    ensures { λ r. ⌜ r ≡ showAnswer (now (a .entry)) (now (b .entry)) line ⌝ }
+    ensures { λ r. ⌜ AnswersShow (now (a .entry)) (now (b .entry)) line r ⌝ }
 {
     bundle::show_answer(a, b, Line(line))
 }
@@ -64,7 +58,7 @@ fn copy(from: &[u8], to: &mut [u8])
 // The check of a proof; the formula's file goes into `out`.
 #[no_mangle]
 pub extern "C" fn dulgaverk_check(a: &[u8], b: &[u8], proof: &[u8], out: &mut [u8]) -> Checked
-    ensures { λ r. ⌜ Whole·writtenOf r (now (out .exit)) ≡ Check·check (now (a .entry)) (now (b .entry)) (now (proof .entry)) (now (out .entry)) ⌝ }
+    ensures { λ r. ⌜ Checks (now (a .entry)) (now (b .entry)) (now (proof .entry)) (now (out .entry)) (now (out .exit)) r ⌝ }
 {
     check(a, b, proof, out)
 }
@@ -85,7 +79,7 @@ pub extern "C" fn dulgaverk_show<'a>(a: &'a [u8], b: &'a [u8], line: u16, out: &
 
 #[no_mangle]
 pub extern "C" fn dulgaverk_test(formula: &[u8], values: &[i32]) -> Tested
-    ensures { λ r. ⌜ r ≡ asTested (testFormula (now (formula .entry)) (now (values .entry))) ⌝ }
+    ensures { λ r. ⌜ Tests (now (formula .entry)) (now (values .entry)) r ⌝ }
 {
     formula::test(formula, values)
 }

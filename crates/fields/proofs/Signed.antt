@@ -12,11 +12,7 @@ use lib.ListN.{length, take, drop, length-append, length-drop, take-append-drop}
 use lib.Seq.{take-at, drop-at, drop-drop, length-take-le}
 use Rattle.integers.specs.Linear.{pp, np, ints, add-pn, neg-pn, cond-ind}
 use Rattle.forms.specs.Forms.{Form, All, nil, cons}
-use Rattle.fields.specs.Numbers.{natFrom, unsigned, complement, signed, unsignedBytes, residue, signedBytes, signeds, signedsBytes, flat, formFrom, formBytes, formWidth}
-
--- Each is a byte.
-abbrev pub Bytes : List ℕ → Type 0
-Bytes = All (λ b. b < 256)
+use Rattle.fields.specs.Numbers.{Bytes, natFrom, unsigned, complement, signed, unsignedBytes, residue, signedBytes, signeds, signedsBytes, flat, formFrom, formBytes, formWidth}
 
 -- z has a two's complement of w bytes.
 pub record InWidth (w : ℕ) (z : ℤ) : Type 0 where

@@ -1,11 +1,15 @@
 -- Big-endian numbers of any width, unsigned and two's complement. Document 01, "Fields". Assumes nothing.
 use mathlib.Core.Bool.{cond}
 use mathlib.Core.List.{List, [], _∷_, _++_}
-use Prim.Native.Nat.{ℕ, zero, suc, _+_, _*_, _-_, _/_, _%_, _^_}
+use Prim.Native.Nat.{ℕ, zero, suc, _+_, _*_, _-_, _/_, _%_, _^_, _<_}
 use lib.Dec.{ltb}
 use lib.IntN.{ℤ, pos, negsuc, _-ℤ_}
 use lib.ListN.{length, take, drop}
-use Rattle.forms.specs.Forms.{Form}
+use Rattle.forms.specs.Forms.{Form, All}
+
+-- Each is a byte, as the elements of a slice of bytes are.
+abbrev pub Bytes : List ℕ → Type 0
+Bytes = All (λ b. b < 256)
 
 -- The number whose first part is n and whose other bytes these are.
 abbrev pub natFrom : ℕ → List ℕ → ℕ

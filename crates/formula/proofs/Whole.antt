@@ -26,7 +26,8 @@ use Rattle.formula.specs.Formula.{readFormula}
 use Rattle.formula.specs.Test.{judge, registers, judged, tested, testFormula}
 use Rattle.formula.specs.Registers.{ranged, FirstOutside, Registers}
 use Rattle.formula.specs.Judging.{FormulaRead}
-use Rattle.formula.specs.Outcomes.{asTested, refusal, endTested, Finish}
+use Rattle.formula.specs.Promises.{asTested, Tests}
+use Rattle.formula.specs.Outcomes.{refusal, endTested, Finish}
 use Rattle.formula.specs.declared.Tested.{Tested}
 use Rattle.formula.specs.declared.reading.Judged.{Judged}
 
@@ -94,16 +95,16 @@ module _ {s : List ℕ} {values : List ℤ} {K : ℕ} (g : Registers values K) {
 
 -- ---- the values, then the length, then the formula
 module _ (formula : List ℕ) (values : List ℤ) where
-  by-tested : {r : Tested} {w : Result Formula} → tested formula values ≡ w → r ≡ asTested (judged values w) → r ≡ asTested (testFormula formula values)
+  by-tested : {r : Tested} {w : Result Formula} → tested formula values ≡ w → r ≡ asTested (judged values w) → Tests formula values r
   unfolding testFormula
-  by-tested e f = f ∙ sym (ap (λ w. asTested (judged values w)) e)
+  by-tested e f = record { is = f ∙ sym (ap (λ w. asTested (judged values w)) e) }
 
-  pub no-values : {r : Tested} → length values < 1 → r ≡ refusal 7 fileLent 0 → r ≡ asTested (testFormula formula values)
+  pub no-values : {r : Tested} → length values < 1 → r ≡ refusal 7 fileLent 0 → Tests formula values r
   unfolding tested judged
   no-values h f = by-tested (fail _ _ (rw (lt-leb 1 (length values) h))) f
 
   module _ (some : 1 ≤ length values) where
-    pub many-values : {r : Tested} → 16 < length values → r ≡ refusal 7 fileLent 0 → r ≡ asTested (testFormula formula values)
+    pub many-values : {r : Tested} → 16 < length values → r ≡ refusal 7 fileLent 0 → Tests formula values r
     unfolding tested judged
     many-values h f = by-tested (fail _ _ (rw (le-leb 1 (length values) some, lt-leb (length values) 16 h))) f
 
@@ -113,7 +114,7 @@ module _ (formula : List ℕ) (values : List ℤ) where
       counted = pass _ _ (rw (le-leb 1 (length values) some, le-leb (length values) 16 few))
 
       module _ {i : ℕ} (o : FirstOutside values i) where
-        pub value-outside : {r : Tested} → i < length values → r ≡ refusal 23 fileLent i → r ≡ asTested (testFormula formula values)
+        pub value-outside : {r : Tested} → i < length values → r ≡ refusal 23 fileLent i → Tests formula values r
         unfolding judged
         value-outside h f = by-tested (counted ∙ then-refused _ (o .outside h)) f
 
@@ -124,10 +125,10 @@ module _ (formula : List ℕ) (values : List ℤ) where
           pub in-registers : Registers values (length values)
           in-registers = record { all = o .within is-count .1; count = refl; some = some; few = few }
 
-          pub too-long : {r : Tested} → 65_536 < length formula → r ≡ refusal 1 fileProof 0 → r ≡ asTested (testFormula formula values)
+          pub too-long : {r : Tested} → 65_536 < length formula → r ≡ refusal 1 fileProof 0 → Tests formula values r
           unfolding judged
           too-long h f = by-tested (counted ∙ passes _ (o .within is-count .0) ∙ fail _ _ (lt-leb (length formula) 65_536 h)) f
 
           pub whole-read : {r : Tested} → length formula ≤ 65_536 → r ≡ asTested (judged values (readFormula (length values) (fields formula)))
-              → r ≡ asTested (testFormula formula values)
+              → Tests formula values r
           whole-read h f = by-tested (counted ∙ passes _ (o .within is-count .0) ∙ pass _ _ (le-leb (length formula) 65_536 h)) f

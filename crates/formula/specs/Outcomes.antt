@@ -7,12 +7,7 @@ use Rattle.fields.specs.declared.FileKind.{FileKind}
 use Rattle.fields.specs.Answers.{answer, acceptance, fileProof, Result, refused, accepted}
 use Rattle.fields.specs.Header.{finished}
 use Rattle.fields.specs.Places.{fieldsAt}
-use Rattle.formula.specs.Test.{Tested as Outcome}
 use Rattle.formula.specs.declared.Tested.{Tested}
-
--- The code's struct for what testing gives.
-abbrev pub asTested : Outcome → Tested
-asTested t = record { answer = t .answer; holds = t .holds }
 
 abbrev pub refusal : (number file place : ℕ) → Tested
 refusal number file place = record { answer = answer number file place; holds = false }

@@ -11,9 +11,10 @@ use forms::LEVELS;
 ghost use mathlib.Core.Path.{_≡_};
 ghost use Rattle.fields.specs.Fields.{fields};
 ghost use Rattle.formula.specs.Formula.{readFormula};
-ghost use Rattle.formula.specs.Test.{judged, testFormula};
+ghost use Rattle.formula.specs.Test.{judged};
 ghost use Rattle.formula.specs.Registers.{Registers};
-ghost use Rattle.formula.specs.Outcomes.{asTested, refusal, Finish};
+ghost use Rattle.formula.specs.Promises.{asTested, Tests};
+ghost use Rattle.formula.specs.Outcomes.{refusal, Finish};
 
 mod form;
 mod node;
@@ -80,7 +81,7 @@ const MOST: usize = CONSTANTS as usize;
 
 // Tests a formula at K register values. Refuses: 7, 23, 1, then as the formula is read.
 pub fn test(formula: &[u8], values: &[i32]) -> Tested
-    ensures { λ r. ⌜ r ≡ asTested (testFormula (now (formula .entry)) (now (values .entry))) ⌝ }
+    ensures { λ r. ⌜ Tests (now (formula .entry)) (now (values .entry)) r ⌝ }
 {
     let k = values.len();
     if k < 1 {

@@ -46,7 +46,7 @@ pub agreed : (K L : ℕ) → T (agrees (some K) L) → L ≡ K
 unfolding agrees
 agreed K L t = eqb→eq L K t
 
-agrees-refl : (K : ℕ) → T (agrees (some K) K)
+pub agrees-refl : (K : ℕ) → T (agrees (some K) K)
 unfolding agrees
 agrees-refl K = eqb-refl K
 

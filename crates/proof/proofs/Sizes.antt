@@ -15,9 +15,9 @@ use Rattle.calculus.specs.Rules.{Row, CloseStride, Derive, Strengthen, CloseNum
 use Rattle.calculus.proofs.Readings.{length-sums, length-only}
 use Rattle.calculus.proofs.Sides.{all-nth, all-and, all-map, all-append}
 use Rattle.fields.specs.Answers.{accepted}
-use Rattle.fields.specs.Numbers.{unsigned}
+use Rattle.fields.specs.Numbers.{Bytes, unsigned}
 use Rattle.fields.specs.Fields.{Item, fields}
-use Rattle.fields.proofs.Signed.{Bytes, InWidth, FormInWidth, all-weaken, all-take, all-drop, unsigned-below, formFrom-in}
+use Rattle.fields.proofs.Signed.{InWidth, FormInWidth, all-weaken, all-take, all-drop, unsigned-below, formFrom-in}
 use Rattle.fields.proofs.Contents.{ItemBytes, contents-bytes}
 use Rattle.bundle.specs.Layout.{Each, States, BundleFile}
 use Rattle.formula.specs.Formula.{encode, formulaFile, readFormula}

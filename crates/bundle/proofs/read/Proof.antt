@@ -10,7 +10,7 @@ refused-read-requires : tie.Need-refused-read-requires
 refused-read-requires c κs = search needs
 
 returns : tie.Need-returns
-returns c = read-unread _ _ (c .refused-read .ensures) ∙ sym (read-long _ _ _ (c .before .if1 .taken))
+returns c = record { is = read-unread _ _ (c .refused-read .ensures) ∙ sym (read-long _ _ _ (c .before .if1 .taken)) }
 
 read-header-requires : tie.Need-read-header-requires
 read-header-requires c κs = search needs
@@ -34,10 +34,10 @@ same-length-2 : tie.Need-same-length-2
 same-length-2 c = search needs
 
 returns-2 : tie.Need-returns-2
-returns-2 c = c .before .before .before .read-constraints .ensures ∙ sym (read-short _ _ _ (c .before .before .before .before .before .before .before .before .before .before .if1 .left))
+returns-2 c = record { is = c .before .before .before .read-constraints .ensures ∙ sym (read-short _ _ _ (c .before .before .before .before .before .before .before .before .before .before .if1 .left)) }
 
 returns-3 : tie.Need-returns-3
-returns-3 c = read-unread _ _ (c .refused-read2 .ensures) ∙ sym (read-short _ _ _ (c .before .before .before .before .before .if1 .left) ∙ stored-refused _ _ (scan-header (c .before .before .before .before .read-header .ensures) 1 (c .before .before .number .given .1)))
+returns-3 c = record { is = read-unread _ _ (c .refused-read2 .ensures) ∙ sym (read-short _ _ _ (c .before .before .before .before .before .if1 .left) ∙ stored-refused _ _ (scan-header (c .before .before .before .before .read-header .ensures) 1 (c .before .before .number .given .1))) }
 
 pub read-spec : {M : Type 1} → statement M
 read-spec =

@@ -33,7 +33,7 @@ returns c =
     let start = c .before .before .before .file .given .0 .1 .0 in
     let size = c .before .before .before .file .given .0 .1 .1 .0 in
     let z : start + size - start ≡ size = omega arith in
-    (rw (s, f, z), rw (s, f))
+    record { bytes = rw (s, f, z); place = rw (s, f) }
 
 sub-result-2 : tie.Need-sub-result-2
 sub-result-2 c = search needs
@@ -63,12 +63,12 @@ returns-2 c =
     let start = c .before .before .before .file .given .0 .1 .0 in
     let size = c .before .before .before .file .given .0 .1 .1 .0 in
     let z : start + size - start ≡ size = omega arith in
-    (rw (s, f, z), rw (s, f))
+    record { bytes = rw (s, f, z); place = rw (s, f) }
 
 returns-3 : tie.Need-returns-3
 returns-3 c =
     let s = shown-nothing (c .before .before .before .locate .ensures) (c .before .enum-told .given .1) in
-    (rw s, rw s)
+    record { bytes = rw s; place = rw s }
 
 pub show-spec : {M : Type 1} → statement M
 show-spec =

@@ -15,10 +15,10 @@ enum-known-answer : tie.Need-enum-known-answer
 enum-known-answer c = search needs
 
 returns : tie.Need-returns
-returns c = sym (answer-part (c .before .before .locate .ensures) (c .enum-told .given .1))
+returns c = record { is = sym (answer-part (c .before .before .locate .ensures) (c .enum-told .given .1)) }
 
 returns-2 : tie.Need-returns-2
-returns-2 c = sym (answer-nothing (c .before .before .before .locate .ensures) (c .before .answer .given .1))
+returns-2 c = record { is = sym (answer-nothing (c .before .before .before .locate .ensures) (c .before .answer .given .1)) }
 
 pub show-answer-spec : {M : Type 1} → statement M
 show-answer-spec =

@@ -22,7 +22,7 @@ show-requires : tie.Need-show-requires
 show-requires c κs = search needs
 
 returns : tie.Need-returns
-returns c = kept _ (c .before .show .ensures .0) (search needs)
+returns c = kept _ (c .before .show .ensures .bytes) (search needs)
 
 copy-requires : tie.Need-copy-requires
 copy-requires c κs = search needs
@@ -31,7 +31,7 @@ same-length : tie.Need-same-length
 same-length c = search needs
 
 returns-2 : tie.Need-returns-2
-returns-2 c = copied _ (c .before .before .before .before .before .show .ensures .0) (search needs) (c .before .before .copy .ensures)
+returns-2 c = copied _ (c .before .before .before .before .before .show .ensures .bytes) (search needs) (c .before .before .copy .ensures)
 
 pub dulgaverk-show-spec : {M : Type 1} → statement M
 dulgaverk-show-spec = tie.close (tie.spec show-requires returns copy-requires same-length returns-2)

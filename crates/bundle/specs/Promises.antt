@@ -1,0 +1,53 @@
+-- What the functions read, write, show and show_answer ensure, each as one record; the theorems of `guarantee` speak of these very records. Assumes nothing.
+use mathlib.Core.Path.{_≡_}
+use mathlib.Core.Bool.{cond}
+use mathlib.Core.List.{List}
+use Prim.Native.Nat.{ℕ, _+_}
+use lib.Dec.{eqb}
+use lib.IntN.{ℤ}
+use lib.ListN.{take, drop}
+use denote.Ref.{RefT}
+use Rattle.fields.specs.declared.Answer.{Answer}
+use Rattle.fields.specs.Answers.{fileA, Written}
+use Rattle.bundle.specs.Read.{BundleRead, readBundle}
+use Rattle.bundle.specs.Write.{writeBundle}
+use Rattle.bundle.specs.Show.{Part, showPart, showAnswer}
+use Rattle.bundle.specs.declared.ReadResult.{ReadResult}
+use Rattle.bundle.specs.declared.WriteResult.{WriteResult}
+
+-- ---- reading: it returns r, and the outputs lent as kinds and numbers are kinds′ and numbers′ afterwards
+abbrev pub readOf : ReadResult → List ℕ → List ℤ → BundleRead
+readOf r kinds numbers = record { answer = r .answer; count = r .count; K = r .k; kinds = kinds; numbers = numbers }
+
+pub record Reads (file kinds : List ℕ) (numbers : List ℤ) (kinds′ : List ℕ) (numbers′ : List ℤ) (r : ReadResult) : Type 0 where
+  pub is : readOf r kinds′ numbers′ ≡ readBundle kinds numbers file
+
+-- ---- writing: it returns r, and the lent output is `left` afterwards
+abbrev pub writtenOf : WriteResult → List ℕ → Written
+writtenOf r left = record { answer = r .answer; count = r .count; output = left }
+
+pub record Writes (K : ℕ) (kinds : List ℕ) (numbers : List ℤ) (output left : List ℕ) (r : WriteResult) : Type 0 where
+  pub is : writtenOf r left ≡ writeBundle K kinds numbers output
+
+-- ---- showing
+-- A's or B's, by a part's file.
+abbrev pub ofFile : {X : Type 0} → (file : ℕ) → (a b : X) → X
+ofFile file a b = cond (eqb file fileA) a b
+
+-- The bytes of a part, and where they lie: in the buffer itself, `start` bytes behind its beginning.
+abbrev pub partBytes : Part → (A B : List ℕ) → List ℕ
+partBytes p A B = take (p .size) (drop (p .start) (ofFile (p .file) A B))
+
+abbrev pub behind : ℕ × ℕ → ℕ → ℕ × ℕ
+behind p n = (p .0, n + p .1)
+
+abbrev pub partPlace : Part → (a b : ℕ × ℕ) → ℕ × ℕ
+partPlace p a b = behind (ofFile (p .file) a b) (p .start)
+
+-- It returns r, a part of the buffers a and b: these bytes, and in these places.
+pub record Shows (a b : RefT (List ℕ)) (line : ℕ) (r : RefT (List ℕ)) : Type 0 where
+  pub bytes : r .now ≡ partBytes (showPart (a .now) (b .now) line) (a .now) (b .now)
+  pub place : r .ptr ≡ partPlace (showPart (a .now) (b .now) line) (a .ptr) (b .ptr)
+
+pub record AnswersShow (A B : List ℕ) (line : ℕ) (r : Answer) : Type 0 where
+  pub is : r ≡ showAnswer A B line
