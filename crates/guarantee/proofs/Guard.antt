@@ -6,22 +6,21 @@ use Prim.Native.Nat.{ℕ, _≤_}
 use native.Mathlib.Omega.{arith}
 use mir.Facts.{yes-and}
 use lib.Dec.{T, leb, le→leb}
-use lib.ListN.{length, take}
-use lib.Seq.{take-at}
+use lib.ListN.{length, take, length-take}
 use lib.IntN.{ℤ, natAbs}
 use Rattle.forms.specs.Edition.{edition1}
 use Rattle.forms.specs.Forms.{All, nil, cons, Formula}
-use Rattle.fields.specs.Answers.{answer, acceptance, fileProof, accepted, Written}
-use Rattle.fields.specs.Fields.{fileOf, fields}
+use Rattle.fields.specs.Answers.{acceptance, accepted}
+use Rattle.fields.specs.Fields.{fields}
 use Rattle.fields.proofs.Results.{needs, passes, each-accepted}
-use Rattle.formula.specs.Formula.{formulaFile, readFormula}
+use Rattle.formula.specs.Formula.{readFormula}
+use Rattle.formula.specs.declared.Tested.{Tested}
 use Rattle.formula.specs.Test.{judge, registers, tested, judged, testFormula}
+use Rattle.formula.specs.Promises.{asTested}
 use Rattle.formula.proofs.Judge.{judge-true}
-use Rattle.proof.specs.Check.{check}
-use Rattle.proof.proofs.Sizes.{written-reads-back}
+use Rattle.proof.proofs.Agree.{one-formula}
 use Rattle.guarantee.specs.Guard.{GuardTells}
-use Rattle.guarantee.proofs.Accepted.{accepted-leaves}
-use Rattle.guarantee.proofs.Soundness.{interpolates, stated-K}
+use Rattle.guarantee.proofs.Soundness.{soundness}
 
 bool-true : (b : Bool) → T b → b ≡ true
 bool-true true t = refl
@@ -50,22 +49,22 @@ module _ (file : List ℕ) (values : List ℤ) (I : Formula) (reads : readFormul
   unfolding testFormula judged
   tested-as = rw read-whole
 
-pub guard-tells : GuardTells check testFormula
+pub guard-tells : GuardTells
 guard-tells = record {
-  tells = λ FA FB framedA framedB MA MB faithfulA faithfulB proof output bytesA bytesB bytesP h values count range.
-      let a = accepted-leaves (fileOf FA) (fileOf FB) proof output h in
-      let d = interpolates FA FB framedA framedB MA MB faithfulA faithfulB proof output a in
-      let back = written-reads-back (fileOf FA) (fileOf FB) proof bytesA bytesB bytesP (a .certified) in
-      let K-is : length values ≡ a .K = count ∙ stated-K FA framedA MA faithfulA (a .K) _ (a .certified .fileA) in
-      let front : take (check (fileOf FA) (fileOf FB) proof output .count) (check (fileOf FA) (fileOf FB) proof output .output) ≡ formulaFile edition1 (a .K) (a .formula) =
-      ap (λ (w : Written). take (w .count) (w .output)) (a .leaves) ∙ take-at (formulaFile edition1 (a .K) (a .formula)) _ _ refl in
-      let told : testFormula (formulaFile edition1 (a .K) (a .formula)) values ≡ record { answer = acceptance; holds = judge (a .formula) (registers values) } =
-      tested-as (formulaFile edition1 (a .K) (a .formula)) values (a .formula)
-      (subst (λ (k : ℕ). readFormula k (fields (formulaFile edition1 (a .K) (a .formula))) ≡ accepted (a .formula)) (sym K-is) (back .0)) (back .1)
-      (omega (arith, a .certified .fileProof .low)) (omega (arith, a .certified .fileProof .high)) range in (
-        λ m. ap (λ (f : List ℕ). testFormula f values) front ∙ told
-            ∙ ap (λ (b : Bool). record { answer = acceptance; holds = b }) (bool-true _ (judge-true (a .formula) (registers values) .1 (d .A-true (registers values) m))),
-        λ m. ap (λ (f : List ℕ). testFormula f values) front ∙ told
-            ∙ ap (λ (b : Bool). record { answer = acceptance; holds = b }) (bool-false _ (λ t. d .B-false (registers values) m (judge-true (a .formula) (registers values) .0 t))),
+  tells = λ FA FB framedA framedB MA MB faithfulA faithfulB proof output left r bytesA bytesB bytesP c h values count range t d.
+      let x = soundness .interpolates FA FB framedA framedB MA MB faithfulA faithfulB proof output left r c h in
+      let (reads, short) = x .reads-back bytesA bytesB bytesP in
+      let K-is : length values ≡ x .K = count ∙ x .K-of-A in
+      let told : t ≡ asTested (record { answer = acceptance; holds = judge (x .formula) (registers values) }) =
+      d .is ∙ ap asTested (tested-as (take (r .count) left) values (x .formula) (subst (λ (k : ℕ). readFormula k (fields (take (r .count) left)) ≡ accepted (x .formula)) (sym K-is) reads)
+      (omega (arith, short, length-take (r .count) left)) (omega (arith, x .certified .fileProof .low)) (omega (arith, x .certified .fileProof .high)) range) in (
+        ap (λ (t : Tested). t .answer) told,
+        λ K I d.
+            let same : I ≡ x .formula = one-formula d (x .certified) .1 in (
+              λ e. judge-true I (registers values) .0 (rw (same, sym (ap (λ (t : Tested). t .holds) told), e) tt),
+              λ t. ap (λ (t : Tested). t .holds) told ∙ bool-true _ (judge-true (x .formula) (registers values) .1 (rw (sym same) t)),
+            ),
+        λ m. ap (λ (t : Tested). t .holds) told ∙ bool-true _ (judge-true (x .formula) (registers values) .1 (x .interpolant .A-true (registers values) m)),
+        λ m. ap (λ (t : Tested). t .holds) told ∙ bool-false _ (λ t. x .interpolant .B-false (registers values) m (judge-true (x .formula) (registers values) .0 t)),
       );
 }

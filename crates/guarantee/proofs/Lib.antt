@@ -1,5 +1,5 @@
--- Proofs of what is promised of the operations together.
-pub mod Accepted
+-- What is promised holds of the operations.
+pub mod Refusals
+pub mod Acceptance
 pub mod Soundness
-pub mod Operation
 pub mod Guard

@@ -1,22 +1,33 @@
 -- Demand 3 holds of the check. Assumes nothing.
-use mathlib.Core.Path.{_≡_, sym, _∙_, ap, subst}
+use mathlib.Core.Path.{_≡_, refl, sym, _∙_, ap, ap₂, subst}
 use mathlib.Core.Bool.{Bool, true, false}
 use mathlib.Core.List.{List, []}
 use mathlib.Core.Option.{some}
-use Prim.Native.Nat.{ℕ}
-use Rattle.forms.specs.Edition.{Edition}
+use Prim.Native.Nat.{ℕ, _≤_}
+use lib.ListN.{length, take}
+use lib.Seq.{take-at}
+use Rattle.forms.specs.Edition.{Edition, edition1}
 use Rattle.forms.specs.Forms.{All, Line, Constraint, Formula}
-use Rattle.calculus.specs.Rules.{Entry, Derive, Closed, derive, strengthen, number, stride, step, entries, Interpolant}
-use Rattle.fields.specs.Answers.{Written}
-use Rattle.fields.specs.Fields.{Item, Framed, fileOf, withoutNotes}
+use Rattle.calculus.specs.Rules.{Entry, Closed, derive, strengthen, number, stride, step, entries, Interpolant}
+use Rattle.fields.specs.declared.Answer.{Answer}
+use Rattle.fields.specs.Answers.{accepted, over, Written}
+use Rattle.fields.specs.Numbers.{Bytes}
+use Rattle.fields.specs.Fields.{Item, Framed, fileOf, withoutNotes, fields, Noted, Kept}
 use Rattle.fields.proofs.Framing.{items-fileOf}
+use Rattle.fields.proofs.Whole.{whole-file}
 use Rattle.bundle.specs.Layout.{StatesAll, BundleFile}
+use Rattle.formula.specs.Formula.{formulaFile, readFormula}
 use Rattle.proof.specs.Check.{check}
 use Rattle.proof.specs.Layout.{Certifies}
 use Rattle.proof.proofs.Agree.{certified-interpolant}
-use Rattle.proof.proofs.Notes.{notes-change-nothing}
-use Rattle.guarantee.specs.Soundness.{Meaning, Faithful, LaidBundle, Placed, none, rows, claims, LaidProof, Delivered, Soundness}
-use Rattle.guarantee.proofs.Accepted.{Accepted, accepted-leaves}
+use Rattle.proof.proofs.Notes.{notes-change-nothing, notes-keep-count}
+use Rattle.proof.proofs.Sizes.{written-reads-back}
+use Rattle.checking.specs.declared.check.Checked.{Checked}
+use Rattle.checking.specs.Promises.{Checks}
+use Rattle.guarantee.specs.LaidOut.{Listed, LaidBundle, Placed, unclaimed, claimed, strengthen as strengthens, number as numbers, stride as strides, LaidProof, LaidOut}
+use Rattle.guarantee.specs.Acceptance.{Checkable}
+use Rattle.guarantee.specs.Soundness.{Meaning, Faithful, Delivered, Soundness}
+use Rattle.guarantee.proofs.Acceptance.{is-checkable, leaves}
 
 -- ---- what a writer stated is what the check read
 some-is : {X : Type 0} {x y : X} → some x ≡ some y → x ≡ y
@@ -28,58 +39,96 @@ meaning-is F framed M faithful K cs b =
     faithful F K cs (subst (λ (l : List Item). StatesAll l K cs) (sym e) (b .laid))
 
 module _ (F : List Item) (framed : All Framed F) (M : Meaning) (faithful : Faithful M) (K : ℕ) (cs : List Constraint) (b : BundleFile (fileOf F) K cs) where
-  pub stated-K : M F .0 ≡ K
+  stated-K : M F .0 ≡ K
   stated-K = ap (λ (m : ℕ × List Constraint). m .0) (meaning-is F framed M faithful K cs b)
 
   stated : M F .1 ≡ cs
   stated = ap (λ (m : ℕ × List Constraint). m .1) (meaning-is F framed M faithful K cs b)
 
--- ---- claims stand only where they may
-claims-placed : {e : Edition} {inB : ℕ → Bool} {ls : List Line} {I : Formula} (p : Closed e inB ls I) (rest : List Entry) → Placed rest → Placed (entries p rest)
-claims-placed (derive true n _ p) rest h = claims (step n) (claims-placed p rest h)
-claims-placed (derive false n _ p) rest h = rows (Derive (step n)) (claims-placed p rest h)
-claims-placed (strengthen i _ _ p1 pE p0) rest h = rows _ (claims-placed p1 _ (claims-placed pE _ (claims-placed p0 rest h)))
-claims-placed (number i _ _ _) rest h = rows _ h
-claims-placed (stride i g _ _ _ _) rest h = rows _ h
+-- ---- a closed proof's entries are one closed table
+closed-placed : {e : Edition} {inB : ℕ → Bool} {ls : List Line} {I : Formula} (p : Closed e inB ls I) (rest : List Entry) → Placed (entries p rest) rest
+closed-placed (derive true n _ p) rest = claimed (step n) _ _ (closed-placed p rest)
+closed-placed (derive false n _ p) rest = unclaimed (step n) (closed-placed p rest)
+closed-placed (strengthen i _ _ p1 pE p0) rest = strengthens i (closed-placed p1 _) (closed-placed pE _) (closed-placed p0 rest)
+closed-placed (number i _ _ _) rest = numbers i
+closed-placed (stride i g _ _ _ _) rest = strides i g
 
-laid-bundle : {file : List ℕ} {K : ℕ} {cs : List Constraint} → BundleFile file K cs → LaidBundle file
-laid-bundle {K = K} {cs = cs} b = record { K = K; constraints = cs; list = b .list; whole = b .whole; laid = b .laid }
+laid-bundle : {file : List ℕ} {K : ℕ} {cs : List Constraint} → BundleFile file K cs → LaidBundle file K
+laid-bundle {cs = cs} b = record { constraints = cs; list = b .list; whole = b .whole; laid = b .laid }
 
-laid-proof : {A B proof : List ℕ} {K : ℕ} {I : Formula} → Certifies A B proof K I → LaidProof proof
-laid-proof {K = K} c = record {
+laid-out : {A B proof : List ℕ} {K : ℕ} {I : Formula} → Certifies A B proof K I → LaidOut A B proof
+laid-out {K = K} c = record {
   K = K;
-  entries = c .es;
-  body = c .fileProof .body;
-  whole = c .fileProof .whole;
-  low = c .fileProof .low;
-  high = c .fileProof .high;
-  enters = c .fileProof .enters;
-  placed = subst Placed (c .proves .are) (claims-placed (c .proves .proof) [] none);
+  ofA = laid-bundle (c .fileA);
+  ofB = laid-bundle (c .fileB);
+  ofProof = record {
+    entries = c .es;
+    body = c .fileProof .body;
+    whole = c .fileProof .whole;
+    low = c .fileProof .low;
+    high = c .fileProof .high;
+    enters = c .fileProof .enters;
+    placed = subst (λ (es : List Entry). Placed es []) (c .proves .are) (closed-placed (c .proves .proof) []);
+  };
 }
 
-module _ (FA FB : List Item) (framedA : All Framed FA) (framedB : All Framed FB) (MA MB : Meaning) (faithfulA : Faithful MA) (faithfulB : Faithful MB)
-    (proof output : List ℕ) {left : Written} (a : Accepted (fileOf FA) (fileOf FB) proof output left) where
-  pub interpolates : Interpolant (MA FA .1) (MB FB .1) (a .formula)
-  interpolates =
-      rw (stated FA framedA MA faithfulA (a .K) _ (a .certified .fileA), stated FB framedB MB faithfulB (a .K) _ (a .certified .fileB)) (certified-interpolant (a .certified))
+lists : {file : List ℕ} {K : ℕ} {cs : List Constraint} → Bytes file → BundleFile file K cs → Listed file
+lists {file} k b = let o = whole-file file k (b .list) (b .whole) in record { list = o .list; framed = o .framed; are = o .are }
 
-  unfoldable pub delivered : Delivered FA FB MA MB proof output (left .output)
+-- ---- what is delivered
+module _ (FA FB : List Item) (framedA : All Framed FA) (framedB : All Framed FB) (MA MB : Meaning) (faithfulA : Faithful MA) (faithfulB : Faithful MB)
+    (proof output left : List ℕ) (r : Checked) (c : Checks (fileOf FA) (fileOf FB) proof output left r) (a : Checkable (fileOf FA) (fileOf FB) proof output) where
+  abbrev file : List ℕ
+  file = formulaFile edition1 (a .K) (a .formula)
+
+  front-is : take (r .count) left ≡ file
+  unfolding over
+  front-is = ap₂ (λ (n : ℕ) (bs : List ℕ). take n bs) (leaves c a .count-is) (leaves c a .left-is) ∙ take-at file _ _ refl
+
+  pub delivered : Delivered FA FB MA MB proof output left r
   delivered = record {
     K = a .K;
     formula = a .formula;
     certified = a .certified;
+    K-of-A = stated-K FA framedA MA faithfulA (a .K) _ (a .certified .fileA);
+    K-of-B = stated-K FB framedB MB faithfulB (a .K) _ (a .certified .fileB);
     fits = a .fits;
-    bytes = ap (λ (w : Written). w .output) (a .leaves);
-    interpolant = interpolates;
+    count = leaves c a .count-is;
+    bytes = leaves c a .left-is;
+    reads-back = λ bytesA bytesB bytesP.
+        let (reads, short) = written-reads-back (fileOf FA) (fileOf FB) proof bytesA bytesB bytesP (a .certified) in
+        (ap (λ (bs : List ℕ). readFormula (a .K) (fields bs)) front-is ∙ reads, subst (λ (n : ℕ). n ≤ edition1 .formulaBytes) (sym (leaves c a .count-is)) short);
+    interpolant = rw (stated FA framedA MA faithfulA (a .K) _ (a .certified .fileA), stated FB framedB MB faithfulB (a .K) _ (a .certified .fileB)) (certified-interpolant (a .certified));
   }
 
+-- ---- notes
+module _ {A B proof output left : List ℕ} {r : Checked} (c : Checks A B proof output left r) where
+  is-number : r .answer .number ≡ check A B proof output .answer .number
+  is-number = ap (λ (w : Written). w .answer .number) (c .is)
+
+  is-file : r .answer .file ≡ check A B proof output .answer .file
+  is-file = ap (λ (w : Written). w .answer .file) (c .is)
+
+  is-count : r .count ≡ check A B proof output .count
+  is-count = ap (λ (w : Written). w .count) (c .is)
+
+  is-left : left ≡ check A B proof output .output
+  is-left = ap (λ (w : Written). w .output) (c .is)
+
 -- Demand 3.
-pub soundness : Soundness check
+pub soundness : Soundness
 soundness = record {
-  interpolates = λ FA FB framedA framedB MA MB faithfulA faithfulB proof output h.
-      delivered FA FB framedA framedB MA MB faithfulA faithfulB proof output (accepted-leaves (fileOf FA) (fileOf FB) proof output h);
-  notes = λ A A′ B B′ proof proof′ output. notes-change-nothing A A′ B B′ proof proof′ output;
-  refuses = λ A B proof output no-layout h.
-      let a = accepted-leaves A B proof output h in
-      no-layout (laid-bundle (a .certified .fileA), laid-bundle (a .certified .fileB), laid-proof (a .certified));
+  interpolates = λ FA FB framedA framedB MA MB faithfulA faithfulB proof output left r c h.
+      delivered FA FB framedA framedB MA MB faithfulA faithfulB proof output left r c (is-checkable c h);
+  listed = λ A B proof output left r bytesA bytesB c h. let x = is-checkable c h .certified in (lists bytesA (x .fileA), lists bytesB (x .fileB));
+  notes = λ A A′ B B′ proof proof′ output left left′ r r′ nA nB nP kA kB kP c c′.
+      let same = notes-change-nothing A A′ B B′ proof proof′ output nA nB nP kA kB kP in
+      let same-count = notes-keep-count A A′ B B′ proof proof′ output nA nB nP kA kB kP in (
+        is-number c′ ∙ same .0 ∙ sym (is-number c),
+        is-file c′ ∙ same .1 ∙ sym (is-file c),
+        is-count c′ ∙ same-count ∙ sym (is-count c),
+        is-left c′ ∙ same .2 ∙ sym (is-left c),
+      );
+  laid-out = λ A B proof output left r c h. laid-out (is-checkable c h .certified);
+  refuses = λ A B proof output left r c none h. none (laid-out (is-checkable c h .certified));
 }

@@ -1,4 +1,6 @@
--- What is promised of the operations together.
+-- What is promised of the operations together: a file a demand of the user, statements only.
+pub mod Refusals
+pub mod Acceptance
+pub mod LaidOut
 pub mod Soundness
-pub mod Operation
 pub mod Guard

@@ -1,0 +1,303 @@
+-- Demand 2 holds of the operations. Assumes nothing.
+use mathlib.Core.Path.{_≡_, refl, sym, _∙_, ap, subst}
+use mathlib.Core.Bool.{Bool, true, false, _&&_}
+use mathlib.Core.List.{List, [], _∷_, _++_}
+use mathlib.Core.Option.{Option, none, some, Option·map}
+use Prim.Native.Nat.{ℕ, zero, suc, _+_, _-_, _≤_, _<_}
+use native.Mathlib.Omega.{arith}
+use borrow.Author.Tests.{lt-leb, ltb-true, ltb-false, leb-true, leb-false}
+use lib.Dec.{T, leb, ltb, leb→le, le→leb}
+use lib.IntN.{ℤ, pos, negsuc}
+use lib.ListN.{length}
+use lib.Signed.{mag}
+use Rattle.forms.specs.Edition.{edition1}
+use Rattle.forms.specs.Forms.{All, nil, cons, Constraint, Formula}
+use Rattle.fields.specs.declared.Answer.{Answer}
+use Rattle.fields.specs.Answers.{answer, acceptance, fileA, fileB, fileLent, Result, refused, accepted, _>>=_, _>>_, found, over, fit, Written, written}
+use Rattle.fields.specs.Numbers.{Bytes, unsignedBytes}
+use Rattle.fields.specs.Ranges.{Held}
+use Rattle.fields.specs.Fields.{Field, Fields, ends, cut, _▸_, fields, nth, Item, item, items, fieldBytes, fileOf}
+use Rattle.fields.specs.Header.{agrees}
+use Rattle.fields.proofs.Results.{Gives, never, not-0, accepts, weaken, bind, seq, finds, binds, passes, found-some}
+use Rattle.fields.proofs.Signed.{InWidth, all-weaken}
+use Rattle.fields.proofs.Contents.{ItemBytes}
+use Rattle.bundle.specs.declared.WriteResult.{WriteResult}
+use Rattle.bundle.specs.declared.ReadResult.{ReadResult}
+use Rattle.bundle.specs.Bundle.{Bundle, atMost, bundles}
+use Rattle.bundle.specs.Layout.{Each, nil as nil-each, cons as cons-each, BundleFile}
+use Rattle.bundle.specs.Read.{BundleRead, kindsOf, numbersOf, unread, store, stored, readBundle}
+use Rattle.bundle.specs.Write.{writeBundle}
+use Rattle.bundle.specs.Show.{Part, partOf, constraintPart, shownPart, answerOf, showAnswer}
+use Rattle.bundle.specs.Promises.{Reads, Writes}
+use Rattle.bundle.proofs.Laid.{BothLaid, laid-file, file-laid, bundle-gives, bundles-give, bundles-accept, short-gives, short-accepted}
+use Rattle.bundle.proofs.Writable.{Writable as Ready, bundleBytes-gives, bundleBytes-accepted}
+use Rattle.bundle.proofs.RoundTrips.{bytesWritten, rewritten, writtenAs, written-fits, readAs, read-file, write-then-read, read-then-write}
+use Rattle.formula.specs.Formula.{formulaFile}
+use Rattle.proof.specs.Check.{interpolant, check}
+use Rattle.proof.specs.Layout.{Certifies}
+use Rattle.proof.proofs.Agree.{interpolant-iff, never-0, one-formula, agreed, agrees-refl}
+use Rattle.checking.specs.declared.check.Checked.{Checked}
+use Rattle.checking.specs.Promises.{Checks}
+use Rattle.guarantee.specs.Acceptance.{Checkable, Readable, bundleFile, Writable, Showable, WrittenAs, ReadAs, Acceptance}
+use Rattle.guarantee.proofs.Refusals.{refusals}
+
+written-as : {bytes output left : List ℕ} {x : Answer} {count : ℕ} → _≡_ {A = Written} (record { answer = x; count = count; output = left }) (writtenAs bytes output) → WrittenAs bytes output left x count
+written-as e = record { answer = ap (λ (w : Written). w .answer) e; count-is = ap (λ (w : Written). w .count) e; left-is = ap (λ (w : Written). w .output) e }
+
+-- ---- check
+module _ (output : List ℕ) where
+  -- where the bytes fit, and where they do not
+  fit-yes : (bytes : List ℕ) (b : Bool) → T b → fit output b bytes ≡ writtenAs bytes output
+  unfolding fit
+  fit-yes bytes true t = refl
+  fit-yes bytes false t = absurd t
+
+  fit-accepted : (bytes : List ℕ) (b : Bool) → fit output b bytes .answer .number ≡ 0 → T b
+  unfolding fit
+  fit-accepted bytes true e = tt
+  fit-accepted bytes false e = absurd (omega arith)
+
+  module _ (A B proof : List ℕ) where
+    left-by : Result (ℕ × Formula) → Written
+    left-by r = written (r >>= λ (K, I). accepted (formulaFile edition1 K I)) output
+
+    from : (r : Result (ℕ × Formula)) → interpolant A B proof ≡ r → left-by r .answer .number ≡ 0 → Checkable A B proof output
+    unfolding left-by written _>>=_
+    from (refused a) e h = absurd (never-0 A B proof a e h)
+    from (accepted (K, I)) e h = record {
+      K = K;
+      formula = I;
+      certified = interpolant-iff A B proof K I .0 e;
+      fits = leb→le _ _ (fit-accepted (formulaFile edition1 K I) (leb (length (formulaFile edition1 K I)) (length output)) h);
+    }
+
+    checkable : check A B proof output .answer .number ≡ 0 → Checkable A B proof output
+    unfolding check left-by
+    checkable h = from (interpolant A B proof) refl h
+
+    certified-written : (c : Checkable A B proof output) → check A B proof output ≡ writtenAs (formulaFile edition1 (c .K) (c .formula)) output
+    unfolding check written _>>=_
+    certified-written c = rw (interpolant-iff A B proof (c .K) (c .formula) .1 (c .certified)) (fit-yes (formulaFile edition1 (c .K) (c .formula)) _ (le→leb _ _ (c .fits)))
+
+    certified-short : (K : ℕ) (I : Formula) → Certifies A B proof K I → length output < length (formulaFile edition1 K I)
+        → check A B proof output .answer ≡ answer 21 fileLent (length (formulaFile edition1 K I))
+    unfolding check written fit _>>=_
+    certified-short K I c h = rw (interpolant-iff A B proof K I .1 c, lt-leb (length (formulaFile edition1 K I)) (length output) h)
+
+-- The same of the function.
+module _ {A B proof output left : List ℕ} {r : Checked} (c : Checks A B proof output left r) where
+  pub is-checkable : r .answer .number ≡ 0 → Checkable A B proof output
+  is-checkable h = checkable output A B proof (subst (λ (w : Written). w .answer .number ≡ 0) (c .is) h)
+
+  pub leaves : (a : Checkable A B proof output) → WrittenAs (formulaFile edition1 (a .K) (a .formula)) output left (r .answer) (r .count)
+  leaves a = written-as (c .is ∙ certified-written output A B proof a)
+
+-- What was written fits.
+written-from : {P : List ℕ → Type 0} (output : List ℕ) (r : Result (List ℕ)) → Gives r P → written r output .answer .number ≡ 0 → (bytes : List ℕ) × P bytes × (length bytes ≤ length output)
+unfolding written
+written-from output (refused a) g h = absurd (not-0 (g .refusal a refl) h)
+written-from output (accepted bytes) g h = (bytes, g .gives bytes refl, leb→le _ _ (fit-accepted output bytes (leb (length bytes) (length output)) h))
+
+-- ---- read
+-- What was read fits both outputs.
+module _ (kinds : List ℕ) (numbers : List ℤ) where
+  abbrev Fit : Bundle → Type 0
+  Fit b = (length (kindsOf (b .constraints)) ≤ length kinds) × (length (numbersOf (b .constraints)) ≤ length numbers)
+
+  store-from : (s t : Bool) (b : Bundle) → store kinds numbers (s && t) b .answer .number ≡ 0 → T s × T t
+  unfolding store unread
+  store-from true true b h = (tt, tt)
+  store-from true false b h = absurd (omega arith)
+  store-from false t b h = absurd (omega arith)
+
+  stored-from : {P : Bundle → Type 0} (r : Result Bundle) → Gives r P → stored kinds numbers r .answer .number ≡ 0 → (b : Bundle) × P b × Fit b
+  unfolding stored unread
+  stored-from (refused a) g h = absurd (not-0 (g .refusal a refl) h)
+  stored-from (accepted b) g h =
+      let (s, t) = store-from (leb (length (kindsOf (b .constraints))) (length kinds)) (leb (length (numbersOf (b .constraints))) (length numbers)) b h in
+      (b, g .gives b refl, (leb→le _ _ s, leb→le _ _ t))
+
+  read-from : (file : List ℕ) → readBundle kinds numbers file .answer .number ≡ 0 → (b : Bundle) × BundleFile file (b .K) (b .constraints) × Fit b
+  unfolding readBundle
+  read-from file h = stored-from _ (seq (short-gives _ _ file) λ s. weaken (bundle-gives fileA none (fields file)) λ b l. laid-file file b s l) h
+
+module _ {file kinds : List ℕ} {numbers : List ℤ} {kinds′ : List ℕ} {numbers′ : List ℤ} {r : ReadResult} (c : Reads file kinds numbers kinds′ numbers′ r) where
+  read-answer : r .answer .number ≡ 0 → readBundle kinds numbers file .answer ≡ acceptance
+  read-answer h = subst (λ (x : BundleRead). x .answer ≡ acceptance) (c .is) (refusals .read file kinds numbers kinds′ numbers′ r c .0 .0 h)
+
+  read-as : {K : ℕ} {ks : List ℕ} {zs : List ℤ} → readBundle kinds numbers file ≡ readAs K ks zs kinds numbers → ReadAs K ks zs kinds numbers kinds′ numbers′ r
+  read-as q =
+      let e = c .is ∙ q in
+      record {
+        answer = ap (λ (x : BundleRead). x .answer) e;
+        count = ap (λ (x : BundleRead). x .count) e;
+        constants = ap (λ (x : BundleRead). x .K) e;
+        kinds-left = ap (λ (x : BundleRead). x .kinds) e;
+        numbers-left = ap (λ (x : BundleRead). x .numbers) e;
+      }
+
+  reads-it : (b : Readable file kinds numbers) → ReadAs (b .K) (kindsOf (b .constraints)) (numbersOf (b .constraints)) kinds numbers kinds′ numbers′ r
+  reads-it b = read-as (read-file kinds numbers file (record { K = b .K; constraints = b .constraints }) (b .states) (b .kinds-fit) (b .numbers-fit))
+
+  readable : r .answer .number ≡ 0 → Readable file kinds numbers
+  readable h =
+      let (b, f, fit) = read-from kinds numbers file (subst (λ (x : BundleRead). x .answer .number ≡ 0) (c .is) h) in
+      record { K = b .K; constraints = b .constraints; states = f; kinds-fit = fit .0; numbers-fit = fit .1 }
+
+-- ---- write
+module _ {K : ℕ} {kinds : List ℕ} {numbers : List ℤ} {output left : List ℕ} {w : WriteResult} (c : Writes K kinds numbers output left w) where
+  write-answer : w .answer .number ≡ 0 → writeBundle K kinds numbers output .answer ≡ acceptance
+  write-answer h = subst (λ (x : Written). x .answer ≡ acceptance) (c .is) (refusals .write K kinds numbers output left w c .0 .0 h)
+
+  writable : w .answer .number ≡ 0 → Writable K kinds numbers output
+  unfolding writeBundle
+  writable h =
+      let (bytes, (ready, are), fit) = written-from output _ (bundleBytes-gives K kinds numbers) (subst (λ (x : Written). x .answer .number ≡ 0) (c .is) h) in
+      record {
+        low = ready .low;
+        high = ready .high;
+        few = ready .few;
+        binary = all-weaken (λ kind t. leb→le kind 1 t) (ready .binary);
+        size = ready .size;
+        fits = subst (λ (bs : List ℕ). length bs ≤ length output) are fit;
+      }
+
+  writes-it : Writable K kinds numbers output → WrittenAs (bundleFile K kinds numbers) output left (w .answer) (w .count)
+  unfolding writeBundle
+  writes-it b =
+      let ready : Ready K kinds numbers = record { low = b .low; high = b .high; few = b .few; binary = all-weaken (λ kind h. le→leb kind 1 h) (b .binary); size = b .size } in
+      written-as (c .is ∙ ap (λ (x : Result (List ℕ)). written x output) (bundleBytes-accepted K kinds numbers ready) ∙ written-fits output (bundleFile K kinds numbers) (b .fits))
+
+-- ---- show
+-- there are as many fields as are listed
+nth-there : (fs : Fields) {list : List Item} → items fs ≡ some list → (i : ℕ) → i < length list → (f : Field) × (nth i fs ≡ some f)
+unfolding items nth
+nth-there (ends at) {list} e i h = absurd (let z : [] ≡ list = cc in let n = ap length z in omega arith)
+nth-there (cut at) e i h = absurd (let z : _≡_ {A = ℕ} 0 1 = cc in omega arith)
+nth-there (f ▸ fs) {list} e zero h = (f, refl)
+nth-there (f ▸ fs) {list} e (suc i) h = go (λ is p k. nth-there fs {list = is} p i k) (items fs) refl e
+  where
+    go : ((is : List Item) → items fs ≡ some is → i < length is → (g : Field) × (nth i fs ≡ some g)) → (o : Option (List Item)) → items fs ≡ o → Option·map (λ is. item (f .tag) (f .contents) ∷ is) o ≡ some list → (g : Field) × (nth i fs ≡ some g)
+    go ih none p q = absurd (let z : _≡_ {A = ℕ} 0 1 = cc in omega arith)
+    go ih (some is) p q =
+        let z : item (f .tag) (f .contents) ∷ is ≡ list = cc in
+        let n = ap length z in
+        ih is p (omega arith)
+
+nth-gone : (fs : Fields) {list : List Item} → items fs ≡ some list → (i : ℕ) → length list ≤ i → nth i fs ≡ none
+unfolding items nth
+nth-gone (ends at) e i h = refl
+nth-gone (cut at) e i h = refl
+nth-gone (f ▸ fs) {list} e i h = go (λ is p i k. nth-gone fs {list = is} p i k) i h (items fs) refl e
+  where
+    go : ((is : List Item) → items fs ≡ some is → (i : ℕ) → length is ≤ i → nth i fs ≡ none) → (i : ℕ) → length list ≤ i → (o : Option (List Item)) → items fs ≡ o → Option·map (λ is. item (f .tag) (f .contents) ∷ is) o ≡ some list → nth i (f ▸ fs) ≡ none
+    go ih i h none p q = absurd (let z : _≡_ {A = ℕ} 0 1 = cc in omega arith)
+    go ih zero h (some is) p q = absurd (let z : item (f .tag) (f .contents) ∷ is ≡ list = cc in let n = ap length z in omega arith)
+    go ih (suc i) h (some is) p q =
+        let z : item (f .tag) (f .contents) ∷ is ≡ list = cc in
+        let n = ap length z in
+        ih is p i (omega arith)
+
+each-length : {X Y : Type 0} {R : X → Y → Type 0} {xs : List X} {ys : List Y} → Each R xs ys → length xs ≡ length ys
+each-length nil-each = refl
+each-length (cons-each _ h) = ap suc (each-length h)
+
+listed-length : {file : List ℕ} {K : ℕ} {cs : List Constraint} (f : BundleFile file K cs) → length (f .list) ≡ suc (suc (length cs))
+listed-length f = ap length (f .laid .are) ∙ ap (λ (n : ℕ). suc (suc n)) (each-length (f .laid .states))
+
+module _ (A B : List ℕ) (line : ℕ) where
+  module _ {K : ℕ} {a b : List Constraint} (fA : BundleFile A K a) (fB : BundleFile B K b) where
+    part-there : line < length a + length b → (p : Part) × (constraintPart A B (length a) line ≡ some p)
+    unfolding constraintPart partOf
+    part-there h = go (ltb line (length a)) refl
+      where
+        go : (t : Bool) → ltb line (length a) ≡ t → (p : Part) × (_≡_ {A = Option Part} (elim t [ true ↦ partOf fileA (nth (line + 2) (fields A)) | false ↦ partOf fileB (nth (line - length a + 2) (fields B)) ]) (some p))
+        go true e = let (f, q) = nth-there (fields A) (fA .whole) (line + 2) (omega (arith, ltb-true line (length a) e, listed-length fA)) in (record { file = fileA; start = f .at; size = 3 + length (f .contents) }, rw q)
+        go false e = let (f, q) = nth-there (fields B) (fB .whole) (line - length a + 2) (omega (arith, ltb-false line (length a) e, listed-length fB)) in (record { file = fileB; start = f .at; size = 3 + length (f .contents) }, rw q)
+
+    part-gone : length a + length b ≤ line → constraintPart A B (length a) line ≡ none
+    unfolding constraintPart partOf
+    part-gone h = go (ltb line (length a)) refl
+      where
+        go : (t : Bool) → ltb line (length a) ≡ t → _≡_ {A = Option Part} (elim t [ true ↦ partOf fileA (nth (line + 2) (fields A)) | false ↦ partOf fileB (nth (line - length a + 2) (fields B)) ]) none
+        go true e = absurd (omega (arith, ltb-true line (length a) e))
+        go false e = rw (nth-gone (fields B) (fB .whole) (line - length a + 2) (omega (arith, listed-length fB)))
+
+    -- what the show finds in two bundles
+    found-there : line < length a + length b → showAnswer A B line ≡ acceptance
+    unfolding showAnswer shownPart agrees answerOf
+    found-there h =
+        let a′ : Bundle = record { K = K; constraints = a } in
+        let b′ : Bundle = record { K = K; constraints = b } in
+        let (p, e) = part-there h in
+        ap answerOf
+        (passes _ (short-accepted _ fileA A (fA .short)) ∙ passes _ (short-accepted _ fileB B (fB .short))
+        ∙ binds _ (bundles-accept A B a′ b′ (record { laidA = file-laid A a′ fA tt; laidB = file-laid B b′ fB (agrees-refl K) })) ∙ found-some _ e)
+
+  -- the line is there if the part is
+  is-there : {K : ℕ} {a b : List Constraint} → BundleFile A K a → BundleFile B K b → {p : Part} → constraintPart A B (length a) line ≡ some p → line < length a + length b
+  is-there {a = a} {b = b} fA fB {p} e = go (leb (length a + length b) line) refl
+    where
+      go : (t : Bool) → leb (length a + length b) line ≡ t → line < length a + length b
+      go true q = absurd (let n = part-gone fA fB (leb-true _ _ q) in let z : _≡_ {A = ℕ} 0 1 = cc in omega arith)
+      go false q = leb-false _ _ q
+
+  both-showable : (a b : Bundle) → BothLaid A B (a, b) → length A ≤ edition1 .bundleBytes → length B ≤ edition1 .bundleBytes → {p : Part} → constraintPart A B (length (a .constraints)) line ≡ some p → Showable A B line
+  both-showable a b l sA sB e =
+      let fA = laid-file A a sA (l .laidA) in
+      let fB = subst (λ (K : ℕ). BundleFile B K (b .constraints)) (agreed (a .K) (b .K) (l .laidB .agree)) (laid-file B b sB (l .laidB)) in
+      record { K = a .K; a = a .constraints; b = b .constraints; statesA = fA; statesB = fB; there = is-there fA fB e }
+
+  shown-gives : Gives (shownPart A B line) (λ _. Showable A B line)
+  unfolding shownPart
+  shown-gives = seq (short-gives _ fileA A) λ sA. seq (short-gives _ fileB B) λ sB. bind (bundles-give A B) λ (a, b) l. weaken (finds _ _ tt) λ p e. both-showable a b l sA sB e
+
+  showable : showAnswer A B line .number ≡ 0 → Showable A B line
+  unfolding showAnswer answerOf
+  showable = go (shownPart A B line) refl
+    where
+      go : (r : Result Part) → shownPart A B line ≡ r → answerOf r .number ≡ 0 → Showable A B line
+      go (refused a) e h = absurd (not-0 (shown-gives .refusal a e) h)
+      go (accepted p) e h = shown-gives .gives p e
+
+-- ---- the round trips
+held-in : (z : ℤ) → Held 2 z → InWidth 2 z
+held-in (pos n) h = record { high = h .held .half; low = omega arith }
+held-in (negsuc n) h = record { high = omega arith; low = omega (arith, h .held .half) }
+
+-- the contents of a file of bytes are bytes
+all-right : {X : Type 0} {P : X → Type 0} (xs ys : List X) → All P (xs ++ ys) → All P ys
+all-right [] ys h = h
+all-right (x ∷ xs) ys (cons _ h) = all-right xs ys h
+
+all-left : {X : Type 0} {P : X → Type 0} (xs ys : List X) → All P (xs ++ ys) → All P xs
+all-left [] ys h = nil
+all-left (x ∷ xs) ys (cons p h) = cons p (all-left xs ys h)
+
+contents-bytes : (F : List Item) → Bytes (fileOf F) → All ItemBytes F
+unfolding fileOf fieldBytes
+contents-bytes [] h = nil
+contents-bytes (i ∷ is) h = cons (record { bytes = all-right (i .tag ∷ unsignedBytes 2 (length (i .contents))) (i .contents) (all-left (fieldBytes (i .tag) (i .contents)) (fileOf is) h) }) (contents-bytes is (all-right (fieldBytes (i .tag) (i .contents)) (fileOf is) h))
+
+-- Demand 2.
+pub acceptance-holds : Acceptance
+acceptance-holds = record {
+  accepted-iff = λ A B proof output left r c. (is-checkable c, λ a. ap (λ (x : Answer). x .number) (leaves c a .answer));
+  writes = λ A B proof output left r c a. leaves c a;
+  too-short = λ A B proof output left r c K I d h. ap (λ (w : Written). w .answer) (c .is) ∙ certified-short output A B proof K I d h;
+  one-formula = λ A B proof K K′ I I′ c c′. one-formula c c′;
+  read-iff = λ file lentKinds lentNumbers leftKinds leftNumbers r c. (readable c, λ b. ap (λ (x : Answer). x .number) (reads-it c b .answer));
+  reads = λ file lentKinds lentNumbers leftKinds leftNumbers r c b. reads-it c b;
+  write-iff = λ K kinds numbers output left w c. (writable c, λ b. ap (λ (x : Answer). x .number) (writes-it c b .answer));
+  writes-bundle = λ K kinds numbers output left w c b. writes-it c b;
+  show-iff = λ A B line r c. (
+    λ h. showable A B line (ap (λ (x : Answer). x .number) (sym (c .is)) ∙ h),
+    λ s. ap (λ (x : Answer). x .number) (c .is ∙ found-there A B line (s .statesA) (s .statesB) (s .there)),
+  );
+  write-then-read = λ K kinds numbers output left w widths c h lentKinds lentNumbers leftKinds leftNumbers r roomKinds roomNumbers d.
+      read-as d (ap (λ (x : Written). readBundle lentKinds lentNumbers (bytesWritten x)) (c .is)
+      ∙ write-then-read K kinds numbers (all-weaken held-in widths) output (write-answer c h) lentKinds lentNumbers roomKinds roomNumbers);
+  read-then-write = λ F framed bytes lentKinds lentNumbers leftKinds leftNumbers r c h output left w room d.
+      written-as (d .is ∙ ap (λ (x : BundleRead). rewritten x output) (c .is)
+      ∙ read-then-write F framed (contents-bytes F bytes) lentKinds lentNumbers (read-answer c h) output room);
+}

@@ -1,0 +1,197 @@
+-- Demand 1 holds of the operations. Assumes nothing.
+use mathlib.Core.Path.{_≡_, refl, sym, _∙_, ap, subst}
+use mathlib.Core.Bool.{Bool, true, false, _&&_}
+use mathlib.Core.List.{List, []}
+use mathlib.Core.Option.{some}
+use Prim.Native.Nat.{ℕ, zero, suc}
+use native.Mathlib.Nat.{zero-add}
+use native.Mathlib.Omega.{arith}
+use lib.Dec.{leb}
+use lib.ListN.{length}
+use lib.IntN.{ℤ}
+use Rattle.forms.specs.Edition.{Edition, edition1}
+use Rattle.forms.specs.Forms.{Formula}
+use Rattle.fields.specs.declared.Answer.{Answer}
+use Rattle.fields.specs.declared.FileKind.{FileKind}
+use Rattle.fields.specs.Answers.{acceptance, fileA, fileB, fileProof, Result, refused, accepted, _>>=_, Written, over, fit, written}
+use Rattle.fields.specs.Fields.{Field, Fields, ends, cut, _▸_, fields}
+use Rattle.fields.proofs.Results.{Gives, not-0, refuses, accepts, weaken, bind, seq, test, finds, each-gives}
+use Rattle.fields.proofs.HeaderLaid.{header-gives, finished-gives}
+use Rattle.bundle.specs.Bundle.{Bundle}
+use Rattle.bundle.specs.Read.{BundleRead, kindsOf, numbersOf, unread, store, stored, readBundle}
+use Rattle.bundle.specs.Write.{writeBundle}
+use Rattle.bundle.specs.Show.{Part, shownPart, answerOf, handed, showPart, showAnswer}
+use Rattle.bundle.specs.Promises.{partBytes, behind, partPlace}
+use Rattle.bundle.proofs.Laid.{short-gives, bundle-gives, bundles-give}
+use Rattle.bundle.proofs.Writable.{bundleBytes-gives}
+use Rattle.formula.specs.Formula.{Tagged, pair, atom, stride, formulaOf, formulaField, twoParts, formulaWithin, readFormula, formulaFile}
+use Rattle.formula.specs.Test.{Tested as Outcome, tested, judged, testFormula}
+use Rattle.proof.specs.Check.{interpolant, check}
+use Rattle.proof.proofs.Agree.{never-0, never-22}
+use Rattle.exports.specs.Copied.{Copied}
+use Rattle.guarantee.specs.Refusals.{ToldByNumber, Refusals}
+
+-- ---- a result whose refusals all have a number other than 0
+pub record Numbered {X : Type 0} (r : Result X) : Type 0 where
+  pub not-zero : (a : Answer) → r ≡ refused a → ¬ (a .number ≡ 0)
+
+by-number : {X : Type 0} {P : X → Type 0} {r : Result X} → Gives r P → Numbered r
+by-number g = record { not-zero = λ a e. not-0 (g .refusal a e) }
+
+-- ---- the number tells acceptance
+told-refused : {a : Answer} → ¬ (a .number ≡ 0) → ToldByNumber a
+told-refused h = (λ e. absurd (h e), λ e. ap (λ (a : Answer). a .number) e)
+
+told-accepted : ToldByNumber acceptance
+told-accepted = (λ _. refl, λ _. refl)
+
+-- ---- what is written
+abbrev Unwritten : (output : List ℕ) → Written → Type 0
+Unwritten output w = ToldByNumber (w .answer) × (¬ (w .answer .number ≡ 0) → (w .output ≡ output) × (w .count ≡ 0))
+
+fit-told : (output : List ℕ) (b : Bool) (bytes : List ℕ) → Unwritten output (fit output b bytes)
+unfolding fit
+fit-told output true bytes = (told-accepted, λ h. absurd (h refl))
+fit-told output false bytes = (told-refused (λ e. omega arith), λ _. (refl, refl))
+
+written-told : (r : Result (List ℕ)) → Numbered r → (output : List ℕ) → Unwritten output (written r output)
+unfolding written
+written-told (refused a) h output = (told-refused (h .not-zero a refl), λ _. (refl, refl))
+written-told (accepted bytes) h output = fit-told output (leb (length bytes) (length output)) bytes
+
+then-numbered : {X : Type 0} (r : Result X) (f : X → List ℕ) → Numbered r → Numbered (r >>= λ x. accepted (f x))
+unfolding _>>=_
+then-numbered (refused a) f h = record { not-zero = λ b e. h .not-zero b (let p : a ≡ b = cc in ap refused p) }
+then-numbered (accepted x) f h = record { not-zero = λ b e. absurd (let z : _≡_ {A = ℕ} 0 1 = cc in omega arith) }
+
+pub check-told : (A B proof output : List ℕ) → Unwritten output (check A B proof output)
+unfolding check
+check-told A B proof output =
+    written-told _ (then-numbered (interpolant A B proof) (λ (K, I). formulaFile edition1 K I) (record { not-zero = never-0 A B proof })) output
+
+-- no refusal is by 22, and 21 comes last
+fit-not-22 : (output : List ℕ) (b : Bool) (bytes : List ℕ) → ¬ (fit output b bytes .answer .number ≡ 22)
+unfolding fit
+fit-not-22 output true bytes e = omega arith
+fit-not-22 output false bytes e = omega arith
+
+check-not-22 : (A B proof output : List ℕ) → ¬ (check A B proof output .answer .number ≡ 22)
+unfolding check written _>>=_
+check-not-22 A B proof output = go (interpolant A B proof) refl
+  where
+    go : (r : Result (ℕ × Formula)) → interpolant A B proof ≡ r → ¬ (written (r >>= λ (K, I). accepted (formulaFile edition1 K I)) output .answer .number ≡ 22)
+    go (refused a) e = never-22 A B proof a e
+    go (accepted (K, I)) e = fit-not-22 output (leb (length (formulaFile edition1 K I)) (length output)) (formulaFile edition1 K I)
+
+pub write-told : (K : ℕ) (kinds : List ℕ) (numbers : List ℤ) (output : List ℕ) → Unwritten output (writeBundle K kinds numbers output)
+unfolding writeBundle
+write-told K kinds numbers output = written-told _ (by-number (bundleBytes-gives K kinds numbers)) output
+
+-- ---- what is read
+abbrev Unread : (kinds : List ℕ) (numbers : List ℤ) → BundleRead → Type 0
+Unread kinds numbers r = ToldByNumber (r .answer) × (¬ (r .answer .number ≡ 0) → (r .kinds ≡ kinds) × (r .numbers ≡ numbers) × (r .count ≡ 0) × (r .K ≡ 0))
+
+module _ (kinds : List ℕ) (numbers : List ℤ) where
+  store-told : (t : Bool) (b : Bundle) → Unread kinds numbers (store kinds numbers t b)
+  unfolding store unread
+  store-told true b = (told-accepted, λ h. absurd (h refl))
+  store-told false b = (told-refused (λ e. omega arith), λ _. (refl, refl, refl, refl))
+
+  stored-told : (r : Result Bundle) → Numbered r → Unread kinds numbers (stored kinds numbers r)
+  unfolding stored unread
+  stored-told (refused a) h = (told-refused (h .not-zero a refl), λ _. (refl, refl, refl, refl))
+  stored-told (accepted b) h = store-told (leb (length (kindsOf (b .constraints))) (length kinds) && leb (length (numbersOf (b .constraints))) (length numbers)) b
+
+  pub read-told : (file : List ℕ) → Unread kinds numbers (readBundle kinds numbers file)
+  unfolding readBundle
+  read-told file = stored-told _ (by-number (seq (short-gives _ _ file) λ _. bundle-gives fileA _ (fields file)))
+
+-- ---- what is shown
+shown-told : (r : Result Part) → Numbered r
+    → ToldByNumber (answerOf r) × (¬ (answerOf r .number ≡ 0) → handed r ≡ record { file = fileA; start = 0; size = 0 })
+unfolding answerOf handed
+shown-told (refused a) h = (told-refused (h .not-zero a refl), λ _. refl)
+shown-told (accepted p) h = (told-accepted, λ h. absurd (h refl))
+
+show-told : (A B : List ℕ) (line : ℕ)
+    → ToldByNumber (showAnswer A B line) × (¬ (showAnswer A B line .number ≡ 0) → showPart A B line ≡ record { file = fileA; start = 0; size = 0 })
+unfolding showAnswer showPart shownPart
+show-told A B line = shown-told _ (by-number {P = λ _. Unit {0}} (seq (short-gives _ fileA A) λ _. seq (short-gives _ fileB B) λ _. bind (bundles-give A B) λ (a, b) _. weaken (finds _ _ tt) λ _ _. tt))
+
+-- ---- what is tested
+abbrev Reads : {X : Type 0} → Result X → Type 0
+Reads r = Gives r (λ _. Unit {0})
+
+module _ (e : Edition) (K : ℕ) where
+  abbrev Two : Type 0
+  Two = (at : ℕ) → Fields → Result (Formula × Formula × Fields)
+
+  of-gives : (two : Two) → ((at : ℕ) (fs : Fields) → Reads (two at fs)) → (f : Field) (fs : Fields) (t : Tagged) → Reads (formulaOf e K two f fs t)
+  unfolding formulaOf
+  of-gives two h f fs (pair c) = bind (h (f .at) fs) λ (I, J, after) _. accepts tt
+  of-gives two h f fs (atom k) = accepts tt
+  of-gives two h f fs stride = test _ _ tt λ _. accepts tt
+
+  field-gives : (two : Two) → ((at : ℕ) (fs : Fields) → Reads (two at fs)) → (fs : Fields) → Reads (formulaField e K two fs)
+  unfolding formulaField
+  field-gives two h (ends at) = refuses _ tt
+  field-gives two h (cut at) = refuses _ tt
+  field-gives two h (f ▸ fs) = test _ _ tt λ _. bind (finds _ _ tt) λ t _. test _ _ tt λ _. of-gives two h f fs t
+
+  within-gives : (levels : ℕ) (fs : Fields) → Reads (formulaWithin e K levels fs)
+  unfolding formulaWithin twoParts
+  within-gives zero fs = field-gives _ (λ at fs. refuses _ tt) fs
+  within-gives (suc levels) fs = field-gives _ (λ at fs. bind (within-gives levels fs) λ (I, fs1) _. bind (within-gives levels fs1) λ (J, fs2) _. accepts tt) fs
+
+reading-gives : (K : ℕ) (fs : Fields) → Reads (readFormula K fs)
+unfolding readFormula
+reading-gives K fs =
+    bind (header-gives FileKind.Formula fileProof (some K) fs) λ h _. bind (within-gives (h .edition) (h .K) (h .edition .levels) (h .rest)) λ (I, after) _.
+    seq (finished-gives FileKind.Formula fileProof after) λ _. accepts tt
+
+tested-numbered : (formula : List ℕ) (values : List ℤ) → Numbered (tested formula values)
+unfolding tested
+tested-numbered formula values =
+    by-number (test _ _ tt λ _. seq (each-gives _ _ (λ i. tt) 0 values) λ _. test _ _ tt λ _. reading-gives (length values) (fields formula))
+
+abbrev Untested : Outcome → Type 0
+Untested t = ToldByNumber (t .answer) × (¬ (t .answer .number ≡ 0) → t .holds ≡ false)
+
+judged-told : (values : List ℤ) (r : Result Formula) → Numbered r → Untested (judged values r)
+unfolding judged
+judged-told values (refused a) h = (told-refused (h .not-zero a refl), λ _. refl)
+judged-told values (accepted I) h = (told-accepted, λ h. absurd (h refl))
+
+pub test-told : (formula : List ℕ) (values : List ℤ) → Untested (testFormula formula values)
+unfolding testFormula
+test-told formula values = judged-told values (tested formula values) (tested-numbered formula values)
+
+behind-0 : (p : ℕ × ℕ) → behind p 0 ≡ p
+behind-0 p = ap (λ (n : ℕ). (p .0, n)) (zero-add (p .1))
+
+-- nothing is copied of an empty part
+none-copied : {part output left : List ℕ} {count : ℕ} → Copied part output left count → part ≡ [] → (left ≡ output) × (count ≡ 0)
+unfolding over
+none-copied {part} {output} c e =
+    let size : length part ≡ 0 = ap length e in
+    (c .fits (omega arith) ∙ ap (λ (bs : List ℕ). over bs output) e, c .size ∙ size)
+
+-- Demand 1.
+pub refusals : Refusals
+refusals = record {
+  check = λ A B proof output left r c. subst (Unwritten output) (sym (c .is)) (check-told A B proof output);
+  never-22 = λ A B proof output left r c. subst (λ (w : Written). ¬ (w .answer .number ≡ 22)) (sym (c .is)) (check-not-22 A B proof output);
+  read = λ file kinds numbers kinds′ numbers′ r c. subst (Unread kinds numbers) (sym (c .is)) (read-told kinds numbers file);
+  write = λ K kinds numbers output left r c. subst (Unwritten output) (sym (c .is)) (write-told K kinds numbers output);
+  show = λ a b line part r s c.
+      let (told, empty) = show-told (a .now) (b .now) line in (
+        subst ToldByNumber (sym (c .is)) told,
+        λ h.
+            let e = empty (λ z. h (ap (λ (x : Answer). x .number) (c .is) ∙ z)) in
+            (s .bytes ∙ ap (λ (p : Part). partBytes p (a .now) (b .now)) e, s .place ∙ ap (λ (p : Part). partPlace p (a .ptr) (b .ptr)) e ∙ behind-0 (a .ptr)),
+      );
+  show-copied = λ A B line output left count r k c h.
+      let e = show-told A B line .1 (λ z. h (ap (λ (x : Answer). x .number) (c .is) ∙ z)) in
+      none-copied k (ap (λ (p : Part). partBytes p A B) e);
+  test = λ formula values r c. let t = test-told formula values in rw (c .is) t;
+}

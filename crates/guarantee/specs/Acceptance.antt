@@ -1,0 +1,112 @@
+-- Demand 2 of the user: what is accepted, what is then left, and that bundles survive writing and reading. Of what each operation's function ensures. Assumes nothing.
+use mathlib.Core.Path.{_≡_}
+use mathlib.Core.Logic.{_↔_}
+use mathlib.Core.List.{List, _++_}
+use Prim.Native.Nat.{ℕ, suc, _+_, _*_, _≤_, _<_}
+use lib.IntN.{ℤ}
+use lib.ListN.{length, take}
+use Rattle.forms.specs.Edition.{edition1}
+use Rattle.forms.specs.Forms.{All, Constraint, Formula}
+use Rattle.fields.specs.declared.Answer.{Answer}
+use Rattle.fields.specs.Answers.{answer, acceptance, fileLent, over}
+use Rattle.fields.specs.Numbers.{Bytes}
+use Rattle.fields.specs.Ranges.{Held}
+use Rattle.fields.specs.Fields.{Item, Framed, fileOf, withoutNotes}
+use Rattle.fields.specs.Header.{headerBytes}
+use Rattle.bundle.specs.declared.ReadResult.{ReadResult}
+use Rattle.bundle.specs.declared.WriteResult.{WriteResult}
+use Rattle.bundle.specs.Layout.{BundleFile}
+use Rattle.bundle.specs.Read.{kindsOf, numbersOf}
+use Rattle.bundle.specs.Write.{constraintsBytes}
+use Rattle.bundle.specs.Promises.{Reads, Writes, AnswersShow}
+use Rattle.formula.specs.Formula.{formulaFile}
+use Rattle.proof.specs.Layout.{Certifies}
+use Rattle.checking.specs.declared.check.Checked.{Checked}
+use Rattle.checking.specs.Promises.{Checks}
+
+-- ---- what each operation accepts
+-- Check: the rows form a closed proof, the files keep the layouts, rules and limits (`Certifies`), and the output is long enough for the formula that the rules assign.
+pub record Checkable (A B proof output : List ℕ) : Type 0 where
+  pub K : ℕ
+  pub formula : Formula
+  pub certified : Certifies A B proof K formula
+  pub fits : length (formulaFile edition1 K formula) ≤ length output
+
+-- Read: the file is a bundle's, and both outputs are long enough.
+pub record Readable (file lentKinds : List ℕ) (lentNumbers : List ℤ) : Type 0 where
+  pub K : ℕ
+  pub constraints : List Constraint
+  pub states : BundleFile file K constraints
+  pub kinds-fit : length (kindsOf constraints) ≤ length lentKinds
+  pub numbers-fit : length (numbersOf constraints) ≤ length lentNumbers
+
+-- Write: K is 1 to 16, at most 32 kinds, each 0 or 1, with K+1 numbers for each, and the output is long enough.
+abbrev pub bundleFile : (K : ℕ) (kinds : List ℕ) (numbers : List ℤ) → List ℕ
+bundleFile K kinds numbers = headerBytes K ++ constraintsBytes edition1 K kinds numbers
+
+pub record Writable (K : ℕ) (kinds : List ℕ) (numbers : List ℤ) (output : List ℕ) : Type 0 where
+  pub low : 1 ≤ K
+  pub high : K ≤ edition1 .constants
+  pub few : length kinds ≤ edition1 .constraints
+  pub binary : All (λ kind. kind ≤ 1) kinds
+  pub size : length numbers ≡ length kinds * suc K
+  pub fits : length (bundleFile K kinds numbers) ≤ length output
+
+-- Show: A and B are bundles with one K, and the line is one of their constraints.
+pub record Showable (A B : List ℕ) (line : ℕ) : Type 0 where
+  pub K : ℕ
+  pub a : List Constraint
+  pub b : List Constraint
+  pub statesA : BundleFile A K a
+  pub statesB : BundleFile B K b
+  pub there : line < length a + length b
+
+-- ---- what is then left
+-- These bytes were written: the answer, their count, and each byte of the output.
+pub record WrittenAs (bytes output left : List ℕ) (x : Answer) (count : ℕ) : Type 0 where
+  pub answer : x ≡ acceptance
+  pub count-is : count ≡ length bytes
+  pub left-is : left ≡ over bytes output
+
+-- This K, these kinds and these numbers were read: the answer, the count and K, and each element of both outputs.
+pub record ReadAs (K : ℕ) (kinds : List ℕ) (numbers : List ℤ) (lentKinds : List ℕ) (lentNumbers : List ℤ) (leftKinds : List ℕ) (leftNumbers : List ℤ) (r : ReadResult) : Type 0 where
+  pub answer : r .answer ≡ acceptance
+  pub count : r .count ≡ length kinds
+  pub constants : r .k ≡ K
+  pub kinds-left : leftKinds ≡ over kinds lentKinds
+  pub numbers-left : leftNumbers ≡ over numbers lentNumbers
+
+pub record Acceptance : Type 0 where
+  -- ---- check
+  pub accepted-iff : (A B proof output left : List ℕ) (r : Checked) → Checks A B proof output left r → r .answer .number ≡ 0 ↔ Checkable A B proof output
+  -- whatever the files certify is what is written
+  pub writes : (A B proof output left : List ℕ) (r : Checked) → Checks A B proof output left r → (c : Checkable A B proof output)
+      → WrittenAs (formulaFile edition1 (c .K) (c .formula)) output left (r .answer) (r .count)
+  -- and where only the output is too short, 21 with the bytes needed
+  pub too-short : (A B proof output left : List ℕ) (r : Checked) → Checks A B proof output left r → (K : ℕ) (I : Formula) → Certifies A B proof K I
+      → length output < length (formulaFile edition1 K I) → r .answer ≡ answer 21 fileLent (length (formulaFile edition1 K I))
+  -- three files certify one K and one formula at most
+  pub one-formula : (A B proof : List ℕ) (K K′ : ℕ) (I I′ : Formula) → Certifies A B proof K I → Certifies A B proof K′ I′ → (K ≡ K′) × (I ≡ I′)
+  -- ---- read, write, show
+  pub read-iff : (file lentKinds : List ℕ) (lentNumbers : List ℤ) (leftKinds : List ℕ) (leftNumbers : List ℤ) (r : ReadResult) → Reads file lentKinds lentNumbers leftKinds leftNumbers r
+      → r .answer .number ≡ 0 ↔ Readable file lentKinds lentNumbers
+  pub reads : (file lentKinds : List ℕ) (lentNumbers : List ℤ) (leftKinds : List ℕ) (leftNumbers : List ℤ) (r : ReadResult) → Reads file lentKinds lentNumbers leftKinds leftNumbers r
+      → (b : Readable file lentKinds lentNumbers) → ReadAs (b .K) (kindsOf (b .constraints)) (numbersOf (b .constraints)) lentKinds lentNumbers leftKinds leftNumbers r
+  pub write-iff : (K : ℕ) (kinds : List ℕ) (numbers : List ℤ) (output left : List ℕ) (w : WriteResult) → Writes K kinds numbers output left w
+      → w .answer .number ≡ 0 ↔ Writable K kinds numbers output
+  pub writes-bundle : (K : ℕ) (kinds : List ℕ) (numbers : List ℤ) (output left : List ℕ) (w : WriteResult) → Writes K kinds numbers output left w
+      → Writable K kinds numbers output → WrittenAs (bundleFile K kinds numbers) output left (w .answer) (w .count)
+  pub show-iff : (A B : List ℕ) (line : ℕ) (r : Answer) → AnswersShow A B line r → r .number ≡ 0 ↔ Showable A B line
+  -- ---- the round trips
+  -- write then read is the same constraints, into any outputs that are long enough (`Held 2`: numbers of two bytes)
+  pub write-then-read : (K : ℕ) (kinds : List ℕ) (numbers : List ℤ) (output left : List ℕ) (w : WriteResult) → All (Held 2) numbers
+      → Writes K kinds numbers output left w → w .answer .number ≡ 0
+      → (lentKinds : List ℕ) (lentNumbers : List ℤ) (leftKinds : List ℕ) (leftNumbers : List ℤ) (r : ReadResult) → length kinds ≤ length lentKinds → length numbers ≤ length lentNumbers
+      → Reads (take (w .count) left) lentKinds lentNumbers leftKinds leftNumbers r
+      → ReadAs K kinds numbers lentKinds lentNumbers leftKinds leftNumbers r
+  -- read then write is the same bytes, notes removed, into any output that is long enough
+  pub read-then-write : (F : List Item) → All Framed F → Bytes (fileOf F) → (lentKinds : List ℕ) (lentNumbers : List ℤ) (leftKinds : List ℕ) (leftNumbers : List ℤ) (r : ReadResult)
+      → Reads (fileOf F) lentKinds lentNumbers leftKinds leftNumbers r → r .answer .number ≡ 0
+      → (output left : List ℕ) (w : WriteResult) → length (fileOf (withoutNotes F)) ≤ length output
+      → Writes (r .k) (take (r .count) leftKinds) (take (r .count * suc (r .k)) leftNumbers) output left w
+      → WrittenAs (fileOf (withoutNotes F)) output left (w .answer) (w .count)

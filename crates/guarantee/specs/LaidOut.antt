@@ -1,0 +1,52 @@
+-- What is laid out: whole fields of known tags, in their places, of right lengths, edition and one K, and of a proof one table whose branches are all closed. Document 01, "Fields". Assumes nothing.
+-- (How long a file may be, and how many constraints and rows it may have, are limits of `BundleFile`, `ProofFile` and `Proves`.)
+use mathlib.Core.Path.{_≡_}
+use mathlib.Core.List.{List, [], _∷_}
+use mathlib.Core.Option.{some}
+use Prim.Native.Nat.{ℕ, _≤_}
+use Rattle.forms.specs.Edition.{edition1}
+use Rattle.forms.specs.Forms.{All, Form, Constraint}
+use Rattle.calculus.specs.Rules.{Step, Derive, Strengthen, CloseNumber, CloseStride, Entry, row, claim}
+use Rattle.fields.specs.Fields.{Item, item, Framed, fileOf, fields, items}
+use Rattle.bundle.specs.Layout.{Each, StatesAll}
+use Rattle.proof.specs.Layout.{Enters}
+
+-- A file is some list of fields, whole, end to end, each length within its two bytes.
+pub record Listed (file : List ℕ) : Type 0 where
+  pub list : List Item
+  pub framed : All Framed list
+  pub are : file ≡ fileOf list
+
+pub record LaidBundle (file : List ℕ) (K : ℕ) : Type 0 where
+  pub constraints : List Constraint
+  pub list : List Item
+  pub whole : items (fields file) ≡ some list
+  pub laid : StatesAll list K constraints
+
+-- The entries of one closed branch, and then the rest.
+pub data Placed : List Entry → (rest : List Entry) → Type 0 where
+  -- a row 0x10 to 0x12, without its claim or with it, goes on
+  unclaimed : {es rest : List Entry} (s : Step) → Placed es rest → Placed (row (Derive s) ∷ es) rest
+  claimed : {es rest : List Entry} (s : Step) (t tA : Form) → Placed es rest → Placed (row (Derive s) ∷ claim t tA ∷ es) rest
+  -- three branches follow a strengthen, complete one after the other
+  strengthen : {es second third rest : List Entry} (t : ℕ) → Placed es second → Placed second third → Placed third rest → Placed (row (Strengthen t) ∷ es) rest
+  -- a branch ends at its close row
+  number : {rest : List Entry} (t : ℕ) → Placed (row (CloseNumber t) ∷ rest) rest
+  stride : {rest : List Entry} (t g : ℕ) → Placed (row (CloseStride t g) ∷ rest) rest
+
+-- Nothing stands after the root is closed.
+pub record LaidProof (file : List ℕ) (K : ℕ) : Type 0 where
+  pub entries : List Entry
+  pub body : List Item
+  pub whole : items (fields file) ≡ some (item 0x01 (1 ∷ []) ∷ item 0x02 (K ∷ []) ∷ body)
+  pub low : 1 ≤ K
+  pub high : K ≤ edition1 .constants
+  pub enters : Each (Enters edition1 K) body entries
+  pub placed : Placed entries []
+
+-- All three, with one K.
+pub record LaidOut (A B proof : List ℕ) : Type 0 where
+  pub K : ℕ
+  pub ofA : LaidBundle A K
+  pub ofB : LaidBundle B K
+  pub ofProof : LaidProof proof K

@@ -1,0 +1,46 @@
+-- Demand 1 of the user: a refused call changes no lent buffer, and its number alone tells that it is refused. Of what each operation's function ensures. Assumes nothing.
+-- (Each function has no `requires`, and a proved function always returns. Which number, file and place a refusal has is the definition that the function's promise equates it with.)
+use mathlib.Core.Path.{_≡_}
+use mathlib.Core.Logic.{_↔_}
+use mathlib.Core.Bool.{false}
+use mathlib.Core.List.{List, []}
+use Prim.Native.Nat.{ℕ}
+use lib.IntN.{ℤ}
+use denote.Ref.{RefT}
+use Rattle.fields.specs.declared.Answer.{Answer}
+use Rattle.fields.specs.Answers.{acceptance}
+use Rattle.bundle.specs.declared.ReadResult.{ReadResult}
+use Rattle.bundle.specs.declared.WriteResult.{WriteResult}
+use Rattle.bundle.specs.Show.{showPart}
+use Rattle.bundle.specs.Promises.{Reads, Writes, Shows, AnswersShow, partBytes}
+use Rattle.formula.specs.declared.Tested.{Tested}
+use Rattle.formula.specs.Promises.{Tests}
+use Rattle.checking.specs.declared.check.Checked.{Checked}
+use Rattle.checking.specs.Promises.{Checks}
+use Rattle.exports.specs.Copied.{Copied}
+
+-- The number is 0 just where the answer is 0, 0, 0.
+abbrev pub ToldByNumber : Answer → Type 0
+ToldByNumber a = a .number ≡ 0 ↔ a ≡ acceptance
+
+pub record Refusals : Type 0 where
+  -- check: the output is as it was, and no byte is counted
+  pub check : (A B proof output left : List ℕ) (r : Checked) → Checks A B proof output left r
+      → ToldByNumber (r .answer) × (¬ (r .answer .number ≡ 0) → (left ≡ output) × (r .count ≡ 0))
+  -- 22 is never given
+  pub never-22 : (A B proof output left : List ℕ) (r : Checked) → Checks A B proof output left r → ¬ (r .answer .number ≡ 22)
+  -- read: both outputs are as they were, count and K are 0
+  pub read : (file kinds : List ℕ) (numbers : List ℤ) (kinds′ : List ℕ) (numbers′ : List ℤ) (r : ReadResult) → Reads file kinds numbers kinds′ numbers′ r
+      → ToldByNumber (r .answer) × (¬ (r .answer .number ≡ 0) → (kinds′ ≡ kinds) × (numbers′ ≡ numbers) × (r .count ≡ 0) × (r .k ≡ 0))
+  -- write: as check
+  pub write : (K : ℕ) (kinds : List ℕ) (numbers : List ℤ) (output left : List ℕ) (r : WriteResult) → Writes K kinds numbers output left r
+      → ToldByNumber (r .answer) × (¬ (r .answer .number ≡ 0) → (left ≡ output) × (r .count ≡ 0))
+  -- show, which is lent nothing to change: the part handed back is empty and lies at A's start
+  pub show : (a b : RefT (List ℕ)) (line : ℕ) (part : RefT (List ℕ)) (r : Answer) → Shows a b line part → AnswersShow (a .now) (b .now) line r
+      → ToldByNumber r × (¬ (r .number ≡ 0) → (part .now ≡ []) × (part .ptr ≡ a .ptr))
+  -- and where the library copies that part into an output, the output is as it was
+  pub show-copied : (A B : List ℕ) (line : ℕ) (output left : List ℕ) (count : ℕ) (r : Answer) → Copied (partBytes (showPart A B line) A B) output left count → AnswersShow A B line r
+      → ¬ (r .number ≡ 0) → (left ≡ output) × (count ≡ 0)
+  -- test, which is lent nothing to change: false
+  pub test : (formula : List ℕ) (values : List ℤ) (r : Tested) → Tests formula values r
+      → ToldByNumber (r .answer) × (¬ (r .answer .number ≡ 0) → r .holds ≡ false)
