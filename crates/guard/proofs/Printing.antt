@@ -1,6 +1,6 @@
 -- What the guard program prints, over plain values. Assumes nothing.
 use Prim.Native.Nat.{ℕ, _%_, _≤_, _<_}
-use mathlib.Core.Path.{_≡_, refl, sym, ap, _∙_, subst}
+use mathlib.Core.Path.{_≡_, sym, ap, _∙_, subst}
 use mathlib.Core.Bool.{Bool, true, false}
 use mathlib.Core.List.{List}
 use native.Mathlib.Omega.{arith}
@@ -15,11 +15,12 @@ use Rattle.formula.specs.declared.Tested.{Tested}
 use Rattle.guard.specs.Said.{testFiles, truthLine, Printed}
 use Rattle.guard.proofs.Values.{files-odd}
 
--- that is room for either word
+-- either word is shorter than the longest line of a refusal
 truth-few : (b : Bool) → length (truthLine b) ≤ 79
 truth-few true = omega arith
 truth-few false = omega arith
 
+-- with room for that line
 module _ {was text : List ℕ} {r : ℕ} (room : 79 ≤ length was) where
   refusal-printed : {t : Outcome} {number file place : ℕ} → answer number file place ≡ t .answer → 0 < number → PutRefused was number file place text r → Printed t (take r text)
   refusal-printed {t} {number} {file} {place} is h p =

@@ -2,7 +2,7 @@
 use Prim.Native.Nat.{ℕ, _≤_, _<_}
 use mathlib.Core.Path.{_≡_, refl, sym, _∙_, subst}
 use mathlib.Core.Logic.{⊎-elim}
-use mathlib.Core.Bool.{true, false}
+use mathlib.Core.Bool.{Bool, true, false}
 use mathlib.Core.List.{List}
 use native.Mathlib.Nat.{eq-zero-or-pos}
 use native.Mathlib.Omega.{arith}
@@ -12,7 +12,7 @@ use Rattle.fields.specs.Answers.{answer, acceptance, fileLent, _>>=_, _>>_, nee
 use Rattle.fields.specs.Numbers.{unsigned, complement, signed, signeds, formFrom}
 use Rattle.fields.specs.Fields.{front, note, unlessNote, fieldsFrom, fields}
 use Rattle.fields.specs.Header.{headerTag, known, agrees, headerField, header, finished}
-use Rattle.formula.specs.Formula.{formulaTagged, joined, sizeOf, formulaOf, formulaField, twoParts, formulaWithin, readFormula}
+use Rattle.formula.specs.Formula.{formulaTagged, sizeOf, formulaOf, formulaField, formulaWithin, readFormula}
 use Rattle.formula.specs.Test.{Tested, testFormula, tested, judged, judge}
 use Rattle.files.specs.Text.{ascii}
 use Rattle.files.proofs.Texts.{one-digit, refused-once}
@@ -26,23 +26,24 @@ printed-once {t} p q =
     (λ (h : 0 < t .answer .number). refused-once (p .if-refused h) (q .if-refused h))
     (eq-zero-or-pos (t .answer .number))
 
-even-tests : testFiles (even .f) (even .v) ≡ record { answer = acceptance; holds = true }
-unfolding editionNumbered sum value _>>=_ _>>_ need found each unsigned complement signed signeds formFrom front note unlessNote fieldsFrom fields headerTag known agrees headerField header finished formulaTagged sizeOf formulaOf formulaField twoParts formulaWithin readFormula testFormula tested judged judge valuesOf testFiles
-even-tests = refl
+-- true and false
+truth-shown : {t : Tested} (b : Bool) → t ≡ record { answer = acceptance; holds = b } → Printed t (truthLine b)
+truth-shown b e = subst (λ (t : Tested). Printed t (truthLine b)) (sym e) (record { if-accepted = λ _. refl; if-refused = λ (h : 1 ≤ 0). absurd (omega arith) })
 
-odd-tests : testFiles (odd .f) (odd .v) ≡ record { answer = acceptance; holds = false }
-unfolding editionNumbered sum value _>>=_ _>>_ need found each unsigned complement signed signeds formFrom front note unlessNote fieldsFrom fields headerTag known agrees headerField header finished formulaTagged sizeOf formulaOf formulaField twoParts formulaWithin readFormula testFormula tested judged judge valuesOf testFiles
-odd-tests = refl
+tests : (testFiles (even .f) (even .v) ≡ record { answer = acceptance; holds = true }) × (testFiles (odd .f) (odd .v) ≡ record { answer = acceptance; holds = false })
+unfolding editionNumbered sum value _>>=_ _>>_ need found each unsigned complement signed signeds formFrom front note unlessNote fieldsFrom fields headerTag known agrees headerField header finished formulaTagged sizeOf formulaOf formulaField formulaWithin readFormula testFormula tested judged judge valuesOf testFiles
+tests = (refl, refl)
 
+pub shows-even : Printed (testFiles (even .f) (even .v)) (ascii (even .text))
+shows-even = truth-shown true (tests .0)
+
+pub shows-odd : Printed (testFiles (odd .f) (odd .v)) (ascii (odd .text))
+shows-odd = truth-shown false (tests .1)
+
+-- a refusal
 three-bytes-test : testFiles (three-bytes .f) (three-bytes .v) ≡ record { answer = answer 7 fileLent 0; holds = false }
 unfolding testFiles
 three-bytes-test = refl
-
-pub shows-even : Printed (testFiles (even .f) (even .v)) (ascii (even .text))
-shows-even = subst (λ (t : Tested). Printed t (ascii (even .text))) (sym even-tests) (record { if-accepted = λ _. refl; if-refused = λ (h : 1 ≤ 0). absurd (omega arith) })
-
-pub shows-odd : Printed (testFiles (odd .f) (odd .v)) (ascii (odd .text))
-shows-odd = subst (λ (t : Tested). Printed t (ascii (odd .text))) (sym odd-tests) (record { if-accepted = λ _. refl; if-refused = λ (h : 1 ≤ 0). absurd (omega arith) })
 
 pub shows-three-bytes : Printed (testFiles (three-bytes .f) (three-bytes .v)) (ascii (three-bytes .text))
 shows-three-bytes = subst (λ (t : Tested). Printed t (ascii (three-bytes .text))) (sym three-bytes-test) (record {

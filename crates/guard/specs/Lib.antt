@@ -1,3 +1,3 @@
--- What the guard program prints, and what document 01's stage 1 has it print.
+-- What the guard program prints, and three runs of it on the formula of stage 1.
 pub mod Said
 pub mod Shown

@@ -1,4 +1,4 @@
--- What the guard program prints of the formula of stage 1. Document 01, after "Worked stages". Assumes nothing.
+-- Runs of the guard program: the formula of document 01's stage 1, values, and what is printed. Assumes nothing.
 use Prim.Native.Nat.{ℕ}
 use Prim.Native.String.{String}
 use mathlib.Core.List.{List, [], _∷_}
