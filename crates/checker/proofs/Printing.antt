@@ -5,11 +5,10 @@ use mathlib.Core.Bool.{Bool, true, false}
 use mathlib.Core.List.{List, [], _∷_, _++_}
 use native.Mathlib.Omega.{arith}
 use lib.ListN.{length, take, drop, length-append, length-take}
-use lib.Seq.{take-all}
 use lib.Dec.{leb}
 use Rattle.fields.specs.Answers.{Result, refused, accepted, Written, over, fit, written}
 use Rattle.files.specs.Text.{Put, PutNumber, PutRefused, RefusedLine, ascii, hexOf}
-use Rattle.files.proofs.Texts.{both}
+use Rattle.files.proofs.Texts.{both, uncut}
 use Rattle.proof.specs.Check.{check}
 use Rattle.checking.specs.declared.check.Checked.{Checked}
 use Rattle.checking.specs.Promises.{writtenOf}
@@ -50,10 +49,6 @@ accepted-put bytes n e h l =
     }
 
 -- ---- what is printed
--- with room for all of it, the text is at the buffer's start
-uncut : {was line is : List ℕ} {r : ℕ} → Put was 0 line is r → length line ≤ length was → line ≡ take r is
-uncut {was} {line} p h = sym (p .said ∙ take-all (length was) line h)
-
 module _ (c : Checked) (out out₁ : List ℕ) {w : Written} {was text : List ℕ} {r : ℕ} (is : writtenOf c out₁ ≡ w) (room : Room out was) where
   pub prints-refusal : 0 < c .answer .number → PutRefused was (c .answer .number) (c .answer .file) (c .answer .place) text r → Printed w (take r text)
   prints-refusal h p =

@@ -5,11 +5,10 @@ use mathlib.Core.Logic.{⊎-elim}
 use mathlib.Core.List.{List, _∷_}
 use native.Mathlib.Nat.{eq-zero-or-pos}
 use native.Mathlib.Omega.{arith}
-use Rattle.io.specs.Digits.{digits}
 use Rattle.forms.specs.Forms.{All, cons}
 use Rattle.fields.specs.Answers.{Written}
-use Rattle.files.specs.Text.{Decimal, ascii, hexOf}
-use Rattle.files.proofs.Texts.{decimal-once, refused-once}
+use Rattle.files.specs.Text.{ascii, hexOf}
+use Rattle.files.proofs.Texts.{decimal-once, one-digit, two-digits, refused-once}
 use Rattle.proof.specs.Check.{check}
 use Rattle.proof.specs.Stages.{lent}
 use Rattle.proof.proofs.Stages.{stages}
@@ -33,12 +32,6 @@ first (cons p ps) = p
 
 others : {X : Type 0} {P : X → Type 0} {x : X} {xs : List X} → All P (x ∷ xs) → All P xs
 others (cons p ps) = ps
-
-two-digits : {n : ℕ} → 10 ≤ n → n < 100 → (s : List ℕ) → s ≡ digits 10 2 n → Decimal n s
-two-digits h k s e = record { count = 2; fewest = (omega arith, omega arith, λ _. omega arith); same = e }
-
-one-digit : {n : ℕ} → n < 10 → (s : List ℕ) → s ≡ digits 10 1 n → Decimal n s
-one-digit k s e = record { count = 1; fewest = (omega arith, omega arith, λ (h : 1 < 1). absurd (omega arith)); same = e }
 
 pub shows-1 : Printed (check (stage-1 .A) (stage-1 .B) (stage-1 .proof) lent) (ascii (stage-1 .text))
 unfolding hexOf

@@ -1,18 +1,37 @@
--- `guard::answer` meets its contract: the part of the values that is tested is as long as their count. Assumes nothing.
-use mathlib.Core.Path.{sym}
+-- `guard::answer` prints what testing the files gives. Assumes nothing.
+use Prim.Native.Nat.{ℕ}
+use mathlib.Core.Path.{_≡_, sym}
+use mathlib.Core.List.{List}
+use lib.ListN.{replicate}
+use lib.IntN.{pos}
+use native.Mathlib.Omega.{arith}
 use lib.Seq.{length-take-le}
 use borrow.Author.Needs.{needs}
+use Rattle.formula.specs.Outcomes.{asTested}
+use Rattle.guard.specs.Said.{testFiles}
+use Rattle.guard.proofs.Values.{files-loaded}
+use Rattle.guard.proofs.Printing.{prints-odd, prints-refusal, prints-truth}
 use Rattle.guard.proofs.answer.Statement.{statement}
 use Rattle.guard.proofs.answer.Tie as tie
+
+-- what was tested is the formula at the values of the file
+module _ (c : tie.After-test) where
+  abbrev f : List ℕ
+  f = c .before .before .before .before .before .before .before .before .before .args .f .now
+
+  abbrev v : List ℕ
+  v = c .before .before .before .before .before .before .before .before .before .args .v .now
+
+  is-test : c .test .result ≡ asTested (testFiles f v)
+  is-test =
+      let n = c .before .before .before .before .before .count in
+      files-loaded f v (replicate 17 (pos 0)) (n .result) (omega arith) (n .ensures) (omega arith) (rw (c .before .before .before .load .ensures) at (c .test .ensures))
 
 put-refused-requires : tie.Need-put-refused-requires
 put-refused-requires c κs = search needs
 
-same-length : tie.Need-same-length
-same-length c = search needs
-
 returns : tie.Need-returns
-returns c = search needs
+returns c = (c .put-refused .ensures .0, prints-odd (omega arith) (c .before .before .before .before .before .args .f .now) (c .before .before .before .before .before .args .v .now) (omega arith) (c .put-refused .ensures .1))
 
 count-requires : tie.Need-count-requires
 count-requires c κs = search needs
@@ -35,11 +54,8 @@ test-requires c κs = search needs
 put-refused-requires-2 : tie.Need-put-refused-requires-2
 put-refused-requires-2 c κs = search needs
 
-same-length-2 : tie.Need-same-length-2
-same-length-2 c = search needs
-
 returns-2 : tie.Need-returns-2
-returns-2 c = search needs
+returns-2 c = (c .put-refused2 .ensures .0, prints-refusal (omega arith) (c .before .before .before .before .before .test .result) (is-test (c .before .before .before .before .before)) (omega arith) (c .put-refused2 .ensures .1))
 
 slice-aggregate-put-text : tie.Need-slice-aggregate-put-text
 slice-aggregate-put-text c = search needs
@@ -47,11 +63,8 @@ slice-aggregate-put-text c = search needs
 put-text-requires : tie.Need-put-text-requires
 put-text-requires c κs = search needs
 
-same-length-3 : tie.Need-same-length-3
-same-length-3 c = search needs
-
 returns-3 : tie.Need-returns-3
-returns-3 c = search needs
+returns-3 c = (c .put-text .ensures .0, prints-truth (omega arith) (c .before .before .before .before .before .before .before .test .result) (is-test (c .before .before .before .before .before .before .before)) (omega arith) (c .before .before .before .if3 .taken) (c .put-text .ensures .1))
 
 slice-aggregate-put-text-2 : tie.Need-slice-aggregate-put-text-2
 slice-aggregate-put-text-2 c = search needs
@@ -59,18 +72,14 @@ slice-aggregate-put-text-2 c = search needs
 put-text-requires-2 : tie.Need-put-text-requires-2
 put-text-requires-2 c κs = search needs
 
-same-length-4 : tie.Need-same-length-4
-same-length-4 c = search needs
-
 returns-4 : tie.Need-returns-4
-returns-4 c = search needs
+returns-4 c = (c .put-text2 .ensures .0, prints-truth (omega arith) (c .before .before .before .before .before .before .before .test .result) (is-test (c .before .before .before .before .before .before .before)) (omega arith) (c .before .before .before .if3 .left) (c .put-text2 .ensures .1))
 
 pub answer-spec : {M : Type 1} → statement M
 answer-spec =
     tie.close
     (tie.spec
     put-refused-requires
-    same-length
     returns
     count-requires
     slice-aggregate-load
@@ -79,13 +88,10 @@ answer-spec =
     slice-aggregate-test
     test-requires
     put-refused-requires-2
-    same-length-2
     returns-2
     slice-aggregate-put-text
     put-text-requires
-    same-length-3
     returns-3
     slice-aggregate-put-text-2
     put-text-requires-2
-    same-length-4
     returns-4)

@@ -1,20 +1,29 @@
--- `guard::load` meets its contract. The invariant: the buffer's length stays. Assumes nothing.
-use mathlib.Core.Path.{_≡_}
-use Prim.Native.Nat.{_≤_, _-_}
+-- `guard::load` meets its contract: what is left to load gives what the whole gives. Assumes nothing.
+use mathlib.Core.Path.{_≡_, refl, _∙_}
+use Prim.Native.Nat.{_≤_, _-_, _*_}
 use native.Mathlib.Omega.{arith}
-use lib.ListN.{length, length-set}
+use lib.ListN.{length, drop, length-set}
+use lib.Seq.{sets}
+use mir.Syntax.{w32}
+use mir.ValLaws.{toZ-ofZ}
 use borrow.Author.Needs.{needs}
+use Rattle.fields.specs.Numbers.{signeds}
+use Rattle.guard.proofs.Values.{loaded-next}
 use Rattle.guard.proofs.load.Statement.{statement}
 use Rattle.guard.proofs.load.Tie as tie
 
 abbrev Inv-loop : tie.InvT-loop
-Inv-loop v count values₀ i₀ values i = (i ≤ count) × (length values ≡ length values₀)
+Inv-loop v count values₀ i₀ values i =
+    (sets values i (signeds 4 (count - i) (drop (i * 4) v)) ≡ sets values₀ 0 (signeds 4 count v))
+    × (length values ≡ length values₀) × (i ≤ count)
 
 abbrev μ-loop : tie.MeasureT-loop
 μ-loop v count values₀ i₀ values i = count - i
 
 loop-holds : tie.Need-loop-holds Inv-loop μ-loop
-loop-holds c = search needs
+loop-holds c =
+    let y : c .before .args .count - 0 ≡ c .before .args .count = omega arith in
+    (rw y, refl, omega arith)
 
 mul-long-at : tie.Need-mul-long-at Inv-loop μ-loop
 mul-long-at c = search needs
@@ -35,13 +44,22 @@ loop-less : tie.Need-loop-less Inv-loop μ-loop
 loop-less c = search needs
 
 loop-again : tie.Need-loop-again Inv-loop μ-loop
-loop-again c = (omega arith, simp length-set (search needs))
+loop-again c =
+    let a = c .before .before .before .before .args in
+    let x = toZ-ofZ w32 (c .long-at .result) (record { sfits = c .long-at .ok }) ∙ c .long-at .ensures .0 in (
+      rw x (loaded-next (c .before .before .loop .values) (c .before .before .loop .i) (a .count) (a .v .now) (c .before .loop-test .taken) ∙ c .before .before .loop .inv .0),
+      simp length-set (c .before .before .loop .inv .1),
+      omega arith,
+    )
 
 same-length : tie.Need-same-length Inv-loop μ-loop
 same-length c = search needs
 
 returns : tie.Need-returns Inv-loop μ-loop
-returns c = search needs
+unfolding signeds
+returns c =
+    let e : c .before .before .before .args .count - c .before .loop .i ≡ 0 = omega arith in
+    rw e at (c .before .loop .inv .0)
 
 pub load-spec : {M : Type 1} → statement M
 load-spec =
