@@ -10,7 +10,7 @@ use Rattle.fields.specs.Answers.{answer}
 use Rattle.files.specs.Text.{Put, PutRefused, RefusedLine}
 use Rattle.files.proofs.Texts.{uncut}
 use Rattle.formula.specs.Test.{Tested as Outcome}
-use Rattle.formula.specs.Outcomes.{asTested}
+use Rattle.formula.specs.Promises.{asTested}
 use Rattle.formula.specs.declared.Tested.{Tested}
 use Rattle.guard.specs.Said.{testFiles, truthLine, Printed}
 use Rattle.guard.proofs.Values.{files-odd}

@@ -16,7 +16,7 @@ use Rattle.fields.specs.Answers.{answer, fileLent, Result, _>>_, need, each}
 use Rattle.fields.specs.Numbers.{signed, signeds}
 use Rattle.fields.proofs.Results.{fail}
 use Rattle.formula.specs.declared.Tested.{Tested as Answered}
-use Rattle.formula.specs.Outcomes.{asTested}
+use Rattle.formula.specs.Promises.{asTested}
 use Rattle.formula.specs.Test.{Tested, tested, judged, testFormula}
 use Rattle.guard.specs.Said.{valuesOf, testFiles}
 

@@ -7,7 +7,7 @@ use lib.IntN.{pos}
 use native.Mathlib.Omega.{arith}
 use lib.Seq.{length-take-le}
 use borrow.Author.Needs.{needs}
-use Rattle.formula.specs.Outcomes.{asTested}
+use Rattle.formula.specs.Promises.{asTested}
 use Rattle.guard.specs.Said.{testFiles}
 use Rattle.guard.proofs.Values.{files-loaded}
 use Rattle.guard.proofs.Printing.{prints-odd, prints-refusal, prints-truth}
@@ -25,7 +25,7 @@ module _ (c : tie.After-test) where
   is-test : c .test .result ≡ asTested (testFiles f v)
   is-test =
       let n = c .before .before .before .before .before .count in
-      files-loaded f v (replicate 17 (pos 0)) (n .result) (omega arith) (n .ensures) (omega arith) (rw (c .before .before .before .load .ensures) at (c .test .ensures))
+      files-loaded f v (replicate 17 (pos 0)) (n .result) (omega arith) (n .ensures) (omega arith) (rw (c .before .before .before .load .ensures) at (c .test .ensures .is))
 
 put-refused-requires : tie.Need-put-refused-requires
 put-refused-requires c κs = search needs
