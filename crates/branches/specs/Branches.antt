@@ -19,16 +19,16 @@ use Rattle.branches.specs.declared.branch.Stop.{Stop}
 use Rattle.branches.specs.declared.branch.Stop.the-variants.{Fault, Strengthens, ClosesNumber, ClosesStride}
 
 -- The entries from a place on, in a branch of the tally's lines, where no claim may stand first.
-abbrev pub entriesFrom : (K : ℕ) (p : List ℕ) (at : ℕ) (kinds : List ℕ) (buf : List ℤ) (t : Tally) (inA inB : ℕ → Bool) (deeper : Option Checker) → Result Closing
-entriesFrom K p at kinds buf t inA inB deeper = checkEntries edition1 K inA inB deeper (fieldsAt p at) (t .rows .0) none (linesIn K kinds buf (t .lines .0))
+abbrev pub entriesFrom : (K : ℕ) (p : List ℕ) (at : ℕ) (kinds : List ℕ) (buf : List ℤ) (t : Tally) (inB : ℕ → Bool) (deeper : Option Checker) → Result Closing
+entriesFrom K p at kinds buf t inB deeper = checkEntries edition1 K inB deeper (fieldsAt p at) (t .rows .0) none (linesIn K kinds buf (t .lines .0))
 
 -- They come to a row at a, with the lines and rows that there are then; each line more, and the row itself, took a field.
 pub record Comes (K : ℕ) (p : List ℕ) (at : ℕ) (kinds : List ℕ) (buf : List ℤ) (t : Tally) (kinds′ : List ℕ) (buf′ : List ℤ) (row : rules.Row) (a next : ℕ) (t′ : Tally) : Type 0 where
   pub rows : ℕ
   pub rows-is : t′ .rows .0 ≡ rows + 1
-  pub is : (inA inB : ℕ → Bool) (deeper : Option Checker)
-      → entriesFrom K p at kinds buf t inA inB deeper
-      ≡ checkRow edition1 K inA inB deeper (checkEntries edition1 K inA inB deeper (fieldsAt p next)) a rows (linesIn K kinds′ buf′ (t′ .lines .0)) (fieldsAt p next) row
+  pub is : (inB : ℕ → Bool) (deeper : Option Checker)
+      → entriesFrom K p at kinds buf t inB deeper
+      ≡ checkRow edition1 K inB deeper (checkEntries edition1 K inB deeper (fieldsAt p next)) a rows (linesIn K kinds′ buf′ (t′ .lines .0)) (fieldsAt p next) row
   pub ready : Ready K kinds′ buf′ (t′ .lines .0)
   pub from : t .lines .0 ≤ t′ .lines .0
   pub open-is : t′ .«open» ≡ t .«open»
@@ -36,7 +36,7 @@ pub record Comes (K : ℕ) (p : List ℕ) (at : ℕ) (kinds : List ℕ) (buf : L
 
 abbrev pub StoppedBy : (K : ℕ) (p : List ℕ) (at : ℕ) (kinds : List ℕ) (buf : List ℤ) (t : Tally) (kinds′ : List ℕ) (buf′ : List ℤ) → Stop → Type 0
 StoppedBy K p at kinds buf t kinds′ buf′ (Fault x a) =
-    (inA inB : ℕ → Bool) (deeper : Option Checker) → entriesFrom K p at kinds buf t inA inB deeper ≡ refused (refusal a x)
+    (inB : ℕ → Bool) (deeper : Option Checker) → entriesFrom K p at kinds buf t inB deeper ≡ refused (refusal a x)
 StoppedBy K p at kinds buf t kinds′ buf′ (Strengthens i a next t′) = Comes K p at kinds buf t kinds′ buf′ (rules.Strengthen (i .0)) a next t′
 StoppedBy K p at kinds buf t kinds′ buf′ (ClosesNumber i a next t′) = Comes K p at kinds buf t kinds′ buf′ (rules.CloseNumber (i .0)) a next t′
 StoppedBy K p at kinds buf t kinds′ buf′ (ClosesStride i a next t′ g) =

@@ -13,7 +13,7 @@ use Rattle.bundle.specs.Bundle.{bundle}
 use Rattle.fields.specs.Places.{givenK}
 use Rattle.fields.proofs.Headers.{given-some}
 use Rattle.lines.specs.Buffer.{linesIn}
-use Rattle.lines.specs.Occurrence.{Span, held, occursIn, bits, told, told-occurs, held-A, held-B, length-bits}
+use Rattle.lines.specs.Occurrence.{Span, held, occursIn, bits, told, told-occurs, held-B, length-bits}
 use Rattle.branches.specs.Room.{Spare}
 use Rattle.checking.specs.Load.{Space, Loaded, Bundled, BundleLoaded}
 use Rattle.checking.specs.Whole.{Both, Buffers, Holding}
@@ -65,18 +65,16 @@ module _ {A B : List ℕ} {K m n : ℕ} (w : Both A B K m n) where
     are : linesIn K kinds₂ buf₂ (length (w .a .constraints) + length (w .b .constraints)) ≡ lines (w .a .constraints) (w .b .constraints)
     are = rw (w .a-count, w .b-count) lines-are
 
-    pub holding : {maskA maskB : List ℕ} → maskA ≡ bits (occursIn K buf₂ 0 m) 16 → maskB ≡ bits (occursIn K buf₂ m (m + n)) 16
-        → Holding (w .a) (w .b) K kinds₂ buf₂ maskA maskB (m + n)
-    holding x y =
-        let hA : held K kinds₂ buf₂ 0 m ≡ w .a .constraints = rw (w .a-count) at (held-A K kinds₂ buf₂ (w .a .constraints) (w .b .constraints) are) in
+    pub holding : {maskB : List ℕ} → maskB ≡ bits (occursIn K buf₂ m (m + n)) 16
+        → Holding (w .a) (w .b) K kinds₂ buf₂ maskB (m + n)
+    holding y =
         let hB : held K kinds₂ buf₂ m (m + n) ≡ w .b .constraints = rw (w .a-count, w .b-count) at (held-B K kinds₂ buf₂ (w .a .constraints) (w .b .constraints) are) in
         record {
           lines-are = lines-are;
           bounded = rw total at (both-loaded .bounded (record { small = λ j h. absurd (omega arith) }));
-          a-tells = ap told x ∙ told-occurs K kinds₂ buf₂ 0 m 16 (omega arith) (w .high) ∙ ap occurs hA;
           b-tells = ap told y ∙ told-occurs K kinds₂ buf₂ m (m + n) 16 (omega arith) (w .high) ∙ ap occurs hB;
         }
 
-    pub prepared : Space K (m + n) kinds buf → {maskA maskB : List ℕ} → maskA ≡ bits (occursIn K buf₂ 0 m) 16 → maskB ≡ bits (occursIn K buf₂ m (m + n)) 16
-        → Buffers K (m + n) kinds₂ buf₂ maskA maskB
-    prepared s x y = record { space = space-B q (space-A p s); a = ap length x ∙ length-bits (occursIn K buf₂ 0 m) 16; b = ap length y ∙ length-bits (occursIn K buf₂ m (m + n)) 16 }
+    pub prepared : Space K (m + n) kinds buf → {maskB : List ℕ} → maskB ≡ bits (occursIn K buf₂ m (m + n)) 16
+        → Buffers K (m + n) kinds₂ buf₂ maskB
+    prepared s y = record { space = space-B q (space-A p s); b = ap length y ∙ length-bits (occursIn K buf₂ m (m + n)) 16 }

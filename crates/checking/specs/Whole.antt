@@ -44,22 +44,20 @@ pub record Both (A B : List ℕ) (K m n : ℕ) : Type 0 where
   pub a-few : m ≤ 32
   pub b-few : n ≤ 32
 
--- The buffers have room for c lines and for the masks.
-pub record Buffers (K c : ℕ) (kinds : List ℕ) (buf : List ℤ) (maskA maskB : List ℕ) : Type 0 where
+-- The buffers have room for c lines and for the mask.
+pub record Buffers (K c : ℕ) (kinds : List ℕ) (buf : List ℤ) (maskB : List ℕ) : Type 0 where
   pub space : Space K c kinds buf
-  pub a : length maskA ≡ 16
   pub b : length maskB ≡ 16
 
--- The lines of both bundles are in the buffers, and the masks tell which constants occur in each.
-pub record Holding (a b : Bundle) (K : ℕ) (kinds : List ℕ) (buf : List ℤ) (maskA maskB : List ℕ) (count : ℕ) : Type 0 where
+-- The lines of both bundles are in the buffers, and the mask tells which constants occur in B.
+pub record Holding (a b : Bundle) (K : ℕ) (kinds : List ℕ) (buf : List ℤ) (maskB : List ℕ) (count : ℕ) : Type 0 where
   pub lines-are : linesIn K kinds buf count ≡ lines (a .constraints) (b .constraints)
   pub bounded : Bounded K buf count
-  pub a-tells : told maskA ≡ occurs (a .constraints)
   pub b-tells : told maskB ≡ occurs (b .constraints)
 
-pub record Prepared (A B : List ℕ) (K : ℕ) (kinds : List ℕ) (buf : List ℤ) (maskA maskB : List ℕ) (m n : ℕ) : Type 0 where
-  pub holds : (both : Both A B K m n) → Holding (both .a) (both .b) K kinds buf maskA maskB (m + n)
-  pub buffers : Buffers K (m + n) kinds buf maskA maskB
+pub record Prepared (A B : List ℕ) (K : ℕ) (kinds : List ℕ) (buf : List ℤ) (maskB : List ℕ) (m n : ℕ) : Type 0 where
+  pub holds : (both : Both A B K m n) → Holding (both .a) (both .b) K kinds buf maskB (m + n)
+  pub buffers : Buffers K (m + n) kinds buf maskB
 
 -- The proof's header is read too, and what follows it starts at a place.
 pub record Begun (A B P : List ℕ) (K m n at : ℕ) : Type 0 where
@@ -72,8 +70,8 @@ abbrev pub finishing : (K : ℕ) → Fields → List ℕ → Result (List ℕ)
 finishing K fs bytes = finished FileKind.Proof fileProof fs >> accepted (headerBytes K ++ bytes)
 
 -- The root, what follows it, and the formula's file.
-abbrev pub rooted : (K : ℕ) (inA inB : ℕ → Bool) → List Line → Fields → Result (List ℕ)
-rooted K inA inB ls fs = checkBranch edition1 K inA inB (edition1 .strengthens) 0 ls fs >>= λ c. finishing K (c .after) (encode edition1 (c .formula))
+abbrev pub rooted : (K : ℕ) (inB : ℕ → Bool) → List Line → Fields → Result (List ℕ)
+rooted K inB ls fs = checkBranch edition1 K inB (edition1 .strengthens) 0 ls fs >>= λ c. finishing K (c .after) (encode edition1 (c .formula))
 
 -- The answer, the count and the output, from each of these places on.
 pub record Delivers (K : ℕ) (scratch : List ℕ) (o : ℕ) (out out′ : List ℕ) (r : Checked) : Type 0 where
@@ -82,12 +80,12 @@ pub record Delivers (K : ℕ) (scratch : List ℕ) (o : ℕ) (out out′ : List 
 pub record Finishes (K : ℕ) (P : List ℕ) (at : ℕ) (scratch : List ℕ) (o : ℕ) (out out′ : List ℕ) (r : Checked) : Type 0 where
   pub is : writtenOf r out′ ≡ written (finishing K (fieldsAt P at) (take o scratch)) out
 
-pub record Roots (K : ℕ) (inA inB : ℕ → Bool) (ls : List Line) (P : List ℕ) (at : ℕ) (out out′ : List ℕ) (r : Checked) : Type 0 where
-  pub is : writtenOf r out′ ≡ written (rooted K inA inB ls (fieldsAt P at)) out
+pub record Roots (K : ℕ) (inB : ℕ → Bool) (ls : List Line) (P : List ℕ) (at : ℕ) (out out′ : List ℕ) (r : Checked) : Type 0 where
+  pub is : writtenOf r out′ ≡ written (rooted K inB ls (fieldsAt P at)) out
 
 -- A formula that the check accepts has 65,536 bytes at most.
-pub record Fits (K : ℕ) (inA inB : ℕ → Bool) (ls : List Line) (P : List ℕ) (at : ℕ) : Type 0 where
-  pub fits : (c : Closing) → checkBranch edition1 K inA inB (edition1 .strengthens) 0 ls (fieldsAt P at) ≡ accepted c → finished FileKind.Proof fileProof (c .after) ≡ accepted tt
+pub record Fits (K : ℕ) (inB : ℕ → Bool) (ls : List Line) (P : List ℕ) (at : ℕ) : Type 0 where
+  pub fits : (c : Closing) → checkBranch edition1 K inB (edition1 .strengthens) 0 ls (fieldsAt P at) ≡ accepted c → finished FileKind.Proof fileProof (c .after) ≡ accepted tt
       → length (encode edition1 (c .formula)) ≤ 65536
 
 -- A scratch of that length does, and so does one with 78 bytes for each field of the proof.

@@ -93,7 +93,7 @@ fn finish(proof: &[u8], at: usize, scratch: &[u8], o: usize, k: u8, out: &mut [u
     }
 }
 
-// The lines of A and B, and the masks of the constants that occur in each.
+// The lines of A and B, and the mask of the constants that occur in B.
 fn prepare(
     a: &[u8],
     b: &[u8],
@@ -102,21 +102,20 @@ fn prepare(
     n: usize,
     lines: &mut [i64],
     kinds: &mut [u8],
-    in_a: &mut [u8],
     in_b: &mut [u8],
 )
     requires { ⌜ Both (now a) (now b) k m n ⌝ }
-    requires { ⌜ Buffers k (m + n) (now kinds) (now lines) (now in_a) (now in_b) ⌝ }
-    ensures { λ _. ⌜ Prepared (now (a .entry)) (now (b .entry)) k (now (kinds .exit)) (now (lines .exit)) (now (in_a .exit)) (now (in_b .exit)) m n ⌝ }
+    requires { ⌜ Buffers k (m + n) (now kinds) (now lines) (now in_b) ⌝ }
+    ensures { λ _. ⌜ Prepared (now (a .entry)) (now (b .entry)) k (now (kinds .exit)) (now (lines .exit)) (now (in_b .exit)) m n ⌝ }
 {
     load(a, 0, true, lines, kinds, 0);
     load(b, k, false, lines, kinds, m);
     let constants = k as usize;
-    lines::occurrences(lines, 0, m, constants, in_a);
-    lines::occurrences(lines, m, m + n, constants, in_b);
+    let count = m + n;
+    lines::occurrences(lines, m, count, constants, in_b);
 }
 
-// The root, from a place of the proof on, and all that follows. The buffers hold the lines and the masks, and the scratch takes the formula.
+// The root, from a place of the proof on, and all that follows. The buffers hold the lines and the mask, and the scratch takes the formula.
 fn check_root(
     proof: &[u8],
     at: usize,
@@ -124,15 +123,14 @@ fn check_root(
     count: usize,
     lines: &mut [i64],
     kinds: &mut [u8],
-    in_a: &[u8],
     in_b: &[u8],
     scratch: &mut [u8],
     out: &mut [u8],
 ) -> Checked
-    requires { ⌜ Started k (now kinds) (now lines) (now in_a) (now in_b) (tally 0 count 0) (now proof) at 0 ⌝ }
-    requires { ⌜ Fits k (told (now in_a)) (told (now in_b)) (linesIn k (now kinds) (now lines) count) (now proof) at ⌝ }
+    requires { ⌜ Started k (now kinds) (now lines) (now in_b) (tally 0 count 0) (now proof) at 0 ⌝ }
+    requires { ⌜ Fits k (told (now in_b)) (linesIn k (now kinds) (now lines) count) (now proof) at ⌝ }
     requires { ⌜ Enough (now proof) at (now scratch) ⌝ }
-    ensures { λ r. ⌜ Roots k (told (now (in_a .entry))) (told (now (in_b .entry))) (linesIn k (now (kinds .entry)) (now (lines .entry)) count) (now (proof .entry)) at (now (out .entry)) (now (out .exit)) r ⌝ }
+    ensures { λ r. ⌜ Roots k (told (now (in_b .entry))) (linesIn k (now (kinds .entry)) (now (lines .entry)) count) (now (proof .entry)) at (now (out .entry)) (now (out .exit)) r ⌝ }
 {
     let rows = Row(0);
     let made = Line(count as u16);
@@ -141,18 +139,7 @@ fn check_root(
         lines: made,
         open: 0,
     };
-    match check_branch(
-        proof,
-        at,
-        lines,
-        kinds,
-        tally,
-        k as usize,
-        in_a,
-        in_b,
-        scratch,
-        0,
-    ) {
+    match check_branch(proof, at, lines, kinds, tally, k as usize, in_b, scratch, 0) {
         Branched::Fault { number, at: place } => refusal(number, 3, place),
         Branched::Closed {
             at: end,
@@ -181,21 +168,9 @@ fn check_within(
     ensures { λ r. ⌜ Checks (now (a .entry)) (now (b .entry)) (now (proof .entry)) (now (out .entry)) (now (out .exit)) r ⌝ }
 {
     let mut kinds = [0u8; 128];
-    let mut in_a = [0u8; 16];
     let mut in_b = [0u8; 16];
-    prepare(a, b, k, m, n, lines, &mut kinds, &mut in_a, &mut in_b);
-    check_root(
-        proof,
-        at,
-        k,
-        m + n,
-        lines,
-        &mut kinds,
-        &in_a,
-        &in_b,
-        scratch,
-        out,
-    )
+    prepare(a, b, k, m, n, lines, &mut kinds, &mut in_b);
+    check_root(proof, at, k, m + n, lines, &mut kinds, &in_b, scratch, out)
 }
 
 // An array is cleared before it is used, which takes longer than the check of a short proof, so a short proof is given little.

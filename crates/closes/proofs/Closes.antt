@@ -1,6 +1,6 @@
 -- The tests of the close rows, one way after the other. Assumes nothing.
 use mathlib.Core.Path.{_≡_, sym, ap}
-use mathlib.Core.Bool.{Bool, true, false, not, _&&_}
+use mathlib.Core.Bool.{Bool, true, false, not}
 use mathlib.Core.List.{List}
 use Prim.Native.Nat.{ℕ, _+_, _*_, _≤_, _<_}
 use native.Mathlib.Omega.{arith}
@@ -13,10 +13,9 @@ use Rattle.forms.specs.Forms.{≤0, =0, nonzero}
 use Rattle.calculus.specs.Rules.{every}
 use Rattle.fields.specs.Answers.{_>>=_, _>>_, need, found}
 use Rattle.lines.specs.Parts.{part}
-use Rattle.lines.specs.Buffer.{size, formIn, kindOf, lineIn}
+use Rattle.lines.specs.Buffer.{size, kindOf, lineIn}
 use Rattle.lines.specs.Lines.{line-at, line-past, before}
-use Rattle.lines.specs.Occurrence.{told}
-use Rattle.proof.specs.Rows.{fails, common, lineAt, naming, byNumber}
+use Rattle.proof.specs.Rows.{fails, lineAt, byNumber}
 use Rattle.rows.specs.Rows.{Ready}
 use Rattle.closes.specs.Closing.{ByNumber}
 use Rattle.rows.specs.declared.tally.Tally.{Tally}
@@ -43,18 +42,17 @@ false-= d h e = rw (kind-one h) (ap not e)
 pub line-end : {K : ℕ} {kinds : List ℕ} {buf : List ℤ} {n i : ℕ} → Ready K kinds buf n → i < n → i * size K + size K ≤ length buf
 line-end {K} r h = omega (arith, before K h, r .branch .room)
 
-module _ (K : ℕ) (kinds : List ℕ) (buf : List ℤ) (t : Tally) (i : ℕ) (inA inB : List ℕ) where
-  pub number-none : t .lines .0 ≤ i → ByNumber K kinds buf t i inA inB (Refused 10)
+module _ (K : ℕ) (kinds : List ℕ) (buf : List ℤ) (t : Tally) (i : ℕ) where
+  pub number-none : t .lines .0 ≤ i → ByNumber K kinds buf t i (Refused 10)
   unfolding byNumber lineAt _>>=_ found
   number-none h = record { by = λ at. rw (line-past K kinds buf (t .lines .0) i h) }
 
-  module _ (hi : i < t .lines .0) {x y : ℕ} (ex : x ≡ i * size K) (ey : y ≡ i * size K + (K + 1))
-      {b : Bool} (zero : b ≡ every (λ c. eqZ c (pos 0)) (part x K buf)) where
+  module _ (hi : i < t .lines .0) {x : ℕ} (ex : x ≡ i * size K) {b : Bool} (zero : b ≡ every (λ c. eqZ c (pos 0)) (part x K buf)) where
     zeros : every (λ c. eqZ c (pos 0)) (lineIn K kinds buf i .t .coeffs) ≡ b
     unfolding lineIn
     zeros = sym (rw ex at zero)
 
-    pub number-coeffs : not b ≡ true → ByNumber K kinds buf t i inA inB (Refused 15)
+    pub number-coeffs : not b ≡ true → ByNumber K kinds buf t i (Refused 15)
     unfolding byNumber lineAt _>>=_ _>>_ found need
     number-coeffs h = record { by = λ at. rw (line-at K kinds buf (t .lines .0) i hi, zeros, unnot b h) }
 
@@ -63,19 +61,10 @@ module _ (K : ℕ) (kinds : List ℕ) (buf : List ℤ) (t : Tally) (i : ℕ) (in
       unfolding lineIn
       falses = sym (rw (ek, ed, ex) at false-is)
 
-      pub number-d : not c ≡ true → ByNumber K kinds buf t i inA inB (Refused 15)
+      pub number-d : not c ≡ true → ByNumber K kinds buf t i (Refused 15)
       unfolding byNumber lineAt _>>=_ _>>_ found need
       number-d k = record { by = λ at. rw (line-at K kinds buf (t .lines .0) i hi, zeros, unnot b h, falses, unnot c k) }
 
-      module _ (k : not c ≡ false) {s : Bool} (shared : s ≡ common (λ z. told inA z && told inB z) (formIn K buf y .coeffs)) where
-        names-is : common (λ z. told inA z && told inB z) (lineIn K kinds buf i .tA .coeffs) ≡ s
-        unfolding lineIn
-        names-is = sym (rw ey at shared)
-
-        pub number-names : not s ≡ true → ByNumber K kinds buf t i inA inB (Refused 22)
-        unfolding byNumber lineAt naming _>>=_ _>>_ found need
-        number-names l = record { by = λ at. rw (line-at K kinds buf (t .lines .0) i hi, zeros, unnot b h, falses, unnot c k, names-is, unnot s l) }
-
-        pub number-passed : not s ≡ false → ByNumber K kinds buf t i inA inB Passed
-        unfolding byNumber lineAt naming _>>=_ _>>_ found need
-        number-passed l = record { by = λ at. rw (line-at K kinds buf (t .lines .0) i hi, zeros, unnot b h, falses, unnot c k, names-is, unnot s l) }
+      pub number-passed : not c ≡ false → ByNumber K kinds buf t i Passed
+      unfolding byNumber lineAt _>>=_ _>>_ found need
+      number-passed k = record { by = λ at. rw (line-at K kinds buf (t .lines .0) i hi, zeros, unnot b h, falses, unnot c k) }

@@ -1,6 +1,6 @@
 -- The tests of a close by stride, one way after the other. Assumes nothing.
 use mathlib.Core.Path.{_≡_, refl, sym, _∙_}
-use mathlib.Core.Bool.{Bool, true, false, not, _&&_}
+use mathlib.Core.Bool.{Bool, true, false, not}
 use mathlib.Core.List.{List}
 use Prim.Native.Nat.{ℕ, zero, suc, _+_, _*_, _≤_, _<_}
 use native.Mathlib.Omega.{arith}
@@ -11,14 +11,12 @@ use lib.Signed.{_≤ℤ_}
 use borrow.Author.Tests.{le-leb, lt-leb, eqb-true, eqb-false, leb-true}
 use Rattle.integers.specs.Linear.{eqZ, ints}
 use Rattle.integers.specs.Divides.{divb}
-use Rattle.forms.specs.Forms.{within}
 use Rattle.calculus.specs.Rules.{every}
 use Rattle.fields.specs.Answers.{_>>=_, _>>_, need, found}
 use Rattle.lines.specs.Parts.{part}
-use Rattle.lines.specs.Buffer.{size, formIn, lineIn}
+use Rattle.lines.specs.Buffer.{size, lineIn}
 use Rattle.lines.specs.Lines.{line-at, line-past}
-use Rattle.lines.specs.Occurrence.{told}
-use Rattle.proof.specs.Rows.{is, common, lineAt, naming, byStride}
+use Rattle.proof.specs.Rows.{is, lineAt, byStride}
 use Rattle.rows.specs.Entries.{Multiplies}
 use Rattle.closes.specs.Striding.{ByStride}
 use Rattle.rows.specs.declared.tally.Tally.{Tally}
@@ -52,49 +50,39 @@ pub at-least-two : (z : ℤ) {b : Bool} → Multiplies (natAbs z) z → b ≡ le
 at-least-two z m e h = rw (m .is) (let l : 2 ≤ natAbs z = leb-true 2 (natAbs z) (sym e ∙ h) in omega (ints, l))
 
 -- ---- the tests
-module _ (K : ℕ) (kinds : List ℕ) (buf : List ℤ) (t : Tally) (i g : ℕ) (inA inB : List ℕ) where
-  pub stride-none : t .lines .0 ≤ i → ByStride K kinds buf t i g inA inB (Refused 10)
+module _ (K : ℕ) (kinds : List ℕ) (buf : List ℤ) (t : Tally) (i g : ℕ) where
+  pub stride-none : t .lines .0 ≤ i → ByStride K kinds buf t i g (Refused 10)
   unfolding byStride lineAt _>>=_ found
-  stride-none h = record { by = λ at. rw (line-past K kinds buf (t .lines .0) i h) }
+  stride-none h = record { by = λ inB at. rw (line-past K kinds buf (t .lines .0) i h) }
 
   module _ (hi : i < t .lines .0) where
-    pub stride-kind : getD kinds i 0 ≡ 0 → ByStride K kinds buf t i g inA inB (Refused 11)
+    pub stride-kind : getD kinds i 0 ≡ 0 → ByStride K kinds buf t i g (Refused 11)
     unfolding byStride lineAt _>>=_ _>>_ found need is
-    stride-kind h = record { by = λ at. rw (line-at K kinds buf (t .lines .0) i hi, kind-≤ K kinds buf i h) }
+    stride-kind h = record { by = λ inB at. rw (line-at K kinds buf (t .lines .0) i hi, kind-≤ K kinds buf i h) }
 
     module _ (hk : getD kinds i 0 ≡ 0 → ⊥) {a : Bool} (two : a ≡ leb 2 g) where
-      pub stride-small : not a ≡ true → ByStride K kinds buf t i g inA inB (Refused 12)
+      pub stride-small : not a ≡ true → ByStride K kinds buf t i g (Refused 12)
       unfolding byStride lineAt _>>=_ _>>_ found need is
-      stride-small h = record { by = λ at. rw (line-at K kinds buf (t .lines .0) i hi, kind-= K kinds buf i hk, ← two, unnot a h) }
+      stride-small h = record { by = λ inB at. rw (line-at K kinds buf (t .lines .0) i hi, kind-= K kinds buf i hk, ← two, unnot a h) }
 
-      module _ (h : not a ≡ false) {z : ℤ} (ez : z ≡ pos g) {x y : ℕ} (ex : x ≡ i * size K) (ey : y ≡ i * size K + (K + 1))
-          {b : Bool} (all : b ≡ every (divb z) (part x K buf)) where
+      module _ (h : not a ≡ false) {z : ℤ} (ez : z ≡ pos g) {x : ℕ} (ex : x ≡ i * size K) {b : Bool} (all : b ≡ every (divb z) (part x K buf)) where
         alls : every (divb (pos g)) (lineIn K kinds buf i .t .coeffs) ≡ b
         unfolding lineIn
         alls = sym (rw (ex, ez) at all)
 
-        pub stride-coeffs : not b ≡ true → ByStride K kinds buf t i g inA inB (Refused 15)
+        pub stride-coeffs : not b ≡ true → ByStride K kinds buf t i g (Refused 15)
         unfolding byStride lineAt _>>=_ _>>_ found need is
-        stride-coeffs l = record { by = λ at. rw (line-at K kinds buf (t .lines .0) i hi, kind-= K kinds buf i hk, ← two, unnot a h, alls, unnot b l) }
+        stride-coeffs l = record { by = λ inB at. rw (line-at K kinds buf (t .lines .0) i hi, kind-= K kinds buf i hk, ← two, unnot a h, alls, unnot b l) }
 
         module _ (l : not b ≡ false) {c : Bool} {d : ℤ} (ed : d ≡ getD buf (x + K) (pos 0)) (div : c ≡ divb z d) where
           divs : divb (pos g) (lineIn K kinds buf i .t .d) ≡ c
           unfolding lineIn
           divs = sym (rw (ed, ex, ez) at div)
 
-          pub stride-d : c ≡ true → ByStride K kinds buf t i g inA inB (Refused 15)
+          pub stride-d : c ≡ true → ByStride K kinds buf t i g (Refused 15)
           unfolding byStride lineAt _>>=_ _>>_ found need is
-          stride-d m = record { by = λ at. rw (line-at K kinds buf (t .lines .0) i hi, kind-= K kinds buf i hk, ← two, unnot a h, alls, unnot b l, divs, m) }
+          stride-d m = record { by = λ inB at. rw (line-at K kinds buf (t .lines .0) i hi, kind-= K kinds buf i hk, ← two, unnot a h, alls, unnot b l, divs, m) }
 
-          module _ (m : c ≡ false) {s : Bool} (shared : s ≡ common (λ v. told inA v && told inB v) (within (told inB) (formIn K buf y) .coeffs)) where
-            names-is : common (λ v. told inA v && told inB v) (within (told inB) (lineIn K kinds buf i .tA) .coeffs) ≡ s
-            unfolding lineIn
-            names-is = sym (rw ey at shared)
-
-            pub stride-names : not s ≡ true → ByStride K kinds buf t i g inA inB (Refused 22)
-            unfolding byStride lineAt naming _>>=_ _>>_ found need is
-            stride-names n = record { by = λ at. rw (line-at K kinds buf (t .lines .0) i hi, kind-= K kinds buf i hk, ← two, unnot a h, alls, unnot b l, divs, m, names-is, unnot s n) }
-
-            pub stride-passed : not s ≡ false → ByStride K kinds buf t i g inA inB Passed
-            unfolding byStride lineAt naming _>>=_ _>>_ found need is
-            stride-passed n = record { by = λ at. rw (line-at K kinds buf (t .lines .0) i hi, kind-= K kinds buf i hk, ← two, unnot a h, alls, unnot b l, divs, m, names-is, unnot s n) }
+          pub stride-passed : c ≡ false → ByStride K kinds buf t i g Passed
+          unfolding byStride lineAt _>>=_ _>>_ found need is
+          stride-passed m = record { by = λ inB at. rw (line-at K kinds buf (t .lines .0) i hi, kind-= K kinds buf i hk, ← two, unnot a h, alls, unnot b l, divs, m) }

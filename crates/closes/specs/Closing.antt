@@ -6,7 +6,6 @@ use lib.IntN.{ℤ}
 use Rattle.forms.specs.Forms.{Formula, literal}
 use Rattle.fields.specs.Answers.{Result, refused, accepted}
 use Rattle.lines.specs.Buffer.{lineIn, linesIn}
-use Rattle.lines.specs.Occurrence.{told}
 use Rattle.proof.specs.Rows.{byNumber}
 use Rattle.proof.specs.Check.{refusal}
 use Rattle.rows.specs.declared.tally.Tally.{Tally}
@@ -18,6 +17,6 @@ abbrev pub TestedBy : (f : ℕ → Result Formula) (I : Formula) → Test → Ty
 TestedBy f I (Refused x) = (at : ℕ) → f at ≡ refused (refusal at x)
 TestedBy f I Passed = (at : ℕ) → f at ≡ accepted I
 
-pub record ByNumber (K : ℕ) (kinds : List ℕ) (buf : List ℤ) (t : Tally) (i : ℕ) (inA inB : List ℕ) (r : Test) : Type 0 where
-  pub by : TestedBy (λ at. byNumber (refusal at) (linesIn K kinds buf (t .lines .0)) (told inA) (told inB) i)
+pub record ByNumber (K : ℕ) (kinds : List ℕ) (buf : List ℤ) (t : Tally) (i : ℕ) (r : Test) : Type 0 where
+  pub by : TestedBy (λ at. byNumber (refusal at) (linesIn K kinds buf (t .lines .0)) i)
       (literal (lineIn K kinds buf i .kind) (lineIn K kinds buf i .tA)) r

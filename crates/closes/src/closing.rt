@@ -1,8 +1,6 @@
 // The tests of the rows that close a branch.
 ghost use mathlib.Core.Path.{_≡_};
-ghost use Prim.Native.Nat.{_≤_};
 ghost use lib.Dec.{leb};
-ghost use lib.ListN.{length};
 ghost use lib.IntN.{natAbs};
 ghost use Rattle.lines.specs.Buffer.{kindOf};
 ghost use Rattle.proof.specs.Rows.{fails};
@@ -30,26 +28,16 @@ fn is_false(kind: u8, d: i64) -> bool
     !integers::is_zero(d)
 }
 
-// Close by number. 10, 15, 22.
-pub fn test_number(
-    lines: &[i64],
-    kinds: &[u8],
-    tally: Tally,
-    i: Line,
-    in_a: &[u8],
-    in_b: &[u8],
-    k: usize,
-) -> Test
+// Close by number. 10, 15.
+pub fn test_number(lines: &[i64], kinds: &[u8], tally: Tally, i: Line, k: usize) -> Test
     requires { ⌜ Ready k (now kinds) (now lines) (tally .lines .0) ⌝ }
-    requires { ⌜ (k ≤ length (now in_a)) × (k ≤ length (now in_b)) ⌝ }
-    ensures { λ r. ⌜ ByNumber k (now (kinds .entry)) (now (lines .entry)) tally (i .0) (now (in_a .entry)) (now (in_b .entry)) r ⌝ }
+    ensures { λ r. ⌜ ByNumber k (now (kinds .entry)) (now (lines .entry)) tally (i .0) r ⌝ }
 {
     if !is_there(tally, i) {
         return Test::Refused { number: 10 };
     }
     let n = i.0 as usize;
     let t = lines::place(n, k);
-    let ta = lines::place_a(n, k);
     if !lines::all_zero(lines, t, k) {
         return Test::Refused { number: 15 };
     }
@@ -57,9 +45,6 @@ pub fn test_number(
     let d = lines[t + k];
     if !is_false(kind, d) {
         return Test::Refused { number: 15 };
-    }
-    if !lines::shared_only(lines, ta, k, in_a, in_b) {
-        return Test::Refused { number: 22 };
     }
     Test::Passed
 }
@@ -75,21 +60,11 @@ fn is_stride(g: i64) -> bool
     !integers::same(g, 1)
 }
 
-// Close by stride. 10, 11, 12, 15, 22.
-pub fn test_stride(
-    lines: &[i64],
-    kinds: &[u8],
-    tally: Tally,
-    i: Line,
-    g: i64,
-    in_a: &[u8],
-    in_b: &[u8],
-    k: usize,
-) -> Test
+// Close by stride. 10, 11, 12, 15.
+pub fn test_stride(lines: &[i64], kinds: &[u8], tally: Tally, i: Line, g: i64, k: usize) -> Test
     requires { ⌜ Ready k (now kinds) (now lines) (tally .lines .0) ⌝ }
     requires { ⌜ Multiplies (natAbs g) g ⌝ }
-    requires { ⌜ (k ≤ length (now in_a)) × (k ≤ length (now in_b)) ⌝ }
-    ensures { λ r. ⌜ ByStride k (now (kinds .entry)) (now (lines .entry)) tally (i .0) (natAbs g) (now (in_a .entry)) (now (in_b .entry)) r ⌝ }
+    ensures { λ r. ⌜ ByStride k (now (kinds .entry)) (now (lines .entry)) tally (i .0) (natAbs g) r ⌝ }
 {
     if !is_there(tally, i) {
         return Test::Refused { number: 10 };
@@ -102,16 +77,12 @@ pub fn test_stride(
     }
     let n = i.0 as usize;
     let t = lines::place(n, k);
-    let ta = lines::place_a(n, k);
     if !lines::all_divisible(lines, t, k, g) {
         return Test::Refused { number: 15 };
     }
     let d = lines[t + k];
     if integers::divides(g, d) {
         return Test::Refused { number: 15 };
-    }
-    if !lines::restricted_shared_only(lines, ta, k, in_a, in_b) {
-        return Test::Refused { number: 22 };
     }
     Test::Passed
 }

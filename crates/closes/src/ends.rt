@@ -29,23 +29,21 @@ pub enum Ended {
     Written { o: usize },
 }
 
-// 10, 15, 22.
+// 10, 15.
 pub fn close_number(
     lines: &[i64],
     kinds: &[u8],
     tally: Tally,
     i: Line,
-    in_a: &[u8],
-    in_b: &[u8],
     k: usize,
     scratch: &mut [u8],
     o: usize,
 ) -> Ended
     requires { ⌜ Ready k (now kinds) (now lines) (tally .lines .0) ⌝ }
-    requires { ⌜ (k ≤ length (now in_a)) × (k ≤ length (now in_b)) × (o ≤ 5242880) ⌝ }
-    ensures { λ r. ⌜ EndedBy (λ at. byNumber (refusal at) (linesIn k (now (kinds .entry)) (now (lines .entry)) (tally .lines .0)) (told (now (in_a .entry))) (told (now (in_b .entry))) (i .0)) (now (scratch .entry)) o (now (scratch .exit)) r ⌝ }
+    requires { ⌜ o ≤ 5242880 ⌝ }
+    ensures { λ r. ⌜ EndedBy (λ at. byNumber (refusal at) (linesIn k (now (kinds .entry)) (now (lines .entry)) (tally .lines .0)) (i .0)) (now (scratch .entry)) o (now (scratch .exit)) r ⌝ }
 {
-    match test_number(lines, kinds, tally, i, in_a, in_b, k) {
+    match test_number(lines, kinds, tally, i, k) {
         Test::Refused { number } => {
             return Ended::Refused { number };
         }
@@ -58,14 +56,13 @@ pub fn close_number(
     }
 }
 
-// 10, 11, 12, 15, 22.
+// 10, 11, 12, 15.
 pub fn close_stride(
     lines: &[i64],
     kinds: &[u8],
     tally: Tally,
     i: Line,
     g: i64,
-    in_a: &[u8],
     in_b: &[u8],
     k: usize,
     scratch: &mut [u8],
@@ -73,10 +70,10 @@ pub fn close_stride(
 ) -> Ended
     requires { ⌜ Ready k (now kinds) (now lines) (tally .lines .0) ⌝ }
     requires { ⌜ Multiplies (natAbs g) g ⌝ }
-    requires { ⌜ (k ≤ length (now in_a)) × (k ≤ length (now in_b)) × (o ≤ 5242880) ⌝ }
-    ensures { λ r. ⌜ EndedBy (λ at. byStride (refusal at) (linesIn k (now (kinds .entry)) (now (lines .entry)) (tally .lines .0)) (told (now (in_a .entry))) (told (now (in_b .entry))) (i .0) (natAbs g)) (now (scratch .entry)) o (now (scratch .exit)) r ⌝ }
+    requires { ⌜ (k ≤ length (now in_b)) × (o ≤ 5242880) ⌝ }
+    ensures { λ r. ⌜ EndedBy (λ at. byStride (refusal at) (linesIn k (now (kinds .entry)) (now (lines .entry)) (tally .lines .0)) (told (now (in_b .entry))) (i .0) (natAbs g)) (now (scratch .entry)) o (now (scratch .exit)) r ⌝ }
 {
-    match test_stride(lines, kinds, tally, i, g, in_a, in_b, k) {
+    match test_stride(lines, kinds, tally, i, g, k) {
         Test::Refused { number } => {
             return Ended::Refused { number };
         }

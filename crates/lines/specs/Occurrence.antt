@@ -1,16 +1,16 @@
 -- Which constants occur in the constraints that lines of the buffer hold, and masks that tell it. Assumes nothing.
 use mathlib.Core.Path.{_≡_, refl, sym, _∙_, ap, fun-ext}
 use mathlib.Core.List.{List, [], _∷_, map}
-use mathlib.Core.Bool.{Bool, true, false, _&&_, _||_}
+use mathlib.Core.Bool.{Bool, true, false, _||_}
 use mathlib.Core.Logic.{⊎-elim}
 use mathlib.Core.Option.{some}
 use Prim.Native.Nat.{ℕ, zero, suc, _+_, _-_, _*_, _<_, _≤_}
-use native.Mathlib.Nat.{add-zero, add-suc, eq-zero-or-pos}
+use native.Mathlib.Nat.{eq-zero-or-pos}
 use native.Mathlib.Omega.{arith}
 use lib.Dec.{eqb}
 use lib.IntN.{ℤ, pos}
-use lib.ListN.{length, getD, take, drop, getElem?, drop-of-length-le, List·getD-eq-default, length-take, length-map}
-use lib.Seq.{take-all, take-append-le, take-at, drop-at}
+use lib.ListN.{length, getD, drop, getElem?, drop-of-length-le, List·getD-eq-default, length-take, length-map}
+use lib.Seq.{drop-at}
 use Rattle.forms.specs.Forms.{Line, Constraint, coeff, nonzero, occurs, lineA, lineB, lines, rest}
 use Rattle.lines.specs.Parts.{part, getD-part}
 use Rattle.lines.specs.Buffer.{size, formIn, lineIn, linesIn}
@@ -39,10 +39,6 @@ bits p (suc n) = bit (p 0) ∷ bits (rest p) n
 
 unfoldable pub told : List ℕ → ℕ → Bool
 told mask c = eqb (getD mask c 0) 1
-
--- Both masks tell each constant from..to.
-pub record AllTold (in-a in-b : List ℕ) (from to : ℕ) : Type 0 where
-  pub tells : (c : ℕ) → from ≤ c → c < to → told in-a c && told in-b c ≡ true
 
 -- The lines from `from` up to `to` stand in the buffer.
 pub record Span (K : ℕ) (buf : List ℤ) (from to : ℕ) : Type 0 where
@@ -150,30 +146,11 @@ told-occurs K kinds buf from to n h l =
     ∙ fun-ext (λ c. sym (occurs-kinds K buf to c kinds from h))
 
 -- ---- the lines of two bundles
-as-A : (cs : List Constraint) → map constraintOf (map lineA cs) ≡ cs
-as-A [] = refl
-as-A (c ∷ cs) = ap (λ (x : List Constraint). c ∷ x) (as-A cs)
-
 as-B : (cs : List Constraint) → map constraintOf (map lineB cs) ≡ cs
 as-B [] = refl
 as-B (c ∷ cs) = ap (λ (x : List Constraint). c ∷ x) (as-B cs)
 
-pub take-lines : (K : ℕ) (kinds : List ℕ) (buf : List ℤ) (n m : ℕ) → take n (linesIn K kinds buf (n + m)) ≡ linesIn K kinds buf n
-unfolding linesIn
-take-lines K kinds buf n zero = rw add-zero (take-all n (linesIn K kinds buf n) (omega (arith, length-lines K kinds buf n)))
-take-lines K kinds buf n (suc m) =
-    rw add-suc
-    (take-append-le n (linesIn K kinds buf (n + m)) (lineIn K kinds buf (n + m) ∷ []) (omega (arith, length-lines K kinds buf (n + m)))
-    ∙ take-lines K kinds buf n m)
-
-module _ (K : ℕ) (kinds : List ℕ) (buf : List ℤ) (A B : List Constraint) (are : linesIn K kinds buf (length A + length B) ≡ lines A B) where
-  pub held-A : held K kinds buf 0 (length A) ≡ A
-  unfolding held
-  held-A =
-      ap (map constraintOf)
-      (sym (take-lines K kinds buf (length A) (length B)) ∙ ap (take (length A)) are ∙ take-at (map lineA A) (map lineB B) (length A) (length-map A lineA))
-      ∙ as-A A
-
-  pub held-B : held K kinds buf (length A) (length A + length B) ≡ B
-  unfolding held
-  held-B = ap (λ (ls : List Line). map constraintOf (drop (length A) ls)) are ∙ ap (map constraintOf) (drop-at (map lineA A) (map lineB B) (length A) (length-map A lineA)) ∙ as-B B
+pub held-B : (K : ℕ) (kinds : List ℕ) (buf : List ℤ) (A B : List Constraint) → linesIn K kinds buf (length A + length B) ≡ lines A B
+    → held K kinds buf (length A) (length A + length B) ≡ B
+unfolding held
+held-B K kinds buf A B are = ap (λ (ls : List Line). map constraintOf (drop (length A) ls)) are ∙ ap (map constraintOf) (drop-at (map lineA A) (map lineB B) (length A) (length-map A lineA)) ∙ as-B B

@@ -1,16 +1,15 @@
 -- A form of the buffer as its numbers, and without the constants that B lacks. Assumes nothing.
-use mathlib.Core.Path.{_≡_, refl, sym, _∙_, ap, ap₂}
+use mathlib.Core.Path.{_≡_, sym, _∙_, ap}
 use mathlib.Core.List.{List, [], _∷_}
-use mathlib.Core.Bool.{Bool, true, false, not, cond, _&&_, _||_}
+use mathlib.Core.Bool.{Bool, cond}
 use Prim.Native.Nat.{ℕ, _+_, _<_}
 use native.Mathlib.Omega.{arith}
 use lib.IntN.{ℤ, pos}
 use lib.ListN.{length, getD, drop, length-drop, List·getD-append}
 use lib.Seq.{length-take-le, getD-at}
-use Rattle.forms.specs.Forms.{only, within, nonzero, rest}
+use Rattle.forms.specs.Forms.{only, within}
 use Rattle.fields.specs.Numbers.{flat}
 use Rattle.calculus.proofs.Readings.{getD-only, length-only}
-use Rattle.proof.specs.Rows.{common}
 use Rattle.lines.specs.Parts.{part, getD-part}
 use Rattle.lines.specs.Buffer.{formIn}
 use Rattle.lines.specs.Range.{part-form}
@@ -35,16 +34,3 @@ module _ (p : ℕ → Bool) (K : ℕ) (buf : List ℤ) (at : ℕ) (room : at + K
   pub restricted-last : getD (flat (within p (formIn K buf at))) K (pos 0) ≡ getD buf (at + K) (pos 0)
   unfolding flat within
   restricted-last = getD-at (only p (part at K buf)) (getD buf (at + K) (pos 0)) [] (pos 0) K len
-
--- ---- which constants a restricted form names
-step : (a b : Bool) (z : ℤ) → (a && b) || not (nonzero (cond b z (pos 0))) ≡ (a || not b) || not (nonzero z)
-unfolding nonzero
-step true true z = refl
-step true false z = refl
-step false true z = refl
-step false false z = refl
-
-pub common-only : (a b : ℕ → Bool) (l : List ℤ) → common (λ c. a c && b c) (only b l) ≡ common (λ c. a c || not (b c)) l
-unfolding common only
-common-only a b [] = refl
-common-only a b (z ∷ l) = ap₂ _&&_ (step (a 0) (b 0) z) (common-only (rest a) (rest b) l)

@@ -1,9 +1,8 @@
 // The lines of a branch in one flat lent buffer: the functions that read and write them.
 use forms::CONSTANTS;
 ghost use mathlib.Core.Path.{_≡_};
-ghost use mathlib.Core.Bool.{true, not, _&&_, _||_};
+ghost use mathlib.Core.Bool.{_&&_};
 ghost use Prim.Native.Nat.{_+_, _*_, _<_, _≤_};
-ghost use lib.Dec.{eqb};
 ghost use lib.ListN.{length, getD};
 ghost use lib.Seq.{paste};
 ghost use lib.IntN.{pos};
@@ -11,13 +10,12 @@ ghost use lib.Signed.{_≤ℤ_};
 ghost use Rattle.integers.specs.Magnitude.{Within};
 ghost use Rattle.integers.specs.Linear.{eqZ};
 ghost use Rattle.integers.specs.Divides.{divb};
-ghost use Rattle.forms.specs.Forms.{nonzero, within};
+ghost use Rattle.forms.specs.Forms.{within};
 ghost use Rattle.calculus.specs.Rules.{small, every};
 ghost use Rattle.fields.specs.Numbers.{flat};
-ghost use Rattle.proof.specs.Rows.{common};
 ghost use Rattle.lines.specs.Parts.{part};
 ghost use Rattle.lines.specs.Buffer.{size, formIn, Terms, LineTerms, LineCopy, mixed, mixedLine, plusOne, copiedLine, strengthenedT, strengthenedBoth, startedLine};
-ghost use Rattle.lines.specs.Occurrence.{Span, occursIn, bit, bits, told, AllTold};
+ghost use Rattle.lines.specs.Occurrence.{Span, occursIn, bit, bits, told};
 
 // Where the numbers of line i's t start, with k constants.
 pub fn place(i: usize, k: usize) -> usize
@@ -246,96 +244,6 @@ pub fn occurrences(lines: &[i64], from: usize, to: usize, k: usize, mask: &mut [
     }
 }
 
-// Whether a coefficient may stand: its constant occurs in both bundles, as the masks' bytes a and b tell, or it is 0.
-fn is_shared(x: i64, a: u8, b: u8) -> bool
-    ensures { λ r. ⌜ r ≡ (eqb a 1 && eqb b 1) || not (nonzero x) ⌝ }
-{
-    if a != 1 {
-        return integers::is_zero(x);
-    }
-    if b != 1 {
-        return integers::is_zero(x);
-    }
-    true
-}
-
-// Whether a constant occurs in both bundles, as the masks' bytes tell.
-fn is_in_both(a: u8, b: u8) -> bool
-    ensures { λ r. ⌜ r ≡ eqb a 1 && eqb b 1 ⌝ }
-{
-    (a == 1) & (b == 1)
-}
-
-// Whether the constants from..k all do.
-fn each_shared(from: usize, k: usize, in_a: &[u8], in_b: &[u8]) -> bool
-    requires { ⌜ k ≤ length (now in_a) ⌝ }
-    requires { ⌜ k ≤ length (now in_b) ⌝ }
-    ensures { λ r. ⌜ (r ≡ true → AllTold (now (in_a .entry)) (now (in_b .entry)) from k) ⌝ }
-{
-    let mut x = from;
-    while x < k {
-        let a = in_a[x];
-        let b = in_b[x];
-        if !is_in_both(a, b) {
-            return false;
-        }
-        x += 1;
-    }
-    true
-}
-
-// The same for the four from x on.
-fn four_shared(x: usize, in_a: &[u8], in_b: &[u8]) -> bool
-    requires { ⌜ x + 4 ≤ length (now in_a) ⌝ }
-    requires { ⌜ x + 4 ≤ length (now in_b) ⌝ }
-    ensures { λ r. ⌜ (r ≡ true → AllTold (now (in_a .entry)) (now (in_b .entry)) x (x + 4)) ⌝ }
-{
-    let first = is_in_both(in_a[x], in_b[x]);
-    let second = is_in_both(in_a[x + 1], in_b[x + 1]);
-    let third = is_in_both(in_a[x + 2], in_b[x + 2]);
-    let fourth = is_in_both(in_a[x + 3], in_b[x + 3]);
-    first & second & third & fourth
-}
-
-// The same for the first k constants.
-fn all_shared(k: usize, in_a: &[u8], in_b: &[u8]) -> bool
-    requires { ⌜ k ≤ length (now in_a) ⌝ }
-    requires { ⌜ k ≤ length (now in_b) ⌝ }
-    ensures { λ r. ⌜ (r ≡ true → AllTold (now (in_a .entry)) (now (in_b .entry)) 0 k) ⌝ }
-{
-    let mut x = 0;
-    while 4 <= k - x {
-        if !four_shared(x, in_a, in_b) {
-            return false;
-        }
-        x += 4;
-    }
-    each_shared(x, k, in_a, in_b)
-}
-
-// Whether only constants that occur in both bundles have a non-zero coefficient in the form at a place.
-// In most proofs all constants do, and then no coefficient is read.
-pub fn shared_only(lines: &[i64], at: usize, k: usize, in_a: &[u8], in_b: &[u8]) -> bool
-    requires { ⌜ at + k ≤ length (now lines) ⌝ }
-    requires { ⌜ k ≤ length (now in_a) ⌝ }
-    requires { ⌜ k ≤ length (now in_b) ⌝ }
-    ensures { λ r. ⌜ r ≡ common (λ c. told (now (in_a .entry)) c && told (now (in_b .entry)) c) (formIn k (now (lines .entry)) at .coeffs) ⌝ }
-{
-    if all_shared(k, in_a, in_b) {
-        return true;
-    }
-    let mut x = 0;
-    while x < k {
-        let a = in_a[x];
-        let b = in_b[x];
-        if !is_shared(lines[at + x], a, b) {
-            return false;
-        }
-        x += 1;
-    }
-    true
-}
-
 // Number x, the coefficients first and then d, of the form at a place without the constants that B lacks.
 pub fn restricted(lines: &[i64], at: usize, k: usize, in_b: &[u8], x: usize) -> i64
     requires { ⌜ at + k < length (now lines) ⌝ }
@@ -350,36 +258,4 @@ pub fn restricted(lines: &[i64], at: usize, k: usize, in_b: &[u8], x: usize) -> 
         return lines[at + x];
     }
     0
-}
-
-// Whether a coefficient may stand where the constants that B lacks are left out.
-fn is_shared_or_left_out(x: i64, a: u8, b: u8) -> bool
-    ensures { λ r. ⌜ r ≡ (eqb a 1 || not (eqb b 1)) || not (nonzero x) ⌝ }
-{
-    if a == 1 {
-        return true;
-    }
-    if b != 1 {
-        return true;
-    }
-    integers::is_zero(x)
-}
-
-// The same as `shared_only` for the form at a place without the constants that B lacks.
-pub fn restricted_shared_only(lines: &[i64], at: usize, k: usize, in_a: &[u8], in_b: &[u8]) -> bool
-    requires { ⌜ at + k ≤ length (now lines) ⌝ }
-    requires { ⌜ k ≤ length (now in_a) ⌝ }
-    requires { ⌜ k ≤ length (now in_b) ⌝ }
-    ensures { λ r. ⌜ r ≡ common (λ c. told (now (in_a .entry)) c && told (now (in_b .entry)) c) (within (told (now (in_b .entry))) (formIn k (now (lines .entry)) at) .coeffs) ⌝ }
-{
-    let mut x = 0;
-    while x < k {
-        let a = in_a[x];
-        let b = in_b[x];
-        if !is_shared_or_left_out(lines[at + x], a, b) {
-            return false;
-        }
-        x += 1;
-    }
-    true
 }

@@ -2,7 +2,7 @@
 use Prim.Native.Nat.{_-_}
 use native.Mathlib.Omega.{arith}
 use mathlib.Core.Path.{_∙_}
-use Rattle.lines.proofs.Every.{Passed, passed-none, passed-next, passed-fails, passed-all, every-passing}
+use Rattle.lines.proofs.Every.{Passed, passed-none, passed-next, passed-fails, passed-all}
 use mir.Syntax.{w64}
 use mir.Val.{toZ, ofZ}
 use mir.ValLaws.{toZ-ofZ}
@@ -11,7 +11,7 @@ use Rattle.lines.proofs.all_divisible.Statement.{statement}
 use Rattle.lines.proofs.all_divisible.Tie as tie
 
 abbrev Inv-loop : tie.InvT-loop
-Inv-loop lines at k g x₀ x = Passed (λ _. divb (toZ w64 g)) lines at k x
+Inv-loop lines at k g x₀ x = Passed (divb (toZ w64 g)) lines at k x
 
 abbrev μ-loop : tie.MeasureT-loop
 μ-loop lines at k g x₀ x = k - x
@@ -35,7 +35,7 @@ returns : tie.Need-returns Inv-loop μ-loop
 returns c =
     let s = c .before .before .before .before .before in
     let fg = s .fits .g in
-    simp toZ-ofZ at (passed-fails (s .pre .0) (c .before .before .before .before .loop .inv) (c .before .before .before .loop-test .taken) (c .before .before .divides-arg .given) (c .before .divides .ensures) (c .if1 .taken) ∙ every-passing (divb (toZ w64 (ofZ w64 (s .args .g)))) 0 _)
+    simp toZ-ofZ at (passed-fails (s .pre .0) (c .before .before .before .before .loop .inv) (c .before .before .before .loop-test .taken) (c .before .before .divides-arg .given) (c .before .divides .ensures) (c .if1 .taken))
 
 add-x : tie.Need-add-x Inv-loop μ-loop
 add-x c = omega arith
@@ -52,7 +52,7 @@ returns-2 : tie.Need-returns-2 Inv-loop μ-loop
 returns-2 c =
     let s = c .before .before in
     let fg = s .fits .g in
-    simp toZ-ofZ at (passed-all (s .pre .0) (c .before .loop .inv) (omega arith) ∙ every-passing (divb (toZ w64 (ofZ w64 (s .args .g)))) 0 _)
+    simp toZ-ofZ at (passed-all (s .pre .0) (c .before .loop .inv) (omega arith))
 
 pub all-divisible-spec : {M : Type 1} → statement M
 all-divisible-spec =

@@ -3,12 +3,12 @@ use Prim.Native.Nat.{_-_}
 use native.Mathlib.Omega.{arith}
 use mathlib.Core.Path.{_∙_}
 use Rattle.calculus.specs.Rules.{small}
-use Rattle.lines.proofs.Every.{Passed, passed-none, passed-next, passed-fails, passed-all, every-passing}
+use Rattle.lines.proofs.Every.{Passed, passed-none, passed-next, passed-fails, passed-all}
 use Rattle.lines.proofs.each_fits.Statement.{statement}
 use Rattle.lines.proofs.each_fits.Tie as tie
 
 abbrev Inv-loop : tie.InvT-loop
-Inv-loop lines at count x₀ x = Passed (λ _. small 2147483647) lines at count x
+Inv-loop lines at count x₀ x = Passed (small 2147483647) lines at count x
 
 abbrev μ-loop : tie.MeasureT-loop
 μ-loop lines at count x₀ x = count - x
@@ -32,7 +32,7 @@ returns : tie.Need-returns Inv-loop μ-loop
 unfolding small
 returns c =
     let s = c .before .before .before .before .before in
-    passed-fails (s .pre) (c .before .before .before .before .loop .inv) (c .before .before .before .loop-test .taken) (c .before .before .in-range-arg .given) (c .before .in-range .ensures) (c .if1 .taken) ∙ every-passing (small 2147483647) 0 _
+    passed-fails (s .pre) (c .before .before .before .before .loop .inv) (c .before .before .before .loop-test .taken) (c .before .before .in-range-arg .given) (c .before .in-range .ensures) (c .if1 .taken)
 
 add-x : tie.Need-add-x Inv-loop μ-loop
 add-x c = omega arith
@@ -49,7 +49,7 @@ loop-again c =
 returns-2 : tie.Need-returns-2 Inv-loop μ-loop
 returns-2 c =
     let s = c .before .before in
-    passed-all (s .pre) (c .before .loop .inv) (omega arith) ∙ every-passing (small 2147483647) 0 _
+    passed-all (s .pre) (c .before .loop .inv) (omega arith)
 
 pub each-fits-spec : {M : Type 1} → statement M
 each-fits-spec =

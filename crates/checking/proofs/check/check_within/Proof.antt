@@ -15,16 +15,12 @@ slice-aggregate-prepare c = search needs
 slice-aggregate-prepare-2 : tie.Need-slice-aggregate-prepare-2
 slice-aggregate-prepare-2 c = search needs
 
-slice-aggregate-prepare-3 : tie.Need-slice-aggregate-prepare-3
-slice-aggregate-prepare-3 c = search needs
-
 prepare-requires : tie.Need-prepare-requires
 prepare-requires c κs =
-    let g = c .before .before .before .before .before .before .before .before .before .pre .0 in (
+    let g = c .before .before .before .before .before .before .before .before .pre .0 in (
       g .both,
       record {
-        space = space-from (g .both) (c .before .before .before .before .before .before .before .before .before .pre .1 .0) (omega arith) (omega (arith, length-replicate {A = ℕ} 128 0));
-        a = length-replicate {A = ℕ} 16 0;
+        space = space-from (g .both) (c .before .before .before .before .before .before .before .before .pre .1 .0) (omega arith) (omega (arith, length-replicate {A = ℕ} 128 0));
         b = length-replicate {A = ℕ} 16 0;
       },
     )
@@ -38,18 +34,15 @@ slice-aggregate-check-root c = search needs
 slice-aggregate-check-root-2 : tie.Need-slice-aggregate-check-root-2
 slice-aggregate-check-root-2 c = search needs
 
-slice-aggregate-check-root-3 : tie.Need-slice-aggregate-check-root-3
-slice-aggregate-check-root-3 c = search needs
-
 check-root-requires : tie.Need-check-root-requires
 check-root-requires c κs =
-    let w = c .before .before .before .before .before .before .before .before .before .before .before .before .before .before .before .before .before .before .before .before .pre .1 in
-    let g = c .before .before .before .before .before .before .before .before .before .before .before .before .before .before .before .before .before .before .before .before .pre .0 in
-    let q = c .before .before .before .before .before .before .before .before .before .before .prepare .ensures in
-    let a = all-bytes (c .before .before .before .before .before .before .before .before .before .before .before .before .before .before .before .before .before .before .before .before .args .a .now) (λ i. omega (arith, c .before .before .before .before .before .before .before .before .before .before .before .before .before .before .before .before .before .before .before .shared-slice-known .given i)) in
-    let b = all-bytes (c .before .before .before .before .before .before .before .before .before .before .before .before .before .before .before .before .before .before .before .before .args .b .now) (λ i. omega (arith, c .before .before .before .before .before .before .before .before .before .before .before .before .before .before .before .before .before .before .shared-slice-known2 .given i)) in
-    let p = all-bytes (c .before .before .before .before .before .before .before .before .before .before .before .before .before .before .before .before .before .before .before .before .args .proof .now) (λ i. omega (arith, c .before .before .before .before .before .before .before .before .before .before .before .before .before .before .before .before .before .shared-slice-known3 .given i)) in
-    (started g q (omega (arith, q .buffers .a, q .buffers .b)) (omega (arith, q .buffers .a, q .buffers .b)) (spare-less (omega arith) (omega arith) (w .0)), (fits-scratch g q a b p, w .1))
+    let w = c .before .before .before .before .before .before .before .before .before .before .before .before .before .before .before .before .before .pre .1 in
+    let g = c .before .before .before .before .before .before .before .before .before .before .before .before .before .before .before .before .before .pre .0 in
+    let q = c .before .before .before .before .before .before .before .before .prepare .ensures in
+    let a = all-bytes (c .before .before .before .before .before .before .before .before .before .before .before .before .before .before .before .before .before .args .a .now) (λ i. omega (arith, c .before .before .before .before .before .before .before .before .before .before .before .before .before .before .before .before .shared-slice-known .given i)) in
+    let b = all-bytes (c .before .before .before .before .before .before .before .before .before .before .before .before .before .before .before .before .before .args .b .now) (λ i. omega (arith, c .before .before .before .before .before .before .before .before .before .before .before .before .before .before .before .shared-slice-known2 .given i)) in
+    let p = all-bytes (c .before .before .before .before .before .before .before .before .before .before .before .before .before .before .before .before .before .args .proof .now) (λ i. omega (arith, c .before .before .before .before .before .before .before .before .before .before .before .before .before .before .shared-slice-known3 .given i)) in
+    (started g q (q .buffers .b) (spare-less (omega arith) (omega arith) (w .0)), (fits-scratch g q a b p, w .1))
 
 same-length : tie.Need-same-length
 same-length c = search needs
@@ -61,7 +54,7 @@ same-length-3 : tie.Need-same-length-3
 same-length-3 c = search needs
 
 returns : tie.Need-returns
-returns c = checks-root (c .before .before .before .before .before .before .before .before .before .before .before .before .before .before .before .before .before .before .before .before .before .before .before .before .before .before .before .pre .0) (c .before .before .before .before .before .before .before .before .before .before .before .before .before .before .before .before .before .prepare .ensures) (c .before .before .before .before .before .before .check-root .ensures)
+returns c = checks-root (c .before .before .before .before .before .before .before .before .before .before .before .before .before .before .before .before .before .before .before .before .before .before .before .before .pre .0) (c .before .before .before .before .before .before .before .before .before .before .before .before .before .before .before .prepare .ensures) (c .before .before .before .before .before .before .check-root .ensures)
 
 pub check-within-spec : {M : Type 1} → statement M
 check-within-spec =
@@ -69,12 +62,10 @@ check-within-spec =
     (tie.spec
     slice-aggregate-prepare
     slice-aggregate-prepare-2
-    slice-aggregate-prepare-3
     prepare-requires
     add-check-root
     slice-aggregate-check-root
     slice-aggregate-check-root-2
-    slice-aggregate-check-root-3
     check-root-requires
     same-length
     same-length-2

@@ -7,7 +7,7 @@ use lib.IntN.{pos}
 use mir.Syntax.{w64}
 use mir.ValLaws.{toZ-ofZ}
 use Rattle.rows.proofs.Testing.{below, past}
-use Rattle.closes.proofs.Closes.{line-end, number-none, number-coeffs, number-d, number-names, number-passed}
+use Rattle.closes.proofs.Closes.{line-end, number-none, number-coeffs, number-d, number-passed}
 use Rattle.closes.proofs.closing.test_number.Statement.{statement}
 use Rattle.closes.proofs.closing.test_number.Tie as tie
 
@@ -16,104 +16,82 @@ is-there-requires c κs = search needs
 
 returns : tie.Need-returns
 returns c =
-    let s = c .before .before .before .before .before in
+    let s = c .before .before .before in
     let a = s .args in
-    number-none (a .k) (a .kinds .now) (a .lines .now) (a .tally) (a .i .0) (a .in-a .now) (a .in-b .now) (past (a .i .0) (a .tally .lines .0) (c .before .is-there .ensures) (c .if1 .taken))
+    number-none (a .k) (a .kinds .now) (a .lines .now) (a .tally) (a .i .0) (past (a .i .0) (a .tally .lines .0) (c .before .is-there .ensures) (c .if1 .taken))
 
 cast-n : tie.Need-cast-n
 cast-n c = search needs
 
 place-requires : tie.Need-place-requires
 place-requires c κs =
-    let s = c .before .before .before .before .before .before in
+    let s = c .before .before .before .before in
     let a = s .args in
     let h = below (a .i .0) (a .tally .lines .0) (c .before .before .is-there .ensures) (c .before .if1 .left) in
-    (omega (arith, s .pre .0 .most), s .pre .0 .branch .constants)
-
-place-a-requires : tie.Need-place-a-requires
-place-a-requires c κs =
-    let s = c .before .before .before .before .before .before .before in
-    let a = s .args in
-    let h = below (a .i .0) (a .tally .lines .0) (c .before .before .before .is-there .ensures) (c .before .before .if1 .left) in
-    (omega (arith, s .pre .0 .most), s .pre .0 .branch .constants)
+    (omega (arith, s .pre .most), s .pre .branch .constants)
 
 all-zero-requires : tie.Need-all-zero-requires
 all-zero-requires c κs =
-    let s = c .before .before .before .before .before .before .before .before in
+    let s = c .before .before .before .before .before in
     let a = s .args in
-    let h = below (a .i .0) (a .tally .lines .0) (c .before .before .before .before .is-there .ensures) (c .before .before .before .if1 .left) in
-    let r = line-end (s .pre .0) h in
-    omega (arith, c .before .place .ensures)
+    let h = below (a .i .0) (a .tally .lines .0) (c .before .before .before .is-there .ensures) (c .before .before .if1 .left) in
+    let r = line-end (s .pre) h in
+    omega (arith, c .place .ensures)
 
 returns-2 : tie.Need-returns-2
 returns-2 c =
-    let s = c .before .before .before .before .before .before .before .before .before .before in
+    let s = c .before .before .before .before .before .before .before in
     let a = s .args in
-    let h = below (a .i .0) (a .tally .lines .0) (c .before .before .before .before .before .before .is-there .ensures) (c .before .before .before .before .before .if1 .left) in
-    number-coeffs (a .k) (a .kinds .now) (a .lines .now) (a .tally) (a .i .0) (a .in-a .now) (a .in-b .now) h (c .before .before .before .place .ensures) (c .before .before .place-a .ensures) (c .before .all-zero .ensures) (c .if2 .taken)
+    let h = below (a .i .0) (a .tally .lines .0) (c .before .before .before .before .before .is-there .ensures) (c .before .before .before .before .if1 .left) in
+    number-coeffs (a .k) (a .kinds .now) (a .lines .now) (a .tally) (a .i .0) h (c .before .before .place .ensures) (c .before .all-zero .ensures) (c .if2 .taken)
 
 kind-of-requires : tie.Need-kind-of-requires
 kind-of-requires c κs =
-    let s = c .before .before .before .before .before .before .before .before .before .before in
+    let s = c .before .before .before .before .before .before .before in
     let a = s .args in
-    let h = below (a .i .0) (a .tally .lines .0) (c .before .before .before .before .before .before .is-there .ensures) (c .before .before .before .before .before .if1 .left) in
-    omega (arith, s .pre .0 .most, s .pre .0 .room)
+    let h = below (a .i .0) (a .tally .lines .0) (c .before .before .before .before .before .is-there .ensures) (c .before .before .before .before .if1 .left) in
+    omega (arith, s .pre .most, s .pre .room)
 
 add-d : tie.Need-add-d
 add-d c =
-    let s = c .before .before .before .before .before .before .before .before .before .before .before in
+    let s = c .before .before .before .before .before .before .before .before in
     let a = s .args in
-    let h = below (a .i .0) (a .tally .lines .0) (c .before .before .before .before .before .before .before .is-there .ensures) (c .before .before .before .before .before .before .if1 .left) in
-    let r = line-end (s .pre .0) h in
-    omega (arith, c .before .before .before .before .place .ensures)
+    let h = below (a .i .0) (a .tally .lines .0) (c .before .before .before .before .before .before .is-there .ensures) (c .before .before .before .before .before .if1 .left) in
+    let r = line-end (s .pre) h in
+    omega (arith, c .before .before .before .place .ensures)
 
 mul-d : tie.Need-mul-d
 mul-d c =
-    let s = c .before .before .before .before .before .before .before .before .before .before .before in
+    let s = c .before .before .before .before .before .before .before .before in
     let a = s .args in
-    let h = below (a .i .0) (a .tally .lines .0) (c .before .before .before .before .before .before .before .is-there .ensures) (c .before .before .before .before .before .before .if1 .left) in
-    let r = line-end (s .pre .0) h in
-    omega (arith, c .before .before .before .before .place .ensures)
+    let h = below (a .i .0) (a .tally .lines .0) (c .before .before .before .before .before .before .is-there .ensures) (c .before .before .before .before .before .if1 .left) in
+    let r = line-end (s .pre) h in
+    omega (arith, c .before .before .before .place .ensures)
 
 shared-slice-copy-out-d : tie.Need-shared-slice-copy-out-d
 shared-slice-copy-out-d c =
-    let s = c .before .before .before .before .before .before .before .before .before .before .before in
+    let s = c .before .before .before .before .before .before .before .before in
     let a = s .args in
-    let h = below (a .i .0) (a .tally .lines .0) (c .before .before .before .before .before .before .before .is-there .ensures) (c .before .before .before .before .before .before .if1 .left) in
-    let r = line-end (s .pre .0) h in
-    omega (arith, c .before .before .before .before .place .ensures)
+    let h = below (a .i .0) (a .tally .lines .0) (c .before .before .before .before .before .before .is-there .ensures) (c .before .before .before .before .before .if1 .left) in
+    let r = line-end (s .pre) h in
+    omega (arith, c .before .before .before .place .ensures)
 
 is-false-requires : tie.Need-is-false-requires
 is-false-requires c κs = search needs
 
 returns-3 : tie.Need-returns-3
 returns-3 c =
-    let s = c .before .before .before .before .before .before .before .before .before .before .before .before .before .before in
+    let s = c .before .before .before .before .before .before .before .before .before .before .before in
     let a = s .args in
-    let h = below (a .i .0) (a .tally .lines .0) (c .before .before .before .before .before .before .before .before .before .before .is-there .ensures) (c .before .before .before .before .before .before .before .before .before .if1 .left) in
-    number-d (a .k) (a .kinds .now) (a .lines .now) (a .tally) (a .i .0) (a .in-a .now) (a .in-b .now) h (c .before .before .before .before .before .before .before .place .ensures) (c .before .before .before .before .before .before .place-a .ensures) (c .before .before .before .before .before .all-zero .ensures) (c .before .before .before .before .if2 .left) (c .before .before .before .kind-of .ensures) (toZ-ofZ w64 (getD (a .lines .now) (c .before .before .before .before .before .before .before .place .result + a .k) (pos 0)) (record { sfits = c .before .before .d .given })) (c .before .is-false .ensures) (c .if3 .taken)
-
-shared-only-requires : tie.Need-shared-only-requires
-shared-only-requires c κs =
-    let s = c .before .before .before .before .before .before .before .before .before .before .before .before .before .before in
-    let a = s .args in
-    let h = below (a .i .0) (a .tally .lines .0) (c .before .before .before .before .before .before .before .before .before .before .is-there .ensures) (c .before .before .before .before .before .before .before .before .before .if1 .left) in
-    let r = line-end (s .pre .0) h in
-    (omega (arith, c .before .before .before .before .before .before .place-a .ensures), (s .pre .1 .0, s .pre .1 .1))
+    let h = below (a .i .0) (a .tally .lines .0) (c .before .before .before .before .before .before .before .before .before .is-there .ensures) (c .before .before .before .before .before .before .before .before .if1 .left) in
+    number-d (a .k) (a .kinds .now) (a .lines .now) (a .tally) (a .i .0) h (c .before .before .before .before .before .before .place .ensures) (c .before .before .before .before .before .all-zero .ensures) (c .before .before .before .before .if2 .left) (c .before .before .before .kind-of .ensures) (toZ-ofZ w64 (getD (a .lines .now) (c .before .before .before .before .before .before .place .result + a .k) (pos 0)) (record { sfits = c .before .before .d .given })) (c .before .is-false .ensures) (c .if3 .taken)
 
 returns-4 : tie.Need-returns-4
 returns-4 c =
-    let s = c .before .before .before .before .before .before .before .before .before .before .before .before .before .before .before .before in
+    let s = c .before .before .before .before .before .before .before .before .before .before .before in
     let a = s .args in
-    let h = below (a .i .0) (a .tally .lines .0) (c .before .before .before .before .before .before .before .before .before .before .before .before .is-there .ensures) (c .before .before .before .before .before .before .before .before .before .before .before .if1 .left) in
-    number-names (a .k) (a .kinds .now) (a .lines .now) (a .tally) (a .i .0) (a .in-a .now) (a .in-b .now) h (c .before .before .before .before .before .before .before .before .before .place .ensures) (c .before .before .before .before .before .before .before .before .place-a .ensures) (c .before .before .before .before .before .before .before .all-zero .ensures) (c .before .before .before .before .before .before .if2 .left) (c .before .before .before .before .before .kind-of .ensures) (toZ-ofZ w64 (getD (a .lines .now) (c .before .before .before .before .before .before .before .before .before .place .result + a .k) (pos 0)) (record { sfits = c .before .before .before .before .d .given })) (c .before .before .before .is-false .ensures) (c .before .before .if3 .left) (c .before .shared-only .ensures) (c .if4 .taken)
-
-returns-5 : tie.Need-returns-5
-returns-5 c =
-    let s = c .before .before .before .before .before .before .before .before .before .before .before .before .before .before .before .before in
-    let a = s .args in
-    let h = below (a .i .0) (a .tally .lines .0) (c .before .before .before .before .before .before .before .before .before .before .before .before .is-there .ensures) (c .before .before .before .before .before .before .before .before .before .before .before .if1 .left) in
-    number-passed (a .k) (a .kinds .now) (a .lines .now) (a .tally) (a .i .0) (a .in-a .now) (a .in-b .now) h (c .before .before .before .before .before .before .before .before .before .place .ensures) (c .before .before .before .before .before .before .before .before .place-a .ensures) (c .before .before .before .before .before .before .before .all-zero .ensures) (c .before .before .before .before .before .before .if2 .left) (c .before .before .before .before .before .kind-of .ensures) (toZ-ofZ w64 (getD (a .lines .now) (c .before .before .before .before .before .before .before .before .before .place .result + a .k) (pos 0)) (record { sfits = c .before .before .before .before .d .given })) (c .before .before .before .is-false .ensures) (c .before .before .if3 .left) (c .before .shared-only .ensures) (c .if4 .left)
+    let h = below (a .i .0) (a .tally .lines .0) (c .before .before .before .before .before .before .before .before .before .is-there .ensures) (c .before .before .before .before .before .before .before .before .if1 .left) in
+    number-passed (a .k) (a .kinds .now) (a .lines .now) (a .tally) (a .i .0) h (c .before .before .before .before .before .before .place .ensures) (c .before .before .before .before .before .all-zero .ensures) (c .before .before .before .before .if2 .left) (c .before .before .before .kind-of .ensures) (toZ-ofZ w64 (getD (a .lines .now) (c .before .before .before .before .before .before .place .result + a .k) (pos 0)) (record { sfits = c .before .before .d .given })) (c .before .is-false .ensures) (c .if3 .left)
 
 pub test-number-spec : {M : Type 1} → statement M
-test-number-spec = tie.close (tie.spec is-there-requires returns cast-n place-requires place-a-requires all-zero-requires returns-2 kind-of-requires add-d mul-d shared-slice-copy-out-d is-false-requires returns-3 shared-only-requires returns-4 returns-5)
+test-number-spec = tie.close (tie.spec is-there-requires returns cast-n place-requires all-zero-requires returns-2 kind-of-requires add-d mul-d shared-slice-copy-out-d is-false-requires returns-3 returns-4)

@@ -1,0 +1,80 @@
+-- Every line that rows reach draws tA from A alone and t - tA from B alone, a closed branch has such lines at every row, and so it names common constants only. Assumes nothing.
+use mathlib.Core.Path.{_≡_, refl, ap, subst}
+use mathlib.Core.List.{List, [], _∷_}
+use mathlib.Core.Bool.{Bool, true, false}
+use Prim.Native.Nat.{ℕ, suc}
+use lib.Dec.{T}
+use lib.IntN.{ℤ, pos, +ℤ-idr}
+use Rattle.forms.specs.Edition.{Edition}
+use Rattle.forms.specs.Forms.{Form, Kind, ≤0, =0, Line, line, Constraint, lines, All, nil, cons, coeff, nonzero, occurs, Formula, names, _plus_}
+use Rattle.calculus.specs.Rules.{Nth, _▷_, Closed, derive, strengthen, number, stride}
+use Rattle.calculus.specs.Reached.{Drawn, Reached, root, derived, branched, Throughout}
+use Rattle.calculus.proofs.Sides.{Side, A, B, part, all-nth}
+use Rattle.calculus.proofs.Vocabulary.{Words, words-new, words-raised, vocabulary}
+use Rattle.calculus.proofs.Interpolation.{sides, initial-words, occurs-if}
+
+-- which constants occur in A and in B
+abbrev pub occurring : (As Bs : List Constraint) → Side → ℕ → Bool
+occurring As Bs σ = occurs (sides As Bs σ)
+
+module _ (As Bs : List Constraint) where
+  pub reached-words : {ls : List Line} → Reached As Bs ls → Words (occurring As Bs) ls
+  reached-words root = initial-words (sides As Bs)
+  reached-words (derived r n) = words-new (occurring As Bs) (reached-words r) n
+  reached-words (branched i kind k j r p) = words-raised (occurring As Bs) (reached-words r) i p kind k j
+
+  module _ {ls : List Line} (w : Words (occurring As Bs) ls) where
+    at-side : (σ : Side) (i : ℕ) {l : Line} → Nth ls i l → (c : ℕ) → T (nonzero (part σ (coeff (l .t) c) (coeff (l .tA) c))) → T (occurring As Bs σ c)
+    unfolding nonzero
+    at-side σ i {l} p c = occurs-if (occurring As Bs σ c) (nonzero (part σ (coeff (l .t) c) (coeff (l .tA) c))) (λ o. rw (all-nth i (w σ c o) p))
+
+    pub words-drawn : (i : ℕ) {l : Line} → Nth ls i l → Drawn As Bs l
+    words-drawn i p = record { from-A = at-side A i p; from-B = at-side B i p }
+
+  all-of : {P : Line → Type 0} (ls : List Line) → ((i : ℕ) (l : Line) → Nth ls i l → P l) → All P ls
+  all-of [] h = nil
+  all-of (l ∷ ls) h = cons (h 0 l refl) (all-of ls (λ i. h (suc i)))
+
+  -- every line of a reached list is drawn
+  pub drawn : {ls : List Line} → Reached As Bs ls → All (Drawn As Bs) ls
+  drawn {ls} r = all-of ls (λ i l p. words-drawn (reached-words r) i p)
+
+  -- so a closed branch that starts with a reached list, and be it a single close, names constants of both bundles only
+  module _ {ls : List Line} (r : Reached As Bs ls) {e : Edition} {I : Formula} (p : Closed e (occurs Bs) ls I) (c : ℕ) (n : T (names I c)) where
+    on : (σ : Side) → T (occurring As Bs σ c)
+    on σ = occurs-if (occurring As Bs σ c) (names I c) (λ o. vocabulary (occurring As Bs) σ c o p (reached-words r)) n
+
+    pub names-common : T (occurs As c) × T (occurs Bs c)
+    names-common = (on A, on B)
+
+-- ---- the rows of a closed branch
+plus-0 : (t : Form) → t plus 0 ≡ t
+unfolding _plus_
+plus-0 t = ap (λ (z : ℤ). record { coeffs = t .coeffs; d = z }) (+ℤ-idr (t .d))
+
+module _ {As Bs : List Constraint} {ls : List Line} {t tA : Form} (i : ℕ) (r : Reached As Bs ls) (p : Nth ls i (line ≤0 t tA)) where
+  -- t+k with tA as it stands, and t with tA as they stand
+  raised : (kind : Kind) (k : ℕ) → Reached As Bs (ls ▷ line kind (t plus k) tA)
+  raised kind k = subst (λ (u : Form). Reached As Bs (ls ▷ line kind (t plus k) u)) (plus-0 tA) (branched i kind k 0 r p)
+
+  standing : (kind : Kind) → Reached As Bs (ls ▷ line kind t tA)
+  standing kind = subst (λ (u : Form). Reached As Bs (ls ▷ line kind u tA)) (plus-0 t) (raised kind 0)
+
+module _ {e : Edition} {inB : ℕ → Bool} where
+  -- at every row of a branch that starts with a reached list the lines are a reached list
+  pub reached : {As Bs : List Constraint} {ls : List Line} {I : Formula} (p : Closed e inB ls I) → Reached As Bs ls → Throughout (Reached As Bs) p
+  reached (derive _ n _ p) r = (r, reached p (derived r n))
+  reached (strengthen i l _ p1 pE p0) r = (r, reached p1 (branched i ≤0 1 1 r l), reached pE (standing i r l =0), reached p0 (raised i r l ≤0 1))
+  reached (number _ _ _ _) r = r
+  reached (stride _ _ _ _ _ _) r = r
+
+  -- what follows of such lists holds at every row
+  throughout : {P Q : List Line → Type 0} → ((ls : List Line) → P ls → Q ls) → {ls : List Line} {I : Formula} (p : Closed e inB ls I) → Throughout P p → Throughout Q p
+  throughout f (derive {ls = ls} _ n _ p) h = (f ls (h .0), throughout f p (h .1))
+  throughout f (strengthen {ls = ls} i l _ p1 pE p0) h = (f ls (h .0), throughout f p1 (h .1), throughout f pE (h .2), throughout f p0 (h .3))
+  throughout f (number {ls = ls} _ _ _ _) h = f ls h
+  throughout f (stride {ls = ls} _ _ _ _ _ _) h = f ls h
+
+-- at every row of a proof from A and B every line is drawn
+pub drawn-throughout : (As Bs : List Constraint) {e : Edition} {inB : ℕ → Bool} {I : Formula} (p : Closed e inB (lines As Bs) I) → Throughout (All (Drawn As Bs)) p
+drawn-throughout As Bs p = throughout (λ ls. drawn As Bs) p (reached p root)

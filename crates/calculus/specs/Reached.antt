@@ -1,0 +1,31 @@
+-- The lists of lines that rows reach, and from which bundle each line draws its constants. Document 02, point 10. Assumes nothing.
+use mathlib.Core.List.{List}
+use mathlib.Core.Bool.{Bool}
+use Prim.Native.Nat.{ℕ}
+use lib.Dec.{T}
+use lib.IntN.{_-ℤ_}
+use Rattle.forms.specs.Edition.{Edition}
+use Rattle.forms.specs.Forms.{Form, Kind, ≤0, Line, line, Constraint, lines, Formula, coeff, nonzero, occurs, _plus_}
+use Rattle.calculus.specs.Rules.{Nth, _▷_, New, Closed, derive, strengthen, number, stride}
+
+-- The partial interpolant tA draws its constants from A alone, the rest of the line, t - tA, from B alone.
+pub record Drawn (A B : List Constraint) (l : Line) : Type 0 where
+  pub from-A : (c : ℕ) → T (nonzero (coeff (l .tA) c)) → T (occurs A c)
+  pub from-B : (c : ℕ) → T (nonzero (coeff (l .t) c -ℤ coeff (l .tA) c)) → T (occurs B c)
+
+-- The lines of a branch that rows reach from A and B.
+pub data Reached (A B : List Constraint) : List Line → Type 0 where
+  -- the constraints
+  root : Reached A B (lines A B)
+  -- and the line of a row 0x10 to 0x12
+  derived : {ls : List Line} {l : Line} → Reached A B ls → New ls l → Reached A B (ls ▷ l)
+  -- and the line that a branch starts with, of either kind: t+k with tA+j, where t ≤ 0 is line i
+  branched : {ls : List Line} {t tA : Form} (i : ℕ) (kind : Kind) (k j : ℕ) → Reached A B ls → Nth ls i (line ≤0 t tA)
+      → Reached A B (ls ▷ line kind (t plus k) (tA plus j))
+
+-- P holds of the lines that each row of a closed branch finds, in the branches that it opens too.
+abbrev pub Throughout : {e : Edition} {inB : ℕ → Bool} (P : List Line → Type 0) {ls : List Line} {I : Formula} → Closed e inB ls I → Type 0
+Throughout P (derive {ls = ls} _ _ _ p) = P ls × Throughout P p
+Throughout P (strengthen {ls = ls} _ _ _ p1 pE p0) = P ls × Throughout P p1 × Throughout P pE × Throughout P p0
+Throughout P (number {ls = ls} _ _ _ _) = P ls
+Throughout P (stride {ls = ls} _ _ _ _ _ _) = P ls
