@@ -57,7 +57,7 @@ extern "C" {
  *     19  a known field after the end of the proof or formula
  *     20  branches are still open at the end of the proof
  *     21  a lent output is too short
- *     22  a close whose formula would name a constant that A or B lacks
+ *     22  no longer given; its number is not used again
  *     23  a register value outside -1,000,000 to 1,000,000
  *     24  a kind that is not 0 or 1, or the wrong count of numbers
  *
@@ -126,8 +126,7 @@ size_t dulgaverk_show(const uint8_t *a, size_t a_length, const uint8_t *b, size_
  * Accepted: `count` bytes of `out` are the file of the interpolant, a formula that holds wherever A is met, fails wherever
  * B is met, and names only constants that both use. 65,536 bytes are always enough.
  * Refused: 1 for A, B and the proof (files 1, 2, 3, place 0); then what reading refuses of A and of B, for B also 9; then
- * 2 to 7 and 9 to 20 with file 3; 21 with file 4, and as place the bytes needed, where `out` is too short. 22 is proved
- * never to come.
+ * 2 to 7 and 9 to 20 with file 3; 21 with file 4, and as place the bytes needed, where `out` is too short.
  */
 dulgaverk_write_result dulgaverk_check(const uint8_t *a, size_t a_length, const uint8_t *b, size_t b_length,
                                        const uint8_t *proof, size_t proof_length, uint8_t *out, size_t out_length);

@@ -1,6 +1,7 @@
 //! How many calls there were, by operation and answer, and where the two sides differed.
 
 use crate::COMPARED;
+use reference::NOT_GIVEN;
 use stages::{Case, Operation};
 use std::fmt;
 
@@ -17,9 +18,10 @@ pub struct Tally {
 }
 
 impl Tally {
+    /// Counts a call. The number that is no longer given counts as a difference, whichever side gave it.
     pub(crate) fn count(&mut self, case: &Case, number: u8, same: bool) {
         self.calls[case.operation() as usize][usize::from(number)] += 1;
-        if !same {
+        if !same || number == NOT_GIVEN {
             self.differences += 1;
             if self.kept.len() < KEPT {
                 self.kept.push(case.print());

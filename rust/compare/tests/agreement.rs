@@ -1,6 +1,7 @@
 //! The comparison in the gate: fixed seeds, every class of stages, every operation.
 
 use compare::{compare, Tally};
+use reference::NOT_GIVEN;
 use stages::rng::Rng;
 use stages::table::Size;
 use stages::{stream, Class, Operation, CLASSES};
@@ -25,12 +26,15 @@ fn agree(operation: Operation, seed: u64, cases: usize, numbers: &[u8]) {
     }
     println!("{operation:?}: {} calls", tally.calls(operation));
     assert_eq!(tally.differences(), 0, "{tally}");
-    // Every answer that the operation can give was met, and often.
-    for number in numbers {
-        assert!(
-            tally.answered(operation, *number) >= 1_000,
-            "{number}: {tally}"
-        );
+    // Every answer that the operation can give was met, and often; no other one ever, 22 among them.
+    assert!(!numbers.contains(&NOT_GIVEN));
+    for number in 0..=24 {
+        let times = tally.answered(operation, number);
+        if numbers.contains(&number) {
+            assert!(times >= 1_000, "{number}: {tally}");
+        } else {
+            assert_eq!(times, 0, "{number}: {tally}");
+        }
     }
 }
 

@@ -16,7 +16,7 @@ use std::fmt;
 /// ```
 #[derive(Clone, Copy, PartialEq, Eq, Hash, Debug)]
 pub struct Refusal {
-    /// The number of the refusal, 1 to 24.
+    /// The number of the refusal, 1 to 24, but never 22.
     pub number: u8,
     /// 1 A or a bundle read alone, 2 B, 3 the proof or formula, 4 a lent output or what concerns no file.
     pub file: u8,
@@ -61,7 +61,8 @@ impl fmt::Display for Refusal {
 
 impl Error for Refusal {}
 
-/// Every refusal of edition 1, by number. (include/dulgaverk.h and docs/FORMAT.md have the same words.)
+/// Every refusal of edition 1, by number, and the one number that is kept free.
+/// (include/dulgaverk.h and docs/FORMAT.md have the same words.)
 pub const MEANINGS: [(u8, &str); 24] = [
     (1, "a file is longer than its limit"),
     (2, "bytes are no whole field, or a file ends too early"),
@@ -87,10 +88,7 @@ pub const MEANINGS: [(u8, &str); 24] = [
     (19, "a known field after the end of the proof or formula"),
     (20, "branches are still open at the end of the proof"),
     (21, "a lent output is too short"),
-    (
-        22,
-        "a close whose formula would name a constant that A or B lacks",
-    ),
+    (22, "no longer given; its number is not used again"),
     (23, "a register value outside -1,000,000 to 1,000,000"),
     (
         24,

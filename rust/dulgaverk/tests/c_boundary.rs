@@ -68,3 +68,12 @@ fn the_header_has_every_meaning() {
         assert!(header.contains(&line), "{line}");
     }
 }
+
+/// 1 to 24 have their words; those of 22 say that it is kept free.
+#[test]
+fn every_number_has_its_words() {
+    for ((number, meaning), expected) in MEANINGS.into_iter().zip(1..) {
+        assert_eq!(number, expected);
+        assert_eq!(number == 22, meaning.starts_with("no longer given"));
+    }
+}

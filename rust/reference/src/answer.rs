@@ -55,7 +55,9 @@ pub(crate) const TOO_MANY_ROWS: u8 = 18;
 pub(crate) const AFTER_THE_END: u8 = 19;
 pub(crate) const STILL_OPEN: u8 = 20;
 pub(crate) const OUTPUT_TOO_SHORT: u8 = 21;
-pub(crate) const STRANGER: u8 = 22;
+/// Was for a close whose formula would name a constant not occurring in both
+/// bundles, which cannot be. Nothing gives it, and nothing else may have it.
+pub const NOT_GIVEN: u8 = 22;
 pub(crate) const VALUE_OUT_OF_RANGE: u8 = 23;
 pub(crate) const WRONG_LIST: u8 = 24;
 
@@ -84,7 +86,7 @@ pub fn meaning(number: u8) -> &'static str {
         AFTER_THE_END => "a known field after the root is closed",
         STILL_OPEN => "branches are still open at the end of the proof",
         OUTPUT_TOO_SHORT => "a lent output is too short",
-        STRANGER => "a close whose formula would name a constant not occurring in both bundles",
+        NOT_GIVEN => "no longer given; its number is not used again",
         VALUE_OUT_OF_RANGE => "a value outside -1,000,000 to 1,000,000",
         WRONG_LIST => "a kind that is not 0 or 1, or a wrong count of numbers",
         _ => "no number of this edition",

@@ -113,8 +113,7 @@ struct Table {
     /// Whether the field before, notes aside, was a row 0x10 to 0x12.
     claim_in_place: bool,
     root_closed: bool,
-    /// The constants that occur in A and those that occur in B, a bit each.
-    in_a: u32,
+    /// The constants that occur in B, a bit each.
     in_b: u32,
     /// The interpolant's file so far. A formula comes before its parts and
     /// the branches come in the order of the parts, so it only ever grows.
@@ -136,7 +135,6 @@ impl Table {
             rows: 0,
             claim_in_place: false,
             root_closed: false,
-            in_a: occurring(a),
             in_b: occurring(b),
             formula,
         }
@@ -246,9 +244,7 @@ impl Table {
         if !impossible || self.lines.coefficients(t).iter().any(|&c| c != 0) {
             return Err(NOT_CLOSED);
         }
-        let form = self.lines.partial(t);
-        self.common_only(form)?;
-        push_comparison(&mut self.formula, equality, form);
+        push_comparison(&mut self.formula, equality, self.lines.partial(t));
         self.close_branch()
     }
 
@@ -274,7 +270,6 @@ impl Table {
                 *coefficient = 0;
             }
         }
-        self.common_only(form)?;
         push_stride(&mut self.formula, g, form);
         self.close_branch()
     }
@@ -316,18 +311,6 @@ impl Table {
     fn room_for_a_line(&self) -> Result<(), u8> {
         if self.lines.is_full() {
             return Err(TOO_MANY_LINES);
-        }
-        Ok(())
-    }
-
-    /// Refuses a form, K coefficients and d, with a constant that does not
-    /// occur in both bundles.
-    fn common_only(&self, form: &[i32]) -> Result<(), u8> {
-        let common = self.in_a & self.in_b;
-        let coefficients = &form[..form.len() - 1];
-        let stranger = |(constant, &c): (usize, &i32)| c != 0 && common >> constant & 1 == 0;
-        if coefficients.iter().enumerate().any(stranger) {
-            return Err(STRANGER);
         }
         Ok(())
     }

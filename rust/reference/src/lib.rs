@@ -1,5 +1,5 @@
 //! Independent checker of interpolating proofs over linear integer
-//! constraints, written from document 01 alone.
+//! constraints, written from documents 01 and 02 alone.
 //!
 //! It is what another implementation is compared with, so it is built
 //! differently from the paper's own words where they are recursive: the
@@ -22,7 +22,7 @@ mod header;
 mod line;
 mod show;
 
-pub use answer::{meaning, Answer};
+pub use answer::{meaning, Answer, NOT_GIVEN};
 pub use bundle::{read_bundle, write_bundle, ReadResult, WriteResult};
 pub use check::check;
 pub use formula::{test_formula, TestResult};

@@ -528,6 +528,34 @@ fn a_constant_occurs_by_any_constraint_even_an_unused_one() {
 }
 
 #[test]
+fn refusal_22_is_given_by_nothing_and_a_close_names_common_constants() {
+    let numbers = || (-2..=2).flat_map(|x| (-2..=2).flat_map(move |y| [0, 1].map(|d| [x, y, d])));
+    let closes = [close(2), stride(2, 2), stride(2, 3)];
+    let mut accepted = 0;
+    for (s, t) in numbers().flat_map(|s| numbers().map(move |t| (s, t))) {
+        let (a, b) = (file(2, &[eq(&s)]), file(2, &[eq(&t)]));
+        for alpha in [-2, -1, 1, 2] {
+            for end in &closes {
+                let proof = file(2, &[reduce(1, 0, alpha), end.clone()]);
+                let (answer, bytes) = check_into(&a, &b, &proof, 40);
+                if answer != ACCEPTED {
+                    assert_eq!(answer, refused(15, 3, 15));
+                    continue;
+                }
+                accepted += 1;
+                // The form stands at the end: two coefficients and d.
+                let form = &bytes[bytes.len() - 12..];
+                for constant in 0..2 {
+                    let named = form[4 * constant..4 * constant + 4] != [0; 4];
+                    assert!(!named || (s[constant] != 0 && t[constant] != 0));
+                }
+            }
+        }
+    }
+    assert!(accepted > 1_000, "{accepted}");
+}
+
+#[test]
 fn a_claim_that_is_right_or_wrong_in_each_number() {
     let a = file(2, &[le(&[1, 2, 3])]);
     let b = file(2, &[le(&[4, 5, 6])]);
@@ -748,4 +776,6 @@ fn every_number_has_its_own_words() {
     assert_eq!(words.len(), 25);
     assert!(!words.contains(&reference::meaning(25)));
     assert_eq!(reference::meaning(0), "accepted");
+    let free = reference::meaning(reference::NOT_GIVEN);
+    assert!(free.starts_with("no longer given"));
 }

@@ -1,5 +1,6 @@
 //! Prints test cases with the reference's answers, one a line.
 
+use reference::NOT_GIVEN;
 use stages::{heavy_list, list, CLASSES, OPERATIONS};
 use std::io::{self, BufWriter, Write};
 use std::process::ExitCode;
@@ -58,6 +59,7 @@ fn print_tally(out: &mut impl Write, cases: &[(stages::Class, stages::Case)]) ->
                 .filter(|(c, case)| *c == class && case.operation() == operation)
                 .map(|(_, case)| case.outcome().answer.number)
                 .collect();
+            assert!(!answers.contains(&NOT_GIVEN), "a number that is not given");
             write!(out, "{operation:?} {class:?}: {}", answers.len())?;
             let mut separator = " (";
             for number in 0..=24 {

@@ -1,6 +1,7 @@
 //! The generator does what it says: sound tables are accepted, aimed cases
 //! meet their number, the printed list covers every refusal.
 
+use reference::NOT_GIVEN;
 use stages::case::parse_bytes;
 use stages::rng::Rng;
 use stages::table::{closed_table, Size, Table};
@@ -166,6 +167,37 @@ fn no_stream_meets_an_answer_that_cannot_be() {
                 assert!(all.contains(&(answer.number, answer.file)), "{answer:?}");
             }
         }
+    }
+}
+
+/// 22 is kept free: no case is made for it, and none meets it.
+#[test]
+fn the_number_that_is_no_longer_given_never_comes() {
+    for operation in OPERATIONS {
+        let all = all_answers(operation);
+        assert!(all.iter().all(|&(number, _)| number != NOT_GIVEN));
+        let mut rng = Rng::new(41);
+        let mut aimed = directed::directed(&mut rng, operation);
+        aimed.extend(limit::light(&mut rng, operation));
+        aimed.extend(limit::heavy(&mut rng, operation));
+        assert!(aimed.iter().all(|&(number, _)| number != NOT_GIVEN));
+        for class in CLASSES {
+            // Limits and edges have long files.
+            let share = match class {
+                Class::Limit | Class::Edge => 1,
+                _ => 8,
+            };
+            let sizes = [Size::SMALL, Size::MEDIUM, Size::LARGE];
+            for (size, count) in sizes.into_iter().zip([400, 100, 25]) {
+                for case in stream(operation, class, size, 42).take(share * count) {
+                    assert_ne!(case.outcome().answer.number, NOT_GIVEN);
+                }
+            }
+        }
+    }
+    let cases = list(43, 1_000, false).into_iter().chain(heavy_list(43, 60));
+    for (_, case) in cases {
+        assert_ne!(case.outcome().answer.number, NOT_GIVEN);
     }
 }
 

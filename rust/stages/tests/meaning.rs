@@ -5,7 +5,7 @@
 use stages::damage::fields;
 use stages::rng::Rng;
 use stages::table::{closed_table, Size};
-use stages::{stream, Case, Class, Operation};
+use stages::{stream, Case, Class, Operation, CLASSES};
 
 /// A bundle as kinds and rows of numbers.
 struct Bundle {
@@ -157,6 +157,43 @@ fn damaged_tables_that_are_accepted_give_interpolants_too() {
     }
     assert!(accepted > 2_000, "{accepted}");
     assert!(met.in_a > 2_000 && met.in_b > 2_000);
+}
+
+/// No close tests for it: what the rows make of the lines sees to it.
+#[test]
+fn every_accepted_formula_names_common_constants_only() {
+    let mut out = vec![0; 65_536];
+    let (mut accepted, mut strangers, mut common) = (0, 0, 0);
+    for class in CLASSES {
+        // Limits and edges have long files.
+        let share = match class {
+            Class::Limit | Class::Edge => 1,
+            _ => 8,
+        };
+        for (size, count) in [(Size::SMALL, 1_000), (Size::MEDIUM, 250), (Size::LARGE, 50)] {
+            for case in stream(Operation::Check, class, size, 29).take(share * count) {
+                let Case::Check { a, b, proof, .. } = case else {
+                    unreachable!();
+                };
+                let result = reference::check(&a, &b, &proof, &mut out);
+                if result.answer.number != 0 {
+                    continue;
+                }
+                accepted += 1;
+                let (a, b) = (bundle(&a), bundle(&b));
+                let named = named(&out[..result.written], a.k);
+                for (constant, named) in named.into_iter().enumerate() {
+                    let (in_a, in_b) = (a.names(constant), b.names(constant));
+                    assert!(!named || (in_a && in_b));
+                    strangers += usize::from(in_a != in_b);
+                    common += usize::from(named);
+                }
+            }
+        }
+    }
+    assert!(accepted > 8_000, "{accepted}");
+    assert!(strangers > 8_000, "{strangers}");
+    assert!(common > 8_000, "{common}");
 }
 
 #[test]

@@ -10,6 +10,9 @@ use std::path::Path;
 /// How many cases stand in one file.
 const CASES_A_FILE: usize = 25;
 
+/// The number that is no longer given: no case has it.
+const NOT_GIVEN: &str = "22";
+
 const USES: &str = "use mathlib.Core.Path.{_≡_, refl}
 use mathlib.Core.List.{List, [], _∷_, _++_}
 use mathlib.Core.Bool.{true, false}
@@ -124,6 +127,7 @@ fn written(answer: &[&str], lent: &str, output: &str) -> String {
 /// The statement of a case, and the names that its evaluation opens.
 fn statement(case: &[&str]) -> (String, String) {
     match case {
+        ["check", _, _, _, _, NOT_GIVEN, ..] => panic!("a number that is not given: {case:?}"),
         ["check", a, b, p, lent, n, f, place, output] => (
             format!(
                 "check {} {} {} (replicate {lent} 0xAA) ≡ {}",
