@@ -33,7 +33,7 @@ use Rattle.bundle.specs.Show.{partOf, constraintPart, shownPart, answerOf, show
 use Rattle.formula.specs.Formula.{encode, formulaFile, formulaTagged, joined, sizeOf as formulaSize, formulaOf, formulaField, twoParts, formulaWithin, readFormula}
 use Rattle.formula.specs.Test.{holds, judge, tested, judged, testFormula}
 use Rattle.proof.specs.Entries.{entryTagged, inPlace, lineNumber, multiplier, sizeOf, entryFrom, entry}
-use Rattle.proof.specs.Rows.{is, fails, common, equals, sameForm, lineAt, derived, fitting, inequality, naming, byNumber, byStride, states}
+use Rattle.proof.specs.Rows.{is, fails, equals, sameForm, lineAt, derived, fitting, inequality, byNumber, byStride, states}
 use Rattle.proof.specs.Check.{checkRow, agreeing, checkEntry, checkEntries, checkBranch, checkProof, interpolant, check}
 
 ";
@@ -43,7 +43,7 @@ const SHARED: &str = "editionNumbered _>>=_ _>>_ need found unsigned complement 
 const BUNDLES: &str = "kindTagged atMost constraints bundle bundles";
 const WRITING: &str =
     "over fit written unsignedBytes residue signedBytes signedsBytes fieldBytes headerBytes";
-const CHECK: &str = "coeff sum value sums _⊞_ _·_ _plus_ only within nonzero occurs small every inRange flat formBytes finished encode formulaFile entryTagged inPlace lineNumber multiplier sizeOf entryFrom entry is fails common equals sameForm lineAt derived fitting inequality naming byNumber byStride states checkRow agreeing checkEntry checkEntries checkBranch checkProof interpolant check";
+const CHECK: &str = "coeff sum value sums _⊞_ _·_ _plus_ only within nonzero occurs small every inRange flat formBytes finished encode formulaFile entryTagged inPlace lineNumber multiplier sizeOf entryFrom entry is fails equals sameForm lineAt derived fitting inequality byNumber byStride states checkRow agreeing checkEntry checkEntries checkBranch checkProof interpolant check";
 const READ: &str = "over flat kindNumber kindsOf numbersOf unread store stored readBundle";
 const WRITE: &str = "each constraintsBytes bundleBytes writeBundle";
 const SHOW: &str = "nth partOf constraintPart shownPart answerOf showAnswer handed showPart";
