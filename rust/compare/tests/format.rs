@@ -1,4 +1,4 @@
-//! docs/FORMAT.md says what the code does: its refusals and its worked stage.
+//! docs/FORMAT.md says what the code does: its refusals and its worked stages.
 
 use std::fs;
 use std::path::PathBuf;
@@ -41,23 +41,33 @@ fn every_refusal_is_in_the_table() {
     }
 }
 
-#[test]
-fn the_worked_stage_is_right() {
-    let page = page();
-    let listings: Vec<Vec<u8>> = page
+/// The listings of the page: A, B, the proof and the formula of each worked stage.
+fn listings() -> Vec<Vec<u8>> {
+    page()
         .split("```text")
         .skip(1)
         .map(|rest| listing(rest.split("```").next().expect("an end")))
-        .collect();
-    let [a, b, proof, formula] = listings.as_slice() else {
+        .collect()
+}
+
+#[test]
+fn the_worked_stages_are_right() {
+    let listings = listings();
+    assert_eq!(listings.len(), 8);
+    for (stage, lengths) in listings.chunks(4).zip([[15, 15, 78, 51], [19, 30, 51, 75]]) {
+        let [a, b, proof, formula] = stage else {
+            panic!("four listings a stage");
+        };
+        assert_eq!([a, b, proof, formula].map(Vec::len), lengths);
+        assert_eq!(dulgaverk::check(a, b, proof).as_ref(), Ok(formula));
+    }
+}
+
+#[test]
+fn what_is_said_of_the_first_stage() {
+    let [a, b, proof, formula] = &listings()[..4] else {
         panic!("four listings");
     };
-    assert_eq!(
-        [a.len(), b.len(), proof.len(), formula.len()],
-        [15, 15, 78, 51]
-    );
-    assert_eq!(dulgaverk::check(a, b, proof).as_ref(), Ok(formula));
-
     let read = dulgaverk::read_bundle(a).expect("A is read");
     assert_eq!((read.kinds, read.numbers), (vec![0], vec![2, -1]));
     let read = dulgaverk::read_bundle(b).expect("B is read");
@@ -69,4 +79,18 @@ fn the_worked_stage_is_right() {
     other[77] = 2;
     let refusal = dulgaverk::check(a, b, &other).expect_err("line 2 closes nothing");
     assert_eq!((refusal.number, refusal.file, refusal.place), (15, 3, 74));
+}
+
+#[test]
+fn what_is_said_of_the_second_stage() {
+    let [a, b, _, formula] = &listings()[4..] else {
+        panic!("four listings");
+    };
+    let read = dulgaverk::read_bundle(a).expect("A is read");
+    assert_eq!((read.kinds, read.numbers), (vec![1], vec![-2, 1, 0, 0]));
+    let read = dulgaverk::read_bundle(b).expect("B is read");
+    assert_eq!(read.kinds, [0, 0]);
+    assert_eq!(read.numbers, [0, 1, -2, -1, 0, -1, 2, 1]);
+    assert_eq!(dulgaverk::test_formula(formula, &[1, 4, -7]), Ok(true));
+    assert_eq!(dulgaverk::test_formula(formula, &[1, 3, 1]), Ok(false));
 }
