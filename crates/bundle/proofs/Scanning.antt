@@ -3,11 +3,11 @@ use mathlib.Core.Path.{_≡_, refl, sym, ap, _∙_}
 use mathlib.Core.Option.{Option, none, some}
 use mathlib.Core.Bool.{Bool, true, false}
 use mathlib.Core.List.{List, _∷_}
-use Prim.Native.Nat.{ℕ, zero, suc, _+_, _<_, _≤_}
+use Prim.Native.Nat.{ℕ, zero, suc, _+_, _-_, _*_, _<_, _≤_}
 use native.Mathlib.Omega.{arith}
 use lib.Dec.{leb, ltb, eqb}
 use lib.ListN.{length}
-use borrow.Author.Tests.{ltb-true, ltb-false, eqb-false, leb-true, leb-false, ne-eqb, le-leb}
+use borrow.Author.Tests.{ltb-true, ltb-false, eqb-true, eqb-false, leb-true, leb-false, ne-eqb, le-leb}
 use Rattle.forms.specs.Edition.{edition1}
 use Rattle.forms.specs.Forms.{Kind, ≤0, =0, Form, Constraint}
 use Rattle.fields.specs.declared.FileKind.{FileKind}
@@ -17,7 +17,7 @@ use Rattle.fields.specs.Numbers.{formFrom, formWidth}
 use Rattle.fields.specs.Fields.{Field, Fields, ends, cut, _▸_, fields}
 use Rattle.fields.specs.Header.{Header, headerTag, known}
 use Rattle.fields.specs.Places.{fieldsAt, givenK, IsHeader}
-use Rattle.fields.proofs.Places.{Starts, starts-size}
+use Rattle.fields.proofs.Places.{Starts, starts-size, starts-less}
 use Rattle.bundle.specs.Bundle.{Bundle, kindTagged, constraints, bundle}
 use Rattle.bundle.specs.Scan.{pick, faultOf, passed, counted, stated, countedOf, scanned}
 use Rattle.bundle.specs.declared.constraints.Counted.{Counted}
@@ -67,6 +67,17 @@ proper-of K n tag len e = go (known FileKind.Bundle tag) (ltb tag 0x03) (eqb len
     go true false false u a b c d e = absurd (omega arith)
     go true true r u a b c d e = absurd (omega arith)
     go false q r u a b c d e = absurd (omega arith)
+
+-- such a field has one size, so the next one stands where that ends
+module _ {s : List ℕ} {at a t start len next : ℕ} (k : Starts s at a t start len next) (K n : ℕ) {number : ℕ} (f : number ≡ faultOf K n t len) (e : number ≡ 0) where
+  pub sized-next : next ≡ start + (K + 1) * 2
+  sized-next = omega (arith, k .next-is, eqb-true len (suc K * 2) (proper-of K n t len (sym f ∙ e) .size))
+
+  pub counted-sized : counted K n (fieldsAt s at) ≡ counted K (n + 1) (fieldsAt s (start + (K + 1) * 2))
+  counted-sized = counted-next k K n f e ∙ ap (λ (x : ℕ). counted K (n + 1) (fieldsAt s x)) sized-next
+
+  pub sized-less : length s - (start + (K + 1) * 2) < length s - at
+  sized-less = omega (arith, sized-next, starts-less k)
 
 pub counted-room : (K n tag len : ℕ) {number : ℕ} → number ≡ faultOf K n tag len → number ≡ 0 → n < 32
 counted-room K n tag len f e = ltb-true n 32 (proper-of K n tag len (sym f ∙ e) .room)

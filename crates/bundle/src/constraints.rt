@@ -33,6 +33,7 @@ fn constraint_fault(k: u8, n: usize, tag: u8, len: usize) -> u8
     3
 }
 
+// A constraint without fault has one size: to go on by that does not wait for the length to be read from the file.
 pub fn count_constraints(s: &[u8], at: usize, k: u8) -> Counted
     ensures { λ r. ⌜ r ≡ counted k 0 (fieldsAt (now (s .entry)) at) ⌝ }
 {
@@ -43,16 +44,16 @@ pub fn count_constraints(s: &[u8], at: usize, k: u8) -> Counted
             Next::Field {
                 at: place,
                 tag,
-                start: _,
+                start,
                 len,
-                next,
+                next: _,
             } => {
                 let number = constraint_fault(k, n, tag, len);
                 if number != 0 {
                     return Counted::Refused { number, place };
                 }
                 n += 1;
-                here = next;
+                here = start + (k as usize + 1) * 2;
             }
             Next::Cut { at: place } => {
                 return Counted::Refused { number: 2, place };

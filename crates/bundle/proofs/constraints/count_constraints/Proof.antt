@@ -4,9 +4,9 @@ use Prim.Native.Nat.{_-_}
 use native.Mathlib.Omega.{arith}
 use lib.ListN.{length}
 use Rattle.fields.specs.Places.{fieldsAt}
-use Rattle.fields.proofs.Places.{starts, starts-less, next-cut, next-ends}
+use Rattle.fields.proofs.Places.{starts, next-cut, next-ends}
 use Rattle.bundle.specs.Scan.{counted}
-use Rattle.bundle.proofs.Scanning.{counted-fault, counted-next, counted-room, counted-cut, counted-ends}
+use Rattle.bundle.proofs.Scanning.{counted-fault, counted-sized, sized-next, sized-less, counted-room, counted-cut, counted-ends}
 use borrow.Author.Needs.{needs}
 use Rattle.bundle.proofs.constraints.count_constraints.Statement.{statement}
 use Rattle.bundle.proofs.constraints.count_constraints.Tie as tie
@@ -35,11 +35,22 @@ returns c = sym (c .before .before .before .before .before .before .loop .inv �
 add-n : tie.Need-add-n Inv-loop μ-loop
 add-n c = omega (arith, counted-room (c .before .before .before .before .before .before .before .before .args .k) (c .before .before .before .before .before .before .loop .n) (c .before .before .before .place .given .0 .1 .0) (c .before .before .before .place .given .0 .1 .1 .1 .0) (c .before .constraint-fault .ensures) (c .if1 .left))
 
+add-here : tie.Need-add-here Inv-loop μ-loop
+add-here c = search needs
+
+mul-here : tie.Need-mul-here Inv-loop μ-loop
+mul-here c = search needs
+
+add-here-2 : tie.Need-add-here-2 Inv-loop μ-loop
+add-here-2 c =
+    let k = starts (c .before .before .before .before .before .next-field .ensures) (c .before .before .before .place .given .1) in
+    omega (arith, k .upto, sized-next k (c .before .before .before .before .before .before .before .before .args .k) (c .before .before .before .before .before .before .loop .n) (c .before .constraint-fault .ensures) (c .if1 .left))
+
 loop-less : tie.Need-loop-less Inv-loop μ-loop
-loop-less c = starts-less (starts (c .before .before .before .before .before .next-field .ensures) (c .before .before .before .place .given .1))
+loop-less c = sized-less (starts (c .before .before .before .before .before .next-field .ensures) (c .before .before .before .place .given .1)) (c .before .before .before .before .before .before .before .before .args .k) (c .before .before .before .before .before .before .loop .n) (c .before .constraint-fault .ensures) (c .if1 .left)
 
 loop-again : tie.Need-loop-again Inv-loop μ-loop
-loop-again c = c .before .before .before .before .before .before .loop .inv ∙ counted-next (starts (c .before .before .before .before .before .next-field .ensures) (c .before .before .before .place .given .1)) _ _ (c .before .constraint-fault .ensures) (c .if1 .left)
+loop-again c = c .before .before .before .before .before .before .loop .inv ∙ counted-sized (starts (c .before .before .before .before .before .next-field .ensures) (c .before .before .before .place .given .1)) _ _ (c .before .constraint-fault .ensures) (c .if1 .left)
 
 enum-known-place-2 : tie.Need-enum-known-place-2 Inv-loop μ-loop
 enum-known-place-2 c = search needs
@@ -65,6 +76,9 @@ count-constraints-spec =
     constraint-fault-requires
     returns
     add-n
+    add-here
+    mul-here
+    add-here-2
     loop-less
     loop-again
     enum-known-place-2
