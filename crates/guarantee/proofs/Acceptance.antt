@@ -123,7 +123,7 @@ module _ (kinds : List ℕ) (numbers : List ℤ) where
 
 module _ {file kinds : List ℕ} {numbers : List ℤ} {kinds′ : List ℕ} {numbers′ : List ℤ} {r : ReadResult} (c : Reads file kinds numbers kinds′ numbers′ r) where
   read-answer : r .answer .number ≡ 0 → readBundle kinds numbers file .answer ≡ acceptance
-  read-answer h = subst (λ (x : BundleRead). x .answer ≡ acceptance) (c .is) (refusals .read file kinds numbers kinds′ numbers′ r c .0 .0 h)
+  read-answer h = subst (λ (x : BundleRead). x .answer ≡ acceptance) (c .is) (refusals .read file kinds numbers kinds′ numbers′ r c .0 .accepts .0 h)
 
   read-as : {K : ℕ} {ks : List ℕ} {zs : List ℤ} → readBundle kinds numbers file ≡ readAs K ks zs kinds numbers → ReadAs K ks zs kinds numbers kinds′ numbers′ r
   read-as q =
@@ -147,7 +147,7 @@ module _ {file kinds : List ℕ} {numbers : List ℤ} {kinds′ : List ℕ} {num
 -- ---- write
 module _ {K : ℕ} {kinds : List ℕ} {numbers : List ℤ} {output left : List ℕ} {w : WriteResult} (c : Writes K kinds numbers output left w) where
   write-answer : w .answer .number ≡ 0 → writeBundle K kinds numbers output .answer ≡ acceptance
-  write-answer h = subst (λ (x : Written). x .answer ≡ acceptance) (c .is) (refusals .write K kinds numbers output left w c .0 .0 h)
+  write-answer h = subst (λ (x : Written). x .answer ≡ acceptance) (c .is) (refusals .write K kinds numbers output left w c .0 .accepts .0 h)
 
   writable : w .answer .number ≡ 0 → Writable K kinds numbers output
   unfolding writeBundle

@@ -15,7 +15,7 @@ use Rattle.fields.specs.declared.Answer.{Answer}
 use Rattle.fields.specs.declared.FileKind.{FileKind}
 use Rattle.fields.specs.Answers.{acceptance, fileA, fileB, fileProof, Result, refused, accepted, _>>=_, Written, over, fit, written}
 use Rattle.fields.specs.Fields.{Field, Fields, ends, cut, _▸_, fields}
-use Rattle.fields.proofs.Results.{Gives, not-0, refuses, accepts, weaken, bind, seq, test, finds, each-gives}
+use Rattle.fields.proofs.Results.{Gives, never, not-0, not-22, refuses, accepts, weaken, bind, seq, test, finds, each-gives}
 use Rattle.fields.proofs.HeaderLaid.{header-gives, finished-gives}
 use Rattle.bundle.specs.Bundle.{Bundle}
 use Rattle.bundle.specs.Read.{BundleRead, kindsOf, numbersOf, unread, store, stored, readBundle}
@@ -31,19 +31,23 @@ use Rattle.proof.proofs.Agree.{never-0, never-22}
 use Rattle.exports.specs.Copied.{Copied}
 use Rattle.guarantee.specs.Refusals.{ToldByNumber, Refusals}
 
--- ---- a result whose refusals all have a number other than 0
-pub record Numbered {X : Type 0} (r : Result X) : Type 0 where
-  pub not-zero : (a : Answer) → r ≡ refused a → ¬ (a .number ≡ 0)
+-- ---- a result whose refusals all have a number that is given: neither 0 nor 22
+record Numbered {X : Type 0} (r : Result X) : Type 0 where
+  not-zero : (a : Answer) → r ≡ refused a → ¬ (a .number ≡ 0)
+  not-free : (a : Answer) → r ≡ refused a → ¬ (a .number ≡ 22)
 
 by-number : {X : Type 0} {P : X → Type 0} {r : Result X} → Gives r P → Numbered r
-by-number g = record { not-zero = λ a e. not-0 (g .refusal a e) }
+by-number g = record { not-zero = λ a e. not-0 (g .refusal a e); not-free = λ a e. not-22 (g .refusal a e) }
 
 -- ---- the number tells acceptance
-told-refused : {a : Answer} → ¬ (a .number ≡ 0) → ToldByNumber a
-told-refused h = (λ e. absurd (h e), λ e. ap (λ (a : Answer). a .number) e)
+told-refused : {a : Answer} → ¬ (a .number ≡ 0) → ¬ (a .number ≡ 22) → ToldByNumber a
+told-refused h k = record { accepts = (λ e. absurd (h e), λ e. ap (λ (a : Answer). a .number) e); never-22 = k }
 
 told-accepted : ToldByNumber acceptance
-told-accepted = (λ _. refl, λ _. refl)
+told-accepted = record { accepts = (λ _. refl, λ _. refl); never-22 = λ e. omega arith }
+
+told-by : {X : Type 0} {a : Answer} → Numbered {X = X} (refused a) → ToldByNumber a
+told-by {a = a} h = told-refused (h .not-zero a refl) (h .not-free a refl)
 
 -- ---- what is written
 abbrev Unwritten : (output : List ℕ) → Written → Type 0
@@ -52,36 +56,25 @@ Unwritten output w = ToldByNumber (w .answer) × (¬ (w .answer .number ≡ 0) �
 fit-told : (output : List ℕ) (b : Bool) (bytes : List ℕ) → Unwritten output (fit output b bytes)
 unfolding fit
 fit-told output true bytes = (told-accepted, λ h. absurd (h refl))
-fit-told output false bytes = (told-refused (λ e. omega arith), λ _. (refl, refl))
+fit-told output false bytes = (told-refused (λ e. omega arith) (λ e. omega arith), λ _. (refl, refl))
 
 written-told : (r : Result (List ℕ)) → Numbered r → (output : List ℕ) → Unwritten output (written r output)
 unfolding written
-written-told (refused a) h output = (told-refused (h .not-zero a refl), λ _. (refl, refl))
+written-told (refused a) h output = (told-by h, λ _. (refl, refl))
 written-told (accepted bytes) h output = fit-told output (leb (length bytes) (length output)) bytes
 
 then-numbered : {X : Type 0} (r : Result X) (f : X → List ℕ) → Numbered r → Numbered (r >>= λ x. accepted (f x))
 unfolding _>>=_
-then-numbered (refused a) f h = record { not-zero = λ b e. h .not-zero b (let p : a ≡ b = cc in ap refused p) }
-then-numbered (accepted x) f h = record { not-zero = λ b e. absurd (let z : _≡_ {A = ℕ} 0 1 = cc in omega arith) }
+then-numbered (refused a) f h = record {
+  not-zero = λ b e. h .not-zero b (let p : a ≡ b = cc in ap refused p);
+  not-free = λ b e. h .not-free b (let p : a ≡ b = cc in ap refused p);
+}
+then-numbered (accepted x) f h = record { not-zero = λ b e. absurd (never (sym e)); not-free = λ b e. absurd (never (sym e)) }
 
 pub check-told : (A B proof output : List ℕ) → Unwritten output (check A B proof output)
 unfolding check
 check-told A B proof output =
-    written-told _ (then-numbered (interpolant A B proof) (λ (K, I). formulaFile edition1 K I) (record { not-zero = never-0 A B proof })) output
-
--- no refusal is by 22, and 21 comes last
-fit-not-22 : (output : List ℕ) (b : Bool) (bytes : List ℕ) → ¬ (fit output b bytes .answer .number ≡ 22)
-unfolding fit
-fit-not-22 output true bytes e = omega arith
-fit-not-22 output false bytes e = omega arith
-
-check-not-22 : (A B proof output : List ℕ) → ¬ (check A B proof output .answer .number ≡ 22)
-unfolding check written _>>=_
-check-not-22 A B proof output = go (interpolant A B proof) refl
-  where
-    go : (r : Result (ℕ × Formula)) → interpolant A B proof ≡ r → ¬ (written (r >>= λ (K, I). accepted (formulaFile edition1 K I)) output .answer .number ≡ 22)
-    go (refused a) e = never-22 A B proof a e
-    go (accepted (K, I)) e = fit-not-22 output (leb (length (formulaFile edition1 K I)) (length output)) (formulaFile edition1 K I)
+    written-told _ (then-numbered (interpolant A B proof) (λ (K, I). formulaFile edition1 K I) (record { not-zero = never-0 A B proof; not-free = never-22 A B proof })) output
 
 pub write-told : (K : ℕ) (kinds : List ℕ) (numbers : List ℤ) (output : List ℕ) → Unwritten output (writeBundle K kinds numbers output)
 unfolding writeBundle
@@ -95,11 +88,11 @@ module _ (kinds : List ℕ) (numbers : List ℤ) where
   store-told : (t : Bool) (b : Bundle) → Unread kinds numbers (store kinds numbers t b)
   unfolding store unread
   store-told true b = (told-accepted, λ h. absurd (h refl))
-  store-told false b = (told-refused (λ e. omega arith), λ _. (refl, refl, refl, refl))
+  store-told false b = (told-refused (λ e. omega arith) (λ e. omega arith), λ _. (refl, refl, refl, refl))
 
   stored-told : (r : Result Bundle) → Numbered r → Unread kinds numbers (stored kinds numbers r)
   unfolding stored unread
-  stored-told (refused a) h = (told-refused (h .not-zero a refl), λ _. (refl, refl, refl, refl))
+  stored-told (refused a) h = (told-by h, λ _. (refl, refl, refl, refl))
   stored-told (accepted b) h = store-told (leb (length (kindsOf (b .constraints))) (length kinds) && leb (length (numbersOf (b .constraints))) (length numbers)) b
 
   pub read-told : (file : List ℕ) → Unread kinds numbers (readBundle kinds numbers file)
@@ -110,7 +103,7 @@ module _ (kinds : List ℕ) (numbers : List ℤ) where
 shown-told : (r : Result Part) → Numbered r
     → ToldByNumber (answerOf r) × (¬ (answerOf r .number ≡ 0) → handed r ≡ record { file = fileA; start = 0; size = 0 })
 unfolding answerOf handed
-shown-told (refused a) h = (told-refused (h .not-zero a refl), λ _. refl)
+shown-told (refused a) h = (told-by h, λ _. refl)
 shown-told (accepted p) h = (told-accepted, λ h. absurd (h refl))
 
 show-told : (A B : List ℕ) (line : ℕ)
@@ -159,7 +152,7 @@ Untested t = ToldByNumber (t .answer) × (¬ (t .answer .number ≡ 0) → t .ho
 
 judged-told : (values : List ℤ) (r : Result Formula) → Numbered r → Untested (judged values r)
 unfolding judged
-judged-told values (refused a) h = (told-refused (h .not-zero a refl), λ _. refl)
+judged-told values (refused a) h = (told-by h, λ _. refl)
 judged-told values (accepted I) h = (told-accepted, λ h. absurd (h refl))
 
 pub test-told : (formula : List ℕ) (values : List ℤ) → Untested (testFormula formula values)
@@ -180,7 +173,6 @@ none-copied {part} {output} c e =
 pub refusals : Refusals
 refusals = record {
   check = λ A B proof output left r c. subst (Unwritten output) (sym (c .is)) (check-told A B proof output);
-  never-22 = λ A B proof output left r c. subst (λ (w : Written). ¬ (w .answer .number ≡ 22)) (sym (c .is)) (check-not-22 A B proof output);
   read = λ file kinds numbers kinds′ numbers′ r c. subst (Unread kinds numbers) (sym (c .is)) (read-told kinds numbers file);
   write = λ K kinds numbers output left r c. subst (Unwritten output) (sym (c .is)) (write-told K kinds numbers output);
   show = λ a b line part r s c.

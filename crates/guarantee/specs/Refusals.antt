@@ -19,16 +19,15 @@ use Rattle.checking.specs.declared.check.Checked.{Checked}
 use Rattle.checking.specs.Promises.{Checks}
 use Rattle.exports.specs.Copied.{Copied}
 
--- The number is 0 just where the answer is 0, 0, 0.
-abbrev pub ToldByNumber : Answer → Type 0
-ToldByNumber a = a .number ≡ 0 ↔ a ≡ acceptance
+-- The number is 0 just where the answer is 0, 0, 0; and it is never 22, which is no longer given.
+pub record ToldByNumber (a : Answer) : Type 0 where
+  pub accepts : a .number ≡ 0 ↔ a ≡ acceptance
+  pub never-22 : ¬ (a .number ≡ 22)
 
 pub record Refusals : Type 0 where
   -- check: the output is as it was, and no byte is counted
   pub check : (A B proof output left : List ℕ) (r : Checked) → Checks A B proof output left r
       → ToldByNumber (r .answer) × (¬ (r .answer .number ≡ 0) → (left ≡ output) × (r .count ≡ 0))
-  -- 22 is never given
-  pub never-22 : (A B proof output left : List ℕ) (r : Checked) → Checks A B proof output left r → ¬ (r .answer .number ≡ 22)
   -- read: both outputs are as they were, count and K are 0
   pub read : (file kinds : List ℕ) (numbers : List ℤ) (kinds′ : List ℕ) (numbers′ : List ℤ) (r : ReadResult) → Reads file kinds numbers kinds′ numbers′ r
       → ToldByNumber (r .answer) × (¬ (r .answer .number ≡ 0) → (kinds′ ≡ kinds) × (numbers′ ≡ numbers) × (r .count ≡ 0) × (r .k ≡ 0))
