@@ -320,7 +320,7 @@ fn random_tables() {
     }
 }
 
-/// ./check runs the program in a folder, or in examples/stage-1.
+/// ./check runs the program in a folder, or in examples/stage-1; its status tells a refusal.
 #[test]
 fn the_script() {
     let run = |folder: &[&str], place: &Path| {
@@ -336,7 +336,7 @@ fn the_script() {
     assert_eq!(run(&[], &root()), (true, accepted()));
     assert_eq!(run(&[], Path::new("/")), (true, accepted()));
     let refused = "refused 15 file 3 at 15\n".to_string();
-    let second = (true, refused);
+    let second = (false, refused);
     assert_eq!(run(&["examples/stage-2"], &root()), second);
     assert_eq!(run(&["stage-2"], &examples()), second);
     assert_eq!(run(&["no such folder"], &root()), (false, String::new()));
