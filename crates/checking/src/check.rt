@@ -296,6 +296,32 @@ fn check_any(
     check_within(a, b, proof, at, k, m, n, &mut lines, &mut scratch, out)
 }
 
+// A proof of more fields than 70, or of more lines. A function of its own: the frame of a function has room for the largest of
+// its arrays, and each page of that is touched at every call. It stays one since it is called twice and has three choices
+// (docs/PROVING.md, "Speed").
+fn check_long(
+    a: &[u8],
+    b: &[u8],
+    proof: &[u8],
+    at: usize,
+    k: u8,
+    m: usize,
+    n: usize,
+    out: &mut [u8],
+) -> Checked
+    requires { ⌜ Begun (now a) (now b) (now proof) k m n at ⌝ }
+    ensures { λ r. ⌜ Checks (now (a .entry)) (now (b .entry)) (now (proof .entry)) (now (out .entry)) (now (out .exit)) r ⌝ }
+{
+    let fields = proof.len() / 3;
+    if fields <= 262 {
+        return check_262(a, b, proof, at, k, m, n, out);
+    }
+    if fields <= 525 {
+        return check_525(a, b, proof, at, k, m, n, out);
+    }
+    check_any(a, b, proof, at, k, m, n, out)
+}
+
 // The lines, and then the root, with arrays for the fields that the proof may have: each has three bytes at least.
 // To count them would take longer than to clear what is then not used.
 fn check_lines(
@@ -328,14 +354,9 @@ fn check_lines(
         if numbers <= 2380 {
             return check_70(a, b, proof, at, k, m, n, out);
         }
+        return check_long(a, b, proof, at, k, m, n, out);
     }
-    if fields <= 262 {
-        return check_262(a, b, proof, at, k, m, n, out);
-    }
-    if fields <= 525 {
-        return check_525(a, b, proof, at, k, m, n, out);
-    }
-    check_any(a, b, proof, at, k, m, n, out)
+    check_long(a, b, proof, at, k, m, n, out)
 }
 
 // The proof's header, where both bundles were gone over. 2, 3, 4, 6, 5, 7, 9.

@@ -65,10 +65,8 @@ same-length-3 c = search needs
 returns-3 : tie.Need-returns-3
 returns-3 c = search needs
 
-check-262-requires : tie.Need-check-262-requires
-check-262-requires c κs =
-    let s = c .before .before .before .before .before .before .before .before .before in
-    (s .pre, omega (arith, fields-few (s .args .proof .now) (s .args .at), c .before .if7 .taken))
+check-long-requires : tie.Need-check-long-requires
+check-long-requires c κs = search needs
 
 same-length-4 : tie.Need-same-length-4
 same-length-4 c = search needs
@@ -76,25 +74,14 @@ same-length-4 c = search needs
 returns-4 : tie.Need-returns-4
 returns-4 c = search needs
 
-check-525-requires : tie.Need-check-525-requires
-check-525-requires c κs =
-    let s = c .before .before .before .before .before .before .before .before .before .before in
-    (s .pre, omega (arith, fields-few (s .args .proof .now) (s .args .at), c .before .if8 .taken))
+check-long-requires-2 : tie.Need-check-long-requires-2
+check-long-requires-2 c κs = search needs
 
 same-length-5 : tie.Need-same-length-5
 same-length-5 c = search needs
 
 returns-5 : tie.Need-returns-5
 returns-5 c = search needs
-
-check-any-requires : tie.Need-check-any-requires
-check-any-requires c κs = search needs
-
-same-length-6 : tie.Need-same-length-6
-same-length-6 c = search needs
-
-returns-6 : tie.Need-returns-6
-returns-6 c = search needs
 
 pub check-lines-spec : {M : Type 1} → statement M
 check-lines-spec =
@@ -115,12 +102,9 @@ check-lines-spec =
     check-70-requires
     same-length-3
     returns-3
-    check-262-requires
+    check-long-requires
     same-length-4
     returns-4
-    check-525-requires
+    check-long-requires-2
     same-length-5
-    returns-5
-    check-any-requires
-    same-length-6
-    returns-6)
+    returns-5)

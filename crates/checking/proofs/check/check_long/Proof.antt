@@ -1,0 +1,51 @@
+-- `checking::check::check_long` meets its contract: each choice has the room that the fields ask, of which there is one for three bytes at most. Assumes nothing.
+use native.Mathlib.Omega.{arith}
+use Rattle.checking.proofs.Counting.{fields-few}
+use borrow.Author.Needs.{needs}
+use Rattle.checking.proofs.check.check_long.Statement.{statement}
+use Rattle.checking.proofs.check.check_long.Tie as tie
+
+check-262-requires : tie.Need-check-262-requires
+check-262-requires c κs =
+    let s = c .before .before .before .before .before .before in
+    (s .pre, omega (arith, fields-few (s .args .proof .now) (s .args .at), c .before .if1 .taken))
+
+same-length : tie.Need-same-length
+same-length c = search needs
+
+returns : tie.Need-returns
+returns c = search needs
+
+check-525-requires : tie.Need-check-525-requires
+check-525-requires c κs =
+    let s = c .before .before .before .before .before .before .before in
+    (s .pre, omega (arith, fields-few (s .args .proof .now) (s .args .at), c .before .if2 .taken))
+
+same-length-2 : tie.Need-same-length-2
+same-length-2 c = search needs
+
+returns-2 : tie.Need-returns-2
+returns-2 c = search needs
+
+check-any-requires : tie.Need-check-any-requires
+check-any-requires c κs = search needs
+
+same-length-3 : tie.Need-same-length-3
+same-length-3 c = search needs
+
+returns-3 : tie.Need-returns-3
+returns-3 c = search needs
+
+pub check-long-spec : {M : Type 1} → statement M
+check-long-spec =
+    tie.close
+    (tie.spec
+    check-262-requires
+    same-length
+    returns
+    check-525-requires
+    same-length-2
+    returns-2
+    check-any-requires
+    same-length-3
+    returns-3)
