@@ -10,6 +10,7 @@
  * - a refusal leaves every lent output as it was. An accepted call changes the elements used, from the front, and
  *   leaves those behind them as they were.
  * - nothing is allocated, kept or shared: calls may run in several threads at once.
+ * - working memory is on the stack: a check takes up to 152 KiB of it, every other call less than 12 KiB.
  *
  * docs/FORMAT.md has the layout of the files and the order in which each operation tests them.
  */
