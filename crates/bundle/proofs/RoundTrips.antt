@@ -17,7 +17,8 @@ use Rattle.fields.specs.Answers.{answer, acceptance, fileA, Result, refused, ac
 use Rattle.fields.specs.Fields.{Item, item, fields, items, Framed, fileOf, withoutNotes, unlessNoteItem, note}
 use Rattle.fields.specs.Header.{agrees}
 use Rattle.fields.proofs.Results.{Gives, weaken, seq, not-0, passes}
-use Rattle.fields.proofs.Signed.{Bytes, InWidth}
+use Rattle.fields.specs.Ranges.{InWidth}
+use Rattle.fields.proofs.Signed.{Bytes}
 use Rattle.fields.proofs.Framing.{items-fileOf}
 use Rattle.fields.proofs.Contents.{ItemBytes}
 use Rattle.bundle.specs.Bundle.{Bundle}

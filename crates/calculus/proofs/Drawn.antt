@@ -1,17 +1,20 @@
 -- Every line that rows reach draws tA from A alone and t - tA from B alone, a closed branch has such lines at every row, and so it names common constants only. Assumes nothing.
 use mathlib.Core.Path.{_≡_, refl, ap, subst}
 use mathlib.Core.List.{List, [], _∷_}
-use mathlib.Core.Bool.{Bool, true, false}
-use Prim.Native.Nat.{ℕ, suc}
+use mathlib.Core.Bool.{Bool, true, false, true≢false}
+use Prim.Native.Nat.{ℕ, suc, _≤_}
 use lib.Dec.{T}
-use lib.IntN.{ℤ, pos, +ℤ-idr}
+use lib.IntN.{ℤ, pos, _-ℤ_, +ℤ-idr}
+use Rattle.integers.specs.Divides.{_∣ℤ_}
 use Rattle.forms.specs.Edition.{Edition}
-use Rattle.forms.specs.Forms.{Form, Kind, ≤0, =0, Line, line, Constraint, lines, All, nil, cons, coeff, nonzero, occurs, Formula, names, _plus_}
+use Rattle.forms.specs.Reduced.{reduced}
+use Rattle.forms.specs.Forms.{Form, Kind, ≤0, =0, Line, line, Constraint, lines, All, nil, cons, coeff, nonzero, occurs, Formula, names, _plus_, within}
 use Rattle.calculus.specs.Rules.{Nth, _▷_, Closed, derive, strengthen, number, stride}
 use Rattle.calculus.specs.Reached.{Drawn, Reached, root, derived, branched, Throughout}
 use Rattle.calculus.proofs.Sides.{Side, A, B, part, all-nth}
 use Rattle.calculus.proofs.Vocabulary.{Words, words-new, words-raised, vocabulary}
-use Rattle.calculus.proofs.Interpolation.{sides, initial-words, occurs-if}
+use Rattle.calculus.proofs.Interpolation.{sides, initial-words, occurs-if, is-zero}
+use Rattle.calculus.proofs.Reducing.{positive, unmasked}
 
 -- which constants occur in A and in B
 abbrev pub occurring : (As Bs : List Constraint) → Side → ℕ → Bool
@@ -46,6 +49,21 @@ module _ (As Bs : List Constraint) where
 
     pub names-common : T (occurs As c) × T (occurs Bs c)
     names-common = (on A, on B)
+
+-- ---- a stride close of a drawn line
+not-T : (b : Bool) → (T b → ⊥) → b ≡ false
+not-T true h = absurd (h tt)
+not-T false h = refl
+
+of-false : (b : Bool) → b ≡ false → T b → ⊥
+of-false true e t = true≢false e
+of-false false e t = t
+
+-- where g divides every coefficient of t, the stride's form needs no list of B's constants
+pub drawn-unmasked : {As Bs : List Constraint} {l : Line} → Drawn As Bs l → {g : ℕ} → 2 ≤ g → ((c : ℕ) → pos g ∣ℤ coeff (l .t) c)
+    → reduced g (within (occurs Bs) (l .tA)) ≡ reduced g (l .tA)
+drawn-unmasked {Bs = Bs} {l = l} r n all = unmasked (positive n) (occurs Bs) (l .t) (l .tA) all
+    λ c o. is-zero (coeff (l .t) c -ℤ coeff (l .tA) c) (not-T _ (λ t. of-false (occurs Bs c) o (r .from-B c t)))
 
 -- ---- the rows of a closed branch
 plus-0 : (t : Form) → t plus 0 ≡ t

@@ -3,7 +3,7 @@ use mathlib.Core.Path.{_≡_, refl, sym, _∙_, ap, ap₂}
 use mathlib.Core.Option.{some}
 use mathlib.Core.Bool.{true, false}
 use mathlib.Core.List.{List, [], _∷_, _++_, append-assoc, append-nil}
-use Prim.Native.Nat.{ℕ, zero, suc, max, _+_, _*_, _-_, _<_, _≤_}
+use Prim.Native.Nat.{ℕ, zero, suc, _+_, _*_, _-_, _<_, _≤_}
 use native.Mathlib.Omega.{arith}
 use lib.Dec.{eqb}
 use lib.ListN.{length, take, drop, length-append}
@@ -17,26 +17,13 @@ use Rattle.fields.specs.Answers.{answer, fileProof, Result, accepted, _>>_, nee
 use Rattle.fields.specs.Numbers.{signed, signedBytes, formFrom, formBytes, formWidth}
 use Rattle.fields.specs.Fields.{Field, Fields, ends, _▸_, note, fields, fieldsFrom, fieldBytes}
 use Rattle.fields.specs.Header.{agrees, known, headerTag, header, headerField, finished, headerBytes}
-use Rattle.fields.proofs.Signed.{InWidth, FormInWidth, length-signedBytes, signed-signedBytes, length-formBytes, formFrom-written}
-use Rattle.formula.specs.Formula.{encode, formulaFile, Connective, disjunction, conjunction, Tagged, pair, atom, stride, formulaTagged, joined, sizeOf, formulaOf, formulaField, twoParts, formulaWithin, readFormula}
+use Rattle.fields.specs.Ranges.{InWidth, FormInWidth}
+use Rattle.fields.proofs.Signed.{length-signedBytes, signed-signedBytes, length-formBytes, formFrom-written}
+use Rattle.formula.specs.Formula.{encode, formulaFile, Encodable, height, Connective, disjunction, conjunction, Tagged, pair, atom, stride, formulaTagged, joined, sizeOf, formulaOf, formulaField, twoParts, formulaWithin, readFormula}
 use Rattle.fields.proofs.Framing.{fuel-irrelevant, length-fieldBytes}
 use Rattle.fields.proofs.Headers.{length-headerBytes}
 use Rattle.fields.proofs.Results.{binds, passes, found-some, pass}
 use Rattle.formula.proofs.Fronts.{fields-field, fields-end}
-
--- Every form has K coefficients, every number fits its four bytes, and g is at least 2.
-abbrev pub Encodable : ℕ → Formula → Type 0
-Encodable K (literal k t) = FormInWidth 4 K t
-Encodable K (g divides t) = (2 ≤ g) × InWidth 4 (pos g) × FormInWidth 4 K t
-Encodable K (I and J) = Encodable K I × Encodable K J
-Encodable K (I or J) = Encodable K I × Encodable K J
-
--- How many levels of and/or a formula has.
-abbrev pub height : Formula → ℕ
-height (literal k t) = 0
-height (g divides t) = 0
-height (I and J) = suc (max (height I) (height J))
-height (I or J) = suc (max (height I) (height J))
 
 -- The fuel for the fields of a formula, and then so much more.
 abbrev fuelled : Formula → ℕ → ℕ

@@ -3,3 +3,4 @@ pub mod Accepted
 pub mod Soundness
 pub mod Operation
 pub mod Guard
+pub mod Reduced

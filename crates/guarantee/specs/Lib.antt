@@ -2,3 +2,4 @@
 pub mod Soundness
 pub mod Operation
 pub mod Guard
+pub mod Reduced
