@@ -1,6 +1,5 @@
 -- The branches of a strengthen: what one leaves for the next, and their formulas as one. Assumes nothing.
 use mathlib.Core.Path.{_≡_, refl, sym, ap, subst, _∙_}
-use mathlib.Core.Bool.{Bool}
 use mathlib.Core.List.{List, [], _++_}
 use Prim.Native.Nat.{ℕ, suc, _+_, _*_, _-_, _≤_, _<_}
 use native.Mathlib.Omega.{arith}
@@ -20,7 +19,6 @@ use Rattle.formula.specs.Formula.{encode}
 use Rattle.fields.proofs.Framing.{length-fieldBytes as field-size}
 use Rattle.lines.specs.Buffer.{lineIn, linesIn, LineCopy, copiedLine, strengthenedT}
 use Rattle.lines.specs.Lines.{line-same, lines-same}
-use Rattle.lines.specs.Occurrence.{told}
 use Rattle.proof.specs.Check.{Closing, refusal, checkBranch}
 use Rattle.rows.specs.Rows.{Ready, Kept}
 use Rattle.rows.specs.declared.tally.Tally.{Tally}
@@ -41,10 +39,9 @@ use Rattle.branches.proofs.Starting.{now-copy, second-starts, third-sta
 
 -- ---- what the branches of a strengthen ask, and what is checked of them
 -- What the branches of a strengthen of line i ask, where n lines stand before their own: there is room for the head of their formula too.
-pub record Divided (K n : ℕ) (kinds : List ℕ) (buf : List ℤ) (maskB : List ℕ) (t : Tally) (i : ℕ) (p : List ℕ) (at o : ℕ) : Type 0 where
+pub record Divided (K n : ℕ) (kinds : List ℕ) (buf : List ℤ) (t : Tally) (i : ℕ) (p : List ℕ) (at o : ℕ) : Type 0 where
   pub ready : Ready K kinds buf n
   pub spare : Spare K (n + 1 + fieldsLeft p at) buf
-  pub b-mask : K ≤ length maskB
   pub room : o + 3 + 78 * fieldsLeft p at ≤ 5242880
   pub line : i < n
   pub space : n < 128
@@ -55,15 +52,15 @@ pub record Divided (K n : ℕ) (kinds : List ℕ) (buf : List ℤ) (maskB : List
 abbrev pub FirstStands : (K n : ℕ) (kinds : List ℕ) (buf : List ℤ) (i : ℕ) → Type 0
 FirstStands K n kinds buf i = Longer K kinds buf n (firstLine (lineIn K kinds buf i)) kinds buf
 
-abbrev pub ChecksRest : (K n : ℕ) (p : List ℕ) (at : ℕ) (inB : ℕ → Bool) (kinds : List ℕ) (buf : List ℤ) (t : Tally) (i : ℕ) (scratch : List ℕ) (o : ℕ)
+abbrev pub ChecksRest : (K n : ℕ) (p : List ℕ) (at : ℕ) (kinds : List ℕ) (buf : List ℤ) (t : Tally) (i : ℕ) (scratch : List ℕ) (o : ℕ)
     (kinds′ : List ℕ) (buf′ : List ℤ) (scratch′ : List ℕ) (r : Branched) → Type 0
-ChecksRest K n p at inB kinds buf t i scratch o kinds′ buf′ scratch′ r =
-    Checks (lastTwo (checkBranch edition1 K inB (32 - t .«open»)) (linesIn K kinds buf n) (lineIn K kinds buf i) (t .rows .0) (fieldsAt p at)) K n p at kinds buf t scratch o kinds′ buf′ scratch′ r
+ChecksRest K n p at kinds buf t i scratch o kinds′ buf′ scratch′ r =
+    Checks (lastTwo (checkBranch edition1 K (32 - t .«open»)) (linesIn K kinds buf n) (lineIn K kinds buf i) (t .rows .0) (fieldsAt p at)) K n p at kinds buf t scratch o kinds′ buf′ scratch′ r
 
-abbrev pub ChecksSplit : (K n : ℕ) (p : List ℕ) (at : ℕ) (inB : ℕ → Bool) (kinds : List ℕ) (buf : List ℤ) (t : Tally) (i : ℕ) (scratch : List ℕ) (o : ℕ)
+abbrev pub ChecksSplit : (K n : ℕ) (p : List ℕ) (at : ℕ) (kinds : List ℕ) (buf : List ℤ) (t : Tally) (i : ℕ) (scratch : List ℕ) (o : ℕ)
     (kinds′ : List ℕ) (buf′ : List ℤ) (scratch′ : List ℕ) (r : Branched) → Type 0
-ChecksSplit K n p at inB kinds buf t i scratch o kinds′ buf′ scratch′ r =
-    Checks (three (checkBranch edition1 K inB (32 - t .«open»)) (linesIn K kinds buf n) (lineIn K kinds buf i) (t .rows .0) (fieldsAt p at)) K n p at kinds buf t scratch o kinds′ buf′ scratch′ r
+ChecksSplit K n p at kinds buf t i scratch o kinds′ buf′ scratch′ r =
+    Checks (three (checkBranch edition1 K (32 - t .«open»)) (linesIn K kinds buf n) (lineIn K kinds buf i) (t .rows .0) (fieldsAt p at)) K n p at kinds buf t scratch o kinds′ buf′ scratch′ r
 
 -- ---- two closings as one
 -- What is written behind a run that is written.
@@ -144,39 +141,38 @@ longer-start {K} {n} {l = l} k g = record {
 
 module _ {K n : ℕ} {p : List ℕ} {kinds : List ℕ} {buf : List ℤ} {kinds₁ : List ℕ} {buf₁ : List ℤ} {l : Line} (g : Longer K kinds buf n l kinds₁ buf₁) {t : Tally} (e : t .lines .0 ≡ n + 1) where
   -- A branch of n lines and l.
-  as-branch : (at : ℕ) (inB : ℕ → Bool) {scratch : List ℕ} {o : ℕ} {kinds₂ : List ℕ} {buf₂ : List ℤ} {scratch₂ : List ℕ} {r : Branched}
-      → Branches K p at inB kinds₁ buf₁ t scratch o kinds₂ buf₂ scratch₂ r
-      → Checks (checkBranch edition1 K inB (32 - t .«open») (t .rows .0) (linesIn K kinds buf n ▷ l) (fieldsAt p at)) K n p at kinds buf t scratch o kinds₂ buf₂ scratch₂ r
-  as-branch at inB {scratch} {o} {scratch₂ = scratch₂} {r} b = record {
+  as-branch : (at : ℕ) {scratch : List ℕ} {o : ℕ} {kinds₂ : List ℕ} {buf₂ : List ℤ} {scratch₂ : List ℕ} {r : Branched}
+      → Branches K p at kinds₁ buf₁ t scratch o kinds₂ buf₂ scratch₂ r
+      → Checks (checkBranch edition1 K (32 - t .«open») (t .rows .0) (linesIn K kinds buf n ▷ l) (fieldsAt p at)) K n p at kinds buf t scratch o kinds₂ buf₂ scratch₂ r
+  as-branch at {scratch} {o} {scratch₂ = scratch₂} {r} b = record {
     kept = kept-trans {n = t .lines .0} (omega arith) (g .kept) (b .kept);
     long = b .long;
-    by = subst (λ (ls : List Line). BranchedBy (checkBranch edition1 K inB (32 - t .«open») (t .rows .0) ls (fieldsAt p at)) p at t scratch o scratch₂ r) (ap (linesIn K kinds₁ buf₁) e ∙ g .lines) (b .by);
+    by = subst (λ (ls : List Line). BranchedBy (checkBranch edition1 K (32 - t .«open») (t .rows .0) ls (fieldsAt p at)) p at t scratch o scratch₂ r) (ap (linesIn K kinds₁ buf₁) e ∙ g .lines) (b .by);
   }
 
-module _ {K n : ℕ} {p : List ℕ} {kinds : List ℕ} {buf : List ℤ} {maskB : List ℕ} {t : Tally} {i at o : ℕ} (d : Divided K n kinds buf maskB t i p at o) where
+module _ {K n : ℕ} {p : List ℕ} {kinds : List ℕ} {buf : List ℤ} {t : Tally} {i at o : ℕ} (d : Divided K n kinds buf t i p at o) where
   pub room-left : o ≤ 5242880
   room-left = omega (arith, d .room)
 
   starts-branch : {kinds₁ : List ℕ} {buf₁ : List ℤ} {l : Line} → Longer K kinds buf n l kinds₁ buf₁ → {t₁ : Tally} {a o₁ : ℕ} → t₁ .lines .0 ≡ n + 1 → fieldsLeft p a ≤ fieldsLeft p at → o₁ + 78 * fieldsLeft p a ≤ 5242880
-      → Started K kinds₁ buf₁ maskB t₁ p a o₁
+      → Started K kinds₁ buf₁ t₁ p a o₁
   starts-branch {kinds₁} {buf₁} g e u r = record {
     ready = subst (Ready K kinds₁ buf₁) (sym e) (ready-more (d .ready) (g .kept) (g .limited) (d .spare .room (n + 1) (g .limited .most) (omega arith)));
     spare = spare-less (omega arith) (g .kept .lines-length) (d .spare);
-    b-mask = d .b-mask;
     room = r;
   }
 
   -- ---- the first branch, and the rest
   module _ (f : FirstStands K n kinds buf i) {scratch : List ℕ} {scratch₁ : List ℕ} {o₁ : ℕ} (h : Heads scratch o 0x31 scratch₁ o₁) where
-    pub first-started : Started K kinds buf maskB t p at o₁
+    pub first-started : Started K kinds buf t p at o₁
     first-started = starts-branch f (d .lines-is) (omega arith) (omega (arith, h .o-is, d .room))
 
-    module _ {kinds₁ : List ℕ} {buf₁ : List ℤ} {scratch₂ : List ℕ} {r₁ : Branched} (b : Branches K p at (told maskB) kinds buf t scratch₁ o₁ kinds₁ buf₁ scratch₂ r₁) where
-      pub split-fault : {x a : ℕ} → r₁ ≡ branched.Fault x a → ChecksSplit K n p at (told maskB) kinds buf t i scratch o kinds₁ buf₁ scratch₂ (branched.Fault x a)
-      split-fault e = joined-fault _or_ 0x31 or-bytes (λ rows fs. lastTwo (checkBranch edition1 K (told maskB) (32 - t .«open»)) (linesIn K kinds buf n) (lineIn K kinds buf i) rows fs) h (as-branch f (d .lines-is) at (told maskB) b) e
+    module _ {kinds₁ : List ℕ} {buf₁ : List ℤ} {scratch₂ : List ℕ} {r₁ : Branched} (b : Branches K p at kinds buf t scratch₁ o₁ kinds₁ buf₁ scratch₂ r₁) where
+      pub split-fault : {x a : ℕ} → r₁ ≡ branched.Fault x a → ChecksSplit K n p at kinds buf t i scratch o kinds₁ buf₁ scratch₂ (branched.Fault x a)
+      split-fault e = joined-fault _or_ 0x31 or-bytes (λ rows fs. lastTwo (checkBranch edition1 K (32 - t .«open»)) (linesIn K kinds buf n) (lineIn K kinds buf i) rows fs) h (as-branch f (d .lines-is) at b) e
 
       module _ {a o₂ : ℕ} {t₁ : Tally} (e : r₁ ≡ branched.Closed a o₂ t₁) where
-        c : Closes (checkBranch edition1 K (told maskB) (32 - t .«open») (t .rows .0) (linesIn K kinds buf (t .lines .0)) (fieldsAt p at)) p at t a scratch₁ o₁ o₂ scratch₂ t₁
+        c : Closes (checkBranch edition1 K (32 - t .«open») (t .rows .0) (linesIn K kinds buf (t .lines .0)) (fieldsAt p at)) p at t a scratch₁ o₁ o₂ scratch₂ t₁
         c = rw e at (b .by)
 
         k : Kept K n kinds buf kinds₁ buf₁
@@ -188,11 +184,10 @@ module _ {K n : ℕ} {p : List ℕ} {kinds : List ℕ} {buf : List ℤ} {maskB :
         pub rest-open : t₁ .«open» ≡ t .«open»
         rest-open = c .open-is
 
-        pub rest-divided : Divided K n kinds₁ buf₁ maskB t₁ i p a o₂
+        pub rest-divided : Divided K n kinds₁ buf₁ t₁ i p a o₂
         rest-divided = record {
           ready = ready-kept (d .ready) k;
           spare = spare-less (omega (arith, c .within, c .o-is)) (k .lines-length) (d .spare);
-          b-mask = d .b-mask;
           room = omega (arith, c .within, h .o-is, d .room);
           line = d .line;
           space = d .space;
@@ -200,11 +195,11 @@ module _ {K n : ℕ} {p : List ℕ} {kinds : List ℕ} {buf : List ℤ} {maskB :
           small = subst (λ (l : Line). T (inRange 2147483647 (firstLine l))) (sym line-is) (d .small);
         }
 
-        rest-same : {kinds₂ : List ℕ} {buf₂ : List ℤ} {scratch₃ : List ℕ} {r : Branched} → ChecksRest K n p a (told maskB) kinds₁ buf₁ t₁ i scratch₂ o₂ kinds₂ buf₂ scratch₃ r
-            → Checks (lastTwo (checkBranch edition1 K (told maskB) (32 - t .«open»)) (linesIn K kinds buf n) (lineIn K kinds buf i) (t₁ .rows .0) (fieldsAt p a)) K n p a kinds buf t₁ scratch₂ o₂ kinds₂ buf₂ scratch₃ r
+        rest-same : {kinds₂ : List ℕ} {buf₂ : List ℤ} {scratch₃ : List ℕ} {r : Branched} → ChecksRest K n p a kinds₁ buf₁ t₁ i scratch₂ o₂ kinds₂ buf₂ scratch₃ r
+            → Checks (lastTwo (checkBranch edition1 K (32 - t .«open»)) (linesIn K kinds buf n) (lineIn K kinds buf i) (t₁ .rows .0) (fieldsAt p a)) K n p a kinds buf t₁ scratch₂ o₂ kinds₂ buf₂ scratch₃ r
         rest-same {scratch₃ = scratch₃} {r = r} x =
-            let same : lastTwo (checkBranch edition1 K (told maskB) (32 - t₁ .«open»)) (linesIn K kinds₁ buf₁ n) (lineIn K kinds₁ buf₁ i) (t₁ .rows .0) (fieldsAt p a)
-            ≡ lastTwo (checkBranch edition1 K (told maskB) (32 - t .«open»)) (linesIn K kinds buf n) (lineIn K kinds buf i) (t₁ .rows .0) (fieldsAt p a)
+            let same : lastTwo (checkBranch edition1 K (32 - t₁ .«open»)) (linesIn K kinds₁ buf₁ n) (lineIn K kinds₁ buf₁ i) (t₁ .rows .0) (fieldsAt p a)
+            ≡ lastTwo (checkBranch edition1 K (32 - t .«open»)) (linesIn K kinds buf n) (lineIn K kinds buf i) (t₁ .rows .0) (fieldsAt p a)
             = rw (c .open-is, line-is, lines-same K n (k .lines-same) (k .kinds-same)) in
             record {
               kept = kept-trans (omega arith) k (x .kept);
@@ -212,9 +207,9 @@ module _ {K n : ℕ} {p : List ℕ} {kinds : List ℕ} {buf : List ℤ} {maskB :
               by = subst (λ (R : Result Closing). BranchedBy R p a t₁ scratch₂ o₂ scratch₃ r) same (x .by);
             }
 
-        pub split-checks : {kinds₂ : List ℕ} {buf₂ : List ℤ} {scratch₃ : List ℕ} {r : Branched} → ChecksRest K n p a (told maskB) kinds₁ buf₁ t₁ i scratch₂ o₂ kinds₂ buf₂ scratch₃ r
-            → ChecksSplit K n p at (told maskB) kinds buf t i scratch o kinds₂ buf₂ scratch₃ r
-        split-checks x = joined-checks _or_ 0x31 or-bytes (λ rows fs. lastTwo (checkBranch edition1 K (told maskB) (32 - t .«open»)) (linesIn K kinds buf n) (lineIn K kinds buf i) rows fs) h (as-branch f (d .lines-is) at (told maskB) b) e (rest-same x)
+        pub split-checks : {kinds₂ : List ℕ} {buf₂ : List ℤ} {scratch₃ : List ℕ} {r : Branched} → ChecksRest K n p a kinds₁ buf₁ t₁ i scratch₂ o₂ kinds₂ buf₂ scratch₃ r
+            → ChecksSplit K n p at kinds buf t i scratch o kinds₂ buf₂ scratch₃ r
+        split-checks x = joined-checks _or_ 0x31 or-bytes (λ rows fs. lastTwo (checkBranch edition1 K (32 - t .«open»)) (linesIn K kinds buf n) (lineIn K kinds buf i) rows fs) h (as-branch f (d .lines-is) at b) e (rest-same x)
 
   -- ---- the second branch and the third
   pub second-copy : LineCopy K buf i n × (128 ≤ length kinds)
@@ -224,22 +219,22 @@ module _ {K n : ℕ} {p : List ℕ} {kinds : List ℕ} {buf : List ℤ} {maskB :
     second : Longer K kinds buf n (secondLine (lineIn K kinds buf i)) kinds₁ buf₁
     second = second-starts (d .ready) (d .line) (d .space) kept-refl eb ek
 
-    pub second-started : Started K kinds₁ buf₁ maskB t p at o₁
+    pub second-started : Started K kinds₁ buf₁ t p at o₁
     second-started = starts-branch second (d .lines-is) (omega arith) (omega (arith, h .o-is, d .room))
 
-    module _ {kinds₂ : List ℕ} {buf₂ : List ℤ} {scratch₂ : List ℕ} {r₁ : Branched} (b : Branches K p at (told maskB) kinds₁ buf₁ t scratch₁ o₁ kinds₂ buf₂ scratch₂ r₁) where
-      pub rest-fault : {x a : ℕ} → r₁ ≡ branched.Fault x a → ChecksRest K n p at (told maskB) kinds buf t i scratch o kinds₂ buf₂ scratch₂ (branched.Fault x a)
-      rest-fault e = joined-fault _and_ 0x32 and-bytes (λ rows fs. checkBranch edition1 K (told maskB) (32 - t .«open») rows (linesIn K kinds buf n ▷ thirdLine (lineIn K kinds buf i)) fs) h (as-branch second (d .lines-is) at (told maskB) b) e
+    module _ {kinds₂ : List ℕ} {buf₂ : List ℤ} {scratch₂ : List ℕ} {r₁ : Branched} (b : Branches K p at kinds₁ buf₁ t scratch₁ o₁ kinds₂ buf₂ scratch₂ r₁) where
+      pub rest-fault : {x a : ℕ} → r₁ ≡ branched.Fault x a → ChecksRest K n p at kinds buf t i scratch o kinds₂ buf₂ scratch₂ (branched.Fault x a)
+      rest-fault e = joined-fault _and_ 0x32 and-bytes (λ rows fs. checkBranch edition1 K (32 - t .«open») rows (linesIn K kinds buf n ▷ thirdLine (lineIn K kinds buf i)) fs) h (as-branch second (d .lines-is) at b) e
 
       module _ {a o₂ : ℕ} {t₁ : Tally} (e : r₁ ≡ branched.Closed a o₂ t₁) where
-        closes : Closes (checkBranch edition1 K (told maskB) (32 - t .«open») (t .rows .0) (linesIn K kinds₁ buf₁ (t .lines .0)) (fieldsAt p at)) p at t a scratch₁ o₁ o₂ scratch₂ t₁
+        closes : Closes (checkBranch edition1 K (32 - t .«open») (t .rows .0) (linesIn K kinds₁ buf₁ (t .lines .0)) (fieldsAt p at)) p at t a scratch₁ o₁ o₂ scratch₂ t₁
         closes = rw e at (b .by)
 
         pub third-open : t₁ .«open» ≡ t .«open»
         third-open = closes .open-is
 
         on : Kept K n kinds buf kinds₂ buf₂
-        on = as-branch second (d .lines-is) at (told maskB) b .kept
+        on = as-branch second (d .lines-is) at b .kept
 
         pub third-copy : LineCopy K buf₂ i n × (128 ≤ length kinds₂)
         third-copy = (now-copy (d .ready) (d .line) (d .space) on, ready-kept (d .ready) on .room)
@@ -248,14 +243,14 @@ module _ {K n : ℕ} {p : List ℕ} {kinds : List ℕ} {buf : List ℤ} {maskB :
           third : Longer K kinds buf n (thirdLine (lineIn K kinds buf i)) kinds₃ buf₃
           third = longer-start on (third-starts (d .ready) (d .line) (d .space) on (d .small) eb₃ ek₃)
 
-          pub third-started : Started K kinds₃ buf₃ maskB t₁ p a o₂
+          pub third-started : Started K kinds₃ buf₃ t₁ p a o₂
           third-started = starts-branch third (closes .lines-is ∙ d .lines-is) (omega (arith, closes .within, closes .o-is)) (omega (arith, closes .within, h .o-is, d .room))
 
-          pub rest-checks : {kinds₄ : List ℕ} {buf₄ : List ℤ} {scratch₃ : List ℕ} {r : Branched} → Branches K p a (told maskB) kinds₃ buf₃ t₁ scratch₂ o₂ kinds₄ buf₄ scratch₃ r
-              → ChecksRest K n p at (told maskB) kinds buf t i scratch o kinds₄ buf₄ scratch₃ r
+          pub rest-checks : {kinds₄ : List ℕ} {buf₄ : List ℤ} {scratch₃ : List ℕ} {r : Branched} → Branches K p a kinds₃ buf₃ t₁ scratch₂ o₂ kinds₄ buf₄ scratch₃ r
+              → ChecksRest K n p at kinds buf t i scratch o kinds₄ buf₄ scratch₃ r
           rest-checks x =
-              joined-checks _and_ 0x32 and-bytes (λ rows fs. checkBranch edition1 K (told maskB) (32 - t .«open») rows (linesIn K kinds buf n ▷ thirdLine (lineIn K kinds buf i)) fs) h (as-branch second (d .lines-is) at (told maskB) b) e
-              (rw (← closes .open-is) (as-branch third (closes .lines-is ∙ d .lines-is) a (told maskB) x))
+              joined-checks _and_ 0x32 and-bytes (λ rows fs. checkBranch edition1 K (32 - t .«open») rows (linesIn K kinds buf n ▷ thirdLine (lineIn K kinds buf i)) fs) h (as-branch second (d .lines-is) at b) e
+              (rw (← closes .open-is) (as-branch third (closes .lines-is ∙ d .lines-is) a x))
 
 -- ---- the branch that is split
 module _ {K : ℕ} {p : List ℕ} {at : ℕ} {kinds : List ℕ} {buf : List ℤ} {t : Tally} {kinds′ : List ℕ} {buf′ : List ℤ} {i a next : ℕ} {u : Tally}
@@ -276,12 +271,11 @@ module _ {K : ℕ} {p : List ℕ} {at : ℕ} {kinds : List ℕ} {buf : List ℤ}
   pub few-open : t .«open» < 32
   few-open = omega (arith, opens .open-less, m .open-is)
 
-  module _ {maskB : List ℕ} {o : ℕ} (st : Started K kinds buf maskB t p at o) where
-    pub divided : Divided K (u .lines .0) kinds″ buf″ maskB v i p next o
+  module _ {o : ℕ} (st : Started K kinds buf t p at o) where
+    pub divided : Divided K (u .lines .0) kinds″ buf″ v i p next o
     divided = record {
       ready = ready-kept (m .ready) (w .kept);
       spare = spare-less (omega (arith, m .few)) (w .kept .lines-length ∙ k .lines-length) (st .spare);
-      b-mask = st .b-mask;
       room = omega (arith, st .room, m .few, m .from);
       line = opens .copy .first;
       space = opens .copy .space;
@@ -294,21 +288,21 @@ module _ {K : ℕ} {p : List ℕ} {at : ℕ} {kinds : List ℕ} {buf : List ℤ}
       let g = opens .longer in
       rw same-line (record { kept = kept-refl; limited = g .limited; lines = g .lines ∙ rw same-lines; small = g .small })
 
-  module _ (inB : ℕ → Bool) {scratch : List ℕ} {o : ℕ} {kinds₁ : List ℕ} {buf₁ : List ℤ} {scratch₁ : List ℕ} {b : Branched}
-      (x : ChecksSplit K (u .lines .0) p next inB kinds″ buf″ v i scratch o kinds₁ buf₁ scratch₁ b) where
-    splits : checkBranch edition1 K inB (32 - t .«open») (t .rows .0) (linesIn K kinds buf (t .lines .0)) (fieldsAt p at)
-        ≡ three (checkBranch edition1 K inB (32 - v .«open»)) (linesIn K kinds″ buf″ (u .lines .0)) (lineIn K kinds″ buf″ i) (v .rows .0) (fieldsAt p next)
+  module _ {scratch : List ℕ} {o : ℕ} {kinds₁ : List ℕ} {buf₁ : List ℤ} {scratch₁ : List ℕ} {b : Branched}
+      (x : ChecksSplit K (u .lines .0) p next kinds″ buf″ v i scratch o kinds₁ buf₁ scratch₁ b) where
+    splits : checkBranch edition1 K (32 - t .«open») (t .rows .0) (linesIn K kinds buf (t .lines .0)) (fieldsAt p at)
+        ≡ three (checkBranch edition1 K (32 - v .«open»)) (linesIn K kinds″ buf″ (u .lines .0)) (lineIn K kinds″ buf″ i) (v .rows .0) (fieldsAt p next)
     splits =
         let r : v .rows .0 ≡ suc (m .rows) = omega (arith, ap (λ (x : Tally). x .rows .0) (opens .tally-is), m .rows-is) in
         let n : 32 - v .«open» ≡ 31 - u .«open» = omega (arith, opens-less, m .open-is) in
-        comes-split m k inB ∙ opens .is inB _ a (m .rows) (fieldsAt p next) ∙ rw (same-line, same-lines, r, n)
+        comes-split m k ∙ opens .is _ a (m .rows) (fieldsAt p next) ∙ rw (same-line, same-lines, r, n)
 
-    resumed-by : (b : Branched) → BranchedBy (checkBranch edition1 K inB (32 - t .«open») (t .rows .0) (linesIn K kinds buf (t .lines .0)) (fieldsAt p at)) p next v scratch o scratch₁ b
-        → BranchedBy (checkBranch edition1 K inB (32 - t .«open») (t .rows .0) (linesIn K kinds buf (t .lines .0)) (fieldsAt p at)) p at t scratch o scratch₁ (resumedBy b t)
+    resumed-by : (b : Branched) → BranchedBy (checkBranch edition1 K (32 - t .«open») (t .rows .0) (linesIn K kinds buf (t .lines .0)) (fieldsAt p at)) p next v scratch o scratch₁ b
+        → BranchedBy (checkBranch edition1 K (32 - t .«open») (t .rows .0) (linesIn K kinds buf (t .lines .0)) (fieldsAt p at)) p at t scratch o scratch₁ (resumedBy b t)
     resumed-by (branched.Fault x a) y = y
     resumed-by (branched.Closed a o′ v′) y = record { formula = y .formula; is = y .is; o-is = y .o-is; stored = y .stored; within = omega (arith, y .within, m .few, m .from); lines-is = refl; open-is = refl }
 
-    pub resumed-checks : {r : Branched} → r ≡ resumedBy b t → Branches K p at inB kinds buf t scratch o kinds₁ buf₁ scratch₁ r
+    pub resumed-checks : {r : Branched} → r ≡ resumedBy b t → Branches K p at kinds buf t scratch o kinds₁ buf₁ scratch₁ r
     resumed-checks q = rw q (record {
       kept = kept-trans (m .from) k (kept-trans (omega arith) (w .kept) (x .kept));
       long = x .long;

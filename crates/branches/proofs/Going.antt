@@ -52,12 +52,12 @@ ready-kept r k = record {
 }
 
 -- The entries from a place on, in the middle of a branch.
-abbrev entriesAt : (K : ℕ) (p : List ℕ) (here : ℕ) (kinds : List ℕ) (buf : List ℤ) (t : Tally) (made : Bool) (inB : ℕ → Bool) (deeper : Option Checker) → Result Closing
-entriesAt K p here kinds buf t made inB deeper =
-    checkEntries edition1 K inB deeper (fieldsAt p here) (t .rows .0) (lastMade made K kinds buf (t .lines .0)) (linesIn K kinds buf (t .lines .0))
+abbrev entriesAt : (K : ℕ) (p : List ℕ) (here : ℕ) (kinds : List ℕ) (buf : List ℤ) (t : Tally) (made : Bool) (deeper : Option Checker) → Result Closing
+entriesAt K p here kinds buf t made deeper =
+    checkEntries edition1 K deeper (fieldsAt p here) (t .rows .0) (lastMade made K kinds buf (t .lines .0)) (linesIn K kinds buf (t .lines .0))
 
 pub record Going (K : ℕ) (p : List ℕ) (at : ℕ) (kinds₀ : List ℕ) (buf₀ : List ℤ) (t₀ : Tally) (kinds : List ℕ) (buf : List ℤ) (here : ℕ) (t : Tally) (made : Bool) : Type 0 where
-  pub same : (inB : ℕ → Bool) (deeper : Option Checker) → entriesFrom K p at kinds₀ buf₀ t₀ inB deeper ≡ entriesAt K p here kinds buf t made inB deeper
+  pub same : (deeper : Option Checker) → entriesFrom K p at kinds₀ buf₀ t₀ deeper ≡ entriesAt K p here kinds buf t made deeper
   pub kept : Kept K (t₀ .lines .0) kinds₀ buf₀ kinds buf
   pub ready : Ready K kinds buf (t .lines .0)
   pub from : t₀ .lines .0 ≤ t .lines .0
@@ -70,26 +70,26 @@ module _ {K : ℕ} {p : List ℕ} {at : ℕ} {kinds₀ : List ℕ} {buf₀ : Lis
     (g : Going K p at kinds₀ buf₀ t₀ kinds buf here t made) where
   pub going-cut : {a : ℕ} → fieldsAt p here ≡ cut a → Stopped K p at kinds₀ buf₀ t₀ kinds buf (Stop.Fault 2 a)
   unfolding checkEntries
-  going-cut e = record { kept = g .kept; by = λ inB deeper. g .same inB deeper ∙ rw e }
+  going-cut e = record { kept = g .kept; by = λ deeper. g .same deeper ∙ rw e }
 
   pub going-ends : {a : ℕ} → fieldsAt p here ≡ ends a → Stopped K p at kinds₀ buf₀ t₀ kinds buf (Stop.Fault 20 a)
   unfolding checkEntries
-  going-ends e = record { kept = g .kept; by = λ inB deeper. g .same inB deeper ∙ rw e }
+  going-ends e = record { kept = g .kept; by = λ deeper. g .same deeper ∙ rw e }
 
   module _ {a tag start len next : ℕ} (s : Starts p here a tag start len next) {kinds′ : List ℕ} {buf′ : List ℤ} {r : Stepped}
       (x : Steps (fieldChecked K kinds buf t made tag (take len (drop start p))) K kinds buf t kinds′ buf′ r) where
     -- the field that stands next, and what follows it
-    field-is : (inB : ℕ → Bool) (deeper : Option Checker) → entriesFrom K p at kinds₀ buf₀ t₀ inB deeper
-        ≡ fieldChecked K kinds buf t made tag (take len (drop start p)) inB deeper (checkEntries edition1 K inB deeper (fieldsAt p next)) a (fieldsAt p next)
+    field-is : (deeper : Option Checker) → entriesFrom K p at kinds₀ buf₀ t₀ deeper
+        ≡ fieldChecked K kinds buf t made tag (take len (drop start p)) deeper (checkEntries edition1 K deeper (fieldsAt p next)) a (fieldsAt p next)
     unfolding checkEntries
-    field-is inB deeper = g .same inB deeper ∙ rw (s .is)
+    field-is deeper = g .same deeper ∙ rw (s .is)
 
     all-kept : Kept K (t₀ .lines .0) kinds₀ buf₀ kinds′ buf′
     all-kept = kept-trans (g .from) (g .kept) (x .kept)
 
-    by-same : {f : _} → Same (fieldChecked K kinds buf t made tag (take len (drop start p))) f → (inB : ℕ → Bool) (deeper : Option Checker)
-        → entriesFrom K p at kinds₀ buf₀ t₀ inB deeper ≡ f inB deeper (checkEntries edition1 K inB deeper (fieldsAt p next)) a (fieldsAt p next)
-    by-same q inB deeper = field-is inB deeper ∙ q .is inB deeper (checkEntries edition1 K inB deeper (fieldsAt p next)) a (fieldsAt p next)
+    by-same : {f : _} → Same (fieldChecked K kinds buf t made tag (take len (drop start p))) f → (deeper : Option Checker)
+        → entriesFrom K p at kinds₀ buf₀ t₀ deeper ≡ f deeper (checkEntries edition1 K deeper (fieldsAt p next)) a (fieldsAt p next)
+    by-same q deeper = field-is deeper ∙ q .is deeper (checkEntries edition1 K deeper (fieldsAt p next)) a (fieldsAt p next)
 
     pub going-refused : {n : ℕ} → r ≡ Refused n → Stopped K p at kinds₀ buf₀ t₀ kinds′ buf′ (Stop.Fault n a)
     going-refused e = let y = rw e at x in record { kept = all-kept; by = by-same (y .by) }
@@ -103,7 +103,7 @@ module _ {K : ℕ} {p : List ℕ} {at : ℕ} {kinds₀ : List ℕ} {buf₀ : Lis
         rw (y .by .2)
         (let z : t .lines .0 + 1 - 1 ≡ t .lines .0 = omega arith in
         record {
-          same = λ inB deeper. by-same (y .by .0) inB deeper ∙ rw z;
+          same = λ deeper. by-same (y .by .0) deeper ∙ rw z;
           kept = all-kept;
           ready = ready-more (g .ready) (x .kept) (y .by .1) (g .spare .room (t .lines .0 + 1) (y .by .1 .most) (omega (arith, g .few, count-starts s)));
           from = omega (arith, g .from);
@@ -120,7 +120,7 @@ module _ {K : ℕ} {p : List ℕ} {at : ℕ} {kinds₀ : List ℕ} {buf₀ : Lis
     going-claimed e =
         let y = rw e at x in
         record {
-          same = λ inB deeper. by-same (y .by) inB deeper ∙ rw lines-are;
+          same = λ deeper. by-same (y .by) deeper ∙ rw lines-are;
           kept = all-kept;
           ready = ready-kept (g .ready) (x .kept);
           from = g .from;
@@ -137,7 +137,7 @@ module _ {K : ℕ} {p : List ℕ} {at : ℕ} {kinds₀ : List ℕ} {buf₀ : Lis
         (record {
           rows = t .rows .0;
           rows-is = refl;
-          is = λ inB deeper. by-same q inB deeper ∙ rw lines-are;
+          is = λ deeper. by-same q deeper ∙ rw lines-are;
           ready = ready-kept (g .ready) (x .kept);
           from = g .from;
           open-is = g .open-is;
@@ -156,7 +156,7 @@ module _ {K : ℕ} {p : List ℕ} {at : ℕ} {kinds₀ : List ℕ} {buf₀ : Lis
 pub going-start : {K : ℕ} {p : List ℕ} {at : ℕ} {kinds : List ℕ} {buf : List ℤ} {t : Tally}
     → Ready K kinds buf (t .lines .0) × Spare K (t .lines .0 + fieldsLeft p at) buf → Going K p at kinds buf t kinds buf at t false
 going-start (h, s) = record {
-  same = λ inB deeper. refl;
+  same = λ deeper. refl;
   kept = kept-refl;
   ready = h;
   from = omega arith;

@@ -1,6 +1,5 @@
 -- The entries of a branch, by how the code finds that they end. Document 01, "Check". Assumes nothing.
 use mathlib.Core.Path.{_≡_}
-use mathlib.Core.Bool.{Bool}
 use mathlib.Core.List.{List}
 use mathlib.Core.Option.{Option, none}
 use Prim.Native.Nat.{ℕ, suc, _+_, _≤_}
@@ -19,16 +18,16 @@ use Rattle.branches.specs.declared.branch.Stop.{Stop}
 use Rattle.branches.specs.declared.branch.Stop.the-variants.{Fault, Strengthens, ClosesNumber, ClosesStride}
 
 -- The entries from a place on, in a branch of the tally's lines, where no claim may stand first.
-abbrev pub entriesFrom : (K : ℕ) (p : List ℕ) (at : ℕ) (kinds : List ℕ) (buf : List ℤ) (t : Tally) (inB : ℕ → Bool) (deeper : Option Checker) → Result Closing
-entriesFrom K p at kinds buf t inB deeper = checkEntries edition1 K inB deeper (fieldsAt p at) (t .rows .0) none (linesIn K kinds buf (t .lines .0))
+abbrev pub entriesFrom : (K : ℕ) (p : List ℕ) (at : ℕ) (kinds : List ℕ) (buf : List ℤ) (t : Tally) (deeper : Option Checker) → Result Closing
+entriesFrom K p at kinds buf t deeper = checkEntries edition1 K deeper (fieldsAt p at) (t .rows .0) none (linesIn K kinds buf (t .lines .0))
 
 -- They come to a row at a, with the lines and rows that there are then; each line more, and the row itself, took a field.
 pub record Comes (K : ℕ) (p : List ℕ) (at : ℕ) (kinds : List ℕ) (buf : List ℤ) (t : Tally) (kinds′ : List ℕ) (buf′ : List ℤ) (row : rules.Row) (a next : ℕ) (t′ : Tally) : Type 0 where
   pub rows : ℕ
   pub rows-is : t′ .rows .0 ≡ rows + 1
-  pub is : (inB : ℕ → Bool) (deeper : Option Checker)
-      → entriesFrom K p at kinds buf t inB deeper
-      ≡ checkRow edition1 K inB deeper (checkEntries edition1 K inB deeper (fieldsAt p next)) a rows (linesIn K kinds′ buf′ (t′ .lines .0)) (fieldsAt p next) row
+  pub is : (deeper : Option Checker)
+      → entriesFrom K p at kinds buf t deeper
+      ≡ checkRow edition1 K deeper (checkEntries edition1 K deeper (fieldsAt p next)) a rows (linesIn K kinds′ buf′ (t′ .lines .0)) (fieldsAt p next) row
   pub ready : Ready K kinds′ buf′ (t′ .lines .0)
   pub from : t .lines .0 ≤ t′ .lines .0
   pub open-is : t′ .«open» ≡ t .«open»
@@ -36,7 +35,7 @@ pub record Comes (K : ℕ) (p : List ℕ) (at : ℕ) (kinds : List ℕ) (buf : L
 
 abbrev pub StoppedBy : (K : ℕ) (p : List ℕ) (at : ℕ) (kinds : List ℕ) (buf : List ℤ) (t : Tally) (kinds′ : List ℕ) (buf′ : List ℤ) → Stop → Type 0
 StoppedBy K p at kinds buf t kinds′ buf′ (Fault x a) =
-    (inB : ℕ → Bool) (deeper : Option Checker) → entriesFrom K p at kinds buf t inB deeper ≡ refused (refusal a x)
+    (deeper : Option Checker) → entriesFrom K p at kinds buf t deeper ≡ refused (refusal a x)
 StoppedBy K p at kinds buf t kinds′ buf′ (Strengthens i a next t′) = Comes K p at kinds buf t kinds′ buf′ (rules.Strengthen (i .0)) a next t′
 StoppedBy K p at kinds buf t kinds′ buf′ (ClosesNumber i a next t′) = Comes K p at kinds buf t kinds′ buf′ (rules.CloseNumber (i .0)) a next t′
 StoppedBy K p at kinds buf t kinds′ buf′ (ClosesStride i a next t′ g) =

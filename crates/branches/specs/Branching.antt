@@ -1,6 +1,5 @@
 -- A branch and the branches it opens, by the answers of the code. Document 01, "The rows" and "Check". Assumes nothing.
 use mathlib.Core.Path.{_≡_}
-use mathlib.Core.Bool.{Bool}
 use mathlib.Core.List.{List}
 use Prim.Native.Nat.{ℕ, _+_, _-_, _*_, _≤_}
 use lib.IntN.{ℤ}
@@ -37,11 +36,10 @@ abbrev pub resumedBy : branched.Branched → (given : Tally) → branched.Branch
 resumedBy (branched-of.Fault x at) given = branched-of.Fault x at
 resumedBy (branched-of.Closed at o t) given = branched-of.Closed at o (returnedTo t given)
 
--- What a branch asks: its lines, room for one more for each field that is left, the mask, and that what is written, with 78 bytes for each field that is left, keeps its limit.
-pub record Started (K : ℕ) (kinds : List ℕ) (buf : List ℤ) (maskB : List ℕ) (t : Tally) (p : List ℕ) (at o : ℕ) : Type 0 where
+-- What a branch asks: its lines, room for one more for each field that is left, and that what is written, with 78 bytes for each field that is left, keeps its limit.
+pub record Started (K : ℕ) (kinds : List ℕ) (buf : List ℤ) (t : Tally) (p : List ℕ) (at o : ℕ) : Type 0 where
   pub ready : Ready K kinds buf (t .lines .0)
   pub spare : Spare K (t .lines .0 + fieldsLeft p at) buf
-  pub b-mask : K ≤ length maskB
   pub room : o + 78 * fieldsLeft p at ≤ 5242880
 
 -- R, from `at` on, accepts a formula, whose bytes stand from o on if there is room for them; the fields go on at a.
@@ -66,7 +64,7 @@ pub record Checks (R : Result Closing) (K n : ℕ) (p : List ℕ) (at : ℕ) (ki
   pub long : length scratch′ ≡ length scratch
   pub by : BranchedBy R p at t scratch o scratch′ r
 
-abbrev pub Branches : (K : ℕ) (p : List ℕ) (at : ℕ) (inB : ℕ → Bool) (kinds : List ℕ) (buf : List ℤ) (t : Tally) (scratch : List ℕ) (o : ℕ)
+abbrev pub Branches : (K : ℕ) (p : List ℕ) (at : ℕ) (kinds : List ℕ) (buf : List ℤ) (t : Tally) (scratch : List ℕ) (o : ℕ)
     (kinds′ : List ℕ) (buf′ : List ℤ) (scratch′ : List ℕ) (r : branched.Branched) → Type 0
-Branches K p at inB kinds buf t scratch o kinds′ buf′ scratch′ r =
-    Checks (checkBranch edition1 K inB (32 - t .«open») (t .rows .0) (linesIn K kinds buf (t .lines .0)) (fieldsAt p at)) K (t .lines .0) p at kinds buf t scratch o kinds′ buf′ scratch′ r
+Branches K p at kinds buf t scratch o kinds′ buf′ scratch′ r =
+    Checks (checkBranch edition1 K (32 - t .«open») (t .rows .0) (linesIn K kinds buf (t .lines .0)) (fieldsAt p at)) K (t .lines .0) p at kinds buf t scratch o kinds′ buf′ scratch′ r

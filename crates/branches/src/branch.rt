@@ -4,7 +4,6 @@ ghost use Rattle.branches.specs.Room.{fieldsLeft, Spare};
 ghost use Rattle.branches.specs.Branches.{Stopped};
 ghost use mathlib.Core.Path.{_≡_};
 ghost use Prim.Native.Nat.{_+_};
-ghost use Rattle.lines.specs.Occurrence.{told};
 ghost use Rattle.branches.specs.Branching.{returnedTo, closedBy, resumedBy, Started, Branches};
 use bundle::Line;
 use closes::ends::Ended;
@@ -170,12 +169,11 @@ pub fn check_branch(
     kinds: &mut [u8],
     tally: Tally,
     k: usize,
-    in_b: &[u8],
     scratch: &mut [u8],
     o: usize,
 ) -> Branched
-    requires { ⌜ Started k (now kinds) (now lines) (now in_b) tally (now p) at o ⌝ }
-    ensures { λ r. ⌜ Branches k (now (p .entry)) at (told (now (in_b .entry))) (now (kinds .entry)) (now (lines .entry)) tally (now (scratch .entry)) o (now (kinds .exit)) (now (lines .exit)) (now (scratch .exit)) r ⌝ }
+    requires { ⌜ Started k (now kinds) (now lines) tally (now p) at o ⌝ }
+    ensures { λ r. ⌜ Branches k (now (p .entry)) at (now (kinds .entry)) (now (lines .entry)) tally (now (scratch .entry)) o (now (kinds .exit)) (now (lines .exit)) (now (scratch .exit)) r ⌝ }
 {
     match entries(p, at, lines, kinds, tally, k) {
         Stop::Fault { number, at: a } => {
@@ -198,7 +196,7 @@ pub fn check_branch(
             next,
             tally: u,
         } => {
-            let e = close_stride(lines, kinds, u, t, g, in_b, k, scratch, o);
+            let e = close_stride(lines, kinds, u, t, g, k, scratch, o);
             let v = returned(u, tally);
             return closed(e, a, next, v);
         }
@@ -216,7 +214,7 @@ pub fn check_branch(
                     let count = u.lines;
                     let n = count.0 as usize;
                     let head = put_pair(scratch, o, 0x31);
-                    let first = check_branch(p, next, lines, kinds, v, k, in_b, scratch, head);
+                    let first = check_branch(p, next, lines, kinds, v, k, scratch, head);
                     let Branched::Closed {
                         at: a1,
                         o: o1,
@@ -227,7 +225,7 @@ pub fn check_branch(
                     };
                     start(lines, kinds, t, n, k, 1, false, false);
                     let head2 = put_pair(scratch, o1, 0x32);
-                    let second = check_branch(p, a1, lines, kinds, v1, k, in_b, scratch, head2);
+                    let second = check_branch(p, a1, lines, kinds, v1, k, scratch, head2);
                     let Branched::Closed {
                         at: a2,
                         o: o2,
@@ -237,7 +235,7 @@ pub fn check_branch(
                         return second;
                     };
                     start(lines, kinds, t, n, k, 0, true, false);
-                    let third = check_branch(p, a2, lines, kinds, v2, k, in_b, scratch, o2);
+                    let third = check_branch(p, a2, lines, kinds, v2, k, scratch, o2);
                     return resumed(third, tally);
                 }
             }

@@ -18,7 +18,7 @@ use Rattle.fields.specs.Fields.{Item, item, fields, items, Framed, fileOf, with
 use Rattle.fields.specs.Header.{agrees}
 use Rattle.fields.proofs.Results.{Gives, weaken, seq, not-0, passes}
 use Rattle.fields.specs.Numbers.{Bytes}
-use Rattle.fields.proofs.Signed.{InWidth}
+use Rattle.fields.specs.Ranges.{InWidth}
 use Rattle.fields.proofs.Framing.{items-fileOf}
 use Rattle.fields.proofs.Contents.{ItemBytes}
 use Rattle.bundle.specs.Bundle.{Bundle}

@@ -19,7 +19,8 @@ use Rattle.fields.specs.Numbers.{unsignedBytes, signedsBytes, flat, formBytes}
 use Rattle.fields.specs.Fields.{Item, item, fieldBytes, fileOf, Framed, note, withoutNotes, unlessNoteItem}
 use Rattle.fields.specs.Header.{headerBytes}
 use Rattle.fields.proofs.Results.{Gives, accepts, test, seq, needs, passes, each-gives, each-accepted}
-use Rattle.fields.proofs.Signed.{InWidth, all-take, all-drop, FormInWidth, length-formBytes, formFrom-written, all-weaken, formBytes-formFrom, formFrom-in}
+use Rattle.fields.specs.Ranges.{InWidth, FormInWidth}
+use Rattle.fields.proofs.Signed.{all-take, all-drop, length-formBytes, formFrom-written, all-weaken, formBytes-formFrom, formFrom-in}
 use Rattle.fields.proofs.Contents.{ItemBytes}
 use Rattle.bundle.specs.Bundle.{kindTagged}
 use Rattle.bundle.specs.Layout.{Each, States}

@@ -1,14 +1,14 @@
 -- Every line that rows reach draws tA from A alone and t - tA from B alone, a closed branch has such lines at every row, and so it names common constants only. Assumes nothing.
 use mathlib.Core.Path.{_≡_, refl, ap, subst}
 use mathlib.Core.List.{List, [], _∷_}
-use mathlib.Core.Bool.{Bool, true, false}
+use mathlib.Core.Bool.{Bool}
 use Prim.Native.Nat.{ℕ, suc}
 use lib.Dec.{T}
-use lib.IntN.{ℤ, pos, +ℤ-idr}
+use lib.IntN.{ℤ, +ℤ-idr}
 use Rattle.forms.specs.Edition.{Edition}
 use Rattle.forms.specs.Forms.{Form, Kind, ≤0, =0, Line, line, Constraint, lines, All, nil, cons, coeff, nonzero, occurs, Formula, names, _plus_}
 use Rattle.calculus.specs.Rules.{Nth, _▷_, Closed, derive, strengthen, number, stride}
-use Rattle.calculus.specs.Reached.{Drawn, Reached, root, derived, branched, Throughout}
+use Rattle.calculus.specs.Reached.{Drawn, DrawnApart, Reached, root, derived, branched, Throughout}
 use Rattle.calculus.proofs.Sides.{Side, A, B, part, all-nth}
 use Rattle.calculus.proofs.Vocabulary.{Words, words-new, words-raised, vocabulary}
 use Rattle.calculus.proofs.Interpolation.{sides, initial-words, occurs-if}
@@ -78,3 +78,11 @@ module _ {e : Edition} {inB : ℕ → Bool} where
 -- at every row of a proof from A and B every line is drawn
 pub drawn-throughout : (As Bs : List Constraint) {e : Edition} {inB : ℕ → Bool} {I : Formula} (p : Closed e inB (lines As Bs) I) → Throughout (All (Drawn As Bs)) p
 drawn-throughout As Bs p = throughout (λ ls. drawn As Bs) p (reached p root)
+
+-- Point 10.
+pub drawn-apart : (As Bs : List Constraint) → DrawnApart As Bs
+drawn-apart As Bs = record {
+  of-lines = λ ls r. drawn As Bs r;
+  of-rows = λ e inB I p. drawn-throughout As Bs p;
+  of-closes = λ e ls I r p c n. names-common As Bs r p c n;
+}

@@ -2,19 +2,18 @@
 use mathlib.Core.Path.{_≡_, refl, sym, _∙_, ap, subst}
 use mathlib.Core.Logic.{_⊎_, inl, inr}
 use mathlib.Core.List.{List, [], _∷_}
-use mathlib.Core.Bool.{Bool, true, false, cond}
 use Prim.Native.Nat.{ℕ, zero, suc}
 use native.Mathlib.Omega.{arith}
 use lib.ListN.{getD}
-use lib.IntN.{ℤ, pos, negsuc, negℤ, _+ℤ_, _-ℤ_, *ℤ-zero, +ℤ-idl, +ℤ-idr}
+use lib.IntN.{ℤ, pos, negsuc, negℤ, _+ℤ_, _-ℤ_, *ℤ-zero, +ℤ-idl}
 use lib.Signed.{_≤ℤ_}
 use Rattle.integers.specs.Linear.{ints, add-pn, neg-pn}
-use Rattle.integers.specs.Ring.{var, lit, ring, eqof, poly}
-use Rattle.integers.specs.Laws.{sub-add, sub-self}
+use Rattle.integers.specs.Ring.{var, ring, poly}
+use Rattle.integers.specs.Laws.{sub-add}
 use Rattle.integers.specs.Divides.{_∣ℤ_, ∣-zero, ∣-add, ∣-mul}
-use Rattle.forms.specs.Forms.{Form, Kind, ≤0, =0, Holds, coeff, value, sum, Assignment, rest, _⊞_, _·_, within, Formula, literal, _divides_, _and_, _or_, True}
+use Rattle.forms.specs.Forms.{Form, Kind, ≤0, =0, Holds, coeff, value, sum, Assignment, rest, _⊞_, _·_, Formula, literal, _divides_, _and_, _or_, True}
 use Rattle.calculus.specs.Rules.{Fails}
-use Rattle.calculus.proofs.Readings.{_⊟_, of-difference, coeff-reading, value-reading, coeff-within}
+use Rattle.calculus.proofs.Readings.{_⊟_, of-difference, coeff-reading, value-reading}
 use Rattle.calculus.proofs.Sides.{Side, A, B, part, holds-plus}
 
 -- what a formula owes to each side
@@ -24,11 +23,11 @@ Verdict B I v = ¬ (True I v)
 
 -- ---- divisibility
 module _ {g : ℤ} (a b : ℤ) where
-  ∣-right : g ∣ℤ a → g ∣ℤ a -ℤ b → g ∣ℤ b
+  pub ∣-right : g ∣ℤ a → g ∣ℤ a -ℤ b → g ∣ℤ b
   ∣-right h k = let x = var a in let y = var b in
       subst (λ (z : ℤ). g ∣ℤ z) (ring (search poly) y (omega arith)) (∣-add h (∣-mul {a = a -ℤ b} (negsuc 0) k))
 
-  ∣-left : g ∣ℤ a -ℤ b → g ∣ℤ b → g ∣ℤ a
+  pub ∣-left : g ∣ℤ a -ℤ b → g ∣ℤ b → g ∣ℤ a
   ∣-left h k = subst (λ (z : ℤ). g ∣ℤ z) (sub-add a b) (∣-add h k)
 
 ∣-sum : {g : ℤ} (l : List ℤ) (v : Assignment) → ((c : ℕ) → g ∣ℤ getD l c (pos 0)) → g ∣ℤ sum l v
@@ -61,28 +60,25 @@ by-number B k t tA v z f h = λ g. fails k (t .d) f
     (subst (Holds k) (sub-add (value t v) (value tA v) ∙ constant t v z) (holds-plus k (value t v -ℤ value tA v) (value tA v) h g))
 
 -- ---- close by stride
-∣-outside : {g : ℤ} (b : Bool) (x y : ℤ) → g ∣ℤ y → (b ≡ false → y -ℤ x ≡ pos 0) → g ∣ℤ x -ℤ cond b x (pos 0)
-∣-outside true x y h e = rw sub-self ∣-zero
-∣-outside {g} false x y h e = let z = var x in let w = var y in
-    subst (λ (n : ℤ). g ∣ℤ n) (ring w (search poly) (omega (arith, eqof (search poly) (search poly) (e refl)))) h
+module _ {g : ℤ} (s t : Form) (v : Assignment) (near : (c : ℕ) → g ∣ℤ coeff s c -ℤ coeff t c) (near-d : g ∣ℤ s .d -ℤ t .d) where
+  -- forms whose numbers differ by multiples of g have values that do
+  d-difference : (s ⊟ t) .d ≡ s .d -ℤ t .d
+  unfolding _⊞_ _·_
+  d-difference = let x = var (s .d) in let y = var (t .d) in ring (search poly) (search poly) (omega arith)
 
-module _ (inB : ℕ → Bool) (g : ℕ) (t tA : Form) (v : Assignment)
-    (all : (c : ℕ) → pos g ∣ℤ coeff t c) (same : (c : ℕ) → inB c ≡ false → coeff t c -ℤ coeff tA c ≡ pos 0) where
-  -- g divides the coefficients of tA - u, where u is the stride's form
-  each : (c : ℕ) → pos g ∣ℤ coeff (tA ⊟ within inB tA) c
-  each c = rw (of-difference (coeff-reading c), coeff-within) (∣-outside (inB c) (coeff tA c) (coeff t c) (all c) (same c))
+  pub ∣-values : g ∣ℤ value s v -ℤ value t v
+  ∣-values = let h : g ∣ℤ value (s ⊟ t) v -ℤ (s ⊟ t) .d = ∣-value (s ⊟ t) v (λ c. rw (of-difference (coeff-reading c)) (near c)) in
+      rw (of-difference (value-reading v)) at (∣-left (value (s ⊟ t) v) ((s ⊟ t) .d) h (rw d-difference near-d))
 
-  no-d : (tA ⊟ within inB tA) .d ≡ pos 0
-  unfolding _⊞_ _·_ within
-  no-d = let z = var (tA .d) in ring (search poly) (lit 0) (omega arith)
+-- u, the stride's form, has the numbers of tA but for multiples of g
+module _ (g : ℕ) (t tA u : Form) (v : Assignment) (all : (c : ℕ) → pos g ∣ℤ coeff t c)
+    (near : (c : ℕ) → pos g ∣ℤ coeff tA c -ℤ coeff u c) (near-d : pos g ∣ℤ tA .d -ℤ u .d) where
+  gap : pos g ∣ℤ value tA v -ℤ value u v
+  gap = ∣-values tA u v near near-d
 
-  gap : pos g ∣ℤ value tA v -ℤ value (within inB tA) v
-  gap = let h : pos g ∣ℤ value (tA ⊟ within inB tA) v -ℤ (tA ⊟ within inB tA) .d = ∣-value (tA ⊟ within inB tA) v each in
-      simp (of-difference (value-reading v), no-d, +ℤ-idr) at h
-
-  pub by-stride : (σ : Side) → ¬ (pos g ∣ℤ t .d) → part σ (value t v) (value tA v) ≡ pos 0 → Verdict σ (g divides within inB tA) v
-  by-stride A n h = ∣-right (value tA v) _ (rw h ∣-zero) gap
-  by-stride B n h = λ k. n (∣-right (value t v) (t .d) (∣-left (value t v) (value tA v) (rw h ∣-zero) (∣-left (value tA v) _ gap k)) (∣-value t v all))
+  pub by-stride : (σ : Side) → ¬ (pos g ∣ℤ t .d) → part σ (value t v) (value tA v) ≡ pos 0 → Verdict σ (g divides u) v
+  by-stride A n h = ∣-right (value tA v) (value u v) (rw h ∣-zero) gap
+  by-stride B n h = λ k. n (∣-right (value t v) (t .d) (∣-left (value t v) (value tA v) (rw h ∣-zero) (∣-left (value tA v) (value u v) gap k)) (∣-value t v all))
 
 -- ---- strengthen
 split : (z : ℤ) → z ≤ℤ pos 0 → (z ≡ pos 0) ⊎ ((z +ℤ pos 1) ≤ℤ pos 0)

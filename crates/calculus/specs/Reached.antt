@@ -5,7 +5,7 @@ use Prim.Native.Nat.{ℕ}
 use lib.Dec.{T}
 use lib.IntN.{_-ℤ_}
 use Rattle.forms.specs.Edition.{Edition}
-use Rattle.forms.specs.Forms.{Form, Kind, ≤0, Line, line, Constraint, lines, Formula, coeff, nonzero, occurs, _plus_}
+use Rattle.forms.specs.Forms.{All, Form, Kind, ≤0, Line, line, Constraint, lines, Formula, coeff, nonzero, names, occurs, _plus_}
 use Rattle.calculus.specs.Rules.{Nth, _▷_, New, Closed, derive, strengthen, number, stride}
 
 -- The partial interpolant tA draws its constants from A alone, the rest of the line, t - tA, from B alone.
@@ -29,3 +29,12 @@ Throughout P (derive {ls = ls} _ _ _ p) = P ls × Throughout P p
 Throughout P (strengthen {ls = ls} _ _ _ p1 pE p0) = P ls × Throughout P p1 × Throughout P pE × Throughout P p0
 Throughout P (number {ls = ls} _ _ _ _) = P ls
 Throughout P (stride {ls = ls} _ _ _ _ _ _) = P ls
+
+-- Point 10: over all rows partial interpolants draw their constants from A alone and the rest of a line from B alone, so a close names common ones only.
+pub record DrawnApart (A B : List Constraint) : Type 0 where
+  -- every line of every list that rows reach
+  pub of-lines : (ls : List Line) → Reached A B ls → All (Drawn A B) ls
+  -- every line that each row of a closed proof from A and B finds
+  pub of-rows : (e : Edition) (inB : ℕ → Bool) (I : Formula) (p : Closed e inB (lines A B) I) → Throughout (All (Drawn A B)) p
+  -- a branch that is closed from a reached list, and be it by a single row
+  pub of-closes : (e : Edition) (ls : List Line) (I : Formula) → Reached A B ls → Closed e (occurs B) ls I → (c : ℕ) → T (names I c) → T (occurs A c) × T (occurs B c)

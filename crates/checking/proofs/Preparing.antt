@@ -1,22 +1,21 @@
--- The lines of both bundles and the masks, over plain values. Assumes nothing.
-use mathlib.Core.Path.{_≡_, ap, _∙_}
+-- The lines of both bundles, over plain values. Assumes nothing.
+use mathlib.Core.Path.{_≡_}
 use mathlib.Core.Bool.{Bool, true, false}
 use mathlib.Core.List.{List, map}
 use Prim.Native.Nat.{ℕ, _+_, _≤_}
 use native.Mathlib.Omega.{arith}
 use lib.IntN.{ℤ}
 use lib.ListN.{length, length-map, length-append}
-use Rattle.forms.specs.Forms.{lineA, lineB, lines, occurs}
+use Rattle.forms.specs.Forms.{lineA, lineB, lines}
 use Rattle.fields.specs.Answers.{fileA, fileB, accepted}
 use Rattle.fields.specs.Fields.{fields}
 use Rattle.bundle.specs.Bundle.{bundle}
 use Rattle.fields.specs.Places.{givenK}
 use Rattle.fields.proofs.Headers.{given-some}
 use Rattle.lines.specs.Buffer.{linesIn}
-use Rattle.lines.specs.Occurrence.{Span, held, occursIn, bits, told, told-occurs, held-B, length-bits}
 use Rattle.branches.specs.Room.{Spare}
 use Rattle.checking.specs.Load.{Space, Loaded, Bundled, BundleLoaded}
-use Rattle.checking.specs.Whole.{Both, Buffers, Holding}
+use Rattle.checking.specs.Whole.{Both, Holding}
 use Rattle.checking.proofs.Loading.{space-less, space-kept, loaded-then}
 
 -- A given K is one that is not 0.
@@ -35,9 +34,6 @@ module _ {A B : List ℕ} {K m n : ℕ} (w : Both A B K m n) where
 
   pub bundled-B : {kinds : List ℕ} {buf : List ℤ} → Space K (m + n) kinds buf → Bundled K B kinds buf m
   bundled-B s = record { file = fileB; states = w .b; is = b-accepted; space = rw (w .b-constants) (space-less (omega (arith, w .b-count)) s) }
-
-  pub span-of : {kinds : List ℕ} {buf : List ℤ} {from to : ℕ} → Space K (m + n) kinds buf → from ≤ to → to ≤ m + n → Span K buf from to
-  span-of s l u = let v = space-less u s in record { constants = w .high; ordered = l; lines = v .most; room = v .room }
 
   -- The buffers keep their room.
   pub space-A : {x : Bool} {kinds kinds₁ : List ℕ} {buf buf₁ : List ℤ} → BundleLoaded x 0 A kinds buf 0 kinds₁ buf₁ → Space K (m + n) kinds buf → Space K (m + n) kinds₁ buf₁
@@ -62,19 +58,5 @@ module _ {A B : List ℕ} {K m n : ℕ} (w : Both A B K m n) where
     unfolding linesIn
     lines-are = rw (← total) (both-loaded .lines)
 
-    are : linesIn K kinds₂ buf₂ (length (w .a .constraints) + length (w .b .constraints)) ≡ lines (w .a .constraints) (w .b .constraints)
-    are = rw (w .a-count, w .b-count) lines-are
-
-    pub holding : {maskB : List ℕ} → maskB ≡ bits (occursIn K buf₂ m (m + n)) 16
-        → Holding (w .a) (w .b) K kinds₂ buf₂ maskB (m + n)
-    holding y =
-        let hB : held K kinds₂ buf₂ m (m + n) ≡ w .b .constraints = rw (w .a-count, w .b-count) at (held-B K kinds₂ buf₂ (w .a .constraints) (w .b .constraints) are) in
-        record {
-          lines-are = lines-are;
-          bounded = rw total at (both-loaded .bounded (record { small = λ j h. absurd (omega arith) }));
-          b-tells = ap told y ∙ told-occurs K kinds₂ buf₂ m (m + n) 16 (omega arith) (w .high) ∙ ap occurs hB;
-        }
-
-    pub prepared : Space K (m + n) kinds buf → {maskB : List ℕ} → maskB ≡ bits (occursIn K buf₂ m (m + n)) 16
-        → Buffers K (m + n) kinds₂ buf₂ maskB
-    prepared s y = record { space = space-B q (space-A p s); b = ap length y ∙ length-bits (occursIn K buf₂ m (m + n)) 16 }
+    pub holding : Holding (w .a) (w .b) K kinds₂ buf₂ (m + n)
+    holding = record { lines-are = lines-are; bounded = rw total at (both-loaded .bounded (record { small = λ j h. absurd (omega arith) })) }

@@ -1,7 +1,6 @@
 -- The check stage by stage, over plain values: each refusal, the root, and that an accepted formula fits the scratch. Assumes nothing.
 use mathlib.Core.Path.{_≡_, refl, sym, ap, _∙_}
 use mathlib.Core.Option.{Option, none, some}
-use mathlib.Core.Bool.{Bool}
 use mathlib.Core.List.{List, [], _∷_, _++_}
 use Prim.Native.Nat.{ℕ, suc, _+_, _*_, _≤_, _<_}
 use native.Mathlib.Omega.{arith}
@@ -10,7 +9,7 @@ use lib.ListN.{length, getD, take, length-append}
 use lib.Seq.{sets, sets-eq, length-sets, take-at}
 use borrow.Author.Tests.{le-leb, lt-leb}
 use Rattle.forms.specs.Edition.{edition1}
-use Rattle.forms.specs.Forms.{Line, Formula, lines, occurs, All, nil, cons}
+use Rattle.forms.specs.Forms.{Line, Formula, lines, All, nil, cons}
 use Rattle.fields.specs.declared.Answer.{Answer}
 use Rattle.fields.specs.declared.FileKind.{FileKind}
 use Rattle.fields.specs.declared.header.Headed.{Headed}
@@ -26,7 +25,6 @@ use Rattle.bundle.proofs.Laid.{bundle-gives}
 use Rattle.bundle.proofs.Reading.{Taken, shaped, taken, not-taken}
 use Rattle.formula.specs.Formula.{encode, formulaFile}
 use Rattle.lines.specs.Buffer.{linesIn}
-use Rattle.lines.specs.Occurrence.{told}
 use Rattle.proof.specs.Check.{Closing, checkBranch, checkProof, interpolant, check}
 use Rattle.proof.proofs.Agree.{interpolant-iff}
 use Rattle.proof.proofs.Sizes.{written-reads-back}
@@ -92,7 +90,7 @@ module _ {A B P : List ℕ} (s : Short A B P) where
 -- ---- the root
 proof-root : (a b : Bundle) (K : ℕ) (fs rest : Fields) → a .K ≡ K → header FileKind.Proof fileProof (some K) fs ≡ accepted (record { edition = edition1; K = K; rest = rest })
     → checkProof a b fs
-    ≡ (checkBranch edition1 K (occurs (b .constraints)) 32 0 (lines (a .constraints) (b .constraints)) rest
+    ≡ (checkBranch edition1 K 32 0 (lines (a .constraints) (b .constraints)) rest
     >>= λ c. (finished FileKind.Proof fileProof (c .after) >> accepted (c .formula)))
 unfolding checkProof _>>=_
 proof-root a b K fs rest e h = rw (e, h)
@@ -105,7 +103,7 @@ module _ {A B P : List ℕ} {K m n at : ℕ} (g : Begun A B P K m n at) where
   b = g .both .b
 
   abbrev root : Result Closing
-  root = checkBranch edition1 K (occurs (b .constraints)) 32 0 (lines (a .constraints) (b .constraints)) (fieldsAt P at)
+  root = checkBranch edition1 K 32 0 (lines (a .constraints) (b .constraints)) (fieldsAt P at)
 
   begun-is : interpolant A B P ≡ ((root >>= λ c. (finished FileKind.Proof fileProof (c .after) >> accepted (c .formula))) >>= λ I. accepted (K, I))
   unfolding a b
@@ -135,20 +133,20 @@ pub all-bytes : (s : List ℕ) → ((i : ℕ) → getD s i 0 < 256) → All (λ 
 all-bytes [] h = nil
 all-bytes (x ∷ s) h = cons (h 0) (all-bytes s (λ i. h (suc i)))
 
-module _ {A B P : List ℕ} {K m n at : ℕ} (g : Begun A B P K m n at) {kinds : List ℕ} {buf : List ℤ} {maskB : List ℕ} (q : Prepared A B K kinds buf maskB m n) where
-  h : Holding (g .both .a) (g .both .b) K kinds buf maskB (m + n)
+module _ {A B P : List ℕ} {K m n at : ℕ} (g : Begun A B P K m n at) {kinds : List ℕ} {buf : List ℤ} (q : Prepared A B K kinds buf m n) where
+  h : Holding (g .both .a) (g .both .b) K kinds buf (m + n)
   h = q .holds (g .both)
 
-  same-root : checkBranch edition1 K (told maskB) 32 0 (linesIn K kinds buf (m + n)) (fieldsAt P at) ≡ root g
+  same-root : checkBranch edition1 K 32 0 (linesIn K kinds buf (m + n)) (fieldsAt P at) ≡ root g
   unfolding a b
-  same-root = rw (h .b-tells, h .lines-are)
+  same-root = rw (h .lines-are)
 
-  same-bytes : rooted K (told maskB) (linesIn K kinds buf (m + n)) (fieldsAt P at) ≡ (interpolant A B P >>= λ (k, I). accepted (formulaFile edition1 k I))
+  same-bytes : rooted K (linesIn K kinds buf (m + n)) (fieldsAt P at) ≡ (interpolant A B P >>= λ (k, I). accepted (formulaFile edition1 k I))
   same-bytes =
       ap (λ (x : Result Closing). x >>= λ c. finishing K (c .after) (encode edition1 (c .formula))) same-root
       ∙ sym (ap (λ (x : Result (ℕ × Formula)). x >>= λ (k, I). accepted (formulaFile edition1 k I)) (begun-is g) ∙ then-bytes K (root g))
 
-  pub checks-root : {out out′ : List ℕ} {r : Checked} → Roots K (told maskB) (linesIn K kinds buf (m + n)) P at out out′ r → Checks A B P out out′ r
+  pub checks-root : {out out′ : List ℕ} {r : Checked} → Roots K (linesIn K kinds buf (m + n)) P at out out′ r → Checks A B P out out′ r
   unfolding check
   checks-root {out} l = record { is = l .is ∙ ap (λ (R : Result (List ℕ)). written R out) same-bytes }
 
@@ -157,7 +155,7 @@ module _ {A B P : List ℕ} {K m n at : ℕ} (g : Begun A B P K m n at) {kinds :
   accepts c e f = begun-is g ∙ rw (e, f)
 
   pub fits-scratch : All (λ x. x < 256) A → All (λ x. x < 256) B → All (λ x. x < 256) P
-      → Fits K (told maskB) (linesIn K kinds buf (m + n)) P at
+      → Fits K (linesIn K kinds buf (m + n)) P at
   fits-scratch x y z = record {
     fits = λ c e f.
         let i = accepts c (sym same-root ∙ e) f in
@@ -166,13 +164,13 @@ module _ {A B P : List ℕ} {K m n at : ℕ} (g : Begun A B P K m n at) {kinds :
   }
 
 -- ---- each way from the root
-module _ {K : ℕ} {inB : ℕ → Bool} {ls : List Line} {P : List ℕ} {at : ℕ} where
-  pub root-fault : {out : List ℕ} {number place : ℕ} {r : Checked} → checkBranch edition1 K inB 32 0 ls (fieldsAt P at) ≡ refused (answer number 3 place) → r ≡ unwritten number 3 place
-      → Roots K inB ls P at out out r
+module _ {K : ℕ} {ls : List Line} {P : List ℕ} {at : ℕ} where
+  pub root-fault : {out : List ℕ} {number place : ℕ} {r : Checked} → checkBranch edition1 K 32 0 ls (fieldsAt P at) ≡ refused (answer number 3 place) → r ≡ unwritten number 3 place
+      → Roots K ls P at out out r
   unfolding _>>=_ written
   root-fault e q = record { is = rw (e, q) }
 
-  module _ (t : Fits K inB ls P at) (c : Closing) (e : checkBranch edition1 K inB 32 0 ls (fieldsAt P at) ≡ accepted c)
+  module _ (t : Fits K ls P at) (c : Closing) (e : checkBranch edition1 K 32 0 ls (fieldsAt P at) ≡ accepted c)
       (end o : ℕ) (after : c .after ≡ fieldsAt P end) (o-is : o ≡ length (encode edition1 (c .formula))) (S : List ℕ) {S′ : List ℕ} (len : Enough P at S) (within : o ≤ 78 * fieldsLeft P at)
       (stored : length (encode edition1 (c .formula)) ≤ length S → S′ ≡ sets S 0 (encode edition1 (c .formula))) where
     pub root-ended : Ended P end o S′
@@ -194,11 +192,11 @@ module _ {K : ℕ} {inB : ℕ → Bool} {ls : List Line} {P : List ℕ} {at : �
     same-end (refused z) f = refl
     same-end (accepted u) f = ap (λ (x : List ℕ). accepted (headerBytes K ++ x)) (bytes-are f)
 
-    rooted-is : finishing K (fieldsAt P end) (take o S′) ≡ rooted K inB ls (fieldsAt P at)
+    rooted-is : finishing K (fieldsAt P end) (take o S′) ≡ rooted K ls (fieldsAt P at)
     unfolding _>>=_
     rooted-is = same-end (finished FileKind.Proof fileProof (fieldsAt P end)) refl ∙ rw (e, after)
 
-    pub root-closed : {out out′ : List ℕ} {r : Checked} → Finishes K P end S′ o out out′ r → Roots K inB ls P at out out′ r
+    pub root-closed : {out out′ : List ℕ} {r : Checked} → Finishes K P end S′ o out out′ r → Roots K ls P at out out′ r
     root-closed {out} l = record { is = l .is ∙ ap (λ (R : Result (List ℕ)). written R out) rooted-is }
 
 -- ---- what the scans and the header tell
@@ -264,16 +262,15 @@ module _ {A B P : List ℕ} {K m n : ℕ} (s : Short A B P) (w : Both A B K m n)
       record { short = s; both = w; header-is = d ∙ ap (λ (x : ℕ). accepted (record { edition = edition1; K = x; rest = fieldsAt P next })) z }
 
 -- ---- what the root asks
-module _ {A B P : List ℕ} {K m n at : ℕ} (g : Begun A B P K m n at) {kinds : List ℕ} {buf : List ℤ} {maskB : List ℕ} (q : Prepared A B K kinds buf maskB m n) where
-  pub started : {in-b : List ℕ} → length in-b ≡ 16 → Spare K (m + n + fieldsLeft P at) buf
-      → Started K kinds buf in-b (tally 0 (m + n) 0) P at 0
-  started y spare = record {
+module _ {A B P : List ℕ} {K m n at : ℕ} (g : Begun A B P K m n at) {kinds : List ℕ} {buf : List ℤ} (q : Prepared A B K kinds buf m n) where
+  pub started : Spare K (m + n + fieldsLeft P at) buf
+      → Started K kinds buf (tally 0 (m + n) 0) P at 0
+  started spare = record {
     ready = record {
       branch = record { constants = g .both .high; room = spare .room (m + n) (few (g .both)) (omega arith); bounded = q .holds (g .both) .bounded };
-      room = q .buffers .space .kinds-room;
+      room = q .space .kinds-room;
       most = few (g .both);
     };
     spare = spare;
-    b-mask = omega (arith, g .both .high, y);
     room = omega (arith, fields-few P at, g .short .p);
   }

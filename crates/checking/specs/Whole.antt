@@ -1,13 +1,12 @@
 -- The stages of the check: what each asks of those before it, and what it leaves. Document 01, "Check". Assumes nothing.
 use mathlib.Core.Path.{_≡_}
 use mathlib.Core.Option.{none, some}
-use mathlib.Core.Bool.{Bool}
 use mathlib.Core.List.{List, _++_}
 use Prim.Native.Nat.{ℕ, _+_, _*_, _≤_}
 use lib.IntN.{ℤ}
 use lib.ListN.{length, take}
 use Rattle.forms.specs.Edition.{edition1}
-use Rattle.forms.specs.Forms.{Line, lines, occurs}
+use Rattle.forms.specs.Forms.{Line, lines}
 use Rattle.fields.specs.declared.FileKind.{FileKind}
 use Rattle.fields.specs.Answers.{fileA, fileB, fileProof, Result, accepted, _>>=_, _>>_, written}
 use Rattle.fields.specs.Fields.{Fields, fields}
@@ -16,7 +15,6 @@ use Rattle.fields.specs.Places.{fieldsAt}
 use Rattle.bundle.specs.Bundle.{Bundle, bundle}
 use Rattle.formula.specs.Formula.{encode}
 use Rattle.lines.specs.Buffer.{linesIn, Bounded}
-use Rattle.lines.specs.Occurrence.{told}
 use Rattle.proof.specs.Check.{Closing, checkBranch}
 use Rattle.branches.specs.Room.{fieldsLeft}
 use Rattle.checking.specs.Promises.{writtenOf}
@@ -44,20 +42,14 @@ pub record Both (A B : List ℕ) (K m n : ℕ) : Type 0 where
   pub a-few : m ≤ 32
   pub b-few : n ≤ 32
 
--- The buffers have room for c lines and for the mask.
-pub record Buffers (K c : ℕ) (kinds : List ℕ) (buf : List ℤ) (maskB : List ℕ) : Type 0 where
-  pub space : Space K c kinds buf
-  pub b : length maskB ≡ 16
-
--- The lines of both bundles are in the buffers, and the mask tells which constants occur in B.
-pub record Holding (a b : Bundle) (K : ℕ) (kinds : List ℕ) (buf : List ℤ) (maskB : List ℕ) (count : ℕ) : Type 0 where
+-- The lines of both bundles are in the buffers.
+pub record Holding (a b : Bundle) (K : ℕ) (kinds : List ℕ) (buf : List ℤ) (count : ℕ) : Type 0 where
   pub lines-are : linesIn K kinds buf count ≡ lines (a .constraints) (b .constraints)
   pub bounded : Bounded K buf count
-  pub b-tells : told maskB ≡ occurs (b .constraints)
 
-pub record Prepared (A B : List ℕ) (K : ℕ) (kinds : List ℕ) (buf : List ℤ) (maskB : List ℕ) (m n : ℕ) : Type 0 where
-  pub holds : (both : Both A B K m n) → Holding (both .a) (both .b) K kinds buf maskB (m + n)
-  pub buffers : Buffers K (m + n) kinds buf maskB
+pub record Prepared (A B : List ℕ) (K : ℕ) (kinds : List ℕ) (buf : List ℤ) (m n : ℕ) : Type 0 where
+  pub holds : (both : Both A B K m n) → Holding (both .a) (both .b) K kinds buf (m + n)
+  pub space : Space K (m + n) kinds buf
 
 -- The proof's header is read too, and what follows it starts at a place.
 pub record Begun (A B P : List ℕ) (K m n at : ℕ) : Type 0 where
@@ -70,8 +62,8 @@ abbrev pub finishing : (K : ℕ) → Fields → List ℕ → Result (List ℕ)
 finishing K fs bytes = finished FileKind.Proof fileProof fs >> accepted (headerBytes K ++ bytes)
 
 -- The root, what follows it, and the formula's file.
-abbrev pub rooted : (K : ℕ) (inB : ℕ → Bool) → List Line → Fields → Result (List ℕ)
-rooted K inB ls fs = checkBranch edition1 K inB (edition1 .strengthens) 0 ls fs >>= λ c. finishing K (c .after) (encode edition1 (c .formula))
+abbrev pub rooted : (K : ℕ) → List Line → Fields → Result (List ℕ)
+rooted K ls fs = checkBranch edition1 K (edition1 .strengthens) 0 ls fs >>= λ c. finishing K (c .after) (encode edition1 (c .formula))
 
 -- The answer, the count and the output, from each of these places on.
 pub record Delivers (K : ℕ) (scratch : List ℕ) (o : ℕ) (out out′ : List ℕ) (r : Checked) : Type 0 where
@@ -80,12 +72,12 @@ pub record Delivers (K : ℕ) (scratch : List ℕ) (o : ℕ) (out out′ : List 
 pub record Finishes (K : ℕ) (P : List ℕ) (at : ℕ) (scratch : List ℕ) (o : ℕ) (out out′ : List ℕ) (r : Checked) : Type 0 where
   pub is : writtenOf r out′ ≡ written (finishing K (fieldsAt P at) (take o scratch)) out
 
-pub record Roots (K : ℕ) (inB : ℕ → Bool) (ls : List Line) (P : List ℕ) (at : ℕ) (out out′ : List ℕ) (r : Checked) : Type 0 where
-  pub is : writtenOf r out′ ≡ written (rooted K inB ls (fieldsAt P at)) out
+pub record Roots (K : ℕ) (ls : List Line) (P : List ℕ) (at : ℕ) (out out′ : List ℕ) (r : Checked) : Type 0 where
+  pub is : writtenOf r out′ ≡ written (rooted K ls (fieldsAt P at)) out
 
 -- A formula that the check accepts has 65,536 bytes at most.
-pub record Fits (K : ℕ) (inB : ℕ → Bool) (ls : List Line) (P : List ℕ) (at : ℕ) : Type 0 where
-  pub fits : (c : Closing) → checkBranch edition1 K inB (edition1 .strengthens) 0 ls (fieldsAt P at) ≡ accepted c → finished FileKind.Proof fileProof (c .after) ≡ accepted tt
+pub record Fits (K : ℕ) (ls : List Line) (P : List ℕ) (at : ℕ) : Type 0 where
+  pub fits : (c : Closing) → checkBranch edition1 K (edition1 .strengthens) 0 ls (fieldsAt P at) ≡ accepted c → finished FileKind.Proof fileProof (c .after) ≡ accepted tt
       → length (encode edition1 (c .formula)) ≤ 65536
 
 -- A scratch of that length does, and so does one with 78 bytes for each field of the proof.

@@ -21,12 +21,12 @@ ghost use lib.ListN.{length, take};
 ghost use lib.Seq.{paste};
 ghost use Rattle.fields.specs.Answers.{answer};
 ghost use Rattle.lines.specs.Buffer.{size, linesIn};
-ghost use Rattle.lines.specs.Occurrence.{told};
 ghost use Rattle.rows.specs.Tally.{tally};
 ghost use Rattle.branches.specs.Room.{fieldsLeft, Spare};
 ghost use Rattle.branches.specs.Branching.{Started};
 ghost use Rattle.checking.specs.Promises.{Checks};
-ghost use Rattle.checking.specs.Whole.{Short, Both, Buffers, Prepared, Begun, Ended, Delivers, Finishes, Roots, Fits, Enough};
+ghost use Rattle.checking.specs.Load.{Space};
+ghost use Rattle.checking.specs.Whole.{Short, Both, Prepared, Begun, Ended, Delivers, Finishes, Roots, Fits, Enough};
 
 // What checking answers: the bytes written, 0 where it is refused.
 #[repr(C)]
@@ -93,29 +93,17 @@ fn finish(proof: &[u8], at: usize, scratch: &[u8], o: usize, k: u8, out: &mut [u
     }
 }
 
-// The lines of A and B, and the mask of the constants that occur in B.
-fn prepare(
-    a: &[u8],
-    b: &[u8],
-    k: u8,
-    m: usize,
-    n: usize,
-    lines: &mut [i64],
-    kinds: &mut [u8],
-    in_b: &mut [u8],
-)
+// The lines of A and B.
+fn prepare(a: &[u8], b: &[u8], k: u8, m: usize, n: usize, lines: &mut [i64], kinds: &mut [u8])
     requires { ⌜ Both (now a) (now b) k m n ⌝ }
-    requires { ⌜ Buffers k (m + n) (now kinds) (now lines) (now in_b) ⌝ }
-    ensures { λ _. ⌜ Prepared (now (a .entry)) (now (b .entry)) k (now (kinds .exit)) (now (lines .exit)) (now (in_b .exit)) m n ⌝ }
+    requires { ⌜ Space k (m + n) (now kinds) (now lines) ⌝ }
+    ensures { λ _. ⌜ Prepared (now (a .entry)) (now (b .entry)) k (now (kinds .exit)) (now (lines .exit)) m n ⌝ }
 {
     load(a, 0, true, lines, kinds, 0);
     load(b, k, false, lines, kinds, m);
-    let constants = k as usize;
-    let count = m + n;
-    lines::occurrences(lines, m, count, constants, in_b);
 }
 
-// The root, from a place of the proof on, and all that follows. The buffers hold the lines and the mask, and the scratch takes the formula.
+// The root, from a place of the proof on, and all that follows. The buffers hold the lines, and the scratch takes the formula.
 fn check_root(
     proof: &[u8],
     at: usize,
@@ -123,14 +111,13 @@ fn check_root(
     count: usize,
     lines: &mut [i64],
     kinds: &mut [u8],
-    in_b: &[u8],
     scratch: &mut [u8],
     out: &mut [u8],
 ) -> Checked
-    requires { ⌜ Started k (now kinds) (now lines) (now in_b) (tally 0 count 0) (now proof) at 0 ⌝ }
-    requires { ⌜ Fits k (told (now in_b)) (linesIn k (now kinds) (now lines) count) (now proof) at ⌝ }
+    requires { ⌜ Started k (now kinds) (now lines) (tally 0 count 0) (now proof) at 0 ⌝ }
+    requires { ⌜ Fits k (linesIn k (now kinds) (now lines) count) (now proof) at ⌝ }
     requires { ⌜ Enough (now proof) at (now scratch) ⌝ }
-    ensures { λ r. ⌜ Roots k (told (now (in_b .entry))) (linesIn k (now (kinds .entry)) (now (lines .entry)) count) (now (proof .entry)) at (now (out .entry)) (now (out .exit)) r ⌝ }
+    ensures { λ r. ⌜ Roots k (linesIn k (now (kinds .entry)) (now (lines .entry)) count) (now (proof .entry)) at (now (out .entry)) (now (out .exit)) r ⌝ }
 {
     let rows = Row(0);
     let made = Line(count as u16);
@@ -139,7 +126,7 @@ fn check_root(
         lines: made,
         open: 0,
     };
-    match check_branch(proof, at, lines, kinds, tally, k as usize, in_b, scratch, 0) {
+    match check_branch(proof, at, lines, kinds, tally, k as usize, scratch, 0) {
         Branched::Fault { number, at: place } => refusal(number, 3, place),
         Branched::Closed {
             at: end,
@@ -168,9 +155,8 @@ fn check_within(
     ensures { λ r. ⌜ Checks (now (a .entry)) (now (b .entry)) (now (proof .entry)) (now (out .entry)) (now (out .exit)) r ⌝ }
 {
     let mut kinds = [0u8; 128];
-    let mut in_b = [0u8; 16];
-    prepare(a, b, k, m, n, lines, &mut kinds, &mut in_b);
-    check_root(proof, at, k, m + n, lines, &mut kinds, &in_b, scratch, out)
+    prepare(a, b, k, m, n, lines, &mut kinds);
+    check_root(proof, at, k, m + n, lines, &mut kinds, scratch, out)
 }
 
 // An array is cleared before it is used, which takes longer than the check of a short proof, so a short proof is given little.

@@ -1,18 +1,18 @@
 -- Writing the bytes of a formula: one turn of the loops, and each way through the functions. Assumes nothing.
 use mathlib.Core.Path.{_≡_, refl, sym, ap, _∙_}
-use mathlib.Core.Bool.{Bool, true, false, cond}
-use mathlib.Core.Logic.{⊎-elim}
-use mathlib.Core.List.{List, [], _∷_, _++_}
-use Prim.Native.Nat.{ℕ, suc, _+_, _*_, _-_, _≤_, _<_}
-use native.Mathlib.Nat.{eq-zero-or-pos}
+use mathlib.Core.List.{List, [], _∷_, _++_, map}
+use Prim.Native.Nat.{ℕ, zero, suc, _+_, _*_, _-_, _≤_, _<_}
 use native.Mathlib.Omega.{arith}
 use lib.IntN.{ℤ, pos, negsuc, natAbs}
-use lib.ListN.{length, getD, drop, drop-of-length-le, length-drop, length-append}
+use lib.ListN.{length, getD, drop, drop-of-length-le, length-drop, length-append, length-map}
 use lib.Seq.{sets, length-sets, drop-cons, length-take-le}
 use Rattle.integers.specs.Magnitude.{Within}
-use lib.Signed.{mag}
+use lib.Signed.{mag, _≤ℤ_}
+use Rattle.integers.specs.Linear.{ints}
+use Rattle.integers.specs.Remainder.{remainder, remainder-below}
 use Rattle.forms.specs.Edition.{edition1}
-use Rattle.forms.specs.Forms.{Kind, ≤0, =0, Form, literal, _divides_, within, rest}
+use Rattle.forms.specs.Forms.{Kind, ≤0, =0, Form, literal, _divides_}
+use Rattle.forms.specs.Reduced.{reduced}
 use Rattle.fields.specs.Fields.{fieldBytes}
 use Rattle.fields.specs.Numbers.{unsignedBytes, signedBytes, signedsBytes, flat, formBytes}
 use Rattle.fields.specs.Ranges.{Held}
@@ -21,11 +21,10 @@ use Rattle.fields.proofs.Signed.{length-formBytes, length-signedBytes}
 use Rattle.formula.specs.Formula.{encode}
 use Rattle.bundle.proofs.Putting.{put-field}
 use Rattle.fields.proofs.Framing.{length-fieldBytes as field-size}
-use Rattle.calculus.proofs.Readings.{length-only}
 use Rattle.lines.specs.Parts.{part, getD-part}
 use Rattle.lines.specs.Buffer.{formIn, kindOf}
-use Rattle.lines.specs.Restrict.{flat-form, restricted-coeff, restricted-last}
-use Rattle.closes.specs.Formulas.{Numbered, Heads, Puts}
+use Rattle.lines.specs.Range.{part-form}
+use Rattle.closes.specs.Formulas.{Numbered, Stride, Heads, Puts}
 use Rattle.closes.proofs.Closes.{kind-zero, kind-one}
 
 -- ---- numbers
@@ -39,35 +38,44 @@ held {z} h = record { held = record { half = omega (arith, mag-abs z, h .abs) } 
 pub held-small : {z : ℤ} → Within 65535 z → Held 4 z
 held-small {z} h = record { held = record { half = omega (arith, mag-abs z, h .abs) } }
 
+-- A remainder is below g, and g has two bytes.
+pub held-remainder : {g : ℤ} → Stride g → (z : ℤ) → Held 4 (pos (remainder (natAbs g) z))
+held-remainder {g} s z = held-small (record { abs = omega (arith, remainder-below {g = natAbs g} (omega (arith, s .low)) z, s .multiplies .within .abs) })
+
+pub two-at-least : {g : ℤ} → Stride g → pos 2 ≤ℤ g
+two-at-least {g} s = rw (s .multiplies .is) (omega (ints, s .low))
+
+mapped : (f : ℤ → ℤ) (l : List ℤ) (d : ℤ) (x : ℕ) → x ≤ length l → getD (map f l ++ (f d ∷ [])) x (pos 0) ≡ f (getD (l ++ (d ∷ [])) x (pos 0))
+mapped f [] d zero h = refl
+mapped f [] d (suc x) h = absurd (omega arith)
+mapped f (c ∷ l) d zero h = refl
+mapped f (c ∷ l) d (suc x) h = mapped f l d x (omega arith)
+
 module _ {K : ℕ} {buf : List ℤ} {at : ℕ} (n : Numbered K buf at) where
   pub coeffs-long : length (formIn K buf at .coeffs) ≡ K
   coeffs-long = length-take-le K (drop at buf) (simp length-drop (omega (arith, n .room)))
 
-  pub within-long : (p : ℕ → Bool) → length (within p (formIn K buf at) .coeffs) ≡ K
-  unfolding within
-  within-long p = length-only p (part at K buf) ∙ coeffs-long
+  pub reduced-long : (g : ℕ) → length (reduced g (formIn K buf at) .coeffs) ≡ K
+  unfolding reduced
+  reduced-long g = length-map (part at K buf) (λ (c : ℤ). pos (remainder g c)) ∙ coeffs-long
 
   pub form-long : length (flat (formIn K buf at)) ≡ K + 1
   unfolding flat
   form-long = length-append (formIn K buf at .coeffs) (formIn K buf at .d ∷ []) ∙ rw coeffs-long
 
-  pub restricted-long : (p : ℕ → Bool) → length (flat (within p (formIn K buf at))) ≡ K + 1
+  pub reduced-form-long : (g : ℕ) → length (flat (reduced g (formIn K buf at))) ≡ K + 1
   unfolding flat
-  restricted-long p = length-append (within p (formIn K buf at) .coeffs) (within p (formIn K buf at) .d ∷ []) ∙ rw (within-long p)
+  reduced-form-long g = length-append (reduced g (formIn K buf at) .coeffs) (reduced g (formIn K buf at) .d ∷ []) ∙ rw (reduced-long g)
 
   pub form-number : (x : ℕ) → x ≤ K → getD (flat (formIn K buf at)) x (pos 0) ≡ getD buf (at + x) (pos 0)
-  form-number x h = rw (flat-form K buf at (n .room)) (getD-part at (K + 1) buf x (pos 0) (omega arith))
+  unfolding flat
+  form-number x h = ap (λ (l : List ℤ). getD l x (pos 0)) (sym (part-form at K buf (n .room))) ∙ getD-part at (K + 1) buf x (pos 0) (omega arith)
 
-  small-cond : (b : Bool) {z : ℤ} → Within 2147483647 z → Within 2147483647 (cond b z (pos 0))
-  small-cond true h = h
-  small-cond false h = record { abs = omega arith }
-
-  pub restricted-small : (p : ℕ → Bool) (x : ℕ) → x ≤ K → Within 2147483647 (getD (flat (within p (formIn K buf at))) x (pos 0))
-  restricted-small p x h =
-      ⊎-elim
-      (λ (g : K - x ≡ 0). let e : x ≡ K = omega arith in rw (e, restricted-last p K buf at (n .room)) (n .small K (omega arith)))
-      (λ (l : 0 < K - x). rw (restricted-coeff p K buf at (n .room) x (omega arith)) (small-cond (p x) (n .small x h)))
-      (eq-zero-or-pos (K - x))
+  pub reduced-number : (g x : ℕ) → x ≤ K → getD (flat (reduced g (formIn K buf at))) x (pos 0) ≡ pos (remainder g (getD buf (at + x) (pos 0)))
+  unfolding flat reduced
+  reduced-number g x h =
+      mapped (λ (c : ℤ). pos (remainder g c)) (part at K buf) (getD buf (at + K) (pos 0)) x (omega (arith, coeffs-long))
+      ∙ ap (λ (c : ℤ). pos (remainder g c)) (form-number x h)
 
 -- ---- the loops
 -- What is left to write gives what the whole gives.
@@ -145,11 +153,11 @@ module _ {K : ℕ} {buf : List ℤ} {at : ℕ} (n : Numbered K buf at) where
     stored = λ _. rw (kind-one h) (put-field out o 0x34 (4 * (K + 1)) (formBytes 4 (formIn K buf at)) w₁ w₂ (omega (arith, length-formBytes 4 K (formIn K buf at) (coeffs-long n))));
   }
 
-  module _ (p : ℕ → Bool) (g : ℕ) where
-    pub stride-size : length (encode edition1 (g divides within p (formIn K buf at))) ≡ 7 + 4 * (K + 1)
-    stride-size = length-stride g (within p (formIn K buf at)) ∙ omega (arith, length-formBytes 4 K (within p (formIn K buf at)) (within-long n p))
+  module _ (g : ℕ) where
+    pub stride-size : length (encode edition1 (g divides reduced g (formIn K buf at))) ≡ 7 + 4 * (K + 1)
+    stride-size = length-stride g (reduced g (formIn K buf at)) ∙ omega (arith, length-formBytes 4 K (reduced g (formIn K buf at)) (reduced-long n g))
 
-    pub stride-out : {out : List ℕ} {o o′ : ℕ} → o′ ≡ o + 3 + 4 * (K + 2) → length out < o′ → Puts out o (g divides within p (formIn K buf at)) out o′
+    pub stride-out : {out : List ℕ} {o o′ : ℕ} → o′ ≡ o + 3 + 4 * (K + 2) → length out < o′ → Puts out o (g divides reduced g (formIn K buf at)) out o′
     stride-out e h = record {
       long = refl;
       o-is = omega (arith, stride-size);
@@ -157,16 +165,16 @@ module _ {K : ℕ} {buf : List ℤ} {at : ℕ} (n : Numbered K buf at) where
     }
 
     pub stride-in : {z : ℤ} {o o′ : ℕ} {out out₁ out₂ out₃ : List ℕ} → z ≡ pos g → o′ ≡ o + 3 + 4 * (K + 2) → out₁ ≡ sets out o (0x35 ∷ unsignedBytes 2 (4 * (K + 2)))
-        → out₂ ≡ sets out₁ (o + 3) (signedBytes 4 z) → out₃ ≡ sets out₂ (o + 7) (formBytes 4 (within p (formIn K buf at))) → length out₃ ≡ length out
-        → Puts out o (g divides within p (formIn K buf at)) out₃ o′
+        → out₂ ≡ sets out₁ (o + 3) (signedBytes 4 z) → out₃ ≡ sets out₂ (o + 7) (formBytes 4 (reduced g (formIn K buf at))) → length out₃ ≡ length out
+        → Puts out o (g divides reduced g (formIn K buf at)) out₃ o′
     unfolding encode
     stride-in {z} {o = o} {out = out} {out₁ = out₁} ez e w₁ w₂ w₃ l =
-        let f = formBytes 4 (within p (formIn K buf at)) in
+        let f = formBytes 4 (reduced g (formIn K buf at)) in
         let s : o + 7 ≡ o + 3 + 4 = omega arith in
         let both : sets (sets out₁ (o + 3) (signedBytes 4 (pos g))) (o + 7) f ≡ sets out₁ (o + 3) (signedBytes 4 (pos g) ++ f)
         = sym (sets-append (signedBytes 4 (pos g)) f out₁ (o + 3) ∙ rw (length-signedBytes 4 (pos g), s)) in
         let size : length (signedBytes 4 (pos g) ++ f) ≡ 4 * (K + 2)
-        = length-append (signedBytes 4 (pos g)) f ∙ omega (arith, length-signedBytes 4 (pos g), length-formBytes 4 K (within p (formIn K buf at)) (within-long n p)) in
+        = length-append (signedBytes 4 (pos g)) f ∙ omega (arith, length-signedBytes 4 (pos g), length-formBytes 4 K (reduced g (formIn K buf at)) (reduced-long n g)) in
         record {
           long = l;
           o-is = omega (arith, stride-size);

@@ -1,18 +1,20 @@
 -- The rows that close a branch and the row that splits it, one way after the other. Assumes nothing.
 use mathlib.Core.Path.{_≡_, refl, sym, ap, subst, _∙_}
-use mathlib.Core.Bool.{Bool, true, false, _&&_}
+use mathlib.Core.Bool.{Bool, true, false, not, _&&_}
 use mathlib.Core.Logic.{⊎-elim}
 use mathlib.Core.List.{List}
 use Prim.Native.Nat.{ℕ, suc, _+_, _*_, _-_, _≤_, _<_}
 use native.Mathlib.Nat.{eq-zero-or-pos}
+use native.Mathlib.Decide.{ℕ-discrete}
 use native.Mathlib.Numerals.{add-one}
 use native.Mathlib.Omega.{arith}
 use lib.Dec.{T, ltb}
 use lib.ListN.{length, getD, set, length-set}
 use lib.IntN.{ℤ}
-use borrow.Author.Tests.{lt-ltb, le-ltb, ltb-true, ltb-false}
+use borrow.Author.Tests.{lt-ltb, le-ltb, lt-leb, ltb-true, ltb-false}
 use Rattle.forms.specs.Edition.{edition1}
-use Rattle.forms.specs.Forms.{≤0, Line, literal, _divides_, within, _and_, _or_, _plus_}
+use Rattle.forms.specs.Forms.{≤0, Line, literal, _divides_, _and_, _or_, _plus_}
+use Rattle.forms.specs.Reduced.{reduced}
 use Rattle.calculus.specs.Rules.{_▷_, small, inRange}
 use Rattle.fields.specs.Answers.{Result, refused, accepted, _>>=_, _>>_, need, found}
 use Rattle.fields.specs.Fields.{Fields}
@@ -23,7 +25,6 @@ use Rattle.lines.specs.Range.{bounded-more, bounded-line}
 use Rattle.lines.specs.Branch.{kind-stored, inequality-byte}
 use Rattle.lines.specs.Strengthen.{length-both, both-keeps, both-line, first-range}
 use Rattle.lines.specs.Next.{first-branch}
-use Rattle.lines.specs.Occurrence.{told}
 use Rattle.proof.specs.Rows.{is, lineAt, inequality, fitting, byNumber, byStride}
 use Rattle.proof.specs.Check.{Closing, Next, refusal, checkRow, checkBranch}
 use Rattle.rows.specs.Tally.{tally, lineCounted, openCounted}
@@ -43,7 +44,7 @@ use Rattle.rows.proofs.Counting.{counted-made, counted-full}
 use Rattle.rows.proofs.Deriving.{kept-refl, counted-line, full-line}
 use Rattle.rows.proofs.Testing.{kind-≤, kind-=}
 use Rattle.closes.proofs.Closes.{number-none}
-use Rattle.closes.proofs.Strides.{stride-none}
+use Rattle.closes.proofs.Strides.{stride-none, stride-kind, stride-small}
 use Rattle.closes.proofs.Scratch.{literal-size, stride-size}
 
 -- ---- the rows that close
@@ -67,17 +68,28 @@ module _ {K : ℕ} {kinds : List ℕ} {buf : List ℤ} {t : Tally} {i : ℕ} whe
   pub stride-there : {g : ℕ} → ByStride K kinds buf t i g test.Passed → i < t .lines .0
   stride-there {g} b =
       ⊎-elim
-      (λ (z : t .lines .0 - i ≡ 0). absurd (never (sym (stride-none K kinds buf t i g (omega arith) .by (λ _. true) 0) ∙ b .by (λ _. true) 0)))
+      (λ (z : t .lines .0 - i ≡ 0). absurd (never (sym (stride-none K kinds buf t i g (omega arith) .by 0) ∙ b .by 0)))
       (λ (l : 0 < t .lines .0 - i). omega arith)
       (eq-zero-or-pos (t .lines .0 - i))
+
+  pub stride-two : {g : ℕ} → ByStride K kinds buf t i g test.Passed → 2 ≤ g
+  stride-two {g} b =
+      ⊎-elim
+      (λ (z : 2 - g ≡ 0). omega arith)
+      (λ (l : 0 < 2 - g). absurd (no-test (omega arith) (ℕ-discrete (getD kinds i 0) 0)))
+      (eq-zero-or-pos (2 - g))
+    where
+      no-test : g < 2 → Dec (getD kinds i 0 ≡ 0) → ⊥
+      no-test l (yes e) = never (sym (stride-kind K kinds buf t i g (stride-there b) e .by 0) ∙ b .by 0)
+      no-test l (no d) = never (sym (stride-small K kinds buf t i g (stride-there b) d refl (ap not (lt-leb 2 g l)) .by 0) ∙ b .by 0)
 
   pub number-refused : {r : Test} {x : ℕ} (o : ℕ) (scratch : List ℕ) → ByNumber K kinds buf t i r → r ≡ test.Refused x
       → EndedBy (λ at. byNumber (refusal at) (linesIn K kinds buf (t .lines .0)) i) scratch o scratch (ended.Refused x)
   number-refused o scratch b e = ((rw e at b) .by, refl)
 
-  pub stride-refused : {g : ℕ} {r : Test} {x : ℕ} (inB : List ℕ) (o : ℕ) (scratch : List ℕ) → ByStride K kinds buf t i g r → r ≡ test.Refused x
-      → EndedBy (λ at. byStride (refusal at) (linesIn K kinds buf (t .lines .0)) (told inB) i g) scratch o scratch (ended.Refused x)
-  stride-refused inB o scratch b e = ((rw e at b) .by (told inB), refl)
+  pub stride-refused : {g : ℕ} {r : Test} {x : ℕ} (o : ℕ) (scratch : List ℕ) → ByStride K kinds buf t i g r → r ≡ test.Refused x
+      → EndedBy (λ at. byStride (refusal at) (linesIn K kinds buf (t .lines .0)) i g) scratch o scratch (ended.Refused x)
+  stride-refused o scratch b e = ((rw e at b) .by, refl)
 
   module _ (r : Ready K kinds buf (t .lines .0)) {x : ℕ} (ex : x ≡ i * size K + (K + 1)) {scratch scratch′ : List ℕ} {o o′ : ℕ} where
     pub number-written : {q : Test} {kind : ℕ} → ByNumber K kinds buf t i q → q ≡ test.Passed → kind ≡ getD kinds i 0
@@ -94,18 +106,18 @@ module _ {K : ℕ} {kinds : List ℕ} {buf : List ℤ} {t : Tally} {i : ℕ} whe
           short = omega (arith, p .o-is, literal-size n (kindOf kind), n .constants);
         }
 
-    pub stride-written : {g : ℕ} {q : Test} (inB : List ℕ) → ByStride K kinds buf t i g q → q ≡ test.Passed
-        → Puts scratch o (g divides within (told inB) (formIn K buf x)) scratch′ o′
-        → EndedBy (λ at. byStride (refusal at) (linesIn K kinds buf (t .lines .0)) (told inB) i g) scratch o scratch′ (ended.Written o′)
+    pub stride-written : {g : ℕ} {q : Test} → ByStride K kinds buf t i g q → q ≡ test.Passed
+        → Puts scratch o (g divides reduced g (formIn K buf x)) scratch′ o′
+        → EndedBy (λ at. byStride (refusal at) (linesIn K kinds buf (t .lines .0)) i g) scratch o scratch′ (ended.Written o′)
     unfolding lineIn
-    stride-written {g} inB b e p =
+    stride-written {g} b e p =
         let b′ = rw e at b in
         let n = numbered r (stride-there b′) ex in
         record {
-          formula = g divides within (told inB) (lineIn K kinds buf i .tA);
-          is = b′ .by (told inB);
+          formula = g divides reduced g (lineIn K kinds buf i .tA);
+          is = b′ .by;
           puts = rw (← ex) p;
-          short = omega (arith, p .o-is, stride-size n (told inB) g, n .constants);
+          short = omega (arith, p .o-is, stride-size n g, n .constants);
         }
 
 -- ---- the row that splits
@@ -160,35 +172,35 @@ three-joined (accepted x) second third = last-two (second (x .rows) (x .after))
 module _ {K : ℕ} {kinds : List ℕ} {buf : List ℤ} (t : Tally) (i : ℕ) (ready : Ready K kinds buf (t .lines .0)) where
   pub split-none : t .lines .0 ≤ i → Splits K kinds buf t i kinds buf (Refused 10)
   unfolding checkRow inequality lineAt _>>=_ found
-  split-none h = record { kept = kept-refl; by = λ inB next at rows fs. rw (line-past K kinds buf (t .lines .0) i h) }
+  split-none h = record { kept = kept-refl; by = λ next at rows fs. rw (line-past K kinds buf (t .lines .0) i h) }
 
   module _ (hi : i < t .lines .0) where
     pub split-kind : (getD kinds i 0 ≡ 0 → ⊥) → Splits K kinds buf t i kinds buf (Refused 11)
     unfolding checkRow inequality lineAt _>>=_ _>>_ found need is
-    split-kind h = record { kept = kept-refl; by = λ inB next at rows fs. rw (line-at K kinds buf (t .lines .0) i hi, kind-= K kinds buf i h) }
+    split-kind h = record { kept = kept-refl; by = λ next at rows fs. rw (line-at K kinds buf (t .lines .0) i hi, kind-= K kinds buf i h) }
 
     module _ (hk : getD kinds i 0 ≡ 0) where
       pub split-open : 32 ≤ t .«open» → Splits K kinds buf t i kinds buf (Refused 17)
       unfolding checkRow inequality lineAt _>>=_ _>>_ found need is
       split-open h =
           let z : 32 - t .«open» ≡ 0 = omega arith in
-          record { kept = kept-refl; by = λ inB next at rows fs. rw (line-at K kinds buf (t .lines .0) i hi, kind-≤ K kinds buf i hk, z) }
+          record { kept = kept-refl; by = λ next at rows fs. rw (line-at K kinds buf (t .lines .0) i hi, kind-≤ K kinds buf i hk, z) }
 
       module _ (ho : t .«open» < 32) where
-        tests : (inB : ℕ → Bool) (next : Next) (at rows : ℕ) (fs : Fields) → strengthened K kinds buf t i inB next at rows fs
+        tests : (next : Next) (at rows : ℕ) (fs : Fields) → strengthened K kinds buf t i next at rows fs
             ≡ (fitting (refusal at) (linesIn K kinds buf (t .lines .0)) edition1 (firstLine (lineIn K kinds buf i))
-            >> three (checkBranch edition1 K inB (31 - t .«open»)) (linesIn K kinds buf (t .lines .0)) (lineIn K kinds buf i) (suc rows) fs)
+            >> three (checkBranch edition1 K (31 - t .«open»)) (linesIn K kinds buf (t .lines .0)) (lineIn K kinds buf i) (suc rows) fs)
         unfolding checkRow inequality lineAt _>>=_ _>>_ found need is
-        tests inB next at rows fs =
+        tests next at rows fs =
             let z : 32 - t .«open» ≡ suc (31 - t .«open») = omega arith in
-            let branch = checkBranch edition1 K inB (31 - t .«open») in
+            let branch = checkBranch edition1 K (31 - t .«open») in
             let ls = linesIn K kinds buf (t .lines .0) in
             let l = lineIn K kinds buf i in
             rw (line-at K kinds buf (t .lines .0) i hi, kind-≤ K kinds buf i hk, z, three-joined (branch (suc rows) (ls ▷ firstLine l) fs) (λ rows fs. branch rows (ls ▷ secondLine l) fs) (λ rows fs. branch rows (ls ▷ thirdLine l) fs))
 
         pub split-full : 128 ≤ t .lines .0 → Splits K kinds buf t i kinds buf (Refused 16)
         unfolding fitting _>>_ need
-        split-full h = record { kept = kept-refl; by = λ inB next at rows fs. tests inB next at rows fs ∙ rw (length-lines K kinds buf (t .lines .0), le-ltb (t .lines .0) 128 h) }
+        split-full h = record { kept = kept-refl; by = λ next at rows fs. tests next at rows fs ∙ rw (length-lines K kinds buf (t .lines .0), le-ltb (t .lines .0) 128 h) }
 
         module _ (space : t .lines .0 < 128) {kinds′ : List ℕ} {buf′ : List ℤ} (strengthens : buf′ ≡ strengthenedBoth K i (t .lines .0) buf) (sets : kinds′ ≡ set kinds (t .lines .0) 0) where
           copy : LineCopy K buf i (t .lines .0)
@@ -233,7 +245,7 @@ module _ {K : ℕ} {kinds : List ℕ} {buf : List ℤ} (t : Tally) (i : ℕ) (re
             unfolding fitting _>>_ need
             split-range e = record {
               kept = split-kept;
-              by = λ inB next at rows fs. tests inB next at rows fs ∙ rw (length-lines K kinds buf (t .lines .0), lt-ltb (t .lines .0) 128 space, ← last, range, e);
+              by = λ next at rows fs. tests next at rows fs ∙ rw (length-lines K kinds buf (t .lines .0), lt-ltb (t .lines .0) 128 space, ← last, range, e);
             }
 
             pub split-made : {t′ : Tally} → b ≡ true → t′ ≡ tally (t .rows .0) (t .lines .0 + 1) (t .«open» + 1) → Splits K kinds buf t i kinds′ buf′ (Made t′)
@@ -241,7 +253,7 @@ module _ {K : ℕ} {kinds : List ℕ} {buf : List ℤ} (t : Tally) (i : ℕ) (re
             split-made e u = record {
               kept = split-kept;
               by = record {
-                is = λ inB next at rows fs. tests inB next at rows fs ∙ rw (length-lines K kinds buf (t .lines .0), lt-ltb (t .lines .0) 128 space, ← last, range, e);
+                is = λ next at rows fs. tests next at rows fs ∙ rw (length-lines K kinds buf (t .lines .0), lt-ltb (t .lines .0) 128 space, ← last, range, e);
                 longer = longer-from ready space split-kept next-lines last (subst (λ (l : Line). T (inRange 2147483647 l)) last (subst T (sym (range ∙ e)) tt));
                 tally-is = u;
                 copy = copy;

@@ -1,6 +1,5 @@
 -- How a branch ends: by a row that closes it, with its formula's bytes, or by one that splits it. Document 01, "The rows". Assumes nothing.
 use mathlib.Core.Path.{_≡_}
-use mathlib.Core.Bool.{Bool}
 use mathlib.Core.List.{List}
 use mathlib.Core.Option.{Option, none, some}
 use Prim.Native.Nat.{ℕ, zero, suc, _+_, _-_, _<_, _≤_}
@@ -37,9 +36,9 @@ EndedBy f scratch o scratch′ (ended-of.Written o′) = Wrote f scratch o scrat
 
 -- ---- a row that splits it
 -- What checks the branches that a branch opens, if so many more may be open.
-abbrev pub below : (K : ℕ) (inB : ℕ → Bool) (room : ℕ) → Option Checker
-below K inB zero = none
-below K inB (suc room) = some (checkBranch edition1 K inB room)
+abbrev pub below : (K : ℕ) (room : ℕ) → Option Checker
+below K zero = none
+below K (suc room) = some (checkBranch edition1 K room)
 
 -- A closing, and one of the fields behind it, as one.
 abbrev pub joining : (Formula → Formula → Formula) → Closing → Closing → Closing
@@ -72,13 +71,13 @@ pub record Longer (K : ℕ) (kinds : List ℕ) (buf : List ℤ) (n : ℕ) (l : L
   pub lines : linesIn K kinds′ buf′ (n + 1) ≡ linesIn K kinds buf n ▷ l
   pub small : T (inRange 2147483647 l)
 
-abbrev pub strengthened : (K : ℕ) (kinds : List ℕ) (buf : List ℤ) (t : Tally) (i : ℕ) (inB : ℕ → Bool) (next : Next) (at rows : ℕ) (fs : Fields) → Result Closing
-strengthened K kinds buf t i inB next at rows fs = checkRow edition1 K inB (below K inB (32 - t .«open»)) next at rows (linesIn K kinds buf (t .lines .0)) fs (Strengthen i)
+abbrev pub strengthened : (K : ℕ) (kinds : List ℕ) (buf : List ℤ) (t : Tally) (i : ℕ) (next : Next) (at rows : ℕ) (fs : Fields) → Result Closing
+strengthened K kinds buf t i next at rows fs = checkRow edition1 K (below K (32 - t .«open»)) next at rows (linesIn K kinds buf (t .lines .0)) fs (Strengthen i)
 
 pub record Opened (K : ℕ) (kinds : List ℕ) (buf : List ℤ) (t : Tally) (i : ℕ) (kinds′ : List ℕ) (buf′ : List ℤ) (t′ : Tally) : Type 0 where
-  pub is : (inB : ℕ → Bool) (next : Next) (at rows : ℕ) (fs : Fields)
-      → strengthened K kinds buf t i inB next at rows fs
-      ≡ three (checkBranch edition1 K inB (31 - t .«open»)) (linesIn K kinds buf (t .lines .0)) (lineIn K kinds buf i) (suc rows) fs
+  pub is : (next : Next) (at rows : ℕ) (fs : Fields)
+      → strengthened K kinds buf t i next at rows fs
+      ≡ three (checkBranch edition1 K (31 - t .«open»)) (linesIn K kinds buf (t .lines .0)) (lineIn K kinds buf i) (suc rows) fs
   pub longer : Longer K kinds buf (t .lines .0) (firstLine (lineIn K kinds buf i)) kinds′ buf′
   pub tally-is : t′ ≡ tally (t .rows .0) (t .lines .0 + 1) (t .«open» + 1)
   pub copy : LineCopy K buf i (t .lines .0)
@@ -86,7 +85,7 @@ pub record Opened (K : ℕ) (kinds : List ℕ) (buf : List ℤ) (t : Tally) (i :
 
 abbrev pub SplitBy : (K : ℕ) (kinds : List ℕ) (buf : List ℤ) (t : Tally) (i : ℕ) (kinds′ : List ℕ) (buf′ : List ℤ) → Derived → Type 0
 SplitBy K kinds buf t i kinds′ buf′ (Refused x) =
-    (inB : ℕ → Bool) (next : Next) (at rows : ℕ) (fs : Fields) → strengthened K kinds buf t i inB next at rows fs ≡ refused (refusal at x)
+    (next : Next) (at rows : ℕ) (fs : Fields) → strengthened K kinds buf t i next at rows fs ≡ refused (refusal at x)
 SplitBy K kinds buf t i kinds′ buf′ (Made t′) = Opened K kinds buf t i kinds′ buf′ t′
 
 pub record Splits (K : ℕ) (kinds : List ℕ) (buf : List ℤ) (t : Tally) (i : ℕ) (kinds′ : List ℕ) (buf′ : List ℤ) (r : Derived) : Type 0 where

@@ -2,7 +2,7 @@
 use mathlib.Core.Path.{_≡_}
 use mathlib.Core.List.{List, []}
 use Prim.Native.Nat.{ℕ, _+_, _<_, _≤_}
-use lib.IntN.{ℤ, pos}
+use lib.IntN.{ℤ, pos, natAbs}
 use lib.ListN.{length, getD}
 use lib.Seq.{sets}
 use Rattle.integers.specs.Magnitude.{Within}
@@ -10,12 +10,18 @@ use Rattle.forms.specs.Edition.{edition1}
 use Rattle.forms.specs.Forms.{Formula}
 use Rattle.fields.specs.Fields.{fieldBytes}
 use Rattle.formula.specs.Formula.{encode}
+use Rattle.rows.specs.Entries.{Multiplies}
 
 -- The K + 1 numbers of the form at a place, all within the range.
 pub record Numbered (K : ℕ) (buf : List ℤ) (at : ℕ) : Type 0 where
   pub constants : K ≤ 16
   pub room : at + K < length buf
   pub small : (x : ℕ) → x ≤ K → Within 2147483647 (getD buf (at + x) (pos 0))
+
+-- A stride that the tests let pass.
+pub record Stride (g : ℤ) : Type 0 where
+  pub multiplies : Multiplies (natAbs g) g
+  pub low : 2 ≤ natAbs g
 
 -- The bytes of I stand from o on, if there is room for them; o′ is behind them.
 pub record Puts (scratch : List ℕ) (o : ℕ) (I : Formula) (scratch′ : List ℕ) (o′ : ℕ) : Type 0 where

@@ -1,10 +1,9 @@
 // The rows that close a branch, with the formula's bytes, and the row that splits it.
-ghost use Prim.Native.Nat.{_+_, _≤_};
+ghost use Prim.Native.Nat.{_≤_};
 ghost use lib.ListN.{length, set};
 ghost use lib.IntN.{natAbs};
 ghost use mathlib.Core.Path.{_≡_};
 ghost use Rattle.lines.specs.Buffer.{linesIn, LineCopy, startedLine};
-ghost use Rattle.lines.specs.Occurrence.{told};
 ghost use Rattle.proof.specs.Rows.{byNumber, byStride};
 ghost use Rattle.proof.specs.Check.{refusal};
 ghost use Rattle.rows.specs.Entries.{Multiplies};
@@ -63,15 +62,14 @@ pub fn close_stride(
     tally: Tally,
     i: Line,
     g: i64,
-    in_b: &[u8],
     k: usize,
     scratch: &mut [u8],
     o: usize,
 ) -> Ended
     requires { ⌜ Ready k (now kinds) (now lines) (tally .lines .0) ⌝ }
     requires { ⌜ Multiplies (natAbs g) g ⌝ }
-    requires { ⌜ (k ≤ length (now in_b)) × (o ≤ 5242880) ⌝ }
-    ensures { λ r. ⌜ EndedBy (λ at. byStride (refusal at) (linesIn k (now (kinds .entry)) (now (lines .entry)) (tally .lines .0)) (told (now (in_b .entry))) (i .0) (natAbs g)) (now (scratch .entry)) o (now (scratch .exit)) r ⌝ }
+    requires { ⌜ o ≤ 5242880 ⌝ }
+    ensures { λ r. ⌜ EndedBy (λ at. byStride (refusal at) (linesIn k (now (kinds .entry)) (now (lines .entry)) (tally .lines .0)) (i .0) (natAbs g)) (now (scratch .entry)) o (now (scratch .exit)) r ⌝ }
 {
     match test_stride(lines, kinds, tally, i, g, k) {
         Test::Refused { number } => {
@@ -79,7 +77,7 @@ pub fn close_stride(
         }
         Test::Passed => {
             let ta = lines::place_a(i.0 as usize, k);
-            let end = put_stride(lines, ta, k, g, in_b, scratch, o);
+            let end = put_stride(lines, ta, k, g, scratch, o);
             return Ended::Written { o: end };
         }
     }

@@ -4,12 +4,11 @@ ghost use Prim.Native.Nat.{_+_, _*_, _≤_};
 ghost use lib.IntN.{natAbs};
 ghost use lib.ListN.{length};
 ghost use lib.Seq.{sets};
-ghost use Rattle.forms.specs.Forms.{literal, _divides_, within};
+ghost use Rattle.forms.specs.Forms.{literal, _divides_};
+ghost use Rattle.forms.specs.Reduced.{reduced};
 ghost use Rattle.fields.specs.Numbers.{formBytes};
 ghost use Rattle.lines.specs.Buffer.{formIn, kindOf};
-ghost use Rattle.lines.specs.Occurrence.{told};
-ghost use Rattle.rows.specs.Entries.{Multiplies};
-ghost use Rattle.closes.specs.Formulas.{Numbered, Heads, Puts};
+ghost use Rattle.closes.specs.Formulas.{Numbered, Stride, Heads, Puts};
 use fields::numbers::put_head;
 use fields::numbers::put_signed;
 
@@ -27,16 +26,17 @@ fn put_form(lines: &[i64], at: usize, k: usize, scratch: &mut [u8], o: usize)
     }
 }
 
-// The same without the constants that B lacks.
-fn put_restricted(lines: &[i64], at: usize, k: usize, in_b: &[u8], scratch: &mut [u8], o: usize)
-    requires { ⌜ Numbered k (now lines) at × (k ≤ length (now in_b)) ⌝ }
+// The same with each number as its remainder from 0 to g-1.
+fn put_reduced(lines: &[i64], at: usize, k: usize, g: i64, scratch: &mut [u8], o: usize)
+    requires { ⌜ Numbered k (now lines) at × Stride g ⌝ }
     requires { ⌜ o + 4 * (k + 1) ≤ length (now scratch) ⌝ }
-    ensures { λ _. ⌜ now (scratch .exit) ≡ sets (now (scratch .entry)) o (formBytes 4 (within (told (now (in_b .entry))) (formIn k (now (lines .entry)) at))) ⌝ }
+    ensures { λ _. ⌜ now (scratch .exit) ≡ sets (now (scratch .entry)) o (formBytes 4 (reduced (natAbs g) (formIn k (now (lines .entry)) at))) ⌝ }
 {
     let mut x = 0;
     while x <= k {
-        let n = lines::restricted(lines, at, k, in_b, x);
-        put_signed(scratch, o + 4 * x, 4, n);
+        let n = lines[at + x];
+        let r = integers::remainder(n, g);
+        put_signed(scratch, o + 4 * x, 4, r);
         x += 1;
     }
 }
@@ -82,20 +82,11 @@ pub fn put_literal(
     end
 }
 
-// g divides the form without the constants that B lacks.
-pub fn put_stride(
-    lines: &[i64],
-    at: usize,
-    k: usize,
-    g: i64,
-    in_b: &[u8],
-    scratch: &mut [u8],
-    o: usize,
-) -> usize
-    requires { ⌜ Numbered k (now lines) at × (k ≤ length (now in_b)) ⌝ }
-    requires { ⌜ Multiplies (natAbs g) g ⌝ }
+// g divides the form, with each number as its remainder.
+pub fn put_stride(lines: &[i64], at: usize, k: usize, g: i64, scratch: &mut [u8], o: usize) -> usize
+    requires { ⌜ Numbered k (now lines) at × Stride g ⌝ }
     requires { ⌜ o ≤ 5242880 ⌝ }
-    ensures { λ r. ⌜ Puts (now (scratch .entry)) o (natAbs g divides within (told (now (in_b .entry))) (formIn k (now (lines .entry)) at)) (now (scratch .exit)) r ⌝ }
+    ensures { λ r. ⌜ Puts (now (scratch .entry)) o (natAbs g divides reduced (natAbs g) (formIn k (now (lines .entry)) at)) (now (scratch .exit)) r ⌝ }
 {
     let len = 4 * (k + 2);
     let end = o + 3 + len;
@@ -104,6 +95,6 @@ pub fn put_stride(
     }
     put_head(scratch, o, 0x35, len);
     put_signed(scratch, o + 3, 4, g);
-    put_restricted(lines, at, k, in_b, scratch, o + 7);
+    put_reduced(lines, at, k, g, scratch, o + 7);
     end
 }

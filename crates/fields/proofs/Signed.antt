@@ -12,12 +12,8 @@ use lib.ListN.{length, take, drop, length-append, length-drop, take-append-drop}
 use lib.Seq.{take-at, drop-at, drop-drop, length-take-le}
 use Rattle.integers.specs.Linear.{pp, np, ints, add-pn, neg-pn, cond-ind}
 use Rattle.forms.specs.Forms.{Form, All, nil, cons}
+use Rattle.fields.specs.Ranges.{InWidth, FormInWidth}
 use Rattle.fields.specs.Numbers.{Bytes, natFrom, unsigned, complement, signed, unsignedBytes, residue, signedBytes, signeds, signedsBytes, flat, formFrom, formBytes, formWidth}
-
--- z has a two's complement of w bytes.
-pub record InWidth (w : ℕ) (z : ℤ) : Type 0 where
-  pub high : pp z + pp z < 256 ^ w
-  pub low : np z + np z ≤ 256 ^ w
 
 -- ---- what holds of each element
 module _ {X : Type 0} {P : X → Type 0} where
@@ -194,12 +190,6 @@ module _ (w : ℕ) where
       cons (rw own at (signed-in (take w bs) (all-take w b))) (signeds-in n (drop w bs) left (all-drop w b))
 
 -- ---- a form
--- A form of K coefficients whose numbers have two's complements of w bytes.
-pub record FormInWidth (w K : ℕ) (t : Form) : Type 0 where
-  pub size : length (t .coeffs) ≡ K
-  pub coeffs : All (InWidth w) (t .coeffs)
-  pub d : InWidth w (t .d)
-
 module _ (w K : ℕ) where
   pub length-formBytes : (t : Form) → length (t .coeffs) ≡ K → length (formBytes w t) ≡ formWidth w K
   unfolding formBytes flat

@@ -1,42 +1,30 @@
 -- A formula reads back from the bytes that it is written as. Assumes nothing.
 use mathlib.Core.Path.{_≡_, refl, sym, _∙_, ap, ap₂}
 use mathlib.Core.Option.{some}
-use mathlib.Core.Bool.{true, false}
+use mathlib.Core.Bool.{Bool, true, false, _&&_}
 use mathlib.Core.List.{List, [], _∷_, _++_, append-assoc, append-nil}
-use Prim.Native.Nat.{ℕ, zero, suc, max, _+_, _*_, _-_, _<_, _≤_}
+use Prim.Native.Nat.{ℕ, zero, suc, _+_, _*_, _-_, _<_, _≤_}
 use native.Mathlib.Omega.{arith}
-use lib.Dec.{eqb}
+use lib.Dec.{leb, eqb}
 use lib.ListN.{length, take, drop, length-append}
 use lib.Seq.{take-at, drop-at}
 use lib.IntN.{ℤ, pos, natAbs}
-use borrow.Author.Tests.{le-leb, eq-eqb}
+use borrow.Author.Tests.{le-leb, eq-eqb, ne-eqb}
 use Rattle.forms.specs.Edition.{edition1, editionNumbered}
 use Rattle.forms.specs.Forms.{Kind, ≤0, =0, Form, Formula, literal, _divides_, _and_, _or_}
 use Rattle.fields.specs.declared.FileKind.{FileKind}
-use Rattle.fields.specs.Answers.{answer, fileProof, Result, accepted, _>>_, need}
+use Rattle.fields.specs.declared.Answer.{Answer}
+use Rattle.fields.specs.Answers.{answer, fileProof, Result, refused, accepted, _>>=_, _>>_, need}
 use Rattle.fields.specs.Numbers.{signed, signedBytes, formFrom, formBytes, formWidth}
 use Rattle.fields.specs.Fields.{Field, Fields, ends, _▸_, note, fields, fieldsFrom, fieldBytes}
-use Rattle.fields.specs.Header.{agrees, known, headerTag, header, headerField, finished, headerBytes}
-use Rattle.fields.proofs.Signed.{InWidth, FormInWidth, length-signedBytes, signed-signedBytes, length-formBytes, formFrom-written}
-use Rattle.formula.specs.Formula.{encode, formulaFile, Connective, disjunction, conjunction, Tagged, pair, atom, stride, formulaTagged, joined, sizeOf, formulaOf, formulaField, twoParts, formulaWithin, readFormula}
+use Rattle.fields.specs.Header.{Header, agrees, known, headerTag, header, headerField, finished, headerBytes}
+use Rattle.fields.specs.Ranges.{InWidth, FormInWidth}
+use Rattle.fields.proofs.Signed.{length-signedBytes, signed-signedBytes, length-formBytes, formFrom-written}
+use Rattle.formula.specs.Formula.{encode, formulaFile, Encodable, height, Connective, disjunction, conjunction, Tagged, pair, atom, stride, formulaTagged, joined, sizeOf, formulaOf, formulaField, twoParts, formulaWithin, readFormula}
 use Rattle.fields.proofs.Framing.{fuel-irrelevant, length-fieldBytes}
 use Rattle.fields.proofs.Headers.{length-headerBytes}
-use Rattle.fields.proofs.Results.{binds, passes, found-some, pass}
+use Rattle.fields.proofs.Results.{binds, passes, found-some, pass, fail}
 use Rattle.formula.proofs.Fronts.{fields-field, fields-end}
-
--- Every form has K coefficients, every number fits its four bytes, and g is at least 2.
-abbrev pub Encodable : ℕ → Formula → Type 0
-Encodable K (literal k t) = FormInWidth 4 K t
-Encodable K (g divides t) = (2 ≤ g) × InWidth 4 (pos g) × FormInWidth 4 K t
-Encodable K (I and J) = Encodable K I × Encodable K J
-Encodable K (I or J) = Encodable K I × Encodable K J
-
--- How many levels of and/or a formula has.
-abbrev pub height : Formula → ℕ
-height (literal k t) = 0
-height (g divides t) = 0
-height (I and J) = suc (max (height I) (height J))
-height (I or J) = suc (max (height I) (height J))
 
 -- The fuel for the fields of a formula, and then so much more.
 abbrev fuelled : Formula → ℕ → ℕ
@@ -199,7 +187,7 @@ header-read K fs low high =
     ∙ pass _ _ (rw (le-leb 1 K low, le-leb K 16 high))
     ∙ pass _ _ (eq-eqb K K refl)
 
-header-fields : (K fuel : ℕ) (bs : List ℕ) → fieldsFrom (suc (suc fuel)) 0 (headerBytes K ++ bs) ≡ field 0 0x01 (1 ∷ []) ▸ field 4 0x02 (K ∷ []) ▸ fieldsFrom fuel 8 bs
+pub header-fields : (K fuel : ℕ) (bs : List ℕ) → fieldsFrom (suc (suc fuel)) 0 (headerBytes K ++ bs) ≡ field 0 0x01 (1 ∷ []) ▸ field 4 0x02 (K ∷ []) ▸ fieldsFrom fuel 8 bs
 unfolding headerBytes note
 header-fields K fuel bs =
     ap (fieldsFrom (suc (suc fuel)) 0) (append-assoc (fieldBytes 0x01 (1 ∷ [])) (fieldBytes 0x02 (K ∷ [])) bs)
@@ -226,6 +214,29 @@ read-written K I low high h l =
     ∙ binds _ (header-read K (fieldsFrom n 8 X) low high)
     ∙ binds _ part
     ∙ passes (accepted I) refl
+
+-- A file over another number of constants is refused by its header, whatever formula follows.
+header-other : (K n : ℕ) (fs : Fields) → ¬ (K ≡ n) → header FileKind.Formula fileProof (some n) (field 0 0x01 (1 ∷ []) ▸ field 4 0x02 (K ∷ []) ▸ fs) ≡ (need (answer 7 fileProof 4) (leb 1 K && leb K 16) >> refused (answer 9 fileProof 4))
+unfolding header editionNumbered agrees known headerTag
+header-other K n fs h =
+    binds _ (header-field-read 0x01 0 1 (field 4 0x02 (K ∷ []) ▸ fs) refl)
+    ∙ binds _ (found-some _ refl)
+    ∙ binds _ (header-field-read 0x02 4 K fs refl)
+    ∙ ap (λ (r : Result Header). need (answer 7 fileProof 4) (leb 1 K && leb K 16) >> r) (fail _ _ (ne-eqb K n h))
+
+refused-still : {X Y : Type 0} (a c : Answer) (b : Bool) (f : X → Result Y) → ((need a b >> refused c) >>= f) ≡ (need a b >> refused c)
+unfolding need _>>_ _>>=_
+refused-still a c true f = refl
+refused-still a c false f = refl
+
+pub read-other : (K n : ℕ) (I : Formula) → ¬ (K ≡ n) → readFormula n (fields (formulaFile edition1 K I)) ≡ (need (answer 7 fileProof 4) (leb 1 K && leb K 16) >> refused (answer 9 fileProof 4))
+unfolding readFormula fields formulaFile
+read-other K n I h =
+    let X = encode edition1 I in
+    let size : length (headerBytes K ++ X) ≡ suc (suc (6 + length X)) = omega (arith, length-append (headerBytes K) X, length-headerBytes K) in
+    ap (readFormula n) (ap (λ (m : ℕ). fieldsFrom m 0 (headerBytes K ++ X)) size ∙ header-fields K (6 + length X) X)
+    ∙ ap (λ (r : Result Header). r >>= _) (header-other K n (fieldsFrom (6 + length X) 8 X) h)
+    ∙ refused-still _ _ (leb 1 K && leb K 16) _
 
 -- ---- length
 -- How many literals and stride parts a formula has.

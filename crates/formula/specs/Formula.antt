@@ -2,7 +2,7 @@
 use mathlib.Core.Option.{Option, none, some}
 use mathlib.Core.Bool.{true, false}
 use mathlib.Core.List.{List, [], _++_}
-use Prim.Native.Nat.{ℕ, zero, suc, _+_}
+use Prim.Native.Nat.{ℕ, zero, suc, max, _+_, _≤_}
 use lib.Dec.{eqb}
 use lib.ListN.{length, take, drop}
 use lib.IntN.{pos, natAbs}
@@ -12,6 +12,7 @@ use Rattle.forms.specs.Forms.{Kind, ≤0, =0, Formula, literal, _divides_, _and
 use Rattle.fields.specs.declared.FileKind.{FileKind}
 use Rattle.fields.specs.Answers.{answer, fileProof, Result, refused, accepted, _>>=_, _>>_, need, found}
 use Rattle.fields.specs.Numbers.{signed, signedBytes, formFrom, formBytes, formWidth}
+use Rattle.fields.specs.Ranges.{InWidth, FormInWidth}
 use Rattle.fields.specs.Fields.{Field, Fields, ends, cut, _▸_, fieldBytes}
 use Rattle.fields.specs.Header.{known, header, finished, headerBytes}
 
@@ -28,6 +29,20 @@ module _ (e : Edition) where
   -- The two header fields and the formula, no notes.
   unfoldable pub formulaFile : (K : ℕ) → Formula → List ℕ
   formulaFile K I = headerBytes K ++ encode I
+
+-- Every form has K coefficients, every number fits its four bytes, and g is at least 2.
+abbrev pub Encodable : ℕ → Formula → Type 0
+Encodable K (literal k t) = FormInWidth 4 K t
+Encodable K (g divides t) = (2 ≤ g) × InWidth 4 (pos g) × FormInWidth 4 K t
+Encodable K (I and J) = Encodable K I × Encodable K J
+Encodable K (I or J) = Encodable K I × Encodable K J
+
+-- How many levels of and/or a formula has.
+abbrev pub height : Formula → ℕ
+height (literal k t) = 0
+height (g divides t) = 0
+height (I and J) = suc (max (height I) (height J))
+height (I or J) = suc (max (height I) (height J))
 
 -- ---- reading
 pub data Connective : Type 0 where

@@ -7,19 +7,17 @@ use Prim.Native.Nat.{ℕ, zero, suc, _+_, _-_, _≤_, _<_}
 use native.Mathlib.Omega.{arith}
 use borrow.Author.Tests.{lt-leb, ltb-true, ltb-false, leb-true, leb-false}
 use lib.Dec.{T, leb, ltb, leb→le, le→leb}
-use lib.IntN.{ℤ, pos, negsuc}
+use lib.IntN.{ℤ}
 use lib.ListN.{length}
-use lib.Signed.{mag}
 use Rattle.forms.specs.Edition.{edition1}
 use Rattle.forms.specs.Forms.{All, nil, cons, Constraint, Formula}
 use Rattle.fields.specs.declared.Answer.{Answer}
 use Rattle.fields.specs.Answers.{answer, acceptance, fileA, fileB, fileLent, Result, refused, accepted, _>>=_, _>>_, found, over, fit, Written, written}
 use Rattle.fields.specs.Numbers.{Bytes, unsignedBytes}
-use Rattle.fields.specs.Ranges.{Held}
 use Rattle.fields.specs.Fields.{Field, Fields, ends, cut, _▸_, fields, nth, Item, item, items, fieldBytes, fileOf}
 use Rattle.fields.specs.Header.{agrees}
 use Rattle.fields.proofs.Results.{Gives, never, not-0, accepts, weaken, bind, seq, finds, binds, passes, found-some}
-use Rattle.fields.proofs.Signed.{InWidth, all-weaken}
+use Rattle.fields.proofs.Signed.{all-weaken}
 use Rattle.fields.proofs.Contents.{ItemBytes}
 use Rattle.bundle.specs.declared.WriteResult.{WriteResult}
 use Rattle.bundle.specs.declared.ReadResult.{ReadResult}
@@ -261,10 +259,6 @@ module _ (A B : List ℕ) (line : ℕ) where
       go (accepted p) e h = shown-gives .gives p e
 
 -- ---- the round trips
-held-in : (z : ℤ) → Held 2 z → InWidth 2 z
-held-in (pos n) h = record { high = h .held .half; low = omega arith }
-held-in (negsuc n) h = record { high = omega arith; low = omega (arith, h .held .half) }
-
 -- the contents of a file of bytes are bytes
 all-right : {X : Type 0} {P : X → Type 0} (xs ys : List X) → All P (xs ++ ys) → All P ys
 all-right [] ys h = h
@@ -296,7 +290,7 @@ acceptance-holds = record {
   );
   write-then-read = λ K kinds numbers output left w widths c h lentKinds lentNumbers leftKinds leftNumbers r roomKinds roomNumbers d.
       read-as d (ap (λ (x : Written). readBundle lentKinds lentNumbers (bytesWritten x)) (c .is)
-      ∙ write-then-read K kinds numbers (all-weaken held-in widths) output (write-answer c h) lentKinds lentNumbers roomKinds roomNumbers);
+      ∙ write-then-read K kinds numbers widths output (write-answer c h) lentKinds lentNumbers roomKinds roomNumbers);
   read-then-write = λ F framed bytes lentKinds lentNumbers leftKinds leftNumbers r c h output left w room d.
       written-as (d .is ∙ ap (λ (x : BundleRead). rewritten x output) (c .is)
       ∙ read-then-write F framed (contents-bytes F bytes) lentKinds lentNumbers (read-answer c h) output room);

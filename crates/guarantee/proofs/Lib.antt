@@ -3,3 +3,4 @@ pub mod Refusals
 pub mod Acceptance
 pub mod Soundness
 pub mod Guard
+pub mod Reduced

@@ -10,7 +10,7 @@ use Rattle.forms.specs.Forms.{All, Constraint, Formula}
 use Rattle.fields.specs.declared.Answer.{Answer}
 use Rattle.fields.specs.Answers.{answer, acceptance, fileLent, over}
 use Rattle.fields.specs.Numbers.{Bytes}
-use Rattle.fields.specs.Ranges.{Held}
+use Rattle.fields.specs.Ranges.{InWidth}
 use Rattle.fields.specs.Fields.{Item, Framed, fileOf, withoutNotes}
 use Rattle.fields.specs.Header.{headerBytes}
 use Rattle.bundle.specs.declared.ReadResult.{ReadResult}
@@ -98,8 +98,8 @@ pub record Acceptance : Type 0 where
       → Writable K kinds numbers output → WrittenAs (bundleFile K kinds numbers) output left (w .answer) (w .count)
   pub show-iff : (A B : List ℕ) (line : ℕ) (r : Answer) → AnswersShow A B line r → r .number ≡ 0 ↔ Showable A B line
   -- ---- the round trips
-  -- write then read is the same constraints, into any outputs that are long enough (`Held 2`: numbers of two bytes)
-  pub write-then-read : (K : ℕ) (kinds : List ℕ) (numbers : List ℤ) (output left : List ℕ) (w : WriteResult) → All (Held 2) numbers
+  -- write then read is the same constraints, into any outputs that are long enough (`InWidth 2`: numbers of two bytes)
+  pub write-then-read : (K : ℕ) (kinds : List ℕ) (numbers : List ℤ) (output left : List ℕ) (w : WriteResult) → All (InWidth 2) numbers
       → Writes K kinds numbers output left w → w .answer .number ≡ 0
       → (lentKinds : List ℕ) (lentNumbers : List ℤ) (leftKinds : List ℕ) (leftNumbers : List ℤ) (r : ReadResult) → length kinds ≤ length lentKinds → length numbers ≤ length lentNumbers
       → Reads (take (w .count) left) lentKinds lentNumbers leftKinds leftNumbers r

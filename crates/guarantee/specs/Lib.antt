@@ -4,3 +4,4 @@ pub mod Acceptance
 pub mod LaidOut
 pub mod Soundness
 pub mod Guard
+pub mod Reduced

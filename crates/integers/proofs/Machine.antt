@@ -1,20 +1,21 @@
 -- The machine's tests and remainders of signed numbers, in ℤ. Assumes nothing.
-use mathlib.Core.Path.{_≡_, refl, sym, _∙_, ap, ap₂}
-use mathlib.Core.Bool.{Bool, true, false, _&&_}
+use mathlib.Core.Path.{_≡_, refl, sym, _∙_, ap, ap₂, subst}
+use mathlib.Core.Bool.{Bool, true, false, _&&_, true≢false}
 use Prim.Native.Nat.{ℕ, zero, suc, _-_, _/_, _%_, _^_, _<_, _≤_}
-use native.Mathlib.Nat.{div-le-self}
+use native.Mathlib.Nat.{div-le-self, div-add-mod', mod-lt}
 use native.Mathlib.Decide.{ℕ-discrete}
 use native.Mathlib.Omega.{arith}
 use borrow.Author.Tests.{eq-eqb, ne-eqb}
-use lib.Dec.{leb, eqb, leb→le, leb·suc-suc, eqb·suc-zero}
+use lib.Dec.{T, leb, eqb, leb→le, leb·suc-suc, eqb·suc-zero}
 use lib.Bits.{bitOr, or-zero-l, or-add-and, and-le-r}
-use lib.IntN.{ℤ, pos, negsuc, negℤ, natAbs}
-use lib.Signed.{mag, leZ, quotZ, remZ, mag-rem, _≤ℤ_}
+use lib.IntN.{ℤ, pos, negsuc, negℤ, natAbs, _+ℤ_}
+use lib.Signed.{mag, leZ, ltZ, quotZ, remZ, mag-rem, _≤ℤ_}
 use mir.Syntax.{Width, w64}
 use mir.Val.{Fits, SFits, toZ, ofZ}
 use mir.ValLaws.{sfits-le, toZ-fits, ofZ-fits, ofZ-toZ, fits-or}
-use Rattle.integers.specs.Linear.{eqZ}
-use Rattle.integers.specs.Divides.{divb}
+use Rattle.integers.specs.Linear.{eqZ, ints, add-pn, neg-pn, mul-pn}
+use Rattle.integers.specs.Divides.{divb, divb→∣}
+use Rattle.integers.specs.Remainder.{remainder, remainder-below, remainder-unique, remainder-zero}
 
 -- A quotient by a positive number fits.
 mag-neg : (r : ℕ) {a : ℕ} → r ≤ suc a → mag (negℤ (pos r)) ≤ a
@@ -52,6 +53,36 @@ abs-rem (negsuc a) g = go (suc a % natAbs g)
 
 pub rem-test : (g x : ℤ) → SFits w64 x → eqb (ofZ w64 (remZ x g)) 0 ≡ divb g x
 rem-test g x f = eqb-bits (remZ x g) (sfits-le (mag-rem x g) f) ∙ ap (λ (n : ℕ). eqb n 0) (abs-rem x g)
+
+-- ---- the remainder from 0 to g-1: where that of the machine, which has the number's sign, is negative, g is added
+neg-stands : (g a s : ℕ) → 1 ≤ g → suc a % g ≡ s → ltZ (negℤ (pos s)) (pos 0) ≡ false → negℤ (pos s) ≡ pos (remainder g (negsuc a))
+neg-stands g a zero h e t = ap pos (sym (remainder-zero h (negsuc a) .1 (divb→∣ (subst (λ (n : ℕ). T (eqb n 0)) (sym e) tt))))
+neg-stands g a (suc s) h e t = absurd (true≢false t)
+
+neg-raised : (g a s : ℕ) → 1 ≤ g → suc a % g ≡ s → ltZ (negℤ (pos s)) (pos 0) ≡ true → negℤ (pos s) +ℤ pos g ≡ pos (remainder g (negsuc a))
+neg-raised g a zero h e t = absurd (true≢false (sym t))
+neg-raised g a (suc s) h e t =
+    let l : suc s < g = omega (arith, mod-lt (suc a) h) in
+    let d : negsuc s +ℤ pos g ≡ pos (g - suc s) = omega (ints, add-pn (negsuc s) (pos g)) in
+    d ∙ ap pos (sym (remainder-unique h (negsuc a) (g - suc s) (omega arith) (record {
+      q = negsuc (suc a / g);
+      eq = omega (ints, l, div-add-mod' (suc a) g, add-pn (negsuc a) (negℤ (pos (g - suc s))), neg-pn (pos (g - suc s)), mul-pn (negsuc (suc a / g)) (pos g));
+    })))
+
+pub rem-stands : (x g : ℤ) → pos 2 ≤ℤ g → ltZ (remZ x g) (pos 0) ≡ false → remZ x g ≡ pos (remainder (natAbs g) x)
+unfolding remainder
+rem-stands (pos n) (pos g) h t = refl
+rem-stands (negsuc a) (pos g) h t = neg-stands g a (suc a % g) (omega (ints, h)) refl t
+rem-stands x (negsuc g) h t = absurd (h .le)
+
+pub rem-raised : (x g : ℤ) → pos 2 ≤ℤ g → ltZ (remZ x g) (pos 0) ≡ true → remZ x g +ℤ g ≡ pos (remainder (natAbs g) x)
+rem-raised (pos n) (pos g) h t = absurd (omega (arith, leb→le (suc (n % g)) 0 (subst T (sym t) tt)))
+rem-raised (negsuc a) (pos g) h t = neg-raised g a (suc a % g) (omega (ints, h)) refl t
+rem-raised x (negsuc g) h t = absurd (h .le)
+
+pub remainder-fits : {w : Width} (x : ℤ) {g : ℤ} → pos 2 ≤ℤ g → SFits w g → SFits w (pos (remainder (natAbs g) x))
+remainder-fits x {g = pos g} h f = sfits-le (omega (arith, remainder-below {g = g} (omega (ints, h)) x)) f
+remainder-fits x {g = negsuc g} h f = absurd (h .le)
 
 -- Both sides of a range, as one test of the absolute value.
 module _ (k : ℕ) where

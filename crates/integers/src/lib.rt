@@ -7,6 +7,7 @@ ghost use lib.IntN.{pos, natAbs, _+ℤ_, _*ℤ_};
 ghost use lib.Signed.{_≤ℤ_, ltZ};
 ghost use Rattle.integers.specs.Linear.{eqZ};
 ghost use Rattle.integers.specs.Divides.{divb};
+ghost use Rattle.integers.specs.Remainder.{remainder};
 ghost use Rattle.integers.specs.Magnitude.{Factors};
 
 // a·x + b·y, of factors small enough that the sum fits a machine word.
@@ -35,6 +36,18 @@ pub fn divides(g: i64, x: i64) -> bool
     ensures { λ r. ⌜ r ≡ divb g x ⌝ }
 {
     x % g == 0
+}
+
+// The remainder of x from 0 to g-1. (That of the machine has the sign of x.)
+pub fn remainder(x: i64, g: i64) -> i64
+    requires { ⌜ (pos 2) ≤ℤ g ⌝ }
+    ensures { λ r. ⌜ r ≡ pos (remainder (natAbs g) x) ⌝ }
+{
+    let r = x % g;
+    if r < 0 {
+        return r + g;
+    }
+    r
 }
 
 pub fn is_zero(x: i64) -> bool

@@ -5,8 +5,6 @@ pub mod Lines
 pub mod Mix
 pub mod Range
 pub mod Plus
-pub mod Occurrence
-pub mod Restrict
 pub mod Branch
 pub mod Strengthen
 pub mod Next

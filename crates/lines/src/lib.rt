@@ -1,5 +1,4 @@
 // The lines of a branch in one flat lent buffer: the functions that read and write them.
-use forms::CONSTANTS;
 ghost use mathlib.Core.Path.{_≡_};
 ghost use mathlib.Core.Bool.{_&&_};
 ghost use Prim.Native.Nat.{_+_, _*_, _<_, _≤_};
@@ -10,12 +9,9 @@ ghost use lib.Signed.{_≤ℤ_};
 ghost use Rattle.integers.specs.Magnitude.{Within};
 ghost use Rattle.integers.specs.Linear.{eqZ};
 ghost use Rattle.integers.specs.Divides.{divb};
-ghost use Rattle.forms.specs.Forms.{within};
 ghost use Rattle.calculus.specs.Rules.{small, every};
-ghost use Rattle.fields.specs.Numbers.{flat};
 ghost use Rattle.lines.specs.Parts.{part};
 ghost use Rattle.lines.specs.Buffer.{size, formIn, Terms, LineTerms, LineCopy, mixed, mixedLine, plusOne, copiedLine, strengthenedT, strengthenedBoth, startedLine};
-ghost use Rattle.lines.specs.Occurrence.{Span, occursIn, bit, bits, told};
 
 // Where the numbers of line i's t start, with k constants.
 pub fn place(i: usize, k: usize) -> usize
@@ -194,68 +190,4 @@ pub fn all_divisible(lines: &[i64], at: usize, k: usize, g: i64) -> bool
         x += 1;
     }
     true
-}
-
-// Whether some t of the lines from..to has a non-zero coefficient of constant c.
-fn occurs_in(lines: &[i64], from: usize, to: usize, k: usize, c: usize) -> bool
-    requires { ⌜ Span k (now lines) from to ⌝ }
-    requires { ⌜ c < k ⌝ }
-    ensures { λ r. ⌜ r ≡ occursIn k (now (lines .entry)) from to c ⌝ }
-{
-    let mut i = from;
-    while i < to {
-        let at = place(i, k);
-        if !integers::is_zero(lines[at + c]) {
-            return true;
-        }
-        i += 1;
-    }
-    false
-}
-
-// The mask's byte for constant c; no line has a coefficient for a constant past the last.
-fn occurrence(lines: &[i64], from: usize, to: usize, k: usize, c: usize) -> u8
-    requires { ⌜ Span k (now lines) from to ⌝ }
-    ensures { λ r. ⌜ r ≡ bit (occursIn k (now (lines .entry)) from to c) ⌝ }
-{
-    if k <= c {
-        return 0;
-    }
-    if occurs_in(lines, from, to, k, c) {
-        return 1;
-    }
-    0
-}
-
-// The bytes of a mask, one for each constant.
-const MASK: usize = CONSTANTS as usize;
-
-// The mask of the constants that occur in the constraints of the lines from..to.
-pub fn occurrences(lines: &[i64], from: usize, to: usize, k: usize, mask: &mut [u8])
-    requires { ⌜ Span k (now lines) from to ⌝ }
-    requires { ⌜ length (now mask) ≡ 16 ⌝ }
-    ensures { λ _. ⌜ now (mask .exit) ≡ bits (occursIn k (now (lines .entry)) from to) 16 ⌝ }
-{
-    let mut c = 0;
-    while c < MASK {
-        let b = occurrence(lines, from, to, k, c);
-        mask[c] = b;
-        c += 1;
-    }
-}
-
-// Number x, the coefficients first and then d, of the form at a place without the constants that B lacks.
-pub fn restricted(lines: &[i64], at: usize, k: usize, in_b: &[u8], x: usize) -> i64
-    requires { ⌜ at + k < length (now lines) ⌝ }
-    requires { ⌜ k ≤ length (now in_b) ⌝ }
-    requires { ⌜ x ≤ k ⌝ }
-    ensures { λ r. ⌜ r ≡ getD (flat (within (told (now (in_b .entry))) (formIn k (now (lines .entry)) at))) x (pos 0) ⌝ }
-{
-    if x == k {
-        return lines[at + x];
-    }
-    if in_b[x] == 1 {
-        return lines[at + x];
-    }
-    0
 }

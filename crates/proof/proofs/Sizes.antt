@@ -1,6 +1,6 @@
 -- What three files certify can be written: every number fits its bytes, the levels and the length stay within limits, and the file reads back. Assumes nothing.
 use mathlib.Core.Path.{_≡_, sym, _∙_, subst}
-use mathlib.Core.Bool.{Bool, true, false, cond, _&&_}
+use mathlib.Core.Bool.{Bool, true, false, _&&_}
 use mathlib.Core.List.{List, [], _∷_, map}
 use Prim.Native.Nat.{ℕ, _+_, _*_, _^_, _<_, _≤_}
 use native.Mathlib.Nat.{pow-le-pow-right}
@@ -8,20 +8,26 @@ use native.Mathlib.Omega.{arith}
 use lib.Dec.{T, leb→le}
 use lib.ListN.{length, take, drop, length-map, length-take}
 use lib.IntN.{ℤ, pos, negsuc, natAbs, _*ℤ_, zero-*ℤ}
+use Rattle.integers.specs.Linear.{ints}
+use Rattle.integers.specs.Remainder.{remainder}
 use Rattle.integers.specs.Magnitude.{Within}
+use Rattle.forms.specs.Reduced.{reduced, Residue, Residues}
+use Rattle.forms.proofs.Residues.{residues}
+use Rattle.calculus.proofs.Reducing.{positive}
 use Rattle.forms.specs.Edition.{Edition, edition1}
-use Rattle.forms.specs.Forms.{Form, ≤0, Constraint, Line, line, lineA, lineB, lines, All, nil, cons, _⊞_, _·_, _plus_, only, within, rest, Formula, literal, _divides_, _and_, _or_}
+use Rattle.forms.specs.Forms.{Form, ≤0, Constraint, Line, line, lineA, lineB, lines, All, nil, cons, _⊞_, _·_, _plus_, within, Formula, literal, _divides_, _and_, _or_}
 use Rattle.calculus.specs.Rules.{Row, CloseStride, Derive, Strengthen, CloseNumber, Entry, row, claim, small, every, inRange, New, combine, reduce, scale, Closed, derive, strengthen, number, stride, claims, entries, rowCount, depth, Proves}
 use Rattle.calculus.proofs.Readings.{length-sums, length-only}
 use Rattle.calculus.proofs.Sides.{all-nth, all-and, all-map, all-append}
 use Rattle.fields.specs.Answers.{accepted}
 use Rattle.fields.specs.Numbers.{Bytes, unsigned}
 use Rattle.fields.specs.Fields.{Item, fields}
-use Rattle.fields.proofs.Signed.{InWidth, FormInWidth, all-weaken, all-take, all-drop, unsigned-below, formFrom-in}
+use Rattle.fields.specs.Ranges.{InWidth, FormInWidth}
+use Rattle.fields.proofs.Signed.{all-weaken, all-take, all-drop, unsigned-below, formFrom-in}
 use Rattle.fields.proofs.Contents.{ItemBytes, contents-bytes}
 use Rattle.bundle.specs.Layout.{Each, States, BundleFile}
-use Rattle.formula.specs.Formula.{encode, formulaFile, readFormula}
-use Rattle.formula.proofs.RoundTrip.{Encodable, height, leaves, read-written, length-encode, length-formulaFile}
+use Rattle.formula.specs.Formula.{encode, formulaFile, Encodable, height, readFormula}
+use Rattle.formula.proofs.RoundTrip.{leaves, read-written, length-encode, length-formulaFile}
 use Rattle.proof.specs.Entries.{Tagged, combineTag, reduceTag, scaleTag, strengthenTag, numberTag, strideTag, claimTag, entryFrom, multiplier}
 use Rattle.proof.specs.Layout.{Enters, ProofFile, Certifies}
 
@@ -45,6 +51,10 @@ module _ {K : ℕ} where
   size-within : (p : ℕ → Bool) {t : Form} → Size K t → Size K (within p t)
   unfolding within
   size-within p {t} h = record { size = length-only p (t .coeffs) ∙ h .size }
+
+  size-reduced : (g : ℕ) {t : Form} → Size K t → Size K (reduced g t)
+  unfolding reduced
+  size-reduced g {t} h = record { size = length-map (t .coeffs) (λ (c : ℤ). pos (remainder g c)) ∙ h .size }
 
 -- ---- forms of numbers within the edition's range
 pub record Ranged (range : ℕ) (t : Form) : Type 0 where
@@ -83,19 +93,6 @@ module _ {range : ℕ} where
   unfolding _·_
   zero-ranged t = record { coeffs = zeros-within (t .coeffs); d = zero-within (t .d) }
 
-  cond-within : (b : Bool) (z : ℤ) → Within range z → Within range (cond b z (pos 0))
-  cond-within true z h = h
-  cond-within false z h = record { abs = omega arith }
-
-  only-within : (p : ℕ → Bool) {zs : List ℤ} → All (Within range) zs → All (Within range) (only p zs)
-  unfolding only
-  only-within p nil = nil
-  only-within p (cons {x = z} h hs) = cons (cond-within (p 0) z h) (only-within (rest p) hs)
-
-  within-ranged : (p : ℕ → Bool) {t : Form} → Ranged range t → Ranged range (within p t)
-  unfolding within
-  within-ranged p h = record { coeffs = only-within p (h .coeffs); d = h .d }
-
 -- ---- the partial interpolants of a branch
 -- A form of K coefficients whose numbers are within edition 1's range.
 pub record Fit (K : ℕ) (t : Form) : Type 0 where
@@ -107,7 +104,7 @@ record FitLine (K : ℕ) (l : Line) : Type 0 where
 
 abbrev FitFormula : ℕ → Formula → Type 0
 FitFormula K (literal k t) = Fit K t
-FitFormula K (g divides t) = (2 ≤ g) × Fit K t
+FitFormula K (g divides t) = (2 ≤ g) × Size K t × Residues g t
 FitFormula K (I and J) = FitFormula K I × FitFormula K J
 FitFormula K (I or J) = FitFormula K I × FitFormula K J
 
@@ -130,7 +127,7 @@ module _ (K : ℕ) where
         (closed-fit cE (all-and h (record { fit = own })), closed-fit c0 (all-and h (record { fit = own }))),
       )
   closed-fit (number i p _ _) h = (all-nth i h p) .fit
-  closed-fit {inB} (stride i g p low _ _) h = let own = (all-nth i h p) .fit in (low, record { sized = size-within inB (own .sized); ranged = within-ranged inB (own .ranged) })
+  closed-fit {inB} (stride i g p low _ _) h = (low, size-reduced g (size-within inB ((all-nth i h p) .fit .sized)), residues (positive low) _)
 
 -- ---- the strides
 -- The row of a close by stride gives g two bytes.
@@ -183,12 +180,20 @@ in-two (negsuc n) h = record { abs = omega arith }
 fit-in-four : {K : ℕ} {t : Form} → Fit K t → FormInWidth 4 K t
 fit-in-four {t = t} h = record { size = h .sized .size; coeffs = all-weaken in-four (h .ranged .coeffs); d = in-four (t .d) (h .ranged .d) }
 
+-- a remainder is below g, and g has two bytes
+residue-in-four : {g : ℕ} → g < 65536 → (z : ℤ) → Residue g z → InWidth 4 z
+residue-in-four s (pos n) h = record { high = omega (ints, h .high); low = omega arith }
+residue-in-four s (negsuc n) h = absurd (omega (ints, h .low))
+
+residues-in-four : {K g : ℕ} {t : Form} → Size K t → g < 65536 → Residues g t → FormInWidth 4 K t
+residues-in-four {t = t} k s h = record { size = k .size; coeffs = all-weaken (residue-in-four s) (h .of-coeffs); d = residue-in-four s (t .d) (h .of-d) }
+
 two-fit : {K : ℕ} {t : Form} → FormInWidth 2 K t → Fit K t
 two-fit {t = t} h = record { sized = record { size = h .size }; ranged = record { coeffs = all-weaken in-two (h .coeffs); d = in-two (t .d) (h .d) } }
 
 encodable : (K : ℕ) (I : Formula) → FitFormula K I → ShortFormula I → Encodable K I
 encodable K (literal k t) h s = fit-in-four h
-encodable K (g divides t) h s = (h .0, in-four (pos g) (record { abs = omega arith }), fit-in-four (h .1))
+encodable K (g divides t) h s = (h .0, in-four (pos g) (record { abs = omega arith }), residues-in-four (h .1) s (h .2))
 encodable K (I and J) h s = (encodable K I (h .0) (s .0), encodable K J (h .1) (s .1))
 encodable K (I or J) h s = (encodable K I (h .0) (s .0), encodable K J (h .1) (s .1))
 

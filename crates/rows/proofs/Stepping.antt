@@ -48,11 +48,11 @@ full-row t e h = ltb-false (t .rows .0) 1024 (counted-full (ltb (t .rows .0) 102
 module _ (K : ℕ) (kinds : List ℕ) (buf : List ℤ) (t : Tally) (row : rules.Row) where
   pub row-full : 1024 ≤ t .rows .0 → Steps (rowChecked K kinds buf t row) K kinds buf t kinds buf (Refused 18)
   unfolding _>>_ need
-  row-full h = record { kept = kept-refl; by = record { is = λ inB deeper next at fs. rw (le-ltb (t .rows .0) 1024 h) } }
+  row-full h = record { kept = kept-refl; by = record { is = λ deeper next at fs. rw (le-ltb (t .rows .0) 1024 h) } }
 
   row-counted : t .rows .0 < 1024 → Same (rowChecked K kinds buf t row) (rowLeft K kinds buf t row)
   unfolding _>>_ need
-  row-counted h = record { is = λ inB deeper next at fs. rw (lt-ltb (t .rows .0) 1024 h) }
+  row-counted h = record { is = λ deeper next at fs. rw (lt-ltb (t .rows .0) 1024 h) }
 
 -- A row that makes a line, from what `combine`, `reduce` or `scale` answers.
 module _ {K : ℕ} {kinds : List ℕ} {buf : List ℤ} (t : Tally) {s : rules.Step} {kinds′ : List ℕ} {buf′ : List ℤ} (h : t .rows .0 < 1024) where
@@ -60,14 +60,14 @@ module _ {K : ℕ} {kinds : List ℕ} {buf : List ℤ} (t : Tally) {s : rules.St
   unfolding checkRow
   derive-by (derived-of.Refused x) a = record {
     kept = a .kept;
-    by = record { is = λ inB deeper next at fs. row-counted K kinds buf t (rules.Derive s) h .is inB deeper next at fs ∙ a .by at (λ l. next (suc (t .rows .0)) (some l) (linesIn K kinds buf (t .lines .0) ▷ l)) };
+    by = record { is = λ deeper next at fs. row-counted K kinds buf t (rules.Derive s) h .is deeper next at fs ∙ a .by at (λ l. next (suc (t .rows .0)) (some l) (linesIn K kinds buf (t .lines .0) ▷ l)) };
   }
   derive-by (derived-of.Made t′) a = record {
     kept = a .kept;
     by = (
       record {
-        is = λ inB deeper next at fs.
-            row-counted K kinds buf t (rules.Derive s) h .is inB deeper next at fs
+        is = λ deeper next at fs.
+            row-counted K kinds buf t (rules.Derive s) h .is deeper next at fs
             ∙ a .by .0 at (λ l. next (suc (t .rows .0)) (some l) (linesIn K kinds buf (t .lines .0) ▷ l))
             ∙ rw (add-one, add-one, lines-more K (t .lines .0) (agree-sym (a .kept .lines-same)) (agree-sym (a .kept .kinds-same)));
       },
@@ -98,20 +98,20 @@ module _ (t : Tally) (h : t .rows .0 < 1024) {u : Tally} (e : u ≡ moreRows t) 
 module _ {K : ℕ} {p : List ℕ} {start : ℕ} {buf : List ℤ} (made : Bool) (t : Tally) where
   pub claim-out : made ≡ false → Claims K p start made buf t (Refused 4)
   unfolding checkEntry agreeing _>>_
-  claim-out h = record { steps = λ len kinds el. record { kept = kept-refl; by = record { is = λ inB deeper next at fs. rw h } } }
+  claim-out h = record { steps = λ len kinds el. record { kept = kept-refl; by = record { is = λ deeper next at fs. rw h } } }
 
   module _ {n : ℕ} {b : Bool} (h : made ≡ true) (en : n ≡ t .lines .0 - 1) (c : Claimed K p start buf n b) where
     pub claim-wrong : b ≡ false → Claims K p start made buf t (Refused 14)
     unfolding checkEntry agreeing _>>_ need
-    claim-wrong e = record { steps = λ len kinds el. record { kept = kept-refl; by = record { is = λ inB deeper next at fs. rw (h, ← en, c .is len kinds el, e) } } }
+    claim-wrong e = record { steps = λ len kinds el. record { kept = kept-refl; by = record { is = λ deeper next at fs. rw (h, ← en, c .is len kinds el, e) } } }
 
     pub claim-right : b ≡ true → Claims K p start made buf t Stepped.Claimed
     unfolding checkEntry agreeing _>>_ need
-    claim-right e = record { steps = λ len kinds el. record { kept = kept-refl; by = record { is = λ inB deeper next at fs. rw (h, ← en, c .is len kinds el, e) } } }
+    claim-right e = record { steps = λ len kinds el. record { kept = kept-refl; by = record { is = λ deeper next at fs. rw (h, ← en, c .is len kinds el, e) } } }
 
 -- ---- the field of a branch, by its entry
 same-trans : {f g h : Checked} → Same f g → Same g h → Same f h
-same-trans a b = record { is = λ inB deeper next at fs. a .is inB deeper next at fs ∙ b .is inB deeper next at fs }
+same-trans a b = record { is = λ deeper next at fs. a .is deeper next at fs ∙ b .is deeper next at fs }
 
 pub steps-same : {f g : Checked} {K : ℕ} {kinds : List ℕ} {buf : List ℤ} {t : Tally} {kinds′ : List ℕ} {buf′ : List ℤ} (r : Stepped)
     → Same f g → Steps g K kinds buf t kinds′ buf′ r → Steps f K kinds buf t kinds′ buf′ r
@@ -128,17 +128,17 @@ there-made false K kinds buf n = refl
 
 module _ {K : ℕ} (kinds : List ℕ) (buf : List ℤ) (t : Tally) {p : List ℕ} {tag start len : ℕ} (made : Bool) {x : entries.Entry} (e : Entered K p tag start len made x) where
   enters : (y : Result rules.Entry) (at : ℕ) → stated K at (take len (drop start p)) x ≡ y
-      → (inB : ℕ → Bool) (deeper : Option Checker) (next : Next) (fs : Fields)
-      → fieldChecked K kinds buf t made tag (take len (drop start p)) inB deeper next at fs
-      ≡ (y >>= λ z. checkEntry edition1 K inB deeper next at (t .rows .0) (lastMade made K kinds buf (t .lines .0)) (linesIn K kinds buf (t .lines .0)) fs z)
-  enters y at q inB deeper next fs =
-      ap (λ (w : Result rules.Entry). w >>= λ z. checkEntry edition1 K inB deeper next at (t .rows .0) (lastMade made K kinds buf (t .lines .0)) (linesIn K kinds buf (t .lines .0)) fs z)
+      → (deeper : Option Checker) (next : Next) (fs : Fields)
+      → fieldChecked K kinds buf t made tag (take len (drop start p)) deeper next at fs
+      ≡ (y >>= λ z. checkEntry edition1 K deeper next at (t .rows .0) (lastMade made K kinds buf (t .lines .0)) (linesIn K kinds buf (t .lines .0)) fs z)
+  enters y at q deeper next fs =
+      ap (λ (w : Result rules.Entry). w >>= λ z. checkEntry edition1 K deeper next at (t .rows .0) (lastMade made K kinds buf (t .lines .0)) (linesIn K kinds buf (t .lines .0)) fs z)
       (e .is at (lastMade made K kinds buf (t .lines .0)) (there-made made K kinds buf (t .lines .0)) ∙ q)
 
   field-row : (row : rules.Row) → ((at : ℕ) → stated K at (take len (drop start p)) x ≡ accepted (rules.row row))
       → Same (fieldChecked K kinds buf t made tag (take len (drop start p))) (rowChecked K kinds buf t row)
   unfolding _>>=_ checkEntry
-  field-row row q = record { is = λ inB deeper next at fs. enters (accepted (rules.row row)) at (q at) inB deeper next fs }
+  field-row row q = record { is = λ deeper next at fs. enters (accepted (rules.row row)) at (q at) deeper next fs }
 
   pub step-row : (row : rules.Row) → ((at : ℕ) → stated K at (take len (drop start p)) x ≡ accepted (rules.row row)) → {kinds′ : List ℕ} {buf′ : List ℤ} {r : Stepped}
       → Steps (rowChecked K kinds buf t row) K kinds buf t kinds′ buf′ r
@@ -150,12 +150,12 @@ module _ {K : ℕ} (kinds : List ℕ) (buf : List ℤ) (t : Tally) {p : List ℕ
   unfolding _>>=_
   step-claim {from} {r} ex ef el c =
       steps-same r
-      (record { is = λ inB deeper next at fs. enters (stated K at (take len (drop start p)) (entry-of.Claim from)) at (ap (stated K at (take len (drop start p))) ex) inB deeper next fs })
+      (record { is = λ deeper next at fs. enters (stated K at (take len (drop start p)) (entry-of.Claim from)) at (ap (stated K at (take len (drop start p))) ex) deeper next fs })
       ((rw ef at c) .steps len kinds el)
 
   pub step-refused : {n : ℕ} → x ≡ entry-of.Refused n → Steps (fieldChecked K kinds buf t made tag (take len (drop start p))) K kinds buf t kinds buf (Refused n)
   unfolding _>>=_
   step-refused {n} ex = record {
     kept = kept-refl;
-    by = record { is = λ inB deeper next at fs. enters (stated K at (take len (drop start p)) (entry-of.Refused n)) at (ap (stated K at (take len (drop start p))) ex) inB deeper next fs };
+    by = record { is = λ deeper next at fs. enters (stated K at (take len (drop start p)) (entry-of.Refused n)) at (ap (stated K at (take len (drop start p))) ex) deeper next fs };
   }

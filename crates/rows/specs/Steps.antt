@@ -29,32 +29,32 @@ abbrev pub steppedOf : derived.Derived → Stepped
 steppedOf (derived-of.Refused x) = Refused x
 steppedOf (derived-of.Made t) = Made t
 
--- What is checked at a place of any proof: given the masks, what checks deeper branches, what follows in this branch, the place, and the fields after it.
+-- What is checked at a place of any proof: given what checks deeper branches, what follows in this branch, the place, and the fields after it.
 abbrev pub Checked : Type 0
-Checked = (inB : ℕ → Bool) (deeper : Option Checker) (next : Next) (at : ℕ) (fs : Fields) → Result Closing
+Checked = (deeper : Option Checker) (next : Next) (at : ℕ) (fs : Fields) → Result Closing
 
 pub record Same (f g : Checked) : Type 0 where
-  pub is : (inB : ℕ → Bool) (deeper : Option Checker) (next : Next) (at : ℕ) (fs : Fields) → f inB deeper next at fs ≡ g inB deeper next at fs
+  pub is : (deeper : Option Checker) (next : Next) (at : ℕ) (fs : Fields) → f deeper next at fs ≡ g deeper next at fs
 
 -- A row, counted first, in a branch of the tally's lines.
 abbrev pub rowChecked : (K : ℕ) (kinds : List ℕ) (buf : List ℤ) (t : Tally) → rules.Row → Checked
-rowChecked K kinds buf t row inB deeper next at fs =
-    need (refusal at 18) (ltb (t .rows .0) (edition1 .rows)) >> checkRow edition1 K inB deeper next at (t .rows .0) (linesIn K kinds buf (t .lines .0)) fs row
+rowChecked K kinds buf t row deeper next at fs =
+    need (refusal at 18) (ltb (t .rows .0) (edition1 .rows)) >> checkRow edition1 K deeper next at (t .rows .0) (linesIn K kinds buf (t .lines .0)) fs row
 
 -- The same row, counted already.
 abbrev pub rowLeft : (K : ℕ) (kinds : List ℕ) (buf : List ℤ) (t : Tally) → rules.Row → Checked
-rowLeft K kinds buf t row inB deeper next at fs = checkRow edition1 K inB deeper next at (t .rows .0) (linesIn K kinds buf (t .lines .0)) fs row
+rowLeft K kinds buf t row deeper next at fs = checkRow edition1 K deeper next at (t .rows .0) (linesIn K kinds buf (t .lines .0)) fs row
 
 abbrev pub moreRows : Tally → Tally
 moreRows t = tally (t .rows .0 + 1) (t .lines .0) (t .«open»)
 
 -- What f is, by the code's answer.
 abbrev pub SteppedBy : (f : Checked) (K : ℕ) (kinds : List ℕ) (buf : List ℤ) (t : Tally) (kinds′ : List ℕ) (buf′ : List ℤ) → Stepped → Type 0
-SteppedBy f K kinds buf t kinds′ buf′ (Refused x) = Same f (λ inB deeper next at fs. refused (refusal at x))
+SteppedBy f K kinds buf t kinds′ buf′ (Refused x) = Same f (λ deeper next at fs. refused (refusal at x))
 SteppedBy f K kinds buf t kinds′ buf′ (Made t′) =
-    Same f (λ inB deeper next at fs. next (t .rows .0 + 1) (some (lineIn K kinds′ buf′ (t .lines .0))) (linesIn K kinds′ buf′ (t .lines .0 + 1)))
+    Same f (λ deeper next at fs. next (t .rows .0 + 1) (some (lineIn K kinds′ buf′ (t .lines .0))) (linesIn K kinds′ buf′ (t .lines .0 + 1)))
     × Limited K buf′ (t .lines .0 + 1) × (t′ ≡ moreLines (moreRows t))
-SteppedBy f K kinds buf t kinds′ buf′ Claimed = Same f (λ inB deeper next at fs. next (t .rows .0) none (linesIn K kinds buf (t .lines .0)))
+SteppedBy f K kinds buf t kinds′ buf′ Claimed = Same f (λ deeper next at fs. next (t .rows .0) none (linesIn K kinds buf (t .lines .0)))
 SteppedBy f K kinds buf t kinds′ buf′ (Strengthens t′ i) = Same f (rowLeft K kinds buf t (rules.Strengthen (i .0))) × (t′ ≡ moreRows t)
 SteppedBy f K kinds buf t kinds′ buf′ (ClosesNumber t′ i) = Same f (rowLeft K kinds buf t (rules.CloseNumber (i .0))) × (t′ ≡ moreRows t)
 SteppedBy f K kinds buf t kinds′ buf′ (ClosesStride t′ i g) =
@@ -71,9 +71,9 @@ lastMade false K kinds buf n = none
 
 -- A field of the branch, read and then checked.
 abbrev pub fieldChecked : (K : ℕ) (kinds : List ℕ) (buf : List ℤ) (t : Tally) (made : Bool) (tag : ℕ) (contents : List ℕ) → Checked
-fieldChecked K kinds buf t made tag contents inB deeper next at fs =
+fieldChecked K kinds buf t made tag contents deeper next at fs =
     entry edition1 K (lastMade made K kinds buf (t .lines .0)) (record { at = at; tag = tag; contents = contents })
-    >>= λ x. checkEntry edition1 K inB deeper next at (t .rows .0) (lastMade made K kinds buf (t .lines .0)) (linesIn K kinds buf (t .lines .0)) fs x
+    >>= λ x. checkEntry edition1 K deeper next at (t .rows .0) (lastMade made K kinds buf (t .lines .0)) (linesIn K kinds buf (t .lines .0)) fs x
 
 -- A row that splits or ends the branch is counted and left as it is, in any buffers.
 pub record Counts (row : rules.Row) (t : Tally) (r : Stepped) : Type 0 where
@@ -81,8 +81,8 @@ pub record Counts (row : rules.Row) (t : Tally) (r : Stepped) : Type 0 where
 
 -- The claim whose contents start there, checked. 4, 14.
 abbrev pub claimChecked : (K : ℕ) (p : List ℕ) (start : ℕ) (made : Bool) (kinds : List ℕ) (buf : List ℤ) (t : Tally) (len : ℕ) → Checked
-claimChecked K p start made kinds buf t len inB deeper next at fs =
-    checkEntry edition1 K inB deeper next at (t .rows .0) (lastMade made K kinds buf (t .lines .0)) (linesIn K kinds buf (t .lines .0)) fs
+claimChecked K p start made kinds buf t len deeper next at fs =
+    checkEntry edition1 K deeper next at (t .rows .0) (lastMade made K kinds buf (t .lines .0)) (linesIn K kinds buf (t .lines .0)) fs
     (rules.claim (formFrom (edition1 .termWidth) K (take len (drop start p))) (formFrom (edition1 .termWidth) K (drop (formWidth (edition1 .termWidth) K) (take len (drop start p)))))
 
 pub record Claims (K : ℕ) (p : List ℕ) (start : ℕ) (made : Bool) (buf : List ℤ) (t : Tally) (r : Stepped) : Type 0 where

@@ -1,10 +1,9 @@
 -- `lines::all_divisible` meets its contract: after x turns the first x numbers pass. Assumes nothing.
 use Prim.Native.Nat.{_-_}
 use native.Mathlib.Omega.{arith}
-use mathlib.Core.Path.{_∙_}
 use Rattle.lines.proofs.Every.{Passed, passed-none, passed-next, passed-fails, passed-all}
 use mir.Syntax.{w64}
-use mir.Val.{toZ, ofZ}
+use mir.Val.{toZ}
 use mir.ValLaws.{toZ-ofZ}
 use Rattle.integers.specs.Divides.{divb}
 use Rattle.lines.proofs.all_divisible.Statement.{statement}

@@ -1,7 +1,6 @@
 -- `lines::each_fits` meets its contract: after x turns the first x numbers pass. Assumes nothing.
 use Prim.Native.Nat.{_-_}
 use native.Mathlib.Omega.{arith}
-use mathlib.Core.Path.{_∙_}
 use Rattle.calculus.specs.Rules.{small}
 use Rattle.lines.proofs.Every.{Passed, passed-none, passed-next, passed-fails, passed-all}
 use Rattle.lines.proofs.each_fits.Statement.{statement}

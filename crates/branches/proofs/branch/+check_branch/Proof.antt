@@ -3,7 +3,6 @@
 use native.Mathlib.Omega.{arith}
 use mir.ValLaws.{toZ-ofZ}
 use Rattle.integers.specs.Magnitude.{within-fits}
-use Rattle.lines.specs.Occurrence.{told}
 use Rattle.branches.proofs.Staging.{started-room, stopped-fault, number-comes, stride-comes, split-comes, number-closed, stride-closed, split-refused}
 use Rattle.branches.proofs.Finishing.{room-left, first-started, split-fault, rest-open, rest-divided, split-checks, second-copy, second-started, rest-fault, third-open, third-copy, third-started, rest-checks, opens-less, few-open, divided, first-stands, resumed-checks}
 use Prim.Native.Nat.{ℕ, _-_, _<_}
@@ -25,19 +24,19 @@ use Rattle.closes.proofs.formulas.put_pair.Reads as put-pair-reads
 use Rattle.branches.proofs.branch.+check_branch.{statement}
 use Rattle.branches.proofs.branch.+check_branch.Tie.{close}
 
-abbrev μ-check-branch : Measures 5 check-branch-kinds.ps ℕ
+abbrev μ-check-branch : Measures 4 check-branch-kinds.ps ℕ
 μ-check-branch κs a = 32 - a .1 .1 .1 .1 .0 .«open»
 
-abbrev check-branch-at : ℕ → In 5 check-branch-kinds.ps
+abbrev check-branch-at : ℕ → In 4 check-branch-kinds.ps
 check-branch-at t =
-    and 5 check-branch-kinds.ps (is 5 check-branch-kinds.ps μ-check-branch t) check-branch.Pre
+    and 4 check-branch-kinds.ps (is 4 check-branch-kinds.ps μ-check-branch t) check-branch.Pre
 
-abbrev check-branch-below : ℕ → In 5 check-branch-kinds.ps
+abbrev check-branch-below : ℕ → In 4 check-branch-kinds.ps
 check-branch-below t =
     and
-    5
+    4
     check-branch-kinds.ps
-    (falls 5 check-branch-kinds.ps _<_ μ-check-branch t)
+    (falls 4 check-branch-kinds.ps _<_ μ-check-branch t)
     check-branch.Pre
 
 -- what is known of the functions that it calls
@@ -47,7 +46,7 @@ check-branch-claims t =
 
 module _ (t : ℕ) where
   check-branch-entries-requires : check-branch-lts.Need-entries-requires (check-branch-claims t) (check-branch-at t) check-branch.Post
-  check-branch-entries-requires c κs = let st = c .before .before .before .before .before .before .pre .1 in (st .ready, st .spare)
+  check-branch-entries-requires c κs = let st = c .before .before .before .before .before .pre .1 in (st .ready, st .spare)
 
   check-branch-enum-known-number : check-branch-lts.Need-enum-known-number (check-branch-claims t) (check-branch-at t) check-branch.Post
   check-branch-enum-known-number c = search needs
@@ -59,14 +58,14 @@ module _ (t : ℕ) where
   check-branch-same-length-2 c = search needs
 
   check-branch-returns : check-branch-lts.Need-returns (check-branch-claims t) (check-branch-at t) check-branch.Post
-  check-branch-returns c = stopped-fault _ _ _ (c .before .before .before .before .before .before .entries .ensures) (c .before .number .given .1)
+  check-branch-returns c = stopped-fault _ _ (c .before .before .before .before .before .before .entries .ensures) (c .before .number .given .1)
 
   check-branch-enum-known-t : check-branch-lts.Need-enum-known-t (check-branch-claims t) (check-branch-at t) check-branch.Post
   check-branch-enum-known-t c = search needs
 
   check-branch-close-number-requires : check-branch-lts.Need-close-number-requires (check-branch-claims t) (check-branch-at t) check-branch.Post
   check-branch-close-number-requires c κs =
-      let st = c .before .before .before .before .before .before .before .before .before .before .before .before .before .before .before .before .pre .1 in
+      let st = c .before .before .before .before .before .before .before .before .before .before .before .before .before .before .before .pre .1 in
       let stop = c .before .before .before .before .before .before .before .before .before .entries .ensures in
       (number-comes stop (c .before .before .before .before .t .given .1) .ready, started-room st)
 
@@ -88,18 +87,18 @@ module _ (t : ℕ) where
   check-branch-returns-2 : check-branch-lts.Need-returns-2 (check-branch-claims t) (check-branch-at t) check-branch.Post
   check-branch-returns-2 c =
       let stop = c .before .before .before .before .before .before .before .before .before .before .before .before .before .before .entries .ensures in
-      number-closed stop _ _ _ _ (c .before .before .before .before .close-number .result) (c .before .before .before .before .before .before .before .before .before .t .given .1) (c .before .before .before .before .close-number .ensures) (c .before .returned .ensures) (c .closed .ensures)
+      number-closed stop _ _ _ (c .before .before .before .before .close-number .result) (c .before .before .before .before .before .before .before .before .before .t .given .1) (c .before .before .before .before .close-number .ensures) (c .before .returned .ensures) (c .closed .ensures)
 
   check-branch-enum-known-t-2 : check-branch-lts.Need-enum-known-t-2 (check-branch-claims t) (check-branch-at t) check-branch.Post
   check-branch-enum-known-t-2 c = search needs
 
   check-branch-close-stride-requires : check-branch-lts.Need-close-stride-requires (check-branch-claims t) (check-branch-at t) check-branch.Post
   check-branch-close-stride-requires c κs =
-      let st = c .before .before .before .before .before .before .before .before .before .before .before .before .before .before .before .before .pre .1 in
+      let st = c .before .before .before .before .before .before .before .before .before .before .before .before .before .before .before .pre .1 in
       let stop = c .before .before .before .before .before .before .before .before .before .entries .ensures in
       let y = stride-comes stop (c .before .before .before .before .t2 .given .1) in
       let fits = within-fits (y .1 .within) tt in
-      simp toZ-ofZ (y .0 .ready, (y .1, (st .b-mask, started-room st)))
+      simp toZ-ofZ (y .0 .ready, (y .1, started-room st))
 
   check-branch-returned-requires-2 : check-branch-lts.Need-returned-requires-2 (check-branch-claims t) (check-branch-at t) check-branch.Post
   check-branch-returned-requires-2 c κs = search needs
@@ -120,7 +119,7 @@ module _ (t : ℕ) where
   check-branch-returns-3 c =
       let stop = c .before .before .before .before .before .before .before .before .before .before .before .before .before .before .entries .ensures in
       let fits = within-fits (stride-comes stop (c .before .before .before .before .before .before .before .before .before .t2 .given .1) .1 .within) tt in
-      stride-closed stop _ _ _ _ (c .before .before .before .before .close-stride .result) (c .before .before .before .before .before .before .before .before .before .t2 .given .1) (simp toZ-ofZ at (c .before .before .before .before .close-stride .ensures)) (c .before .returned2 .ensures) (c .closed2 .ensures)
+      stride-closed stop _ _ _ (c .before .before .before .before .close-stride .result) (c .before .before .before .before .before .before .before .before .before .t2 .given .1) (simp toZ-ofZ at (c .before .before .before .before .close-stride .ensures)) (c .before .returned2 .ensures) (c .closed2 .ensures)
 
   check-branch-enum-known-t-3 : check-branch-lts.Need-enum-known-t-3 (check-branch-claims t) (check-branch-at t) check-branch.Post
   check-branch-enum-known-t-3 c = search needs
@@ -145,7 +144,7 @@ module _ (t : ℕ) where
       let stop = c .before .before .before .before .before .before .before .before .before .before .before .before .before .before .before .entries .ensures in
       let m = split-comes stop (c .before .before .before .before .before .before .before .before .before .before .t3 .given .1) in
       let s = c .before .before .before .before .before .before .split .ensures in
-      split-refused m (stop .kept) _ _ _ s (c .before .number2 .given .1)
+      split-refused m (stop .kept) _ _ s (c .before .number2 .given .1)
 
   check-branch-enum-known-v : check-branch-lts.Need-enum-known-v (check-branch-claims t) (check-branch-at t) check-branch.Post
   check-branch-enum-known-v c = search needs
@@ -155,12 +154,12 @@ module _ (t : ℕ) where
 
   check-branch-put-pair-requires : check-branch-lts.Need-put-pair-requires (check-branch-claims t) (check-branch-at t) check-branch.Post
   check-branch-put-pair-requires c κs =
-      let st = c .before .before .before .before .before .before .before .before .before .before .before .before .before .before .before .before .before .before .before .before .before .before .before .before .before .pre .1 in
+      let st = c .before .before .before .before .before .before .before .before .before .before .before .before .before .before .before .before .before .before .before .before .before .before .before .before .pre .1 in
       started-room st
 
   check-branch-check-branch-requires : check-branch-lts.Need-check-branch-requires (check-branch-claims t) (check-branch-at t) check-branch.Post
   check-branch-check-branch-requires c κs =
-      let st = c .before .before .before .before .before .before .before .before .before .before .before .before .before .before .before .before .before .before .before .before .before .before .before .before .before .before .before .before .before .before .before .pre .1 in
+      let st = c .before .before .before .before .before .before .before .before .before .before .before .before .before .before .before .before .before .before .before .before .before .before .before .before .before .before .before .before .before .before .pre .1 in
       let stop = c .before .before .before .before .before .before .before .before .before .before .before .before .before .before .before .before .before .before .before .before .before .before .before .before .entries .ensures in
       let m = split-comes stop (c .before .before .before .before .before .before .before .before .before .before .before .before .before .before .before .before .before .before .before .t3 .given .1) in
       let s = c .before .before .before .before .before .before .before .before .before .before .before .before .before .before .before .split .ensures in
@@ -168,7 +167,7 @@ module _ (t : ℕ) where
       let d = divided m (stop .kept) s made st in
       let f = first-stands m (stop .kept) s made in
       let h = c .before .before .before .before .before .put-pair .ensures in
-      (omega (arith, opens-less m (stop .kept) s made, few-open m (stop .kept) s made, c .before .before .before .before .before .before .before .before .before .before .before .before .before .before .before .before .before .before .before .before .before .before .before .before .before .before .before .before .before .before .before .pre .0), first-started d f h)
+      (omega (arith, opens-less m (stop .kept) s made, few-open m (stop .kept) s made, c .before .before .before .before .before .before .before .before .before .before .before .before .before .before .before .before .before .before .before .before .before .before .before .before .before .before .before .before .before .before .pre .0), first-started d f h)
 
   check-branch-enum-known-first : check-branch-lts.Need-enum-known-first (check-branch-claims t) (check-branch-at t) check-branch.Post
   check-branch-enum-known-first c = search needs
@@ -178,7 +177,7 @@ module _ (t : ℕ) where
 
   check-branch-same-length-11 : check-branch-lts.Need-same-length-11 (check-branch-claims t) (check-branch-at t) check-branch.Post
   check-branch-same-length-11 c =
-      let st = c .before .before .before .before .before .before .before .before .before .before .before .before .before .before .before .before .before .before .before .before .before .before .before .before .before .before .before .before .before .before .before .before .before .before .before .before .before .before .before .pre .1 in
+      let st = c .before .before .before .before .before .before .before .before .before .before .before .before .before .before .before .before .before .before .before .before .before .before .before .before .before .before .before .before .before .before .before .before .before .before .before .before .before .before .pre .1 in
       let stop = c .before .before .before .before .before .before .before .before .before .before .before .before .before .before .before .before .before .before .before .before .before .before .before .before .before .before .before .before .before .before .before .before .entries .ensures in
       let m = split-comes stop (c .before .before .before .before .before .before .before .before .before .before .before .before .before .before .before .before .before .before .before .before .before .before .before .before .before .before .before .t3 .given .1) in
       let s = c .before .before .before .before .before .before .before .before .before .before .before .before .before .before .before .before .before .before .before .before .before .before .before .split .ensures in
@@ -187,11 +186,11 @@ module _ (t : ℕ) where
       let f = first-stands m (stop .kept) s made in
       let h = c .before .before .before .before .before .before .before .before .before .before .before .before .before .put-pair .ensures in
       let b = c .before .before .before .before .before .before .before .check-branch .ensures in
-      (resumed-checks m (stop .kept) s made (told (c .before .before .before .before .before .before .before .before .before .before .before .before .before .before .before .before .before .before .before .before .before .before .before .before .before .before .before .before .before .before .before .before .before .before .before .before .before .before .before .args .in-b .now)) (split-fault d f h b (c .enum-told .given .1)) (c .enum-told .given .1)) .kept .lines-length
+      (resumed-checks m (stop .kept) s made (split-fault d f h b (c .enum-told .given .1)) (c .enum-told .given .1)) .kept .lines-length
 
   check-branch-same-length-12 : check-branch-lts.Need-same-length-12 (check-branch-claims t) (check-branch-at t) check-branch.Post
   check-branch-same-length-12 c =
-      let st = c .before .before .before .before .before .before .before .before .before .before .before .before .before .before .before .before .before .before .before .before .before .before .before .before .before .before .before .before .before .before .before .before .before .before .before .before .before .before .before .pre .1 in
+      let st = c .before .before .before .before .before .before .before .before .before .before .before .before .before .before .before .before .before .before .before .before .before .before .before .before .before .before .before .before .before .before .before .before .before .before .before .before .before .before .pre .1 in
       let stop = c .before .before .before .before .before .before .before .before .before .before .before .before .before .before .before .before .before .before .before .before .before .before .before .before .before .before .before .before .before .before .before .before .entries .ensures in
       let m = split-comes stop (c .before .before .before .before .before .before .before .before .before .before .before .before .before .before .before .before .before .before .before .before .before .before .before .before .before .before .before .t3 .given .1) in
       let s = c .before .before .before .before .before .before .before .before .before .before .before .before .before .before .before .before .before .before .before .before .before .before .before .split .ensures in
@@ -200,11 +199,11 @@ module _ (t : ℕ) where
       let f = first-stands m (stop .kept) s made in
       let h = c .before .before .before .before .before .before .before .before .before .before .before .before .before .put-pair .ensures in
       let b = c .before .before .before .before .before .before .before .check-branch .ensures in
-      (resumed-checks m (stop .kept) s made (told (c .before .before .before .before .before .before .before .before .before .before .before .before .before .before .before .before .before .before .before .before .before .before .before .before .before .before .before .before .before .before .before .before .before .before .before .before .before .before .before .args .in-b .now)) (split-fault d f h b (c .enum-told .given .1)) (c .enum-told .given .1)) .kept .kinds-length
+      (resumed-checks m (stop .kept) s made (split-fault d f h b (c .enum-told .given .1)) (c .enum-told .given .1)) .kept .kinds-length
 
   check-branch-same-length-13 : check-branch-lts.Need-same-length-13 (check-branch-claims t) (check-branch-at t) check-branch.Post
   check-branch-same-length-13 c =
-      let st = c .before .before .before .before .before .before .before .before .before .before .before .before .before .before .before .before .before .before .before .before .before .before .before .before .before .before .before .before .before .before .before .before .before .before .before .before .before .before .before .pre .1 in
+      let st = c .before .before .before .before .before .before .before .before .before .before .before .before .before .before .before .before .before .before .before .before .before .before .before .before .before .before .before .before .before .before .before .before .before .before .before .before .before .before .pre .1 in
       let stop = c .before .before .before .before .before .before .before .before .before .before .before .before .before .before .before .before .before .before .before .before .before .before .before .before .before .before .before .before .before .before .before .before .entries .ensures in
       let m = split-comes stop (c .before .before .before .before .before .before .before .before .before .before .before .before .before .before .before .before .before .before .before .before .before .before .before .before .before .before .before .t3 .given .1) in
       let s = c .before .before .before .before .before .before .before .before .before .before .before .before .before .before .before .before .before .before .before .before .before .before .before .split .ensures in
@@ -213,11 +212,11 @@ module _ (t : ℕ) where
       let f = first-stands m (stop .kept) s made in
       let h = c .before .before .before .before .before .before .before .before .before .before .before .before .before .put-pair .ensures in
       let b = c .before .before .before .before .before .before .before .check-branch .ensures in
-      (resumed-checks m (stop .kept) s made (told (c .before .before .before .before .before .before .before .before .before .before .before .before .before .before .before .before .before .before .before .before .before .before .before .before .before .before .before .before .before .before .before .before .before .before .before .before .before .before .before .args .in-b .now)) (split-fault d f h b (c .enum-told .given .1)) (c .enum-told .given .1)) .long
+      (resumed-checks m (stop .kept) s made (split-fault d f h b (c .enum-told .given .1)) (c .enum-told .given .1)) .long
 
   check-branch-returns-5 : check-branch-lts.Need-returns-5 (check-branch-claims t) (check-branch-at t) check-branch.Post
   check-branch-returns-5 c =
-      let st = c .before .before .before .before .before .before .before .before .before .before .before .before .before .before .before .before .before .before .before .before .before .before .before .before .before .before .before .before .before .before .before .before .before .before .before .before .before .before .before .pre .1 in
+      let st = c .before .before .before .before .before .before .before .before .before .before .before .before .before .before .before .before .before .before .before .before .before .before .before .before .before .before .before .before .before .before .before .before .before .before .before .before .before .before .pre .1 in
       let stop = c .before .before .before .before .before .before .before .before .before .before .before .before .before .before .before .before .before .before .before .before .before .before .before .before .before .before .before .before .before .before .before .before .entries .ensures in
       let m = split-comes stop (c .before .before .before .before .before .before .before .before .before .before .before .before .before .before .before .before .before .before .before .before .before .before .before .before .before .before .before .t3 .given .1) in
       let s = c .before .before .before .before .before .before .before .before .before .before .before .before .before .before .before .before .before .before .before .before .before .before .before .split .ensures in
@@ -226,11 +225,11 @@ module _ (t : ℕ) where
       let f = first-stands m (stop .kept) s made in
       let h = c .before .before .before .before .before .before .before .before .before .before .before .before .before .put-pair .ensures in
       let b = c .before .before .before .before .before .before .before .check-branch .ensures in
-      resumed-checks m (stop .kept) s made (told (c .before .before .before .before .before .before .before .before .before .before .before .before .before .before .before .before .before .before .before .before .before .before .before .before .before .before .before .before .before .before .before .before .before .before .before .before .before .before .before .args .in-b .now)) (split-fault d f h b (c .enum-told .given .1)) (c .enum-told .given .1)
+      resumed-checks m (stop .kept) s made (split-fault d f h b (c .enum-told .given .1)) (c .enum-told .given .1)
 
   check-branch-start-requires : check-branch-lts.Need-start-requires (check-branch-claims t) (check-branch-at t) check-branch.Post
   check-branch-start-requires c κs =
-      let st = c .before .before .before .before .before .before .before .before .before .before .before .before .before .before .before .before .before .before .before .before .before .before .before .before .before .before .before .before .before .before .before .before .before .before .before .before .before .before .before .before .before .before .pre .1 in
+      let st = c .before .before .before .before .before .before .before .before .before .before .before .before .before .before .before .before .before .before .before .before .before .before .before .before .before .before .before .before .before .before .before .before .before .before .before .before .before .before .before .before .before .pre .1 in
       let stop = c .before .before .before .before .before .before .before .before .before .before .before .before .before .before .before .before .before .before .before .before .before .before .before .before .before .before .before .before .before .before .before .before .before .before .before .entries .ensures in
       let m = split-comes stop (c .before .before .before .before .before .before .before .before .before .before .before .before .before .before .before .before .before .before .before .before .before .before .before .before .before .before .before .before .before .before .t3 .given .1) in
       let s = c .before .before .before .before .before .before .before .before .before .before .before .before .before .before .before .before .before .before .before .before .before .before .before .before .before .before .split .ensures in
@@ -245,7 +244,7 @@ module _ (t : ℕ) where
 
   check-branch-put-pair-requires-2 : check-branch-lts.Need-put-pair-requires-2 (check-branch-claims t) (check-branch-at t) check-branch.Post
   check-branch-put-pair-requires-2 c κs =
-      let st = c .before .before .before .before .before .before .before .before .before .before .before .before .before .before .before .before .before .before .before .before .before .before .before .before .before .before .before .before .before .before .before .before .before .before .before .before .before .before .before .before .before .before .before .before .before .before .before .pre .1 in
+      let st = c .before .before .before .before .before .before .before .before .before .before .before .before .before .before .before .before .before .before .before .before .before .before .before .before .before .before .before .before .before .before .before .before .before .before .before .before .before .before .before .before .before .before .before .before .before .before .pre .1 in
       let stop = c .before .before .before .before .before .before .before .before .before .before .before .before .before .before .before .before .before .before .before .before .before .before .before .before .before .before .before .before .before .before .before .before .before .before .before .before .before .before .before .before .entries .ensures in
       let m = split-comes stop (c .before .before .before .before .before .before .before .before .before .before .before .before .before .before .before .before .before .before .before .before .before .before .before .before .before .before .before .before .before .before .before .before .before .before .before .t3 .given .1) in
       let s = c .before .before .before .before .before .before .before .before .before .before .before .before .before .before .before .before .before .before .before .before .before .before .before .before .before .before .before .before .before .before .before .split .ensures in
@@ -260,7 +259,7 @@ module _ (t : ℕ) where
 
   check-branch-check-branch-requires-2 : check-branch-lts.Need-check-branch-requires-2 (check-branch-claims t) (check-branch-at t) check-branch.Post
   check-branch-check-branch-requires-2 c κs =
-      let st = c .before .before .before .before .before .before .before .before .before .before .before .before .before .before .before .before .before .before .before .before .before .before .before .before .before .before .before .before .before .before .before .before .before .before .before .before .before .before .before .before .before .before .before .before .before .before .before .before .before .before .before .before .before .pre .1 in
+      let st = c .before .before .before .before .before .before .before .before .before .before .before .before .before .before .before .before .before .before .before .before .before .before .before .before .before .before .before .before .before .before .before .before .before .before .before .before .before .before .before .before .before .before .before .before .before .before .before .before .before .before .before .before .pre .1 in
       let stop = c .before .before .before .before .before .before .before .before .before .before .before .before .before .before .before .before .before .before .before .before .before .before .before .before .before .before .before .before .before .before .before .before .before .before .before .before .before .before .before .before .before .before .before .before .before .before .entries .ensures in
       let m = split-comes stop (c .before .before .before .before .before .before .before .before .before .before .before .before .before .before .before .before .before .before .before .before .before .before .before .before .before .before .before .before .before .before .before .before .before .before .before .before .before .before .before .before .before .t3 .given .1) in
       let s = c .before .before .before .before .before .before .before .before .before .before .before .before .before .before .before .before .before .before .before .before .before .before .before .before .before .before .before .before .before .before .before .before .before .before .before .before .before .split .ensures in
@@ -274,7 +273,7 @@ module _ (t : ℕ) where
       let lines₂ = c .before .before .before .before .before .before .before .before .before .before .start .ensures .0 in
       let kinds₂ = c .before .before .before .before .before .before .before .before .before .before .start .ensures .1 in
       let h₂ = c .before .before .before .before .before .put-pair2 .ensures in
-      (omega (arith, opens-less m (stop .kept) s made, few-open m (stop .kept) s made, rest-open d f h b e, c .before .before .before .before .before .before .before .before .before .before .before .before .before .before .before .before .before .before .before .before .before .before .before .before .before .before .before .before .before .before .before .before .before .before .before .before .before .before .before .before .before .before .before .before .before .before .before .before .before .before .before .before .before .pre .0), second-started d₂ lines₂ kinds₂ h₂)
+      (omega (arith, opens-less m (stop .kept) s made, few-open m (stop .kept) s made, rest-open d f h b e, c .before .before .before .before .before .before .before .before .before .before .before .before .before .before .before .before .before .before .before .before .before .before .before .before .before .before .before .before .before .before .before .before .before .before .before .before .before .before .before .before .before .before .before .before .before .before .before .before .before .before .before .before .pre .0), second-started d₂ lines₂ kinds₂ h₂)
 
   check-branch-enum-known-second : check-branch-lts.Need-enum-known-second (check-branch-claims t) (check-branch-at t) check-branch.Post
   check-branch-enum-known-second c = search needs
@@ -284,7 +283,7 @@ module _ (t : ℕ) where
 
   check-branch-same-length-14 : check-branch-lts.Need-same-length-14 (check-branch-claims t) (check-branch-at t) check-branch.Post
   check-branch-same-length-14 c =
-      let st = c .before .before .before .before .before .before .before .before .before .before .before .before .before .before .before .before .before .before .before .before .before .before .before .before .before .before .before .before .before .before .before .before .before .before .before .before .before .before .before .before .before .before .before .before .before .before .before .before .before .before .before .before .before .before .before .before .before .before .before .before .before .pre .1 in
+      let st = c .before .before .before .before .before .before .before .before .before .before .before .before .before .before .before .before .before .before .before .before .before .before .before .before .before .before .before .before .before .before .before .before .before .before .before .before .before .before .before .before .before .before .before .before .before .before .before .before .before .before .before .before .before .before .before .before .before .before .before .before .pre .1 in
       let stop = c .before .before .before .before .before .before .before .before .before .before .before .before .before .before .before .before .before .before .before .before .before .before .before .before .before .before .before .before .before .before .before .before .before .before .before .before .before .before .before .before .before .before .before .before .before .before .before .before .before .before .before .before .before .before .entries .ensures in
       let m = split-comes stop (c .before .before .before .before .before .before .before .before .before .before .before .before .before .before .before .before .before .before .before .before .before .before .before .before .before .before .before .before .before .before .before .before .before .before .before .before .before .before .before .before .before .before .before .before .before .before .before .before .before .t3 .given .1) in
       let s = c .before .before .before .before .before .before .before .before .before .before .before .before .before .before .before .before .before .before .before .before .before .before .before .before .before .before .before .before .before .before .before .before .before .before .before .before .before .before .before .before .before .before .before .before .before .split .ensures in
@@ -299,11 +298,11 @@ module _ (t : ℕ) where
       let kinds₂ = c .before .before .before .before .before .before .before .before .before .before .before .before .before .before .before .before .before .before .start .ensures .1 in
       let h₂ = c .before .before .before .before .before .before .before .before .before .before .before .before .before .put-pair2 .ensures in
       let b₂ = c .before .before .before .before .before .before .before .check-branch2 .ensures in
-      (resumed-checks m (stop .kept) s made (told (c .before .before .before .before .before .before .before .before .before .before .before .before .before .before .before .before .before .before .before .before .before .before .before .before .before .before .before .before .before .before .before .before .before .before .before .before .before .before .before .before .before .before .before .before .before .before .before .before .before .before .before .before .before .before .before .before .before .before .before .before .before .args .in-b .now)) (split-checks d f h b e (rest-fault d₂ lines₂ kinds₂ h₂ b₂ (c .enum-told2 .given .1))) (c .enum-told2 .given .1)) .kept .lines-length
+      (resumed-checks m (stop .kept) s made (split-checks d f h b e (rest-fault d₂ lines₂ kinds₂ h₂ b₂ (c .enum-told2 .given .1))) (c .enum-told2 .given .1)) .kept .lines-length
 
   check-branch-same-length-15 : check-branch-lts.Need-same-length-15 (check-branch-claims t) (check-branch-at t) check-branch.Post
   check-branch-same-length-15 c =
-      let st = c .before .before .before .before .before .before .before .before .before .before .before .before .before .before .before .before .before .before .before .before .before .before .before .before .before .before .before .before .before .before .before .before .before .before .before .before .before .before .before .before .before .before .before .before .before .before .before .before .before .before .before .before .before .before .before .before .before .before .before .before .before .pre .1 in
+      let st = c .before .before .before .before .before .before .before .before .before .before .before .before .before .before .before .before .before .before .before .before .before .before .before .before .before .before .before .before .before .before .before .before .before .before .before .before .before .before .before .before .before .before .before .before .before .before .before .before .before .before .before .before .before .before .before .before .before .before .before .before .pre .1 in
       let stop = c .before .before .before .before .before .before .before .before .before .before .before .before .before .before .before .before .before .before .before .before .before .before .before .before .before .before .before .before .before .before .before .before .before .before .before .before .before .before .before .before .before .before .before .before .before .before .before .before .before .before .before .before .before .before .entries .ensures in
       let m = split-comes stop (c .before .before .before .before .before .before .before .before .before .before .before .before .before .before .before .before .before .before .before .before .before .before .before .before .before .before .before .before .before .before .before .before .before .before .before .before .before .before .before .before .before .before .before .before .before .before .before .before .before .t3 .given .1) in
       let s = c .before .before .before .before .before .before .before .before .before .before .before .before .before .before .before .before .before .before .before .before .before .before .before .before .before .before .before .before .before .before .before .before .before .before .before .before .before .before .before .before .before .before .before .before .before .split .ensures in
@@ -318,11 +317,11 @@ module _ (t : ℕ) where
       let kinds₂ = c .before .before .before .before .before .before .before .before .before .before .before .before .before .before .before .before .before .before .start .ensures .1 in
       let h₂ = c .before .before .before .before .before .before .before .before .before .before .before .before .before .put-pair2 .ensures in
       let b₂ = c .before .before .before .before .before .before .before .check-branch2 .ensures in
-      (resumed-checks m (stop .kept) s made (told (c .before .before .before .before .before .before .before .before .before .before .before .before .before .before .before .before .before .before .before .before .before .before .before .before .before .before .before .before .before .before .before .before .before .before .before .before .before .before .before .before .before .before .before .before .before .before .before .before .before .before .before .before .before .before .before .before .before .before .before .before .before .args .in-b .now)) (split-checks d f h b e (rest-fault d₂ lines₂ kinds₂ h₂ b₂ (c .enum-told2 .given .1))) (c .enum-told2 .given .1)) .kept .kinds-length
+      (resumed-checks m (stop .kept) s made (split-checks d f h b e (rest-fault d₂ lines₂ kinds₂ h₂ b₂ (c .enum-told2 .given .1))) (c .enum-told2 .given .1)) .kept .kinds-length
 
   check-branch-same-length-16 : check-branch-lts.Need-same-length-16 (check-branch-claims t) (check-branch-at t) check-branch.Post
   check-branch-same-length-16 c =
-      let st = c .before .before .before .before .before .before .before .before .before .before .before .before .before .before .before .before .before .before .before .before .before .before .before .before .before .before .before .before .before .before .before .before .before .before .before .before .before .before .before .before .before .before .before .before .before .before .before .before .before .before .before .before .before .before .before .before .before .before .before .before .before .pre .1 in
+      let st = c .before .before .before .before .before .before .before .before .before .before .before .before .before .before .before .before .before .before .before .before .before .before .before .before .before .before .before .before .before .before .before .before .before .before .before .before .before .before .before .before .before .before .before .before .before .before .before .before .before .before .before .before .before .before .before .before .before .before .before .before .pre .1 in
       let stop = c .before .before .before .before .before .before .before .before .before .before .before .before .before .before .before .before .before .before .before .before .before .before .before .before .before .before .before .before .before .before .before .before .before .before .before .before .before .before .before .before .before .before .before .before .before .before .before .before .before .before .before .before .before .before .entries .ensures in
       let m = split-comes stop (c .before .before .before .before .before .before .before .before .before .before .before .before .before .before .before .before .before .before .before .before .before .before .before .before .before .before .before .before .before .before .before .before .before .before .before .before .before .before .before .before .before .before .before .before .before .before .before .before .before .t3 .given .1) in
       let s = c .before .before .before .before .before .before .before .before .before .before .before .before .before .before .before .before .before .before .before .before .before .before .before .before .before .before .before .before .before .before .before .before .before .before .before .before .before .before .before .before .before .before .before .before .before .split .ensures in
@@ -337,11 +336,11 @@ module _ (t : ℕ) where
       let kinds₂ = c .before .before .before .before .before .before .before .before .before .before .before .before .before .before .before .before .before .before .start .ensures .1 in
       let h₂ = c .before .before .before .before .before .before .before .before .before .before .before .before .before .put-pair2 .ensures in
       let b₂ = c .before .before .before .before .before .before .before .check-branch2 .ensures in
-      (resumed-checks m (stop .kept) s made (told (c .before .before .before .before .before .before .before .before .before .before .before .before .before .before .before .before .before .before .before .before .before .before .before .before .before .before .before .before .before .before .before .before .before .before .before .before .before .before .before .before .before .before .before .before .before .before .before .before .before .before .before .before .before .before .before .before .before .before .before .before .before .args .in-b .now)) (split-checks d f h b e (rest-fault d₂ lines₂ kinds₂ h₂ b₂ (c .enum-told2 .given .1))) (c .enum-told2 .given .1)) .long
+      (resumed-checks m (stop .kept) s made (split-checks d f h b e (rest-fault d₂ lines₂ kinds₂ h₂ b₂ (c .enum-told2 .given .1))) (c .enum-told2 .given .1)) .long
 
   check-branch-returns-6 : check-branch-lts.Need-returns-6 (check-branch-claims t) (check-branch-at t) check-branch.Post
   check-branch-returns-6 c =
-      let st = c .before .before .before .before .before .before .before .before .before .before .before .before .before .before .before .before .before .before .before .before .before .before .before .before .before .before .before .before .before .before .before .before .before .before .before .before .before .before .before .before .before .before .before .before .before .before .before .before .before .before .before .before .before .before .before .before .before .before .before .before .before .pre .1 in
+      let st = c .before .before .before .before .before .before .before .before .before .before .before .before .before .before .before .before .before .before .before .before .before .before .before .before .before .before .before .before .before .before .before .before .before .before .before .before .before .before .before .before .before .before .before .before .before .before .before .before .before .before .before .before .before .before .before .before .before .before .before .before .pre .1 in
       let stop = c .before .before .before .before .before .before .before .before .before .before .before .before .before .before .before .before .before .before .before .before .before .before .before .before .before .before .before .before .before .before .before .before .before .before .before .before .before .before .before .before .before .before .before .before .before .before .before .before .before .before .before .before .before .before .entries .ensures in
       let m = split-comes stop (c .before .before .before .before .before .before .before .before .before .before .before .before .before .before .before .before .before .before .before .before .before .before .before .before .before .before .before .before .before .before .before .before .before .before .before .before .before .before .before .before .before .before .before .before .before .before .before .before .before .t3 .given .1) in
       let s = c .before .before .before .before .before .before .before .before .before .before .before .before .before .before .before .before .before .before .before .before .before .before .before .before .before .before .before .before .before .before .before .before .before .before .before .before .before .before .before .before .before .before .before .before .before .split .ensures in
@@ -356,11 +355,11 @@ module _ (t : ℕ) where
       let kinds₂ = c .before .before .before .before .before .before .before .before .before .before .before .before .before .before .before .before .before .before .start .ensures .1 in
       let h₂ = c .before .before .before .before .before .before .before .before .before .before .before .before .before .put-pair2 .ensures in
       let b₂ = c .before .before .before .before .before .before .before .check-branch2 .ensures in
-      resumed-checks m (stop .kept) s made (told (c .before .before .before .before .before .before .before .before .before .before .before .before .before .before .before .before .before .before .before .before .before .before .before .before .before .before .before .before .before .before .before .before .before .before .before .before .before .before .before .before .before .before .before .before .before .before .before .before .before .before .before .before .before .before .before .before .before .before .before .before .before .args .in-b .now)) (split-checks d f h b e (rest-fault d₂ lines₂ kinds₂ h₂ b₂ (c .enum-told2 .given .1))) (c .enum-told2 .given .1)
+      resumed-checks m (stop .kept) s made (split-checks d f h b e (rest-fault d₂ lines₂ kinds₂ h₂ b₂ (c .enum-told2 .given .1))) (c .enum-told2 .given .1)
 
   check-branch-start-requires-2 : check-branch-lts.Need-start-requires-2 (check-branch-claims t) (check-branch-at t) check-branch.Post
   check-branch-start-requires-2 c κs =
-      let st = c .before .before .before .before .before .before .before .before .before .before .before .before .before .before .before .before .before .before .before .before .before .before .before .before .before .before .before .before .before .before .before .before .before .before .before .before .before .before .before .before .before .before .before .before .before .before .before .before .before .before .before .before .before .before .before .before .before .before .before .before .before .before .before .before .pre .1 in
+      let st = c .before .before .before .before .before .before .before .before .before .before .before .before .before .before .before .before .before .before .before .before .before .before .before .before .before .before .before .before .before .before .before .before .before .before .before .before .before .before .before .before .before .before .before .before .before .before .before .before .before .before .before .before .before .before .before .before .before .before .before .before .before .before .before .pre .1 in
       let stop = c .before .before .before .before .before .before .before .before .before .before .before .before .before .before .before .before .before .before .before .before .before .before .before .before .before .before .before .before .before .before .before .before .before .before .before .before .before .before .before .before .before .before .before .before .before .before .before .before .before .before .before .before .before .before .before .before .before .entries .ensures in
       let m = split-comes stop (c .before .before .before .before .before .before .before .before .before .before .before .before .before .before .before .before .before .before .before .before .before .before .before .before .before .before .before .before .before .before .before .before .before .before .before .before .before .before .before .before .before .before .before .before .before .before .before .before .before .before .before .before .t3 .given .1) in
       let s = c .before .before .before .before .before .before .before .before .before .before .before .before .before .before .before .before .before .before .before .before .before .before .before .before .before .before .before .before .before .before .before .before .before .before .before .before .before .before .before .before .before .before .before .before .before .before .before .before .split .ensures in
@@ -380,7 +379,7 @@ module _ (t : ℕ) where
 
   check-branch-check-branch-requires-3 : check-branch-lts.Need-check-branch-requires-3 (check-branch-claims t) (check-branch-at t) check-branch.Post
   check-branch-check-branch-requires-3 c κs =
-      let st = c .before .before .before .before .before .before .before .before .before .before .before .before .before .before .before .before .before .before .before .before .before .before .before .before .before .before .before .before .before .before .before .before .before .before .before .before .before .before .before .before .before .before .before .before .before .before .before .before .before .before .before .before .before .before .before .before .before .before .before .before .before .before .before .before .before .before .before .before .before .before .before .pre .1 in
+      let st = c .before .before .before .before .before .before .before .before .before .before .before .before .before .before .before .before .before .before .before .before .before .before .before .before .before .before .before .before .before .before .before .before .before .before .before .before .before .before .before .before .before .before .before .before .before .before .before .before .before .before .before .before .before .before .before .before .before .before .before .before .before .before .before .before .before .before .before .before .before .before .pre .1 in
       let stop = c .before .before .before .before .before .before .before .before .before .before .before .before .before .before .before .before .before .before .before .before .before .before .before .before .before .before .before .before .before .before .before .before .before .before .before .before .before .before .before .before .before .before .before .before .before .before .before .before .before .before .before .before .before .before .before .before .before .before .before .before .before .before .before .before .entries .ensures in
       let m = split-comes stop (c .before .before .before .before .before .before .before .before .before .before .before .before .before .before .before .before .before .before .before .before .before .before .before .before .before .before .before .before .before .before .before .before .before .before .before .before .before .before .before .before .before .before .before .before .before .before .before .before .before .before .before .before .before .before .before .before .before .before .before .t3 .given .1) in
       let s = c .before .before .before .before .before .before .before .before .before .before .before .before .before .before .before .before .before .before .before .before .before .before .before .before .before .before .before .before .before .before .before .before .before .before .before .before .before .before .before .before .before .before .before .before .before .before .before .before .before .before .before .before .before .before .before .split .ensures in
@@ -398,14 +397,14 @@ module _ (t : ℕ) where
       let e₂ = c .before .before .before .before .before .before .before .before .before .before .second .given .1 in
       let lines₃ = c .before .before .before .before .before .before .start2 .ensures .0 in
       let kinds₃ = c .before .before .before .before .before .before .start2 .ensures .1 in
-      (omega (arith, opens-less m (stop .kept) s made, few-open m (stop .kept) s made, rest-open d f h b e, third-open d₂ lines₂ kinds₂ h₂ b₂ e₂, c .before .before .before .before .before .before .before .before .before .before .before .before .before .before .before .before .before .before .before .before .before .before .before .before .before .before .before .before .before .before .before .before .before .before .before .before .before .before .before .before .before .before .before .before .before .before .before .before .before .before .before .before .before .before .before .before .before .before .before .before .before .before .before .before .before .before .before .before .before .before .before .pre .0), third-started d₂ lines₂ kinds₂ h₂ b₂ e₂ lines₃ kinds₃)
+      (omega (arith, opens-less m (stop .kept) s made, few-open m (stop .kept) s made, rest-open d f h b e, third-open d₂ lines₂ kinds₂ h₂ b₂ e₂, c .before .before .before .before .before .before .before .before .before .before .before .before .before .before .before .before .before .before .before .before .before .before .before .before .before .before .before .before .before .before .before .before .before .before .before .before .before .before .before .before .before .before .before .before .before .before .before .before .before .before .before .before .before .before .before .before .before .before .before .before .before .before .before .before .before .before .before .before .before .before .pre .0), third-started d₂ lines₂ kinds₂ h₂ b₂ e₂ lines₃ kinds₃)
 
   check-branch-resumed-requires : check-branch-lts.Need-resumed-requires (check-branch-claims t) (check-branch-at t) check-branch.Post
   check-branch-resumed-requires c κs = search needs
 
   check-branch-same-length-17 : check-branch-lts.Need-same-length-17 (check-branch-claims t) (check-branch-at t) check-branch.Post
   check-branch-same-length-17 c =
-      let st = c .before .before .before .before .before .before .before .before .before .before .before .before .before .before .before .before .before .before .before .before .before .before .before .before .before .before .before .before .before .before .before .before .before .before .before .before .before .before .before .before .before .before .before .before .before .before .before .before .before .before .before .before .before .before .before .before .before .before .before .before .before .before .before .before .before .before .before .before .before .before .before .before .before .before .before .before .before .before .pre .1 in
+      let st = c .before .before .before .before .before .before .before .before .before .before .before .before .before .before .before .before .before .before .before .before .before .before .before .before .before .before .before .before .before .before .before .before .before .before .before .before .before .before .before .before .before .before .before .before .before .before .before .before .before .before .before .before .before .before .before .before .before .before .before .before .before .before .before .before .before .before .before .before .before .before .before .before .before .before .before .before .before .pre .1 in
       let stop = c .before .before .before .before .before .before .before .before .before .before .before .before .before .before .before .before .before .before .before .before .before .before .before .before .before .before .before .before .before .before .before .before .before .before .before .before .before .before .before .before .before .before .before .before .before .before .before .before .before .before .before .before .before .before .before .before .before .before .before .before .before .before .before .before .before .before .before .before .before .before .before .entries .ensures in
       let m = split-comes stop (c .before .before .before .before .before .before .before .before .before .before .before .before .before .before .before .before .before .before .before .before .before .before .before .before .before .before .before .before .before .before .before .before .before .before .before .before .before .before .before .before .before .before .before .before .before .before .before .before .before .before .before .before .before .before .before .before .before .before .before .before .before .before .before .before .before .before .t3 .given .1) in
       let s = c .before .before .before .before .before .before .before .before .before .before .before .before .before .before .before .before .before .before .before .before .before .before .before .before .before .before .before .before .before .before .before .before .before .before .before .before .before .before .before .before .before .before .before .before .before .before .before .before .before .before .before .before .before .before .before .before .before .before .before .before .before .before .split .ensures in
@@ -424,11 +423,11 @@ module _ (t : ℕ) where
       let lines₃ = c .before .before .before .before .before .before .before .before .before .before .before .before .before .start2 .ensures .0 in
       let kinds₃ = c .before .before .before .before .before .before .before .before .before .before .before .before .before .start2 .ensures .1 in
       let b₃ = c .before .before .before .before .before .before .check-branch3 .ensures in
-      (resumed-checks m (stop .kept) s made (told (c .before .before .before .before .before .before .before .before .before .before .before .before .before .before .before .before .before .before .before .before .before .before .before .before .before .before .before .before .before .before .before .before .before .before .before .before .before .before .before .before .before .before .before .before .before .before .before .before .before .before .before .before .before .before .before .before .before .before .before .before .before .before .before .before .before .before .before .before .before .before .before .before .before .before .before .before .before .before .args .in-b .now)) (split-checks d f h b e (rest-checks d₂ lines₂ kinds₂ h₂ b₂ e₂ lines₃ kinds₃ b₃)) (c .resumed .ensures)) .kept .lines-length
+      (resumed-checks m (stop .kept) s made (split-checks d f h b e (rest-checks d₂ lines₂ kinds₂ h₂ b₂ e₂ lines₃ kinds₃ b₃)) (c .resumed .ensures)) .kept .lines-length
 
   check-branch-same-length-18 : check-branch-lts.Need-same-length-18 (check-branch-claims t) (check-branch-at t) check-branch.Post
   check-branch-same-length-18 c =
-      let st = c .before .before .before .before .before .before .before .before .before .before .before .before .before .before .before .before .before .before .before .before .before .before .before .before .before .before .before .before .before .before .before .before .before .before .before .before .before .before .before .before .before .before .before .before .before .before .before .before .before .before .before .before .before .before .before .before .before .before .before .before .before .before .before .before .before .before .before .before .before .before .before .before .before .before .before .before .before .before .pre .1 in
+      let st = c .before .before .before .before .before .before .before .before .before .before .before .before .before .before .before .before .before .before .before .before .before .before .before .before .before .before .before .before .before .before .before .before .before .before .before .before .before .before .before .before .before .before .before .before .before .before .before .before .before .before .before .before .before .before .before .before .before .before .before .before .before .before .before .before .before .before .before .before .before .before .before .before .before .before .before .before .before .pre .1 in
       let stop = c .before .before .before .before .before .before .before .before .before .before .before .before .before .before .before .before .before .before .before .before .before .before .before .before .before .before .before .before .before .before .before .before .before .before .before .before .before .before .before .before .before .before .before .before .before .before .before .before .before .before .before .before .before .before .before .before .before .before .before .before .before .before .before .before .before .before .before .before .before .before .before .entries .ensures in
       let m = split-comes stop (c .before .before .before .before .before .before .before .before .before .before .before .before .before .before .before .before .before .before .before .before .before .before .before .before .before .before .before .before .before .before .before .before .before .before .before .before .before .before .before .before .before .before .before .before .before .before .before .before .before .before .before .before .before .before .before .before .before .before .before .before .before .before .before .before .before .before .t3 .given .1) in
       let s = c .before .before .before .before .before .before .before .before .before .before .before .before .before .before .before .before .before .before .before .before .before .before .before .before .before .before .before .before .before .before .before .before .before .before .before .before .before .before .before .before .before .before .before .before .before .before .before .before .before .before .before .before .before .before .before .before .before .before .before .before .before .before .split .ensures in
@@ -447,11 +446,11 @@ module _ (t : ℕ) where
       let lines₃ = c .before .before .before .before .before .before .before .before .before .before .before .before .before .start2 .ensures .0 in
       let kinds₃ = c .before .before .before .before .before .before .before .before .before .before .before .before .before .start2 .ensures .1 in
       let b₃ = c .before .before .before .before .before .before .check-branch3 .ensures in
-      (resumed-checks m (stop .kept) s made (told (c .before .before .before .before .before .before .before .before .before .before .before .before .before .before .before .before .before .before .before .before .before .before .before .before .before .before .before .before .before .before .before .before .before .before .before .before .before .before .before .before .before .before .before .before .before .before .before .before .before .before .before .before .before .before .before .before .before .before .before .before .before .before .before .before .before .before .before .before .before .before .before .before .before .before .before .before .before .before .args .in-b .now)) (split-checks d f h b e (rest-checks d₂ lines₂ kinds₂ h₂ b₂ e₂ lines₃ kinds₃ b₃)) (c .resumed .ensures)) .kept .kinds-length
+      (resumed-checks m (stop .kept) s made (split-checks d f h b e (rest-checks d₂ lines₂ kinds₂ h₂ b₂ e₂ lines₃ kinds₃ b₃)) (c .resumed .ensures)) .kept .kinds-length
 
   check-branch-same-length-19 : check-branch-lts.Need-same-length-19 (check-branch-claims t) (check-branch-at t) check-branch.Post
   check-branch-same-length-19 c =
-      let st = c .before .before .before .before .before .before .before .before .before .before .before .before .before .before .before .before .before .before .before .before .before .before .before .before .before .before .before .before .before .before .before .before .before .before .before .before .before .before .before .before .before .before .before .before .before .before .before .before .before .before .before .before .before .before .before .before .before .before .before .before .before .before .before .before .before .before .before .before .before .before .before .before .before .before .before .before .before .before .pre .1 in
+      let st = c .before .before .before .before .before .before .before .before .before .before .before .before .before .before .before .before .before .before .before .before .before .before .before .before .before .before .before .before .before .before .before .before .before .before .before .before .before .before .before .before .before .before .before .before .before .before .before .before .before .before .before .before .before .before .before .before .before .before .before .before .before .before .before .before .before .before .before .before .before .before .before .before .before .before .before .before .before .pre .1 in
       let stop = c .before .before .before .before .before .before .before .before .before .before .before .before .before .before .before .before .before .before .before .before .before .before .before .before .before .before .before .before .before .before .before .before .before .before .before .before .before .before .before .before .before .before .before .before .before .before .before .before .before .before .before .before .before .before .before .before .before .before .before .before .before .before .before .before .before .before .before .before .before .before .before .entries .ensures in
       let m = split-comes stop (c .before .before .before .before .before .before .before .before .before .before .before .before .before .before .before .before .before .before .before .before .before .before .before .before .before .before .before .before .before .before .before .before .before .before .before .before .before .before .before .before .before .before .before .before .before .before .before .before .before .before .before .before .before .before .before .before .before .before .before .before .before .before .before .before .before .before .t3 .given .1) in
       let s = c .before .before .before .before .before .before .before .before .before .before .before .before .before .before .before .before .before .before .before .before .before .before .before .before .before .before .before .before .before .before .before .before .before .before .before .before .before .before .before .before .before .before .before .before .before .before .before .before .before .before .before .before .before .before .before .before .before .before .before .before .before .before .split .ensures in
@@ -470,11 +469,11 @@ module _ (t : ℕ) where
       let lines₃ = c .before .before .before .before .before .before .before .before .before .before .before .before .before .start2 .ensures .0 in
       let kinds₃ = c .before .before .before .before .before .before .before .before .before .before .before .before .before .start2 .ensures .1 in
       let b₃ = c .before .before .before .before .before .before .check-branch3 .ensures in
-      (resumed-checks m (stop .kept) s made (told (c .before .before .before .before .before .before .before .before .before .before .before .before .before .before .before .before .before .before .before .before .before .before .before .before .before .before .before .before .before .before .before .before .before .before .before .before .before .before .before .before .before .before .before .before .before .before .before .before .before .before .before .before .before .before .before .before .before .before .before .before .before .before .before .before .before .before .before .before .before .before .before .before .before .before .before .before .before .before .args .in-b .now)) (split-checks d f h b e (rest-checks d₂ lines₂ kinds₂ h₂ b₂ e₂ lines₃ kinds₃ b₃)) (c .resumed .ensures)) .long
+      (resumed-checks m (stop .kept) s made (split-checks d f h b e (rest-checks d₂ lines₂ kinds₂ h₂ b₂ e₂ lines₃ kinds₃ b₃)) (c .resumed .ensures)) .long
 
   check-branch-returns-7 : check-branch-lts.Need-returns-7 (check-branch-claims t) (check-branch-at t) check-branch.Post
   check-branch-returns-7 c =
-      let st = c .before .before .before .before .before .before .before .before .before .before .before .before .before .before .before .before .before .before .before .before .before .before .before .before .before .before .before .before .before .before .before .before .before .before .before .before .before .before .before .before .before .before .before .before .before .before .before .before .before .before .before .before .before .before .before .before .before .before .before .before .before .before .before .before .before .before .before .before .before .before .before .before .before .before .before .before .before .before .pre .1 in
+      let st = c .before .before .before .before .before .before .before .before .before .before .before .before .before .before .before .before .before .before .before .before .before .before .before .before .before .before .before .before .before .before .before .before .before .before .before .before .before .before .before .before .before .before .before .before .before .before .before .before .before .before .before .before .before .before .before .before .before .before .before .before .before .before .before .before .before .before .before .before .before .before .before .before .before .before .before .before .before .pre .1 in
       let stop = c .before .before .before .before .before .before .before .before .before .before .before .before .before .before .before .before .before .before .before .before .before .before .before .before .before .before .before .before .before .before .before .before .before .before .before .before .before .before .before .before .before .before .before .before .before .before .before .before .before .before .before .before .before .before .before .before .before .before .before .before .before .before .before .before .before .before .before .before .before .before .before .entries .ensures in
       let m = split-comes stop (c .before .before .before .before .before .before .before .before .before .before .before .before .before .before .before .before .before .before .before .before .before .before .before .before .before .before .before .before .before .before .before .before .before .before .before .before .before .before .before .before .before .before .before .before .before .before .before .before .before .before .before .before .before .before .before .before .before .before .before .before .before .before .before .before .before .before .t3 .given .1) in
       let s = c .before .before .before .before .before .before .before .before .before .before .before .before .before .before .before .before .before .before .before .before .before .before .before .before .before .before .before .before .before .before .before .before .before .before .before .before .before .before .before .before .before .before .before .before .before .before .before .before .before .before .before .before .before .before .before .before .before .before .before .before .before .before .split .ensures in
@@ -493,7 +492,7 @@ module _ (t : ℕ) where
       let lines₃ = c .before .before .before .before .before .before .before .before .before .before .before .before .before .start2 .ensures .0 in
       let kinds₃ = c .before .before .before .before .before .before .before .before .before .before .before .before .before .start2 .ensures .1 in
       let b₃ = c .before .before .before .before .before .before .check-branch3 .ensures in
-      resumed-checks m (stop .kept) s made (told (c .before .before .before .before .before .before .before .before .before .before .before .before .before .before .before .before .before .before .before .before .before .before .before .before .before .before .before .before .before .before .before .before .before .before .before .before .before .before .before .before .before .before .before .before .before .before .before .before .before .before .before .before .before .before .before .before .before .before .before .before .before .before .before .before .before .before .before .before .before .before .before .before .before .before .before .before .before .before .args .in-b .now)) (split-checks d f h b e (rest-checks d₂ lines₂ kinds₂ h₂ b₂ e₂ lines₃ kinds₃ b₃)) (c .resumed .ensures)
+      resumed-checks m (stop .kept) s made (split-checks d f h b e (rest-checks d₂ lines₂ kinds₂ h₂ b₂ e₂ lines₃ kinds₃ b₃)) (c .resumed .ensures)
 
 pub +check-branch-spec : {M : Type 1} → statement M
 +check-branch-spec = close μ-check-branch λ t. check-branch-lts.spec (

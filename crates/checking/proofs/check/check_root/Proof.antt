@@ -5,8 +5,8 @@ use borrow.Author.Needs.{needs}
 use Rattle.checking.proofs.check.check_root.Statement.{statement}
 use Rattle.checking.proofs.check.check_root.Tie as tie
 
-cast-t17 : tie.Need-cast-t17
-cast-t17 c = search needs
+cast-t16 : tie.Need-cast-t16
+cast-t16 c = search needs
 
 check-branch-requires : tie.Need-check-branch-requires
 check-branch-requires c κs = search needs
@@ -21,7 +21,7 @@ enum-known-end : tie.Need-enum-known-end
 enum-known-end c = search needs
 
 finish-requires : tie.Need-finish-requires
-finish-requires c κs = by-closed-ended (c .before .before .before .before .before .before .before .before .before .before .check-branch .ensures) refl (c .before .before .before .before .before .before .before .before .before .before .before .before .before .before .before .before .before .before .before .pre .1 .0) (c .before .before .before .before .before .before .before .before .before .before .before .before .before .before .before .before .before .before .before .pre .1 .1) (c .before .before .before .end .given .1)
+finish-requires c κs = by-closed-ended (c .before .before .before .before .before .before .before .before .before .before .check-branch .ensures) refl (c .before .before .before .before .before .before .before .before .before .before .before .before .before .before .before .before .before .before .pre .1 .0) (c .before .before .before .before .before .before .before .before .before .before .before .before .before .before .before .before .before .before .pre .1 .1) (c .before .before .before .end .given .1)
 
 same-length : tie.Need-same-length
 same-length c = search needs
@@ -48,13 +48,13 @@ same-length-7 : tie.Need-same-length-7
 same-length-7 c = search needs
 
 returns-2 : tie.Need-returns-2
-returns-2 c = by-closed (c .before .before .before .before .before .before .before .before .before .before .before .before .before .check-branch .ensures) refl (c .before .before .before .before .before .before .before .before .before .before .before .before .before .before .before .before .before .before .before .before .before .before .pre .1 .0) (c .before .before .before .before .before .before .before .before .before .before .before .before .before .before .before .before .before .before .before .before .before .before .pre .1 .1) (c .before .before .before .before .before .before .end .given .1) (c .before .before .finish .ensures)
+returns-2 c = by-closed (c .before .before .before .before .before .before .before .before .before .before .before .before .before .check-branch .ensures) refl (c .before .before .before .before .before .before .before .before .before .before .before .before .before .before .before .before .before .before .before .before .before .pre .1 .0) (c .before .before .before .before .before .before .before .before .before .before .before .before .before .before .before .before .before .before .before .before .before .pre .1 .1) (c .before .before .before .before .before .before .end .given .1) (c .before .before .finish .ensures)
 
 pub check-root-spec : {M : Type 1} → statement M
 check-root-spec =
     tie.close
     (tie.spec
-    cast-t17
+    cast-t16
     check-branch-requires
     enum-known-number
     refusal-requires

@@ -12,18 +12,10 @@ use Rattle.checking.proofs.check.check_within.Tie as tie
 slice-aggregate-prepare : tie.Need-slice-aggregate-prepare
 slice-aggregate-prepare c = search needs
 
-slice-aggregate-prepare-2 : tie.Need-slice-aggregate-prepare-2
-slice-aggregate-prepare-2 c = search needs
-
 prepare-requires : tie.Need-prepare-requires
 prepare-requires c κs =
-    let g = c .before .before .before .before .before .before .before .before .pre .0 in (
-      g .both,
-      record {
-        space = space-from (g .both) (c .before .before .before .before .before .before .before .before .pre .1 .0) (omega arith) (omega (arith, length-replicate {A = ℕ} 128 0));
-        b = length-replicate {A = ℕ} 16 0;
-      },
-    )
+    let g = c .before .before .before .before .before .before .before .pre .0 in
+    (g .both, space-from (g .both) (c .before .before .before .before .before .before .before .pre .1 .0) (omega arith) (omega (arith, length-replicate {A = ℕ} 128 0)))
 
 add-check-root : tie.Need-add-check-root
 add-check-root c = search needs
@@ -31,18 +23,15 @@ add-check-root c = search needs
 slice-aggregate-check-root : tie.Need-slice-aggregate-check-root
 slice-aggregate-check-root c = search needs
 
-slice-aggregate-check-root-2 : tie.Need-slice-aggregate-check-root-2
-slice-aggregate-check-root-2 c = search needs
-
 check-root-requires : tie.Need-check-root-requires
 check-root-requires c κs =
-    let w = c .before .before .before .before .before .before .before .before .before .before .before .before .before .before .before .before .before .pre .1 in
-    let g = c .before .before .before .before .before .before .before .before .before .before .before .before .before .before .before .before .before .pre .0 in
-    let q = c .before .before .before .before .before .before .before .before .prepare .ensures in
-    let a = all-bytes (c .before .before .before .before .before .before .before .before .before .before .before .before .before .before .before .before .before .args .a .now) (λ i. omega (arith, c .before .before .before .before .before .before .before .before .before .before .before .before .before .before .before .before .shared-slice-known .given i)) in
-    let b = all-bytes (c .before .before .before .before .before .before .before .before .before .before .before .before .before .before .before .before .before .args .b .now) (λ i. omega (arith, c .before .before .before .before .before .before .before .before .before .before .before .before .before .before .before .shared-slice-known2 .given i)) in
-    let p = all-bytes (c .before .before .before .before .before .before .before .before .before .before .before .before .before .before .before .before .before .args .proof .now) (λ i. omega (arith, c .before .before .before .before .before .before .before .before .before .before .before .before .before .before .shared-slice-known3 .given i)) in
-    (started g q (q .buffers .b) (spare-less (omega arith) (omega arith) (w .0)), (fits-scratch g q a b p, w .1))
+    let w = c .before .before .before .before .before .before .before .before .before .before .before .before .before .before .pre .1 in
+    let g = c .before .before .before .before .before .before .before .before .before .before .before .before .before .before .pre .0 in
+    let q = c .before .before .before .before .before .before .prepare .ensures in
+    let a = all-bytes (c .before .before .before .before .before .before .before .before .before .before .before .before .before .before .args .a .now) (λ i. omega (arith, c .before .before .before .before .before .before .before .before .before .before .before .before .before .shared-slice-known .given i)) in
+    let b = all-bytes (c .before .before .before .before .before .before .before .before .before .before .before .before .before .before .args .b .now) (λ i. omega (arith, c .before .before .before .before .before .before .before .before .before .before .before .before .shared-slice-known2 .given i)) in
+    let p = all-bytes (c .before .before .before .before .before .before .before .before .before .before .before .before .before .before .args .proof .now) (λ i. omega (arith, c .before .before .before .before .before .before .before .before .before .before .before .shared-slice-known3 .given i)) in
+    (started g q (spare-less (omega arith) (omega arith) (w .0)), (fits-scratch g q a b p, w .1))
 
 same-length : tie.Need-same-length
 same-length c = search needs
@@ -54,18 +43,16 @@ same-length-3 : tie.Need-same-length-3
 same-length-3 c = search needs
 
 returns : tie.Need-returns
-returns c = checks-root (c .before .before .before .before .before .before .before .before .before .before .before .before .before .before .before .before .before .before .before .before .before .before .before .before .pre .0) (c .before .before .before .before .before .before .before .before .before .before .before .before .before .before .before .prepare .ensures) (c .before .before .before .before .before .before .check-root .ensures)
+returns c = checks-root (c .before .before .before .before .before .before .before .before .before .before .before .before .before .before .before .before .before .before .before .before .before .pre .0) (c .before .before .before .before .before .before .before .before .before .before .before .before .before .prepare .ensures) (c .before .before .before .before .before .before .check-root .ensures)
 
 pub check-within-spec : {M : Type 1} → statement M
 check-within-spec =
     tie.close
     (tie.spec
     slice-aggregate-prepare
-    slice-aggregate-prepare-2
     prepare-requires
     add-check-root
     slice-aggregate-check-root
-    slice-aggregate-check-root-2
     check-root-requires
     same-length
     same-length-2

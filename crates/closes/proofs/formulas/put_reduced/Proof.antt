@@ -1,0 +1,72 @@
+-- `closes::formulas::put_reduced` meets its contract. Assumes nothing.
+use borrow.Author.Needs.{needs}
+use native.Mathlib.Omega.{arith}
+use Prim.Native.Nat.{_+_, _-_}
+use mathlib.Core.Logic.{inr}
+use mathlib.Core.Path.{refl, sym, _∙_}
+use lib.IntN.{pos, natAbs}
+use lib.ListN.{getD}
+use mir.Syntax.{w64}
+use mir.Val.{toZ, ofZ}
+use mir.ValLaws.{toZ-ofZ}
+use Rattle.fields.specs.Numbers.{flat}
+use Rattle.forms.specs.Reduced.{reduced}
+use Rattle.lines.specs.Buffer.{formIn}
+use Rattle.closes.proofs.Scratch.{Putting, putting-start, putting-on, form-end, reduced-form-long, reduced-number, held-remainder, two-at-least}
+use Rattle.closes.proofs.formulas.put_reduced.Statement.{statement}
+use Rattle.closes.proofs.formulas.put_reduced.Tie as tie
+
+-- A loop's signed scalar is its bits.
+abbrev Inv-loop : tie.InvT-loop
+Inv-loop lines at k g scratch₀ o x₀ scratch x = Putting (flat (reduced (natAbs (toZ w64 g)) (formIn k lines at))) scratch₀ o scratch x
+
+abbrev μ-loop : tie.MeasureT-loop
+μ-loop lines at k g scratch₀ o x₀ scratch x = k + 1 - x
+
+loop-holds : tie.Need-loop-holds Inv-loop μ-loop
+loop-holds c = putting-start _ _ _
+
+add-n : tie.Need-add-n Inv-loop μ-loop
+add-n c = omega (arith, c .before .before .before .pre .0 .0 .room)
+
+mul-n : tie.Need-mul-n Inv-loop μ-loop
+mul-n c = search needs
+
+shared-slice-copy-out-n : tie.Need-shared-slice-copy-out-n Inv-loop μ-loop
+shared-slice-copy-out-n c = omega (arith, c .before .before .before .pre .0 .0 .room)
+
+remainder-requires : tie.Need-remainder-requires Inv-loop μ-loop
+remainder-requires c κs = let f = c .before .before .before .before .fits .g in simp toZ-ofZ (two-at-least (c .before .before .before .before .pre .0 .1))
+
+mul-put-signed : tie.Need-mul-put-signed Inv-loop μ-loop
+mul-put-signed c = omega (arith, c .before .before .before .before .before .before .pre .0 .0 .constants)
+
+add-put-signed : tie.Need-add-put-signed Inv-loop μ-loop
+add-put-signed c = search needs
+
+put-signed-requires : tie.Need-put-signed-requires Inv-loop μ-loop
+put-signed-requires c κs =
+    let f = c .before .before .before .before .before .before .fits .g in
+    let e = toZ-ofZ w64 (c .before .remainder .result) (record { sfits = c .before .remainder .ok }) in
+    (inr refl, (omega (arith, c .before .before .before .before .loop .inv .long), rw (e, c .before .remainder .ensures) (simp toZ-ofZ (held-remainder (c .before .before .before .before .before .before .pre .0 .1) _))))
+
+add-x : tie.Need-add-x Inv-loop μ-loop
+add-x c = omega (arith, c .before .before .before .before .before .before .before .before .before .pre .0 .0 .constants)
+
+loop-less : tie.Need-loop-less Inv-loop μ-loop
+loop-less c = search needs
+
+loop-again : tie.Need-loop-again Inv-loop μ-loop
+loop-again c =
+    let z = toZ-ofZ w64 (getD (c .before .before .before .before .before .before .before .before .before .args .lines .now) (c .before .before .before .before .before .before .before .before .before .args .at + c .before .before .before .before .before .before .before .loop .x) (pos 0)) (record { sfits = c .before .before .before .before .before .n .given }) in
+    let e = toZ-ofZ w64 (c .before .before .before .before .remainder .result) (record { sfits = c .before .before .before .before .remainder .ok }) in
+    putting-on (c .before .before .before .before .before .before .before .loop .inv) (omega (arith, reduced-form-long (c .before .before .before .before .before .before .before .before .before .pre .0 .0) (natAbs (toZ w64 (ofZ w64 (c .before .before .before .before .before .before .before .before .before .args .g)))))) (e ∙ (rw z at (c .before .before .before .before .remainder .ensures)) ∙ sym (reduced-number (c .before .before .before .before .before .before .before .before .before .pre .0 .0) _ (c .before .before .before .before .before .before .before .loop .x) (omega arith))) (c .before .before .put-signed .ensures)
+
+same-length : tie.Need-same-length Inv-loop μ-loop
+same-length c = c .before .loop .inv .long
+
+returns : tie.Need-returns Inv-loop μ-loop
+returns c = let f = c .before .before .before .fits .g in simp toZ-ofZ at (form-end _ (c .before .loop .inv) (omega (arith, reduced-form-long (c .before .before .before .pre .0 .0) (natAbs (toZ w64 (ofZ w64 (c .before .before .before .args .g)))))))
+
+pub put-reduced-spec : {M : Type 1} → statement M
+put-reduced-spec = tie.close (tie.spec Inv-loop μ-loop loop-holds add-n mul-n shared-slice-copy-out-n remainder-requires mul-put-signed add-put-signed put-signed-requires add-x loop-less loop-again same-length returns)

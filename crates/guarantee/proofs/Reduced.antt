@@ -1,0 +1,72 @@
+-- Stride parts are written in reduced form, which nothing tells from a formula as it stood. Assumes nothing.
+use mathlib.Core.Path.{_≡_, refl, sym, _∙_, ap, ap₂, subst}
+use mathlib.Core.Logic.{_↔_}
+use mathlib.Core.Bool.{Bool, true, false}
+use mathlib.Core.List.{List}
+use Prim.Native.Nat.{ℕ, _≤_}
+use lib.Dec.{eqb}
+use lib.IntN.{ℤ}
+use lib.ListN.{length}
+use borrow.Author.Tests.{eqb-true, eqb-false}
+use Rattle.forms.specs.Edition.{Edition, edition1}
+use Rattle.forms.specs.Forms.{Line, Assignment, Formula, _and_, _or_, True}
+use Rattle.forms.specs.Reduced.{reducing, Strides}
+use Rattle.calculus.specs.Rules.{Closed, derive, strengthen, number, stride}
+use Rattle.calculus.proofs.Reducing.{reducing-alike, reducing-reduced, reducing-again, derived-reduced, derived-stands}
+use Rattle.fields.specs.Answers.{fileProof, answer, Result}
+use Rattle.fields.specs.Fields.{fields}
+use Rattle.formula.specs.Formula.{formulaFile, Encodable, height, readFormula}
+use Rattle.formula.specs.Test.{tested, judged, testFormula}
+use Rattle.formula.specs.Promises.{asTested}
+use Rattle.formula.proofs.RoundTrip.{read-other}
+use Rattle.proof.proofs.Alike.{tested-alike, file-length}
+use Rattle.guarantee.specs.Reduced.{asItStood, InReducedForm}
+use Rattle.guarantee.proofs.Acceptance.{is-checkable, leaves}
+
+-- ---- document 01's formula
+module _ {e : Edition} {inB : ℕ → Bool} where
+  standing-strides : {ls : List Line} {I : Formula} (p : Closed e inB ls I) → Strides (asItStood p)
+  standing-strides (derive _ _ _ p) = standing-strides p
+  standing-strides (strengthen _ _ _ p1 pE p0) = (standing-strides p1, (standing-strides pE, standing-strides p0))
+  standing-strides (number _ _ _ _) = tt
+  standing-strides (stride _ g _ h _ _) = h
+
+  standing-reduced : {ls : List Line} {I : Formula} (p : Closed e inB ls I) → reducing (asItStood p) ≡ I
+  unfolding reducing
+  standing-reduced (derive _ _ _ p) = standing-reduced p
+  standing-reduced (strengthen _ _ _ p1 pE p0) = ap₂ (λ (I J : Formula). I or J) (standing-reduced p1) (ap₂ (λ (I J : Formula). I and J) (standing-reduced pE) (standing-reduced p0))
+  standing-reduced (number _ _ _ _) = refl
+  standing-reduced (stride _ g _ _ _ _) = refl
+
+-- ---- testing
+-- where the values are not as many as the file's constants, its header is refused whatever follows
+module _ (K : ℕ) (I : Formula) (h : Encodable K I) (l : height I ≤ edition1 .levels) (values : List ℤ) where
+  other-count : ¬ (K ≡ length values) → testFormula (formulaFile edition1 K (reducing I)) values ≡ testFormula (formulaFile edition1 K I) values
+  unfolding testFormula tested
+  other-count n = rw (file-length K I h, read-other K (length values) (reducing I) n, read-other K (length values) I n)
+
+  alike : testFormula (formulaFile edition1 K (reducing I)) values ≡ testFormula (formulaFile edition1 K I) values
+  alike = go (eqb K (length values)) refl
+    where
+      go : (b : Bool) → eqb K (length values) ≡ b → testFormula (formulaFile edition1 K (reducing I)) values ≡ testFormula (formulaFile edition1 K I) values
+      go true e =
+          let k : K ≡ length values = eqb-true K (length values) e in
+          subst (λ (n : ℕ). testFormula (formulaFile edition1 n (reducing I)) values ≡ testFormula (formulaFile edition1 n I) values) (sym k)
+          (tested-alike values I (subst (λ (n : ℕ). Encodable n I) k h) l)
+      go false e = other-count (eqb-false K (length values) e)
+
+-- Point 5.
+pub in-reduced-form : InReducedForm
+in-reduced-form = record {
+  writes = λ A B proof output left r c h.
+      let a = is-checkable c h in
+      let p = a .certified .proves .proof in
+      record { checked = a; written = leaves c a; numbers = derived-reduced p; stands = derived-stands p };
+  of-document-01 = λ A B proof K I c.
+      let p = c .proves .proof in
+      let e = standing-reduced p in
+      (e, λ v. subst (λ (J : Formula). True (asItStood p) v ↔ True J v) e (reducing-alike (asItStood p) v (standing-strides p)));
+  reduces = λ I s. (reducing-reduced I s, reducing-again I s);
+  true-alike = λ I s v. reducing-alike I v s;
+  tests-alike = λ K I h l values r r′ c c′. c′ .is ∙ ap asTested (alike K I h l values) ∙ sym (c .is);
+}

@@ -1,0 +1,45 @@
+-- Stride parts in reduced form: what check writes is reduced, and no register value tells it from document 01's formula. Document 02, point 5. Assumes nothing.
+use mathlib.Core.Path.{_≡_}
+use mathlib.Core.Logic.{_↔_}
+use mathlib.Core.List.{List}
+use mathlib.Core.Bool.{Bool}
+use Prim.Native.Nat.{ℕ, _≤_}
+use lib.IntN.{ℤ}
+use Rattle.forms.specs.Edition.{Edition, edition1}
+use Rattle.forms.specs.Forms.{Line, Assignment, Formula, literal, _divides_, _and_, _or_, within, True}
+use Rattle.forms.specs.Reduced.{reducing, Strides, Reduced}
+use Rattle.calculus.specs.Rules.{Closed, derive, strengthen, number, stride}
+use Rattle.formula.specs.declared.Tested.{Tested}
+use Rattle.formula.specs.Formula.{formulaFile, Encodable, height}
+use Rattle.formula.specs.Promises.{Tests}
+use Rattle.proof.specs.Layout.{Certifies}
+use Rattle.checking.specs.declared.check.Checked.{Checked}
+use Rattle.checking.specs.Promises.{Checks}
+use Rattle.guarantee.specs.Acceptance.{Checkable, WrittenAs}
+
+-- Document 01's formula of a closed branch: the numbers of a stride form as they stand.
+abbrev pub asItStood : {e : Edition} {inB : ℕ → Bool} {ls : List Line} {I : Formula} → Closed e inB ls I → Formula
+asItStood (derive _ _ _ p) = asItStood p
+asItStood (strengthen _ _ _ p1 pE p0) = asItStood p1 or (asItStood pE and asItStood p0)
+asItStood (number {k = k} {tA = tA} _ _ _ _) = literal k tA
+asItStood {inB = inB} (stride {tA = tA} _ g _ _ _ _) = g divides within inB tA
+
+-- An accepted check wrote the bytes of a formula each number of whose stride parts lies from 0 to g-1, so that reducing it changes nothing.
+pub record WrittenReduced (A B proof output left : List ℕ) (r : Checked) : Type 0 where
+  pub checked : Checkable A B proof output
+  pub written : WrittenAs (formulaFile edition1 (checked .K) (checked .formula)) output left (r .answer) (r .count)
+  pub numbers : Reduced (checked .formula)
+  pub stands : reducing (checked .formula) ≡ checked .formula
+
+pub record InReducedForm : Type 0 where
+  pub writes : (A B proof output left : List ℕ) (r : Checked) → Checks A B proof output left r → r .answer .number ≡ 0 → WrittenReduced A B proof output left r
+  -- It is document 01's formula, reduced, and true under the same assignments.
+  pub of-document-01 : (A B proof : List ℕ) (K : ℕ) (I : Formula) (c : Certifies A B proof K I)
+      → (reducing (asItStood (c .proves .proof)) ≡ I) × ((v : Assignment) → True (asItStood (c .proves .proof)) v ↔ True I v)
+  -- Of every formula whose strides are 2 at least: the reduced one has numbers from 0 to g-1, and reducing it again changes nothing.
+  pub reduces : (I : Formula) → Strides I → Reduced (reducing I) × (reducing (reducing I) ≡ reducing I)
+  -- Under every assignment both are true alike,
+  pub true-alike : (I : Formula) → Strides I → (v : Assignment) → True I v ↔ True (reducing I) v
+  -- and testing answers alike on the files of both, whatever the values, right or wrong in number or range.
+  pub tests-alike : (K : ℕ) (I : Formula) → Encodable K I → height I ≤ edition1 .levels → (values : List ℤ) (r r′ : Tested)
+      → Tests (formulaFile edition1 K I) values r → Tests (formulaFile edition1 K (reducing I)) values r′ → r′ ≡ r

@@ -1,0 +1,47 @@
+-- `integers::remainder` meets its contract. Assumes nothing.
+use mathlib.Core.Path.{_≡_}
+use lib.IntN.{pos}
+use lib.Signed.{_≤ℤ_, remZ, mag-rem}
+use mir.Syntax.{w64}
+use mir.Val.{toZ, ofZ}
+use mir.ValLaws.{toZ-ofZ, sfits-le}
+use Rattle.integers.specs.Linear.{ints}
+use Rattle.integers.proofs.Machine.{bits-pos, quot-fits, rem-stands, rem-raised, remainder-fits}
+use Rattle.integers.proofs.remainder.Statement.{statement}
+use Rattle.integers.proofs.remainder.Tie as tie
+
+rem-r : tie.Need-rem-r
+rem-r c =
+    let g = c .args .g in
+    let x = c .args .x in
+    let h : pos 1 ≤ℤ g = omega (ints, c .pre) in
+    (bits-pos w64 h, rw (toZ-ofZ w64 x (c .fits .x), toZ-ofZ w64 g (c .fits .g)) (quot-fits h (c .fits .x)))
+
+-- The numbers of the machine's words.
+module _ (s : tie.Start) where
+  x-is : toZ w64 (ofZ w64 (s .args .x)) ≡ s .args .x
+  x-is = toZ-ofZ w64 (s .args .x) (s .fits .x)
+
+  g-is : toZ w64 (ofZ w64 (s .args .g)) ≡ s .args .g
+  g-is = toZ-ofZ w64 (s .args .g) (s .fits .g)
+
+  r-is : toZ w64 (ofZ w64 (remZ (s .args .x) (s .args .g))) ≡ remZ (s .args .x) (s .args .g)
+  r-is = toZ-ofZ w64 (remZ (s .args .x) (s .args .g)) (sfits-le (mag-rem (s .args .x) (s .args .g)) (s .fits .x))
+
+add-result : tie.Need-add-result
+add-result c =
+    let s = c .before in
+    let e = rem-raised (s .args .x) (s .args .g) (s .pre) (rw (x-is s, g-is s, r-is s) at (c .if1 .taken)) in
+    rw (x-is s, g-is s, r-is s) (rw e (remainder-fits (s .args .x) (s .pre) (s .fits .g)))
+
+returns : tie.Need-returns
+returns c =
+    let s = c .before in
+    let e = rem-raised (s .args .x) (s .args .g) (s .pre) (rw (x-is s, g-is s, r-is s) at (c .if1 .taken)) in
+    rw (x-is s, g-is s, r-is s) (rw e (toZ-ofZ w64 _ (remainder-fits (s .args .x) (s .pre) (s .fits .g))))
+
+returns-2 : tie.Need-returns-2
+returns-2 c = let s = c .before in rw (x-is s, g-is s, r-is s) (rem-stands (s .args .x) (s .args .g) (s .pre) (rw (x-is s, g-is s, r-is s) at (c .if1 .left)))
+
+pub remainder-spec : {M : Type 1} → statement M
+remainder-spec = tie.close (tie.spec rem-r add-result returns returns-2)
