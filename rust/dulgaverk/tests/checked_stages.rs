@@ -92,7 +92,7 @@ fn stage_5() {
             field(0x31, &[]),
             field(0x33, &longs(&[2, 0])),
             field(0x32, &[]),
-            field(0x35, &longs(&[2, 2, -1])),
+            field(0x35, &longs(&[2, 0, 1])),
             field(0x33, &longs(&[2, -1])),
         ],
     );

@@ -270,6 +270,10 @@ impl Table {
                 *coefficient = 0;
             }
         }
+        // What is left is written as remainders from 0 to g-1.
+        for number in form.iter_mut() {
+            *number = number.rem_euclid(i32::from(g));
+        }
         push_stride(&mut self.formula, g, form);
         self.close_branch()
     }

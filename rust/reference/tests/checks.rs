@@ -497,33 +497,111 @@ fn refusal_15_close_by_stride() {
 #[test]
 fn a_stride_formula_keeps_only_the_constants_of_b() {
     // x occurs in both, y only in A, z only in B, the last nowhere.
-    let a = file(4, &[eq(&[3, 6, 0, 0, 7])]);
-    let b = file(4, &[eq(&[3, 0, 9, 0, 1]), le(&[0, 0, 0, 0, 5])]);
-    let proof = file(4, &[reduce(1, 0, 1), stride(3, 3)]);
-    let expected = file(4, &[divides(3, &[3, 0, 0, 0, 7])]);
+    let a = file(4, &[eq(&[4, 6, 0, 0, 8])]);
+    let b = file(
+        4,
+        &[
+            eq(&[5, 0, 9, 0, 2]),
+            le(&[0, 0, 0, 0, 5]),
+            eq(&[3, 0, 9, 0, 1]),
+        ],
+    );
+    let proof = file(4, &[reduce(1, 0, 1), stride(4, 3)]);
+    let expected = file(4, &[divides(3, &[1, 0, 0, 0, 2])]);
     assert_eq!(formula(&a, &b, &proof), expected);
     // With B's line alone the partial interpolant is 0.
-    let proof = file(4, &[stride(1, 3)]);
+    let proof = file(4, &[stride(3, 3)]);
     let expected = file(4, &[divides(3, &[0, 0, 0, 0, 0])]);
     assert_eq!(formula(&a, &b, &proof), expected);
-    // Neither numbers nor d are reduced by g.
-    let proof = file(4, &[reduce(1, 0, -20), stride(3, 3)]);
-    let expected = file(4, &[divides(3, &[-60, 0, 0, 0, -140])]);
+    // Coefficients and d are reduced by g: from -80 and -160.
+    let proof = file(4, &[reduce(1, 0, -20), stride(4, 3)]);
+    let expected = file(4, &[divides(3, &[1, 0, 0, 0, 2])]);
     assert_eq!(formula(&a, &b, &proof), expected);
 }
 
 #[test]
-fn a_constant_occurs_by_any_constraint_even_an_unused_one() {
+fn a_stride_formula_has_the_remainders_from_0_to_g_less_1() {
+    // A has x and d, B takes x back up to 5 or -5.
+    for (x, d, a_d) in [(1, 1, 1), (-1, -1, 4), (4, -6, 4), (-6, 9, 4), (7, -7, 3)] {
+        let expected = file(1, &[divides(5, &[i32::from(x).rem_euclid(5), a_d])]);
+        for back in [5 - x, -5 - x, -x] {
+            let a = file(1, &[eq(&[x, d])]);
+            let b = file(1, &[eq(&[back, 1 - d])]);
+            let proof = file(1, &[reduce(1, 0, 1), stride(2, 5)]);
+            assert_eq!(formula(&a, &b, &proof), expected);
+        }
+    }
+    // The end of the range: 65,535 times -32,768, and -32,767 more.
+    let a = file(1, &[eq(&[-32_768, -32_768]), eq(&[-32_767, -32_767])]);
+    let least = -2_147_483_647;
+    for (g, back, remainder) in [
+        (2, 1, 1),
+        (32_768, 32_767, 1),
+        (65_534, 1, 65_533),
+        (65_535, 32_767, 32_768),
+    ] {
+        let b = file(1, &[eq(&[back, back - 1])]);
+        let sum = least + i32::from(back);
+        let proof = file(
+            1,
+            &[
+                scale(0, 65_535),
+                reduce(3, 1, 1),
+                reduce(4, 2, 1),
+                claim(&[sum, sum - 1], &[least, least]),
+                stride(5, g),
+            ],
+        );
+        let expected = file(1, &[divides(i32::from(g), &[remainder, remainder])]);
+        assert_eq!(formula(&a, &b, &proof), expected);
+    }
+}
+
+#[test]
+fn lines_and_other_closes_are_not_reduced() {
+    // The same line closed by 2, by 6 and by 3; its claim has tA as it stands.
+    let a = file(1, &[le(&[1, 0]), eq(&[-7, -8])]);
+    let b = file(1, &[eq(&[1, 1])]);
+    let proof = file(
+        1,
+        &[
+            reduce(2, 1, 1),
+            claim(&[-6, -7], &[-7, -8]),
+            strengthen(0),
+            stride(3, 2),
+            stride(3, 6),
+            stride(3, 3),
+        ],
+    );
+    let expected = file(
+        1,
+        &[
+            or(),
+            divides(2, &[1, 0]),
+            and(),
+            divides(6, &[5, 4]),
+            divides(3, &[2, 1]),
+        ],
+    );
+    assert_eq!(formula(&a, &b, &proof), expected);
+    // By number, all stands.
+    let b = file(1, &[eq(&[7, 1])]);
+    let proof = file(1, &[reduce(2, 1, 1), close(3)]);
+    assert_eq!(formula(&a, &b, &proof), file(1, &[equals(&[-7, -8])]));
+}
+
+#[test]
+fn whether_b_has_a_constant_that_g_divides_away_leaves_no_trace() {
     let a = file(2, &[eq(&[4, 6, 1])]);
     let proof = file(2, &[stride(0, 2)]);
-    for (b, expected) in [
-        (vec![], [0, 0, 1]),
-        (vec![le(&[0, 1, 0])], [0, 6, 1]),
-        (vec![le(&[0, 0, 9]), eq(&[-5, 0, 0])], [4, 0, 1]),
-        (vec![le(&[1, 0, 0]), eq(&[0, -1, 0])], [4, 6, 1]),
+    for b in [
+        vec![],
+        vec![le(&[0, 1, 0])],
+        vec![le(&[0, 0, 9]), eq(&[-5, 0, 0])],
+        vec![le(&[1, 0, 0]), eq(&[0, -1, 0])],
     ] {
         let written = formula(&a, &file(2, &b), &proof);
-        assert_eq!(written, file(2, &[divides(2, &expected)]));
+        assert_eq!(written, file(2, &[divides(2, &[0, 0, 1])]));
     }
 }
 

@@ -2,6 +2,7 @@
 
 mod common;
 use common::*;
+use reference::Answer;
 
 const STAGE_1_A: &str = "01000101 02000103 040008 FFFE000100000000";
 const STAGE_1_B: &str = "01000101 02000103 040008 0000FFFF00020001";
@@ -83,7 +84,8 @@ fn stage_5_strengthen() {
             or(),
             at_most(&[2, 0]),
             and(),
-            divides(2, &[2, -1]),
+            // 2x-1 in reduced form: x is no longer named.
+            divides(2, &[0, 1]),
             at_most(&[2, -1]),
         ],
     );
@@ -186,4 +188,34 @@ fn stage_10_sizes() {
     assert_eq!((result.answer, result.count, result.k), (ACCEPTED, 32, 16));
     let over = file(16, &vec![constraint; 33]);
     assert_eq!(read(&over).answer, refused(8, 1, full.len()));
+}
+
+/// The folders under examples/: what the check program is to print of each.
+#[test]
+fn the_examples_expect_these_answers() {
+    let folder = concat!(env!("CARGO_MANIFEST_DIR"), "/../../examples");
+    let mut stages = 0;
+    for entry in std::fs::read_dir(folder).unwrap() {
+        let stage = entry.unwrap().path();
+        if !stage.is_dir() {
+            continue;
+        }
+        let read = |name: &str| std::fs::read(stage.join(name)).unwrap();
+        let (answer, bytes) = check_all(&read("a"), &read("b"), &read("p"));
+        let printed = if answer == ACCEPTED {
+            let digits: String = bytes.iter().map(|byte| format!("{byte:02X}")).collect();
+            format!("accepted {}\n{digits}\n", bytes.len())
+        } else {
+            let Answer {
+                number,
+                file,
+                place,
+            } = answer;
+            format!("refused {number} file {file} at {place}\n")
+        };
+        let expected = String::from_utf8(read("expected")).unwrap();
+        assert_eq!(printed, expected, "{}", stage.display());
+        stages += 1;
+    }
+    assert_eq!(stages, 16);
 }

@@ -1,5 +1,7 @@
-//! The paper's five plausible but wrong readings; each test fails for a
-//! checker with that fault.
+//! The paper's five plausible but wrong readings, and those of reduced stride
+//! formulas; each test fails for a checker with that fault. (But for one: since
+//! stride formulas are reduced, constants that only A has are gone from them
+//! whether a checker drops them or not.)
 
 mod common;
 use common::*;
@@ -16,7 +18,7 @@ fn the_first_branch_has_the_raised_partial_interpolant_and_the_third_not() {
             or(),
             at_most(&[2, 0]),
             and(),
-            divides(2, &[2, -1]),
+            divides(2, &[0, 1]),
             at_most(&[2, -1]),
         ],
     );
@@ -45,12 +47,63 @@ fn the_first_branch_has_the_raised_partial_interpolant_and_the_third_not() {
 }
 
 #[test]
-fn a_stride_formula_drops_the_constants_that_only_a_has() {
+fn a_stride_formula_has_no_constants_that_only_a_has() {
     let a = file(3, &[eq(&[-2, 1, 0, 0])]);
     let b = file(3, &[eq(&[0, -1, 2, 1])]);
     let proof = file(3, &[reduce(1, 0, 1), stride(2, 2)]);
     let expected = file(3, &[divides(2, &[0, 1, 0, 0])]);
     assert_eq!(formula(&a, &b, &proof), expected);
+}
+
+/// "5 divides u" for a tA of x, y and d; B has what makes t 5 times a form.
+fn divided_by_5(x: i16, y: i16, d: i16) -> Vec<u8> {
+    let a = file(2, &[eq(&[x, y, d])]);
+    let b = file(2, &[eq(&[-x, 5 - y, 1 - d])]);
+    let proof = file(2, &[reduce(1, 0, 1), stride(2, 5)]);
+    formula(&a, &b, &proof)
+}
+
+#[test]
+fn a_negative_number_is_reduced_upwards() {
+    let expected = file(2, &[divides(5, &[4, 3, 2])]);
+    for (x, y, d) in [(-1, -2, -3), (-6, -7, -8), (4, 3, 2), (-1, 8, -33)] {
+        assert_eq!(divided_by_5(x, y, d), expected);
+    }
+    // Neither the remainder of the absolute value nor a negative one.
+    for wrong in [[1, 2, 3], [-1, -2, -3]] {
+        assert_ne!(divided_by_5(-1, -2, -3), file(2, &[divides(5, &wrong)]));
+    }
+    // Nor the number nearest to 0, where that is negative.
+    assert_ne!(divided_by_5(4, 3, 2), file(2, &[divides(5, &[-1, -2, 2])]));
+}
+
+#[test]
+fn d_is_reduced_like_the_coefficients_and_the_coefficients_like_d() {
+    assert_eq!(divided_by_5(1, 2, 8), file(2, &[divides(5, &[1, 2, 3])]));
+    assert_eq!(divided_by_5(1, 2, -1), file(2, &[divides(5, &[1, 2, 4])]));
+    assert_eq!(divided_by_5(8, -9, 3), file(2, &[divides(5, &[3, 1, 3])]));
+}
+
+#[test]
+fn remainders_go_from_0_to_g_less_1() {
+    // Not from 1 to g, and not one too many.
+    assert_eq!(divided_by_5(5, -5, 10), file(2, &[divides(5, &[0, 0, 0])]));
+    assert_eq!(divided_by_5(0, 4, 9), file(2, &[divides(5, &[0, 4, 4])]));
+    assert_eq!(divided_by_5(6, 1, 11), file(2, &[divides(5, &[1, 1, 1])]));
+}
+
+#[test]
+fn the_stride_itself_and_number_closes_are_not_reduced() {
+    // 2 would do for "4 divides 2x + 2", but g stays.
+    let a = file(1, &[eq(&[2, 2])]);
+    let b = file(1, &[eq(&[2, 1])]);
+    let proof = file(1, &[reduce(1, 0, 1), stride(2, 4)]);
+    assert_eq!(formula(&a, &b, &proof), file(1, &[divides(4, &[2, 2])]));
+    // -7x - 8 = 0 by number.
+    let a = file(1, &[eq(&[-7, -8])]);
+    let b = file(1, &[eq(&[7, 9])]);
+    let proof = file(1, &[reduce(1, 0, 1), close(2)]);
+    assert_eq!(formula(&a, &b, &proof), file(1, &[equals(&[-7, -8])]));
 }
 
 #[test]

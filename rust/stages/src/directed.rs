@@ -4,6 +4,7 @@
 use crate::build::*;
 use crate::case::{Case, Operation};
 use crate::rng::Rng;
+use crate::stride::{closes, near_miss};
 
 /// A case and the number that it is made to be answered with.
 pub type Aimed = (u8, Case);
@@ -236,6 +237,13 @@ fn checks(rng: &mut Rng) -> Vec<Aimed> {
                 out,
             },
         ));
+    }
+    // Stride formulas of large and negative numbers, and closes that just fail.
+    for _ in 0..6 {
+        cases.push((0, closes(rng).case()));
+    }
+    for _ in 0..2 {
+        cases.push((15, near_miss(rng).case()));
     }
     // The long one: 341 strengthens and 683 closes after one more row.
     let mut rows = vec![scale(0, 1)];

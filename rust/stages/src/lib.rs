@@ -14,6 +14,7 @@ mod list;
 pub mod other;
 pub mod rng;
 mod stream;
+pub mod stride;
 pub mod table;
 
 pub use case::{Case, Operation, Outcome, Output, OPERATIONS};
