@@ -20,7 +20,9 @@ use Prim.Native.Nat.{ℕ, zero, suc}
 use lib.ListN.{replicate}
 use lib.IntN.{ℤ, pos, negsuc}
 use Rattle.forms.specs.Edition.{editionNumbered}
-use Rattle.forms.specs.Forms.{coeff, sum, value, sums, _⊞_, _·_, _plus_, only, within, nonzero, occurs}
+use Rattle.integers.specs.Remainder.{remainder}
+use Rattle.forms.specs.Forms.{coeff, sum, value, sums, _⊞_, _·_, _plus_, nonzero}
+use Rattle.forms.specs.Reduced.{reduced}
 use Rattle.calculus.specs.Rules.{small, every, inRange}
 use Rattle.fields.specs.Answers.{answer, _>>=_, _>>_, need, found, each, over, fit, written}
 use Rattle.fields.specs.Numbers.{unsigned, complement, signed, unsignedBytes, residue, signedBytes, signeds, signedsBytes, flat, formFrom, formBytes}
@@ -43,7 +45,7 @@ const SHARED: &str = "editionNumbered _>>=_ _>>_ need found unsigned complement 
 const BUNDLES: &str = "kindTagged atMost constraints bundle bundles";
 const WRITING: &str =
     "over fit written unsignedBytes residue signedBytes signedsBytes fieldBytes headerBytes";
-const CHECK: &str = "coeff sum value sums _⊞_ _·_ _plus_ only within nonzero occurs small every inRange flat formBytes finished encode formulaFile entryTagged inPlace lineNumber multiplier sizeOf entryFrom entry is fails equals sameForm lineAt derived fitting inequality byNumber byStride states checkRow agreeing checkEntry checkEntries checkBranch checkProof interpolant check";
+const CHECK: &str = "remainder coeff sum value sums _⊞_ _·_ _plus_ nonzero reduced small every inRange flat formBytes finished encode formulaFile entryTagged inPlace lineNumber multiplier sizeOf entryFrom entry is fails equals sameForm lineAt derived fitting inequality byNumber byStride states checkRow agreeing checkEntry checkEntries checkBranch checkProof interpolant check";
 const READ: &str = "over flat kindNumber kindsOf numbersOf unread store stored readBundle";
 const WRITE: &str = "each constraintsBytes bundleBytes writeBundle";
 const SHOW: &str = "nth partOf constraintPart shownPart answerOf showAnswer handed showPart";
