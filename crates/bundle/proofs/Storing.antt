@@ -1,6 +1,6 @@
 -- Storing constraints: one turn of each loop, as laws over plain values. Assumes nothing.
 use mathlib.Core.Path.{_≡_, refl, sym, ap, _∙_}
-use mathlib.Core.Bool.{Bool, true, false}
+use mathlib.Core.Bool.{Bool, true, false, cond}
 use mathlib.Core.List.{List, [], _∷_, _++_}
 use Prim.Native.Nat.{ℕ, zero, suc, _+_, _*_, _-_, _≤_, _<_}
 use native.Mathlib.Nat.{suc-mul, zero-mul, mul-le-mul-right}
@@ -18,7 +18,7 @@ use Rattle.fields.specs.Numbers.{signed, signeds, flat, formFrom}
 use Rattle.fields.specs.Places.{fieldsAt}
 use Rattle.fields.proofs.Places.{lenAt, found-end, found-short, found-cut, found-whole, Took, took, cut-at, ends-at, took-note, took-field, Starts}
 use Rattle.fields.proofs.Stores.{sets-append}
-use Rattle.bundle.specs.Scan.{pick, faultOf, counted, stated}
+use Rattle.bundle.specs.Scan.{faultOf, counted, stated}
 use Rattle.bundle.specs.Read.{kindNumber, kindsOf, numbersOf}
 use Rattle.bundle.specs.Store.{Storable}
 use Rattle.bundle.specs.declared.constraints.Counted.{Counted}
@@ -65,11 +65,11 @@ stored-next l at i n s start h =
 
 -- ---- constraints
 -- the kind's number, as the code computes it
-pub kind-number : (tag : ℕ) → known FileKind.Bundle tag ≡ true → ltb tag 0x03 ≡ false → tag - 3 ≡ kindNumber (pick (eqb tag 0x03) ≤0 =0)
+pub kind-number : (tag : ℕ) → known FileKind.Bundle tag ≡ true → ltb tag 0x03 ≡ false → tag - 3 ≡ kindNumber (cond (eqb tag 0x03) ≤0 =0)
 unfolding kindNumber
 kind-number tag h l = go (eqb tag 3) refl
   where
-    go : (p : Bool) → eqb tag 3 ≡ p → tag - 3 ≡ kindNumber (pick p ≤0 =0)
+    go : (p : Bool) → eqb tag 3 ≡ p → tag - 3 ≡ kindNumber (cond p ≤0 =0)
     go true a = omega (arith, eqb-true tag 3 a)
     go false a = omega (arith, tag-most tag h l, ltb-false tag 3 l, eqb-false tag 3 a)
 

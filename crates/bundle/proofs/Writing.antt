@@ -1,6 +1,6 @@
 -- Writing a bundle: what an accepted one is like, and each way through `write` as a law over plain values. Assumes nothing.
 use mathlib.Core.Path.{_≡_, refl, sym, ap, _∙_}
-use mathlib.Core.Bool.{Bool, true, false, _&&_}
+use mathlib.Core.Bool.{Bool, true, false, _&&_, cond}
 use mathlib.Core.List.{List, [], _∷_, _++_}
 use Prim.Native.Nat.{ℕ, zero, suc, _+_, _*_, _≤_, _<_}
 use native.Mathlib.Omega.{arith}
@@ -17,7 +17,6 @@ use Rattle.fields.specs.Fields.{fieldBytes}
 use Rattle.fields.specs.Numbers.{unsignedBytes}
 use Rattle.fields.proofs.Refusals.{Numbered, Gives, no, yes, passing, numbered, both}
 use Rattle.fields.proofs.Stores.{sets-append, sets-over}
-use Rattle.bundle.specs.Scan.{pick}
 use Rattle.bundle.specs.Show.{answerOf}
 use Rattle.bundle.specs.Write.{constraintsBytes, bundleBytes, writeBundle}
 use Rattle.bundle.specs.Put.{firstBad, fieldSize, Writable}
@@ -43,7 +42,7 @@ module _ (at : ℕ → Answer) where
   each-good i [] h = refl
   each-good i (x ∷ xs) h = go (leb x 1) h (each-good (suc i) xs)
     where
-      go : (b : Bool) → i + suc (length xs) ≤ pick b (firstBad (suc i) xs) i
+      go : (b : Bool) → i + suc (length xs) ≤ cond b (firstBad (suc i) xs) i
           → (suc i + length xs ≤ firstBad (suc i) xs → each at (λ kind. leb kind 1) (suc i) xs ≡ accepted tt)
           → (need (at i) b >> each at (λ kind. leb kind 1) (suc i) xs) ≡ accepted tt
       go true h k = k (omega arith)
@@ -54,9 +53,9 @@ module _ (at : ℕ → Answer) where
   each-bad i [] h = absurd (omega arith)
   each-bad i (x ∷ xs) h = go (leb x 1) h (each-bad (suc i) xs)
     where
-      go : (b : Bool) → pick b (firstBad (suc i) xs) i < i + suc (length xs)
+      go : (b : Bool) → cond b (firstBad (suc i) xs) i < i + suc (length xs)
           → (firstBad (suc i) xs < suc i + length xs → each at (λ kind. leb kind 1) (suc i) xs ≡ refused (at (firstBad (suc i) xs)))
-          → (need (at i) b >> each at (λ kind. leb kind 1) (suc i) xs) ≡ refused (at (pick b (firstBad (suc i) xs) i))
+          → (need (at i) b >> each at (λ kind. leb kind 1) (suc i) xs) ≡ refused (at (cond b (firstBad (suc i) xs) i))
       go true h k = k (omega arith)
       go false h k = refl
 

@@ -1,16 +1,16 @@
 -- What is written of a bundle, as the code writes it. Assumes nothing.
+use mathlib.Core.Path.{_≡_}
+use mathlib.Core.Bool.{cond}
 use mathlib.Core.List.{List, [], _∷_}
 use Prim.Native.Nat.{ℕ, suc, _+_, _*_, _≤_, _<_}
-use mathlib.Core.Path.{_≡_}
 use lib.Dec.{leb}
 use lib.IntN.{ℤ}
 use lib.ListN.{length, getD}
-use Rattle.bundle.specs.Scan.{pick}
 
 -- The index of the first kind that is not 0 or 1, or that of the end; i is the first one's index.
 abbrev pub firstBad : (i : ℕ) → List ℕ → ℕ
 firstBad i [] = i
-firstBad i (kind ∷ kinds) = pick (leb kind 1) (firstBad (suc i) kinds) i
+firstBad i (kind ∷ kinds) = cond (leb kind 1) (firstBad (suc i) kinds) i
 
 -- The bytes of a constraint's field.
 abbrev pub fieldSize : (K : ℕ) → ℕ

@@ -1,6 +1,6 @@
 -- Loading the constraints of a bundle: one turn of each loop, and what the lines of the buffer then are. Assumes nothing.
 use mathlib.Core.Path.{_≡_, refl, sym, ap, ap₂, _∙_, subst}
-use mathlib.Core.Bool.{Bool, true, false}
+use mathlib.Core.Bool.{Bool, true, false, cond as pick}
 use mathlib.Core.List.{List, [], _∷_, _++_, map, append-assoc, append-nil}
 use mathlib.Core.Logic.{_⊎_, inl, inr, ⊎-elim}
 use Prim.Native.Nat.{ℕ, zero, suc, _+_, _*_, _-_, _≤_, _<_}
@@ -27,7 +27,7 @@ use Rattle.fields.specs.Places.{fieldsAt, IsHeader}
 use Rattle.fields.proofs.Results.{one-value}
 use Rattle.fields.proofs.Places.{Starts}
 use Rattle.bundle.specs.Bundle.{Bundle}
-use Rattle.bundle.specs.Scan.{pick, faultOf, counted, stated}
+use Rattle.bundle.specs.Scan.{faultOf, counted, stated}
 use Rattle.bundle.specs.declared.constraints.Counted.{Counted}
 use Rattle.bundle.proofs.Scanning.{counted-on, passed-both, count-is, proper-of, scan-header, scan-fault, scan-bundle}
 use Rattle.fields.proofs.Signed.{length-signeds, signeds-last}
