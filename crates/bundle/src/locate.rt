@@ -3,6 +3,7 @@ use super::Line;
 use super::scan;
 use fields::Answer;
 use fields::Next;
+use fields::answers::refusal;
 use fields::next_field;
 use forms::BUNDLE_BYTES;
 ghost use mathlib.Core.Path.{_≡_};
@@ -59,11 +60,7 @@ fn refused_pair(number: u8, file: u8, place: usize) -> Pair
     ensures { λ r. ⌜ r ≡ record { answer = answer number file place; count = 0 } ⌝ }
 {
     Pair {
-        answer: Answer {
-            number,
-            file,
-            place,
-        },
+        answer: refusal(number, file, place),
         count: 0,
     }
 }
@@ -109,11 +106,7 @@ fn part_at(file: u8, place: Place) -> Located
     match place {
         Place::At { start, size } => Located::Part { file, start, size },
         Place::Nothing => Located::Refused {
-            answer: Answer {
-                number: 10,
-                file: 1,
-                place: 0,
-            },
+            answer: refusal(10, 1, 0),
         },
     }
 }

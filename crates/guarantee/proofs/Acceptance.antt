@@ -13,6 +13,7 @@ use lib.Signed.{mag}
 use Rattle.forms.specs.Edition.{edition1}
 use Rattle.forms.specs.Forms.{All, nil, cons, Constraint, Formula}
 use Rattle.fields.specs.declared.Answer.{Answer}
+use Rattle.fields.specs.declared.WriteResult.{WriteResult}
 use Rattle.fields.specs.Answers.{answer, acceptance, fileA, fileB, fileLent, Result, refused, accepted, _>>=_, _>>_, found, over, fit, Written, written}
 use Rattle.fields.specs.Numbers.{Bytes, unsignedBytes}
 use Rattle.fields.specs.Ranges.{Held}
@@ -21,7 +22,6 @@ use Rattle.fields.specs.Header.{agrees}
 use Rattle.fields.proofs.Results.{Gives, never, not-0, accepts, weaken, bind, seq, finds, binds, passes, found-some}
 use Rattle.fields.proofs.Signed.{InWidth, all-weaken}
 use Rattle.fields.proofs.Contents.{ItemBytes}
-use Rattle.bundle.specs.declared.WriteResult.{WriteResult}
 use Rattle.bundle.specs.declared.ReadResult.{ReadResult}
 use Rattle.bundle.specs.Bundle.{Bundle, atMost, bundles}
 use Rattle.bundle.specs.Layout.{Each, nil as nil-each, cons as cons-each, BundleFile}

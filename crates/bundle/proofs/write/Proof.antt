@@ -39,11 +39,14 @@ add-needed-3 c =
     let k : 3 + (a .k + 1) * 2 ≤ 37 = omega (arith, t .ready .high) in
     record { fits = omega (arith, mul-le-mul (t .ready .few) k) }
 
+refusal-requires : tie.Need-refusal-requires
+refusal-requires c κs = search needs
+
 returns-2 : tie.Need-returns-2
 returns-2 c =
-    let a = c .before .before .before .before .before .args in
-    let t = granted (bytes-give (a .k) (a .kinds .now) (a .numbers .now)) (c .before .before .write-fault .ensures) (c .before .if1 .left) in
-    write-short _ _ _ _ t (c .if2 .taken)
+    let a = c .before .before .before .before .before .before .args in
+    let t = granted (bytes-give (a .k) (a .kinds .now) (a .numbers .now)) (c .before .before .before .write-fault .ensures) (c .before .before .if1 .left) in
+    rw (c .refusal .ensures) (write-short _ _ _ _ t (c .before .if2 .taken))
 
 put-header-requires : tie.Need-put-header-requires
 put-header-requires c κs = omega arith
@@ -74,6 +77,7 @@ write-spec =
     add-needed-2
     mul-needed-2
     add-needed-3
+    refusal-requires
     returns-2
     put-header-requires
     put-constraints-requires
