@@ -17,7 +17,7 @@ use Rattle.fields.proofs.Framing.{length-fieldBytes}
 use Rattle.fields.proofs.Signed.{length-signedBytes, signedsBytes-append}
 use Rattle.fields.proofs.Stores.{sets-append}
 use Rattle.bundle.specs.Write.{constraintsBytes}
-use Rattle.bundle.specs.Put.{firstBad, fieldSize, Writable}
+use Rattle.bundle.specs.Put.{firstBad, fieldSize, InOrder}
 
 -- ---- kinds
 module _ (kinds : List ℕ) (i : ℕ) where
@@ -104,16 +104,18 @@ put-field out at tag n contents e₁ e₂ l = e₂ ∙ rw (e₁, l) (sym (sets-a
 -- ---- all constraints
 -- the invariant: what is left to write gives what the whole gives
 pub record Putting (K : ℕ) (kinds : List ℕ) (numbers : List ℤ) (out₀ : List ℕ) (at : ℕ) (out : List ℕ) (here from n : ℕ) : Type 0 where
-  pub can : Writable K kinds numbers out₀ at
+  pub order : InOrder K kinds numbers
+  pub fits : at + length kinds * fieldSize K ≤ length out₀
   pub here-is : here ≡ at + n * fieldSize K
   pub from-is : from ≡ n * (K + 1)
   pub upto : n ≤ length kinds
   pub is : sets out here (constraintsBytes edition1 K (drop n kinds) (drop (n * (K + 1)) numbers)) ≡ sets out₀ at (constraintsBytes edition1 K kinds numbers)
   pub long : length out ≡ length out₀
 
-pub putting-start : {K : ℕ} {kinds : List ℕ} {numbers : List ℤ} {out : List ℕ} {at : ℕ} → Writable K kinds numbers out at → Putting K kinds numbers out at out at 0 0
+pub putting-start : {K : ℕ} {kinds : List ℕ} {numbers : List ℤ} {out : List ℕ} {at : ℕ} → InOrder K kinds numbers × (at + length kinds * fieldSize K ≤ length out) → Putting K kinds numbers out at out at 0 0
 putting-start {K} {at} w = record {
-  can = w;
+  order = w .0;
+  fits = w .1;
   here-is = (let z = zero-mul (fieldSize K) in omega arith);
   from-is = sym (zero-mul (K + 1));
   upto = omega arith;
@@ -128,10 +130,12 @@ module _ {K : ℕ} {kinds : List ℕ} {numbers : List ℤ} {out₀ : List ℕ} {
 
   module _ (h : n < length kinds) where
     pub numbers-left : from + (K + 1) ≤ length numbers
-    numbers-left = omega (arith, mul-le-mul-right {m = suc n} {n = length kinds} (K + 1) h, suc-mul n (K + 1), v .can .size, v .from-is)
+    numbers-left =
+        let e : suc K ≡ K + 1 = omega arith in
+        omega (arith, mul-le-mul-right {m = suc n} {n = length kinds} (K + 1) h, suc-mul n (K + 1), rw e at (v .order .size), v .from-is)
 
     pub out-left : here + fieldSize K ≤ length out
-    out-left = omega (arith, mul-le-mul-right {m = suc n} {n = length kinds} (fieldSize K) h, suc-mul n (fieldSize K), v .can .fits, v .long, v .here-is)
+    out-left = omega (arith, mul-le-mul-right {m = suc n} {n = length kinds} (fieldSize K) h, suc-mul n (fieldSize K), v .fits, v .long, v .here-is)
 
     pub putting-next : {out′ : List ℕ}
         → out′ ≡ sets out here (fieldBytes (3 + getD kinds n 0) (signedsBytes 2 (take (K + 1) (drop from numbers))))
@@ -147,7 +151,8 @@ module _ {K : ℕ} {kinds : List ℕ} {numbers : List ℤ} {out₀ : List ℕ} {
         let q : sets out here (constraintsBytes edition1 K (drop n kinds) (drop (n * (K + 1)) numbers)) ≡ sets out′ (here + fieldSize K) rest
         = rw (drop-cons kinds n 0 h, e, d, ← v .from-is) (sets-append f rest out here ∙ rw (l, w)) in
         record {
-          can = v .can;
+          order = v .order;
+          fits = v .fits;
           here-is = omega (arith, suc-mul n (fieldSize K), v .here-is);
           from-is = omega (arith, suc-mul n (K + 1), v .from-is);
           upto = omega arith;

@@ -73,15 +73,6 @@ kind-number tag h l = go (eqb tag 3) refl
     go true a = omega (arith, eqb-true tag 3 a)
     go false a = omega (arith, tag-most tag h l, ltb-false tag 3 l, eqb-false tag 3 a)
 
-pub numbers-size : (K : ℕ) (fs : Fields) → length (numbersOf (stated K fs)) ≡ length (stated K fs) * suc K
-unfolding numbersOf stated
-numbers-size K (ends at) = sym (zero-mul (suc K))
-numbers-size K (cut at) = sym (zero-mul (suc K))
-numbers-size K (f ▸ fs) =
-    length-append (flat (formFrom 2 K (f .contents))) (numbersOf (stated K fs))
-    ∙ rw (flat-signeds 2 K (f .contents), length-signeds 2 (suc K) (f .contents))
-    (omega (arith, suc-mul (length (stated K fs)) (suc K), numbers-size K fs))
-
 -- the invariant: what is left to store gives what the whole gives
 pub record Storing (s : List ℕ) (at K count : ℕ) (kinds₀ : List ℕ) (numbers₀ : List ℤ) (kinds : List ℕ) (numbers : List ℤ) (here n : ℕ) : Type 0 where
   pub able : Storable K n count (fieldsAt s here) kinds numbers

@@ -9,7 +9,7 @@ ghost use Rattle.forms.specs.Edition.{edition1};
 ghost use Rattle.fields.specs.Fields.{fieldBytes};
 ghost use Rattle.fields.specs.Numbers.{signedsBytes};
 ghost use Rattle.bundle.specs.Write.{constraintsBytes};
-ghost use Rattle.bundle.specs.Put.{firstBad, fieldSize, Writable};
+ghost use Rattle.bundle.specs.Put.{firstBad, fieldSize, InOrder};
 
 // The index of the first kind that is not 0 or 1, or how many there are.
 pub fn first_bad(kinds: &[u8]) -> usize
@@ -84,7 +84,8 @@ fn put_constraint(out: &mut [u8], at: usize, k: u8, kind: u8, numbers: &[i16], f
 
 // All constraints, from at on.
 pub fn put_constraints(out: &mut [u8], at: usize, k: u8, kinds: &[u8], numbers: &[i16])
-    requires { ⌜ Writable k (now kinds) (now numbers) (now out) at ⌝ }
+    requires { ⌜ InOrder k (now kinds) (now numbers) ⌝ }
+    requires { ⌜ at + length (now kinds) * fieldSize k ≤ length (now out) ⌝ }
     ensures { λ _. ⌜ now (out .exit) ≡ sets (now (out .entry)) at (constraintsBytes edition1 k (now (kinds .entry)) (now (numbers .entry))) ⌝ }
 {
     let width = k as usize + 1;

@@ -30,7 +30,8 @@ use Rattle.bundle.specs.Write.{writeBundle}
 use Rattle.bundle.specs.Show.{Part, partOf, constraintPart, shownPart, answerOf, showAnswer}
 use Rattle.bundle.specs.Promises.{Reads, Writes}
 use Rattle.bundle.proofs.Laid.{BothLaid, laid-file, file-laid, bundle-gives, bundles-give, bundles-accept, short-gives, short-accepted}
-use Rattle.bundle.proofs.Writable.{Writable as Ready, bundleBytes-gives, bundleBytes-accepted}
+use Rattle.bundle.specs.Put.{InOrder as Ready}
+use Rattle.bundle.proofs.Writable.{bundleBytes-gives, bundleBytes-accepted}
 use Rattle.bundle.proofs.RoundTrips.{bytesWritten, rewritten, writtenAs, written-fits, readAs, read-file, write-then-read, read-then-write}
 use Rattle.formula.specs.Formula.{formulaFile}
 use Rattle.proof.specs.Check.{interpolant, check}
