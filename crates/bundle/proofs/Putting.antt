@@ -14,7 +14,7 @@ use Rattle.fields.specs.Fields.{fieldBytes}
 use Rattle.fields.specs.Header.{headerBytes}
 use Rattle.fields.specs.Numbers.{unsignedBytes, signedBytes, signedsBytes}
 use Rattle.fields.proofs.Framing.{length-fieldBytes}
-use Rattle.fields.proofs.Signed.{length-signedBytes, signedsBytes-append}
+use Rattle.fields.proofs.Signed.{length-signedBytes, length-signedsBytes, signedsBytes-append}
 use Rattle.fields.proofs.Stores.{sets-append}
 use Rattle.bundle.specs.Write.{constraintsBytes}
 use Rattle.bundle.specs.Put.{firstBad, fieldSize, InOrder}
@@ -31,13 +31,6 @@ module _ (kinds : List ℕ) (i : ℕ) where
   bad-none h = rw (drop-of-length-le kinds h)
 
 -- ---- numbers
-pub length-signeds-bytes : (w : ℕ) (zs : List ℤ) → length (signedsBytes w zs) ≡ length zs * w
-unfolding signedsBytes
-length-signeds-bytes w [] = sym (zero-mul w)
-length-signeds-bytes w (z ∷ zs) =
-    length-append (signedBytes w z) (signedsBytes w zs)
-    ∙ omega (arith, length-signedBytes w z, length-signeds-bytes w zs, suc-mul (length zs) w)
-
 put-first : (out : List ℕ) (at : ℕ) (numbers : List ℤ) (from n : ℕ) → from < length numbers
     → sets (sets out at (signedBytes 2 (getD numbers from (pos 0)))) (at + 2) (signedsBytes 2 (take n (drop (from + 1) numbers)))
     ≡ sets out at (signedsBytes 2 (take (suc n) (drop from numbers)))
@@ -83,7 +76,7 @@ rest-three out {o₁} at numbers from e₁ e₂ e₃ h =
 pub numbers-bytes : (numbers : List ℤ) (from n : ℕ) → from + n ≤ length numbers → length (signedsBytes 2 (take n (drop from numbers))) ≡ n * 2
 numbers-bytes numbers from n h =
     let l : length (take n (drop from numbers)) ≡ n = length-take-le n (drop from numbers) (simp length-drop (omega arith)) in
-    length-signeds-bytes 2 (take n (drop from numbers)) ∙ rw l
+    length-signedsBytes 2 (take n (drop from numbers)) ∙ rw l
 
 -- m numbers, and r more behind them
 pub put-runs : (out : List ℕ) {o₁ o₂ : List ℕ} (at : ℕ) (numbers : List ℤ) (from m r n : ℕ) → m + r ≡ n → from + n ≤ length numbers
@@ -174,7 +167,7 @@ constraints-size K (kind ∷ kinds) numbers h =
     ∙ omega (
       arith,
       length-fieldBytes (3 + kind) (signedsBytes 2 (take (suc K) numbers)),
-      length-signeds-bytes 2 (take (suc K) numbers),
+      length-signedsBytes 2 (take (suc K) numbers),
       l,
       constraints-size K kinds (drop (suc K) numbers) d,
       suc-mul (length kinds) (fieldSize K),

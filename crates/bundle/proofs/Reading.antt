@@ -16,6 +16,7 @@ use Rattle.fields.specs.Answers.{answer, acceptance, fileA, Result, refused, ac
 use Rattle.fields.specs.Numbers.{flat}
 use Rattle.fields.specs.Fields.{Fields, Item, fields}
 use Rattle.fields.proofs.Results.{Gives, weaken, not-0}
+use Rattle.fields.proofs.Signed.{length-signeds}
 use Rattle.fields.proofs.Stores.{sets-over}
 use Rattle.bundle.specs.Bundle.{Bundle, atMost, bundle}
 use Rattle.bundle.specs.Layout.{Each, nil, cons, States}
@@ -26,7 +27,7 @@ use Rattle.bundle.specs.Promises.{readOf}
 use Rattle.bundle.specs.declared.Scanned.{Scanned}
 use Rattle.bundle.specs.declared.ReadResult.{ReadResult}
 use Rattle.bundle.proofs.Laid.{bundle-gives}
-use Rattle.bundle.proofs.Storing.{length-signeds, flat-signeds}
+use Rattle.bundle.proofs.Storing.{flat-signeds}
 
 -- ---- an accepted bundle
 pub record Shaped (b : Bundle) : Type 0 where

@@ -18,7 +18,7 @@ use Rattle.fields.proofs.Places.{Starts, starts-size}
 use Rattle.fields.proofs.Results.{Gives, weaken, seq, not-0}
 use Rattle.bundle.specs.Bundle.{Bundle, atMost, bundle, bundles}
 use Rattle.bundle.specs.Show.{Part, partOf, constraintPart, shownPart, answerOf, showAnswer, handed, showPart}
-use Rattle.bundle.specs.Locate.{placeOf, Inside, Placed, bothBundles, pairOf, partAt, locatedOf, LiesIn, IsLocated}
+use Rattle.bundle.specs.Locate.{placeOf, Inside, IsPlace, bothBundles, pairOf, partAt, locatedOf, LiesIn, IsLocated}
 use Rattle.bundle.specs.Promises.{ofFile}
 use Rattle.bundle.specs.declared.Scanned.{Scanned}
 use Rattle.bundle.specs.declared.locate.Place.{Place}
@@ -29,7 +29,7 @@ use Rattle.bundle.proofs.Reading.{Taken}
 
 -- ---- the i-th field
 module _ {s : List ℕ} {here a t start len next : ℕ} (k : Starts s here a t start len next) where
-  pub nth-here : (i left : ℕ) → nth i (fields s) ≡ nth left (fieldsAt s here) → left ≡ 0 → Placed s i (Place.At a (3 + len))
+  pub nth-here : (i left : ℕ) → nth i (fields s) ≡ nth left (fieldsAt s here) → left ≡ 0 → IsPlace s i (Place.At a (3 + len))
   unfolding nth
   nth-here i left e z = record {
     is = rw (e, z, k .is, starts-size k);
@@ -42,11 +42,11 @@ module _ {s : List ℕ} {here a t start len next : ℕ} (k : Starts s here a t s
   nth-next i (suc left) e z = e ∙ rw (k .is, sub-one)
 
 module _ (s : List ℕ) (i left here : ℕ) {a : ℕ} (e : nth i (fields s) ≡ nth left (fieldsAt s here)) where
-  pub nth-cut : fieldsAt s here ≡ cut a → Placed s i Place.Nothing
+  pub nth-cut : fieldsAt s here ≡ cut a → IsPlace s i Place.Nothing
   unfolding nth
   nth-cut c = record { is = rw (e, c); inside = tt }
 
-  pub nth-ends : fieldsAt s here ≡ ends a → Placed s i Place.Nothing
+  pub nth-ends : fieldsAt s here ≡ ends a → IsPlace s i Place.Nothing
   unfolding nth
   nth-ends c = record { is = rw (e, c); inside = tt }
 
@@ -145,13 +145,13 @@ module _ (A B : List ℕ) (i : ℕ) where
           go (refused a) g e = absurd (not-0 (g .refusal a refl) (rw e at z))
           go (accepted b) g e = rw e
 
-      pub located-A : {q : Place} {p : Located} → i < r .count → Placed A (i + 2) q → p ≡ partAt 1 q → IsLocated A B i p
+      pub located-A : {q : Place} {p : Located} → i < r .count → IsPlace A (i + 2) q → p ≡ partAt 1 q → IsLocated A B i p
       located-A {q} h k e = record {
         is = located ∙ ap (found (answer 10 fileA 0)) (of-A (r .count) (lt-ltb i (r .count) h)) ∙ found-part fileA (nth (i + 2) (fields A)) ∙ rw (e, k .is);
         inside = rw e (lies 1 q (k .inside));
       }
 
-      pub located-B : {q : Place} {p : Located} → r .count ≤ i → Placed B (i - r .count + 2) q → p ≡ partAt 2 q → IsLocated A B i p
+      pub located-B : {q : Place} {p : Located} → r .count ≤ i → IsPlace B (i - r .count + 2) q → p ≡ partAt 2 q → IsLocated A B i p
       located-B {q} h k e = record {
         is = located ∙ ap (found (answer 10 fileA 0)) (of-B (r .count) (le-ltb i (r .count) h)) ∙ found-part fileB (nth (i - r .count + 2) (fields B)) ∙ rw (e, k .is);
         inside = rw e (lies 2 q (k .inside));

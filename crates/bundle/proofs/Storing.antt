@@ -17,6 +17,7 @@ use Rattle.fields.specs.Header.{known}
 use Rattle.fields.specs.Numbers.{signed, signeds, flat, formFrom}
 use Rattle.fields.specs.Places.{fieldsAt}
 use Rattle.fields.proofs.Places.{lenAt, found-end, found-short, found-cut, found-whole, Took, took, cut-at, ends-at, took-note, took-field, Starts}
+use Rattle.fields.proofs.Signed.{length-signeds, signeds-last}
 use Rattle.fields.proofs.Stores.{sets-append}
 use Rattle.bundle.specs.Scan.{faultOf, counted, stated}
 use Rattle.bundle.specs.Read.{kindNumber, kindsOf, numbersOf}
@@ -25,19 +26,10 @@ use Rattle.bundle.specs.declared.constraints.Counted.{Counted}
 use Rattle.bundle.proofs.Scanning.{Proper, counted-on, count-is, proper-of, tag-most, passed-both}
 
 -- ---- numbers of some bytes each, over the width
-pub length-signeds : (w n : ℕ) (bs : List ℕ) → length (signeds w n bs) ≡ n
-unfolding signeds
-length-signeds w zero bs = refl
-length-signeds w (suc n) bs = ap suc (length-signeds w n (drop w bs))
-
 -- the coefficients and then d are K+1 numbers in a row
 pub flat-signeds : (w K : ℕ) (bs : List ℕ) → flat (formFrom w K bs) ≡ signeds w (suc K) bs
-unfolding flat formFrom signeds
-flat-signeds w zero bs = rw (zero-mul w)
-flat-signeds w (suc K) bs =
-    let e : drop (suc K * w) bs ≡ drop (K * w) (drop w bs)
-    = (let z : suc K * w ≡ w + K * w = omega (arith, suc-mul K w) in rw z (sym (drop-drop (K * w) w bs))) in
-    ap (λ (zs : List ℤ). signed (take w bs) ∷ zs) (rw e (flat-signeds w K (drop w bs)))
+unfolding flat formFrom
+flat-signeds w K bs = sym (signeds-last w K bs)
 
 -- what stands behind them does not matter
 pub signeds-take : (w n : ℕ) (bs : List ℕ) → n * w ≤ length bs → signeds w n (take (n * w) bs) ≡ signeds w n bs

@@ -8,7 +8,7 @@ use fields::next_field;
 use forms::BUNDLE_BYTES;
 ghost use mathlib.Core.Path.{_≡_};
 ghost use Rattle.fields.specs.Answers.{answer};
-ghost use Rattle.bundle.specs.Locate.{Placed, bothBundles, pairOf, partAt, IsLocated};
+ghost use Rattle.bundle.specs.Locate.{IsPlace, bothBundles, pairOf, partAt, IsLocated};
 
 // Where a field starts and how many bytes it has.
 pub enum Place {
@@ -18,7 +18,7 @@ pub enum Place {
 
 // The i-th field of a file.
 fn nth_field(s: &[u8], i: usize) -> Place
-    ensures { λ r. ⌜ Placed (now (s .entry)) i r ⌝ }
+    ensures { λ r. ⌜ IsPlace (now (s .entry)) i r ⌝ }
 {
     let mut here: usize = 0;
     let mut left = i;
