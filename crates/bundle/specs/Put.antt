@@ -16,7 +16,7 @@ firstBad i (kind ∷ kinds) = cond (leb kind 1) (firstBad (suc i) kinds) i
 
 -- The bytes of a constraint's field.
 abbrev pub fieldSize : (K : ℕ) → ℕ
-fieldSize K = 3 + (K + 1) * 2
+fieldSize K = 3 + (K + 1) * edition1 .coefficientWidth
 
 -- The parts of a bundle are in order: K is 1 to 16, there are at most 32 kinds, each is 0 or 1, and K+1 numbers for each.
 pub record InOrder (K : ℕ) (kinds : List ℕ) (numbers : List ℤ) : Type 0 where

@@ -27,9 +27,9 @@ pub fn first_bad(kinds: &[u8]) -> usize
 
 // n numbers of two bytes each, from index from on.
 fn put_run(out: &mut [u8], at: usize, numbers: &[i16], from: usize, n: usize)
-    requires { ⌜ at + n * 2 ≤ length (now out) ⌝ }
+    requires { ⌜ at + n * edition1 .coefficientWidth ≤ length (now out) ⌝ }
     requires { ⌜ from + n ≤ length (now numbers) ⌝ }
-    ensures { λ _. ⌜ now (out .exit) ≡ sets (now (out .entry)) at (signedsBytes 2 (take n (drop from (now (numbers .entry))))) ⌝ }
+    ensures { λ _. ⌜ now (out .exit) ≡ sets (now (out .entry)) at (signedsBytes (edition1 .coefficientWidth) (take n (drop from (now (numbers .entry))))) ⌝ }
 {
     let mut i = 0;
     while i < n {
@@ -41,9 +41,9 @@ fn put_run(out: &mut [u8], at: usize, numbers: &[i16], from: usize, n: usize)
 
 // At most three of them, each behind a test: a loop costs more.
 fn put_rest(out: &mut [u8], at: usize, numbers: &[i16], from: usize, n: usize)
-    requires { ⌜ (n ≤ 3) × (at + n * 2 ≤ length (now out)) ⌝ }
+    requires { ⌜ (n ≤ 3) × (at + n * edition1 .coefficientWidth ≤ length (now out)) ⌝ }
     requires { ⌜ from + n ≤ length (now numbers) ⌝ }
-    ensures { λ _. ⌜ now (out .exit) ≡ sets (now (out .entry)) at (signedsBytes 2 (take n (drop from (now (numbers .entry))))) ⌝ }
+    ensures { λ _. ⌜ now (out .exit) ≡ sets (now (out .entry)) at (signedsBytes (edition1 .coefficientWidth) (take n (drop from (now (numbers .entry))))) ⌝ }
 {
     if n == 0 {
         return;
@@ -61,9 +61,9 @@ fn put_rest(out: &mut [u8], at: usize, numbers: &[i16], from: usize, n: usize)
 
 // The whole fours, which the compiler turns into words of four numbers with nothing left over, and then the rest.
 fn put_numbers(out: &mut [u8], at: usize, numbers: &[i16], from: usize, n: usize)
-    requires { ⌜ at + n * 2 ≤ length (now out) ⌝ }
+    requires { ⌜ at + n * edition1 .coefficientWidth ≤ length (now out) ⌝ }
     requires { ⌜ from + n ≤ length (now numbers) ⌝ }
-    ensures { λ _. ⌜ now (out .exit) ≡ sets (now (out .entry)) at (signedsBytes 2 (take n (drop from (now (numbers .entry))))) ⌝ }
+    ensures { λ _. ⌜ now (out .exit) ≡ sets (now (out .entry)) at (signedsBytes (edition1 .coefficientWidth) (take n (drop from (now (numbers .entry))))) ⌝ }
 {
     let m = n / 4 * 4;
     put_run(out, at, numbers, from, m);
@@ -75,7 +75,7 @@ fn put_constraint(out: &mut [u8], at: usize, k: u8, kind: u8, numbers: &[i16], f
     requires { ⌜ kind ≤ 1 ⌝ }
     requires { ⌜ at + fieldSize k ≤ length (now out) ⌝ }
     requires { ⌜ from + (k + 1) ≤ length (now numbers) ⌝ }
-    ensures { λ _. ⌜ now (out .exit) ≡ sets (now (out .entry)) at (fieldBytes (3 + kind) (signedsBytes 2 (take (k + 1) (drop from (now (numbers .entry)))))) ⌝ }
+    ensures { λ _. ⌜ now (out .exit) ≡ sets (now (out .entry)) at (fieldBytes (3 + kind) (signedsBytes (edition1 .coefficientWidth) (take (k + 1) (drop from (now (numbers .entry)))))) ⌝ }
 {
     let n = k as usize + 1;
     put_head(out, at, 3 + kind, n * 2);

@@ -4,6 +4,7 @@ ghost use mathlib.Core.Path.{_≡_};
 ghost use Prim.Native.Nat.{_+_, _*_, _≤_};
 ghost use lib.ListN.{length, drop};
 ghost use lib.Seq.{sets};
+ghost use Rattle.forms.specs.Edition.{edition1};
 ghost use Rattle.fields.specs.Numbers.{signeds};
 ghost use Rattle.fields.specs.Places.{fieldsAt};
 ghost use Rattle.fields.proofs.Places.{lenAt};
@@ -13,9 +14,9 @@ ghost use Rattle.bundle.specs.Store.{Storable};
 
 // n numbers of two bytes from start on, into numbers from at on.
 fn store_numbers(s: &[u8], start: usize, n: usize, numbers: &mut [i16], at: usize)
-    requires { ⌜ start + n * 2 ≤ length (now s) ⌝ }
+    requires { ⌜ start + n * edition1 .coefficientWidth ≤ length (now s) ⌝ }
     requires { ⌜ at + n ≤ length (now numbers) ⌝ }
-    ensures { λ _. ⌜ now (numbers .exit) ≡ sets (now (numbers .entry)) at (signeds 2 n (drop start (now (s .entry)))) ⌝ }
+    ensures { λ _. ⌜ now (numbers .exit) ≡ sets (now (numbers .entry)) at (signeds (edition1 .coefficientWidth) n (drop start (now (s .entry)))) ⌝ }
 {
     let mut i = 0;
     while i < n {

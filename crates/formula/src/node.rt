@@ -1,6 +1,7 @@
 // The nodes of a formula: what a field's tag and length say.
 ghost use mathlib.Core.Path.{_≡_};
 ghost use Prim.Native.Nat.{_≤_};
+ghost use Rattle.forms.specs.Edition.{edition1};
 ghost use Rattle.formula.specs.Nodes.{nodeOf, sized};
 
 pub enum Node {
@@ -24,7 +25,7 @@ fn sized(len: usize, size: usize, node: Node) -> Node
 
 // 3, 4, 6.
 pub fn node_of(tag: u8, len: usize, k: usize) -> Node
-    requires { ⌜ k ≤ 16 ⌝ }
+    requires { ⌜ k ≤ edition1 .constants ⌝ }
     ensures { λ r. ⌜ r ≡ nodeOf k tag len ⌝ }
 {
     let form = (k + 1) * 4;

@@ -10,6 +10,7 @@ use integers::is_zero;
 ghost use mathlib.Core.Path.{_≡_};
 ghost use Prim.Native.Nat.{_+_};
 ghost use lib.ListN.{take, drop};
+ghost use Rattle.forms.specs.Edition.{edition1};
 ghost use Rattle.forms.specs.Forms.{value};
 ghost use Rattle.fields.specs.Numbers.{signed};
 ghost use Rattle.formula.specs.Test.{holds, registers};
@@ -67,9 +68,9 @@ fn literal_at(
 }
 
 fn stride_at(s: &[u8], place: usize, start: usize, next: usize, values: &[i32], k: usize) -> Judged
-    requires { ⌜ Whole (now s) (start + 4) k ⌝ }
+    requires { ⌜ Whole (now s) (start + edition1 .termWidth) k ⌝ }
     requires { ⌜ Registers (now values) k ⌝ }
-    ensures { λ r. ⌜ r ≡ strideJudged place next (signed (take 4 (drop start (now (s .entry))))) (value (formAt (now (s .entry)) (start + 4) k) (registers (now (values .entry)))) ⌝ }
+    ensures { λ r. ⌜ r ≡ strideJudged place next (signed (take (edition1 .termWidth) (drop start (now (s .entry))))) (value (formAt (now (s .entry)) (start + edition1 .termWidth) k) (registers (now (values .entry)))) ⌝ }
 {
     let g = wide_long_at(s, start);
     if g < 2 {
