@@ -16,6 +16,7 @@ use fields::header::between;
 use fields::header::put_header;
 use fields::header::read_header;
 use forms::BUNDLE_BYTES;
+use forms::COEFFICIENT_BYTES;
 use forms::CONSTANTS;
 use forms::CONSTRAINTS;
 use locate::Located;
@@ -163,7 +164,7 @@ pub fn write(k: u8, kinds: &[u8], numbers: &[i16], out: &mut [u8]) -> WriteResul
     if number != 0 {
         return WriteResult { answer, count: 0 };
     }
-    let needed = 8 + kinds.len() * (3 + (k as usize + 1) * 2);
+    let needed = 8 + kinds.len() * (3 + (k as usize + 1) * COEFFICIENT_BYTES);
     if out.len() < needed {
         return WriteResult {
             answer: refusal(21, 4, needed),

@@ -1,6 +1,7 @@
 // The constraints of a bundle, written as fields.
 use fields::numbers::put_head;
 use fields::words::put_short;
+use forms::COEFFICIENT_BYTES;
 ghost use mathlib.Core.Path.{_≡_};
 ghost use Prim.Native.Nat.{_+_, _*_, _≤_};
 ghost use lib.ListN.{length, take, drop};
@@ -34,10 +35,12 @@ fn put_run(out: &mut [u8], at: usize, numbers: &[i16], from: usize, n: usize)
     let mut i = 0;
     while i < n {
         let x = numbers[from + i];
-        put_short(out, at + i * 2, x);
+        put_short(out, at + i * COEFFICIENT_BYTES, x);
         i += 1;
     }
 }
+
+const TWO_BEFORE: usize = 2 * COEFFICIENT_BYTES;
 
 // At most three of them, each behind a test: a loop costs more.
 fn put_rest(out: &mut [u8], at: usize, numbers: &[i16], from: usize, n: usize)
@@ -52,11 +55,11 @@ fn put_rest(out: &mut [u8], at: usize, numbers: &[i16], from: usize, n: usize)
     if n == 1 {
         return;
     }
-    put_short(out, at + 2, numbers[from + 1]);
+    put_short(out, at + COEFFICIENT_BYTES, numbers[from + 1]);
     if n == 2 {
         return;
     }
-    put_short(out, at + 4, numbers[from + 2]);
+    put_short(out, at + TWO_BEFORE, numbers[from + 2]);
 }
 
 // The whole fours, which the compiler turns into words of four numbers with nothing left over, and then the rest.
@@ -67,7 +70,7 @@ fn put_numbers(out: &mut [u8], at: usize, numbers: &[i16], from: usize, n: usize
 {
     let m = n / 4 * 4;
     put_run(out, at, numbers, from, m);
-    put_rest(out, at + m * 2, numbers, from + m, n % 4);
+    put_rest(out, at + m * COEFFICIENT_BYTES, numbers, from + m, n % 4);
 }
 
 // One constraint's field.
@@ -78,7 +81,7 @@ fn put_constraint(out: &mut [u8], at: usize, k: u8, kind: u8, numbers: &[i16], f
     ensures { λ _. ⌜ now (out .exit) ≡ sets (now (out .entry)) at (fieldBytes (3 + kind) (signedsBytes (edition1 .coefficientWidth) (take (k + 1) (drop from (now (numbers .entry)))))) ⌝ }
 {
     let n = k as usize + 1;
-    put_head(out, at, 3 + kind, n * 2);
+    put_head(out, at, 3 + kind, n * COEFFICIENT_BYTES);
     put_numbers(out, at + 3, numbers, from, n);
 }
 
@@ -89,7 +92,7 @@ pub fn put_constraints(out: &mut [u8], at: usize, k: u8, kinds: &[u8], numbers: 
     ensures { λ _. ⌜ now (out .exit) ≡ sets (now (out .entry)) at (constraintsBytes edition1 k (now (kinds .entry)) (now (numbers .entry))) ⌝ }
 {
     let width = k as usize + 1;
-    let size = 3 + width * 2;
+    let size = 3 + width * COEFFICIENT_BYTES;
     let mut here = at;
     let mut from: usize = 0;
     let mut n: usize = 0;

@@ -1,5 +1,6 @@
 // The constraints of a bundle, stored into lent outputs.
 use fields::words::short_at;
+use forms::COEFFICIENT_BYTES;
 ghost use mathlib.Core.Path.{_≡_};
 ghost use Prim.Native.Nat.{_+_, _*_, _≤_};
 ghost use lib.ListN.{length, drop};
@@ -20,7 +21,7 @@ fn store_numbers(s: &[u8], start: usize, n: usize, numbers: &mut [i16], at: usiz
 {
     let mut i = 0;
     while i < n {
-        let x = short_at(s, start + i * 2);
+        let x = short_at(s, start + i * COEFFICIENT_BYTES);
         numbers[at + i] = x;
         i += 1;
     }
@@ -50,7 +51,7 @@ pub fn store_constraints(
     ensures numbers { λ _. ⌜ now (numbers .exit) ≡ sets (now (numbers .entry)) 0 (numbersOf (stated k (fieldsAt (now (s .entry)) at))) ⌝ }
 {
     let width = k as usize + 1;
-    let size = 3 + width * 2;
+    let size = 3 + width * COEFFICIENT_BYTES;
     let mut here = at;
     let mut n: usize = 0;
     while n < count {

@@ -1,6 +1,7 @@
 // The value of a form at the register values.
 use crate::values::register;
 use fields::words::wide_long_at;
+use forms::TERM_BYTES;
 ghost use mathlib.Core.Path.{_≡_};
 ghost use Prim.Native.Nat.{_+_, _*_, _≤_};
 ghost use lib.ListN.{length, getD, take, drop};
@@ -31,11 +32,11 @@ pub fn value_at(s: &[u8], at: usize, values: &[i32], k: usize) -> i64
     requires { ⌜ Registers (now values) k ⌝ }
     ensures { λ r. ⌜ r ≡ value (formAt (now (s .entry)) at k) (registers (now (values .entry))) ⌝ }
 {
-    let mut total = wide_long_at(s, at + k * 4);
+    let mut total = wide_long_at(s, at + k * TERM_BYTES);
     let mut i = k;
     while 0 < i {
         i -= 1;
-        total = with_term(s, at + i * 4, values, i, total);
+        total = with_term(s, at + i * TERM_BYTES, values, i, total);
     }
     total
 }

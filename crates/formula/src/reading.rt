@@ -5,6 +5,7 @@ use crate::node::node_of;
 use fields::Next;
 use fields::next_field;
 use fields::words::wide_long_at;
+use forms::TERM_BYTES;
 use integers::divides;
 use integers::is_zero;
 ghost use mathlib.Core.Path.{_≡_};
@@ -79,7 +80,7 @@ fn stride_at(s: &[u8], place: usize, start: usize, next: usize, values: &[i32], 
             at: place,
         };
     }
-    let x = value_at(s, start + 4, values, k);
+    let x = value_at(s, start + TERM_BYTES, values, k);
     Judged::Value {
         holds: divides(g, x),
         next,
