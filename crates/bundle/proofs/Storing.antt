@@ -7,15 +7,16 @@ use native.Mathlib.Nat.{suc-mul, zero-mul, mul-le-mul-right}
 use native.Mathlib.Omega.{arith}
 use lib.Dec.{leb, ltb, eqb}
 use lib.IntN.{ℤ}
-use lib.ListN.{length, getD, take, drop, set, length-append, length-drop, length-set}
+use lib.ListN.{length, getD, take, drop, set, length-drop, length-set}
 use lib.Seq.{sets, length-sets, take-add, take-take, drop-drop, drop-at, length-take-le}
 use borrow.Author.Tests.{leb-true, leb-false, ltb-true, ltb-false, eqb-true, eqb-false}
 use Rattle.forms.specs.Forms.{≤0, =0, Constraint}
 use Rattle.fields.specs.declared.FileKind.{FileKind}
-use Rattle.fields.specs.Fields.{Fields, ends, cut, _▸_}
+use Rattle.fields.specs.Fields.{Fields, ends, cut}
 use Rattle.fields.specs.Header.{known}
 use Rattle.fields.specs.Numbers.{signed, signeds, flat, formFrom}
-use Rattle.fields.specs.Places.{fieldsAt}
+use Rattle.fields.specs.declared.Found.{Found}
+use Rattle.fields.specs.Places.{foundAt, fieldsAt}
 use Rattle.fields.proofs.Places.{lenAt, found-end, found-short, found-cut, found-whole, Took, took, cut-at, ends-at, took-note, took-field, Starts}
 use Rattle.fields.proofs.Signed.{length-signeds, signeds-last}
 use Rattle.fields.proofs.Stores.{sets-append}
@@ -154,20 +155,34 @@ module _ {s : List ℕ} {at K count : ℕ} {kinds₀ : List ℕ} {numbers₀ : L
       let z : n ≡ count = cc in omega arith
 
   -- where a constraint is left to store, a whole field stands
-  pub storing-whole : n < count → Took s here (getD s here 0) (here + 3) (lenAt s here) (here + 3 + lenAt s here)
-  storing-whole h = by-end (leb (length s) here) refl
+  storing-found : n < count → foundAt s here ≡ Found.Whole (getD s here 0) (here + 3) (lenAt s here) (here + 3 + lenAt s here)
+  storing-found h = by-end (leb (length s) here) refl
     where
-      by-size : (p : Bool) → leb (lenAt s here) (length s - here - 3) ≡ p → here < length s → 3 ≤ length s - here → Took s here (getD s here 0) (here + 3) (lenAt s here) (here + 3 + lenAt s here)
-      by-size true e a b = took (sym (found-whole s here a b (leb-true _ _ e))) refl
+      by-size : (p : Bool) → leb (lenAt s here) (length s - here - 3) ≡ p → here < length s → 3 ≤ length s - here → foundAt s here ≡ Found.Whole (getD s here 0) (here + 3) (lenAt s here) (here + 3 + lenAt s here)
+      by-size true e a b = found-whole s here a b (leb-true _ _ e)
       by-size false e a b = absurd (no-cut (cut-at s here (sym (found-cut s here a b (leb-false _ _ e))) refl))
 
-      by-head : (p : Bool) → leb 3 (length s - here) ≡ p → here < length s → Took s here (getD s here 0) (here + 3) (lenAt s here) (here + 3 + lenAt s here)
+      by-head : (p : Bool) → leb 3 (length s - here) ≡ p → here < length s → foundAt s here ≡ Found.Whole (getD s here 0) (here + 3) (lenAt s here) (here + 3 + lenAt s here)
       by-head true e a = by-size (leb (lenAt s here) (length s - here - 3)) refl a (leb-true _ _ e)
       by-head false e a = absurd (no-cut (cut-at s here (sym (found-short s here a (leb-false _ _ e))) refl))
 
-      by-end : (p : Bool) → leb (length s) here ≡ p → Took s here (getD s here 0) (here + 3) (lenAt s here) (here + 3 + lenAt s here)
+      by-end : (p : Bool) → leb (length s) here ≡ p → foundAt s here ≡ Found.Whole (getD s here 0) (here + 3) (lenAt s here) (here + 3 + lenAt s here)
       by-end true e = absurd (no-end h (ends-at s here (sym (found-end s here (leb-true _ _ e))) refl))
       by-end false e = by-head (leb 3 (length s - here)) refl (leb-false _ _ e)
+
+  pub storing-whole : n < count → Took s here (getD s here 0) (here + 3) (lenAt s here) (here + 3 + lenAt s here)
+  storing-whole h = took (sym (storing-found h)) refl
+
+  -- so `field_at` finds one
+  module _ (h : n < count) {r : Found} (f : r ≡ foundAt s here) where
+    pub not-broken : r ≡ Found.Broken → ⊥
+    not-broken e = no-cut (cut-at s here f e)
+
+    pub not-end : r ≡ Found.End → ⊥
+    not-end e = no-end h (ends-at s here f e)
+
+    pub next-is : {tag start len next : ℕ} → r ≡ Found.Whole tag start len next → next ≡ here + 3 + lenAt s here
+    next-is e = let q = sym e ∙ f ∙ storing-found h in cc
 
   pub storing-starts : n < count → getD s here 0 < 0x80 → Starts s here here (getD s here 0) (here + 3) (lenAt s here) (here + 3 + lenAt s here)
   storing-starts h l =

@@ -1,4 +1,6 @@
 // The constraints of a bundle, stored into lent outputs.
+use fields::Found;
+use fields::field_at;
 use fields::words::short_at;
 use forms::COEFFICIENT_BYTES;
 ghost use mathlib.Core.Path.{_≡_};
@@ -8,7 +10,6 @@ ghost use lib.Seq.{sets};
 ghost use Rattle.forms.specs.Edition.{edition1};
 ghost use Rattle.fields.specs.Numbers.{signeds};
 ghost use Rattle.fields.specs.Places.{fieldsAt};
-ghost use Rattle.fields.proofs.Places.{lenAt};
 ghost use Rattle.bundle.specs.Scan.{stated};
 ghost use Rattle.bundle.specs.Read.{kindsOf, numbersOf};
 ghost use Rattle.bundle.specs.Store.{Storable};
@@ -25,16 +26,6 @@ fn store_numbers(s: &[u8], start: usize, n: usize, numbers: &mut [i16], at: usiz
         numbers[at + i] = x;
         i += 1;
     }
-}
-
-// The place after the note at a place.
-fn after_note(s: &[u8], at: usize) -> usize
-    requires { ⌜ at + 3 + lenAt (now s) at ≤ length (now s) ⌝ }
-    ensures { λ r. ⌜ r ≡ at + 3 + lenAt (now (s .entry)) at ⌝ }
-{
-    let high = s[at + 1] as usize;
-    let low = s[at + 2] as usize;
-    at + 3 + (high * 256 + low)
 }
 
 // The count constraints from at on, which are without fault: their tags and lengths were tested.
@@ -62,7 +53,23 @@ pub fn store_constraints(
             n += 1;
             here += size;
         } else {
-            here = after_note(s, here);
+            match field_at(s, here) {
+                Found::Whole {
+                    tag: _,
+                    start: _,
+                    len: _,
+                    next,
+                } => {
+                    here = next;
+                }
+                // Neither comes: a constraint is still to be stored.
+                Found::Broken => {
+                    return;
+                }
+                Found::End => {
+                    return;
+                }
+            }
         }
     }
 }
