@@ -14,10 +14,10 @@ use Rattle.fields.specs.Fields.{fieldBytes}
 use Rattle.fields.specs.Header.{headerBytes}
 use Rattle.fields.specs.Numbers.{unsignedBytes, signedBytes, signedsBytes}
 use Rattle.fields.proofs.Framing.{length-fieldBytes}
-use Rattle.fields.proofs.Signed.{length-signedBytes, signedsBytes-append}
+use Rattle.fields.proofs.Signed.{length-signedBytes, length-signedsBytes, signedsBytes-append}
 use Rattle.fields.proofs.Stores.{sets-append}
 use Rattle.bundle.specs.Write.{constraintsBytes}
-use Rattle.bundle.specs.Put.{firstBad, fieldSize, Writable}
+use Rattle.bundle.specs.Put.{firstBad, fieldSize, InOrder}
 
 -- ---- kinds
 module _ (kinds : List ℕ) (i : ℕ) where
@@ -31,13 +31,6 @@ module _ (kinds : List ℕ) (i : ℕ) where
   bad-none h = rw (drop-of-length-le kinds h)
 
 -- ---- numbers
-pub length-signeds-bytes : (w : ℕ) (zs : List ℤ) → length (signedsBytes w zs) ≡ length zs * w
-unfolding signedsBytes
-length-signeds-bytes w [] = sym (zero-mul w)
-length-signeds-bytes w (z ∷ zs) =
-    length-append (signedBytes w z) (signedsBytes w zs)
-    ∙ omega (arith, length-signedBytes w z, length-signeds-bytes w zs, suc-mul (length zs) w)
-
 put-first : (out : List ℕ) (at : ℕ) (numbers : List ℤ) (from n : ℕ) → from < length numbers
     → sets (sets out at (signedBytes 2 (getD numbers from (pos 0)))) (at + 2) (signedsBytes 2 (take n (drop (from + 1) numbers)))
     ≡ sets out at (signedsBytes 2 (take (suc n) (drop from numbers)))
@@ -83,7 +76,7 @@ rest-three out {o₁} at numbers from e₁ e₂ e₃ h =
 pub numbers-bytes : (numbers : List ℤ) (from n : ℕ) → from + n ≤ length numbers → length (signedsBytes 2 (take n (drop from numbers))) ≡ n * 2
 numbers-bytes numbers from n h =
     let l : length (take n (drop from numbers)) ≡ n = length-take-le n (drop from numbers) (simp length-drop (omega arith)) in
-    length-signeds-bytes 2 (take n (drop from numbers)) ∙ rw l
+    length-signedsBytes 2 (take n (drop from numbers)) ∙ rw l
 
 -- m numbers, and r more behind them
 pub put-runs : (out : List ℕ) {o₁ o₂ : List ℕ} (at : ℕ) (numbers : List ℤ) (from m r n : ℕ) → m + r ≡ n → from + n ≤ length numbers
@@ -104,16 +97,18 @@ put-field out at tag n contents e₁ e₂ l = e₂ ∙ rw (e₁, l) (sym (sets-a
 -- ---- all constraints
 -- the invariant: what is left to write gives what the whole gives
 pub record Putting (K : ℕ) (kinds : List ℕ) (numbers : List ℤ) (out₀ : List ℕ) (at : ℕ) (out : List ℕ) (here from n : ℕ) : Type 0 where
-  pub can : Writable K kinds numbers out₀ at
+  pub order : InOrder K kinds numbers
+  pub fits : at + length kinds * fieldSize K ≤ length out₀
   pub here-is : here ≡ at + n * fieldSize K
   pub from-is : from ≡ n * (K + 1)
   pub upto : n ≤ length kinds
   pub is : sets out here (constraintsBytes edition1 K (drop n kinds) (drop (n * (K + 1)) numbers)) ≡ sets out₀ at (constraintsBytes edition1 K kinds numbers)
   pub long : length out ≡ length out₀
 
-pub putting-start : {K : ℕ} {kinds : List ℕ} {numbers : List ℤ} {out : List ℕ} {at : ℕ} → Writable K kinds numbers out at → Putting K kinds numbers out at out at 0 0
+pub putting-start : {K : ℕ} {kinds : List ℕ} {numbers : List ℤ} {out : List ℕ} {at : ℕ} → InOrder K kinds numbers × (at + length kinds * fieldSize K ≤ length out) → Putting K kinds numbers out at out at 0 0
 putting-start {K} {at} w = record {
-  can = w;
+  order = w .0;
+  fits = w .1;
   here-is = (let z = zero-mul (fieldSize K) in omega arith);
   from-is = sym (zero-mul (K + 1));
   upto = omega arith;
@@ -128,10 +123,12 @@ module _ {K : ℕ} {kinds : List ℕ} {numbers : List ℤ} {out₀ : List ℕ} {
 
   module _ (h : n < length kinds) where
     pub numbers-left : from + (K + 1) ≤ length numbers
-    numbers-left = omega (arith, mul-le-mul-right {m = suc n} {n = length kinds} (K + 1) h, suc-mul n (K + 1), v .can .size, v .from-is)
+    numbers-left =
+        let e : suc K ≡ K + 1 = omega arith in
+        omega (arith, mul-le-mul-right {m = suc n} {n = length kinds} (K + 1) h, suc-mul n (K + 1), rw e at (v .order .size), v .from-is)
 
     pub out-left : here + fieldSize K ≤ length out
-    out-left = omega (arith, mul-le-mul-right {m = suc n} {n = length kinds} (fieldSize K) h, suc-mul n (fieldSize K), v .can .fits, v .long, v .here-is)
+    out-left = omega (arith, mul-le-mul-right {m = suc n} {n = length kinds} (fieldSize K) h, suc-mul n (fieldSize K), v .fits, v .long, v .here-is)
 
     pub putting-next : {out′ : List ℕ}
         → out′ ≡ sets out here (fieldBytes (3 + getD kinds n 0) (signedsBytes 2 (take (K + 1) (drop from numbers))))
@@ -147,7 +144,8 @@ module _ {K : ℕ} {kinds : List ℕ} {numbers : List ℤ} {out₀ : List ℕ} {
         let q : sets out here (constraintsBytes edition1 K (drop n kinds) (drop (n * (K + 1)) numbers)) ≡ sets out′ (here + fieldSize K) rest
         = rw (drop-cons kinds n 0 h, e, d, ← v .from-is) (sets-append f rest out here ∙ rw (l, w)) in
         record {
-          can = v .can;
+          order = v .order;
+          fits = v .fits;
           here-is = omega (arith, suc-mul n (fieldSize K), v .here-is);
           from-is = omega (arith, suc-mul n (K + 1), v .from-is);
           upto = omega arith;
@@ -169,7 +167,7 @@ constraints-size K (kind ∷ kinds) numbers h =
     ∙ omega (
       arith,
       length-fieldBytes (3 + kind) (signedsBytes 2 (take (suc K) numbers)),
-      length-signeds-bytes 2 (take (suc K) numbers),
+      length-signedsBytes 2 (take (suc K) numbers),
       l,
       constraints-size K kinds (drop (suc K) numbers) d,
       suc-mul (length kinds) (fieldSize K),

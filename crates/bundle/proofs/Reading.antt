@@ -2,30 +2,32 @@
 use mathlib.Core.Path.{_≡_, refl, sym, ap, _∙_}
 use mathlib.Core.Option.{Option, none}
 use mathlib.Core.List.{List}
-use Prim.Native.Nat.{ℕ, zero, suc, _+_, _*_, _≤_, _<_}
+use Prim.Native.Nat.{ℕ, suc, _+_, _*_, _≤_, _<_}
+use native.Mathlib.Nat.{suc-mul, zero-mul}
 use native.Mathlib.Omega.{arith}
 use lib.IntN.{ℤ}
-use lib.ListN.{length, length-map}
+use lib.ListN.{length, length-map, length-append}
 use lib.Seq.{sets}
-use borrow.Author.Tests.{le-leb, lt-leb, ltb-true}
+use borrow.Author.Tests.{le-leb, lt-leb}
 use Rattle.forms.specs.Edition.{edition1}
 use Rattle.forms.specs.Forms.{Constraint}
 use Rattle.fields.specs.declared.Answer.{Answer}
-use Rattle.fields.specs.declared.FileKind.{FileKind}
 use Rattle.fields.specs.Answers.{answer, acceptance, fileA, Result, refused, accepted, _>>_, need, over}
-use Rattle.fields.specs.Fields.{Fields, ends, cut, _▸_, fields}
-use Rattle.fields.proofs.Refusals.{Numbered, Gives, no, yes, bind, header-gives}
+use Rattle.fields.specs.Numbers.{flat}
+use Rattle.fields.specs.Fields.{Fields, Item, fields}
+use Rattle.fields.proofs.Results.{Gives, weaken, not-0}
+use Rattle.fields.proofs.Signed.{length-signeds}
 use Rattle.fields.proofs.Stores.{sets-over}
-use Rattle.bundle.specs.Bundle.{Bundle, atMost, constraints, bundle}
-use Rattle.bundle.specs.Scan.{faultOf, passed, counted, stated, countedOf, scanned}
+use Rattle.bundle.specs.Bundle.{Bundle, atMost, bundle}
+use Rattle.bundle.specs.Layout.{Each, nil, cons, States}
+use Rattle.bundle.specs.Scan.{scanned}
 use Rattle.bundle.specs.Read.{kindsOf, numbersOf, unread, store, stored, readBundle}
 use Rattle.bundle.specs.Store.{kindsIn, numbersIn}
 use Rattle.bundle.specs.Promises.{readOf}
-use Rattle.bundle.specs.declared.constraints.Counted.{Counted}
 use Rattle.bundle.specs.declared.Scanned.{Scanned}
 use Rattle.bundle.specs.declared.ReadResult.{ReadResult}
-use Rattle.bundle.proofs.Scanning.{count-is, proper-of, passed-both, constraints-counted}
-use Rattle.bundle.proofs.Storing.{numbers-size}
+use Rattle.bundle.proofs.Laid.{bundle-gives}
+use Rattle.bundle.proofs.Storing.{flat-signeds}
 
 -- ---- an accepted bundle
 pub record Shaped (b : Bundle) : Type 0 where
@@ -34,43 +36,15 @@ pub record Shaped (b : Bundle) : Type 0 where
   pub few : length (b .constraints) ≤ 32
   pub size : length (numbersOf (b .constraints)) ≡ length (b .constraints) * suc (b .K)
 
-most : (K n m : ℕ) (fs : Fields) → n ≤ 32 → counted K n fs ≡ Counted.Count m → m ≤ 32
-unfolding counted
-most K n m (ends at) h e = let q : n ≡ m = cc in omega arith
-most K n m (cut at) h e = absurd (let z : _≡_ {A = ℕ} 0 1 = cc in omega arith)
-most K n m (f ▸ fs) h e =
-    let p = passed-both (faultOf K n (f .tag) (length (f .contents))) (f .at) m (counted K (suc n) fs) e in
-    most K (suc n) m fs (omega (arith, ltb-true n 32 (proper-of K n (f .tag) (length (f .contents)) (p .0) .room))) (p .1)
+stated-size : {K : ℕ} {is : List Item} {cs : List Constraint} → Each (States edition1 K) is cs → length (numbersOf cs) ≡ length cs * suc K
+unfolding numbersOf
+stated-size {K} nil = sym (zero-mul (suc K))
+stated-size {K} (cons {x = i} {y = c} {ys = cs} s h) =
+    length-append (flat (c .form)) (numbersOf cs)
+    ∙ rw (← s .form, flat-signeds 2 K (i .contents), length-signeds 2 (suc K) (i .contents)) (omega (arith, suc-mul (length cs) (suc K), stated-size h))
 
-fault-numbered : (file K n number place : ℕ) (fs : Fields) → counted K n fs ≡ Counted.Refused number place → Numbered (answer number file place)
-unfolding counted
-fault-numbered file K n number place (ends at) e = absurd (let z : _≡_ {A = ℕ} 0 1 = cc in omega arith)
-fault-numbered file K n number place (cut at) e = let q : 2 ≡ number = cc in record { not-0 = λ z. omega arith }
-fault-numbered file K n number place (f ▸ fs) e = go (faultOf K n (f .tag) (length (f .contents))) e (fault-numbered file K (suc n) number place fs)
-  where
-    go : (x : ℕ) → passed x (f .at) (counted K (suc n) fs) ≡ Counted.Refused number place
-        → (counted K (suc n) fs ≡ Counted.Refused number place → Numbered (answer number file place)) → Numbered (answer number file place)
-    go zero e k = k e
-    go (suc x) e k = let q : suc x ≡ number = cc in record { not-0 = λ z. omega arith }
-
-pub record Few (K : ℕ) (cs : List Constraint) : Type 0 where
-  pub few : length cs ≤ 32
-  pub size : length (numbersOf cs) ≡ length cs * suc K
-
-constraints-gives : (file K : ℕ) (fs : Fields) → Gives Numbered (Few K) (constraints file edition1 K 0 fs)
-constraints-gives file K fs = rw (constraints-counted file K 0 fs) (go (counted K 0 fs) refl)
-  where
-    go : (c : Counted) → counted K 0 fs ≡ c → Gives Numbered (Few K) (countedOf file K fs c)
-    go (Counted.Count m) e = yes {x = stated K fs} (record { few = omega (arith, most K 0 m fs (omega arith) e, count-is K 0 m fs e); size = numbers-size K fs })
-    go (Counted.Refused number place) e = no (fault-numbered file K 0 number place fs e)
-
-pub shaped : (file : ℕ) (given : Option ℕ) (fs : Fields) → Gives Numbered Shaped (bundle file given fs)
-unfolding bundle
-shaped file given fs =
-    bind (header-gives FileKind.Bundle file given fs) λ h r.
-    let g : Gives Numbered (Few (h .K)) (constraints file (h .edition) (h .K) 0 (h .rest)) = rw (r .edition-is) (constraints-gives file (h .K) (h .rest)) in
-    bind g λ cs f.
-    yes (record { low = r .low; high = r .high; few = f .few; size = f .size })
+pub shaped : (file : ℕ) (given : Option ℕ) (fs : Fields) → Gives (bundle file given fs) Shaped
+shaped file given fs = weaken (bundle-gives file given fs) λ b l. record { low = l .laid .low; high = l .laid .high; few = l .few; size = stated-size (l .laid .states) }
 
 -- ---- each way through `read`
 -- what `scan` tells of an accepted bundle
@@ -80,20 +54,20 @@ pub record Taken (R : Result Bundle) (r : Scanned) : Type 0 where
   pub shape : Shaped bundle
   pub scan-is : r ≡ record { answer = acceptance; k = bundle .K; count = length (bundle .constraints) }
 
-module _ {R : Result Bundle} {r : Scanned} (g : Gives Numbered Shaped R) (e : r ≡ scanned R) where
+module _ {R : Result Bundle} {r : Scanned} (g : Gives R Shaped) (e : r ≡ scanned R) where
   pub taken : r .answer .number ≡ 0 → Taken R r
   taken z = go R g e
     where
-      go : (R : Result Bundle) → Gives Numbered Shaped R → r ≡ scanned R → Taken R r
-      go (refused a) (no p) e = absurd (p .not-0 (rw e at z))
-      go (accepted b) (yes q) e = record { bundle = b; is = refl; shape = q; scan-is = e }
+      go : (R : Result Bundle) → Gives R Shaped → r ≡ scanned R → Taken R r
+      go (refused a) g e = absurd (not-0 (g .refusal a refl) (rw e at z))
+      go (accepted b) g e = record { bundle = b; is = refl; shape = g .gives b refl; scan-is = e }
 
   pub not-taken : (r .answer .number ≡ 0 → ⊥) → R ≡ refused (r .answer)
-  not-taken z = go R g e
+  not-taken z = go R e
     where
-      go : (R : Result Bundle) → Gives Numbered Shaped R → r ≡ scanned R → R ≡ refused (r .answer)
-      go (refused a) (no p) e = rw e
-      go (accepted b) (yes q) e = absurd (z (rw e))
+      go : (R : Result Bundle) → r ≡ scanned R → R ≡ refused (r .answer)
+      go (refused a) e = rw e
+      go (accepted b) e = absurd (z (rw e))
 
 module _ (kinds : List ℕ) (numbers : List ℤ) where
   pub read-unread : {x : ReadResult} {a : Answer} → x ≡ record { answer = a; count = 0; k = 0 } → readOf x kinds numbers ≡ unread kinds numbers a

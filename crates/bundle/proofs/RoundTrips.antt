@@ -25,9 +25,10 @@ use Rattle.bundle.specs.Bundle.{Bundle}
 use Rattle.bundle.specs.Layout.{StatesAll, BundleFile}
 use Rattle.bundle.specs.Read.{kindsOf, numbersOf, BundleRead, unread, store, stored, readBundle}
 use Rattle.bundle.specs.Write.{writeBundle}
+use Rattle.bundle.specs.Put.{InOrder}
 use Rattle.bundle.proofs.Laid.{bundle-gives, bundle-accepts, short-gives, short-accepted, laid-file, file-laid}
 use Rattle.fields.proofs.Whole.{FileOf, whole-file}
-use Rattle.bundle.proofs.Writable.{Writable, bytesOf, bundleBytes-gives, bundleBytes-accepted, FormsInWidth, Given, constraints-given, constraintItem, bundleItems, bytesOf-file, bundleItems-framed, constraintItems-state, bundleItems-short, bundleItems-bare, length-kindsOf, kinds-binary, sized, length-numbersOf, restated}
+use Rattle.bundle.proofs.Writable.{bytesOf, bundleBytes-gives, bundleBytes-accepted, FormsInWidth, Given, constraints-given, constraintItem, bundleItems, bytesOf-file, bundleItems-framed, constraintItems-state, bundleItems-short, bundleItems-bare, length-kindsOf, kinds-binary, sized, length-numbersOf, restated}
 
 -- ---- what an accepted writing leaves
 -- What writing these bytes leaves, if it is accepted.
@@ -56,35 +57,35 @@ readAs K kinds numbers kinds′ numbers′ = record { answer = acceptance; count
 
 module _ (kinds : List ℕ) (numbers : List ℤ) where
   -- The same of a bundle.
-  abbrev readOf : Bundle → BundleRead
-  readOf b = readAs (b .K) (kindsOf (b .constraints)) (numbersOf (b .constraints)) kinds numbers
+  abbrev readFrom : Bundle → BundleRead
+  readFrom b = readAs (b .K) (kindsOf (b .constraints)) (numbersOf (b .constraints)) kinds numbers
 
-  store-read : (b : Bundle) → store kinds numbers true b ≡ readOf b
+  store-read : (b : Bundle) → store kinds numbers true b ≡ readFrom b
   unfolding store
   store-read b = rw length-kindsOf
 
-  store-accepted : (t : Bool) (b : Bundle) → store kinds numbers t b .answer ≡ acceptance → store kinds numbers t b ≡ readOf b
+  store-accepted : (t : Bool) (b : Bundle) → store kinds numbers t b .answer ≡ acceptance → store kinds numbers t b ≡ readFrom b
   unfolding store unread
   store-accepted true b h = store-read b
   store-accepted false b h = absurd (let z = ap (λ (a : Answer). a .number) h in omega arith)
 
-  stored-accepted : {P : Bundle → Type 0} (r : Result Bundle) → Gives r P → stored kinds numbers r .answer ≡ acceptance → (b : Bundle) × P b × (stored kinds numbers r ≡ readOf b)
+  stored-accepted : {P : Bundle → Type 0} (r : Result Bundle) → Gives r P → stored kinds numbers r .answer ≡ acceptance → (b : Bundle) × P b × (stored kinds numbers r ≡ readFrom b)
   unfolding stored unread
   stored-accepted (refused a) g h = absurd (not-0 (g .refusal a refl) (ap (λ (a : Answer). a .number) h))
   stored-accepted (accepted b) g h = (b, g .gives b refl, store-accepted (leb (length (kindsOf (b .constraints))) (length kinds) && leb (length (numbersOf (b .constraints))) (length numbers)) b h)
 
-  stored-fits : (b : Bundle) → length (kindsOf (b .constraints)) ≤ length kinds → length (numbersOf (b .constraints)) ≤ length numbers → stored kinds numbers (accepted b) ≡ readOf b
+  stored-fits : (b : Bundle) → length (kindsOf (b .constraints)) ≤ length kinds → length (numbersOf (b .constraints)) ≤ length numbers → stored kinds numbers (accepted b) ≡ readFrom b
   unfolding stored
   stored-fits b h l = rw (le-leb _ _ h, le-leb _ _ l) (store-read b)
 
   module _ (file : List ℕ) where
     -- A file that is read is a bundle's.
-    read-accepted : readBundle kinds numbers file .answer ≡ acceptance → (b : Bundle) × BundleFile file (b .K) (b .constraints) × (readBundle kinds numbers file ≡ readOf b)
+    read-accepted : readBundle kinds numbers file .answer ≡ acceptance → (b : Bundle) × BundleFile file (b .K) (b .constraints) × (readBundle kinds numbers file ≡ readFrom b)
     unfolding readBundle
     read-accepted h = stored-accepted _ (seq (short-gives _ _ file) λ s. weaken (bundle-gives fileA none (fields file)) λ b l. laid-file file b s l) h
 
     -- A bundle's file is read into outputs that are long enough.
-    pub read-file : (b : Bundle) → BundleFile file (b .K) (b .constraints) → length (kindsOf (b .constraints)) ≤ length kinds → length (numbersOf (b .constraints)) ≤ length numbers → readBundle kinds numbers file ≡ readOf b
+    pub read-file : (b : Bundle) → BundleFile file (b .K) (b .constraints) → length (kindsOf (b .constraints)) ≤ length kinds → length (numbersOf (b .constraints)) ≤ length numbers → readBundle kinds numbers file ≡ readFrom b
     unfolding readBundle agrees
     read-file b f h l = ap (stored kinds numbers) (passes _ (short-accepted _ _ file (f .short)) ∙ bundle-accepts fileA none (fields file) b (file-laid file b f tt)) ∙ stored-fits b h l
 
@@ -108,13 +109,13 @@ items-file {K} {cs} low high few t = record {
 }
 
 -- What can be written, its numbers within two bytes, is a bundle's file.
-writable-file : (K : ℕ) (kinds : List ℕ) (numbers : List ℤ) → Writable K kinds numbers → (g : Given 2 K kinds numbers) → BundleFile (bytesOf K kinds numbers) K (g .constraints)
+writable-file : (K : ℕ) (kinds : List ℕ) (numbers : List ℤ) → InOrder K kinds numbers → (g : Given 2 K kinds numbers) → BundleFile (bytesOf K kinds numbers) K (g .constraints)
 writable-file K kinds numbers w g =
     let few : length (g .constraints) ≤ edition1 .constraints = omega (arith, length-kindsOf (g .constraints), ap length (g .kinds-are), w .few) in
     let same : fileOf (bundleItems 2 K (g .constraints)) ≡ bytesOf K kinds numbers = sym (bytesOf-file K (sized (g .widths))) ∙ ap₂ (bytesOf K) (g .kinds-are) (g .numbers-are) in
     subst (λ (bs : List ℕ). BundleFile bs K (g .constraints)) same (items-file (w .low) (w .high) few (g .widths))
 
-bytes-read : (K : ℕ) (kinds : List ℕ) (numbers : List ℤ) → All (InWidth 2) numbers → Writable K kinds numbers → (kinds′ : List ℕ) (numbers′ : List ℤ) → length kinds ≤ length kinds′ → length numbers ≤ length numbers′
+bytes-read : (K : ℕ) (kinds : List ℕ) (numbers : List ℤ) → All (InWidth 2) numbers → InOrder K kinds numbers → (kinds′ : List ℕ) (numbers′ : List ℤ) → length kinds ≤ length kinds′ → length numbers ≤ length numbers′
     → readBundle kinds′ numbers′ (bytesOf K kinds numbers) ≡ readAs K kinds numbers kinds′ numbers′
 bytes-read K kinds numbers h w kinds′ numbers′ l m =
     let g = constraints-given 2 K numbers (w .binary) (w .size) h in
@@ -138,13 +139,13 @@ abbrev pub rewritten : BundleRead → List ℕ → Written
 rewritten r output = writeBundle (r .K) (take (r .count) (r .kinds)) (take (r .count * suc (r .K)) (r .numbers)) output
 
 -- Only what was read is written again.
-used : (K : ℕ) (kinds : List ℕ) (numbers : List ℤ) (kinds′ : List ℕ) (numbers′ : List ℤ) (output : List ℕ) → Writable K kinds numbers
+used : (K : ℕ) (kinds : List ℕ) (numbers : List ℤ) (kinds′ : List ℕ) (numbers′ : List ℤ) (output : List ℕ) → InOrder K kinds numbers
     → rewritten (readAs K kinds numbers kinds′ numbers′) output ≡ writeBundle K kinds numbers output
 unfolding over
 used K kinds numbers kinds′ numbers′ output w = ap₂ (λ (ks : List ℕ) (zs : List ℤ). writeBundle K ks zs output) (take-at kinds _ (length kinds) refl) (take-at numbers _ (length kinds * suc K) (w .size))
 
 -- The constraints of a file can be written.
-writable : {K : ℕ} {cs : List Constraint} → 1 ≤ K → K ≤ edition1 .constants → length cs ≤ edition1 .constraints → FormsInWidth 2 K cs → Writable K (kindsOf cs) (numbersOf cs)
+writable : {K : ℕ} {cs : List Constraint} → 1 ≤ K → K ≤ edition1 .constants → length cs ≤ edition1 .constraints → FormsInWidth 2 K cs → InOrder K (kindsOf cs) (numbersOf cs)
 writable {K} {cs} low high few t = record {
   low = low;
   high = high;

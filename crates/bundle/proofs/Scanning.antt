@@ -1,7 +1,7 @@
 -- Going over a bundle: the code's count and faults are those of the definitions. Assumes nothing.
 use mathlib.Core.Path.{_≡_, refl, sym, ap, _∙_}
 use mathlib.Core.Option.{Option, none, some}
-use mathlib.Core.Bool.{Bool, true, false}
+use mathlib.Core.Bool.{Bool, true, false, cond}
 use mathlib.Core.List.{List, _∷_}
 use Prim.Native.Nat.{ℕ, zero, suc, _+_, _-_, _*_, _<_, _≤_}
 use native.Mathlib.Omega.{arith}
@@ -19,7 +19,7 @@ use Rattle.fields.specs.Header.{Header, headerTag, known}
 use Rattle.fields.specs.Places.{fieldsAt, givenK, IsHeader}
 use Rattle.fields.proofs.Places.{Starts, starts-size, starts-less}
 use Rattle.bundle.specs.Bundle.{Bundle, kindTagged, constraints, bundle}
-use Rattle.bundle.specs.Scan.{pick, faultOf, passed, counted, stated, countedOf, scanned}
+use Rattle.bundle.specs.Scan.{faultOf, passed, counted, stated, countedOf, scanned}
 use Rattle.bundle.specs.declared.constraints.Counted.{Counted}
 
 -- ---- one turn
@@ -61,7 +61,7 @@ pub proper-of : (K n tag len : ℕ) → faultOf K n tag len ≡ 0 → Proper K n
 proper-of K n tag len e = go (known FileKind.Bundle tag) (ltb tag 0x03) (eqb len (formWidth 2 K)) (ltb n 32) refl refl refl refl e
   where
     go : (p q r u : Bool) → known FileKind.Bundle tag ≡ p → ltb tag 0x03 ≡ q → eqb len (formWidth 2 K) ≡ r → ltb n 32 ≡ u
-        → _≡_ {A = ℕ} (pick p (pick q 4 (pick r (pick u 0 8) 6)) 3) 0 → Proper K n tag len
+        → _≡_ {A = ℕ} (cond p (cond q 4 (cond r (cond u 0 8) 6)) 3) 0 → Proper K n tag len
     go true false true true a b c d e = record { has = a; from = b; size = c; room = d }
     go true false true false a b c d e = absurd (omega arith)
     go true false false u a b c d e = absurd (omega arith)
@@ -98,12 +98,12 @@ tag-most tag h l = go (leb tag 4) refl
         absurd (let z : _≡_ {A = Bool} true false = sym h ∙ rw (one, two, three, e) in let w : _≡_ {A = ℕ} 0 1 = cc in omega arith)
 
 -- the kind that a tag names, by the tests of the code
-kind-of : (tag : ℕ) → known FileKind.Bundle tag ≡ true → ltb tag 0x03 ≡ false → kindTagged tag ≡ some (pick (eqb tag 0x03) ≤0 =0)
+kind-of : (tag : ℕ) → known FileKind.Bundle tag ≡ true → ltb tag 0x03 ≡ false → kindTagged tag ≡ some (cond (eqb tag 0x03) ≤0 =0)
 unfolding kindTagged
 kind-of tag h l = go (eqb tag 0x03) (eqb tag 0x04) refl refl
   where
     go : (p q : Bool) → eqb tag 0x03 ≡ p → eqb tag 0x04 ≡ q
-        → _≡_ {A = Option Kind} (elim p [ true ↦ some ≤0 | false ↦ elim q [ true ↦ some =0 | false ↦ none ] ]) (some (pick p ≤0 =0))
+        → _≡_ {A = Option Kind} (elim p [ true ↦ some ≤0 | false ↦ elim q [ true ↦ some =0 | false ↦ none ] ]) (some (cond p ≤0 =0))
     go true q a b = refl
     go false true a b = refl
     go false false a b = absurd (omega (arith, tag-most tag h l, ltb-false tag 3 l, eqb-false tag 3 a, eqb-false tag 4 b))
@@ -122,7 +122,7 @@ no-kind tag l =
 module _ (file K : ℕ) where
   -- the constraint of a field before those after it
   after : (f : Field) (fs : Fields) (r : Counted)
-      → (countedOf file K fs r >>= (λ (cs : List Constraint). accepted (record { kind = pick (eqb (f .tag) 0x03) ≤0 =0; form = formFrom 2 K (f .contents) } ∷ cs)))
+      → (countedOf file K fs r >>= (λ (cs : List Constraint). accepted (record { kind = cond (eqb (f .tag) 0x03) ≤0 =0; form = formFrom 2 K (f .contents) } ∷ cs)))
       ≡ countedOf file K (f ▸ fs) r
   unfolding _>>=_ stated
   after f fs (Counted.Count n) = refl
@@ -134,7 +134,7 @@ module _ (file K : ℕ) where
       → (X >>= (λ (cs : List Constraint). accepted (record { kind = κ; form = form } ∷ cs))) ≡ countedOf file K fs c
       → (need (answer 3 file a) p >> (found (answer 4 file a) o >>= (λ (kind : Kind).
       need (answer 6 file a) r >> (need (answer 8 file a) u >> (X >>= (λ (cs : List Constraint). accepted (record { kind = kind; form = form } ∷ cs)))))))
-      ≡ countedOf file K fs (passed (pick p (pick q 4 (pick r (pick u 0 8) 6)) 3) a c)
+      ≡ countedOf file K fs (passed (cond p (cond q 4 (cond r (cond u 0 8) 6)) 3) a c)
   unfolding need _>>_ _>>=_ found
   tests a form fs κ o X c false q r u none-if some-if e = refl
   tests a form fs κ o X c true true r u none-if some-if e = rw (none-if refl)
@@ -147,7 +147,7 @@ module _ (file K : ℕ) where
   constraints-counted n (ends at) = refl
   constraints-counted n (cut at) = refl
   constraints-counted n (f ▸ fs) =
-      tests (f .at) (formFrom 2 K (f .contents)) (f ▸ fs) (pick (eqb (f .tag) 0x03) ≤0 =0) (kindTagged (f .tag))
+      tests (f .at) (formFrom 2 K (f .contents)) (f ▸ fs) (cond (eqb (f .tag) 0x03) ≤0 =0) (kindTagged (f .tag))
       (constraints file edition1 K (suc n) fs) (counted K (suc n) fs)
       (known FileKind.Bundle (f .tag)) (ltb (f .tag) 0x03) (eqb (length (f .contents)) (formWidth 2 K)) (ltb n 32)
       (no-kind (f .tag)) (kind-of (f .tag))

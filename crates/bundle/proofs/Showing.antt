@@ -15,20 +15,21 @@ use Rattle.fields.specs.Fields.{Field, ends, cut, fields, nth}
 use Rattle.fields.specs.Places.{fieldsAt, givenK}
 use Rattle.fields.proofs.Headers.{given-some}
 use Rattle.fields.proofs.Places.{Starts, starts-size}
-use Rattle.fields.proofs.Refusals.{Numbered, Gives, no, yes, bind, passing, numbered}
+use Rattle.fields.proofs.Results.{Gives, weaken, seq, not-0}
 use Rattle.bundle.specs.Bundle.{Bundle, atMost, bundle, bundles}
 use Rattle.bundle.specs.Show.{Part, partOf, constraintPart, shownPart, answerOf, showAnswer, handed, showPart}
-use Rattle.bundle.specs.Locate.{placeOf, Inside, Placed, bothBundles, pairOf, partAt, locatedOf, LiesIn, IsLocated}
+use Rattle.bundle.specs.Locate.{placeOf, Inside, IsPlace, bothBundles, pairOf, partAt, locatedOf, LiesIn, IsLocated}
 use Rattle.bundle.specs.Promises.{ofFile}
 use Rattle.bundle.specs.declared.Scanned.{Scanned}
 use Rattle.bundle.specs.declared.locate.Place.{Place}
 use Rattle.bundle.specs.declared.locate.Located.{Located}
 use Rattle.bundle.specs.declared.locate.Pair.{Pair}
-use Rattle.bundle.proofs.Reading.{shaped, Taken}
+use Rattle.bundle.proofs.Laid.{short-gives, bundles-give}
+use Rattle.bundle.proofs.Reading.{Taken}
 
 -- ---- the i-th field
 module _ {s : List ℕ} {here a t start len next : ℕ} (k : Starts s here a t start len next) where
-  pub nth-here : (i left : ℕ) → nth i (fields s) ≡ nth left (fieldsAt s here) → left ≡ 0 → Placed s i (Place.At a (3 + len))
+  pub nth-here : (i left : ℕ) → nth i (fields s) ≡ nth left (fieldsAt s here) → left ≡ 0 → IsPlace s i (Place.At a (3 + len))
   unfolding nth
   nth-here i left e z = record {
     is = rw (e, z, k .is, starts-size k);
@@ -41,11 +42,11 @@ module _ {s : List ℕ} {here a t start len next : ℕ} (k : Starts s here a t s
   nth-next i (suc left) e z = e ∙ rw (k .is, sub-one)
 
 module _ (s : List ℕ) (i left here : ℕ) {a : ℕ} (e : nth i (fields s) ≡ nth left (fieldsAt s here)) where
-  pub nth-cut : fieldsAt s here ≡ cut a → Placed s i Place.Nothing
+  pub nth-cut : fieldsAt s here ≡ cut a → IsPlace s i Place.Nothing
   unfolding nth
   nth-cut c = record { is = rw (e, c); inside = tt }
 
-  pub nth-ends : fieldsAt s here ≡ ends a → Placed s i Place.Nothing
+  pub nth-ends : fieldsAt s here ≡ ends a → IsPlace s i Place.Nothing
   unfolding nth
   nth-ends c = record { is = rw (e, c); inside = tt }
 
@@ -83,13 +84,9 @@ module _ (A B : List ℕ) where
         unfolding bundles _>>=_
         accepted-both u = rw (short, t .is, ← given-is, u .is, t .scan-is)
 
-  pub both-give : Gives Numbered (λ (p : Bundle × Bundle). Unit {0}) (bothBundles A B)
-  unfolding bothBundles atMost bundles
-  both-give =
-      passing _ _ _ (numbered 1 fileA 0 tt) λ a.
-      passing _ _ _ (numbered 1 fileB 0 tt) λ b.
-      bind (shaped fileA none (fields A)) λ x p.
-      bind (shaped fileB (some (x .K)) (fields B)) λ y q. yes tt
+  both-give : Gives (bothBundles A B) (λ (p : Bundle × Bundle). Unit {0})
+  unfolding bothBundles
+  both-give = seq (short-gives _ fileA A) λ _. seq (short-gives _ fileB B) λ _. weaken (bundles-give A B) λ _ _. tt
 
 -- ---- the part
 found-part : (file : ℕ) (o : Option Field) → found (answer 10 fileA 0) (partOf file o) ≡ locatedOf (partAt file (placeOf o))
@@ -131,30 +128,30 @@ module _ (A B : List ℕ) (i : ℕ) where
   module _ {r : Pair} (e : r ≡ pairOf (bothBundles A B)) where
     pub located-refused : (r .answer .number ≡ 0 → ⊥) → IsLocated A B i (Located.Refused (r .answer))
     unfolding _>>=_
-    located-refused z = record { is = after-both ∙ go (bothBundles A B) (both-give A B) e; inside = tt }
+    located-refused z = record { is = after-both ∙ go (bothBundles A B) e; inside = tt }
       where
-        go : (R : Result (Bundle × Bundle)) → Gives Numbered (λ (p : Bundle × Bundle). Unit {0}) R → r ≡ pairOf R
+        go : (R : Result (Bundle × Bundle)) → r ≡ pairOf R
             → (R >>= (λ (p : Bundle × Bundle). found (answer 10 fileA 0) (constraintPart A B (length (p .0 .constraints)) i))) ≡ refused (r .answer)
-        go (refused a) (no p) e = rw e
-        go (accepted b) (yes q) e = absurd (z (rw e))
+        go (refused a) e = rw e
+        go (accepted b) e = absurd (z (rw e))
 
     module _ (z : r .answer .number ≡ 0) where
       located : shownPart A B i ≡ found (answer 10 fileA 0) (constraintPart A B (r .count) i)
       unfolding _>>=_
       located = after-both ∙ go (bothBundles A B) (both-give A B) e
         where
-          go : (R : Result (Bundle × Bundle)) → Gives Numbered (λ (p : Bundle × Bundle). Unit {0}) R → r ≡ pairOf R
+          go : (R : Result (Bundle × Bundle)) → Gives R (λ (p : Bundle × Bundle). Unit {0}) → r ≡ pairOf R
               → (R >>= (λ (p : Bundle × Bundle). found (answer 10 fileA 0) (constraintPart A B (length (p .0 .constraints)) i))) ≡ found (answer 10 fileA 0) (constraintPart A B (r .count) i)
-          go (refused a) (no p) e = absurd (p .not-0 (rw e at z))
-          go (accepted b) (yes q) e = rw e
+          go (refused a) g e = absurd (not-0 (g .refusal a refl) (rw e at z))
+          go (accepted b) g e = rw e
 
-      pub located-A : {q : Place} {p : Located} → i < r .count → Placed A (i + 2) q → p ≡ partAt 1 q → IsLocated A B i p
+      pub located-A : {q : Place} {p : Located} → i < r .count → IsPlace A (i + 2) q → p ≡ partAt 1 q → IsLocated A B i p
       located-A {q} h k e = record {
         is = located ∙ ap (found (answer 10 fileA 0)) (of-A (r .count) (lt-ltb i (r .count) h)) ∙ found-part fileA (nth (i + 2) (fields A)) ∙ rw (e, k .is);
         inside = rw e (lies 1 q (k .inside));
       }
 
-      pub located-B : {q : Place} {p : Located} → r .count ≤ i → Placed B (i - r .count + 2) q → p ≡ partAt 2 q → IsLocated A B i p
+      pub located-B : {q : Place} {p : Located} → r .count ≤ i → IsPlace B (i - r .count + 2) q → p ≡ partAt 2 q → IsLocated A B i p
       located-B {q} h k e = record {
         is = located ∙ ap (found (answer 10 fileA 0)) (of-B (r .count) (le-ltb i (r .count) h)) ∙ found-part fileB (nth (i - r .count + 2) (fields B)) ∙ rw (e, k .is);
         inside = rw e (lies 2 q (k .inside));

@@ -1,43 +1,36 @@
 -- Storing constraints: one turn of each loop, as laws over plain values. Assumes nothing.
 use mathlib.Core.Path.{_≡_, refl, sym, ap, _∙_}
-use mathlib.Core.Bool.{Bool, true, false}
+use mathlib.Core.Bool.{Bool, true, false, cond}
 use mathlib.Core.List.{List, [], _∷_, _++_}
 use Prim.Native.Nat.{ℕ, zero, suc, _+_, _*_, _-_, _≤_, _<_}
 use native.Mathlib.Nat.{suc-mul, zero-mul, mul-le-mul-right}
 use native.Mathlib.Omega.{arith}
 use lib.Dec.{leb, ltb, eqb}
 use lib.IntN.{ℤ}
-use lib.ListN.{length, getD, take, drop, set, length-append, length-drop, length-set}
+use lib.ListN.{length, getD, take, drop, set, length-drop, length-set}
 use lib.Seq.{sets, length-sets, take-add, take-take, drop-drop, drop-at, length-take-le}
 use borrow.Author.Tests.{leb-true, leb-false, ltb-true, ltb-false, eqb-true, eqb-false}
 use Rattle.forms.specs.Forms.{≤0, =0, Constraint}
 use Rattle.fields.specs.declared.FileKind.{FileKind}
-use Rattle.fields.specs.Fields.{Fields, ends, cut, _▸_}
+use Rattle.fields.specs.Fields.{Fields, ends, cut}
 use Rattle.fields.specs.Header.{known}
 use Rattle.fields.specs.Numbers.{signed, signeds, flat, formFrom}
-use Rattle.fields.specs.Places.{fieldsAt}
+use Rattle.fields.specs.declared.Found.{Found}
+use Rattle.fields.specs.Places.{foundAt, fieldsAt}
 use Rattle.fields.proofs.Places.{lenAt, found-end, found-short, found-cut, found-whole, Took, took, cut-at, ends-at, took-note, took-field, Starts}
+use Rattle.fields.proofs.Signed.{length-signeds, signeds-last}
 use Rattle.fields.proofs.Stores.{sets-append}
-use Rattle.bundle.specs.Scan.{pick, faultOf, counted, stated}
+use Rattle.bundle.specs.Scan.{faultOf, counted, stated}
 use Rattle.bundle.specs.Read.{kindNumber, kindsOf, numbersOf}
 use Rattle.bundle.specs.Store.{Storable}
 use Rattle.bundle.specs.declared.constraints.Counted.{Counted}
 use Rattle.bundle.proofs.Scanning.{Proper, counted-on, count-is, proper-of, tag-most, passed-both}
 
 -- ---- numbers of some bytes each, over the width
-pub length-signeds : (w n : ℕ) (bs : List ℕ) → length (signeds w n bs) ≡ n
-unfolding signeds
-length-signeds w zero bs = refl
-length-signeds w (suc n) bs = ap suc (length-signeds w n (drop w bs))
-
 -- the coefficients and then d are K+1 numbers in a row
 pub flat-signeds : (w K : ℕ) (bs : List ℕ) → flat (formFrom w K bs) ≡ signeds w (suc K) bs
-unfolding flat formFrom signeds
-flat-signeds w zero bs = rw (zero-mul w)
-flat-signeds w (suc K) bs =
-    let e : drop (suc K * w) bs ≡ drop (K * w) (drop w bs)
-    = (let z : suc K * w ≡ w + K * w = omega (arith, suc-mul K w) in rw z (sym (drop-drop (K * w) w bs))) in
-    ap (λ (zs : List ℤ). signed (take w bs) ∷ zs) (rw e (flat-signeds w K (drop w bs)))
+unfolding flat formFrom
+flat-signeds w K bs = sym (signeds-last w K bs)
 
 -- what stands behind them does not matter
 pub signeds-take : (w n : ℕ) (bs : List ℕ) → n * w ≤ length bs → signeds w n (take (n * w) bs) ≡ signeds w n bs
@@ -65,22 +58,13 @@ stored-next l at i n s start h =
 
 -- ---- constraints
 -- the kind's number, as the code computes it
-pub kind-number : (tag : ℕ) → known FileKind.Bundle tag ≡ true → ltb tag 0x03 ≡ false → tag - 3 ≡ kindNumber (pick (eqb tag 0x03) ≤0 =0)
+pub kind-number : (tag : ℕ) → known FileKind.Bundle tag ≡ true → ltb tag 0x03 ≡ false → tag - 3 ≡ kindNumber (cond (eqb tag 0x03) ≤0 =0)
 unfolding kindNumber
 kind-number tag h l = go (eqb tag 3) refl
   where
-    go : (p : Bool) → eqb tag 3 ≡ p → tag - 3 ≡ kindNumber (pick p ≤0 =0)
+    go : (p : Bool) → eqb tag 3 ≡ p → tag - 3 ≡ kindNumber (cond p ≤0 =0)
     go true a = omega (arith, eqb-true tag 3 a)
     go false a = omega (arith, tag-most tag h l, ltb-false tag 3 l, eqb-false tag 3 a)
-
-pub numbers-size : (K : ℕ) (fs : Fields) → length (numbersOf (stated K fs)) ≡ length (stated K fs) * suc K
-unfolding numbersOf stated
-numbers-size K (ends at) = sym (zero-mul (suc K))
-numbers-size K (cut at) = sym (zero-mul (suc K))
-numbers-size K (f ▸ fs) =
-    length-append (flat (formFrom 2 K (f .contents))) (numbersOf (stated K fs))
-    ∙ rw (flat-signeds 2 K (f .contents), length-signeds 2 (suc K) (f .contents))
-    (omega (arith, suc-mul (length (stated K fs)) (suc K), numbers-size K fs))
 
 -- the invariant: what is left to store gives what the whole gives
 pub record Storing (s : List ℕ) (at K count : ℕ) (kinds₀ : List ℕ) (numbers₀ : List ℤ) (kinds : List ℕ) (numbers : List ℤ) (here n : ℕ) : Type 0 where
@@ -171,20 +155,34 @@ module _ {s : List ℕ} {at K count : ℕ} {kinds₀ : List ℕ} {numbers₀ : L
       let z : n ≡ count = cc in omega arith
 
   -- where a constraint is left to store, a whole field stands
-  pub storing-whole : n < count → Took s here (getD s here 0) (here + 3) (lenAt s here) (here + 3 + lenAt s here)
-  storing-whole h = by-end (leb (length s) here) refl
+  storing-found : n < count → foundAt s here ≡ Found.Whole (getD s here 0) (here + 3) (lenAt s here) (here + 3 + lenAt s here)
+  storing-found h = by-end (leb (length s) here) refl
     where
-      by-size : (p : Bool) → leb (lenAt s here) (length s - here - 3) ≡ p → here < length s → 3 ≤ length s - here → Took s here (getD s here 0) (here + 3) (lenAt s here) (here + 3 + lenAt s here)
-      by-size true e a b = took (sym (found-whole s here a b (leb-true _ _ e))) refl
+      by-size : (p : Bool) → leb (lenAt s here) (length s - here - 3) ≡ p → here < length s → 3 ≤ length s - here → foundAt s here ≡ Found.Whole (getD s here 0) (here + 3) (lenAt s here) (here + 3 + lenAt s here)
+      by-size true e a b = found-whole s here a b (leb-true _ _ e)
       by-size false e a b = absurd (no-cut (cut-at s here (sym (found-cut s here a b (leb-false _ _ e))) refl))
 
-      by-head : (p : Bool) → leb 3 (length s - here) ≡ p → here < length s → Took s here (getD s here 0) (here + 3) (lenAt s here) (here + 3 + lenAt s here)
+      by-head : (p : Bool) → leb 3 (length s - here) ≡ p → here < length s → foundAt s here ≡ Found.Whole (getD s here 0) (here + 3) (lenAt s here) (here + 3 + lenAt s here)
       by-head true e a = by-size (leb (lenAt s here) (length s - here - 3)) refl a (leb-true _ _ e)
       by-head false e a = absurd (no-cut (cut-at s here (sym (found-short s here a (leb-false _ _ e))) refl))
 
-      by-end : (p : Bool) → leb (length s) here ≡ p → Took s here (getD s here 0) (here + 3) (lenAt s here) (here + 3 + lenAt s here)
+      by-end : (p : Bool) → leb (length s) here ≡ p → foundAt s here ≡ Found.Whole (getD s here 0) (here + 3) (lenAt s here) (here + 3 + lenAt s here)
       by-end true e = absurd (no-end h (ends-at s here (sym (found-end s here (leb-true _ _ e))) refl))
       by-end false e = by-head (leb 3 (length s - here)) refl (leb-false _ _ e)
+
+  pub storing-whole : n < count → Took s here (getD s here 0) (here + 3) (lenAt s here) (here + 3 + lenAt s here)
+  storing-whole h = took (sym (storing-found h)) refl
+
+  -- so `field_at` finds one
+  module _ (h : n < count) {r : Found} (f : r ≡ foundAt s here) where
+    pub not-broken : r ≡ Found.Broken → ⊥
+    not-broken e = no-cut (cut-at s here f e)
+
+    pub not-end : r ≡ Found.End → ⊥
+    not-end e = no-end h (ends-at s here f e)
+
+    pub next-is : {tag start len next : ℕ} → r ≡ Found.Whole tag start len next → next ≡ here + 3 + lenAt s here
+    next-is e = let q = sym e ∙ f ∙ storing-found h in cc
 
   pub storing-starts : n < count → getD s here 0 < 0x80 → Starts s here here (getD s here 0) (here + 3) (lenAt s here) (here + 3 + lenAt s here)
   storing-starts h l =

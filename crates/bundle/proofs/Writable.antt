@@ -26,28 +26,21 @@ use Rattle.bundle.specs.Bundle.{kindTagged}
 use Rattle.bundle.specs.Layout.{Each, States}
 use Rattle.bundle.specs.Read.{kindNumber, kindsOf, numbersOf}
 use Rattle.bundle.specs.Write.{constraintsBytes, bundleBytes}
+use Rattle.bundle.specs.Put.{InOrder}
 
 -- ---- when writing is accepted
--- K is 1 to 16, there are at most 32 kinds, each is 0 or 1, and K+1 numbers for each.
-pub record Writable (K : ℕ) (kinds : List ℕ) (numbers : List ℤ) : Type 0 where
-  pub low : 1 ≤ K
-  pub high : K ≤ edition1 .constants
-  pub few : length kinds ≤ edition1 .constraints
-  pub binary : All (λ kind. T (leb kind 1)) kinds
-  pub size : length numbers ≡ length kinds * suc K
-
 module _ (K : ℕ) (kinds : List ℕ) (numbers : List ℤ) where
   -- The bytes of a bundle.
   abbrev pub bytesOf : List ℕ
   bytesOf = headerBytes K ++ constraintsBytes edition1 K kinds numbers
 
-  pub bundleBytes-gives : Gives (bundleBytes edition1 K kinds numbers) (λ bytes. Writable K kinds numbers × (bytes ≡ bytesOf))
+  pub bundleBytes-gives : Gives (bundleBytes edition1 K kinds numbers) (λ bytes. InOrder K kinds numbers × (bytes ≡ bytesOf))
   unfolding bundleBytes
   bundleBytes-gives = test _ _ tt λ b. test _ _ tt λ f. seq (each-gives _ _ (λ i. tt) 0 kinds) λ a. test _ _ tt λ s.
       let (l, m) = and-yes (leb 1 K) (leb K (edition1 .constants)) b in
       accepts (record { low = leb→le 1 K l; high = leb→le K (edition1 .constants) m; few = leb→le _ _ f; binary = a; size = eqb→eq _ _ s }, refl)
 
-  pub bundleBytes-accepted : Writable K kinds numbers → bundleBytes edition1 K kinds numbers ≡ accepted bytesOf
+  pub bundleBytes-accepted : InOrder K kinds numbers → bundleBytes edition1 K kinds numbers ≡ accepted bytesOf
   unfolding bundleBytes
   bundleBytes-accepted h = needs _ _ _ (yes-and (leb 1 K) (leb K (edition1 .constants)) (le→leb 1 K (h .low)) (le→leb K (edition1 .constants) (h .high)))
       ∙ needs _ _ _ (le→leb _ _ (h .few)) ∙ passes _ (each-accepted _ _ 0 (h .binary)) ∙ needs _ _ _ (rw (h .size) (eqb-refl (length kinds * suc K)))
@@ -68,7 +61,7 @@ pub record Given (w K : ℕ) (kinds : List ℕ) (numbers : List ℤ) : Type 0 wh
   pub numbers-are : numbersOf constraints ≡ numbers
   pub widths : FormsInWidth w K constraints
 
-all-getD : {X : Type 0} {P : X → Type 0} {xs : List X} (i : ℕ) (x : X) → All P xs → i < length xs → P (getD xs i x)
+pub all-getD : {X : Type 0} {P : X → Type 0} {xs : List X} (i : ℕ) (x : X) → All P xs → i < length xs → P (getD xs i x)
 all-getD i x nil h = absurd (omega arith)
 all-getD zero x (cons p ps) h = p
 all-getD (suc i) x (cons p ps) h = all-getD i x ps (omega arith)

@@ -1,49 +1,37 @@
 -- Writing a bundle: what an accepted one is like, and each way through `write` as a law over plain values. Assumes nothing.
 use mathlib.Core.Path.{_≡_, refl, sym, ap, _∙_}
-use mathlib.Core.Bool.{Bool, true, false, _&&_}
+use mathlib.Core.Bool.{Bool, true, false, _&&_, cond}
 use mathlib.Core.List.{List, [], _∷_, _++_}
-use Prim.Native.Nat.{ℕ, zero, suc, _+_, _*_, _≤_, _<_}
+use Prim.Native.Nat.{ℕ, suc, _+_, _*_, _≤_, _<_}
 use native.Mathlib.Omega.{arith}
 use lib.Dec.{leb}
 use lib.IntN.{ℤ}
-use lib.ListN.{length, getD}
+use lib.ListN.{length}
 use lib.Seq.{sets}
-use borrow.Author.Tests.{le-leb, lt-leb, eq-eqb, ne-eqb, leb-true, eqb-true}
+use borrow.Author.Tests.{le-leb, lt-leb, eq-eqb, ne-eqb}
 use Rattle.forms.specs.Edition.{edition1}
 use Rattle.fields.specs.declared.Answer.{Answer}
 use Rattle.fields.specs.Answers.{answer, acceptance, fileLent, Result, refused, accepted, _>>_, need, each, over, fit, written}
 use Rattle.fields.specs.Header.{headerBytes}
 use Rattle.fields.specs.Fields.{fieldBytes}
 use Rattle.fields.specs.Numbers.{unsignedBytes}
-use Rattle.fields.proofs.Refusals.{Numbered, Gives, no, yes, passing, numbered, both}
+use Rattle.fields.proofs.Results.{Gives, not-0}
 use Rattle.fields.proofs.Stores.{sets-append, sets-over}
-use Rattle.bundle.specs.Scan.{pick}
 use Rattle.bundle.specs.Show.{answerOf}
 use Rattle.bundle.specs.Write.{constraintsBytes, bundleBytes, writeBundle}
-use Rattle.bundle.specs.Put.{firstBad, fieldSize, Writable}
+use Rattle.bundle.specs.Put.{firstBad, fieldSize, InOrder}
 use Rattle.bundle.specs.Promises.{Writes}
 use Rattle.bundle.proofs.Putting.{bundle-size}
+use Rattle.bundle.proofs.Writable.{bytesOf, bundleBytes-gives}
 
 -- ---- the kinds, tested one by one
--- what holds of a value implies another
-following : {P : Answer → Type 0} {Q R : Type 0} {r : Result (Unit {0})} → Gives P (λ (u : Unit {0}). Q) r → (Q → R) → Gives P (λ (u : Unit {0}). R) r
-following (no p) k = no p
-following (yes q) k = yes (k q)
-
--- a test that tells more than that it is passed
-then : {Y : Type 0} {P : Answer → Type 0} {Q : Type 0} {R : Y → Type 0} {r : Result (Unit {0})} (s : Result Y)
-    → Gives P (λ (u : Unit {0}). Q) r → (Q → Gives P R s) → Gives P R (r >> s)
-unfolding _>>_
-then s (no p) k = no p
-then s (yes q) k = k q
-
 module _ (at : ℕ → Answer) where
   each-good : (i : ℕ) (kinds : List ℕ) → i + length kinds ≤ firstBad i kinds → each at (λ kind. leb kind 1) i kinds ≡ accepted tt
   unfolding each need _>>_
   each-good i [] h = refl
   each-good i (x ∷ xs) h = go (leb x 1) h (each-good (suc i) xs)
     where
-      go : (b : Bool) → i + suc (length xs) ≤ pick b (firstBad (suc i) xs) i
+      go : (b : Bool) → i + suc (length xs) ≤ cond b (firstBad (suc i) xs) i
           → (suc i + length xs ≤ firstBad (suc i) xs → each at (λ kind. leb kind 1) (suc i) xs ≡ accepted tt)
           → (need (at i) b >> each at (λ kind. leb kind 1) (suc i) xs) ≡ accepted tt
       go true h k = k (omega arith)
@@ -54,22 +42,11 @@ module _ (at : ℕ → Answer) where
   each-bad i [] h = absurd (omega arith)
   each-bad i (x ∷ xs) h = go (leb x 1) h (each-bad (suc i) xs)
     where
-      go : (b : Bool) → pick b (firstBad (suc i) xs) i < i + suc (length xs)
+      go : (b : Bool) → cond b (firstBad (suc i) xs) i < i + suc (length xs)
           → (firstBad (suc i) xs < suc i + length xs → each at (λ kind. leb kind 1) (suc i) xs ≡ refused (at (firstBad (suc i) xs)))
-          → (need (at i) b >> each at (λ kind. leb kind 1) (suc i) xs) ≡ refused (at (pick b (firstBad (suc i) xs) i))
+          → (need (at i) b >> each at (λ kind. leb kind 1) (suc i) xs) ≡ refused (at (cond b (firstBad (suc i) xs) i))
       go true h k = k (omega arith)
       go false h k = refl
-
-  -- all are 0 or 1, or the refusal is one at an index
-  each-gives : (P : Answer → Type 0) → ((i : ℕ) → P (at i)) → (i : ℕ) (kinds : List ℕ)
-      → Gives P (λ (u : Unit {0}). (j : ℕ) → j < length kinds → getD kinds j 0 ≤ 1) (each at (λ kind. leb kind 1) i kinds)
-  unfolding each
-  each-gives P p i [] = yes (λ j h. absurd (omega arith))
-  each-gives P p i (x ∷ xs) = passing _ _ _ (p i) (λ e. following (each-gives P p (suc i) xs) (λ q. more e q))
-    where
-      more : leb x 1 ≡ true → ((j : ℕ) → j < length xs → getD xs j 0 ≤ 1) → (j : ℕ) → j < suc (length xs) → getD (x ∷ xs) j 0 ≤ 1
-      more e q zero h = leb-true x 1 e
-      more e q (suc j) h = q j (omega arith)
 
 -- ---- what `write_fault` answers
 module _ (K : ℕ) (kinds : List ℕ) (numbers : List ℤ) where
@@ -100,58 +77,34 @@ module _ (K : ℕ) (kinds : List ℕ) (numbers : List ℤ) where
             let e : K + 1 ≡ suc K = omega arith in
             rw (h, le-leb (length kinds) 32 l, each-good (λ i. answer 24 fileLent i) 0 kinds (omega arith), eq-eqb (length numbers) (length kinds * suc K) (rw e at n))
 
--- ---- a bundle that can be written
-pub record Ready (K : ℕ) (kinds : List ℕ) (numbers : List ℤ) (bytes : List ℕ) : Type 0 where
-  pub is : bytes ≡ headerBytes K ++ constraintsBytes edition1 K kinds numbers
-  pub kinds-are : (i : ℕ) → i < length kinds → getD kinds i 0 ≤ 1
-  pub few : length kinds ≤ 32
-  pub high : K ≤ 16
-  pub size : length numbers ≡ length kinds * (K + 1)
-
-pub bytes-give : (K : ℕ) (kinds : List ℕ) (numbers : List ℤ) → Gives Numbered (Ready K kinds numbers) (bundleBytes edition1 K kinds numbers)
-unfolding bundleBytes
-bytes-give K kinds numbers =
-    passing _ _ _ (numbered 7 fileLent 0 tt) λ range.
-    passing _ _ _ (numbered 8 fileLent 0 tt) λ few.
-    then _ (each-gives (λ i. answer 24 fileLent i) Numbered (λ i. numbered 24 fileLent i tt) 0 kinds) λ are.
-    passing _ _ _ (numbered 24 fileLent (length kinds) tt) λ size.
-    let e : suc K ≡ K + 1 = omega arith in
-    yes (record {
-      is = refl;
-      kinds-are = are;
-      few = leb-true (length kinds) 32 few;
-      high = leb-true K 16 (both (leb 1 K) (leb K 16) range .1);
-      size = rw e at (eqb-true (length numbers) (length kinds * suc K) size);
-    })
-
 -- ---- each way through `write`
 -- what stands behind the header
 after-header : (K : ℕ) (bytes out : List ℕ) → sets (sets out 0 (headerBytes K)) 8 bytes ≡ sets out 0 (headerBytes K ++ bytes)
 unfolding headerBytes fieldBytes unsignedBytes
 after-header K bytes out = sym (sets-append (headerBytes K) bytes out 0)
 
+-- what an accepted answer tells
 pub record Granted (K : ℕ) (kinds : List ℕ) (numbers : List ℤ) (B : Result (List ℕ)) (a : Answer) : Type 0 where
-  pub bytes : List ℕ
-  pub grants : B ≡ accepted bytes
-  pub ready : Ready K kinds numbers bytes
+  pub grants : B ≡ accepted (bytesOf K kinds numbers)
+  pub order : InOrder K kinds numbers
   pub answer-is : a ≡ acceptance
 
-module _ {K : ℕ} {kinds : List ℕ} {numbers : List ℤ} {B : Result (List ℕ)} {a : Answer} (g : Gives Numbered (Ready K kinds numbers) B) (e : a ≡ answerOf B) where
-  pub granted : a .number ≡ 0 → Granted K kinds numbers B a
+module _ (K : ℕ) (kinds : List ℕ) (numbers : List ℤ) {a : Answer} (e : a ≡ answerOf (bundleBytes edition1 K kinds numbers)) where
+  pub granted : a .number ≡ 0 → Granted K kinds numbers (bundleBytes edition1 K kinds numbers) a
   unfolding answerOf
-  granted z = go B g e
+  granted z = go _ (bundleBytes-gives K kinds numbers) e
     where
-      go : (B : Result (List ℕ)) → Gives Numbered (Ready K kinds numbers) B → a ≡ answerOf B → Granted K kinds numbers B a
-      go (refused r) (no p) e = absurd (p .not-0 (rw e at z))
-      go (accepted bytes) (yes q) e = record { bytes = bytes; grants = refl; ready = q; answer-is = e }
+      go : (B : Result (List ℕ)) → Gives B (λ bytes. InOrder K kinds numbers × (bytes ≡ bytesOf K kinds numbers)) → a ≡ answerOf B → Granted K kinds numbers B a
+      go (refused r) g e = absurd (not-0 (g .refusal r refl) (rw e at z))
+      go (accepted bytes) g e = record { grants = ap accepted (g .gives bytes refl .1); order = g .gives bytes refl .0; answer-is = e }
 
-  pub not-granted : (a .number ≡ 0 → ⊥) → B ≡ refused a
+  pub not-granted : (a .number ≡ 0 → ⊥) → bundleBytes edition1 K kinds numbers ≡ refused a
   unfolding answerOf
-  not-granted z = go B g e
+  not-granted z = go _ e
     where
-      go : (B : Result (List ℕ)) → Gives Numbered (Ready K kinds numbers) B → a ≡ answerOf B → B ≡ refused a
-      go (refused r) (no p) e = rw e
-      go (accepted bytes) (yes q) e = absurd (z (rw e))
+      go : (B : Result (List ℕ)) → a ≡ answerOf B → B ≡ refused a
+      go (refused r) e = rw e
+      go (accepted bytes) e = absurd (z (rw e))
 
 module _ (K : ℕ) (kinds : List ℕ) (numbers : List ℤ) (out : List ℕ) where
   pub write-refused : {a : Answer} → bundleBytes edition1 K kinds numbers ≡ refused a
@@ -160,8 +113,10 @@ module _ (K : ℕ) (kinds : List ℕ) (numbers : List ℤ) (out : List ℕ) wher
   write-refused e = record { is = rw e }
 
   module _ {a : Answer} (t : Granted K kinds numbers (bundleBytes edition1 K kinds numbers) a) where
-    size-is : length (t .bytes) ≡ 8 + length kinds * fieldSize K
-    size-is = ap length (t .ready .is) ∙ bundle-size K kinds numbers (t .ready .size)
+    size-is : length (bytesOf K kinds numbers) ≡ 8 + length kinds * fieldSize K
+    size-is =
+        let e : suc K ≡ K + 1 = omega arith in
+        bundle-size K kinds numbers (rw e at (t .order .size))
 
     pub write-short : length out < 8 + length kinds * fieldSize K
         → Writes K kinds numbers out out (record { answer = answer 21 4 (8 + length kinds * fieldSize K); count = 0 })
@@ -169,16 +124,12 @@ module _ (K : ℕ) (kinds : List ℕ) (numbers : List ℤ) (out : List ℕ) wher
     write-short h = record { is = rw (t .grants, size-is, lt-leb (8 + length kinds * fieldSize K) (length out) h, size-is) }
 
     module _ (h : 8 + length kinds * fieldSize K ≤ length out) where
-      pub writable : {out′ : List ℕ} → length out′ ≡ length out → Writable K kinds numbers out′ 8
-      writable e = record { kinds-are = t .ready .kinds-are; few = t .ready .few; high = t .ready .high; size = t .ready .size; fits = omega arith }
-
       pub write-all : {out₁ out₂ : List ℕ} → out₁ ≡ sets out 0 (headerBytes K) → out₂ ≡ sets out₁ 8 (constraintsBytes edition1 K kinds numbers)
           → Writes K kinds numbers out out₂ (record { answer = a; count = 8 + length kinds * fieldSize K })
       unfolding writeBundle written fit
       write-all {out₂} e₁ e₂ =
-          let o : out₂ ≡ over (t .bytes) out
+          let o : out₂ ≡ over (bytesOf K kinds numbers) out
           = e₂ ∙ ap (λ (l : List ℕ). sets l 8 (constraintsBytes edition1 K kinds numbers)) e₁
           ∙ after-header K (constraintsBytes edition1 K kinds numbers) out
-          ∙ ap (λ (l : List ℕ). sets out 0 l) (sym (t .ready .is))
-          ∙ sets-over (t .bytes) out (omega (arith, size-is)) in
+          ∙ sets-over (bytesOf K kinds numbers) out (omega (arith, size-is)) in
           record { is = rw (t .grants, o, size-is, le-leb (8 + length kinds * fieldSize K) (length out) h, t .answer-is, size-is) }

@@ -24,7 +24,7 @@ Inside s Place.Nothing = Unit {0}
 Inside s (Place.At start size) = start + size ≤ length s
 
 -- The i-th field of a file, and it lies in the file.
-pub record Placed (s : List ℕ) (i : ℕ) (r : Place) : Type 0 where
+pub record IsPlace (s : List ℕ) (i : ℕ) (r : Place) : Type 0 where
   pub is : r ≡ placeOf (nth i (fields s))
   pub inside : Inside s r
 

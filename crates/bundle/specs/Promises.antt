@@ -8,12 +8,12 @@ use lib.IntN.{ℤ}
 use lib.ListN.{take, drop}
 use denote.Ref.{RefT}
 use Rattle.fields.specs.declared.Answer.{Answer}
-use Rattle.fields.specs.Answers.{fileA, Written}
+use Rattle.fields.specs.declared.WriteResult.{WriteResult}
+use Rattle.fields.specs.Answers.{fileA, writtenOf}
 use Rattle.bundle.specs.Read.{BundleRead, readBundle}
 use Rattle.bundle.specs.Write.{writeBundle}
 use Rattle.bundle.specs.Show.{Part, showPart, showAnswer}
 use Rattle.bundle.specs.declared.ReadResult.{ReadResult}
-use Rattle.bundle.specs.declared.WriteResult.{WriteResult}
 
 -- ---- reading: it returns r, and the outputs lent as kinds and numbers are kinds′ and numbers′ afterwards
 abbrev pub readOf : ReadResult → List ℕ → List ℤ → BundleRead
@@ -23,9 +23,6 @@ pub record Reads (file kinds : List ℕ) (numbers : List ℤ) (kinds′ : List �
   pub is : readOf r kinds′ numbers′ ≡ readBundle kinds numbers file
 
 -- ---- writing: it returns r, and the lent output is `left` afterwards
-abbrev pub writtenOf : WriteResult → List ℕ → Written
-writtenOf r left = record { answer = r .answer; count = r .count; output = left }
-
 pub record Writes (K : ℕ) (kinds : List ℕ) (numbers : List ℤ) (output left : List ℕ) (r : WriteResult) : Type 0 where
   pub is : writtenOf r left ≡ writeBundle K kinds numbers output
 

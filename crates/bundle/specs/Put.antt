@@ -1,25 +1,27 @@
 -- What is written of a bundle, as the code writes it. Assumes nothing.
-use mathlib.Core.List.{List, [], _∷_}
-use Prim.Native.Nat.{ℕ, suc, _+_, _*_, _≤_, _<_}
 use mathlib.Core.Path.{_≡_}
-use lib.Dec.{leb}
+use mathlib.Core.Bool.{cond}
+use mathlib.Core.List.{List, [], _∷_}
+use Prim.Native.Nat.{ℕ, suc, _+_, _*_, _≤_}
+use lib.Dec.{T, leb}
 use lib.IntN.{ℤ}
-use lib.ListN.{length, getD}
-use Rattle.bundle.specs.Scan.{pick}
+use lib.ListN.{length}
+use Rattle.forms.specs.Edition.{edition1}
+use Rattle.forms.specs.Forms.{All}
 
 -- The index of the first kind that is not 0 or 1, or that of the end; i is the first one's index.
 abbrev pub firstBad : (i : ℕ) → List ℕ → ℕ
 firstBad i [] = i
-firstBad i (kind ∷ kinds) = pick (leb kind 1) (firstBad (suc i) kinds) i
+firstBad i (kind ∷ kinds) = cond (leb kind 1) (firstBad (suc i) kinds) i
 
 -- The bytes of a constraint's field.
 abbrev pub fieldSize : (K : ℕ) → ℕ
-fieldSize K = 3 + (K + 1) * 2
+fieldSize K = 3 + (K + 1) * edition1 .coefficientWidth
 
--- The constraints can be written into `out` from `at` on.
-pub record Writable (K : ℕ) (kinds : List ℕ) (numbers : List ℤ) (out : List ℕ) (at : ℕ) : Type 0 where
-  pub kinds-are : (i : ℕ) → i < length kinds → getD kinds i 0 ≤ 1
-  pub few : length kinds ≤ 32
-  pub high : K ≤ 16
-  pub size : length numbers ≡ length kinds * (K + 1)
-  pub fits : at + length kinds * fieldSize K ≤ length out
+-- The parts of a bundle are in order: K is 1 to 16, there are at most 32 kinds, each is 0 or 1, and K+1 numbers for each.
+pub record InOrder (K : ℕ) (kinds : List ℕ) (numbers : List ℤ) : Type 0 where
+  pub low : 1 ≤ K
+  pub high : K ≤ edition1 .constants
+  pub few : length kinds ≤ edition1 .constraints
+  pub binary : All (λ kind. T (leb kind 1)) kinds
+  pub size : length numbers ≡ length kinds * suc K

@@ -1,9 +1,10 @@
 -- A bundle as the code goes over it: the first fault or the count, and what the fields state where nothing is amiss. Assumes nothing.
-use mathlib.Core.Bool.{Bool, true, false}
+use mathlib.Core.Bool.{cond}
 use mathlib.Core.List.{List, [], _∷_}
 use Prim.Native.Nat.{ℕ, zero, suc}
 use lib.Dec.{ltb, eqb}
 use lib.ListN.{length}
+use Rattle.forms.specs.Edition.{edition1}
 use Rattle.forms.specs.Forms.{≤0, =0, Constraint}
 use Rattle.fields.specs.declared.FileKind.{FileKind}
 use Rattle.fields.specs.Answers.{answer, acceptance, Result, refused, accepted}
@@ -14,14 +15,10 @@ use Rattle.bundle.specs.Bundle.{Bundle}
 use Rattle.bundle.specs.declared.constraints.Counted.{Counted}
 use Rattle.bundle.specs.declared.Scanned.{Scanned}
 
-abbrev pub pick : {X : Type 0} → Bool → X → X → X
-pick true x y = x
-pick false x y = y
-
 -- What a field after the header is refused for, as constraint n of a bundle with K constants; 0 for nothing.
 abbrev pub faultOf : (K n tag len : ℕ) → ℕ
 faultOf K n tag len =
-    pick (known FileKind.Bundle tag) (pick (ltb tag 0x03) 4 (pick (eqb len (formWidth 2 K)) (pick (ltb n 32) 0 8) 6)) 3
+    cond (known FileKind.Bundle tag) (cond (ltb tag 0x03) 4 (cond (eqb len (formWidth (edition1 .coefficientWidth) K)) (cond (ltb n (edition1 .constraints)) 0 8) 6)) 3
 
 abbrev pub passed : (fault at : ℕ) → Counted → Counted
 passed zero at next = next
@@ -37,7 +34,7 @@ counted K n (f ▸ fs) = passed (faultOf K n (f .tag) (length (f .contents))) (f
 unfoldable pub stated : (K : ℕ) → Fields → List Constraint
 stated K (ends at) = []
 stated K (cut at) = []
-stated K (f ▸ fs) = record { kind = pick (eqb (f .tag) 0x03) ≤0 =0; form = formFrom 2 K (f .contents) } ∷ stated K fs
+stated K (f ▸ fs) = record { kind = cond (eqb (f .tag) 0x03) ≤0 =0; form = formFrom (edition1 .coefficientWidth) K (f .contents) } ∷ stated K fs
 
 -- The count and the fault, as what `constraints` gives; `file` is the number that an answer names the file by.
 abbrev pub countedOf : (file K : ℕ) → Fields → Counted → Result (List Constraint)

@@ -3,6 +3,7 @@ use fields::FileKind;
 use fields::Next;
 use fields::header::known;
 use fields::next_field;
+use forms::COEFFICIENT_BYTES;
 use forms::CONSTRAINTS;
 ghost use mathlib.Core.Path.{_≡_};
 ghost use Rattle.fields.specs.Places.{fieldsAt};
@@ -22,7 +23,7 @@ fn constraint_fault(k: u8, n: usize, tag: u8, len: usize) -> u8
         if tag < 0x03 {
             return 4;
         }
-        if len != (k as usize + 1) * 2 {
+        if len != (k as usize + 1) * COEFFICIENT_BYTES {
             return 6;
         }
         if n < CONSTRAINTS {
@@ -53,7 +54,7 @@ pub fn count_constraints(s: &[u8], at: usize, k: u8) -> Counted
                     return Counted::Refused { number, place };
                 }
                 n += 1;
-                here = start + (k as usize + 1) * 2;
+                here = start + (k as usize + 1) * COEFFICIENT_BYTES;
             }
             Next::Cut { at: place } => {
                 return Counted::Refused { number: 2, place };

@@ -8,11 +8,15 @@ use constraints::Counted;
 use constraints::count_constraints;
 use fields::Answer;
 use fields::FileKind;
+use fields::WriteResult;
+use fields::answers::acceptance;
+use fields::answers::refusal;
 use fields::header::Headed;
 use fields::header::between;
 use fields::header::put_header;
 use fields::header::read_header;
 use forms::BUNDLE_BYTES;
+use forms::COEFFICIENT_BYTES;
 use forms::CONSTANTS;
 use forms::CONSTRAINTS;
 use locate::Located;
@@ -46,11 +50,7 @@ fn refused_scan(number: u8, file: u8, place: usize) -> Scanned
     ensures { λ r. ⌜ r ≡ record { answer = answer number file place; k = 0; count = 0 } ⌝ }
 {
     Scanned {
-        answer: Answer {
-            number,
-            file,
-            place,
-        },
+        answer: refusal(number, file, place),
         k: 0,
         count: 0,
     }
@@ -63,11 +63,7 @@ pub fn scan(s: &[u8], file: u8, given: u8) -> Scanned
     match read_header(s, FileKind::Bundle, given) {
         Headed::Header { k, next } => match count_constraints(s, next, k) {
             Counted::Count { count } => Scanned {
-                answer: Answer {
-                    number: 0,
-                    file: 0,
-                    place: 0,
-                },
+                answer: acceptance(),
                 k,
                 count,
             },
@@ -89,11 +85,7 @@ fn refused_read(number: u8, file: u8, place: usize) -> ReadResult
     ensures { λ r. ⌜ r ≡ record { answer = answer number file place; count = 0; k = 0 } ⌝ }
 {
     ReadResult {
-        answer: Answer {
-            number,
-            file,
-            place,
-        },
+        answer: refusal(number, file, place),
         count: 0,
         k: 0,
     }
@@ -120,11 +112,7 @@ fn read_constraints(
             }
             store_constraints(file, at, k, count, kinds, numbers);
             ReadResult {
-                answer: Answer {
-                    number: 0,
-                    file: 0,
-                    place: 0,
-                },
+                answer: acceptance(),
                 count,
                 k,
             }
@@ -153,45 +141,18 @@ fn write_fault(k: u8, kinds: &[u8], numbers: &[i16]) -> Answer
     if between(k, 1, CONSTANTS) {
         let count = kinds.len();
         if count > CONSTRAINTS {
-            return Answer {
-                number: 8,
-                file: 4,
-                place: 0,
-            };
+            return refusal(8, 4, 0);
         }
         let bad = first_bad(kinds);
         if bad < count {
-            return Answer {
-                number: 24,
-                file: 4,
-                place: bad,
-            };
+            return refusal(24, 4, bad);
         }
         if numbers.len() != count * (k as usize + 1) {
-            return Answer {
-                number: 24,
-                file: 4,
-                place: count,
-            };
+            return refusal(24, 4, count);
         }
-        return Answer {
-            number: 0,
-            file: 0,
-            place: 0,
-        };
+        return acceptance();
     }
-    Answer {
-        number: 7,
-        file: 4,
-        place: 0,
-    }
-}
-
-// What writing a bundle answers: the bytes written, 0 where it is refused.
-#[repr(C)]
-pub struct WriteResult {
-    pub answer: Answer,
-    pub count: usize,
+    refusal(7, 4, 0)
 }
 
 // Writes a bundle from K, kinds and numbers.
@@ -203,14 +164,10 @@ pub fn write(k: u8, kinds: &[u8], numbers: &[i16], out: &mut [u8]) -> WriteResul
     if number != 0 {
         return WriteResult { answer, count: 0 };
     }
-    let needed = 8 + kinds.len() * (3 + (k as usize + 1) * 2);
+    let needed = 8 + kinds.len() * (3 + (k as usize + 1) * COEFFICIENT_BYTES);
     if out.len() < needed {
         return WriteResult {
-            answer: Answer {
-                number: 21,
-                file: 4,
-                place: needed,
-            },
+            answer: refusal(21, 4, needed),
             count: 0,
         };
     }
@@ -250,11 +207,7 @@ pub fn show_answer(a: &[u8], b: &[u8], line: Line) -> Answer
             file: _,
             start: _,
             size: _,
-        } => Answer {
-            number: 0,
-            file: 0,
-            place: 0,
-        },
+        } => acceptance(),
         Located::Refused { answer } => answer,
     }
 }

@@ -3,11 +3,12 @@ use super::Line;
 use super::scan;
 use fields::Answer;
 use fields::Next;
+use fields::answers::refusal;
 use fields::next_field;
 use forms::BUNDLE_BYTES;
 ghost use mathlib.Core.Path.{_≡_};
 ghost use Rattle.fields.specs.Answers.{answer};
-ghost use Rattle.bundle.specs.Locate.{Placed, bothBundles, pairOf, partAt, IsLocated};
+ghost use Rattle.bundle.specs.Locate.{IsPlace, bothBundles, pairOf, partAt, IsLocated};
 
 // Where a field starts and how many bytes it has.
 pub enum Place {
@@ -17,7 +18,7 @@ pub enum Place {
 
 // The i-th field of a file.
 fn nth_field(s: &[u8], i: usize) -> Place
-    ensures { λ r. ⌜ Placed (now (s .entry)) i r ⌝ }
+    ensures { λ r. ⌜ IsPlace (now (s .entry)) i r ⌝ }
 {
     let mut here: usize = 0;
     let mut left = i;
@@ -59,11 +60,7 @@ fn refused_pair(number: u8, file: u8, place: usize) -> Pair
     ensures { λ r. ⌜ r ≡ record { answer = answer number file place; count = 0 } ⌝ }
 {
     Pair {
-        answer: Answer {
-            number,
-            file,
-            place,
-        },
+        answer: refusal(number, file, place),
         count: 0,
     }
 }
@@ -109,11 +106,7 @@ fn part_at(file: u8, place: Place) -> Located
     match place {
         Place::At { start, size } => Located::Part { file, start, size },
         Place::Nothing => Located::Refused {
-            answer: Answer {
-                number: 10,
-                file: 1,
-                place: 0,
-            },
+            answer: refusal(10, 1, 0),
         },
     }
 }

@@ -1,6 +1,6 @@
 -- Loading the constraints of a bundle: one turn of each loop, and what the lines of the buffer then are. Assumes nothing.
 use mathlib.Core.Path.{_≡_, refl, sym, ap, ap₂, _∙_, subst}
-use mathlib.Core.Bool.{Bool, true, false}
+use mathlib.Core.Bool.{Bool, true, false, cond}
 use mathlib.Core.List.{List, [], _∷_, _++_, map, append-assoc, append-nil}
 use mathlib.Core.Logic.{_⊎_, inl, inr, ⊎-elim}
 use Prim.Native.Nat.{ℕ, zero, suc, _+_, _*_, _-_, _≤_, _<_}
@@ -27,7 +27,7 @@ use Rattle.fields.specs.Places.{fieldsAt, IsHeader}
 use Rattle.fields.proofs.Results.{one-value}
 use Rattle.fields.proofs.Places.{Starts}
 use Rattle.bundle.specs.Bundle.{Bundle}
-use Rattle.bundle.specs.Scan.{pick, faultOf, counted, stated}
+use Rattle.bundle.specs.Scan.{faultOf, counted, stated}
 use Rattle.bundle.specs.declared.constraints.Counted.{Counted}
 use Rattle.bundle.proofs.Scanning.{counted-on, passed-both, count-is, proper-of, scan-header, scan-fault, scan-bundle}
 use Rattle.fields.proofs.Signed.{length-signeds, signeds-last}
@@ -291,15 +291,15 @@ form-front w K m bs h =
     (ap signed (part-take (K * w) w m bs (omega (arith, suc-mul K w))))
 
 -- ---- the kind that a tag names
-kind-of : (tag : ℕ) → 3 ≤ tag → kindOf (tag - 3) ≡ pick (eqb tag 0x03) ≤0 =0
+kind-of : (tag : ℕ) → 3 ≤ tag → kindOf (tag - 3) ≡ cond (eqb tag 0x03) ≤0 =0
 unfolding kindOf
 kind-of tag h = go (eqb tag 3) refl
   where
-    by : (p : Bool) → eqb (tag - 3) 0 ≡ p → _≡_ {A = Kind} (elim (eqb (tag - 3) 0) [ true ↦ ≤0 | false ↦ =0 ]) (pick p ≤0 =0)
+    by : (p : Bool) → eqb (tag - 3) 0 ≡ p → _≡_ {A = Kind} (elim (eqb (tag - 3) 0) [ true ↦ ≤0 | false ↦ =0 ]) (cond p ≤0 =0)
     by true e = rw e
     by false e = rw e
 
-    go : (p : Bool) → eqb tag 3 ≡ p → _≡_ {A = Kind} (elim (eqb (tag - 3) 0) [ true ↦ ≤0 | false ↦ =0 ]) (pick p ≤0 =0)
+    go : (p : Bool) → eqb tag 3 ≡ p → _≡_ {A = Kind} (elim (eqb (tag - 3) 0) [ true ↦ ≤0 | false ↦ =0 ]) (cond p ≤0 =0)
     go true e = by true (eq-eqb (tag - 3) 0 (omega (arith, eqb-true tag 3 e)))
     go false e = by false (ne-eqb (tag - 3) 0 (λ z. eqb-false tag 3 e (omega arith)))
 
@@ -341,7 +341,7 @@ module _ {inA : Bool} {s : List ℕ} {at K : ℕ} {kinds₀ : List ℕ} {buf₀ 
           loads = record { space = space-less (omega (arith, v .m-is, count-is K (suc (v .done)) (v .count) (fieldsAt s next) (on .1))) (v .space); bytes = omega (arith, k .upto, k .next-is, l) };
         }
 
-    line-is : formLine inA K (tag - 3) s start ≡ lineOf inA (record { kind = pick (eqb tag 0x03) ≤0 =0; form = formFrom 2 K (take len (drop start s)) })
+    line-is : formLine inA K (tag - 3) s start ≡ lineOf inA (record { kind = cond (eqb tag 0x03) ≤0 =0; form = formFrom 2 K (take len (drop start s)) })
     line-is =
         let f : formFrom 2 K (drop start s) ≡ formFrom 2 K (take len (drop start s)) = sym (form-front 2 K len (drop start s) (omega (arith, fit .len-is))) in
         ap₂ (λ (κ : Kind) (t : Form). lineOf inA (record { kind = κ; form = t })) (kind-of tag (fit .from)) f

@@ -11,10 +11,10 @@ ghost use Rattle.formula.specs.Promises.{Tests};
 ghost use Rattle.checking.specs.Promises.{Checks};
 use bundle::Line;
 use bundle::ReadResult;
-use bundle::WriteResult;
 use checking::check::Checked;
 use checking::check::check;
 use fields::Answer;
+use fields::WriteResult;
 use formula::Tested;
 
 #[no_mangle]

@@ -13,6 +13,5 @@ pub mod Digits
 pub mod Turned
 pub mod Headers
 pub mod Endings
-pub mod Refusals
 pub mod Apart
 pub mod Together

@@ -6,6 +6,7 @@ use Prim.Native.Nat.{ℕ, suc, _+_}
 use lib.ListN.{length, drop}
 use lib.Dec.{leb}
 use Rattle.fields.specs.declared.Answer.{Answer}
+use Rattle.fields.specs.declared.WriteResult.{WriteResult}
 
 -- An answer has a number, a file and a place.
 abbrev pub answer : (number file place : ℕ) → Answer
@@ -61,6 +62,10 @@ pub record Written : Type 0 where
   pub answer : Answer
   pub count : ℕ
   pub output : List ℕ
+
+-- The code's struct, and the output as it is left.
+abbrev pub writtenOf : WriteResult → List ℕ → Written
+writtenOf r left = record { answer = r .answer; count = r .count; output = left }
 
 -- `xs` over the front of `out`; the rest stays.
 unfoldable pub over : {X : Type 0} → List X → List X → List X

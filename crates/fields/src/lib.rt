@@ -2,6 +2,7 @@
 ghost use mathlib.Core.Path.{_≡_};
 ghost use Rattle.fields.specs.Places.{foundAt, fieldsAt, nextOf};
 
+pub mod answers;
 pub mod ending;
 pub mod header;
 pub mod numbers;
@@ -13,6 +14,13 @@ pub struct Answer {
     pub number: u8,
     pub file: u8,
     pub place: usize,
+}
+
+// What an operation that writes bytes answers: how many it wrote, 0 where it is refused.
+#[repr(C)]
+pub struct WriteResult {
+    pub answer: Answer,
+    pub count: usize,
 }
 
 // The kinds of file, each with tags of its own.

@@ -21,6 +21,11 @@ pub const PROOF_BYTES: usize = 65536;
 
 pub const FORMULA_BYTES: usize = 65536;
 
+// How many bytes a number has: in a bundle, and in a claim or a formula.
+pub const COEFFICIENT_BYTES: usize = 2;
+
+pub const TERM_BYTES: usize = 4;
+
 // The most levels of and/or in a formula.
 pub const LEVELS: usize = 64;
 

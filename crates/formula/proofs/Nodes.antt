@@ -9,11 +9,11 @@ use borrow.Author.Tests.{eqb-true, leb-true}
 use Rattle.forms.specs.Edition.{edition1}
 use Rattle.fields.specs.declared.FileKind.{FileKind}
 use Rattle.fields.specs.Header.{known, headerTag}
-use Rattle.formula.specs.Formula.{Tagged, formulaTagged, sizeOf}
+use Rattle.formula.specs.Formula.{FormulaTag, formulaTagged, formulaSize}
 use Rattle.formula.specs.Nodes.{nodeTagged, sized, nodeIf, nodeOf}
 use Rattle.formula.specs.declared.node.Node.{Node}
 
-pub by-tag : (K len n size : ℕ) (t : Tagged) {tag : ℕ} → tag ≡ n → known FileKind.Formula n ≡ true → formulaTagged n ≡ some t → size ≡ sizeOf edition1 K t
+pub by-tag : (K len n size : ℕ) (t : FormulaTag) {tag : ℕ} → tag ≡ n → known FileKind.Formula n ≡ true → formulaTagged n ≡ some t → size ≡ formulaSize edition1 K t
     → sized len size (nodeTagged t) ≡ nodeOf K tag len
 unfolding nodeOf nodeIf
 by-tag K len n size t e k f s = rw (e, k, f, s)

@@ -10,7 +10,7 @@ use Rattle.fields.specs.declared.FileKind.{FileKind}
 use Rattle.fields.specs.Answers.{fileProof, Result, refused, accepted}
 use Rattle.fields.specs.Fields.{Field, Fields, ends, cut, _▸_, Noted, Kept}
 use Rattle.fields.proofs.Bare.{bareField, bare, bareAnswer, bareOf, Erased, Same, kept-length, computed, need-bare, found-bare, bind-bare, then-bare, then-same, noted-same, header-bare, finished-bare}
-use Rattle.formula.specs.Formula.{Tagged, pair, atom, stride, Reader, formulaOf, formulaField, twoParts, formulaWithin, readFormula}
+use Rattle.formula.specs.Formula.{FormulaTag, pair, atom, stride, Reader, formulaOf, formulaField, twoParts, formulaWithin, readFormula}
 use Rattle.formula.specs.Test.{tested, Tested, judged, testFormula}
 
 abbrev bareRead : Formula × Fields → Formula × Fields
@@ -27,7 +27,7 @@ abbrev PlacelessTwo : (ℕ → Fields → Result (Formula × Formula × Fields))
 PlacelessTwo two = (at : ℕ) (fs : Fields) → Erased bareTwo (two at fs) (two 0 (bare fs))
 
 module _ (e : Edition) (K : ℕ) where
-  formulaOf-bare : (two : ℕ → Fields → Result (Formula × Formula × Fields)) → PlacelessTwo two → (f : Field) (fs : Fields) (tagged : Tagged)
+  formulaOf-bare : (two : ℕ → Fields → Result (Formula × Formula × Fields)) → PlacelessTwo two → (f : Field) (fs : Fields) (tagged : FormulaTag)
       → Erased bareRead (formulaOf e K two f fs tagged) (formulaOf e K two (bareField f) (bare fs) tagged)
   unfolding formulaOf
   formulaOf-bare two p f fs (pair c) = bind-bare _ (p (f .at) fs) λ x. computed

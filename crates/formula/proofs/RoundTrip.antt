@@ -20,7 +20,7 @@ use Rattle.fields.specs.Fields.{Field, Fields, ends, _▸_, note, fields, field
 use Rattle.fields.specs.Header.{Header, agrees, known, headerTag, header, headerField, finished, headerBytes}
 use Rattle.fields.specs.Ranges.{InWidth, FormInWidth}
 use Rattle.fields.proofs.Signed.{length-signedBytes, signed-signedBytes, length-formBytes, formFrom-written}
-use Rattle.formula.specs.Formula.{encode, formulaFile, Encodable, height, Connective, disjunction, conjunction, Tagged, pair, atom, stride, formulaTagged, joined, sizeOf, formulaOf, formulaField, twoParts, formulaWithin, readFormula}
+use Rattle.formula.specs.Formula.{encode, formulaFile, Encodable, height, Connective, disjunction, conjunction, FormulaTag, pair, atom, stride, formulaTagged, compound, formulaSize, formulaOf, formulaField, twoParts, formulaWithin, readFormula}
 use Rattle.fields.proofs.Framing.{fuel-irrelevant, length-fieldBytes}
 use Rattle.fields.proofs.Headers.{length-headerBytes}
 use Rattle.fields.proofs.Results.{binds, passes, found-some, pass, fail}
@@ -42,23 +42,23 @@ Two = ℕ → Fields → Result (Formula × Formula × Fields)
 -- ---- one field
 module _ (K : ℕ) (two : Two) (fs : Fields) (at : ℕ) where
   -- A field of a formula's tag and its length gives what it states.
-  field-read : (tag : ℕ) (contents : List ℕ) (tagged : Tagged) → known FileKind.Formula tag ≡ true → formulaTagged tag ≡ some tagged → length contents ≡ sizeOf edition1 K tagged
+  field-read : (tag : ℕ) (contents : List ℕ) (tagged : FormulaTag) → known FileKind.Formula tag ≡ true → formulaTagged tag ≡ some tagged → length contents ≡ formulaSize edition1 K tagged
       → formulaField edition1 K two (field at tag contents ▸ fs) ≡ formulaOf edition1 K two (field at tag contents) fs tagged
   unfolding formulaField
   field-read tag contents tagged k t s =
       let f = field at tag contents in
       pass (answer 3 fileProof at) _ k
-      ∙ binds (λ x. need (answer 6 fileProof at) (eqb (length contents) (sizeOf edition1 K x)) >> formulaOf edition1 K two f fs x) (found-some (answer 4 fileProof at) t)
-      ∙ pass (answer 6 fileProof at) (formulaOf edition1 K two f fs tagged) (eq-eqb (length contents) (sizeOf edition1 K tagged) s)
+      ∙ binds (λ x. need (answer 6 fileProof at) (eqb (length contents) (formulaSize edition1 K x)) >> formulaOf edition1 K two f fs x) (found-some (answer 4 fileProof at) t)
+      ∙ pass (answer 6 fileProof at) (formulaOf edition1 K two f fs tagged) (eq-eqb (length contents) (formulaSize edition1 K tagged) s)
 
   atom-read : (tag : ℕ) (k : Kind) (t : Form) → known FileKind.Formula tag ≡ true → formulaTagged tag ≡ some (atom k) → FormInWidth 4 K t
       → formulaField edition1 K two (field at tag (formBytes 4 t) ▸ fs) ≡ accepted (literal k t, fs)
-  unfolding formulaOf sizeOf
+  unfolding formulaOf formulaSize
   atom-read tag k t n e h = field-read tag (formBytes 4 t) (atom k) n e (length-formBytes 4 K t (h .size)) ∙ rw (formFrom-written 4 K h)
 
   stride-read : (g : ℕ) (t : Form) → 2 ≤ g → InWidth 4 (pos g) → FormInWidth 4 K t
       → formulaField edition1 K two (field at 0x35 (signedBytes 4 (pos g) ++ formBytes 4 t) ▸ fs) ≡ accepted (g divides t, fs)
-  unfolding formulaOf sizeOf known headerTag formulaTagged
+  unfolding formulaOf formulaSize known headerTag formulaTagged
   stride-read g t low w h =
       let contents = signedBytes 4 (pos g) ++ formBytes 4 t in
       let own = length-signedBytes 4 (pos g) in
@@ -72,8 +72,8 @@ module _ (K : ℕ) (two : Two) (fs : Fields) (at : ℕ) where
       ∙ ap₂ (λ (z : ℤ) (u : Form). accepted (natAbs z divides u, fs)) number form
 
   pair-read : (tag : ℕ) (c : Connective) {I J : Formula} {after : Fields} → known FileKind.Formula tag ≡ true → formulaTagged tag ≡ some (pair c) → two at fs ≡ accepted (I, J, after)
-      → formulaField edition1 K two (field at tag [] ▸ fs) ≡ accepted (joined c I J, after)
-  unfolding formulaOf sizeOf
+      → formulaField edition1 K two (field at tag [] ▸ fs) ≡ accepted (compound c I J, after)
+  unfolding formulaOf formulaSize
   pair-read tag c {I} {J} {after} n e h = field-read tag [] (pair c) n e refl ∙ binds _ h
 
 module _ (K : ℕ) where
@@ -103,7 +103,7 @@ module _ (K : ℕ) where
 
   pair-reads : (levels tag : ℕ) (c : Connective) (I J : Formula) → note tag ≡ false → known FileKind.Formula tag ≡ true → formulaTagged tag ≡ some (pair c) → Reads levels I → Reads levels J
       → (fuel at : ℕ) (bs : List ℕ) → formulaWithin edition1 K (suc levels) (fieldsFrom (suc (fuelled I (fuelled J fuel))) at (fieldBytes tag [] ++ encode edition1 I ++ encode edition1 J ++ bs))
-      ≡ accepted (joined c I J, fieldsFrom fuel (at + length (fieldBytes tag [] ++ encode edition1 I ++ encode edition1 J)) bs)
+      ≡ accepted (compound c I J, fieldsFrom fuel (at + length (fieldBytes tag [] ++ encode edition1 I ++ encode edition1 J)) bs)
   unfolding Reads formulaWithin
   pair-reads levels tag c I J n k t hI hJ fuel at bs =
       let F = fieldBytes tag [] in
@@ -116,7 +116,7 @@ module _ (K : ℕ) where
       ∙ ap (formulaWithin edition1 K (suc levels)) (fields-field tag [] (X ++ (Y ++ bs)) fuel1 at (omega arith) n)
       ∙ pair-read K _ (fieldsFrom fuel1 (at + 3 + 0) (X ++ (Y ++ bs))) at tag c k t
       (two-read (formulaWithin edition1 K levels) _ (hI (fuelled J fuel) (at + 3 + 0) (Y ++ bs)) (hJ fuel (at + 3 + 0 + length X) bs))
-      ∙ ap (λ (p : ℕ). accepted (joined c I J, fieldsFrom fuel p bs)) place
+      ∙ ap (λ (p : ℕ). accepted (compound c I J, fieldsFrom fuel p bs)) place
 
   -- A form, also with g in front, is short enough for a field.
   form-short : (t : Form) → K ≤ 16 → length (t .coeffs) ≡ K → length (formBytes 4 t) ≤ 68
@@ -127,7 +127,7 @@ module _ (K : ℕ) where
 
   module _ (k : K ≤ 16) where
     fuelled-reads : (levels : ℕ) (I : Formula) → Encodable K I → height I ≤ levels → Reads levels I
-    unfolding encode Reads known headerTag formulaTagged joined note
+    unfolding encode Reads known headerTag formulaTagged compound note
     fuelled-reads levels (literal ≤0 t) h l = leaf-reads levels 0x33 (formBytes 4 t) (literal ≤0 t) (omega (arith, form-short t k (h .size))) refl (λ two fs at. atom-read K two fs at 0x33 ≤0 t refl refl h)
     fuelled-reads levels (literal =0 t) h l = leaf-reads levels 0x34 (formBytes 4 t) (literal =0 t) (omega (arith, form-short t k (h .size))) refl (λ two fs at. atom-read K two fs at 0x34 =0 t refl refl h)
     fuelled-reads levels (g divides t) h l = leaf-reads levels 0x35 (signedBytes 4 (pos g) ++ formBytes 4 t) (g divides t) (omega (arith, stride-short g t k (h .2 .size))) refl (λ two fs at. stride-read K two fs at g t (h .0) (h .1) (h .2))

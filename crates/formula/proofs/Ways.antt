@@ -23,7 +23,7 @@ use Rattle.fields.specs.Header.{known}
 use Rattle.fields.specs.Places.{fieldsAt, nextOf}
 use Rattle.fields.proofs.Places.{Starts, starts-size, next-cut, next-ends}
 use Rattle.fields.proofs.Results.{binds, bind-refused}
-use Rattle.formula.specs.Formula.{disjunction, conjunction, Tagged, pair, atom, stride, formulaTagged, joined, sizeOf, formulaOf, formulaField, twoParts, formulaWithin}
+use Rattle.formula.specs.Formula.{disjunction, conjunction, FormulaTag, pair, atom, stride, formulaTagged, compound, formulaSize, formulaOf, formulaField, twoParts, formulaWithin}
 use Rattle.formula.specs.Test.{holds, judge, registers}
 use Rattle.formula.specs.FormAt.{formAt, Whole}
 use Rattle.formula.specs.Nodes.{connective, kindOf, nodeTagged, sized, nodeIf, nodeOf, nodeRead}
@@ -39,7 +39,7 @@ within-field K zero fs = refl
 within-field K (suc levels) fs = refl
 
 module _ (K : ℕ) (two : (at : ℕ) → Fields → Result (Formula × Formula × Fields)) (f : Field) (fs : Fields) where
-  sized-read : (t : Tagged) (b : Bool)
+  sized-read : (t : FormulaTag) (b : Bool)
       → (need (answer 6 fileProof (f .at)) b >> formulaOf edition1 K two f fs t) ≡ nodeRead K two f fs (cond b (nodeTagged t) (Node.Refused 6))
   unfolding need _>>_ nodeRead
   sized-read t false = refl
@@ -49,14 +49,14 @@ module _ (K : ℕ) (two : (at : ℕ) → Fields → Result (Formula × Formula �
   sized-read (atom =0) true = refl
   sized-read stride true = refl
 
-  read-if : (b : Bool) (o : Option Tagged)
+  read-if : (b : Bool) (o : Option FormulaTag)
       → (need (answer 3 fileProof (f .at)) b >> (found (answer 4 fileProof (f .at)) o >>= λ t.
-      need (answer 6 fileProof (f .at)) (eqb (length (f .contents)) (sizeOf edition1 K t)) >> formulaOf edition1 K two f fs t))
+      need (answer 6 fileProof (f .at)) (eqb (length (f .contents)) (formulaSize edition1 K t)) >> formulaOf edition1 K two f fs t))
       ≡ nodeRead K two f fs (nodeIf K (length (f .contents)) b o)
   unfolding need _>>_ _>>=_ found nodeRead nodeIf sized
   read-if false o = refl
   read-if true none = refl
-  read-if true (some t) = sized-read t (eqb (length (f .contents)) (sizeOf edition1 K t))
+  read-if true (some t) = sized-read t (eqb (length (f .contents)) (formulaSize edition1 K t))
 
   node-read : formulaField edition1 K two (f ▸ fs) ≡ nodeRead K two f fs (nodeOf K (f .tag) (length (f .contents)))
   unfolding formulaField nodeOf
@@ -69,8 +69,8 @@ SizeFor K len (Node.Literal equality) = len ≡ formWidth 4 K
 SizeFor K len Node.Stride = len ≡ 4 + formWidth 4 K
 SizeFor K len (Node.Refused number) = Unit {0}
 
-size-by : (K len : ℕ) (t : Tagged) (b : Bool) → eqb len (sizeOf edition1 K t) ≡ b → SizeFor K len (cond b (nodeTagged t) (Node.Refused 6))
-unfolding sizeOf
+size-by : (K len : ℕ) (t : FormulaTag) (b : Bool) → eqb len (formulaSize edition1 K t) ≡ b → SizeFor K len (cond b (nodeTagged t) (Node.Refused 6))
+unfolding formulaSize
 size-by K len t false e = tt
 size-by K len (pair disjunction) true e = tt
 size-by K len (pair conjunction) true e = tt
@@ -78,11 +78,11 @@ size-by K len (atom ≤0) true e = eqb-true _ _ e
 size-by K len (atom =0) true e = eqb-true _ _ e
 size-by K len stride true e = eqb-true _ _ e
 
-size-if : (K len : ℕ) (b : Bool) (o : Option Tagged) → SizeFor K len (nodeIf K len b o)
+size-if : (K len : ℕ) (b : Bool) (o : Option FormulaTag) → SizeFor K len (nodeIf K len b o)
 unfolding nodeIf sized
 size-if K len false o = tt
 size-if K len true none = tt
-size-if K len true (some t) = size-by K len t (eqb len (sizeOf edition1 K t)) refl
+size-if K len true (some t) = size-by K len t (eqb len (formulaSize edition1 K t)) refl
 
 sizes : (K tag len : ℕ) → SizeFor K len (nodeOf K tag len)
 unfolding nodeOf
@@ -104,11 +104,11 @@ drop-take zero n l = rw (let e : 0 + n ≡ n = omega arith in e)
 drop-take (suc m) n [] = rw (let e : suc m + n ≡ suc (m + n) = omega arith in e, take-nil)
 drop-take (suc m) n (x ∷ l) = rw (let e : suc m + n ≡ suc (m + n) = omega arith in e) (drop-take m n l)
 
-joined-truth : (values : List ℤ) (either : Bool) (I J : Formula) {x y : Bool} → x ≡ judge I (registers values) → y ≡ judge J (registers values)
-    → connected either x y ≡ judge (joined (connective either) I J) (registers values)
-unfolding judge joined
-joined-truth values true I J u v = ap₂ _||_ u v
-joined-truth values false I J u v = ap₂ _&&_ u v
+compound-truth : (values : List ℤ) (either : Bool) (I J : Formula) {x y : Bool} → x ≡ judge I (registers values) → y ≡ judge J (registers values)
+    → connected either x y ≡ judge (compound (connective either) I J) (registers values)
+unfolding judge compound
+compound-truth values true I J u v = ap₂ _||_ u v
+compound-truth values false I J u v = ap₂ _&&_ u v
 
 module _ {s : List ℕ} {at place tag start len next : ℕ} (k : Starts s at place tag start len next) (K : ℕ) {node : Node} (e : node ≡ nodeOf K tag len) where
   further : at ≤ next
@@ -170,9 +170,9 @@ module _ {s : List ℕ} {at place tag start len next : ℕ} (k : Starts s at pla
       pair-by (Pair.Fault number a) b = record { judged = formula-node f ∙ bind-refused _ (b .judged) }
       pair-by (Pair.Both x y n) b = record {
         judged = record {
-          formula = joined (connective either) (b .judged .left) (b .judged .right);
+          formula = compound (connective either) (b .judged .left) (b .judged .right);
           is = formula-node f ∙ binds _ (b .judged .is);
-          truth = joined-truth values either _ _ (b .judged .left-truth) (b .judged .right-truth);
+          truth = compound-truth values either _ _ (b .judged .left-truth) (b .judged .right-truth);
           on = omega (arith, further, b .judged .on);
         };
       }

@@ -5,22 +5,22 @@ use mathlib.Core.Bool.{Bool}
 use mathlib.Core.List.{List}
 use Prim.Native.Nat.{ℕ, _≤_, _<_}
 use native.Mathlib.Omega.{arith}
-use lib.Dec.{leb}
+use lib.Dec.{leb, eqb→eq}
 use lib.IntN.{ℤ}
 use lib.ListN.{length}
-use borrow.Author.Tests.{eqb-true, le-leb, lt-leb}
+use borrow.Author.Tests.{le-leb, lt-leb}
 use Rattle.forms.specs.Edition.{edition1}
 use Rattle.forms.specs.Forms.{Formula}
 use Rattle.fields.specs.declared.FileKind.{FileKind}
 use Rattle.fields.specs.declared.ending.Ending.{Ending}
 use Rattle.fields.specs.declared.header.Headed.{Headed}
 use Rattle.fields.specs.Answers.{answer, fileProof, fileLent, Result, refused, accepted, _>>_, need}
-use Rattle.fields.specs.Fields.{Fields, fields}
-use Rattle.fields.specs.Header.{Header, agrees, header, finished}
+use Rattle.fields.specs.Fields.{fields}
+use Rattle.fields.specs.Header.{agrees, header, finished}
 use Rattle.fields.specs.Places.{fieldsAt, headedOf, IsHeader}
 use Rattle.fields.specs.Ending.{IsEnding}
 use Rattle.fields.proofs.Headers.{given-some}
-use Rattle.fields.proofs.Refusals.{Gives, no, yes, bind, passing, finding}
+use Rattle.fields.proofs.HeaderLaid.{header-gives}
 use Rattle.fields.proofs.Results.{binds, passes, pass, fail, bind-refused, then-refused}
 use Rattle.formula.specs.Formula.{readFormula}
 use Rattle.formula.specs.Test.{judge, registers, judged, tested, testFormula}
@@ -39,23 +39,6 @@ module _ {s : List ℕ} {at : ℕ} (holds : Bool) {e : Ending} (k : IsEnding Fil
   pub finish-fault : {number p : ℕ} {r : Tested} → e ≡ Ending.Fault number p → r ≡ refusal number fileProof p → Finish s at holds r
   finish-fault q f = record { is = f ∙ sym (ap (endTested holds) (k .is fileProof) ∙ rw q) }
 
--- ---- K is the number of values
-any : {X : Type 0} (r : Result X) → Gives (λ a. Unit {0}) (λ x. Unit {0}) r
-any (refused a) = no tt
-any (accepted x) = yes tt
-
-header-gives : (kind : FileKind) (file g : ℕ) (fs : Fields) → Gives (λ a. Unit {0}) (λ (h : Header). h .K ≡ g) (header kind file (some g) fs)
-unfolding header agrees
-header-gives kind file g fs =
-    bind (any _) λ x u.
-    finding _ _ _ tt λ e q.
-    bind (any _) λ y v.
-    passing _ _ _ tt λ range.
-    passing _ _ _ tt λ same. yes (eqb-true _ _ same)
-
-given : {h : Header} {g : ℕ} → Gives (λ a. Unit {0}) (λ (h : Header). h .K ≡ g) (accepted h) → h .K ≡ g
-given (yes q) = q
-
 -- ---- reading the formula whole
 end-judged : (values : List ℤ) (I : Formula) {holds : Bool} → holds ≡ judge I (registers values) → (w : Result (Unit {0}))
     → endTested holds w ≡ asTested (judged values (w >> accepted I))
@@ -73,10 +56,12 @@ module _ {s : List ℕ} {values : List ℤ} {K : ℕ} (g : Registers values K) {
   header-refused e f = f ∙ sym (ap (λ w. asTested (judged values w)) (bind-refused _ (header-is ∙ rw e)))
 
   module _ {k′ next : ℕ} (e : h ≡ Headed.Header k′ next) where
+    -- K is the number of values
     header-K : header FileKind.Formula fileProof (some K) (fields s) ≡ accepted (record { edition = edition1; K = K; rest = fieldsAt s next })
+    unfolding agrees
     header-K =
         let p : header FileKind.Formula fileProof (some K) (fields s) ≡ accepted (record { edition = edition1; K = k′; rest = fieldsAt s next }) = header-is ∙ rw e in
-        let q : k′ ≡ K = given (rw p at (header-gives FileKind.Formula fileProof K (fields s))) in
+        let q : k′ ≡ K = eqb→eq k′ K (header-gives FileKind.Formula fileProof (some K) (fields s) .gives _ p .agree) in
         p ∙ rw q
 
     module _ {j : Judged} (b : FormulaRead s next values K 64 j) where

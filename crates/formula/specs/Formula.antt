@@ -48,12 +48,12 @@ height (I or J) = suc (max (height I) (height J))
 pub data Connective : Type 0 where
   disjunction conjunction : Connective
 
-pub data Tagged : Type 0 where
-  pair : Connective → Tagged
-  atom : Kind → Tagged
-  stride : Tagged
+pub data FormulaTag : Type 0 where
+  pair : Connective → FormulaTag
+  atom : Kind → FormulaTag
+  stride : FormulaTag
 
-unfoldable pub formulaTagged : ℕ → Option Tagged
+unfoldable pub formulaTagged : ℕ → Option FormulaTag
 formulaTagged tag =
     elim (eqb tag 0x31) [
       | true ↦ some (pair disjunction)
@@ -73,25 +73,25 @@ formulaTagged tag =
           ]
     ]
 
-unfoldable pub joined : Connective → Formula → Formula → Formula
-joined disjunction I J = I or J
-joined conjunction I J = I and J
+unfoldable pub compound : Connective → Formula → Formula → Formula
+compound disjunction I J = I or J
+compound conjunction I J = I and J
 
 -- A formula at the front of the fields, and the fields after it.
 abbrev pub Reader : Type 0
 Reader = Fields → Result (Formula × Fields)
 
 module _ (e : Edition) (K : ℕ) where
-  unfoldable pub sizeOf : Tagged → ℕ
-  sizeOf (pair c) = 0
-  sizeOf (atom k) = formWidth (e .termWidth) K
-  sizeOf stride = e .termWidth + formWidth (e .termWidth) K
+  unfoldable pub formulaSize : FormulaTag → ℕ
+  formulaSize (pair c) = 0
+  formulaSize (atom k) = formWidth (e .termWidth) K
+  formulaSize stride = e .termWidth + formWidth (e .termWidth) K
 
   -- The formula of a field; `two` reads the two parts of an and/or whose field starts at a place. 12.
-  unfoldable pub formulaOf : (two : (at : ℕ) → Fields → Result (Formula × Formula × Fields)) → Field → Fields → Tagged → Result (Formula × Fields)
+  unfoldable pub formulaOf : (two : (at : ℕ) → Fields → Result (Formula × Formula × Fields)) → Field → Fields → FormulaTag → Result (Formula × Fields)
   formulaOf two f fs (pair c) = do
     (I, J, after) ← two (f .at) fs
-    accepted (joined c I J, after)
+    accepted (compound c I J, after)
   formulaOf two f fs (atom k) = accepted (literal k (formFrom (e .termWidth) K (f .contents)), fs)
   formulaOf two f fs stride = do
     need (answer 12 fileProof (f .at)) (leZ (pos 2) (signed (take (e .termWidth) (f .contents))))
@@ -104,7 +104,7 @@ module _ (e : Edition) (K : ℕ) where
   formulaField two (f ▸ fs) = do
     need (answer 3 fileProof (f .at)) (known FileKind.Formula (f .tag))
     tagged ← found (answer 4 fileProof (f .at)) (formulaTagged (f .tag))
-    need (answer 6 fileProof (f .at)) (eqb (length (f .contents)) (sizeOf tagged))
+    need (answer 6 fileProof (f .at)) (eqb (length (f .contents)) (formulaSize tagged))
     formulaOf two f fs tagged
 
   -- Reading a formula calls on reading its two parts, each again a formula.

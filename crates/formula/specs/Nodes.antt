@@ -9,7 +9,7 @@ use Rattle.fields.specs.declared.FileKind.{FileKind}
 use Rattle.fields.specs.Answers.{answer, fileProof, Result, refused}
 use Rattle.fields.specs.Fields.{Field, Fields}
 use Rattle.fields.specs.Header.{known}
-use Rattle.formula.specs.Formula.{Connective, disjunction, conjunction, Tagged, pair, atom, stride, formulaTagged, sizeOf, formulaOf}
+use Rattle.formula.specs.Formula.{Connective, disjunction, conjunction, FormulaTag, pair, atom, stride, formulaTagged, formulaSize, formulaOf}
 use Rattle.formula.specs.declared.node.Node.{Node}
 
 abbrev pub connective : (either : Bool) → Connective
@@ -20,7 +20,7 @@ abbrev pub kindOf : (equality : Bool) → Kind
 kindOf true = =0
 kindOf false = ≤0
 
-abbrev pub nodeTagged : Tagged → Node
+abbrev pub nodeTagged : FormulaTag → Node
 nodeTagged (pair disjunction) = Node.Pair true
 nodeTagged (pair conjunction) = Node.Pair false
 nodeTagged (atom ≤0) = Node.Literal false
@@ -31,10 +31,10 @@ unfoldable pub sized : (len size : ℕ) → Node → Node
 sized len size node = cond (eqb len size) node (Node.Refused 6)
 
 -- 3, 4, 6 of a tag and a length.
-unfoldable pub nodeIf : (K len : ℕ) → (known : Bool) → Option Tagged → Node
+unfoldable pub nodeIf : (K len : ℕ) → (known : Bool) → Option FormulaTag → Node
 nodeIf K len false t = Node.Refused 3
 nodeIf K len true none = Node.Refused 4
-nodeIf K len true (some t) = sized len (sizeOf edition1 K t) (nodeTagged t)
+nodeIf K len true (some t) = sized len (formulaSize edition1 K t) (nodeTagged t)
 
 unfoldable pub nodeOf : (K tag len : ℕ) → Node
 nodeOf K tag len = nodeIf K len (known FileKind.Formula tag) (formulaTagged tag)

@@ -15,7 +15,7 @@ ranged i values = each (λ j. answer 23 fileLent j) (λ z. leb (natAbs z) (editi
 
 -- Every value is in range. (Past the end they are 0.)
 pub record AllWithin (values : List ℤ) : Type 0 where
-  pub at : (i : ℕ) → Within 1_000_000 (getD values i (pos 0))
+  pub at : (i : ℕ) → Within (edition1 .values) (getD values i (pos 0))
 
 -- r is the index of the first value out of range, or their number.
 pub record FirstOutside (values : List ℤ) (r : ℕ) : Type 0 where
@@ -28,4 +28,4 @@ pub record Registers (values : List ℤ) (K : ℕ) : Type 0 where
   pub all : AllWithin values
   pub count : length values ≡ K
   pub some : 1 ≤ K
-  pub few : K ≤ 16
+  pub few : K ≤ edition1 .constants

@@ -1,10 +1,12 @@
 // The value of a form at the register values.
 use crate::values::register;
 use fields::words::wide_long_at;
+use forms::TERM_BYTES;
 ghost use mathlib.Core.Path.{_≡_};
 ghost use Prim.Native.Nat.{_+_, _*_, _≤_};
 ghost use lib.ListN.{length, getD, take, drop};
 ghost use lib.IntN.{pos, _+ℤ_, _*ℤ_};
+ghost use Rattle.forms.specs.Edition.{edition1};
 ghost use Rattle.forms.specs.Forms.{value};
 ghost use Rattle.formula.specs.Test.{registers};
 ghost use Rattle.formula.specs.Registers.{Registers};
@@ -14,10 +16,10 @@ ghost use Rattle.formula.specs.FormAt.{formAt, Whole, Summand};
 
 // The coefficient at a place times register i, and the total so far.
 fn with_term(s: &[u8], at: usize, values: &[i32], i: usize, total: i64) -> i64
-    requires { ⌜ at + 4 ≤ length (now s) ⌝ }
+    requires { ⌜ at + edition1 .termWidth ≤ length (now s) ⌝ }
     requires { ⌜ Summand (now values) i total ⌝ }
-    ensures is { λ r. ⌜ r ≡ signed (take 4 (drop at (now (s .entry)))) *ℤ getD (now (values .entry)) i (pos 0) +ℤ total ⌝ }
-    ensures range { λ r. ⌜ Held 4 (signed (take 4 (drop at (now (s .entry))))) ⌝ }
+    ensures is { λ r. ⌜ r ≡ signed (take (edition1 .termWidth) (drop at (now (s .entry)))) *ℤ getD (now (values .entry)) i (pos 0) +ℤ total ⌝ }
+    ensures range { λ r. ⌜ Held (edition1 .termWidth) (signed (take (edition1 .termWidth) (drop at (now (s .entry))))) ⌝ }
 {
     let c = wide_long_at(s, at);
     let x = register(values, i);
@@ -30,11 +32,11 @@ pub fn value_at(s: &[u8], at: usize, values: &[i32], k: usize) -> i64
     requires { ⌜ Registers (now values) k ⌝ }
     ensures { λ r. ⌜ r ≡ value (formAt (now (s .entry)) at k) (registers (now (values .entry))) ⌝ }
 {
-    let mut total = wide_long_at(s, at + k * 4);
+    let mut total = wide_long_at(s, at + k * TERM_BYTES);
     let mut i = k;
     while 0 < i {
         i -= 1;
-        total = with_term(s, at + i * 4, values, i, total);
+        total = with_term(s, at + i * TERM_BYTES, values, i, total);
     }
     total
 }

@@ -1,6 +1,8 @@
 // Formulas on bytes: reading one and testing it at register values.
 use fields::Answer;
 use fields::FileKind;
+use fields::answers::acceptance;
+use fields::answers::refusal;
 use fields::ending::Ending;
 use fields::ending::ending_at;
 use fields::header::Headed;
@@ -36,11 +38,7 @@ fn refuse(number: u8, file: u8, place: usize) -> Tested
     ensures { λ r. ⌜ r ≡ refusal number file place ⌝ }
 {
     Tested {
-        answer: Answer {
-            number,
-            file,
-            place,
-        },
+        answer: refusal(number, file, place),
         holds: false,
     }
 }
@@ -51,11 +49,7 @@ fn finish(formula: &[u8], at: usize, holds: bool) -> Tested
 {
     match ending_at(formula, at, FileKind::Formula) {
         Ending::Ended => Tested {
-            answer: Answer {
-                number: 0,
-                file: 0,
-                place: 0,
-            },
+            answer: acceptance(),
             holds,
         },
         Ending::Fault { number, at: place } => refuse(number, 3, place),

@@ -1,6 +1,8 @@
 // The nodes of a formula: what a field's tag and length say.
+use forms::TERM_BYTES;
 ghost use mathlib.Core.Path.{_≡_};
 ghost use Prim.Native.Nat.{_≤_};
+ghost use Rattle.forms.specs.Edition.{edition1};
 ghost use Rattle.formula.specs.Nodes.{nodeOf, sized};
 
 pub enum Node {
@@ -24,16 +26,16 @@ fn sized(len: usize, size: usize, node: Node) -> Node
 
 // 3, 4, 6.
 pub fn node_of(tag: u8, len: usize, k: usize) -> Node
-    requires { ⌜ k ≤ 16 ⌝ }
+    requires { ⌜ k ≤ edition1 .constants ⌝ }
     ensures { λ r. ⌜ r ≡ nodeOf k tag len ⌝ }
 {
-    let form = (k + 1) * 4;
+    let form = (k + 1) * TERM_BYTES;
     match tag {
         0x31 => sized(len, 0, Node::Pair { either: true }),
         0x32 => sized(len, 0, Node::Pair { either: false }),
         0x33 => sized(len, form, Node::Literal { equality: false }),
         0x34 => sized(len, form, Node::Literal { equality: true }),
-        0x35 => sized(len, form + 4, Node::Stride),
+        0x35 => sized(len, form + TERM_BYTES, Node::Stride),
         0x01 | 0x02 => Node::Refused { number: 4 },
         _ => Node::Refused { number: 3 },
     }

@@ -5,11 +5,13 @@ use crate::node::node_of;
 use fields::Next;
 use fields::next_field;
 use fields::words::wide_long_at;
+use forms::TERM_BYTES;
 use integers::divides;
 use integers::is_zero;
 ghost use mathlib.Core.Path.{_≡_};
 ghost use Prim.Native.Nat.{_+_};
 ghost use lib.ListN.{take, drop};
+ghost use Rattle.forms.specs.Edition.{edition1};
 ghost use Rattle.forms.specs.Forms.{value};
 ghost use Rattle.fields.specs.Numbers.{signed};
 ghost use Rattle.formula.specs.Test.{holds, registers};
@@ -67,9 +69,9 @@ fn literal_at(
 }
 
 fn stride_at(s: &[u8], place: usize, start: usize, next: usize, values: &[i32], k: usize) -> Judged
-    requires { ⌜ Whole (now s) (start + 4) k ⌝ }
+    requires { ⌜ Whole (now s) (start + edition1 .termWidth) k ⌝ }
     requires { ⌜ Registers (now values) k ⌝ }
-    ensures { λ r. ⌜ r ≡ strideJudged place next (signed (take 4 (drop start (now (s .entry))))) (value (formAt (now (s .entry)) (start + 4) k) (registers (now (values .entry)))) ⌝ }
+    ensures { λ r. ⌜ r ≡ strideJudged place next (signed (take (edition1 .termWidth) (drop start (now (s .entry))))) (value (formAt (now (s .entry)) (start + edition1 .termWidth) k) (registers (now (values .entry)))) ⌝ }
 {
     let g = wide_long_at(s, start);
     if g < 2 {
@@ -78,7 +80,7 @@ fn stride_at(s: &[u8], place: usize, start: usize, next: usize, values: &[i32], 
             at: place,
         };
     }
-    let x = value_at(s, start + 4, values, k);
+    let x = value_at(s, start + TERM_BYTES, values, k);
     Judged::Value {
         holds: divides(g, x),
         next,

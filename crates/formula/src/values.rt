@@ -5,6 +5,7 @@ ghost use Prim.Native.Nat.{_<_};
 ghost use lib.Dec.{leb};
 ghost use lib.IntN.{pos, natAbs};
 ghost use lib.ListN.{length, getD};
+ghost use Rattle.forms.specs.Edition.{edition1};
 ghost use Rattle.formula.specs.Registers.{FirstOutside};
 
 pub fn wide(x: i32) -> i64
@@ -24,7 +25,7 @@ const LEAST: i64 = -VALUES;
 
 // Whether x is in the range of register values.
 fn in_range(x: i64) -> bool
-    ensures { λ r. ⌜ r ≡ leb (natAbs x) 1000000 ⌝ }
+    ensures { λ r. ⌜ r ≡ leb (natAbs x) (edition1 .values) ⌝ }
 {
     x <= VALUES && LEAST <= x
 }

@@ -12,6 +12,7 @@ use lib.ListN.{length}
 use Rattle.forms.specs.Edition.{edition1}
 use Rattle.forms.specs.Forms.{All, nil, cons, Constraint, Formula}
 use Rattle.fields.specs.declared.Answer.{Answer}
+use Rattle.fields.specs.declared.WriteResult.{WriteResult}
 use Rattle.fields.specs.Answers.{answer, acceptance, fileA, fileB, fileLent, Result, refused, accepted, _>>=_, _>>_, found, over, fit, Written, written}
 use Rattle.fields.specs.Numbers.{Bytes, unsignedBytes}
 use Rattle.fields.specs.Fields.{Field, Fields, ends, cut, _▸_, fields, nth, Item, item, items, fieldBytes, fileOf}
@@ -19,7 +20,6 @@ use Rattle.fields.specs.Header.{agrees}
 use Rattle.fields.proofs.Results.{Gives, never, not-0, accepts, weaken, bind, seq, finds, binds, passes, found-some}
 use Rattle.fields.proofs.Signed.{all-weaken}
 use Rattle.fields.proofs.Contents.{ItemBytes}
-use Rattle.bundle.specs.declared.WriteResult.{WriteResult}
 use Rattle.bundle.specs.declared.ReadResult.{ReadResult}
 use Rattle.bundle.specs.Bundle.{Bundle, atMost, bundles}
 use Rattle.bundle.specs.Layout.{Each, nil as nil-each, cons as cons-each, BundleFile}
@@ -28,7 +28,8 @@ use Rattle.bundle.specs.Write.{writeBundle}
 use Rattle.bundle.specs.Show.{Part, partOf, constraintPart, shownPart, answerOf, showAnswer}
 use Rattle.bundle.specs.Promises.{Reads, Writes}
 use Rattle.bundle.proofs.Laid.{BothLaid, laid-file, file-laid, bundle-gives, bundles-give, bundles-accept, short-gives, short-accepted}
-use Rattle.bundle.proofs.Writable.{Writable as Ready, bundleBytes-gives, bundleBytes-accepted}
+use Rattle.bundle.specs.Put.{InOrder as Ready}
+use Rattle.bundle.proofs.Writable.{bundleBytes-gives, bundleBytes-accepted}
 use Rattle.bundle.proofs.RoundTrips.{bytesWritten, rewritten, writtenAs, written-fits, readAs, read-file, write-then-read, read-then-write}
 use Rattle.formula.specs.Formula.{formulaFile}
 use Rattle.proof.specs.Check.{interpolant, check}

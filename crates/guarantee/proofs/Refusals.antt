@@ -24,7 +24,7 @@ use Rattle.bundle.specs.Show.{Part, shownPart, answerOf, handed, showPart, show
 use Rattle.bundle.specs.Promises.{partBytes, behind, partPlace}
 use Rattle.bundle.proofs.Laid.{short-gives, bundle-gives, bundles-give}
 use Rattle.bundle.proofs.Writable.{bundleBytes-gives}
-use Rattle.formula.specs.Formula.{Tagged, pair, atom, stride, formulaOf, formulaField, twoParts, formulaWithin, readFormula, formulaFile}
+use Rattle.formula.specs.Formula.{FormulaTag, pair, atom, stride, formulaOf, formulaField, twoParts, formulaWithin, readFormula, formulaFile}
 use Rattle.formula.specs.Test.{Tested as Outcome, tested, judged, testFormula}
 use Rattle.proof.specs.Check.{interpolant, check}
 use Rattle.proof.proofs.Agree.{never-0, never-22}
@@ -119,7 +119,7 @@ module _ (e : Edition) (K : ℕ) where
   abbrev Two : Type 0
   Two = (at : ℕ) → Fields → Result (Formula × Formula × Fields)
 
-  of-gives : (two : Two) → ((at : ℕ) (fs : Fields) → Reads (two at fs)) → (f : Field) (fs : Fields) (t : Tagged) → Reads (formulaOf e K two f fs t)
+  of-gives : (two : Two) → ((at : ℕ) (fs : Fields) → Reads (two at fs)) → (f : Field) (fs : Fields) (t : FormulaTag) → Reads (formulaOf e K two f fs t)
   unfolding formulaOf
   of-gives two h f fs (pair c) = bind (h (f .at) fs) λ (I, J, after) _. accepts tt
   of-gives two h f fs (atom k) = accepts tt

@@ -8,13 +8,13 @@ use lib.ListN.{length, take}
 use Rattle.forms.specs.Edition.{edition1}
 use Rattle.forms.specs.Forms.{All, Constraint, Formula}
 use Rattle.fields.specs.declared.Answer.{Answer}
+use Rattle.fields.specs.declared.WriteResult.{WriteResult}
 use Rattle.fields.specs.Answers.{answer, acceptance, fileLent, over}
 use Rattle.fields.specs.Numbers.{Bytes}
 use Rattle.fields.specs.Ranges.{InWidth}
 use Rattle.fields.specs.Fields.{Item, Framed, fileOf, withoutNotes}
 use Rattle.fields.specs.Header.{headerBytes}
 use Rattle.bundle.specs.declared.ReadResult.{ReadResult}
-use Rattle.bundle.specs.declared.WriteResult.{WriteResult}
 use Rattle.bundle.specs.Layout.{BundleFile}
 use Rattle.bundle.specs.Read.{kindsOf, numbersOf}
 use Rattle.bundle.specs.Write.{constraintsBytes}

@@ -8,9 +8,9 @@ use Prim.Native.Nat.{ℕ}
 use lib.IntN.{ℤ}
 use denote.Ref.{RefT}
 use Rattle.fields.specs.declared.Answer.{Answer}
+use Rattle.fields.specs.declared.WriteResult.{WriteResult}
 use Rattle.fields.specs.Answers.{acceptance}
 use Rattle.bundle.specs.declared.ReadResult.{ReadResult}
-use Rattle.bundle.specs.declared.WriteResult.{WriteResult}
 use Rattle.bundle.specs.Show.{showPart}
 use Rattle.bundle.specs.Promises.{Reads, Writes, Shows, AnswersShow, partBytes}
 use Rattle.formula.specs.declared.Tested.{Tested}

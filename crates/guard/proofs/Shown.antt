@@ -12,7 +12,7 @@ use Rattle.fields.specs.Answers.{answer, acceptance, fileLent, _>>=_, _>>_, nee
 use Rattle.fields.specs.Numbers.{unsigned, complement, signed, signeds, formFrom}
 use Rattle.fields.specs.Fields.{front, note, unlessNote, fieldsFrom, fields}
 use Rattle.fields.specs.Header.{headerTag, known, agrees, headerField, header, finished}
-use Rattle.formula.specs.Formula.{formulaTagged, sizeOf, formulaOf, formulaField, formulaWithin, readFormula}
+use Rattle.formula.specs.Formula.{formulaTagged, formulaSize, formulaOf, formulaField, formulaWithin, readFormula}
 use Rattle.formula.specs.Test.{Tested, testFormula, tested, judged, judge}
 use Rattle.files.specs.Text.{ascii}
 use Rattle.files.proofs.Texts.{one-digit, refused-once}
@@ -31,7 +31,7 @@ truth-shown : {t : Tested} (b : Bool) → t ≡ record { answer = acceptance; ho
 truth-shown b e = subst (λ (t : Tested). Printed t (truthLine b)) (sym e) (record { if-accepted = λ _. refl; if-refused = λ (h : 1 ≤ 0). absurd (omega arith) })
 
 tests : (testFiles (even .f) (even .v) ≡ record { answer = acceptance; holds = true }) × (testFiles (odd .f) (odd .v) ≡ record { answer = acceptance; holds = false })
-unfolding editionNumbered sum value _>>=_ _>>_ need found each unsigned complement signed signeds formFrom front note unlessNote fieldsFrom fields headerTag known agrees headerField header finished formulaTagged sizeOf formulaOf formulaField formulaWithin readFormula testFormula tested judged judge valuesOf testFiles
+unfolding editionNumbered sum value _>>=_ _>>_ need found each unsigned complement signed signeds formFrom front note unlessNote fieldsFrom fields headerTag known agrees headerField header finished formulaTagged formulaSize formulaOf formulaField formulaWithin readFormula testFormula tested judged judge valuesOf testFiles
 tests = (refl, refl)
 
 pub shows-even : Printed (testFiles (even .f) (even .v)) (ascii (even .text))

@@ -32,7 +32,7 @@ use Rattle.bundle.specs.Bundle.{kindTagged, atMost, constraints, bundle, bundle
 use Rattle.bundle.specs.Read.{kindNumber, kindsOf, numbersOf, unread, store, stored, readBundle}
 use Rattle.bundle.specs.Write.{constraintsBytes, bundleBytes, writeBundle}
 use Rattle.bundle.specs.Show.{partOf, constraintPart, shownPart, answerOf, showAnswer, handed, showPart}
-use Rattle.formula.specs.Formula.{encode, formulaFile, formulaTagged, joined, sizeOf as formulaSize, formulaOf, formulaField, twoParts, formulaWithin, readFormula}
+use Rattle.formula.specs.Formula.{encode, formulaFile, formulaTagged, compound, formulaSize, formulaOf, formulaField, twoParts, formulaWithin, readFormula}
 use Rattle.formula.specs.Test.{holds, judge, tested, judged, testFormula}
 use Rattle.proof.specs.Entries.{entryTagged, inPlace, lineNumber, multiplier, sizeOf, entryFrom, entry}
 use Rattle.proof.specs.Rows.{is, fails, equals, sameForm, lineAt, derived, fitting, inequality, byNumber, byStride, states}
@@ -49,7 +49,7 @@ const CHECK: &str = "remainder coeff sum value sums _⊞_ _·_ _plus_ nonzero re
 const READ: &str = "over flat kindNumber kindsOf numbersOf unread store stored readBundle";
 const WRITE: &str = "each constraintsBytes bundleBytes writeBundle";
 const SHOW: &str = "nth partOf constraintPart shownPart answerOf showAnswer handed showPart";
-const TEST: &str = "each sum value finished formulaTagged joined formulaSize formulaOf formulaField twoParts formulaWithin readFormula holds judge tested judged testFormula";
+const TEST: &str = "each sum value finished formulaTagged compound formulaSize formulaOf formulaField twoParts formulaWithin readFormula holds judge tested judged testFormula";
 
 fn list(items: impl Iterator<Item = String>) -> String {
     let mut text = String::new();

@@ -48,6 +48,9 @@ store-constraints-requires c κs =
     let e : suc (c .before .before .before .before .before .before .before .before .before .before .args .k) ≡ c .before .before .before .before .before .before .before .before .before .before .args .k + 1 = omega arith in
     record { is = sym (c .before .before .before .before .before .before .before .count-constraints .ensures) ∙ c .before .before .before .before .before .count .given .1; kinds-fit = c .before .before .before .if1 .left; numbers-fit = rw e (c .before .before .if2 .left) }
 
+acceptance-requires : tie.Need-acceptance-requires
+acceptance-requires c κs = search needs
+
 enum-known-number : tie.Need-enum-known-number
 enum-known-number c = search needs
 
@@ -62,9 +65,9 @@ same-length-2 c = search needs
 
 returns-3 : tie.Need-returns-3
 returns-3 c =
-    let t = taken (shaped 1 none (fields (c .before .before .before .before .before .before .before .before .before .before .before .before .before .before .args .file .now))) (sym (scan-count (c .before .before .before .before .before .before .before .before .before .before .before .before .before .before .pre) refl 1 (c .before .before .before .before .before .before .before .before .before .before .before .count-constraints .ensures) (c .before .before .before .before .before .before .before .before .before .count .given .1))) refl in
-    let e = scan-bundle (c .before .before .before .before .before .before .before .before .before .before .before .before .before .before .pre) refl 1 (c .before .before .before .before .before .before .before .before .before .before .before .count-constraints .ensures) (c .before .before .before .before .before .before .before .before .before .count .given .1) in
-    read-stored _ _ t (c .before .before .before .before .before .before .before .if1 .left) (c .before .before .before .before .before .before .if2 .left) (rw e (c .before .before .before .store-constraints .ensures .0)) (rw e (c .before .before .before .store-constraints .ensures .1))
+    let t = taken (shaped 1 none (fields (c .before .before .before .before .before .before .before .before .before .before .before .before .before .before .before .args .file .now))) (sym (scan-count (c .before .before .before .before .before .before .before .before .before .before .before .before .before .before .before .pre) refl 1 (c .before .before .before .before .before .before .before .before .before .before .before .before .count-constraints .ensures) (c .before .before .before .before .before .before .before .before .before .before .count .given .1))) refl in
+    let e = scan-bundle (c .before .before .before .before .before .before .before .before .before .before .before .before .before .before .before .pre) refl 1 (c .before .before .before .before .before .before .before .before .before .before .before .before .count-constraints .ensures) (c .before .before .before .before .before .before .before .before .before .before .count .given .1) in
+    rw (c .acceptance .ensures) (read-stored _ _ t (c .before .before .before .before .before .before .before .before .if1 .left) (c .before .before .before .before .before .before .before .if2 .left) (rw e (c .before .before .before .before .store-constraints .ensures .0)) (rw e (c .before .before .before .before .store-constraints .ensures .1)))
 
 returns-4 : tie.Need-returns-4
 returns-4 c = read-unread _ _ (c .refused-read3 .ensures) ∙ sym (stored-refused _ _ (scan-fault (c .before .before .before .before .before .before .before .pre) refl 1 (c .before .before .before .before .count-constraints .ensures) (c .before .before .number .given .1)))
@@ -82,6 +85,7 @@ read-constraints-spec =
     refused-read-requires-2
     returns-2
     store-constraints-requires
+    acceptance-requires
     enum-known-number
     refused-read-requires-3
     same-length

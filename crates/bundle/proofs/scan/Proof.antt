@@ -18,6 +18,9 @@ count-constraints-requires c κs = search needs
 enum-known-count : tie.Need-enum-known-count
 enum-known-count c = search needs
 
+acceptance-requires : tie.Need-acceptance-requires
+acceptance-requires c κs = search needs
+
 enum-known-number : tie.Need-enum-known-number
 enum-known-number c = search needs
 
@@ -31,7 +34,7 @@ refused-scan-requires-2 : tie.Need-refused-scan-requires-2
 refused-scan-requires-2 c κs = search needs
 
 returns : tie.Need-returns
-returns c = sym (scan-count (c .before .before .before .before .before .before .before .read-header .ensures) (c .before .before .before .before .before .k .given .1) _ (c .before .before .before .count-constraints .ensures) (c .before .count .given .1))
+returns c = rw (c .acceptance .ensures) (sym (scan-count (c .before .before .before .before .before .before .before .before .read-header .ensures) (c .before .before .before .before .before .before .k .given .1) _ (c .before .before .before .before .count-constraints .ensures) (c .before .before .count .given .1)))
 
 returns-2 : tie.Need-returns-2
 returns-2 c = c .refused-scan .ensures ∙ sym (ap scanned (scan-fault (c .before .before .before .before .before .before .before .before .read-header .ensures) (c .before .before .before .before .before .before .k .given .1) _ (c .before .before .before .before .count-constraints .ensures) (c .before .before .number .given .1)))
@@ -47,6 +50,7 @@ scan-spec =
     enum-known-k
     count-constraints-requires
     enum-known-count
+    acceptance-requires
     enum-known-number
     refused-scan-requires
     enum-known-number-2

@@ -11,11 +11,14 @@ locate-requires c κs = search needs
 enum-told : tie.Need-enum-told
 enum-told c = search needs
 
+acceptance-requires : tie.Need-acceptance-requires
+acceptance-requires c κs = search needs
+
 enum-known-answer : tie.Need-enum-known-answer
 enum-known-answer c = search needs
 
 returns : tie.Need-returns
-returns c = record { is = sym (answer-part (c .before .before .locate .ensures) (c .enum-told .given .1)) }
+returns c = record { is = rw (c .acceptance .ensures) (sym (answer-part (c .before .before .before .locate .ensures) (c .before .enum-told .given .1))) }
 
 returns-2 : tie.Need-returns-2
 returns-2 c = record { is = sym (answer-nothing (c .before .before .before .locate .ensures) (c .before .answer .given .1)) }
@@ -26,6 +29,7 @@ show-answer-spec =
     (tie.spec
     locate-requires
     enum-told
+    acceptance-requires
     enum-known-answer
     returns
     returns-2)

@@ -3,7 +3,7 @@ use mathlib.Core.Path.{_∙_}
 use native.Mathlib.Omega.{arith}
 use Prim.Native.Nat.{_+_, _*_, _≤_}
 use native.Mathlib.Nat.{mul-le-mul}
-use Rattle.bundle.proofs.Writing.{bytes-give, granted, not-granted, write-refused, write-short, writable, write-all}
+use Rattle.bundle.proofs.Writing.{granted, not-granted, write-refused, write-short, write-all}
 use borrow.Author.Needs.{needs}
 use Rattle.bundle.proofs.write.Statement.{statement}
 use Rattle.bundle.proofs.write.Tie as tie
@@ -14,7 +14,7 @@ write-fault-requires c κs = search needs
 returns : tie.Need-returns
 returns c =
     let a = c .before .before .before .before .args in
-    write-refused _ _ _ _ (not-granted (bytes-give (a .k) (a .kinds .now) (a .numbers .now)) (c .before .write-fault .ensures) (c .if1 .taken))
+    write-refused _ _ _ _ (not-granted (a .k) (a .kinds .now) (a .numbers .now) (c .before .write-fault .ensures) (c .if1 .taken))
 
 add-needed : tie.Need-add-needed
 add-needed c = search needs
@@ -28,22 +28,25 @@ add-needed-2 c = search needs
 mul-needed-2 : tie.Need-mul-needed-2
 mul-needed-2 c =
     let a = c .before .before .before .before .args in
-    let t = granted (bytes-give (a .k) (a .kinds .now) (a .numbers .now)) (c .before .write-fault .ensures) (c .if1 .left) in
-    let k : 3 + (a .k + 1) * 2 ≤ 37 = omega (arith, t .ready .high) in
-    record { fits = omega (arith, mul-le-mul (t .ready .few) k) }
+    let t = granted (a .k) (a .kinds .now) (a .numbers .now) (c .before .write-fault .ensures) (c .if1 .left) in
+    let k : 3 + (a .k + 1) * 2 ≤ 37 = omega (arith, t .order .high) in
+    record { fits = omega (arith, mul-le-mul (t .order .few) k) }
 
 add-needed-3 : tie.Need-add-needed-3
 add-needed-3 c =
     let a = c .before .before .before .before .args in
-    let t = granted (bytes-give (a .k) (a .kinds .now) (a .numbers .now)) (c .before .write-fault .ensures) (c .if1 .left) in
-    let k : 3 + (a .k + 1) * 2 ≤ 37 = omega (arith, t .ready .high) in
-    record { fits = omega (arith, mul-le-mul (t .ready .few) k) }
+    let t = granted (a .k) (a .kinds .now) (a .numbers .now) (c .before .write-fault .ensures) (c .if1 .left) in
+    let k : 3 + (a .k + 1) * 2 ≤ 37 = omega (arith, t .order .high) in
+    record { fits = omega (arith, mul-le-mul (t .order .few) k) }
+
+refusal-requires : tie.Need-refusal-requires
+refusal-requires c κs = search needs
 
 returns-2 : tie.Need-returns-2
 returns-2 c =
-    let a = c .before .before .before .before .before .args in
-    let t = granted (bytes-give (a .k) (a .kinds .now) (a .numbers .now)) (c .before .before .write-fault .ensures) (c .before .if1 .left) in
-    write-short _ _ _ _ t (c .if2 .taken)
+    let a = c .before .before .before .before .before .before .args in
+    let t = granted (a .k) (a .kinds .now) (a .numbers .now) (c .before .before .before .write-fault .ensures) (c .before .before .if1 .left) in
+    rw (c .refusal .ensures) (write-short _ _ _ _ t (c .before .if2 .taken))
 
 put-header-requires : tie.Need-put-header-requires
 put-header-requires c κs = omega arith
@@ -51,8 +54,8 @@ put-header-requires c κs = omega arith
 put-constraints-requires : tie.Need-put-constraints-requires
 put-constraints-requires c κs =
     let a = c .before .before .before .before .before .before .before .before .before .before .args in
-    let t = granted (bytes-give (a .k) (a .kinds .now) (a .numbers .now)) (c .before .before .before .before .before .before .before .write-fault .ensures) (c .before .before .before .before .before .before .if1 .left) in
-    writable _ _ _ (a .out .now) t (c .before .before .before .before .before .if2 .left) (c .before .before .before .put-header .kept .0)
+    let t = granted (a .k) (a .kinds .now) (a .numbers .now) (c .before .before .before .before .before .before .before .write-fault .ensures) (c .before .before .before .before .before .before .if1 .left) in
+    (t .order, omega (arith, c .before .before .before .put-header .kept .0))
 
 same-length : tie.Need-same-length
 same-length c = c .before .before .put-constraints .kept .0 ∙ c .before .before .before .before .before .before .put-header .kept .0
@@ -60,7 +63,7 @@ same-length c = c .before .before .put-constraints .kept .0 ∙ c .before .befor
 returns-3 : tie.Need-returns-3
 returns-3 c =
     let a = c .before .before .before .before .before .before .before .before .before .before .before .before .before .args in
-    let t = granted (bytes-give (a .k) (a .kinds .now) (a .numbers .now)) (c .before .before .before .before .before .before .before .before .before .before .write-fault .ensures) (c .before .before .before .before .before .before .before .before .before .if1 .left) in
+    let t = granted (a .k) (a .kinds .now) (a .numbers .now) (c .before .before .before .before .before .before .before .before .before .before .write-fault .ensures) (c .before .before .before .before .before .before .before .before .before .if1 .left) in
     write-all _ _ _ _ t (c .before .before .before .before .before .before .before .before .if2 .left) (c .before .before .before .before .before .before .put-header .ensures) (c .before .before .put-constraints .ensures)
 
 pub write-spec : {M : Type 1} → statement M
@@ -74,6 +77,7 @@ write-spec =
     add-needed-2
     mul-needed-2
     add-needed-3
+    refusal-requires
     returns-2
     put-header-requires
     put-constraints-requires

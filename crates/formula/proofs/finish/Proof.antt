@@ -10,6 +10,9 @@ ending-at-requires c κs = search needs
 enum-told : tie.Need-enum-told
 enum-told c = search needs
 
+acceptance-requires : tie.Need-acceptance-requires
+acceptance-requires c κs = search needs
+
 enum-known-number : tie.Need-enum-known-number
 enum-known-number c = search needs
 
@@ -17,7 +20,7 @@ refuse-requires : tie.Need-refuse-requires
 refuse-requires c κs = search needs
 
 returns : tie.Need-returns
-returns c = finish-ended _ (c .before .before .ending-at .ensures) (c .enum-told .given .1)
+returns c = rw (c .acceptance .ensures) (finish-ended _ (c .before .before .before .ending-at .ensures) (c .before .enum-told .given .1))
 
 returns-2 : tie.Need-returns-2
 returns-2 c = finish-fault _ (c .before .before .before .before .ending-at .ensures) (c .before .before .number .given .1) (c .refuse .ensures)
@@ -25,4 +28,11 @@ returns-2 c = finish-fault _ (c .before .before .before .before .ending-at .ensu
 pub finish-spec : {M : Type 1} → statement M
 finish-spec =
     tie.close
-    (tie.spec ending-at-requires enum-told enum-known-number refuse-requires returns returns-2)
+    (tie.spec
+    ending-at-requires
+    enum-told
+    acceptance-requires
+    enum-known-number
+    refuse-requires
+    returns
+    returns-2)

@@ -1,7 +1,9 @@
 -- `bundle::put::put_constraints` meets its contract. The invariant `Putting`: what is left to write gives what the whole gives. Assumes nothing.
 use Prim.Native.Nat.{_-_}
 use native.Mathlib.Omega.{arith}
+use lib.Dec.{leb→le}
 use lib.ListN.{length}
+use Rattle.bundle.proofs.Writable.{all-getD}
 use Rattle.bundle.proofs.Putting.{Putting, putting-start, putting-next, putting-done, numbers-left, out-left}
 use borrow.Author.Needs.{needs}
 use Rattle.bundle.proofs.put.put_constraints.Statement.{statement}
@@ -29,7 +31,7 @@ shared-slice-read-kind : tie.Need-shared-slice-read-kind Inv-loop μ-loop
 shared-slice-read-kind c = c .before .loop-test .taken
 
 put-constraint-requires : tie.Need-put-constraint-requires Inv-loop μ-loop
-put-constraint-requires c κs = (c .before .before .before .loop .inv .can .kinds-are _ (c .before .before .loop-test .taken), (out-left (c .before .before .before .loop .inv) (c .before .before .loop-test .taken), numbers-left (c .before .before .before .loop .inv) (c .before .before .loop-test .taken)))
+put-constraint-requires c κs = (leb→le _ 1 (all-getD _ 0 (c .before .before .before .loop .inv .order .binary) (c .before .before .loop-test .taken)), (out-left (c .before .before .before .loop .inv) (c .before .before .loop-test .taken), numbers-left (c .before .before .before .loop .inv) (c .before .before .loop-test .taken)))
 
 add-here : tie.Need-add-here Inv-loop μ-loop
 add-here c = omega (arith, out-left (c .before .before .before .before .before .before .loop .inv) (c .before .before .before .before .before .loop-test .taken), c .before .before .before .before .before .before .loop .inv .long)

@@ -4,7 +4,7 @@ use Prim.Native.Nat.{_+_, _*_, _-_}
 use native.Mathlib.Omega.{arith}
 use lib.ListN.{length}
 use Rattle.fields.proofs.Places.{lenAt, took-less}
-use Rattle.bundle.proofs.Storing.{Storing, storing-start, storing-whole, storing-starts, storing-note, room, storing-next, storing-done}
+use Rattle.bundle.proofs.Storing.{Storing, storing-start, storing-whole, next-is, not-broken, not-end, storing-starts, storing-note, room, storing-next, storing-done}
 use borrow.Author.Needs.{needs}
 use Rattle.bundle.proofs.store.store_constraints.Statement.{statement}
 use Rattle.bundle.proofs.store.store_constraints.Tie as tie
@@ -87,23 +87,56 @@ loop-again c =
     let e : here + (3 + (K + 1) * 2) ≡ here + 3 + lenAt (c .before .before .before .before .before .before .before .before .before .args .s .now) here = omega (arith, r .size) in
     rw e (storing-next k (c .before .before .before .before .before .before .loop .inv) (c .before .store-numbers .ensures))
 
-after-note-requires : tie.Need-after-note-requires Inv-loop μ-loop
-after-note-requires c κs = storing-whole (c .before .before .before .loop .inv) (c .before .before .loop-test .taken) .upto
+field-at-requires : tie.Need-field-at-requires Inv-loop μ-loop
+field-at-requires c κs = search needs
+
+enum-known-next : tie.Need-enum-known-next Inv-loop μ-loop
+enum-known-next c = search needs
 
 loop-less-2 : tie.Need-loop-less-2 Inv-loop μ-loop
-loop-less-2 c = omega (arith, c .after-note .ensures, took-less (storing-whole (c .before .before .before .before .loop .inv) (c .before .before .before .loop-test .taken)))
+loop-less-2 c =
+    let v = c .before .before .before .before .before .before .before .loop .inv in
+    let h = c .before .before .before .before .before .before .loop-test .taken in
+    omega (arith, next-is v h (c .before .before .before .field-at .ensures) (c .before .next .given .1), took-less (storing-whole v h))
 
 loop-again-2 : tie.Need-loop-again-2 Inv-loop μ-loop
-loop-again-2 c = rw (c .after-note .ensures) (storing-note (c .before .before .before .before .loop .inv) (c .before .before .before .loop-test .taken) (c .before .if1 .left))
+loop-again-2 c =
+    let v = c .before .before .before .before .before .before .before .loop .inv in
+    let h = c .before .before .before .before .before .before .loop-test .taken in
+    rw (next-is v h (c .before .before .before .field-at .ensures) (c .before .next .given .1)) (storing-note v h (c .before .before .before .before .if1 .left))
+
+enum-told : tie.Need-enum-told Inv-loop μ-loop
+enum-told c = search needs
 
 same-length : tie.Need-same-length Inv-loop μ-loop
-same-length c = c .before .loop .inv .kinds-long
+same-length c = c .before .before .before .before .before .before .loop .inv .kinds-long
 
 same-length-2 : tie.Need-same-length-2 Inv-loop μ-loop
-same-length-2 c = c .before .loop .inv .numbers-long
+same-length-2 c = c .before .before .before .before .before .before .loop .inv .numbers-long
 
 returns : tie.Need-returns Inv-loop μ-loop
-returns c = storing-done (c .before .loop .inv) (c .loop-test .left)
+returns c = absurd (not-broken (c .before .before .before .before .before .before .loop .inv) (c .before .before .before .before .before .loop-test .taken) (c .before .before .field-at .ensures) (c .enum-told .given .1))
+
+enum-told-2 : tie.Need-enum-told-2 Inv-loop μ-loop
+enum-told-2 c = search needs
+
+same-length-3 : tie.Need-same-length-3 Inv-loop μ-loop
+same-length-3 c = c .before .before .before .before .before .before .loop .inv .kinds-long
+
+same-length-4 : tie.Need-same-length-4 Inv-loop μ-loop
+same-length-4 c = c .before .before .before .before .before .before .loop .inv .numbers-long
+
+returns-2 : tie.Need-returns-2 Inv-loop μ-loop
+returns-2 c = absurd (not-end (c .before .before .before .before .before .before .loop .inv) (c .before .before .before .before .before .loop-test .taken) (c .before .before .field-at .ensures) (c .enum-told2 .given .1))
+
+same-length-5 : tie.Need-same-length-5 Inv-loop μ-loop
+same-length-5 c = c .before .loop .inv .kinds-long
+
+same-length-6 : tie.Need-same-length-6 Inv-loop μ-loop
+same-length-6 c = c .before .loop .inv .numbers-long
+
+returns-3 : tie.Need-returns-3 Inv-loop μ-loop
+returns-3 c = storing-done (c .before .loop .inv) (c .loop-test .left)
 
 pub store-constraints-spec : {M : Type 1} → statement M
 store-constraints-spec =
@@ -125,9 +158,18 @@ store-constraints-spec =
     add-here
     loop-less
     loop-again
-    after-note-requires
+    field-at-requires
+    enum-known-next
     loop-less-2
     loop-again-2
+    enum-told
     same-length
     same-length-2
-    returns)
+    returns
+    enum-told-2
+    same-length-3
+    same-length-4
+    returns-2
+    same-length-5
+    same-length-6
+    returns-3)
