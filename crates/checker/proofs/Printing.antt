@@ -6,12 +6,11 @@ use mathlib.Core.List.{List, [], _∷_, _++_}
 use native.Mathlib.Omega.{arith}
 use lib.ListN.{length, take, drop, length-append, length-take}
 use lib.Dec.{leb}
-use Rattle.fields.specs.Answers.{Result, refused, accepted, Written, over, fit, written}
+use Rattle.fields.specs.Answers.{Result, refused, accepted, Written, writtenOf, over, fit, written}
 use Rattle.files.specs.Text.{Put, PutNumber, PutRefused, RefusedLine, ascii, hexOf}
 use Rattle.files.proofs.Texts.{both, uncut}
 use Rattle.proof.specs.Check.{check}
-use Rattle.checking.specs.declared.check.Checked.{Checked}
-use Rattle.checking.specs.Promises.{writtenOf}
+use Rattle.fields.specs.declared.WriteResult.{WriteResult}
 use Rattle.checker.specs.Said.{AcceptedLines, Printed, PutAccepted, Room}
 
 -- ---- the bytes written are there
@@ -29,7 +28,7 @@ check-counts : (A B P out : List ℕ) → check A B P out .count ≤ length (che
 unfolding check
 check-counts A B P out = written-counts _ out
 
-pub counted : (A B P out : List ℕ) (c : Checked) (out₁ : List ℕ) → writtenOf c out₁ ≡ check A B P out → c .count ≤ length out₁
+pub counted : (A B P out : List ℕ) (c : WriteResult) (out₁ : List ℕ) → writtenOf c out₁ ≡ check A B P out → c .count ≤ length out₁
 counted A B P out c out₁ is = subst (λ (w : Written). w .count ≤ length (w .output)) (sym is) (check-counts A B P out)
 
 -- ---- the lines of an acceptance
@@ -49,7 +48,7 @@ accepted-put bytes n e h l =
     }
 
 -- ---- what is printed
-module _ (c : Checked) (out out₁ : List ℕ) {w : Written} {was text : List ℕ} {r : ℕ} (is : writtenOf c out₁ ≡ w) (room : Room out was) where
+module _ (c : WriteResult) (out out₁ : List ℕ) {w : Written} {was text : List ℕ} {r : ℕ} (is : writtenOf c out₁ ≡ w) (room : Room out was) where
   pub prints-refusal : 0 < c .answer .number → PutRefused was (c .answer .number) (c .answer .file) (c .answer .place) text r → Printed w (take r text)
   prints-refusal h p =
       let s : RefusedLine (c .answer .number) (c .answer .file) (c .answer .place) (take r text)

@@ -14,10 +14,10 @@ use Rattle.fields.proofs.Headers.{length-headerBytes}
 use Rattle.lines.proofs.Fill.{Filled, filled-length, filled-next}
 use Rattle.fields.specs.Ending.{IsEnding}
 use Rattle.checking.specs.Whole.{Delivers, Finishes, Ended}
-use Rattle.checking.specs.declared.check.Checked.{Checked}
+use Rattle.fields.specs.declared.WriteResult.{WriteResult}
 use Rattle.fields.specs.declared.ending.Ending.{Ending}
 
-abbrev pub unwritten : (number file place : ℕ) → Checked
+abbrev pub unwritten : (number file place : ℕ) → WriteResult
 unwritten number file place = record { answer = answer number file place; count = 0 }
 
 -- ---- the output
@@ -47,15 +47,15 @@ unfolding written fit
 fit-done bytes out n e h = ap (λ (b : Bool). fit out b bytes) (le-leb (length bytes) (length out) (omega arith)) ∙ ap (done bytes out) e
 
 module _ {K : ℕ} {S : List ℕ} {o : ℕ} {out : List ℕ} (room : o ≤ length S) where
-  pub deliver-short : {r : Checked} → length out < 8 + o → r ≡ unwritten 21 4 (8 + o) → Delivers K S o out out r
+  pub deliver-short : {r : WriteResult} → length out < 8 + o → r ≡ unwritten 21 4 (8 + o) → Delivers K S o out out r
   deliver-short h e = record { is = rw e (sym (fit-short (headerBytes K ++ take o S) out (8 + o) (size K S o room) h)) }
 
-  pub deliver-done : {out₁ out₂ : List ℕ} → 8 + o ≤ length out → out₁ ≡ sets out 0 (headerBytes K) → out₂ ≡ paste out₁ 8 (take o S) o
-      → Delivers K S o out out₂ (record { answer = answer 0 0 0; count = 8 + o })
-  deliver-done {out₁} {out₂} h p q =
+  pub deliver-done : {out₁ out₂ : List ℕ} {x : Answer} → 8 + o ≤ length out → out₁ ≡ sets out 0 (headerBytes K) → out₂ ≡ paste out₁ 8 (take o S) o → x ≡ acceptance
+      → Delivers K S o out out₂ (record { answer = x; count = 8 + o })
+  deliver-done {out₁} {out₂} h p q e =
       let w : out₂ ≡ over (headerBytes K ++ take o S) out
       = q ∙ ap (λ (x : List ℕ). paste x 8 (take o S) o) p ∙ delivered (headerBytes K) (take o S) out 8 o (length-headerBytes K) (length-take-le o S room) h in
-      record { is = rw w (sym (fit-done (headerBytes K ++ take o S) out (8 + o) (size K S o room) h)) }
+      record { is = rw (e, w) (sym (fit-done (headerBytes K ++ take o S) out (8 + o) (size K S o room) h)) }
 
 -- ---- a copy
 module _ {to₀ : List ℕ} {at : ℕ} (n : ℕ) (from : List ℕ) {to : List ℕ} {i : ℕ} (hf : n ≤ length from) (ht : at + n ≤ length to₀) (v : Filled to₀ at (take n from) to i) where
@@ -75,11 +75,11 @@ module _ {to₀ : List ℕ} {at : ℕ} (n : ℕ) (from : List ℕ) {to : List �
 
 -- ---- what follows the root
 module _ {P : List ℕ} {at : ℕ} {e : Ending} (k : IsEnding FileKind.Proof P at e) {K : ℕ} {S : List ℕ} {o : ℕ} {out : List ℕ} where
-  pub finish-fault : {number place : ℕ} {r : Checked} → e ≡ Ending.Fault number place → r ≡ unwritten number 3 place → Finishes K P at S o out out r
+  pub finish-fault : {number place : ℕ} {r : WriteResult} → e ≡ Ending.Fault number place → r ≡ unwritten number 3 place → Finishes K P at S o out out r
   unfolding _>>_ written
   finish-fault q f = record { is = rw (k .is 3, q, f) }
 
-  pub finish-ended : {out′ : List ℕ} {r : Checked} → e ≡ Ending.Ended → Delivers K S o out out′ r → Finishes K P at S o out out′ r
+  pub finish-ended : {out′ : List ℕ} {r : WriteResult} → e ≡ Ending.Ended → Delivers K S o out out′ r → Finishes K P at S o out out′ r
   unfolding _>>_
   finish-ended q l = record { is = rw (k .is 3, q) (l .is) }
 

@@ -13,13 +13,13 @@ use Rattle.rows.specs.declared.tally.Tally.{Tally}
 use Rattle.branches.specs.Branching.{Closes, Branches}
 use Rattle.branches.specs.declared.branch.Branched.{Branched}
 use Rattle.checking.specs.Whole.{Finishes, Roots, Fits, Enough, Ended}
-use Rattle.checking.specs.declared.check.Checked.{Checked}
+use Rattle.fields.specs.declared.WriteResult.{WriteResult}
 use Rattle.checking.proofs.Delivering.{unwritten}
 use Rattle.checking.proofs.Stages.{root-fault, root-ended, root-closed}
 
 module _ {K : ℕ} {P : List ℕ} {at n rows : ℕ} {kinds kinds′ : List ℕ} {buf buf′ : List ℤ} {S S′ : List ℕ} {x : Branched}
     (b : Branches K P at kinds buf (tally rows n 0) S 0 kinds′ buf′ S′ x) (none : rows ≡ 0) where
-  pub by-fault : {number place : ℕ} {out : List ℕ} {r : Checked} → x ≡ Branched.Fault number place → r ≡ unwritten number 3 place
+  pub by-fault : {number place : ℕ} {out : List ℕ} {r : WriteResult} → x ≡ Branched.Fault number place → r ≡ unwritten number 3 place
       → Roots K (linesIn K kinds buf n) P at out out r
   by-fault e q = root-fault (rw (e, none) at (b .by)) q
 
@@ -30,5 +30,5 @@ module _ {K : ℕ} {P : List ℕ} {at n rows : ℕ} {kinds kinds′ : List ℕ} 
     pub by-closed-ended : Ended P end o S′
     by-closed-ended = root-ended t (record { formula = c .formula; rows = t′ .rows .0; after = fieldsAt P end }) (c .is) end o refl (omega (arith, c .o-is)) S len (omega (arith, c .within)) (λ h. c .stored (omega arith))
 
-    pub by-closed : {out out′ : List ℕ} {r : Checked} → Finishes K P end S′ o out out′ r → Roots K (linesIn K kinds buf n) P at out out′ r
+    pub by-closed : {out out′ : List ℕ} {r : WriteResult} → Finishes K P end S′ o out out′ r → Roots K (linesIn K kinds buf n) P at out out′ r
     by-closed l = root-closed t (record { formula = c .formula; rows = t′ .rows .0; after = fieldsAt P end }) (c .is) end o refl (omega (arith, c .o-is)) S len (omega (arith, c .within)) (λ h. c .stored (omega arith)) l

@@ -33,14 +33,14 @@ use Rattle.branches.specs.Room.{fieldsLeft, Spare}
 use Rattle.branches.specs.Branching.{Started}
 use Rattle.checking.specs.Whole.{Short, Both, Holding, Prepared, Begun, finishing, rooted, Finishes, Roots, Fits, Enough, Ended}
 use Rattle.checking.specs.Promises.{Checks}
-use Rattle.checking.specs.declared.check.Checked.{Checked}
+use Rattle.fields.specs.declared.WriteResult.{WriteResult}
 use Rattle.checking.proofs.Delivering.{unwritten}
 use Rattle.checking.proofs.Counting.{fields-few}
 use Rattle.checking.proofs.Preparing.{few}
 use Rattle.fields.proofs.Headers.{given-some}
 use Rattle.proof.proofs.Agree.{agreed}
 
-pub checks-refused : {A B P out : List ℕ} {number file place : ℕ} {r : Checked} → interpolant A B P ≡ refused (answer number file place) → r ≡ unwritten number file place
+pub checks-refused : {A B P out : List ℕ} {number file place : ℕ} {r : WriteResult} → interpolant A B P ≡ refused (answer number file place) → r ≡ unwritten number file place
     → Checks A B P out out r
 unfolding check written _>>=_
 checks-refused e q = record { is = rw (e, q) }
@@ -146,7 +146,7 @@ module _ {A B P : List ℕ} {K m n at : ℕ} (g : Begun A B P K m n at) {kinds :
       ap (λ (x : Result Closing). x >>= λ c. finishing K (c .after) (encode edition1 (c .formula))) same-root
       ∙ sym (ap (λ (x : Result (ℕ × Formula)). x >>= λ (k, I). accepted (formulaFile edition1 k I)) (begun-is g) ∙ then-bytes K (root g))
 
-  pub checks-root : {out out′ : List ℕ} {r : Checked} → Roots K (linesIn K kinds buf (m + n)) P at out out′ r → Checks A B P out out′ r
+  pub checks-root : {out out′ : List ℕ} {r : WriteResult} → Roots K (linesIn K kinds buf (m + n)) P at out out′ r → Checks A B P out out′ r
   unfolding check
   checks-root {out} l = record { is = l .is ∙ ap (λ (R : Result (List ℕ)). written R out) same-bytes }
 
@@ -165,7 +165,7 @@ module _ {A B P : List ℕ} {K m n at : ℕ} (g : Begun A B P K m n at) {kinds :
 
 -- ---- each way from the root
 module _ {K : ℕ} {ls : List Line} {P : List ℕ} {at : ℕ} where
-  pub root-fault : {out : List ℕ} {number place : ℕ} {r : Checked} → checkBranch edition1 K 32 0 ls (fieldsAt P at) ≡ refused (answer number 3 place) → r ≡ unwritten number 3 place
+  pub root-fault : {out : List ℕ} {number place : ℕ} {r : WriteResult} → checkBranch edition1 K 32 0 ls (fieldsAt P at) ≡ refused (answer number 3 place) → r ≡ unwritten number 3 place
       → Roots K ls P at out out r
   unfolding _>>=_ written
   root-fault e q = record { is = rw (e, q) }
@@ -196,7 +196,7 @@ module _ {K : ℕ} {ls : List Line} {P : List ℕ} {at : ℕ} where
     unfolding _>>=_
     rooted-is = same-end (finished FileKind.Proof fileProof (fieldsAt P end)) refl ∙ rw (e, after)
 
-    pub root-closed : {out out′ : List ℕ} {r : Checked} → Finishes K P end S′ o out out′ r → Roots K ls P at out out′ r
+    pub root-closed : {out out′ : List ℕ} {r : WriteResult} → Finishes K P end S′ o out out′ r → Roots K ls P at out out′ r
     root-closed {out} l = record { is = l .is ∙ ap (λ (R : Result (List ℕ)). written R out) rooted-is }
 
 -- ---- what the scans and the header tell

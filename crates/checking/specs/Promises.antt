@@ -2,14 +2,10 @@
 use mathlib.Core.Path.{_≡_}
 use mathlib.Core.List.{List}
 use Prim.Native.Nat.{ℕ}
-use Rattle.fields.specs.Answers.{Written}
+use Rattle.fields.specs.Answers.{writtenOf}
 use Rattle.proof.specs.Check.{check}
-use Rattle.checking.specs.declared.check.Checked.{Checked}
-
--- The code's struct, with the output afterwards, as what an operation that writes bytes leaves.
-abbrev pub writtenOf : Checked → List ℕ → Written
-writtenOf r left = record { answer = r .answer; count = r .count; output = left }
+use Rattle.fields.specs.declared.WriteResult.{WriteResult}
 
 -- It returns r, and the lent output is `left` afterwards.
-pub record Checks (A B proof output left : List ℕ) (r : Checked) : Type 0 where
+pub record Checks (A B proof output left : List ℕ) (r : WriteResult) : Type 0 where
   pub is : writtenOf r left ≡ check A B proof output

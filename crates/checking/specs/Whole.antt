@@ -8,7 +8,7 @@ use lib.ListN.{length, take}
 use Rattle.forms.specs.Edition.{edition1}
 use Rattle.forms.specs.Forms.{Line, lines}
 use Rattle.fields.specs.declared.FileKind.{FileKind}
-use Rattle.fields.specs.Answers.{fileA, fileB, fileProof, Result, accepted, _>>=_, _>>_, written}
+use Rattle.fields.specs.Answers.{fileA, fileB, fileProof, Result, accepted, _>>=_, _>>_, writtenOf, written}
 use Rattle.fields.specs.Fields.{Fields, fields}
 use Rattle.fields.specs.Header.{header, finished, headerBytes}
 use Rattle.fields.specs.Places.{fieldsAt}
@@ -17,9 +17,8 @@ use Rattle.formula.specs.Formula.{encode}
 use Rattle.lines.specs.Buffer.{linesIn, Bounded}
 use Rattle.proof.specs.Check.{Closing, checkBranch}
 use Rattle.branches.specs.Room.{fieldsLeft}
-use Rattle.checking.specs.Promises.{writtenOf}
 use Rattle.checking.specs.Load.{Space}
-use Rattle.checking.specs.declared.check.Checked.{Checked}
+use Rattle.fields.specs.declared.WriteResult.{WriteResult}
 
 -- No file is too long.
 pub record Short (A B P : List ℕ) : Type 0 where
@@ -66,13 +65,13 @@ abbrev pub rooted : (K : ℕ) → List Line → Fields → Result (List ℕ)
 rooted K ls fs = checkBranch edition1 K (edition1 .strengthens) 0 ls fs >>= λ c. finishing K (c .after) (encode edition1 (c .formula))
 
 -- The answer, the count and the output, from each of these places on.
-pub record Delivers (K : ℕ) (scratch : List ℕ) (o : ℕ) (out out′ : List ℕ) (r : Checked) : Type 0 where
+pub record Delivers (K : ℕ) (scratch : List ℕ) (o : ℕ) (out out′ : List ℕ) (r : WriteResult) : Type 0 where
   pub is : writtenOf r out′ ≡ written (accepted (headerBytes K ++ take o scratch)) out
 
-pub record Finishes (K : ℕ) (P : List ℕ) (at : ℕ) (scratch : List ℕ) (o : ℕ) (out out′ : List ℕ) (r : Checked) : Type 0 where
+pub record Finishes (K : ℕ) (P : List ℕ) (at : ℕ) (scratch : List ℕ) (o : ℕ) (out out′ : List ℕ) (r : WriteResult) : Type 0 where
   pub is : writtenOf r out′ ≡ written (finishing K (fieldsAt P at) (take o scratch)) out
 
-pub record Roots (K : ℕ) (ls : List Line) (P : List ℕ) (at : ℕ) (out out′ : List ℕ) (r : Checked) : Type 0 where
+pub record Roots (K : ℕ) (ls : List Line) (P : List ℕ) (at : ℕ) (out out′ : List ℕ) (r : WriteResult) : Type 0 where
   pub is : writtenOf r out′ ≡ written (rooted K ls (fieldsAt P at)) out
 
 -- A formula that the check accepts has 65,536 bytes at most.

@@ -4,8 +4,9 @@ use branches::branch::Branched;
 use branches::branch::check_branch;
 use bundle::Line;
 use bundle::scan;
-use fields::Answer;
 use fields::FileKind;
+use fields::WriteResult;
+use fields::answers;
 use fields::ending::Ending;
 use fields::ending::ending_at;
 use fields::header::Headed;
@@ -28,24 +29,11 @@ ghost use Rattle.checking.specs.Promises.{Checks};
 ghost use Rattle.checking.specs.Load.{Space};
 ghost use Rattle.checking.specs.Whole.{Short, Both, Prepared, Begun, Ended, Delivers, Finishes, Roots, Fits, Enough};
 
-// What checking answers: the bytes written, 0 where it is refused.
-#[repr(C)]
-pub struct Checked {
-    pub answer: Answer,
-    pub count: usize,
-}
-
-fn refusal(number: u8, file: u8, place: usize) -> Checked
+fn refusal(number: u8, file: u8, place: usize) -> WriteResult
     ensures { λ r. ⌜ r ≡ record { answer = answer number file place; count = 0 } ⌝ }
 {
-    Checked {
-        answer: Answer {
-            number,
-            file,
-            place,
-        },
-        count: 0,
-    }
+    let answer = answers::refusal(number, file, place);
+    WriteResult { answer, count: 0 }
 }
 
 // The n first bytes of from, behind the at first of to.
@@ -62,7 +50,7 @@ fn copy_bytes(from: &[u8], n: usize, to: &mut [u8], at: usize)
 }
 
 // The two header fields and the o first bytes of the scratch, if the output has room for them. 21.
-fn deliver(scratch: &[u8], o: usize, k: u8, out: &mut [u8]) -> Checked
+fn deliver(scratch: &[u8], o: usize, k: u8, out: &mut [u8]) -> WriteResult
     requires { ⌜ o ≤ length (now scratch) ⌝ }
     ensures { λ r. ⌜ Delivers k (now (scratch .entry)) o (now (out .entry)) (now (out .exit)) r ⌝ }
 {
@@ -72,18 +60,15 @@ fn deliver(scratch: &[u8], o: usize, k: u8, out: &mut [u8]) -> Checked
     }
     put_header(out, k);
     copy_bytes(scratch, o, out, 8);
-    Checked {
-        answer: Answer {
-            number: 0,
-            file: 0,
-            place: 0,
-        },
+    let answer = answers::acceptance();
+    WriteResult {
+        answer,
         count: needed,
     }
 }
 
 // What follows the root, and then the output. 2, 3, 19, 21.
-fn finish(proof: &[u8], at: usize, scratch: &[u8], o: usize, k: u8, out: &mut [u8]) -> Checked
+fn finish(proof: &[u8], at: usize, scratch: &[u8], o: usize, k: u8, out: &mut [u8]) -> WriteResult
     requires { ⌜ Ended (now proof) at o (now scratch) ⌝ }
     ensures { λ r. ⌜ Finishes k (now (proof .entry)) at (now (scratch .entry)) o (now (out .entry)) (now (out .exit)) r ⌝ }
 {
@@ -113,7 +98,7 @@ fn check_root(
     kinds: &mut [u8],
     scratch: &mut [u8],
     out: &mut [u8],
-) -> Checked
+) -> WriteResult
     requires { ⌜ Started k (now kinds) (now lines) (tally 0 count 0) (now proof) at 0 ⌝ }
     requires { ⌜ Fits k (linesIn k (now kinds) (now lines) count) (now proof) at ⌝ }
     requires { ⌜ Enough (now proof) at (now scratch) ⌝ }
@@ -148,7 +133,7 @@ fn check_within(
     lines: &mut [i64],
     scratch: &mut [u8],
     out: &mut [u8],
-) -> Checked
+) -> WriteResult
     requires { ⌜ Begun (now a) (now b) (now proof) k m n at ⌝ }
     requires { ⌜ Spare k (m + n + fieldsLeft (now proof) at) (now lines) ⌝ }
     requires { ⌜ Enough (now proof) at (now scratch) ⌝ }
@@ -170,7 +155,7 @@ fn check_13(
     m: usize,
     n: usize,
     out: &mut [u8],
-) -> Checked
+) -> WriteResult
     requires { ⌜ Begun (now a) (now b) (now proof) k m n at ⌝ }
     requires { ⌜ fieldsLeft (now proof) at ≤ 13 ⌝ }
     requires { ⌜ (m + n + fieldsLeft (now proof) at + 1) * size k ≤ 256 ⌝ }
@@ -191,7 +176,7 @@ fn check_32(
     m: usize,
     n: usize,
     out: &mut [u8],
-) -> Checked
+) -> WriteResult
     requires { ⌜ Begun (now a) (now b) (now proof) k m n at ⌝ }
     requires { ⌜ fieldsLeft (now proof) at ≤ 32 ⌝ }
     requires { ⌜ (m + n + fieldsLeft (now proof) at + 1) * size k ≤ 1190 ⌝ }
@@ -212,7 +197,7 @@ fn check_70(
     m: usize,
     n: usize,
     out: &mut [u8],
-) -> Checked
+) -> WriteResult
     requires { ⌜ Begun (now a) (now b) (now proof) k m n at ⌝ }
     requires { ⌜ fieldsLeft (now proof) at ≤ 70 ⌝ }
     requires { ⌜ (m + n + fieldsLeft (now proof) at + 1) * size k ≤ 2380 ⌝ }
@@ -233,7 +218,7 @@ fn check_262(
     m: usize,
     n: usize,
     out: &mut [u8],
-) -> Checked
+) -> WriteResult
     requires { ⌜ Begun (now a) (now b) (now proof) k m n at ⌝ }
     requires { ⌜ fieldsLeft (now proof) at ≤ 262 ⌝ }
     ensures { λ r. ⌜ Checks (now (a .entry)) (now (b .entry)) (now (proof .entry)) (now (out .entry)) (now (out .exit)) r ⌝ }
@@ -253,7 +238,7 @@ fn check_525(
     m: usize,
     n: usize,
     out: &mut [u8],
-) -> Checked
+) -> WriteResult
     requires { ⌜ Begun (now a) (now b) (now proof) k m n at ⌝ }
     requires { ⌜ fieldsLeft (now proof) at ≤ 525 ⌝ }
     ensures { λ r. ⌜ Checks (now (a .entry)) (now (b .entry)) (now (proof .entry)) (now (out .entry)) (now (out .exit)) r ⌝ }
@@ -273,7 +258,7 @@ fn check_any(
     m: usize,
     n: usize,
     out: &mut [u8],
-) -> Checked
+) -> WriteResult
     requires { ⌜ Begun (now a) (now b) (now proof) k m n at ⌝ }
     ensures { λ r. ⌜ Checks (now (a .entry)) (now (b .entry)) (now (proof .entry)) (now (out .entry)) (now (out .exit)) r ⌝ }
 {
@@ -294,7 +279,7 @@ fn check_long(
     m: usize,
     n: usize,
     out: &mut [u8],
-) -> Checked
+) -> WriteResult
     requires { ⌜ Begun (now a) (now b) (now proof) k m n at ⌝ }
     ensures { λ r. ⌜ Checks (now (a .entry)) (now (b .entry)) (now (proof .entry)) (now (out .entry)) (now (out .exit)) r ⌝ }
 {
@@ -319,7 +304,7 @@ fn check_lines(
     m: usize,
     n: usize,
     out: &mut [u8],
-) -> Checked
+) -> WriteResult
     requires { ⌜ Begun (now a) (now b) (now proof) k m n at ⌝ }
     ensures { λ r. ⌜ Checks (now (a .entry)) (now (b .entry)) (now (proof .entry)) (now (out .entry)) (now (out .exit)) r ⌝ }
 {
@@ -354,7 +339,7 @@ fn check_header(
     m: usize,
     n: usize,
     out: &mut [u8],
-) -> Checked
+) -> WriteResult
     requires { ⌜ Short (now a) (now b) (now proof) ⌝ }
     requires { ⌜ Both (now a) (now b) k m n ⌝ }
     ensures { λ r. ⌜ Checks (now (a .entry)) (now (b .entry)) (now (proof .entry)) (now (out .entry)) (now (out .exit)) r ⌝ }
@@ -366,7 +351,7 @@ fn check_header(
 }
 
 // A, and then B with A's K.
-fn check_bundles(a: &[u8], b: &[u8], proof: &[u8], out: &mut [u8]) -> Checked
+fn check_bundles(a: &[u8], b: &[u8], proof: &[u8], out: &mut [u8]) -> WriteResult
     requires { ⌜ Short (now a) (now b) (now proof) ⌝ }
     ensures { λ r. ⌜ Checks (now (a .entry)) (now (b .entry)) (now (proof .entry)) (now (out .entry)) (now (out .exit)) r ⌝ }
 {
@@ -374,14 +359,14 @@ fn check_bundles(a: &[u8], b: &[u8], proof: &[u8], out: &mut [u8]) -> Checked
     let answer = first.answer;
     let number = answer.number;
     if number != 0 {
-        return Checked { answer, count: 0 };
+        return WriteResult { answer, count: 0 };
     }
     let k = first.k;
     let second = scan(b, 2, k);
     let answer = second.answer;
     let number = answer.number;
     if number != 0 {
-        return Checked { answer, count: 0 };
+        return WriteResult { answer, count: 0 };
     }
     let m = first.count;
     let n = second.count;
@@ -389,7 +374,7 @@ fn check_bundles(a: &[u8], b: &[u8], proof: &[u8], out: &mut [u8]) -> Checked
 }
 
 // Checks a proof over the bundles A and B, and writes the formula that it derives.
-pub fn check(a: &[u8], b: &[u8], proof: &[u8], out: &mut [u8]) -> Checked
+pub fn check(a: &[u8], b: &[u8], proof: &[u8], out: &mut [u8]) -> WriteResult
     ensures { λ r. ⌜ Checks (now (a .entry)) (now (b .entry)) (now (proof .entry)) (now (out .entry)) (now (out .exit)) r ⌝ }
 {
     if a.len() > BUNDLE_BYTES {

@@ -11,7 +11,6 @@ ghost use Rattle.formula.specs.Promises.{Tests};
 ghost use Rattle.checking.specs.Promises.{Checks};
 use bundle::Line;
 use bundle::ReadResult;
-use checking::check::Checked;
 use checking::check::check;
 use fields::Answer;
 use fields::WriteResult;
@@ -57,7 +56,7 @@ fn copy(from: &[u8], to: &mut [u8])
 
 // The check of a proof; the formula's file goes into `out`.
 #[no_mangle]
-pub extern "C" fn dulgaverk_check(a: &[u8], b: &[u8], proof: &[u8], out: &mut [u8]) -> Checked
+pub extern "C" fn dulgaverk_check(a: &[u8], b: &[u8], proof: &[u8], out: &mut [u8]) -> WriteResult
     ensures { λ r. ⌜ Checks (now (a .entry)) (now (b .entry)) (now (proof .entry)) (now (out .entry)) (now (out .exit)) r ⌝ }
 {
     check(a, b, proof, out)

@@ -229,14 +229,18 @@ unfolding need _>>_ _>>=_
 refused-still a c true f = refl
 refused-still a c false f = refl
 
+-- what is read after the header
+abbrev follows : Header → Result Formula
+follows h = formulaWithin (h .edition) (h .K) (h .edition .levels) (h .rest) >>= λ (I, after). finished FileKind.Formula fileProof after >> accepted I
+
 pub read-other : (K n : ℕ) (I : Formula) → ¬ (K ≡ n) → readFormula n (fields (formulaFile edition1 K I)) ≡ (need (answer 7 fileProof 4) (leb 1 K && leb K 16) >> refused (answer 9 fileProof 4))
 unfolding readFormula fields formulaFile
 read-other K n I h =
     let X = encode edition1 I in
     let size : length (headerBytes K ++ X) ≡ suc (suc (6 + length X)) = omega (arith, length-append (headerBytes K) X, length-headerBytes K) in
     ap (readFormula n) (ap (λ (m : ℕ). fieldsFrom m 0 (headerBytes K ++ X)) size ∙ header-fields K (6 + length X) X)
-    ∙ ap (λ (r : Result Header). r >>= _) (header-other K n (fieldsFrom (6 + length X) 8 X) h)
-    ∙ refused-still _ _ (leb 1 K && leb K 16) _
+    ∙ ap (λ (r : Result Header). r >>= follows) (header-other K n (fieldsFrom (6 + length X) 8 X) h)
+    ∙ refused-still _ _ (leb 1 K && leb K 16) follows
 
 -- ---- length
 -- How many literals and stride parts a formula has.

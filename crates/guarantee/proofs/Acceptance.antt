@@ -35,7 +35,6 @@ use Rattle.formula.specs.Formula.{formulaFile}
 use Rattle.proof.specs.Check.{interpolant, check}
 use Rattle.proof.specs.Layout.{Certifies}
 use Rattle.proof.proofs.Agree.{interpolant-iff, never-0, one-formula, agreed, agrees-refl}
-use Rattle.checking.specs.declared.check.Checked.{Checked}
 use Rattle.checking.specs.Promises.{Checks}
 use Rattle.guarantee.specs.Acceptance.{Checkable, Readable, bundleFile, Writable, Showable, WrittenAs, ReadAs, Acceptance}
 use Rattle.guarantee.proofs.Refusals.{refusals}
@@ -84,7 +83,7 @@ module _ (output : List ℕ) where
     certified-short K I c h = rw (interpolant-iff A B proof K I .1 c, lt-leb (length (formulaFile edition1 K I)) (length output) h)
 
 -- The same of the function.
-module _ {A B proof output left : List ℕ} {r : Checked} (c : Checks A B proof output left r) where
+module _ {A B proof output left : List ℕ} {r : WriteResult} (c : Checks A B proof output left r) where
   pub is-checkable : r .answer .number ≡ 0 → Checkable A B proof output
   is-checkable h = checkable output A B proof (subst (λ (w : Written). w .answer .number ≡ 0) (c .is) h)
 

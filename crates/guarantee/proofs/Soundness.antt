@@ -22,7 +22,7 @@ use Rattle.proof.specs.Layout.{Certifies}
 use Rattle.proof.proofs.Agree.{certified-interpolant}
 use Rattle.proof.proofs.Notes.{notes-change-nothing, notes-keep-count}
 use Rattle.proof.proofs.Sizes.{written-reads-back}
-use Rattle.checking.specs.declared.check.Checked.{Checked}
+use Rattle.fields.specs.declared.WriteResult.{WriteResult}
 use Rattle.checking.specs.Promises.{Checks}
 use Rattle.guarantee.specs.LaidOut.{Listed, LaidBundle, Placed, unclaimed, claimed, strengthen as strengthens, number as numbers, stride as strides, LaidProof, LaidOut}
 use Rattle.guarantee.specs.Acceptance.{Checkable}
@@ -77,7 +77,7 @@ lists {file} k b = let o = whole-file file k (b .list) (b .whole) in record { li
 
 -- ---- what is delivered
 module _ (FA FB : List Item) (framedA : All Framed FA) (framedB : All Framed FB) (MA MB : Meaning) (faithfulA : Faithful MA) (faithfulB : Faithful MB)
-    (proof output left : List ℕ) (r : Checked) (c : Checks (fileOf FA) (fileOf FB) proof output left r) (a : Checkable (fileOf FA) (fileOf FB) proof output) where
+    (proof output left : List ℕ) (r : WriteResult) (c : Checks (fileOf FA) (fileOf FB) proof output left r) (a : Checkable (fileOf FA) (fileOf FB) proof output) where
   abbrev file : List ℕ
   file = formulaFile edition1 (a .K) (a .formula)
 
@@ -102,7 +102,7 @@ module _ (FA FB : List Item) (framedA : All Framed FA) (framedB : All Framed FB)
   }
 
 -- ---- notes
-module _ {A B proof output left : List ℕ} {r : Checked} (c : Checks A B proof output left r) where
+module _ {A B proof output left : List ℕ} {r : WriteResult} (c : Checks A B proof output left r) where
   is-number : r .answer .number ≡ check A B proof output .answer .number
   is-number = ap (λ (w : Written). w .answer .number) (c .is)
 

@@ -21,7 +21,6 @@ use Rattle.bundle.specs.Write.{constraintsBytes}
 use Rattle.bundle.specs.Promises.{Reads, Writes, AnswersShow}
 use Rattle.formula.specs.Formula.{formulaFile}
 use Rattle.proof.specs.Layout.{Certifies}
-use Rattle.checking.specs.declared.check.Checked.{Checked}
 use Rattle.checking.specs.Promises.{Checks}
 
 -- ---- what each operation accepts
@@ -78,12 +77,12 @@ pub record ReadAs (K : ℕ) (kinds : List ℕ) (numbers : List ℤ) (lentKinds :
 
 pub record Acceptance : Type 0 where
   -- ---- check
-  pub accepted-iff : (A B proof output left : List ℕ) (r : Checked) → Checks A B proof output left r → r .answer .number ≡ 0 ↔ Checkable A B proof output
+  pub accepted-iff : (A B proof output left : List ℕ) (r : WriteResult) → Checks A B proof output left r → r .answer .number ≡ 0 ↔ Checkable A B proof output
   -- whatever the files certify is what is written
-  pub writes : (A B proof output left : List ℕ) (r : Checked) → Checks A B proof output left r → (c : Checkable A B proof output)
+  pub writes : (A B proof output left : List ℕ) (r : WriteResult) → Checks A B proof output left r → (c : Checkable A B proof output)
       → WrittenAs (formulaFile edition1 (c .K) (c .formula)) output left (r .answer) (r .count)
   -- and where only the output is too short, 21 with the bytes needed
-  pub too-short : (A B proof output left : List ℕ) (r : Checked) → Checks A B proof output left r → (K : ℕ) (I : Formula) → Certifies A B proof K I
+  pub too-short : (A B proof output left : List ℕ) (r : WriteResult) → Checks A B proof output left r → (K : ℕ) (I : Formula) → Certifies A B proof K I
       → length output < length (formulaFile edition1 K I) → r .answer ≡ answer 21 fileLent (length (formulaFile edition1 K I))
   -- three files certify one K and one formula at most
   pub one-formula : (A B proof : List ℕ) (K K′ : ℕ) (I I′ : Formula) → Certifies A B proof K I → Certifies A B proof K′ I′ → (K ≡ K′) × (I ≡ I′)

@@ -15,13 +15,13 @@ use Rattle.formula.specs.declared.Tested.{Tested}
 use Rattle.formula.specs.Test.{registers}
 use Rattle.formula.specs.Promises.{Tests}
 use Rattle.proof.specs.Layout.{Certifies}
-use Rattle.checking.specs.declared.check.Checked.{Checked}
+use Rattle.fields.specs.declared.WriteResult.{WriteResult}
 use Rattle.checking.specs.Promises.{Checks}
 use Rattle.guarantee.specs.Soundness.{Meaning, Faithful}
 
 -- The bytes written, tested at values within ±1,000,000, one for each constant: accepted, true just where the formula is true of the values, so true where they meet all of A and false where they meet all of B.
 pub record GuardTells : Type 0 where
-  pub tells : (FA FB : List Item) → All Framed FA → All Framed FB → (MA MB : Meaning) → Faithful MA → Faithful MB → (proof output left : List ℕ) (r : Checked)
+  pub tells : (FA FB : List Item) → All Framed FA → All Framed FB → (MA MB : Meaning) → Faithful MA → Faithful MB → (proof output left : List ℕ) (r : WriteResult)
       → Bytes (fileOf FA) → Bytes (fileOf FB) → Bytes proof
       → Checks (fileOf FA) (fileOf FB) proof output left r → r .answer .number ≡ 0
       → (values : List ℤ) → length values ≡ MA FA .0 → All (λ z. natAbs z ≤ edition1 .values) values

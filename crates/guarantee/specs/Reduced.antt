@@ -13,7 +13,7 @@ use Rattle.formula.specs.declared.Tested.{Tested}
 use Rattle.formula.specs.Formula.{formulaFile, Encodable, height}
 use Rattle.formula.specs.Promises.{Tests}
 use Rattle.proof.specs.Layout.{Certifies}
-use Rattle.checking.specs.declared.check.Checked.{Checked}
+use Rattle.fields.specs.declared.WriteResult.{WriteResult}
 use Rattle.checking.specs.Promises.{Checks}
 use Rattle.guarantee.specs.Acceptance.{Checkable, WrittenAs}
 
@@ -25,14 +25,14 @@ asItStood (number {k = k} {tA = tA} _ _ _ _) = literal k tA
 asItStood {inB = inB} (stride {tA = tA} _ g _ _ _ _) = g divides within inB tA
 
 -- An accepted check wrote the bytes of a formula each number of whose stride parts lies from 0 to g-1, so that reducing it changes nothing.
-pub record WrittenReduced (A B proof output left : List ℕ) (r : Checked) : Type 0 where
+pub record WrittenReduced (A B proof output left : List ℕ) (r : WriteResult) : Type 0 where
   pub checked : Checkable A B proof output
   pub written : WrittenAs (formulaFile edition1 (checked .K) (checked .formula)) output left (r .answer) (r .count)
   pub numbers : Reduced (checked .formula)
   pub stands : reducing (checked .formula) ≡ checked .formula
 
 pub record InReducedForm : Type 0 where
-  pub writes : (A B proof output left : List ℕ) (r : Checked) → Checks A B proof output left r → r .answer .number ≡ 0 → WrittenReduced A B proof output left r
+  pub writes : (A B proof output left : List ℕ) (r : WriteResult) → Checks A B proof output left r → r .answer .number ≡ 0 → WrittenReduced A B proof output left r
   -- It is document 01's formula, reduced, and true under the same assignments.
   pub of-document-01 : (A B proof : List ℕ) (K : ℕ) (I : Formula) (c : Certifies A B proof K I)
       → (reducing (asItStood (c .proves .proof)) ≡ I) × ((v : Assignment) → True (asItStood (c .proves .proof)) v ↔ True I v)

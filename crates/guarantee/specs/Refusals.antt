@@ -15,7 +15,6 @@ use Rattle.bundle.specs.Show.{showPart}
 use Rattle.bundle.specs.Promises.{Reads, Writes, Shows, AnswersShow, partBytes}
 use Rattle.formula.specs.declared.Tested.{Tested}
 use Rattle.formula.specs.Promises.{Tests}
-use Rattle.checking.specs.declared.check.Checked.{Checked}
 use Rattle.checking.specs.Promises.{Checks}
 use Rattle.exports.specs.Copied.{Copied}
 
@@ -26,7 +25,7 @@ pub record ToldByNumber (a : Answer) : Type 0 where
 
 pub record Refusals : Type 0 where
   -- check: the output is as it was, and no byte is counted
-  pub check : (A B proof output left : List ℕ) (r : Checked) → Checks A B proof output left r
+  pub check : (A B proof output left : List ℕ) (r : WriteResult) → Checks A B proof output left r
       → ToldByNumber (r .answer) × (¬ (r .answer .number ≡ 0) → (left ≡ output) × (r .count ≡ 0))
   -- read: both outputs are as they were, count and K are 0
   pub read : (file kinds : List ℕ) (numbers : List ℤ) (kinds′ : List ℕ) (numbers′ : List ℤ) (r : ReadResult) → Reads file kinds numbers kinds′ numbers′ r

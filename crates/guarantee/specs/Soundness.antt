@@ -12,7 +12,7 @@ use Rattle.fields.specs.Fields.{Item, Framed, fileOf, withoutNotes, fields, Not
 use Rattle.bundle.specs.Layout.{StatesAll}
 use Rattle.formula.specs.Formula.{formulaFile, readFormula}
 use Rattle.proof.specs.Layout.{Certifies}
-use Rattle.checking.specs.declared.check.Checked.{Checked}
+use Rattle.fields.specs.declared.WriteResult.{WriteResult}
 use Rattle.checking.specs.Promises.{Checks}
 use Rattle.guarantee.specs.LaidOut.{Listed, LaidOut}
 
@@ -25,7 +25,7 @@ abbrev pub Faithful : Meaning → Type 0
 Faithful M = (F : List Item) (K : ℕ) (cs : List Constraint) → StatesAll (withoutNotes F) K cs → M F ≡ (K, cs)
 
 -- What one accepted check of the files of FA and FB leaves.
-pub record Delivered (FA FB : List Item) (MA MB : Meaning) (proof output left : List ℕ) (r : Checked) : Type 0 where
+pub record Delivered (FA FB : List Item) (MA MB : Meaning) (proof output left : List ℕ) (r : WriteResult) : Type 0 where
   pub K : ℕ
   pub formula : Formula
   -- it is demand 2's formula, over the K that both writers stated
@@ -44,16 +44,16 @@ pub record Delivered (FA FB : List Item) (MA MB : Meaning) (proof output left : 
 
 pub record Soundness : Type 0 where
   -- after one accepted check
-  pub interpolates : (FA FB : List Item) → All Framed FA → All Framed FB → (MA MB : Meaning) → Faithful MA → Faithful MB → (proof output left : List ℕ) (r : Checked)
+  pub interpolates : (FA FB : List Item) → All Framed FA → All Framed FB → (MA MB : Meaning) → Faithful MA → Faithful MB → (proof output left : List ℕ) (r : WriteResult)
       → Checks (fileOf FA) (fileOf FB) proof output left r → r .answer .number ≡ 0
       → Delivered FA FB MA MB proof output left r
   -- and every A and B that is accepted is the file of some writer's fields
-  pub listed : (A B proof output left : List ℕ) (r : Checked) → Bytes A → Bytes B → Checks A B proof output left r → r .answer .number ≡ 0 → Listed A × Listed B
+  pub listed : (A B proof output left : List ℕ) (r : WriteResult) → Bytes A → Bytes B → Checks A B proof output left r → r .answer .number ≡ 0 → Listed A × Listed B
   -- whole notes between whole fields change neither number, file, count nor output bytes (places move), where no file gets too long by them
-  pub notes : (A A′ B B′ proof proof′ output left left′ : List ℕ) (r r′ : Checked) → Noted A A′ → Noted B B′ → Noted proof proof′
+  pub notes : (A A′ B B′ proof proof′ output left left′ : List ℕ) (r r′ : WriteResult) → Noted A A′ → Noted B B′ → Noted proof proof′
       → Kept (edition1 .bundleBytes) A A′ → Kept (edition1 .bundleBytes) B B′ → Kept (edition1 .proofBytes) proof proof′
       → Checks A B proof output left r → Checks A′ B′ proof′ output left′ r′
       → (r′ .answer .number ≡ r .answer .number) × (r′ .answer .file ≡ r .answer .file) × (r′ .count ≡ r .count) × (left′ ≡ left)
   -- what is accepted is laid out, and a file that carries anything else is refused
-  pub laid-out : (A B proof output left : List ℕ) (r : Checked) → Checks A B proof output left r → r .answer .number ≡ 0 → LaidOut A B proof
-  pub refuses : (A B proof output left : List ℕ) (r : Checked) → Checks A B proof output left r → ¬ (LaidOut A B proof) → ¬ (r .answer .number ≡ 0)
+  pub laid-out : (A B proof output left : List ℕ) (r : WriteResult) → Checks A B proof output left r → r .answer .number ≡ 0 → LaidOut A B proof
+  pub refuses : (A B proof output left : List ℕ) (r : WriteResult) → Checks A B proof output left r → ¬ (LaidOut A B proof) → ¬ (r .answer .number ≡ 0)

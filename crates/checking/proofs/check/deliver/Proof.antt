@@ -19,6 +19,9 @@ put-header-requires c κs = search needs
 copy-bytes-requires : tie.Need-copy-bytes-requires
 copy-bytes-requires c κs = search needs
 
+acceptance-requires : tie.Need-acceptance-requires
+acceptance-requires c κs = search needs
+
 same-length : tie.Need-same-length
 same-length c = search needs
 
@@ -34,5 +37,6 @@ deliver-spec =
     returns
     put-header-requires
     copy-bytes-requires
+    acceptance-requires
     same-length
     returns-2)
