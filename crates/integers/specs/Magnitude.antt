@@ -47,6 +47,17 @@ within-le h w = record { abs = omega (arith, w .abs) }
 pub within-fits : {z : ℤ} {k : ℕ} → Within k z → T (leb k 9223372036854775807) → SFits w64 z
 within-fits {z} {k} h t = record { sfits = omega (arith, mag-abs z, leb→le k 9223372036854775807 t) }
 
+-- The two products, and their sum.
+module _ {a x b y : ℤ} (f : Factors a x b y) where
+  pub first-fits : SFits w64 (a *ℤ x)
+  first-fits = within-fits (within-mul (f .a-in) (f .x-in)) tt
+
+  pub second-fits : SFits w64 (b *ℤ y)
+  second-fits = within-fits (within-mul (f .b-in) (f .y-in)) tt
+
+  pub sum-fits : SFits w64 (a *ℤ x +ℤ b *ℤ y)
+  sum-fits = within-fits (within-add (within-mul (f .a-in) (f .x-in)) (within-mul (f .b-in) (f .y-in))) tt
+
 -- A literal.
 pub literal-fits : {z : ℤ} → T (leb (natAbs z) 9223372036854775807) → SFits w64 z
 literal-fits {z} t = within-fits {k = natAbs z} (record { abs = le-refl (natAbs z) }) t

@@ -1,4 +1,5 @@
 -- The lines of a branch in one flat buffer. With K constants a form has K + 1 numbers, the coefficients first and d last; line i has its t and then its tA. Assumes nothing.
+use mathlib.Core.Path.{_≡_}
 use mathlib.Core.List.{List, [], map}
 use mathlib.Core.Bool.{Bool, true, false}
 use Prim.Native.Nat.{ℕ, zero, suc, _+_, _*_, _<_, _≤_}
@@ -6,7 +7,7 @@ use lib.Dec.{eqb}
 use lib.ListN.{length, getD, set}
 use lib.Seq.{paste}
 use lib.IntN.{ℤ, pos, _+ℤ_, _*ℤ_}
-use Rattle.integers.specs.Magnitude.{Within}
+use Rattle.integers.specs.Magnitude.{Within, Factors}
 use Rattle.forms.specs.Forms.{Form, Kind, ≤0, =0, Line, line, sums}
 use Rattle.calculus.specs.Rules.{_▷_}
 use Rattle.lines.specs.Parts.{part}
@@ -50,6 +51,10 @@ times f l = map (λ (c : ℤ). f *ℤ c) l
 unfoldable pub mixed : (f : ℤ) (a : ℕ) (g : ℤ) (b w : ℕ) → List ℤ → List ℤ
 mixed f a g b w buf = sums (times f (part a w buf)) (times g (part b w buf))
 
+-- buf′ is buf with these sums in place of the w numbers at d. A record, so that the places are inferred from it.
+pub record Mixes (buf : List ℤ) (f : ℤ) (a : ℕ) (g : ℤ) (b d w : ℕ) (buf′ : List ℤ) : Type 0 where
+  pub is : buf′ ≡ paste buf d (mixed f a g b w buf) w
+
 -- The buffer with f times line i and g times line j, summed, as line n.
 unfoldable pub mixedLine : (K : ℕ) (f : ℤ) (i : ℕ) (g : ℤ) (j n : ℕ) → List ℤ → List ℤ
 mixedLine K f i g j n buf = paste buf (n * size K) (mixed f (i * size K) g (j * size K) (size K) buf) (size K)
@@ -74,14 +79,12 @@ startedLine K i n false tA buf = copiedLine K i n buf
 startedLine K i n true false buf = strengthenedT K i n buf
 startedLine K i n true true buf = strengthenedBoth K i n buf
 
--- What a sum of multiples asks: the w numbers at a and at b lie before the w numbers at d, the numbers before d are within the range, and the factors are small.
+-- What a sum of multiples asks: the w numbers at a and at b lie before the w numbers at d, and they and the factors are small. (Nothing is asked of the other numbers before d: when a line's tA is made its t stands there already, and is not tested yet.)
 pub record Terms (buf : List ℤ) (f : ℤ) (a : ℕ) (g : ℤ) (b d w : ℕ) : Type 0 where
   pub first : a + w ≤ d
   pub second : b + w ≤ d
   pub third : d + w ≤ length buf
-  pub small : (x : ℕ) → x < d → Within 2147483647 (getD buf x (pos 0))
-  pub f-in : Within 65535 f
-  pub g-in : Within 65535 g
+  pub factors : (x : ℕ) → x < w → Factors f (getD buf (a + x) (pos 0)) g (getD buf (b + x) (pos 0))
 
 -- Lines i and j of a branch of n lines that has room for one more, and small factors.
 pub record LineTerms (K : ℕ) (buf : List ℤ) (f : ℤ) (i : ℕ) (g : ℤ) (j n : ℕ) : Type 0 where

@@ -1,17 +1,17 @@
 -- A new line as a sum of multiples of two lines: the laws of `mixed` and `mixedLine`. Assumes nothing.
 use mathlib.Core.Path.{_≡_, refl, sym, _∙_, ap, ap₂}
-use mathlib.Core.List.{List, [], _∷_}
+use mathlib.Core.List.{List, [], _∷_, _++_}
 use Prim.Native.Nat.{ℕ, zero, suc, _+_, _*_, _<_, _≤_}
 use native.Mathlib.Nat.{add-assoc, add-zero}
 use native.Mathlib.Omega.{arith}
 use lib.IntN.{ℤ, pos, _+ℤ_, _*ℤ_}
 use lib.ListN.{length, getD, take, drop, length-drop, length-map}
-use lib.Seq.{paste, length-take-le, length-paste}
+use lib.Seq.{paste, length-take-le, length-paste, take-add}
 use Rattle.integers.specs.Ring.{var, ring, poly}
 use Rattle.forms.specs.Forms.{Form, Line, line, sums, _⊞_, _·_}
 use Rattle.calculus.proofs.Readings.{getD-sums, getD-scaled, length-sums}
-use Rattle.lines.specs.Parts.{part, part-part, part-paste, getD-part, getD-paste, Agree, agree-paste}
-use Rattle.lines.specs.Buffer.{size, formIn, kindOf, lineIn, times, mixed, mixedLine}
+use Rattle.lines.specs.Parts.{part, part-part, part-paste, paste-paste, getD-part, getD-paste, Agree, agree-part, agree-paste}
+use Rattle.lines.specs.Buffer.{size, formIn, kindOf, lineIn, times, mixed, Mixes, mixedLine, LineTerms}
 use Rattle.lines.specs.Lines.{form-ext, line-ext, before}
 
 -- ---- sums and multiples of lists, and their parts
@@ -84,6 +84,36 @@ module _ (f : ℤ) (a : ℕ) (g : ℤ) (b w : ℕ) (buf : List ℤ) where
         form-ext
         (part-paste buf d (mixed f a g b w buf) w hd o K full (omega arith) ∙ part-mixed o K (omega arith))
         (rw add-assoc (getD-paste buf d (mixed f a g b w buf) w hd (o + K) (pos 0) full h ∙ rw (add-assoc, add-assoc) (getD-mixed (o + K) h)))
+
+-- What is before the sums stays.
+pub mixes-keeps : {buf : List ℤ} {f : ℤ} {a : ℕ} {g : ℤ} {b d w : ℕ} {buf′ : List ℤ} {m : ℕ} → Mixes buf f a g b d w buf′ → m ≤ d → d ≤ length buf → Agree m buf buf′
+mixes-keeps {buf} {f} {a} {g} {b} {d} {w} {m = m} x h room = rw (x .is) (agree-paste m buf d (mixed f a g b w buf) w room h)
+
+-- w sums and then the v sums behind them, which come from before d too, are w + v sums.
+module _ (f : ℤ) (a : ℕ) (g : ℤ) (b : ℕ) (buf : List ℤ) (d w v : ℕ) (ha : a + (w + v) ≤ d) (hb : b + (w + v) ≤ d) (room : d + (w + v) ≤ length buf) where
+  mixed-append : take (w + v) (mixed f a g b (w + v) buf) ≡ take w (mixed f a g b w buf) ++ take v (mixed f (a + w) g (b + w) v buf)
+  mixed-append =
+      take-add w v (mixed f a g b (w + v) buf)
+      ∙ ap₂ _++_
+      (part-mixed f a g b (w + v) buf 0 w (omega arith) ∙ sym (part-mixed f a g b w buf 0 w (omega arith)))
+      (part-mixed f a g b (w + v) buf w v (omega arith) ∙ rw (add-zero, add-zero) at (sym (part-mixed f (a + w) g (b + w) v buf 0 v (omega arith))))
+
+  mixed-on : {buf′ buf″ : List ℤ} → Mixes buf f a g b d w buf′ → Mixes buf′ f (a + w) g (b + w) (d + w) v buf″ → buf″ ≡ paste buf d (mixed f a g b (w + v) buf) (w + v)
+  unfolding mixed
+  mixed-on {buf′} x y =
+      let same : Agree d buf buf′ = mixes-keeps x (omega arith) (omega arith) in
+      let again : mixed f (a + w) g (b + w) v buf′ ≡ mixed f (a + w) g (b + w) v buf = ap₂ (λ (l m : List ℤ). sums (times f l) (times g m)) (sym (agree-part same (a + w) v (omega arith))) (sym (agree-part same (b + w) v (omega arith))) in
+      y .is
+      ∙ ap₂ (λ (l m : List ℤ). paste l (d + w) m v) (x .is) again
+      ∙ paste-paste buf d (mixed f a g b w buf) w (mixed f (a + w) g (b + w) v buf) v (mixed f a g b (w + v) buf) (omega arith) (omega (arith, length-mixed f a g b w buf (omega arith) (omega arith))) mixed-append
+
+-- The form's sums first and then the partial interpolant's, each from and to its own place, make the line.
+pub mixed-forms : {K : ℕ} {buf buf′ buf″ : List ℤ} {f : ℤ} {i : ℕ} {g : ℤ} {j n a b d aA bA dA : ℕ} → LineTerms K buf f i g j n → Mixes buf f a g b d (K + 1) buf′ → Mixes buf′ f aA g bA dA (K + 1) buf″
+    → a ≡ i * size K → b ≡ j * size K → d ≡ n * size K → aA ≡ i * size K + (K + 1) → bA ≡ j * size K + (K + 1) → dA ≡ n * size K + (K + 1) → buf″ ≡ mixedLine K f i g j n buf
+unfolding mixedLine
+mixed-forms {K} {buf} {f = f} {i} {g} {j} {n} p x y ea eb ed eaA ebA edA =
+    let both : K + 1 + (K + 1) ≡ size K = omega arith in
+    rw both at (mixed-on f (i * size K) g (j * size K) buf (n * size K) (K + 1) (K + 1) (omega (arith, before K (p .first))) (omega (arith, before K (p .second))) (omega (arith, p .branch .room)) (rw (ea, eb, ed) at x) (rw (eaA, ebA, edA) at y))
 
 module _ (K : ℕ) (f : ℤ) (i : ℕ) (g : ℤ) (j n : ℕ) (buf : List ℤ) (room : n * size K + size K ≤ length buf) (hi : i < n) (hj : j < n) where
   pub mixed-keeps : Agree (n * size K) buf (mixedLine K f i g j n buf)

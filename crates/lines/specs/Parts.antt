@@ -1,12 +1,12 @@
 -- Facts about lists that the library lacks: parts of a list, and a list with a part replaced. Assumes nothing.
-use mathlib.Core.Path.{_≡_, refl, sym, _∙_, ap}
+use mathlib.Core.Path.{_≡_, refl, sym, _∙_, ap, ap₂}
 use mathlib.Core.List.{List, [], _∷_, _++_, append-assoc}
 use mathlib.Core.Option.{none, some}
 use Prim.Native.Nat.{ℕ, zero, suc, _+_, _<_, _≤_}
-use native.Mathlib.Nat.{add-zero}
+use native.Mathlib.Nat.{add-zero, add-assoc}
 use native.Mathlib.Omega.{arith}
 use lib.ListN.{length, getD, take, drop, set, getElem?}
-use lib.Seq.{paste, length-take-le, take-append-le, drop-append-add, take-take, take-set-le, drop-drop, getD-drop, getD-take}
+use lib.Seq.{paste, take-paste, drop-paste, length-take-le, take-append-le, drop-append-add, take-take, take-set-le, drop-drop, getD-drop, getD-take}
 
 module _ {A : Type 0} where
   -- The n elements from index at on.
@@ -56,6 +56,15 @@ module _ {A : Type 0} where
         sym (getD-part d w (paste l d s w) o z h)
         ∙ ap (λ (x : List A). getD x o z) (rw add-zero at (part-paste 0 w full (omega arith)))
         ∙ getD-take w s o z h
+
+  -- Two parts replaced one after the other are one.
+  pub paste-paste : (l : List A) (d : ℕ) (s : List A) (w : ℕ) (t : List A) (v : ℕ) (r : List A) → d ≤ length l → w ≤ length s → take (w + v) r ≡ take w s ++ take v t
+      → paste (paste l d s w) (d + w) t v ≡ paste l d r (w + v)
+  paste-paste l d s w t v r room full e =
+      let p = paste l d s w in
+      let rest : drop (d + w + v) p ≡ drop (d + (w + v)) l = sym (drop-drop v (d + w) p) ∙ ap (drop v) (drop-paste l d s w room full) ∙ drop-drop v (d + w) l ∙ ap (λ (k : ℕ). drop k l) (add-assoc d w v) in
+      ap₂ (λ (x y : List A). x ++ take v t ++ y) (take-paste l d s w room full) rest
+      ∙ ap (λ (x : List A). x ++ drop (d + (w + v)) l) (append-assoc (take d l) (take w s) (take v t) ∙ ap (λ (x : List A). take d l ++ x) (sym e))
 
   -- The element at an index, of a list with one element more.
   pub getElem?-snoc-below : (l : List A) (x : A) (i : ℕ) → i < length l → getElem? (l ++ (x ∷ [])) i ≡ getElem? l i

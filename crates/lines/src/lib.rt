@@ -3,7 +3,6 @@ ghost use mathlib.Core.Path.{_≡_};
 ghost use mathlib.Core.Bool.{_&&_};
 ghost use Prim.Native.Nat.{_+_, _*_, _<_, _≤_};
 ghost use lib.ListN.{length, getD};
-ghost use lib.Seq.{paste};
 ghost use lib.IntN.{pos};
 ghost use lib.Signed.{_≤ℤ_};
 ghost use Rattle.integers.specs.Magnitude.{Within};
@@ -11,7 +10,7 @@ ghost use Rattle.integers.specs.Linear.{eqZ};
 ghost use Rattle.integers.specs.Divides.{divb};
 ghost use Rattle.calculus.specs.Rules.{small, every};
 ghost use Rattle.lines.specs.Parts.{part};
-ghost use Rattle.lines.specs.Buffer.{size, formIn, Terms, LineTerms, LineCopy, mixed, mixedLine, plusOne, copiedLine, strengthenedT, strengthenedBoth, startedLine};
+ghost use Rattle.lines.specs.Buffer.{size, formIn, Terms, LineTerms, LineCopy, Mixes, mixedLine, plusOne, copiedLine, strengthenedT, strengthenedBoth, startedLine};
 
 // Where the numbers of line i's t start, with k constants.
 pub fn place(i: usize, k: usize) -> usize
@@ -29,28 +28,36 @@ pub fn place_a(i: usize, k: usize) -> usize
     i * (2 * (k + 1)) + (k + 1)
 }
 
-// f times the w numbers at a and g times those at b, summed, in place of the w numbers at d.
-fn mix_numbers(lines: &mut [i64], f: i64, a: usize, g: i64, b: usize, d: usize, w: usize)
-    requires { ⌜ Terms (now lines) f a g b d w ⌝ }
-    ensures { λ _. ⌜ now (lines .exit) ≡ paste (now (lines .entry)) d (mixed f a g b w (now (lines .entry))) w ⌝ }
+// One form of a new line, number by number in the steps of FM-ELIM: α·s, then β·t, then their sum. The w numbers of s, of t and of the new form start at these places.
+fn mix_numbers(lines: &mut [i64], alpha: i64, s: usize, beta: i64, t: usize, new: usize, w: usize)
+    requires { ⌜ Terms (now lines) alpha s beta t new w ⌝ }
+    ensures { λ _. ⌜ Mixes (now (lines .entry)) alpha s beta t new w (now (lines .exit)) ⌝ }
 {
     let mut x = 0;
     while x < w {
-        let s = lines[a + x];
-        let t = lines[b + x];
-        let sum = integers::linear(f, s, g, t);
-        lines[d + x] = sum;
+        let alpha_s = alpha * lines[s + x];
+        let beta_t = beta * lines[t + x];
+        let sum = alpha_s + beta_t;
+        lines[new + x] = sum;
         x += 1;
     }
 }
 
-// Line n becomes f times line i plus g times line j, t and tA alike.
-pub fn mix(lines: &mut [i64], f: i64, i: usize, g: i64, j: usize, n: usize, k: usize)
-    requires { ⌜ LineTerms k (now lines) f i g j n ⌝ }
-    ensures { λ _. ⌜ now (lines .exit) ≡ mixedLine k f i g j n (now (lines .entry)) ⌝ }
+// FM-ELIM of Figure 6 in source 000: from line s with its partial interpolant sA and line t with tA, line n becomes αs + βt with αsA + βtA.
+pub fn mix(lines: &mut [i64], alpha: i64, s: usize, beta: i64, t: usize, n: usize, k: usize)
+    requires { ⌜ LineTerms k (now lines) alpha s beta t n ⌝ }
+    ensures { λ _. ⌜ now (lines .exit) ≡ mixedLine k alpha s beta t n (now (lines .entry)) ⌝ }
 {
-    let size = 2 * (k + 1);
-    mix_numbers(lines, f, i * size, g, j * size, n * size, size);
+    // First the form: α·s, β·t, αs + βt.
+    let s_at = place(s, k);
+    let t_at = place(t, k);
+    let new_at = place(n, k);
+    mix_numbers(lines, alpha, s_at, beta, t_at, new_at, k + 1);
+    // When that is done, the partial interpolant in the same steps: α·sA, β·tA, αsA + βtA.
+    let sa_at = place_a(s, k);
+    let ta_at = place_a(t, k);
+    let new_a_at = place_a(n, k);
+    mix_numbers(lines, alpha, sa_at, beta, ta_at, new_a_at, k + 1);
 }
 
 // One more at a place.

@@ -65,7 +65,7 @@ pub fn kind_of(kinds: &[u8], i: Line) -> u8
     kinds[x]
 }
 
-// 10, 11, 12, then as `append`.
+// FM-ELIM of Figure 6 in source 000: α·s, then β·t, then their sum αs + βt; then the partial interpolants in the same steps, αsA + βtA (`lines::mix`). 10, 11, 12, then as `append`.
 pub fn combine(
     lines: &mut [i64],
     kinds: &mut [u8],
@@ -101,7 +101,7 @@ pub fn combine(
     append(lines, kinds, tally, alpha, s, beta, t, 0, k)
 }
 
-// The new line is of s's kind.
+// RED-LEFT: s as 1·s, then α·t, then their sum s + αt, of s's kind; then likewise sA + αtA.
 pub fn reduce(
     lines: &mut [i64],
     kinds: &mut [u8],
@@ -131,6 +131,7 @@ pub fn reduce(
     append(lines, kinds, tally, 1, s, alpha, t, kind, k)
 }
 
+// MUL-LEFT: α·t, to which 0·t is added, of t's kind; then likewise αtA.
 pub fn scale(
     lines: &mut [i64],
     kinds: &mut [u8],

@@ -1,65 +1,112 @@
 -- `lines::mix` meets its contract. Assumes nothing.
+use mathlib.Core.List.{List}
+use Prim.Native.Nat.{ℕ, _+_, _*_, _≤_}
 use native.Mathlib.Omega.{arith}
+use lib.IntN.{ℤ, pos}
+use lib.ListN.{length}
 use mir.ValLaws.{toZ-ofZ}
-use Rattle.lines.specs.Buffer.{mixedLine}
-use Rattle.lines.specs.Lines.{before, place-small}
+use Rattle.lines.specs.Parts.{Agree, agree-refl, agree-getD}
+use Rattle.lines.specs.Buffer.{size, Terms, LineTerms}
+use Rattle.lines.specs.Lines.{before}
+use Rattle.lines.specs.Mix.{mixes-keeps, mixed-forms}
 use borrow.Author.Needs.{needs}
 use Rattle.lines.proofs.mix.Statement.{statement}
 use Rattle.lines.proofs.mix.Tie as tie
 
-add-size : tie.Need-add-size
-add-size c = search needs
+-- The numbers of the branch's lines are terms, whatever stands behind these lines.
+terms : {K : ℕ} {buf buf′ : List ℤ} {f : ℤ} {i : ℕ} {g : ℤ} {j n a b d w : ℕ} → LineTerms K buf f i g j n → Agree (n * size K) buf buf′
+    → a + w ≤ n * size K → b + w ≤ n * size K → n * size K ≤ d → d + w ≤ length buf′ → Terms buf′ f a g b d w
+terms {a = a} {b = b} p same ha hb hd room = record {
+  first = omega arith;
+  second = omega arith;
+  third = room;
+  factors = λ x h. record {
+    a-in = p .f-in;
+    x-in = rw (agree-getD same (a + x) (pos 0) (omega arith)) at (p .branch .bounded .small (a + x) (omega arith));
+    b-in = p .g-in;
+    y-in = rw (agree-getD same (b + x) (pos 0) (omega arith)) at (p .branch .bounded .small (b + x) (omega arith));
+  };
+}
 
-mul-size : tie.Need-mul-size
-mul-size c = search needs
+place-requires : tie.Need-place-requires
+place-requires c κs = search needs
 
-mul-mix-numbers : tie.Need-mul-mix-numbers
-mul-mix-numbers c = let s = c .before in omega (arith, place-small {i = s .args .i} (s .pre .branch .constants) (omega arith))
+place-requires-2 : tie.Need-place-requires-2
+place-requires-2 c κs = search needs
 
-mul-mix-numbers-2 : tie.Need-mul-mix-numbers-2
-mul-mix-numbers-2 c = let s = c .before in omega (arith, place-small {i = s .args .j} (s .pre .branch .constants) (omega arith))
+place-requires-3 : tie.Need-place-requires-3
+place-requires-3 c κs = search needs
 
-mul-mix-numbers-3 : tie.Need-mul-mix-numbers-3
-mul-mix-numbers-3 c = let s = c .before in omega (arith, place-small {i = s .args .n} (s .pre .branch .constants) (omega arith))
+add-mix-numbers : tie.Need-add-mix-numbers
+add-mix-numbers c = search needs
 
 mix-numbers-requires : tie.Need-mix-numbers-requires
 mix-numbers-requires c κs =
-    let s = c .before in
+    let s = c .before .before .before .before in
     let p = s .pre in
-    let ff = s .fits .f in
-    let fg = s .fits .g in
-    let k = s .args .k in
-    let small = p .branch .bounded .small in
-    simp toZ-ofZ
-    (record {
-      first = before k (p .first);
-      second = before k (p .second);
-      third = p .branch .room;
-      small = small;
-      f-in = p .f-in;
-      g-in = p .g-in;
-    })
+    let ff = s .fits .alpha in
+    let fg = s .fits .beta in
+    let hs = before (s .args .k) (p .first) in
+    let ht = before (s .args .k) (p .second) in
+    simp toZ-ofZ (terms p agree-refl (omega arith) (omega arith) (omega arith) (omega arith))
+
+place-a-requires : tie.Need-place-a-requires
+place-a-requires c κs = search needs
+
+place-a-requires-2 : tie.Need-place-a-requires-2
+place-a-requires-2 c κs = search needs
+
+place-a-requires-3 : tie.Need-place-a-requires-3
+place-a-requires-3 c κs = search needs
+
+add-mix-numbers-2 : tie.Need-add-mix-numbers-2
+add-mix-numbers-2 c = search needs
+
+mix-numbers-requires-2 : tie.Need-mix-numbers-requires-2
+mix-numbers-requires-2 c κs =
+    let m = c .before .before .before .before .before in
+    let s = m .before .before .before .before .before in
+    let p = s .pre in
+    let ff = s .fits .alpha in
+    let fg = s .fits .beta in
+    let hs = before (s .args .k) (p .first) in
+    let ht = before (s .args .k) (p .second) in
+    let same : Agree (s .args .n * size (s .args .k)) (s .args .lines .now) (m .mix-numbers .last .0) = mixes-keeps (m .mix-numbers .ensures) (omega arith) (omega arith) in
+    simp toZ-ofZ (terms p same (omega arith) (omega arith) (omega arith) (omega arith))
 
 same-length : tie.Need-same-length
 same-length c = search needs
 
 returns : tie.Need-returns
-unfolding mixedLine
 returns c =
-    let s = c .before .before .before in
-    let ff = s .fits .f in
-    let fg = s .fits .g in
-    simp toZ-ofZ at (c .before .mix-numbers .ensures)
+    let m = c .before .before .before .before .before .before .before in
+    let s = m .before .before .before .before .before in
+    let ff = s .fits .alpha in
+    let fg = s .fits .beta in
+    mixed-forms
+    (s .pre)
+    (simp toZ-ofZ at (m .mix-numbers .ensures))
+    (simp toZ-ofZ at (c .before .mix-numbers2 .ensures))
+    (omega arith)
+    (omega arith)
+    (omega arith)
+    (omega arith)
+    (omega arith)
+    (omega arith)
 
 pub mix-spec : {M : Type 1} → statement M
 mix-spec =
     tie.close
     (tie.spec
-    add-size
-    mul-size
-    mul-mix-numbers
-    mul-mix-numbers-2
-    mul-mix-numbers-3
+    place-requires
+    place-requires-2
+    place-requires-3
+    add-mix-numbers
     mix-numbers-requires
+    place-a-requires
+    place-a-requires-2
+    place-a-requires-3
+    add-mix-numbers-2
+    mix-numbers-requires-2
     same-length
     returns)
