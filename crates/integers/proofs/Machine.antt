@@ -2,10 +2,10 @@
 use mathlib.Core.Path.{_≡_, refl, sym, _∙_, ap, ap₂, subst}
 use mathlib.Core.Bool.{Bool, true, false, _&&_, true≢false}
 use Prim.Native.Nat.{ℕ, zero, suc, _-_, _/_, _%_, _^_, _<_, _≤_}
-use native.Mathlib.Nat.{div-le-self, div-add-mod', mod-lt}
+use native.Mathlib.Nat.{div-le-self, div-add-mod', mod-lt, mod-eq-of-lt}
 use native.Mathlib.Decide.{ℕ-discrete}
 use native.Mathlib.Omega.{arith}
-use borrow.Author.Tests.{eq-eqb, ne-eqb}
+use borrow.Author.Tests.{eq-eqb, ne-eqb, le-leb, ltb-true}
 use lib.Dec.{T, leb, eqb, leb→le, leb·suc-suc, eqb·suc-zero}
 use lib.Bits.{bitOr, or-zero-l, or-add-and, and-le-r}
 use lib.IntN.{ℤ, pos, negsuc, negℤ, natAbs, _+ℤ_}
@@ -68,6 +68,13 @@ neg-raised g a (suc s) h e t =
       q = negsuc (suc a / g);
       eq = omega (ints, l, div-add-mod' (suc a) g, add-pn (negsuc a) (negℤ (pos (g - suc s))), neg-pn (pos (g - suc s)), mul-pn (negsuc (suc a / g)) (pos g));
     })))
+
+-- what lies from 0 to g-1 is its own remainder
+pub residue-stands : (x g : ℤ) → (leZ (pos 0) x && ltZ x g) ≡ true → x ≡ pos (remainder (natAbs g) x)
+unfolding remainder
+residue-stands (pos n) (pos g) t = ap pos (sym (mod-eq-of-lt (ltb-true n g (rw (le-leb 0 n (omega arith)) at t))))
+residue-stands (pos n) (negsuc g) t = absurd (true≢false (sym (rw (le-leb 0 n (omega arith)) at t)))
+residue-stands (negsuc a) g t = absurd (true≢false (sym t))
 
 pub rem-stands : (x g : ℤ) → pos 2 ≤ℤ g → ltZ (remZ x g) (pos 0) ≡ false → remZ x g ≡ pos (remainder (natAbs g) x)
 unfolding remainder

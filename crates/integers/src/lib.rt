@@ -4,7 +4,7 @@ ghost use mathlib.Core.Path.{_≡_};
 ghost use mathlib.Core.Bool.{_&&_};
 ghost use lib.Dec.{leb};
 ghost use lib.IntN.{pos, natAbs, _+ℤ_, _*ℤ_};
-ghost use lib.Signed.{_≤ℤ_, ltZ};
+ghost use lib.Signed.{_≤ℤ_, leZ, ltZ};
 ghost use Rattle.integers.specs.Linear.{eqZ};
 ghost use Rattle.integers.specs.Divides.{divb};
 ghost use Rattle.integers.specs.Remainder.{remainder};
@@ -38,11 +38,24 @@ pub fn divides(g: i64, x: i64) -> bool
     x % g == 0
 }
 
-// The remainder of x from 0 to g-1. (That of the machine has the sign of x.)
+// Whether x lies from 0 to g-1.
+fn is_residue(x: i64, g: i64) -> bool
+    ensures { λ r. ⌜ r ≡ leZ (pos 0) x && ltZ x g ⌝ }
+{
+    if 0 <= x {
+        return x < g;
+    }
+    false
+}
+
+// The remainder of x from 0 to g-1. (That of the machine has the sign of x.) Most numbers are their own, and a division takes long.
 pub fn remainder(x: i64, g: i64) -> i64
     requires { ⌜ (pos 2) ≤ℤ g ⌝ }
     ensures { λ r. ⌜ r ≡ pos (remainder (natAbs g) x) ⌝ }
 {
+    if is_residue(x, g) {
+        return x;
+    }
     let r = x % g;
     if r < 0 {
         return r + g;
