@@ -8,7 +8,8 @@ use lib.ListN.{length, take, drop, set, getD, length-append}
 use lib.Seq.{sets, sets-eq, paste, take-at, take-all, drop-append-add, drop-drop, length-take-le, getD-take}
 use borrow.Author.Tests.{le-leb, lt-leb}
 use Rattle.fields.specs.declared.FileKind.{FileKind}
-use Rattle.fields.specs.Answers.{answer, accepted, _>>_, Written, over, fit, written}
+use Rattle.fields.specs.declared.Answer.{Answer}
+use Rattle.fields.specs.Answers.{answer, acceptance, accepted, _>>_, Written, over, fit, written}
 use Rattle.fields.specs.Header.{headerBytes}
 use Rattle.fields.proofs.Headers.{length-headerBytes}
 use Rattle.lines.proofs.Fill.{Filled, filled-length, filled-next}

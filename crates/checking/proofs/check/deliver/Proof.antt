@@ -26,7 +26,7 @@ same-length : tie.Need-same-length
 same-length c = search needs
 
 returns-2 : tie.Need-returns-2
-returns-2 c = deliver-done (c .before .before .before .before .before .before .before .before .before .before .before .pre) (c .before .before .before .before .before .before .before .before .if1 .left) (c .before .before .before .before .before .before .put-header .ensures) (c .before .before .copy-bytes .ensures)
+returns-2 c = deliver-done (c .before .before .before .before .before .before .before .before .before .before .before .before .pre) (c .before .before .before .before .before .before .before .before .before .if1 .left) (c .before .before .before .before .before .before .before .put-header .ensures) (c .before .before .before .copy-bytes .ensures) (c .acceptance .ensures)
 
 pub deliver-spec : {M : Type 1} → statement M
 deliver-spec =
