@@ -10,8 +10,8 @@ use lib.Seq.{paste, length-take-le, length-paste, take-add}
 use Rattle.integers.specs.Ring.{var, ring, poly}
 use Rattle.forms.specs.Forms.{Form, Line, line, sums, _⊞_, _·_}
 use Rattle.calculus.proofs.Readings.{getD-sums, getD-scaled, length-sums}
-use Rattle.lines.specs.Parts.{part, part-part, part-paste, paste-paste, getD-part, getD-paste, Agree, agree-part, agree-paste}
-use Rattle.lines.specs.Buffer.{size, formIn, kindOf, lineIn, times, mixed, Mixes, mixedLine, LineTerms}
+use Rattle.lines.specs.Parts.{part, part-part, part-paste, paste-paste, getD-part, getD-paste, Agree, agree-part, agree-paste, agree-getD}
+use Rattle.lines.specs.Buffer.{size, formIn, kindOf, lineIn, times, mixed, Mixes, mixedLine, Terms, LineTerms}
 use Rattle.lines.specs.Lines.{form-ext, line-ext, before}
 
 -- ---- sums and multiples of lists, and their parts
@@ -166,3 +166,18 @@ mix-zero f t = form-ext (sums-zero f (t .coeffs)) (add-zero-mul (f *ℤ t .d) (t
 
 pub mix-copy : (t : Form) → pos 1 · t ⊞ pos 0 · t ≡ t
 mix-copy t = mix-zero (pos 1) t ∙ one-form t
+
+-- The numbers of the branch's lines are terms, whatever stands behind these lines.
+pub terms : {K : ℕ} {buf buf′ : List ℤ} {f : ℤ} {i : ℕ} {g : ℤ} {j n a b d w : ℕ} → LineTerms K buf f i g j n → Agree (n * size K) buf buf′
+    → a + w ≤ n * size K → b + w ≤ n * size K → n * size K ≤ d → d + w ≤ length buf′ → Terms buf′ f a g b d w
+terms {a = a} {b = b} p same ha hb hd room = record {
+  first = omega arith;
+  second = omega arith;
+  third = room;
+  factors = λ x h. record {
+    a-in = p .f-in;
+    x-in = rw (agree-getD same (a + x) (pos 0) (omega arith)) at (p .branch .bounded .small (a + x) (omega arith));
+    b-in = p .g-in;
+    y-in = rw (agree-getD same (b + x) (pos 0) (omega arith)) at (p .branch .bounded .small (b + x) (omega arith));
+  };
+}

@@ -44,7 +44,7 @@ fn mix_numbers(lines: &mut [i64], alpha: i64, s: usize, beta: i64, t: usize, new
 }
 
 // FM-ELIM of Figure 6 in source 000: from line s with its partial interpolant sA and line t with tA, line n becomes αs + βt with αsA + βtA.
-pub fn mix(lines: &mut [i64], alpha: i64, s: usize, beta: i64, t: usize, n: usize, k: usize)
+fn mix(lines: &mut [i64], alpha: i64, s: usize, beta: i64, t: usize, n: usize, k: usize)
     requires { ⌜ LineTerms k (now lines) alpha s beta t n ⌝ }
     ensures { λ _. ⌜ now (lines .exit) ≡ mixedLine k alpha s beta t n (now (lines .entry)) ⌝ }
 {
@@ -58,6 +58,38 @@ pub fn mix(lines: &mut [i64], alpha: i64, s: usize, beta: i64, t: usize, n: usiz
     let ta_at = place_a(t, k);
     let new_a_at = place_a(n, k);
     mix_numbers(lines, alpha, sa_at, beta, ta_at, new_a_at, k + 1);
+}
+
+// The same in one run over t and tA: where a factor is 1 or 0 the compiler then leaves its product out.
+fn mix_whole(lines: &mut [i64], alpha: i64, s: usize, beta: i64, t: usize, n: usize, k: usize)
+    requires { ⌜ LineTerms k (now lines) alpha s beta t n ⌝ }
+    ensures { λ _. ⌜ now (lines .exit) ≡ mixedLine k alpha s beta t n (now (lines .entry)) ⌝ }
+{
+    let s_at = place(s, k);
+    let t_at = place(t, k);
+    let new_at = place(n, k);
+    mix_numbers(lines, alpha, s_at, beta, t_at, new_at, 2 * (k + 1));
+}
+
+// Line n of lines s and t: the form and then the partial interpolant, or both in one run.
+pub fn mix_line(
+    lines: &mut [i64],
+    apart: bool,
+    alpha: i64,
+    s: usize,
+    beta: i64,
+    t: usize,
+    n: usize,
+    k: usize,
+)
+    requires { ⌜ LineTerms k (now lines) alpha s beta t n ⌝ }
+    ensures { λ _. ⌜ now (lines .exit) ≡ mixedLine k alpha s beta t n (now (lines .entry)) ⌝ }
+{
+    if apart {
+        mix(lines, alpha, s, beta, t, n, k);
+        return;
+    }
+    mix_whole(lines, alpha, s, beta, t, n, k);
 }
 
 // One more at a place.
@@ -76,7 +108,7 @@ fn copy_line(lines: &mut [i64], i: usize, n: usize, k: usize)
     requires { ⌜ LineCopy k (now lines) i n ⌝ }
     ensures { λ _. ⌜ now (lines .exit) ≡ copiedLine k i n (now (lines .entry)) ⌝ }
 {
-    mix(lines, 1, i, 0, i, n, k);
+    mix_whole(lines, 1, i, 0, i, n, k);
 }
 
 // Line n becomes line i with t + 1.

@@ -22,6 +22,7 @@ fn append(
     lines: &mut [i64],
     kinds: &mut [u8],
     tally: Tally,
+    apart: bool,
     f: i64,
     i: Line,
     g: i64,
@@ -39,7 +40,7 @@ fn append(
     let count = tally.lines;
     let n = count.0 as usize;
     if made {
-        lines::mix(lines, f, i.0 as usize, g, j.0 as usize, n, k);
+        lines::mix_line(lines, apart, f, i.0 as usize, g, j.0 as usize, n, k);
         kinds[n] = kind;
         if lines::fits(lines, lines::place(n, k), 2 * (k + 1)) {
             return Derived::Made { tally: next };
@@ -98,10 +99,10 @@ pub fn combine(
     if integers::is_zero(beta) {
         return Derived::Refused { number: 12 };
     }
-    append(lines, kinds, tally, alpha, s, beta, t, 0, k)
+    append(lines, kinds, tally, true, alpha, s, beta, t, 0, k)
 }
 
-// RED-LEFT: s as 1·s, then α·t, then their sum s + αt, of s's kind; then likewise sA + αtA.
+// RED-LEFT: s as 1·s, then α·t, then their sum s + αt, of s's kind; likewise sA + αtA, in the same run.
 pub fn reduce(
     lines: &mut [i64],
     kinds: &mut [u8],
@@ -128,10 +129,10 @@ pub fn reduce(
     if integers::is_zero(alpha) {
         return Derived::Refused { number: 12 };
     }
-    append(lines, kinds, tally, 1, s, alpha, t, kind, k)
+    append(lines, kinds, tally, false, 1, s, alpha, t, kind, k)
 }
 
-// MUL-LEFT: α·t, to which 0·t is added, of t's kind; then likewise αtA.
+// MUL-LEFT: α·t, to which 0·t is added, of t's kind; likewise αtA, in the same run.
 pub fn scale(
     lines: &mut [i64],
     kinds: &mut [u8],
@@ -151,5 +152,5 @@ pub fn scale(
     if integers::is_zero(alpha) {
         return Derived::Refused { number: 12 };
     }
-    append(lines, kinds, tally, alpha, t, 0, t, kind, k)
+    append(lines, kinds, tally, false, alpha, t, 0, t, kind, k)
 }

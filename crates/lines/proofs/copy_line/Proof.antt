@@ -4,15 +4,15 @@ use borrow.Author.Needs.{needs}
 use Rattle.lines.proofs.copy_line.Statement.{statement}
 use Rattle.lines.proofs.copy_line.Tie as tie
 
-mix-requires : tie.Need-mix-requires
-mix-requires c κs = search needs
+mix-whole-requires : tie.Need-mix-whole-requires
+mix-whole-requires c κs = search needs
 
 same-length : tie.Need-same-length
 same-length c = search needs
 
 returns : tie.Need-returns
 unfolding copiedLine
-returns c = c .before .mix .ensures
+returns c = c .before .mix-whole .ensures
 
 pub copy-line-spec : {M : Type 1} → statement M
-copy-line-spec = tie.close (tie.spec mix-requires same-length returns)
+copy-line-spec = tie.close (tie.spec mix-whole-requires same-length returns)

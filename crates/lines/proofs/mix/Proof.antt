@@ -1,32 +1,14 @@
 -- `lines::mix` meets its contract. Assumes nothing.
-use mathlib.Core.List.{List}
-use Prim.Native.Nat.{ℕ, _+_, _*_, _≤_}
+use Prim.Native.Nat.{_*_}
 use native.Mathlib.Omega.{arith}
-use lib.IntN.{ℤ, pos}
-use lib.ListN.{length}
 use mir.ValLaws.{toZ-ofZ}
-use Rattle.lines.specs.Parts.{Agree, agree-refl, agree-getD}
-use Rattle.lines.specs.Buffer.{size, Terms, LineTerms}
+use Rattle.lines.specs.Parts.{Agree, agree-refl}
+use Rattle.lines.specs.Buffer.{size}
 use Rattle.lines.specs.Lines.{before}
-use Rattle.lines.specs.Mix.{mixes-keeps, mixed-forms}
+use Rattle.lines.specs.Mix.{terms, mixes-keeps, mixed-forms}
 use borrow.Author.Needs.{needs}
 use Rattle.lines.proofs.mix.Statement.{statement}
 use Rattle.lines.proofs.mix.Tie as tie
-
--- The numbers of the branch's lines are terms, whatever stands behind these lines.
-terms : {K : ℕ} {buf buf′ : List ℤ} {f : ℤ} {i : ℕ} {g : ℤ} {j n a b d w : ℕ} → LineTerms K buf f i g j n → Agree (n * size K) buf buf′
-    → a + w ≤ n * size K → b + w ≤ n * size K → n * size K ≤ d → d + w ≤ length buf′ → Terms buf′ f a g b d w
-terms {a = a} {b = b} p same ha hb hd room = record {
-  first = omega arith;
-  second = omega arith;
-  third = room;
-  factors = λ x h. record {
-    a-in = p .f-in;
-    x-in = rw (agree-getD same (a + x) (pos 0) (omega arith)) at (p .branch .bounded .small (a + x) (omega arith));
-    b-in = p .g-in;
-    y-in = rw (agree-getD same (b + x) (pos 0) (omega arith)) at (p .branch .bounded .small (b + x) (omega arith));
-  };
-}
 
 place-requires : tie.Need-place-requires
 place-requires c κs = search needs

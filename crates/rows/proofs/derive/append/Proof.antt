@@ -13,14 +13,14 @@ line-counted-requires c κs = search needs
 cast-n : tie.Need-cast-n
 cast-n c = search needs
 
-cast-mix : tie.Need-cast-mix
-cast-mix c = search needs
+cast-mix-line : tie.Need-cast-mix-line
+cast-mix-line c = search needs
 
-cast-mix-2 : tie.Need-cast-mix-2
-cast-mix-2 c = search needs
+cast-mix-line-2 : tie.Need-cast-mix-line-2
+cast-mix-line-2 c = search needs
 
-mix-requires : tie.Need-mix-requires
-mix-requires c κs =
+mix-line-requires : tie.Need-mix-line-requires
+mix-line-requires c κs =
     let s = c .before .before .before .before .before .before .before .before .before in
     let ff = s .fits .f in
     let fg = s .fits .g in
@@ -45,7 +45,7 @@ fits-requires c κs =
     let ff = s .fits .f in
     let fg = s .fits .g in
     let h = counted-line (c .before .before .before .before .before .before .before .before .before .before .before .line-counted .ensures) (c .before .before .before .before .before .before .before .if1 .taken) in
-    let m = simp toZ-ofZ at (c .before .before .before .mix .ensures) in
+    let m = simp toZ-ofZ at (c .before .before .before .mix-line .ensures) in
     omega (arith, append-end (s .args .tally) _ _ _ _ _ (s .pre .0) (s .pre .1) (h .0) m refl, c .place .ensures)
 
 same-length : tie.Need-same-length
@@ -60,7 +60,7 @@ returns c =
     let ff = s .fits .f in
     let fg = s .fits .g in
     let h = counted-line (c .before .before .before .before .before .before .before .before .before .before .before .before .before .line-counted .ensures) (c .before .before .before .before .before .before .before .before .before .if1 .taken) in
-    let m = simp toZ-ofZ at (c .before .before .before .before .before .mix .ensures) in
+    let m = simp toZ-ofZ at (c .before .before .before .before .before .mix-line .ensures) in
     append-made _ _ _ _ _ _ (s .pre .0) (s .pre .1) (h .0) m refl (c .before .before .place .ensures) (c .before .fits2 .ensures) (c .if2 .taken) (h .1)
 
 same-length-3 : tie.Need-same-length-3
@@ -75,11 +75,11 @@ returns-2 c =
     let ff = s .fits .f in
     let fg = s .fits .g in
     let h = counted-line (c .before .before .before .before .before .before .before .before .before .before .before .before .before .line-counted .ensures) (c .before .before .before .before .before .before .before .before .before .if1 .taken) in
-    let m = simp toZ-ofZ at (c .before .before .before .before .before .mix .ensures) in
+    let m = simp toZ-ofZ at (c .before .before .before .before .before .mix-line .ensures) in
     append-range _ _ _ _ _ _ (s .pre .0) (s .pre .1) (h .0) m refl (c .before .before .place .ensures) (c .before .fits2 .ensures) (c .if2 .left)
 
 returns-3 : tie.Need-returns-3
 returns-3 c = append-full _ _ _ _ _ _ (c .before .before .before .before .before .before .pre .0) (full-line _ (c .before .before .before .before .line-counted .ensures) (c .if1 .left))
 
 pub append-spec : {M : Type 1} → statement M
-append-spec = tie.close (tie.spec line-counted-requires cast-n cast-mix cast-mix-2 mix-requires slice-write-kinds place-requires add-fits mul-fits fits-requires same-length same-length-2 returns same-length-3 same-length-4 returns-2 returns-3)
+append-spec = tie.close (tie.spec line-counted-requires cast-n cast-mix-line cast-mix-line-2 mix-line-requires slice-write-kinds place-requires add-fits mul-fits fits-requires same-length same-length-2 returns same-length-3 same-length-4 returns-2 returns-3)
