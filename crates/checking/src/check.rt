@@ -269,7 +269,7 @@ fn check_any(
 
 // A proof of more fields than 70, or of more lines. A function of its own: the frame of a function has room for the largest of
 // its arrays, and each page of that is touched at every call. It stays one since it is called twice and has three choices
-// (docs/PROVING.md, "Speed").
+// (docs/SPEED.md).
 fn check_long(
     a: &[u8],
     b: &[u8],

@@ -17,7 +17,7 @@ pub enum Derived {
     Made { tally: Tally },
 }
 
-// One line more: f times line i plus g times line j, of the kind given. 16, 13.
+// One line more: f times line i plus g times line j, of the kind given; form and partial interpolant apart, where it is said. 16, 13.
 fn append(
     lines: &mut [i64],
     kinds: &mut [u8],
