@@ -1,6 +1,6 @@
 /* Dulgaverk, the verified office checker: its operations for C and C++.
  *
- * Link target/staticlib/libexports.a, which `rt staticlib exports` writes (x86-64 Linux). It needs nothing but the C library.
+ * Link target/staticlib/libdulgaverk.a, which `rt staticlib dulgaverk` writes (x86-64 Linux). It needs nothing but the C library.
  *
  * In every call
  * - a file or list is a pointer and a length. The length counts elements, not bytes. Where it is 0 the pointer is never

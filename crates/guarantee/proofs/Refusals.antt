@@ -28,7 +28,7 @@ use Rattle.formula.specs.Formula.{FormulaTag, pair, atom, stride, formulaOf, fo
 use Rattle.formula.specs.Test.{Tested as Outcome, tested, judged, testFormula}
 use Rattle.proof.specs.Check.{interpolant, check}
 use Rattle.proof.proofs.Agree.{never-0, never-22}
-use Rattle.exports.specs.Copied.{Copied}
+use Rattle.dulgaverk.specs.Copied.{Copied}
 use Rattle.guarantee.specs.Refusals.{ToldByNumber, Refusals}
 
 -- ---- a result whose refusals all have a number that is given: neither 0 nor 22

@@ -16,7 +16,7 @@ use Rattle.bundle.specs.Promises.{Reads, Writes, Shows, AnswersShow, partBytes}
 use Rattle.formula.specs.declared.Tested.{Tested}
 use Rattle.formula.specs.Promises.{Tests}
 use Rattle.checking.specs.Promises.{Checks}
-use Rattle.exports.specs.Copied.{Copied}
+use Rattle.dulgaverk.specs.Copied.{Copied}
 
 -- The number is 0 just where the answer is 0, 0, 0; and it is never 22, which is no longer given.
 pub record ToldByNumber (a : Answer) : Type 0 where

@@ -38,7 +38,7 @@ fn a_c_program_gets_the_same_answers() {
         compile
             .args(["-std=c11", level, "-o"])
             .args([&program, &source])
-            .arg(root().join("target/staticlib/libexports.a"));
+            .arg(root().join("target/staticlib/libdulgaverk.a"));
         succeeds(compile);
         succeeds(Command::new(&program));
         let _ = fs::remove_file(&program);

@@ -1,4 +1,4 @@
--- `exports::copy` meets its contract. The invariant: the first i bytes are copied. Assumes nothing.
+-- `dulgaverk::copy` meets its contract. The invariant: the first i bytes are copied. Assumes nothing.
 use mathlib.Core.Path.{_≡_, refl, sym, ap, _∙_}
 use mathlib.Core.List.{List, _++_}
 use Prim.Native.Nat.{ℕ, suc, _+_, _-_, _≤_, _<_}
@@ -6,8 +6,8 @@ use native.Mathlib.Numerals.{add-one}
 use native.Mathlib.Omega.{arith}
 use lib.ListN.{length, take, drop, getD, set, length-append, length-drop}
 use lib.Seq.{take-all, take-suc, drop-cons, set-at, append-snoc, length-take-le}
-use Rattle.exports.proofs.copy.Statement.{statement}
-use Rattle.exports.proofs.copy.Tie as tie
+use Rattle.dulgaverk.proofs.copy.Statement.{statement}
+use Rattle.dulgaverk.proofs.copy.Tie as tie
 
 -- one byte more
 copied-more : (d s t : List ℕ) (i : ℕ) → t ≡ take i s ++ drop i d → i < length s → i < length d → set t i (getD s i 0) ≡ take (i + 1) s ++ drop (i + 1) d

@@ -1,4 +1,4 @@
--- `exports::dulgaverk_show` meets its contract: the part that `bundle::show` hands back is copied where it fits. Assumes nothing.
+-- `dulgaverk::dulgaverk_show` meets its contract: the part that `bundle::show` hands back is copied where it fits. Assumes nothing.
 use mathlib.Core.Path.{_≡_, refl, ap, _∙_}
 use mathlib.Core.List.{List, _++_}
 use Prim.Native.Nat.{ℕ, _≤_, _<_}
@@ -6,9 +6,9 @@ use native.Mathlib.Omega.{arith}
 use lib.ListN.{length, drop}
 use borrow.Author.Needs.{needs}
 use Rattle.fields.specs.Answers.{over}
-use Rattle.exports.specs.Copied.{Copied}
-use Rattle.exports.proofs.dulgaverk_show.Statement.{statement}
-use Rattle.exports.proofs.dulgaverk_show.Tie as tie
+use Rattle.dulgaverk.specs.Copied.{Copied}
+use Rattle.dulgaverk.proofs.dulgaverk_show.Statement.{statement}
+use Rattle.dulgaverk.proofs.dulgaverk_show.Tie as tie
 
 module _ {part p : List ℕ} (was : List ℕ) (e : p ≡ part) where
   kept : length was < length p → Copied part was was (length p)

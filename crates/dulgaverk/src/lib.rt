@@ -4,7 +4,7 @@ ghost use mathlib.Core.Path.{_≡_};
 ghost use mathlib.Core.List.{_++_};
 ghost use Prim.Native.Nat.{_≤_};
 ghost use lib.ListN.{length, drop};
-ghost use Rattle.exports.specs.Copied.{Copied};
+ghost use Rattle.dulgaverk.specs.Copied.{Copied};
 ghost use Rattle.bundle.specs.Show.{showPart};
 ghost use Rattle.bundle.specs.Promises.{Reads, Writes, AnswersShow, partBytes};
 ghost use Rattle.formula.specs.Promises.{Tests};
