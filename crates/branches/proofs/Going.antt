@@ -25,7 +25,7 @@ use Rattle.rows.specs.Steps.{Same, rowLeft, moreRows, lastMade, fieldChecked, S
 use Rattle.branches.specs.Room.{fieldsLeft, Spare}
 use Rattle.branches.specs.Branches.{entriesFrom, Comes, Stopped}
 use Rattle.branches.proofs.Counting.{count-starts, spare-less}
-use Rattle.bundle.specs.declared.Line as tally
+use Rattle.forms.specs.declared.LineNumber.{LineNumber}
 use Rattle.rows.specs.declared.tally.Tally.{Tally}
 use Rattle.rows.specs.declared.steps.Stepped.{Stepped}
 use Rattle.rows.specs.declared.steps.Stepped.the-variants.{Refused, Made, Strengthens, ClosesNumber, ClosesStride}
@@ -144,13 +144,13 @@ module _ {K : ℕ} {p : List ℕ} {at : ℕ} {kinds₀ : List ℕ} {buf₀ : Lis
           few = omega (arith, g .few, count-starts s);
         })
 
-    pub going-strengthens : {i : tally.Line} {u : Tally} → r ≡ Strengthens u i → Stopped K p at kinds₀ buf₀ t₀ kinds′ buf′ (Stop.Strengthens i a next u)
+    pub going-strengthens : {i : LineNumber} {u : Tally} → r ≡ Strengthens u i → Stopped K p at kinds₀ buf₀ t₀ kinds′ buf′ (Stop.Strengthens i a next u)
     going-strengthens e = let y = rw e at x in record { kept = all-kept; by = comes (y .by .0) (y .by .1) }
 
-    pub going-number : {i : tally.Line} {u : Tally} → r ≡ ClosesNumber u i → Stopped K p at kinds₀ buf₀ t₀ kinds′ buf′ (Stop.ClosesNumber i a next u)
+    pub going-number : {i : LineNumber} {u : Tally} → r ≡ ClosesNumber u i → Stopped K p at kinds₀ buf₀ t₀ kinds′ buf′ (Stop.ClosesNumber i a next u)
     going-number e = let y = rw e at x in record { kept = all-kept; by = comes (y .by .0) (y .by .1) }
 
-    pub going-stride : {i : tally.Line} {h : ℤ} {u : Tally} → r ≡ ClosesStride u i h → Stopped K p at kinds₀ buf₀ t₀ kinds′ buf′ (Stop.ClosesStride i a next u h)
+    pub going-stride : {i : LineNumber} {h : ℤ} {u : Tally} → r ≡ ClosesStride u i h → Stopped K p at kinds₀ buf₀ t₀ kinds′ buf′ (Stop.ClosesStride i a next u h)
     going-stride e = let y = rw e at x in record { kept = all-kept; by = (comes (y .by .0) (y .by .1), y .by .2) }
 
 pub going-start : {K : ℕ} {p : List ℕ} {at : ℕ} {kinds : List ℕ} {buf : List ℤ} {t : Tally}

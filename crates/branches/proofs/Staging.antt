@@ -19,7 +19,7 @@ use Rattle.rows.specs.Rows.{Kept}
 use Rattle.branches.specs.Branches.{Comes, Stopped}
 use Rattle.closes.specs.Ends.{EndedBy, below, strengthened, Splits}
 use Rattle.branches.specs.Branching.{returnedTo, closedBy, Started, Branches}
-use Rattle.bundle.specs.declared.Line as tally
+use Rattle.forms.specs.declared.LineNumber.{LineNumber}
 use Rattle.rows.specs.declared.tally.Tally.{Tally}
 use Rattle.rows.specs.declared.derive.Derived.{Derived}
 use Rattle.rows.specs.declared.derive.Derived.the-variants as derived
@@ -50,7 +50,7 @@ module _ {K : ℕ} {p : List ℕ} {at : ℕ} {kinds : List ℕ} {buf : List ℤ}
   }
 
   -- The row that the entries come to, by the code's answer.
-  module _ {r : Stop} (s : Stopped K p at kinds buf t kinds′ buf′ r) {i : tally.Line} {a next : ℕ} {u : Tally} where
+  module _ {r : Stop} (s : Stopped K p at kinds buf t kinds′ buf′ r) {i : LineNumber} {a next : ℕ} {u : Tally} where
     pub number-comes : r ≡ Stop.ClosesNumber i a next u → Comes K p at kinds buf t kinds′ buf′ (rules.CloseNumber (i .0)) a next u
     number-comes e = rw e at (s .by)
 
@@ -93,7 +93,7 @@ module _ {K : ℕ} {p : List ℕ} {at : ℕ} {kinds : List ℕ} {buf : List ℤ}
         }
 
   module _ {r : Stop} (s : Stopped K p at kinds buf t kinds′ buf′ r) (scratch : List ℕ) (o : ℕ) (scratch′ : List ℕ) (e : Ended) where
-    pub number-closed : {i : tally.Line} {a next : ℕ} {u : Tally} {b : Branched} {v : Tally} → r ≡ Stop.ClosesNumber i a next u
+    pub number-closed : {i : LineNumber} {a next : ℕ} {u : Tally} {b : Branched} {v : Tally} → r ≡ Stop.ClosesNumber i a next u
         → EndedBy (λ at. byNumber (refusal at) (linesIn K kinds′ buf′ (u .lines .0)) (i .0)) scratch o scratch′ e
         → v ≡ returnedTo u t → b ≡ closedBy e a next v
         → Branches K p at kinds buf t scratch o kinds′ buf′ scratch′ b
@@ -101,7 +101,7 @@ module _ {K : ℕ} {p : List ℕ} {at : ℕ} {kinds : List ℕ} {buf : List ℤ}
     number-closed {i} {a} {next} {u} q w ev eb =
         rw (eb, ev) (row-closed (number-comes s q) (s .kept) (λ at. byNumber (refusal at) (linesIn K kinds′ buf′ (u .lines .0)) (i .0)) refl scratch o scratch′ e w)
 
-    pub stride-closed : {i : tally.Line} {g : ℤ} {a next : ℕ} {u : Tally} {b : Branched} {v : Tally} → r ≡ Stop.ClosesStride i a next u g
+    pub stride-closed : {i : LineNumber} {g : ℤ} {a next : ℕ} {u : Tally} {b : Branched} {v : Tally} → r ≡ Stop.ClosesStride i a next u g
         → EndedBy (λ at. byStride (refusal at) (linesIn K kinds′ buf′ (u .lines .0)) (i .0) (natAbs g)) scratch o scratch′ e
         → v ≡ returnedTo u t → b ≡ closedBy e a next v
         → Branches K p at kinds buf t scratch o kinds′ buf′ scratch′ b

@@ -5,7 +5,6 @@ ghost use Rattle.branches.specs.Branches.{Stopped};
 ghost use mathlib.Core.Path.{_≡_};
 ghost use Prim.Native.Nat.{_+_};
 ghost use Rattle.branches.specs.Branching.{returnedTo, closedBy, resumedBy, Started, Branches};
-use bundle::Line;
 use closes::ends::Ended;
 use closes::ends::close_number;
 use closes::ends::close_stride;
@@ -14,6 +13,7 @@ use closes::ends::start;
 use closes::formulas::put_pair;
 use fields::Next;
 use fields::next_field;
+use forms::LineNumber;
 use rows::derive::Derived;
 use rows::steps::Stepped;
 use rows::steps::step;
@@ -26,19 +26,19 @@ pub enum Stop {
     },
     // The row at `at` splits or ends the branch; the tally has counted it, and the fields go on at next.
     Strengthens {
-        t: Line,
+        t: LineNumber,
         at: usize,
         next: usize,
         tally: Tally,
     },
     ClosesNumber {
-        t: Line,
+        t: LineNumber,
         at: usize,
         next: usize,
         tally: Tally,
     },
     ClosesStride {
-        t: Line,
+        t: LineNumber,
         at: usize,
         next: usize,
         tally: Tally,

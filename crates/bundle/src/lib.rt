@@ -19,6 +19,7 @@ use forms::BUNDLE_BYTES;
 use forms::COEFFICIENT_BYTES;
 use forms::CONSTANTS;
 use forms::CONSTRAINTS;
+use forms::LineNumber;
 use locate::Located;
 use locate::locate;
 use put::first_bad;
@@ -179,11 +180,8 @@ pub fn write(k: u8, kinds: &[u8], numbers: &[i16], out: &mut [u8]) -> WriteResul
     }
 }
 
-// A line's number on its branch: A's constraints in file order, then B's, then the lines that rows make.
-pub struct Line(pub u16);
-
 // The field of the constraint that a line number names, out of A's or B's buffer; the empty part at A's start where it is refused.
-pub fn show<'a>(a: &'a [u8], b: &'a [u8], line: Line) -> &'a [u8]
+pub fn show<'a>(a: &'a [u8], b: &'a [u8], line: LineNumber) -> &'a [u8]
     ensures { λ r. ⌜ Shows (a .entry) (b .entry) (line .0) r ⌝ }
 {
     match locate(a, b, line) {
@@ -199,7 +197,7 @@ pub fn show<'a>(a: &'a [u8], b: &'a [u8], line: Line) -> &'a [u8]
 }
 
 // The answer to the same call.
-pub fn show_answer(a: &[u8], b: &[u8], line: Line) -> Answer
+pub fn show_answer(a: &[u8], b: &[u8], line: LineNumber) -> Answer
     ensures { λ r. ⌜ AnswersShow (now (a .entry)) (now (b .entry)) (line .0) r ⌝ }
 {
     match locate(a, b, line) {

@@ -1,11 +1,11 @@
 // A constraint's field, found by its line number.
-use super::Line;
 use super::scan;
 use fields::Answer;
 use fields::Next;
 use fields::answers::refusal;
 use fields::next_field;
 use forms::BUNDLE_BYTES;
+use forms::LineNumber;
 ghost use mathlib.Core.Path.{_≡_};
 ghost use Rattle.fields.specs.Answers.{answer};
 ghost use Rattle.bundle.specs.Locate.{IsPlace, bothBundles, pairOf, partAt, IsLocated};
@@ -112,7 +112,7 @@ fn part_at(file: u8, place: Place) -> Located
 }
 
 // A's lines come first; a constraint's field stands behind the two header fields.
-pub fn locate(a: &[u8], b: &[u8], line: Line) -> Located
+pub fn locate(a: &[u8], b: &[u8], line: LineNumber) -> Located
     ensures { λ r. ⌜ IsLocated (now (a .entry)) (now (b .entry)) (line .0) r ⌝ }
 {
     let pair = scan_both(a, b);

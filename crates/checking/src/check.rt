@@ -2,7 +2,6 @@
 use crate::load::load;
 use branches::branch::Branched;
 use branches::branch::check_branch;
-use bundle::Line;
 use bundle::scan;
 use fields::FileKind;
 use fields::WriteResult;
@@ -13,8 +12,9 @@ use fields::header::Headed;
 use fields::header::put_header;
 use fields::header::read_header;
 use forms::BUNDLE_BYTES;
+use forms::LineNumber;
 use forms::PROOF_BYTES;
-use rows::tally::Row;
+use forms::RowNumber;
 use rows::tally::Tally;
 ghost use mathlib.Core.Path.{_≡_};
 ghost use Prim.Native.Nat.{_+_, _*_, _≤_};
@@ -104,8 +104,8 @@ fn check_root(
     requires { ⌜ Enough (now proof) at (now scratch) ⌝ }
     ensures { λ r. ⌜ Roots k (linesIn k (now (kinds .entry)) (now (lines .entry)) count) (now (proof .entry)) at (now (out .entry)) (now (out .exit)) r ⌝ }
 {
-    let rows = Row(0);
-    let made = Line(count as u16);
+    let rows = RowNumber(0);
+    let made = LineNumber(count as u16);
     let tally = Tally {
         rows,
         lines: made,

@@ -8,7 +8,7 @@ ghost use Rattle.rows.specs.Rows.{Ready};
 ghost use Rattle.rows.specs.Entries.{Multiplies};
 ghost use Rattle.closes.specs.Closing.{ByNumber};
 ghost use Rattle.closes.specs.Striding.{ByStride};
-use bundle::Line;
+use forms::LineNumber;
 use rows::derive::is_there;
 use rows::derive::kind_of;
 use rows::tally::Tally;
@@ -29,7 +29,7 @@ fn is_false(kind: u8, d: i64) -> bool
 }
 
 // Close by number. 10, 15.
-pub fn test_number(lines: &[i64], kinds: &[u8], tally: Tally, i: Line, k: usize) -> Test
+pub fn test_number(lines: &[i64], kinds: &[u8], tally: Tally, i: LineNumber, k: usize) -> Test
     requires { ⌜ Ready k (now kinds) (now lines) (tally .lines .0) ⌝ }
     ensures { λ r. ⌜ ByNumber k (now (kinds .entry)) (now (lines .entry)) tally (i .0) r ⌝ }
 {
@@ -61,7 +61,14 @@ fn is_stride(g: i64) -> bool
 }
 
 // Close by stride. 10, 11, 12, 15.
-pub fn test_stride(lines: &[i64], kinds: &[u8], tally: Tally, i: Line, g: i64, k: usize) -> Test
+pub fn test_stride(
+    lines: &[i64],
+    kinds: &[u8],
+    tally: Tally,
+    i: LineNumber,
+    g: i64,
+    k: usize,
+) -> Test
     requires { ⌜ Ready k (now kinds) (now lines) (tally .lines .0) ⌝ }
     requires { ⌜ Multiplies (natAbs g) g ⌝ }
     ensures { λ r. ⌜ ByStride k (now (kinds .entry)) (now (lines .entry)) tally (i .0) (natAbs g) r ⌝ }

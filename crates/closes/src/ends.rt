@@ -14,7 +14,7 @@ use crate::closing::test_number;
 use crate::closing::test_stride;
 use crate::formulas::put_literal;
 use crate::formulas::put_stride;
-use bundle::Line;
+use forms::LineNumber;
 use rows::derive::Derived;
 use rows::derive::is_there;
 use rows::derive::kind_of;
@@ -33,7 +33,7 @@ pub fn close_number(
     lines: &[i64],
     kinds: &[u8],
     tally: Tally,
-    i: Line,
+    i: LineNumber,
     k: usize,
     scratch: &mut [u8],
     o: usize,
@@ -60,7 +60,7 @@ pub fn close_stride(
     lines: &[i64],
     kinds: &[u8],
     tally: Tally,
-    i: Line,
+    i: LineNumber,
     g: i64,
     k: usize,
     scratch: &mut [u8],
@@ -87,7 +87,7 @@ pub fn close_stride(
 pub fn start(
     lines: &mut [i64],
     kinds: &mut [u8],
-    i: Line,
+    i: LineNumber,
     n: usize,
     k: usize,
     kind: u8,
@@ -103,7 +103,7 @@ pub fn start(
 }
 
 // The tests of a strengthen, and the line that its first branch starts with. 10, 11, 17, 16, 13.
-pub fn split(lines: &mut [i64], kinds: &mut [u8], tally: Tally, i: Line, k: usize) -> Derived
+pub fn split(lines: &mut [i64], kinds: &mut [u8], tally: Tally, i: LineNumber, k: usize) -> Derived
     requires { ⌜ Ready k (now kinds) (now lines) (tally .lines .0) ⌝ }
     ensures { λ r. ⌜ Splits k (now (kinds .entry)) (now (lines .entry)) tally (i .0) (now (kinds .exit)) (now (lines .exit)) r ⌝ }
 {

@@ -9,11 +9,11 @@ ghost use Rattle.bundle.specs.Show.{showPart};
 ghost use Rattle.bundle.specs.Promises.{Reads, Writes, AnswersShow, partBytes};
 ghost use Rattle.formula.specs.Promises.{Tests};
 ghost use Rattle.checking.specs.Promises.{Checks};
-use bundle::Line;
 use bundle::ReadResult;
 use checking::check::check;
 use fields::Answer;
 use fields::WriteResult;
+use forms::LineNumber;
 use formula::Tested;
 
 #[no_mangle]
@@ -39,7 +39,7 @@ pub extern "C" fn dulgaverk_write(
 pub extern "C" fn dulgaverk_show_answer(a: &[u8], b: &[u8], line: u16) -> Answer
     ensures { λ r. ⌜ AnswersShow (now (a .entry)) (now (b .entry)) line r ⌝ }
 {
-    bundle::show_answer(a, b, Line(line))
+    bundle::show_answer(a, b, LineNumber(line))
 }
 
 // The first bytes of `to` become those of `from`.
@@ -67,7 +67,7 @@ pub extern "C" fn dulgaverk_check(a: &[u8], b: &[u8], proof: &[u8], out: &mut [u
 pub extern "C" fn dulgaverk_show<'a>(a: &'a [u8], b: &'a [u8], line: u16, out: &mut [u8]) -> usize
     ensures { λ r. ⌜ Copied (partBytes (showPart (now (a .entry)) (now (b .entry)) line) (now (a .entry)) (now (b .entry))) (now (out .entry)) (now (out .exit)) r ⌝ }
 {
-    let part = bundle::show(a, b, Line(line));
+    let part = bundle::show(a, b, LineNumber(line));
     let n = part.len();
     if out.len() < n {
         return n;

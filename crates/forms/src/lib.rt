@@ -1,5 +1,11 @@
-// Forms, constraints, lines and formulas, and what they say: specs/. Here are the limits that code tests, as specs/Edition.antt
-// has them for edition 1. Document 01, "Forms and lines", "Fields" and "Formulas".
+// Forms, constraints, lines and formulas, and what they say: specs/. Here are the numbers of lines and rows, and the limits that
+// code tests, as specs/Edition.antt has them for edition 1. Document 01, "Forms and lines", "Fields" and "Formulas".
+
+// A line is numbered on its branch, from 0: A's constraints in file order, then B's, then the lines that rows make.
+pub struct LineNumber(pub u16);
+
+// A row is numbered in the file, from 0.
+pub struct RowNumber(pub u16);
 
 // The most constants: K is 1 to this.
 pub const CONSTANTS: u8 = 16;

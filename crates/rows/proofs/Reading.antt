@@ -25,7 +25,7 @@ use Rattle.fields.specs.Ranges.{Held}
 use Rattle.lines.specs.Parts.{part-part}
 use Rattle.proof.specs.Entries.{Tagged, combineTag, reduceTag, scaleTag, strengthenTag, numberTag, strideTag, claimTag, sizeOf, entryFrom, lineNumber, multiplier, entryTagged, inPlace, entry}
 use Rattle.rows.specs.Entries.{Multiplies, stated, Ranged, Shaped, claimed, there, Entered}
-use Rattle.bundle.specs.declared.Line.{Line}
+use Rattle.forms.specs.declared.LineNumber.{LineNumber}
 use Rattle.rows.specs.declared.entries.Entry.{Entry}
 use Rattle.rows.specs.declared.entries.Entry.the-variants.{Combine, Reduce, Scale, Strengthen, CloseNumber, CloseStride, Claim, Refused}
 
@@ -70,7 +70,7 @@ module _ (p : List ℕ) (start len : ℕ) (there : start + len ≤ length p) whe
     unfolding _>>_ need
     right-size h e g = record { is = λ K at. rw (size, sizes K, eq-eqb len n h) (e K at); ranged = g }
 
-  pub combine-is : {s t : Line} {α β : ℤ} → len ≡ 6
+  pub combine-is : {s t : LineNumber} {α β : ℤ} → len ≡ 6
       → s .0 ≡ unsigned (take 1 (drop start p)) → t .0 ≡ unsigned (take 1 (drop (start + 1) p))
       → Multiplies (unsigned (take 2 (drop (start + 2) p))) α → Multiplies (unsigned (take 2 (drop (start + 4) p))) β
       → Shaped combineTag p start len (Combine s t α β)
@@ -85,7 +85,7 @@ module _ (p : List ℕ) (start len : ℕ) (there : start + len ≤ length p) whe
       rw (e₁, e₂, e₃, e₄))
       (λ K. (multiplies-own a, multiplies-own b))
 
-  pub reduce-is : {s t : Line} {α : ℤ} → len ≡ 4
+  pub reduce-is : {s t : LineNumber} {α : ℤ} → len ≡ 4
       → s .0 ≡ unsigned (take 1 (drop start p)) → t .0 ≡ unsigned (take 1 (drop (start + 1) p))
       → α ≡ signed (take 2 (drop (start + 2) p)) → Held 2 α
       → Shaped reduceTag p start len (Reduce s t α)
@@ -100,7 +100,7 @@ module _ (p : List ℕ) (start len : ℕ) (there : start + len ≤ length p) whe
       ∙ ap₂ (λ (x : ℕ) (y : ℤ). accepted (rules.row (rules.Derive (rules.Reduce (unsigned (take 1 (take len (drop start p)))) x y)))) e₂ e₃)
       (λ K. held-within held)
 
-  pub scale-is : {t : Line} {α : ℤ} → len ≡ 3 → t .0 ≡ unsigned (take 1 (drop start p)) → Multiplies (unsigned (take 2 (drop (start + 1) p))) α
+  pub scale-is : {t : LineNumber} {α : ℤ} → len ≡ 3 → t .0 ≡ unsigned (take 1 (drop start p)) → Multiplies (unsigned (take 2 (drop (start + 1) p))) α
       → Shaped scaleTag p start len (Scale t α)
   unfolding sizeOf entryFrom lineNumber multiplier
   scale-is h et a =
@@ -111,7 +111,7 @@ module _ (p : List ℕ) (start len : ℕ) (there : start + len ≤ length p) whe
       rw (e₁, e₂))
       (λ K. multiplies-own a)
 
-  pub stride-is : {t : Line} {g : ℤ} → len ≡ 3 → t .0 ≡ unsigned (take 1 (drop start p)) → Multiplies (unsigned (take 2 (drop (start + 1) p))) g
+  pub stride-is : {t : LineNumber} {g : ℤ} → len ≡ 3 → t .0 ≡ unsigned (take 1 (drop start p)) → Multiplies (unsigned (take 2 (drop (start + 1) p))) g
       → Shaped strideTag p start len (CloseStride t g)
   unfolding sizeOf entryFrom lineNumber multiplier
   stride-is h et a =
@@ -122,14 +122,14 @@ module _ (p : List ℕ) (start len : ℕ) (there : start + len ≤ length p) whe
       rw (e₁, e₂))
       (λ K. multiplies-own a)
 
-  pub strengthen-is : {t : Line} → len ≡ 1 → t .0 ≡ unsigned (take 1 (drop start p)) → Shaped strengthenTag p start len (Strengthen t)
+  pub strengthen-is : {t : LineNumber} → len ≡ 1 → t .0 ≡ unsigned (take 1 (drop start p)) → Shaped strengthenTag p start len (Strengthen t)
   unfolding sizeOf entryFrom lineNumber
   strengthen-is h et =
       right-size strengthenTag 1 (λ K. refl) h
       (λ K at. let e₁ = et ∙ ap unsigned (first 1 (omega arith)) in rw e₁)
       (λ K. tt)
 
-  pub number-is : {t : Line} → len ≡ 1 → t .0 ≡ unsigned (take 1 (drop start p)) → Shaped numberTag p start len (CloseNumber t)
+  pub number-is : {t : LineNumber} → len ≡ 1 → t .0 ≡ unsigned (take 1 (drop start p)) → Shaped numberTag p start len (CloseNumber t)
   unfolding sizeOf entryFrom lineNumber
   number-is h et =
       right-size numberTag 1 (λ K. refl) h

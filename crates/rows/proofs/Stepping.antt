@@ -27,7 +27,7 @@ use Rattle.rows.specs.Claims.{Claimed}
 use Rattle.rows.specs.Entries.{Multiplies, stated, there, Entered}
 use Rattle.rows.specs.declared.entries.Entry as entries
 use Rattle.rows.specs.declared.entries.Entry.the-variants as entry-of
-use Rattle.bundle.specs.declared.Line as numbered
+use Rattle.forms.specs.declared.LineNumber.{LineNumber}
 use Rattle.rows.specs.declared.tally.Tally.{Tally}
 use Rattle.rows.specs.declared.tally.Counted.{Counted}
 use Rattle.rows.specs.declared.derive.Derived.{Derived}
@@ -84,7 +84,7 @@ module _ {K : ℕ} {kinds : List ℕ} {buf : List ℤ} (t : Tally) {s : rules.St
 pub counts-full : (row : rules.Row) (t : Tally) → 1024 ≤ t .rows .0 → Counts row t (Refused 18)
 counts-full row t h = record { steps = λ K kinds buf. row-full K kinds buf t row h }
 
-module _ (t : Tally) (h : t .rows .0 < 1024) {u : Tally} (e : u ≡ moreRows t) (i : numbered.Line) where
+module _ (t : Tally) (h : t .rows .0 < 1024) {u : Tally} (e : u ≡ moreRows t) (i : LineNumber) where
   pub counts-strengthen : Counts (rules.Strengthen (i .0)) t (Strengthens u i)
   counts-strengthen = record { steps = λ K kinds buf. record { kept = kept-refl; by = (row-counted K kinds buf t (rules.Strengthen (i .0)) h, e) } }
 

@@ -6,7 +6,7 @@ ghost use Rattle.fields.specs.Numbers.{signeds};
 ghost use Rattle.lines.specs.Parts.{part};
 ghost use Rattle.proof.specs.Rows.{equals};
 ghost use Rattle.rows.specs.Claims.{Claimed};
-use bundle::Line;
+use forms::LineNumber;
 
 // Whether the k + 1 four-byte numbers at start are those of the form at a place.
 fn same_form(p: &[u8], start: usize, lines: &[i64], at: usize, k: usize) -> bool
@@ -25,7 +25,7 @@ fn same_form(p: &[u8], start: usize, lines: &[i64], at: usize, k: usize) -> bool
 }
 
 // Whether t, and then tA, are those of line i.
-pub fn claim_holds(p: &[u8], start: usize, lines: &[i64], i: Line, k: usize) -> bool
+pub fn claim_holds(p: &[u8], start: usize, lines: &[i64], i: LineNumber, k: usize) -> bool
     requires { ⌜ (k ≤ 16) × (start + 8 * (k + 1) ≤ length (now p)) × (i .0 < 128) × (i .0 * (2 * (k + 1)) + 2 * (k + 1) ≤ length (now lines)) ⌝ }
     ensures { λ r. ⌜ Claimed k (now (p .entry)) start (now (lines .entry)) (i .0) r ⌝ }
 {

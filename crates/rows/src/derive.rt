@@ -10,7 +10,7 @@ ghost use Rattle.rows.specs.Entries.{Multiplies};
 ghost use Rattle.rows.specs.Rows.{Ready, Terms, Appended, Derives};
 use crate::tally::Tally;
 use crate::tally::line_counted;
-use bundle::Line;
+use forms::LineNumber;
 
 pub enum Derived {
     Refused { number: u8 },
@@ -24,9 +24,9 @@ fn append(
     tally: Tally,
     apart: bool,
     f: i64,
-    i: Line,
+    i: LineNumber,
     g: i64,
-    j: Line,
+    j: LineNumber,
     kind: u8,
     k: usize,
 ) -> Derived
@@ -51,14 +51,14 @@ fn append(
 }
 
 // A lookup takes a line: whether it is there, and its kind.
-pub fn is_there(tally: Tally, i: Line) -> bool
+pub fn is_there(tally: Tally, i: LineNumber) -> bool
     ensures { λ r. ⌜ r ≡ ltb (i .0) (tally .lines .0) ⌝ }
 {
     let count = tally.lines;
     i.0 < count.0
 }
 
-pub fn kind_of(kinds: &[u8], i: Line) -> u8
+pub fn kind_of(kinds: &[u8], i: LineNumber) -> u8
     requires { ⌜ i .0 < length (now kinds) ⌝ }
     ensures { λ r. ⌜ r ≡ getD (now (kinds .entry)) (i .0) 0 ⌝ }
 {
@@ -71,8 +71,8 @@ pub fn combine(
     lines: &mut [i64],
     kinds: &mut [u8],
     tally: Tally,
-    s: Line,
-    t: Line,
+    s: LineNumber,
+    t: LineNumber,
     alpha: i64,
     beta: i64,
     k: usize,
@@ -107,8 +107,8 @@ pub fn reduce(
     lines: &mut [i64],
     kinds: &mut [u8],
     tally: Tally,
-    s: Line,
-    t: Line,
+    s: LineNumber,
+    t: LineNumber,
     alpha: i64,
     k: usize,
 ) -> Derived
@@ -137,7 +137,7 @@ pub fn scale(
     lines: &mut [i64],
     kinds: &mut [u8],
     tally: Tally,
-    t: Line,
+    t: LineNumber,
     alpha: i64,
     k: usize,
 ) -> Derived

@@ -5,32 +5,32 @@ ghost use lib.ListN.{length, take, drop};
 ghost use Rattle.proof.specs.Entries.{combineTag, reduceTag, scaleTag, strengthenTag, numberTag, strideTag};
 ghost use Rattle.fields.specs.Numbers.{unsigned};
 ghost use Rattle.rows.specs.Entries.{Multiplies, Shaped, claimed, Entered};
-use bundle::Line;
+use forms::LineNumber;
 
 pub enum Entry {
     Combine {
-        s: Line,
-        t: Line,
+        s: LineNumber,
+        t: LineNumber,
         alpha: i64,
         beta: i64,
     },
     Reduce {
-        s: Line,
-        t: Line,
+        s: LineNumber,
+        t: LineNumber,
         alpha: i64,
     },
     Scale {
-        t: Line,
+        t: LineNumber,
         alpha: i64,
     },
     Strengthen {
-        t: Line,
+        t: LineNumber,
     },
     CloseNumber {
-        t: Line,
+        t: LineNumber,
     },
     CloseStride {
-        t: Line,
+        t: LineNumber,
         g: i64,
     },
     // The contents of a claim start there.
@@ -43,12 +43,12 @@ pub enum Entry {
 }
 
 // A line number has one byte.
-fn line_at(p: &[u8], at: usize) -> Line
+fn line_at(p: &[u8], at: usize) -> LineNumber
     requires { ⌜ at + 1 ≤ length (now p) ⌝ }
     ensures { λ r. ⌜ r .0 ≡ unsigned (take 1 (drop at (now (p .entry)))) ⌝ }
 {
     let n = fields::numbers::unsigned_at(p, at, 1);
-    Line(n as u16)
+    LineNumber(n as u16)
 }
 
 // A multiplier or g has two bytes.

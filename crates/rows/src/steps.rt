@@ -18,7 +18,7 @@ use crate::entries::Entry;
 use crate::entries::entry_at;
 use crate::tally::Tally;
 use crate::tally::row_counted;
-use bundle::Line;
+use forms::LineNumber;
 
 pub enum Stepped {
     Refused { number: u8 },
@@ -27,9 +27,9 @@ pub enum Stepped {
     // A claim stated the line made last.
     Claimed,
     // A row that splits the branch or ends it, counted but not yet tested.
-    Strengthens { tally: Tally, t: Line },
-    ClosesNumber { tally: Tally, t: Line },
-    ClosesStride { tally: Tally, t: Line, g: i64 },
+    Strengthens { tally: Tally, t: LineNumber },
+    ClosesNumber { tally: Tally, t: LineNumber },
+    ClosesStride { tally: Tally, t: LineNumber, g: i64 },
 }
 
 // Each row is counted first. 18.
@@ -37,8 +37,8 @@ pub fn combine_row(
     lines: &mut [i64],
     kinds: &mut [u8],
     tally: Tally,
-    s: Line,
-    t: Line,
+    s: LineNumber,
+    t: LineNumber,
     alpha: i64,
     beta: i64,
     k: usize,
@@ -67,8 +67,8 @@ pub fn reduce_row(
     lines: &mut [i64],
     kinds: &mut [u8],
     tally: Tally,
-    s: Line,
-    t: Line,
+    s: LineNumber,
+    t: LineNumber,
     alpha: i64,
     k: usize,
 ) -> Stepped
@@ -96,7 +96,7 @@ pub fn scale_row(
     lines: &mut [i64],
     kinds: &mut [u8],
     tally: Tally,
-    t: Line,
+    t: LineNumber,
     alpha: i64,
     k: usize,
 ) -> Stepped
@@ -120,7 +120,7 @@ pub fn scale_row(
     Stepped::Refused { number: 18 }
 }
 
-fn strengthen_row(tally: Tally, t: Line) -> Stepped
+fn strengthen_row(tally: Tally, t: LineNumber) -> Stepped
     ensures { λ r. ⌜ Counts (Strengthen (t .0)) tally r ⌝ }
 {
     let counted = row_counted(tally);
@@ -132,7 +132,7 @@ fn strengthen_row(tally: Tally, t: Line) -> Stepped
     Stepped::Refused { number: 18 }
 }
 
-fn number_row(tally: Tally, t: Line) -> Stepped
+fn number_row(tally: Tally, t: LineNumber) -> Stepped
     ensures { λ r. ⌜ Counts (CloseNumber (t .0)) tally r ⌝ }
 {
     let counted = row_counted(tally);
@@ -144,7 +144,7 @@ fn number_row(tally: Tally, t: Line) -> Stepped
     Stepped::Refused { number: 18 }
 }
 
-fn stride_row(tally: Tally, t: Line, g: i64) -> Stepped
+fn stride_row(tally: Tally, t: LineNumber, g: i64) -> Stepped
     requires { ⌜ Multiplies (natAbs g) g ⌝ }
     ensures { λ r. ⌜ Counts (CloseStride (t .0) (natAbs g)) tally r ⌝ }
 {
@@ -165,7 +165,7 @@ fn claim_step(p: &[u8], start: usize, made: bool, lines: &[i64], tally: Tally, k
 {
     let count = tally.lines;
     if made {
-        let last = Line(count.0 - 1);
+        let last = LineNumber(count.0 - 1);
         if claim_holds(p, start, lines, last, k) {
             return Stepped::Claimed;
         }

@@ -1,17 +1,15 @@
 // The tally of a check: the numbers of the next row and the next line, and the strengthens open.
-use bundle::Line;
 use forms::LINES;
+use forms::LineNumber;
 use forms::ROWS;
+use forms::RowNumber;
 use forms::STRENGTHENS;
 ghost use mathlib.Core.Path.{_≡_};
 ghost use Rattle.rows.specs.Tally.{rowCounted, lineCounted, openCounted, Advanced};
 
-// A row is numbered in the file, a line on its branch.
-pub struct Row(pub u16);
-
 pub struct Tally {
-    pub rows: Row,
-    pub lines: Line,
+    pub rows: RowNumber,
+    pub lines: LineNumber,
     pub open: u16,
 }
 
@@ -30,7 +28,7 @@ fn next_row(t: Tally) -> Counted
     let n = row.0;
     if n < ROWS {
         let tally = Tally {
-            rows: Row(n + 1),
+            rows: RowNumber(n + 1),
             lines: line,
             open: t.open,
         };
@@ -51,7 +49,7 @@ fn next_line(t: Tally) -> Counted
     if n < LINES {
         let tally = Tally {
             rows: row,
-            lines: Line(n + 1),
+            lines: LineNumber(n + 1),
             open: t.open,
         };
         return Counted { made: true, tally };
