@@ -211,8 +211,7 @@ pub fn check_branch(
                     return Branched::Fault { number, at: a };
                 }
                 Derived::Made { tally: v } => {
-                    let count = u.lines;
-                    let n = count.0 as usize;
+                    let n = u.lines;
                     let head = put_pair(scratch, o, 0x31);
                     let first = check_branch(p, next, lines, kinds, v, k, scratch, head);
                     let Branched::Closed {

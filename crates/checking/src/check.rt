@@ -84,8 +84,8 @@ fn prepare(a: &[u8], b: &[u8], k: u8, m: usize, n: usize, lines: &mut [i64], kin
     requires { ⌜ Space k (m + n) (now kinds) (now lines) ⌝ }
     ensures { λ _. ⌜ Prepared (now (a .entry)) (now (b .entry)) k (now (kinds .exit)) (now (lines .exit)) m n ⌝ }
 {
-    load(a, 0, true, lines, kinds, 0);
-    load(b, k, false, lines, kinds, m);
+    load(a, 0, true, lines, kinds, LineNumber(0));
+    load(b, k, false, lines, kinds, LineNumber(m as u16));
 }
 
 // The root, from a place of the proof on, and all that follows. The buffers hold the lines, and the scratch takes the formula.

@@ -5,6 +5,8 @@ use fields::header::Headed;
 use fields::header::read_header;
 use fields::next_field;
 use fields::words::short_at;
+use forms::LineNumber;
+use rows::derive::set_kind;
 ghost use mathlib.Core.List.{[], _∷_, map};
 ghost use Prim.Native.Nat.{_+_, _≤_};
 ghost use lib.IntN.{pos};
@@ -58,17 +60,17 @@ fn load_line(
     in_a: bool,
     lines: &mut [i64],
     kinds: &mut [u8],
-    n: usize,
+    n: LineNumber,
     k: usize,
 )
-    requires { ⌜ Loads (now s) start k (now kinds) (now lines) n ⌝ }
-    ensures { λ _. ⌜ Loaded k (now (kinds .entry)) (now (lines .entry)) n (formLine in_a k kind (now (s .entry)) start ∷ []) (now (kinds .exit)) (now (lines .exit)) ⌝ }
+    requires { ⌜ Loads (now s) start k (now kinds) (now lines) (n .0) ⌝ }
+    ensures { λ _. ⌜ Loaded k (now (kinds .entry)) (now (lines .entry)) (n .0) (formLine in_a k kind (now (s .entry)) start ∷ []) (now (kinds .exit)) (now (lines .exit)) ⌝ }
 {
     let w = k + 1;
     let at = lines::place(n, k);
     load_numbers(s, start, w, lines, at);
     load_partial(s, start, w, lines, at + w, in_a);
-    kinds[n] = kind;
+    set_kind(kinds, n, kind);
 }
 
 // The fields from at on, which are constraints without fault, as lines behind the first n.
@@ -79,10 +81,10 @@ fn load_constraints(
     in_a: bool,
     lines: &mut [i64],
     kinds: &mut [u8],
-    n: usize,
+    n: LineNumber,
 )
-    requires { ⌜ Able k (fieldsAt (now s) at) (now kinds) (now lines) n ⌝ }
-    ensures { λ _. ⌜ Loaded k (now (kinds .entry)) (now (lines .entry)) n (map (lineOf in_a) (stated k (fieldsAt (now (s .entry)) at))) (now (kinds .exit)) (now (lines .exit)) ⌝ }
+    requires { ⌜ Able k (fieldsAt (now s) at) (now kinds) (now lines) (n .0) ⌝ }
+    ensures { λ _. ⌜ Loaded k (now (kinds .entry)) (now (lines .entry)) (n .0) (map (lineOf in_a) (stated k (fieldsAt (now (s .entry)) at))) (now (kinds .exit)) (now (lines .exit)) ⌝ }
 {
     let constants = k as usize;
     let mut here = at;
@@ -97,7 +99,7 @@ fn load_constraints(
                 next,
             } => {
                 load_line(s, start, tag - 3, in_a, lines, kinds, m, constants);
-                m += 1;
+                m = LineNumber(m.0 + 1);
                 here = next;
             }
             Next::Cut { at: _ } => {
@@ -111,9 +113,9 @@ fn load_constraints(
 }
 
 // A bundle that was gone over, with the same given K, as lines behind the first n.
-pub fn load(s: &[u8], given: u8, in_a: bool, lines: &mut [i64], kinds: &mut [u8], n: usize)
-    requires { ⌜ Bundled given (now s) (now kinds) (now lines) n ⌝ }
-    ensures { λ _. ⌜ BundleLoaded in_a given (now (s .entry)) (now (kinds .entry)) (now (lines .entry)) n (now (kinds .exit)) (now (lines .exit)) ⌝ }
+pub fn load(s: &[u8], given: u8, in_a: bool, lines: &mut [i64], kinds: &mut [u8], n: LineNumber)
+    requires { ⌜ Bundled given (now s) (now kinds) (now lines) (n .0) ⌝ }
+    ensures { λ _. ⌜ BundleLoaded in_a given (now (s .entry)) (now (kinds .entry)) (now (lines .entry)) (n .0) (now (kinds .exit)) (now (lines .exit)) ⌝ }
 {
     match read_header(s, FileKind::Bundle, given) {
         Headed::Header { k, next } => {

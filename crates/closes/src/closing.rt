@@ -36,8 +36,7 @@ pub fn test_number(lines: &[i64], kinds: &[u8], tally: Tally, i: LineNumber, k: 
     if !is_there(tally, i) {
         return Test::Refused { number: 10 };
     }
-    let n = i.0 as usize;
-    let t = lines::place(n, k);
+    let t = lines::place(i, k);
     if !lines::all_zero(lines, t, k) {
         return Test::Refused { number: 15 };
     }
@@ -82,8 +81,7 @@ pub fn test_stride(
     if !is_stride(g) {
         return Test::Refused { number: 12 };
     }
-    let n = i.0 as usize;
-    let t = lines::place(n, k);
+    let t = lines::place(i, k);
     if !lines::all_divisible(lines, t, k, g) {
         return Test::Refused { number: 15 };
     }

@@ -18,6 +18,7 @@ use forms::LineNumber;
 use rows::derive::Derived;
 use rows::derive::is_there;
 use rows::derive::kind_of;
+use rows::derive::set_kind;
 use rows::tally::Tally;
 use rows::tally::line_counted;
 use rows::tally::open_counted;
@@ -47,7 +48,7 @@ pub fn close_number(
             return Ended::Refused { number };
         }
         Test::Passed => {
-            let ta = lines::place_a(i.0 as usize, k);
+            let ta = lines::place_a(i, k);
             let kind = kind_of(kinds, i);
             let end = put_literal(lines, ta, k, kind, scratch, o);
             return Ended::Written { o: end };
@@ -76,7 +77,7 @@ pub fn close_stride(
             return Ended::Refused { number };
         }
         Test::Passed => {
-            let ta = lines::place_a(i.0 as usize, k);
+            let ta = lines::place_a(i, k);
             let end = put_stride(lines, ta, k, g, scratch, o);
             return Ended::Written { o: end };
         }
@@ -88,18 +89,18 @@ pub fn start(
     lines: &mut [i64],
     kinds: &mut [u8],
     i: LineNumber,
-    n: usize,
+    n: LineNumber,
     k: usize,
     kind: u8,
     t: bool,
     ta: bool,
 )
-    requires { ⌜ LineCopy k (now lines) (i .0) n × (128 ≤ length (now kinds)) ⌝ }
-    ensures lines { λ _. ⌜ now (lines .exit) ≡ startedLine k (i .0) n t ta (now (lines .entry)) ⌝ }
-    ensures kinds { λ _. ⌜ now (kinds .exit) ≡ set (now (kinds .entry)) n kind ⌝ }
+    requires { ⌜ LineCopy k (now lines) (i .0) (n .0) × (128 ≤ length (now kinds)) ⌝ }
+    ensures lines { λ _. ⌜ now (lines .exit) ≡ startedLine k (i .0) (n .0) t ta (now (lines .entry)) ⌝ }
+    ensures kinds { λ _. ⌜ now (kinds .exit) ≡ set (now (kinds .entry)) (n .0) kind ⌝ }
 {
-    lines::start_line(lines, i.0 as usize, n, k, t, ta);
-    kinds[n] = kind;
+    lines::start_line(lines, i, n, k, t, ta);
+    set_kind(kinds, n, kind);
 }
 
 // The tests of a strengthen, and the line that its first branch starts with. 10, 11, 17, 16, 13.
@@ -125,10 +126,9 @@ pub fn split(lines: &mut [i64], kinds: &mut [u8], tally: Tally, i: LineNumber, k
     if !made {
         return Derived::Refused { number: 16 };
     }
-    let count = tally.lines;
-    let n = count.0 as usize;
-    lines::start_line(lines, i.0 as usize, n, k, true, true);
-    kinds[n] = 0;
+    let n = tally.lines;
+    lines::start_line(lines, i, n, k, true, true);
+    set_kind(kinds, n, 0);
     if lines::raised_fit(lines, n, k) {
         return Derived::Made { tally: next };
     }

@@ -1,4 +1,5 @@
 // The lines of a branch in one flat lent buffer: the functions that read and write them.
+use forms::LineNumber;
 ghost use mathlib.Core.Path.{_≡_};
 ghost use mathlib.Core.Bool.{_&&_};
 ghost use Prim.Native.Nat.{_+_, _*_, _<_, _≤_};
@@ -12,20 +13,21 @@ ghost use Rattle.calculus.specs.Rules.{small, every};
 ghost use Rattle.lines.specs.Parts.{part};
 ghost use Rattle.lines.specs.Buffer.{size, formIn, Terms, LineTerms, LineCopy, Mixes, mixedLine, plusOne, copiedLine, strengthenedT, strengthenedBoth, startedLine};
 
-// Where the numbers of line i's t start, with k constants.
-pub fn place(i: usize, k: usize) -> usize
-    requires { ⌜ (i ≤ 128) × (k ≤ 16) ⌝ }
-    ensures { λ r. ⌜ r ≡ i * size k ⌝ }
+// Where the numbers of line i's t start, with k constants. Only here a line number becomes a place.
+pub fn place(i: LineNumber, k: usize) -> usize
+    requires { ⌜ (i .0 ≤ 128) × (k ≤ 16) ⌝ }
+    ensures { λ r. ⌜ r ≡ i .0 * size k ⌝ }
 {
-    i * (2 * (k + 1))
+    let n = i.0 as usize;
+    n * (2 * (k + 1))
 }
 
 // Where the numbers of line i's tA start.
-pub fn place_a(i: usize, k: usize) -> usize
-    requires { ⌜ (i ≤ 128) × (k ≤ 16) ⌝ }
-    ensures { λ r. ⌜ r ≡ i * size k + (k + 1) ⌝ }
+pub fn place_a(i: LineNumber, k: usize) -> usize
+    requires { ⌜ (i .0 ≤ 128) × (k ≤ 16) ⌝ }
+    ensures { λ r. ⌜ r ≡ i .0 * size k + (k + 1) ⌝ }
 {
-    i * (2 * (k + 1)) + (k + 1)
+    place(i, k) + (k + 1)
 }
 
 // One form of a new line, number by number in the steps of FM-ELIM: α·s, then β·t, then their sum. The w numbers of s, of t and of the new form start at these places.
@@ -44,9 +46,17 @@ fn mix_numbers(lines: &mut [i64], alpha: i64, s: usize, beta: i64, t: usize, new
 }
 
 // FM-ELIM of Figure 6 in source 000: from line s with its partial interpolant sA and line t with tA, line n becomes αs + βt with αsA + βtA.
-fn mix(lines: &mut [i64], alpha: i64, s: usize, beta: i64, t: usize, n: usize, k: usize)
-    requires { ⌜ LineTerms k (now lines) alpha s beta t n ⌝ }
-    ensures { λ _. ⌜ now (lines .exit) ≡ mixedLine k alpha s beta t n (now (lines .entry)) ⌝ }
+fn mix(
+    lines: &mut [i64],
+    alpha: i64,
+    s: LineNumber,
+    beta: i64,
+    t: LineNumber,
+    n: LineNumber,
+    k: usize,
+)
+    requires { ⌜ LineTerms k (now lines) alpha (s .0) beta (t .0) (n .0) ⌝ }
+    ensures { λ _. ⌜ now (lines .exit) ≡ mixedLine k alpha (s .0) beta (t .0) (n .0) (now (lines .entry)) ⌝ }
 {
     // First the form: α·s, β·t, αs + βt.
     let s_at = place(s, k);
@@ -61,9 +71,17 @@ fn mix(lines: &mut [i64], alpha: i64, s: usize, beta: i64, t: usize, n: usize, k
 }
 
 // The same in one run over t and tA: where a factor is 1 or 0 the compiler then leaves its product out.
-fn mix_whole(lines: &mut [i64], alpha: i64, s: usize, beta: i64, t: usize, n: usize, k: usize)
-    requires { ⌜ LineTerms k (now lines) alpha s beta t n ⌝ }
-    ensures { λ _. ⌜ now (lines .exit) ≡ mixedLine k alpha s beta t n (now (lines .entry)) ⌝ }
+fn mix_whole(
+    lines: &mut [i64],
+    alpha: i64,
+    s: LineNumber,
+    beta: i64,
+    t: LineNumber,
+    n: LineNumber,
+    k: usize,
+)
+    requires { ⌜ LineTerms k (now lines) alpha (s .0) beta (t .0) (n .0) ⌝ }
+    ensures { λ _. ⌜ now (lines .exit) ≡ mixedLine k alpha (s .0) beta (t .0) (n .0) (now (lines .entry)) ⌝ }
 {
     let s_at = place(s, k);
     let t_at = place(t, k);
@@ -76,14 +94,14 @@ pub fn mix_line(
     lines: &mut [i64],
     apart: bool,
     alpha: i64,
-    s: usize,
+    s: LineNumber,
     beta: i64,
-    t: usize,
-    n: usize,
+    t: LineNumber,
+    n: LineNumber,
     k: usize,
 )
-    requires { ⌜ LineTerms k (now lines) alpha s beta t n ⌝ }
-    ensures { λ _. ⌜ now (lines .exit) ≡ mixedLine k alpha s beta t n (now (lines .entry)) ⌝ }
+    requires { ⌜ LineTerms k (now lines) alpha (s .0) beta (t .0) (n .0) ⌝ }
+    ensures { λ _. ⌜ now (lines .exit) ≡ mixedLine k alpha (s .0) beta (t .0) (n .0) (now (lines .entry)) ⌝ }
 {
     if apart {
         mix(lines, alpha, s, beta, t, n, k);
@@ -104,17 +122,17 @@ pub fn add_one(lines: &mut [i64], at: usize)
 }
 
 // Line n becomes line i.
-fn copy_line(lines: &mut [i64], i: usize, n: usize, k: usize)
-    requires { ⌜ LineCopy k (now lines) i n ⌝ }
-    ensures { λ _. ⌜ now (lines .exit) ≡ copiedLine k i n (now (lines .entry)) ⌝ }
+fn copy_line(lines: &mut [i64], i: LineNumber, n: LineNumber, k: usize)
+    requires { ⌜ LineCopy k (now lines) (i .0) (n .0) ⌝ }
+    ensures { λ _. ⌜ now (lines .exit) ≡ copiedLine k (i .0) (n .0) (now (lines .entry)) ⌝ }
 {
     mix_whole(lines, 1, i, 0, i, n, k);
 }
 
 // Line n becomes line i with t + 1.
-fn strengthen_t(lines: &mut [i64], i: usize, n: usize, k: usize)
-    requires { ⌜ LineCopy k (now lines) i n ⌝ }
-    ensures { λ _. ⌜ now (lines .exit) ≡ strengthenedT k i n (now (lines .entry)) ⌝ }
+fn strengthen_t(lines: &mut [i64], i: LineNumber, n: LineNumber, k: usize)
+    requires { ⌜ LineCopy k (now lines) (i .0) (n .0) ⌝ }
+    ensures { λ _. ⌜ now (lines .exit) ≡ strengthenedT k (i .0) (n .0) (now (lines .entry)) ⌝ }
 {
     copy_line(lines, i, n, k);
     let at = place(n, k);
@@ -122,9 +140,9 @@ fn strengthen_t(lines: &mut [i64], i: usize, n: usize, k: usize)
 }
 
 // Line n becomes line i with t + 1 and tA + 1.
-fn strengthen_both(lines: &mut [i64], i: usize, n: usize, k: usize)
-    requires { ⌜ LineCopy k (now lines) i n ⌝ }
-    ensures { λ _. ⌜ now (lines .exit) ≡ strengthenedBoth k i n (now (lines .entry)) ⌝ }
+fn strengthen_both(lines: &mut [i64], i: LineNumber, n: LineNumber, k: usize)
+    requires { ⌜ LineCopy k (now lines) (i .0) (n .0) ⌝ }
+    ensures { λ _. ⌜ now (lines .exit) ≡ strengthenedBoth k (i .0) (n .0) (now (lines .entry)) ⌝ }
 {
     strengthen_t(lines, i, n, k);
     let at = place_a(n, k);
@@ -132,9 +150,9 @@ fn strengthen_both(lines: &mut [i64], i: usize, n: usize, k: usize)
 }
 
 // Line n becomes line i as a branch of a strengthen starts: with t + 1, and then with tA + 1 too, where it is said.
-pub fn start_line(lines: &mut [i64], i: usize, n: usize, k: usize, t: bool, ta: bool)
-    requires { ⌜ LineCopy k (now lines) i n ⌝ }
-    ensures { λ _. ⌜ now (lines .exit) ≡ startedLine k i n t ta (now (lines .entry)) ⌝ }
+pub fn start_line(lines: &mut [i64], i: LineNumber, n: LineNumber, k: usize, t: bool, ta: bool)
+    requires { ⌜ LineCopy k (now lines) (i .0) (n .0) ⌝ }
+    ensures { λ _. ⌜ now (lines .exit) ≡ startedLine k (i .0) (n .0) t ta (now (lines .entry)) ⌝ }
 {
     if t {
         if ta {
@@ -148,9 +166,9 @@ pub fn start_line(lines: &mut [i64], i: usize, n: usize, k: usize, t: bool, ta: 
 }
 
 // Whether the two numbers of line n that a strengthen raises are within the range.
-pub fn raised_fit(lines: &[i64], n: usize, k: usize) -> bool
-    requires { ⌜ (n ≤ 128) × (k ≤ 16) × (n * size k + size k ≤ length (now lines)) ⌝ }
-    ensures { λ r. ⌜ r ≡ small 2147483647 (formIn k (now (lines .entry)) (n * size k) .d) && small 2147483647 (formIn k (now (lines .entry)) (n * size k + (k + 1)) .d) ⌝ }
+pub fn raised_fit(lines: &[i64], n: LineNumber, k: usize) -> bool
+    requires { ⌜ (n .0 ≤ 128) × (k ≤ 16) × (n .0 * size k + size k ≤ length (now lines)) ⌝ }
+    ensures { λ r. ⌜ r ≡ small 2147483647 (formIn k (now (lines .entry)) (n .0 * size k) .d) && small 2147483647 (formIn k (now (lines .entry)) (n .0 * size k + (k + 1)) .d) ⌝ }
 {
     let at = place(n, k);
     let at_a = place_a(n, k);

@@ -29,9 +29,8 @@ pub fn claim_holds(p: &[u8], start: usize, lines: &[i64], i: LineNumber, k: usiz
     requires { ⌜ (k ≤ 16) × (start + 8 * (k + 1) ≤ length (now p)) × (i .0 < 128) × (i .0 * (2 * (k + 1)) + 2 * (k + 1) ≤ length (now lines)) ⌝ }
     ensures { λ r. ⌜ Claimed k (now (p .entry)) start (now (lines .entry)) (i .0) r ⌝ }
 {
-    let n = i.0 as usize;
-    let t = lines::place(n, k);
-    let ta = lines::place_a(n, k);
+    let t = lines::place(i, k);
+    let ta = lines::place_a(i, k);
     if same_form(p, start, lines, t, k) {
         return same_form(p, start + 4 * (k + 1), lines, ta, k);
     }

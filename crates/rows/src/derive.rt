@@ -3,7 +3,7 @@ ghost use mathlib.Core.Path.{_≡_};
 ghost use Prim.Native.Nat.{_<_};
 ghost use lib.Dec.{ltb};
 ghost use lib.IntN.{natAbs};
-ghost use lib.ListN.{length, getD};
+ghost use lib.ListN.{length, getD, set};
 ghost use Rattle.integers.specs.Magnitude.{Within};
 ghost use Rattle.calculus.specs.Rules.{Combine, Reduce, Scale};
 ghost use Rattle.rows.specs.Entries.{Multiplies};
@@ -37,11 +37,10 @@ fn append(
     let counted = line_counted(tally);
     let made = counted.made;
     let next = counted.tally;
-    let count = tally.lines;
-    let n = count.0 as usize;
+    let n = tally.lines;
     if made {
-        lines::mix_line(lines, apart, f, i.0 as usize, g, j.0 as usize, n, k);
-        kinds[n] = kind;
+        lines::mix_line(lines, apart, f, i, g, j, n, k);
+        set_kind(kinds, n, kind);
         if lines::fits(lines, lines::place(n, k), 2 * (k + 1)) {
             return Derived::Made { tally: next };
         }
@@ -50,7 +49,7 @@ fn append(
     Derived::Refused { number: 16 }
 }
 
-// A lookup takes a line: whether it is there, and its kind.
+// A lookup takes a line number: whether the line is there, and its kind, which is read and stored here only.
 pub fn is_there(tally: Tally, i: LineNumber) -> bool
     ensures { λ r. ⌜ r ≡ ltb (i .0) (tally .lines .0) ⌝ }
 {
@@ -64,6 +63,14 @@ pub fn kind_of(kinds: &[u8], i: LineNumber) -> u8
 {
     let x = i.0 as usize;
     kinds[x]
+}
+
+pub fn set_kind(kinds: &mut [u8], i: LineNumber, kind: u8)
+    requires { ⌜ i .0 < length (now kinds) ⌝ }
+    ensures { λ _. ⌜ now (kinds .exit) ≡ set (now (kinds .entry)) (i .0) kind ⌝ }
+{
+    let x = i.0 as usize;
+    kinds[x] = kind;
 }
 
 // FM-ELIM of Figure 6 in source 000: α·s, then β·t, then their sum αs + βt; then the partial interpolants in the same steps, αsA + βtA (`lines::mix`). 10, 11, 12, then as `append`.

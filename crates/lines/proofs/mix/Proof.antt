@@ -53,7 +53,7 @@ mix-numbers-requires-2 c κs =
     let fg = s .fits .beta in
     let hs = before (s .args .k) (p .first) in
     let ht = before (s .args .k) (p .second) in
-    let same : Agree (s .args .n * size (s .args .k)) (s .args .lines .now) (m .mix-numbers .last .0) = mixes-keeps (m .mix-numbers .ensures) (omega arith) (omega arith) in
+    let same : Agree (s .args .n .0 * size (s .args .k)) (s .args .lines .now) (m .mix-numbers .last .0) = mixes-keeps (m .mix-numbers .ensures) (omega arith) (omega arith) in
     simp toZ-ofZ (terms p same (omega arith) (omega arith) (omega arith) (omega arith))
 
 same-length : tie.Need-same-length

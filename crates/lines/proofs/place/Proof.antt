@@ -5,6 +5,9 @@ use borrow.Author.Needs.{needs}
 use Rattle.lines.proofs.place.Statement.{statement}
 use Rattle.lines.proofs.place.Tie as tie
 
+cast-n : tie.Need-cast-n
+cast-n c = search needs
+
 add-result : tie.Need-add-result
 add-result c = search needs
 
@@ -12,10 +15,10 @@ mul-result : tie.Need-mul-result
 mul-result c = search needs
 
 mul-result-2 : tie.Need-mul-result-2
-mul-result-2 c = omega (arith, place-small (c .pre .1) (c .pre .0))
+mul-result-2 c = omega (arith, place-small (c .before .pre .1) (c .before .pre .0))
 
 returns : tie.Need-returns
 returns c = search needs
 
 pub place-spec : {M : Type 1} → statement M
-place-spec = tie.close (tie.spec add-result mul-result mul-result-2 returns)
+place-spec = tie.close (tie.spec cast-n add-result mul-result mul-result-2 returns)

@@ -5,24 +5,17 @@ use borrow.Author.Needs.{needs}
 use Rattle.lines.proofs.place_a.Statement.{statement}
 use Rattle.lines.proofs.place_a.Tie as tie
 
+place-requires : tie.Need-place-requires
+place-requires c κs = search needs
+
 add-result : tie.Need-add-result
 add-result c = search needs
 
-mul-result : tie.Need-mul-result
-mul-result c = search needs
-
-mul-result-2 : tie.Need-mul-result-2
-mul-result-2 c = omega (arith, place-small (c .pre .1) (c .pre .0))
-
 add-result-2 : tie.Need-add-result-2
-add-result-2 c = search needs
-
-add-result-3 : tie.Need-add-result-3
-add-result-3 c = omega (arith, place-small (c .pre .1) (c .pre .0))
+add-result-2 c = omega (arith, c .place .ensures, place-small (c .before .pre .1) (c .before .pre .0))
 
 returns : tie.Need-returns
 returns c = search needs
 
 pub place-a-spec : {M : Type 1} → statement M
-place-a-spec =
-    tie.close (tie.spec add-result mul-result mul-result-2 add-result-2 add-result-3 returns)
+place-a-spec = tie.close (tie.spec place-requires add-result add-result-2 returns)

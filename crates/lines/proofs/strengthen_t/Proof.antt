@@ -18,7 +18,7 @@ place-requires c κs = search needs
 add-add-one : tie.Need-add-add-one
 add-add-one c =
     let p = c .before .before .before .before .before .pre in
-    omega (arith, c .before .place .ensures, place-small {i = c .before .before .before .before .before .args .n} (p .branch .constants) (omega arith))
+    omega (arith, c .before .place .ensures, place-small {i = c .before .before .before .before .before .args .n .0} (p .branch .constants) (omega arith))
 
 add-one-requires : tie.Need-add-one-requires
 add-one-requires c κs =

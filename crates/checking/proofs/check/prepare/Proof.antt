@@ -7,6 +7,9 @@ use Rattle.checking.proofs.check.prepare.Tie as tie
 load-requires : tie.Need-load-requires
 load-requires c κs = bundled-A (c .before .before .before .before .before .pre .0) (c .before .before .before .before .before .pre .1)
 
+cast-t18 : tie.Need-cast-t18
+cast-t18 c = search needs
+
 load-requires-2 : tie.Need-load-requires-2
 load-requires-2 c κs = bundled-B (c .before .before .before .before .before .before .before .before .before .before .before .pre .0) (space-A (c .before .before .before .before .before .before .before .before .before .before .before .pre .0) (c .before .before .before .before .before .load .ensures) (c .before .before .before .before .before .before .before .before .before .before .before .pre .1))
 
@@ -24,4 +27,4 @@ returns c =
     record { holds = λ b. holding b p q; space = space-B w q (space-A w p (c .before .before .before .before .before .before .before .before .before .before .before .before .before .before .before .pre .1)) }
 
 pub prepare-spec : {M : Type 1} → statement M
-prepare-spec = tie.close (tie.spec load-requires load-requires-2 same-length same-length-2 returns)
+prepare-spec = tie.close (tie.spec load-requires cast-t18 load-requires-2 same-length same-length-2 returns)

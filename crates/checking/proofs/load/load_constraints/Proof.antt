@@ -9,10 +9,10 @@ use Rattle.checking.proofs.load.load_constraints.Statement.{statement}
 use Rattle.checking.proofs.load.load_constraints.Tie as tie
 
 abbrev Inv-loop : tie.InvT-loop
-Inv-loop s at k in-a lines₀ kinds₀ n constants here₀ m₀ lines kinds here m = Loading in-a s at k kinds₀ lines₀ n kinds lines here m
+Inv-loop s at k in-a lines₀ kinds₀ constants here₀ n lines kinds here m = Loading in-a s at k kinds₀ lines₀ (n .0) kinds lines here (m .0)
 
 abbrev μ-loop : tie.MeasureT-loop
-μ-loop s at k in-a lines₀ kinds₀ n constants here₀ m₀ lines kinds here m = length s - here
+μ-loop s at k in-a lines₀ kinds₀ constants here₀ n lines kinds here m = length s - here
 
 loop-holds : tie.Need-loop-holds Inv-loop μ-loop
 loop-holds c = loading-start (c .before .before .pre)
@@ -29,14 +29,14 @@ sub-load-line c = fit (c .before .before .before .before .loop .inv) (starts (c 
 load-line-requires : tie.Need-load-line-requires Inv-loop μ-loop
 load-line-requires c κs = fit (c .before .before .before .before .before .before .loop .inv) (starts (c .before .before .before .before .before .next-field .ensures) (c .before .before .before .tag .given .1)) .loads
 
-add-m : tie.Need-add-m Inv-loop μ-loop
-add-m c = omega (arith, fit (c .before .before .before .before .before .before .before .before .before .before .loop .inv) (starts (c .before .before .before .before .before .before .before .before .before .next-field .ensures) (c .before .before .before .before .before .before .before .tag .given .1)) .loads .space .most)
+add-t21 : tie.Need-add-t21 Inv-loop μ-loop
+add-t21 c = omega (arith, fit (c .before .before .before .before .before .before .before .before .before .before .before .loop .inv) (starts (c .before .before .before .before .before .before .before .before .before .before .next-field .ensures) (c .before .before .before .before .before .before .before .before .tag .given .1)) .loads .space .most)
 
 loop-less : tie.Need-loop-less Inv-loop μ-loop
-loop-less c = starts-less (starts (c .before .before .before .before .before .before .before .before .before .next-field .ensures) (c .before .before .before .before .before .before .before .tag .given .1))
+loop-less c = starts-less (starts (c .before .before .before .before .before .before .before .before .before .before .next-field .ensures) (c .before .before .before .before .before .before .before .before .tag .given .1))
 
 loop-again : tie.Need-loop-again Inv-loop μ-loop
-loop-again c = loading-next (c .before .before .before .before .before .before .before .before .before .before .loop .inv) (starts (c .before .before .before .before .before .before .before .before .before .next-field .ensures) (c .before .before .before .before .before .before .before .tag .given .1)) (c .before .before .before .load-line .ensures)
+loop-again c = loading-next (c .before .before .before .before .before .before .before .before .before .before .before .loop .inv) (starts (c .before .before .before .before .before .before .before .before .before .before .next-field .ensures) (c .before .before .before .before .before .before .before .before .tag .given .1)) (c .before .before .before .before .load-line .ensures)
 
 enum-told : tie.Need-enum-told Inv-loop μ-loop
 enum-told c = search needs
@@ -73,7 +73,7 @@ load-constraints-spec =
     enum-known-tag
     sub-load-line
     load-line-requires
-    add-m
+    add-t21
     loop-less
     loop-again
     enum-told

@@ -26,8 +26,8 @@ load-partial-requires c κs =
     let p = c .before .before .before .before .before .before .before .pre in
     record { bytes = p .bytes; room = omega (arith, space-end (p .space), c .before .before .before .before .place .ensures) }
 
-slice-write-kinds : tie.Need-slice-write-kinds
-slice-write-kinds c = search needs
+set-kind-requires : tie.Need-set-kind-requires
+set-kind-requires c κs = search needs
 
 same-length : tie.Need-same-length
 same-length c = search needs
@@ -36,7 +36,7 @@ same-length-2 : tie.Need-same-length-2
 same-length-2 c = search needs
 
 returns : tie.Need-returns
-returns c = form-loaded (c .before .before .before .before .before .before .before .before .before .pre) (c .before .before .before .before .before .before .before .before .before .args .in-a) (c .before .before .before .before .before .before .before .before .before .args .kind) (rw (c .before .before .before .before .before .before .place .ensures) at (c .before .before .before .before .load-numbers .ensures)) (rw (c .before .before .before .before .before .before .place .ensures) at (c .before .load-partial .ensures))
+returns c = rw (c .before .before .set-kind .ensures) (form-loaded (c .before .before .before .before .before .before .before .before .before .before .before .before .before .pre) (c .before .before .before .before .before .before .before .before .before .before .before .before .before .args .in-a) (c .before .before .before .before .before .before .before .before .before .before .before .before .before .args .kind) (rw (c .before .before .before .before .before .before .before .before .before .before .place .ensures) at (c .before .before .before .before .before .before .before .before .load-numbers .ensures)) (rw (c .before .before .before .before .before .before .before .before .before .before .place .ensures) at (c .before .before .before .before .before .load-partial .ensures)))
 
 pub load-line-spec : {M : Type 1} → statement M
 load-line-spec =
@@ -47,7 +47,7 @@ load-line-spec =
     load-numbers-requires
     add-load-partial
     load-partial-requires
-    slice-write-kinds
+    set-kind-requires
     same-length
     same-length-2
     returns)

@@ -20,59 +20,56 @@ returns c =
     let a = s .args in
     number-none (a .k) (a .kinds .now) (a .lines .now) (a .tally) (a .i .0) (past (a .i .0) (a .tally .lines .0) (c .before .is-there .ensures) (c .if1 .taken))
 
-cast-n : tie.Need-cast-n
-cast-n c = search needs
-
 place-requires : tie.Need-place-requires
 place-requires c κs =
-    let s = c .before .before .before .before in
+    let s = c .before .before .before in
     let a = s .args in
-    let h = below (a .i .0) (a .tally .lines .0) (c .before .before .is-there .ensures) (c .before .if1 .left) in
+    let h = below (a .i .0) (a .tally .lines .0) (c .before .is-there .ensures) (c .if1 .left) in
     (omega (arith, s .pre .most), s .pre .branch .constants)
 
 all-zero-requires : tie.Need-all-zero-requires
 all-zero-requires c κs =
-    let s = c .before .before .before .before .before in
+    let s = c .before .before .before .before in
     let a = s .args in
-    let h = below (a .i .0) (a .tally .lines .0) (c .before .before .before .is-there .ensures) (c .before .before .if1 .left) in
+    let h = below (a .i .0) (a .tally .lines .0) (c .before .before .is-there .ensures) (c .before .if1 .left) in
     let r = line-end (s .pre) h in
     omega (arith, c .place .ensures)
 
 returns-2 : tie.Need-returns-2
 returns-2 c =
-    let s = c .before .before .before .before .before .before .before in
+    let s = c .before .before .before .before .before .before in
     let a = s .args in
-    let h = below (a .i .0) (a .tally .lines .0) (c .before .before .before .before .before .is-there .ensures) (c .before .before .before .before .if1 .left) in
+    let h = below (a .i .0) (a .tally .lines .0) (c .before .before .before .before .is-there .ensures) (c .before .before .before .if1 .left) in
     number-coeffs (a .k) (a .kinds .now) (a .lines .now) (a .tally) (a .i .0) h (c .before .before .place .ensures) (c .before .all-zero .ensures) (c .if2 .taken)
 
 kind-of-requires : tie.Need-kind-of-requires
 kind-of-requires c κs =
-    let s = c .before .before .before .before .before .before .before in
+    let s = c .before .before .before .before .before .before in
     let a = s .args in
-    let h = below (a .i .0) (a .tally .lines .0) (c .before .before .before .before .before .is-there .ensures) (c .before .before .before .before .if1 .left) in
+    let h = below (a .i .0) (a .tally .lines .0) (c .before .before .before .before .is-there .ensures) (c .before .before .before .if1 .left) in
     omega (arith, s .pre .most, s .pre .room)
 
 add-d : tie.Need-add-d
 add-d c =
-    let s = c .before .before .before .before .before .before .before .before in
+    let s = c .before .before .before .before .before .before .before in
     let a = s .args in
-    let h = below (a .i .0) (a .tally .lines .0) (c .before .before .before .before .before .before .is-there .ensures) (c .before .before .before .before .before .if1 .left) in
+    let h = below (a .i .0) (a .tally .lines .0) (c .before .before .before .before .before .is-there .ensures) (c .before .before .before .before .if1 .left) in
     let r = line-end (s .pre) h in
     omega (arith, c .before .before .before .place .ensures)
 
 mul-d : tie.Need-mul-d
 mul-d c =
-    let s = c .before .before .before .before .before .before .before .before in
+    let s = c .before .before .before .before .before .before .before in
     let a = s .args in
-    let h = below (a .i .0) (a .tally .lines .0) (c .before .before .before .before .before .before .is-there .ensures) (c .before .before .before .before .before .if1 .left) in
+    let h = below (a .i .0) (a .tally .lines .0) (c .before .before .before .before .before .is-there .ensures) (c .before .before .before .before .if1 .left) in
     let r = line-end (s .pre) h in
     omega (arith, c .before .before .before .place .ensures)
 
 shared-slice-copy-out-d : tie.Need-shared-slice-copy-out-d
 shared-slice-copy-out-d c =
-    let s = c .before .before .before .before .before .before .before .before in
+    let s = c .before .before .before .before .before .before .before in
     let a = s .args in
-    let h = below (a .i .0) (a .tally .lines .0) (c .before .before .before .before .before .before .is-there .ensures) (c .before .before .before .before .before .if1 .left) in
+    let h = below (a .i .0) (a .tally .lines .0) (c .before .before .before .before .before .is-there .ensures) (c .before .before .before .before .if1 .left) in
     let r = line-end (s .pre) h in
     omega (arith, c .before .before .before .place .ensures)
 
@@ -81,17 +78,17 @@ is-false-requires c κs = search needs
 
 returns-3 : tie.Need-returns-3
 returns-3 c =
-    let s = c .before .before .before .before .before .before .before .before .before .before .before in
+    let s = c .before .before .before .before .before .before .before .before .before .before in
     let a = s .args in
-    let h = below (a .i .0) (a .tally .lines .0) (c .before .before .before .before .before .before .before .before .before .is-there .ensures) (c .before .before .before .before .before .before .before .before .if1 .left) in
+    let h = below (a .i .0) (a .tally .lines .0) (c .before .before .before .before .before .before .before .before .is-there .ensures) (c .before .before .before .before .before .before .before .if1 .left) in
     number-d (a .k) (a .kinds .now) (a .lines .now) (a .tally) (a .i .0) h (c .before .before .before .before .before .before .place .ensures) (c .before .before .before .before .before .all-zero .ensures) (c .before .before .before .before .if2 .left) (c .before .before .before .kind-of .ensures) (toZ-ofZ w64 (getD (a .lines .now) (c .before .before .before .before .before .before .place .result + a .k) (pos 0)) (record { sfits = c .before .before .d .given })) (c .before .is-false .ensures) (c .if3 .taken)
 
 returns-4 : tie.Need-returns-4
 returns-4 c =
-    let s = c .before .before .before .before .before .before .before .before .before .before .before in
+    let s = c .before .before .before .before .before .before .before .before .before .before in
     let a = s .args in
-    let h = below (a .i .0) (a .tally .lines .0) (c .before .before .before .before .before .before .before .before .before .is-there .ensures) (c .before .before .before .before .before .before .before .before .if1 .left) in
+    let h = below (a .i .0) (a .tally .lines .0) (c .before .before .before .before .before .before .before .before .is-there .ensures) (c .before .before .before .before .before .before .before .if1 .left) in
     number-passed (a .k) (a .kinds .now) (a .lines .now) (a .tally) (a .i .0) h (c .before .before .before .before .before .before .place .ensures) (c .before .before .before .before .before .all-zero .ensures) (c .before .before .before .before .if2 .left) (c .before .before .before .kind-of .ensures) (toZ-ofZ w64 (getD (a .lines .now) (c .before .before .before .before .before .before .place .result + a .k) (pos 0)) (record { sfits = c .before .before .d .given })) (c .before .is-false .ensures) (c .if3 .left)
 
 pub test-number-spec : {M : Type 1} → statement M
-test-number-spec = tie.close (tie.spec is-there-requires returns cast-n place-requires all-zero-requires returns-2 kind-of-requires add-d mul-d shared-slice-copy-out-d is-false-requires returns-3 returns-4)
+test-number-spec = tie.close (tie.spec is-there-requires returns place-requires all-zero-requires returns-2 kind-of-requires add-d mul-d shared-slice-copy-out-d is-false-requires returns-3 returns-4)

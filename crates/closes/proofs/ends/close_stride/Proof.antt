@@ -18,24 +18,21 @@ returns c = let fg = c .before .before .before .before .before .before .fits .g 
 enum-told : tie.Need-enum-told
 enum-told c = search needs
 
-cast-place-a : tie.Need-cast-place-a
-cast-place-a c = search needs
-
 place-a-requires : tie.Need-place-a-requires
-place-a-requires c κs = let fg = c .before .before .before .before .before .before .fits .g in
-    let h = (stride-there (rw (c .before .enum-told .given .1) at (simp toZ-ofZ at (c .before .before .before .test-stride .ensures)))) in
-    (omega (arith, c .before .before .before .before .before .before .pre .0 .most), c .before .before .before .before .before .before .pre .0 .branch .constants)
+place-a-requires c κs = let fg = c .before .before .before .before .before .fits .g in
+    let h = (stride-there (rw (c .enum-told .given .1) at (simp toZ-ofZ at (c .before .before .test-stride .ensures)))) in
+    (omega (arith, c .before .before .before .before .before .pre .0 .most), c .before .before .before .before .before .pre .0 .branch .constants)
 
 put-stride-requires : tie.Need-put-stride-requires
-put-stride-requires c κs = let fg = c .before .before .before .before .before .before .before .before .fits .g in
-    let b = (rw (c .before .before .before .enum-told .given .1) at (simp toZ-ofZ at (c .before .before .before .before .before .test-stride .ensures))) in
-    simp toZ-ofZ ((numbered (c .before .before .before .before .before .before .before .before .pre .0) (stride-there b) (c .before .place-a .ensures), record { multiplies = c .before .before .before .before .before .before .before .before .pre .1 .0; low = stride-two b }), c .before .before .before .before .before .before .before .before .pre .1 .1)
+put-stride-requires c κs = let fg = c .before .before .before .before .before .before .before .fits .g in
+    let b = (rw (c .before .before .enum-told .given .1) at (simp toZ-ofZ at (c .before .before .before .before .test-stride .ensures))) in
+    simp toZ-ofZ ((numbered (c .before .before .before .before .before .before .before .pre .0) (stride-there b) (c .before .place-a .ensures), record { multiplies = c .before .before .before .before .before .before .before .pre .1 .0; low = stride-two b }), c .before .before .before .before .before .before .before .pre .1 .1)
 
 same-length : tie.Need-same-length
 same-length c = c .before .before .put-stride .kept .1 .1 .1 .1 .0
 
 returns-2 : tie.Need-returns-2
-returns-2 c = let fg = c .before .before .before .before .before .before .before .before .before .before .before .fits .g in stride-written (c .before .before .before .before .before .before .before .before .before .before .before .pre .0) (c .before .before .before .before .place-a .ensures) (simp toZ-ofZ at (c .before .before .before .before .before .before .before .before .test-stride .ensures)) (c .before .before .before .before .before .before .enum-told .given .1) (simp toZ-ofZ at (c .before .before .put-stride .ensures))
+returns-2 c = let fg = c .before .before .before .before .before .before .before .before .before .before .fits .g in stride-written (c .before .before .before .before .before .before .before .before .before .before .pre .0) (c .before .before .before .before .place-a .ensures) (simp toZ-ofZ at (c .before .before .before .before .before .before .before .test-stride .ensures)) (c .before .before .before .before .before .enum-told .given .1) (simp toZ-ofZ at (c .before .before .put-stride .ensures))
 
 pub close-stride-spec : {M : Type 1} → statement M
-close-stride-spec = tie.close (tie.spec test-stride-requires enum-known-number returns enum-told cast-place-a place-a-requires put-stride-requires same-length returns-2)
+close-stride-spec = tie.close (tie.spec test-stride-requires enum-known-number returns enum-told place-a-requires put-stride-requires same-length returns-2)

@@ -40,38 +40,32 @@ same-length-3 c = search needs
 returns-4 : tie.Need-returns-4
 returns-4 c = split-full (c .before .before .before .before .before .before .before .before .before .before .before .before .args .tally) (c .before .before .before .before .before .before .before .before .before .before .before .before .args .i .0) (c .before .before .before .before .before .before .before .before .before .before .before .before .pre) (below (c .before .before .before .before .before .before .before .before .before .before .before .before .args .i .0) (c .before .before .before .before .before .before .before .before .before .before .before .before .args .tally .lines .0) (c .before .before .before .before .before .before .before .before .before .before .is-there .ensures) (c .before .before .before .before .before .before .before .before .before .if1 .left)) (sym (c .before .before .before .before .before .before .before .kind-of .ensures) ∙ c .before .before .before .before .before .before .if2 .left) (counted-open (c .before .before .before .before .before .open-counted .ensures) (unnot _ (c .before .before .before .if3 .left)) .0) (full-both (c .before .before .before .before .before .before .before .before .before .before .before .before .args .tally) (c .before .before .before .before .before .open-counted .ensures) (unnot _ (c .before .before .before .if3 .left)) (c .before .before .line-counted .ensures) (unnot _ (c .if4 .taken)))
 
-cast-n : tie.Need-cast-n
-cast-n c = search needs
-
-cast-start-line : tie.Need-cast-start-line
-cast-start-line c = search needs
-
 start-line-requires : tie.Need-start-line-requires
-start-line-requires c κs = record { branch = c .before .before .before .before .before .before .before .before .before .before .before .before .before .before .before .before .pre .branch; first = (below (c .before .before .before .before .before .before .before .before .before .before .before .before .before .before .before .before .args .i .0) (c .before .before .before .before .before .before .before .before .before .before .before .before .before .before .before .before .args .tally .lines .0) (c .before .before .before .before .before .before .before .before .before .before .before .before .before .before .is-there .ensures) (c .before .before .before .before .before .before .before .before .before .before .before .before .before .if1 .left)); space = (counted-both (c .before .before .before .before .before .before .before .before .before .before .before .before .before .before .before .before .args .tally) (c .before .before .before .before .before .before .before .before .before .open-counted .ensures) (unnot _ (c .before .before .before .before .before .before .before .if3 .left)) (c .before .before .before .before .before .before .line-counted .ensures) (unnot _ (c .before .before .before .before .if4 .left))) .0 }
+start-line-requires c κs = record { branch = c .before .before .before .before .before .before .before .before .before .before .before .before .before .before .pre .branch; first = (below (c .before .before .before .before .before .before .before .before .before .before .before .before .before .before .args .i .0) (c .before .before .before .before .before .before .before .before .before .before .before .before .before .before .args .tally .lines .0) (c .before .before .before .before .before .before .before .before .before .before .before .before .is-there .ensures) (c .before .before .before .before .before .before .before .before .before .before .before .if1 .left)); space = (counted-both (c .before .before .before .before .before .before .before .before .before .before .before .before .before .before .args .tally) (c .before .before .before .before .before .before .before .open-counted .ensures) (unnot _ (c .before .before .before .before .before .if3 .left)) (c .before .before .before .before .line-counted .ensures) (unnot _ (c .before .before .if4 .left))) .0 }
 
-slice-write-kinds : tie.Need-slice-write-kinds
-slice-write-kinds c = omega (arith, (counted-both (c .before .before .before .before .before .before .before .before .before .before .before .before .before .before .before .before .before .before .args .tally) (c .before .before .before .before .before .before .before .before .before .before .before .open-counted .ensures) (unnot _ (c .before .before .before .before .before .before .before .before .before .if3 .left)) (c .before .before .before .before .before .before .before .before .line-counted .ensures) (unnot _ (c .before .before .before .before .before .before .if4 .left))) .0, c .before .before .before .before .before .before .before .before .before .before .before .before .before .before .before .before .before .before .pre .room)
+set-kind-requires : tie.Need-set-kind-requires
+set-kind-requires c κs = omega (arith, (counted-both (c .before .before .before .before .before .before .before .before .before .before .before .before .before .before .before .before .before .args .tally) (c .before .before .before .before .before .before .before .before .before .before .open-counted .ensures) (unnot _ (c .before .before .before .before .before .before .before .before .if3 .left)) (c .before .before .before .before .before .before .before .line-counted .ensures) (unnot _ (c .before .before .before .before .before .if4 .left))) .0, c .before .before .before .before .before .before .before .before .before .before .before .before .before .before .before .before .before .pre .room)
 
 raised-fit-requires : tie.Need-raised-fit-requires
-raised-fit-requires c κs = (omega (arith, ((counted-both (c .before .before .before .before .before .before .before .before .before .before .before .before .before .before .before .before .before .before .before .args .tally) (c .before .before .before .before .before .before .before .before .before .before .before .before .open-counted .ensures) (unnot _ (c .before .before .before .before .before .before .before .before .before .before .if3 .left)) (c .before .before .before .before .before .before .before .before .before .line-counted .ensures) (unnot _ (c .before .before .before .before .before .before .before .if4 .left))) .0)), c .before .before .before .before .before .before .before .before .before .before .before .before .before .before .before .before .before .before .before .pre .branch .constants, omega (arith, split-end (c .before .before .before .before .before .before .before .before .before .before .before .before .before .before .before .before .before .before .before .args .tally) (c .before .before .before .before .before .before .before .before .before .before .before .before .before .before .before .before .before .before .before .args .i .0) (c .before .before .before .before .before .before .before .before .before .before .before .before .before .before .before .before .before .before .before .pre) (below (c .before .before .before .before .before .before .before .before .before .before .before .before .before .before .before .before .before .before .before .args .i .0) (c .before .before .before .before .before .before .before .before .before .before .before .before .before .before .before .before .before .before .before .args .tally .lines .0) (c .before .before .before .before .before .before .before .before .before .before .before .before .before .before .before .before .before .is-there .ensures) (c .before .before .before .before .before .before .before .before .before .before .before .before .before .before .before .before .if1 .left)) (sym (c .before .before .before .before .before .before .before .before .before .before .before .before .before .before .kind-of .ensures) ∙ c .before .before .before .before .before .before .before .before .before .before .before .before .before .if2 .left) (counted-open (c .before .before .before .before .before .before .before .before .before .before .before .before .open-counted .ensures) (unnot _ (c .before .before .before .before .before .before .before .before .before .before .if3 .left)) .0) ((counted-both (c .before .before .before .before .before .before .before .before .before .before .before .before .before .before .before .before .before .before .before .args .tally) (c .before .before .before .before .before .before .before .before .before .before .before .before .open-counted .ensures) (unnot _ (c .before .before .before .before .before .before .before .before .before .before .if3 .left)) (c .before .before .before .before .before .before .before .before .before .line-counted .ensures) (unnot _ (c .before .before .before .before .before .before .before .if4 .left))) .0) (c .before .before .start-line .ensures) refl))
+raised-fit-requires c κs = (omega (arith, ((counted-both (c .before .before .before .before .before .before .before .before .before .before .before .before .before .before .before .before .before .before .before .before .before .args .tally) (c .before .before .before .before .before .before .before .before .before .before .before .before .before .before .open-counted .ensures) (unnot _ (c .before .before .before .before .before .before .before .before .before .before .before .before .if3 .left)) (c .before .before .before .before .before .before .before .before .before .before .before .line-counted .ensures) (unnot _ (c .before .before .before .before .before .before .before .before .before .if4 .left))) .0)), c .before .before .before .before .before .before .before .before .before .before .before .before .before .before .before .before .before .before .before .before .before .pre .branch .constants, omega (arith, split-end (c .before .before .before .before .before .before .before .before .before .before .before .before .before .before .before .before .before .before .before .before .before .args .tally) (c .before .before .before .before .before .before .before .before .before .before .before .before .before .before .before .before .before .before .before .before .before .args .i .0) (c .before .before .before .before .before .before .before .before .before .before .before .before .before .before .before .before .before .before .before .before .before .pre) (below (c .before .before .before .before .before .before .before .before .before .before .before .before .before .before .before .before .before .before .before .before .before .args .i .0) (c .before .before .before .before .before .before .before .before .before .before .before .before .before .before .before .before .before .before .before .before .before .args .tally .lines .0) (c .before .before .before .before .before .before .before .before .before .before .before .before .before .before .before .before .before .before .before .is-there .ensures) (c .before .before .before .before .before .before .before .before .before .before .before .before .before .before .before .before .before .before .if1 .left)) (sym (c .before .before .before .before .before .before .before .before .before .before .before .before .before .before .before .before .kind-of .ensures) ∙ c .before .before .before .before .before .before .before .before .before .before .before .before .before .before .before .if2 .left) (counted-open (c .before .before .before .before .before .before .before .before .before .before .before .before .before .before .open-counted .ensures) (unnot _ (c .before .before .before .before .before .before .before .before .before .before .before .before .if3 .left)) .0) ((counted-both (c .before .before .before .before .before .before .before .before .before .before .before .before .before .before .before .before .before .before .before .before .before .args .tally) (c .before .before .before .before .before .before .before .before .before .before .before .before .before .before .open-counted .ensures) (unnot _ (c .before .before .before .before .before .before .before .before .before .before .before .before .if3 .left)) (c .before .before .before .before .before .before .before .before .before .before .before .line-counted .ensures) (unnot _ (c .before .before .before .before .before .before .before .before .before .if4 .left))) .0) (c .before .before .before .before .before .before .start-line .ensures) (c .before .before .before .set-kind .ensures)))
 
 same-length-4 : tie.Need-same-length-4
-same-length-4 c = split-kept (c .before .before .before .before .before .before .before .before .before .before .before .before .before .before .before .before .before .before .before .before .before .args .tally) (c .before .before .before .before .before .before .before .before .before .before .before .before .before .before .before .before .before .before .before .before .before .args .i .0) (c .before .before .before .before .before .before .before .before .before .before .before .before .before .before .before .before .before .before .before .before .before .pre) (below (c .before .before .before .before .before .before .before .before .before .before .before .before .before .before .before .before .before .before .before .before .before .args .i .0) (c .before .before .before .before .before .before .before .before .before .before .before .before .before .before .before .before .before .before .before .before .before .args .tally .lines .0) (c .before .before .before .before .before .before .before .before .before .before .before .before .before .before .before .before .before .before .before .is-there .ensures) (c .before .before .before .before .before .before .before .before .before .before .before .before .before .before .before .before .before .before .if1 .left)) (sym (c .before .before .before .before .before .before .before .before .before .before .before .before .before .before .before .before .kind-of .ensures) ∙ c .before .before .before .before .before .before .before .before .before .before .before .before .before .before .before .if2 .left) (counted-open (c .before .before .before .before .before .before .before .before .before .before .before .before .before .before .open-counted .ensures) (unnot _ (c .before .before .before .before .before .before .before .before .before .before .before .before .if3 .left)) .0) ((counted-both (c .before .before .before .before .before .before .before .before .before .before .before .before .before .before .before .before .before .before .before .before .before .args .tally) (c .before .before .before .before .before .before .before .before .before .before .before .before .before .before .open-counted .ensures) (unnot _ (c .before .before .before .before .before .before .before .before .before .before .before .before .if3 .left)) (c .before .before .before .before .before .before .before .before .before .before .before .line-counted .ensures) (unnot _ (c .before .before .before .before .before .before .before .before .before .if4 .left))) .0) (c .before .before .before .before .start-line .ensures) refl .lines-length
+same-length-4 c = split-kept (c .before .before .before .before .before .before .before .before .before .before .before .before .before .before .before .before .before .before .before .before .before .before .before .args .tally) (c .before .before .before .before .before .before .before .before .before .before .before .before .before .before .before .before .before .before .before .before .before .before .before .args .i .0) (c .before .before .before .before .before .before .before .before .before .before .before .before .before .before .before .before .before .before .before .before .before .before .before .pre) (below (c .before .before .before .before .before .before .before .before .before .before .before .before .before .before .before .before .before .before .before .before .before .before .before .args .i .0) (c .before .before .before .before .before .before .before .before .before .before .before .before .before .before .before .before .before .before .before .before .before .before .before .args .tally .lines .0) (c .before .before .before .before .before .before .before .before .before .before .before .before .before .before .before .before .before .before .before .before .before .is-there .ensures) (c .before .before .before .before .before .before .before .before .before .before .before .before .before .before .before .before .before .before .before .before .if1 .left)) (sym (c .before .before .before .before .before .before .before .before .before .before .before .before .before .before .before .before .before .before .kind-of .ensures) ∙ c .before .before .before .before .before .before .before .before .before .before .before .before .before .before .before .before .before .if2 .left) (counted-open (c .before .before .before .before .before .before .before .before .before .before .before .before .before .before .before .before .open-counted .ensures) (unnot _ (c .before .before .before .before .before .before .before .before .before .before .before .before .before .before .if3 .left)) .0) ((counted-both (c .before .before .before .before .before .before .before .before .before .before .before .before .before .before .before .before .before .before .before .before .before .before .before .args .tally) (c .before .before .before .before .before .before .before .before .before .before .before .before .before .before .before .before .open-counted .ensures) (unnot _ (c .before .before .before .before .before .before .before .before .before .before .before .before .before .before .if3 .left)) (c .before .before .before .before .before .before .before .before .before .before .before .before .before .line-counted .ensures) (unnot _ (c .before .before .before .before .before .before .before .before .before .before .before .if4 .left))) .0) (c .before .before .before .before .before .before .before .before .start-line .ensures) (c .before .before .before .before .before .set-kind .ensures) .lines-length
 
 same-length-5 : tie.Need-same-length-5
-same-length-5 c = split-kept (c .before .before .before .before .before .before .before .before .before .before .before .before .before .before .before .before .before .before .before .before .before .args .tally) (c .before .before .before .before .before .before .before .before .before .before .before .before .before .before .before .before .before .before .before .before .before .args .i .0) (c .before .before .before .before .before .before .before .before .before .before .before .before .before .before .before .before .before .before .before .before .before .pre) (below (c .before .before .before .before .before .before .before .before .before .before .before .before .before .before .before .before .before .before .before .before .before .args .i .0) (c .before .before .before .before .before .before .before .before .before .before .before .before .before .before .before .before .before .before .before .before .before .args .tally .lines .0) (c .before .before .before .before .before .before .before .before .before .before .before .before .before .before .before .before .before .before .before .is-there .ensures) (c .before .before .before .before .before .before .before .before .before .before .before .before .before .before .before .before .before .before .if1 .left)) (sym (c .before .before .before .before .before .before .before .before .before .before .before .before .before .before .before .before .kind-of .ensures) ∙ c .before .before .before .before .before .before .before .before .before .before .before .before .before .before .before .if2 .left) (counted-open (c .before .before .before .before .before .before .before .before .before .before .before .before .before .before .open-counted .ensures) (unnot _ (c .before .before .before .before .before .before .before .before .before .before .before .before .if3 .left)) .0) ((counted-both (c .before .before .before .before .before .before .before .before .before .before .before .before .before .before .before .before .before .before .before .before .before .args .tally) (c .before .before .before .before .before .before .before .before .before .before .before .before .before .before .open-counted .ensures) (unnot _ (c .before .before .before .before .before .before .before .before .before .before .before .before .if3 .left)) (c .before .before .before .before .before .before .before .before .before .before .before .line-counted .ensures) (unnot _ (c .before .before .before .before .before .before .before .before .before .if4 .left))) .0) (c .before .before .before .before .start-line .ensures) refl .kinds-length
+same-length-5 c = split-kept (c .before .before .before .before .before .before .before .before .before .before .before .before .before .before .before .before .before .before .before .before .before .before .before .args .tally) (c .before .before .before .before .before .before .before .before .before .before .before .before .before .before .before .before .before .before .before .before .before .before .before .args .i .0) (c .before .before .before .before .before .before .before .before .before .before .before .before .before .before .before .before .before .before .before .before .before .before .before .pre) (below (c .before .before .before .before .before .before .before .before .before .before .before .before .before .before .before .before .before .before .before .before .before .before .before .args .i .0) (c .before .before .before .before .before .before .before .before .before .before .before .before .before .before .before .before .before .before .before .before .before .before .before .args .tally .lines .0) (c .before .before .before .before .before .before .before .before .before .before .before .before .before .before .before .before .before .before .before .before .before .is-there .ensures) (c .before .before .before .before .before .before .before .before .before .before .before .before .before .before .before .before .before .before .before .before .if1 .left)) (sym (c .before .before .before .before .before .before .before .before .before .before .before .before .before .before .before .before .before .before .kind-of .ensures) ∙ c .before .before .before .before .before .before .before .before .before .before .before .before .before .before .before .before .before .if2 .left) (counted-open (c .before .before .before .before .before .before .before .before .before .before .before .before .before .before .before .before .open-counted .ensures) (unnot _ (c .before .before .before .before .before .before .before .before .before .before .before .before .before .before .if3 .left)) .0) ((counted-both (c .before .before .before .before .before .before .before .before .before .before .before .before .before .before .before .before .before .before .before .before .before .before .before .args .tally) (c .before .before .before .before .before .before .before .before .before .before .before .before .before .before .before .before .open-counted .ensures) (unnot _ (c .before .before .before .before .before .before .before .before .before .before .before .before .before .before .if3 .left)) (c .before .before .before .before .before .before .before .before .before .before .before .before .before .line-counted .ensures) (unnot _ (c .before .before .before .before .before .before .before .before .before .before .before .if4 .left))) .0) (c .before .before .before .before .before .before .before .before .start-line .ensures) (c .before .before .before .before .before .set-kind .ensures) .kinds-length
 
 returns-5 : tie.Need-returns-5
-returns-5 c = split-made (c .before .before .before .before .before .before .before .before .before .before .before .before .before .before .before .before .before .before .before .before .before .args .tally) (c .before .before .before .before .before .before .before .before .before .before .before .before .before .before .before .before .before .before .before .before .before .args .i .0) (c .before .before .before .before .before .before .before .before .before .before .before .before .before .before .before .before .before .before .before .before .before .pre) (below (c .before .before .before .before .before .before .before .before .before .before .before .before .before .before .before .before .before .before .before .before .before .args .i .0) (c .before .before .before .before .before .before .before .before .before .before .before .before .before .before .before .before .before .before .before .before .before .args .tally .lines .0) (c .before .before .before .before .before .before .before .before .before .before .before .before .before .before .before .before .before .before .before .is-there .ensures) (c .before .before .before .before .before .before .before .before .before .before .before .before .before .before .before .before .before .before .if1 .left)) (sym (c .before .before .before .before .before .before .before .before .before .before .before .before .before .before .before .before .kind-of .ensures) ∙ c .before .before .before .before .before .before .before .before .before .before .before .before .before .before .before .if2 .left) (counted-open (c .before .before .before .before .before .before .before .before .before .before .before .before .before .before .open-counted .ensures) (unnot _ (c .before .before .before .before .before .before .before .before .before .before .before .before .if3 .left)) .0) ((counted-both (c .before .before .before .before .before .before .before .before .before .before .before .before .before .before .before .before .before .before .before .before .before .args .tally) (c .before .before .before .before .before .before .before .before .before .before .before .before .before .before .open-counted .ensures) (unnot _ (c .before .before .before .before .before .before .before .before .before .before .before .before .if3 .left)) (c .before .before .before .before .before .before .before .before .before .before .before .line-counted .ensures) (unnot _ (c .before .before .before .before .before .before .before .before .before .if4 .left))) .0) (c .before .before .before .before .start-line .ensures) refl (c .before .raised-fit .ensures) (c .if5 .taken) ((counted-both (c .before .before .before .before .before .before .before .before .before .before .before .before .before .before .before .before .before .before .before .before .before .args .tally) (c .before .before .before .before .before .before .before .before .before .before .before .before .before .before .open-counted .ensures) (unnot _ (c .before .before .before .before .before .before .before .before .before .before .before .before .if3 .left)) (c .before .before .before .before .before .before .before .before .before .before .before .line-counted .ensures) (unnot _ (c .before .before .before .before .before .before .before .before .before .if4 .left))) .1)
+returns-5 c = split-made (c .before .before .before .before .before .before .before .before .before .before .before .before .before .before .before .before .before .before .before .before .before .before .before .args .tally) (c .before .before .before .before .before .before .before .before .before .before .before .before .before .before .before .before .before .before .before .before .before .before .before .args .i .0) (c .before .before .before .before .before .before .before .before .before .before .before .before .before .before .before .before .before .before .before .before .before .before .before .pre) (below (c .before .before .before .before .before .before .before .before .before .before .before .before .before .before .before .before .before .before .before .before .before .before .before .args .i .0) (c .before .before .before .before .before .before .before .before .before .before .before .before .before .before .before .before .before .before .before .before .before .before .before .args .tally .lines .0) (c .before .before .before .before .before .before .before .before .before .before .before .before .before .before .before .before .before .before .before .before .before .is-there .ensures) (c .before .before .before .before .before .before .before .before .before .before .before .before .before .before .before .before .before .before .before .before .if1 .left)) (sym (c .before .before .before .before .before .before .before .before .before .before .before .before .before .before .before .before .before .before .kind-of .ensures) ∙ c .before .before .before .before .before .before .before .before .before .before .before .before .before .before .before .before .before .if2 .left) (counted-open (c .before .before .before .before .before .before .before .before .before .before .before .before .before .before .before .before .open-counted .ensures) (unnot _ (c .before .before .before .before .before .before .before .before .before .before .before .before .before .before .if3 .left)) .0) ((counted-both (c .before .before .before .before .before .before .before .before .before .before .before .before .before .before .before .before .before .before .before .before .before .before .before .args .tally) (c .before .before .before .before .before .before .before .before .before .before .before .before .before .before .before .before .open-counted .ensures) (unnot _ (c .before .before .before .before .before .before .before .before .before .before .before .before .before .before .if3 .left)) (c .before .before .before .before .before .before .before .before .before .before .before .before .before .line-counted .ensures) (unnot _ (c .before .before .before .before .before .before .before .before .before .before .before .if4 .left))) .0) (c .before .before .before .before .before .before .before .before .start-line .ensures) (c .before .before .before .before .before .set-kind .ensures) (c .before .raised-fit .ensures) (c .if5 .taken) ((counted-both (c .before .before .before .before .before .before .before .before .before .before .before .before .before .before .before .before .before .before .before .before .before .before .before .args .tally) (c .before .before .before .before .before .before .before .before .before .before .before .before .before .before .before .before .open-counted .ensures) (unnot _ (c .before .before .before .before .before .before .before .before .before .before .before .before .before .before .if3 .left)) (c .before .before .before .before .before .before .before .before .before .before .before .before .before .line-counted .ensures) (unnot _ (c .before .before .before .before .before .before .before .before .before .before .before .if4 .left))) .1)
 
 same-length-6 : tie.Need-same-length-6
-same-length-6 c = split-kept (c .before .before .before .before .before .before .before .before .before .before .before .before .before .before .before .before .before .before .before .before .before .args .tally) (c .before .before .before .before .before .before .before .before .before .before .before .before .before .before .before .before .before .before .before .before .before .args .i .0) (c .before .before .before .before .before .before .before .before .before .before .before .before .before .before .before .before .before .before .before .before .before .pre) (below (c .before .before .before .before .before .before .before .before .before .before .before .before .before .before .before .before .before .before .before .before .before .args .i .0) (c .before .before .before .before .before .before .before .before .before .before .before .before .before .before .before .before .before .before .before .before .before .args .tally .lines .0) (c .before .before .before .before .before .before .before .before .before .before .before .before .before .before .before .before .before .before .before .is-there .ensures) (c .before .before .before .before .before .before .before .before .before .before .before .before .before .before .before .before .before .before .if1 .left)) (sym (c .before .before .before .before .before .before .before .before .before .before .before .before .before .before .before .before .kind-of .ensures) ∙ c .before .before .before .before .before .before .before .before .before .before .before .before .before .before .before .if2 .left) (counted-open (c .before .before .before .before .before .before .before .before .before .before .before .before .before .before .open-counted .ensures) (unnot _ (c .before .before .before .before .before .before .before .before .before .before .before .before .if3 .left)) .0) ((counted-both (c .before .before .before .before .before .before .before .before .before .before .before .before .before .before .before .before .before .before .before .before .before .args .tally) (c .before .before .before .before .before .before .before .before .before .before .before .before .before .before .open-counted .ensures) (unnot _ (c .before .before .before .before .before .before .before .before .before .before .before .before .if3 .left)) (c .before .before .before .before .before .before .before .before .before .before .before .line-counted .ensures) (unnot _ (c .before .before .before .before .before .before .before .before .before .if4 .left))) .0) (c .before .before .before .before .start-line .ensures) refl .lines-length
+same-length-6 c = split-kept (c .before .before .before .before .before .before .before .before .before .before .before .before .before .before .before .before .before .before .before .before .before .before .before .args .tally) (c .before .before .before .before .before .before .before .before .before .before .before .before .before .before .before .before .before .before .before .before .before .before .before .args .i .0) (c .before .before .before .before .before .before .before .before .before .before .before .before .before .before .before .before .before .before .before .before .before .before .before .pre) (below (c .before .before .before .before .before .before .before .before .before .before .before .before .before .before .before .before .before .before .before .before .before .before .before .args .i .0) (c .before .before .before .before .before .before .before .before .before .before .before .before .before .before .before .before .before .before .before .before .before .before .before .args .tally .lines .0) (c .before .before .before .before .before .before .before .before .before .before .before .before .before .before .before .before .before .before .before .before .before .is-there .ensures) (c .before .before .before .before .before .before .before .before .before .before .before .before .before .before .before .before .before .before .before .before .if1 .left)) (sym (c .before .before .before .before .before .before .before .before .before .before .before .before .before .before .before .before .before .before .kind-of .ensures) ∙ c .before .before .before .before .before .before .before .before .before .before .before .before .before .before .before .before .before .if2 .left) (counted-open (c .before .before .before .before .before .before .before .before .before .before .before .before .before .before .before .before .open-counted .ensures) (unnot _ (c .before .before .before .before .before .before .before .before .before .before .before .before .before .before .if3 .left)) .0) ((counted-both (c .before .before .before .before .before .before .before .before .before .before .before .before .before .before .before .before .before .before .before .before .before .before .before .args .tally) (c .before .before .before .before .before .before .before .before .before .before .before .before .before .before .before .before .open-counted .ensures) (unnot _ (c .before .before .before .before .before .before .before .before .before .before .before .before .before .before .if3 .left)) (c .before .before .before .before .before .before .before .before .before .before .before .before .before .line-counted .ensures) (unnot _ (c .before .before .before .before .before .before .before .before .before .before .before .if4 .left))) .0) (c .before .before .before .before .before .before .before .before .start-line .ensures) (c .before .before .before .before .before .set-kind .ensures) .lines-length
 
 same-length-7 : tie.Need-same-length-7
-same-length-7 c = split-kept (c .before .before .before .before .before .before .before .before .before .before .before .before .before .before .before .before .before .before .before .before .before .args .tally) (c .before .before .before .before .before .before .before .before .before .before .before .before .before .before .before .before .before .before .before .before .before .args .i .0) (c .before .before .before .before .before .before .before .before .before .before .before .before .before .before .before .before .before .before .before .before .before .pre) (below (c .before .before .before .before .before .before .before .before .before .before .before .before .before .before .before .before .before .before .before .before .before .args .i .0) (c .before .before .before .before .before .before .before .before .before .before .before .before .before .before .before .before .before .before .before .before .before .args .tally .lines .0) (c .before .before .before .before .before .before .before .before .before .before .before .before .before .before .before .before .before .before .before .is-there .ensures) (c .before .before .before .before .before .before .before .before .before .before .before .before .before .before .before .before .before .before .if1 .left)) (sym (c .before .before .before .before .before .before .before .before .before .before .before .before .before .before .before .before .kind-of .ensures) ∙ c .before .before .before .before .before .before .before .before .before .before .before .before .before .before .before .if2 .left) (counted-open (c .before .before .before .before .before .before .before .before .before .before .before .before .before .before .open-counted .ensures) (unnot _ (c .before .before .before .before .before .before .before .before .before .before .before .before .if3 .left)) .0) ((counted-both (c .before .before .before .before .before .before .before .before .before .before .before .before .before .before .before .before .before .before .before .before .before .args .tally) (c .before .before .before .before .before .before .before .before .before .before .before .before .before .before .open-counted .ensures) (unnot _ (c .before .before .before .before .before .before .before .before .before .before .before .before .if3 .left)) (c .before .before .before .before .before .before .before .before .before .before .before .line-counted .ensures) (unnot _ (c .before .before .before .before .before .before .before .before .before .if4 .left))) .0) (c .before .before .before .before .start-line .ensures) refl .kinds-length
+same-length-7 c = split-kept (c .before .before .before .before .before .before .before .before .before .before .before .before .before .before .before .before .before .before .before .before .before .before .before .args .tally) (c .before .before .before .before .before .before .before .before .before .before .before .before .before .before .before .before .before .before .before .before .before .before .before .args .i .0) (c .before .before .before .before .before .before .before .before .before .before .before .before .before .before .before .before .before .before .before .before .before .before .before .pre) (below (c .before .before .before .before .before .before .before .before .before .before .before .before .before .before .before .before .before .before .before .before .before .before .before .args .i .0) (c .before .before .before .before .before .before .before .before .before .before .before .before .before .before .before .before .before .before .before .before .before .before .before .args .tally .lines .0) (c .before .before .before .before .before .before .before .before .before .before .before .before .before .before .before .before .before .before .before .before .before .is-there .ensures) (c .before .before .before .before .before .before .before .before .before .before .before .before .before .before .before .before .before .before .before .before .if1 .left)) (sym (c .before .before .before .before .before .before .before .before .before .before .before .before .before .before .before .before .before .before .kind-of .ensures) ∙ c .before .before .before .before .before .before .before .before .before .before .before .before .before .before .before .before .before .if2 .left) (counted-open (c .before .before .before .before .before .before .before .before .before .before .before .before .before .before .before .before .open-counted .ensures) (unnot _ (c .before .before .before .before .before .before .before .before .before .before .before .before .before .before .if3 .left)) .0) ((counted-both (c .before .before .before .before .before .before .before .before .before .before .before .before .before .before .before .before .before .before .before .before .before .before .before .args .tally) (c .before .before .before .before .before .before .before .before .before .before .before .before .before .before .before .before .open-counted .ensures) (unnot _ (c .before .before .before .before .before .before .before .before .before .before .before .before .before .before .if3 .left)) (c .before .before .before .before .before .before .before .before .before .before .before .before .before .line-counted .ensures) (unnot _ (c .before .before .before .before .before .before .before .before .before .before .before .if4 .left))) .0) (c .before .before .before .before .before .before .before .before .start-line .ensures) (c .before .before .before .before .before .set-kind .ensures) .kinds-length
 
 returns-6 : tie.Need-returns-6
-returns-6 c = split-range (c .before .before .before .before .before .before .before .before .before .before .before .before .before .before .before .before .before .before .before .before .before .args .tally) (c .before .before .before .before .before .before .before .before .before .before .before .before .before .before .before .before .before .before .before .before .before .args .i .0) (c .before .before .before .before .before .before .before .before .before .before .before .before .before .before .before .before .before .before .before .before .before .pre) (below (c .before .before .before .before .before .before .before .before .before .before .before .before .before .before .before .before .before .before .before .before .before .args .i .0) (c .before .before .before .before .before .before .before .before .before .before .before .before .before .before .before .before .before .before .before .before .before .args .tally .lines .0) (c .before .before .before .before .before .before .before .before .before .before .before .before .before .before .before .before .before .before .before .is-there .ensures) (c .before .before .before .before .before .before .before .before .before .before .before .before .before .before .before .before .before .before .if1 .left)) (sym (c .before .before .before .before .before .before .before .before .before .before .before .before .before .before .before .before .kind-of .ensures) ∙ c .before .before .before .before .before .before .before .before .before .before .before .before .before .before .before .if2 .left) (counted-open (c .before .before .before .before .before .before .before .before .before .before .before .before .before .before .open-counted .ensures) (unnot _ (c .before .before .before .before .before .before .before .before .before .before .before .before .if3 .left)) .0) ((counted-both (c .before .before .before .before .before .before .before .before .before .before .before .before .before .before .before .before .before .before .before .before .before .args .tally) (c .before .before .before .before .before .before .before .before .before .before .before .before .before .before .open-counted .ensures) (unnot _ (c .before .before .before .before .before .before .before .before .before .before .before .before .if3 .left)) (c .before .before .before .before .before .before .before .before .before .before .before .line-counted .ensures) (unnot _ (c .before .before .before .before .before .before .before .before .before .if4 .left))) .0) (c .before .before .before .before .start-line .ensures) refl (c .before .raised-fit .ensures) (c .if5 .left)
+returns-6 c = split-range (c .before .before .before .before .before .before .before .before .before .before .before .before .before .before .before .before .before .before .before .before .before .before .before .args .tally) (c .before .before .before .before .before .before .before .before .before .before .before .before .before .before .before .before .before .before .before .before .before .before .before .args .i .0) (c .before .before .before .before .before .before .before .before .before .before .before .before .before .before .before .before .before .before .before .before .before .before .before .pre) (below (c .before .before .before .before .before .before .before .before .before .before .before .before .before .before .before .before .before .before .before .before .before .before .before .args .i .0) (c .before .before .before .before .before .before .before .before .before .before .before .before .before .before .before .before .before .before .before .before .before .before .before .args .tally .lines .0) (c .before .before .before .before .before .before .before .before .before .before .before .before .before .before .before .before .before .before .before .before .before .is-there .ensures) (c .before .before .before .before .before .before .before .before .before .before .before .before .before .before .before .before .before .before .before .before .if1 .left)) (sym (c .before .before .before .before .before .before .before .before .before .before .before .before .before .before .before .before .before .before .kind-of .ensures) ∙ c .before .before .before .before .before .before .before .before .before .before .before .before .before .before .before .before .before .if2 .left) (counted-open (c .before .before .before .before .before .before .before .before .before .before .before .before .before .before .before .before .open-counted .ensures) (unnot _ (c .before .before .before .before .before .before .before .before .before .before .before .before .before .before .if3 .left)) .0) ((counted-both (c .before .before .before .before .before .before .before .before .before .before .before .before .before .before .before .before .before .before .before .before .before .before .before .args .tally) (c .before .before .before .before .before .before .before .before .before .before .before .before .before .before .before .before .open-counted .ensures) (unnot _ (c .before .before .before .before .before .before .before .before .before .before .before .before .before .before .if3 .left)) (c .before .before .before .before .before .before .before .before .before .before .before .before .before .line-counted .ensures) (unnot _ (c .before .before .before .before .before .before .before .before .before .before .before .if4 .left))) .0) (c .before .before .before .before .before .before .before .before .start-line .ensures) (c .before .before .before .before .before .set-kind .ensures) (c .before .raised-fit .ensures) (c .if5 .left)
 
 pub split-spec : {M : Type 1} → statement M
-split-spec = tie.close (tie.spec is-there-requires returns kind-of-requires same-length returns-2 open-counted-requires same-length-2 returns-3 line-counted-requires same-length-3 returns-4 cast-n cast-start-line start-line-requires slice-write-kinds raised-fit-requires same-length-4 same-length-5 returns-5 same-length-6 same-length-7 returns-6)
+split-spec = tie.close (tie.spec is-there-requires returns kind-of-requires same-length returns-2 open-counted-requires same-length-2 returns-3 line-counted-requires same-length-3 returns-4 start-line-requires set-kind-requires raised-fit-requires same-length-4 same-length-5 returns-5 same-length-6 same-length-7 returns-6)
