@@ -29,14 +29,14 @@ const REASONS: &str = "
 
 - Checking a proof of some hundred rows. Working memory is cleared before it is used: 35,088 bytes for the lines as soon \
 as a branch may have 128 of them with 16 constants, and 26 for each byte of the proof for the formula, 65,536 at most. \
-Of a check of 128 rows that is a tenth. Claims make a proof long, so that it is given the most.
-- Checking any proof. Each branch is a call that hands on six lent buffers, where the Rust checker keeps a stack of its \
+Of a check of 128 rows that was a tenth on another processor. Claims make a proof long, so that it is given the most.
+- Checking any proof. Each branch is a call that hands on four lent buffers, where the Rust checker keeps a stack of its \
 own.
 - Writing a large bundle. The loop over a constraint's numbers is compiled into the loop over the constraints, and some \
 values of the two lie on the stack.
 
-On another processor testing a formula whose and/ors lie more than 16 deep, as they do here from 32 parts on, took up to \
-1.45 times as long as with Rust; each level of a formula is a call.
+Testing a formula whose and/ors lie more than 16 deep, as they do here from 32 parts on, takes up to 1.45 times as \
+long as with Rust on some processors and no longer on others; each level of a formula is a call.
 ";
 
 pub fn page(timed: &[(Work, Time)], rounds: usize, machine: &str) -> String {
