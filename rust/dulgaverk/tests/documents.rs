@@ -31,7 +31,11 @@ fn files(folder: &str, extension: &str) -> Vec<(String, String, usize)> {
 
 /// What stands between backquotes.
 fn quoted(text: &str) -> BTreeSet<String> {
-    text.split('`').skip(1).step_by(2).map(String::from).collect()
+    text.split('`')
+        .skip(1)
+        .step_by(2)
+        .map(String::from)
+        .collect()
 }
 
 #[test]
@@ -43,7 +47,10 @@ fn every_spec_file_is_believed_or_wording() {
         .and_then(|rest| rest.split("## ").next())
         .expect("the part");
     let (believed, wording) = part.split_once("The other files").expect("two lists");
-    let mut names = BTreeSet::from(["NAME/FILE".to_string(), "crates/NAME/specs/FILE.antt".to_string()]);
+    let mut names = BTreeSet::from([
+        "NAME/FILE".to_string(),
+        "crates/NAME/specs/FILE.antt".to_string(),
+    ]);
     for (name, file, lines) in files("specs", "antt") {
         if file == "Lib" {
             continue;
@@ -73,7 +80,10 @@ fn every_edit_is_listed() {
     let listed = quoted(&page);
     let missing: Vec<_> = edits.difference(&listed).collect();
     assert!(missing.is_empty(), "not listed: {missing:?}");
-    for name in listed.iter().filter(|name| name.contains('/') && !name.contains(' ')) {
+    for name in listed
+        .iter()
+        .filter(|name| name.contains('/') && !name.contains(' '))
+    {
         let known = name.starts_with("crates/") || name.starts_with("./") || edits.contains(name);
         assert!(known, "{name} is not there");
     }

@@ -55,7 +55,11 @@ fn readme_runs_as_printed() {
             .current_dir(root())
             .output()
             .expect("a shell");
-        assert_eq!(String::from_utf8_lossy(&output.stdout), expected, "{command}");
+        assert_eq!(
+            String::from_utf8_lossy(&output.stdout),
+            expected,
+            "{command}"
+        );
     }
 }
 
@@ -73,7 +77,11 @@ fn exit_status() {
         (vec!["examples/stage-1", "-o", "x", "y"], 2),
         (vec!["-o", "x"], 2),
     ] {
-        assert_eq!(status(&run("check", &arguments)), expected, "check {arguments:?}");
+        assert_eq!(
+            status(&run("check", &arguments)),
+            expected,
+            "check {arguments:?}"
+        );
     }
     for (arguments, expected) in [
         (vec![], 2),
@@ -82,7 +90,11 @@ fn exit_status() {
         (vec!["examples/none"], 2),
         (vec!["examples/guard-1", "x"], 2),
     ] {
-        assert_eq!(status(&run("guard", &arguments)), expected, "guard {arguments:?}");
+        assert_eq!(
+            status(&run("guard", &arguments)),
+            expected,
+            "guard {arguments:?}"
+        );
     }
 }
 

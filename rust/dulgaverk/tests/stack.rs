@@ -41,7 +41,10 @@ fn the_deepest_formula() {
     let mut parts = vec![and(); 64];
     parts.extend(vec![comparison(false, &[1, -7]); 65]);
     let formula = file(1, &parts);
-    assert_eq!(on_stack(OTHER, move || dulgaverk::test_formula(&formula, &[7])), Ok(true));
+    assert_eq!(
+        on_stack(OTHER, move || dulgaverk::test_formula(&formula, &[7])),
+        Ok(true)
+    );
 }
 
 #[test]
