@@ -8,9 +8,10 @@ use lib.ListN.{length, getD, set}
 use lib.Seq.{paste}
 use lib.IntN.{ℤ, pos, _+ℤ_, _*ℤ_}
 use Rattle.integers.specs.Magnitude.{Within, Factors}
+use Rattle.forms.specs.Edition.{edition1}
 use Rattle.forms.specs.Forms.{Form, Kind, ≤0, =0, Line, line, sums}
-use Rattle.calculus.specs.Rules.{_▷_}
-use Rattle.lines.specs.Parts.{part}
+use Rattle.calculus.specs.Rules.{_▷_, small, every}
+use Rattle.lines.specs.Parts.{part, Agree}
 
 -- How many numbers a line has.
 abbrev pub size : ℕ → ℕ
@@ -35,11 +36,11 @@ linesIn K kinds buf (suc n) = linesIn K kinds buf n ▷ lineIn K kinds buf n
 
 -- Every number of the first n lines is within the range.
 pub record Bounded (K : ℕ) (buf : List ℤ) (n : ℕ) : Type 0 where
-  pub small : (x : ℕ) → x < n * size K → Within 2147483647 (getD buf x (pos 0))
+  pub small : (x : ℕ) → x < n * size K → Within (edition1 .range) (getD buf x (pos 0))
 
 -- A branch of n lines: they are bounded, and the buffer has room for one more.
 pub record Branch (K : ℕ) (buf : List ℤ) (n : ℕ) : Type 0 where
-  pub constants : K ≤ 16
+  pub constants : K ≤ edition1 .constants
   pub room : n * size K + size K ≤ length buf
   pub bounded : Bounded K buf n
 
@@ -51,9 +52,11 @@ times f l = map (λ (c : ℤ). f *ℤ c) l
 unfoldable pub mixed : (f : ℤ) (a : ℕ) (g : ℤ) (b w : ℕ) → List ℤ → List ℤ
 mixed f a g b w buf = sums (times f (part a w buf)) (times g (part b w buf))
 
--- buf′ is buf with these sums in place of the w numbers at d. A record, so that the places are inferred from it.
-pub record Mixes (buf : List ℤ) (f : ℤ) (a : ℕ) (g : ℤ) (b d w : ℕ) (buf′ : List ℤ) : Type 0 where
-  pub is : buf′ ≡ paste buf d (mixed f a g b w buf) w
+-- What forming these sums leaves: r says whether all of them are within the range, and then buf′ is buf with them in place of the w numbers at d; what is before d stays. A record, so that the places are inferred from it.
+pub record Mixes (buf : List ℤ) (f : ℤ) (a : ℕ) (g : ℤ) (b d w : ℕ) (buf′ : List ℤ) (r : Bool) : Type 0 where
+  pub fits : r ≡ every (small (edition1 .range)) (mixed f a g b w buf)
+  pub is : r ≡ true → buf′ ≡ paste buf d (mixed f a g b w buf) w
+  pub keeps : Agree d buf buf′
 
 -- The buffer with f times line i and g times line j, summed, as line n.
 unfoldable pub mixedLine : (K : ℕ) (f : ℤ) (i : ℕ) (g : ℤ) (j n : ℕ) → List ℤ → List ℤ
@@ -79,7 +82,7 @@ startedLine K i n false tA buf = copiedLine K i n buf
 startedLine K i n true false buf = strengthenedT K i n buf
 startedLine K i n true true buf = strengthenedBoth K i n buf
 
--- What a sum of multiples asks: the w numbers at a and at b lie before the w numbers at d, and they and the factors are small. (Nothing is asked of the other numbers before d: when a line's tA is made its t stands there already, and is not tested yet.)
+-- What a sum of multiples asks: the w numbers at a and at b lie before the w numbers at d, and they and the factors are small. (Nothing is asked of the other numbers before d: when a line's tA is made its t stands there already.)
 pub record Terms (buf : List ℤ) (f : ℤ) (a : ℕ) (g : ℤ) (b d w : ℕ) : Type 0 where
   pub first : a + w ≤ d
   pub second : b + w ≤ d
@@ -91,12 +94,18 @@ pub record LineTerms (K : ℕ) (buf : List ℤ) (f : ℤ) (i : ℕ) (g : ℤ) (j
   pub branch : Branch K buf n
   pub first : i < n
   pub second : j < n
-  pub space : n < 128
+  pub space : n < edition1 .lines
   pub f-in : Within 65535 f
   pub g-in : Within 65535 g
 
--- Line i of a branch of n lines that has room for one more.
+-- The constant terms of line i's t and tA stay within the range when they are raised by 1.
+pub record Raised (K : ℕ) (buf : List ℤ) (i : ℕ) : Type 0 where
+  pub t : Within (edition1 .range) (formIn K buf (i * size K) .d +ℤ pos 1)
+  pub tA : Within (edition1 .range) (formIn K buf (i * size K + (K + 1)) .d +ℤ pos 1)
+
+-- Line i, which may be strengthened, of a branch of n lines that has room for one more.
 pub record LineCopy (K : ℕ) (buf : List ℤ) (i n : ℕ) : Type 0 where
   pub branch : Branch K buf n
   pub first : i < n
-  pub space : n < 128
+  pub space : n < edition1 .lines
+  pub raised : Raised K buf i

@@ -1,18 +1,24 @@
 -- A new line as a sum of multiples of two lines: the laws of `mixed` and `mixedLine`. Assumes nothing.
-use mathlib.Core.Path.{_≡_, refl, sym, _∙_, ap, ap₂}
+use mathlib.Core.Path.{_≡_, refl, sym, _∙_, ap, ap₂, subst}
 use mathlib.Core.List.{List, [], _∷_, _++_}
+use mathlib.Core.Bool.{Bool, true, false, not, _&&_}
 use Prim.Native.Nat.{ℕ, zero, suc, _+_, _*_, _<_, _≤_}
 use native.Mathlib.Nat.{add-assoc, add-zero}
 use native.Mathlib.Omega.{arith}
+use lib.Dec.{T}
 use lib.IntN.{ℤ, pos, _+ℤ_, _*ℤ_}
-use lib.ListN.{length, getD, take, drop, length-drop, length-map}
-use lib.Seq.{paste, length-take-le, length-paste, take-add}
+use lib.ListN.{length, getD, take, drop, length-map}
+use lib.Seq.{paste, length-paste, take-add, take-all}
+use borrow.Author.Tests.{not-true, not-false}
 use Rattle.integers.specs.Ring.{var, ring, poly}
+use Rattle.forms.specs.Edition.{edition1}
 use Rattle.forms.specs.Forms.{Form, Line, line, sums, _⊞_, _·_}
+use Rattle.calculus.specs.Rules.{small, every, inRange}
 use Rattle.calculus.proofs.Readings.{getD-sums, getD-scaled, length-sums}
-use Rattle.lines.specs.Parts.{part, part-part, part-paste, paste-paste, getD-part, getD-paste, Agree, agree-part, agree-paste, agree-getD}
+use Rattle.lines.specs.Parts.{part, part-part, length-part, part-paste, paste-paste, getD-part, getD-paste, Agree, agree-part, agree-paste, agree-getD, agree-trans, agree-le}
 use Rattle.lines.specs.Buffer.{size, formIn, kindOf, lineIn, times, mixed, Mixes, mixedLine, Terms, LineTerms}
 use Rattle.lines.specs.Lines.{form-ext, line-ext, before}
+use Rattle.lines.specs.Range.{every-append, fits-line}
 
 -- ---- sums and multiples of lists, and their parts
 take-sums : (n : ℕ) (l m : List ℤ) → take n (sums l m) ≡ sums (take n l) (take n m)
@@ -49,9 +55,6 @@ part-sums o n l m = ap (take n) (drop-sums o l m) ∙ take-sums n (drop o l) (dr
 part-times : (o n : ℕ) (f : ℤ) (l : List ℤ) → part o n (times f l) ≡ times f (part o n l)
 part-times o n f l = ap (take n) (drop-times o f l) ∙ take-times n f (drop o l)
 
-length-part : (at w : ℕ) (l : List ℤ) → at + w ≤ length l → length (part at w l) ≡ w
-length-part at w l h = length-take-le w (drop at l) (simp length-drop (omega arith))
-
 -- ---- the mixed numbers, and the form and the line that they are
 module _ (f : ℤ) (a : ℕ) (g : ℤ) (b w : ℕ) (buf : List ℤ) where
   pub part-mixed : (o n : ℕ) → o + n ≤ w → part o n (mixed f a g b w buf) ≡ sums (times f (part (a + o) n buf)) (times g (part (b + o) n buf))
@@ -85,10 +88,6 @@ module _ (f : ℤ) (a : ℕ) (g : ℤ) (b w : ℕ) (buf : List ℤ) where
         (part-paste buf d (mixed f a g b w buf) w hd o K full (omega arith) ∙ part-mixed o K (omega arith))
         (rw add-assoc (getD-paste buf d (mixed f a g b w buf) w hd (o + K) (pos 0) full h ∙ rw (add-assoc, add-assoc) (getD-mixed (o + K) h)))
 
--- What is before the sums stays.
-pub mixes-keeps : {buf : List ℤ} {f : ℤ} {a : ℕ} {g : ℤ} {b d w : ℕ} {buf′ : List ℤ} {m : ℕ} → Mixes buf f a g b d w buf′ → m ≤ d → d ≤ length buf → Agree m buf buf′
-mixes-keeps {buf} {f} {a} {g} {b} {d} {w} {m = m} x h room = rw (x .is) (agree-paste m buf d (mixed f a g b w buf) w room h)
-
 -- w sums and then the v sums behind them, which come from before d too, are w + v sums.
 module _ (f : ℤ) (a : ℕ) (g : ℤ) (b : ℕ) (buf : List ℤ) (d w v : ℕ) (ha : a + (w + v) ≤ d) (hb : b + (w + v) ≤ d) (room : d + (w + v) ≤ length buf) where
   mixed-append : take (w + v) (mixed f a g b (w + v) buf) ≡ take w (mixed f a g b w buf) ++ take v (mixed f (a + w) g (b + w) v buf)
@@ -98,22 +97,49 @@ module _ (f : ℤ) (a : ℕ) (g : ℤ) (b : ℕ) (buf : List ℤ) (d w v : ℕ) 
       (part-mixed f a g b (w + v) buf 0 w (omega arith) ∙ sym (part-mixed f a g b w buf 0 w (omega arith)))
       (part-mixed f a g b (w + v) buf w v (omega arith) ∙ rw (add-zero, add-zero) at (sym (part-mixed f (a + w) g (b + w) v buf 0 v (omega arith))))
 
-  mixed-on : {buf′ buf″ : List ℤ} → Mixes buf f a g b d w buf′ → Mixes buf′ f (a + w) g (b + w) (d + w) v buf″ → buf″ ≡ paste buf d (mixed f a g b (w + v) buf) (w + v)
-  unfolding mixed
-  mixed-on {buf′} x y =
-      let same : Agree d buf buf′ = mixes-keeps x (omega arith) (omega arith) in
-      let again : mixed f (a + w) g (b + w) v buf′ ≡ mixed f (a + w) g (b + w) v buf = ap₂ (λ (l m : List ℤ). sums (times f l) (times g m)) (sym (agree-part same (a + w) v (omega arith))) (sym (agree-part same (b + w) v (omega arith))) in
-      y .is
-      ∙ ap₂ (λ (l m : List ℤ). paste l (d + w) m v) (x .is) again
-      ∙ paste-paste buf d (mixed f a g b w buf) w (mixed f (a + w) g (b + w) v buf) v (mixed f a g b (w + v) buf) (omega arith) (omega (arith, length-mixed f a g b w buf (omega arith) (omega arith))) mixed-append
+  -- c is whether the first w of them are in range.
+  mixed-fits : {c : Bool} → c ≡ every (small (edition1 .range)) (mixed f a g b w buf) → every (small (edition1 .range)) (mixed f a g b (w + v) buf) ≡ c && every (small (edition1 .range)) (mixed f (a + w) g (b + w) v buf)
+  mixed-fits {c} e =
+      let p : ℤ → Bool = small (edition1 .range) in
+      let all = mixed f a g b (w + v) buf in
+      let one = mixed f a g b w buf in
+      let two = mixed f (a + w) g (b + w) v buf in
+      ap (every p)
+      (sym (take-all (w + v) all (omega (arith, length-mixed f a g b (w + v) buf (omega arith) (omega arith))))
+      ∙ mixed-append
+      ∙ ap₂ _++_ (take-all w one (omega (arith, length-mixed f a g b w buf (omega arith) (omega arith)))) (take-all v two (omega (arith, length-mixed f (a + w) g (b + w) v buf (omega arith) (omega arith)))))
+      ∙ every-append p one two
+      ∙ ap (λ (x : Bool). x && every p two) (sym e)
 
--- The form's sums first and then the partial interpolant's, each from and to its own place, make the line.
-pub mixed-forms : {K : ℕ} {buf buf′ buf″ : List ℤ} {f : ℤ} {i : ℕ} {g : ℤ} {j n a b d aA bA dA : ℕ} → LineTerms K buf f i g j n → Mixes buf f a g b d (K + 1) buf′ → Mixes buf′ f aA g bA dA (K + 1) buf″
-    → a ≡ i * size K → b ≡ j * size K → d ≡ n * size K → aA ≡ i * size K + (K + 1) → bA ≡ j * size K + (K + 1) → dA ≡ n * size K + (K + 1) → buf″ ≡ mixedLine K f i g j n buf
-unfolding mixedLine
-mixed-forms {K} {buf} {f = f} {i} {g} {j} {n} p x y ea eb ed eaA ebA edA =
-    let both : K + 1 + (K + 1) ≡ size K = omega arith in
-    rw both at (mixed-on f (i * size K) g (j * size K) buf (n * size K) (K + 1) (K + 1) (omega (arith, before K (p .first))) (omega (arith, before K (p .second))) (omega (arith, p .branch .room)) (rw (ea, eb, ed) at x) (rw (eaA, ebA, edA) at y))
+  mixes-fails : {buf′ : List ℤ} → Mixes buf f a g b d w buf′ false → Mixes buf f a g b d (w + v) buf′ false
+  mixes-fails x = record { fits = sym (mixed-fits (x .fits)); is = λ e. absurd (subst T (sym e) tt); keeps = x .keeps }
+
+  mixes-on : {buf′ buf″ : List ℤ} {r : Bool} → Mixes buf f a g b d w buf′ true → Mixes buf′ f (a + w) g (b + w) (d + w) v buf″ r → Mixes buf f a g b d (w + v) buf″ r
+  unfolding mixed
+  mixes-on {buf′} x y =
+      let same : Agree d buf buf′ = x .keeps in
+      let again : mixed f (a + w) g (b + w) v buf′ ≡ mixed f (a + w) g (b + w) v buf = ap₂ (λ (l m : List ℤ). sums (times f l) (times g m)) (sym (agree-part same (a + w) v (omega arith))) (sym (agree-part same (b + w) v (omega arith))) in
+      record {
+        fits = y .fits ∙ ap (every (small (edition1 .range))) again ∙ sym (mixed-fits (x .fits));
+        is = λ e. y .is e
+            ∙ ap₂ (λ (l m : List ℤ). paste l (d + w) m v) (x .is refl) again
+            ∙ paste-paste buf d (mixed f a g b w buf) w (mixed f (a + w) g (b + w) v buf) v (mixed f a g b (w + v) buf) (omega arith) (omega (arith, length-mixed f a g b w buf (omega arith) (omega arith))) mixed-append;
+        keeps = agree-trans same (agree-le (omega arith) (y .keeps));
+      }
+
+-- The form's sums first and then the partial interpolant's, each from and to its own place, make the line; where one of the form's is out of range, one of the line's is.
+module _ {K : ℕ} {buf buf′ : List ℤ} {f : ℤ} {i : ℕ} {g : ℤ} {j n a b d : ℕ} {r : Bool} (p : LineTerms K buf f i g j n) (x : Mixes buf f a g b d (K + 1) buf′ r)
+    (ea : a ≡ i * size K) (eb : b ≡ j * size K) (ed : d ≡ n * size K) where
+  pub form-fails : not r ≡ true → Mixes buf f (i * size K) g (j * size K) (n * size K) (size K) buf′ false
+  form-fails t =
+      let both : K + 1 + (K + 1) ≡ size K = omega arith in
+      rw both at (mixes-fails f (i * size K) g (j * size K) buf (n * size K) (K + 1) (K + 1) (omega (arith, before K (p .first))) (omega (arith, before K (p .second))) (omega (arith, p .branch .room)) (rw (ea, eb, ed, not-true r t) at x))
+
+  pub mixed-forms : {buf″ : List ℤ} {aA bA dA : ℕ} {q : Bool} → not r ≡ false → Mixes buf′ f aA g bA dA (K + 1) buf″ q
+      → aA ≡ i * size K + (K + 1) → bA ≡ j * size K + (K + 1) → dA ≡ n * size K + (K + 1) → Mixes buf f (i * size K) g (j * size K) (n * size K) (size K) buf″ q
+  mixed-forms t y eaA ebA edA =
+      let both : K + 1 + (K + 1) ≡ size K = omega arith in
+      rw both at (mixes-on f (i * size K) g (j * size K) buf (n * size K) (K + 1) (K + 1) (omega (arith, before K (p .first))) (omega (arith, before K (p .second))) (omega (arith, p .branch .room)) (rw (ea, eb, ed, not-false r t) at x) (rw (eaA, ebA, edA) at y))
 
 module _ (K : ℕ) (f : ℤ) (i : ℕ) (g : ℤ) (j n : ℕ) (buf : List ℤ) (room : n * size K + size K ≤ length buf) (hi : i < n) (hj : j < n) where
   pub mixed-keeps : Agree (n * size K) buf (mixedLine K f i g j n buf)
@@ -136,6 +162,20 @@ module _ (K : ℕ) (f : ℤ) (i : ℕ) (g : ℤ) (j n : ℕ) (buf : List ℤ) (r
       (rw (add-zero, add-zero, add-zero) at (m 0 (omega arith) (omega arith)) ∙ ap₂ (λ (x y : Line). f · x .t ⊞ g · y .t) es et)
       (m (K + 1) (omega arith) (omega arith) ∙ ap₂ (λ (x y : Line). f · x .tA ⊞ g · y .tA) es et)
 
+  -- The new line is in range where all of its numbers are.
+  pub mixed-range : (r : ℕ) (kinds : List ℕ) → inRange r (lineIn K kinds (mixedLine K f i g j n buf) n) ≡ every (small r) (mixed f (i * size K) g (j * size K) (size K) buf)
+  unfolding mixedLine
+  mixed-range r kinds =
+      let all = mixed f (i * size K) g (j * size K) (size K) buf in
+      let len : length all ≡ size K = length-mixed f (i * size K) g (j * size K) (size K) buf (omega (arith, before K hi)) (omega (arith, before K hj)) in
+      fits-line r K kinds (mixedLine K f i g j n buf) n (omega (arith, length-mixedLine))
+      ∙ ap (every (small r)) (rw add-zero at (part-paste buf (n * size K) all (size K) (omega arith) 0 (size K) (omega (arith, len)) (omega arith)) ∙ take-all (size K) all (omega (arith, len)))
+
+-- What a whole line of sums leaves, where all are in range.
+pub mixes-line : (K i j n : ℕ) {buf buf′ : List ℤ} {f g : ℤ} {r : Bool} → Mixes buf f (i * size K) g (j * size K) (n * size K) (size K) buf′ r → r ≡ true → buf′ ≡ mixedLine K f i g j n buf
+unfolding mixedLine
+mixes-line K i j n x e = x .is e
+
 -- ---- one factor 1, the other 0
 one-mul : (a : ℤ) → pos 1 *ℤ a ≡ a
 one-mul a = let x = var a in ring (search poly) x (omega arith)
@@ -151,6 +191,11 @@ sums-zero : (f : ℤ) (l : List ℤ) → sums (times f l) (times (pos 0) l) ≡ 
 unfolding sums
 sums-zero f [] = refl
 sums-zero f (a ∷ l) = ap₂ (λ (x : ℤ) (y : List ℤ). x ∷ y) (add-zero-mul (f *ℤ a) a) (sums-zero f l)
+
+-- The numbers that a copy writes.
+pub mixed-copy : (a w : ℕ) (buf : List ℤ) → mixed (pos 1) a (pos 0) a w buf ≡ part a w buf
+unfolding mixed
+mixed-copy a w buf = sums-zero (pos 1) (part a w buf) ∙ one-times (part a w buf)
 
 pub one-form : (t : Form) → pos 1 · t ≡ t
 unfolding _·_

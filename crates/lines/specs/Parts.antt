@@ -5,13 +5,16 @@ use mathlib.Core.Option.{none, some}
 use Prim.Native.Nat.{ℕ, zero, suc, _+_, _<_, _≤_}
 use native.Mathlib.Nat.{add-zero, add-assoc}
 use native.Mathlib.Omega.{arith}
-use lib.ListN.{length, getD, take, drop, set, getElem?}
+use lib.ListN.{length, getD, take, drop, set, getElem?, length-drop}
 use lib.Seq.{paste, take-paste, drop-paste, length-take-le, take-append-le, drop-append-add, take-take, take-set-le, drop-drop, getD-drop, getD-take}
 
 module _ {A : Type 0} where
   -- The n elements from index at on.
   abbrev pub part : (at n : ℕ) → List A → List A
   part at n l = take n (drop at l)
+
+  pub length-part : (at n : ℕ) (l : List A) → at + n ≤ length l → length (part at n l) ≡ n
+  length-part at n l h = length-take-le n (drop at l) (simp length-drop (omega arith))
 
   -- A part of the first m elements.
   pub part-take : (at n m : ℕ) (l : List A) → at + n ≤ m → part at n (take m l) ≡ part at n l

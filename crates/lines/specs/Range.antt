@@ -1,4 +1,4 @@
--- The range of the numbers of lines: what `fits` tells of a line, and of a branch with one line more. Assumes nothing.
+-- The range of the numbers of lines: of a line, and of a branch with one line more. Assumes nothing.
 use mathlib.Core.Path.{_≡_, refl, sym, _∙_, ap, ap₂, subst}
 use mathlib.Core.List.{List, [], _∷_, _++_}
 use mathlib.Core.Bool.{Bool, true, false, _&&_, and-assoc, and-true}
@@ -12,6 +12,7 @@ use lib.IntN.{ℤ, pos}
 use lib.ListN.{length, getD, take, drop, length-drop}
 use lib.Seq.{length-take-le, take-suc, take-add, drop-drop, getD-drop}
 use Rattle.integers.specs.Magnitude.{Within}
+use Rattle.forms.specs.Edition.{edition1}
 use Rattle.calculus.specs.Rules.{small, every, inRange}
 use Rattle.lines.specs.Parts.{part, getD-part}
 use Rattle.lines.specs.Buffer.{size, lineIn, Bounded}
@@ -61,7 +62,7 @@ part-form at K buf h =
     ∙ take-suc (drop at buf) K (pos 0) (simp length-drop (omega arith))
     ∙ ap (λ (z : ℤ). part at K buf ++ (z ∷ [])) (getD-drop at buf K (pos 0))
 
--- All numbers of line n, as `fits` reads them.
+-- All numbers of line n, as they stand.
 pub fits-line : (r K : ℕ) (kinds : List ℕ) (buf : List ℤ) (n : ℕ) → n * size K + size K ≤ length buf
     → inRange r (lineIn K kinds buf n) ≡ every (small r) (part (n * size K) (size K) buf)
 unfolding inRange lineIn
@@ -80,25 +81,25 @@ module _ (K : ℕ) (buf : List ℤ) (n : ℕ) (room : n * size K + size K ≤ le
   len : length (part (n * size K) (size K) buf) ≡ size K
   len = length-take-le (size K) (drop (n * size K) buf) (simp length-drop (omega arith))
 
-  at-line : T (every (small 2147483647) (part (n * size K) (size K) buf)) → (y : ℕ) → y < size K → Within 2147483647 (getD buf (n * size K + y) (pos 0))
+  at-line : T (every (small (edition1 .range)) (part (n * size K) (size K) buf)) → (y : ℕ) → y < size K → Within (edition1 .range) (getD buf (n * size K + y) (pos 0))
   unfolding small
   at-line t y h =
       rw (sym (getD-part (n * size K) (size K) buf y (pos 0) h))
-      (record { abs = leb→le _ _ (every-at (small 2147483647) (part (n * size K) (size K) buf) y (pos 0) t (omega (arith, len))) })
+      (record { abs = leb→le _ _ (every-at (small (edition1 .range)) (part (n * size K) (size K) buf) y (pos 0) t (omega (arith, len))) })
 
-  pub bounded-more : (kinds : List ℕ) → Bounded K buf n → T (inRange 2147483647 (lineIn K kinds buf n)) → Bounded K buf (suc n)
+  pub bounded-more : (kinds : List ℕ) → Bounded K buf n → T (inRange (edition1 .range) (lineIn K kinds buf n)) → Bounded K buf (suc n)
   bounded-more kinds b t = record {
     small = λ x h. ⊎-elim
         (λ (g : n * size K - x ≡ 0).
         let e : n * size K + (x - n * size K) ≡ x = omega arith in
-        rw e at (at-line (subst T (fits-line 2147483647 K kinds buf n room) t) (x - n * size K) (omega arith)))
+        rw e at (at-line (subst T (fits-line (edition1 .range) K kinds buf n room) t) (x - n * size K) (omega arith)))
         (λ (l : 0 < n * size K - x). b .small x (omega arith))
         (eq-zero-or-pos (n * size K - x));
   }
 
-  pub bounded-line : (kinds : List ℕ) {m : ℕ} → Bounded K buf m → n < m → T (inRange 2147483647 (lineIn K kinds buf n))
+  pub bounded-line : (kinds : List ℕ) {m : ℕ} → Bounded K buf m → n < m → T (inRange (edition1 .range) (lineIn K kinds buf n))
   unfolding small
   bounded-line kinds {m} b h =
-      subst T (sym (fits-line 2147483647 K kinds buf n room))
-      (every-all (small 2147483647) (part (n * size K) (size K) buf) (pos 0)
+      subst T (sym (fits-line (edition1 .range) K kinds buf n room))
+      (every-all (small (edition1 .range)) (part (n * size K) (size K) buf) (pos 0)
       (λ y l. rw (getD-part (n * size K) (size K) buf y (pos 0) (omega (arith, len))) (le→leb _ _ (b .small (n * size K + y) (omega (arith, before K h, len)) .abs))))

@@ -1,17 +1,18 @@
 -- The lines that the three branches of a strengthen start with: the laws of `copiedLine`, `strengthenedT` and `strengthenedBoth`. Assumes nothing.
-use mathlib.Core.Path.{_≡_, refl, _∙_, ap}
+use mathlib.Core.Path.{_≡_, refl, sym, _∙_, ap, subst}
 use mathlib.Core.List.{List, []}
 use mathlib.Core.Bool.{Bool, true, false, _&&_, and-true}
 use Prim.Native.Nat.{ℕ, _+_, _*_, _<_}
 use native.Mathlib.Omega.{arith}
-use lib.Dec.{T}
+use lib.Dec.{T, leb→le}
 use lib.IntN.{ℤ, pos, _+ℤ_}
 use lib.ListN.{length, getD}
 use Rattle.integers.specs.Magnitude.{Within}
+use Rattle.forms.specs.Edition.{edition1}
 use Rattle.forms.specs.Forms.{Form, Kind, Line, line, _plus_}
 use Rattle.calculus.specs.Rules.{small, every, inRange}
-use Rattle.lines.specs.Parts.{Agree, agree-trans}
-use Rattle.lines.specs.Buffer.{size, kindOf, lineIn, LineCopy, copiedLine, strengthenedT, strengthenedBoth}
+use Rattle.lines.specs.Parts.{Agree, agree-trans, agree-getD}
+use Rattle.lines.specs.Buffer.{size, formIn, kindOf, lineIn, Raised, LineCopy, copiedLine, strengthenedT, strengthenedBoth}
 use Rattle.lines.specs.Lines.{before, line-ext}
 use Rattle.lines.specs.Mix.{mixed-keeps, mixed-line, length-mixedLine, mix-copy}
 use Rattle.lines.specs.Range.{and-left, and-right, and-both}
@@ -60,23 +61,38 @@ module _ {K : ℕ} {buf : List ℤ} {i n : ℕ} (p : LineCopy K buf i n) where
     both-line = plus-tA K kinds′ (strengthenedT K i n buf) n (omega (arith, p .branch .room, length-t)) _ t-line
 
   -- ---- the constant terms before they are raised are those of line i, so they can be
-  term : (at : ℕ) (buf′ : List ℤ) (x y : ℕ) → at + K ≡ x → x < n * size K + size K → length buf′ ≡ length buf → getD buf′ x (pos 0) ≡ getD buf y (pos 0) → y < n * size K
-      → (at + K < length buf′) × Within 2147483647 (getD buf′ (at + K) (pos 0))
-  term at buf′ x y e h l d g = (omega (arith, p .branch .room), rw (e, d) (p .branch .bounded .small y g))
+  term : (at : ℕ) (buf′ : List ℤ) (x y : ℕ) → at + K ≡ x → x < n * size K + size K → length buf′ ≡ length buf → getD buf′ x (pos 0) ≡ getD buf y (pos 0) → Within (edition1 .range) (getD buf y (pos 0) +ℤ pos 1)
+      → (at + K < length buf′) × Within (edition1 .range) (getD buf′ (at + K) (pos 0) +ℤ pos 1)
+  term at buf′ x y e h l d g = (omega (arith, p .branch .room), rw (e, d) g)
 
-  pub t-term : (at : ℕ) (buf′ : List ℤ) → at ≡ n * size K → buf′ ≡ copiedLine K i n buf → (at + K < length buf′) × Within 2147483647 (getD buf′ (at + K) (pos 0))
+  pub t-term : (at : ℕ) (buf′ : List ℤ) → at ≡ n * size K → buf′ ≡ copiedLine K i n buf → (at + K < length buf′) × Within (edition1 .range) (getD buf′ (at + K) (pos 0) +ℤ pos 1)
   unfolding lineIn
   t-term at buf′ e b =
       term at buf′ (n * size K + K) (i * size K + K) (omega arith) (omega arith) (ap length b ∙ length-copied)
       (ap (λ (l : List ℤ). getD l (n * size K + K) (pos 0)) b ∙ ap (λ (l : Line). l .t .d) (copied-line [] [] refl))
-      (omega (arith, before K (p .first)))
+      (p .raised .t)
 
-  pub tA-term : (at : ℕ) (buf′ : List ℤ) → at ≡ n * size K + (K + 1) → buf′ ≡ strengthenedT K i n buf → (at + K < length buf′) × Within 2147483647 (getD buf′ (at + K) (pos 0))
+  pub tA-term : (at : ℕ) (buf′ : List ℤ) → at ≡ n * size K + (K + 1) → buf′ ≡ strengthenedT K i n buf → (at + K < length buf′) × Within (edition1 .range) (getD buf′ (at + K) (pos 0) +ℤ pos 1)
   unfolding lineIn
   tA-term at buf′ e b =
       term at buf′ (n * size K + (K + 1) + K) (i * size K + (K + 1) + K) (omega arith) (omega arith) (ap length b ∙ length-t)
       (ap (λ (l : List ℤ). getD l (n * size K + (K + 1) + K) (pos 0)) b ∙ ap (λ (l : Line). l .tA .d) (t-line [] [] refl))
-      (omega (arith, before K (p .first)))
+      (p .raised .tA)
+
+-- ---- line i may be strengthened: by a test of its two constant terms, and in every buffer that keeps the line
+pub raised-fits : {K : ℕ} {buf : List ℤ} {i : ℕ} {r : Bool} → r ≡ small (edition1 .range) (formIn K buf (i * size K) .d +ℤ pos 1) && small (edition1 .range) (formIn K buf (i * size K + (K + 1)) .d +ℤ pos 1) → r ≡ true → Raised K buf i
+unfolding small
+raised-fits {K} {buf} {i} e h =
+    let up = small (edition1 .range) (formIn K buf (i * size K) .d +ℤ pos 1) in
+    let upA = small (edition1 .range) (formIn K buf (i * size K + (K + 1)) .d +ℤ pos 1) in
+    let both = subst T (sym (sym e ∙ h)) tt in
+    record { t = record { abs = leb→le _ _ (and-left up upA both) }; tA = record { abs = leb→le _ _ (and-right up upA both) } }
+
+pub raised-same : {K : ℕ} {buf buf′ : List ℤ} {i n : ℕ} → Agree (n * size K) buf buf′ → i < n → Raised K buf i → Raised K buf′ i
+raised-same {K} {i = i} a h r = record {
+  t = rw (sym (agree-getD a (i * size K + K) (pos 0) (omega (arith, before K h)))) (r .t);
+  tA = rw (sym (agree-getD a (i * size K + (K + 1) + K) (pos 0) (omega (arith, before K h)))) (r .tA);
+}
 
 -- ---- ranges: the line of the third branch is in range where line i and the first branch's line are
 pub third-range : (r : ℕ) (k k′ k″ : Kind) (t tA : Form) → T (inRange r (line k t tA)) → T (inRange r (line k′ (t plus 1) (tA plus 1))) → T (inRange r (line k″ (t plus 1) tA))

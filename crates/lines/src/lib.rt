@@ -1,21 +1,24 @@
 // The lines of a branch in one flat lent buffer: the functions that read and write them.
+// Every number is within the range, so it has 32 bits here; what is computed of it has 64.
 use forms::LineNumber;
 ghost use mathlib.Core.Path.{_≡_};
 ghost use mathlib.Core.Bool.{_&&_};
 ghost use Prim.Native.Nat.{_+_, _*_, _<_, _≤_};
 ghost use lib.ListN.{length, getD};
-ghost use lib.IntN.{pos};
+ghost use lib.Seq.{paste};
+ghost use lib.IntN.{pos, _+ℤ_};
 ghost use lib.Signed.{_≤ℤ_};
 ghost use Rattle.integers.specs.Magnitude.{Within};
 ghost use Rattle.integers.specs.Linear.{eqZ};
 ghost use Rattle.integers.specs.Divides.{divb};
 ghost use Rattle.calculus.specs.Rules.{small, every};
+ghost use Rattle.forms.specs.Edition.{edition1};
 ghost use Rattle.lines.specs.Parts.{part};
-ghost use Rattle.lines.specs.Buffer.{size, formIn, Terms, LineTerms, LineCopy, Mixes, mixedLine, plusOne, copiedLine, strengthenedT, strengthenedBoth, startedLine};
+ghost use Rattle.lines.specs.Buffer.{size, formIn, Bounded, Terms, LineTerms, LineCopy, Mixes, plusOne, copiedLine, strengthenedT, strengthenedBoth, startedLine};
 
 // Where the numbers of line i's t start, with k constants. Only here a line number becomes a place.
 pub fn place(i: LineNumber, k: usize) -> usize
-    requires { ⌜ (i .0 ≤ 128) × (k ≤ 16) ⌝ }
+    requires { ⌜ (i .0 ≤ edition1 .lines) × (k ≤ edition1 .constants) ⌝ }
     ensures { λ r. ⌜ r ≡ i .0 * size k ⌝ }
 {
     let n = i.0 as usize;
@@ -24,74 +27,96 @@ pub fn place(i: LineNumber, k: usize) -> usize
 
 // Where the numbers of line i's tA start.
 pub fn place_a(i: LineNumber, k: usize) -> usize
-    requires { ⌜ (i .0 ≤ 128) × (k ≤ 16) ⌝ }
+    requires { ⌜ (i .0 ≤ edition1 .lines) × (k ≤ edition1 .constants) ⌝ }
     ensures { λ r. ⌜ r ≡ i .0 * size k + (k + 1) ⌝ }
 {
     place(i, k) + (k + 1)
 }
 
-// One form of a new line, number by number in the steps of FM-ELIM: α·s, then β·t, then their sum. The w numbers of s, of t and of the new form start at these places.
-fn mix_numbers(lines: &mut [i64], alpha: i64, s: usize, beta: i64, t: usize, new: usize, w: usize)
+// The number at a place. Every number that is tested or computed with is read here.
+pub fn number(lines: &[i32], at: usize) -> i64
+    requires { ⌜ at < length (now lines) ⌝ }
+    ensures { λ r. ⌜ r ≡ getD (now (lines .entry)) at (pos 0) ⌝ }
+{
+    lines[at] as i64
+}
+
+// One form of a new line, number by number in the steps of FM-ELIM: α·s, then β·t, then their sum, up to the first that is out of range; whether there is none. The w numbers of s, of t and of the new form start at these places.
+fn mix_numbers(
+    lines: &mut [i32],
+    alpha: i64,
+    s: usize,
+    beta: i64,
+    t: usize,
+    new: usize,
+    w: usize,
+) -> bool
     requires { ⌜ Terms (now lines) alpha s beta t new w ⌝ }
-    ensures { λ _. ⌜ Mixes (now (lines .entry)) alpha s beta t new w (now (lines .exit)) ⌝ }
+    ensures { λ r. ⌜ Mixes (now (lines .entry)) alpha s beta t new w (now (lines .exit)) r ⌝ }
 {
     let mut x = 0;
     while x < w {
-        let alpha_s = alpha * lines[s + x];
-        let beta_t = beta * lines[t + x];
+        let alpha_s = alpha * number(lines, s + x);
+        let beta_t = beta * number(lines, t + x);
         let sum = alpha_s + beta_t;
-        lines[new + x] = sum;
+        if !integers::in_range(sum) {
+            return false;
+        }
+        lines[new + x] = sum as i32;
         x += 1;
     }
+    true
 }
 
-// FM-ELIM of Figure 6 in source 000: from line s with its partial interpolant sA and line t with tA, line n becomes αs + βt with αsA + βtA.
+// FM-ELIM of Figure 6 in source 000: from line s with its partial interpolant sA and line t with tA, line n becomes αs + βt with αsA + βtA, if every number of it is within the range; whether they are.
 fn mix(
-    lines: &mut [i64],
+    lines: &mut [i32],
     alpha: i64,
     s: LineNumber,
     beta: i64,
     t: LineNumber,
     n: LineNumber,
     k: usize,
-)
+) -> bool
     requires { ⌜ LineTerms k (now lines) alpha (s .0) beta (t .0) (n .0) ⌝ }
-    ensures { λ _. ⌜ now (lines .exit) ≡ mixedLine k alpha (s .0) beta (t .0) (n .0) (now (lines .entry)) ⌝ }
+    ensures { λ r. ⌜ Mixes (now (lines .entry)) alpha (s .0 * size k) beta (t .0 * size k) (n .0 * size k) (size k) (now (lines .exit)) r ⌝ }
 {
     // First the form: α·s, β·t, αs + βt.
     let s_at = place(s, k);
     let t_at = place(t, k);
     let new_at = place(n, k);
-    mix_numbers(lines, alpha, s_at, beta, t_at, new_at, k + 1);
+    if !mix_numbers(lines, alpha, s_at, beta, t_at, new_at, k + 1) {
+        return false;
+    }
     // When that is done, the partial interpolant in the same steps: α·sA, β·tA, αsA + βtA.
     let sa_at = place_a(s, k);
     let ta_at = place_a(t, k);
     let new_a_at = place_a(n, k);
-    mix_numbers(lines, alpha, sa_at, beta, ta_at, new_a_at, k + 1);
+    mix_numbers(lines, alpha, sa_at, beta, ta_at, new_a_at, k + 1)
 }
 
 // The same in one run over t and tA: where a factor is 1 or 0 the compiler then leaves its product out.
 fn mix_whole(
-    lines: &mut [i64],
+    lines: &mut [i32],
     alpha: i64,
     s: LineNumber,
     beta: i64,
     t: LineNumber,
     n: LineNumber,
     k: usize,
-)
+) -> bool
     requires { ⌜ LineTerms k (now lines) alpha (s .0) beta (t .0) (n .0) ⌝ }
-    ensures { λ _. ⌜ now (lines .exit) ≡ mixedLine k alpha (s .0) beta (t .0) (n .0) (now (lines .entry)) ⌝ }
+    ensures { λ r. ⌜ Mixes (now (lines .entry)) alpha (s .0 * size k) beta (t .0 * size k) (n .0 * size k) (size k) (now (lines .exit)) r ⌝ }
 {
     let s_at = place(s, k);
     let t_at = place(t, k);
     let new_at = place(n, k);
-    mix_numbers(lines, alpha, s_at, beta, t_at, new_at, 2 * (k + 1));
+    mix_numbers(lines, alpha, s_at, beta, t_at, new_at, 2 * (k + 1))
 }
 
 // Line n of lines s and t: the form and then the partial interpolant, or both in one run.
 pub fn mix_line(
-    lines: &mut [i64],
+    lines: &mut [i32],
     apart: bool,
     alpha: i64,
     s: LineNumber,
@@ -99,38 +124,51 @@ pub fn mix_line(
     t: LineNumber,
     n: LineNumber,
     k: usize,
-)
+) -> bool
     requires { ⌜ LineTerms k (now lines) alpha (s .0) beta (t .0) (n .0) ⌝ }
-    ensures { λ _. ⌜ now (lines .exit) ≡ mixedLine k alpha (s .0) beta (t .0) (n .0) (now (lines .entry)) ⌝ }
+    ensures { λ r. ⌜ Mixes (now (lines .entry)) alpha (s .0 * size k) beta (t .0 * size k) (n .0 * size k) (size k) (now (lines .exit)) r ⌝ }
 {
     if apart {
-        mix(lines, alpha, s, beta, t, n, k);
-        return;
+        return mix(lines, alpha, s, beta, t, n, k);
     }
-    mix_whole(lines, alpha, s, beta, t, n, k);
+    mix_whole(lines, alpha, s, beta, t, n, k)
 }
 
 // One more at a place.
-pub fn add_one(lines: &mut [i64], at: usize)
+fn add_one(lines: &mut [i32], at: usize)
     requires { ⌜ at < length (now lines) ⌝ }
-    requires { ⌜ Within 2147483647 (getD (now lines) at (pos 0)) ⌝ }
+    requires { ⌜ Within (edition1 .range) (getD (now lines) at (pos 0) +ℤ pos 1) ⌝ }
     ensures { λ _. ⌜ now (lines .exit) ≡ plusOne at (now (lines .entry)) ⌝ }
 {
-    let x = lines[at];
-    let sum = integers::linear(1, x, 1, 1);
-    lines[at] = sum;
+    let sum = number(lines, at) + 1;
+    lines[at] = sum as i32;
+}
+
+// The w numbers at s, in place of those at new.
+fn copy_numbers(lines: &mut [i32], s: usize, new: usize, w: usize)
+    requires { ⌜ (s + w ≤ new) × (new + w ≤ length (now lines)) ⌝ }
+    ensures { λ _. ⌜ now (lines .exit) ≡ paste (now (lines .entry)) new (part s w (now (lines .entry))) w ⌝ }
+{
+    let mut x = 0;
+    while x < w {
+        let same = lines[s + x];
+        lines[new + x] = same;
+        x += 1;
+    }
 }
 
 // Line n becomes line i.
-fn copy_line(lines: &mut [i64], i: LineNumber, n: LineNumber, k: usize)
+fn copy_line(lines: &mut [i32], i: LineNumber, n: LineNumber, k: usize)
     requires { ⌜ LineCopy k (now lines) (i .0) (n .0) ⌝ }
     ensures { λ _. ⌜ now (lines .exit) ≡ copiedLine k (i .0) (n .0) (now (lines .entry)) ⌝ }
 {
-    mix_whole(lines, 1, i, 0, i, n, k);
+    let from = place(i, k);
+    let to = place(n, k);
+    copy_numbers(lines, from, to, 2 * (k + 1));
 }
 
 // Line n becomes line i with t + 1.
-fn strengthen_t(lines: &mut [i64], i: LineNumber, n: LineNumber, k: usize)
+fn strengthen_t(lines: &mut [i32], i: LineNumber, n: LineNumber, k: usize)
     requires { ⌜ LineCopy k (now lines) (i .0) (n .0) ⌝ }
     ensures { λ _. ⌜ now (lines .exit) ≡ strengthenedT k (i .0) (n .0) (now (lines .entry)) ⌝ }
 {
@@ -140,7 +178,7 @@ fn strengthen_t(lines: &mut [i64], i: LineNumber, n: LineNumber, k: usize)
 }
 
 // Line n becomes line i with t + 1 and tA + 1.
-fn strengthen_both(lines: &mut [i64], i: LineNumber, n: LineNumber, k: usize)
+fn strengthen_both(lines: &mut [i32], i: LineNumber, n: LineNumber, k: usize)
     requires { ⌜ LineCopy k (now lines) (i .0) (n .0) ⌝ }
     ensures { λ _. ⌜ now (lines .exit) ≡ strengthenedBoth k (i .0) (n .0) (now (lines .entry)) ⌝ }
 {
@@ -150,7 +188,7 @@ fn strengthen_both(lines: &mut [i64], i: LineNumber, n: LineNumber, k: usize)
 }
 
 // Line n becomes line i as a branch of a strengthen starts: with t + 1, and then with tA + 1 too, where it is said.
-pub fn start_line(lines: &mut [i64], i: LineNumber, n: LineNumber, k: usize, t: bool, ta: bool)
+pub fn start_line(lines: &mut [i32], i: LineNumber, n: LineNumber, k: usize, t: bool, ta: bool)
     requires { ⌜ LineCopy k (now lines) (i .0) (n .0) ⌝ }
     ensures { λ _. ⌜ now (lines .exit) ≡ startedLine k (i .0) (n .0) t ta (now (lines .entry)) ⌝ }
 {
@@ -165,83 +203,42 @@ pub fn start_line(lines: &mut [i64], i: LineNumber, n: LineNumber, k: usize, t: 
     copy_line(lines, i, n, k);
 }
 
-// Whether the two numbers of line n that a strengthen raises are within the range.
-pub fn raised_fit(lines: &[i64], n: LineNumber, k: usize) -> bool
-    requires { ⌜ (n .0 ≤ 128) × (k ≤ 16) × (n .0 * size k + size k ≤ length (now lines)) ⌝ }
-    ensures { λ r. ⌜ r ≡ small 2147483647 (formIn k (now (lines .entry)) (n .0 * size k) .d) && small 2147483647 (formIn k (now (lines .entry)) (n .0 * size k + (k + 1)) .d) ⌝ }
+// Whether the two numbers of line i that a strengthen raises stay within the range.
+pub fn raised_fit(lines: &[i32], i: LineNumber, k: usize) -> bool
+    requires { ⌜ (i .0 < edition1 .lines) × (k ≤ edition1 .constants) × (i .0 * size k + size k ≤ length (now lines)) ⌝ }
+    requires { ⌜ Bounded k (now lines) (i .0 + 1) ⌝ }
+    ensures { λ r. ⌜ r ≡ small (edition1 .range) (formIn k (now (lines .entry)) (i .0 * size k) .d +ℤ pos 1) && small (edition1 .range) (formIn k (now (lines .entry)) (i .0 * size k + (k + 1)) .d +ℤ pos 1) ⌝ }
 {
-    let at = place(n, k);
-    let at_a = place_a(n, k);
-    let t = integers::in_range(lines[at + k]);
-    let ta = integers::in_range(lines[at_a + k]);
+    let at = place(i, k);
+    let at_a = place_a(i, k);
+    let t = integers::in_range(number(lines, at + k) + 1);
+    let ta = integers::in_range(number(lines, at_a + k) + 1);
     t & ta
 }
 
-// Whether all of the numbers at a place are within the range, one after the other.
-fn each_fits(lines: &[i64], at: usize, count: usize) -> bool
-    requires { ⌜ at + count ≤ length (now lines) ⌝ }
-    ensures { λ r. ⌜ r ≡ every (small 2147483647) (part at count (now (lines .entry))) ⌝ }
-{
-    let mut x = 0;
-    while x < count {
-        if !integers::in_range(lines[at + x]) {
-            return false;
-        }
-        x += 1;
-    }
-    true
-}
-
-// The same for four numbers.
-fn four_fit(lines: &[i64], at: usize) -> bool
-    requires { ⌜ at + 4 ≤ length (now lines) ⌝ }
-    ensures { λ r. ⌜ r ≡ every (small 2147483647) (part at 4 (now (lines .entry))) ⌝ }
-{
-    let first = integers::in_range(lines[at]);
-    let second = integers::in_range(lines[at + 1]);
-    let third = integers::in_range(lines[at + 2]);
-    let fourth = integers::in_range(lines[at + 3]);
-    first & second & third & fourth
-}
-
-// Whether all of the numbers at a place are within the range. Four at a time take half as long as one by one.
-pub fn fits(lines: &[i64], at: usize, count: usize) -> bool
-    requires { ⌜ at + count ≤ length (now lines) ⌝ }
-    ensures { λ r. ⌜ r ≡ every (small 2147483647) (part at count (now (lines .entry))) ⌝ }
-{
-    let mut x = 0;
-    while 4 <= count - x {
-        if !four_fit(lines, at + x) {
-            return false;
-        }
-        x += 4;
-    }
-    each_fits(lines, at + x, count - x)
-}
-
 // Whether the k coefficients at a place are all 0. One number stands for those passed, so that the compiler can join several at once.
-pub fn all_zero(lines: &[i64], at: usize, k: usize) -> bool
+pub fn all_zero(lines: &[i32], at: usize, k: usize) -> bool
     requires { ⌜ at + k ≤ length (now lines) ⌝ }
     ensures { λ r. ⌜ r ≡ every (λ c. eqZ c (pos 0)) (part at k (now (lines .entry))) ⌝ }
 {
     let mut joined = 0;
     let mut x = 0;
     while x < k {
-        joined = integers::joined(joined, lines[at + x]);
+        joined = integers::joined(joined, number(lines, at + x));
         x += 1;
     }
     integers::is_zero(joined)
 }
 
 // Whether g divides each of the k coefficients at a place.
-pub fn all_divisible(lines: &[i64], at: usize, k: usize, g: i64) -> bool
+pub fn all_divisible(lines: &[i32], at: usize, k: usize, g: i64) -> bool
     requires { ⌜ at + k ≤ length (now lines) ⌝ }
     requires { ⌜ (pos 2) ≤ℤ g ⌝ }
     ensures { λ r. ⌜ r ≡ every (divb g) (part at k (now (lines .entry))) ⌝ }
 {
     let mut x = 0;
     while x < k {
-        if !integers::divides(g, lines[at + x]) {
+        if !integers::divides(g, number(lines, at + x)) {
             return false;
         }
         x += 1;

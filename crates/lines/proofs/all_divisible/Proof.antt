@@ -1,4 +1,5 @@
 -- `lines::all_divisible` meets its contract: after x turns the first x numbers pass. Assumes nothing.
+use mathlib.Core.Path.{_∙_}
 use Prim.Native.Nat.{_-_}
 use native.Mathlib.Omega.{arith}
 use Rattle.lines.proofs.Every.{Passed, passed-none, passed-next, passed-fails, passed-all}
@@ -18,14 +19,11 @@ abbrev μ-loop : tie.MeasureT-loop
 loop-holds : tie.Need-loop-holds Inv-loop μ-loop
 loop-holds c = passed-none
 
-add-divides : tie.Need-add-divides Inv-loop μ-loop
-add-divides c = omega arith
+add-number : tie.Need-add-number Inv-loop μ-loop
+add-number c = omega arith
 
-mul-divides : tie.Need-mul-divides Inv-loop μ-loop
-mul-divides c = omega arith
-
-shared-slice-copy-out-divides : tie.Need-shared-slice-copy-out-divides Inv-loop μ-loop
-shared-slice-copy-out-divides c = omega arith
+number-requires : tie.Need-number-requires Inv-loop μ-loop
+number-requires c κs = omega arith
 
 divides-requires : tie.Need-divides-requires Inv-loop μ-loop
 divides-requires c κs = let s = c .before .before .before in rw (toZ-ofZ w64 (s .args .g) (s .fits .g)) (s .pre .1)
@@ -34,7 +32,7 @@ returns : tie.Need-returns Inv-loop μ-loop
 returns c =
     let s = c .before .before .before .before .before in
     let fg = s .fits .g in
-    simp toZ-ofZ at (passed-fails (s .pre .0) (c .before .before .before .before .loop .inv) (c .before .before .before .loop-test .taken) (c .before .before .divides-arg .given) (c .before .divides .ensures) (c .if1 .taken))
+    simp toZ-ofZ at (passed-fails (s .pre .0) (c .before .before .before .before .loop .inv) (c .before .before .before .loop-test .taken) (toZ-ofZ w64 (c .before .before .number .result) (record { sfits = c .before .before .number .ok }) ∙ c .before .before .number .ensures) (c .before .divides .ensures) (c .if1 .taken))
 
 add-x : tie.Need-add-x Inv-loop μ-loop
 add-x c = omega arith
@@ -45,7 +43,7 @@ loop-less c = omega arith
 loop-again : tie.Need-loop-again Inv-loop μ-loop
 loop-again c =
     let s = c .before .before .before .before .before in
-    passed-next (s .pre .0) (c .before .before .before .before .loop .inv) (c .before .before .before .loop-test .taken) (c .before .before .divides-arg .given) (c .before .divides .ensures) (c .if1 .left)
+    passed-next (s .pre .0) (c .before .before .before .before .loop .inv) (c .before .before .before .loop-test .taken) (toZ-ofZ w64 (c .before .before .number .result) (record { sfits = c .before .before .number .ok }) ∙ c .before .before .number .ensures) (c .before .divides .ensures) (c .if1 .left)
 
 returns-2 : tie.Need-returns-2 Inv-loop μ-loop
 returns-2 c =
@@ -60,9 +58,8 @@ all-divisible-spec =
     Inv-loop
     μ-loop
     loop-holds
-    add-divides
-    mul-divides
-    shared-slice-copy-out-divides
+    add-number
+    number-requires
     divides-requires
     returns
     add-x

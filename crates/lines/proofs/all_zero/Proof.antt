@@ -24,14 +24,11 @@ loop-holds : tie.Need-loop-holds Inv-loop μ-loop
 unfolding every
 loop-holds c = (refl, omega arith)
 
-add-joined : tie.Need-add-joined Inv-loop μ-loop
-add-joined c = search needs
+add-number : tie.Need-add-number Inv-loop μ-loop
+add-number c = search needs
 
-mul-joined : tie.Need-mul-joined Inv-loop μ-loop
-mul-joined c = search needs
-
-shared-slice-copy-out-joined : tie.Need-shared-slice-copy-out-joined Inv-loop μ-loop
-shared-slice-copy-out-joined c = search needs
+number-requires : tie.Need-number-requires Inv-loop μ-loop
+number-requires c κs = search needs
 
 joined-requires : tie.Need-joined-requires Inv-loop μ-loop
 joined-requires c κs = search needs
@@ -47,7 +44,7 @@ loop-again c =
     let a = c .before .before .before .before .args in
     let v = c .before .before .before .loop in
     rw (toZ-ofZ w64 (c .joined .result) (record { sfits = c .joined .ok }))
-    (joined-next (a .lines .now) (a .at) (v .x) (toZ w64 (v .joined)) (c .joined .result) (omega arith) (c .before .joined-arg .given) (v .inv .0) (c .joined .ensures), omega arith)
+    (joined-next (a .lines .now) (a .at) (v .x) (toZ w64 (v .joined)) (c .joined .result) (omega arith) (toZ-ofZ w64 (c .before .number .result) (record { sfits = c .before .number .ok }) ∙ c .before .number .ensures) (v .inv .0) (c .joined .ensures), omega arith)
 
 is-zero-requires : tie.Need-is-zero-requires Inv-loop μ-loop
 is-zero-requires c κs = search needs
@@ -65,9 +62,8 @@ all-zero-spec =
     Inv-loop
     μ-loop
     loop-holds
-    add-joined
-    mul-joined
-    shared-slice-copy-out-joined
+    add-number
+    number-requires
     joined-requires
     add-x
     loop-less

@@ -2,7 +2,6 @@
 use native.Mathlib.Omega.{arith}
 use mir.ValLaws.{toZ-ofZ}
 use Rattle.lines.specs.Parts.{agree-refl}
-use Rattle.lines.specs.Buffer.{mixedLine}
 use Rattle.lines.specs.Lines.{before}
 use Rattle.lines.specs.Mix.{terms}
 use borrow.Author.Needs.{needs}
@@ -38,13 +37,12 @@ same-length : tie.Need-same-length
 same-length c = search needs
 
 returns : tie.Need-returns
-unfolding mixedLine
 returns c =
     let m = c .before in
     let s = m .before .before .before .before .before in
     let ff = s .fits .alpha in
     let fg = s .fits .beta in
-    rw (m .before .before .before .before .place .ensures, m .before .before .before .place2 .ensures, m .before .before .place3 .ensures) at (simp toZ-ofZ at (m .mix-numbers .ensures .is))
+    rw (m .before .before .before .before .place .ensures, m .before .before .before .place2 .ensures, m .before .before .place3 .ensures) at (simp toZ-ofZ at (m .mix-numbers .ensures))
 
 pub mix-whole-spec : {M : Type 1} → statement M
 mix-whole-spec =

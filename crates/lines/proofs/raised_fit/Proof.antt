@@ -2,16 +2,20 @@
 use mathlib.Core.Path.{_≡_, ap, ap₂, _∙_}
 use mathlib.Core.Bool.{Bool, _&&_}
 use mathlib.Core.List.{List}
-use Prim.Native.Nat.{ℕ, _+_, _<_, _^_}
+use Prim.Native.Nat.{ℕ, _+_, _*_, _<_}
+use native.Mathlib.Omega.{arith}
 use lib.Dec.{leb}
-use lib.IntN.{ℤ, pos, natAbs}
+use lib.IntN.{ℤ, pos, natAbs, _+ℤ_}
 use lib.ListN.{getD}
-use lib.Signed.{mag}
 use mir.Syntax.{w64}
-use mir.Val.{hbits, toZ, ofZ}
+use mir.Val.{toZ, ofZ, SFits}
 use mir.ValLaws.{toZ-ofZ}
 use borrow.Author.Needs.{needs}
+use Rattle.integers.specs.Magnitude.{Within, within-add, within-fits}
+use Rattle.forms.specs.Edition.{edition1}
 use Rattle.calculus.specs.Rules.{small}
+use Rattle.lines.specs.Buffer.{size, Bounded}
+use Rattle.lines.specs.Lines.{before}
 use Rattle.lines.proofs.raised_fit.Statement.{statement}
 use Rattle.lines.proofs.raised_fit.Tie as tie
 
@@ -21,42 +25,62 @@ place-requires c κs = search needs
 place-a-requires : tie.Need-place-a-requires
 place-a-requires c κs = search needs
 
+-- The constant term at a place was read as x, and one more tested.
+module _ {k : ℕ} {buf : List ℤ} (i : ℕ) (b : Bounded k buf (i + 1)) {y y′ : ℕ} (at : y ≡ y′) (h : y′ + k < i * size k + size k) {x : ℤ} (e : x ≡ getD buf (y + k) (pos 0)) where
+  is-term : x ≡ getD buf (y′ + k) (pos 0)
+  is-term = e ∙ ap (λ (n : ℕ). getD buf (n + k) (pos 0)) at
+
+  in-line : Within (edition1 .range) x
+  in-line =
+      let next : i < i + 1 = omega arith in
+      rw is-term (b .small (y′ + k) (omega (arith, before k next)))
+
+  sum-is : toZ w64 (ofZ w64 x) +ℤ pos 1 ≡ x +ℤ pos 1
+  sum-is = ap (λ (z : ℤ). z +ℤ pos 1) (toZ-ofZ w64 x (within-fits in-line tt))
+
+  sum-fits : SFits w64 (toZ w64 (ofZ w64 x) +ℤ pos 1)
+  sum-fits =
+      let one : Within 1 (pos 1) = record { abs = omega arith } in
+      rw sum-is (within-fits (within-add in-line one) tt)
+
+  tested : {r : Bool} → r ≡ leb (natAbs (toZ w64 (ofZ w64 (toZ w64 (ofZ w64 x) +ℤ pos 1)))) (edition1 .range) → r ≡ small (edition1 .range) (getD buf (y′ + k) (pos 0) +ℤ pos 1)
+  unfolding small
+  tested t = t ∙ ap (λ (z : ℤ). leb (natAbs z) (edition1 .range)) (toZ-ofZ w64 (toZ w64 (ofZ w64 x) +ℤ pos 1) sum-fits ∙ sum-is ∙ ap (λ (z : ℤ). z +ℤ pos 1) is-term)
+
+add-number : tie.Need-add-number
+add-number c = search needs
+
+number-requires : tie.Need-number-requires
+number-requires c κs = search needs
+
 add-in-range : tie.Need-add-in-range
-add-in-range c = search needs
-
-mul-in-range : tie.Need-mul-in-range
-mul-in-range c = search needs
-
-shared-slice-copy-out-in-range : tie.Need-shared-slice-copy-out-in-range
-shared-slice-copy-out-in-range c = search needs
+add-in-range c =
+    let s = c .before .before .before in
+    sum-fits (s .args .i .0) (s .pre .1) (c .before .before .place .ensures) (omega arith) (c .number .ensures)
 
 in-range-requires : tie.Need-in-range-requires
 in-range-requires c κs = search needs
 
+add-number-2 : tie.Need-add-number-2
+add-number-2 c = search needs
+
+number-requires-2 : tie.Need-number-requires-2
+number-requires-2 c κs = search needs
+
 add-in-range-2 : tie.Need-add-in-range-2
-add-in-range-2 c = search needs
-
-mul-in-range-2 : tie.Need-mul-in-range-2
-mul-in-range-2 c = search needs
-
-shared-slice-copy-out-in-range-2 : tie.Need-shared-slice-copy-out-in-range-2
-shared-slice-copy-out-in-range-2 c = search needs
+add-in-range-2 c =
+    let s = c .before .before .before .before .before in
+    sum-fits (s .args .i .0) (s .pre .1) (c .before .before .before .place-a .ensures) (omega arith) (c .number2 .ensures)
 
 in-range-requires-2 : tie.Need-in-range-requires-2
 in-range-requires-2 c κs = search needs
 
--- What the test of the number at a place tells: the machine has its bits, and they fit.
-tested : (buf : List ℤ) (k : ℕ) {at at′ : ℕ} {b : Bool} → at ≡ at′ → mag (getD buf (at + k) (pos 0)) < 2 ^ hbits w64 → b ≡ leb (natAbs (toZ w64 (ofZ w64 (getD buf (at + k) (pos 0))))) 2147483647
-    → b ≡ small 2147483647 (getD buf (at′ + k) (pos 0))
-unfolding small
-tested buf k {at} e f t = t ∙ ap (λ (z : ℤ). leb (natAbs z) 2147483647) (toZ-ofZ w64 (getD buf (at + k) (pos 0)) (record { sfits = f }) ∙ ap (λ (a : ℕ). getD buf (a + k) (pos 0)) e)
-
 returns : tie.Need-returns
 returns c =
-    let a = c .before .before .before .before .before .before .args in
+    let s = c .before .before .before .before .before .before in
     ap₂ _&&_
-    (tested (a .lines .now) (a .k) (c .before .before .before .before .before .place .ensures) (c .before .before .before .in-range-arg .given) (c .before .before .in-range .ensures))
-    (tested (a .lines .now) (a .k) (c .before .before .before .before .place-a .ensures) (c .before .in-range-arg2 .given) (c .in-range2 .ensures))
+    (tested (s .args .i .0) (s .pre .1) (c .before .before .before .before .before .place .ensures) (omega arith) (c .before .before .before .number .ensures) (c .before .before .in-range .ensures))
+    (tested (s .args .i .0) (s .pre .1) (c .before .before .before .before .place-a .ensures) (omega arith) (c .before .number2 .ensures) (c .in-range2 .ensures))
 
 pub raised-fit-spec : {M : Type 1} → statement M
 raised-fit-spec =
@@ -64,12 +88,12 @@ raised-fit-spec =
     (tie.spec
     place-requires
     place-a-requires
+    add-number
+    number-requires
     add-in-range
-    mul-in-range
-    shared-slice-copy-out-in-range
     in-range-requires
+    add-number-2
+    number-requires-2
     add-in-range-2
-    mul-in-range-2
-    shared-slice-copy-out-in-range-2
     in-range-requires-2
     returns)
