@@ -42,11 +42,11 @@ module _ (p : List ℕ) (start : ℕ) (buf : List ℤ) (at : ℕ) where
     pub same : rest 0 (k + 1) ≡ rest x (k + 1 - x)
     pub upto : x ≤ k + 1
 
-  module _ {k x : ℕ} (g : Going k x) (more : x ≤ k) (room : at + k < length buf) {b : Bool} {n : ℤ} (is : n ≡ signed (take 4 (drop (start + 4 * x) p)))
-      (fn : mag n < 2 ^ hbits w64) (fb : mag (getD buf (at + x) (pos 0)) < 2 ^ hbits w64) (bits : b ≡ eqZ (toZ w64 (ofZ w64 n)) (toZ w64 (ofZ w64 (getD buf (at + x) (pos 0))))) where
+  module _ {k x : ℕ} (g : Going k x) (more : x ≤ k) (room : at + k < length buf) {b : Bool} {n m : ℤ} (is : n ≡ signed (take 4 (drop (start + 4 * x) p))) (is-b : m ≡ getD buf (at + x) (pos 0))
+      (fn : mag n < 2 ^ hbits w64) (fm : mag m < 2 ^ hbits w64) (bits : b ≡ eqZ (toZ w64 (ofZ w64 n)) (toZ w64 (ofZ w64 m))) where
     -- the machine has the bits of both, and they fit
     test : b ≡ eqZ n (getD buf (at + x) (pos 0))
-    test = bits ∙ ap₂ eqZ (toZ-ofZ w64 n (record { sfits = fn })) (toZ-ofZ w64 (getD buf (at + x) (pos 0)) (record { sfits = fb }))
+    test = bits ∙ ap₂ eqZ (toZ-ofZ w64 n (record { sfits = fn })) (toZ-ofZ w64 m (record { sfits = fm }) ∙ is-b)
 
     left : k + 1 - x ≡ suc (k + 1 - (x + 1))
     left = omega arith

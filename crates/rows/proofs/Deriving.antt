@@ -6,18 +6,19 @@ use Prim.Native.Nat.{ℕ, _+_, _*_, _≤_, _<_}
 use native.Mathlib.Numerals.{add-one}
 use native.Mathlib.Omega.{arith}
 use lib.Dec.{T, ltb}
-use lib.ListN.{length, getD, set, length-set}
+use lib.ListN.{length, set, length-set}
 use lib.Seq.{getD-set-same}
 use lib.IntN.{ℤ}
 use borrow.Author.Tests.{lt-ltb, le-ltb, ltb-true, ltb-false}
+use Rattle.forms.specs.Edition.{edition1}
 use Rattle.forms.specs.Forms.{line}
-use Rattle.calculus.specs.Rules.{small, every, inRange}
+use Rattle.calculus.specs.Rules.{inRange}
 use Rattle.fields.specs.Answers.{_>>_, need}
-use Rattle.lines.specs.Parts.{part, agree-refl, agree-set, agree-sym}
-use Rattle.lines.specs.Buffer.{size, kindOf, lineIn, mixedLine}
+use Rattle.lines.specs.Parts.{agree-refl, agree-set, agree-sym}
+use Rattle.lines.specs.Buffer.{size, kindOf, lineIn, Mixes, mixedLine}
 use Rattle.lines.specs.Lines.{length-lines, bounded-same}
-use Rattle.lines.specs.Mix.{mixed-keeps, length-mixedLine, mixed-line}
-use Rattle.lines.specs.Range.{fits-line, bounded-more}
+use Rattle.lines.specs.Mix.{mixed-line, mixed-range, mixes-line}
+use Rattle.lines.specs.Range.{bounded-more}
 use Rattle.proof.specs.Rows.{fitting}
 use Rattle.rows.specs.Tally.{lineCounted}
 use Rattle.rows.specs.Rows.{Ready, Limited, Kept, Terms, moreLines, sumOf, Appended}
@@ -52,55 +53,47 @@ module _ {K : ℕ} {kinds : List ℕ} {buf : List ℤ} (t : Tally) (f : ℤ) (i 
   unfolding fitting _>>_ need
   append-full h = record { kept = kept-refl; by = λ at. rw (length-lines K kinds buf (t .lines .0), le-ltb (t .lines .0) 128 h) }
 
-  module _ (terms : Terms (t .lines .0) f i g j kind) (space : t .lines .0 < 128) {kinds′ : List ℕ} {buf′ : List ℤ}
-      (mixes : buf′ ≡ mixedLine K f i g j (t .lines .0) buf) (sets : kinds′ ≡ set kinds (t .lines .0) kind) where
-    pub append-kept : Kept K (t .lines .0) kinds buf kinds′ buf′
-    append-kept = record {
-      lines-same = rw mixes (agree-sym (mixed-keeps K f i g j (t .lines .0) buf (ready .branch .room) (terms .first) (terms .second)));
-      kinds-same = rw sets (agree-sym (agree-set (t .lines .0) kinds (t .lines .0) kind (omega arith)));
-      lines-length = rw mixes (length-mixedLine K f i g j (t .lines .0) buf (ready .branch .room) (terms .first) (terms .second));
-      kinds-length = rw sets (length-set kinds (t .lines .0) kind);
+  -- What `mix_line` left; the kind is stored where the line is made.
+  module _ (terms : Terms (t .lines .0) f i g j kind) (space : t .lines .0 < 128) {buf′ : List ℤ} {b : Bool}
+      (mixes : Mixes buf f (i * size K) g (j * size K) (t .lines .0 * size K) (size K) buf′ b) (same : length buf′ ≡ length buf) where
+    sum-is : {kinds′ : List ℕ} → kinds′ ≡ set kinds (t .lines .0) kind → lineIn K kinds′ (mixedLine K f i g j (t .lines .0) buf) (t .lines .0) ≡ sumOf K kinds buf f i g j kind
+    sum-is {kinds′} sets =
+        mixed-line K f i g j (t .lines .0) buf (ready .branch .room) (terms .first) (terms .second) kinds kinds′ (lineIn K kinds buf i) (lineIn K kinds buf j) refl refl
+        ∙ ap (λ (x : ℕ). line (kindOf x) (sumOf K kinds buf f i g j kind .t) (sumOf K kinds buf f i g j kind .tA)) (rw sets (getD-set-same kinds (t .lines .0) kind 0 (omega (arith, ready .room))))
+
+    range : inRange (edition1 .range) (sumOf K kinds buf f i g j kind) ≡ b
+    range =
+        ap (inRange (edition1 .range)) (sym (sum-is refl))
+        ∙ mixed-range K f i g j (t .lines .0) buf (ready .branch .room) (terms .first) (terms .second) (edition1 .range) (set kinds (t .lines .0) kind)
+        ∙ sym (mixes .fits)
+
+    pub append-range : b ≡ false → Appended K kinds buf t f i g j kind kinds buf′ (Refused 13)
+    unfolding fitting _>>_ need
+    append-range e = record {
+      kept = record { lines-same = agree-sym (mixes .keeps); kinds-same = agree-refl; lines-length = same; kinds-length = refl };
+      by = λ at. rw (length-lines K kinds buf (t .lines .0), lt-ltb (t .lines .0) 128 space, range, e);
     }
 
-    kind-is : getD kinds′ (t .lines .0) 0 ≡ kind
-    kind-is = rw sets (getD-set-same kinds (t .lines .0) kind 0 (omega (arith, ready .room)))
-
-    pub append-line : lineIn K kinds′ buf′ (t .lines .0) ≡ sumOf K kinds buf f i g j kind
-    append-line =
-        ap (λ (b : List ℤ). lineIn K kinds′ b (t .lines .0)) mixes
-        ∙ mixed-line K f i g j (t .lines .0) buf (ready .branch .room) (terms .first) (terms .second) kinds kinds′ (lineIn K kinds buf i) (lineIn K kinds buf j) refl refl
-        ∙ ap (λ (b : ℕ). line (kindOf b) (sumOf K kinds buf f i g j kind .t) (sumOf K kinds buf f i g j kind .tA)) kind-is
-
-    pub append-end : t .lines .0 * size K + size K ≤ length buf′
-    append-end = omega (arith, append-kept .lines-length, ready .branch .room)
-
-    range : {b : Bool} → b ≡ every (small 2147483647) (part (t .lines .0 * size K) (size K) buf′) → inRange 2147483647 (lineIn K kinds′ buf′ (t .lines .0)) ≡ b
-    range e = fits-line 2147483647 K kinds′ buf′ (t .lines .0) append-end ∙ sym e
-
-    module _ {b : Bool} {x : ℕ} (placed : x ≡ t .lines .0 * size K) (fits : b ≡ every (small 2147483647) (part x (size K) buf′)) where
-      tested : b ≡ every (small 2147483647) (part (t .lines .0 * size K) (size K) buf′)
-      tested = rw placed at fits
-
-      pub append-range : b ≡ false → Appended K kinds buf t f i g j kind kinds′ buf′ (Refused 13)
-      unfolding fitting _>>_ need
-      append-range e = record {
-        kept = append-kept;
-        by = λ at. rw (length-lines K kinds buf (t .lines .0), lt-ltb (t .lines .0) 128 space, ← append-line, range tested, e);
-      }
-
-      pub append-made : {t′ : Tally} → b ≡ true → t′ ≡ moreLines t → Appended K kinds buf t f i g j kind kinds′ buf′ (Made t′)
-      unfolding fitting _>>_ need
-      append-made e u = record {
-        kept = append-kept;
-        by = (
-          λ at. rw (length-lines K kinds buf (t .lines .0), lt-ltb (t .lines .0) 128 space, ← append-line, range tested, e),
-          record {
-            last = append-line;
-            limited = record {
-              bounded = rw add-one (bounded-more K buf′ (t .lines .0) append-end kinds′ (bounded-same (agree-sym (append-kept .lines-same)) (ready .branch .bounded)) (subst T (sym (range tested ∙ e)) tt));
-              most = omega arith;
-            };
-            tally = u;
-          },
-        );
-      }
+    pub append-made : {t′ : Tally} {kinds′ : List ℕ} → b ≡ true → kinds′ ≡ set kinds (t .lines .0) kind → t′ ≡ moreLines t → Appended K kinds buf t f i g j kind kinds′ buf′ (Made t′)
+    unfolding fitting _>>_ need
+    append-made {kinds′ = kinds′} e sets u =
+        let new : lineIn K kinds′ buf′ (t .lines .0) ≡ sumOf K kinds buf f i g j kind = ap (λ (x : List ℤ). lineIn K kinds′ x (t .lines .0)) (mixes-line K i j (t .lines .0) mixes e) ∙ sum-is sets in
+        record {
+          kept = record {
+            lines-same = agree-sym (mixes .keeps);
+            kinds-same = rw sets (agree-sym (agree-set (t .lines .0) kinds (t .lines .0) kind (omega arith)));
+            lines-length = same;
+            kinds-length = rw sets (length-set kinds (t .lines .0) kind);
+          };
+          by = (
+            λ at. rw (length-lines K kinds buf (t .lines .0), lt-ltb (t .lines .0) 128 space, range, e),
+            record {
+              last = new;
+              limited = record {
+                bounded = rw add-one (bounded-more K buf′ (t .lines .0) (omega (arith, ready .branch .room)) kinds′ (bounded-same (mixes .keeps) (ready .branch .bounded)) (subst T (sym (ap (inRange (edition1 .range)) new ∙ range ∙ e)) tt));
+                most = omega arith;
+              };
+              tally = u;
+            },
+          );
+        }

@@ -9,14 +9,14 @@ ghost use Rattle.rows.specs.Claims.{Claimed};
 use forms::LineNumber;
 
 // Whether the k + 1 four-byte numbers at start are those of the form at a place.
-fn same_form(p: &[u8], start: usize, lines: &[i64], at: usize, k: usize) -> bool
+fn same_form(p: &[u8], start: usize, lines: &[i32], at: usize, k: usize) -> bool
     requires { ⌜ (k ≤ 16) × (start + 4 * (k + 1) ≤ length (now p)) × (at + k < length (now lines)) ⌝ }
     ensures { λ r. ⌜ r ≡ equals (signeds 4 (k + 1) (drop start (now (p .entry)))) (part at (k + 1) (now (lines .entry))) ⌝ }
 {
     let mut x = 0;
     while x <= k {
         let n = fields::words::wide_long_at(p, start + 4 * x);
-        if !integers::same(n, lines[at + x]) {
+        if !integers::same(n, lines::number(lines, at + x)) {
             return false;
         }
         x += 1;
@@ -25,7 +25,7 @@ fn same_form(p: &[u8], start: usize, lines: &[i64], at: usize, k: usize) -> bool
 }
 
 // Whether t, and then tA, are those of line i.
-pub fn claim_holds(p: &[u8], start: usize, lines: &[i64], i: LineNumber, k: usize) -> bool
+pub fn claim_holds(p: &[u8], start: usize, lines: &[i32], i: LineNumber, k: usize) -> bool
     requires { ⌜ (k ≤ 16) × (start + 8 * (k + 1) ≤ length (now p)) × (i .0 < 128) × (i .0 * (2 * (k + 1)) + 2 * (k + 1) ≤ length (now lines)) ⌝ }
     ensures { λ r. ⌜ Claimed k (now (p .entry)) start (now (lines .entry)) (i .0) r ⌝ }
 {

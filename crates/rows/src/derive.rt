@@ -19,7 +19,7 @@ pub enum Derived {
 
 // One line more: f times line i plus g times line j, of the kind given; form and partial interpolant apart, where it is said. 16, 13.
 fn append(
-    lines: &mut [i64],
+    lines: &mut [i32],
     kinds: &mut [u8],
     tally: Tally,
     apart: bool,
@@ -39,9 +39,8 @@ fn append(
     let next = counted.tally;
     let n = tally.lines;
     if made {
-        lines::mix_line(lines, apart, f, i, g, j, n, k);
-        set_kind(kinds, n, kind);
-        if lines::fits(lines, lines::place(n, k), 2 * (k + 1)) {
+        if lines::mix_line(lines, apart, f, i, g, j, n, k) {
+            set_kind(kinds, n, kind);
             return Derived::Made { tally: next };
         }
         return Derived::Refused { number: 13 };
@@ -75,7 +74,7 @@ pub fn set_kind(kinds: &mut [u8], i: LineNumber, kind: u8)
 
 // FM-ELIM of Figure 6 in source 000: α·s, then β·t, then their sum αs + βt; then the partial interpolants in the same steps, αsA + βtA (`lines::mix`). 10, 11, 12, then as `append`.
 pub fn combine(
-    lines: &mut [i64],
+    lines: &mut [i32],
     kinds: &mut [u8],
     tally: Tally,
     s: LineNumber,
@@ -111,7 +110,7 @@ pub fn combine(
 
 // RED-LEFT: s as 1·s, then α·t, then their sum s + αt, of s's kind; likewise sA + αtA, in the same run.
 pub fn reduce(
-    lines: &mut [i64],
+    lines: &mut [i32],
     kinds: &mut [u8],
     tally: Tally,
     s: LineNumber,
@@ -141,7 +140,7 @@ pub fn reduce(
 
 // MUL-LEFT: α·t, to which 0·t is added, of t's kind; likewise αtA, in the same run.
 pub fn scale(
-    lines: &mut [i64],
+    lines: &mut [i32],
     kinds: &mut [u8],
     tally: Tally,
     t: LineNumber,

@@ -34,7 +34,7 @@ pub enum Stepped {
 
 // Each row is counted first. 18.
 pub fn combine_row(
-    lines: &mut [i64],
+    lines: &mut [i32],
     kinds: &mut [u8],
     tally: Tally,
     s: LineNumber,
@@ -64,7 +64,7 @@ pub fn combine_row(
 }
 
 pub fn reduce_row(
-    lines: &mut [i64],
+    lines: &mut [i32],
     kinds: &mut [u8],
     tally: Tally,
     s: LineNumber,
@@ -93,7 +93,7 @@ pub fn reduce_row(
 }
 
 pub fn scale_row(
-    lines: &mut [i64],
+    lines: &mut [i32],
     kinds: &mut [u8],
     tally: Tally,
     t: LineNumber,
@@ -158,7 +158,7 @@ fn stride_row(tally: Tally, t: LineNumber, g: i64) -> Stepped
 }
 
 // A claim of the line made last. 4, 14.
-fn claim_step(p: &[u8], start: usize, made: bool, lines: &[i64], tally: Tally, k: usize) -> Stepped
+fn claim_step(p: &[u8], start: usize, made: bool, lines: &[i32], tally: Tally, k: usize) -> Stepped
     requires { ⌜ (k ≤ 16) × (start + 8 * (k + 1) ≤ length (now p)) × (tally .lines .0 ≤ 128) × (tally .lines .0 * (2 * (k + 1)) ≤ length (now lines)) ⌝ }
     requires { ⌜ (made ≡ true → 1 ≤ tally .lines .0) ⌝ }
     ensures { λ r. ⌜ Claims k (now (p .entry)) start made (now (lines .entry)) tally r ⌝ }
@@ -181,7 +181,7 @@ pub fn step(
     start: usize,
     len: usize,
     made: bool,
-    lines: &mut [i64],
+    lines: &mut [i32],
     kinds: &mut [u8],
     tally: Tally,
     k: usize,

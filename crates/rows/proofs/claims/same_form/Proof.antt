@@ -25,20 +25,17 @@ add-wide-long-at c = search needs
 wide-long-at-requires : tie.Need-wide-long-at-requires Inv-loop μ-loop
 wide-long-at-requires c κs = omega (arith, c .before .loop .inv .upto)
 
-add-same : tie.Need-add-same Inv-loop μ-loop
-add-same c = search needs
+add-number : tie.Need-add-number Inv-loop μ-loop
+add-number c = search needs
 
-mul-same : tie.Need-mul-same Inv-loop μ-loop
-mul-same c = search needs
-
-shared-slice-copy-out-same : tie.Need-shared-slice-copy-out-same Inv-loop μ-loop
-shared-slice-copy-out-same c = search needs
+number-requires : tie.Need-number-requires Inv-loop μ-loop
+number-requires c κs = search needs
 
 same-requires : tie.Need-same-requires Inv-loop μ-loop
 same-requires c κs = search needs
 
 returns : tie.Need-returns Inv-loop μ-loop
-returns c = claim-off _ _ _ _ (c .before .before .before .before .before .loop .inv) (omega arith) (c .before .before .before .before .before .before .before .pre .2) (c .before .before .before .wide-long-at .ensures .0) (c .before .before .before .wide-long-at .ok) (c .before .before .same-arg .given) (c .before .same .ensures) (unnot _ (c .if1 .taken))
+returns c = claim-off _ _ _ _ (c .before .before .before .before .before .loop .inv) (omega arith) (c .before .before .before .before .before .before .before .pre .2) (c .before .before .before .wide-long-at .ensures .0) (c .before .before .number .ensures) (c .before .before .before .wide-long-at .ok) (c .before .before .number .ok) (c .before .same .ensures) (unnot _ (c .if1 .taken))
 
 add-x : tie.Need-add-x Inv-loop μ-loop
 add-x c = search needs
@@ -47,10 +44,10 @@ loop-less : tie.Need-loop-less Inv-loop μ-loop
 loop-less c = search needs
 
 loop-again : tie.Need-loop-again Inv-loop μ-loop
-loop-again c = claim-on _ _ _ _ (c .before .before .before .before .before .loop .inv) (omega arith) (c .before .before .before .before .before .before .before .pre .2) (c .before .before .before .wide-long-at .ensures .0) (c .before .before .before .wide-long-at .ok) (c .before .before .same-arg .given) (c .before .same .ensures) (unnot _ (c .if1 .left))
+loop-again c = claim-on _ _ _ _ (c .before .before .before .before .before .loop .inv) (omega arith) (c .before .before .before .before .before .before .before .pre .2) (c .before .before .before .wide-long-at .ensures .0) (c .before .before .number .ensures) (c .before .before .before .wide-long-at .ok) (c .before .before .number .ok) (c .before .same .ensures) (unnot _ (c .if1 .left))
 
 returns-2 : tie.Need-returns-2 Inv-loop μ-loop
 returns-2 c = claim-end _ _ _ _ (c .before .loop .inv) (omega arith)
 
 pub same-form-spec : {M : Type 1} → statement M
-same-form-spec = tie.close (tie.spec Inv-loop μ-loop loop-holds mul-wide-long-at add-wide-long-at wide-long-at-requires add-same mul-same shared-slice-copy-out-same same-requires returns add-x loop-less loop-again returns-2)
+same-form-spec = tie.close (tie.spec Inv-loop μ-loop loop-holds mul-wide-long-at add-wide-long-at wide-long-at-requires add-number number-requires same-requires returns add-x loop-less loop-again returns-2)
