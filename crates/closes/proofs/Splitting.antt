@@ -9,11 +9,11 @@ use native.Mathlib.Decide.{ℕ-discrete}
 use native.Mathlib.Numerals.{add-one}
 use native.Mathlib.Omega.{arith}
 use lib.Dec.{T, ltb}
-use lib.ListN.{length, getD, set, length-set}
-use lib.IntN.{ℤ}
+use lib.ListN.{getD, set, length-set}
+use lib.IntN.{ℤ, pos, _+ℤ_}
 use borrow.Author.Tests.{lt-ltb, le-ltb, lt-leb, ltb-true, ltb-false}
 use Rattle.forms.specs.Edition.{edition1}
-use Rattle.forms.specs.Forms.{≤0, Line, literal, _divides_, _and_, _or_, _plus_}
+use Rattle.forms.specs.Forms.{≤0, Line, literal, _divides_, _and_, _or_}
 use Rattle.forms.specs.Reduced.{reduced}
 use Rattle.calculus.specs.Rules.{_▷_, small, inRange}
 use Rattle.fields.specs.Answers.{Result, refused, accepted, _>>=_, _>>_, need, found}
@@ -23,7 +23,7 @@ use Rattle.lines.specs.Buffer.{size, formIn, kindOf, lineIn, linesIn, LineCopy,
 use Rattle.lines.specs.Lines.{line-at, line-past, line-ext, before, length-lines, bounded-same}
 use Rattle.lines.specs.Range.{bounded-more, bounded-line}
 use Rattle.lines.specs.Branch.{kind-stored, inequality-byte}
-use Rattle.lines.specs.Strengthen.{length-both, both-keeps, both-line, first-range}
+use Rattle.lines.specs.Strengthen.{length-both, both-keeps, both-line, raised-fits, first-range}
 use Rattle.lines.specs.Next.{first-branch}
 use Rattle.proof.specs.Rows.{is, lineAt, inequality, fitting, byNumber, byStride}
 use Rattle.proof.specs.Check.{Closing, Next, refusal, checkRow, checkBranch}
@@ -202,61 +202,56 @@ module _ {K : ℕ} {kinds : List ℕ} {buf : List ℤ} (t : Tally) (i : ℕ) (re
         unfolding fitting _>>_ need
         split-full h = record { kept = kept-refl; by = λ next at rows fs. tests next at rows fs ∙ rw (length-lines K kinds buf (t .lines .0), le-ltb (t .lines .0) 128 h) }
 
-        module _ (space : t .lines .0 < 128) {kinds′ : List ℕ} {buf′ : List ℤ} (strengthens : buf′ ≡ strengthenedBoth K i (t .lines .0) buf) (sets : kinds′ ≡ set kinds (t .lines .0) 0) where
-          copy : LineCopy K buf i (t .lines .0)
-          copy = record { branch = ready .branch; first = hi; space = space }
+        -- What `raised_fit` tells of line i.
+        module _ (space : t .lines .0 < 128) {b : Bool} (fits : b ≡ small (edition1 .range) (formIn K buf (i * size K) .d +ℤ pos 1) && small (edition1 .range) (formIn K buf (i * size K + (K + 1)) .d +ℤ pos 1)) where
+          terms : b ≡ small (edition1 .range) (lineIn K kinds buf i .t .d +ℤ pos 1) && small (edition1 .range) (lineIn K kinds buf i .tA .d +ℤ pos 1)
+          unfolding lineIn
+          terms = fits
 
-          pub split-kept : Kept K (t .lines .0) kinds buf kinds′ buf′
-          split-kept = record {
-            lines-same = rw strengthens (agree-sym (both-keeps copy));
-            kinds-same = rw sets (agree-sym (agree-set (t .lines .0) kinds (t .lines .0) 0 (omega arith)));
-            lines-length = rw strengthens (length-both copy);
-            kinds-length = rw sets (length-set kinds (t .lines .0) 0);
+          range : inRange (edition1 .range) (firstLine (lineIn K kinds buf i)) ≡ b
+          range =
+              first-range (edition1 .range) (lineIn K kinds buf i .kind) ≤0 (lineIn K kinds buf i .t) (lineIn K kinds buf i .tA)
+              (bounded-line K buf i (omega (arith, before K hi, ready .branch .room)) kinds (ready .branch .bounded) hi)
+              ∙ sym terms
+
+          pub split-range : b ≡ false → Splits K kinds buf t i kinds buf (Refused 13)
+          unfolding fitting _>>_ need
+          split-range e = record {
+            kept = kept-refl;
+            by = λ next at rows fs. tests next at rows fs ∙ rw (length-lines K kinds buf (t .lines .0), lt-ltb (t .lines .0) 128 space, range, e);
           }
 
-          new : kindOf (getD kinds′ (t .lines .0) 0) ≡ ≤0
-          new = rw sets (kind-stored kinds (t .lines .0) 0 (omega (arith, ready .room)) ∙ inequality-byte)
+          module _ (e : b ≡ true) where
+            pub split-copy : LineCopy K buf i (t .lines .0)
+            split-copy = record { branch = ready .branch; first = hi; space = space; raised = raised-fits fits e }
 
-          next-lines : linesIn K kinds′ buf′ (suc (t .lines .0)) ≡ linesIn K kinds buf (t .lines .0) ▷ firstLine (lineIn K kinds buf i)
-          next-lines = rw strengthens (first-branch K kinds kinds′ buf (t .lines .0) (agree-sym (split-kept .kinds-same)) new copy refl)
+            module _ {kinds′ : List ℕ} {buf′ : List ℤ} (strengthens : buf′ ≡ strengthenedBoth K i (t .lines .0) buf) (sets : kinds′ ≡ set kinds (t .lines .0) 0) where
+              pub split-kept : Kept K (t .lines .0) kinds buf kinds′ buf′
+              split-kept = record {
+                lines-same = rw strengthens (agree-sym (both-keeps split-copy));
+                kinds-same = rw sets (agree-sym (agree-set (t .lines .0) kinds (t .lines .0) 0 (omega arith)));
+                lines-length = rw strengthens (length-both split-copy);
+                kinds-length = rw sets (length-set kinds (t .lines .0) 0);
+              }
 
-          last : lineIn K kinds′ buf′ (t .lines .0) ≡ firstLine (lineIn K kinds buf i)
-          last = rw strengthens (both-line copy kinds kinds′ refl ∙ line-ext new refl refl)
+              new : kindOf (getD kinds′ (t .lines .0) 0) ≡ ≤0
+              new = rw sets (kind-stored kinds (t .lines .0) 0 (omega (arith, ready .room)) ∙ inequality-byte)
 
-          pub split-end : t .lines .0 * size K + size K ≤ length buf′
-          split-end = omega (arith, split-kept .lines-length, ready .branch .room)
+              next-lines : linesIn K kinds′ buf′ (suc (t .lines .0)) ≡ linesIn K kinds buf (t .lines .0) ▷ firstLine (lineIn K kinds buf i)
+              next-lines = rw strengthens (first-branch K kinds kinds′ buf (t .lines .0) (agree-sym (split-kept .kinds-same)) new split-copy refl)
 
-          module _ {b : Bool} (fits : b ≡ small 2147483647 (formIn K buf′ (t .lines .0 * size K) .d) && small 2147483647 (formIn K buf′ (t .lines .0 * size K + (K + 1)) .d)) where
-            terms : b ≡ small 2147483647 (lineIn K kinds′ buf′ (t .lines .0) .t .d) && small 2147483647 (lineIn K kinds′ buf′ (t .lines .0) .tA .d)
-            unfolding lineIn
-            terms = fits
+              last : lineIn K kinds′ buf′ (t .lines .0) ≡ firstLine (lineIn K kinds buf i)
+              last = rw strengthens (both-line split-copy kinds kinds′ refl ∙ line-ext new refl refl)
 
-            old : T (inRange 2147483647 (lineIn K kinds buf i))
-            old = bounded-line K buf i (omega (arith, before K hi, ready .branch .room)) kinds (ready .branch .bounded) hi
-
-            range : inRange 2147483647 (lineIn K kinds′ buf′ (t .lines .0)) ≡ b
-            unfolding _plus_
-            range =
-                ap (inRange 2147483647) last
-                ∙ first-range 2147483647 (lineIn K kinds buf i .kind) ≤0 (lineIn K kinds buf i .t) (lineIn K kinds buf i .tA) old
-                ∙ sym (terms ∙ ap (λ (l : Line). small 2147483647 (l .t .d) && small 2147483647 (l .tA .d)) last)
-
-            pub split-range : b ≡ false → Splits K kinds buf t i kinds′ buf′ (Refused 13)
-            unfolding fitting _>>_ need
-            split-range e = record {
-              kept = split-kept;
-              by = λ next at rows fs. tests next at rows fs ∙ rw (length-lines K kinds buf (t .lines .0), lt-ltb (t .lines .0) 128 space, ← last, range, e);
-            }
-
-            pub split-made : {t′ : Tally} → b ≡ true → t′ ≡ tally (t .rows .0) (t .lines .0 + 1) (t .«open» + 1) → Splits K kinds buf t i kinds′ buf′ (Made t′)
-            unfolding fitting _>>_ need
-            split-made e u = record {
-              kept = split-kept;
-              by = record {
-                is = λ next at rows fs. tests next at rows fs ∙ rw (length-lines K kinds buf (t .lines .0), lt-ltb (t .lines .0) 128 space, ← last, range, e);
-                longer = longer-from ready space split-kept next-lines last (subst (λ (l : Line). T (inRange 2147483647 l)) last (subst T (sym (range ∙ e)) tt));
-                tally-is = u;
-                copy = copy;
-                open-less = ho;
-              };
-            }
+              pub split-made : {t′ : Tally} → t′ ≡ tally (t .rows .0) (t .lines .0 + 1) (t .«open» + 1) → Splits K kinds buf t i kinds′ buf′ (Made t′)
+              unfolding fitting _>>_ need
+              split-made u = record {
+                kept = split-kept;
+                by = record {
+                  is = λ next at rows fs. tests next at rows fs ∙ rw (length-lines K kinds buf (t .lines .0), lt-ltb (t .lines .0) 128 space, range, e);
+                  longer = longer-from ready space split-kept next-lines last (subst T (sym (range ∙ e)) tt);
+                  tally-is = u;
+                  copy = split-copy;
+                  open-less = ho;
+                };
+              }

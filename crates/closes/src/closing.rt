@@ -29,7 +29,7 @@ fn is_false(kind: u8, d: i64) -> bool
 }
 
 // Close by number. 10, 15.
-pub fn test_number(lines: &[i64], kinds: &[u8], tally: Tally, i: LineNumber, k: usize) -> Test
+pub fn test_number(lines: &[i32], kinds: &[u8], tally: Tally, i: LineNumber, k: usize) -> Test
     requires { ⌜ Ready k (now kinds) (now lines) (tally .lines .0) ⌝ }
     ensures { λ r. ⌜ ByNumber k (now (kinds .entry)) (now (lines .entry)) tally (i .0) r ⌝ }
 {
@@ -41,7 +41,7 @@ pub fn test_number(lines: &[i64], kinds: &[u8], tally: Tally, i: LineNumber, k: 
         return Test::Refused { number: 15 };
     }
     let kind = kind_of(kinds, i);
-    let d = lines[t + k];
+    let d = lines::number(lines, t + k);
     if !is_false(kind, d) {
         return Test::Refused { number: 15 };
     }
@@ -61,7 +61,7 @@ fn is_stride(g: i64) -> bool
 
 // Close by stride. 10, 11, 12, 15.
 pub fn test_stride(
-    lines: &[i64],
+    lines: &[i32],
     kinds: &[u8],
     tally: Tally,
     i: LineNumber,
@@ -85,7 +85,7 @@ pub fn test_stride(
     if !lines::all_divisible(lines, t, k, g) {
         return Test::Refused { number: 15 };
     }
-    let d = lines[t + k];
+    let d = lines::number(lines, t + k);
     if integers::divides(g, d) {
         return Test::Refused { number: 15 };
     }

@@ -31,7 +31,7 @@ pub enum Ended {
 
 // 10, 15.
 pub fn close_number(
-    lines: &[i64],
+    lines: &[i32],
     kinds: &[u8],
     tally: Tally,
     i: LineNumber,
@@ -58,7 +58,7 @@ pub fn close_number(
 
 // 10, 11, 12, 15.
 pub fn close_stride(
-    lines: &[i64],
+    lines: &[i32],
     kinds: &[u8],
     tally: Tally,
     i: LineNumber,
@@ -86,7 +86,7 @@ pub fn close_stride(
 
 // Line n, of the kind given, as a branch of a strengthen of line i starts: with t + 1, and then with tA + 1 too, where it is said.
 pub fn start(
-    lines: &mut [i64],
+    lines: &mut [i32],
     kinds: &mut [u8],
     i: LineNumber,
     n: LineNumber,
@@ -104,7 +104,7 @@ pub fn start(
 }
 
 // The tests of a strengthen, and the line that its first branch starts with. 10, 11, 17, 16, 13.
-pub fn split(lines: &mut [i64], kinds: &mut [u8], tally: Tally, i: LineNumber, k: usize) -> Derived
+pub fn split(lines: &mut [i32], kinds: &mut [u8], tally: Tally, i: LineNumber, k: usize) -> Derived
     requires { ⌜ Ready k (now kinds) (now lines) (tally .lines .0) ⌝ }
     ensures { λ r. ⌜ Splits k (now (kinds .entry)) (now (lines .entry)) tally (i .0) (now (kinds .exit)) (now (lines .exit)) r ⌝ }
 {
@@ -126,11 +126,11 @@ pub fn split(lines: &mut [i64], kinds: &mut [u8], tally: Tally, i: LineNumber, k
     if !made {
         return Derived::Refused { number: 16 };
     }
+    if !lines::raised_fit(lines, i, k) {
+        return Derived::Refused { number: 13 };
+    }
     let n = tally.lines;
     lines::start_line(lines, i, n, k, true, true);
     set_kind(kinds, n, 0);
-    if lines::raised_fit(lines, n, k) {
-        return Derived::Made { tally: next };
-    }
-    Derived::Refused { number: 13 }
+    Derived::Made { tally: next }
 }

@@ -13,28 +13,28 @@ use fields::numbers::put_head;
 use fields::numbers::put_signed;
 
 // The numbers of the form at a place, of four bytes each.
-fn put_form(lines: &[i64], at: usize, k: usize, scratch: &mut [u8], o: usize)
+fn put_form(lines: &[i32], at: usize, k: usize, scratch: &mut [u8], o: usize)
     requires { ⌜ Numbered k (now lines) at ⌝ }
     requires { ⌜ o + 4 * (k + 1) ≤ length (now scratch) ⌝ }
     ensures { λ _. ⌜ now (scratch .exit) ≡ sets (now (scratch .entry)) o (formBytes 4 (formIn k (now (lines .entry)) at)) ⌝ }
 {
     let mut x = 0;
     while x <= k {
-        let n = lines[at + x];
+        let n = lines::number(lines, at + x);
         put_signed(scratch, o + 4 * x, 4, n);
         x += 1;
     }
 }
 
 // The same with each number as its remainder from 0 to g-1.
-fn put_reduced(lines: &[i64], at: usize, k: usize, g: i64, scratch: &mut [u8], o: usize)
+fn put_reduced(lines: &[i32], at: usize, k: usize, g: i64, scratch: &mut [u8], o: usize)
     requires { ⌜ Numbered k (now lines) at × Stride g ⌝ }
     requires { ⌜ o + 4 * (k + 1) ≤ length (now scratch) ⌝ }
     ensures { λ _. ⌜ now (scratch .exit) ≡ sets (now (scratch .entry)) o (formBytes 4 (reduced (natAbs g) (formIn k (now (lines .entry)) at))) ⌝ }
 {
     let mut x = 0;
     while x <= k {
-        let n = lines[at + x];
+        let n = lines::number(lines, at + x);
         let r = integers::remainder(n, g);
         put_signed(scratch, o + 4 * x, 4, r);
         x += 1;
@@ -56,7 +56,7 @@ pub fn put_pair(scratch: &mut [u8], o: usize, tag: u8) -> usize
 
 // t ≤ 0 or t = 0, by the kind's byte.
 pub fn put_literal(
-    lines: &[i64],
+    lines: &[i32],
     at: usize,
     k: usize,
     kind: u8,
@@ -83,7 +83,7 @@ pub fn put_literal(
 }
 
 // g divides the form, with each number as its remainder.
-pub fn put_stride(lines: &[i64], at: usize, k: usize, g: i64, scratch: &mut [u8], o: usize) -> usize
+pub fn put_stride(lines: &[i32], at: usize, k: usize, g: i64, scratch: &mut [u8], o: usize) -> usize
     requires { ⌜ Numbered k (now lines) at × Stride g ⌝ }
     requires { ⌜ o ≤ 5242880 ⌝ }
     ensures { λ r. ⌜ Puts (now (scratch .entry)) o (natAbs g divides reduced (natAbs g) (formIn k (now (lines .entry)) at)) (now (scratch .exit)) r ⌝ }

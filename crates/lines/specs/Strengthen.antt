@@ -79,7 +79,7 @@ module _ {K : ℕ} {buf : List ℤ} {i n : ℕ} (p : LineCopy K buf i n) where
       (ap (λ (l : List ℤ). getD l (n * size K + (K + 1) + K) (pos 0)) b ∙ ap (λ (l : Line). l .tA .d) (t-line [] [] refl))
       (p .raised .tA)
 
--- ---- line i may be strengthened: by a test of its two constant terms, and in every buffer that keeps the line
+-- ---- line i may be strengthened: by a test of its two constant terms, where the line of the first branch is in range, and in every buffer that keeps the line
 pub raised-fits : {K : ℕ} {buf : List ℤ} {i : ℕ} {r : Bool} → r ≡ small (edition1 .range) (formIn K buf (i * size K) .d +ℤ pos 1) && small (edition1 .range) (formIn K buf (i * size K + (K + 1)) .d +ℤ pos 1) → r ≡ true → Raised K buf i
 unfolding small
 raised-fits {K} {buf} {i} e h =
@@ -87,6 +87,20 @@ raised-fits {K} {buf} {i} e h =
     let upA = small (edition1 .range) (formIn K buf (i * size K + (K + 1)) .d +ℤ pos 1) in
     let both = subst T (sym (sym e ∙ h)) tt in
     record { t = record { abs = leb→le _ _ (and-left up upA both) }; tA = record { abs = leb→le _ _ (and-right up upA both) } }
+
+pub raised-line : (K : ℕ) (kinds : List ℕ) (buf : List ℤ) (i : ℕ) (k : Kind) → T (inRange (edition1 .range) (line k (lineIn K kinds buf i .t plus 1) (lineIn K kinds buf i .tA plus 1))) → Raised K buf i
+unfolding inRange small lineIn _plus_
+raised-line K kinds buf i k h =
+    let r = edition1 .range in
+    let t = formIn K buf (i * size K) in
+    let tA = formIn K buf (i * size K + (K + 1)) in
+    let all : List ℤ → Bool = every (small r) in
+    let one = all (t .coeffs) && small r (t .d +ℤ pos 1) in
+    let two = and-left (one && all (tA .coeffs)) (small r (tA .d +ℤ pos 1)) h in
+    record {
+      t = record { abs = leb→le _ _ (and-right (all (t .coeffs)) (small r (t .d +ℤ pos 1)) (and-left one (all (tA .coeffs)) two)) };
+      tA = record { abs = leb→le _ _ (and-right (one && all (tA .coeffs)) (small r (tA .d +ℤ pos 1)) h) };
+    }
 
 pub raised-same : {K : ℕ} {buf buf′ : List ℤ} {i n : ℕ} → Agree (n * size K) buf buf′ → i < n → Raised K buf i → Raised K buf′ i
 raised-same {K} {i = i} a h r = record {

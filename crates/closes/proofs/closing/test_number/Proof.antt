@@ -1,9 +1,7 @@
 -- `closes::closing::test_number` meets its contract. Assumes nothing.
 use borrow.Author.Needs.{needs}
+use mathlib.Core.Path.{_∙_}
 use native.Mathlib.Omega.{arith}
-use Prim.Native.Nat.{_+_}
-use lib.ListN.{getD}
-use lib.IntN.{pos}
 use mir.Syntax.{w64}
 use mir.ValLaws.{toZ-ofZ}
 use Rattle.rows.proofs.Testing.{below, past}
@@ -49,24 +47,16 @@ kind-of-requires c κs =
     let h = below (a .i .0) (a .tally .lines .0) (c .before .before .before .before .is-there .ensures) (c .before .before .before .if1 .left) in
     omega (arith, s .pre .most, s .pre .room)
 
-add-d : tie.Need-add-d
-add-d c =
+add-number : tie.Need-add-number
+add-number c =
     let s = c .before .before .before .before .before .before .before in
     let a = s .args in
     let h = below (a .i .0) (a .tally .lines .0) (c .before .before .before .before .before .is-there .ensures) (c .before .before .before .before .if1 .left) in
     let r = line-end (s .pre) h in
     omega (arith, c .before .before .before .place .ensures)
 
-mul-d : tie.Need-mul-d
-mul-d c =
-    let s = c .before .before .before .before .before .before .before in
-    let a = s .args in
-    let h = below (a .i .0) (a .tally .lines .0) (c .before .before .before .before .before .is-there .ensures) (c .before .before .before .before .if1 .left) in
-    let r = line-end (s .pre) h in
-    omega (arith, c .before .before .before .place .ensures)
-
-shared-slice-copy-out-d : tie.Need-shared-slice-copy-out-d
-shared-slice-copy-out-d c =
+number-requires : tie.Need-number-requires
+number-requires c κs =
     let s = c .before .before .before .before .before .before .before in
     let a = s .args in
     let h = below (a .i .0) (a .tally .lines .0) (c .before .before .before .before .before .is-there .ensures) (c .before .before .before .before .if1 .left) in
@@ -81,14 +71,14 @@ returns-3 c =
     let s = c .before .before .before .before .before .before .before .before .before .before in
     let a = s .args in
     let h = below (a .i .0) (a .tally .lines .0) (c .before .before .before .before .before .before .before .before .is-there .ensures) (c .before .before .before .before .before .before .before .if1 .left) in
-    number-d (a .k) (a .kinds .now) (a .lines .now) (a .tally) (a .i .0) h (c .before .before .before .before .before .before .place .ensures) (c .before .before .before .before .before .all-zero .ensures) (c .before .before .before .before .if2 .left) (c .before .before .before .kind-of .ensures) (toZ-ofZ w64 (getD (a .lines .now) (c .before .before .before .before .before .before .place .result + a .k) (pos 0)) (record { sfits = c .before .before .d .given })) (c .before .is-false .ensures) (c .if3 .taken)
+    number-d (a .k) (a .kinds .now) (a .lines .now) (a .tally) (a .i .0) h (c .before .before .before .before .before .before .place .ensures) (c .before .before .before .before .before .all-zero .ensures) (c .before .before .before .before .if2 .left) (c .before .before .before .kind-of .ensures) (toZ-ofZ w64 (c .before .before .number .result) (record { sfits = c .before .before .number .ok }) ∙ c .before .before .number .ensures) (c .before .is-false .ensures) (c .if3 .taken)
 
 returns-4 : tie.Need-returns-4
 returns-4 c =
     let s = c .before .before .before .before .before .before .before .before .before .before in
     let a = s .args in
     let h = below (a .i .0) (a .tally .lines .0) (c .before .before .before .before .before .before .before .before .is-there .ensures) (c .before .before .before .before .before .before .before .if1 .left) in
-    number-passed (a .k) (a .kinds .now) (a .lines .now) (a .tally) (a .i .0) h (c .before .before .before .before .before .before .place .ensures) (c .before .before .before .before .before .all-zero .ensures) (c .before .before .before .before .if2 .left) (c .before .before .before .kind-of .ensures) (toZ-ofZ w64 (getD (a .lines .now) (c .before .before .before .before .before .before .place .result + a .k) (pos 0)) (record { sfits = c .before .before .d .given })) (c .before .is-false .ensures) (c .if3 .left)
+    number-passed (a .k) (a .kinds .now) (a .lines .now) (a .tally) (a .i .0) h (c .before .before .before .before .before .before .place .ensures) (c .before .before .before .before .before .all-zero .ensures) (c .before .before .before .before .if2 .left) (c .before .before .before .kind-of .ensures) (toZ-ofZ w64 (c .before .before .number .result) (record { sfits = c .before .before .number .ok }) ∙ c .before .before .number .ensures) (c .before .is-false .ensures) (c .if3 .left)
 
 pub test-number-spec : {M : Type 1} → statement M
-test-number-spec = tie.close (tie.spec is-there-requires returns place-requires all-zero-requires returns-2 kind-of-requires add-d mul-d shared-slice-copy-out-d is-false-requires returns-3 returns-4)
+test-number-spec = tie.close (tie.spec is-there-requires returns place-requires all-zero-requires returns-2 kind-of-requires add-number number-requires is-false-requires returns-3 returns-4)

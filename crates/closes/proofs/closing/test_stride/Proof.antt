@@ -1,10 +1,8 @@
 -- `closes::closing::test_stride` meets its contract. Assumes nothing.
 use borrow.Author.Needs.{needs}
 use native.Mathlib.Omega.{arith}
-use Prim.Native.Nat.{_+_}
 use mathlib.Core.Path.{sym, _∙_}
-use lib.ListN.{getD}
-use lib.IntN.{pos, natAbs}
+use lib.IntN.{natAbs}
 use mir.Syntax.{w64}
 use mir.ValLaws.{toZ-ofZ}
 use Rattle.rows.proofs.Testing.{below, past, unnot}
@@ -48,20 +46,14 @@ all-divisible-requires c κs =
 returns-4 : tie.Need-returns-4
 returns-4 c = let fg = c .before .before .before .before .before .before .before .before .before .before .fits .g in stride-coeffs (c .before .before .before .before .before .before .before .before .before .before .args .k) (c .before .before .before .before .before .before .before .before .before .before .args .kinds .now) (c .before .before .before .before .before .before .before .before .before .before .args .lines .now) (c .before .before .before .before .before .before .before .before .before .before .args .tally) (c .before .before .before .before .before .before .before .before .before .before .args .i .0) (natAbs (c .before .before .before .before .before .before .before .before .before .before .args .g)) (below (c .before .before .before .before .before .before .before .before .before .before .args .i .0) (c .before .before .before .before .before .before .before .before .before .before .args .tally .lines .0) (c .before .before .before .before .before .before .before .before .is-there .ensures) (c .before .before .before .before .before .before .before .if1 .left)) (λ e. c .before .before .before .before .before .if2 .left (c .before .before .before .before .before .before .kind-of .ensures ∙ e)) (simp toZ-ofZ at (c .before .before .before .before .is-stride .ensures)) (c .before .before .before .if3 .left) (c .before .before .before .before .before .before .before .before .before .before .pre .1 .is) (c .before .before .place .ensures) (simp toZ-ofZ at (c .before .all-divisible .ensures)) (c .if4 .taken)
 
-add-d : tie.Need-add-d
-add-d c =
+add-number : tie.Need-add-number
+add-number c =
     let h = (below (c .before .before .before .before .before .before .before .before .before .before .args .i .0) (c .before .before .before .before .before .before .before .before .before .before .args .tally .lines .0) (c .before .before .before .before .before .before .before .before .is-there .ensures) (c .before .before .before .before .before .before .before .if1 .left)) in
     let r = line-end (c .before .before .before .before .before .before .before .before .before .before .pre .0) h in
     omega (arith, c .before .before .place .ensures)
 
-mul-d : tie.Need-mul-d
-mul-d c =
-    let h = (below (c .before .before .before .before .before .before .before .before .before .before .args .i .0) (c .before .before .before .before .before .before .before .before .before .before .args .tally .lines .0) (c .before .before .before .before .before .before .before .before .is-there .ensures) (c .before .before .before .before .before .before .before .if1 .left)) in
-    let r = line-end (c .before .before .before .before .before .before .before .before .before .before .pre .0) h in
-    omega (arith, c .before .before .place .ensures)
-
-shared-slice-copy-out-d : tie.Need-shared-slice-copy-out-d
-shared-slice-copy-out-d c =
+number-requires : tie.Need-number-requires
+number-requires c κs =
     let h = (below (c .before .before .before .before .before .before .before .before .before .before .args .i .0) (c .before .before .before .before .before .before .before .before .before .before .args .tally .lines .0) (c .before .before .before .before .before .before .before .before .is-there .ensures) (c .before .before .before .before .before .before .before .if1 .left)) in
     let r = line-end (c .before .before .before .before .before .before .before .before .before .before .pre .0) h in
     omega (arith, c .before .before .place .ensures)
@@ -71,10 +63,10 @@ divides-requires c κs = let fg = c .before .before .before .before .before .bef
     simp toZ-ofZ (at-least-two (c .before .before .before .before .before .before .before .before .before .before .before .args .g) (c .before .before .before .before .before .before .before .before .before .before .before .pre .1) (simp toZ-ofZ at (c .before .before .before .before .before .is-stride .ensures)) (unnot _ (c .before .before .before .before .if3 .left)))
 
 returns-5 : tie.Need-returns-5
-returns-5 c = let fg = c .before .before .before .before .before .before .before .before .before .before .before .before .before .fits .g in stride-d (c .before .before .before .before .before .before .before .before .before .before .before .before .before .args .k) (c .before .before .before .before .before .before .before .before .before .before .before .before .before .args .kinds .now) (c .before .before .before .before .before .before .before .before .before .before .before .before .before .args .lines .now) (c .before .before .before .before .before .before .before .before .before .before .before .before .before .args .tally) (c .before .before .before .before .before .before .before .before .before .before .before .before .before .args .i .0) (natAbs (c .before .before .before .before .before .before .before .before .before .before .before .before .before .args .g)) (below (c .before .before .before .before .before .before .before .before .before .before .before .before .before .args .i .0) (c .before .before .before .before .before .before .before .before .before .before .before .before .before .args .tally .lines .0) (c .before .before .before .before .before .before .before .before .before .before .before .is-there .ensures) (c .before .before .before .before .before .before .before .before .before .before .if1 .left)) (λ e. c .before .before .before .before .before .before .before .before .if2 .left (c .before .before .before .before .before .before .before .before .before .kind-of .ensures ∙ e)) (simp toZ-ofZ at (c .before .before .before .before .before .before .before .is-stride .ensures)) (c .before .before .before .before .before .before .if3 .left) (c .before .before .before .before .before .before .before .before .before .before .before .before .before .pre .1 .is) (c .before .before .before .before .before .place .ensures) (simp toZ-ofZ at (c .before .before .before .before .all-divisible .ensures)) (c .before .before .before .if4 .left) (toZ-ofZ w64 (getD (c .before .before .before .before .before .before .before .before .before .before .before .before .before .args .lines .now) (c .before .before .before .before .before .place .result + c .before .before .before .before .before .before .before .before .before .before .before .before .before .args .k) (pos 0)) (record { sfits = c .before .before .d .given })) (rw (toZ-ofZ w64 (c .before .before .before .before .before .before .before .before .before .before .before .before .before .args .g) fg) at (c .before .divides .ensures)) (c .if5 .taken)
+returns-5 c = let fg = c .before .before .before .before .before .before .before .before .before .before .before .before .before .fits .g in stride-d (c .before .before .before .before .before .before .before .before .before .before .before .before .before .args .k) (c .before .before .before .before .before .before .before .before .before .before .before .before .before .args .kinds .now) (c .before .before .before .before .before .before .before .before .before .before .before .before .before .args .lines .now) (c .before .before .before .before .before .before .before .before .before .before .before .before .before .args .tally) (c .before .before .before .before .before .before .before .before .before .before .before .before .before .args .i .0) (natAbs (c .before .before .before .before .before .before .before .before .before .before .before .before .before .args .g)) (below (c .before .before .before .before .before .before .before .before .before .before .before .before .before .args .i .0) (c .before .before .before .before .before .before .before .before .before .before .before .before .before .args .tally .lines .0) (c .before .before .before .before .before .before .before .before .before .before .before .is-there .ensures) (c .before .before .before .before .before .before .before .before .before .before .if1 .left)) (λ e. c .before .before .before .before .before .before .before .before .if2 .left (c .before .before .before .before .before .before .before .before .before .kind-of .ensures ∙ e)) (simp toZ-ofZ at (c .before .before .before .before .before .before .before .is-stride .ensures)) (c .before .before .before .before .before .before .if3 .left) (c .before .before .before .before .before .before .before .before .before .before .before .before .before .pre .1 .is) (c .before .before .before .before .before .place .ensures) (simp toZ-ofZ at (c .before .before .before .before .all-divisible .ensures)) (c .before .before .before .if4 .left) (toZ-ofZ w64 (c .before .before .number .result) (record { sfits = c .before .before .number .ok }) ∙ c .before .before .number .ensures) (rw (toZ-ofZ w64 (c .before .before .before .before .before .before .before .before .before .before .before .before .before .args .g) fg) at (c .before .divides .ensures)) (c .if5 .taken)
 
 returns-6 : tie.Need-returns-6
-returns-6 c = let fg = c .before .before .before .before .before .before .before .before .before .before .before .before .before .fits .g in stride-passed (c .before .before .before .before .before .before .before .before .before .before .before .before .before .args .k) (c .before .before .before .before .before .before .before .before .before .before .before .before .before .args .kinds .now) (c .before .before .before .before .before .before .before .before .before .before .before .before .before .args .lines .now) (c .before .before .before .before .before .before .before .before .before .before .before .before .before .args .tally) (c .before .before .before .before .before .before .before .before .before .before .before .before .before .args .i .0) (natAbs (c .before .before .before .before .before .before .before .before .before .before .before .before .before .args .g)) (below (c .before .before .before .before .before .before .before .before .before .before .before .before .before .args .i .0) (c .before .before .before .before .before .before .before .before .before .before .before .before .before .args .tally .lines .0) (c .before .before .before .before .before .before .before .before .before .before .before .is-there .ensures) (c .before .before .before .before .before .before .before .before .before .before .if1 .left)) (λ e. c .before .before .before .before .before .before .before .before .if2 .left (c .before .before .before .before .before .before .before .before .before .kind-of .ensures ∙ e)) (simp toZ-ofZ at (c .before .before .before .before .before .before .before .is-stride .ensures)) (c .before .before .before .before .before .before .if3 .left) (c .before .before .before .before .before .before .before .before .before .before .before .before .before .pre .1 .is) (c .before .before .before .before .before .place .ensures) (simp toZ-ofZ at (c .before .before .before .before .all-divisible .ensures)) (c .before .before .before .if4 .left) (toZ-ofZ w64 (getD (c .before .before .before .before .before .before .before .before .before .before .before .before .before .args .lines .now) (c .before .before .before .before .before .place .result + c .before .before .before .before .before .before .before .before .before .before .before .before .before .args .k) (pos 0)) (record { sfits = c .before .before .d .given })) (rw (toZ-ofZ w64 (c .before .before .before .before .before .before .before .before .before .before .before .before .before .args .g) fg) at (c .before .divides .ensures)) (c .if5 .left)
+returns-6 c = let fg = c .before .before .before .before .before .before .before .before .before .before .before .before .before .fits .g in stride-passed (c .before .before .before .before .before .before .before .before .before .before .before .before .before .args .k) (c .before .before .before .before .before .before .before .before .before .before .before .before .before .args .kinds .now) (c .before .before .before .before .before .before .before .before .before .before .before .before .before .args .lines .now) (c .before .before .before .before .before .before .before .before .before .before .before .before .before .args .tally) (c .before .before .before .before .before .before .before .before .before .before .before .before .before .args .i .0) (natAbs (c .before .before .before .before .before .before .before .before .before .before .before .before .before .args .g)) (below (c .before .before .before .before .before .before .before .before .before .before .before .before .before .args .i .0) (c .before .before .before .before .before .before .before .before .before .before .before .before .before .args .tally .lines .0) (c .before .before .before .before .before .before .before .before .before .before .before .is-there .ensures) (c .before .before .before .before .before .before .before .before .before .before .if1 .left)) (λ e. c .before .before .before .before .before .before .before .before .if2 .left (c .before .before .before .before .before .before .before .before .before .kind-of .ensures ∙ e)) (simp toZ-ofZ at (c .before .before .before .before .before .before .before .is-stride .ensures)) (c .before .before .before .before .before .before .if3 .left) (c .before .before .before .before .before .before .before .before .before .before .before .before .before .pre .1 .is) (c .before .before .before .before .before .place .ensures) (simp toZ-ofZ at (c .before .before .before .before .all-divisible .ensures)) (c .before .before .before .if4 .left) (toZ-ofZ w64 (c .before .before .number .result) (record { sfits = c .before .before .number .ok }) ∙ c .before .before .number .ensures) (rw (toZ-ofZ w64 (c .before .before .before .before .before .before .before .before .before .before .before .before .before .args .g) fg) at (c .before .divides .ensures)) (c .if5 .left)
 
 pub test-stride-spec : {M : Type 1} → statement M
-test-stride-spec = tie.close (tie.spec is-there-requires returns kind-of-requires returns-2 is-stride-requires returns-3 place-requires all-divisible-requires returns-4 add-d mul-d shared-slice-copy-out-d divides-requires returns-5 returns-6)
+test-stride-spec = tie.close (tie.spec is-there-requires returns kind-of-requires returns-2 is-stride-requires returns-3 place-requires all-divisible-requires returns-4 add-number number-requires divides-requires returns-5 returns-6)

@@ -1,9 +1,13 @@
 -- `closes::ends::split` meets its contract. Assumes nothing.
 use borrow.Author.Needs.{needs}
 use native.Mathlib.Omega.{arith}
-use mathlib.Core.Path.{refl, sym, _∙_}
+use mathlib.Core.Path.{_≡_, sym, _∙_}
+use Prim.Native.Nat.{_+_, _<_}
+use lib.ListN.{getD}
+use Rattle.lines.specs.Lines.{before, bounded-less}
+use Rattle.rows.specs.Tally.{tally}
 use Rattle.rows.proofs.Testing.{below, past, unnot}
-use Rattle.closes.proofs.Splitting.{counted-open, full-open, counted-both, full-both, split-none, split-kind, split-open, split-full, split-kept, split-end, split-range, split-made}
+use Rattle.closes.proofs.Splitting.{counted-open, full-open, counted-both, full-both, split-none, split-kind, split-open, split-full, split-copy, split-range, split-made}
 use Rattle.closes.proofs.ends.split.Statement.{statement}
 use Rattle.closes.proofs.ends.split.Tie as tie
 
@@ -40,32 +44,61 @@ same-length-3 c = search needs
 returns-4 : tie.Need-returns-4
 returns-4 c = split-full (c .before .before .before .before .before .before .before .before .before .before .before .before .args .tally) (c .before .before .before .before .before .before .before .before .before .before .before .before .args .i .0) (c .before .before .before .before .before .before .before .before .before .before .before .before .pre) (below (c .before .before .before .before .before .before .before .before .before .before .before .before .args .i .0) (c .before .before .before .before .before .before .before .before .before .before .before .before .args .tally .lines .0) (c .before .before .before .before .before .before .before .before .before .before .is-there .ensures) (c .before .before .before .before .before .before .before .before .before .if1 .left)) (sym (c .before .before .before .before .before .before .before .kind-of .ensures) ∙ c .before .before .before .before .before .before .if2 .left) (counted-open (c .before .before .before .before .before .open-counted .ensures) (unnot _ (c .before .before .before .if3 .left)) .0) (full-both (c .before .before .before .before .before .before .before .before .before .before .before .before .args .tally) (c .before .before .before .before .before .open-counted .ensures) (unnot _ (c .before .before .before .if3 .left)) (c .before .before .line-counted .ensures) (unnot _ (c .if4 .taken)))
 
-start-line-requires : tie.Need-start-line-requires
-start-line-requires c κs = record { branch = c .before .before .before .before .before .before .before .before .before .before .before .before .before .before .pre .branch; first = (below (c .before .before .before .before .before .before .before .before .before .before .before .before .before .before .args .i .0) (c .before .before .before .before .before .before .before .before .before .before .before .before .before .before .args .tally .lines .0) (c .before .before .before .before .before .before .before .before .before .before .before .before .is-there .ensures) (c .before .before .before .before .before .before .before .before .before .before .before .if1 .left)); space = (counted-both (c .before .before .before .before .before .before .before .before .before .before .before .before .before .before .args .tally) (c .before .before .before .before .before .before .before .open-counted .ensures) (unnot _ (c .before .before .before .before .before .if3 .left)) (c .before .before .before .before .line-counted .ensures) (unnot _ (c .before .before .if4 .left))) .0 }
+-- What is known once the line may be counted.
+module _ (c : tie.Else4) where
+  first : c .before .before .before .before .before .before .before .before .before .before .before .before .args .i .0 < c .before .before .before .before .before .before .before .before .before .before .before .before .args .tally .lines .0
+  first = below (c .before .before .before .before .before .before .before .before .before .before .before .before .args .i .0) (c .before .before .before .before .before .before .before .before .before .before .before .before .args .tally .lines .0) (c .before .before .before .before .before .before .before .before .before .before .is-there .ensures) (c .before .before .before .before .before .before .before .before .before .if1 .left)
 
-set-kind-requires : tie.Need-set-kind-requires
-set-kind-requires c κs = omega (arith, (counted-both (c .before .before .before .before .before .before .before .before .before .before .before .before .before .before .before .before .before .args .tally) (c .before .before .before .before .before .before .before .before .before .before .open-counted .ensures) (unnot _ (c .before .before .before .before .before .before .before .before .if3 .left)) (c .before .before .before .before .before .before .before .line-counted .ensures) (unnot _ (c .before .before .before .before .before .if4 .left))) .0, c .before .before .before .before .before .before .before .before .before .before .before .before .before .before .before .before .before .pre .room)
+  kind : getD (c .before .before .before .before .before .before .before .before .before .before .before .before .args .kinds .now) (c .before .before .before .before .before .before .before .before .before .before .before .before .args .i .0) 0 ≡ 0
+  kind = sym (c .before .before .before .before .before .before .before .kind-of .ensures) ∙ c .before .before .before .before .before .before .if2 .left
+
+  may : c .before .before .before .before .before .before .before .before .before .before .before .before .args .tally .«open» < 32
+  may = counted-open (c .before .before .before .before .before .open-counted .ensures) (unnot _ (c .before .before .before .if3 .left)) .0
+
+  both : (c .before .before .before .before .before .before .before .before .before .before .before .before .args .tally .lines .0 < 128) × (c .before .before .line-counted .result .tally ≡ tally (c .before .before .before .before .before .before .before .before .before .before .before .before .args .tally .rows .0) (c .before .before .before .before .before .before .before .before .before .before .before .before .args .tally .lines .0 + 1) (c .before .before .before .before .before .before .before .before .before .before .before .before .args .tally .«open» + 1))
+  both = counted-both (c .before .before .before .before .before .before .before .before .before .before .before .before .args .tally) (c .before .before .before .before .before .open-counted .ensures) (unnot _ (c .before .before .before .if3 .left)) (c .before .before .line-counted .ensures) (unnot _ (c .if4 .left))
 
 raised-fit-requires : tie.Need-raised-fit-requires
-raised-fit-requires c κs = (omega (arith, ((counted-both (c .before .before .before .before .before .before .before .before .before .before .before .before .before .before .before .before .before .before .before .before .before .args .tally) (c .before .before .before .before .before .before .before .before .before .before .before .before .before .before .open-counted .ensures) (unnot _ (c .before .before .before .before .before .before .before .before .before .before .before .before .if3 .left)) (c .before .before .before .before .before .before .before .before .before .before .before .line-counted .ensures) (unnot _ (c .before .before .before .before .before .before .before .before .before .if4 .left))) .0)), c .before .before .before .before .before .before .before .before .before .before .before .before .before .before .before .before .before .before .before .before .before .pre .branch .constants, omega (arith, split-end (c .before .before .before .before .before .before .before .before .before .before .before .before .before .before .before .before .before .before .before .before .before .args .tally) (c .before .before .before .before .before .before .before .before .before .before .before .before .before .before .before .before .before .before .before .before .before .args .i .0) (c .before .before .before .before .before .before .before .before .before .before .before .before .before .before .before .before .before .before .before .before .before .pre) (below (c .before .before .before .before .before .before .before .before .before .before .before .before .before .before .before .before .before .before .before .before .before .args .i .0) (c .before .before .before .before .before .before .before .before .before .before .before .before .before .before .before .before .before .before .before .before .before .args .tally .lines .0) (c .before .before .before .before .before .before .before .before .before .before .before .before .before .before .before .before .before .before .before .is-there .ensures) (c .before .before .before .before .before .before .before .before .before .before .before .before .before .before .before .before .before .before .if1 .left)) (sym (c .before .before .before .before .before .before .before .before .before .before .before .before .before .before .before .before .kind-of .ensures) ∙ c .before .before .before .before .before .before .before .before .before .before .before .before .before .before .before .if2 .left) (counted-open (c .before .before .before .before .before .before .before .before .before .before .before .before .before .before .open-counted .ensures) (unnot _ (c .before .before .before .before .before .before .before .before .before .before .before .before .if3 .left)) .0) ((counted-both (c .before .before .before .before .before .before .before .before .before .before .before .before .before .before .before .before .before .before .before .before .before .args .tally) (c .before .before .before .before .before .before .before .before .before .before .before .before .before .before .open-counted .ensures) (unnot _ (c .before .before .before .before .before .before .before .before .before .before .before .before .if3 .left)) (c .before .before .before .before .before .before .before .before .before .before .before .line-counted .ensures) (unnot _ (c .before .before .before .before .before .before .before .before .before .if4 .left))) .0) (c .before .before .before .before .before .before .start-line .ensures) (c .before .before .before .set-kind .ensures)))
+raised-fit-requires c κs =
+    let q = c .before in
+    let s = q .before .before .before .before .before .before .before .before .before .before .before .before in
+    let h = before (s .args .k) (first q) in
+    ((omega (arith, both q .0, first q), s .pre .branch .constants, omega (arith, s .pre .branch .room)), bounded-less (omega (arith, first q)) (s .pre .branch .bounded))
 
 same-length-4 : tie.Need-same-length-4
-same-length-4 c = split-kept (c .before .before .before .before .before .before .before .before .before .before .before .before .before .before .before .before .before .before .before .before .before .before .before .args .tally) (c .before .before .before .before .before .before .before .before .before .before .before .before .before .before .before .before .before .before .before .before .before .before .before .args .i .0) (c .before .before .before .before .before .before .before .before .before .before .before .before .before .before .before .before .before .before .before .before .before .before .before .pre) (below (c .before .before .before .before .before .before .before .before .before .before .before .before .before .before .before .before .before .before .before .before .before .before .before .args .i .0) (c .before .before .before .before .before .before .before .before .before .before .before .before .before .before .before .before .before .before .before .before .before .before .before .args .tally .lines .0) (c .before .before .before .before .before .before .before .before .before .before .before .before .before .before .before .before .before .before .before .before .before .is-there .ensures) (c .before .before .before .before .before .before .before .before .before .before .before .before .before .before .before .before .before .before .before .before .if1 .left)) (sym (c .before .before .before .before .before .before .before .before .before .before .before .before .before .before .before .before .before .before .kind-of .ensures) ∙ c .before .before .before .before .before .before .before .before .before .before .before .before .before .before .before .before .before .if2 .left) (counted-open (c .before .before .before .before .before .before .before .before .before .before .before .before .before .before .before .before .open-counted .ensures) (unnot _ (c .before .before .before .before .before .before .before .before .before .before .before .before .before .before .if3 .left)) .0) ((counted-both (c .before .before .before .before .before .before .before .before .before .before .before .before .before .before .before .before .before .before .before .before .before .before .before .args .tally) (c .before .before .before .before .before .before .before .before .before .before .before .before .before .before .before .before .open-counted .ensures) (unnot _ (c .before .before .before .before .before .before .before .before .before .before .before .before .before .before .if3 .left)) (c .before .before .before .before .before .before .before .before .before .before .before .before .before .line-counted .ensures) (unnot _ (c .before .before .before .before .before .before .before .before .before .before .before .if4 .left))) .0) (c .before .before .before .before .before .before .before .before .start-line .ensures) (c .before .before .before .before .before .set-kind .ensures) .lines-length
+same-length-4 c = search needs
 
 same-length-5 : tie.Need-same-length-5
-same-length-5 c = split-kept (c .before .before .before .before .before .before .before .before .before .before .before .before .before .before .before .before .before .before .before .before .before .before .before .args .tally) (c .before .before .before .before .before .before .before .before .before .before .before .before .before .before .before .before .before .before .before .before .before .before .before .args .i .0) (c .before .before .before .before .before .before .before .before .before .before .before .before .before .before .before .before .before .before .before .before .before .before .before .pre) (below (c .before .before .before .before .before .before .before .before .before .before .before .before .before .before .before .before .before .before .before .before .before .before .before .args .i .0) (c .before .before .before .before .before .before .before .before .before .before .before .before .before .before .before .before .before .before .before .before .before .before .before .args .tally .lines .0) (c .before .before .before .before .before .before .before .before .before .before .before .before .before .before .before .before .before .before .before .before .before .is-there .ensures) (c .before .before .before .before .before .before .before .before .before .before .before .before .before .before .before .before .before .before .before .before .if1 .left)) (sym (c .before .before .before .before .before .before .before .before .before .before .before .before .before .before .before .before .before .before .kind-of .ensures) ∙ c .before .before .before .before .before .before .before .before .before .before .before .before .before .before .before .before .before .if2 .left) (counted-open (c .before .before .before .before .before .before .before .before .before .before .before .before .before .before .before .before .open-counted .ensures) (unnot _ (c .before .before .before .before .before .before .before .before .before .before .before .before .before .before .if3 .left)) .0) ((counted-both (c .before .before .before .before .before .before .before .before .before .before .before .before .before .before .before .before .before .before .before .before .before .before .before .args .tally) (c .before .before .before .before .before .before .before .before .before .before .before .before .before .before .before .before .open-counted .ensures) (unnot _ (c .before .before .before .before .before .before .before .before .before .before .before .before .before .before .if3 .left)) (c .before .before .before .before .before .before .before .before .before .before .before .before .before .line-counted .ensures) (unnot _ (c .before .before .before .before .before .before .before .before .before .before .before .if4 .left))) .0) (c .before .before .before .before .before .before .before .before .start-line .ensures) (c .before .before .before .before .before .set-kind .ensures) .kinds-length
+same-length-5 c = search needs
 
 returns-5 : tie.Need-returns-5
-returns-5 c = split-made (c .before .before .before .before .before .before .before .before .before .before .before .before .before .before .before .before .before .before .before .before .before .before .before .args .tally) (c .before .before .before .before .before .before .before .before .before .before .before .before .before .before .before .before .before .before .before .before .before .before .before .args .i .0) (c .before .before .before .before .before .before .before .before .before .before .before .before .before .before .before .before .before .before .before .before .before .before .before .pre) (below (c .before .before .before .before .before .before .before .before .before .before .before .before .before .before .before .before .before .before .before .before .before .before .before .args .i .0) (c .before .before .before .before .before .before .before .before .before .before .before .before .before .before .before .before .before .before .before .before .before .before .before .args .tally .lines .0) (c .before .before .before .before .before .before .before .before .before .before .before .before .before .before .before .before .before .before .before .before .before .is-there .ensures) (c .before .before .before .before .before .before .before .before .before .before .before .before .before .before .before .before .before .before .before .before .if1 .left)) (sym (c .before .before .before .before .before .before .before .before .before .before .before .before .before .before .before .before .before .before .kind-of .ensures) ∙ c .before .before .before .before .before .before .before .before .before .before .before .before .before .before .before .before .before .if2 .left) (counted-open (c .before .before .before .before .before .before .before .before .before .before .before .before .before .before .before .before .open-counted .ensures) (unnot _ (c .before .before .before .before .before .before .before .before .before .before .before .before .before .before .if3 .left)) .0) ((counted-both (c .before .before .before .before .before .before .before .before .before .before .before .before .before .before .before .before .before .before .before .before .before .before .before .args .tally) (c .before .before .before .before .before .before .before .before .before .before .before .before .before .before .before .before .open-counted .ensures) (unnot _ (c .before .before .before .before .before .before .before .before .before .before .before .before .before .before .if3 .left)) (c .before .before .before .before .before .before .before .before .before .before .before .before .before .line-counted .ensures) (unnot _ (c .before .before .before .before .before .before .before .before .before .before .before .if4 .left))) .0) (c .before .before .before .before .before .before .before .before .start-line .ensures) (c .before .before .before .before .before .set-kind .ensures) (c .before .raised-fit .ensures) (c .if5 .taken) ((counted-both (c .before .before .before .before .before .before .before .before .before .before .before .before .before .before .before .before .before .before .before .before .before .before .before .args .tally) (c .before .before .before .before .before .before .before .before .before .before .before .before .before .before .before .before .open-counted .ensures) (unnot _ (c .before .before .before .before .before .before .before .before .before .before .before .before .before .before .if3 .left)) (c .before .before .before .before .before .before .before .before .before .before .before .before .before .line-counted .ensures) (unnot _ (c .before .before .before .before .before .before .before .before .before .before .before .if4 .left))) .1)
+returns-5 c =
+    let q = c .before .before .before in
+    let s = q .before .before .before .before .before .before .before .before .before .before .before .before in
+    split-range (s .args .tally) (s .args .i .0) (s .pre) (first q) (kind q) (may q) (both q .0) (c .before .raised-fit .ensures) (unnot _ (c .if5 .taken))
+
+start-line-requires : tie.Need-start-line-requires
+start-line-requires c κs =
+    let q = c .before .before .before .before .before in
+    let s = q .before .before .before .before .before .before .before .before .before .before .before .before in
+    split-copy (s .args .tally) (s .args .i .0) (s .pre) (first q) (kind q) (may q) (both q .0) (c .before .before .before .raised-fit .ensures) (unnot _ (c .before .before .if5 .left))
+
+set-kind-requires : tie.Need-set-kind-requires
+set-kind-requires c κs =
+    let q = c .before .before .before .before .before .before .before .before in
+    omega (arith, both q .0, q .before .before .before .before .before .before .before .before .before .before .before .before .pre .room)
 
 same-length-6 : tie.Need-same-length-6
-same-length-6 c = split-kept (c .before .before .before .before .before .before .before .before .before .before .before .before .before .before .before .before .before .before .before .before .before .before .before .args .tally) (c .before .before .before .before .before .before .before .before .before .before .before .before .before .before .before .before .before .before .before .before .before .before .before .args .i .0) (c .before .before .before .before .before .before .before .before .before .before .before .before .before .before .before .before .before .before .before .before .before .before .before .pre) (below (c .before .before .before .before .before .before .before .before .before .before .before .before .before .before .before .before .before .before .before .before .before .before .before .args .i .0) (c .before .before .before .before .before .before .before .before .before .before .before .before .before .before .before .before .before .before .before .before .before .before .before .args .tally .lines .0) (c .before .before .before .before .before .before .before .before .before .before .before .before .before .before .before .before .before .before .before .before .before .is-there .ensures) (c .before .before .before .before .before .before .before .before .before .before .before .before .before .before .before .before .before .before .before .before .if1 .left)) (sym (c .before .before .before .before .before .before .before .before .before .before .before .before .before .before .before .before .before .before .kind-of .ensures) ∙ c .before .before .before .before .before .before .before .before .before .before .before .before .before .before .before .before .before .if2 .left) (counted-open (c .before .before .before .before .before .before .before .before .before .before .before .before .before .before .before .before .open-counted .ensures) (unnot _ (c .before .before .before .before .before .before .before .before .before .before .before .before .before .before .if3 .left)) .0) ((counted-both (c .before .before .before .before .before .before .before .before .before .before .before .before .before .before .before .before .before .before .before .before .before .before .before .args .tally) (c .before .before .before .before .before .before .before .before .before .before .before .before .before .before .before .before .open-counted .ensures) (unnot _ (c .before .before .before .before .before .before .before .before .before .before .before .before .before .before .if3 .left)) (c .before .before .before .before .before .before .before .before .before .before .before .before .before .line-counted .ensures) (unnot _ (c .before .before .before .before .before .before .before .before .before .before .before .if4 .left))) .0) (c .before .before .before .before .before .before .before .before .start-line .ensures) (c .before .before .before .before .before .set-kind .ensures) .lines-length
+same-length-6 c = search needs
 
 same-length-7 : tie.Need-same-length-7
-same-length-7 c = split-kept (c .before .before .before .before .before .before .before .before .before .before .before .before .before .before .before .before .before .before .before .before .before .before .before .args .tally) (c .before .before .before .before .before .before .before .before .before .before .before .before .before .before .before .before .before .before .before .before .before .before .before .args .i .0) (c .before .before .before .before .before .before .before .before .before .before .before .before .before .before .before .before .before .before .before .before .before .before .before .pre) (below (c .before .before .before .before .before .before .before .before .before .before .before .before .before .before .before .before .before .before .before .before .before .before .before .args .i .0) (c .before .before .before .before .before .before .before .before .before .before .before .before .before .before .before .before .before .before .before .before .before .before .before .args .tally .lines .0) (c .before .before .before .before .before .before .before .before .before .before .before .before .before .before .before .before .before .before .before .before .before .is-there .ensures) (c .before .before .before .before .before .before .before .before .before .before .before .before .before .before .before .before .before .before .before .before .if1 .left)) (sym (c .before .before .before .before .before .before .before .before .before .before .before .before .before .before .before .before .before .before .kind-of .ensures) ∙ c .before .before .before .before .before .before .before .before .before .before .before .before .before .before .before .before .before .if2 .left) (counted-open (c .before .before .before .before .before .before .before .before .before .before .before .before .before .before .before .before .open-counted .ensures) (unnot _ (c .before .before .before .before .before .before .before .before .before .before .before .before .before .before .if3 .left)) .0) ((counted-both (c .before .before .before .before .before .before .before .before .before .before .before .before .before .before .before .before .before .before .before .before .before .before .before .args .tally) (c .before .before .before .before .before .before .before .before .before .before .before .before .before .before .before .before .open-counted .ensures) (unnot _ (c .before .before .before .before .before .before .before .before .before .before .before .before .before .before .if3 .left)) (c .before .before .before .before .before .before .before .before .before .before .before .before .before .line-counted .ensures) (unnot _ (c .before .before .before .before .before .before .before .before .before .before .before .if4 .left))) .0) (c .before .before .before .before .before .before .before .before .start-line .ensures) (c .before .before .before .before .before .set-kind .ensures) .kinds-length
+same-length-7 c = search needs
 
 returns-6 : tie.Need-returns-6
-returns-6 c = split-range (c .before .before .before .before .before .before .before .before .before .before .before .before .before .before .before .before .before .before .before .before .before .before .before .args .tally) (c .before .before .before .before .before .before .before .before .before .before .before .before .before .before .before .before .before .before .before .before .before .before .before .args .i .0) (c .before .before .before .before .before .before .before .before .before .before .before .before .before .before .before .before .before .before .before .before .before .before .before .pre) (below (c .before .before .before .before .before .before .before .before .before .before .before .before .before .before .before .before .before .before .before .before .before .before .before .args .i .0) (c .before .before .before .before .before .before .before .before .before .before .before .before .before .before .before .before .before .before .before .before .before .before .before .args .tally .lines .0) (c .before .before .before .before .before .before .before .before .before .before .before .before .before .before .before .before .before .before .before .before .before .is-there .ensures) (c .before .before .before .before .before .before .before .before .before .before .before .before .before .before .before .before .before .before .before .before .if1 .left)) (sym (c .before .before .before .before .before .before .before .before .before .before .before .before .before .before .before .before .before .before .kind-of .ensures) ∙ c .before .before .before .before .before .before .before .before .before .before .before .before .before .before .before .before .before .if2 .left) (counted-open (c .before .before .before .before .before .before .before .before .before .before .before .before .before .before .before .before .open-counted .ensures) (unnot _ (c .before .before .before .before .before .before .before .before .before .before .before .before .before .before .if3 .left)) .0) ((counted-both (c .before .before .before .before .before .before .before .before .before .before .before .before .before .before .before .before .before .before .before .before .before .before .before .args .tally) (c .before .before .before .before .before .before .before .before .before .before .before .before .before .before .before .before .open-counted .ensures) (unnot _ (c .before .before .before .before .before .before .before .before .before .before .before .before .before .before .if3 .left)) (c .before .before .before .before .before .before .before .before .before .before .before .before .before .line-counted .ensures) (unnot _ (c .before .before .before .before .before .before .before .before .before .before .before .if4 .left))) .0) (c .before .before .before .before .before .before .before .before .start-line .ensures) (c .before .before .before .before .before .set-kind .ensures) (c .before .raised-fit .ensures) (c .if5 .left)
+returns-6 c =
+    let q = c .before .before .before .before .before .before .before .before .before .before .before in
+    let s = q .before .before .before .before .before .before .before .before .before .before .before .before in
+    split-made (s .args .tally) (s .args .i .0) (s .pre) (first q) (kind q) (may q) (both q .0) (c .before .before .before .before .before .before .before .before .before .raised-fit .ensures) (unnot _ (c .before .before .before .before .before .before .before .before .if5 .left)) (c .before .before .before .before .before .start-line .ensures) (c .before .before .set-kind .ensures) (both q .1)
 
 pub split-spec : {M : Type 1} → statement M
-split-spec = tie.close (tie.spec is-there-requires returns kind-of-requires same-length returns-2 open-counted-requires same-length-2 returns-3 line-counted-requires same-length-3 returns-4 start-line-requires set-kind-requires raised-fit-requires same-length-4 same-length-5 returns-5 same-length-6 same-length-7 returns-6)
+split-spec = tie.close (tie.spec is-there-requires returns kind-of-requires same-length returns-2 open-counted-requires same-length-2 returns-3 line-counted-requires same-length-3 returns-4 raised-fit-requires same-length-4 same-length-5 returns-5 start-line-requires set-kind-requires same-length-6 same-length-7 returns-6)

@@ -4,8 +4,6 @@ use native.Mathlib.Omega.{arith}
 use Prim.Native.Nat.{_+_, _-_}
 use mathlib.Core.Logic.{inr}
 use mathlib.Core.Path.{refl, sym, _∙_}
-use lib.IntN.{pos}
-use lib.ListN.{getD}
 use mir.Syntax.{w64}
 use mir.ValLaws.{toZ-ofZ}
 use Rattle.fields.specs.Numbers.{flat}
@@ -23,14 +21,11 @@ abbrev μ-loop : tie.MeasureT-loop
 loop-holds : tie.Need-loop-holds Inv-loop μ-loop
 loop-holds c = putting-start _ _ _
 
-add-n : tie.Need-add-n Inv-loop μ-loop
-add-n c = omega (arith, c .before .before .before .pre .0 .room)
+add-number : tie.Need-add-number Inv-loop μ-loop
+add-number c = omega (arith, c .before .before .before .pre .0 .room)
 
-mul-n : tie.Need-mul-n Inv-loop μ-loop
-mul-n c = search needs
-
-shared-slice-copy-out-n : tie.Need-shared-slice-copy-out-n Inv-loop μ-loop
-shared-slice-copy-out-n c = omega (arith, c .before .before .before .pre .0 .room)
+number-requires : tie.Need-number-requires Inv-loop μ-loop
+number-requires c κs = omega (arith, c .before .before .before .pre .0 .room)
 
 mul-put-signed : tie.Need-mul-put-signed Inv-loop μ-loop
 mul-put-signed c = omega (arith, c .before .before .before .before .before .pre .0 .constants)
@@ -40,7 +35,7 @@ add-put-signed c = search needs
 
 put-signed-requires : tie.Need-put-signed-requires Inv-loop μ-loop
 put-signed-requires c κs =
-    let e = toZ-ofZ w64 (getD (c .before .before .before .before .before .args .lines .now) (c .before .before .before .before .before .args .at + c .before .before .before .loop .x) (pos 0)) (record { sfits = c .before .n .given }) in
+    let e = toZ-ofZ w64 (c .before .number .result) (record { sfits = c .before .number .ok }) ∙ c .before .number .ensures in
     (inr refl, (omega (arith, c .before .before .before .loop .inv .long), rw e (held (c .before .before .before .before .before .pre .0 .small (c .before .before .before .loop .x) (omega arith)))))
 
 add-x : tie.Need-add-x Inv-loop μ-loop
@@ -51,7 +46,7 @@ loop-less c = search needs
 
 loop-again : tie.Need-loop-again Inv-loop μ-loop
 loop-again c =
-    let e = toZ-ofZ w64 (getD (c .before .before .before .before .before .before .before .before .args .lines .now) (c .before .before .before .before .before .before .before .before .args .at + c .before .before .before .before .before .before .loop .x) (pos 0)) (record { sfits = c .before .before .before .before .n .given }) in
+    let e = toZ-ofZ w64 (c .before .before .before .before .number .result) (record { sfits = c .before .before .before .before .number .ok }) ∙ c .before .before .before .before .number .ensures in
     putting-on (c .before .before .before .before .before .before .loop .inv) (omega (arith, form-long (c .before .before .before .before .before .before .before .before .pre .0))) (e ∙ sym (form-number (c .before .before .before .before .before .before .before .before .pre .0) (c .before .before .before .before .before .before .loop .x) (omega arith))) (c .before .before .put-signed .ensures)
 
 same-length : tie.Need-same-length Inv-loop μ-loop
@@ -61,4 +56,4 @@ returns : tie.Need-returns Inv-loop μ-loop
 returns c = form-end _ (c .before .loop .inv) (omega (arith, form-long (c .before .before .before .pre .0)))
 
 pub put-form-spec : {M : Type 1} → statement M
-put-form-spec = tie.close (tie.spec Inv-loop μ-loop loop-holds add-n mul-n shared-slice-copy-out-n mul-put-signed add-put-signed put-signed-requires add-x loop-less loop-again same-length returns)
+put-form-spec = tie.close (tie.spec Inv-loop μ-loop loop-holds add-number number-requires mul-put-signed add-put-signed put-signed-requires add-x loop-less loop-again same-length returns)

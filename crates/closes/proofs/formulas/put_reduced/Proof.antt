@@ -4,8 +4,7 @@ use native.Mathlib.Omega.{arith}
 use Prim.Native.Nat.{_+_, _-_}
 use mathlib.Core.Logic.{inr}
 use mathlib.Core.Path.{refl, sym, _∙_}
-use lib.IntN.{pos, natAbs}
-use lib.ListN.{getD}
+use lib.IntN.{natAbs}
 use mir.Syntax.{w64}
 use mir.Val.{toZ, ofZ}
 use mir.ValLaws.{toZ-ofZ}
@@ -26,14 +25,11 @@ abbrev μ-loop : tie.MeasureT-loop
 loop-holds : tie.Need-loop-holds Inv-loop μ-loop
 loop-holds c = putting-start _ _ _
 
-add-n : tie.Need-add-n Inv-loop μ-loop
-add-n c = omega (arith, c .before .before .before .pre .0 .0 .room)
+add-number : tie.Need-add-number Inv-loop μ-loop
+add-number c = omega (arith, c .before .before .before .pre .0 .0 .room)
 
-mul-n : tie.Need-mul-n Inv-loop μ-loop
-mul-n c = search needs
-
-shared-slice-copy-out-n : tie.Need-shared-slice-copy-out-n Inv-loop μ-loop
-shared-slice-copy-out-n c = omega (arith, c .before .before .before .pre .0 .0 .room)
+number-requires : tie.Need-number-requires Inv-loop μ-loop
+number-requires c κs = omega (arith, c .before .before .before .pre .0 .0 .room)
 
 remainder-requires : tie.Need-remainder-requires Inv-loop μ-loop
 remainder-requires c κs = let f = c .before .before .before .before .fits .g in simp toZ-ofZ (two-at-least (c .before .before .before .before .pre .0 .1))
@@ -58,7 +54,7 @@ loop-less c = search needs
 
 loop-again : tie.Need-loop-again Inv-loop μ-loop
 loop-again c =
-    let z = toZ-ofZ w64 (getD (c .before .before .before .before .before .before .before .before .before .args .lines .now) (c .before .before .before .before .before .before .before .before .before .args .at + c .before .before .before .before .before .before .before .loop .x) (pos 0)) (record { sfits = c .before .before .before .before .before .n .given }) in
+    let z = toZ-ofZ w64 (c .before .before .before .before .before .number .result) (record { sfits = c .before .before .before .before .before .number .ok }) ∙ c .before .before .before .before .before .number .ensures in
     let e = toZ-ofZ w64 (c .before .before .before .before .remainder .result) (record { sfits = c .before .before .before .before .remainder .ok }) in
     putting-on (c .before .before .before .before .before .before .before .loop .inv) (omega (arith, reduced-form-long (c .before .before .before .before .before .before .before .before .before .pre .0 .0) (natAbs (toZ w64 (ofZ w64 (c .before .before .before .before .before .before .before .before .before .args .g)))))) (e ∙ (rw z at (c .before .before .before .before .remainder .ensures)) ∙ sym (reduced-number (c .before .before .before .before .before .before .before .before .before .pre .0 .0) _ (c .before .before .before .before .before .before .before .loop .x) (omega arith))) (c .before .before .put-signed .ensures)
 
@@ -69,4 +65,4 @@ returns : tie.Need-returns Inv-loop μ-loop
 returns c = let f = c .before .before .before .fits .g in simp toZ-ofZ at (form-end _ (c .before .loop .inv) (omega (arith, reduced-form-long (c .before .before .before .pre .0 .0) (natAbs (toZ w64 (ofZ w64 (c .before .before .before .args .g)))))))
 
 pub put-reduced-spec : {M : Type 1} → statement M
-put-reduced-spec = tie.close (tie.spec Inv-loop μ-loop loop-holds add-n mul-n shared-slice-copy-out-n remainder-requires mul-put-signed add-put-signed put-signed-requires add-x loop-less loop-again same-length returns)
+put-reduced-spec = tie.close (tie.spec Inv-loop μ-loop loop-holds add-number number-requires remainder-requires mul-put-signed add-put-signed put-signed-requires add-x loop-less loop-again same-length returns)
