@@ -213,11 +213,11 @@ module _ {K n : ℕ} {p : List ℕ} {kinds : List ℕ} {buf : List ℤ} {t : Tal
 
   -- ---- the second branch and the third
   pub second-copy : LineCopy K buf i n × (128 ≤ length kinds)
-  second-copy = (now-copy (d .ready) (d .line) (d .space) kept-refl, d .ready .room)
+  second-copy = (now-copy (d .ready) (d .line) (d .space) (d .small) kept-refl, d .ready .room)
 
   module _ {kinds₁ : List ℕ} {buf₁ : List ℤ} (eb : buf₁ ≡ copiedLine K i n buf) (ek : kinds₁ ≡ set kinds n 1) {scratch : List ℕ} {scratch₁ : List ℕ} {o₁ : ℕ} (h : Heads scratch o 0x32 scratch₁ o₁) where
     second : Longer K kinds buf n (secondLine (lineIn K kinds buf i)) kinds₁ buf₁
-    second = second-starts (d .ready) (d .line) (d .space) kept-refl eb ek
+    second = second-starts (d .ready) (d .line) (d .space) (d .small) kept-refl eb ek
 
     pub second-started : Started K kinds₁ buf₁ t p at o₁
     second-started = starts-branch second (d .lines-is) (omega arith) (omega (arith, h .o-is, d .room))
@@ -237,11 +237,11 @@ module _ {K n : ℕ} {p : List ℕ} {kinds : List ℕ} {buf : List ℤ} {t : Tal
         on = as-branch second (d .lines-is) at b .kept
 
         pub third-copy : LineCopy K buf₂ i n × (128 ≤ length kinds₂)
-        third-copy = (now-copy (d .ready) (d .line) (d .space) on, ready-kept (d .ready) on .room)
+        third-copy = (now-copy (d .ready) (d .line) (d .space) (d .small) on, ready-kept (d .ready) on .room)
 
         module _ {kinds₃ : List ℕ} {buf₃ : List ℤ} (eb₃ : buf₃ ≡ strengthenedT K i n buf₂) (ek₃ : kinds₃ ≡ set kinds₂ n 0) where
           third : Longer K kinds buf n (thirdLine (lineIn K kinds buf i)) kinds₃ buf₃
-          third = longer-start on (third-starts (d .ready) (d .line) (d .space) on (d .small) eb₃ ek₃)
+          third = longer-start on (third-starts (d .ready) (d .line) (d .space) (d .small) on eb₃ ek₃)
 
           pub third-started : Started K kinds₃ buf₃ t₁ p a o₂
           third-started = starts-branch third (closes .lines-is ∙ d .lines-is) (omega (arith, closes .within, closes .o-is)) (omega (arith, closes .within, h .o-is, d .room))

@@ -13,7 +13,7 @@ use Rattle.lines.specs.Buffer.{kindOf, lineIn, linesIn, LineCopy, copiedLine, s
 use Rattle.lines.specs.Lines.{line-ext, line-same, lines-same, before}
 use Rattle.lines.specs.Range.{bounded-line}
 use Rattle.lines.specs.Branch.{kind-stored, inequality-byte, equality-byte}
-use Rattle.lines.specs.Strengthen.{length-copied, length-t, copied-keeps, t-keeps, copied-line, t-line, third-range}
+use Rattle.lines.specs.Strengthen.{length-copied, length-t, copied-keeps, t-keeps, copied-line, t-line, raised-line, raised-same, third-range}
 use Rattle.lines.specs.Next.{second-branch, third-branch}
 use Rattle.rows.specs.Rows.{Ready, Kept}
 use Rattle.closes.specs.Ends.{firstLine, secondLine, thirdLine, Longer}
@@ -21,12 +21,12 @@ use Rattle.branches.proofs.Going.{ready-kept}
 use Rattle.closes.proofs.Splitting.{longer-from}
 
 module _ {K n : ℕ} {kinds : List ℕ} {buf : List ℤ} (ready : Ready K kinds buf n) {i : ℕ} (hi : i < n) (space : n < 128)
-    {kinds₁ : List ℕ} {buf₁ : List ℤ} (k : Kept K n kinds buf kinds₁ buf₁) where
+    (first : T (inRange 2147483647 (firstLine (lineIn K kinds buf i)))) {kinds₁ : List ℕ} {buf₁ : List ℤ} (k : Kept K n kinds buf kinds₁ buf₁) where
   now-ready : Ready K kinds₁ buf₁ n
   now-ready = ready-kept ready k
 
   pub now-copy : LineCopy K buf₁ i n
-  now-copy = record { branch = now-ready .branch; first = hi; space = space }
+  now-copy = record { branch = now-ready .branch; first = hi; space = space; raised = raised-same (agree-sym (k .lines-same)) hi (raised-line K kinds buf i ≤0 first) }
 
   now-line : lineIn K kinds₁ buf₁ i ≡ lineIn K kinds buf i
   now-line = line-same K (k .lines-same) (k .kinds-same) i hi
@@ -56,9 +56,9 @@ module _ {K n : ℕ} {kinds : List ℕ} {buf : List ℤ} (ready : Ready K kinds 
         longer-from now-ready space s (rw e (second-branch K kinds₁ kinds′ buf₁ n (agree-sym (s .kinds-same)) new c now-line))
         last (any-kind (lineIn K kinds buf i) in-range)
 
-    pub third-starts : T (inRange 2147483647 (firstLine (lineIn K kinds buf i))) → buf′ ≡ strengthenedT K i n buf₁ → kinds′ ≡ set kinds₁ n 0
+    pub third-starts : buf′ ≡ strengthenedT K i n buf₁ → kinds′ ≡ set kinds₁ n 0
         → Longer K kinds₁ buf₁ n (thirdLine (lineIn K kinds buf i)) kinds′ buf′
-    third-starts first e f =
+    third-starts e f =
         let c = now-copy in
         let s : Kept K n kinds₁ buf₁ kinds′ buf′ = record {
           lines-same = rw e (agree-sym (t-keeps c));

@@ -50,7 +50,7 @@ pub enum Stop {
 pub fn entries(
     p: &[u8],
     at: usize,
-    lines: &mut [i64],
+    lines: &mut [i32],
     kinds: &mut [u8],
     tally: Tally,
     k: usize,
@@ -165,7 +165,7 @@ fn resumed(b: Branched, given: Tally) -> Branched
 pub fn check_branch(
     p: &[u8],
     at: usize,
-    lines: &mut [i64],
+    lines: &mut [i32],
     kinds: &mut [u8],
     tally: Tally,
     k: usize,
