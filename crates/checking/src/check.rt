@@ -79,7 +79,7 @@ fn finish(proof: &[u8], at: usize, scratch: &[u8], o: usize, k: u8, out: &mut [u
 }
 
 // The lines of A and B.
-fn prepare(a: &[u8], b: &[u8], k: u8, m: usize, n: usize, lines: &mut [i64], kinds: &mut [u8])
+fn prepare(a: &[u8], b: &[u8], k: u8, m: usize, n: usize, lines: &mut [i32], kinds: &mut [u8])
     requires { ⌜ Both (now a) (now b) k m n ⌝ }
     requires { ⌜ Space k (m + n) (now kinds) (now lines) ⌝ }
     ensures { λ _. ⌜ Prepared (now (a .entry)) (now (b .entry)) k (now (kinds .exit)) (now (lines .exit)) m n ⌝ }
@@ -94,7 +94,7 @@ fn check_root(
     at: usize,
     k: u8,
     count: usize,
-    lines: &mut [i64],
+    lines: &mut [i32],
     kinds: &mut [u8],
     scratch: &mut [u8],
     out: &mut [u8],
@@ -130,7 +130,7 @@ fn check_within(
     k: u8,
     m: usize,
     n: usize,
-    lines: &mut [i64],
+    lines: &mut [i32],
     scratch: &mut [u8],
     out: &mut [u8],
 ) -> WriteResult
@@ -161,7 +161,7 @@ fn check_13(
     requires { ⌜ (m + n + fieldsLeft (now proof) at + 1) * size k ≤ 256 ⌝ }
     ensures { λ r. ⌜ Checks (now (a .entry)) (now (b .entry)) (now (proof .entry)) (now (out .entry)) (now (out .exit)) r ⌝ }
 {
-    let mut lines = [0i64; 256];
+    let mut lines = [0i32; 256];
     let mut scratch = [0u8; 1024];
     check_within(a, b, proof, at, k, m, n, &mut lines, &mut scratch, out)
 }
@@ -182,7 +182,7 @@ fn check_32(
     requires { ⌜ (m + n + fieldsLeft (now proof) at + 1) * size k ≤ 1190 ⌝ }
     ensures { λ r. ⌜ Checks (now (a .entry)) (now (b .entry)) (now (proof .entry)) (now (out .entry)) (now (out .exit)) r ⌝ }
 {
-    let mut lines = [0i64; 1190];
+    let mut lines = [0i32; 1190];
     let mut scratch = [0u8; 2560];
     check_within(a, b, proof, at, k, m, n, &mut lines, &mut scratch, out)
 }
@@ -203,7 +203,7 @@ fn check_70(
     requires { ⌜ (m + n + fieldsLeft (now proof) at + 1) * size k ≤ 2380 ⌝ }
     ensures { λ r. ⌜ Checks (now (a .entry)) (now (b .entry)) (now (proof .entry)) (now (out .entry)) (now (out .exit)) r ⌝ }
 {
-    let mut lines = [0i64; 2380];
+    let mut lines = [0i32; 2380];
     let mut scratch = [0u8; 5504];
     check_within(a, b, proof, at, k, m, n, &mut lines, &mut scratch, out)
 }
@@ -223,7 +223,7 @@ fn check_262(
     requires { ⌜ fieldsLeft (now proof) at ≤ 262 ⌝ }
     ensures { λ r. ⌜ Checks (now (a .entry)) (now (b .entry)) (now (proof .entry)) (now (out .entry)) (now (out .exit)) r ⌝ }
 {
-    let mut lines = [0i64; 4386];
+    let mut lines = [0i32; 4386];
     let mut scratch = [0u8; 20480];
     check_within(a, b, proof, at, k, m, n, &mut lines, &mut scratch, out)
 }
@@ -243,7 +243,7 @@ fn check_525(
     requires { ⌜ fieldsLeft (now proof) at ≤ 525 ⌝ }
     ensures { λ r. ⌜ Checks (now (a .entry)) (now (b .entry)) (now (proof .entry)) (now (out .entry)) (now (out .exit)) r ⌝ }
 {
-    let mut lines = [0i64; 4386];
+    let mut lines = [0i32; 4386];
     let mut scratch = [0u8; 40960];
     check_within(a, b, proof, at, k, m, n, &mut lines, &mut scratch, out)
 }
@@ -262,7 +262,7 @@ fn check_any(
     requires { ⌜ Begun (now a) (now b) (now proof) k m n at ⌝ }
     ensures { λ r. ⌜ Checks (now (a .entry)) (now (b .entry)) (now (proof .entry)) (now (out .entry)) (now (out .exit)) r ⌝ }
 {
-    let mut lines = [0i64; 4386];
+    let mut lines = [0i32; 4386];
     let mut scratch = [0u8; 65536];
     check_within(a, b, proof, at, k, m, n, &mut lines, &mut scratch, out)
 }

@@ -17,19 +17,19 @@ ghost use Rattle.bundle.specs.Scan.{stated};
 ghost use Rattle.checking.specs.Load.{Copies, Put, partialOf, lineOf, Loads, Loaded, formLine, Able, Bundled, BundleLoaded};
 
 // n numbers of two bytes from start on, in place of the n numbers at a place.
-fn load_numbers(s: &[u8], start: usize, n: usize, lines: &mut [i64], at: usize)
+fn load_numbers(s: &[u8], start: usize, n: usize, lines: &mut [i32], at: usize)
     requires { ⌜ Copies (now s) start n (now lines) at ⌝ }
     ensures { λ _. ⌜ Put (now (lines .entry)) at (signeds 2 n (drop start (now (s .entry)))) n (now (lines .exit)) ⌝ }
 {
     let mut i = 0;
     while i < n {
-        lines[at + i] = short_at(s, start + i * 2) as i64;
+        lines[at + i] = short_at(s, start + i * 2) as i32;
         i += 1;
     }
 }
 
 // n times 0 in place of the n numbers at a place.
-fn clear_numbers(lines: &mut [i64], at: usize, n: usize)
+fn clear_numbers(lines: &mut [i32], at: usize, n: usize)
     requires { ⌜ at + n ≤ length (now lines) ⌝ }
     ensures { λ _. ⌜ Put (now (lines .entry)) at (replicate n (pos 0)) n (now (lines .exit)) ⌝ }
 {
@@ -41,7 +41,7 @@ fn clear_numbers(lines: &mut [i64], at: usize, n: usize)
 }
 
 // The numbers of tA: those of t for a line of A, 0 for one of B.
-fn load_partial(s: &[u8], start: usize, n: usize, lines: &mut [i64], at: usize, in_a: bool)
+fn load_partial(s: &[u8], start: usize, n: usize, lines: &mut [i32], at: usize, in_a: bool)
     requires { ⌜ Copies (now s) start n (now lines) at ⌝ }
     ensures { λ _. ⌜ Put (now (lines .entry)) at (partialOf in_a (signeds 2 n (drop start (now (s .entry))))) n (now (lines .exit)) ⌝ }
 {
@@ -58,7 +58,7 @@ fn load_line(
     start: usize,
     kind: u8,
     in_a: bool,
-    lines: &mut [i64],
+    lines: &mut [i32],
     kinds: &mut [u8],
     n: LineNumber,
     k: usize,
@@ -79,7 +79,7 @@ fn load_constraints(
     at: usize,
     k: u8,
     in_a: bool,
-    lines: &mut [i64],
+    lines: &mut [i32],
     kinds: &mut [u8],
     n: LineNumber,
 )
@@ -113,7 +113,7 @@ fn load_constraints(
 }
 
 // A bundle that was gone over, with the same given K, as lines behind the first n.
-pub fn load(s: &[u8], given: u8, in_a: bool, lines: &mut [i64], kinds: &mut [u8], n: LineNumber)
+pub fn load(s: &[u8], given: u8, in_a: bool, lines: &mut [i32], kinds: &mut [u8], n: LineNumber)
     requires { ⌜ Bundled given (now s) (now kinds) (now lines) (n .0) ⌝ }
     ensures { λ _. ⌜ BundleLoaded in_a given (now (s .entry)) (now (kinds .entry)) (now (lines .entry)) (n .0) (now (kinds .exit)) (now (lines .exit)) ⌝ }
 {

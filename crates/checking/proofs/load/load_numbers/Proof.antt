@@ -2,7 +2,7 @@
 use mathlib.Core.Path.{sym, subst}
 use Prim.Native.Nat.{_-_}
 use native.Mathlib.Omega.{arith}
-use mir.Syntax.{w16, w64}
+use mir.Syntax.{w16, w32}
 use mir.Val.{SFits}
 use mir.ValLaws.{toZ-ofZ}
 use mir.Facts.{sfits-widen}
@@ -31,7 +31,7 @@ short-at-requires c κs = omega arith
 cast-lines : tie.Need-cast-lines Inv-loop μ-loop
 cast-lines c =
     let f : SFits w16 (c .short-at .result) = record { sfits = c .short-at .ok } in
-    subst (SFits w64) (sym (toZ-ofZ w16 (c .short-at .result) f)) (sfits-widen {w = w16} tt f)
+    subst (SFits w32) (sym (toZ-ofZ w16 (c .short-at .result) f)) (sfits-widen {w = w16} tt f)
 
 add-t12 : tie.Need-add-t12 Inv-loop μ-loop
 add-t12 c = omega arith
@@ -51,7 +51,7 @@ loop-less c = omega arith
 loop-again : tie.Need-loop-again Inv-loop μ-loop
 loop-again c =
     let f : SFits w16 (c .short-at .result) = record { sfits = c .short-at .ok } in
-    rw (toZ-ofZ w16 (c .short-at .result) f, toZ-ofZ w64 (c .short-at .result) (sfits-widen {w = w16} tt f))
+    rw (toZ-ofZ w16 (c .short-at .result) f, toZ-ofZ w32 (c .short-at .result) (sfits-widen {w = w16} tt f))
     (turn-next (c .before .before .before .before .pre) (c .before .before .loop .inv) (c .before .loop-test .taken) (c .short-at .ensures) f)
 
 same-length : tie.Need-same-length Inv-loop μ-loop
