@@ -52,11 +52,12 @@ times f l = map (λ (c : ℤ). f *ℤ c) l
 unfoldable pub mixed : (f : ℤ) (a : ℕ) (g : ℤ) (b w : ℕ) → List ℤ → List ℤ
 mixed f a g b w buf = sums (times f (part a w buf)) (times g (part b w buf))
 
--- What forming these sums leaves: r says whether all of them are within the range, and then buf′ is buf with them in place of the w numbers at d; what is before d stays. A record, so that the places are inferred from it.
+-- What forming these sums leaves: r says whether all of them are within the range, and then buf′ is buf with them in place of the w numbers at d; what is before d stays, and the length. A record, so that the places are inferred from it.
 pub record Mixes (buf : List ℤ) (f : ℤ) (a : ℕ) (g : ℤ) (b d w : ℕ) (buf′ : List ℤ) (r : Bool) : Type 0 where
   pub fits : r ≡ every (small (edition1 .range)) (mixed f a g b w buf)
   pub is : r ≡ true → buf′ ≡ paste buf d (mixed f a g b w buf) w
   pub keeps : Agree d buf buf′
+  pub long : length buf′ ≡ length buf
 
 -- The buffer with f times line i and g times line j, summed, as line n.
 unfoldable pub mixedLine : (K : ℕ) (f : ℤ) (i : ℕ) (g : ℤ) (j n : ℕ) → List ℤ → List ℤ

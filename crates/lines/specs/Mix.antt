@@ -112,7 +112,7 @@ module _ (f : ℤ) (a : ℕ) (g : ℤ) (b : ℕ) (buf : List ℤ) (d w v : ℕ) 
       ∙ ap (λ (x : Bool). x && every p two) (sym e)
 
   mixes-fails : {buf′ : List ℤ} → Mixes buf f a g b d w buf′ false → Mixes buf f a g b d (w + v) buf′ false
-  mixes-fails x = record { fits = sym (mixed-fits (x .fits)); is = λ e. absurd (subst T (sym e) tt); keeps = x .keeps }
+  mixes-fails x = record { fits = sym (mixed-fits (x .fits)); is = λ e. absurd (subst T (sym e) tt); keeps = x .keeps; long = x .long }
 
   mixes-on : {buf′ buf″ : List ℤ} {r : Bool} → Mixes buf f a g b d w buf′ true → Mixes buf′ f (a + w) g (b + w) (d + w) v buf″ r → Mixes buf f a g b d (w + v) buf″ r
   unfolding mixed
@@ -125,6 +125,7 @@ module _ (f : ℤ) (a : ℕ) (g : ℤ) (b : ℕ) (buf : List ℤ) (d w v : ℕ) 
             ∙ ap₂ (λ (l m : List ℤ). paste l (d + w) m v) (x .is refl) again
             ∙ paste-paste buf d (mixed f a g b w buf) w (mixed f (a + w) g (b + w) v buf) v (mixed f a g b (w + v) buf) (omega arith) (omega (arith, length-mixed f a g b w buf (omega arith) (omega arith))) mixed-append;
         keeps = agree-trans same (agree-le (omega arith) (y .keeps));
+        long = y .long ∙ x .long;
       }
 
 -- The form's sums first and then the partial interpolant's, each from and to its own place, make the line; where one of the form's is out of range, one of the line's is.

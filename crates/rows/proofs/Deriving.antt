@@ -55,7 +55,7 @@ module _ {K : ℕ} {kinds : List ℕ} {buf : List ℤ} (t : Tally) (f : ℤ) (i 
 
   -- What `mix_line` left; the kind is stored where the line is made.
   module _ (terms : Terms (t .lines .0) f i g j kind) (space : t .lines .0 < 128) {buf′ : List ℤ} {b : Bool}
-      (mixes : Mixes buf f (i * size K) g (j * size K) (t .lines .0 * size K) (size K) buf′ b) (same : length buf′ ≡ length buf) where
+      (mixes : Mixes buf f (i * size K) g (j * size K) (t .lines .0 * size K) (size K) buf′ b) where
     sum-is : {kinds′ : List ℕ} → kinds′ ≡ set kinds (t .lines .0) kind → lineIn K kinds′ (mixedLine K f i g j (t .lines .0) buf) (t .lines .0) ≡ sumOf K kinds buf f i g j kind
     sum-is {kinds′} sets =
         mixed-line K f i g j (t .lines .0) buf (ready .branch .room) (terms .first) (terms .second) kinds kinds′ (lineIn K kinds buf i) (lineIn K kinds buf j) refl refl
@@ -70,7 +70,7 @@ module _ {K : ℕ} {kinds : List ℕ} {buf : List ℤ} (t : Tally) (f : ℤ) (i 
     pub append-range : b ≡ false → Appended K kinds buf t f i g j kind kinds buf′ (Refused 13)
     unfolding fitting _>>_ need
     append-range e = record {
-      kept = record { lines-same = agree-sym (mixes .keeps); kinds-same = agree-refl; lines-length = same; kinds-length = refl };
+      kept = record { lines-same = agree-sym (mixes .keeps); kinds-same = agree-refl; lines-length = mixes .long; kinds-length = refl };
       by = λ at. rw (length-lines K kinds buf (t .lines .0), lt-ltb (t .lines .0) 128 space, range, e);
     }
 
@@ -82,7 +82,7 @@ module _ {K : ℕ} {kinds : List ℕ} {buf : List ℤ} (t : Tally) (f : ℤ) (i 
           kept = record {
             lines-same = agree-sym (mixes .keeps);
             kinds-same = rw sets (agree-sym (agree-set (t .lines .0) kinds (t .lines .0) kind (omega arith)));
-            lines-length = same;
+            lines-length = mixes .long;
             kinds-length = rw sets (length-set kinds (t .lines .0) kind);
           };
           by = (
@@ -90,7 +90,7 @@ module _ {K : ℕ} {kinds : List ℕ} {buf : List ℤ} (t : Tally) (f : ℤ) (i 
             record {
               last = new;
               limited = record {
-                bounded = rw add-one (bounded-more K buf′ (t .lines .0) (omega (arith, ready .branch .room)) kinds′ (bounded-same (mixes .keeps) (ready .branch .bounded)) (subst T (sym (ap (inRange (edition1 .range)) new ∙ range ∙ e)) tt));
+                bounded = rw add-one (bounded-more K buf′ (t .lines .0) (omega (arith, ready .branch .room, mixes .long)) kinds′ (bounded-same (mixes .keeps) (ready .branch .bounded)) (subst T (sym (ap (inRange (edition1 .range)) new ∙ range ∙ e)) tt));
                 most = omega arith;
               };
               tally = u;

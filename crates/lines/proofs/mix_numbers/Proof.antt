@@ -106,6 +106,7 @@ module _ {l : List ℤ} {a b d w : ℕ} {f g : ℤ} (t : Terms l f a g b d w) wh
           fits = passed-fails (omega (arith, sums-length)) (v .passed) h from-first tested k ∙ ap (every (small (edition1 .range))) (take-all w (mixed f a g b w l) (omega (arith, sums-length)));
           is = λ e. absurd (subst T (sym e) tt);
           keeps = keeps;
+          long = len;
         }
 
         module _ (k : not r ≡ false) where
@@ -129,6 +130,7 @@ module _ {l : List ℤ} {a b d w : ℕ} {f g : ℤ} (t : Terms l f a g b d w) wh
           fits = passed-all (omega (arith, sums-length)) (v .passed) h ∙ ap (every (small (edition1 .range))) (take-all w (mixed f a g b w l) (omega (arith, sums-length)));
           is = λ _. rw e at (v .filled .is);
           keeps = keeps;
+          long = len;
         }
 
 -- What the source asks, of the factors' bits.

@@ -33,7 +33,7 @@ returns c =
     let fg = s .fits .g in
     let h = counted-line (c .before .before .before .before .before .before .before .before .before .before .before .line-counted .ensures) (c .before .before .before .before .before .before .before .before .if1 .taken) in
     let m = simp toZ-ofZ at (c .before .before .before .before .before .before .mix-line .ensures) in
-    append-made _ _ _ _ _ _ (s .pre .0) (s .pre .1) (h .0) m (omega arith) (c .before .before .before .before .if2 .taken) (c .before .before .set-kind .ensures) (h .1)
+    append-made _ _ _ _ _ _ (s .pre .0) (s .pre .1) (h .0) m (c .before .before .before .before .if2 .taken) (c .before .before .set-kind .ensures) (h .1)
 
 same-length-3 : tie.Need-same-length-3
 same-length-3 c = search needs
@@ -45,7 +45,7 @@ returns-2 c =
     let fg = s .fits .g in
     let h = counted-line (c .before .before .before .before .before .before .before .line-counted .ensures) (c .before .before .before .before .if1 .taken) in
     let m = simp toZ-ofZ at (c .before .before .mix-line .ensures) in
-    append-range _ _ _ _ _ _ (s .pre .0) (s .pre .1) (h .0) m (omega arith) (c .if2 .left)
+    append-range _ _ _ _ _ _ (s .pre .0) (s .pre .1) (h .0) m (c .if2 .left)
 
 returns-3 : tie.Need-returns-3
 returns-3 c = append-full _ _ _ _ _ _ (c .before .before .before .before .before .pre .0) (full-line _ (c .before .before .before .line-counted .ensures) (c .if1 .left))
