@@ -7,6 +7,7 @@ pub mod RoundTrips
 pub mod Scanning
 pub mod Storing
 pub mod Reading
+pub mod Pairs
 pub mod Putting
 pub mod Writing
 pub mod Showing

@@ -48,24 +48,24 @@ shaped file given fs = weaken (bundle-gives file given fs) λ b l. record { low 
 
 -- ---- each way through `read`
 -- what `scan` tells of an accepted bundle
-pub record Taken (R : Result Bundle) (r : Scanned) : Type 0 where
+pub record Taken (R : Result Bundle) (start : ℕ) (r : Scanned) : Type 0 where
   pub bundle : Bundle
   pub is : R ≡ accepted bundle
   pub shape : Shaped bundle
-  pub scan-is : r ≡ record { answer = acceptance; k = bundle .K; count = length (bundle .constraints) }
+  pub scan-is : r ≡ record { answer = acceptance; k = bundle .K; count = length (bundle .constraints); start = start }
 
-module _ {R : Result Bundle} {r : Scanned} (g : Gives R Shaped) (e : r ≡ scanned R) where
-  pub taken : r .answer .number ≡ 0 → Taken R r
+module _ {R : Result Bundle} {r : Scanned} (start : ℕ) (g : Gives R Shaped) (e : r ≡ scanned start R) where
+  pub taken : r .answer .number ≡ 0 → Taken R start r
   taken z = go R g e
     where
-      go : (R : Result Bundle) → Gives R Shaped → r ≡ scanned R → Taken R r
+      go : (R : Result Bundle) → Gives R Shaped → r ≡ scanned start R → Taken R start r
       go (refused a) g e = absurd (not-0 (g .refusal a refl) (rw e at z))
       go (accepted b) g e = record { bundle = b; is = refl; shape = g .gives b refl; scan-is = e }
 
   pub not-taken : (r .answer .number ≡ 0 → ⊥) → R ≡ refused (r .answer)
   not-taken z = go R e
     where
-      go : (R : Result Bundle) → r ≡ scanned R → R ≡ refused (r .answer)
+      go : (R : Result Bundle) → r ≡ scanned start R → R ≡ refused (r .answer)
       go (refused a) e = rw e
       go (accepted b) e = absurd (z (rw e))
 
@@ -86,7 +86,7 @@ module _ (kinds : List ℕ) (numbers : List ℤ) where
   unfolding stored
   stored-refused e = rw e
 
-  module _ {R : Result Bundle} {r : Scanned} (t : Taken R r) where
+  module _ {R : Result Bundle} {start : ℕ} {r : Scanned} (t : Taken R start r) where
     kinds-size : length (kindsOf (t .bundle .constraints)) ≡ r .count
     unfolding kindsOf
     kinds-size = length-map (t .bundle .constraints) _ ∙ sym (ap (λ (x : Scanned). x .count) (t .scan-is))

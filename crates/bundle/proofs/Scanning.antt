@@ -8,19 +8,21 @@ use native.Mathlib.Omega.{arith}
 use lib.Dec.{leb, ltb, eqb}
 use lib.ListN.{length}
 use borrow.Author.Tests.{ltb-true, ltb-false, eqb-true, eqb-false, leb-true, leb-false, ne-eqb, le-leb}
-use Rattle.forms.specs.Edition.{edition1}
+use Rattle.forms.specs.Edition.{edition1, editionNumbered}
 use Rattle.forms.specs.Forms.{Kind, ≤0, =0, Form, Constraint}
 use Rattle.fields.specs.declared.FileKind.{FileKind}
 use Rattle.fields.specs.declared.header.Headed.{Headed}
 use Rattle.fields.specs.Answers.{answer, acceptance, Result, refused, accepted, _>>=_, _>>_, need, found}
 use Rattle.fields.specs.Numbers.{formFrom, formWidth}
-use Rattle.fields.specs.Fields.{Field, Fields, ends, cut, _▸_, fields}
-use Rattle.fields.specs.Header.{Header, headerTag, known}
+use Rattle.fields.specs.Fields.{Field, Fields, ends, cut, _▸_, fields, nth}
+use Rattle.fields.specs.Header.{Header, headerTag, known, headerField, header}
 use Rattle.fields.specs.Places.{fieldsAt, givenK, IsHeader}
 use Rattle.fields.proofs.Places.{Starts, starts-size, starts-less}
+use Rattle.fields.proofs.Results.{Gives, refuses, accepts, bind, test, finds}
 use Rattle.bundle.specs.Bundle.{Bundle, kindTagged, constraints, bundle}
-use Rattle.bundle.specs.Scan.{faultOf, passed, counted, stated, countedOf, scanned}
+use Rattle.bundle.specs.Scan.{faultOf, passed, counted, stated, countedOf, startOf, constraintStart, soughtOf, scanned}
 use Rattle.bundle.specs.declared.constraints.Counted.{Counted}
+use Rattle.bundle.specs.declared.constraints.Sought.{Sought}
 
 -- ---- one turn
 module _ {s : List ℕ} {at a t start len next : ℕ} (k : Starts s at a t start len next) (K n : ℕ) where
@@ -81,6 +83,59 @@ module _ {s : List ℕ} {at a t start len next : ℕ} (k : Starts s at a t start
 
 pub counted-room : (K n tag len : ℕ) {number : ℕ} → number ≡ faultOf K n tag len → number ≡ 0 → n < 32
 counted-room K n tag len f e = ltb-true n 32 (proper-of K n tag len (sym f ∙ e) .room)
+
+-- ---- the constraint that is wanted
+-- Of all the fields n are gone over and fs are left; the place kept is that of field `wanted`, 0 as long as it is not gone over.
+pub record Seeking (all : Fields) (wanted n found : ℕ) (fs : Fields) : Type 0 where
+  pub ahead : n ≤ wanted → nth wanted all ≡ nth (wanted - n) fs
+  pub none-yet : n ≤ wanted → found ≡ 0
+  pub behind : wanted < n → found ≡ startOf (nth wanted all)
+
+pub seeking-start : (all : Fields) (wanted : ℕ) → Seeking all wanted 0 0 all
+seeking-start all wanted = record {
+  ahead = λ h. let z : wanted - 0 ≡ wanted = omega arith in rw z;
+  none-yet = λ h. refl;
+  behind = λ h. absurd (omega arith);
+}
+
+module _ {s : List ℕ} {at a t start len next : ℕ} (k : Starts s at a t start len next) {all : Fields} {wanted n found : ℕ} (g : Seeking all wanted n found (fieldsAt s at)) where
+  wanted-here : n ≡ wanted → startOf (nth wanted all) ≡ a
+  unfolding nth
+  wanted-here w = let z : wanted - n ≡ 0 = omega arith in rw (g .ahead (omega arith), k .is, z)
+
+  wanted-later : n + 1 ≤ wanted → nth wanted all ≡ nth (wanted - (n + 1)) (fieldsAt s next)
+  unfolding nth
+  wanted-later h = let z : wanted - n ≡ suc (wanted - (n + 1)) = omega arith in rw (g .ahead (omega arith), k .is, z)
+
+  pub seeking-next : {place x : ℕ} → place ≡ cond (eqb n wanted) a found → next ≡ x → Seeking all wanted (n + 1) place (fieldsAt s x)
+  seeking-next {place} e w = rw (← w) (go (eqb n wanted) refl e)
+    where
+      go : (p : Bool) → eqb n wanted ≡ p → place ≡ cond p a found → Seeking all wanted (n + 1) place (fieldsAt s next)
+      go true q e =
+          let w = eqb-true n wanted q in
+          record { ahead = λ h. absurd (omega arith); none-yet = λ h. absurd (omega arith); behind = λ h. e ∙ sym (wanted-here w) }
+      go false q e =
+          let w = eqb-false n wanted q in
+          record { ahead = wanted-later; none-yet = λ h. e ∙ g .none-yet (omega arith); behind = λ h. e ∙ g .behind (omega arith) }
+
+pub seeking-end : (K : ℕ) {all : Fields} {wanted n found : ℕ} {fs : Fields} {a : ℕ} → counted K 0 all ≡ counted K n fs → Seeking all wanted n found fs → fs ≡ ends a
+    → Sought.Count n found ≡ soughtOf (startOf (nth wanted all)) (counted K 0 all)
+unfolding nth
+seeking-end K {all} {wanted} {n} {found} c g e = rw (c, counted-ends K n e) (ap (Sought.Count n) (go (ltb wanted n) refl))
+  where
+    go : (p : Bool) → ltb wanted n ≡ p → found ≡ startOf (nth wanted all)
+    go true q = g .behind (ltb-true wanted n q)
+    go false q = let h = ltb-false wanted n q in g .none-yet h ∙ rw (g .ahead h, e)
+
+-- what is answered with the place is the count or the fault without it
+module _ (start : ℕ) where
+  pub sought-count : (c : Counted) {q : Sought} {n found : ℕ} → q ≡ soughtOf start c → q ≡ Sought.Count n found → (c ≡ Counted.Count n) × (found ≡ start)
+  sought-count (Counted.Count m) {n = n} {found = found} e f = (ap Counted.Count (let z : m ≡ n = cc in z), let z : found ≡ start = cc in z)
+  sought-count (Counted.Refused x a) e f = absurd (let z : _≡_ {A = ℕ} 0 1 = cc in omega arith)
+
+  pub sought-refused : (c : Counted) {q : Sought} {n a : ℕ} → q ≡ soughtOf start c → q ≡ Sought.Refused n a → c ≡ Counted.Refused n a
+  sought-refused (Counted.Count m) e f = absurd (let z : _≡_ {A = ℕ} 0 1 = cc in omega arith)
+  sought-refused (Counted.Refused x y) {n = n} {a = a} e f = let z : x ≡ n = cc in let w : y ≡ a = cc in rw (z, w)
 
 -- ---- the definitions
 -- a constraint's tag is 0x03 or 0x04
@@ -164,6 +219,18 @@ count-is K n m (cut at) e = absurd (let z : _≡_ {A = ℕ} 0 1 = cc in omega ar
 count-is K n m (f ▸ fs) e = omega (arith, count-is K (suc n) m fs (passed-both (faultOf K n (f .tag) (length (f .contents))) (f .at) m (counted K (suc n) fs) e .1))
 
 -- ---- a whole bundle
+-- the fields after a header field, and after the header
+field-rest : (kind : FileKind) (file tag : ℕ) (fs : Fields) → Gives (headerField kind file tag fs) (λ x. (i : ℕ) → nth (suc i) fs ≡ nth i (x .2))
+unfolding headerField nth
+field-rest kind file tag (ends at) = refuses _ tt
+field-rest kind file tag (cut at) = refuses _ tt
+field-rest kind file tag (f ▸ fs) = test _ _ tt λ _. test _ _ tt λ _. test _ _ tt λ _. accepts (λ i. refl)
+
+header-rest : (kind : FileKind) (file : ℕ) (given : Option ℕ) (fs : Fields) → Gives (header kind file given fs) (λ h. (i : ℕ) → nth (i + 2) fs ≡ nth i (h .rest))
+unfolding header
+header-rest kind file given fs = bind (field-rest kind file 0x01 fs) λ (at, n, fs1) h1. bind (finds _ (editionNumbered n) tt) λ e q. bind (field-rest kind file 0x02 fs1) λ (at2, K, fs2) h2.
+    test _ _ tt λ _. test _ _ tt λ _. accepts (λ i. let z : i + 2 ≡ suc (suc i) = omega arith in rw z (h1 (suc i) ∙ h2 i))
+
 module _ {given : ℕ} {s : List ℕ} {r : Headed} (h : IsHeader FileKind.Bundle given s r) where
   pub scan-header : (file : ℕ) {n a : ℕ} → r ≡ Headed.Refused n a → bundle file (givenK given) (fields s) ≡ refused (answer n file a)
   unfolding bundle _>>=_
@@ -179,8 +246,23 @@ module _ {given : ℕ} {s : List ℕ} {r : Headed} (h : IsHeader FileKind.Bundle
     unfolding bundle _>>=_
     scan-bundle t = rw (h .is file, e, constraints-counted file k 0 (fieldsAt s next), ← c, t)
 
-    pub scan-count : {n : ℕ} → q ≡ Counted.Count n
-        → scanned (bundle file (givenK given) (fields s)) ≡ record { answer = acceptance; k = k; count = n }
-    scan-count {n} t =
+    pub scan-count : (start : ℕ) {n : ℕ} → q ≡ Counted.Count n
+        → scanned start (bundle file (givenK given) (fields s)) ≡ record { answer = acceptance; k = k; count = n; start = start }
+    scan-count start {n} t =
         let m : length (stated k (fieldsAt s next)) ≡ n = omega (arith, count-is k 0 n (fieldsAt s next) (sym c ∙ t)) in
-        ap scanned (scan-bundle t) ∙ rw m
+        ap (scanned start) (scan-bundle t) ∙ rw m
+
+  module _ {k next : ℕ} (e : r ≡ Headed.Header k next) (file wanted : ℕ) {q : Sought} (c : q ≡ soughtOf (startOf (nth wanted (fieldsAt s next))) (counted k 0 (fieldsAt s next))) where
+    pub seek-fault : {n a : ℕ} → q ≡ Sought.Refused n a → bundle file (givenK given) (fields s) ≡ refused (answer n file a)
+    seek-fault t = scan-fault e file refl (sought-refused _ _ c t)
+
+    start-is : startOf (nth wanted (fieldsAt s next)) ≡ constraintStart s wanted
+    start-is =
+        let d : header FileKind.Bundle file (givenK given) (fields s) ≡ accepted (record { edition = edition1; K = k; rest = fieldsAt s next }) = h .is file ∙ rw e in
+        sym (ap startOf (header-rest FileKind.Bundle file (givenK given) (fields s) .gives _ d wanted))
+
+    pub seek-count : {n found : ℕ} → q ≡ Sought.Count n found
+        → scanned (constraintStart s wanted) (bundle file (givenK given) (fields s)) ≡ record { answer = acceptance; k = k; count = n; start = found }
+    seek-count t =
+        let u = sought-count _ _ c t in
+        scan-count e file refl (constraintStart s wanted) (u .0) ∙ rw (u .1, start-is)

@@ -1,104 +1,115 @@
--- Showing a constraint: each way through the code as a law over plain values. Assumes nothing.
-use mathlib.Core.Path.{_≡_, refl, ap, _∙_}
+-- Showing a constraint: where its field stands, and each way through the code as a law over plain values. Assumes nothing.
+use mathlib.Core.Path.{_≡_, refl, sym, ap, _∙_}
 use mathlib.Core.Option.{Option, none, some}
 use mathlib.Core.Bool.{Bool, true, false, cond}
 use mathlib.Core.List.{List}
-use Prim.Native.Nat.{ℕ, zero, suc, _+_, _-_, _≤_, _<_}
-use native.Mathlib.Numerals.{sub-one}
+use Prim.Native.Nat.{ℕ, zero, suc, _+_, _-_, _*_, _≤_, _<_}
 use native.Mathlib.Omega.{arith}
 use lib.Dec.{leb, ltb, eqb}
 use lib.ListN.{length}
-use borrow.Author.Tests.{le-leb, lt-leb, lt-ltb, le-ltb, eq-eqb, ne-eqb}
+use borrow.Author.Tests.{lt-ltb, le-ltb, eq-eqb, ne-eqb}
+use Rattle.forms.specs.Edition.{edition1}
+use Rattle.forms.specs.Forms.{Constraint}
 use Rattle.fields.specs.declared.Answer.{Answer}
-use Rattle.fields.specs.Answers.{answer, acceptance, fileA, fileB, Result, refused, accepted, _>>=_, _>>_, need, found}
-use Rattle.fields.specs.Fields.{Field, ends, cut, fields, nth}
-use Rattle.fields.specs.Places.{fieldsAt, givenK}
-use Rattle.fields.proofs.Headers.{given-some}
-use Rattle.fields.proofs.Places.{Starts, starts-size}
-use Rattle.fields.proofs.Results.{Gives, weaken, seq, not-0}
-use Rattle.bundle.specs.Bundle.{Bundle, atMost, bundle, bundles}
+use Rattle.fields.specs.Answers.{answer, acceptance, fileA, fileB, accepted, _>>=_, _>>_, need, found}
+use Rattle.fields.specs.Fields.{Field, Fields, ends, cut, _▸_, Item, fields, nth}
+use Rattle.fields.specs.Places.{fieldsAt}
+use Rattle.fields.proofs.HeaderLaid.{First, first-of}
+use Rattle.fields.proofs.Places.{Starts, starts, fields-whole-file}
+use Rattle.bundle.specs.Bundle.{Bundle, atMost, bundles}
+use Rattle.bundle.specs.Layout.{States}
+use Rattle.bundle.specs.Scan.{constraintStart, bothBundles, pairOf}
 use Rattle.bundle.specs.Show.{Part, partOf, constraintPart, shownPart, answerOf, showAnswer, handed, showPart}
-use Rattle.bundle.specs.Locate.{placeOf, Inside, IsPlace, bothBundles, pairOf, partAt, locatedOf, LiesIn, IsLocated}
+use Rattle.bundle.specs.Locate.{IsLocated}
 use Rattle.bundle.specs.Promises.{ofFile}
-use Rattle.bundle.specs.declared.Scanned.{Scanned}
-use Rattle.bundle.specs.declared.locate.Place.{Place}
+use Rattle.bundle.specs.declared.Pair.{Pair}
 use Rattle.bundle.specs.declared.locate.Located.{Located}
-use Rattle.bundle.specs.declared.locate.Pair.{Pair}
-use Rattle.bundle.proofs.Laid.{short-gives, bundles-give}
-use Rattle.bundle.proofs.Reading.{Taken}
+use Rattle.bundle.proofs.Laid.{Lists, done, next, listed, Laid}
+use Rattle.bundle.proofs.Pairs.{Paired, unpaired, same-k}
 
--- ---- the i-th field
-module _ {s : List ℕ} {here a t start len next : ℕ} (k : Starts s here a t start len next) where
-  pub nth-here : (i left : ℕ) → nth i (fields s) ≡ nth left (fieldsAt s here) → left ≡ 0 → IsPlace s i (Place.At a (3 + len))
+-- ---- a field lies in its file
+first-starts : (s : List ℕ) (at : ℕ) (f : Field) (fs : Fields) → fieldsAt s at ≡ f ▸ fs
+    → Starts s at (f .at) (f .tag) (f .at + 3) (length (f .contents)) (f .at + 3 + length (f .contents))
+first-starts s at f fs q = starts refl (rw q)
+
+inside-at : (s : List ℕ) (i at : ℕ) (f : Field) → nth i (fieldsAt s at) ≡ some f → f .at + (3 + length (f .contents)) ≤ length s
+unfolding nth
+inside-at s zero at f e = go (fieldsAt s at) refl e
+  where
+    go : (fs : Fields) → fieldsAt s at ≡ fs → nth 0 fs ≡ some f → f .at + (3 + length (f .contents)) ≤ length s
+    go (ends a) q e = absurd (let z : _≡_ {A = ℕ} 0 1 = cc in omega arith)
+    go (cut a) q e = absurd (let z : _≡_ {A = ℕ} 0 1 = cc in omega arith)
+    go (g ▸ fs) q e =
+        let z : g ≡ f = cc in
+        let k = first-starts s at g fs q in
+        rw (← z) (omega (arith, k .upto))
+inside-at s (suc i) at f e = go (λ n q. inside-at s i n f q) (fieldsAt s at) refl e
+  where
+    go : ((n : ℕ) → nth i (fieldsAt s n) ≡ some f → f .at + (3 + length (f .contents)) ≤ length s)
+        → (fs : Fields) → fieldsAt s at ≡ fs → nth (suc i) fs ≡ some f → f .at + (3 + length (f .contents)) ≤ length s
+    go rec (ends a) q e = absurd (let z : _≡_ {A = ℕ} 0 1 = cc in omega arith)
+    go rec (cut a) q e = absurd (let z : _≡_ {A = ℕ} 0 1 = cc in omega arith)
+    go rec (g ▸ fs) q e =
+        let k = first-starts s at g fs q in
+        let p = sym q ∙ k .is in
+        let z : fs ≡ fieldsAt s (g .at + 3 + length (g .contents)) = cc in
+        rec (g .at + 3 + length (g .contents)) (rw z at e)
+
+-- ---- the field of a constraint
+-- The i-th field is there, and has the size of a constraint with K constants.
+record Stands (fs : Fields) (i K : ℕ) : Type 0 where
+  field : Field
+  is : nth i fs ≡ some field
+  size : length (field .contents) ≡ (K + 1) * 2
+
+module _ {K : ℕ} where
+  stands-in : {fs : Fields} {cs : List Constraint} → Lists (States edition1 K) fs cs → (i : ℕ) → i < length cs → Stands fs i K
   unfolding nth
-  nth-here i left e z = record {
-    is = rw (e, z, k .is, starts-size k);
-    inside = omega (arith, k .upto, k .next-is, k .start-is);
-  }
+  stands-in (done at) i h = absurd (omega arith)
+  stands-in (next f s l) zero h = record { field = f; is = refl; size = s .size ∙ omega arith }
+  stands-in (next f s l) (suc i) h = let t = stands-in l i (omega arith) in record { field = t .field; is = t .is; size = t .size }
 
-  pub nth-next : (i left : ℕ) → nth i (fields s) ≡ nth left (fieldsAt s here) → (left ≡ 0 → ⊥) → nth i (fields s) ≡ nth (left - 1) (fieldsAt s next)
+  gone-in : {fs : Fields} {cs : List Constraint} → Lists (States edition1 K) fs cs → (i : ℕ) → length cs ≤ i → nth i fs ≡ none
   unfolding nth
-  nth-next i zero e z = absurd (z refl)
-  nth-next i (suc left) e z = e ∙ rw (k .is, sub-one)
+  gone-in (done at) i h = refl
+  gone-in (next f s l) zero h = absurd (omega arith)
+  gone-in (next f s l) (suc i) h = gone-in l i (omega arith)
 
-module _ (s : List ℕ) (i left here : ℕ) {a : ℕ} (e : nth i (fields s) ≡ nth left (fieldsAt s here)) where
-  pub nth-cut : fieldsAt s here ≡ cut a → IsPlace s i Place.Nothing
-  unfolding nth
-  nth-cut c = record { is = rw (e, c); inside = tt }
+-- a bundle's constraints stand behind two other fields
+record Behind (fs : Fields) (b : Bundle) : Type 0 where
+  rest : Fields
+  nth-is : (i : ℕ) → nth (i + 2) fs ≡ nth i rest
+  lists : Lists (States edition1 (b .K)) rest (b .constraints)
 
-  pub nth-ends : fieldsAt s here ≡ ends a → IsPlace s i Place.Nothing
-  unfolding nth
-  nth-ends c = record { is = rw (e, c); inside = tt }
+two-behind : {fs : Fields} {i j : Item} {is js : List Item} (f : First fs i is) (g : First (f .after) j js) (n : ℕ) → nth (n + 2) fs ≡ nth n (g .after)
+unfolding nth
+two-behind f g n = let z : n + 2 ≡ suc (suc n) = omega arith in rw (z, f .are, g .are)
 
--- ---- both bundles
-module _ (A B : List ℕ) where
-  pub long-A : 4096 < length A → bothBundles A B ≡ refused (answer 1 1 0)
-  unfolding bothBundles atMost need _>>_
-  long-A h = rw (lt-leb (length A) 4096 h)
+module _ {given : Option ℕ} {fs : Fields} {b : Bundle} (l : Laid given fs b) where
+  behind : Behind fs b
+  behind =
+      let f = first-of fs _ _ (l .whole ∙ ap some (l .laid .are)) in
+      let g = first-of (f .after) _ _ (f .rest) in
+      record { rest = g .after; nth-is = two-behind f g; lists = listed (g .after) (g .rest) (l .laid .states) }
 
-  module _ (a : length A ≤ 4096) where
-    pub long-B : 4096 < length B → bothBundles A B ≡ refused (answer 1 2 0)
-    unfolding bothBundles atMost need _>>_
-    long-B h = rw (le-leb (length A) 4096 a, lt-leb (length B) 4096 h)
+  stands : (i : ℕ) → i < length (b .constraints) → Stands fs (i + 2) (b .K)
+  stands i h =
+      let t = stands-in (behind .lists) i h in
+      record { field = t .field; is = behind .nth-is i ∙ t .is; size = t .size }
 
-    module _ (b : length B ≤ 4096) where
-      short : bothBundles A B ≡ bundles A B
-      unfolding bothBundles atMost need _>>_
-      short = rw (le-leb (length A) 4096 a, le-leb (length B) 4096 b)
+  gone : (i : ℕ) → length (b .constraints) ≤ i → nth (i + 2) fs ≡ none
+  gone i h = behind .nth-is i ∙ gone-in (behind .lists) i h
 
-      pub refused-A : {x : Answer} → bundle fileA none (fields A) ≡ refused x → bothBundles A B ≡ refused x
-      unfolding bundles _>>=_
-      refused-A e = short ∙ rw e
+module _ (s : List ℕ) (i : ℕ) {K : ℕ} (t : Stands (fields s) (i + 2) K) where
+  found-part : (file : ℕ) → found (answer 10 fileA 0) (partOf file (nth (i + 2) (fields s))) ≡ accepted (record { file = file; start = constraintStart s i; size = 3 + (K + 1) * 2 })
+  unfolding found partOf
+  found-part file = rw (t .is, t .size)
 
-      module _ {r : Scanned} (t : Taken (bundle fileA none (fields A)) r) where
-        -- K is not 0, so it is given
-        given-is : givenK (r .k) ≡ some (t .bundle .K)
-        given-is = ap (λ (x : Scanned). givenK (x .k)) (t .scan-is) ∙ given-some (t .bundle .K) (t .shape .low)
+  lies : constraintStart s i + (3 + (K + 1) * 2) ≤ length s
+  lies = rw (t .is, ← t .size) (inside-at s (i + 2) 0 (t .field) (ap (nth (i + 2)) (sym (fields-whole-file s)) ∙ t .is))
 
-        pub refused-B : {x : Answer} → bundle fileB (givenK (r .k)) (fields B) ≡ refused x → bothBundles A B ≡ refused x
-        unfolding bundles _>>=_
-        refused-B e = short ∙ rw (t .is, ← given-is, e)
-
-        pub accepted-both : {q : Scanned} → Taken (bundle fileB (givenK (r .k)) (fields B)) q
-            → pairOf (bothBundles A B) ≡ record { answer = r .answer; count = r .count }
-        unfolding bundles _>>=_
-        accepted-both u = rw (short, t .is, ← given-is, u .is, t .scan-is)
-
-  both-give : Gives (bothBundles A B) (λ (p : Bundle × Bundle). Unit {0})
-  unfolding bothBundles
-  both-give = seq (short-gives _ fileA A) λ _. seq (short-gives _ fileB B) λ _. weaken (bundles-give A B) λ _ _. tt
-
--- ---- the part
-found-part : (file : ℕ) (o : Option Field) → found (answer 10 fileA 0) (partOf file o) ≡ locatedOf (partAt file (placeOf o))
-unfolding found partOf
-found-part file none = refl
-found-part file (some f) = refl
-
+-- ---- each way through `locate`
 module _ (A B : List ℕ) (i : ℕ) where
-  lies : (file : ℕ) (q : Place) → Inside (ofFile file A B) q → LiesIn A B (partAt file q)
-  lies file Place.Nothing h = tt
-  lies file (Place.At start size) h = h
-
   of-A : (count : ℕ) → ltb i count ≡ true → constraintPart A B count i ≡ partOf fileA (nth (i + 2) (fields A))
   unfolding constraintPart
   of-A count h = go (ltb i count) h
@@ -125,37 +136,45 @@ module _ (A B : List ℕ) (i : ℕ) where
       go true false = refl
       go true true = refl
 
-  module _ {r : Pair} (e : r ≡ pairOf (bothBundles A B)) where
-    pub located-refused : (r .answer .number ≡ 0 → ⊥) → IsLocated A B i (Located.Refused (r .answer))
-    unfolding _>>=_
-    located-refused z = record { is = after-both ∙ go (bothBundles A B) e; inside = tt }
-      where
-        go : (R : Result (Bundle × Bundle)) → r ≡ pairOf R
-            → (R >>= (λ (p : Bundle × Bundle). found (answer 10 fileA 0) (constraintPart A B (length (p .0 .constraints)) i))) ≡ refused (r .answer)
-        go (refused a) e = rw e
-        go (accepted b) e = absurd (z (rw e))
+  pub located-refused : {r : Pair} → r ≡ pairOf A B i (bothBundles A B) → (r .answer .number ≡ 0 → ⊥) → IsLocated A B i (Located.Refused (r .answer))
+  unfolding _>>=_
+  located-refused e z = record { is = after-both ∙ rw (unpaired A B i e z); inside = tt }
 
-    module _ (z : r .answer .number ≡ 0) where
-      located : shownPart A B i ≡ found (answer 10 fileA 0) (constraintPart A B (r .count) i)
-      unfolding _>>=_
-      located = after-both ∙ go (bothBundles A B) (both-give A B) e
-        where
-          go : (R : Result (Bundle × Bundle)) → Gives R (λ (p : Bundle × Bundle). Unit {0}) → r ≡ pairOf R
-              → (R >>= (λ (p : Bundle × Bundle). found (answer 10 fileA 0) (constraintPart A B (length (p .0 .constraints)) i))) ≡ found (answer 10 fileA 0) (constraintPart A B (r .count) i)
-          go (refused a) g e = absurd (not-0 (g .refusal a refl) (rw e at z))
-          go (accepted b) g e = rw e
+module _ {A B : List ℕ} {i : ℕ} {r : Pair} (t : Paired A B i r) where
+  shown : shownPart A B i ≡ found (answer 10 fileA 0) (constraintPart A B (length (t .a .constraints)) i)
+  unfolding _>>=_
+  shown = after-both A B i ∙ rw (t .is)
 
-      pub located-A : {q : Place} {p : Located} → i < r .count → IsPlace A (i + 2) q → p ≡ partAt 1 q → IsLocated A B i p
-      located-A {q} h k e = record {
-        is = located ∙ ap (found (answer 10 fileA 0)) (of-A (r .count) (lt-ltb i (r .count) h)) ∙ found-part fileA (nth (i + 2) (fields A)) ∙ rw (e, k .is);
-        inside = rw e (lies 1 q (k .inside));
+  m-is : r .m ≡ length (t .a .constraints)
+  m-is = ap (λ (x : Pair). x .m) (t .pair-is)
+
+  n-is : r .n ≡ length (t .b .constraints)
+  n-is = ap (λ (x : Pair). x .n) (t .pair-is)
+
+  pub located-A : i < r .m → IsLocated A B i (Located.Part 1 (r .first) (3 + (r .k + 1) * 2))
+  located-A h =
+      let l : i < length (t .a .constraints) = omega (arith, m-is) in
+      let p = stands (t .laid .laidA) i l in
+      record {
+        is = shown ∙ ap (found (answer 10 fileA 0)) (of-A A B i (length (t .a .constraints)) (lt-ltb i _ l)) ∙ found-part A i p fileA ∙ rw (t .pair-is);
+        inside = rw (t .pair-is) (lies A i p);
       }
 
-      pub located-B : {q : Place} {p : Located} → r .count ≤ i → IsPlace B (i - r .count + 2) q → p ≡ partAt 2 q → IsLocated A B i p
-      located-B {q} h k e = record {
-        is = located ∙ ap (found (answer 10 fileA 0)) (of-B (r .count) (le-ltb i (r .count) h)) ∙ found-part fileB (nth (i - r .count + 2) (fields B)) ∙ rw (e, k .is);
-        inside = rw e (lies 2 q (k .inside));
-      }
+  module _ (h : r .m ≤ i) where
+    in-B : shownPart A B i ≡ found (answer 10 fileA 0) (partOf fileB (nth (i - length (t .a .constraints) + 2) (fields B)))
+    in-B = shown ∙ ap (found (answer 10 fileA 0)) (of-B A B i (length (t .a .constraints)) (le-ltb i _ (omega (arith, m-is))))
+
+    pub located-B : i - r .m < r .n → IsLocated A B i (Located.Part 2 (r .second) (3 + (r .k + 1) * 2))
+    located-B g =
+        let p = stands (t .laid .laidB) (i - length (t .a .constraints)) (omega (arith, m-is, n-is)) in
+        record {
+          is = in-B ∙ found-part B (i - length (t .a .constraints)) p fileB ∙ rw (t .pair-is, same-k t);
+          inside = rw (t .pair-is, ← same-k t) (lies B (i - length (t .a .constraints)) p);
+        }
+
+    pub located-nowhere : r .n ≤ i - r .m → IsLocated A B i (Located.Refused (answer 10 1 0))
+    unfolding found partOf
+    located-nowhere g = record { is = in-B ∙ rw (gone (t .laid .laidB) (i - length (t .a .constraints)) (omega (arith, m-is, n-is))); inside = tt }
 
 -- ---- what is handed back
 module _ {A B : List ℕ} {i : ℕ} {r : Located} (k : IsLocated A B i r) where

@@ -5,7 +5,9 @@ mod put;
 mod store;
 
 use constraints::Counted;
+use constraints::Sought;
 use constraints::count_constraints;
+use constraints::seek_constraint;
 use fields::Answer;
 use fields::FileKind;
 use fields::WriteResult;
@@ -27,50 +29,121 @@ use put::put_constraints;
 use store::store_constraints;
 ghost use mathlib.Core.Path.{_≡_};
 ghost use mathlib.Core.Option.{none};
+ghost use Prim.Native.Nat.{_-_};
 ghost use Rattle.fields.specs.Answers.{answer, fileA};
 ghost use Rattle.fields.specs.Fields.{fields};
 ghost use Rattle.fields.specs.Places.{givenK, IsHeader};
 ghost use Rattle.fields.specs.declared.FileKind.{FileKind};
 ghost use Rattle.fields.specs.declared.header.Headed.{Headed};
 ghost use Rattle.bundle.specs.Bundle.{bundle};
-ghost use Rattle.bundle.specs.Scan.{scanned};
+ghost use Rattle.bundle.specs.Scan.{constraintStart, scanned, bothBundles, pairOf};
 ghost use Rattle.bundle.specs.Read.{stored};
 ghost use Rattle.bundle.specs.Write.{bundleBytes};
 ghost use Rattle.bundle.specs.Show.{answerOf};
 ghost use Rattle.bundle.specs.Promises.{readOf, Reads, Writes, Shows, AnswersShow};
 ghost use Rattle.forms.specs.Edition.{edition1};
 
-// What going over a bundle tells: K and how many constraints there are, or the refusal, with 0 for both.
+// What going over a bundle tells: K, how many constraints there are and where the one wanted starts; or the refusal, with 0 for all.
 pub struct Scanned {
     pub answer: Answer,
     pub k: u8,
     pub count: usize,
+    pub start: usize,
 }
 
 fn refused_scan(number: u8, file: u8, place: usize) -> Scanned
-    ensures { λ r. ⌜ r ≡ record { answer = answer number file place; k = 0; count = 0 } ⌝ }
+    ensures { λ r. ⌜ r ≡ record { answer = answer number file place; k = 0; count = 0; start = 0 } ⌝ }
 {
     Scanned {
         answer: refusal(number, file, place),
         k: 0,
         count: 0,
+        start: 0,
     }
 }
 
 // Goes over a bundle's fields. K must be the given one, if that is not 0.
-pub fn scan(s: &[u8], file: u8, given: u8) -> Scanned
-    ensures { λ r. ⌜ r ≡ scanned (bundle file (givenK given) (fields (now (s .entry)))) ⌝ }
+fn scan(s: &[u8], file: u8, given: u8, wanted: usize) -> Scanned
+    ensures { λ r. ⌜ r ≡ scanned (constraintStart (now (s .entry)) wanted) (bundle file (givenK given) (fields (now (s .entry)))) ⌝ }
 {
     match read_header(s, FileKind::Bundle, given) {
-        Headed::Header { k, next } => match count_constraints(s, next, k) {
-            Counted::Count { count } => Scanned {
+        Headed::Header { k, next } => match seek_constraint(s, next, k, wanted) {
+            Sought::Count { count, start } => Scanned {
                 answer: acceptance(),
                 k,
                 count,
+                start,
             },
-            Counted::Refused { number, place } => refused_scan(number, file, place),
+            Sought::Refused { number, place } => refused_scan(number, file, place),
         },
         Headed::Refused { number, place } => refused_scan(number, file, place),
+    }
+}
+
+// What going over both bundles tells: their K, m constraints in A and n in B, and where the one wanted starts, first in A, second in B; or the refusal, with 0 for all.
+pub struct Pair {
+    pub answer: Answer,
+    pub k: u8,
+    pub m: usize,
+    pub n: usize,
+    pub first: usize,
+    pub second: usize,
+}
+
+fn refused_pair(answer: Answer) -> Pair
+    ensures { λ r. ⌜ r ≡ record { answer = answer; k = 0; m = 0; n = 0; first = 0; second = 0 } ⌝ }
+{
+    Pair {
+        answer,
+        k: 0,
+        m: 0,
+        n: 0,
+        first: 0,
+        second: 0,
+    }
+}
+
+// How far i lies beyond m, 0 where it does not.
+fn beyond(i: usize, m: usize) -> usize
+    ensures { λ r. ⌜ r ≡ i - m ⌝ }
+{
+    if i < m {
+        return 0;
+    }
+    i - m
+}
+
+// Goes over A, and then over B with A's K. Wanted is line i: constraint i of A, or the one of B that lies as far beyond A's.
+pub fn scan_both(a: &[u8], b: &[u8], i: usize) -> Pair
+    ensures { λ r. ⌜ r ≡ pairOf (now (a .entry)) (now (b .entry)) i (bothBundles (now (a .entry)) (now (b .entry))) ⌝ }
+{
+    if a.len() > BUNDLE_BYTES {
+        return refused_pair(refusal(1, 1, 0));
+    }
+    if b.len() > BUNDLE_BYTES {
+        return refused_pair(refusal(1, 2, 0));
+    }
+    let first = scan(a, 1, 0, i);
+    let answer = first.answer;
+    let number = answer.number;
+    if number != 0 {
+        return refused_pair(answer);
+    }
+    let k = first.k;
+    let m = first.count;
+    let second = scan(b, 2, k, beyond(i, m));
+    let answer = second.answer;
+    let number = answer.number;
+    if number != 0 {
+        return refused_pair(answer);
+    }
+    Pair {
+        answer,
+        k,
+        m,
+        n: second.count,
+        first: first.start,
+        second: second.start,
     }
 }
 

@@ -16,13 +16,13 @@ use Rattle.fields.specs.declared.header.Headed.{Headed}
 use Rattle.fields.specs.Answers.{answer, fileA, fileB, fileProof, Result, refused, accepted, _>>=_, _>>_, need, written}
 use Rattle.fields.specs.Fields.{Fields, fields}
 use Rattle.fields.specs.Header.{Header, header, finished, headerBytes}
-use Rattle.fields.specs.Places.{fieldsAt, givenK, headedOf, IsHeader}
+use Rattle.fields.specs.Places.{fieldsAt, headedOf, IsHeader}
 use Rattle.fields.proofs.HeaderLaid.{header-gives}
-use Rattle.bundle.specs.Bundle.{Bundle, atMost, bundle, bundles}
-use Rattle.bundle.specs.Scan.{scanned}
-use Rattle.bundle.specs.declared.Scanned.{Scanned}
-use Rattle.bundle.proofs.Laid.{bundle-gives}
-use Rattle.bundle.proofs.Reading.{Taken, shaped, taken, not-taken}
+use Rattle.bundle.specs.Bundle.{Bundle, atMost, bundles}
+use Rattle.bundle.specs.Scan.{bothBundles, pairOf}
+use Rattle.bundle.specs.declared.Pair.{Pair}
+use Rattle.bundle.proofs.Laid.{bundle-accepts}
+use Rattle.bundle.proofs.Pairs.{short-both, paired, unpaired, same-k}
 use Rattle.formula.specs.Formula.{encode, formulaFile}
 use Rattle.lines.specs.Buffer.{linesIn}
 use Rattle.proof.specs.Check.{Closing, checkBranch, checkProof, interpolant, check}
@@ -67,13 +67,9 @@ module _ {A B P : List ℕ} (s : Short A B P) where
   unfolding interpolant atMost need _>>_
   short-is = rw (le-leb (length A) 4096 (s .a), le-leb (length B) 4096 (s .b), le-leb (length P) 65536 (s .p))
 
-  pub refused-A : {x : Answer} → bundle fileA none (fields A) ≡ refused x → interpolant A B P ≡ refused x
-  unfolding bundles _>>=_
-  refused-A e = short-is ∙ rw e
-
-  pub refused-B : {x : Answer} (a : Bundle) → bundle fileA none (fields A) ≡ accepted a → bundle fileB (some (a .K)) (fields B) ≡ refused x → interpolant A B P ≡ refused x
-  unfolding bundles _>>=_
-  refused-B a e f = short-is ∙ rw (e, f)
+  pub refused-bundles : {x : Answer} → bundles A B ≡ refused x → interpolant A B P ≡ refused x
+  unfolding _>>=_
+  refused-bundles e = short-is ∙ rw e
 
   module _ {K m n : ℕ} (w : Both A B K m n) where
     both-is : interpolant A B P ≡ (checkProof (w .a) (w .b) (fields P) >>= λ I. accepted (w .a .K, I))
@@ -204,49 +200,32 @@ pub checks-answer : {A B P out : List ℕ} {x : Answer} → interpolant A B P �
 unfolding check written _>>=_
 checks-answer e = record { is = rw e }
 
-module _ (A : List ℕ) {r : Scanned} (e : r ≡ scanned (bundle 1 none (fields A))) where
-  pub scanned-A : r .answer .number ≡ 0 → Taken (bundle 1 none (fields A)) r
-  scanned-A z = taken (shaped 1 none (fields A)) e z
+module _ (A B : List ℕ) {r : Pair} (e : r ≡ pairOf A B 0 (bothBundles A B)) where
+  pub unscanned : {P : List ℕ} → Short A B P → (r .answer .number ≡ 0 → ⊥) → interpolant A B P ≡ refused (r .answer)
+  unscanned s z = refused-bundles s (sym (short-both A B (s .a) (s .b)) ∙ unpaired A B 0 e z)
 
-  pub unscanned-A : (r .answer .number ≡ 0 → ⊥) → bundle 1 none (fields A) ≡ refused (r .answer)
-  unscanned-A z = not-taken (shaped 1 none (fields A)) e z
-
-  module _ (B : List ℕ) {q : Scanned} (z : r .answer .number ≡ 0) (f : q ≡ scanned (bundle 2 (givenK (r .k)) (fields B))) where
-    t : Taken (bundle 1 none (fields A)) r
-    t = scanned-A z
-
-    k-is : r .k ≡ t .bundle .K
-    k-is = ap (λ (x : Scanned). x .k) (t .scan-is)
-
-    given-is : givenK (r .k) ≡ some (t .bundle .K)
-    given-is = ap givenK k-is ∙ given-some (t .bundle .K) (t .shape .low)
-
-    f′ : q ≡ scanned (bundle 2 (some (t .bundle .K)) (fields B))
-    f′ = f ∙ ap (λ (o : Option ℕ). scanned (bundle 2 o (fields B))) given-is
-
-    pub unscanned-B : {P : List ℕ} → Short A B P → (q .answer .number ≡ 0 → ⊥) → interpolant A B P ≡ refused (q .answer)
-    unscanned-B s y = refused-B s (t .bundle) (t .is) (not-taken (shaped 2 (some (t .bundle .K)) (fields B)) f′ y)
-
-    pub scanned-both : q .answer .number ≡ 0 → Both A B (r .k) (r .count) (q .count)
-    scanned-both y =
-        let u = taken (shaped 2 (some (t .bundle .K)) (fields B)) f′ y in
-        let same = agreed (t .bundle .K) (u .bundle .K) (bundle-gives 2 (some (t .bundle .K)) (fields B) .gives (u .bundle) (u .is) .agree) in
-        let cA : r .count ≡ length (t .bundle .constraints) = ap (λ (x : Scanned). x .count) (t .scan-is) in
-        let cB : q .count ≡ length (u .bundle .constraints) = ap (λ (x : Scanned). x .count) (u .scan-is) in
-        record {
-          a = t .bundle;
-          b = u .bundle;
-          a-is = t .is;
-          b-is = u .is;
-          a-constants = sym k-is;
-          b-constants = same ∙ sym k-is;
-          low = omega (arith, k-is, t .shape .low);
-          high = omega (arith, k-is, t .shape .high);
-          a-count = sym cA;
-          b-count = sym cB;
-          a-few = omega (arith, cA, t .shape .few);
-          b-few = omega (arith, cB, u .shape .few);
-        }
+  pub scanned-both : r .answer .number ≡ 0 → Both A B (r .k) (r .m) (r .n)
+  scanned-both z =
+      let t = paired A B 0 e z in
+      let lA = t .laid .laidA in
+      let lB = t .laid .laidB in
+      let k-is : t .a .K ≡ r .k = sym (ap (λ (x : Pair). x .k) (t .pair-is)) in
+      let cA : length (t .a .constraints) ≡ r .m = sym (ap (λ (x : Pair). x .m) (t .pair-is)) in
+      let cB : length (t .b .constraints) ≡ r .n = sym (ap (λ (x : Pair). x .n) (t .pair-is)) in
+      record {
+        a = t .a;
+        b = t .b;
+        a-is = bundle-accepts fileA none (fields A) (t .a) lA;
+        b-is = bundle-accepts fileB (some (t .a .K)) (fields B) (t .b) lB;
+        a-constants = k-is;
+        b-constants = same-k t ∙ k-is;
+        low = omega (arith, k-is, lA .laid .low);
+        high = omega (arith, k-is, lA .laid .high);
+        a-count = cA;
+        b-count = cB;
+        a-few = omega (arith, cA, lA .few);
+        b-few = omega (arith, cB, lB .few);
+      }
 
 module _ {A B P : List ℕ} {K m n : ℕ} (s : Short A B P) (w : Both A B K m n) {r : Headed} (h : IsHeader FileKind.Proof K P r) where
   header-as : header FileKind.Proof fileProof (some K) (fields P) ≡ headedOf fileProof P r

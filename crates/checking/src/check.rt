@@ -2,7 +2,7 @@
 use crate::load::load;
 use branches::branch::Branched;
 use branches::branch::check_branch;
-use bundle::scan;
+use bundle::scan_both;
 use fields::FileKind;
 use fields::WriteResult;
 use fields::answers;
@@ -350,26 +350,20 @@ fn check_header(
     }
 }
 
-// A, and then B with A's K.
+// A, and then B with A's K. No constraint's place is wanted, so any number will do.
 fn check_bundles(a: &[u8], b: &[u8], proof: &[u8], out: &mut [u8]) -> WriteResult
     requires { ⌜ Short (now a) (now b) (now proof) ⌝ }
     ensures { λ r. ⌜ Checks (now (a .entry)) (now (b .entry)) (now (proof .entry)) (now (out .entry)) (now (out .exit)) r ⌝ }
 {
-    let first = scan(a, 1, 0);
-    let answer = first.answer;
+    let pair = scan_both(a, b, 0);
+    let answer = pair.answer;
     let number = answer.number;
     if number != 0 {
         return WriteResult { answer, count: 0 };
     }
-    let k = first.k;
-    let second = scan(b, 2, k);
-    let answer = second.answer;
-    let number = answer.number;
-    if number != 0 {
-        return WriteResult { answer, count: 0 };
-    }
-    let m = first.count;
-    let n = second.count;
+    let k = pair.k;
+    let m = pair.m;
+    let n = pair.n;
     check_header(a, b, proof, k, m, n, out)
 }
 

@@ -2,14 +2,15 @@
 use mathlib.Core.Path.{_≡_, refl}
 use mathlib.Core.Option.{some}
 use mathlib.Core.Bool.{Bool, true, false, _&&_, _||_}
-use Prim.Native.Nat.{ℕ, zero, suc, _≤_, _<_}
+use Prim.Native.Nat.{ℕ, zero, suc, _+_, _*_, _≤_, _<_}
 use native.Mathlib.Omega.{arith}
 use lib.Dec.{eqb, leb}
-use borrow.Author.Tests.{eqb-true, leb-true}
+use borrow.Author.Tests.{eqb-true, eqb-false, leb-true}
 use Rattle.forms.specs.Edition.{edition1}
+use Rattle.forms.specs.Forms.{≤0, =0}
 use Rattle.fields.specs.declared.FileKind.{FileKind}
 use Rattle.fields.specs.Header.{known, headerTag}
-use Rattle.formula.specs.Formula.{FormulaTag, formulaTagged, formulaSize}
+use Rattle.formula.specs.Formula.{disjunction, conjunction, FormulaTag, pair, atom, formulaTagged, formulaSize}
 use Rattle.formula.specs.Nodes.{nodeTagged, sized, nodeIf, nodeOf}
 use Rattle.formula.specs.declared.node.Node.{Node}
 
@@ -41,3 +42,20 @@ header-tag K zero len h l = absurd (omega arith)
 header-tag K (suc zero) len h l = refl
 header-tag K (suc (suc zero)) len h l = refl
 header-tag K (suc (suc (suc tag))) len h l = absurd (omega arith)
+
+-- 0x31 or 0x32, 0x33 or 0x34
+pub pair-tag : (K tag len : ℕ) → 0x31 ≤ tag → tag < 0x33 → sized len 0 (Node.Pair (eqb tag 0x31)) ≡ nodeOf K tag len
+unfolding known headerTag formulaTagged formulaSize
+pair-tag K tag len h l = go (eqb tag 0x31) refl
+  where
+    go : (p : Bool) → eqb tag 0x31 ≡ p → sized len 0 (Node.Pair p) ≡ nodeOf K tag len
+    go true e = by-tag K len 0x31 0 (pair disjunction) (eqb-true tag 0x31 e) refl refl refl
+    go false e = by-tag K len 0x32 0 (pair conjunction) (omega (arith, eqb-false tag 0x31 e)) refl refl refl
+
+pub literal-tag : (K tag len size : ℕ) → 0x33 ≤ tag → tag < 0x35 → size ≡ (K + 1) * 4 → sized len size (Node.Literal (eqb tag 0x34)) ≡ nodeOf K tag len
+unfolding known headerTag formulaTagged formulaSize
+literal-tag K tag len size h l s = go (eqb tag 0x34) refl
+  where
+    go : (p : Bool) → eqb tag 0x34 ≡ p → sized len size (Node.Literal p) ≡ nodeOf K tag len
+    go true e = by-tag K len 0x34 size (atom =0) (eqb-true tag 0x34 e) refl refl (omega arith)
+    go false e = by-tag K len 0x33 size (atom ≤0) (omega (arith, eqb-false tag 0x34 e)) refl refl (omega arith)

@@ -3,7 +3,7 @@ use mathlib.Core.Path.{_≡_, refl, sym, ap, ap₂, _∙_}
 use mathlib.Core.Option.{Option, none, some}
 use mathlib.Core.Bool.{Bool, true, false, cond, _&&_, _||_}
 use mathlib.Core.List.{List, [], _∷_}
-use Prim.Native.Nat.{ℕ, zero, suc, _+_, _-_, _≤_}
+use Prim.Native.Nat.{ℕ, zero, suc, _+_, _-_, _≤_, _<_}
 use native.Mathlib.Omega.{arith}
 use lib.Dec.{eqb}
 use lib.IntN.{ℤ, pos, natAbs}
@@ -219,3 +219,46 @@ module _ {s : List ℕ} {values : List ℤ} {K at : ℕ} (place levels : ℕ) (z
             on = omega (arith, x .on, y .on);
           };
         }
+
+-- ---- the two parts, read by a loop: i of them are read, up to here
+abbrev Parts : (s : List ℕ) (place at : ℕ) (values : List ℤ) (K levels : ℕ) (first second : Bool) (here i : ℕ) → Type 0
+Parts s place at values K levels first second here zero = here ≡ at
+Parts s place at values K levels first second here (suc zero) = FormulaRead s at values K (levels - 1) (Judged.Value second here)
+Parts s place at values K levels first second here (suc (suc i)) = PairRead s place at values K levels (Pair.Both first second here)
+
+pub record PartsRead (s : List ℕ) (place at : ℕ) (values : List ℤ) (K levels : ℕ) (first second : Bool) (here i : ℕ) : Type 0 where
+  pub read : Parts s place at values K levels first second here i
+
+module _ {s : List ℕ} {place at : ℕ} {values : List ℤ} {K levels : ℕ} {first second : Bool} {here i : ℕ} (p : PartsRead s place at values K levels first second here i) where
+  pub parts-on : i < 2 → at ≤ here
+  parts-on h = go i h (p .read)
+    where
+      go : (i : ℕ) → i < 2 → Parts s place at values K levels first second here i → at ≤ here
+      go zero h q = omega arith
+      go (suc zero) h q = read-on q refl
+      go (suc (suc i)) h q = absurd (omega arith)
+
+  pub parts-both : 2 ≤ i → PairRead s place at values K levels (Pair.Both first second here)
+  parts-both h = go i h (p .read)
+    where
+      go : (i : ℕ) → 2 ≤ i → Parts s place at values K levels first second here i → PairRead s place at values K levels (Pair.Both first second here)
+      go zero h q = absurd (omega arith)
+      go (suc zero) h q = absurd (omega arith)
+      go (suc (suc i)) h q = q
+
+  module _ (z : levels ≡ 0 → ⊥) (h : i < 2) {r : Judged} (b : FormulaRead s here values K (levels - 1) r) where
+    pub parts-fault : {number a : ℕ} → r ≡ Judged.Fault number a → PairRead s place at values K levels (Pair.Fault number a)
+    parts-fault {number} {a} e = go i h (p .read)
+      where
+        go : (i : ℕ) → i < 2 → Parts s place at values K levels first second here i → PairRead s place at values K levels (Pair.Fault number a)
+        go zero h q = first-fault place levels z (rw q at b) e
+        go (suc zero) h q = second-fault place levels z q refl b e
+        go (suc (suc i)) h q = absurd (omega arith)
+
+    pub parts-next : {holds : Bool} {next : ℕ} → r ≡ Judged.Value holds next → PartsRead s place at values K levels second holds next (i + 1)
+    parts-next {holds} {next} e = record { read = go i h (p .read) }
+      where
+        go : (i : ℕ) → i < 2 → Parts s place at values K levels first second here i → Parts s place at values K levels second holds next (i + 1)
+        go zero h q = rw (q, e) at b
+        go (suc zero) h q = both-read place levels z q refl b e
+        go (suc (suc i)) h q = absurd (omega arith)

@@ -24,17 +24,17 @@ fn sized(len: usize, size: usize, node: Node) -> Node
     Node::Refused { number: 6 }
 }
 
-// 3, 4, 6.
+// 3, 4, 6. Few arms: what is small enough is compiled into both of its callers (docs/SPEED.md).
 pub fn node_of(tag: u8, len: usize, k: usize) -> Node
     requires { ⌜ k ≤ edition1 .constants ⌝ }
     ensures { λ r. ⌜ r ≡ nodeOf k tag len ⌝ }
 {
     let form = (k + 1) * TERM_BYTES;
+    let either = tag == 0x31;
+    let equality = tag == 0x34;
     match tag {
-        0x31 => sized(len, 0, Node::Pair { either: true }),
-        0x32 => sized(len, 0, Node::Pair { either: false }),
-        0x33 => sized(len, form, Node::Literal { equality: false }),
-        0x34 => sized(len, form, Node::Literal { equality: true }),
+        0x31 | 0x32 => sized(len, 0, Node::Pair { either }),
+        0x33 | 0x34 => sized(len, form, Node::Literal { equality }),
         0x35 => sized(len, form + TERM_BYTES, Node::Stride),
         0x01 | 0x02 => Node::Refused { number: 4 },
         _ => Node::Refused { number: 3 },

@@ -112,8 +112,9 @@ fn join(pair: Pair, either: bool) -> Judged
     }
 }
 
-// Reading a formula calls on reading its two parts, each again a formula: the two functions call each other in a cycle,
-// and the levels still allowed and the unread bytes fall.
+// Reading a formula calls on reading its two parts, each again a formula: formula reader and pair reader call each other in a
+// cycle, and the levels still allowed and the unread bytes fall. The cycle has both twice, and the compiler makes one function
+// of them: two levels are then one call, and a processor foretells the returns of some two dozen calls only (docs/SPEED.md).
 pub fn formula_at(s: &[u8], at: usize, values: &[i32], k: usize, levels: usize) -> Judged
     requires { ⌜ Registers (now values) k ⌝ }
     ensures { λ r. ⌜ FormulaRead (now (s .entry)) at (now (values .entry)) k levels r ⌝ }
@@ -142,8 +143,73 @@ pub fn formula_at(s: &[u8], at: usize, values: &[i32], k: usize, levels: usize) 
     }
 }
 
-// The two parts of an and/or whose field starts at place; they start at `at`.
+// The two parts of an and/or whose field starts at place; they start at `at`. Both are read by one call in a loop, since what is
+// called at one place is compiled in.
 fn pair_at(s: &[u8], place: usize, at: usize, values: &[i32], k: usize, levels: usize) -> Pair
+    requires { ⌜ Registers (now values) k ⌝ }
+    ensures { λ r. ⌜ PairRead (now (s .entry)) place at (now (values .entry)) k levels r ⌝ }
+{
+    if levels == 0 {
+        return Pair::Fault {
+            number: 17,
+            at: place,
+        };
+    }
+    let mut here = at;
+    let mut first = false;
+    let mut second = false;
+    let mut i: usize = 0;
+    while i < 2 {
+        match part_at(s, here, values, k, levels - 1) {
+            Judged::Fault { number, at: fault } => {
+                return Pair::Fault { number, at: fault };
+            }
+            Judged::Value { holds, next } => {
+                first = second;
+                second = holds;
+                here = next;
+                i += 1;
+            }
+        }
+    }
+    Pair::Both {
+        first,
+        second,
+        next: here,
+    }
+}
+
+// The formula reader again, for a part.
+fn part_at(s: &[u8], at: usize, values: &[i32], k: usize, levels: usize) -> Judged
+    requires { ⌜ Registers (now values) k ⌝ }
+    ensures { λ r. ⌜ FormulaRead (now (s .entry)) at (now (values .entry)) k levels r ⌝ }
+{
+    match next_field(s, at) {
+        Next::Ends { at: place } => Judged::Fault {
+            number: 2,
+            at: place,
+        },
+        Next::Cut { at: place } => Judged::Fault {
+            number: 2,
+            at: place,
+        },
+        Next::Field {
+            at: place,
+            tag,
+            start,
+            len,
+            next,
+        } => match node_of(tag, len, k) {
+            Node::Refused { number } => Judged::Fault { number, at: place },
+            Node::Literal { equality } => literal_at(s, start, next, values, k, equality),
+            Node::Stride => stride_at(s, place, start, next, values, k),
+            Node::Pair { either } => join(part_pair_at(s, place, next, values, k, levels), either),
+        },
+    }
+}
+
+// The pair reader again, for a part that is an and/or.
+fn part_pair_at(s: &[u8], place: usize, at: usize, values: &[i32], k: usize, levels: usize) -> Pair
     requires { ⌜ Registers (now values) k ⌝ }
     ensures { λ r. ⌜ PairRead (now (s .entry)) place at (now (values .entry)) k levels r ⌝ }
 {

@@ -35,8 +35,8 @@ own.
 - Writing a large bundle. The loop over a constraint's numbers is compiled into the loop over the constraints, and some \
 values of the two lie on the stack.
 
-Testing a formula whose and/ors lie more than 16 deep, as they do here from 32 parts on, takes up to 1.45 times as \
-long as with Rust on some processors and no longer on others; each level of a formula is a call.
+Testing a formula whose and/ors lie more than some 48 deep, as they do here from 64 parts on, takes a little longer \
+than with Rust: two levels of a formula are a call, and a processor foretells the returns of some two dozen.
 ";
 
 pub fn page(timed: &[(Work, Time)], rounds: usize, machine: &str) -> String {

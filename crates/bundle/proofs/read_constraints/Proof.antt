@@ -22,7 +22,7 @@ refused-read-requires c κs = search needs
 
 returns : tie.Need-returns
 returns c =
-    let t = taken (shaped 1 none (fields (c .before .before .before .before .before .before .before .before .args .file .now))) (sym (scan-count (c .before .before .before .before .before .before .before .before .pre) refl 1 (c .before .before .before .before .before .count-constraints .ensures) (c .before .before .before .count .given .1))) refl in
+    let t = taken 0 (shaped 1 none (fields (c .before .before .before .before .before .before .before .before .args .file .now))) (sym (scan-count (c .before .before .before .before .before .before .before .before .pre) refl 1 (c .before .before .before .before .before .count-constraints .ensures) 0 (c .before .before .before .count .given .1))) refl in
     read-unread _ _ (c .refused-read .ensures) ∙ sym (short-kinds _ _ t (c .before .if1 .taken))
 
 add-if2 : tie.Need-add-if2
@@ -30,7 +30,7 @@ add-if2 c = search needs
 
 mul-if2 : tie.Need-mul-if2
 mul-if2 c =
-    let t = taken (shaped 1 none (fields (c .before .before .before .before .before .before .before .args .file .now))) (sym (scan-count (c .before .before .before .before .before .before .before .pre) refl 1 (c .before .before .before .before .count-constraints .ensures) (c .before .before .count .given .1))) refl in
+    let t = taken 0 (shaped 1 none (fields (c .before .before .before .before .before .before .before .args .file .now))) (sym (scan-count (c .before .before .before .before .before .before .before .pre) refl 1 (c .before .before .before .before .count-constraints .ensures) 0 (c .before .before .count .given .1))) refl in
     let a = c .before .before .before .before .before .before .before .args in
     let k : a .k + 1 ≤ 17 = omega (arith, taken-k (a .kinds .now) (a .numbers .now) t) in
     record { fits = omega (arith, mul-le-mul (taken-few (a .kinds .now) (a .numbers .now) t) k) }
@@ -40,7 +40,7 @@ refused-read-requires-2 c κs = search needs
 
 returns-2 : tie.Need-returns-2
 returns-2 c =
-    let t = taken (shaped 1 none (fields (c .before .before .before .before .before .before .before .before .before .args .file .now))) (sym (scan-count (c .before .before .before .before .before .before .before .before .before .pre) refl 1 (c .before .before .before .before .before .before .count-constraints .ensures) (c .before .before .before .before .count .given .1))) refl in
+    let t = taken 0 (shaped 1 none (fields (c .before .before .before .before .before .before .before .before .before .args .file .now))) (sym (scan-count (c .before .before .before .before .before .before .before .before .before .pre) refl 1 (c .before .before .before .before .before .before .count-constraints .ensures) 0 (c .before .before .before .before .count .given .1))) refl in
     read-unread _ _ (c .refused-read2 .ensures) ∙ sym (short-numbers _ _ t (c .before .before .if1 .left) (c .before .if2 .taken))
 
 store-constraints-requires : tie.Need-store-constraints-requires
@@ -65,7 +65,7 @@ same-length-2 c = search needs
 
 returns-3 : tie.Need-returns-3
 returns-3 c =
-    let t = taken (shaped 1 none (fields (c .before .before .before .before .before .before .before .before .before .before .before .before .before .before .before .args .file .now))) (sym (scan-count (c .before .before .before .before .before .before .before .before .before .before .before .before .before .before .before .pre) refl 1 (c .before .before .before .before .before .before .before .before .before .before .before .before .count-constraints .ensures) (c .before .before .before .before .before .before .before .before .before .before .count .given .1))) refl in
+    let t = taken 0 (shaped 1 none (fields (c .before .before .before .before .before .before .before .before .before .before .before .before .before .before .before .args .file .now))) (sym (scan-count (c .before .before .before .before .before .before .before .before .before .before .before .before .before .before .before .pre) refl 1 (c .before .before .before .before .before .before .before .before .before .before .before .before .count-constraints .ensures) 0 (c .before .before .before .before .before .before .before .before .before .before .count .given .1))) refl in
     let e = scan-bundle (c .before .before .before .before .before .before .before .before .before .before .before .before .before .before .before .pre) refl 1 (c .before .before .before .before .before .before .before .before .before .before .before .before .count-constraints .ensures) (c .before .before .before .before .before .before .before .before .before .before .count .given .1) in
     rw (c .acceptance .ensures) (read-stored _ _ t (c .before .before .before .before .before .before .before .before .if1 .left) (c .before .before .before .before .before .before .before .if2 .left) (rw e (c .before .before .before .before .store-constraints .ensures .0)) (rw e (c .before .before .before .before .store-constraints .ensures .1)))
 

@@ -1,87 +1,24 @@
--- `bundle::constraints::count_constraints` meets its contract. The invariant: going on from here gives what the start gives. Assumes nothing.
-use mathlib.Core.Path.{_≡_, refl, sym, _∙_}
-use Prim.Native.Nat.{_-_}
-use native.Mathlib.Omega.{arith}
-use lib.ListN.{length}
-use Rattle.fields.specs.Places.{fieldsAt}
-use Rattle.fields.proofs.Places.{starts, next-cut, next-ends}
-use Rattle.bundle.specs.Scan.{counted}
-use Rattle.bundle.proofs.Scanning.{counted-fault, counted-sized, sized-next, sized-less, counted-room, counted-cut, counted-ends}
+-- `bundle::constraints::count_constraints` meets its contract: the count or the fault, whatever the place. Assumes nothing.
+use mathlib.Core.Path.{sym}
+use Rattle.bundle.proofs.Scanning.{sought-count, sought-refused}
 use borrow.Author.Needs.{needs}
 use Rattle.bundle.proofs.constraints.count_constraints.Statement.{statement}
 use Rattle.bundle.proofs.constraints.count_constraints.Tie as tie
 
-abbrev Inv-loop : tie.InvT-loop
-Inv-loop s at k here₀ n₀ here n = counted k 0 (fieldsAt s at) ≡ counted k n (fieldsAt s here)
+seek-constraint-requires : tie.Need-seek-constraint-requires
+seek-constraint-requires c κs = search needs
 
-abbrev μ-loop : tie.MeasureT-loop
-μ-loop s at k here₀ n₀ here n = length s - here
+enum-known-count : tie.Need-enum-known-count
+enum-known-count c = search needs
 
-loop-holds : tie.Need-loop-holds Inv-loop μ-loop
-loop-holds c = refl
+enum-known-number : tie.Need-enum-known-number
+enum-known-number c = search needs
 
-next-field-requires : tie.Need-next-field-requires Inv-loop μ-loop
-next-field-requires c κs = search needs
+returns : tie.Need-returns
+returns c = sym (sought-count _ _ (c .before .before .before .seek-constraint .ensures) (c .before .count .given .1) .0)
 
-enum-known-place : tie.Need-enum-known-place Inv-loop μ-loop
-enum-known-place c = search needs
-
-constraint-fault-requires : tie.Need-constraint-fault-requires Inv-loop μ-loop
-constraint-fault-requires c κs = search needs
-
-returns : tie.Need-returns Inv-loop μ-loop
-returns c = sym (c .before .before .before .before .before .before .loop .inv ∙ counted-fault (starts (c .before .before .before .before .before .next-field .ensures) (c .before .before .before .place .given .1)) _ _ (c .before .constraint-fault .ensures) (c .if1 .taken))
-
-add-n : tie.Need-add-n Inv-loop μ-loop
-add-n c = omega (arith, counted-room (c .before .before .before .before .before .before .before .before .args .k) (c .before .before .before .before .before .before .loop .n) (c .before .before .before .place .given .0 .1 .0) (c .before .before .before .place .given .0 .1 .1 .1 .0) (c .before .constraint-fault .ensures) (c .if1 .left))
-
-add-here : tie.Need-add-here Inv-loop μ-loop
-add-here c = search needs
-
-mul-here : tie.Need-mul-here Inv-loop μ-loop
-mul-here c = search needs
-
-add-here-2 : tie.Need-add-here-2 Inv-loop μ-loop
-add-here-2 c =
-    let k = starts (c .before .before .before .before .before .next-field .ensures) (c .before .before .before .place .given .1) in
-    omega (arith, k .upto, sized-next k (c .before .before .before .before .before .before .before .before .args .k) (c .before .before .before .before .before .before .loop .n) (c .before .constraint-fault .ensures) (c .if1 .left))
-
-loop-less : tie.Need-loop-less Inv-loop μ-loop
-loop-less c = sized-less (starts (c .before .before .before .before .before .next-field .ensures) (c .before .before .before .place .given .1)) (c .before .before .before .before .before .before .before .before .args .k) (c .before .before .before .before .before .before .loop .n) (c .before .constraint-fault .ensures) (c .if1 .left)
-
-loop-again : tie.Need-loop-again Inv-loop μ-loop
-loop-again c = c .before .before .before .before .before .before .loop .inv ∙ counted-sized (starts (c .before .before .before .before .before .next-field .ensures) (c .before .before .before .place .given .1)) _ _ (c .before .constraint-fault .ensures) (c .if1 .left)
-
-enum-known-place-2 : tie.Need-enum-known-place-2 Inv-loop μ-loop
-enum-known-place-2 c = search needs
-
-returns-2 : tie.Need-returns-2 Inv-loop μ-loop
-returns-2 c = sym (c .before .before .before .before .loop .inv ∙ counted-cut _ _ (next-cut _ (c .before .before .before .next-field .ensures) (c .before .place2 .given .1)))
-
-enum-told : tie.Need-enum-told Inv-loop μ-loop
-enum-told c = search needs
-
-returns-3 : tie.Need-returns-3 Inv-loop μ-loop
-returns-3 c = sym (c .before .before .before .loop .inv ∙ counted-ends _ _ (next-ends _ (c .before .before .next-field .ensures) (c .enum-told .given .1)))
+returns-2 : tie.Need-returns-2
+returns-2 c = sym (sought-refused _ _ (c .before .before .before .seek-constraint .ensures) (c .before .number .given .1))
 
 pub count-constraints-spec : {M : Type 1} → statement M
-count-constraints-spec =
-    tie.close
-    (tie.spec
-    Inv-loop
-    μ-loop
-    loop-holds
-    next-field-requires
-    enum-known-place
-    constraint-fault-requires
-    returns
-    add-n
-    add-here
-    mul-here
-    add-here-2
-    loop-less
-    loop-again
-    enum-known-place-2
-    returns-2
-    enum-told
-    returns-3)
+count-constraints-spec = tie.close (tie.spec seek-constraint-requires enum-known-count enum-known-number returns returns-2)
