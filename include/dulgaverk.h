@@ -34,7 +34,10 @@ extern "C" {
 #define DULGAVERK_FIELD 37            /* bytes of a constraint's field */
 #define DULGAVERK_PROOF 65536         /* bytes of a proof, and of a formula */
 
-/* What an operation answers. Accepted is 0, 0, 0.
+/* A row, step or branch of an answer where there is none. */
+#define DULGAVERK_NONE 65535
+
+/* What an operation answers. Accepted is 0, 0, 0 with no row, step or branch.
  *
  * number  meaning
  *      1  a file is longer than its limit
@@ -64,11 +67,24 @@ extern "C" {
  *
  *   file  1 A, or a bundle read alone; 2 B; 3 the proof or formula; 4 a lent output, or no file
  *  place  the byte at which the field at fault starts, if nothing else is said
+ *
+ * The other three say where in the tree of a proof that is; 65,535 says that there is none.
+ *
+ *    row  the row at fault; rows are numbered in the file from 0, claims and notes are none. 10 to 13 and 15 to 18 have
+ *         their own row, 14 that before the claim, every other refusal none
+ *   step  the row number of the innermost strengthen that is open where the fault is found, before the field at fault
+ *         takes effect; for 20 at the end of the proof. None on the root, and after its close
+ * branch  which branch of that step it is, 0, 1 or 2 in file order; none where step is
+ *
+ * Only a check has them: the other operations, and what a check refuses of A, B or a lent output, have none.
  */
 typedef struct dulgaverk_answer {
     uint8_t number;
     uint8_t file;
     size_t place;
+    uint16_t row;
+    uint16_t step;
+    uint16_t branch;
 } dulgaverk_answer;
 
 /* What reading a bundle gives. A refusal has count 0 and k 0. */

@@ -1,4 +1,5 @@
-//! The verified operations beside the independent checker: the same answers, and the same contents of every lent buffer.
+//! The verified operations beside the independent checker: the same answers, row, step and branch among them, and the
+//! same contents of every lent buffer.
 //!
 //! Each case is called as it is. Where it is accepted, it is called again with each output just long enough, and with
 //! each output one short. Lent buffers hold random contents before; afterwards they must be as the checker leaves them,
@@ -11,8 +12,9 @@ mod tally;
 pub use tally::Tally;
 
 use dulgaverk::{Counts, Refusal};
-use reference::Answer;
+use reference::{Answer, NONE};
 use stages::rng::Rng;
+use stages::tree::spot;
 use stages::{Case, Operation};
 
 /// The operations that are compared.
@@ -24,16 +26,21 @@ pub const COMPARED: [Operation; 5] = [
     Operation::Test,
 ];
 
-/// The reference's answer as a result.
+/// The reference's answer as a result. As in the wrapper, accepted is 0, 0, 0 and no row, step or branch.
 fn outcome<T>(answer: Answer, value: T) -> Result<T, Refusal> {
-    if answer.number == 0 {
-        return Ok(value);
-    }
-    Err(Refusal {
+    let there = |number: u16| (number != NONE).then_some(number);
+    let refusal = Refusal {
         number: answer.number,
         file: answer.file,
         place: answer.place,
-    })
+        row: there(answer.row),
+        step: there(answer.step),
+        branch: there(answer.branch),
+    };
+    if refusal == Refusal::outside(0, 0, 0) {
+        return Ok(value);
+    }
+    Err(refusal)
 }
 
 /// The number of a result, 0 for an accepted one.
@@ -160,11 +167,7 @@ fn call(case: &Case, rng: &mut Rng, tally: &mut Tally) -> u8 {
                 if room {
                     after[..part.len()].copy_from_slice(part);
                 }
-                let short = Refusal {
-                    number: 21,
-                    file: 4,
-                    place: part.len(),
-                };
+                let short = Refusal::outside(21, 4, part.len());
                 same &= result == if room { expected } else { Err(short) };
                 same &= lent == after;
             }
@@ -183,6 +186,9 @@ fn call(case: &Case, rng: &mut Rng, tally: &mut Tally) -> u8 {
             let (mut lent, mut other) = (before.clone(), before.clone());
             let verified = dulgaverk::check_into(a, b, proof, &mut lent);
             let r = reference::check(a, b, proof, &mut other);
+            if r.answer.file == 3 {
+                tally.count_depth(spot(proof, r.answer.place).open.len());
+            }
             let expected = outcome(r.answer, r.written);
             let kept = expected.is_ok() || lent == before;
             (

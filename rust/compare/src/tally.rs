@@ -12,6 +12,8 @@ const KEPT: usize = 10;
 pub struct Tally {
     /// Calls by operation and by number, 0 for accepted.
     calls: [[u64; 25]; 5],
+    /// Refusals of a proof by how many branches they stand inside; the last is for three or more.
+    depths: [u64; 4],
     differences: u64,
     /// The first ones, as lines that say what was called and what the Rust checker answers.
     kept: Vec<String>,
@@ -27,6 +29,16 @@ impl Tally {
                 self.kept.push(case.print());
             }
         }
+    }
+
+    /// Counts a refusal of a proof inside so many branches.
+    pub(crate) fn count_depth(&mut self, depth: usize) {
+        self.depths[depth.min(3)] += 1;
+    }
+
+    /// Refusals of a proof inside so many branches, three for three or more.
+    pub fn inside(&self, depth: usize) -> u64 {
+        self.depths[depth]
     }
 
     pub fn calls(&self, operation: Operation) -> u64 {
@@ -59,6 +71,13 @@ impl fmt::Display for Tally {
                 }
             }
             writeln!(f)?;
+            if operation == Operation::Check {
+                let [none, one, two, more] = self.depths;
+                writeln!(
+                    f,
+                    "    refusals of the proof inside no branch: {none} one: {one} two: {two} three or more: {more}"
+                )?;
+            }
         }
         for line in &self.kept {
             writeln!(f, "differs: {line}")?;

@@ -14,7 +14,7 @@ fn share(class: Class, cases: usize) -> usize {
     }
 }
 
-fn agree(operation: Operation, seed: u64, cases: usize, numbers: &[u8]) {
+fn agree(operation: Operation, seed: u64, cases: usize, numbers: &[u8]) -> Tally {
     let mut tally = Tally::default();
     let mut rng = Rng::new(seed);
     for class in CLASSES {
@@ -36,12 +36,13 @@ fn agree(operation: Operation, seed: u64, cases: usize, numbers: &[u8]) {
             assert_eq!(times, 0, "{number}: {tally}");
         }
     }
+    tally
 }
 
-/// 20,000 random closed tables of each size, as many damaged ones, and the rest.
+/// 20,000 random closed tables of each size, as many damaged ones, and the rest. Faults stand inside branches often.
 #[test]
 fn checking_proofs() {
-    agree(
+    let tally = agree(
         Operation::Check,
         2,
         20_000,
@@ -49,6 +50,9 @@ fn checking_proofs() {
             0, 1, 2, 3, 4, 5, 6, 7, 8, 9, 10, 11, 12, 13, 14, 15, 16, 17, 18, 19, 20, 21,
         ],
     );
+    for depth in 0..=3 {
+        assert!(tally.inside(depth) >= 4_000, "{tally}");
+    }
 }
 
 #[test]

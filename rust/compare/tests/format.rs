@@ -1,5 +1,6 @@
 //! docs/FORMAT.md says what the code does: its refusals and its worked stages.
 
+use dulgaverk::Refusal;
 use std::fs;
 use std::path::PathBuf;
 
@@ -41,7 +42,7 @@ fn every_refusal_is_in_the_table() {
     }
 }
 
-/// The listings of the page: A, B, the proof and the formula of each worked stage.
+/// The listings of the page: A, B, the proof and the formula of each worked stage, then a proof with a fault.
 fn listings() -> Vec<Vec<u8>> {
     page()
         .split("```text")
@@ -53,8 +54,11 @@ fn listings() -> Vec<Vec<u8>> {
 #[test]
 fn the_worked_stages_are_right() {
     let listings = listings();
-    assert_eq!(listings.len(), 8);
-    for (stage, lengths) in listings.chunks(4).zip([[15, 15, 78, 51], [19, 30, 51, 75]]) {
+    assert_eq!(listings.len(), 9);
+    for (stage, lengths) in listings
+        .chunks_exact(4)
+        .zip([[15, 15, 78, 51], [19, 30, 51, 75]])
+    {
         let [a, b, proof, formula] = stage else {
             panic!("four listings a stage");
         };
@@ -78,12 +82,20 @@ fn what_is_said_of_the_first_stage() {
     let mut other = proof.clone();
     other[77] = 2;
     let refusal = dulgaverk::check(a, b, &other).expect_err("line 2 closes nothing");
-    assert_eq!((refusal.number, refusal.file, refusal.place), (15, 3, 74));
+    // The last row of the proof: row 5, on the third branch of row 0.
+    let expected = Refusal {
+        row: Some(5),
+        step: Some(0),
+        branch: Some(2),
+        ..Refusal::outside(15, 3, 74)
+    };
+    assert_eq!(refusal, expected);
+    assert!(page().contains("15, file 3, place 74, row 5, step 0, branch 2"));
 }
 
 #[test]
 fn what_is_said_of_the_second_stage() {
-    let [a, b, _, formula] = &listings()[4..] else {
+    let [a, b, _, formula] = &listings()[4..8] else {
         panic!("four listings");
     };
     let read = dulgaverk::read_bundle(a).expect("A is read");
@@ -93,4 +105,61 @@ fn what_is_said_of_the_second_stage() {
     assert_eq!(read.numbers, [0, 1, -2, -1, 0, -1, 2, 1]);
     assert_eq!(dulgaverk::test_formula(formula, &[1, 4, -7]), Ok(true));
     assert_eq!(dulgaverk::test_formula(formula, &[1, 3, 1]), Ok(false));
+}
+
+/// The proof over the first stage's bundles with a fault inside two branches, and what is said of other faults in it.
+#[test]
+fn the_fault_inside_two_branches() {
+    let page = page();
+    let listings = listings();
+    let (a, b, proof) = (&listings[0], &listings[1], &listings[8]);
+    assert_eq!(proof.len(), 96);
+    let expected = Refusal {
+        row: Some(6),
+        step: Some(3),
+        branch: Some(1),
+        ..Refusal::outside(15, 3, 71)
+    };
+    assert_eq!(dulgaverk::check(a, b, proof), Err(expected));
+    assert!(page.contains("15, file 3, place 71, row 6, step 3, branch 1"));
+
+    let mut right = proof.clone();
+    right[76] = 4;
+    assert!(dulgaverk::check(a, b, &right).is_ok());
+    let with = |place: usize, byte: u8| {
+        let mut other = right.clone();
+        other[place] = byte;
+        other
+    };
+    for (fault, other) in [
+        ("row 0 names line 9", with(11, 9)),
+        ("row 3 names line 2, there an equality", with(28, 2)),
+        ("row 4 names line 9", with(32, 9)),
+        ("the note's length says 200", with(37, 200)),
+        ("the claim says -4x + 3", with(62, 3)),
+        ("row 7 names line 9", with(80, 9)),
+        ("row 8 names line 9", with(86, 9)),
+        ("the file ends before row 7", right[..77].to_vec()),
+        ("the file ends before row 8", right[..83].to_vec()),
+        (
+            "row 9 stands there twice",
+            [&right[..], &right[92..]].concat(),
+        ),
+    ] {
+        let refusal = dulgaverk::check(a, b, &other).expect_err(fault);
+        assert!(page.contains(&table_row(fault, &refusal)), "{refusal:?}");
+    }
+}
+
+/// A refusal as the page's table of faults has it.
+fn table_row(fault: &str, refusal: &Refusal) -> String {
+    let Refusal {
+        number,
+        file,
+        place,
+        ..
+    } = refusal;
+    let [row, step, branch] = [refusal.row, refusal.step, refusal.branch]
+        .map(|number| number.map_or("none".to_string(), |number| number.to_string()));
+    format!("\n| {fault} | {number}, {file}, {place} | {row} | {step} | {branch} |\n")
 }

@@ -1,11 +1,19 @@
 //! The declared boundary, as in include/dulgaverk.h: a slice is a pointer and a length, in that order.
 
+use std::mem::{offset_of, size_of};
+
 #[repr(C)]
 pub struct Answer {
     pub number: u8,
     pub file: u8,
     pub place: usize,
+    pub row: u16,
+    pub step: u16,
+    pub branch: u16,
 }
+
+/// A row, step or branch where there is none.
+pub const NONE: u16 = 65_535;
 
 #[repr(C)]
 pub struct ReadResult {
@@ -25,6 +33,18 @@ pub struct Tested {
     pub answer: Answer,
     pub holds: bool,
 }
+
+// The layout that the C test asserts of the header too.
+const _: () = {
+    assert!(size_of::<Answer>() == 24);
+    assert!(offset_of!(Answer, number) == 0 && offset_of!(Answer, file) == 1);
+    assert!(offset_of!(Answer, place) == 8 && offset_of!(Answer, row) == 16);
+    assert!(offset_of!(Answer, step) == 18 && offset_of!(Answer, branch) == 20);
+    assert!(size_of::<ReadResult>() == 40 && offset_of!(ReadResult, count) == 24);
+    assert!(offset_of!(ReadResult, k) == 32);
+    assert!(size_of::<WriteResult>() == 32 && offset_of!(WriteResult, count) == 24);
+    assert!(size_of::<Tested>() == 32 && offset_of!(Tested, holds) == 24);
+};
 
 extern "C" {
     pub fn dulgaverk_read(

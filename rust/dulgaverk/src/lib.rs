@@ -1,8 +1,9 @@
 //! The verified operations, with ordinary Rust types.
 //!
 //! Each comes in two shapes: one that gives what it makes, and one, ending in `_into`, that is lent the outputs.
-//! A refusal says by which number, in which file and at which place ([`Refusal`]); it leaves every lent output as it
-//! was. Accepted, what lies behind the bytes or numbers used stays. Nothing has to be tested before a call.
+//! A refusal says by which number, in which file and at which place, and of a proof also in which row and branch
+//! ([`Refusal`]); it leaves every lent output as it was. Accepted, what lies behind the bytes or numbers used stays.
+//! Nothing has to be tested before a call.
 
 mod boundary;
 mod refusal;
@@ -37,15 +38,22 @@ pub struct Bundle {
     pub numbers: Vec<i16>,
 }
 
+/// Accepted is 0, 0, 0 and no row, step or branch. The library gives nothing else with the number 0; if it did, that
+/// would be handed on, so that a comparison sees it.
 fn accepted<T>(answer: boundary::Answer, value: T) -> Result<T, Refusal> {
-    if answer.number == 0 {
-        return Ok(value);
-    }
-    Err(Refusal {
+    let there = |number: u16| (number != boundary::NONE).then_some(number);
+    let refusal = Refusal {
         number: answer.number,
         file: answer.file,
         place: answer.place,
-    })
+        row: there(answer.row),
+        step: there(answer.step),
+        branch: there(answer.branch),
+    };
+    if refusal == Refusal::outside(0, 0, 0) {
+        return Ok(value);
+    }
+    Err(refusal)
 }
 
 // In each call below the pointers and lengths are those of Rust slices, and what is lent as `&mut` overlaps nothing
@@ -195,11 +203,7 @@ pub fn show_into(a: &[u8], b: &[u8], line: u16, out: &mut [u8]) -> Result<usize,
         )
     };
     if size > out.len() {
-        return Err(Refusal {
-            number: 21,
-            file: 4,
-            place: size,
-        });
+        return Err(Refusal::outside(21, 4, size));
     }
     Ok(size)
 }

@@ -13,6 +13,13 @@ use std::fmt;
 ///     refusal.to_string(),
 ///     "refused 5 file 1 at 0: the edition is not 1 (A, or a bundle read alone)"
 /// );
+///
+/// // 2x - 1 ≤ 0 in A, nothing in B; strengthen line 0, then close line 0, which has a coefficient.
+/// let a = b"\x01\0\x01\x01\x02\0\x01\x01\x03\0\x04\0\x02\xFF\xFF";
+/// let proof = b"\x01\0\x01\x01\x02\0\x01\x01\x13\0\x01\0\x14\0\x01\0";
+/// let refusal = dulgaverk::check(a, &a[..8], proof).unwrap_err();
+/// assert_eq!((refusal.number, refusal.file, refusal.place), (15, 3, 12));
+/// assert_eq!((refusal.row, refusal.step, refusal.branch), (Some(1), Some(0), Some(0)));
 /// ```
 #[derive(Clone, Copy, PartialEq, Eq, Hash, Debug)]
 pub struct Refusal {
@@ -22,9 +29,34 @@ pub struct Refusal {
     pub file: u8,
     /// The byte at which the field at fault starts, if the operation says nothing else.
     pub place: usize,
+    /// The row of the proof at fault, from 0; claims and notes are no rows, and a claim belongs to the row before it.
+    /// None for what check tests before the count of rows (18) or at the end of the proof, and where no proof is checked.
+    pub row: Option<u16>,
+    /// The row number of the innermost strengthen that the field at fault finds open; for 20, that is open at the end.
+    /// None on the root, and after its close.
+    pub step: Option<u16>,
+    /// Which branch of that step it is: 0, 1 or 2 in file order. None where there is no step.
+    pub branch: Option<u16>,
 }
 
 impl Refusal {
+    /// A refusal outside every row and branch.
+    ///
+    /// ```
+    /// let refusal = dulgaverk::read_bundle(&[1, 0, 1, 2]).unwrap_err();
+    /// assert_eq!(refusal, dulgaverk::Refusal::outside(5, 1, 0));
+    /// ```
+    pub const fn outside(number: u8, file: u8, place: usize) -> Refusal {
+        Refusal {
+            number,
+            file,
+            place,
+            row: None,
+            step: None,
+            branch: None,
+        }
+    }
+
     /// What the number means.
     pub fn meaning(&self) -> &'static str {
         MEANINGS
@@ -50,6 +82,7 @@ impl fmt::Display for Refusal {
             number,
             file,
             place,
+            ..
         } = self;
         let (meaning, name) = (self.meaning(), self.file_name());
         write!(

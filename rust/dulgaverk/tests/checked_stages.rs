@@ -30,10 +30,21 @@ fn equals(numbers: &[i16]) -> Bytes {
 }
 
 fn refused<T>(number: u8, file: u8, place: usize) -> Result<T, Refusal> {
+    Err(Refusal::outside(number, file, place))
+}
+
+/// A refusal of a row of the proof, with the step and the branch around it.
+fn refused_row<T>(
+    number: u8,
+    place: usize,
+    row: u16,
+    around: Option<(u16, u16)>,
+) -> Result<T, Refusal> {
     Err(Refusal {
-        number,
-        file,
-        place,
+        row: Some(row),
+        step: around.map(|(step, _)| step),
+        branch: around.map(|(_, branch)| branch),
+        ..Refusal::outside(number, 3, place)
     })
 }
 
@@ -63,7 +74,7 @@ fn of([a, b, proof]: [Bytes; 3]) -> Result<Bytes, Refusal> {
 #[test]
 fn stages_1_and_2() {
     assert_eq!(of(stage_1(&[], 2)), Ok(formula_1()));
-    assert_eq!(of(stage_1(&[], 3)), refused(15, 3, 15));
+    assert_eq!(of(stage_1(&[], 3)), refused_row(15, 15, 1, None));
 }
 
 #[test]
@@ -74,7 +85,7 @@ fn stages_3_and_4() {
     let expected = file(1, &[field(0x33, &longs(&[1, 0]))]);
     assert_eq!(check(&a, &b, &rows), Ok(expected));
     let b = file(1, &[at_most(&[-1, 0])]);
-    assert_eq!(check(&a, &b, &rows), refused(15, 3, 17));
+    assert_eq!(check(&a, &b, &rows), refused_row(15, 17, 1, None));
 }
 
 #[test]
@@ -97,7 +108,24 @@ fn stage_5() {
         ],
     );
     let (a, b) = (file(1, &[at_most(&[2, -1])]), file(1, &[at_most(&[-2, 1])]));
-    assert_eq!(check(&a, &b, &file(1, &rows)), Ok(expected));
+    let proof = file(1, &rows);
+    assert_eq!(check(&a, &b, &proof), Ok(expected));
+
+    // A stride of 3 in the middle branch.
+    let mut other = proof.clone();
+    other[30] = 3;
+    let expected = refused_row(15, 25, 3, Some((0, 1)));
+    assert_eq!(check(&a, &b, &other), expected);
+    // The file ends after the middle branch.
+    let expected = Refusal {
+        step: Some(0),
+        branch: Some(2),
+        ..Refusal::outside(20, 3, 31)
+    };
+    assert_eq!(check(&a, &b, &proof[..31]), Err(expected));
+    // A known field after the root.
+    let more = [proof, field(0x13, &[0])].concat();
+    assert_eq!(check(&a, &b, &more), refused(19, 3, 44));
 }
 
 #[test]
@@ -133,7 +161,7 @@ fn stage_9() {
     rows.push(field(0x12, &[1, 0, 2]));
     assert_eq!(
         check(&a, &file(1, &[]), &file(1, &rows)),
-        refused(13, 3, length)
+        refused_row(13, length, 1, None)
     );
 }
 
@@ -153,7 +181,7 @@ fn stage_10() {
         assert_eq!(check(&full, &full, &proof), Ok(expected(d)));
     }
     let proof = file(16, &[field(0x14, &[64])]);
-    assert_eq!(check(&full, &full, &proof), refused(10, 3, 8));
+    assert_eq!(check(&full, &full, &proof), refused_row(10, 8, 0, None));
     let more = [full.clone(), at_most(&one)].concat();
     assert_eq!(check(&full, &more, &proof), refused(8, 2, full.len()));
     let mut other = full.clone();

@@ -3,11 +3,7 @@
 use dulgaverk::{read_bundle_into, show, test_formula, write_bundle_into, Counts, Refusal};
 
 fn refused<T>(number: u8, file: u8, place: usize) -> Result<T, Refusal> {
-    Err(Refusal {
-        number,
-        file,
-        place,
-    })
+    Err(Refusal::outside(number, file, place))
 }
 
 /// Stage 10: K 16 is read, 17 gives 7; 32 constraints, the 33rd gives 8.

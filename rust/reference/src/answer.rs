@@ -1,6 +1,10 @@
-//! Answers: accepted, or a refusal with its number, file and place.
+//! Answers: accepted, or a refusal with its number, file and place, and where
+//! in the tree of the proof it stands.
 
-/// What an operation answers. Accepted is 0, 0, 0.
+/// What a row, step or branch is where there is none.
+pub const NONE: u16 = 65_535;
+
+/// What an operation answers. Accepted is 0, 0, 0 and no row, step or branch.
 #[derive(Clone, Copy, PartialEq, Eq, Debug)]
 pub struct Answer {
     /// 0 for accepted, else the number of the refusal.
@@ -9,6 +13,13 @@ pub struct Answer {
     pub file: u8,
     /// The byte at which the field at fault starts, if nothing else is said.
     pub place: usize,
+    /// The number of the row at fault; a claim belongs to the row before it.
+    /// `NONE` for what check tests before the count of rows, or at the end.
+    pub row: u16,
+    /// The row number of the innermost strengthen that is open there, and
+    /// which of its branches that is, from 0. `NONE` outside every branch.
+    pub step: u16,
+    pub branch: u16,
 }
 
 impl Answer {
@@ -16,13 +27,18 @@ impl Answer {
         number: 0,
         file: 0,
         place: 0,
+        row: NONE,
+        step: NONE,
+        branch: NONE,
     };
 
+    /// A refusal outside every row and branch.
     pub(crate) fn refused(number: u8, file: u8, place: usize) -> Answer {
         Answer {
             number,
             file,
             place,
+            ..Answer::ACCEPTED
         }
     }
 }

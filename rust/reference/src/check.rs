@@ -49,9 +49,9 @@ fn interpolant(a: &[u8], b: &[u8], proof: &[u8]) -> Result<Vec<u8>, Answer> {
         let field = match fields.take() {
             Ok(Some(field)) => field,
             Ok(None) => break,
-            Err(Unfinished(place)) => return Err(Answer::refused(NOT_WHOLE, FILE_PROOF, place)),
+            Err(Unfinished(place)) => return Err(table.refuse(Fault::of(NOT_WHOLE), place)),
         };
-        let refuse = |number| Err(Answer::refused(number, FILE_PROOF, field.place));
+        let refuse = |table: &Table, number| Err(table.refuse(Fault::of(number), field.place));
         let length = match field.tag {
             TAG_EDITION | TAG_CONSTANTS => 1,
             COMBINE => 6,
@@ -61,42 +61,57 @@ fn interpolant(a: &[u8], b: &[u8], proof: &[u8]) -> Result<Vec<u8>, Answer> {
             CLOSE_BY_NUMBER => 1,
             CLOSE_BY_STRIDE => 3,
             CLAIM => 2 * 4 * (a.k + 1),
-            _ => return refuse(UNKNOWN_TAG),
+            _ => return refuse(&table, UNKNOWN_TAG),
         };
         if table.root_closed {
-            return refuse(AFTER_THE_END);
+            return refuse(&table, AFTER_THE_END);
         }
         match header.take(&field, Some(a.k)) {
-            Err(number) => return refuse(number),
+            Err(number) => return refuse(&table, number),
             Ok(Step::Header(next)) => {
                 header = next;
                 continue;
             }
             Ok(Step::Body(_)) => {}
         }
-        if let Err(number) = table.take(&field, length) {
-            return refuse(number);
+        if let Err(fault) = table.take(&field, length) {
+            return Err(table.refuse(fault, field.place));
         }
     }
     if !matches!(header, Header::Complete(_)) {
-        return Err(Answer::refused(NOT_WHOLE, FILE_PROOF, proof.len()));
+        return Err(table.refuse(Fault::of(NOT_WHOLE), proof.len()));
     }
     if !table.root_closed {
-        return Err(Answer::refused(STILL_OPEN, FILE_PROOF, proof.len()));
+        return Err(table.refuse(Fault::of(STILL_OPEN), proof.len()));
     }
     Ok(table.formula)
+}
+
+/// The number of a refusal, and the row at fault where it is one.
+struct Fault {
+    number: u8,
+    row: u16,
+}
+
+impl Fault {
+    /// A refusal that is no row's own.
+    fn of(number: u8) -> Fault {
+        Fault { number, row: NONE }
+    }
 }
 
 /// Which of its three branches an open strengthen has reached.
 #[derive(Clone, Copy)]
 enum Branch {
-    First,
-    Second,
-    Third,
+    First = 0,
+    Second = 1,
+    Third = 2,
 }
 
 /// A strengthen whose third branch is not yet closed.
 struct Strengthen {
+    /// Its own row number.
+    row: u16,
     /// The line that it strengthens.
     line: usize,
     /// The lines that all its branches start from, before their own new one.
@@ -109,7 +124,8 @@ struct Table {
     lines: Lines,
     /// The strengthens around the current branch, outermost first.
     open: Vec<Strengthen>,
-    rows: usize,
+    /// The rows so far, so the number of the next one.
+    rows: u16,
     /// Whether the field before, notes aside, was a row 0x10 to 0x12.
     claim_in_place: bool,
     root_closed: bool,
@@ -140,23 +156,51 @@ impl Table {
         }
     }
 
+    /// The answer to a fault at a place of the proof. A refused field opens and
+    /// closes nothing, so the step that is open now is the one that it found.
+    fn refuse(&self, fault: Fault, place: usize) -> Answer {
+        let (step, branch) = match self.open.last() {
+            Some(step) => (step.row, step.branch as u16),
+            None => (NONE, NONE),
+        };
+        Answer {
+            row: fault.row,
+            step,
+            branch,
+            ..Answer::refused(fault.number, FILE_PROOF, place)
+        }
+    }
+
     /// Takes a row or a claim, given the length that its tag asks for.
-    fn take(&mut self, field: &Field, length: usize) -> Result<(), u8> {
+    fn take(&mut self, field: &Field, length: usize) -> Result<(), Fault> {
         if field.tag == CLAIM && !self.claim_in_place {
-            return Err(OUT_OF_PLACE);
+            return Err(Fault::of(OUT_OF_PLACE));
         }
         if field.contents.len() != length {
-            return Err(WRONG_LENGTH);
+            return Err(Fault::of(WRONG_LENGTH));
         }
-        if field.tag == CLAIM {
-            self.claim_in_place = false;
-            return if self.lines.newest_is(field.contents) {
-                Ok(())
-            } else {
-                Err(CLAIM_DIFFERS)
-            };
+        // A claim belongs to the row before it, which is there, as it is in place.
+        let (row, result) = if field.tag == CLAIM {
+            (self.rows - 1, self.claim(field.contents))
+        } else {
+            (self.rows, self.row(field))
+        };
+        result.map_err(|number| Fault { number, row })
+    }
+
+    /// Takes a claim of the right length, where one may stand.
+    fn claim(&mut self, stated: &[u8]) -> Result<(), u8> {
+        self.claim_in_place = false;
+        if self.lines.newest_is(stated) {
+            Ok(())
+        } else {
+            Err(CLAIM_DIFFERS)
         }
-        if self.rows == limits::ROWS {
+    }
+
+    /// Takes a row of the right length.
+    fn row(&mut self, field: &Field) -> Result<(), u8> {
+        if usize::from(self.rows) == limits::ROWS {
             return Err(TOO_MANY_ROWS);
         }
         self.rows += 1;
@@ -228,6 +272,8 @@ impl Table {
         let lines = self.lines.count();
         in_range(self.lines.add_raised(line, false, 1, 1))?;
         self.open.push(Strengthen {
+            // It is counted already.
+            row: self.rows - 1,
             line,
             lines,
             branch: Branch::First,

@@ -22,7 +22,7 @@ mod header;
 mod line;
 mod show;
 
-pub use answer::{meaning, Answer, NOT_GIVEN};
+pub use answer::{meaning, Answer, NONE, NOT_GIVEN};
 pub use bundle::{read_bundle, write_bundle, ReadResult, WriteResult};
 pub use check::check;
 pub use formula::{test_formula, TestResult};

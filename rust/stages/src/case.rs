@@ -211,6 +211,9 @@ impl Case {
         push(&mut text, answer.number);
         push(&mut text, answer.file);
         push(&mut text, answer.place);
+        push(&mut text, answer.row);
+        push(&mut text, answer.step);
+        push(&mut text, answer.branch);
         match result {
             Output::Nothing if self.operation() == Operation::Read => text.push_str("0 0 - - "),
             Output::Nothing => text.push_str("- "),

@@ -7,6 +7,7 @@
 pub mod build;
 pub mod case;
 pub mod damage;
+pub mod deep;
 pub mod directed;
 pub mod edge;
 pub mod limit;
@@ -16,6 +17,7 @@ pub mod rng;
 mod stream;
 pub mod stride;
 pub mod table;
+pub mod tree;
 
 pub use case::{Case, Operation, Outcome, Output, OPERATIONS};
 pub use list::{heavy_list, list, HEAVY};

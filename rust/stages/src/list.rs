@@ -1,6 +1,7 @@
 //! The mixed list that the program prints.
 
 use crate::case::{Case, Operation, OPERATIONS};
+use crate::deep::deep;
 use crate::rng::Rng;
 use crate::stream::{damaged, random, sound, Class};
 use crate::table::Size;
@@ -9,10 +10,14 @@ use std::collections::HashSet;
 
 /// A case with a file above so many bytes is heavy.
 pub const HEAVY: usize = 2_000;
+/// How many faults inside branches the list has for certain, and how long
+/// their files are at most.
+const DEEP: usize = 30;
+const SHORT: usize = 400;
 
 /// The list for a seed: a case for each refusal of each operation and file,
-/// then some of both sides of the limits, then a random mixture up to the
-/// count. Only the cases for the refusals 1 and 18 have a file above `HEAVY`
+/// then some of both sides of the limits, some faults inside branches, then a
+/// random mixture up to the count. Only the cases for the refusals 1 and 18 have a file above `HEAVY`
 /// bytes, as these cannot be met otherwise; `light` leaves them out too.
 pub fn list(seed: u64, count: usize, light: bool) -> Vec<(Class, Case)> {
     let mut rng = Rng::new(seed);
@@ -50,6 +55,14 @@ pub fn list(seed: u64, count: usize, light: bool) -> Vec<(Class, Case)> {
             } else {
                 rest.push((Class::Limit, case));
             }
+        }
+    }
+    let mut left = DEEP;
+    while left > 0 {
+        let (_, case) = deep(&mut rng, Size::SMALL.constants);
+        if case.longest_file() <= SHORT {
+            cases.push((Class::Damaged, case));
+            left -= 1;
         }
     }
     rng.shuffle(&mut rest);

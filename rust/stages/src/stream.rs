@@ -4,14 +4,15 @@ use crate::case::{Case, Operation};
 use crate::damage::{damage, noise};
 use crate::rng::Rng;
 use crate::table::{careless_table, closed_table, Size, Table};
-use crate::{directed, edge, limit, other};
+use crate::{deep, directed, edge, limit, other};
 
 /// What sort of cases are wanted.
 #[derive(Clone, Copy, PartialEq, Eq, Debug)]
 pub enum Class {
     /// Right inputs, so accepted unless an output is too short.
     Sound,
-    /// Right inputs damaged in one or two places.
+    /// Right inputs damaged in one or two places; for check also faults inside
+    /// branches.
     Damaged,
     /// One of each refusal.
     Directed,
@@ -157,6 +158,9 @@ pub fn damaged(rng: &mut Rng, operation: Operation, size: &Size) -> Case {
         let Table { a, b, proof, .. } = careless_table(rng, size);
         let out = 65_536;
         return Case::Check { a, b, proof, out };
+    }
+    if operation == Operation::Check && rng.chance(1, 4) {
+        return deep::deep(rng, size.constants).1;
     }
     let mut case = sound(rng, operation, size);
     let times = if rng.chance(1, 4) { 2 } else { 1 };

@@ -293,27 +293,31 @@ fn printed_lines_say_what_the_case_is_and_its_answer() {
             answer.number.to_string(),
             answer.file.to_string(),
             answer.place.to_string(),
+            answer.row.to_string(),
+            answer.step.to_string(),
+            answer.branch.to_string(),
         ];
-        assert_eq!(words[..3], head);
+        assert_eq!(words[..6], head);
+        let words = &words[6..];
         match outcome.result {
             Output::Bytes(bytes) => {
-                assert_eq!(words.len(), 4);
-                assert_eq!(parse_bytes(&words[3]), Some(bytes));
+                assert_eq!(words.len(), 1);
+                assert_eq!(parse_bytes(&words[0]), Some(bytes));
             }
             Output::Bundle { k, kinds, .. } => {
-                assert_eq!(words.len(), 7);
-                assert_eq!(words[3], kinds.len().to_string());
-                assert_eq!(words[4], k.to_string());
+                assert_eq!(words.len(), 4);
+                assert_eq!(words[0], kinds.len().to_string());
+                assert_eq!(words[1], k.to_string());
             }
             Output::Part(file, start, end) => {
-                assert_eq!(words.len(), 4);
-                assert_eq!(words[3], format!("{file}:{start}:{end}"));
+                assert_eq!(words.len(), 1);
+                assert_eq!(words[0], format!("{file}:{start}:{end}"));
             }
-            Output::Verdict(holds) => assert_eq!(words[3..], [holds.to_string()]),
+            Output::Verdict(holds) => assert_eq!(*words, [holds.to_string()]),
             Output::Nothing if case.operation() == Operation::Read => {
-                assert_eq!(words[3..], ["0", "0", "-", "-"]);
+                assert_eq!(*words, ["0", "0", "-", "-"]);
             }
-            Output::Nothing => assert_eq!(words[3..], ["-"]),
+            Output::Nothing => assert_eq!(*words, ["-"]),
         }
     }
 }

@@ -24,7 +24,7 @@ use Rattle.integers.specs.Remainder.{remainder}
 use Rattle.forms.specs.Forms.{coeff, sum, value, sums, _⊞_, _·_, _plus_, nonzero}
 use Rattle.forms.specs.Reduced.{reduced}
 use Rattle.calculus.specs.Rules.{small, every, inRange}
-use Rattle.fields.specs.Answers.{answer, _>>=_, _>>_, need, found, each, over, fit, written}
+use Rattle.fields.specs.Answers.{position, answerAt, rowTold, _>>=_, _>>_, need, found, each, over, fit, written}
 use Rattle.fields.specs.Numbers.{unsigned, complement, signed, unsignedBytes, residue, signedBytes, signeds, signedsBytes, flat, formFrom, formBytes}
 use Rattle.fields.specs.Fields.{front, note, unlessNote, fieldsFrom, fields, fieldBytes, nth}
 use Rattle.fields.specs.Header.{headerTag, known, agrees, headerField, header, finished, headerBytes}
@@ -36,7 +36,7 @@ use Rattle.formula.specs.Formula.{encode, formulaFile, formulaTagged, compound,
 use Rattle.formula.specs.Test.{holds, judge, tested, judged, testFormula}
 use Rattle.proof.specs.Entries.{entryTagged, inPlace, lineNumber, multiplier, sizeOf, entryFrom, entry}
 use Rattle.proof.specs.Rows.{is, fails, equals, sameForm, lineAt, derived, fitting, inequality, byNumber, byStride, states}
-use Rattle.proof.specs.Check.{checkRow, agreeing, checkEntry, checkEntries, checkBranch, checkProof, interpolant, check}
+use Rattle.proof.specs.Check.{checkRow, checkEntry, checkEntries, checkBranch, checkProof, interpolant, check}
 
 ";
 
@@ -45,7 +45,7 @@ const SHARED: &str = "editionNumbered _>>=_ _>>_ need found unsigned complement 
 const BUNDLES: &str = "kindTagged atMost constraints bundle bundles";
 const WRITING: &str =
     "over fit written unsignedBytes residue signedBytes signedsBytes fieldBytes headerBytes";
-const CHECK: &str = "remainder coeff sum value sums _⊞_ _·_ _plus_ nonzero reduced small every inRange flat formBytes finished encode formulaFile entryTagged inPlace lineNumber multiplier sizeOf entryFrom entry is fails equals sameForm lineAt derived fitting inequality byNumber byStride states checkRow agreeing checkEntry checkEntries checkBranch checkProof interpolant check";
+const CHECK: &str = "rowTold remainder coeff sum value sums _⊞_ _·_ _plus_ nonzero reduced small every inRange flat formBytes finished encode formulaFile entryTagged inPlace lineNumber multiplier sizeOf entryFrom entry is fails equals sameForm lineAt derived fitting inequality byNumber byStride states checkRow checkEntry checkEntries checkBranch checkProof interpolant check";
 const READ: &str = "over flat kindNumber kindsOf numbersOf unread store stored readBundle";
 const WRITE: &str = "each constraintsBytes bundleBytes writeBundle";
 const SHOW: &str = "nth partOf constraintPart shownPart answerOf showAnswer handed showPart";
@@ -116,11 +116,19 @@ fn left(lent: &str, used: usize) -> usize {
     lent.parse::<usize>().expect("a length") - used
 }
 
-fn written(answer: &[&str], lent: &str, output: &str) -> String {
+/// An answer as the definitions write it, from its number, file, place, row, step and branch.
+fn answer(words: &[&str]) -> String {
+    let [number, file, place, row, step, branch] = words else {
+        panic!("an answer has six numbers: {words:?}");
+    };
+    format!("answerAt {row} (position {step} {branch}) {number} {file} {place}")
+}
+
+fn written(words: &[&str], lent: &str, output: &str) -> String {
     let used = size(output);
     format!(
-        "record {{ answer = answer {}; count = {used}; output = {} ++ replicate {} 0xAA }}",
-        answer.join(" "),
+        "record {{ answer = {}; count = {used}; output = {} ++ replicate {} 0xAA }}",
+        answer(words),
         bytes(output),
         left(lent, used)
     )
@@ -130,20 +138,21 @@ fn written(answer: &[&str], lent: &str, output: &str) -> String {
 fn statement(case: &[&str]) -> (String, String) {
     match case {
         ["check", _, _, _, _, NOT_GIVEN, ..] => panic!("a number that is not given: {case:?}"),
-        ["check", a, b, p, lent, n, f, place, output] => (
+        ["check", a, b, p, lent, words @ .., output] => (
             format!(
                 "check {} {} {} (replicate {lent} 0xAA) ≡ {}",
                 bytes(a),
                 bytes(b),
                 bytes(p),
-                written(&[n, f, place], lent, output)
+                written(words, lent, output)
             ),
             format!("{SHARED} {BUNDLES} {WRITING} {CHECK}"),
         ),
-        ["read", file, kinds, nums, n, f, place, count, k, out_kinds, out_nums] => (
+        ["read", file, kinds, nums, words @ .., count, k, out_kinds, out_nums] => (
             format!(
-                "readBundle (replicate {kinds} 0xAA) (replicate {nums} (pos 0x55)) {} ≡ record {{ answer = answer {n} {f} {place}; count = {count}; K = {k}; kinds = ({}) ++ replicate {} 0xAA; numbers = ({}) ++ replicate {} (pos 0x55) }}",
+                "readBundle (replicate {kinds} 0xAA) (replicate {nums} (pos 0x55)) {} ≡ record {{ answer = {}; count = {count}; K = {k}; kinds = ({}) ++ replicate {} 0xAA; numbers = ({}) ++ replicate {} (pos 0x55) }}",
                 bytes(file),
+                answer(words),
                 naturals(out_kinds),
                 left(kinds, numbers(out_kinds).len()),
                 integers(out_nums),
@@ -151,22 +160,23 @@ fn statement(case: &[&str]) -> (String, String) {
             ),
             format!("{SHARED} {BUNDLES} {READ}"),
         ),
-        ["write", k, kinds, nums, lent, n, f, place, output] => (
+        ["write", k, kinds, nums, lent, words @ .., output] => (
             format!(
                 "writeBundle {k} ({}) ({}) (replicate {lent} 0xAA) ≡ {}",
                 naturals(kinds),
                 integers(nums),
-                written(&[n, f, place], lent, output)
+                written(words, lent, output)
             ),
             format!("{SHARED} {WRITING} {WRITE}"),
         ),
-        ["show", a, b, line, n, f, place, part] => {
+        ["show", a, b, line, words @ .., part] => {
             let part = if *part == "-" { "1:0:0" } else { part };
             let at: Vec<usize> = part.split(':').map(|x| x.parse().expect("a part")).collect();
             let (a, b) = (bytes(a), bytes(b));
             (
                 format!(
-                    "(showAnswer {a} {b} {line} ≡ answer {n} {f} {place}) × (showPart {a} {b} {line} ≡ record {{ file = {}; start = {}; size = {} }})",
+                    "(showAnswer {a} {b} {line} ≡ {}) × (showPart {a} {b} {line} ≡ record {{ file = {}; start = {}; size = {} }})",
+                    answer(words),
                     at[0],
                     at[1],
                     at[2] - at[1]
@@ -174,11 +184,12 @@ fn statement(case: &[&str]) -> (String, String) {
                 format!("{SHARED} {BUNDLES} {SHOW}"),
             )
         }
-        ["test", file, values, n, f, place, result] => (
+        ["test", file, values, words @ .., result] => (
             format!(
-                "testFormula {} ({}) ≡ record {{ answer = answer {n} {f} {place}; holds = {} }}",
+                "testFormula {} ({}) ≡ record {{ answer = {}; holds = {} }}",
                 bytes(file),
                 integers(values),
+                answer(words),
                 if *result == "true" { "true" } else { "false" }
             ),
             format!("{SHARED} {TEST}"),

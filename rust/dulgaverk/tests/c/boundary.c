@@ -7,17 +7,22 @@
 /* The layouts that the library was compiled for. */
 _Static_assert(sizeof(size_t) == 8, "a place has 8 bytes");
 _Static_assert(sizeof(bool) == 1, "a truth value has 1 byte");
-_Static_assert(sizeof(dulgaverk_answer) == 16 && offsetof(dulgaverk_answer, number) == 0 &&
-                   offsetof(dulgaverk_answer, file) == 1 && offsetof(dulgaverk_answer, place) == 8,
+_Static_assert(sizeof(dulgaverk_answer) == 24 && offsetof(dulgaverk_answer, number) == 0 &&
+                   offsetof(dulgaverk_answer, file) == 1 && offsetof(dulgaverk_answer, place) == 8 &&
+                   offsetof(dulgaverk_answer, row) == 16 && offsetof(dulgaverk_answer, step) == 18 &&
+                   offsetof(dulgaverk_answer, branch) == 20,
                "an answer");
-_Static_assert(sizeof(dulgaverk_read_result) == 32 && offsetof(dulgaverk_read_result, answer) == 0 &&
-                   offsetof(dulgaverk_read_result, count) == 16 && offsetof(dulgaverk_read_result, k) == 24,
+_Static_assert(sizeof(((dulgaverk_answer *)0)->row) == 2 && sizeof(((dulgaverk_answer *)0)->step) == 2 &&
+                   sizeof(((dulgaverk_answer *)0)->branch) == 2,
+               "row, step and branch have 2 bytes each");
+_Static_assert(sizeof(dulgaverk_read_result) == 40 && offsetof(dulgaverk_read_result, answer) == 0 &&
+                   offsetof(dulgaverk_read_result, count) == 24 && offsetof(dulgaverk_read_result, k) == 32,
                "what reading gives");
-_Static_assert(sizeof(dulgaverk_write_result) == 24 && offsetof(dulgaverk_write_result, answer) == 0 &&
-                   offsetof(dulgaverk_write_result, count) == 16,
+_Static_assert(sizeof(dulgaverk_write_result) == 32 && offsetof(dulgaverk_write_result, answer) == 0 &&
+                   offsetof(dulgaverk_write_result, count) == 24,
                "what writing gives");
-_Static_assert(sizeof(dulgaverk_tested) == 24 && offsetof(dulgaverk_tested, answer) == 0 &&
-                   offsetof(dulgaverk_tested, holds) == 16,
+_Static_assert(sizeof(dulgaverk_tested) == 32 && offsetof(dulgaverk_tested, answer) == 0 &&
+                   offsetof(dulgaverk_tested, holds) == 24,
                "what testing gives");
 
 static int differences = 0;
@@ -30,8 +35,18 @@ static void expect(bool right, const char *what, int line) {
 }
 #define EXPECT(condition) expect((condition), #condition, __LINE__)
 
+#define NONE DULGAVERK_NONE
+
+/* An answer to a proof, with row, step and branch. */
+static bool is_at(dulgaverk_answer answer, uint8_t number, size_t place, uint16_t row, uint16_t step, uint16_t branch) {
+    return answer.number == number && answer.file == 3 && answer.place == place && answer.row == row &&
+           answer.step == step && answer.branch == branch;
+}
+
+/* An answer without row, step and branch. */
 static bool is(dulgaverk_answer answer, uint8_t number, uint8_t file, size_t place) {
-    return answer.number == number && answer.file == file && answer.place == place;
+    return answer.number == number && answer.file == file && answer.place == place && answer.row == NONE &&
+           answer.step == NONE && answer.branch == NONE;
 }
 
 /* Whether all bytes of a buffer are as `fill` left them. */
@@ -166,7 +181,7 @@ static void checking(void) {
     other[20] = 3;
     dulgaverk_write_result r =
         dulgaverk_check(a, sizeof a, b, sizeof b, other, sizeof other, out, sizeof out);
-    EXPECT(is(r.answer, 15, 3, 15) && r.count == 0);
+    EXPECT(is_at(r.answer, 15, 15, 1, NONE, NONE) && r.count == 0);
     /* Stage 7: 20 at place 8. */
     r = dulgaverk_check(a, 8, b, 8, proof, 8, out, sizeof out);
     EXPECT(is(r.answer, 20, 3, 8) && r.count == 0);
@@ -201,6 +216,40 @@ static void checking(void) {
     EXPECT(memcmp(out, formula, sizeof formula) == 0 && all(out + sizeof formula, 3, 0xA5));
 }
 
+/* Stage 5, A 2x-1 <= 0 and B -2x+1 <= 0: a strengthen and its branches, then faults in the branches. */
+static void branches(void) {
+    static const uint8_t a5[] = {0x01, 0, 1, 1, 0x02, 0, 1, 1, 0x03, 0, 4, 0, 2, 0xFF, 0xFF};
+    static const uint8_t b5[] = {0x01, 0, 1, 1, 0x02, 0, 1, 1, 0x03, 0, 4, 0xFF, 0xFE, 0, 1};
+    static const uint8_t proof[] = {0x01, 0,    1, 1, 0x02, 0, 1, 1, 0x13, 0, 1,    0,    0x10, 0, 6,
+                                    2,    1,    0, 1, 0,    1, 0x14, 0, 1,    3, 0x15, 0,    3,    2, 0,
+                                    2,    0x10, 0, 6, 2,    1, 0, 1, 0,    1, 0x14, 0,    1,    3};
+    uint8_t out[51], other[sizeof proof + 4];
+    _Static_assert(sizeof proof == 44, "the proof of stage 5");
+    FILL(out);
+    /* A stride of 3 in the middle branch. */
+    memcpy(other, proof, sizeof proof);
+    other[30] = 3;
+    dulgaverk_write_result r =
+        dulgaverk_check(a5, sizeof a5, b5, sizeof b5, other, sizeof proof, out, sizeof out);
+    EXPECT(is_at(r.answer, 15, 25, 3, 0, 1) && r.count == 0);
+    /* The file ends after the middle branch, and before the first. */
+    r = dulgaverk_check(a5, sizeof a5, b5, sizeof b5, proof, 31, out, sizeof out);
+    EXPECT(is_at(r.answer, 20, 31, NONE, 0, 2) && r.count == 0);
+    r = dulgaverk_check(a5, sizeof a5, b5, sizeof b5, proof, 12, out, sizeof out);
+    EXPECT(is_at(r.answer, 20, 12, NONE, 0, 0) && r.count == 0);
+    /* A field that is not whole, in the third branch. */
+    r = dulgaverk_check(a5, sizeof a5, b5, sizeof b5, proof, 39, out, sizeof out);
+    EXPECT(is_at(r.answer, 2, 31, NONE, 0, 2) && r.count == 0);
+    /* A known field after the root. */
+    memcpy(other, proof, sizeof proof);
+    memcpy(other + sizeof proof, proof + 8, 4);
+    r = dulgaverk_check(a5, sizeof a5, b5, sizeof b5, other, sizeof other, out, sizeof out);
+    EXPECT(is(r.answer, 19, 3, 44) && r.count == 0);
+    UNCHANGED(out);
+    r = dulgaverk_check(a5, sizeof a5, b5, sizeof b5, proof, sizeof proof, out, sizeof out);
+    EXPECT(is(r.answer, 0, 0, 0) && r.count == sizeof out);
+}
+
 static void testing(void) {
     static const int32_t even[] = {1, 4, -7}, odd[] = {1, -3, 0}, outside[] = {1, 4, -1000001};
     dulgaverk_tested t = dulgaverk_test(formula, sizeof formula, even, 3);
@@ -228,6 +277,7 @@ int main(void) {
     largest();
     showing();
     checking();
+    branches();
     testing();
     return differences < 100 ? differences : 100;
 }

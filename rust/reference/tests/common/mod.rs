@@ -1,20 +1,41 @@
 //! Builders of files, and calls that also watch the lent buffers.
 #![allow(dead_code)]
 
-use reference::{check, read_bundle, show, show_answer, test_formula, write_bundle, Answer};
+use reference::{check, read_bundle, show, show_answer, test_formula, write_bundle, Answer, NONE};
 
 pub const ACCEPTED: Answer = Answer {
     number: 0,
     file: 0,
     place: 0,
+    row: NONE,
+    step: NONE,
+    branch: NONE,
 };
 
+/// A refusal outside every row and branch.
 pub fn refused(number: u8, file: u8, place: usize) -> Answer {
     Answer {
         number,
         file,
         place,
+        ..ACCEPTED
     }
+}
+
+/// A refusal in the proof, with its row, and with the step and the branch that
+/// are open there.
+pub fn refused_at(number: u8, place: usize, [row, step, branch]: [u16; 3]) -> Answer {
+    Answer {
+        row,
+        step,
+        branch,
+        ..refused(number, 3, place)
+    }
+}
+
+/// Number, file and place of an answer; tree.rs tests the rest.
+fn without_tree(answer: Answer) -> Answer {
+    refused(answer.number, answer.file, answer.place)
 }
 
 /// Bytes from hexadecimal; spaces are passed over.
@@ -129,8 +150,8 @@ pub fn divides(g: i32, numbers: &[i32]) -> Vec<u8> {
 }
 
 /// Checks with an output of the given length. The output must be unchanged
-/// on refusal and behind the bytes written.
-pub fn check_into(a: &[u8], b: &[u8], proof: &[u8], length: usize) -> (Answer, Vec<u8>) {
+/// on refusal and behind the bytes written. Gives the whole answer.
+pub fn check_whole(a: &[u8], b: &[u8], proof: &[u8], length: usize) -> (Answer, Vec<u8>) {
     let mut out = vec![0xA5; length];
     let result = check(a, b, proof, &mut out);
     assert!(out[result.written..].iter().all(|&byte| byte == 0xA5));
@@ -144,11 +165,22 @@ pub fn check_into(a: &[u8], b: &[u8], proof: &[u8], length: usize) -> (Answer, V
     (result.answer, out)
 }
 
+/// Checks the same way; gives number, file and place of the answer only.
+pub fn check_into(a: &[u8], b: &[u8], proof: &[u8], length: usize) -> (Answer, Vec<u8>) {
+    let (answer, bytes) = check_whole(a, b, proof, length);
+    (without_tree(answer), bytes)
+}
+
 pub fn check_all(a: &[u8], b: &[u8], proof: &[u8]) -> (Answer, Vec<u8>) {
     check_into(a, b, proof, 65_536)
 }
 
-/// The answer only.
+/// The whole answer.
+pub fn whole_answer(a: &[u8], b: &[u8], proof: &[u8]) -> Answer {
+    check_whole(a, b, proof, 65_536).0
+}
+
+/// Number, file and place only.
 pub fn answer(a: &[u8], b: &[u8], proof: &[u8]) -> Answer {
     check_all(a, b, proof).0
 }

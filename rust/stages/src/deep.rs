@@ -1,0 +1,251 @@
+//! Faults inside branches: a table down to a random branch, mostly two or
+//! three deep, and there one fault of a random sort.
+
+use crate::build::*;
+use crate::directed::{check, Aimed};
+use crate::rng::Rng;
+
+/// The refusals that a field or the end can meet inside any branch.
+const SORTS: [u8; 13] = [2, 3, 4, 6, 10, 11, 12, 13, 14, 15, 16, 17, 20];
+
+/// A table as far as it is made. Line 0 is "form ≤ 0", with a constant, and
+/// line 1 closes any branch.
+struct Maker {
+    k: usize,
+    form: Vec<i16>,
+    /// Whether line 0 is of A.
+    own: bool,
+    /// Whether line 1 is "1 = 0", not "1 ≤ 0".
+    equality: bool,
+    /// Lines on the branch.
+    lines: usize,
+    fields: Vec<Vec<u8>>,
+}
+
+/// A check that is refused inside a branch, with the number that it is made
+/// for, over at most so many constants.
+pub fn deep(rng: &mut Rng, constants: usize) -> Aimed {
+    let k = 1 + rng.below(constants);
+    let mut form: Vec<i16> = (0..=k).map(|_| rng.within(-9, 9) as i16).collect();
+    form[0] = *rng.pick(&[-3, -1, 1, 2, 7]);
+    let mut maker = Maker {
+        k,
+        form,
+        own: rng.chance(1, 2),
+        equality: rng.chance(1, 2),
+        lines: 2,
+        fields: Vec::new(),
+    };
+    let number = *rng.pick(&SORTS);
+    let depth = match number {
+        17 => 32,
+        _ => *rng.pick(&[1, 2, 2, 2, 2, 3, 3, 3, 3, 4, 5, 8]),
+    };
+    for _ in 0..depth {
+        maker.go_in(rng, depth <= 8);
+    }
+    if depth <= 8 {
+        maker.some_rows(rng);
+    }
+    maker.fault(rng, number);
+    // What comes after a fault does not matter; a cut field must be the last.
+    if number != 2 && number != 20 {
+        for _ in 0..rng.below(4) {
+            let end = maker.end(rng);
+            maker.fields.push(end);
+        }
+    }
+    let (a, b) = maker.bundles(rng);
+    let proof = noted(rng, k as u8, &maker.fields, number == 20);
+    (number, check(a, b, proof))
+}
+
+/// A file of the fields, half of the time with notes in front of many of them,
+/// and at the end too if that is asked for.
+fn noted(rng: &mut Rng, k: u8, fields: &[Vec<u8>], at_the_end: bool) -> Vec<u8> {
+    let share = *rng.pick(&[0, 0, 1, 3]);
+    let mut notes = |out: &mut Vec<u8>| {
+        while share > 0 && rng.chance(share, 6) {
+            let length = rng.below(5);
+            let contents = rng.bytes(length);
+            push_field(out, 0x80 | rng.byte(), &contents);
+        }
+    };
+    let mut proof = header(k);
+    for part in fields {
+        notes(&mut proof);
+        proof.extend_from_slice(part);
+    }
+    if at_the_end {
+        notes(&mut proof);
+    }
+    proof
+}
+
+impl Maker {
+    /// The two lines in A and B by chance, but line 0 first.
+    fn bundles(&self, rng: &mut Rng) -> (Vec<u8>, Vec<u8>) {
+        let mut one = vec![0; self.k + 1];
+        one[self.k] = 1;
+        let first = constraint(false, &self.form);
+        let second = constraint(self.equality, &one);
+        let k = self.k as u8;
+        match (self.own, rng.chance(1, 2)) {
+            (true, true) => (file(k, &[first, second]), file(k, &[])),
+            (true, false) => (file(k, &[first]), file(k, &[second])),
+            (false, _) => (file(k, &[]), file(k, &[first, second])),
+        }
+    }
+
+    /// A row that closes any branch.
+    fn end(&self, rng: &mut Rng) -> Vec<u8> {
+        if self.equality && rng.chance(1, 2) {
+            stride(1, rng.within(2, 65_535) as u16)
+        } else {
+            close(1)
+        }
+    }
+
+    /// A claim of line 0 times a number, right if `off` is 0.
+    fn stated(&self, times: u16, off: i32) -> Vec<u8> {
+        let multiple = |&number: &i16| i32::from(number) * i32::from(times);
+        let mut t: Vec<i32> = self.form.iter().map(multiple).collect();
+        let partial = if self.own {
+            t.clone()
+        } else {
+            vec![0; self.k + 1]
+        };
+        t[self.k] += off;
+        claim(&t, &partial)
+    }
+
+    /// A new line, line 0 times a number.
+    fn scaled(&mut self, times: u16) {
+        self.fields.push(scale(0, times));
+        self.lines += 1;
+    }
+
+    /// Up to two rows, some of them with a claim.
+    fn some_rows(&mut self, rng: &mut Rng) {
+        for _ in 0..rng.below(3) {
+            let times = 1 + rng.below(5) as u16;
+            self.scaled(times);
+            if rng.chance(1, 2) {
+                let claim = self.stated(times, 0);
+                self.fields.push(claim);
+            }
+        }
+    }
+
+    /// Closes a branch: at once, or by a step of its own whose branches are
+    /// closed one after the other.
+    fn whole_branch(&mut self, rng: &mut Rng, depth: usize) {
+        if depth > 0 && rng.chance(1, 4) {
+            self.fields.push(strengthen(0));
+            for _ in 0..3 {
+                self.whole_branch(rng, depth - 1);
+            }
+        } else {
+            let end = self.end(rng);
+            self.fields.push(end);
+        }
+    }
+
+    /// A strengthen, and on to a random branch of it. `rich`: with rows in
+    /// front, and steps in the branches that are closed on the way.
+    fn go_in(&mut self, rng: &mut Rng, rich: bool) {
+        if rich {
+            self.some_rows(rng);
+        }
+        self.fields.push(strengthen(0));
+        for _ in 0..rng.below(3) {
+            self.whole_branch(rng, if rich { 2 } else { 0 });
+        }
+        self.lines += 1;
+    }
+
+    /// The fields of a fault, the last of them refused with the number.
+    fn fault(&mut self, rng: &mut Rng, number: u8) {
+        let k = self.k as u8;
+        let missing = (self.lines + rng.below(256 - self.lines)) as u8;
+        let either = rng.chance(1, 2);
+        let last = match number {
+            2 => match rng.below(4) {
+                0 => vec![0x80 | rng.byte(), 0],
+                1 => vec![0x80 | rng.byte(), 0, 2, 7],
+                2 => vec![0x12, 0, 3, 0],
+                _ => {
+                    self.scaled(2);
+                    let mut claim = self.stated(2, 0);
+                    claim.pop();
+                    claim
+                }
+            },
+            3 => field(*rng.pick(&[0x00, 0x03, 0x05, 0x16, 0x21, 0x31, 0x7F]), &[0]),
+            4 => match rng.below(4) {
+                0 => field(0x01, &[1]),
+                1 => field(0x02, &[k]),
+                2 => {
+                    self.scaled(2);
+                    let claim = self.stated(2, 0);
+                    self.fields.push(claim.clone());
+                    claim
+                }
+                // After a step or a close.
+                _ => {
+                    self.go_in(rng, false);
+                    self.stated(1, 0)
+                }
+            },
+            6 if either => field(*rng.pick(&[0x10, 0x11, 0x12, 0x13, 0x14, 0x15]), &[0, 0]),
+            6 => {
+                self.scaled(2);
+                field(0x20, &self.stated(2, 0)[4..])
+            }
+            10 => match rng.below(6) {
+                0 => combine(0, missing, 0, 1),
+                1 => reduce(missing, 0, 1),
+                2 => scale(missing, 0),
+                3 => strengthen(missing),
+                4 => close(missing),
+                _ => stride(missing, 0),
+            },
+            11 => match rng.below(4) {
+                0 => stride(0, 1),
+                1 if self.equality => strengthen(1),
+                2 if self.equality => combine(0, 1, 0, 1),
+                _ => reduce(1, 0, 0),
+            },
+            12 if either => scale(0, 0),
+            12 => combine(0, 0, 1, 0),
+            13 => {
+                let made = self.lines as u8;
+                self.scaled(65_535);
+                if either {
+                    scale(made, 65_535)
+                } else {
+                    combine(made, 0, 65_535, 1)
+                }
+            }
+            14 => {
+                self.scaled(3);
+                self.stated(3, *rng.pick(&[-1, 1, 256]))
+            }
+            15 => close(0),
+            16 => {
+                while self.lines < 128 {
+                    self.scaled(1);
+                }
+                if either {
+                    scale(0, 1)
+                } else {
+                    strengthen(0)
+                }
+            }
+            17 => strengthen(0),
+            // 20: nothing more.
+            _ => return,
+        };
+        self.fields.push(last);
+    }
+}
