@@ -7,7 +7,7 @@ use lib.IntN.{ℤ}
 use lib.ListN.{length}
 use Rattle.fields.specs.Fields.{Fields, ends, cut}
 use Rattle.fields.proofs.Places.{Starts}
-use Rattle.branches.specs.Room.{fieldCount, fieldsLeft, Spare}
+use Rattle.branches.specs.Spare.{fieldCount, fieldsLeft, Spare}
 
 pub count-starts : {s : List ℕ} {at a tag start len next : ℕ} → Starts s at a tag start len next → fieldsLeft s at ≡ suc (fieldsLeft s next)
 unfolding fieldCount

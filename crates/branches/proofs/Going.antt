@@ -11,28 +11,31 @@ use lib.IntN.{ℤ}
 use Rattle.forms.specs.Edition.{edition1}
 use Rattle.forms.specs.Forms.{Line}
 use Rattle.calculus.specs.Rules as rules
-use Rattle.fields.specs.Answers.{Result}
+use Rattle.fields.specs.declared.Position.{Position}
+use Rattle.fields.specs.Answers.{refusalAt, Result}
 use Rattle.fields.specs.Fields.{ends, cut}
 use Rattle.fields.specs.Places.{fieldsAt}
-use Rattle.fields.proofs.Places.{Starts}
-use Rattle.lines.specs.Parts.{agree-trans, agree-le, agree-sym}
-use Rattle.lines.specs.Lines.{lines-same, bounded-same}
+use Rattle.fields.proofs.Places.{Starts, starts-less}
+use Rattle.lines.proofs.Parts.{agree-trans, agree-le, agree-sym}
+use Rattle.lines.proofs.Lines.{lines-same, bounded-same}
 use Rattle.rows.proofs.Deriving.{kept-refl, ready-more}
 use Rattle.lines.specs.Buffer.{size, linesIn}
+use Rattle.proof.specs.Entries.{entry}
 use Rattle.proof.specs.Check.{Closing, Checker, checkEntries}
-use Rattle.rows.specs.Rows.{Ready, Kept}
-use Rattle.rows.specs.Steps.{Same, rowLeft, moreRows, lastMade, fieldChecked, Steps}
-use Rattle.branches.specs.Room.{fieldsLeft, Spare}
+use Rattle.rows.specs.Rows.{Ready, LinesKept}
+use Rattle.rows.specs.Steps.{SameChecked, rowLeft, moreRows, lastMade, fieldChecked, Steps}
+use Rattle.branches.specs.Spare.{fieldsLeft, unreadBytes, Spare}
 use Rattle.branches.specs.Branches.{entriesFrom, Comes, Stopped}
 use Rattle.branches.proofs.Counting.{count-starts, spare-less}
 use Rattle.forms.specs.declared.LineNumber.{LineNumber}
+use Rattle.forms.specs.declared.RowNumber.{RowNumber}
 use Rattle.rows.specs.declared.tally.Tally.{Tally}
 use Rattle.rows.specs.declared.steps.Stepped.{Stepped}
 use Rattle.rows.specs.declared.steps.Stepped.the-variants.{Refused, Made, Strengthens, ClosesNumber, ClosesStride}
 use Rattle.branches.specs.declared.branch.Stop.{Stop}
 
 pub kept-trans : {K m n : ℕ} {kinds : List ℕ} {buf : List ℤ} {kinds′ : List ℕ} {buf′ : List ℤ} {kinds″ : List ℕ} {buf″ : List ℤ}
-    → m ≤ n → Kept K m kinds buf kinds′ buf′ → Kept K n kinds′ buf′ kinds″ buf″ → Kept K m kinds buf kinds″ buf″
+    → m ≤ n → LinesKept K m kinds buf kinds′ buf′ → LinesKept K n kinds′ buf′ kinds″ buf″ → LinesKept K m kinds buf kinds″ buf″
 kept-trans {K} {m} {n} h a b = record {
   lines-same = agree-trans (agree-le (mul-le-mul-right (size K) h) (b .lines-same)) (a .lines-same);
   kinds-same = agree-trans (agree-le h (b .kinds-same)) (a .kinds-same);
@@ -40,7 +43,7 @@ kept-trans {K} {m} {n} h a b = record {
   kinds-length = b .kinds-length ∙ a .kinds-length;
 }
 
-pub ready-kept : {K n : ℕ} {kinds : List ℕ} {buf : List ℤ} {kinds′ : List ℕ} {buf′ : List ℤ} → Ready K kinds buf n → Kept K n kinds buf kinds′ buf′ → Ready K kinds′ buf′ n
+pub ready-kept : {K n : ℕ} {kinds : List ℕ} {buf : List ℤ} {kinds′ : List ℕ} {buf′ : List ℤ} → Ready K kinds buf n → LinesKept K n kinds buf kinds′ buf′ → Ready K kinds′ buf′ n
 ready-kept r k = record {
   branch = record {
     constants = r .branch .constants;
@@ -52,47 +55,48 @@ ready-kept r k = record {
 }
 
 -- The entries from a place on, in the middle of a branch.
-abbrev entriesAt : (K : ℕ) (p : List ℕ) (here : ℕ) (kinds : List ℕ) (buf : List ℤ) (t : Tally) (made : Bool) (deeper : Option Checker) → Result Closing
-entriesAt K p here kinds buf t made deeper =
-    checkEntries edition1 K deeper (fieldsAt p here) (t .rows .0) (lastMade made K kinds buf (t .lines .0)) (linesIn K kinds buf (t .lines .0))
+abbrev entriesAt : (K : ℕ) (p : List ℕ) (place : ℕ) (kinds : List ℕ) (buf : List ℤ) (t : Tally) (made : Bool) (here : Position) (deeper : Option Checker) → Result Closing
+entriesAt K p place kinds buf t made here deeper =
+    checkEntries edition1 K here deeper (fieldsAt p place) (t .rows .0) (lastMade made K kinds buf (t .lines .0)) (linesIn K kinds buf (t .lines .0))
 
-pub record Going (K : ℕ) (p : List ℕ) (at : ℕ) (kinds₀ : List ℕ) (buf₀ : List ℤ) (t₀ : Tally) (kinds : List ℕ) (buf : List ℤ) (here : ℕ) (t : Tally) (made : Bool) : Type 0 where
-  pub same : (deeper : Option Checker) → entriesFrom K p at kinds₀ buf₀ t₀ deeper ≡ entriesAt K p here kinds buf t made deeper
-  pub kept : Kept K (t₀ .lines .0) kinds₀ buf₀ kinds buf
+pub record Going (K : ℕ) (p : List ℕ) (at : ℕ) (kinds₀ : List ℕ) (buf₀ : List ℤ) (t₀ : Tally) (kinds : List ℕ) (buf : List ℤ) (place : ℕ) (t : Tally) (made : Bool) : Type 0 where
+  pub same : (here : Position) (deeper : Option Checker) → entriesFrom K p at kinds₀ buf₀ t₀ here deeper ≡ entriesAt K p place kinds buf t made here deeper
+  pub kept : LinesKept K (t₀ .lines .0) kinds₀ buf₀ kinds buf
   pub ready : Ready K kinds buf (t .lines .0)
   pub from : t₀ .lines .0 ≤ t .lines .0
   pub open-is : t .«open» ≡ t₀ .«open»
   pub made-one : made ≡ true → 1 ≤ t .lines .0
-  pub few : t .lines .0 + fieldsLeft p here ≤ t₀ .lines .0 + fieldsLeft p at
+  pub few : t .lines .0 + fieldsLeft p place ≤ t₀ .lines .0 + fieldsLeft p at
   pub spare : Spare K (t₀ .lines .0 + fieldsLeft p at) buf
+  pub unread : unreadBytes p place ≤ unreadBytes p at
 
-module _ {K : ℕ} {p : List ℕ} {at : ℕ} {kinds₀ : List ℕ} {buf₀ : List ℤ} {t₀ : Tally} {kinds : List ℕ} {buf : List ℤ} {here : ℕ} {t : Tally} {made : Bool}
-    (g : Going K p at kinds₀ buf₀ t₀ kinds buf here t made) where
-  pub going-cut : {a : ℕ} → fieldsAt p here ≡ cut a → Stopped K p at kinds₀ buf₀ t₀ kinds buf (Stop.Fault 2 a)
+module _ {K : ℕ} {p : List ℕ} {at : ℕ} {kinds₀ : List ℕ} {buf₀ : List ℤ} {t₀ : Tally} {kinds : List ℕ} {buf : List ℤ} {place : ℕ} {t : Tally} {made : Bool}
+    (g : Going K p at kinds₀ buf₀ t₀ kinds buf place t made) where
+  pub going-cut : {a : ℕ} {rows : RowNumber} → rows ≡ t .rows → fieldsAt p place ≡ cut a → Stopped K p at kinds₀ buf₀ t₀ kinds buf (Stop.Fault 2 rows a)
   unfolding checkEntries
-  going-cut e = record { kept = g .kept; by = λ deeper. g .same deeper ∙ rw e }
+  going-cut er e = rw er (record { kept = g .kept; by = λ here deeper. g .same here deeper ∙ rw e })
 
-  pub going-ends : {a : ℕ} → fieldsAt p here ≡ ends a → Stopped K p at kinds₀ buf₀ t₀ kinds buf (Stop.Fault 20 a)
+  pub going-ends : {a : ℕ} {rows : RowNumber} → rows ≡ t .rows → fieldsAt p place ≡ ends a → Stopped K p at kinds₀ buf₀ t₀ kinds buf (Stop.Fault 20 rows a)
   unfolding checkEntries
-  going-ends e = record { kept = g .kept; by = λ deeper. g .same deeper ∙ rw e }
+  going-ends er e = rw er (record { kept = g .kept; by = λ here deeper. g .same here deeper ∙ rw e })
 
-  module _ {a tag start len next : ℕ} (s : Starts p here a tag start len next) {kinds′ : List ℕ} {buf′ : List ℤ} {r : Stepped}
+  module _ {a tag start len next : ℕ} (s : Starts p place a tag start len next) {kinds′ : List ℕ} {buf′ : List ℤ} {r : Stepped}
       (x : Steps (fieldChecked K kinds buf t made tag (take len (drop start p))) K kinds buf t kinds′ buf′ r) where
     -- the field that stands next, and what follows it
-    field-is : (deeper : Option Checker) → entriesFrom K p at kinds₀ buf₀ t₀ deeper
-        ≡ fieldChecked K kinds buf t made tag (take len (drop start p)) deeper (checkEntries edition1 K deeper (fieldsAt p next)) a (fieldsAt p next)
-    unfolding checkEntries
-    field-is deeper = g .same deeper ∙ rw (s .is)
+    field-is : (here : Position) (deeper : Option Checker) → entriesFrom K p at kinds₀ buf₀ t₀ here deeper
+        ≡ fieldChecked K kinds buf t made tag (take len (drop start p)) deeper (checkEntries edition1 K here deeper (fieldsAt p next)) (refusalAt here (t .rows .0) a) (fieldsAt p next)
+    unfolding checkEntries entry
+    field-is here deeper = g .same here deeper ∙ rw (s .is)
 
-    all-kept : Kept K (t₀ .lines .0) kinds₀ buf₀ kinds′ buf′
+    all-kept : LinesKept K (t₀ .lines .0) kinds₀ buf₀ kinds′ buf′
     all-kept = kept-trans (g .from) (g .kept) (x .kept)
 
-    by-same : {f : _} → Same (fieldChecked K kinds buf t made tag (take len (drop start p))) f → (deeper : Option Checker)
-        → entriesFrom K p at kinds₀ buf₀ t₀ deeper ≡ f deeper (checkEntries edition1 K deeper (fieldsAt p next)) a (fieldsAt p next)
-    by-same q deeper = field-is deeper ∙ q .is deeper (checkEntries edition1 K deeper (fieldsAt p next)) a (fieldsAt p next)
+    by-same : {f : _} → SameChecked (fieldChecked K kinds buf t made tag (take len (drop start p))) f → (here : Position) (deeper : Option Checker)
+        → entriesFrom K p at kinds₀ buf₀ t₀ here deeper ≡ f deeper (checkEntries edition1 K here deeper (fieldsAt p next)) (refusalAt here (t .rows .0) a) (fieldsAt p next)
+    by-same q here deeper = field-is here deeper ∙ q .is deeper (checkEntries edition1 K here deeper (fieldsAt p next)) (refusalAt here (t .rows .0) a) (fieldsAt p next)
 
-    pub going-refused : {n : ℕ} → r ≡ Refused n → Stopped K p at kinds₀ buf₀ t₀ kinds′ buf′ (Stop.Fault n a)
-    going-refused e = let y = rw e at x in record { kept = all-kept; by = by-same (y .by) }
+    pub going-refused : {n : ℕ} {rows : RowNumber} → rows ≡ t .rows → r ≡ Refused n → Stopped K p at kinds₀ buf₀ t₀ kinds′ buf′ (Stop.Fault n rows a)
+    going-refused er e = let y = rw e at x in rw er (record { kept = all-kept; by = by-same (y .by) })
 
     spare-kept : Spare K (t₀ .lines .0 + fieldsLeft p at) buf′
     spare-kept = spare-less (omega arith) (x .kept .lines-length) (g .spare)
@@ -103,7 +107,7 @@ module _ {K : ℕ} {p : List ℕ} {at : ℕ} {kinds₀ : List ℕ} {buf₀ : Lis
         rw (y .by .2)
         (let z : t .lines .0 + 1 - 1 ≡ t .lines .0 = omega arith in
         record {
-          same = λ deeper. by-same (y .by .0) deeper ∙ rw z;
+          same = λ here deeper. by-same (y .by .0) here deeper ∙ rw z;
           kept = all-kept;
           ready = ready-more (g .ready) (x .kept) (y .by .1) (g .spare .room (t .lines .0 + 1) (y .by .1 .most) (omega (arith, g .few, count-starts s)));
           from = omega (arith, g .from);
@@ -111,6 +115,7 @@ module _ {K : ℕ} {p : List ℕ} {at : ℕ} {kinds₀ : List ℕ} {buf₀ : Lis
           made-one = λ h. omega arith;
           few = omega (arith, g .few, count-starts s);
           spare = spare-kept;
+          unread = omega (arith, g .unread, starts-less s);
         })
 
     lines-are : linesIn K kinds buf (t .lines .0) ≡ linesIn K kinds′ buf′ (t .lines .0)
@@ -120,7 +125,7 @@ module _ {K : ℕ} {p : List ℕ} {at : ℕ} {kinds₀ : List ℕ} {buf₀ : Lis
     going-claimed e =
         let y = rw e at x in
         record {
-          same = λ deeper. by-same (y .by) deeper ∙ rw lines-are;
+          same = λ here deeper. by-same (y .by) here deeper ∙ rw lines-are;
           kept = all-kept;
           ready = ready-kept (g .ready) (x .kept);
           from = g .from;
@@ -128,35 +133,37 @@ module _ {K : ℕ} {p : List ℕ} {at : ℕ} {kinds₀ : List ℕ} {buf₀ : Lis
           made-one = λ h. absurd (let z : _≡_ {A = ℕ} 0 1 = cc in omega arith);
           few = omega (arith, g .few, count-starts s);
           spare = spare-kept;
+          unread = omega (arith, g .unread, starts-less s);
         }
 
-    comes : {row : rules.Row} {u : Tally} → Same (fieldChecked K kinds buf t made tag (take len (drop start p))) (rowLeft K kinds buf t row) → u ≡ moreRows t
-        → Comes K p at kinds₀ buf₀ t₀ kinds′ buf′ row a next u
+    comes : {row : rules.Row} {u : Tally} → SameChecked (fieldChecked K kinds buf t made tag (take len (drop start p))) (rowLeft K kinds buf t row) → u ≡ moreRows t
+        → Comes K p at kinds₀ buf₀ t₀ kinds′ buf′ row (t .rows .0) a next u
     comes q eu =
         rw eu
         (record {
-          rows = t .rows .0;
           rows-is = refl;
-          is = λ deeper. by-same q deeper ∙ rw lines-are;
+          is = λ here deeper. by-same q here deeper ∙ rw lines-are;
           ready = ready-kept (g .ready) (x .kept);
           from = g .from;
           open-is = g .open-is;
           few = omega (arith, g .few, count-starts s);
+          unread = omega (arith, g .unread, starts-less s);
         })
 
-    pub going-strengthens : {i : LineNumber} {u : Tally} → r ≡ Strengthens u i → Stopped K p at kinds₀ buf₀ t₀ kinds′ buf′ (Stop.Strengthens i a next u)
-    going-strengthens e = let y = rw e at x in record { kept = all-kept; by = comes (y .by .0) (y .by .1) }
+    module _ {row : RowNumber} (er : row ≡ t .rows) {u : Tally} where
+      pub going-strengthens : {i : LineNumber} → r ≡ Strengthens u i → Stopped K p at kinds₀ buf₀ t₀ kinds′ buf′ (Stop.Strengthens i row a next u)
+      going-strengthens e = let y = rw e at x in rw er (record { kept = all-kept; by = comes (y .by .0) (y .by .1) })
 
-    pub going-number : {i : LineNumber} {u : Tally} → r ≡ ClosesNumber u i → Stopped K p at kinds₀ buf₀ t₀ kinds′ buf′ (Stop.ClosesNumber i a next u)
-    going-number e = let y = rw e at x in record { kept = all-kept; by = comes (y .by .0) (y .by .1) }
+      pub going-number : {i : LineNumber} → r ≡ ClosesNumber u i → Stopped K p at kinds₀ buf₀ t₀ kinds′ buf′ (Stop.ClosesNumber i row a next u)
+      going-number e = let y = rw e at x in rw er (record { kept = all-kept; by = comes (y .by .0) (y .by .1) })
 
-    pub going-stride : {i : LineNumber} {h : ℤ} {u : Tally} → r ≡ ClosesStride u i h → Stopped K p at kinds₀ buf₀ t₀ kinds′ buf′ (Stop.ClosesStride i a next u h)
-    going-stride e = let y = rw e at x in record { kept = all-kept; by = (comes (y .by .0) (y .by .1), y .by .2) }
+      pub going-stride : {i : LineNumber} {h : ℤ} → r ≡ ClosesStride u i h → Stopped K p at kinds₀ buf₀ t₀ kinds′ buf′ (Stop.ClosesStride i row a next u h)
+      going-stride e = let y = rw e at x in rw er (record { kept = all-kept; by = (comes (y .by .0) (y .by .1), y .by .2) })
 
 pub going-start : {K : ℕ} {p : List ℕ} {at : ℕ} {kinds : List ℕ} {buf : List ℤ} {t : Tally}
     → Ready K kinds buf (t .lines .0) × Spare K (t .lines .0 + fieldsLeft p at) buf → Going K p at kinds buf t kinds buf at t false
 going-start (h, s) = record {
-  same = λ deeper. refl;
+  same = λ here deeper. refl;
   kept = kept-refl;
   ready = h;
   from = omega arith;
@@ -164,4 +171,5 @@ going-start (h, s) = record {
   made-one = λ e. absurd (let z : _≡_ {A = ℕ} 0 1 = cc in omega arith);
   few = omega arith;
   spare = s;
+  unread = omega arith;
 }

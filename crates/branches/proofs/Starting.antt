@@ -8,20 +8,21 @@ use lib.IntN.{ℤ}
 use lib.ListN.{getD, set, length-set}
 use Rattle.forms.specs.Forms.{≤0, =0, Line, line, _plus_}
 use Rattle.calculus.specs.Rules.{inRange}
-use Rattle.lines.specs.Parts.{agree-set, agree-sym}
-use Rattle.lines.specs.Buffer.{kindOf, lineIn, linesIn, LineCopy, copiedLine, strengthenedT}
-use Rattle.lines.specs.Lines.{line-ext, line-same, lines-same, before}
-use Rattle.lines.specs.Range.{bounded-line}
-use Rattle.lines.specs.Branch.{kind-stored, inequality-byte, equality-byte}
-use Rattle.lines.specs.Strengthen.{length-copied, length-t, copied-keeps, t-keeps, copied-line, t-line, raised-line, raised-same, third-range}
-use Rattle.lines.specs.Next.{second-branch, third-branch}
-use Rattle.rows.specs.Rows.{Ready, Kept}
-use Rattle.closes.specs.Ends.{firstLine, secondLine, thirdLine, Longer}
+use Rattle.lines.proofs.Parts.{agree-set, agree-sym}
+use Rattle.forms.specs.Flat.{kindOf}
+use Rattle.lines.specs.Buffer.{lineIn, linesIn, LineCopy, copiedLine, strengthenedT}
+use Rattle.lines.proofs.Lines.{line-ext, line-same, lines-same, before}
+use Rattle.lines.proofs.Range.{bounded-line}
+use Rattle.lines.proofs.Branch.{kind-stored, inequality-byte, equality-byte}
+use Rattle.lines.proofs.Strengthen.{length-copied, length-t, copied-keeps, t-keeps, copied-line, t-line, raised-line, raised-same, third-range}
+use Rattle.lines.proofs.Next.{second-branch, third-branch}
+use Rattle.rows.specs.Rows.{Ready, LinesKept}
+use Rattle.branches.specs.Strengthening.{firstLine, secondLine, thirdLine, Longer}
 use Rattle.branches.proofs.Going.{ready-kept}
-use Rattle.closes.proofs.Splitting.{longer-from}
+use Rattle.branches.proofs.Opening.{longer-from}
 
 module _ {K n : ℕ} {kinds : List ℕ} {buf : List ℤ} (ready : Ready K kinds buf n) {i : ℕ} (hi : i < n) (space : n < 128)
-    (first : T (inRange 2147483647 (firstLine (lineIn K kinds buf i)))) {kinds₁ : List ℕ} {buf₁ : List ℤ} (k : Kept K n kinds buf kinds₁ buf₁) where
+    (first : T (inRange 2147483647 (firstLine (lineIn K kinds buf i)))) {kinds₁ : List ℕ} {buf₁ : List ℤ} (k : LinesKept K n kinds buf kinds₁ buf₁) where
   now-ready : Ready K kinds₁ buf₁ n
   now-ready = ready-kept ready k
 
@@ -45,7 +46,7 @@ module _ {K n : ℕ} {kinds : List ℕ} {buf : List ℤ} (ready : Ready K kinds 
     pub second-starts : buf′ ≡ copiedLine K i n buf₁ → kinds′ ≡ set kinds₁ n 1 → Longer K kinds₁ buf₁ n (secondLine (lineIn K kinds buf i)) kinds′ buf′
     second-starts e f =
         let c = now-copy in
-        let s : Kept K n kinds₁ buf₁ kinds′ buf′ = record {
+        let s : LinesKept K n kinds₁ buf₁ kinds′ buf′ = record {
           lines-same = rw e (agree-sym (copied-keeps c));
           kinds-same = rw f (agree-sym (agree-set n kinds₁ n 1 (omega arith)));
           lines-length = rw e (length-copied c);
@@ -60,7 +61,7 @@ module _ {K n : ℕ} {kinds : List ℕ} {buf : List ℤ} (ready : Ready K kinds 
         → Longer K kinds₁ buf₁ n (thirdLine (lineIn K kinds buf i)) kinds′ buf′
     third-starts e f =
         let c = now-copy in
-        let s : Kept K n kinds₁ buf₁ kinds′ buf′ = record {
+        let s : LinesKept K n kinds₁ buf₁ kinds′ buf′ = record {
           lines-same = rw e (agree-sym (t-keeps c));
           kinds-same = rw f (agree-sym (agree-set n kinds₁ n 0 (omega arith)));
           lines-length = rw e (length-t c);

@@ -1,4 +1,5 @@
 -- The contracts of a branch's functions.
-pub mod Room
+pub mod Spare
+pub mod Strengthening
 pub mod Branches
 pub mod Branching

@@ -1,44 +1,52 @@
-// A branch: its entries up to the row that splits or ends it, and the branches that it opens.
+// A branch: its entries up to the row that ends or strengthens it, and the branches that it opens.
 ghost use Rattle.rows.specs.Rows.{Ready};
-ghost use Rattle.branches.specs.Room.{fieldsLeft, Spare};
+ghost use Rattle.branches.specs.Spare.{fieldsLeft, Spare};
 ghost use Rattle.branches.specs.Branches.{Stopped};
 ghost use mathlib.Core.Path.{_≡_};
 ghost use Prim.Native.Nat.{_+_};
-ghost use Rattle.branches.specs.Branching.{returnedTo, closedBy, resumedBy, Started, Branches};
+ghost use Rattle.branches.specs.Branching.{closedBy, resumedBy, Started, Branches};
+use crate::strengthen::start;
+use crate::strengthen::strengthen;
 use closes::ends::Ended;
 use closes::ends::close_number;
 use closes::ends::close_stride;
-use closes::ends::split;
-use closes::ends::start;
-use closes::formulas::put_pair;
 use fields::Next;
+use fields::Position;
 use fields::next_field;
 use forms::LineNumber;
+use forms::RowNumber;
+use formula::writing::put_pair;
 use rows::derive::Derived;
 use rows::steps::Stepped;
 use rows::steps::step;
 use rows::tally::Tally;
+use rows::tally::returned;
 
 pub enum Stop {
+    // A refusal by a number at a place, before which there were so many rows.
     Fault {
         number: u8,
+        rows: RowNumber,
         at: usize,
     },
-    // The row at `at` splits or ends the branch; the tally has counted it, and the fields go on at next.
+    // The row at `at` strengthens the branch or ends it; the tally has counted it, and the fields go on at next.
     Strengthens {
         t: LineNumber,
+        row: RowNumber,
         at: usize,
         next: usize,
         tally: Tally,
     },
     ClosesNumber {
         t: LineNumber,
+        row: RowNumber,
         at: usize,
         next: usize,
         tally: Tally,
     },
     ClosesStride {
         t: LineNumber,
+        row: RowNumber,
         at: usize,
         next: usize,
         tally: Tally,
@@ -71,9 +79,14 @@ pub fn entries(
                 len,
                 next,
             } => {
+                let row = count.rows;
                 match step(p, tag, start, len, made, lines, kinds, count, k) {
                     Stepped::Refused { number } => {
-                        return Stop::Fault { number, at: a };
+                        return Stop::Fault {
+                            number,
+                            rows: row,
+                            at: a,
+                        };
                     }
                     Stepped::Made { tally: u } => {
                         count = u;
@@ -87,6 +100,7 @@ pub fn entries(
                     Stepped::Strengthens { t, tally: u } => {
                         return Stop::Strengthens {
                             t,
+                            row,
                             at: a,
                             next,
                             tally: u,
@@ -95,6 +109,7 @@ pub fn entries(
                     Stepped::ClosesNumber { t, tally: u } => {
                         return Stop::ClosesNumber {
                             t,
+                            row,
                             at: a,
                             next,
                             tally: u,
@@ -104,6 +119,7 @@ pub fn entries(
                         return Stop::ClosesStride {
                             t,
                             g,
+                            row,
                             at: a,
                             next,
                             tally: u,
@@ -112,39 +128,59 @@ pub fn entries(
                 }
             }
             Next::Cut { at: a } => {
-                return Stop::Fault { number: 2, at: a };
+                let rows = count.rows;
+                return Stop::Fault {
+                    number: 2,
+                    rows,
+                    at: a,
+                };
             }
             Next::Ends { at: a } => {
-                return Stop::Fault { number: 20, at: a };
+                let rows = count.rows;
+                return Stop::Fault {
+                    number: 20,
+                    rows,
+                    at: a,
+                };
             }
         }
     }
 }
 
 pub enum Branched {
-    Fault { number: u8, at: usize },
+    // A refusal, as in `Stop`, and the position of the branch that it stands in.
+    Fault {
+        number: u8,
+        rows: RowNumber,
+        position: Position,
+        at: usize,
+    },
     // The fields go on at `at`, and the formula's bytes end at o.
-    Closed { at: usize, o: usize, tally: Tally },
+    Closed {
+        at: usize,
+        o: usize,
+        tally: Tally,
+    },
 }
 
-// The lines and open strengthens are again those of the tally given.
-fn returned(t: Tally, given: Tally) -> Tally
-    ensures { λ r. ⌜ r ≡ returnedTo t given ⌝ }
-{
-    let rows = t.rows;
-    let lines = given.lines;
-    Tally {
-        rows,
-        lines,
-        open: given.open,
-    }
-}
-
-fn closed(e: Ended, at: usize, next: usize, tally: Tally) -> Branched
-    ensures { λ r. ⌜ r ≡ closedBy e at next tally ⌝ }
+// The row that closes the branch at a position, or the refusal at this row.
+fn closed(
+    e: Ended,
+    position: Position,
+    row: RowNumber,
+    at: usize,
+    next: usize,
+    tally: Tally,
+) -> Branched
+    ensures { λ r. ⌜ r ≡ closedBy e position row at next tally ⌝ }
 {
     match e {
-        Ended::Refused { number } => Branched::Fault { number, at },
+        Ended::Refused { number } => Branched::Fault {
+            number,
+            rows: row,
+            position,
+            at,
+        },
         Ended::Written { o } => Branched::Closed { at: next, o, tally },
     }
 }
@@ -153,7 +189,17 @@ fn resumed(b: Branched, given: Tally) -> Branched
     ensures { λ r. ⌜ r ≡ resumedBy b given ⌝ }
 {
     match b {
-        Branched::Fault { number, at } => Branched::Fault { number, at },
+        Branched::Fault {
+            number,
+            rows,
+            position,
+            at,
+        } => Branched::Fault {
+            number,
+            rows,
+            position,
+            at,
+        },
         Branched::Closed { at, o, tally } => {
             let t = returned(tally, given);
             Branched::Closed { at, o, tally: t }
@@ -161,10 +207,11 @@ fn resumed(b: Branched, given: Tally) -> Branched
     }
 }
 
-// The formula's bytes go into the scratch from o on, as far as they fit.
+// The branch at a position. The formula's bytes go into the scratch from o on, as far as they fit.
 pub fn check_branch(
     p: &[u8],
     at: usize,
+    position: Position,
     lines: &mut [i32],
     kinds: &mut [u8],
     tally: Tally,
@@ -173,47 +220,68 @@ pub fn check_branch(
     o: usize,
 ) -> Branched
     requires { ⌜ Started k (now kinds) (now lines) tally (now p) at o ⌝ }
-    ensures { λ r. ⌜ Branches k (now (p .entry)) at (now (kinds .entry)) (now (lines .entry)) tally (now (scratch .entry)) o (now (kinds .exit)) (now (lines .exit)) (now (scratch .exit)) r ⌝ }
+    ensures { λ r. ⌜ Branches k (now (p .entry)) at position (now (kinds .entry)) (now (lines .entry)) tally (now (scratch .entry)) o (now (kinds .exit)) (now (lines .exit)) (now (scratch .exit)) r ⌝ }
 {
     match entries(p, at, lines, kinds, tally, k) {
-        Stop::Fault { number, at: a } => {
-            return Branched::Fault { number, at: a };
+        Stop::Fault {
+            number,
+            rows,
+            at: a,
+        } => {
+            return Branched::Fault {
+                number,
+                rows,
+                position,
+                at: a,
+            };
         }
         Stop::ClosesNumber {
             t,
+            row,
             at: a,
             next,
             tally: u,
         } => {
             let e = close_number(lines, kinds, u, t, k, scratch, o);
             let v = returned(u, tally);
-            return closed(e, a, next, v);
+            return closed(e, position, row, a, next, v);
         }
         Stop::ClosesStride {
             t,
             g,
+            row,
             at: a,
             next,
             tally: u,
         } => {
             let e = close_stride(lines, kinds, u, t, g, k, scratch, o);
             let v = returned(u, tally);
-            return closed(e, a, next, v);
+            return closed(e, position, row, a, next, v);
         }
         Stop::Strengthens {
             t,
+            row,
             at: a,
             next,
             tally: u,
         } => {
-            match split(lines, kinds, u, t, k) {
+            match strengthen(lines, kinds, u, t, k) {
                 Derived::Refused { number } => {
-                    return Branched::Fault { number, at: a };
+                    return Branched::Fault {
+                        number,
+                        rows: row,
+                        position,
+                        at: a,
+                    };
                 }
                 Derived::Made { tally: v } => {
                     let n = u.lines;
                     let head = put_pair(scratch, o, 0x31);
-                    let first = check_branch(p, next, lines, kinds, v, k, scratch, head);
+                    let place = Position {
+                        step: row,
+                        branch: 0,
+                    };
+                    let first = check_branch(p, next, place, lines, kinds, v, k, scratch, head);
                     let Branched::Closed {
                         at: a1,
                         o: o1,
@@ -224,7 +292,11 @@ pub fn check_branch(
                     };
                     start(lines, kinds, t, n, k, 1, false, false);
                     let head2 = put_pair(scratch, o1, 0x32);
-                    let second = check_branch(p, a1, lines, kinds, v1, k, scratch, head2);
+                    let place2 = Position {
+                        step: row,
+                        branch: 1,
+                    };
+                    let second = check_branch(p, a1, place2, lines, kinds, v1, k, scratch, head2);
                     let Branched::Closed {
                         at: a2,
                         o: o2,
@@ -234,7 +306,11 @@ pub fn check_branch(
                         return second;
                     };
                     start(lines, kinds, t, n, k, 0, true, false);
-                    let third = check_branch(p, a2, lines, kinds, v2, k, scratch, o2);
+                    let place3 = Position {
+                        step: row,
+                        branch: 2,
+                    };
+                    let third = check_branch(p, a2, place3, lines, kinds, v2, k, scratch, o2);
                     return resumed(third, tally);
                 }
             }

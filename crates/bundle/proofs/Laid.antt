@@ -14,8 +14,8 @@ use Rattle.fields.specs.Answers.{accepted, fileA, fileB}
 use Rattle.fields.specs.Numbers.{formWidth}
 use Rattle.fields.specs.Fields.{Field, Fields, ends, cut, _▸_, Item, item, items, fields}
 use Rattle.fields.specs.Header.{headerTag, known, agrees, Header}
-use Rattle.fields.proofs.Results.{Gives, refuses, accepts, weaken, bind, tested, test, finds, binds, need-yes, needs, found-some}
-use Rattle.fields.proofs.HeaderLaid.{by-tag, next-items, not-empty, first-of, Headed, header-gives, header-read}
+use Rattle.fields.proofs.Results.{Gives, gives-refused, gives-accepted, weaken, bind, gives-need, test, finds, binds, need-yes, needs, found-some}
+use Rattle.fields.proofs.HeaderLaid.{by-tag, next-items, not-empty, first-of, LaidHeader, header-gives, header-read}
 use Rattle.bundle.specs.Bundle.{Bundle, kindTagged, atMost, constraints, bundle, bundles}
 use Rattle.bundle.specs.Layout.{Each, nil, cons, States, StatesAll, BundleFile}
 
@@ -66,12 +66,12 @@ record Constrained (e : Edition) (K n : ℕ) (fs : Fields) (cs : List Constraint
 module _ (file : ℕ) (e : Edition) (K : ℕ) where
   constraints-give : (n : ℕ) (fs : Fields) → n ≤ e .constraints → Gives (constraints file e K n fs) (Constrained e K n fs)
   unfolding constraints
-  constraints-give n (ends at) h = accepts (record { lists = done at; few = omega arith })
-  constraints-give n (cut at) h = refuses _ tt
+  constraints-give n (ends at) h = gives-accepted (record { lists = done at; few = omega arith })
+  constraints-give n (cut at) h = gives-refused _ tt
   constraints-give n (f ▸ fs) h = test _ _ tt λ _. bind (finds _ (kindTagged (f .tag)) tt) λ k t. test _ _ tt λ l. test _ _ tt λ b.
       let lt = ltb→lt n (e .constraints) b in
       bind (constraints-give (suc n) fs lt) λ cs c.
-      accepts (record { lists = next f (record { kind = t; size = eqb→eq _ _ l; form = refl }) (c .lists); few = omega (arith, c .few) })
+      gives-accepted (record { lists = next f (record { kind = t; size = eqb→eq _ _ l; form = refl }) (c .lists); few = omega (arith, c .few) })
 
   constraints-accept : (n : ℕ) {fs : Fields} {cs : List Constraint} → Lists (States e K) fs cs → n + length cs ≤ e .constraints → constraints file e K n fs ≡ accepted cs
   unfolding constraints
@@ -89,7 +89,7 @@ pub record Laid (given : Option ℕ) (fs : Fields) (b : Bundle) : Type 0 where
   pub agree : T (agrees given (b .K))
 
 module _ (file : ℕ) (given : Option ℕ) where
-  read-laid : (fs : Fields) (h : Header) → Headed given fs h → (cs : List Constraint) → Constrained (h .edition) (h .K) 0 (h .rest) cs → Laid given fs (record { K = h .K; constraints = cs })
+  read-laid : (fs : Fields) (h : Header) → LaidHeader given fs h → (cs : List Constraint) → Constrained (h .edition) (h .K) 0 (h .rest) cs → Laid given fs (record { K = h .K; constraints = cs })
   read-laid fs h d cs c =
       let t : Itemed (States edition1 (h .K)) (h .rest) cs = itemed (subst (λ (e : Edition). Lists (States e (h .K)) (h .rest) cs) (d .edition) (c .lists)) in
       record {
@@ -103,7 +103,7 @@ module _ (file : ℕ) (given : Option ℕ) where
   pub bundle-gives : (fs : Fields) → Gives (bundle file given fs) (Laid given fs)
   unfolding bundle
   bundle-gives fs = bind (header-gives FileKind.Bundle file given fs) λ h d. bind (constraints-give file (h .edition) (h .K) 0 (h .rest) (omega arith)) λ cs c.
-      accepts (read-laid fs h d cs c)
+      gives-accepted (read-laid fs h d cs c)
 
   pub bundle-accepts : (fs : Fields) (b : Bundle) → Laid given fs b → bundle file given fs ≡ accepted b
   unfolding bundle
@@ -117,7 +117,7 @@ module _ (file : ℕ) (given : Option ℕ) where
 -- ---- the files
 pub short-gives : (limit file : ℕ) (bytes : List ℕ) → Gives (atMost limit file bytes) (λ _. length bytes ≤ limit)
 unfolding atMost
-short-gives limit file bytes = weaken (tested _ _ tt) λ _ t. leb→le (length bytes) limit t
+short-gives limit file bytes = weaken (gives-need _ _ tt) λ _ t. leb→le (length bytes) limit t
 
 pub short-accepted : (limit file : ℕ) (bytes : List ℕ) → length bytes ≤ limit → atMost limit file bytes ≡ accepted tt
 unfolding atMost
@@ -136,7 +136,7 @@ pub record BothLaid (A B : List ℕ) (ab : Bundle × Bundle) : Type 0 where
 
 pub bundles-give : (A B : List ℕ) → Gives (bundles A B) (BothLaid A B)
 unfolding bundles
-bundles-give A B = bind (bundle-gives fileA none (fields A)) λ a l. bind (bundle-gives fileB (some (a .K)) (fields B)) λ b m. accepts (record { laidA = l; laidB = m })
+bundles-give A B = bind (bundle-gives fileA none (fields A)) λ a l. bind (bundle-gives fileB (some (a .K)) (fields B)) λ b m. gives-accepted (record { laidA = l; laidB = m })
 
 pub bundles-accept : (A B : List ℕ) (a b : Bundle) → BothLaid A B (a, b) → bundles A B ≡ accepted (a, b)
 unfolding bundles

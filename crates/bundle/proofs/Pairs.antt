@@ -14,9 +14,9 @@ use Rattle.fields.specs.Places.{givenK}
 use Rattle.fields.proofs.Headers.{given-some}
 use Rattle.fields.proofs.Results.{Gives, seq, not-0}
 use Rattle.bundle.specs.Bundle.{Bundle, atMost, bundle, bundles}
-use Rattle.bundle.specs.Scan.{constraintStart, bothBundles, pairOf}
+use Rattle.bundle.specs.Scan.{constraintStart, bothBundles, scannedBoth}
 use Rattle.bundle.specs.declared.Scanned.{Scanned}
-use Rattle.bundle.specs.declared.Pair.{Pair}
+use Rattle.bundle.specs.declared.ScannedBoth.{ScannedBoth}
 use Rattle.bundle.proofs.Laid.{BothLaid, short-gives, bundles-give}
 use Rattle.bundle.proofs.Reading.{Taken}
 
@@ -50,7 +50,7 @@ module _ (A B : List ℕ) where
         refused-B e = short-both ∙ rw (t .is, ← given-is, e)
 
         pub accepted-both : {q : Scanned} → Taken (bundle fileB (givenK (r .k)) (fields B)) (constraintStart B (i - r .count)) q
-            → pairOf A B i (bothBundles A B) ≡ record { answer = q .answer; k = r .k; m = r .count; n = q .count; first = r .start; second = q .start }
+            → scannedBoth A B i (bothBundles A B) ≡ record { answer = q .answer; k = r .k; m = r .count; n = q .count; first = r .start; second = q .start }
         unfolding bundles _>>=_
         accepted-both u = rw (short-both, t .is, ← given-is, u .is, u .scan-is, t .scan-is)
 
@@ -59,29 +59,29 @@ module _ (A B : List ℕ) where
   both-give = seq (short-gives _ fileA A) λ _. seq (short-gives _ fileB B) λ _. bundles-give A B
 
 -- ---- what the answer tells
-pub record Paired (A B : List ℕ) (i : ℕ) (r : Pair) : Type 0 where
+pub record Paired (A B : List ℕ) (i : ℕ) (r : ScannedBoth) : Type 0 where
   pub a : Bundle
   pub b : Bundle
   pub is : bothBundles A B ≡ accepted (a, b)
   pub laid : BothLaid A B (a, b)
-  pub pair-is : r ≡ pairOf A B i (accepted (a, b))
+  pub pair-is : r ≡ scannedBoth A B i (accepted (a, b))
 
 -- B's K is A's
-pub same-k : {A B : List ℕ} {i : ℕ} {r : Pair} (t : Paired A B i r) → t .b .K ≡ t .a .K
+pub same-k : {A B : List ℕ} {i : ℕ} {r : ScannedBoth} (t : Paired A B i r) → t .b .K ≡ t .a .K
 unfolding agrees
 same-k t = eqb→eq (t .b .K) (t .a .K) (t .laid .laidB .agree)
 
-module _ (A B : List ℕ) (i : ℕ) {r : Pair} (e : r ≡ pairOf A B i (bothBundles A B)) where
+module _ (A B : List ℕ) (i : ℕ) {r : ScannedBoth} (e : r ≡ scannedBoth A B i (bothBundles A B)) where
   pub paired : r .answer .number ≡ 0 → Paired A B i r
   paired z = go (bothBundles A B) refl (both-give A B) e
     where
-      go : (R : Result (Bundle × Bundle)) → bothBundles A B ≡ R → Gives R (BothLaid A B) → r ≡ pairOf A B i R → Paired A B i r
+      go : (R : Result (Bundle × Bundle)) → bothBundles A B ≡ R → Gives R (BothLaid A B) → r ≡ scannedBoth A B i R → Paired A B i r
       go (refused x) q g e = absurd (not-0 (g .refusal x refl) (rw e at z))
       go (accepted (a, b)) q g e = record { a = a; b = b; is = q; laid = g .gives (a, b) refl; pair-is = e }
 
   pub unpaired : (r .answer .number ≡ 0 → ⊥) → bothBundles A B ≡ refused (r .answer)
   unpaired z = go (bothBundles A B) e
     where
-      go : (R : Result (Bundle × Bundle)) → r ≡ pairOf A B i R → R ≡ refused (r .answer)
+      go : (R : Result (Bundle × Bundle)) → r ≡ scannedBoth A B i R → R ≡ refused (r .answer)
       go (refused x) e = rw e
       go (accepted p) e = absurd (z (rw e))

@@ -88,12 +88,6 @@ put-runs out at numbers from m r n e h e₁ e₂ =
     ∙ rw (e₁, ← e, take-add m r (drop from numbers), drop-drop m from numbers, signedsBytes-append 2 (take m (drop from numbers)) (take r (drop (from + m) numbers)))
     (sym (sets-append (signedsBytes 2 (take m (drop from numbers))) (signedsBytes 2 (take r (drop (from + m) numbers))) out at ∙ rw (numbers-bytes numbers from m (omega arith))))
 
--- ---- a field
-pub put-field : (out : List ℕ) {out₁ out₂ : List ℕ} (at tag n : ℕ) (contents : List ℕ) → out₁ ≡ sets out at (tag ∷ unsignedBytes 2 n) → out₂ ≡ sets out₁ (at + 3) contents
-    → length contents ≡ n → out₂ ≡ sets out at (fieldBytes tag contents)
-unfolding fieldBytes unsignedBytes
-put-field out at tag n contents e₁ e₂ l = e₂ ∙ rw (e₁, l) (sym (sets-append (tag ∷ unsignedBytes 2 n) contents out at))
-
 -- ---- all constraints
 -- the invariant: what is left to write gives what the whole gives
 pub record Putting (K : ℕ) (kinds : List ℕ) (numbers : List ℤ) (out₀ : List ℕ) (at : ℕ) (out : List ℕ) (here from n : ℕ) : Type 0 where

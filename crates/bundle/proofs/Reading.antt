@@ -30,7 +30,7 @@ use Rattle.bundle.proofs.Laid.{bundle-gives}
 use Rattle.bundle.proofs.Storing.{flat-signeds}
 
 -- ---- an accepted bundle
-pub record Shaped (b : Bundle) : Type 0 where
+pub record BundleShaped (b : Bundle) : Type 0 where
   pub low : 1 ≤ b .K
   pub high : b .K ≤ 16
   pub few : length (b .constraints) ≤ 32
@@ -43,7 +43,7 @@ stated-size {K} (cons {x = i} {y = c} {ys = cs} s h) =
     length-append (flat (c .form)) (numbersOf cs)
     ∙ rw (← s .form, flat-signeds 2 K (i .contents), length-signeds 2 (suc K) (i .contents)) (omega (arith, suc-mul (length cs) (suc K), stated-size h))
 
-pub shaped : (file : ℕ) (given : Option ℕ) (fs : Fields) → Gives (bundle file given fs) Shaped
+pub shaped : (file : ℕ) (given : Option ℕ) (fs : Fields) → Gives (bundle file given fs) BundleShaped
 shaped file given fs = weaken (bundle-gives file given fs) λ b l. record { low = l .laid .low; high = l .laid .high; few = l .few; size = stated-size (l .laid .states) }
 
 -- ---- each way through `read`
@@ -51,14 +51,14 @@ shaped file given fs = weaken (bundle-gives file given fs) λ b l. record { low 
 pub record Taken (R : Result Bundle) (start : ℕ) (r : Scanned) : Type 0 where
   pub bundle : Bundle
   pub is : R ≡ accepted bundle
-  pub shape : Shaped bundle
+  pub shape : BundleShaped bundle
   pub scan-is : r ≡ record { answer = acceptance; k = bundle .K; count = length (bundle .constraints); start = start }
 
-module _ {R : Result Bundle} {r : Scanned} (start : ℕ) (g : Gives R Shaped) (e : r ≡ scanned start R) where
+module _ {R : Result Bundle} {r : Scanned} (start : ℕ) (g : Gives R BundleShaped) (e : r ≡ scanned start R) where
   pub taken : r .answer .number ≡ 0 → Taken R start r
   taken z = go R g e
     where
-      go : (R : Result Bundle) → Gives R Shaped → r ≡ scanned start R → Taken R start r
+      go : (R : Result Bundle) → Gives R BundleShaped → r ≡ scanned start R → Taken R start r
       go (refused a) g e = absurd (not-0 (g .refusal a refl) (rw e at z))
       go (accepted b) g e = record { bundle = b; is = refl; shape = g .gives b refl; scan-is = e }
 

@@ -18,15 +18,15 @@ use Rattle.fields.specs.Fields.{Field, Fields, ends, cut, _▸_, fields, nth}
 use Rattle.fields.specs.Header.{Header, headerTag, known, headerField, header}
 use Rattle.fields.specs.Places.{fieldsAt, givenK, IsHeader}
 use Rattle.fields.proofs.Places.{Starts, starts-size, starts-less}
-use Rattle.fields.proofs.Results.{Gives, refuses, accepts, bind, test, finds}
+use Rattle.fields.proofs.Results.{Gives, gives-refused, gives-accepted, bind, test, finds}
 use Rattle.bundle.specs.Bundle.{Bundle, kindTagged, constraints, bundle}
-use Rattle.bundle.specs.Scan.{faultOf, passed, counted, stated, countedOf, startOf, constraintStart, soughtOf, scanned}
+use Rattle.bundle.specs.Scan.{faultOf, unlessFault, counted, stated, countedOf, startOf, constraintStart, soughtOf, scanned}
 use Rattle.bundle.specs.declared.constraints.Counted.{Counted}
 use Rattle.bundle.specs.declared.constraints.Sought.{Sought}
 
 -- ---- one turn
 module _ {s : List ℕ} {at a t start len next : ℕ} (k : Starts s at a t start len next) (K n : ℕ) where
-  pub counted-on : counted K n (fieldsAt s at) ≡ passed (faultOf K n t len) a (counted K (suc n) (fieldsAt s next))
+  pub counted-on : counted K n (fieldsAt s at) ≡ unlessFault (faultOf K n t len) a (counted K (suc n) (fieldsAt s next))
   unfolding counted
   counted-on = rw (k .is, starts-size k)
 
@@ -34,7 +34,7 @@ module _ {s : List ℕ} {at a t start len next : ℕ} (k : Starts s at a t start
     pub counted-fault : (number ≡ 0 → ⊥) → counted K n (fieldsAt s at) ≡ Counted.Refused number a
     counted-fault h = counted-on ∙ rw (← f) (go number h)
       where
-        go : (m : ℕ) → (m ≡ 0 → ⊥) → passed m a (counted K (suc n) (fieldsAt s next)) ≡ Counted.Refused m a
+        go : (m : ℕ) → (m ≡ 0 → ⊥) → unlessFault m a (counted K (suc n) (fieldsAt s next)) ≡ Counted.Refused m a
         go zero h = absurd (h refl)
         go (suc m) h = refl
 
@@ -189,7 +189,7 @@ module _ (file K : ℕ) where
       → (X >>= (λ (cs : List Constraint). accepted (record { kind = κ; form = form } ∷ cs))) ≡ countedOf file K fs c
       → (need (answer 3 file a) p >> (found (answer 4 file a) o >>= (λ (kind : Kind).
       need (answer 6 file a) r >> (need (answer 8 file a) u >> (X >>= (λ (cs : List Constraint). accepted (record { kind = kind; form = form } ∷ cs)))))))
-      ≡ countedOf file K fs (passed (cond p (cond q 4 (cond r (cond u 0 8) 6)) 3) a c)
+      ≡ countedOf file K fs (unlessFault (cond p (cond q 4 (cond r (cond u 0 8) 6)) 3) a c)
   unfolding need _>>_ _>>=_ found
   tests a form fs κ o X c false q r u none-if some-if e = refl
   tests a form fs κ o X c true true r u none-if some-if e = rw (none-if refl)
@@ -208,7 +208,7 @@ module _ (file K : ℕ) where
       (no-kind (f .tag)) (kind-of (f .tag))
       (rw (constraints-counted (suc n) fs) (after f fs (counted K (suc n) fs)))
 
-pub passed-both : (x a m : ℕ) (c : Counted) → passed x a c ≡ Counted.Count m → (x ≡ 0) × (c ≡ Counted.Count m)
+pub passed-both : (x a m : ℕ) (c : Counted) → unlessFault x a c ≡ Counted.Count m → (x ≡ 0) × (c ≡ Counted.Count m)
 passed-both zero a m c e = (refl, e)
 passed-both (suc x) a m c e = absurd (let z : _≡_ {A = ℕ} 0 1 = cc in omega arith)
 
@@ -222,14 +222,14 @@ count-is K n m (f ▸ fs) e = omega (arith, count-is K (suc n) m fs (passed-both
 -- the fields after a header field, and after the header
 field-rest : (kind : FileKind) (file tag : ℕ) (fs : Fields) → Gives (headerField kind file tag fs) (λ x. (i : ℕ) → nth (suc i) fs ≡ nth i (x .2))
 unfolding headerField nth
-field-rest kind file tag (ends at) = refuses _ tt
-field-rest kind file tag (cut at) = refuses _ tt
-field-rest kind file tag (f ▸ fs) = test _ _ tt λ _. test _ _ tt λ _. test _ _ tt λ _. accepts (λ i. refl)
+field-rest kind file tag (ends at) = gives-refused _ tt
+field-rest kind file tag (cut at) = gives-refused _ tt
+field-rest kind file tag (f ▸ fs) = test _ _ tt λ _. test _ _ tt λ _. test _ _ tt λ _. gives-accepted (λ i. refl)
 
 header-rest : (kind : FileKind) (file : ℕ) (given : Option ℕ) (fs : Fields) → Gives (header kind file given fs) (λ h. (i : ℕ) → nth (i + 2) fs ≡ nth i (h .rest))
 unfolding header
 header-rest kind file given fs = bind (field-rest kind file 0x01 fs) λ (at, n, fs1) h1. bind (finds _ (editionNumbered n) tt) λ e q. bind (field-rest kind file 0x02 fs1) λ (at2, K, fs2) h2.
-    test _ _ tt λ _. test _ _ tt λ _. accepts (λ i. let z : i + 2 ≡ suc (suc i) = omega arith in rw z (h1 (suc i) ∙ h2 i))
+    test _ _ tt λ _. test _ _ tt λ _. gives-accepted (λ i. let z : i + 2 ≡ suc (suc i) = omega arith in rw z (h1 (suc i) ∙ h2 i))
 
 module _ {given : ℕ} {s : List ℕ} {r : Headed} (h : IsHeader FileKind.Bundle given s r) where
   pub scan-header : (file : ℕ) {n a : ℕ} → r ≡ Headed.Refused n a → bundle file (givenK given) (fields s) ≡ refused (answer n file a)

@@ -18,11 +18,11 @@ use Rattle.fields.proofs.HeaderLaid.{First, first-of}
 use Rattle.fields.proofs.Places.{Starts, starts, fields-whole-file}
 use Rattle.bundle.specs.Bundle.{Bundle, atMost, bundles}
 use Rattle.bundle.specs.Layout.{States}
-use Rattle.bundle.specs.Scan.{constraintStart, bothBundles, pairOf}
+use Rattle.bundle.specs.Scan.{constraintStart, bothBundles, scannedBoth}
 use Rattle.bundle.specs.Show.{Part, partOf, constraintPart, shownPart, answerOf, showAnswer, handed, showPart}
 use Rattle.bundle.specs.Locate.{IsLocated}
 use Rattle.bundle.specs.Promises.{ofFile}
-use Rattle.bundle.specs.declared.Pair.{Pair}
+use Rattle.bundle.specs.declared.ScannedBoth.{ScannedBoth}
 use Rattle.bundle.specs.declared.locate.Located.{Located}
 use Rattle.bundle.proofs.Laid.{Lists, done, next, listed, Laid}
 use Rattle.bundle.proofs.Pairs.{Paired, unpaired, same-k}
@@ -136,20 +136,20 @@ module _ (A B : List ℕ) (i : ℕ) where
       go true false = refl
       go true true = refl
 
-  pub located-refused : {r : Pair} → r ≡ pairOf A B i (bothBundles A B) → (r .answer .number ≡ 0 → ⊥) → IsLocated A B i (Located.Refused (r .answer))
+  pub located-refused : {r : ScannedBoth} → r ≡ scannedBoth A B i (bothBundles A B) → (r .answer .number ≡ 0 → ⊥) → IsLocated A B i (Located.Refused (r .answer))
   unfolding _>>=_
   located-refused e z = record { is = after-both ∙ rw (unpaired A B i e z); inside = tt }
 
-module _ {A B : List ℕ} {i : ℕ} {r : Pair} (t : Paired A B i r) where
+module _ {A B : List ℕ} {i : ℕ} {r : ScannedBoth} (t : Paired A B i r) where
   shown : shownPart A B i ≡ found (answer 10 fileA 0) (constraintPart A B (length (t .a .constraints)) i)
   unfolding _>>=_
   shown = after-both A B i ∙ rw (t .is)
 
   m-is : r .m ≡ length (t .a .constraints)
-  m-is = ap (λ (x : Pair). x .m) (t .pair-is)
+  m-is = ap (λ (x : ScannedBoth). x .m) (t .pair-is)
 
   n-is : r .n ≡ length (t .b .constraints)
-  n-is = ap (λ (x : Pair). x .n) (t .pair-is)
+  n-is = ap (λ (x : ScannedBoth). x .n) (t .pair-is)
 
   pub located-A : i < r .m → IsLocated A B i (Located.Part 1 (r .first) (3 + (r .k + 1) * 2))
   located-A h =

@@ -2,13 +2,13 @@
 use mathlib.Core.Path.{_≡_, refl, sym, ap, _∙_}
 use mathlib.Core.Bool.{Bool, true, false, cond}
 use mathlib.Core.List.{List, [], _∷_, _++_}
-use Prim.Native.Nat.{ℕ, zero, suc, _+_, _*_, _-_, _≤_, _<_}
+use Prim.Native.Nat.{ℕ, suc, _+_, _*_, _-_, _≤_, _<_}
 use native.Mathlib.Nat.{suc-mul, zero-mul, mul-le-mul-right}
 use native.Mathlib.Omega.{arith}
 use lib.Dec.{leb, ltb, eqb}
 use lib.IntN.{ℤ}
-use lib.ListN.{length, getD, take, drop, set, length-drop, length-set}
-use lib.Seq.{sets, length-sets, take-add, take-take, drop-drop, drop-at, length-take-le}
+use lib.ListN.{length, getD, take, drop, set, length-set}
+use lib.Seq.{sets, length-sets, drop-drop}
 use borrow.Author.Tests.{leb-true, leb-false, ltb-true, ltb-false, eqb-true, eqb-false}
 use Rattle.forms.specs.Forms.{≤0, =0, Constraint}
 use Rattle.fields.specs.declared.FileKind.{FileKind}
@@ -18,7 +18,7 @@ use Rattle.fields.specs.Numbers.{signed, signeds, flat, formFrom}
 use Rattle.fields.specs.declared.Found.{Found}
 use Rattle.fields.specs.Places.{foundAt, fieldsAt}
 use Rattle.fields.proofs.Places.{lenAt, found-end, found-short, found-cut, found-whole, Took, took, cut-at, ends-at, took-note, took-field, Starts}
-use Rattle.fields.proofs.Signed.{length-signeds, signeds-last}
+use Rattle.fields.proofs.Signed.{length-signeds, signeds-take, signeds-last}
 use Rattle.fields.proofs.Stores.{sets-append}
 use Rattle.bundle.specs.Scan.{faultOf, counted, stated}
 use Rattle.bundle.specs.Read.{kindNumber, kindsOf, numbersOf}
@@ -31,19 +31,6 @@ use Rattle.bundle.proofs.Scanning.{Proper, counted-on, count-is, proper
 pub flat-signeds : (w K : ℕ) (bs : List ℕ) → flat (formFrom w K bs) ≡ signeds w (suc K) bs
 unfolding flat formFrom
 flat-signeds w K bs = sym (signeds-last w K bs)
-
--- what stands behind them does not matter
-pub signeds-take : (w n : ℕ) (bs : List ℕ) → n * w ≤ length bs → signeds w n (take (n * w) bs) ≡ signeds w n bs
-unfolding signeds
-signeds-take w zero bs h = refl
-signeds-take w (suc n) bs h =
-    let z : suc n * w ≡ w + n * w = omega (arith, suc-mul n w) in
-    let k : n * w ≤ length (drop w bs) = simp length-drop (omega arith) in
-    let l : length (take w bs) ≡ w = length-take-le w bs (omega arith) in
-    let t : take w (take (suc n * w) bs) ≡ take w bs = take-take w (suc n * w) bs (omega arith) in
-    let d : drop w (take (suc n * w) bs) ≡ take (n * w) (drop w bs)
-    = rw (z, take-add w (n * w) bs) (drop-at (take w bs) (take (n * w) (drop w bs)) w l) in
-    rw (t, d, signeds-take w n (drop w bs) k)
 
 -- one number more
 pub stored-next : (l : List ℤ) (at i n : ℕ) (s : List ℕ) (start : ℕ) → i < n
@@ -78,7 +65,7 @@ pub storing-start : {s : List ℕ} {at K count : ℕ} {kinds : List ℕ} {number
 storing-start {K} a = record { able = a; kinds-is = refl; numbers-is = rw (zero-mul (suc K)); kinds-long = refl; numbers-long = refl }
 
 -- what a turn needs: the field is a constraint, and its kind and numbers have room
-pub record Room (s : List ℕ) (K n count tag start len next : ℕ) (kinds : List ℕ) (numbers : List ℤ) : Type 0 where
+pub record StoreTurn (s : List ℕ) (K n count tag start len next : ℕ) (kinds : List ℕ) (numbers : List ℤ) : Type 0 where
   pub proper : Proper K n tag len
   pub from : 3 ≤ tag
   pub few : n < 32
@@ -89,7 +76,7 @@ pub record Room (s : List ℕ) (K n count tag start len next : ℕ) (kinds : Lis
   pub able : Storable K (n + 1) count (fieldsAt s next) kinds numbers
 
 module _ {s : List ℕ} {here a tag start len next : ℕ} (k : Starts s here a tag start len next) where
-  pub room : {K n count : ℕ} {kinds : List ℕ} {numbers : List ℤ} → Storable K n count (fieldsAt s here) kinds numbers → Room s K n count tag start len next kinds numbers
+  pub room : {K n count : ℕ} {kinds : List ℕ} {numbers : List ℤ} → Storable K n count (fieldsAt s here) kinds numbers → StoreTurn s K n count tag start len next kinds numbers
   room {K} {n} {count} {kinds} {numbers} v =
       let p = passed-both (faultOf K n tag len) a count (counted K (suc n) (fieldsAt s next)) (sym (counted-on k K n) ∙ v .is) in
       let r = proper-of K n tag len (p .0) in
@@ -121,9 +108,8 @@ module _ {s : List ℕ} {here a tag start len next : ℕ} (k : Starts s here a t
       let b = r .able in
       let lk : length (set kinds n (tag - 3)) ≡ length kinds = length-set kinds n (tag - 3) in
       let ln : length numbers′ ≡ length numbers = ap length w ∙ length-sets numbers (n * (K + 1)) (signeds 2 (K + 1) (drop start s)) in
-      let long : suc K * 2 ≤ length (drop start s) = simp length-drop (omega (arith, r .bytes)) in
       let form : flat (formFrom 2 K (take len (drop start s))) ≡ signeds 2 (suc K) (drop start s)
-      = flat-signeds 2 K (take len (drop start s)) ∙ rw (r .size) (signeds-take 2 (suc K) (drop start s) long) in
+      = flat-signeds 2 K (take len (drop start s)) ∙ signeds-take 2 (suc K) len (drop start s) (omega (arith, r .size)) in
       let after = numbersOf (stated K (fieldsAt s next)) in
       let kq : sets kinds n (kindsOf (stated K (fieldsAt s here))) ≡ sets (set kinds n (tag - 3)) (suc n) (kindsOf (stated K (fieldsAt s next)))
       = rw (k .is, kind-number tag (r .proper .has) (r .proper .from)) in

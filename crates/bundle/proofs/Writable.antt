@@ -18,7 +18,7 @@ use Rattle.fields.specs.Answers.{accepted}
 use Rattle.fields.specs.Numbers.{unsignedBytes, signedsBytes, flat, formBytes}
 use Rattle.fields.specs.Fields.{Item, item, fieldBytes, fileOf, Framed, note, withoutNotes, unlessNoteItem}
 use Rattle.fields.specs.Header.{headerBytes}
-use Rattle.fields.proofs.Results.{Gives, accepts, test, seq, needs, passes, each-gives, each-accepted}
+use Rattle.fields.proofs.Results.{Gives, gives-accepted, test, seq, needs, passes, each-gives, each-accepted}
 use Rattle.fields.specs.Ranges.{InWidth, FormInWidth}
 use Rattle.fields.proofs.Signed.{all-take, all-drop, length-formBytes, formFrom-written, all-weaken, formBytes-formFrom, formFrom-in}
 use Rattle.fields.proofs.Contents.{ItemBytes}
@@ -38,7 +38,7 @@ module _ (K : ℕ) (kinds : List ℕ) (numbers : List ℤ) where
   unfolding bundleBytes
   bundleBytes-gives = test _ _ tt λ b. test _ _ tt λ f. seq (each-gives _ _ (λ i. tt) 0 kinds) λ a. test _ _ tt λ s.
       let (l, m) = and-yes (leb 1 K) (leb K (edition1 .constants)) b in
-      accepts (record { low = leb→le 1 K l; high = leb→le K (edition1 .constants) m; few = leb→le _ _ f; binary = a; size = eqb→eq _ _ s }, refl)
+      gives-accepted (record { low = leb→le 1 K l; high = leb→le K (edition1 .constants) m; few = leb→le _ _ f; binary = a; size = eqb→eq _ _ s }, refl)
 
   pub bundleBytes-accepted : InOrder K kinds numbers → bundleBytes edition1 K kinds numbers ≡ accepted bytesOf
   unfolding bundleBytes

@@ -16,22 +16,22 @@ use Rattle.bundle.specs.Bundle.{Bundle, atMost, bundles}
 use Rattle.bundle.specs.declared.constraints.Counted.{Counted}
 use Rattle.bundle.specs.declared.constraints.Sought.{Sought}
 use Rattle.bundle.specs.declared.Scanned.{Scanned}
-use Rattle.bundle.specs.declared.Pair.{Pair}
+use Rattle.bundle.specs.declared.ScannedBoth.{ScannedBoth}
 
 -- What a field after the header is refused for, as constraint n of a bundle with K constants; 0 for nothing.
 abbrev pub faultOf : (K n tag len : ℕ) → ℕ
 faultOf K n tag len =
     cond (known FileKind.Bundle tag) (cond (ltb tag 0x03) 4 (cond (eqb len (formWidth (edition1 .coefficientWidth) K)) (cond (ltb n (edition1 .constraints)) 0 8) 6)) 3
 
-abbrev pub passed : (fault at : ℕ) → Counted → Counted
-passed zero at next = next
-passed (suc number) at next = Counted.Refused (suc number) at
+abbrev pub unlessFault : (fault at : ℕ) → Counted → Counted
+unlessFault zero at next = next
+unlessFault (suc number) at next = Counted.Refused (suc number) at
 
 -- The constraints counted, n of them already, or the first fault.
 unfoldable pub counted : (K n : ℕ) → Fields → Counted
 counted K n (ends at) = Counted.Count n
 counted K n (cut at) = Counted.Refused 2 at
-counted K n (f ▸ fs) = passed (faultOf K n (f .tag) (length (f .contents))) (f .at) (counted K (suc n) fs)
+counted K n (f ▸ fs) = unlessFault (faultOf K n (f .tag) (length (f .contents))) (f .at) (counted K (suc n) fs)
 
 -- What the fields after the header state, where none is at fault.
 unfoldable pub stated : (K : ℕ) → Fields → List Constraint
@@ -68,9 +68,9 @@ unfoldable pub bothBundles : (A B : List ℕ) → Result (Bundle × Bundle)
 bothBundles A B = atMost (edition1 .bundleBytes) fileA A >> (atMost (edition1 .bundleBytes) fileB B >> bundles A B)
 
 -- K, the counts, and the places of A's constraint i and of B's that line i is; or the refusal.
-abbrev pub pairOf : (A B : List ℕ) (i : ℕ) → Result (Bundle × Bundle) → Pair
-pairOf A B i (refused a) = record { answer = a; k = 0; m = 0; n = 0; first = 0; second = 0 }
-pairOf A B i (accepted p) = record {
+abbrev pub scannedBoth : (A B : List ℕ) (i : ℕ) → Result (Bundle × Bundle) → ScannedBoth
+scannedBoth A B i (refused a) = record { answer = a; k = 0; m = 0; n = 0; first = 0; second = 0 }
+scannedBoth A B i (accepted p) = record {
   answer = acceptance;
   k = p .0 .K;
   m = length (p .0 .constraints);

@@ -36,7 +36,7 @@ ghost use Rattle.fields.specs.Places.{givenK, IsHeader};
 ghost use Rattle.fields.specs.declared.FileKind.{FileKind};
 ghost use Rattle.fields.specs.declared.header.Headed.{Headed};
 ghost use Rattle.bundle.specs.Bundle.{bundle};
-ghost use Rattle.bundle.specs.Scan.{constraintStart, scanned, bothBundles, pairOf};
+ghost use Rattle.bundle.specs.Scan.{constraintStart, scanned, bothBundles, scannedBoth};
 ghost use Rattle.bundle.specs.Read.{stored};
 ghost use Rattle.bundle.specs.Write.{bundleBytes};
 ghost use Rattle.bundle.specs.Show.{answerOf};
@@ -81,7 +81,7 @@ fn scan(s: &[u8], file: u8, given: u8, wanted: usize) -> Scanned
 }
 
 // What going over both bundles tells: their K, m constraints in A and n in B, and where the one wanted starts, first in A, second in B; or the refusal, with 0 for all.
-pub struct Pair {
+pub struct ScannedBoth {
     pub answer: Answer,
     pub k: u8,
     pub m: usize,
@@ -90,10 +90,10 @@ pub struct Pair {
     pub second: usize,
 }
 
-fn refused_pair(answer: Answer) -> Pair
+fn refused_pair(answer: Answer) -> ScannedBoth
     ensures { λ r. ⌜ r ≡ record { answer = answer; k = 0; m = 0; n = 0; first = 0; second = 0 } ⌝ }
 {
-    Pair {
+    ScannedBoth {
         answer,
         k: 0,
         m: 0,
@@ -114,8 +114,8 @@ fn beyond(i: usize, m: usize) -> usize
 }
 
 // Goes over A, and then over B with A's K. Wanted is line i: constraint i of A, or the one of B that lies as far beyond A's.
-pub fn scan_both(a: &[u8], b: &[u8], i: usize) -> Pair
-    ensures { λ r. ⌜ r ≡ pairOf (now (a .entry)) (now (b .entry)) i (bothBundles (now (a .entry)) (now (b .entry))) ⌝ }
+pub fn scan_both(a: &[u8], b: &[u8], i: usize) -> ScannedBoth
+    ensures { λ r. ⌜ r ≡ scannedBoth (now (a .entry)) (now (b .entry)) i (bothBundles (now (a .entry)) (now (b .entry))) ⌝ }
 {
     if a.len() > BUNDLE_BYTES {
         return refused_pair(refusal(1, 1, 0));
@@ -137,7 +137,7 @@ pub fn scan_both(a: &[u8], b: &[u8], i: usize) -> Pair
     if number != 0 {
         return refused_pair(answer);
     }
-    Pair {
+    ScannedBoth {
         answer,
         k,
         m,

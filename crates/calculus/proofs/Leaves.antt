@@ -7,10 +7,11 @@ use native.Mathlib.Omega.{arith}
 use lib.ListN.{getD}
 use lib.IntN.{ℤ, pos, negsuc, negℤ, _+ℤ_, _-ℤ_, *ℤ-zero, +ℤ-idl}
 use lib.Signed.{_≤ℤ_}
-use Rattle.integers.specs.Linear.{ints, add-pn, neg-pn}
-use Rattle.integers.specs.Ring.{var, ring, poly}
-use Rattle.integers.specs.Laws.{sub-add}
-use Rattle.integers.specs.Divides.{_∣ℤ_, ∣-zero, ∣-add, ∣-mul}
+use Rattle.integers.proofs.Differences.{ints, add-pn, neg-pn}
+use Rattle.integers.proofs.Ring.{var, ring, poly}
+use Rattle.integers.proofs.Laws.{sub-add}
+use Rattle.integers.specs.Divides.{_∣ℤ_}
+use Rattle.integers.proofs.Divisibility.{∣-zero, ∣-add, ∣-mul}
 use Rattle.forms.specs.Forms.{Form, Kind, ≤0, =0, Holds, coeff, value, sum, Assignment, rest, _⊞_, _·_, Formula, literal, _divides_, _and_, _or_, True}
 use Rattle.calculus.specs.Rules.{Fails}
 use Rattle.calculus.proofs.Readings.{_⊟_, of-difference, coeff-reading, value-reading}

@@ -6,8 +6,9 @@ use mathlib.Core.Bool.{Bool, false}
 use Prim.Native.Nat.{ℕ, _≤_}
 use native.Mathlib.Omega.{arith}
 use lib.IntN.{pos, _-ℤ_}
-use Rattle.integers.specs.Divides.{_∣ℤ_, ∣-zero}
-use Rattle.integers.specs.Remainder.{remainder-congruent, ∣-back}
+use Rattle.integers.specs.Divides.{_∣ℤ_}
+use Rattle.integers.proofs.Divisibility.{∣-zero}
+use Rattle.integers.proofs.Remainders.{remainder-congruent, ∣-back}
 use Rattle.forms.specs.Edition.{Edition}
 use Rattle.forms.specs.Forms.{Form, Line, coeff, value, Assignment, within, Formula, literal, _divides_, _and_, _or_, True}
 use Rattle.forms.specs.Reduced.{reduced, reducing, Strides, Reduced}

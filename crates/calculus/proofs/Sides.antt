@@ -6,8 +6,8 @@ use native.Mathlib.Omega.{arith}
 use native.Mathlib.Nat.{mul-le-mul-left}
 use lib.IntN.{ℤ, pos, _+ℤ_, _-ℤ_, _*ℤ_, +ℤ-idr, zero-*ℤ}
 use lib.Signed.{_≤ℤ_}
-use Rattle.integers.specs.Linear.{ints, add-pn, mul-pn, pn-le}
-use Rattle.integers.specs.Laws.{ring-laws, sub-self}
+use Rattle.integers.proofs.Differences.{ints, add-pn, mul-pn, pn-le}
+use Rattle.integers.proofs.Laws.{ring-laws, sub-self}
 use Rattle.forms.specs.Forms.{Form, Kind, ≤0, =0, Holds, Constraint, Line, lineA, lineB, lines, All, nil, cons, _⊞_, _·_}
 use Rattle.calculus.specs.Rules.{Nth, _▷_, New, combine, reduce, scale}
 use Rattle.calculus.proofs.Readings.{Reading}
@@ -129,8 +129,8 @@ holds-zero : (k : Kind) (x : ℤ) → x ≡ pos 0 → Holds k x
 holds-zero ≤0 x h = omega ints
 holds-zero =0 x h = h
 
-pub holds : Cone Holds
-holds = record {
+pub holds-cone : Cone Holds
+holds-cone = record {
   plus = λ {k} {x} {y} h g. holds-plus k x y h g;
   times = λ {k} {x} α h. holds-times k x α h;
   none = λ {k}. holds-zero k (pos 0) refl;

@@ -23,7 +23,3 @@ pub record PutAccepted (was bytes is : List ℕ) (r : ℕ) : Type 0 where
   pub acceptance : AcceptedLines bytes lines
   pub few : length lines ≤ length bytes * 2 + 31
   pub put : Put was 0 lines is r
-
--- The text has room for whatever is printed of a lent output.
-abbrev pub Room : List ℕ → List ℕ → Type 0
-Room out text = length out * 2 + 128 ≤ length text

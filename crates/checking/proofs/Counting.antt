@@ -7,7 +7,7 @@ use lib.ListN.{length}
 use Rattle.fields.specs.Places.{fieldsAt, nextOf}
 use Rattle.fields.specs.declared.Next.{Next}
 use Rattle.fields.proofs.Places.{starts, next-cut, next-ends}
-use Rattle.branches.specs.Room.{fieldsLeft}
+use Rattle.branches.specs.Spare.{fieldsLeft}
 use Rattle.branches.proofs.Counting.{count-starts, count-cut, count-ends}
 
 module _ (p : List ℕ) where

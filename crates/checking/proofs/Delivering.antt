@@ -14,7 +14,7 @@ use Rattle.fields.specs.Header.{headerBytes}
 use Rattle.fields.proofs.Headers.{length-headerBytes}
 use Rattle.lines.proofs.Fill.{Filled, filled-length, filled-next}
 use Rattle.fields.specs.Ending.{IsEnding}
-use Rattle.checking.specs.Whole.{Delivers, Finishes, Ended}
+use Rattle.checking.specs.Whole.{Delivers, Finishes, InScratch}
 use Rattle.fields.specs.declared.WriteResult.{WriteResult}
 use Rattle.fields.specs.declared.ending.Ending.{Ending}
 
@@ -84,5 +84,5 @@ module _ {P : List ℕ} {at : ℕ} {e : Ending} (k : IsEnding FileKind.Proof P a
   unfolding _>>_
   finish-ended q l = record { is = rw (k .is 3, q) (l .is) }
 
-pub ended-room : {P : List ℕ} {at : ℕ} {e : Ending} {o : ℕ} {S : List ℕ} → IsEnding FileKind.Proof P at e → e ≡ Ending.Ended → Ended P at o S → o ≤ length S
+pub ended-room : {P : List ℕ} {at : ℕ} {e : Ending} {o : ℕ} {S : List ℕ} → IsEnding FileKind.Proof P at e → e ≡ Ending.Ended → InScratch P at o S → o ≤ length S
 ended-room k q t = t .room (k .is 3 ∙ rw q)

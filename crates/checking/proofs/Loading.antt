@@ -14,7 +14,7 @@ use lib.Signed.{mag}
 use mir.Syntax.{w16}
 use mir.Val.{SFits}
 use lib.ListN.{length, getD, take, drop, set, replicate, length-replicate, getD-replicate, length-append, length-map, length-set}
-use lib.Seq.{paste, drop-drop, ext-getD, length-paste, take-take, take-all, take-at, getD-at, getD-set-same}
+use lib.Seq.{paste, drop-drop, length-paste, take-take, take-all, take-at, getD-at, getD-set-same}
 use Rattle.integers.specs.Magnitude.{Within}
 use Rattle.forms.specs.Forms.{Form, Kind, ≤0, =0, Line, line, _·_}
 use Rattle.calculus.specs.Rules.{_▷_}
@@ -30,12 +30,14 @@ use Rattle.bundle.specs.Bundle.{Bundle}
 use Rattle.bundle.specs.Scan.{faultOf, counted, stated}
 use Rattle.bundle.specs.declared.constraints.Counted.{Counted}
 use Rattle.bundle.proofs.Scanning.{counted-on, passed-both, count-is, proper-of, scan-header, scan-fault, scan-bundle}
-use Rattle.fields.proofs.Signed.{length-signeds, signeds-last}
-use Rattle.lines.specs.Parts.{part, part-take, part-paste, getD-part, Agree, agree-sym, agree-trans, agree-le, agree-getD, agree-part, agree-set, agree-paste}
-use Rattle.lines.specs.Buffer.{size, times, formIn, kindOf, lineIn, linesIn, Bounded}
-use Rattle.lines.specs.Lines.{form-ext, line-ext, before, lines-more}
+use Rattle.fields.proofs.Signed.{length-signeds, signeds-take, signeds-last}
+use Rattle.lines.specs.Parts.{part, Agree}
+use Rattle.lines.proofs.Parts.{part-take, part-paste, getD-part, agree-sym, agree-trans, agree-le, agree-getD, agree-part, agree-set, agree-paste}
+use Rattle.forms.specs.Flat.{kindOf, formIn}
+use Rattle.lines.specs.Buffer.{size, times, lineIn, linesIn, Bounded}
+use Rattle.lines.proofs.Lines.{form-ext, line-ext, before, lines-more}
 use Rattle.lines.proofs.Fill.{Filled, filled-none, filled-length, filled-next}
-use Rattle.checking.specs.Load.{Copies, Put, partialOf, partialForm, lineOf, Space, Loads, Loaded, formLine, Able, Bundled, BundleLoaded}
+use Rattle.checking.specs.Load.{Copies, NumbersStored, partialOf, partialForm, lineOf, Space, Loads, Loaded, formLine, Able, Bundled, BundleLoaded}
 
 le-or-lt : (a b : ℕ) → (a ≤ b) ⊎ (b < a)
 le-or-lt a b = ⊎-elim (λ e. inl (omega arith)) (λ h. inr (omega arith)) (eq-zero-or-pos (a - b))
@@ -85,7 +87,7 @@ module _ {s : List ℕ} {start n : ℕ} {buf₀ : List ℤ} {at : ℕ} (q : Copi
             (eq-or-lt-of-le (omega arith));
       }
 
-  pub turn-done : n ≤ i → Put buf₀ at (signeds 2 n (drop start s)) n buf
+  pub turn-done : n ≤ i → NumbersStored buf₀ at (signeds 2 n (drop start s)) n buf
   turn-done h =
       let z : i ≡ n = omega (arith, turn-most) in
       record { is = rw z at (v .filled .is); small = λ j l. v .small j (omega arith) }
@@ -104,7 +106,7 @@ module _ {buf₀ : List ℤ} {at : ℕ} (n : ℕ) {buf : List ℤ} {i : ℕ} (h 
   pub clear-next : {x : ℤ} → i < n → x ≡ pos 0 → Filled buf₀ at (replicate n (pos 0)) (set buf (at + i) x) (i + 1)
   clear-next {x} l e = filled-next clear-room v x (pos 0) (e ∙ sym (getD-replicate n i (pos 0) (pos 0) l)) (omega (arith, length-replicate n (pos 0)))
 
-  pub clear-done : n ≤ i → Put buf₀ at (replicate n (pos 0)) n buf
+  pub clear-done : n ≤ i → NumbersStored buf₀ at (replicate n (pos 0)) n buf
   clear-done l =
       let z : i ≡ n = omega (arith, v .upto, length-replicate n (pos 0)) in
       record { is = rw z at (v .is); small = λ j m. rw (getD-replicate n j (pos 0) (pos 0) m) zero-small }
@@ -115,10 +117,10 @@ zeros [] = refl
 zeros (z ∷ zs) = ap₂ (λ (x : ℤ) (y : List ℤ). x ∷ y) (sym (zero-*ℤ z)) (zeros zs)
 
 module _ (inA : Bool) (zs : List ℤ) {buf : List ℤ} {at n : ℕ} {buf′ : List ℤ} where
-  pub partial-A : inA ≡ true → Put buf at zs n buf′ → Put buf at (partialOf inA zs) n buf′
+  pub partial-A : inA ≡ true → NumbersStored buf at zs n buf′ → NumbersStored buf at (partialOf inA zs) n buf′
   partial-A e p = rw e p
 
-  pub partial-B : inA ≡ false → length zs ≡ n → Put buf at (replicate n (pos 0)) n buf′ → Put buf at (partialOf inA zs) n buf′
+  pub partial-B : inA ≡ false → length zs ≡ n → NumbersStored buf at (replicate n (pos 0)) n buf′ → NumbersStored buf at (partialOf inA zs) n buf′
   partial-B e l p =
       let z : replicate n (pos 0) ≡ times (pos 0) zs = ap (λ (m : ℕ). replicate m (pos 0)) (sym l) ∙ zeros zs in
       rw e (rw z at p)
@@ -175,7 +177,7 @@ put-part l d s w h e =
     (rw z at (part-paste l d s w h 0 w (omega arith) (omega arith))) ∙ take-all w s (omega arith)
 
 module _ (K : ℕ) (kinds : List ℕ) (buf : List ℤ) (n : ℕ) (kind : ℕ) (zs za : List ℤ) (sp : Space K (suc n) kinds buf) (lz : length zs ≡ K + 1) (la : length za ≡ K + 1)
-    {buf₁ buf₂ : List ℤ} (p : Put buf (n * size K) zs (K + 1) buf₁) (q : Put buf₁ (n * size K + (K + 1)) za (K + 1) buf₂) where
+    {buf₁ buf₂ : List ℤ} (p : NumbersStored buf (n * size K) zs (K + 1) buf₁) (q : NumbersStored buf₁ (n * size K + (K + 1)) za (K + 1) buf₂) where
   end : n * size K + size K ≤ length buf
   end = space-end sp
 
@@ -245,8 +247,8 @@ module _ (K : ℕ) (kinds : List ℕ) (buf : List ℤ) (n : ℕ) (kind : ℕ) (z
 
 -- The form at a place and its tA.
 module _ {s : List ℕ} {start K : ℕ} {kinds : List ℕ} {buf : List ℤ} {n : ℕ} (g : Loads s start K kinds buf n) (inA : Bool) (kind : ℕ) where
-  pub form-loaded : {buf₁ buf₂ : List ℤ} → Put buf (n * size K) (signeds 2 (K + 1) (drop start s)) (K + 1) buf₁
-      → Put buf₁ (n * size K + (K + 1)) (partialOf inA (signeds 2 (K + 1) (drop start s))) (K + 1) buf₂
+  pub form-loaded : {buf₁ buf₂ : List ℤ} → NumbersStored buf (n * size K) (signeds 2 (K + 1) (drop start s)) (K + 1) buf₁
+      → NumbersStored buf₁ (n * size K + (K + 1)) (partialOf inA (signeds 2 (K + 1) (drop start s))) (K + 1) buf₂
       → Loaded K kinds buf n (formLine inA K kind s start ∷ []) (set kinds n kind) buf₂
   form-loaded p q =
       let t = formFrom 2 K (drop start s) in
@@ -274,20 +276,11 @@ loaded-then {K} {kinds} {buf} {n} {ls} {ms} p q =
     }
 
 -- ---- what stands behind a form's bytes does not matter
-signeds-front : (w n m : ℕ) (bs : List ℕ) → n * w ≤ m → signeds w n (take m bs) ≡ signeds w n bs
-signeds-front w n m bs h =
-    ext-getD (pos 0) (signeds w n (take m bs)) (signeds w n bs) (length-signeds w n (take m bs) ∙ sym (length-signeds w n bs))
-    (λ i l.
-    let b : i < n = omega (arith, length-signeds w n (take m bs)) in
-    getD-signeds w n (take m bs) i b
-    ∙ ap signed (part-take (i * w) w m bs (omega (arith, mul-le-mul-right w b, suc-mul i w)))
-    ∙ sym (getD-signeds w n bs i b))
-
 form-front : (w K m : ℕ) (bs : List ℕ) → suc K * w ≤ m → formFrom w K (take m bs) ≡ formFrom w K bs
 unfolding formFrom
 form-front w K m bs h =
     form-ext
-    (signeds-front w K m bs (omega (arith, suc-mul K w)))
+    (signeds-take w K m bs (omega (arith, suc-mul K w)))
     (ap signed (part-take (K * w) w m bs (omega (arith, suc-mul K w))))
 
 -- ---- the kind that a tag names

@@ -13,7 +13,7 @@ use Rattle.bundle.specs.Bundle.{bundle}
 use Rattle.fields.specs.Places.{givenK}
 use Rattle.fields.proofs.Headers.{given-some}
 use Rattle.lines.specs.Buffer.{linesIn}
-use Rattle.branches.specs.Room.{Spare}
+use Rattle.branches.specs.Spare.{Spare}
 use Rattle.checking.specs.Load.{Space, Loaded, Bundled, BundleLoaded}
 use Rattle.checking.specs.Whole.{Both, Holding}
 use Rattle.checking.proofs.Loading.{space-less, space-kept, loaded-then}

@@ -5,6 +5,10 @@ use Prim.Native.Nat.{ℕ}
 use native.Mathlib.Omega.{arith}
 use lib.IntN.{ℤ}
 use Rattle.forms.specs.Edition.{edition1}
+use Rattle.fields.specs.declared.Answer.{Answer}
+use Rattle.fields.specs.declared.Position.{Position}
+use Rattle.forms.specs.declared.RowNumber.{RowNumber}
+use Rattle.fields.specs.Answers.{root, refusalAt}
 use Rattle.fields.specs.Places.{fieldsAt}
 use Rattle.lines.specs.Buffer.{linesIn}
 use Rattle.proof.specs.Check.{checkBranch}
@@ -12,22 +16,21 @@ use Rattle.rows.specs.Tally.{tally}
 use Rattle.rows.specs.declared.tally.Tally.{Tally}
 use Rattle.branches.specs.Branching.{Closes, Branches}
 use Rattle.branches.specs.declared.branch.Branched.{Branched}
-use Rattle.checking.specs.Whole.{Finishes, Roots, Fits, Enough, Ended}
+use Rattle.checking.specs.Whole.{Finishes, Roots, Fits, Enough, InScratch}
 use Rattle.fields.specs.declared.WriteResult.{WriteResult}
-use Rattle.checking.proofs.Delivering.{unwritten}
 use Rattle.checking.proofs.Stages.{root-fault, root-ended, root-closed}
 
 module _ {K : ℕ} {P : List ℕ} {at n rows : ℕ} {kinds kinds′ : List ℕ} {buf buf′ : List ℤ} {S S′ : List ℕ} {x : Branched}
-    (b : Branches K P at kinds buf (tally rows n 0) S 0 kinds′ buf′ S′ x) (none : rows ≡ 0) where
-  pub by-fault : {number place : ℕ} {out : List ℕ} {r : WriteResult} → x ≡ Branched.Fault number place → r ≡ unwritten number 3 place
-      → Roots K (linesIn K kinds buf n) P at out out r
-  by-fault e q = root-fault (rw (e, none) at (b .by)) q
+    {here : Position} (b : Branches K P at here kinds buf (tally rows n 0) S 0 kinds′ buf′ S′ x) (at-root : here ≡ root) (none : rows ≡ 0) where
+  pub by-fault : {number : ℕ} {so-far : RowNumber} {found : Position} {place : ℕ} {y : Answer} {out : List ℕ} → x ≡ Branched.Fault number so-far found place → y ≡ refusalAt found (so-far .0) place number
+      → Roots K (linesIn K kinds buf n) P at out out (record { answer = y; count = 0 })
+  by-fault e q = rw q (root-fault (rw (e, at-root, none) at (b .by)) refl)
 
   module _ (t : Fits K (linesIn K kinds buf n) P at) (len : Enough P at S) {end o : ℕ} {t′ : Tally} (e : x ≡ Branched.Closed end o t′) where
-    c : Closes (checkBranch edition1 K 32 0 (linesIn K kinds buf n) (fieldsAt P at)) P at (tally 0 n 0) end S 0 o S′ t′
-    c = rw (e, none) at (b .by)
+    c : Closes (checkBranch edition1 K 32 root 0 (linesIn K kinds buf n) (fieldsAt P at)) P at (tally 0 n 0) end S 0 o S′ t′
+    c = rw (e, at-root, none) at (b .by)
 
-    pub by-closed-ended : Ended P end o S′
+    pub by-closed-ended : InScratch P end o S′
     by-closed-ended = root-ended t (record { formula = c .formula; rows = t′ .rows .0; after = fieldsAt P end }) (c .is) end o refl (omega (arith, c .o-is)) S len (omega (arith, c .within)) (λ h. c .stored (omega arith))
 
     pub by-closed : {out out′ : List ℕ} {r : WriteResult} → Finishes K P end S′ o out out′ r → Roots K (linesIn K kinds buf n) P at out out′ r

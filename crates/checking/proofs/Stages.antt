@@ -13,14 +13,14 @@ use Rattle.forms.specs.Forms.{Line, Formula, lines, All, nil, cons}
 use Rattle.fields.specs.declared.Answer.{Answer}
 use Rattle.fields.specs.declared.FileKind.{FileKind}
 use Rattle.fields.specs.declared.header.Headed.{Headed}
-use Rattle.fields.specs.Answers.{answer, fileA, fileB, fileProof, Result, refused, accepted, _>>=_, _>>_, need, written}
+use Rattle.fields.specs.Answers.{root, answer, fileA, fileB, fileProof, Result, refused, accepted, _>>=_, _>>_, need, written}
 use Rattle.fields.specs.Fields.{Fields, fields}
 use Rattle.fields.specs.Header.{Header, header, finished, headerBytes}
 use Rattle.fields.specs.Places.{fieldsAt, headedOf, IsHeader}
 use Rattle.fields.proofs.HeaderLaid.{header-gives}
 use Rattle.bundle.specs.Bundle.{Bundle, atMost, bundles}
-use Rattle.bundle.specs.Scan.{bothBundles, pairOf}
-use Rattle.bundle.specs.declared.Pair.{Pair}
+use Rattle.bundle.specs.Scan.{bothBundles, scannedBoth}
+use Rattle.bundle.specs.declared.ScannedBoth.{ScannedBoth}
 use Rattle.bundle.proofs.Laid.{bundle-accepts}
 use Rattle.bundle.proofs.Pairs.{short-both, paired, unpaired, same-k}
 use Rattle.formula.specs.Formula.{encode, formulaFile}
@@ -29,9 +29,9 @@ use Rattle.proof.specs.Check.{Closing, checkBranch, checkProof, interpolant, ch
 use Rattle.proof.proofs.Agree.{interpolant-iff}
 use Rattle.proof.proofs.Sizes.{written-reads-back}
 use Rattle.rows.specs.Tally.{tally}
-use Rattle.branches.specs.Room.{fieldsLeft, Spare}
+use Rattle.branches.specs.Spare.{fieldsLeft, Spare}
 use Rattle.branches.specs.Branching.{Started}
-use Rattle.checking.specs.Whole.{Short, Both, Holding, Prepared, Begun, finishing, rooted, Finishes, Roots, Fits, Enough, Ended}
+use Rattle.checking.specs.Whole.{Short, Both, Holding, Prepared, Begun, finishing, rooted, Finishes, Roots, Fits, Enough, InScratch}
 use Rattle.checking.specs.Promises.{Checks}
 use Rattle.fields.specs.declared.WriteResult.{WriteResult}
 use Rattle.checking.proofs.Delivering.{unwritten}
@@ -86,7 +86,7 @@ module _ {A B P : List ℕ} (s : Short A B P) where
 -- ---- the root
 proof-root : (a b : Bundle) (K : ℕ) (fs rest : Fields) → a .K ≡ K → header FileKind.Proof fileProof (some K) fs ≡ accepted (record { edition = edition1; K = K; rest = rest })
     → checkProof a b fs
-    ≡ (checkBranch edition1 K 32 0 (lines (a .constraints) (b .constraints)) rest
+    ≡ (checkBranch edition1 K 32 root 0 (lines (a .constraints) (b .constraints)) rest
     >>= λ c. (finished FileKind.Proof fileProof (c .after) >> accepted (c .formula)))
 unfolding checkProof _>>=_
 proof-root a b K fs rest e h = rw (e, h)
@@ -98,10 +98,10 @@ module _ {A B P : List ℕ} {K m n at : ℕ} (g : Begun A B P K m n at) where
   b : Bundle
   b = g .both .b
 
-  abbrev root : Result Closing
-  root = checkBranch edition1 K 32 0 (lines (a .constraints) (b .constraints)) (fieldsAt P at)
+  abbrev tree : Result Closing
+  tree = checkBranch edition1 K 32 root 0 (lines (a .constraints) (b .constraints)) (fieldsAt P at)
 
-  begun-is : interpolant A B P ≡ ((root >>= λ c. (finished FileKind.Proof fileProof (c .after) >> accepted (c .formula))) >>= λ I. accepted (K, I))
+  begun-is : interpolant A B P ≡ ((tree >>= λ c. (finished FileKind.Proof fileProof (c .after) >> accepted (c .formula))) >>= λ I. accepted (K, I))
   unfolding a b
   begun-is =
       K-is (g .short) (g .both)
@@ -133,20 +133,20 @@ module _ {A B P : List ℕ} {K m n at : ℕ} (g : Begun A B P K m n at) {kinds :
   h : Holding (g .both .a) (g .both .b) K kinds buf (m + n)
   h = q .holds (g .both)
 
-  same-root : checkBranch edition1 K 32 0 (linesIn K kinds buf (m + n)) (fieldsAt P at) ≡ root g
+  same-root : checkBranch edition1 K 32 root 0 (linesIn K kinds buf (m + n)) (fieldsAt P at) ≡ tree g
   unfolding a b
   same-root = rw (h .lines-are)
 
   same-bytes : rooted K (linesIn K kinds buf (m + n)) (fieldsAt P at) ≡ (interpolant A B P >>= λ (k, I). accepted (formulaFile edition1 k I))
   same-bytes =
       ap (λ (x : Result Closing). x >>= λ c. finishing K (c .after) (encode edition1 (c .formula))) same-root
-      ∙ sym (ap (λ (x : Result (ℕ × Formula)). x >>= λ (k, I). accepted (formulaFile edition1 k I)) (begun-is g) ∙ then-bytes K (root g))
+      ∙ sym (ap (λ (x : Result (ℕ × Formula)). x >>= λ (k, I). accepted (formulaFile edition1 k I)) (begun-is g) ∙ then-bytes K (tree g))
 
   pub checks-root : {out out′ : List ℕ} {r : WriteResult} → Roots K (linesIn K kinds buf (m + n)) P at out out′ r → Checks A B P out out′ r
   unfolding check
   checks-root {out} l = record { is = l .is ∙ ap (λ (R : Result (List ℕ)). written R out) same-bytes }
 
-  accepts : (c : Closing) → root g ≡ accepted c → finished FileKind.Proof fileProof (c .after) ≡ accepted tt → interpolant A B P ≡ accepted (K, c .formula)
+  accepts : (c : Closing) → tree g ≡ accepted c → finished FileKind.Proof fileProof (c .after) ≡ accepted tt → interpolant A B P ≡ accepted (K, c .formula)
   unfolding _>>=_ _>>_
   accepts c e f = begun-is g ∙ rw (e, f)
 
@@ -161,15 +161,15 @@ module _ {A B P : List ℕ} {K m n at : ℕ} (g : Begun A B P K m n at) {kinds :
 
 -- ---- each way from the root
 module _ {K : ℕ} {ls : List Line} {P : List ℕ} {at : ℕ} where
-  pub root-fault : {out : List ℕ} {number place : ℕ} {r : WriteResult} → checkBranch edition1 K 32 0 ls (fieldsAt P at) ≡ refused (answer number 3 place) → r ≡ unwritten number 3 place
+  pub root-fault : {out : List ℕ} {x : Answer} {r : WriteResult} → checkBranch edition1 K 32 root 0 ls (fieldsAt P at) ≡ refused x → r ≡ record { answer = x; count = 0 }
       → Roots K ls P at out out r
   unfolding _>>=_ written
   root-fault e q = record { is = rw (e, q) }
 
-  module _ (t : Fits K ls P at) (c : Closing) (e : checkBranch edition1 K 32 0 ls (fieldsAt P at) ≡ accepted c)
+  module _ (t : Fits K ls P at) (c : Closing) (e : checkBranch edition1 K 32 root 0 ls (fieldsAt P at) ≡ accepted c)
       (end o : ℕ) (after : c .after ≡ fieldsAt P end) (o-is : o ≡ length (encode edition1 (c .formula))) (S : List ℕ) {S′ : List ℕ} (len : Enough P at S) (within : o ≤ 78 * fieldsLeft P at)
       (stored : length (encode edition1 (c .formula)) ≤ length S → S′ ≡ sets S 0 (encode edition1 (c .formula))) where
-    pub root-ended : Ended P end o S′
+    pub root-ended : InScratch P end o S′
     root-ended = record {
       room = λ f.
           let l = len .enough (length (encode edition1 (c .formula))) (omega (arith, within, o-is)) (t .fits c e (rw after f)) in
@@ -200,7 +200,7 @@ pub checks-answer : {A B P out : List ℕ} {x : Answer} → interpolant A B P �
 unfolding check written _>>=_
 checks-answer e = record { is = rw e }
 
-module _ (A B : List ℕ) {r : Pair} (e : r ≡ pairOf A B 0 (bothBundles A B)) where
+module _ (A B : List ℕ) {r : ScannedBoth} (e : r ≡ scannedBoth A B 0 (bothBundles A B)) where
   pub unscanned : {P : List ℕ} → Short A B P → (r .answer .number ≡ 0 → ⊥) → interpolant A B P ≡ refused (r .answer)
   unscanned s z = refused-bundles s (sym (short-both A B (s .a) (s .b)) ∙ unpaired A B 0 e z)
 
@@ -209,9 +209,9 @@ module _ (A B : List ℕ) {r : Pair} (e : r ≡ pairOf A B 0 (bothBundles A B)) 
       let t = paired A B 0 e z in
       let lA = t .laid .laidA in
       let lB = t .laid .laidB in
-      let k-is : t .a .K ≡ r .k = sym (ap (λ (x : Pair). x .k) (t .pair-is)) in
-      let cA : length (t .a .constraints) ≡ r .m = sym (ap (λ (x : Pair). x .m) (t .pair-is)) in
-      let cB : length (t .b .constraints) ≡ r .n = sym (ap (λ (x : Pair). x .n) (t .pair-is)) in
+      let k-is : t .a .K ≡ r .k = sym (ap (λ (x : ScannedBoth). x .k) (t .pair-is)) in
+      let cA : length (t .a .constraints) ≡ r .m = sym (ap (λ (x : ScannedBoth). x .m) (t .pair-is)) in
+      let cB : length (t .b .constraints) ≡ r .n = sym (ap (λ (x : ScannedBoth). x .n) (t .pair-is)) in
       record {
         a = t .a;
         b = t .b;

@@ -7,6 +7,7 @@ use lib.IntN.{ℤ, pos}
 use lib.ListN.{length, getD, drop}
 use lib.Seq.{paste}
 use Rattle.integers.specs.Magnitude.{Within}
+use Rattle.forms.specs.Edition.{edition1}
 use Rattle.forms.specs.Forms.{Form, Line, line, Constraint, _·_}
 use Rattle.fields.specs.Answers.{accepted}
 use Rattle.fields.specs.Numbers.{formFrom}
@@ -15,17 +16,18 @@ use Rattle.fields.specs.Places.{givenK}
 use Rattle.bundle.specs.Bundle.{Bundle, bundle}
 use Rattle.bundle.specs.Scan.{counted}
 use Rattle.bundle.specs.declared.constraints.Counted.{Counted}
-use Rattle.lines.specs.Buffer.{size, times, kindOf, linesIn, Bounded}
+use Rattle.forms.specs.Flat.{kindOf}
+use Rattle.lines.specs.Buffer.{size, times, linesIn, Bounded}
 
--- n numbers of two bytes from `start` on have room at `at`.
+-- n numbers of a bundle from `start` on have room at `at`.
 pub record Copies (s : List ℕ) (start n : ℕ) (buf : List ℤ) (at : ℕ) : Type 0 where
-  pub bytes : start + n * 2 ≤ length s
+  pub bytes : start + n * edition1 .coefficientWidth ≤ length s
   pub room : at + n ≤ length buf
 
 -- n numbers are stored at a place, and are within the range.
-pub record Put (buf : List ℤ) (at : ℕ) (zs : List ℤ) (n : ℕ) (buf′ : List ℤ) : Type 0 where
+pub record NumbersStored (buf : List ℤ) (at : ℕ) (zs : List ℤ) (n : ℕ) (buf′ : List ℤ) : Type 0 where
   pub is : buf′ ≡ paste buf at zs n
-  pub small : (j : ℕ) → j < n → Within 2147483647 (getD zs j (pos 0))
+  pub small : (j : ℕ) → j < n → Within (edition1 .range) (getD zs j (pos 0))
 
 -- An A line has tA = t; a B line has tA = 0.
 abbrev pub partialOf : (inA : Bool) → List ℤ → List ℤ
@@ -41,15 +43,15 @@ lineOf inA c = line (c .kind) (c .form) (partialForm inA (c .form))
 
 -- The buffers have room for c lines.
 pub record Space (K c : ℕ) (kinds : List ℕ) (buf : List ℤ) : Type 0 where
-  pub constants : K ≤ 16
+  pub constants : K ≤ edition1 .constants
   pub room : c * size K ≤ length buf
-  pub most : c ≤ 128
-  pub kinds-room : 128 ≤ length kinds
+  pub most : c ≤ edition1 .lines
+  pub kinds-room : edition1 .lines ≤ length kinds
 
 -- Line n with the form that starts at a place.
 pub record Loads (s : List ℕ) (start K : ℕ) (kinds : List ℕ) (buf : List ℤ) (n : ℕ) : Type 0 where
   pub space : Space K (suc n) kinds buf
-  pub bytes : start + (K + 1) * 2 ≤ length s
+  pub bytes : start + (K + 1) * edition1 .coefficientWidth ≤ length s
 
 -- The lines ls stand behind the first n, which stay as they were; so do the lengths.
 pub record Loaded (K : ℕ) (kinds : List ℕ) (buf : List ℤ) (n : ℕ) (ls : List Line) (kinds′ : List ℕ) (buf′ : List ℤ) : Type 0 where
@@ -60,7 +62,7 @@ pub record Loaded (K : ℕ) (kinds : List ℕ) (buf : List ℤ) (n : ℕ) (ls : 
 
 -- The line of one form.
 abbrev pub formLine : (inA : Bool) (K kind : ℕ) (s : List ℕ) (start : ℕ) → Line
-formLine inA K kind s start = lineOf inA (record { kind = kindOf kind; form = formFrom 2 K (drop start s) })
+formLine inA K kind s start = lineOf inA (record { kind = kindOf kind; form = formFrom (edition1 .coefficientWidth) K (drop start s) })
 
 -- Fields that are constraints without fault have room behind the first n lines.
 pub record Able (K : ℕ) (fs : Fields) (kinds : List ℕ) (buf : List ℤ) (n : ℕ) : Type 0 where

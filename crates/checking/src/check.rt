@@ -12,22 +12,26 @@ use fields::header::Headed;
 use fields::header::put_header;
 use fields::header::read_header;
 use forms::BUNDLE_BYTES;
+use forms::CONSTANTS;
+use forms::FORMULA_BYTES;
+use forms::LINES;
 use forms::LineNumber;
 use forms::PROOF_BYTES;
 use forms::RowNumber;
 use rows::tally::Tally;
 ghost use mathlib.Core.Path.{_≡_};
-ghost use Prim.Native.Nat.{_+_, _*_, _≤_};
+ghost use Prim.Native.Nat.{_+_, _*_, _≤_, min};
 ghost use lib.ListN.{length, take};
 ghost use lib.Seq.{paste};
+ghost use Rattle.forms.specs.Edition.{edition1};
 ghost use Rattle.fields.specs.Answers.{answer};
 ghost use Rattle.lines.specs.Buffer.{size, linesIn};
 ghost use Rattle.rows.specs.Tally.{tally};
-ghost use Rattle.branches.specs.Room.{fieldsLeft, Spare};
+ghost use Rattle.branches.specs.Spare.{fieldsLeft, Spare};
 ghost use Rattle.branches.specs.Branching.{Started};
 ghost use Rattle.checking.specs.Promises.{Checks};
 ghost use Rattle.checking.specs.Load.{Space};
-ghost use Rattle.checking.specs.Whole.{Short, Both, Prepared, Begun, Ended, Delivers, Finishes, Roots, Fits, Enough};
+ghost use Rattle.checking.specs.Whole.{Short, Both, Prepared, Begun, InScratch, Delivers, Finishes, Roots, Fits, Enough, NumbersWithin};
 
 fn refusal(number: u8, file: u8, place: usize) -> WriteResult
     ensures { λ r. ⌜ r ≡ record { answer = answer number file place; count = 0 } ⌝ }
@@ -69,7 +73,7 @@ fn deliver(scratch: &[u8], o: usize, k: u8, out: &mut [u8]) -> WriteResult
 
 // What follows the root, and then the output. 2, 3, 19, 21.
 fn finish(proof: &[u8], at: usize, scratch: &[u8], o: usize, k: u8, out: &mut [u8]) -> WriteResult
-    requires { ⌜ Ended (now proof) at o (now scratch) ⌝ }
+    requires { ⌜ InScratch (now proof) at o (now scratch) ⌝ }
     ensures { λ r. ⌜ Finishes k (now (proof .entry)) at (now (scratch .entry)) o (now (out .entry)) (now (out .exit)) r ⌝ }
 {
     match ending_at(proof, at, FileKind::Proof) {
@@ -111,8 +115,27 @@ fn check_root(
         lines: made,
         open: 0,
     };
-    match check_branch(proof, at, lines, kinds, tally, k as usize, scratch, 0) {
-        Branched::Fault { number, at: place } => refusal(number, 3, place),
+    let position = answers::root();
+    match check_branch(
+        proof,
+        at,
+        position,
+        lines,
+        kinds,
+        tally,
+        k as usize,
+        scratch,
+        0,
+    ) {
+        Branched::Fault {
+            number,
+            rows: so_far,
+            position: found,
+            at: place,
+        } => {
+            let answer = answers::proof_refusal(found, so_far, number, place);
+            WriteResult { answer, count: 0 }
+        }
         Branched::Closed {
             at: end,
             o,
@@ -139,13 +162,33 @@ fn check_within(
     requires { ⌜ Enough (now proof) at (now scratch) ⌝ }
     ensures { λ r. ⌜ Checks (now (a .entry)) (now (b .entry)) (now (proof .entry)) (now (out .entry)) (now (out .exit)) r ⌝ }
 {
-    let mut kinds = [0u8; 128];
+    let mut kinds = [0u8; LINES as usize];
     prepare(a, b, k, m, n, lines, &mut kinds);
     check_root(proof, at, k, m + n, lines, &mut kinds, scratch, out)
 }
 
-// An array is cleared before it is used, which takes longer than the check of a short proof, so a short proof is given little.
-// Each function has its name from the fields that it is for; here 256 numbers are enough for the lines that may come.
+// The sizes of the arrays. An array is cleared before it is used, which takes longer than the check of a short proof, so a
+// short proof is given little: check_N is for proofs of N fields at most. (A field is counted for three bytes and a row has six
+// or so, so that N fields are some N / 2 rows.)
+// The scratch has FIELD_BYTES for each field: what a row adds to the formula has 75 bytes at most, a divisibility over 16
+// constants, and 3 are for the head of an and or an or.
+// A field makes one line at most: up to check_70 there is room for the lines of two constraints, of N fields and for one that
+// is being made, each of 16 constants (in check_13 of 7, so that either array has 1 KB). Then there is room for all lines that
+// a branch may have, and one more. With these the arrays of check_262 have 38 KB: what is larger does not fit the first cache
+// and takes longer by the byte (docs/SPEED.md). check_525 is for twice as many fields.
+const FIELD_BYTES: usize = 78;
+
+// The numbers of a line: t and tA, each with its constant term.
+const LINE_NUMBERS: usize = 2 * (CONSTANTS as usize + 1);
+
+const NUMBERS_13: usize = (13 + 3) * (2 * (7 + 1));
+
+const NUMBERS_32: usize = (32 + 3) * LINE_NUMBERS;
+
+const NUMBERS_70: usize = (70 + 3) * LINE_NUMBERS;
+
+const NUMBERS_ALL: usize = (LINES as usize + 1) * LINE_NUMBERS;
+
 fn check_13(
     a: &[u8],
     b: &[u8],
@@ -158,15 +201,14 @@ fn check_13(
 ) -> WriteResult
     requires { ⌜ Begun (now a) (now b) (now proof) k m n at ⌝ }
     requires { ⌜ fieldsLeft (now proof) at ≤ 13 ⌝ }
-    requires { ⌜ (m + n + fieldsLeft (now proof) at + 1) * size k ≤ 256 ⌝ }
+    requires { ⌜ NumbersWithin k (m + n + fieldsLeft (now proof) at) ((13 + 3) * size 7) ⌝ }
     ensures { λ r. ⌜ Checks (now (a .entry)) (now (b .entry)) (now (proof .entry)) (now (out .entry)) (now (out .exit)) r ⌝ }
 {
-    let mut lines = [0i32; 256];
-    let mut scratch = [0u8; 1024];
+    let mut lines = [0i32; NUMBERS_13];
+    let mut scratch = [0u8; 13 * FIELD_BYTES];
     check_within(a, b, proof, at, k, m, n, &mut lines, &mut scratch, out)
 }
 
-// 1,190 numbers: 35 lines of 16 constants.
 fn check_32(
     a: &[u8],
     b: &[u8],
@@ -179,15 +221,14 @@ fn check_32(
 ) -> WriteResult
     requires { ⌜ Begun (now a) (now b) (now proof) k m n at ⌝ }
     requires { ⌜ fieldsLeft (now proof) at ≤ 32 ⌝ }
-    requires { ⌜ (m + n + fieldsLeft (now proof) at + 1) * size k ≤ 1190 ⌝ }
+    requires { ⌜ NumbersWithin k (m + n + fieldsLeft (now proof) at) ((32 + 3) * size (edition1 .constants)) ⌝ }
     ensures { λ r. ⌜ Checks (now (a .entry)) (now (b .entry)) (now (proof .entry)) (now (out .entry)) (now (out .exit)) r ⌝ }
 {
-    let mut lines = [0i32; 1190];
-    let mut scratch = [0u8; 2560];
+    let mut lines = [0i32; NUMBERS_32];
+    let mut scratch = [0u8; 32 * FIELD_BYTES];
     check_within(a, b, proof, at, k, m, n, &mut lines, &mut scratch, out)
 }
 
-// 2,380 numbers: 70 lines of 16 constants.
 fn check_70(
     a: &[u8],
     b: &[u8],
@@ -200,15 +241,14 @@ fn check_70(
 ) -> WriteResult
     requires { ⌜ Begun (now a) (now b) (now proof) k m n at ⌝ }
     requires { ⌜ fieldsLeft (now proof) at ≤ 70 ⌝ }
-    requires { ⌜ (m + n + fieldsLeft (now proof) at + 1) * size k ≤ 2380 ⌝ }
+    requires { ⌜ NumbersWithin k (m + n + fieldsLeft (now proof) at) ((70 + 3) * size (edition1 .constants)) ⌝ }
     ensures { λ r. ⌜ Checks (now (a .entry)) (now (b .entry)) (now (proof .entry)) (now (out .entry)) (now (out .exit)) r ⌝ }
 {
-    let mut lines = [0i32; 2380];
-    let mut scratch = [0u8; 5504];
+    let mut lines = [0i32; NUMBERS_70];
+    let mut scratch = [0u8; 70 * FIELD_BYTES];
     check_within(a, b, proof, at, k, m, n, &mut lines, &mut scratch, out)
 }
 
-// 4,386 numbers: 129 lines of 16 constants, all that a branch may have and one more.
 fn check_262(
     a: &[u8],
     b: &[u8],
@@ -223,12 +263,11 @@ fn check_262(
     requires { ⌜ fieldsLeft (now proof) at ≤ 262 ⌝ }
     ensures { λ r. ⌜ Checks (now (a .entry)) (now (b .entry)) (now (proof .entry)) (now (out .entry)) (now (out .exit)) r ⌝ }
 {
-    let mut lines = [0i32; 4386];
-    let mut scratch = [0u8; 20480];
+    let mut lines = [0i32; NUMBERS_ALL];
+    let mut scratch = [0u8; 262 * FIELD_BYTES];
     check_within(a, b, proof, at, k, m, n, &mut lines, &mut scratch, out)
 }
 
-// The same, with more room for the formula.
 fn check_525(
     a: &[u8],
     b: &[u8],
@@ -243,12 +282,12 @@ fn check_525(
     requires { ⌜ fieldsLeft (now proof) at ≤ 525 ⌝ }
     ensures { λ r. ⌜ Checks (now (a .entry)) (now (b .entry)) (now (proof .entry)) (now (out .entry)) (now (out .exit)) r ⌝ }
 {
-    let mut lines = [0i32; 4386];
-    let mut scratch = [0u8; 40960];
+    let mut lines = [0i32; NUMBERS_ALL];
+    let mut scratch = [0u8; 525 * FIELD_BYTES];
     check_within(a, b, proof, at, k, m, n, &mut lines, &mut scratch, out)
 }
 
-// Any proof: a formula has 65,536 bytes at most.
+// Any proof, and the longest formula.
 fn check_any(
     a: &[u8],
     b: &[u8],
@@ -262,8 +301,8 @@ fn check_any(
     requires { ⌜ Begun (now a) (now b) (now proof) k m n at ⌝ }
     ensures { λ r. ⌜ Checks (now (a .entry)) (now (b .entry)) (now (proof .entry)) (now (out .entry)) (now (out .exit)) r ⌝ }
 {
-    let mut lines = [0i32; 4386];
-    let mut scratch = [0u8; 65536];
+    let mut lines = [0i32; NUMBERS_ALL];
+    let mut scratch = [0u8; FORMULA_BYTES];
     check_within(a, b, proof, at, k, m, n, &mut lines, &mut scratch, out)
 }
 
@@ -293,6 +332,17 @@ fn check_long(
     check_any(a, b, proof, at, k, m, n, out)
 }
 
+// How many lines a branch may come to have, where count may come.
+fn most_lines(count: usize) -> usize
+    ensures { λ r. ⌜ r ≡ min count (edition1 .lines) ⌝ }
+{
+    let most = LINES as usize;
+    if count < most {
+        return count;
+    }
+    most
+}
+
 // The lines, and then the root, with arrays for the fields that the proof may have: each has three bytes at least.
 // To count them would take longer than to clear what is then not used.
 fn check_lines(
@@ -310,19 +360,19 @@ fn check_lines(
 {
     let fields = proof.len() / 3;
     let size = 2 * (k as usize + 1);
-    let numbers = (m + n + fields + 1) * size;
+    let numbers = (most_lines(m + n + fields) + 1) * size;
     if fields <= 13 {
-        if numbers <= 256 {
+        if numbers <= NUMBERS_13 {
             return check_13(a, b, proof, at, k, m, n, out);
         }
     }
     if fields <= 32 {
-        if numbers <= 1190 {
+        if numbers <= NUMBERS_32 {
             return check_32(a, b, proof, at, k, m, n, out);
         }
     }
     if fields <= 70 {
-        if numbers <= 2380 {
+        if numbers <= NUMBERS_70 {
             return check_70(a, b, proof, at, k, m, n, out);
         }
         return check_long(a, b, proof, at, k, m, n, out);

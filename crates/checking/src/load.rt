@@ -5,25 +5,27 @@ use fields::header::Headed;
 use fields::header::read_header;
 use fields::next_field;
 use fields::words::short_at;
+use forms::COEFFICIENT_BYTES;
 use forms::LineNumber;
 use rows::derive::set_kind;
 ghost use mathlib.Core.List.{[], _∷_, map};
 ghost use Prim.Native.Nat.{_+_, _≤_};
 ghost use lib.IntN.{pos};
 ghost use lib.ListN.{length, drop, replicate};
+ghost use Rattle.forms.specs.Edition.{edition1};
 ghost use Rattle.fields.specs.Numbers.{signeds};
 ghost use Rattle.fields.specs.Places.{fieldsAt};
 ghost use Rattle.bundle.specs.Scan.{stated};
-ghost use Rattle.checking.specs.Load.{Copies, Put, partialOf, lineOf, Loads, Loaded, formLine, Able, Bundled, BundleLoaded};
+ghost use Rattle.checking.specs.Load.{Copies, NumbersStored, partialOf, lineOf, Loads, Loaded, formLine, Able, Bundled, BundleLoaded};
 
-// n numbers of two bytes from start on, in place of the n numbers at a place.
+// n numbers of a bundle from start on, in place of the n numbers at a place.
 fn load_numbers(s: &[u8], start: usize, n: usize, lines: &mut [i32], at: usize)
     requires { ⌜ Copies (now s) start n (now lines) at ⌝ }
-    ensures { λ _. ⌜ Put (now (lines .entry)) at (signeds 2 n (drop start (now (s .entry)))) n (now (lines .exit)) ⌝ }
+    ensures { λ _. ⌜ NumbersStored (now (lines .entry)) at (signeds (edition1 .coefficientWidth) n (drop start (now (s .entry)))) n (now (lines .exit)) ⌝ }
 {
     let mut i = 0;
     while i < n {
-        lines[at + i] = short_at(s, start + i * 2) as i32;
+        lines[at + i] = short_at(s, start + i * COEFFICIENT_BYTES) as i32;
         i += 1;
     }
 }
@@ -31,7 +33,7 @@ fn load_numbers(s: &[u8], start: usize, n: usize, lines: &mut [i32], at: usize)
 // n times 0 in place of the n numbers at a place.
 fn clear_numbers(lines: &mut [i32], at: usize, n: usize)
     requires { ⌜ at + n ≤ length (now lines) ⌝ }
-    ensures { λ _. ⌜ Put (now (lines .entry)) at (replicate n (pos 0)) n (now (lines .exit)) ⌝ }
+    ensures { λ _. ⌜ NumbersStored (now (lines .entry)) at (replicate n (pos 0)) n (now (lines .exit)) ⌝ }
 {
     let mut i = 0;
     while i < n {
@@ -43,7 +45,7 @@ fn clear_numbers(lines: &mut [i32], at: usize, n: usize)
 // The numbers of tA: those of t for a line of A, 0 for one of B.
 fn load_partial(s: &[u8], start: usize, n: usize, lines: &mut [i32], at: usize, in_a: bool)
     requires { ⌜ Copies (now s) start n (now lines) at ⌝ }
-    ensures { λ _. ⌜ Put (now (lines .entry)) at (partialOf in_a (signeds 2 n (drop start (now (s .entry))))) n (now (lines .exit)) ⌝ }
+    ensures { λ _. ⌜ NumbersStored (now (lines .entry)) at (partialOf in_a (signeds (edition1 .coefficientWidth) n (drop start (now (s .entry))))) n (now (lines .exit)) ⌝ }
 {
     if in_a {
         load_numbers(s, start, n, lines, at);

@@ -6,29 +6,22 @@ use Prim.Native.Nat.{ℕ, _+_, _*_, _≤_, _<_}
 use native.Mathlib.Omega.{arith}
 use lib.ListN.{length, getD}
 use lib.IntN.{ℤ, pos}
-use borrow.Author.Tests.{eq-eqb, ne-eqb}
 use lib.Signed.{ltZ}
 use Rattle.integers.specs.Linear.{eqZ}
-use Rattle.forms.specs.Forms.{≤0, =0, nonzero}
+use Rattle.forms.specs.Forms.{nonzero}
+use Rattle.forms.proofs.Flat.{kind-zero, kind-one}
 use Rattle.calculus.specs.Rules.{every}
 use Rattle.fields.specs.Answers.{_>>=_, _>>_, need, found}
 use Rattle.lines.specs.Parts.{part}
-use Rattle.lines.specs.Buffer.{size, kindOf, lineIn}
-use Rattle.lines.specs.Lines.{line-at, line-past, before}
+use Rattle.forms.specs.Flat.{kindOf}
+use Rattle.lines.specs.Buffer.{size, lineIn}
+use Rattle.lines.proofs.Lines.{line-at, line-past, before}
 use Rattle.proof.specs.Rows.{fails, lineAt, byNumber}
 use Rattle.rows.specs.Rows.{Ready}
 use Rattle.closes.specs.Closing.{ByNumber}
 use Rattle.rows.specs.declared.tally.Tally.{Tally}
 use Rattle.closes.specs.declared.closing.Test.the-variants.{Refused, Passed}
 use Rattle.rows.proofs.Testing.{unnot}
-
-pub kind-zero : {b : ℕ} → b ≡ 0 → kindOf b ≡ ≤0
-unfolding kindOf
-kind-zero {b} h = ap (λ (x : Bool). elim x [ true ↦ ≤0 | false ↦ =0 ]) (eq-eqb b 0 h)
-
-pub kind-one : {b : ℕ} → (b ≡ 0 → ⊥) → kindOf b ≡ =0
-unfolding kindOf
-kind-one {b} h = ap (λ (x : Bool). elim x [ true ↦ ≤0 | false ↦ =0 ]) (ne-eqb b 0 h)
 
 pub false-≤ : {b : ℕ} (d : ℤ) {r : Bool} → b ≡ 0 → r ≡ ltZ (pos 0) d → r ≡ fails (kindOf b) d
 unfolding fails
@@ -45,7 +38,7 @@ line-end {K} r h = omega (arith, before K h, r .branch .room)
 module _ (K : ℕ) (kinds : List ℕ) (buf : List ℤ) (t : Tally) (i : ℕ) where
   pub number-none : t .lines .0 ≤ i → ByNumber K kinds buf t i (Refused 10)
   unfolding byNumber lineAt _>>=_ found
-  number-none h = record { by = λ at. rw (line-past K kinds buf (t .lines .0) i h) }
+  number-none h = record { by = λ refusal. rw (line-past K kinds buf (t .lines .0) i h) }
 
   module _ (hi : i < t .lines .0) {x : ℕ} (ex : x ≡ i * size K) {b : Bool} (zero : b ≡ every (λ c. eqZ c (pos 0)) (part x K buf)) where
     zeros : every (λ c. eqZ c (pos 0)) (lineIn K kinds buf i .t .coeffs) ≡ b
@@ -54,7 +47,7 @@ module _ (K : ℕ) (kinds : List ℕ) (buf : List ℤ) (t : Tally) (i : ℕ) whe
 
     pub number-coeffs : not b ≡ true → ByNumber K kinds buf t i (Refused 15)
     unfolding byNumber lineAt _>>=_ _>>_ found need
-    number-coeffs h = record { by = λ at. rw (line-at K kinds buf (t .lines .0) i hi, zeros, unnot b h) }
+    number-coeffs h = record { by = λ refusal. rw (line-at K kinds buf (t .lines .0) i hi, zeros, unnot b h) }
 
     module _ (h : not b ≡ false) {c : Bool} {kind : ℕ} {d : ℤ} (ek : kind ≡ getD kinds i 0) (ed : d ≡ getD buf (x + K) (pos 0)) (false-is : c ≡ fails (kindOf kind) d) where
       falses : fails (lineIn K kinds buf i .kind) (lineIn K kinds buf i .t .d) ≡ c
@@ -63,8 +56,8 @@ module _ (K : ℕ) (kinds : List ℕ) (buf : List ℤ) (t : Tally) (i : ℕ) whe
 
       pub number-d : not c ≡ true → ByNumber K kinds buf t i (Refused 15)
       unfolding byNumber lineAt _>>=_ _>>_ found need
-      number-d k = record { by = λ at. rw (line-at K kinds buf (t .lines .0) i hi, zeros, unnot b h, falses, unnot c k) }
+      number-d k = record { by = λ refusal. rw (line-at K kinds buf (t .lines .0) i hi, zeros, unnot b h, falses, unnot c k) }
 
       pub number-passed : not c ≡ false → ByNumber K kinds buf t i Passed
       unfolding byNumber lineAt _>>=_ _>>_ found need
-      number-passed k = record { by = λ at. rw (line-at K kinds buf (t .lines .0) i hi, zeros, unnot b h, falses, unnot c k) }
+      number-passed k = record { by = λ refusal. rw (line-at K kinds buf (t .lines .0) i hi, zeros, unnot b h, falses, unnot c k) }

@@ -9,13 +9,14 @@ use lib.ListN.{getD}
 use lib.IntN.{ℤ, pos, negsuc, natAbs}
 use lib.Signed.{_≤ℤ_}
 use borrow.Author.Tests.{le-leb, lt-leb, eqb-true, eqb-false, leb-true}
-use Rattle.integers.specs.Linear.{eqZ, ints}
+use Rattle.integers.specs.Linear.{eqZ}
+use Rattle.integers.proofs.Differences.{ints}
 use Rattle.integers.specs.Divides.{divb}
 use Rattle.calculus.specs.Rules.{every}
 use Rattle.fields.specs.Answers.{_>>=_, _>>_, need, found}
 use Rattle.lines.specs.Parts.{part}
 use Rattle.lines.specs.Buffer.{size, lineIn}
-use Rattle.lines.specs.Lines.{line-at, line-past}
+use Rattle.lines.proofs.Lines.{line-at, line-past}
 use Rattle.proof.specs.Rows.{is, lineAt, byStride}
 use Rattle.rows.specs.Entries.{Multiplies}
 use Rattle.closes.specs.Striding.{ByStride}
@@ -53,17 +54,17 @@ at-least-two z m e h = rw (m .is) (let l : 2 ≤ natAbs z = leb-true 2 (natAbs z
 module _ (K : ℕ) (kinds : List ℕ) (buf : List ℤ) (t : Tally) (i g : ℕ) where
   pub stride-none : t .lines .0 ≤ i → ByStride K kinds buf t i g (Refused 10)
   unfolding byStride lineAt _>>=_ found
-  stride-none h = record { by = λ at. rw (line-past K kinds buf (t .lines .0) i h) }
+  stride-none h = record { by = λ refusal. rw (line-past K kinds buf (t .lines .0) i h) }
 
   module _ (hi : i < t .lines .0) where
     pub stride-kind : getD kinds i 0 ≡ 0 → ByStride K kinds buf t i g (Refused 11)
     unfolding byStride lineAt _>>=_ _>>_ found need is
-    stride-kind h = record { by = λ at. rw (line-at K kinds buf (t .lines .0) i hi, kind-≤ K kinds buf i h) }
+    stride-kind h = record { by = λ refusal. rw (line-at K kinds buf (t .lines .0) i hi, kind-≤ K kinds buf i h) }
 
     module _ (hk : getD kinds i 0 ≡ 0 → ⊥) {a : Bool} (two : a ≡ leb 2 g) where
       pub stride-small : not a ≡ true → ByStride K kinds buf t i g (Refused 12)
       unfolding byStride lineAt _>>=_ _>>_ found need is
-      stride-small h = record { by = λ at. rw (line-at K kinds buf (t .lines .0) i hi, kind-= K kinds buf i hk, ← two, unnot a h) }
+      stride-small h = record { by = λ refusal. rw (line-at K kinds buf (t .lines .0) i hi, kind-= K kinds buf i hk, ← two, unnot a h) }
 
       module _ (h : not a ≡ false) {z : ℤ} (ez : z ≡ pos g) {x : ℕ} (ex : x ≡ i * size K) {b : Bool} (all : b ≡ every (divb z) (part x K buf)) where
         alls : every (divb (pos g)) (lineIn K kinds buf i .t .coeffs) ≡ b
@@ -72,7 +73,7 @@ module _ (K : ℕ) (kinds : List ℕ) (buf : List ℤ) (t : Tally) (i g : ℕ) w
 
         pub stride-coeffs : not b ≡ true → ByStride K kinds buf t i g (Refused 15)
         unfolding byStride lineAt _>>=_ _>>_ found need is
-        stride-coeffs l = record { by = λ at. rw (line-at K kinds buf (t .lines .0) i hi, kind-= K kinds buf i hk, ← two, unnot a h, alls, unnot b l) }
+        stride-coeffs l = record { by = λ refusal. rw (line-at K kinds buf (t .lines .0) i hi, kind-= K kinds buf i hk, ← two, unnot a h, alls, unnot b l) }
 
         module _ (l : not b ≡ false) {c : Bool} {d : ℤ} (ed : d ≡ getD buf (x + K) (pos 0)) (div : c ≡ divb z d) where
           divs : divb (pos g) (lineIn K kinds buf i .t .d) ≡ c
@@ -81,8 +82,8 @@ module _ (K : ℕ) (kinds : List ℕ) (buf : List ℤ) (t : Tally) (i g : ℕ) w
 
           pub stride-d : c ≡ true → ByStride K kinds buf t i g (Refused 15)
           unfolding byStride lineAt _>>=_ _>>_ found need is
-          stride-d m = record { by = λ at. rw (line-at K kinds buf (t .lines .0) i hi, kind-= K kinds buf i hk, ← two, unnot a h, alls, unnot b l, divs, m) }
+          stride-d m = record { by = λ refusal. rw (line-at K kinds buf (t .lines .0) i hi, kind-= K kinds buf i hk, ← two, unnot a h, alls, unnot b l, divs, m) }
 
           pub stride-passed : c ≡ false → ByStride K kinds buf t i g Passed
           unfolding byStride lineAt _>>=_ _>>_ found need is
-          stride-passed m = record { by = λ at. rw (line-at K kinds buf (t .lines .0) i hi, kind-= K kinds buf i hk, ← two, unnot a h, alls, unnot b l, divs, m) }
+          stride-passed m = record { by = λ refusal. rw (line-at K kinds buf (t .lines .0) i hi, kind-= K kinds buf i hk, ← two, unnot a h, alls, unnot b l, divs, m) }

@@ -4,19 +4,19 @@ use mathlib.Core.List.{List}
 use Prim.Native.Nat.{ℕ}
 use lib.IntN.{ℤ}
 use Rattle.forms.specs.Forms.{Formula, literal}
+use Rattle.fields.specs.declared.Answer.{Answer}
 use Rattle.fields.specs.Answers.{Result, refused, accepted}
 use Rattle.lines.specs.Buffer.{lineIn, linesIn}
 use Rattle.proof.specs.Rows.{byNumber}
-use Rattle.proof.specs.Check.{refusal}
 use Rattle.rows.specs.declared.tally.Tally.{Tally}
 use Rattle.closes.specs.declared.closing.Test.{Test}
 use Rattle.closes.specs.declared.closing.Test.the-variants.{Refused, Passed}
 
--- The result at every place, by the code's answer: the refusal, or the formula I.
-abbrev pub TestedBy : (f : ℕ → Result Formula) (I : Formula) → Test → Type 0
-TestedBy f I (Refused x) = (at : ℕ) → f at ≡ refused (refusal at x)
-TestedBy f I Passed = (at : ℕ) → f at ≡ accepted I
+-- The result by the code's answer: the refusal by a number at this row, whatever that is (f is handed it as a function), or the formula I.
+abbrev pub TestedBy : (f : (ℕ → Answer) → Result Formula) (I : Formula) → Test → Type 0
+TestedBy f I (Refused x) = (refusal : ℕ → Answer) → f refusal ≡ refused (refusal x)
+TestedBy f I Passed = (refusal : ℕ → Answer) → f refusal ≡ accepted I
 
 pub record ByNumber (K : ℕ) (kinds : List ℕ) (buf : List ℤ) (t : Tally) (i : ℕ) (r : Test) : Type 0 where
-  pub by : TestedBy (λ at. byNumber (refusal at) (linesIn K kinds buf (t .lines .0)) i)
+  pub by : TestedBy (λ refusal. byNumber refusal (linesIn K kinds buf (t .lines .0)) i)
       (literal (lineIn K kinds buf i .kind) (lineIn K kinds buf i .tA)) r

@@ -1,5 +1,4 @@
--- The contracts of the functions that end a branch.
+-- The contracts of the functions that close a branch.
 pub mod Closing
 pub mod Striding
-pub mod Formulas
 pub mod Ends

@@ -6,11 +6,10 @@ use Rattle.forms.specs.Forms.{_divides_}
 use Rattle.forms.specs.Reduced.{reduced}
 use Rattle.lines.specs.Buffer.{lineIn, linesIn}
 use Rattle.proof.specs.Rows.{byStride}
-use Rattle.proof.specs.Check.{refusal}
 use Rattle.closes.specs.Closing.{TestedBy}
 use Rattle.rows.specs.declared.tally.Tally.{Tally}
 use Rattle.closes.specs.declared.closing.Test.{Test}
 
 pub record ByStride (K : ℕ) (kinds : List ℕ) (buf : List ℤ) (t : Tally) (i g : ℕ) (r : Test) : Type 0 where
-  pub by : TestedBy (λ at. byStride (refusal at) (linesIn K kinds buf (t .lines .0)) i g)
+  pub by : TestedBy (λ refusal. byStride refusal (linesIn K kinds buf (t .lines .0)) i g)
       (g divides reduced g (lineIn K kinds buf i .tA)) r

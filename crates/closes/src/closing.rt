@@ -2,7 +2,7 @@
 ghost use mathlib.Core.Path.{_≡_};
 ghost use lib.Dec.{leb};
 ghost use lib.IntN.{natAbs};
-ghost use Rattle.lines.specs.Buffer.{kindOf};
+ghost use Rattle.forms.specs.Flat.{kindOf};
 ghost use Rattle.proof.specs.Rows.{fails};
 ghost use Rattle.rows.specs.Rows.{Ready};
 ghost use Rattle.rows.specs.Entries.{Multiplies};
@@ -41,7 +41,7 @@ pub fn test_number(lines: &[i32], kinds: &[u8], tally: Tally, i: LineNumber, k: 
         return Test::Refused { number: 15 };
     }
     let kind = kind_of(kinds, i);
-    let d = lines::number(lines, t + k);
+    let d = integers::number(lines, t + k);
     if !is_false(kind, d) {
         return Test::Refused { number: 15 };
     }
@@ -85,7 +85,7 @@ pub fn test_stride(
     if !lines::all_divisible(lines, t, k, g) {
         return Test::Refused { number: 15 };
     }
-    let d = lines::number(lines, t + k);
+    let d = integers::number(lines, t + k);
     if integers::divides(g, d) {
         return Test::Refused { number: 15 };
     }

@@ -1,4 +1,3 @@
-// How a branch ends: the tests of a close, the bytes of its formula, and the row that splits a branch.
+// How a branch is closed: the tests of a close, and the bytes of its formula.
 pub mod closing;
 pub mod ends;
-pub mod formulas;

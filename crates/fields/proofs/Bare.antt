@@ -15,7 +15,7 @@ use Rattle.fields.specs.Answers.{answer, Result, refused, accepted, _>>=
 use Rattle.fields.specs.Fields.{Field, Front, whole, broken, nothing, front, Fields, ends, cut, _▸_, note, unlessNote, fieldsFrom, fields, Noted, same, noted, passed, Kept}
 use Rattle.fields.specs.Header.{Header, headerField, header, finished}
 use Rattle.fields.proofs.Notes.{note-tags}
-use Rattle.fields.proofs.Framing.{from-nothing, from-broken, from-whole, fieldsAt, fieldsAt-field}
+use Rattle.fields.proofs.Framing.{from-nothing, from-broken, from-whole, fieldsStarting, fieldsAt-field}
 
 -- ---- fields
 abbrev pub bareField : Field → Field
@@ -56,7 +56,7 @@ unfolding unlessNote
 unless-true true h f fs = refl
 unless-true false h f fs = absurd h
 
-noted-from : (a b : ℕ) {xs ys : List ℕ} → Noted xs ys → bare (fieldsAt a xs) ≡ bare (fieldsAt b ys)
+noted-from : (a b : ℕ) {xs ys : List ℕ} → Noted xs ys → bare (fieldsStarting a xs) ≡ bare (fieldsStarting b ys)
 noted-from a b (same {xs = xs}) = from-bare (length xs) a b xs
 noted-from a b (noted {ys = ys} i h n r) =
     noted-from a (b + 3 + length (i .contents)) r ∙ ap bare (sym (fieldsAt-field b i h ys ∙ unless-true (note (i .tag)) (note-tags (i .tag) .1 n) _ _))
@@ -85,7 +85,7 @@ kept-length limit {xs} {ys} r (inr h) =
 
 -- ---- answers and results
 abbrev pub bareAnswer : Answer → Answer
-bareAnswer a = answer (a .number) (a .file) 0
+bareAnswer a = record { number = a .number; file = a .file; place = 0; row = a .row; step = a .step; branch = a .branch }
 
 -- The refusal's place is 0, and f erases the places in what is accepted.
 abbrev pub bareResult : {X Y : Type 0} → (X → Y) → Result X → Result Y

@@ -12,7 +12,7 @@ use lib.Signed.{ltZ}
 use lib.ListN.{length, getD, take, drop, set, length-drop}
 use lib.Seq.{sets, take-suc, getD-drop}
 use borrow.Author.Tests.{ltb-true}
-use Rattle.integers.specs.Linear.{ints, add-pn, neg-pn, cond-ind}
+use Rattle.integers.proofs.Differences.{ints, add-pn, neg-pn, cond-ind}
 use Rattle.fields.specs.Numbers.{unsigned, complement, residue, unsignedBytes}
 use Rattle.fields.specs.Ranges.{Half}
 use Rattle.fields.proofs.Stores.{sets-append, sets-set}

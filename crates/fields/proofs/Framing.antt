@@ -99,15 +99,15 @@ fuel-irrelevant (suc n) (suc m) at bs h l =
     fuel-step n m at bs (λ at₁ after s. fuel-irrelevant n m at₁ after (omega arith) (omega arith)) (front bs) refl
 
 -- The fields of these bytes, which start at a place.
-abbrev pub fieldsAt : (at : ℕ) → List ℕ → Fields
-fieldsAt at bs = fieldsFrom (length bs) at bs
+abbrev pub fieldsStarting : (at : ℕ) → List ℕ → Fields
+fieldsStarting at bs = fieldsFrom (length bs) at bs
 
 module _ (at : ℕ) (bs : List ℕ) where
-  more-fuel : fieldsAt at bs ≡ fieldsFrom (suc (length bs)) at bs
+  more-fuel : fieldsStarting at bs ≡ fieldsFrom (suc (length bs)) at bs
   more-fuel = fuel-irrelevant (length bs) (suc (length bs)) at bs (omega arith) (omega arith)
 
   pub fieldsAt-whole : {tag : ℕ} {contents after : List ℕ} → front bs ≡ whole tag contents after
-      → fieldsAt at bs ≡ unlessNote (note tag) (record { at = at; tag = tag; contents = contents }) (fieldsAt (at + 3 + length contents) after)
+      → fieldsStarting at bs ≡ unlessNote (note tag) (record { at = at; tag = tag; contents = contents }) (fieldsStarting (at + 3 + length contents) after)
   fieldsAt-whole {tag} {contents} {after} e =
       let s : length after < length bs = front-shorter bs e in
       more-fuel
@@ -116,8 +116,8 @@ module _ (at : ℕ) (bs : List ℕ) where
 
 -- A field as its writer puts it, and then anything.
 pub fieldsAt-field : (at : ℕ) (i : Item) → Framed i → (bs : List ℕ)
-    → fieldsAt at (fieldBytes (i .tag) (i .contents) ++ bs)
-    ≡ unlessNote (note (i .tag)) (record { at = at; tag = i .tag; contents = i .contents }) (fieldsAt (at + 3 + length (i .contents)) bs)
+    → fieldsStarting at (fieldBytes (i .tag) (i .contents) ++ bs)
+    ≡ unlessNote (note (i .tag)) (record { at = at; tag = i .tag; contents = i .contents }) (fieldsStarting (at + 3 + length (i .contents)) bs)
 fieldsAt-field at i h bs = fieldsAt-whole at _ (front-whole (i .tag) (i .contents) bs (h .framed))
 
 -- ---- the fields of a file are those that its writer listed, notes left out
@@ -127,7 +127,7 @@ unfolding items unlessNote unlessNoteItem
 items-unlessNote true f fs is e = e
 items-unlessNote false f fs is e = rw e
 
-items-from : (at : ℕ) {F : List Item} → All Framed F → items (fieldsAt at (fileOf F)) ≡ some (withoutNotes F)
+items-from : (at : ℕ) {F : List Item} → All Framed F → items (fieldsStarting at (fileOf F)) ≡ some (withoutNotes F)
 unfolding items fieldsFrom fileOf withoutNotes
 items-from at nil = refl
 items-from at (cons {x = i} {xs = is} h hs) =

@@ -14,7 +14,7 @@ use Rattle.fields.specs.declared.FileKind.the-variants.{Bundle, Proof, F
 use Rattle.fields.specs.Answers.{accepted}
 use Rattle.fields.specs.Fields.{Field, Fields, ends, cut, _▸_, Item, item, items}
 use Rattle.fields.specs.Header.{headerTag, known, Header, agrees, headerField, header, finished}
-use Rattle.fields.proofs.Results.{Gives, refuses, accepts, bind, test, finds, binds, needs, found-some}
+use Rattle.fields.proofs.Results.{Gives, gives-refused, gives-accepted, bind, test, finds, binds, needs, found-some}
 
 -- there is one edition
 pub edition-is : (n : ℕ) (e : Edition) → editionNumbered n ≡ some e → (n ≡ 1) × (e ≡ edition1)
@@ -85,11 +85,11 @@ header-known Proof tag t = or-left (headerTag tag || leb 0x10 tag && leb tag 0x1
 header-known Formula tag t = or-left (headerTag tag) _ t
 
 -- the fields fs are the header field of that tag, whose one byte is x .1, and then x .2
-pub record HeaderField (tag : ℕ) (fs : Fields) (x : ℕ × ℕ × Fields) : Type 0 where
+pub record LaidHeaderField (tag : ℕ) (fs : Fields) (x : ℕ × ℕ × Fields) : Type 0 where
   pub from : (is : List Item) → items (x .2) ≡ some is → items fs ≡ some (item tag (x .1 ∷ []) ∷ is)
 
 -- the fields fs are 0x01 of edition 1, 0x02 with K from 1 to 16 and as given, and then h .rest
-pub record Headed (given : Option ℕ) (fs : Fields) (h : Header) : Type 0 where
+pub record LaidHeader (given : Option ℕ) (fs : Fields) (h : Header) : Type 0 where
   pub edition : h .edition ≡ edition1
   pub low : 1 ≤ h .K
   pub high : h .K ≤ edition1 .constants
@@ -97,22 +97,22 @@ pub record Headed (given : Option ℕ) (fs : Fields) (h : Header) : Type 0 where
   pub from : (is : List Item) → items (h .rest) ≡ some is → items fs ≡ some (item 0x01 (1 ∷ []) ∷ item 0x02 (h .K ∷ []) ∷ is)
 
 module _ (kind : FileKind) (file : ℕ) where
-  header-field : (tag : ℕ) (fs : Fields) → Gives (headerField kind file tag fs) (HeaderField tag fs)
+  header-field : (tag : ℕ) (fs : Fields) → Gives (headerField kind file tag fs) (LaidHeaderField tag fs)
   unfolding headerField
-  header-field tag (ends at) = refuses _ tt
-  header-field tag (cut at) = refuses _ tt
-  header-field tag (f ▸ fs) = test _ _ tt λ _. test _ _ tt λ t. test _ _ tt λ n. accepts (record {
+  header-field tag (ends at) = gives-refused _ tt
+  header-field tag (cut at) = gives-refused _ tt
+  header-field tag (f ▸ fs) = test _ _ tt λ _. test _ _ tt λ t. test _ _ tt λ n. gives-accepted (record {
     from = λ is h. next-items f fs h ∙ ap₂ (λ (t : ℕ) (bs : List ℕ). some (item t bs ∷ is)) (eqb→eq (f .tag) tag t) (one-byte (f .contents) (eqb→eq (length (f .contents)) 1 n));
   })
 
   -- the other way: such a field is read
-  pub record Reads (tag x : ℕ) (fs : Fields) (is : List Item) : Type 0 where
+  pub record FieldRead (tag x : ℕ) (fs : Fields) (is : List Item) : Type 0 where
     pub at : ℕ
     pub after : Fields
     pub rest : items after ≡ some is
     pub reads : headerField kind file tag fs ≡ accepted (at, x, after)
 
-  field-read : (tag x : ℕ) (fs : Fields) (is : List Item) → T (known kind tag) → items fs ≡ some (item tag (x ∷ []) ∷ is) → Reads tag x fs is
+  field-read : (tag x : ℕ) (fs : Fields) (is : List Item) → T (known kind tag) → items fs ≡ some (item tag (x ∷ []) ∷ is) → FieldRead tag x fs is
   unfolding headerField
   field-read tag x fs is k h =
       let f = first-of fs (item tag (x ∷ [])) is h in
@@ -125,13 +125,13 @@ module _ (kind : FileKind) (file : ℕ) where
       }
 
   -- ---- the whole header
-  pub header-gives : (given : Option ℕ) (fs : Fields) → Gives (header kind file given fs) (Headed given fs)
+  pub header-gives : (given : Option ℕ) (fs : Fields) → Gives (header kind file given fs) (LaidHeader given fs)
   unfolding header
   header-gives given fs = bind (header-field 0x01 fs) λ (at, n, fs1) h1. bind (finds _ (editionNumbered n) tt) λ e q. bind (header-field 0x02 fs1) λ (at2, K, fs2) h2.
       test _ _ tt λ b. test _ _ tt λ a.
       let (n1, e1) = edition-is n e q in
       let (l, m) = and-yes (leb 1 K) (leb K (e .constants)) b in
-      accepts (record {
+      gives-accepted (record {
         edition = e1;
         low = leb→le 1 K l;
         high = rw e1 at (leb→le K (e .constants) m);
@@ -160,9 +160,9 @@ module _ (kind : FileKind) (file : ℕ) where
   -- ---- the end of the file
   pub finished-gives : (fs : Fields) → Gives (finished kind file fs) (λ _. items fs ≡ some [])
   unfolding finished items
-  finished-gives (ends at) = accepts refl
-  finished-gives (cut at) = refuses _ tt
-  finished-gives (f ▸ fs) = test _ _ tt λ _. refuses _ tt
+  finished-gives (ends at) = gives-accepted refl
+  finished-gives (cut at) = gives-refused _ tt
+  finished-gives (f ▸ fs) = test _ _ tt λ _. gives-refused _ tt
 
   pub finished-ends : (fs : Fields) → items fs ≡ some [] → finished kind file fs ≡ accepted tt
   unfolding finished items

@@ -82,7 +82,7 @@ module _ (s : List ℕ) (at : ℕ) (h : at < length s) (k : 3 ≤ length s - at)
       ∙ ap (λ (n : ℕ). Found.Whole (getD s at 0) (at + 3) n (at + 3 + n)) (length-take-le (lenAt s at) (drop (at + 3) s) e)
 
 -- ---- a field as a part of its file
-pub record Within (bs contents after : List ℕ) : Type 0 where
+pub record FieldIn (bs contents after : List ℕ) : Type 0 where
   pub size : 3 + length contents ≤ length bs
   pub is : contents ≡ take (length contents) (drop 3 bs)
   pub rest : after ≡ drop (3 + length contents) bs
@@ -90,7 +90,7 @@ pub record Within (bs contents after : List ℕ) : Type 0 where
 abbrev Parts : List ℕ → Front → Type 0
 Parts bs nothing = length bs ≡ 0
 Parts bs broken = Unit {0}
-Parts bs (whole tag contents after) = Within bs contents after
+Parts bs (whole tag contents after) = FieldIn bs contents after
 
 parts : (bs : List ℕ) → Parts bs (front bs)
 unfolding front

@@ -31,14 +31,14 @@ pub record Gives {X : Type 0} (r : Result X) (P : X → Type 0) : Type 0 where
   pub gives : (x : X) → r ≡ accepted x → P x
   pub refusal : (a : Answer) → r ≡ refused a → T (given (a .number))
 
-pub refuses : {X : Type 0} {P : X → Type 0} (a : Answer) → T (given (a .number)) → Gives (refused a) P
-refuses a t = record {
+pub gives-refused : {X : Type 0} {P : X → Type 0} (a : Answer) → T (given (a .number)) → Gives (refused a) P
+gives-refused a t = record {
   gives = λ x e. absurd (never e);
   refusal = λ b e. subst (λ (x : Answer). T (given (x .number))) (let p : a ≡ b = cc in p) t;
 }
 
-pub accepts : {X : Type 0} {P : X → Type 0} {x : X} → P x → Gives (accepted x) P
-accepts {P = P} {x = x} h = record { gives = λ y e. subst P (let q : x ≡ y = cc in q) h; refusal = λ a e. absurd (never (sym e)) }
+pub gives-accepted : {X : Type 0} {P : X → Type 0} {x : X} → P x → Gives (accepted x) P
+gives-accepted {P = P} {x = x} h = record { gives = λ y e. subst P (let q : x ≡ y = cc in q) h; refusal = λ a e. absurd (never (sym e)) }
 
 pub weaken : {X : Type 0} {r : Result X} {P Q : X → Type 0} → Gives r P → ((x : X) → P x → Q x) → Gives r Q
 weaken h k = record { gives = λ x e. k x (h .gives x e); refusal = h .refusal }
@@ -57,13 +57,13 @@ unfolding _>>_
 seq {m = refused a} h k = stops h
 seq {m = accepted x} h k = k (h .gives x refl)
 
-pub tested : (a : Answer) (b : Bool) → T (given (a .number)) → Gives (need a b) (λ _. T b)
+pub gives-need : (a : Answer) (b : Bool) → T (given (a .number)) → Gives (need a b) (λ _. T b)
 unfolding need
-tested a true t = accepts tt
-tested a false t = refuses a t
+gives-need a true t = gives-accepted tt
+gives-need a false t = gives-refused a t
 
 pub test : {Y : Type 0} {Q : Y → Type 0} (a : Answer) (b : Bool) {r : Result Y} → T (given (a .number)) → (T b → Gives r Q) → Gives (need a b >> r) Q
-test a b t k = seq (tested a b t) k
+test a b t k = seq (gives-need a b t) k
 
 -- a test that never fails, whatever its number
 pub passed : {Y : Type 0} {Q : Y → Type 0} (a : Answer) (b : Bool) {r : Result Y} → T b → Gives r Q → Gives (need a b >> r) Q
@@ -73,8 +73,8 @@ passed a false t g = absurd t
 
 pub finds : {X : Type 0} (a : Answer) (o : Option X) → T (given (a .number)) → Gives (found a o) (λ x. o ≡ some x)
 unfolding found
-finds a none t = refuses a t
-finds a (some x) t = accepts refl
+finds a none t = gives-refused a t
+finds a (some x) t = gives-accepted refl
 
 -- ---- backwards: each step that is accepted hands on to the rest
 pub binds : {X Y : Type 0} {m : Result X} {x : X} (f : X → Result Y) → m ≡ accepted x → (m >>= f) ≡ f x
@@ -118,7 +118,7 @@ then-refused r e = rw e
 module _ {X : Type 0} (at : ℕ → Answer) (p : X → Bool) where
   pub each-gives : ((i : ℕ) → T (given (at i .number))) → (i : ℕ) (xs : List X) → Gives (each at p i xs) (λ _. All (λ x. T (p x)) xs)
   unfolding each
-  each-gives t i [] = accepts nil
+  each-gives t i [] = gives-accepted nil
   each-gives t i (x ∷ xs) = test (at i) (p x) (t i) λ h. record {
     gives = λ u e. cons h (each-gives t (suc i) xs .gives u e);
     refusal = each-gives t (suc i) xs .refusal;

@@ -9,8 +9,9 @@ use lib.Dec.{ltb, ltb→lt, nltb→le}
 use lib.Arith.{digits-div, digits-mod, digits-lt}
 use lib.IntN.{ℤ, pos, negsuc, negℤ, _-ℤ_}
 use lib.ListN.{length, take, drop, length-append, length-drop, take-append-drop}
-use lib.Seq.{take-at, drop-at, drop-drop, length-take-le}
-use Rattle.integers.specs.Linear.{pp, np, ints, add-pn, neg-pn, cond-ind}
+use lib.Seq.{take-at, drop-at, drop-drop, take-take, length-take-le}
+use Rattle.integers.specs.Linear.{pp, np}
+use Rattle.integers.proofs.Differences.{ints, add-pn, neg-pn, cond-ind}
 use Rattle.forms.specs.Forms.{Form, All, nil, cons}
 use Rattle.fields.specs.Ranges.{InWidth, FormInWidth}
 use Rattle.fields.specs.Numbers.{Bytes, natFrom, unsigned, complement, signed, unsignedBytes, residue, signedBytes, signeds, signedsBytes, flat, formFrom, formBytes, formWidth}
@@ -30,6 +31,17 @@ module _ {X : Type 0} {P : X → Type 0} where
   all-drop zero h = h
   all-drop (suc n) nil = nil
   all-drop (suc n) (cons h hs) = all-drop n hs
+
+-- ---- a part of a list
+pub drop-take : {A : Type 0} (o n : ℕ) (l : List A) → o ≤ n → drop o (take n l) ≡ take (n - o) (drop o l)
+drop-take zero n l h = let e : n - 0 ≡ n = omega arith in rw e
+drop-take (suc o) zero l h = absurd (omega arith)
+drop-take (suc o) (suc n) [] h = none (suc n - suc o)
+  where
+    none : {A : Type 0} (n : ℕ) → _≡_ {A = List A} [] (take n [])
+    none zero = refl
+    none (suc n) = refl
+drop-take (suc o) (suc n) (x ∷ l) h = let e : suc n - suc o ≡ n - o = omega arith in rw e (drop-take o n l (omega arith))
 
 -- ---- unsigned
 pub length-unsignedBytes : (w n : ℕ) → length (unsignedBytes w n) ≡ w
@@ -170,6 +182,16 @@ module _ (w : ℕ) where
   unfolding signeds
   length-signeds zero bs = refl
   length-signeds (suc n) bs = ap suc (length-signeds n (drop w bs))
+
+  -- What stands behind them does not matter.
+  pub signeds-take : (n m : ℕ) (bs : List ℕ) → n * w ≤ m → signeds w n (take m bs) ≡ signeds w n bs
+  unfolding signeds
+  signeds-take zero m bs h = refl
+  signeds-take (suc n) m bs h =
+      let z : suc n * w ≡ n * w + w = suc-mul n w in
+      let q : w ≤ m = omega arith in
+      ap₂ (λ (x : List ℕ) (ys : List ℤ). signed x ∷ ys) (take-take w m bs q)
+      (ap (signeds w n) (drop-take w m bs q) ∙ signeds-take n (m - w) (drop w bs) (omega arith))
 
   -- One more number stands at the end.
   pub signeds-last : (n : ℕ) (bs : List ℕ) → signeds w (suc n) bs ≡ signeds w n bs ++ (signed (take w (drop (n * w) bs)) ∷ [])

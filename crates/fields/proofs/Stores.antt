@@ -1,5 +1,5 @@
 -- Runs of stores in a list: one after the other, and one beside another. Assumes nothing.
-use mathlib.Core.Path.{_≡_, refl, ap, _∙_}
+use mathlib.Core.Path.{_≡_, refl, sym, ap, _∙_}
 use mathlib.Core.List.{List, [], _∷_, _++_}
 use Prim.Native.Nat.{ℕ, suc, _+_, _≤_}
 use native.Mathlib.Nat.{add-zero}
@@ -7,6 +7,8 @@ use native.Mathlib.Omega.{arith}
 use lib.ListN.{length, set}
 use lib.Seq.{sets, sets-eq, set-comm}
 use Rattle.fields.specs.Answers.{over}
+use Rattle.fields.specs.Fields.{fieldBytes}
+use Rattle.fields.specs.Numbers.{unsignedBytes}
 
 module _ {A : Type 0} where
   pub sets-append : (xs ys l : List A) (i : ℕ) → sets l i (xs ++ ys) ≡ sets (sets l i xs) (i + length xs) ys
@@ -28,3 +30,9 @@ module _ {A : Type 0} where
   sets-over vs l h =
       let z : 0 + length vs ≡ length vs = omega arith in
       sets-eq vs l 0 (omega arith) ∙ rw z
+
+-- The stores of a head and of the contents behind it are those of the field.
+pub put-field : (out : List ℕ) {out₁ out₂ : List ℕ} (at tag n : ℕ) (contents : List ℕ) → out₁ ≡ sets out at (tag ∷ unsignedBytes 2 n) → out₂ ≡ sets out₁ (at + 3) contents
+    → length contents ≡ n → out₂ ≡ sets out at (fieldBytes tag contents)
+unfolding fieldBytes unsignedBytes
+put-field out at tag n contents e₁ e₂ l = e₂ ∙ rw (e₁, l) (sym (sets-append (tag ∷ unsignedBytes 2 n) contents out at))

@@ -1,16 +1,32 @@
 -- Answers, and the first refusal that applies. Document 01, "What each operation refuses". Assumes nothing.
 use mathlib.Core.List.{List, [], _∷_, _++_}
 use mathlib.Core.Option.{Option, none, some}
-use mathlib.Core.Bool.{Bool, true, false}
-use Prim.Native.Nat.{ℕ, suc, _+_}
+use mathlib.Core.Bool.{Bool, true, false, cond, _&&_}
+use Prim.Native.Nat.{ℕ, suc, _+_, _-_}
 use lib.ListN.{length, drop}
-use lib.Dec.{leb}
+use lib.Dec.{leb, eqb}
 use Rattle.fields.specs.declared.Answer.{Answer}
+use Rattle.fields.specs.declared.Position.{Position}
 use Rattle.fields.specs.declared.WriteResult.{WriteResult}
 
--- An answer has a number, a file and a place.
+-- What a row, a branching step or a branch is where there is none. Document 02, "Where in the tree".
+abbrev pub nowhere : ℕ
+nowhere = 65_535
+
+-- Where in the tree a field stands: the row number of the innermost open branching step, and its branch. The root is no branch.
+abbrev pub position : (step branch : ℕ) → Position
+position s b = record { step = record { 0 = s }; branch = b }
+
+abbrev pub root : Position
+root = position nowhere nowhere
+
+-- An answer has a number, a file and a place; and the row at fault, with the step and the branch that the field at fault finds open.
+abbrev pub answerAt : (row : ℕ) → Position → (number file place : ℕ) → Answer
+answerAt r p n f at = record { number = n; file = f; place = at; row = record { 0 = r }; step = p .step; branch = p .branch }
+
+-- An answer outside the proof's tree.
 abbrev pub answer : (number file place : ℕ) → Answer
-answer n f p = record { number = n; file = f; place = p }
+answer n f at = answerAt nowhere root n f at
 
 -- The files: A or a bundle read alone, B, proof or formula, a lent output (also for what concerns no file).
 abbrev pub fileA : ℕ
@@ -27,6 +43,15 @@ fileLent = 4
 
 abbrev pub acceptance : Answer
 acceptance = answer 0 0 0
+
+-- The row that a refusal amid the proof tells, at a field before which there were so many rows. What check tests for from 18 on (10 to 18) tells the field's own row,
+-- but for a claim's 14, which belongs to the row before it; what it tests for before 18, and at the end, tells none. Document 02, "Where in the tree".
+unfoldable pub rowTold : (number rows : ℕ) → ℕ
+rowTold n rows = cond (eqb n 14) (rows - 1) (cond (leb 10 n && leb n 18) rows nowhere)
+
+-- The refusal by number n at a place of the proof, in the branch at a position, after so many rows.
+abbrev pub refusalAt : Position → (rows place n : ℕ) → Answer
+refusalAt p rows at n = answerAt (rowTold n rows) p n fileProof at
 
 -- A value, or the refusal in its place. A `do` block of these gives the first refusal that applies.
 pub data Result (X : Type 0) : Type 0 where

@@ -1,24 +1,71 @@
 // Every answer is made here.
 use super::Answer;
+use super::Position;
+use super::header::between;
+use forms::RowNumber;
 ghost use mathlib.Core.Path.{_≡_};
-ghost use Rattle.fields.specs.Answers.{answer, acceptance};
+ghost use Rattle.fields.specs.Answers.{root, answerAt, answer, acceptance, rowTold, refusalAt};
 
-pub fn refusal(number: u8, file: u8, place: usize) -> Answer
-    ensures { λ r. ⌜ r ≡ answer number file place ⌝ }
+// What a row, step or branch is where there is none.
+const NOWHERE: u16 = 65535;
+
+pub fn root() -> Position
+    ensures { λ r. ⌜ r ≡ root ⌝ }
 {
+    Position {
+        step: RowNumber(NOWHERE),
+        branch: NOWHERE,
+    }
+}
+
+fn answer_at(row: RowNumber, position: Position, number: u8, file: u8, place: usize) -> Answer
+    ensures { λ r. ⌜ r ≡ answerAt (row .0) position number file place ⌝ }
+{
+    let step = position.step;
     Answer {
         number,
         file,
         place,
+        row,
+        step,
+        branch: position.branch,
     }
+}
+
+// Which row is told of a field before which there were so many rows.
+fn row_told(number: u8, rows: RowNumber) -> RowNumber
+    ensures { λ r. ⌜ r .0 ≡ rowTold number (rows .0) ⌝ }
+{
+    let n = rows.0;
+    if number == 14 {
+        if n == 0 {
+            return RowNumber(0);
+        }
+        return RowNumber(n - 1);
+    }
+    if between(number, 10, 18) {
+        return RowNumber(n);
+    }
+    RowNumber(NOWHERE)
+}
+
+// Amid the proof, at a field before which there were so many rows.
+pub fn proof_refusal(position: Position, rows: RowNumber, number: u8, place: usize) -> Answer
+    ensures { λ r. ⌜ r ≡ refusalAt position (rows .0) place number ⌝ }
+{
+    let row = row_told(number, rows);
+    answer_at(row, position, number, 3, place)
+}
+
+// Outside the proof's tree.
+pub fn refusal(number: u8, file: u8, place: usize) -> Answer
+    ensures { λ r. ⌜ r ≡ answer number file place ⌝ }
+{
+    answer_at(RowNumber(NOWHERE), root(), number, file, place)
 }
 
 pub fn acceptance() -> Answer
     ensures { λ r. ⌜ r ≡ acceptance ⌝ }
 {
-    Answer {
-        number: 0,
-        file: 0,
-        place: 0,
-    }
+    refusal(0, 0, 0)
 }

@@ -4,7 +4,8 @@
 // A line is numbered on its branch, from 0: A's constraints in file order, then B's, then the lines that rows make.
 pub struct LineNumber(pub u16);
 
-// A row is numbered in the file, from 0.
+// A row is numbered in the file, from 0. An answer that other programs read tells it.
+#[repr(C)]
 pub struct RowNumber(pub u16);
 
 // The most constants: K is 1 to this.
@@ -27,8 +28,12 @@ pub const PROOF_BYTES: usize = 65536;
 
 pub const FORMULA_BYTES: usize = 65536;
 
-// How many bytes a number has: in a bundle, and in a claim or a formula.
+// How many bytes a number has: in a bundle; a line number, a multiplier or g in a proof; in a claim or a formula.
 pub const COEFFICIENT_BYTES: usize = 2;
+
+pub const LINE_BYTES: usize = 1;
+
+pub const MULTIPLIER_BYTES: usize = 2;
 
 pub const TERM_BYTES: usize = 4;
 

@@ -5,7 +5,7 @@ use mathlib.Core.Bool.{Bool, true, false, _&&_, _||_}
 use lib.Dec.{T, eqb→eq, eqb-refl}
 use lib.IntN.{ℤ, pos, negsuc}
 use Rattle.integers.specs.Linear.{eqZ}
-use Rattle.integers.specs.Divides.{divb→∣, ∣→divb}
+use Rattle.integers.proofs.Divisibility.{divb→∣, ∣→divb}
 use Rattle.forms.specs.Forms.{Kind, ≤0, =0, Holds, value, Assignment, Formula, literal, _divides_, _and_, _or_, True}
 use Rattle.formula.specs.Test.{holds, judge}
 

@@ -1,4 +1,4 @@
--- Laws that belong to no one function: a formula's file reads back, notes change nothing of it, and what the code reads and judges.
+-- Laws that belong to no one function: a formula's file reads back, notes change nothing of it, and what the code reads, judges and writes.
 mod Fronts
 pub mod RoundTrip
 pub mod Notes
@@ -9,3 +9,4 @@ pub mod Value
 pub mod Parts
 pub mod Ways
 pub mod Whole
+pub mod Written

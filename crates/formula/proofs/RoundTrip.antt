@@ -88,8 +88,8 @@ module _ (K : ℕ) where
   two-read part fs h k = binds _ h ∙ binds _ k
 
   -- The formula at the front of the fields is read, and leaves the fields after it.
-  Reads : (levels : ℕ) → Formula → Type 0
-  Reads levels I = (fuel at : ℕ) (bs : List ℕ)
+  ReadsBack : (levels : ℕ) → Formula → Type 0
+  ReadsBack levels I = (fuel at : ℕ) (bs : List ℕ)
       → formulaWithin edition1 K levels (fieldsFrom (fuelled I fuel) at (encode edition1 I ++ bs)) ≡ accepted (I, fieldsFrom fuel (at + length (encode edition1 I)) bs)
 
   leaf-reads : (levels tag : ℕ) (contents : List ℕ) (I : Formula) → length contents < 0x10000 → note tag ≡ false
@@ -101,10 +101,10 @@ module _ (K : ℕ) where
       ∙ leaf-within levels _ (λ two. h two (fieldsFrom fuel (at + 3 + length contents) bs) at)
       ∙ ap (λ (p : ℕ). accepted (I, fieldsFrom fuel p bs)) place
 
-  pair-reads : (levels tag : ℕ) (c : Connective) (I J : Formula) → note tag ≡ false → known FileKind.Formula tag ≡ true → formulaTagged tag ≡ some (pair c) → Reads levels I → Reads levels J
+  pair-reads : (levels tag : ℕ) (c : Connective) (I J : Formula) → note tag ≡ false → known FileKind.Formula tag ≡ true → formulaTagged tag ≡ some (pair c) → ReadsBack levels I → ReadsBack levels J
       → (fuel at : ℕ) (bs : List ℕ) → formulaWithin edition1 K (suc levels) (fieldsFrom (suc (fuelled I (fuelled J fuel))) at (fieldBytes tag [] ++ encode edition1 I ++ encode edition1 J ++ bs))
       ≡ accepted (compound c I J, fieldsFrom fuel (at + length (fieldBytes tag [] ++ encode edition1 I ++ encode edition1 J)) bs)
-  unfolding Reads formulaWithin
+  unfolding ReadsBack formulaWithin
   pair-reads levels tag c I J n k t hI hJ fuel at bs =
       let F = fieldBytes tag [] in
       let X = encode edition1 I in
@@ -126,8 +126,8 @@ module _ (K : ℕ) where
   stride-short g t k h = omega (arith, length-append (signedBytes 4 (pos g)) (formBytes 4 t), length-signedBytes 4 (pos g), form-short t k h)
 
   module _ (k : K ≤ 16) where
-    fuelled-reads : (levels : ℕ) (I : Formula) → Encodable K I → height I ≤ levels → Reads levels I
-    unfolding encode Reads known headerTag formulaTagged compound note
+    fuelled-reads : (levels : ℕ) (I : Formula) → Encodable K I → height I ≤ levels → ReadsBack levels I
+    unfolding encode ReadsBack known headerTag formulaTagged compound note
     fuelled-reads levels (literal ≤0 t) h l = leaf-reads levels 0x33 (formBytes 4 t) (literal ≤0 t) (omega (arith, form-short t k (h .size))) refl (λ two fs at. atom-read K two fs at 0x33 ≤0 t refl refl h)
     fuelled-reads levels (literal =0 t) h l = leaf-reads levels 0x34 (formBytes 4 t) (literal =0 t) (omega (arith, form-short t k (h .size))) refl (λ two fs at. atom-read K two fs at 0x34 =0 t refl refl h)
     fuelled-reads levels (g divides t) h l = leaf-reads levels 0x35 (signedBytes 4 (pos g) ++ formBytes 4 t) (g divides t) (omega (arith, stride-short g t k (h .2 .size))) refl (λ two fs at. stride-read K two fs at g t (h .0) (h .1) (h .2))
@@ -164,7 +164,7 @@ count-below (I or J) = omega (arith, pair-length 0x31 (encode edition1 I) (encod
 -- With as much fuel as there are bytes, the formula at their front is read.
 pub formula-read : (K levels : ℕ) (I : Formula) → K ≤ 16 → Encodable K I → height I ≤ levels → (fuel at : ℕ) (bs : List ℕ) → length (encode edition1 I ++ bs) ≤ fuel
     → formulaWithin edition1 K levels (fieldsFrom fuel at (encode edition1 I ++ bs)) ≡ accepted (I, fieldsFrom fuel (at + length (encode edition1 I)) bs)
-unfolding Reads
+unfolding ReadsBack
 formula-read K levels I k h l fuel at bs enough =
     let n = fuel - count I in
     let both = length-append (encode edition1 I) bs in

@@ -9,7 +9,8 @@ use lib.IntN.{ℤ, pos, _+ℤ_, _*ℤ_, +ℤ-assoc, +ℤ-idl}
 use lib.Signed.{natAbs-le}
 use mir.Syntax.{w64}
 use mir.Val.{SFits}
-use Rattle.integers.specs.Magnitude.{Within, within-add, within-mul, within-le, within-fits}
+use Rattle.integers.specs.Magnitude.{Within}
+use Rattle.integers.proofs.Magnitude.{within-add, within-mul, within-le, within-fits}
 use Rattle.forms.specs.Forms.{sum, value}
 use Rattle.fields.specs.Numbers.{signed, signeds, formFrom, formWidth}
 use Rattle.fields.specs.Ranges.{Held}

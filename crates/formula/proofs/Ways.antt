@@ -26,7 +26,7 @@ use Rattle.fields.proofs.Results.{binds, bind-refused}
 use Rattle.formula.specs.Formula.{disjunction, conjunction, FormulaTag, pair, atom, stride, formulaTagged, compound, formulaSize, formulaOf, formulaField, twoParts, formulaWithin}
 use Rattle.formula.specs.Test.{holds, judge, registers}
 use Rattle.formula.specs.FormAt.{formAt, Whole}
-use Rattle.formula.specs.Nodes.{connective, kindOf, nodeTagged, sized, nodeIf, nodeOf, nodeRead}
+use Rattle.formula.specs.Nodes.{connective, literalKind, nodeTagged, sized, nodeIf, nodeOf, nodeRead}
 use Rattle.formula.specs.Judging.{twoWithin, FormulaRead, PairRead, connected, joinedPair, strideJudged}
 use Rattle.formula.specs.declared.node.Node.{Node}
 use Rattle.formula.specs.declared.reading.Judged.{Judged}
@@ -139,11 +139,11 @@ module _ {s : List ℕ} {at place tag start len next : ℕ} (k : Starts s at pla
     formula-refused f = record { judged = formula-node f }
 
     pub formula-literal : {equality : Bool} {r : Judged} → node ≡ Node.Literal equality
-        → r ≡ Judged.Value (holds (kindOf equality) (value (formAt s start K) (registers values))) next → FormulaRead s at values K levels r
+        → r ≡ Judged.Value (holds (literalKind equality) (value (formAt s start K) (registers values))) next → FormulaRead s at values K levels r
     unfolding nodeRead formulaOf formAt judge
     formula-literal {equality} f g =
         let h : len ≡ formWidth 4 K = rw (sym e ∙ f) at (sizes K tag len) in
-        rw g (record { judged = record { formula = literal (kindOf equality) (formAt s start K); is = formula-node f ∙ rw h; truth = refl; on = further } })
+        rw g (record { judged = record { formula = literal (literalKind equality) (formAt s start K); is = formula-node f ∙ rw h; truth = refl; on = further } })
 
     module _ (f : node ≡ Node.Stride) where
       stride-is : formulaWithin edition1 K levels (fieldsAt s at) ≡ (need (answer 12 fileProof place) (leZ (pos 2) (signed (take 4 (drop start s))))

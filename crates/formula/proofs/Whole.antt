@@ -27,7 +27,7 @@ use Rattle.formula.specs.Test.{judge, registers, judged, tested, testFor
 use Rattle.formula.specs.Registers.{ranged, FirstOutside, Registers}
 use Rattle.formula.specs.Judging.{FormulaRead}
 use Rattle.formula.specs.Promises.{asTested, Tests}
-use Rattle.formula.specs.Outcomes.{refusal, endTested, Finish}
+use Rattle.formula.specs.Outcomes.{testRefused, endTested, Finish}
 use Rattle.formula.specs.declared.Tested.{Tested}
 use Rattle.formula.specs.declared.reading.Judged.{Judged}
 
@@ -36,7 +36,7 @@ module _ {s : List ℕ} {at : ℕ} (holds : Bool) {e : Ending} (k : IsEnding Fil
   pub finish-ended : e ≡ Ending.Ended → Finish s at holds (record { answer = answer 0 0 0; holds = holds })
   finish-ended q = record { is = sym (ap (endTested holds) (k .is fileProof) ∙ rw q) }
 
-  pub finish-fault : {number p : ℕ} {r : Tested} → e ≡ Ending.Fault number p → r ≡ refusal number fileProof p → Finish s at holds r
+  pub finish-fault : {number p : ℕ} {r : Tested} → e ≡ Ending.Fault number p → r ≡ testRefused number fileProof p → Finish s at holds r
   finish-fault q f = record { is = f ∙ sym (ap (endTested holds) (k .is fileProof) ∙ rw q) }
 
 -- ---- reading the formula whole
@@ -50,7 +50,7 @@ module _ {s : List ℕ} {values : List ℤ} {K : ℕ} (g : Registers values K) {
   header-is : header FileKind.Formula fileProof (some K) (fields s) ≡ headedOf fileProof s h
   header-is = ap (λ o. header FileKind.Formula fileProof o (fields s)) (sym (given-some K (g .some))) ∙ k .is fileProof
 
-  pub header-refused : {number place : ℕ} {r : Tested} → h ≡ Headed.Refused number place → r ≡ refusal number fileProof place
+  pub header-refused : {number place : ℕ} {r : Tested} → h ≡ Headed.Refused number place → r ≡ testRefused number fileProof place
       → r ≡ asTested (judged values (readFormula K (fields s)))
   unfolding readFormula judged
   header-refused e f = f ∙ sym (ap (λ w. asTested (judged values w)) (bind-refused _ (header-is ∙ rw e)))
@@ -65,7 +65,7 @@ module _ {s : List ℕ} {values : List ℤ} {K : ℕ} (g : Registers values K) {
         p ∙ rw q
 
     module _ {j : Judged} (b : FormulaRead s next values K 64 j) where
-      pub formula-fault : {number place : ℕ} {r : Tested} → j ≡ Judged.Fault number place → r ≡ refusal number fileProof place
+      pub formula-fault : {number place : ℕ} {r : Tested} → j ≡ Judged.Fault number place → r ≡ testRefused number fileProof place
           → r ≡ asTested (judged values (readFormula K (fields s)))
       unfolding readFormula judged
       formula-fault q f = f ∙ sym (ap (λ w. asTested (judged values w)) (binds _ header-K ∙ bind-refused _ (rw q at (b .judged))))
@@ -84,12 +84,12 @@ module _ (formula : List ℕ) (values : List ℤ) where
   unfolding testFormula
   by-tested e f = record { is = f ∙ sym (ap (λ w. asTested (judged values w)) e) }
 
-  pub no-values : {r : Tested} → length values < 1 → r ≡ refusal 7 fileLent 0 → Tests formula values r
+  pub no-values : {r : Tested} → length values < 1 → r ≡ testRefused 7 fileLent 0 → Tests formula values r
   unfolding tested judged
   no-values h f = by-tested (fail _ _ (rw (lt-leb 1 (length values) h))) f
 
   module _ (some : 1 ≤ length values) where
-    pub many-values : {r : Tested} → 16 < length values → r ≡ refusal 7 fileLent 0 → Tests formula values r
+    pub many-values : {r : Tested} → 16 < length values → r ≡ testRefused 7 fileLent 0 → Tests formula values r
     unfolding tested judged
     many-values h f = by-tested (fail _ _ (rw (le-leb 1 (length values) some, lt-leb (length values) 16 h))) f
 
@@ -99,7 +99,7 @@ module _ (formula : List ℕ) (values : List ℤ) where
       counted = pass _ _ (rw (le-leb 1 (length values) some, le-leb (length values) 16 few))
 
       module _ {i : ℕ} (o : FirstOutside values i) where
-        pub value-outside : {r : Tested} → i < length values → r ≡ refusal 23 fileLent i → Tests formula values r
+        pub value-outside : {r : Tested} → i < length values → r ≡ testRefused 23 fileLent i → Tests formula values r
         unfolding judged
         value-outside h f = by-tested (counted ∙ then-refused _ (o .outside h)) f
 
@@ -110,7 +110,7 @@ module _ (formula : List ℕ) (values : List ℤ) where
           pub in-registers : Registers values (length values)
           in-registers = record { all = o .within is-count .1; count = refl; some = some; few = few }
 
-          pub too-long : {r : Tested} → 65_536 < length formula → r ≡ refusal 1 fileProof 0 → Tests formula values r
+          pub too-long : {r : Tested} → 65_536 < length formula → r ≡ testRefused 1 fileProof 0 → Tests formula values r
           unfolding judged
           too-long h f = by-tested (counted ∙ passes _ (o .within is-count .0) ∙ fail _ _ (lt-leb (length formula) 65_536 h)) f
 

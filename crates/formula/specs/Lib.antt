@@ -7,3 +7,4 @@ pub mod Nodes
 pub mod FormAt
 pub mod Judging
 pub mod Outcomes
+pub mod Writing

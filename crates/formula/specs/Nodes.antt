@@ -16,9 +16,9 @@ abbrev pub connective : (either : Bool) → Connective
 connective true = disjunction
 connective false = conjunction
 
-abbrev pub kindOf : (equality : Bool) → Kind
-kindOf true = =0
-kindOf false = ≤0
+abbrev pub literalKind : (equality : Bool) → Kind
+literalKind true = =0
+literalKind false = ≤0
 
 abbrev pub nodeTagged : FormulaTag → Node
 nodeTagged (pair disjunction) = Node.Pair true
@@ -42,6 +42,6 @@ nodeOf K tag len = nodeIf K len (known FileKind.Formula tag) (formulaTagged tag)
 -- What a node's field gives; `two` reads the two parts of a pair.
 unfoldable pub nodeRead : (K : ℕ) → (two : (at : ℕ) → Fields → Result (Formula × Formula × Fields)) → Field → Fields → Node → Result (Formula × Fields)
 nodeRead K two f fs (Node.Pair either) = formulaOf edition1 K two f fs (pair (connective either))
-nodeRead K two f fs (Node.Literal equality) = formulaOf edition1 K two f fs (atom (kindOf equality))
+nodeRead K two f fs (Node.Literal equality) = formulaOf edition1 K two f fs (atom (literalKind equality))
 nodeRead K two f fs Node.Stride = formulaOf edition1 K two f fs stride
 nodeRead K two f fs (Node.Refused number) = refused (answer number fileProof (f .at))

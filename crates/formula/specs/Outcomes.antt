@@ -9,8 +9,8 @@ use Rattle.fields.specs.Header.{finished}
 use Rattle.fields.specs.Places.{fieldsAt}
 use Rattle.formula.specs.declared.Tested.{Tested}
 
-abbrev pub refusal : (number file place : ℕ) → Tested
-refusal number file place = record { answer = answer number file place; holds = false }
+abbrev pub testRefused : (number file place : ℕ) → Tested
+testRefused number file place = record { answer = answer number file place; holds = false }
 
 -- The truth of the formula is given where nothing stands after it.
 abbrev pub endTested : Bool → Result (Unit {0}) → Tested

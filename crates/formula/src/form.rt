@@ -1,7 +1,7 @@
 // The value of a form at the register values.
-use crate::values::register;
 use fields::words::wide_long_at;
 use forms::TERM_BYTES;
+use integers::number;
 ghost use mathlib.Core.Path.{_≡_};
 ghost use Prim.Native.Nat.{_+_, _*_, _≤_};
 ghost use lib.ListN.{length, getD, take, drop};
@@ -22,7 +22,7 @@ fn with_term(s: &[u8], at: usize, values: &[i32], i: usize, total: i64) -> i64
     ensures range { λ r. ⌜ Held (edition1 .termWidth) (signed (take (edition1 .termWidth) (drop at (now (s .entry))))) ⌝ }
 {
     let c = wide_long_at(s, at);
-    let x = register(values, i);
+    let x = number(values, i);
     c * x + total
 }
 

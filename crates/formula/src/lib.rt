@@ -1,4 +1,4 @@
-// Formulas on bytes: reading one and testing it at register values.
+// Formulas on bytes: reading one and testing it at register values, and writing the parts of one.
 use fields::Answer;
 use fields::FileKind;
 use fields::answers::acceptance;
@@ -16,12 +16,13 @@ ghost use Rattle.formula.specs.Formula.{readFormula};
 ghost use Rattle.formula.specs.Test.{judged};
 ghost use Rattle.formula.specs.Registers.{Registers};
 ghost use Rattle.formula.specs.Promises.{asTested, Tests};
-ghost use Rattle.formula.specs.Outcomes.{refusal, Finish};
+ghost use Rattle.formula.specs.Outcomes.{testRefused, Finish};
 
 mod form;
 mod node;
 mod reading;
 mod values;
+pub mod writing;
 
 use reading::Judged;
 use reading::formula_at;
@@ -35,7 +36,7 @@ pub struct Tested {
 }
 
 fn refuse(number: u8, file: u8, place: usize) -> Tested
-    ensures { λ r. ⌜ r ≡ refusal number file place ⌝ }
+    ensures { λ r. ⌜ r ≡ testRefused number file place ⌝ }
 {
     Tested {
         answer: refusal(number, file, place),

@@ -18,7 +18,7 @@ ghost use Rattle.formula.specs.Test.{holds, registers};
 ghost use Rattle.formula.specs.Registers.{Registers};
 ghost use Rattle.formula.specs.FormAt.{formAt, Whole};
 ghost use Rattle.formula.specs.declared.reading.Judged.the-variants.{Value};
-ghost use Rattle.formula.specs.Nodes.{kindOf};
+ghost use Rattle.formula.specs.Nodes.{literalKind};
 ghost use Rattle.formula.specs.Judging.{FormulaRead, PairRead, connected, joinedPair, strideJudged};
 
 // A formula read: its truth and the place after it, or the refusal.
@@ -41,7 +41,7 @@ pub enum Pair {
 }
 
 fn says(equality: bool, x: i64) -> bool
-    ensures { λ r. ⌜ r ≡ holds (kindOf equality) x ⌝ }
+    ensures { λ r. ⌜ r ≡ holds (literalKind equality) x ⌝ }
 {
     if equality {
         return is_zero(x);
@@ -59,7 +59,7 @@ fn literal_at(
 ) -> Judged
     requires { ⌜ Whole (now s) start k ⌝ }
     requires { ⌜ Registers (now values) k ⌝ }
-    ensures { λ r. ⌜ r ≡ Value (holds (kindOf equality) (value (formAt (now (s .entry)) start k) (registers (now (values .entry))))) next ⌝ }
+    ensures { λ r. ⌜ r ≡ Value (holds (literalKind equality) (value (formAt (now (s .entry)) start k) (registers (now (values .entry))))) next ⌝ }
 {
     let x = value_at(s, start, values, k);
     Judged::Value {

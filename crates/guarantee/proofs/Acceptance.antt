@@ -17,7 +17,7 @@ use Rattle.fields.specs.Answers.{answer, acceptance, fileA, fileB, fileLent, Re
 use Rattle.fields.specs.Numbers.{Bytes, unsignedBytes}
 use Rattle.fields.specs.Fields.{Field, Fields, ends, cut, _▸_, fields, nth, Item, item, items, fieldBytes, fileOf}
 use Rattle.fields.specs.Header.{agrees}
-use Rattle.fields.proofs.Results.{Gives, never, not-0, accepts, weaken, bind, seq, finds, binds, passes, found-some}
+use Rattle.fields.proofs.Results.{Gives, never, not-0, gives-accepted, weaken, bind, seq, finds, binds, passes, found-some}
 use Rattle.fields.proofs.Signed.{all-weaken}
 use Rattle.fields.proofs.Contents.{ItemBytes}
 use Rattle.bundle.specs.declared.ReadResult.{ReadResult}

@@ -1,5 +1,6 @@
 -- What is promised holds of the operations.
 pub mod Refusals
+pub mod Tree
 pub mod Acceptance
 pub mod Soundness
 pub mod Guard

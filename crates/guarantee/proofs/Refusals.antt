@@ -15,7 +15,7 @@ use Rattle.fields.specs.declared.Answer.{Answer}
 use Rattle.fields.specs.declared.FileKind.{FileKind}
 use Rattle.fields.specs.Answers.{acceptance, fileA, fileB, fileProof, Result, refused, accepted, _>>=_, Written, over, fit, written}
 use Rattle.fields.specs.Fields.{Field, Fields, ends, cut, _▸_, fields}
-use Rattle.fields.proofs.Results.{Gives, never, not-0, not-22, refuses, accepts, weaken, bind, seq, test, finds, each-gives}
+use Rattle.fields.proofs.Results.{Gives, never, not-0, not-22, gives-refused, gives-accepted, weaken, bind, seq, test, finds, each-gives}
 use Rattle.fields.proofs.HeaderLaid.{header-gives, finished-gives}
 use Rattle.bundle.specs.Bundle.{Bundle}
 use Rattle.bundle.specs.Read.{BundleRead, kindsOf, numbersOf, unread, store, stored, readBundle}
@@ -112,35 +112,35 @@ unfolding showAnswer showPart shownPart
 show-told A B line = shown-told _ (by-number {P = λ _. Unit {0}} (seq (short-gives _ fileA A) λ _. seq (short-gives _ fileB B) λ _. bind (bundles-give A B) λ (a, b) _. weaken (finds _ _ tt) λ _ _. tt))
 
 -- ---- what is tested
-abbrev Reads : {X : Type 0} → Result X → Type 0
-Reads r = Gives r (λ _. Unit {0})
+abbrev GivesAny : {X : Type 0} → Result X → Type 0
+GivesAny r = Gives r (λ _. Unit {0})
 
 module _ (e : Edition) (K : ℕ) where
   abbrev Two : Type 0
   Two = (at : ℕ) → Fields → Result (Formula × Formula × Fields)
 
-  of-gives : (two : Two) → ((at : ℕ) (fs : Fields) → Reads (two at fs)) → (f : Field) (fs : Fields) (t : FormulaTag) → Reads (formulaOf e K two f fs t)
+  of-gives : (two : Two) → ((at : ℕ) (fs : Fields) → GivesAny (two at fs)) → (f : Field) (fs : Fields) (t : FormulaTag) → GivesAny (formulaOf e K two f fs t)
   unfolding formulaOf
-  of-gives two h f fs (pair c) = bind (h (f .at) fs) λ (I, J, after) _. accepts tt
-  of-gives two h f fs (atom k) = accepts tt
-  of-gives two h f fs stride = test _ _ tt λ _. accepts tt
+  of-gives two h f fs (pair c) = bind (h (f .at) fs) λ (I, J, after) _. gives-accepted tt
+  of-gives two h f fs (atom k) = gives-accepted tt
+  of-gives two h f fs stride = test _ _ tt λ _. gives-accepted tt
 
-  field-gives : (two : Two) → ((at : ℕ) (fs : Fields) → Reads (two at fs)) → (fs : Fields) → Reads (formulaField e K two fs)
+  field-gives : (two : Two) → ((at : ℕ) (fs : Fields) → GivesAny (two at fs)) → (fs : Fields) → GivesAny (formulaField e K two fs)
   unfolding formulaField
-  field-gives two h (ends at) = refuses _ tt
-  field-gives two h (cut at) = refuses _ tt
+  field-gives two h (ends at) = gives-refused _ tt
+  field-gives two h (cut at) = gives-refused _ tt
   field-gives two h (f ▸ fs) = test _ _ tt λ _. bind (finds _ _ tt) λ t _. test _ _ tt λ _. of-gives two h f fs t
 
-  within-gives : (levels : ℕ) (fs : Fields) → Reads (formulaWithin e K levels fs)
+  within-gives : (levels : ℕ) (fs : Fields) → GivesAny (formulaWithin e K levels fs)
   unfolding formulaWithin twoParts
-  within-gives zero fs = field-gives _ (λ at fs. refuses _ tt) fs
-  within-gives (suc levels) fs = field-gives _ (λ at fs. bind (within-gives levels fs) λ (I, fs1) _. bind (within-gives levels fs1) λ (J, fs2) _. accepts tt) fs
+  within-gives zero fs = field-gives _ (λ at fs. gives-refused _ tt) fs
+  within-gives (suc levels) fs = field-gives _ (λ at fs. bind (within-gives levels fs) λ (I, fs1) _. bind (within-gives levels fs1) λ (J, fs2) _. gives-accepted tt) fs
 
-reading-gives : (K : ℕ) (fs : Fields) → Reads (readFormula K fs)
+reading-gives : (K : ℕ) (fs : Fields) → GivesAny (readFormula K fs)
 unfolding readFormula
 reading-gives K fs =
     bind (header-gives FileKind.Formula fileProof (some K) fs) λ h _. bind (within-gives (h .edition) (h .K) (h .edition .levels) (h .rest)) λ (I, after) _.
-    seq (finished-gives FileKind.Formula fileProof after) λ _. accepts tt
+    seq (finished-gives FileKind.Formula fileProof after) λ _. gives-accepted tt
 
 tested-numbered : (formula : List ℕ) (values : List ℤ) → Numbered (tested formula values)
 unfolding tested

@@ -10,7 +10,7 @@ use Rattle.forms.specs.Edition.{Edition, edition1}
 use Rattle.forms.specs.Forms.{All, Line, Constraint, Formula}
 use Rattle.calculus.specs.Rules.{Entry, Closed, derive, strengthen, number, stride, step, entries, Interpolant}
 use Rattle.fields.specs.declared.Answer.{Answer}
-use Rattle.fields.specs.Answers.{accepted, over, Written}
+use Rattle.fields.specs.Answers.{accepted, over, Written, writtenOf}
 use Rattle.fields.specs.Numbers.{Bytes}
 use Rattle.fields.specs.Fields.{Item, Framed, fileOf, withoutNotes, fields, Noted, Kept}
 use Rattle.fields.proofs.Framing.{items-fileOf}
@@ -20,7 +20,8 @@ use Rattle.formula.specs.Formula.{formulaFile, readFormula}
 use Rattle.proof.specs.Check.{check}
 use Rattle.proof.specs.Layout.{Certifies}
 use Rattle.proof.proofs.Agree.{certified-interpolant}
-use Rattle.proof.proofs.Notes.{notes-change-nothing, notes-keep-count}
+use Rattle.proof.proofs.Notes.{check-noted}
+use Rattle.fields.proofs.Bare.{bareWritten}
 use Rattle.proof.proofs.Sizes.{written-reads-back}
 use Rattle.fields.specs.declared.WriteResult.{WriteResult}
 use Rattle.checking.specs.Promises.{Checks}
@@ -102,18 +103,9 @@ module _ (FA FB : List Item) (framedA : All Framed FA) (framedB : All Framed FB)
   }
 
 -- ---- notes
-module _ {A B proof output left : List ℕ} {r : WriteResult} (c : Checks A B proof output left r) where
-  is-number : r .answer .number ≡ check A B proof output .answer .number
-  is-number = ap (λ (w : Written). w .answer .number) (c .is)
-
-  is-file : r .answer .file ≡ check A B proof output .answer .file
-  is-file = ap (λ (w : Written). w .answer .file) (c .is)
-
-  is-count : r .count ≡ check A B proof output .count
-  is-count = ap (λ (w : Written). w .count) (c .is)
-
-  is-left : left ≡ check A B proof output .output
-  is-left = ap (λ (w : Written). w .output) (c .is)
+-- What the function leaves, the answer's place apart.
+bare-is : {A B proof output left : List ℕ} {r : WriteResult} → Checks A B proof output left r → bareWritten (writtenOf r left) ≡ bareWritten (check A B proof output)
+bare-is c = ap bareWritten (c .is)
 
 -- Demand 3.
 pub soundness : Soundness
@@ -122,13 +114,8 @@ soundness = record {
       delivered FA FB framedA framedB MA MB faithfulA faithfulB proof output left r c (is-checkable c h);
   listed = λ A B proof output left r bytesA bytesB c h. let x = is-checkable c h .certified in (lists bytesA (x .fileA), lists bytesB (x .fileB));
   notes = λ A A′ B B′ proof proof′ output left left′ r r′ nA nB nP kA kB kP c c′.
-      let same = notes-change-nothing A A′ B B′ proof proof′ output nA nB nP kA kB kP in
-      let same-count = notes-keep-count A A′ B B′ proof proof′ output nA nB nP kA kB kP in (
-        is-number c′ ∙ same .0 ∙ sym (is-number c),
-        is-file c′ ∙ same .1 ∙ sym (is-file c),
-        is-count c′ ∙ same-count ∙ sym (is-count c),
-        is-left c′ ∙ same .2 ∙ sym (is-left c),
-      );
+      let same = bare-is c′ ∙ check-noted nA nB nP kA kB kP output ∙ sym (bare-is c) in
+      (ap (λ (w : Written). w .answer) same, ap (λ (w : Written). w .count) same, ap (λ (w : Written). w .output) same);
   laid-out = λ A B proof output left r c h. laid-out (is-checkable c h .certified);
   refuses = λ A B proof output left r c none h. none (laid-out (is-checkable c h .certified));
 }

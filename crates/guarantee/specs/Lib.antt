@@ -1,5 +1,6 @@
 -- What is promised of the operations together: a file a demand of the user, statements only.
 pub mod Refusals
+pub mod Tree
 pub mod Acceptance
 pub mod LaidOut
 pub mod Soundness

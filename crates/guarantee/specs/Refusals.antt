@@ -1,5 +1,5 @@
 -- Demand 1 of the user: a refused call changes no lent buffer, and its number alone tells that it is refused. Of what each operation's function ensures. Assumes nothing.
--- (Each function has no `requires`, and a proved function always returns. Which number, file and place a refusal has is the definition that the function's promise equates it with.)
+-- (Each function has no `requires`, and a proved function always returns. Which number, file, place, row, step and branch a refusal has is the definition that the function's promise equates it with.)
 use mathlib.Core.Path.{_≡_}
 use mathlib.Core.Logic.{_↔_}
 use mathlib.Core.Bool.{false}
@@ -18,7 +18,7 @@ use Rattle.formula.specs.Promises.{Tests}
 use Rattle.checking.specs.Promises.{Checks}
 use Rattle.dulgaverk.specs.Copied.{Copied}
 
--- The number is 0 just where the answer is 0, 0, 0; and it is never 22, which is no longer given.
+-- The number is 0 just where the answer is that of an accepted call (0, 0, 0, and no row, step and branch); and it is never 22, which is no longer given.
 pub record ToldByNumber (a : Answer) : Type 0 where
   pub accepts : a .number ≡ 0 ↔ a ≡ acceptance
   pub never-22 : ¬ (a .number ≡ 22)

@@ -12,6 +12,7 @@ use Rattle.fields.specs.Fields.{Item, Framed, fileOf, withoutNotes, fields, Not
 use Rattle.bundle.specs.Layout.{StatesAll}
 use Rattle.formula.specs.Formula.{formulaFile, readFormula}
 use Rattle.proof.specs.Layout.{Certifies}
+use Rattle.fields.specs.declared.Answer.{Answer}
 use Rattle.fields.specs.declared.WriteResult.{WriteResult}
 use Rattle.checking.specs.Promises.{Checks}
 use Rattle.guarantee.specs.LaidOut.{Listed, LaidOut}
@@ -42,6 +43,10 @@ pub record Delivered (FA FB : List Item) (MA MB : Meaning) (proof output left : 
   -- true wherever all of A is met, false wherever all of B is, naming only constants of both: A and B being what the writers stated
   pub interpolant : Interpolant (MA FA .1) (MB FB .1) formula
 
+-- An answer without its place (0 stands for it).
+abbrev pub placeless : Answer → Answer
+placeless a = record { number = a .number; file = a .file; place = 0; row = a .row; step = a .step; branch = a .branch }
+
 pub record Soundness : Type 0 where
   -- after one accepted check
   pub interpolates : (FA FB : List Item) → All Framed FA → All Framed FB → (MA MB : Meaning) → Faithful MA → Faithful MB → (proof output left : List ℕ) (r : WriteResult)
@@ -49,11 +54,11 @@ pub record Soundness : Type 0 where
       → Delivered FA FB MA MB proof output left r
   -- and every A and B that is accepted is the file of some writer's fields
   pub listed : (A B proof output left : List ℕ) (r : WriteResult) → Bytes A → Bytes B → Checks A B proof output left r → r .answer .number ≡ 0 → Listed A × Listed B
-  -- whole notes between whole fields change neither number, file, count nor output bytes (places move), where no file gets too long by them
+  -- whole notes between whole fields change no number, file, row, step or branch, no count and no output byte (places move), where no file gets too long by them
   pub notes : (A A′ B B′ proof proof′ output left left′ : List ℕ) (r r′ : WriteResult) → Noted A A′ → Noted B B′ → Noted proof proof′
       → Kept (edition1 .bundleBytes) A A′ → Kept (edition1 .bundleBytes) B B′ → Kept (edition1 .proofBytes) proof proof′
       → Checks A B proof output left r → Checks A′ B′ proof′ output left′ r′
-      → (r′ .answer .number ≡ r .answer .number) × (r′ .answer .file ≡ r .answer .file) × (r′ .count ≡ r .count) × (left′ ≡ left)
+      → (placeless (r′ .answer) ≡ placeless (r .answer)) × (r′ .count ≡ r .count) × (left′ ≡ left)
   -- what is accepted is laid out, and a file that carries anything else is refused
   pub laid-out : (A B proof output left : List ℕ) (r : WriteResult) → Checks A B proof output left r → r .answer .number ≡ 0 → LaidOut A B proof
   pub refuses : (A B proof output left : List ℕ) (r : WriteResult) → Checks A B proof output left r → ¬ (LaidOut A B proof) → ¬ (r .answer .number ≡ 0)

@@ -6,7 +6,7 @@ use mathlib.Core.List.{List}
 use native.Mathlib.Omega.{arith}
 use lib.ListN.{length, take}
 use Rattle.fields.specs.declared.Answer.{Answer}
-use Rattle.fields.specs.Answers.{answer}
+use Rattle.fields.specs.Answers.{answer, fileLent}
 use Rattle.files.specs.Text.{Put, PutRefused, RefusedLine}
 use Rattle.files.proofs.Texts.{uncut}
 use Rattle.formula.specs.Test.{Tested as Outcome}
@@ -22,18 +22,18 @@ truth-few false = omega arith
 
 -- with room for that line
 module _ {was text : List ℕ} {r : ℕ} (room : 79 ≤ length was) where
-  refusal-printed : {t : Outcome} {number file place : ℕ} → answer number file place ≡ t .answer → 0 < number → PutRefused was number file place text r → Printed t (take r text)
-  refusal-printed {t} {number} {file} {place} is h p =
-      let s : RefusedLine number file place (take r text)
-      = subst (λ (s : List ℕ). RefusedLine number file place s) (uncut (p .put) (omega (arith, p .few))) (p .refusal) in
+  refusal-printed : {t : Outcome} (a : Answer) → a ≡ t .answer → 0 < a .number → PutRefused was (a .number) (a .file) (a .place) text r → Printed t (take r text)
+  refusal-printed a is h p =
+      let s : RefusedLine (a .number) (a .file) (a .place) (take r text)
+      = subst (λ (s : List ℕ). RefusedLine (a .number) (a .file) (a .place) s) (uncut (p .put) (omega (arith, p .few))) (p .refusal) in
       record { if-accepted = λ e. absurd (omega (arith, ap (λ (a : Answer). a .number) is)); if-refused = λ _. subst (λ (a : Answer). RefusedLine (a .number) (a .file) (a .place) (take r text)) is s }
 
   pub prints-odd : (f v : List ℕ) → 0 < length v % 4 → PutRefused was 7 4 0 text r → Printed (testFiles f v) (take r text)
-  prints-odd f v h p = refusal-printed (ap (λ (t : Outcome). t .answer) (sym (files-odd f v h))) (omega arith) p
+  prints-odd f v h p = refusal-printed (answer 7 fileLent 0) (ap (λ (t : Outcome). t .answer) (sym (files-odd f v h))) (omega arith) p
 
   module _ {t : Outcome} (c : Tested) (is : c ≡ asTested t) where
     pub prints-refusal : 0 < c .answer .number → PutRefused was (c .answer .number) (c .answer .file) (c .answer .place) text r → Printed t (take r text)
-    prints-refusal h p = refusal-printed (ap (λ (c : Tested). c .answer) is) h p
+    prints-refusal h p = refusal-printed (c .answer) (ap (λ (c : Tested). c .answer) is) h p
 
     pub prints-truth : c .answer .number ≡ 0 → {b : Bool} → c .holds ≡ b → Put was 0 (truthLine b) text r → Printed t (take r text)
     prints-truth e {b} q p =

@@ -1,6 +1,6 @@
 -- The values of a file, loaded into a lent buffer: laws over plain values. Assumes nothing.
-use Prim.Native.Nat.{ℕ, zero, suc, _+_, _*_, _-_, _/_, _%_, _≤_, _<_, min}
-use mathlib.Core.Path.{_≡_, refl, sym, ap, _∙_}
+use Prim.Native.Nat.{ℕ, suc, _+_, _*_, _-_, _/_, _%_, _≤_, _<_, min}
+use mathlib.Core.Path.{_≡_, sym, ap, _∙_}
 use mathlib.Core.Logic.{⊎-elim}
 use mathlib.Core.Bool.{false, _&&_}
 use mathlib.Core.List.{List}
@@ -15,6 +15,7 @@ use Rattle.forms.specs.Forms.{Formula}
 use Rattle.fields.specs.Answers.{answer, fileLent, Result, _>>_, need, each}
 use Rattle.fields.specs.Numbers.{signed, signeds}
 use Rattle.fields.proofs.Results.{fail}
+use Rattle.fields.proofs.Signed.{length-signeds}
 use Rattle.formula.specs.declared.Tested.{Tested as Answered}
 use Rattle.formula.specs.Promises.{asTested}
 use Rattle.formula.specs.Test.{Tested, tested, judged, testFormula}
@@ -35,11 +36,6 @@ loaded-next l i n v h =
     let a : i + 1 ≡ suc i = omega arith in
     let d : (i + 1) * 4 ≡ i * 4 + 4 = omega arith in
     rw (m, d, a, drop-drop 4 (i * 4) v)
-
-length-signeds : (w n : ℕ) (bs : List ℕ) → length (signeds w n bs) ≡ n
-unfolding signeds
-length-signeds w zero bs = refl
-length-signeds w (suc n) bs = ap suc (length-signeds w n (drop w bs))
 
 -- all of them
 pub loaded : (l : List ℤ) (n : ℕ) (v : List ℕ) → n ≤ length l → take n (sets l 0 (signeds 4 n v)) ≡ signeds 4 n v

@@ -13,9 +13,12 @@ use lib.Signed.{mag, leZ, ltZ, quotZ, remZ, mag-rem, _≤ℤ_}
 use mir.Syntax.{Width, w64}
 use mir.Val.{Fits, SFits, toZ, ofZ}
 use mir.ValLaws.{sfits-le, toZ-fits, ofZ-fits, ofZ-toZ, fits-or}
-use Rattle.integers.specs.Linear.{eqZ, ints, add-pn, neg-pn, mul-pn}
-use Rattle.integers.specs.Divides.{divb, divb→∣}
-use Rattle.integers.specs.Remainder.{remainder, remainder-below, remainder-unique, remainder-zero}
+use Rattle.integers.specs.Linear.{eqZ}
+use Rattle.integers.proofs.Differences.{ints, add-pn, neg-pn, mul-pn}
+use Rattle.integers.specs.Divides.{divb}
+use Rattle.integers.proofs.Divisibility.{divb→∣}
+use Rattle.integers.specs.Remainder.{remainder}
+use Rattle.integers.proofs.Remainders.{remainder-below, remainder-unique, remainder-zero}
 
 -- A quotient by a positive number fits.
 mag-neg : (r : ℕ) {a : ℕ} → r ≤ suc a → mag (negℤ (pos r)) ≤ a

@@ -1,21 +1,22 @@
-// The integers: laws in specs/, and the signed arithmetic of the machine.
+// The integers: definitions in specs/, laws in proofs/, and the signed arithmetic of the machine.
 // Every function here says what it gives in ℤ, so that nothing above meets a machine word.
 ghost use mathlib.Core.Path.{_≡_};
 ghost use mathlib.Core.Bool.{_&&_};
+ghost use Prim.Native.Nat.{_<_};
 ghost use lib.Dec.{leb};
-ghost use lib.IntN.{pos, natAbs, _+ℤ_, _*ℤ_};
+ghost use lib.IntN.{pos, natAbs};
+ghost use lib.ListN.{length, getD};
 ghost use lib.Signed.{_≤ℤ_, leZ, ltZ};
 ghost use Rattle.integers.specs.Linear.{eqZ};
 ghost use Rattle.integers.specs.Divides.{divb};
 ghost use Rattle.integers.specs.Remainder.{remainder};
-ghost use Rattle.integers.specs.Magnitude.{Factors};
 
-// a·x + b·y, of factors small enough that the sum fits a machine word.
-pub fn linear(a: i64, x: i64, b: i64, y: i64) -> i64
-    requires { ⌜ Factors a x b y ⌝ }
-    ensures { λ r. ⌜ r ≡ a *ℤ x +ℤ b *ℤ y ⌝ }
+// The number at a place, of 64 bits. Every number of a line, and every register value, that is tested or computed with is read here.
+pub fn number(numbers: &[i32], at: usize) -> i64
+    requires { ⌜ at < length (now numbers) ⌝ }
+    ensures { λ r. ⌜ r ≡ getD (now (numbers .entry)) at (pos 0) ⌝ }
 {
-    a * x + b * y
+    numbers[at] as i64
 }
 
 // All numbers of t and tA stay within ± this. Document 01, "Forms and lines".

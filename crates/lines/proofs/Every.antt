@@ -11,8 +11,9 @@ use lib.IntN.{ℤ, pos}
 use lib.Seq.{take-suc, drop-cons, getD-drop, length-take-le}
 use Rattle.integers.specs.Linear.{eqZ}
 use Rattle.calculus.specs.Rules.{every}
-use Rattle.lines.specs.Parts.{part, getD-part}
-use Rattle.lines.specs.Range.{every-snoc}
+use Rattle.lines.specs.Parts.{part}
+use Rattle.lines.proofs.Parts.{getD-part}
+use Rattle.lines.proofs.Range.{every-snoc}
 
 -- The first x of the k numbers at `at` pass, so the rest decides.
 pub record Passed (p : ℤ → Bool) (buf : List ℤ) (at k x : ℕ) : Type 0 where

@@ -6,7 +6,7 @@ use native.Mathlib.Numerals.{add-one}
 use native.Mathlib.Omega.{arith}
 use lib.ListN.{length, getD, set}
 use lib.Seq.{paste, paste-zero, paste-suc, length-paste}
-use Rattle.lines.specs.Parts.{agree-getD, agree-paste}
+use Rattle.lines.proofs.Parts.{agree-getD, agree-paste}
 
 -- m is l with the first j elements of s from d on.
 pub record Filled {A : Type 0} (l : List A) (d : ℕ) (s m : List A) (j : ℕ) : Type 0 where

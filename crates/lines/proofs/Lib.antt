@@ -1,4 +1,12 @@
--- What the proofs of the functions share.
+-- The laws of the lines in a buffer, and what the proofs of the functions share.
+pub mod Parts
+pub mod Lines
+pub mod Range
+pub mod Mixing
+pub mod Plus
+pub mod Branch
+pub mod Strengthen
+pub mod Next
 pub mod Fill
 pub mod Every
 pub mod Narrow

@@ -10,7 +10,8 @@ use lib.Signed.{mag}
 use mir.Syntax.{w32, w64}
 use mir.Val.{SFits, toZ, ofZ}
 use mir.ValLaws.{toZ-ofZ}
-use Rattle.integers.specs.Magnitude.{Within, within-fits}
+use Rattle.integers.specs.Magnitude.{Within}
+use Rattle.integers.proofs.Magnitude.{within-fits}
 use Rattle.forms.specs.Edition.{edition1}
 
 mag-abs : (z : ℤ) → mag z ≤ natAbs z

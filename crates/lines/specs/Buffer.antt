@@ -3,27 +3,19 @@ use mathlib.Core.Path.{_≡_}
 use mathlib.Core.List.{List, [], map}
 use mathlib.Core.Bool.{Bool, true, false}
 use Prim.Native.Nat.{ℕ, zero, suc, _+_, _*_, _<_, _≤_}
-use lib.Dec.{eqb}
 use lib.ListN.{length, getD, set}
 use lib.Seq.{paste}
 use lib.IntN.{ℤ, pos, _+ℤ_, _*ℤ_}
 use Rattle.integers.specs.Magnitude.{Within, Factors}
 use Rattle.forms.specs.Edition.{edition1}
-use Rattle.forms.specs.Forms.{Form, Kind, ≤0, =0, Line, line, sums}
+use Rattle.forms.specs.Forms.{Line, line, sums}
+use Rattle.forms.specs.Flat.{kindOf, formIn}
 use Rattle.calculus.specs.Rules.{_▷_, small, every}
 use Rattle.lines.specs.Parts.{part, Agree}
 
 -- How many numbers a line has.
 abbrev pub size : ℕ → ℕ
 size K = 2 * (K + 1)
-
--- The form whose K + 1 numbers stand at a place.
-abbrev pub formIn : (K : ℕ) → List ℤ → (at : ℕ) → Form
-formIn K buf at = record { coeffs = part at K buf; d = getD buf (at + K) (pos 0) }
-
--- 0 for t ≤ 0, 1 for t = 0.
-unfoldable pub kindOf : ℕ → Kind
-kindOf b = elim (eqb b 0) [ true ↦ ≤0 | false ↦ =0 ]
 
 -- Line i of the buffer.
 unfoldable pub lineIn : (K : ℕ) (kinds : List ℕ) (buf : List ℤ) (i : ℕ) → Line

@@ -1,6 +1,7 @@
 // The lines of a branch in one flat lent buffer: the functions that read and write them.
 // Every number is within the range, so it has 32 bits here; what is computed of it has 64.
 use forms::LineNumber;
+use integers::number;
 ghost use mathlib.Core.Path.{_≡_};
 ghost use mathlib.Core.Bool.{_&&_};
 ghost use Prim.Native.Nat.{_+_, _*_, _<_, _≤_};
@@ -14,7 +15,8 @@ ghost use Rattle.integers.specs.Divides.{divb};
 ghost use Rattle.calculus.specs.Rules.{small, every};
 ghost use Rattle.forms.specs.Edition.{edition1};
 ghost use Rattle.lines.specs.Parts.{part};
-ghost use Rattle.lines.specs.Buffer.{size, formIn, Bounded, Terms, LineTerms, LineCopy, Mixes, plusOne, copiedLine, strengthenedT, strengthenedBoth, startedLine};
+ghost use Rattle.forms.specs.Flat.{formIn};
+ghost use Rattle.lines.specs.Buffer.{size, Bounded, Terms, LineTerms, LineCopy, Mixes, plusOne, copiedLine, strengthenedT, strengthenedBoth, startedLine};
 
 // Where the numbers of line i's t start, with k constants. Only here a line number becomes a place.
 pub fn place(i: LineNumber, k: usize) -> usize
@@ -31,14 +33,6 @@ pub fn place_a(i: LineNumber, k: usize) -> usize
     ensures { λ r. ⌜ r ≡ i .0 * size k + (k + 1) ⌝ }
 {
     place(i, k) + (k + 1)
-}
-
-// The number at a place. Every number that is tested or computed with is read here.
-pub fn number(lines: &[i32], at: usize) -> i64
-    requires { ⌜ at < length (now lines) ⌝ }
-    ensures { λ r. ⌜ r ≡ getD (now (lines .entry)) at (pos 0) ⌝ }
-{
-    lines[at] as i64
 }
 
 // One form of a new line, number by number in the steps of FM-ELIM: α·s, then β·t, then their sum, up to the first that is out of range; whether there is none. The w numbers of s, of t and of the new form start at these places.

@@ -18,14 +18,14 @@ use Rattle.fields.specs.declared.FileKind.{FileKind}
 use Rattle.fields.specs.Answers.{fileA, fileB, fileProof, refused, accepted}
 use Rattle.fields.specs.Fields.{Fields, Item, item, fields, items}
 use Rattle.fields.specs.Header.{Header, agrees}
-use Rattle.fields.proofs.Results.{one-value, Gives, accepts, bind, seq, binds, passes, not-0, not-22}
-use Rattle.fields.proofs.HeaderLaid.{Headed, header-gives, header-read, finished-gives, finished-ends}
+use Rattle.fields.proofs.Results.{one-value, Gives, gives-accepted, bind, seq, binds, passes, not-0, not-22}
+use Rattle.fields.proofs.HeaderLaid.{LaidHeader, header-gives, header-read, finished-gives, finished-ends}
 use Rattle.bundle.specs.Bundle.{Bundle}
 use Rattle.bundle.specs.Layout.{Each, nil, BundleFile}
 use Rattle.bundle.proofs.Laid.{Itemed, itemed, no-items, listed, BothLaid, laid-file, file-laid, bundles-give, bundles-accept, short-gives, short-accepted}
 use Rattle.proof.specs.Check.{Closing, checkProof, interpolant}
 use Rattle.proof.specs.Layout.{Enters, Certifies}
-use Rattle.proof.proofs.Branches.{Derived, branch-derives, branch-accepts}
+use Rattle.proof.proofs.Branches.{BranchDerived, branch-derives, branch-accepts}
 
 -- which constants occur in A and in B
 abbrev occurring : Bundle → Bundle → Side → ℕ → Bool
@@ -53,7 +53,7 @@ agrees-refl K = eqb-refl K
 module _ (a b : Bundle) (fs : Fields) where
   -- what the check of the root finds
   abbrev Root : Edition → ℕ → Fields → Closing → Type 0
-  Root e K rest root = Derived e K (occurring a b) (e .strengthens) 0 none (lines (a .constraints) (b .constraints)) rest root
+  Root e K rest root = BranchDerived e K (occurring a b) (e .strengthens) 0 none (lines (a .constraints) (b .constraints)) rest root
 
   root-proof : (rest : Fields) (root : Closing) → Root edition1 (a .K) rest root → items (root .after) ≡ some [] → 1 ≤ a .K → a .K ≤ edition1 .constants
       → ((is : List Item) → items rest ≡ some is → items fs ≡ some (item 0x01 (1 ∷ []) ∷ item 0x02 (a .K ∷ []) ∷ is)) → Proof a b fs (root .formula)
@@ -70,7 +70,7 @@ module _ (a b : Bundle) (fs : Fields) where
       }
 
   -- there is one edition, and K is that of A
-  header-proof : (h : Header) → Headed (some (a .K)) fs h → (root : Closing) → Root (h .edition) (h .K) (h .rest) root → items (root .after) ≡ some [] → Proof a b fs (root .formula)
+  header-proof : (h : Header) → LaidHeader (some (a .K)) fs h → (root : Closing) → Root (h .edition) (h .K) (h .rest) root → items (root .after) ≡ some [] → Proof a b fs (root .formula)
   header-proof h d root r ended =
       let k : h .K ≡ a .K = agreed (a .K) (h .K) (d .agree) in
       root-proof (h .rest) root (subst₂ (λ (e : Edition) (K : ℕ). Root e K (h .rest) root) (d .edition) k r) ended (rw k at (d .low)) (rw k at (d .high)) (λ is q. rw k at (d .from is q))
@@ -78,14 +78,14 @@ module _ (a b : Bundle) (fs : Fields) where
   proof-gives : Gives (checkProof a b fs) (Proof a b fs)
   unfolding checkProof
   proof-gives = bind (header-gives FileKind.Proof fileProof (some (a .K)) fs) λ h d.
-      bind (branch-derives (h .edition) (h .K) (occurring a b) (h .edition .strengthens) 0 _ (h .rest) (initial-words (sides (a .constraints) (b .constraints)))) λ root r.
-      seq (finished-gives FileKind.Proof fileProof (root .after)) λ ended. accepts (header-proof h d root r ended)
+      bind (branch-derives (h .edition) (h .K) (occurring a b) (h .edition .strengthens) _ 0 _ (h .rest) (initial-words (sides (a .constraints) (b .constraints)))) λ root r.
+      seq (finished-gives FileKind.Proof fileProof (root .after)) λ ended. gives-accepted (header-proof h d root r ended)
 
   proof-accepts : (I : Formula) → Proof a b fs I → checkProof a b fs ≡ accepted I
   unfolding checkProof
   proof-accepts I p =
       let h = header-read FileKind.Proof fileProof (some (a .K)) fs (a .K) (p .body) (p .whole) (p .low) (p .high) (agrees-refl (a .K)) in
-      let r = branch-accepts edition1 (a .K) (occurring a b) (edition1 .strengthens) 0 _ I (p .proves .proof) [] (h .after) (initial-words (sides (a .constraints) (b .constraints)))
+      let r = branch-accepts edition1 (a .K) (occurring a b) (edition1 .strengthens) _ 0 _ I (p .proves .proof) [] (h .after) (initial-words (sides (a .constraints) (b .constraints)))
       (p .proves .opened) _ refl (omega (arith, p .proves .rows)) (listed (h .after) (h .rest) (subst (Each (Enters edition1 (a .K)) (p .body)) (sym (p .proves .are)) (p .enters))) in
       binds _ (h .reads) ∙ binds _ (r .is) ∙ passes _ (finished-ends FileKind.Proof fileProof (r .after) (no-items (r .lists)))
 
@@ -106,7 +106,7 @@ module _ (A B P : List ℕ) where
   interpolant-gives : Gives (interpolant A B P) (λ r. Certifies A B P (r .0) (r .1))
   unfolding interpolant
   interpolant-gives = seq (short-gives _ fileA A) λ sA. seq (short-gives _ fileB B) λ sB. seq (short-gives _ fileProof P) λ sP.
-      bind (bundles-give A B) λ (a, b) l. bind (proof-gives a b (fields P)) λ I p. accepts (certified a b l sA sB sP I p)
+      bind (bundles-give A B) λ (a, b) l. bind (proof-gives a b (fields P)) λ I p. gives-accepted (certified a b l sA sB sP I p)
 
   interpolant-accepts : (K : ℕ) (I : Formula) → Certifies A B P K I → interpolant A B P ≡ accepted (K, I)
   unfolding interpolant agrees

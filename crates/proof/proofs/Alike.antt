@@ -9,7 +9,7 @@ use mir.Facts.{and-yes}
 use lib.Dec.{T, leb, leb→le}
 use lib.ListN.{length, length-append, length-map}
 use lib.IntN.{ℤ, pos, negsuc, natAbs}
-use Rattle.integers.specs.Linear.{ints}
+use Rattle.integers.proofs.Differences.{ints}
 use Rattle.integers.specs.Remainder.{remainder}
 use Rattle.forms.specs.Edition.{edition1}
 use Rattle.forms.specs.Forms.{Form, ≤0, =0, Assignment, Formula, literal, _divides_, _and_, _or_}

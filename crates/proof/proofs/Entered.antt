@@ -14,18 +14,18 @@ use Rattle.forms.specs.Edition.{Edition}
 use Rattle.forms.specs.Forms.{Form, Line}
 use Rattle.calculus.specs.Rules.{Row, Entry, row, claim, claims}
 use Rattle.fields.specs.declared.FileKind.{FileKind}
-use Rattle.fields.specs.Answers.{accepted}
+use Rattle.fields.specs.declared.Position.{Position}
+use Rattle.fields.specs.Answers.{refusalAt, accepted}
 use Rattle.fields.specs.Fields.{Field, item}
 use Rattle.fields.specs.Header.{headerTag, known}
-use Rattle.fields.proofs.Results.{Gives, refuses, accepts, weaken, bind, tested, test, finds, binds, need-yes, needs, found-some}
+use Rattle.fields.proofs.Results.{Gives, gives-refused, gives-accepted, weaken, bind, gives-need, test, finds, binds, need-yes, needs, found-some}
 use Rattle.fields.proofs.HeaderLaid.{by-tag}
-use Rattle.proof.specs.Entries.{Tagged, combineTag, reduceTag, scaleTag, strengthenTag, numberTag, strideTag, claimTag, entryTagged, inPlace, sizeOf, entryFrom, entry}
+use Rattle.proof.specs.Entries.{EntryTag, combineTag, reduceTag, scaleTag, strengthenTag, numberTag, strideTag, claimTag, entryTagged, inPlace, sizeOf, entryFrom, entry}
 use Rattle.proof.specs.Rows.{equals, sameForm, states}
-use Rattle.proof.specs.Check.{agreeing}
 use Rattle.proof.specs.Layout.{Enters}
 
 -- ---- entries
-entry-known : (tag : ℕ) (x : Tagged) → entryTagged tag ≡ some x → T (known FileKind.Proof tag)
+entry-known : (tag : ℕ) (x : EntryTag) → entryTagged tag ≡ some x → T (known FileKind.Proof tag)
 unfolding entryTagged known headerTag
 entry-known tag x h =
     let P : ℕ → Type 0 = λ n. T (known FileKind.Proof n) in
@@ -33,7 +33,7 @@ entry-known tag x h =
     (by-tag P tag 0x14 numberTag tt (by-tag P tag 0x15 strideTag tt (by-tag P tag 0x20 claimTag tt (λ e. absurd (let z : _≡_ {A = ℕ} 0 1 = cc in omega arith)))))))) h
 
 -- a row is in place anywhere, a claim where a line was made
-row-in-place : (e : Edition) (K : ℕ) (made : Option Line) (x : Tagged) (bs : List ℕ) (r : Row) → entryFrom e K x bs ≡ row r → T (inPlace made x)
+row-in-place : (e : Edition) (K : ℕ) (made : Option Line) (x : EntryTag) (bs : List ℕ) (r : Row) → entryFrom e K x bs ≡ row r → T (inPlace made x)
 unfolding inPlace entryFrom
 row-in-place e K made combineTag bs r h = tt
 row-in-place e K made reduceTag bs r h = tt
@@ -43,7 +43,7 @@ row-in-place e K made numberTag bs r h = tt
 row-in-place e K made strideTag bs r h = tt
 row-in-place e K made claimTag bs r h = absurd (let z : _≡_ {A = ℕ} 0 1 = cc in omega arith)
 
-made-in-place : (l : Line) (x : Tagged) → T (inPlace (some l) x)
+made-in-place : (l : Line) (x : EntryTag) → T (inPlace (some l) x)
 unfolding inPlace
 made-in-place l combineTag = tt
 made-in-place l reduceTag = tt
@@ -53,21 +53,21 @@ made-in-place l numberTag = tt
 made-in-place l strideTag = tt
 made-in-place l claimTag = tt
 
-module _ (e : Edition) (K : ℕ) where
-  pub entry-gives : (made : Option Line) (f : Field) → Gives (entry e K made f) (Enters e K (item (f .tag) (f .contents)))
+module _ (e : Edition) (K : ℕ) (here : Position) (rows : ℕ) where
+  pub entry-gives : (made : Option Line) (f : Field) → Gives (entry e K (refusalAt here rows (f .at)) made f) (Enters e K (item (f .tag) (f .contents)))
   unfolding entry
   entry-gives made f = test _ _ tt λ _. bind (finds _ (entryTagged (f .tag)) tt) λ x t. test _ _ tt λ _. test _ _ tt λ n.
-      accepts (record { tagged = x; tag = t; size = eqb→eq (length (f .contents)) (sizeOf e K x) n; entry = refl })
+      gives-accepted (record { tagged = x; tag = t; size = eqb→eq (length (f .contents)) (sizeOf e K x) n; entry = refl })
 
-  entry-accepts : (made : Option Line) (f : Field) {x : Entry} (h : Enters e K (item (f .tag) (f .contents)) x) → T (inPlace made (h .tagged)) → entry e K made f ≡ accepted x
+  entry-accepts : (made : Option Line) (f : Field) {x : Entry} (h : Enters e K (item (f .tag) (f .contents)) x) → T (inPlace made (h .tagged)) → entry e K (refusalAt here rows (f .at)) made f ≡ accepted x
   unfolding entry
   entry-accepts made f h p = needs _ _ _ (entry-known (f .tag) (h .tagged) (h .tag)) ∙ binds _ (found-some _ (h .tag)) ∙ needs _ _ _ p
       ∙ needs _ _ _ (rw (h .size) (eqb-refl (sizeOf e K (h .tagged)))) ∙ ap accepted (h .entry)
 
-  pub row-accepted : (made : Option Line) (f : Field) {r : Row} → Enters e K (item (f .tag) (f .contents)) (row r) → entry e K made f ≡ accepted (row r)
+  pub row-accepted : (made : Option Line) (f : Field) {r : Row} → Enters e K (item (f .tag) (f .contents)) (row r) → entry e K (refusalAt here rows (f .at)) made f ≡ accepted (row r)
   row-accepted made f {r} h = entry-accepts made f h (row-in-place e K made (h .tagged) (f .contents) r (h .entry))
 
-  pub claim-accepted : (l : Line) (f : Field) {x : Entry} → Enters e K (item (f .tag) (f .contents)) x → entry e K (some l) f ≡ accepted x
+  pub claim-accepted : (l : Line) (f : Field) {x : Entry} → Enters e K (item (f .tag) (f .contents)) x → entry e K (refusalAt here rows (f .at)) (some l) f ≡ accepted x
   claim-accepted l f h = entry-accepts (some l) f h (made-in-place l (h .tagged))
 
 -- ---- claims
@@ -103,18 +103,16 @@ unfolding sameForm
 sameForm-refl t = yes-and (equals (t .coeffs) (t .coeffs)) (eqZ (t .d) (t .d)) (equals-refl (t .coeffs)) (eqZ-refl (t .d))
 
 -- the claim that may stand before the entries es, if a line was made
-abbrev pub claimed : Bool → Option Line → List Entry → List Entry
-claimed b none es = es
-claimed b (some l) es = claims b l es
+abbrev pub withClaim : Bool → Option Line → List Entry → List Entry
+withClaim b none es = es
+withClaim b (some l) es = claims b l es
 
-module _ (at : ℕ) where
-  pub agreeing-gives : (t tA : Form) (made : Option Line) → Gives (agreeing at t tA made) (λ _. (es : List Entry) → claimed true made es ≡ claim t tA ∷ es)
-  unfolding agreeing states
-  agreeing-gives t tA none = refuses _ tt
-  agreeing-gives t tA (some l) = weaken (tested _ _ tt) λ _ h es.
-      let (p, q) = and-yes (sameForm t (l .t)) (sameForm tA (l .tA)) h in
-      ap₂ (λ (t tA : Form). claim t tA ∷ es) (sym (sameForm-is t (l .t) p)) (sym (sameForm-is tA (l .tA) q))
+pub states-is : (t tA : Form) (l : Line) → T (states t tA l) → (es : List Entry) → claims true l es ≡ claim t tA ∷ es
+unfolding states
+states-is t tA l h es =
+    let (p, q) = and-yes (sameForm t (l .t)) (sameForm tA (l .tA)) h in
+    ap₂ (λ (t tA : Form). claim t tA ∷ es) (sym (sameForm-is t (l .t) p)) (sym (sameForm-is tA (l .tA) q))
 
-  pub agreeing-accepts : (l : Line) → agreeing at (l .t) (l .tA) (some l) ≡ accepted tt
-  unfolding agreeing states
-  agreeing-accepts l = need-yes _ _ (yes-and (sameForm (l .t) (l .t)) (sameForm (l .tA) (l .tA)) (sameForm-refl (l .t)) (sameForm-refl (l .tA)))
+pub states-own : (l : Line) → T (states (l .t) (l .tA) l)
+unfolding states
+states-own l = yes-and (sameForm (l .t) (l .t)) (sameForm (l .tA) (l .tA)) (sameForm-refl (l .t)) (sameForm-refl (l .tA))

@@ -1,5 +1,5 @@
 -- Notes change nothing of what the check gives but places. Document 01, "Fields". Assumes nothing.
-use mathlib.Core.Path.{_≡_, refl, ap}
+use mathlib.Core.Path.{_≡_, refl}
 use mathlib.Core.List.{List}
 use Prim.Native.Nat.{ℕ}
 use Rattle.forms.specs.Edition.{edition1}
@@ -26,20 +26,3 @@ module _ {A A′ B B′ P P′ : List ℕ} (a : Noted A A′) (b : Noted B B′)
   pub check-noted : (output : List ℕ) → bareWritten (check A′ B′ P′ output) ≡ bareWritten (check A B P output)
   unfolding check
   check-noted output = written-same output (bind-same interpolant-noted λ x. record { equal = refl })
-
--- Demand 3's notes: put in wherever the file so far is whole fields only, or nothing, each file that gets some staying within its length.
-pub notes-change-nothing : (A A′ B B′ P P′ output : List ℕ) → Noted A A′ → Noted B B′ → Noted P P′
-    → Kept (edition1 .bundleBytes) A A′ → Kept (edition1 .bundleBytes) B B′ → Kept (edition1 .proofBytes) P P′
-    → (check A′ B′ P′ output .answer .number ≡ check A B P output .answer .number)
-    × (check A′ B′ P′ output .answer .file ≡ check A B P output .answer .file)
-    × (check A′ B′ P′ output .output ≡ check A B P output .output)
-notes-change-nothing A A′ B B′ P P′ output a b p keptA keptB keptP =
-    let e = check-noted a b p keptA keptB keptP output in
-    (ap (λ (w : Written). w .answer .number) e, ap (λ (w : Written). w .answer .file) e, ap (λ (w : Written). w .output) e)
-
--- And the count.
-pub notes-keep-count : (A A′ B B′ P P′ output : List ℕ) → Noted A A′ → Noted B B′ → Noted P P′
-    → Kept (edition1 .bundleBytes) A A′ → Kept (edition1 .bundleBytes) B B′ → Kept (edition1 .proofBytes) P P′
-    → check A′ B′ P′ output .count ≡ check A B P output .count
-notes-keep-count A A′ B B′ P P′ output a b p keptA keptB keptP =
-    ap (λ (w : Written). w .count) (check-noted a b p keptA keptB keptP output)

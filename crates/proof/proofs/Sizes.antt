@@ -8,7 +8,7 @@ use native.Mathlib.Omega.{arith}
 use lib.Dec.{T, leb→le}
 use lib.ListN.{length, take, drop, length-map, length-take}
 use lib.IntN.{ℤ, pos, negsuc, natAbs, _*ℤ_, zero-*ℤ}
-use Rattle.integers.specs.Linear.{ints}
+use Rattle.integers.proofs.Differences.{ints}
 use Rattle.integers.specs.Remainder.{remainder}
 use Rattle.integers.specs.Magnitude.{Within}
 use Rattle.forms.specs.Reduced.{reduced, Residue, Residues}
@@ -28,7 +28,7 @@ use Rattle.fields.proofs.Contents.{ItemBytes, contents-bytes}
 use Rattle.bundle.specs.Layout.{Each, States, BundleFile}
 use Rattle.formula.specs.Formula.{encode, formulaFile, Encodable, height, readFormula}
 use Rattle.formula.proofs.RoundTrip.{leaves, read-written, length-encode, length-formulaFile}
-use Rattle.proof.specs.Entries.{Tagged, combineTag, reduceTag, scaleTag, strengthenTag, numberTag, strideTag, claimTag, entryFrom, multiplier}
+use Rattle.proof.specs.Entries.{EntryTag, combineTag, reduceTag, scaleTag, strengthenTag, numberTag, strideTag, claimTag, entryFrom, multiplier}
 use Rattle.proof.specs.Layout.{Enters, ProofFile, Certifies}
 
 -- ---- forms of K coefficients
@@ -57,7 +57,7 @@ module _ {K : ℕ} where
   size-reduced g {t} h = record { size = length-map (t .coeffs) (λ (c : ℤ). pos (remainder g c)) ∙ h .size }
 
 -- ---- forms of numbers within the edition's range
-pub record Ranged (range : ℕ) (t : Form) : Type 0 where
+pub record FormRanged (range : ℕ) (t : Form) : Type 0 where
   pub coeffs : All (Within range) (t .coeffs)
   pub d : Within range (t .d)
 
@@ -75,7 +75,7 @@ module _ {range : ℕ} where
   every-within [] t = nil
   every-within (z ∷ zs) t = let b = and-both (small range z) (every (small range) zs) t in cons (small-within z (b .0)) (every-within zs (b .1))
 
-  tA-ranged : (l : Line) → T (inRange range l) → Ranged range (l .tA)
+  tA-ranged : (l : Line) → T (inRange range l) → FormRanged range (l .tA)
   unfolding inRange
   tA-ranged l t =
       let last = and-both (every (small range) (l .t .coeffs) && small range (l .t .d) && every (small range) (l .tA .coeffs)) (small range (l .tA .d)) t in
@@ -89,7 +89,7 @@ module _ {range : ℕ} where
   zeros-within [] = nil
   zeros-within (z ∷ zs) = cons (zero-within z) (zeros-within zs)
 
-  zero-ranged : (t : Form) → Ranged range (pos 0 · t)
+  zero-ranged : (t : Form) → FormRanged range (pos 0 · t)
   unfolding _·_
   zero-ranged t = record { coeffs = zeros-within (t .coeffs); d = zero-within (t .d) }
 
@@ -97,7 +97,7 @@ module _ {range : ℕ} where
 -- A form of K coefficients whose numbers are within edition 1's range.
 pub record Fit (K : ℕ) (t : Form) : Type 0 where
   pub sized : Size K t
-  pub ranged : Ranged 2147483647 t
+  pub ranged : FormRanged 2147483647 t
 
 record FitLine (K : ℕ) (l : Line) : Type 0 where
   fit : Fit K (l .tA)
@@ -137,9 +137,9 @@ RowShort (Strengthen t) = Unit {0}
 RowShort (CloseNumber t) = Unit {0}
 RowShort (CloseStride t g) = g < 65536
 
-abbrev pub Short : Entry → Type 0
-Short (row r) = RowShort r
-Short (claim t tA) = Unit {0}
+abbrev pub EntryShort : Entry → Type 0
+EntryShort (row r) = RowShort r
+EntryShort (claim t tA) = Unit {0}
 
 abbrev ShortFormula : Formula → Type 0
 ShortFormula (literal k t) = Unit {0}
@@ -153,11 +153,11 @@ all-head (cons h hs) = h
 all-tail : {P : Entry → Type 0} {x : Entry} {xs : List Entry} → All P (x ∷ xs) → All P xs
 all-tail (cons h hs) = hs
 
-unclaimed : (claimed : Bool) (l : Line) (es : List Entry) → All Short (claims claimed l es) → All Short es
+unclaimed : (claimed : Bool) (l : Line) (es : List Entry) → All EntryShort (claims claimed l es) → All EntryShort es
 unclaimed true l es h = all-tail h
 unclaimed false l es h = h
 
-closed-short : {e : Edition} {inB : ℕ → Bool} {ls : List Line} {I : Formula} (p : Closed e inB ls I) (es : List Entry) → All Short (entries p es) → ShortFormula I × All Short es
+closed-short : {e : Edition} {inB : ℕ → Bool} {ls : List Line} {I : Formula} (p : Closed e inB ls I) (es : List Entry) → All EntryShort (entries p es) → ShortFormula I × All EntryShort es
 closed-short (derive {l = l} claimed n _ p) es h = closed-short p es (unclaimed claimed l (entries p es) (all-tail h))
 closed-short (strengthen i _ _ p1 pE p0) es h =
     let first = closed-short p1 (entries pE (entries p0 es)) (all-tail h) in
@@ -219,7 +219,7 @@ Stated K cs = All (λ c. FormInWidth 2 K (c .form)) cs
 pub proves-height : {a b : List Constraint} {es : List Entry} {I : Formula} → Proves edition1 a b es I → height I ≤ 64
 proves-height p = omega (arith, closed-height (p .proof), p .opened)
 
-module _ (K : ℕ) {a b : List Constraint} {es : List Entry} {I : Formula} (p : Proves edition1 a b es I) (inA : Stated K a) (inB : Stated K b) (short : All Short es) where
+module _ (K : ℕ) {a b : List Constraint} {es : List Entry} {I : Formula} (p : Proves edition1 a b es I) (inA : Stated K a) (inB : Stated K b) (short : All EntryShort es) where
   pub proves-encodable : Encodable K I
   proves-encodable = encodable K I (closed-fit K (p .proof) (initial-fit K (all-weaken (λ _. two-fit) inA) (all-weaken (λ _. two-fit) inB))) (closed-short (p .proof) [] (rw (p .are) short) .0)
 
@@ -243,7 +243,7 @@ two-bytes bs h =
     let most : 256 ^ length own ≤ 256 ^ 2 = pow-le-pow-right (omega arith) few in
     omega (arith, unsigned-below own (all-take 2 (all-drop 1 h)))
 
-entry-short : (K : ℕ) (tagged : Tagged) (bs : List ℕ) → Bytes bs → Short (entryFrom edition1 K tagged bs)
+entry-short : (K : ℕ) (tagged : EntryTag) (bs : List ℕ) → Bytes bs → EntryShort (entryFrom edition1 K tagged bs)
 unfolding entryFrom
 entry-short K combineTag bs h = tt
 entry-short K reduceTag bs h = tt
@@ -253,11 +253,11 @@ entry-short K numberTag bs h = tt
 entry-short K strideTag bs h = two-bytes bs h
 entry-short K claimTag bs h = tt
 
-enters-short : (K : ℕ) {is : List Item} {es : List Entry} → All ItemBytes is → Each (Enters edition1 K) is es → All Short es
+enters-short : (K : ℕ) {is : List Item} {es : List Entry} → All ItemBytes is → Each (Enters edition1 K) is es → All EntryShort es
 enters-short K h Each.nil = nil
-enters-short K (cons {x = i} h hs) (Each.cons s ss) = cons (subst Short (s .entry) (entry-short K (s .tagged) (i .contents) (h .bytes))) (enters-short K hs ss)
+enters-short K (cons {x = i} h hs) (Each.cons s ss) = cons (subst EntryShort (s .entry) (entry-short K (s .tagged) (i .contents) (h .bytes))) (enters-short K hs ss)
 
-proof-short : {file : List ℕ} {K : ℕ} {es : List Entry} → Bytes file → ProofFile file K es → All Short es
+proof-short : {file : List ℕ} {K : ℕ} {es : List Entry} → Bytes file → ProofFile file K es → All EntryShort es
 proof-short {file} {K} h f = enters-short K (all-drop 2 (contents-bytes file h (f .whole))) (f .enters)
 
 -- What three files certify is written as a file that reads back, and is not too long.

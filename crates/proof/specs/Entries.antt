@@ -8,16 +8,17 @@ use lib.ListN.{length, take, drop}
 use Rattle.forms.specs.Edition.{Edition}
 use Rattle.forms.specs.Forms.{Line}
 use Rattle.calculus.specs.Rules.{Combine, Reduce, Scale, Derive, Strengthen, CloseNumber, CloseStride, Entry, row, claim}
+use Rattle.fields.specs.declared.Answer.{Answer}
 use Rattle.fields.specs.declared.FileKind.{FileKind}
-use Rattle.fields.specs.Answers.{answer, fileProof, Result, accepted, _>>=_, _>>_, need, found}
+use Rattle.fields.specs.Answers.{Result, accepted, _>>=_, _>>_, need, found}
 use Rattle.fields.specs.Numbers.{unsigned, signed, formFrom, formWidth}
 use Rattle.fields.specs.Fields.{Field}
 use Rattle.fields.specs.Header.{known}
 
-pub data Tagged : Type 0 where
-  combineTag reduceTag scaleTag strengthenTag numberTag strideTag claimTag : Tagged
+pub data EntryTag : Type 0 where
+  combineTag reduceTag scaleTag strengthenTag numberTag strideTag claimTag : EntryTag
 
-unfoldable pub entryTagged : ℕ → Option Tagged
+unfoldable pub entryTagged : ℕ → Option EntryTag
 entryTagged tag =
     elim (eqb tag 0x10) [
       | true ↦ some combineTag
@@ -46,7 +47,7 @@ entryTagged tag =
     ]
 
 -- A claim stands directly after a row 0x10 to 0x12 only; `made` is the line that the row before it made, if it is one of these.
-unfoldable pub inPlace : (made : Option Line) → Tagged → Bool
+unfoldable pub inPlace : (made : Option Line) → EntryTag → Bool
 inPlace made combineTag = true
 inPlace made reduceTag = true
 inPlace made scaleTag = true
@@ -65,7 +66,7 @@ module _ (e : Edition) where
   multiplier n i bs = take (e .multiplierWidth) (drop (n * e .lineWidth + i * e .multiplierWidth) bs)
 
   module _ (K : ℕ) where
-    unfoldable pub sizeOf : Tagged → ℕ
+    unfoldable pub sizeOf : EntryTag → ℕ
     sizeOf combineTag = 2 * e .lineWidth + 2 * e .multiplierWidth
     sizeOf reduceTag = 2 * e .lineWidth + e .multiplierWidth
     sizeOf scaleTag = e .lineWidth + e .multiplierWidth
@@ -75,7 +76,7 @@ module _ (e : Edition) where
     sizeOf claimTag = 2 * formWidth (e .termWidth) K
 
     -- Parameters in the order given; multipliers are signed only in 0x11. A claim is t then tA.
-    unfoldable pub entryFrom : Tagged → List ℕ → Entry
+    unfoldable pub entryFrom : EntryTag → List ℕ → Entry
     entryFrom combineTag bs = row (Derive (Combine (lineNumber 0 bs) (lineNumber 1 bs) (unsigned (multiplier 2 0 bs)) (unsigned (multiplier 2 1 bs))))
     entryFrom reduceTag bs = row (Derive (Reduce (lineNumber 0 bs) (lineNumber 1 bs) (signed (multiplier 2 0 bs))))
     entryFrom scaleTag bs = row (Derive (Scale (lineNumber 0 bs) (unsigned (multiplier 1 0 bs))))
@@ -84,11 +85,11 @@ module _ (e : Edition) where
     entryFrom strideTag bs = row (CloseStride (lineNumber 0 bs) (unsigned (multiplier 1 0 bs)))
     entryFrom claimTag bs = claim (formFrom (e .termWidth) K bs) (formFrom (e .termWidth) K (drop (formWidth (e .termWidth) K) bs))
 
-    -- The entry that a field states. 3, 4, 6.
-    unfoldable pub entry : (made : Option Line) → Field → Result Entry
-    entry made f = do
-      need (answer 3 fileProof (f .at)) (known FileKind.Proof (f .tag))
-      tagged ← found (answer 4 fileProof (f .at)) (entryTagged (f .tag))
-      need (answer 4 fileProof (f .at)) (inPlace made tagged)
-      need (answer 6 fileProof (f .at)) (eqb (length (f .contents)) (sizeOf tagged))
+    -- The entry that a field states; `refusal` gives the refusal by a number at this field. 3, 4, 6.
+    unfoldable pub entry : (refusal : ℕ → Answer) (made : Option Line) → Field → Result Entry
+    entry refusal made f = do
+      need (refusal 3) (known FileKind.Proof (f .tag))
+      tagged ← found (refusal 4) (entryTagged (f .tag))
+      need (refusal 4) (inPlace made tagged)
+      need (refusal 6) (eqb (length (f .contents)) (sizeOf tagged))
       accepted (entryFrom tagged (f .contents))

@@ -9,11 +9,11 @@ use Rattle.forms.specs.Forms.{Constraint, Formula}
 use Rattle.calculus.specs.Rules.{Entry, Proves}
 use Rattle.fields.specs.Fields.{Item, item, fields, items}
 use Rattle.bundle.specs.Layout.{Each, BundleFile}
-use Rattle.proof.specs.Entries.{Tagged, entryTagged, sizeOf, entryFrom}
+use Rattle.proof.specs.Entries.{EntryTag, entryTagged, sizeOf, entryFrom}
 
 -- A field of a row's or a claim's tag and length states that entry.
 pub record Enters (e : Edition) (K : ℕ) (i : Item) (x : Entry) : Type 0 where
-  pub tagged : Tagged
+  pub tagged : EntryTag
   pub tag : entryTagged (i .tag) ≡ some tagged
   pub size : length (i .contents) ≡ sizeOf e K tagged
   pub entry : entryFrom e K tagged (i .contents) ≡ x

@@ -2,5 +2,6 @@
 pub mod Entries
 pub mod Rows
 pub mod Check
+pub mod Tree
 pub mod Layout
 pub mod Stages

@@ -2,12 +2,12 @@
 use mathlib.Core.Path.{_≡_, refl, sym, ap, ap₂, _∙_}
 use mathlib.Core.Bool.{Bool, true, false, _&&_, and-assoc, and-true}
 use mathlib.Core.List.{List, [], _∷_, _++_}
-use Prim.Native.Nat.{ℕ, zero, suc, _+_, _-_, _*_, _^_, _≤_, _<_}
+use Prim.Native.Nat.{ℕ, suc, _+_, _-_, _*_, _^_, _≤_, _<_}
 use native.Mathlib.Nat.{add-zero}
 use native.Mathlib.Numerals.{add-one}
 use native.Mathlib.Omega.{arith}
 use lib.ListN.{length, getD, take, drop, length-drop}
-use lib.Seq.{drop-cons, drop-drop, take-take, length-take-le}
+use lib.Seq.{drop-cons, drop-drop, length-take-le}
 use lib.IntN.{ℤ, pos}
 use lib.Signed.{mag}
 use mir.Syntax.{w64}
@@ -15,9 +15,12 @@ use mir.Val.{toZ, ofZ, hbits}
 use mir.ValLaws.{toZ-ofZ}
 use Rattle.integers.specs.Linear.{eqZ}
 use Rattle.fields.specs.Numbers.{signed, signeds, formFrom, formWidth}
-use Rattle.lines.specs.Parts.{part, part-take}
-use Rattle.lines.specs.Buffer.{size, formIn, lineIn}
-use Rattle.lines.specs.Range.{part-form}
+use Rattle.fields.proofs.Signed.{drop-take, length-signeds, signeds-take, signeds-last}
+use Rattle.lines.specs.Parts.{part}
+use Rattle.lines.proofs.Parts.{part-take}
+use Rattle.forms.specs.Flat.{formIn}
+use Rattle.lines.specs.Buffer.{size, lineIn}
+use Rattle.forms.proofs.Flat.{part-form}
 use Rattle.proof.specs.Rows.{equals, sameForm, states}
 use Rattle.rows.specs.Claims.{Claimed}
 
@@ -72,36 +75,6 @@ module _ (p : List ℕ) (start : ℕ) (buf : List ℤ) (at : ℕ) where
       sym (g .same ∙ ap (rest x) z) ∙ whole (k + 1)
 
 -- ---- form by form
-drop-take : {A : Type 0} (o n : ℕ) (l : List A) → o ≤ n → drop o (take n l) ≡ take (n - o) (drop o l)
-drop-take zero n l h = let e : n - 0 ≡ n = omega arith in rw e
-drop-take (suc o) zero l h = absurd (omega arith)
-drop-take (suc o) (suc n) [] h = nil (suc n - suc o)
-  where
-    nil : {A : Type 0} (n : ℕ) → _≡_ {A = List A} [] (take n [])
-    nil zero = refl
-    nil (suc n) = refl
-drop-take (suc o) (suc n) (x ∷ l) h = let e : suc n - suc o ≡ n - o = omega arith in rw e (drop-take o n l (omega arith))
-
-signeds-take : (n m : ℕ) (bs : List ℕ) → n * 4 ≤ m → signeds 4 n (take m bs) ≡ signeds 4 n bs
-unfolding signeds
-signeds-take zero m bs h = refl
-signeds-take (suc n) m bs h =
-    let q : 4 ≤ m = omega arith in
-    ap₂ (λ (x : List ℕ) (ys : List ℤ). signed x ∷ ys) (take-take 4 m bs q)
-    (ap (signeds 4 n) (drop-take 4 m bs q) ∙ signeds-take n (m - 4) (drop 4 bs) (omega arith))
-
-signeds-snoc : (n : ℕ) (bs : List ℕ) → signeds 4 (suc n) bs ≡ signeds 4 n bs ++ (signed (take 4 (drop (n * 4) bs)) ∷ [])
-unfolding signeds
-signeds-snoc zero bs = refl
-signeds-snoc (suc n) bs =
-    ap (λ (zs : List ℤ). signed (take 4 bs) ∷ zs)
-    (signeds-snoc n (drop 4 bs) ∙ let e : 4 + n * 4 ≡ suc n * 4 = omega arith in rw (drop-drop (n * 4) 4 bs, e))
-
-length-signeds : (n : ℕ) (bs : List ℕ) → length (signeds 4 n bs) ≡ n
-unfolding signeds
-length-signeds zero bs = refl
-length-signeds (suc n) bs = ap suc (length-signeds n (drop 4 bs))
-
 equals-snoc : (l m : List ℤ) (x y : ℤ) → length l ≡ length m → equals (l ++ (x ∷ [])) (m ++ (y ∷ [])) ≡ equals l m && eqZ x y
 unfolding equals
 equals-snoc [] [] x y h = and-true (eqZ x y)
@@ -113,14 +86,14 @@ module _ (K : ℕ) (bs : List ℕ) (buf : List ℤ) (at : ℕ) (room : at + K < 
   form-same-as : equals (signeds 4 (K + 1) bs) (part at (K + 1) buf) ≡ sameForm (formFrom 4 K bs) (formIn K buf at)
   unfolding sameForm formFrom
   form-same-as =
-      rw (add-one K, signeds-snoc K bs, ← add-one K, part-form at K buf room)
+      rw (add-one K, signeds-last 4 K bs, ← add-one K, part-form at K buf room)
       (equals-snoc (signeds 4 K bs) (part at K buf) (signed (take 4 (drop (K * 4) bs))) (getD buf (at + K) (pos 0))
-      (length-signeds K bs ∙ sym (length-take-le K (drop at buf) (simp length-drop (omega arith)))))
+      (length-signeds 4 K bs ∙ sym (length-take-le K (drop at buf) (simp length-drop (omega arith)))))
 
 form-take : (K m : ℕ) (bs : List ℕ) → suc K * 4 ≤ m → formFrom 4 K (take m bs) ≡ formFrom 4 K bs
 unfolding formFrom
 form-take K m bs h =
-    ap₂ (λ (l : List ℤ) (z : ℤ). record { coeffs = l; d = z }) (signeds-take K m bs (omega arith)) (ap signed (part-take (K * 4) 4 m bs (omega arith)))
+    ap₂ (λ (l : List ℤ) (z : ℤ). record { coeffs = l; d = z }) (signeds-take 4 K m bs (omega arith)) (ap signed (part-take (K * 4) 4 m bs (omega arith)))
 
 module _ (K : ℕ) (p : List ℕ) (start : ℕ) (buf : List ℤ) (i : ℕ) (long : i * size K + size K ≤ length buf) where
   claim-is : {x y : ℕ} {b c : Bool} → x ≡ i * size K → y ≡ i * size K + (K + 1)

@@ -3,24 +3,24 @@ use mathlib.Core.Path.{_≡_, refl, sym, ap, _∙_}
 use mathlib.Core.Bool.{Bool, true, false, true≢false}
 use lib.Dec.{ltb}
 use Rattle.forms.specs.Edition.{edition1}
-use Rattle.rows.specs.Tally.{counted, rowCounted, lineCounted, openCounted}
+use Rattle.rows.specs.Tally.{tallied, rowCounted, lineCounted, openCounted}
 use Rattle.rows.specs.declared.tally.Tally.{Tally}
-use Rattle.rows.specs.declared.tally.Counted.{Counted}
+use Rattle.rows.specs.declared.tally.Tallied.{Tallied}
 
-abbrev pub Keeps : (Tally → Counted) → Type 0
+abbrev pub Keeps : (Tally → Tallied) → Type 0
 Keeps f = (t : Tally) → f t .made ≡ false → f t .tally ≡ t
 
-refused : (b : Bool) (next same : Tally) → counted b next same .made ≡ false → counted b next same .tally ≡ same
+refused : (b : Bool) (next same : Tally) → tallied b next same .made ≡ false → tallied b next same .tally ≡ same
 refused true next same isnt = absurd (true≢false isnt)
 refused false next same isnt = refl
 
 -- a step that was made had room, and one that was not had none
-pub counted-made : (b : Bool) (next same : Tally) {r : Counted} → r ≡ counted b next same → r .made ≡ true → (b ≡ true) × (r .tally ≡ next)
-counted-made true next same e h = (refl, ap (λ (x : Counted). x .tally) e)
-counted-made false next same e h = absurd (true≢false (sym h ∙ ap (λ (x : Counted). x .made) e))
+pub counted-made : (b : Bool) (next same : Tally) {r : Tallied} → r ≡ tallied b next same → r .made ≡ true → (b ≡ true) × (r .tally ≡ next)
+counted-made true next same e h = (refl, ap (λ (x : Tallied). x .tally) e)
+counted-made false next same e h = absurd (true≢false (sym h ∙ ap (λ (x : Tallied). x .made) e))
 
-pub counted-full : (b : Bool) (next same : Tally) {r : Counted} → r ≡ counted b next same → r .made ≡ false → b ≡ false
-counted-full true next same e h = absurd (true≢false (sym (ap (λ (x : Counted). x .made) e) ∙ h))
+pub counted-full : (b : Bool) (next same : Tally) {r : Tallied} → r ≡ tallied b next same → r .made ≡ false → b ≡ false
+counted-full true next same e h = absurd (true≢false (sym (ap (λ (x : Tallied). x .made) e) ∙ h))
 counted-full false next same e h = refl
 
 pub row-keeps : Keeps rowCounted

@@ -39,11 +39,11 @@ use denote.Triple.Clauses.{ensured, lasts, closing}
 use denote.Triple.Walked.{says, Stays, stay-none, walkOf, goes-none, Walks, ends-at, walked, walk-meets}
 use Rattle.rows.specs.Tally.{Advanced}
 use Rattle.rows.specs.declared.tally.Tally.{Tally}
-use Rattle.rows.specs.declared.tally.Counted.{Counted}
+use Rattle.rows.specs.declared.tally.Tallied.{Tallied}
 use Rattle.rows.proofs.tally.Tally as T
 use Rattle.rows.proofs.tally.Tally.Laws as T′
-use Rattle.rows.proofs.tally.Counted as D
-use Rattle.rows.proofs.tally.Counted.Laws as D′
+use Rattle.rows.proofs.tally.Tallied as D
+use Rattle.rows.proofs.tally.Tallied.Laws as D′
 use Rattle.rows.proofs.Lent.{ended, clauses, Lent, valued-signature, valued-ended, valued-clauses}
 
 -- the MIR of such a function, at the callee's key
@@ -79,14 +79,14 @@ module _ {M : Type 1} (𝓤 : URA M) (H : Heap 𝓤) (A : Atoms 𝓤) (W : Given
       spelt ! T.the-row (Is T.the-row) (shows 𝓤 H A T.the-row) (LL.vals T.the-type T′.the-laws) (LL.tells T.the-type T′.the-laws) fullShare h vs b o $
       use1 W (‵ (fat fullShare T′.mir b o (T′.lowered h))) (W .laws .raw-at fullShare T′.mir b o (T′.lowered h)) $ frame ! $ done !)
 
-module _ (f : Tally → Counted) {M : Type 1} (𝓤 : URA M) (H : Heap 𝓤) (A : Atoms 𝓤) (W : Given 𝓤 H A) (h : Tally) where
+module _ (f : Tally → Tallied) {M : Type 1} (𝓤 : URA M) (H : Heap 𝓤) (A : Atoms 𝓤) (W : Given 𝓤 H A) (h : Tally) where
   abbrev at : List Val × Unit {0}
   at = (T′.lowered h ∷ [], tt)
 
   abbrev Post : Val → SProp 𝓤
   Post = walkOf 𝓤 H A valued-ended stayed (valued-clauses f 𝓤) .post ((tt, tt, tt, (h, tt), at), tt)
 
-  abbrev made : Tally → Bool → Counted
+  abbrev made : Tally → Bool → Tallied
   made t m = record { made = m; tally = t }
 
   exits : (t : Tally) (m : Bool) → Is T.the-row t (T′.lowered t ∷ []) → Advanced f h t m → ent 𝓤 (sem 𝓤 H A (owns (T.the-row ∷ []) (h, tt) at)) (Post (D′.lowered (made t m)))
@@ -137,7 +137,7 @@ module _ (f : Tally → Counted) {M : Type 1} (𝓤 : URA M) (H : Heap 𝓤) (A 
         move ! (13 ∷ 14 ∷ []) $ free1 ! $ move ! (11 ∷ 12 ∷ []) $ free1 ! $ move ! (1 ∷ 10 ∷ []) $ free1 ! $ move ! (7 ∷ 8 ∷ []) $ free1 ! $ move ! (5 ∷ 6 ∷ []) $ free1 ! $ move ! (3 ∷ 4 ∷ []) $ free1 ! $ free0 ! $
         keep ! (4 ∷ []) $ by ! (exits (ws .0) r left e)))))))))))))))
 
-module _ (f : Tally → Counted) {M : Type 1} (𝓤 : URA M) (H : Heap 𝓤) (A : Atoms 𝓤) (W : Given 𝓤 H A) where
+module _ (f : Tally → Tallied) {M : Type 1} (𝓤 : URA M) (H : Heap 𝓤) (A : Atoms 𝓤) (W : Given 𝓤 H A) where
   walks : (C : Calls 𝓤 H) (Λ : Loops 𝓤 H) → FmC 𝓤 H (W .laws) C → (k : Name) → Triple 𝓤 (C k) (Lent f 𝓤 H A) → Walks 𝓤 H A valued-ended stayed (WpFn 𝓤 H C Λ (lendingFn k)) (valued-clauses f 𝓤)
   walks C Λ fm k known = walked 𝓤 H A valued-ended stayed (valued-clauses f 𝓤) (WpFn 𝓤 H C Λ (lendingFn k)) (λ κs. (LL.vals T.the-type T′.the-laws, tt)) (λ κs. (LL.tells T.the-type T′.the-laws, tt))
       (λ κs qs bounds a g are. via 𝓤 _ (fst∗ 𝓤 _ (emp 𝓤)) (walk f 𝓤 H A W (a .0) C Λ fm k known (are .0)))

@@ -38,12 +38,12 @@ use denote.Triple.Clauses.{Clauses, Ended, ensured, lasts, closing}
 use denote.Triple.Walked.{says, Stays, stay-ref, walkOf, goes-ref, Walks, ends-at, walked, walk-meets}
 use Rattle.rows.specs.Tally.{Advanced}
 use Rattle.rows.specs.declared.tally.Tally.{Tally}
-use Rattle.rows.specs.declared.tally.Counted.{Counted}
+use Rattle.rows.specs.declared.tally.Tallied.{Tallied}
 use Rattle.rows.proofs.Counting.{Keeps}
 use Rattle.rows.proofs.tally.Tally as T
 use Rattle.rows.proofs.tally.Tally.Laws as T′
-use Rattle.rows.proofs.tally.Counted as D
-use Rattle.rows.proofs.tally.Counted.Laws as D′
+use Rattle.rows.proofs.tally.Tallied as D
+use Rattle.rows.proofs.tally.Tallied.Laws as D′
 
 -- the MIR of such a function, at the callee's key
 abbrev lentFn : Name → Fn
@@ -74,7 +74,7 @@ valued-ended = record { signature = valued-signature; kept = (yes, tt) }
 abbrev stayed : Stays (ended .signature .params) (ended .kept)
 stayed = (stay-ref (0 ∷ []) tt (plain (λ _. T.the-row)), tt)
 
-module _ (f : Tally → Counted) {M : Type 1} (𝓤 : URA M) where
+module _ (f : Tally → Tallied) {M : Type 1} (𝓤 : URA M) where
   abbrev pub clauses : Clauses 𝓤 ended
   clauses κs a = record { ghost = Unit {0}; requires = λ _. emp 𝓤; ensures = λ _ r e. fact 𝓤 (Advanced f (now (a .0)) (now (e .0)) r) }
 
@@ -88,10 +88,10 @@ module _ (f : Tally → Counted) {M : Type 1} (𝓤 : URA M) where
     abbrev pub Valued : Contract 𝓤
     Valued = tripleOf 𝓤 H A valued-signature (closing 𝓤 H A valued-ended valued-clauses)
 
-    valued-said : (h : Tally) (r : Counted) → ent 𝓤 (ensured 𝓤 H A valued-ended valued-clauses tt (h, tt) tt r) (fact 𝓤 (r ≡ f h))
+    valued-said : (h : Tally) (r : Tallied) → ent 𝓤 (ensured 𝓤 H A valued-ended valued-clauses tt (h, tt) tt r) (fact 𝓤 (r ≡ f h))
     valued-said h r = exE 𝓤 _ (λ ws. snd∗ 𝓤 (sem 𝓤 H A (lasts valued-ended tt (h, tt) ws)) (fact 𝓤 (r ≡ f h)))
 
-module _ (f : Tally → Counted) (keeps : Keeps f) {M : Type 1} (𝓤 : URA M) (H : Heap 𝓤) (A : Atoms 𝓤) (W : Given 𝓤 H A) (κ : Lft) (q : Share) (b o : ℕ) (γ : GName) (h : Tally) where
+module _ (f : Tally → Tallied) (keeps : Keeps f) {M : Type 1} (𝓤 : URA M) (H : Heap 𝓤) (A : Atoms 𝓤) (W : Given 𝓤 H A) (κ : Lft) (q : Share) (b o : ℕ) (γ : GName) (h : Tally) where
   abbrev x : RefT Tally × Unit {0}
   x = (record { ptr = (b, o); name = γ; now = h }, tt)
 
@@ -101,14 +101,14 @@ module _ (f : Tally → Counted) (keeps : Keeps f) {M : Type 1} (𝓤 : URA M) (
   abbrev Post : Val → SProp 𝓤
   Post = walkOf 𝓤 H A ended stayed (clauses f 𝓤) .post (((κ, tt), (q, tt), tt, x, at), tt)
 
-  advances : (r : Counted) → r ≡ f h → Advanced f h (r .tally) (r .made)
+  advances : (r : Tallied) → r ≡ f h → Advanced f h (r .tally) (r .made)
   advances r e = record {
-    tally-is = ap (λ (c : Counted). c .tally) e;
-    made-is = ap (λ (c : Counted). c .made) e;
-    refused = λ isnt. ap (λ (c : Counted). c .tally) e ∙ keeps h (sym (ap (λ (c : Counted). c .made) e) ∙ isnt);
+    tally-is = ap (λ (c : Tallied). c .tally) e;
+    made-is = ap (λ (c : Tallied). c .made) e;
+    refused = λ isnt. ap (λ (c : Tallied). c .tally) e ∙ keeps h (sym (ap (λ (c : Tallied). c .made) e) ∙ isnt);
   }
 
-  exits : (r : Counted) → r ≡ f h → ent 𝓤 (sep 𝓤 (A .obs γ (T.the-row .coded .code (r .tally))) (sep 𝓤 (A .bor κ (Body (mem T.the-row) b o γ)) (A .lft κ q))) (Post (vbool (r .made)))
+  exits : (r : Tallied) → r ≡ f h → ent 𝓤 (sep 𝓤 (A .obs γ (T.the-row .coded .code (r .tally))) (sep 𝓤 (A .bor κ (Body (mem T.the-row) b o γ)) (A .lft κ q))) (Post (vbool (r .made)))
   exits r e =
       qed W (‵ (fobs γ (T.the-row .coded .code (r .tally))) ∷ ‵ (fbor κ (Body (mem T.the-row) b o γ)) ∷ ‵ (flft κ q) ∷ []) ∵
       suffices ! _ (ends-at 𝓤 H A ended stayed (clauses f 𝓤) W (((κ, tt), (q, tt), tt, x, at), tt) (vbool (r .made)) (r .made) (r .tally, tt) (tt, tt)) $ says ! (advances r e) $
@@ -122,7 +122,7 @@ module _ (f : Tally → Counted) (keeps : Keeps f) {M : Type 1} (𝓤 : URA M) (
   asked = qed W (‵ (T.the-row .own h (T′.lowered h ∷ [])) ∷ []) ∵ nothing ! $ move ! (1 ∷ 0 ∷ []) $ join ! $ nothing ! $ join ! $ frame ! $ done !
 
   -- that the callee's result has its MIR type, at its machine value spelled out
-  typed : (r : Counted) (u : Val) → Is D.the-row r (u ∷ []) → Holds (hasTy D′.mir (D′.lowered r)) × WT (D′.lowered r)
+  typed : (r : Tallied) (u : Val) → Is D.the-row r (u ∷ []) → Holds (hasTy D′.mir (D′.lowered r)) × WT (D′.lowered r)
   typed r u is = LL.lawful D.the-type D′.the-laws 𝓤 H A W .typed r _ (LL.owes D.the-type D′.the-laws r (LL.owed D.the-type D′.the-laws r _ is)) .0
 
   module _ (C : Calls 𝓤 H) (Λ : Loops 𝓤 H) (fm : FmC 𝓤 H (W .laws) C) (k : Name) (known : Triple 𝓤 (C k) (Valued f 𝓤 H A)) where
@@ -138,7 +138,7 @@ module _ (f : Tally → Counted) (keeps : Keeps f) {M : Type 1} (𝓤 : URA M) (
         assigns ! (of-opd ! (load ! (from ! (hop ! (look ! 9 refl) (stop !))) (look-raw ! 0 refl))) (from ! (stop !)) (init ! 5 refl (LL.lawful T.the-type T′.the-laws 𝓤 H A W .typed h _ was .0)) $
         owned ! T.the-row (Is T.the-row) (LL.makes T.the-type T′.the-plain 𝓤 H A) h _ was $ use1 W (raw (Valued f 𝓤 H A .pre to)) asked $
         calls-at ! fm (Valued f 𝓤 H A) known to (and-then ! (load ! (from ! (stop !)) (look ! 6 refl)) (no-more !)) (λ u.
-        use1 W (later (some (λ (r : Counted). (‵ ftrue ⊛ ‵ (D.the-row .own r (u ∷ []))) ⊛ raw (ensured 𝓤 H A valued-ended (valued-clauses f 𝓤) tt (h, tt) tt r)))) (id⊢ 𝓤 _) $ await ! tt $ pick ! (λ r.
+        use1 W (later (some (λ (r : Tallied). (‵ ftrue ⊛ ‵ (D.the-row .own r (u ∷ []))) ⊛ raw (ensured 𝓤 H A valued-ended (valued-clauses f 𝓤) tt (h, tt) tt r)))) (id⊢ 𝓤 _) $ await ! tt $ pick ! (λ r.
         split ! $ move ! (1 ∷ []) $ use1 W (raw (fact 𝓤 (r ≡ f h))) (valued-said f 𝓤 H A h r) $ heard ! (r ≡ f h) (λ e. split ! $ drop ! $
         peeks ! D.the-row (Is D.the-row) (shows 𝓤 H A D.the-row) r (u ∷ []) (λ is.
         -- [what the result owns; the struct's cell; …; room for _2 at 8; …]
@@ -152,7 +152,7 @@ module _ (f : Tally → Counted) (keeps : Keeps f) {M : Type 1} (𝓤 : URA M) (
         returns ! (look ! 9 refl) $ forget ! 3 refl $ forget ! 5 refl $ forget ! 7 refl $ forget ! 9 refl $
         move ! (9 ∷ 10 ∷ []) $ free1 ! $ move ! (7 ∷ 8 ∷ []) $ free1 ! $ move ! (5 ∷ 6 ∷ []) $ free1 ! $ move ! (3 ∷ 4 ∷ []) $ free1 ! $ free0 ! $ keep ! (0 ∷ 1 ∷ 2 ∷ []) $ by ! (exits r e)))))))))))
 
-module _ (f : Tally → Counted) (keeps : Keeps f) {M : Type 1} (𝓤 : URA M) (H : Heap 𝓤) (A : Atoms 𝓤) (W : Given 𝓤 H A) where
+module _ (f : Tally → Tallied) (keeps : Keeps f) {M : Type 1} (𝓤 : URA M) (H : Heap 𝓤) (A : Atoms 𝓤) (W : Given 𝓤 H A) where
   walks : (C : Calls 𝓤 H) (Λ : Loops 𝓤 H) → FmC 𝓤 H (W .laws) C → (k : Name) → Triple 𝓤 (C k) (Valued f 𝓤 H A) → Walks 𝓤 H A ended stayed (WpFn 𝓤 H C Λ (lentFn k)) (clauses f 𝓤)
   walks C Λ fm k known = walked 𝓤 H A ended stayed (clauses f 𝓤) (WpFn 𝓤 H C Λ (lentFn k)) (λ κs. (ptr-vals, tt)) (λ κs. (mut-tells (named 0) (κs .0) T.the-row, tt))
       (λ κs qs bounds a _ _. via 𝓤 _ (fst∗ 𝓤 _ (emp 𝓤)) (walk f keeps 𝓤 H A W (κs .0) (qs .0) (a .0 .ptr .0) (a .0 .ptr .1) (a .0 .name) (a .0 .now) C Λ fm k known))

@@ -16,18 +16,18 @@ use Rattle.integers.specs.Magnitude.{Within}
 use Rattle.forms.specs.Edition.{edition1}
 use Rattle.forms.specs.Forms as forms
 use Rattle.calculus.specs.Rules as rules
-use Rattle.fields.specs.Answers.{answer, fileProof, refused, accepted, _>>=_, _>>_, need, found}
+use Rattle.fields.specs.declared.Answer.{Answer}
+use Rattle.fields.specs.Answers.{refused, accepted, _>>=_, _>>_, need, found}
 use Rattle.fields.specs.declared.FileKind.{FileKind}
 use Rattle.fields.specs.Fields.{Field}
 use Rattle.fields.specs.Header.{known, headerTag}
 use Rattle.fields.specs.Numbers.{unsigned, signed}
 use Rattle.fields.specs.Ranges.{Held}
-use Rattle.lines.specs.Parts.{part-part}
-use Rattle.proof.specs.Entries.{Tagged, combineTag, reduceTag, scaleTag, strengthenTag, numberTag, strideTag, claimTag, sizeOf, entryFrom, lineNumber, multiplier, entryTagged, inPlace, entry}
-use Rattle.rows.specs.Entries.{Multiplies, stated, Ranged, Shaped, claimed, there, Entered}
+use Rattle.lines.proofs.Parts.{part-part}
+use Rattle.proof.specs.Entries.{EntryTag, combineTag, reduceTag, scaleTag, strengthenTag, numberTag, strideTag, claimTag, sizeOf, entryFrom, lineNumber, multiplier, entryTagged, inPlace, entry}
+use Rattle.rows.specs.Entries.{Multiplies, entryOf, Ranged, Shaped, claimed, there, Entered}
 use Rattle.forms.specs.declared.LineNumber.{LineNumber}
 use Rattle.rows.specs.declared.entries.Entry.{Entry}
-use Rattle.rows.specs.declared.entries.Entry.the-variants.{Combine, Reduce, Scale, Strengthen, CloseNumber, CloseStride, Claim, Refused}
 
 pub multiplies-abs : {n : ℕ} {z : ℤ} → Multiplies n z → n ≡ natAbs z
 multiplies-abs m = sym (ap natAbs (m .is))
@@ -60,24 +60,24 @@ module _ (p : List ℕ) (start len : ℕ) (there : start + len ≤ length p) whe
   size : length (take len (drop start p)) ≡ len
   size = length-take-le len (drop start p) (simp length-drop (omega arith))
 
-  module _ (tagged : Tagged) (n : ℕ) (sizes : (K : ℕ) → sizeOf edition1 K tagged ≡ n) where
-    pub wrong-size : (len ≡ n → ⊥) → Shaped tagged p start len (Refused 6)
+  module _ (tagged : EntryTag) (n : ℕ) (sizes : (K : ℕ) → sizeOf edition1 K tagged ≡ n) where
+    pub wrong-size : (len ≡ n → ⊥) → Shaped tagged p start len (Entry.Refused 6)
     unfolding _>>_ need
-    wrong-size h = record { is = λ K at. rw (size, sizes K, ne-eqb len n h); ranged = λ K. tt }
+    wrong-size h = record { is = λ refusal K. rw (size, sizes K, ne-eqb len n h); ranged = λ K. tt }
 
-    right-size : {r : Entry} → len ≡ n → ((K at : ℕ) → stated K at (take len (drop start p)) r ≡ accepted (entryFrom edition1 K tagged (take len (drop start p))))
+    right-size : {r : Entry} → len ≡ n → ((refusal : ℕ → Answer) (K : ℕ) → entryOf refusal K (take len (drop start p)) r ≡ accepted (entryFrom edition1 K tagged (take len (drop start p))))
         → ((K : ℕ) → Ranged K start len r) → Shaped tagged p start len r
     unfolding _>>_ need
-    right-size h e g = record { is = λ K at. rw (size, sizes K, eq-eqb len n h) (e K at); ranged = g }
+    right-size h e g = record { is = λ refusal K. rw (size, sizes K, eq-eqb len n h) (e refusal K); ranged = g }
 
   pub combine-is : {s t : LineNumber} {α β : ℤ} → len ≡ 6
       → s .0 ≡ unsigned (take 1 (drop start p)) → t .0 ≡ unsigned (take 1 (drop (start + 1) p))
       → Multiplies (unsigned (take 2 (drop (start + 2) p))) α → Multiplies (unsigned (take 2 (drop (start + 4) p))) β
-      → Shaped combineTag p start len (Combine s t α β)
+      → Shaped combineTag p start len (Entry.Combine s t α β)
   unfolding sizeOf entryFrom lineNumber multiplier
   combine-is {s} {t} {α} {β} h es et a b =
       right-size combineTag 6 (λ K. refl) h
-      (λ K at.
+      (λ refusal K.
       let e₁ = es ∙ ap unsigned (first 1 (omega arith)) in
       let e₂ = et ∙ ap unsigned (bytes 1 1 (omega arith)) in
       let e₃ = sym (multiplies-abs a) ∙ ap unsigned (bytes 2 2 (omega arith)) in
@@ -88,11 +88,11 @@ module _ (p : List ℕ) (start len : ℕ) (there : start + len ≤ length p) whe
   pub reduce-is : {s t : LineNumber} {α : ℤ} → len ≡ 4
       → s .0 ≡ unsigned (take 1 (drop start p)) → t .0 ≡ unsigned (take 1 (drop (start + 1) p))
       → α ≡ signed (take 2 (drop (start + 2) p)) → Held 2 α
-      → Shaped reduceTag p start len (Reduce s t α)
+      → Shaped reduceTag p start len (Entry.Reduce s t α)
   unfolding sizeOf entryFrom lineNumber multiplier
   reduce-is {s} {t} {α} h es et a held =
       right-size reduceTag 4 (λ K. refl) h
-      (λ K at.
+      (λ refusal K.
       let e₁ = es ∙ ap unsigned (first 1 (omega arith)) in
       let e₂ = et ∙ ap unsigned (bytes 1 1 (omega arith)) in
       let e₃ = a ∙ ap signed (bytes 2 2 (omega arith)) in
@@ -101,69 +101,69 @@ module _ (p : List ℕ) (start len : ℕ) (there : start + len ≤ length p) whe
       (λ K. held-within held)
 
   pub scale-is : {t : LineNumber} {α : ℤ} → len ≡ 3 → t .0 ≡ unsigned (take 1 (drop start p)) → Multiplies (unsigned (take 2 (drop (start + 1) p))) α
-      → Shaped scaleTag p start len (Scale t α)
+      → Shaped scaleTag p start len (Entry.Scale t α)
   unfolding sizeOf entryFrom lineNumber multiplier
   scale-is h et a =
       right-size scaleTag 3 (λ K. refl) h
-      (λ K at.
+      (λ refusal K.
       let e₁ = et ∙ ap unsigned (first 1 (omega arith)) in
       let e₂ = sym (multiplies-abs a) ∙ ap unsigned (bytes 1 2 (omega arith)) in
       rw (e₁, e₂))
       (λ K. multiplies-own a)
 
   pub stride-is : {t : LineNumber} {g : ℤ} → len ≡ 3 → t .0 ≡ unsigned (take 1 (drop start p)) → Multiplies (unsigned (take 2 (drop (start + 1) p))) g
-      → Shaped strideTag p start len (CloseStride t g)
+      → Shaped strideTag p start len (Entry.CloseStride t g)
   unfolding sizeOf entryFrom lineNumber multiplier
   stride-is h et a =
       right-size strideTag 3 (λ K. refl) h
-      (λ K at.
+      (λ refusal K.
       let e₁ = et ∙ ap unsigned (first 1 (omega arith)) in
       let e₂ = sym (multiplies-abs a) ∙ ap unsigned (bytes 1 2 (omega arith)) in
       rw (e₁, e₂))
       (λ K. multiplies-own a)
 
-  pub strengthen-is : {t : LineNumber} → len ≡ 1 → t .0 ≡ unsigned (take 1 (drop start p)) → Shaped strengthenTag p start len (Strengthen t)
+  pub strengthen-is : {t : LineNumber} → len ≡ 1 → t .0 ≡ unsigned (take 1 (drop start p)) → Shaped strengthenTag p start len (Entry.Strengthen t)
   unfolding sizeOf entryFrom lineNumber
   strengthen-is h et =
       right-size strengthenTag 1 (λ K. refl) h
-      (λ K at. let e₁ = et ∙ ap unsigned (first 1 (omega arith)) in rw e₁)
+      (λ refusal K. let e₁ = et ∙ ap unsigned (first 1 (omega arith)) in rw e₁)
       (λ K. tt)
 
-  pub number-is : {t : LineNumber} → len ≡ 1 → t .0 ≡ unsigned (take 1 (drop start p)) → Shaped numberTag p start len (CloseNumber t)
+  pub number-is : {t : LineNumber} → len ≡ 1 → t .0 ≡ unsigned (take 1 (drop start p)) → Shaped numberTag p start len (Entry.CloseNumber t)
   unfolding sizeOf entryFrom lineNumber
   number-is h et =
       right-size numberTag 1 (λ K. refl) h
-      (λ K at. let e₁ = et ∙ ap unsigned (first 1 (omega arith)) in rw e₁)
+      (λ refusal K. let e₁ = et ∙ ap unsigned (first 1 (omega arith)) in rw e₁)
       (λ K. tt)
 
 -- ---- the entry of a field, by its tag
 abbrev fieldOf : (at tag : ℕ) → List ℕ → Field
 fieldOf at tag bs = record { at = at; tag = tag; contents = bs }
 
-module _ (K at tag : ℕ) (bs : List ℕ) (l : Option forms.Line) where
-  entry-unknown : known FileKind.Proof tag ≡ false → entry edition1 K l (fieldOf at tag bs) ≡ refused (answer 3 fileProof at)
+module _ (refusal : ℕ → Answer) (K at tag : ℕ) (bs : List ℕ) (l : Option forms.Line) where
+  entry-unknown : known FileKind.Proof tag ≡ false → entry edition1 K refusal l (fieldOf at tag bs) ≡ refused (refusal 3)
   unfolding entry _>>_ need
   entry-unknown e = rw e
 
-  entry-none : known FileKind.Proof tag ≡ true → entryTagged tag ≡ none → entry edition1 K l (fieldOf at tag bs) ≡ refused (answer 4 fileProof at)
+  entry-none : known FileKind.Proof tag ≡ true → entryTagged tag ≡ none → entry edition1 K refusal l (fieldOf at tag bs) ≡ refused (refusal 4)
   unfolding entry _>>_ _>>=_ need found
   entry-none e f = rw (e, f)
 
-  module _ (x : Tagged) (e : known FileKind.Proof tag ≡ true) (f : entryTagged tag ≡ some x) where
-    entry-out : inPlace l x ≡ false → entry edition1 K l (fieldOf at tag bs) ≡ refused (answer 4 fileProof at)
+  module _ (x : EntryTag) (e : known FileKind.Proof tag ≡ true) (f : entryTagged tag ≡ some x) where
+    entry-out : inPlace l x ≡ false → entry edition1 K refusal l (fieldOf at tag bs) ≡ refused (refusal 4)
     unfolding entry _>>_ _>>=_ need found
     entry-out g = rw (e, f, g)
 
     entry-in : inPlace l x ≡ true
-        → entry edition1 K l (fieldOf at tag bs) ≡ (need (answer 6 fileProof at) (eqb (length bs) (sizeOf edition1 K x)) >> accepted (entryFrom edition1 K x bs))
+        → entry edition1 K refusal l (fieldOf at tag bs) ≡ (need (refusal 6) (eqb (length bs) (sizeOf edition1 K x)) >> accepted (entryFrom edition1 K x bs))
     unfolding entry _>>_ _>>=_ need found
     entry-in g = rw (e, f, g)
 
 module _ {p : List ℕ} {tag start len : ℕ} (K : ℕ) (made : Bool) where
   -- of each tag below 0x20
-  entered : (x : Tagged) → known FileKind.Proof tag ≡ true → entryTagged tag ≡ some x → ((l : Option forms.Line) → inPlace l x ≡ true)
+  entered : (x : EntryTag) → known FileKind.Proof tag ≡ true → entryTagged tag ≡ some x → ((l : Option forms.Line) → inPlace l x ≡ true)
       → {r : Entry} → Shaped x p start len r → Entered K p tag start len made r
-  entered x e f g s = record { is = λ at l h. entry-in K at tag _ l x e f (g l) ∙ sym (s .is K at); ranged = s .ranged K }
+  entered x e f g s = record { is = λ refusal at l h. entry-in refusal K at tag _ l x e f (g l) ∙ sym (s .is refusal K); ranged = s .ranged K }
 
   module _ {r : Entry} where
     pub combine-in : tag ≡ 0x10 → Shaped combineTag p start len r → Entered K p tag start len made r
@@ -190,44 +190,44 @@ module _ {p : List ℕ} {tag start len : ℕ} (K : ℕ) (made : Bool) where
     unfolding known headerTag entryTagged inPlace
     stride-in e s = entered strideTag (rw e) (rw e) (λ l. refl) s
 
-  pub header-in : tag ≡ 0x01 → Entered K p tag start len made (Refused 4)
+  pub header-in : tag ≡ 0x01 → Entered K p tag start len made (Entry.Refused 4)
   unfolding known headerTag entryTagged
-  header-in e = record { is = λ at l h. entry-none K at tag _ l (rw e) (rw e); ranged = tt }
+  header-in e = record { is = λ refusal at l h. entry-none refusal K at tag _ l (rw e) (rw e); ranged = tt }
 
-  pub header-in-2 : tag ≡ 0x02 → Entered K p tag start len made (Refused 4)
+  pub header-in-2 : tag ≡ 0x02 → Entered K p tag start len made (Entry.Refused 4)
   unfolding known headerTag entryTagged
-  header-in-2 e = record { is = λ at l h. entry-none K at tag _ l (rw e) (rw e); ranged = tt }
+  header-in-2 e = record { is = λ refusal at l h. entry-none refusal K at tag _ l (rw e) (rw e); ranged = tt }
 
-  claimed-by : (b : Bool) → tag ≡ 0x20 → start + len ≤ length p → eqb len (8 * (K + 1)) ≡ b → Entered K p tag start len true (elim b [ true ↦ Claim start | false ↦ Refused 6 ])
+  claimed-by : (b : Bool) → tag ≡ 0x20 → start + len ≤ length p → eqb len (8 * (K + 1)) ≡ b → Entered K p tag start len true (elim b [ true ↦ Entry.Claim start | false ↦ Entry.Refused 6 ])
   unfolding known headerTag entryTagged inPlace sizeOf entryFrom _>>_ need
   claimed-by b e h q = record { is = is; ranged = ranged b q }
     where
       size-is : sizeOf edition1 K claimTag ≡ 8 * (K + 1)
       size-is = omega arith
 
-      by : (b : Bool) (at : ℕ) → eqb len (8 * (K + 1)) ≡ b
-          → (need (answer 6 fileProof at) (eqb (length (take len (drop start p))) (sizeOf edition1 K claimTag)) >> accepted (entryFrom edition1 K claimTag (take len (drop start p))))
-          ≡ stated K at (take len (drop start p)) (elim b [ true ↦ Claim start | false ↦ Refused 6 ])
-      by true at q = rw (size p start len h, size-is, q)
-      by false at q = rw (size p start len h, size-is, q)
+      by : (b : Bool) (refusal : ℕ → Answer) → eqb len (8 * (K + 1)) ≡ b
+          → (need (refusal 6) (eqb (length (take len (drop start p))) (sizeOf edition1 K claimTag)) >> accepted (entryFrom edition1 K claimTag (take len (drop start p))))
+          ≡ entryOf refusal K (take len (drop start p)) (elim b [ true ↦ Entry.Claim start | false ↦ Entry.Refused 6 ])
+      by true refusal q = rw (size p start len h, size-is, q)
+      by false refusal q = rw (size p start len h, size-is, q)
 
-      is : (at : ℕ) (l : Option forms.Line) → there l ≡ true
-          → entry edition1 K l (fieldOf at tag (take len (drop start p))) ≡ stated K at (take len (drop start p)) (elim b [ true ↦ Claim start | false ↦ Refused 6 ])
-      is at none t = absurd (let z : _≡_ {A = ℕ} 0 1 = cc in omega arith)
-      is at (some l) t = entry-in K at tag _ (some l) claimTag (rw e) (rw e) refl ∙ by b at q
+      is : (refusal : ℕ → Answer) (at : ℕ) (l : Option forms.Line) → there l ≡ true
+          → entry edition1 K refusal l (fieldOf at tag (take len (drop start p))) ≡ entryOf refusal K (take len (drop start p)) (elim b [ true ↦ Entry.Claim start | false ↦ Entry.Refused 6 ])
+      is refusal at none t = absurd (let z : _≡_ {A = ℕ} 0 1 = cc in omega arith)
+      is refusal at (some l) t = entry-in refusal K at tag _ (some l) claimTag (rw e) (rw e) refl ∙ by b refusal q
 
-      ranged : (b : Bool) → eqb len (8 * (K + 1)) ≡ b → Ranged K start len (elim b [ true ↦ Claim start | false ↦ Refused 6 ])
+      ranged : (b : Bool) → eqb len (8 * (K + 1)) ≡ b → Ranged K start len (elim b [ true ↦ Entry.Claim start | false ↦ Entry.Refused 6 ])
       ranged true q = (refl, omega (arith, eqb-true len (8 * (K + 1)) q))
       ranged false q = tt
 
-  unclaimed : tag ≡ 0x20 → Entered K p tag start len false (Refused 4)
+  unclaimed : tag ≡ 0x20 → Entered K p tag start len false (Entry.Refused 4)
   unfolding known headerTag entryTagged inPlace
   unclaimed e = record { is = is; ranged = tt }
     where
-      is : (at : ℕ) (l : Option forms.Line) → there l ≡ false
-          → entry edition1 K l (fieldOf at tag (take len (drop start p))) ≡ refused (answer 4 fileProof at)
-      is at none t = entry-out K at tag _ none claimTag (rw e) (rw e) refl
-      is at (some l) t = absurd (let z : _≡_ {A = ℕ} 0 1 = cc in omega arith)
+      is : (refusal : ℕ → Answer) (at : ℕ) (l : Option forms.Line) → there l ≡ false
+          → entry edition1 K refusal l (fieldOf at tag (take len (drop start p))) ≡ refused (refusal 4)
+      is refusal at none t = entry-out refusal K at tag _ none claimTag (rw e) (rw e) refl
+      is refusal at (some l) t = absurd (let z : _≡_ {A = ℕ} 0 1 = cc in omega arith)
 
 pub claim-in : {p : List ℕ} {tag start len K : ℕ} (made : Bool) {r : Entry} → tag ≡ 0x20 → start + len ≤ length p → r ≡ claimed K start len made → Entered K p tag start len made r
 claim-in {len = len} {K = K} true e h q = rw q (claimed-by K true (eqb len (8 * (K + 1))) e h refl)
@@ -250,9 +250,9 @@ between tag a b c d e f = go (leb 0x10 tag) (leb tag 0x15) refl refl
 
 pub unknown-in : {p : List ℕ} {tag start len : ℕ} (K : ℕ) (made : Bool)
     → (tag ≡ 0x10 → ⊥) → (tag ≡ 0x11 → ⊥) → (tag ≡ 0x12 → ⊥) → (tag ≡ 0x13 → ⊥) → (tag ≡ 0x14 → ⊥) → (tag ≡ 0x15 → ⊥) → (tag ≡ 0x20 → ⊥)
-    → (tag ≡ 0x01 → ⊥) → (tag ≡ 0x02 → ⊥) → Entered K p tag start len made (Refused 3)
+    → (tag ≡ 0x01 → ⊥) → (tag ≡ 0x02 → ⊥) → Entered K p tag start len made (Entry.Refused 3)
 unfolding known headerTag
 unknown-in {tag = tag} K made a b c d e f g x y = record {
-  is = λ at l h. entry-unknown K at tag _ l (rw (ne-eqb tag 0x01 x, ne-eqb tag 0x02 y, between tag a b c d e f, ne-eqb tag 0x20 g));
+  is = λ refusal at l h. entry-unknown refusal K at tag _ l (rw (ne-eqb tag 0x01 x, ne-eqb tag 0x02 y, between tag a b c d e f, ne-eqb tag 0x20 g));
   ranged = tt;
 }

@@ -15,21 +15,22 @@ use Rattle.calculus.specs.Rules as rules
 use Rattle.calculus.specs.Rules.{_▷_}
 use Rattle.fields.specs.Fields.{Fields}
 use Rattle.fields.specs.Numbers.{formWidth}
-use Rattle.fields.specs.Answers.{Result, accepted, _>>=_, _>>_, need}
-use Rattle.lines.specs.Parts.{agree-sym}
+use Rattle.fields.specs.declared.Answer.{Answer}
+use Rattle.fields.specs.Answers.{Result, accepted, _>>=_, _>>_, need, found}
+use Rattle.lines.proofs.Parts.{agree-sym}
 use Rattle.lines.specs.Buffer.{linesIn}
-use Rattle.lines.specs.Lines.{lines-more}
-use Rattle.proof.specs.Check.{checkRow, agreeing, checkEntry, Checker, Next}
+use Rattle.lines.proofs.Lines.{lines-more}
+use Rattle.proof.specs.Check.{checkRow, checkEntry, Checker, Following}
 use Rattle.rows.specs.Tally.{rowCounted}
 use Rattle.rows.specs.Rows.{Derives}
-use Rattle.rows.specs.Steps.{steppedOf, Checked, Same, lastMade, fieldChecked, rowChecked, rowLeft, moreRows, Steps, Counts, Claims}
+use Rattle.rows.specs.Steps.{steppedOf, Checked, SameChecked, lastMade, fieldChecked, rowChecked, rowLeft, moreRows, Steps, Counts, Claims}
 use Rattle.rows.specs.Claims.{Claimed}
-use Rattle.rows.specs.Entries.{Multiplies, stated, there, Entered}
+use Rattle.rows.specs.Entries.{Multiplies, entryOf, there, Entered}
 use Rattle.rows.specs.declared.entries.Entry as entries
 use Rattle.rows.specs.declared.entries.Entry.the-variants as entry-of
 use Rattle.forms.specs.declared.LineNumber.{LineNumber}
 use Rattle.rows.specs.declared.tally.Tally.{Tally}
-use Rattle.rows.specs.declared.tally.Counted.{Counted}
+use Rattle.rows.specs.declared.tally.Tallied.{Tallied}
 use Rattle.rows.specs.declared.derive.Derived.{Derived}
 use Rattle.rows.specs.declared.derive.Derived.the-variants as derived-of
 use Rattle.rows.specs.declared.steps.Stepped.{Stepped}
@@ -37,22 +38,22 @@ use Rattle.rows.specs.declared.steps.Stepped.the-variants.{Refused, Made
 use Rattle.rows.proofs.Deriving.{kept-refl}
 use Rattle.rows.proofs.Counting.{counted-made, counted-full}
 
-pub counted-row : {t : Tally} {r : Counted} → r ≡ rowCounted t → r .made ≡ true → (t .rows .0 < 1024) × (r .tally ≡ moreRows t)
+pub counted-row : {t : Tally} {r : Tallied} → r ≡ rowCounted t → r .made ≡ true → (t .rows .0 < 1024) × (r .tally ≡ moreRows t)
 unfolding rowCounted
 counted-row {t} e h = let c = counted-made (ltb (t .rows .0) 1024) (moreRows t) t e h in (ltb-true (t .rows .0) 1024 (c .0), c .1)
 
-pub full-row : (t : Tally) {r : Counted} → r ≡ rowCounted t → r .made ≡ false → 1024 ≤ t .rows .0
+pub full-row : (t : Tally) {r : Tallied} → r ≡ rowCounted t → r .made ≡ false → 1024 ≤ t .rows .0
 unfolding rowCounted
 full-row t e h = ltb-false (t .rows .0) 1024 (counted-full (ltb (t .rows .0) 1024) (moreRows t) t e h)
 
 module _ (K : ℕ) (kinds : List ℕ) (buf : List ℤ) (t : Tally) (row : rules.Row) where
   pub row-full : 1024 ≤ t .rows .0 → Steps (rowChecked K kinds buf t row) K kinds buf t kinds buf (Refused 18)
   unfolding _>>_ need
-  row-full h = record { kept = kept-refl; by = record { is = λ deeper next at fs. rw (le-ltb (t .rows .0) 1024 h) } }
+  row-full h = record { kept = kept-refl; by = record { is = λ deeper next refusal fs. rw (le-ltb (t .rows .0) 1024 h) } }
 
-  row-counted : t .rows .0 < 1024 → Same (rowChecked K kinds buf t row) (rowLeft K kinds buf t row)
+  row-counted : t .rows .0 < 1024 → SameChecked (rowChecked K kinds buf t row) (rowLeft K kinds buf t row)
   unfolding _>>_ need
-  row-counted h = record { is = λ deeper next at fs. rw (lt-ltb (t .rows .0) 1024 h) }
+  row-counted h = record { is = λ deeper next refusal fs. rw (lt-ltb (t .rows .0) 1024 h) }
 
 -- A row that makes a line, from what `combine`, `reduce` or `scale` answers.
 module _ {K : ℕ} {kinds : List ℕ} {buf : List ℤ} (t : Tally) {s : rules.Step} {kinds′ : List ℕ} {buf′ : List ℤ} (h : t .rows .0 < 1024) where
@@ -60,15 +61,15 @@ module _ {K : ℕ} {kinds : List ℕ} {buf : List ℤ} (t : Tally) {s : rules.St
   unfolding checkRow
   derive-by (derived-of.Refused x) a = record {
     kept = a .kept;
-    by = record { is = λ deeper next at fs. row-counted K kinds buf t (rules.Derive s) h .is deeper next at fs ∙ a .by at (λ l. next (suc (t .rows .0)) (some l) (linesIn K kinds buf (t .lines .0) ▷ l)) };
+    by = record { is = λ deeper next refusal fs. row-counted K kinds buf t (rules.Derive s) h .is deeper next refusal fs ∙ a .by refusal (λ l. next (suc (t .rows .0)) (some l) (linesIn K kinds buf (t .lines .0) ▷ l)) };
   }
   derive-by (derived-of.Made t′) a = record {
     kept = a .kept;
     by = (
       record {
-        is = λ deeper next at fs.
-            row-counted K kinds buf t (rules.Derive s) h .is deeper next at fs
-            ∙ a .by .0 at (λ l. next (suc (t .rows .0)) (some l) (linesIn K kinds buf (t .lines .0) ▷ l))
+        is = λ deeper next refusal fs.
+            row-counted K kinds buf t (rules.Derive s) h .is deeper next refusal fs
+            ∙ a .by .0 refusal (λ l. next (suc (t .rows .0)) (some l) (linesIn K kinds buf (t .lines .0) ▷ l))
             ∙ rw (add-one, add-one, lines-more K (t .lines .0) (agree-sym (a .kept .lines-same)) (agree-sym (a .kept .kinds-same)));
       },
       a .by .1,
@@ -97,24 +98,24 @@ module _ (t : Tally) (h : t .rows .0 < 1024) {u : Tally} (e : u ≡ moreRows t) 
 -- ---- claims
 module _ {K : ℕ} {p : List ℕ} {start : ℕ} {buf : List ℤ} (made : Bool) (t : Tally) where
   pub claim-out : made ≡ false → Claims K p start made buf t (Refused 4)
-  unfolding checkEntry agreeing _>>_
-  claim-out h = record { steps = λ len kinds el. record { kept = kept-refl; by = record { is = λ deeper next at fs. rw h } } }
+  unfolding checkEntry _>>=_ found
+  claim-out h = record { steps = λ len kinds el. record { kept = kept-refl; by = record { is = λ deeper next refusal fs. rw h } } }
 
   module _ {n : ℕ} {b : Bool} (h : made ≡ true) (en : n ≡ t .lines .0 - 1) (c : Claimed K p start buf n b) where
     pub claim-wrong : b ≡ false → Claims K p start made buf t (Refused 14)
-    unfolding checkEntry agreeing _>>_ need
-    claim-wrong e = record { steps = λ len kinds el. record { kept = kept-refl; by = record { is = λ deeper next at fs. rw (h, ← en, c .is len kinds el, e) } } }
+    unfolding checkEntry _>>=_ _>>_ need found
+    claim-wrong e = record { steps = λ len kinds el. record { kept = kept-refl; by = record { is = λ deeper next refusal fs. rw (h, ← en, c .is len kinds el, e) } } }
 
     pub claim-right : b ≡ true → Claims K p start made buf t Stepped.Claimed
-    unfolding checkEntry agreeing _>>_ need
-    claim-right e = record { steps = λ len kinds el. record { kept = kept-refl; by = record { is = λ deeper next at fs. rw (h, ← en, c .is len kinds el, e) } } }
+    unfolding checkEntry _>>=_ _>>_ need found
+    claim-right e = record { steps = λ len kinds el. record { kept = kept-refl; by = record { is = λ deeper next refusal fs. rw (h, ← en, c .is len kinds el, e) } } }
 
 -- ---- the field of a branch, by its entry
-same-trans : {f g h : Checked} → Same f g → Same g h → Same f h
-same-trans a b = record { is = λ deeper next at fs. a .is deeper next at fs ∙ b .is deeper next at fs }
+same-trans : {f g h : Checked} → SameChecked f g → SameChecked g h → SameChecked f h
+same-trans a b = record { is = λ deeper next refusal fs. a .is deeper next refusal fs ∙ b .is deeper next refusal fs }
 
 pub steps-same : {f g : Checked} {K : ℕ} {kinds : List ℕ} {buf : List ℤ} {t : Tally} {kinds′ : List ℕ} {buf′ : List ℤ} (r : Stepped)
-    → Same f g → Steps g K kinds buf t kinds′ buf′ r → Steps f K kinds buf t kinds′ buf′ r
+    → SameChecked f g → Steps g K kinds buf t kinds′ buf′ r → Steps f K kinds buf t kinds′ buf′ r
 steps-same (Refused x) a s = record { kept = s .kept; by = same-trans a (s .by) }
 steps-same (Made u) a s = record { kept = s .kept; by = (same-trans a (s .by .0), s .by .1, s .by .2) }
 steps-same Stepped.Claimed a s = record { kept = s .kept; by = same-trans a (s .by) }
@@ -127,20 +128,21 @@ there-made true K kinds buf n = refl
 there-made false K kinds buf n = refl
 
 module _ {K : ℕ} (kinds : List ℕ) (buf : List ℤ) (t : Tally) {p : List ℕ} {tag start len : ℕ} (made : Bool) {x : entries.Entry} (e : Entered K p tag start len made x) where
-  enters : (y : Result rules.Entry) (at : ℕ) → stated K at (take len (drop start p)) x ≡ y
-      → (deeper : Option Checker) (next : Next) (fs : Fields)
-      → fieldChecked K kinds buf t made tag (take len (drop start p)) deeper next at fs
-      ≡ (y >>= λ z. checkEntry edition1 K deeper next at (t .rows .0) (lastMade made K kinds buf (t .lines .0)) (linesIn K kinds buf (t .lines .0)) fs z)
-  enters y at q deeper next fs =
-      ap (λ (w : Result rules.Entry). w >>= λ z. checkEntry edition1 K deeper next at (t .rows .0) (lastMade made K kinds buf (t .lines .0)) (linesIn K kinds buf (t .lines .0)) fs z)
-      (e .is at (lastMade made K kinds buf (t .lines .0)) (there-made made K kinds buf (t .lines .0)) ∙ q)
+  -- the entry that the field states, checked
+  enters : (y : Result rules.Entry) (refusal : ℕ → Answer) → entryOf refusal K (take len (drop start p)) x ≡ y
+      → (deeper : Option Checker) (next : Following) (fs : Fields)
+      → fieldChecked K kinds buf t made tag (take len (drop start p)) deeper next refusal fs
+      ≡ (y >>= λ z. checkEntry edition1 K deeper next refusal (t .rows .0) (lastMade made K kinds buf (t .lines .0)) (linesIn K kinds buf (t .lines .0)) fs z)
+  enters y refusal q deeper next fs =
+      ap (λ (w : Result rules.Entry). w >>= λ z. checkEntry edition1 K deeper next refusal (t .rows .0) (lastMade made K kinds buf (t .lines .0)) (linesIn K kinds buf (t .lines .0)) fs z)
+      (e .is refusal 0 (lastMade made K kinds buf (t .lines .0)) (there-made made K kinds buf (t .lines .0)) ∙ q)
 
-  field-row : (row : rules.Row) → ((at : ℕ) → stated K at (take len (drop start p)) x ≡ accepted (rules.row row))
-      → Same (fieldChecked K kinds buf t made tag (take len (drop start p))) (rowChecked K kinds buf t row)
+  field-row : (row : rules.Row) → ((refusal : ℕ → Answer) → entryOf refusal K (take len (drop start p)) x ≡ accepted (rules.row row))
+      → SameChecked (fieldChecked K kinds buf t made tag (take len (drop start p))) (rowChecked K kinds buf t row)
   unfolding _>>=_ checkEntry
-  field-row row q = record { is = λ deeper next at fs. enters (accepted (rules.row row)) at (q at) deeper next fs }
+  field-row row q = record { is = λ deeper next refusal fs. enters (accepted (rules.row row)) refusal (q refusal) deeper next fs }
 
-  pub step-row : (row : rules.Row) → ((at : ℕ) → stated K at (take len (drop start p)) x ≡ accepted (rules.row row)) → {kinds′ : List ℕ} {buf′ : List ℤ} {r : Stepped}
+  pub step-row : (row : rules.Row) → ((refusal : ℕ → Answer) → entryOf refusal K (take len (drop start p)) x ≡ accepted (rules.row row)) → {kinds′ : List ℕ} {buf′ : List ℤ} {r : Stepped}
       → Steps (rowChecked K kinds buf t row) K kinds buf t kinds′ buf′ r
       → Steps (fieldChecked K kinds buf t made tag (take len (drop start p))) K kinds buf t kinds′ buf′ r
   step-row row q {r = r} s = steps-same r (field-row row q) s
@@ -150,12 +152,12 @@ module _ {K : ℕ} (kinds : List ℕ) (buf : List ℤ) (t : Tally) {p : List ℕ
   unfolding _>>=_
   step-claim {from} {r} ex ef el c =
       steps-same r
-      (record { is = λ deeper next at fs. enters (stated K at (take len (drop start p)) (entry-of.Claim from)) at (ap (stated K at (take len (drop start p))) ex) deeper next fs })
+      (record { is = λ deeper next refusal fs. enters (entryOf refusal K (take len (drop start p)) (entry-of.Claim from)) refusal (ap (entryOf refusal K (take len (drop start p))) ex) deeper next fs })
       ((rw ef at c) .steps len kinds el)
 
   pub step-refused : {n : ℕ} → x ≡ entry-of.Refused n → Steps (fieldChecked K kinds buf t made tag (take len (drop start p))) K kinds buf t kinds buf (Refused n)
   unfolding _>>=_
   step-refused {n} ex = record {
     kept = kept-refl;
-    by = record { is = λ deeper next at fs. enters (stated K at (take len (drop start p)) (entry-of.Refused n)) at (ap (stated K at (take len (drop start p))) ex) deeper next fs };
+    by = record { is = λ deeper next refusal fs. enters (entryOf refusal K (take len (drop start p)) (entry-of.Refused n)) refusal (ap (entryOf refusal K (take len (drop start p))) ex) deeper next fs };
   }

@@ -11,12 +11,13 @@ use borrow.Author.Tests.{ltb-true, ltb-false, le-leb, lt-leb, eq-eqb, ne-eqb, eq
 use Rattle.integers.specs.Linear.{eqZ}
 use Rattle.forms.specs.Forms.{≤0, =0, Line, line, nonzero, _⊞_, _·_}
 use Rattle.calculus.specs.Rules.{Step, Combine, Reduce, Scale}
+use Rattle.fields.specs.declared.Answer.{Answer}
 use Rattle.fields.specs.Answers.{refused, accepted, _>>=_, _>>_, need, found}
-use Rattle.lines.specs.Buffer.{kindOf, lineIn, linesIn}
-use Rattle.lines.specs.Lines.{line-at, line-past, line-ext}
-use Rattle.lines.specs.Mix.{mix-one, mix-zero}
+use Rattle.forms.specs.Flat.{kindOf}
+use Rattle.lines.specs.Buffer.{lineIn, linesIn}
+use Rattle.lines.proofs.Lines.{line-at, line-past, line-ext}
+use Rattle.lines.proofs.Mixing.{mix-one, mix-zero}
 use Rattle.proof.specs.Rows.{is, lineAt, derived}
-use Rattle.proof.specs.Check.{refusal}
 use Rattle.rows.specs.Rows.{sumOf, Appended, Derives}
 use Rattle.rows.specs.declared.tally.Tally.{Tally}
 use Rattle.rows.specs.declared.derive.Derived.{Derived}
@@ -28,8 +29,8 @@ pub unnot : (b : Bool) {c : Bool} → not b ≡ c → b ≡ not c
 unnot true h = ap not h
 unnot false h = ap not h
 
-pub below : (i n : ℕ) {b : Bool} → b ≡ ltb i n → not b ≡ false → i < n
-below i n {b} e h = ltb-true i n (sym e ∙ unnot b h)
+pub is-below : (i n : ℕ) {b : Bool} → b ≡ ltb i n → not b ≡ false → i < n
+is-below i n {b} e h = ltb-true i n (sym e ∙ unnot b h)
 
 pub past : (i n : ℕ) {b : Bool} → b ≡ ltb i n → not b ≡ true → n ≤ i
 past i n {b} e h = ltb-false i n (sym e ∙ unnot b h)
@@ -66,86 +67,86 @@ module _ (K : ℕ) (kinds : List ℕ) (buf : List ℤ) (i : ℕ) where
 
 -- ---- from `derived` to what follows the row
 module _ {K : ℕ} {kinds : List ℕ} {buf : List ℤ} {t : Tally} {s : Step} where
-  derives-refused : {x : ℕ} → ((at : ℕ) → derived (refusal at) (linesIn K kinds buf (t .lines .0)) s ≡ refused (refusal at x)) → Derives K kinds buf t s kinds buf (Refused x)
+  derives-refused : {x : ℕ} → ((refusal : ℕ → Answer) → derived refusal (linesIn K kinds buf (t .lines .0)) s ≡ refused (refusal x)) → Derives K kinds buf t s kinds buf (Refused x)
   unfolding _>>=_
-  derives-refused e = record { kept = kept-refl; by = λ at next. rw (e at) }
+  derives-refused e = record { kept = kept-refl; by = λ refusal next. rw (e refusal) }
 
   derives-appended : {f : ℤ} {i : ℕ} {g : ℤ} {j kind : ℕ} {kinds′ : List ℕ} {buf′ : List ℤ} {r : Derived} {l : Line}
-      → ((at : ℕ) → derived (refusal at) (linesIn K kinds buf (t .lines .0)) s ≡ accepted l) → sumOf K kinds buf f i g j kind ≡ l
+      → ((refusal : ℕ → Answer) → derived refusal (linesIn K kinds buf (t .lines .0)) s ≡ accepted l) → sumOf K kinds buf f i g j kind ≡ l
       → Appended K kinds buf t f i g j kind kinds′ buf′ r → Derives K kinds buf t s kinds′ buf′ r
   unfolding _>>=_ _>>_
-  derives-appended {r = Refused x} e q a = record { kept = a .kept; by = λ at next. rw (e at, ← q, a .by at) }
+  derives-appended {r = Refused x} e q a = record { kept = a .kept; by = λ refusal next. rw (e refusal, ← q, a .by refusal) }
   derives-appended {r = Made t′} e q a = record {
     kept = a .kept;
-    by = (λ at next. rw (e at, ← q, a .by .0 at, a .by .1 .last), a .by .1 .limited, a .by .1 .tally);
+    by = (λ refusal next. rw (e refusal, ← q, a .by .0 refusal, a .by .1 .last), a .by .1 .limited, a .by .1 .tally);
   }
 
 -- ---- combine
 module _ (K : ℕ) (kinds : List ℕ) (buf : List ℤ) (t : Tally) (i j α β : ℕ) where
   pub combine-none : t .lines .0 ≤ i → Derives K kinds buf t (Combine i j α β) kinds buf (Refused 10)
   unfolding derived lineAt _>>=_ found
-  combine-none h = derives-refused (λ at. rw (line-past K kinds buf (t .lines .0) i h))
+  combine-none h = derives-refused (λ refusal. rw (line-past K kinds buf (t .lines .0) i h))
 
   module _ (hi : i < t .lines .0) where
     pub combine-none-2 : t .lines .0 ≤ j → Derives K kinds buf t (Combine i j α β) kinds buf (Refused 10)
     unfolding derived lineAt _>>=_ found
-    combine-none-2 h = derives-refused (λ at. rw (line-at K kinds buf (t .lines .0) i hi, line-past K kinds buf (t .lines .0) j h))
+    combine-none-2 h = derives-refused (λ refusal. rw (line-at K kinds buf (t .lines .0) i hi, line-past K kinds buf (t .lines .0) j h))
 
     module _ (hj : j < t .lines .0) where
       pub combine-kind : (getD kinds i 0 ≡ 0 → ⊥) → Derives K kinds buf t (Combine i j α β) kinds buf (Refused 11)
       unfolding derived lineAt _>>=_ _>>_ found need is
-      combine-kind h = derives-refused (λ at. rw (line-at K kinds buf (t .lines .0) i hi, line-at K kinds buf (t .lines .0) j hj, kind-= K kinds buf i h))
+      combine-kind h = derives-refused (λ refusal. rw (line-at K kinds buf (t .lines .0) i hi, line-at K kinds buf (t .lines .0) j hj, kind-= K kinds buf i h))
 
       module _ (ki : getD kinds i 0 ≡ 0) where
         pub combine-kind-2 : (getD kinds j 0 ≡ 0 → ⊥) → Derives K kinds buf t (Combine i j α β) kinds buf (Refused 11)
         unfolding derived lineAt _>>=_ _>>_ found need is
-        combine-kind-2 h = derives-refused (λ at. rw (line-at K kinds buf (t .lines .0) i hi, line-at K kinds buf (t .lines .0) j hj, kind-≤ K kinds buf i ki, kind-= K kinds buf j h))
+        combine-kind-2 h = derives-refused (λ refusal. rw (line-at K kinds buf (t .lines .0) i hi, line-at K kinds buf (t .lines .0) j hj, kind-≤ K kinds buf i ki, kind-= K kinds buf j h))
 
         module _ (kj : getD kinds j 0 ≡ 0) where
-          tests : (at : ℕ) → derived (refusal at) (linesIn K kinds buf (t .lines .0)) (Combine i j α β)
-              ≡ (need (refusal at 12) (leb 1 α && leb 1 β) >> accepted (line ≤0 (pos α · lineIn K kinds buf i .t ⊞ pos β · lineIn K kinds buf j .t) (pos α · lineIn K kinds buf i .tA ⊞ pos β · lineIn K kinds buf j .tA)))
+          tests : (refusal : ℕ → Answer) → derived refusal (linesIn K kinds buf (t .lines .0)) (Combine i j α β)
+              ≡ (need (refusal 12) (leb 1 α && leb 1 β) >> accepted (line ≤0 (pos α · lineIn K kinds buf i .t ⊞ pos β · lineIn K kinds buf j .t) (pos α · lineIn K kinds buf i .tA ⊞ pos β · lineIn K kinds buf j .tA)))
           unfolding derived lineAt _>>=_ _>>_ found need is
-          tests at = rw (line-at K kinds buf (t .lines .0) i hi, line-at K kinds buf (t .lines .0) j hj, kind-≤ K kinds buf i ki, kind-≤ K kinds buf j kj)
+          tests refusal = rw (line-at K kinds buf (t .lines .0) i hi, line-at K kinds buf (t .lines .0) j hj, kind-≤ K kinds buf i ki, kind-≤ K kinds buf j kj)
 
           pub combine-zero : α ≡ 0 → Derives K kinds buf t (Combine i j α β) kinds buf (Refused 12)
           unfolding _>>_ need
-          combine-zero h = derives-refused (λ at. tests at ∙ rw (lt-leb 1 α (omega arith)))
+          combine-zero h = derives-refused (λ refusal. tests refusal ∙ rw (lt-leb 1 α (omega arith)))
 
           pub combine-zero-2 : 1 ≤ α → β ≡ 0 → Derives K kinds buf t (Combine i j α β) kinds buf (Refused 12)
           unfolding _>>_ need
-          combine-zero-2 ha h = derives-refused (λ at. tests at ∙ rw (le-leb 1 α ha, lt-leb 1 β (omega arith)))
+          combine-zero-2 ha h = derives-refused (λ refusal. tests refusal ∙ rw (le-leb 1 α ha, lt-leb 1 β (omega arith)))
 
           pub combine-made : {f g : ℤ} {kinds′ : List ℕ} {buf′ : List ℤ} {r : Derived} → 1 ≤ α → 1 ≤ β → f ≡ pos α → g ≡ pos β
               → Appended K kinds buf t f i g j 0 kinds′ buf′ r → Derives K kinds buf t (Combine i j α β) kinds′ buf′ r
           unfolding _>>_ need kindOf
-          combine-made ha hb ef eg a = derives-appended (λ at. tests at ∙ rw (le-leb 1 α ha, le-leb 1 β hb, ← ef, ← eg)) refl a
+          combine-made ha hb ef eg a = derives-appended (λ refusal. tests refusal ∙ rw (le-leb 1 α ha, le-leb 1 β hb, ← ef, ← eg)) refl a
 
 -- ---- reduce
 module _ (K : ℕ) (kinds : List ℕ) (buf : List ℤ) (t : Tally) (i j : ℕ) (α : ℤ) where
   pub reduce-none : t .lines .0 ≤ i → Derives K kinds buf t (Reduce i j α) kinds buf (Refused 10)
   unfolding derived lineAt _>>=_ found
-  reduce-none h = derives-refused (λ at. rw (line-past K kinds buf (t .lines .0) i h))
+  reduce-none h = derives-refused (λ refusal. rw (line-past K kinds buf (t .lines .0) i h))
 
   module _ (hi : i < t .lines .0) where
     pub reduce-none-2 : t .lines .0 ≤ j → Derives K kinds buf t (Reduce i j α) kinds buf (Refused 10)
     unfolding derived lineAt _>>=_ found
-    reduce-none-2 h = derives-refused (λ at. rw (line-at K kinds buf (t .lines .0) i hi, line-past K kinds buf (t .lines .0) j h))
+    reduce-none-2 h = derives-refused (λ refusal. rw (line-at K kinds buf (t .lines .0) i hi, line-past K kinds buf (t .lines .0) j h))
 
     module _ (hj : j < t .lines .0) where
       pub reduce-kind : getD kinds j 0 ≡ 0 → Derives K kinds buf t (Reduce i j α) kinds buf (Refused 11)
       unfolding derived lineAt _>>=_ _>>_ found need is
-      reduce-kind h = derives-refused (λ at. rw (line-at K kinds buf (t .lines .0) i hi, line-at K kinds buf (t .lines .0) j hj, kind-≤ K kinds buf j h))
+      reduce-kind h = derives-refused (λ refusal. rw (line-at K kinds buf (t .lines .0) i hi, line-at K kinds buf (t .lines .0) j hj, kind-≤ K kinds buf j h))
 
       module _ (kj : getD kinds j 0 ≡ 0 → ⊥) where
-        reduce-tests : (at : ℕ) → derived (refusal at) (linesIn K kinds buf (t .lines .0)) (Reduce i j α)
-            ≡ (need (refusal at 12) (nonzero α) >> accepted (line (lineIn K kinds buf i .kind) (lineIn K kinds buf i .t ⊞ α · lineIn K kinds buf j .t) (lineIn K kinds buf i .tA ⊞ α · lineIn K kinds buf j .tA)))
+        reduce-tests : (refusal : ℕ → Answer) → derived refusal (linesIn K kinds buf (t .lines .0)) (Reduce i j α)
+            ≡ (need (refusal 12) (nonzero α) >> accepted (line (lineIn K kinds buf i .kind) (lineIn K kinds buf i .t ⊞ α · lineIn K kinds buf j .t) (lineIn K kinds buf i .tA ⊞ α · lineIn K kinds buf j .tA)))
         unfolding derived lineAt _>>=_ _>>_ found need is
-        reduce-tests at = rw (line-at K kinds buf (t .lines .0) i hi, line-at K kinds buf (t .lines .0) j hj, kind-= K kinds buf j kj)
+        reduce-tests refusal = rw (line-at K kinds buf (t .lines .0) i hi, line-at K kinds buf (t .lines .0) j hj, kind-= K kinds buf j kj)
 
         module _ {b : Bool} (z : b ≡ eqZ α (pos 0)) where
           pub reduce-zero : b ≡ true → Derives K kinds buf t (Reduce i j α) kinds buf (Refused 12)
           unfolding _>>_ need
-          reduce-zero h = derives-refused (λ at. reduce-tests at ∙ rw (zero-none α z h))
+          reduce-zero h = derives-refused (λ refusal. reduce-tests refusal ∙ rw (zero-none α z h))
 
           pub reduce-made : {kind : ℕ} {kinds′ : List ℕ} {buf′ : List ℤ} {r : Derived} → b ≡ false → kind ≡ getD kinds i 0
               → Appended K kinds buf t (pos 1) i α j kind kinds′ buf′ r → Derives K kinds buf t (Reduce i j α) kinds′ buf′ r
@@ -153,24 +154,24 @@ module _ (K : ℕ) (kinds : List ℕ) (buf : List ℤ) (t : Tally) (i j : ℕ) (
           reduce-made h k a =
               let s = lineIn K kinds buf i in
               let u = lineIn K kinds buf j in
-              derives-appended {l = line (s .kind) (s .t ⊞ α · u .t) (s .tA ⊞ α · u .tA)} (λ at. reduce-tests at ∙ rw (some-nonzero α z h))
+              derives-appended {l = line (s .kind) (s .t ⊞ α · u .t) (s .tA ⊞ α · u .tA)} (λ refusal. reduce-tests refusal ∙ rw (some-nonzero α z h))
               (line-ext (kind-is K kinds buf i k) (mix-one (s .t) α (u .t)) (mix-one (s .tA) α (u .tA))) a
 
 -- ---- scale
 module _ (K : ℕ) (kinds : List ℕ) (buf : List ℤ) (t : Tally) (i α : ℕ) where
   pub scale-none : t .lines .0 ≤ i → Derives K kinds buf t (Scale i α) kinds buf (Refused 10)
   unfolding derived lineAt _>>=_ found
-  scale-none h = derives-refused (λ at. rw (line-past K kinds buf (t .lines .0) i h))
+  scale-none h = derives-refused (λ refusal. rw (line-past K kinds buf (t .lines .0) i h))
 
   module _ (hi : i < t .lines .0) where
     pub scale-zero : α ≡ 0 → Derives K kinds buf t (Scale i α) kinds buf (Refused 12)
     unfolding derived lineAt _>>=_ _>>_ found need
-    scale-zero h = derives-refused (λ at. rw (line-at K kinds buf (t .lines .0) i hi, lt-leb 1 α (omega arith)))
+    scale-zero h = derives-refused (λ refusal. rw (line-at K kinds buf (t .lines .0) i hi, lt-leb 1 α (omega arith)))
 
     pub scale-made : {f : ℤ} {kind : ℕ} {kinds′ : List ℕ} {buf′ : List ℤ} {r : Derived} → 1 ≤ α → f ≡ pos α → kind ≡ getD kinds i 0
         → Appended K kinds buf t f i (pos 0) i kind kinds′ buf′ r → Derives K kinds buf t (Scale i α) kinds′ buf′ r
     unfolding derived lineAt _>>=_ _>>_ found need
     scale-made {f} h e k a =
         let s = lineIn K kinds buf i in
-        derives-appended {l = line (s .kind) (f · s .t) (f · s .tA)} (λ at. rw (line-at K kinds buf (t .lines .0) i hi, le-leb 1 α h, ← e))
+        derives-appended {l = line (s .kind) (f · s .t) (f · s .tA)} (λ refusal. rw (line-at K kinds buf (t .lines .0) i hi, le-leb 1 α h, ← e))
         (line-ext (kind-is K kinds buf i k) (mix-zero f (s .t)) (mix-zero f (s .tA))) a

@@ -5,14 +5,16 @@ use Prim.Native.Nat.{ℕ, _+_, _*_, _≤_, _<_}
 use lib.ListN.{length}
 use lib.IntN.{ℤ}
 use Rattle.integers.specs.Magnitude.{Within}
-use Rattle.forms.specs.Edition.{edition1}
+use Rattle.forms.specs.Edition.{edition1, multiplierRange}
 use Rattle.forms.specs.Forms.{Line, line, _⊞_, _·_}
 use Rattle.calculus.specs.Rules as rules
+use Rattle.fields.specs.declared.Answer.{Answer}
 use Rattle.fields.specs.Answers.{Result, refused, accepted, _>>=_, _>>_}
 use Rattle.lines.specs.Parts.{Agree}
-use Rattle.lines.specs.Buffer.{size, kindOf, lineIn, linesIn, Bounded, Branch}
+use Rattle.forms.specs.Flat.{kindOf}
+use Rattle.lines.specs.Buffer.{size, lineIn, linesIn, Bounded, Branch}
 use Rattle.proof.specs.Rows.{derived, fitting}
-use Rattle.proof.specs.Check.{Closing, refusal}
+use Rattle.proof.specs.Check.{Closing}
 use Rattle.rows.specs.Tally.{tally}
 use Rattle.rows.specs.declared.tally.Tally.{Tally}
 use Rattle.rows.specs.declared.derive.Derived.{Derived}
@@ -21,26 +23,26 @@ use Rattle.rows.specs.declared.derive.Derived.the-variants.{Refused, Mad
 -- The n first lines of the buffers are a branch, with room for one more.
 pub record Ready (K : ℕ) (kinds : List ℕ) (buf : List ℤ) (n : ℕ) : Type 0 where
   pub branch : Branch K buf n
-  pub room : 128 ≤ length kinds
-  pub most : n ≤ 128
+  pub room : edition1 .lines ≤ length kinds
+  pub most : n ≤ edition1 .lines
 
 -- The n first lines keep the limits of a branch. Whether there is room for one more is for the caller to say.
 pub record Limited (K : ℕ) (buf : List ℤ) (n : ℕ) : Type 0 where
   pub bounded : Bounded K buf n
-  pub most : n ≤ 128
+  pub most : n ≤ edition1 .lines
 
 -- What is written behind the n first lines keeps them, and the lengths.
-pub record Kept (K n : ℕ) (kinds : List ℕ) (buf : List ℤ) (kinds′ : List ℕ) (buf′ : List ℤ) : Type 0 where
+pub record LinesKept (K n : ℕ) (kinds : List ℕ) (buf : List ℤ) (kinds′ : List ℕ) (buf′ : List ℤ) : Type 0 where
   pub lines-same : Agree (n * size K) buf′ buf
   pub kinds-same : Agree n kinds′ kinds
   pub lines-length : length buf′ ≡ length buf
   pub kinds-length : length kinds′ ≡ length kinds
 
 -- Factors and lines of a branch of n lines.
-pub record Terms (n : ℕ) (f : ℤ) (i : ℕ) (g : ℤ) (j kind : ℕ) : Type 0 where
-  pub f-in : Within 65535 f
+pub record Operands (n : ℕ) (f : ℤ) (i : ℕ) (g : ℤ) (j kind : ℕ) : Type 0 where
+  pub f-in : Within multiplierRange f
   pub first : i < n
-  pub g-in : Within 65535 g
+  pub g-in : Within multiplierRange g
   pub second : j < n
 
 -- The tally with one line more.
@@ -61,26 +63,26 @@ pub record Grown (K : ℕ) (t : Tally) (l : Line) (kinds′ : List ℕ) (buf′ 
   pub tally : t′ ≡ moreLines t
 
 abbrev pub AppendedBy : (K : ℕ) (kinds : List ℕ) (buf : List ℤ) (t : Tally) (l : Line) (kinds′ : List ℕ) (buf′ : List ℤ) → Derived → Type 0
-AppendedBy K kinds buf t l kinds′ buf′ (Refused x) = (at : ℕ) → fitting (refusal at) (linesIn K kinds buf (t .lines .0)) edition1 l ≡ refused (refusal at x)
+AppendedBy K kinds buf t l kinds′ buf′ (Refused x) = (refusal : ℕ → Answer) → fitting refusal (linesIn K kinds buf (t .lines .0)) edition1 l ≡ refused (refusal x)
 AppendedBy K kinds buf t l kinds′ buf′ (Made t′) =
-    ((at : ℕ) → fitting (refusal at) (linesIn K kinds buf (t .lines .0)) edition1 l ≡ accepted tt) × Grown K t l kinds′ buf′ t′
+    ((refusal : ℕ → Answer) → fitting refusal (linesIn K kinds buf (t .lines .0)) edition1 l ≡ accepted tt) × Grown K t l kinds′ buf′ t′
 
 pub record Appended (K : ℕ) (kinds : List ℕ) (buf : List ℤ) (t : Tally) (f : ℤ) (i : ℕ) (g : ℤ) (j kind : ℕ) (kinds′ : List ℕ) (buf′ : List ℤ) (r : Derived) : Type 0 where
-  pub kept : Kept K (t .lines .0) kinds buf kinds′ buf′
+  pub kept : LinesKept K (t .lines .0) kinds buf kinds′ buf′
   pub by : AppendedBy K kinds buf t (sumOf K kinds buf f i g j kind) kinds′ buf′ r
 
--- A row 0x10 to 0x12 and what follows it, as `checkRow` has it.
-abbrev pub followed : (at : ℕ) → List Line → rules.Step → (Line → Result Closing) → Result Closing
-followed at ls s next = derived (refusal at) ls s >>= λ l. (fitting (refusal at) ls edition1 l >> next l)
+-- A row 0x10 to 0x12 and what follows it, as `checkRow` has it; `refusal` gives the refusal by a number at this row.
+abbrev pub followed : (refusal : ℕ → Answer) → List Line → rules.Step → (Line → Result Closing) → Result Closing
+followed refusal ls s next = derived refusal ls s >>= λ l. (fitting refusal ls edition1 l >> next l)
 
 abbrev pub DerivedBy : (K : ℕ) (kinds : List ℕ) (buf : List ℤ) (t : Tally) (s : rules.Step) (kinds′ : List ℕ) (buf′ : List ℤ) → Derived → Type 0
 DerivedBy K kinds buf t s kinds′ buf′ (Refused x) =
-    (at : ℕ) (next : Line → Result Closing) → followed at (linesIn K kinds buf (t .lines .0)) s next ≡ refused (refusal at x)
+    (refusal : ℕ → Answer) (next : Line → Result Closing) → followed refusal (linesIn K kinds buf (t .lines .0)) s next ≡ refused (refusal x)
 DerivedBy K kinds buf t s kinds′ buf′ (Made t′) =
-    ((at : ℕ) (next : Line → Result Closing)
-    → followed at (linesIn K kinds buf (t .lines .0)) s next ≡ next (lineIn K kinds′ buf′ (t .lines .0)))
+    ((refusal : ℕ → Answer) (next : Line → Result Closing)
+    → followed refusal (linesIn K kinds buf (t .lines .0)) s next ≡ next (lineIn K kinds′ buf′ (t .lines .0)))
     × Limited K buf′ (t .lines .0 + 1) × (t′ ≡ moreLines t)
 
 pub record Derives (K : ℕ) (kinds : List ℕ) (buf : List ℤ) (t : Tally) (s : rules.Step) (kinds′ : List ℕ) (buf′ : List ℤ) (r : Derived) : Type 0 where
-  pub kept : Kept K (t .lines .0) kinds buf kinds′ buf′
+  pub kept : LinesKept K (t .lines .0) kinds buf kinds′ buf′
   pub by : DerivedBy K kinds buf t s kinds′ buf′ r

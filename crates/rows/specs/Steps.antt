@@ -10,15 +10,16 @@ use lib.IntN.{ℤ, natAbs}
 use Rattle.forms.specs.Edition.{edition1}
 use Rattle.forms.specs.Forms.{Line}
 use Rattle.calculus.specs.Rules as rules
+use Rattle.fields.specs.declared.Answer.{Answer}
 use Rattle.fields.specs.Answers.{Result, refused, _>>=_, _>>_, need}
 use Rattle.fields.specs.Numbers.{formFrom, formWidth}
 use Rattle.fields.specs.Fields.{Fields}
 use Rattle.lines.specs.Buffer.{lineIn, linesIn}
 use Rattle.proof.specs.Entries.{entry}
-use Rattle.proof.specs.Check.{Closing, Checker, Next, refusal, checkRow, checkEntry}
+use Rattle.proof.specs.Check.{Closing, Checker, Following, checkRow, checkEntry}
 use Rattle.rows.specs.Tally.{tally}
 use Rattle.rows.specs.Entries.{Multiplies}
-use Rattle.rows.specs.Rows.{Kept, Limited, moreLines}
+use Rattle.rows.specs.Rows.{LinesKept, Limited, moreLines}
 use Rattle.rows.specs.declared.tally.Tally.{Tally}
 use Rattle.rows.specs.declared.derive.Derived as derived
 use Rattle.rows.specs.declared.derive.Derived.the-variants as derived-of
@@ -29,39 +30,39 @@ abbrev pub steppedOf : derived.Derived → Stepped
 steppedOf (derived-of.Refused x) = Refused x
 steppedOf (derived-of.Made t) = Made t
 
--- What is checked at a place of any proof: given what checks deeper branches, what follows in this branch, the place, and the fields after it.
+-- What is checked: given what checks deeper branches, what follows in this branch, the refusal by a number at this field, and the fields after it.
 abbrev pub Checked : Type 0
-Checked = (deeper : Option Checker) (next : Next) (at : ℕ) (fs : Fields) → Result Closing
+Checked = (deeper : Option Checker) (next : Following) (refusal : ℕ → Answer) (fs : Fields) → Result Closing
 
-pub record Same (f g : Checked) : Type 0 where
-  pub is : (deeper : Option Checker) (next : Next) (at : ℕ) (fs : Fields) → f deeper next at fs ≡ g deeper next at fs
+pub record SameChecked (f g : Checked) : Type 0 where
+  pub is : (deeper : Option Checker) (next : Following) (refusal : ℕ → Answer) (fs : Fields) → f deeper next refusal fs ≡ g deeper next refusal fs
 
 -- A row, counted first, in a branch of the tally's lines.
 abbrev pub rowChecked : (K : ℕ) (kinds : List ℕ) (buf : List ℤ) (t : Tally) → rules.Row → Checked
-rowChecked K kinds buf t row deeper next at fs =
-    need (refusal at 18) (ltb (t .rows .0) (edition1 .rows)) >> checkRow edition1 K deeper next at (t .rows .0) (linesIn K kinds buf (t .lines .0)) fs row
+rowChecked K kinds buf t row deeper next refusal fs =
+    need (refusal 18) (ltb (t .rows .0) (edition1 .rows)) >> checkRow edition1 K deeper next refusal (t .rows .0) (linesIn K kinds buf (t .lines .0)) fs row
 
 -- The same row, counted already.
 abbrev pub rowLeft : (K : ℕ) (kinds : List ℕ) (buf : List ℤ) (t : Tally) → rules.Row → Checked
-rowLeft K kinds buf t row deeper next at fs = checkRow edition1 K deeper next at (t .rows .0) (linesIn K kinds buf (t .lines .0)) fs row
+rowLeft K kinds buf t row deeper next refusal fs = checkRow edition1 K deeper next refusal (t .rows .0) (linesIn K kinds buf (t .lines .0)) fs row
 
 abbrev pub moreRows : Tally → Tally
 moreRows t = tally (t .rows .0 + 1) (t .lines .0) (t .«open»)
 
 -- What f is, by the code's answer.
 abbrev pub SteppedBy : (f : Checked) (K : ℕ) (kinds : List ℕ) (buf : List ℤ) (t : Tally) (kinds′ : List ℕ) (buf′ : List ℤ) → Stepped → Type 0
-SteppedBy f K kinds buf t kinds′ buf′ (Refused x) = Same f (λ deeper next at fs. refused (refusal at x))
+SteppedBy f K kinds buf t kinds′ buf′ (Refused x) = SameChecked f (λ deeper next refusal fs. refused (refusal x))
 SteppedBy f K kinds buf t kinds′ buf′ (Made t′) =
-    Same f (λ deeper next at fs. next (t .rows .0 + 1) (some (lineIn K kinds′ buf′ (t .lines .0))) (linesIn K kinds′ buf′ (t .lines .0 + 1)))
+    SameChecked f (λ deeper next refusal fs. next (t .rows .0 + 1) (some (lineIn K kinds′ buf′ (t .lines .0))) (linesIn K kinds′ buf′ (t .lines .0 + 1)))
     × Limited K buf′ (t .lines .0 + 1) × (t′ ≡ moreLines (moreRows t))
-SteppedBy f K kinds buf t kinds′ buf′ Claimed = Same f (λ deeper next at fs. next (t .rows .0) none (linesIn K kinds buf (t .lines .0)))
-SteppedBy f K kinds buf t kinds′ buf′ (Strengthens t′ i) = Same f (rowLeft K kinds buf t (rules.Strengthen (i .0))) × (t′ ≡ moreRows t)
-SteppedBy f K kinds buf t kinds′ buf′ (ClosesNumber t′ i) = Same f (rowLeft K kinds buf t (rules.CloseNumber (i .0))) × (t′ ≡ moreRows t)
+SteppedBy f K kinds buf t kinds′ buf′ Claimed = SameChecked f (λ deeper next refusal fs. next (t .rows .0) none (linesIn K kinds buf (t .lines .0)))
+SteppedBy f K kinds buf t kinds′ buf′ (Strengthens t′ i) = SameChecked f (rowLeft K kinds buf t (rules.Strengthen (i .0))) × (t′ ≡ moreRows t)
+SteppedBy f K kinds buf t kinds′ buf′ (ClosesNumber t′ i) = SameChecked f (rowLeft K kinds buf t (rules.CloseNumber (i .0))) × (t′ ≡ moreRows t)
 SteppedBy f K kinds buf t kinds′ buf′ (ClosesStride t′ i g) =
-    Same f (rowLeft K kinds buf t (rules.CloseStride (i .0) (natAbs g))) × (t′ ≡ moreRows t) × Multiplies (natAbs g) g
+    SameChecked f (rowLeft K kinds buf t (rules.CloseStride (i .0) (natAbs g))) × (t′ ≡ moreRows t) × Multiplies (natAbs g) g
 
 pub record Steps (f : Checked) (K : ℕ) (kinds : List ℕ) (buf : List ℤ) (t : Tally) (kinds′ : List ℕ) (buf′ : List ℤ) (r : Stepped) : Type 0 where
-  pub kept : Kept K (t .lines .0) kinds buf kinds′ buf′
+  pub kept : LinesKept K (t .lines .0) kinds buf kinds′ buf′
   pub by : SteppedBy f K kinds buf t kinds′ buf′ r
 
 -- The line that a claim may state: the last one, if a row 0x10 to 0x12 made it directly before.
@@ -71,9 +72,9 @@ lastMade false K kinds buf n = none
 
 -- A field of the branch, read and then checked.
 abbrev pub fieldChecked : (K : ℕ) (kinds : List ℕ) (buf : List ℤ) (t : Tally) (made : Bool) (tag : ℕ) (contents : List ℕ) → Checked
-fieldChecked K kinds buf t made tag contents deeper next at fs =
-    entry edition1 K (lastMade made K kinds buf (t .lines .0)) (record { at = at; tag = tag; contents = contents })
-    >>= λ x. checkEntry edition1 K deeper next at (t .rows .0) (lastMade made K kinds buf (t .lines .0)) (linesIn K kinds buf (t .lines .0)) fs x
+fieldChecked K kinds buf t made tag contents deeper next refusal fs =
+    entry edition1 K refusal (lastMade made K kinds buf (t .lines .0)) (record { at = 0; tag = tag; contents = contents })
+    >>= λ x. checkEntry edition1 K deeper next refusal (t .rows .0) (lastMade made K kinds buf (t .lines .0)) (linesIn K kinds buf (t .lines .0)) fs x
 
 -- A row that splits or ends the branch is counted and left as it is, in any buffers.
 pub record Counts (row : rules.Row) (t : Tally) (r : Stepped) : Type 0 where
@@ -81,8 +82,8 @@ pub record Counts (row : rules.Row) (t : Tally) (r : Stepped) : Type 0 where
 
 -- The claim whose contents start there, checked. 4, 14.
 abbrev pub claimChecked : (K : ℕ) (p : List ℕ) (start : ℕ) (made : Bool) (kinds : List ℕ) (buf : List ℤ) (t : Tally) (len : ℕ) → Checked
-claimChecked K p start made kinds buf t len deeper next at fs =
-    checkEntry edition1 K deeper next at (t .rows .0) (lastMade made K kinds buf (t .lines .0)) (linesIn K kinds buf (t .lines .0)) fs
+claimChecked K p start made kinds buf t len deeper next refusal fs =
+    checkEntry edition1 K deeper next refusal (t .rows .0) (lastMade made K kinds buf (t .lines .0)) (linesIn K kinds buf (t .lines .0)) fs
     (rules.claim (formFrom (edition1 .termWidth) K (take len (drop start p))) (formFrom (edition1 .termWidth) K (drop (formWidth (edition1 .termWidth) K) (take len (drop start p)))))
 
 pub record Claims (K : ℕ) (p : List ℕ) (start : ℕ) (made : Bool) (buf : List ℤ) (t : Tally) (r : Stepped) : Type 0 where

@@ -5,9 +5,10 @@ ghost use lib.Dec.{ltb};
 ghost use lib.IntN.{natAbs};
 ghost use lib.ListN.{length, getD, set};
 ghost use Rattle.integers.specs.Magnitude.{Within};
+ghost use Rattle.forms.specs.Edition.{multiplierRange};
 ghost use Rattle.calculus.specs.Rules.{Combine, Reduce, Scale};
 ghost use Rattle.rows.specs.Entries.{Multiplies};
-ghost use Rattle.rows.specs.Rows.{Ready, Terms, Appended, Derives};
+ghost use Rattle.rows.specs.Rows.{Ready, Operands, Appended, Derives};
 use crate::tally::Tally;
 use crate::tally::line_counted;
 use forms::LineNumber;
@@ -31,7 +32,7 @@ fn append(
     k: usize,
 ) -> Derived
     requires { ⌜ Ready k (now kinds) (now lines) (tally .lines .0) ⌝ }
-    requires { ⌜ Terms (tally .lines .0) f (i .0) g (j .0) kind ⌝ }
+    requires { ⌜ Operands (tally .lines .0) f (i .0) g (j .0) kind ⌝ }
     ensures { λ r. ⌜ Appended k (now (kinds .entry)) (now (lines .entry)) tally f (i .0) g (j .0) kind (now (kinds .exit)) (now (lines .exit)) r ⌝ }
 {
     let counted = line_counted(tally);
@@ -119,7 +120,7 @@ pub fn reduce(
     k: usize,
 ) -> Derived
     requires { ⌜ Ready k (now kinds) (now lines) (tally .lines .0) ⌝ }
-    requires { ⌜ Within 65535 alpha ⌝ }
+    requires { ⌜ Within multiplierRange alpha ⌝ }
     ensures { λ r. ⌜ Derives k (now (kinds .entry)) (now (lines .entry)) tally (Reduce (s .0) (t .0) alpha) (now (kinds .exit)) (now (lines .exit)) r ⌝ }
 {
     if !is_there(tally, s) {

@@ -2,10 +2,14 @@
 ghost use mathlib.Core.Path.{_≡_};
 ghost use Prim.Native.Nat.{_+_, _≤_};
 ghost use lib.ListN.{length, take, drop};
+ghost use Rattle.forms.specs.Edition.{edition1};
 ghost use Rattle.proof.specs.Entries.{combineTag, reduceTag, scaleTag, strengthenTag, numberTag, strideTag};
 ghost use Rattle.fields.specs.Numbers.{unsigned};
 ghost use Rattle.rows.specs.Entries.{Multiplies, Shaped, claimed, Entered};
+use forms::LINE_BYTES;
 use forms::LineNumber;
+use forms::MULTIPLIER_BYTES;
+use forms::TERM_BYTES;
 
 pub enum Entry {
     Combine {
@@ -42,21 +46,36 @@ pub enum Entry {
     },
 }
 
-// A line number has one byte.
+// Where the multipliers of a row start that names two lines, and how many bytes the rows with multipliers or g have.
+const FIRST: usize = 2 * LINE_BYTES;
+
+const SECOND: usize = FIRST + MULTIPLIER_BYTES;
+
+const COMBINE_BYTES: usize = 2 * LINE_BYTES + 2 * MULTIPLIER_BYTES;
+
+const REDUCE_BYTES: usize = 2 * LINE_BYTES + MULTIPLIER_BYTES;
+
+const SCALE_BYTES: usize = LINE_BYTES + MULTIPLIER_BYTES;
+
+const STRIDE_BYTES: usize = LINE_BYTES + MULTIPLIER_BYTES;
+
+// A number of t and one of tA, of which a claim has k + 1.
+const PAIR_BYTES: usize = 2 * TERM_BYTES;
+
 fn line_at(p: &[u8], at: usize) -> LineNumber
-    requires { ⌜ at + 1 ≤ length (now p) ⌝ }
-    ensures { λ r. ⌜ r .0 ≡ unsigned (take 1 (drop at (now (p .entry)))) ⌝ }
+    requires { ⌜ at + edition1 .lineWidth ≤ length (now p) ⌝ }
+    ensures { λ r. ⌜ r .0 ≡ unsigned (take (edition1 .lineWidth) (drop at (now (p .entry)))) ⌝ }
 {
-    let n = fields::numbers::unsigned_at(p, at, 1);
+    let n = fields::numbers::unsigned_at(p, at, LINE_BYTES);
     LineNumber(n as u16)
 }
 
-// A multiplier or g has two bytes.
+// A multiplier or g.
 fn multiplier_at(p: &[u8], at: usize) -> i64
-    requires { ⌜ at + 2 ≤ length (now p) ⌝ }
-    ensures { λ r. ⌜ Multiplies (unsigned (take 2 (drop at (now (p .entry))))) r ⌝ }
+    requires { ⌜ at + edition1 .multiplierWidth ≤ length (now p) ⌝ }
+    ensures { λ r. ⌜ Multiplies (unsigned (take (edition1 .multiplierWidth) (drop at (now (p .entry))))) r ⌝ }
 {
-    let n = fields::numbers::unsigned_at(p, at, 2);
+    let n = fields::numbers::unsigned_at(p, at, MULTIPLIER_BYTES);
     n as i64
 }
 
@@ -64,11 +83,11 @@ fn combine_at(p: &[u8], start: usize, len: usize) -> Entry
     requires { ⌜ start + len ≤ length (now p) ⌝ }
     ensures { λ r. ⌜ Shaped combineTag (now (p .entry)) start len r ⌝ }
 {
-    if len == 6 {
+    if len == COMBINE_BYTES {
         let s = line_at(p, start);
-        let t = line_at(p, start + 1);
-        let alpha = multiplier_at(p, start + 2);
-        let beta = multiplier_at(p, start + 4);
+        let t = line_at(p, start + LINE_BYTES);
+        let alpha = multiplier_at(p, start + FIRST);
+        let beta = multiplier_at(p, start + SECOND);
         return Entry::Combine { s, t, alpha, beta };
     }
     Entry::Refused { number: 6 }
@@ -79,10 +98,10 @@ fn reduce_at(p: &[u8], start: usize, len: usize) -> Entry
     requires { ⌜ start + len ≤ length (now p) ⌝ }
     ensures { λ r. ⌜ Shaped reduceTag (now (p .entry)) start len r ⌝ }
 {
-    if len == 4 {
+    if len == REDUCE_BYTES {
         let s = line_at(p, start);
-        let t = line_at(p, start + 1);
-        let alpha = fields::words::wide_short_at(p, start + 2);
+        let t = line_at(p, start + LINE_BYTES);
+        let alpha = fields::words::wide_short_at(p, start + FIRST);
         return Entry::Reduce { s, t, alpha };
     }
     Entry::Refused { number: 6 }
@@ -92,9 +111,9 @@ fn scale_at(p: &[u8], start: usize, len: usize) -> Entry
     requires { ⌜ start + len ≤ length (now p) ⌝ }
     ensures { λ r. ⌜ Shaped scaleTag (now (p .entry)) start len r ⌝ }
 {
-    if len == 3 {
+    if len == SCALE_BYTES {
         let t = line_at(p, start);
-        let alpha = multiplier_at(p, start + 1);
+        let alpha = multiplier_at(p, start + LINE_BYTES);
         return Entry::Scale { t, alpha };
     }
     Entry::Refused { number: 6 }
@@ -104,7 +123,7 @@ fn strengthen_at(p: &[u8], start: usize, len: usize) -> Entry
     requires { ⌜ start + len ≤ length (now p) ⌝ }
     ensures { λ r. ⌜ Shaped strengthenTag (now (p .entry)) start len r ⌝ }
 {
-    if len == 1 {
+    if len == LINE_BYTES {
         let t = line_at(p, start);
         return Entry::Strengthen { t };
     }
@@ -115,7 +134,7 @@ fn number_at(p: &[u8], start: usize, len: usize) -> Entry
     requires { ⌜ start + len ≤ length (now p) ⌝ }
     ensures { λ r. ⌜ Shaped numberTag (now (p .entry)) start len r ⌝ }
 {
-    if len == 1 {
+    if len == LINE_BYTES {
         let t = line_at(p, start);
         return Entry::CloseNumber { t };
     }
@@ -126,20 +145,20 @@ fn stride_at(p: &[u8], start: usize, len: usize) -> Entry
     requires { ⌜ start + len ≤ length (now p) ⌝ }
     ensures { λ r. ⌜ Shaped strideTag (now (p .entry)) start len r ⌝ }
 {
-    if len == 3 {
+    if len == STRIDE_BYTES {
         let t = line_at(p, start);
-        let g = multiplier_at(p, start + 1);
+        let g = multiplier_at(p, start + LINE_BYTES);
         return Entry::CloseStride { t, g };
     }
     Entry::Refused { number: 6 }
 }
 
 fn claim_at(start: usize, len: usize, k: usize, made: bool) -> Entry
-    requires { ⌜ k ≤ 16 ⌝ }
+    requires { ⌜ k ≤ edition1 .constants ⌝ }
     ensures { λ r. ⌜ r ≡ claimed k start len made ⌝ }
 {
     if made {
-        if len == 8 * (k + 1) {
+        if len == PAIR_BYTES * (k + 1) {
             return Entry::Claim { start };
         }
         return Entry::Refused { number: 6 };
@@ -149,7 +168,7 @@ fn claim_at(start: usize, len: usize, k: usize, made: bool) -> Entry
 
 // The entry that a field states. The tags 0x01 and 0x02 are known, but not in place here.
 pub fn entry_at(p: &[u8], tag: u8, start: usize, len: usize, k: usize, made: bool) -> Entry
-    requires { ⌜ (k ≤ 16) × (start + len ≤ length (now p)) ⌝ }
+    requires { ⌜ (k ≤ edition1 .constants) × (start + len ≤ length (now p)) ⌝ }
     ensures { λ r. ⌜ Entered k (now (p .entry)) tag start len made r ⌝ }
 {
     if tag == 0x10 {

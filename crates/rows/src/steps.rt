@@ -5,6 +5,7 @@ ghost use Prim.Native.Nat.{_+_, _*_, _≤_};
 ghost use lib.ListN.{length, take, drop};
 ghost use lib.IntN.{natAbs};
 ghost use Rattle.integers.specs.Magnitude.{Within};
+ghost use Rattle.forms.specs.Edition.{edition1, multiplierRange};
 ghost use Rattle.calculus.specs.Rules.{Derive, Combine, Reduce, Scale, Strengthen, CloseNumber, CloseStride};
 ghost use Rattle.rows.specs.Entries.{Multiplies};
 ghost use Rattle.rows.specs.Rows.{Ready};
@@ -73,7 +74,7 @@ pub fn reduce_row(
     k: usize,
 ) -> Stepped
     requires { ⌜ Ready k (now kinds) (now lines) (tally .lines .0) ⌝ }
-    requires { ⌜ Within 65535 alpha ⌝ }
+    requires { ⌜ Within multiplierRange alpha ⌝ }
     ensures { λ r. ⌜ Steps (rowChecked k (now (kinds .entry)) (now (lines .entry)) tally (Derive (Reduce (s .0) (t .0) alpha))) k (now (kinds .entry)) (now (lines .entry)) tally (now (kinds .exit)) (now (lines .exit)) r ⌝ }
 {
     let counted = row_counted(tally);
@@ -159,7 +160,7 @@ fn stride_row(tally: Tally, t: LineNumber, g: i64) -> Stepped
 
 // A claim of the line made last. 4, 14.
 fn claim_step(p: &[u8], start: usize, made: bool, lines: &[i32], tally: Tally, k: usize) -> Stepped
-    requires { ⌜ (k ≤ 16) × (start + 8 * (k + 1) ≤ length (now p)) × (tally .lines .0 ≤ 128) × (tally .lines .0 * (2 * (k + 1)) ≤ length (now lines)) ⌝ }
+    requires { ⌜ (k ≤ edition1 .constants) × (start + 2 * edition1 .termWidth * (k + 1) ≤ length (now p)) × (tally .lines .0 ≤ edition1 .lines) × (tally .lines .0 * (2 * (k + 1)) ≤ length (now lines)) ⌝ }
     requires { ⌜ (made ≡ true → 1 ≤ tally .lines .0) ⌝ }
     ensures { λ r. ⌜ Claims k (now (p .entry)) start made (now (lines .entry)) tally r ⌝ }
 {

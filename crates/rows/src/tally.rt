@@ -5,7 +5,7 @@ use forms::ROWS;
 use forms::RowNumber;
 use forms::STRENGTHENS;
 ghost use mathlib.Core.Path.{_≡_};
-ghost use Rattle.rows.specs.Tally.{rowCounted, lineCounted, openCounted, Advanced};
+ghost use Rattle.rows.specs.Tally.{rowCounted, lineCounted, openCounted, returnedTo, Advanced};
 
 pub struct Tally {
     pub rows: RowNumber,
@@ -14,13 +14,13 @@ pub struct Tally {
 }
 
 // The tally after a step, and whether the step was made. A refused step leaves the tally as it was.
-pub struct Counted {
+pub struct Tallied {
     pub made: bool,
     pub tally: Tally,
 }
 
 // The steps on a value that is passed in and out.
-fn next_row(t: Tally) -> Counted
+fn next_row(t: Tally) -> Tallied
     ensures { λ r. ⌜ r ≡ rowCounted t ⌝ }
 {
     let row = t.rows;
@@ -32,15 +32,15 @@ fn next_row(t: Tally) -> Counted
             lines: line,
             open: t.open,
         };
-        return Counted { made: true, tally };
+        return Tallied { made: true, tally };
     }
-    Counted {
+    Tallied {
         made: false,
         tally: t,
     }
 }
 
-fn next_line(t: Tally) -> Counted
+fn next_line(t: Tally) -> Tallied
     ensures { λ r. ⌜ r ≡ lineCounted t ⌝ }
 {
     let row = t.rows;
@@ -52,15 +52,15 @@ fn next_line(t: Tally) -> Counted
             lines: LineNumber(n + 1),
             open: t.open,
         };
-        return Counted { made: true, tally };
+        return Tallied { made: true, tally };
     }
-    Counted {
+    Tallied {
         made: false,
         tally: t,
     }
 }
 
-fn next_open(t: Tally) -> Counted
+fn next_open(t: Tally) -> Tallied
     ensures { λ r. ⌜ r ≡ openCounted t ⌝ }
 {
     let row = t.rows;
@@ -72,9 +72,9 @@ fn next_open(t: Tally) -> Counted
             lines: line,
             open: n + 1,
         };
-        return Counted { made: true, tally };
+        return Tallied { made: true, tally };
     }
-    Counted {
+    Tallied {
         made: false,
         tally: t,
     }
@@ -106,23 +106,36 @@ pub fn count_open(t: &mut Tally) -> bool
 }
 
 // What every other function calls: no reference to a struct is in its contract, so its callers' proofs need no walk.
-pub fn row_counted(mut t: Tally) -> Counted
+pub fn row_counted(mut t: Tally) -> Tallied
     ensures { λ r. ⌜ r ≡ rowCounted t ⌝ }
 {
     let made = count_row(&mut t);
-    Counted { made, tally: t }
+    Tallied { made, tally: t }
 }
 
-pub fn line_counted(mut t: Tally) -> Counted
+pub fn line_counted(mut t: Tally) -> Tallied
     ensures { λ r. ⌜ r ≡ lineCounted t ⌝ }
 {
     let made = count_line(&mut t);
-    Counted { made, tally: t }
+    Tallied { made, tally: t }
 }
 
-pub fn open_counted(mut t: Tally) -> Counted
+pub fn open_counted(mut t: Tally) -> Tallied
     ensures { λ r. ⌜ r ≡ openCounted t ⌝ }
 {
     let made = count_open(&mut t);
-    Counted { made, tally: t }
+    Tallied { made, tally: t }
+}
+
+// The step back when a branch is closed: the lines and open strengthens are again those of the tally given, the rows go on.
+pub fn returned(t: Tally, given: Tally) -> Tally
+    ensures { λ r. ⌜ r ≡ returnedTo t given ⌝ }
+{
+    let rows = t.rows;
+    let lines = given.lines;
+    Tally {
+        rows,
+        lines,
+        open: given.open,
+    }
 }

@@ -4,7 +4,7 @@ use mathlib.Core.Path.{_≡_}
 use native.Mathlib.Omega.{arith}
 use mathlib.Core.List.{_++_}
 use lib.ListN.{length, take, length-set}
-use Rattle.files.proofs.Texts.{start, step, full, done}
+use Rattle.files.proofs.Texts.{put-start, put-step, full, done}
 use Rattle.io.proofs.Counting.{counts}
 use borrow.Author.Needs.{needs}
 use Rattle.files.proofs.put_text.Statement.{statement}
@@ -20,7 +20,7 @@ least-requires : tie.Need-least-requires Inv-loop μ-loop
 least-requires c κs = search needs
 
 loop-holds : tie.Need-loop-holds Inv-loop μ-loop
-loop-holds c = (search needs, search needs, search needs, start _ _ _ (c .least .ensures .2))
+loop-holds c = (search needs, search needs, search needs, put-start _ _ _ (c .least .ensures .2))
 
 same-length : tie.Need-same-length Inv-loop μ-loop
 same-length c = search needs
@@ -44,7 +44,7 @@ loop-less : tie.Need-loop-less Inv-loop μ-loop
 loop-less c = search needs
 
 loop-again : tie.Need-loop-again Inv-loop μ-loop
-loop-again c = (simp length-set (omega arith), simp length-set (omega arith), omega arith, step (c .before .before .before .loop .buf) (c .before .before .before .before .before .before .before .args .text .now) (take (c .before .before .before .before .before .before .before .args .at) (c .before .before .before .before .before .before .before .args .buf .now)) (c .before .before .before .loop .end) (c .before .before .before .loop .i) (c .before .before .before .loop .inv .3) (omega arith) (omega arith))
+loop-again c = (simp length-set (omega arith), simp length-set (omega arith), omega arith, put-step (c .before .before .before .loop .buf) (c .before .before .before .before .before .before .before .args .text .now) (take (c .before .before .before .before .before .before .before .args .at) (c .before .before .before .before .before .before .before .args .buf .now)) (c .before .before .before .loop .end) (c .before .before .before .loop .i) (c .before .before .before .loop .inv .3) (omega arith) (omega arith))
 
 same-length-2 : tie.Need-same-length-2 Inv-loop μ-loop
 same-length-2 c = search needs

@@ -3,7 +3,7 @@ use lib.IntN.{pos}
 use lib.Signed.{_≤ℤ_}
 use mir.Syntax.{w64}
 use mir.ValLaws.{toZ-ofZ}
-use Rattle.integers.specs.Linear.{ints}
+use Rattle.integers.proofs.Differences.{ints}
 use Rattle.integers.proofs.Machine.{bits-pos, quot-fits, rem-test}
 use Rattle.integers.proofs.divides.Statement.{statement}
 use Rattle.integers.proofs.divides.Tie as tie

@@ -1,7 +1,7 @@
 -- `integers::is_zero` meets its contract. Assumes nothing.
 use lib.IntN.{pos}
 use Rattle.integers.proofs.Machine.{test-eq}
-use Rattle.integers.specs.Magnitude.{literal-fits}
+use Rattle.integers.proofs.Magnitude.{literal-fits}
 use Rattle.integers.proofs.is_zero.Statement.{statement}
 use Rattle.integers.proofs.is_zero.Tie as tie
 

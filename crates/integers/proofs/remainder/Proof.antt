@@ -6,7 +6,7 @@ use lib.Signed.{_≤ℤ_, remZ, mag-rem}
 use mir.Syntax.{w64}
 use mir.Val.{toZ, ofZ}
 use mir.ValLaws.{toZ-ofZ, sfits-le}
-use Rattle.integers.specs.Linear.{ints}
+use Rattle.integers.proofs.Differences.{ints}
 use Rattle.integers.proofs.Machine.{bits-pos, quot-fits, residue-stands, rem-stands, rem-raised, remainder-fits}
 use Rattle.integers.proofs.remainder.Statement.{statement}
 use Rattle.integers.proofs.remainder.Tie as tie

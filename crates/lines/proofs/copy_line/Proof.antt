@@ -6,8 +6,8 @@ use native.Mathlib.Omega.{arith}
 use lib.IntN.{ℤ}
 use lib.Seq.{paste}
 use Rattle.lines.specs.Buffer.{size, mixedLine, copiedLine}
-use Rattle.lines.specs.Lines.{before}
-use Rattle.lines.specs.Mix.{mixed-copy}
+use Rattle.lines.proofs.Lines.{before}
+use Rattle.lines.proofs.Mixing.{mixed-copy}
 use borrow.Author.Needs.{needs}
 use Rattle.lines.proofs.copy_line.Statement.{statement}
 use Rattle.lines.proofs.copy_line.Tie as tie

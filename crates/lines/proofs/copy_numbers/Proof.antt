@@ -7,7 +7,8 @@ use lib.IntN.{ℤ, pos}
 use lib.ListN.{length, getD}
 use mir.Syntax.{w32}
 use mir.ValLaws.{toZ-ofZ}
-use Rattle.lines.specs.Parts.{part, getD-part, length-part}
+use Rattle.lines.specs.Parts.{part}
+use Rattle.lines.proofs.Parts.{getD-part, length-part}
 use Rattle.lines.proofs.Fill.{Filled, filled-none, filled-length, filled-before, filled-next}
 use Rattle.lines.proofs.copy_numbers.Statement.{statement}
 use Rattle.lines.proofs.copy_numbers.Tie as tie

@@ -2,10 +2,11 @@
 use Prim.Native.Nat.{_*_}
 use native.Mathlib.Omega.{arith}
 use mir.ValLaws.{toZ-ofZ}
-use Rattle.lines.specs.Parts.{Agree, agree-refl, agree-le}
+use Rattle.lines.specs.Parts.{Agree}
+use Rattle.lines.proofs.Parts.{agree-refl, agree-le}
 use Rattle.lines.specs.Buffer.{size}
-use Rattle.lines.specs.Lines.{before}
-use Rattle.lines.specs.Mix.{terms, form-fails, mixed-forms}
+use Rattle.lines.proofs.Lines.{before}
+use Rattle.lines.proofs.Mixing.{terms, form-fails, mixed-forms}
 use borrow.Author.Needs.{needs}
 use Rattle.lines.proofs.mix.Statement.{statement}
 use Rattle.lines.proofs.mix.Tie as tie

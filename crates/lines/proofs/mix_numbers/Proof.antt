@@ -11,12 +11,14 @@ use lib.Seq.{take-all}
 use mir.Syntax.{w32, w64}
 use mir.Val.{toZ, ofZ, SFits}
 use mir.ValLaws.{toZ-ofZ}
-use Rattle.integers.specs.Magnitude.{Factors, Within, within-fits, first-fits, second-fits, sum-fits}
+use Rattle.integers.specs.Magnitude.{Factors, Within}
+use Rattle.integers.proofs.Magnitude.{within-fits, first-fits, second-fits, sum-fits}
 use Rattle.forms.specs.Edition.{edition1}
 use Rattle.calculus.specs.Rules.{small, every}
-use Rattle.lines.specs.Parts.{Agree, agree-paste}
+use Rattle.lines.specs.Parts.{Agree}
+use Rattle.lines.proofs.Parts.{agree-paste}
 use Rattle.lines.specs.Buffer.{Terms, Mixes, mixed}
-use Rattle.lines.specs.Mix.{length-mixed, getD-mixed}
+use Rattle.lines.proofs.Mixing.{length-mixed, getD-mixed}
 use Rattle.lines.proofs.Every.{Passed, passed-none, passed-next, passed-fails, passed-all}
 use Rattle.lines.proofs.Fill.{Filled, filled-none, filled-length, filled-before, filled-next}
 use Rattle.lines.proofs.Narrow.{tested-within, narrow-fits, narrowed}

@@ -1,9 +1,9 @@
 -- `lines::mix_whole` meets its contract. Assumes nothing.
 use native.Mathlib.Omega.{arith}
 use mir.ValLaws.{toZ-ofZ}
-use Rattle.lines.specs.Parts.{agree-refl}
-use Rattle.lines.specs.Lines.{before}
-use Rattle.lines.specs.Mix.{terms}
+use Rattle.lines.proofs.Parts.{agree-refl}
+use Rattle.lines.proofs.Lines.{before}
+use Rattle.lines.proofs.Mixing.{terms}
 use borrow.Author.Needs.{needs}
 use Rattle.lines.proofs.mix_whole.Statement.{statement}
 use Rattle.lines.proofs.mix_whole.Tie as tie

@@ -1,6 +1,6 @@
 -- `lines::place` meets its contract. Assumes nothing.
 use native.Mathlib.Omega.{arith}
-use Rattle.lines.specs.Lines.{place-small}
+use Rattle.lines.proofs.Lines.{place-small}
 use borrow.Author.Needs.{needs}
 use Rattle.lines.proofs.place.Statement.{statement}
 use Rattle.lines.proofs.place.Tie as tie

@@ -11,11 +11,12 @@ use mir.Syntax.{w64}
 use mir.Val.{toZ, ofZ, SFits}
 use mir.ValLaws.{toZ-ofZ}
 use borrow.Author.Needs.{needs}
-use Rattle.integers.specs.Magnitude.{Within, within-add, within-fits}
+use Rattle.integers.specs.Magnitude.{Within}
+use Rattle.integers.proofs.Magnitude.{within-add, within-fits}
 use Rattle.forms.specs.Edition.{edition1}
 use Rattle.calculus.specs.Rules.{small}
 use Rattle.lines.specs.Buffer.{size, Bounded}
-use Rattle.lines.specs.Lines.{before}
+use Rattle.lines.proofs.Lines.{before}
 use Rattle.lines.proofs.raised_fit.Statement.{statement}
 use Rattle.lines.proofs.raised_fit.Tie as tie
 

@@ -3,8 +3,8 @@ use mathlib.Core.Path.{_∙_, ap, ap₂}
 use Prim.Native.Nat.{ℕ, _+_}
 use native.Mathlib.Omega.{arith}
 use Rattle.lines.specs.Buffer.{plusOne, strengthenedBoth}
-use Rattle.lines.specs.Lines.{place-small}
-use Rattle.lines.specs.Strengthen.{tA-term}
+use Rattle.lines.proofs.Lines.{place-small}
+use Rattle.lines.proofs.Strengthen.{tA-term}
 use borrow.Author.Needs.{needs}
 use Rattle.lines.proofs.strengthen_both.Statement.{statement}
 use Rattle.lines.proofs.strengthen_both.Tie as tie

@@ -3,8 +3,8 @@ use mathlib.Core.Path.{_∙_, ap, ap₂}
 use Prim.Native.Nat.{ℕ, _+_}
 use native.Mathlib.Omega.{arith}
 use Rattle.lines.specs.Buffer.{plusOne, strengthenedT}
-use Rattle.lines.specs.Lines.{place-small}
-use Rattle.lines.specs.Strengthen.{t-term}
+use Rattle.lines.proofs.Lines.{place-small}
+use Rattle.lines.proofs.Strengthen.{t-term}
 use borrow.Author.Needs.{needs}
 use Rattle.lines.proofs.strengthen_t.Statement.{statement}
 use Rattle.lines.proofs.strengthen_t.Tie as tie

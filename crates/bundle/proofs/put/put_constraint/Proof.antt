@@ -2,7 +2,8 @@
 use mathlib.Core.Path.{_∙_}
 use Prim.Native.Nat.{_+_}
 use native.Mathlib.Omega.{arith}
-use Rattle.bundle.proofs.Putting.{put-field, numbers-bytes}
+use Rattle.fields.proofs.Stores.{put-field}
+use Rattle.bundle.proofs.Putting.{numbers-bytes}
 use borrow.Author.Needs.{needs}
 use Rattle.bundle.proofs.put.put_constraint.Statement.{statement}
 use Rattle.bundle.proofs.put.put_constraint.Tie as tie

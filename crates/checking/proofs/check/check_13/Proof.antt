@@ -3,7 +3,7 @@ use native.Mathlib.Omega.{arith}
 use Prim.Native.Nat.{ℕ, _+_}
 use lib.IntN.{ℤ, pos}
 use lib.ListN.{length-replicate}
-use Rattle.branches.specs.Room.{fieldsLeft}
+use Rattle.branches.specs.Spare.{fieldsLeft}
 use Rattle.checking.proofs.Sparing.{spare-most}
 use borrow.Author.Needs.{needs}
 use Rattle.checking.proofs.check.check_13.Statement.{statement}
@@ -18,7 +18,7 @@ slice-aggregate-check-within-2 c = search needs
 check-within-requires : tie.Need-check-within-requires
 check-within-requires c κs =
     let w = c .before .before .before .before .before .before .before .pre in
-    (w .0, (spare-most (c .before .before .before .before .before .before .before .args .m + c .before .before .before .before .before .before .before .args .n + fieldsLeft (c .before .before .before .before .before .before .before .args .proof .now) (c .before .before .before .before .before .before .before .args .at)) (omega (arith, w .1 .1, length-replicate {A = ℤ} 256 (pos 0))), record { enough = λ l h u. omega (arith, w .1 .0, length-replicate {A = ℕ} 1024 0) }))
+    (w .0, (spare-most (c .before .before .before .before .before .before .before .args .m + c .before .before .before .before .before .before .before .args .n + fieldsLeft (c .before .before .before .before .before .before .before .args .proof .now) (c .before .before .before .before .before .before .before .args .at)) (w .1 .1) (omega (arith, length-replicate {A = ℤ} 256 (pos 0))), record { enough = λ l h u. omega (arith, w .1 .0, length-replicate {A = ℕ} 1014 0) }))
 
 same-length : tie.Need-same-length
 same-length c = search needs

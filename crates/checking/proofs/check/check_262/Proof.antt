@@ -17,7 +17,7 @@ slice-aggregate-check-within-2 c = search needs
 check-within-requires : tie.Need-check-within-requires
 check-within-requires c κs =
     let w = c .before .before .before .before .before .before .before .pre in
-    (w .0, (spare-all (w .0 .both .high) (omega (arith, length-replicate {A = ℤ} 4386 (pos 0))), record { enough = λ l h u. omega (arith, w .1, length-replicate {A = ℕ} 20480 0) }))
+    (w .0, (spare-all (w .0 .both .high) (omega (arith, length-replicate {A = ℤ} 4386 (pos 0))), record { enough = λ l h u. omega (arith, w .1, length-replicate {A = ℕ} 20436 0) }))
 
 same-length : tie.Need-same-length
 same-length c = search needs

@@ -1,8 +1,6 @@
 -- `checking::check::check_lines` meets its contract: each choice has the room that the fields ask, of which there is one for three bytes at most. Assumes nothing.
 use native.Mathlib.Omega.{arith}
-use Prim.Native.Nat.{_+_, _/_}
-use lib.ListN.{length}
-use Rattle.lines.specs.Buffer.{size}
+use Prim.Native.Nat.{_+_}
 use Rattle.checking.proofs.Counting.{fields-few}
 use Rattle.checking.proofs.Sparing.{numbers-less, numbers-small}
 use borrow.Author.Needs.{needs}
@@ -15,25 +13,28 @@ add-size c = search needs
 mul-size : tie.Need-mul-size
 mul-size c = search needs
 
+add-most-lines : tie.Need-add-most-lines
+add-most-lines c = search needs
+
+add-most-lines-2 : tie.Need-add-most-lines-2
+add-most-lines-2 c = search needs
+
+most-lines-requires : tie.Need-most-lines-requires
+most-lines-requires c κs = search needs
+
 add-numbers : tie.Need-add-numbers
 add-numbers c = search needs
 
-add-numbers-2 : tie.Need-add-numbers-2
-add-numbers-2 c = search needs
-
-add-numbers-3 : tie.Need-add-numbers-3
-add-numbers-3 c = search needs
-
 mul-numbers : tie.Need-mul-numbers
 mul-numbers c =
-    let s = c .before .before .before .before in
-    omega (arith, numbers-small (s .args .m + s .args .n + length (s .args .proof .now) / 3 + 1) (s .args .k) (omega (arith, s .pre .both .a-few, s .pre .both .b-few, s .pre .short .p)) (s .pre .both .high))
+    let s = c .before .before .before .before .before in
+    omega (arith, numbers-small (c .most-lines .result + 1) (s .args .k) (omega (arith, c .most-lines .ensures)) (s .pre .both .high))
 
 check-13-requires : tie.Need-check-13-requires
 check-13-requires c κs =
-    let s = c .before .before .before .before .before .before .before in
+    let s = c .before .before .before .before .before .before .before .before in
     let few = fields-few (s .args .proof .now) (s .args .at) in
-    (s .pre, (omega (arith, few, c .before .before .if1 .taken), numbers-less (s .args .m + s .args .n) (size (s .args .k)) (omega (arith, few)) (c .before .if2 .taken)))
+    (s .pre, (omega (arith, few, c .before .before .if1 .taken), numbers-less (s .args .m + s .args .n) (s .args .k) (omega (arith, few)) (c .before .before .before .most-lines .ensures) (c .before .if2 .taken)))
 
 same-length : tie.Need-same-length
 same-length c = search needs
@@ -43,9 +44,9 @@ returns c = search needs
 
 check-32-requires : tie.Need-check-32-requires
 check-32-requires c κs =
-    let s = c .before .before .before .before .before .before .before .before in
+    let s = c .before .before .before .before .before .before .before .before .before in
     let few = fields-few (s .args .proof .now) (s .args .at) in
-    (s .pre, (omega (arith, few, c .before .before .if3 .taken), numbers-less (s .args .m + s .args .n) (size (s .args .k)) (omega (arith, few)) (c .before .if4 .taken)))
+    (s .pre, (omega (arith, few, c .before .before .if3 .taken), numbers-less (s .args .m + s .args .n) (s .args .k) (omega (arith, few)) (c .before .before .before .before .most-lines .ensures) (c .before .if4 .taken)))
 
 same-length-2 : tie.Need-same-length-2
 same-length-2 c = search needs
@@ -55,9 +56,9 @@ returns-2 c = search needs
 
 check-70-requires : tie.Need-check-70-requires
 check-70-requires c κs =
-    let s = c .before .before .before .before .before .before .before .before .before in
+    let s = c .before .before .before .before .before .before .before .before .before .before in
     let few = fields-few (s .args .proof .now) (s .args .at) in
-    (s .pre, (omega (arith, few, c .before .before .if5 .taken), numbers-less (s .args .m + s .args .n) (size (s .args .k)) (omega (arith, few)) (c .before .if6 .taken)))
+    (s .pre, (omega (arith, few, c .before .before .if5 .taken), numbers-less (s .args .m + s .args .n) (s .args .k) (omega (arith, few)) (c .before .before .before .before .before .most-lines .ensures) (c .before .if6 .taken)))
 
 same-length-3 : tie.Need-same-length-3
 same-length-3 c = search needs
@@ -89,9 +90,10 @@ check-lines-spec =
     (tie.spec
     add-size
     mul-size
+    add-most-lines
+    add-most-lines-2
+    most-lines-requires
     add-numbers
-    add-numbers-2
-    add-numbers-3
     mul-numbers
     check-13-requires
     same-length

@@ -5,8 +5,11 @@ use borrow.Author.Needs.{needs}
 use Rattle.checking.proofs.check.check_root.Statement.{statement}
 use Rattle.checking.proofs.check.check_root.Tie as tie
 
-cast-t16 : tie.Need-cast-t16
-cast-t16 c = search needs
+cast-t20 : tie.Need-cast-t20
+cast-t20 c = search needs
+
+root-requires : tie.Need-root-requires
+root-requires c κs = search needs
 
 check-branch-requires : tie.Need-check-branch-requires
 check-branch-requires c κs = search needs
@@ -14,14 +17,14 @@ check-branch-requires c κs = search needs
 enum-known-number : tie.Need-enum-known-number
 enum-known-number c = search needs
 
-refusal-requires : tie.Need-refusal-requires
-refusal-requires c κs = search needs
+proof-refusal-requires : tie.Need-proof-refusal-requires
+proof-refusal-requires c κs = search needs
 
 enum-known-end : tie.Need-enum-known-end
 enum-known-end c = search needs
 
 finish-requires : tie.Need-finish-requires
-finish-requires c κs = by-closed-ended (c .before .before .before .before .before .before .before .before .before .before .check-branch .ensures) refl (c .before .before .before .before .before .before .before .before .before .before .before .before .before .before .before .before .before .before .pre .1 .0) (c .before .before .before .before .before .before .before .before .before .before .before .before .before .before .before .before .before .before .pre .1 .1) (c .before .before .before .end .given .1)
+finish-requires c κs = by-closed-ended (c .before .before .before .before .before .before .before .before .before .before .check-branch .ensures) (c .before .before .before .before .before .before .before .before .before .before .before .before .before .before .root .ensures) refl (c .before .before .before .before .before .before .before .before .before .before .before .before .before .before .before .before .before .before .before .pre .1 .0) (c .before .before .before .before .before .before .before .before .before .before .before .before .before .before .before .before .before .before .before .pre .1 .1) (c .before .before .before .end .given .1)
 
 same-length : tie.Need-same-length
 same-length c = search needs
@@ -33,7 +36,7 @@ same-length-3 : tie.Need-same-length-3
 same-length-3 c = search needs
 
 returns : tie.Need-returns
-returns c = by-fault (c .before .before .before .before .before .before .before .before .before .check-branch .ensures) refl (c .before .before .number .given .1) (c .refusal .ensures)
+returns c = by-fault (c .before .before .before .before .before .before .before .before .before .check-branch .ensures) (c .before .before .before .before .before .before .before .before .before .before .before .before .before .root .ensures) refl (c .before .before .number .given .1) (c .proof-refusal .ensures)
 
 same-length-4 : tie.Need-same-length-4
 same-length-4 c = search needs
@@ -48,16 +51,17 @@ same-length-7 : tie.Need-same-length-7
 same-length-7 c = search needs
 
 returns-2 : tie.Need-returns-2
-returns-2 c = by-closed (c .before .before .before .before .before .before .before .before .before .before .before .before .before .check-branch .ensures) refl (c .before .before .before .before .before .before .before .before .before .before .before .before .before .before .before .before .before .before .before .before .before .pre .1 .0) (c .before .before .before .before .before .before .before .before .before .before .before .before .before .before .before .before .before .before .before .before .before .pre .1 .1) (c .before .before .before .before .before .before .end .given .1) (c .before .before .finish .ensures)
+returns-2 c = by-closed (c .before .before .before .before .before .before .before .before .before .before .before .before .before .check-branch .ensures) (c .before .before .before .before .before .before .before .before .before .before .before .before .before .before .before .before .before .root .ensures) refl (c .before .before .before .before .before .before .before .before .before .before .before .before .before .before .before .before .before .before .before .before .before .before .pre .1 .0) (c .before .before .before .before .before .before .before .before .before .before .before .before .before .before .before .before .before .before .before .before .before .before .pre .1 .1) (c .before .before .before .before .before .before .end .given .1) (c .before .before .finish .ensures)
 
 pub check-root-spec : {M : Type 1} → statement M
 check-root-spec =
     tie.close
     (tie.spec
-    cast-t16
+    cast-t20
+    root-requires
     check-branch-requires
     enum-known-number
-    refusal-requires
+    proof-refusal-requires
     enum-known-end
     finish-requires
     same-length

@@ -1,7 +1,7 @@
 -- `closes::ends::close_number` meets its contract. Assumes nothing.
 use borrow.Author.Needs.{needs}
 use native.Mathlib.Omega.{arith}
-use Rattle.closes.proofs.Splitting.{number-there, number-refused, number-written, numbered}
+use Rattle.closes.proofs.Ending.{number-there, number-refused, number-written, numbered}
 use Rattle.closes.proofs.ends.close_number.Statement.{statement}
 use Rattle.closes.proofs.ends.close_number.Tie as tie
 

@@ -2,7 +2,7 @@
 use borrow.Author.Needs.{needs}
 use native.Mathlib.Omega.{arith}
 use mir.ValLaws.{toZ-ofZ}
-use Rattle.closes.proofs.Splitting.{stride-there, stride-two, stride-refused, stride-written, numbered}
+use Rattle.closes.proofs.Ending.{stride-there, stride-two, stride-refused, stride-written, numbered, divisor}
 use Rattle.closes.proofs.ends.close_stride.Statement.{statement}
 use Rattle.closes.proofs.ends.close_stride.Tie as tie
 
@@ -26,7 +26,7 @@ place-a-requires c κs = let fg = c .before .before .before .before .before .fit
 put-stride-requires : tie.Need-put-stride-requires
 put-stride-requires c κs = let fg = c .before .before .before .before .before .before .before .fits .g in
     let b = (rw (c .before .before .enum-told .given .1) at (simp toZ-ofZ at (c .before .before .before .before .test-stride .ensures))) in
-    simp toZ-ofZ ((numbered (c .before .before .before .before .before .before .before .pre .0) (stride-there b) (c .before .place-a .ensures), record { multiplies = c .before .before .before .before .before .before .before .pre .1 .0; low = stride-two b }), c .before .before .before .before .before .before .before .pre .1 .1)
+    simp toZ-ofZ ((numbered (c .before .before .before .before .before .before .before .pre .0) (stride-there b) (c .before .place-a .ensures), divisor (c .before .before .before .before .before .before .before .pre .1 .0) (stride-two b)), c .before .before .before .before .before .before .before .pre .1 .1)
 
 same-length : tie.Need-same-length
 same-length c = c .before .before .put-stride .kept .1 .1 .1 .1 .0

@@ -5,7 +5,7 @@ use mir.Syntax.{w64}
 use mir.Val.{toZ}
 use mir.ValLaws.{toZ-ofZ}
 use borrow.Author.Needs.{needs}
-use Rattle.integers.specs.Magnitude.{within-le}
+use Rattle.integers.proofs.Magnitude.{within-le}
 use Rattle.formula.proofs.Value.{Summed, summed-none, summed-more, summed-all}
 use Rattle.formula.proofs.form.value_at.Statement.{statement}
 use Rattle.formula.proofs.form.value_at.Tie as tie

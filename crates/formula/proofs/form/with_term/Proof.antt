@@ -12,25 +12,25 @@ use Rattle.formula.proofs.form.with_term.Tie as tie
 wide-long-at-requires : tie.Need-wide-long-at-requires
 wide-long-at-requires c κs = c .before .pre .0
 
-register-requires : tie.Need-register-requires
-register-requires c κs = c .before .before .pre .1 .register
+number-requires : tie.Need-number-requires
+number-requires c κs = c .before .before .pre .1 .register
 
-module _ (c : tie.After-register) where
-  value-in : Within 1_000_000 (c .register .result)
-  value-in = rw (c .register .ensures) (c .before .before .before .pre .1 .all .at (c .before .before .before .args .i))
+module _ (c : tie.After-number) where
+  value-in : Within 1_000_000 (c .number .result)
+  value-in = rw (c .number .ensures) (c .before .before .before .pre .1 .all .at (c .before .before .before .args .i))
 
-  product-in : SFits w64 (c .before .wide-long-at .result *ℤ c .register .result)
+  product-in : SFits w64 (c .before .wide-long-at .result *ℤ c .number .result)
   product-in = product-fits (c .before .wide-long-at .ensures .1) value-in
 
-  sum-in : SFits w64 (c .before .wide-long-at .result *ℤ c .register .result +ℤ c .before .before .before .args .total)
+  sum-in : SFits w64 (c .before .wide-long-at .result *ℤ c .number .result +ℤ c .before .before .before .args .total)
   sum-in = sum-fits (c .before .wide-long-at .ensures .1) value-in (c .before .before .before .pre .1 .small)
 
   -- the factors, the product and the total as the machine reads them back
   coefficient-is : toZ w64 (ofZ w64 (c .before .wide-long-at .result)) ≡ c .before .wide-long-at .result
   coefficient-is = toZ-ofZ w64 (c .before .wide-long-at .result) (record { sfits = c .before .wide-long-at .ok })
 
-  value-is : toZ w64 (ofZ w64 (c .register .result)) ≡ c .register .result
-  value-is = toZ-ofZ w64 (c .register .result) (record { sfits = c .register .ok })
+  value-is : toZ w64 (ofZ w64 (c .number .result)) ≡ c .number .result
+  value-is = toZ-ofZ w64 (c .number .result) (record { sfits = c .number .ok })
 
   total-is : toZ w64 (ofZ w64 (c .before .before .before .args .total)) ≡ c .before .before .before .args .total
   total-is = toZ-ofZ w64 (c .before .before .before .args .total) (c .before .before .before .fits .total)
@@ -43,9 +43,9 @@ add-result c = rw (coefficient-is c, value-is c, toZ-ofZ w64 _ (product-in c), t
 
 returns : tie.Need-returns
 returns c = (
-  rw (coefficient-is c, value-is c, toZ-ofZ w64 _ (product-in c), total-is c, toZ-ofZ w64 _ (sum-in c), c .before .wide-long-at .ensures .0, c .register .ensures),
+  rw (coefficient-is c, value-is c, toZ-ofZ w64 _ (product-in c), total-is c, toZ-ofZ w64 _ (sum-in c), c .before .wide-long-at .ensures .0, c .number .ensures),
   rw (c .before .wide-long-at .ensures .0) at (c .before .wide-long-at .ensures .1),
 )
 
 pub with-term-spec : {M : Type 1} → statement M
-with-term-spec = tie.close (tie.spec wide-long-at-requires register-requires mul-result add-result returns)
+with-term-spec = tie.close (tie.spec wide-long-at-requires number-requires mul-result add-result returns)

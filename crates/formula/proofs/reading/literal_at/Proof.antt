@@ -4,7 +4,7 @@ use mathlib.Core.Bool.{Bool}
 use mir.Syntax.{w64}
 use mir.ValLaws.{toZ-ofZ}
 use Rattle.formula.specs.Test.{holds}
-use Rattle.formula.specs.Nodes.{kindOf}
+use Rattle.formula.specs.Nodes.{literalKind}
 use Rattle.formula.specs.declared.reading.Judged.{Judged}
 use borrow.Author.Needs.{needs}
 use Rattle.formula.proofs.reading.literal_at.Statement.{statement}
@@ -17,7 +17,7 @@ says-requires : tie.Need-says-requires
 says-requires c κs = search needs
 
 returns : tie.Need-returns
-returns c = ap (λ (b : Bool). Judged.Value b (c .before .before .before .args .next)) (c .says .ensures ∙ ap (holds (kindOf (c .before .before .before .args .equality))) (toZ-ofZ w64 (c .before .value-at .result) (record { sfits = c .before .value-at .ok }) ∙ c .before .value-at .ensures))
+returns c = ap (λ (b : Bool). Judged.Value b (c .before .before .before .args .next)) (c .says .ensures ∙ ap (holds (literalKind (c .before .before .before .args .equality))) (toZ-ofZ w64 (c .before .value-at .result) (record { sfits = c .before .value-at .ok }) ∙ c .before .value-at .ensures))
 
 pub literal-at-spec : {M : Type 1} → statement M
 literal-at-spec = tie.close (tie.spec value-at-requires says-requires returns)

@@ -21,8 +21,8 @@ abbrev μ-loop : tie.MeasureT-loop
 loop-holds : tie.Need-loop-holds Inv-loop μ-loop
 loop-holds c = passed-none _
 
-register-requires : tie.Need-register-requires Inv-loop μ-loop
-register-requires c κs = search needs
+number-requires : tie.Need-number-requires Inv-loop μ-loop
+number-requires c κs = search needs
 
 in-range-requires : tie.Need-in-range-requires Inv-loop μ-loop
 in-range-requires c κs = search needs
@@ -30,7 +30,7 @@ in-range-requires c κs = search needs
 test-is : (c : tie.After-in-range Inv-loop μ-loop)
     → leb (natAbs (getD (c .before .before .before .before .args .values .now) (c .before .before .before .loop .i) (pos 0))) 1_000_000 ≡ c .in-range .result
 test-is c =
-    ap (λ (z : ℤ). leb (natAbs z) 1_000_000) (sym (toZ-ofZ w64 _ (record { sfits = c .before .register .ok }) ∙ c .before .register .ensures))
+    ap (λ (z : ℤ). leb (natAbs z) 1_000_000) (sym (toZ-ofZ w64 _ (record { sfits = c .before .number .ok }) ∙ c .before .number .ensures))
     ∙ sym (c .in-range .ensures)
 
 returns : tie.Need-returns Inv-loop μ-loop
@@ -49,4 +49,4 @@ returns-2 : tie.Need-returns-2 Inv-loop μ-loop
 returns-2 c = none-outside (c .before .loop .inv) (c .loop-test .left)
 
 pub first-outside-spec : {M : Type 1} → statement M
-first-outside-spec = tie.close (tie.spec Inv-loop μ-loop loop-holds register-requires in-range-requires returns add-i loop-less loop-again returns-2)
+first-outside-spec = tie.close (tie.spec Inv-loop μ-loop loop-holds number-requires in-range-requires returns add-i loop-less loop-again returns-2)

@@ -2,7 +2,7 @@
 use borrow.Author.Needs.{needs}
 use native.Mathlib.Omega.{arith}
 use mir.ValLaws.{toZ-ofZ}
-use Rattle.rows.proofs.Testing.{below, past, zero-abs, some-abs, scale-none, scale-zero, scale-made}
+use Rattle.rows.proofs.Testing.{is-below, past, zero-abs, some-abs, scale-none, scale-zero, scale-made}
 use Rattle.rows.proofs.derive.scale.Statement.{statement}
 use Rattle.rows.proofs.derive.scale.Tie as tie
 
@@ -19,7 +19,7 @@ kind-of-requires : tie.Need-kind-of-requires
 kind-of-requires c κs =
     let s = c .before .before .before .before in
     let a = s .args in
-    omega (arith, (below (a .t .0) (a .tally .lines .0) (c .before .before .is-there .ensures) (c .before .if1 .left)), s .pre .0 .room, s .pre .0 .most)
+    omega (arith, (is-below (a .t .0) (a .tally .lines .0) (c .before .before .is-there .ensures) (c .before .if1 .left)), s .pre .0 .room, s .pre .0 .most)
 
 is-zero-requires : tie.Need-is-zero-requires
 is-zero-requires c κs = search needs
@@ -32,14 +32,14 @@ returns-2 c =
     let s = c .before .before .before .before .before .before .before in
     let a = s .args in
     let fa = s .fits .alpha in
-    scale-zero _ _ _ (a .tally) _ _ (below (a .t .0) (a .tally .lines .0) (c .before .before .before .before .before .is-there .ensures) (c .before .before .before .before .if1 .left)) (zero-abs (a .alpha) (simp toZ-ofZ at (c .before .is-zero .ensures)) (c .if2 .taken))
+    scale-zero _ _ _ (a .tally) _ _ (is-below (a .t .0) (a .tally .lines .0) (c .before .before .before .before .before .is-there .ensures) (c .before .before .before .before .if1 .left)) (zero-abs (a .alpha) (simp toZ-ofZ at (c .before .is-zero .ensures)) (c .if2 .taken))
 
 append-requires : tie.Need-append-requires
 append-requires c κs =
     let s = c .before .before .before .before .before .before .before .before .before in
     let a = s .args in
     let fa = s .fits .alpha in
-    simp toZ-ofZ (s .pre .0, record { f-in = s .pre .1 .within; first = (below (a .t .0) (a .tally .lines .0) (c .before .before .before .before .before .before .before .is-there .ensures) (c .before .before .before .before .before .before .if1 .left)); g-in = record { abs = omega arith }; second = (below (a .t .0) (a .tally .lines .0) (c .before .before .before .before .before .before .before .is-there .ensures) (c .before .before .before .before .before .before .if1 .left)) })
+    simp toZ-ofZ (s .pre .0, record { f-in = s .pre .1 .within; first = (is-below (a .t .0) (a .tally .lines .0) (c .before .before .before .before .before .before .before .is-there .ensures) (c .before .before .before .before .before .before .if1 .left)); g-in = record { abs = omega arith }; second = (is-below (a .t .0) (a .tally .lines .0) (c .before .before .before .before .before .before .before .is-there .ensures) (c .before .before .before .before .before .before .if1 .left)) })
 
 same-length-2 : tie.Need-same-length-2
 same-length-2 c = search needs
@@ -52,7 +52,7 @@ returns-3 c =
     let s = c .before .before .before .before .before .before .before .before .before .before .before .before .before in
     let a = s .args in
     let fa = s .fits .alpha in
-    scale-made _ _ _ (a .tally) _ _ (below (a .t .0) (a .tally .lines .0) (c .before .before .before .before .before .before .before .before .before .before .before .is-there .ensures) (c .before .before .before .before .before .before .before .before .before .before .if1 .left)) (some-abs (a .alpha) (simp toZ-ofZ at (c .before .before .before .before .before .before .before .is-zero .ensures)) (c .before .before .before .before .before .before .if2 .left)) (s .pre .1 .is) (c .before .before .before .before .before .before .before .before .kind-of .ensures) (simp toZ-ofZ at (c .before .before .before .append .ensures))
+    scale-made _ _ _ (a .tally) _ _ (is-below (a .t .0) (a .tally .lines .0) (c .before .before .before .before .before .before .before .before .before .before .before .is-there .ensures) (c .before .before .before .before .before .before .before .before .before .before .if1 .left)) (some-abs (a .alpha) (simp toZ-ofZ at (c .before .before .before .before .before .before .before .is-zero .ensures)) (c .before .before .before .before .before .before .if2 .left)) (s .pre .1 .is) (c .before .before .before .before .before .before .before .before .kind-of .ensures) (simp toZ-ofZ at (c .before .before .before .append .ensures))
 
 pub scale-spec : {M : Type 1} → statement M
 scale-spec = tie.close (tie.spec is-there-requires returns kind-of-requires is-zero-requires same-length returns-2 append-requires same-length-2 same-length-3 returns-3)

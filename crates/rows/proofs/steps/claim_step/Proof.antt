@@ -2,7 +2,7 @@
 use native.Mathlib.Omega.{arith}
 use Prim.Native.Nat.{_-_, _<_}
 use mathlib.Core.Path.{refl}
-use Rattle.lines.specs.Lines.{before}
+use Rattle.lines.proofs.Lines.{before}
 use Rattle.rows.proofs.Stepping.{claim-out, claim-wrong, claim-right}
 use Rattle.rows.proofs.steps.claim_step.Statement.{statement}
 use Rattle.rows.proofs.steps.claim_step.Tie as tie

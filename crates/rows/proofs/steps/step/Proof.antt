@@ -3,8 +3,8 @@ use borrow.Author.Needs.{needs}
 use native.Mathlib.Omega.{arith}
 use mathlib.Core.Path.{ap}
 use mir.ValLaws.{toZ-ofZ}
-use Rattle.integers.specs.Magnitude.{within-fits}
-use Rattle.rows.specs.Entries.{stated}
+use Rattle.integers.proofs.Magnitude.{within-fits}
+use Rattle.rows.specs.Entries.{entryOf}
 use Rattle.rows.proofs.Stepping.{step-row, step-claim, step-refused}
 use Rattle.rows.proofs.steps.step.Statement.{statement}
 use Rattle.rows.proofs.steps.step.Tie as tie
@@ -37,7 +37,7 @@ returns c =
     let e = rw (c .before .before .before .before .before .before .before .entry .given .1) at (c .before .before .before .before .before .before .before .before .before .entry-at .ensures) in
     let f0 = within-fits (e .ranged .0 .within) tt in
     let f1 = within-fits (e .ranged .1 .within) tt in
-    step-row _ _ (a .tally) (a .made) (c .before .before .before .before .before .before .before .before .before .entry-at .ensures) _ (λ at. ap (stated (a .k) at _) (c .before .before .before .before .before .before .before .entry .given .1)) (simp toZ-ofZ at (c .before .before .before .combine-row .ensures))
+    step-row _ _ (a .tally) (a .made) (c .before .before .before .before .before .before .before .before .before .entry-at .ensures) _ (λ refusal. ap (entryOf refusal (a .k) _) (c .before .before .before .before .before .before .before .entry .given .1)) (simp toZ-ofZ at (c .before .before .before .combine-row .ensures))
 
 enum-known-entry-2 : tie.Need-enum-known-entry-2
 enum-known-entry-2 c = search needs
@@ -62,7 +62,7 @@ returns-2 c =
     let a = s .args in
     let e = rw (c .before .before .before .before .before .before .before .entry2 .given .1) at (c .before .before .before .before .before .before .before .before .before .entry-at .ensures) in
     let f0 = within-fits (e .ranged) tt in
-    step-row _ _ (a .tally) (a .made) (c .before .before .before .before .before .before .before .before .before .entry-at .ensures) _ (λ at. ap (stated (a .k) at _) (c .before .before .before .before .before .before .before .entry2 .given .1)) (simp toZ-ofZ at (c .before .before .before .reduce-row .ensures))
+    step-row _ _ (a .tally) (a .made) (c .before .before .before .before .before .before .before .before .before .entry-at .ensures) _ (λ refusal. ap (entryOf refusal (a .k) _) (c .before .before .before .before .before .before .before .entry2 .given .1)) (simp toZ-ofZ at (c .before .before .before .reduce-row .ensures))
 
 enum-known-entry-3 : tie.Need-enum-known-entry-3
 enum-known-entry-3 c = search needs
@@ -87,7 +87,7 @@ returns-3 c =
     let a = s .args in
     let e = rw (c .before .before .before .before .before .before .before .entry3 .given .1) at (c .before .before .before .before .before .before .before .before .before .entry-at .ensures) in
     let f0 = within-fits (e .ranged .within) tt in
-    step-row _ _ (a .tally) (a .made) (c .before .before .before .before .before .before .before .before .before .entry-at .ensures) _ (λ at. ap (stated (a .k) at _) (c .before .before .before .before .before .before .before .entry3 .given .1)) (simp toZ-ofZ at (c .before .before .before .scale-row .ensures))
+    step-row _ _ (a .tally) (a .made) (c .before .before .before .before .before .before .before .before .before .entry-at .ensures) _ (λ refusal. ap (entryOf refusal (a .k) _) (c .before .before .before .before .before .before .before .entry3 .given .1)) (simp toZ-ofZ at (c .before .before .before .scale-row .ensures))
 
 enum-known-entry-4 : tie.Need-enum-known-entry-4
 enum-known-entry-4 c = search needs
@@ -99,7 +99,7 @@ returns-4 : tie.Need-returns-4
 returns-4 c =
     let s = c .before .before .before .before .before .before .before in
     let a = s .args in
-    step-row _ _ (a .tally) (a .made) (c .before .before .before .before .entry-at .ensures) _ (λ at. ap (stated (a .k) at _) (c .before .before .entry4 .given .1)) (c .strengthen-row .ensures .steps _ _ _)
+    step-row _ _ (a .tally) (a .made) (c .before .before .before .before .entry-at .ensures) _ (λ refusal. ap (entryOf refusal (a .k) _) (c .before .before .entry4 .given .1)) (c .strengthen-row .ensures .steps _ _ _)
 
 enum-known-entry-5 : tie.Need-enum-known-entry-5
 enum-known-entry-5 c = search needs
@@ -111,7 +111,7 @@ returns-5 : tie.Need-returns-5
 returns-5 c =
     let s = c .before .before .before .before .before .before .before in
     let a = s .args in
-    step-row _ _ (a .tally) (a .made) (c .before .before .before .before .entry-at .ensures) _ (λ at. ap (stated (a .k) at _) (c .before .before .entry5 .given .1)) (c .number-row .ensures .steps _ _ _)
+    step-row _ _ (a .tally) (a .made) (c .before .before .before .before .entry-at .ensures) _ (λ refusal. ap (entryOf refusal (a .k) _) (c .before .before .entry5 .given .1)) (c .number-row .ensures .steps _ _ _)
 
 enum-known-entry-6 : tie.Need-enum-known-entry-6
 enum-known-entry-6 c = search needs
@@ -130,7 +130,7 @@ returns-6 c =
     let a = s .args in
     let e = rw (c .before .before .entry6 .given .1) at (c .before .before .before .before .entry-at .ensures) in
     let f0 = within-fits (e .ranged .within) tt in
-    step-row _ _ (a .tally) (a .made) (c .before .before .before .before .entry-at .ensures) _ (λ at. ap (stated (a .k) at _) (c .before .before .entry6 .given .1)) ((simp toZ-ofZ at (c .stride-row .ensures)) .steps _ _ _)
+    step-row _ _ (a .tally) (a .made) (c .before .before .before .before .entry-at .ensures) _ (λ refusal. ap (entryOf refusal (a .k) _) (c .before .before .entry6 .given .1)) ((simp toZ-ofZ at (c .stride-row .ensures)) .steps _ _ _)
 
 enum-known-entry-7 : tie.Need-enum-known-entry-7
 enum-known-entry-7 c = search needs

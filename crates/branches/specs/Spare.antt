@@ -1,0 +1,27 @@
+-- The room that a branch asks for: each row takes a field, and makes one line at most. Assumes nothing.
+use mathlib.Core.List.{List}
+use Prim.Native.Nat.{ℕ, suc, _+_, _-_, _*_, _≤_}
+use lib.IntN.{ℤ}
+use lib.ListN.{length}
+use Rattle.forms.specs.Edition.{edition1}
+use Rattle.fields.specs.Fields.{Fields, ends, cut, _▸_}
+use Rattle.fields.specs.Places.{fieldsAt}
+use Rattle.lines.specs.Buffer.{size}
+
+-- How many fields there are.
+unfoldable pub fieldCount : Fields → ℕ
+fieldCount (ends at) = 0
+fieldCount (cut at) = 0
+fieldCount (f ▸ fs) = suc (fieldCount fs)
+
+-- How many there are from a place on.
+abbrev pub fieldsLeft : (p : List ℕ) (at : ℕ) → ℕ
+fieldsLeft p at = fieldCount (fieldsAt p at)
+
+-- How many bytes of the proof are unread at a place: they fall from one branch to the next.
+abbrev pub unreadBytes : (p : List ℕ) (at : ℕ) → ℕ
+unreadBytes p at = length p - at
+
+-- A branch may come to have c lines, but never more than the limit: with each count of them the buffer has room for one more.
+pub record Spare (K c : ℕ) (buf : List ℤ) : Type 0 where
+  pub room : (n : ℕ) → n ≤ edition1 .lines → n ≤ c → n * size K + size K ≤ length buf

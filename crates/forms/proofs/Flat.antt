@@ -1,0 +1,28 @@
+-- Kinds by their bytes, and the numbers of a form in a list. Assumes nothing.
+use mathlib.Core.Path.{_≡_, ap, _∙_}
+use mathlib.Core.Bool.{Bool, true, false}
+use mathlib.Core.List.{List, [], _∷_, _++_}
+use Prim.Native.Nat.{ℕ, _+_, _<_}
+use native.Mathlib.Numerals.{add-one}
+use native.Mathlib.Omega.{arith}
+use lib.IntN.{ℤ, pos}
+use lib.ListN.{length, take, drop, length-drop}
+use lib.Seq.{take-suc, getD-drop}
+use borrow.Author.Tests.{eq-eqb, ne-eqb}
+use Rattle.forms.specs.Forms.{≤0, =0}
+use Rattle.forms.specs.Flat.{kindOf, formIn}
+
+pub kind-zero : {b : ℕ} → b ≡ 0 → kindOf b ≡ ≤0
+unfolding kindOf
+kind-zero {b} h = ap (λ (x : Bool). elim x [ true ↦ ≤0 | false ↦ =0 ]) (eq-eqb b 0 h)
+
+pub kind-one : {b : ℕ} → (b ≡ 0 → ⊥) → kindOf b ≡ =0
+unfolding kindOf
+kind-one {b} h = ap (λ (x : Bool). elim x [ true ↦ ≤0 | false ↦ =0 ]) (ne-eqb b 0 h)
+
+-- The K + 1 numbers at a place are those of the form there.
+pub part-form : (at K : ℕ) (buf : List ℤ) → at + K < length buf → take (K + 1) (drop at buf) ≡ formIn K buf at .coeffs ++ (formIn K buf at .d ∷ [])
+part-form at K buf h =
+    ap (λ (n : ℕ). take n (drop at buf)) (add-one K)
+    ∙ take-suc (drop at buf) K (pos 0) (simp length-drop (omega arith))
+    ∙ ap (λ (z : ℤ). take K (drop at buf) ++ (z ∷ [])) (getD-drop at buf K (pos 0))

@@ -1,0 +1,21 @@
+-- Where in the tree a refusal stands: document 02, point 8. Of what each operation's function ensures. Assumes nothing.
+use mathlib.Core.List.{List}
+use Prim.Native.Nat.{ℕ}
+use lib.IntN.{ℤ}
+use Rattle.fields.specs.declared.Answer.{Answer}
+use Rattle.fields.specs.declared.WriteResult.{WriteResult}
+use Rattle.bundle.specs.declared.ReadResult.{ReadResult}
+use Rattle.bundle.specs.Promises.{Reads, Writes, AnswersShow}
+use Rattle.formula.specs.declared.Tested.{Tested}
+use Rattle.formula.specs.Promises.{Tests}
+use Rattle.proof.specs.Tree.{Outside, AnswerStands}
+use Rattle.checking.specs.Promises.{Checks}
+
+pub record InTree : Type 0 where
+  -- check: amid the proof the row, step and branch to which the tags before the field at fault lead, elsewhere none
+  pub check : (A B proof output left : List ℕ) (r : WriteResult) → Checks A B proof output left r → AnswerStands proof (r .answer)
+  -- the operations that check no proof: none
+  pub read : (file kinds : List ℕ) (numbers : List ℤ) (kinds′ : List ℕ) (numbers′ : List ℤ) (r : ReadResult) → Reads file kinds numbers kinds′ numbers′ r → Outside (r .answer)
+  pub write : (K : ℕ) (kinds : List ℕ) (numbers : List ℤ) (output left : List ℕ) (r : WriteResult) → Writes K kinds numbers output left r → Outside (r .answer)
+  pub show : (A B : List ℕ) (line : ℕ) (r : Answer) → AnswersShow A B line r → Outside r
+  pub test : (formula : List ℕ) (values : List ℤ) (r : Tested) → Tests formula values r → Outside (r .answer)
