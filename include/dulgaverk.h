@@ -10,7 +10,7 @@
  * - a refusal leaves every lent output as it was. An accepted call changes the elements used, from the front, and
  *   leaves those behind them as they were.
  * - nothing is allocated, kept or shared: calls may run in several threads at once.
- * - working memory is on the stack: a check takes up to 152 KiB of it, every other call less than 12 KiB.
+ * - working memory is on the stack: a check takes up to 320 KiB of it, testing a formula up to 64 KiB, every other call less than 12 KiB.
  *
  * docs/FORMAT.md has the layout of the files and the order in which each operation tests them.
  */
@@ -40,7 +40,7 @@ extern "C" {
 /* What an operation answers. Accepted is 0, 0, 0 with no row, step or branch.
  *
  * number  meaning
- *      1  a file is longer than its limit
+ *      1  a file is longer than its limit, or a formula would be
  *      2  bytes are no whole field, or a file ends too early
  *      3  a tag below 0x80 that this kind of file does not have
  *      4  a known tag where it may not stand
@@ -51,12 +51,12 @@ extern "C" {
  *      9  the number of constants is not the one given before
  *     10  a line that is not there
  *     11  a line of the wrong kind
- *     12  a multiplier of 0, or a stride below 2
+ *     12  a multiplier of 0, a stride below 2, or a rounding by 0 or more than 16
  *     13  a number of a new line is out of range
  *     14  a claim that is not the new line
- *     15  a close whose condition is not met
+ *     15  a close or rounding whose condition is not met
  *     16  a 129th line on a branch
- *     17  a 33rd open strengthen, or in a formula a 65th level of and/or
+ *     17  a 33rd open step, or in a formula a 601st level of and/or
  *     18  a 1,025th row
  *     19  a known field after the end of the proof or formula
  *     20  branches are still open at the end of the proof
@@ -72,9 +72,9 @@ extern "C" {
  *
  *    row  the row at fault; rows are numbered in the file from 0, claims and notes are none. 10 to 13 and 15 to 18 have
  *         their own row, 14 that before the claim, every other refusal none
- *   step  the row number of the innermost strengthen that is open where the fault is found, before the field at fault
- *         takes effect; for 20 at the end of the proof. None on the root, and after its close
- * branch  which branch of that step it is, 0, 1 or 2 in file order; none where step is
+ *   step  the row number of the innermost step (a strengthen or a rounding) that is open where the fault is found, before
+ *         the field at fault takes effect; for 20 at the end of the proof. None on the root, and after its close
+ * branch  which branch of that step it is, from 0 in file order, at most 16; none where step is
  *
  * Only a check has them: the other operations, and what a check refuses of A, B or a lent output, have none.
  */
@@ -143,7 +143,8 @@ size_t dulgaverk_show(const uint8_t *a, size_t a_length, const uint8_t *b, size_
  * Accepted: `count` bytes of `out` are the file of the interpolant, a formula that holds wherever A is met, fails wherever
  * B is met, and names only constants that both use. 65,536 bytes are always enough.
  * Refused: 1 for A, B and the proof (files 1, 2, 3, place 0); then what reading refuses of A and of B, for B also 9; then
- * 2 to 7 and 9 to 20 with file 3; 21 with file 4, and as place the bytes needed, where `out` is too short.
+ * 2 to 7 and 9 to 20 with file 3; then with file 4, and as place the bytes needed, 1 where the formula would have more
+ * than 65,536 bytes, whatever `out` is, and 21 where `out` is too short.
  */
 dulgaverk_write_result dulgaverk_check(const uint8_t *a, size_t a_length, const uint8_t *b, size_t b_length,
                                        const uint8_t *proof, size_t proof_length, uint8_t *out, size_t out_length);

@@ -1,7 +1,7 @@
--- The fields that are left, counted, and the room for the lines that they may make. Assumes nothing.
+-- The fields that are left, counted, the room for the lines that they may make, and what falls from one branch to the next. Assumes nothing.
 use mathlib.Core.Path.{_≡_}
 use mathlib.Core.List.{List}
-use Prim.Native.Nat.{ℕ, suc, _≤_}
+use Prim.Native.Nat.{ℕ, suc, _+_, _*_, _-_, _<_, _≤_}
 use native.Mathlib.Omega.{arith}
 use lib.IntN.{ℤ}
 use lib.ListN.{length}
@@ -24,3 +24,16 @@ count-ends e = rw e
 -- Room for fewer lines, in a buffer of the same length.
 pub spare-less : {K c d : ℕ} {buf buf′ : List ℤ} → d ≤ c → length buf′ ≡ length buf → Spare K c buf → Spare K d buf′
 spare-less h l s = record { room = λ n m k. omega (arith, s .room n m (omega arith)) }
+
+-- ---- what falls from one branch to the next: the unread bytes x, y and how many more steps may be open, twice, and one more where the branches of a rounding are gone through
+pub one-less : {m t : ℕ} → m + 1 < t → m < t
+one-less h = omega arith
+
+pub next-falls : {t x y o v : ℕ} → v ≡ o → y < x → 2 * (x + (32 - o)) < t → 2 * (y + (32 - v)) < t
+next-falls e h l = omega arith
+
+pub own-falls : {m t : ℕ} → m + 1 ≡ t → m < t
+own-falls e = omega arith
+
+pub others-fall : {t x y o v : ℕ} → v ≡ o → y < x → 2 * (x + (32 - o)) + 1 ≡ t → 2 * (y + (32 - v)) + 1 < t
+others-fall e h m = omega arith

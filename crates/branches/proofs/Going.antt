@@ -9,7 +9,6 @@ use native.Mathlib.Omega.{arith}
 use lib.ListN.{take, drop}
 use lib.IntN.{ℤ}
 use Rattle.forms.specs.Edition.{edition1}
-use Rattle.forms.specs.Forms.{Line}
 use Rattle.calculus.specs.Rules as rules
 use Rattle.fields.specs.declared.Position.{Position}
 use Rattle.fields.specs.Answers.{refusalAt, Result}
@@ -23,7 +22,7 @@ use Rattle.lines.specs.Buffer.{size, linesIn}
 use Rattle.proof.specs.Entries.{entry}
 use Rattle.proof.specs.Check.{Closing, Checker, checkEntries}
 use Rattle.rows.specs.Rows.{Ready, LinesKept}
-use Rattle.rows.specs.Steps.{SameChecked, rowLeft, moreRows, lastMade, fieldChecked, Steps}
+use Rattle.rows.specs.Steps.{SameChecked, rowLeft, moreRows, lastMade, fieldChecked, Steps, Advances}
 use Rattle.branches.specs.Spare.{fieldsLeft, unreadBytes, Spare}
 use Rattle.branches.specs.Branches.{entriesFrom, Comes, Stopped}
 use Rattle.branches.proofs.Counting.{count-starts, spare-less}
@@ -31,7 +30,7 @@ use Rattle.forms.specs.declared.LineNumber.{LineNumber}
 use Rattle.forms.specs.declared.RowNumber.{RowNumber}
 use Rattle.rows.specs.declared.tally.Tally.{Tally}
 use Rattle.rows.specs.declared.steps.Stepped.{Stepped}
-use Rattle.rows.specs.declared.steps.Stepped.the-variants.{Refused, Made, Strengthens, ClosesNumber, ClosesStride}
+use Rattle.rows.specs.declared.steps.Stepped.the-variants.{Refused, Made, Strengthens, ClosesNumber, ClosesStride, Rounds}
 use Rattle.branches.specs.declared.branch.Stop.{Stop}
 
 pub kept-trans : {K m n : ℕ} {kinds : List ℕ} {buf : List ℤ} {kinds′ : List ℕ} {buf′ : List ℤ} {kinds″ : List ℕ} {buf″ : List ℤ}
@@ -81,7 +80,7 @@ module _ {K : ℕ} {p : List ℕ} {at : ℕ} {kinds₀ : List ℕ} {buf₀ : Lis
   going-ends er e = rw er (record { kept = g .kept; by = λ here deeper. g .same here deeper ∙ rw e })
 
   module _ {a tag start len next : ℕ} (s : Starts p place a tag start len next) {kinds′ : List ℕ} {buf′ : List ℤ} {r : Stepped}
-      (x : Steps (fieldChecked K kinds buf t made tag (take len (drop start p))) K kinds buf t kinds′ buf′ r) where
+      (x : Steps (fieldChecked K kinds buf t made tag (take len (drop start p))) K kinds buf t kinds′ buf′ r) (long : Advances len r) where
     -- the field that stands next, and what follows it
     field-is : (here : Position) (deeper : Option Checker) → entriesFrom K p at kinds₀ buf₀ t₀ here deeper
         ≡ fieldChecked K kinds buf t made tag (take len (drop start p)) deeper (checkEntries edition1 K here deeper (fieldsAt p next)) (refusalAt here (t .rows .0) a) (fieldsAt p next)
@@ -136,9 +135,9 @@ module _ {K : ℕ} {p : List ℕ} {at : ℕ} {kinds₀ : List ℕ} {buf₀ : Lis
           unread = omega (arith, g .unread, starts-less s);
         }
 
-    comes : {row : rules.Row} {u : Tally} → SameChecked (fieldChecked K kinds buf t made tag (take len (drop start p))) (rowLeft K kinds buf t row) → u ≡ moreRows t
+    comes : {row : rules.Row} {u : Tally} → SameChecked (fieldChecked K kinds buf t made tag (take len (drop start p))) (rowLeft K kinds buf t row) → u ≡ moreRows t → 1 ≤ len
         → Comes K p at kinds₀ buf₀ t₀ kinds′ buf′ row (t .rows .0) a next u
-    comes q eu =
+    comes q eu l =
         rw eu
         (record {
           rows-is = refl;
@@ -147,18 +146,21 @@ module _ {K : ℕ} {p : List ℕ} {at : ℕ} {kinds₀ : List ℕ} {buf₀ : Lis
           from = g .from;
           open-is = g .open-is;
           few = omega (arith, g .few, count-starts s);
-          unread = omega (arith, g .unread, starts-less s);
+          unread = omega (arith, g .unread, s .from, s .start-is, s .next-is, s .upto, l);
         })
 
     module _ {row : RowNumber} (er : row ≡ t .rows) {u : Tally} where
       pub going-strengthens : {i : LineNumber} → r ≡ Strengthens u i → Stopped K p at kinds₀ buf₀ t₀ kinds′ buf′ (Stop.Strengthens i row a next u)
-      going-strengthens e = let y = rw e at x in rw er (record { kept = all-kept; by = comes (y .by .0) (y .by .1) })
+      going-strengthens e = let y = rw e at x in let l = rw e at long in rw er (record { kept = all-kept; by = comes (y .by .0) (y .by .1) l })
 
       pub going-number : {i : LineNumber} → r ≡ ClosesNumber u i → Stopped K p at kinds₀ buf₀ t₀ kinds′ buf′ (Stop.ClosesNumber i row a next u)
-      going-number e = let y = rw e at x in rw er (record { kept = all-kept; by = comes (y .by .0) (y .by .1) })
+      going-number e = let y = rw e at x in let l = rw e at long in rw er (record { kept = all-kept; by = comes (y .by .0) (y .by .1) l })
 
       pub going-stride : {i : LineNumber} {h : ℤ} → r ≡ ClosesStride u i h → Stopped K p at kinds₀ buf₀ t₀ kinds′ buf′ (Stop.ClosesStride i row a next u h)
-      going-stride e = let y = rw e at x in rw er (record { kept = all-kept; by = (comes (y .by .0) (y .by .1), y .by .2) })
+      going-stride e = let y = rw e at x in let l = rw e at long in rw er (record { kept = all-kept; by = (comes (y .by .0) (y .by .1) l, y .by .2) })
+
+      pub going-rounds : {i : LineNumber} {h : ℤ} {by : ℕ} → r ≡ Rounds u i h by → Stopped K p at kinds₀ buf₀ t₀ kinds′ buf′ (Stop.Rounds i row a next u h by)
+      going-rounds e = let y = rw e at x in let l = rw e at long in rw er (record { kept = all-kept; by = (comes (y .by .0) (y .by .1) l, y .by .2) })
 
 pub going-start : {K : ℕ} {p : List ℕ} {at : ℕ} {kinds : List ℕ} {buf : List ℤ} {t : Tally}
     → Ready K kinds buf (t .lines .0) × Spare K (t .lines .0 + fieldsLeft p at) buf → Going K p at kinds buf t kinds buf at t false

@@ -22,7 +22,7 @@ use Rattle.rows.specs.Tally.{returnedTo}
 use Rattle.rows.specs.Rows.{LinesKept}
 use Rattle.branches.specs.Branches.{Comes, Stopped}
 use Rattle.closes.specs.Ends.{EndedBy}
-use Rattle.branches.specs.Strengthening.{below, strengthened, Strengthens}
+use Rattle.branches.specs.Opening.{below, Branching, rowOpened, RowOpens}
 use Rattle.branches.specs.Branching.{closedBy, Started, Branches}
 use Rattle.forms.specs.declared.LineNumber.{LineNumber}
 use Rattle.forms.specs.declared.RowNumber.{RowNumber}
@@ -66,6 +66,9 @@ module _ {K : ℕ} {p : List ℕ} {at : ℕ} {kinds : List ℕ} {buf : List ℤ}
     pub strengthen-comes : {i : LineNumber} → r ≡ Stop.Strengthens i row a next u → Comes K p at kinds buf t kinds′ buf′ (rules.Strengthen (i .0)) (row .0) a next u
     strengthen-comes e = rw e at (s .by)
 
+    pub round-comes : {i : LineNumber} {g : ℤ} {by : ℕ} → r ≡ Stop.Rounds i row a next u g by → Comes K p at kinds buf t kinds′ buf′ (rules.Round (i .0) (natAbs g) by) (row .0) a next u × Multiplies (natAbs g) g
+    round-comes e = rw e at (s .by)
+
   module _ {row : rules.Row} {number a next : ℕ} {u : Tally} (m : Comes K p at kinds buf t kinds′ buf′ row number a next u) where
     -- The row that the entries come to.
     pub comes-row : (here : Position) → checkBranch edition1 K (32 - t .«open») here (t .rows .0) (linesIn K kinds buf (t .lines .0)) (fieldsAt p at)
@@ -92,8 +95,9 @@ module _ {K : ℕ} {p : List ℕ} {at : ℕ} {kinds : List ℕ} {buf : List ℤ}
             is = comes-row m here ∙ row-is ∙ rw (w .is (refusalAt here (number .0) a), q);
             o-is = w .puts .o-is;
             stored = w .puts .stored;
-            within = omega (arith, w .short, m .few, m .from);
-            unread = m .unread;
+            within = omega (arith, w .short, m .unread);
+            few = omega (arith, m .few, m .from);
+            unread = omega (arith, m .unread);
             lines-is = refl;
             open-is = refl;
           };
@@ -116,16 +120,16 @@ module _ {K : ℕ} {p : List ℕ} {at : ℕ} {kinds : List ℕ} {buf : List ℤ}
     stride-closed {i} {g} {row} {a} {next} {u} q w ev eb =
         rw (eb, ev) (row-closed here row (stride-comes s q .0) (s .kept) (λ refusal. byStride refusal (linesIn K kinds′ buf′ (u .lines .0)) (i .0) (natAbs g)) refl scratch o scratch′ e w)
 
-  -- ---- a strengthen
-  module _ (here : Position) {i number a next : ℕ} {u : Tally} (m : Comes K p at kinds buf t kinds′ buf′ (rules.Strengthen i) number a next u) (k : LinesKept K (t .lines .0) kinds buf kinds′ buf′) where
-    pub comes-strengthen : checkBranch edition1 K (32 - t .«open») here (t .rows .0) (linesIn K kinds buf (t .lines .0)) (fieldsAt p at)
-        ≡ strengthened K kinds′ buf′ u i (checkEntries edition1 K here (below K (32 - t .«open»)) (fieldsAt p next)) (refusalAt here number a) number (fieldsAt p next)
-    comes-strengthen = comes-row m here ∙ ap (λ (n : ℕ). checkRow edition1 K (below K (32 - n)) (checkEntries edition1 K here (below K (32 - t .«open»)) (fieldsAt p next)) (refusalAt here number a) number (linesIn K kinds′ buf′ (u .lines .0)) (fieldsAt p next) (rules.Strengthen i)) (sym (m .open-is))
+  -- ---- a row that opens branches
+  module _ (here : Position) {row : rules.Row} {number a next : ℕ} {u : Tally} (m : Comes K p at kinds buf t kinds′ buf′ row number a next u) (k : LinesKept K (t .lines .0) kinds buf kinds′ buf′) where
+    pub comes-opened : checkBranch edition1 K (32 - t .«open») here (t .rows .0) (linesIn K kinds buf (t .lines .0)) (fieldsAt p at)
+        ≡ rowOpened K kinds′ buf′ u row (checkEntries edition1 K here (below K (32 - t .«open»)) (fieldsAt p next)) (refusalAt here number a) number (fieldsAt p next)
+    comes-opened = comes-row m here ∙ ap (λ (n : ℕ). checkRow edition1 K (below K (32 - n)) (checkEntries edition1 K here (below K (32 - t .«open»)) (fieldsAt p next)) (refusalAt here number a) number (linesIn K kinds′ buf′ (u .lines .0)) (fieldsAt p next) row) (sym (m .open-is))
 
-    pub strengthen-refused : {r : Derived} {x : ℕ} {row : RowNumber} {kinds″ : List ℕ} {buf″ : List ℤ} (scratch : List ℕ) (o : ℕ) → Strengthens K kinds′ buf′ u i kinds″ buf″ r → r ≡ derived.Refused x
-        → row .0 ≡ number → Branches K p at here kinds buf t scratch o kinds″ buf″ scratch (branched.Fault x row here a)
-    strengthen-refused scratch o s e ey = rw ey (record {
+    pub opens-refused : {branching : Branching} {i by : ℕ} {r : Derived} {x : ℕ} {row-number : RowNumber} {kinds″ : List ℕ} {buf″ : List ℤ} (scratch : List ℕ) (o : ℕ) → RowOpens row branching K kinds′ buf′ u i by kinds″ buf″ r → r ≡ derived.Refused x
+        → row-number .0 ≡ number → Branches K p at here kinds buf t scratch o kinds″ buf″ scratch (branched.Fault x row-number here a)
+    opens-refused scratch o s e ey = rw ey (record {
       kept = kept-trans (m .from) k (s .kept);
       long = refl;
-      by = comes-strengthen ∙ (rw e at s) .by _ (refusalAt here number a) number (fieldsAt p next);
+      by = comes-opened ∙ (rw e at s) .by _ (refusalAt here number a) number (fieldsAt p next);
     })

@@ -2,7 +2,7 @@
 use mathlib.Core.Path.{_≡_}
 use mathlib.Core.List.{List}
 use mathlib.Core.Option.{Option, none}
-use Prim.Native.Nat.{ℕ, suc, _+_, _<_, _≤_}
+use Prim.Native.Nat.{ℕ, suc, _+_, _≤_}
 use lib.IntN.{ℤ, natAbs}
 use Rattle.forms.specs.Edition.{edition1}
 use Rattle.calculus.specs.Rules as rules
@@ -21,7 +21,7 @@ use Rattle.branches.specs.declared.branch.Stop.{Stop}
 abbrev pub entriesFrom : (K : ℕ) (p : List ℕ) (at : ℕ) (kinds : List ℕ) (buf : List ℤ) (t : Tally) (here : Position) (deeper : Option Checker) → Result Closing
 entriesFrom K p at kinds buf t here deeper = checkEntries edition1 K here deeper (fieldsAt p at) (t .rows .0) none (linesIn K kinds buf (t .lines .0))
 
--- They come to a row, by its number, at a, with the lines that there are then; each line more, and the row itself, took a field.
+-- They come to a row, by its number, at a, with the lines that there are then; each line more, and the row itself, took a field, and the row's field has four bytes at least.
 pub record Comes (K : ℕ) (p : List ℕ) (at : ℕ) (kinds : List ℕ) (buf : List ℤ) (t : Tally) (kinds′ : List ℕ) (buf′ : List ℤ) (row : rules.Row) (number a next : ℕ) (t′ : Tally) : Type 0 where
   pub rows-is : t′ .rows .0 ≡ number + 1
   pub is : (here : Position) (deeper : Option Checker)
@@ -31,7 +31,7 @@ pub record Comes (K : ℕ) (p : List ℕ) (at : ℕ) (kinds : List ℕ) (buf : L
   pub from : t .lines .0 ≤ t′ .lines .0
   pub open-is : t′ .«open» ≡ t .«open»
   pub few : t′ .lines .0 + suc (fieldsLeft p next) ≤ t .lines .0 + fieldsLeft p at
-  pub unread : unreadBytes p next < unreadBytes p at
+  pub unread : unreadBytes p next + 4 ≤ unreadBytes p at
 
 abbrev pub StoppedBy : (K : ℕ) (p : List ℕ) (at : ℕ) (kinds : List ℕ) (buf : List ℤ) (t : Tally) (kinds′ : List ℕ) (buf′ : List ℤ) → Stop → Type 0
 StoppedBy K p at kinds buf t kinds′ buf′ (Stop.Fault x rows a) =
@@ -40,6 +40,8 @@ StoppedBy K p at kinds buf t kinds′ buf′ (Stop.Strengthens i row a next t′
 StoppedBy K p at kinds buf t kinds′ buf′ (Stop.ClosesNumber i row a next t′) = Comes K p at kinds buf t kinds′ buf′ (rules.CloseNumber (i .0)) (row .0) a next t′
 StoppedBy K p at kinds buf t kinds′ buf′ (Stop.ClosesStride i row a next t′ g) =
     Comes K p at kinds buf t kinds′ buf′ (rules.CloseStride (i .0) (natAbs g)) (row .0) a next t′ × Multiplies (natAbs g) g
+StoppedBy K p at kinds buf t kinds′ buf′ (Stop.Rounds i row a next t′ g by) =
+    Comes K p at kinds buf t kinds′ buf′ (rules.Round (i .0) (natAbs g) by) (row .0) a next t′ × Multiplies (natAbs g) g
 
 pub record Stopped (K : ℕ) (p : List ℕ) (at : ℕ) (kinds : List ℕ) (buf : List ℤ) (t : Tally) (kinds′ : List ℕ) (buf′ : List ℤ) (r : Stop) : Type 0 where
   pub kept : LinesKept K (t .lines .0) kinds buf kinds′ buf′

@@ -1,5 +1,5 @@
 -- The contracts of a branch's functions.
 pub mod Spare
-pub mod Strengthening
+pub mod Opening
 pub mod Branches
 pub mod Branching

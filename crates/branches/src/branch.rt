@@ -1,11 +1,16 @@
-// A branch: its entries up to the row that ends or strengthens it, and the branches that it opens.
+// A branch: its entries up to the row that ends it or opens branches, and the branches that are opened.
 ghost use Rattle.rows.specs.Rows.{Ready};
 ghost use Rattle.branches.specs.Spare.{fieldsLeft, Spare};
 ghost use Rattle.branches.specs.Branches.{Stopped};
 ghost use mathlib.Core.Path.{_≡_};
-ghost use Prim.Native.Nat.{_+_};
-ghost use Rattle.branches.specs.Branching.{closedBy, resumedBy, Started, Branches};
-use crate::strengthen::start;
+ghost use Prim.Native.Nat.{_+_, _<_};
+ghost use Rattle.branches.specs.Opening.{RoundsBy};
+ghost use Rattle.branches.specs.Branching.{closedBy, resumedBy, Started, Branches, Opened, FirstStands, RoundingChecked, RoundedChecked};
+ghost use Rattle.rows.specs.Entries.{Multiplies};
+ghost use lib.IntN.{natAbs};
+use crate::opening::start;
+use crate::rounding::put_front;
+use crate::rounding::round;
 use crate::strengthen::strengthen;
 use closes::ends::Ended;
 use closes::ends::close_number;
@@ -29,7 +34,7 @@ pub enum Stop {
         rows: RowNumber,
         at: usize,
     },
-    // The row at `at` strengthens the branch or ends it; the tally has counted it, and the fields go on at next.
+    // The row at `at` opens branches or ends this one; the tally has counted it, and the fields go on at next.
     Strengthens {
         t: LineNumber,
         row: RowNumber,
@@ -51,6 +56,15 @@ pub enum Stop {
         next: usize,
         tally: Tally,
         g: i64,
+    },
+    Rounds {
+        t: LineNumber,
+        row: RowNumber,
+        at: usize,
+        next: usize,
+        tally: Tally,
+        g: i64,
+        by: u16,
     },
 }
 
@@ -119,6 +133,17 @@ pub fn entries(
                         return Stop::ClosesStride {
                             t,
                             g,
+                            row,
+                            at: a,
+                            next,
+                            tally: u,
+                        };
+                    }
+                    Stepped::Rounds { t, g, by, tally: u } => {
+                        return Stop::Rounds {
+                            t,
+                            g,
+                            by,
                             row,
                             at: a,
                             next,
@@ -290,7 +315,7 @@ pub fn check_branch(
                     else {
                         return first;
                     };
-                    start(lines, kinds, t, n, k, 1, false, false);
+                    start(lines, kinds, t, n, k, 1, 0, 0);
                     let head2 = put_pair(scratch, o1, 0x32);
                     let place2 = Position {
                         step: row,
@@ -305,7 +330,7 @@ pub fn check_branch(
                     else {
                         return second;
                     };
-                    start(lines, kinds, t, n, k, 0, true, false);
+                    start(lines, kinds, t, n, k, 0, 1, 0);
                     let place3 = Position {
                         step: row,
                         branch: 2,
@@ -315,5 +340,140 @@ pub fn check_branch(
                 }
             }
         }
+        Stop::Rounds {
+            t,
+            g,
+            by,
+            row,
+            at: a,
+            next,
+            tally: u,
+        } => {
+            match round(lines, kinds, u, t, g, by, k) {
+                Derived::Refused { number } => {
+                    return Branched::Fault {
+                        number,
+                        rows: row,
+                        position,
+                        at: a,
+                    };
+                }
+                Derived::Made { tally: v } => {
+                    let n = u.lines;
+                    let all = check_rounding(
+                        p,
+                        next,
+                        row,
+                        lines,
+                        kinds,
+                        v,
+                        k,
+                        t,
+                        n,
+                        g,
+                        by,
+                        scratch,
+                        o,
+                    );
+                    return resumed(all, tally);
+                }
+            }
+        }
     }
+}
+
+// The branches of a rounding of line t by `by`, behind n lines: that of j = by, whose line stands already, and then the others. Its row tells the step.
+fn check_rounding(
+    p: &[u8],
+    at: usize,
+    row: RowNumber,
+    lines: &mut [i32],
+    kinds: &mut [u8],
+    tally: Tally,
+    k: usize,
+    t: LineNumber,
+    n: LineNumber,
+    g: i64,
+    by: u16,
+    scratch: &mut [u8],
+    o: usize,
+) -> Branched
+    requires { ⌜ Opened k (n .0) by (now kinds) (now lines) tally (t .0) (now p) at o × FirstStands k (n .0) by (now kinds) (now lines) (t .0) ⌝ }
+    requires { ⌜ Multiplies (natAbs g) g × RoundsBy (natAbs g) by ⌝ }
+    ensures { λ r. ⌜ RoundingChecked k (row .0) (n .0) (now (p .entry)) at (now (kinds .entry)) (now (lines .entry)) tally (t .0) (natAbs g) by (now (scratch .entry)) o (now (kinds .exit)) (now (lines .exit)) (now (scratch .exit)) r ⌝ }
+{
+    let head = put_pair(scratch, o, 0x31);
+    let place = Position {
+        step: row,
+        branch: 0,
+    };
+    let first = check_branch(p, at, place, lines, kinds, tally, k, scratch, head);
+    let Branched::Closed {
+        at: a1,
+        o: o1,
+        tally: v1,
+    } = first
+    else {
+        return first;
+    };
+    check_rounded(p, a1, row, lines, kinds, v1, k, t, n, g, by, 0, scratch, o1)
+}
+
+// The branches of a rounding from j on: t + by ≤ 0 with tA + j, each with Ej before its formula.
+fn check_rounded(
+    p: &[u8],
+    at: usize,
+    row: RowNumber,
+    lines: &mut [i32],
+    kinds: &mut [u8],
+    tally: Tally,
+    k: usize,
+    t: LineNumber,
+    n: LineNumber,
+    g: i64,
+    by: u16,
+    j: u16,
+    scratch: &mut [u8],
+    o: usize,
+) -> Branched
+    requires { ⌜ Opened k (n .0) by (now kinds) (now lines) tally (t .0) (now p) at o × (j < by) ⌝ }
+    requires { ⌜ Multiplies (natAbs g) g × RoundsBy (natAbs g) by ⌝ }
+    ensures { λ r. ⌜ RoundedChecked k (row .0) (n .0) (now (p .entry)) at (now (kinds .entry)) (now (lines .entry)) tally (t .0) (natAbs g) by j (now (scratch .entry)) o (now (kinds .exit)) (now (lines .exit)) (now (scratch .exit)) r ⌝ }
+{
+    start(lines, kinds, t, n, k, 0, by, j);
+    let following = j + 1;
+    let others = following < by;
+    let front = put_front(lines, n, k, g, others, scratch, o);
+    let place = Position {
+        step: row,
+        branch: following,
+    };
+    let own = check_branch(p, at, place, lines, kinds, tally, k, scratch, front);
+    if others {
+        let Branched::Closed {
+            at: a1,
+            o: o1,
+            tally: v1,
+        } = own
+        else {
+            return own;
+        };
+        return check_rounded(
+            p,
+            a1,
+            row,
+            lines,
+            kinds,
+            v1,
+            k,
+            t,
+            n,
+            g,
+            by,
+            following,
+            scratch,
+            o1,
+        );
+    }
+    own
 }

@@ -7,8 +7,8 @@ use lib.Dec.{T}
 use lib.IntN.{ℤ, +ℤ-idr}
 use Rattle.forms.specs.Edition.{Edition}
 use Rattle.forms.specs.Forms.{Form, Kind, ≤0, =0, Line, line, Constraint, lines, All, nil, cons, coeff, nonzero, occurs, Formula, names, _plus_}
-use Rattle.calculus.specs.Rules.{Nth, _▷_, Closed, derive, strengthen, number, stride}
-use Rattle.calculus.specs.Reached.{Drawn, DrawnApart, Reached, root, derived, branched, Throughout}
+use Rattle.calculus.specs.Rules.{Nth, _▷_, Closed, derive, strengthen, round, number, stride, Rounded, last, more}
+use Rattle.calculus.specs.Reached.{Drawn, DrawnApart, Reached, root, derived, branched, Throughout, ThroughoutRounded}
 use Rattle.calculus.proofs.Sides.{Side, A, B, part, all-nth}
 use Rattle.calculus.proofs.Vocabulary.{Words, words-new, words-raised, vocabulary}
 use Rattle.calculus.proofs.Interpolation.{sides, initial-words, occurs-if}
@@ -48,7 +48,7 @@ module _ (As Bs : List Constraint) where
     names-common = (on A, on B)
 
 -- ---- the rows of a closed branch
-plus-0 : (t : Form) → t plus 0 ≡ t
+pub plus-0 : (t : Form) → t plus 0 ≡ t
 unfolding _plus_
 plus-0 t = ap (λ (z : ℤ). record { coeffs = t .coeffs; d = z }) (+ℤ-idr (t .d))
 
@@ -61,23 +61,37 @@ module _ {As Bs : List Constraint} {ls : List Line} {t tA : Form} (i : ℕ) (r :
   standing kind = subst (λ (u : Form). Reached As Bs (ls ▷ line kind u tA)) (plus-0 t) (raised kind 0)
 
 module _ {e : Edition} {inB : ℕ → Bool} where
-  -- at every row of a branch that starts with a reached list the lines are a reached list
-  pub reached : {As Bs : List Constraint} {ls : List Line} {I : Formula} (p : Closed e inB ls I) → Reached As Bs ls → Throughout (Reached As Bs) p
-  reached (derive _ n _ p) r = (r, reached p (derived r n))
-  reached (strengthen i l _ p1 pE p0) r = (r, reached p1 (branched i ≤0 1 1 r l), reached pE (standing i r l =0), reached p0 (raised i r l ≤0 1))
-  reached (number _ _ _ _) r = r
-  reached (stride _ _ _ _ _ _) r = r
+  mutual
+    -- at every row of a branch that starts with a reached list the lines are a reached list
+    pub reached : {As Bs : List Constraint} {ls : List Line} {I : Formula} (p : Closed e inB ls I) → Reached As Bs ls → Throughout (Reached As Bs) p
+    reached (derive _ n _ p) r = (r, reached p (derived r n))
+    reached (strengthen i l _ p1 pE p0) r = (r, reached p1 (branched i ≤0 1 1 r l), reached pE (standing i r l =0), reached p0 (raised i r l ≤0 1))
+    reached (round i g k l p ps) r = (r, reached p (branched i ≤0 k k r (l .at)), reached-rounded ps i (l .at) r)
+    reached (number _ _ _ _) r = r
+    reached (stride _ _ _ _ _ _ _) r = r
+
+    reached-rounded : {As Bs : List Constraint} {ls : List Line} {t tA : Form} {g k j : ℕ} {I : Formula} (p : Rounded e inB ls t tA g k j I)
+        → (i : ℕ) → Nth ls i (line ≤0 t tA) → Reached As Bs ls → ThroughoutRounded (Reached As Bs) p
+    reached-rounded (last {k = k} {j = j} _ _ p) i l r = reached p (branched i ≤0 k j r l)
+    reached-rounded (more {k = k} {j = j} _ _ p ps) i l r = (reached p (branched i ≤0 k j r l), reached-rounded ps i l r)
 
   -- what follows of such lists holds at every row
-  throughout : {P Q : List Line → Type 0} → ((ls : List Line) → P ls → Q ls) → {ls : List Line} {I : Formula} (p : Closed e inB ls I) → Throughout P p → Throughout Q p
-  throughout f (derive {ls = ls} _ n _ p) h = (f ls (h .0), throughout f p (h .1))
-  throughout f (strengthen {ls = ls} i l _ p1 pE p0) h = (f ls (h .0), throughout f p1 (h .1), throughout f pE (h .2), throughout f p0 (h .3))
-  throughout f (number {ls = ls} _ _ _ _) h = f ls h
-  throughout f (stride {ls = ls} _ _ _ _ _ _) h = f ls h
+  mutual
+    throughout : {P Q : List Line → Type 0} {ls : List Line} {I : Formula} (p : Closed e inB ls I) → ((ls : List Line) → P ls → Q ls) → Throughout P p → Throughout Q p
+    throughout (derive {ls = ls} _ n _ p) f h = (f ls (h .0), throughout p f (h .1))
+    throughout (strengthen {ls = ls} i l _ p1 pE p0) f h = (f ls (h .0), throughout p1 f (h .1), throughout pE f (h .2), throughout p0 f (h .3))
+    throughout (round {ls = ls} _ _ _ _ p ps) f h = (f ls (h .0), throughout p f (h .1), throughout-rounded ps f (h .2))
+    throughout (number {ls = ls} _ _ _ _) f h = f ls h
+    throughout (stride {ls = ls} _ _ _ _ _ _ _) f h = f ls h
+
+    throughout-rounded : {P Q : List Line → Type 0} {ls : List Line} {t tA : Form} {g k j : ℕ} {I : Formula} (p : Rounded e inB ls t tA g k j I)
+        → ((ls : List Line) → P ls → Q ls) → ThroughoutRounded P p → ThroughoutRounded Q p
+    throughout-rounded (last _ _ p) f h = throughout p f h
+    throughout-rounded (more _ _ p ps) f h = (throughout p f (h .0), throughout-rounded ps f (h .1))
 
 -- at every row of a proof from A and B every line is drawn
 pub drawn-throughout : (As Bs : List Constraint) {e : Edition} {inB : ℕ → Bool} {I : Formula} (p : Closed e inB (lines As Bs) I) → Throughout (All (Drawn As Bs)) p
-drawn-throughout As Bs p = throughout (λ ls. drawn As Bs) p (reached p root)
+drawn-throughout As Bs p = throughout p (λ ls. drawn As Bs) (reached p root)
 
 -- Point 10.
 pub drawn-apart : (As Bs : List Constraint) → DrawnApart As Bs

@@ -1,5 +1,5 @@
 -- What a reduced form says: no assignment tells a stride part from its reduced form, nor need it be cut down to B's constants. Assumes nothing.
-use mathlib.Core.Path.{_≡_, refl, ap, ap₂}
+use mathlib.Core.Path.{_≡_, refl, sym, ap, ap₂, subst}
 use mathlib.Core.Logic.{_⊎_, inl, inr, _↔_}
 use mathlib.Core.List.{List}
 use mathlib.Core.Bool.{Bool, false}
@@ -13,7 +13,7 @@ use Rattle.forms.specs.Edition.{Edition}
 use Rattle.forms.specs.Forms.{Form, Line, coeff, value, Assignment, within, Formula, literal, _divides_, _and_, _or_, True}
 use Rattle.forms.specs.Reduced.{reduced, reducing, Strides, Reduced}
 use Rattle.forms.proofs.Residues.{residues, residues-stand, coeff-reduced, reduced-within}
-use Rattle.calculus.specs.Rules.{Closed, derive, strengthen, number, stride}
+use Rattle.calculus.specs.Rules.{StrideOf, Closed, derive, strengthen, round, number, stride, Rounded, last, more}
 use Rattle.calculus.proofs.Sides.{Side, part}
 use Rattle.calculus.proofs.Leaves.{Verdict, ∣-values, ∣-left, ∣-right, by-stride}
 
@@ -93,18 +93,37 @@ pub reducing-again : (I : Formula) → Strides I → reducing (reducing I) ≡ r
 reducing-again I s = reduced-already (reducing I) (reducing-strides I s) (reducing-reduced I s)
 
 -- ---- what the rules derive
-pub derived-strides : {e : Edition} {inB : ℕ → Bool} {ls : List Line} {I : Formula} → Closed e inB ls I → Strides I
-derived-strides (derive _ _ _ p) = derived-strides p
-derived-strides (strengthen _ _ _ p1 pE p0) = (derived-strides p1, (derived-strides pE, derived-strides p0))
-derived-strides (number _ _ _ _) = tt
-derived-strides (stride _ _ _ n _ _) = n
+stride-strides : {inB : ℕ → Bool} {g : ℕ} {tA : Form} {E : Formula} → 2 ≤ g → StrideOf inB g tA E → Strides E
+stride-strides n is = subst Strides (sym (is .is)) n
 
-pub derived-reduced : {e : Edition} {inB : ℕ → Bool} {ls : List Line} {I : Formula} → Closed e inB ls I → Reduced I
-derived-reduced (derive _ _ _ p) = derived-reduced p
-derived-reduced (strengthen _ _ _ p1 pE p0) = (derived-reduced p1, (derived-reduced pE, derived-reduced p0))
-derived-reduced (number _ _ _ _) = tt
-derived-reduced {inB = inB} (stride {tA = tA} _ _ _ n _ _) = residues (positive n) (within inB tA)
+stride-reduced : {inB : ℕ → Bool} {g : ℕ} {tA : Form} {E : Formula} → 2 ≤ g → StrideOf inB g tA E → Reduced E
+stride-reduced {inB} {tA = tA} n is = subst Reduced (sym (is .is)) (residues (positive n) (within inB tA))
 
--- so what they derive is reduced already
-pub derived-stands : {e : Edition} {inB : ℕ → Bool} {ls : List Line} {I : Formula} → Closed e inB ls I → reducing I ≡ I
-derived-stands {I = I} p = reduced-already I (derived-strides p) (derived-reduced p)
+module _ {e : Edition} {inB : ℕ → Bool} where
+  mutual
+    pub derived-strides : {ls : List Line} {I : Formula} → Closed e inB ls I → Strides I
+    derived-strides (derive _ _ _ p) = derived-strides p
+    derived-strides (strengthen _ _ _ p1 pE p0) = (derived-strides p1, (derived-strides pE, derived-strides p0))
+    derived-strides (round _ _ _ r p ps) = (derived-strides p, rounded-strides ps (r .stride))
+    derived-strides (number _ _ _ _) = tt
+    derived-strides (stride _ _ _ n _ _ is) = stride-strides n is
+
+    rounded-strides : {ls : List Line} {t tA : Form} {g k j : ℕ} {I : Formula} → Rounded e inB ls t tA g k j I → 2 ≤ g → Strides I
+    rounded-strides (last _ is p) n = (stride-strides n is, derived-strides p)
+    rounded-strides (more _ is p ps) n = ((stride-strides n is, derived-strides p), rounded-strides ps n)
+
+  mutual
+    pub derived-reduced : {ls : List Line} {I : Formula} → Closed e inB ls I → Reduced I
+    derived-reduced (derive _ _ _ p) = derived-reduced p
+    derived-reduced (strengthen _ _ _ p1 pE p0) = (derived-reduced p1, (derived-reduced pE, derived-reduced p0))
+    derived-reduced (round _ _ _ r p ps) = (derived-reduced p, rounded-reduced ps (r .stride))
+    derived-reduced (number _ _ _ _) = tt
+    derived-reduced (stride _ _ _ n _ _ is) = stride-reduced n is
+
+    rounded-reduced : {ls : List Line} {t tA : Form} {g k j : ℕ} {I : Formula} → Rounded e inB ls t tA g k j I → 2 ≤ g → Reduced I
+    rounded-reduced (last _ is p) n = (stride-reduced n is, derived-reduced p)
+    rounded-reduced (more _ is p ps) n = ((stride-reduced n is, derived-reduced p), rounded-reduced ps n)
+
+  -- so what they derive is reduced already
+  pub derived-stands : {ls : List Line} {I : Formula} → Closed e inB ls I → reducing I ≡ I
+  derived-stands {I = I} p = reduced-already I (derived-strides p) (derived-reduced p)

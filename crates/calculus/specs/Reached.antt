@@ -6,7 +6,7 @@ use lib.Dec.{T}
 use lib.IntN.{_-ℤ_}
 use Rattle.forms.specs.Edition.{Edition}
 use Rattle.forms.specs.Forms.{All, Form, Kind, ≤0, Line, line, Constraint, lines, Formula, coeff, nonzero, names, occurs, _plus_}
-use Rattle.calculus.specs.Rules.{Nth, _▷_, New, Closed, derive, strengthen, number, stride}
+use Rattle.calculus.specs.Rules.{Nth, _▷_, New, Closed, derive, strengthen, round, number, stride, Rounded, last, more}
 
 -- The partial interpolant tA draws its constants from A alone, the rest of the line, t - tA, from B alone.
 pub record Drawn (A B : List Constraint) (l : Line) : Type 0 where
@@ -24,11 +24,18 @@ pub data Reached (A B : List Constraint) : List Line → Type 0 where
       → Reached A B (ls ▷ line kind (t plus k) (tA plus j))
 
 -- P holds of the lines that each row of a closed branch finds, in the branches that it opens too.
-abbrev pub Throughout : {e : Edition} {inB : ℕ → Bool} (P : List Line → Type 0) {ls : List Line} {I : Formula} → Closed e inB ls I → Type 0
-Throughout P (derive {ls = ls} _ _ _ p) = P ls × Throughout P p
-Throughout P (strengthen {ls = ls} _ _ _ p1 pE p0) = P ls × Throughout P p1 × Throughout P pE × Throughout P p0
-Throughout P (number {ls = ls} _ _ _ _) = P ls
-Throughout P (stride {ls = ls} _ _ _ _ _ _) = P ls
+abbrev mutual
+  pub Throughout : {e : Edition} {inB : ℕ → Bool} (P : List Line → Type 0) {ls : List Line} {I : Formula} → Closed e inB ls I → Type 0
+  Throughout P (derive {ls = ls} _ _ _ p) = P ls × Throughout P p
+  Throughout P (strengthen {ls = ls} _ _ _ p1 pE p0) = P ls × Throughout P p1 × Throughout P pE × Throughout P p0
+  Throughout P (round {ls = ls} _ _ _ _ p ps) = P ls × Throughout P p × ThroughoutRounded P ps
+  Throughout P (number {ls = ls} _ _ _ _) = P ls
+  Throughout P (stride {ls = ls} _ _ _ _ _ _ _) = P ls
+
+  pub ThroughoutRounded : {e : Edition} {inB : ℕ → Bool} (P : List Line → Type 0) {ls : List Line} {t tA : Form} {g k j : ℕ} {I : Formula}
+      → Rounded e inB ls t tA g k j I → Type 0
+  ThroughoutRounded P (last _ _ p) = Throughout P p
+  ThroughoutRounded P (more _ _ p ps) = Throughout P p × ThroughoutRounded P ps
 
 -- Point 10: over all rows partial interpolants draw their constants from A alone and the rest of a line from B alone, so a close names common ones only.
 pub record DrawnApart (A B : List Constraint) : Type 0 where

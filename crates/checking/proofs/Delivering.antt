@@ -9,12 +9,12 @@ use lib.Seq.{sets, sets-eq, paste, take-at, take-all, drop-append-add, drop-drop
 use borrow.Author.Tests.{le-leb, lt-leb}
 use Rattle.fields.specs.declared.FileKind.{FileKind}
 use Rattle.fields.specs.declared.Answer.{Answer}
-use Rattle.fields.specs.Answers.{answer, acceptance, accepted, _>>_, Written, over, fit, written}
+use Rattle.fields.specs.Answers.{answer, acceptance, refused, accepted, _>>_, need, Written, over, fit, written}
 use Rattle.fields.specs.Header.{headerBytes}
 use Rattle.fields.proofs.Headers.{length-headerBytes}
 use Rattle.lines.proofs.Fill.{Filled, filled-length, filled-next}
 use Rattle.fields.specs.Ending.{IsEnding}
-use Rattle.checking.specs.Whole.{Delivers, Finishes, InScratch}
+use Rattle.checking.specs.Whole.{fileWithin, Holds, Delivers, Finishes}
 use Rattle.fields.specs.declared.WriteResult.{WriteResult}
 use Rattle.fields.specs.declared.ending.Ending.{Ending}
 
@@ -33,8 +33,17 @@ delivered h f out n o eh ef l =
     let w : length (h ++ f) ≡ n + o = length-append h f ∙ omega arith in
     rw (s, t, u, v, w)
 
-size : (K : ℕ) (S : List ℕ) (o : ℕ) → o ≤ length S → length (headerBytes K ++ take o S) ≡ 8 + o
-size K S o room = length-append (headerBytes K) (take o S) ∙ omega (arith, length-headerBytes K, length-take-le o S room)
+holds-size : (K : ℕ) {bytes : List ℕ} {o : ℕ} {S : List ℕ} → Holds bytes o S → length (headerBytes K ++ bytes) ≡ 8 + o
+holds-size K {bytes} h = length-append (headerBytes K) bytes ∙ omega (arith, length-headerBytes K, h .o-is)
+
+-- a file that is too long, and one that is not
+file-long : (bytes : List ℕ) (n : ℕ) → length bytes ≡ n → 65536 < n → fileWithin bytes ≡ refused (answer 1 4 n)
+unfolding need _>>_
+file-long bytes n e h = ap (λ (b : Bool). need (answer 1 4 (length bytes)) b >> accepted bytes) (lt-leb (length bytes) 65536 (omega arith)) ∙ rw e
+
+file-fits : (bytes : List ℕ) (n : ℕ) → length bytes ≡ n → n ≤ 65536 → fileWithin bytes ≡ accepted bytes
+unfolding need _>>_
+file-fits bytes n e h = ap (λ (b : Bool). need (answer 1 4 (length bytes)) b >> accepted bytes) (le-leb (length bytes) 65536 (omega arith))
 
 abbrev done : List ℕ → List ℕ → ℕ → Written
 done bytes out n = record { answer = answer 0 0 0; count = n; output = over bytes out }
@@ -47,16 +56,26 @@ fit-done : (bytes out : List ℕ) (n : ℕ) → length bytes ≡ n → n ≤ len
 unfolding written fit
 fit-done bytes out n e h = ap (λ (b : Bool). fit out b bytes) (le-leb (length bytes) (length out) (omega arith)) ∙ ap (done bytes out) e
 
-module _ {K : ℕ} {S : List ℕ} {o : ℕ} {out : List ℕ} (room : o ≤ length S) where
-  pub deliver-short : {r : WriteResult} → length out < 8 + o → r ≡ unwritten 21 4 (8 + o) → Delivers K S o out out r
-  deliver-short h e = record { is = rw e (sym (fit-short (headerBytes K ++ take o S) out (8 + o) (size K S o room) h)) }
+module _ {K : ℕ} {S : List ℕ} {o : ℕ} {out : List ℕ} where
+  pub deliver-long : {r : WriteResult} → 65536 < 8 + o → r ≡ unwritten 1 4 (8 + o) → Delivers K S o out out r
+  unfolding written
+  deliver-long h e = record { is = λ bytes x. rw (e, file-long (headerBytes K ++ bytes) (8 + o) (holds-size K x) h) }
 
-  pub deliver-done : {out₁ out₂ : List ℕ} {x : Answer} → 8 + o ≤ length out → out₁ ≡ sets out 0 (headerBytes K) → out₂ ≡ paste out₁ 8 (take o S) o → x ≡ acceptance
-      → Delivers K S o out out₂ (record { answer = x; count = 8 + o })
-  deliver-done {out₁} {out₂} h p q e =
-      let w : out₂ ≡ over (headerBytes K ++ take o S) out
-      = q ∙ ap (λ (x : List ℕ). paste x 8 (take o S) o) p ∙ delivered (headerBytes K) (take o S) out 8 o (length-headerBytes K) (length-take-le o S room) h in
-      record { is = rw (e, w) (sym (fit-done (headerBytes K ++ take o S) out (8 + o) (size K S o room) h)) }
+  module _ (few : 8 + o ≤ 65536) (room : o ≤ length S) where
+    pub deliver-short : {r : WriteResult} → length out < 8 + o → r ≡ unwritten 21 4 (8 + o) → Delivers K S o out out r
+    deliver-short h e = record {
+      is = λ bytes x. rw (e, file-fits (headerBytes K ++ bytes) (8 + o) (holds-size K x) few) (sym (fit-short (headerBytes K ++ bytes) out (8 + o) (holds-size K x) h));
+    }
+
+    pub deliver-done : {out₁ out₂ : List ℕ} {x : Answer} → 8 + o ≤ length out → out₁ ≡ sets out 0 (headerBytes K) → out₂ ≡ paste out₁ 8 (take o S) o → x ≡ acceptance
+        → Delivers K S o out out₂ (record { answer = x; count = 8 + o })
+    deliver-done {out₁} {out₂} h p q e = record {
+      is = λ bytes x.
+          let w : out₂ ≡ over (headerBytes K ++ bytes) out
+          = q ∙ ap (λ (y : List ℕ). paste y 8 (take o S) o) p ∙ delivered (headerBytes K) (take o S) out 8 o (length-headerBytes K) (length-take-le o S room) h
+          ∙ ap (λ (y : List ℕ). over (headerBytes K ++ y) out) (x .stored (omega arith)) in
+          rw (e, w, file-fits (headerBytes K ++ bytes) (8 + o) (holds-size K x) few) (sym (fit-done (headerBytes K ++ bytes) out (8 + o) (holds-size K x) h));
+    }
 
 -- ---- a copy
 module _ {to₀ : List ℕ} {at : ℕ} (n : ℕ) (from : List ℕ) {to : List ℕ} {i : ℕ} (hf : n ≤ length from) (ht : at + n ≤ length to₀) (v : Filled to₀ at (take n from) to i) where
@@ -78,11 +97,8 @@ module _ {to₀ : List ℕ} {at : ℕ} (n : ℕ) (from : List ℕ) {to : List �
 module _ {P : List ℕ} {at : ℕ} {e : Ending} (k : IsEnding FileKind.Proof P at e) {K : ℕ} {S : List ℕ} {o : ℕ} {out : List ℕ} where
   pub finish-fault : {number place : ℕ} {r : WriteResult} → e ≡ Ending.Fault number place → r ≡ unwritten number 3 place → Finishes K P at S o out out r
   unfolding _>>_ written
-  finish-fault q f = record { is = rw (k .is 3, q, f) }
+  finish-fault q f = record { is = λ bytes x. rw (k .is 3, q, f) }
 
   pub finish-ended : {out′ : List ℕ} {r : WriteResult} → e ≡ Ending.Ended → Delivers K S o out out′ r → Finishes K P at S o out out′ r
   unfolding _>>_
-  finish-ended q l = record { is = rw (k .is 3, q) (l .is) }
-
-pub ended-room : {P : List ℕ} {at : ℕ} {e : Ending} {o : ℕ} {S : List ℕ} → IsEnding FileKind.Proof P at e → e ≡ Ending.Ended → InScratch P at o S → o ≤ length S
-ended-room k q t = t .room (k .is 3 ∙ rw q)
+  finish-ended q l = record { is = λ bytes x. rw (k .is 3, q) (l .is bytes x) }

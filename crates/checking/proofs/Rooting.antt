@@ -14,9 +14,9 @@ use Rattle.lines.specs.Buffer.{linesIn}
 use Rattle.proof.specs.Check.{checkBranch}
 use Rattle.rows.specs.Tally.{tally}
 use Rattle.rows.specs.declared.tally.Tally.{Tally}
-use Rattle.branches.specs.Branching.{Closes, Branches}
+use Rattle.branches.specs.Branching.{keptBack, Started, Closes, Branches}
 use Rattle.branches.specs.declared.branch.Branched.{Branched}
-use Rattle.checking.specs.Whole.{Finishes, Roots, Fits, Enough, InScratch}
+use Rattle.checking.specs.Whole.{Finishes, Roots, Enough, InScratch}
 use Rattle.fields.specs.declared.WriteResult.{WriteResult}
 use Rattle.checking.proofs.Stages.{root-fault, root-ended, root-closed}
 
@@ -26,12 +26,12 @@ module _ {K : ℕ} {P : List ℕ} {at n rows : ℕ} {kinds kinds′ : List ℕ} 
       → Roots K (linesIn K kinds buf n) P at out out (record { answer = y; count = 0 })
   by-fault e q = rw q (root-fault (rw (e, at-root, none) at (b .by)) refl)
 
-  module _ (t : Fits K (linesIn K kinds buf n) P at) (len : Enough P at S) {end o : ℕ} {t′ : Tally} (e : x ≡ Branched.Closed end o t′) where
-    c : Closes (checkBranch edition1 K 32 root 0 (linesIn K kinds buf n) (fieldsAt P at)) P at (tally 0 n 0) end S 0 o S′ t′
+  module _ (st : Started K kinds buf (tally rows n 0) P at 0) (len : Enough P at S) {end o : ℕ} {t′ : Tally} (e : x ≡ Branched.Closed end o t′) where
+    c : Closes keptBack (checkBranch edition1 K 32 root 0 (linesIn K kinds buf n) (fieldsAt P at)) P at (tally 0 n 0) end S 0 o S′ t′
     c = rw (e, at-root, none) at (b .by)
 
-    pub by-closed-ended : InScratch P end o S′
-    by-closed-ended = root-ended t (record { formula = c .formula; rows = t′ .rows .0; after = fieldsAt P end }) (c .is) end o refl (omega (arith, c .o-is)) S len (omega (arith, c .within)) (λ h. c .stored (omega arith))
+    pub by-closed-ended : InScratch o S′
+    by-closed-ended = root-ended K (linesIn K kinds buf n) (record { formula = c .formula; rows = t′ .rows .0; after = fieldsAt P end }) (c .is) end o refl (omega (arith, c .o-is)) S (b .long) len (omega (arith, c .within, st .room)) (omega (arith, c .within)) (λ h. c .stored (omega arith))
 
     pub by-closed : {out out′ : List ℕ} {r : WriteResult} → Finishes K P end S′ o out out′ r → Roots K (linesIn K kinds buf n) P at out out′ r
-    by-closed l = root-closed t (record { formula = c .formula; rows = t′ .rows .0; after = fieldsAt P end }) (c .is) end o refl (omega (arith, c .o-is)) S len (omega (arith, c .within)) (λ h. c .stored (omega arith)) l
+    by-closed l = root-closed K (linesIn K kinds buf n) (record { formula = c .formula; rows = t′ .rows .0; after = fieldsAt P end }) (c .is) end o refl (omega (arith, c .o-is)) S (b .long) len (omega (arith, c .within, st .room)) (omega (arith, c .within)) (λ h. c .stored (omega arith)) l

@@ -1,15 +1,17 @@
--- The check stage by stage, over plain values: each refusal, the root, and that an accepted formula fits the scratch. Assumes nothing.
+-- The check stage by stage, over plain values: each refusal, the root, and that a formula which is not too long stands in the scratch. Assumes nothing.
 use mathlib.Core.Path.{_≡_, refl, sym, ap, _∙_}
 use mathlib.Core.Option.{Option, none, some}
-use mathlib.Core.List.{List, [], _∷_, _++_}
-use Prim.Native.Nat.{ℕ, suc, _+_, _*_, _≤_, _<_}
+use mathlib.Core.Bool.{Bool, true, false}
+use mathlib.Core.List.{List, _++_}
+use Prim.Native.Nat.{ℕ, _+_, _*_, _≤_, _<_}
+use lib.Dec.{leb}
 use native.Mathlib.Omega.{arith}
 use lib.IntN.{ℤ}
-use lib.ListN.{length, getD, take, length-append}
-use lib.Seq.{sets, sets-eq, length-sets, take-at}
+use lib.ListN.{length, take}
+use lib.Seq.{sets, sets-eq, take-at}
 use borrow.Author.Tests.{le-leb, lt-leb}
 use Rattle.forms.specs.Edition.{edition1}
-use Rattle.forms.specs.Forms.{Line, Formula, lines, All, nil, cons}
+use Rattle.forms.specs.Forms.{Line, Formula, lines}
 use Rattle.fields.specs.declared.Answer.{Answer}
 use Rattle.fields.specs.declared.FileKind.{FileKind}
 use Rattle.fields.specs.declared.header.Headed.{Headed}
@@ -24,18 +26,16 @@ use Rattle.bundle.specs.declared.ScannedBoth.{ScannedBoth}
 use Rattle.bundle.proofs.Laid.{bundle-accepts}
 use Rattle.bundle.proofs.Pairs.{short-both, paired, unpaired, same-k}
 use Rattle.formula.specs.Formula.{encode, formulaFile}
+use Rattle.formula.specs.Writing.{scratchLimit}
 use Rattle.lines.specs.Buffer.{linesIn}
-use Rattle.proof.specs.Check.{Closing, checkBranch, checkProof, interpolant, check}
-use Rattle.proof.proofs.Agree.{interpolant-iff}
-use Rattle.proof.proofs.Sizes.{written-reads-back}
+use Rattle.proof.specs.Check.{Closing, checkBranch, checkProof, writable, interpolant, check}
 use Rattle.rows.specs.Tally.{tally}
-use Rattle.branches.specs.Spare.{fieldsLeft, Spare}
+use Rattle.branches.specs.Spare.{fieldsLeft, unreadBytes, Spare}
 use Rattle.branches.specs.Branching.{Started}
-use Rattle.checking.specs.Whole.{Short, Both, Holding, Prepared, Begun, finishing, rooted, Finishes, Roots, Fits, Enough, InScratch}
+use Rattle.checking.specs.Whole.{Short, Both, Holding, Prepared, Begun, fileWithin, finishing, rooted, Holds, Finishes, Roots, Enough, InScratch}
 use Rattle.checking.specs.Promises.{Checks}
 use Rattle.fields.specs.declared.WriteResult.{WriteResult}
 use Rattle.checking.proofs.Delivering.{unwritten}
-use Rattle.checking.proofs.Counting.{fields-few}
 use Rattle.checking.proofs.Preparing.{few}
 use Rattle.fields.proofs.Headers.{given-some}
 use Rattle.proof.proofs.Agree.{agreed}
@@ -63,7 +63,7 @@ module _ (A B P : List ℕ) where
 
 -- ---- the bundles
 module _ {A B P : List ℕ} (s : Short A B P) where
-  short-is : interpolant A B P ≡ (bundles A B >>= λ (a, b). (checkProof a b (fields P) >>= λ I. accepted (a .K, I)))
+  short-is : interpolant A B P ≡ (bundles A B >>= λ (a, b). (checkProof a b (fields P) >>= λ I. (writable (a .K) I >> accepted (a .K, I))))
   unfolding interpolant atMost need _>>_
   short-is = rw (le-leb (length A) 4096 (s .a), le-leb (length B) 4096 (s .b), le-leb (length P) 65536 (s .p))
 
@@ -72,12 +72,12 @@ module _ {A B P : List ℕ} (s : Short A B P) where
   refused-bundles e = short-is ∙ rw e
 
   module _ {K m n : ℕ} (w : Both A B K m n) where
-    both-is : interpolant A B P ≡ (checkProof (w .a) (w .b) (fields P) >>= λ I. accepted (w .a .K, I))
+    both-is : interpolant A B P ≡ (checkProof (w .a) (w .b) (fields P) >>= λ I. (writable (w .a .K) I >> accepted (w .a .K, I)))
     unfolding bundles _>>=_
     both-is = short-is ∙ rw (w .a-is, w .b-is)
 
-    K-is : interpolant A B P ≡ (checkProof (w .a) (w .b) (fields P) >>= λ I. accepted (K, I))
-    K-is = both-is ∙ ap (λ (k : ℕ). checkProof (w .a) (w .b) (fields P) >>= λ I. accepted (k, I)) (w .a-constants)
+    K-is : interpolant A B P ≡ (checkProof (w .a) (w .b) (fields P) >>= λ I. (writable K I >> accepted (K, I)))
+    K-is = both-is ∙ ap (λ (k : ℕ). checkProof (w .a) (w .b) (fields P) >>= λ I. (writable k I >> accepted (k, I))) (w .a-constants)
 
     pub refused-P : {x : Answer} → header FileKind.Proof fileProof (some K) (fields P) ≡ refused x → interpolant A B P ≡ refused x
     unfolding checkProof _>>=_
@@ -101,33 +101,36 @@ module _ {A B P : List ℕ} {K m n at : ℕ} (g : Begun A B P K m n at) where
   abbrev tree : Result Closing
   tree = checkBranch edition1 K 32 root 0 (lines (a .constraints) (b .constraints)) (fieldsAt P at)
 
-  begun-is : interpolant A B P ≡ ((tree >>= λ c. (finished FileKind.Proof fileProof (c .after) >> accepted (c .formula))) >>= λ I. accepted (K, I))
+  begun-is : interpolant A B P ≡ ((tree >>= λ c. (finished FileKind.Proof fileProof (c .after) >> accepted (c .formula))) >>= λ I. (writable K I >> accepted (K, I)))
   unfolding a b
   begun-is =
       K-is (g .short) (g .both)
-      ∙ ap (λ (x : Result Formula). x >>= λ I. accepted (K, I)) (proof-root (g .both .a) (g .both .b) K (fields P) (fieldsAt P at) (g .both .a-constants) (g .header-is))
+      ∙ ap (λ (x : Result Formula). x >>= λ I. (writable K I >> accepted (K, I))) (proof-root (g .both .a) (g .both .b) K (fields P) (fieldsAt P at) (g .both .a-constants) (g .header-is))
 
 -- one step after the other, by what the root gives
+within-bytes : (K : ℕ) (I : Formula) (x : Answer) (b : Bool)
+    → ((need x b >> accepted (K, I)) >>= λ (k, J). accepted (formulaFile edition1 k J)) ≡ (need x b >> accepted (formulaFile edition1 K I))
+unfolding _>>=_ _>>_ need
+within-bytes K I x true = refl
+within-bytes K I x false = refl
+
+file-bytes : (K : ℕ) (I : Formula)
+    → ((writable K I >> accepted (K, I)) >>= λ (k, J). accepted (formulaFile edition1 k J)) ≡ fileWithin (headerBytes K ++ encode edition1 I)
+unfolding writable formulaFile
+file-bytes K I = within-bytes K I (answer 1 4 (length (formulaFile edition1 K I))) (leb (length (formulaFile edition1 K I)) 65536)
+
 end-bytes : (K : ℕ) (I : Formula) (y : Result (Unit {0}))
-    → (((y >> accepted I) >>= λ J. accepted (K, J)) >>= λ (k, J). accepted (formulaFile edition1 k J)) ≡ (y >> accepted (headerBytes K ++ encode edition1 I))
-unfolding _>>=_ _>>_ formulaFile
+    → (((y >> accepted I) >>= λ J. (writable K J >> accepted (K, J))) >>= λ (k, J). accepted (formulaFile edition1 k J)) ≡ (y >> fileWithin (headerBytes K ++ encode edition1 I))
+unfolding _>>=_ _>>_
 end-bytes K I (refused z) = refl
-end-bytes K I (accepted z) = refl
+end-bytes K I (accepted z) = file-bytes K I
 
 then-bytes : (K : ℕ) (x : Result Closing)
-    → (((x >>= λ c. (finished FileKind.Proof fileProof (c .after) >> accepted (c .formula))) >>= λ I. accepted (K, I)) >>= λ (k, I). accepted (formulaFile edition1 k I))
+    → (((x >>= λ c. (finished FileKind.Proof fileProof (c .after) >> accepted (c .formula))) >>= λ I. (writable K I >> accepted (K, I))) >>= λ (k, I). accepted (formulaFile edition1 k I))
     ≡ (x >>= λ c. finishing K (c .after) (encode edition1 (c .formula)))
 unfolding _>>=_
 then-bytes K (refused y) = refl
 then-bytes K (accepted c) = end-bytes K (c .formula) (finished FileKind.Proof fileProof (c .after))
-
-file-length : (K : ℕ) (I : Formula) → length (encode edition1 I) ≤ length (formulaFile edition1 K I)
-unfolding formulaFile
-file-length K I = omega (arith, length-append (headerBytes K) (encode edition1 I))
-
-pub all-bytes : (s : List ℕ) → ((i : ℕ) → getD s i 0 < 256) → All (λ x. x < 256) s
-all-bytes [] h = nil
-all-bytes (x ∷ s) h = cons (h 0) (all-bytes s (λ i. h (suc i)))
 
 module _ {A B P : List ℕ} {K m n at : ℕ} (g : Begun A B P K m n at) {kinds : List ℕ} {buf : List ℤ} (q : Prepared A B K kinds buf m n) where
   h : Holding (g .both .a) (g .both .b) K kinds buf (m + n)
@@ -146,19 +149,6 @@ module _ {A B P : List ℕ} {K m n at : ℕ} (g : Begun A B P K m n at) {kinds :
   unfolding check
   checks-root {out} l = record { is = l .is ∙ ap (λ (R : Result (List ℕ)). written R out) same-bytes }
 
-  accepts : (c : Closing) → tree g ≡ accepted c → finished FileKind.Proof fileProof (c .after) ≡ accepted tt → interpolant A B P ≡ accepted (K, c .formula)
-  unfolding _>>=_ _>>_
-  accepts c e f = begun-is g ∙ rw (e, f)
-
-  pub fits-scratch : All (λ x. x < 256) A → All (λ x. x < 256) B → All (λ x. x < 256) P
-      → Fits K (linesIn K kinds buf (m + n)) P at
-  fits-scratch x y z = record {
-    fits = λ c e f.
-        let i = accepts c (sym same-root ∙ e) f in
-        let l = written-reads-back A B P x y z (interpolant-iff A B P K (c .formula) .0 i) .1 in
-        omega (arith, l, file-length K (c .formula));
-  }
-
 -- ---- each way from the root
 module _ {K : ℕ} {ls : List Line} {P : List ℕ} {at : ℕ} where
   pub root-fault : {out : List ℕ} {x : Answer} {r : WriteResult} → checkBranch edition1 K 32 root 0 ls (fieldsAt P at) ≡ refused x → r ≡ record { answer = x; count = 0 }
@@ -166,34 +156,28 @@ module _ {K : ℕ} {ls : List Line} {P : List ℕ} {at : ℕ} where
   unfolding _>>=_ written
   root-fault e q = record { is = rw (e, q) }
 
-  module _ (t : Fits K ls P at) (c : Closing) (e : checkBranch edition1 K 32 root 0 ls (fieldsAt P at) ≡ accepted c)
-      (end o : ℕ) (after : c .after ≡ fieldsAt P end) (o-is : o ≡ length (encode edition1 (c .formula))) (S : List ℕ) {S′ : List ℕ} (len : Enough P at S) (within : o ≤ 78 * fieldsLeft P at)
+module _ (K : ℕ) (ls : List Line) {P : List ℕ} {at : ℕ} where
+  module _ (c : Closing) (e : checkBranch edition1 K 32 root 0 ls (fieldsAt P at) ≡ accepted c)
+      (end o : ℕ) (after : c .after ≡ fieldsAt P end) (o-is : o ≡ length (encode edition1 (c .formula))) (S : List ℕ) {S′ : List ℕ} (long : length S′ ≡ length S) (len : Enough P at S) (few : o ≤ scratchLimit) (within : o ≤ 39 * unreadBytes P at)
       (stored : length (encode edition1 (c .formula)) ≤ length S → S′ ≡ sets S 0 (encode edition1 (c .formula))) where
-    pub root-ended : InScratch P end o S′
-    root-ended = record {
-      room = λ f.
-          let l = len .enough (length (encode edition1 (c .formula))) (omega (arith, within, o-is)) (t .fits c e (rw after f)) in
-          let m = ap length (stored (omega arith)) ∙ length-sets S 0 (encode edition1 (c .formula)) in
-          omega (arith, o-is);
+    pub root-ended : InScratch o S′
+    root-ended = record { few = few; room = λ f. omega (arith, len .enough o within f) }
+
+    holds : Holds (encode edition1 (c .formula)) o S′
+    holds = record {
+      o-is = o-is;
+      stored = λ f.
+          let l = len .enough o within f in
+          let x = encode edition1 (c .formula) in
+          rw (stored (omega arith), sets-eq x S 0 (omega arith)) (take-at x _ o (sym o-is));
     }
 
-    bytes-are : finished FileKind.Proof fileProof (fieldsAt P end) ≡ accepted tt → take o S′ ≡ encode edition1 (c .formula)
-    bytes-are f =
-        let l = len .enough (length (encode edition1 (c .formula))) (omega (arith, within, o-is)) (t .fits c e (rw after f)) in
-        let x = encode edition1 (c .formula) in
-        rw (stored (omega arith), sets-eq x S 0 (omega arith)) (take-at x _ o (sym o-is))
-
-    same-end : (y : Result (Unit {0})) → finished FileKind.Proof fileProof (fieldsAt P end) ≡ y → (y >> accepted (headerBytes K ++ take o S′)) ≡ (y >> accepted (headerBytes K ++ encode edition1 (c .formula)))
-    unfolding _>>_
-    same-end (refused z) f = refl
-    same-end (accepted u) f = ap (λ (x : List ℕ). accepted (headerBytes K ++ x)) (bytes-are f)
-
-    rooted-is : finishing K (fieldsAt P end) (take o S′) ≡ rooted K ls (fieldsAt P at)
+    rooted-is : finishing K (fieldsAt P end) (encode edition1 (c .formula)) ≡ rooted K ls (fieldsAt P at)
     unfolding _>>=_
-    rooted-is = same-end (finished FileKind.Proof fileProof (fieldsAt P end)) refl ∙ rw (e, after)
+    rooted-is = rw (e, after)
 
     pub root-closed : {out out′ : List ℕ} {r : WriteResult} → Finishes K P end S′ o out out′ r → Roots K ls P at out out′ r
-    root-closed {out} l = record { is = l .is ∙ ap (λ (R : Result (List ℕ)). written R out) rooted-is }
+    root-closed {out} l = record { is = l .is (encode edition1 (c .formula)) holds ∙ ap (λ (R : Result (List ℕ)). written R out) rooted-is }
 
 -- ---- what the scans and the header tell
 pub checks-answer : {A B P out : List ℕ} {x : Answer} → interpolant A B P ≡ refused x → Checks A B P out out (record { answer = x; count = 0 })
@@ -251,5 +235,5 @@ module _ {A B P : List ℕ} {K m n at : ℕ} (g : Begun A B P K m n at) {kinds :
       most = few (g .both);
     };
     spare = spare;
-    room = omega (arith, fields-few P at, g .short .p);
+    room = omega (arith, g .short .p);
   }

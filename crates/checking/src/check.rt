@@ -27,11 +27,11 @@ ghost use Rattle.forms.specs.Edition.{edition1};
 ghost use Rattle.fields.specs.Answers.{answer};
 ghost use Rattle.lines.specs.Buffer.{size, linesIn};
 ghost use Rattle.rows.specs.Tally.{tally};
-ghost use Rattle.branches.specs.Spare.{fieldsLeft, Spare};
+ghost use Rattle.branches.specs.Spare.{fieldsLeft, unreadBytes, Spare};
 ghost use Rattle.branches.specs.Branching.{Started};
 ghost use Rattle.checking.specs.Promises.{Checks};
 ghost use Rattle.checking.specs.Load.{Space};
-ghost use Rattle.checking.specs.Whole.{Short, Both, Prepared, Begun, InScratch, Delivers, Finishes, Roots, Fits, Enough, NumbersWithin};
+ghost use Rattle.checking.specs.Whole.{Short, Both, Prepared, Begun, InScratch, Delivers, Finishes, Roots, Enough, NumbersWithin};
 
 fn refusal(number: u8, file: u8, place: usize) -> WriteResult
     ensures { λ r. ⌜ r ≡ record { answer = answer number file place; count = 0 } ⌝ }
@@ -53,12 +53,15 @@ fn copy_bytes(from: &[u8], n: usize, to: &mut [u8], at: usize)
     }
 }
 
-// The two header fields and the o first bytes of the scratch, if the output has room for them. 21.
+// The two header fields and the o first bytes of the scratch, if a formula's file may be so long, and the output has room for them. 1, 21.
 fn deliver(scratch: &[u8], o: usize, k: u8, out: &mut [u8]) -> WriteResult
-    requires { ⌜ o ≤ length (now scratch) ⌝ }
+    requires { ⌜ InScratch o (now scratch) ⌝ }
     ensures { λ r. ⌜ Delivers k (now (scratch .entry)) o (now (out .entry)) (now (out .exit)) r ⌝ }
 {
     let needed = 8 + o;
+    if needed > FORMULA_BYTES {
+        return refusal(1, 4, needed);
+    }
     if out.len() < needed {
         return refusal(21, 4, needed);
     }
@@ -71,9 +74,9 @@ fn deliver(scratch: &[u8], o: usize, k: u8, out: &mut [u8]) -> WriteResult
     }
 }
 
-// What follows the root, and then the output. 2, 3, 19, 21.
+// What follows the root, and then the output. 2, 3, 19, 1, 21.
 fn finish(proof: &[u8], at: usize, scratch: &[u8], o: usize, k: u8, out: &mut [u8]) -> WriteResult
-    requires { ⌜ InScratch (now proof) at o (now scratch) ⌝ }
+    requires { ⌜ InScratch o (now scratch) ⌝ }
     ensures { λ r. ⌜ Finishes k (now (proof .entry)) at (now (scratch .entry)) o (now (out .entry)) (now (out .exit)) r ⌝ }
 {
     match ending_at(proof, at, FileKind::Proof) {
@@ -104,7 +107,6 @@ fn check_root(
     out: &mut [u8],
 ) -> WriteResult
     requires { ⌜ Started k (now kinds) (now lines) (tally 0 count 0) (now proof) at 0 ⌝ }
-    requires { ⌜ Fits k (linesIn k (now kinds) (now lines) count) (now proof) at ⌝ }
     requires { ⌜ Enough (now proof) at (now scratch) ⌝ }
     ensures { λ r. ⌜ Roots k (linesIn k (now (kinds .entry)) (now (lines .entry)) count) (now (proof .entry)) at (now (out .entry)) (now (out .exit)) r ⌝ }
 {
@@ -168,28 +170,28 @@ fn check_within(
 }
 
 // The sizes of the arrays. An array is cleared before it is used, which takes longer than the check of a short proof, so a
-// short proof is given little: check_N is for proofs of N fields at most. (A field is counted for three bytes and a row has six
-// or so, so that N fields are some N / 2 rows.)
-// The scratch has FIELD_BYTES for each field: what a row adds to the formula has 75 bytes at most, a divisibility over 16
-// constants, and 3 are for the head of an and or an or.
-// A field makes one line at most: up to check_70 there is room for the lines of two constraints, of N fields and for one that
-// is being made, each of 16 constants (in check_13 of 7, so that either array has 1 KB). Then there is room for all lines that
-// a branch may have, and one more. With these the arrays of check_262 have 38 KB: what is larger does not fit the first cache
-// and takes longer by the byte (docs/SPEED.md). check_525 is for twice as many fields.
-const FIELD_BYTES: usize = 78;
+// short proof is given little: check_N is for proofs of N bytes at most. (A row has six bytes or so.)
+// The scratch has BYTE_BYTES for each byte: a close has a field of four bytes at least, and adds 156 bytes to the formula at
+// most: its own part over 16 constants has 75, the stride part before it, where it closes a branch of a rounding, 75 too, and
+// 6 are for the heads of an and and an or.
+// A field makes one line at most, and has three bytes: up to check_212 there is room for the lines of two constraints, of
+// N / 3 fields and for one that is being made, each of 16 constants (in check_41 of 7, so that the arrays have 2.6 KB). Then
+// there is room for all lines that a branch may have, and one more. With these the arrays of check_800 have 49 KB, about what
+// the first cache holds; what is larger takes longer by the byte (docs/SPEED.md).
+const BYTE_BYTES: usize = 39;
 
 // The numbers of a line: t and tA, each with its constant term.
 const LINE_NUMBERS: usize = 2 * (CONSTANTS as usize + 1);
 
-const NUMBERS_13: usize = (13 + 3) * (2 * (7 + 1));
+const NUMBERS_41: usize = (13 + 3) * (2 * (7 + 1));
 
-const NUMBERS_32: usize = (32 + 3) * LINE_NUMBERS;
+const NUMBERS_66: usize = (22 + 3) * LINE_NUMBERS;
 
-const NUMBERS_70: usize = (70 + 3) * LINE_NUMBERS;
+const NUMBERS_212: usize = (70 + 3) * LINE_NUMBERS;
 
 const NUMBERS_ALL: usize = (LINES as usize + 1) * LINE_NUMBERS;
 
-fn check_13(
+fn check_41(
     a: &[u8],
     b: &[u8],
     proof: &[u8],
@@ -200,16 +202,16 @@ fn check_13(
     out: &mut [u8],
 ) -> WriteResult
     requires { ⌜ Begun (now a) (now b) (now proof) k m n at ⌝ }
-    requires { ⌜ fieldsLeft (now proof) at ≤ 13 ⌝ }
+    requires { ⌜ unreadBytes (now proof) at ≤ 41 ⌝ }
     requires { ⌜ NumbersWithin k (m + n + fieldsLeft (now proof) at) ((13 + 3) * size 7) ⌝ }
     ensures { λ r. ⌜ Checks (now (a .entry)) (now (b .entry)) (now (proof .entry)) (now (out .entry)) (now (out .exit)) r ⌝ }
 {
-    let mut lines = [0i32; NUMBERS_13];
-    let mut scratch = [0u8; 13 * FIELD_BYTES];
+    let mut lines = [0i32; NUMBERS_41];
+    let mut scratch = [0u8; 41 * BYTE_BYTES];
     check_within(a, b, proof, at, k, m, n, &mut lines, &mut scratch, out)
 }
 
-fn check_32(
+fn check_66(
     a: &[u8],
     b: &[u8],
     proof: &[u8],
@@ -220,16 +222,16 @@ fn check_32(
     out: &mut [u8],
 ) -> WriteResult
     requires { ⌜ Begun (now a) (now b) (now proof) k m n at ⌝ }
-    requires { ⌜ fieldsLeft (now proof) at ≤ 32 ⌝ }
-    requires { ⌜ NumbersWithin k (m + n + fieldsLeft (now proof) at) ((32 + 3) * size (edition1 .constants)) ⌝ }
+    requires { ⌜ unreadBytes (now proof) at ≤ 66 ⌝ }
+    requires { ⌜ NumbersWithin k (m + n + fieldsLeft (now proof) at) ((22 + 3) * size (edition1 .constants)) ⌝ }
     ensures { λ r. ⌜ Checks (now (a .entry)) (now (b .entry)) (now (proof .entry)) (now (out .entry)) (now (out .exit)) r ⌝ }
 {
-    let mut lines = [0i32; NUMBERS_32];
-    let mut scratch = [0u8; 32 * FIELD_BYTES];
+    let mut lines = [0i32; NUMBERS_66];
+    let mut scratch = [0u8; 66 * BYTE_BYTES];
     check_within(a, b, proof, at, k, m, n, &mut lines, &mut scratch, out)
 }
 
-fn check_70(
+fn check_212(
     a: &[u8],
     b: &[u8],
     proof: &[u8],
@@ -240,16 +242,16 @@ fn check_70(
     out: &mut [u8],
 ) -> WriteResult
     requires { ⌜ Begun (now a) (now b) (now proof) k m n at ⌝ }
-    requires { ⌜ fieldsLeft (now proof) at ≤ 70 ⌝ }
+    requires { ⌜ unreadBytes (now proof) at ≤ 212 ⌝ }
     requires { ⌜ NumbersWithin k (m + n + fieldsLeft (now proof) at) ((70 + 3) * size (edition1 .constants)) ⌝ }
     ensures { λ r. ⌜ Checks (now (a .entry)) (now (b .entry)) (now (proof .entry)) (now (out .entry)) (now (out .exit)) r ⌝ }
 {
-    let mut lines = [0i32; NUMBERS_70];
-    let mut scratch = [0u8; 70 * FIELD_BYTES];
+    let mut lines = [0i32; NUMBERS_212];
+    let mut scratch = [0u8; 212 * BYTE_BYTES];
     check_within(a, b, proof, at, k, m, n, &mut lines, &mut scratch, out)
 }
 
-fn check_262(
+fn check_800(
     a: &[u8],
     b: &[u8],
     proof: &[u8],
@@ -260,15 +262,15 @@ fn check_262(
     out: &mut [u8],
 ) -> WriteResult
     requires { ⌜ Begun (now a) (now b) (now proof) k m n at ⌝ }
-    requires { ⌜ fieldsLeft (now proof) at ≤ 262 ⌝ }
+    requires { ⌜ unreadBytes (now proof) at ≤ 800 ⌝ }
     ensures { λ r. ⌜ Checks (now (a .entry)) (now (b .entry)) (now (proof .entry)) (now (out .entry)) (now (out .exit)) r ⌝ }
 {
     let mut lines = [0i32; NUMBERS_ALL];
-    let mut scratch = [0u8; 262 * FIELD_BYTES];
+    let mut scratch = [0u8; 800 * BYTE_BYTES];
     check_within(a, b, proof, at, k, m, n, &mut lines, &mut scratch, out)
 }
 
-fn check_525(
+fn check_1200(
     a: &[u8],
     b: &[u8],
     proof: &[u8],
@@ -279,11 +281,11 @@ fn check_525(
     out: &mut [u8],
 ) -> WriteResult
     requires { ⌜ Begun (now a) (now b) (now proof) k m n at ⌝ }
-    requires { ⌜ fieldsLeft (now proof) at ≤ 525 ⌝ }
+    requires { ⌜ unreadBytes (now proof) at ≤ 1200 ⌝ }
     ensures { λ r. ⌜ Checks (now (a .entry)) (now (b .entry)) (now (proof .entry)) (now (out .entry)) (now (out .exit)) r ⌝ }
 {
     let mut lines = [0i32; NUMBERS_ALL];
-    let mut scratch = [0u8; 525 * FIELD_BYTES];
+    let mut scratch = [0u8; 1200 * BYTE_BYTES];
     check_within(a, b, proof, at, k, m, n, &mut lines, &mut scratch, out)
 }
 
@@ -306,7 +308,7 @@ fn check_any(
     check_within(a, b, proof, at, k, m, n, &mut lines, &mut scratch, out)
 }
 
-// A proof of more fields than 70, or of more lines. A function of its own: the frame of a function has room for the largest of
+// A proof of more bytes than 212, or of more lines. A function of its own: the frame of a function has room for the largest of
 // its arrays, and each page of that is touched at every call. It stays one since it is called twice and has three choices
 // (docs/SPEED.md).
 fn check_long(
@@ -322,12 +324,12 @@ fn check_long(
     requires { ⌜ Begun (now a) (now b) (now proof) k m n at ⌝ }
     ensures { λ r. ⌜ Checks (now (a .entry)) (now (b .entry)) (now (proof .entry)) (now (out .entry)) (now (out .exit)) r ⌝ }
 {
-    let fields = proof.len() / 3;
-    if fields <= 262 {
-        return check_262(a, b, proof, at, k, m, n, out);
+    let bytes = proof.len();
+    if bytes <= 800 {
+        return check_800(a, b, proof, at, k, m, n, out);
     }
-    if fields <= 525 {
-        return check_525(a, b, proof, at, k, m, n, out);
+    if bytes <= 1200 {
+        return check_1200(a, b, proof, at, k, m, n, out);
     }
     check_any(a, b, proof, at, k, m, n, out)
 }
@@ -343,7 +345,7 @@ fn most_lines(count: usize) -> usize
     most
 }
 
-// The lines, and then the root, with arrays for the fields that the proof may have: each has three bytes at least.
+// The lines, and then the root, with arrays for the fields that the proof may have by its bytes: each has three at least.
 // To count them would take longer than to clear what is then not used.
 fn check_lines(
     a: &[u8],
@@ -358,22 +360,23 @@ fn check_lines(
     requires { ⌜ Begun (now a) (now b) (now proof) k m n at ⌝ }
     ensures { λ r. ⌜ Checks (now (a .entry)) (now (b .entry)) (now (proof .entry)) (now (out .entry)) (now (out .exit)) r ⌝ }
 {
-    let fields = proof.len() / 3;
+    let bytes = proof.len();
+    let fields = bytes / 3;
     let size = 2 * (k as usize + 1);
     let numbers = (most_lines(m + n + fields) + 1) * size;
-    if fields <= 13 {
-        if numbers <= NUMBERS_13 {
-            return check_13(a, b, proof, at, k, m, n, out);
+    if bytes <= 41 {
+        if numbers <= NUMBERS_41 {
+            return check_41(a, b, proof, at, k, m, n, out);
         }
     }
-    if fields <= 32 {
-        if numbers <= NUMBERS_32 {
-            return check_32(a, b, proof, at, k, m, n, out);
+    if bytes <= 66 {
+        if numbers <= NUMBERS_66 {
+            return check_66(a, b, proof, at, k, m, n, out);
         }
     }
-    if fields <= 70 {
-        if numbers <= NUMBERS_70 {
-            return check_70(a, b, proof, at, k, m, n, out);
+    if bytes <= 212 {
+        if numbers <= NUMBERS_212 {
+            return check_212(a, b, proof, at, k, m, n, out);
         }
         return check_long(a, b, proof, at, k, m, n, out);
     }

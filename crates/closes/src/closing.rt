@@ -49,7 +49,7 @@ pub fn test_number(lines: &[i32], kinds: &[u8], tally: Tally, i: LineNumber, k: 
 }
 
 // A stride is 2 at least.
-fn is_stride(g: i64) -> bool
+pub fn is_stride(g: i64) -> bool
     requires { ⌜ Multiplies (natAbs g) g ⌝ }
     ensures { λ r. ⌜ r ≡ leb 2 (natAbs g) ⌝ }
 {

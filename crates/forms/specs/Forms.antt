@@ -3,7 +3,7 @@ use mathlib.Core.Path.{_≡_}
 use mathlib.Core.Logic.{_⊎_}
 use mathlib.Core.List.{List, [], _∷_, _++_, map}
 use mathlib.Core.Bool.{Bool, false, not, cond, _||_}
-use Prim.Native.Nat.{ℕ, suc}
+use Prim.Native.Nat.{ℕ, suc, max, _+_}
 use lib.ListN.{getD}
 use lib.IntN.{ℤ, pos, _+ℤ_, _*ℤ_}
 use lib.Signed.{_≤ℤ_}
@@ -137,3 +137,16 @@ names (literal _ t) k = nonzero (coeff t k)
 names (_ divides t) k = nonzero (coeff t k)
 names (I and J) k = names I k || names J k
 names (I or J) k = names I k || names J k
+
+-- How many levels of and/or a formula has, and how many parts that are neither.
+abbrev pub height : Formula → ℕ
+height (literal k t) = 0
+height (g divides t) = 0
+height (I and J) = suc (max (height I) (height J))
+height (I or J) = suc (max (height I) (height J))
+
+abbrev pub leaves : Formula → ℕ
+leaves (literal k t) = 1
+leaves (g divides t) = 1
+leaves (I and J) = leaves I + leaves J
+leaves (I or J) = leaves I + leaves J

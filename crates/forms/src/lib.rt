@@ -14,12 +14,15 @@ pub const CONSTANTS: u8 = 16;
 // The most constraints of a bundle.
 pub const CONSTRAINTS: usize = 32;
 
-// The most rows of a proof, lines on a branch, and open strengthens.
+// The most rows of a proof, lines on a branch, and open branching steps.
 pub const ROWS: u16 = 1024;
 
 pub const LINES: u16 = 128;
 
-pub const STRENGTHENS: u16 = 32;
+pub const BRANCHINGS: u16 = 32;
+
+// The most by which one rounding raises its line.
+pub const ROUNDING: u16 = 16;
 
 // The most bytes of a file.
 pub const BUNDLE_BYTES: usize = 4096;
@@ -38,7 +41,7 @@ pub const MULTIPLIER_BYTES: usize = 2;
 pub const TERM_BYTES: usize = 4;
 
 // The most levels of and/or in a formula.
-pub const LEVELS: usize = 64;
+pub const LEVELS: usize = 600;
 
 // Register values stay within ± this.
 pub const VALUES: i64 = 1000000;

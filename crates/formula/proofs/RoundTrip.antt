@@ -11,7 +11,7 @@ use lib.Seq.{take-at, drop-at}
 use lib.IntN.{ℤ, pos, natAbs}
 use borrow.Author.Tests.{le-leb, eq-eqb, ne-eqb}
 use Rattle.forms.specs.Edition.{edition1, editionNumbered}
-use Rattle.forms.specs.Forms.{Kind, ≤0, =0, Form, Formula, literal, _divides_, _and_, _or_}
+use Rattle.forms.specs.Forms.{Kind, ≤0, =0, Form, Formula, literal, _divides_, _and_, _or_, height, leaves}
 use Rattle.fields.specs.declared.FileKind.{FileKind}
 use Rattle.fields.specs.declared.Answer.{Answer}
 use Rattle.fields.specs.Answers.{answer, fileProof, Result, refused, accepted, _>>=_, _>>_, need}
@@ -20,7 +20,7 @@ use Rattle.fields.specs.Fields.{Field, Fields, ends, _▸_, note, fields, field
 use Rattle.fields.specs.Header.{Header, agrees, known, headerTag, header, headerField, finished, headerBytes}
 use Rattle.fields.specs.Ranges.{InWidth, FormInWidth}
 use Rattle.fields.proofs.Signed.{length-signedBytes, signed-signedBytes, length-formBytes, formFrom-written}
-use Rattle.formula.specs.Formula.{encode, formulaFile, Encodable, height, Connective, disjunction, conjunction, FormulaTag, pair, atom, stride, formulaTagged, compound, formulaSize, formulaOf, formulaField, twoParts, formulaWithin, readFormula}
+use Rattle.formula.specs.Formula.{encode, formulaFile, Encodable, Connective, disjunction, conjunction, FormulaTag, pair, atom, stride, formulaTagged, compound, formulaSize, formulaOf, formulaField, twoParts, formulaWithin, readFormula}
 use Rattle.fields.proofs.Framing.{fuel-irrelevant, length-fieldBytes}
 use Rattle.fields.proofs.Headers.{length-headerBytes}
 use Rattle.fields.proofs.Results.{binds, passes, found-some, pass, fail}
@@ -199,16 +199,16 @@ unfolding formulaFile
 length-formulaFile K I = omega (arith, length-append (headerBytes K) (encode edition1 I), length-headerBytes K)
 
 -- A formula's file reads back as that formula.
-pub read-written : (K : ℕ) (I : Formula) → 1 ≤ K → K ≤ 16 → Encodable K I → height I ≤ 64 → readFormula K (fields (formulaFile edition1 K I)) ≡ accepted I
+pub read-written : (K : ℕ) (I : Formula) → 1 ≤ K → K ≤ 16 → Encodable K I → height I ≤ 600 → readFormula K (fields (formulaFile edition1 K I)) ≡ accepted I
 unfolding readFormula fields formulaFile finished
 read-written K I low high h l =
     let X = encode edition1 I in
     let n = 6 + length X in
     let size : length (headerBytes K ++ X) ≡ suc (suc n) = omega (arith, length-append (headerBytes K) X, length-headerBytes K) in
     let own : length (X ++ []) ≤ n = rw append-nil (omega arith) in
-    let part : formulaWithin edition1 K 64 (fieldsFrom n 8 X) ≡ accepted (I, ends (8 + length X))
-    = ap (λ (bs : List ℕ). formulaWithin edition1 K 64 (fieldsFrom n 8 bs)) (sym (append-nil X))
-    ∙ formula-read K 64 I high h l n 8 [] own
+    let part : formulaWithin edition1 K 600 (fieldsFrom n 8 X) ≡ accepted (I, ends (8 + length X))
+    = ap (λ (bs : List ℕ). formulaWithin edition1 K 600 (fieldsFrom n 8 bs)) (sym (append-nil X))
+    ∙ formula-read K 600 I high h l n 8 [] own
     ∙ ap (λ (fs : Fields). accepted (I, fs)) (fields-end n (8 + length X)) in
     ap (readFormula K) (ap (λ (m : ℕ). fieldsFrom m 0 (headerBytes K ++ X)) size ∙ header-fields K n X)
     ∙ binds _ (header-read K (fieldsFrom n 8 X) low high)
@@ -243,13 +243,6 @@ read-other K n I h =
     ∙ refused-still _ _ (leb 1 K && leb K 16) follows
 
 -- ---- length
--- How many literals and stride parts a formula has.
-abbrev pub leaves : Formula → ℕ
-leaves (literal k t) = 1
-leaves (g divides t) = 1
-leaves (I and J) = leaves I + leaves J
-leaves (I or J) = leaves I + leaves J
-
 -- A leaf has at most 75 bytes, and an and/or adds 3.
 pub length-encode : (K : ℕ) → K ≤ 16 → (I : Formula) → Encodable K I → length (encode edition1 I) + 3 ≤ 78 * leaves I
 unfolding encode

@@ -64,7 +64,7 @@ module _ {s : List ℕ} {values : List ℤ} {K : ℕ} (g : Registers values K) {
         let q : k′ ≡ K = eqb→eq k′ K (header-gives FileKind.Formula fileProof (some K) (fields s) .gives _ p .agree) in
         p ∙ rw q
 
-    module _ {j : Judged} (b : FormulaRead s next values K 64 j) where
+    module _ {j : Judged} (b : FormulaRead s next values K 600 j) where
       pub formula-fault : {number place : ℕ} {r : Tested} → j ≡ Judged.Fault number place → r ≡ testRefused number fileProof place
           → r ≡ asTested (judged values (readFormula K (fields s)))
       unfolding readFormula judged

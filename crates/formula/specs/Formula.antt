@@ -2,7 +2,7 @@
 use mathlib.Core.Option.{Option, none, some}
 use mathlib.Core.Bool.{true, false}
 use mathlib.Core.List.{List, [], _++_}
-use Prim.Native.Nat.{ℕ, zero, suc, max, _+_, _≤_}
+use Prim.Native.Nat.{ℕ, zero, suc, _+_, _≤_}
 use lib.Dec.{eqb}
 use lib.ListN.{length, take, drop}
 use lib.IntN.{pos, natAbs}
@@ -36,13 +36,6 @@ Encodable K (literal k t) = FormInWidth 4 K t
 Encodable K (g divides t) = (2 ≤ g) × InWidth 4 (pos g) × FormInWidth 4 K t
 Encodable K (I and J) = Encodable K I × Encodable K J
 Encodable K (I or J) = Encodable K I × Encodable K J
-
--- How many levels of and/or a formula has.
-abbrev pub height : Formula → ℕ
-height (literal k t) = 0
-height (g divides t) = 0
-height (I and J) = suc (max (height I) (height J))
-height (I or J) = suc (max (height I) (height J))
 
 -- ---- reading
 pub data Connective : Type 0 where

@@ -13,7 +13,7 @@ use Rattle.fields.specs.Fields.{fieldBytes}
 use Rattle.fields.specs.Ranges.{Held}
 use Rattle.formula.specs.Formula.{encode}
 
--- No place in the scratch is above this, so no sum of places overflows: a field of a proof adds at most 78 bytes to a formula, and a proof has fewer fields than bytes.
+-- No place in the scratch is above this, so no sum of places overflows: a byte of a proof adds at most 39 bytes to a formula.
 abbrev pub scratchLimit : ℕ
 scratchLimit = 80 * edition1 .proofBytes
 
@@ -39,3 +39,9 @@ pub record Heads (scratch : List ℕ) (o tag : ℕ) (scratch′ : List ℕ) (o�
   pub long : length scratch′ ≡ length scratch
   pub o-is : o′ ≡ o + 3
   pub stored : o + 3 ≤ length scratch → scratch′ ≡ sets scratch o (fieldBytes tag [])
+
+-- The same for any bytes.
+pub record Stores (scratch : List ℕ) (o : ℕ) (bytes scratch′ : List ℕ) (o′ : ℕ) : Type 0 where
+  pub long : length scratch′ ≡ length scratch
+  pub o-is : o′ ≡ o + length bytes
+  pub stored : o + length bytes ≤ length scratch → scratch′ ≡ sets scratch o bytes

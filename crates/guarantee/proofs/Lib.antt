@@ -5,3 +5,4 @@ pub mod Acceptance
 pub mod Soundness
 pub mod Guard
 pub mod Reduced
+pub mod Rounding

@@ -9,34 +9,52 @@ use lib.IntN.{ℤ}
 use lib.ListN.{length}
 use borrow.Author.Tests.{eqb-true, eqb-false}
 use Rattle.forms.specs.Edition.{Edition, edition1}
-use Rattle.forms.specs.Forms.{Line, Assignment, Formula, _and_, _or_, True}
+use Rattle.forms.specs.Forms.{Form, Line, Assignment, Formula, _divides_, _and_, _or_, within, True, height}
 use Rattle.forms.specs.Reduced.{reducing, Strides}
-use Rattle.calculus.specs.Rules.{Closed, derive, strengthen, number, stride}
+use Rattle.calculus.specs.Rules.{StrideOf, Closed, derive, strengthen, round, number, stride, Rounded, last, more}
 use Rattle.calculus.proofs.Reducing.{reducing-alike, reducing-reduced, reducing-again, derived-reduced, derived-stands}
 use Rattle.fields.specs.Answers.{fileProof, answer, Result}
 use Rattle.fields.specs.Fields.{fields}
-use Rattle.formula.specs.Formula.{formulaFile, Encodable, height, readFormula}
+use Rattle.formula.specs.Formula.{formulaFile, Encodable, readFormula}
 use Rattle.formula.specs.Test.{tested, judged, testFormula}
 use Rattle.formula.specs.Promises.{asTested}
 use Rattle.formula.proofs.RoundTrip.{read-other}
 use Rattle.proof.proofs.Alike.{tested-alike, file-length}
-use Rattle.guarantee.specs.Reduced.{asItStood, InReducedForm}
+use Rattle.guarantee.specs.Reduced.{asItStood, roundedAsItStood, InReducedForm}
 use Rattle.guarantee.proofs.Acceptance.{is-checkable, leaves}
 
 -- ---- document 01's formula
-module _ {e : Edition} {inB : ℕ → Bool} where
-  standing-strides : {ls : List Line} {I : Formula} (p : Closed e inB ls I) → Strides (asItStood p)
-  standing-strides (derive _ _ _ p) = standing-strides p
-  standing-strides (strengthen _ _ _ p1 pE p0) = (standing-strides p1, (standing-strides pE, standing-strides p0))
-  standing-strides (number _ _ _ _) = tt
-  standing-strides (stride _ g _ h _ _) = h
+-- a stride form as it stands, and reduced
+stride-standing : {inB : ℕ → Bool} {g : ℕ} {tA : Form} {E : Formula} → StrideOf inB g tA E → reducing (g divides within inB tA) ≡ E
+unfolding reducing
+stride-standing is = sym (is .is)
 
-  standing-reduced : {ls : List Line} {I : Formula} (p : Closed e inB ls I) → reducing (asItStood p) ≡ I
-  unfolding reducing
-  standing-reduced (derive _ _ _ p) = standing-reduced p
-  standing-reduced (strengthen _ _ _ p1 pE p0) = ap₂ (λ (I J : Formula). I or J) (standing-reduced p1) (ap₂ (λ (I J : Formula). I and J) (standing-reduced pE) (standing-reduced p0))
-  standing-reduced (number _ _ _ _) = refl
-  standing-reduced (stride _ g _ _ _ _) = refl
+module _ {e : Edition} {inB : ℕ → Bool} where
+  mutual
+    standing-strides : {ls : List Line} {I : Formula} (p : Closed e inB ls I) → Strides (asItStood p)
+    standing-strides (derive _ _ _ p) = standing-strides p
+    standing-strides (strengthen _ _ _ p1 pE p0) = (standing-strides p1, (standing-strides pE, standing-strides p0))
+    standing-strides (round _ _ _ r p ps) = (standing-strides p, rounded-strides ps (r .stride))
+    standing-strides (number _ _ _ _) = tt
+    standing-strides (stride _ g _ h _ _ _) = h
+
+    rounded-strides : {ls : List Line} {t tA : Form} {g k j : ℕ} {I : Formula} (p : Rounded e inB ls t tA g k j I) → 2 ≤ g → Strides (roundedAsItStood p)
+    rounded-strides (last _ _ p) h = (h, standing-strides p)
+    rounded-strides (more _ _ p ps) h = ((h, standing-strides p), rounded-strides ps h)
+
+  mutual
+    unfolding reducing
+
+    standing-reduced : {ls : List Line} {I : Formula} (p : Closed e inB ls I) → reducing (asItStood p) ≡ I
+    standing-reduced (derive _ _ _ p) = standing-reduced p
+    standing-reduced (strengthen _ _ _ p1 pE p0) = ap₂ _or_ (standing-reduced p1) (ap₂ _and_ (standing-reduced pE) (standing-reduced p0))
+    standing-reduced (round _ _ _ _ p ps) = ap₂ _or_ (standing-reduced p) (rounded-reduced ps)
+    standing-reduced (number _ _ _ _) = refl
+    standing-reduced (stride _ g _ _ _ _ is) = stride-standing is
+
+    rounded-reduced : {ls : List Line} {t tA : Form} {g k j : ℕ} {I : Formula} (p : Rounded e inB ls t tA g k j I) → reducing (roundedAsItStood p) ≡ I
+    rounded-reduced (last _ is p) = ap₂ _and_ (stride-standing is) (standing-reduced p)
+    rounded-reduced (more _ is p ps) = ap₂ _or_ (ap₂ _and_ (stride-standing is) (standing-reduced p)) (rounded-reduced ps)
 
 -- ---- testing
 -- where the values are not as many as the file's constants, its header is refused whatever follows

@@ -3,12 +3,13 @@ use mathlib.Core.Path.{_≡_, refl, sym, _∙_, ap, ap₂, subst}
 use mathlib.Core.Bool.{Bool, true, false}
 use mathlib.Core.List.{List, []}
 use mathlib.Core.Option.{some}
-use Prim.Native.Nat.{ℕ, _≤_}
+use Prim.Native.Nat.{ℕ, zero, suc, _+_, _≤_}
+use native.Mathlib.Omega.{arith}
 use lib.ListN.{length, take}
 use lib.Seq.{take-at}
 use Rattle.forms.specs.Edition.{Edition, edition1}
-use Rattle.forms.specs.Forms.{All, Line, Constraint, Formula}
-use Rattle.calculus.specs.Rules.{Entry, Closed, derive, strengthen, number, stride, step, entries, Interpolant}
+use Rattle.forms.specs.Forms.{All, Form, Line, Constraint, Formula}
+use Rattle.calculus.specs.Rules.{Entry, Closed, derive, strengthen, round, number, stride, Rounded, last, more, step, entries, entriesRounded, Interpolant}
 use Rattle.fields.specs.declared.Answer.{Answer}
 use Rattle.fields.specs.Answers.{accepted, over, Written, writtenOf}
 use Rattle.fields.specs.Numbers.{Bytes}
@@ -25,7 +26,7 @@ use Rattle.fields.proofs.Bare.{bareWritten}
 use Rattle.proof.proofs.Sizes.{written-reads-back}
 use Rattle.fields.specs.declared.WriteResult.{WriteResult}
 use Rattle.checking.specs.Promises.{Checks}
-use Rattle.guarantee.specs.LaidOut.{Listed, LaidBundle, Placed, unclaimed, claimed, strengthen as strengthens, number as numbers, stride as strides, LaidProof, LaidOut}
+use Rattle.guarantee.specs.LaidOut.{Listed, LaidBundle, Placed, unclaimed, claimed, strengthen as strengthens, rounding, number as numbers, stride as strides, PlacedTimes, none as nones, more as mores, LaidProof, LaidOut}
 use Rattle.guarantee.specs.Acceptance.{Checkable}
 use Rattle.guarantee.specs.Soundness.{Meaning, Faithful, Delivered, Soundness}
 use Rattle.guarantee.proofs.Acceptance.{is-checkable, leaves}
@@ -47,12 +48,23 @@ module _ (F : List Item) (framed : All Framed F) (M : Meaning) (faithful : Faith
   stated = ap (λ (m : ℕ × List Constraint). m .1) (meaning-is F framed M faithful K cs b)
 
 -- ---- a closed proof's entries are one closed table
-closed-placed : {e : Edition} {inB : ℕ → Bool} {ls : List Line} {I : Formula} (p : Closed e inB ls I) (rest : List Entry) → Placed (entries p rest) rest
-closed-placed (derive true n _ p) rest = claimed (step n) _ _ (closed-placed p rest)
-closed-placed (derive false n _ p) rest = unclaimed (step n) (closed-placed p rest)
-closed-placed (strengthen i _ _ p1 pE p0) rest = strengthens i (closed-placed p1 _) (closed-placed pE _) (closed-placed p0 rest)
-closed-placed (number i _ _ _) rest = numbers i
-closed-placed (stride i g _ _ _ _) rest = strides i g
+mutual
+  closed-placed : {e : Edition} {inB : ℕ → Bool} {ls : List Line} {I : Formula} (p : Closed e inB ls I) (rest : List Entry) → Placed (entries p rest) rest
+  closed-placed (derive true n _ p) rest = claimed (step n) _ _ (closed-placed p rest)
+  closed-placed (derive false n _ p) rest = unclaimed (step n) (closed-placed p rest)
+  closed-placed (strengthen i _ _ p1 pE p0) rest = strengthens i (closed-placed p1 _) (closed-placed pE _) (closed-placed p0 rest)
+  closed-placed (round i g k _ p ps) rest = rounding i g k (closed-placed p _) (rounded-placed ps rest k (omega arith))
+  closed-placed (number i _ _ _) rest = numbers i
+  closed-placed (stride i g _ _ _ _ _) rest = strides i g
+
+  -- the branches of a rounding from j to k-1 are k-j
+  rounded-placed : {e : Edition} {inB : ℕ → Bool} {ls : List Line} {t tA : Form} {g k j : ℕ} {I : Formula} (p : Rounded e inB ls t tA g k j I) (rest : List Entry)
+      → (n : ℕ) → n + j ≡ k → PlacedTimes n (entriesRounded p rest) rest
+  rounded-placed (last b _ p) rest zero e = absurd (omega arith)
+  rounded-placed (last b _ p) rest (suc zero) e = mores (closed-placed p rest) nones
+  rounded-placed (last b _ p) rest (suc (suc n)) e = absurd (omega arith)
+  rounded-placed (more b _ p ps) rest zero e = absurd (omega arith)
+  rounded-placed (more b _ p ps) rest (suc n) e = mores (closed-placed p _) (rounded-placed ps rest n (omega arith))
 
 laid-bundle : {file : List ℕ} {K : ℕ} {cs : List Constraint} → BundleFile file K cs → LaidBundle file K
 laid-bundle {cs = cs} b = record { constraints = cs; list = b .list; whole = b .whole; laid = b .laid }

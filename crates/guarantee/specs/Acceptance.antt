@@ -7,6 +7,7 @@ use lib.IntN.{ℤ}
 use lib.ListN.{length, take}
 use Rattle.forms.specs.Edition.{edition1}
 use Rattle.forms.specs.Forms.{All, Constraint, Formula}
+use Rattle.calculus.specs.Rules.{Entry, Proves}
 use Rattle.fields.specs.declared.Answer.{Answer}
 use Rattle.fields.specs.declared.WriteResult.{WriteResult}
 use Rattle.fields.specs.Answers.{answer, acceptance, fileLent, over}
@@ -20,7 +21,7 @@ use Rattle.bundle.specs.Read.{kindsOf, numbersOf}
 use Rattle.bundle.specs.Write.{constraintsBytes}
 use Rattle.bundle.specs.Promises.{Reads, Writes, AnswersShow}
 use Rattle.formula.specs.Formula.{formulaFile}
-use Rattle.proof.specs.Layout.{Certifies}
+use Rattle.proof.specs.Layout.{ProofFile, Certifies}
 use Rattle.checking.specs.Promises.{Checks}
 
 -- ---- what each operation accepts
@@ -84,6 +85,10 @@ pub record Acceptance : Type 0 where
   -- and where only the output is too short, 21 with the bytes needed
   pub too-short : (A B proof output left : List ℕ) (r : WriteResult) → Checks A B proof output left r → (K : ℕ) (I : Formula) → Certifies A B proof K I
       → length output < length (formulaFile edition1 K I) → r .answer ≡ answer 21 fileLent (length (formulaFile edition1 K I))
+  -- where the rows derive a formula whose file is longer than a formula's may be, 1 with the bytes needed, whatever output is lent
+  pub too-long : (A B proof output left : List ℕ) (r : WriteResult) → Checks A B proof output left r → (K : ℕ) (a b : List Constraint) (es : List Entry) (I : Formula)
+      → BundleFile A K a → BundleFile B K b → ProofFile proof K es → Proves edition1 a b es I
+      → edition1 .formulaBytes < length (formulaFile edition1 K I) → r .answer ≡ answer 1 fileLent (length (formulaFile edition1 K I))
   -- three files certify one K and one formula at most
   pub one-formula : (A B proof : List ℕ) (K K′ : ℕ) (I I′ : Formula) → Certifies A B proof K I → Certifies A B proof K′ I′ → (K ≡ K′) × (I ≡ I′)
   -- ---- read, write, show

@@ -3,10 +3,10 @@
 use mathlib.Core.Path.{_≡_}
 use mathlib.Core.List.{List, [], _∷_}
 use mathlib.Core.Option.{some}
-use Prim.Native.Nat.{ℕ, _≤_}
+use Prim.Native.Nat.{ℕ, suc, _≤_}
 use Rattle.forms.specs.Edition.{edition1}
 use Rattle.forms.specs.Forms.{All, Form, Constraint}
-use Rattle.calculus.specs.Rules.{Step, Derive, Strengthen, CloseNumber, CloseStride, Entry, row, claim}
+use Rattle.calculus.specs.Rules.{Step, Derive, Strengthen, CloseNumber, CloseStride, Round, Entry, row, claim}
 use Rattle.fields.specs.Fields.{Item, item, Framed, fileOf, fields, items}
 use Rattle.bundle.specs.Layout.{Each, StatesAll}
 use Rattle.proof.specs.Layout.{Enters}
@@ -24,15 +24,22 @@ pub record LaidBundle (file : List ℕ) (K : ℕ) : Type 0 where
   pub laid : StatesAll list K constraints
 
 -- The entries of one closed branch, and then the rest.
-pub data Placed : List Entry → (rest : List Entry) → Type 0 where
-  -- a row 0x10 to 0x12, without its claim or with it, goes on
-  unclaimed : {es rest : List Entry} (s : Step) → Placed es rest → Placed (row (Derive s) ∷ es) rest
-  claimed : {es rest : List Entry} (s : Step) (t tA : Form) → Placed es rest → Placed (row (Derive s) ∷ claim t tA ∷ es) rest
-  -- three branches follow a strengthen, complete one after the other
-  strengthen : {es second third rest : List Entry} (t : ℕ) → Placed es second → Placed second third → Placed third rest → Placed (row (Strengthen t) ∷ es) rest
-  -- a branch ends at its close row
-  number : {rest : List Entry} (t : ℕ) → Placed (row (CloseNumber t) ∷ rest) rest
-  stride : {rest : List Entry} (t g : ℕ) → Placed (row (CloseStride t g) ∷ rest) rest
+mutual
+  pub data Placed : List Entry → (rest : List Entry) → Type 0 where
+    -- a row 0x10 to 0x12, without its claim or with it, goes on
+    unclaimed : {es rest : List Entry} (s : Step) → Placed es rest → Placed (row (Derive s) ∷ es) rest
+    claimed : {es rest : List Entry} (s : Step) (t tA : Form) → Placed es rest → Placed (row (Derive s) ∷ claim t tA ∷ es) rest
+    -- three branches follow a strengthen, complete one after the other, k+1 a rounding by k
+    strengthen : {es second third rest : List Entry} (t : ℕ) → Placed es second → Placed second third → Placed third rest → Placed (row (Strengthen t) ∷ es) rest
+    rounding : {es second rest : List Entry} (t g k : ℕ) → Placed es second → PlacedTimes k second rest → Placed (row (Round t g k) ∷ es) rest
+    -- a branch ends at its close row
+    number : {rest : List Entry} (t : ℕ) → Placed (row (CloseNumber t) ∷ rest) rest
+    stride : {rest : List Entry} (t g : ℕ) → Placed (row (CloseStride t g) ∷ rest) rest
+
+  -- so many closed branches, one after the other, and then the rest
+  pub data PlacedTimes : ℕ → List Entry → (rest : List Entry) → Type 0 where
+    none : {rest : List Entry} → PlacedTimes 0 rest rest
+    more : {n : ℕ} {es next rest : List Entry} → Placed es next → PlacedTimes n next rest → PlacedTimes (suc n) es rest
 
 -- Nothing stands after the root is closed.
 pub record LaidProof (file : List ℕ) (K : ℕ) : Type 0 where

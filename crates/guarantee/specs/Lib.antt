@@ -6,3 +6,4 @@ pub mod LaidOut
 pub mod Soundness
 pub mod Guard
 pub mod Reduced
+pub mod Rounding

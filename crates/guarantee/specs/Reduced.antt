@@ -6,23 +6,29 @@ use mathlib.Core.Bool.{Bool}
 use Prim.Native.Nat.{ℕ, _≤_}
 use lib.IntN.{ℤ}
 use Rattle.forms.specs.Edition.{Edition, edition1}
-use Rattle.forms.specs.Forms.{Line, Assignment, Formula, literal, _divides_, _and_, _or_, within, True}
+use Rattle.forms.specs.Forms.{Form, Line, Assignment, Formula, literal, _divides_, _and_, _or_, _plus_, within, True, height}
 use Rattle.forms.specs.Reduced.{reducing, Strides, Reduced}
-use Rattle.calculus.specs.Rules.{Closed, derive, strengthen, number, stride}
+use Rattle.calculus.specs.Rules.{Closed, derive, strengthen, round, number, stride, Rounded, last, more}
 use Rattle.formula.specs.declared.Tested.{Tested}
-use Rattle.formula.specs.Formula.{formulaFile, Encodable, height}
+use Rattle.formula.specs.Formula.{formulaFile, Encodable}
 use Rattle.formula.specs.Promises.{Tests}
 use Rattle.proof.specs.Layout.{Certifies}
 use Rattle.fields.specs.declared.WriteResult.{WriteResult}
 use Rattle.checking.specs.Promises.{Checks}
 use Rattle.guarantee.specs.Acceptance.{Checkable, WrittenAs}
 
--- Document 01's formula of a closed branch: the numbers of a stride form as they stand.
-abbrev pub asItStood : {e : Edition} {inB : ℕ → Bool} {ls : List Line} {I : Formula} → Closed e inB ls I → Formula
-asItStood (derive _ _ _ p) = asItStood p
-asItStood (strengthen _ _ _ p1 pE p0) = asItStood p1 or (asItStood pE and asItStood p0)
-asItStood (number {k = k} {tA = tA} _ _ _ _) = literal k tA
-asItStood {inB = inB} (stride {tA = tA} _ g _ _ _ _) = g divides within inB tA
+-- The formula of a closed branch with the numbers of a stride form as they stand, as document 01 has it.
+abbrev mutual
+  pub asItStood : {e : Edition} {inB : ℕ → Bool} {ls : List Line} {I : Formula} → Closed e inB ls I → Formula
+  asItStood (derive _ _ _ p) = asItStood p
+  asItStood (strengthen _ _ _ p1 pE p0) = asItStood p1 or (asItStood pE and asItStood p0)
+  asItStood (round _ _ _ _ p ps) = asItStood p or roundedAsItStood ps
+  asItStood (number {k = k} {tA = tA} _ _ _ _) = literal k tA
+  asItStood {inB = inB} (stride {tA = tA} _ g _ _ _ _ _) = g divides within inB tA
+
+  pub roundedAsItStood : {e : Edition} {inB : ℕ → Bool} {ls : List Line} {t tA : Form} {g k j : ℕ} {I : Formula} → Rounded e inB ls t tA g k j I → Formula
+  roundedAsItStood {inB = inB} {tA = tA} {g = g} {j = j} (last _ _ p) = (g divides within inB (tA plus j)) and asItStood p
+  roundedAsItStood {inB = inB} {tA = tA} {g = g} {j = j} (more _ _ p ps) = ((g divides within inB (tA plus j)) and asItStood p) or roundedAsItStood ps
 
 -- An accepted check wrote the bytes of a formula each number of whose stride parts lies from 0 to g-1, so that reducing it changes nothing.
 pub record WrittenReduced (A B proof output left : List ℕ) (r : WriteResult) : Type 0 where

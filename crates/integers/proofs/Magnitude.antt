@@ -31,6 +31,18 @@ within-add {a} {b} h k = record { abs = omega (arith, one-side (a +ℤ b) (pp a 
 pub within-mul : {a b : ℤ} {m n : ℕ} → Within m a → Within n b → Within (m * n) (a *ℤ b)
 within-mul {a} {b} h k = record { abs = omega (arith, abs-mul a b, mul-le-mul (h .abs) (k .abs)) }
 
+-- What a number is raised by on the way to z + k keeps it within the same bound.
+between : (z w u : ℤ) (j k r : ℕ) → pp w + (np z + 0) ≡ np w + (pp z + j) → pp u + (np z + 0) ≡ np u + (pp z + k) → j ≤ k → natAbs z ≤ r → natAbs u ≤ r → natAbs w ≤ r
+between (pos z) (pos w) (pos u) j k r a b h p q = omega arith
+between (pos z) (pos w) (negsuc u) j k r a b h p q = absurd (omega arith)
+between (pos z) (negsuc w) u j k r a b h p q = absurd (omega arith)
+between (negsuc z) (pos w) (pos u) j k r a b h p q = omega arith
+between (negsuc z) (pos w) (negsuc u) j k r a b h p q = omega arith
+between (negsuc z) (negsuc w) u j k r a b h p q = omega arith
+
+pub within-between : {z : ℤ} {j k r : ℕ} → j ≤ k → Within r z → Within r (z +ℤ pos k) → Within r (z +ℤ pos j)
+within-between {z} {j} {k} {r} h p q = record { abs = between z (z +ℤ pos j) (z +ℤ pos k) j k r (add-pn z (pos j)) (add-pn z (pos k)) h (p .abs) (q .abs) }
+
 pub within-le : {z : ℤ} {m n : ℕ} → m ≤ n → Within m z → Within n z
 within-le h w = record { abs = omega (arith, w .abs) }
 

@@ -3,9 +3,9 @@ pub mod Parts
 pub mod Lines
 pub mod Range
 pub mod Mixing
-pub mod Plus
+pub mod Raising
 pub mod Branch
-pub mod Strengthen
+pub mod Starting
 pub mod Next
 pub mod Fill
 pub mod Every

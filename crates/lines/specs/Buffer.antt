@@ -55,25 +55,16 @@ pub record Mixes (buf : List ℤ) (f : ℤ) (a : ℕ) (g : ℤ) (b d w : ℕ) (b
 unfoldable pub mixedLine : (K : ℕ) (f : ℤ) (i : ℕ) (g : ℤ) (j n : ℕ) → List ℤ → List ℤ
 mixedLine K f i g j n buf = paste buf (n * size K) (mixed f (i * size K) g (j * size K) (size K) buf) (size K)
 
--- The buffer with one more at a place.
-unfoldable pub plusOne : (at : ℕ) → List ℤ → List ℤ
-plusOne at buf = set buf at (getD buf at (pos 0) +ℤ pos 1)
+-- The buffer with x more at a place.
+unfoldable pub raised : (at x : ℕ) → List ℤ → List ℤ
+raised at x buf = set buf at (getD buf at (pos 0) +ℤ pos x)
 
--- The buffer with line i again as line n: as it stands, with t + 1, and with t + 1 and tA + 1.
+-- The buffer with line i again as line n: as it stands, and with t + x and tA + y.
 unfoldable pub copiedLine : (K i n : ℕ) → List ℤ → List ℤ
 copiedLine K i n buf = mixedLine K (pos 1) i (pos 0) i n buf
 
-unfoldable pub strengthenedT : (K i n : ℕ) → List ℤ → List ℤ
-strengthenedT K i n buf = plusOne (n * size K + K) (copiedLine K i n buf)
-
-unfoldable pub strengthenedBoth : (K i n : ℕ) → List ℤ → List ℤ
-strengthenedBoth K i n buf = plusOne (n * size K + (K + 1) + K) (strengthenedT K i n buf)
-
--- One of the three, as it is said whether t and then tA is raised.
-abbrev pub startedLine : (K i n : ℕ) (t tA : Bool) → List ℤ → List ℤ
-startedLine K i n false tA buf = copiedLine K i n buf
-startedLine K i n true false buf = strengthenedT K i n buf
-startedLine K i n true true buf = strengthenedBoth K i n buf
+unfoldable pub startedLine : (K i n x y : ℕ) → List ℤ → List ℤ
+startedLine K i n x y buf = raised (n * size K + (K + 1) + K) y (raised (n * size K + K) x (copiedLine K i n buf))
 
 -- What a sum of multiples asks: the w numbers at a and at b lie before the w numbers at d, and they and the factors are small. (Nothing is asked of the other numbers before d: when a line's tA is made its t stands there already.)
 pub record Terms (buf : List ℤ) (f : ℤ) (a : ℕ) (g : ℤ) (b d w : ℕ) : Type 0 where
@@ -91,14 +82,18 @@ pub record LineTerms (K : ℕ) (buf : List ℤ) (f : ℤ) (i : ℕ) (g : ℤ) (j
   pub f-in : Within 65535 f
   pub g-in : Within 65535 g
 
--- The constant terms of line i's t and tA stay within the range when they are raised by 1.
-pub record Raised (K : ℕ) (buf : List ℤ) (i : ℕ) : Type 0 where
-  pub t : Within (edition1 .range) (formIn K buf (i * size K) .d +ℤ pos 1)
-  pub tA : Within (edition1 .range) (formIn K buf (i * size K + (K + 1)) .d +ℤ pos 1)
+-- The constant terms of line i's t and tA stay within the range when they are raised by x and y.
+pub record Raised (K : ℕ) (buf : List ℤ) (i x y : ℕ) : Type 0 where
+  pub t : Within (edition1 .range) (formIn K buf (i * size K) .d +ℤ pos x)
+  pub tA : Within (edition1 .range) (formIn K buf (i * size K + (K + 1)) .d +ℤ pos y)
 
--- Line i, which may be strengthened, of a branch of n lines that has room for one more.
+-- Line i of a branch of n lines that has room for one more.
 pub record LineCopy (K : ℕ) (buf : List ℤ) (i n : ℕ) : Type 0 where
   pub branch : Branch K buf n
   pub first : i < n
   pub space : n < edition1 .lines
-  pub raised : Raised K buf i
+
+-- The same, where it may be raised so.
+pub record LineStart (K : ℕ) (buf : List ℤ) (i n x y : ℕ) : Type 0 where
+  pub copy : LineCopy K buf i n
+  pub fits : Raised K buf i x y

@@ -16,7 +16,7 @@ ghost use Rattle.calculus.specs.Rules.{small, every};
 ghost use Rattle.forms.specs.Edition.{edition1};
 ghost use Rattle.lines.specs.Parts.{part};
 ghost use Rattle.forms.specs.Flat.{formIn};
-ghost use Rattle.lines.specs.Buffer.{size, Bounded, Terms, LineTerms, LineCopy, Mixes, plusOne, copiedLine, strengthenedT, strengthenedBoth, startedLine};
+ghost use Rattle.lines.specs.Buffer.{size, Bounded, Terms, LineTerms, LineCopy, LineStart, Mixes, raised, copiedLine, startedLine};
 
 // Where the numbers of line i's t start, with k constants. Only here a line number becomes a place.
 pub fn place(i: LineNumber, k: usize) -> usize
@@ -128,13 +128,13 @@ pub fn mix_line(
     mix_whole(lines, alpha, s, beta, t, n, k)
 }
 
-// One more at a place.
-fn add_one(lines: &mut [i32], at: usize)
+// x more at a place.
+fn raise(lines: &mut [i32], at: usize, x: u16)
     requires { ⌜ at < length (now lines) ⌝ }
-    requires { ⌜ Within (edition1 .range) (getD (now lines) at (pos 0) +ℤ pos 1) ⌝ }
-    ensures { λ _. ⌜ now (lines .exit) ≡ plusOne at (now (lines .entry)) ⌝ }
+    requires { ⌜ Within (edition1 .range) (getD (now lines) at (pos 0) +ℤ pos x) ⌝ }
+    ensures { λ _. ⌜ now (lines .exit) ≡ raised at x (now (lines .entry)) ⌝ }
 {
-    let sum = number(lines, at) + 1;
+    let sum = number(lines, at) + x as i64;
     lines[at] = sum as i32;
 }
 
@@ -161,52 +161,29 @@ fn copy_line(lines: &mut [i32], i: LineNumber, n: LineNumber, k: usize)
     copy_numbers(lines, from, to, 2 * (k + 1));
 }
 
-// Line n becomes line i with t + 1.
-fn strengthen_t(lines: &mut [i32], i: LineNumber, n: LineNumber, k: usize)
-    requires { ⌜ LineCopy k (now lines) (i .0) (n .0) ⌝ }
-    ensures { λ _. ⌜ now (lines .exit) ≡ strengthenedT k (i .0) (n .0) (now (lines .entry)) ⌝ }
+// Line n becomes line i as a branch starts with it: t + x with tA + y.
+pub fn start_line(lines: &mut [i32], i: LineNumber, n: LineNumber, k: usize, x: u16, y: u16)
+    requires { ⌜ LineStart k (now lines) (i .0) (n .0) x y ⌝ }
+    ensures { λ _. ⌜ now (lines .exit) ≡ startedLine k (i .0) (n .0) x y (now (lines .entry)) ⌝ }
 {
     copy_line(lines, i, n, k);
     let at = place(n, k);
-    add_one(lines, at + k);
+    raise(lines, at + k, x);
+    let at_a = place_a(n, k);
+    raise(lines, at_a + k, y);
 }
 
-// Line n becomes line i with t + 1 and tA + 1.
-fn strengthen_both(lines: &mut [i32], i: LineNumber, n: LineNumber, k: usize)
-    requires { ⌜ LineCopy k (now lines) (i .0) (n .0) ⌝ }
-    ensures { λ _. ⌜ now (lines .exit) ≡ strengthenedBoth k (i .0) (n .0) (now (lines .entry)) ⌝ }
-{
-    strengthen_t(lines, i, n, k);
-    let at = place_a(n, k);
-    add_one(lines, at + k);
-}
-
-// Line n becomes line i as a branch of a strengthen starts: with t + 1, and then with tA + 1 too, where it is said.
-pub fn start_line(lines: &mut [i32], i: LineNumber, n: LineNumber, k: usize, t: bool, ta: bool)
-    requires { ⌜ LineCopy k (now lines) (i .0) (n .0) ⌝ }
-    ensures { λ _. ⌜ now (lines .exit) ≡ startedLine k (i .0) (n .0) t ta (now (lines .entry)) ⌝ }
-{
-    if t {
-        if ta {
-            strengthen_both(lines, i, n, k);
-            return;
-        }
-        strengthen_t(lines, i, n, k);
-        return;
-    }
-    copy_line(lines, i, n, k);
-}
-
-// Whether the two numbers of line i that a strengthen raises stay within the range.
-pub fn raised_fit(lines: &[i32], i: LineNumber, k: usize) -> bool
+// Whether t + x and tA + x of line i stay within the range.
+pub fn raised_fit(lines: &[i32], i: LineNumber, k: usize, x: u16) -> bool
     requires { ⌜ (i .0 < edition1 .lines) × (k ≤ edition1 .constants) × (i .0 * size k + size k ≤ length (now lines)) ⌝ }
     requires { ⌜ Bounded k (now lines) (i .0 + 1) ⌝ }
-    ensures { λ r. ⌜ r ≡ small (edition1 .range) (formIn k (now (lines .entry)) (i .0 * size k) .d +ℤ pos 1) && small (edition1 .range) (formIn k (now (lines .entry)) (i .0 * size k + (k + 1)) .d +ℤ pos 1) ⌝ }
+    ensures { λ r. ⌜ r ≡ small (edition1 .range) (formIn k (now (lines .entry)) (i .0 * size k) .d +ℤ pos x) && small (edition1 .range) (formIn k (now (lines .entry)) (i .0 * size k + (k + 1)) .d +ℤ pos x) ⌝ }
 {
+    let more = x as i64;
     let at = place(i, k);
     let at_a = place_a(i, k);
-    let t = integers::in_range(number(lines, at + k) + 1);
-    let ta = integers::in_range(number(lines, at_a + k) + 1);
+    let t = integers::in_range(number(lines, at + k) + more);
+    let ta = integers::in_range(number(lines, at_a + k) + more);
     t & ta
 }
 

@@ -4,27 +4,29 @@ use mathlib.Core.Logic.{_↔_}
 use mathlib.Core.Option.{none, some}
 use mathlib.Core.Bool.{Bool}
 use mathlib.Core.List.{List, [], _∷_}
-use Prim.Native.Nat.{ℕ, _≤_}
+use Prim.Native.Nat.{ℕ, _≤_, _<_}
 use native.Mathlib.Omega.{arith}
-use lib.Dec.{T, eqb→eq, eqb-refl}
+use borrow.Author.Tests.{lt-leb}
+use lib.Dec.{T, eqb→eq, eqb-refl, leb→le, le→leb}
 use lib.ListN.{length}
 use Rattle.forms.specs.Edition.{Edition, edition1}
-use Rattle.forms.specs.Forms.{Formula, lines, occurs}
+use Rattle.forms.specs.Forms.{Constraint, Formula, lines, occurs}
 use Rattle.calculus.specs.Rules.{Entry, entries, Proves, Interpolant}
 use Rattle.calculus.proofs.Sides.{Side}
 use Rattle.calculus.proofs.Interpolation.{interpolation, initial-words, sides}
 use Rattle.fields.specs.declared.Answer.{Answer}
 use Rattle.fields.specs.declared.FileKind.{FileKind}
-use Rattle.fields.specs.Answers.{fileA, fileB, fileProof, refused, accepted}
+use Rattle.fields.specs.Answers.{answer, fileA, fileB, fileProof, fileLent, Result, refused, accepted, _>>_}
 use Rattle.fields.specs.Fields.{Fields, Item, item, fields, items}
 use Rattle.fields.specs.Header.{Header, agrees}
-use Rattle.fields.proofs.Results.{one-value, Gives, gives-accepted, bind, seq, binds, passes, not-0, not-22}
+use Rattle.fields.proofs.Results.{one-value, Gives, gives-accepted, weaken, gives-need, bind, seq, binds, passes, need-yes, fail, not-0, not-22}
 use Rattle.fields.proofs.HeaderLaid.{LaidHeader, header-gives, header-read, finished-gives, finished-ends}
 use Rattle.bundle.specs.Bundle.{Bundle}
 use Rattle.bundle.specs.Layout.{Each, nil, BundleFile}
 use Rattle.bundle.proofs.Laid.{Itemed, itemed, no-items, listed, BothLaid, laid-file, file-laid, bundles-give, bundles-accept, short-gives, short-accepted}
-use Rattle.proof.specs.Check.{Closing, checkProof, interpolant}
-use Rattle.proof.specs.Layout.{Enters, Certifies}
+use Rattle.formula.specs.Formula.{formulaFile}
+use Rattle.proof.specs.Check.{Closing, checkProof, writable, interpolant}
+use Rattle.proof.specs.Layout.{Enters, ProofFile, Certifies}
 use Rattle.proof.proofs.Branches.{BranchDerived, branch-derives, branch-accepts}
 
 -- which constants occur in A and in B
@@ -53,7 +55,7 @@ agrees-refl K = eqb-refl K
 module _ (a b : Bundle) (fs : Fields) where
   -- what the check of the root finds
   abbrev Root : Edition → ℕ → Fields → Closing → Type 0
-  Root e K rest root = BranchDerived e K (occurring a b) (e .strengthens) 0 none (lines (a .constraints) (b .constraints)) rest root
+  Root e K rest root = BranchDerived e K (occurring a b) (e .branchings) 0 none (lines (a .constraints) (b .constraints)) rest root
 
   root-proof : (rest : Fields) (root : Closing) → Root edition1 (a .K) rest root → items (root .after) ≡ some [] → 1 ≤ a .K → a .K ≤ edition1 .constants
       → ((is : List Item) → items rest ≡ some is → items fs ≡ some (item 0x01 (1 ∷ []) ∷ item 0x02 (a .K ∷ []) ∷ is)) → Proof a b fs (root .formula)
@@ -78,22 +80,36 @@ module _ (a b : Bundle) (fs : Fields) where
   proof-gives : Gives (checkProof a b fs) (Proof a b fs)
   unfolding checkProof
   proof-gives = bind (header-gives FileKind.Proof fileProof (some (a .K)) fs) λ h d.
-      bind (branch-derives (h .edition) (h .K) (occurring a b) (h .edition .strengthens) _ 0 _ (h .rest) (initial-words (sides (a .constraints) (b .constraints)))) λ root r.
+      bind (branch-derives (h .edition) (h .K) (occurring a b) (h .edition .branchings) _ 0 _ (h .rest) (initial-words (sides (a .constraints) (b .constraints)))) λ root r.
       seq (finished-gives FileKind.Proof fileProof (root .after)) λ ended. gives-accepted (header-proof h d root r ended)
 
   proof-accepts : (I : Formula) → Proof a b fs I → checkProof a b fs ≡ accepted I
   unfolding checkProof
   proof-accepts I p =
       let h = header-read FileKind.Proof fileProof (some (a .K)) fs (a .K) (p .body) (p .whole) (p .low) (p .high) (agrees-refl (a .K)) in
-      let r = branch-accepts edition1 (a .K) (occurring a b) (edition1 .strengthens) _ 0 _ I (p .proves .proof) [] (h .after) (initial-words (sides (a .constraints) (b .constraints)))
+      let r = branch-accepts edition1 (a .K) (occurring a b) (edition1 .branchings) _ 0 _ I (p .proves .proof) [] (h .after) (initial-words (sides (a .constraints) (b .constraints)))
       (p .proves .opened) _ refl (omega (arith, p .proves .rows)) (listed (h .after) (h .rest) (subst (Each (Enters edition1 (a .K)) (p .body)) (sym (p .proves .are)) (p .enters))) in
       binds _ (h .reads) ∙ binds _ (r .is) ∙ passes _ (finished-ends FileKind.Proof fileProof (r .after) (no-items (r .lists)))
+
+-- ---- the formula's file
+writable-gives : (K : ℕ) (I : Formula) → Gives (writable K I) (λ _. length (formulaFile edition1 K I) ≤ edition1 .formulaBytes)
+unfolding writable
+writable-gives K I = weaken (gives-need _ _ tt) λ _ t. leb→le _ _ t
+
+writable-accepts : (K : ℕ) (I : Formula) → length (formulaFile edition1 K I) ≤ edition1 .formulaBytes → writable K I ≡ accepted tt
+unfolding writable
+writable-accepts K I h = need-yes _ _ (le→leb _ _ h)
+
+writable-refuses : {Y : Type 0} (r : Result Y) (K : ℕ) (I : Formula) → edition1 .formulaBytes < length (formulaFile edition1 K I)
+    → (writable K I >> r) ≡ refused (answer 1 fileLent (length (formulaFile edition1 K I)))
+unfolding writable
+writable-refuses r K I h = fail _ r (lt-leb (length (formulaFile edition1 K I)) (edition1 .formulaBytes) h)
 
 -- ---- the three files
 module _ (A B P : List ℕ) where
   certified : (a b : Bundle) → BothLaid A B (a, b) → length A ≤ edition1 .bundleBytes → length B ≤ edition1 .bundleBytes → length P ≤ edition1 .proofBytes
-      → (I : Formula) → Proof a b (fields P) I → Certifies A B P (a .K) I
-  certified a b l sA sB sP I p = record {
+      → (I : Formula) → Proof a b (fields P) I → length (formulaFile edition1 (a .K) I) ≤ edition1 .formulaBytes → Certifies A B P (a .K) I
+  certified a b l sA sB sP I p sI = record {
     a = a .constraints;
     b = b .constraints;
     es = p .es;
@@ -101,22 +117,32 @@ module _ (A B P : List ℕ) where
     fileB = subst (λ (K : ℕ). BundleFile B K (b .constraints)) (agreed (a .K) (b .K) (l .laidB .agree)) (laid-file B b sB (l .laidB));
     fileProof = record { short = sP; body = p .body; whole = p .whole; low = p .low; high = p .high; enters = p .enters };
     proves = p .proves;
+    writable = sI;
   }
 
   interpolant-gives : Gives (interpolant A B P) (λ r. Certifies A B P (r .0) (r .1))
   unfolding interpolant
   interpolant-gives = seq (short-gives _ fileA A) λ sA. seq (short-gives _ fileB B) λ sB. seq (short-gives _ fileProof P) λ sP.
-      bind (bundles-give A B) λ (a, b) l. bind (proof-gives a b (fields P)) λ I p. gives-accepted (certified a b l sA sB sP I p)
+      bind (bundles-give A B) λ (a, b) l. bind (proof-gives a b (fields P)) λ I p. seq (writable-gives (a .K) I) λ sI. gives-accepted (certified a b l sA sB sP I p sI)
+
+  -- where the rows derive I, all that is left to ask is whether its file is too long
+  interpolant-derives : {K : ℕ} {ofA ofB : List Constraint} {es : List Entry} (I : Formula) → BundleFile A K ofA → BundleFile B K ofB → ProofFile P K es → Proves edition1 ofA ofB es I
+      → interpolant A B P ≡ (writable K I >> accepted (K, I))
+  unfolding interpolant agrees
+  interpolant-derives {K} {ofA} {ofB} {es} I fA fB f p =
+      let a : Bundle = record { K = K; constraints = ofA } in
+      let b : Bundle = record { K = K; constraints = ofB } in
+      passes _ (short-accepted _ fileA A (fA .short)) ∙ passes _ (short-accepted _ fileB B (fB .short)) ∙ passes _ (short-accepted _ fileProof P (f .short))
+      ∙ binds _ (bundles-accept A B a b (record { laidA = file-laid A a fA tt; laidB = file-laid B b fB (agrees-refl K) }))
+      ∙ binds _ (proof-accepts a b (fields P) I (record { es = es; body = f .body; whole = f .whole; low = f .low; high = f .high; enters = f .enters; proves = p }))
 
   interpolant-accepts : (K : ℕ) (I : Formula) → Certifies A B P K I → interpolant A B P ≡ accepted (K, I)
-  unfolding interpolant agrees
-  interpolant-accepts K I c =
-      let a : Bundle = record { K = K; constraints = c .a } in
-      let b : Bundle = record { K = K; constraints = c .b } in
-      let f = c .fileProof in
-      passes _ (short-accepted _ fileA A (c .fileA .short)) ∙ passes _ (short-accepted _ fileB B (c .fileB .short)) ∙ passes _ (short-accepted _ fileProof P (f .short))
-      ∙ binds _ (bundles-accept A B a b (record { laidA = file-laid A a (c .fileA) tt; laidB = file-laid B b (c .fileB) (agrees-refl K) }))
-      ∙ binds _ (proof-accepts a b (fields P) I (record { es = c .es; body = f .body; whole = f .whole; low = f .low; high = f .high; enters = f .enters; proves = c .proves }))
+  interpolant-accepts K I c = interpolant-derives I (c .fileA) (c .fileB) (c .fileProof) (c .proves) ∙ passes _ (writable-accepts K I (c .writable))
+
+  -- where its file is too long, 1
+  pub interpolant-long : {K : ℕ} {ofA ofB : List Constraint} {es : List Entry} (I : Formula) → BundleFile A K ofA → BundleFile B K ofB → ProofFile P K es → Proves edition1 ofA ofB es I
+      → edition1 .formulaBytes < length (formulaFile edition1 K I) → interpolant A B P ≡ refused (answer 1 fileLent (length (formulaFile edition1 K I)))
+  interpolant-long {K} I fA fB f p h = interpolant-derives I fA fB f p ∙ writable-refuses _ K I h
 
   -- the check accepts with K and I just where the files certify I over K constants
   pub interpolant-iff : (K : ℕ) (I : Formula) → interpolant A B P ≡ accepted (K, I) ↔ Certifies A B P K I

@@ -12,7 +12,7 @@ use lib.IntN.{ℤ, pos, negsuc, natAbs}
 use Rattle.integers.proofs.Differences.{ints}
 use Rattle.integers.specs.Remainder.{remainder}
 use Rattle.forms.specs.Edition.{edition1}
-use Rattle.forms.specs.Forms.{Form, ≤0, =0, Assignment, Formula, literal, _divides_, _and_, _or_}
+use Rattle.forms.specs.Forms.{Form, ≤0, =0, Assignment, Formula, literal, _divides_, _and_, _or_, height}
 use Rattle.forms.specs.Reduced.{reduced, reducing, Residue, Strides}
 use Rattle.forms.proofs.Residues.{residues}
 use Rattle.calculus.proofs.Reducing.{positive, reducing-alike}
@@ -23,7 +23,7 @@ use Rattle.fields.specs.Header.{headerBytes}
 use Rattle.fields.specs.Ranges.{InWidth, FormInWidth}
 use Rattle.fields.proofs.Signed.{all-weaken, length-signedBytes, length-formBytes}
 use Rattle.fields.proofs.Framing.{length-fieldBytes}
-use Rattle.formula.specs.Formula.{encode, formulaFile, Encodable, height, readFormula}
+use Rattle.formula.specs.Formula.{encode, formulaFile, Encodable, readFormula}
 use Rattle.formula.specs.Test.{judge, registers, tested, judged, Tested, testFormula}
 use Rattle.formula.proofs.Judge.{judge-true}
 use Rattle.formula.proofs.RoundTrip.{read-written}

@@ -20,7 +20,7 @@ module _ {A A′ B B′ P P′ : List ℕ} (a : Noted A A′) (b : Noted B B′)
       (then-same _ (then-same _ (then-same _
       (bind-same (bundles-noted a b) λ x.
       bind-same (noted-same (checkProof-bare (x .0) (x .1)) p) λ I.
-      record { equal = refl }))))
+      then-same _ (record { equal = refl })))))
 
   -- All that the check leaves, the answer's place apart.
   pub check-noted : (output : List ℕ) → bareWritten (check A′ B′ P′ output) ≡ bareWritten (check A B P output)

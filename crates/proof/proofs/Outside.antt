@@ -22,7 +22,7 @@ use Rattle.bundle.specs.Write.{bundleBytes, writeBundle}
 use Rattle.bundle.specs.Show.{shownPart, answerOf, showAnswer}
 use Rattle.formula.specs.Formula.{FormulaTag, pair, atom, stride, formulaOf, formulaField, twoParts, formulaWithin, readFormula}
 use Rattle.formula.specs.Test.{tested, judged, testFormula}
-use Rattle.proof.specs.Check.{checkProof, interpolant, check}
+use Rattle.proof.specs.Check.{checkProof, writable, interpolant, check}
 use Rattle.proof.specs.Tree.{Outside, AnswerStands, outside, amid}
 use Rattle.proof.proofs.Says.{Says, says-refused, says-accepted, bind, seq, says-need as need-says, test as needed, finds, weaken, each-says}
 use Rattle.proof.proofs.Tree.{proof-stands}
@@ -153,13 +153,17 @@ proof-short P = weaken (need-says (answer 1 fileProof 0) _ (outside (inr refl) r
 proof-located : (a b : Bundle) (P : List ℕ) → Says (AnswerStands P) (checkProof a b (fields P)) (λ _. Unit {0})
 proof-located a b P = record { refusal = λ x e. amid (proof-stands a b (fields P) x e); value = λ I e. tt }
 
+file-located : (P : List ℕ) (K : ℕ) (I : Formula) → Says (AnswerStands P) (writable K I) (λ _. Unit {0})
+unfolding writable
+file-located P K I = weaken (need-says _ _ (outside (inl λ e. omega arith) refl)) (λ a q. q) (λ _ _. tt)
+
 interpolant-located : (A B P : List ℕ) → Says (AnswerStands P) (interpolant A B P) (λ _. Unit {0})
 unfolding interpolant
 interpolant-located A B P = seq (weaken (short-in fileA _ A) (λ a q. outside (inl λ e. omega (arith, q .0)) (q .1)) (λ _ u. u))
     (seq (weaken (short-in fileB _ B) (λ a q. outside (inl λ e. omega (arith, q .0)) (q .1)) (λ _ u. u))
     (seq (proof-short P)
     (bind (weaken (bundles-in A B) (λ a q. outside (inl (q .0)) (q .1)) (λ _ u. u)) λ x _.
-    bind (proof-located (x .0) (x .1) P) λ I _. says-accepted tt)))
+    bind (proof-located (x .0) (x .1) P) λ I _. seq (file-located P (x .0 .K) I) (says-accepted tt))))
 
 of-located : (P : List ℕ) (r : Result (List ℕ)) (out : List ℕ) → Says (AnswerStands P) r (λ _. Unit {0}) → AnswerStands P (written r out .answer)
 unfolding written fit

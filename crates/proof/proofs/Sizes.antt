@@ -11,12 +11,14 @@ use lib.IntN.{ℤ, pos, negsuc, natAbs, _*ℤ_, zero-*ℤ}
 use Rattle.integers.proofs.Differences.{ints}
 use Rattle.integers.specs.Remainder.{remainder}
 use Rattle.integers.specs.Magnitude.{Within}
+use Rattle.integers.proofs.Magnitude.{within-between}
 use Rattle.forms.specs.Reduced.{reduced, Residue, Residues}
 use Rattle.forms.proofs.Residues.{residues}
 use Rattle.calculus.proofs.Reducing.{positive}
 use Rattle.forms.specs.Edition.{Edition, edition1}
-use Rattle.forms.specs.Forms.{Form, ≤0, Constraint, Line, line, lineA, lineB, lines, All, nil, cons, _⊞_, _·_, _plus_, within, Formula, literal, _divides_, _and_, _or_}
-use Rattle.calculus.specs.Rules.{Row, CloseStride, Derive, Strengthen, CloseNumber, Entry, row, claim, small, every, inRange, New, combine, reduce, scale, Closed, derive, strengthen, number, stride, claims, entries, rowCount, depth, Proves}
+use Rattle.forms.specs.Forms.{Form, ≤0, Constraint, Line, line, lineA, lineB, lines, All, nil, cons, _⊞_, _·_, _plus_, within, Formula, literal, _divides_, _and_, _or_, height}
+use Rattle.calculus.specs.Rules.{Row, CloseStride, Derive, Strengthen, CloseNumber, Round, Entry, row, claim, small, every, inRange, New, combine, reduce, scale, StrideOf, Closed, derive, strengthen, round, number, stride, Rounded, last, more, claims, entries, entriesRounded, rowCount, Proves}
+use Rattle.calculus.proofs.Sizes.{closed-height, closed-leaves}
 use Rattle.calculus.proofs.Readings.{length-sums, length-only}
 use Rattle.calculus.proofs.Sides.{all-nth, all-and, all-map, all-append}
 use Rattle.fields.specs.Answers.{accepted}
@@ -26,9 +28,9 @@ use Rattle.fields.specs.Ranges.{InWidth, FormInWidth}
 use Rattle.fields.proofs.Signed.{all-weaken, all-take, all-drop, unsigned-below, formFrom-in}
 use Rattle.fields.proofs.Contents.{ItemBytes, contents-bytes}
 use Rattle.bundle.specs.Layout.{Each, States, BundleFile}
-use Rattle.formula.specs.Formula.{encode, formulaFile, Encodable, height, readFormula}
-use Rattle.formula.proofs.RoundTrip.{leaves, read-written, length-encode, length-formulaFile}
-use Rattle.proof.specs.Entries.{EntryTag, combineTag, reduceTag, scaleTag, strengthenTag, numberTag, strideTag, claimTag, entryFrom, multiplier}
+use Rattle.formula.specs.Formula.{encode, formulaFile, Encodable, readFormula}
+use Rattle.formula.proofs.RoundTrip.{read-written, length-encode}
+use Rattle.proof.specs.Entries.{EntryTag, combineTag, reduceTag, scaleTag, strengthenTag, numberTag, strideTag, roundTag, claimTag, entryFrom, multiplier}
 use Rattle.proof.specs.Layout.{Enters, ProofFile, Certifies}
 
 -- ---- forms of K coefficients
@@ -93,6 +95,10 @@ module _ {range : ℕ} where
   unfolding _·_
   zero-ranged t = record { coeffs = zeros-within (t .coeffs); d = zero-within (t .d) }
 
+  raised-ranged : {tA : Form} {j k : ℕ} → j ≤ k → FormRanged range tA → FormRanged range (tA plus k) → FormRanged range (tA plus j)
+  unfolding _plus_
+  raised-ranged h own top = record { coeffs = own .coeffs; d = within-between h (own .d) (top .d) }
+
 -- ---- the partial interpolants of a branch
 -- A form of K coefficients whose numbers are within edition 1's range.
 pub record Fit (K : ℕ) (t : Form) : Type 0 where
@@ -119,23 +125,41 @@ module _ (K : ℕ) where
   new-sized h (reduce i j α p q _) = size-sum ((all-nth i h p) .fit .sized) (size-times α ((all-nth j h q) .fit .sized))
   new-sized h (scale i α p _) = size-times (pos α) ((all-nth i h p) .fit .sized)
 
-  closed-fit : {inB : ℕ → Bool} {ls : List Line} {I : Formula} → Closed edition1 inB ls I → All (FitLine K) ls → FitFormula K I
-  closed-fit (derive {l = l} _ n room c) h = closed-fit c (all-and h (record { fit = record { sized = new-sized h n; ranged = tA-ranged l (room .range) } }))
-  closed-fit (strengthen {t = t} {tA = tA} i p room c1 cE c0) h =
-      let own = (all-nth i h p) .fit in (
-        closed-fit c1 (all-and h (record { fit = record { sized = size-plus 1 (own .sized); ranged = tA-ranged (line ≤0 (t plus 1) (tA plus 1)) (room .range) } })),
-        (closed-fit cE (all-and h (record { fit = own })), closed-fit c0 (all-and h (record { fit = own }))),
-      )
-  closed-fit (number i p _ _) h = (all-nth i h p) .fit
-  closed-fit {inB} (stride i g p low _ _) h = (low, size-reduced g (size-within inB ((all-nth i h p) .fit .sized)), residues (positive low) _)
+  stride-fit : {inB : ℕ → Bool} {g : ℕ} {tA : Form} {E : Formula} → 2 ≤ g → Size K tA → StrideOf inB g tA E → FitFormula K E
+  stride-fit {inB} {g} low h is = subst (FitFormula K) (sym (is .is)) (low, size-reduced g (size-within inB h), residues (positive low) _)
+
+  mutual
+    closed-fit : {inB : ℕ → Bool} {ls : List Line} {I : Formula} → Closed edition1 inB ls I → All (FitLine K) ls → FitFormula K I
+    closed-fit (derive {l = l} _ n room c) h = closed-fit c (all-and h (record { fit = record { sized = new-sized h n; ranged = tA-ranged l (room .range) } }))
+    closed-fit (strengthen {t = t} {tA = tA} i p room c1 cE c0) h =
+        let own = (all-nth i h p) .fit in (
+          closed-fit c1 (all-and h (record { fit = record { sized = size-plus 1 (own .sized); ranged = tA-ranged (line ≤0 (t plus 1) (tA plus 1)) (room .range) } })),
+          (closed-fit cE (all-and h (record { fit = own })), closed-fit c0 (all-and h (record { fit = own }))),
+        )
+    closed-fit (round {t = t} {tA = tA} i g k r c cs) h =
+        let own = (all-nth i h (r .at)) .fit in
+        let top = tA-ranged (line ≤0 (t plus k) (tA plus k)) (r .room .range) in
+        (closed-fit c (all-and h (record { fit = record { sized = size-plus k (own .sized); ranged = top } })), rounded-fit cs h (r .stride) own top)
+    closed-fit (number i p _ _) h = (all-nth i h p) .fit
+    closed-fit (stride i g p low _ _ is) h = stride-fit low ((all-nth i h p) .fit .sized) is
+
+    rounded-fit : {inB : ℕ → Bool} {ls : List Line} {t tA : Form} {g k j : ℕ} {J : Formula} → Rounded edition1 inB ls t tA g k j J
+        → All (FitLine K) ls → 2 ≤ g → Fit K tA → FormRanged 2147483647 (tA plus k) → FitFormula K J
+    rounded-fit (last {j = j} b is c) h low own top =
+        (stride-fit low (size-plus j (own .sized)) is, closed-fit c (all-and h (record { fit = record { sized = size-plus j (own .sized); ranged = raised-ranged (omega arith) (own .ranged) top } })))
+    rounded-fit (more {j = j} b is c cs) h low own top = (
+      (stride-fit low (size-plus j (own .sized)) is, closed-fit c (all-and h (record { fit = record { sized = size-plus j (own .sized); ranged = raised-ranged (omega arith) (own .ranged) top } }))),
+      rounded-fit cs h low own top,
+    )
 
 -- ---- the strides
--- The row of a close by stride gives g two bytes.
+-- The rows of a close by stride and of a rounding give g two bytes.
 abbrev pub RowShort : Row → Type 0
 RowShort (Derive s) = Unit {0}
 RowShort (Strengthen t) = Unit {0}
 RowShort (CloseNumber t) = Unit {0}
 RowShort (CloseStride t g) = g < 65536
+RowShort (Round t g k) = g < 65536
 
 abbrev pub EntryShort : Entry → Type 0
 EntryShort (row r) = RowShort r
@@ -157,15 +181,31 @@ unclaimed : (claimed : Bool) (l : Line) (es : List Entry) → All EntryShort (cl
 unclaimed true l es h = all-tail h
 unclaimed false l es h = h
 
-closed-short : {e : Edition} {inB : ℕ → Bool} {ls : List Line} {I : Formula} (p : Closed e inB ls I) (es : List Entry) → All EntryShort (entries p es) → ShortFormula I × All EntryShort es
-closed-short (derive {l = l} claimed n _ p) es h = closed-short p es (unclaimed claimed l (entries p es) (all-tail h))
-closed-short (strengthen i _ _ p1 pE p0) es h =
-    let first = closed-short p1 (entries pE (entries p0 es)) (all-tail h) in
-    let second = closed-short pE (entries p0 es) (first .1) in
-    let third = closed-short p0 es (second .1) in
-    ((first .0, (second .0, third .0)), third .1)
-closed-short (number i _ _ _) es h = (tt, all-tail h)
-closed-short (stride i g _ _ _ _) es h = (all-head h, all-tail h)
+stride-short : {inB : ℕ → Bool} {g : ℕ} {tA : Form} {E : Formula} → g < 65536 → StrideOf inB g tA E → ShortFormula E
+stride-short s is = subst ShortFormula (sym (is .is)) s
+
+mutual
+  closed-short : {e : Edition} {inB : ℕ → Bool} {ls : List Line} {I : Formula} (p : Closed e inB ls I) (es : List Entry) → All EntryShort (entries p es) → ShortFormula I × All EntryShort es
+  closed-short (derive {l = l} claimed n _ p) es h = closed-short p es (unclaimed claimed l (entries p es) (all-tail h))
+  closed-short (strengthen i _ _ p1 pE p0) es h =
+      let first = closed-short p1 (entries pE (entries p0 es)) (all-tail h) in
+      let second = closed-short pE (entries p0 es) (first .1) in
+      let third = closed-short p0 es (second .1) in
+      ((first .0, (second .0, third .0)), third .1)
+  closed-short (round i g k _ p ps) es h =
+      let first = closed-short p (entriesRounded ps es) (all-tail h) in
+      let others = rounded-short ps es (all-head h) (first .1) in
+      ((first .0, others .0), others .1)
+  closed-short (number i _ _ _) es h = (tt, all-tail h)
+  closed-short (stride i g _ _ _ _ is) es h = (stride-short (all-head h) is, all-tail h)
+
+  rounded-short : {e : Edition} {inB : ℕ → Bool} {ls : List Line} {t tA : Form} {g k j : ℕ} {J : Formula} (p : Rounded e inB ls t tA g k j J) (es : List Entry)
+      → g < 65536 → All EntryShort (entriesRounded p es) → ShortFormula J × All EntryShort es
+  rounded-short (last _ is p) es s h = let own = closed-short p es h in ((stride-short s is, own .0), own .1)
+  rounded-short (more _ is p ps) es s h =
+      let own = closed-short p (entriesRounded ps es) h in
+      let others = rounded-short ps es s (own .1) in
+      (((stride-short s is, own .0), others .0), others .1)
 
 -- ---- what fits can be written
 -- The range is that of four bytes, but for -2,147,483,648.
@@ -197,33 +237,19 @@ encodable K (g divides t) h s = (h .0, in-four (pos g) (record { abs = omega ari
 encodable K (I and J) h s = (encodable K I (h .0) (s .0), encodable K J (h .1) (s .1))
 encodable K (I or J) h s = (encodable K I (h .0) (s .0), encodable K J (h .1) (s .1))
 
--- ---- levels and length
-closed-height : {e : Edition} {inB : ℕ → Bool} {ls : List Line} {I : Formula} (p : Closed e inB ls I) → height I ≤ depth p + depth p
-closed-height (derive _ n _ p) = closed-height p
-closed-height (strengthen i _ _ p1 pE p0) = omega (arith, closed-height p1, closed-height pE, closed-height p0)
-closed-height (number i _ _ _) = omega arith
-closed-height (stride i g _ _ _ _) = omega arith
-
--- A strengthen is one row and adds two leaves to those of a branch.
-closed-leaves : {e : Edition} {inB : ℕ → Bool} {ls : List Line} {I : Formula} (p : Closed e inB ls I) → 3 * leaves I ≤ 2 * rowCount p + 1
-closed-leaves (derive _ n _ p) = omega (arith, closed-leaves p)
-closed-leaves (strengthen i _ _ p1 pE p0) = omega (arith, closed-leaves p1, closed-leaves pE, closed-leaves p0)
-closed-leaves (number i _ _ _) = omega arith
-closed-leaves (stride i g _ _ _ _) = omega arith
-
 -- ---- a closed proof
 -- Every form has K coefficients, and every number two bytes.
 abbrev pub Stated : ℕ → List Constraint → Type 0
 Stated K cs = All (λ c. FormInWidth 2 K (c .form)) cs
 
-pub proves-height : {a b : List Constraint} {es : List Entry} {I : Formula} → Proves edition1 a b es I → height I ≤ 64
-proves-height p = omega (arith, closed-height (p .proof), p .opened)
+pub proves-height : {a b : List Constraint} {es : List Entry} {I : Formula} → Proves edition1 a b es I → height I ≤ 600
+proves-height p = omega (arith, closed-height (p .proof) (omega arith), p .opened)
 
 module _ (K : ℕ) {a b : List Constraint} {es : List Entry} {I : Formula} (p : Proves edition1 a b es I) (inA : Stated K a) (inB : Stated K b) (short : All EntryShort es) where
   pub proves-encodable : Encodable K I
   proves-encodable = encodable K I (closed-fit K (p .proof) (initial-fit K (all-weaken (λ _. two-fit) inA) (all-weaken (λ _. two-fit) inB))) (closed-short (p .proof) [] (rw (p .are) short) .0)
 
-  pub proves-length : K ≤ 16 → length (encode edition1 I) ≤ 52 * rowCount (p .proof) + 23
+  pub proves-length : K ≤ 16 → length (encode edition1 I) + 81 ≤ 156 * rowCount (p .proof)
   proves-length k = omega (arith, closed-leaves (p .proof), length-encode K k I proves-encodable)
 
 -- ---- from the files
@@ -251,6 +277,7 @@ entry-short K scaleTag bs h = tt
 entry-short K strengthenTag bs h = tt
 entry-short K numberTag bs h = tt
 entry-short K strideTag bs h = two-bytes bs h
+entry-short K roundTag bs h = two-bytes bs h
 entry-short K claimTag bs h = tt
 
 enters-short : (K : ℕ) {is : List Item} {es : List Entry} → All ItemBytes is → Each (Enters edition1 K) is es → All EntryShort es
@@ -268,8 +295,7 @@ written-reads-back A B P {K} {I} hA hB hP c =
     let inB = bundle-in hB (c .fileB) in
     let short = proof-short hP (c .fileProof) in
     let low = c .fileProof .low in
-    let high = c .fileProof .high in
-    let rows = c .proves .rows in (
+    let high = c .fileProof .high in (
       read-written K I low high (proves-encodable K (c .proves) inA inB short) (proves-height (c .proves)),
-      omega (arith, length-formulaFile K I, proves-length K (c .proves) inA inB short high),
+      c .writable,
     )

@@ -1,28 +1,32 @@
 -- Each refusal amid the proof stands where the tags before it lead. Assumes nothing.
 use mathlib.Core.Path.{_≡_, refl, sym, _∙_, ap, subst}
 use mathlib.Core.Option.{Option, none, some}
-use mathlib.Core.Bool.{true, false}
+use mathlib.Core.Bool.{Bool, true, false, _&&_}
 use mathlib.Core.List.{List, [], _∷_}
-use Prim.Native.Nat.{ℕ, zero, suc}
+use Prim.Native.Nat.{ℕ, zero, suc, _+_, _*_, _-_, _≤_, _<_}
 use native.Mathlib.Omega.{arith}
-use lib.Dec.{eqb→eq}
-use lib.ListN.{length}
-use Rattle.forms.specs.Edition.{Edition}
-use Rattle.forms.specs.Forms.{Form, Line}
-use Rattle.calculus.specs.Rules.{Row, Derive, Strengthen, CloseNumber, CloseStride, Step, Combine, Reduce, Scale, Entry, row, claim}
+use lib.Dec.{leb, leb→le, eqb→eq}
+use lib.ListN.{length, drop, take, length-drop}
+use lib.Seq.{take-length}
+use mir.Facts.{and-yes}
+use borrow.Author.Tests.{eq-eqb, ne-eqb}
+use Rattle.forms.specs.Edition.{Edition, edition1}
+use Rattle.forms.specs.Forms.{Line}
+use Rattle.calculus.specs.Rules.{Row, Derive, Strengthen, CloseNumber, CloseStride, Round, Step, Combine, Reduce, Scale, Entry, row, claim}
 use Rattle.fields.specs.declared.Answer.{Answer}
 use Rattle.fields.specs.declared.FileKind.{FileKind}
-use Rattle.fields.specs.declared.Position.{Position}
-use Rattle.fields.specs.Answers.{nowhere, position, rowTold, refusalAt, answer, fileProof, Result, refused, accepted, _>>=_, _>>_, need, found}
+use Rattle.fields.specs.Answers.{nowhere, rowTold, refusalAt, answer, fileProof, Result, refused, _>>=_, _>>_, found}
 use Rattle.fields.specs.Fields.{Field, Fields, ends, cut, _▸_, item}
-use Rattle.fields.specs.Header.{Header, known, headerField, header, finished}
+use Rattle.fields.specs.Numbers.{unsigned}
+use Rattle.fields.specs.Header.{headerField, header, finished}
+use Rattle.fields.proofs.HeaderLaid.{header-gives}
 use Rattle.bundle.specs.Bundle.{Bundle}
-use Rattle.proof.specs.Entries.{EntryTag, combineTag, reduceTag, scaleTag, strengthenTag, numberTag, strideTag, claimTag, entryTagged, sizeOf, entryFrom, entry}
-use Rattle.proof.specs.Rows.{lineAt, derived, fitting, inequality, byNumber, byStride}
-use Rattle.proof.specs.Check.{Closing, Checker, Following, checkRow, checkEntry, checkEntries, checkBranch, checkProof}
+use Rattle.proof.specs.Entries.{EntryTag, combineTag, reduceTag, scaleTag, strengthenTag, numberTag, strideTag, roundTag, claimTag, entryTagged, multiplier, sizeOf, entryFrom, entry}
+use Rattle.proof.specs.Rows.{lineAt, derived, fitting, inequality, roundable, byNumber, byStride}
+use Rattle.proof.specs.Check.{Closing, Checker, Following, checkRounded, checkRow, checkEntry, checkEntries, checkBranch, checkProof}
 use Rattle.proof.specs.Layout.{Enters}
 use Rattle.proof.proofs.Says.{Says, says-refused, says-accepted, bind, seq, says-need, test, finds, weaken}
-use Rattle.proof.specs.Tree.{Tree, tree, afterClose, treeBehind, innermost, startsAt, Stands, here, past}
+use Rattle.proof.specs.Tree.{OpenStep, openStep, Tree, tree, afterClose, roundingOf, treeBehind, innermost, startsAt, Stands, here, past}
 
 -- ---- the tests of a row: each refusal is one of this row, by a number
 
@@ -45,6 +49,12 @@ module _ {Q : Answer → Type 0} (refusal : ℕ → Answer) (h : (n : ℕ) → Q
   unfolding inequality
   inequality-says i = bind (line-says i) λ t _. test _ _ (h 11) λ _. says-accepted tt
 
+  -- what passes is rounded by 1 at least
+  roundable-says : (e : Edition) (i g k : ℕ) → Says Q (roundable refusal ls e i g k) (λ _. 1 ≤ k)
+  unfolding roundable
+  roundable-says e i g k = bind (inequality-says i) λ t _. test _ _ (h 12) λ n. test _ _ (h 15) λ _.
+      says-accepted (leb→le 1 k (and-yes (leb 2 g) (leb 1 k) (and-yes (leb 2 g && leb 1 k) (leb k (e .rounding)) n .0) .1))
+
   byNumber-says : (i : ℕ) → Says Q (byNumber refusal ls i) (λ _. Unit {0})
   unfolding byNumber
   byNumber-says i = bind (line-says i) λ t _. test _ _ (h 15) λ _. says-accepted tt
@@ -56,7 +66,7 @@ module _ {Q : Answer → Type 0} (refusal : ℕ → Answer) (h : (n : ℕ) → Q
 -- ---- from one tree to another
 data Leads : Tree → Fields → Tree → Fields → Type 0 where
   stays : {t : Tree} {fs : Fields} → Leads t fs t fs
-  on : {t t′ : Tree} (f : Field) {fs fs′ : Fields} → Leads (treeBehind (entryTagged (f .tag)) t) fs t′ fs′ → Leads t (f ▸ fs) t′ fs′
+  on : {t t′ : Tree} (f : Field) {fs fs′ : Fields} → Leads (treeBehind (entryTagged (f .tag)) (f .contents) t) fs t′ fs′ → Leads t (f ▸ fs) t′ fs′
 
 stands-on : {t t′ : Tree} {fs fs′ : Fields} {a : Answer} → Leads t fs t′ fs′ → Stands t′ fs′ a → Stands t fs a
 stands-on stays s = s
@@ -71,11 +81,11 @@ abbrev Through : Tree → Fields → Result Closing → Type 0
 Through t fs r = Says (Stands t fs) r (λ c. Leads t fs (tree (c .rows) (afterClose (t .steps))) (c .after))
 
 through-on : {t t′ : Tree} {fs fs′ : Fields} {r : Result Closing} → t′ .steps ≡ t .steps → Leads t fs t′ fs′ → Through t′ fs′ r → Through t fs r
-through-on {t} {t′} {fs} {fs′} e l s = weaken s (λ a q. stands-on l q) (λ c m. leads-on l (subst (λ (ps : List Position). Leads t′ fs′ (tree (c .rows) (afterClose ps)) (c .after)) e m))
+through-on {t} {t′} {fs} {fs′} e l s = weaken s (λ a q. stands-on l q) (λ c m. leads-on l (subst (λ (ps : List OpenStep). Leads t′ fs′ (tree (c .rows) (afterClose ps)) (c .after)) e m))
 
 -- ---- the entries of a branch
 abbrev Places : Checker → Type 0
-Places checker = (ps : List Position) (rows : ℕ) (ls : List Line) (fs : Fields) → Through (tree rows ps) fs (checker (innermost ps) rows ls fs)
+Places checker = (ps : List OpenStep) (rows : ℕ) (ls : List Line) (fs : Fields) → Through (tree rows ps) fs (checker (innermost ps) rows ls fs)
 
 abbrev PlacesIn : Option Checker → Type 0
 PlacesIn none = Unit
@@ -89,7 +99,7 @@ deeper-says none p a h k = says-refused h
 deeper-says (some c) p a h k = k c p
 
 -- a refusal at the front of fs
-at-front : (ps : List Position) (rows : ℕ) (fs : Fields) (n : ℕ) → Stands (tree rows ps) fs (refusalAt (innermost ps) rows (startsAt fs) n)
+at-front : (ps : List OpenStep) (rows : ℕ) (fs : Fields) (n : ℕ) → Stands (tree rows ps) fs (refusalAt (innermost ps) rows (startsAt fs) n)
 at-front ps rows fs n = here {t = tree rows ps} {fs = fs} {a = refusalAt (innermost ps) rows (startsAt fs) n} refl
 
 -- what a field is that states an entry
@@ -99,14 +109,74 @@ unfolding entry
 entry-says e K refusal made f h = test _ _ (h 3) λ _. bind (finds _ (entryTagged (f .tag)) (h 4)) λ x t. test _ _ (h 4) λ _. test _ _ (h 6) λ n.
     says-accepted (record { tagged = x; tag = t; size = eqb→eq (length (f .contents)) (sizeOf e K x) n; entry = refl })
 
-module _ (e : Edition) (K : ℕ) (deeper : Option Checker) (p : PlacesIn deeper) (ps : List Position) where
+-- ---- a close
+-- it goes on to the next branch of a step, and from its last one to the step around it
+module _ (step : ℕ) (ps : List OpenStep) where
+  after-last : {b k : ℕ} → b ≡ k → afterClose (openStep step b k ∷ ps) ≡ afterClose ps
+  unfolding afterClose
+  after-last {b} {k} q = ap (λ (c : Bool). elim c [ true ↦ afterClose ps | false ↦ openStep step (suc b) k ∷ ps ]) (eq-eqb b k q)
+
+  after-other : {b k : ℕ} → b < k → afterClose (openStep step b k ∷ ps) ≡ openStep step (suc b) k ∷ ps
+  unfolding afterClose
+  after-other {b} {k} h = ap (λ (c : Bool). elim c [ true ↦ afterClose ps | false ↦ openStep step (suc b) k ∷ ps ]) (ne-eqb b k (λ q. omega arith))
+
+-- the branches of a rounding from j on: that of j is branch j+1 of k
+module _ (checker : Checker) (d : Places checker) (ls : List Line) (l : Line) (step g k : ℕ) (ps : List OpenStep) where
+  abbrev Rest : (j rows : ℕ) → Tree
+  Rest j rows = tree rows (openStep step (suc j) k ∷ ps)
+
+  rounded-through : (j left rows : ℕ) → suc (j + left) ≡ k → (fs : Fields)
+      → Says (Stands (Rest j rows) fs) (checkRounded checker ls l step g k j left rows fs) (λ c. Leads (Rest j rows) fs (tree (c .rows) (afterClose ps)) (c .after))
+  unfolding checkRounded innermost
+  rounded-through j zero rows q fs = bind (d (openStep step (suc j) k ∷ ps) rows _ fs) λ own m.
+      says-accepted (subst (λ (ss : List OpenStep). Leads (Rest j rows) fs (tree (own .rows) ss) (own .after)) (after-last step ps (omega arith)) m)
+  rounded-through j (suc left) rows q fs = bind (d (openStep step (suc j) k ∷ ps) rows _ fs) λ own m.
+      let l : Leads (Rest j rows) fs (Rest (suc j) (own .rows)) (own .after)
+      = subst (λ (ss : List OpenStep). Leads (Rest j rows) fs (tree (own .rows) ss) (own .after)) (after-other step ps (omega arith)) m in
+      bind (weaken (rounded-through (suc j) left (own .rows) (omega arith) (own .after)) (λ a s. stands-on l s) (λ c n. leads-on l n)) λ others n. says-accepted n
+
+-- ---- the tree behind a field, by the entry that it states
+abbrev entryBehind : Entry → Tree → Tree
+entryBehind (row (Derive s)) t = tree (suc (t .rows)) (t .steps)
+entryBehind (row (Strengthen i)) t = tree (suc (t .rows)) (openStep (t .rows) 0 2 ∷ t .steps)
+entryBehind (row (CloseNumber i)) t = tree (suc (t .rows)) (afterClose (t .steps))
+entryBehind (row (CloseStride i g)) t = tree (suc (t .rows)) (afterClose (t .steps))
+entryBehind (row (Round i g k)) t = tree (suc (t .rows)) (openStep (t .rows) 0 k ∷ t .steps)
+entryBehind (claim u uA) t = t
+
+-- k is the last of a rounding's numbers, and has two bytes
+module _ (e : Edition) (two : e .multiplierWidth ≡ 2) where
+  rounding-read : (bs : List ℕ) → length bs ≡ e .lineWidth + 2 * e .multiplierWidth → roundingOf bs ≡ unsigned (multiplier e 1 1 bs)
+  unfolding roundingOf multiplier
+  rounding-read bs size =
+      let place : length bs - 2 ≡ 1 * e .lineWidth + 1 * e .multiplierWidth = omega arith in
+      let own = drop (1 * e .lineWidth + 1 * e .multiplierWidth) bs in
+      let few : length own ≡ e .multiplierWidth = length-drop (1 * e .lineWidth + 1 * e .multiplierWidth) bs ∙ omega arith in
+      let all : take (e .multiplierWidth) own ≡ own = ap (λ (n : ℕ). take n own) (sym few) ∙ take-length own in
+      ap (λ (n : ℕ). unsigned (drop n bs)) place ∙ ap unsigned (sym all)
+
+  tagged-behind : (K : ℕ) (x : EntryTag) (bs : List ℕ) → length bs ≡ sizeOf e K x → (t : Tree) → treeBehind (some x) bs t ≡ entryBehind (entryFrom e K x bs) t
+  unfolding treeBehind entryFrom sizeOf
+  tagged-behind K combineTag bs size t = refl
+  tagged-behind K reduceTag bs size t = refl
+  tagged-behind K scaleTag bs size t = refl
+  tagged-behind K strengthenTag bs size t = refl
+  tagged-behind K numberTag bs size t = refl
+  tagged-behind K strideTag bs size t = refl
+  tagged-behind K roundTag bs size t = ap (λ (k : ℕ). tree (suc (t .rows)) (openStep (t .rows) 0 k ∷ t .steps)) (rounding-read bs size)
+  tagged-behind K claimTag bs size t = refl
+
+  field-behind : (K : ℕ) (f : Field) {x : Entry} → Enters e K (item (f .tag) (f .contents)) x → (t : Tree) → treeBehind (entryTagged (f .tag)) (f .contents) t ≡ entryBehind x t
+  field-behind K f n t = ap (λ (o : Option EntryTag). treeBehind o (f .contents) t) (n .tag) ∙ tagged-behind K (n .tagged) (f .contents) (n .size) t ∙ ap (λ (x : Entry). entryBehind x t) (n .entry)
+
+module _ (e : Edition) (two : e .multiplierWidth ≡ 2) (K : ℕ) (deeper : Option Checker) (p : PlacesIn deeper) (ps : List OpenStep) where
   module _ (f : Field) (fs : Fields) (next : Following) (q : (rows : ℕ) (made : Option Line) (ls : List Line) → Through (tree rows ps) fs (next rows made ls)) (rows : ℕ) (ls : List Line) where
-    -- the tree behind the field, by the entry that it states
+    -- the tree behind the field
     abbrev Behind : Tree → Type 0
-    Behind t = treeBehind (entryTagged (f .tag)) (tree rows ps) ≡ t
+    Behind t = treeBehind (entryTagged (f .tag)) (f .contents) (tree rows ps) ≡ t
 
     leads-behind : {t : Tree} → Behind t → Leads (tree rows ps) (f ▸ fs) t fs
-    leads-behind e = on f (subst (λ (t : Tree). Leads (treeBehind (entryTagged (f .tag)) (tree rows ps)) fs t fs) e stays)
+    leads-behind e = on f (subst (λ (t : Tree). Leads (treeBehind (entryTagged (f .tag)) (f .contents) (tree rows ps)) fs t fs) e stays)
 
     told : (n : ℕ) → Stands (tree rows ps) (f ▸ fs) (refusalAt (innermost ps) rows (f .at) n)
     unfolding startsAt
@@ -120,76 +190,55 @@ module _ (e : Edition) (K : ℕ) (deeper : Option Checker) (p : PlacesIn deeper)
         → ((x : X) → Says (Stands (tree rows ps) (f ▸ fs)) (k x) (λ c. (c .rows ≡ suc rows) × (c .after ≡ fs))) → Behind (tree (suc rows) (afterClose ps)) → Through (tree rows ps) (f ▸ fs) (r >>= k)
     close-through s h b = bind s λ x _. weaken (h x) (λ a q. q) (λ c (r, m). rw (r, m) (leads-behind b))
 
-    strengthen-through : (i : ℕ) → Behind (tree (suc rows) (position rows 0 ∷ ps)) → Through (tree rows ps) (f ▸ fs) (checkRow e K deeper next (refusalAt (innermost ps) rows (f .at)) rows ls fs (Strengthen i))
+    strengthen-through : (i : ℕ) → Behind (tree (suc rows) (openStep rows 0 2 ∷ ps)) → Through (tree rows ps) (f ▸ fs) (checkRow e K deeper next (refusalAt (innermost ps) rows (f .at)) rows ls fs (Strengthen i))
     unfolding checkRow innermost afterClose
     strengthen-through i b =
         let l = leads-behind b in
         bind (inequality-says _ told ls i) λ line _.
         deeper-says deeper p _ (told 17) λ branch d.
         seq (fitting-says _ told ls e _)
-        (bind (weaken (d (position rows 0 ∷ ps) _ _ fs) (λ a s. stands-on l s) (λ c m. leads-on l m)) λ first m1.
-        bind (weaken (d (position rows 1 ∷ ps) _ _ (first .after)) (λ a s. stands-on m1 s) (λ c m. leads-on m1 m)) λ second m2.
-        bind (weaken (d (position rows 2 ∷ ps) _ _ (second .after)) (λ a s. stands-on m2 s) (λ c m. leads-on m2 m)) λ third m3.
+        (bind (weaken (d (openStep rows 0 2 ∷ ps) _ _ fs) (λ a s. stands-on l s) (λ c m. leads-on l m)) λ first m1.
+        bind (weaken (d (openStep rows 1 2 ∷ ps) _ _ (first .after)) (λ a s. stands-on m1 s) (λ c m. leads-on m1 m)) λ second m2.
+        bind (weaken (d (openStep rows 2 2 ∷ ps) _ _ (second .after)) (λ a s. stands-on m2 s) (λ c m. leads-on m2 m)) λ third m3.
         says-accepted m3)
 
-    row-through : (x : EntryTag) → entryTagged (f .tag) ≡ some x → (r : Row) → entryFrom e K x (f .contents) ≡ row r
-        → Through (tree rows ps) (f ▸ fs) (checkRow e K deeper next (refusalAt (innermost ps) rows (f .at)) rows ls fs r)
-    unfolding entryFrom treeBehind checkRow
-    row-through combineTag t (Derive s) h = derive-through s (rw t)
-    row-through reduceTag t (Derive s) h = derive-through s (rw t)
-    row-through scaleTag t (Derive s) h = derive-through s (rw t)
-    row-through strengthenTag t (Strengthen i) h = strengthen-through i (rw t)
-    row-through numberTag t (CloseNumber i) h = close-through (byNumber-says _ told ls i) (λ I. says-accepted (refl, refl)) (rw t)
-    row-through strideTag t (CloseStride i g) h = close-through (byStride-says _ told ls i g) (λ I. says-accepted (refl, refl)) (rw t)
-    row-through combineTag t (Strengthen i) h = absurd (let z : _≡_ {A = ℕ} 0 1 = cc in omega arith)
-    row-through combineTag t (CloseNumber i) h = absurd (let z : _≡_ {A = ℕ} 0 1 = cc in omega arith)
-    row-through combineTag t (CloseStride i g) h = absurd (let z : _≡_ {A = ℕ} 0 1 = cc in omega arith)
-    row-through reduceTag t (Strengthen i) h = absurd (let z : _≡_ {A = ℕ} 0 1 = cc in omega arith)
-    row-through reduceTag t (CloseNumber i) h = absurd (let z : _≡_ {A = ℕ} 0 1 = cc in omega arith)
-    row-through reduceTag t (CloseStride i g) h = absurd (let z : _≡_ {A = ℕ} 0 1 = cc in omega arith)
-    row-through scaleTag t (Strengthen i) h = absurd (let z : _≡_ {A = ℕ} 0 1 = cc in omega arith)
-    row-through scaleTag t (CloseNumber i) h = absurd (let z : _≡_ {A = ℕ} 0 1 = cc in omega arith)
-    row-through scaleTag t (CloseStride i g) h = absurd (let z : _≡_ {A = ℕ} 0 1 = cc in omega arith)
-    row-through strengthenTag t (Derive s) h = absurd (let z : _≡_ {A = ℕ} 0 1 = cc in omega arith)
-    row-through strengthenTag t (CloseNumber i) h = absurd (let z : _≡_ {A = ℕ} 0 1 = cc in omega arith)
-    row-through strengthenTag t (CloseStride i g) h = absurd (let z : _≡_ {A = ℕ} 0 1 = cc in omega arith)
-    row-through numberTag t (Derive s) h = absurd (let z : _≡_ {A = ℕ} 0 1 = cc in omega arith)
-    row-through numberTag t (Strengthen i) h = absurd (let z : _≡_ {A = ℕ} 0 1 = cc in omega arith)
-    row-through numberTag t (CloseStride i g) h = absurd (let z : _≡_ {A = ℕ} 0 1 = cc in omega arith)
-    row-through strideTag t (Derive s) h = absurd (let z : _≡_ {A = ℕ} 0 1 = cc in omega arith)
-    row-through strideTag t (Strengthen i) h = absurd (let z : _≡_ {A = ℕ} 0 1 = cc in omega arith)
-    row-through strideTag t (CloseNumber i) h = absurd (let z : _≡_ {A = ℕ} 0 1 = cc in omega arith)
-    row-through claimTag t (Derive s) h = absurd (let z : _≡_ {A = ℕ} 0 1 = cc in omega arith)
-    row-through claimTag t (Strengthen i) h = absurd (let z : _≡_ {A = ℕ} 0 1 = cc in omega arith)
-    row-through claimTag t (CloseNumber i) h = absurd (let z : _≡_ {A = ℕ} 0 1 = cc in omega arith)
-    row-through claimTag t (CloseStride i g) h = absurd (let z : _≡_ {A = ℕ} 0 1 = cc in omega arith)
+    round-through : (i g k : ℕ) → Behind (tree (suc rows) (openStep rows 0 k ∷ ps)) → Through (tree rows ps) (f ▸ fs) (checkRow e K deeper next (refusalAt (innermost ps) rows (f .at)) rows ls fs (Round i g k))
+    unfolding checkRow innermost
+    round-through i g k b =
+        let l = leads-behind b in
+        bind (roundable-says _ told ls e i g k) λ line low.
+        deeper-says deeper p _ (told 17) λ branch d.
+        seq (fitting-says _ told ls e _)
+        (bind (weaken (d (openStep rows 0 k ∷ ps) _ _ fs) (λ a s. stands-on l s)
+        (λ c m. leads-on l (subst (λ (ss : List OpenStep). Leads (tree (suc rows) (openStep rows 0 k ∷ ps)) fs (tree (c .rows) ss) (c .after)) (after-other rows ps low) m))) λ first m1.
+        bind (weaken (rounded-through branch d ls line rows g k ps 0 (k - 1) (first .rows) (omega arith) (first .after)) (λ a s. stands-on m1 s) (λ c m. leads-on m1 m)) λ others m2.
+        says-accepted m2)
 
-    claim-behind : (x : EntryTag) → entryTagged (f .tag) ≡ some x → {t tA : Form} → entryFrom e K x (f .contents) ≡ claim t tA → Behind (tree rows ps)
-    unfolding treeBehind entryFrom
-    claim-behind claimTag t h = rw t
-    claim-behind combineTag t h = absurd (let z : _≡_ {A = ℕ} 0 1 = cc in omega arith)
-    claim-behind reduceTag t h = absurd (let z : _≡_ {A = ℕ} 0 1 = cc in omega arith)
-    claim-behind scaleTag t h = absurd (let z : _≡_ {A = ℕ} 0 1 = cc in omega arith)
-    claim-behind strengthenTag t h = absurd (let z : _≡_ {A = ℕ} 0 1 = cc in omega arith)
-    claim-behind numberTag t h = absurd (let z : _≡_ {A = ℕ} 0 1 = cc in omega arith)
-    claim-behind strideTag t h = absurd (let z : _≡_ {A = ℕ} 0 1 = cc in omega arith)
+    row-through : (r : Row) → Behind (entryBehind (row r) (tree rows ps)) → Through (tree rows ps) (f ▸ fs) (checkRow e K deeper next (refusalAt (innermost ps) rows (f .at)) rows ls fs r)
+    unfolding checkRow
+    row-through (Derive s) b = derive-through s b
+    row-through (Strengthen i) b = strengthen-through i b
+    row-through (CloseNumber i) b = close-through (byNumber-says _ told ls i) (λ I. says-accepted (refl, refl)) b
+    row-through (CloseStride i g) b = close-through (byStride-says _ told ls i g) (λ I. says-accepted (refl, refl)) b
+    row-through (Round i g k) b = round-through i g k b
 
-    entry-through : (made : Option Line) (x : Entry) → Enters e K (item (f .tag) (f .contents)) x
+    entry-through : (made : Option Line) (x : Entry) → Behind (entryBehind x (tree rows ps))
         → Through (tree rows ps) (f ▸ fs) (checkEntry e K deeper next (refusalAt (innermost ps) rows (f .at)) rows made ls fs x)
     unfolding checkEntry
-    entry-through made (row r) n = test _ _ (told 18) λ _. row-through (n .tagged) (n .tag) r (n .entry)
-    entry-through made (claim t tA) n = bind (finds _ made (told 4)) λ l _. test _ _ (told 14) λ _. through-on refl (leads-behind (claim-behind (n .tagged) (n .tag) (n .entry))) (q _ _ _)
+    entry-through made (row r) b = test _ _ (told 18) λ _. row-through r b
+    entry-through made (claim t tA) b = bind (finds _ made (told 4)) λ l _. test _ _ (told 14) λ _. through-on refl (leads-behind b) (q _ _ _)
 
   entries-through : (fs : Fields) (rows : ℕ) (made : Option Line) (ls : List Line) → Through (tree rows ps) fs (checkEntries e K (innermost ps) deeper fs rows made ls)
   unfolding checkEntries startsAt
   entries-through (ends at) rows made ls = says-refused (at-front ps rows (ends at) 20)
   entries-through (cut at) rows made ls = says-refused (at-front ps rows (cut at) 2)
-  entries-through (f ▸ fs) rows made ls = bind (entry-says e K _ made f (λ n. told f fs _ (entries-through fs) rows ls n)) λ x n. entry-through f fs _ (entries-through fs) rows ls made x n
+  entries-through (f ▸ fs) rows made ls = bind (entry-says e K _ made f (λ n. told f fs _ (entries-through fs) rows ls n)) λ x n.
+      entry-through f fs _ (entries-through fs) rows ls made x (field-behind e two K f n (tree rows ps))
 
-branch-through : (e : Edition) (K : ℕ) (room : ℕ) → Places (checkBranch e K room)
+branch-through : (e : Edition) → e .multiplierWidth ≡ 2 → (K : ℕ) (room : ℕ) → Places (checkBranch e K room)
 unfolding checkBranch
-branch-through e K zero ps rows ls fs = entries-through e K none tt ps fs rows none ls
-branch-through e K (suc room) ps rows ls fs = entries-through e K (some (checkBranch e K room)) (branch-through e K room) ps fs rows none ls
+branch-through e two K zero ps rows ls fs = entries-through e two K none tt ps fs rows none ls
+branch-through e two K (suc room) ps rows ls fs = entries-through e two K (some (checkBranch e K room)) (branch-through e two K room) ps fs rows none ls
 
 -- ---- the header, and what follows the root
 -- Outside every branch, a refusal by a number that tells no row.
@@ -209,7 +258,7 @@ field-says tag h (cut at) = says-refused (outside 0 (cut at) 2 refl)
 field-says tag h (f ▸ fs) = test _ _ (outside 0 (f ▸ fs) 3 refl) λ _. test _ _ (outside 0 (f ▸ fs) 4 refl) λ t. test _ _ (outside 0 (f ▸ fs) 6 refl) λ _.
     let none-of : entryTagged (f .tag) ≡ none = rw (eqb→eq (f .tag) tag t) h in
     says-accepted (record {
-      leads = on f (subst (λ (o : Option EntryTag). Leads (treeBehind o (tree 0 [])) fs (tree 0 []) fs) (sym none-of) stays);
+      leads = on f (subst (λ (o : Option EntryTag). Leads (treeBehind o (f .contents) (tree 0 [])) fs (tree 0 []) fs) (sym none-of) stays);
       told = λ n q. outside 0 (f ▸ fs) n q;
     })
 
@@ -225,10 +274,17 @@ finished-says {rows} (ends at) = says-accepted tt
 finished-says {rows} (cut at) = says-refused (outside rows (cut at) 2 refl)
 finished-says {rows} (f ▸ fs) = test _ _ (outside rows (f ▸ fs) 3 refl) λ _. says-refused (outside rows (f ▸ fs) 19 refl)
 
+-- there is one edition
+header-leads : (given : Option ℕ) (fs : Fields) → Says (Stands (tree 0 []) fs) (header FileKind.Proof fileProof given fs) (λ h. Leads (tree 0 []) fs (tree 0 []) (h .rest) × (h .edition ≡ edition1))
+header-leads given fs = record {
+  refusal = header-says given fs .refusal;
+  value = λ h e. (header-says given fs .value h e, header-gives FileKind.Proof fileProof given fs .gives h e .edition);
+}
+
 proof-says : (a b : Bundle) (fs : Fields) → Says (Stands (tree 0 []) fs) (checkProof a b fs) (λ _. Unit {0})
 unfolding checkProof innermost afterClose
-proof-says a b fs = bind (header-says (some (a .K)) fs) λ h l.
-    bind (weaken (branch-through (h .edition) (h .K) (h .edition .strengthens) [] 0 _ (h .rest)) (λ y s. stands-on l s) (λ c m. leads-on l m)) λ c m.
+proof-says a b fs = bind (header-leads (some (a .K)) fs) λ h (l, one).
+    bind (weaken (branch-through (h .edition) (ap (λ (e : Edition). e .multiplierWidth) one) (h .K) (h .edition .branchings) [] 0 _ (h .rest)) (λ y s. stands-on l s) (λ c m. leads-on l m)) λ c m.
     seq (weaken (finished-says (c .after)) (λ y s. stands-on m s) (λ _ u. u)) (says-accepted tt)
 
 -- Every refusal of the proof's fields.

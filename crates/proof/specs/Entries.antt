@@ -7,7 +7,7 @@ use lib.Dec.{eqb}
 use lib.ListN.{length, take, drop}
 use Rattle.forms.specs.Edition.{Edition}
 use Rattle.forms.specs.Forms.{Line}
-use Rattle.calculus.specs.Rules.{Combine, Reduce, Scale, Derive, Strengthen, CloseNumber, CloseStride, Entry, row, claim}
+use Rattle.calculus.specs.Rules.{Combine, Reduce, Scale, Derive, Strengthen, CloseNumber, CloseStride, Round, Entry, row, claim}
 use Rattle.fields.specs.declared.Answer.{Answer}
 use Rattle.fields.specs.declared.FileKind.{FileKind}
 use Rattle.fields.specs.Answers.{Result, accepted, _>>=_, _>>_, need, found}
@@ -16,7 +16,7 @@ use Rattle.fields.specs.Fields.{Field}
 use Rattle.fields.specs.Header.{known}
 
 pub data EntryTag : Type 0 where
-  combineTag reduceTag scaleTag strengthenTag numberTag strideTag claimTag : EntryTag
+  combineTag reduceTag scaleTag strengthenTag numberTag strideTag roundTag claimTag : EntryTag
 
 unfoldable pub entryTagged : ℕ → Option EntryTag
 entryTagged tag =
@@ -38,7 +38,11 @@ entryTagged tag =
                                   elim (eqb tag 0x15) [
                                     | true ↦ some strideTag
                                     | false ↦
-                                        elim (eqb tag 0x20) [ true ↦ some claimTag | false ↦ none ]
+                                        elim (eqb tag 0x16) [
+                                          | true ↦ some roundTag
+                                          | false ↦
+                                              elim (eqb tag 0x20) [ true ↦ some claimTag | false ↦ none ]
+                                        ]
                                   ]
                             ]
                       ]
@@ -54,11 +58,12 @@ inPlace made scaleTag = true
 inPlace made strengthenTag = true
 inPlace made numberTag = true
 inPlace made strideTag = true
+inPlace made roundTag = true
 inPlace none claimTag = false
 inPlace (some l) claimTag = true
 
 module _ (e : Edition) where
-  -- Line number i of a row, and the bytes of its multiplier i (or g) behind n line numbers.
+  -- Line number i of a row, and the bytes of its multiplier i (or g, or k) behind n line numbers.
   unfoldable pub lineNumber : (i : ℕ) → List ℕ → ℕ
   lineNumber i bs = unsigned (take (e .lineWidth) (drop (i * e .lineWidth) bs))
 
@@ -73,6 +78,7 @@ module _ (e : Edition) where
     sizeOf strengthenTag = e .lineWidth
     sizeOf numberTag = e .lineWidth
     sizeOf strideTag = e .lineWidth + e .multiplierWidth
+    sizeOf roundTag = e .lineWidth + 2 * e .multiplierWidth
     sizeOf claimTag = 2 * formWidth (e .termWidth) K
 
     -- Parameters in the order given; multipliers are signed only in 0x11. A claim is t then tA.
@@ -83,6 +89,7 @@ module _ (e : Edition) where
     entryFrom strengthenTag bs = row (Strengthen (lineNumber 0 bs))
     entryFrom numberTag bs = row (CloseNumber (lineNumber 0 bs))
     entryFrom strideTag bs = row (CloseStride (lineNumber 0 bs) (unsigned (multiplier 1 0 bs)))
+    entryFrom roundTag bs = row (Round (lineNumber 0 bs) (unsigned (multiplier 1 0 bs)) (unsigned (multiplier 1 1 bs)))
     entryFrom claimTag bs = claim (formFrom (e .termWidth) K bs) (formFrom (e .termWidth) K (drop (formWidth (e .termWidth) K) bs))
 
     -- The entry that a field states; `refusal` gives the refusal by a number at this field. 3, 4, 6.

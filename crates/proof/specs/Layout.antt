@@ -9,6 +9,7 @@ use Rattle.forms.specs.Forms.{Constraint, Formula}
 use Rattle.calculus.specs.Rules.{Entry, Proves}
 use Rattle.fields.specs.Fields.{Item, item, fields, items}
 use Rattle.bundle.specs.Layout.{Each, BundleFile}
+use Rattle.formula.specs.Formula.{formulaFile}
 use Rattle.proof.specs.Entries.{EntryTag, entryTagged, sizeOf, entryFrom}
 
 -- A field of a row's or a claim's tag and length states that entry.
@@ -27,7 +28,7 @@ pub record ProofFile (file : List ℕ) (K : ℕ) (es : List Entry) : Type 0 wher
   pub high : K ≤ edition1 .constants
   pub enters : Each (Enters edition1 K) body es
 
--- A, B and the proof are laid out, with one K, and the proof's rows derive the formula from A and B within all limits.
+-- A, B and the proof are laid out, with one K, and the proof's rows derive the formula from A and B within all limits, that of the formula's file among them.
 pub record Certifies (A B proof : List ℕ) (K : ℕ) (I : Formula) : Type 0 where
   pub a : List Constraint
   pub b : List Constraint
@@ -36,3 +37,4 @@ pub record Certifies (A B proof : List ℕ) (K : ℕ) (I : Formula) : Type 0 whe
   pub fileB : BundleFile B K b
   pub fileProof : ProofFile proof K es
   pub proves : Proves edition1 a b es I
+  pub writable : length (formulaFile edition1 K I) ≤ edition1 .formulaBytes

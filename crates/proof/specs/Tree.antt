@@ -1,45 +1,60 @@
--- Where in the tree a refusal stands, told from the fields before it by their tags alone. Document 02, "Where in the tree". Assumes nothing.
+-- Where in the tree a refusal stands, told from the fields before it by their tags alone, and by k in a rounding's. Document 02, "Where in the tree". Assumes nothing.
 use mathlib.Core.Path.{_≡_}
 use mathlib.Core.Logic.{_⊎_}
 use mathlib.Core.Option.{Option, none, some}
 use mathlib.Core.Bool.{true, false}
 use mathlib.Core.List.{List, [], _∷_}
-use Prim.Native.Nat.{ℕ, suc}
+use Prim.Native.Nat.{ℕ, suc, _-_}
 use lib.Dec.{eqb}
+use lib.ListN.{length, drop}
 use Rattle.fields.specs.declared.Answer.{Answer}
 use Rattle.fields.specs.declared.Position.{Position}
 use Rattle.fields.specs.Answers.{position, root, answer, refusalAt, fileProof}
+use Rattle.fields.specs.Numbers.{unsigned}
 use Rattle.fields.specs.Fields.{Field, Fields, ends, cut, _▸_, fields}
-use Rattle.proof.specs.Entries.{EntryTag, combineTag, reduceTag, scaleTag, strengthenTag, numberTag, strideTag, claimTag, entryTagged}
+use Rattle.proof.specs.Entries.{EntryTag, combineTag, reduceTag, scaleTag, strengthenTag, numberTag, strideTag, roundTag, claimTag, entryTagged}
 
--- How many rows there were, and the steps that are open, the innermost first: each with its row number and the branch that is open.
+-- A branching step that is open: its row number with the branch that is open, and the number of its last branch.
+pub record OpenStep : Type 0 where
+  pub at : Position
+  pub last : ℕ
+
+abbrev pub openStep : (step branch last : ℕ) → OpenStep
+openStep step branch last = record { at = position step branch; last = last }
+
+-- How many rows there were, and the steps that are open, the innermost first.
 pub record Tree : Type 0 where
   pub rows : ℕ
-  pub steps : List Position
+  pub steps : List OpenStep
 
-abbrev pub tree : (rows : ℕ) → List Position → Tree
+abbrev pub tree : (rows : ℕ) → List OpenStep → Tree
 tree rows steps = record { rows = rows; steps = steps }
 
--- A close goes on to the innermost step's next branch; if that was its last, 2, the step is closed, and with it a branch of the step around it.
-unfoldable pub afterClose : List Position → List Position
+-- A close goes on to the innermost step's next branch; if that was its last, the step is closed, and with it a branch of the step around it.
+unfoldable pub afterClose : List OpenStep → List OpenStep
 afterClose [] = []
-afterClose (p ∷ ps) = elim (eqb (p .branch) 2) [ true ↦ afterClose ps | false ↦ position (p .step .0) (suc (p .branch)) ∷ ps ]
+afterClose (s ∷ ss) = elim (eqb (s .at .branch) (s .last)) [ true ↦ afterClose ss | false ↦ openStep (s .at .step .0) (suc (s .at .branch)) (s .last) ∷ ss ]
 
--- The tree behind a field. A claim is no row.
-unfoldable pub treeBehind : Option EntryTag → Tree → Tree
-treeBehind none t = t
-treeBehind (some combineTag) t = tree (suc (t .rows)) (t .steps)
-treeBehind (some reduceTag) t = tree (suc (t .rows)) (t .steps)
-treeBehind (some scaleTag) t = tree (suc (t .rows)) (t .steps)
-treeBehind (some strengthenTag) t = tree (suc (t .rows)) (position (t .rows) 0 ∷ t .steps)
-treeBehind (some numberTag) t = tree (suc (t .rows)) (afterClose (t .steps))
-treeBehind (some strideTag) t = tree (suc (t .rows)) (afterClose (t .steps))
-treeBehind (some claimTag) t = t
+-- k of a rounding: the last two bytes of its field.
+unfoldable pub roundingOf : (contents : List ℕ) → ℕ
+roundingOf bs = unsigned (drop (length bs - 2) bs)
+
+-- The tree behind a field of these contents. A strengthen has the branches 0 to 2, a rounding by k those from 0 to k. A claim is no row.
+unfoldable pub treeBehind : Option EntryTag → (contents : List ℕ) → Tree → Tree
+treeBehind none bs t = t
+treeBehind (some combineTag) bs t = tree (suc (t .rows)) (t .steps)
+treeBehind (some reduceTag) bs t = tree (suc (t .rows)) (t .steps)
+treeBehind (some scaleTag) bs t = tree (suc (t .rows)) (t .steps)
+treeBehind (some strengthenTag) bs t = tree (suc (t .rows)) (openStep (t .rows) 0 2 ∷ t .steps)
+treeBehind (some numberTag) bs t = tree (suc (t .rows)) (afterClose (t .steps))
+treeBehind (some strideTag) bs t = tree (suc (t .rows)) (afterClose (t .steps))
+treeBehind (some roundTag) bs t = tree (suc (t .rows)) (openStep (t .rows) 0 (roundingOf bs) ∷ t .steps)
+treeBehind (some claimTag) bs t = t
 
 -- The innermost step that is open, with its branch.
-unfoldable pub innermost : List Position → Position
+unfoldable pub innermost : List OpenStep → Position
 innermost [] = root
-innermost (p ∷ ps) = p
+innermost (s ∷ ss) = s .at
 
 -- Where the first of some fields starts, or the file ends.
 unfoldable pub startsAt : Fields → ℕ
@@ -50,7 +65,7 @@ startsAt (f ▸ fs) = f .at
 -- The refusal is that of a field of fs, or of their end, whose fields before it lead from the tree t to where it stands.
 pub data Stands : Tree → Fields → Answer → Type 0 where
   here : {t : Tree} {fs : Fields} {a : Answer} → a ≡ refusalAt (innermost (t .steps)) (t .rows) (startsAt fs) (a .number) → Stands t fs a
-  past : {t : Tree} (f : Field) {fs : Fields} {a : Answer} → Stands (treeBehind (entryTagged (f .tag)) t) fs a → Stands t (f ▸ fs) a
+  past : {t : Tree} (f : Field) {fs : Fields} {a : Answer} → Stands (treeBehind (entryTagged (f .tag)) (f .contents) t) fs a → Stands t (f ▸ fs) a
 
 -- No row, step or branch is told.
 abbrev pub Outside : Answer → Type 0

@@ -33,4 +33,4 @@ line-keeps t isnt = refused (ltb (t .lines .0) (edition1 .lines)) _ t isnt
 
 pub open-keeps : Keeps openCounted
 unfolding openCounted
-open-keeps t isnt = refused (ltb (t .«open») (edition1 .strengthens)) _ t isnt
+open-keeps t isnt = refused (ltb (t .«open») (edition1 .branchings)) _ t isnt

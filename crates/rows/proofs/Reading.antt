@@ -24,8 +24,8 @@ use Rattle.fields.specs.Header.{known, headerTag}
 use Rattle.fields.specs.Numbers.{unsigned, signed}
 use Rattle.fields.specs.Ranges.{Held}
 use Rattle.lines.proofs.Parts.{part-part}
-use Rattle.proof.specs.Entries.{EntryTag, combineTag, reduceTag, scaleTag, strengthenTag, numberTag, strideTag, claimTag, sizeOf, entryFrom, lineNumber, multiplier, entryTagged, inPlace, entry}
-use Rattle.rows.specs.Entries.{Multiplies, entryOf, Ranged, Shaped, claimed, there, Entered}
+use Rattle.proof.specs.Entries.{EntryTag, combineTag, reduceTag, scaleTag, strengthenTag, numberTag, strideTag, roundTag, claimTag, sizeOf, entryFrom, lineNumber, multiplier, entryTagged, inPlace, entry}
+use Rattle.rows.specs.Entries.{Multiplies, entryOf, Ranged, Filled, Shaped, claimed, there, Entered}
 use Rattle.forms.specs.declared.LineNumber.{LineNumber}
 use Rattle.rows.specs.declared.entries.Entry.{Entry}
 
@@ -63,12 +63,12 @@ module _ (p : List ℕ) (start len : ℕ) (there : start + len ≤ length p) whe
   module _ (tagged : EntryTag) (n : ℕ) (sizes : (K : ℕ) → sizeOf edition1 K tagged ≡ n) where
     pub wrong-size : (len ≡ n → ⊥) → Shaped tagged p start len (Entry.Refused 6)
     unfolding _>>_ need
-    wrong-size h = record { is = λ refusal K. rw (size, sizes K, ne-eqb len n h); ranged = λ K. tt }
+    wrong-size h = record { is = λ refusal K. rw (size, sizes K, ne-eqb len n h); ranged = λ K. tt; filled = tt }
 
     right-size : {r : Entry} → len ≡ n → ((refusal : ℕ → Answer) (K : ℕ) → entryOf refusal K (take len (drop start p)) r ≡ accepted (entryFrom edition1 K tagged (take len (drop start p))))
-        → ((K : ℕ) → Ranged K start len r) → Shaped tagged p start len r
+        → ((K : ℕ) → Ranged K start len r) → Filled len r → Shaped tagged p start len r
     unfolding _>>_ need
-    right-size h e g = record { is = λ refusal K. rw (size, sizes K, eq-eqb len n h) (e refusal K); ranged = g }
+    right-size h e g f = record { is = λ refusal K. rw (size, sizes K, eq-eqb len n h) (e refusal K); ranged = g; filled = f }
 
   pub combine-is : {s t : LineNumber} {α β : ℤ} → len ≡ 6
       → s .0 ≡ unsigned (take 1 (drop start p)) → t .0 ≡ unsigned (take 1 (drop (start + 1) p))
@@ -84,6 +84,7 @@ module _ (p : List ℕ) (start len : ℕ) (there : start + len ≤ length p) whe
       let e₄ = sym (multiplies-abs b) ∙ ap unsigned (bytes 4 2 (omega arith)) in
       rw (e₁, e₂, e₃, e₄))
       (λ K. (multiplies-own a, multiplies-own b))
+      (omega arith)
 
   pub reduce-is : {s t : LineNumber} {α : ℤ} → len ≡ 4
       → s .0 ≡ unsigned (take 1 (drop start p)) → t .0 ≡ unsigned (take 1 (drop (start + 1) p))
@@ -99,6 +100,7 @@ module _ (p : List ℕ) (start len : ℕ) (there : start + len ≤ length p) whe
       ap (λ (x : ℕ). accepted (rules.row (rules.Derive (rules.Reduce x (t .0) α)))) e₁
       ∙ ap₂ (λ (x : ℕ) (y : ℤ). accepted (rules.row (rules.Derive (rules.Reduce (unsigned (take 1 (take len (drop start p)))) x y)))) e₂ e₃)
       (λ K. held-within held)
+      (omega arith)
 
   pub scale-is : {t : LineNumber} {α : ℤ} → len ≡ 3 → t .0 ≡ unsigned (take 1 (drop start p)) → Multiplies (unsigned (take 2 (drop (start + 1) p))) α
       → Shaped scaleTag p start len (Entry.Scale t α)
@@ -110,6 +112,7 @@ module _ (p : List ℕ) (start len : ℕ) (there : start + len ≤ length p) whe
       let e₂ = sym (multiplies-abs a) ∙ ap unsigned (bytes 1 2 (omega arith)) in
       rw (e₁, e₂))
       (λ K. multiplies-own a)
+      (omega arith)
 
   pub stride-is : {t : LineNumber} {g : ℤ} → len ≡ 3 → t .0 ≡ unsigned (take 1 (drop start p)) → Multiplies (unsigned (take 2 (drop (start + 1) p))) g
       → Shaped strideTag p start len (Entry.CloseStride t g)
@@ -121,6 +124,20 @@ module _ (p : List ℕ) (start len : ℕ) (there : start + len ≤ length p) whe
       let e₂ = sym (multiplies-abs a) ∙ ap unsigned (bytes 1 2 (omega arith)) in
       rw (e₁, e₂))
       (λ K. multiplies-own a)
+      (omega arith)
+
+  pub round-is : {t : LineNumber} {g : ℤ} {by : ℕ} → len ≡ 5 → t .0 ≡ unsigned (take 1 (drop start p)) → Multiplies (unsigned (take 2 (drop (start + 1) p))) g → by ≡ unsigned (take 2 (drop (start + 3) p))
+      → Shaped roundTag p start len (Entry.Round t g by)
+  unfolding sizeOf entryFrom lineNumber multiplier
+  round-is h et a b =
+      right-size roundTag 5 (λ K. refl) h
+      (λ refusal K.
+      let e₁ = et ∙ ap unsigned (first 1 (omega arith)) in
+      let e₂ = sym (multiplies-abs a) ∙ ap unsigned (bytes 1 2 (omega arith)) in
+      let e₃ = b ∙ ap unsigned (bytes 3 2 (omega arith)) in
+      rw (e₁, e₂, e₃))
+      (λ K. multiplies-own a)
+      (omega arith)
 
   pub strengthen-is : {t : LineNumber} → len ≡ 1 → t .0 ≡ unsigned (take 1 (drop start p)) → Shaped strengthenTag p start len (Entry.Strengthen t)
   unfolding sizeOf entryFrom lineNumber
@@ -128,6 +145,7 @@ module _ (p : List ℕ) (start len : ℕ) (there : start + len ≤ length p) whe
       right-size strengthenTag 1 (λ K. refl) h
       (λ refusal K. let e₁ = et ∙ ap unsigned (first 1 (omega arith)) in rw e₁)
       (λ K. tt)
+      (omega arith)
 
   pub number-is : {t : LineNumber} → len ≡ 1 → t .0 ≡ unsigned (take 1 (drop start p)) → Shaped numberTag p start len (Entry.CloseNumber t)
   unfolding sizeOf entryFrom lineNumber
@@ -135,6 +153,7 @@ module _ (p : List ℕ) (start len : ℕ) (there : start + len ≤ length p) whe
       right-size numberTag 1 (λ K. refl) h
       (λ refusal K. let e₁ = et ∙ ap unsigned (first 1 (omega arith)) in rw e₁)
       (λ K. tt)
+      (omega arith)
 
 -- ---- the entry of a field, by its tag
 abbrev fieldOf : (at tag : ℕ) → List ℕ → Field
@@ -163,7 +182,7 @@ module _ {p : List ℕ} {tag start len : ℕ} (K : ℕ) (made : Bool) where
   -- of each tag below 0x20
   entered : (x : EntryTag) → known FileKind.Proof tag ≡ true → entryTagged tag ≡ some x → ((l : Option forms.Line) → inPlace l x ≡ true)
       → {r : Entry} → Shaped x p start len r → Entered K p tag start len made r
-  entered x e f g s = record { is = λ refusal at l h. entry-in refusal K at tag _ l x e f (g l) ∙ sym (s .is refusal K); ranged = s .ranged K }
+  entered x e f g s = record { is = λ refusal at l h. entry-in refusal K at tag _ l x e f (g l) ∙ sym (s .is refusal K); ranged = s .ranged K; filled = s .filled }
 
   module _ {r : Entry} where
     pub combine-in : tag ≡ 0x10 → Shaped combineTag p start len r → Entered K p tag start len made r
@@ -190,17 +209,21 @@ module _ {p : List ℕ} {tag start len : ℕ} (K : ℕ) (made : Bool) where
     unfolding known headerTag entryTagged inPlace
     stride-in e s = entered strideTag (rw e) (rw e) (λ l. refl) s
 
+    pub round-in : tag ≡ 0x16 → Shaped roundTag p start len r → Entered K p tag start len made r
+    unfolding known headerTag entryTagged inPlace
+    round-in e s = entered roundTag (rw e) (rw e) (λ l. refl) s
+
   pub header-in : tag ≡ 0x01 → Entered K p tag start len made (Entry.Refused 4)
   unfolding known headerTag entryTagged
-  header-in e = record { is = λ refusal at l h. entry-none refusal K at tag _ l (rw e) (rw e); ranged = tt }
+  header-in e = record { is = λ refusal at l h. entry-none refusal K at tag _ l (rw e) (rw e); ranged = tt; filled = tt }
 
   pub header-in-2 : tag ≡ 0x02 → Entered K p tag start len made (Entry.Refused 4)
   unfolding known headerTag entryTagged
-  header-in-2 e = record { is = λ refusal at l h. entry-none refusal K at tag _ l (rw e) (rw e); ranged = tt }
+  header-in-2 e = record { is = λ refusal at l h. entry-none refusal K at tag _ l (rw e) (rw e); ranged = tt; filled = tt }
 
   claimed-by : (b : Bool) → tag ≡ 0x20 → start + len ≤ length p → eqb len (8 * (K + 1)) ≡ b → Entered K p tag start len true (elim b [ true ↦ Entry.Claim start | false ↦ Entry.Refused 6 ])
   unfolding known headerTag entryTagged inPlace sizeOf entryFrom _>>_ need
-  claimed-by b e h q = record { is = is; ranged = ranged b q }
+  claimed-by b e h q = record { is = is; ranged = ranged b q; filled = filled b q }
     where
       size-is : sizeOf edition1 K claimTag ≡ 8 * (K + 1)
       size-is = omega arith
@@ -220,9 +243,13 @@ module _ {p : List ℕ} {tag start len : ℕ} (K : ℕ) (made : Bool) where
       ranged true q = (refl, omega (arith, eqb-true len (8 * (K + 1)) q))
       ranged false q = tt
 
+      filled : (b : Bool) → eqb len (8 * (K + 1)) ≡ b → Filled len (elim b [ true ↦ Entry.Claim start | false ↦ Entry.Refused 6 ])
+      filled true q = omega (arith, eqb-true len (8 * (K + 1)) q)
+      filled false q = tt
+
   unclaimed : tag ≡ 0x20 → Entered K p tag start len false (Entry.Refused 4)
   unfolding known headerTag entryTagged inPlace
-  unclaimed e = record { is = is; ranged = tt }
+  unclaimed e = record { is = is; ranged = tt; filled = tt }
     where
       is : (refusal : ℕ → Answer) (at : ℕ) (l : Option forms.Line) → there l ≡ false
           → entry edition1 K refusal l (fieldOf at tag (take len (drop start p))) ≡ refused (refusal 4)
@@ -239,20 +266,21 @@ above n h k = omega arith
 clash : {tag n : ℕ} {P : Type 0} → suc n ≤ tag → tag ≤ n → P
 clash h k = absurd (omega arith)
 
-between : (tag : ℕ) → (tag ≡ 0x10 → ⊥) → (tag ≡ 0x11 → ⊥) → (tag ≡ 0x12 → ⊥) → (tag ≡ 0x13 → ⊥) → (tag ≡ 0x14 → ⊥) → (tag ≡ 0x15 → ⊥)
-    → leb 0x10 tag && leb tag 0x15 ≡ false
-between tag a b c d e f = go (leb 0x10 tag) (leb tag 0x15) refl refl
+between : (tag : ℕ) → (tag ≡ 0x10 → ⊥) → (tag ≡ 0x11 → ⊥) → (tag ≡ 0x12 → ⊥) → (tag ≡ 0x13 → ⊥) → (tag ≡ 0x14 → ⊥) → (tag ≡ 0x15 → ⊥) → (tag ≡ 0x16 → ⊥)
+    → leb 0x10 tag && leb tag 0x16 ≡ false
+between tag a b c d e f g = go (leb 0x10 tag) (leb tag 0x16) refl refl
   where
-    go : (x y : Bool) → leb 0x10 tag ≡ x → leb tag 0x15 ≡ y → x && y ≡ false
-    go true true p q = clash (above 0x15 (above 0x14 (above 0x13 (above 0x12 (above 0x11 (above 0x10 (leb-true 0x10 tag p) a) b) c) d) e) f) (leb-true tag 0x15 q)
+    go : (x y : Bool) → leb 0x10 tag ≡ x → leb tag 0x16 ≡ y → x && y ≡ false
+    go true true p q = clash (above 0x16 (above 0x15 (above 0x14 (above 0x13 (above 0x12 (above 0x11 (above 0x10 (leb-true 0x10 tag p) a) b) c) d) e) f) g) (leb-true tag 0x16 q)
     go true false p q = refl
     go false y p q = refl
 
 pub unknown-in : {p : List ℕ} {tag start len : ℕ} (K : ℕ) (made : Bool)
-    → (tag ≡ 0x10 → ⊥) → (tag ≡ 0x11 → ⊥) → (tag ≡ 0x12 → ⊥) → (tag ≡ 0x13 → ⊥) → (tag ≡ 0x14 → ⊥) → (tag ≡ 0x15 → ⊥) → (tag ≡ 0x20 → ⊥)
+    → (tag ≡ 0x10 → ⊥) → (tag ≡ 0x11 → ⊥) → (tag ≡ 0x12 → ⊥) → (tag ≡ 0x13 → ⊥) → (tag ≡ 0x14 → ⊥) → (tag ≡ 0x15 → ⊥) → (tag ≡ 0x16 → ⊥) → (tag ≡ 0x20 → ⊥)
     → (tag ≡ 0x01 → ⊥) → (tag ≡ 0x02 → ⊥) → Entered K p tag start len made (Entry.Refused 3)
 unfolding known headerTag
-unknown-in {tag = tag} K made a b c d e f g x y = record {
-  is = λ refusal at l h. entry-unknown refusal K at tag _ l (rw (ne-eqb tag 0x01 x, ne-eqb tag 0x02 y, between tag a b c d e f, ne-eqb tag 0x20 g));
+unknown-in {tag = tag} K made a b c d e f g i x y = record {
+  is = λ refusal at l h. entry-unknown refusal K at tag _ l (rw (ne-eqb tag 0x01 x, ne-eqb tag 0x02 y, between tag a b c d e f g, ne-eqb tag 0x20 i));
   ranged = tt;
+  filled = tt;
 }

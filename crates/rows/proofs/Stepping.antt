@@ -23,7 +23,7 @@ use Rattle.lines.proofs.Lines.{lines-more}
 use Rattle.proof.specs.Check.{checkRow, checkEntry, Checker, Following}
 use Rattle.rows.specs.Tally.{rowCounted}
 use Rattle.rows.specs.Rows.{Derives}
-use Rattle.rows.specs.Steps.{steppedOf, Checked, SameChecked, lastMade, fieldChecked, rowChecked, rowLeft, moreRows, Steps, Counts, Claims}
+use Rattle.rows.specs.Steps.{steppedOf, Checked, SameChecked, lastMade, fieldChecked, rowChecked, rowLeft, moreRows, Steps, Advances, Counts, Claims}
 use Rattle.rows.specs.Claims.{Claimed}
 use Rattle.rows.specs.Entries.{Multiplies, entryOf, there, Entered}
 use Rattle.rows.specs.declared.entries.Entry as entries
@@ -34,7 +34,7 @@ use Rattle.rows.specs.declared.tally.Tallied.{Tallied}
 use Rattle.rows.specs.declared.derive.Derived.{Derived}
 use Rattle.rows.specs.declared.derive.Derived.the-variants as derived-of
 use Rattle.rows.specs.declared.steps.Stepped.{Stepped}
-use Rattle.rows.specs.declared.steps.Stepped.the-variants.{Refused, Made, Strengthens, ClosesNumber, ClosesStride}
+use Rattle.rows.specs.declared.steps.Stepped.the-variants.{Refused, Made, Strengthens, ClosesNumber, ClosesStride, Rounds}
 use Rattle.rows.proofs.Deriving.{kept-refl}
 use Rattle.rows.proofs.Counting.{counted-made, counted-full}
 
@@ -81,7 +81,7 @@ module _ {K : ℕ} {kinds : List ℕ} {buf : List ℤ} (t : Tally) {s : rules.St
       → Steps (rowChecked K kinds buf t (rules.Derive s)) K kinds buf t kinds′ buf′ r
   row-derived {u} {d} eu a er = rw er (derive-by d (rw eu at a))
 
--- ---- rows that split or end the branch
+-- ---- rows that open branches or end this one
 pub counts-full : (row : rules.Row) (t : Tally) → 1024 ≤ t .rows .0 → Counts row t (Refused 18)
 counts-full row t h = record { steps = λ K kinds buf. row-full K kinds buf t row h }
 
@@ -94,6 +94,9 @@ module _ (t : Tally) (h : t .rows .0 < 1024) {u : Tally} (e : u ≡ moreRows t) 
 
   pub counts-stride : {g : ℤ} → Multiplies (natAbs g) g → Counts (rules.CloseStride (i .0) (natAbs g)) t (ClosesStride u i g)
   counts-stride {g} m = record { steps = λ K kinds buf. record { kept = kept-refl; by = (row-counted K kinds buf t (rules.CloseStride (i .0) (natAbs g)) h, e, m) } }
+
+  pub counts-round : {g : ℤ} (by : ℕ) → Multiplies (natAbs g) g → Counts (rules.Round (i .0) (natAbs g) by) t (Rounds u i g by)
+  counts-round {g} by m = record { steps = λ K kinds buf. record { kept = kept-refl; by = (row-counted K kinds buf t (rules.Round (i .0) (natAbs g) by) h, e, m) } }
 
 -- ---- claims
 module _ {K : ℕ} {p : List ℕ} {start : ℕ} {buf : List ℤ} (made : Bool) (t : Tally) where
@@ -122,6 +125,16 @@ steps-same Stepped.Claimed a s = record { kept = s .kept; by = same-trans a (s .
 steps-same (Strengthens u i) a s = record { kept = s .kept; by = (same-trans a (s .by .0), s .by .1) }
 steps-same (ClosesNumber u i) a s = record { kept = s .kept; by = (same-trans a (s .by .0), s .by .1) }
 steps-same (ClosesStride u i g) a s = record { kept = s .kept; by = (same-trans a (s .by .0), s .by .1, s .by .2) }
+steps-same (Rounds u i g by) a s = record { kept = s .kept; by = (same-trans a (s .by .0), s .by .1, s .by .2) }
+
+advances : {len : ℕ} → 1 ≤ len → (r : Stepped) → Advances len r
+advances h (Refused x) = tt
+advances h (Made u) = h
+advances h Stepped.Claimed = h
+advances h (Strengthens u i) = h
+advances h (ClosesNumber u i) = h
+advances h (ClosesStride u i g) = h
+advances h (Rounds u i g by) = h
 
 there-made : (made : Bool) (K : ℕ) (kinds : List ℕ) (buf : List ℤ) (n : ℕ) → there (lastMade made K kinds buf n) ≡ made
 there-made true K kinds buf n = refl
@@ -143,21 +156,26 @@ module _ {K : ℕ} (kinds : List ℕ) (buf : List ℤ) (t : Tally) {p : List ℕ
   field-row row q = record { is = λ deeper next refusal fs. enters (accepted (rules.row row)) refusal (q refusal) deeper next fs }
 
   pub step-row : (row : rules.Row) → ((refusal : ℕ → Answer) → entryOf refusal K (take len (drop start p)) x ≡ accepted (rules.row row)) → {kinds′ : List ℕ} {buf′ : List ℤ} {r : Stepped}
-      → Steps (rowChecked K kinds buf t row) K kinds buf t kinds′ buf′ r
-      → Steps (fieldChecked K kinds buf t made tag (take len (drop start p))) K kinds buf t kinds′ buf′ r
-  step-row row q {r = r} s = steps-same r (field-row row q) s
+      → 1 ≤ len → Steps (rowChecked K kinds buf t row) K kinds buf t kinds′ buf′ r
+      → Steps (fieldChecked K kinds buf t made tag (take len (drop start p))) K kinds buf t kinds′ buf′ r × Advances len r
+  step-row row q {r = r} h s = (steps-same r (field-row row q) s, advances h r)
 
-  pub step-claim : {from : ℕ} {r : Stepped} → x ≡ entry-of.Claim from → from ≡ start → len ≡ 2 * formWidth (edition1 .termWidth) K → Claims K p from made buf t r
-      → Steps (fieldChecked K kinds buf t made tag (take len (drop start p))) K kinds buf t kinds buf r
+  pub step-claim : {from : ℕ} {r : Stepped} → x ≡ entry-of.Claim from → from ≡ start → len ≡ 2 * formWidth (edition1 .termWidth) K → 1 ≤ len → Claims K p from made buf t r
+      → Steps (fieldChecked K kinds buf t made tag (take len (drop start p))) K kinds buf t kinds buf r × Advances len r
   unfolding _>>=_
-  step-claim {from} {r} ex ef el c =
-      steps-same r
-      (record { is = λ deeper next refusal fs. enters (entryOf refusal K (take len (drop start p)) (entry-of.Claim from)) refusal (ap (entryOf refusal K (take len (drop start p))) ex) deeper next fs })
-      ((rw ef at c) .steps len kinds el)
+  step-claim {from} {r} ex ef el h c = (
+    steps-same r
+        (record { is = λ deeper next refusal fs. enters (entryOf refusal K (take len (drop start p)) (entry-of.Claim from)) refusal (ap (entryOf refusal K (take len (drop start p))) ex) deeper next fs })
+        ((rw ef at c) .steps len kinds el),
+    advances h r,
+  )
 
-  pub step-refused : {n : ℕ} → x ≡ entry-of.Refused n → Steps (fieldChecked K kinds buf t made tag (take len (drop start p))) K kinds buf t kinds buf (Refused n)
+  pub step-refused : {n : ℕ} → x ≡ entry-of.Refused n → Steps (fieldChecked K kinds buf t made tag (take len (drop start p))) K kinds buf t kinds buf (Refused n) × Advances len (Refused n)
   unfolding _>>=_
-  step-refused {n} ex = record {
-    kept = kept-refl;
-    by = record { is = λ deeper next refusal fs. enters (entryOf refusal K (take len (drop start p)) (entry-of.Refused n)) refusal (ap (entryOf refusal K (take len (drop start p))) ex) deeper next fs };
-  }
+  step-refused {n} ex = (
+    record {
+      kept = kept-refl;
+      by = record { is = λ deeper next refusal fs. enters (entryOf refusal K (take len (drop start p)) (entry-of.Refused n)) refusal (ap (entryOf refusal K (take len (drop start p))) ex) deeper next fs };
+    },
+    tt,
+  )

@@ -3,7 +3,7 @@ use mathlib.Core.Path.{_≡_}
 use mathlib.Core.Bool.{Bool, true, false}
 use mathlib.Core.List.{List}
 use mathlib.Core.Option.{Option, none, some}
-use Prim.Native.Nat.{ℕ, _+_, _*_}
+use Prim.Native.Nat.{ℕ, _+_, _*_, _≤_}
 use lib.Dec.{eqb}
 use lib.ListN.{length, take, drop}
 use lib.IntN.{ℤ, pos, natAbs}
@@ -16,7 +16,7 @@ use Rattle.fields.specs.Numbers.{formFrom, formWidth}
 use Rattle.proof.specs.Entries.{EntryTag, sizeOf, entryFrom, entry}
 use Rattle.fields.specs.declared.Answer.{Answer}
 use Rattle.rows.specs.declared.entries.Entry.{Entry}
-use Rattle.rows.specs.declared.entries.Entry.the-variants.{Combine, Reduce, Scale, Strengthen, CloseNumber, CloseStride, Claim, Refused}
+use Rattle.rows.specs.declared.entries.Entry.the-variants.{Combine, Reduce, Scale, Strengthen, CloseNumber, CloseStride, Round, Claim, Refused}
 
 -- The number n as a factor of the machine.
 pub record Multiplies (n : ℕ) (z : ℤ) : Type 0 where
@@ -31,6 +31,7 @@ entryOf refusal K bs (Scale t α) = accepted (rules.row (rules.Derive (rules.Sca
 entryOf refusal K bs (Strengthen t) = accepted (rules.row (rules.Strengthen (t .0)))
 entryOf refusal K bs (CloseNumber t) = accepted (rules.row (rules.CloseNumber (t .0)))
 entryOf refusal K bs (CloseStride t g) = accepted (rules.row (rules.CloseStride (t .0) (natAbs g)))
+entryOf refusal K bs (Round t g by) = accepted (rules.row (rules.Round (t .0) (natAbs g) by))
 entryOf refusal K bs (Claim start) = accepted (rules.claim (formFrom (edition1 .termWidth) K bs) (formFrom (edition1 .termWidth) K (drop (formWidth (edition1 .termWidth) K) bs)))
 entryOf refusal K bs (Refused n) = refused (refusal n)
 
@@ -42,14 +43,28 @@ Ranged K start len (Scale t α) = Multiplies (natAbs α) α
 Ranged K start len (Strengthen t) = Unit {0}
 Ranged K start len (CloseNumber t) = Unit {0}
 Ranged K start len (CloseStride t g) = Multiplies (natAbs g) g
+Ranged K start len (Round t g by) = Multiplies (natAbs g) g
 Ranged K start len (Claim from) = (from ≡ start) × (len ≡ 2 * formWidth (edition1 .termWidth) K)
 Ranged K start len (Refused n) = Unit {0}
+
+-- The contents of an entry have a byte at least, so that its field has four.
+abbrev pub Filled : (len : ℕ) → Entry → Type 0
+Filled len (Combine s t α β) = 1 ≤ len
+Filled len (Reduce s t α) = 1 ≤ len
+Filled len (Scale t α) = 1 ≤ len
+Filled len (Strengthen t) = 1 ≤ len
+Filled len (CloseNumber t) = 1 ≤ len
+Filled len (CloseStride t g) = 1 ≤ len
+Filled len (Round t g by) = 1 ≤ len
+Filled len (Claim from) = 1 ≤ len
+Filled len (Refused n) = Unit {0}
 
 -- The answer for a field of a known tag in its place: 6, or the entry.
 pub record Shaped (tagged : EntryTag) (p : List ℕ) (start len : ℕ) (r : Entry) : Type 0 where
   pub is : (refusal : ℕ → Answer) (K : ℕ) → entryOf refusal K (take len (drop start p)) r
       ≡ (need (refusal 6) (eqb (length (take len (drop start p))) (sizeOf edition1 K tagged)) >> accepted (entryFrom edition1 K tagged (take len (drop start p))))
   pub ranged : (K : ℕ) → Ranged K start len r
+  pub filled : Filled len r
 
 -- The answer for a claim: 4 where no line was made directly before, 6, or the claim.
 abbrev pub claimed : (K start len : ℕ) (made : Bool) → Entry
@@ -66,3 +81,4 @@ pub record Entered (K : ℕ) (p : List ℕ) (tag start len : ℕ) (made : Bool) 
   pub is : (refusal : ℕ → Answer) (at : ℕ) (l : Option Line) → there l ≡ made
       → entry edition1 K refusal l (record { at = at; tag = tag; contents = take len (drop start p) }) ≡ entryOf refusal K (take len (drop start p)) r
   pub ranged : Ranged K start len r
+  pub filled : Filled len r

@@ -3,7 +3,7 @@ use mathlib.Core.Path.{_≡_}
 use mathlib.Core.Bool.{Bool, true, false}
 use mathlib.Core.List.{List}
 use mathlib.Core.Option.{Option, none, some}
-use Prim.Native.Nat.{ℕ, _+_, _-_, _*_}
+use Prim.Native.Nat.{ℕ, _+_, _-_, _*_, _≤_}
 use lib.Dec.{ltb}
 use lib.ListN.{take, drop}
 use lib.IntN.{ℤ, natAbs}
@@ -24,7 +24,7 @@ use Rattle.rows.specs.declared.tally.Tally.{Tally}
 use Rattle.rows.specs.declared.derive.Derived as derived
 use Rattle.rows.specs.declared.derive.Derived.the-variants as derived-of
 use Rattle.rows.specs.declared.steps.Stepped.{Stepped}
-use Rattle.rows.specs.declared.steps.Stepped.the-variants.{Refused, Made, Claimed, Strengthens, ClosesNumber, ClosesStride}
+use Rattle.rows.specs.declared.steps.Stepped.the-variants.{Refused, Made, Claimed, Strengthens, ClosesNumber, ClosesStride, Rounds}
 
 abbrev pub steppedOf : derived.Derived → Stepped
 steppedOf (derived-of.Refused x) = Refused x
@@ -60,10 +60,22 @@ SteppedBy f K kinds buf t kinds′ buf′ (Strengthens t′ i) = SameChecked f (
 SteppedBy f K kinds buf t kinds′ buf′ (ClosesNumber t′ i) = SameChecked f (rowLeft K kinds buf t (rules.CloseNumber (i .0))) × (t′ ≡ moreRows t)
 SteppedBy f K kinds buf t kinds′ buf′ (ClosesStride t′ i g) =
     SameChecked f (rowLeft K kinds buf t (rules.CloseStride (i .0) (natAbs g))) × (t′ ≡ moreRows t) × Multiplies (natAbs g) g
+SteppedBy f K kinds buf t kinds′ buf′ (Rounds t′ i g by) =
+    SameChecked f (rowLeft K kinds buf t (rules.Round (i .0) (natAbs g) by)) × (t′ ≡ moreRows t) × Multiplies (natAbs g) g
 
 pub record Steps (f : Checked) (K : ℕ) (kinds : List ℕ) (buf : List ℤ) (t : Tally) (kinds′ : List ℕ) (buf′ : List ℤ) (r : Stepped) : Type 0 where
   pub kept : LinesKept K (t .lines .0) kinds buf kinds′ buf′
   pub by : SteppedBy f K kinds buf t kinds′ buf′ r
+
+-- An entry that is not refused has a byte of contents at least.
+abbrev pub Advances : (len : ℕ) → Stepped → Type 0
+Advances len (Refused x) = Unit {0}
+Advances len (Made t) = 1 ≤ len
+Advances len Claimed = 1 ≤ len
+Advances len (Strengthens t i) = 1 ≤ len
+Advances len (ClosesNumber t i) = 1 ≤ len
+Advances len (ClosesStride t i g) = 1 ≤ len
+Advances len (Rounds t i g by) = 1 ≤ len
 
 -- The line that a claim may state: the last one, if a row 0x10 to 0x12 made it directly before.
 abbrev pub lastMade : Bool → (K : ℕ) (kinds : List ℕ) (buf : List ℤ) (n : ℕ) → Option Line
@@ -76,7 +88,7 @@ fieldChecked K kinds buf t made tag contents deeper next refusal fs =
     entry edition1 K refusal (lastMade made K kinds buf (t .lines .0)) (record { at = 0; tag = tag; contents = contents })
     >>= λ x. checkEntry edition1 K deeper next refusal (t .rows .0) (lastMade made K kinds buf (t .lines .0)) (linesIn K kinds buf (t .lines .0)) fs x
 
--- A row that splits or ends the branch is counted and left as it is, in any buffers.
+-- A row that opens branches or ends this one is counted and left as it is, in any buffers.
 pub record Counts (row : rules.Row) (t : Tally) (r : Stepped) : Type 0 where
   pub steps : (K : ℕ) (kinds : List ℕ) (buf : List ℤ) → Steps (rowChecked K kinds buf t row) K kinds buf t kinds buf r
 

@@ -24,7 +24,7 @@ unfoldable pub lineCounted : Tally → Tallied
 lineCounted t = tallied (ltb (t .lines .0) (edition1 .lines)) (tally (t .rows .0) (t .lines .0 + 1) (t .«open»)) t
 
 unfoldable pub openCounted : Tally → Tallied
-openCounted t = tallied (ltb (t .«open») (edition1 .strengthens)) (tally (t .rows .0) (t .lines .0) (t .«open» + 1)) t
+openCounted t = tallied (ltb (t .«open») (edition1 .branchings)) (tally (t .rows .0) (t .lines .0) (t .«open» + 1)) t
 
 -- A closed branch gives back its lines and open strengthens: they are again those of the tally given.
 abbrev pub returnedTo : Tally → (given : Tally) → Tally

@@ -3,7 +3,7 @@ ghost use mathlib.Core.Path.{_≡_};
 ghost use Prim.Native.Nat.{_+_, _≤_};
 ghost use lib.ListN.{length, take, drop};
 ghost use Rattle.forms.specs.Edition.{edition1};
-ghost use Rattle.proof.specs.Entries.{combineTag, reduceTag, scaleTag, strengthenTag, numberTag, strideTag};
+ghost use Rattle.proof.specs.Entries.{combineTag, reduceTag, scaleTag, strengthenTag, numberTag, strideTag, roundTag};
 ghost use Rattle.fields.specs.Numbers.{unsigned};
 ghost use Rattle.rows.specs.Entries.{Multiplies, Shaped, claimed, Entered};
 use forms::LINE_BYTES;
@@ -37,6 +37,12 @@ pub enum Entry {
         t: LineNumber,
         g: i64,
     },
+    // Line t, rounded by `by`.
+    Round {
+        t: LineNumber,
+        g: i64,
+        by: u16,
+    },
     // The contents of a claim start there.
     Claim {
         start: usize,
@@ -58,6 +64,8 @@ const REDUCE_BYTES: usize = 2 * LINE_BYTES + MULTIPLIER_BYTES;
 const SCALE_BYTES: usize = LINE_BYTES + MULTIPLIER_BYTES;
 
 const STRIDE_BYTES: usize = LINE_BYTES + MULTIPLIER_BYTES;
+
+const ROUND_BYTES: usize = LINE_BYTES + 2 * MULTIPLIER_BYTES;
 
 // A number of t and one of tA, of which a claim has k + 1.
 const PAIR_BYTES: usize = 2 * TERM_BYTES;
@@ -153,6 +161,28 @@ fn stride_at(p: &[u8], start: usize, len: usize) -> Entry
     Entry::Refused { number: 6 }
 }
 
+// What a rounding rounds by.
+fn rounding_at(p: &[u8], at: usize) -> u16
+    requires { ⌜ at + edition1 .multiplierWidth ≤ length (now p) ⌝ }
+    ensures { λ r. ⌜ r ≡ unsigned (take (edition1 .multiplierWidth) (drop at (now (p .entry)))) ⌝ }
+{
+    let n = fields::numbers::unsigned_at(p, at, MULTIPLIER_BYTES);
+    n as u16
+}
+
+fn round_at(p: &[u8], start: usize, len: usize) -> Entry
+    requires { ⌜ start + len ≤ length (now p) ⌝ }
+    ensures { λ r. ⌜ Shaped roundTag (now (p .entry)) start len r ⌝ }
+{
+    if len == ROUND_BYTES {
+        let t = line_at(p, start);
+        let g = multiplier_at(p, start + LINE_BYTES);
+        let by = rounding_at(p, start + STRIDE_BYTES);
+        return Entry::Round { t, g, by };
+    }
+    Entry::Refused { number: 6 }
+}
+
 fn claim_at(start: usize, len: usize, k: usize, made: bool) -> Entry
     requires { ⌜ k ≤ edition1 .constants ⌝ }
     ensures { λ r. ⌜ r ≡ claimed k start len made ⌝ }
@@ -188,6 +218,9 @@ pub fn entry_at(p: &[u8], tag: u8, start: usize, len: usize, k: usize, made: boo
     }
     if tag == 0x15 {
         return stride_at(p, start, len);
+    }
+    if tag == 0x16 {
+        return round_at(p, start, len);
     }
     if tag == 0x20 {
         return claim_at(start, len, k, made);

@@ -6,10 +6,10 @@ ghost use lib.ListN.{length, take, drop};
 ghost use lib.IntN.{natAbs};
 ghost use Rattle.integers.specs.Magnitude.{Within};
 ghost use Rattle.forms.specs.Edition.{edition1, multiplierRange};
-ghost use Rattle.calculus.specs.Rules.{Derive, Combine, Reduce, Scale, Strengthen, CloseNumber, CloseStride};
+ghost use Rattle.calculus.specs.Rules.{Derive, Combine, Reduce, Scale, Strengthen, CloseNumber, CloseStride, Round};
 ghost use Rattle.rows.specs.Entries.{Multiplies};
 ghost use Rattle.rows.specs.Rows.{Ready};
-ghost use Rattle.rows.specs.Steps.{rowChecked, fieldChecked, Steps, Counts, Claims};
+ghost use Rattle.rows.specs.Steps.{rowChecked, fieldChecked, Steps, Advances, Counts, Claims};
 use crate::claims::claim_holds;
 use crate::derive::Derived;
 use crate::derive::combine;
@@ -22,15 +22,35 @@ use crate::tally::row_counted;
 use forms::LineNumber;
 
 pub enum Stepped {
-    Refused { number: u8 },
+    Refused {
+        number: u8,
+    },
     // A row 0x10 to 0x12 made a line.
-    Made { tally: Tally },
+    Made {
+        tally: Tally,
+    },
     // A claim stated the line made last.
     Claimed,
-    // A row that splits the branch or ends it, counted but not yet tested.
-    Strengthens { tally: Tally, t: LineNumber },
-    ClosesNumber { tally: Tally, t: LineNumber },
-    ClosesStride { tally: Tally, t: LineNumber, g: i64 },
+    // A row that opens branches or ends this one, counted but not yet tested.
+    Strengthens {
+        tally: Tally,
+        t: LineNumber,
+    },
+    ClosesNumber {
+        tally: Tally,
+        t: LineNumber,
+    },
+    ClosesStride {
+        tally: Tally,
+        t: LineNumber,
+        g: i64,
+    },
+    Rounds {
+        tally: Tally,
+        t: LineNumber,
+        g: i64,
+        by: u16,
+    },
 }
 
 // Each row is counted first. 18.
@@ -158,6 +178,24 @@ fn stride_row(tally: Tally, t: LineNumber, g: i64) -> Stepped
     Stepped::Refused { number: 18 }
 }
 
+fn round_row(tally: Tally, t: LineNumber, g: i64, by: u16) -> Stepped
+    requires { ⌜ Multiplies (natAbs g) g ⌝ }
+    ensures { λ r. ⌜ Counts (Round (t .0) (natAbs g) by) tally r ⌝ }
+{
+    let counted = row_counted(tally);
+    let made = counted.made;
+    let next = counted.tally;
+    if made {
+        return Stepped::Rounds {
+            t,
+            g,
+            by,
+            tally: next,
+        };
+    }
+    Stepped::Refused { number: 18 }
+}
+
 // A claim of the line made last. 4, 14.
 fn claim_step(p: &[u8], start: usize, made: bool, lines: &[i32], tally: Tally, k: usize) -> Stepped
     requires { ⌜ (k ≤ edition1 .constants) × (start + 2 * edition1 .termWidth * (k + 1) ≤ length (now p)) × (tally .lines .0 ≤ edition1 .lines) × (tally .lines .0 * (2 * (k + 1)) ≤ length (now lines)) ⌝ }
@@ -189,7 +227,7 @@ pub fn step(
 ) -> Stepped
     requires { ⌜ Ready k (now kinds) (now lines) (tally .lines .0) ⌝ }
     requires { ⌜ (start + len ≤ length (now p)) × (made ≡ true → 1 ≤ tally .lines .0) ⌝ }
-    ensures { λ r. ⌜ Steps (fieldChecked k (now (kinds .entry)) (now (lines .entry)) tally made tag (take len (drop start (now (p .entry))))) k (now (kinds .entry)) (now (lines .entry)) tally (now (kinds .exit)) (now (lines .exit)) r ⌝ }
+    ensures { λ r. ⌜ Steps (fieldChecked k (now (kinds .entry)) (now (lines .entry)) tally made tag (take len (drop start (now (p .entry))))) k (now (kinds .entry)) (now (lines .entry)) tally (now (kinds .exit)) (now (lines .exit)) r × Advances len r ⌝ }
 {
     let entry = entry_at(p, tag, start, len, k, made);
     match entry {
@@ -210,6 +248,9 @@ pub fn step(
         }
         Entry::CloseStride { t, g } => {
             return stride_row(tally, t, g);
+        }
+        Entry::Round { t, g, by } => {
+            return round_row(tally, t, g, by);
         }
         Entry::Claim { start: from } => {
             return claim_step(p, from, made, lines, tally, k);

@@ -1,9 +1,9 @@
 // The tally of a check: the numbers of the next row and the next line, and the strengthens open.
+use forms::BRANCHINGS;
 use forms::LINES;
 use forms::LineNumber;
 use forms::ROWS;
 use forms::RowNumber;
-use forms::STRENGTHENS;
 ghost use mathlib.Core.Path.{_≡_};
 ghost use Rattle.rows.specs.Tally.{rowCounted, lineCounted, openCounted, returnedTo, Advanced};
 
@@ -66,7 +66,7 @@ fn next_open(t: Tally) -> Tallied
     let row = t.rows;
     let line = t.lines;
     let n = t.open;
-    if n < STRENGTHENS {
+    if n < BRANCHINGS {
         let tally = Tally {
             rows: row,
             lines: line,

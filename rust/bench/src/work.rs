@@ -108,7 +108,64 @@ fn nested(rows: usize, claims: bool) -> Stage {
     ]
 }
 
-/// 341 strengthens and 683 closes by stride over 16 constants: the longest formula that there is.
+/// A table of so many rows over K constants: f ≤ 0 in A, where 20 divides f but for a rest of -23, and -f + 1 ≤ 0 in B;
+/// roundings by 20 and 3 up to 30 deep, and each branch closed by combining the two.
+fn rounded(rows: usize, constants: usize) -> Stage {
+    let mut f: Vec<i16> = (0..=constants as i16).map(|i| i * 40 - 320).collect();
+    f[constants] = -23;
+    let mut minus: Vec<i16> = f.iter().map(|n| -n).collect();
+    minus[constants] += 1;
+    let roundings = (rows - 2) / 7;
+    let extra = rows - (7 * roundings + 2);
+    let mut proof = build::header(constants as u8);
+    for _ in 0..extra {
+        proof.extend(build::scale(0, 3));
+    }
+    let mut left = roundings;
+    let mut branches = vec![0];
+    while let Some(depth) = branches.pop() {
+        if left > 0 && depth < 30 {
+            left -= 1;
+            proof.extend(build::rounding(0, 20, 3));
+            branches.extend([depth + 1; 4]);
+        } else {
+            proof.extend(build::combine(0, 1, 1, 1));
+            proof.extend(build::close((2 + extra + depth) as u8));
+        }
+    }
+    [
+        build::file(constants as u8, &[build::constraint(false, &f)]),
+        build::file(constants as u8, &[build::constraint(false, &minus)]),
+        proof,
+    ]
+}
+
+/// 26 roundings by 16 and one by 14, each in the last branch of the one before, over 16 constants, and 431 closes, 24 of
+/// them by stride: 65,535 bytes, the longest formula that a check gives.
+fn longest_rounded() -> Stage {
+    let mut one = vec![0; 17];
+    one[16] = 1;
+    let mut proof = build::header(16);
+    let mut strides = 24;
+    for (by, closes) in [vec![(16, 16); 26], vec![(14, 15)]].concat() {
+        proof.extend(build::rounding(0, 17, by));
+        for _ in 0..closes {
+            proof.extend(if strides > 0 {
+                strides -= 1;
+                build::stride(1, 7)
+            } else {
+                build::close(1)
+            });
+        }
+    }
+    let bundle = [
+        build::constraint(false, &one),
+        build::constraint(true, &one),
+    ];
+    [build::file(16, &bundle), build::file(16, &[]), proof]
+}
+
+/// 341 strengthens and 683 closes by stride over 16 constants: the longest formula without roundings.
 fn longest() -> Stage {
     let mut one = vec![0; 17];
     one[16] = 1;
@@ -148,8 +205,15 @@ fn checks(list: &mut Vec<Work>) {
         let name = format!("the same with {rows} rows and claims");
         list.push(check(name, nested(rows, true), None));
     }
-    let name = "1,024 rows, the longest formula".to_string();
+    let name = "1,024 rows, the longest formula without roundings".to_string();
     list.push(check(name, longest(), None));
+    // With 16 constants the formula of 1,024 such rows would be too long.
+    for (rows, constants) in [(128, 16), (512, 16), (1_024, 15)] {
+        let name = format!("{rows} rows, {constants} constants, nested roundings by 3");
+        list.push(check(name, rounded(rows, constants), None));
+    }
+    let name = "458 rows, roundings by 16, the longest formula".to_string();
+    list.push(check(name, longest_rounded(), None));
 }
 
 fn check(name: String, stage: Stage, point: Option<Point>) -> Work {
@@ -297,6 +361,16 @@ fn formulas(list: &mut Vec<Work>) {
         "test a formula: \"2 divides y\" of stage 1".to_string(),
         small,
         vec![1, 4, -7],
+        None,
+    ));
+    let deep = [
+        vec![[build::and(), build::comparison(false, &[1, -7])].concat(); 600],
+        vec![build::comparison(false, &[1, -7])],
+    ];
+    list.push(test(
+        "test a formula: 600 levels of and, 601 parts over 1 constant".to_string(),
+        build::file(1, &deep.concat()),
+        vec![7],
         None,
     ));
     for parts in [8, 32, 128, 256, 512, 860] {

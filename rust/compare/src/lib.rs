@@ -2,7 +2,7 @@
 //! same contents of every lent buffer.
 //!
 //! Each case is called as it is. Where it is accepted, it is called again with each output just long enough, and with
-//! each output one short. Lent buffers hold random contents before; afterwards they must be as the checker leaves them,
+//! each output one short; a check whose formula is too long, with no output and with one that could hold it. Lent buffers hold random contents before; afterwards they must be as the checker leaves them,
 //! and after a refusal as they were.
 
 #![forbid(unsafe_code)]
@@ -51,7 +51,7 @@ fn number<T>(result: &Result<T, Refusal>) -> u8 {
 /// Compares one case, and the cases next to it; every call is counted.
 pub fn compare(case: &Case, rng: &mut Rng, tally: &mut Tally) {
     if call(case, rng, tally) != 0 {
-        return;
+        return longer(case, rng, tally);
     }
     match case {
         Case::Read {
@@ -106,6 +106,27 @@ pub fn compare(case: &Case, rng: &mut Rng, tally: &mut Tally) {
         }
         // The outputs of show are tried in the call itself; a test has none.
         Case::Show { .. } | Case::Test { .. } => {}
+    }
+}
+
+/// Compares a check whose formula is too long with other outputs: none, one that could hold it, and a longer one.
+fn longer(case: &Case, rng: &mut Rng, tally: &mut Tally) {
+    let Case::Check { a, b, proof, .. } = case else {
+        return;
+    };
+    let answer = reference::check(a, b, proof, &mut []).answer;
+    if (answer.number, answer.file) != (1, 4) {
+        return;
+    }
+    for out in [0, answer.place, answer.place + 9] {
+        let next = Case::Check {
+            a: a.clone(),
+            b: b.clone(),
+            proof: proof.clone(),
+            out,
+        };
+        call(&next, rng, tally);
+        tally.count_too_long();
     }
 }
 

@@ -14,6 +14,8 @@ pub struct Tally {
     calls: [[u64; 25]; 5],
     /// Refusals of a proof by how many branches they stand inside; the last is for three or more.
     depths: [u64; 4],
+    /// Checks that are refused since the formula is too long, outputs of several lengths counted each.
+    too_long: u64,
     differences: u64,
     /// The first ones, as lines that say what was called and what the Rust checker answers.
     kept: Vec<String>,
@@ -34,6 +36,16 @@ impl Tally {
     /// Counts a refusal of a proof inside so many branches.
     pub(crate) fn count_depth(&mut self, depth: usize) {
         self.depths[depth.min(3)] += 1;
+    }
+
+    /// Counts a check that is refused since the formula is too long.
+    pub(crate) fn count_too_long(&mut self) {
+        self.too_long += 1;
+    }
+
+    /// Checks that were refused since the formula is too long.
+    pub fn too_long(&self) -> u64 {
+        self.too_long
     }
 
     /// Refusals of a proof inside so many branches, three for three or more.
@@ -77,6 +89,7 @@ impl fmt::Display for Tally {
                     f,
                     "    refusals of the proof inside no branch: {none} one: {one} two: {two} three or more: {more}"
                 )?;
+                writeln!(f, "    formulas that are too long: {}", self.too_long)?;
             }
         }
         for line in &self.kept {

@@ -53,6 +53,7 @@ fn checking_proofs() {
     for depth in 0..=3 {
         assert!(tally.inside(depth) >= 4_000, "{tally}");
     }
+    assert!(tally.too_long() >= 1_000, "{tally}");
 }
 
 #[test]

@@ -54,10 +54,11 @@ fn listings() -> Vec<Vec<u8>> {
 #[test]
 fn the_worked_stages_are_right() {
     let listings = listings();
-    assert_eq!(listings.len(), 9);
-    for (stage, lengths) in listings
-        .chunks_exact(4)
-        .zip([[15, 15, 78, 51], [19, 30, 51, 75]])
+    assert_eq!(listings.len(), 13);
+    for (stage, lengths) in
+        listings
+            .chunks_exact(4)
+            .zip([[15, 15, 78, 51], [19, 30, 51, 75], [30, 30, 86, 171]])
     {
         let [a, b, proof, formula] = stage else {
             panic!("four listings a stage");
@@ -107,12 +108,37 @@ fn what_is_said_of_the_second_stage() {
     assert_eq!(dulgaverk::test_formula(formula, &[1, 3, 1]), Ok(false));
 }
 
+#[test]
+fn what_is_said_of_the_third_stage() {
+    let [a, b, proof, formula] = &listings()[8..12] else {
+        panic!("four listings");
+    };
+    assert_eq!(dulgaverk::test_formula(formula, &[1, 4, 0]), Ok(true));
+    assert_eq!(dulgaverk::test_formula(formula, &[0, 1, 0]), Ok(false));
+    let page = page();
+    // k = 4; line 6 in the last row.
+    for (at, byte, row, step, branch) in [(33, 4, 2, None, None), (85, 6, 10, Some(2), Some(3))] {
+        let mut other = proof.clone();
+        other[at] = byte;
+        let refusal = dulgaverk::check(a, b, &other).expect_err("a fault");
+        let place = if step.is_some() { 82 } else { 26 };
+        let expected = Refusal {
+            row: Some(row),
+            step,
+            branch,
+            ..Refusal::outside(15, 3, place)
+        };
+        assert_eq!(refusal, expected);
+        assert!(page.contains(&format!("15, file 3, place {place}, row {row}")));
+    }
+}
+
 /// The proof over the first stage's bundles with a fault inside two branches, and what is said of other faults in it.
 #[test]
 fn the_fault_inside_two_branches() {
     let page = page();
     let listings = listings();
-    let (a, b, proof) = (&listings[0], &listings[1], &listings[8]);
+    let (a, b, proof) = (&listings[0], &listings[1], &listings[12]);
     assert_eq!(proof.len(), 96);
     let expected = Refusal {
         row: Some(6),

@@ -32,10 +32,10 @@ pub struct Refusal {
     /// The row of the proof at fault, from 0; claims and notes are no rows, and a claim belongs to the row before it.
     /// None for what check tests before the count of rows (18) or at the end of the proof, and where no proof is checked.
     pub row: Option<u16>,
-    /// The row number of the innermost strengthen that the field at fault finds open; for 20, that is open at the end.
-    /// None on the root, and after its close.
+    /// The row number of the innermost step, a strengthen or a rounding, that the field at fault finds open; for 20, that is
+    /// open at the end. None on the root, and after its close.
     pub step: Option<u16>,
-    /// Which branch of that step it is: 0, 1 or 2 in file order. None where there is no step.
+    /// Which branch of that step it is, from 0 in file order, at most 16. None where there is no step.
     pub branch: Option<u16>,
 }
 
@@ -97,7 +97,7 @@ impl Error for Refusal {}
 /// Every refusal of edition 1, by number, and the one number that is kept free.
 /// (include/dulgaverk.h and docs/FORMAT.md have the same words.)
 pub const MEANINGS: [(u8, &str); 24] = [
-    (1, "a file is longer than its limit"),
+    (1, "a file is longer than its limit, or a formula would be"),
     (2, "bytes are no whole field, or a file ends too early"),
     (3, "a tag below 0x80 that this kind of file does not have"),
     (4, "a known tag where it may not stand"),
@@ -108,14 +108,17 @@ pub const MEANINGS: [(u8, &str); 24] = [
     (9, "the number of constants is not the one given before"),
     (10, "a line that is not there"),
     (11, "a line of the wrong kind"),
-    (12, "a multiplier of 0, or a stride below 2"),
+    (
+        12,
+        "a multiplier of 0, a stride below 2, or a rounding by 0 or more than 16",
+    ),
     (13, "a number of a new line is out of range"),
     (14, "a claim that is not the new line"),
-    (15, "a close whose condition is not met"),
+    (15, "a close or rounding whose condition is not met"),
     (16, "a 129th line on a branch"),
     (
         17,
-        "a 33rd open strengthen, or in a formula a 65th level of and/or",
+        "a 33rd open step, or in a formula a 601st level of and/or",
     ),
     (18, "a 1,025th row"),
     (19, "a known field after the end of the proof or formula"),

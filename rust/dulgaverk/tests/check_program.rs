@@ -18,7 +18,7 @@ use std::thread;
 use std::time::Duration;
 
 /// The worked stages as folders under examples/, and the first line that is printed of each.
-const STAGES: [(&str, &str); 16] = [
+const STAGES: [(&str, &str); 19] = [
     ("stage-1", "accepted 31"),
     ("stage-10", "accepted 79"),
     ("stage-10-constants", "refused 7 file 1 at 4"),
@@ -35,6 +35,9 @@ const STAGES: [(&str, &str); 16] = [
     ("stage-8-tag", "refused 3 file 1 at 8"),
     ("stage-9", "accepted 19"),
     ("stage-9-again", "refused 13 file 3 at 14"),
+    ("stage-rounding-1", "accepted 51"),
+    ("stage-rounding-2", "accepted 83"),
+    ("stage-rounding-3", "accepted 171"),
 ];
 
 const FORMULA: &str = "01000101020001033500140000000200000000000000010000000000000000";
@@ -305,7 +308,14 @@ fn long_proofs_and_formulas() {
         .map(|(_, case)| compare("heavy", case))
         .map(|answer| answer.lines().next().unwrap_or_default().to_string())
         .collect();
-    assert!(first.iter().any(|line| line == "accepted 53279"));
+    // Without roundings, and with them; the first that is too long.
+    for line in [
+        "accepted 53279",
+        "accepted 65535",
+        "refused 1 file 4 at 65539",
+    ] {
+        assert!(first.iter().any(|found| found == line), "{line}");
+    }
 }
 
 /// Random tables, sound and damaged, as the independent checker answers.

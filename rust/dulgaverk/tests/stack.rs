@@ -1,10 +1,11 @@
 //! The stack that a call takes is what include/dulgaverk.h says: each call is made on a thread that has little more.
 
-use stages::build::{and, close, comparison, constraint, file, fill, strengthen};
+use stages::build::{and, close, comparison, constraint, file, fill, rounding, strengthen};
 use std::thread;
 
-/// What the header says of a check, and of the other calls.
-const CHECK: usize = 152 * 1024;
+/// What the header says of a check, of a test, and of the other calls.
+const CHECK: usize = 320 * 1024;
+const TEST: usize = 64 * 1024;
 const OTHER: usize = 12 * 1024;
 
 /// What a thread of Rust and the wrapper take for themselves.
@@ -35,16 +36,45 @@ fn the_deepest_check() {
     assert_eq!(written.map(|bytes| bytes.len()), Ok(8 + 32 * 6 + 65 * 71));
 }
 
-/// 64 levels of and, one inside the other.
+/// 32 roundings by 16, one inside the other: in the first branch of the one before, and in the last. Over 12 constants the
+/// formula has 61,503 bytes, over 13 it would be too long.
+#[test]
+fn the_deepest_roundings() {
+    for branch in [0, 16] {
+        for (constants, needed) in [(12, 61_503), (13, 65_603)] {
+            let mut numbers = vec![0i16; constants + 1];
+            numbers[constants] = 1;
+            let a = file(constants as u8, &[constraint(false, &numbers)]);
+            let b = file(constants as u8, &[]);
+            let step = [vec![rounding(0, 17, 16)], vec![close(0); branch]].concat();
+            let mut rows = vec![step; 32].concat();
+            rows.extend(vec![close(0); 1 + 32 * (16 - branch)]);
+            let mut proof = file(constants as u8, &rows);
+            fill(&mut proof, 65_536);
+            let written = on_stack(CHECK, move || dulgaverk::check(&a, &b, &proof));
+            let expected = if needed > 65_536 {
+                Err(dulgaverk::Refusal::outside(1, 4, needed))
+            } else {
+                Ok(needed)
+            };
+            assert_eq!(written.map(|bytes| bytes.len()), expected);
+        }
+    }
+}
+
+/// 600 levels of and, one inside the other, in the first part and in the second.
 #[test]
 fn the_deepest_formula() {
-    let mut parts = vec![and(); 64];
-    parts.extend(vec![comparison(false, &[1, -7]); 65]);
-    let formula = file(1, &parts);
-    assert_eq!(
-        on_stack(OTHER, move || dulgaverk::test_formula(&formula, &[7])),
-        Ok(true)
-    );
+    let part = || comparison(false, &[1, -7]);
+    let first = [vec![and(); 600], vec![part(); 601]].concat();
+    let second = [vec![[and(), part()].concat(); 600], vec![part()]].concat();
+    for parts in [first, second] {
+        let formula = file(1, &parts);
+        assert_eq!(
+            on_stack(TEST, move || dulgaverk::test_formula(&formula, &[7])),
+            Ok(true)
+        );
+    }
 }
 
 #[test]

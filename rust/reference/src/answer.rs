@@ -16,7 +16,7 @@ pub struct Answer {
     /// The number of the row at fault; a claim belongs to the row before it.
     /// `NONE` for what check tests before the count of rows, or at the end.
     pub row: u16,
-    /// The row number of the innermost strengthen that is open there, and
+    /// The row number of the innermost step that is open there, and
     /// which of its branches that is, from 0. `NONE` outside every branch.
     pub step: u16,
     pub branch: u16,
@@ -64,7 +64,7 @@ pub(crate) const WRONG_KIND: u8 = 11;
 pub(crate) const WRONG_MULTIPLIER: u8 = 12;
 pub(crate) const OUT_OF_RANGE: u8 = 13;
 pub(crate) const CLAIM_DIFFERS: u8 = 14;
-pub(crate) const NOT_CLOSED: u8 = 15;
+pub(crate) const NOT_MET: u8 = 15;
 pub(crate) const TOO_MANY_LINES: u8 = 16;
 pub(crate) const TOO_DEEP: u8 = 17;
 pub(crate) const TOO_MANY_ROWS: u8 = 18;
@@ -81,7 +81,7 @@ pub(crate) const WRONG_LIST: u8 = 24;
 pub fn meaning(number: u8) -> &'static str {
     match number {
         0 => "accepted",
-        TOO_LONG => "the file is too long",
+        TOO_LONG => "a file is too long, or the formula would be",
         NOT_WHOLE => "a field runs past the end of the file, or the file ends unfinished",
         UNKNOWN_TAG => "a tag below 0x80 that this kind of file does not have",
         OUT_OF_PLACE => "a known tag out of place",
@@ -92,12 +92,14 @@ pub fn meaning(number: u8) -> &'static str {
         OTHER_K => "the number of constants is not the one already given",
         NO_SUCH_LINE => "a line that is not there",
         WRONG_KIND => "a line of the wrong kind",
-        WRONG_MULTIPLIER => "a multiplier of 0, or a stride below 2",
+        WRONG_MULTIPLIER => {
+            "a multiplier of 0, a stride below 2, or a rounding by 0 or more than 16"
+        }
         OUT_OF_RANGE => "a number of a new line is out of range",
         CLAIM_DIFFERS => "a claim that differs from the new line",
-        NOT_CLOSED => "a close whose condition is not met",
+        NOT_MET => "a close or rounding whose condition is not met",
         TOO_MANY_LINES => "a 129th line on a branch",
-        TOO_DEEP => "a 33rd open strengthen, or a 65th level of and/or",
+        TOO_DEEP => "a 33rd open step, or a 601st level of and/or",
         TOO_MANY_ROWS => "a 1,025th row",
         AFTER_THE_END => "a known field after the root is closed",
         STILL_OPEN => "branches are still open at the end of the proof",

@@ -3,7 +3,7 @@
 use crate::answer::*;
 use crate::bundle::{length_within, Bundle, WriteResult};
 use crate::field::{signed, unsigned, Field, Fields, Unfinished};
-use crate::formula::{push_comparison, push_junction, push_stride, TAG_AND, TAG_OR};
+use crate::formula::{push_comparison, push_junction, push_stride, stride_bytes, TAG_AND, TAG_OR};
 use crate::header::{header_bytes, Header, Step, TAG_CONSTANTS, TAG_EDITION};
 use crate::limits;
 use crate::line::{Lines, OutOfRange};
@@ -14,10 +14,8 @@ const SCALE: u8 = 0x12;
 const STRENGTHEN: u8 = 0x13;
 const CLOSE_BY_NUMBER: u8 = 0x14;
 const CLOSE_BY_STRIDE: u8 = 0x15;
+const ROUND: u8 = 0x16;
 const CLAIM: u8 = 0x20;
-/// The header, and 1,024 rows as 341 strengthens and 683 closes by stride
-/// over 16 constants.
-const LONGEST_FORMULA: usize = 8 + 341 * 6 + 683 * 75;
 
 /// Checks a proof over the lines of A and B and writes the interpolant's file.
 pub fn check(a: &[u8], b: &[u8], proof: &[u8], out: &mut [u8]) -> WriteResult {
@@ -26,6 +24,9 @@ pub fn check(a: &[u8], b: &[u8], proof: &[u8], out: &mut [u8]) -> WriteResult {
         Err(answer) => return WriteResult::refused(answer),
     };
     let needed = formula.len();
+    if needed > limits::FORMULA_BYTES {
+        return WriteResult::refused(Answer::refused(TOO_LONG, FILE_OUTPUT, needed));
+    }
     match out.get_mut(..needed) {
         Some(part) => {
             part.copy_from_slice(&formula);
@@ -35,7 +36,8 @@ pub fn check(a: &[u8], b: &[u8], proof: &[u8], out: &mut [u8]) -> WriteResult {
     }
 }
 
-/// The interpolant's file, before it is known whether the output can hold it.
+/// The interpolant's file, before it is known whether it is too long and
+/// whether the output can hold it.
 fn interpolant(a: &[u8], b: &[u8], proof: &[u8]) -> Result<Vec<u8>, Answer> {
     length_within(a, limits::BUNDLE_BYTES, FILE_A)?;
     length_within(b, limits::BUNDLE_BYTES, FILE_B)?;
@@ -60,6 +62,7 @@ fn interpolant(a: &[u8], b: &[u8], proof: &[u8]) -> Result<Vec<u8>, Answer> {
             STRENGTHEN => 1,
             CLOSE_BY_NUMBER => 1,
             CLOSE_BY_STRIDE => 3,
+            ROUND => 5,
             CLAIM => 2 * 4 * (a.k + 1),
             _ => return refuse(&table, UNKNOWN_TAG),
         };
@@ -100,30 +103,37 @@ impl Fault {
     }
 }
 
-/// Which of its three branches an open strengthen has reached.
+/// The rule of a branching row.
 #[derive(Clone, Copy)]
-enum Branch {
-    First = 0,
-    Second = 1,
-    Third = 2,
+enum Rule {
+    Strengthen,
+    /// By a stride g, from t to t + k.
+    Round {
+        g: u16,
+        k: u16,
+        /// Where E0 starts in the formula, once it is written.
+        stride: usize,
+    },
 }
 
-/// A strengthen whose third branch is not yet closed.
-struct Strengthen {
+/// A branching row whose last branch is not yet closed.
+struct Open {
     /// Its own row number.
     row: u16,
-    /// The line that it strengthens.
+    /// The line that it names.
     line: usize,
     /// The lines that all its branches start from, before their own new one.
     lines: usize,
-    branch: Branch,
+    /// The branch that it has reached, from 0 in file order.
+    branch: u16,
+    rule: Rule,
 }
 
 /// The proof table as far as it has been read.
 struct Table {
     lines: Lines,
-    /// The strengthens around the current branch, outermost first.
-    open: Vec<Strengthen>,
+    /// The steps around the current branch, outermost first.
+    open: Vec<Open>,
     /// The rows so far, so the number of the next one.
     rows: u16,
     /// Whether the field before, notes aside, was a row 0x10 to 0x12.
@@ -137,12 +147,12 @@ struct Table {
 }
 
 impl Table {
-    /// The table before its first row. The proof's length tells how much
-    /// room is enough: a row has at least 4 bytes, makes one line at most
-    /// (a strengthen is counted once for its branch), and adds at most 71
-    /// bytes to the formula, or 75 if it has 6.
+    /// The table before its first row. The proof's length tells how much room
+    /// is enough: a row has at least 4 bytes, makes one line at most (a step
+    /// is counted once for its branch), and adds at most 71 bytes to the
+    /// formula, or 75 if it has 6. Only roundings may ask for more.
     fn over(a: &Bundle, b: &Bundle, proof: usize) -> Table {
-        let mut formula = Vec::with_capacity((8 + 18 * proof).min(LONGEST_FORMULA));
+        let mut formula = Vec::with_capacity((8 + 18 * proof).min(limits::FORMULA_BYTES));
         // K is at most 16, so one byte holds it.
         formula.extend_from_slice(&header_bytes(a.k as u8));
         Table {
@@ -160,7 +170,7 @@ impl Table {
     /// closes nothing, so the step that is open now is the one that it found.
     fn refuse(&self, fault: Fault, place: usize) -> Answer {
         let (step, branch) = match self.open.last() {
-            Some(step) => (step.row, step.branch as u16),
+            Some(step) => (step.row, step.branch),
             None => (NONE, NONE),
         };
         Answer {
@@ -217,6 +227,11 @@ impl Table {
             SCALE => self.scale(contents[0], unsigned(&contents[1..])),
             STRENGTHEN => self.strengthen(contents[0]),
             CLOSE_BY_NUMBER => self.close_by_number(contents[0]),
+            ROUND => self.round(
+                contents[0],
+                unsigned(&contents[1..]),
+                unsigned(&contents[3..]),
+            ),
             // The caller lets no other tag through.
             _ => self.close_by_stride(contents[0], unsigned(&contents[1..])),
         }
@@ -265,18 +280,47 @@ impl Table {
         if self.lines.is_equality(line) {
             return Err(WRONG_KIND);
         }
-        if self.open.len() == limits::STRENGTHENS {
+        self.open_first(line, 1, Rule::Strengthen)
+    }
+
+    /// Opens the k + 1 branches and enters the first, which is that of j = k.
+    /// All start with t + k, and no other raises tA by more. (Not inlined, so
+    /// that the choice by the tag stays small for the commoner rows.)
+    #[inline(never)]
+    fn round(&mut self, t: u8, g: u16, k: u16) -> Result<(), u8> {
+        let line = self.line(t)?;
+        if self.lines.is_equality(line) {
+            return Err(WRONG_KIND);
+        }
+        if g < 2 || k == 0 || k > limits::ROUNDING {
+            return Err(WRONG_MULTIPLIER);
+        }
+        // The least j, 0 or more, for which g divides d + j. The range of a
+        // line's numbers has a minus for every plus, so -d is one of them.
+        let least = (-self.lines.constant(line)).rem_euclid(i32::from(g));
+        if !self.divides_coefficients(g, line) || least < i32::from(k) {
+            return Err(NOT_MET);
+        }
+        let rule = Rule::Round { g, k, stride: 0 };
+        self.open_first(line, i64::from(k), rule)
+    }
+
+    /// Opens a step and enters its first branch, where t and tA are both
+    /// raised by the most that any of its branches asks for.
+    fn open_first(&mut self, line: usize, raise: i64, rule: Rule) -> Result<(), u8> {
+        if self.open.len() == limits::STEPS {
             return Err(TOO_DEEP);
         }
         self.room_for_a_line()?;
         let lines = self.lines.count();
-        in_range(self.lines.add_raised(line, false, 1, 1))?;
-        self.open.push(Strengthen {
+        in_range(self.lines.add_raised(line, false, raise, raise))?;
+        self.open.push(Open {
             // It is counted already.
             row: self.rows - 1,
             line,
             lines,
-            branch: Branch::First,
+            branch: 0,
+            rule,
         });
         push_junction(&mut self.formula, TAG_OR);
         Ok(())
@@ -288,7 +332,7 @@ impl Table {
         let d = self.lines.constant(t);
         let impossible = if equality { d != 0 } else { d > 0 };
         if !impossible || self.lines.coefficients(t).iter().any(|&c| c != 0) {
-            return Err(NOT_CLOSED);
+            return Err(NOT_MET);
         }
         push_comparison(&mut self.formula, equality, self.lines.partial(t));
         self.close_branch()
@@ -302,43 +346,41 @@ impl Table {
         if g < 2 {
             return Err(WRONG_MULTIPLIER);
         }
-        let divides = |number: i32| number % i32::from(g) == 0;
-        let coefficients = self.lines.coefficients(t);
-        if !coefficients.iter().all(|&c| divides(c)) || divides(self.lines.constant(t)) {
-            return Err(NOT_CLOSED);
+        if !self.divides_coefficients(g, t) || self.lines.constant(t) % i32::from(g) == 0 {
+            return Err(NOT_MET);
         }
-        // Constants that B lacks leave the formula; d, in the last place, stays.
-        let mut form = [0; limits::CONSTANTS + 1];
-        let form = &mut form[..=coefficients.len()];
-        form.copy_from_slice(self.lines.partial(t));
-        for (constant, coefficient) in form[..coefficients.len()].iter_mut().enumerate() {
-            if self.in_b >> constant & 1 == 0 {
-                *coefficient = 0;
-            }
-        }
-        // What is left is written as remainders from 0 to g-1.
-        for number in form.iter_mut() {
-            *number = number.rem_euclid(i32::from(g));
-        }
-        push_stride(&mut self.formula, g, form);
+        push_reduced(&mut self.formula, g, self.lines.partial(t), self.in_b);
         self.close_branch()
+    }
+
+    /// Whether g divides every coefficient of t.
+    fn divides_coefficients(&self, g: u16, t: usize) -> bool {
+        let coefficients = self.lines.coefficients(t);
+        coefficients.iter().all(|c| c % i32::from(g) == 0)
     }
 
     /// Ends the current branch and enters the next one, if any is open.
     fn close_branch(&mut self) -> Result<(), u8> {
         while let Some(step) = self.open.last_mut() {
             self.lines.fall_back_to(step.lines);
-            let added = match step.branch {
-                Branch::First => {
-                    step.branch = Branch::Second;
-                    push_junction(&mut self.formula, TAG_AND);
+            step.branch += 1;
+            let formula = &mut self.formula;
+            let added = match (&mut step.rule, step.branch) {
+                (Rule::Strengthen, 1) => {
+                    push_junction(formula, TAG_AND);
                     self.lines.add_raised(step.line, true, 0, 0)
                 }
-                Branch::Second => {
-                    step.branch = Branch::Third;
-                    self.lines.add_raised(step.line, false, 1, 0)
+                (Rule::Strengthen, 2) => self.lines.add_raised(step.line, false, 1, 0),
+                (Rule::Round { g, k, stride }, branch) if branch <= *k => {
+                    let partial = self.lines.partial(step.line);
+                    // Another pair follows each but the last.
+                    let more = branch < *k;
+                    let j = branch - 1;
+                    push_pair(formula, *g, j, more, stride, partial, self.in_b);
+                    self.lines
+                        .add_raised(step.line, false, i64::from(*k), i64::from(j))
                 }
-                Branch::Third => {
+                _ => {
                     self.open.pop();
                     continue;
                 }
@@ -368,6 +410,50 @@ impl Table {
 
 fn in_range(added: Result<(), OutOfRange>) -> Result<(), u8> {
     added.map_err(|OutOfRange| OUT_OF_RANGE)
+}
+
+/// Appends "g divides the form" in reduced form: constants that B lacks leave
+/// it, and what is left, d in the last place too, is written as remainders
+/// from 0 to g-1.
+fn push_reduced(formula: &mut Vec<u8>, g: u16, partial: &[i32], in_b: u32) {
+    let mut form = [0; limits::CONSTANTS + 1];
+    let form = &mut form[..partial.len()];
+    let d = partial.len() - 1;
+    for (place, (slot, number)) in form.iter_mut().zip(partial).enumerate() {
+        if place == d || in_b >> place & 1 == 1 {
+            *slot = number.rem_euclid(i32::from(g));
+        }
+    }
+    push_stride(formula, g, form);
+}
+
+/// Appends what stands before Ij in a rounding's formula: an "or" if more
+/// pairs follow, an "and", and Ej. E0 is formed, and its place kept; the others
+/// are copies of it with another d. (tA + k is in range, so nothing overflows.
+/// Not inlined, for the same reason as `Table::round`.)
+#[inline(never)]
+fn push_pair(
+    formula: &mut Vec<u8>,
+    g: u16,
+    j: u16,
+    more: bool,
+    stride: &mut usize,
+    partial: &[i32],
+    in_b: u32,
+) {
+    if more {
+        push_junction(formula, TAG_OR);
+    }
+    push_junction(formula, TAG_AND);
+    if j == 0 {
+        *stride = formula.len();
+        push_reduced(formula, g, partial, in_b);
+    } else {
+        let d = partial[partial.len() - 1] + i32::from(j);
+        let before_d = *stride + stride_bytes(partial.len()) - 4;
+        formula.extend_from_within(*stride..before_d);
+        formula.extend_from_slice(&d.rem_euclid(i32::from(g)).to_be_bytes());
+    }
 }
 
 /// The constants to which some constraint gives a non-zero coefficient, a bit

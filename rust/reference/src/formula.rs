@@ -37,6 +37,11 @@ fn push_form(out: &mut Vec<u8>, form: &[i32]) {
     out.extend_from_slice(&bytes[..4 * form.len()]);
 }
 
+/// The bytes of "g divides the form", for a form of so many numbers.
+pub(crate) fn stride_bytes(numbers: usize) -> usize {
+    3 + 4 + 4 * numbers
+}
+
 /// Appends "g divides the form", given as its numbers.
 pub(crate) fn push_stride(out: &mut Vec<u8>, g: u16, form: &[i32]) {
     push_field_header(out, TAG_STRIDE, 4 + 4 * form.len() as u16);
@@ -65,12 +70,24 @@ pub fn test_formula(formula: &[u8], values: &[i32]) -> TestResult {
     }
 }
 
-/// An and/or some of whose two parts are still to come.
+/// An and/or some of whose two parts are still to come, in one byte, as there
+/// are many levels to make room for.
 #[derive(Clone, Copy)]
-struct Junction {
-    and: bool,
-    /// The first part's value, once that part is read.
-    first: Option<bool>,
+struct Junction(u8);
+
+impl Junction {
+    const AND: u8 = 1;
+    /// The first part is read; was it true?
+    const READ: u8 = 2;
+    const TRUE: u8 = 4;
+
+    fn new(and: bool) -> Junction {
+        Junction(if and { Junction::AND } else { 0 })
+    }
+
+    fn has(self, bit: u8) -> bool {
+        self.0 & bit != 0
+    }
 }
 
 /// The and/ors around the place that has been reached. Their number is the
@@ -82,12 +99,8 @@ struct Junctions {
 
 impl Junctions {
     fn none() -> Junctions {
-        let unused = Junction {
-            and: false,
-            first: None,
-        };
         Junctions {
-            open: [unused; limits::LEVELS],
+            open: [Junction(0); limits::LEVELS],
             level: 0,
         }
     }
@@ -96,7 +109,7 @@ impl Junctions {
     fn enter(&mut self, and: bool) -> bool {
         match self.open.get_mut(self.level) {
             Some(slot) => {
-                *slot = Junction { and, first: None };
+                *slot = Junction::new(and);
                 self.level += 1;
                 true
             }
@@ -109,14 +122,17 @@ impl Junctions {
     fn complete(&mut self, mut value: bool) -> Option<bool> {
         while self.level > 0 {
             let junction = &mut self.open[self.level - 1];
-            match junction.first {
-                None => {
-                    junction.first = Some(value);
-                    return None;
-                }
-                Some(first) if junction.and => value &= first,
-                Some(first) => value |= first,
+            if !junction.has(Junction::READ) {
+                let first = if value { Junction::TRUE } else { 0 };
+                junction.0 |= Junction::READ | first;
+                return None;
             }
+            let first = junction.has(Junction::TRUE);
+            value = if junction.has(Junction::AND) {
+                value & first
+            } else {
+                value | first
+            };
             self.level -= 1;
         }
         Some(value)
@@ -132,10 +148,11 @@ fn judge(formula: &[u8], values: &[i32]) -> Result<bool, Answer> {
     if let Some(index) = values.iter().position(outside) {
         return Err(Answer::refused(VALUE_OUT_OF_RANGE, FILE_OUTPUT, index));
     }
-    length_within(formula, limits::PROOF_BYTES, FILE_PROOF)?;
+    length_within(formula, limits::FORMULA_BYTES, FILE_PROOF)?;
 
     let mut header = Header::Start;
-    let mut junctions = Junctions::none();
+    // Their room is made when the first comes: a formula of one part needs none.
+    let mut junctions: Option<Junctions> = None;
     // The whole formula's value, once it is complete.
     let mut verdict = None;
     let mut fields = Fields::of(formula);
@@ -171,6 +188,7 @@ fn judge(formula: &[u8], values: &[i32]) -> Result<bool, Answer> {
         }
         let part = match field.tag {
             TAG_OR | TAG_AND => {
+                let junctions = junctions.get_or_insert_with(Junctions::none);
                 if !junctions.enter(field.tag == TAG_AND) {
                     return refuse(TOO_DEEP);
                 }
@@ -187,7 +205,10 @@ fn judge(formula: &[u8], values: &[i32]) -> Result<bool, Answer> {
                 value_of(form, values) % g == 0
             }
         };
-        verdict = junctions.complete(part);
+        verdict = match &mut junctions {
+            Some(junctions) => junctions.complete(part),
+            None => Some(part),
+        };
     }
     // A file that ends inside its header or before its formula is complete.
     verdict.ok_or(Answer::refused(NOT_WHOLE, FILE_PROOF, formula.len()))

@@ -3,7 +3,7 @@
 //!
 //! It is what another implementation is compared with, so it is built
 //! differently from the paper's own words where they are recursive: the
-//! proof is read once from front to back with a stack of open strengthens,
+//! proof is read once from front to back with a stack of open steps,
 //! the lines of the current branch stand in one flat list, and the
 //! interpolant is written down in the order in which its parts arise, which
 //! is already the order of the formula file.
@@ -38,14 +38,19 @@ pub mod limits {
     pub const ROWS: usize = 1_024;
     /// Most lines on a branch.
     pub const LINES: usize = 128;
-    /// Most strengthens open at once.
-    pub const STRENGTHENS: usize = 32;
-    /// Most levels of and/or in a formula.
-    pub const LEVELS: usize = 64;
+    /// Most branching steps open at once.
+    pub const STEPS: usize = 32;
+    /// The most that a rounding may round by.
+    pub const ROUNDING: u16 = 16;
+    /// Most levels of and/or in a formula that is tested. A check cannot write
+    /// more than 32 times 17.
+    pub const LEVELS: usize = 600;
     /// Most bytes of a bundle.
     pub const BUNDLE_BYTES: usize = 4_096;
-    /// Most bytes of a proof or of a formula.
+    /// Most bytes of a proof.
     pub const PROOF_BYTES: usize = 65_536;
+    /// Most bytes of a formula, written or tested.
+    pub const FORMULA_BYTES: usize = 65_536;
     /// Largest number in a line, and with a minus sign the smallest.
     pub const NUMBER: i64 = 2_147_483_647;
     /// Largest register value in a test, and with a minus sign the smallest.

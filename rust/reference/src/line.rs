@@ -129,7 +129,7 @@ impl Lines {
         (old, new)
     }
 
-    /// Adds the line that starts a branch of a strengthen of line t:
+    /// Adds the line that starts a branch of a step on line t:
     /// t + `raise` with tA + `raise_partial`.
     pub fn add_raised(
         &mut self,

@@ -160,11 +160,11 @@ fn refusal_3_for_every_tag_that_a_proof_lacks() {
         for place in [0, 4, 8, 17, 21] {
             let mut bytes = closed.clone();
             // A length that no known field has.
-            bytes.splice(place..place, field(tag, &[0, 1, 1, 1, 1]));
+            bytes.splice(place..place, field(tag, &[0, 1, 1, 1, 1, 1, 1]));
             let result = over(&bytes);
             match tag {
                 0x80.. => assert_eq!(result, ACCEPTED),
-                0x01 | 0x02 | 0x10..=0x15 | 0x20 => {
+                0x01 | 0x02 | 0x10..=0x16 | 0x20 => {
                     let number = match (place, tag) {
                         (21, _) => 19,
                         // 0x01 in its own place, but too long.
@@ -197,6 +197,7 @@ fn refusal_19_for_every_known_field_after_the_root_is_closed() {
         strengthen(0),
         close(4),
         stride(1, 2),
+        round(0, 2, 1),
         claim(&[0, 1], &[1, 0]),
     ];
     for later in right {
@@ -213,10 +214,10 @@ fn refusal_19_for_every_known_field_after_the_root_is_closed() {
 
 #[test]
 fn refusal_4_rows_before_the_header_and_headers_after_it() {
-    for tag in [0x02, 0x10, 0x11, 0x12, 0x13, 0x14, 0x15, 0x20] {
+    for tag in [0x02, 0x10, 0x11, 0x12, 0x13, 0x14, 0x15, 0x16, 0x20] {
         assert_eq!(over(&field(tag, &[])), refused(4, 3, 0));
     }
-    for tag in [0x01, 0x10, 0x11, 0x12, 0x13, 0x14, 0x15, 0x20] {
+    for tag in [0x01, 0x10, 0x11, 0x12, 0x13, 0x14, 0x15, 0x16, 0x20] {
         let bytes = [edition(1), field(tag, &[])].concat();
         assert_eq!(over(&bytes), refused(4, 3, 4));
     }
@@ -288,6 +289,7 @@ fn refusal_6_wrong_lengths() {
         (0x13, 1),
         (0x14, 1),
         (0x15, 3),
+        (0x16, 5),
     ] {
         for length in 0..20 {
             // Line 255 is not there, so a right length gives 10.

@@ -284,10 +284,10 @@ fn refusal_12_a_stride_has_a_sign() {
 }
 
 #[test]
-fn refusal_17_a_65th_level() {
+fn refusal_17_a_601st_level() {
     let leaf = at_most(&[0, 0]);
     // Nested in the second part, then in the first.
-    for levels in [63, 64] {
+    for levels in [63, 64, 65, 544, 599, 600] {
         let mut second = Vec::new();
         for _ in 0..levels {
             second.extend([or(), leaf.clone()]);
@@ -299,26 +299,27 @@ fn refusal_17_a_65th_level() {
         assert_eq!(test(&file(1, &first), &[0]), Ok(true));
     }
     let mut second = Vec::new();
-    for _ in 0..64 {
+    for _ in 0..600 {
         second.extend([or(), leaf.clone()]);
     }
     let place = file(1, &second).len();
     second.push(and());
     assert_eq!(test(&file(1, &second), &[0]), Err(refused(17, 3, place)));
-    let first = vec![or(); 70];
+    let first = vec![or(); 700];
     assert_eq!(
         test(&file(1, &first), &[0]),
-        Err(refused(17, 3, 8 + 64 * 3))
+        Err(refused(17, 3, 8 + 600 * 3))
     );
     // A wrong length comes first.
-    let mut wrong = vec![or(); 64];
+    let mut wrong = vec![or(); 600];
     wrong.push(field(0x31, &[0]));
-    assert_eq!(test(&file(1, &wrong), &[0]), Err(refused(6, 3, 8 + 64 * 3)));
+    let expected = Err(refused(6, 3, 8 + 600 * 3));
+    assert_eq!(test(&file(1, &wrong), &[0]), expected);
 }
 
 #[test]
 fn levels_are_counted_downwards_not_in_all() {
-    // Far more than 64 and/ors, none deeper than 8 levels.
+    // Far more than 600 and/ors, none deeper than 10 levels.
     fn tree(levels: usize, fields: &mut Vec<Vec<u8>>) {
         if levels == 0 {
             fields.push(at_most(&[0, 0]));
@@ -333,6 +334,6 @@ fn levels_are_counted_downwards_not_in_all() {
         }
     }
     let mut fields = Vec::new();
-    tree(8, &mut fields);
+    tree(10, &mut fields);
     assert_eq!(test(&file(1, &fields), &[0]), Ok(true));
 }

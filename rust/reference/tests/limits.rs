@@ -214,7 +214,7 @@ fn a_33rd_open_strengthen() {
         // What is left open: the last branch and those that follow.
         rows.extend(vec![close(1); 1 + 32 * (2 - closes)]);
         let written = formula(&a, &b, &file(1, &rows));
-        // The formula has at most 64 levels, so it can be tested.
+        // The formula has 64 levels at most, so it can be tested.
         assert_eq!(test(&written, &[0]), Ok(false));
     }
 }

@@ -163,7 +163,7 @@ fn what_is_tested_before_the_count_of_rows_has_no_row() {
         last_inside(2, &path, &[scale(0, 1), vec![0x20, 0, 16, 0]], tree);
         last_inside(2, &path, &[vec![0x80, 0]], tree);
         last_inside(2, &path, &[vec![0xFF, 0, 2, 7]], tree);
-        for tag in [0x00, 0x03, 0x16, 0x31, 0x7F] {
+        for tag in [0x00, 0x03, 0x17, 0x31, 0x7F] {
             last_inside(3, &path, &[field(tag, &[0])], tree);
         }
         // A header field; a claim that is misplaced, of the right length or not.
@@ -174,7 +174,7 @@ fn what_is_tested_before_the_count_of_rows_has_no_row() {
         let twice = [scale(0, 1), claimed.clone(), claimed.clone()];
         last_inside(4, &path, &twice, tree);
         // The length of a row and of a claim.
-        for tag in 0x10..=0x15 {
+        for tag in 0x10..=0x16 {
             last_inside(6, &path, &[field(tag, &[])], tree);
         }
         let short = field(0x20, &claimed[3..18]);
@@ -444,8 +444,8 @@ fn operations_that_check_no_proof_have_no_place_in_the_tree() {
     assert_eq!(show_part(&a, &b, 4).0, refused(10, 1, 0));
     let formula = file(1, &[or(), at_most(&[1, 0]), divides(1, &[1, 0])]);
     assert_eq!(test(&formula, &[0]), Err(refused(12, 3, 22)));
-    let deep = file(1, &vec![or(); 65]);
-    assert_eq!(test(&deep, &[0]), Err(refused(17, 3, 8 + 64 * 3)));
+    let deep = file(1, &vec![or(); 601]);
+    assert_eq!(test(&deep, &[0]), Err(refused(17, 3, 8 + 600 * 3)));
     let whole = file(1, &[at_most(&[1, 0])]);
     assert_eq!(reference::test_formula(&whole, &[0]).answer, ACCEPTED);
 }

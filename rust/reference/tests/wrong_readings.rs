@@ -1,5 +1,5 @@
 //! The paper's five plausible but wrong readings, and those of reduced stride
-//! formulas; each test fails for a checker with that fault. (But for one: since
+//! formulas and of roundings; each test fails for a checker with that fault. (But for one: since
 //! stride formulas are reduced, constants that only A has are gone from them
 //! whether a checker drops them or not.)
 
@@ -153,7 +153,7 @@ fn an_unknown_tag_below_0x80_is_not_passed_over() {
     let formula = formula(&a, &b, &proof);
     let unknown = |tag| field(tag, &[]);
     for tag in [
-        0x00, 0x05, 0x06, 0x0F, 0x16, 0x17, 0x1F, 0x21, 0x30, 0x36, 0x7F,
+        0x00, 0x05, 0x06, 0x0F, 0x17, 0x18, 0x1F, 0x21, 0x30, 0x36, 0x7F,
     ] {
         let with = |bytes: &[u8]| [bytes, &unknown(tag)].concat();
         assert_eq!(answer(&with(&a), &b, &proof), refused(3, 1, 15));
@@ -162,5 +162,127 @@ fn an_unknown_tag_below_0x80_is_not_passed_over() {
         assert_eq!(test(&with(&formula), &[0]), Err(refused(3, 3, 19)));
         assert_eq!(read(&with(&a)).answer, refused(3, 1, 15));
         assert_eq!(show_part(&a, &with(&b), 0).0, refused(3, 2, 15));
+    }
+}
+
+/// A, B and the rows up to a rounding by 5 and 3, as in section 6.1 of the source; each branch starts with line 6.
+fn rounded(branch: impl Fn(i32) -> Vec<u8>) -> [Vec<u8>; 3] {
+    let rows = [combine(0, 3, 1, 1), combine(1, 2, 1, 1), round(4, 5, 3)];
+    let branches = [3, 0, 1, 2].map(branch);
+    [
+        file(3, &[le(&[5, -1, 0, -1]), le(&[-5, 1, 0, 0])]),
+        file(3, &[le(&[0, -1, 5, 1]), le(&[0, 1, -5, -2])]),
+        file(3, &[rows.concat(), branches.concat()]),
+    ]
+}
+
+/// What the check of that stage writes.
+fn rounded_formula() -> Vec<u8> {
+    let [a, b, proof] = rounded(|_| [combine(6, 5, 1, 1), close(7)].concat());
+    formula(&a, &b, &proof)
+}
+
+/// Ij and Ej of that stage.
+fn closed(j: i32) -> Vec<u8> {
+    at_most(&[0, 0, 0, j - 1])
+}
+
+fn divided(j: i32) -> Vec<u8> {
+    divides(5, &[0, 4, 0, (j - 1).rem_euclid(5)])
+}
+
+/// The formula of a rounding by 3, given Ij and Ej.
+fn joined(i: impl Fn(i32) -> Vec<u8>, e: impl Fn(i32) -> Vec<u8>) -> Vec<u8> {
+    let pair = |j| [and(), e(j), i(j)].concat();
+    file(3, &[or(), i(3), or(), pair(0), or(), pair(1), pair(2)])
+}
+
+#[test]
+fn a_rounding_is_nested_to_the_right_with_the_last_amount_first() {
+    let written = rounded_formula();
+    assert_eq!(written, joined(closed, divided));
+    let pair = |j| [and(), divided(j), closed(j)].concat();
+    let last_first = [or(), closed(3)].concat();
+    for wrong in [
+        // To the left.
+        [vec![or(); 3].concat(), closed(3), pair(0), pair(1), pair(2)].concat(),
+        // In the order 0 to k.
+        [or(), pair(0), or(), pair(1), or(), pair(2), closed(3)].concat(),
+        // An "or" before the last pair too, or none between the pairs.
+        [
+            &last_first[..],
+            &[or(), pair(0), or(), pair(1), or(), pair(2)].concat(),
+        ]
+        .concat(),
+        [&last_first[..], &[pair(0), pair(1), pair(2)].concat()].concat(),
+    ] {
+        assert_ne!(written, file(3, &[wrong]));
+    }
+}
+
+#[test]
+fn a_pair_of_a_rounding_has_its_stride_part_first_and_of_its_own_amount() {
+    let written = rounded_formula();
+    // I before E; E of tA for all; E of t; one tA for all; tA raised by 1 in the first.
+    let swapped = |j| [and(), closed(j), divided(j)].concat();
+    let other = [
+        or(),
+        closed(3),
+        or(),
+        swapped(0),
+        or(),
+        swapped(1),
+        swapped(2),
+    ];
+    assert_ne!(written, file(3, &other));
+    assert_ne!(written, joined(closed, |_| divided(0)));
+    assert_ne!(
+        written,
+        joined(closed, |j| divides(5, &[0, 0, 0, (j + 2) % 5]))
+    );
+    assert_ne!(written, joined(closed, |j| divides(5, &[5, -1, 0, j - 1])));
+    assert_ne!(written, joined(|_| closed(0), divided));
+    assert_ne!(
+        written,
+        joined(|j| closed(if j == 3 { 1 } else { j }), divided)
+    );
+}
+
+#[test]
+fn the_branches_of_a_rounding_start_with_t_raised_by_k() {
+    // Each branch states its line in some reading.
+    let reading = |t: fn(i32) -> i32, partial: fn(i32) -> i32| {
+        let [a, b, proof] = rounded(|j| {
+            let stated = claim(&[5, 0, -5, t(j) - 3], &[5, -1, 0, partial(j) - 1]);
+            [scale(6, 1), stated, combine(6, 5, 1, 1), close(8)].concat()
+        });
+        answer(&a, &b, &proof).number
+    };
+    assert_eq!(reading(|_| 3, |j| j), 0);
+    // t+j for t+k; one tA for all; raised by 1 in the first; from 0 to k in file order.
+    assert_eq!(reading(|j| j, |j| j), 14);
+    assert_eq!(reading(|_| 3, |_| 3), 14);
+    assert_eq!(reading(|_| 3, |_| 0), 14);
+    assert_eq!(reading(|_| 3, |j| if j == 3 { 1 } else { j }), 14);
+    assert_eq!(reading(|_| 1, |j| j), 14);
+    assert_eq!(reading(|_| 3, |j| (j + 1) % 4), 14);
+}
+
+#[test]
+fn a_rounding_goes_up_to_16_and_to_the_multiple_itself() {
+    // 20 divides d + 17, and nothing before.
+    let a = file(1, &[le(&[20, 3]), eq(&[0, 1])]);
+    let b = file(1, &[]);
+    for k in [16, 17] {
+        let rows = [vec![round(0, 20, k)], vec![close(1); usize::from(k) + 1]].concat();
+        let expected = if k == 16 { ACCEPTED } else { refused(12, 3, 8) };
+        assert_eq!(answer(&a, &b, &file(1, &rows)), expected);
+    }
+    // 20 divides d + 5: by 5 it stands, by 6 it does not.
+    let a = file(1, &[le(&[20, 15]), eq(&[0, 1])]);
+    for k in [4, 5, 6] {
+        let rows = [vec![round(0, 20, k)], vec![close(1); usize::from(k) + 1]].concat();
+        let expected = if k < 6 { ACCEPTED } else { refused(15, 3, 8) };
+        assert_eq!(answer(&a, &b, &file(1, &rows)), expected);
     }
 }

@@ -97,6 +97,18 @@ impl Case {
         }
     }
 
+    /// The length of the longest file, that of a formula which a check writes
+    /// or finds too long among them.
+    pub fn largest_file(&self) -> usize {
+        let Outcome { answer, result } = self.outcome();
+        let made = match (self, result) {
+            (Case::Check { .. }, Output::Bytes(bytes)) => bytes.len(),
+            (Case::Check { .. }, _) if (answer.number, answer.file) == (1, 4) => answer.place,
+            _ => 0,
+        };
+        made.max(self.longest_file())
+    }
+
     /// Calls the reference.
     pub fn outcome(&self) -> Outcome {
         let (answer, result) = match self {

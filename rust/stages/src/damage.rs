@@ -5,9 +5,9 @@ use crate::rng::Rng;
 use std::ops::Range;
 
 /// Every tag below 0x80 that some kind of file has, and some that none has.
-const TAGS: [u8; 24] = [
-    0x01, 0x02, 0x03, 0x04, 0x10, 0x11, 0x12, 0x13, 0x14, 0x15, 0x20, 0x31, 0x32, 0x33, 0x34, 0x35,
-    0x00, 0x05, 0x06, 0x0F, 0x16, 0x21, 0x36, 0x7F,
+const TAGS: [u8; 25] = [
+    0x01, 0x02, 0x03, 0x04, 0x10, 0x11, 0x12, 0x13, 0x14, 0x15, 0x16, 0x20, 0x31, 0x32, 0x33, 0x34,
+    0x35, 0x00, 0x05, 0x06, 0x0F, 0x17, 0x21, 0x36, 0x7F,
 ];
 
 /// Where the whole fields at the start of a file stand.
@@ -38,6 +38,7 @@ pub fn random_field(rng: &mut Rng, k: usize) -> Vec<u8> {
         0x10 => 6,
         0x11 => 4,
         0x12 | 0x15 => 3,
+        0x16 => 5,
         0x20 => 8 * (k + 1),
         0x33 | 0x34 => 4 * (k + 1),
         0x35 => 4 + 4 * (k + 1),
@@ -54,11 +55,11 @@ pub fn random_field(rng: &mut Rng, k: usize) -> Vec<u8> {
         // Mostly the edition, a K, line numbers that are there.
         0x01 if rng.chance(3, 4) => contents.fill(1),
         0x02 if rng.chance(3, 4) => contents.fill(k as u8),
-        0x10..=0x15 if rng.chance(7, 8) => {
+        0x10..=0x16 if rng.chance(7, 8) => {
             for (place, byte) in contents.iter_mut().enumerate() {
                 let number = rng.below(5) as u8;
                 *byte = match (tag, place) {
-                    (0x10 | 0x11, 2 | 4) | (0x12 | 0x15, 1) => 0,
+                    (0x10 | 0x11, 2 | 4) | (0x12 | 0x15, 1) | (0x16, 1 | 3) => 0,
                     _ => number,
                 };
             }

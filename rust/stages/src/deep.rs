@@ -4,15 +4,17 @@
 use crate::build::*;
 use crate::directed::{check, Aimed};
 use crate::rng::Rng;
+use crate::rounding::random_by;
 
 /// The refusals that a field or the end can meet inside any branch.
 const SORTS: [u8; 13] = [2, 3, 4, 6, 10, 11, 12, 13, 14, 15, 16, 17, 20];
 
-/// A table as far as it is made. Line 0 is "form ≤ 0", with a constant, and
-/// line 1 closes any branch.
+/// A table as far as it is made. Line 0 is "form ≤ 0", with a constant, and may
+/// be rounded by the stride and any amount; line 1 closes any branch.
 struct Maker {
     k: usize,
     form: Vec<i16>,
+    stride: u16,
     /// Whether line 0 is of A.
     own: bool,
     /// Whether line 1 is "1 = 0", not "1 ≤ 0".
@@ -26,11 +28,11 @@ struct Maker {
 /// for, over at most so many constants.
 pub fn deep(rng: &mut Rng, constants: usize) -> Aimed {
     let k = 1 + rng.below(constants);
-    let mut form: Vec<i16> = (0..=k).map(|_| rng.within(-9, 9) as i16).collect();
-    form[0] = *rng.pick(&[-3, -1, 1, 2, 7]);
+    let (g, form) = roundable(rng, k);
     let mut maker = Maker {
         k,
         form,
+        stride: g,
         own: rng.chance(1, 2),
         equality: rng.chance(1, 2),
         lines: 2,
@@ -58,6 +60,16 @@ pub fn deep(rng: &mut Rng, constants: usize) -> Aimed {
     let (a, b) = maker.bundles(rng);
     let proof = noted(rng, k as u8, &maker.fields, number == 20);
     (number, check(a, b, proof))
+}
+
+/// A stride, and a form over K constants, the first of them in it, that may be
+/// rounded by that stride and any amount from 1 to 16.
+pub fn roundable(rng: &mut Rng, k: usize) -> (u16, Vec<i16>) {
+    let g = rng.within(17, 60);
+    let mut form: Vec<i16> = (0..=k).map(|_| (g * rng.within(-9, 9)) as i16).collect();
+    form[0] = (g * *rng.pick(&[-3, -1, 1, 2, 7])) as i16;
+    form[k] += rng.within(1, g - 16) as i16;
+    (g as u16, form)
 }
 
 /// A file of the fields, half of the time with notes in front of many of them,
@@ -141,8 +153,8 @@ impl Maker {
     /// closed one after the other.
     fn whole_branch(&mut self, rng: &mut Rng, depth: usize) {
         if depth > 0 && rng.chance(1, 4) {
-            self.fields.push(strengthen(0));
-            for _ in 0..3 {
+            let by = rng.below(4);
+            for _ in 0..self.step(by) {
                 self.whole_branch(rng, depth - 1);
             }
         } else {
@@ -151,14 +163,26 @@ impl Maker {
         }
     }
 
-    /// A strengthen, and on to a random branch of it. `rich`: with rows in
-    /// front, and steps in the branches that are closed on the way.
+    /// A step on line 0: a rounding by so much, or a strengthen if that is 0.
+    /// Gives the number of its branches.
+    fn step(&mut self, by: usize) -> usize {
+        if by == 0 {
+            self.fields.push(strengthen(0));
+            return 3;
+        }
+        self.fields.push(rounding(0, self.stride, by as u16));
+        by + 1
+    }
+
+    /// A step, and on to a random branch of it. `rich`: with rows in front,
+    /// and steps in the branches that are closed on the way.
     fn go_in(&mut self, rng: &mut Rng, rich: bool) {
         if rich {
             self.some_rows(rng);
         }
-        self.fields.push(strengthen(0));
-        for _ in 0..rng.below(3) {
+        let by = if rng.chance(1, 2) { 0 } else { random_by(rng) };
+        let branches = self.step(by);
+        for _ in 0..rng.below(branches) {
             self.whole_branch(rng, if rich { 2 } else { 0 });
         }
         self.lines += 1;
@@ -169,6 +193,7 @@ impl Maker {
         let k = self.k as u8;
         let missing = (self.lines + rng.below(256 - self.lines)) as u8;
         let either = rng.chance(1, 2);
+        let by = random_by(rng) as u16;
         let last = match number {
             2 => match rng.below(4) {
                 0 => vec![0x80 | rng.byte(), 0],
@@ -181,7 +206,7 @@ impl Maker {
                     claim
                 }
             },
-            3 => field(*rng.pick(&[0x00, 0x03, 0x05, 0x16, 0x21, 0x31, 0x7F]), &[0]),
+            3 => field(*rng.pick(&[0x00, 0x03, 0x05, 0x17, 0x21, 0x31, 0x7F]), &[0]),
             4 => match rng.below(4) {
                 0 => field(0x01, &[1]),
                 1 => field(0x02, &[k]),
@@ -197,27 +222,36 @@ impl Maker {
                     self.stated(1, 0)
                 }
             },
-            6 if either => field(*rng.pick(&[0x10, 0x11, 0x12, 0x13, 0x14, 0x15]), &[0, 0]),
+            6 if either => field(
+                *rng.pick(&[0x10, 0x11, 0x12, 0x13, 0x14, 0x15, 0x16]),
+                &[0, 0],
+            ),
             6 => {
                 self.scaled(2);
                 field(0x20, &self.stated(2, 0)[4..])
             }
-            10 => match rng.below(6) {
+            10 => match rng.below(7) {
                 0 => combine(0, missing, 0, 1),
                 1 => reduce(missing, 0, 1),
                 2 => scale(missing, 0),
                 3 => strengthen(missing),
                 4 => close(missing),
+                5 => rounding(missing, 0, 0),
                 _ => stride(missing, 0),
             },
-            11 => match rng.below(4) {
+            11 => match rng.below(5) {
                 0 => stride(0, 1),
                 1 if self.equality => strengthen(1),
                 2 if self.equality => combine(0, 1, 0, 1),
+                3 if self.equality => rounding(1, 1, 0),
                 _ => reduce(1, 0, 0),
             },
-            12 if either => scale(0, 0),
-            12 => combine(0, 0, 1, 0),
+            12 => match rng.below(4) {
+                0 => scale(0, 0),
+                1 => combine(0, 0, 1, 0),
+                2 => rounding(0, rng.below(2) as u16, by),
+                _ => rounding(0, self.stride, *rng.pick(&[0, 17, 256, 65_535])),
+            },
             13 => {
                 let made = self.lines as u8;
                 self.scaled(65_535);
@@ -231,18 +265,21 @@ impl Maker {
                 self.scaled(3);
                 self.stated(3, *rng.pick(&[-1, 1, 256]))
             }
-            15 => close(0),
+            15 if either => close(0),
+            // No number of line 0 is as large as that prime.
+            15 => rounding(0, 65_521, by),
             16 => {
                 while self.lines < 128 {
                     self.scaled(1);
                 }
-                if either {
-                    scale(0, 1)
-                } else {
-                    strengthen(0)
+                match rng.below(3) {
+                    0 => scale(0, 1),
+                    1 => strengthen(0),
+                    _ => rounding(0, self.stride, by),
                 }
             }
-            17 => strengthen(0),
+            17 if either => strengthen(0),
+            17 => rounding(0, self.stride, by),
             // 20: nothing more.
             _ => return,
         };

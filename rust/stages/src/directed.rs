@@ -4,6 +4,7 @@
 use crate::build::*;
 use crate::case::{Case, Operation};
 use crate::rng::Rng;
+use crate::rounding::{damaged, exact, rounded};
 use crate::stride::{closes, near_miss};
 
 /// A case and the number that it is made to be answered with.
@@ -141,7 +142,7 @@ fn checks(rng: &mut Rng) -> Vec<Aimed> {
     let other = file(other_k, &[]);
     cases.push((9, check(base.a.clone(), other, proof.clone())));
 
-    let unknown = *rng.pick(&[0x00, 0x03, 0x04, 0x05, 0x16, 0x17, 0x21, 0x31, 0x35, 0x7F]);
+    let unknown = *rng.pick(&[0x00, 0x03, 0x04, 0x05, 0x17, 0x21, 0x31, 0x35, 0x7F]);
     let line = 4 + rng.below(252) as u8;
     let mut rows = |number: u8, fields: &[Vec<u8>]| {
         cases.push((number, base.check(fields)));
@@ -167,12 +168,23 @@ fn checks(rng: &mut Rng) -> Vec<Aimed> {
     rows(4, &[scale(0, 2), claimed.clone(), note(), claimed.clone()]);
     rows(4, &[strengthen(0), base.claim((1, 1), (1, 1))]);
     rows(4, &[scale(0, 2), strengthen(4), claimed.clone()]);
+    let rounds = [scale(2, 5), combine(4, 4, 1, 2), combine(0, 5, 15, 1)];
+    // Line 6 is 15 ≤ 0 with 15x, which 4 rounds by 1.
+    rows(
+        4,
+        &[
+            rounds.concat(),
+            rounding(6, 4, 1),
+            base.claim((0, 16), (15, 1)),
+        ],
+    );
     rows(6, &[field(0x10, &[0, 2, 0, 1, 0])]);
     rows(6, &[field(0x11, &[0, 1, 0])]);
     rows(6, &[field(0x12, &[0, 1])]);
     rows(6, &[field(0x13, &[])]);
     rows(6, &[field(0x14, &[0, 0])]);
     rows(6, &[field(0x15, &[1, 0, 2, 0])]);
+    rows(6, &[field(0x16, &[2, 0, 3, 1])]);
     rows(
         6,
         &[scale(0, 2), field(0x20, &claimed[3..claimed.len() - 4])],
@@ -186,12 +198,14 @@ fn checks(rng: &mut Rng) -> Vec<Aimed> {
     rows(10, &[strengthen(line)]);
     rows(10, &[close(line)]);
     rows(10, &[stride(line, 0)]);
+    rows(10, &[rounding(line, 0, 0)]);
     rows(10, &[strengthen(0), scale(0, 1), stride(1, 2), scale(5, 1)]);
     rows(11, &[combine(1, 0, 1, 1)]);
     rows(11, &[combine(0, 3, 0, 1)]);
     rows(11, &[reduce(1, 2, 0)]);
     rows(11, &[strengthen(3)]);
     rows(11, &[stride(0, 1)]);
+    rows(11, &[rounding(3, 0, 17)]);
     rows(11, &[strengthen(0), stride(1, 2), strengthen(4)]);
     rows(12, &[combine(0, 2, 0, 1)]);
     rows(12, &[combine(0, 2, 1, 0)]);
@@ -199,10 +213,14 @@ fn checks(rng: &mut Rng) -> Vec<Aimed> {
     rows(12, &[scale(3, 0)]);
     rows(12, &[stride(3, 0)]);
     rows(12, &[stride(3, 1)]);
+    rows(12, &[rounding(0, 1, 1)]);
+    rows(12, &[rounding(0, 2, 0)]);
+    rows(12, &[rounding(0, 2, 17)]);
     rows(15, &[close(0)]);
     rows(15, &[combine(0, 2, 2, 1), close(4)]);
     rows(15, &[stride(1, 3)]);
     rows(15, &[reduce(1, 3, 1), stride(4, 5)]);
+    rows(15, &[rounding(0, 2, 1)]);
     rows(17, &vec![strengthen(0); 33]);
     rows(16, &[vec![scale(0, 1); 124].concat(), scale(3, 1)]);
     rows(16, &[vec![scale(0, 1); 124].concat(), strengthen(2)]);
@@ -245,6 +263,14 @@ fn checks(rng: &mut Rng) -> Vec<Aimed> {
     for _ in 0..2 {
         cases.push((15, near_miss(rng).case()));
     }
+    // Roundings, what can be wrong with them, and a formula that is too long.
+    for _ in 0..6 {
+        cases.push((0, rounded(rng, 4).case()));
+    }
+    for _ in 0..12 {
+        cases.push(damaged(rng, 4));
+    }
+    cases.push((1, exact(rng, 65_539)));
     // The long one: 341 strengthens and 683 closes after one more row.
     let mut rows = vec![scale(0, 1)];
     rows.extend(bushy(341, 1));
@@ -404,7 +430,7 @@ fn tests(rng: &mut Rng) -> Vec<Aimed> {
     for g in [1, 0, -1, -2, i32::MIN] {
         file_case(12, &[or(), leaf.clone(), divides(g, &base.form(1, 0))]);
     }
-    file_case(17, &[vec![or(); 40].concat(), vec![and(); 25].concat()]);
+    file_case(17, &[vec![or(); 300].concat(), vec![and(); 301].concat()]);
     push(2, field(0x01, &[1]), &values);
     push(2, Vec::new(), &values);
     push(4, leaf.clone(), &values);

@@ -2,20 +2,27 @@
 
 use crate::build::*;
 use crate::case::{Case, Operation};
+use crate::deep::roundable;
 use crate::directed::{check, Aimed};
 use crate::other;
 use crate::rng::Rng;
+use crate::rounding::{exact, random_by, rounded};
 
 /// A case of an operation at one of its limits, with the number that it is made to be answered with.
 pub fn edge(rng: &mut Rng, operation: Operation) -> Aimed {
     let over = rng.chance(1, 2);
     match operation {
-        Operation::Check => match rng.below(6) {
-            0 => rows(rng, over),
-            1 => lines(rng, over),
-            2 => open(rng, over),
-            3 => numbers(rng, over),
-            4 => bundles(rng, over),
+        Operation::Check => match rng.below(9) {
+            0 | 1 => rows(rng, over),
+            2 => lines(rng, over),
+            3 => open(rng, over),
+            4 => numbers(rng, over),
+            5 => bundles(rng, over),
+            6 => rounds(rng, over),
+            7 => (
+                u8::from(over),
+                exact(rng, if over { 65_539 } else { 65_535 }),
+            ),
             _ => lengths(rng, over),
         },
         Operation::Read => {
@@ -71,72 +78,122 @@ fn filled(rng: &mut Rng, fields: Vec<Vec<u8>>, length: usize) -> Vec<u8> {
     file
 }
 
-/// K constants, "x ≤ 0" for some form x, and "1 = 0" or "1 ≤ 0": line 0 may be strengthened, line 1 closes any branch.
-/// The two stand in A and B by chance; K and whether line 1 is an equality are given too.
-fn ground(rng: &mut Rng) -> (u8, bool, Vec<u8>, Vec<u8>) {
-    let k = 1 + rng.below(16) as u8;
-    let equality = rng.chance(1, 2);
-    let form: Vec<i16> = (0..=k).map(|_| rng.within(-9, 9) as i16).collect();
-    let mut one = vec![0; usize::from(k) + 1];
-    one[usize::from(k)] = 1;
-    let (first, second) = (constraint(false, &form), constraint(equality, &one));
-    let (a, b) = match rng.below(3) {
-        0 => (file(k, &[first, second]), file(k, &[])),
-        1 => (file(k, &[first]), file(k, &[second])),
-        _ => (file(k, &[]), file(k, &[first, second])),
-    };
-    (k, equality, a, b)
+/// K constants, "x ≤ 0" for some form x, and "1 = 0" or "1 ≤ 0": line 0 may be strengthened, or rounded by its stride and
+/// any amount, and line 1 closes any branch. The two stand in A and B by chance.
+struct Ground {
+    k: u8,
+    stride: u16,
+    /// Whether line 1 is an equality.
+    equality: bool,
+    a: Vec<u8>,
+    b: Vec<u8>,
+    /// The rows so far, and the bytes of the formula's file that come of them.
+    fields: Vec<Vec<u8>>,
+    bytes: usize,
 }
 
-/// A row that closes any branch over `ground`.
-fn end(rng: &mut Rng, equality: bool) -> Vec<u8> {
-    if equality && rng.chance(1, 2) {
-        stride(1, rng.within(2, 65_535) as u16)
-    } else {
-        close(1)
+impl Ground {
+    fn new(rng: &mut Rng) -> Ground {
+        let k = 1 + rng.below(16) as u8;
+        let equality = rng.chance(1, 2);
+        let (stride, form) = roundable(rng, usize::from(k));
+        let mut one = vec![0; usize::from(k) + 1];
+        one[usize::from(k)] = 1;
+        let (first, second) = (constraint(false, &form), constraint(equality, &one));
+        let (a, b) = match rng.below(3) {
+            0 => (file(k, &[first, second]), file(k, &[])),
+            1 => (file(k, &[first]), file(k, &[second])),
+            _ => (file(k, &[]), file(k, &[first, second])),
+        };
+        Ground {
+            k,
+            stride,
+            equality,
+            a,
+            b,
+            fields: Vec::new(),
+            bytes: 8,
+        }
+    }
+
+    /// The bytes of a form in a formula, with its field's tag and length.
+    fn form(&self) -> usize {
+        3 + 4 * (usize::from(self.k) + 1)
+    }
+
+    /// A row that closes any branch.
+    fn end(&mut self, rng: &mut Rng) {
+        self.bytes += self.form();
+        self.fields.push(if self.equality && rng.chance(1, 2) {
+            self.bytes += 4;
+            stride(1, rng.within(2, 65_535) as u16)
+        } else {
+            close(1)
+        });
+    }
+
+    /// A step on line 0 with at most so many branches, two at least; gives their number.
+    fn step(&mut self, rng: &mut Rng, most: usize) -> usize {
+        if most >= 3 && rng.chance(1, 2) {
+            self.bytes += 6;
+            self.fields.push(strengthen(0));
+            return 3;
+        }
+        let by = random_by(rng).min(most - 1);
+        self.bytes += by * (6 + 4 + self.form());
+        self.fields.push(rounding(0, self.stride, by as u16));
+        by + 1
+    }
+
+    /// The check of the rows. They are refused with the number, if it is not 0, or else if the formula is too long.
+    fn aimed(self, number: u8) -> Aimed {
+        let number = match number {
+            0 => u8::from(self.bytes > 65_536),
+            _ => number,
+        };
+        let proof = file(self.k, &self.fields);
+        (number, check(self.a, self.b, proof))
     }
 }
 
 /// 1,024 rows or 1,025 in a random tree.
 fn rows(rng: &mut Rng, over: bool) -> Aimed {
-    let (k, equality, a, b) = ground(rng);
-    let strengthens = 230 + rng.below(112);
-    let mut extra = 1_024 + usize::from(over) - (3 * strengthens + 1);
-    let mut left = strengthens;
-    let mut fields = Vec::new();
-    // Each branch still to come: how many strengthens are open there, and how many lines it has.
+    let mut ground = Ground::new(rng);
+    // Rows of steps and of the ends that they add; the others, but for the root's end, make lines.
+    let mut left = 690 + rng.below(334);
+    let mut extra = 1_023 + usize::from(over) - left;
+    // Each branch still to come: how many steps are open there, and how many lines it has.
     let mut branches = vec![(0, 2)];
     while let Some((depth, mut lines)) = branches.pop() {
-        // The last branch takes all rows that are left; there are never more than 335.
+        // The last branch takes all rows that are left, if there is room.
         let last = branches.is_empty() && left == 0;
         while extra > 0 && lines < 100 && (last || rng.chance(2, 5)) {
-            fields.push(scale(rng.below(2) as u8, 1));
+            ground.fields.push(scale(rng.below(2) as u8, 1));
             lines += 1;
             extra -= 1;
         }
         // A branch ends early only if others are left to split.
         let may_end = !branches.is_empty() && rng.chance(1, 4);
         if left > 0 && depth < 32 && !may_end {
-            left -= 1;
-            fields.push(strengthen(0));
-            branches.extend([(depth + 1, lines + 1); 3]);
+            let count = ground.step(rng, left);
+            left -= count;
+            // No step has one branch.
+            if left == 1 {
+                (left, extra) = (0, extra + 1);
+            }
+            branches.extend(vec![(depth + 1, lines + 1); count]);
         } else {
-            fields.push(end(rng, equality));
+            ground.end(rng);
         }
     }
-    let number = match (left, extra, over) {
-        (0, 0, false) => 0,
-        (0, 0, true) => 18,
-        // Room for all of them was not found: a smaller table.
-        _ => 0,
-    };
-    (number, check(a, b, file(k, &fields)))
+    // Where room for all of them was not found it is a smaller table.
+    let full = left == 0 && extra == 0;
+    ground.aimed(if over && full { 18 } else { 0 })
 }
 
-/// 128 lines on a branch or 129, some of them from strengthens.
+/// 128 lines on a branch or 129, some of them from steps.
 fn lines(rng: &mut Rng, over: bool) -> Aimed {
-    let (k, equality, a, b) = ground(rng);
-    let mut fields = Vec::new();
+    let mut ground = Ground::new(rng);
     let mut count = 2;
     let mut depth = 0;
     // Branches that are still to be closed, beside the one at hand.
@@ -144,49 +201,71 @@ fn lines(rng: &mut Rng, over: bool) -> Aimed {
     let goal = 128 + usize::from(over);
     while count < goal {
         if depth < 32 && rng.chance(1, 6) {
-            // First, second or third branch of a new strengthen.
-            let branch = rng.below(3);
-            fields.push(strengthen(0));
-            for _ in 0..branch {
-                fields.push(end(rng, equality));
-            }
-            waiting += 2 - branch;
+            waiting += go_in(rng, &mut ground);
             depth += 1;
         } else {
             let line = rng.below(2) as u8;
-            fields.push(match rng.below(3) {
-                0 if !equality => combine(0, 1, 1, 1),
-                1 if equality => reduce(line, 1, 1),
+            let row = match rng.below(3) {
+                0 if !ground.equality => combine(0, 1, 1, 1),
+                1 if ground.equality => reduce(line, 1, 1),
                 _ => scale(line, 1),
-            });
+            };
+            ground.fields.push(row);
         }
         count += 1;
     }
     for _ in 0..=waiting {
-        fields.push(end(rng, equality));
+        ground.end(rng);
     }
-    let number = if over { 16 } else { 0 };
-    (number, check(a, b, file(k, &fields)))
+    ground.aimed(if over { 16 } else { 0 })
 }
 
-/// 32 open strengthens or 33, each in a random branch of the one before.
+/// A new step and on to a random branch of it; gives how many come after that one.
+fn go_in(rng: &mut Rng, ground: &mut Ground) -> usize {
+    let count = ground.step(rng, 17);
+    let branch = rng.below(count);
+    for _ in 0..branch {
+        ground.end(rng);
+    }
+    count - 1 - branch
+}
+
+/// 32 open steps or 33, each in a random branch of the one before.
 fn open(rng: &mut Rng, over: bool) -> Aimed {
-    let (k, equality, a, b) = ground(rng);
-    let mut fields = Vec::new();
+    let mut ground = Ground::new(rng);
     let mut waiting = 0;
     for _ in 0..32 + usize::from(over) {
-        fields.push(strengthen(0));
-        let branch = rng.below(3);
-        for _ in 0..branch {
-            fields.push(end(rng, equality));
-        }
-        waiting += 2 - branch;
+        waiting += go_in(rng, &mut ground);
     }
     for _ in 0..=waiting {
-        fields.push(end(rng, equality));
+        ground.end(rng);
     }
-    let number = if over { 17 } else { 0 };
-    (number, check(a, b, file(k, &fields)))
+    ground.aimed(if over { 17 } else { 0 })
+}
+
+/// A rounding just as far as it may go, or one further.
+fn rounds(rng: &mut Rng, over: bool) -> Aimed {
+    let table = loop {
+        let table = rounded(rng, 16);
+        // A rounding by 17 would be refused for its k.
+        if table.k < 16 {
+            break table;
+        }
+    };
+    let least = (-table.t[table.constants]).rem_euclid(i32::from(table.g));
+    let k = (least as u16).min(16);
+    let number = match (over, least) {
+        (false, _) => 20,
+        (true, ..=15) => 15,
+        (true, _) => 12,
+    };
+    let fields = [
+        combine(0, 2, 1, 1),
+        combine(1, 3, 1, 1),
+        rounding(4, table.g, k + u16::from(over)),
+    ];
+    let proof = file(table.constants as u8, &fields);
+    (number, check(table.a, table.b, proof))
 }
 
 /// A number of t or tA at an end of the range, or past it, in a random place and by a random row.
@@ -301,14 +380,15 @@ fn bundles(rng: &mut Rng, over: bool) -> Aimed {
 
 /// A proof of 65,536 bytes or 65,537, notes everywhere.
 fn lengths(rng: &mut Rng, over: bool) -> Aimed {
-    let (k, equality, a, b) = ground(rng);
-    let mut fields = vec![field(0x01, &[1]), field(0x02, &[k])];
+    let mut ground = Ground::new(rng);
+    ground.fields = vec![field(0x01, &[1]), field(0x02, &[ground.k])];
     for _ in 0..rng.below(40) {
-        fields.push(scale(rng.below(2) as u8, 1 + rng.below(2) as u16));
+        let row = scale(rng.below(2) as u8, 1 + rng.below(2) as u16);
+        ground.fields.push(row);
     }
-    fields.push(end(rng, equality));
-    let proof = filled(rng, fields, 65_536 + usize::from(over));
-    (u8::from(over), check(a, b, proof))
+    ground.end(rng);
+    let proof = filled(rng, ground.fields, 65_536 + usize::from(over));
+    (u8::from(over), check(ground.a, ground.b, proof))
 }
 
 /// 32 kinds or 33, outputs as needed or one byte short.
@@ -364,13 +444,13 @@ fn leaf(rng: &mut Rng, k: usize) -> Vec<u8> {
     }
 }
 
-/// 64 levels of and/or or 65, down a random path.
+/// 600 levels of and/or or 601, down a random path.
 fn levels(rng: &mut Rng, over: bool) -> Aimed {
     let k = 1 + rng.below(16);
     let mut fields = Vec::new();
     // Second parts that are still to come.
     let mut waiting = 0;
-    for _ in 0..64 + usize::from(over) {
+    for _ in 0..600 + usize::from(over) {
         fields.push(if rng.chance(1, 2) { or() } else { and() });
         if rng.chance(1, 2) {
             fields.push(leaf(rng, k));
@@ -396,7 +476,7 @@ fn long_formula(rng: &mut Rng, over: bool) -> Aimed {
     let mut left = rng.below(700);
     let mut parts = vec![0];
     while let Some(level) = parts.pop() {
-        if left > 0 && level < 64 && (parts.is_empty() || rng.chance(2, 3)) {
+        if left > 0 && level < 600 && (parts.is_empty() || rng.chance(2, 3)) {
             left -= 1;
             fields.push(if rng.chance(1, 2) { or() } else { and() });
             parts.extend([level + 1; 2]);

@@ -14,9 +14,11 @@ pub mod limit;
 mod list;
 pub mod other;
 pub mod rng;
+pub mod rounding;
 mod stream;
 pub mod stride;
 pub mod table;
+pub mod tie;
 pub mod tree;
 
 pub use case::{Case, Operation, Outcome, Output, OPERATIONS};

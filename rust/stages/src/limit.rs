@@ -5,6 +5,7 @@ use crate::build::*;
 use crate::case::{Case, Operation};
 use crate::directed::{bushy, check, flat_a, Aimed, Base};
 use crate::rng::Rng;
+use crate::rounding::{exact, MOST};
 use crate::table::{closed_table, Size, Table};
 
 /// The cases of one operation with short files.
@@ -41,8 +42,130 @@ fn nested(count: usize, branch: usize) -> Vec<Vec<u8>> {
     rows
 }
 
-fn light_checks(rng: &mut Rng) -> Vec<Aimed> {
+/// "17x + 1 ≤ 0", which may be rounded by 17 and any amount, and "1 = 0".
+fn rounded_a() -> Vec<u8> {
+    file(1, &[constraint(false, &[17, 1]), constraint(true, &[0, 1])])
+}
+
+/// So many steps, strengthens and roundings by at most so much mixed, each in a
+/// random branch of the one before, and all branches closed by line 1.
+fn mixed(rng: &mut Rng, count: usize, most: usize) -> Vec<Vec<u8>> {
+    let mut rows = Vec::new();
+    let mut waiting = 1;
+    for _ in 0..count {
+        let by = rng.below(most + 1);
+        let branches = if by == 0 {
+            rows.push(strengthen(0));
+            3
+        } else {
+            rows.push(rounding(0, 17, by as u16));
+            by + 1
+        };
+        let branch = rng.below(branches);
+        rows.extend(vec![close(1); branch]);
+        waiting += branches - 1 - branch;
+    }
+    rows.extend(vec![close(1); waiting]);
+    rows
+}
+
+/// What a rounding asks for, and how far it may go.
+fn roundings(rng: &mut Rng) -> Vec<Aimed> {
     let mut cases = Vec::new();
+    let over = |rows: Vec<Vec<u8>>| check(rounded_a(), file(1, &[]), file(1, &rows));
+    let whole = |row: Vec<u8>, k: usize| [vec![row], vec![close(1); k + 1]].concat();
+    // k, and g with coefficients that every g divides.
+    for k in [1, 2, 15, 16] {
+        cases.push((0, over(whole(rounding(0, 17, k as u16), k))));
+        for g in [17, 18, 32_767, 32_768, 65_535] {
+            let a = file(1, &[constraint(false, &[0, 1]), constraint(true, &[0, 1])]);
+            let rows = whole(rounding(0, g, k as u16), k);
+            cases.push((0, check(file(1, &[]), a, file(1, &rows))));
+        }
+    }
+    for k in [0, 17, 18, 256, 257, 65_535] {
+        cases.push((12, over(whole(rounding(0, 17, k), 16))));
+    }
+    let odd = file(1, &[constraint(false, &[2, 1]), constraint(true, &[0, 1])]);
+    for (number, g, k) in [(12, 0, 1), (12, 1, 1), (0, 2, 1), (15, 2, 2), (15, 3, 1)] {
+        let proof = file(1, &whole(rounding(0, g, k), usize::from(k)));
+        cases.push((number, check(odd.clone(), file(1, &[]), proof)));
+    }
+    // 17 divides d + k: a rounding by k stands, by one more it does not.
+    for k in 1..=MOST as i16 {
+        let a = file(
+            1,
+            &[constraint(false, &[-34, 17 - k]), constraint(true, &[0, 1])],
+        );
+        let stage = |by: i16| {
+            let rows = whole(rounding(0, 17, by as u16), by as usize);
+            check(a.clone(), file(1, &[]), file(1, &rows))
+        };
+        cases.push((0, stage(k)));
+        cases.push((if k == 16 { 12 } else { 15 }, stage(k + 1)));
+    }
+    // Open steps, mixed.
+    for most in [1, 2, 3] {
+        cases.push((0, over(mixed(rng, 32, most))));
+        cases.push((17, over(mixed(rng, 33, most))));
+    }
+    // The 128th line in each branch, and the 129th.
+    let k = 1 + rng.below(MOST);
+    let row = rounding(0, 17, k as u16);
+    let full = |scales: usize| vec![scale(0, 1); scales];
+    cases.push((0, over([full(125), whole(row.clone(), k)].concat())));
+    cases.push((16, over([full(126), whole(row.clone(), k)].concat())));
+    let branch = rng.below(k + 1);
+    let inside = [full(125), vec![row], vec![close(1); branch], full(1)].concat();
+    cases.push((16, over(inside)));
+    cases
+}
+
+/// A rounding's t + k and tA + k at the end of the range and one past it.
+fn rounded_ranges() -> Vec<Aimed> {
+    let a = file(
+        1,
+        &[constraint(false, &[0, 32_767]), constraint(false, &[0, 1])],
+    );
+    let b = file(
+        1,
+        &[constraint(false, &[0, 1]), constraint(false, &[0, -9])],
+    );
+    let mut cases = Vec::new();
+    for k in [1, 2, 7, 16] {
+        // Line 5 has d at the end of the range less k and some, of A alone.
+        let up_to = |less: u16| {
+            let rest = 65_535 - k - less;
+            vec![combine(0, 1, 65_535, 32_767), combine(4, 1, 1, rest)]
+        };
+        let most = i64::from(i32::MAX) - i64::from(k);
+        let mut stage = |number: u8, rows: Vec<Vec<u8>>, line: u8, d: i64| {
+            // A stride that lets the rounding go so far.
+            let fits = |g: &u16| (-d).rem_euclid(i64::from(*g)) >= i64::from(k);
+            let g = (17..).find(fits).unwrap_or(17);
+            let row = rounding(line, g, k);
+            let ends = vec![close(line + 1); usize::from(k) + 1];
+            let proof = file(1, &[rows, vec![row], ends].concat());
+            cases.push((number, check(a.clone(), b.clone(), proof)));
+        };
+        let one_more = || [up_to(0), vec![combine(5, 1, 1, 1)]].concat();
+        stage(0, up_to(1), 5, most - 1);
+        stage(0, up_to(0), 5, most);
+        stage(13, one_more(), 6, most + 1);
+        // t alone, and tA alone.
+        let t_alone = [up_to(0), vec![combine(5, 2, 1, 1)]].concat();
+        stage(13, t_alone, 6, most + 1);
+        let stands = [up_to(0), vec![combine(5, 3, 1, 1)]].concat();
+        stage(0, stands, 6, most - 9);
+        let partial_alone = [one_more(), vec![combine(6, 3, 1, 1)]].concat();
+        stage(13, partial_alone, 7, most + 1 - 9);
+    }
+    cases
+}
+
+fn light_checks(rng: &mut Rng) -> Vec<Aimed> {
+    let mut cases = roundings(rng);
+    cases.extend(rounded_ranges());
     let flat = |rows: Vec<Vec<u8>>| check(flat_a(), file(1, &[]), file(1, &rows));
     // K.
     for k in [1, 2, 15, 16] {
@@ -225,6 +348,24 @@ fn heavy_checks(rng: &mut Rng) -> Vec<Aimed> {
             },
         ));
     }
+    // The longest formula that is accepted, and longer ones.
+    for (number, bytes, out) in [
+        (0, 65_535, 65_535),
+        (0, 65_535, 65_536),
+        (21, 65_535, 65_534),
+        (21, 65_535, 0),
+        (0, 65_531, 65_531),
+        (1, 65_539, 65_536),
+        (1, 65_539, 65_539),
+        (1, 65_539, 65_538),
+        (1, 65_539, 0),
+        (1, 65_543, 70_000),
+    ] {
+        if let Case::Check { a, b, proof, .. } = exact(rng, bytes) {
+            cases.push((number, Case::Check { a, b, proof, out }));
+        }
+    }
+    cases.extend(many_roundings(rng));
     // File lengths.
     let base = Base::new(rng);
     let proof = file(base.k, &base.closed());
@@ -254,6 +395,60 @@ fn heavy_checks(rng: &mut Rng) -> Vec<Aimed> {
     for _ in 0..6 {
         let Table { a, b, proof, .. } = closed_table(rng, &Size::LARGE);
         cases.push((0, check(a, b, proof)));
+    }
+    cases
+}
+
+/// As many roundings by 16 as may be open, and as many as rows allow.
+fn many_roundings(rng: &mut Rng) -> Vec<Aimed> {
+    let mut cases = Vec::new();
+    let most = MOST as u16;
+    // In the first branch, and in the last.
+    for branch in [0, MOST] {
+        let rows = |count: usize| {
+            let step = [vec![rounding(0, 17, most)], vec![close(1); branch]].concat();
+            let mut rows = vec![step; count].concat();
+            rows.extend(vec![close(1); 1 + count * (MOST - branch)]);
+            rows
+        };
+        for (k, number) in [(1, 0), (12, 0), (13, 1), (16, 1)] {
+            let mut rounds = vec![0; usize::from(k) + 1];
+            let mut ends = rounds.clone();
+            (rounds[usize::from(k)], ends[usize::from(k)]) = (1, 1);
+            let b = file(k, &[constraint(false, &rounds), constraint(true, &ends)]);
+            let stage = |count| check(file(k, &[]), b.clone(), file(k, &rows(count)));
+            cases.extend([(number, stage(32)), (17, stage(33))]);
+        }
+    }
+    for count in [32, 33] {
+        let rows = mixed(rng, count, MOST);
+        let number = if count == 32 { 0 } else { 17 };
+        cases.push((number, check(rounded_a(), file(1, &[]), file(1, &rows))));
+    }
+    // 60 roundings by 16 and 961 closes by stride, and three rows more: too
+    // long by far for 16 constants, and not for 1.
+    let mut rows = vec![scale(0, 1); 3];
+    for _ in 0..30 {
+        rows.extend([rounding(0, 17, most), rounding(0, 17, most)]);
+        rows.extend(vec![stride(1, 7); 31]);
+    }
+    rows.extend(vec![stride(1, 7); 31]);
+    for (k, number, out) in [
+        (1, 0, 65_536),
+        (16, 1, 65_536),
+        (16, 1, 200_000),
+        (16, 1, 0),
+    ] {
+        let mut rounds = vec![0; usize::from(k) + 1];
+        rounds[usize::from(k)] = 1;
+        let lines = [constraint(false, &rounds), constraint(true, &rounds)];
+        let case = Case::Check {
+            a: file(k, &lines),
+            b: file(k, &[]),
+            proof: file(k, &rows),
+            out,
+        };
+        cases.push((number, case));
     }
     cases
 }
@@ -427,18 +622,27 @@ fn light_tests(rng: &mut Rng) -> Vec<Aimed> {
         let number = if g < 2 { 12 } else { 0 };
         push(number, file(1, &[divides(g, &[1, 0])]), vec![65_536]);
     }
-    for levels in [63, 64, 65] {
-        let number = if levels > 64 { 17 } else { 0 };
-        let junction = if rng.chance(1, 2) { or() } else { and() };
-        let second = [
-            [junction.clone(), leaf.clone()].concat().repeat(levels),
-            leaf.clone(),
-        ];
-        push(number, file(1, &second), vec![0]);
-        let first = [junction.repeat(levels), leaf.repeat(levels + 1)];
-        push(number, file(1, &first), vec![1]);
+    for levels in [63, 64, 65, 100] {
+        for formula in nested_both_ways(rng, levels) {
+            push(0, formula, vec![levels as i32 % 2]);
+        }
     }
+    // Without their parts, which would make the file long.
+    push(2, file(1, &[or().repeat(600)]), vec![0]);
+    push(17, file(1, &[or().repeat(601)]), vec![0]);
     cases
+}
+
+/// Formulas of so many levels, in the second parts and in the first.
+fn nested_both_ways(rng: &mut Rng, levels: usize) -> [Vec<u8>; 2] {
+    let leaf = comparison(false, &[1, 0]);
+    let junction = if rng.chance(1, 2) { or() } else { and() };
+    let second = [
+        [junction.clone(), leaf.clone()].concat().repeat(levels),
+        leaf.clone(),
+    ];
+    let first = [junction.repeat(levels), leaf.repeat(levels + 1)];
+    [file(1, &second), file(1, &first)]
 }
 
 fn heavy_tests(rng: &mut Rng) -> Vec<Aimed> {
@@ -452,6 +656,12 @@ fn heavy_tests(rng: &mut Rng) -> Vec<Aimed> {
             values: vec![3],
         };
         cases.push((number, case));
+    }
+    for (number, levels) in [(0, 599), (0, 600), (17, 601)] {
+        for formula in nested_both_ways(rng, levels) {
+            let values = vec![levels as i32 % 2];
+            cases.push((number, Case::Test { formula, values }));
+        }
     }
     // Many parts: a full tree of ten levels.
     for k in [1, 3] {

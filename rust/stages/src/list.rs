@@ -8,7 +8,8 @@ use crate::table::Size;
 use crate::{directed, limit};
 use std::collections::HashSet;
 
-/// A case with a file above so many bytes is heavy.
+/// A case with a file above so many bytes, a formula that it writes among
+/// them, is heavy.
 pub const HEAVY: usize = 2_000;
 /// How many faults inside branches the list has for certain, and how long
 /// their files are at most.
@@ -17,8 +18,8 @@ const SHORT: usize = 400;
 
 /// The list for a seed: a case for each refusal of each operation and file,
 /// then some of both sides of the limits, some faults inside branches, then a
-/// random mixture up to the count. Only the cases for the refusals 1 and 18 have a file above `HEAVY`
-/// bytes, as these cannot be met otherwise; `light` leaves them out too.
+/// random mixture up to the count. Only the cases for the refusals 1 of a file and 18 have a file above
+/// `HEAVY` bytes, as these cannot be met otherwise; `light` leaves them out too.
 pub fn list(seed: u64, count: usize, light: bool) -> Vec<(Class, Case)> {
     let mut rng = Rng::new(seed);
     let mut cases = Vec::new();
@@ -29,11 +30,13 @@ pub fn list(seed: u64, count: usize, light: bool) -> Vec<(Class, Case)> {
         let mut aimed = directed::directed(&mut rng, operation);
         rng.shuffle(&mut aimed);
         for (number, case) in aimed {
-            let heavy = case.longest_file() > HEAVY;
-            if heavy && light {
+            let heavy = case.largest_file() > HEAVY;
+            let file = case.outcome().answer.file;
+            // A formula that is too long is for the heavy list: all of it
+            // would have to be evaluated.
+            if heavy && (light || (number, file) == (1, 4)) {
                 continue;
             }
-            let file = case.outcome().answer.file;
             if met.insert((operation as u8, number, file)) {
                 cases.push((Class::Directed, case));
             } else if !heavy {
@@ -49,6 +52,7 @@ pub fn list(seed: u64, count: usize, light: bool) -> Vec<(Class, Case)> {
             Operation::Test => 8,
             _ => 4,
         };
+        aimed.retain(|(_, case)| case.largest_file() <= HEAVY);
         for (index, (_, case)) in aimed.into_iter().enumerate() {
             if index < share {
                 cases.push((Class::Limit, case));
@@ -89,7 +93,7 @@ pub fn list(seed: u64, count: usize, light: bool) -> Vec<(Class, Case)> {
             Class::Damaged => damaged(&mut rng, operation, &Size::SMALL),
             _ => random(&mut rng, operation),
         };
-        if case.longest_file() <= HEAVY {
+        if case.largest_file() <= HEAVY {
             cases.push((class, case));
         }
     }
@@ -109,7 +113,7 @@ pub fn heavy_list(seed: u64, count: usize) -> Vec<(Class, Case)> {
     cases.truncate(count);
     while cases.len() < count {
         let case = sound(&mut rng, Operation::Check, &Size::LARGE);
-        if case.longest_file() > HEAVY {
+        if case.largest_file() > HEAVY {
             cases.push((Class::Sound, case));
         }
     }

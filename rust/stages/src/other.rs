@@ -78,7 +78,7 @@ pub fn formula(rng: &mut Rng, k: usize, junctions: usize) -> Vec<u8> {
         if rng.chance(notes, 6) {
             file.extend(note(rng));
         }
-        if left > 0 && above < 64 && rng.chance(2, 3) {
+        if left > 0 && above < 600 && rng.chance(2, 3) {
             left -= 1;
             file.extend(if rng.chance(1, 2) {
                 build::or()

@@ -4,7 +4,8 @@ use crate::case::{Case, Operation};
 use crate::damage::{damage, noise};
 use crate::rng::Rng;
 use crate::table::{careless_table, closed_table, Size, Table};
-use crate::{deep, directed, edge, limit, other};
+use crate::tie::tied;
+use crate::{deep, directed, edge, limit, other, rounding};
 
 /// What sort of cases are wanted.
 #[derive(Clone, Copy, PartialEq, Eq, Debug)]
@@ -12,7 +13,7 @@ pub enum Class {
     /// Right inputs, so accepted unless an output is too short.
     Sound,
     /// Right inputs damaged in one or two places; for check also faults inside
-    /// branches.
+    /// branches and of roundings.
     Damaged,
     /// One of each refusal.
     Directed,
@@ -94,7 +95,7 @@ fn near(rng: &mut Rng, needed: usize) -> usize {
 pub fn sound(rng: &mut Rng, operation: Operation, size: &Size) -> Case {
     match operation {
         Operation::Check => {
-            let Table { a, b, proof, .. } = closed_table(rng, size);
+            let Table { a, b, proof, .. } = some_table(rng, size);
             let out = match rng.below(12) {
                 0 => rng.below(60),
                 _ => 65_536,
@@ -139,10 +140,32 @@ pub fn sound(rng: &mut Rng, operation: Operation, size: &Size) -> Case {
     }
 }
 
+/// A table that is accepted: mostly a closed one as it is made, or with its
+/// ties, or one rounded line.
+fn some_table(rng: &mut Rng, size: &Size) -> Table {
+    match rng.below(10) {
+        0 => {
+            let table = rounding::rounded(rng, size.constants);
+            Table {
+                k: table.constants,
+                proof: table.proof(),
+                a: table.a,
+                b: table.b,
+            }
+        }
+        1 => {
+            let mut table = closed_table(rng, size);
+            table.proof = tied(&table.proof, table.lines()).0;
+            table
+        }
+        _ => closed_table(rng, size),
+    }
+}
+
 /// A formula with its K: one that a check wrote, or a random one.
 fn some_formula(rng: &mut Rng, size: &Size) -> (usize, Vec<u8>) {
     if rng.chance(1, 3) {
-        let Table { k, a, b, proof } = closed_table(rng, size);
+        let Table { k, a, b, proof } = some_table(rng, size);
         let mut out = vec![0; 65_536];
         let written = reference::check(&a, &b, &proof, &mut out).written;
         out.truncate(written);
@@ -159,8 +182,11 @@ pub fn damaged(rng: &mut Rng, operation: Operation, size: &Size) -> Case {
         let out = 65_536;
         return Case::Check { a, b, proof, out };
     }
-    if operation == Operation::Check && rng.chance(1, 4) {
+    if operation == Operation::Check && rng.chance(3, 10) {
         return deep::deep(rng, size.constants).1;
+    }
+    if operation == Operation::Check && rng.chance(1, 12) {
+        return rounding::damaged(rng, size.constants).1;
     }
     let mut case = sound(rng, operation, size);
     let times = if rng.chance(1, 4) { 2 } else { 1 };

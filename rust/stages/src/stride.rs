@@ -71,7 +71,7 @@ fn random_number(rng: &mut Rng, g: i64) -> i64 {
 }
 
 /// A number of B that makes a multiple of g together with the given one.
-fn opposite(rng: &mut Rng, number: i64, g: i64) -> Option<i64> {
+pub(crate) fn opposite(rng: &mut Rng, number: i64, g: i64) -> Option<i64> {
     let first = (-number).rem_euclid(g);
     let (low, high) = ((SHORT + first).div_euclid(g), (SHORT - first).div_euclid(g));
     (0..4)

@@ -5,7 +5,9 @@
 //! at hand in every branch, whatever rows come before.
 
 use crate::build;
+use crate::damage::fields;
 use crate::rng::Rng;
+use crate::rounding::random_by;
 
 pub const MOST: i64 = 2_147_483_647;
 /// Lines that are kept free for the rows that close a branch.
@@ -23,7 +25,8 @@ pub struct Size {
     pub contradictions: usize,
     /// Most further constraints.
     pub others: usize,
-    /// Most strengthens in all.
+    /// Most strengthens in all; a rounding by k counts as k/2 of them, and as
+    /// one at least.
     pub strengthens: usize,
     /// Most further rows in a branch before it is closed or split.
     pub derivations: usize,
@@ -45,8 +48,8 @@ impl Size {
         strengthens: 8,
         derivations: 4,
     };
-    /// At most 30 strengthens, so 91 stretches of rows between them and the
-    /// ends of branches, and 6 rows to close each of 61 branches: below 1,024.
+    /// At most 30 steps, so 91 stretches of rows between them and the ends of
+    /// branches, and 6 rows to close each of 61 branches: below 1,024.
     pub const LARGE: Size = Size {
         constants: 16,
         contradictions: 4,
@@ -62,6 +65,20 @@ pub struct Table {
     pub a: Vec<u8>,
     pub b: Vec<u8>,
     pub proof: Vec<u8>,
+}
+
+impl Table {
+    /// How many lines the bundles have.
+    pub fn lines(&self) -> usize {
+        let bundles = [&self.a, &self.b];
+        let count = |file: &Vec<u8>| {
+            let found = fields(file).into_iter();
+            found
+                .filter(|part| matches!(file[part.start], 0x03 | 0x04))
+                .count()
+        };
+        bundles.into_iter().map(count).sum()
+    }
 }
 
 #[derive(Clone, Copy)]
@@ -89,6 +106,9 @@ enum Row {
     /// Strengthen the first, close the outer branches by combining with the
     /// second, the middle one by the stride.
     Round(Of, Of, i64),
+    /// Round the first by a stride and by so much, and close the branches by
+    /// combining with the second.
+    RoundBy(Of, Of, i64, i64),
 }
 
 /// Constraints that contradict each other, and the rows that show it.
@@ -109,6 +129,23 @@ struct Placed {
 struct Built {
     lines: Vec<usize>,
     plan: Vec<Row>,
+}
+
+impl Built {
+    /// What its roundings take of the branches that steps may add.
+    fn cost(&self) -> usize {
+        let cost = |row: &Row| match row {
+            Row::RoundBy(_, _, _, k) => rounding_cost(*k),
+            _ => 0,
+        };
+        self.plan.iter().map(cost).sum()
+    }
+}
+
+/// What a rounding takes of the branches that steps may add: those that it
+/// adds, and not less than a strengthen.
+fn rounding_cost(k: i64) -> usize {
+    k.max(2) as usize
 }
 
 /// A form with coefficients of a random size, many of them 0, and no d.
@@ -167,7 +204,8 @@ fn not_divided(rng: &mut Rng, g: i64) -> i64 {
     rng.within(1, g - 1) + g * rng.within(-2, 2)
 }
 
-fn random_contradiction(rng: &mut Rng, k: usize) -> Contradiction {
+/// A random contradiction; one that takes a rounding only if that is allowed.
+fn random_contradiction(rng: &mut Rng, k: usize, rounding: bool) -> Contradiction {
     use Of::{Given, Made};
     for _ in 0..20 {
         let size = random_size(rng);
@@ -185,7 +223,7 @@ fn random_contradiction(rng: &mut Rng, k: usize) -> Contradiction {
         };
         let (d1, d2) = (rng.within(-9, 9), rng.within(-9, 9));
         let positive = rng.within(1, 5);
-        let (constraints, plan) = match rng.below(16) {
+        let (constraints, plan) = match rng.below(if rounding { 20 } else { 16 }) {
             // Two inequalities.
             0..=4 => (
                 vec![
@@ -273,6 +311,34 @@ fn random_contradiction(rng: &mut Rng, k: usize) -> Contradiction {
                     vec![Row::Stride(Given(0), g)],
                 )
             }
+            // Rounded by several at once: a line as it stands, or a sum.
+            16.. => {
+                let by = random_by(rng) as i64;
+                let g = by + rng.within(1, 9);
+                // g divides the rest + by + some more, and no sum in between.
+                let rest = g * rng.within(0, 2) - by - rng.within(0, g - by - 1);
+                let t = raised(&sum(g, &h, 0, &zero), k, rest);
+                let other = raised(&sum(-1, &t, 0, &zero), k, positive - by);
+                if rng.chance(1, 3) {
+                    (
+                        vec![(false, t), (false, other)],
+                        vec![Row::RoundBy(Given(0), Given(1), g, by)],
+                    )
+                } else {
+                    let part = raised(&f, k, d1);
+                    (
+                        vec![
+                            (false, part),
+                            (false, sum(1, &t, -1, &part)),
+                            (false, other),
+                        ],
+                        vec![
+                            Row::Combine(Given(0), Given(1), 1, 1),
+                            Row::RoundBy(Made(0), Given(2), g, by),
+                        ],
+                    )
+                }
+            }
             // Contradictory only over the whole numbers, as in stage 5.
             _ => {
                 let g = rng.within(2, 5);
@@ -312,7 +378,8 @@ fn table(rng: &mut Rng, size: &Size, careless: bool) -> Table {
     let mut plans = Vec::new();
     let contradictions = 1 + rng.below(size.contradictions);
     for number in 0..contradictions {
-        let new = random_contradiction(rng, k);
+        // The first closes a branch even where no step may be added.
+        let new = random_contradiction(rng, k, number > 0);
         for (place, (equality, form)) in new.constraints.iter().enumerate() {
             all.push(Placed {
                 equality: *equality,
@@ -328,6 +395,13 @@ fn table(rng: &mut Rng, size: &Size, careless: bool) -> Table {
     for _ in 0..rng.below(size.others + 1) {
         let largest = random_size(rng);
         let form = random_form(rng, k, largest);
+        // Now and then one that can be rounded.
+        let times = if largest < 400 && rng.chance(1, 3) {
+            rng.within(2, 20)
+        } else {
+            1
+        };
+        let form = sum(times, &form, 0, &form);
         let d = rng.within(-largest - 1, largest);
         all.push(Placed {
             equality: rng.chance(1, 2),
@@ -352,7 +426,7 @@ fn table(rng: &mut Rng, size: &Size, careless: bool) -> Table {
         k,
         lines: Vec::new(),
         proof: build::header(k as u8),
-        strengthens: rng.below(size.strengthens + 1),
+        branches: 2 * rng.below(size.strengthens + 1),
         derivations: size.derivations,
         multiplier: *rng.pick(&[4, 4, 4, 4, 4, 60, 65_535]),
         careless,
@@ -407,8 +481,8 @@ struct Maker {
     k: usize,
     lines: Vec<Line>,
     proof: Vec<u8>,
-    /// Strengthens that may still be used.
-    strengthens: usize,
+    /// Branches that steps may still add.
+    branches: usize,
     derivations: usize,
     /// What most multipliers are at most.
     multiplier: i64,
@@ -429,20 +503,64 @@ impl Maker {
             }
         }
         let room = depth < 24 && self.lines.len() + RESERVE < 128;
-        if self.strengthens > 0 && room && rng.chance(6, 8) {
-            if let Some(line) = self.line_to_strengthen(rng) {
-                self.strengthens -= 1;
-                self.emit(rng, &build::strengthen(line as u8));
-                for part in 0..3 {
-                    let before = self.lines.len();
-                    self.enter(line, part);
-                    self.branch(rng, depth + 1);
-                    self.lines.truncate(before);
+        if self.branches >= 2 && room && rng.chance(6, 8) {
+            if rng.chance(1, 2) {
+                if let Some((line, g, by)) = self.line_to_round(rng) {
+                    return self.round(rng, depth, line, g, by);
                 }
-                return;
+            }
+            if let Some(line) = self.line_to_strengthen(rng) {
+                return self.strengthen(rng, depth, line);
             }
         }
         self.finish(rng);
+    }
+
+    fn strengthen(&mut self, rng: &mut Rng, depth: usize, line: usize) {
+        self.branches -= 2;
+        self.emit(rng, &build::strengthen(line as u8));
+        for part in 0..3 {
+            let before = self.lines.len();
+            self.enter(line, part);
+            self.branch(rng, depth + 1);
+            self.lines.truncate(before);
+        }
+    }
+
+    fn round(&mut self, rng: &mut Rng, depth: usize, line: usize, g: i64, by: i64) {
+        self.branches -= rounding_cost(by);
+        self.emit(rng, &build::rounding(line as u8, g as u16, by as u16));
+        for j in std::iter::once(by).chain(0..by) {
+            let before = self.lines.len();
+            self.enter_rounded(line, by, j);
+            self.branch(rng, depth + 1);
+            self.lines.truncate(before);
+        }
+    }
+
+    /// An inequality, with a stride and an amount by which it may be rounded,
+    /// if a few tries find one.
+    fn line_to_round(&self, rng: &mut Rng) -> Option<(usize, i64, i64)> {
+        for _ in 0..6 {
+            let number = rng.below(self.lines.len());
+            let line = &self.lines[number];
+            let common = line.t[..self.k].iter().fold(0, |common, &c| gcd(common, c));
+            let g = match rng.below(2) {
+                // Every stride divides a form without constants.
+                0 if common != 0 => common,
+                _ => rng.within(2, 40),
+            };
+            let d = line.t[self.k];
+            // As far as the next multiple of g.
+            let far = (-d).rem_euclid(g).min(random_by(rng) as i64);
+            let far = far.min(self.branches as i64);
+            let highest = d.max(line.partial[self.k]);
+            let fits = (2..=65_535).contains(&g) && common % g == 0;
+            if !line.equality && fits && far > 0 && highest + far <= MOST {
+                return Some((number, g, far));
+            }
+        }
+        None
     }
 
     /// An inequality whose d may be raised, if a few tries find one.
@@ -476,6 +594,16 @@ impl Maker {
                 t: raised(&t, self.k, 1),
                 partial,
             },
+        });
+    }
+
+    /// Adds the new line of the branch of a rounding that raises tA by j.
+    fn enter_rounded(&mut self, line: usize, by: i64, j: i64) {
+        let Line { t, partial, .. } = self.lines[line];
+        self.lines.push(Line {
+            equality: false,
+            t: raised(&t, self.k, by),
+            partial: raised(&partial, self.k, j),
         });
     }
 
@@ -572,6 +700,11 @@ impl Maker {
             return;
         }
         let number = rng.below(self.plans.len());
+        let cost = self.plans[number].cost();
+        if cost > self.branches {
+            return self.follow(rng, 0);
+        }
+        self.branches -= cost;
         self.follow(rng, number);
     }
 
@@ -677,6 +810,17 @@ impl Maker {
                             self.combine(rng, made, minus, 1, 1);
                             self.emit(rng, &build::close(made as u8 + 1));
                         }
+                    }
+                }
+                Row::RoundBy(t, minus, g, by) => {
+                    let (t, minus) = (line(t), line(minus));
+                    let start = self.lines.len();
+                    self.emit(rng, &build::rounding(t as u8, g as u16, by as u16));
+                    for j in std::iter::once(by).chain(0..by) {
+                        self.lines.truncate(start);
+                        self.enter_rounded(t, by, j);
+                        self.combine(rng, start, minus, 1, 1);
+                        self.emit(rng, &build::close(start as u8 + 1));
                     }
                 }
             }

@@ -16,23 +16,32 @@ pub struct Spot {
 /// What is open at a place up to which a proof is right.
 pub fn spot(proof: &[u8], place: usize) -> Spot {
     let front = &proof[..place];
-    let mut tags = fields(front).into_iter().map(|part| front[part.start]);
+    let mut fields = fields(front).into_iter().map(|part| &front[part]);
     let mut found = Spot::default();
-    branch(&mut tags, &mut found);
+    branch(&mut fields, &mut found);
     found
 }
 
-/// Goes through a branch; false where the tags end before it is closed.
-fn branch(tags: &mut impl Iterator<Item = u8>, found: &mut Spot) -> bool {
-    while let Some(tag) = tags.next() {
+/// How many branches a field opens.
+fn branches(field: &[u8]) -> u16 {
+    match field[0] {
+        0x13 => 3,
+        0x16 => u16::from_be_bytes([field[6], field[7]]) + 1,
+        _ => 0,
+    }
+}
+
+/// Goes through a branch; false where the fields end before it is closed.
+fn branch<'a>(fields: &mut impl Iterator<Item = &'a [u8]>, found: &mut Spot) -> bool {
+    while let Some(field) = fields.next() {
         let row = found.rows;
-        match tag {
+        match field[0] {
             0x10..=0x12 => found.rows += 1,
-            0x13 => {
+            0x13 | 0x16 => {
                 found.rows += 1;
-                return (0..3).all(|number| {
+                return (0..branches(field)).all(|number| {
                     found.open.push((row, number));
-                    let closed = branch(tags, found);
+                    let closed = branch(fields, found);
                     if closed {
                         found.open.pop();
                     }

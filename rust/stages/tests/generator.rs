@@ -45,13 +45,13 @@ fn closed_tables_are_of_many_shapes() {
         for part in stages::damage::fields(&table.proof) {
             let tag = table.proof[part.start];
             rows[usize::from(tag)] += 1;
-            open += usize::from(tag == 0x13);
+            open += usize::from(matches!(tag, 0x13 | 0x16));
             notes += usize::from(tag >= 0x80);
         }
         deep += usize::from(open >= 3);
         lone += usize::from(table.a.len() == 8 || table.b.len() == 8);
     }
-    for tag in [0x10, 0x11, 0x12, 0x13, 0x14, 0x15, 0x20] {
+    for tag in [0x10, 0x11, 0x12, 0x13, 0x14, 0x15, 0x16, 0x20] {
         assert!(rows[tag] > 500, "tag {tag:02X}: {}", rows[tag]);
     }
     assert!(notes > 500 && deep > 200 && lone > 50);
@@ -88,7 +88,7 @@ fn edge_cases_meet_their_number_on_both_sides() {
             met.insert(number);
         }
         let all: &[u8] = match operation {
-            Operation::Check => &[0, 1, 8, 13, 16, 17, 18],
+            Operation::Check => &[0, 1, 8, 12, 13, 15, 16, 17, 18, 20],
             Operation::Read => &[0, 1, 8],
             Operation::Write => &[0, 8, 21],
             Operation::Show => &[0, 10],
@@ -131,7 +131,8 @@ fn all_answers(operation: Operation) -> Vec<(u8, u8)> {
                     1, 2, 3, 4, 5, 6, 7, 9, 10, 11, 12, 13, 14, 15, 16, 17, 18, 19, 20,
                 ],
             ),
-            of(4, &[21]),
+            // 1 for a formula that is too long.
+            of(4, &[1, 21]),
         ],
     };
     parts.concat()
@@ -149,9 +150,19 @@ fn the_list_covers_every_refusal() {
                 .map(|(_, case)| case.outcome().answer)
                 .map(|answer| (answer.number, answer.file))
                 .collect();
-            let all: BTreeSet<(u8, u8)> = all_answers(operation).into_iter().collect();
+            let mut all: BTreeSet<(u8, u8)> = all_answers(operation).into_iter().collect();
+            // A formula that is too long has many parts to be evaluated.
+            if operation == Operation::Check {
+                assert!(all.remove(&(1, 4)));
+            }
             assert_eq!(met, all, "{operation:?} with seed {seed}");
         }
+        let heavy = heavy_list(seed, 60);
+        let too_long = |(_, case): &(Class, Case)| {
+            let answer = case.outcome().answer;
+            (answer.number, answer.file) == (1, 4)
+        };
+        assert!(heavy.iter().any(too_long));
     }
 }
 
@@ -204,11 +215,11 @@ fn the_number_that_is_no_longer_given_never_comes() {
 #[test]
 fn the_lists_keep_to_their_sizes() {
     for (_, case) in list(3, 600, true) {
-        assert!(case.longest_file() <= HEAVY);
+        assert!(case.largest_file() <= HEAVY);
     }
     for (_, case) in list(3, 600, false) {
         let number = case.outcome().answer.number;
-        assert!(case.longest_file() <= HEAVY || number == 1 || number == 18);
+        assert!(case.largest_file() <= HEAVY || number == 1 || number == 18);
     }
     let heavy = heavy_list(3, 60);
     assert_eq!(heavy.len(), 60);

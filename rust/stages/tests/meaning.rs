@@ -4,6 +4,7 @@
 
 use stages::damage::fields;
 use stages::rng::Rng;
+use stages::rounding::rounded;
 use stages::table::{closed_table, Size};
 use stages::{stream, Case, Class, Operation, CLASSES};
 
@@ -133,6 +134,28 @@ fn accepted_checks_give_interpolants() {
     assert!(met.in_a > 10_000, "{}", met.in_a);
     assert!(met.in_b > 10_000, "{}", met.in_b);
     assert!(met.split > 20_000, "{}", met.split);
+}
+
+#[test]
+fn roundings_give_interpolants() {
+    let mut met = Met::default();
+    let mut rng = Rng::new(30);
+    let mut out = vec![0; 65_536];
+    let mut rounds = [0; 17];
+    for (constants, count) in [(1, 1_500), (2, 3_000), (4, 1_500), (16, 200)] {
+        for _ in 0..count {
+            let table = rounded(&mut rng, constants);
+            let proof = table.proof();
+            let result = reference::check(&table.a, &table.b, &proof, &mut out);
+            assert_eq!(result.answer.number, 0);
+            let formula = &out[..result.written];
+            examine(&mut rng, &table.a, &table.b, formula, &mut met);
+            rounds[usize::from(table.k)] += 1;
+        }
+    }
+    assert!(rounds[1..].iter().all(|&times| times > 100), "{rounds:?}");
+    assert!(met.in_a > 10_000, "{}", met.in_a);
+    assert!(met.in_b > 10_000, "{}", met.in_b);
 }
 
 #[test]

@@ -78,10 +78,12 @@ fn deep_cases_meet_their_number_inside_branches() {
         let front = &proof[..answer.place];
         let steps = fields(front)
             .into_iter()
-            .filter(|part| front[part.start] == 0x13);
+            .filter(|part| matches!(front[part.start], 0x13 | 0x16));
         steps_left += usize::from(steps.count() > open.len());
     }
     for number in [2, 3, 4, 6, 10, 11, 12, 13, 14, 15, 16, 20] {
+        // Every branch of a rounding by 16.
+        assert!((0..17).all(|branch| (1..=4).any(|depth| met.contains(&(number, depth, branch)))));
         for depth in 1..=4 {
             for branch in 0..3 {
                 assert!(
@@ -91,7 +93,7 @@ fn deep_cases_meet_their_number_inside_branches() {
             }
         }
     }
-    assert!((0..3).all(|branch| met.contains(&(17, 4, branch))));
+    assert!((0..17).all(|branch| met.contains(&(17, 4, branch))));
     assert!(steps_left > 5_000, "{steps_left}");
 }
 

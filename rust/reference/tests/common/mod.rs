@@ -121,6 +121,12 @@ pub fn stride(t: u8, g: u16) -> Vec<u8> {
     field(0x15, &[t, g[0], g[1]])
 }
 
+/// A rounding of line t by stride g and k.
+pub fn round(t: u8, g: u16, k: u16) -> Vec<u8> {
+    let (g, k) = (g.to_be_bytes(), k.to_be_bytes());
+    field(0x16, &[t, g[0], g[1], k[0], k[1]])
+}
+
 /// A claim of t and tA.
 pub fn claim(t: &[i32], partial: &[i32]) -> Vec<u8> {
     field(0x20, &[longs(t), longs(partial)].concat())

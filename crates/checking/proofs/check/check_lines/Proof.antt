@@ -30,8 +30,8 @@ mul-numbers c =
     let s = c .before .before .before .before .before in
     omega (arith, numbers-small (c .most-lines .result + 1) (s .args .k) (omega (arith, c .most-lines .ensures)) (s .pre .both .high))
 
-check-13-requires : tie.Need-check-13-requires
-check-13-requires c κs =
+check-41-requires : tie.Need-check-41-requires
+check-41-requires c κs =
     let s = c .before .before .before .before .before .before .before .before in
     let few = fields-few (s .args .proof .now) (s .args .at) in
     (s .pre, (omega (arith, few, c .before .before .if1 .taken), numbers-less (s .args .m + s .args .n) (s .args .k) (omega (arith, few)) (c .before .before .before .most-lines .ensures) (c .before .if2 .taken)))
@@ -42,8 +42,8 @@ same-length c = search needs
 returns : tie.Need-returns
 returns c = search needs
 
-check-32-requires : tie.Need-check-32-requires
-check-32-requires c κs =
+check-66-requires : tie.Need-check-66-requires
+check-66-requires c κs =
     let s = c .before .before .before .before .before .before .before .before .before in
     let few = fields-few (s .args .proof .now) (s .args .at) in
     (s .pre, (omega (arith, few, c .before .before .if3 .taken), numbers-less (s .args .m + s .args .n) (s .args .k) (omega (arith, few)) (c .before .before .before .before .most-lines .ensures) (c .before .if4 .taken)))
@@ -54,8 +54,8 @@ same-length-2 c = search needs
 returns-2 : tie.Need-returns-2
 returns-2 c = search needs
 
-check-70-requires : tie.Need-check-70-requires
-check-70-requires c κs =
+check-212-requires : tie.Need-check-212-requires
+check-212-requires c κs =
     let s = c .before .before .before .before .before .before .before .before .before .before in
     let few = fields-few (s .args .proof .now) (s .args .at) in
     (s .pre, (omega (arith, few, c .before .before .if5 .taken), numbers-less (s .args .m + s .args .n) (s .args .k) (omega (arith, few)) (c .before .before .before .before .before .most-lines .ensures) (c .before .if6 .taken)))
@@ -95,13 +95,13 @@ check-lines-spec =
     most-lines-requires
     add-numbers
     mul-numbers
-    check-13-requires
+    check-41-requires
     same-length
     returns
-    check-32-requires
+    check-66-requires
     same-length-2
     returns-2
-    check-70-requires
+    check-212-requires
     same-length-3
     returns-3
     check-long-requires

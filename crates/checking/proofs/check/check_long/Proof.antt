@@ -1,14 +1,13 @@
--- `checking::check::check_long` meets its contract: each choice has the room that the fields ask, of which there is one for three bytes at most. Assumes nothing.
+-- `checking::check::check_long` meets its contract: each choice has the room that the proof's bytes ask. Assumes nothing.
 use native.Mathlib.Omega.{arith}
-use Rattle.checking.proofs.Counting.{fields-few}
 use borrow.Author.Needs.{needs}
 use Rattle.checking.proofs.check.check_long.Statement.{statement}
 use Rattle.checking.proofs.check.check_long.Tie as tie
 
-check-262-requires : tie.Need-check-262-requires
-check-262-requires c κs =
+check-800-requires : tie.Need-check-800-requires
+check-800-requires c κs =
     let s = c .before .before .before .before .before .before in
-    (s .pre, omega (arith, fields-few (s .args .proof .now) (s .args .at), c .before .if1 .taken))
+    (s .pre, omega (arith, c .before .if1 .taken))
 
 same-length : tie.Need-same-length
 same-length c = search needs
@@ -16,10 +15,10 @@ same-length c = search needs
 returns : tie.Need-returns
 returns c = search needs
 
-check-525-requires : tie.Need-check-525-requires
-check-525-requires c κs =
+check-1200-requires : tie.Need-check-1200-requires
+check-1200-requires c κs =
     let s = c .before .before .before .before .before .before .before in
-    (s .pre, omega (arith, fields-few (s .args .proof .now) (s .args .at), c .before .if2 .taken))
+    (s .pre, omega (arith, c .before .if2 .taken))
 
 same-length-2 : tie.Need-same-length-2
 same-length-2 c = search needs
@@ -40,10 +39,10 @@ pub check-long-spec : {M : Type 1} → statement M
 check-long-spec =
     tie.close
     (tie.spec
-    check-262-requires
+    check-800-requires
     same-length
     returns
-    check-525-requires
+    check-1200-requires
     same-length-2
     returns-2
     check-any-requires

@@ -24,7 +24,7 @@ enum-known-end : tie.Need-enum-known-end
 enum-known-end c = search needs
 
 finish-requires : tie.Need-finish-requires
-finish-requires c κs = by-closed-ended (c .before .before .before .before .before .before .before .before .before .before .check-branch .ensures) (c .before .before .before .before .before .before .before .before .before .before .before .before .before .before .root .ensures) refl (c .before .before .before .before .before .before .before .before .before .before .before .before .before .before .before .before .before .before .before .pre .1 .0) (c .before .before .before .before .before .before .before .before .before .before .before .before .before .before .before .before .before .before .before .pre .1 .1) (c .before .before .before .end .given .1)
+finish-requires c κs = by-closed-ended (c .before .before .before .before .before .before .before .before .before .before .check-branch .ensures) (c .before .before .before .before .before .before .before .before .before .before .before .before .before .before .root .ensures) refl (c .before .before .before .before .before .before .before .before .before .before .before .before .before .before .before .before .before .before .before .pre .0) (c .before .before .before .before .before .before .before .before .before .before .before .before .before .before .before .before .before .before .before .pre .1) (c .before .before .before .end .given .1)
 
 same-length : tie.Need-same-length
 same-length c = search needs
@@ -51,7 +51,7 @@ same-length-7 : tie.Need-same-length-7
 same-length-7 c = search needs
 
 returns-2 : tie.Need-returns-2
-returns-2 c = by-closed (c .before .before .before .before .before .before .before .before .before .before .before .before .before .check-branch .ensures) (c .before .before .before .before .before .before .before .before .before .before .before .before .before .before .before .before .before .root .ensures) refl (c .before .before .before .before .before .before .before .before .before .before .before .before .before .before .before .before .before .before .before .before .before .before .pre .1 .0) (c .before .before .before .before .before .before .before .before .before .before .before .before .before .before .before .before .before .before .before .before .before .before .pre .1 .1) (c .before .before .before .before .before .before .end .given .1) (c .before .before .finish .ensures)
+returns-2 c = by-closed (c .before .before .before .before .before .before .before .before .before .before .before .before .before .check-branch .ensures) (c .before .before .before .before .before .before .before .before .before .before .before .before .before .before .before .before .before .root .ensures) refl (c .before .before .before .before .before .before .before .before .before .before .before .before .before .before .before .before .before .before .before .before .before .before .pre .0) (c .before .before .before .before .before .before .before .before .before .before .before .before .before .before .before .before .before .before .before .before .before .before .pre .1) (c .before .before .before .before .before .before .end .given .1) (c .before .before .finish .ensures)
 
 pub check-root-spec : {M : Type 1} → statement M
 check-root-spec =

@@ -1,10 +1,10 @@
--- `checking::check::check_within` meets its contract: the bytes of the files are below 256, so the formula fits the scratch. Assumes nothing.
+-- `checking::check::check_within` meets its contract. Assumes nothing.
 use native.Mathlib.Omega.{arith}
 use Prim.Native.Nat.{ℕ}
 use lib.ListN.{length-replicate}
 use Rattle.branches.proofs.Counting.{spare-less}
 use Rattle.checking.proofs.Preparing.{space-from}
-use Rattle.checking.proofs.Stages.{all-bytes, started, fits-scratch, checks-root}
+use Rattle.checking.proofs.Stages.{started, checks-root}
 use borrow.Author.Needs.{needs}
 use Rattle.checking.proofs.check.check_within.Statement.{statement}
 use Rattle.checking.proofs.check.check_within.Tie as tie
@@ -28,10 +28,7 @@ check-root-requires c κs =
     let w = c .before .before .before .before .before .before .before .before .before .before .before .before .before .before .pre .1 in
     let g = c .before .before .before .before .before .before .before .before .before .before .before .before .before .before .pre .0 in
     let q = c .before .before .before .before .before .before .prepare .ensures in
-    let a = all-bytes (c .before .before .before .before .before .before .before .before .before .before .before .before .before .before .args .a .now) (λ i. omega (arith, c .before .before .before .before .before .before .before .before .before .before .before .before .before .shared-slice-known .given i)) in
-    let b = all-bytes (c .before .before .before .before .before .before .before .before .before .before .before .before .before .before .args .b .now) (λ i. omega (arith, c .before .before .before .before .before .before .before .before .before .before .before .before .shared-slice-known2 .given i)) in
-    let p = all-bytes (c .before .before .before .before .before .before .before .before .before .before .before .before .before .before .args .proof .now) (λ i. omega (arith, c .before .before .before .before .before .before .before .before .before .before .before .shared-slice-known3 .given i)) in
-    (started g q (spare-less (omega arith) (omega arith) (w .0)), (fits-scratch g q a b p, w .1))
+    (started g q (spare-less (omega arith) (omega arith) (w .0)), w .1)
 
 same-length : tie.Need-same-length
 same-length c = search needs

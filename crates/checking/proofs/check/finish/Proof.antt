@@ -1,5 +1,5 @@
 -- `checking::check::finish` meets its contract: each answer cites the law for its way. Assumes nothing.
-use Rattle.checking.proofs.Delivering.{finish-fault, finish-ended, ended-room}
+use Rattle.checking.proofs.Delivering.{finish-fault, finish-ended}
 use borrow.Author.Needs.{needs}
 use Rattle.checking.proofs.check.finish.Statement.{statement}
 use Rattle.checking.proofs.check.finish.Tie as tie
@@ -11,7 +11,7 @@ enum-told : tie.Need-enum-told
 enum-told c = search needs
 
 deliver-requires : tie.Need-deliver-requires
-deliver-requires c κs = ended-room (c .before .before .before .ending-at .ensures) (c .before .enum-told .given .1) (c .before .before .before .before .before .before .before .pre)
+deliver-requires c κs = search needs
 
 enum-known-number : tie.Need-enum-known-number
 enum-known-number c = search needs

@@ -37,7 +37,7 @@ returns c =
     let e = rw (c .before .before .before .before .before .before .before .entry .given .1) at (c .before .before .before .before .before .before .before .before .before .entry-at .ensures) in
     let f0 = within-fits (e .ranged .0 .within) tt in
     let f1 = within-fits (e .ranged .1 .within) tt in
-    step-row _ _ (a .tally) (a .made) (c .before .before .before .before .before .before .before .before .before .entry-at .ensures) _ (λ refusal. ap (entryOf refusal (a .k) _) (c .before .before .before .before .before .before .before .entry .given .1)) (simp toZ-ofZ at (c .before .before .before .combine-row .ensures))
+    step-row _ _ (a .tally) (a .made) (c .before .before .before .before .before .before .before .before .before .entry-at .ensures) _ (λ refusal. ap (entryOf refusal (a .k) _) (c .before .before .before .before .before .before .before .entry .given .1)) (e .filled) (simp toZ-ofZ at (c .before .before .before .combine-row .ensures))
 
 enum-known-entry-2 : tie.Need-enum-known-entry-2
 enum-known-entry-2 c = search needs
@@ -62,7 +62,7 @@ returns-2 c =
     let a = s .args in
     let e = rw (c .before .before .before .before .before .before .before .entry2 .given .1) at (c .before .before .before .before .before .before .before .before .before .entry-at .ensures) in
     let f0 = within-fits (e .ranged) tt in
-    step-row _ _ (a .tally) (a .made) (c .before .before .before .before .before .before .before .before .before .entry-at .ensures) _ (λ refusal. ap (entryOf refusal (a .k) _) (c .before .before .before .before .before .before .before .entry2 .given .1)) (simp toZ-ofZ at (c .before .before .before .reduce-row .ensures))
+    step-row _ _ (a .tally) (a .made) (c .before .before .before .before .before .before .before .before .before .entry-at .ensures) _ (λ refusal. ap (entryOf refusal (a .k) _) (c .before .before .before .before .before .before .before .entry2 .given .1)) (e .filled) (simp toZ-ofZ at (c .before .before .before .reduce-row .ensures))
 
 enum-known-entry-3 : tie.Need-enum-known-entry-3
 enum-known-entry-3 c = search needs
@@ -87,7 +87,7 @@ returns-3 c =
     let a = s .args in
     let e = rw (c .before .before .before .before .before .before .before .entry3 .given .1) at (c .before .before .before .before .before .before .before .before .before .entry-at .ensures) in
     let f0 = within-fits (e .ranged .within) tt in
-    step-row _ _ (a .tally) (a .made) (c .before .before .before .before .before .before .before .before .before .entry-at .ensures) _ (λ refusal. ap (entryOf refusal (a .k) _) (c .before .before .before .before .before .before .before .entry3 .given .1)) (simp toZ-ofZ at (c .before .before .before .scale-row .ensures))
+    step-row _ _ (a .tally) (a .made) (c .before .before .before .before .before .before .before .before .before .entry-at .ensures) _ (λ refusal. ap (entryOf refusal (a .k) _) (c .before .before .before .before .before .before .before .entry3 .given .1)) (e .filled) (simp toZ-ofZ at (c .before .before .before .scale-row .ensures))
 
 enum-known-entry-4 : tie.Need-enum-known-entry-4
 enum-known-entry-4 c = search needs
@@ -99,7 +99,8 @@ returns-4 : tie.Need-returns-4
 returns-4 c =
     let s = c .before .before .before .before .before .before .before in
     let a = s .args in
-    step-row _ _ (a .tally) (a .made) (c .before .before .before .before .entry-at .ensures) _ (λ refusal. ap (entryOf refusal (a .k) _) (c .before .before .entry4 .given .1)) (c .strengthen-row .ensures .steps _ _ _)
+    let e = rw (c .before .before .entry4 .given .1) at (c .before .before .before .before .entry-at .ensures) in
+    step-row _ _ (a .tally) (a .made) (c .before .before .before .before .entry-at .ensures) _ (λ refusal. ap (entryOf refusal (a .k) _) (c .before .before .entry4 .given .1)) (e .filled) (c .strengthen-row .ensures .steps _ _ _)
 
 enum-known-entry-5 : tie.Need-enum-known-entry-5
 enum-known-entry-5 c = search needs
@@ -111,7 +112,8 @@ returns-5 : tie.Need-returns-5
 returns-5 c =
     let s = c .before .before .before .before .before .before .before in
     let a = s .args in
-    step-row _ _ (a .tally) (a .made) (c .before .before .before .before .entry-at .ensures) _ (λ refusal. ap (entryOf refusal (a .k) _) (c .before .before .entry5 .given .1)) (c .number-row .ensures .steps _ _ _)
+    let e = rw (c .before .before .entry5 .given .1) at (c .before .before .before .before .entry-at .ensures) in
+    step-row _ _ (a .tally) (a .made) (c .before .before .before .before .entry-at .ensures) _ (λ refusal. ap (entryOf refusal (a .k) _) (c .before .before .entry5 .given .1)) (e .filled) (c .number-row .ensures .steps _ _ _)
 
 enum-known-entry-6 : tie.Need-enum-known-entry-6
 enum-known-entry-6 c = search needs
@@ -130,36 +132,55 @@ returns-6 c =
     let a = s .args in
     let e = rw (c .before .before .entry6 .given .1) at (c .before .before .before .before .entry-at .ensures) in
     let f0 = within-fits (e .ranged .within) tt in
-    step-row _ _ (a .tally) (a .made) (c .before .before .before .before .entry-at .ensures) _ (λ refusal. ap (entryOf refusal (a .k) _) (c .before .before .entry6 .given .1)) ((simp toZ-ofZ at (c .stride-row .ensures)) .steps _ _ _)
+    step-row _ _ (a .tally) (a .made) (c .before .before .before .before .entry-at .ensures) _ (λ refusal. ap (entryOf refusal (a .k) _) (c .before .before .entry6 .given .1)) (e .filled) ((simp toZ-ofZ at (c .stride-row .ensures)) .steps _ _ _)
 
 enum-known-entry-7 : tie.Need-enum-known-entry-7
 enum-known-entry-7 c = search needs
+
+round-row-requires : tie.Need-round-row-requires
+round-row-requires c κs =
+    let s = c .before .before .before .before .before .before in
+    let a = s .args in
+    let e = rw (c .before .entry7 .given .1) at (c .before .before .before .entry-at .ensures) in
+    let f0 = within-fits (e .ranged .within) tt in
+    simp toZ-ofZ (e .ranged)
+
+returns-7 : tie.Need-returns-7
+returns-7 c =
+    let s = c .before .before .before .before .before .before .before in
+    let a = s .args in
+    let e = rw (c .before .before .entry7 .given .1) at (c .before .before .before .before .entry-at .ensures) in
+    let f0 = within-fits (e .ranged .within) tt in
+    step-row _ _ (a .tally) (a .made) (c .before .before .before .before .entry-at .ensures) _ (λ refusal. ap (entryOf refusal (a .k) _) (c .before .before .entry7 .given .1)) (e .filled) ((simp toZ-ofZ at (c .round-row .ensures)) .steps _ _ _)
+
+enum-known-entry-8 : tie.Need-enum-known-entry-8
+enum-known-entry-8 c = search needs
 
 claim-step-requires : tie.Need-claim-step-requires
 claim-step-requires c κs =
     let s = c .before .before .before .before .before .before .before in
     let a = s .args in
-    let e = rw (c .before .before .entry7 .given .1) at (c .before .before .before .before .entry-at .ensures) in
+    let e = rw (c .before .before .entry8 .given .1) at (c .before .before .before .before .entry-at .ensures) in
     ((s .pre .0 .branch .constants, omega (arith, e .ranged .0, e .ranged .1, s .pre .1 .0), s .pre .0 .most, omega (arith, s .pre .0 .branch .room)), s .pre .1 .1)
 
 same-length-7 : tie.Need-same-length-7
 same-length-7 c = search needs
 
-returns-7 : tie.Need-returns-7
-returns-7 c =
-    let s = c .before .before .before .before .before .before .before .before in
-    let a = s .args in
-    let e = rw (c .before .before .before .entry7 .given .1) at (c .before .before .before .before .before .entry-at .ensures) in
-    step-claim _ _ (a .tally) (a .made) (c .before .before .before .before .before .entry-at .ensures) (c .before .before .before .entry7 .given .1) (e .ranged .0) (e .ranged .1) (c .claim-step .ensures)
-
-enum-known-entry-8 : tie.Need-enum-known-entry-8
-enum-known-entry-8 c = search needs
-
 returns-8 : tie.Need-returns-8
 returns-8 c =
+    let s = c .before .before .before .before .before .before .before .before in
+    let a = s .args in
+    let e = rw (c .before .before .before .entry8 .given .1) at (c .before .before .before .before .before .entry-at .ensures) in
+    step-claim _ _ (a .tally) (a .made) (c .before .before .before .before .before .entry-at .ensures) (c .before .before .before .entry8 .given .1) (e .ranged .0) (e .ranged .1) (e .filled) (c .claim-step .ensures)
+
+enum-known-entry-9 : tie.Need-enum-known-entry-9
+enum-known-entry-9 c = search needs
+
+returns-9 : tie.Need-returns-9
+returns-9 c =
     let s = c .before .before .before .before .before .before in
     let a = s .args in
-    step-refused _ _ (a .tally) (a .made) (c .before .before .before .entry-at .ensures) (c .before .entry8 .given .1)
+    step-refused _ _ (a .tally) (a .made) (c .before .before .before .entry-at .ensures) (c .before .entry9 .given .1)
 
 pub step-spec : {M : Type 1} → statement M
-step-spec = tie.close (tie.spec entry-at-requires enum-known-entry combine-row-requires same-length same-length-2 returns enum-known-entry-2 reduce-row-requires same-length-3 same-length-4 returns-2 enum-known-entry-3 scale-row-requires same-length-5 same-length-6 returns-3 enum-known-entry-4 strengthen-row-requires returns-4 enum-known-entry-5 number-row-requires returns-5 enum-known-entry-6 stride-row-requires returns-6 enum-known-entry-7 claim-step-requires same-length-7 returns-7 enum-known-entry-8 returns-8)
+step-spec = tie.close (tie.spec entry-at-requires enum-known-entry combine-row-requires same-length same-length-2 returns enum-known-entry-2 reduce-row-requires same-length-3 same-length-4 returns-2 enum-known-entry-3 scale-row-requires same-length-5 same-length-6 returns-3 enum-known-entry-4 strengthen-row-requires returns-4 enum-known-entry-5 number-row-requires returns-5 enum-known-entry-6 stride-row-requires returns-6 enum-known-entry-7 round-row-requires returns-7 enum-known-entry-8 claim-step-requires same-length-7 returns-8 enum-known-entry-9 returns-9)
