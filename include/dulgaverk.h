@@ -10,7 +10,8 @@
  * - a refusal leaves every lent output as it was. An accepted call changes the elements used, from the front, and
  *   leaves those behind them as they were.
  * - nothing is allocated, kept or shared: calls may run in several threads at once.
- * - working memory is on the stack: a check takes up to 320 KiB of it, testing a formula up to 64 KiB, every other call less than 12 KiB.
+ * - working memory is on the stack: a check takes up to 152 KiB of it, testing a formula up to
+ *   64 KiB, every other call less than 12 KiB.
  *
  * docs/FORMAT.md has the layout of the files and the order in which each operation tests them.
  */
@@ -63,7 +64,7 @@ extern "C" {
  *     21  a lent output is too short
  *     22  no longer given; its number is not used again
  *     23  a register value outside -1,000,000 to 1,000,000
- *     24  a kind that is not 0 or 1, or the wrong count of numbers
+ *     24  a kind that is not 0, 1 or 2, or the wrong count of numbers
  *
  *   file  1 A, or a bundle read alone; 2 B; 3 the proof or formula; 4 a lent output, or no file
  *  place  the byte at which the field at fault starts, if nothing else is said
@@ -72,8 +73,8 @@ extern "C" {
  *
  *    row  the row at fault; rows are numbered in the file from 0, claims and notes are none. 10 to 13 and 15 to 18 have
  *         their own row, 14 that before the claim, every other refusal none
- *   step  the row number of the innermost step (a strengthen or a rounding) that is open where the fault is found, before
- *         the field at fault takes effect; for 20 at the end of the proof. None on the root, and after its close
+ *   step  the row number of the innermost step (a strengthen, rounding or split) that is open where the fault is found,
+ *         before the field at fault takes effect; for 20 at the end of the proof. None on the root, and after its close
  * branch  which branch of that step it is, from 0 in file order, at most 16; none where step is
  *
  * Only a check has them: the other operations, and what a check refuses of A, B or a lent output, have none.
@@ -108,9 +109,9 @@ typedef struct dulgaverk_tested {
 
 /* Reads a bundle of at most 4,096 bytes.
  *
- * Accepted: `count` constraints over `k` constants. kinds[i] is 0 where constraint i says "t <= 0" and 1 where it says
- * "t = 0"; numbers[i * (k + 1)] and the k numbers after it are its coefficients and then d. 32 kinds and 544 numbers
- * are always enough.
+ * Accepted: `count` constraints over `k` constants. kinds[i] is 0 where constraint i says "t <= 0", 1 where it says
+ * "t = 0" and 2 where it says "t != 0"; numbers[i * (k + 1)] and the k numbers after it are its coefficients and then d.
+ * 32 kinds and 544 numbers are always enough.
  * Refused: 1 to 8 with file 1; 21 with file 4, and as place the number of constraints, where either output is too short.
  */
 dulgaverk_read_result dulgaverk_read(const uint8_t *file, size_t file_length, uint8_t *kinds, size_t kinds_length,

@@ -37,3 +37,6 @@ own-falls e = omega arith
 
 pub others-fall : {t x y o v : ℕ} → v ≡ o → y < x → 2 * (x + (32 - o)) + 1 ≡ t → 2 * (y + (32 - v)) + 1 < t
 others-fall e h m = omega arith
+
+pub turn-falls : {t x y o v : ℕ} → v ≡ o → y ≤ x → 2 * (x + (32 - o)) + 1 ≡ t → 2 * (y + (32 - v)) < t
+turn-falls e h m = omega arith

@@ -1,20 +1,23 @@
 -- The branches that a row opens: what one leaves for the next, and their formulas as one. Assumes nothing.
 use mathlib.Core.Path.{_≡_, refl, sym, ap, subst, _∙_}
-use mathlib.Core.List.{List, []}
+use mathlib.Core.List.{List, [], _++_}
 use Prim.Native.Nat.{ℕ, suc, _+_, _*_, _-_, _≤_, _<_}
 use native.Mathlib.Omega.{arith}
 use lib.Dec.{T}
 use lib.IntN.{ℤ}
 use lib.ListN.{length, set}
 use Rattle.forms.specs.Edition.{edition1}
-use Rattle.forms.specs.Forms.{Line, _and_, _or_}
+use Rattle.forms.specs.Forms.{Line, line, Formula, _and_, _plus_}
+use Rattle.forms.specs.Flat.{kindOf}
 use Rattle.calculus.specs.Rules as rules
 use Rattle.calculus.specs.Rules.{_▷_, inRange}
 use Rattle.forms.specs.declared.RowNumber.{RowNumber}
 use Rattle.fields.specs.declared.Position.{Position}
 use Rattle.fields.specs.Answers.{position, refusalAt, Result}
+use Rattle.fields.specs.Fields.{fieldBytes}
 use Rattle.fields.specs.Places.{fieldsAt}
 use Rattle.fields.proofs.Framing.{length-fieldBytes as field-size}
+use Rattle.formula.specs.Formula.{encode}
 use Rattle.formula.specs.Writing.{scratchLimit, Heads}
 use Rattle.lines.specs.Buffer.{lineIn, linesIn, LineStart, startedLine}
 use Rattle.lines.proofs.Lines.{line-same, lines-same}
@@ -33,18 +36,22 @@ use Rattle.branches.proofs.Counting.{spare-less}
 use Rattle.branches.proofs.Going.{kept-trans, ready-kept}
 use Rattle.rows.proofs.Deriving.{kept-refl, ready-more}
 use Rattle.branches.proofs.Staging.{comes-opened}
-use Rattle.branches.proofs.Starting.{start-less, middle-starts, third-starts}
-use Rattle.branches.proofs.Joining.{stores-head, or-bytes, and-bytes, in-turn-fault, in-turn-checks}
+use Rattle.branches.proofs.Starting.{starts, start-less, middle-starts, third-starts}
+use Rattle.branches.proofs.Joining.{stores-head, and-bytes, in-turn-fault, in-turn-checks}
 
-kept-less : {K m n : ℕ} {kinds : List ℕ} {buf : List ℤ} {kinds′ : List ℕ} {buf′ : List ℤ} → m ≤ n → LinesKept K n kinds buf kinds′ buf′ → LinesKept K m kinds buf kinds′ buf′
-kept-less h k = kept-trans h kept-refl k
+-- The first branch, of line l raised by x and y, and the rest of them.
+abbrev pub firstThen : (x y : ℕ) (make : Formula → Formula → Formula) (rest : Branching) → Branching
+firstThen x y make rest branch ls l step rows fs = inTurn make (branch (position step 0) rows (ls ▷ startOf x y l) fs) (λ rows fs. rest branch ls l step rows fs)
 
--- The first branch, of line l raised by `by`, and the rest of them.
-abbrev firstThen : (by : ℕ) (rest : Branching) → Branching
-firstThen by rest branch ls l step rows fs = inTurn _or_ (branch (position step 0) rows (ls ▷ startOf by by l) fs) (λ rows fs. rest branch ls l step rows fs)
+-- ---- what stands before a branch's formula, which has 81 bytes at most
+pub head-short : {scratch : List ℕ} {o tag : ℕ} {scratch₁ : List ℕ} {o₁ : ℕ} → Heads scratch o tag scratch₁ o₁ → o₁ ≤ o + keptBack
+head-short h = omega (arith, h .o-is)
+
+pub none-short : {o : ℕ} → o ≤ o + keptBack
+none-short = omega arith
 
 -- ---- one of the branches, of the n lines and l, behind bytes that are written
-module _ {K n by : ℕ} {p : List ℕ} {kinds : List ℕ} {buf : List ℤ} {t : Tally} {i at o : ℕ} (d : Opened K n by kinds buf t i p at o) where
+module _ {K n x y : ℕ} {p : List ℕ} {kinds : List ℕ} {buf : List ℤ} {t : Tally} {i at o : ℕ} (d : Opened K n x y kinds buf t i p at o) where
   pub room-left : o + keptBack ≤ scratchLimit
   room-left = omega (arith, d .room)
 
@@ -85,7 +92,7 @@ module _ {K n by : ℕ} {p : List ℕ} {kinds : List ℕ} {buf : List ℤ} {t : 
           line-is : lineIn K kinds₂ buf₂ i ≡ lineIn K kinds buf i
           line-is = line-same K (on .lines-same) (on .kinds-same) i (d .line)
 
-          pub next-opened : Opened K n by kinds₂ buf₂ t₁ i p a o₂
+          pub next-opened : Opened K n x y kinds₂ buf₂ t₁ i p a o₂
           next-opened = record {
             ready = ready-kept (d .ready) on;
             spare = spare-less (omega (arith, closes .few)) (on .lines-length) (d .spare);
@@ -93,7 +100,7 @@ module _ {K n by : ℕ} {p : List ℕ} {kinds : List ℕ} {buf : List ℤ} {t : 
             line = d .line;
             space = d .space;
             lines-is = closes .lines-is ∙ d .lines-is;
-            small = subst (λ (l : Line). T (inRange (edition1 .range) (startOf by by l))) (sym line-is) (d .small);
+            small = subst (λ (l : Line). T (inRange (edition1 .range) (startOf x y l))) (sym line-is) (d .small);
           }
 
           -- What is checked of the branches that follow is the same for the lines before.
@@ -110,97 +117,92 @@ module _ {K n by : ℕ} {p : List ℕ} {kinds : List ℕ} {buf : List ℤ} {t : 
                 by = subst (λ (R : Result Closing). BranchedBy back R p a t₁ scratch₂ o₂ scratch₃ r) same (x .by);
               }
 
-  -- ---- the first branch, whose line stands, and the rest of them
-  module _ (rest : Branching) (step : ℕ) (f : FirstStands K n by kinds buf i) {scratch : List ℕ} {scratch₁ : List ℕ} {o₁ : ℕ} (h : Heads scratch o 0x31 scratch₁ o₁) where
-    head-short : o₁ ≤ o + keptBack
-    head-short = omega (arith, h .o-is)
+  -- ---- any start of line n, raised by x and y at most: what a branch asks holds for each
+  pub start-asked : {u w : ℕ} → u ≤ x → w ≤ y → LineStart K buf i n u w × (edition1 .lines ≤ length kinds)
+  start-asked hu hw = (start-less (d .ready) (d .line) (d .space) x y (d .small) hu hw, d .ready .room)
 
+  module _ (u w m : ℕ) {kinds₁ : List ℕ} {buf₁ : List ℤ} (eb : buf₁ ≡ startedLine K i n u w buf) (ek : kinds₁ ≡ set kinds n m) (hu : u ≤ x) (hw : w ≤ y) (hm : m ≤ 1) where
+    pub some-longer : Longer K kinds buf n (line (kindOf m) (lineIn K kinds buf i .t plus u) (lineIn K kinds buf i .tA plus w)) kinds₁ buf₁
+    some-longer = starts (d .ready) (start-asked hu hw .0) m hm refl eb ek
+
+    module _ {o₁ : ℕ} (short : o₁ ≤ o + keptBack) where
+      pub some-started : Started K kinds₁ buf₁ t p at o₁
+      some-started = own-started some-longer short
+
+      module _ (here : Position) {scratch₁ : List ℕ} {kinds₂ : List ℕ} {buf₂ : List ℤ} {scratch₂ : List ℕ} {r : Branched} (b : Branches K p at here kinds₁ buf₁ t scratch₁ o₁ kinds₂ buf₂ scratch₂ r)
+          {a o₂ : ℕ} {t₁ : Tally} (e : r ≡ branched.Closed a o₂ t₁) where
+        pub some-open : t₁ .«open» ≡ t .«open»
+        some-open = next-open some-longer short here b e
+
+        pub some-unread : unreadBytes p a < unreadBytes p at
+        some-unread = next-unread some-longer short here b e
+
+        pub some-opened : Opened K n x y kinds₂ buf₂ t₁ i p a o₂
+        some-opened = next-opened some-longer short here b e
+
+  -- ---- the first branch, whose line stands, and the rest of them
+  module _ (make : Formula → Formula → Formula) {tag : ℕ} (bytes : (f g : Formula) → encode edition1 (make f g) ≡ fieldBytes tag [] ++ encode edition1 f ++ encode edition1 g) (rest : Branching) (step : ℕ)
+      (f : FirstStands K n x y kinds buf i) {scratch : List ℕ} {scratch₁ : List ℕ} {o₁ : ℕ} (h : Heads scratch o tag scratch₁ o₁) where
     pub first-started : Started K kinds buf t p at o₁
-    first-started = own-started f head-short
+    first-started = own-started f (head-short h)
 
     module _ {kinds₁ : List ℕ} {buf₁ : List ℤ} {scratch₂ : List ℕ} {r₁ : Branched} (b : Branches K p at (position step 0) kinds buf t scratch₁ o₁ kinds₁ buf₁ scratch₂ r₁) where
-      pub first-fault : {x : ℕ} {rows : RowNumber} {q : Position} {z : ℕ} → r₁ ≡ branched.Fault x rows q z → OpenedChecked keptBack (firstThen by rest) K step n p at kinds buf t i scratch o kinds₁ buf₁ scratch₂ r₁
-      first-fault e = in-turn-fault (stores-head h) keptBack _or_ or-bytes (λ rows fs. rest (deeper K t) (linesIn K kinds buf n) (lineIn K kinds buf i) step rows fs) (own-checked f head-short (position step 0) b) keptBack e
+      pub first-fault : {w : ℕ} {rows : RowNumber} {q : Position} {z : ℕ} → r₁ ≡ branched.Fault w rows q z → OpenedChecked keptBack (firstThen x y make rest) K step n p at kinds buf t i scratch o kinds₁ buf₁ scratch₂ r₁
+      first-fault e = in-turn-fault (stores-head h) keptBack make bytes (λ rows fs. rest (deeper K t) (linesIn K kinds buf n) (lineIn K kinds buf i) step rows fs) (own-checked f (head-short h) (position step 0) b) keptBack e
+
+      pub first-kept : LinesKept K n kinds buf kinds₁ buf₁
+      first-kept = own-checked f (head-short h) (position step 0) b .kept
 
       module _ {a o₂ : ℕ} {t₁ : Tally} (e : r₁ ≡ branched.Closed a o₂ t₁) where
         pub rest-open : t₁ .«open» ≡ t .«open»
-        rest-open = next-open f head-short (position step 0) b e
+        rest-open = next-open f (head-short h) (position step 0) b e
 
         pub rest-unread : unreadBytes p a < unreadBytes p at
-        rest-unread = next-unread f head-short (position step 0) b e
+        rest-unread = next-unread f (head-short h) (position step 0) b e
 
-        pub rest-opened : Opened K n by kinds₁ buf₁ t₁ i p a o₂
-        rest-opened = next-opened f head-short (position step 0) b e
+        pub rest-opened : Opened K n x y kinds₁ buf₁ t₁ i p a o₂
+        rest-opened = next-opened f (head-short h) (position step 0) b e
 
         pub first-checks : {back : ℕ} → 3 ≤ back → {kinds₂ : List ℕ} {buf₂ : List ℤ} {scratch₃ : List ℕ} {r : Branched} → OpenedChecked back rest K step n p a kinds₁ buf₁ t₁ i scratch₂ o₂ kinds₂ buf₂ scratch₃ r
-            → OpenedChecked keptBack (firstThen by rest) K step n p at kinds buf t i scratch o kinds₂ buf₂ scratch₃ r
+            → OpenedChecked keptBack (firstThen x y make rest) K step n p at kinds buf t i scratch o kinds₂ buf₂ scratch₃ r
         first-checks {back} q x =
-            in-turn-checks (stores-head h) keptBack _or_ or-bytes (λ rows fs. rest (deeper K t) (linesIn K kinds buf n) (lineIn K kinds buf i) step rows fs) (own-checked f head-short (position step 0) b) keptBack back (omega (arith, q, field-size 0x31 [])) e
-            (next-same f head-short (position step 0) b e rest step x)
+            in-turn-checks (stores-head h) keptBack make bytes (λ rows fs. rest (deeper K t) (linesIn K kinds buf n) (lineIn K kinds buf i) step rows fs) (own-checked f (head-short h) (position step 0) b) keptBack back (omega (arith, q, field-size tag [])) e
+            (next-same f (head-short h) (position step 0) b e rest step x)
 
 -- ---- the second branch of a strengthen and its third
 abbrev thirdBranch : Branching
 thirdBranch branch ls l step rows fs = branch (position step 2) rows (ls ▷ thirdOf l) fs
 
-module _ {K n : ℕ} {p : List ℕ} {kinds : List ℕ} {buf : List ℤ} {t : Tally} {i at o : ℕ} (d : Opened K n 1 kinds buf t i p at o) where
-  pub second-start : LineStart K buf i n 0 0 × (edition1 .lines ≤ length kinds)
-  second-start = (start-less (d .ready) (d .line) (d .space) 1 (d .small) (omega arith) (omega arith), d .ready .room)
-
-  third-start : LineStart K buf i n 1 0 × (edition1 .lines ≤ length kinds)
-  third-start = (start-less (d .ready) (d .line) (d .space) 1 (d .small) (omega arith) (omega arith), d .ready .room)
-
-  third-longer : {kinds₁ : List ℕ} {buf₁ : List ℤ} → buf₁ ≡ startedLine K i n 1 0 buf → kinds₁ ≡ set kinds n 0 → Longer K kinds buf n (thirdOf (lineIn K kinds buf i)) kinds₁ buf₁
-  third-longer eb ek = third-starts (d .ready) (d .line) (d .space) 1 (d .small) (omega arith) eb ek
-
-module _ {K n : ℕ} {p : List ℕ} {kinds : List ℕ} {buf : List ℤ} {t : Tally} {i at o : ℕ} (d : Opened K n 1 kinds buf t i p at o)
+module _ {K n : ℕ} {p : List ℕ} {kinds : List ℕ} {buf : List ℤ} {t : Tally} {i at o : ℕ} (d : Opened K n 1 1 kinds buf t i p at o)
     (step : ℕ) {kinds₁ : List ℕ} {buf₁ : List ℤ} (eb : buf₁ ≡ startedLine K i n 0 0 buf) (ek : kinds₁ ≡ set kinds n 1) {scratch : List ℕ} {scratch₁ : List ℕ} {o₁ : ℕ} (h : Heads scratch o 0x32 scratch₁ o₁) where
   middle : Longer K kinds buf n (middleOf (lineIn K kinds buf i)) kinds₁ buf₁
-  middle = middle-starts (d .ready) (d .line) (d .space) 1 (d .small) eb ek
-
-  middle-short : o₁ ≤ o + keptBack
-  middle-short = omega (arith, h .o-is)
-
-  pub second-started : Started K kinds₁ buf₁ t p at o₁
-  second-started = own-started d middle middle-short
+  middle = middle-starts (d .ready) (d .line) (d .space) 1 1 (d .small) eb ek
 
   module _ {kinds₂ : List ℕ} {buf₂ : List ℤ} {scratch₂ : List ℕ} {r₁ : Branched} (b : Branches K p at (position step 1) kinds₁ buf₁ t scratch₁ o₁ kinds₂ buf₂ scratch₂ r₁) where
     pub two-fault : {x : ℕ} {rows : RowNumber} {q : Position} {z : ℕ} → r₁ ≡ branched.Fault x rows q z → OpenedChecked keptBack lastTwo K step n p at kinds buf t i scratch o kinds₂ buf₂ scratch₂ r₁
-    two-fault e = in-turn-fault (stores-head h) keptBack _and_ and-bytes (λ rows fs. thirdBranch (deeper K t) (linesIn K kinds buf n) (lineIn K kinds buf i) step rows fs) (own-checked d middle middle-short (position step 1) b) keptBack e
+    two-fault e = in-turn-fault (stores-head h) keptBack _and_ and-bytes (λ rows fs. thirdBranch (deeper K t) (linesIn K kinds buf n) (lineIn K kinds buf i) step rows fs) (own-checked d middle (head-short h) (position step 1) b) keptBack e
 
-    module _ {a o₂ : ℕ} {t₁ : Tally} (e : r₁ ≡ branched.Closed a o₂ t₁) where
-      d₃ : Opened K n 1 kinds₂ buf₂ t₁ i p a o₂
-      d₃ = next-opened d middle middle-short (position step 1) b e
+    module _ {a o₂ : ℕ} {t₁ : Tally} (e : r₁ ≡ branched.Closed a o₂ t₁) {kinds₃ : List ℕ} {buf₃ : List ℤ} (eb₃ : buf₃ ≡ startedLine K i n 1 0 buf₂) (ek₃ : kinds₃ ≡ set kinds₂ n 0) where
+      d₃ : Opened K n 1 1 kinds₂ buf₂ t₁ i p a o₂
+      d₃ = next-opened d middle (head-short h) (position step 1) b e
 
-      pub third-open : t₁ .«open» ≡ t .«open»
-      third-open = next-open d middle middle-short (position step 1) b e
+      third : Longer K kinds₂ buf₂ n (thirdOf (lineIn K kinds₂ buf₂ i)) kinds₃ buf₃
+      third = third-starts (d₃ .ready) (d₃ .line) (d₃ .space) 1 1 (d₃ .small) (omega arith) eb₃ ek₃
 
-      pub third-unread : unreadBytes p a < unreadBytes p at
-      third-unread = next-unread d middle middle-short (position step 1) b e
-
-      pub third-asked : LineStart K buf₂ i n 1 0 × (edition1 .lines ≤ length kinds₂)
-      third-asked = third-start d₃
-
-      module _ {kinds₃ : List ℕ} {buf₃ : List ℤ} (eb₃ : buf₃ ≡ startedLine K i n 1 0 buf₂) (ek₃ : kinds₃ ≡ set kinds₂ n 0) where
-        third-short : o₂ ≤ o₂ + keptBack
-        third-short = omega arith
-
-        pub third-started : Started K kinds₃ buf₃ t₁ p a o₂
-        third-started = own-started d₃ (third-longer d₃ eb₃ ek₃) third-short
-
-        pub two-checks : {kinds₄ : List ℕ} {buf₄ : List ℤ} {scratch₃ : List ℕ} {r : Branched} → Branches K p a (position step 2) kinds₃ buf₃ t₁ scratch₂ o₂ kinds₄ buf₄ scratch₃ r
-            → OpenedChecked keptBack lastTwo K step n p at kinds buf t i scratch o kinds₄ buf₄ scratch₃ r
-        two-checks x =
-            in-turn-checks (stores-head h) keptBack _and_ and-bytes (λ rows fs. thirdBranch (deeper K t) (linesIn K kinds buf n) (lineIn K kinds buf i) step rows fs) (own-checked d middle middle-short (position step 1) b) keptBack keptBack (omega (arith, field-size 0x32 [])) e
-            (next-same d middle middle-short (position step 1) b e thirdBranch step (own-checked d₃ (third-longer d₃ eb₃ ek₃) third-short (position step 2) x))
+      pub two-checks : {kinds₄ : List ℕ} {buf₄ : List ℤ} {scratch₃ : List ℕ} {r : Branched} → Branches K p a (position step 2) kinds₃ buf₃ t₁ scratch₂ o₂ kinds₄ buf₄ scratch₃ r
+          → OpenedChecked keptBack lastTwo K step n p at kinds buf t i scratch o kinds₄ buf₄ scratch₃ r
+      two-checks x =
+          in-turn-checks (stores-head h) keptBack _and_ and-bytes (λ rows fs. thirdBranch (deeper K t) (linesIn K kinds buf n) (lineIn K kinds buf i) step rows fs) (own-checked d middle (head-short h) (position step 1) b) keptBack keptBack (omega (arith, field-size 0x32 [])) e
+          (next-same d middle (head-short h) (position step 1) b e thirdBranch step (own-checked d₃ third none-short (position step 2) x))
 
 -- ---- the branch with the row that opens branches
 pub resumed-fault : {r : Branched} {x : ℕ} {rows : RowNumber} {q : Position} {z : ℕ} (t : Tally) → r ≡ branched.Fault x rows q z → r ≡ resumedBy r t
 resumed-fault t e = rw e
 
-module _ {K : ℕ} {p : List ℕ} {at : ℕ} {kinds : List ℕ} {buf : List ℤ} {t : Tally} {kinds′ : List ℕ} {buf′ : List ℤ} {row : rules.Row} {branching : Branching} {i by number a next : ℕ} {u : Tally}
+module _ {K : ℕ} {p : List ℕ} {at : ℕ} {kinds : List ℕ} {buf : List ℤ} {t : Tally} {kinds′ : List ℕ} {buf′ : List ℤ} {row : rules.Row} {branching : Branching} {i x y number a next : ℕ} {u : Tally}
     (m : Comes K p at kinds buf t kinds′ buf′ row number a next u) (k : LinesKept K (t .lines .0) kinds buf kinds′ buf′)
-    {kinds″ : List ℕ} {buf″ : List ℤ} {s : Derived} {v : Tally} (w : RowOpens row branching K kinds′ buf′ u i by kinds″ buf″ s) (e : s ≡ derived.Made v) where
-  stands : Stands K kinds′ buf′ u i by kinds″ buf″ v
+    {kinds″ : List ℕ} {buf″ : List ℤ} {s : Derived} {v : Tally} (w : RowOpens row branching K kinds′ buf′ u i x y kinds″ buf″ s) (e : s ≡ derived.Made v) where
+  stands : Stands K kinds′ buf′ u i x y kinds″ buf″ v
   stands = (rw e at (w .by)) .1
 
   same-line : lineIn K kinds″ buf″ i ≡ lineIn K kinds′ buf′ i
@@ -210,7 +212,7 @@ module _ {K : ℕ} {p : List ℕ} {at : ℕ} {kinds : List ℕ} {buf : List ℤ}
   same-lines = lines-same K (u .lines .0) (w .kept .lines-same) (w .kept .kinds-same)
 
   opens-less : v .«open» ≡ t .«open» + 1
-  opens-less = ap (λ (x : Tally). x .«open») (stands .tally-is) ∙ rw (m .open-is)
+  opens-less = ap (λ (w : Tally). w .«open») (stands .tally-is) ∙ rw (m .open-is)
 
   few-open : t .«open» < 32
   few-open = omega (arith, stands .open-less, m .open-is)
@@ -220,49 +222,49 @@ module _ {K : ℕ} {p : List ℕ} {at : ℕ} {kinds : List ℕ} {buf : List ℤ}
   opening-falls h = omega (arith, opens-less, few-open, m .unread)
 
   module _ {o : ℕ} (st : Started K kinds buf t p at o) where
-    pub opened : Opened K (u .lines .0) by kinds″ buf″ v i p next o
+    pub opened : Opened K (u .lines .0) x y kinds″ buf″ v i p next o
     opened = record {
       ready = ready-kept (m .ready) (w .kept);
       spare = spare-less (omega (arith, m .few)) (w .kept .lines-length ∙ k .lines-length) (st .spare);
       room = omega (arith, st .room, m .unread);
       line = stands .start .copy .first;
       space = stands .start .copy .space;
-      lines-is = ap (λ (x : Tally). x .lines .0) (stands .tally-is);
-      small = subst (λ (l : Line). T (inRange (edition1 .range) (startOf by by l))) (sym same-line) (stands .longer .small);
+      lines-is = ap (λ (w : Tally). w .lines .0) (stands .tally-is);
+      small = subst (λ (l : Line). T (inRange (edition1 .range) (startOf x y l))) (sym same-line) (stands .longer .small);
     }
 
-  pub first-stands : FirstStands K (u .lines .0) by kinds″ buf″ i
+  pub first-stands : FirstStands K (u .lines .0) x y kinds″ buf″ i
   first-stands =
       let g = stands .longer in
       rw same-line (record { kept = kept-refl; limited = g .limited; lines = g .lines ∙ rw same-lines; small = g .small })
 
   module _ (here : Position) {scratch : List ℕ} {o : ℕ} {kinds₁ : List ℕ} {buf₁ : List ℤ} {scratch₁ : List ℕ} {b : Branched}
-      (x : OpenedChecked keptBack branching K number (u .lines .0) p next kinds″ buf″ v i scratch o kinds₁ buf₁ scratch₁ b) where
+      (all : OpenedChecked keptBack branching K number (u .lines .0) p next kinds″ buf″ v i scratch o kinds₁ buf₁ scratch₁ b) where
     branches : deeper K t here (t .rows .0) (linesIn K kinds buf (t .lines .0)) (fieldsAt p at)
         ≡ branching (deeper K v) (linesIn K kinds″ buf″ (u .lines .0)) (lineIn K kinds″ buf″ i) number (v .rows .0) (fieldsAt p next)
     branches =
-        let r : v .rows .0 ≡ suc number = omega (arith, ap (λ (x : Tally). x .rows .0) (stands .tally-is), m .rows-is) in
+        let r : v .rows .0 ≡ suc number = omega (arith, ap (λ (w : Tally). w .rows .0) (stands .tally-is), m .rows-is) in
         let n : 32 - v .«open» ≡ 32 - (u .«open» + 1) = omega (arith, opens-less, m .open-is) in
         comes-opened here m k ∙ (rw e at (w .by)) .0 _ (refusalAt here number a) number (fieldsAt p next) ∙ rw (same-line, same-lines, r, n)
 
     resumed-by : (b : Branched) → BranchedBy keptBack (deeper K t here (t .rows .0) (linesIn K kinds buf (t .lines .0)) (fieldsAt p at)) p next v scratch o scratch₁ b
         → BranchedBy keptBack (deeper K t here (t .rows .0) (linesIn K kinds buf (t .lines .0)) (fieldsAt p at)) p at t scratch o scratch₁ (resumedBy b t)
-    resumed-by (branched.Fault x rows q a) y = y
-    resumed-by (branched.Closed a o′ v′) y = record {
-      formula = y .formula;
-      is = y .is;
-      o-is = y .o-is;
-      stored = y .stored;
-      within = omega (arith, y .within, m .unread);
-      few = omega (arith, y .few, m .few, m .from);
-      unread = omega (arith, y .unread, m .unread);
+    resumed-by (branched.Fault z rows q a) g = g
+    resumed-by (branched.Closed a o′ v′) g = record {
+      formula = g .formula;
+      is = g .is;
+      o-is = g .o-is;
+      stored = g .stored;
+      within = omega (arith, g .within, m .unread);
+      few = omega (arith, g .few, m .few, m .from);
+      unread = omega (arith, g .unread, m .unread);
       lines-is = refl;
       open-is = refl;
     }
 
     pub resumed-checks : {r : Branched} → r ≡ resumedBy b t → Branches K p at here kinds buf t scratch o kinds₁ buf₁ scratch₁ r
     resumed-checks q = rw q (record {
-      kept = kept-trans (m .from) k (kept-trans (omega arith) (w .kept) (x .kept));
-      long = x .long;
-      by = resumed-by b (subst (λ (R : Result Closing). BranchedBy keptBack R p next v scratch o scratch₁ b) (sym branches) (x .by));
+      kept = kept-trans (m .from) k (kept-trans (omega arith) (w .kept) (all .kept));
+      long = all .long;
+      by = resumed-by b (subst (λ (R : Result Closing). BranchedBy keptBack R p next v scratch o scratch₁ b) (sym branches) (all .by));
     })

@@ -30,7 +30,7 @@ use Rattle.forms.specs.declared.LineNumber.{LineNumber}
 use Rattle.forms.specs.declared.RowNumber.{RowNumber}
 use Rattle.rows.specs.declared.tally.Tally.{Tally}
 use Rattle.rows.specs.declared.steps.Stepped.{Stepped}
-use Rattle.rows.specs.declared.steps.Stepped.the-variants.{Refused, Made, Strengthens, ClosesNumber, ClosesStride, Rounds}
+use Rattle.rows.specs.declared.steps.Stepped.the-variants.{Refused, Made, Strengthens, ClosesNumber, ClosesStride, Rounds, Splits}
 use Rattle.branches.specs.declared.branch.Stop.{Stop}
 
 pub kept-trans : {K m n : ℕ} {kinds : List ℕ} {buf : List ℤ} {kinds′ : List ℕ} {buf′ : List ℤ} {kinds″ : List ℕ} {buf″ : List ℤ}
@@ -161,6 +161,9 @@ module _ {K : ℕ} {p : List ℕ} {at : ℕ} {kinds₀ : List ℕ} {buf₀ : Lis
 
       pub going-rounds : {i : LineNumber} {h : ℤ} {by : ℕ} → r ≡ Rounds u i h by → Stopped K p at kinds₀ buf₀ t₀ kinds′ buf′ (Stop.Rounds i row a next u h by)
       going-rounds e = let y = rw e at x in let l = rw e at long in rw er (record { kept = all-kept; by = (comes (y .by .0) (y .by .1) l, y .by .2) })
+
+      pub going-splits : {i : LineNumber} → r ≡ Splits u i → Stopped K p at kinds₀ buf₀ t₀ kinds′ buf′ (Stop.Splits i row a next u)
+      going-splits e = let y = rw e at x in let l = rw e at long in rw er (record { kept = all-kept; by = comes (y .by .0) (y .by .1) l })
 
 pub going-start : {K : ℕ} {p : List ℕ} {at : ℕ} {kinds : List ℕ} {buf : List ℤ} {t : Tally}
     → Ready K kinds buf (t .lines .0) × Spare K (t .lines .0 + fieldsLeft p at) buf → Going K p at kinds buf t kinds buf at t false

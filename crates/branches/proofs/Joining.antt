@@ -1,5 +1,5 @@
 -- Two closings as one behind bytes that are written, and one behind bytes. Assumes nothing.
-use mathlib.Core.Path.{_≡_, refl, sym, _∙_}
+use mathlib.Core.Path.{_≡_, refl, sym, subst, _∙_}
 use mathlib.Core.List.{List, [], _++_}
 use Prim.Native.Nat.{ℕ, _+_, _≤_}
 use native.Mathlib.Omega.{arith}
@@ -60,6 +60,11 @@ or-bytes f g = refl
 pub and-bytes : (f g : Formula) → encode edition1 (f and g) ≡ fieldBytes 0x32 [] ++ encode edition1 f ++ encode edition1 g
 unfolding encode
 and-bytes f g = refl
+
+-- ---- what is checked is the same
+pub checked-as : {back : ℕ} {R R′ : Result Closing} {K n : ℕ} {p : List ℕ} {at : ℕ} {kinds : List ℕ} {buf : List ℤ} {t : Tally} {scratch : List ℕ} {o : ℕ} {kinds′ : List ℕ} {buf′ : List ℤ} {scratch′ : List ℕ} {r : Branched}
+    → R ≡ R′ → BranchChecked back R′ K n p at kinds buf t scratch o kinds′ buf′ scratch′ r → BranchChecked back R K n p at kinds buf t scratch o kinds′ buf′ scratch′ r
+checked-as {back} {p = p} {at} {t = t} {scratch = scratch} {o} {scratch′ = scratch′} {r} e c = record { kept = c .kept; long = c .long; by = subst (λ (R : Result Closing). BranchedBy back R p at t scratch o scratch′ r) (sym e) (c .by) }
 
 -- A closing with its formula in another.
 abbrev pub alone : (Formula → Formula) → Result Closing → Result Closing

@@ -7,3 +7,4 @@ pub mod Staging
 pub mod Joining
 pub mod Finishing
 pub mod Rounds
+pub mod Splits

@@ -1,11 +1,11 @@
 -- A row that opens branches, one way through its tests after the other. Assumes nothing.
-use mathlib.Core.Path.{_≡_, refl, ap, _∙_}
+use mathlib.Core.Path.{_≡_, refl, sym, ap, subst, _∙_}
 use mathlib.Core.Bool.{Bool, true, false, _&&_}
 use mathlib.Core.List.{List}
 use Prim.Native.Nat.{ℕ, suc, _+_, _*_, _-_, _≤_, _<_}
 use native.Mathlib.Omega.{arith}
-use lib.Dec.{ltb}
-use lib.ListN.{getD, set}
+use lib.Dec.{T, ltb}
+use lib.ListN.{set}
 use lib.IntN.{ℤ, pos, _+ℤ_}
 use borrow.Author.Tests.{lt-ltb, le-ltb, ltb-true, ltb-false}
 use Rattle.forms.specs.Edition.{edition1}
@@ -19,7 +19,7 @@ use Rattle.forms.specs.Flat.{formIn}
 use Rattle.lines.specs.Buffer.{size, lineIn, linesIn, LineStart, startedLine}
 use Rattle.lines.proofs.Lines.{line-at, line-past, length-lines}
 use Rattle.lines.proofs.Branch.{inequality-byte}
-use Rattle.lines.proofs.Starting.{raised-fits, tested-range}
+use Rattle.lines.proofs.Starting.{tested-range}
 use Rattle.proof.specs.Rows.{is, lineAt, inequality, roundable, fitting}
 use Rattle.proof.specs.Check.{Closing, Checker, Following, checkRow, checkBranch}
 use Rattle.rows.specs.Tally.{tally, lineCounted, openCounted}
@@ -33,8 +33,7 @@ use Rattle.closes.specs.declared.closing.Test as test
 use Rattle.closes.specs.declared.closing.Test.the-variants as test-of
 use Rattle.rows.proofs.Counting.{counted-made, counted-full}
 use Rattle.rows.proofs.Deriving.{kept-refl, counted-line, full-line}
-use Rattle.rows.proofs.Testing.{kind-≤, kind-=}
-use Rattle.branches.proofs.Starting.{starts}
+use Rattle.branches.proofs.Starting.{starts, start-less}
 
 pub counted-open : {t : Tally} {r : Tallied} → r ≡ openCounted t → r .made ≡ true → (t .«open» < 32) × (r .tally ≡ tally (t .rows .0) (t .lines .0) (t .«open» + 1))
 unfolding openCounted
@@ -55,32 +54,32 @@ module _ (t : Tally) {r q : Tallied} (e : r ≡ openCounted t) (h : r .made ≡ 
   full-both k = omega (arith, full-line (r .tally) f k, same-lines)
 
 -- ---- the tests that every such row has
-module _ {K : ℕ} {kinds : List ℕ} {buf : List ℤ} (t : Tally) (i by : ℕ) (ready : Ready K kinds buf (t .lines .0)) where
-  pub open-none : 32 ≤ t .«open» → Opens K kinds buf t i by kinds buf (Refused 17)
+module _ {K : ℕ} {kinds : List ℕ} {buf : List ℤ} (t : Tally) (i x y : ℕ) (ready : Ready K kinds buf (t .lines .0)) where
+  pub open-none : 32 ≤ t .«open» → Opens K kinds buf t i x y kinds buf (Refused 17)
   unfolding _>>=_ found
   open-none h =
       let z : 32 - t .«open» ≡ 0 = omega arith in
       record { kept = kept-refl; by = λ refusal rest. rw z }
 
   module _ (ho : t .«open» < 32) where
-    tests : (refusal : ℕ → Answer) (rest : Checker → Result Closing) → opening K kinds buf t (startOf by by (lineIn K kinds buf i)) refusal rest
-        ≡ (fitting refusal (linesIn K kinds buf (t .lines .0)) edition1 (startOf by by (lineIn K kinds buf i)) >> rest (checkBranch edition1 K (32 - (t .«open» + 1))))
+    tests : (refusal : ℕ → Answer) (rest : Checker → Result Closing) → opening K kinds buf t (startOf x y (lineIn K kinds buf i)) refusal rest
+        ≡ (fitting refusal (linesIn K kinds buf (t .lines .0)) edition1 (startOf x y (lineIn K kinds buf i)) >> rest (checkBranch edition1 K (32 - (t .«open» + 1))))
     unfolding _>>=_ found
     tests refusal rest =
         let z : 32 - t .«open» ≡ suc (32 - (t .«open» + 1)) = omega arith in
         rw z
 
-    pub open-full : 128 ≤ t .lines .0 → Opens K kinds buf t i by kinds buf (Refused 16)
+    pub open-full : 128 ≤ t .lines .0 → Opens K kinds buf t i x y kinds buf (Refused 16)
     unfolding fitting _>>_ need
     open-full h = record { kept = kept-refl; by = λ refusal rest. tests refusal rest ∙ rw (length-lines K kinds buf (t .lines .0), le-ltb (t .lines .0) 128 h) }
 
     -- What `raised_fit` tells of line i.
     module _ (hi : i < t .lines .0) (space : t .lines .0 < 128) {b : Bool}
-        (fits : b ≡ small (edition1 .range) (formIn K buf (i * size K) .d +ℤ pos by) && small (edition1 .range) (formIn K buf (i * size K + (K + 1)) .d +ℤ pos by)) where
-      range : inRange (edition1 .range) (startOf by by (lineIn K kinds buf i)) ≡ b
-      range = tested-range (omega (arith, ready .branch .room)) (ready .branch .bounded) hi kinds by by ≤0 fits
+        (fits : b ≡ small (edition1 .range) (formIn K buf (i * size K) .d +ℤ pos x) && small (edition1 .range) (formIn K buf (i * size K + (K + 1)) .d +ℤ pos y)) where
+      range : inRange (edition1 .range) (startOf x y (lineIn K kinds buf i)) ≡ b
+      range = tested-range (omega (arith, ready .branch .room)) (ready .branch .bounded) hi kinds x y ≤0 fits
 
-      pub open-range : b ≡ false → Opens K kinds buf t i by kinds buf (Refused 13)
+      pub open-range : b ≡ false → Opens K kinds buf t i x y kinds buf (Refused 13)
       unfolding fitting _>>_ need
       open-range e = record {
         kept = kept-refl;
@@ -88,30 +87,31 @@ module _ {K : ℕ} {kinds : List ℕ} {buf : List ℤ} (t : Tally) (i by : ℕ) 
       }
 
       module _ (e : b ≡ true) where
-        pub open-start : LineStart K buf i (t .lines .0) by by
-        open-start = record { copy = record { branch = ready .branch; first = hi; space = space }; fits = raised-fits fits e }
+        pub open-start : {u w : ℕ} → u ≤ x → w ≤ y → LineStart K buf i (t .lines .0) u w
+        open-start hu hw = start-less ready hi space x y (subst T (sym (range ∙ e)) tt) hu hw
 
-        pub open-made : {kinds′ : List ℕ} {buf′ : List ℤ} → buf′ ≡ startedLine K i (t .lines .0) by by buf → kinds′ ≡ set kinds (t .lines .0) 0
-            → {t′ : Tally} → t′ ≡ tally (t .rows .0) (t .lines .0 + 1) (t .«open» + 1) → Opens K kinds buf t i by kinds′ buf′ (Made t′)
+        pub open-made : {kinds′ : List ℕ} {buf′ : List ℤ} → buf′ ≡ startedLine K i (t .lines .0) x y buf → kinds′ ≡ set kinds (t .lines .0) 0
+            → {t′ : Tally} → t′ ≡ tally (t .rows .0) (t .lines .0 + 1) (t .«open» + 1) → Opens K kinds buf t i x y kinds′ buf′ (Made t′)
         unfolding fitting _>>_ need
         open-made eb ek u =
-            let longer = starts ready open-start 0 inequality-byte eb ek in
+            let start : LineStart K buf i (t .lines .0) x y = open-start (omega arith) (omega arith) in
+            let longer = starts ready start 0 (omega arith) inequality-byte eb ek in
             record {
               kept = longer .kept;
               by = (
                 λ refusal rest. tests refusal rest ∙ rw (length-lines K kinds buf (t .lines .0), lt-ltb (t .lines .0) 128 space, range, e),
-                record { longer = longer; tally-is = u; start = open-start; open-less = ho },
+                record { longer = longer; tally-is = u; start = start; open-less = ho },
               );
             }
 
 -- ---- a row whose own tests are passed, so that it is as its branches are opened
 -- The row is what `flat` checks once it is opened, and that is `branching`.
 module _ {row : rules.Row} {branching : Branching} (flat : Branching) (same : (branch : Checker) (ls : List Line) (l : Line) (step rows : ℕ) (fs : Fields) → flat branch ls l step rows fs ≡ branching branch ls l step rows fs)
-    {K : ℕ} {kinds : List ℕ} {buf : List ℤ} {t : Tally} {i by : ℕ}
+    {K : ℕ} {kinds : List ℕ} {buf : List ℤ} {t : Tally} {i x y : ℕ}
     (opened : (next : Following) (refusal : ℕ → Answer) (rows : ℕ) (fs : Fields) → rowOpened K kinds buf t row next refusal rows fs
-    ≡ opening K kinds buf t (startOf by by (lineIn K kinds buf i)) refusal (λ branch. flat branch (linesIn K kinds buf (t .lines .0)) (lineIn K kinds buf i) rows (suc rows) fs)) where
-  row-opens : {kinds′ : List ℕ} {buf′ : List ℤ} {r : Derived} → Opens K kinds buf t i by kinds′ buf′ r → RowOpens row branching K kinds buf t i by kinds′ buf′ r
-  row-opens {r = Refused x} o = record { kept = o .kept; by = λ next refusal rows fs. opened next refusal rows fs ∙ o .by refusal (λ branch. flat branch (linesIn K kinds buf (t .lines .0)) (lineIn K kinds buf i) rows (suc rows) fs) }
+    ≡ opening K kinds buf t (startOf x y (lineIn K kinds buf i)) refusal (λ branch. flat branch (linesIn K kinds buf (t .lines .0)) (lineIn K kinds buf i) rows (suc rows) fs)) where
+  row-opens : {kinds′ : List ℕ} {buf′ : List ℤ} {r : Derived} → Opens K kinds buf t i x y kinds′ buf′ r → RowOpens row branching K kinds buf t i x y kinds′ buf′ r
+  row-opens {r = Refused number} o = record { kept = o .kept; by = λ next refusal rows fs. opened next refusal rows fs ∙ o .by refusal (λ branch. flat branch (linesIn K kinds buf (t .lines .0)) (lineIn K kinds buf i) rows (suc rows) fs) }
   row-opens {r = Made t′} o = record {
     kept = o .kept;
     by = (
@@ -156,17 +156,17 @@ module _ (K : ℕ) (kinds : List ℕ) (buf : List ℤ) (t : Tally) (i : ℕ) whe
   strengthen-none h = record { kept = kept-refl; by = λ next refusal rows fs. rw (line-past K kinds buf (t .lines .0) i h) }
 
   module _ (hi : i < t .lines .0) where
-    pub strengthen-kind : (getD kinds i 0 ≡ 0 → ⊥) → Strengthens K kinds buf t i kinds buf (Refused 11)
-    unfolding checkRow inequality lineAt _>>=_ _>>_ found need is
-    strengthen-kind h = record { kept = kept-refl; by = λ next refusal rows fs. rw (line-at K kinds buf (t .lines .0) i hi, kind-= K kinds buf i h) }
+    pub strengthen-kind : is ≤0 (lineIn K kinds buf i .kind) ≡ false → Strengthens K kinds buf t i kinds buf (Refused 11)
+    unfolding checkRow inequality lineAt _>>=_ _>>_ found need
+    strengthen-kind h = record { kept = kept-refl; by = λ next refusal rows fs. rw (line-at K kinds buf (t .lines .0) i hi, h) }
 
-    module _ (hk : getD kinds i 0 ≡ 0) where
+    module _ (hk : is ≤0 (lineIn K kinds buf i .kind) ≡ true) where
       strengthen-row : (next : Following) (refusal : ℕ → Answer) (rows : ℕ) (fs : Fields) → rowOpened K kinds buf t (rules.Strengthen i) next refusal rows fs
           ≡ opening K kinds buf t (startOf 1 1 (lineIn K kinds buf i)) refusal (λ branch. threeFlat branch (linesIn K kinds buf (t .lines .0)) (lineIn K kinds buf i) rows (suc rows) fs)
-      unfolding checkRow inequality lineAt _>>=_ _>>_ found need is
-      strengthen-row next refusal rows fs = rw (line-at K kinds buf (t .lines .0) i hi, kind-≤ K kinds buf i hk)
+      unfolding checkRow inequality lineAt _>>=_ _>>_ found need
+      strengthen-row next refusal rows fs = rw (line-at K kinds buf (t .lines .0) i hi, hk)
 
-      pub strengthen-opens : {kinds′ : List ℕ} {buf′ : List ℤ} {r : Derived} → Opens K kinds buf t i 1 kinds′ buf′ r → Strengthens K kinds buf t i kinds′ buf′ r
+      pub strengthen-opens : {kinds′ : List ℕ} {buf′ : List ℤ} {r : Derived} → Opens K kinds buf t i 1 1 kinds′ buf′ r → Strengthens K kinds buf t i kinds′ buf′ r
       strengthen-opens o = row-opens threeFlat three-flat strengthen-row o
 
 -- ---- a rounding
@@ -192,5 +192,5 @@ module _ {K : ℕ} {kinds : List ℕ} {buf : List ℤ} {t : Tally} {i g by : ℕ
     unfolding checkRow _>>=_
     round-row next refusal rows fs = rw (passed .0 refusal)
 
-    pub round-opens : {kinds′ : List ℕ} {buf′ : List ℤ} {d : Derived} → Opens K kinds buf t i by kinds′ buf′ d → Rounds K kinds buf t i g by kinds′ buf′ d
+    pub round-opens : {kinds′ : List ℕ} {buf′ : List ℤ} {d : Derived} → Opens K kinds buf t i by by kinds′ buf′ d → Rounds K kinds buf t i g by kinds′ buf′ d
     round-opens o = record { opens = row-opens (allRounded g by) (λ branch ls l step rows fs. refl) round-row o; sizes = λ t′ z. passed .2 }

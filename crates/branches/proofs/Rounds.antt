@@ -11,7 +11,7 @@ use lib.ListN.{length, getD, set, length-append}
 use borrow.Author.Tests.{le-leb, lt-leb, leb-true}
 use Rattle.integers.specs.Divides.{divb}
 use Rattle.forms.specs.Edition.{edition1}
-use Rattle.forms.specs.Forms.{Form, Line, Formula, _divides_, _and_, _or_, _plus_}
+use Rattle.forms.specs.Forms.{≤0, Form, Line, Formula, _divides_, _and_, _or_, _plus_}
 use Rattle.forms.specs.Reduced.{reduced}
 use Rattle.forms.specs.Flat.{formIn}
 use Rattle.calculus.specs.Rules.{_▷_, every}
@@ -32,18 +32,21 @@ use Rattle.lines.proofs.Branch.{inequality-byte}
 use Rattle.proof.specs.Rows.{is, lineAt, inequality, roundable, undivided}
 use Rattle.proof.specs.Check.{Closing, Checker, checkRounded}
 use Rattle.rows.specs.Entries.{Multiplies}
+use Rattle.rows.specs.Rows.{LinesKept}
+use Rattle.rows.proofs.Deriving.{kept-refl}
+use Rattle.branches.proofs.Going.{kept-trans}
 use Rattle.rows.specs.declared.tally.Tally.{Tally}
-use Rattle.rows.proofs.Testing.{unnot, kind-≤, kind-=}
+use Rattle.rows.proofs.Testing.{unnot}
 use Rattle.closes.proofs.Ending.{numbered, divisor}
 use Rattle.closes.specs.declared.closing.Test.the-variants.{Refused, Passed}
 use Rattle.branches.specs.Spare.{unreadBytes}
 use Rattle.branches.specs.Opening.{inTurn, startOf, fromBranch, Longer, RoundsBy, Roundable, orBytes, frontBytes}
-use Rattle.branches.specs.Branching.{keptBack, Started, BranchedBy, BranchChecked, deeper, Branches, Opened, OpenedChecked}
+use Rattle.branches.specs.Branching.{keptBack, deeper, Branches, Opened, OpenedChecked, RoundedChecked}
 use Rattle.branches.specs.declared.branch.Branched.{Branched}
 use Rattle.branches.specs.declared.branch.Branched.the-variants as branched
-use Rattle.branches.proofs.Starting.{starts, start-form, start-less}
-use Rattle.branches.proofs.Joining.{alone-checks, in-turn-fault, in-turn-checks}
-use Rattle.branches.proofs.Finishing.{own-ready, own-started, own-checked, next-open, next-unread, next-opened, next-same}
+use Rattle.branches.proofs.Starting.{starts, start-form}
+use Rattle.branches.proofs.Joining.{checked-as, alone-checks, in-turn-fault, in-turn-checks}
+use Rattle.branches.proofs.Finishing.{own-ready, own-checked, start-asked, next-open, next-unread, next-opened, next-same}
 
 -- ---- g divides d + j for no j below by
 -- The loop goes down from `by`: what is left to test is the whole.
@@ -75,24 +78,24 @@ module _ (K : ℕ) (kinds : List ℕ) (buf : List ℤ) (t : Tally) (i g by : ℕ
   round-none h = record { by = λ refusal. rw (line-past K kinds buf (t .lines .0) i h) }
 
   module _ (hi : i < t .lines .0) where
-    pub round-kind : (getD kinds i 0 ≡ 0 → ⊥) → Roundable K kinds buf t i g by (Refused 11)
-    unfolding roundable inequality lineAt _>>=_ _>>_ found need is
-    round-kind h = record { by = λ refusal. rw (line-at K kinds buf (t .lines .0) i hi, kind-= K kinds buf i h) }
+    pub round-kind : is ≤0 (lineIn K kinds buf i .kind) ≡ false → Roundable K kinds buf t i g by (Refused 11)
+    unfolding roundable inequality lineAt _>>=_ _>>_ found need
+    round-kind h = record { by = λ refusal. rw (line-at K kinds buf (t .lines .0) i hi, h) }
 
-    module _ (hk : getD kinds i 0 ≡ 0) {a : Bool} (two : a ≡ leb 2 g) where
+    module _ (hk : is ≤0 (lineIn K kinds buf i .kind) ≡ true) {a : Bool} (two : a ≡ leb 2 g) where
       pub round-small : not a ≡ true → Roundable K kinds buf t i g by (Refused 12)
-      unfolding roundable inequality lineAt _>>=_ _>>_ found need is
-      round-small h = record { by = λ refusal. rw (line-at K kinds buf (t .lines .0) i hi, kind-≤ K kinds buf i hk, ← two, unnot a h) }
+      unfolding roundable inequality lineAt _>>=_ _>>_ found need
+      round-small h = record { by = λ refusal. rw (line-at K kinds buf (t .lines .0) i hi, hk, ← two, unnot a h) }
 
       module _ (h : not a ≡ false) where
         pub round-least : by ≡ 0 → Roundable K kinds buf t i g by (Refused 12)
-        unfolding roundable inequality lineAt _>>=_ _>>_ found need is
-        round-least z = record { by = λ refusal. rw (line-at K kinds buf (t .lines .0) i hi, kind-≤ K kinds buf i hk, ← two, unnot a h, lt-leb 1 by (omega arith)) }
+        unfolding roundable inequality lineAt _>>=_ _>>_ found need
+        round-least z = record { by = λ refusal. rw (line-at K kinds buf (t .lines .0) i hi, hk, ← two, unnot a h, lt-leb 1 by (omega arith)) }
 
         module _ (least : by ≡ 0 → ⊥) where
           pub round-most : 16 < by → Roundable K kinds buf t i g by (Refused 12)
-          unfolding roundable inequality lineAt _>>=_ _>>_ found need is
-          round-most z = record { by = λ refusal. rw (line-at K kinds buf (t .lines .0) i hi, kind-≤ K kinds buf i hk, ← two, unnot a h, le-leb 1 by (positive by least), lt-leb by 16 z) }
+          unfolding roundable inequality lineAt _>>=_ _>>_ found need
+          round-most z = record { by = λ refusal. rw (line-at K kinds buf (t .lines .0) i hi, hk, ← two, unnot a h, le-leb 1 by (positive by least), lt-leb by 16 z) }
 
           module _ (most : by ≤ 16) {z : ℤ} (ez : z ≡ pos g) {x : ℕ} (ex : x ≡ i * size K) {b : Bool} (all : b ≡ every (divb z) (part x K buf)) where
             alls : every (divb (pos g)) (lineIn K kinds buf i .t .coeffs) ≡ b
@@ -100,8 +103,8 @@ module _ (K : ℕ) (kinds : List ℕ) (buf : List ℤ) (t : Tally) (i g by : ℕ
             alls = sym (rw (ex, ez) at all)
 
             pub round-coeffs : not b ≡ true → Roundable K kinds buf t i g by (Refused 15)
-            unfolding roundable inequality lineAt _>>=_ _>>_ found need is
-            round-coeffs l = record { by = λ refusal. rw (line-at K kinds buf (t .lines .0) i hi, kind-≤ K kinds buf i hk, ← two, unnot a h, le-leb 1 by (positive by least), le-leb by 16 most, alls, unnot b l) }
+            unfolding roundable inequality lineAt _>>=_ _>>_ found need
+            round-coeffs l = record { by = λ refusal. rw (line-at K kinds buf (t .lines .0) i hi, hk, ← two, unnot a h, le-leb 1 by (positive by least), le-leb by 16 most, alls, unnot b l) }
 
             module _ (l : not b ≡ false) {c : Bool} {d : ℤ} (ed : d ≡ getD buf (x + K) (pos 0)) (none : c ≡ undivided g d by) where
               nones : undivided g (lineIn K kinds buf i .t .d) by ≡ c
@@ -109,14 +112,14 @@ module _ (K : ℕ) (kinds : List ℕ) (buf : List ℤ) (t : Tally) (i g by : ℕ
               nones = sym (rw (ed, ex) at none)
 
               pub round-d : not c ≡ true → Roundable K kinds buf t i g by (Refused 15)
-              unfolding roundable inequality lineAt _>>=_ _>>_ found need is
-              round-d m = record { by = λ refusal. rw (line-at K kinds buf (t .lines .0) i hi, kind-≤ K kinds buf i hk, ← two, unnot a h, le-leb 1 by (positive by least), le-leb by 16 most, alls, unnot b l, nones, unnot c m) }
+              unfolding roundable inequality lineAt _>>=_ _>>_ found need
+              round-d m = record { by = λ refusal. rw (line-at K kinds buf (t .lines .0) i hi, hk, ← two, unnot a h, le-leb 1 by (positive by least), le-leb by 16 most, alls, unnot b l, nones, unnot c m) }
 
               pub round-passed : not c ≡ false → Roundable K kinds buf t i g by Passed
-              unfolding roundable inequality lineAt _>>=_ _>>_ found need is
+              unfolding roundable inequality lineAt _>>=_ _>>_ found need
               round-passed m = record {
                 by = (
-                  λ refusal. rw (line-at K kinds buf (t .lines .0) i hi, kind-≤ K kinds buf i hk, ← two, unnot a h, le-leb 1 by (positive by least), le-leb by 16 most, alls, unnot b l, nones, unnot c m),
+                  λ refusal. rw (line-at K kinds buf (t .lines .0) i hi, hk, ← two, unnot a h, le-leb 1 by (positive by least), le-leb by 16 most, alls, unnot b l, nones, unnot c m),
                   hi,
                   record { stride = leb-true 2 g (sym two ∙ unnot a h); least = positive by least; most = most },
                 );
@@ -161,73 +164,117 @@ module _ (branch : Checker) (ls : List Line) (l : Line) (step g by j rows : ℕ)
       let z : by - suc j ≡ 0 = omega arith in
       rw (add-one, z)
 
-checked-as : {back : ℕ} {R R′ : Result Closing} {K n : ℕ} {p : List ℕ} {at : ℕ} {kinds : List ℕ} {buf : List ℤ} {t : Tally} {scratch : List ℕ} {o : ℕ} {kinds′ : List ℕ} {buf′ : List ℤ} {scratch′ : List ℕ} {r : Branched}
-    → R ≡ R′ → BranchChecked back R′ K n p at kinds buf t scratch o kinds′ buf′ scratch′ r → BranchChecked back R K n p at kinds buf t scratch o kinds′ buf′ scratch′ r
-checked-as {back} {p = p} {at} {t = t} {scratch = scratch} {o} {scratch′ = scratch′} {r} e c = record { kept = c .kept; long = c .long; by = subst (λ (R : Result Closing). BranchedBy back R p at t scratch o scratch′ r) (sym e) (c .by) }
+-- ---- the stride part of a line's tA, where line n is any
+module _ {K n x y : ℕ} {p : List ℕ} {kinds : List ℕ} {buf : List ℤ} {t : Tally} {i at o : ℕ} (d : Opened K n x y kinds buf t i p at o) {l : Line} {kinds₁ : List ℕ} {buf₁ : List ℤ} (g : Longer K kinds buf n l kinds₁ buf₁) where
+  lines-numbered : (m : ℕ) → m ≤ n → Numbered K buf₁ (m * size K + (K + 1))
+  lines-numbered m h = numbered (own-ready d g) (omega arith) refl
 
-module _ {K n by : ℕ} {p : List ℕ} {kinds : List ℕ} {buf : List ℤ} {t : Tally} {i at o : ℕ} (d : Opened K n by kinds buf t i p at o) {j : ℕ} (hj : j < by) where
-  pub rounded-start : LineStart K buf i n by j × (edition1 .lines ≤ length kinds)
-  rounded-start = (start-less (d .ready) (d .line) (d .space) by (d .small) (omega arith) (omega arith), d .ready .room)
+  pub front-asked : {m : ℕ} → m ≤ n → {z : ℤ} {by : ℕ} → Multiplies (natAbs z) z → RoundsBy (natAbs z) by → (m ≤ edition1 .lines) × Numbered K buf₁ (m * size K + (K + 1)) × Divisor z
+  front-asked {m} h w q = (omega (arith, d .space), lines-numbered m h, divisor w (q .stride))
+
+  stride-short : (m : ℕ) → m ≤ n → (s : ℕ) → length (encode edition1 (s divides reduced s (formIn K buf₁ (m * size K + (K + 1))))) ≤ 75
+  stride-short m h s = omega (arith, stride-size (lines-numbered m h) s, lines-numbered m h .constants)
+
+  pub front-short : (m s : ℕ) (others : Bool) {scratch : List ℕ} {scratch₁ : List ℕ} {o₁ : ℕ} → Stores scratch o (frontBytes others (s divides reduced s (formIn K buf₁ (m * size K + (K + 1))))) scratch₁ o₁ → m ≤ n → o₁ ≤ o + keptBack
+  front-short m s others f h = omega (arith, f .o-is, front-size others (s divides reduced s (formIn K buf₁ (m * size K + (K + 1)))), or-size others, stride-short m h s)
+
+module _ {K n by : ℕ} {p : List ℕ} {kinds : List ℕ} {buf : List ℤ} {t : Tally} {i at o : ℕ} (d : Opened K n by by kinds buf t i p at o) {j : ℕ} (hj : j < by) where
+  rounded-start : LineStart K buf i n by j
+  rounded-start = start-asked d {u = by} {w = j} (omega arith) (omega arith) .0
 
   module _ {kinds₁ : List ℕ} {buf₁ : List ℤ} (eb : buf₁ ≡ startedLine K i n by j buf) (ek : kinds₁ ≡ set kinds n 0) where
     own : Longer K kinds buf n (startOf by j (lineIn K kinds buf i)) kinds₁ buf₁
-    own = starts (d .ready) (rounded-start .0) 0 inequality-byte eb ek
-
-    own-numbered : Numbered K buf₁ (n * size K + (K + 1))
-    own-numbered = numbered (own-ready d own) (omega arith) refl
-
-    pub front-asked : {z : ℤ} → Multiplies (natAbs z) z → RoundsBy (natAbs z) by → (n ≤ edition1 .lines) × Numbered K buf₁ (n * size K + (K + 1)) × Divisor z
-    front-asked m q = (omega (arith, d .space), own-numbered, divisor m (q .stride))
+    own = starts (d .ready) rounded-start 0 (omega arith) inequality-byte eb ek
 
     module _ (step g : ℕ) (others : Bool) {scratch : List ℕ} {scratch₁ : List ℕ} {o₁ : ℕ}
         (h : Stores scratch o (frontBytes others (g divides reduced g (formIn K buf₁ (n * size K + (K + 1))))) scratch₁ o₁) where
       front : Stores scratch o (frontBytes others (strideOf g j (lineIn K kinds buf i))) scratch₁ o₁
-      front = subst (λ (f : Form). Stores scratch o (frontBytes others (g divides reduced g f)) scratch₁ o₁) (start-form (rounded-start .0) kinds eb) h
+      front = subst (λ (f : Form). Stores scratch o (frontBytes others (g divides reduced g f)) scratch₁ o₁) (start-form rounded-start kinds eb) h
 
-      stride-short : length (encode edition1 (strideOf g j (lineIn K kinds buf i))) ≤ 75
-      stride-short = subst (λ (f : Form). length (encode edition1 (g divides reduced g f)) ≤ 75) (start-form (rounded-start .0) kinds eb) (omega (arith, stride-size own-numbered g, own-numbered .constants))
+      own-short : length (encode edition1 (strideOf g j (lineIn K kinds buf i))) ≤ 75
+      own-short = subst (λ (f : Form). length (encode edition1 (g divides reduced g f)) ≤ 75) (start-form rounded-start kinds eb) (stride-short d own n (omega arith) g)
 
       short : o₁ ≤ o + keptBack
-      short = omega (arith, front .o-is, front-size others (strideOf g j (lineIn K kinds buf i)), or-size others, stride-short)
-
-      pub rounded-started : Started K kinds₁ buf₁ t p at o₁
-      rounded-started = own-started d own short
+      short = front-short d own n g others h (omega arith)
 
       module _ {kinds₂ : List ℕ} {buf₂ : List ℤ} {scratch₂ : List ℕ} {r : Branched} (b : Branches K p at (position step (j + 1)) kinds₁ buf₁ t scratch₁ o₁ kinds₂ buf₂ scratch₂ r) where
         -- No others follow.
-        pub last-checks : others ≡ false → by ≤ j + 1 → OpenedChecked 3 (fromBranch g by j) K step n p at kinds buf t i scratch o kinds₂ buf₂ scratch₂ r
+        last-checks : others ≡ false → by ≤ j + 1 → OpenedChecked 3 (fromBranch g by j) K step n p at kinds buf t i scratch o kinds₂ buf₂ scratch₂ r
         last-checks e q =
             let E = strideOf g j (lineIn K kinds buf i) in
             let h′ = rw e at front in
             checked-as (last-is (deeper K t) (linesIn K kinds buf n) (lineIn K kinds buf i) step g by j (t .rows .0) (fieldsAt p at) q)
-            (alone-checks h′ keptBack (λ f. E and f) (last-bytes E) 3 (omega (arith, front-size false E, stride-short)) (own-checked d own short (position step (j + 1)) b))
+            (alone-checks h′ keptBack (λ f. E and f) (last-bytes E) 3 (omega (arith, front-size false E, own-short)) (own-checked d own short (position step (j + 1)) b))
 
         -- Others follow.
         module _ (e : others ≡ true) (q : j + 1 < by) where
           more : Stores scratch o (frontBytes true (strideOf g j (lineIn K kinds buf i))) scratch₁ o₁
           more = rw e at front
 
-          pub more-fault : {x : ℕ} {rows : RowNumber} {pl : Position} {z : ℕ} → r ≡ branched.Fault x rows pl z → OpenedChecked 3 (fromBranch g by j) K step n p at kinds buf t i scratch o kinds₂ buf₂ scratch₂ r
+          more-fault : {x : ℕ} {rows : RowNumber} {pl : Position} {z : ℕ} → r ≡ branched.Fault x rows pl z → OpenedChecked 3 (fromBranch g by j) K step n p at kinds buf t i scratch o kinds₂ buf₂ scratch₂ r
           more-fault y =
               checked-as (more-is (deeper K t) (linesIn K kinds buf n) (lineIn K kinds buf i) step g by j (t .rows .0) (fieldsAt p at) q)
               (in-turn-fault more keptBack (λ f g′. (strideOf g j (lineIn K kinds buf i) and f) or g′) (more-bytes (strideOf g j (lineIn K kinds buf i)))
               (λ rows fs. fromBranch g by (j + 1) (deeper K t) (linesIn K kinds buf n) (lineIn K kinds buf i) step rows fs) (own-checked d own short (position step (j + 1)) b) 3 y)
 
+          more-kept : LinesKept K n kinds buf kinds₂ buf₂
+          more-kept = own-checked d own short (position step (j + 1)) b .kept
+
           module _ {a o₂ : ℕ} {t₁ : Tally} (c : r ≡ branched.Closed a o₂ t₁) where
-            pub more-open : t₁ .«open» ≡ t .«open»
+            more-open : t₁ .«open» ≡ t .«open»
             more-open = next-open d own short (position step (j + 1)) b c
 
-            pub more-unread : unreadBytes p a < unreadBytes p at
+            more-unread : unreadBytes p a < unreadBytes p at
             more-unread = next-unread d own short (position step (j + 1)) b c
 
-            pub more-opened : Opened K n by kinds₂ buf₂ t₁ i p a o₂
+            more-opened : Opened K n by by kinds₂ buf₂ t₁ i p a o₂
             more-opened = next-opened d own short (position step (j + 1)) b c
 
-            pub more-checks : {kinds₃ : List ℕ} {buf₃ : List ℤ} {scratch₃ : List ℕ} {r′ : Branched} → OpenedChecked 3 (fromBranch g by (j + 1)) K step n p a kinds₂ buf₂ t₁ i scratch₂ o₂ kinds₃ buf₃ scratch₃ r′
+            more-checks : {kinds₃ : List ℕ} {buf₃ : List ℤ} {scratch₃ : List ℕ} {r′ : Branched} → OpenedChecked 3 (fromBranch g by (j + 1)) K step n p a kinds₂ buf₂ t₁ i scratch₂ o₂ kinds₃ buf₃ scratch₃ r′
                 → OpenedChecked 3 (fromBranch g by j) K step n p at kinds buf t i scratch o kinds₃ buf₃ scratch₃ r′
             more-checks x =
                 let E = strideOf g j (lineIn K kinds buf i) in
                 checked-as (more-is (deeper K t) (linesIn K kinds buf n) (lineIn K kinds buf i) step g by j (t .rows .0) (fieldsAt p at) q)
                 (in-turn-checks more keptBack (λ f g′. (E and f) or g′) (more-bytes E)
                 (λ rows fs. fromBranch g by (j + 1) (deeper K t) (linesIn K kinds buf n) (lineIn K kinds buf i) step rows fs) (own-checked d own short (position step (j + 1)) b) 3 3
-                (omega (arith, front-size true E, or-size true, stride-short)) c (next-same d own short (position step (j + 1)) b c (fromBranch g by (j + 1)) step x))
+                (omega (arith, front-size true E, or-size true, own-short)) c (next-same d own short (position step (j + 1)) b c (fromBranch g by (j + 1)) step x))
+
+-- ---- the loop over j: what the next turn asks, and that what it checks from j on gives what is checked from 0 on
+pub record Rounding (K step n : ℕ) (p : List ℕ) (at : ℕ) (kinds₀ : List ℕ) (buf₀ : List ℤ) (t₀ : Tally) (i g by : ℕ) (scratch₀ : List ℕ) (o₀ : ℕ)
+    (kinds : List ℕ) (buf : List ℤ) (scratch : List ℕ) (here o : ℕ) (t : Tally) (j : ℕ) : Type 0 where
+  pub opened : Opened K n by by kinds buf t i p here o
+  pub less : j < by
+  pub kept : LinesKept K n kinds₀ buf₀ kinds buf
+  pub long : length scratch ≡ length scratch₀
+  pub open-is : t .«open» ≡ t₀ .«open»
+  pub unread : unreadBytes p here ≤ unreadBytes p at
+  pub rest : {kinds′ : List ℕ} {buf′ : List ℤ} {scratch′ : List ℕ} {r : Branched} → RoundedChecked K step n p here kinds buf t i g by j scratch o kinds′ buf′ scratch′ r
+      → RoundedChecked K step n p at kinds₀ buf₀ t₀ i g by 0 scratch₀ o₀ kinds′ buf′ scratch′ r
+
+pub rounding-start : {K n : ℕ} {p : List ℕ} {at : ℕ} {kinds : List ℕ} {buf : List ℤ} {t : Tally} {i g by : ℕ} {scratch : List ℕ} {o : ℕ} (step : ℕ)
+    → Opened K n by by kinds buf t i p at o → RoundsBy g by → Rounding K step n p at kinds buf t i g by scratch o kinds buf scratch at o t 0
+rounding-start step d q = record { opened = d; less = omega (arith, q .least); kept = kept-refl; long = refl; open-is = refl; unread = omega arith; rest = λ x. x }
+
+module _ {K step n : ℕ} {p : List ℕ} {at : ℕ} {kinds₀ : List ℕ} {buf₀ : List ℤ} {t₀ : Tally} {i g by : ℕ} {scratch₀ : List ℕ} {o₀ : ℕ}
+    {kinds : List ℕ} {buf : List ℤ} {scratch : List ℕ} {here o : ℕ} {t : Tally} {j : ℕ} (turn : Rounding K step n p at kinds₀ buf₀ t₀ i g by scratch₀ o₀ kinds buf scratch here o t j)
+    {kinds₁ : List ℕ} {buf₁ : List ℤ} (eb : buf₁ ≡ startedLine K i n by j buf) (ek : kinds₁ ≡ set kinds n 0) (others : Bool) {scratch₁ : List ℕ} {o₁ : ℕ}
+    (h : Stores scratch o (frontBytes others (g divides reduced g (formIn K buf₁ (n * size K + (K + 1))))) scratch₁ o₁)
+    {kinds₂ : List ℕ} {buf₂ : List ℤ} {scratch₂ : List ℕ} {r : Branched} (b : Branches K p here (position step (j + 1)) kinds₁ buf₁ t scratch₁ o₁ kinds₂ buf₂ scratch₂ r) where
+  pub rounding-last : others ≡ false → by ≤ j + 1 → RoundedChecked K step n p at kinds₀ buf₀ t₀ i g by 0 scratch₀ o₀ kinds₂ buf₂ scratch₂ r
+  rounding-last e q = turn .rest (last-checks (turn .opened) (turn .less) eb ek step g others h b e q)
+
+  module _ (e : others ≡ true) (q : j + 1 < by) where
+    pub rounding-fault : {x : ℕ} {rows : RowNumber} {pl : Position} {z : ℕ} → r ≡ branched.Fault x rows pl z → RoundedChecked K step n p at kinds₀ buf₀ t₀ i g by 0 scratch₀ o₀ kinds₂ buf₂ scratch₂ r
+    rounding-fault y = turn .rest (more-fault (turn .opened) (turn .less) eb ek step g others h b e q y)
+
+    module _ {a o₂ : ℕ} {t₁ : Tally} (c : r ≡ branched.Closed a o₂ t₁) where
+      pub rounding-next : Rounding K step n p at kinds₀ buf₀ t₀ i g by scratch₀ o₀ kinds₂ buf₂ scratch₂ a o₂ t₁ (j + 1)
+      rounding-next = record {
+        opened = more-opened (turn .opened) (turn .less) eb ek step g others h b e q c;
+        less = q;
+        kept = kept-trans (omega arith) (turn .kept) (more-kept (turn .opened) (turn .less) eb ek step g others h b e q);
+        long = b .long ∙ h .long ∙ turn .long;
+        open-is = more-open (turn .opened) (turn .less) eb ek step g others h b e q c ∙ turn .open-is;
+        unread = omega (arith, turn .unread, more-unread (turn .opened) (turn .less) eb ek step g others h b e q c);
+        rest = λ x. turn .rest (more-checks (turn .opened) (turn .less) eb ek step g others h b e q c x);
+      }

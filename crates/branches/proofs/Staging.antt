@@ -69,6 +69,9 @@ module _ {K : ℕ} {p : List ℕ} {at : ℕ} {kinds : List ℕ} {buf : List ℤ}
     pub round-comes : {i : LineNumber} {g : ℤ} {by : ℕ} → r ≡ Stop.Rounds i row a next u g by → Comes K p at kinds buf t kinds′ buf′ (rules.Round (i .0) (natAbs g) by) (row .0) a next u × Multiplies (natAbs g) g
     round-comes e = rw e at (s .by)
 
+    pub split-comes : {i : LineNumber} → r ≡ Stop.Splits i row a next u → Comes K p at kinds buf t kinds′ buf′ (rules.Split (i .0)) (row .0) a next u
+    split-comes e = rw e at (s .by)
+
   module _ {row : rules.Row} {number a next : ℕ} {u : Tally} (m : Comes K p at kinds buf t kinds′ buf′ row number a next u) where
     -- The row that the entries come to.
     pub comes-row : (here : Position) → checkBranch edition1 K (32 - t .«open») here (t .rows .0) (linesIn K kinds buf (t .lines .0)) (fieldsAt p at)
@@ -126,8 +129,8 @@ module _ {K : ℕ} {p : List ℕ} {at : ℕ} {kinds : List ℕ} {buf : List ℤ}
         ≡ rowOpened K kinds′ buf′ u row (checkEntries edition1 K here (below K (32 - t .«open»)) (fieldsAt p next)) (refusalAt here number a) number (fieldsAt p next)
     comes-opened = comes-row m here ∙ ap (λ (n : ℕ). checkRow edition1 K (below K (32 - n)) (checkEntries edition1 K here (below K (32 - t .«open»)) (fieldsAt p next)) (refusalAt here number a) number (linesIn K kinds′ buf′ (u .lines .0)) (fieldsAt p next) row) (sym (m .open-is))
 
-    pub opens-refused : {branching : Branching} {i by : ℕ} {r : Derived} {x : ℕ} {row-number : RowNumber} {kinds″ : List ℕ} {buf″ : List ℤ} (scratch : List ℕ) (o : ℕ) → RowOpens row branching K kinds′ buf′ u i by kinds″ buf″ r → r ≡ derived.Refused x
-        → row-number .0 ≡ number → Branches K p at here kinds buf t scratch o kinds″ buf″ scratch (branched.Fault x row-number here a)
+    pub opens-refused : {branching : Branching} {i x y : ℕ} {r : Derived} {z : ℕ} {row-number : RowNumber} {kinds″ : List ℕ} {buf″ : List ℤ} (scratch : List ℕ) (o : ℕ) → RowOpens row branching K kinds′ buf′ u i x y kinds″ buf″ r → r ≡ derived.Refused z
+        → row-number .0 ≡ number → Branches K p at here kinds buf t scratch o kinds″ buf″ scratch (branched.Fault z row-number here a)
     opens-refused scratch o s e ey = rw ey (record {
       kept = kept-trans (m .from) k (s .kept);
       long = refl;

@@ -9,25 +9,27 @@ use lib.IntN.{ℤ}
 use lib.ListN.{getD, set, length-set}
 use Rattle.integers.proofs.Magnitude.{within-between}
 use Rattle.forms.specs.Edition.{edition1}
-use Rattle.forms.specs.Forms.{Kind, ≤0, Line, line, _plus_}
-use Rattle.forms.specs.Flat.{kindOf, formIn}
+use Rattle.forms.specs.Forms.{Kind, ≤0, plain, Line, line, _plus_}
+use Rattle.forms.specs.Flat.{kindOf, lineKindOf, formIn}
 use Rattle.calculus.specs.Rules.{inRange}
 use Rattle.lines.specs.Parts.{Agree}
-use Rattle.lines.specs.Buffer.{size, lineIn, LineStart, Raised, startedLine}
+use Rattle.lines.specs.Buffer.{size, lineIn, LineStart, LineNegated, Raised, startedLine, negatedLine}
 use Rattle.lines.proofs.Parts.{agree-set, agree-sym}
 use Rattle.lines.proofs.Lines.{before}
-use Rattle.lines.proofs.Branch.{kind-stored, inequality-byte, equality-byte}
-use Rattle.lines.proofs.Starting.{length-started, started-keeps, started-line, started-range, started-bounded, raised-line, plus-none}
-use Rattle.lines.proofs.Next.{started-lines}
+use Rattle.lines.proofs.Branch.{plain-stored, inequality-byte, equality-byte}
+use Rattle.lines.proofs.Starting.{length-started, started-keeps, started-line, started-range, started-bounded, raised-line, none-stored, plus-none}
+use Rattle.lines.proofs.Negating.{length-negated, negated-keeps, negated-range, negated-bounded, neg-line, neg-less}
+use Rattle.lines.proofs.Next.{started-lines, negated-lines}
 use Rattle.rows.specs.Rows.{Ready}
 use Rattle.branches.specs.Opening.{startOf, middleOf, thirdOf, Longer}
+use Rattle.branches.specs.Splitting.{negatedOf}
 
--- The branch with its new line, of the kind that is stored.
-pub starts : {K n : ℕ} {kinds : List ℕ} {buf : List ℤ} → Ready K kinds buf n → {i x y : ℕ} → LineStart K buf i n x y → (b : ℕ) {k : Kind} → kindOf b ≡ k
+-- The branch with its new line, of the kind that is stored: line i raised, and line i negated and raised.
+pub starts : {K n : ℕ} {kinds : List ℕ} {buf : List ℤ} → Ready K kinds buf n → {i x y : ℕ} → LineStart K buf i n x y → (b : ℕ) → b ≤ 1 → {k : Kind} → kindOf b ≡ k
     → {kinds′ : List ℕ} {buf′ : List ℤ} → buf′ ≡ startedLine K i n x y buf → kinds′ ≡ set kinds n b
     → Longer K kinds buf n (line k (lineIn K kinds buf i .t plus x) (lineIn K kinds buf i .tA plus y)) kinds′ buf′
-starts {K} {n} {kinds} {buf} r {i} s b {k} kind {kinds′} {buf′} e f =
-    let new : kindOf (getD kinds′ n 0) ≡ k = rw f (kind-stored kinds n b (omega (arith, r .room, s .copy .space)) ∙ kind) in
+starts {K} {n} {kinds} {buf} r {i} s b l {k} kind {kinds′} {buf′} e f =
+    let new : lineKindOf (getD kinds′ n 0) ≡ plain k = rw f (plain-stored kinds n b (omega (arith, r .room, s .copy .space)) l ∙ ap plain kind) in
     let same : Agree n kinds kinds′ = rw f (agree-set n kinds n b (omega arith)) in
     record {
       kept = record {
@@ -41,19 +43,36 @@ starts {K} {n} {kinds} {buf} r {i} s b {k} kind {kinds′} {buf′} e f =
       small = started-range s kinds k refl;
     }
 
+pub negated-starts : {K n : ℕ} {kinds : List ℕ} {buf : List ℤ} → Ready K kinds buf n → {i x y : ℕ} → LineNegated K buf i n x y
+    → {kinds′ : List ℕ} {buf′ : List ℤ} → buf′ ≡ negatedLine K i n x y buf → kinds′ ≡ set kinds n 0 → Longer K kinds buf n (negatedOf x y (lineIn K kinds buf i)) kinds′ buf′
+negated-starts {K} {n} {kinds} {buf} r {i} s {kinds′} {buf′} e f =
+    let new : lineKindOf (getD kinds′ n 0) ≡ plain ≤0 = rw f (plain-stored kinds n 0 (omega (arith, r .room, s .copy .space)) (omega arith) ∙ ap plain inequality-byte) in
+    let same : Agree n kinds kinds′ = rw f (agree-set n kinds n 0 (omega arith)) in
+    record {
+      kept = record {
+        lines-same = rw e (agree-sym (negated-keeps s));
+        kinds-same = agree-sym same;
+        lines-length = rw e (length-negated s);
+        kinds-length = rw f (length-set kinds n 0);
+      };
+      limited = rw (add-one, e) (record { bounded = negated-bounded s; most = omega (arith, s .copy .space) });
+      lines = rw (add-one, e) (negated-lines K kinds kinds′ buf n same new s refl);
+      small = negated-range s kinds ≤0 refl;
+    }
+
 -- The tA of that line.
 pub start-form : {K i n x y : ℕ} {buf : List ℤ} → LineStart K buf i n x y → (kinds : List ℕ) {buf′ : List ℤ} → buf′ ≡ startedLine K i n x y buf
     → formIn K buf′ (n * size K + (K + 1)) ≡ lineIn K kinds buf i .tA plus y
 unfolding lineIn
-start-form {K} {i} {buf = buf} s kinds e = rw e (ap (λ (l : Line). l .tA) (started-line s kinds [] {s = lineIn K kinds buf i} refl))
+start-form {K} {i} {n} {buf = buf} s kinds e = rw e (ap (λ (l : Line). l .tA) (started-line s kinds [] {s = lineIn K kinds buf i} refl (none-stored n)))
 
--- ---- line i, which may be raised by `by`
-module _ {K n : ℕ} {kinds : List ℕ} {buf : List ℤ} (ready : Ready K kinds buf n) {i : ℕ} (hi : i < n) (space : n < edition1 .lines) (by : ℕ)
-    (first : T (inRange (edition1 .range) (startOf by by (lineIn K kinds buf i)))) where
-  may-raise : Raised K buf i by by
-  may-raise = raised-line K kinds buf i by by ≤0 first
+-- ---- line i, which may be raised by x₀ and y₀
+module _ {K n : ℕ} {kinds : List ℕ} {buf : List ℤ} (ready : Ready K kinds buf n) {i : ℕ} (hi : i < n) (space : n < edition1 .lines) (x₀ y₀ : ℕ)
+    (first : T (inRange (edition1 .range) (startOf x₀ y₀ (lineIn K kinds buf i)))) where
+  may-raise : Raised K buf i x₀ y₀
+  may-raise = raised-line K kinds buf i x₀ y₀ ≤0 first
 
-  pub start-less : {x y : ℕ} → x ≤ by → y ≤ by → LineStart K buf i n x y
+  pub start-less : {x y : ℕ} → x ≤ x₀ → y ≤ y₀ → LineStart K buf i n x y
   start-less hx hy = record {
     copy = record { branch = ready .branch; first = hi; space = space };
     fits = record {
@@ -65,7 +84,14 @@ module _ {K n : ℕ} {kinds : List ℕ} {buf : List ℤ} (ready : Ready K kinds 
   module _ {kinds′ : List ℕ} {buf′ : List ℤ} where
     -- The second branch of a strengthen and its third.
     pub middle-starts : buf′ ≡ startedLine K i n 0 0 buf → kinds′ ≡ set kinds n 1 → Longer K kinds buf n (middleOf (lineIn K kinds buf i)) kinds′ buf′
-    middle-starts e f = rw (plus-none (lineIn K kinds buf i .t), plus-none (lineIn K kinds buf i .tA)) at (starts ready (start-less (omega arith) (omega arith)) 1 equality-byte e f)
+    middle-starts e f = rw (plus-none (lineIn K kinds buf i .t), plus-none (lineIn K kinds buf i .tA)) at (starts ready (start-less (omega arith) (omega arith)) 1 (omega arith) equality-byte e f)
 
-    pub third-starts : 1 ≤ by → buf′ ≡ startedLine K i n 1 0 buf → kinds′ ≡ set kinds n 0 → Longer K kinds buf n (thirdOf (lineIn K kinds buf i)) kinds′ buf′
-    third-starts h e f = rw (plus-none (lineIn K kinds buf i .tA)) at (starts ready (start-less h (omega arith)) 0 inequality-byte e f)
+    pub third-starts : 1 ≤ x₀ → buf′ ≡ startedLine K i n 1 0 buf → kinds′ ≡ set kinds n 0 → Longer K kinds buf n (thirdOf (lineIn K kinds buf i)) kinds′ buf′
+    third-starts h e f = rw (plus-none (lineIn K kinds buf i .tA)) at (starts ready (start-less h (omega arith)) 0 (omega arith) inequality-byte e f)
+
+-- Line i, which may be negated and raised by x₀ and y₀.
+pub negated-less : {K n : ℕ} {kinds : List ℕ} {buf : List ℤ} → Ready K kinds buf n → {i : ℕ} → i < n → n < edition1 .lines → {x y₀ y : ℕ} → T (inRange (edition1 .range) (negatedOf x y₀ (lineIn K kinds buf i))) → y ≤ y₀ → LineNegated K buf i n x y
+negated-less {K} {kinds = kinds} {buf} ready {i} hi space {x} {y₀} second hy = record {
+  copy = record { branch = ready .branch; first = hi; space = space };
+  fits = neg-less (ready .branch .bounded) hi hy (neg-line K kinds buf i x y₀ ≤0 second);
+}

@@ -42,6 +42,7 @@ StoppedBy K p at kinds buf t kinds′ buf′ (Stop.ClosesStride i row a next t�
     Comes K p at kinds buf t kinds′ buf′ (rules.CloseStride (i .0) (natAbs g)) (row .0) a next t′ × Multiplies (natAbs g) g
 StoppedBy K p at kinds buf t kinds′ buf′ (Stop.Rounds i row a next t′ g by) =
     Comes K p at kinds buf t kinds′ buf′ (rules.Round (i .0) (natAbs g) by) (row .0) a next t′ × Multiplies (natAbs g) g
+StoppedBy K p at kinds buf t kinds′ buf′ (Stop.Splits i row a next t′) = Comes K p at kinds buf t kinds′ buf′ (rules.Split (i .0)) (row .0) a next t′
 
 pub record Stopped (K : ℕ) (p : List ℕ) (at : ℕ) (kinds : List ℕ) (buf : List ℤ) (t : Tally) (kinds′ : List ℕ) (buf′ : List ℤ) (r : Stop) : Type 0 where
   pub kept : LinesKept K (t .lines .0) kinds buf kinds′ buf′

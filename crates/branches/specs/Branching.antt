@@ -3,7 +3,7 @@ use mathlib.Core.Path.{_≡_}
 use mathlib.Core.List.{List}
 use Prim.Native.Nat.{ℕ, _+_, _-_, _*_, _<_, _≤_}
 use lib.IntN.{ℤ}
-use lib.ListN.{length}
+use lib.ListN.{length, getD}
 use lib.Dec.{T}
 use lib.Seq.{sets}
 use Rattle.forms.specs.Edition.{edition1}
@@ -22,6 +22,7 @@ use Rattle.rows.specs.Rows.{Ready, LinesKept}
 use Rattle.rows.specs.declared.tally.Tally.{Tally}
 use Rattle.branches.specs.Spare.{fieldsLeft, unreadBytes, Spare}
 use Rattle.branches.specs.Opening.{Branching, startOf, Longer, fromBranch, allRounded}
+use Rattle.branches.specs.Splitting.{ownerOf, raisedBy, negatedOf, bothOf}
 use Rattle.branches.specs.declared.branch.Branched as branched
 use Rattle.branches.specs.declared.branch.Branched.the-variants as branched-of
 use Rattle.closes.specs.declared.ends.Ended as ended
@@ -85,19 +86,19 @@ Branches K p at here kinds buf t scratch o kinds′ buf′ scratch′ r =
     BranchChecked keptBack (deeper K t here (t .rows .0) (linesIn K kinds buf (t .lines .0)) (fieldsAt p at)) K (t .lines .0) p at kinds buf t scratch o kinds′ buf′ scratch′ r
 
 -- ---- the branches that a row opens, behind n lines
--- What they ask, where they raise line i by `by` at most: their own line comes behind the n lines, and the step that opened them is counted.
-pub record Opened (K n by : ℕ) (kinds : List ℕ) (buf : List ℤ) (t : Tally) (i : ℕ) (p : List ℕ) (at o : ℕ) : Type 0 where
+-- What they ask, where the first one starts with line i, t + x with tA + y: their own line comes behind the n lines, and the step that opened them is counted.
+pub record Opened (K n x y : ℕ) (kinds : List ℕ) (buf : List ℤ) (t : Tally) (i : ℕ) (p : List ℕ) (at o : ℕ) : Type 0 where
   pub ready : Ready K kinds buf n
   pub spare : Spare K (n + 1 + fieldsLeft p at) buf
   pub room : o + keptBack + perByte * unreadBytes p at ≤ scratchLimit
   pub line : i < n
   pub space : n < edition1 .lines
   pub lines-is : t .lines .0 ≡ n + 1
-  pub small : T (inRange (edition1 .range) (startOf by by (lineIn K kinds buf i)))
+  pub small : T (inRange (edition1 .range) (startOf x y (lineIn K kinds buf i)))
 
 -- The first branch's line stands behind the n lines.
-abbrev pub FirstStands : (K n by : ℕ) (kinds : List ℕ) (buf : List ℤ) (i : ℕ) → Type 0
-FirstStands K n by kinds buf i = Longer K kinds buf n (startOf by by (lineIn K kinds buf i)) kinds buf
+abbrev pub FirstStands : (K n x y : ℕ) (kinds : List ℕ) (buf : List ℤ) (i : ℕ) → Type 0
+FirstStands K n x y kinds buf i = Longer K kinds buf n (startOf x y (lineIn K kinds buf i)) kinds buf
 
 -- What `branching` checks of them.
 abbrev pub OpenedChecked : (back : ℕ) (branching : Branching) (K step n : ℕ) (p : List ℕ) (at : ℕ) (kinds : List ℕ) (buf : List ℤ) (t : Tally) (i : ℕ) (scratch : List ℕ) (o : ℕ)
@@ -115,3 +116,15 @@ abbrev pub RoundedChecked : (K step n : ℕ) (p : List ℕ) (at : ℕ) (kinds : 
     (kinds′ : List ℕ) (buf′ : List ℤ) (scratch′ : List ℕ) (r : branched.Branched) → Type 0
 RoundedChecked K step n p at kinds buf t i g by j scratch o kinds′ buf′ scratch′ r =
     OpenedChecked 3 (fromBranch g by j) K step n p at kinds buf t i scratch o kinds′ buf′ scratch′ r
+
+-- ---- a split
+-- What its branches ask: the first one's line stands, and the second one's is within the range.
+pub record SplitOpened (K n : ℕ) (kinds : List ℕ) (buf : List ℤ) (t : Tally) (i : ℕ) (p : List ℕ) (at o : ℕ) : Type 0 where
+  pub opened : Opened K n 1 (raisedBy (getD kinds i 0)) kinds buf t i p at o
+  pub stands : FirstStands K n 1 (raisedBy (getD kinds i 0)) kinds buf i
+  pub second : T (inRange (edition1 .range) (negatedOf 1 (raisedBy (getD kinds i 0)) (lineIn K kinds buf i)))
+
+abbrev pub SplitChecked : (K step n : ℕ) (p : List ℕ) (at : ℕ) (kinds : List ℕ) (buf : List ℤ) (t : Tally) (i : ℕ) (scratch : List ℕ) (o : ℕ)
+    (kinds′ : List ℕ) (buf′ : List ℤ) (scratch′ : List ℕ) (r : branched.Branched) → Type 0
+SplitChecked K step n p at kinds buf t i scratch o kinds′ buf′ scratch′ r =
+    OpenedChecked keptBack (bothOf (ownerOf (getD kinds i 0))) K step n p at kinds buf t i scratch o kinds′ buf′ scratch′ r

@@ -1,5 +1,6 @@
 -- The contracts of a branch's functions.
 pub mod Spare
 pub mod Opening
+pub mod Splitting
 pub mod Branches
 pub mod Branching

@@ -78,43 +78,43 @@ abbrev pub opening : (K : ℕ) (kinds : List ℕ) (buf : List ℤ) (t : Tally) (
 opening K kinds buf t first refusal rest =
     found (refusal 17) (below K (edition1 .branchings - t .«open»)) >>= λ checker. (fitting refusal (linesIn K kinds buf (t .lines .0)) edition1 first >> rest checker)
 
--- The first branch's line, line i raised by `by`, stands behind the others, and the step is counted.
-pub record Stands (K : ℕ) (kinds : List ℕ) (buf : List ℤ) (t : Tally) (i by : ℕ) (kinds′ : List ℕ) (buf′ : List ℤ) (t′ : Tally) : Type 0 where
-  pub longer : Longer K kinds buf (t .lines .0) (startOf by by (lineIn K kinds buf i)) kinds′ buf′
+-- The first branch's line, line i with t + x and tA + y, stands behind the others, and the step is counted.
+pub record Stands (K : ℕ) (kinds : List ℕ) (buf : List ℤ) (t : Tally) (i x y : ℕ) (kinds′ : List ℕ) (buf′ : List ℤ) (t′ : Tally) : Type 0 where
+  pub longer : Longer K kinds buf (t .lines .0) (startOf x y (lineIn K kinds buf i)) kinds′ buf′
   pub tally-is : t′ ≡ tally (t .rows .0) (t .lines .0 + 1) (t .«open» + 1)
-  pub start : LineStart K buf i (t .lines .0) by by
+  pub start : LineStart K buf i (t .lines .0) x y
   pub open-less : t .«open» < edition1 .branchings
 
-abbrev pub OpenedBy : (K : ℕ) (kinds : List ℕ) (buf : List ℤ) (t : Tally) (i by : ℕ) (kinds′ : List ℕ) (buf′ : List ℤ) → Derived → Type 0
-OpenedBy K kinds buf t i by kinds′ buf′ (Refused x) =
-    (refusal : ℕ → Answer) (rest : Checker → Result Closing) → opening K kinds buf t (startOf by by (lineIn K kinds buf i)) refusal rest ≡ refused (refusal x)
-OpenedBy K kinds buf t i by kinds′ buf′ (Made t′) =
-    ((refusal : ℕ → Answer) (rest : Checker → Result Closing) → opening K kinds buf t (startOf by by (lineIn K kinds buf i)) refusal rest ≡ rest (checkBranch edition1 K (edition1 .branchings - (t .«open» + 1))))
-    × Stands K kinds buf t i by kinds′ buf′ t′
+abbrev pub OpenedBy : (K : ℕ) (kinds : List ℕ) (buf : List ℤ) (t : Tally) (i x y : ℕ) (kinds′ : List ℕ) (buf′ : List ℤ) → Derived → Type 0
+OpenedBy K kinds buf t i x y kinds′ buf′ (Refused number) =
+    (refusal : ℕ → Answer) (rest : Checker → Result Closing) → opening K kinds buf t (startOf x y (lineIn K kinds buf i)) refusal rest ≡ refused (refusal number)
+OpenedBy K kinds buf t i x y kinds′ buf′ (Made t′) =
+    ((refusal : ℕ → Answer) (rest : Checker → Result Closing) → opening K kinds buf t (startOf x y (lineIn K kinds buf i)) refusal rest ≡ rest (checkBranch edition1 K (edition1 .branchings - (t .«open» + 1))))
+    × Stands K kinds buf t i x y kinds′ buf′ t′
 
-pub record Opens (K : ℕ) (kinds : List ℕ) (buf : List ℤ) (t : Tally) (i more : ℕ) (kinds′ : List ℕ) (buf′ : List ℤ) (r : Derived) : Type 0 where
+pub record Opens (K : ℕ) (kinds : List ℕ) (buf : List ℤ) (t : Tally) (i x y : ℕ) (kinds′ : List ℕ) (buf′ : List ℤ) (r : Derived) : Type 0 where
   pub kept : LinesKept K (t .lines .0) kinds buf kinds′ buf′
-  pub by : OpenedBy K kinds buf t i more kinds′ buf′ r
+  pub by : OpenedBy K kinds buf t i x y kinds′ buf′ r
 
 -- ---- a row with its own tests, and then its branches
 abbrev pub rowOpened : (K : ℕ) (kinds : List ℕ) (buf : List ℤ) (t : Tally) (row : rules.Row) (next : Following) (refusal : ℕ → Answer) (rows : ℕ) (fs : Fields) → Result Closing
 rowOpened K kinds buf t row next refusal rows fs = checkRow edition1 K (below K (edition1 .branchings - t .«open»)) next refusal rows (linesIn K kinds buf (t .lines .0)) fs row
 
-abbrev pub RowOpenedBy : (row : rules.Row) (branching : Branching) (K : ℕ) (kinds : List ℕ) (buf : List ℤ) (t : Tally) (i by : ℕ) (kinds′ : List ℕ) (buf′ : List ℤ) → Derived → Type 0
-RowOpenedBy row branching K kinds buf t i by kinds′ buf′ (Refused x) =
-    (next : Following) (refusal : ℕ → Answer) (rows : ℕ) (fs : Fields) → rowOpened K kinds buf t row next refusal rows fs ≡ refused (refusal x)
-RowOpenedBy row branching K kinds buf t i by kinds′ buf′ (Made t′) =
+abbrev pub RowOpenedBy : (row : rules.Row) (branching : Branching) (K : ℕ) (kinds : List ℕ) (buf : List ℤ) (t : Tally) (i x y : ℕ) (kinds′ : List ℕ) (buf′ : List ℤ) → Derived → Type 0
+RowOpenedBy row branching K kinds buf t i x y kinds′ buf′ (Refused number) =
+    (next : Following) (refusal : ℕ → Answer) (rows : ℕ) (fs : Fields) → rowOpened K kinds buf t row next refusal rows fs ≡ refused (refusal number)
+RowOpenedBy row branching K kinds buf t i x y kinds′ buf′ (Made t′) =
     ((next : Following) (refusal : ℕ → Answer) (rows : ℕ) (fs : Fields) → rowOpened K kinds buf t row next refusal rows fs
     ≡ branching (checkBranch edition1 K (edition1 .branchings - (t .«open» + 1))) (linesIn K kinds buf (t .lines .0)) (lineIn K kinds buf i) rows (suc rows) fs)
-    × Stands K kinds buf t i by kinds′ buf′ t′
+    × Stands K kinds buf t i x y kinds′ buf′ t′
 
--- A row whose branches raise line i by `more` is refused, or its branches are what `branching` checks.
-pub record RowOpens (row : rules.Row) (branching : Branching) (K : ℕ) (kinds : List ℕ) (buf : List ℤ) (t : Tally) (i more : ℕ) (kinds′ : List ℕ) (buf′ : List ℤ) (r : Derived) : Type 0 where
+-- A row whose first branch starts with line i, t + x with tA + y, is refused, or its branches are what `branching` checks.
+pub record RowOpens (row : rules.Row) (branching : Branching) (K : ℕ) (kinds : List ℕ) (buf : List ℤ) (t : Tally) (i x y : ℕ) (kinds′ : List ℕ) (buf′ : List ℤ) (r : Derived) : Type 0 where
   pub kept : LinesKept K (t .lines .0) kinds buf kinds′ buf′
-  pub by : RowOpenedBy row branching K kinds buf t i more kinds′ buf′ r
+  pub by : RowOpenedBy row branching K kinds buf t i x y kinds′ buf′ r
 
 abbrev pub Strengthens : (K : ℕ) (kinds : List ℕ) (buf : List ℤ) (t : Tally) (i : ℕ) (kinds′ : List ℕ) (buf′ : List ℤ) (r : Derived) → Type 0
-Strengthens K kinds buf t i kinds′ buf′ r = RowOpens (rules.Strengthen i) three K kinds buf t i 1 kinds′ buf′ r
+Strengthens K kinds buf t i kinds′ buf′ r = RowOpens (rules.Strengthen i) three K kinds buf t i 1 1 kinds′ buf′ r
 
 -- ---- a rounding
 -- A stride and what is rounded by, within their limits.
@@ -133,7 +133,7 @@ pub record Roundable (K : ℕ) (kinds : List ℕ) (buf : List ℤ) (t : Tally) (
   pub by : RoundableBy K kinds buf t i g more r
 
 pub record Rounds (K : ℕ) (kinds : List ℕ) (buf : List ℤ) (t : Tally) (i g by : ℕ) (kinds′ : List ℕ) (buf′ : List ℤ) (r : Derived) : Type 0 where
-  pub opens : RowOpens (rules.Round i g by) (allRounded g by) K kinds buf t i by kinds′ buf′ r
+  pub opens : RowOpens (rules.Round i g by) (allRounded g by) K kinds buf t i by by kinds′ buf′ r
   pub sizes : (t′ : Tally) → r ≡ Made t′ → RoundsBy g by
 
 -- The head of an or, where others follow; and what stands before Ij: that, and then "E and".

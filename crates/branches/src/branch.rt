@@ -3,14 +3,18 @@ ghost use Rattle.rows.specs.Rows.{Ready};
 ghost use Rattle.branches.specs.Spare.{fieldsLeft, Spare};
 ghost use Rattle.branches.specs.Branches.{Stopped};
 ghost use mathlib.Core.Path.{_≡_};
-ghost use Prim.Native.Nat.{_+_, _<_};
+ghost use Prim.Native.Nat.{_+_};
 ghost use Rattle.branches.specs.Opening.{RoundsBy};
-ghost use Rattle.branches.specs.Branching.{closedBy, resumedBy, Started, Branches, Opened, FirstStands, RoundingChecked, RoundedChecked};
+ghost use Rattle.branches.specs.Branching.{closedBy, resumedBy, Started, Branches, Opened, FirstStands, RoundingChecked, RoundedChecked, SplitOpened, SplitChecked};
 ghost use Rattle.rows.specs.Entries.{Multiplies};
 ghost use lib.IntN.{natAbs};
 use crate::opening::start;
+use crate::opening::start_negated;
 use crate::rounding::put_front;
 use crate::rounding::round;
+use crate::split::joined_by;
+use crate::split::raised_by;
+use crate::split::split;
 use crate::strengthen::strengthen;
 use closes::ends::Ended;
 use closes::ends::close_number;
@@ -22,6 +26,9 @@ use forms::LineNumber;
 use forms::RowNumber;
 use formula::writing::put_pair;
 use rows::derive::Derived;
+use rows::derive::EQUALITY;
+use rows::derive::INEQUALITY;
+use rows::derive::kind_of;
 use rows::steps::Stepped;
 use rows::steps::step;
 use rows::tally::Tally;
@@ -65,6 +72,13 @@ pub enum Stop {
         tally: Tally,
         g: i64,
         by: u16,
+    },
+    Splits {
+        t: LineNumber,
+        row: RowNumber,
+        at: usize,
+        next: usize,
+        tally: Tally,
     },
 }
 
@@ -144,6 +158,15 @@ pub fn entries(
                             t,
                             g,
                             by,
+                            row,
+                            at: a,
+                            next,
+                            tally: u,
+                        };
+                    }
+                    Stepped::Splits { t, tally: u } => {
+                        return Stop::Splits {
+                            t,
                             row,
                             at: a,
                             next,
@@ -315,7 +338,7 @@ pub fn check_branch(
                     else {
                         return first;
                     };
-                    start(lines, kinds, t, n, k, 1, 0, 0);
+                    start(lines, kinds, t, n, k, EQUALITY, 0, 0);
                     let head2 = put_pair(scratch, o1, 0x32);
                     let place2 = Position {
                         step: row,
@@ -330,7 +353,7 @@ pub fn check_branch(
                     else {
                         return second;
                     };
-                    start(lines, kinds, t, n, k, 0, 1, 0);
+                    start(lines, kinds, t, n, k, INEQUALITY, 1, 0);
                     let place3 = Position {
                         step: row,
                         branch: 2,
@@ -379,7 +402,70 @@ pub fn check_branch(
                 }
             }
         }
+        Stop::Splits {
+            t,
+            row,
+            at: a,
+            next,
+            tally: u,
+        } => {
+            match split(lines, kinds, u, t, k) {
+                Derived::Refused { number } => {
+                    return Branched::Fault {
+                        number,
+                        rows: row,
+                        position,
+                        at: a,
+                    };
+                }
+                Derived::Made { tally: v } => {
+                    let n = u.lines;
+                    let both = check_split(p, next, row, lines, kinds, v, k, t, n, scratch, o);
+                    return resumed(both, tally);
+                }
+            }
+        }
     }
+}
+
+// The two branches of a split of line t, behind n lines: t + 1 ≤ 0, whose line stands already, and then -t + 1 ≤ 0. Its row tells the step.
+fn check_split(
+    p: &[u8],
+    at: usize,
+    row: RowNumber,
+    lines: &mut [i32],
+    kinds: &mut [u8],
+    tally: Tally,
+    k: usize,
+    t: LineNumber,
+    n: LineNumber,
+    scratch: &mut [u8],
+    o: usize,
+) -> Branched
+    requires { ⌜ SplitOpened k (n .0) (now kinds) (now lines) tally (t .0) (now p) at o ⌝ }
+    ensures { λ r. ⌜ SplitChecked k (row .0) (n .0) (now (p .entry)) at (now (kinds .entry)) (now (lines .entry)) tally (t .0) (now (scratch .entry)) o (now (kinds .exit)) (now (lines .exit)) (now (scratch .exit)) r ⌝ }
+{
+    let kind = kind_of(kinds, t);
+    let head = put_pair(scratch, o, joined_by(kind));
+    let place = Position {
+        step: row,
+        branch: 0,
+    };
+    let first = check_branch(p, at, place, lines, kinds, tally, k, scratch, head);
+    let Branched::Closed {
+        at: a1,
+        o: o1,
+        tally: v1,
+    } = first
+    else {
+        return first;
+    };
+    start_negated(lines, kinds, t, n, k, INEQUALITY, 1, raised_by(kind));
+    let place2 = Position {
+        step: row,
+        branch: 1,
+    };
+    check_branch(p, a1, place2, lines, kinds, v1, k, scratch, o1)
 }
 
 // The branches of a rounding of line t by `by`, behind n lines: that of j = by, whose line stands already, and then the others. Its row tells the step.
@@ -398,7 +484,7 @@ fn check_rounding(
     scratch: &mut [u8],
     o: usize,
 ) -> Branched
-    requires { ⌜ Opened k (n .0) by (now kinds) (now lines) tally (t .0) (now p) at o × FirstStands k (n .0) by (now kinds) (now lines) (t .0) ⌝ }
+    requires { ⌜ Opened k (n .0) by by (now kinds) (now lines) tally (t .0) (now p) at o × FirstStands k (n .0) by by (now kinds) (now lines) (t .0) ⌝ }
     requires { ⌜ Multiplies (natAbs g) g × RoundsBy (natAbs g) by ⌝ }
     ensures { λ r. ⌜ RoundingChecked k (row .0) (n .0) (now (p .entry)) at (now (kinds .entry)) (now (lines .entry)) tally (t .0) (natAbs g) by (now (scratch .entry)) o (now (kinds .exit)) (now (lines .exit)) (now (scratch .exit)) r ⌝ }
 {
@@ -416,10 +502,10 @@ fn check_rounding(
     else {
         return first;
     };
-    check_rounded(p, a1, row, lines, kinds, v1, k, t, n, g, by, 0, scratch, o1)
+    check_rounded(p, a1, row, lines, kinds, v1, k, t, n, g, by, scratch, o1)
 }
 
-// The branches of a rounding from j on: t + by ≤ 0 with tA + j, each with Ej before its formula.
+// The branches of a rounding behind the first: t + by ≤ 0 with tA + j for each j below `by`, each with Ej before its formula.
 fn check_rounded(
     p: &[u8],
     at: usize,
@@ -432,24 +518,30 @@ fn check_rounded(
     n: LineNumber,
     g: i64,
     by: u16,
-    j: u16,
     scratch: &mut [u8],
     o: usize,
 ) -> Branched
-    requires { ⌜ Opened k (n .0) by (now kinds) (now lines) tally (t .0) (now p) at o × (j < by) ⌝ }
+    requires { ⌜ Opened k (n .0) by by (now kinds) (now lines) tally (t .0) (now p) at o ⌝ }
     requires { ⌜ Multiplies (natAbs g) g × RoundsBy (natAbs g) by ⌝ }
-    ensures { λ r. ⌜ RoundedChecked k (row .0) (n .0) (now (p .entry)) at (now (kinds .entry)) (now (lines .entry)) tally (t .0) (natAbs g) by j (now (scratch .entry)) o (now (kinds .exit)) (now (lines .exit)) (now (scratch .exit)) r ⌝ }
+    ensures { λ r. ⌜ RoundedChecked k (row .0) (n .0) (now (p .entry)) at (now (kinds .entry)) (now (lines .entry)) tally (t .0) (natAbs g) by 0 (now (scratch .entry)) o (now (kinds .exit)) (now (lines .exit)) (now (scratch .exit)) r ⌝ }
 {
-    start(lines, kinds, t, n, k, 0, by, j);
-    let following = j + 1;
-    let others = following < by;
-    let front = put_front(lines, n, k, g, others, scratch, o);
-    let place = Position {
-        step: row,
-        branch: following,
-    };
-    let own = check_branch(p, at, place, lines, kinds, tally, k, scratch, front);
-    if others {
+    let mut here = at;
+    let mut end = o;
+    let mut count = tally;
+    let mut j = 0;
+    loop {
+        start(lines, kinds, t, n, k, INEQUALITY, by, j);
+        let following = j + 1;
+        let others = following < by;
+        let front = put_front(lines, n, k, g, others, scratch, end);
+        let place = Position {
+            step: row,
+            branch: following,
+        };
+        let own = check_branch(p, here, place, lines, kinds, count, k, scratch, front);
+        if !others {
+            return own;
+        }
         let Branched::Closed {
             at: a1,
             o: o1,
@@ -458,22 +550,9 @@ fn check_rounded(
         else {
             return own;
         };
-        return check_rounded(
-            p,
-            a1,
-            row,
-            lines,
-            kinds,
-            v1,
-            k,
-            t,
-            n,
-            g,
-            by,
-            following,
-            scratch,
-            o1,
-        );
+        here = a1;
+        end = o1;
+        count = v1;
+        j = following;
     }
-    own
 }

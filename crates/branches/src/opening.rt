@@ -3,11 +3,12 @@ ghost use Prim.Native.Nat.{_≤_, _<_};
 ghost use lib.ListN.{length, set};
 ghost use mathlib.Core.Path.{_≡_};
 ghost use Rattle.forms.specs.Edition.{edition1};
-ghost use Rattle.lines.specs.Buffer.{LineStart, startedLine};
+ghost use Rattle.lines.specs.Buffer.{LineStart, LineNegated, startedLine, negatedLine};
 ghost use Rattle.rows.specs.Rows.{Ready};
 ghost use Rattle.branches.specs.Opening.{Opens};
 use forms::LineNumber;
 use rows::derive::Derived;
+use rows::derive::INEQUALITY;
 use rows::derive::set_kind;
 use rows::tally::Tally;
 use rows::tally::line_counted;
@@ -32,18 +33,38 @@ pub fn start(
     set_kind(kinds, n, kind);
 }
 
-// Line i is to be raised by `by`: the branching step is counted, and the first branch's line stands, t + by ≤ 0 with tA + by. 17, 16, 13.
+// The same of line i negated.
+pub fn start_negated(
+    lines: &mut [i32],
+    kinds: &mut [u8],
+    i: LineNumber,
+    n: LineNumber,
+    k: usize,
+    kind: u8,
+    x: u16,
+    y: u16,
+)
+    requires { ⌜ LineNegated k (now lines) (i .0) (n .0) x y × (edition1 .lines ≤ length (now kinds)) ⌝ }
+    ensures lines { λ _. ⌜ now (lines .exit) ≡ negatedLine k (i .0) (n .0) x y (now (lines .entry)) ⌝ }
+    ensures kinds { λ _. ⌜ now (kinds .exit) ≡ set (now (kinds .entry)) (n .0) kind ⌝ }
+{
+    lines::start_negated(lines, i, n, k, x, y);
+    set_kind(kinds, n, kind);
+}
+
+// The branching step is counted, and the first branch's line stands: line i with t + x ≤ 0 and tA + y. 17, 16, 13.
 pub fn open_step(
     lines: &mut [i32],
     kinds: &mut [u8],
     tally: Tally,
     i: LineNumber,
-    by: u16,
+    x: u16,
+    y: u16,
     k: usize,
 ) -> Derived
     requires { ⌜ Ready k (now kinds) (now lines) (tally .lines .0) ⌝ }
     requires { ⌜ i .0 < tally .lines .0 ⌝ }
-    ensures { λ r. ⌜ Opens k (now (kinds .entry)) (now (lines .entry)) tally (i .0) by (now (kinds .exit)) (now (lines .exit)) r ⌝ }
+    ensures { λ r. ⌜ Opens k (now (kinds .entry)) (now (lines .entry)) tally (i .0) x y (now (kinds .exit)) (now (lines .exit)) r ⌝ }
 {
     let opened = open_counted(tally);
     let may = opened.made;
@@ -57,10 +78,10 @@ pub fn open_step(
     if !made {
         return Derived::Refused { number: 16 };
     }
-    if !lines::raised_fit(lines, i, k, by) {
+    if !lines::raised_fit(lines, i, k, x, y) {
         return Derived::Refused { number: 13 };
     }
     let n = tally.lines;
-    start(lines, kinds, i, n, k, 0, by, by);
+    start(lines, kinds, i, n, k, INEQUALITY, x, y);
     Derived::Made { tally: next }
 }

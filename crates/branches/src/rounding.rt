@@ -8,6 +8,7 @@ ghost use Rattle.forms.specs.Edition.{edition1};
 ghost use Rattle.forms.specs.Forms.{_divides_};
 ghost use Rattle.forms.specs.Reduced.{reduced};
 ghost use Rattle.forms.specs.Flat.{formIn};
+ghost use Rattle.fields.specs.Fields.{};
 ghost use Rattle.formula.specs.Writing.{scratchLimit, Numbered, Divisor, Stores};
 ghost use Rattle.lines.specs.Buffer.{size};
 ghost use Rattle.proof.specs.Rows.{undivided};
@@ -22,6 +23,7 @@ use forms::ROUNDING;
 use formula::writing::put_pair;
 use formula::writing::put_stride;
 use rows::derive::Derived;
+use rows::derive::INEQUALITY;
 use rows::derive::is_there;
 use rows::derive::kind_of;
 use rows::tally::Tally;
@@ -59,7 +61,7 @@ fn test_round(
     if !is_there(tally, i) {
         return Test::Refused { number: 10 };
     }
-    if kind_of(kinds, i) != 0 {
+    if kind_of(kinds, i) != INEQUALITY {
         return Test::Refused { number: 11 };
     }
     if !is_stride(g) {
@@ -101,7 +103,7 @@ pub fn round(
             return Derived::Refused { number };
         }
         Test::Passed => {
-            return open_step(lines, kinds, tally, i, by, k);
+            return open_step(lines, kinds, tally, i, by, by, k);
         }
     }
 }

@@ -4,6 +4,7 @@ ghost use Rattle.branches.specs.Opening.{Strengthens};
 use crate::opening::open_step;
 use forms::LineNumber;
 use rows::derive::Derived;
+use rows::derive::INEQUALITY;
 use rows::derive::is_there;
 use rows::derive::kind_of;
 use rows::tally::Tally;
@@ -22,8 +23,8 @@ pub fn strengthen(
     if !is_there(tally, i) {
         return Derived::Refused { number: 10 };
     }
-    if kind_of(kinds, i) != 0 {
+    if kind_of(kinds, i) != INEQUALITY {
         return Derived::Refused { number: 11 };
     }
-    open_step(lines, kinds, tally, i, 1, k)
+    open_step(lines, kinds, tally, i, 1, 1, k)
 }

@@ -8,7 +8,7 @@ use native.Mathlib.Omega.{arith}
 use lib.Dec.{T, leb→le, le→leb, ltb→lt, lt→ltb, eqb→eq, eqb-refl}
 use lib.ListN.{length}
 use Rattle.forms.specs.Edition.{Edition, edition1}
-use Rattle.forms.specs.Forms.{Form, Kind, ≤0, =0, Constraint}
+use Rattle.forms.specs.Forms.{Form, ≤0, =0, ConstraintKind, says, ≠0, Constraint}
 use Rattle.fields.specs.declared.FileKind.{FileKind}
 use Rattle.fields.specs.Answers.{accepted, fileA, fileB}
 use Rattle.fields.specs.Numbers.{formWidth}
@@ -54,9 +54,11 @@ module _ {X : Type 0} {R : Item → X → Type 0} where
       subst (λ (fs : Fields). Lists R fs (x ∷ xs)) (sym (f .are)) (next (f .first) (subst (λ (i : Item). R i x) (sym (ap₂ item (f .tag) (f .contents))) r) (listed (f .after) (f .rest) t))
 
 -- ---- the constraints
-kind-known : (tag : ℕ) (k : Kind) → kindTagged tag ≡ some k → T (known FileKind.Bundle tag)
+kind-known : (tag : ℕ) (k : ConstraintKind) → kindTagged tag ≡ some k → T (known FileKind.Bundle tag)
 unfolding kindTagged known headerTag
-kind-known tag k h = by-tag (λ n. T (known FileKind.Bundle n)) tag 0x03 ≤0 tt (by-tag (λ n. T (known FileKind.Bundle n)) tag 0x04 =0 tt (λ e. absurd (let z : _≡_ {A = ℕ} 0 1 = cc in omega arith))) h
+kind-known tag k h =
+    let P : ℕ → Type 0 = λ n. T (known FileKind.Bundle n) in
+    by-tag P tag 0x03 (says ≤0) tt (by-tag P tag 0x04 (says =0) tt (by-tag P tag 0x05 ≠0 tt (λ e. absurd (let z : _≡_ {A = ℕ} 0 1 = cc in omega arith)))) h
 
 -- The fields fs state the constraints cs, of which with the n before them there are not too many.
 record Constrained (e : Edition) (K n : ℕ) (fs : Fields) (cs : List Constraint) : Type 0 where

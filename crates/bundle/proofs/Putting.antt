@@ -21,11 +21,11 @@ use Rattle.bundle.specs.Put.{firstBad, fieldSize, InOrder}
 
 -- ---- kinds
 module _ (kinds : List ℕ) (i : ℕ) where
-  pub bad-next : i < length kinds → getD kinds i 0 ≤ 1 → firstBad i (drop i kinds) ≡ firstBad (i + 1) (drop (i + 1) kinds)
-  bad-next h l = rw (drop-cons kinds i 0 h, le-leb (getD kinds i 0) 1 l, add-one)
+  pub bad-next : i < length kinds → getD kinds i 0 ≤ 2 → firstBad i (drop i kinds) ≡ firstBad (i + 1) (drop (i + 1) kinds)
+  bad-next h l = rw (drop-cons kinds i 0 h, le-leb (getD kinds i 0) 2 l, add-one)
 
-  pub bad-here : i < length kinds → 1 < getD kinds i 0 → firstBad i (drop i kinds) ≡ i
-  bad-here h l = rw (drop-cons kinds i 0 h, lt-leb (getD kinds i 0) 1 l)
+  pub bad-here : i < length kinds → 2 < getD kinds i 0 → firstBad i (drop i kinds) ≡ i
+  bad-here h l = rw (drop-cons kinds i 0 h, lt-leb (getD kinds i 0) 2 l)
 
   pub bad-none : length kinds ≤ i → firstBad i (drop i kinds) ≡ i
   bad-none h = rw (drop-of-length-le kinds h)

@@ -28,7 +28,7 @@ use Rattle.bundle.specs.Write.{writeBundle}
 use Rattle.bundle.specs.Put.{InOrder}
 use Rattle.bundle.proofs.Laid.{bundle-gives, bundle-accepts, short-gives, short-accepted, laid-file, file-laid}
 use Rattle.fields.proofs.Whole.{FileOf, whole-file}
-use Rattle.bundle.proofs.Writable.{bytesOf, bundleBytes-gives, bundleBytes-accepted, FormsInWidth, Given, constraints-given, constraintItem, bundleItems, bytesOf-file, bundleItems-framed, constraintItems-state, bundleItems-short, bundleItems-bare, length-kindsOf, kinds-binary, sized, length-numbersOf, restated}
+use Rattle.bundle.proofs.Writable.{bytesOf, bundleBytes-gives, bundleBytes-accepted, FormsInWidth, Given, constraints-given, constraintItem, bundleItems, bytesOf-file, bundleItems-framed, constraintItems-state, bundleItems-short, bundleItems-bare, length-kindsOf, kinds-valid, sized, length-numbersOf, restated}
 
 -- ---- what an accepted writing leaves
 -- What writing these bytes leaves, if it is accepted.
@@ -118,7 +118,7 @@ writable-file K kinds numbers w g =
 bytes-read : (K : ℕ) (kinds : List ℕ) (numbers : List ℤ) → All (InWidth 2) numbers → InOrder K kinds numbers → (kinds′ : List ℕ) (numbers′ : List ℤ) → length kinds ≤ length kinds′ → length numbers ≤ length numbers′
     → readBundle kinds′ numbers′ (bytesOf K kinds numbers) ≡ readAs K kinds numbers kinds′ numbers′
 bytes-read K kinds numbers h w kinds′ numbers′ l m =
-    let g = constraints-given 2 K numbers (w .binary) (w .size) h in
+    let g = constraints-given 2 K numbers (w .valid) (w .size) h in
     let b : Bundle = record { K = K; constraints = g .constraints } in
     rw (g .kinds-are, g .numbers-are) at (read-file kinds′ numbers′ (bytesOf K kinds numbers) b (writable-file K kinds numbers w g) (rw (g .kinds-are) l) (rw (g .numbers-are) m))
 
@@ -150,7 +150,7 @@ writable {K} {cs} low high few t = record {
   low = low;
   high = high;
   few = rw length-kindsOf few;
-  binary = kinds-binary cs;
+  valid = kinds-valid cs;
   size = length-numbersOf t ∙ rw length-kindsOf;
 }
 

@@ -9,7 +9,8 @@ use lib.Dec.{leb, ltb, eqb}
 use lib.ListN.{length}
 use borrow.Author.Tests.{ltb-true, ltb-false, eqb-true, eqb-false, leb-true, leb-false, ne-eqb, le-leb}
 use Rattle.forms.specs.Edition.{edition1, editionNumbered}
-use Rattle.forms.specs.Forms.{Kind, ≤0, =0, Form, Constraint}
+use Rattle.forms.specs.Forms.{≤0, =0, ConstraintKind, says, ≠0, Form, Constraint}
+use Rattle.forms.specs.Flat.{kindOf, constraintKindOf}
 use Rattle.fields.specs.declared.FileKind.{FileKind}
 use Rattle.fields.specs.declared.header.Headed.{Headed}
 use Rattle.fields.specs.Answers.{answer, acceptance, Result, refused, accepted, _>>=_, _>>_, need, found}
@@ -138,56 +139,59 @@ module _ (start : ℕ) where
   sought-refused (Counted.Refused x y) {n = n} {a = a} e f = let z : x ≡ n = cc in let w : y ≡ a = cc in rw (z, w)
 
 -- ---- the definitions
--- a constraint's tag is 0x03 or 0x04
-pub tag-most : (tag : ℕ) → known FileKind.Bundle tag ≡ true → ltb tag 0x03 ≡ false → tag ≤ 4
+-- a constraint's tag is 0x03, 0x04 or 0x05
+pub tag-most : (tag : ℕ) → known FileKind.Bundle tag ≡ true → ltb tag 0x03 ≡ false → tag ≤ 5
 unfolding known headerTag
-tag-most tag h l = go (leb tag 4) refl
+tag-most tag h l = go (leb tag 5) refl
   where
-    go : (p : Bool) → leb tag 4 ≡ p → tag ≤ 4
-    go true e = leb-true tag 4 e
+    go : (p : Bool) → leb tag 5 ≡ p → tag ≤ 5
+    go true e = leb-true tag 5 e
     go false e =
-        let big = leb-false tag 4 e in
+        let big = leb-false tag 5 e in
         let one : eqb tag 1 ≡ false = ne-eqb tag 1 (λ q. omega arith) in
         let two : eqb tag 2 ≡ false = ne-eqb tag 2 (λ q. omega arith) in
         let three : leb 3 tag ≡ true = le-leb 3 tag (omega arith) in
         absurd (let z : _≡_ {A = Bool} true false = sym h ∙ rw (one, two, three, e) in let w : _≡_ {A = ℕ} 0 1 = cc in omega arith)
 
--- the kind that a tag names, by the tests of the code
-kind-of : (tag : ℕ) → known FileKind.Bundle tag ≡ true → ltb tag 0x03 ≡ false → kindTagged tag ≡ some (cond (eqb tag 0x03) ≤0 =0)
-unfolding kindTagged
-kind-of tag h l = go (eqb tag 0x03) (eqb tag 0x04) refl refl
+-- the kind that a tag names, by its number
+kind-of : (tag : ℕ) → known FileKind.Bundle tag ≡ true → ltb tag 0x03 ≡ false → kindTagged tag ≡ some (constraintKindOf (tag - 3))
+unfolding kindTagged constraintKindOf kindOf
+kind-of tag h l = go (eqb tag 0x03) (eqb tag 0x04) (eqb tag 0x05) refl refl refl
   where
-    go : (p q : Bool) → eqb tag 0x03 ≡ p → eqb tag 0x04 ≡ q
-        → _≡_ {A = Option Kind} (elim p [ true ↦ some ≤0 | false ↦ elim q [ true ↦ some =0 | false ↦ none ] ]) (some (cond p ≤0 =0))
-    go true q a b = refl
-    go false true a b = refl
-    go false false a b = absurd (omega (arith, tag-most tag h l, ltb-false tag 3 l, eqb-false tag 3 a, eqb-false tag 4 b))
+    go : (p q r : Bool) → eqb tag 0x03 ≡ p → eqb tag 0x04 ≡ q → eqb tag 0x05 ≡ r
+        → _≡_ {A = Option ConstraintKind} (elim p [ true ↦ some (says ≤0) | false ↦ elim q [ true ↦ some (says =0) | false ↦ elim r [ true ↦ some ≠0 | false ↦ none ] ] ]) (some (constraintKindOf (tag - 3)))
+    go true q r a b c = ap (λ (n : ℕ). some (constraintKindOf (n - 3))) (sym (eqb-true tag 3 a))
+    go false true r a b c = ap (λ (n : ℕ). some (constraintKindOf (n - 3))) (sym (eqb-true tag 4 b))
+    go false false true a b c = ap (λ (n : ℕ). some (constraintKindOf (n - 3))) (sym (eqb-true tag 5 c))
+    go false false false a b c = absurd (omega (arith, tag-most tag h l, ltb-false tag 3 l, eqb-false tag 3 a, eqb-false tag 4 b, eqb-false tag 5 c))
 
 no-kind : (tag : ℕ) → ltb tag 0x03 ≡ true → kindTagged tag ≡ none
 unfolding kindTagged
 no-kind tag l =
     let small = ltb-true tag 3 l in
-    go (eqb tag 0x03) (eqb tag 0x04) (ne-eqb tag 3 (λ e. omega arith)) (ne-eqb tag 4 (λ e. omega arith))
+    go (eqb tag 0x03) (eqb tag 0x04) (eqb tag 0x05) (ne-eqb tag 3 (λ e. omega arith)) (ne-eqb tag 4 (λ e. omega arith)) (ne-eqb tag 5 (λ e. omega arith))
   where
-    go : (p q : Bool) → p ≡ false → q ≡ false → _≡_ {A = Option Kind} (elim p [ true ↦ some ≤0 | false ↦ elim q [ true ↦ some =0 | false ↦ none ] ]) none
-    go true q a b = absurd (let z : _≡_ {A = ℕ} 0 1 = cc in omega arith)
-    go false true a b = absurd (let z : _≡_ {A = ℕ} 0 1 = cc in omega arith)
-    go false false a b = refl
+    go : (p q r : Bool) → p ≡ false → q ≡ false → r ≡ false
+        → _≡_ {A = Option ConstraintKind} (elim p [ true ↦ some (says ≤0) | false ↦ elim q [ true ↦ some (says =0) | false ↦ elim r [ true ↦ some ≠0 | false ↦ none ] ] ]) none
+    go true q r a b c = absurd (let z : _≡_ {A = ℕ} 0 1 = cc in omega arith)
+    go false true r a b c = absurd (let z : _≡_ {A = ℕ} 0 1 = cc in omega arith)
+    go false false true a b c = absurd (let z : _≡_ {A = ℕ} 0 1 = cc in omega arith)
+    go false false false a b c = refl
 
 module _ (file K : ℕ) where
   -- the constraint of a field before those after it
   after : (f : Field) (fs : Fields) (r : Counted)
-      → (countedOf file K fs r >>= (λ (cs : List Constraint). accepted (record { kind = cond (eqb (f .tag) 0x03) ≤0 =0; form = formFrom 2 K (f .contents) } ∷ cs)))
+      → (countedOf file K fs r >>= (λ (cs : List Constraint). accepted (record { kind = constraintKindOf (f .tag - 3); form = formFrom 2 K (f .contents) } ∷ cs)))
       ≡ countedOf file K (f ▸ fs) r
   unfolding _>>=_ stated
   after f fs (Counted.Count n) = refl
   after f fs (Counted.Refused n a) = refl
 
   -- the tests of one field, each way
-  tests : (a : ℕ) (form : Form) (fs : Fields) (κ : Kind) (o : Option Kind) (X : Result (List Constraint)) (c : Counted) (p q r u : Bool)
+  tests : (a : ℕ) (form : Form) (fs : Fields) (κ : ConstraintKind) (o : Option ConstraintKind) (X : Result (List Constraint)) (c : Counted) (p q r u : Bool)
       → (q ≡ true → o ≡ none) → (p ≡ true → q ≡ false → o ≡ some κ)
       → (X >>= (λ (cs : List Constraint). accepted (record { kind = κ; form = form } ∷ cs))) ≡ countedOf file K fs c
-      → (need (answer 3 file a) p >> (found (answer 4 file a) o >>= (λ (kind : Kind).
+      → (need (answer 3 file a) p >> (found (answer 4 file a) o >>= (λ (kind : ConstraintKind).
       need (answer 6 file a) r >> (need (answer 8 file a) u >> (X >>= (λ (cs : List Constraint). accepted (record { kind = kind; form = form } ∷ cs)))))))
       ≡ countedOf file K fs (unlessFault (cond p (cond q 4 (cond r (cond u 0 8) 6)) 3) a c)
   unfolding need _>>_ _>>=_ found
@@ -202,7 +206,7 @@ module _ (file K : ℕ) where
   constraints-counted n (ends at) = refl
   constraints-counted n (cut at) = refl
   constraints-counted n (f ▸ fs) =
-      tests (f .at) (formFrom 2 K (f .contents)) (f ▸ fs) (cond (eqb (f .tag) 0x03) ≤0 =0) (kindTagged (f .tag))
+      tests (f .at) (formFrom 2 K (f .contents)) (f ▸ fs) (constraintKindOf (f .tag - 3)) (kindTagged (f .tag))
       (constraints file edition1 K (suc n) fs) (counted K (suc n) fs)
       (known FileKind.Bundle (f .tag)) (ltb (f .tag) 0x03) (eqb (length (f .contents)) (formWidth 2 K)) (ltb n 32)
       (no-kind (f .tag)) (kind-of (f .tag))

@@ -1,16 +1,17 @@
 -- Storing constraints: one turn of each loop, as laws over plain values. Assumes nothing.
 use mathlib.Core.Path.{_≡_, refl, sym, ap, _∙_}
-use mathlib.Core.Bool.{Bool, true, false, cond}
+use mathlib.Core.Bool.{Bool, true, false}
 use mathlib.Core.List.{List, [], _∷_, _++_}
-use Prim.Native.Nat.{ℕ, suc, _+_, _*_, _-_, _≤_, _<_}
+use Prim.Native.Nat.{ℕ, zero, suc, _+_, _*_, _-_, _≤_, _<_}
 use native.Mathlib.Nat.{suc-mul, zero-mul, mul-le-mul-right}
 use native.Mathlib.Omega.{arith}
-use lib.Dec.{leb, ltb, eqb}
+use lib.Dec.{leb, ltb}
 use lib.IntN.{ℤ}
 use lib.ListN.{length, getD, take, drop, set, length-set}
 use lib.Seq.{sets, length-sets, drop-drop}
-use borrow.Author.Tests.{leb-true, leb-false, ltb-true, ltb-false, eqb-true, eqb-false}
-use Rattle.forms.specs.Forms.{≤0, =0, Constraint}
+use borrow.Author.Tests.{leb-true, leb-false, ltb-true, ltb-false, eqb-true}
+use Rattle.forms.specs.Forms.{Constraint}
+use Rattle.forms.specs.Flat.{kindOf, constraintKindOf}
 use Rattle.fields.specs.declared.FileKind.{FileKind}
 use Rattle.fields.specs.Fields.{Fields, ends, cut}
 use Rattle.fields.specs.Header.{known}
@@ -45,13 +46,15 @@ stored-next l at i n s start h =
 
 -- ---- constraints
 -- the kind's number, as the code computes it
-pub kind-number : (tag : ℕ) → known FileKind.Bundle tag ≡ true → ltb tag 0x03 ≡ false → tag - 3 ≡ kindNumber (cond (eqb tag 0x03) ≤0 =0)
-unfolding kindNumber
-kind-number tag h l = go (eqb tag 3) refl
-  where
-    go : (p : Bool) → eqb tag 3 ≡ p → tag - 3 ≡ kindNumber (cond p ≤0 =0)
-    go true a = omega (arith, eqb-true tag 3 a)
-    go false a = omega (arith, tag-most tag h l, ltb-false tag 3 l, eqb-false tag 3 a)
+number-kind : (n : ℕ) → n ≤ 2 → kindNumber (constraintKindOf n) ≡ n
+unfolding kindNumber constraintKindOf kindOf
+number-kind zero h = refl
+number-kind (suc zero) h = refl
+number-kind (suc (suc zero)) h = refl
+number-kind (suc (suc (suc n))) h = absurd (omega arith)
+
+pub kind-number : (tag : ℕ) → known FileKind.Bundle tag ≡ true → ltb tag 0x03 ≡ false → kindNumber (constraintKindOf (tag - 3)) ≡ tag - 3
+kind-number tag h l = number-kind (tag - 3) (omega (arith, tag-most tag h l, ltb-false tag 3 l))
 
 -- the invariant: what is left to store gives what the whole gives
 pub record Storing (s : List ℕ) (at K count : ℕ) (kinds₀ : List ℕ) (numbers₀ : List ℤ) (kinds : List ℕ) (numbers : List ℤ) (here n : ℕ) : Type 0 where

@@ -13,7 +13,7 @@ use lib.Seq.{take-at, drop-at, take-suc, length-take-le}
 use borrow.Author.Tests.{eqb-true}
 use mir.Facts.{and-yes, yes-and}
 use Rattle.forms.specs.Edition.{Edition, edition1}
-use Rattle.forms.specs.Forms.{Form, Kind, ≤0, =0, Constraint, All, nil, cons}
+use Rattle.forms.specs.Forms.{Form, ≤0, =0, ConstraintKind, says, ≠0, Constraint, All, nil, cons}
 use Rattle.fields.specs.Answers.{accepted}
 use Rattle.fields.specs.Numbers.{unsignedBytes, signedsBytes, flat, formBytes}
 use Rattle.fields.specs.Fields.{Item, item, fieldBytes, fileOf, Framed, note, withoutNotes, unlessNoteItem}
@@ -38,12 +38,12 @@ module _ (K : ℕ) (kinds : List ℕ) (numbers : List ℤ) where
   unfolding bundleBytes
   bundleBytes-gives = test _ _ tt λ b. test _ _ tt λ f. seq (each-gives _ _ (λ i. tt) 0 kinds) λ a. test _ _ tt λ s.
       let (l, m) = and-yes (leb 1 K) (leb K (edition1 .constants)) b in
-      gives-accepted (record { low = leb→le 1 K l; high = leb→le K (edition1 .constants) m; few = leb→le _ _ f; binary = a; size = eqb→eq _ _ s }, refl)
+      gives-accepted (record { low = leb→le 1 K l; high = leb→le K (edition1 .constants) m; few = leb→le _ _ f; valid = a; size = eqb→eq _ _ s }, refl)
 
   pub bundleBytes-accepted : InOrder K kinds numbers → bundleBytes edition1 K kinds numbers ≡ accepted bytesOf
   unfolding bundleBytes
   bundleBytes-accepted h = needs _ _ _ (yes-and (leb 1 K) (leb K (edition1 .constants)) (le→leb 1 K (h .low)) (le→leb K (edition1 .constants) (h .high)))
-      ∙ needs _ _ _ (le→leb _ _ (h .few)) ∙ passes _ (each-accepted _ _ 0 (h .binary)) ∙ needs _ _ _ (rw (h .size) (eqb-refl (length kinds * suc K)))
+      ∙ needs _ _ _ (le→leb _ _ (h .few)) ∙ passes _ (each-accepted _ _ 0 (h .valid)) ∙ needs _ _ _ (rw (h .size) (eqb-refl (length kinds * suc K)))
 
 -- ---- kinds and numbers as constraints
 pub length-flat : (t : Form) → length (flat t) ≡ suc (length (t .coeffs))
@@ -66,16 +66,17 @@ all-getD i x nil h = absurd (omega arith)
 all-getD zero x (cons p ps) h = p
 all-getD (suc i) x (cons p ps) h = all-getD i x ps (omega arith)
 
--- The kind of a number that is 0 or 1.
-kind-of : (n : ℕ) → T (leb n 1) → (k : Kind) × (kindNumber k ≡ n)
+-- The kind of a number that is 0, 1 or 2.
+kind-of : (n : ℕ) → T (leb n 2) → (k : ConstraintKind) × (kindNumber k ≡ n)
 unfolding kindNumber
-kind-of zero h = (≤0, refl)
-kind-of (suc zero) h = (=0, refl)
-kind-of (suc (suc n)) h = absurd (let l = leb→le (suc (suc n)) 1 h in omega arith)
+kind-of zero h = (says ≤0, refl)
+kind-of (suc zero) h = (says =0, refl)
+kind-of (suc (suc zero)) h = (≠0, refl)
+kind-of (suc (suc (suc n))) h = absurd (let l = leb→le (suc (suc (suc n))) 2 h in omega arith)
 
 module _ (w K : ℕ) where
   -- The first kind and the first K+1 numbers are the first constraint.
-  first-given : (n : ℕ) (kinds : List ℕ) (numbers : List ℤ) → T (leb n 1) → K < length numbers → All (InWidth w) numbers → Given w K kinds (drop (suc K) numbers) → Given w K (n ∷ kinds) numbers
+  first-given : (n : ℕ) (kinds : List ℕ) (numbers : List ℤ) → T (leb n 2) → K < length numbers → All (InWidth w) numbers → Given w K kinds (drop (suc K) numbers) → Given w K (n ∷ kinds) numbers
   unfolding kindsOf numbersOf flat
   first-given n kinds numbers b long h rest =
       let (k, e) = kind-of n b in
@@ -86,7 +87,7 @@ module _ (w K : ℕ) where
         widths = cons (record { size = length-take-le K numbers (omega arith); coeffs = all-take K h; d = all-getD K (pos 0) h long }) (rest .widths);
       }
 
-  pub constraints-given : {kinds : List ℕ} (numbers : List ℤ) → All (λ kind. T (leb kind 1)) kinds → length numbers ≡ length kinds * suc K → All (InWidth w) numbers → Given w K kinds numbers
+  pub constraints-given : {kinds : List ℕ} (numbers : List ℤ) → All (λ kind. T (leb kind 2)) kinds → length numbers ≡ length kinds * suc K → All (InWidth w) numbers → Given w K kinds numbers
   unfolding kindsOf numbersOf
   constraints-given [] nil s h = record { constraints = []; kinds-are = refl; numbers-are = refl; widths = nil }
   constraints-given (z ∷ zs) nil s h = absurd (omega arith)
@@ -119,20 +120,23 @@ pub bytesOf-file : (K : ℕ) {cs : List Constraint} → All (λ c. length (c .fo
 bytesOf-file K {cs} h = ap (λ (bs : List ℕ). headerBytes K ++ bs) (constraints-bytes edition1 K h) ∙ sym (header-file K (map (constraintItem 2) cs))
 
 -- ---- these fields are framed, none is a note, and each states its constraint
-kind-tagged : (k : Kind) → kindTagged (0x03 + kindNumber k) ≡ some k
+kind-tagged : (k : ConstraintKind) → kindTagged (0x03 + kindNumber k) ≡ some k
 unfolding kindTagged kindNumber
-kind-tagged ≤0 = refl
-kind-tagged =0 = refl
+kind-tagged (says ≤0) = refl
+kind-tagged (says =0) = refl
+kind-tagged ≠0 = refl
 
-binary : (k : Kind) → T (leb (kindNumber k) 1)
+kind-valid : (k : ConstraintKind) → T (leb (kindNumber k) 2)
 unfolding kindNumber
-binary ≤0 = tt
-binary =0 = tt
+kind-valid (says ≤0) = tt
+kind-valid (says =0) = tt
+kind-valid ≠0 = tt
 
-kind-no-note : (k : Kind) → note (0x03 + kindNumber k) ≡ false
+kind-no-note : (k : ConstraintKind) → note (0x03 + kindNumber k) ≡ false
 unfolding note kindNumber
-kind-no-note ≤0 = refl
-kind-no-note =0 = refl
+kind-no-note (says ≤0) = refl
+kind-no-note (says =0) = refl
+kind-no-note ≠0 = refl
 
 module _ {K : ℕ} where
   framed-constraints : K ≤ edition1 .constants → {cs : List Constraint} → FormsInWidth 2 K cs → All Framed (map (constraintItem 2) cs)
@@ -173,10 +177,10 @@ pub length-kindsOf : (cs : List Constraint) → length (kindsOf cs) ≡ length c
 unfolding kindsOf
 length-kindsOf cs = length-map cs (λ c. kindNumber (c .kind))
 
-pub kinds-binary : (cs : List Constraint) → All (λ kind. T (leb kind 1)) (kindsOf cs)
+pub kinds-valid : (cs : List Constraint) → All (λ kind. T (leb kind 2)) (kindsOf cs)
 unfolding kindsOf
-kinds-binary [] = nil
-kinds-binary (c ∷ cs) = cons (binary (c .kind)) (kinds-binary cs)
+kinds-valid [] = nil
+kinds-valid (c ∷ cs) = cons (kind-valid (c .kind)) (kinds-valid cs)
 
 module _ {w K : ℕ} where
   pub sized : {cs : List Constraint} → FormsInWidth w K cs → All (λ c. length (c .form .coeffs) ≡ K) cs
@@ -190,14 +194,16 @@ module _ {w K : ℕ} where
       length-append (flat (c .form)) (numbersOf cs) ∙ omega (arith, length-flat (c .form), h .size)
 
 -- The tag that gives a kind is the one written for it.
-tag-of : (tag : ℕ) (k : Kind) → kindTagged tag ≡ some k → tag ≡ 0x03 + kindNumber k
+tag-of : (tag : ℕ) (k : ConstraintKind) → kindTagged tag ≡ some k → tag ≡ 0x03 + kindNumber k
 unfolding kindTagged kindNumber
-tag-of tag k h = go (eqb tag 0x03) refl (eqb tag 0x04) refl h
+tag-of tag k h = go (eqb tag 0x03) refl (eqb tag 0x04) refl (eqb tag 0x05) refl h
   where
-    go : (a : Bool) → eqb tag 0x03 ≡ a → (b : Bool) → eqb tag 0x04 ≡ b → elim a as (λ _. Option Kind) [ true ↦ some ≤0 | false ↦ elim b [ true ↦ some =0 | false ↦ none ] ] ≡ some k → tag ≡ 0x03 + kindNumber k
-    go true p b q h = eqb-true tag 0x03 p ∙ ap (λ (k : Kind). 0x03 + kindNumber k) (let same : ≤0 ≡ k = cc in same)
-    go false p true q h = eqb-true tag 0x04 q ∙ ap (λ (k : Kind). 0x03 + kindNumber k) (let same : =0 ≡ k = cc in same)
-    go false p false q h = absurd (let z : _≡_ {A = ℕ} 0 1 = cc in omega arith)
+    go : (a : Bool) → eqb tag 0x03 ≡ a → (b : Bool) → eqb tag 0x04 ≡ b → (c : Bool) → eqb tag 0x05 ≡ c
+        → elim a as (λ _. Option ConstraintKind) [ true ↦ some (says ≤0) | false ↦ elim b [ true ↦ some (says =0) | false ↦ elim c [ true ↦ some ≠0 | false ↦ none ] ] ] ≡ some k → tag ≡ 0x03 + kindNumber k
+    go true p b q c r h = eqb-true tag 0x03 p ∙ ap (λ (k : ConstraintKind). 0x03 + kindNumber k) (let same : says ≤0 ≡ k = cc in same)
+    go false p true q c r h = eqb-true tag 0x04 q ∙ ap (λ (k : ConstraintKind). 0x03 + kindNumber k) (let same : says =0 ≡ k = cc in same)
+    go false p false q true r h = eqb-true tag 0x05 r ∙ ap (λ (k : ConstraintKind). 0x03 + kindNumber k) (let same : ≠0 ≡ k = cc in same)
+    go false p false q false r h = absurd (let z : _≡_ {A = ℕ} 0 1 = cc in omega arith)
 
 -- The fields of constraints, whose numbers have two bytes.
 pub record Restated (K : ℕ) (is : List Item) (cs : List Constraint) : Type 0 where

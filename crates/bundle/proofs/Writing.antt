@@ -26,25 +26,25 @@ use Rattle.bundle.proofs.Writable.{bytesOf, bundleBytes-gives}
 
 -- ---- the kinds, tested one by one
 module _ (at : ℕ → Answer) where
-  each-good : (i : ℕ) (kinds : List ℕ) → i + length kinds ≤ firstBad i kinds → each at (λ kind. leb kind 1) i kinds ≡ accepted tt
+  each-good : (i : ℕ) (kinds : List ℕ) → i + length kinds ≤ firstBad i kinds → each at (λ kind. leb kind 2) i kinds ≡ accepted tt
   unfolding each need _>>_
   each-good i [] h = refl
-  each-good i (x ∷ xs) h = go (leb x 1) h (each-good (suc i) xs)
+  each-good i (x ∷ xs) h = go (leb x 2) h (each-good (suc i) xs)
     where
       go : (b : Bool) → i + suc (length xs) ≤ cond b (firstBad (suc i) xs) i
-          → (suc i + length xs ≤ firstBad (suc i) xs → each at (λ kind. leb kind 1) (suc i) xs ≡ accepted tt)
-          → (need (at i) b >> each at (λ kind. leb kind 1) (suc i) xs) ≡ accepted tt
+          → (suc i + length xs ≤ firstBad (suc i) xs → each at (λ kind. leb kind 2) (suc i) xs ≡ accepted tt)
+          → (need (at i) b >> each at (λ kind. leb kind 2) (suc i) xs) ≡ accepted tt
       go true h k = k (omega arith)
       go false h k = absurd (omega arith)
 
-  each-bad : (i : ℕ) (kinds : List ℕ) → firstBad i kinds < i + length kinds → each at (λ kind. leb kind 1) i kinds ≡ refused (at (firstBad i kinds))
+  each-bad : (i : ℕ) (kinds : List ℕ) → firstBad i kinds < i + length kinds → each at (λ kind. leb kind 2) i kinds ≡ refused (at (firstBad i kinds))
   unfolding each need _>>_
   each-bad i [] h = absurd (omega arith)
-  each-bad i (x ∷ xs) h = go (leb x 1) h (each-bad (suc i) xs)
+  each-bad i (x ∷ xs) h = go (leb x 2) h (each-bad (suc i) xs)
     where
       go : (b : Bool) → cond b (firstBad (suc i) xs) i < i + suc (length xs)
-          → (firstBad (suc i) xs < suc i + length xs → each at (λ kind. leb kind 1) (suc i) xs ≡ refused (at (firstBad (suc i) xs)))
-          → (need (at i) b >> each at (λ kind. leb kind 1) (suc i) xs) ≡ refused (at (cond b (firstBad (suc i) xs) i))
+          → (firstBad (suc i) xs < suc i + length xs → each at (λ kind. leb kind 2) (suc i) xs ≡ refused (at (firstBad (suc i) xs)))
+          → (need (at i) b >> each at (λ kind. leb kind 2) (suc i) xs) ≡ refused (at (cond b (firstBad (suc i) xs) i))
       go true h k = k (omega arith)
       go false h k = refl
 

@@ -6,7 +6,7 @@ use Prim.Native.Nat.{ℕ, suc}
 use lib.Dec.{leb, ltb, eqb}
 use lib.ListN.{length}
 use Rattle.forms.specs.Edition.{Edition}
-use Rattle.forms.specs.Forms.{Kind, ≤0, =0, Constraint}
+use Rattle.forms.specs.Forms.{≤0, =0, ConstraintKind, says, ≠0, Constraint}
 use Rattle.fields.specs.declared.FileKind.{FileKind}
 use Rattle.fields.specs.Answers.{answer, fileA, fileB, Result, refused, accepted, _>>=_, _>>_, need, found}
 use Rattle.fields.specs.Numbers.{formFrom, formWidth}
@@ -18,9 +18,9 @@ pub record Bundle : Type 0 where
   pub K : ℕ
   pub constraints : List Constraint
 
--- 0x03 "t ≤ 0", 0x04 "t = 0".
-unfoldable pub kindTagged : ℕ → Option Kind
-kindTagged tag = elim (eqb tag 0x03) [ true ↦ some ≤0 | false ↦ elim (eqb tag 0x04) [ true ↦ some =0 | false ↦ none ] ]
+-- 0x03 "t ≤ 0", 0x04 "t = 0"; 0x05 "t ≠ 0" (document 02, point 6).
+unfoldable pub kindTagged : ℕ → Option ConstraintKind
+kindTagged tag = elim (eqb tag 0x03) [ true ↦ some (says ≤0) | false ↦ elim (eqb tag 0x04) [ true ↦ some (says =0) | false ↦ elim (eqb tag 0x05) [ true ↦ some ≠0 | false ↦ none ] ] ]
 
 -- 1, too long.
 unfoldable pub atMost : (limit file : ℕ) → List ℕ → Result (Unit {0})

@@ -15,13 +15,13 @@ pub data Each {X Y : Type 0} (R : X → Y → Type 0) : List X → List Y → Ty
   nil : Each R [] []
   cons : {x : X} {y : Y} {xs : List X} {ys : List Y} → R x y → Each R xs ys → Each R (x ∷ xs) (y ∷ ys)
 
--- A field 0x03 or 0x04 of K+1 numbers states a constraint.
+-- A field 0x03, 0x04 or 0x05 of K+1 numbers states a constraint (0x05: document 02, point 6).
 pub record States (e : Edition) (K : ℕ) (i : Item) (c : Constraint) : Type 0 where
   pub kind : kindTagged (i .tag) ≡ some (c .kind)
   pub size : length (i .contents) ≡ formWidth (e .coefficientWidth) K
   pub form : formFrom (e .coefficientWidth) K (i .contents) ≡ c .form
 
--- A list of fields without notes: 0x01 of edition 1, 0x02 with K from 1 to 16, then any number of 0x03 and 0x04 of K+1 numbers.
+-- A list of fields without notes: 0x01 of edition 1, 0x02 with K from 1 to 16, then any number of 0x03, 0x04 and 0x05 of K+1 numbers.
 pub record StatesAll (is : List Item) (K : ℕ) (cs : List Constraint) : Type 0 where
   pub body : List Item
   pub are : is ≡ item 0x01 (1 ∷ []) ∷ item 0x02 (K ∷ []) ∷ body

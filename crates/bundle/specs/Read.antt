@@ -7,17 +7,18 @@ use lib.Dec.{leb}
 use lib.ListN.{length}
 use lib.IntN.{ℤ}
 use Rattle.forms.specs.Edition.{edition1}
-use Rattle.forms.specs.Forms.{Kind, ≤0, =0, Constraint}
+use Rattle.forms.specs.Forms.{≤0, =0, ConstraintKind, says, ≠0, Constraint}
 use Rattle.fields.specs.declared.Answer.{Answer}
 use Rattle.fields.specs.Answers.{answer, acceptance, fileA, fileLent, Result, refused, accepted, _>>=_, _>>_, over}
 use Rattle.fields.specs.Numbers.{flat}
 use Rattle.fields.specs.Fields.{fields}
 use Rattle.bundle.specs.Bundle.{Bundle, atMost, bundle}
 
--- Kinds: 0 inequality, 1 equality.
-unfoldable pub kindNumber : Kind → ℕ
-kindNumber ≤0 = 0
-kindNumber =0 = 1
+-- Kinds: 0 inequality, 1 equality; 2 for t ≠ 0 (document 02, point 6).
+unfoldable pub kindNumber : ConstraintKind → ℕ
+kindNumber (says ≤0) = 0
+kindNumber (says =0) = 1
+kindNumber ≠0 = 2
 
 unfoldable pub kindsOf : List Constraint → List ℕ
 kindsOf = map (λ c. kindNumber (c .kind))

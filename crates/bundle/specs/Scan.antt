@@ -6,7 +6,8 @@ use Prim.Native.Nat.{ℕ, zero, suc, _+_, _-_}
 use lib.Dec.{ltb, eqb}
 use lib.ListN.{length}
 use Rattle.forms.specs.Edition.{edition1}
-use Rattle.forms.specs.Forms.{≤0, =0, Constraint}
+use Rattle.forms.specs.Forms.{Constraint}
+use Rattle.forms.specs.Flat.{constraintKindOf}
 use Rattle.fields.specs.declared.FileKind.{FileKind}
 use Rattle.fields.specs.Answers.{answer, acceptance, fileA, fileB, Result, refused, accepted, _>>_}
 use Rattle.fields.specs.Numbers.{formFrom, formWidth}
@@ -37,7 +38,7 @@ counted K n (f ▸ fs) = unlessFault (faultOf K n (f .tag) (length (f .contents)
 unfoldable pub stated : (K : ℕ) → Fields → List Constraint
 stated K (ends at) = []
 stated K (cut at) = []
-stated K (f ▸ fs) = record { kind = cond (eqb (f .tag) 0x03) ≤0 =0; form = formFrom (edition1 .coefficientWidth) K (f .contents) } ∷ stated K fs
+stated K (f ▸ fs) = record { kind = constraintKindOf (f .tag - 0x03); form = formFrom (edition1 .coefficientWidth) K (f .contents) } ∷ stated K fs
 
 -- The count and the fault, as what `constraints` gives; `file` is the number that an answer names the file by.
 abbrev pub countedOf : (file K : ℕ) → Fields → Counted → Result (List Constraint)

@@ -12,7 +12,7 @@ use Rattle.fields.specs.Fields.{fieldBytes}
 use Rattle.fields.specs.Header.{headerBytes}
 
 module _ (e : Edition) (K : ℕ) where
-  -- A constraint's field: kind 0 is tag 0x03, kind 1 tag 0x04; K+1 numbers.
+  -- A constraint's field: kind 0 is tag 0x03, kind 1 tag 0x04, kind 2 tag 0x05 (document 02, point 6); K+1 numbers.
   unfoldable pub constraintsBytes : (kinds : List ℕ) → List ℤ → List ℕ
   constraintsBytes [] zs = []
   constraintsBytes (kind ∷ kinds) zs =
@@ -23,7 +23,7 @@ module _ (e : Edition) (K : ℕ) where
   bundleBytes kinds numbers = do
     need (answer 7 fileLent 0) (leb 1 K && leb K (e .constants))
     need (answer 8 fileLent 0) (leb (length kinds) (e .constraints))
-    each (λ i. answer 24 fileLent i) (λ kind. leb kind 1) 0 kinds
+    each (λ i. answer 24 fileLent i) (λ kind. leb kind 2) 0 kinds
     need (answer 24 fileLent (length kinds)) (eqb (length numbers) (length kinds * suc K))
     accepted (headerBytes K ++ constraintsBytes kinds numbers)
 

@@ -195,7 +195,7 @@ fn read_constraints(
     }
 }
 
-// Reads a bundle into kinds (0 inequality, 1 equality) and numbers, K+1 a constraint.
+// Reads a bundle into kinds (0 inequality, 1 equality, 2 disequality) and numbers, K+1 a constraint.
 pub fn read(file: &[u8], kinds: &mut [u8], numbers: &mut [i16]) -> ReadResult
     ensures { λ r. ⌜ Reads (now (file .entry)) (now (kinds .entry)) (now (numbers .entry)) (now (kinds .exit)) (now (numbers .exit)) r ⌝ }
 {

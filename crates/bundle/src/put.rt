@@ -12,13 +12,13 @@ ghost use Rattle.fields.specs.Numbers.{signedsBytes};
 ghost use Rattle.bundle.specs.Write.{constraintsBytes};
 ghost use Rattle.bundle.specs.Put.{firstBad, fieldSize, InOrder};
 
-// The index of the first kind that is not 0 or 1, or how many there are.
+// The index of the first kind that is not 0, 1 or 2, or how many there are.
 pub fn first_bad(kinds: &[u8]) -> usize
     ensures { λ r. ⌜ r ≡ firstBad 0 (now (kinds .entry)) ⌝ }
 {
     let mut i = 0;
     while i < kinds.len() {
-        if kinds[i] > 1 {
+        if kinds[i] > 2 {
             return i;
         }
         i += 1;
@@ -75,7 +75,7 @@ fn put_numbers(out: &mut [u8], at: usize, numbers: &[i16], from: usize, n: usize
 
 // One constraint's field.
 fn put_constraint(out: &mut [u8], at: usize, k: u8, kind: u8, numbers: &[i16], from: usize)
-    requires { ⌜ kind ≤ 1 ⌝ }
+    requires { ⌜ kind ≤ 2 ⌝ }
     requires { ⌜ at + fieldSize k ≤ length (now out) ⌝ }
     requires { ⌜ from + (k + 1) ≤ length (now numbers) ⌝ }
     ensures { λ _. ⌜ now (out .exit) ≡ sets (now (out .entry)) at (fieldBytes (3 + kind) (signedsBytes (edition1 .coefficientWidth) (take (k + 1) (drop from (now (numbers .entry)))))) ⌝ }

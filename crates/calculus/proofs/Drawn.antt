@@ -6,11 +6,11 @@ use Prim.Native.Nat.{ℕ, suc}
 use lib.Dec.{T}
 use lib.IntN.{ℤ, +ℤ-idr}
 use Rattle.forms.specs.Edition.{Edition}
-use Rattle.forms.specs.Forms.{Form, Kind, ≤0, =0, Line, line, Constraint, lines, All, nil, cons, coeff, nonzero, occurs, Formula, names, _plus_}
-use Rattle.calculus.specs.Rules.{Nth, _▷_, Closed, derive, strengthen, round, number, stride, Rounded, last, more}
-use Rattle.calculus.specs.Reached.{Drawn, DrawnApart, Reached, root, derived, branched, Throughout, ThroughoutRounded}
+use Rattle.forms.specs.Forms.{Form, Kind, ≤0, =0, Line, line, lineApart, neg, Constraint, lines, All, nil, cons, coeff, nonzero, occurs, Formula, names, _plus_}
+use Rattle.calculus.specs.Rules.{Nth, _▷_, Closed, derive, strengthen, round, splitEq, splitNeq, number, stride, Rounded, last, more}
+use Rattle.calculus.specs.Reached.{Drawn, DrawnApart, Reached, root, derived, branched, split, splitNegated, Throughout, ThroughoutRounded}
 use Rattle.calculus.proofs.Sides.{Side, A, B, part, all-nth}
-use Rattle.calculus.proofs.Vocabulary.{Words, words-new, words-raised, vocabulary}
+use Rattle.calculus.proofs.Vocabulary.{Words, words-new, words-raised, words-neg, vocabulary}
 use Rattle.calculus.proofs.Interpolation.{sides, initial-words, occurs-if}
 
 -- which constants occur in A and in B
@@ -22,6 +22,8 @@ module _ (As Bs : List Constraint) where
   reached-words root = initial-words (sides As Bs)
   reached-words (derived r n) = words-new (occurring As Bs) (reached-words r) n
   reached-words (branched i kind k j r p) = words-raised (occurring As Bs) (reached-words r) i p kind k j
+  reached-words (split i j r p) = words-raised (occurring As Bs) (reached-words r) i p ≤0 1 j
+  reached-words (splitNegated i j r p) = words-neg (occurring As Bs) (reached-words r) i p 1 j
 
   module _ {ls : List Line} (w : Words (occurring As Bs) ls) where
     at-side : (σ : Side) (i : ℕ) {l : Line} → Nth ls i l → (c : ℕ) → T (nonzero (part σ (coeff (l .t) c) (coeff (l .tA) c))) → T (occurring As Bs σ c)
@@ -60,6 +62,13 @@ module _ {As Bs : List Constraint} {ls : List Line} {t tA : Form} (i : ℕ) (r :
   standing : (kind : Kind) → Reached As Bs (ls ▷ line kind t tA)
   standing kind = subst (λ (u : Form). Reached As Bs (ls ▷ line kind u tA)) (plus-0 t) (raised kind 0)
 
+module _ {As Bs : List Constraint} {ls : List Line} {σ : Side} {t tA : Form} (i : ℕ) (r : Reached As Bs ls) (p : Nth ls i (lineApart σ t tA)) where
+  split-standing : Reached As Bs (ls ▷ line ≤0 (t plus 1) tA)
+  split-standing = subst (λ (u : Form). Reached As Bs (ls ▷ line ≤0 (t plus 1) u)) (plus-0 tA) (split i 0 r p)
+
+  split-neg-standing : Reached As Bs (ls ▷ line ≤0 (neg t plus 1) (neg tA))
+  split-neg-standing = subst (λ (u : Form). Reached As Bs (ls ▷ line ≤0 (neg t plus 1) u)) (plus-0 (neg tA)) (splitNegated i 0 r p)
+
 module _ {e : Edition} {inB : ℕ → Bool} where
   mutual
     -- at every row of a branch that starts with a reached list the lines are a reached list
@@ -67,6 +76,8 @@ module _ {e : Edition} {inB : ℕ → Bool} where
     reached (derive _ n _ p) r = (r, reached p (derived r n))
     reached (strengthen i l _ p1 pE p0) r = (r, reached p1 (branched i ≤0 1 1 r l), reached pE (standing i r l =0), reached p0 (raised i r l ≤0 1))
     reached (round i g k l p ps) r = (r, reached p (branched i ≤0 k k r (l .at)), reached-rounded ps i (l .at) r)
+    reached (splitEq i l _ _ p q) r = (r, reached p (split i 1 r l), reached q (splitNegated i 1 r l))
+    reached (splitNeq i l _ _ p q) r = (r, reached p (split-standing i r l), reached q (split-neg-standing i r l))
     reached (number _ _ _ _) r = r
     reached (stride _ _ _ _ _ _ _) r = r
 
@@ -81,6 +92,8 @@ module _ {e : Edition} {inB : ℕ → Bool} where
     throughout (derive {ls = ls} _ n _ p) f h = (f ls (h .0), throughout p f (h .1))
     throughout (strengthen {ls = ls} i l _ p1 pE p0) f h = (f ls (h .0), throughout p1 f (h .1), throughout pE f (h .2), throughout p0 f (h .3))
     throughout (round {ls = ls} _ _ _ _ p ps) f h = (f ls (h .0), throughout p f (h .1), throughout-rounded ps f (h .2))
+    throughout (splitEq {ls = ls} _ _ _ _ p q) f h = (f ls (h .0), throughout p f (h .1), throughout q f (h .2))
+    throughout (splitNeq {ls = ls} _ _ _ _ p q) f h = (f ls (h .0), throughout p f (h .1), throughout q f (h .2))
     throughout (number {ls = ls} _ _ _ _) f h = f ls h
     throughout (stride {ls = ls} _ _ _ _ _ _ _) f h = f ls h
 

@@ -13,7 +13,7 @@ use Rattle.forms.specs.Edition.{Edition}
 use Rattle.forms.specs.Forms.{Form, Line, coeff, value, Assignment, within, Formula, literal, _divides_, _and_, _or_, True}
 use Rattle.forms.specs.Reduced.{reduced, reducing, Strides, Reduced}
 use Rattle.forms.proofs.Residues.{residues, residues-stand, coeff-reduced, reduced-within}
-use Rattle.calculus.specs.Rules.{StrideOf, Closed, derive, strengthen, round, number, stride, Rounded, last, more}
+use Rattle.calculus.specs.Rules.{StrideOf, Closed, derive, strengthen, round, splitEq, splitNeq, number, stride, Rounded, last, more}
 use Rattle.calculus.proofs.Sides.{Side, part}
 use Rattle.calculus.proofs.Leaves.{Verdict, ∣-values, ∣-left, ∣-right, by-stride}
 
@@ -105,6 +105,8 @@ module _ {e : Edition} {inB : ℕ → Bool} where
     derived-strides (derive _ _ _ p) = derived-strides p
     derived-strides (strengthen _ _ _ p1 pE p0) = (derived-strides p1, (derived-strides pE, derived-strides p0))
     derived-strides (round _ _ _ r p ps) = (derived-strides p, rounded-strides ps (r .stride))
+    derived-strides (splitEq _ _ _ _ p q) = (derived-strides p, derived-strides q)
+    derived-strides (splitNeq _ _ _ _ p q) = (derived-strides p, derived-strides q)
     derived-strides (number _ _ _ _) = tt
     derived-strides (stride _ _ _ n _ _ is) = stride-strides n is
 
@@ -117,6 +119,8 @@ module _ {e : Edition} {inB : ℕ → Bool} where
     derived-reduced (derive _ _ _ p) = derived-reduced p
     derived-reduced (strengthen _ _ _ p1 pE p0) = (derived-reduced p1, (derived-reduced pE, derived-reduced p0))
     derived-reduced (round _ _ _ r p ps) = (derived-reduced p, rounded-reduced ps (r .stride))
+    derived-reduced (splitEq _ _ _ _ p q) = (derived-reduced p, derived-reduced q)
+    derived-reduced (splitNeq _ _ _ _ p q) = (derived-reduced p, derived-reduced q)
     derived-reduced (number _ _ _ _) = tt
     derived-reduced (stride _ _ _ n _ _ is) = stride-reduced n is
 

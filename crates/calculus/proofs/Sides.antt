@@ -8,7 +8,8 @@ use lib.IntN.{ℤ, pos, _+ℤ_, _-ℤ_, _*ℤ_, +ℤ-idr, zero-*ℤ}
 use lib.Signed.{_≤ℤ_}
 use Rattle.integers.proofs.Differences.{ints, add-pn, mul-pn, pn-le}
 use Rattle.integers.proofs.Laws.{ring-laws, sub-self}
-use Rattle.forms.specs.Forms.{Form, Kind, ≤0, =0, Holds, Constraint, Line, lineA, lineB, lines, All, nil, cons, _⊞_, _·_}
+pub use Rattle.forms.specs.Forms.{Side, A, B}
+use Rattle.forms.specs.Forms.{Form, Kind, ≤0, =0, Holds, ConstraintHolds, ConstraintKind, says, ≠0, LineKind, plain, apart, kindOn, Constraint, Line, lineA, lineB, lines, All, nil, cons, _⊞_, _·_}
 use Rattle.calculus.specs.Rules.{Nth, _▷_, New, combine, reduce, scale}
 use Rattle.calculus.proofs.Readings.{Reading}
 
@@ -26,7 +27,7 @@ pub all-map : {P : Constraint → Type 0} {Q : Line → Type 0} (f : Constraint 
 all-map f k nil = nil
 all-map f k (cons {x = c} h hs) = cons (k c h) (all-map f k hs)
 
-all-made : {Q : Line → Type 0} (f : Constraint → Line) (cs : List Constraint) → ((c : Constraint) → Q (f c)) → All Q (map f cs)
+pub all-made : {Q : Line → Type 0} (f : Constraint → Line) (cs : List Constraint) → ((c : Constraint) → Q (f c)) → All Q (map f cs)
 all-made f [] k = nil
 all-made f (c ∷ cs) k = cons (k c) (all-made f cs k)
 
@@ -35,8 +36,9 @@ all-and nil h = cons h nil
 all-and (cons g gs) h = cons g (all-and gs h)
 
 -- ---- the sides
-pub data Side : Type 0 where
-  A B : Side
+abbrev pub other : Side → Side
+other A = B
+other B = A
 
 abbrev pub part : Side → ℤ → ℤ → ℤ
 part A x xA = xA
@@ -50,25 +52,31 @@ part-times : (σ : Side) (α x xA : ℤ) → part σ (α *ℤ x) (α *ℤ xA) �
 part-times A α x xA = refl
 part-times B α x xA = simp ring-laws
 
--- what may be said of a side, so that it passes to sums and multiples
-pub record Cone (H : Kind → ℤ → Type 0) : Type 0 where
-  pub plus : {k : Kind} {x y : ℤ} → H k x → H k y → H k (x +ℤ y)
-  pub times : {k : Kind} {x : ℤ} (α : ℕ) → H k x → H k (pos α *ℤ x)
-  pub none : {k : Kind} → H k (pos 0)
-  pub any : {k : Kind} {x : ℤ} (α : ℤ) → H =0 x → H k (α *ℤ x)
+pub part-multiple : (σ : Side) {π : Form → ℤ} (r : Reading π) (α : ℤ) (t tA : Form) → part σ (π (α · t)) (π (α · tA)) ≡ α *ℤ part σ (π t) (π tA)
+part-multiple σ {π} r α t tA = ap₂ (part σ) (r .of-times α t) (r .of-times α tA) ∙ part-times σ α (π t) (π tA)
 
-abbrev pub Says : (H : Kind → ℤ → Type 0) (π : Form → ℤ) (σ : Side) → Line → Type 0
+zero-form : {π : Form → ℤ} (r : Reading π) (t : Form) → π (pos 0 · t) ≡ pos 0
+zero-form {π} r t = r .of-times (pos 0) t ∙ zero-*ℤ (π t)
+
+-- what may be said of the side σ of a line by its kind, so that it passes to sums and multiples, and holds where the side is 0 since the line is the other's
+pub record Cone (σ : Side) (H : LineKind → ℤ → Type 0) : Type 0 where
+  pub plus : {k : Kind} {x y : ℤ} → H (plain k) x → H (plain k) y → H (plain k) (x +ℤ y)
+  pub times : {k : Kind} {x : ℤ} (α : ℕ) → H (plain k) x → H (plain k) (pos α *ℤ x)
+  pub any : {k : Kind} {x : ℤ} (α : ℤ) → H (plain =0) x → H (plain k) (α *ℤ x)
+  pub none : (k : ConstraintKind) → H (kindOn (other σ) k) (pos 0)
+
+abbrev pub Says : (H : LineKind → ℤ → Type 0) (π : Form → ℤ) (σ : Side) → Line → Type 0
 Says H π σ l = H (l .kind) (part σ (π (l .t)) (π (l .tA)))
 
-abbrev pub On : (H : Kind → ℤ → Type 0) (π : Form → ℤ) → Constraint → Type 0
-On H π c = H (c .kind) (π (c .form))
+abbrev pub On : (H : LineKind → ℤ → Type 0) (π : Form → ℤ) (σ : Side) → Constraint → Type 0
+On H π σ c = H (kindOn σ (c .kind)) (π (c .form))
 
-module _ {H : Kind → ℤ → Type 0} (cone : Cone H) {π : Form → ℤ} (r : Reading π) (σ : Side) where
-  sum-literal : {k : Kind} (s sA t tA : Form) → H k (part σ (π s) (π sA)) → H k (part σ (π t) (π tA)) → H k (part σ (π (s ⊞ t)) (π (sA ⊞ tA)))
-  sum-literal {k} s sA t tA h g = subst (H k) (sym (ap₂ (part σ) (r .of-sum s t) (r .of-sum sA tA) ∙ part-plus σ (π s) (π sA) (π t) (π tA))) (cone .plus h g)
+module _ (σ : Side) {H : LineKind → ℤ → Type 0} (cone : Cone σ H) {π : Form → ℤ} (r : Reading π) where
+  sum-literal : {k : Kind} (s sA t tA : Form) → H (plain k) (part σ (π s) (π sA)) → H (plain k) (part σ (π t) (π tA)) → H (plain k) (part σ (π (s ⊞ t)) (π (sA ⊞ tA)))
+  sum-literal {k} s sA t tA h g = subst (H (plain k)) (sym (ap₂ (part σ) (r .of-sum s t) (r .of-sum sA tA) ∙ part-plus σ (π s) (π sA) (π t) (π tA))) (cone .plus h g)
 
-  times-literal : {k : Kind} (α : ℤ) (t tA : Form) → H k (α *ℤ part σ (π t) (π tA)) → H k (part σ (π (α · t)) (π (α · tA)))
-  times-literal {k} α t tA h = subst (H k) (sym (ap₂ (part σ) (r .of-times α t) (r .of-times α tA) ∙ part-times σ α (π t) (π tA))) h
+  times-literal : {k : Kind} (α : ℤ) (t tA : Form) → H (plain k) (α *ℤ part σ (π t) (π tA)) → H (plain k) (part σ (π (α · t)) (π (α · tA)))
+  times-literal {k} α t tA h = subst (H (plain k)) (sym (part-multiple σ r α t tA)) h
 
   pub new-literal : {ls : List Line} {l : Line} → All (Says H π σ) ls → New ls l → Says H π σ l
   new-literal hs (combine {s} {sA} {t} {tA} i j α β p q _ _) =
@@ -79,40 +87,44 @@ module _ {H : Kind → ℤ → Type 0} (cone : Cone H) {π : Form → ℤ} (r : 
   new-literal hs (scale {t = t} {tA = tA} i α p _) = times-literal (pos α) t tA (cone .times α (all-nth i hs p))
 
 -- what is said of the bundle σ is said of the side σ of all initial lines
-module _ {H : Kind → ℤ → Type 0} (cone : Cone H) {π : Form → ℤ} (r : Reading π) where
-  zero-form : (t : Form) → π (pos 0 · t) ≡ pos 0
-  zero-form t = r .of-times (pos 0) t ∙ zero-*ℤ (π t)
+module _ {H : LineKind → ℤ → Type 0} {π : Form → ℤ} (r : Reading π) where
+  other-A : Cone A H → (c : Constraint) → Says H π A (lineB c)
+  other-A cone c = rw (zero-form r) (cone .none (c .kind))
 
-  owned-A : (c : Constraint) → On H π c → Says H π A (lineA c)
-  owned-A c h = h
+  other-B : Cone B H → (c : Constraint) → Says H π B (lineA c)
+  other-B cone c = rw sub-self (cone .none (c .kind))
 
-  other-A : (c : Constraint) → Says H π A (lineB c)
-  other-A c = rw zero-form (cone .none)
-
-  owned-B : (c : Constraint) → On H π c → Says H π B (lineB c)
-  owned-B c h = rw (zero-form, +ℤ-idr) h
-
-  other-B : (c : Constraint) → Says H π B (lineA c)
-  other-B c = rw sub-self (cone .none)
-
-  pub initial : (σ : Side) (bundle : Side → List Constraint) → All (On H π) (bundle σ) → All (Says H π σ) (lines (bundle A) (bundle B))
-  initial A bundle h = all-append (all-map lineA owned-A h) (all-made lineB (bundle B) other-A)
-  initial B bundle h = all-append (all-made lineA (bundle A) other-B) (all-map lineB owned-B h)
+  pub initial : (σ : Side) → Cone σ H → (bundle : Side → List Constraint) → All (On H π σ) (bundle σ) → All (Says H π σ) (lines (bundle A) (bundle B))
+  initial A cone bundle h = all-append (all-map lineA (λ c h. h) h) (all-made lineB (bundle B) (other-A cone))
+  initial B cone bundle h = all-append (all-made lineA (bundle A) (other-B cone)) (all-map lineB (λ c h. rw (zero-form r, +ℤ-idr) h) h)
 
 -- ---- what is said
-abbrev pub Zero : Kind → ℤ → Type 0
+abbrev pub Zero : LineKind → ℤ → Type 0
 Zero k z = z ≡ pos 0
 
 zero-times : (α x : ℤ) → x ≡ pos 0 → α *ℤ x ≡ pos 0
 zero-times α x h = rw h (simp ring-laws)
 
-pub zeros : Cone Zero
-zeros = record {
+pub zeros : (σ : Side) → Cone σ Zero
+zeros σ = record {
   plus = λ {k} {x} {y} h g. omega (ints, add-pn x y);
   times = λ {k} {x} α h. zero-times (pos α) x h;
-  none = refl;
   any = λ {k} {x} α h. zero-times α x h;
+  none = λ k. refl;
 }
+
+-- a constraint t ≠ 0 keeps its side from 0, and the other side is 0
+abbrev pub Holding : Side → LineKind → ℤ → Type 0
+Holding σ (plain k) z = Holds k z
+Holding A (apart A) z = ¬ (z ≡ pos 0)
+Holding A (apart B) z = z ≡ pos 0
+Holding B (apart A) z = z ≡ pos 0
+Holding B (apart B) z = ¬ (z ≡ pos 0)
+
+pub held : (σ : Side) (k : ConstraintKind) (z : ℤ) → ConstraintHolds k z → Holding σ (kindOn σ k) z
+held σ (says k) z h = h
+held A ≠0 z h = h
+held B ≠0 z h = h
 
 pub holds-plus : (k : Kind) (x y : ℤ) → Holds k x → Holds k y → Holds k (x +ℤ y)
 holds-plus ≤0 x y h g = omega (ints, add-pn x y)
@@ -129,10 +141,15 @@ holds-zero : (k : Kind) (x : ℤ) → x ≡ pos 0 → Holds k x
 holds-zero ≤0 x h = omega ints
 holds-zero =0 x h = h
 
-pub holds-cone : Cone Holds
-holds-cone = record {
+pub holds-cone : (σ : Side) → Cone σ (Holding σ)
+holds-cone σ = record {
   plus = λ {k} {x} {y} h g. holds-plus k x y h g;
   times = λ {k} {x} α h. holds-times k x α h;
-  none = λ {k}. holds-zero k (pos 0) refl;
   any = λ {k} {x} α h. holds-zero k (α *ℤ x) (zero-times α x h);
+  none = λ k. none σ k;
 }
+  where
+    none : (σ : Side) (k : ConstraintKind) → Holding σ (kindOn (other σ) k) (pos 0)
+    none σ (says k) = holds-zero k (pos 0) refl
+    none A ≠0 = refl
+    none B ≠0 = refl

@@ -1,19 +1,16 @@
--- How high and how large a derived formula can be. Assumes nothing.
+-- How high a derived formula can be. Assumes nothing.
 use mathlib.Core.Path.{_≡_, ap}
 use mathlib.Core.List.{List}
 use mathlib.Core.Bool.{Bool}
 use Prim.Native.Nat.{ℕ, _+_, _*_, _≤_}
 use native.Mathlib.Omega.{arith}
 use Rattle.forms.specs.Edition.{Edition}
-use Rattle.forms.specs.Forms.{Form, Line, Formula, height, leaves}
-use Rattle.calculus.specs.Rules.{StrideOf, Closed, derive, strengthen, round, number, stride, Rounded, last, more, rowCount, rowCountRounded, depth, depthRounded}
+use Rattle.forms.specs.Forms.{Form, Line, Formula, height}
+use Rattle.calculus.specs.Rules.{StrideOf, Closed, derive, strengthen, round, splitEq, splitNeq, number, stride, Rounded, last, more, depth, depthRounded}
 
 module _ {inB : ℕ → Bool} {g : ℕ} {tA : Form} {E : Formula} (is : StrideOf inB g tA E) where
   stride-height : height E ≡ 0
   stride-height = ap height (is .is)
-
-  stride-leaves : leaves E ≡ 1
-  stride-leaves = ap leaves (is .is)
 
 module _ {e : Edition} {inB : ℕ → Bool} where
   -- a rounding by 16 adds 17 levels to those of a branch; the branches j to k-1 add k-j
@@ -22,22 +19,11 @@ module _ {e : Edition} {inB : ℕ → Bool} where
     closed-height (derive _ _ _ p) m = closed-height p m
     closed-height (strengthen _ _ _ p1 pE p0) m = omega (arith, closed-height p1 m, closed-height pE m, closed-height p0 m)
     closed-height (round _ _ _ r p ps) m = omega (arith, r .most, closed-height p m, rounded-height ps m)
+    closed-height (splitEq _ _ _ _ p q) m = omega (arith, closed-height p m, closed-height q m)
+    closed-height (splitNeq _ _ _ _ p q) m = omega (arith, closed-height p m, closed-height q m)
     closed-height (number _ _ _ _) m = omega arith
     closed-height (stride _ _ _ _ _ _ is) m = omega (arith, stride-height is)
 
     rounded-height : {ls : List Line} {t tA : Form} {g k j : ℕ} {J : Formula} (p : Rounded e inB ls t tA g k j J) → e .rounding ≤ 16 → j + height J ≤ k + 17 * depthRounded p
     rounded-height (last b is p) m = omega (arith, stride-height is, closed-height p m)
     rounded-height (more b is p ps) m = omega (arith, stride-height is, closed-height p m, rounded-height ps m)
-
-  -- each branch of a rounding has a row of its own, and adds two parts at most
-  mutual
-    pub closed-leaves : {ls : List Line} {I : Formula} (p : Closed e inB ls I) → leaves I + 1 ≤ 2 * rowCount p
-    closed-leaves (derive _ _ _ p) = omega (arith, closed-leaves p)
-    closed-leaves (strengthen _ _ _ p1 pE p0) = omega (arith, closed-leaves p1, closed-leaves pE, closed-leaves p0)
-    closed-leaves (round _ _ _ _ p ps) = omega (arith, closed-leaves p, rounded-leaves ps)
-    closed-leaves (number _ _ _ _) = omega arith
-    closed-leaves (stride _ _ _ _ _ _ is) = omega (arith, stride-leaves is)
-
-    rounded-leaves : {ls : List Line} {t tA : Form} {g k j : ℕ} {J : Formula} (p : Rounded e inB ls t tA g k j J) → leaves J ≤ 2 * rowCountRounded p
-    rounded-leaves (last _ is p) = omega (arith, stride-leaves is, closed-leaves p)
-    rounded-leaves (more _ is p ps) = omega (arith, stride-leaves is, closed-leaves p, rounded-leaves ps)

@@ -10,7 +10,7 @@ use lib.IntN.{ℤ, pos, _+ℤ_, +ℤ-idr}
 use Rattle.integers.specs.Divides.{_∣ℤ_}
 use Rattle.forms.specs.Edition.{Edition}
 use Rattle.forms.specs.Forms.{Form, ≤0, =0, Line, line, Constraint, occurs, Formula, _and_, _or_, coeff, _plus_}
-use Rattle.calculus.specs.Rules.{Nth, _▷_, step, Room, StrideOf, Closed, derive, strengthen, round, number, stride, Rounded, last, more, Derive, Strengthen, Round, Entry, row, claims, entries, entriesRounded, rowCount, rowCountRounded, depth, depthRounded, Proves}
+use Rattle.calculus.specs.Rules.{Nth, _▷_, step, Room, StrideOf, Closed, derive, strengthen, round, splitEq, splitNeq, number, stride, Rounded, last, more, Derive, Strengthen, Round, Entry, row, claims, entries, entriesRounded, rowCount, rowCountRounded, depth, depthRounded, Proves}
 use Rattle.calculus.specs.Tied.{_then_, OnlyStride, Tied, TiedRounded}
 use Rattle.calculus.proofs.Drawn.{plus-0}
 
@@ -34,6 +34,8 @@ module _ (e : Edition) (inB : ℕ → Bool) where
   middle (derive _ _ _ _) m g h = absurd h
   middle (strengthen _ _ _ _ _ _) m g h = absurd h
   middle (round _ _ _ _ _ _) m g h = absurd h
+  middle (splitEq _ _ _ _ _ _) m g h = absurd h
+  middle (splitNeq _ _ _ _ _ _) m g h = absurd h
   middle (number _ _ _ _) m g h = absurd h
   middle {ls} {E} (stride {t = t} {tA = tA} i k at low all not is) m g h =
       subst (λ (m : ℕ). Middle inB ls E m g) (h .0) (subst (λ (g : ℕ). Middle inB ls E i g) (h .1) (record { s = t; sA = tA; at = at; low = low; all = all; not = not; is = is }))
@@ -112,6 +114,14 @@ module _ (e : Edition) (inB : ℕ → Bool) where
         let y = tied-rounded ps most rest (h .1 .0) (h .1 .1) in
         let x = tied p most (h .1 .0) (h .0) (h .1 .2) in
         record { proof = round i g k r (x .proof) (y .proof); are = rw (y .are, x .are) (sym (h .2)); few = omega (arith, x .few, y .few); flat = omega (arith, x .flat, y .flat) }
+    tied (splitEq i at r1 r2 p q) most rest es h =
+        let y = tied q most rest (h .1 .0) (h .1 .1) in
+        let x = tied p most (h .1 .0) (h .0) (h .1 .2) in
+        record { proof = splitEq i at r1 r2 (x .proof) (y .proof); are = rw (y .are, x .are) (sym (h .2)); few = omega (arith, x .few, y .few); flat = omega (arith, x .flat, y .flat) }
+    tied (splitNeq i at r1 r2 p q) most rest es h =
+        let y = tied q most rest (h .1 .0) (h .1 .1) in
+        let x = tied p most (h .1 .0) (h .0) (h .1 .2) in
+        record { proof = splitNeq i at r1 r2 (x .proof) (y .proof); are = rw (y .are, x .are) (sym (h .2)); few = omega (arith, x .few, y .few); flat = omega (arith, x .flat, y .flat) }
     tied (number i at z f) most rest es h = record { proof = number i at z f; are = sym h; few = omega arith; flat = omega arith }
     tied (stride i g at low all not is) most rest es h = record { proof = stride i g at low all not is; are = sym h; few = omega arith; flat = omega arith }
 

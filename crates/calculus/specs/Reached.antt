@@ -5,8 +5,8 @@ use Prim.Native.Nat.{ℕ}
 use lib.Dec.{T}
 use lib.IntN.{_-ℤ_}
 use Rattle.forms.specs.Edition.{Edition}
-use Rattle.forms.specs.Forms.{All, Form, Kind, ≤0, Line, line, Constraint, lines, Formula, coeff, nonzero, names, occurs, _plus_}
-use Rattle.calculus.specs.Rules.{Nth, _▷_, New, Closed, derive, strengthen, round, number, stride, Rounded, last, more}
+use Rattle.forms.specs.Forms.{All, Form, Kind, ≤0, Side, Line, line, lineApart, neg, Constraint, lines, Formula, coeff, nonzero, names, occurs, _plus_}
+use Rattle.calculus.specs.Rules.{Nth, _▷_, New, Closed, derive, strengthen, round, splitEq, splitNeq, number, stride, Rounded, last, more}
 
 -- The partial interpolant tA draws its constants from A alone, the rest of the line, t - tA, from B alone.
 pub record Drawn (A B : List Constraint) (l : Line) : Type 0 where
@@ -22,6 +22,9 @@ pub data Reached (A B : List Constraint) : List Line → Type 0 where
   -- and the line that a branch starts with, of either kind: t+k with tA+j, where t ≤ 0 is line i
   branched : {ls : List Line} {t tA : Form} (i : ℕ) (kind : Kind) (k j : ℕ) → Reached A B ls → Nth ls i (line ≤0 t tA)
       → Reached A B (ls ▷ line kind (t plus k) (tA plus j))
+  -- the same where t ≠ 0 is line i (document 02, point 6): t+1 with tA+j, or -t+1 with -tA+j
+  split : {ls : List Line} {σ : Side} {t tA : Form} (i j : ℕ) → Reached A B ls → Nth ls i (lineApart σ t tA) → Reached A B (ls ▷ line ≤0 (t plus 1) (tA plus j))
+  splitNegated : {ls : List Line} {σ : Side} {t tA : Form} (i j : ℕ) → Reached A B ls → Nth ls i (lineApart σ t tA) → Reached A B (ls ▷ line ≤0 (neg t plus 1) (neg tA plus j))
 
 -- P holds of the lines that each row of a closed branch finds, in the branches that it opens too.
 abbrev mutual
@@ -29,6 +32,8 @@ abbrev mutual
   Throughout P (derive {ls = ls} _ _ _ p) = P ls × Throughout P p
   Throughout P (strengthen {ls = ls} _ _ _ p1 pE p0) = P ls × Throughout P p1 × Throughout P pE × Throughout P p0
   Throughout P (round {ls = ls} _ _ _ _ p ps) = P ls × Throughout P p × ThroughoutRounded P ps
+  Throughout P (splitEq {ls = ls} _ _ _ _ p q) = P ls × Throughout P p × Throughout P q
+  Throughout P (splitNeq {ls = ls} _ _ _ _ p q) = P ls × Throughout P p × Throughout P q
   Throughout P (number {ls = ls} _ _ _ _) = P ls
   Throughout P (stride {ls = ls} _ _ _ _ _ _ _) = P ls
 

@@ -1,14 +1,14 @@
 -- Loading the constraints of a bundle: one turn of each loop, and what the lines of the buffer then are. Assumes nothing.
 use mathlib.Core.Path.{_≡_, refl, sym, ap, ap₂, _∙_, subst}
-use mathlib.Core.Bool.{Bool, true, false, cond}
+use mathlib.Core.Bool.{Bool, true, false, _&&_, true≢false}
 use mathlib.Core.List.{List, [], _∷_, _++_, map, append-assoc, append-nil}
 use mathlib.Core.Logic.{_⊎_, inl, inr, ⊎-elim}
 use Prim.Native.Nat.{ℕ, zero, suc, _+_, _*_, _-_, _≤_, _<_}
 use native.Mathlib.Nat.{suc-mul, mul-le-mul-right, eq-or-lt-of-le, eq-zero-or-pos}
 use native.Mathlib.Numerals.{add-one}
 use native.Mathlib.Omega.{arith}
-use lib.Dec.{eqb}
-use borrow.Author.Tests.{ltb-false, eqb-true, eqb-false, eq-eqb, ne-eqb}
+use lib.Dec.{leb}
+use borrow.Author.Tests.{ltb-false, eqb-true, eq-eqb, ne-eqb, leb-true}
 use lib.IntN.{ℤ, pos, negsuc, natAbs, _*ℤ_, zero-*ℤ}
 use lib.Signed.{mag}
 use mir.Syntax.{w16}
@@ -16,13 +16,14 @@ use mir.Val.{SFits}
 use lib.ListN.{length, getD, take, drop, set, replicate, length-replicate, getD-replicate, length-append, length-map, length-set}
 use lib.Seq.{paste, drop-drop, length-paste, take-take, take-all, take-at, getD-at, getD-set-same}
 use Rattle.integers.specs.Magnitude.{Within}
-use Rattle.forms.specs.Forms.{Form, Kind, ≤0, =0, Line, line, _·_}
+use Rattle.forms.specs.Forms.{Form, LineKind, Line, kindOn, _·_}
 use Rattle.calculus.specs.Rules.{_▷_}
 use Rattle.fields.specs.Numbers.{signed, signeds, flat, formFrom}
 use Rattle.fields.specs.declared.FileKind.{FileKind}
 use Rattle.fields.specs.declared.header.Headed.{Headed}
 use Rattle.fields.specs.Answers.{answer, refused, accepted}
 use Rattle.fields.specs.Fields.{ends, cut}
+use Rattle.fields.specs.Header.{headerTag, known}
 use Rattle.fields.specs.Places.{fieldsAt, IsHeader}
 use Rattle.fields.proofs.Results.{one-value}
 use Rattle.fields.proofs.Places.{Starts}
@@ -33,11 +34,12 @@ use Rattle.bundle.proofs.Scanning.{counted-on, passed-both, count-is, proper-of
 use Rattle.fields.proofs.Signed.{length-signeds, signeds-take, signeds-last}
 use Rattle.lines.specs.Parts.{part, Agree}
 use Rattle.lines.proofs.Parts.{part-take, part-paste, getD-part, agree-sym, agree-trans, agree-le, agree-getD, agree-part, agree-set, agree-paste}
-use Rattle.forms.specs.Flat.{kindOf, formIn}
+use Rattle.forms.specs.Flat.{constraintKindOf, lineKindOf, formIn}
+use Rattle.forms.proofs.Flat.{kind-in-A, kind-in-B, kind-apart-B}
 use Rattle.lines.specs.Buffer.{size, times, lineIn, linesIn, Bounded}
 use Rattle.lines.proofs.Lines.{form-ext, line-ext, before, lines-more}
 use Rattle.lines.proofs.Fill.{Filled, filled-none, filled-length, filled-next}
-use Rattle.checking.specs.Load.{Copies, NumbersStored, partialOf, partialForm, lineOf, Space, Loads, Loaded, formLine, Able, Bundled, BundleLoaded}
+use Rattle.checking.specs.Load.{Copies, NumbersStored, partialOf, partialForm, sideOf, lineByte, lineOf, Space, Loads, Loaded, formLine, Able, Bundled, BundleLoaded}
 
 le-or-lt : (a b : ℕ) → (a ≤ b) ⊎ (b < a)
 le-or-lt a b = ⊎-elim (λ e. inl (omega arith)) (λ h. inr (omega arith)) (eq-zero-or-pos (a - b))
@@ -229,13 +231,13 @@ module _ (K : ℕ) (kinds : List ℕ) (buf : List ℤ) (n : ℕ) (kind : ℕ) (z
       (λ (l : x < n * size K). rw (agree-getD kept x (pos 0) l) (b .small x l))
       (le-or-lt (n * size K) x)
 
-  pub line-loaded : (t tA : Form) → length (t .coeffs) ≡ K → length (tA .coeffs) ≡ K → flat t ≡ zs → flat tA ≡ za
-      → Loaded K kinds buf n (line (kindOf kind) t tA ∷ []) (set kinds n kind) buf₂
+  pub line-loaded : {κ : LineKind} → lineKindOf kind ≡ κ → (t tA : Form) → length (t .coeffs) ≡ K → length (tA .coeffs) ≡ K → flat t ≡ zs → flat tA ≡ za
+      → Loaded K kinds buf n (record { kind = κ; t = t; tA = tA } ∷ []) (set kinds n kind) buf₂
   unfolding lineIn
-  line-loaded t tA ct cA ft fA =
+  line-loaded {κ} named t tA ct cA ft fA =
       let one : n + 1 ≡ suc n = omega arith in
-      let is : lineIn K (set kinds n kind) buf₂ n ≡ line (kindOf kind) t tA
-      = line-ext (ap kindOf (getD-set-same kinds n kind 0 (omega (arith, sp .most, sp .kinds-room))))
+      let is : lineIn K (set kinds n kind) buf₂ n ≡ record { kind = κ; t = t; tA = tA }
+      = line-ext (ap lineKindOf (getD-set-same kinds n kind 0 (omega (arith, sp .most, sp .kinds-room))) ∙ named)
       (form-of K buf₂ (n * size K) t ct (t-part ∙ sym ft))
       (form-of K buf₂ (n * size K + (K + 1)) tA cA (tA-part ∙ sym fA)) in
       record {
@@ -245,17 +247,35 @@ module _ (K : ℕ) (kinds : List ℕ) (buf : List ℤ) (n : ℕ) (kind : ℕ) (z
         lines-length = len₂;
       }
 
+-- The byte of a line's kind, by its constraint's.
+module _ {inA : Bool} {kind : ℕ} where
+  pub byte-A : inA ≡ true → kind ≡ lineByte inA kind
+  byte-A e = rw e
+
+  pub byte-apart-B : inA ≡ false → kind ≡ 2 → 3 ≡ lineByte inA kind
+  byte-apart-B e h = rw (e, eq-eqb kind 2 h)
+
+  pub byte-B : inA ≡ false → (kind ≡ 2 → ⊥) → kind ≡ lineByte inA kind
+  byte-B e h = rw (e, ne-eqb kind 2 h)
+
+line-named : (inA : Bool) (kind : ℕ) → kind ≤ 2 → lineKindOf (lineByte inA kind) ≡ kindOn (sideOf inA) (constraintKindOf kind)
+line-named true kind h = kind-in-A kind h
+line-named false zero h = kind-in-B 0 (omega arith)
+line-named false (suc zero) h = kind-in-B 1 (omega arith)
+line-named false (suc (suc zero)) h = kind-apart-B
+line-named false (suc (suc (suc kind))) h = absurd (omega arith)
+
 -- The form at a place and its tA.
-module _ {s : List ℕ} {start K : ℕ} {kinds : List ℕ} {buf : List ℤ} {n : ℕ} (g : Loads s start K kinds buf n) (inA : Bool) (kind : ℕ) where
+module _ {s : List ℕ} {start K kind : ℕ} {kinds : List ℕ} {buf : List ℤ} {n : ℕ} (g : Loads s start K kind kinds buf n) (inA : Bool) where
   pub form-loaded : {buf₁ buf₂ : List ℤ} → NumbersStored buf (n * size K) (signeds 2 (K + 1) (drop start s)) (K + 1) buf₁
       → NumbersStored buf₁ (n * size K + (K + 1)) (partialOf inA (signeds 2 (K + 1) (drop start s))) (K + 1) buf₂
-      → Loaded K kinds buf n (formLine inA K kind s start ∷ []) (set kinds n kind) buf₂
+      → Loaded K kinds buf n (formLine inA K kind s start ∷ []) (set kinds n (lineByte inA kind)) buf₂
   form-loaded p q =
       let t = formFrom 2 K (drop start s) in
       let l = length-signeds 2 (K + 1) (drop start s) in
-      line-loaded K kinds buf n kind (signeds 2 (K + 1) (drop start s)) (partialOf inA (signeds 2 (K + 1) (drop start s))) (g .space) l
+      line-loaded K kinds buf n (lineByte inA kind) (signeds 2 (K + 1) (drop start s)) (partialOf inA (signeds 2 (K + 1) (drop start s))) (g .space) l
       (partial-length inA (signeds 2 (K + 1) (drop start s)) ∙ l) p q
-      t (partialForm inA t) (from-coeffs 2 K (drop start s)) (partial-coeffs inA t ∙ from-coeffs 2 K (drop start s)) (flat-from 2 K (drop start s))
+      (line-named inA kind (g .kind-few)) t (partialForm inA t) (from-coeffs 2 K (drop start s)) (partial-coeffs inA t ∙ from-coeffs 2 K (drop start s)) (flat-from 2 K (drop start s))
       (flat-partial inA t ∙ ap (partialOf inA) (flat-from 2 K (drop start s)))
 
 -- ---- lines one after the other
@@ -283,18 +303,19 @@ form-front w K m bs h =
     (signeds-take w K m bs (omega (arith, suc-mul K w)))
     (ap signed (part-take (K * w) w m bs (omega (arith, suc-mul K w))))
 
--- ---- the kind that a tag names
-kind-of : (tag : ℕ) → 3 ≤ tag → kindOf (tag - 3) ≡ cond (eqb tag 0x03) ≤0 =0
-unfolding kindOf
-kind-of tag h = go (eqb tag 3) refl
+-- ---- the tags of a bundle's constraints
+last-tag : (tag : ℕ) → known FileKind.Bundle tag ≡ true → 3 ≤ tag → tag ≤ 5
+unfolding known headerTag
+last-tag tag e h =
+    let one = ne-eqb tag 0x01 (λ z. omega arith) in
+    let two = ne-eqb tag 0x02 (λ z. omega arith) in
+    let both : (leb 0x03 tag && leb tag 0x05) ≡ true = sym (rw (one, two)) ∙ e in
+    below (leb 0x03 tag) (leb tag 0x05) refl both
   where
-    by : (p : Bool) → eqb (tag - 3) 0 ≡ p → _≡_ {A = Kind} (elim (eqb (tag - 3) 0) [ true ↦ ≤0 | false ↦ =0 ]) (cond p ≤0 =0)
-    by true e = rw e
-    by false e = rw e
-
-    go : (p : Bool) → eqb tag 3 ≡ p → _≡_ {A = Kind} (elim (eqb (tag - 3) 0) [ true ↦ ≤0 | false ↦ =0 ]) (cond p ≤0 =0)
-    go true e = by true (eq-eqb (tag - 3) 0 (omega (arith, eqb-true tag 3 e)))
-    go false e = by false (ne-eqb (tag - 3) 0 (λ z. eqb-false tag 3 e (omega arith)))
+    below : (p q : Bool) → leb tag 0x05 ≡ q → (p && q) ≡ true → tag ≤ 5
+    below true true f g = leb-true tag 5 f
+    below true false f g = absurd (true≢false (sym g))
+    below false q f g = absurd (true≢false (sym g))
 
 -- ---- the fields of a bundle
 -- The invariant: what is left to load gives what the whole gives.
@@ -316,7 +337,7 @@ loading-start a = record { done = 0; m-is = omega arith; count = a .count; space
 pub record Fit (s : List ℕ) (K : ℕ) (kinds : List ℕ) (buf : List ℤ) (m tag start len : ℕ) : Type 0 where
   pub from : 3 ≤ tag
   pub len-is : len ≡ suc K * 2
-  pub loads : Loads s start K kinds buf m
+  pub loads : Loads s start K (tag - 3) kinds buf m
 
 module _ {inA : Bool} {s : List ℕ} {at K : ℕ} {kinds₀ : List ℕ} {buf₀ : List ℤ} {n : ℕ} {kinds : List ℕ} {buf : List ℤ} {here m : ℕ}
     (v : Loading inA s at K kinds₀ buf₀ n kinds buf here m) where
@@ -331,13 +352,11 @@ module _ {inA : Bool} {s : List ℕ} {at K : ℕ} {kinds₀ : List ℕ} {buf₀ 
         record {
           from = ltb-false tag 3 (r .from);
           len-is = l;
-          loads = record { space = space-less (omega (arith, v .m-is, count-is K (suc (v .done)) (v .count) (fieldsAt s next) (on .1))) (v .space); bytes = omega (arith, k .upto, k .next-is, l) };
+          loads = record { space = space-less (omega (arith, v .m-is, count-is K (suc (v .done)) (v .count) (fieldsAt s next) (on .1))) (v .space); bytes = omega (arith, k .upto, k .next-is, l); kind-few = omega (arith, last-tag tag (r .has) (ltb-false tag 3 (r .from))) };
         }
 
-    line-is : formLine inA K (tag - 3) s start ≡ lineOf inA (record { kind = cond (eqb tag 0x03) ≤0 =0; form = formFrom 2 K (take len (drop start s)) })
-    line-is =
-        let f : formFrom 2 K (drop start s) ≡ formFrom 2 K (take len (drop start s)) = sym (form-front 2 K len (drop start s) (omega (arith, fit .len-is))) in
-        ap₂ (λ (κ : Kind) (t : Form). lineOf inA (record { kind = κ; form = t })) (kind-of tag (fit .from)) f
+    line-is : formLine inA K (tag - 3) s start ≡ lineOf inA (record { kind = constraintKindOf (tag - 3); form = formFrom 2 K (take len (drop start s)) })
+    line-is = ap (λ (t : Form). lineOf inA (record { kind = constraintKindOf (tag - 3); form = t })) (sym (form-front 2 K len (drop start s) (omega (arith, fit .len-is))))
 
     pub loading-next : {kinds₁ : List ℕ} {buf₁ : List ℤ} → Loaded K kinds buf m (formLine inA K (tag - 3) s start ∷ []) kinds₁ buf₁
         → Loading inA s at K kinds₀ buf₀ n kinds₁ buf₁ next (m + 1)

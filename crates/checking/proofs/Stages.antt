@@ -28,7 +28,7 @@ use Rattle.bundle.proofs.Pairs.{short-both, paired, unpaired, same-k}
 use Rattle.formula.specs.Formula.{encode, formulaFile}
 use Rattle.formula.specs.Writing.{scratchLimit}
 use Rattle.lines.specs.Buffer.{linesIn}
-use Rattle.proof.specs.Check.{Closing, checkBranch, checkProof, writable, interpolant, check}
+use Rattle.proof.specs.Check.{Closing, checkBranch, checkProof, formulaAtMost, interpolant, check}
 use Rattle.rows.specs.Tally.{tally}
 use Rattle.branches.specs.Spare.{fieldsLeft, unreadBytes, Spare}
 use Rattle.branches.specs.Branching.{Started}
@@ -63,7 +63,7 @@ module _ (A B P : List ℕ) where
 
 -- ---- the bundles
 module _ {A B P : List ℕ} (s : Short A B P) where
-  short-is : interpolant A B P ≡ (bundles A B >>= λ (a, b). (checkProof a b (fields P) >>= λ I. (writable (a .K) I >> accepted (a .K, I))))
+  short-is : interpolant A B P ≡ (bundles A B >>= λ (a, b). (checkProof a b (fields P) >>= λ I. (formulaAtMost (a .K) I >> accepted (a .K, I))))
   unfolding interpolant atMost need _>>_
   short-is = rw (le-leb (length A) 4096 (s .a), le-leb (length B) 4096 (s .b), le-leb (length P) 65536 (s .p))
 
@@ -72,12 +72,12 @@ module _ {A B P : List ℕ} (s : Short A B P) where
   refused-bundles e = short-is ∙ rw e
 
   module _ {K m n : ℕ} (w : Both A B K m n) where
-    both-is : interpolant A B P ≡ (checkProof (w .a) (w .b) (fields P) >>= λ I. (writable (w .a .K) I >> accepted (w .a .K, I)))
+    both-is : interpolant A B P ≡ (checkProof (w .a) (w .b) (fields P) >>= λ I. (formulaAtMost (w .a .K) I >> accepted (w .a .K, I)))
     unfolding bundles _>>=_
     both-is = short-is ∙ rw (w .a-is, w .b-is)
 
-    K-is : interpolant A B P ≡ (checkProof (w .a) (w .b) (fields P) >>= λ I. (writable K I >> accepted (K, I)))
-    K-is = both-is ∙ ap (λ (k : ℕ). checkProof (w .a) (w .b) (fields P) >>= λ I. (writable k I >> accepted (k, I))) (w .a-constants)
+    K-is : interpolant A B P ≡ (checkProof (w .a) (w .b) (fields P) >>= λ I. (formulaAtMost K I >> accepted (K, I)))
+    K-is = both-is ∙ ap (λ (k : ℕ). checkProof (w .a) (w .b) (fields P) >>= λ I. (formulaAtMost k I >> accepted (k, I))) (w .a-constants)
 
     pub refused-P : {x : Answer} → header FileKind.Proof fileProof (some K) (fields P) ≡ refused x → interpolant A B P ≡ refused x
     unfolding checkProof _>>=_
@@ -101,11 +101,11 @@ module _ {A B P : List ℕ} {K m n at : ℕ} (g : Begun A B P K m n at) where
   abbrev tree : Result Closing
   tree = checkBranch edition1 K 32 root 0 (lines (a .constraints) (b .constraints)) (fieldsAt P at)
 
-  begun-is : interpolant A B P ≡ ((tree >>= λ c. (finished FileKind.Proof fileProof (c .after) >> accepted (c .formula))) >>= λ I. (writable K I >> accepted (K, I)))
+  begun-is : interpolant A B P ≡ ((tree >>= λ c. (finished FileKind.Proof fileProof (c .after) >> accepted (c .formula))) >>= λ I. (formulaAtMost K I >> accepted (K, I)))
   unfolding a b
   begun-is =
       K-is (g .short) (g .both)
-      ∙ ap (λ (x : Result Formula). x >>= λ I. (writable K I >> accepted (K, I))) (proof-root (g .both .a) (g .both .b) K (fields P) (fieldsAt P at) (g .both .a-constants) (g .header-is))
+      ∙ ap (λ (x : Result Formula). x >>= λ I. (formulaAtMost K I >> accepted (K, I))) (proof-root (g .both .a) (g .both .b) K (fields P) (fieldsAt P at) (g .both .a-constants) (g .header-is))
 
 -- one step after the other, by what the root gives
 within-bytes : (K : ℕ) (I : Formula) (x : Answer) (b : Bool)
@@ -115,18 +115,18 @@ within-bytes K I x true = refl
 within-bytes K I x false = refl
 
 file-bytes : (K : ℕ) (I : Formula)
-    → ((writable K I >> accepted (K, I)) >>= λ (k, J). accepted (formulaFile edition1 k J)) ≡ fileWithin (headerBytes K ++ encode edition1 I)
-unfolding writable formulaFile
+    → ((formulaAtMost K I >> accepted (K, I)) >>= λ (k, J). accepted (formulaFile edition1 k J)) ≡ fileWithin (headerBytes K ++ encode edition1 I)
+unfolding formulaAtMost formulaFile
 file-bytes K I = within-bytes K I (answer 1 4 (length (formulaFile edition1 K I))) (leb (length (formulaFile edition1 K I)) 65536)
 
 end-bytes : (K : ℕ) (I : Formula) (y : Result (Unit {0}))
-    → (((y >> accepted I) >>= λ J. (writable K J >> accepted (K, J))) >>= λ (k, J). accepted (formulaFile edition1 k J)) ≡ (y >> fileWithin (headerBytes K ++ encode edition1 I))
+    → (((y >> accepted I) >>= λ J. (formulaAtMost K J >> accepted (K, J))) >>= λ (k, J). accepted (formulaFile edition1 k J)) ≡ (y >> fileWithin (headerBytes K ++ encode edition1 I))
 unfolding _>>=_ _>>_
 end-bytes K I (refused z) = refl
 end-bytes K I (accepted z) = file-bytes K I
 
 then-bytes : (K : ℕ) (x : Result Closing)
-    → (((x >>= λ c. (finished FileKind.Proof fileProof (c .after) >> accepted (c .formula))) >>= λ I. (writable K I >> accepted (K, I))) >>= λ (k, I). accepted (formulaFile edition1 k I))
+    → (((x >>= λ c. (finished FileKind.Proof fileProof (c .after) >> accepted (c .formula))) >>= λ I. (formulaAtMost K I >> accepted (K, I))) >>= λ (k, I). accepted (formulaFile edition1 k I))
     ≡ (x >>= λ c. finishing K (c .after) (encode edition1 (c .formula)))
 unfolding _>>=_
 then-bytes K (refused y) = refl

@@ -1,6 +1,7 @@
 -- The constraints of a bundle as lines of the buffer: what loading asks and leaves. Document 01, "Forms and lines". Assumes nothing.
 use mathlib.Core.Path.{_≡_}
-use mathlib.Core.Bool.{Bool, true, false}
+use mathlib.Core.Bool.{Bool, true, false, cond}
+use lib.Dec.{eqb}
 use mathlib.Core.List.{List, _++_, map}
 use Prim.Native.Nat.{ℕ, suc, _+_, _*_, _≤_, _<_}
 use lib.IntN.{ℤ, pos}
@@ -8,7 +9,7 @@ use lib.ListN.{length, getD, drop}
 use lib.Seq.{paste}
 use Rattle.integers.specs.Magnitude.{Within}
 use Rattle.forms.specs.Edition.{edition1}
-use Rattle.forms.specs.Forms.{Form, Line, line, Constraint, _·_}
+use Rattle.forms.specs.Forms.{Form, Side, Line, Constraint, kindOn, _·_}
 use Rattle.fields.specs.Answers.{accepted}
 use Rattle.fields.specs.Numbers.{formFrom}
 use Rattle.fields.specs.Fields.{Fields, fields}
@@ -16,7 +17,7 @@ use Rattle.fields.specs.Places.{givenK}
 use Rattle.bundle.specs.Bundle.{Bundle, bundle}
 use Rattle.bundle.specs.Scan.{counted}
 use Rattle.bundle.specs.declared.constraints.Counted.{Counted}
-use Rattle.forms.specs.Flat.{kindOf}
+use Rattle.forms.specs.Flat.{constraintKindOf}
 use Rattle.lines.specs.Buffer.{size, times, linesIn, Bounded}
 
 -- n numbers of a bundle from `start` on have room at `at`.
@@ -38,8 +39,17 @@ abbrev pub partialForm : (inA : Bool) → Form → Form
 partialForm true t = t
 partialForm false t = pos 0 · t
 
+abbrev pub sideOf : (inA : Bool) → Side
+sideOf true = Side.A
+sideOf false = Side.B
+
 abbrev pub lineOf : (inA : Bool) → Constraint → Line
-lineOf inA c = line (c .kind) (c .form) (partialForm inA (c .form))
+lineOf inA c = record { kind = kindOn (sideOf inA) (c .kind); t = c .form; tA = partialForm inA (c .form) }
+
+-- The byte of a line's kind, by that of its constraint: 2 is a t ≠ 0, of B 3.
+abbrev pub lineByte : (inA : Bool) (byte : ℕ) → ℕ
+lineByte true b = b
+lineByte false b = cond (eqb b 2) 3 b
 
 -- The buffers have room for c lines.
 pub record Space (K c : ℕ) (kinds : List ℕ) (buf : List ℤ) : Type 0 where
@@ -48,10 +58,11 @@ pub record Space (K c : ℕ) (kinds : List ℕ) (buf : List ℤ) : Type 0 where
   pub most : c ≤ edition1 .lines
   pub kinds-room : edition1 .lines ≤ length kinds
 
--- Line n with the form that starts at a place.
-pub record Loads (s : List ℕ) (start K : ℕ) (kinds : List ℕ) (buf : List ℤ) (n : ℕ) : Type 0 where
+-- Line n with the form that starts at a place, of a constraint's kind.
+pub record Loads (s : List ℕ) (start K kind : ℕ) (kinds : List ℕ) (buf : List ℤ) (n : ℕ) : Type 0 where
   pub space : Space K (suc n) kinds buf
   pub bytes : start + (K + 1) * edition1 .coefficientWidth ≤ length s
+  pub kind-few : kind ≤ 2
 
 -- The lines ls stand behind the first n, which stay as they were; so do the lengths.
 pub record Loaded (K : ℕ) (kinds : List ℕ) (buf : List ℤ) (n : ℕ) (ls : List Line) (kinds′ : List ℕ) (buf′ : List ℤ) : Type 0 where
@@ -62,7 +73,7 @@ pub record Loaded (K : ℕ) (kinds : List ℕ) (buf : List ℤ) (n : ℕ) (ls : 
 
 -- The line of one form.
 abbrev pub formLine : (inA : Bool) (K kind : ℕ) (s : List ℕ) (start : ℕ) → Line
-formLine inA K kind s start = lineOf inA (record { kind = kindOf kind; form = formFrom (edition1 .coefficientWidth) K (drop start s) })
+formLine inA K kind s start = lineOf inA (record { kind = constraintKindOf kind; form = formFrom (edition1 .coefficientWidth) K (drop start s) })
 
 -- Fields that are constraints without fault have room behind the first n lines.
 pub record Able (K : ℕ) (fs : Fields) (kinds : List ℕ) (buf : List ℤ) (n : ℕ) : Type 0 where

@@ -7,7 +7,10 @@ use fields::next_field;
 use fields::words::short_at;
 use forms::COEFFICIENT_BYTES;
 use forms::LineNumber;
+use rows::derive::APART_A;
+use rows::derive::APART_B;
 use rows::derive::set_kind;
+ghost use mathlib.Core.Path.{_≡_};
 ghost use mathlib.Core.List.{[], _∷_, map};
 ghost use Prim.Native.Nat.{_+_, _≤_};
 ghost use lib.IntN.{pos};
@@ -16,7 +19,7 @@ ghost use Rattle.forms.specs.Edition.{edition1};
 ghost use Rattle.fields.specs.Numbers.{signeds};
 ghost use Rattle.fields.specs.Places.{fieldsAt};
 ghost use Rattle.bundle.specs.Scan.{stated};
-ghost use Rattle.checking.specs.Load.{Copies, NumbersStored, partialOf, lineOf, Loads, Loaded, formLine, Able, Bundled, BundleLoaded};
+ghost use Rattle.checking.specs.Load.{Copies, NumbersStored, partialOf, lineByte, lineOf, Loads, Loaded, formLine, Able, Bundled, BundleLoaded};
 
 // n numbers of a bundle from start on, in place of the n numbers at a place.
 fn load_numbers(s: &[u8], start: usize, n: usize, lines: &mut [i32], at: usize)
@@ -54,6 +57,19 @@ fn load_partial(s: &[u8], start: usize, n: usize, lines: &mut [i32], at: usize, 
     clear_numbers(lines, at, n);
 }
 
+// The byte of a line's kind, by that of its constraint: a t ≠ 0 of B has one of its own.
+fn line_kind(kind: u8, in_a: bool) -> u8
+    ensures { λ r. ⌜ r ≡ lineByte in_a kind ⌝ }
+{
+    if in_a {
+        return kind;
+    }
+    if kind == APART_A {
+        return APART_B;
+    }
+    kind
+}
+
 // The form that starts at a place, as line n.
 fn load_line(
     s: &[u8],
@@ -65,14 +81,14 @@ fn load_line(
     n: LineNumber,
     k: usize,
 )
-    requires { ⌜ Loads (now s) start k (now kinds) (now lines) (n .0) ⌝ }
+    requires { ⌜ Loads (now s) start k kind (now kinds) (now lines) (n .0) ⌝ }
     ensures { λ _. ⌜ Loaded k (now (kinds .entry)) (now (lines .entry)) (n .0) (formLine in_a k kind (now (s .entry)) start ∷ []) (now (kinds .exit)) (now (lines .exit)) ⌝ }
 {
     let w = k + 1;
     let at = lines::place(n, k);
     load_numbers(s, start, w, lines, at);
     load_partial(s, start, w, lines, at + w, in_a);
-    set_kind(kinds, n, kind);
+    set_kind(kinds, n, line_kind(kind, in_a));
 }
 
 // The fields from at on, which are constraints without fault, as lines behind the first n.

@@ -1,7 +1,8 @@
 -- The tests of the close rows, one way after the other. Assumes nothing.
-use mathlib.Core.Path.{_≡_, sym, ap}
+use mathlib.Core.Path.{_≡_, sym, ap, _∙_}
 use mathlib.Core.Bool.{Bool, true, false, not}
 use mathlib.Core.List.{List}
+use mathlib.Core.Option.{none, some}
 use Prim.Native.Nat.{ℕ, _+_, _*_, _≤_, _<_}
 use native.Mathlib.Omega.{arith}
 use lib.ListN.{length, getD}
@@ -16,11 +17,12 @@ use Rattle.lines.specs.Parts.{part}
 use Rattle.forms.specs.Flat.{kindOf}
 use Rattle.lines.specs.Buffer.{size, lineIn}
 use Rattle.lines.proofs.Lines.{line-at, line-past, before}
-use Rattle.proof.specs.Rows.{fails, lineAt, byNumber}
-use Rattle.rows.specs.Rows.{Ready}
+use Rattle.proof.specs.Rows.{plainKind, fails, lineAt, byNumber}
+use Rattle.rows.specs.Rows.{KindRead, Ready}
 use Rattle.closes.specs.Closing.{ByNumber}
 use Rattle.rows.specs.declared.tally.Tally.{Tally}
 use Rattle.closes.specs.declared.closing.Test.the-variants.{Refused, Passed}
+use Rattle.rows.proofs.KindBytes.{kind-plain}
 use Rattle.rows.proofs.Testing.{unnot}
 
 pub false-≤ : {b : ℕ} (d : ℤ) {r : Bool} → b ≡ 0 → r ≡ ltZ (pos 0) d → r ≡ fails (kindOf b) d
@@ -40,24 +42,32 @@ module _ (K : ℕ) (kinds : List ℕ) (buf : List ℤ) (t : Tally) (i : ℕ) whe
   unfolding byNumber lineAt _>>=_ found
   number-none h = record { by = λ refusal. rw (line-past K kinds buf (t .lines .0) i h) }
 
-  module _ (hi : i < t .lines .0) {x : ℕ} (ex : x ≡ i * size K) {b : Bool} (zero : b ≡ every (λ c. eqZ c (pos 0)) (part x K buf)) where
-    zeros : every (λ c. eqZ c (pos 0)) (lineIn K kinds buf i .t .coeffs) ≡ b
-    unfolding lineIn
-    zeros = sym (rw ex at zero)
+  module _ (hi : i < t .lines .0) where
+    pub number-apart : plainKind (lineIn K kinds buf i .kind) ≡ none → ByNumber K kinds buf t i (Refused 11)
+    unfolding byNumber lineAt _>>=_ found
+    number-apart h = record { by = λ refusal. rw (line-at K kinds buf (t .lines .0) i hi, h) }
 
-    pub number-coeffs : not b ≡ true → ByNumber K kinds buf t i (Refused 15)
-    unfolding byNumber lineAt _>>=_ _>>_ found need
-    number-coeffs h = record { by = λ refusal. rw (line-at K kinds buf (t .lines .0) i hi, zeros, unnot b h) }
+    module _ {kind : ℕ} (read : KindRead (getD kinds i 0) kind) (low : kind ≤ 1) {x : ℕ} (ex : x ≡ i * size K) {b : Bool} (zero : b ≡ every (λ c. eqZ c (pos 0)) (part x K buf)) where
+      plains : plainKind (lineIn K kinds buf i .kind) ≡ some (kindOf (getD kinds i 0))
+      plains = kind-plain K kinds buf i read low ∙ ap some (ap kindOf (read .is))
 
-    module _ (h : not b ≡ false) {c : Bool} {kind : ℕ} {d : ℤ} (ek : kind ≡ getD kinds i 0) (ed : d ≡ getD buf (x + K) (pos 0)) (false-is : c ≡ fails (kindOf kind) d) where
-      falses : fails (lineIn K kinds buf i .kind) (lineIn K kinds buf i .t .d) ≡ c
+      zeros : every (λ c. eqZ c (pos 0)) (lineIn K kinds buf i .t .coeffs) ≡ b
       unfolding lineIn
-      falses = sym (rw (ek, ed, ex) at false-is)
+      zeros = sym (rw ex at zero)
 
-      pub number-d : not c ≡ true → ByNumber K kinds buf t i (Refused 15)
+      pub number-coeffs : not b ≡ true → ByNumber K kinds buf t i (Refused 15)
       unfolding byNumber lineAt _>>=_ _>>_ found need
-      number-d k = record { by = λ refusal. rw (line-at K kinds buf (t .lines .0) i hi, zeros, unnot b h, falses, unnot c k) }
+      number-coeffs h = record { by = λ refusal. rw (line-at K kinds buf (t .lines .0) i hi, plains, zeros, unnot b h) }
 
-      pub number-passed : not c ≡ false → ByNumber K kinds buf t i Passed
-      unfolding byNumber lineAt _>>=_ _>>_ found need
-      number-passed k = record { by = λ refusal. rw (line-at K kinds buf (t .lines .0) i hi, zeros, unnot b h, falses, unnot c k) }
+      module _ (h : not b ≡ false) {c : Bool} {d : ℤ} (ed : d ≡ getD buf (x + K) (pos 0)) (false-is : c ≡ fails (kindOf kind) d) where
+        falses : fails (kindOf (getD kinds i 0)) (lineIn K kinds buf i .t .d) ≡ c
+        unfolding lineIn
+        falses = sym (rw (ap kindOf (read .is), ed, ex) at false-is)
+
+        pub number-d : not c ≡ true → ByNumber K kinds buf t i (Refused 15)
+        unfolding byNumber lineAt _>>=_ _>>_ found need
+        number-d k = record { by = λ refusal. rw (line-at K kinds buf (t .lines .0) i hi, plains, zeros, unnot b h, falses, unnot c k) }
+
+        pub number-passed : not c ≡ false → ByNumber K kinds buf t i Passed
+        unfolding byNumber lineAt _>>=_ _>>_ found need
+        number-passed k = record { by = λ refusal. rw (line-at K kinds buf (t .lines .0) i hi, plains, zeros, unnot b h, falses, unnot c k) }

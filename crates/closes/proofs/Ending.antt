@@ -1,17 +1,16 @@
 -- The rows that close a branch, one way after the other. Assumes nothing.
 use mathlib.Core.Path.{_≡_, refl, sym, ap, _∙_}
-use mathlib.Core.Bool.{not}
+use mathlib.Core.Bool.{Bool, true, false, not}
 use mathlib.Core.Logic.{⊎-elim}
 use mathlib.Core.List.{List}
 use Prim.Native.Nat.{ℕ, _+_, _*_, _-_, _≤_, _<_}
 use native.Mathlib.Nat.{eq-zero-or-pos}
-use native.Mathlib.Decide.{ℕ-discrete}
 use native.Mathlib.Omega.{arith}
 use lib.ListN.{getD}
 use lib.IntN.{ℤ, natAbs}
 use borrow.Author.Tests.{lt-leb}
 use Rattle.integers.proofs.Differences.{ints}
-use Rattle.forms.specs.Forms.{literal, _divides_}
+use Rattle.forms.specs.Forms.{=0, literal, _divides_}
 use Rattle.forms.specs.Reduced.{reduced}
 use Rattle.fields.specs.declared.Answer.{Answer}
 use Rattle.fields.specs.Answers.{answer, fileProof}
@@ -20,9 +19,9 @@ use Rattle.lines.specs.Buffer.{size, lineIn, linesIn}
 use Rattle.formula.specs.Writing.{Numbered, Divisor, Puts}
 use Rattle.formula.proofs.Written.{held, literal-size, stride-size}
 use Rattle.lines.proofs.Lines.{before}
-use Rattle.proof.specs.Rows.{byNumber, byStride}
+use Rattle.proof.specs.Rows.{is, byNumber, byStride}
 use Rattle.rows.specs.Entries.{Multiplies}
-use Rattle.rows.specs.Rows.{Ready}
+use Rattle.rows.specs.Rows.{KindRead, Ready}
 use Rattle.closes.specs.Closing.{ByNumber}
 use Rattle.closes.specs.Striding.{ByStride}
 use Rattle.closes.specs.Ends.{EndedBy}
@@ -70,12 +69,12 @@ module _ {K : ℕ} {kinds : List ℕ} {buf : List ℤ} {t : Tally} {i : ℕ} whe
   stride-two {g} b =
       ⊎-elim
       (λ (z : 2 - g ≡ 0). omega arith)
-      (λ (l : 0 < 2 - g). absurd (no-test (omega arith) (ℕ-discrete (getD kinds i 0) 0)))
+      (λ (l : 0 < 2 - g). absurd (no-test (omega arith) (is =0 (lineIn K kinds buf i .kind)) refl))
       (eq-zero-or-pos (2 - g))
     where
-      no-test : g < 2 → Dec (getD kinds i 0 ≡ 0) → ⊥
-      no-test l (yes e) = never (sym (stride-kind K kinds buf t i g (stride-there b) e .by some-refusal) ∙ b .by some-refusal)
-      no-test l (no d) = never (sym (stride-small K kinds buf t i g (stride-there b) d refl (ap not (lt-leb 2 g l)) .by some-refusal) ∙ b .by some-refusal)
+      no-test : g < 2 → (a : Bool) → is =0 (lineIn K kinds buf i .kind) ≡ a → ⊥
+      no-test l false e = never (sym (stride-kind K kinds buf t i g (stride-there b) e .by some-refusal) ∙ b .by some-refusal)
+      no-test l true d = never (sym (stride-small K kinds buf t i g (stride-there b) d refl (ap not (lt-leb 2 g l)) .by some-refusal) ∙ b .by some-refusal)
 
   pub number-refused : {r : Test} {x : ℕ} (o : ℕ) (scratch : List ℕ) → ByNumber K kinds buf t i r → r ≡ test.Refused x
       → EndedBy (λ refusal. byNumber refusal (linesIn K kinds buf (t .lines .0)) i) scratch o scratch (ended.Refused x)
@@ -86,7 +85,7 @@ module _ {K : ℕ} {kinds : List ℕ} {buf : List ℤ} {t : Tally} {i : ℕ} whe
   stride-refused o scratch b e = ((rw e at b) .by, refl)
 
   module _ (r : Ready K kinds buf (t .lines .0)) {x : ℕ} (ex : x ≡ i * size K + (K + 1)) {scratch scratch′ : List ℕ} {o o′ : ℕ} where
-    pub number-written : {q : Test} {kind : ℕ} → ByNumber K kinds buf t i q → q ≡ test.Passed → kind ≡ getD kinds i 0
+    pub number-written : {q : Test} {kind : ℕ} → ByNumber K kinds buf t i q → q ≡ test.Passed → KindRead (getD kinds i 0) kind
         → Puts scratch o (literal (kindOf kind) (formIn K buf x)) scratch′ o′
         → EndedBy (λ refusal. byNumber refusal (linesIn K kinds buf (t .lines .0)) i) scratch o scratch′ (ended.Written o′)
     unfolding lineIn
@@ -94,9 +93,9 @@ module _ {K : ℕ} {kinds : List ℕ} {buf : List ℤ} {t : Tally} {i : ℕ} whe
         let b′ = rw e at b in
         let n = numbered r (number-there b′) ex in
         record {
-          formula = literal (lineIn K kinds buf i .kind) (lineIn K kinds buf i .tA);
+          formula = literal (kindOf (getD kinds i 0)) (lineIn K kinds buf i .tA);
           is = b′ .by;
-          puts = rw (← ek, ← ex) p;
+          puts = rw (← ap kindOf (ek .is), ← ex) p;
           short = omega (arith, p .o-is, literal-size n (kindOf kind), n .constants);
         }
 

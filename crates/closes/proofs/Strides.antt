@@ -12,6 +12,7 @@ use borrow.Author.Tests.{le-leb, lt-leb, eqb-true, eqb-false, leb-true}
 use Rattle.integers.specs.Linear.{eqZ}
 use Rattle.integers.proofs.Differences.{ints}
 use Rattle.integers.specs.Divides.{divb}
+use Rattle.forms.specs.Forms.{=0}
 use Rattle.calculus.specs.Rules.{every}
 use Rattle.fields.specs.Answers.{_>>=_, _>>_, need, found}
 use Rattle.lines.specs.Parts.{part}
@@ -22,7 +23,7 @@ use Rattle.rows.specs.Entries.{Multiplies}
 use Rattle.closes.specs.Striding.{ByStride}
 use Rattle.rows.specs.declared.tally.Tally.{Tally}
 use Rattle.closes.specs.declared.closing.Test.the-variants.{Refused, Passed}
-use Rattle.rows.proofs.Testing.{unnot, zero-abs, some-abs, kind-≤, kind-=}
+use Rattle.rows.proofs.Testing.{unnot, zero-abs, some-abs}
 
 -- ---- g is 2 at least
 one-abs : (z : ℤ) {b : Bool} → b ≡ eqZ z (pos 1) → b ≡ true → natAbs z ≡ 1
@@ -57,14 +58,14 @@ module _ (K : ℕ) (kinds : List ℕ) (buf : List ℤ) (t : Tally) (i g : ℕ) w
   stride-none h = record { by = λ refusal. rw (line-past K kinds buf (t .lines .0) i h) }
 
   module _ (hi : i < t .lines .0) where
-    pub stride-kind : getD kinds i 0 ≡ 0 → ByStride K kinds buf t i g (Refused 11)
-    unfolding byStride lineAt _>>=_ _>>_ found need is
-    stride-kind h = record { by = λ refusal. rw (line-at K kinds buf (t .lines .0) i hi, kind-≤ K kinds buf i h) }
+    pub stride-kind : is =0 (lineIn K kinds buf i .kind) ≡ false → ByStride K kinds buf t i g (Refused 11)
+    unfolding byStride lineAt _>>=_ _>>_ found need
+    stride-kind h = record { by = λ refusal. rw (line-at K kinds buf (t .lines .0) i hi, h) }
 
-    module _ (hk : getD kinds i 0 ≡ 0 → ⊥) {a : Bool} (two : a ≡ leb 2 g) where
+    module _ (hk : is =0 (lineIn K kinds buf i .kind) ≡ true) {a : Bool} (two : a ≡ leb 2 g) where
       pub stride-small : not a ≡ true → ByStride K kinds buf t i g (Refused 12)
-      unfolding byStride lineAt _>>=_ _>>_ found need is
-      stride-small h = record { by = λ refusal. rw (line-at K kinds buf (t .lines .0) i hi, kind-= K kinds buf i hk, ← two, unnot a h) }
+      unfolding byStride lineAt _>>=_ _>>_ found need
+      stride-small h = record { by = λ refusal. rw (line-at K kinds buf (t .lines .0) i hi, hk, ← two, unnot a h) }
 
       module _ (h : not a ≡ false) {z : ℤ} (ez : z ≡ pos g) {x : ℕ} (ex : x ≡ i * size K) {b : Bool} (all : b ≡ every (divb z) (part x K buf)) where
         alls : every (divb (pos g)) (lineIn K kinds buf i .t .coeffs) ≡ b
@@ -72,8 +73,8 @@ module _ (K : ℕ) (kinds : List ℕ) (buf : List ℤ) (t : Tally) (i g : ℕ) w
         alls = sym (rw (ex, ez) at all)
 
         pub stride-coeffs : not b ≡ true → ByStride K kinds buf t i g (Refused 15)
-        unfolding byStride lineAt _>>=_ _>>_ found need is
-        stride-coeffs l = record { by = λ refusal. rw (line-at K kinds buf (t .lines .0) i hi, kind-= K kinds buf i hk, ← two, unnot a h, alls, unnot b l) }
+        unfolding byStride lineAt _>>=_ _>>_ found need
+        stride-coeffs l = record { by = λ refusal. rw (line-at K kinds buf (t .lines .0) i hi, hk, ← two, unnot a h, alls, unnot b l) }
 
         module _ (l : not b ≡ false) {c : Bool} {d : ℤ} (ed : d ≡ getD buf (x + K) (pos 0)) (div : c ≡ divb z d) where
           divs : divb (pos g) (lineIn K kinds buf i .t .d) ≡ c
@@ -81,9 +82,9 @@ module _ (K : ℕ) (kinds : List ℕ) (buf : List ℤ) (t : Tally) (i g : ℕ) w
           divs = sym (rw (ed, ex, ez) at div)
 
           pub stride-d : c ≡ true → ByStride K kinds buf t i g (Refused 15)
-          unfolding byStride lineAt _>>=_ _>>_ found need is
-          stride-d m = record { by = λ refusal. rw (line-at K kinds buf (t .lines .0) i hi, kind-= K kinds buf i hk, ← two, unnot a h, alls, unnot b l, divs, m) }
+          unfolding byStride lineAt _>>=_ _>>_ found need
+          stride-d m = record { by = λ refusal. rw (line-at K kinds buf (t .lines .0) i hi, hk, ← two, unnot a h, alls, unnot b l, divs, m) }
 
           pub stride-passed : c ≡ false → ByStride K kinds buf t i g Passed
-          unfolding byStride lineAt _>>=_ _>>_ found need is
-          stride-passed m = record { by = λ refusal. rw (line-at K kinds buf (t .lines .0) i hi, kind-= K kinds buf i hk, ← two, unnot a h, alls, unnot b l, divs, m) }
+          unfolding byStride lineAt _>>=_ _>>_ found need
+          stride-passed m = record { by = λ refusal. rw (line-at K kinds buf (t .lines .0) i hi, hk, ← two, unnot a h, alls, unnot b l, divs, m) }

@@ -3,6 +3,8 @@ use mathlib.Core.Path.{_≡_}
 use mathlib.Core.List.{List}
 use Prim.Native.Nat.{ℕ}
 use lib.IntN.{ℤ}
+use lib.ListN.{getD}
+use Rattle.forms.specs.Flat.{kindOf}
 use Rattle.forms.specs.Forms.{Formula, literal}
 use Rattle.fields.specs.declared.Answer.{Answer}
 use Rattle.fields.specs.Answers.{Result, refused, accepted}
@@ -19,4 +21,4 @@ TestedBy f I Passed = (refusal : ℕ → Answer) → f refusal ≡ accepted I
 
 pub record ByNumber (K : ℕ) (kinds : List ℕ) (buf : List ℤ) (t : Tally) (i : ℕ) (r : Test) : Type 0 where
   pub by : TestedBy (λ refusal. byNumber refusal (linesIn K kinds buf (t .lines .0)) i)
-      (literal (lineIn K kinds buf i .kind) (lineIn K kinds buf i .tA)) r
+      (literal (kindOf (getD kinds i 0)) (lineIn K kinds buf i .tA)) r

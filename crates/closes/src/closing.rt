@@ -9,6 +9,7 @@ ghost use Rattle.rows.specs.Entries.{Multiplies};
 ghost use Rattle.closes.specs.Closing.{ByNumber};
 ghost use Rattle.closes.specs.Striding.{ByStride};
 use forms::LineNumber;
+use rows::derive::EQUALITY;
 use rows::derive::is_there;
 use rows::derive::kind_of;
 use rows::tally::Tally;
@@ -28,7 +29,7 @@ fn is_false(kind: u8, d: i64) -> bool
     !integers::is_zero(d)
 }
 
-// Close by number. 10, 15.
+// Close by number. 10, 11, 15.
 pub fn test_number(lines: &[i32], kinds: &[u8], tally: Tally, i: LineNumber, k: usize) -> Test
     requires { ⌜ Ready k (now kinds) (now lines) (tally .lines .0) ⌝ }
     ensures { λ r. ⌜ ByNumber k (now (kinds .entry)) (now (lines .entry)) tally (i .0) r ⌝ }
@@ -36,11 +37,14 @@ pub fn test_number(lines: &[i32], kinds: &[u8], tally: Tally, i: LineNumber, k: 
     if !is_there(tally, i) {
         return Test::Refused { number: 10 };
     }
+    let kind = kind_of(kinds, i);
+    if kind > EQUALITY {
+        return Test::Refused { number: 11 };
+    }
     let t = lines::place(i, k);
     if !lines::all_zero(lines, t, k) {
         return Test::Refused { number: 15 };
     }
-    let kind = kind_of(kinds, i);
     let d = integers::number(lines, t + k);
     if !is_false(kind, d) {
         return Test::Refused { number: 15 };
@@ -75,7 +79,7 @@ pub fn test_stride(
     if !is_there(tally, i) {
         return Test::Refused { number: 10 };
     }
-    if kind_of(kinds, i) == 0 {
+    if kind_of(kinds, i) != EQUALITY {
         return Test::Refused { number: 11 };
     }
     if !is_stride(g) {

@@ -22,7 +22,7 @@ pub enum Ended {
     Written { o: usize },
 }
 
-// 10, 15.
+// 10, 11, 15.
 pub fn close_number(
     lines: &[i32],
     kinds: &[u8],

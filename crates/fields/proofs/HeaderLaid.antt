@@ -81,7 +81,7 @@ not-empty f fs h = go (items fs) h
 header-known : (kind : FileKind) (tag : ℕ) → T (headerTag tag) → T (known kind tag)
 unfolding known
 header-known Bundle tag t = or-left (headerTag tag) _ t
-header-known Proof tag t = or-left (headerTag tag || leb 0x10 tag && leb tag 0x16) (eqb tag 0x20) (or-left (headerTag tag) (leb 0x10 tag && leb tag 0x16) t)
+header-known Proof tag t = or-left (headerTag tag || leb 0x10 tag && leb tag 0x17) (eqb tag 0x20) (or-left (headerTag tag) (leb 0x10 tag && leb tag 0x17) t)
 header-known Formula tag t = or-left (headerTag tag) _ t
 
 -- the fields fs are the header field of that tag, whose one byte is x .1, and then x .2

@@ -3,9 +3,9 @@ use mathlib.Core.Path.{_≡_}
 use mathlib.Core.Logic.{_⊎_}
 use mathlib.Core.List.{List, [], _∷_, _++_, map}
 use mathlib.Core.Bool.{Bool, false, not, cond, _||_}
-use Prim.Native.Nat.{ℕ, suc, max, _+_}
+use Prim.Native.Nat.{ℕ, suc, max}
 use lib.ListN.{getD}
-use lib.IntN.{ℤ, pos, _+ℤ_, _*ℤ_}
+use lib.IntN.{ℤ, pos, negsuc, _+ℤ_, _*ℤ_}
 use lib.Signed.{_≤ℤ_}
 use Rattle.integers.specs.Linear.{eqZ}
 use Rattle.integers.specs.Divides.{_∣ℤ_}
@@ -55,6 +55,10 @@ unfoldable pub _·_ : ℤ → Form → Form
 unfoldable pub _plus_ : Form → ℕ → Form
 t plus n = record { coeffs = t .coeffs; d = t .d +ℤ pos n }
 
+-- -t (document 02, point 6)
+abbrev pub neg : Form → Form
+neg t = negsuc 0 · t
+
 -- t with the coefficients of the constants outside p set to 0, and all else as it stands.
 unfoldable pub only : (ℕ → Bool) → List ℤ → List ℤ
 only p [] = []
@@ -64,7 +68,7 @@ unfoldable pub within : (ℕ → Bool) → Form → Form
 unfolding only
 within p t = record { coeffs = only p (t .coeffs); d = t .d }
 
--- What a line or a constraint says of its form: "t ≤ 0" or "t = 0".
+-- What a literal, or a line that a row makes, says of its form: "t ≤ 0" or "t = 0".
 pub data Kind : Type 0 where
   ≤0 =0 : Kind
 
@@ -72,13 +76,22 @@ abbrev pub Holds : Kind → ℤ → Type 0
 Holds ≤0 z = z ≤ℤ pos 0
 Holds =0 z = z ≡ pos 0
 
+-- What a constraint says of its form: "t ≤ 0", "t = 0", or "t ≠ 0" (document 02, point 6).
+pub data ConstraintKind : Type 0 where
+  says : Kind → ConstraintKind
+  ≠0 : ConstraintKind
+
 -- An assignment meets a constraint if what that says holds of t's value.
 pub record Constraint : Type 0 where
-  pub kind : Kind
+  pub kind : ConstraintKind
   pub form : Form
 
+abbrev pub ConstraintHolds : ConstraintKind → ℤ → Type 0
+ConstraintHolds (says k) z = Holds k z
+ConstraintHolds ≠0 z = ¬ (z ≡ pos 0)
+
 abbrev pub Meets : Assignment → Constraint → Type 0
-Meets v c = Holds (c .kind) (value (c .form) v)
+Meets v c = ConstraintHolds (c .kind) (value (c .form) v)
 
 -- P holds of each element.
 pub data All {X : Type 0} (P : X → Type 0) : List X → Type 0 where
@@ -94,25 +107,41 @@ unfolding nonzero coeff
 occurs [] k = false
 occurs (c ∷ cs) k = nonzero (coeff (c .form) k) || occurs cs k
 
--- A line is a form t with "t = 0" or "t ≤ 0", together with a second form tA, its partial interpolant.
+-- A line is a form t with "t = 0" or "t ≤ 0", together with a second form tA, its partial interpolant; or it is a constraint "t ≠ 0" of A or of B
+-- (document 02, point 6), which no row makes.
+pub data Side : Type 0 where
+  A B : Side
+
+pub data LineKind : Type 0 where
+  plain : Kind → LineKind
+  apart : Side → LineKind
+
 pub record Line : Type 0 where
-  pub kind : Kind
+  pub kind : LineKind
   pub t : Form
   pub tA : Form
 
 abbrev pub line : Kind → Form → Form → Line
-line k t tA = record { kind = k; t = t; tA = tA }
+line k t tA = record { kind = plain k; t = t; tA = tA }
+
+abbrev pub lineApart : Side → Form → Form → Line
+lineApart σ t tA = record { kind = apart σ; t = t; tA = tA }
+
+-- The kind of the line of a constraint, by the bundle in which that stands.
+abbrev pub kindOn : Side → ConstraintKind → LineKind
+kindOn σ (says k) = plain k
+kindOn σ ≠0 = apart σ
 
 -- An A line has tA = t; a B line has tA = 0.
 abbrev pub lineA : Constraint → Line
-lineA c = line (c .kind) (c .form) (c .form)
+lineA c = record { kind = kindOn A (c .kind); t = c .form; tA = c .form }
 
 abbrev pub lineB : Constraint → Line
-lineB c = line (c .kind) (c .form) (pos 0 · c .form)
+lineB c = record { kind = kindOn B (c .kind); t = c .form; tA = pos 0 · c .form }
 
 -- Lines 0, 1, .. are A's constraints in file order, then B's.
 abbrev pub lines : List Constraint → List Constraint → List Line
-lines A B = map lineA A ++ map lineB B
+lines a b = map lineA a ++ map lineB b
 
 -- Formulas. A literal says "t ≤ 0" or "t = 0"; `g divides t` is a stride part.
 infix 5 _divides_
@@ -138,15 +167,9 @@ names (_ divides t) k = nonzero (coeff t k)
 names (I and J) k = names I k || names J k
 names (I or J) k = names I k || names J k
 
--- How many levels of and/or a formula has, and how many parts that are neither.
+-- How many levels of and/or a formula has.
 abbrev pub height : Formula → ℕ
 height (literal k t) = 0
 height (g divides t) = 0
 height (I and J) = suc (max (height I) (height J))
 height (I or J) = suc (max (height I) (height J))
-
-abbrev pub leaves : Formula → ℕ
-leaves (literal k t) = 1
-leaves (g divides t) = 1
-leaves (I and J) = leaves I + leaves J
-leaves (I or J) = leaves I + leaves J

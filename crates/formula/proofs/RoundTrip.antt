@@ -11,7 +11,7 @@ use lib.Seq.{take-at, drop-at}
 use lib.IntN.{ℤ, pos, natAbs}
 use borrow.Author.Tests.{le-leb, eq-eqb, ne-eqb}
 use Rattle.forms.specs.Edition.{edition1, editionNumbered}
-use Rattle.forms.specs.Forms.{Kind, ≤0, =0, Form, Formula, literal, _divides_, _and_, _or_, height, leaves}
+use Rattle.forms.specs.Forms.{Kind, ≤0, =0, Form, Formula, literal, _divides_, _and_, _or_, height}
 use Rattle.fields.specs.declared.FileKind.{FileKind}
 use Rattle.fields.specs.declared.Answer.{Answer}
 use Rattle.fields.specs.Answers.{answer, fileProof, Result, refused, accepted, _>>=_, _>>_, need}
@@ -194,10 +194,6 @@ header-fields K fuel bs =
     ∙ fields-field 0x01 (1 ∷ []) (fieldBytes 0x02 (K ∷ []) ++ bs) (suc fuel) 0 (omega arith) refl
     ∙ ap (λ (fs : Fields). field 0 0x01 (1 ∷ []) ▸ fs) (fields-field 0x02 (K ∷ []) bs fuel 4 (omega arith) refl)
 
-pub length-formulaFile : (K : ℕ) (I : Formula) → length (formulaFile edition1 K I) ≡ 8 + length (encode edition1 I)
-unfolding formulaFile
-length-formulaFile K I = omega (arith, length-append (headerBytes K) (encode edition1 I), length-headerBytes K)
-
 -- A formula's file reads back as that formula.
 pub read-written : (K : ℕ) (I : Formula) → 1 ≤ K → K ≤ 16 → Encodable K I → height I ≤ 600 → readFormula K (fields (formulaFile edition1 K I)) ≡ accepted I
 unfolding readFormula fields formulaFile finished
@@ -241,13 +237,3 @@ read-other K n I h =
     ap (readFormula n) (ap (λ (m : ℕ). fieldsFrom m 0 (headerBytes K ++ X)) size ∙ header-fields K (6 + length X) X)
     ∙ ap (λ (r : Result Header). r >>= follows) (header-other K n (fieldsFrom (6 + length X) 8 X) h)
     ∙ refused-still _ _ (leb 1 K && leb K 16) follows
-
--- ---- length
--- A leaf has at most 75 bytes, and an and/or adds 3.
-pub length-encode : (K : ℕ) → K ≤ 16 → (I : Formula) → Encodable K I → length (encode edition1 I) + 3 ≤ 78 * leaves I
-unfolding encode
-length-encode K k (literal ≤0 t) h = omega (arith, length-fieldBytes 0x33 (formBytes 4 t), form-short K t k (h .size))
-length-encode K k (literal =0 t) h = omega (arith, length-fieldBytes 0x34 (formBytes 4 t), form-short K t k (h .size))
-length-encode K k (g divides t) h = omega (arith, length-fieldBytes 0x35 (signedBytes 4 (pos g) ++ formBytes 4 t), stride-short K g t k (h .2 .size))
-length-encode K k (I and J) h = omega (arith, pair-length 0x32 (encode edition1 I) (encode edition1 J), length-encode K k I (h .0), length-encode K k J (h .1))
-length-encode K k (I or J) h = omega (arith, pair-length 0x31 (encode edition1 I) (encode edition1 J), length-encode K k I (h .0), length-encode K k J (h .1))

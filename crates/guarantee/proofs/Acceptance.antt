@@ -11,7 +11,6 @@ use lib.IntN.{ℤ}
 use lib.ListN.{length}
 use Rattle.forms.specs.Edition.{edition1}
 use Rattle.forms.specs.Forms.{All, nil, cons, Constraint, Formula}
-use Rattle.calculus.specs.Rules.{Entry, Proves}
 use Rattle.fields.specs.declared.Answer.{Answer}
 use Rattle.fields.specs.declared.WriteResult.{WriteResult}
 use Rattle.fields.specs.Answers.{answer, acceptance, fileA, fileB, fileLent, Result, refused, accepted, _>>=_, _>>_, found, over, fit, Written, written}
@@ -33,9 +32,9 @@ use Rattle.bundle.specs.Put.{InOrder as Ready}
 use Rattle.bundle.proofs.Writable.{bundleBytes-gives, bundleBytes-accepted}
 use Rattle.bundle.proofs.RoundTrips.{bytesWritten, rewritten, writtenAs, written-fits, readAs, read-file, write-then-read, read-then-write}
 use Rattle.formula.specs.Formula.{formulaFile}
-use Rattle.proof.specs.Check.{interpolant, check}
-use Rattle.proof.specs.Layout.{ProofFile, Certifies}
-use Rattle.proof.proofs.Agree.{interpolant-iff, interpolant-long, never-0, one-formula, agreed, agrees-refl}
+use Rattle.proof.specs.Check.{formulaAtMost, interpolant, check}
+use Rattle.proof.specs.Layout.{Yields, Certifies}
+use Rattle.proof.proofs.Agree.{interpolant-iff, interpolant-yields, interpolant-long, never-0, one-formula, agreed, agrees-refl}
 use Rattle.checking.specs.Promises.{Checks}
 use Rattle.guarantee.specs.Acceptance.{Checkable, Readable, bundleFile, Writable, Showable, WrittenAs, ReadAs, Acceptance}
 use Rattle.guarantee.proofs.Refusals.{refusals}
@@ -79,19 +78,19 @@ module _ (output : List ℕ) where
     certified-written c = rw (interpolant-iff A B proof (c .K) (c .formula) .1 (c .certified)) (fit-yes (formulaFile edition1 (c .K) (c .formula)) _ (le→leb _ _ (c .fits)))
 
     -- what it leaves depends on the proof by K and the formula alone
-    pub certified-fit : (K : ℕ) (I : Formula) → Certifies A B proof K I → check A B proof output ≡ written (accepted (formulaFile edition1 K I)) output
-    unfolding check _>>=_
-    certified-fit K I c = rw (interpolant-iff A B proof K I .1 c)
+    pub yielded-left : (K : ℕ) (I : Formula) → Yields A B proof K I
+        → check A B proof output ≡ written ((formulaAtMost K I >> accepted (K, I)) >>= λ (k, J). accepted (formulaFile edition1 k J)) output
+    unfolding check
+    yielded-left K I y = rw (interpolant-yields A B proof K I y)
 
     certified-short : (K : ℕ) (I : Formula) → Certifies A B proof K I → length output < length (formulaFile edition1 K I)
         → check A B proof output .answer ≡ answer 21 fileLent (length (formulaFile edition1 K I))
     unfolding check written fit _>>=_
     certified-short K I c h = rw (interpolant-iff A B proof K I .1 c, lt-leb (length (formulaFile edition1 K I)) (length output) h)
 
-    derived-long : (K : ℕ) {a b : List Constraint} {es : List Entry} (I : Formula) → BundleFile A K a → BundleFile B K b → ProofFile proof K es → Proves edition1 a b es I
-        → edition1 .formulaBytes < length (formulaFile edition1 K I) → check A B proof output .answer ≡ answer 1 fileLent (length (formulaFile edition1 K I))
+    derived-long : (K : ℕ) (I : Formula) → Yields A B proof K I → edition1 .formulaBytes < length (formulaFile edition1 K I) → check A B proof output .answer ≡ answer 1 fileLent (length (formulaFile edition1 K I))
     unfolding check written _>>=_
-    derived-long K I fA fB f p h = rw (interpolant-long A B proof I fA fB f p h)
+    derived-long K I y h = rw (interpolant-long A B proof K I y h)
 
 -- The same of the function.
 module _ {A B proof output left : List ℕ} {r : WriteResult} (c : Checks A B proof output left r) where
@@ -166,7 +165,7 @@ module _ {K : ℕ} {kinds : List ℕ} {numbers : List ℤ} {output left : List �
         low = ready .low;
         high = ready .high;
         few = ready .few;
-        binary = all-weaken (λ kind t. leb→le kind 1 t) (ready .binary);
+        valid = all-weaken (λ kind t. leb→le kind 2 t) (ready .valid);
         size = ready .size;
         fits = subst (λ (bs : List ℕ). length bs ≤ length output) are fit;
       }
@@ -174,7 +173,7 @@ module _ {K : ℕ} {kinds : List ℕ} {numbers : List ℤ} {output left : List �
   writes-it : Writable K kinds numbers output → WrittenAs (bundleFile K kinds numbers) output left (w .answer) (w .count)
   unfolding writeBundle
   writes-it b =
-      let ready : Ready K kinds numbers = record { low = b .low; high = b .high; few = b .few; binary = all-weaken (λ kind h. le→leb kind 1 h) (b .binary); size = b .size } in
+      let ready : Ready K kinds numbers = record { low = b .low; high = b .high; few = b .few; valid = all-weaken (λ kind h. le→leb kind 2 h) (b .valid); size = b .size } in
       written-as (c .is ∙ ap (λ (x : Result (List ℕ)). written x output) (bundleBytes-accepted K kinds numbers ready) ∙ written-fits output (bundleFile K kinds numbers) (b .fits))
 
 -- ---- show
@@ -290,8 +289,8 @@ acceptance-holds = record {
   accepted-iff = λ A B proof output left r c. (is-checkable c, λ a. ap (λ (x : Answer). x .number) (leaves c a .answer));
   writes = λ A B proof output left r c a. leaves c a;
   too-short = λ A B proof output left r c K I d h. ap (λ (w : Written). w .answer) (c .is) ∙ certified-short output A B proof K I d h;
-  too-long = λ A B proof output left r c K a b es I fA fB f p h. ap (λ (w : Written). w .answer) (c .is) ∙ derived-long output A B proof K I fA fB f p h;
-  one-formula = λ A B proof K K′ I I′ c c′. one-formula c c′;
+  too-long = λ A B proof output left r c K I y h. ap (λ (w : Written). w .answer) (c .is) ∙ derived-long output A B proof K I y h;
+  one-formula = λ A B proof K K′ I I′ y y′. one-formula y y′;
   read-iff = λ file lentKinds lentNumbers leftKinds leftNumbers r c. (readable c, λ b. ap (λ (x : Answer). x .number) (reads-it c b .answer));
   reads = λ file lentKinds lentNumbers leftKinds leftNumbers r c b. reads-it c b;
   write-iff = λ K kinds numbers output left w c. (writable c, λ b. ap (λ (x : Answer). x .number) (writes-it c b .answer));

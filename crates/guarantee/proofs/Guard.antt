@@ -57,10 +57,10 @@ guard-tells = record {
       let K-is : length values ≡ x .K = count ∙ x .K-of-A in
       let told : t ≡ asTested (record { answer = acceptance; holds = judge (x .formula) (registers values) }) =
       d .is ∙ ap asTested (tested-as (take (r .count) left) values (x .formula) (subst (λ (k : ℕ). readFormula k (fields (take (r .count) left)) ≡ accepted (x .formula)) (sym K-is) reads)
-      (omega (arith, short, length-take (r .count) left)) (omega (arith, x .certified .fileProof .low)) (omega (arith, x .certified .fileProof .high)) range) in (
+      (omega (arith, short, length-take (r .count) left)) (omega (arith, x .certified .yields .fileProof .low)) (omega (arith, x .certified .yields .fileProof .high)) range) in (
         ap (λ (t : Tested). t .answer) told,
         λ K I d.
-            let same : I ≡ x .formula = one-formula d (x .certified) .1 in (
+            let same : I ≡ x .formula = one-formula (d .yields) (x .certified .yields) .1 in (
               λ e. judge-true I (registers values) .0 (rw (same, sym (ap (λ (t : Tested). t .holds) told), e) tt),
               λ t. ap (λ (t : Tested). t .holds) told ∙ bool-true _ (judge-true (x .formula) (registers values) .1 (rw (sym same) t)),
             ),

@@ -6,3 +6,4 @@ pub mod Soundness
 pub mod Guard
 pub mod Reduced
 pub mod Rounding
+pub mod Apart

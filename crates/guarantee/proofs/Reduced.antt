@@ -11,7 +11,7 @@ use borrow.Author.Tests.{eqb-true, eqb-false}
 use Rattle.forms.specs.Edition.{Edition, edition1}
 use Rattle.forms.specs.Forms.{Form, Line, Assignment, Formula, _divides_, _and_, _or_, within, True, height}
 use Rattle.forms.specs.Reduced.{reducing, Strides}
-use Rattle.calculus.specs.Rules.{StrideOf, Closed, derive, strengthen, round, number, stride, Rounded, last, more}
+use Rattle.calculus.specs.Rules.{StrideOf, Closed, derive, strengthen, round, splitEq, splitNeq, number, stride, Rounded, last, more}
 use Rattle.calculus.proofs.Reducing.{reducing-alike, reducing-reduced, reducing-again, derived-reduced, derived-stands}
 use Rattle.fields.specs.Answers.{fileProof, answer, Result}
 use Rattle.fields.specs.Fields.{fields}
@@ -35,6 +35,8 @@ module _ {e : Edition} {inB : ℕ → Bool} where
     standing-strides (derive _ _ _ p) = standing-strides p
     standing-strides (strengthen _ _ _ p1 pE p0) = (standing-strides p1, (standing-strides pE, standing-strides p0))
     standing-strides (round _ _ _ r p ps) = (standing-strides p, rounded-strides ps (r .stride))
+    standing-strides (splitEq _ _ _ _ p q) = (standing-strides p, standing-strides q)
+    standing-strides (splitNeq _ _ _ _ p q) = (standing-strides p, standing-strides q)
     standing-strides (number _ _ _ _) = tt
     standing-strides (stride _ g _ h _ _ _) = h
 
@@ -49,6 +51,8 @@ module _ {e : Edition} {inB : ℕ → Bool} where
     standing-reduced (derive _ _ _ p) = standing-reduced p
     standing-reduced (strengthen _ _ _ p1 pE p0) = ap₂ _or_ (standing-reduced p1) (ap₂ _and_ (standing-reduced pE) (standing-reduced p0))
     standing-reduced (round _ _ _ _ p ps) = ap₂ _or_ (standing-reduced p) (rounded-reduced ps)
+    standing-reduced (splitEq _ _ _ _ p q) = ap₂ _or_ (standing-reduced p) (standing-reduced q)
+    standing-reduced (splitNeq _ _ _ _ p q) = ap₂ _and_ (standing-reduced p) (standing-reduced q)
     standing-reduced (number _ _ _ _) = refl
     standing-reduced (stride _ g _ _ _ _ is) = stride-standing is
 
@@ -78,10 +82,10 @@ pub in-reduced-form : InReducedForm
 in-reduced-form = record {
   writes = λ A B proof output left r c h.
       let a = is-checkable c h in
-      let p = a .certified .proves .proof in
+      let p = a .certified .yields .proves .proof in
       record { checked = a; written = leaves c a; numbers = derived-reduced p; stands = derived-stands p };
-  of-document-01 = λ A B proof K I c.
-      let p = c .proves .proof in
+  of-document-01 = λ A B proof K I y.
+      let p = y .proves .proof in
       let e = standing-reduced p in
       (e, λ v. subst (λ (J : Formula). True (asItStood p) v ↔ True J v) e (reducing-alike (asItStood p) v (standing-strides p)));
   reduces = λ I s. (reducing-reduced I s, reducing-again I s);

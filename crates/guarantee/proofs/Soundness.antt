@@ -9,7 +9,7 @@ use lib.ListN.{length, take}
 use lib.Seq.{take-at}
 use Rattle.forms.specs.Edition.{Edition, edition1}
 use Rattle.forms.specs.Forms.{All, Form, Line, Constraint, Formula}
-use Rattle.calculus.specs.Rules.{Entry, Closed, derive, strengthen, round, number, stride, Rounded, last, more, step, entries, entriesRounded, Interpolant}
+use Rattle.calculus.specs.Rules.{Entry, Closed, derive, strengthen, round, splitEq, splitNeq, number, stride, Rounded, last, more, step, entries, entriesRounded, Interpolant}
 use Rattle.fields.specs.declared.Answer.{Answer}
 use Rattle.fields.specs.Answers.{accepted, over, Written, writtenOf}
 use Rattle.fields.specs.Numbers.{Bytes}
@@ -19,14 +19,14 @@ use Rattle.fields.proofs.Whole.{whole-file}
 use Rattle.bundle.specs.Layout.{StatesAll, BundleFile}
 use Rattle.formula.specs.Formula.{formulaFile, readFormula}
 use Rattle.proof.specs.Check.{check}
-use Rattle.proof.specs.Layout.{Certifies}
-use Rattle.proof.proofs.Agree.{certified-interpolant}
+use Rattle.proof.specs.Layout.{Yields}
+use Rattle.proof.proofs.Agree.{yielded-interpolant}
 use Rattle.proof.proofs.Notes.{check-noted}
 use Rattle.fields.proofs.Bare.{bareWritten}
 use Rattle.proof.proofs.Sizes.{written-reads-back}
 use Rattle.fields.specs.declared.WriteResult.{WriteResult}
 use Rattle.checking.specs.Promises.{Checks}
-use Rattle.guarantee.specs.LaidOut.{Listed, LaidBundle, Placed, unclaimed, claimed, strengthen as strengthens, rounding, number as numbers, stride as strides, PlacedTimes, none as nones, more as mores, LaidProof, LaidOut}
+use Rattle.guarantee.specs.LaidOut.{Listed, LaidBundle, Placed, unclaimed, claimed, strengthen as strengthens, round as rounds, split as splits, number as numbers, stride as strides, PlacedTimes, none as nones, more as mores, LaidProof, LaidOut}
 use Rattle.guarantee.specs.Acceptance.{Checkable}
 use Rattle.guarantee.specs.Soundness.{Meaning, Faithful, Delivered, Soundness}
 use Rattle.guarantee.proofs.Acceptance.{is-checkable, leaves}
@@ -53,7 +53,9 @@ mutual
   closed-placed (derive true n _ p) rest = claimed (step n) _ _ (closed-placed p rest)
   closed-placed (derive false n _ p) rest = unclaimed (step n) (closed-placed p rest)
   closed-placed (strengthen i _ _ p1 pE p0) rest = strengthens i (closed-placed p1 _) (closed-placed pE _) (closed-placed p0 rest)
-  closed-placed (round i g k _ p ps) rest = rounding i g k (closed-placed p _) (rounded-placed ps rest k (omega arith))
+  closed-placed (round i g k _ p ps) rest = rounds i g k (closed-placed p _) (rounded-placed ps rest k (omega arith))
+  closed-placed (splitEq i _ _ _ p q) rest = splits i (closed-placed p _) (closed-placed q rest)
+  closed-placed (splitNeq i _ _ _ p q) rest = splits i (closed-placed p _) (closed-placed q rest)
   closed-placed (number i _ _ _) rest = numbers i
   closed-placed (stride i g _ _ _ _ _) rest = strides i g
 
@@ -69,19 +71,19 @@ mutual
 laid-bundle : {file : List ℕ} {K : ℕ} {cs : List Constraint} → BundleFile file K cs → LaidBundle file K
 laid-bundle {cs = cs} b = record { constraints = cs; list = b .list; whole = b .whole; laid = b .laid }
 
-laid-out : {A B proof : List ℕ} {K : ℕ} {I : Formula} → Certifies A B proof K I → LaidOut A B proof
-laid-out {K = K} c = record {
+laid-out : {A B proof : List ℕ} {K : ℕ} {I : Formula} → Yields A B proof K I → LaidOut A B proof
+laid-out {K = K} y = record {
   K = K;
-  ofA = laid-bundle (c .fileA);
-  ofB = laid-bundle (c .fileB);
+  ofA = laid-bundle (y .fileA);
+  ofB = laid-bundle (y .fileB);
   ofProof = record {
-    entries = c .es;
-    body = c .fileProof .body;
-    whole = c .fileProof .whole;
-    low = c .fileProof .low;
-    high = c .fileProof .high;
-    enters = c .fileProof .enters;
-    placed = subst (λ (es : List Entry). Placed es []) (c .proves .are) (closed-placed (c .proves .proof) []);
+    entries = y .es;
+    body = y .fileProof .body;
+    whole = y .fileProof .whole;
+    low = y .fileProof .low;
+    high = y .fileProof .high;
+    enters = y .fileProof .enters;
+    placed = subst (λ (es : List Entry). Placed es []) (y .proves .are) (closed-placed (y .proves .proof) []);
   };
 }
 
@@ -103,15 +105,15 @@ module _ (FA FB : List Item) (framedA : All Framed FA) (framedB : All Framed FB)
     K = a .K;
     formula = a .formula;
     certified = a .certified;
-    K-of-A = stated-K FA framedA MA faithfulA (a .K) _ (a .certified .fileA);
-    K-of-B = stated-K FB framedB MB faithfulB (a .K) _ (a .certified .fileB);
+    K-of-A = stated-K FA framedA MA faithfulA (a .K) _ (a .certified .yields .fileA);
+    K-of-B = stated-K FB framedB MB faithfulB (a .K) _ (a .certified .yields .fileB);
     fits = a .fits;
     count = leaves c a .count-is;
     bytes = leaves c a .left-is;
     reads-back = λ bytesA bytesB bytesP.
         let (reads, short) = written-reads-back (fileOf FA) (fileOf FB) proof bytesA bytesB bytesP (a .certified) in
         (ap (λ (bs : List ℕ). readFormula (a .K) (fields bs)) front-is ∙ reads, subst (λ (n : ℕ). n ≤ edition1 .formulaBytes) (sym (leaves c a .count-is)) short);
-    interpolant = rw (stated FA framedA MA faithfulA (a .K) _ (a .certified .fileA), stated FB framedB MB faithfulB (a .K) _ (a .certified .fileB)) (certified-interpolant (a .certified));
+    interpolant = rw (stated FA framedA MA faithfulA (a .K) _ (a .certified .yields .fileA), stated FB framedB MB faithfulB (a .K) _ (a .certified .yields .fileB)) (yielded-interpolant (a .certified .yields));
   }
 
 -- ---- notes
@@ -124,10 +126,10 @@ pub soundness : Soundness
 soundness = record {
   interpolates = λ FA FB framedA framedB MA MB faithfulA faithfulB proof output left r c h.
       delivered FA FB framedA framedB MA MB faithfulA faithfulB proof output left r c (is-checkable c h);
-  listed = λ A B proof output left r bytesA bytesB c h. let x = is-checkable c h .certified in (lists bytesA (x .fileA), lists bytesB (x .fileB));
+  listed = λ A B proof output left r bytesA bytesB c h. let x = is-checkable c h .certified .yields in (lists bytesA (x .fileA), lists bytesB (x .fileB));
   notes = λ A A′ B B′ proof proof′ output left left′ r r′ nA nB nP kA kB kP c c′.
       let same = bare-is c′ ∙ check-noted nA nB nP kA kB kP output ∙ sym (bare-is c) in
       (ap (λ (w : Written). w .answer) same, ap (λ (w : Written). w .count) same, ap (λ (w : Written). w .output) same);
-  laid-out = λ A B proof output left r c h. laid-out (is-checkable c h .certified);
-  refuses = λ A B proof output left r c none h. none (laid-out (is-checkable c h .certified));
+  laid-out = λ A B proof output left r c h. laid-out (is-checkable c h .certified .yields);
+  refuses = λ A B proof output left r c none h. none (laid-out (is-checkable c h .certified .yields));
 }

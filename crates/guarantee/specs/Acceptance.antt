@@ -7,7 +7,6 @@ use lib.IntN.{ℤ}
 use lib.ListN.{length, take}
 use Rattle.forms.specs.Edition.{edition1}
 use Rattle.forms.specs.Forms.{All, Constraint, Formula}
-use Rattle.calculus.specs.Rules.{Entry, Proves}
 use Rattle.fields.specs.declared.Answer.{Answer}
 use Rattle.fields.specs.declared.WriteResult.{WriteResult}
 use Rattle.fields.specs.Answers.{answer, acceptance, fileLent, over}
@@ -21,7 +20,7 @@ use Rattle.bundle.specs.Read.{kindsOf, numbersOf}
 use Rattle.bundle.specs.Write.{constraintsBytes}
 use Rattle.bundle.specs.Promises.{Reads, Writes, AnswersShow}
 use Rattle.formula.specs.Formula.{formulaFile}
-use Rattle.proof.specs.Layout.{ProofFile, Certifies}
+use Rattle.proof.specs.Layout.{Yields, Certifies}
 use Rattle.checking.specs.Promises.{Checks}
 
 -- ---- what each operation accepts
@@ -40,7 +39,7 @@ pub record Readable (file lentKinds : List ℕ) (lentNumbers : List ℤ) : Type 
   pub kinds-fit : length (kindsOf constraints) ≤ length lentKinds
   pub numbers-fit : length (numbersOf constraints) ≤ length lentNumbers
 
--- Write: K is 1 to 16, at most 32 kinds, each 0 or 1, with K+1 numbers for each, and the output is long enough.
+-- Write: K is 1 to 16, at most 32 kinds, each 0, 1 or 2, with K+1 numbers for each, and the output is long enough.
 abbrev pub bundleFile : (K : ℕ) (kinds : List ℕ) (numbers : List ℤ) → List ℕ
 bundleFile K kinds numbers = headerBytes K ++ constraintsBytes edition1 K kinds numbers
 
@@ -48,7 +47,7 @@ pub record Writable (K : ℕ) (kinds : List ℕ) (numbers : List ℤ) (output : 
   pub low : 1 ≤ K
   pub high : K ≤ edition1 .constants
   pub few : length kinds ≤ edition1 .constraints
-  pub binary : All (λ kind. kind ≤ 1) kinds
+  pub valid : All (λ kind. kind ≤ 2) kinds
   pub size : length numbers ≡ length kinds * suc K
   pub fits : length (bundleFile K kinds numbers) ≤ length output
 
@@ -86,11 +85,10 @@ pub record Acceptance : Type 0 where
   pub too-short : (A B proof output left : List ℕ) (r : WriteResult) → Checks A B proof output left r → (K : ℕ) (I : Formula) → Certifies A B proof K I
       → length output < length (formulaFile edition1 K I) → r .answer ≡ answer 21 fileLent (length (formulaFile edition1 K I))
   -- where the rows derive a formula whose file is longer than a formula's may be, 1 with the bytes needed, whatever output is lent
-  pub too-long : (A B proof output left : List ℕ) (r : WriteResult) → Checks A B proof output left r → (K : ℕ) (a b : List Constraint) (es : List Entry) (I : Formula)
-      → BundleFile A K a → BundleFile B K b → ProofFile proof K es → Proves edition1 a b es I
+  pub too-long : (A B proof output left : List ℕ) (r : WriteResult) → Checks A B proof output left r → (K : ℕ) (I : Formula) → Yields A B proof K I
       → edition1 .formulaBytes < length (formulaFile edition1 K I) → r .answer ≡ answer 1 fileLent (length (formulaFile edition1 K I))
-  -- three files certify one K and one formula at most
-  pub one-formula : (A B proof : List ℕ) (K K′ : ℕ) (I I′ : Formula) → Certifies A B proof K I → Certifies A B proof K′ I′ → (K ≡ K′) × (I ≡ I′)
+  -- three files derive one K and one formula at most, however long its file
+  pub one-formula : (A B proof : List ℕ) (K K′ : ℕ) (I I′ : Formula) → Yields A B proof K I → Yields A B proof K′ I′ → (K ≡ K′) × (I ≡ I′)
   -- ---- read, write, show
   pub read-iff : (file lentKinds : List ℕ) (lentNumbers : List ℤ) (leftKinds : List ℕ) (leftNumbers : List ℤ) (r : ReadResult) → Reads file lentKinds lentNumbers leftKinds leftNumbers r
       → r .answer .number ≡ 0 ↔ Readable file lentKinds lentNumbers

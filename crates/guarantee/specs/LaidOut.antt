@@ -1,4 +1,4 @@
--- What is laid out: whole fields of known tags, in their places, of right lengths, edition and one K, and of a proof one table whose branches are all closed. Document 01, "Fields". Assumes nothing.
+-- What is laid out: whole fields of known tags, in their places, of right lengths, edition and one K, and of a proof one table whose branches are all closed. Document 01, "Fields"; document 02, points 1 and 6. Assumes nothing.
 -- (How long a file may be, and how many constraints and rows it may have, are limits of `BundleFile`, `ProofFile` and `Proves`.)
 use mathlib.Core.Path.{_≡_}
 use mathlib.Core.List.{List, [], _∷_}
@@ -6,7 +6,7 @@ use mathlib.Core.Option.{some}
 use Prim.Native.Nat.{ℕ, suc, _≤_}
 use Rattle.forms.specs.Edition.{edition1}
 use Rattle.forms.specs.Forms.{All, Form, Constraint}
-use Rattle.calculus.specs.Rules.{Step, Derive, Strengthen, CloseNumber, CloseStride, Round, Entry, row, claim}
+use Rattle.calculus.specs.Rules.{Step, Derive, Strengthen, CloseNumber, CloseStride, Round, Split, Entry, row, claim}
 use Rattle.fields.specs.Fields.{Item, item, Framed, fileOf, fields, items}
 use Rattle.bundle.specs.Layout.{Each, StatesAll}
 use Rattle.proof.specs.Layout.{Enters}
@@ -29,9 +29,10 @@ mutual
     -- a row 0x10 to 0x12, without its claim or with it, goes on
     unclaimed : {es rest : List Entry} (s : Step) → Placed es rest → Placed (row (Derive s) ∷ es) rest
     claimed : {es rest : List Entry} (s : Step) (t tA : Form) → Placed es rest → Placed (row (Derive s) ∷ claim t tA ∷ es) rest
-    -- three branches follow a strengthen, complete one after the other, k+1 a rounding by k
+    -- three branches follow a strengthen, complete one after the other, k+1 a rounding by k, two a split
     strengthen : {es second third rest : List Entry} (t : ℕ) → Placed es second → Placed second third → Placed third rest → Placed (row (Strengthen t) ∷ es) rest
-    rounding : {es second rest : List Entry} (t g k : ℕ) → Placed es second → PlacedTimes k second rest → Placed (row (Round t g k) ∷ es) rest
+    round : {es second rest : List Entry} (t g k : ℕ) → Placed es second → PlacedTimes k second rest → Placed (row (Round t g k) ∷ es) rest
+    split : {es second rest : List Entry} (t : ℕ) → Placed es second → Placed second rest → Placed (row (Split t) ∷ es) rest
     -- a branch ends at its close row
     number : {rest : List Entry} (t : ℕ) → Placed (row (CloseNumber t) ∷ rest) rest
     stride : {rest : List Entry} (t g : ℕ) → Placed (row (CloseStride t g) ∷ rest) rest

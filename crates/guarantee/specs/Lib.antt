@@ -7,3 +7,4 @@ pub mod Soundness
 pub mod Guard
 pub mod Reduced
 pub mod Rounding
+pub mod Apart

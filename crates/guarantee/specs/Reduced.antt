@@ -8,11 +8,11 @@ use lib.IntN.{ℤ}
 use Rattle.forms.specs.Edition.{Edition, edition1}
 use Rattle.forms.specs.Forms.{Form, Line, Assignment, Formula, literal, _divides_, _and_, _or_, _plus_, within, True, height}
 use Rattle.forms.specs.Reduced.{reducing, Strides, Reduced}
-use Rattle.calculus.specs.Rules.{Closed, derive, strengthen, round, number, stride, Rounded, last, more}
+use Rattle.calculus.specs.Rules.{Closed, derive, strengthen, round, splitEq, splitNeq, number, stride, Rounded, last, more}
 use Rattle.formula.specs.declared.Tested.{Tested}
 use Rattle.formula.specs.Formula.{formulaFile, Encodable}
 use Rattle.formula.specs.Promises.{Tests}
-use Rattle.proof.specs.Layout.{Certifies}
+use Rattle.proof.specs.Layout.{Yields}
 use Rattle.fields.specs.declared.WriteResult.{WriteResult}
 use Rattle.checking.specs.Promises.{Checks}
 use Rattle.guarantee.specs.Acceptance.{Checkable, WrittenAs}
@@ -23,6 +23,8 @@ abbrev mutual
   asItStood (derive _ _ _ p) = asItStood p
   asItStood (strengthen _ _ _ p1 pE p0) = asItStood p1 or (asItStood pE and asItStood p0)
   asItStood (round _ _ _ _ p ps) = asItStood p or roundedAsItStood ps
+  asItStood (splitEq _ _ _ _ p q) = asItStood p or asItStood q
+  asItStood (splitNeq _ _ _ _ p q) = asItStood p and asItStood q
   asItStood (number {k = k} {tA = tA} _ _ _ _) = literal k tA
   asItStood {inB = inB} (stride {tA = tA} _ g _ _ _ _ _) = g divides within inB tA
 
@@ -39,9 +41,9 @@ pub record WrittenReduced (A B proof output left : List ℕ) (r : WriteResult) :
 
 pub record InReducedForm : Type 0 where
   pub writes : (A B proof output left : List ℕ) (r : WriteResult) → Checks A B proof output left r → r .answer .number ≡ 0 → WrittenReduced A B proof output left r
-  -- It is document 01's formula, reduced, and true under the same assignments.
-  pub of-document-01 : (A B proof : List ℕ) (K : ℕ) (I : Formula) (c : Certifies A B proof K I)
-      → (reducing (asItStood (c .proves .proof)) ≡ I) × ((v : Assignment) → True (asItStood (c .proves .proof)) v ↔ True I v)
+  -- It is the formula with the numbers as they stand, reduced, and true under the same assignments.
+  pub of-document-01 : (A B proof : List ℕ) (K : ℕ) (I : Formula) (y : Yields A B proof K I)
+      → (reducing (asItStood (y .proves .proof)) ≡ I) × ((v : Assignment) → True (asItStood (y .proves .proof)) v ↔ True I v)
   -- Of every formula whose strides are 2 at least: the reduced one has numbers from 0 to g-1, and reducing it again changes nothing.
   pub reduces : (I : Formula) → Strides I → Reduced (reducing I) × (reducing (reducing I) ≡ reducing I)
   -- Under every assignment both are true alike,

@@ -1,19 +1,21 @@
 -- Rounding by several at once: document 02, point 1. (That roundings are sound, laid out, told by step and branch is in the demands, which speak of every row.) Assumes nothing.
 use mathlib.Core.Path.{_≡_}
 use mathlib.Core.List.{List, []}
-use Prim.Native.Nat.{ℕ, _*_, _≤_}
+use Prim.Native.Nat.{ℕ, suc, _*_, _≤_}
 use Rattle.forms.specs.Edition.{edition1}
 use Rattle.forms.specs.Forms.{Formula, height}
 use Rattle.calculus.specs.Rules.{Entry}
 use Rattle.calculus.specs.Tied.{Tied}
-use Rattle.proof.specs.Layout.{ProofFile, Certifies}
+use Rattle.proof.specs.Layout.{ProofFile, Yields}
 use Rattle.fields.specs.declared.WriteResult.{WriteResult}
 use Rattle.checking.specs.Promises.{Checks}
 
 pub record RoundingPromised : Type 0 where
-  -- A strengthen whose middle branch is only the close of its new line by stride g, and a rounding by 1 with that g: where the one table is certified, the other gives the same answer, count and bytes.
-  -- `Tied` says it of any strengthens of a table, as many as one likes; notes may differ too.
-  pub tie : (A B proof proof₁ output left left₁ : List ℕ) (r r₁ : WriteResult) (K : ℕ) (I : Formula) (c : Certifies A B proof K I) (es : List Entry) → ProofFile proof₁ K es → Tied (c .proves .proof) [] es
+  -- Where a table with strengthens derives a formula, a table that has, in the place of any of them whose middle branch is only the close of its new line by stride g,
+  -- a rounding by 1 with that g and the rows of its two t+1 branches, gives the same answer, count and bytes. (Not the other way round: the strengthen's table has a row more.)
+  -- Notes may differ too.
+  pub tie : (A B proof proof₁ output left left₁ : List ℕ) (r r₁ : WriteResult) (K : ℕ) (I : Formula) (y : Yields A B proof K I) (es : List Entry) → ProofFile proof₁ K es → Tied (y .proves .proof) [] es
       → Checks A B proof output left r → Checks A B proof₁ output left₁ r₁ → (r₁ ≡ r) × (left₁ ≡ left)
-  -- No accepted formula has more levels than 17 for each of the 32 branching steps that may be open, 544, so that check refuses none for its levels.
-  pub levels : (A B proof : List ℕ) (K : ℕ) (I : Formula) → Certifies A B proof K I → (height I ≤ 17 * edition1 .branchings) × (17 * edition1 .branchings ≤ edition1 .levels)
+  -- No formula that is derived has more levels than 17 for each of the 32 branching steps that may be open, 544, so that check refuses none for its levels.
+  pub levels : (A B proof : List ℕ) (K : ℕ) (I : Formula) → Yields A B proof K I
+      → (height I ≤ suc (edition1 .rounding) * edition1 .branchings) × (suc (edition1 .rounding) * edition1 .branchings ≤ edition1 .levels)

@@ -21,7 +21,7 @@ use Rattle.guarantee.specs.LaidOut.{Listed, LaidOut}
 abbrev pub Meaning : Type 0
 Meaning = List Item → ℕ × List Constraint
 
--- It is free except where every field is one of document 01's: there it gives that K and those constraints in file order.
+-- It is free except where every field is one of document 01's, or 0x05 of document 02, point 6: there it gives that K and those constraints in file order.
 abbrev pub Faithful : Meaning → Type 0
 Faithful M = (F : List Item) (K : ℕ) (cs : List Constraint) → StatesAll (withoutNotes F) K cs → M F ≡ (K, cs)
 

@@ -12,7 +12,7 @@ use Rattle.proof.specs.Tree.{Outside, AnswerStands}
 use Rattle.checking.specs.Promises.{Checks}
 
 pub record InTree : Type 0 where
-  -- check: amid the proof the row, step and branch to which the tags before the field at fault lead, elsewhere none
+  -- check: amid the proof the row, step and branch to which the fields before the one at fault lead, elsewhere none
   pub check : (A B proof output left : List ℕ) (r : WriteResult) → Checks A B proof output left r → AnswerStands proof (r .answer)
   -- the operations that check no proof: none
   pub read : (file kinds : List ℕ) (numbers : List ℤ) (kinds′ : List ℕ) (numbers′ : List ℤ) (r : ReadResult) → Reads file kinds numbers kinds′ numbers′ r → Outside (r .answer)

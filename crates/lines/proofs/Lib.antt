@@ -6,6 +6,7 @@ pub mod Mixing
 pub mod Raising
 pub mod Branch
 pub mod Starting
+pub mod Negating
 pub mod Next
 pub mod Fill
 pub mod Every

@@ -9,17 +9,21 @@ use native.Mathlib.Omega.{arith}
 use lib.IntN.{ℤ, pos}
 use lib.ListN.{length, getElem?, length-append}
 use Rattle.forms.specs.Edition.{edition1}
-use Rattle.forms.specs.Forms.{Form, Kind, Line, line}
+use Rattle.forms.specs.Forms.{Form, LineKind, Line}
 use Rattle.calculus.specs.Rules.{_▷_}
 use Rattle.lines.specs.Parts.{Agree}
 use Rattle.lines.proofs.Parts.{agree-le, agree-getD, agree-part, getElem?-snoc-below, getElem?-snoc, getElem?-past}
-use Rattle.forms.specs.Flat.{kindOf, formIn}
+use Rattle.forms.specs.Flat.{lineKindOf, formIn}
 use Rattle.lines.specs.Buffer.{size, lineIn, linesIn, Bounded}
 
 pub form-ext : {s t : Form} → s .coeffs ≡ t .coeffs → s .d ≡ t .d → s ≡ t
 form-ext c e = ap₂ (λ (l : List ℤ) (z : ℤ). record { coeffs = l; d = z }) c e
 
-pub line-ext : {k l : Kind} {s t sA tA : Form} → k ≡ l → s ≡ t → sA ≡ tA → line k s sA ≡ line l t tA
+-- A line of any kind.
+abbrev pub lineAs : LineKind → Form → Form → Line
+lineAs k t tA = record { kind = k; t = t; tA = tA }
+
+pub line-ext : {k l : LineKind} {s t sA tA : Form} → k ≡ l → s ≡ t → sA ≡ tA → lineAs k s sA ≡ lineAs l t tA
 line-ext e f g = cc
 
 -- Line i ends before line n starts.
@@ -58,7 +62,7 @@ module _ (K : ℕ) {buf buf′ : List ℤ} where
     unfolding lineIn
     line-same {n} a k i h =
         line-ext
-        (ap kindOf (agree-getD k i 0 h))
+        (ap lineKindOf (agree-getD k i 0 h))
         (form-same a (i * size K) (omega (arith, before K h)))
         (form-same a (i * size K + (K + 1)) (omega (arith, before K h)))
 

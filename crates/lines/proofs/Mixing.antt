@@ -12,14 +12,14 @@ use lib.Seq.{paste, length-paste, take-add, take-all}
 use borrow.Author.Tests.{not-true, not-false}
 use Rattle.integers.proofs.Ring.{var, ring, poly}
 use Rattle.forms.specs.Edition.{edition1}
-use Rattle.forms.specs.Forms.{Form, Line, line, sums, _⊞_, _·_}
+use Rattle.forms.specs.Forms.{Form, Line, sums, _⊞_, _·_}
 use Rattle.calculus.specs.Rules.{small, every, inRange}
 use Rattle.calculus.proofs.Readings.{getD-sums, getD-scaled, length-sums}
 use Rattle.lines.specs.Parts.{part, Agree}
 use Rattle.lines.proofs.Parts.{part-part, length-part, part-paste, paste-paste, getD-part, getD-paste, agree-part, agree-paste, agree-getD, agree-trans, agree-le}
-use Rattle.forms.specs.Flat.{kindOf, formIn}
+use Rattle.forms.specs.Flat.{lineKindOf, formIn}
 use Rattle.lines.specs.Buffer.{size, lineIn, times, mixed, Mixes, mixedLine, Terms, LineTerms}
-use Rattle.lines.proofs.Lines.{form-ext, line-ext, before}
+use Rattle.lines.proofs.Lines.{lineAs, form-ext, line-ext, before}
 use Rattle.lines.proofs.Range.{every-append, fits-line}
 
 -- ---- sums and multiples of lists, and their parts
@@ -157,7 +157,7 @@ module _ (K : ℕ) (f : ℤ) (i : ℕ) (g : ℤ) (j n : ℕ) (buf : List ℤ) (r
 
   -- (kinds′ may have the new line's kind already.)
   pub mixed-line : (kinds kinds′ : List ℕ) (s t : Line) → lineIn K kinds buf i ≡ s → lineIn K kinds buf j ≡ t
-      → lineIn K kinds′ (mixedLine K f i g j n buf) n ≡ line (kindOf (getD kinds′ n 0)) (f · s .t ⊞ g · t .t) (f · s .tA ⊞ g · t .tA)
+      → lineIn K kinds′ (mixedLine K f i g j n buf) n ≡ lineAs (lineKindOf (getD kinds′ n 0)) (f · s .t ⊞ g · t .t) (f · s .tA ⊞ g · t .tA)
   unfolding lineIn mixedLine
   mixed-line kinds kinds′ s t es et =
       let m = mixed-form f (i * size K) g (j * size K) (size K) buf (omega (arith, before K hi)) (omega (arith, before K hj)) K (n * size K) in
@@ -180,7 +180,7 @@ unfolding mixedLine
 mixes-line K i j n x e = x .is e
 
 -- ---- one factor 1, the other 0
-one-mul : (a : ℤ) → pos 1 *ℤ a ≡ a
+pub one-mul : (a : ℤ) → pos 1 *ℤ a ≡ a
 one-mul a = let x = var a in ring (search poly) x (omega arith)
 
 add-zero-mul : (x a : ℤ) → x +ℤ pos 0 *ℤ a ≡ x

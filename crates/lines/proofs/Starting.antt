@@ -1,117 +1,115 @@
--- The line that a branch starts with, line i with t + x and tA + y: the laws of `copiedLine` and `startedLine`. Assumes nothing.
+-- The line that a branch starts with, line i with t + x and tA + y: the laws of `startedLine`. Assumes nothing.
 use mathlib.Core.Path.{_≡_, refl, sym, _∙_, ap, subst}
 use mathlib.Core.List.{List, []}
 use mathlib.Core.Bool.{Bool, true, false, _&&_, and-true}
 use Prim.Native.Nat.{ℕ, suc, _+_, _*_, _<_, _≤_}
 use native.Mathlib.Omega.{arith}
 use lib.Dec.{T, leb→le, le→leb}
-use lib.IntN.{ℤ, pos, _+ℤ_, +ℤ-idr}
+use lib.IntN.{ℤ, pos, _+ℤ_, _*ℤ_, +ℤ-idr}
 use lib.ListN.{length, getD}
 use Rattle.integers.specs.Magnitude.{Within}
 use Rattle.integers.proofs.Magnitude.{within-between}
 use Rattle.forms.specs.Edition.{edition1}
-use Rattle.forms.specs.Forms.{Form, Kind, Line, line, _plus_}
+use Rattle.forms.specs.Forms.{Form, Kind, ≤0, LineKind, plain, Line, line, _·_, _plus_}
 use Rattle.calculus.specs.Rules.{small, every, inRange}
 use Rattle.lines.specs.Parts.{Agree}
 use Rattle.lines.proofs.Parts.{agree-trans, agree-getD}
-use Rattle.forms.specs.Flat.{kindOf, formIn}
-use Rattle.lines.specs.Buffer.{size, lineIn, Bounded, Raised, LineCopy, LineStart, raised, copiedLine, startedLine}
-use Rattle.lines.proofs.Lines.{before, form-ext, line-ext, bounded-same}
-use Rattle.lines.proofs.Mixing.{mixed-keeps, mixed-line, length-mixedLine, mix-copy}
+use Rattle.forms.specs.Flat.{lineKindOf, formIn}
+use Rattle.lines.specs.Buffer.{size, lineIn, Bounded, Raised, LineCopy, LineStart, mixedLine, raisedLine, copiedLine, startedLine}
+use Rattle.lines.proofs.Lines.{lineAs, before, form-ext, line-ext, bounded-same}
+use Rattle.lines.proofs.Mixing.{mixed-keeps, mixed-line, length-mixedLine, mix-zero, one-mul, one-form}
 use Rattle.lines.proofs.Range.{and-left, and-right, and-both, bounded-more, bounded-line}
-use Rattle.lines.proofs.Raising.{length-raised, raised-keeps, raised-t, raised-tA}
+use Rattle.lines.proofs.Raising.{length-raisedLine, raisedLine-keeps, raisedLine-line}
 
--- ---- the copy, and what is raised in it
-module _ {K : ℕ} {buf : List ℤ} {i n : ℕ} (p : LineCopy K buf i n) where
-  length-copied : length (copiedLine K i n buf) ≡ length buf
-  unfolding copiedLine
-  length-copied = length-mixedLine K (pos 1) i (pos 0) i n buf (p .branch .room) (p .first) (p .first)
+-- ---- f times line i as line n, and what is raised in it
+module _ {K : ℕ} {buf : List ℤ} {i n : ℕ} (p : LineCopy K buf i n) (f : ℤ) where
+  length-times : length (mixedLine K f i (pos 0) i n buf) ≡ length buf
+  length-times = length-mixedLine K f i (pos 0) i n buf (p .branch .room) (p .first) (p .first)
 
-  copied-keeps : Agree (n * size K) buf (copiedLine K i n buf)
-  unfolding copiedLine
-  copied-keeps = mixed-keeps K (pos 1) i (pos 0) i n buf (p .branch .room) (p .first) (p .first)
+  pub times-line : (kinds kinds′ : List ℕ) {s : Line} → lineIn K kinds buf i ≡ s → lineIn K kinds′ (mixedLine K f i (pos 0) i n buf) n ≡ lineAs (lineKindOf (getD kinds′ n 0)) (f · s .t) (f · s .tA)
+  times-line kinds kinds′ {s} es =
+      mixed-line K f i (pos 0) i n buf (p .branch .room) (p .first) (p .first) kinds kinds′ s s es es
+      ∙ line-ext refl (mix-zero f (s .t)) (mix-zero f (s .tA))
 
-  copied-line : (kinds kinds′ : List ℕ) {s : Line} → lineIn K kinds buf i ≡ s → lineIn K kinds′ (copiedLine K i n buf) n ≡ line (kindOf (getD kinds′ n 0)) (s .t) (s .tA)
-  unfolding copiedLine
-  copied-line kinds kinds′ {s} es =
-      mixed-line K (pos 1) i (pos 0) i n buf (p .branch .room) (p .first) (p .first) kinds kinds′ s s es es
-      ∙ line-ext refl (mix-copy (s .t)) (mix-copy (s .tA))
+  pub times-room : n * size K + size K ≤ length (mixedLine K f i (pos 0) i n buf)
+  times-room = omega (arith, p .branch .room, length-times)
 
-  -- The copy with t raised.
-  module _ (x : ℕ) where
-    abbrev half : List ℤ
-    half = raised (n * size K + K) x (copiedLine K i n buf)
+  module _ (x y : ℕ) where
+    pub length-new : length (raisedLine K n x y (mixedLine K f i (pos 0) i n buf)) ≡ length buf
+    length-new = length-raisedLine K n x y (mixedLine K f i (pos 0) i n buf) ∙ length-times
 
-    length-half : length half ≡ length buf
-    length-half = length-raised (copiedLine K i n buf) (n * size K + K) x ∙ length-copied
+    pub new-keeps : Agree (n * size K) buf (raisedLine K n x y (mixedLine K f i (pos 0) i n buf))
+    new-keeps = agree-trans (mixed-keeps K f i (pos 0) i n buf (p .branch .room) (p .first) (p .first)) (raisedLine-keeps K n x y (mixedLine K f i (pos 0) i n buf))
 
-    half-keeps : Agree (n * size K) buf half
-    half-keeps = agree-trans copied-keeps (raised-keeps (copiedLine K i n buf) (n * size K + K) x (n * size K) (omega arith))
+    pub new-line : (kinds kinds′ : List ℕ) {s : Line} → lineIn K kinds buf i ≡ s
+        → lineIn K kinds′ (raisedLine K n x y (mixedLine K f i (pos 0) i n buf)) n ≡ lineAs (lineKindOf (getD kinds′ n 0)) (f · s .t plus x) (f · s .tA plus y)
+    new-line kinds kinds′ es = raisedLine-line K n x y (mixedLine K f i (pos 0) i n buf) times-room kinds′ _ (times-line kinds kinds′ es)
 
-    half-line : (kinds kinds′ : List ℕ) {s : Line} → lineIn K kinds buf i ≡ s → lineIn K kinds′ half n ≡ line (kindOf (getD kinds′ n 0)) (s .t plus x) (s .tA)
-    half-line kinds kinds′ es = raised-t K kinds′ (copiedLine K i n buf) n x (omega (arith, p .branch .room, length-copied)) _ (copied-line kinds kinds′ es)
+    -- Its constant terms are f times those of line i.
+    pub new-raised : Within (edition1 .range) (f *ℤ formIn K buf (i * size K) .d +ℤ pos x) → Within (edition1 .range) (f *ℤ formIn K buf (i * size K + (K + 1)) .d +ℤ pos y)
+        → Raised K (mixedLine K f i (pos 0) i n buf) n x y
+    unfolding lineIn _·_
+    new-raised t tA =
+        let e = times-line [] [] refl in
+        record { t = rw (ap (λ (l : Line). l .t .d) e) t; tA = rw (ap (λ (l : Line). l .tA .d) e) tA }
 
 module _ {K : ℕ} {buf : List ℤ} {i n x y : ℕ} (p : LineStart K buf i n x y) where
   -- ---- what stays
   pub length-started : length (startedLine K i n x y buf) ≡ length buf
-  unfolding startedLine
-  length-started = length-raised (half (p .copy) x) (n * size K + (K + 1) + K) y ∙ length-half (p .copy) x
+  unfolding startedLine copiedLine
+  length-started = length-new (p .copy) (pos 1) x y
 
   pub started-keeps : Agree (n * size K) buf (startedLine K i n x y buf)
-  unfolding startedLine
-  started-keeps = agree-trans (half-keeps (p .copy) x) (raised-keeps (half (p .copy) x) (n * size K + (K + 1) + K) y (n * size K) (omega arith))
+  unfolding startedLine copiedLine
+  started-keeps = new-keeps (p .copy) (pos 1) x y
 
-  -- ---- the new line
-  pub started-line : (kinds kinds′ : List ℕ) {s : Line} → lineIn K kinds buf i ≡ s → lineIn K kinds′ (startedLine K i n x y buf) n ≡ line (kindOf (getD kinds′ n 0)) (s .t plus x) (s .tA plus y)
-  unfolding startedLine
-  started-line kinds kinds′ es = raised-tA K kinds′ (half (p .copy) x) n y (omega (arith, p .copy .branch .room, length-half (p .copy) x)) _ (half-line (p .copy) x kinds kinds′ es)
+  -- ---- the new line, whose kind is stored apart
+  pub started-line : (kinds kinds′ : List ℕ) {s : Line} → lineIn K kinds buf i ≡ s → {k : Kind} → lineKindOf (getD kinds′ n 0) ≡ plain k
+      → lineIn K kinds′ (startedLine K i n x y buf) n ≡ line k (s .t plus x) (s .tA plus y)
+  unfolding startedLine copiedLine
+  started-line kinds kinds′ {s} es e =
+      new-line (p .copy) (pos 1) x y kinds kinds′ es
+      ∙ line-ext e (ap (λ (t : Form). t plus x) (one-form (s .t))) (ap (λ (t : Form). t plus y) (one-form (s .tA)))
 
-  -- ---- the constant terms before they are raised are those of line i, so they can be
-  term : (at : ℕ) (buf′ : List ℤ) (o m z : ℕ) → at + K ≡ o → o < n * size K + size K → length buf′ ≡ length buf → getD buf′ o (pos 0) ≡ getD buf m (pos 0) → Within (edition1 .range) (getD buf m (pos 0) +ℤ pos z)
-      → (at + K < length buf′) × Within (edition1 .range) (getD buf′ (at + K) (pos 0) +ℤ pos z)
-  term at buf′ o m z e h l d g = (omega (arith, p .copy .branch .room), rw (e, d) g)
-
-  pub t-term : (at : ℕ) (buf′ : List ℤ) → at ≡ n * size K → buf′ ≡ copiedLine K i n buf → (at + K < length buf′) × Within (edition1 .range) (getD buf′ (at + K) (pos 0) +ℤ pos x)
-  unfolding lineIn
-  t-term at buf′ e b =
-      term at buf′ (n * size K + K) (i * size K + K) x (omega arith) (omega arith) (ap length b ∙ length-copied (p .copy))
-      (ap (λ (l : List ℤ). getD l (n * size K + K) (pos 0)) b ∙ ap (λ (l : Line). l .t .d) (copied-line (p .copy) [] [] refl))
-      (p .fits .t)
-
-  pub tA-term : (at : ℕ) (buf′ : List ℤ) → at ≡ n * size K + (K + 1) → buf′ ≡ raised (n * size K + K) x (copiedLine K i n buf) → (at + K < length buf′) × Within (edition1 .range) (getD buf′ (at + K) (pos 0) +ℤ pos y)
-  unfolding lineIn
-  tA-term at buf′ e b =
-      term at buf′ (n * size K + (K + 1) + K) (i * size K + (K + 1) + K) y (omega arith) (omega arith) (ap length b ∙ length-half (p .copy) x)
-      (ap (λ (l : List ℤ). getD l (n * size K + (K + 1) + K) (pos 0)) b ∙ ap (λ (l : Line). l .tA .d) (half-line (p .copy) x [] [] refl))
-      (p .fits .tA)
+  -- ---- the copy may be raised
+  pub copy-raised : (buf′ : List ℤ) → buf′ ≡ copiedLine K i n buf → (n * size K + size K ≤ length buf′) × Raised K buf′ n x y
+  unfolding copiedLine
+  copy-raised buf′ e =
+      rw e
+      (times-room (p .copy) (pos 1), new-raised (p .copy) (pos 1) x y (rw (one-mul (formIn K buf (i * size K) .d)) (p .fits .t)) (rw (one-mul (formIn K buf (i * size K + (K + 1)) .d)) (p .fits .tA)))
 
 -- Nothing more.
 pub plus-none : (t : Form) → t plus 0 ≡ t
 unfolding _plus_
 plus-none t = form-ext refl (+ℤ-idr (t .d))
 
--- ---- line i may be raised: by a test of its two constant terms, where the raised line is in range, in every buffer that keeps the line, and by less
-pub raised-fits : {K : ℕ} {buf : List ℤ} {i x y : ℕ} {r : Bool} → r ≡ small (edition1 .range) (formIn K buf (i * size K) .d +ℤ pos x) && small (edition1 .range) (formIn K buf (i * size K + (K + 1)) .d +ℤ pos y) → r ≡ true → Raised K buf i x y
+-- ---- two constant terms that are in range: by a test of both, and where the line that has them is
+pub tested-both : {z w : ℤ} {r : Bool} → r ≡ small (edition1 .range) z && small (edition1 .range) w → r ≡ true → Within (edition1 .range) z × Within (edition1 .range) w
 unfolding small
-raised-fits {K} {buf} {i} {x} {y} e h =
-    let up = small (edition1 .range) (formIn K buf (i * size K) .d +ℤ pos x) in
-    let upA = small (edition1 .range) (formIn K buf (i * size K + (K + 1)) .d +ℤ pos y) in
-    let both = subst T (sym (sym e ∙ h)) tt in
-    record { t = record { abs = leb→le _ _ (and-left up upA both) }; tA = record { abs = leb→le _ _ (and-right up upA both) } }
+tested-both {z} {w} e h =
+    let both = subst T (sym (sym e ∙ h)) tt in (
+      record { abs = leb→le _ _ (and-left (small (edition1 .range) z) (small (edition1 .range) w) both) },
+      record { abs = leb→le _ _ (and-right (small (edition1 .range) z) (small (edition1 .range) w) both) },
+    )
 
-pub raised-line : (K : ℕ) (kinds : List ℕ) (buf : List ℤ) (i x y : ℕ) (k : Kind) → T (inRange (edition1 .range) (line k (lineIn K kinds buf i .t plus x) (lineIn K kinds buf i .tA plus y))) → Raised K buf i x y
-unfolding inRange small lineIn _plus_
-raised-line K kinds buf i x y k h =
+pub terms-within : (x y : ℕ) (k : Kind) (t tA : Form) → T (inRange (edition1 .range) (line k (t plus x) (tA plus y))) → Within (edition1 .range) (t .d +ℤ pos x) × Within (edition1 .range) (tA .d +ℤ pos y)
+unfolding inRange small _plus_
+terms-within x y k t tA h =
     let r = edition1 .range in
-    let t = formIn K buf (i * size K) in
-    let tA = formIn K buf (i * size K + (K + 1)) in
     let all : List ℤ → Bool = every (small r) in
     let one = all (t .coeffs) && small r (t .d +ℤ pos x) in
-    let two = and-left (one && all (tA .coeffs)) (small r (tA .d +ℤ pos y)) h in
-    record {
-      t = record { abs = leb→le _ _ (and-right (all (t .coeffs)) (small r (t .d +ℤ pos x)) (and-left one (all (tA .coeffs)) two)) };
-      tA = record { abs = leb→le _ _ (and-right (one && all (tA .coeffs)) (small r (tA .d +ℤ pos y)) h) };
-    }
+    let two = and-left (one && all (tA .coeffs)) (small r (tA .d +ℤ pos y)) h in (
+      record { abs = leb→le _ _ (and-right (all (t .coeffs)) (small r (t .d +ℤ pos x)) (and-left one (all (tA .coeffs)) two)) },
+      record { abs = leb→le _ _ (and-right (one && all (tA .coeffs)) (small r (tA .d +ℤ pos y)) h) },
+    )
+
+-- ---- line i may be raised: by a test of its two constant terms, where the raised line is in range, in every buffer that keeps the line, and by less
+pub raised-fits : {K : ℕ} {buf : List ℤ} {i x y : ℕ} {r : Bool} → r ≡ small (edition1 .range) (formIn K buf (i * size K) .d +ℤ pos x) && small (edition1 .range) (formIn K buf (i * size K + (K + 1)) .d +ℤ pos y) → r ≡ true → Raised K buf i x y
+raised-fits e h = let w = tested-both e h in record { t = w .0; tA = w .1 }
+
+pub raised-line : (K : ℕ) (kinds : List ℕ) (buf : List ℤ) (i x y : ℕ) (k : Kind) → T (inRange (edition1 .range) (line k (lineIn K kinds buf i .t plus x) (lineIn K kinds buf i .tA plus y))) → Raised K buf i x y
+unfolding lineIn
+raised-line K kinds buf i x y k h = let w = terms-within x y k (lineIn K kinds buf i .t) (lineIn K kinds buf i .tA) h in record { t = w .0; tA = w .1 }
 
 pub raised-same : {K : ℕ} {buf buf′ : List ℤ} {i n x y : ℕ} → Agree (n * size K) buf buf′ → i < n → Raised K buf i x y → Raised K buf′ i x y
 raised-same {K} {i = i} a h r = record {
@@ -127,7 +125,7 @@ raised-less {K} {i = i} b h l r = record {
 
 -- ---- ranges
 -- A raised line is in range if the two constant terms that are raised are.
-pub raised-range : (r x y : ℕ) (k k′ : Kind) (t tA : Form) → T (inRange r (line k t tA)) → inRange r (line k′ (t plus x) (tA plus y)) ≡ small r (t .d +ℤ pos x) && small r (tA .d +ℤ pos y)
+pub raised-range : (r x y : ℕ) (k : LineKind) (k′ : Kind) (t tA : Form) → T (inRange r (lineAs k t tA)) → inRange r (line k′ (t plus x) (tA plus y)) ≡ small r (t .d +ℤ pos x) && small r (tA .d +ℤ pos y)
 unfolding inRange _plus_
 raised-range r x y k k′ t tA h =
     let all : List ℤ → Bool = every (small r) in
@@ -159,6 +157,11 @@ module _ {K : ℕ} {buf : List ℤ} {i n : ℕ} (room : n * size K ≤ length bu
       (sym (raised-range (edition1 .range) x y (lineIn K kinds buf i .kind) k (lineIn K kinds buf i .t) (lineIn K kinds buf i .tA) in-range))
       (and-both (small (edition1 .range) (lineIn K kinds buf i .t .d +ℤ pos x)) (small (edition1 .range) (lineIn K kinds buf i .tA .d +ℤ pos y)) (le→leb _ _ (f .t .abs)) (le→leb _ _ (f .tA .abs)))
 
+-- Where no kinds are stored all are inequalities, as good as any in a proof about numbers.
+pub none-stored : (n : ℕ) → lineKindOf (getD [] n 0) ≡ plain ≤0
+unfolding lineKindOf
+none-stored n = refl
+
 -- The new line of a start is in range, and so the lines are bounded with it.
 module _ {K : ℕ} {buf : List ℤ} {i n x y : ℕ} (p : LineStart K buf i n x y) where
   pub started-range : (kinds : List ℕ) (k : Kind) {s : Line} → lineIn K kinds buf i ≡ s → T (inRange (edition1 .range) (line k (s .t plus x) (s .tA plus y)))
@@ -170,4 +173,4 @@ module _ {K : ℕ} {buf : List ℤ} {i n x y : ℕ} (p : LineStart K buf i n x y
   started-bounded =
       bounded-more K (startedLine K i n x y buf) n (omega (arith, p .copy .branch .room, length-started p)) []
       (bounded-same (started-keeps p) (p .copy .branch .bounded))
-      (subst (λ (l : Line). T (inRange (edition1 .range) l)) (sym (started-line p [] [] refl)) (started-range [] (kindOf (getD [] n 0)) refl))
+      (subst (λ (l : Line). T (inRange (edition1 .range) l)) (sym (started-line p [] [] refl (none-stored n))) (started-range [] ≤0 refl))

@@ -5,11 +5,11 @@ use mathlib.Core.Bool.{Bool, true, false}
 use Prim.Native.Nat.{ℕ, zero, suc, _+_, _*_, _<_, _≤_}
 use lib.ListN.{length, getD, set}
 use lib.Seq.{paste}
-use lib.IntN.{ℤ, pos, _+ℤ_, _*ℤ_}
+use lib.IntN.{ℤ, pos, negsuc, _+ℤ_, _*ℤ_}
 use Rattle.integers.specs.Magnitude.{Within, Factors}
 use Rattle.forms.specs.Edition.{edition1}
-use Rattle.forms.specs.Forms.{Line, line, sums}
-use Rattle.forms.specs.Flat.{kindOf, formIn}
+use Rattle.forms.specs.Forms.{Line, sums}
+use Rattle.forms.specs.Flat.{lineKindOf, formIn}
 use Rattle.calculus.specs.Rules.{_▷_, small, every}
 use Rattle.lines.specs.Parts.{part, Agree}
 
@@ -19,7 +19,7 @@ size K = 2 * (K + 1)
 
 -- Line i of the buffer.
 unfoldable pub lineIn : (K : ℕ) (kinds : List ℕ) (buf : List ℤ) (i : ℕ) → Line
-lineIn K kinds buf i = line (kindOf (getD kinds i 0)) (formIn K buf (i * size K)) (formIn K buf (i * size K + (K + 1)))
+lineIn K kinds buf i = record { kind = lineKindOf (getD kinds i 0); t = formIn K buf (i * size K); tA = formIn K buf (i * size K + (K + 1)) }
 
 -- The first n lines of the buffer.
 unfoldable pub linesIn : (K : ℕ) (kinds : List ℕ) (buf : List ℤ) (n : ℕ) → List Line
@@ -59,12 +59,19 @@ mixedLine K f i g j n buf = paste buf (n * size K) (mixed f (i * size K) g (j * 
 unfoldable pub raised : (at x : ℕ) → List ℤ → List ℤ
 raised at x buf = set buf at (getD buf at (pos 0) +ℤ pos x)
 
--- The buffer with line i again as line n: as it stands, and with t + x and tA + y.
+-- The buffer with t + x and tA + y in line n.
+unfoldable pub raisedLine : (K n x y : ℕ) → List ℤ → List ℤ
+raisedLine K n x y buf = raised (n * size K + (K + 1) + K) y (raised (n * size K + K) x buf)
+
+-- The buffer with line i again as line n: as it stands, with t + x and tA + y, and with -t + x and -tA + y.
 unfoldable pub copiedLine : (K i n : ℕ) → List ℤ → List ℤ
 copiedLine K i n buf = mixedLine K (pos 1) i (pos 0) i n buf
 
 unfoldable pub startedLine : (K i n x y : ℕ) → List ℤ → List ℤ
-startedLine K i n x y buf = raised (n * size K + (K + 1) + K) y (raised (n * size K + K) x (copiedLine K i n buf))
+startedLine K i n x y buf = raisedLine K n x y (copiedLine K i n buf)
+
+unfoldable pub negatedLine : (K i n x y : ℕ) → List ℤ → List ℤ
+negatedLine K i n x y buf = raisedLine K n x y (mixedLine K (negsuc 0) i (pos 0) i n buf)
 
 -- What a sum of multiples asks: the w numbers at a and at b lie before the w numbers at d, and they and the factors are small. (Nothing is asked of the other numbers before d: when a line's tA is made its t stands there already.)
 pub record Terms (buf : List ℤ) (f : ℤ) (a : ℕ) (g : ℤ) (b d w : ℕ) : Type 0 where
@@ -87,6 +94,11 @@ pub record Raised (K : ℕ) (buf : List ℤ) (i x y : ℕ) : Type 0 where
   pub t : Within (edition1 .range) (formIn K buf (i * size K) .d +ℤ pos x)
   pub tA : Within (edition1 .range) (formIn K buf (i * size K + (K + 1)) .d +ℤ pos y)
 
+-- The same of line i negated.
+pub record Negated (K : ℕ) (buf : List ℤ) (i x y : ℕ) : Type 0 where
+  pub t : Within (edition1 .range) (negsuc 0 *ℤ formIn K buf (i * size K) .d +ℤ pos x)
+  pub tA : Within (edition1 .range) (negsuc 0 *ℤ formIn K buf (i * size K + (K + 1)) .d +ℤ pos y)
+
 -- Line i of a branch of n lines that has room for one more.
 pub record LineCopy (K : ℕ) (buf : List ℤ) (i n : ℕ) : Type 0 where
   pub branch : Branch K buf n
@@ -97,3 +109,8 @@ pub record LineCopy (K : ℕ) (buf : List ℤ) (i n : ℕ) : Type 0 where
 pub record LineStart (K : ℕ) (buf : List ℤ) (i n x y : ℕ) : Type 0 where
   pub copy : LineCopy K buf i n
   pub fits : Raised K buf i x y
+
+-- The same, where it may be negated and raised so.
+pub record LineNegated (K : ℕ) (buf : List ℤ) (i n x y : ℕ) : Type 0 where
+  pub copy : LineCopy K buf i n
+  pub fits : Negated K buf i x y

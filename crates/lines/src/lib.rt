@@ -7,7 +7,7 @@ ghost use mathlib.Core.Bool.{_&&_};
 ghost use Prim.Native.Nat.{_+_, _*_, _<_, _≤_};
 ghost use lib.ListN.{length, getD};
 ghost use lib.Seq.{paste};
-ghost use lib.IntN.{pos, _+ℤ_};
+ghost use lib.IntN.{pos, negsuc, _+ℤ_, _*ℤ_};
 ghost use lib.Signed.{_≤ℤ_};
 ghost use Rattle.integers.specs.Magnitude.{Within};
 ghost use Rattle.integers.specs.Linear.{eqZ};
@@ -16,7 +16,7 @@ ghost use Rattle.calculus.specs.Rules.{small, every};
 ghost use Rattle.forms.specs.Edition.{edition1};
 ghost use Rattle.lines.specs.Parts.{part};
 ghost use Rattle.forms.specs.Flat.{formIn};
-ghost use Rattle.lines.specs.Buffer.{size, Bounded, Terms, LineTerms, LineCopy, LineStart, Mixes, raised, copiedLine, startedLine};
+ghost use Rattle.lines.specs.Buffer.{size, Bounded, Terms, LineTerms, LineCopy, LineStart, LineNegated, Mixes, Raised, raised, raisedLine, copiedLine, startedLine, negatedLine};
 
 // Where the numbers of line i's t start, with k constants. Only here a line number becomes a place.
 pub fn place(i: LineNumber, k: usize) -> usize
@@ -161,30 +161,75 @@ fn copy_line(lines: &mut [i32], i: LineNumber, n: LineNumber, k: usize)
     copy_numbers(lines, from, to, 2 * (k + 1));
 }
 
-// Line n becomes line i as a branch starts with it: t + x with tA + y.
-pub fn start_line(lines: &mut [i32], i: LineNumber, n: LineNumber, k: usize, x: u16, y: u16)
-    requires { ⌜ LineStart k (now lines) (i .0) (n .0) x y ⌝ }
-    ensures { λ _. ⌜ now (lines .exit) ≡ startedLine k (i .0) (n .0) x y (now (lines .entry)) ⌝ }
+// t + x and tA + y in place of t and tA of line n.
+fn raise_line(lines: &mut [i32], n: LineNumber, k: usize, x: u16, y: u16)
+    requires { ⌜ (n .0 < edition1 .lines) × (k ≤ edition1 .constants) × (n .0 * size k + size k ≤ length (now lines)) ⌝ }
+    requires { ⌜ Raised k (now lines) (n .0) x y ⌝ }
+    ensures { λ _. ⌜ now (lines .exit) ≡ raisedLine k (n .0) x y (now (lines .entry)) ⌝ }
 {
-    copy_line(lines, i, n, k);
     let at = place(n, k);
     raise(lines, at + k, x);
     let at_a = place_a(n, k);
     raise(lines, at_a + k, y);
 }
 
-// Whether t + x and tA + x of line i stay within the range.
-pub fn raised_fit(lines: &[i32], i: LineNumber, k: usize, x: u16) -> bool
-    requires { ⌜ (i .0 < edition1 .lines) × (k ≤ edition1 .constants) × (i .0 * size k + size k ≤ length (now lines)) ⌝ }
-    requires { ⌜ Bounded k (now lines) (i .0 + 1) ⌝ }
-    ensures { λ r. ⌜ r ≡ small (edition1 .range) (formIn k (now (lines .entry)) (i .0 * size k) .d +ℤ pos x) && small (edition1 .range) (formIn k (now (lines .entry)) (i .0 * size k + (k + 1)) .d +ℤ pos x) ⌝ }
+// Line n becomes line i as a branch starts with it: t + x with tA + y.
+pub fn start_line(lines: &mut [i32], i: LineNumber, n: LineNumber, k: usize, x: u16, y: u16)
+    requires { ⌜ LineStart k (now lines) (i .0) (n .0) x y ⌝ }
+    ensures { λ _. ⌜ now (lines .exit) ≡ startedLine k (i .0) (n .0) x y (now (lines .entry)) ⌝ }
 {
-    let more = x as i64;
+    copy_line(lines, i, n, k);
+    raise_line(lines, n, k, x, y);
+}
+
+// Line `new` becomes line i negated, as the second branch of a split starts with it: -t + x with -tA + y. (The negated numbers are in range.)
+pub fn start_negated(lines: &mut [i32], i: LineNumber, new: LineNumber, k: usize, x: u16, y: u16)
+    requires { ⌜ LineNegated k (now lines) (i .0) (new .0) x y ⌝ }
+    ensures { λ _. ⌜ now (lines .exit) ≡ negatedLine k (i .0) (new .0) x y (now (lines .entry)) ⌝ }
+{
+    mix_whole(lines, -1, i, 0, i, new, k);
+    raise_line(lines, new, k, x, y);
+}
+
+// Whether f times the number at a place, and x more, is within the range.
+fn term_fits(lines: &[i32], at: usize, f: i64, x: u16) -> bool
+    requires { ⌜ (at < length (now lines)) × Within 65535 f × Within (edition1 .range) (getD (now lines) at (pos 0)) ⌝ }
+    ensures { λ r. ⌜ r ≡ small (edition1 .range) (f *ℤ getD (now (lines .entry)) at (pos 0) +ℤ pos x) ⌝ }
+{
+    let product = f * number(lines, at);
+    let sum = product + x as i64;
+    integers::in_range(sum)
+}
+
+// Whether f·t + x and f·tA + y of line i stay within the range: told by their constant terms.
+fn terms_fit(lines: &[i32], i: LineNumber, k: usize, f: i64, x: u16, y: u16) -> bool
+    requires { ⌜ (i .0 < edition1 .lines) × (k ≤ edition1 .constants) × (i .0 * size k + size k ≤ length (now lines)) ⌝ }
+    requires { ⌜ Bounded k (now lines) (i .0 + 1) × Within 65535 f ⌝ }
+    ensures { λ r. ⌜ r ≡ small (edition1 .range) (f *ℤ formIn k (now (lines .entry)) (i .0 * size k) .d +ℤ pos x) && small (edition1 .range) (f *ℤ formIn k (now (lines .entry)) (i .0 * size k + (k + 1)) .d +ℤ pos y) ⌝ }
+{
     let at = place(i, k);
     let at_a = place_a(i, k);
-    let t = integers::in_range(number(lines, at + k) + more);
-    let ta = integers::in_range(number(lines, at_a + k) + more);
+    let t = term_fits(lines, at + k, f, x);
+    let ta = term_fits(lines, at_a + k, f, y);
     t & ta
+}
+
+// Whether t + x and tA + y of line i stay within the range.
+pub fn raised_fit(lines: &[i32], i: LineNumber, k: usize, x: u16, y: u16) -> bool
+    requires { ⌜ (i .0 < edition1 .lines) × (k ≤ edition1 .constants) × (i .0 * size k + size k ≤ length (now lines)) ⌝ }
+    requires { ⌜ Bounded k (now lines) (i .0 + 1) ⌝ }
+    ensures { λ r. ⌜ r ≡ small (edition1 .range) (formIn k (now (lines .entry)) (i .0 * size k) .d +ℤ pos x) && small (edition1 .range) (formIn k (now (lines .entry)) (i .0 * size k + (k + 1)) .d +ℤ pos y) ⌝ }
+{
+    terms_fit(lines, i, k, 1, x, y)
+}
+
+// Whether -t + x and -tA + y of line i stay within the range.
+pub fn negated_fit(lines: &[i32], i: LineNumber, k: usize, x: u16, y: u16) -> bool
+    requires { ⌜ (i .0 < edition1 .lines) × (k ≤ edition1 .constants) × (i .0 * size k + size k ≤ length (now lines)) ⌝ }
+    requires { ⌜ Bounded k (now lines) (i .0 + 1) ⌝ }
+    ensures { λ r. ⌜ r ≡ small (edition1 .range) (negsuc 0 *ℤ formIn k (now (lines .entry)) (i .0 * size k) .d +ℤ pos x) && small (edition1 .range) (negsuc 0 *ℤ formIn k (now (lines .entry)) (i .0 * size k + (k + 1)) .d +ℤ pos y) ⌝ }
+{
+    terms_fit(lines, i, k, -1, x, y)
 }
 
 // Whether the k coefficients at a place are all 0. One number stands for those passed, so that the compiler can join several at once.

@@ -10,23 +10,23 @@ use borrow.Author.Tests.{lt-leb}
 use lib.Dec.{T, eqb→eq, eqb-refl, leb→le, le→leb}
 use lib.ListN.{length}
 use Rattle.forms.specs.Edition.{Edition, edition1}
-use Rattle.forms.specs.Forms.{Constraint, Formula, lines, occurs}
+use Rattle.forms.specs.Forms.{Formula, lines, occurs}
 use Rattle.calculus.specs.Rules.{Entry, entries, Proves, Interpolant}
 use Rattle.calculus.proofs.Sides.{Side}
 use Rattle.calculus.proofs.Interpolation.{interpolation, initial-words, sides}
 use Rattle.fields.specs.declared.Answer.{Answer}
 use Rattle.fields.specs.declared.FileKind.{FileKind}
-use Rattle.fields.specs.Answers.{answer, fileA, fileB, fileProof, fileLent, Result, refused, accepted, _>>_}
+use Rattle.fields.specs.Answers.{answer, fileA, fileB, fileProof, fileLent, Result, refused, accepted, _>>=_, _>>_}
 use Rattle.fields.specs.Fields.{Fields, Item, item, fields, items}
 use Rattle.fields.specs.Header.{Header, agrees}
 use Rattle.fields.proofs.Results.{one-value, Gives, gives-accepted, weaken, gives-need, bind, seq, binds, passes, need-yes, fail, not-0, not-22}
 use Rattle.fields.proofs.HeaderLaid.{LaidHeader, header-gives, header-read, finished-gives, finished-ends}
-use Rattle.bundle.specs.Bundle.{Bundle}
+use Rattle.bundle.specs.Bundle.{Bundle, bundles}
 use Rattle.bundle.specs.Layout.{Each, nil, BundleFile}
 use Rattle.bundle.proofs.Laid.{Itemed, itemed, no-items, listed, BothLaid, laid-file, file-laid, bundles-give, bundles-accept, short-gives, short-accepted}
 use Rattle.formula.specs.Formula.{formulaFile}
-use Rattle.proof.specs.Check.{Closing, checkProof, writable, interpolant}
-use Rattle.proof.specs.Layout.{Enters, ProofFile, Certifies}
+use Rattle.proof.specs.Check.{Closing, checkProof, formulaAtMost, interpolant}
+use Rattle.proof.specs.Layout.{Enters, Yields, Certifies}
 use Rattle.proof.proofs.Branches.{BranchDerived, branch-derives, branch-accepts}
 
 -- which constants occur in A and in B
@@ -92,24 +92,24 @@ module _ (a b : Bundle) (fs : Fields) where
       binds _ (h .reads) ∙ binds _ (r .is) ∙ passes _ (finished-ends FileKind.Proof fileProof (r .after) (no-items (r .lists)))
 
 -- ---- the formula's file
-writable-gives : (K : ℕ) (I : Formula) → Gives (writable K I) (λ _. length (formulaFile edition1 K I) ≤ edition1 .formulaBytes)
-unfolding writable
-writable-gives K I = weaken (gives-need _ _ tt) λ _ t. leb→le _ _ t
+formulaAtMost-gives : (K : ℕ) (I : Formula) → Gives (formulaAtMost K I) (λ _. length (formulaFile edition1 K I) ≤ edition1 .formulaBytes)
+unfolding formulaAtMost
+formulaAtMost-gives K I = weaken (gives-need _ _ tt) λ _ t. leb→le _ _ t
 
-writable-accepts : (K : ℕ) (I : Formula) → length (formulaFile edition1 K I) ≤ edition1 .formulaBytes → writable K I ≡ accepted tt
-unfolding writable
-writable-accepts K I h = need-yes _ _ (le→leb _ _ h)
+formulaAtMost-accepts : (K : ℕ) (I : Formula) → length (formulaFile edition1 K I) ≤ edition1 .formulaBytes → formulaAtMost K I ≡ accepted tt
+unfolding formulaAtMost
+formulaAtMost-accepts K I h = need-yes _ _ (le→leb _ _ h)
 
-writable-refuses : {Y : Type 0} (r : Result Y) (K : ℕ) (I : Formula) → edition1 .formulaBytes < length (formulaFile edition1 K I)
-    → (writable K I >> r) ≡ refused (answer 1 fileLent (length (formulaFile edition1 K I)))
-unfolding writable
-writable-refuses r K I h = fail _ r (lt-leb (length (formulaFile edition1 K I)) (edition1 .formulaBytes) h)
+formulaAtMost-refuses : {Y : Type 0} (r : Result Y) (K : ℕ) (I : Formula) → edition1 .formulaBytes < length (formulaFile edition1 K I)
+    → (formulaAtMost K I >> r) ≡ refused (answer 1 fileLent (length (formulaFile edition1 K I)))
+unfolding formulaAtMost
+formulaAtMost-refuses r K I h = fail _ r (lt-leb (length (formulaFile edition1 K I)) (edition1 .formulaBytes) h)
 
 -- ---- the three files
 module _ (A B P : List ℕ) where
-  certified : (a b : Bundle) → BothLaid A B (a, b) → length A ≤ edition1 .bundleBytes → length B ≤ edition1 .bundleBytes → length P ≤ edition1 .proofBytes
-      → (I : Formula) → Proof a b (fields P) I → length (formulaFile edition1 (a .K) I) ≤ edition1 .formulaBytes → Certifies A B P (a .K) I
-  certified a b l sA sB sP I p sI = record {
+  yielded : (a b : Bundle) → BothLaid A B (a, b) → length A ≤ edition1 .bundleBytes → length B ≤ edition1 .bundleBytes → length P ≤ edition1 .proofBytes
+      → (I : Formula) → Proof a b (fields P) I → Yields A B P (a .K) I
+  yielded a b l sA sB sP I p = record {
     a = a .constraints;
     b = b .constraints;
     es = p .es;
@@ -117,32 +117,51 @@ module _ (A B P : List ℕ) where
     fileB = subst (λ (K : ℕ). BundleFile B K (b .constraints)) (agreed (a .K) (b .K) (l .laidB .agree)) (laid-file B b sB (l .laidB));
     fileProof = record { short = sP; body = p .body; whole = p .whole; low = p .low; high = p .high; enters = p .enters };
     proves = p .proves;
-    writable = sI;
   }
 
   interpolant-gives : Gives (interpolant A B P) (λ r. Certifies A B P (r .0) (r .1))
   unfolding interpolant
   interpolant-gives = seq (short-gives _ fileA A) λ sA. seq (short-gives _ fileB B) λ sB. seq (short-gives _ fileProof P) λ sP.
-      bind (bundles-give A B) λ (a, b) l. bind (proof-gives a b (fields P)) λ I p. seq (writable-gives (a .K) I) λ sI. gives-accepted (certified a b l sA sB sP I p sI)
+      bind (bundles-give A B) λ (a, b) l. bind (proof-gives a b (fields P)) λ I p. seq (formulaAtMost-gives (a .K) I) λ sI.
+      gives-accepted (record { yields = yielded a b l sA sB sP I p; short = sI })
 
-  -- where the rows derive I, all that is left to ask is whether its file is too long
-  interpolant-derives : {K : ℕ} {ofA ofB : List Constraint} {es : List Entry} (I : Formula) → BundleFile A K ofA → BundleFile B K ofB → ProofFile P K es → Proves edition1 ofA ofB es I
-      → interpolant A B P ≡ (writable K I >> accepted (K, I))
-  unfolding interpolant agrees
-  interpolant-derives {K} {ofA} {ofB} {es} I fA fB f p =
-      let a : Bundle = record { K = K; constraints = ofA } in
-      let b : Bundle = record { K = K; constraints = ofB } in
-      passes _ (short-accepted _ fileA A (fA .short)) ∙ passes _ (short-accepted _ fileB B (fB .short)) ∙ passes _ (short-accepted _ fileProof P (f .short))
-      ∙ binds _ (bundles-accept A B a b (record { laidA = file-laid A a fA tt; laidB = file-laid B b fB (agrees-refl K) }))
-      ∙ binds _ (proof-accepts a b (fields P) I (record { es = es; body = f .body; whole = f .whole; low = f .low; high = f .high; enters = f .enters; proves = p }))
+  -- the formula that the proof's fields derive, however long its file
+  derives : Result (ℕ × Formula)
+  derives = bundles A B >>= λ (a, b). checkProof a b (fields P) >>= λ I. accepted (a .K, I)
+
+  module _ (K : ℕ) (I : Formula) (y : Yields A B P K I) where
+    abbrev ofA : Bundle
+    ofA = record { K = K; constraints = y .a }
+
+    abbrev ofB : Bundle
+    ofB = record { K = K; constraints = y .b }
+
+    bundles-read : bundles A B ≡ accepted (ofA, ofB)
+    unfolding agrees
+    bundles-read = bundles-accept A B ofA ofB (record { laidA = file-laid A ofA (y .fileA) tt; laidB = file-laid B ofB (y .fileB) (agrees-refl K) })
+
+    proof-read : checkProof ofA ofB (fields P) ≡ accepted I
+    proof-read =
+        let f = y .fileProof in
+        proof-accepts ofA ofB (fields P) I (record { es = y .es; body = f .body; whole = f .whole; low = f .low; high = f .high; enters = f .enters; proves = y .proves })
+
+    -- where the rows derive I, all that is left to ask is whether its file is too long
+    pub interpolant-yields : interpolant A B P ≡ (formulaAtMost K I >> accepted (K, I))
+    unfolding interpolant
+    interpolant-yields =
+        passes _ (short-accepted _ fileA A (y .fileA .short)) ∙ passes _ (short-accepted _ fileB B (y .fileB .short)) ∙ passes _ (short-accepted _ fileProof P (y .fileProof .short))
+        ∙ binds _ bundles-read ∙ binds _ proof-read
+
+    -- where it is, 1
+    pub interpolant-long : edition1 .formulaBytes < length (formulaFile edition1 K I) → interpolant A B P ≡ refused (answer 1 fileLent (length (formulaFile edition1 K I)))
+    interpolant-long h = interpolant-yields ∙ formulaAtMost-refuses _ K I h
+
+    derives-yields : derives ≡ accepted (K, I)
+    unfolding derives
+    derives-yields = binds _ bundles-read ∙ binds _ proof-read
 
   interpolant-accepts : (K : ℕ) (I : Formula) → Certifies A B P K I → interpolant A B P ≡ accepted (K, I)
-  interpolant-accepts K I c = interpolant-derives I (c .fileA) (c .fileB) (c .fileProof) (c .proves) ∙ passes _ (writable-accepts K I (c .writable))
-
-  -- where its file is too long, 1
-  pub interpolant-long : {K : ℕ} {ofA ofB : List Constraint} {es : List Entry} (I : Formula) → BundleFile A K ofA → BundleFile B K ofB → ProofFile P K es → Proves edition1 ofA ofB es I
-      → edition1 .formulaBytes < length (formulaFile edition1 K I) → interpolant A B P ≡ refused (answer 1 fileLent (length (formulaFile edition1 K I)))
-  interpolant-long {K} I fA fB f p h = interpolant-derives I fA fB f p ∙ writable-refuses _ K I h
+  interpolant-accepts K I c = interpolant-yields K I (c .yields) ∙ passes _ (formulaAtMost-accepts K I (c .short))
 
   -- the check accepts with K and I just where the files certify I over K constants
   pub interpolant-iff : (K : ℕ) (I : Formula) → interpolant A B P ≡ accepted (K, I) ↔ Certifies A B P K I
@@ -156,12 +175,12 @@ module _ (A B P : List ℕ) where
   pub never-0 : (a : Answer) → interpolant A B P ≡ refused a → ¬ (a .number ≡ 0)
   never-0 a e = not-0 (interpolant-gives .refusal a e)
 
--- three files certify one formula at most
-pub one-formula : {A B P : List ℕ} {K K′ : ℕ} {I I′ : Formula} → Certifies A B P K I → Certifies A B P K′ I′ → (K ≡ K′) × (I ≡ I′)
-one-formula {A} {B} {P} {K} {K′} {I} {I′} c c′ =
-    let same : _≡_ {A = ℕ × Formula} (K, I) (K′, I′) = one-value (interpolant-accepts A B P K I c) (interpolant-accepts A B P K′ I′ c′) in
+-- three files derive one formula at most
+pub one-formula : {A B P : List ℕ} {K K′ : ℕ} {I I′ : Formula} → Yields A B P K I → Yields A B P K′ I′ → (K ≡ K′) × (I ≡ I′)
+one-formula {A} {B} {P} {K} {K′} {I} {I′} y y′ =
+    let same : _≡_ {A = ℕ × Formula} (K, I) (K′, I′) = one-value (derives-yields A B P K I y) (derives-yields A B P K′ I′ y′) in
     (ap (λ (r : ℕ × Formula). r .0) same, ap (λ (r : ℕ × Formula). r .1) same)
 
 -- and it is an interpolant of what A and B state
-pub certified-interpolant : {A B P : List ℕ} {K : ℕ} {I : Formula} (c : Certifies A B P K I) → Interpolant (c .a) (c .b) I
-certified-interpolant c = interpolation (c .a) (c .b) (c .proves .proof)
+pub yielded-interpolant : {A B P : List ℕ} {K : ℕ} {I : Formula} (y : Yields A B P K I) → Interpolant (y .a) (y .b) I
+yielded-interpolant y = interpolation (y .a) (y .b) (y .proves .proof)

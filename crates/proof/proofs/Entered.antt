@@ -20,7 +20,7 @@ use Rattle.fields.specs.Fields.{Field, item}
 use Rattle.fields.specs.Header.{headerTag, known}
 use Rattle.fields.proofs.Results.{Gives, gives-refused, gives-accepted, weaken, bind, gives-need, test, finds, binds, need-yes, needs, found-some}
 use Rattle.fields.proofs.HeaderLaid.{by-tag}
-use Rattle.proof.specs.Entries.{EntryTag, combineTag, reduceTag, scaleTag, strengthenTag, numberTag, strideTag, roundTag, claimTag, entryTagged, inPlace, sizeOf, entryFrom, entry}
+use Rattle.proof.specs.Entries.{EntryTag, combineTag, reduceTag, scaleTag, strengthenTag, numberTag, strideTag, roundTag, splitTag, claimTag, entryTagged, inPlace, sizeOf, entryFrom, entry}
 use Rattle.proof.specs.Rows.{equals, sameForm, states}
 use Rattle.proof.specs.Layout.{Enters}
 
@@ -30,7 +30,7 @@ unfolding entryTagged known headerTag
 entry-known tag x h =
     let P : ℕ → Type 0 = λ n. T (known FileKind.Proof n) in
     by-tag P tag 0x10 combineTag tt (by-tag P tag 0x11 reduceTag tt (by-tag P tag 0x12 scaleTag tt (by-tag P tag 0x13 strengthenTag tt
-    (by-tag P tag 0x14 numberTag tt (by-tag P tag 0x15 strideTag tt (by-tag P tag 0x16 roundTag tt (by-tag P tag 0x20 claimTag tt (λ e. absurd (let z : _≡_ {A = ℕ} 0 1 = cc in omega arith))))))))) h
+    (by-tag P tag 0x14 numberTag tt (by-tag P tag 0x15 strideTag tt (by-tag P tag 0x16 roundTag tt (by-tag P tag 0x17 splitTag tt (by-tag P tag 0x20 claimTag tt (λ e. absurd (let z : _≡_ {A = ℕ} 0 1 = cc in omega arith)))))))))) h
 
 -- a row is in place anywhere, a claim where a line was made
 row-in-place : (e : Edition) (K : ℕ) (made : Option Line) (x : EntryTag) (bs : List ℕ) (r : Row) → entryFrom e K x bs ≡ row r → T (inPlace made x)
@@ -42,6 +42,7 @@ row-in-place e K made strengthenTag bs r h = tt
 row-in-place e K made numberTag bs r h = tt
 row-in-place e K made strideTag bs r h = tt
 row-in-place e K made roundTag bs r h = tt
+row-in-place e K made splitTag bs r h = tt
 row-in-place e K made claimTag bs r h = absurd (let z : _≡_ {A = ℕ} 0 1 = cc in omega arith)
 
 made-in-place : (l : Line) (x : EntryTag) → T (inPlace (some l) x)
@@ -53,6 +54,7 @@ made-in-place l strengthenTag = tt
 made-in-place l numberTag = tt
 made-in-place l strideTag = tt
 made-in-place l roundTag = tt
+made-in-place l splitTag = tt
 made-in-place l claimTag = tt
 
 module _ (e : Edition) (K : ℕ) (here : Position) (rows : ℕ) where

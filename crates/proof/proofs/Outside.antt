@@ -22,7 +22,7 @@ use Rattle.bundle.specs.Write.{bundleBytes, writeBundle}
 use Rattle.bundle.specs.Show.{shownPart, answerOf, showAnswer}
 use Rattle.formula.specs.Formula.{FormulaTag, pair, atom, stride, formulaOf, formulaField, twoParts, formulaWithin, readFormula}
 use Rattle.formula.specs.Test.{tested, judged, testFormula}
-use Rattle.proof.specs.Check.{checkProof, writable, interpolant, check}
+use Rattle.proof.specs.Check.{checkProof, formulaAtMost, interpolant, check}
 use Rattle.proof.specs.Tree.{Outside, AnswerStands, outside, amid}
 use Rattle.proof.proofs.Says.{Says, says-refused, says-accepted, bind, seq, says-need as need-says, test as needed, finds, weaken, each-says}
 use Rattle.proof.proofs.Tree.{proof-stands}
@@ -153,8 +153,8 @@ proof-short P = weaken (need-says (answer 1 fileProof 0) _ (outside (inr refl) r
 proof-located : (a b : Bundle) (P : List ℕ) → Says (AnswerStands P) (checkProof a b (fields P)) (λ _. Unit {0})
 proof-located a b P = record { refusal = λ x e. amid (proof-stands a b (fields P) x e); value = λ I e. tt }
 
-file-located : (P : List ℕ) (K : ℕ) (I : Formula) → Says (AnswerStands P) (writable K I) (λ _. Unit {0})
-unfolding writable
+file-located : (P : List ℕ) (K : ℕ) (I : Formula) → Says (AnswerStands P) (formulaAtMost K I) (λ _. Unit {0})
+unfolding formulaAtMost
 file-located P K I = weaken (need-says _ _ (outside (inl λ e. omega arith) refl)) (λ a q. q) (λ _ _. tt)
 
 interpolant-located : (A B P : List ℕ) → Says (AnswerStands P) (interpolant A B P) (λ _. Unit {0})

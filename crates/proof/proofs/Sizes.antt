@@ -2,7 +2,7 @@
 use mathlib.Core.Path.{_≡_, sym, _∙_, subst}
 use mathlib.Core.Bool.{Bool, true, false, _&&_}
 use mathlib.Core.List.{List, [], _∷_, map}
-use Prim.Native.Nat.{ℕ, _+_, _*_, _^_, _<_, _≤_}
+use Prim.Native.Nat.{ℕ, _*_, _^_, _<_, _≤_}
 use native.Mathlib.Nat.{pow-le-pow-right}
 use native.Mathlib.Omega.{arith}
 use lib.Dec.{T, leb→le}
@@ -16,9 +16,9 @@ use Rattle.forms.specs.Reduced.{reduced, Residue, Residues}
 use Rattle.forms.proofs.Residues.{residues}
 use Rattle.calculus.proofs.Reducing.{positive}
 use Rattle.forms.specs.Edition.{Edition, edition1}
-use Rattle.forms.specs.Forms.{Form, ≤0, Constraint, Line, line, lineA, lineB, lines, All, nil, cons, _⊞_, _·_, _plus_, within, Formula, literal, _divides_, _and_, _or_, height}
-use Rattle.calculus.specs.Rules.{Row, CloseStride, Derive, Strengthen, CloseNumber, Round, Entry, row, claim, small, every, inRange, New, combine, reduce, scale, StrideOf, Closed, derive, strengthen, round, number, stride, Rounded, last, more, claims, entries, entriesRounded, rowCount, Proves}
-use Rattle.calculus.proofs.Sizes.{closed-height, closed-leaves}
+use Rattle.forms.specs.Forms.{Form, ≤0, Constraint, Line, line, neg, lineA, lineB, lines, All, nil, cons, _⊞_, _·_, _plus_, within, Formula, literal, _divides_, _and_, _or_, height}
+use Rattle.calculus.specs.Rules.{Row, CloseStride, Derive, Strengthen, CloseNumber, Round, Split, Entry, row, claim, small, every, inRange, New, combine, reduce, scale, StrideOf, Closed, derive, strengthen, round, splitEq, splitNeq, number, stride, Rounded, last, more, claims, entries, entriesRounded, Proves}
+use Rattle.calculus.proofs.Sizes.{closed-height}
 use Rattle.calculus.proofs.Readings.{length-sums, length-only}
 use Rattle.calculus.proofs.Sides.{all-nth, all-and, all-map, all-append}
 use Rattle.fields.specs.Answers.{accepted}
@@ -28,9 +28,9 @@ use Rattle.fields.specs.Ranges.{InWidth, FormInWidth}
 use Rattle.fields.proofs.Signed.{all-weaken, all-take, all-drop, unsigned-below, formFrom-in}
 use Rattle.fields.proofs.Contents.{ItemBytes, contents-bytes}
 use Rattle.bundle.specs.Layout.{Each, States, BundleFile}
-use Rattle.formula.specs.Formula.{encode, formulaFile, Encodable, readFormula}
-use Rattle.formula.proofs.RoundTrip.{read-written, length-encode}
-use Rattle.proof.specs.Entries.{EntryTag, combineTag, reduceTag, scaleTag, strengthenTag, numberTag, strideTag, roundTag, claimTag, entryFrom, multiplier}
+use Rattle.formula.specs.Formula.{formulaFile, Encodable, readFormula}
+use Rattle.formula.proofs.RoundTrip.{read-written}
+use Rattle.proof.specs.Entries.{EntryTag, combineTag, reduceTag, scaleTag, strengthenTag, numberTag, strideTag, roundTag, splitTag, claimTag, entryFrom, multiplier}
 use Rattle.proof.specs.Layout.{Enters, ProofFile, Certifies}
 
 -- ---- forms of K coefficients
@@ -140,6 +140,14 @@ module _ (K : ℕ) where
         let own = (all-nth i h (r .at)) .fit in
         let top = tA-ranged (line ≤0 (t plus k) (tA plus k)) (r .room .range) in
         (closed-fit c (all-and h (record { fit = record { sized = size-plus k (own .sized); ranged = top } })), rounded-fit cs h (r .stride) own top)
+    closed-fit (splitEq {t = t} {tA = tA} i p r1 r2 c1 c2) h = let own = (all-nth i h p) .fit in (
+      closed-fit c1 (all-and h (record { fit = record { sized = size-plus 1 (own .sized); ranged = tA-ranged (line ≤0 (t plus 1) (tA plus 1)) (r1 .range) } })),
+      closed-fit c2 (all-and h (record { fit = record { sized = size-plus 1 (size-times (negsuc 0) (own .sized)); ranged = tA-ranged (line ≤0 (neg t plus 1) (neg tA plus 1)) (r2 .range) } })),
+    )
+    closed-fit (splitNeq {t = t} {tA = tA} i p r1 r2 c1 c2) h = let own = (all-nth i h p) .fit in (
+      closed-fit c1 (all-and h (record { fit = own })),
+      closed-fit c2 (all-and h (record { fit = record { sized = size-times (negsuc 0) (own .sized); ranged = tA-ranged (line ≤0 (neg t plus 1) (neg tA)) (r2 .range) } })),
+    )
     closed-fit (number i p _ _) h = (all-nth i h p) .fit
     closed-fit (stride i g p low _ _ is) h = stride-fit low ((all-nth i h p) .fit .sized) is
 
@@ -160,6 +168,7 @@ RowShort (Strengthen t) = Unit {0}
 RowShort (CloseNumber t) = Unit {0}
 RowShort (CloseStride t g) = g < 65536
 RowShort (Round t g k) = g < 65536
+RowShort (Split t) = Unit {0}
 
 abbrev pub EntryShort : Entry → Type 0
 EntryShort (row r) = RowShort r
@@ -196,6 +205,14 @@ mutual
       let first = closed-short p (entriesRounded ps es) (all-tail h) in
       let others = rounded-short ps es (all-head h) (first .1) in
       ((first .0, others .0), others .1)
+  closed-short (splitEq i _ _ _ p q) es h =
+      let first = closed-short p (entries q es) (all-tail h) in
+      let second = closed-short q es (first .1) in
+      ((first .0, second .0), second .1)
+  closed-short (splitNeq i _ _ _ p q) es h =
+      let first = closed-short p (entries q es) (all-tail h) in
+      let second = closed-short q es (first .1) in
+      ((first .0, second .0), second .1)
   closed-short (number i _ _ _) es h = (tt, all-tail h)
   closed-short (stride i g _ _ _ _ is) es h = (stride-short (all-head h) is, all-tail h)
 
@@ -249,9 +266,6 @@ module _ (K : ℕ) {a b : List Constraint} {es : List Entry} {I : Formula} (p : 
   pub proves-encodable : Encodable K I
   proves-encodable = encodable K I (closed-fit K (p .proof) (initial-fit K (all-weaken (λ _. two-fit) inA) (all-weaken (λ _. two-fit) inB))) (closed-short (p .proof) [] (rw (p .are) short) .0)
 
-  pub proves-length : K ≤ 16 → length (encode edition1 I) + 81 ≤ 156 * rowCount (p .proof)
-  proves-length k = omega (arith, closed-leaves (p .proof), length-encode K k I proves-encodable)
-
 -- ---- from the files
 states-in : (K : ℕ) {is : List Item} {cs : List Constraint} → All ItemBytes is → Each (States edition1 K) is cs → Stated K cs
 states-in K h Each.nil = nil
@@ -278,6 +292,7 @@ entry-short K strengthenTag bs h = tt
 entry-short K numberTag bs h = tt
 entry-short K strideTag bs h = two-bytes bs h
 entry-short K roundTag bs h = two-bytes bs h
+entry-short K splitTag bs h = tt
 entry-short K claimTag bs h = tt
 
 enters-short : (K : ℕ) {is : List Item} {es : List Entry} → All ItemBytes is → Each (Enters edition1 K) is es → All EntryShort es
@@ -291,11 +306,11 @@ proof-short {file} {K} h f = enters-short K (all-drop 2 (contents-bytes file h (
 pub written-reads-back : (A B P : List ℕ) {K : ℕ} {I : Formula} → All (λ x. x < 256) A → All (λ x. x < 256) B → All (λ x. x < 256) P → Certifies A B P K I
     → (readFormula K (fields (formulaFile edition1 K I)) ≡ accepted I) × (length (formulaFile edition1 K I) ≤ edition1 .formulaBytes)
 written-reads-back A B P {K} {I} hA hB hP c =
-    let inA = bundle-in hA (c .fileA) in
-    let inB = bundle-in hB (c .fileB) in
-    let short = proof-short hP (c .fileProof) in
-    let low = c .fileProof .low in
-    let high = c .fileProof .high in (
-      read-written K I low high (proves-encodable K (c .proves) inA inB short) (proves-height (c .proves)),
-      c .writable,
+    let inA = bundle-in hA (c .yields .fileA) in
+    let inB = bundle-in hB (c .yields .fileB) in
+    let short = proof-short hP (c .yields .fileProof) in
+    let low = c .yields .fileProof .low in
+    let high = c .yields .fileProof .high in (
+      read-written K I low high (proves-encodable K (c .yields .proves) inA inB short) (proves-height (c .yields .proves)),
+      c .short,
     )

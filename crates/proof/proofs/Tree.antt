@@ -11,8 +11,8 @@ use lib.Seq.{take-length}
 use mir.Facts.{and-yes}
 use borrow.Author.Tests.{eq-eqb, ne-eqb}
 use Rattle.forms.specs.Edition.{Edition, edition1}
-use Rattle.forms.specs.Forms.{Line}
-use Rattle.calculus.specs.Rules.{Row, Derive, Strengthen, CloseNumber, CloseStride, Round, Step, Combine, Reduce, Scale, Entry, row, claim}
+use Rattle.forms.specs.Forms.{Form, Side, A, B, Line}
+use Rattle.calculus.specs.Rules.{Row, Derive, Strengthen, CloseNumber, CloseStride, Round, Split, Step, Combine, Reduce, Scale, Entry, row, claim}
 use Rattle.fields.specs.declared.Answer.{Answer}
 use Rattle.fields.specs.declared.FileKind.{FileKind}
 use Rattle.fields.specs.Answers.{nowhere, rowTold, refusalAt, answer, fileProof, Result, refused, _>>=_, _>>_, found}
@@ -21,9 +21,9 @@ use Rattle.fields.specs.Numbers.{unsigned}
 use Rattle.fields.specs.Header.{headerField, header, finished}
 use Rattle.fields.proofs.HeaderLaid.{header-gives}
 use Rattle.bundle.specs.Bundle.{Bundle}
-use Rattle.proof.specs.Entries.{EntryTag, combineTag, reduceTag, scaleTag, strengthenTag, numberTag, strideTag, roundTag, claimTag, entryTagged, multiplier, sizeOf, entryFrom, entry}
-use Rattle.proof.specs.Rows.{lineAt, derived, fitting, inequality, roundable, byNumber, byStride}
-use Rattle.proof.specs.Check.{Closing, Checker, Following, checkRounded, checkRow, checkEntry, checkEntries, checkBranch, checkProof}
+use Rattle.proof.specs.Entries.{EntryTag, combineTag, reduceTag, scaleTag, strengthenTag, numberTag, strideTag, roundTag, splitTag, claimTag, entryTagged, multiplier, sizeOf, entryFrom, entry}
+use Rattle.proof.specs.Rows.{lineAt, derived, fitting, inequality, roundable, disequality, byNumber, byStride}
+use Rattle.proof.specs.Check.{Closing, Checker, Following, checkRounded, checkSplit, checkRow, checkEntry, checkEntries, checkBranch, checkProof}
 use Rattle.proof.specs.Layout.{Enters}
 use Rattle.proof.proofs.Says.{Says, says-refused, says-accepted, bind, seq, says-need, test, finds, weaken}
 use Rattle.proof.specs.Tree.{OpenStep, openStep, Tree, tree, afterClose, roundingOf, treeBehind, innermost, startsAt, Stands, here, past}
@@ -38,8 +38,8 @@ module _ {Q : Answer → Type 0} (refusal : ℕ → Answer) (h : (n : ℕ) → Q
   derived-says : (s : Step) → Says Q (derived refusal ls s) (λ _. Unit {0})
   unfolding derived
   derived-says (Combine i j α β) = bind (line-says i) λ s _. bind (line-says j) λ t _. test _ _ (h 11) λ _. test _ _ (h 12) λ _. says-accepted tt
-  derived-says (Reduce i j α) = bind (line-says i) λ s _. bind (line-says j) λ t _. test _ _ (h 11) λ _. test _ _ (h 12) λ _. says-accepted tt
-  derived-says (Scale i α) = bind (line-says i) λ t _. test _ _ (h 12) λ _. says-accepted tt
+  derived-says (Reduce i j α) = bind (line-says i) λ s _. bind (line-says j) λ t _. bind (finds _ _ (h 11)) λ k _. test _ _ (h 11) λ _. test _ _ (h 12) λ _. says-accepted tt
+  derived-says (Scale i α) = bind (line-says i) λ t _. bind (finds _ _ (h 11)) λ k _. test _ _ (h 12) λ _. says-accepted tt
 
   fitting-says : (e : Edition) (l : Line) → Says Q (fitting refusal ls e l) (λ _. Unit {0})
   unfolding fitting
@@ -55,9 +55,13 @@ module _ {Q : Answer → Type 0} (refusal : ℕ → Answer) (h : (n : ℕ) → Q
   roundable-says e i g k = bind (inequality-says i) λ t _. test _ _ (h 12) λ n. test _ _ (h 15) λ _.
       says-accepted (leb→le 1 k (and-yes (leb 2 g) (leb 1 k) (and-yes (leb 2 g && leb 1 k) (leb k (e .rounding)) n .0) .1))
 
+  disequality-says : (i : ℕ) → Says Q (disequality refusal ls i) (λ _. Unit {0})
+  unfolding disequality
+  disequality-says i = bind (line-says i) λ t _. bind (finds _ _ (h 11)) λ σ _. says-accepted tt
+
   byNumber-says : (i : ℕ) → Says Q (byNumber refusal ls i) (λ _. Unit {0})
   unfolding byNumber
-  byNumber-says i = bind (line-says i) λ t _. test _ _ (h 15) λ _. says-accepted tt
+  byNumber-says i = bind (line-says i) λ t _. bind (finds _ _ (h 11)) λ k _. test _ _ (h 15) λ _. says-accepted tt
 
   byStride-says : (i g : ℕ) → Says Q (byStride refusal ls i g) (λ _. Unit {0})
   unfolding byStride
@@ -142,6 +146,7 @@ entryBehind (row (Strengthen i)) t = tree (suc (t .rows)) (openStep (t .rows) 0 
 entryBehind (row (CloseNumber i)) t = tree (suc (t .rows)) (afterClose (t .steps))
 entryBehind (row (CloseStride i g)) t = tree (suc (t .rows)) (afterClose (t .steps))
 entryBehind (row (Round i g k)) t = tree (suc (t .rows)) (openStep (t .rows) 0 k ∷ t .steps)
+entryBehind (row (Split i)) t = tree (suc (t .rows)) (openStep (t .rows) 0 1 ∷ t .steps)
 entryBehind (claim u uA) t = t
 
 -- k is the last of a rounding's numbers, and has two bytes
@@ -164,6 +169,7 @@ module _ (e : Edition) (two : e .multiplierWidth ≡ 2) where
   tagged-behind K numberTag bs size t = refl
   tagged-behind K strideTag bs size t = refl
   tagged-behind K roundTag bs size t = ap (λ (k : ℕ). tree (suc (t .rows)) (openStep (t .rows) 0 k ∷ t .steps)) (rounding-read bs size)
+  tagged-behind K splitTag bs size t = refl
   tagged-behind K claimTag bs size t = refl
 
   field-behind : (K : ℕ) (f : Field) {x : Entry} → Enters e K (item (f .tag) (f .contents)) x → (t : Tree) → treeBehind (entryTagged (f .tag)) (f .contents) t ≡ entryBehind x t
@@ -214,6 +220,22 @@ module _ (e : Edition) (two : e .multiplierWidth ≡ 2) (K : ℕ) (deeper : Opti
         bind (weaken (rounded-through branch d ls line rows g k ps 0 (k - 1) (first .rows) (omega arith) (first .after)) (λ a s. stands-on m1 s) (λ c m. leads-on m1 m)) λ others m2.
         says-accepted m2)
 
+    module _ (branch : Checker) (d : Places branch) where
+      split-through : (σ : Side) (t tA : Form) → Behind (tree (suc rows) (openStep rows 0 1 ∷ ps)) → Through (tree rows ps) (f ▸ fs) (checkSplit e (refusalAt (innermost ps) rows (f .at)) branch σ ls t tA rows fs)
+      unfolding checkSplit innermost afterClose
+      split-through A t tA b =
+          let l = leads-behind b in
+          seq (fitting-says _ told ls e _) (seq (fitting-says _ told ls e _)
+          (bind (weaken (d (openStep rows 0 1 ∷ ps) _ _ fs) (λ a s. stands-on l s) (λ c m. leads-on l m)) λ first m1.
+          bind (weaken (d (openStep rows 1 1 ∷ ps) _ _ (first .after)) (λ a s. stands-on m1 s) (λ c m. leads-on m1 m)) λ second m2.
+          says-accepted m2))
+      split-through B t tA b =
+          let l = leads-behind b in
+          seq (fitting-says _ told ls e _) (seq (fitting-says _ told ls e _)
+          (bind (weaken (d (openStep rows 0 1 ∷ ps) _ _ fs) (λ a s. stands-on l s) (λ c m. leads-on l m)) λ first m1.
+          bind (weaken (d (openStep rows 1 1 ∷ ps) _ _ (first .after)) (λ a s. stands-on m1 s) (λ c m. leads-on m1 m)) λ second m2.
+          says-accepted m2))
+
     row-through : (r : Row) → Behind (entryBehind (row r) (tree rows ps)) → Through (tree rows ps) (f ▸ fs) (checkRow e K deeper next (refusalAt (innermost ps) rows (f .at)) rows ls fs r)
     unfolding checkRow
     row-through (Derive s) b = derive-through s b
@@ -221,6 +243,7 @@ module _ (e : Edition) (two : e .multiplierWidth ≡ 2) (K : ℕ) (deeper : Opti
     row-through (CloseNumber i) b = close-through (byNumber-says _ told ls i) (λ I. says-accepted (refl, refl)) b
     row-through (CloseStride i g) b = close-through (byStride-says _ told ls i g) (λ I. says-accepted (refl, refl)) b
     row-through (Round i g k) b = round-through i g k b
+    row-through (Split i) b = bind (disequality-says _ told ls i) λ (σ, l) _. deeper-says deeper p _ (told 17) λ branch d. split-through branch d σ (l .t) (l .tA) b
 
     entry-through : (made : Option Line) (x : Entry) → Behind (entryBehind x (tree rows ps))
         → Through (tree rows ps) (f ▸ fs) (checkEntry e K deeper next (refusalAt (innermost ps) rows (f .at)) rows made ls fs x)

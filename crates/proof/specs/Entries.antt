@@ -1,4 +1,4 @@
--- How a proof file states its rows and claims. Document 01, "The rows" and "Fields". Assumes nothing.
+-- How a proof file states its rows and claims. Document 01, "The rows" and "Fields"; document 02, points 1 and 6. Assumes nothing.
 use mathlib.Core.Option.{Option, none, some}
 use mathlib.Core.Bool.{Bool, true, false}
 use mathlib.Core.List.{List}
@@ -7,7 +7,7 @@ use lib.Dec.{eqb}
 use lib.ListN.{length, take, drop}
 use Rattle.forms.specs.Edition.{Edition}
 use Rattle.forms.specs.Forms.{Line}
-use Rattle.calculus.specs.Rules.{Combine, Reduce, Scale, Derive, Strengthen, CloseNumber, CloseStride, Round, Entry, row, claim}
+use Rattle.calculus.specs.Rules.{Combine, Reduce, Scale, Derive, Strengthen, CloseNumber, CloseStride, Round, Split, Entry, row, claim}
 use Rattle.fields.specs.declared.Answer.{Answer}
 use Rattle.fields.specs.declared.FileKind.{FileKind}
 use Rattle.fields.specs.Answers.{Result, accepted, _>>=_, _>>_, need, found}
@@ -15,8 +15,9 @@ use Rattle.fields.specs.Numbers.{unsigned, signed, formFrom, formWidth}
 use Rattle.fields.specs.Fields.{Field}
 use Rattle.fields.specs.Header.{known}
 
+-- 0x10 to 0x15 and 0x20; 0x16 and 0x17 are those of document 02, points 1 and 6.
 pub data EntryTag : Type 0 where
-  combineTag reduceTag scaleTag strengthenTag numberTag strideTag roundTag claimTag : EntryTag
+  combineTag reduceTag scaleTag strengthenTag numberTag strideTag roundTag splitTag claimTag : EntryTag
 
 unfoldable pub entryTagged : ℕ → Option EntryTag
 entryTagged tag =
@@ -41,7 +42,11 @@ entryTagged tag =
                                         elim (eqb tag 0x16) [
                                           | true ↦ some roundTag
                                           | false ↦
-                                              elim (eqb tag 0x20) [ true ↦ some claimTag | false ↦ none ]
+                                              elim (eqb tag 0x17) [
+                                                | true ↦ some splitTag
+                                                | false ↦
+                                                    elim (eqb tag 0x20) [ true ↦ some claimTag | false ↦ none ]
+                                              ]
                                         ]
                                   ]
                             ]
@@ -59,6 +64,7 @@ inPlace made strengthenTag = true
 inPlace made numberTag = true
 inPlace made strideTag = true
 inPlace made roundTag = true
+inPlace made splitTag = true
 inPlace none claimTag = false
 inPlace (some l) claimTag = true
 
@@ -79,6 +85,7 @@ module _ (e : Edition) where
     sizeOf numberTag = e .lineWidth
     sizeOf strideTag = e .lineWidth + e .multiplierWidth
     sizeOf roundTag = e .lineWidth + 2 * e .multiplierWidth
+    sizeOf splitTag = e .lineWidth
     sizeOf claimTag = 2 * formWidth (e .termWidth) K
 
     -- Parameters in the order given; multipliers are signed only in 0x11. A claim is t then tA.
@@ -90,6 +97,7 @@ module _ (e : Edition) where
     entryFrom numberTag bs = row (CloseNumber (lineNumber 0 bs))
     entryFrom strideTag bs = row (CloseStride (lineNumber 0 bs) (unsigned (multiplier 1 0 bs)))
     entryFrom roundTag bs = row (Round (lineNumber 0 bs) (unsigned (multiplier 1 0 bs)) (unsigned (multiplier 1 1 bs)))
+    entryFrom splitTag bs = row (Split (lineNumber 0 bs))
     entryFrom claimTag bs = claim (formFrom (e .termWidth) K bs) (formFrom (e .termWidth) K (drop (formWidth (e .termWidth) K) bs))
 
     -- The entry that a field states; `refusal` gives the refusal by a number at this field. 3, 4, 6.

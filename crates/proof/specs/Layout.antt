@@ -28,8 +28,8 @@ pub record ProofFile (file : List ℕ) (K : ℕ) (es : List Entry) : Type 0 wher
   pub high : K ≤ edition1 .constants
   pub enters : Each (Enters edition1 K) body es
 
--- A, B and the proof are laid out, with one K, and the proof's rows derive the formula from A and B within all limits, that of the formula's file among them.
-pub record Certifies (A B proof : List ℕ) (K : ℕ) (I : Formula) : Type 0 where
+-- A, B and the proof are laid out, with one K, and the proof's rows derive the formula from A and B.
+pub record Yields (A B proof : List ℕ) (K : ℕ) (I : Formula) : Type 0 where
   pub a : List Constraint
   pub b : List Constraint
   pub es : List Entry
@@ -37,4 +37,8 @@ pub record Certifies (A B proof : List ℕ) (K : ℕ) (I : Formula) : Type 0 whe
   pub fileB : BundleFile B K b
   pub fileProof : ProofFile proof K es
   pub proves : Proves edition1 a b es I
-  pub writable : length (formulaFile edition1 K I) ≤ edition1 .formulaBytes
+
+-- The same, and the formula's file is not too long.
+pub record Certifies (A B proof : List ℕ) (K : ℕ) (I : Formula) : Type 0 where
+  pub yields : Yields A B proof K I
+  pub short : length (formulaFile edition1 K I) ≤ edition1 .formulaBytes

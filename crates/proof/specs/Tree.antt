@@ -1,4 +1,4 @@
--- Where in the tree a refusal stands, told from the fields before it by their tags alone, and by k in a rounding's. Document 02, "Where in the tree". Assumes nothing.
+-- Where in the tree a refusal stands, told from the fields before it: by their tags, and by a rounding's k. Document 02, "Where in the tree". Assumes nothing.
 use mathlib.Core.Path.{_≡_}
 use mathlib.Core.Logic.{_⊎_}
 use mathlib.Core.Option.{Option, none, some}
@@ -12,7 +12,7 @@ use Rattle.fields.specs.declared.Position.{Position}
 use Rattle.fields.specs.Answers.{position, root, answer, refusalAt, fileProof}
 use Rattle.fields.specs.Numbers.{unsigned}
 use Rattle.fields.specs.Fields.{Field, Fields, ends, cut, _▸_, fields}
-use Rattle.proof.specs.Entries.{EntryTag, combineTag, reduceTag, scaleTag, strengthenTag, numberTag, strideTag, roundTag, claimTag, entryTagged}
+use Rattle.proof.specs.Entries.{EntryTag, combineTag, reduceTag, scaleTag, strengthenTag, numberTag, strideTag, roundTag, splitTag, claimTag, entryTagged}
 
 -- A branching step that is open: its row number with the branch that is open, and the number of its last branch.
 pub record OpenStep : Type 0 where
@@ -39,7 +39,7 @@ afterClose (s ∷ ss) = elim (eqb (s .at .branch) (s .last)) [ true ↦ afterClo
 unfoldable pub roundingOf : (contents : List ℕ) → ℕ
 roundingOf bs = unsigned (drop (length bs - 2) bs)
 
--- The tree behind a field of these contents. A strengthen has the branches 0 to 2, a rounding by k those from 0 to k. A claim is no row.
+-- The tree behind a field of these contents. A strengthen has the branches 0 to 2, a rounding by k those from 0 to k, a split 0 and 1. A claim is no row.
 unfoldable pub treeBehind : Option EntryTag → (contents : List ℕ) → Tree → Tree
 treeBehind none bs t = t
 treeBehind (some combineTag) bs t = tree (suc (t .rows)) (t .steps)
@@ -49,6 +49,7 @@ treeBehind (some strengthenTag) bs t = tree (suc (t .rows)) (openStep (t .rows) 
 treeBehind (some numberTag) bs t = tree (suc (t .rows)) (afterClose (t .steps))
 treeBehind (some strideTag) bs t = tree (suc (t .rows)) (afterClose (t .steps))
 treeBehind (some roundTag) bs t = tree (suc (t .rows)) (openStep (t .rows) 0 (roundingOf bs) ∷ t .steps)
+treeBehind (some splitTag) bs t = tree (suc (t .rows)) (openStep (t .rows) 0 1 ∷ t .steps)
 treeBehind (some claimTag) bs t = t
 
 -- The innermost step that is open, with its branch.
@@ -71,7 +72,7 @@ pub data Stands : Tree → Fields → Answer → Type 0 where
 abbrev pub Outside : Answer → Type 0
 Outside a = a ≡ answer (a .number) (a .file) (a .place)
 
--- An answer of check. Amid the proof it stands where the tags before it lead; elsewhere, and for a proof that is too long, it tells nothing.
+-- An answer of check. Amid the proof it stands where the fields before it lead; elsewhere (1 and 21 at the end too), and for a proof that is too long, it tells nothing.
 pub data AnswerStands (proof : List ℕ) (a : Answer) : Type 0 where
   outside : ¬ (a .file ≡ fileProof) ⊎ (a .number ≡ 1) → Outside a → AnswerStands proof a
   amid : Stands (tree 0 []) (fields proof) a → AnswerStands proof a

@@ -7,17 +7,15 @@ use native.Mathlib.Numerals.{add-one}
 use native.Mathlib.Omega.{arith}
 use lib.Dec.{T, ltb}
 use lib.ListN.{length, set, length-set}
-use lib.Seq.{getD-set-same}
 use lib.IntN.{ℤ}
 use borrow.Author.Tests.{lt-ltb, le-ltb, ltb-true, ltb-false}
 use Rattle.forms.specs.Edition.{edition1}
-use Rattle.forms.specs.Forms.{line}
 use Rattle.calculus.specs.Rules.{inRange}
 use Rattle.fields.specs.Answers.{_>>_, need}
 use Rattle.lines.proofs.Parts.{agree-refl, agree-set, agree-sym}
-use Rattle.forms.specs.Flat.{kindOf}
 use Rattle.lines.specs.Buffer.{size, lineIn, Mixes, mixedLine}
-use Rattle.lines.proofs.Lines.{length-lines, bounded-same}
+use Rattle.lines.proofs.Lines.{length-lines, line-ext, bounded-same}
+use Rattle.lines.proofs.Branch.{plain-stored}
 use Rattle.lines.proofs.Mixing.{mixed-line, mixed-range, mixes-line}
 use Rattle.lines.proofs.Range.{bounded-more}
 use Rattle.proof.specs.Rows.{fitting}
@@ -60,7 +58,7 @@ module _ {K : ℕ} {kinds : List ℕ} {buf : List ℤ} (t : Tally) (f : ℤ) (i 
     sum-is : {kinds′ : List ℕ} → kinds′ ≡ set kinds (t .lines .0) kind → lineIn K kinds′ (mixedLine K f i g j (t .lines .0) buf) (t .lines .0) ≡ sumOf K kinds buf f i g j kind
     sum-is {kinds′} sets =
         mixed-line K f i g j (t .lines .0) buf (ready .branch .room) (terms .first) (terms .second) kinds kinds′ (lineIn K kinds buf i) (lineIn K kinds buf j) refl refl
-        ∙ ap (λ (x : ℕ). line (kindOf x) (sumOf K kinds buf f i g j kind .t) (sumOf K kinds buf f i g j kind .tA)) (rw sets (getD-set-same kinds (t .lines .0) kind 0 (omega (arith, ready .room))))
+        ∙ line-ext (rw sets (plain-stored kinds (t .lines .0) kind (omega (arith, ready .room)) (terms .plain))) refl refl
 
     range : inRange (edition1 .range) (sumOf K kinds buf f i g j kind) ≡ b
     range =

@@ -4,6 +4,7 @@ pub mod Deriving
 pub mod Counting
 pub mod Lent
 pub mod Lending
+pub mod KindBytes
 pub mod Testing
 pub mod Claiming
 pub mod Stepping

@@ -24,7 +24,7 @@ use Rattle.fields.specs.Header.{known, headerTag}
 use Rattle.fields.specs.Numbers.{unsigned, signed}
 use Rattle.fields.specs.Ranges.{Held}
 use Rattle.lines.proofs.Parts.{part-part}
-use Rattle.proof.specs.Entries.{EntryTag, combineTag, reduceTag, scaleTag, strengthenTag, numberTag, strideTag, roundTag, claimTag, sizeOf, entryFrom, lineNumber, multiplier, entryTagged, inPlace, entry}
+use Rattle.proof.specs.Entries.{EntryTag, combineTag, reduceTag, scaleTag, strengthenTag, numberTag, strideTag, roundTag, splitTag, claimTag, sizeOf, entryFrom, lineNumber, multiplier, entryTagged, inPlace, entry}
 use Rattle.rows.specs.Entries.{Multiplies, entryOf, Ranged, Filled, Shaped, claimed, there, Entered}
 use Rattle.forms.specs.declared.LineNumber.{LineNumber}
 use Rattle.rows.specs.declared.entries.Entry.{Entry}
@@ -147,6 +147,14 @@ module _ (p : List ℕ) (start len : ℕ) (there : start + len ≤ length p) whe
       (λ K. tt)
       (omega arith)
 
+  pub split-is : {t : LineNumber} → len ≡ 1 → t .0 ≡ unsigned (take 1 (drop start p)) → Shaped splitTag p start len (Entry.Split t)
+  unfolding sizeOf entryFrom lineNumber
+  split-is h et =
+      right-size splitTag 1 (λ K. refl) h
+      (λ refusal K. let e₁ = et ∙ ap unsigned (first 1 (omega arith)) in rw e₁)
+      (λ K. tt)
+      (omega arith)
+
   pub number-is : {t : LineNumber} → len ≡ 1 → t .0 ≡ unsigned (take 1 (drop start p)) → Shaped numberTag p start len (Entry.CloseNumber t)
   unfolding sizeOf entryFrom lineNumber
   number-is h et =
@@ -213,6 +221,10 @@ module _ {p : List ℕ} {tag start len : ℕ} (K : ℕ) (made : Bool) where
     unfolding known headerTag entryTagged inPlace
     round-in e s = entered roundTag (rw e) (rw e) (λ l. refl) s
 
+    pub split-in : tag ≡ 0x17 → Shaped splitTag p start len r → Entered K p tag start len made r
+    unfolding known headerTag entryTagged inPlace
+    split-in e s = entered splitTag (rw e) (rw e) (λ l. refl) s
+
   pub header-in : tag ≡ 0x01 → Entered K p tag start len made (Entry.Refused 4)
   unfolding known headerTag entryTagged
   header-in e = record { is = λ refusal at l h. entry-none refusal K at tag _ l (rw e) (rw e); ranged = tt; filled = tt }
@@ -266,21 +278,21 @@ above n h k = omega arith
 clash : {tag n : ℕ} {P : Type 0} → suc n ≤ tag → tag ≤ n → P
 clash h k = absurd (omega arith)
 
-between : (tag : ℕ) → (tag ≡ 0x10 → ⊥) → (tag ≡ 0x11 → ⊥) → (tag ≡ 0x12 → ⊥) → (tag ≡ 0x13 → ⊥) → (tag ≡ 0x14 → ⊥) → (tag ≡ 0x15 → ⊥) → (tag ≡ 0x16 → ⊥)
-    → leb 0x10 tag && leb tag 0x16 ≡ false
-between tag a b c d e f g = go (leb 0x10 tag) (leb tag 0x16) refl refl
+between : (tag : ℕ) → (tag ≡ 0x10 → ⊥) → (tag ≡ 0x11 → ⊥) → (tag ≡ 0x12 → ⊥) → (tag ≡ 0x13 → ⊥) → (tag ≡ 0x14 → ⊥) → (tag ≡ 0x15 → ⊥) → (tag ≡ 0x16 → ⊥) → (tag ≡ 0x17 → ⊥)
+    → leb 0x10 tag && leb tag 0x17 ≡ false
+between tag a b c d e f g h = go (leb 0x10 tag) (leb tag 0x17) refl refl
   where
-    go : (x y : Bool) → leb 0x10 tag ≡ x → leb tag 0x16 ≡ y → x && y ≡ false
-    go true true p q = clash (above 0x16 (above 0x15 (above 0x14 (above 0x13 (above 0x12 (above 0x11 (above 0x10 (leb-true 0x10 tag p) a) b) c) d) e) f) g) (leb-true tag 0x16 q)
+    go : (x y : Bool) → leb 0x10 tag ≡ x → leb tag 0x17 ≡ y → x && y ≡ false
+    go true true p q = clash (above 0x17 (above 0x16 (above 0x15 (above 0x14 (above 0x13 (above 0x12 (above 0x11 (above 0x10 (leb-true 0x10 tag p) a) b) c) d) e) f) g) h) (leb-true tag 0x17 q)
     go true false p q = refl
     go false y p q = refl
 
 pub unknown-in : {p : List ℕ} {tag start len : ℕ} (K : ℕ) (made : Bool)
-    → (tag ≡ 0x10 → ⊥) → (tag ≡ 0x11 → ⊥) → (tag ≡ 0x12 → ⊥) → (tag ≡ 0x13 → ⊥) → (tag ≡ 0x14 → ⊥) → (tag ≡ 0x15 → ⊥) → (tag ≡ 0x16 → ⊥) → (tag ≡ 0x20 → ⊥)
+    → (tag ≡ 0x10 → ⊥) → (tag ≡ 0x11 → ⊥) → (tag ≡ 0x12 → ⊥) → (tag ≡ 0x13 → ⊥) → (tag ≡ 0x14 → ⊥) → (tag ≡ 0x15 → ⊥) → (tag ≡ 0x16 → ⊥) → (tag ≡ 0x17 → ⊥) → (tag ≡ 0x20 → ⊥)
     → (tag ≡ 0x01 → ⊥) → (tag ≡ 0x02 → ⊥) → Entered K p tag start len made (Entry.Refused 3)
 unfolding known headerTag
-unknown-in {tag = tag} K made a b c d e f g i x y = record {
-  is = λ refusal at l h. entry-unknown refusal K at tag _ l (rw (ne-eqb tag 0x01 x, ne-eqb tag 0x02 y, between tag a b c d e f g, ne-eqb tag 0x20 i));
+unknown-in {tag = tag} K made a b c d e f g j i x y = record {
+  is = λ refusal at l h. entry-unknown refusal K at tag _ l (rw (ne-eqb tag 0x01 x, ne-eqb tag 0x02 y, between tag a b c d e f g j, ne-eqb tag 0x20 i));
   ranged = tt;
   filled = tt;
 }

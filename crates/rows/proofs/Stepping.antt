@@ -34,7 +34,7 @@ use Rattle.rows.specs.declared.tally.Tallied.{Tallied}
 use Rattle.rows.specs.declared.derive.Derived.{Derived}
 use Rattle.rows.specs.declared.derive.Derived.the-variants as derived-of
 use Rattle.rows.specs.declared.steps.Stepped.{Stepped}
-use Rattle.rows.specs.declared.steps.Stepped.the-variants.{Refused, Made, Strengthens, ClosesNumber, ClosesStride, Rounds}
+use Rattle.rows.specs.declared.steps.Stepped.the-variants.{Refused, Made, Strengthens, ClosesNumber, ClosesStride, Rounds, Splits}
 use Rattle.rows.proofs.Deriving.{kept-refl}
 use Rattle.rows.proofs.Counting.{counted-made, counted-full}
 
@@ -89,6 +89,9 @@ module _ (t : Tally) (h : t .rows .0 < 1024) {u : Tally} (e : u ≡ moreRows t) 
   pub counts-strengthen : Counts (rules.Strengthen (i .0)) t (Strengthens u i)
   counts-strengthen = record { steps = λ K kinds buf. record { kept = kept-refl; by = (row-counted K kinds buf t (rules.Strengthen (i .0)) h, e) } }
 
+  pub counts-split : Counts (rules.Split (i .0)) t (Splits u i)
+  counts-split = record { steps = λ K kinds buf. record { kept = kept-refl; by = (row-counted K kinds buf t (rules.Split (i .0)) h, e) } }
+
   pub counts-number : Counts (rules.CloseNumber (i .0)) t (ClosesNumber u i)
   counts-number = record { steps = λ K kinds buf. record { kept = kept-refl; by = (row-counted K kinds buf t (rules.CloseNumber (i .0)) h, e) } }
 
@@ -126,6 +129,7 @@ steps-same (Strengthens u i) a s = record { kept = s .kept; by = (same-trans a (
 steps-same (ClosesNumber u i) a s = record { kept = s .kept; by = (same-trans a (s .by .0), s .by .1) }
 steps-same (ClosesStride u i g) a s = record { kept = s .kept; by = (same-trans a (s .by .0), s .by .1, s .by .2) }
 steps-same (Rounds u i g by) a s = record { kept = s .kept; by = (same-trans a (s .by .0), s .by .1, s .by .2) }
+steps-same (Splits u i) a s = record { kept = s .kept; by = (same-trans a (s .by .0), s .by .1) }
 
 advances : {len : ℕ} → 1 ≤ len → (r : Stepped) → Advances len r
 advances h (Refused x) = tt
@@ -135,6 +139,7 @@ advances h (Strengthens u i) = h
 advances h (ClosesNumber u i) = h
 advances h (ClosesStride u i g) = h
 advances h (Rounds u i g by) = h
+advances h (Splits u i) = h
 
 there-made : (made : Bool) (K : ℕ) (kinds : List ℕ) (buf : List ℤ) (n : ℕ) → there (lastMade made K kinds buf n) ≡ made
 there-made true K kinds buf n = refl

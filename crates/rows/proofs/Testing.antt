@@ -2,12 +2,12 @@
 use mathlib.Core.Path.{_≡_, refl, sym, ap, _∙_}
 use mathlib.Core.Bool.{Bool, true, false, not, _&&_}
 use mathlib.Core.List.{List}
+use mathlib.Core.Option.{none, some}
 use Prim.Native.Nat.{ℕ, zero, suc, _≤_, _<_}
 use native.Mathlib.Omega.{arith}
 use lib.Dec.{ltb, leb}
-use lib.ListN.{getD}
 use lib.IntN.{ℤ, pos, negsuc, natAbs}
-use borrow.Author.Tests.{ltb-true, ltb-false, le-leb, lt-leb, eq-eqb, ne-eqb, eqb-true, eqb-false}
+use borrow.Author.Tests.{ltb-true, ltb-false, le-leb, lt-leb, eqb-true, eqb-false}
 use Rattle.integers.specs.Linear.{eqZ}
 use Rattle.forms.specs.Forms.{≤0, =0, Line, line, nonzero, _⊞_, _·_}
 use Rattle.calculus.specs.Rules.{Step, Combine, Reduce, Scale}
@@ -17,7 +17,7 @@ use Rattle.forms.specs.Flat.{kindOf}
 use Rattle.lines.specs.Buffer.{lineIn, linesIn}
 use Rattle.lines.proofs.Lines.{line-at, line-past, line-ext}
 use Rattle.lines.proofs.Mixing.{mix-one, mix-zero}
-use Rattle.proof.specs.Rows.{is, lineAt, derived}
+use Rattle.proof.specs.Rows.{is, plainKind, lineAt, derived}
 use Rattle.rows.specs.Rows.{sumOf, Appended, Derives}
 use Rattle.rows.specs.declared.tally.Tally.{Tally}
 use Rattle.rows.specs.declared.derive.Derived.{Derived}
@@ -52,19 +52,6 @@ some-nonzero : (z : ℤ) {b : Bool} → b ≡ eqZ z (pos 0) → b ≡ false → 
 unfolding nonzero
 some-nonzero z e h = rw (← e, h)
 
-module _ (K : ℕ) (kinds : List ℕ) (buf : List ℤ) (i : ℕ) where
-  pub kind-≤ : getD kinds i 0 ≡ 0 → lineIn K kinds buf i .kind ≡ ≤0
-  unfolding lineIn kindOf
-  kind-≤ h = ap (λ (b : Bool). elim b [ true ↦ ≤0 | false ↦ =0 ]) (eq-eqb (getD kinds i 0) 0 h)
-
-  pub kind-= : (getD kinds i 0 ≡ 0 → ⊥) → lineIn K kinds buf i .kind ≡ =0
-  unfolding lineIn kindOf
-  kind-= h = ap (λ (b : Bool). elim b [ true ↦ ≤0 | false ↦ =0 ]) (ne-eqb (getD kinds i 0) 0 h)
-
-  kind-is : {kind : ℕ} → kind ≡ getD kinds i 0 → kindOf kind ≡ lineIn K kinds buf i .kind
-  unfolding lineIn
-  kind-is e = ap kindOf e
-
 -- ---- from `derived` to what follows the row
 module _ {K : ℕ} {kinds : List ℕ} {buf : List ℤ} {t : Tally} {s : Step} where
   derives-refused : {x : ℕ} → ((refusal : ℕ → Answer) → derived refusal (linesIn K kinds buf (t .lines .0)) s ≡ refused (refusal x)) → Derives K kinds buf t s kinds buf (Refused x)
@@ -93,20 +80,20 @@ module _ (K : ℕ) (kinds : List ℕ) (buf : List ℤ) (t : Tally) (i j α β : 
     combine-none-2 h = derives-refused (λ refusal. rw (line-at K kinds buf (t .lines .0) i hi, line-past K kinds buf (t .lines .0) j h))
 
     module _ (hj : j < t .lines .0) where
-      pub combine-kind : (getD kinds i 0 ≡ 0 → ⊥) → Derives K kinds buf t (Combine i j α β) kinds buf (Refused 11)
-      unfolding derived lineAt _>>=_ _>>_ found need is
-      combine-kind h = derives-refused (λ refusal. rw (line-at K kinds buf (t .lines .0) i hi, line-at K kinds buf (t .lines .0) j hj, kind-= K kinds buf i h))
+      pub combine-kind : is ≤0 (lineIn K kinds buf i .kind) ≡ false → Derives K kinds buf t (Combine i j α β) kinds buf (Refused 11)
+      unfolding derived lineAt _>>=_ _>>_ found need
+      combine-kind h = derives-refused (λ refusal. rw (line-at K kinds buf (t .lines .0) i hi, line-at K kinds buf (t .lines .0) j hj, h))
 
-      module _ (ki : getD kinds i 0 ≡ 0) where
-        pub combine-kind-2 : (getD kinds j 0 ≡ 0 → ⊥) → Derives K kinds buf t (Combine i j α β) kinds buf (Refused 11)
-        unfolding derived lineAt _>>=_ _>>_ found need is
-        combine-kind-2 h = derives-refused (λ refusal. rw (line-at K kinds buf (t .lines .0) i hi, line-at K kinds buf (t .lines .0) j hj, kind-≤ K kinds buf i ki, kind-= K kinds buf j h))
+      module _ (ki : is ≤0 (lineIn K kinds buf i .kind) ≡ true) where
+        pub combine-kind-2 : is ≤0 (lineIn K kinds buf j .kind) ≡ false → Derives K kinds buf t (Combine i j α β) kinds buf (Refused 11)
+        unfolding derived lineAt _>>=_ _>>_ found need
+        combine-kind-2 h = derives-refused (λ refusal. rw (line-at K kinds buf (t .lines .0) i hi, line-at K kinds buf (t .lines .0) j hj, ki, h))
 
-        module _ (kj : getD kinds j 0 ≡ 0) where
+        module _ (kj : is ≤0 (lineIn K kinds buf j .kind) ≡ true) where
           tests : (refusal : ℕ → Answer) → derived refusal (linesIn K kinds buf (t .lines .0)) (Combine i j α β)
               ≡ (need (refusal 12) (leb 1 α && leb 1 β) >> accepted (line ≤0 (pos α · lineIn K kinds buf i .t ⊞ pos β · lineIn K kinds buf j .t) (pos α · lineIn K kinds buf i .tA ⊞ pos β · lineIn K kinds buf j .tA)))
-          unfolding derived lineAt _>>=_ _>>_ found need is
-          tests refusal = rw (line-at K kinds buf (t .lines .0) i hi, line-at K kinds buf (t .lines .0) j hj, kind-≤ K kinds buf i ki, kind-≤ K kinds buf j kj)
+          unfolding derived lineAt _>>=_ _>>_ found need
+          tests refusal = rw (line-at K kinds buf (t .lines .0) i hi, line-at K kinds buf (t .lines .0) j hj, ki, kj)
 
           pub combine-zero : α ≡ 0 → Derives K kinds buf t (Combine i j α β) kinds buf (Refused 12)
           unfolding _>>_ need
@@ -133,29 +120,35 @@ module _ (K : ℕ) (kinds : List ℕ) (buf : List ℤ) (t : Tally) (i j : ℕ) (
     reduce-none-2 h = derives-refused (λ refusal. rw (line-at K kinds buf (t .lines .0) i hi, line-past K kinds buf (t .lines .0) j h))
 
     module _ (hj : j < t .lines .0) where
-      pub reduce-kind : getD kinds j 0 ≡ 0 → Derives K kinds buf t (Reduce i j α) kinds buf (Refused 11)
-      unfolding derived lineAt _>>=_ _>>_ found need is
-      reduce-kind h = derives-refused (λ refusal. rw (line-at K kinds buf (t .lines .0) i hi, line-at K kinds buf (t .lines .0) j hj, kind-≤ K kinds buf j h))
+      pub reduce-apart : plainKind (lineIn K kinds buf i .kind) ≡ none → Derives K kinds buf t (Reduce i j α) kinds buf (Refused 11)
+      unfolding derived lineAt _>>=_ found
+      reduce-apart h = derives-refused (λ refusal. rw (line-at K kinds buf (t .lines .0) i hi, line-at K kinds buf (t .lines .0) j hj, h))
 
-      module _ (kj : getD kinds j 0 ≡ 0 → ⊥) where
-        reduce-tests : (refusal : ℕ → Answer) → derived refusal (linesIn K kinds buf (t .lines .0)) (Reduce i j α)
-            ≡ (need (refusal 12) (nonzero α) >> accepted (line (lineIn K kinds buf i .kind) (lineIn K kinds buf i .t ⊞ α · lineIn K kinds buf j .t) (lineIn K kinds buf i .tA ⊞ α · lineIn K kinds buf j .tA)))
-        unfolding derived lineAt _>>=_ _>>_ found need is
-        reduce-tests refusal = rw (line-at K kinds buf (t .lines .0) i hi, line-at K kinds buf (t .lines .0) j hj, kind-= K kinds buf j kj)
+      -- kind is what was read of line i's.
+      module _ (kind : ℕ) (ki : plainKind (lineIn K kinds buf i .kind) ≡ some (kindOf kind)) where
+        pub reduce-kind : is =0 (lineIn K kinds buf j .kind) ≡ false → Derives K kinds buf t (Reduce i j α) kinds buf (Refused 11)
+        unfolding derived lineAt _>>=_ _>>_ found need
+        reduce-kind h = derives-refused (λ refusal. rw (line-at K kinds buf (t .lines .0) i hi, line-at K kinds buf (t .lines .0) j hj, ki, h))
 
-        module _ {b : Bool} (z : b ≡ eqZ α (pos 0)) where
-          pub reduce-zero : b ≡ true → Derives K kinds buf t (Reduce i j α) kinds buf (Refused 12)
-          unfolding _>>_ need
-          reduce-zero h = derives-refused (λ refusal. reduce-tests refusal ∙ rw (zero-none α z h))
+        module _ (kj : is =0 (lineIn K kinds buf j .kind) ≡ true) where
+          reduce-tests : (refusal : ℕ → Answer) → derived refusal (linesIn K kinds buf (t .lines .0)) (Reduce i j α)
+              ≡ (need (refusal 12) (nonzero α) >> accepted (line (kindOf kind) (lineIn K kinds buf i .t ⊞ α · lineIn K kinds buf j .t) (lineIn K kinds buf i .tA ⊞ α · lineIn K kinds buf j .tA)))
+          unfolding derived lineAt _>>=_ _>>_ found need
+          reduce-tests refusal = rw (line-at K kinds buf (t .lines .0) i hi, line-at K kinds buf (t .lines .0) j hj, ki, kj)
 
-          pub reduce-made : {kind : ℕ} {kinds′ : List ℕ} {buf′ : List ℤ} {r : Derived} → b ≡ false → kind ≡ getD kinds i 0
-              → Appended K kinds buf t (pos 1) i α j kind kinds′ buf′ r → Derives K kinds buf t (Reduce i j α) kinds′ buf′ r
-          unfolding _>>_ need
-          reduce-made h k a =
-              let s = lineIn K kinds buf i in
-              let u = lineIn K kinds buf j in
-              derives-appended {l = line (s .kind) (s .t ⊞ α · u .t) (s .tA ⊞ α · u .tA)} (λ refusal. reduce-tests refusal ∙ rw (some-nonzero α z h))
-              (line-ext (kind-is K kinds buf i k) (mix-one (s .t) α (u .t)) (mix-one (s .tA) α (u .tA))) a
+          module _ {b : Bool} (z : b ≡ eqZ α (pos 0)) where
+            pub reduce-zero : b ≡ true → Derives K kinds buf t (Reduce i j α) kinds buf (Refused 12)
+            unfolding _>>_ need
+            reduce-zero h = derives-refused (λ refusal. reduce-tests refusal ∙ rw (zero-none α z h))
+
+            pub reduce-made : {kinds′ : List ℕ} {buf′ : List ℤ} {r : Derived} → b ≡ false
+                → Appended K kinds buf t (pos 1) i α j kind kinds′ buf′ r → Derives K kinds buf t (Reduce i j α) kinds′ buf′ r
+            unfolding _>>_ need
+            reduce-made h a =
+                let s = lineIn K kinds buf i in
+                let u = lineIn K kinds buf j in
+                derives-appended {l = line (kindOf kind) (s .t ⊞ α · u .t) (s .tA ⊞ α · u .tA)} (λ refusal. reduce-tests refusal ∙ rw (some-nonzero α z h))
+                (line-ext refl (mix-one (s .t) α (u .t)) (mix-one (s .tA) α (u .tA))) a
 
 -- ---- scale
 module _ (K : ℕ) (kinds : List ℕ) (buf : List ℤ) (t : Tally) (i α : ℕ) where
@@ -164,14 +157,19 @@ module _ (K : ℕ) (kinds : List ℕ) (buf : List ℤ) (t : Tally) (i α : ℕ) 
   scale-none h = derives-refused (λ refusal. rw (line-past K kinds buf (t .lines .0) i h))
 
   module _ (hi : i < t .lines .0) where
-    pub scale-zero : α ≡ 0 → Derives K kinds buf t (Scale i α) kinds buf (Refused 12)
-    unfolding derived lineAt _>>=_ _>>_ found need
-    scale-zero h = derives-refused (λ refusal. rw (line-at K kinds buf (t .lines .0) i hi, lt-leb 1 α (omega arith)))
+    pub scale-apart : plainKind (lineIn K kinds buf i .kind) ≡ none → Derives K kinds buf t (Scale i α) kinds buf (Refused 11)
+    unfolding derived lineAt _>>=_ found
+    scale-apart h = derives-refused (λ refusal. rw (line-at K kinds buf (t .lines .0) i hi, h))
 
-    pub scale-made : {f : ℤ} {kind : ℕ} {kinds′ : List ℕ} {buf′ : List ℤ} {r : Derived} → 1 ≤ α → f ≡ pos α → kind ≡ getD kinds i 0
-        → Appended K kinds buf t f i (pos 0) i kind kinds′ buf′ r → Derives K kinds buf t (Scale i α) kinds′ buf′ r
-    unfolding derived lineAt _>>=_ _>>_ found need
-    scale-made {f} h e k a =
-        let s = lineIn K kinds buf i in
-        derives-appended {l = line (s .kind) (f · s .t) (f · s .tA)} (λ refusal. rw (line-at K kinds buf (t .lines .0) i hi, le-leb 1 α h, ← e))
-        (line-ext (kind-is K kinds buf i k) (mix-zero f (s .t)) (mix-zero f (s .tA))) a
+    module _ (kind : ℕ) (ki : plainKind (lineIn K kinds buf i .kind) ≡ some (kindOf kind)) where
+      pub scale-zero : α ≡ 0 → Derives K kinds buf t (Scale i α) kinds buf (Refused 12)
+      unfolding derived lineAt _>>=_ _>>_ found need
+      scale-zero h = derives-refused (λ refusal. rw (line-at K kinds buf (t .lines .0) i hi, ki, lt-leb 1 α (omega arith)))
+
+      pub scale-made : {f : ℤ} {kinds′ : List ℕ} {buf′ : List ℤ} {r : Derived} → 1 ≤ α → f ≡ pos α
+          → Appended K kinds buf t f i (pos 0) i kind kinds′ buf′ r → Derives K kinds buf t (Scale i α) kinds′ buf′ r
+      unfolding derived lineAt _>>=_ _>>_ found need
+      scale-made {f} h e a =
+          let s = lineIn K kinds buf i in
+          derives-appended {l = line (kindOf kind) (f · s .t) (f · s .tA)} (λ refusal. rw (line-at K kinds buf (t .lines .0) i hi, ki, le-leb 1 α h, ← e))
+          (line-ext refl (mix-zero f (s .t)) (mix-zero f (s .tA))) a

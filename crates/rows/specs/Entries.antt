@@ -16,7 +16,7 @@ use Rattle.fields.specs.Numbers.{formFrom, formWidth}
 use Rattle.proof.specs.Entries.{EntryTag, sizeOf, entryFrom, entry}
 use Rattle.fields.specs.declared.Answer.{Answer}
 use Rattle.rows.specs.declared.entries.Entry.{Entry}
-use Rattle.rows.specs.declared.entries.Entry.the-variants.{Combine, Reduce, Scale, Strengthen, CloseNumber, CloseStride, Round, Claim, Refused}
+use Rattle.rows.specs.declared.entries.Entry.the-variants.{Combine, Reduce, Scale, Strengthen, CloseNumber, CloseStride, Round, Split, Claim, Refused}
 
 -- The number n as a factor of the machine.
 pub record Multiplies (n : ℕ) (z : ℤ) : Type 0 where
@@ -32,6 +32,7 @@ entryOf refusal K bs (Strengthen t) = accepted (rules.row (rules.Strengthen (t .
 entryOf refusal K bs (CloseNumber t) = accepted (rules.row (rules.CloseNumber (t .0)))
 entryOf refusal K bs (CloseStride t g) = accepted (rules.row (rules.CloseStride (t .0) (natAbs g)))
 entryOf refusal K bs (Round t g by) = accepted (rules.row (rules.Round (t .0) (natAbs g) by))
+entryOf refusal K bs (Split t) = accepted (rules.row (rules.Split (t .0)))
 entryOf refusal K bs (Claim start) = accepted (rules.claim (formFrom (edition1 .termWidth) K bs) (formFrom (edition1 .termWidth) K (drop (formWidth (edition1 .termWidth) K) bs)))
 entryOf refusal K bs (Refused n) = refused (refusal n)
 
@@ -44,6 +45,7 @@ Ranged K start len (Strengthen t) = Unit {0}
 Ranged K start len (CloseNumber t) = Unit {0}
 Ranged K start len (CloseStride t g) = Multiplies (natAbs g) g
 Ranged K start len (Round t g by) = Multiplies (natAbs g) g
+Ranged K start len (Split t) = Unit {0}
 Ranged K start len (Claim from) = (from ≡ start) × (len ≡ 2 * formWidth (edition1 .termWidth) K)
 Ranged K start len (Refused n) = Unit {0}
 
@@ -56,6 +58,7 @@ Filled len (Strengthen t) = 1 ≤ len
 Filled len (CloseNumber t) = 1 ≤ len
 Filled len (CloseStride t g) = 1 ≤ len
 Filled len (Round t g by) = 1 ≤ len
+Filled len (Split t) = 1 ≤ len
 Filled len (Claim from) = 1 ≤ len
 Filled len (Refused n) = Unit {0}
 

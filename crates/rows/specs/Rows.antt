@@ -20,6 +20,10 @@ use Rattle.rows.specs.declared.tally.Tally.{Tally}
 use Rattle.rows.specs.declared.derive.Derived.{Derived}
 use Rattle.rows.specs.declared.derive.Derived.the-variants.{Refused, Made}
 
+-- What is read of the byte of a line's kind. (A record, so that the byte is inferred from it.)
+pub record KindRead (b r : ℕ) : Type 0 where
+  pub is : r ≡ b
+
 -- The n first lines of the buffers are a branch, with room for one more.
 pub record Ready (K : ℕ) (kinds : List ℕ) (buf : List ℤ) (n : ℕ) : Type 0 where
   pub branch : Branch K buf n
@@ -38,8 +42,9 @@ pub record LinesKept (K n : ℕ) (kinds : List ℕ) (buf : List ℤ) (kinds′ :
   pub lines-length : length buf′ ≡ length buf
   pub kinds-length : length kinds′ ≡ length kinds
 
--- Factors and lines of a branch of n lines.
+-- Factors and lines of a branch of n lines, and the kind of a line that rows make.
 pub record Operands (n : ℕ) (f : ℤ) (i : ℕ) (g : ℤ) (j kind : ℕ) : Type 0 where
+  pub plain : kind ≤ 1
   pub f-in : Within multiplierRange f
   pub first : i < n
   pub g-in : Within multiplierRange g

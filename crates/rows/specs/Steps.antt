@@ -24,7 +24,7 @@ use Rattle.rows.specs.declared.tally.Tally.{Tally}
 use Rattle.rows.specs.declared.derive.Derived as derived
 use Rattle.rows.specs.declared.derive.Derived.the-variants as derived-of
 use Rattle.rows.specs.declared.steps.Stepped.{Stepped}
-use Rattle.rows.specs.declared.steps.Stepped.the-variants.{Refused, Made, Claimed, Strengthens, ClosesNumber, ClosesStride, Rounds}
+use Rattle.rows.specs.declared.steps.Stepped.the-variants.{Refused, Made, Claimed, Strengthens, ClosesNumber, ClosesStride, Rounds, Splits}
 
 abbrev pub steppedOf : derived.Derived → Stepped
 steppedOf (derived-of.Refused x) = Refused x
@@ -62,6 +62,7 @@ SteppedBy f K kinds buf t kinds′ buf′ (ClosesStride t′ i g) =
     SameChecked f (rowLeft K kinds buf t (rules.CloseStride (i .0) (natAbs g))) × (t′ ≡ moreRows t) × Multiplies (natAbs g) g
 SteppedBy f K kinds buf t kinds′ buf′ (Rounds t′ i g by) =
     SameChecked f (rowLeft K kinds buf t (rules.Round (i .0) (natAbs g) by)) × (t′ ≡ moreRows t) × Multiplies (natAbs g) g
+SteppedBy f K kinds buf t kinds′ buf′ (Splits t′ i) = SameChecked f (rowLeft K kinds buf t (rules.Split (i .0))) × (t′ ≡ moreRows t)
 
 pub record Steps (f : Checked) (K : ℕ) (kinds : List ℕ) (buf : List ℤ) (t : Tally) (kinds′ : List ℕ) (buf′ : List ℤ) (r : Stepped) : Type 0 where
   pub kept : LinesKept K (t .lines .0) kinds buf kinds′ buf′
@@ -76,6 +77,7 @@ Advances len (Strengthens t i) = 1 ≤ len
 Advances len (ClosesNumber t i) = 1 ≤ len
 Advances len (ClosesStride t i g) = 1 ≤ len
 Advances len (Rounds t i g by) = 1 ≤ len
+Advances len (Splits t i) = 1 ≤ len
 
 -- The line that a claim may state: the last one, if a row 0x10 to 0x12 made it directly before.
 abbrev pub lastMade : Bool → (K : ℕ) (kinds : List ℕ) (buf : List ℤ) (n : ℕ) → Option Line

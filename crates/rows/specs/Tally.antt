@@ -7,8 +7,8 @@ use Rattle.forms.specs.Edition.{edition1}
 use Rattle.rows.specs.declared.tally.Tally.{Tally}
 use Rattle.rows.specs.declared.tally.Tallied.{Tallied}
 
--- A tally of so many rows, lines and open strengthens.
-abbrev pub tally : (rows lines strengthens : ℕ) → Tally
+-- A tally of so many rows, lines and open branching steps.
+abbrev pub tally : (rows lines branchings : ℕ) → Tally
 tally r l s = record { rows = record { 0 = r }; lines = record { 0 = l }; «open» = s }
 
 -- A step that is made gives the next tally; one that is refused, the same.
@@ -16,7 +16,7 @@ abbrev pub tallied : Bool → (next same : Tally) → Tallied
 tallied true next same = record { made = true; tally = next }
 tallied false next same = record { made = false; tally = same }
 
--- As many rows, lines on a branch and open strengthens as the edition allows.
+-- As many rows, lines on a branch and open branching steps as the edition allows.
 unfoldable pub rowCounted : Tally → Tallied
 rowCounted t = tallied (ltb (t .rows .0) (edition1 .rows)) (tally (t .rows .0 + 1) (t .lines .0) (t .«open»)) t
 
@@ -26,7 +26,7 @@ lineCounted t = tallied (ltb (t .lines .0) (edition1 .lines)) (tally (t .rows .0
 unfoldable pub openCounted : Tally → Tallied
 openCounted t = tallied (ltb (t .«open») (edition1 .branchings)) (tally (t .rows .0) (t .lines .0) (t .«open» + 1)) t
 
--- A closed branch gives back its lines and open strengthens: they are again those of the tally given.
+-- A closed branch gives back its lines and open branching steps: they are again those of the tally given.
 abbrev pub returnedTo : Tally → (given : Tally) → Tally
 returnedTo t given = tally (t .rows .0) (given .lines .0) (given .«open»)
 

@@ -8,10 +8,19 @@ ghost use Rattle.integers.specs.Magnitude.{Within};
 ghost use Rattle.forms.specs.Edition.{multiplierRange};
 ghost use Rattle.calculus.specs.Rules.{Combine, Reduce, Scale};
 ghost use Rattle.rows.specs.Entries.{Multiplies};
-ghost use Rattle.rows.specs.Rows.{Ready, Operands, Appended, Derives};
+ghost use Rattle.rows.specs.Rows.{KindRead, Ready, Operands, Appended, Derives};
 use crate::tally::Tally;
 use crate::tally::line_counted;
 use forms::LineNumber;
+
+// The kind of a line as its byte: an inequality, an equality, and behind these a constraint t ≠ 0, of A and of B.
+pub const INEQUALITY: u8 = 0;
+
+pub const EQUALITY: u8 = 1;
+
+pub const APART_A: u8 = 2;
+
+pub const APART_B: u8 = 3;
 
 pub enum Derived {
     Refused { number: u8 },
@@ -49,7 +58,7 @@ fn append(
     Derived::Refused { number: 16 }
 }
 
-// A lookup takes a line number: whether the line is there, and its kind, which is read and stored here only.
+// A lookup takes a line number: whether the line is there, and its kind, which is read and stored here only. (No byte above 3 is stored; the definitions read it as an equality.)
 pub fn is_there(tally: Tally, i: LineNumber) -> bool
     ensures { λ r. ⌜ r ≡ ltb (i .0) (tally .lines .0) ⌝ }
 {
@@ -59,7 +68,7 @@ pub fn is_there(tally: Tally, i: LineNumber) -> bool
 
 pub fn kind_of(kinds: &[u8], i: LineNumber) -> u8
     requires { ⌜ i .0 < length (now kinds) ⌝ }
-    ensures { λ r. ⌜ r ≡ getD (now (kinds .entry)) (i .0) 0 ⌝ }
+    ensures { λ r. ⌜ KindRead (getD (now (kinds .entry)) (i .0) 0) r ⌝ }
 {
     let x = i.0 as usize;
     kinds[x]
@@ -94,10 +103,10 @@ pub fn combine(
     if !is_there(tally, t) {
         return Derived::Refused { number: 10 };
     }
-    if kind_of(kinds, s) != 0 {
+    if kind_of(kinds, s) != INEQUALITY {
         return Derived::Refused { number: 11 };
     }
-    if kind_of(kinds, t) != 0 {
+    if kind_of(kinds, t) != INEQUALITY {
         return Derived::Refused { number: 11 };
     }
     if integers::is_zero(alpha) {
@@ -106,7 +115,7 @@ pub fn combine(
     if integers::is_zero(beta) {
         return Derived::Refused { number: 12 };
     }
-    append(lines, kinds, tally, true, alpha, s, beta, t, 0, k)
+    append(lines, kinds, tally, true, alpha, s, beta, t, INEQUALITY, k)
 }
 
 // RED-LEFT: s as 1·s, then α·t, then their sum s + αt, of s's kind; likewise sA + αtA, in the same run.
@@ -129,14 +138,17 @@ pub fn reduce(
     if !is_there(tally, t) {
         return Derived::Refused { number: 10 };
     }
-    let kind = kind_of(kinds, s);
-    if kind_of(kinds, t) == 0 {
+    let kind_s = kind_of(kinds, s);
+    if kind_s > EQUALITY {
+        return Derived::Refused { number: 11 };
+    }
+    if kind_of(kinds, t) != EQUALITY {
         return Derived::Refused { number: 11 };
     }
     if integers::is_zero(alpha) {
         return Derived::Refused { number: 12 };
     }
-    append(lines, kinds, tally, false, 1, s, alpha, t, kind, k)
+    append(lines, kinds, tally, false, 1, s, alpha, t, kind_s, k)
 }
 
 // MUL-LEFT: α·t, to which 0·t is added, of t's kind; likewise αtA, in the same run.
@@ -156,6 +168,9 @@ pub fn scale(
         return Derived::Refused { number: 10 };
     }
     let kind = kind_of(kinds, t);
+    if kind > EQUALITY {
+        return Derived::Refused { number: 11 };
+    }
     if integers::is_zero(alpha) {
         return Derived::Refused { number: 12 };
     }

@@ -3,7 +3,7 @@ ghost use mathlib.Core.Path.{_≡_};
 ghost use Prim.Native.Nat.{_+_, _≤_};
 ghost use lib.ListN.{length, take, drop};
 ghost use Rattle.forms.specs.Edition.{edition1};
-ghost use Rattle.proof.specs.Entries.{combineTag, reduceTag, scaleTag, strengthenTag, numberTag, strideTag, roundTag};
+ghost use Rattle.proof.specs.Entries.{combineTag, reduceTag, scaleTag, strengthenTag, numberTag, strideTag, roundTag, splitTag};
 ghost use Rattle.fields.specs.Numbers.{unsigned};
 ghost use Rattle.rows.specs.Entries.{Multiplies, Shaped, claimed, Entered};
 use forms::LINE_BYTES;
@@ -42,6 +42,9 @@ pub enum Entry {
         t: LineNumber,
         g: i64,
         by: u16,
+    },
+    Split {
+        t: LineNumber,
     },
     // The contents of a claim start there.
     Claim {
@@ -183,6 +186,17 @@ fn round_at(p: &[u8], start: usize, len: usize) -> Entry
     Entry::Refused { number: 6 }
 }
 
+fn split_at(p: &[u8], start: usize, len: usize) -> Entry
+    requires { ⌜ start + len ≤ length (now p) ⌝ }
+    ensures { λ r. ⌜ Shaped splitTag (now (p .entry)) start len r ⌝ }
+{
+    if len == LINE_BYTES {
+        let t = line_at(p, start);
+        return Entry::Split { t };
+    }
+    Entry::Refused { number: 6 }
+}
+
 fn claim_at(start: usize, len: usize, k: usize, made: bool) -> Entry
     requires { ⌜ k ≤ edition1 .constants ⌝ }
     ensures { λ r. ⌜ r ≡ claimed k start len made ⌝ }
@@ -221,6 +235,9 @@ pub fn entry_at(p: &[u8], tag: u8, start: usize, len: usize, k: usize, made: boo
     }
     if tag == 0x16 {
         return round_at(p, start, len);
+    }
+    if tag == 0x17 {
+        return split_at(p, start, len);
     }
     if tag == 0x20 {
         return claim_at(start, len, k, made);

@@ -6,7 +6,7 @@ ghost use lib.ListN.{length, take, drop};
 ghost use lib.IntN.{natAbs};
 ghost use Rattle.integers.specs.Magnitude.{Within};
 ghost use Rattle.forms.specs.Edition.{edition1, multiplierRange};
-ghost use Rattle.calculus.specs.Rules.{Derive, Combine, Reduce, Scale, Strengthen, CloseNumber, CloseStride, Round};
+ghost use Rattle.calculus.specs.Rules.{Derive, Combine, Reduce, Scale, Strengthen, CloseNumber, CloseStride, Round, Split};
 ghost use Rattle.rows.specs.Entries.{Multiplies};
 ghost use Rattle.rows.specs.Rows.{Ready};
 ghost use Rattle.rows.specs.Steps.{rowChecked, fieldChecked, Steps, Advances, Counts, Claims};
@@ -50,6 +50,10 @@ pub enum Stepped {
         t: LineNumber,
         g: i64,
         by: u16,
+    },
+    Splits {
+        tally: Tally,
+        t: LineNumber,
     },
 }
 
@@ -196,6 +200,18 @@ fn round_row(tally: Tally, t: LineNumber, g: i64, by: u16) -> Stepped
     Stepped::Refused { number: 18 }
 }
 
+fn split_row(tally: Tally, t: LineNumber) -> Stepped
+    ensures { λ r. ⌜ Counts (Split (t .0)) tally r ⌝ }
+{
+    let counted = row_counted(tally);
+    let made = counted.made;
+    let next = counted.tally;
+    if made {
+        return Stepped::Splits { t, tally: next };
+    }
+    Stepped::Refused { number: 18 }
+}
+
 // A claim of the line made last. 4, 14.
 fn claim_step(p: &[u8], start: usize, made: bool, lines: &[i32], tally: Tally, k: usize) -> Stepped
     requires { ⌜ (k ≤ edition1 .constants) × (start + 2 * edition1 .termWidth * (k + 1) ≤ length (now p)) × (tally .lines .0 ≤ edition1 .lines) × (tally .lines .0 * (2 * (k + 1)) ≤ length (now lines)) ⌝ }
@@ -251,6 +267,9 @@ pub fn step(
         }
         Entry::Round { t, g, by } => {
             return round_row(tally, t, g, by);
+        }
+        Entry::Split { t } => {
+            return split_row(tally, t);
         }
         Entry::Claim { start: from } => {
             return claim_step(p, from, made, lines, tally, k);

@@ -1,4 +1,4 @@
-// The tally of a check: the numbers of the next row and the next line, and the strengthens open.
+// The tally of a check: the numbers of the next row and the next line, and the branching steps open.
 use forms::BRANCHINGS;
 use forms::LINES;
 use forms::LineNumber;
@@ -127,7 +127,7 @@ pub fn open_counted(mut t: Tally) -> Tallied
     Tallied { made, tally: t }
 }
 
-// The step back when a branch is closed: the lines and open strengthens are again those of the tally given, the rows go on.
+// The step back when a branch is closed: the lines and open branching steps are again those of the tally given, the rows go on.
 pub fn returned(t: Tally, given: Tally) -> Tally
     ensures { λ r. ⌜ r ≡ returnedTo t given ⌝ }
 {

@@ -28,7 +28,7 @@ const REASONS: &str = "
 ## Where Rattle is slower
 
 - Checking a proof of some hundred rows. Working memory is cleared before it is used: 17,544 bytes for the lines as soon \
-as a branch may have 128 of them with 16 constants, and 26 for each byte of the proof for the formula, 65,536 at most. \
+as a branch may have 128 of them with 16 constants, and 39 for each byte of the proof for the formula, 65,536 at most. \
 Of a check of 128 rows that was a tenth on another processor. Claims make a proof long, so that it is given the most.
 - Checking any proof. Each branch is a call that hands on four lent buffers, where the Rust checker keeps a stack of its \
 own.

@@ -259,7 +259,9 @@ fn bundles(list: &mut Vec<Work>) {
         ("16 constants, 32 constraints", 16, 32),
     ] {
         let (kinds, numbers) = lists(k, count);
-        let file = dulgaverk::write_bundle(k, &kinds, &numbers).expect("a sound bundle");
+        let mut file = vec![0; dulgaverk::WRITTEN_BUNDLE];
+        let written = dulgaverk::write_bundle_into(k, &kinds, &numbers, &mut file);
+        file.truncate(written.expect("a sound bundle"));
         let read = (file.clone(), [0; 32], [0; 544]);
         let other = read.clone();
         list.push(Work {

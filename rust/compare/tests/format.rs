@@ -1,6 +1,6 @@
 //! docs/FORMAT.md says what the code does: its refusals and its worked stages.
 
-use dulgaverk::Refusal;
+use dulgaverk::{Kind, Refusal};
 use std::fs;
 use std::path::PathBuf;
 
@@ -54,12 +54,13 @@ fn listings() -> Vec<Vec<u8>> {
 #[test]
 fn the_worked_stages_are_right() {
     let listings = listings();
-    assert_eq!(listings.len(), 13);
-    for (stage, lengths) in
-        listings
-            .chunks_exact(4)
-            .zip([[15, 15, 78, 51], [19, 30, 51, 75], [30, 30, 86, 171]])
-    {
+    assert_eq!(listings.len(), 17);
+    for (stage, lengths) in listings.chunks_exact(4).zip([
+        [15, 15, 78, 51],
+        [19, 30, 51, 75],
+        [30, 30, 86, 171],
+        [15, 22, 38, 33],
+    ]) {
         let [a, b, proof, formula] = stage else {
             panic!("four listings a stage");
         };
@@ -74,9 +75,10 @@ fn what_is_said_of_the_first_stage() {
         panic!("four listings");
     };
     let read = dulgaverk::read_bundle(a).expect("A is read");
-    assert_eq!((read.kinds, read.numbers), (vec![0], vec![2, -1]));
+    let kinds = vec![Kind::Inequality];
+    assert_eq!((read.kinds, read.numbers), (kinds.clone(), vec![2, -1]));
     let read = dulgaverk::read_bundle(b).expect("B is read");
-    assert_eq!((read.kinds, read.numbers), (vec![0], vec![-2, 1]));
+    assert_eq!((read.kinds, read.numbers), (kinds, vec![-2, 1]));
     assert_eq!(dulgaverk::test_formula(formula, &[0]), Ok(true));
     assert_eq!(dulgaverk::test_formula(formula, &[1]), Ok(false));
 
@@ -100,9 +102,10 @@ fn what_is_said_of_the_second_stage() {
         panic!("four listings");
     };
     let read = dulgaverk::read_bundle(a).expect("A is read");
-    assert_eq!((read.kinds, read.numbers), (vec![1], vec![-2, 1, 0, 0]));
+    let kinds = vec![Kind::Equality];
+    assert_eq!((read.kinds, read.numbers), (kinds, vec![-2, 1, 0, 0]));
     let read = dulgaverk::read_bundle(b).expect("B is read");
-    assert_eq!(read.kinds, [0, 0]);
+    assert_eq!(read.kinds, [Kind::Inequality; 2]);
     assert_eq!(read.numbers, [0, 1, -2, -1, 0, -1, 2, 1]);
     assert_eq!(dulgaverk::test_formula(formula, &[1, 4, -7]), Ok(true));
     assert_eq!(dulgaverk::test_formula(formula, &[1, 3, 1]), Ok(false));
@@ -133,12 +136,37 @@ fn what_is_said_of_the_third_stage() {
     }
 }
 
+#[test]
+fn what_is_said_of_the_fourth_stage() {
+    let [a, b, proof, formula] = &listings()[12..16] else {
+        panic!("four listings");
+    };
+    let read = dulgaverk::read_bundle(a).expect("A is read");
+    let kinds = vec![Kind::Disequality];
+    assert_eq!((read.kinds, read.numbers), (kinds, vec![1, -3]));
+    for (value, holds) in [(2, true), (3, false), (4, true)] {
+        assert_eq!(dulgaverk::test_formula(formula, &[value]), Ok(holds));
+    }
+    // The bundles exchanged, and the lines with them.
+    let mut other = proof.clone();
+    (other[11], other[16], other[29]) = (2, 1, 0);
+    let exchanged = dulgaverk::check(b, a, &other).expect("a proof");
+    for (value, holds) in [(2, false), (3, true), (4, false)] {
+        assert_eq!(dulgaverk::test_formula(&exchanged, &[value]), Ok(holds));
+    }
+    // Line 0 closed by number in place of the split.
+    let mut closed = proof.clone();
+    closed[8] = 0x14;
+    let refusal = dulgaverk::check(a, b, &closed).expect_err("a disequality");
+    assert_eq!((refusal.number, refusal.place), (11, 8));
+}
+
 /// The proof over the first stage's bundles with a fault inside two branches, and what is said of other faults in it.
 #[test]
 fn the_fault_inside_two_branches() {
     let page = page();
     let listings = listings();
-    let (a, b, proof) = (&listings[0], &listings[1], &listings[12]);
+    let (a, b, proof) = (&listings[0], &listings[1], &listings[16]);
     assert_eq!(proof.len(), 96);
     let expected = Refusal {
         row: Some(6),

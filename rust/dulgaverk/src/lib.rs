@@ -6,8 +6,10 @@
 //! Nothing has to be tested before a call.
 
 mod boundary;
+mod kind;
 mod refusal;
 
+pub use kind::Kind;
 pub use refusal::{Refusal, MEANINGS};
 
 /// Most constants of a file.
@@ -30,11 +32,11 @@ pub struct Counts {
     pub constants: usize,
 }
 
-/// What a bundle holds: for each constraint its kind (0 "t ≤ 0", 1 "t = 0") and K+1 numbers, the coefficients and d.
+/// What a bundle holds: for each constraint its kind and K+1 numbers, the coefficients and d.
 #[derive(Clone, PartialEq, Eq, Debug)]
 pub struct Bundle {
     pub constants: usize,
-    pub kinds: Vec<u8>,
+    pub kinds: Vec<Kind>,
     pub numbers: Vec<i16>,
 }
 
@@ -62,18 +64,27 @@ fn accepted<T>(answer: boundary::Answer, value: T) -> Result<T, Refusal> {
 /// Reads a bundle.
 ///
 /// ```
-/// // x - 2 ≤ 0 and 3x = 0.
-/// let file = b"\x01\0\x01\x01\x02\0\x01\x01\x03\0\x04\0\x01\xFF\xFE\x04\0\x04\0\x03\0\0";
+/// use dulgaverk::Kind;
+/// // x - 2 ≤ 0 and 3x ≠ 0.
+/// let file = b"\x01\0\x01\x01\x02\0\x01\x01\x03\0\x04\0\x01\xFF\xFE\x05\0\x04\0\x03\0\0";
 /// let bundle = dulgaverk::read_bundle(file)?;
 /// assert_eq!(bundle.constants, 1);
-/// assert_eq!(bundle.kinds, [0, 1]);
+/// assert_eq!(bundle.kinds, [Kind::Inequality, Kind::Disequality]);
 /// assert_eq!(bundle.numbers, [1, -2, 3, 0]);
 /// # Ok::<(), dulgaverk::Refusal>(())
 /// ```
 pub fn read_bundle(file: &[u8]) -> Result<Bundle, Refusal> {
     let (mut kinds, mut numbers) = (vec![0; CONSTRAINTS], vec![0; NUMBERS]);
     let counts = read_bundle_into(file, &mut kinds, &mut numbers)?;
-    kinds.truncate(counts.constraints);
+    // The library gives no kind but these; if it did, that would be a refusal.
+    let kind = |(index, &number): (usize, &u8)| {
+        Kind::numbered(number).ok_or(Refusal::outside(24, 4, index))
+    };
+    let kinds = kinds[..counts.constraints]
+        .iter()
+        .enumerate()
+        .map(kind)
+        .collect::<Result<Vec<Kind>, Refusal>>()?;
     numbers.truncate(counts.constraints * (counts.constants + 1));
     Ok(Bundle {
         constants: counts.constants,
@@ -82,7 +93,7 @@ pub fn read_bundle(file: &[u8]) -> Result<Bundle, Refusal> {
     })
 }
 
-/// Reads a bundle into kinds (0 inequality, 1 equality) and K+1 numbers for each constraint.
+/// Reads a bundle into the numbers of kinds ([`Kind::number`]) and K+1 numbers for each constraint.
 ///
 /// ```
 /// let file = b"\x01\0\x01\x01\x02\0\x01\x01\x04\0\x04\0\x03\xFF\xFF";
@@ -119,23 +130,27 @@ pub fn read_bundle_into(
 /// Writes a bundle of K constants from kinds and K+1 numbers for each constraint.
 ///
 /// ```
-/// let file = dulgaverk::write_bundle(1, &[1], &[3, -1])?;
+/// use dulgaverk::Kind;
+/// let file = dulgaverk::write_bundle(1, &[Kind::Equality], &[3, -1])?;
 /// assert_eq!(file, b"\x01\0\x01\x01\x02\0\x01\x01\x04\0\x04\0\x03\xFF\xFF");
-/// let refusal = dulgaverk::write_bundle(1, &[2], &[3, -1]).unwrap_err();
-/// assert_eq!((refusal.number, refusal.file, refusal.place), (24, 4, 0));
+/// let refusal = dulgaverk::write_bundle(1, &[Kind::Equality], &[3]).unwrap_err();
+/// assert_eq!((refusal.number, refusal.file, refusal.place), (24, 4, 1));
 /// # Ok::<(), dulgaverk::Refusal>(())
 /// ```
-pub fn write_bundle(k: u8, kinds: &[u8], numbers: &[i16]) -> Result<Vec<u8>, Refusal> {
+pub fn write_bundle(k: u8, kinds: &[Kind], numbers: &[i16]) -> Result<Vec<u8>, Refusal> {
     let mut out = vec![0; WRITTEN_BUNDLE];
-    let written = write_bundle_into(k, kinds, numbers, &mut out)?;
+    let kinds: Vec<u8> = kinds.iter().map(|kind| kind.number()).collect();
+    let written = write_bundle_into(k, &kinds, numbers, &mut out)?;
     out.truncate(written);
     Ok(out)
 }
 
-/// Writes a bundle into an output, and gives the number of bytes written.
+/// Writes a bundle from the numbers of kinds ([`Kind::number`]) into an output, and gives the number of bytes written.
 ///
 /// ```
 /// let mut out = [7; 16];
+/// let refusal = dulgaverk::write_bundle_into(1, &[3], &[3, -1], &mut out).unwrap_err();
+/// assert_eq!((refusal.number, refusal.file, refusal.place), (24, 4, 0));
 /// assert_eq!(dulgaverk::write_bundle_into(1, &[1], &[3, -1], &mut out), Ok(15));
 /// assert_eq!(out, *b"\x01\0\x01\x01\x02\0\x01\x01\x04\0\x04\0\x03\xFF\xFF\x07");
 /// let refusal = dulgaverk::write_bundle_into(1, &[1], &[3, -1], &mut out[..14]).unwrap_err();

@@ -32,8 +32,8 @@ pub struct Refusal {
     /// The row of the proof at fault, from 0; claims and notes are no rows, and a claim belongs to the row before it.
     /// None for what check tests before the count of rows (18) or at the end of the proof, and where no proof is checked.
     pub row: Option<u16>,
-    /// The row number of the innermost step, a strengthen or a rounding, that the field at fault finds open; for 20, that is
-    /// open at the end. None on the root, and after its close.
+    /// The row number of the innermost step, a strengthen, rounding or split, that the field at fault finds open; for 20, that
+    /// is open at the end. None on the root, and after its close.
     pub step: Option<u16>,
     /// Which branch of that step it is, from 0 in file order, at most 16. None where there is no step.
     pub branch: Option<u16>,
@@ -128,6 +128,6 @@ pub const MEANINGS: [(u8, &str); 24] = [
     (23, "a register value outside -1,000,000 to 1,000,000"),
     (
         24,
-        "a kind that is not 0 or 1, or the wrong count of numbers",
+        "a kind that is not 0, 1 or 2, or the wrong count of numbers",
     ),
 ];

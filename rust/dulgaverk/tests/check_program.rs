@@ -18,7 +18,7 @@ use std::thread;
 use std::time::Duration;
 
 /// The worked stages as folders under examples/, and the first line that is printed of each.
-const STAGES: [(&str, &str); 19] = [
+const STAGES: [(&str, &str); 21] = [
     ("stage-1", "accepted 31"),
     ("stage-10", "accepted 79"),
     ("stage-10-constants", "refused 7 file 1 at 4"),
@@ -35,6 +35,8 @@ const STAGES: [(&str, &str); 19] = [
     ("stage-8-tag", "refused 3 file 1 at 8"),
     ("stage-9", "accepted 19"),
     ("stage-9-again", "refused 13 file 3 at 14"),
+    ("stage-interlock", "accepted 33"),
+    ("stage-interlock-exchanged", "accepted 33"),
     ("stage-rounding-1", "accepted 51"),
     ("stage-rounding-2", "accepted 83"),
     ("stage-rounding-3", "accepted 171"),

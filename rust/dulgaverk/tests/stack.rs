@@ -4,7 +4,7 @@ use stages::build::{and, close, comparison, constraint, file, fill, rounding, st
 use std::thread;
 
 /// What the header says of a check, of a test, and of the other calls.
-const CHECK: usize = 320 * 1024;
+const CHECK: usize = 152 * 1024;
 const TEST: usize = 64 * 1024;
 const OTHER: usize = 12 * 1024;
 
@@ -80,7 +80,7 @@ fn the_deepest_formula() {
 #[test]
 fn bundles() {
     let numbers: Vec<i16> = (0..32 * 17).collect();
-    let kinds = vec![1; 32];
+    let kinds = vec![dulgaverk::Kind::Disequality; 32];
     let same = on_stack(OTHER, move || {
         let bytes = dulgaverk::write_bundle(16, &kinds, &numbers)?;
         let read = dulgaverk::read_bundle(&bytes)?;

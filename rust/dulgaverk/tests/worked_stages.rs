@@ -9,7 +9,7 @@ fn refused<T>(number: u8, file: u8, place: usize) -> Result<T, Refusal> {
 /// Stage 10: K 16 is read, 17 gives 7; 32 constraints, the 33rd gives 8.
 #[test]
 fn stage_10() {
-    let kinds: Vec<u8> = (0..32).map(|i| i % 2).collect();
+    let kinds: Vec<u8> = (0..32).map(|i| i % 3).collect();
     let numbers: Vec<i16> = (0..32 * 17).map(|i| i * 120 - 32_640).collect();
     let mut file = vec![0; 8 + 32 * 37];
     assert_eq!(write_bundle_into(16, &kinds, &numbers, &mut file), Ok(1192));

@@ -106,7 +106,7 @@ pub fn meaning(number: u8) -> &'static str {
         OUTPUT_TOO_SHORT => "a lent output is too short",
         NOT_GIVEN => "no longer given; its number is not used again",
         VALUE_OUT_OF_RANGE => "a value outside -1,000,000 to 1,000,000",
-        WRONG_LIST => "a kind that is not 0 or 1, or a wrong count of numbers",
+        WRONG_LIST => "a kind that is not 0, 1 or 2, or a wrong count of numbers",
         _ => "no number of this edition",
     }
 }

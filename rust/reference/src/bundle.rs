@@ -2,11 +2,25 @@
 
 use crate::answer::*;
 use crate::field::{signed, Fields, Unfinished};
-use crate::header::{header_bytes, Header, Step};
+use crate::header::{header_bytes, Header, Step, TAG_EDITION};
 use crate::limits;
 
+/// What a constraint or a line says of its form t, by its number in lists.
+#[derive(Clone, Copy, PartialEq, Eq)]
+pub(crate) enum Kind {
+    /// t ≤ 0
+    Inequality = 0,
+    /// t = 0
+    Equality = 1,
+    /// t ≠ 0; no row makes such a line.
+    Disequality = 2,
+}
+
+/// The tag of a constraint of the first kind; the others follow.
 const TAG_INEQUALITY: u8 = 0x03;
-const TAG_EQUALITY: u8 = 0x04;
+const TAG_DISEQUALITY: u8 = 0x05;
+/// Kinds are below this.
+const KINDS: u8 = 3;
 
 /// What reading a bundle gives; count and K are 0 on refusal.
 #[derive(Clone, Copy, PartialEq, Eq, Debug)]
@@ -46,7 +60,7 @@ pub(crate) struct Bundle<'a> {
 
 /// One constraint of a bundle.
 pub(crate) struct Constraint<'a> {
-    pub equality: bool,
+    pub kind: Kind,
     /// K coefficients and d, two bytes each.
     numbers: &'a [u8],
 }
@@ -73,7 +87,7 @@ impl<'a> Bundle<'a> {
                 Err(Unfinished(place)) => return Err(Answer::refused(NOT_WHOLE, name, place)),
             };
             let refuse = |number| Err(Answer::refused(number, name, field.place));
-            if !matches!(field.tag, 0x01..=0x04) {
+            if !matches!(field.tag, TAG_EDITION..=TAG_DISEQUALITY) {
                 return refuse(UNKNOWN_TAG);
             }
             match header.take(&field, wanted) {
@@ -118,7 +132,11 @@ impl<'a> Bundle<'a> {
         (0..self.count)
             .filter_map(|index| self.field(index))
             .map(|field| Constraint {
-                equality: field[0] == TAG_EQUALITY,
+                kind: match field[0] - TAG_INEQUALITY {
+                    0 => Kind::Inequality,
+                    1 => Kind::Equality,
+                    _ => Kind::Disequality,
+                },
                 numbers: &field[3..],
             })
     }
@@ -132,8 +150,8 @@ pub(crate) fn length_within(file: &[u8], limit: usize, name: u8) -> Result<(), A
     Ok(())
 }
 
-/// Reads a bundle into kinds (0 inequality, 1 equality) and numbers (for each
-/// constraint its K coefficients, then d).
+/// Reads a bundle into kinds (0 inequality, 1 equality, 2 disequality) and
+/// numbers (for each constraint its K coefficients, then d).
 pub fn read_bundle(file: &[u8], kinds: &mut [u8], numbers: &mut [i16]) -> ReadResult {
     match read_into(file, kinds, numbers) {
         Ok(bundle) => ReadResult {
@@ -162,7 +180,7 @@ fn read_into<'a>(
     }
     let rows = kinds.iter_mut().zip(numbers.chunks_exact_mut(width));
     for (constraint, (kind, row)) in bundle.constraints().zip(rows) {
-        *kind = u8::from(constraint.equality);
+        *kind = constraint.kind as u8;
         for (slot, number) in row.iter_mut().zip(constraint.numbers()) {
             *slot = number;
         }
@@ -186,7 +204,7 @@ fn write_into(k: u8, kinds: &[u8], numbers: &[i16], out: &mut [u8]) -> Result<us
     if kinds.len() > limits::CONSTRAINTS {
         return Err((TOO_MANY_CONSTRAINTS, 0));
     }
-    if let Some(index) = kinds.iter().position(|&kind| kind > 1) {
+    if let Some(index) = kinds.iter().position(|&kind| kind >= KINDS) {
         return Err((WRONG_LIST, index));
     }
     if numbers.len() != kinds.len() * width {
@@ -204,11 +222,7 @@ fn write_into(k: u8, kinds: &[u8], numbers: &[i16], out: &mut [u8]) -> Result<us
     let fields = rest.chunks_exact_mut(field_bytes);
     for ((&kind, row), field) in kinds.iter().zip(numbers.chunks_exact(width)).zip(fields) {
         // The length is at most 34, so its high byte is 0.
-        field[0] = if kind == 1 {
-            TAG_EQUALITY
-        } else {
-            TAG_INEQUALITY
-        };
+        field[0] = TAG_INEQUALITY + kind;
         field[1] = 0;
         field[2] = (2 * width) as u8;
         for (slot, number) in field[3..].chunks_exact_mut(2).zip(row) {

@@ -1,7 +1,7 @@
 //! Checking a proof and writing its interpolant.
 
 use crate::answer::*;
-use crate::bundle::{length_within, Bundle, WriteResult};
+use crate::bundle::{length_within, Bundle, Kind, WriteResult};
 use crate::field::{signed, unsigned, Field, Fields, Unfinished};
 use crate::formula::{push_comparison, push_junction, push_stride, stride_bytes, TAG_AND, TAG_OR};
 use crate::header::{header_bytes, Header, Step, TAG_CONSTANTS, TAG_EDITION};
@@ -15,6 +15,7 @@ const STRENGTHEN: u8 = 0x13;
 const CLOSE_BY_NUMBER: u8 = 0x14;
 const CLOSE_BY_STRIDE: u8 = 0x15;
 const ROUND: u8 = 0x16;
+const SPLIT: u8 = 0x17;
 const CLAIM: u8 = 0x20;
 
 /// Checks a proof over the lines of A and B and writes the interpolant's file.
@@ -63,6 +64,7 @@ fn interpolant(a: &[u8], b: &[u8], proof: &[u8]) -> Result<Vec<u8>, Answer> {
             CLOSE_BY_NUMBER => 1,
             CLOSE_BY_STRIDE => 3,
             ROUND => 5,
+            SPLIT => 1,
             CLAIM => 2 * 4 * (a.k + 1),
             _ => return refuse(&table, UNKNOWN_TAG),
         };
@@ -113,6 +115,10 @@ enum Rule {
         k: u16,
         /// Where E0 starts in the formula, once it is written.
         stride: usize,
+    },
+    /// Of a disequality, by what is added to tA: 1 for A's, 0 for B's.
+    Split {
+        raise_partial: i64,
     },
 }
 
@@ -226,6 +232,7 @@ impl Table {
             REDUCE => self.reduce(contents[0], contents[1], signed(&contents[2..])),
             SCALE => self.scale(contents[0], unsigned(&contents[1..])),
             STRENGTHEN => self.strengthen(contents[0]),
+            SPLIT => self.split(contents[0]),
             CLOSE_BY_NUMBER => self.close_by_number(contents[0]),
             ROUND => self.round(
                 contents[0],
@@ -240,9 +247,8 @@ impl Table {
     fn combine(&mut self, s: u8, t: u8, alpha: u16, beta: u16) -> Result<(), u8> {
         let s = self.line(s)?;
         let t = self.line(t)?;
-        if self.lines.is_equality(s) || self.lines.is_equality(t) {
-            return Err(WRONG_KIND);
-        }
+        self.asks(s, Kind::Inequality)?;
+        self.asks(t, Kind::Inequality)?;
         if alpha == 0 || beta == 0 {
             return Err(WRONG_MULTIPLIER);
         }
@@ -253,9 +259,8 @@ impl Table {
     fn reduce(&mut self, s: u8, t: u8, alpha: i16) -> Result<(), u8> {
         let s = self.line(s)?;
         let t = self.line(t)?;
-        if !self.lines.is_equality(t) {
-            return Err(WRONG_KIND);
-        }
+        self.asks_no_disequality(s)?;
+        self.asks(t, Kind::Equality)?;
         if alpha == 0 {
             return Err(WRONG_MULTIPLIER);
         }
@@ -265,6 +270,7 @@ impl Table {
 
     fn scale(&mut self, t: u8, alpha: u16) -> Result<(), u8> {
         let t = self.line(t)?;
+        self.asks_no_disequality(t)?;
         if alpha == 0 {
             return Err(WRONG_MULTIPLIER);
         }
@@ -277,10 +283,26 @@ impl Table {
     /// t's, tA's and those of t+1, and they start from as many lines.
     fn strengthen(&mut self, t: u8) -> Result<(), u8> {
         let line = self.line(t)?;
-        if self.lines.is_equality(line) {
-            return Err(WRONG_KIND);
-        }
-        self.open_first(line, 1, Rule::Strengthen)
+        self.asks(line, Kind::Inequality)?;
+        self.room_for_a_step()?;
+        self.open_first(line, 1, 1, Rule::Strengthen, TAG_OR)
+    }
+
+    /// Opens the two branches and enters the first. A's formula is an "or", as
+    /// one of the two holds wherever A does, B's is an "and". The second
+    /// branch's numbers are tested here too.
+    fn split(&mut self, t: u8) -> Result<(), u8> {
+        let line = self.line(t)?;
+        self.asks(line, Kind::Disequality)?;
+        self.room_for_a_step()?;
+        let (raise_partial, junction) = if self.lines.is_own(line) {
+            (1, TAG_OR)
+        } else {
+            (0, TAG_AND)
+        };
+        in_range(self.lines.opposite_in_range(line, 1, raise_partial))?;
+        let rule = Rule::Split { raise_partial };
+        self.open_first(line, 1, raise_partial, rule, junction)
     }
 
     /// Opens the k + 1 branches and enters the first, which is that of j = k.
@@ -289,9 +311,7 @@ impl Table {
     #[inline(never)]
     fn round(&mut self, t: u8, g: u16, k: u16) -> Result<(), u8> {
         let line = self.line(t)?;
-        if self.lines.is_equality(line) {
-            return Err(WRONG_KIND);
-        }
+        self.asks(line, Kind::Inequality)?;
         if g < 2 || k == 0 || k > limits::ROUNDING {
             return Err(WRONG_MULTIPLIER);
         }
@@ -301,19 +321,26 @@ impl Table {
         if !self.divides_coefficients(g, line) || least < i32::from(k) {
             return Err(NOT_MET);
         }
+        self.room_for_a_step()?;
         let rule = Rule::Round { g, k, stride: 0 };
-        self.open_first(line, i64::from(k), rule)
+        self.open_first(line, i64::from(k), i64::from(k), rule, TAG_OR)
     }
 
-    /// Opens a step and enters its first branch, where t and tA are both
-    /// raised by the most that any of its branches asks for.
-    fn open_first(&mut self, line: usize, raise: i64, rule: Rule) -> Result<(), u8> {
-        if self.open.len() == limits::STEPS {
-            return Err(TOO_DEEP);
-        }
-        self.room_for_a_line()?;
+    /// Opens a step for which there is room and enters its first branch, with
+    /// t + `raise` ≤ 0 and tA + `raise_partial`.
+    fn open_first(
+        &mut self,
+        line: usize,
+        raise: i64,
+        raise_partial: i64,
+        rule: Rule,
+        junction: u8,
+    ) -> Result<(), u8> {
         let lines = self.lines.count();
-        in_range(self.lines.add_raised(line, false, raise, raise))?;
+        in_range(
+            self.lines
+                .add_raised(line, Kind::Inequality, raise, raise_partial),
+        )?;
         self.open.push(Open {
             // It is counted already.
             row: self.rows - 1,
@@ -322,13 +349,14 @@ impl Table {
             branch: 0,
             rule,
         });
-        push_junction(&mut self.formula, TAG_OR);
+        push_junction(&mut self.formula, junction);
         Ok(())
     }
 
     fn close_by_number(&mut self, t: u8) -> Result<(), u8> {
         let t = self.line(t)?;
-        let equality = self.lines.is_equality(t);
+        self.asks_no_disequality(t)?;
+        let equality = self.lines.kind(t) == Kind::Equality;
         let d = self.lines.constant(t);
         let impossible = if equality { d != 0 } else { d > 0 };
         if !impossible || self.lines.coefficients(t).iter().any(|&c| c != 0) {
@@ -340,9 +368,7 @@ impl Table {
 
     fn close_by_stride(&mut self, t: u8, g: u16) -> Result<(), u8> {
         let t = self.line(t)?;
-        if !self.lines.is_equality(t) {
-            return Err(WRONG_KIND);
-        }
+        self.asks(t, Kind::Equality)?;
         if g < 2 {
             return Err(WRONG_MULTIPLIER);
         }
@@ -368,17 +394,20 @@ impl Table {
             let added = match (&mut step.rule, step.branch) {
                 (Rule::Strengthen, 1) => {
                     push_junction(formula, TAG_AND);
-                    self.lines.add_raised(step.line, true, 0, 0)
+                    self.lines.add_raised(step.line, Kind::Equality, 0, 0)
                 }
-                (Rule::Strengthen, 2) => self.lines.add_raised(step.line, false, 1, 0),
+                (Rule::Strengthen, 2) => self.lines.add_raised(step.line, Kind::Inequality, 1, 0),
+                (Rule::Split { raise_partial }, 1) => {
+                    self.lines.add_opposite(step.line, 1, *raise_partial)
+                }
                 (Rule::Round { g, k, stride }, branch) if branch <= *k => {
                     let partial = self.lines.partial(step.line);
                     // Another pair follows each but the last.
                     let more = branch < *k;
                     let j = branch - 1;
                     push_pair(formula, *g, j, more, stride, partial, self.in_b);
-                    self.lines
-                        .add_raised(step.line, false, i64::from(*k), i64::from(j))
+                    let (k, j) = (i64::from(*k), i64::from(j));
+                    self.lines.add_raised(step.line, Kind::Inequality, k, j)
                 }
                 _ => {
                     self.open.pop();
@@ -398,6 +427,30 @@ impl Table {
         } else {
             Err(NO_SUCH_LINE)
         }
+    }
+
+    /// Refuses a line that is not of the kind.
+    fn asks(&self, line: usize, kind: Kind) -> Result<(), u8> {
+        if self.lines.kind(line) == kind {
+            Ok(())
+        } else {
+            Err(WRONG_KIND)
+        }
+    }
+
+    /// Refuses a line that may only be split.
+    fn asks_no_disequality(&self, line: usize) -> Result<(), u8> {
+        if self.lines.kind(line) == Kind::Disequality {
+            return Err(WRONG_KIND);
+        }
+        Ok(())
+    }
+
+    fn room_for_a_step(&self) -> Result<(), u8> {
+        if self.open.len() == limits::STEPS {
+            return Err(TOO_DEEP);
+        }
+        self.room_for_a_line()
     }
 
     fn room_for_a_line(&self) -> Result<(), u8> {

@@ -38,7 +38,7 @@ pub mod limits {
     pub const ROWS: usize = 1_024;
     /// Most lines on a branch.
     pub const LINES: usize = 128;
-    /// Most branching steps open at once.
+    /// Most strengthens, roundings and splits open at once.
     pub const STEPS: usize = 32;
     /// The most that a rounding may round by.
     pub const ROUNDING: u16 = 16;

@@ -1,6 +1,6 @@
 //! The lines of the current branch, in one flat list.
 
-use crate::bundle::Bundle;
+use crate::bundle::{Bundle, Kind};
 use crate::field::signed_long;
 use crate::limits;
 
@@ -11,7 +11,9 @@ pub(crate) struct OutOfRange;
 /// w = K+1: t's coefficients and d, then tA's.
 pub(crate) struct Lines {
     width: usize,
-    equality: Vec<bool>,
+    /// How many are A's constraints: they stand first.
+    own: usize,
+    kinds: Vec<Kind>,
     numbers: Vec<i32>,
 }
 
@@ -23,16 +25,17 @@ impl Lines {
         let count = (a.count() + b.count() + more).min(limits::LINES);
         let mut lines = Lines {
             width,
-            equality: Vec::with_capacity(count),
+            own: a.count(),
+            kinds: Vec::with_capacity(count),
             numbers: Vec::with_capacity(count * 2 * width),
         };
         for constraint in a.constraints() {
-            lines.equality.push(constraint.equality);
+            lines.kinds.push(constraint.kind);
             lines.numbers.extend(constraint.numbers().map(i32::from));
             lines.numbers.extend(constraint.numbers().map(i32::from));
         }
         for constraint in b.constraints() {
-            lines.equality.push(constraint.equality);
+            lines.kinds.push(constraint.kind);
             lines.numbers.extend(constraint.numbers().map(i32::from));
             let filled = lines.numbers.len();
             lines.numbers.resize(filled + width, 0);
@@ -41,7 +44,7 @@ impl Lines {
     }
 
     pub fn count(&self) -> usize {
-        self.equality.len()
+        self.kinds.len()
     }
 
     pub fn is_full(&self) -> bool {
@@ -52,9 +55,15 @@ impl Lines {
         line < self.count()
     }
 
-    /// Whether a line that is there is an equality.
-    pub fn is_equality(&self, line: usize) -> bool {
-        self.equality[line]
+    /// What a line that is there says.
+    pub fn kind(&self, line: usize) -> Kind {
+        self.kinds[line]
+    }
+
+    /// Whether a line is a constraint of A. (tA does not tell: that of "0 ≠ 0"
+    /// is 0 in either bundle.)
+    pub fn is_own(&self, line: usize) -> bool {
+        line < self.own
     }
 
     /// t and tA in one, t first.
@@ -94,7 +103,7 @@ impl Lines {
             all_within &= within(number);
             *slot = number as i32;
         }
-        self.equality.push(self.equality[s]);
+        self.kinds.push(self.kinds[s]);
         if all_within {
             Ok(())
         } else {
@@ -112,7 +121,7 @@ impl Lines {
             all_within &= within(number);
             *slot = number as i32;
         }
-        self.equality.push(self.equality[t]);
+        self.kinds.push(self.kinds[t]);
         if all_within {
             Ok(())
         } else {
@@ -134,7 +143,7 @@ impl Lines {
     pub fn add_raised(
         &mut self,
         t: usize,
-        equality: bool,
+        kind: Kind,
         raise: i64,
         raise_partial: i64,
     ) -> Result<(), OutOfRange> {
@@ -149,7 +158,43 @@ impl Lines {
         self.numbers.extend_from_within(start..start + size);
         self.numbers[new + self.width - 1] = constant as i32;
         self.numbers[new + size - 1] = partial as i32;
-        self.equality.push(equality);
+        self.kinds.push(kind);
+        Ok(())
+    }
+
+    /// Whether -t + `raise` and -tA + `raise_partial` are in range.
+    pub fn opposite_in_range(
+        &self,
+        t: usize,
+        raise: i64,
+        raise_partial: i64,
+    ) -> Result<(), OutOfRange> {
+        let constant = raise - i64::from(self.constant(t));
+        let partial = raise_partial - i64::from(self.partial(t)[self.width - 1]);
+        if within(constant) && within(partial) {
+            Ok(())
+        } else {
+            Err(OutOfRange)
+        }
+    }
+
+    /// Adds -t + `raise` ≤ 0 with -tA + `raise_partial`. The range has a minus
+    /// for every plus, so only the two raised numbers can leave it.
+    pub fn add_opposite(
+        &mut self,
+        t: usize,
+        raise: i64,
+        raise_partial: i64,
+    ) -> Result<(), OutOfRange> {
+        self.opposite_in_range(t, raise, raise_partial)?;
+        let (old, new) = self.room();
+        let size = new.len();
+        for (slot, &number) in new.iter_mut().zip(&old[t * size..][..size]) {
+            *slot = -number;
+        }
+        new[size / 2 - 1] += raise as i32;
+        new[size - 1] += raise_partial as i32;
+        self.kinds.push(Kind::Inequality);
         Ok(())
     }
 
@@ -165,7 +210,7 @@ impl Lines {
 
     /// Drops the lines from `count` on, those that a closed branch made.
     pub fn fall_back_to(&mut self, count: usize) {
-        self.equality.truncate(count);
+        self.kinds.truncate(count);
         self.numbers.truncate(count * 2 * self.width);
     }
 }

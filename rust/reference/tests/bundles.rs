@@ -13,14 +13,16 @@ fn reads_kinds_and_numbers_in_file_order() {
             note(),
             note(),
             eq(&[-32_768, 32_767, 0]),
+            ne(&[7, 0, -7]),
             le(&[0, 0, -1]),
             note(),
         ],
     );
     let result = read(&bytes);
-    assert_eq!((result.answer, result.count, result.k), (ACCEPTED, 3, 2));
-    assert_eq!(result.kinds, [0, 1, 0]);
-    assert_eq!(result.numbers, [1, -2, 3, -32_768, 32_767, 0, 0, 0, -1]);
+    assert_eq!((result.answer, result.count, result.k), (ACCEPTED, 4, 2));
+    assert_eq!(result.kinds, [0, 1, 2, 0]);
+    let numbers = [1, -2, 3, -32_768, 32_767, 0, 7, 0, -7, 0, 0, -1];
+    assert_eq!(result.numbers, numbers);
 }
 
 #[test]
@@ -134,7 +136,7 @@ fn refusal_3_for_every_tag_that_a_bundle_lacks() {
             let answer = read(&bytes).answer;
             match tag {
                 0x80.. => assert_eq!(answer, ACCEPTED),
-                0x01..=0x04 => assert_ne!(answer.number, 3),
+                0x01..=0x05 => assert_ne!(answer.number, 3),
                 _ => assert_eq!(answer, refused(3, 1, place)),
             }
         }
@@ -184,7 +186,7 @@ fn refusal_6_wrong_lengths() {
     for k in 1..=16 {
         let right = 2 * (k as usize + 1);
         for length in 0..40 {
-            for tag in [0x03, 0x04] {
+            for tag in [0x03, 0x04, 0x05] {
                 let bytes = file(k, &[field(tag, &vec![0; length])]);
                 let expected = if length == right {
                     ACCEPTED
@@ -227,12 +229,16 @@ fn refusal_7_every_k() {
 
 #[test]
 fn refusal_8_after_6() {
-    let full = file(1, &vec![eq(&[1, 2]); 32]);
+    let mut constraints = vec![eq(&[1, 2]); 16];
+    constraints.extend(vec![ne(&[1, 2]); 16]);
+    let full = file(1, &constraints);
     assert_eq!(read(&full).answer, ACCEPTED);
-    let over = [full.clone(), eq(&[1, 2])].concat();
-    assert_eq!(read(&over).answer, refused(8, 1, full.len()));
-    let wrong = [full.clone(), eq(&[1])].concat();
-    assert_eq!(read(&wrong).answer, refused(6, 1, full.len()));
+    for kind in [le, eq, ne] {
+        let over = [full.clone(), kind(&[1, 2])].concat();
+        assert_eq!(read(&over).answer, refused(8, 1, full.len()));
+        let wrong = [full.clone(), kind(&[1])].concat();
+        assert_eq!(read(&wrong).answer, refused(6, 1, full.len()));
+    }
     let header = [full.clone(), constants(1)].concat();
     assert_eq!(read(&header).answer, refused(4, 1, full.len()));
     let noted = [full, note(), note()].concat();
@@ -241,20 +247,19 @@ fn refusal_8_after_6() {
 
 #[test]
 fn the_first_field_at_fault_is_given() {
-    let bytes = file(1, &[field(0x05, &[]), constants(1)]);
+    let bytes = file(1, &[field(0x06, &[]), constants(1)]);
     assert_eq!(read(&bytes).answer, refused(3, 1, 8));
-    let bytes = file(1, &[constants(1), field(0x05, &[])]);
+    let bytes = file(1, &[constants(1), field(0x06, &[])]);
     assert_eq!(read(&bytes).answer, refused(4, 1, 8));
 }
 
 #[test]
 fn writes_the_bytes_that_reading_takes() {
-    let (answer, bytes) = write_into(2, &[0, 1], &[1, -2, 3, -32_768, 32_767, 0], 100);
+    let numbers = [1, -2, 3, -32_768, 32_767, 0, 4, 0, -4];
+    let (answer, bytes) = write_into(2, &[0, 1, 2], &numbers, 100);
     assert_eq!(answer, ACCEPTED);
-    assert_eq!(
-        bytes,
-        file(2, &[le(&[1, -2, 3]), eq(&[-32_768, 32_767, 0])])
-    );
+    let constraints = [le(&numbers[..3]), eq(&numbers[3..6]), ne(&numbers[6..])];
+    assert_eq!(bytes, file(2, &constraints));
 }
 
 #[test]
@@ -269,7 +274,7 @@ fn writes_a_bundle_without_constraints() {
 #[test]
 fn writing_refuses_7_first() {
     for k in (0..=0xFF).filter(|k| !(1..=16).contains(k)) {
-        assert_eq!(write_into(k, &[2; 33], &[], 0).0, refused(7, 4, 0));
+        assert_eq!(write_into(k, &[3; 33], &[], 0).0, refused(7, 4, 0));
     }
 }
 
@@ -277,20 +282,22 @@ fn writing_refuses_7_first() {
 fn writing_refuses_8_before_24() {
     let numbers = vec![0; 32 * 17];
     assert_eq!(write_into(16, &[0; 32], &numbers, 1_192).0, ACCEPTED);
-    assert_eq!(write_into(16, &[2; 33], &numbers, 0).0, refused(8, 4, 0));
+    assert_eq!(write_into(16, &[2; 32], &numbers, 1_192).0, ACCEPTED);
+    assert_eq!(write_into(16, &[3; 33], &numbers, 0).0, refused(8, 4, 0));
 }
 
 #[test]
 fn writing_refuses_24_for_a_kind_then_for_the_numbers() {
     for index in 0..5 {
-        for kind in 2..=0xFF {
-            let mut kinds = [1, 0, 1, 0, 1];
+        for kind in 3..=0xFF {
+            let mut kinds = [1, 0, 2, 0, 1];
             kinds[index] = kind;
             let answer = write_into(1, &kinds, &[0; 9], 0).0;
             assert_eq!(answer, refused(24, 4, index));
         }
     }
-    assert_eq!(write_into(1, &[0, 2, 3], &[], 0).0, refused(24, 4, 1));
+    assert_eq!(write_into(1, &[2, 3, 4], &[], 0).0, refused(24, 4, 1));
+    assert_eq!(write_into(1, &[2, 2], &[0; 4], 22).0, ACCEPTED);
     for length in (0..20).filter(|&length| length != 9) {
         let answer = write_into(2, &[0, 1, 1], &vec![0; length], 0).0;
         assert_eq!(answer, refused(24, 4, 3));

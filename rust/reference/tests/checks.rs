@@ -164,7 +164,7 @@ fn refusal_3_for_every_tag_that_a_proof_lacks() {
             let result = over(&bytes);
             match tag {
                 0x80.. => assert_eq!(result, ACCEPTED),
-                0x01 | 0x02 | 0x10..=0x16 | 0x20 => {
+                0x01 | 0x02 | 0x10..=0x17 | 0x20 => {
                     let number = match (place, tag) {
                         (21, _) => 19,
                         // 0x01 in its own place, but too long.
@@ -198,6 +198,7 @@ fn refusal_19_for_every_known_field_after_the_root_is_closed() {
         close(4),
         stride(1, 2),
         round(0, 2, 1),
+        split(0),
         claim(&[0, 1], &[1, 0]),
     ];
     for later in right {
@@ -214,10 +215,10 @@ fn refusal_19_for_every_known_field_after_the_root_is_closed() {
 
 #[test]
 fn refusal_4_rows_before_the_header_and_headers_after_it() {
-    for tag in [0x02, 0x10, 0x11, 0x12, 0x13, 0x14, 0x15, 0x16, 0x20] {
+    for tag in [0x02, 0x10, 0x11, 0x12, 0x13, 0x14, 0x15, 0x16, 0x17, 0x20] {
         assert_eq!(over(&field(tag, &[])), refused(4, 3, 0));
     }
-    for tag in [0x01, 0x10, 0x11, 0x12, 0x13, 0x14, 0x15, 0x16, 0x20] {
+    for tag in [0x01, 0x10, 0x11, 0x12, 0x13, 0x14, 0x15, 0x16, 0x17, 0x20] {
         let bytes = [edition(1), field(tag, &[])].concat();
         assert_eq!(over(&bytes), refused(4, 3, 4));
     }
@@ -290,6 +291,7 @@ fn refusal_6_wrong_lengths() {
         (0x14, 1),
         (0x15, 3),
         (0x16, 5),
+        (0x17, 1),
     ] {
         for length in 0..20 {
             // Line 255 is not there, so a right length gives 10.

@@ -163,7 +163,7 @@ fn what_is_tested_before_the_count_of_rows_has_no_row() {
         last_inside(2, &path, &[scale(0, 1), vec![0x20, 0, 16, 0]], tree);
         last_inside(2, &path, &[vec![0x80, 0]], tree);
         last_inside(2, &path, &[vec![0xFF, 0, 2, 7]], tree);
-        for tag in [0x00, 0x03, 0x17, 0x31, 0x7F] {
+        for tag in [0x00, 0x03, 0x05, 0x18, 0x31, 0x7F] {
             last_inside(3, &path, &[field(tag, &[0])], tree);
         }
         // A header field; a claim that is misplaced, of the right length or not.
@@ -174,7 +174,7 @@ fn what_is_tested_before_the_count_of_rows_has_no_row() {
         let twice = [scale(0, 1), claimed.clone(), claimed.clone()];
         last_inside(4, &path, &twice, tree);
         // The length of a row and of a claim.
-        for tag in 0x10..=0x16 {
+        for tag in 0x10..=0x17 {
             last_inside(6, &path, &[field(tag, &[])], tree);
         }
         let short = field(0x20, &claimed[3..18]);

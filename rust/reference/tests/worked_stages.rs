@@ -228,5 +228,5 @@ fn the_examples_expect_these_answers() {
         assert_eq!(printed, expected, "{}", stage.display());
         stages += 1;
     }
-    assert_eq!(stages, 19);
+    assert_eq!(stages, 21);
 }

@@ -1,5 +1,5 @@
 //! The paper's five plausible but wrong readings, and those of reduced stride
-//! formulas and of roundings; each test fails for a checker with that fault. (But for one: since
+//! formulas, of roundings and of splits; each test fails for a checker with that fault. (But for one: since
 //! stride formulas are reduced, constants that only A has are gone from them
 //! whether a checker drops them or not.)
 
@@ -153,7 +153,7 @@ fn an_unknown_tag_below_0x80_is_not_passed_over() {
     let formula = formula(&a, &b, &proof);
     let unknown = |tag| field(tag, &[]);
     for tag in [
-        0x00, 0x05, 0x06, 0x0F, 0x17, 0x18, 0x1F, 0x21, 0x30, 0x36, 0x7F,
+        0x00, 0x06, 0x07, 0x0F, 0x18, 0x19, 0x1F, 0x21, 0x30, 0x36, 0x7F,
     ] {
         let with = |bytes: &[u8]| [bytes, &unknown(tag)].concat();
         assert_eq!(answer(&with(&a), &b, &proof), refused(3, 1, 15));
@@ -284,5 +284,153 @@ fn a_rounding_goes_up_to_16_and_to_the_multiple_itself() {
         let rows = [vec![round(0, 20, k)], vec![close(1); usize::from(k) + 1]].concat();
         let expected = if k < 6 { ACCEPTED } else { refused(15, 3, 8) };
         assert_eq!(answer(&a, &b, &file(1, &rows)), expected);
+    }
+}
+
+/// y is not 3 in one bundle, and 3 in the other: A, B and the proof that splits the first and states each new line, given
+/// the two partial interpolants. The lines are 0 to 2, those of the disequality's bundle first or last.
+fn interlock(own: bool, first: [i32; 2], second: [i32; 2]) -> [Vec<u8>; 3] {
+    let distinct = file(1, &[ne(&[1, -3])]);
+    let equal = file(1, &[le(&[1, -3]), le(&[-1, 3])]);
+    let (line, most, least) = if own { (0, 1, 2) } else { (2, 0, 1) };
+    let proof = file(
+        1,
+        &[
+            split(line),
+            scale(3, 1),
+            claim(&[1, -2], &first),
+            combine(3, least, 1, 1),
+            close(5),
+            scale(3, 1),
+            claim(&[-1, 4], &second),
+            combine(3, most, 1, 1),
+            close(5),
+        ],
+    );
+    if own {
+        [distinct, equal, proof]
+    } else {
+        [equal, distinct, proof]
+    }
+}
+
+fn interlocked(own: bool, first: [i32; 2], second: [i32; 2]) -> Result<Vec<u8>, u8> {
+    let [a, b, proof] = interlock(own, first, second);
+    let (answer, bytes) = check_all(&a, &b, &proof);
+    if answer == ACCEPTED {
+        Ok(bytes)
+    } else {
+        Err(answer.number)
+    }
+}
+
+#[test]
+fn a_split_is_an_or_for_a_and_an_and_for_b() {
+    let own = interlocked(true, [1, -2], [-1, 4]).unwrap();
+    let parts = [at_most(&[1, -2]), at_most(&[-1, 4])];
+    assert_eq!(own, file(1, &[or(), parts.concat()]));
+    let theirs = interlocked(false, [0, 0], [0, 0]).unwrap();
+    let parts = [at_most(&[-1, 3]), at_most(&[1, -3])];
+    assert_eq!(theirs, file(1, &[and(), parts.concat()]));
+    // True wherever A holds, false wherever B does.
+    for y in -10..=10 {
+        assert_eq!(test(&own, &[y]), Ok(y != 3));
+        assert_eq!(test(&theirs, &[y]), Ok(y == 3));
+    }
+}
+
+#[test]
+fn the_branches_of_a_split_have_their_own_partial_interpolants() {
+    // A's are the forms themselves: not 0, not tA as it stands, not exchanged.
+    for wrong in [
+        ([0, 0], [0, 0]),
+        ([1, -3], [-1, 3]),
+        ([1, -3], [-1, 4]),
+        ([1, -2], [-1, 3]),
+        ([1, -2], [1, -2]),
+        ([-1, 4], [1, -2]),
+    ] {
+        assert_eq!(interlocked(true, wrong.0, wrong.1), Err(14));
+    }
+    // B's are 0, and not raised.
+    for wrong in [
+        ([0, 1], [0, 1]),
+        ([0, 1], [0, 0]),
+        ([0, 0], [0, 1]),
+        ([1, -2], [-1, 4]),
+    ] {
+        assert_eq!(interlocked(false, wrong.0, wrong.1), Err(14));
+    }
+}
+
+#[test]
+fn whose_a_disequality_is_goes_by_its_place() {
+    // 0 ≠ 0: t and tA are 0 in both bundles.
+    let (with, without) = (file(1, &[ne(&[0, 0])]), file(1, &[]));
+    let proof = file(1, &[split(0), close(1), close(1)]);
+    let part = |d: i32| at_most(&[0, d]);
+    let expected = file(1, &[or(), part(1), part(1)]);
+    assert_eq!(formula(&with, &without, &proof), expected);
+    let expected = file(1, &[and(), part(0), part(0)]);
+    assert_eq!(formula(&without, &with, &proof), expected);
+    // In both, the last of A's and the first of B's.
+    let a = file(1, &[le(&[1, 0]), ne(&[0, 0])]);
+    let b = file(1, &[ne(&[0, 0]), le(&[-1, 0])]);
+    for (line, junction, d) in [(1, or(), 1), (2, and(), 0)] {
+        let proof = file(1, &[split(line), close(4), close(4)]);
+        let expected = file(1, &[junction, part(d), part(d)]);
+        assert_eq!(formula(&a, &b, &proof), expected);
+    }
+}
+
+#[test]
+fn a_disequality_counts_as_occurring() {
+    // Over x and z; x stands in B's disequality only. In the second branch 2z + 1 ≤ 0 with x + 2z is rounded by 2.
+    let a = file(2, &[le(&[1, 2, 0])]);
+    let b = file(2, &[ne(&[1, 0, 0]), eq(&[0, 0, 1])]);
+    let rows = [
+        split(1),
+        close(2),
+        combine(0, 3, 1, 1),
+        claim(&[0, 2, 1], &[1, 2, 0]),
+        round(4, 2, 1),
+        close(2),
+        close(2),
+    ];
+    let leaf = || equals(&[0, 0, 0]);
+    let expected = [
+        and(),
+        leaf(),
+        or(),
+        leaf(),
+        and(),
+        divides(2, &[1, 0, 0]),
+        leaf(),
+    ];
+    assert_eq!(formula(&a, &b, &file(2, &rows)), file(2, &expected));
+}
+
+#[test]
+fn a_disequality_may_only_be_split() {
+    // 1 ≠ 0 is true, so no close may take it; 0 ≠ 0 is false, and may be split only.
+    for d in [1, 0] {
+        let a = file(1, &[ne(&[0, d]), eq(&[1, 0]), le(&[1, 0])]);
+        let b = file(1, &[]);
+        for row in [
+            close(0),
+            stride(0, 2),
+            scale(0, 1),
+            reduce(0, 1, 1),
+            reduce(1, 0, 1),
+            reduce(2, 0, 1),
+            combine(0, 2, 1, 1),
+            combine(2, 0, 1, 1),
+            strengthen(0),
+            round(0, 2, 1),
+        ] {
+            assert_eq!(answer(&a, &b, &file(1, &[row])), refused(11, 3, 8));
+        }
+        let proof = file(1, &[split(0)]);
+        assert_eq!(answer(&a, &b, &proof), refused(20, 3, 12));
     }
 }

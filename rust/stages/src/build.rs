@@ -46,9 +46,19 @@ fn longs(numbers: &[i32]) -> Vec<u8> {
     numbers.iter().flat_map(|n| n.to_be_bytes()).collect()
 }
 
-/// A constraint of a bundle.
+/// A constraint of a bundle, "t = 0" or "t ≤ 0".
 pub fn constraint(equality: bool, numbers: &[i16]) -> Vec<u8> {
-    field(if equality { 0x04 } else { 0x03 }, &shorts(numbers))
+    constraint_of(u8::from(equality), numbers)
+}
+
+/// The constraint "t ≠ 0" of a bundle.
+pub fn disequality(numbers: &[i16]) -> Vec<u8> {
+    constraint_of(2, numbers)
+}
+
+/// A constraint of a kind: 0 "t ≤ 0", 1 "t = 0", 2 "t ≠ 0".
+pub fn constraint_of(kind: u8, numbers: &[i16]) -> Vec<u8> {
+    field(0x03 + kind, &shorts(numbers))
 }
 
 pub fn combine(s: u8, t: u8, alpha: u16, beta: u16) -> Vec<u8> {
@@ -83,6 +93,11 @@ pub fn stride(t: u8, g: u16) -> Vec<u8> {
 pub fn rounding(t: u8, g: u16, k: u16) -> Vec<u8> {
     let (g, k) = (g.to_be_bytes(), k.to_be_bytes());
     field(0x16, &[t, g[0], g[1], k[0], k[1]])
+}
+
+/// A split of line t, a disequality.
+pub fn split(t: u8) -> Vec<u8> {
+    field(0x17, &[t])
 }
 
 /// A claim of t and tA.

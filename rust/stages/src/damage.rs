@@ -5,9 +5,9 @@ use crate::rng::Rng;
 use std::ops::Range;
 
 /// Every tag below 0x80 that some kind of file has, and some that none has.
-const TAGS: [u8; 25] = [
-    0x01, 0x02, 0x03, 0x04, 0x10, 0x11, 0x12, 0x13, 0x14, 0x15, 0x16, 0x20, 0x31, 0x32, 0x33, 0x34,
-    0x35, 0x00, 0x05, 0x06, 0x0F, 0x17, 0x21, 0x36, 0x7F,
+const TAGS: [u8; 26] = [
+    0x01, 0x02, 0x03, 0x04, 0x05, 0x10, 0x11, 0x12, 0x13, 0x14, 0x15, 0x16, 0x17, 0x20, 0x31, 0x32,
+    0x33, 0x34, 0x35, 0x00, 0x06, 0x0F, 0x18, 0x21, 0x36, 0x7F,
 ];
 
 /// Where the whole fields at the start of a file stand.
@@ -33,8 +33,8 @@ pub fn random_field(rng: &mut Rng, k: usize) -> Vec<u8> {
         *rng.pick(&TAGS)
     };
     let right = match tag {
-        0x01 | 0x02 | 0x13 | 0x14 => 1,
-        0x03 | 0x04 => 2 * (k + 1),
+        0x01 | 0x02 | 0x13 | 0x14 | 0x17 => 1,
+        0x03..=0x05 => 2 * (k + 1),
         0x10 => 6,
         0x11 => 4,
         0x12 | 0x15 => 3,
@@ -55,7 +55,7 @@ pub fn random_field(rng: &mut Rng, k: usize) -> Vec<u8> {
         // Mostly the edition, a K, line numbers that are there.
         0x01 if rng.chance(3, 4) => contents.fill(1),
         0x02 if rng.chance(3, 4) => contents.fill(k as u8),
-        0x10..=0x16 if rng.chance(7, 8) => {
+        0x10..=0x17 if rng.chance(7, 8) => {
             for (place, byte) in contents.iter_mut().enumerate() {
                 let number = rng.below(5) as u8;
                 *byte = match (tag, place) {
@@ -64,7 +64,7 @@ pub fn random_field(rng: &mut Rng, k: usize) -> Vec<u8> {
                 };
             }
         }
-        0x03 | 0x04 | 0x33..=0x35 if rng.chance(3, 4) => {
+        0x03..=0x05 | 0x33..=0x35 if rng.chance(3, 4) => {
             let width = if tag < 0x10 { 2 } else { 4 };
             for number in contents.chunks_mut(width) {
                 let small = rng.within(-4, 4) as i32;

@@ -4,13 +4,14 @@
 use crate::build::*;
 use crate::directed::{check, Aimed};
 use crate::rng::Rng;
-use crate::rounding::random_by;
+use crate::rounding::{random_by, MOST};
 
 /// The refusals that a field or the end can meet inside any branch.
 const SORTS: [u8; 13] = [2, 3, 4, 6, 10, 11, 12, 13, 14, 15, 16, 17, 20];
 
 /// A table as far as it is made. Line 0 is "form ≤ 0", with a constant, and may
-/// be rounded by the stride and any amount; line 1 closes any branch.
+/// be rounded by the stride and any amount; line 1 closes any branch; line 2 is
+/// "form ≠ 0" and may be split.
 struct Maker {
     k: usize,
     form: Vec<i16>,
@@ -35,7 +36,7 @@ pub fn deep(rng: &mut Rng, constants: usize) -> Aimed {
         stride: g,
         own: rng.chance(1, 2),
         equality: rng.chance(1, 2),
-        lines: 2,
+        lines: 3,
         fields: Vec::new(),
     };
     let number = *rng.pick(&SORTS);
@@ -60,6 +61,25 @@ pub fn deep(rng: &mut Rng, constants: usize) -> Aimed {
     let (a, b) = maker.bundles(rng);
     let proof = noted(rng, k as u8, &maker.fields, number == 20);
     (number, check(a, b, proof))
+}
+
+/// An older row on a line that is a disequality, others right or wrong in what
+/// is tested later. Line 0 is an inequality, and line 1 is there.
+pub fn misused(rng: &mut Rng, line: u8) -> Vec<u8> {
+    let times = rng.below(3) as u16;
+    match rng.below(11) {
+        0 => combine(0, line, times, 1),
+        1 => combine(line, 0, 1, times),
+        2 => combine(line, line, 1, 1),
+        3 => reduce(line, 1, times as i16),
+        4 => reduce(0, line, times as i16),
+        5 => reduce(line, line, 1),
+        6 => scale(line, times),
+        7 => strengthen(line),
+        8 => rounding(line, rng.below(20) as u16, rng.below(20) as u16),
+        9 => close(line),
+        _ => stride(line, rng.below(20) as u16),
+    }
 }
 
 /// A stride, and a form over K constants, the first of them in it, that may be
@@ -95,18 +115,18 @@ fn noted(rng: &mut Rng, k: u8, fields: &[Vec<u8>], at_the_end: bool) -> Vec<u8> 
 }
 
 impl Maker {
-    /// The two lines in A and B by chance, but line 0 first.
+    /// The three lines in A and B by chance, but in order.
     fn bundles(&self, rng: &mut Rng) -> (Vec<u8>, Vec<u8>) {
         let mut one = vec![0; self.k + 1];
         one[self.k] = 1;
-        let first = constraint(false, &self.form);
-        let second = constraint(self.equality, &one);
+        let lines = [
+            constraint(false, &self.form),
+            constraint(self.equality, &one),
+            disequality(&self.form),
+        ];
         let k = self.k as u8;
-        match (self.own, rng.chance(1, 2)) {
-            (true, true) => (file(k, &[first, second]), file(k, &[])),
-            (true, false) => (file(k, &[first]), file(k, &[second])),
-            (false, _) => (file(k, &[]), file(k, &[first, second])),
-        }
+        let of_a = if self.own { 1 + rng.below(3) } else { 0 };
+        (file(k, &lines[..of_a]), file(k, &lines[of_a..]))
     }
 
     /// A row that closes any branch.
@@ -153,8 +173,7 @@ impl Maker {
     /// closed one after the other.
     fn whole_branch(&mut self, rng: &mut Rng, depth: usize) {
         if depth > 0 && rng.chance(1, 4) {
-            let by = rng.below(4);
-            for _ in 0..self.step(by) {
+            for _ in 0..self.step(rng, 3) {
                 self.whole_branch(rng, depth - 1);
             }
         } else {
@@ -163,15 +182,19 @@ impl Maker {
         }
     }
 
-    /// A step on line 0: a rounding by so much, or a strengthen if that is 0.
-    /// Gives the number of its branches.
-    fn step(&mut self, by: usize) -> usize {
-        if by == 0 {
-            self.fields.push(strengthen(0));
-            return 3;
-        }
-        self.fields.push(rounding(0, self.stride, by as u16));
-        by + 1
+    /// A step, if it is a rounding by at most so much. Gives the number of its
+    /// branches.
+    fn step(&mut self, rng: &mut Rng, most: usize) -> usize {
+        let (row, branches) = match rng.below(3) {
+            0 => (strengthen(0), 3),
+            1 => (split(2), 2),
+            _ => {
+                let by = random_by(rng).min(most);
+                (rounding(0, self.stride, by as u16), by + 1)
+            }
+        };
+        self.fields.push(row);
+        branches
     }
 
     /// A step, and on to a random branch of it. `rich`: with rows in front,
@@ -180,8 +203,7 @@ impl Maker {
         if rich {
             self.some_rows(rng);
         }
-        let by = if rng.chance(1, 2) { 0 } else { random_by(rng) };
-        let branches = self.step(by);
+        let branches = self.step(rng, MOST);
         for _ in 0..rng.below(branches) {
             self.whole_branch(rng, if rich { 2 } else { 0 });
         }
@@ -206,7 +228,7 @@ impl Maker {
                     claim
                 }
             },
-            3 => field(*rng.pick(&[0x00, 0x03, 0x05, 0x17, 0x21, 0x31, 0x7F]), &[0]),
+            3 => field(*rng.pick(&[0x00, 0x03, 0x05, 0x18, 0x21, 0x31, 0x7F]), &[0]),
             4 => match rng.below(4) {
                 0 => field(0x01, &[1]),
                 1 => field(0x02, &[k]),
@@ -222,30 +244,30 @@ impl Maker {
                     self.stated(1, 0)
                 }
             },
-            6 if either => field(
-                *rng.pick(&[0x10, 0x11, 0x12, 0x13, 0x14, 0x15, 0x16]),
-                &[0, 0],
-            ),
+            6 if either => field(0x10 + rng.below(8) as u8, &[0, 0]),
             6 => {
                 self.scaled(2);
                 field(0x20, &self.stated(2, 0)[4..])
             }
-            10 => match rng.below(7) {
+            10 => match rng.below(8) {
                 0 => combine(0, missing, 0, 1),
                 1 => reduce(missing, 0, 1),
                 2 => scale(missing, 0),
                 3 => strengthen(missing),
                 4 => close(missing),
                 5 => rounding(missing, 0, 0),
+                6 => split(missing),
                 _ => stride(missing, 0),
             },
-            11 => match rng.below(5) {
+            11 if either => match rng.below(6) {
                 0 => stride(0, 1),
-                1 if self.equality => strengthen(1),
-                2 if self.equality => combine(0, 1, 0, 1),
-                3 if self.equality => rounding(1, 1, 0),
+                1 => split(rng.below(2) as u8),
+                2 if self.equality => strengthen(1),
+                3 if self.equality => combine(0, 1, 0, 1),
+                4 if self.equality => rounding(1, 1, 0),
                 _ => reduce(1, 0, 0),
             },
+            11 => misused(rng, 2),
             12 => match rng.below(4) {
                 0 => scale(0, 0),
                 1 => combine(0, 0, 1, 0),
@@ -272,14 +294,18 @@ impl Maker {
                 while self.lines < 128 {
                     self.scaled(1);
                 }
-                match rng.below(3) {
+                match rng.below(4) {
                     0 => scale(0, 1),
                     1 => strengthen(0),
+                    2 => split(2),
                     _ => rounding(0, self.stride, by),
                 }
             }
-            17 if either => strengthen(0),
-            17 => rounding(0, self.stride, by),
+            17 => match rng.below(3) {
+                0 => strengthen(0),
+                1 => split(2),
+                _ => rounding(0, self.stride, by),
+            },
             // 20: nothing more.
             _ => return,
         };

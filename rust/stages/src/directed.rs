@@ -3,6 +3,7 @@
 
 use crate::build::*;
 use crate::case::{Case, Operation};
+use crate::deep::misused;
 use crate::rng::Rng;
 use crate::rounding::{damaged, exact, rounded};
 use crate::stride::{closes, near_miss};
@@ -104,9 +105,13 @@ pub fn directed(rng: &mut Rng, operation: Operation) -> Vec<Aimed> {
 /// Bundles that are refused, K of the sound one being given.
 fn broken_bundles(rng: &mut Rng, base: &Base) -> Vec<(u8, Vec<u8>)> {
     let k = base.k;
-    let sound = file(k, &[base.inequality(1, 2), base.equality(3, 4)]);
+    let mut lines = [base.inequality(1, 2), base.equality(3, 4)];
+    if rng.chance(1, 2) {
+        lines[1][0] = 0x05;
+    }
+    let sound = file(k, &lines);
     let cut = *rng.pick(&[1, 2]);
-    let other_tag = *rng.pick(&[0x00, 0x05, 0x06, 0x10, 0x20, 0x31, 0x7F]);
+    let other_tag = *rng.pick(&[0x00, 0x06, 0x07, 0x10, 0x17, 0x20, 0x31, 0x7F]);
     let wrong_k = *rng.pick(&[0, 17, 255]);
     vec![
         (1, vec![0x7F; 4_097]),
@@ -120,6 +125,7 @@ fn broken_bundles(rng: &mut Rng, base: &Base) -> Vec<(u8, Vec<u8>)> {
         (4, [field(0x01, &[1]), base.inequality(1, 2)].concat()),
         (5, field(0x01, &[*rng.pick(&[0, 2, 3, 255])])),
         (6, [sound.clone(), field(0x03, &[0; 3])].concat()),
+        (6, [sound.clone(), field(0x05, &[0; 3])].concat()),
         (6, field(0x01, &[1, 1])),
         (7, file(wrong_k, &[])),
         (8, file(k, &vec![base.inequality(1, -1); 33])),
@@ -142,7 +148,7 @@ fn checks(rng: &mut Rng) -> Vec<Aimed> {
     let other = file(other_k, &[]);
     cases.push((9, check(base.a.clone(), other, proof.clone())));
 
-    let unknown = *rng.pick(&[0x00, 0x03, 0x04, 0x05, 0x17, 0x21, 0x31, 0x35, 0x7F]);
+    let unknown = *rng.pick(&[0x00, 0x03, 0x04, 0x05, 0x18, 0x21, 0x31, 0x35, 0x7F]);
     let line = 4 + rng.below(252) as u8;
     let mut rows = |number: u8, fields: &[Vec<u8>]| {
         cases.push((number, base.check(fields)));
@@ -270,11 +276,65 @@ fn checks(rng: &mut Rng) -> Vec<Aimed> {
     for _ in 0..12 {
         cases.push(damaged(rng, 4));
     }
-    cases.push((1, exact(rng, 65_539)));
+    cases.push((1, exact(rng, 65_537)));
+    cases.extend(splits(rng));
     // The long one: 341 strengthens and 683 closes after one more row.
     let mut rows = vec![scale(0, 1)];
     rows.extend(bushy(341, 1));
     cases.push((18, check(flat_a(), file(1, &[]), file(1, &rows))));
+    cases
+}
+
+/// Splits and what can be wrong with them, and each older row on a disequality.
+fn splits(rng: &mut Rng) -> Vec<Aimed> {
+    let mut cases = Vec::new();
+    let d = rng.within(-9, 9) as i16;
+    // 0 "x + d ≤ 0" and 1 "1 = 0", 2 "x + d ≠ 0" and 3 "-x - d ≤ 0".
+    let lines = [
+        constraint(false, &[1, d]),
+        constraint(true, &[0, 1]),
+        disequality(&[1, d]),
+        constraint(false, &[-1, -d]),
+    ];
+    let (of_a, of_b) = lines.split_at(rng.below(5));
+    let (a, b) = (file(1, of_a), file(1, of_b));
+    let mut rows = |number: u8, fields: &[Vec<u8>]| {
+        cases.push((number, check(a.clone(), b.clone(), file(1, fields))));
+    };
+    let closed = [
+        split(2),
+        combine(4, 3, 1, 1),
+        close(5),
+        combine(4, 0, 1, 1),
+        close(5),
+    ];
+    rows(0, &closed);
+    rows(0, &[split(2), close(1), split(2), close(1), close(1)]);
+    rows(19, &[closed.concat(), split(2)]);
+    rows(20, &closed[..3]);
+    rows(20, &closed[..1]);
+    let d = i32::from(d);
+    rows(4, &[split(2), claim(&[1, d + 1], &[1, d + 1])]);
+    rows(6, &[field(0x17, &[])]);
+    rows(6, &[field(0x17, &[2, 0])]);
+    rows(10, &[split(4)]);
+    rows(10, &[combine(2, 4, 0, 0)]);
+    rows(10, &[reduce(4, 2, 0)]);
+    rows(11, &[split(0)]);
+    rows(11, &[split(1)]);
+    rows(11, &[split(2), split(4)]);
+    rows(16, &[vec![scale(0, 1); 124].concat(), split(2)]);
+    rows(17, &vec![split(2); 33]);
+    for _ in 0..8 {
+        rows(11, &[misused(rng, 2)]);
+    }
+    // Whose it is goes by its place: 0 ≠ 0 in either bundle.
+    let (with, without) = (file(1, &[disequality(&[0, 0])]), file(1, &[]));
+    let proof = file(1, &[split(0), close(1), close(1)]);
+    cases.push((0, check(with.clone(), without.clone(), proof.clone())));
+    cases.push((0, check(without.clone(), with.clone(), proof)));
+    let close_it = file(1, &[close(0)]);
+    cases.push((11, check(with, without, close_it)));
     cases
 }
 
@@ -346,7 +406,7 @@ fn writes(rng: &mut Rng) -> Vec<Aimed> {
         numbers: numbers.to_vec(),
         out,
     };
-    let kind = 2 + rng.below(254) as u8;
+    let kind = 3 + rng.below(253) as u8;
     vec![
         (7, case(0, &[0], &[1], 99)),
         (7, case(17, &[2; 33], &[], 0)),
@@ -361,6 +421,8 @@ fn writes(rng: &mut Rng) -> Vec<Aimed> {
         (21, case(k, &[1, 1], &numbers, 0)),
         (21, case(k, &[], &[], 7)),
         (0, case(k, &[1, 0], &numbers, needed)),
+        (0, case(k, &[2, 2], &numbers, needed)),
+        (24, case(k, &[2, 3], &numbers, needed)),
         (0, case(k, &[], &[], 8)),
     ]
 }

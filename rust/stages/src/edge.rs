@@ -19,10 +19,15 @@ pub fn edge(rng: &mut Rng, operation: Operation) -> Aimed {
             4 => numbers(rng, over),
             5 => bundles(rng, over),
             6 => rounds(rng, over),
-            7 => (
-                u8::from(over),
-                exact(rng, if over { 65_539 } else { 65_535 }),
-            ),
+            7 => {
+                let lengths = if over {
+                    [65_537, 65_539]
+                } else {
+                    [65_533, 65_535]
+                };
+                let length = *rng.pick(&lengths);
+                (u8::from(over), exact(rng, length))
+            }
             _ => lengths(rng, over),
         },
         Operation::Read => {
@@ -78,8 +83,8 @@ fn filled(rng: &mut Rng, fields: Vec<Vec<u8>>, length: usize) -> Vec<u8> {
     file
 }
 
-/// K constants, "x ≤ 0" for some form x, and "1 = 0" or "1 ≤ 0": line 0 may be strengthened, or rounded by its stride and
-/// any amount, and line 1 closes any branch. The two stand in A and B by chance.
+/// K constants, "x ≤ 0" for some form x, "1 = 0" or "1 ≤ 0", and "x ≠ 0": line 0 may be strengthened, or rounded by its
+/// stride and any amount, line 1 closes any branch, and line 2 may be split. They stand in A and B by chance.
 struct Ground {
     k: u8,
     stride: u16,
@@ -99,12 +104,13 @@ impl Ground {
         let (stride, form) = roundable(rng, usize::from(k));
         let mut one = vec![0; usize::from(k) + 1];
         one[usize::from(k)] = 1;
-        let (first, second) = (constraint(false, &form), constraint(equality, &one));
-        let (a, b) = match rng.below(3) {
-            0 => (file(k, &[first, second]), file(k, &[])),
-            1 => (file(k, &[first]), file(k, &[second])),
-            _ => (file(k, &[]), file(k, &[first, second])),
-        };
+        let lines = [
+            constraint(false, &form),
+            constraint(equality, &one),
+            disequality(&form),
+        ];
+        let (of_a, of_b) = lines.split_at(rng.below(4));
+        let (a, b) = (file(k, of_a), file(k, of_b));
         Ground {
             k,
             stride,
@@ -132,12 +138,20 @@ impl Ground {
         });
     }
 
-    /// A step on line 0 with at most so many branches, two at least; gives their number.
+    /// A step with at most so many branches, two at least; gives their number.
     fn step(&mut self, rng: &mut Rng, most: usize) -> usize {
-        if most >= 3 && rng.chance(1, 2) {
-            self.bytes += 6;
-            self.fields.push(strengthen(0));
-            return 3;
+        match rng.below(3) {
+            0 if most >= 3 => {
+                self.bytes += 6;
+                self.fields.push(strengthen(0));
+                return 3;
+            }
+            1 => {
+                self.bytes += 3;
+                self.fields.push(split(2));
+                return 2;
+            }
+            _ => {}
         }
         let by = random_by(rng).min(most - 1);
         self.bytes += by * (6 + 4 + self.form());
@@ -163,7 +177,7 @@ fn rows(rng: &mut Rng, over: bool) -> Aimed {
     let mut left = 690 + rng.below(334);
     let mut extra = 1_023 + usize::from(over) - left;
     // Each branch still to come: how many steps are open there, and how many lines it has.
-    let mut branches = vec![(0, 2)];
+    let mut branches = vec![(0, 3)];
     while let Some((depth, mut lines)) = branches.pop() {
         // The last branch takes all rows that are left, if there is room.
         let last = branches.is_empty() && left == 0;
@@ -194,7 +208,7 @@ fn rows(rng: &mut Rng, over: bool) -> Aimed {
 /// 128 lines on a branch or 129, some of them from steps.
 fn lines(rng: &mut Rng, over: bool) -> Aimed {
     let mut ground = Ground::new(rng);
-    let mut count = 2;
+    let mut count = 3;
     let mut depth = 0;
     // Branches that are still to be closed, beside the one at hand.
     let mut waiting = 0;
@@ -330,7 +344,7 @@ fn random_fields(rng: &mut Rng, k: u8, count: usize) -> Vec<Vec<u8>> {
     let mut fields = vec![field(0x01, &[1]), field(0x02, &[k])];
     for _ in 0..count {
         let numbers: Vec<i16> = (0..=k).map(|_| other::short(rng)).collect();
-        fields.push(constraint(rng.chance(1, 2), &numbers));
+        fields.push(constraint_of(rng.below(3) as u8, &numbers));
     }
     fields
 }
@@ -404,7 +418,7 @@ fn write(rng: &mut Rng, over: bool) -> Aimed {
     let needed = 8 + count * (3 + 2 * width);
     let case = Case::Write {
         k,
-        kinds: (0..count).map(|_| rng.below(2) as u8).collect(),
+        kinds: (0..count).map(|_| rng.below(3) as u8).collect(),
         numbers: (0..count * width).map(|_| other::short(rng)).collect(),
         out: needed - usize::from(over && !many),
     };

@@ -42,25 +42,32 @@ fn nested(count: usize, branch: usize) -> Vec<Vec<u8>> {
     rows
 }
 
-/// "17x + 1 ≤ 0", which may be rounded by 17 and any amount, and "1 = 0".
+/// "17x + 1 ≤ 0", which may be rounded by 17 and any amount, "1 = 0", and
+/// "x ≠ 0".
 fn rounded_a() -> Vec<u8> {
-    file(1, &[constraint(false, &[17, 1]), constraint(true, &[0, 1])])
+    let distinct = disequality(&[1, 0]);
+    file(
+        1,
+        &[
+            constraint(false, &[17, 1]),
+            constraint(true, &[0, 1]),
+            distinct,
+        ],
+    )
 }
 
-/// So many steps, strengthens and roundings by at most so much mixed, each in a
-/// random branch of the one before, and all branches closed by line 1.
+/// So many steps, strengthens, splits and roundings by at most so much mixed,
+/// each in a random branch of the one before, and all branches closed by line 1.
 fn mixed(rng: &mut Rng, count: usize, most: usize) -> Vec<Vec<u8>> {
     let mut rows = Vec::new();
     let mut waiting = 1;
     for _ in 0..count {
-        let by = rng.below(most + 1);
-        let branches = if by == 0 {
-            rows.push(strengthen(0));
-            3
-        } else {
-            rows.push(rounding(0, 17, by as u16));
-            by + 1
+        let (row, branches) = match rng.below(most + 2) {
+            0 => (strengthen(0), 3),
+            1 => (split(2), 2),
+            more => (rounding(0, 17, more as u16 - 1), more),
         };
+        rows.push(row);
         let branch = rng.below(branches);
         rows.extend(vec![close(1); branch]);
         waiting += branches - 1 - branch;
@@ -113,11 +120,46 @@ fn roundings(rng: &mut Rng) -> Vec<Aimed> {
     let k = 1 + rng.below(MOST);
     let row = rounding(0, 17, k as u16);
     let full = |scales: usize| vec![scale(0, 1); scales];
-    cases.push((0, over([full(125), whole(row.clone(), k)].concat())));
-    cases.push((16, over([full(126), whole(row.clone(), k)].concat())));
+    cases.push((0, over([full(124), whole(row.clone(), k)].concat())));
+    cases.push((16, over([full(125), whole(row.clone(), k)].concat())));
     let branch = rng.below(k + 1);
-    let inside = [full(125), vec![row], vec![close(1); branch], full(1)].concat();
+    let inside = [full(124), vec![row], vec![close(1); branch], full(1)].concat();
     cases.push((16, over(inside)));
+    cases
+}
+
+/// Splits as deep as may be, on the last line and at the ends of two bytes.
+fn splits() -> Vec<Aimed> {
+    let mut cases = Vec::new();
+    let lines = [constraint(true, &[0, 1]), disequality(&[1, 0])];
+    for of_a in 0..3 {
+        let (a, b) = lines.split_at(of_a);
+        let over = |rows: Vec<Vec<u8>>| check(file(1, a), file(1, b), file(1, &rows));
+        for branch in 0..2 {
+            let rows = |count: usize| {
+                let step = [vec![split(1)], vec![close(0); branch]].concat();
+                let ends = vec![close(0); 1 + count * (1 - branch)];
+                [vec![step; count].concat(), ends].concat()
+            };
+            cases.extend([(0, over(rows(32))), (17, over(rows(33)))]);
+        }
+        for (number, made) in [(0, 125), (16, 126)] {
+            let rows = [vec![scale(0, 1); made], vec![split(1), close(0), close(0)]];
+            cases.push((number, over(rows.concat())));
+        }
+    }
+    for d in [-32_768, -32_767, -1, 0, 1, 32_767] {
+        let with = file(1, &[disequality(&[d, d]), constraint(true, &[0, 1])]);
+        let proof = file(1, &[split(0), close(1), close(1)]);
+        let without = file(1, &[]);
+        cases.push((0, check(with.clone(), without.clone(), proof.clone())));
+        cases.push((0, check(without, with, proof)));
+    }
+    for (number, count) in [(0, 32), (8, 33)] {
+        let many = file(1, &vec![disequality(&[0, 0]); count]);
+        let proof = file(1, &[split(31), close(32), close(32)]);
+        cases.push((number, check(many, file(1, &[]), proof)));
+    }
     cases
 }
 
@@ -166,6 +208,7 @@ fn rounded_ranges() -> Vec<Aimed> {
 fn light_checks(rng: &mut Rng) -> Vec<Aimed> {
     let mut cases = roundings(rng);
     cases.extend(rounded_ranges());
+    cases.extend(splits());
     let flat = |rows: Vec<Vec<u8>>| check(flat_a(), file(1, &[]), file(1, &rows));
     // K.
     for k in [1, 2, 15, 16] {
@@ -354,7 +397,12 @@ fn heavy_checks(rng: &mut Rng) -> Vec<Aimed> {
         (0, 65_535, 65_536),
         (21, 65_535, 65_534),
         (21, 65_535, 0),
+        (0, 65_533, 65_533),
+        (21, 65_533, 65_532),
         (0, 65_531, 65_531),
+        (1, 65_537, 65_536),
+        (1, 65_537, 65_537),
+        (1, 65_537, 0),
         (1, 65_539, 65_536),
         (1, 65_539, 65_539),
         (1, 65_539, 65_538),
@@ -519,7 +567,7 @@ fn writes(rng: &mut Rng) -> Vec<Aimed> {
                 }
                 let case = Case::Write {
                     k,
-                    kinds: (0..count).map(|i| (i % 2) as u8).collect(),
+                    kinds: (0..count).map(|i| (i % 3) as u8).collect(),
                     numbers: (0..count * width).map(|_| rng.word() as i16).collect(),
                     out,
                 };

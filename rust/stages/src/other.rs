@@ -43,7 +43,7 @@ pub fn note(rng: &mut Rng) -> Vec<u8> {
 pub fn lists(rng: &mut Rng, constants: usize, most: usize) -> (u8, Vec<u8>, Vec<i16>) {
     let k = 1 + rng.below(constants);
     let count = rng.below(most + 1);
-    let kinds = (0..count).map(|_| rng.below(2) as u8).collect();
+    let kinds = (0..count).map(|_| rng.below(3) as u8).collect();
     let numbers = (0..count * (k + 1)).map(|_| short(rng)).collect();
     (k as u8, kinds, numbers)
 }
@@ -61,7 +61,7 @@ pub fn bundle(rng: &mut Rng, k: u8, kinds: &[u8], numbers: &[i16]) -> Vec<u8> {
     push(rng, build::field(0x01, &[1]));
     push(rng, build::field(0x02, &[k]));
     for (kind, row) in kinds.iter().zip(numbers.chunks(usize::from(k) + 1)) {
-        push(rng, build::constraint(*kind == 1, row));
+        push(rng, build::constraint_of(*kind, row));
     }
     push(rng, Vec::new());
     file

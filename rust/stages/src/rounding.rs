@@ -256,18 +256,18 @@ pub fn damaged(rng: &mut Rng, constants: usize) -> Aimed {
     }
 }
 
-/// A table whose formula's file has exactly so many bytes: a random tree of
-/// strengthens and roundings over 8 to 16 constants, its branches closed by
-/// number or, for four bytes more, by stride. From 50,000 bytes to some 70,000.
+/// A table whose formula's file has exactly so many bytes, an odd number: a
+/// random tree of strengthens, roundings and splits over 8 to 16 constants, its
+/// branches closed by number or, for four bytes more, by stride. From 50,000
+/// bytes to some 70,000.
 pub fn exact(rng: &mut Rng, bytes: usize) -> Case {
     loop {
         let constants = 8 + rng.below(9);
         if let Some(fields) = exact_fields(rng, constants, bytes) {
-            let mut rounds = vec![0; constants + 1];
-            let mut ends = rounds.clone();
-            (rounds[constants], ends[constants]) = (1, 1);
-            // 1 ≤ 0 is strengthened and rounded, 1 = 0 closes.
-            let lines = [constraint(false, &rounds), constraint(true, &ends)];
+            let mut one = vec![0; constants + 1];
+            one[constants] = 1;
+            // 1 ≤ 0 is strengthened and rounded, 1 = 0 closes, 1 ≠ 0 is split.
+            let lines = [0, 1, 2].map(|kind| constraint_of(kind, &one));
             let (with, without) = (file(constants as u8, &lines), file(constants as u8, &[]));
             let proof = file(constants as u8, &fields);
             return if rng.chance(1, 2) {
@@ -285,17 +285,29 @@ fn exact_fields(rng: &mut Rng, constants: usize, bytes: usize) -> Option<Vec<Vec
     // With all branches closed by number.
     let (mut length, mut closes) = (8 + 3 + form, 1);
     let mut steps = Vec::new();
+    // Every field has 3 bytes more than a multiple of 4. A split adds two
+    // fields, any other step a multiple of four: so the splits are odd in number
+    // where the length is 1 more than a multiple of 4.
+    let mut splits = 2 * rng.below(8) + usize::from(bytes % 4 == 1);
     while length + 4 * closes < bytes {
         let most = if length + 6_000 < bytes { MOST } else { 2 };
-        let by = rng.below(most + 1);
-        // 0 stands for a strengthen.
-        let (added, more) = match by {
-            0 => (6, 2),
-            _ => (by * (13 + form), by),
+        let step = if splits > 0 {
+            splits -= 1;
+            Step::Split
+        } else {
+            match rng.below(most + 1) {
+                0 => Step::Strengthen,
+                by => Step::Round(by),
+            }
+        };
+        let (added, more) = match step {
+            Step::Split => (3, 1),
+            Step::Strengthen => (6, 2),
+            Step::Round(by) => (by * (13 + form), by),
         };
         length += added + more * (3 + form);
         closes += more;
-        steps.push(by);
+        steps.push(step);
     }
     if length > bytes || steps.len() + closes > 1_024 {
         return None;
@@ -309,9 +321,16 @@ fn exact_fields(rng: &mut Rng, constants: usize, bytes: usize) -> Option<Vec<Vec
     tree(rng, steps, ends)
 }
 
-/// A random tree of steps on line 0, with these ends of its branches in file
-/// order. A step that is 0 is a strengthen, any other rounds by so much.
-fn tree(rng: &mut Rng, mut steps: Vec<usize>, ends: Vec<Vec<u8>>) -> Option<Vec<Vec<u8>>> {
+/// A step of such a table.
+enum Step {
+    Strengthen,
+    Round(usize),
+    Split,
+}
+
+/// A random tree of steps on lines 0 and 2, with these ends of its branches in
+/// file order.
+fn tree(rng: &mut Rng, mut steps: Vec<Step>, ends: Vec<Vec<u8>>) -> Option<Vec<Vec<u8>>> {
     let mut ends = ends.into_iter();
     let mut fields = Vec::new();
     // How many steps are open around each branch that is still to come.
@@ -323,11 +342,15 @@ fn tree(rng: &mut Rng, mut steps: Vec<usize>, ends: Vec<Vec<u8>>) -> Option<Vec<
             continue;
         }
         let count = match steps.pop()? {
-            0 => {
+            Step::Strengthen => {
                 fields.push(strengthen(0));
                 3
             }
-            by => {
+            Step::Split => {
+                fields.push(split(2));
+                2
+            }
+            Step::Round(by) => {
                 fields.push(rounding(
                     0,
                     rng.within(by as i64 + 1, 65_535) as u16,

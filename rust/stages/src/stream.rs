@@ -207,7 +207,7 @@ pub fn damaged(rng: &mut Rng, operation: Operation, size: &Size) -> Case {
                 out,
             } => match rng.below(5) {
                 0 => *k = rng.byte(),
-                1 => kinds.push(rng.below(3) as u8),
+                1 => kinds.push(rng.below(4) as u8),
                 2 => {
                     numbers.pop();
                 }
@@ -268,7 +268,7 @@ pub fn random(rng: &mut Rng, operation: Operation) -> Case {
             let (count, numbers) = (rng.below(5), rng.below(14));
             Case::Write {
                 k: rng.below(20) as u8,
-                kinds: (0..count).map(|_| rng.below(3) as u8).collect(),
+                kinds: (0..count).map(|_| rng.below(4) as u8).collect(),
                 numbers: (0..numbers).map(|_| other::short(rng)).collect(),
                 out: rng.below(60),
             }

@@ -74,16 +74,26 @@ impl Table {
         let count = |file: &Vec<u8>| {
             let found = fields(file).into_iter();
             found
-                .filter(|part| matches!(file[part.start], 0x03 | 0x04))
+                .filter(|part| matches!(file[part.start], 0x03..=0x05))
                 .count()
         };
         bundles.into_iter().map(count).sum()
     }
 }
 
+/// What a line says of its form, by the number in lists.
+#[derive(Clone, Copy, PartialEq, Eq)]
+enum Kind {
+    Inequality = 0,
+    Equality = 1,
+    Disequality = 2,
+}
+
+use Kind::{Disequality, Equality, Inequality};
+
 #[derive(Clone, Copy)]
 struct Line {
-    equality: bool,
+    kind: Kind,
     t: Form,
     partial: Form,
 }
@@ -109,17 +119,22 @@ enum Row {
     /// Round the first by a stride and by so much, and close the branches by
     /// combining with the second.
     RoundBy(Of, Of, i64, i64),
+    /// Split the first, t ≠ 0; close by combining with multiples of -t ≤ 0 and
+    /// of t ≤ 0, so many times as large.
+    Split(Of, (Of, i64), (Of, i64)),
+    /// The same where the second line is t = 0.
+    SplitEqual(Of, Of),
 }
 
 /// Constraints that contradict each other, and the rows that show it.
 struct Contradiction {
-    constraints: Vec<(bool, Form)>,
+    constraints: Vec<(Kind, Form)>,
     plan: Vec<Row>,
 }
 
 /// A constraint of either bundle.
 struct Placed {
-    equality: bool,
+    kind: Kind,
     form: Form,
     /// The number of the contradiction that it belongs to, and its place there.
     part: Option<(usize, usize)>,
@@ -223,21 +238,27 @@ fn random_contradiction(rng: &mut Rng, k: usize, rounding: bool) -> Contradictio
         };
         let (d1, d2) = (rng.within(-9, 9), rng.within(-9, 9));
         let positive = rng.within(1, 5);
-        let (constraints, plan) = match rng.below(if rounding { 20 } else { 16 }) {
+        let (constraints, plan) = match rng.below(if rounding { 24 } else { 20 }) {
             // Two inequalities.
             0..=4 => (
                 vec![
-                    (false, raised(&sum(p, &f, 0, &zero), k, d1 * p)),
-                    (false, raised(&sum(-q, &f, 0, &zero), k, positive - d1 * q)),
+                    (Inequality, raised(&sum(p, &f, 0, &zero), k, d1 * p)),
+                    (
+                        Inequality,
+                        raised(&sum(-q, &f, 0, &zero), k, positive - d1 * q),
+                    ),
                 ],
                 vec![Row::Combine(Given(0), Given(1), q, p), Row::Close(Made(0))],
             ),
             // Three inequalities.
             5..=6 => (
                 vec![
-                    (false, raised(&f, k, d1)),
-                    (false, raised(&h, k, d2)),
-                    (false, raised(&sum(-1, &f, -1, &h), k, positive - d1 - d2)),
+                    (Inequality, raised(&f, k, d1)),
+                    (Inequality, raised(&h, k, d2)),
+                    (
+                        Inequality,
+                        raised(&sum(-1, &f, -1, &h), k, positive - d1 - d2),
+                    ),
                 ],
                 vec![
                     Row::Combine(Given(0), Given(1), p, p),
@@ -257,7 +278,7 @@ fn random_contradiction(rng: &mut Rng, k: usize, rounding: bool) -> Contradictio
                 let rest = not_divided(rng, g);
                 let other = raised(&sum(-alpha, &f, g, &other), k, rest - alpha * d1);
                 (
-                    vec![(true, e), (true, other)],
+                    vec![(Equality, e), (Equality, other)],
                     vec![
                         Row::Reduce(Given(1), Given(0), alpha),
                         Row::Stride(Made(0), g),
@@ -267,9 +288,9 @@ fn random_contradiction(rng: &mut Rng, k: usize, rounding: bool) -> Contradictio
             // Two equalities that leave a number.
             10 => (
                 vec![
-                    (true, raised(&f, k, d1)),
+                    (Equality, raised(&f, k, d1)),
                     (
-                        true,
+                        Equality,
                         raised(&sum(-alpha, &f, 0, &zero), k, sign * positive - alpha * d1),
                     ),
                 ],
@@ -278,9 +299,9 @@ fn random_contradiction(rng: &mut Rng, k: usize, rounding: bool) -> Contradictio
             // An inequality and an equality.
             11..=12 => (
                 vec![
-                    (true, raised(&f, k, d1)),
+                    (Equality, raised(&f, k, d1)),
                     (
-                        false,
+                        Inequality,
                         raised(&sum(-alpha, &f, 0, &zero), k, positive - alpha * d1),
                     ),
                 ],
@@ -292,10 +313,13 @@ fn random_contradiction(rng: &mut Rng, k: usize, rounding: bool) -> Contradictio
             ),
             // One constraint alone, by number or by stride.
             13 => {
-                let equality = rng.chance(1, 2);
-                let d = if equality { sign * positive } else { positive };
+                let (kind, d) = if rng.chance(1, 2) {
+                    (Equality, sign * positive)
+                } else {
+                    (Inequality, positive)
+                };
                 (
-                    vec![(equality, raised(&zero, k, d))],
+                    vec![(kind, raised(&zero, k, d))],
                     vec![Row::Close(Given(0))],
                 )
             }
@@ -307,12 +331,31 @@ fn random_contradiction(rng: &mut Rng, k: usize, rounding: bool) -> Contradictio
                 };
                 let rest = not_divided(rng, g);
                 (
-                    vec![(true, raised(&sum(g, &h, 0, &zero), k, rest))],
+                    vec![(Equality, raised(&sum(g, &h, 0, &zero), k, rest))],
                     vec![Row::Stride(Given(0), g)],
                 )
             }
+            // Neither below nor above 0, and not 0.
+            16..=18 => {
+                let t = raised(&f, k, d1);
+                (
+                    vec![
+                        (Disequality, t),
+                        (Inequality, sum(-q, &t, 0, &zero)),
+                        (Inequality, sum(p, &t, 0, &zero)),
+                    ],
+                    vec![Row::Split(Given(0), (Given(1), q), (Given(2), p))],
+                )
+            }
+            19 => {
+                let t = raised(&f, k, d1);
+                (
+                    vec![(Disequality, t), (Equality, t)],
+                    vec![Row::SplitEqual(Given(0), Given(1))],
+                )
+            }
             // Rounded by several at once: a line as it stands, or a sum.
-            16.. => {
+            20.. => {
                 let by = random_by(rng) as i64;
                 let g = by + rng.within(1, 9);
                 // g divides the rest + by + some more, and no sum in between.
@@ -321,16 +364,16 @@ fn random_contradiction(rng: &mut Rng, k: usize, rounding: bool) -> Contradictio
                 let other = raised(&sum(-1, &t, 0, &zero), k, positive - by);
                 if rng.chance(1, 3) {
                     (
-                        vec![(false, t), (false, other)],
+                        vec![(Inequality, t), (Inequality, other)],
                         vec![Row::RoundBy(Given(0), Given(1), g, by)],
                     )
                 } else {
                     let part = raised(&f, k, d1);
                     (
                         vec![
-                            (false, part),
-                            (false, sum(1, &t, -1, &part)),
-                            (false, other),
+                            (Inequality, part),
+                            (Inequality, sum(1, &t, -1, &part)),
+                            (Inequality, other),
                         ],
                         vec![
                             Row::Combine(Given(0), Given(1), 1, 1),
@@ -345,7 +388,7 @@ fn random_contradiction(rng: &mut Rng, k: usize, rounding: bool) -> Contradictio
                 let rest = not_divided(rng, g);
                 let t = raised(&sum(g, &h, 0, &zero), k, rest);
                 (
-                    vec![(false, t), (false, sum(-1, &t, 0, &zero))],
+                    vec![(Inequality, t), (Inequality, sum(-1, &t, 0, &zero))],
                     vec![Row::Round(Given(0), Given(1), g)],
                 )
             }
@@ -356,7 +399,7 @@ fn random_contradiction(rng: &mut Rng, k: usize, rounding: bool) -> Contradictio
         }
     }
     Contradiction {
-        constraints: vec![(false, raised(&[0; 17], k, 1))],
+        constraints: vec![(Inequality, raised(&[0; 17], k, 1))],
         plan: vec![Row::Close(Of::Given(0))],
     }
 }
@@ -380,9 +423,9 @@ fn table(rng: &mut Rng, size: &Size, careless: bool) -> Table {
     for number in 0..contradictions {
         // The first closes a branch even where no step may be added.
         let new = random_contradiction(rng, k, number > 0);
-        for (place, (equality, form)) in new.constraints.iter().enumerate() {
+        for (place, (kind, form)) in new.constraints.iter().enumerate() {
             all.push(Placed {
-                equality: *equality,
+                kind: *kind,
                 form: *form,
                 part: Some((number, place)),
             });
@@ -404,7 +447,7 @@ fn table(rng: &mut Rng, size: &Size, careless: bool) -> Table {
         let form = sum(times, &form, 0, &form);
         let d = rng.within(-largest - 1, largest);
         all.push(Placed {
-            equality: rng.chance(1, 2),
+            kind: *rng.pick(&[Inequality, Inequality, Equality, Equality, Disequality]),
             form: raised(&form, k, d),
             part: None,
         });
@@ -424,6 +467,7 @@ fn table(rng: &mut Rng, size: &Size, careless: bool) -> Table {
 
     let mut maker = Maker {
         k,
+        own: 0,
         lines: Vec::new(),
         proof: build::header(k as u8),
         branches: 2 * rng.below(size.strengthens + 1),
@@ -440,12 +484,13 @@ fn table(rng: &mut Rng, size: &Size, careless: bool) -> Table {
             let form = given.form;
             let numbers: Vec<i16> = form[..=k].iter().map(|&n| n as i16).collect();
             random_notes(rng, maker.notes, bundle);
-            bundle.extend(build::constraint(given.equality, &numbers));
+            bundle.extend(build::constraint_of(given.kind as u8, &numbers));
             if let Some((number, place)) = given.part {
                 maker.plans[number].lines[place] = maker.lines.len();
             }
+            maker.own += usize::from(own);
             maker.lines.push(Line {
-                equality: given.equality,
+                kind: given.kind,
                 t: form,
                 partial: if own { form } else { [0; 17] },
             });
@@ -479,6 +524,8 @@ fn random_notes(rng: &mut Rng, share: usize, out: &mut Vec<u8>) {
 
 struct Maker {
     k: usize,
+    /// How many lines are A's constraints.
+    own: usize,
     lines: Vec<Line>,
     proof: Vec<u8>,
     /// Branches that steps may still add.
@@ -504,6 +551,11 @@ impl Maker {
         }
         let room = depth < 24 && self.lines.len() + RESERVE < 128;
         if self.branches >= 2 && room && rng.chance(6, 8) {
+            if rng.chance(1, 3) {
+                if let Some(line) = self.line_to_split(rng) {
+                    return self.split(rng, depth, line);
+                }
+            }
             if rng.chance(1, 2) {
                 if let Some((line, g, by)) = self.line_to_round(rng) {
                     return self.round(rng, depth, line, g, by);
@@ -514,6 +566,25 @@ impl Maker {
             }
         }
         self.finish(rng);
+    }
+
+    /// A step of its own that adds one branch counts like a strengthen.
+    fn split(&mut self, rng: &mut Rng, depth: usize, line: usize) {
+        self.branches -= 2;
+        self.emit(rng, &build::split(line as u8));
+        for part in 0..2 {
+            let before = self.lines.len();
+            self.enter_split(line, part);
+            self.branch(rng, depth + 1);
+            self.lines.truncate(before);
+        }
+    }
+
+    /// A disequality, if a few tries find one.
+    fn line_to_split(&self, rng: &mut Rng) -> Option<usize> {
+        (0..6)
+            .map(|_| rng.below(self.lines.len()))
+            .find(|&number| self.lines[number].kind == Disequality)
     }
 
     fn strengthen(&mut self, rng: &mut Rng, depth: usize, line: usize) {
@@ -556,7 +627,7 @@ impl Maker {
             let far = far.min(self.branches as i64);
             let highest = d.max(line.partial[self.k]);
             let fits = (2..=65_535).contains(&g) && common % g == 0;
-            if !line.equality && fits && far > 0 && highest + far <= MOST {
+            if line.kind == Inequality && fits && far > 0 && highest + far <= MOST {
                 return Some((number, g, far));
             }
         }
@@ -568,7 +639,7 @@ impl Maker {
         for _ in 0..4 {
             let number = rng.below(self.lines.len());
             let line = &self.lines[number];
-            if !line.equality && line.t[self.k] < MOST && line.partial[self.k] < MOST {
+            if line.kind == Inequality && line.t[self.k] < MOST && line.partial[self.k] < MOST {
                 return Some(number);
             }
         }
@@ -580,17 +651,17 @@ impl Maker {
         let Line { t, partial, .. } = self.lines[line];
         self.lines.push(match part {
             0 => Line {
-                equality: false,
+                kind: Inequality,
                 t: raised(&t, self.k, 1),
                 partial: raised(&partial, self.k, 1),
             },
             1 => Line {
-                equality: true,
+                kind: Equality,
                 t,
                 partial,
             },
             _ => Line {
-                equality: false,
+                kind: Inequality,
                 t: raised(&t, self.k, 1),
                 partial,
             },
@@ -601,9 +672,22 @@ impl Maker {
     fn enter_rounded(&mut self, line: usize, by: i64, j: i64) {
         let Line { t, partial, .. } = self.lines[line];
         self.lines.push(Line {
-            equality: false,
+            kind: Inequality,
             t: raised(&t, self.k, by),
             partial: raised(&partial, self.k, j),
+        });
+    }
+
+    /// Adds the new line of a split's first or second branch.
+    fn enter_split(&mut self, line: usize, part: usize) {
+        let sign = if part == 0 { 1 } else { -1 };
+        let t = self.lines[line].t;
+        let t = raised(&sum(sign, &t, 0, &t), self.k, 1);
+        let partial = if line < self.own { t } else { [0; 17] };
+        self.lines.push(Line {
+            kind: Inequality,
+            t,
+            partial,
         });
     }
 
@@ -635,7 +719,7 @@ impl Maker {
     fn combine(&mut self, rng: &mut Rng, s: usize, t: usize, alpha: i64, beta: i64) -> bool {
         let (first, second) = (self.lines[s], self.lines[t]);
         let line = Line {
-            equality: false,
+            kind: Inequality,
             t: sum(alpha, &first.t, beta, &second.t),
             partial: sum(alpha, &first.partial, beta, &second.partial),
         };
@@ -646,7 +730,7 @@ impl Maker {
     fn reduce(&mut self, rng: &mut Rng, s: usize, t: usize, alpha: i64) -> bool {
         let (first, second) = (self.lines[s], self.lines[t]);
         let line = Line {
-            equality: first.equality,
+            kind: first.kind,
             t: sum(1, &first.t, alpha, &second.t),
             partial: sum(1, &first.partial, alpha, &second.partial),
         };
@@ -657,7 +741,7 @@ impl Maker {
     fn scale(&mut self, rng: &mut Rng, t: usize, alpha: i64) -> bool {
         let old = self.lines[t];
         let line = Line {
-            equality: old.equality,
+            kind: old.kind,
             t: sum(alpha, &old.t, 0, &old.t),
             partial: sum(alpha, &old.partial, 0, &old.partial),
         };
@@ -676,14 +760,15 @@ impl Maker {
             _ => rng.within(1, 65_535),
         };
         let (alpha, beta) = (multiplier(rng), multiplier(rng));
-        match (self.lines[s].equality, self.lines[t].equality) {
+        match (self.lines[s].kind, self.lines[t].kind) {
+            (Disequality, _) => false,
             _ if rng.chance(1, 5) => self.scale(rng, s, alpha),
-            (_, true) => {
+            (_, Equality) => {
                 let signed = (if rng.chance(1, 2) { alpha } else { -alpha }).clamp(-32_768, 32_767);
                 self.reduce(rng, s, t, signed)
             }
-            (false, false) => self.combine(rng, s, t, alpha, beta),
-            (true, false) => self.scale(rng, s, alpha),
+            (Inequality, Inequality) => self.combine(rng, s, t, alpha, beta),
+            _ => self.scale(rng, s, alpha),
         };
     }
 
@@ -713,8 +798,8 @@ impl Maker {
         let start = rng.below(self.lines.len());
         for offset in 0..self.lines.len() {
             let line = (start + offset) % self.lines.len();
-            let Line { equality, t, .. } = &self.lines[line];
-            if let Some(closing) = closing(rng, self.k, *equality, t) {
+            let Line { kind, t, .. } = &self.lines[line];
+            if let Some(closing) = closing(rng, self.k, *kind, t) {
                 return Some(closing.row(line));
             }
         }
@@ -730,17 +815,20 @@ impl Maker {
             let pair = (start + offset) % (count * count);
             let (s, t) = (pair / count, pair % count);
             let (first, second) = (self.lines[s], self.lines[t]);
-            if second.equality {
+            if first.kind == Disequality {
+                continue;
+            }
+            if second.kind == Equality {
                 let alpha = *rng.pick(&[1, -1, 2, -2, 3, -3]);
                 let new = sum(1, &first.t, alpha, &second.t);
-                if let Some(closing) = closing(rng, self.k, first.equality, &new) {
+                if let Some(closing) = closing(rng, self.k, first.kind, &new) {
                     if self.reduce(rng, s, t, alpha) {
                         let row = closing.row(self.lines.len() - 1);
                         self.emit(rng, &row);
                         return true;
                     }
                 }
-            } else if !first.equality {
+            } else if (first.kind, second.kind) == (Inequality, Inequality) {
                 let Some(place) = (0..self.k).find(|&i| first.t[i] != 0) else {
                     continue;
                 };
@@ -754,7 +842,7 @@ impl Maker {
                     continue;
                 }
                 let new = sum(alpha, &first.t, beta, &second.t);
-                if let Some(closing) = closing(rng, self.k, false, &new) {
+                if let Some(closing) = closing(rng, self.k, Inequality, &new) {
                     if self.combine(rng, s, t, alpha, beta) {
                         let row = closing.row(self.lines.len() - 1);
                         self.emit(rng, &row);
@@ -812,6 +900,27 @@ impl Maker {
                         }
                     }
                 }
+                Row::Split(t, minus, plus) => {
+                    let t = line(t);
+                    let others = [minus, plus].map(|(of, times)| (line(of), times));
+                    self.emit(rng, &build::split(t as u8));
+                    for (part, (other, times)) in others.into_iter().enumerate() {
+                        self.lines.truncate(made);
+                        self.enter_split(t, part);
+                        self.combine(rng, made, other, times, 1);
+                        self.emit(rng, &build::close(made as u8 + 1));
+                    }
+                }
+                Row::SplitEqual(t, equal) => {
+                    let (t, equal) = (line(t), line(equal));
+                    self.emit(rng, &build::split(t as u8));
+                    for (part, alpha) in [-1, 1].into_iter().enumerate() {
+                        self.lines.truncate(made);
+                        self.enter_split(t, part);
+                        self.reduce(rng, made, equal, alpha);
+                        self.emit(rng, &build::close(made as u8 + 1));
+                    }
+                }
                 Row::RoundBy(t, minus, g, by) => {
                     let (t, minus) = (line(t), line(minus));
                     let start = self.lines.len();
@@ -843,7 +952,11 @@ impl Closing {
 }
 
 /// How a line closes a branch, if it does.
-fn closing(rng: &mut Rng, k: usize, equality: bool, t: &Form) -> Option<Closing> {
+fn closing(rng: &mut Rng, k: usize, kind: Kind, t: &Form) -> Option<Closing> {
+    if kind == Disequality {
+        return None;
+    }
+    let equality = kind == Equality;
     let d = t[k];
     let common = t[..k].iter().fold(0, |common, &c| gcd(common, c));
     if common == 0 {

@@ -4,6 +4,7 @@
 
 use crate::build::rounding;
 use crate::damage::fields;
+use crate::tree::branches;
 use std::ops::Range;
 
 /// The proof with a rounding by 1 in the place of every such strengthen, and
@@ -66,9 +67,8 @@ impl<'a> Walk<'a> {
                     return self.branch(lines + 1);
                 }
                 0x14 | 0x15 => return,
-                0x16 => {
-                    let by = u16::from_be_bytes([field[6], field[7]]);
-                    return (0..=by).for_each(|_| self.branch(lines + 1));
+                0x16 | 0x17 => {
+                    return (0..branches(field)).for_each(|_| self.branch(lines + 1));
                 }
                 // Header fields, claims and notes.
                 _ => {}

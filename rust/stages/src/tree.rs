@@ -23,9 +23,10 @@ pub fn spot(proof: &[u8], place: usize) -> Spot {
 }
 
 /// How many branches a field opens.
-fn branches(field: &[u8]) -> u16 {
+pub fn branches(field: &[u8]) -> u16 {
     match field[0] {
         0x13 => 3,
+        0x17 => 2,
         0x16 => u16::from_be_bytes([field[6], field[7]]) + 1,
         _ => 0,
     }
@@ -37,7 +38,7 @@ fn branch<'a>(fields: &mut impl Iterator<Item = &'a [u8]>, found: &mut Spot) -> 
         let row = found.rows;
         match field[0] {
             0x10..=0x12 => found.rows += 1,
-            0x13 | 0x16 => {
+            0x13 | 0x16 | 0x17 => {
                 found.rows += 1;
                 return (0..branches(field)).all(|number| {
                     found.open.push((row, number));

@@ -45,13 +45,13 @@ fn closed_tables_are_of_many_shapes() {
         for part in stages::damage::fields(&table.proof) {
             let tag = table.proof[part.start];
             rows[usize::from(tag)] += 1;
-            open += usize::from(matches!(tag, 0x13 | 0x16));
+            open += usize::from(matches!(tag, 0x13 | 0x16 | 0x17));
             notes += usize::from(tag >= 0x80);
         }
         deep += usize::from(open >= 3);
         lone += usize::from(table.a.len() == 8 || table.b.len() == 8);
     }
-    for tag in [0x10, 0x11, 0x12, 0x13, 0x14, 0x15, 0x16, 0x20] {
+    for tag in [0x10, 0x11, 0x12, 0x13, 0x14, 0x15, 0x16, 0x17, 0x20] {
         assert!(rows[tag] > 500, "tag {tag:02X}: {}", rows[tag]);
     }
     assert!(notes > 500 && deep > 200 && lone > 50);

@@ -33,10 +33,10 @@ impl Bundle {
         self.constraints.iter().all(|(kind, row)| {
             let products = row.iter().zip(values).map(|(&c, &x)| c * i64::from(x));
             let value: i64 = products.sum::<i64>() + row[self.k];
-            if *kind == 1 {
-                value == 0
-            } else {
-                value <= 0
+            match kind {
+                0 => value <= 0,
+                1 => value == 0,
+                _ => value != 0,
             }
         })
     }
@@ -116,9 +116,18 @@ fn accepted_checks_give_interpolants() {
         constants: 2,
         ..Size::SMALL
     };
+    // Splits of lines of A and of B.
+    let mut splits = [0; 2];
     for (size, count) in [(narrow, 8_000), (Size::SMALL, 4_000), (Size::MEDIUM, 500)] {
         for _ in 0..count {
             let table = closed_table(&mut rng, &size);
+            let own = bundle(&table.a).constraints.len();
+            for part in fields(&table.proof) {
+                if table.proof[part.start] == 0x17 {
+                    let line = usize::from(table.proof[part.start + 3]);
+                    splits[usize::from(line >= own)] += 1;
+                }
+            }
             let result = reference::check(&table.a, &table.b, &table.proof, &mut out);
             assert_eq!(result.answer.number, 0);
             examine(
@@ -130,6 +139,7 @@ fn accepted_checks_give_interpolants() {
             );
         }
     }
+    assert!(splits.iter().all(|&times| times > 1_000), "{splits:?}");
     // The boxes do meet both sides, else nothing would have been tested.
     assert!(met.in_a > 10_000, "{}", met.in_a);
     assert!(met.in_b > 10_000, "{}", met.in_b);

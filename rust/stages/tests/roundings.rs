@@ -7,6 +7,7 @@ use stages::rng::Rng;
 use stages::rounding::{damaged, exact, rounded, Rounded};
 use stages::table::{closed_table, Size, Table};
 use stages::tie::tied;
+use stages::tree::branches;
 use stages::{stream, Case, Class, Operation, CLASSES};
 use std::collections::BTreeSet;
 
@@ -202,7 +203,7 @@ fn damaged_roundings_meet_their_number() {
 fn formulas_of_an_exact_length() {
     let mut rng = Rng::new(64);
     for _ in 0..60 {
-        for length in [65_531, 65_535, 65_539, 65_543] {
+        for length in [65_531, 65_533, 65_535, 65_537, 65_539, 65_541] {
             let case = exact(&mut rng, length);
             let Case::Check { a, b, proof, .. } = &case else {
                 unreachable!();
@@ -258,7 +259,7 @@ fn the_tie_with_a_strengthen() {
 }
 
 #[test]
-fn roundings_of_every_amount_stand_in_one_another() {
+fn roundings_of_every_amount_and_other_steps_stand_in_one_another() {
     let mut amounts = BTreeSet::new();
     // Pairs of an outer and an inner step.
     let mut nested = BTreeSet::new();
@@ -284,7 +285,7 @@ fn roundings_of_every_amount_stand_in_one_another() {
                 for part in fields(&proof) {
                     let field = &proof[part];
                     let branches = match field[0] {
-                        0x13 => 3,
+                        0x13 | 0x17 => usize::from(branches(field)),
                         0x16 => {
                             amounts.insert(field[7]);
                             usize::from(field[7]) + 1
@@ -309,7 +310,7 @@ fn roundings_of_every_amount_stand_in_one_another() {
         }
     }
     assert_eq!(amounts, (1..=16).collect());
-    let steps = [0x13, 0x16];
+    let steps = [0x13, 0x16, 0x17];
     let all = steps
         .iter()
         .flat_map(|&outer| steps.map(|inner| (outer, inner)));

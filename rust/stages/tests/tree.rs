@@ -78,7 +78,7 @@ fn deep_cases_meet_their_number_inside_branches() {
         let front = &proof[..answer.place];
         let steps = fields(front)
             .into_iter()
-            .filter(|part| matches!(front[part.start], 0x13 | 0x16));
+            .filter(|part| matches!(front[part.start], 0x13 | 0x16 | 0x17));
         steps_left += usize::from(steps.count() > open.len());
     }
     for number in [2, 3, 4, 6, 10, 11, 12, 13, 14, 15, 16, 20] {

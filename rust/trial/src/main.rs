@@ -35,8 +35,8 @@ use Rattle.bundle.specs.Show.{partOf, constraintPart, shownPart, answerOf, show
 use Rattle.formula.specs.Formula.{encode, formulaFile, formulaTagged, compound, formulaSize, formulaOf, formulaField, twoParts, formulaWithin, readFormula}
 use Rattle.formula.specs.Test.{holds, judge, tested, judged, testFormula}
 use Rattle.proof.specs.Entries.{entryTagged, inPlace, lineNumber, multiplier, sizeOf, entryFrom, entry}
-use Rattle.proof.specs.Rows.{is, fails, equals, sameForm, lineAt, derived, fitting, undivided, inequality, roundable, byNumber, byStride, states}
-use Rattle.proof.specs.Check.{checkRounded, checkRow, checkEntry, checkEntries, checkBranch, checkProof, writable, interpolant, check}
+use Rattle.proof.specs.Rows.{is, plainKind, owner, fails, equals, sameForm, lineAt, derived, fitting, undivided, inequality, roundable, disequality, byNumber, byStride, states}
+use Rattle.proof.specs.Check.{checkRounded, checkSplit, checkRow, checkEntry, checkEntries, checkBranch, checkProof, formulaAtMost, interpolant, check}
 
 ";
 
@@ -45,7 +45,7 @@ const SHARED: &str = "editionNumbered _>>=_ _>>_ need found unsigned complement 
 const BUNDLES: &str = "kindTagged atMost constraints bundle bundles";
 const WRITING: &str =
     "over fit written unsignedBytes residue signedBytes signedsBytes fieldBytes headerBytes";
-const CHECK: &str = "rowTold remainder coeff sum value sums _⊞_ _·_ _plus_ nonzero reduced small every inRange flat formBytes finished encode formulaFile entryTagged inPlace lineNumber multiplier sizeOf entryFrom entry is fails equals sameForm lineAt derived fitting undivided inequality roundable byNumber byStride states checkRounded checkRow checkEntry checkEntries checkBranch checkProof writable interpolant check";
+const CHECK: &str = "rowTold remainder coeff sum value sums _⊞_ _·_ _plus_ nonzero reduced small every inRange flat formBytes finished encode formulaFile entryTagged inPlace lineNumber multiplier sizeOf entryFrom entry is plainKind owner fails equals sameForm lineAt derived fitting undivided inequality roundable disequality byNumber byStride states checkRounded checkSplit checkRow checkEntry checkEntries checkBranch checkProof formulaAtMost interpolant check";
 const READ: &str = "over flat kindNumber kindsOf numbersOf unread store stored readBundle";
 const WRITE: &str = "each constraintsBytes bundleBytes writeBundle";
 const SHOW: &str = "nth partOf constraintPart shownPart answerOf showAnswer handed showPart";

@@ -1,49 +1,20 @@
 -- `lines::start_line` meets its contract. Assumes nothing.
-use mathlib.Core.Path.{_≡_, _∙_, ap₂}
-use mathlib.Core.List.{List}
-use Prim.Native.Nat.{ℕ, _+_}
+use mathlib.Core.Path.{_∙_, ap}
 use native.Mathlib.Omega.{arith}
-use lib.IntN.{ℤ}
-use Rattle.lines.specs.Buffer.{raised, startedLine}
-use Rattle.lines.proofs.Lines.{place-small}
-use Rattle.lines.proofs.Starting.{t-term, tA-term}
+use Rattle.lines.specs.Buffer.{raisedLine, startedLine}
+use Rattle.lines.proofs.Starting.{copy-raised}
 use borrow.Author.Needs.{needs}
 use Rattle.lines.proofs.start_line.Statement.{statement}
 use Rattle.lines.proofs.start_line.Tie as tie
 
--- What `raise` leaves, by where it raised and in what.
-raise-is : (k x : ℕ) {at at′ : ℕ} {buf buf′ buf″ : List ℤ} → buf″ ≡ raised (at + k) x buf → at ≡ at′ → buf ≡ buf′ → buf″ ≡ raised (at′ + k) x buf′
-raise-is k x r e b = r ∙ ap₂ (λ (n : ℕ) (l : List ℤ). raised (n + k) x l) e b
-
 copy-line-requires : tie.Need-copy-line-requires
 copy-line-requires c κs = search needs
 
-place-requires : tie.Need-place-requires
-place-requires c κs = search needs
-
-add-raise : tie.Need-add-raise
-add-raise c =
-    let s = c .before .before .before .before .before in
-    omega (arith, c .before .place .ensures, place-small {i = s .args .n .0} (s .pre .copy .branch .constants) (omega arith))
-
-raise-requires : tie.Need-raise-requires
-raise-requires c κs =
-    let s = c .before .before .before .before .before in
-    t-term (s .pre) (c .before .place .result) (c .before .before .before .copy-line .last .0) (c .before .place .ensures) (c .before .before .before .copy-line .ensures)
-
-place-a-requires : tie.Need-place-a-requires
-place-a-requires c κs = search needs
-
--- The places of both lines are small, so that a wrong one is refused where tA is raised.
-add-raise-2 : tie.Need-add-raise-2
-add-raise-2 c =
-    let s = c .before .before .before .before .before .before .before .before .before in
-    omega (arith, c .before .place-a .ensures, place-small {i = s .args .n .0} (s .pre .copy .branch .constants) (omega arith), place-small {i = s .args .i .0} (s .pre .copy .branch .constants) (omega arith))
-
-raise-requires-2 : tie.Need-raise-requires-2
-raise-requires-2 c κs =
-    let s = c .before .before .before .before .before .before .before .before .before in
-    tA-term (s .pre) (c .before .place-a .result) (c .before .before .before .raise .last .0) (c .before .place-a .ensures) (raise-is (s .args .k) (s .args .x) (c .before .before .before .raise .ensures) (c .before .before .before .before .before .place .ensures) (c .before .before .before .before .before .before .before .copy-line .ensures))
+raise-line-requires : tie.Need-raise-line-requires
+raise-line-requires c κs =
+    let s = c .before .before .before .before in
+    let w = copy-raised (s .pre) (c .before .before .copy-line .last .0) (c .before .before .copy-line .ensures) in
+    ((s .pre .copy .space, s .pre .copy .branch .constants, w .0), w .1)
 
 same-length : tie.Need-same-length
 same-length c = search needs
@@ -51,19 +22,14 @@ same-length c = search needs
 returns : tie.Need-returns
 unfolding startedLine
 returns c =
-    let a = c .before .before .before .before .before .before .before .before .before .before .before .args in
-    raise-is (a .k) (a .y) (c .before .raise2 .ensures) (c .before .before .before .place-a .ensures) (raise-is (a .k) (a .x) (c .before .before .before .before .before .raise .ensures) (c .before .before .before .before .before .before .before .place .ensures) (c .before .before .before .before .before .before .before .before .before .copy-line .ensures))
+    let a = c .before .before .before .before .before .before .args in
+    c .before .raise-line .ensures ∙ ap (raisedLine (a .k) (a .n .0) (a .x) (a .y)) (c .before .before .before .before .copy-line .ensures)
 
 pub start-line-spec : {M : Type 1} → statement M
 start-line-spec =
     tie.close
     (tie.spec
     copy-line-requires
-    place-requires
-    add-raise
-    raise-requires
-    place-a-requires
-    add-raise-2
-    raise-requires-2
+    raise-line-requires
     same-length
     returns)

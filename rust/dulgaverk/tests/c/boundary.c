@@ -117,7 +117,7 @@ static void writing(void) {
     EXPECT(is(r.answer, 7, 4, 0));
     r = dulgaverk_write(3, kinds, 33, numbers, 4, out, sizeof out);
     EXPECT(is(r.answer, 8, 4, 0));
-    static const uint8_t wrong[] = {0, 2};
+    static const uint8_t wrong[] = {2, 3};
     r = dulgaverk_write(1, wrong, 2, numbers, 4, out, sizeof out);
     EXPECT(is(r.answer, 24, 4, 1));
     r = dulgaverk_write(3, kinds, 1, numbers, 3, out, sizeof out);
@@ -135,7 +135,7 @@ static void largest(void) {
     uint8_t kinds[32], kinds_back[32], file[DULGAVERK_WRITTEN_BUNDLE + DULGAVERK_FIELD];
     int16_t numbers[DULGAVERK_NUMBERS], numbers_back[DULGAVERK_NUMBERS];
     for (int i = 0; i < 32; i += 1) {
-        kinds[i] = (uint8_t)(i % 2);
+        kinds[i] = (uint8_t)(i % 3);
     }
     for (int i = 0; i < DULGAVERK_NUMBERS; i += 1) {
         numbers[i] = (int16_t)(i * 120 - 32640);

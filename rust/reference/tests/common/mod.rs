@@ -85,6 +85,11 @@ pub fn eq(numbers: &[i16]) -> Vec<u8> {
     field(0x04, &shorts(numbers))
 }
 
+/// The constraint "t ≠ 0" of a bundle.
+pub fn ne(numbers: &[i16]) -> Vec<u8> {
+    field(0x05, &shorts(numbers))
+}
+
 /// A file of the two header fields and the given ones.
 pub fn file(k: u8, fields: &[Vec<u8>]) -> Vec<u8> {
     let mut bytes = edition(1);
@@ -125,6 +130,11 @@ pub fn stride(t: u8, g: u16) -> Vec<u8> {
 pub fn round(t: u8, g: u16, k: u16) -> Vec<u8> {
     let (g, k) = (g.to_be_bytes(), k.to_be_bytes());
     field(0x16, &[t, g[0], g[1], k[0], k[1]])
+}
+
+/// A split of line t, a disequality.
+pub fn split(t: u8) -> Vec<u8> {
+    field(0x17, &[t])
 }
 
 /// A claim of t and tA.

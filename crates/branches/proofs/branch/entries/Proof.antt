@@ -7,7 +7,7 @@ use lib.ListN.{length}
 use mir.ValLaws.{toZ-ofZ}
 use Rattle.integers.proofs.Magnitude.{within-fits}
 use Rattle.fields.proofs.Places.{starts, starts-less, next-cut, next-ends}
-use Rattle.branches.proofs.Going.{Going, going-start, going-refused, going-made, going-claimed, going-strengthens, going-number, going-stride, going-rounds, going-cut, going-ends}
+use Rattle.branches.proofs.Going.{Going, going-start, going-refused, going-made, going-claimed, going-strengthens, going-number, going-stride, going-rounds, going-splits, going-cut, going-ends}
 use Rattle.branches.proofs.branch.entries.Statement.{statement}
 use Rattle.branches.proofs.branch.entries.Tie as tie
 
@@ -115,20 +115,20 @@ returns-5 c =
     let f = within-fits (y .by .2 .within) tt in
     simp toZ-ofZ (going-rounds (c .before .before .before .before .before .before .before .before .before .before .before .before .before .before .loop .inv) (starts (c .before .before .before .before .before .before .before .before .before .before .before .before .before .next-field .ensures) (c .before .before .before .before .before .before .before .before .before .before .before .a .given .1)) (c .before .before .before .before .before .before .step .ensures .0) (c .before .before .before .before .before .before .step .ensures .1) refl (c .before .u5 .given .1))
 
-enum-known-a-2 : tie.Need-enum-known-a-2 Inv-loop μ-loop
-enum-known-a-2 c = search needs
+enum-known-u-6 : tie.Need-enum-known-u-6 Inv-loop μ-loop
+enum-known-u-6 c = search needs
 
 same-length-11 : tie.Need-same-length-11 Inv-loop μ-loop
-same-length-11 c = c .before .before .before .before .before .loop .inv .kept .lines-length
+same-length-11 c = c .before .before .before .before .before .before .step .ensures .0 .kept .lines-length ∙ c .before .before .before .before .before .before .before .before .before .before .before .before .before .before .loop .inv .kept .lines-length
 
 same-length-12 : tie.Need-same-length-12 Inv-loop μ-loop
-same-length-12 c = c .before .before .before .before .before .loop .inv .kept .kinds-length
+same-length-12 c = c .before .before .before .before .before .before .step .ensures .0 .kept .kinds-length ∙ c .before .before .before .before .before .before .before .before .before .before .before .before .before .before .loop .inv .kept .kinds-length
 
 returns-6 : tie.Need-returns-6 Inv-loop μ-loop
-returns-6 c = going-cut (c .before .before .before .before .before .loop .inv) refl (next-cut _ (c .before .before .before .before .next-field .ensures) (c .before .before .a2 .given .1))
+returns-6 c = going-splits (c .before .before .before .before .before .before .before .before .before .before .before .before .before .before .loop .inv) (starts (c .before .before .before .before .before .before .before .before .before .before .before .before .before .next-field .ensures) (c .before .before .before .before .before .before .before .before .before .before .before .a .given .1)) (c .before .before .before .before .before .before .step .ensures .0) (c .before .before .before .before .before .before .step .ensures .1) refl (c .before .u6 .given .1)
 
-enum-known-a-3 : tie.Need-enum-known-a-3 Inv-loop μ-loop
-enum-known-a-3 c = search needs
+enum-known-a-2 : tie.Need-enum-known-a-2 Inv-loop μ-loop
+enum-known-a-2 c = search needs
 
 same-length-13 : tie.Need-same-length-13 Inv-loop μ-loop
 same-length-13 c = c .before .before .before .before .before .loop .inv .kept .lines-length
@@ -137,7 +137,19 @@ same-length-14 : tie.Need-same-length-14 Inv-loop μ-loop
 same-length-14 c = c .before .before .before .before .before .loop .inv .kept .kinds-length
 
 returns-7 : tie.Need-returns-7 Inv-loop μ-loop
-returns-7 c = going-ends (c .before .before .before .before .before .loop .inv) refl (next-ends _ (c .before .before .before .before .next-field .ensures) (c .before .before .a3 .given .1))
+returns-7 c = going-cut (c .before .before .before .before .before .loop .inv) refl (next-cut _ (c .before .before .before .before .next-field .ensures) (c .before .before .a2 .given .1))
+
+enum-known-a-3 : tie.Need-enum-known-a-3 Inv-loop μ-loop
+enum-known-a-3 c = search needs
+
+same-length-15 : tie.Need-same-length-15 Inv-loop μ-loop
+same-length-15 c = c .before .before .before .before .before .loop .inv .kept .lines-length
+
+same-length-16 : tie.Need-same-length-16 Inv-loop μ-loop
+same-length-16 c = c .before .before .before .before .before .loop .inv .kept .kinds-length
+
+returns-8 : tie.Need-returns-8 Inv-loop μ-loop
+returns-8 c = going-ends (c .before .before .before .before .before .loop .inv) refl (next-ends _ (c .before .before .before .before .next-field .ensures) (c .before .before .a3 .given .1))
 
 pub entries-spec : {M : Type 1} → statement M
-entries-spec = tie.close (tie.spec Inv-loop μ-loop loop-holds next-field-requires enum-known-a step-requires enum-known-number same-length same-length-2 returns enum-known-u loop-less loop-again enum-told loop-less-2 loop-again-2 enum-known-u-2 same-length-3 same-length-4 returns-2 enum-known-u-3 same-length-5 same-length-6 returns-3 enum-known-u-4 same-length-7 same-length-8 returns-4 enum-known-u-5 same-length-9 same-length-10 returns-5 enum-known-a-2 same-length-11 same-length-12 returns-6 enum-known-a-3 same-length-13 same-length-14 returns-7)
+entries-spec = tie.close (tie.spec Inv-loop μ-loop loop-holds next-field-requires enum-known-a step-requires enum-known-number same-length same-length-2 returns enum-known-u loop-less loop-again enum-told loop-less-2 loop-again-2 enum-known-u-2 same-length-3 same-length-4 returns-2 enum-known-u-3 same-length-5 same-length-6 returns-3 enum-known-u-4 same-length-7 same-length-8 returns-4 enum-known-u-5 same-length-9 same-length-10 returns-5 enum-known-u-6 same-length-11 same-length-12 returns-6 enum-known-a-2 same-length-13 same-length-14 returns-7 enum-known-a-3 same-length-15 same-length-16 returns-8)

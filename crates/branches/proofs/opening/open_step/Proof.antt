@@ -11,7 +11,7 @@ open-counted-requires : tie.Need-open-counted-requires
 open-counted-requires c κs = search needs
 
 returns : tie.Need-returns
-returns c = open-none (c .before .before .before .before .args .tally) (c .before .before .before .before .args .i .0) (c .before .before .before .before .args .by) (c .before .before .before .before .pre .0) (full-open _ (c .before .before .open-counted .ensures) (unnot _ (c .if1 .taken)))
+returns c = open-none (c .before .before .before .before .args .tally) (c .before .before .before .before .args .i .0) (c .before .before .before .before .args .x) (c .before .before .before .before .args .y) (c .before .before .before .before .pre .0) (full-open _ (c .before .before .open-counted .ensures) (unnot _ (c .if1 .taken)))
 
 line-counted-requires : tie.Need-line-counted-requires
 line-counted-requires c κs = search needs
@@ -20,7 +20,7 @@ returns-2 : tie.Need-returns-2
 returns-2 c =
     let s = c .before .before .before .before .before .before .before in
     let may = unnot _ (c .before .before .before .if1 .left) in
-    open-full (s .args .tally) (s .args .i .0) (s .args .by) (s .pre .0) (counted-open (c .before .before .before .before .before .open-counted .ensures) may .0) (full-both (s .args .tally) (c .before .before .before .before .before .open-counted .ensures) may (c .before .before .line-counted .ensures) (unnot _ (c .if2 .taken)))
+    open-full (s .args .tally) (s .args .i .0) (s .args .x) (s .args .y) (s .pre .0) (counted-open (c .before .before .before .before .before .open-counted .ensures) may .0) (full-both (s .args .tally) (c .before .before .before .before .before .open-counted .ensures) may (c .before .before .line-counted .ensures) (unnot _ (c .if2 .taken)))
 
 raised-fit-requires : tie.Need-raised-fit-requires
 raised-fit-requires c κs =
@@ -37,14 +37,14 @@ returns-3 c =
     let s = c .before .before .before .before .before .before .before .before .before .before in
     let may = unnot _ (c .before .before .before .before .before .before .if1 .left) in
     let both = counted-both (s .args .tally) (c .before .before .before .before .before .before .before .before .open-counted .ensures) may (c .before .before .before .before .before .line-counted .ensures) (unnot _ (c .before .before .before .if2 .left)) in
-    open-range (s .args .tally) (s .args .i .0) (s .args .by) (s .pre .0) (counted-open (c .before .before .before .before .before .before .before .before .open-counted .ensures) may .0) (s .pre .1) (both .0) (c .before .raised-fit .ensures) (unnot _ (c .if3 .taken))
+    open-range (s .args .tally) (s .args .i .0) (s .args .x) (s .args .y) (s .pre .0) (counted-open (c .before .before .before .before .before .before .before .before .open-counted .ensures) may .0) (s .pre .1) (both .0) (c .before .raised-fit .ensures) (unnot _ (c .if3 .taken))
 
 start-requires : tie.Need-start-requires
 start-requires c κs =
     let s = c .before .before .before .before .before .before .before .before .before .before .before .before .before in
     let may = unnot _ (c .before .before .before .before .before .before .before .before .before .if1 .left) in
     let both = counted-both (s .args .tally) (c .before .before .before .before .before .before .before .before .before .before .before .open-counted .ensures) may (c .before .before .before .before .before .before .before .before .line-counted .ensures) (unnot _ (c .before .before .before .before .before .before .if2 .left)) in
-    (open-start (s .args .tally) (s .args .i .0) (s .args .by) (s .pre .0) (counted-open (c .before .before .before .before .before .before .before .before .before .before .before .open-counted .ensures) may .0) (s .pre .1) (both .0) (c .before .before .before .before .raised-fit .ensures) (unnot _ (c .before .before .before .if3 .left)), s .pre .0 .room)
+    (open-start (s .args .tally) (s .args .i .0) (s .args .x) (s .args .y) (s .pre .0) (counted-open (c .before .before .before .before .before .before .before .before .before .before .before .open-counted .ensures) may .0) (s .pre .1) (both .0) (c .before .before .before .before .raised-fit .ensures) (unnot _ (c .before .before .before .if3 .left)) (omega arith) (omega arith), s .pre .0 .room)
 
 same-length-2 : tie.Need-same-length-2
 same-length-2 c = search needs
@@ -57,7 +57,7 @@ returns-4 c =
     let s = c .before .before .before .before .before .before .before .before .before .before .before .before .before .before .before .before .before in
     let may = unnot _ (c .before .before .before .before .before .before .before .before .before .before .before .before .before .if1 .left) in
     let both = counted-both (s .args .tally) (c .before .before .before .before .before .before .before .before .before .before .before .before .before .before .before .open-counted .ensures) may (c .before .before .before .before .before .before .before .before .before .before .before .before .line-counted .ensures) (unnot _ (c .before .before .before .before .before .before .before .before .before .before .if2 .left)) in
-    open-made (s .args .tally) (s .args .i .0) (s .args .by) (s .pre .0) (counted-open (c .before .before .before .before .before .before .before .before .before .before .before .before .before .before .before .open-counted .ensures) may .0) (s .pre .1) (both .0) (c .before .before .before .before .before .before .before .before .raised-fit .ensures) (unnot _ (c .before .before .before .before .before .before .before .if3 .left)) (c .before .before .before .start .ensures .0) (c .before .before .before .start .ensures .1) (both .1)
+    open-made (s .args .tally) (s .args .i .0) (s .args .x) (s .args .y) (s .pre .0) (counted-open (c .before .before .before .before .before .before .before .before .before .before .before .before .before .before .before .open-counted .ensures) may .0) (s .pre .1) (both .0) (c .before .before .before .before .before .before .before .before .raised-fit .ensures) (unnot _ (c .before .before .before .before .before .before .before .if3 .left)) (c .before .before .before .start .ensures .0) (c .before .before .before .start .ensures .1) (both .1)
 
 pub open-step-spec : {M : Type 1} → statement M
 open-step-spec =

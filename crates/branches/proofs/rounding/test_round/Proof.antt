@@ -1,11 +1,12 @@
 -- `branches::rounding::test_round` meets its contract. Assumes nothing.
 use borrow.Author.Needs.{needs}
 use native.Mathlib.Omega.{arith}
-use mathlib.Core.Path.{sym, _∙_}
+use mathlib.Core.Path.{_∙_}
 use lib.IntN.{natAbs}
 use mir.Syntax.{w64}
 use mir.ValLaws.{toZ-ofZ}
 use Rattle.lines.proofs.Lines.{before}
+use Rattle.rows.proofs.KindBytes.{kind-≤, kind-not-≤}
 use Rattle.rows.proofs.Testing.{is-below, past, unnot}
 use Rattle.closes.proofs.Closes.{line-end}
 use Rattle.closes.proofs.Strides.{at-least-two}
@@ -31,7 +32,7 @@ returns-2 : tie.Need-returns-2
 returns-2 c =
     let s = c .before .before .before .before .before in
     let h = is-below (s .args .i .0) (s .args .tally .lines .0) (c .before .before .before .is-there .ensures) (c .before .before .if1 .left) in
-    round-kind (s .args .k) (s .args .kinds .now) (s .args .lines .now) (s .args .tally) (s .args .i .0) (natAbs (s .args .g)) (s .args .by) h (λ e. c .if2 .taken (c .before .kind-of .ensures ∙ e))
+    round-kind (s .args .k) (s .args .kinds .now) (s .args .lines .now) (s .args .tally) (s .args .i .0) (natAbs (s .args .g)) (s .args .by) h (kind-not-≤ _ _ _ _ (c .before .kind-of .ensures) (c .if2 .taken))
 
 is-stride-requires : tie.Need-is-stride-requires
 is-stride-requires c κs =
@@ -44,21 +45,21 @@ returns-3 c =
     let s = c .before .before .before .before .before .before .before in
     let h = is-below (s .args .i .0) (s .args .tally .lines .0) (c .before .before .before .before .before .is-there .ensures) (c .before .before .before .before .if1 .left) in
     let fg = s .fits .g in
-    round-small (s .args .k) (s .args .kinds .now) (s .args .lines .now) (s .args .tally) (s .args .i .0) (natAbs (s .args .g)) (s .args .by) h (sym (c .before .before .before .kind-of .ensures) ∙ c .before .before .if2 .left) (simp toZ-ofZ at (c .before .is-stride .ensures)) (c .if3 .taken)
+    round-small (s .args .k) (s .args .kinds .now) (s .args .lines .now) (s .args .tally) (s .args .i .0) (natAbs (s .args .g)) (s .args .by) h (kind-≤ _ _ _ _ (c .before .before .before .kind-of .ensures) (c .before .before .if2 .left)) (simp toZ-ofZ at (c .before .is-stride .ensures)) (c .if3 .taken)
 
 returns-4 : tie.Need-returns-4
 returns-4 c =
     let s = c .before .before .before .before .before .before .before .before in
     let h = is-below (s .args .i .0) (s .args .tally .lines .0) (c .before .before .before .before .before .before .is-there .ensures) (c .before .before .before .before .before .if1 .left) in
     let fg = s .fits .g in
-    round-least (s .args .k) (s .args .kinds .now) (s .args .lines .now) (s .args .tally) (s .args .i .0) (natAbs (s .args .g)) (s .args .by) h (sym (c .before .before .before .before .kind-of .ensures) ∙ c .before .before .before .if2 .left) (simp toZ-ofZ at (c .before .before .is-stride .ensures)) (c .before .if3 .left) (c .if4 .taken)
+    round-least (s .args .k) (s .args .kinds .now) (s .args .lines .now) (s .args .tally) (s .args .i .0) (natAbs (s .args .g)) (s .args .by) h (kind-≤ _ _ _ _ (c .before .before .before .before .kind-of .ensures) (c .before .before .before .if2 .left)) (simp toZ-ofZ at (c .before .before .is-stride .ensures)) (c .before .if3 .left) (c .if4 .taken)
 
 returns-5 : tie.Need-returns-5
 returns-5 c =
     let s = c .before .before .before .before .before .before .before .before .before in
     let h = is-below (s .args .i .0) (s .args .tally .lines .0) (c .before .before .before .before .before .before .before .is-there .ensures) (c .before .before .before .before .before .before .if1 .left) in
     let fg = s .fits .g in
-    round-most (s .args .k) (s .args .kinds .now) (s .args .lines .now) (s .args .tally) (s .args .i .0) (natAbs (s .args .g)) (s .args .by) h (sym (c .before .before .before .before .before .kind-of .ensures) ∙ c .before .before .before .before .if2 .left) (simp toZ-ofZ at (c .before .before .before .is-stride .ensures)) (c .before .before .if3 .left) (c .before .if4 .left) (c .if5 .taken)
+    round-most (s .args .k) (s .args .kinds .now) (s .args .lines .now) (s .args .tally) (s .args .i .0) (natAbs (s .args .g)) (s .args .by) h (kind-≤ _ _ _ _ (c .before .before .before .before .before .kind-of .ensures) (c .before .before .before .before .if2 .left)) (simp toZ-ofZ at (c .before .before .before .is-stride .ensures)) (c .before .before .if3 .left) (c .before .if4 .left) (c .if5 .taken)
 
 place-requires : tie.Need-place-requires
 place-requires c κs =
@@ -79,7 +80,7 @@ returns-6 c =
     let s = c .before .before .before .before .before .before .before .before .before .before .before .before in
     let h = is-below (s .args .i .0) (s .args .tally .lines .0) (c .before .before .before .before .before .before .before .before .before .before .is-there .ensures) (c .before .before .before .before .before .before .before .before .before .if1 .left) in
     let fg = s .fits .g in
-    round-coeffs (s .args .k) (s .args .kinds .now) (s .args .lines .now) (s .args .tally) (s .args .i .0) (natAbs (s .args .g)) (s .args .by) h (sym (c .before .before .before .before .before .before .before .before .kind-of .ensures) ∙ c .before .before .before .before .before .before .before .if2 .left) (simp toZ-ofZ at (c .before .before .before .before .before .before .is-stride .ensures)) (c .before .before .before .before .before .if3 .left) (c .before .before .before .before .if4 .left) (c .before .before .before .if5 .left) (s .pre .1 .is) (c .before .before .place .ensures) (simp toZ-ofZ at (c .before .all-divisible .ensures)) (c .if6 .taken)
+    round-coeffs (s .args .k) (s .args .kinds .now) (s .args .lines .now) (s .args .tally) (s .args .i .0) (natAbs (s .args .g)) (s .args .by) h (kind-≤ _ _ _ _ (c .before .before .before .before .before .before .before .before .kind-of .ensures) (c .before .before .before .before .before .before .before .if2 .left)) (simp toZ-ofZ at (c .before .before .before .before .before .before .is-stride .ensures)) (c .before .before .before .before .before .if3 .left) (c .before .before .before .before .if4 .left) (c .before .before .before .if5 .left) (s .pre .1 .is) (c .before .before .place .ensures) (simp toZ-ofZ at (c .before .all-divisible .ensures)) (c .if6 .taken)
 
 add-number : tie.Need-add-number
 add-number c =
@@ -109,14 +110,14 @@ returns-7 c =
     let s = c .before .before .before .before .before .before .before .before .before .before .before .before .before .before .before in
     let h = is-below (s .args .i .0) (s .args .tally .lines .0) (c .before .before .before .before .before .before .before .before .before .before .before .before .before .is-there .ensures) (c .before .before .before .before .before .before .before .before .before .before .before .before .if1 .left) in
     let fg = s .fits .g in
-    round-d (s .args .k) (s .args .kinds .now) (s .args .lines .now) (s .args .tally) (s .args .i .0) (natAbs (s .args .g)) (s .args .by) h (sym (c .before .before .before .before .before .before .before .before .before .before .before .kind-of .ensures) ∙ c .before .before .before .before .before .before .before .before .before .before .if2 .left) (simp toZ-ofZ at (c .before .before .before .before .before .before .before .before .before .is-stride .ensures)) (c .before .before .before .before .before .before .before .before .if3 .left) (c .before .before .before .before .before .before .before .if4 .left) (c .before .before .before .before .before .before .if5 .left) (s .pre .1 .is) (c .before .before .before .before .before .place .ensures) (simp toZ-ofZ at (c .before .before .before .before .all-divisible .ensures)) (c .before .before .before .if6 .left) (toZ-ofZ w64 (c .before .before .number .result) (record { sfits = c .before .before .number .ok }) ∙ c .before .before .number .ensures) (rw (toZ-ofZ w64 (s .args .g) fg) at (c .before .is-undivided .ensures)) (c .if7 .taken)
+    round-d (s .args .k) (s .args .kinds .now) (s .args .lines .now) (s .args .tally) (s .args .i .0) (natAbs (s .args .g)) (s .args .by) h (kind-≤ _ _ _ _ (c .before .before .before .before .before .before .before .before .before .before .before .kind-of .ensures) (c .before .before .before .before .before .before .before .before .before .before .if2 .left)) (simp toZ-ofZ at (c .before .before .before .before .before .before .before .before .before .is-stride .ensures)) (c .before .before .before .before .before .before .before .before .if3 .left) (c .before .before .before .before .before .before .before .if4 .left) (c .before .before .before .before .before .before .if5 .left) (s .pre .1 .is) (c .before .before .before .before .before .place .ensures) (simp toZ-ofZ at (c .before .before .before .before .all-divisible .ensures)) (c .before .before .before .if6 .left) (toZ-ofZ w64 (c .before .before .number .result) (record { sfits = c .before .before .number .ok }) ∙ c .before .before .number .ensures) (rw (toZ-ofZ w64 (s .args .g) fg) at (c .before .is-undivided .ensures)) (c .if7 .taken)
 
 returns-8 : tie.Need-returns-8
 returns-8 c =
     let s = c .before .before .before .before .before .before .before .before .before .before .before .before .before .before .before in
     let h = is-below (s .args .i .0) (s .args .tally .lines .0) (c .before .before .before .before .before .before .before .before .before .before .before .before .before .is-there .ensures) (c .before .before .before .before .before .before .before .before .before .before .before .before .if1 .left) in
     let fg = s .fits .g in
-    round-passed (s .args .k) (s .args .kinds .now) (s .args .lines .now) (s .args .tally) (s .args .i .0) (natAbs (s .args .g)) (s .args .by) h (sym (c .before .before .before .before .before .before .before .before .before .before .before .kind-of .ensures) ∙ c .before .before .before .before .before .before .before .before .before .before .if2 .left) (simp toZ-ofZ at (c .before .before .before .before .before .before .before .before .before .is-stride .ensures)) (c .before .before .before .before .before .before .before .before .if3 .left) (c .before .before .before .before .before .before .before .if4 .left) (c .before .before .before .before .before .before .if5 .left) (s .pre .1 .is) (c .before .before .before .before .before .place .ensures) (simp toZ-ofZ at (c .before .before .before .before .all-divisible .ensures)) (c .before .before .before .if6 .left) (toZ-ofZ w64 (c .before .before .number .result) (record { sfits = c .before .before .number .ok }) ∙ c .before .before .number .ensures) (rw (toZ-ofZ w64 (s .args .g) fg) at (c .before .is-undivided .ensures)) (c .if7 .left)
+    round-passed (s .args .k) (s .args .kinds .now) (s .args .lines .now) (s .args .tally) (s .args .i .0) (natAbs (s .args .g)) (s .args .by) h (kind-≤ _ _ _ _ (c .before .before .before .before .before .before .before .before .before .before .before .kind-of .ensures) (c .before .before .before .before .before .before .before .before .before .before .if2 .left)) (simp toZ-ofZ at (c .before .before .before .before .before .before .before .before .before .is-stride .ensures)) (c .before .before .before .before .before .before .before .before .if3 .left) (c .before .before .before .before .before .before .before .if4 .left) (c .before .before .before .before .before .before .if5 .left) (s .pre .1 .is) (c .before .before .before .before .before .place .ensures) (simp toZ-ofZ at (c .before .before .before .before .all-divisible .ensures)) (c .before .before .before .if6 .left) (toZ-ofZ w64 (c .before .before .number .result) (record { sfits = c .before .before .number .ok }) ∙ c .before .before .number .ensures) (rw (toZ-ofZ w64 (s .args .g) fg) at (c .before .is-undivided .ensures)) (c .if7 .left)
 
 pub test-round-spec : {M : Type 1} → statement M
 test-round-spec =

@@ -1,7 +1,7 @@
 -- `branches::strengthen::strengthen` meets its contract. Assumes nothing.
 use borrow.Author.Needs.{needs}
 use native.Mathlib.Omega.{arith}
-use mathlib.Core.Path.{sym, _∙_}
+use Rattle.rows.proofs.KindBytes.{kind-≤, kind-not-≤}
 use Rattle.rows.proofs.Testing.{is-below, past}
 use Rattle.branches.proofs.Opens.{strengthen-none, strengthen-kind, strengthen-opens}
 use Rattle.branches.proofs.strengthen.strengthen.Statement.{statement}
@@ -24,7 +24,7 @@ same-length c = search needs
 returns-2 : tie.Need-returns-2
 returns-2 c =
     let h = is-below (c .before .before .before .before .before .before .args .i .0) (c .before .before .before .before .before .before .args .tally .lines .0) (c .before .before .before .before .is-there .ensures) (c .before .before .before .if1 .left) in
-    strengthen-kind _ _ _ (c .before .before .before .before .before .before .args .tally) (c .before .before .before .before .before .before .args .i .0) h (λ e. c .if2 .taken (c .before .kind-of .ensures ∙ e))
+    strengthen-kind _ _ _ (c .before .before .before .before .before .before .args .tally) (c .before .before .before .before .before .before .args .i .0) h (kind-not-≤ _ _ _ _ (c .before .kind-of .ensures) (c .if2 .taken))
 
 open-step-requires : tie.Need-open-step-requires
 open-step-requires c κs = (c .before .before .before .before .before .before .before .before .pre, is-below (c .before .before .before .before .before .before .before .before .args .i .0) (c .before .before .before .before .before .before .before .before .args .tally .lines .0) (c .before .before .before .before .before .before .is-there .ensures) (c .before .before .before .before .before .if1 .left))
@@ -38,7 +38,7 @@ same-length-3 c = c .before .before .before .open-step .ensures .kept .kinds-len
 returns-3 : tie.Need-returns-3
 returns-3 c =
     let h = is-below (c .before .before .before .before .before .before .before .before .before .before .before .before .args .i .0) (c .before .before .before .before .before .before .before .before .before .before .before .before .args .tally .lines .0) (c .before .before .before .before .before .before .before .before .before .before .is-there .ensures) (c .before .before .before .before .before .before .before .before .before .if1 .left) in
-    strengthen-opens _ _ _ (c .before .before .before .before .before .before .before .before .before .before .before .before .args .tally) (c .before .before .before .before .before .before .before .before .before .before .before .before .args .i .0) h (sym (c .before .before .before .before .before .before .before .kind-of .ensures) ∙ c .before .before .before .before .before .before .if2 .left) (c .before .before .before .open-step .ensures)
+    strengthen-opens _ _ _ (c .before .before .before .before .before .before .before .before .before .before .before .before .args .tally) (c .before .before .before .before .before .before .before .before .before .before .before .before .args .i .0) h (kind-≤ _ _ _ _ (c .before .before .before .before .before .before .before .kind-of .ensures) (c .before .before .before .before .before .before .if2 .left)) (c .before .before .before .open-step .ensures)
 
 pub strengthen-spec : {M : Type 1} → statement M
 strengthen-spec = tie.close (tie.spec is-there-requires returns kind-of-requires same-length returns-2 open-step-requires same-length-2 same-length-3 returns-3)

@@ -31,7 +31,7 @@ shared-slice-read-kind : tie.Need-shared-slice-read-kind Inv-loop μ-loop
 shared-slice-read-kind c = c .before .loop-test .taken
 
 put-constraint-requires : tie.Need-put-constraint-requires Inv-loop μ-loop
-put-constraint-requires c κs = (leb→le _ 1 (all-getD _ 0 (c .before .before .before .loop .inv .order .binary) (c .before .before .loop-test .taken)), (out-left (c .before .before .before .loop .inv) (c .before .before .loop-test .taken), numbers-left (c .before .before .before .loop .inv) (c .before .before .loop-test .taken)))
+put-constraint-requires c κs = (leb→le _ 2 (all-getD _ 0 (c .before .before .before .loop .inv .order .valid) (c .before .before .loop-test .taken)), (out-left (c .before .before .before .loop .inv) (c .before .before .loop-test .taken), numbers-left (c .before .before .before .loop .inv) (c .before .before .loop-test .taken)))
 
 add-here : tie.Need-add-here Inv-loop μ-loop
 add-here c = omega (arith, out-left (c .before .before .before .before .before .before .loop .inv) (c .before .before .before .before .before .loop-test .taken), c .before .before .before .before .before .before .loop .inv .long)

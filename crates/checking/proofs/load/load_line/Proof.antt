@@ -26,6 +26,9 @@ load-partial-requires c κs =
     let p = c .before .before .before .before .before .before .before .pre in
     record { bytes = p .bytes; room = omega (arith, space-end (p .space), c .before .before .before .before .place .ensures) }
 
+line-kind-requires : tie.Need-line-kind-requires
+line-kind-requires c κs = search needs
+
 set-kind-requires : tie.Need-set-kind-requires
 set-kind-requires c κs = search needs
 
@@ -36,7 +39,7 @@ same-length-2 : tie.Need-same-length-2
 same-length-2 c = search needs
 
 returns : tie.Need-returns
-returns c = rw (c .before .before .set-kind .ensures) (form-loaded (c .before .before .before .before .before .before .before .before .before .before .before .before .before .pre) (c .before .before .before .before .before .before .before .before .before .before .before .before .before .args .in-a) (c .before .before .before .before .before .before .before .before .before .before .before .before .before .args .kind) (rw (c .before .before .before .before .before .before .before .before .before .before .place .ensures) at (c .before .before .before .before .before .before .before .before .load-numbers .ensures)) (rw (c .before .before .before .before .before .before .before .before .before .before .place .ensures) at (c .before .before .before .before .before .load-partial .ensures)))
+returns c = rw (c .before .before .set-kind .ensures, c .before .before .before .line-kind .ensures) (form-loaded (c .before .before .before .before .before .before .before .before .before .before .before .before .before .before .pre) (c .before .before .before .before .before .before .before .before .before .before .before .before .before .before .args .in-a) (rw (c .before .before .before .before .before .before .before .before .before .before .before .place .ensures) at (c .before .before .before .before .before .before .before .before .before .load-numbers .ensures)) (rw (c .before .before .before .before .before .before .before .before .before .before .before .place .ensures) at (c .before .before .before .before .before .before .load-partial .ensures)))
 
 pub load-line-spec : {M : Type 1} → statement M
 load-line-spec =
@@ -47,6 +50,7 @@ load-line-spec =
     load-numbers-requires
     add-load-partial
     load-partial-requires
+    line-kind-requires
     set-kind-requires
     same-length
     same-length-2

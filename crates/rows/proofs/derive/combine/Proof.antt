@@ -1,8 +1,8 @@
 -- `rows::derive::combine` meets its contract. Assumes nothing.
 use borrow.Author.Needs.{needs}
 use native.Mathlib.Omega.{arith}
-use mathlib.Core.Path.{sym, _∙_}
 use mir.ValLaws.{toZ-ofZ}
+use Rattle.rows.proofs.KindBytes.{kind-≤, kind-not-≤}
 use Rattle.rows.proofs.Testing.{is-below, past, zero-abs, some-abs, combine-none, combine-none-2, combine-kind, combine-kind-2, combine-zero, combine-zero-2, combine-made}
 use Rattle.rows.proofs.derive.combine.Statement.{statement}
 use Rattle.rows.proofs.derive.combine.Tie as tie
@@ -38,7 +38,7 @@ returns-3 : tie.Need-returns-3
 returns-3 c =
     let s = c .before .before .before .before .before .before .before .before in
     let a = s .args in
-    combine-kind _ _ _ (a .tally) _ _ _ _ (is-below (a .s .0) (a .tally .lines .0) (c .before .before .before .before .before .before .is-there .ensures) (c .before .before .before .before .before .if1 .left)) (is-below (a .t .0) (a .tally .lines .0) (c .before .before .before .before .is-there2 .ensures) (c .before .before .before .if2 .left)) (λ e. c .if3 .taken (c .before .kind-of .ensures ∙ e))
+    combine-kind _ _ _ (a .tally) _ _ _ _ (is-below (a .s .0) (a .tally .lines .0) (c .before .before .before .before .before .before .is-there .ensures) (c .before .before .before .before .before .if1 .left)) (is-below (a .t .0) (a .tally .lines .0) (c .before .before .before .before .is-there2 .ensures) (c .before .before .before .if2 .left)) (kind-not-≤ _ _ _ _ (c .before .kind-of .ensures) (c .if3 .taken))
 
 kind-of-requires-2 : tie.Need-kind-of-requires-2
 kind-of-requires-2 c κs =
@@ -53,7 +53,7 @@ returns-4 : tie.Need-returns-4
 returns-4 c =
     let s = c .before .before .before .before .before .before .before .before .before .before .before in
     let a = s .args in
-    combine-kind-2 _ _ _ (a .tally) _ _ _ _ (is-below (a .s .0) (a .tally .lines .0) (c .before .before .before .before .before .before .before .before .before .is-there .ensures) (c .before .before .before .before .before .before .before .before .if1 .left)) (is-below (a .t .0) (a .tally .lines .0) (c .before .before .before .before .before .before .before .is-there2 .ensures) (c .before .before .before .before .before .before .if2 .left)) (sym (c .before .before .before .before .kind-of .ensures) ∙ c .before .before .before .if3 .left) (λ e. c .if4 .taken (c .before .kind-of2 .ensures ∙ e))
+    combine-kind-2 _ _ _ (a .tally) _ _ _ _ (is-below (a .s .0) (a .tally .lines .0) (c .before .before .before .before .before .before .before .before .before .is-there .ensures) (c .before .before .before .before .before .before .before .before .if1 .left)) (is-below (a .t .0) (a .tally .lines .0) (c .before .before .before .before .before .before .before .is-there2 .ensures) (c .before .before .before .before .before .before .if2 .left)) (kind-≤ _ _ _ _ (c .before .before .before .before .kind-of .ensures) (c .before .before .before .if3 .left)) (kind-not-≤ _ _ _ _ (c .before .kind-of2 .ensures) (c .if4 .taken))
 
 is-zero-requires : tie.Need-is-zero-requires
 is-zero-requires c κs = search needs
@@ -66,7 +66,7 @@ returns-5 c =
     let s = c .before .before .before .before .before .before .before .before .before .before .before .before .before in
     let a = s .args in
     let fa = s .fits .alpha in
-    combine-zero _ _ _ (a .tally) _ _ _ _ (is-below (a .s .0) (a .tally .lines .0) (c .before .before .before .before .before .before .before .before .before .before .before .is-there .ensures) (c .before .before .before .before .before .before .before .before .before .before .if1 .left)) (is-below (a .t .0) (a .tally .lines .0) (c .before .before .before .before .before .before .before .before .before .is-there2 .ensures) (c .before .before .before .before .before .before .before .before .if2 .left)) (sym (c .before .before .before .before .before .before .kind-of .ensures) ∙ c .before .before .before .before .before .if3 .left) (sym (c .before .before .before .kind-of2 .ensures) ∙ c .before .before .if4 .left) (zero-abs (a .alpha) (simp toZ-ofZ at (c .before .is-zero .ensures)) (c .if5 .taken))
+    combine-zero _ _ _ (a .tally) _ _ _ _ (is-below (a .s .0) (a .tally .lines .0) (c .before .before .before .before .before .before .before .before .before .before .before .is-there .ensures) (c .before .before .before .before .before .before .before .before .before .before .if1 .left)) (is-below (a .t .0) (a .tally .lines .0) (c .before .before .before .before .before .before .before .before .before .is-there2 .ensures) (c .before .before .before .before .before .before .before .before .if2 .left)) (kind-≤ _ _ _ _ (c .before .before .before .before .before .before .kind-of .ensures) (c .before .before .before .before .before .if3 .left)) (kind-≤ _ _ _ _ (c .before .before .before .kind-of2 .ensures) (c .before .before .if4 .left)) (zero-abs (a .alpha) (simp toZ-ofZ at (c .before .is-zero .ensures)) (c .if5 .taken))
 
 is-zero-requires-2 : tie.Need-is-zero-requires-2
 is-zero-requires-2 c κs = search needs
@@ -80,7 +80,7 @@ returns-6 c =
     let a = s .args in
     let fa = s .fits .alpha in
     let fb = s .fits .beta in
-    combine-zero-2 _ _ _ (a .tally) _ _ _ _ (is-below (a .s .0) (a .tally .lines .0) (c .before .before .before .before .before .before .before .before .before .before .before .before .before .is-there .ensures) (c .before .before .before .before .before .before .before .before .before .before .before .before .if1 .left)) (is-below (a .t .0) (a .tally .lines .0) (c .before .before .before .before .before .before .before .before .before .before .before .is-there2 .ensures) (c .before .before .before .before .before .before .before .before .before .before .if2 .left)) (sym (c .before .before .before .before .before .before .before .before .kind-of .ensures) ∙ c .before .before .before .before .before .before .before .if3 .left) (sym (c .before .before .before .before .before .kind-of2 .ensures) ∙ c .before .before .before .before .if4 .left) (some-abs (a .alpha) (simp toZ-ofZ at (c .before .before .before .is-zero .ensures)) (c .before .before .if5 .left)) (zero-abs (a .beta) (simp toZ-ofZ at (c .before .is-zero2 .ensures)) (c .if6 .taken))
+    combine-zero-2 _ _ _ (a .tally) _ _ _ _ (is-below (a .s .0) (a .tally .lines .0) (c .before .before .before .before .before .before .before .before .before .before .before .before .before .is-there .ensures) (c .before .before .before .before .before .before .before .before .before .before .before .before .if1 .left)) (is-below (a .t .0) (a .tally .lines .0) (c .before .before .before .before .before .before .before .before .before .before .before .is-there2 .ensures) (c .before .before .before .before .before .before .before .before .before .before .if2 .left)) (kind-≤ _ _ _ _ (c .before .before .before .before .before .before .before .before .kind-of .ensures) (c .before .before .before .before .before .before .before .if3 .left)) (kind-≤ _ _ _ _ (c .before .before .before .before .before .kind-of2 .ensures) (c .before .before .before .before .if4 .left)) (some-abs (a .alpha) (simp toZ-ofZ at (c .before .before .before .is-zero .ensures)) (c .before .before .if5 .left)) (zero-abs (a .beta) (simp toZ-ofZ at (c .before .is-zero2 .ensures)) (c .if6 .taken))
 
 append-requires : tie.Need-append-requires
 append-requires c κs =
@@ -88,7 +88,7 @@ append-requires c κs =
     let a = s .args in
     let fa = s .fits .alpha in
     let fb = s .fits .beta in
-    simp toZ-ofZ (s .pre .0, record { f-in = s .pre .1 .0 .within; first = (is-below (a .s .0) (a .tally .lines .0) (c .before .before .before .before .before .before .before .before .before .before .before .before .before .before .before .is-there .ensures) (c .before .before .before .before .before .before .before .before .before .before .before .before .before .before .if1 .left)); g-in = s .pre .1 .1 .within; second = (is-below (a .t .0) (a .tally .lines .0) (c .before .before .before .before .before .before .before .before .before .before .before .before .before .is-there2 .ensures) (c .before .before .before .before .before .before .before .before .before .before .before .before .if2 .left)) })
+    simp toZ-ofZ (s .pre .0, record { plain = omega arith; f-in = s .pre .1 .0 .within; first = (is-below (a .s .0) (a .tally .lines .0) (c .before .before .before .before .before .before .before .before .before .before .before .before .before .before .before .is-there .ensures) (c .before .before .before .before .before .before .before .before .before .before .before .before .before .before .if1 .left)); g-in = s .pre .1 .1 .within; second = (is-below (a .t .0) (a .tally .lines .0) (c .before .before .before .before .before .before .before .before .before .before .before .before .before .is-there2 .ensures) (c .before .before .before .before .before .before .before .before .before .before .before .before .if2 .left)) })
 
 same-length-5 : tie.Need-same-length-5
 same-length-5 c = search needs
@@ -102,7 +102,7 @@ returns-7 c =
     let a = s .args in
     let fa = s .fits .alpha in
     let fb = s .fits .beta in
-    combine-made _ _ _ (a .tally) _ _ _ _ (is-below (a .s .0) (a .tally .lines .0) (c .before .before .before .before .before .before .before .before .before .before .before .before .before .before .before .before .before .before .before .is-there .ensures) (c .before .before .before .before .before .before .before .before .before .before .before .before .before .before .before .before .before .before .if1 .left)) (is-below (a .t .0) (a .tally .lines .0) (c .before .before .before .before .before .before .before .before .before .before .before .before .before .before .before .before .before .is-there2 .ensures) (c .before .before .before .before .before .before .before .before .before .before .before .before .before .before .before .before .if2 .left)) (sym (c .before .before .before .before .before .before .before .before .before .before .before .before .before .before .kind-of .ensures) ∙ c .before .before .before .before .before .before .before .before .before .before .before .before .before .if3 .left) (sym (c .before .before .before .before .before .before .before .before .before .before .before .kind-of2 .ensures) ∙ c .before .before .before .before .before .before .before .before .before .before .if4 .left) (some-abs (a .alpha) (simp toZ-ofZ at (c .before .before .before .before .before .before .before .before .before .is-zero .ensures)) (c .before .before .before .before .before .before .before .before .if5 .left)) (some-abs (a .beta) (simp toZ-ofZ at (c .before .before .before .before .before .before .before .is-zero2 .ensures)) (c .before .before .before .before .before .before .if6 .left)) (s .pre .1 .0 .is) (s .pre .1 .1 .is) (simp toZ-ofZ at (c .before .before .before .append .ensures))
+    combine-made _ _ _ (a .tally) _ _ _ _ (is-below (a .s .0) (a .tally .lines .0) (c .before .before .before .before .before .before .before .before .before .before .before .before .before .before .before .before .before .before .before .is-there .ensures) (c .before .before .before .before .before .before .before .before .before .before .before .before .before .before .before .before .before .before .if1 .left)) (is-below (a .t .0) (a .tally .lines .0) (c .before .before .before .before .before .before .before .before .before .before .before .before .before .before .before .before .before .is-there2 .ensures) (c .before .before .before .before .before .before .before .before .before .before .before .before .before .before .before .before .if2 .left)) (kind-≤ _ _ _ _ (c .before .before .before .before .before .before .before .before .before .before .before .before .before .before .kind-of .ensures) (c .before .before .before .before .before .before .before .before .before .before .before .before .before .if3 .left)) (kind-≤ _ _ _ _ (c .before .before .before .before .before .before .before .before .before .before .before .kind-of2 .ensures) (c .before .before .before .before .before .before .before .before .before .before .if4 .left)) (some-abs (a .alpha) (simp toZ-ofZ at (c .before .before .before .before .before .before .before .before .before .is-zero .ensures)) (c .before .before .before .before .before .before .before .before .if5 .left)) (some-abs (a .beta) (simp toZ-ofZ at (c .before .before .before .before .before .before .before .is-zero2 .ensures)) (c .before .before .before .before .before .before .if6 .left)) (s .pre .1 .0 .is) (s .pre .1 .1 .is) (simp toZ-ofZ at (c .before .before .before .append .ensures))
 
 pub combine-spec : {M : Type 1} → statement M
 combine-spec = tie.close (tie.spec is-there-requires returns is-there-requires-2 returns-2 kind-of-requires same-length returns-3 kind-of-requires-2 same-length-2 returns-4 is-zero-requires same-length-3 returns-5 is-zero-requires-2 same-length-4 returns-6 append-requires same-length-5 same-length-6 returns-7)

@@ -1,5 +1,5 @@
 -- `rows::entries::entry_at` meets its contract. Assumes nothing.
-use Rattle.rows.proofs.Reading.{combine-in, reduce-in, scale-in, strengthen-in, number-in, stride-in, round-in, claim-in, header-in, header-in-2, unknown-in}
+use Rattle.rows.proofs.Reading.{combine-in, reduce-in, scale-in, strengthen-in, number-in, stride-in, round-in, split-in, claim-in, header-in, header-in-2, unknown-in}
 use borrow.Author.Needs.{needs}
 use Rattle.rows.proofs.entries.entry_at.Statement.{statement}
 use Rattle.rows.proofs.entries.entry_at.Tie as tie
@@ -46,20 +46,26 @@ round-at-requires c κs = search needs
 returns-7 : tie.Need-returns-7
 returns-7 c = round-in _ _ (c .before .if7 .taken) (c .round-at .ensures)
 
+split-at-requires : tie.Need-split-at-requires
+split-at-requires c κs = search needs
+
+returns-8 : tie.Need-returns-8
+returns-8 c = split-in _ _ (c .before .if8 .taken) (c .split-at .ensures)
+
 claim-at-requires : tie.Need-claim-at-requires
 claim-at-requires c κs = search needs
 
-returns-8 : tie.Need-returns-8
-returns-8 c = claim-in _ (c .before .if8 .taken) (c .before .before .before .before .before .before .before .before .before .before .pre .1) (c .claim-at .ensures)
-
 returns-9 : tie.Need-returns-9
-returns-9 c = header-in _ _ (c .if9 .taken)
+returns-9 c = claim-in _ (c .before .if9 .taken) (c .before .before .before .before .before .before .before .before .before .before .before .pre .1) (c .claim-at .ensures)
 
 returns-10 : tie.Need-returns-10
-returns-10 c = header-in-2 _ _ (c .if10 .taken)
+returns-10 c = header-in _ _ (c .if10 .taken)
 
 returns-11 : tie.Need-returns-11
-returns-11 c = unknown-in _ _ (c .before .before .before .before .before .before .before .before .before .if1 .left) (c .before .before .before .before .before .before .before .before .if2 .left) (c .before .before .before .before .before .before .before .if3 .left) (c .before .before .before .before .before .before .if4 .left) (c .before .before .before .before .before .if5 .left) (c .before .before .before .before .if6 .left) (c .before .before .before .if7 .left) (c .before .before .if8 .left) (c .before .if9 .left) (c .if10 .left)
+returns-11 c = header-in-2 _ _ (c .if11 .taken)
+
+returns-12 : tie.Need-returns-12
+returns-12 c = unknown-in _ _ (c .before .before .before .before .before .before .before .before .before .before .if1 .left) (c .before .before .before .before .before .before .before .before .before .if2 .left) (c .before .before .before .before .before .before .before .before .if3 .left) (c .before .before .before .before .before .before .before .if4 .left) (c .before .before .before .before .before .before .if5 .left) (c .before .before .before .before .before .if6 .left) (c .before .before .before .before .if7 .left) (c .before .before .before .if8 .left) (c .before .before .if9 .left) (c .before .if10 .left) (c .if11 .left)
 
 pub entry-at-spec : {M : Type 1} → statement M
 entry-at-spec =
@@ -79,8 +85,10 @@ entry-at-spec =
     returns-6
     round-at-requires
     returns-7
-    claim-at-requires
+    split-at-requires
     returns-8
+    claim-at-requires
     returns-9
     returns-10
-    returns-11)
+    returns-11
+    returns-12)

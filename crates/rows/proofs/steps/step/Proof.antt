@@ -156,31 +156,44 @@ returns-7 c =
 enum-known-entry-8 : tie.Need-enum-known-entry-8
 enum-known-entry-8 c = search needs
 
+split-row-requires : tie.Need-split-row-requires
+split-row-requires c κs = search needs
+
+returns-8 : tie.Need-returns-8
+returns-8 c =
+    let s = c .before .before .before .before .before .before .before in
+    let a = s .args in
+    let e = rw (c .before .before .entry8 .given .1) at (c .before .before .before .before .entry-at .ensures) in
+    step-row _ _ (a .tally) (a .made) (c .before .before .before .before .entry-at .ensures) _ (λ refusal. ap (entryOf refusal (a .k) _) (c .before .before .entry8 .given .1)) (e .filled) (c .split-row .ensures .steps _ _ _)
+
+enum-known-entry-9 : tie.Need-enum-known-entry-9
+enum-known-entry-9 c = search needs
+
 claim-step-requires : tie.Need-claim-step-requires
 claim-step-requires c κs =
     let s = c .before .before .before .before .before .before .before in
     let a = s .args in
-    let e = rw (c .before .before .entry8 .given .1) at (c .before .before .before .before .entry-at .ensures) in
+    let e = rw (c .before .before .entry9 .given .1) at (c .before .before .before .before .entry-at .ensures) in
     ((s .pre .0 .branch .constants, omega (arith, e .ranged .0, e .ranged .1, s .pre .1 .0), s .pre .0 .most, omega (arith, s .pre .0 .branch .room)), s .pre .1 .1)
 
 same-length-7 : tie.Need-same-length-7
 same-length-7 c = search needs
 
-returns-8 : tie.Need-returns-8
-returns-8 c =
-    let s = c .before .before .before .before .before .before .before .before in
-    let a = s .args in
-    let e = rw (c .before .before .before .entry8 .given .1) at (c .before .before .before .before .before .entry-at .ensures) in
-    step-claim _ _ (a .tally) (a .made) (c .before .before .before .before .before .entry-at .ensures) (c .before .before .before .entry8 .given .1) (e .ranged .0) (e .ranged .1) (e .filled) (c .claim-step .ensures)
-
-enum-known-entry-9 : tie.Need-enum-known-entry-9
-enum-known-entry-9 c = search needs
-
 returns-9 : tie.Need-returns-9
 returns-9 c =
+    let s = c .before .before .before .before .before .before .before .before in
+    let a = s .args in
+    let e = rw (c .before .before .before .entry9 .given .1) at (c .before .before .before .before .before .entry-at .ensures) in
+    step-claim _ _ (a .tally) (a .made) (c .before .before .before .before .before .entry-at .ensures) (c .before .before .before .entry9 .given .1) (e .ranged .0) (e .ranged .1) (e .filled) (c .claim-step .ensures)
+
+enum-known-entry-10 : tie.Need-enum-known-entry-10
+enum-known-entry-10 c = search needs
+
+returns-10 : tie.Need-returns-10
+returns-10 c =
     let s = c .before .before .before .before .before .before in
     let a = s .args in
-    step-refused _ _ (a .tally) (a .made) (c .before .before .before .entry-at .ensures) (c .before .entry9 .given .1)
+    step-refused _ _ (a .tally) (a .made) (c .before .before .before .entry-at .ensures) (c .before .entry10 .given .1)
 
 pub step-spec : {M : Type 1} → statement M
-step-spec = tie.close (tie.spec entry-at-requires enum-known-entry combine-row-requires same-length same-length-2 returns enum-known-entry-2 reduce-row-requires same-length-3 same-length-4 returns-2 enum-known-entry-3 scale-row-requires same-length-5 same-length-6 returns-3 enum-known-entry-4 strengthen-row-requires returns-4 enum-known-entry-5 number-row-requires returns-5 enum-known-entry-6 stride-row-requires returns-6 enum-known-entry-7 round-row-requires returns-7 enum-known-entry-8 claim-step-requires same-length-7 returns-8 enum-known-entry-9 returns-9)
+step-spec = tie.close (tie.spec entry-at-requires enum-known-entry combine-row-requires same-length same-length-2 returns enum-known-entry-2 reduce-row-requires same-length-3 same-length-4 returns-2 enum-known-entry-3 scale-row-requires same-length-5 same-length-6 returns-3 enum-known-entry-4 strengthen-row-requires returns-4 enum-known-entry-5 number-row-requires returns-5 enum-known-entry-6 stride-row-requires returns-6 enum-known-entry-7 round-row-requires returns-7 enum-known-entry-8 split-row-requires returns-8 enum-known-entry-9 claim-step-requires same-length-7 returns-9 enum-known-entry-10 returns-10)

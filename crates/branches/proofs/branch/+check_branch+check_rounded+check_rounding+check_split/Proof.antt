@@ -1,44 +1,58 @@
--- The proof of the cycle {check_branch, check_rounded, check_rounding}: the measure is how many bytes are unread and how many more branching steps may be open, twice, and one more where the branches of a rounding are gone through.
--- Each answer collects the facts on its way and cites a lemma of `Staging`, `Finishing` or `Rounds`. Assumes nothing.
+-- The proof of the cycle {check_branch, check_rounded, check_rounding, check_split}: the measure is how many bytes are unread and how many more branching steps may be open, twice, and one more where the branches of a rounding or a split are gone through.
+-- Each answer collects the facts on its way and cites a lemma of `Staging`, `Finishing`, `Rounds` or `Splits`; what is checked in a turn of the loop over j gives what is checked from 0 on. Assumes nothing.
 use native.Mathlib.Omega.{arith}
 use mathlib.Core.Path.{refl, _∙_}
 use lib.Dec.{ltb}
 use lib.IntN.{natAbs}
 use borrow.Author.Tests.{ltb-true, ltb-false}
+use mir.Syntax.{w64}
+use mir.Val.{toZ}
 use mir.ValLaws.{toZ-ofZ}
+use Rattle.rows.proofs.Testing.{unnot}
 use Rattle.integers.proofs.Magnitude.{within-fits}
+use Rattle.forms.specs.Forms.{_or_}
 use Rattle.branches.specs.Spare.{unreadBytes}
 use Rattle.branches.specs.Opening.{lastTwo, fromBranch}
-use Rattle.branches.proofs.Counting.{one-less, next-falls, own-falls, others-fall}
-use Rattle.branches.proofs.Staging.{started-room, stopped-fault, number-comes, stride-comes, strengthen-comes, round-comes, number-closed, stride-closed, opens-refused}
-use Rattle.branches.proofs.Finishing.{room-left, first-started, first-fault, rest-open, rest-unread, rest-opened, first-checks, second-start, second-started, two-fault, third-open, third-unread, third-asked, third-started, two-checks, opening-falls, opened, first-stands, resumed-fault, resumed-checks}
-use Rattle.branches.proofs.Rounds.{rounded-start, front-asked, rounded-started, last-checks, more-fault, more-open, more-unread, more-opened, more-checks}
+use Rattle.branches.proofs.Counting.{one-less, next-falls, own-falls, others-fall, turn-falls}
+use Rattle.branches.proofs.Staging.{started-room, stopped-fault, number-comes, stride-comes, strengthen-comes, round-comes, split-comes, number-closed, stride-closed, opens-refused}
+use Rattle.branches.proofs.Finishing.{room-left, first-started, first-fault, rest-open, rest-unread, rest-opened, first-checks, head-short, none-short, start-asked, some-longer, some-started, some-open, some-unread, some-opened, two-fault, two-checks, opening-falls, opened, first-stands, resumed-fault, resumed-checks}
+use Rattle.branches.proofs.Joining.{or-bytes}
+use Rattle.branches.proofs.Splits.{split-there, split-started, split-fault, split-open, split-unread, negated-asked, negated-started, split-checks, split-opened, split-resumed}
+use Rattle.branches.proofs.Rounds.{front-asked, front-short, Rounding, rounding-start, rounding-last, rounding-fault, rounding-next}
 use Prim.Native.Nat.{ℕ, _+_, _*_, _-_, _<_}
 use borrow.Author.Needs.{needs}
 use borrow.Fn.Kinds.{In}
 use borrow.Fn.PlainCycle.{Measures, is, falls, and}
 use Rattle.branches.proofs.branch.check_branch.Reads as check-branch
 use Rattle.branches.proofs.branch.check_branch.Kinds as check-branch-kinds
-use Rattle.branches.proofs.branch.+check_branch+check_rounded+check_rounding.Lts-check_branch as check-branch-lts
+use Rattle.branches.proofs.branch.+check_branch+check_rounded+check_rounding+check_split.Lts-check_branch as check-branch-lts
 use Rattle.branches.proofs.branch.check_rounded.Reads as check-rounded
 use Rattle.branches.proofs.branch.check_rounded.Kinds as check-rounded-kinds
-use Rattle.branches.proofs.branch.+check_branch+check_rounded+check_rounding.Lts-check_rounded as check-rounded-lts
+use Rattle.branches.proofs.branch.+check_branch+check_rounded+check_rounding+check_split.Lts-check_rounded as check-rounded-lts
 use Rattle.branches.proofs.branch.check_rounding.Reads as check-rounding
 use Rattle.branches.proofs.branch.check_rounding.Kinds as check-rounding-kinds
-use Rattle.branches.proofs.branch.+check_branch+check_rounded+check_rounding.Lts-check_rounding as check-rounding-lts
+use Rattle.branches.proofs.branch.+check_branch+check_rounded+check_rounding+check_split.Lts-check_rounding as check-rounding-lts
+use Rattle.branches.proofs.branch.check_split.Reads as check-split
+use Rattle.branches.proofs.branch.check_split.Kinds as check-split-kinds
+use Rattle.branches.proofs.branch.+check_branch+check_rounded+check_rounding+check_split.Lts-check_split as check-split-lts
 use Rattle.branches.proofs.branch.closed.Reads as closed-reads
 use Rattle.branches.proofs.branch.entries.Reads as entries-reads
 use Rattle.branches.proofs.branch.resumed.Reads as resumed-reads
 use Rattle.branches.proofs.opening.start.Reads as start-reads
+use Rattle.branches.proofs.opening.start_negated.Reads as start-negated-reads
 use Rattle.branches.proofs.rounding.put_front.Reads as put-front-reads
 use Rattle.branches.proofs.rounding.round.Reads as round-reads
+use Rattle.branches.proofs.split.joined_by.Reads as joined-by-reads
+use Rattle.branches.proofs.split.raised_by.Reads as raised-by-reads
+use Rattle.branches.proofs.split.split.Reads as split-reads
 use Rattle.branches.proofs.strengthen.strengthen.Reads as strengthen-reads
 use Rattle.closes.proofs.ends.close_number.Reads as close-number-reads
 use Rattle.closes.proofs.ends.close_stride.Reads as close-stride-reads
 use Rattle.formula.proofs.writing.put_pair.Reads as put-pair-reads
+use Rattle.rows.proofs.derive.kind_of.Reads as kind-of-reads
 use Rattle.rows.proofs.tally.returned.Reads as returned-reads
-use Rattle.branches.proofs.branch.+check_branch+check_rounded+check_rounding.{statement}
-use Rattle.branches.proofs.branch.+check_branch+check_rounded+check_rounding.Tie.{close}
+use Rattle.branches.proofs.branch.+check_branch+check_rounded+check_rounding+check_split.{statement}
+use Rattle.branches.proofs.branch.+check_branch+check_rounded+check_rounding+check_split.Tie.{close}
 
 abbrev μ-check-branch : Measures 4 check-branch-kinds.ps ℕ
 μ-check-branch κs a = 2 * (unreadBytes (a .0 .now) (a .1 .0) + (32 - a .1 .1 .1 .1 .1 .0 .«open»))
@@ -48,6 +62,9 @@ abbrev μ-check-rounded : Measures 4 check-rounded-kinds.ps ℕ
 
 abbrev μ-check-rounding : Measures 4 check-rounding-kinds.ps ℕ
 μ-check-rounding κs a = 2 * (unreadBytes (a .0 .now) (a .1 .0) + (32 - a .1 .1 .1 .1 .1 .0 .«open»)) + 1
+
+abbrev μ-check-split : Measures 4 check-split-kinds.ps ℕ
+μ-check-split κs a = 2 * (unreadBytes (a .0 .now) (a .1 .0) + (32 - a .1 .1 .1 .1 .1 .0 .«open»)) + 1
 
 abbrev check-branch-at : ℕ → In 4 check-branch-kinds.ps
 check-branch-at t = and 4 check-branch-kinds.ps (is 4 check-branch-kinds.ps μ-check-branch t) check-branch.Pre
@@ -67,18 +84,36 @@ check-rounding-at t = and 4 check-rounding-kinds.ps (is 4 check-rounding-kinds.p
 abbrev check-rounding-below : ℕ → In 4 check-rounding-kinds.ps
 check-rounding-below t = and 4 check-rounding-kinds.ps (falls 4 check-rounding-kinds.ps _<_ μ-check-rounding t) check-rounding.Pre
 
+abbrev check-split-at : ℕ → In 4 check-split-kinds.ps
+check-split-at t = and 4 check-split-kinds.ps (is 4 check-split-kinds.ps μ-check-split t) check-split.Pre
+
+abbrev check-split-below : ℕ → In 4 check-split-kinds.ps
+check-split-below t = and 4 check-split-kinds.ps (falls 4 check-split-kinds.ps _<_ μ-check-split t) check-split.Pre
+
 -- what is known of the functions that each calls
 abbrev check-branch-claims : ℕ → check-branch-lts.Claims
 check-branch-claims t =
-    (entries-reads.Asked, entries-reads.Learnt, close-number-reads.Asked, close-number-reads.Learnt, returned-reads.Asked, returned-reads.Learnt, closed-reads.Asked, closed-reads.Learnt, close-stride-reads.Asked, close-stride-reads.Learnt, strengthen-reads.Asked, strengthen-reads.Learnt, put-pair-reads.Asked, put-pair-reads.Learnt, check-branch-below t, check-branch.Post, start-reads.Asked, start-reads.Learnt, resumed-reads.Asked, resumed-reads.Learnt, round-reads.Asked, round-reads.Learnt, check-rounding-below t, check-rounding.Post)
+    (entries-reads.Asked, entries-reads.Learnt, close-number-reads.Asked, close-number-reads.Learnt, returned-reads.Asked, returned-reads.Learnt, closed-reads.Asked, closed-reads.Learnt, close-stride-reads.Asked, close-stride-reads.Learnt, strengthen-reads.Asked, strengthen-reads.Learnt, put-pair-reads.Asked, put-pair-reads.Learnt, check-branch-below t, check-branch.Post, start-reads.Asked, start-reads.Learnt, resumed-reads.Asked, resumed-reads.Learnt, round-reads.Asked, round-reads.Learnt, check-rounding-below t, check-rounding.Post, split-reads.Asked, split-reads.Learnt, check-split-below t, check-split.Post)
 
 abbrev check-rounded-claims : ℕ → check-rounded-lts.Claims
 check-rounded-claims t =
-    (start-reads.Asked, start-reads.Learnt, put-front-reads.Asked, put-front-reads.Learnt, check-branch-below t, check-branch.Post, check-rounded-below t, check-rounded.Post)
+    (start-reads.Asked, start-reads.Learnt, put-front-reads.Asked, put-front-reads.Learnt, check-branch-below t, check-branch.Post)
 
 abbrev check-rounding-claims : ℕ → check-rounding-lts.Claims
 check-rounding-claims t =
     (put-pair-reads.Asked, put-pair-reads.Learnt, check-branch-below t, check-branch.Post, check-rounded-below t, check-rounded.Post)
+
+abbrev check-split-claims : ℕ → check-split-lts.Claims
+check-split-claims t =
+    (kind-of-reads.Asked, kind-of-reads.Learnt, joined-by-reads.Asked, joined-by-reads.Learnt, put-pair-reads.Asked, put-pair-reads.Learnt, check-branch-below t, check-branch.Post, raised-by-reads.Asked, raised-by-reads.Learnt, start-negated-reads.Asked, start-negated-reads.Learnt)
+
+-- The loop over j of a rounding's branches.
+abbrev Inv-loop : check-rounded-lts.InvT-loop
+Inv-loop p at row lines₀ kinds₀ k t n g by scratch₀ o here₀ end₀ count₀ j₀ lines kinds scratch here end count j =
+    Rounding k (row .0) (n .0) p at kinds₀ lines₀ count₀ (t .0) (natAbs (toZ w64 g)) by scratch₀ o kinds lines scratch here end count j
+
+abbrev μ-loop : check-rounded-lts.MeasureT-loop
+μ-loop p at row lines₀ kinds₀ k t n g by scratch₀ o here₀ end₀ count₀ j₀ lines kinds scratch here end count j = unreadBytes p here
 
 module _ (t : ℕ) where
   check-branch-entries-requires : check-branch-lts.Need-entries-requires (check-branch-claims t) (check-branch-at t) check-branch.Post
@@ -188,7 +223,7 @@ module _ (t : ℕ) where
       let d = opened m (stop .kept) s made st in
       let f = first-stands m (stop .kept) s made in
       let h = c .before .before .before .before .before .put-pair .ensures in
-      (one-less (opening-falls m (stop .kept) s made (c .before .before .before .before .before .before .before .before .before .before .before .before .before .before .before .before .before .before .before .before .before .before .before .before .before .before .before .before .before .pre .0)), first-started d lastTwo 0 f h)
+      (one-less (opening-falls m (stop .kept) s made (c .before .before .before .before .before .before .before .before .before .before .before .before .before .before .before .before .before .before .before .before .before .before .before .before .before .before .before .before .before .pre .0)), first-started d _or_ or-bytes lastTwo 0 f h)
 
   check-branch-enum-known-first : check-branch-lts.Need-enum-known-first (check-branch-claims t) (check-branch-at t) check-branch.Post
   check-branch-enum-known-first c = search needs
@@ -216,7 +251,7 @@ module _ (t : ℕ) where
       let f = first-stands m (stop .kept) s made in
       let h = c .before .before .before .before .before .before .before .before .before .before .before .before .before .put-pair .ensures in
       let b = c .before .before .before .before .before .before .before .check-branch .ensures in
-      resumed-checks m (stop .kept) s made (c .before .before .before .before .before .before .before .before .before .before .before .before .before .before .before .before .before .before .before .before .before .before .before .before .before .before .before .before .before .before .before .before .before .before .before .before .before .args .position) (first-fault d lastTwo _ f h b (c .enum-told .given .1)) (resumed-fault _ (c .enum-told .given .1))
+      resumed-checks m (stop .kept) s made (c .before .before .before .before .before .before .before .before .before .before .before .before .before .before .before .before .before .before .before .before .before .before .before .before .before .before .before .before .before .before .before .before .before .before .before .before .before .args .position) (first-fault d _or_ or-bytes lastTwo _ f h b (c .enum-told .given .1)) (resumed-fault _ (c .enum-told .given .1))
 
   check-branch-start-requires : check-branch-lts.Need-start-requires (check-branch-claims t) (check-branch-at t) check-branch.Post
   check-branch-start-requires c κs =
@@ -230,8 +265,8 @@ module _ (t : ℕ) where
       let h = c .before .before .before .before .before .before .before .before .before .before .before .before .before .before .before .before .put-pair .ensures in
       let b = c .before .before .before .before .before .before .before .before .before .before .check-branch .ensures in
       let e = c .before .before .before .first .given .1 in
-      let d₂ = rest-opened d lastTwo _ f h b e in
-      second-start d₂
+      let d₂ = rest-opened d _or_ or-bytes lastTwo _ f h b e in
+      start-asked d₂ (omega arith) (omega arith)
 
   check-branch-put-pair-requires-2 : check-branch-lts.Need-put-pair-requires-2 (check-branch-claims t) (check-branch-at t) check-branch.Post
   check-branch-put-pair-requires-2 c κs =
@@ -245,7 +280,7 @@ module _ (t : ℕ) where
       let h = c .before .before .before .before .before .before .before .before .before .before .before .before .before .before .before .before .before .before .before .before .before .put-pair .ensures in
       let b = c .before .before .before .before .before .before .before .before .before .before .before .before .before .before .before .check-branch .ensures in
       let e = c .before .before .before .before .before .before .before .before .first .given .1 in
-      let d₂ = rest-opened d lastTwo _ f h b e in
+      let d₂ = rest-opened d _or_ or-bytes lastTwo _ f h b e in
       omega (arith, room-left d₂)
 
   check-branch-check-branch-requires-2 : check-branch-lts.Need-check-branch-requires-2 (check-branch-claims t) (check-branch-at t) check-branch.Post
@@ -260,11 +295,11 @@ module _ (t : ℕ) where
       let h = c .before .before .before .before .before .before .before .before .before .before .before .before .before .before .before .before .before .before .before .before .before .before .before .before .before .before .before .put-pair .ensures in
       let b = c .before .before .before .before .before .before .before .before .before .before .before .before .before .before .before .before .before .before .before .before .before .check-branch .ensures in
       let e = c .before .before .before .before .before .before .before .before .before .before .before .before .before .before .first .given .1 in
-      let d₂ = rest-opened d lastTwo _ f h b e in
+      let d₂ = rest-opened d _or_ or-bytes lastTwo _ f h b e in
       let lines₂ = c .before .before .before .before .before .before .before .before .before .before .start .ensures .0 in
       let kinds₂ = c .before .before .before .before .before .before .before .before .before .before .start .ensures .1 in
       let h₂ = c .before .before .before .before .before .put-pair2 .ensures in
-      (next-falls (rest-open d lastTwo _ f h b e) (rest-unread d lastTwo _ f h b e) (one-less (opening-falls m (stop .kept) s made (c .before .before .before .before .before .before .before .before .before .before .before .before .before .before .before .before .before .before .before .before .before .before .before .before .before .before .before .before .before .before .before .before .before .before .before .before .before .before .before .before .before .before .before .before .before .before .before .before .before .before .before .pre .0))), second-started d₂ 0 lines₂ kinds₂ h₂)
+      (next-falls (rest-open d _or_ or-bytes lastTwo _ f h b e) (rest-unread d _or_ or-bytes lastTwo _ f h b e) (one-less (opening-falls m (stop .kept) s made (c .before .before .before .before .before .before .before .before .before .before .before .before .before .before .before .before .before .before .before .before .before .before .before .before .before .before .before .before .before .before .before .before .before .before .before .before .before .before .before .before .before .before .before .before .before .before .before .before .before .before .before .pre .0))), some-started d₂ _ _ _ lines₂ kinds₂ (omega arith) (omega arith) (omega arith) (head-short h₂))
 
   check-branch-enum-known-second : check-branch-lts.Need-enum-known-second (check-branch-claims t) (check-branch-at t) check-branch.Post
   check-branch-enum-known-second c = search needs
@@ -293,12 +328,12 @@ module _ (t : ℕ) where
       let h = c .before .before .before .before .before .before .before .before .before .before .before .before .before .before .before .before .before .before .before .before .before .before .before .before .before .before .before .before .before .before .before .before .before .before .before .put-pair .ensures in
       let b = c .before .before .before .before .before .before .before .before .before .before .before .before .before .before .before .before .before .before .before .before .before .before .before .before .before .before .before .before .before .check-branch .ensures in
       let e = c .before .before .before .before .before .before .before .before .before .before .before .before .before .before .before .before .before .before .before .before .before .before .first .given .1 in
-      let d₂ = rest-opened d lastTwo _ f h b e in
+      let d₂ = rest-opened d _or_ or-bytes lastTwo _ f h b e in
       let lines₂ = c .before .before .before .before .before .before .before .before .before .before .before .before .before .before .before .before .before .before .start .ensures .0 in
       let kinds₂ = c .before .before .before .before .before .before .before .before .before .before .before .before .before .before .before .before .before .before .start .ensures .1 in
       let h₂ = c .before .before .before .before .before .before .before .before .before .before .before .before .before .put-pair2 .ensures in
       let b₂ = c .before .before .before .before .before .before .before .check-branch2 .ensures in
-      resumed-checks m (stop .kept) s made (c .before .before .before .before .before .before .before .before .before .before .before .before .before .before .before .before .before .before .before .before .before .before .before .before .before .before .before .before .before .before .before .before .before .before .before .before .before .before .before .before .before .before .before .before .before .before .before .before .before .before .before .before .before .before .before .before .before .before .before .args .position) (first-checks d lastTwo _ f h b e (omega arith) (two-fault d₂ _ lines₂ kinds₂ h₂ b₂ (c .enum-told2 .given .1))) (resumed-fault _ (c .enum-told2 .given .1))
+      resumed-checks m (stop .kept) s made (c .before .before .before .before .before .before .before .before .before .before .before .before .before .before .before .before .before .before .before .before .before .before .before .before .before .before .before .before .before .before .before .before .before .before .before .before .before .before .before .before .before .before .before .before .before .before .before .before .before .before .before .before .before .before .before .before .before .before .before .args .position) (first-checks d _or_ or-bytes lastTwo _ f h b e (omega arith) (two-fault d₂ _ lines₂ kinds₂ h₂ b₂ (c .enum-told2 .given .1))) (resumed-fault _ (c .enum-told2 .given .1))
 
   check-branch-start-requires-2 : check-branch-lts.Need-start-requires-2 (check-branch-claims t) (check-branch-at t) check-branch.Post
   check-branch-start-requires-2 c κs =
@@ -312,13 +347,13 @@ module _ (t : ℕ) where
       let h = c .before .before .before .before .before .before .before .before .before .before .before .before .before .before .before .before .before .before .before .before .before .before .before .before .before .before .before .before .before .before .before .before .before .before .before .before .before .before .put-pair .ensures in
       let b = c .before .before .before .before .before .before .before .before .before .before .before .before .before .before .before .before .before .before .before .before .before .before .before .before .before .before .before .before .before .before .before .before .check-branch .ensures in
       let e = c .before .before .before .before .before .before .before .before .before .before .before .before .before .before .before .before .before .before .before .before .before .before .before .before .before .first .given .1 in
-      let d₂ = rest-opened d lastTwo _ f h b e in
+      let d₂ = rest-opened d _or_ or-bytes lastTwo _ f h b e in
       let lines₂ = c .before .before .before .before .before .before .before .before .before .before .before .before .before .before .before .before .before .before .before .before .before .start .ensures .0 in
       let kinds₂ = c .before .before .before .before .before .before .before .before .before .before .before .before .before .before .before .before .before .before .before .before .before .start .ensures .1 in
       let h₂ = c .before .before .before .before .before .before .before .before .before .before .before .before .before .before .before .before .put-pair2 .ensures in
       let b₂ = c .before .before .before .before .before .before .before .before .before .before .check-branch2 .ensures in
       let e₂ = c .before .before .before .second .given .1 in
-      third-asked d₂ _ lines₂ kinds₂ h₂ b₂ e₂
+      start-asked (some-opened d₂ _ _ _ lines₂ kinds₂ (omega arith) (omega arith) (omega arith) (head-short h₂) _ b₂ e₂) (omega arith) (omega arith)
 
   check-branch-check-branch-requires-3 : check-branch-lts.Need-check-branch-requires-3 (check-branch-claims t) (check-branch-at t) check-branch.Post
   check-branch-check-branch-requires-3 c κs =
@@ -332,13 +367,13 @@ module _ (t : ℕ) where
       let h = c .before .before .before .before .before .before .before .before .before .before .before .before .before .before .before .before .before .before .before .before .before .before .before .before .before .before .before .before .before .before .before .before .before .before .before .before .before .before .before .before .before .before .before .before .before .put-pair .ensures in
       let b = c .before .before .before .before .before .before .before .before .before .before .before .before .before .before .before .before .before .before .before .before .before .before .before .before .before .before .before .before .before .before .before .before .before .before .before .before .before .before .before .check-branch .ensures in
       let e = c .before .before .before .before .before .before .before .before .before .before .before .before .before .before .before .before .before .before .before .before .before .before .before .before .before .before .before .before .before .before .before .before .first .given .1 in
-      let d₂ = rest-opened d lastTwo _ f h b e in
+      let d₂ = rest-opened d _or_ or-bytes lastTwo _ f h b e in
       let lines₂ = c .before .before .before .before .before .before .before .before .before .before .before .before .before .before .before .before .before .before .before .before .before .before .before .before .before .before .before .before .start .ensures .0 in
       let kinds₂ = c .before .before .before .before .before .before .before .before .before .before .before .before .before .before .before .before .before .before .before .before .before .before .before .before .before .before .before .before .start .ensures .1 in
       let h₂ = c .before .before .before .before .before .before .before .before .before .before .before .before .before .before .before .before .before .before .before .before .before .before .before .put-pair2 .ensures in
       let b₂ = c .before .before .before .before .before .before .before .before .before .before .before .before .before .before .before .before .before .check-branch2 .ensures in
       let e₂ = c .before .before .before .before .before .before .before .before .before .before .second .given .1 in
-      (next-falls (third-open d₂ _ lines₂ kinds₂ h₂ b₂ e₂) (third-unread d₂ _ lines₂ kinds₂ h₂ b₂ e₂) (next-falls (rest-open d lastTwo _ f h b e) (rest-unread d lastTwo _ f h b e) (one-less (opening-falls m (stop .kept) s made (c .before .before .before .before .before .before .before .before .before .before .before .before .before .before .before .before .before .before .before .before .before .before .before .before .before .before .before .before .before .before .before .before .before .before .before .before .before .before .before .before .before .before .before .before .before .before .before .before .before .before .before .before .before .before .before .before .before .before .before .before .before .before .before .before .before .before .before .before .before .pre .0)))), third-started d₂ _ lines₂ kinds₂ h₂ b₂ e₂ (c .before .before .before .before .before .before .start2 .ensures .0) (c .before .before .before .before .before .before .start2 .ensures .1))
+      (next-falls (some-open d₂ _ _ _ lines₂ kinds₂ (omega arith) (omega arith) (omega arith) (head-short h₂) _ b₂ e₂) (some-unread d₂ _ _ _ lines₂ kinds₂ (omega arith) (omega arith) (omega arith) (head-short h₂) _ b₂ e₂) (next-falls (rest-open d _or_ or-bytes lastTwo _ f h b e) (rest-unread d _or_ or-bytes lastTwo _ f h b e) (one-less (opening-falls m (stop .kept) s made (c .before .before .before .before .before .before .before .before .before .before .before .before .before .before .before .before .before .before .before .before .before .before .before .before .before .before .before .before .before .before .before .before .before .before .before .before .before .before .before .before .before .before .before .before .before .before .before .before .before .before .before .before .before .before .before .before .before .before .before .before .before .before .before .before .before .before .before .before .before .pre .0)))), some-started (some-opened d₂ _ _ _ lines₂ kinds₂ (omega arith) (omega arith) (omega arith) (head-short h₂) _ b₂ e₂) _ _ _ (c .before .before .before .before .before .before .start2 .ensures .0) (c .before .before .before .before .before .before .start2 .ensures .1) (omega arith) (omega arith) (omega arith) none-short)
 
   check-branch-resumed-requires : check-branch-lts.Need-resumed-requires (check-branch-claims t) (check-branch-at t) check-branch.Post
   check-branch-resumed-requires c κs = search needs
@@ -364,13 +399,13 @@ module _ (t : ℕ) where
       let h = c .before .before .before .before .before .before .before .before .before .before .before .before .before .before .before .before .before .before .before .before .before .before .before .before .before .before .before .before .before .before .before .before .before .before .before .before .before .before .before .before .before .before .before .before .before .before .before .before .before .before .before .before .put-pair .ensures in
       let b = c .before .before .before .before .before .before .before .before .before .before .before .before .before .before .before .before .before .before .before .before .before .before .before .before .before .before .before .before .before .before .before .before .before .before .before .before .before .before .before .before .before .before .before .before .before .before .check-branch .ensures in
       let e = c .before .before .before .before .before .before .before .before .before .before .before .before .before .before .before .before .before .before .before .before .before .before .before .before .before .before .before .before .before .before .before .before .before .before .before .before .before .before .before .first .given .1 in
-      let d₂ = rest-opened d lastTwo _ f h b e in
+      let d₂ = rest-opened d _or_ or-bytes lastTwo _ f h b e in
       let lines₂ = c .before .before .before .before .before .before .before .before .before .before .before .before .before .before .before .before .before .before .before .before .before .before .before .before .before .before .before .before .before .before .before .before .before .before .before .start .ensures .0 in
       let kinds₂ = c .before .before .before .before .before .before .before .before .before .before .before .before .before .before .before .before .before .before .before .before .before .before .before .before .before .before .before .before .before .before .before .before .before .before .before .start .ensures .1 in
       let h₂ = c .before .before .before .before .before .before .before .before .before .before .before .before .before .before .before .before .before .before .before .before .before .before .before .before .before .before .before .before .before .before .put-pair2 .ensures in
       let b₂ = c .before .before .before .before .before .before .before .before .before .before .before .before .before .before .before .before .before .before .before .before .before .before .before .before .check-branch2 .ensures in
       let e₂ = c .before .before .before .before .before .before .before .before .before .before .before .before .before .before .before .before .before .second .given .1 in
-      resumed-checks m (stop .kept) s made (c .before .before .before .before .before .before .before .before .before .before .before .before .before .before .before .before .before .before .before .before .before .before .before .before .before .before .before .before .before .before .before .before .before .before .before .before .before .before .before .before .before .before .before .before .before .before .before .before .before .before .before .before .before .before .before .before .before .before .before .before .before .before .before .before .before .before .before .before .before .before .before .before .before .before .before .before .args .position) (first-checks d lastTwo _ f h b e (omega arith) (two-checks d₂ _ lines₂ kinds₂ h₂ b₂ e₂ (c .before .before .before .before .before .before .before .before .before .before .before .before .before .start2 .ensures .0) (c .before .before .before .before .before .before .before .before .before .before .before .before .before .start2 .ensures .1) (c .before .before .before .before .before .before .check-branch3 .ensures))) (c .resumed .ensures)
+      resumed-checks m (stop .kept) s made (c .before .before .before .before .before .before .before .before .before .before .before .before .before .before .before .before .before .before .before .before .before .before .before .before .before .before .before .before .before .before .before .before .before .before .before .before .before .before .before .before .before .before .before .before .before .before .before .before .before .before .before .before .before .before .before .before .before .before .before .before .before .before .before .before .before .before .before .before .before .before .before .before .before .before .before .before .args .position) (first-checks d _or_ or-bytes lastTwo _ f h b e (omega arith) (two-checks d₂ _ lines₂ kinds₂ h₂ b₂ e₂ (c .before .before .before .before .before .before .before .before .before .before .before .before .before .start2 .ensures .0) (c .before .before .before .before .before .before .before .before .before .before .before .before .before .start2 .ensures .1) (c .before .before .before .before .before .before .check-branch3 .ensures))) (c .resumed .ensures)
 
   check-branch-enum-known-t-4 : check-branch-lts.Need-enum-known-t-4 (check-branch-claims t) (check-branch-at t) check-branch.Post
   check-branch-enum-known-t-4 c = search needs
@@ -432,128 +467,145 @@ module _ (t : ℕ) where
       let made = c .before .before .before .before .before .before .before .before .before .before .before .before .v2 .given .1 in
       resumed-checks (y .0) (stop .kept) (s .opens) made (c .before .before .before .before .before .before .before .before .before .before .before .before .before .before .before .before .before .before .before .before .before .before .before .before .before .before .before .before .before .before .before .before .args .position) (simp toZ-ofZ at (c .before .before .before .before .before .before .check-rounding .ensures)) (c .resumed2 .ensures)
 
-  check-rounded-start-requires : check-rounded-lts.Need-start-requires (check-rounded-claims t) (check-rounded-at t) check-rounded.Post
-  check-rounded-start-requires c κs = rounded-start (c .before .before .before .before .before .pre .1 .0 .0) (c .before .before .before .before .before .pre .1 .0 .1)
+  check-branch-enum-known-t-5 : check-branch-lts.Need-enum-known-t-5 (check-branch-claims t) (check-branch-at t) check-branch.Post
+  check-branch-enum-known-t-5 c = search needs
 
-  check-rounded-add-following : check-rounded-lts.Need-add-following (check-rounded-claims t) (check-rounded-at t) check-rounded.Post
-  check-rounded-add-following c = omega (arith, c .before .before .before .before .before .before .before .before .before .pre .1 .0 .1, c .before .before .before .before .before .before .before .before .before .fits .by)
+  check-branch-split-requires : check-branch-lts.Need-split-requires (check-branch-claims t) (check-branch-at t) check-branch.Post
+  check-branch-split-requires c κs = split-comes (c .before .before .before .before .before .before .before .before .entries .ensures) (c .before .before .before .t5 .given .1) .ready
 
-  check-rounded-put-front-requires : check-rounded-lts.Need-put-front-requires (check-rounded-claims t) (check-rounded-at t) check-rounded.Post
+  check-branch-enum-known-number-4 : check-branch-lts.Need-enum-known-number-4 (check-branch-claims t) (check-branch-at t) check-branch.Post
+  check-branch-enum-known-number-4 c = search needs
+
+  check-branch-same-length-25 : check-branch-lts.Need-same-length-25 (check-branch-claims t) (check-branch-at t) check-branch.Post
+  check-branch-same-length-25 c = search needs
+
+  check-branch-same-length-26 : check-branch-lts.Need-same-length-26 (check-branch-claims t) (check-branch-at t) check-branch.Post
+  check-branch-same-length-26 c = search needs
+
+  check-branch-returns-10 : check-branch-lts.Need-returns-10 (check-branch-claims t) (check-branch-at t) check-branch.Post
+  check-branch-returns-10 c =
+      let stop = c .before .before .before .before .before .before .before .before .before .before .before .before .before .before .before .entries .ensures in
+      opens-refused _ (split-comes stop (c .before .before .before .before .before .before .before .before .before .before .t5 .given .1)) (stop .kept) _ _ (c .before .before .before .before .before .before .split .ensures .opens) (c .before .number4 .given .1) refl
+
+  check-branch-enum-known-v-3 : check-branch-lts.Need-enum-known-v-3 (check-branch-claims t) (check-branch-at t) check-branch.Post
+  check-branch-enum-known-v-3 c = search needs
+
+  check-branch-check-split-requires : check-branch-lts.Need-check-split-requires (check-branch-claims t) (check-branch-at t) check-branch.Post
+  check-branch-check-split-requires c κs =
+      let stop = c .before .before .before .before .before .before .before .before .before .before .before .before .before .before .before .before .before .before .before .entries .ensures in
+      let m = split-comes stop (c .before .before .before .before .before .before .before .before .before .before .before .before .before .before .t5 .given .1) in
+      let s = c .before .before .before .before .before .before .before .before .before .before .split .ensures in
+      let made = c .before .before .before .before .before .v3 .given .1 in
+      (opening-falls m (stop .kept) (s .opens) made (c .before .before .before .before .before .before .before .before .before .before .before .before .before .before .before .before .before .before .before .before .before .before .before .before .before .pre .0), split-opened m (stop .kept) s made (c .before .before .before .before .before .before .before .before .before .before .before .before .before .before .before .before .before .before .before .before .before .before .before .before .before .pre .1))
+
+  check-branch-resumed-requires-3 : check-branch-lts.Need-resumed-requires-3 (check-branch-claims t) (check-branch-at t) check-branch.Post
+  check-branch-resumed-requires-3 c κs = search needs
+
+  check-branch-same-length-27 : check-branch-lts.Need-same-length-27 (check-branch-claims t) (check-branch-at t) check-branch.Post
+  check-branch-same-length-27 c = c .before .before .before .before .before .lines11 .given ∙ c .before .before .before .before .before .before .before .before .before .before .before .before .before .before .before .before .lines10 .given ∙ c .before .before .before .before .before .before .before .before .before .before .before .before .before .before .before .before .before .before .before .before .before .before .before .before .before .lines .given
+
+  check-branch-same-length-28 : check-branch-lts.Need-same-length-28 (check-branch-claims t) (check-branch-at t) check-branch.Post
+  check-branch-same-length-28 c = c .before .before .before .before .kinds11 .given ∙ c .before .before .before .before .before .before .before .before .before .before .before .before .before .before .before .kinds10 .given ∙ c .before .before .before .before .before .before .before .before .before .before .before .before .before .before .before .before .before .before .before .before .before .before .before .before .kinds .given
+
+  check-branch-same-length-29 : check-branch-lts.Need-same-length-29 (check-branch-claims t) (check-branch-at t) check-branch.Post
+  check-branch-same-length-29 c = c .before .before .scratch9 .given
+
+  check-branch-returns-11 : check-branch-lts.Need-returns-11 (check-branch-claims t) (check-branch-at t) check-branch.Post
+  check-branch-returns-11 c =
+      let stop = c .before .before .before .before .before .before .before .before .before .before .before .before .before .before .before .before .before .before .before .before .before .before .before .before .before .before .entries .ensures in
+      split-resumed (split-comes stop (c .before .before .before .before .before .before .before .before .before .before .before .before .before .before .before .before .before .before .before .before .before .t5 .given .1)) (stop .kept) (c .before .before .before .before .before .before .before .before .before .before .before .before .before .before .before .before .before .split .ensures) (c .before .before .before .before .before .before .before .before .before .before .before .before .v3 .given .1) (c .before .before .before .before .before .before .before .before .before .before .before .before .before .before .before .before .before .before .before .before .before .before .before .before .before .before .before .before .before .before .before .before .args .position) (c .before .before .before .before .before .before .check-split .ensures) (c .resumed3 .ensures)
+
+  check-rounded-loop-holds : check-rounded-lts.Need-loop-holds (check-rounded-claims t) (check-rounded-at t) check-rounded.Post Inv-loop μ-loop
+  check-rounded-loop-holds c =
+      let fits = c .before .before .before .fits .g in
+      simp toZ-ofZ (rounding-start _ (c .before .before .before .pre .1 .0) (c .before .before .before .pre .1 .1 .1))
+
+  check-rounded-start-requires : check-rounded-lts.Need-start-requires (check-rounded-claims t) (check-rounded-at t) check-rounded.Post Inv-loop μ-loop
+  check-rounded-start-requires c κs = start-asked (c .before .before .loop .inv .opened) (omega (arith, c .before .before .loop .inv .less)) (omega (arith, c .before .before .loop .inv .less))
+
+  check-rounded-add-following : check-rounded-lts.Need-add-following (check-rounded-claims t) (check-rounded-at t) check-rounded.Post Inv-loop μ-loop
+  check-rounded-add-following c = omega (arith, c .before .before .before .before .before .before .loop .inv .less, c .before .before .before .before .before .before .before .before .before .before .fits .by)
+
+  check-rounded-put-front-requires : check-rounded-lts.Need-put-front-requires (check-rounded-claims t) (check-rounded-at t) check-rounded.Post Inv-loop μ-loop
   check-rounded-put-front-requires c κs =
-      let p = c .before .before .before .before .before .before .before .before .before .before .before .pre .1 in
-      let d = p .0 .0 in
-      let hj = p .0 .1 in
-      let eb = c .before .before .before .before .before .start .ensures .0 in
-      let ek = c .before .before .before .before .before .start .ensures .1 in
-      let fits = c .before .before .before .before .before .before .before .before .before .before .before .fits .g in
-      simp toZ-ofZ (front-asked d hj eb ek (p .1 .0) (p .1 .1), room-left d)
+      let turn = c .before .before .before .before .before .before .before .before .loop .inv in
+      let fits = c .before .before .before .before .before .before .before .before .before .before .before .before .fits .g in
+      simp toZ-ofZ (front-asked (turn .opened) (some-longer (turn .opened) _ _ _ (c .before .before .before .before .before .start .ensures .0) (c .before .before .before .before .before .start .ensures .1) (omega (arith, turn .less)) (omega (arith, turn .less)) (omega arith)) (omega (arith, turn .opened .line)) (c .before .before .before .before .before .before .before .before .before .before .before .before .pre .1 .1 .0) (c .before .before .before .before .before .before .before .before .before .before .before .before .pre .1 .1 .1), room-left (turn .opened))
 
-  check-rounded-check-branch-requires : check-rounded-lts.Need-check-branch-requires (check-rounded-claims t) (check-rounded-at t) check-rounded.Post
+  check-rounded-check-branch-requires : check-rounded-lts.Need-check-branch-requires (check-rounded-claims t) (check-rounded-at t) check-rounded.Post Inv-loop μ-loop
   check-rounded-check-branch-requires c κs =
-      let p = c .before .before .before .before .before .before .before .before .before .before .before .before .before .before .before .before .before .pre .1 in
-      let d = p .0 .0 in
-      let hj = p .0 .1 in
+      let turn = c .before .before .before .before .before .before .before .before .before .before .before .before .before .before .loop .inv in
       let eb = c .before .before .before .before .before .before .before .before .before .before .before .start .ensures .0 in
       let ek = c .before .before .before .before .before .before .before .before .before .before .before .start .ensures .1 in
-      let fits = c .before .before .before .before .before .before .before .before .before .before .before .before .before .before .before .before .before .fits .g in
-      let g = natAbs (c .before .before .before .before .before .before .before .before .before .before .before .before .before .before .before .before .before .args .g) in
-      let others = ltb (c .before .before .before .before .before .before .before .before .before .before .before .before .before .before .before .before .before .args .j + 1) (c .before .before .before .before .before .before .before .before .before .before .before .before .before .before .before .before .before .args .by) in
-      let h = simp toZ-ofZ at (c .before .before .before .before .before .put-front .ensures) in
-      (own-falls (c .before .before .before .before .before .before .before .before .before .before .before .before .before .before .before .before .before .pre .0), rounded-started d hj eb ek 0 g others h)
+      let others = ltb (c .before .before .before .before .before .before .before .before .before .before .before .before .before .before .loop .j + 1) (c .before .before .before .before .before .before .before .before .before .before .before .before .before .before .before .before .before .before .args .by) in
+      let h = c .before .before .before .before .before .put-front .ensures in
+      (turn-falls (turn .open-is) (turn .unread) (c .before .before .before .before .before .before .before .before .before .before .before .before .before .before .before .before .before .before .pre .0), some-started (turn .opened) _ _ _ eb ek (omega (arith, turn .less)) (omega (arith, turn .less)) (omega arith) (front-short (turn .opened) (some-longer (turn .opened) _ _ _ eb ek (omega (arith, turn .less)) (omega (arith, turn .less)) (omega arith)) _ _ others h (omega (arith, turn .opened .line))))
 
-  check-rounded-enum-known-own : check-rounded-lts.Need-enum-known-own (check-rounded-claims t) (check-rounded-at t) check-rounded.Post
-  check-rounded-enum-known-own c = search needs
+  check-rounded-same-length : check-rounded-lts.Need-same-length (check-rounded-claims t) (check-rounded-at t) check-rounded.Post Inv-loop μ-loop
+  check-rounded-same-length c = c .before .before .before .before .before .lines2 .given ∙ c .before .before .before .before .before .before .before .before .before .before .before .before .before .before .before .before .before .lines .given ∙ c .before .before .before .before .before .before .before .before .before .before .before .before .before .before .before .before .before .before .before .before .before .loop .inv .kept .lines-length
 
-  check-rounded-enum-told : check-rounded-lts.Need-enum-told (check-rounded-claims t) (check-rounded-at t) check-rounded.Post
-  check-rounded-enum-told c = search needs
+  check-rounded-same-length-2 : check-rounded-lts.Need-same-length-2 (check-rounded-claims t) (check-rounded-at t) check-rounded.Post Inv-loop μ-loop
+  check-rounded-same-length-2 c = c .before .before .before .before .kinds2 .given ∙ c .before .before .before .before .before .before .before .before .before .before .before .before .before .before .before .before .kinds .given ∙ c .before .before .before .before .before .before .before .before .before .before .before .before .before .before .before .before .before .before .before .before .before .loop .inv .kept .kinds-length
 
-  check-rounded-same-length : check-rounded-lts.Need-same-length (check-rounded-claims t) (check-rounded-at t) check-rounded.Post
-  check-rounded-same-length c = c .before .before .before .before .before .before .before .lines2 .given ∙ c .before .before .before .before .before .before .before .before .before .before .before .before .before .before .before .before .before .before .before .lines .given
+  check-rounded-same-length-3 : check-rounded-lts.Need-same-length-3 (check-rounded-claims t) (check-rounded-at t) check-rounded.Post Inv-loop μ-loop
+  check-rounded-same-length-3 c = c .before .before .scratch2 .given ∙ c .before .before .before .before .before .before .before .before .before .before .before .scratch .given ∙ c .before .before .before .before .before .before .before .before .before .before .before .before .before .before .before .before .before .before .before .before .before .loop .inv .long
 
-  check-rounded-same-length-2 : check-rounded-lts.Need-same-length-2 (check-rounded-claims t) (check-rounded-at t) check-rounded.Post
-  check-rounded-same-length-2 c = c .before .before .before .before .before .before .kinds2 .given ∙ c .before .before .before .before .before .before .before .before .before .before .before .before .before .before .before .before .before .before .kinds .given
-
-  check-rounded-same-length-3 : check-rounded-lts.Need-same-length-3 (check-rounded-claims t) (check-rounded-at t) check-rounded.Post
-  check-rounded-same-length-3 c = c .before .before .before .before .scratch2 .given ∙ c .before .before .before .before .before .before .before .before .before .before .before .before .before .scratch .given
-
-  check-rounded-returns : check-rounded-lts.Need-returns (check-rounded-claims t) (check-rounded-at t) check-rounded.Post
+  check-rounded-returns : check-rounded-lts.Need-returns (check-rounded-claims t) (check-rounded-at t) check-rounded.Post Inv-loop μ-loop
   check-rounded-returns c =
-      let p = c .before .before .before .before .before .before .before .before .before .before .before .before .before .before .before .before .before .before .before .before .before .before .before .before .before .before .pre .1 in
-      let d = p .0 .0 in
-      let hj = p .0 .1 in
-      let eb = c .before .before .before .before .before .before .before .before .before .before .before .before .before .before .before .before .before .before .before .before .start .ensures .0 in
-      let ek = c .before .before .before .before .before .before .before .before .before .before .before .before .before .before .before .before .before .before .before .before .start .ensures .1 in
-      let fits = c .before .before .before .before .before .before .before .before .before .before .before .before .before .before .before .before .before .before .before .before .before .before .before .before .before .before .fits .g in
-      let g = natAbs (c .before .before .before .before .before .before .before .before .before .before .before .before .before .before .before .before .before .before .before .before .before .before .before .before .before .before .args .g) in
-      let others = ltb (c .before .before .before .before .before .before .before .before .before .before .before .before .before .before .before .before .before .before .before .before .before .before .before .before .before .before .args .j + 1) (c .before .before .before .before .before .before .before .before .before .before .before .before .before .before .before .before .before .before .before .before .before .before .before .before .before .before .args .by) in
-      let h = simp toZ-ofZ at (c .before .before .before .before .before .before .before .before .before .before .before .before .before .before .put-front .ensures) in
-      let b = c .before .before .before .before .before .before .before .before .check-branch .ensures in
-      let q = ltb-true _ _ (c .before .before .if1 .taken) in
-      more-fault d hj eb ek _ g others h b (c .before .before .if1 .taken) q (c .enum-told .given .1)
-
-  check-rounded-check-rounded-requires : check-rounded-lts.Need-check-rounded-requires (check-rounded-claims t) (check-rounded-at t) check-rounded.Post
-  check-rounded-check-rounded-requires c κs =
-      let p = c .before .before .before .before .before .before .before .before .before .before .before .before .before .before .before .before .before .before .before .before .before .before .before .before .before .before .before .before .before .before .pre .1 in
-      let d = p .0 .0 in
-      let hj = p .0 .1 in
-      let eb = c .before .before .before .before .before .before .before .before .before .before .before .before .before .before .before .before .before .before .before .before .before .before .before .before .start .ensures .0 in
-      let ek = c .before .before .before .before .before .before .before .before .before .before .before .before .before .before .before .before .before .before .before .before .before .before .before .before .start .ensures .1 in
-      let fits = c .before .before .before .before .before .before .before .before .before .before .before .before .before .before .before .before .before .before .before .before .before .before .before .before .before .before .before .before .before .before .fits .g in
-      let g = natAbs (c .before .before .before .before .before .before .before .before .before .before .before .before .before .before .before .before .before .before .before .before .before .before .before .before .before .before .before .before .before .before .args .g) in
-      let others = ltb (c .before .before .before .before .before .before .before .before .before .before .before .before .before .before .before .before .before .before .before .before .before .before .before .before .before .before .before .before .before .before .args .j + 1) (c .before .before .before .before .before .before .before .before .before .before .before .before .before .before .before .before .before .before .before .before .before .before .before .before .before .before .before .before .before .before .args .by) in
-      let h = simp toZ-ofZ at (c .before .before .before .before .before .before .before .before .before .before .before .before .before .before .before .before .before .before .put-front .ensures) in
-      let b = c .before .before .before .before .before .before .before .before .before .before .before .before .check-branch .ensures in
-      let q = ltb-true _ _ (c .before .before .before .before .before .before .if1 .taken) in
-      let e = c .before .before .before .before .own .given .1 in
-      (others-fall (more-open d hj eb ek _ g others h b (c .before .before .before .before .before .before .if1 .taken) q e) (more-unread d hj eb ek _ g others h b (c .before .before .before .before .before .before .if1 .taken) q e) (c .before .before .before .before .before .before .before .before .before .before .before .before .before .before .before .before .before .before .before .before .before .before .before .before .before .before .before .before .before .before .pre .0), simp toZ-ofZ ((more-opened d hj eb ek _ g others h b (c .before .before .before .before .before .before .if1 .taken) q e, q), p .1))
-
-  check-rounded-same-length-4 : check-rounded-lts.Need-same-length-4 (check-rounded-claims t) (check-rounded-at t) check-rounded.Post
-  check-rounded-same-length-4 c = c .before .before .before .before .lines3 .given ∙ c .before .before .before .before .before .before .before .before .before .before .before .before .before .before .before .before .before .lines2 .given ∙ c .before .before .before .before .before .before .before .before .before .before .before .before .before .before .before .before .before .before .before .before .before .before .before .before .before .before .before .before .before .lines .given
-
-  check-rounded-same-length-5 : check-rounded-lts.Need-same-length-5 (check-rounded-claims t) (check-rounded-at t) check-rounded.Post
-  check-rounded-same-length-5 c = c .before .before .before .kinds3 .given ∙ c .before .before .before .before .before .before .before .before .before .before .before .before .before .before .before .before .kinds2 .given ∙ c .before .before .before .before .before .before .before .before .before .before .before .before .before .before .before .before .before .before .before .before .before .before .before .before .before .before .before .before .kinds .given
-
-  check-rounded-same-length-6 : check-rounded-lts.Need-same-length-6 (check-rounded-claims t) (check-rounded-at t) check-rounded.Post
-  check-rounded-same-length-6 c = c .before .scratch3 .given ∙ c .before .before .before .before .before .before .before .before .before .before .before .before .before .before .scratch2 .given ∙ c .before .before .before .before .before .before .before .before .before .before .before .before .before .before .before .before .before .before .before .before .before .before .before .scratch .given
-
-  check-rounded-returns-2 : check-rounded-lts.Need-returns-2 (check-rounded-claims t) (check-rounded-at t) check-rounded.Post
-  check-rounded-returns-2 c =
-      let p = c .before .before .before .before .before .before .before .before .before .before .before .before .before .before .before .before .before .before .before .before .before .before .before .before .before .before .before .before .before .before .before .before .before .before .before .before .pre .1 in
-      let d = p .0 .0 in
-      let hj = p .0 .1 in
-      let eb = c .before .before .before .before .before .before .before .before .before .before .before .before .before .before .before .before .before .before .before .before .before .before .before .before .before .before .before .before .before .before .start .ensures .0 in
-      let ek = c .before .before .before .before .before .before .before .before .before .before .before .before .before .before .before .before .before .before .before .before .before .before .before .before .before .before .before .before .before .before .start .ensures .1 in
-      let fits = c .before .before .before .before .before .before .before .before .before .before .before .before .before .before .before .before .before .before .before .before .before .before .before .before .before .before .before .before .before .before .before .before .before .before .before .before .fits .g in
-      let g = natAbs (c .before .before .before .before .before .before .before .before .before .before .before .before .before .before .before .before .before .before .before .before .before .before .before .before .before .before .before .before .before .before .before .before .before .before .before .before .args .g) in
-      let others = ltb (c .before .before .before .before .before .before .before .before .before .before .before .before .before .before .before .before .before .before .before .before .before .before .before .before .before .before .before .before .before .before .before .before .before .before .before .before .args .j + 1) (c .before .before .before .before .before .before .before .before .before .before .before .before .before .before .before .before .before .before .before .before .before .before .before .before .before .before .before .before .before .before .before .before .before .before .before .before .args .by) in
-      let h = simp toZ-ofZ at (c .before .before .before .before .before .before .before .before .before .before .before .before .before .before .before .before .before .before .before .before .before .before .before .before .put-front .ensures) in
-      let b = c .before .before .before .before .before .before .before .before .before .before .before .before .before .before .before .before .before .before .check-branch .ensures in
-      let q = ltb-true _ _ (c .before .before .before .before .before .before .before .before .before .before .before .before .if1 .taken) in
-      let e = c .before .before .before .before .before .before .before .before .before .before .own .given .1 in
-      more-checks d hj eb ek _ g others h b (c .before .before .before .before .before .before .before .before .before .before .before .before .if1 .taken) q e (simp toZ-ofZ at (c .before .before .before .before .before .check-rounded .ensures))
-
-  check-rounded-same-length-7 : check-rounded-lts.Need-same-length-7 (check-rounded-claims t) (check-rounded-at t) check-rounded.Post
-  check-rounded-same-length-7 c = c .before .before .before .before .before .lines2 .given ∙ c .before .before .before .before .before .before .before .before .before .before .before .before .before .before .before .before .before .lines .given
-
-  check-rounded-same-length-8 : check-rounded-lts.Need-same-length-8 (check-rounded-claims t) (check-rounded-at t) check-rounded.Post
-  check-rounded-same-length-8 c = c .before .before .before .before .kinds2 .given ∙ c .before .before .before .before .before .before .before .before .before .before .before .before .before .before .before .before .kinds .given
-
-  check-rounded-same-length-9 : check-rounded-lts.Need-same-length-9 (check-rounded-claims t) (check-rounded-at t) check-rounded.Post
-  check-rounded-same-length-9 c = c .before .before .scratch2 .given ∙ c .before .before .before .before .before .before .before .before .before .before .before .scratch .given
-
-  check-rounded-returns-3 : check-rounded-lts.Need-returns-3 (check-rounded-claims t) (check-rounded-at t) check-rounded.Post
-  check-rounded-returns-3 c =
-      let p = c .before .before .before .before .before .before .before .before .before .before .before .before .before .before .before .before .before .before .before .before .before .before .before .before .pre .1 in
-      let d = p .0 .0 in
-      let hj = p .0 .1 in
+      let turn = c .before .before .before .before .before .before .before .before .before .before .before .before .before .before .before .before .before .before .before .before .before .loop .inv in
       let eb = c .before .before .before .before .before .before .before .before .before .before .before .before .before .before .before .before .before .before .start .ensures .0 in
       let ek = c .before .before .before .before .before .before .before .before .before .before .before .before .before .before .before .before .before .before .start .ensures .1 in
-      let fits = c .before .before .before .before .before .before .before .before .before .before .before .before .before .before .before .before .before .before .before .before .before .before .before .before .fits .g in
-      let g = natAbs (c .before .before .before .before .before .before .before .before .before .before .before .before .before .before .before .before .before .before .before .before .before .before .before .before .args .g) in
-      let others = ltb (c .before .before .before .before .before .before .before .before .before .before .before .before .before .before .before .before .before .before .before .before .before .before .before .before .args .j + 1) (c .before .before .before .before .before .before .before .before .before .before .before .before .before .before .before .before .before .before .before .before .before .before .before .before .args .by) in
-      let h = simp toZ-ofZ at (c .before .before .before .before .before .before .before .before .before .before .before .before .put-front .ensures) in
+      let h = c .before .before .before .before .before .before .before .before .before .before .before .before .put-front .ensures in
       let b = c .before .before .before .before .before .before .check-branch .ensures in
-      last-checks d hj eb ek _ g others h b (c .if1 .left) (ltb-false _ _ (c .if1 .left))
+      let others = ltb (c .before .before .before .before .before .before .before .before .before .before .before .before .before .before .before .before .before .before .before .before .before .loop .j + 1) (c .before .before .before .before .before .before .before .before .before .before .before .before .before .before .before .before .before .before .before .before .before .before .before .before .before .args .by) in
+      let fits = c .before .before .before .before .before .before .before .before .before .before .before .before .before .before .before .before .before .before .before .before .before .before .before .before .before .fits .g in
+      simp toZ-ofZ at (rounding-last turn eb ek others h b (unnot others (c .if1 .taken)) (ltb-false _ _ (unnot others (c .if1 .taken))))
+
+  check-rounded-enum-known-own : check-rounded-lts.Need-enum-known-own (check-rounded-claims t) (check-rounded-at t) check-rounded.Post Inv-loop μ-loop
+  check-rounded-enum-known-own c = search needs
+
+  check-rounded-enum-told : check-rounded-lts.Need-enum-told (check-rounded-claims t) (check-rounded-at t) check-rounded.Post Inv-loop μ-loop
+  check-rounded-enum-told c = search needs
+
+  check-rounded-same-length-4 : check-rounded-lts.Need-same-length-4 (check-rounded-claims t) (check-rounded-at t) check-rounded.Post Inv-loop μ-loop
+  check-rounded-same-length-4 c = c .before .before .before .before .before .before .before .lines2 .given ∙ c .before .before .before .before .before .before .before .before .before .before .before .before .before .before .before .before .before .before .before .lines .given ∙ c .before .before .before .before .before .before .before .before .before .before .before .before .before .before .before .before .before .before .before .before .before .before .before .loop .inv .kept .lines-length
+
+  check-rounded-same-length-5 : check-rounded-lts.Need-same-length-5 (check-rounded-claims t) (check-rounded-at t) check-rounded.Post Inv-loop μ-loop
+  check-rounded-same-length-5 c = c .before .before .before .before .before .before .kinds2 .given ∙ c .before .before .before .before .before .before .before .before .before .before .before .before .before .before .before .before .before .before .kinds .given ∙ c .before .before .before .before .before .before .before .before .before .before .before .before .before .before .before .before .before .before .before .before .before .before .before .loop .inv .kept .kinds-length
+
+  check-rounded-same-length-6 : check-rounded-lts.Need-same-length-6 (check-rounded-claims t) (check-rounded-at t) check-rounded.Post Inv-loop μ-loop
+  check-rounded-same-length-6 c = c .before .before .before .before .scratch2 .given ∙ c .before .before .before .before .before .before .before .before .before .before .before .before .before .scratch .given ∙ c .before .before .before .before .before .before .before .before .before .before .before .before .before .before .before .before .before .before .before .before .before .before .before .loop .inv .long
+
+  check-rounded-returns-2 : check-rounded-lts.Need-returns-2 (check-rounded-claims t) (check-rounded-at t) check-rounded.Post Inv-loop μ-loop
+  check-rounded-returns-2 c =
+      let turn = c .before .before .before .before .before .before .before .before .before .before .before .before .before .before .before .before .before .before .before .before .before .before .before .loop .inv in
+      let eb = c .before .before .before .before .before .before .before .before .before .before .before .before .before .before .before .before .before .before .before .before .start .ensures .0 in
+      let ek = c .before .before .before .before .before .before .before .before .before .before .before .before .before .before .before .before .before .before .before .before .start .ensures .1 in
+      let h = c .before .before .before .before .before .before .before .before .before .before .before .before .before .before .put-front .ensures in
+      let b = c .before .before .before .before .before .before .before .before .check-branch .ensures in
+      let others = ltb (c .before .before .before .before .before .before .before .before .before .before .before .before .before .before .before .before .before .before .before .before .before .before .before .loop .j + 1) (c .before .before .before .before .before .before .before .before .before .before .before .before .before .before .before .before .before .before .before .before .before .before .before .before .before .before .before .args .by) in
+      let fits = c .before .before .before .before .before .before .before .before .before .before .before .before .before .before .before .before .before .before .before .before .before .before .before .before .before .before .before .fits .g in
+      simp toZ-ofZ at (rounding-fault turn eb ek others h b (unnot others (c .before .before .if1 .left)) (ltb-true _ _ (unnot others (c .before .before .if1 .left))) (c .enum-told .given .1))
+
+  check-rounded-loop-less : check-rounded-lts.Need-loop-less (check-rounded-claims t) (check-rounded-at t) check-rounded.Post Inv-loop μ-loop
+  check-rounded-loop-less c =
+      let turn = c .before .before .before .before .before .before .before .before .before .before .before .before .before .before .before .before .before .before .before .before .before .before .before .before .loop .inv in
+      let eb = c .before .before .before .before .before .before .before .before .before .before .before .before .before .before .before .before .before .before .before .before .before .start .ensures .0 in
+      let ek = c .before .before .before .before .before .before .before .before .before .before .before .before .before .before .before .before .before .before .before .before .before .start .ensures .1 in
+      let h = c .before .before .before .before .before .before .before .before .before .before .before .before .before .before .before .put-front .ensures in
+      let b = c .before .before .before .before .before .before .before .before .before .check-branch .ensures in
+      let others = ltb (c .before .before .before .before .before .before .before .before .before .before .before .before .before .before .before .before .before .before .before .before .before .before .before .before .loop .j + 1) (c .before .before .before .before .before .before .before .before .before .before .before .before .before .before .before .before .before .before .before .before .before .before .before .before .before .before .before .before .args .by) in
+      some-unread (turn .opened) _ _ _ eb ek (omega (arith, turn .less)) (omega (arith, turn .less)) (omega arith) (front-short (turn .opened) (some-longer (turn .opened) _ _ _ eb ek (omega (arith, turn .less)) (omega (arith, turn .less)) (omega arith)) _ _ others h (omega (arith, turn .opened .line))) _ b (c .before .own .given .1)
+
+  check-rounded-loop-again : check-rounded-lts.Need-loop-again (check-rounded-claims t) (check-rounded-at t) check-rounded.Post Inv-loop μ-loop
+  check-rounded-loop-again c =
+      let turn = c .before .before .before .before .before .before .before .before .before .before .before .before .before .before .before .before .before .before .before .before .before .before .before .before .loop .inv in
+      let eb = c .before .before .before .before .before .before .before .before .before .before .before .before .before .before .before .before .before .before .before .before .before .start .ensures .0 in
+      let ek = c .before .before .before .before .before .before .before .before .before .before .before .before .before .before .before .before .before .before .before .before .before .start .ensures .1 in
+      let h = c .before .before .before .before .before .before .before .before .before .before .before .before .before .before .before .put-front .ensures in
+      let b = c .before .before .before .before .before .before .before .before .before .check-branch .ensures in
+      let others = ltb (c .before .before .before .before .before .before .before .before .before .before .before .before .before .before .before .before .before .before .before .before .before .before .before .before .loop .j + 1) (c .before .before .before .before .before .before .before .before .before .before .before .before .before .before .before .before .before .before .before .before .before .before .before .before .before .before .before .before .args .by) in
+      rounding-next turn eb ek others h b (unnot others (c .before .before .before .if1 .left)) (ltb-true _ _ (unnot others (c .before .before .before .if1 .left))) (c .before .own .given .1)
 
   check-rounding-put-pair-requires : check-rounding-lts.Need-put-pair-requires (check-rounding-claims t) (check-rounding-at t) check-rounding.Post
   check-rounding-put-pair-requires c κs = omega (arith, room-left (c .before .before .before .before .pre .1 .0 .0))
@@ -565,7 +617,7 @@ module _ (t : ℕ) where
       let f = p .0 .1 in
       let rest = fromBranch (natAbs (c .before .before .before .before .before .before .before .before .before .before .args .g)) (c .before .before .before .before .before .before .before .before .before .before .args .by) 0 in
       let h = c .before .before .before .before .before .put-pair .ensures in
-      (own-falls (c .before .before .before .before .before .before .before .before .before .before .pre .0), first-started d rest 0 f h)
+      (own-falls (c .before .before .before .before .before .before .before .before .before .before .pre .0), first-started d _or_ or-bytes rest 0 f h)
 
   check-rounding-enum-known-first : check-rounding-lts.Need-enum-known-first (check-rounding-claims t) (check-rounding-at t) check-rounding.Post
   check-rounding-enum-known-first c = search needs
@@ -590,7 +642,7 @@ module _ (t : ℕ) where
       let rest = fromBranch (natAbs (c .before .before .before .before .before .before .before .before .before .before .before .before .before .before .before .before .before .before .args .g)) (c .before .before .before .before .before .before .before .before .before .before .before .before .before .before .before .before .before .before .args .by) 0 in
       let h = c .before .before .before .before .before .before .before .before .before .before .before .before .before .put-pair .ensures in
       let b = c .before .before .before .before .before .before .before .check-branch .ensures in
-      first-fault d rest _ f h b (c .enum-told .given .1)
+      first-fault d _or_ or-bytes rest _ f h b (c .enum-told .given .1)
 
   check-rounding-check-rounded-requires : check-rounding-lts.Need-check-rounded-requires (check-rounding-claims t) (check-rounding-at t) check-rounding.Post
   check-rounding-check-rounded-requires c κs =
@@ -602,7 +654,7 @@ module _ (t : ℕ) where
       let b = c .before .before .before .before .before .before .before .before .before .before .before .check-branch .ensures in
       let e = c .before .before .before .before .first .given .1 in
       let fits = c .before .before .before .before .before .before .before .before .before .before .before .before .before .before .before .before .before .before .before .before .before .before .fits .g in
-      (others-fall (rest-open d rest _ f h b e) (rest-unread d rest _ f h b e) (c .before .before .before .before .before .before .before .before .before .before .before .before .before .before .before .before .before .before .before .before .before .before .pre .0), simp toZ-ofZ ((rest-opened d rest _ f h b e, omega (arith, p .1 .1 .least)), p .1))
+      (others-fall (rest-open d _or_ or-bytes rest _ f h b e) (rest-unread d _or_ or-bytes rest _ f h b e) (c .before .before .before .before .before .before .before .before .before .before .before .before .before .before .before .before .before .before .before .before .before .before .pre .0), simp toZ-ofZ (rest-opened d _or_ or-bytes rest _ f h b e, p .1))
 
   check-rounding-same-length-4 : check-rounding-lts.Need-same-length-4 (check-rounding-claims t) (check-rounding-at t) check-rounding.Post
   check-rounding-same-length-4 c = c .before .before .before .before .lines2 .given ∙ c .before .before .before .before .before .before .before .before .before .before .before .before .before .before .before .before .lines .given
@@ -623,14 +675,74 @@ module _ (t : ℕ) where
       let b = c .before .before .before .before .before .before .before .before .before .before .before .before .before .before .before .before .before .check-branch .ensures in
       let e = c .before .before .before .before .before .before .before .before .before .before .first .given .1 in
       let fits = c .before .before .before .before .before .before .before .before .before .before .before .before .before .before .before .before .before .before .before .before .before .before .before .before .before .before .before .before .fits .g in
-      first-checks d rest _ f h b e (omega arith) (simp toZ-ofZ at (c .before .before .before .before .before .check-rounded .ensures))
+      first-checks d _or_ or-bytes rest _ f h b e (omega arith) (simp toZ-ofZ at (c .before .before .before .before .before .check-rounded .ensures))
 
-pub +check-branch+check-rounded+check-rounding-spec : {M : Type 1} → statement M
-+check-branch+check-rounded+check-rounding-spec =
+  check-split-kind-of-requires : check-split-lts.Need-kind-of-requires (check-split-claims t) (check-split-at t) check-split.Post
+  check-split-kind-of-requires c κs = split-there (c .before .before .before .before .pre .1)
+
+  check-split-joined-by-requires : check-split-lts.Need-joined-by-requires (check-split-claims t) (check-split-at t) check-split.Post
+  check-split-joined-by-requires c κs = search needs
+
+  check-split-put-pair-requires : check-split-lts.Need-put-pair-requires (check-split-claims t) (check-split-at t) check-split.Post
+  check-split-put-pair-requires c κs = omega (arith, room-left (c .before .before .before .before .before .before .before .pre .1 .opened))
+
+  check-split-check-branch-requires : check-split-lts.Need-check-branch-requires (check-split-claims t) (check-split-at t) check-split.Post
+  check-split-check-branch-requires c κs =
+      (own-falls (c .before .before .before .before .before .before .before .before .before .before .before .before .before .pre .0), split-started (c .before .before .before .before .before .before .before .before .before .before .before .before .before .pre .1) (c .before .before .before .before .before .before .before .before .kind-of .ensures) 0 (c .before .before .before .before .before .before .joined-by .ensures) (c .before .before .before .before .before .put-pair .ensures))
+
+  check-split-enum-known-first : check-split-lts.Need-enum-known-first (check-split-claims t) (check-split-at t) check-split.Post
+  check-split-enum-known-first c = search needs
+
+  check-split-enum-told : check-split-lts.Need-enum-told (check-split-claims t) (check-split-at t) check-split.Post
+  check-split-enum-told c = search needs
+
+  check-split-same-length : check-split-lts.Need-same-length (check-split-claims t) (check-split-at t) check-split.Post
+  check-split-same-length c = c .before .before .before .before .before .before .lines .given
+
+  check-split-same-length-2 : check-split-lts.Need-same-length-2 (check-split-claims t) (check-split-at t) check-split.Post
+  check-split-same-length-2 c = c .before .before .before .before .before .kinds .given
+
+  check-split-same-length-3 : check-split-lts.Need-same-length-3 (check-split-claims t) (check-split-at t) check-split.Post
+  check-split-same-length-3 c = c .before .before .before .scratch2 .given ∙ c .before .before .before .before .before .before .before .before .before .before .before .before .scratch .given
+
+  check-split-returns : check-split-lts.Need-returns (check-split-claims t) (check-split-at t) check-split.Post
+  check-split-returns c = split-fault (c .before .before .before .before .before .before .before .before .before .before .before .before .before .before .before .before .before .before .before .before .before .pre .1) (c .before .before .before .before .before .before .before .before .before .before .before .before .before .before .before .before .kind-of .ensures) _ (c .before .before .before .before .before .before .before .before .before .before .before .before .before .before .joined-by .ensures) (c .before .before .before .before .before .before .before .before .before .before .before .before .before .put-pair .ensures) (c .before .before .before .before .before .before .before .check-branch .ensures) (c .enum-told .given .1)
+
+  check-split-raised-by-requires : check-split-lts.Need-raised-by-requires (check-split-claims t) (check-split-at t) check-split.Post
+  check-split-raised-by-requires c κs = search needs
+
+  check-split-start-negated-requires : check-split-lts.Need-start-negated-requires (check-split-claims t) (check-split-at t) check-split.Post
+  check-split-start-negated-requires c κs = negated-asked (c .before .before .before .before .before .before .before .before .before .before .before .before .before .before .before .before .before .before .before .before .before .before .before .before .before .pre .1) (c .before .before .before .before .before .before .before .before .before .before .before .before .before .before .before .before .before .before .before .before .kind-of .ensures) _ (c .before .before .before .before .before .before .before .before .before .before .before .before .before .before .before .before .before .before .joined-by .ensures) (c .before .before .before .before .before .before .before .before .before .before .before .before .before .before .before .before .before .put-pair .ensures) (c .before .before .before .before .before .before .before .before .before .before .before .check-branch .ensures) (c .before .before .before .before .first .given .1) (c .raised-by .ensures)
+
+  check-split-check-branch-requires-2 : check-split-lts.Need-check-branch-requires-2 (check-split-claims t) (check-split-at t) check-split.Post
+  check-split-check-branch-requires-2 c κs =
+      let s = c .before .before .before .before .before .before .before .before .before .before .before .before .before .before .before .before .before .before .before .before .before .before .before .before .before .before .before .before .before .before .before .before .pre .1 in
+      let k = c .before .before .before .before .before .before .before .before .before .before .before .before .before .before .before .before .before .before .before .before .before .before .before .before .before .before .before .kind-of .ensures in
+      let et = c .before .before .before .before .before .before .before .before .before .before .before .before .before .before .before .before .before .before .before .before .before .before .before .before .before .joined-by .ensures in
+      let h = c .before .before .before .before .before .before .before .before .before .before .before .before .before .before .before .before .before .before .before .before .before .before .before .before .put-pair .ensures in
+      let b = c .before .before .before .before .before .before .before .before .before .before .before .before .before .before .before .before .before .before .check-branch .ensures in
+      let e = c .before .before .before .before .before .before .before .before .before .before .before .first .given .1 in
+      (one-less (others-fall (split-open s k _ et h b e) (split-unread s k _ et h b e) (c .before .before .before .before .before .before .before .before .before .before .before .before .before .before .before .before .before .before .before .before .before .before .before .before .before .before .before .before .before .before .before .before .pre .0)), negated-started s k _ et h b e (c .before .before .before .before .before .before .before .raised-by .ensures) (c .before .before .before .before .before .before .start-negated .ensures .0) (c .before .before .before .before .before .before .start-negated .ensures .1))
+
+  check-split-same-length-4 : check-split-lts.Need-same-length-4 (check-split-claims t) (check-split-at t) check-split.Post
+  check-split-same-length-4 c = c .before .before .before .before .lines3 .given ∙ c .before .before .before .before .before .before .before .before .before .before .before .lines2 .given ∙ c .before .before .before .before .before .before .before .before .before .before .before .before .before .before .before .before .before .before .before .before .before .before .before .lines .given
+
+  check-split-same-length-5 : check-split-lts.Need-same-length-5 (check-split-claims t) (check-split-at t) check-split.Post
+  check-split-same-length-5 c = c .before .before .before .kinds3 .given ∙ c .before .before .before .before .before .before .before .before .before .before .kinds2 .given ∙ c .before .before .before .before .before .before .before .before .before .before .before .before .before .before .before .before .before .before .before .before .before .before .kinds .given
+
+  check-split-same-length-6 : check-split-lts.Need-same-length-6 (check-split-claims t) (check-split-at t) check-split.Post
+  check-split-same-length-6 c = c .before .scratch3 .given ∙ c .before .before .before .before .before .before .before .before .before .before .before .before .before .before .before .before .before .before .before .before .scratch2 .given ∙ c .before .before .before .before .before .before .before .before .before .before .before .before .before .before .before .before .before .before .before .before .before .before .before .before .before .before .before .before .before .scratch .given
+
+  check-split-returns-2 : check-split-lts.Need-returns-2 (check-split-claims t) (check-split-at t) check-split.Post
+  check-split-returns-2 c = split-checks (c .before .before .before .before .before .before .before .before .before .before .before .before .before .before .before .before .before .before .before .before .before .before .before .before .before .before .before .before .before .before .before .before .before .before .before .before .before .before .pre .1) (c .before .before .before .before .before .before .before .before .before .before .before .before .before .before .before .before .before .before .before .before .before .before .before .before .before .before .before .before .before .before .before .before .before .kind-of .ensures) _ (c .before .before .before .before .before .before .before .before .before .before .before .before .before .before .before .before .before .before .before .before .before .before .before .before .before .before .before .before .before .before .before .joined-by .ensures) (c .before .before .before .before .before .before .before .before .before .before .before .before .before .before .before .before .before .before .before .before .before .before .before .before .before .before .before .before .before .before .put-pair .ensures) (c .before .before .before .before .before .before .before .before .before .before .before .before .before .before .before .before .before .before .before .before .before .before .before .before .check-branch .ensures) (c .before .before .before .before .before .before .before .before .before .before .before .before .before .before .before .before .before .first .given .1) (c .before .before .before .before .before .before .before .before .before .before .before .before .before .raised-by .ensures) (c .before .before .before .before .before .before .before .before .before .before .before .before .start-negated .ensures .0) (c .before .before .before .before .before .before .before .before .before .before .before .before .start-negated .ensures .1) (c .before .before .before .before .before .check-branch2 .ensures)
+
+pub +check-branch+check-rounded+check-rounding+check-split-spec : {M : Type 1} → statement M
++check-branch+check-rounded+check-rounding+check-split-spec =
     close
     μ-check-branch
     μ-check-rounded
     μ-check-rounding
+    μ-check-split
     (λ t. check-branch-lts.spec
     (check-branch-claims t)
     (check-branch-at t)
@@ -699,31 +811,44 @@ pub +check-branch+check-rounded+check-rounding-spec : {M : Type 1} → statement
     (check-branch-same-length-22 t)
     (check-branch-same-length-23 t)
     (check-branch-same-length-24 t)
-    (check-branch-returns-9 t))
+    (check-branch-returns-9 t)
+    (check-branch-enum-known-t-5 t)
+    (check-branch-split-requires t)
+    (check-branch-enum-known-number-4 t)
+    (check-branch-same-length-25 t)
+    (check-branch-same-length-26 t)
+    (check-branch-returns-10 t)
+    (check-branch-enum-known-v-3 t)
+    (check-branch-check-split-requires t)
+    (check-branch-resumed-requires-3 t)
+    (check-branch-same-length-27 t)
+    (check-branch-same-length-28 t)
+    (check-branch-same-length-29 t)
+    (check-branch-returns-11 t))
     (λ t. check-rounded-lts.spec
     (check-rounded-claims t)
     (check-rounded-at t)
     check-rounded.Post
+    Inv-loop
+    μ-loop
+    (check-rounded-loop-holds t)
     (check-rounded-start-requires t)
     (check-rounded-add-following t)
     (check-rounded-put-front-requires t)
     (check-rounded-check-branch-requires t)
-    (check-rounded-enum-known-own t)
-    (check-rounded-enum-told t)
     (check-rounded-same-length t)
     (check-rounded-same-length-2 t)
     (check-rounded-same-length-3 t)
     (check-rounded-returns t)
-    (check-rounded-check-rounded-requires t)
+    (check-rounded-enum-known-own t)
+    (check-rounded-enum-told t)
     (check-rounded-same-length-4 t)
     (check-rounded-same-length-5 t)
     (check-rounded-same-length-6 t)
     (check-rounded-returns-2 t)
-    (check-rounded-same-length-7 t)
-    (check-rounded-same-length-8 t)
-    (check-rounded-same-length-9 t)
-    (check-rounded-returns-3 t))
-    λ t. check-rounding-lts.spec
+    (check-rounded-loop-less t)
+    (check-rounded-loop-again t))
+    (λ t. check-rounding-lts.spec
     (check-rounding-claims t)
     (check-rounding-at t)
     check-rounding.Post
@@ -739,4 +864,25 @@ pub +check-branch+check-rounded+check-rounding-spec : {M : Type 1} → statement
     (check-rounding-same-length-4 t)
     (check-rounding-same-length-5 t)
     (check-rounding-same-length-6 t)
-    (check-rounding-returns-2 t)
+    (check-rounding-returns-2 t))
+    λ t. check-split-lts.spec
+    (check-split-claims t)
+    (check-split-at t)
+    check-split.Post
+    (check-split-kind-of-requires t)
+    (check-split-joined-by-requires t)
+    (check-split-put-pair-requires t)
+    (check-split-check-branch-requires t)
+    (check-split-enum-known-first t)
+    (check-split-enum-told t)
+    (check-split-same-length t)
+    (check-split-same-length-2 t)
+    (check-split-same-length-3 t)
+    (check-split-returns t)
+    (check-split-raised-by-requires t)
+    (check-split-start-negated-requires t)
+    (check-split-check-branch-requires-2 t)
+    (check-split-same-length-4 t)
+    (check-split-same-length-5 t)
+    (check-split-same-length-6 t)
+    (check-split-returns-2 t)

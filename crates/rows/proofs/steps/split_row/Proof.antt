@@ -1,0 +1,24 @@
+-- `rows::steps::split_row` meets its contract. Assumes nothing.
+use borrow.Author.Needs.{needs}
+use Rattle.rows.proofs.Stepping.{counted-row, full-row, counts-full, counts-split}
+use Rattle.rows.proofs.steps.split_row.Statement.{statement}
+use Rattle.rows.proofs.steps.split_row.Tie as tie
+
+row-counted-requires : tie.Need-row-counted-requires
+row-counted-requires c κs = search needs
+
+returns : tie.Need-returns
+returns c =
+    let s = c .before .before .before in
+    let a = s .args in
+    let h = counted-row (c .before .before .row-counted .ensures) (c .if1 .taken) in
+    counts-split (a .tally) (h .0) (h .1) (a .t)
+
+returns-2 : tie.Need-returns-2
+returns-2 c =
+    let s = c .before .before .before in
+    let a = s .args in
+    counts-full _ (a .tally) (full-row (a .tally) (c .before .before .row-counted .ensures) (c .if1 .left))
+
+pub split-row-spec : {M : Type 1} → statement M
+split-row-spec = tie.close (tie.spec row-counted-requires returns returns-2)
