@@ -32,11 +32,11 @@ as a branch may have 128 of them with 16 constants, and 39 for each byte of the 
 Of a check of 128 rows that was a tenth on another processor. Claims make a proof long, so that it is given the most.
 - Checking any proof. Each branch is a call that hands on four lent buffers, where the Rust checker keeps a stack of its \
 own.
-- Writing a large bundle. The loop over a constraint's numbers is compiled into the loop over the constraints, and some \
-values of the two lie on the stack.
-
-Testing a formula whose and/ors lie more than some 48 deep, as they do here from 64 parts on, takes a little longer \
-than with Rust: two levels of a formula are a call, and a processor foretells the returns of some two dozen.
+- Writing a bundle. A small one takes some 3 ns more, which were not looked into. Of a large one the loop over a \
+constraint's numbers is compiled into the loop over the constraints, and some values of the two lie on the stack; it is \
+level on some processors.
+- Testing a formula of many levels where a level has little to test: two levels of a formula are a call, and a processor \
+foretells the returns of some two dozen.
 ";
 
 pub fn page(timed: &[(Work, Time)], rounds: usize, machine: &str) -> String {
