@@ -9,9 +9,9 @@ use lib.ListN.{set}
 use lib.IntN.{ℤ, pos, _+ℤ_}
 use borrow.Author.Tests.{lt-ltb, le-ltb, ltb-true, ltb-false}
 use Rattle.forms.specs.Edition.{edition1}
-use Rattle.forms.specs.Forms.{≤0, Line, _and_, _or_, small}
+use Rattle.forms.specs.Forms.{≤0, Line, _and_, _or_}
 use Rattle.calculus.specs.Rules as rules
-use Rattle.calculus.specs.Rules.{_▷_, inRange}
+use Rattle.calculus.specs.Rules.{_▷_, small, inRange}
 use Rattle.fields.specs.declared.Answer.{Answer}
 use Rattle.fields.specs.Answers.{position, Result, refused, accepted, _>>=_, _>>_, need, found}
 use Rattle.fields.specs.Fields.{Fields}

@@ -11,10 +11,10 @@ use lib.ListN.{length, getD, set, length-append}
 use borrow.Author.Tests.{le-leb, lt-leb, leb-true}
 use Rattle.integers.specs.Divides.{divb}
 use Rattle.forms.specs.Edition.{edition1}
-use Rattle.forms.specs.Forms.{≤0, Form, Line, Formula, _divides_, _and_, _or_, _plus_, every}
+use Rattle.forms.specs.Forms.{≤0, Form, Line, Formula, _divides_, _and_, _or_, _plus_}
 use Rattle.forms.specs.Reduced.{reduced}
 use Rattle.forms.specs.Flat.{formIn}
-use Rattle.calculus.specs.Rules.{_▷_}
+use Rattle.calculus.specs.Rules.{_▷_, every}
 use Rattle.forms.specs.declared.RowNumber.{RowNumber}
 use Rattle.fields.specs.declared.Position.{Position}
 use Rattle.fields.specs.Answers.{position, Result, accepted, _>>=_, _>>_, need, found}

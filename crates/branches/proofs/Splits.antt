@@ -10,10 +10,10 @@ use lib.IntN.{ℤ, pos, negsuc, _+ℤ_, _*ℤ_}
 use lib.ListN.{length, getD, set}
 use borrow.Author.Tests.{lt-ltb, eqb-true, eqb-false}
 use Rattle.forms.specs.Edition.{edition1}
-use Rattle.forms.specs.Forms.{≤0, Side, LineKind, plain, apart, Line, line, Form, neg, Formula, _and_, _or_, _plus_, small}
+use Rattle.forms.specs.Forms.{≤0, Side, LineKind, plain, apart, Line, line, Form, neg, Formula, _and_, _or_, _plus_}
 use Rattle.forms.specs.Flat.{kindOf, lineKindOf, formIn}
 use Rattle.calculus.specs.Rules as rules
-use Rattle.calculus.specs.Rules.{_▷_, inRange}
+use Rattle.calculus.specs.Rules.{_▷_, small, inRange}
 use Rattle.forms.specs.declared.RowNumber.{RowNumber}
 use Rattle.fields.specs.declared.Answer.{Answer}
 use Rattle.fields.specs.declared.Position.{Position}

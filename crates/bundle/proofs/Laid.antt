@@ -7,17 +7,17 @@ use Prim.Native.Nat.{ℕ, suc, _≤_, _+_}
 use native.Mathlib.Omega.{arith}
 use lib.Dec.{T, leb→le, le→leb, ltb→lt, lt→ltb, eqb→eq, eqb-refl}
 use lib.ListN.{length}
-use Rattle.forms.specs.Edition.{Edition, edition}
-use Rattle.forms.specs.Forms.{Form, ≤0, =0, ConstraintKind, says, ≠0, Constraint, All}
+use Rattle.forms.specs.Edition.{Edition, edition1}
+use Rattle.forms.specs.Forms.{Form, ≤0, =0, ConstraintKind, says, ≠0, Constraint}
 use Rattle.fields.specs.declared.FileKind.{FileKind}
 use Rattle.fields.specs.Answers.{accepted, fileA, fileB}
 use Rattle.fields.specs.Numbers.{formWidth}
 use Rattle.fields.specs.Fields.{Field, Fields, ends, cut, _▸_, Item, item, items, fields}
 use Rattle.fields.specs.Header.{headerTag, known, agrees, Header}
-use Rattle.fields.proofs.Results.{Gives, gives-refused, gives-accepted, weaken, bind, gives-need, test, finds, seq, binds, passes, need-yes, needs, found-some}
-use Rattle.fields.proofs.HeaderLaid.{by-tag, next-items, not-empty, first-of, LaidHeader, edition-gives, constants-gives, edition-read, constants-read}
-use Rattle.bundle.specs.Bundle.{Bundle, kindTagged, atMost, formSmall, constraints, bundleHeader, bundle, bundles}
-use Rattle.bundle.specs.Layout.{Each, nil, cons, States, BundleFile}
+use Rattle.fields.proofs.Results.{Gives, gives-refused, gives-accepted, weaken, bind, gives-need, test, finds, binds, need-yes, needs, found-some}
+use Rattle.fields.proofs.HeaderLaid.{by-tag, next-items, not-empty, first-of, LaidHeader, header-gives, header-read}
+use Rattle.bundle.specs.Bundle.{Bundle, kindTagged, atMost, constraints, bundle, bundles}
+use Rattle.bundle.specs.Layout.{Each, nil, cons, States, StatesAll, BundleFile}
 
 -- ---- fields that state a list, one by one
 -- The fields fs are whole to the file's end, and R holds of each field and the element of the list at its place.
@@ -60,32 +60,61 @@ kind-known tag k h =
     let P : ℕ → Type 0 = λ n. T (known FileKind.Bundle n) in
     by-tag P tag 0x03 (says ≤0) tt (by-tag P tag 0x04 (says =0) tt (by-tag P tag 0x05 ≠0 tt (λ e. absurd (let z : _≡_ {A = ℕ} 0 1 = cc in omega arith)))) h
 
--- Each number lies within the range.
-abbrev pub AllSmall : (range : ℕ) → List Constraint → Type 0
-AllSmall range = All (λ c. T (formSmall range (c .form)))
-
--- The fields fs state the constraints cs, of which with the n before them there are not too many, and whose numbers lie within the range.
+-- The fields fs state the constraints cs, of which with the n before them there are not too many.
 record Constrained (e : Edition) (K n : ℕ) (fs : Fields) (cs : List Constraint) : Type 0 where
   lists : Lists (States e K) fs cs
   few : n + length cs ≤ e .constraints
-  within : AllSmall (e .range) cs
 
 module _ (file : ℕ) (e : Edition) (K : ℕ) where
   constraints-give : (n : ℕ) (fs : Fields) → n ≤ e .constraints → Gives (constraints file e K n fs) (Constrained e K n fs)
   unfolding constraints
-  constraints-give n (ends at) h = gives-accepted (record { lists = done at; few = omega arith; within = All.nil })
+  constraints-give n (ends at) h = gives-accepted (record { lists = done at; few = omega arith })
   constraints-give n (cut at) h = gives-refused _ tt
-  constraints-give n (f ▸ fs) h = test _ _ tt λ _. bind (finds _ (kindTagged (f .tag)) tt) λ k t. test _ _ tt λ l. test _ _ tt λ b. test _ _ tt λ r.
+  constraints-give n (f ▸ fs) h = test _ _ tt λ _. bind (finds _ (kindTagged (f .tag)) tt) λ k t. test _ _ tt λ l. test _ _ tt λ b.
       let lt = ltb→lt n (e .constraints) b in
       bind (constraints-give (suc n) fs lt) λ cs c.
-      gives-accepted (record { lists = next f (record { kind = t; size = eqb→eq _ _ l; form = refl }) (c .lists); few = omega (arith, c .few); within = All.cons r (c .within) })
+      gives-accepted (record { lists = next f (record { kind = t; size = eqb→eq _ _ l; form = refl }) (c .lists); few = omega (arith, c .few) })
 
-  constraints-accept : (n : ℕ) {fs : Fields} {cs : List Constraint} → Lists (States e K) fs cs → n + length cs ≤ e .constraints → AllSmall (e .range) cs → constraints file e K n fs ≡ accepted cs
+  constraints-accept : (n : ℕ) {fs : Fields} {cs : List Constraint} → Lists (States e K) fs cs → n + length cs ≤ e .constraints → constraints file e K n fs ≡ accepted cs
   unfolding constraints
-  constraints-accept n (done at) h All.nil = refl
-  constraints-accept n (next f {fs} {x = c} {xs = cs} s l) h (All.cons r rs) = needs _ _ _ (kind-known (f .tag) (c .kind) (s .kind)) ∙ binds _ (found-some _ (s .kind)) ∙ needs _ _ _ (rw (s .size) (eqb-refl (formWidth (e .coefficientWidth) K)))
-      ∙ needs _ _ _ (lt→ltb n (e .constraints) (omega arith)) ∙ needs _ _ _ (subst (λ (t : Form). T (formSmall (e .range) t)) (sym (s .form)) r)
-      ∙ binds _ (constraints-accept (suc n) l (omega arith) rs) ∙ ap (λ (t : Form). accepted (record { kind = c .kind; form = t } ∷ cs)) (s .form)
+  constraints-accept n (done at) h = refl
+  constraints-accept n (next f {fs} {x = c} {xs = cs} s l) h = needs _ _ _ (kind-known (f .tag) (c .kind) (s .kind)) ∙ binds _ (found-some _ (s .kind)) ∙ needs _ _ _ (rw (s .size) (eqb-refl (formWidth (e .coefficientWidth) K)))
+      ∙ needs _ _ _ (lt→ltb n (e .constraints) (omega arith)) ∙ binds _ (constraints-accept (suc n) l (omega arith)) ∙ ap (λ (t : Form). accepted (record { kind = c .kind; form = t } ∷ cs)) (s .form)
+
+-- ---- the bundle
+-- The fields fs are laid out as the bundle b, whose K is the given one, if one is given.
+pub record Laid (given : Option ℕ) (fs : Fields) (b : Bundle) : Type 0 where
+  pub list : List Item
+  pub whole : items fs ≡ some list
+  pub laid : StatesAll list (b .K) (b .constraints)
+  pub few : length (b .constraints) ≤ edition1 .constraints
+  pub agree : T (agrees given (b .K))
+
+module _ (file : ℕ) (given : Option ℕ) where
+  read-laid : (fs : Fields) (h : Header) → LaidHeader given fs h → (cs : List Constraint) → Constrained (h .edition) (h .K) 0 (h .rest) cs → Laid given fs (record { K = h .K; constraints = cs })
+  read-laid fs h d cs c =
+      let t : Itemed (States edition1 (h .K)) (h .rest) cs = itemed (subst (λ (e : Edition). Lists (States e (h .K)) (h .rest) cs) (d .edition) (c .lists)) in
+      record {
+        list = item 0x01 (1 ∷ []) ∷ item 0x02 (h .K ∷ []) ∷ t .list;
+        whole = d .from (t .list) (t .are);
+        laid = record { body = t .list; are = refl; low = d .low; high = d .high; states = t .each };
+        few = subst (λ (e : Edition). length cs ≤ e .constraints) (d .edition) (omega (arith, c .few));
+        agree = d .agree;
+      }
+
+  pub bundle-gives : (fs : Fields) → Gives (bundle file given fs) (Laid given fs)
+  unfolding bundle
+  bundle-gives fs = bind (header-gives FileKind.Bundle file given fs) λ h d. bind (constraints-give file (h .edition) (h .K) 0 (h .rest) (omega arith)) λ cs c.
+      gives-accepted (read-laid fs h d cs c)
+
+  pub bundle-accepts : (fs : Fields) (b : Bundle) → Laid given fs b → bundle file given fs ≡ accepted b
+  unfolding bundle
+  bundle-accepts fs b l =
+      let h = header-read FileKind.Bundle file given fs (b .K) (l .laid .body) (l .whole ∙ ap some (l .laid .are)) (l .laid .low) (l .laid .high) (l .agree) in
+      binds _ (h .reads) ∙ binds _ (constraints-accept file edition1 (b .K) 0 (listed (h .after) (h .rest) (l .laid .states)) (omega (arith, l .few)))
+
+  pub bundle-iff : (fs : Fields) (b : Bundle) → bundle file given fs ≡ accepted b ↔ Laid given fs b
+  bundle-iff fs b = (bundle-gives fs .gives b, bundle-accepts fs b)
 
 -- ---- the files
 pub short-gives : (limit file : ℕ) (bytes : List ℕ) → Gives (atMost limit file bytes) (λ _. length bytes ≤ limit)
@@ -96,68 +125,21 @@ pub short-accepted : (limit file : ℕ) (bytes : List ℕ) → length bytes ≤ 
 unfolding atMost
 short-accepted limit file bytes h = need-yes _ _ (le→leb (length bytes) limit h)
 
--- ---- the bundle
--- The file is that of the bundle b, whose K is the given one, if one is given.
-pub record Laid (newest : ℕ) (given : Option ℕ) (bytes : List ℕ) (b : Bundle) : Type 0 where
-  pub file : BundleFile newest bytes (b .edition) (b .K) (b .constraints)
-  pub agree : T (agrees given (b .K))
+pub laid-file : {given : Option ℕ} (bytes : List ℕ) (b : Bundle) → length bytes ≤ edition1 .bundleBytes → Laid given (fields bytes) b → BundleFile bytes (b .K) (b .constraints)
+laid-file bytes b h l = record { short = h; list = l .list; whole = l .whole; laid = l .laid; few = l .few }
 
--- What stands before the constraints, and that the file is short enough for its edition.
-pub record Headed (newest : ℕ) (given : Option ℕ) (bytes : List ℕ) (h : Header) : Type 0 where
-  pub laid : LaidHeader newest given (fields bytes) h
-  pub short : length bytes ≤ edition (h .number) .bundleBytes
-
-module _ (newest file : ℕ) (given : Option ℕ) (bytes : List ℕ) where
-  pub bundleHeader-gives : Gives (bundleHeader newest file given bytes) (Headed newest given bytes)
-  unfolding bundleHeader
-  bundleHeader-gives = bind (edition-gives FileKind.Bundle file newest (fields bytes)) λ (n, fs) h1. seq (short-gives _ file bytes) λ s. bind (constants-gives FileKind.Bundle file given fs) λ (K, after) h2.
-      gives-accepted (record { laid = record { first = h1 .first; last = h1 .last; low = h2 .low; high = h2 .high; agree = h2 .agree; from = λ is h. h1 .from _ (h2 .from is h) }; short = s })
-
-  read-laid : (h : Header) → Headed newest given bytes h → (cs : List Constraint) → Constrained (edition (h .number)) (h .K) 0 (h .rest) cs
-      → Laid newest given bytes (record { edition = h .number; K = h .K; constraints = cs })
-  read-laid h d cs c =
-      let t : Itemed (States (edition (h .number)) (h .K)) (h .rest) cs = itemed (c .lists) in
-      record {
-        file = record {
-          first = d .laid .first;
-          last = d .laid .last;
-          short = d .short;
-          list = item 0x01 (h .number ∷ []) ∷ item 0x02 (h .K ∷ []) ∷ t .list;
-          whole = d .laid .from (t .list) (t .are);
-          laid = record { body = t .list; are = refl; low = d .laid .low; high = d .laid .high; states = t .each };
-          few = omega (arith, c .few);
-          within = c .within;
-        };
-        agree = d .laid .agree;
-      }
-
-  pub bundle-gives : Gives (bundle newest file given bytes) (Laid newest given bytes)
-  unfolding bundle
-  bundle-gives = bind bundleHeader-gives λ h d. bind (constraints-give file (edition (h .number)) (h .K) 0 (h .rest) (omega arith)) λ cs c.
-      gives-accepted (read-laid h d cs c)
-
-  pub bundle-accepts : (b : Bundle) → Laid newest given bytes b → bundle newest file given bytes ≡ accepted b
-  unfolding bundle bundleHeader
-  bundle-accepts b l =
-      let f = l .file in
-      let r1 = edition-read FileKind.Bundle file newest (fields bytes) (b .edition) _ (f .whole ∙ ap some (f .laid .are)) (f .first) (f .last) in
-      let r2 = constants-read FileKind.Bundle file given (r1 .after) (b .K) (f .laid .body) (r1 .rest) (f .laid .low) (f .laid .high) (l .agree) in
-      binds _ (binds _ (r1 .reads) ∙ passes _ (short-accepted _ file bytes (f .short)) ∙ binds _ (r2 .reads))
-      ∙ binds _ (constraints-accept file (edition (b .edition)) (b .K) 0 (listed (r2 .after) (r2 .rest) (f .laid .states)) (omega (arith, f .few)) (f .within))
-
-  pub bundle-iff : (b : Bundle) → bundle newest file given bytes ≡ accepted b ↔ Laid newest given bytes b
-  bundle-iff b = (bundle-gives .gives b, bundle-accepts b)
+pub file-laid : {given : Option ℕ} (bytes : List ℕ) (b : Bundle) → BundleFile bytes (b .K) (b .constraints) → T (agrees given (b .K)) → Laid given (fields bytes) b
+file-laid bytes b f a = record { list = f .list; whole = f .whole; laid = f .laid; few = f .few; agree = a }
 
 -- A and B with one K
-pub record BothLaid (newest : ℕ) (A B : List ℕ) (ab : Bundle × Bundle) : Type 0 where
-  pub laidA : Laid newest none A (ab .0)
-  pub laidB : Laid newest (some (ab .0 .K)) B (ab .1)
+pub record BothLaid (A B : List ℕ) (ab : Bundle × Bundle) : Type 0 where
+  pub laidA : Laid none (fields A) (ab .0)
+  pub laidB : Laid (some (ab .0 .K)) (fields B) (ab .1)
 
-module _ (newest : ℕ) (A B : List ℕ) where
-  pub bundles-give : Gives (bundles newest A B) (BothLaid newest A B)
-  unfolding bundles
-  bundles-give = bind (bundle-gives newest fileA none A) λ a l. bind (bundle-gives newest fileB (some (a .K)) B) λ b m. gives-accepted (record { laidA = l; laidB = m })
+pub bundles-give : (A B : List ℕ) → Gives (bundles A B) (BothLaid A B)
+unfolding bundles
+bundles-give A B = bind (bundle-gives fileA none (fields A)) λ a l. bind (bundle-gives fileB (some (a .K)) (fields B)) λ b m. gives-accepted (record { laidA = l; laidB = m })
 
-  pub bundles-accept : (a b : Bundle) → BothLaid newest A B (a, b) → bundles newest A B ≡ accepted (a, b)
-  unfolding bundles
-  bundles-accept a b l = binds _ (bundle-accepts newest fileA none A a (l .laidA)) ∙ binds _ (bundle-accepts newest fileB (some (a .K)) B b (l .laidB))
+pub bundles-accept : (A B : List ℕ) (a b : Bundle) → BothLaid A B (a, b) → bundles A B ≡ accepted (a, b)
+unfolding bundles
+bundles-accept A B a b l = binds _ (bundle-accepts fileA none (fields A) a (l .laidA)) ∙ binds _ (bundle-accepts fileB (some (a .K)) (fields B) b (l .laidB))

@@ -6,8 +6,6 @@ pub mod Writable
 pub mod RoundTrips
 pub mod Scanning
 pub mod Storing
-pub mod Ranging
-pub mod Widths
 pub mod Reading
 pub mod Pairs
 pub mod Putting

@@ -9,12 +9,12 @@ use lib.IntN.{ℤ}
 use lib.ListN.{length, length-map, length-append}
 use lib.Seq.{sets}
 use borrow.Author.Tests.{le-leb, lt-leb}
-use Rattle.forms.specs.Edition.{Edition}
+use Rattle.forms.specs.Edition.{edition1}
 use Rattle.forms.specs.Forms.{Constraint}
 use Rattle.fields.specs.declared.Answer.{Answer}
 use Rattle.fields.specs.Answers.{answer, acceptance, fileA, Result, refused, accepted, _>>_, need, over}
 use Rattle.fields.specs.Numbers.{flat}
-use Rattle.fields.specs.Fields.{Item}
+use Rattle.fields.specs.Fields.{Fields, Item, fields}
 use Rattle.fields.proofs.Results.{Gives, weaken, not-0}
 use Rattle.fields.proofs.Signed.{length-signeds}
 use Rattle.fields.proofs.Stores.{sets-over}
@@ -36,17 +36,15 @@ pub record BundleShaped (b : Bundle) : Type 0 where
   pub few : length (b .constraints) ≤ 32
   pub size : length (numbersOf (b .constraints)) ≡ length (b .constraints) * suc (b .K)
 
-stated-size : {e : Edition} {K : ℕ} {is : List Item} {cs : List Constraint} → Each (States e K) is cs → length (numbersOf cs) ≡ length cs * suc K
+stated-size : {K : ℕ} {is : List Item} {cs : List Constraint} → Each (States edition1 K) is cs → length (numbersOf cs) ≡ length cs * suc K
 unfolding numbersOf
 stated-size {K} nil = sym (zero-mul (suc K))
-stated-size {e} {K} (cons {x = i} {y = c} {ys = cs} s h) =
-    let w = e .coefficientWidth in
+stated-size {K} (cons {x = i} {y = c} {ys = cs} s h) =
     length-append (flat (c .form)) (numbersOf cs)
-    ∙ rw (← s .form, flat-signeds w K (i .contents), length-signeds w (suc K) (i .contents)) (omega (arith, suc-mul (length cs) (suc K), stated-size h))
+    ∙ rw (← s .form, flat-signeds 2 K (i .contents), length-signeds 2 (suc K) (i .contents)) (omega (arith, suc-mul (length cs) (suc K), stated-size h))
 
-pub shaped : (newest file : ℕ) (given : Option ℕ) (bytes : List ℕ) → Gives (bundle newest file given bytes) BundleShaped
-shaped newest file given bytes = weaken (bundle-gives newest file given bytes) λ b l.
-    record { low = l .file .laid .low; high = l .file .laid .high; few = l .file .few; size = stated-size (l .file .laid .states) }
+pub shaped : (file : ℕ) (given : Option ℕ) (fs : Fields) → Gives (bundle file given fs) BundleShaped
+shaped file given fs = weaken (bundle-gives file given fs) λ b l. record { low = l .laid .low; high = l .laid .high; few = l .few; size = stated-size (l .laid .states) }
 
 -- ---- each way through `read`
 -- what `scan` tells of an accepted bundle
@@ -54,7 +52,7 @@ pub record Taken (R : Result Bundle) (start : ℕ) (r : Scanned) : Type 0 where
   pub bundle : Bundle
   pub is : R ≡ accepted bundle
   pub shape : BundleShaped bundle
-  pub scan-is : r ≡ record { answer = acceptance; edition = bundle .edition; k = bundle .K; count = length (bundle .constraints); start = start }
+  pub scan-is : r ≡ record { answer = acceptance; k = bundle .K; count = length (bundle .constraints); start = start }
 
 module _ {R : Result Bundle} {r : Scanned} (start : ℕ) (g : Gives R BundleShaped) (e : r ≡ scanned start R) where
   pub taken : r .answer .number ≡ 0 → Taken R start r
@@ -72,17 +70,17 @@ module _ {R : Result Bundle} {r : Scanned} (start : ℕ) (g : Gives R BundleShap
       go (accepted b) e = absurd (z (rw e))
 
 module _ (kinds : List ℕ) (numbers : List ℤ) where
-  pub read-unread : {x : ReadResult} {a : Answer} → x ≡ record { answer = a; count = 0; k = 0; edition = 0 } → readOf x kinds numbers ≡ unread kinds numbers a
+  pub read-unread : {x : ReadResult} {a : Answer} → x ≡ record { answer = a; count = 0; k = 0 } → readOf x kinds numbers ≡ unread kinds numbers a
   unfolding unread
   read-unread e = rw e
 
-  pub read-long : (file : List ℕ) → 8192 < length file → readBundle kinds numbers 2 file ≡ unread kinds numbers (answer 1 1 0)
+  pub read-long : (file : List ℕ) → 4096 < length file → readBundle kinds numbers file ≡ unread kinds numbers (answer 1 1 0)
   unfolding readBundle stored atMost need _>>_
-  read-long file h = rw (lt-leb (length file) 8192 h)
+  read-long file h = rw (lt-leb (length file) 4096 h)
 
-  pub read-short : (file : List ℕ) → length file ≤ 8192 → readBundle kinds numbers 2 file ≡ stored kinds numbers (bundle 2 fileA none file)
+  pub read-short : (file : List ℕ) → length file ≤ 4096 → readBundle kinds numbers file ≡ stored kinds numbers (bundle fileA none (fields file))
   unfolding readBundle atMost need _>>_
-  read-short file h = rw (le-leb (length file) 8192 h)
+  read-short file h = rw (le-leb (length file) 4096 h)
 
   pub stored-refused : {R : Result Bundle} {a : Answer} → R ≡ refused a → stored kinds numbers R ≡ unread kinds numbers a
   unfolding stored
@@ -121,7 +119,7 @@ module _ (kinds : List ℕ) (numbers : List ℤ) where
 
       module _ (fit : r .count * (r .k + 1) ≤ length numbers) where
         pub read-stored : {kinds′ : List ℕ} {numbers′ : List ℤ} → kinds′ ≡ sets kinds 0 (kindsIn R) → numbers′ ≡ sets numbers 0 (numbersIn R)
-            → readOf (record { answer = r .answer; count = r .count; k = r .k; edition = r .edition }) kinds′ numbers′ ≡ stored kinds numbers R
+            → readOf (record { answer = r .answer; count = r .count; k = r .k }) kinds′ numbers′ ≡ stored kinds numbers R
         unfolding stored store
         read-stored x y =
             let kx : sets kinds 0 (kindsOf (t .bundle .constraints)) ≡ over (kindsOf (t .bundle .constraints)) kinds = sets-over (kindsOf (t .bundle .constraints)) kinds (omega (arith, kinds-size)) in

@@ -3,7 +3,6 @@ use mathlib.Core.Path.{_≡_}
 use mathlib.Core.List.{List}
 use Prim.Native.Nat.{ℕ, _+_, _≤_}
 use lib.ListN.{length}
-use Rattle.forms.specs.Edition.{newestEdition}
 use Rattle.fields.specs.Answers.{Result, refused, accepted}
 use Rattle.bundle.specs.Show.{Part, shownPart}
 use Rattle.bundle.specs.Promises.{ofFile}
@@ -19,5 +18,5 @@ LiesIn A B (Located.Part file start size) = start + size ≤ length (ofFile file
 
 -- The part that a line number shows, or the refusal; and it lies in its file.
 pub record IsLocated (A B : List ℕ) (line : ℕ) (r : Located) : Type 0 where
-  pub is : shownPart newestEdition A B line ≡ locatedOf r
+  pub is : shownPart A B line ≡ locatedOf r
   pub inside : LiesIn A B r

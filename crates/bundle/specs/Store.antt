@@ -12,8 +12,8 @@ use Rattle.bundle.specs.Read.{kindsOf, numbersOf}
 use Rattle.bundle.specs.declared.constraints.Counted.{Counted}
 
 -- The constraints of the fields, n before them and `count` with those, have no fault and fit.
-pub record Storable (w K n count : ℕ) (fs : Fields) (kinds : List ℕ) (numbers : List ℤ) : Type 0 where
-  pub is : counted w K n fs ≡ Counted.Count count
+pub record Storable (K n count : ℕ) (fs : Fields) (kinds : List ℕ) (numbers : List ℤ) : Type 0 where
+  pub is : counted K n fs ≡ Counted.Count count
   pub kinds-fit : count ≤ length kinds
   pub numbers-fit : count * suc K ≤ length numbers
 

@@ -3,19 +3,12 @@ use fields::FileKind;
 use fields::Next;
 use fields::header::known;
 use fields::next_field;
-use fields::words::signed_at;
+use forms::COEFFICIENT_BYTES;
 use forms::CONSTRAINTS;
-use integers::in_range;
 ghost use mathlib.Core.Path.{_≡_};
-ghost use mathlib.Core.Logic.{_⊎_};
 ghost use mathlib.Core.Bool.{cond};
-ghost use Prim.Native.Nat.{_+_, _*_, _≤_};
 ghost use lib.Dec.{eqb};
-ghost use lib.ListN.{length, take, drop};
-ghost use Rattle.forms.specs.Edition.{edition1};
-ghost use Rattle.forms.specs.Forms.{small, every};
 ghost use Rattle.fields.specs.Fields.{nth};
-ghost use Rattle.fields.specs.Numbers.{signeds};
 ghost use Rattle.fields.specs.Places.{fieldsAt};
 ghost use Rattle.bundle.specs.Scan.{faultOf, counted, startOf, soughtOf};
 
@@ -31,61 +24,19 @@ pub enum Sought {
     Refused { number: u8, place: usize },
 }
 
-// Whether each of n numbers of four bytes from start on is within the range.
-fn longs_in_range(s: &[u8], start: usize, n: usize) -> bool
-    requires { ⌜ start + n * 4 ≤ length (now s) ⌝ }
-    ensures { λ r. ⌜ r ≡ every (small (edition1 .range)) (signeds 4 n (drop start (now (s .entry)))) ⌝ }
-{
-    let mut i = 0;
-    while i < n {
-        if in_range(signed_at(s, start + i * 4, 4)) {
-            i += 1;
-        } else {
-            return false;
-        }
-    }
-    true
-}
-
-// The same of numbers of `width` bytes: every number of two bytes is.
-fn all_in_range(s: &[u8], start: usize, width: usize, n: usize) -> bool
-    requires { ⌜ (width ≡ 2) ⊎ (width ≡ 4) ⌝ }
-    requires { ⌜ start + n * width ≤ length (now s) ⌝ }
-    ensures { λ r. ⌜ r ≡ every (small (edition1 .range)) (signeds width n (drop start (now (s .entry)))) ⌝ }
-{
-    if width == 2 {
-        return true;
-    }
-    longs_in_range(s, start, n)
-}
-
-// What a field is refused for as constraint n; 0 for nothing. Its contents are the len bytes from start on.
-fn constraint_fault(
-    s: &[u8],
-    start: usize,
-    len: usize,
-    width: usize,
-    k: u8,
-    n: usize,
-    tag: u8,
-) -> u8
-    requires { ⌜ (width ≡ 2) ⊎ (width ≡ 4) ⌝ }
-    requires { ⌜ start + len ≤ length (now s) ⌝ }
-    ensures { λ r. ⌜ r ≡ faultOf width k n tag (take len (drop start (now (s .entry)))) ⌝ }
+// What a field is refused for as constraint n; 0 for nothing.
+fn constraint_fault(k: u8, n: usize, tag: u8, len: usize) -> u8
+    ensures { λ r. ⌜ r ≡ faultOf k n tag len ⌝ }
 {
     if known(FileKind::Bundle, tag) {
         if tag < 0x03 {
             return 4;
         }
-        let many = k as usize + 1;
-        if len != many * width {
+        if len != (k as usize + 1) * COEFFICIENT_BYTES {
             return 6;
         }
         if n < CONSTRAINTS {
-            if all_in_range(s, start, width, many) {
-                return 0;
-            }
-            return 13;
+            return 0;
         }
         return 8;
     }
@@ -103,11 +54,9 @@ fn kept(n: usize, wanted: usize, place: usize, found: usize) -> usize
 }
 
 // Count and place in one pass. A constraint without fault has one size: to go on by that does not wait for the length to be read from the file.
-pub fn seek_constraint(s: &[u8], at: usize, width: usize, k: u8, wanted: usize) -> Sought
-    requires { ⌜ (width ≡ 2) ⊎ (width ≡ 4) ⌝ }
-    ensures { λ r. ⌜ r ≡ soughtOf (startOf (nth wanted (fieldsAt (now (s .entry)) at))) (counted width k 0 (fieldsAt (now (s .entry)) at)) ⌝ }
+pub fn seek_constraint(s: &[u8], at: usize, k: u8, wanted: usize) -> Sought
+    ensures { λ r. ⌜ r ≡ soughtOf (startOf (nth wanted (fieldsAt (now (s .entry)) at))) (counted k 0 (fieldsAt (now (s .entry)) at)) ⌝ }
 {
-    let size = (k as usize + 1) * width;
     let mut here = at;
     let mut n: usize = 0;
     let mut found: usize = 0;
@@ -120,13 +69,13 @@ pub fn seek_constraint(s: &[u8], at: usize, width: usize, k: u8, wanted: usize) 
                 len,
                 next: _,
             } => {
-                let number = constraint_fault(s, start, len, width, k, n, tag);
+                let number = constraint_fault(k, n, tag, len);
                 if number != 0 {
                     return Sought::Refused { number, place };
                 }
                 found = kept(n, wanted, place, found);
                 n += 1;
-                here = start + size;
+                here = start + (k as usize + 1) * COEFFICIENT_BYTES;
             }
             Next::Cut { at: place } => {
                 return Sought::Refused { number: 2, place };
@@ -142,11 +91,10 @@ pub fn seek_constraint(s: &[u8], at: usize, width: usize, k: u8, wanted: usize) 
 }
 
 // The count alone: no place is wanted, so any number will do.
-pub fn count_constraints(s: &[u8], at: usize, width: usize, k: u8) -> Counted
-    requires { ⌜ (width ≡ 2) ⊎ (width ≡ 4) ⌝ }
-    ensures { λ r. ⌜ r ≡ counted width k 0 (fieldsAt (now (s .entry)) at) ⌝ }
+pub fn count_constraints(s: &[u8], at: usize, k: u8) -> Counted
+    ensures { λ r. ⌜ r ≡ counted k 0 (fieldsAt (now (s .entry)) at) ⌝ }
 {
-    match seek_constraint(s, at, width, k, 0) {
+    match seek_constraint(s, at, k, 0) {
         Sought::Count { count, start: _ } => Counted::Count { count },
         Sought::Refused { number, place } => Counted::Refused { number, place },
     }

@@ -2,11 +2,8 @@
 use super::scan_both;
 use fields::Answer;
 use fields::answers::refusal;
+use forms::COEFFICIENT_BYTES;
 use forms::LineNumber;
-use forms::coefficient_bytes;
-ghost use mathlib.Core.Path.{_≡_};
-ghost use Rattle.forms.specs.Edition.{edition};
-ghost use Rattle.bundle.specs.Put.{fieldSize};
 ghost use Rattle.bundle.specs.Locate.{IsLocated};
 
 // A part of A's or B's buffer, or the refusal.
@@ -15,14 +12,7 @@ pub enum Located {
     Part { file: u8, start: usize, size: usize },
 }
 
-// A constraint without fault has one size.
-fn field_size(e: u8, k: u8) -> usize
-    ensures { λ r. ⌜ r ≡ fieldSize (edition e .coefficientWidth) k ⌝ }
-{
-    3 + (k as usize + 1) * coefficient_bytes(e)
-}
-
-// A's lines come first.
+// A's lines come first. A constraint without fault has one size.
 pub fn locate(a: &[u8], b: &[u8], line: LineNumber) -> Located
     ensures { λ r. ⌜ IsLocated (now (a .entry)) (now (b .entry)) (line .0) r ⌝ }
 {
@@ -34,19 +24,20 @@ pub fn locate(a: &[u8], b: &[u8], line: LineNumber) -> Located
         return Located::Refused { answer };
     }
     let k = pair.k;
+    let size = 3 + (k as usize + 1) * COEFFICIENT_BYTES;
     let m = pair.m;
     if i < m {
         return Located::Part {
             file: 1,
             start: pair.first,
-            size: field_size(pair.a, k),
+            size,
         };
     }
     if i - m < pair.n {
         return Located::Part {
             file: 2,
             start: pair.second,
-            size: field_size(pair.b, k),
+            size,
         };
     }
     Located::Refused {

@@ -15,12 +15,9 @@ use forms::BUNDLE_BYTES;
 use forms::CONSTANTS;
 use forms::FORMULA_BYTES;
 use forms::LINES;
-use forms::LINES_1;
 use forms::LineNumber;
-use forms::NEWEST;
 use forms::PROOF_BYTES;
 use forms::RowNumber;
-use forms::lines_limit;
 use rows::tally::Tally;
 ghost use mathlib.Core.Path.{_≡_};
 ghost use Prim.Native.Nat.{_+_, _*_, _≤_, min};
@@ -68,7 +65,7 @@ fn deliver(scratch: &[u8], o: usize, k: u8, out: &mut [u8]) -> WriteResult
     if out.len() < needed {
         return refusal(21, 4, needed);
     }
-    put_header(out, 1, k);
+    put_header(out, k);
     copy_bytes(scratch, o, out, 8);
     let answer = answers::acceptance();
     WriteResult {
@@ -102,7 +99,6 @@ fn prepare(a: &[u8], b: &[u8], k: u8, m: usize, n: usize, lines: &mut [i32], kin
 fn check_root(
     proof: &[u8],
     at: usize,
-    edition: u8,
     k: u8,
     count: usize,
     lines: &mut [i32],
@@ -120,7 +116,6 @@ fn check_root(
         rows,
         lines: made,
         open: 0,
-        edition,
     };
     let position = answers::root();
     match check_branch(
@@ -157,12 +152,10 @@ fn check_within(
     b: &[u8],
     proof: &[u8],
     at: usize,
-    edition: u8,
     k: u8,
     m: usize,
     n: usize,
     lines: &mut [i32],
-    kinds: &mut [u8],
     scratch: &mut [u8],
     out: &mut [u8],
 ) -> WriteResult
@@ -171,8 +164,9 @@ fn check_within(
     requires { ⌜ Enough (now proof) at (now scratch) ⌝ }
     ensures { λ r. ⌜ Checks (now (a .entry)) (now (b .entry)) (now (proof .entry)) (now (out .entry)) (now (out .exit)) r ⌝ }
 {
-    prepare(a, b, k, m, n, lines, kinds);
-    check_root(proof, at, edition, k, m + n, lines, kinds, scratch, out)
+    let mut kinds = [0u8; LINES as usize];
+    prepare(a, b, k, m, n, lines, &mut kinds);
+    check_root(proof, at, k, m + n, lines, &mut kinds, scratch, out)
 }
 
 // The sizes of the arrays. An array is cleared before it is used, which takes longer than the check of a short proof, so a
@@ -195,21 +189,13 @@ const NUMBERS_66: usize = (22 + 3) * LINE_NUMBERS;
 
 const NUMBERS_212: usize = (70 + 3) * LINE_NUMBERS;
 
-const NUMBERS_ALL: usize = (LINES_1 as usize + 1) * LINE_NUMBERS;
-
-const NUMBERS_WIDE: usize = (LINES as usize + 1) * LINE_NUMBERS;
-
-// The lines of two bundles, and one for each field of 1,200 bytes.
-const LINES_WIDE_1200: usize = 64 + 400;
-
-const NUMBERS_WIDE_1200: usize = (LINES_WIDE_1200 + 1) * LINE_NUMBERS;
+const NUMBERS_ALL: usize = (LINES as usize + 1) * LINE_NUMBERS;
 
 fn check_41(
     a: &[u8],
     b: &[u8],
     proof: &[u8],
     at: usize,
-    edition: u8,
     k: u8,
     m: usize,
     n: usize,
@@ -222,21 +208,7 @@ fn check_41(
 {
     let mut lines = [0i32; NUMBERS_41];
     let mut scratch = [0u8; 41 * BYTE_BYTES];
-    let mut kinds = [0u8; LINES_1 as usize];
-    check_within(
-        a,
-        b,
-        proof,
-        at,
-        edition,
-        k,
-        m,
-        n,
-        &mut lines,
-        &mut kinds,
-        &mut scratch,
-        out,
-    )
+    check_within(a, b, proof, at, k, m, n, &mut lines, &mut scratch, out)
 }
 
 fn check_66(
@@ -244,7 +216,6 @@ fn check_66(
     b: &[u8],
     proof: &[u8],
     at: usize,
-    edition: u8,
     k: u8,
     m: usize,
     n: usize,
@@ -257,21 +228,7 @@ fn check_66(
 {
     let mut lines = [0i32; NUMBERS_66];
     let mut scratch = [0u8; 66 * BYTE_BYTES];
-    let mut kinds = [0u8; LINES_1 as usize];
-    check_within(
-        a,
-        b,
-        proof,
-        at,
-        edition,
-        k,
-        m,
-        n,
-        &mut lines,
-        &mut kinds,
-        &mut scratch,
-        out,
-    )
+    check_within(a, b, proof, at, k, m, n, &mut lines, &mut scratch, out)
 }
 
 fn check_212(
@@ -279,7 +236,6 @@ fn check_212(
     b: &[u8],
     proof: &[u8],
     at: usize,
-    edition: u8,
     k: u8,
     m: usize,
     n: usize,
@@ -292,21 +248,7 @@ fn check_212(
 {
     let mut lines = [0i32; NUMBERS_212];
     let mut scratch = [0u8; 212 * BYTE_BYTES];
-    let mut kinds = [0u8; LINES_1 as usize];
-    check_within(
-        a,
-        b,
-        proof,
-        at,
-        edition,
-        k,
-        m,
-        n,
-        &mut lines,
-        &mut kinds,
-        &mut scratch,
-        out,
-    )
+    check_within(a, b, proof, at, k, m, n, &mut lines, &mut scratch, out)
 }
 
 fn check_800(
@@ -314,7 +256,6 @@ fn check_800(
     b: &[u8],
     proof: &[u8],
     at: usize,
-    edition: u8,
     k: u8,
     m: usize,
     n: usize,
@@ -326,21 +267,7 @@ fn check_800(
 {
     let mut lines = [0i32; NUMBERS_ALL];
     let mut scratch = [0u8; 800 * BYTE_BYTES];
-    let mut kinds = [0u8; LINES_1 as usize];
-    check_within(
-        a,
-        b,
-        proof,
-        at,
-        edition,
-        k,
-        m,
-        n,
-        &mut lines,
-        &mut kinds,
-        &mut scratch,
-        out,
-    )
+    check_within(a, b, proof, at, k, m, n, &mut lines, &mut scratch, out)
 }
 
 fn check_1200(
@@ -348,7 +275,6 @@ fn check_1200(
     b: &[u8],
     proof: &[u8],
     at: usize,
-    edition: u8,
     k: u8,
     m: usize,
     n: usize,
@@ -360,30 +286,15 @@ fn check_1200(
 {
     let mut lines = [0i32; NUMBERS_ALL];
     let mut scratch = [0u8; 1200 * BYTE_BYTES];
-    let mut kinds = [0u8; LINES_1 as usize];
-    check_within(
-        a,
-        b,
-        proof,
-        at,
-        edition,
-        k,
-        m,
-        n,
-        &mut lines,
-        &mut kinds,
-        &mut scratch,
-        out,
-    )
+    check_within(a, b, proof, at, k, m, n, &mut lines, &mut scratch, out)
 }
 
-// Any proof of at most 128 lines on a branch, and the longest formula.
+// Any proof, and the longest formula.
 fn check_any(
     a: &[u8],
     b: &[u8],
     proof: &[u8],
     at: usize,
-    edition: u8,
     k: u8,
     m: usize,
     n: usize,
@@ -394,21 +305,7 @@ fn check_any(
 {
     let mut lines = [0i32; NUMBERS_ALL];
     let mut scratch = [0u8; FORMULA_BYTES];
-    let mut kinds = [0u8; LINES_1 as usize];
-    check_within(
-        a,
-        b,
-        proof,
-        at,
-        edition,
-        k,
-        m,
-        n,
-        &mut lines,
-        &mut kinds,
-        &mut scratch,
-        out,
-    )
+    check_within(a, b, proof, at, k, m, n, &mut lines, &mut scratch, out)
 }
 
 // A proof of more bytes than 212, or of more lines. A function of its own: the frame of a function has room for the largest of
@@ -419,7 +316,6 @@ fn check_long(
     b: &[u8],
     proof: &[u8],
     at: usize,
-    edition: u8,
     k: u8,
     m: usize,
     n: usize,
@@ -430,108 +326,19 @@ fn check_long(
 {
     let bytes = proof.len();
     if bytes <= 800 {
-        return check_800(a, b, proof, at, edition, k, m, n, out);
+        return check_800(a, b, proof, at, k, m, n, out);
     }
     if bytes <= 1200 {
-        return check_1200(a, b, proof, at, edition, k, m, n, out);
+        return check_1200(a, b, proof, at, k, m, n, out);
     }
-    check_any(a, b, proof, at, edition, k, m, n, out)
-}
-
-fn check_wide_1200(
-    a: &[u8],
-    b: &[u8],
-    proof: &[u8],
-    at: usize,
-    edition: u8,
-    k: u8,
-    m: usize,
-    n: usize,
-    out: &mut [u8],
-) -> WriteResult
-    requires { ⌜ Begun (now a) (now b) (now proof) k m n at ⌝ }
-    requires { ⌜ unreadBytes (now proof) at ≤ 1200 ⌝ }
-    ensures { λ r. ⌜ Checks (now (a .entry)) (now (b .entry)) (now (proof .entry)) (now (out .entry)) (now (out .exit)) r ⌝ }
-{
-    let mut lines = [0i32; NUMBERS_WIDE_1200];
-    let mut scratch = [0u8; 1200 * BYTE_BYTES];
-    let mut kinds = [0u8; LINES_WIDE_1200];
-    check_within(
-        a,
-        b,
-        proof,
-        at,
-        edition,
-        k,
-        m,
-        n,
-        &mut lines,
-        &mut kinds,
-        &mut scratch,
-        out,
-    )
-}
-
-// Any proof of edition 2, and the longest formula.
-fn check_wide_any(
-    a: &[u8],
-    b: &[u8],
-    proof: &[u8],
-    at: usize,
-    edition: u8,
-    k: u8,
-    m: usize,
-    n: usize,
-    out: &mut [u8],
-) -> WriteResult
-    requires { ⌜ Begun (now a) (now b) (now proof) k m n at ⌝ }
-    ensures { λ r. ⌜ Checks (now (a .entry)) (now (b .entry)) (now (proof .entry)) (now (out .entry)) (now (out .exit)) r ⌝ }
-{
-    let mut lines = [0i32; NUMBERS_WIDE];
-    let mut scratch = [0u8; FORMULA_BYTES];
-    let mut kinds = [0u8; LINES as usize];
-    check_within(
-        a,
-        b,
-        proof,
-        at,
-        edition,
-        k,
-        m,
-        n,
-        &mut lines,
-        &mut kinds,
-        &mut scratch,
-        out,
-    )
-}
-
-// A proof whose branches may come to more than 128 lines, so one of edition 2. A function of its own, as `check_long` is.
-fn check_wide(
-    a: &[u8],
-    b: &[u8],
-    proof: &[u8],
-    at: usize,
-    edition: u8,
-    k: u8,
-    m: usize,
-    n: usize,
-    out: &mut [u8],
-) -> WriteResult
-    requires { ⌜ Begun (now a) (now b) (now proof) k m n at ⌝ }
-    ensures { λ r. ⌜ Checks (now (a .entry)) (now (b .entry)) (now (proof .entry)) (now (out .entry)) (now (out .exit)) r ⌝ }
-{
-    if proof.len() <= 1200 {
-        return check_wide_1200(a, b, proof, at, edition, k, m, n, out);
-    }
-    check_wide_any(a, b, proof, at, edition, k, m, n, out)
+    check_any(a, b, proof, at, k, m, n, out)
 }
 
 // How many lines a branch may come to have, where count may come.
-fn most_lines(edition: u8, count: usize) -> usize
+fn most_lines(count: usize) -> usize
     ensures { λ r. ⌜ r ≡ min count (edition1 .lines) ⌝ }
 {
-    let most = lines_limit(edition) as usize;
+    let most = LINES as usize;
     if count < most {
         return count;
     }
@@ -545,7 +352,6 @@ fn check_lines(
     b: &[u8],
     proof: &[u8],
     at: usize,
-    edition: u8,
     k: u8,
     m: usize,
     n: usize,
@@ -557,31 +363,24 @@ fn check_lines(
     let bytes = proof.len();
     let fields = bytes / 3;
     let size = 2 * (k as usize + 1);
-    let count = most_lines(edition, m + n + fields);
-    let numbers = (count + 1) * size;
+    let numbers = (most_lines(m + n + fields) + 1) * size;
+    if bytes <= 41 {
+        if numbers <= NUMBERS_41 {
+            return check_41(a, b, proof, at, k, m, n, out);
+        }
+    }
+    if bytes <= 66 {
+        if numbers <= NUMBERS_66 {
+            return check_66(a, b, proof, at, k, m, n, out);
+        }
+    }
     if bytes <= 212 {
-        if count > LINES_1 as usize {
-            return check_wide(a, b, proof, at, edition, k, m, n, out);
-        }
-        if bytes <= 41 {
-            if numbers <= NUMBERS_41 {
-                return check_41(a, b, proof, at, edition, k, m, n, out);
-            }
-        }
-        if bytes <= 66 {
-            if numbers <= NUMBERS_66 {
-                return check_66(a, b, proof, at, edition, k, m, n, out);
-            }
-        }
         if numbers <= NUMBERS_212 {
-            return check_212(a, b, proof, at, edition, k, m, n, out);
+            return check_212(a, b, proof, at, k, m, n, out);
         }
-        return check_long(a, b, proof, at, edition, k, m, n, out);
+        return check_long(a, b, proof, at, k, m, n, out);
     }
-    if count > LINES_1 as usize {
-        return check_wide(a, b, proof, at, edition, k, m, n, out);
-    }
-    check_long(a, b, proof, at, edition, k, m, n, out)
+    check_long(a, b, proof, at, k, m, n, out)
 }
 
 // The proof's header, where both bundles were gone over. 2, 3, 4, 6, 5, 7, 9.
@@ -598,12 +397,8 @@ fn check_header(
     requires { ⌜ Both (now a) (now b) k m n ⌝ }
     ensures { λ r. ⌜ Checks (now (a .entry)) (now (b .entry)) (now (proof .entry)) (now (out .entry)) (now (out .exit)) r ⌝ }
 {
-    match read_header(proof, FileKind::Proof, NEWEST, k) {
-        Headed::Header {
-            edition,
-            k: _,
-            next,
-        } => check_lines(a, b, proof, next, edition, k, m, n, out),
+    match read_header(proof, FileKind::Proof, k) {
+        Headed::Header { k: _, next } => check_lines(a, b, proof, next, k, m, n, out),
         Headed::Refused { number, place } => refusal(number, 3, place),
     }
 }

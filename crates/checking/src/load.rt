@@ -1,11 +1,12 @@
 // The constraints of a bundle as lines, behind the lines that the buffer has.
-use bundle::open_bundle;
+use fields::FileKind;
 use fields::Next;
 use fields::header::Headed;
+use fields::header::read_header;
 use fields::next_field;
-use fields::words::signed_at;
+use fields::words::short_at;
+use forms::COEFFICIENT_BYTES;
 use forms::LineNumber;
-use forms::coefficient_bytes;
 use rows::derive::APART_A;
 use rows::derive::APART_B;
 use rows::derive::set_kind;
@@ -21,13 +22,13 @@ ghost use Rattle.bundle.specs.Scan.{stated};
 ghost use Rattle.checking.specs.Load.{Copies, NumbersStored, partialOf, lineByte, lineOf, Loads, Loaded, formLine, Able, Bundled, BundleLoaded};
 
 // n numbers of a bundle from start on, in place of the n numbers at a place.
-fn load_numbers(s: &[u8], start: usize, width: usize, n: usize, lines: &mut [i32], at: usize)
+fn load_numbers(s: &[u8], start: usize, n: usize, lines: &mut [i32], at: usize)
     requires { ⌜ Copies (now s) start n (now lines) at ⌝ }
     ensures { λ _. ⌜ NumbersStored (now (lines .entry)) at (signeds (edition1 .coefficientWidth) n (drop start (now (s .entry)))) n (now (lines .exit)) ⌝ }
 {
     let mut i = 0;
     while i < n {
-        lines[at + i] = signed_at(s, start + i * width, width) as i32;
+        lines[at + i] = short_at(s, start + i * COEFFICIENT_BYTES) as i32;
         i += 1;
     }
 }
@@ -45,20 +46,12 @@ fn clear_numbers(lines: &mut [i32], at: usize, n: usize)
 }
 
 // The numbers of tA: those of t for a line of A, 0 for one of B.
-fn load_partial(
-    s: &[u8],
-    start: usize,
-    width: usize,
-    n: usize,
-    lines: &mut [i32],
-    at: usize,
-    in_a: bool,
-)
+fn load_partial(s: &[u8], start: usize, n: usize, lines: &mut [i32], at: usize, in_a: bool)
     requires { ⌜ Copies (now s) start n (now lines) at ⌝ }
     ensures { λ _. ⌜ NumbersStored (now (lines .entry)) at (partialOf in_a (signeds (edition1 .coefficientWidth) n (drop start (now (s .entry))))) n (now (lines .exit)) ⌝ }
 {
     if in_a {
-        load_numbers(s, start, width, n, lines, at);
+        load_numbers(s, start, n, lines, at);
         return;
     }
     clear_numbers(lines, at, n);
@@ -81,7 +74,6 @@ fn line_kind(kind: u8, in_a: bool) -> u8
 fn load_line(
     s: &[u8],
     start: usize,
-    width: usize,
     kind: u8,
     in_a: bool,
     lines: &mut [i32],
@@ -94,8 +86,8 @@ fn load_line(
 {
     let w = k + 1;
     let at = lines::place(n, k);
-    load_numbers(s, start, width, w, lines, at);
-    load_partial(s, start, width, w, lines, at + w, in_a);
+    load_numbers(s, start, w, lines, at);
+    load_partial(s, start, w, lines, at + w, in_a);
     set_kind(kinds, n, line_kind(kind, in_a));
 }
 
@@ -103,7 +95,6 @@ fn load_line(
 fn load_constraints(
     s: &[u8],
     at: usize,
-    width: usize,
     k: u8,
     in_a: bool,
     lines: &mut [i32],
@@ -125,7 +116,7 @@ fn load_constraints(
                 len: _,
                 next,
             } => {
-                load_line(s, start, width, tag - 3, in_a, lines, kinds, m, constants);
+                load_line(s, start, tag - 3, in_a, lines, kinds, m, constants);
                 m = LineNumber(m.0 + 1);
                 here = next;
             }
@@ -144,18 +135,9 @@ pub fn load(s: &[u8], given: u8, in_a: bool, lines: &mut [i32], kinds: &mut [u8]
     requires { ⌜ Bundled given (now s) (now kinds) (now lines) (n .0) ⌝ }
     ensures { λ _. ⌜ BundleLoaded in_a given (now (s .entry)) (now (kinds .entry)) (now (lines .entry)) (n .0) (now (kinds .exit)) (now (lines .exit)) ⌝ }
 {
-    match open_bundle(s, given) {
-        Headed::Header { edition, k, next } => {
-            load_constraints(
-                s,
-                next,
-                coefficient_bytes(edition),
-                k,
-                in_a,
-                lines,
-                kinds,
-                n,
-            );
+    match read_header(s, FileKind::Bundle, given) {
+        Headed::Header { k, next } => {
+            load_constraints(s, next, k, in_a, lines, kinds, n);
         }
         Headed::Refused {
             number: _,

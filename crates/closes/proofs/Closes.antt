@@ -9,8 +9,9 @@ use lib.ListN.{length, getD}
 use lib.IntN.{ℤ, pos}
 use lib.Signed.{ltZ}
 use Rattle.integers.specs.Linear.{eqZ}
-use Rattle.forms.specs.Forms.{nonzero, every}
+use Rattle.forms.specs.Forms.{nonzero}
 use Rattle.forms.proofs.Flat.{kind-zero, kind-one}
+use Rattle.calculus.specs.Rules.{every}
 use Rattle.fields.specs.Answers.{_>>=_, _>>_, need, found}
 use Rattle.lines.specs.Parts.{part}
 use Rattle.forms.specs.Flat.{kindOf}

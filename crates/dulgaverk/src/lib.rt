@@ -17,7 +17,7 @@ use forms::LineNumber;
 use formula::Tested;
 
 #[no_mangle]
-pub extern "C" fn dulgaverk_read(file: &[u8], kinds: &mut [u8], numbers: &mut [i32]) -> ReadResult
+pub extern "C" fn dulgaverk_read(file: &[u8], kinds: &mut [u8], numbers: &mut [i16]) -> ReadResult
     ensures { λ r. ⌜ Reads (now (file .entry)) (now (kinds .entry)) (now (numbers .entry)) (now (kinds .exit)) (now (numbers .exit)) r ⌝ }
 {
     bundle::read(file, kinds, numbers)
@@ -25,15 +25,14 @@ pub extern "C" fn dulgaverk_read(file: &[u8], kinds: &mut [u8], numbers: &mut [i
 
 #[no_mangle]
 pub extern "C" fn dulgaverk_write(
-    edition: u8,
     k: u8,
     kinds: &[u8],
-    numbers: &[i32],
+    numbers: &[i16],
     out: &mut [u8],
 ) -> WriteResult
     ensures { λ r. ⌜ Writes k (now (kinds .entry)) (now (numbers .entry)) (now (out .entry)) (now (out .exit)) r ⌝ }
 {
-    bundle::write(edition, k, kinds, numbers, out)
+    bundle::write(k, kinds, numbers, out)
 }
 
 #[no_mangle]

@@ -8,9 +8,9 @@ use lib.Seq.{paste}
 use lib.IntN.{ℤ, pos, negsuc, _+ℤ_, _*ℤ_}
 use Rattle.integers.specs.Magnitude.{Within, Factors}
 use Rattle.forms.specs.Edition.{edition1}
-use Rattle.forms.specs.Forms.{Line, sums, small, every}
+use Rattle.forms.specs.Forms.{Line, sums}
 use Rattle.forms.specs.Flat.{lineKindOf, formIn}
-use Rattle.calculus.specs.Rules.{_▷_}
+use Rattle.calculus.specs.Rules.{_▷_, small, every}
 use Rattle.lines.specs.Parts.{part, Agree}
 
 -- How many numbers a line has.

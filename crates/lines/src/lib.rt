@@ -12,7 +12,7 @@ ghost use lib.Signed.{_≤ℤ_};
 ghost use Rattle.integers.specs.Magnitude.{Within};
 ghost use Rattle.integers.specs.Linear.{eqZ};
 ghost use Rattle.integers.specs.Divides.{divb};
-ghost use Rattle.forms.specs.Forms.{small, every};
+ghost use Rattle.calculus.specs.Rules.{small, every};
 ghost use Rattle.forms.specs.Edition.{edition1};
 ghost use Rattle.lines.specs.Parts.{part};
 ghost use Rattle.forms.specs.Flat.{formIn};

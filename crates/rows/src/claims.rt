@@ -17,7 +17,7 @@ fn same_form(p: &[u8], start: usize, lines: &[i32], at: usize, k: usize) -> bool
 {
     let mut x = 0;
     while x <= k {
-        let n = fields::words::signed_at(p, start + TERM_BYTES * x, TERM_BYTES);
+        let n = fields::words::wide_long_at(p, start + TERM_BYTES * x);
         if !integers::same(n, integers::number(lines, at + x)) {
             return false;
         }

@@ -6,6 +6,7 @@ ghost use Rattle.forms.specs.Edition.{edition1};
 ghost use Rattle.proof.specs.Entries.{combineTag, reduceTag, scaleTag, strengthenTag, numberTag, strideTag, roundTag, splitTag};
 ghost use Rattle.fields.specs.Numbers.{unsigned};
 ghost use Rattle.rows.specs.Entries.{Multiplies, Shaped, claimed, Entered};
+use forms::LINE_BYTES;
 use forms::LineNumber;
 use forms::MULTIPLIER_BYTES;
 use forms::TERM_BYTES;
@@ -54,15 +55,29 @@ pub enum Entry {
     },
 }
 
+// Where the multipliers of a row start that names two lines, and how many bytes the rows with multipliers or g have.
+const FIRST: usize = 2 * LINE_BYTES;
+
+const SECOND: usize = FIRST + MULTIPLIER_BYTES;
+
+const COMBINE_BYTES: usize = 2 * LINE_BYTES + 2 * MULTIPLIER_BYTES;
+
+const REDUCE_BYTES: usize = 2 * LINE_BYTES + MULTIPLIER_BYTES;
+
+const SCALE_BYTES: usize = LINE_BYTES + MULTIPLIER_BYTES;
+
+const STRIDE_BYTES: usize = LINE_BYTES + MULTIPLIER_BYTES;
+
+const ROUND_BYTES: usize = LINE_BYTES + 2 * MULTIPLIER_BYTES;
+
 // A number of t and one of tA, of which a claim has k + 1.
 const PAIR_BYTES: usize = 2 * TERM_BYTES;
 
-// A line number of one byte in edition 1, of two after it.
-fn line_at(p: &[u8], at: usize, width: usize) -> LineNumber
+fn line_at(p: &[u8], at: usize) -> LineNumber
     requires { ⌜ at + edition1 .lineWidth ≤ length (now p) ⌝ }
     ensures { λ r. ⌜ r .0 ≡ unsigned (take (edition1 .lineWidth) (drop at (now (p .entry)))) ⌝ }
 {
-    let n = fields::numbers::unsigned_at(p, at, width);
+    let n = fields::numbers::unsigned_at(p, at, LINE_BYTES);
     LineNumber(n as u16)
 }
 
@@ -75,75 +90,75 @@ fn multiplier_at(p: &[u8], at: usize) -> i64
     n as i64
 }
 
-fn combine_at(p: &[u8], start: usize, len: usize, width: usize) -> Entry
+fn combine_at(p: &[u8], start: usize, len: usize) -> Entry
     requires { ⌜ start + len ≤ length (now p) ⌝ }
     ensures { λ r. ⌜ Shaped combineTag (now (p .entry)) start len r ⌝ }
 {
-    if len == 2 * width + 2 * MULTIPLIER_BYTES {
-        let s = line_at(p, start, width);
-        let t = line_at(p, start + width, width);
-        let alpha = multiplier_at(p, start + 2 * width);
-        let beta = multiplier_at(p, start + 2 * width + MULTIPLIER_BYTES);
+    if len == COMBINE_BYTES {
+        let s = line_at(p, start);
+        let t = line_at(p, start + LINE_BYTES);
+        let alpha = multiplier_at(p, start + FIRST);
+        let beta = multiplier_at(p, start + SECOND);
         return Entry::Combine { s, t, alpha, beta };
     }
     Entry::Refused { number: 6 }
 }
 
 // Only here the multiplier is signed.
-fn reduce_at(p: &[u8], start: usize, len: usize, width: usize) -> Entry
+fn reduce_at(p: &[u8], start: usize, len: usize) -> Entry
     requires { ⌜ start + len ≤ length (now p) ⌝ }
     ensures { λ r. ⌜ Shaped reduceTag (now (p .entry)) start len r ⌝ }
 {
-    if len == 2 * width + MULTIPLIER_BYTES {
-        let s = line_at(p, start, width);
-        let t = line_at(p, start + width, width);
-        let alpha = fields::words::signed_at(p, start + 2 * width, MULTIPLIER_BYTES);
+    if len == REDUCE_BYTES {
+        let s = line_at(p, start);
+        let t = line_at(p, start + LINE_BYTES);
+        let alpha = fields::words::wide_short_at(p, start + FIRST);
         return Entry::Reduce { s, t, alpha };
     }
     Entry::Refused { number: 6 }
 }
 
-fn scale_at(p: &[u8], start: usize, len: usize, width: usize) -> Entry
+fn scale_at(p: &[u8], start: usize, len: usize) -> Entry
     requires { ⌜ start + len ≤ length (now p) ⌝ }
     ensures { λ r. ⌜ Shaped scaleTag (now (p .entry)) start len r ⌝ }
 {
-    if len == width + MULTIPLIER_BYTES {
-        let t = line_at(p, start, width);
-        let alpha = multiplier_at(p, start + width);
+    if len == SCALE_BYTES {
+        let t = line_at(p, start);
+        let alpha = multiplier_at(p, start + LINE_BYTES);
         return Entry::Scale { t, alpha };
     }
     Entry::Refused { number: 6 }
 }
 
-fn strengthen_at(p: &[u8], start: usize, len: usize, width: usize) -> Entry
+fn strengthen_at(p: &[u8], start: usize, len: usize) -> Entry
     requires { ⌜ start + len ≤ length (now p) ⌝ }
     ensures { λ r. ⌜ Shaped strengthenTag (now (p .entry)) start len r ⌝ }
 {
-    if len == width {
-        let t = line_at(p, start, width);
+    if len == LINE_BYTES {
+        let t = line_at(p, start);
         return Entry::Strengthen { t };
     }
     Entry::Refused { number: 6 }
 }
 
-fn number_at(p: &[u8], start: usize, len: usize, width: usize) -> Entry
+fn number_at(p: &[u8], start: usize, len: usize) -> Entry
     requires { ⌜ start + len ≤ length (now p) ⌝ }
     ensures { λ r. ⌜ Shaped numberTag (now (p .entry)) start len r ⌝ }
 {
-    if len == width {
-        let t = line_at(p, start, width);
+    if len == LINE_BYTES {
+        let t = line_at(p, start);
         return Entry::CloseNumber { t };
     }
     Entry::Refused { number: 6 }
 }
 
-fn stride_at(p: &[u8], start: usize, len: usize, width: usize) -> Entry
+fn stride_at(p: &[u8], start: usize, len: usize) -> Entry
     requires { ⌜ start + len ≤ length (now p) ⌝ }
     ensures { λ r. ⌜ Shaped strideTag (now (p .entry)) start len r ⌝ }
 {
-    if len == width + MULTIPLIER_BYTES {
-        let t = line_at(p, start, width);
-        let g = multiplier_at(p, start + width);
+    if len == STRIDE_BYTES {
+        let t = line_at(p, start);
+        let g = multiplier_at(p, start + LINE_BYTES);
         return Entry::CloseStride { t, g };
     }
     Entry::Refused { number: 6 }
@@ -158,25 +173,25 @@ fn rounding_at(p: &[u8], at: usize) -> u16
     n as u16
 }
 
-fn round_at(p: &[u8], start: usize, len: usize, width: usize) -> Entry
+fn round_at(p: &[u8], start: usize, len: usize) -> Entry
     requires { ⌜ start + len ≤ length (now p) ⌝ }
     ensures { λ r. ⌜ Shaped roundTag (now (p .entry)) start len r ⌝ }
 {
-    if len == width + 2 * MULTIPLIER_BYTES {
-        let t = line_at(p, start, width);
-        let g = multiplier_at(p, start + width);
-        let by = rounding_at(p, start + width + MULTIPLIER_BYTES);
+    if len == ROUND_BYTES {
+        let t = line_at(p, start);
+        let g = multiplier_at(p, start + LINE_BYTES);
+        let by = rounding_at(p, start + STRIDE_BYTES);
         return Entry::Round { t, g, by };
     }
     Entry::Refused { number: 6 }
 }
 
-fn split_at(p: &[u8], start: usize, len: usize, width: usize) -> Entry
+fn split_at(p: &[u8], start: usize, len: usize) -> Entry
     requires { ⌜ start + len ≤ length (now p) ⌝ }
     ensures { λ r. ⌜ Shaped splitTag (now (p .entry)) start len r ⌝ }
 {
-    if len == width {
-        let t = line_at(p, start, width);
+    if len == LINE_BYTES {
+        let t = line_at(p, start);
         return Entry::Split { t };
     }
     Entry::Refused { number: 6 }
@@ -196,41 +211,33 @@ fn claim_at(start: usize, len: usize, k: usize, made: bool) -> Entry
 }
 
 // The entry that a field states. The tags 0x01 and 0x02 are known, but not in place here.
-pub fn entry_at(
-    p: &[u8],
-    tag: u8,
-    start: usize,
-    len: usize,
-    k: usize,
-    width: usize,
-    made: bool,
-) -> Entry
+pub fn entry_at(p: &[u8], tag: u8, start: usize, len: usize, k: usize, made: bool) -> Entry
     requires { ⌜ (k ≤ edition1 .constants) × (start + len ≤ length (now p)) ⌝ }
     ensures { λ r. ⌜ Entered k (now (p .entry)) tag start len made r ⌝ }
 {
     if tag == 0x10 {
-        return combine_at(p, start, len, width);
+        return combine_at(p, start, len);
     }
     if tag == 0x11 {
-        return reduce_at(p, start, len, width);
+        return reduce_at(p, start, len);
     }
     if tag == 0x12 {
-        return scale_at(p, start, len, width);
+        return scale_at(p, start, len);
     }
     if tag == 0x13 {
-        return strengthen_at(p, start, len, width);
+        return strengthen_at(p, start, len);
     }
     if tag == 0x14 {
-        return number_at(p, start, len, width);
+        return number_at(p, start, len);
     }
     if tag == 0x15 {
-        return stride_at(p, start, len, width);
+        return stride_at(p, start, len);
     }
     if tag == 0x16 {
-        return round_at(p, start, len, width);
+        return round_at(p, start, len);
     }
     if tag == 0x17 {
-        return split_at(p, start, len, width);
+        return split_at(p, start, len);
     }
     if tag == 0x20 {
         return claim_at(start, len, k, made);

@@ -20,7 +20,6 @@ use crate::entries::entry_at;
 use crate::tally::Tally;
 use crate::tally::row_counted;
 use forms::LineNumber;
-use forms::line_bytes;
 
 pub enum Stepped {
     Refused {
@@ -246,8 +245,7 @@ pub fn step(
     requires { ⌜ (start + len ≤ length (now p)) × (made ≡ true → 1 ≤ tally .lines .0) ⌝ }
     ensures { λ r. ⌜ Steps (fieldChecked k (now (kinds .entry)) (now (lines .entry)) tally made tag (take len (drop start (now (p .entry))))) k (now (kinds .entry)) (now (lines .entry)) tally (now (kinds .exit)) (now (lines .exit)) r × Advances len r ⌝ }
 {
-    let width = line_bytes(tally.edition);
-    let entry = entry_at(p, tag, start, len, k, width, made);
+    let entry = entry_at(p, tag, start, len, k, made);
     match entry {
         Entry::Combine { s, t, alpha, beta } => {
             return combine_row(lines, kinds, tally, s, t, alpha, beta, k);

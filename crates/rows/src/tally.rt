@@ -1,9 +1,9 @@
-// The tally of a check: the numbers of the next row and the next line, and the branching steps open; and the edition of the proof, by which lines are limited.
+// The tally of a check: the numbers of the next row and the next line, and the branching steps open.
 use forms::BRANCHINGS;
+use forms::LINES;
 use forms::LineNumber;
 use forms::ROWS;
 use forms::RowNumber;
-use forms::lines_limit;
 ghost use mathlib.Core.Path.{_≡_};
 ghost use Rattle.rows.specs.Tally.{rowCounted, lineCounted, openCounted, returnedTo, Advanced};
 
@@ -11,7 +11,6 @@ pub struct Tally {
     pub rows: RowNumber,
     pub lines: LineNumber,
     pub open: u16,
-    pub edition: u8,
 }
 
 // The tally after a step, and whether the step was made. A refused step leaves the tally as it was.
@@ -32,7 +31,6 @@ fn next_row(t: Tally) -> Tallied
             rows: RowNumber(n + 1),
             lines: line,
             open: t.open,
-            edition: t.edition,
         };
         return Tallied { made: true, tally };
     }
@@ -48,12 +46,11 @@ fn next_line(t: Tally) -> Tallied
     let row = t.rows;
     let line = t.lines;
     let n = line.0;
-    if n < lines_limit(t.edition) {
+    if n < LINES {
         let tally = Tally {
             rows: row,
             lines: LineNumber(n + 1),
             open: t.open,
-            edition: t.edition,
         };
         return Tallied { made: true, tally };
     }
@@ -74,7 +71,6 @@ fn next_open(t: Tally) -> Tallied
             rows: row,
             lines: line,
             open: n + 1,
-            edition: t.edition,
         };
         return Tallied { made: true, tally };
     }
@@ -141,6 +137,5 @@ pub fn returned(t: Tally, given: Tally) -> Tally
         rows,
         lines,
         open: given.open,
-        edition: given.edition,
     }
 }

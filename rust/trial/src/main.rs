@@ -148,9 +148,9 @@ fn statement(case: &[&str]) -> (String, String) {
             ),
             format!("{SHARED} {BUNDLES} {WRITING} {CHECK}"),
         ),
-        ["read", file, kinds, nums, words @ .., count, k, edition, out_kinds, out_nums] => (
+        ["read", file, kinds, nums, words @ .., count, k, out_kinds, out_nums] => (
             format!(
-                "readBundle (replicate {kinds} 0xAA) (replicate {nums} (pos 0x55)) {} ≡ record {{ answer = {}; count = {count}; K = {k}; edition = {edition}; kinds = ({}) ++ replicate {} 0xAA; numbers = ({}) ++ replicate {} (pos 0x55) }}",
+                "readBundle (replicate {kinds} 0xAA) (replicate {nums} (pos 0x55)) {} ≡ record {{ answer = {}; count = {count}; K = {k}; kinds = ({}) ++ replicate {} 0xAA; numbers = ({}) ++ replicate {} (pos 0x55) }}",
                 bytes(file),
                 answer(words),
                 naturals(out_kinds),
@@ -160,9 +160,9 @@ fn statement(case: &[&str]) -> (String, String) {
             ),
             format!("{SHARED} {BUNDLES} {READ}"),
         ),
-        ["write", edition, k, kinds, nums, lent, words @ .., output] => (
+        ["write", k, kinds, nums, lent, words @ .., output] => (
             format!(
-                "writeBundle {edition} {k} ({}) ({}) (replicate {lent} 0xAA) ≡ {}",
+                "writeBundle {k} ({}) ({}) (replicate {lent} 0xAA) ≡ {}",
                 naturals(kinds),
                 integers(nums),
                 written(words, lent, output)

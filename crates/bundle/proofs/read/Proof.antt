@@ -12,14 +12,14 @@ refused-read-requires c κs = search needs
 returns : tie.Need-returns
 returns c = record { is = read-unread _ _ (c .refused-read .ensures) ∙ sym (read-long _ _ _ (c .before .if1 .taken)) }
 
-open-bundle-requires : tie.Need-open-bundle-requires
-open-bundle-requires c κs = search needs
+read-header-requires : tie.Need-read-header-requires
+read-header-requires c κs = search needs
 
-enum-known-edition : tie.Need-enum-known-edition
-enum-known-edition c = search needs
+enum-known-k : tie.Need-enum-known-k
+enum-known-k c = search needs
 
 read-constraints-requires : tie.Need-read-constraints-requires
-read-constraints-requires c κs = rw (c .before .before .before .edition .given .1) at (c .before .before .before .before .before .open-bundle .ensures)
+read-constraints-requires c κs = rw (c .before .before .before .k .given .1) at (c .before .before .before .before .before .read-header .ensures)
 
 enum-known-number : tie.Need-enum-known-number
 enum-known-number c = search needs
@@ -37,7 +37,7 @@ returns-2 : tie.Need-returns-2
 returns-2 c = record { is = c .before .before .before .read-constraints .ensures ∙ sym (read-short _ _ _ (c .before .before .before .before .before .before .before .before .before .before .if1 .left)) }
 
 returns-3 : tie.Need-returns-3
-returns-3 c = record { is = read-unread _ _ (c .refused-read2 .ensures) ∙ sym (read-short _ _ _ (c .before .before .before .before .before .if1 .left) ∙ stored-refused _ _ (scan-header (c .before .before .before .before .open-bundle .ensures) 1 (c .before .before .number .given .1))) }
+returns-3 c = record { is = read-unread _ _ (c .refused-read2 .ensures) ∙ sym (read-short _ _ _ (c .before .before .before .before .before .if1 .left) ∙ stored-refused _ _ (scan-header (c .before .before .before .before .read-header .ensures) 1 (c .before .before .number .given .1))) }
 
 pub read-spec : {M : Type 1} → statement M
 read-spec =
@@ -45,8 +45,8 @@ read-spec =
     (tie.spec
     refused-read-requires
     returns
-    open-bundle-requires
-    enum-known-edition
+    read-header-requires
+    enum-known-k
     read-constraints-requires
     enum-known-number
     refused-read-requires-2

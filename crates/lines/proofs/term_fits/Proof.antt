@@ -12,7 +12,7 @@ use borrow.Author.Needs.{needs}
 use Rattle.integers.specs.Magnitude.{Within}
 use Rattle.integers.proofs.Magnitude.{within-add, within-mul, within-fits}
 use Rattle.forms.specs.Edition.{edition1}
-use Rattle.forms.specs.Forms.{small}
+use Rattle.calculus.specs.Rules.{small}
 use Rattle.lines.proofs.term_fits.Statement.{statement}
 use Rattle.lines.proofs.term_fits.Tie as tie
 

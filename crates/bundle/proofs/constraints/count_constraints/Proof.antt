@@ -21,11 +21,4 @@ returns-2 : tie.Need-returns-2
 returns-2 c = sym (sought-refused _ _ (c .before .before .before .seek-constraint .ensures) (c .before .number .given .1))
 
 pub count-constraints-spec : {M : Type 1} → statement M
-count-constraints-spec =
-    tie.close
-    (tie.spec
-    seek-constraint-requires
-    enum-known-count
-    enum-known-number
-    returns
-    returns-2)
+count-constraints-spec = tie.close (tie.spec seek-constraint-requires enum-known-count enum-known-number returns returns-2)

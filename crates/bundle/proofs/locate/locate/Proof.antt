@@ -14,17 +14,23 @@ scan-both-requires c κs = search needs
 returns : tie.Need-returns
 returns c = located-refused _ _ _ (c .before .before .scan-both .ensures) (c .if1 .taken)
 
-field-size-requires : tie.Need-field-size-requires
-field-size-requires c κs = search needs
+cast-size : tie.Need-cast-size
+cast-size c = search needs
+
+add-size : tie.Need-add-size
+add-size c = search needs
+
+mul-size : tie.Need-mul-size
+mul-size c = search needs
+
+add-size-2 : tie.Need-add-size-2
+add-size-2 c = search needs
 
 returns-2 : tie.Need-returns-2
-returns-2 c = located-A (paired _ _ _ (c .before .before .before .before .scan-both .ensures) (c .before .before .if1 .left)) (c .before .if2 .taken) (c .field-size .ensures)
-
-field-size-requires-2 : tie.Need-field-size-requires-2
-field-size-requires-2 c κs = search needs
+returns-2 c = located-A (paired _ _ _ (c .before .before .before .scan-both .ensures) (c .before .if1 .left)) (c .if2 .taken)
 
 returns-3 : tie.Need-returns-3
-returns-3 c = located-B (paired _ _ _ (c .before .before .before .before .before .before .scan-both .ensures) (c .before .before .before .before .if1 .left)) (c .before .before .before .if2 .left) (c .before .if3 .taken) (c .field-size2 .ensures)
+returns-3 c = located-B (paired _ _ _ (c .before .before .before .before .before .scan-both .ensures) (c .before .before .before .if1 .left)) (c .before .before .if2 .left) (c .if3 .taken)
 
 refusal-requires : tie.Need-refusal-requires
 refusal-requires c κs = search needs
@@ -39,9 +45,11 @@ locate-spec =
     cast-i
     scan-both-requires
     returns
-    field-size-requires
+    cast-size
+    add-size
+    mul-size
+    add-size-2
     returns-2
-    field-size-requires-2
     returns-3
     refusal-requires
     returns-4)

@@ -1,38 +1,38 @@
--- `bundle::put::put_numbers` meets its contract: the width is 2 or 4. Assumes nothing.
-use mathlib.Core.Path.{_≡_}
-use mathlib.Core.Logic.{⊎-elim}
+-- `bundle::put::put_numbers` meets its contract: the fours, and the rest behind them. Assumes nothing.
+use Prim.Native.Nat.{_*_, _/_, _%_}
+use native.Mathlib.Omega.{arith}
 use borrow.Author.Needs.{needs}
+use Rattle.bundle.proofs.Putting.{put-runs}
 use Rattle.bundle.proofs.put.put_numbers.Statement.{statement}
 use Rattle.bundle.proofs.put.put_numbers.Tie as tie
 
-four : (c : tie.Else1) → c .before .before .args .width ≡ 4
-four c = ⊎-elim (λ e. absurd (c .if1 .left e)) (λ e. e) (c .before .before .pre .0 .0)
+mul-m : tie.Need-mul-m
+mul-m c = search needs
 
-put-fours-requires : tie.Need-put-fours-requires
-put-fours-requires c κs = rw (c .before .if1 .taken) at (c .before .before .before .pre)
+put-run-requires : tie.Need-put-run-requires
+put-run-requires c κs = search needs
 
-put-fours-requires-2 : tie.Need-put-fours-requires-2
-put-fours-requires-2 c κs = rw (four (c .before)) at (c .before .before .before .pre)
+mul-put-rest : tie.Need-mul-put-rest
+mul-put-rest c = search needs
+
+add-put-rest : tie.Need-add-put-rest
+add-put-rest c = search needs
+
+add-put-rest-2 : tie.Need-add-put-rest-2
+add-put-rest-2 c = search needs
+
+put-rest-requires : tie.Need-put-rest-requires
+put-rest-requires c κs = search needs
 
 same-length : tie.Need-same-length
 same-length c = search needs
 
 returns : tie.Need-returns
-returns c = rw (c .before .before .before .before .if1 .taken) (c .before .before .put-fours .ensures)
-
-same-length-2 : tie.Need-same-length-2
-same-length-2 c = search needs
-
-returns-2 : tie.Need-returns-2
-returns-2 c = rw (four (c .before .before .before .before)) (c .before .before .put-fours2 .ensures)
+returns c =
+    let a = c .before .before .before .before .before .before .before .before .before .args in
+    put-runs (a .out .now) (a .at) (a .numbers .now) (a .from) (a .n / 4 * 4) (a .n % 4) (a .n) (omega arith) (c .before .before .before .before .before .before .before .before .before .pre .1) (c .before .before .before .before .before .before .put-run .ensures) (c .before .before .put-rest .ensures)
 
 pub put-numbers-spec : {M : Type 1} → statement M
 put-numbers-spec =
     tie.close
-    (tie.spec
-    put-fours-requires
-    put-fours-requires-2
-    same-length
-    returns
-    same-length-2
-    returns-2)
+    (tie.spec mul-m put-run-requires mul-put-rest add-put-rest add-put-rest-2 put-rest-requires same-length returns)
