@@ -10,8 +10,9 @@
  * - a refusal leaves every lent output as it was. An accepted call changes the elements used, from the front, and
  *   leaves those behind them as they were.
  * - nothing is allocated, kept or shared: calls may run in several threads at once.
- * - working memory is on the stack: a check takes up to 152 KiB of it, testing a formula up to
- *   64 KiB, every other call less than 12 KiB.
+ * - working memory is on the stack: a check takes up to 152 KiB of it where the proof is of edition 1 and up to
+ *   272 KiB where it is of edition 2, testing a formula up to 64 KiB, every other call less than 12 KiB.
+ * - each file is read by the edition that it says: A, B and the proof may differ in it. Formulas are of edition 1.
  *
  * docs/FORMAT.md has the layout of the files and the order in which each operation tests them.
  */
@@ -26,13 +27,17 @@
 extern "C" {
 #endif
 
-/* The limits of edition 1. */
+/* The editions of bundles and proofs. */
+#define DULGAVERK_EDITION_1 1 /* numbers of two bytes, line numbers of one */
+#define DULGAVERK_EDITION_2 2 /* numbers of four bytes, line numbers of two */
+
+/* The limits. Those of a bundle are the larger ones, of edition 2. */
 #define DULGAVERK_CONSTANTS 16        /* constants of a file */
 #define DULGAVERK_CONSTRAINTS 32      /* constraints of a bundle */
 #define DULGAVERK_NUMBERS 544         /* numbers of a bundle: 32 constraints of 16 coefficients and d */
-#define DULGAVERK_BUNDLE 4096         /* bytes of a bundle */
-#define DULGAVERK_WRITTEN_BUNDLE 1192 /* bytes of a bundle that dulgaverk_write makes */
-#define DULGAVERK_FIELD 37            /* bytes of a constraint's field */
+#define DULGAVERK_BUNDLE 8192         /* bytes of a bundle; 4,096 in edition 1 */
+#define DULGAVERK_WRITTEN_BUNDLE 2280 /* bytes of a bundle that dulgaverk_write makes; 1,192 in edition 1 */
+#define DULGAVERK_FIELD 71            /* bytes of a constraint's field; 37 in edition 1 */
 #define DULGAVERK_PROOF 65536         /* bytes of a proof, and of a formula */
 
 /* A row, step or branch of an answer where there is none. */
@@ -45,7 +50,7 @@ extern "C" {
  *      2  bytes are no whole field, or a file ends too early
  *      3  a tag below 0x80 that this kind of file does not have
  *      4  a known tag where it may not stand
- *      5  the edition is not 1
+ *      5  an edition that this kind of file does not have
  *      6  a field of the wrong length
  *      7  the number of constants, or of values, is not 1 to 16
  *      8  more than 32 constraints
@@ -53,10 +58,10 @@ extern "C" {
  *     10  a line that is not there
  *     11  a line of the wrong kind
  *     12  a multiplier of 0, a stride below 2, or a rounding by 0 or more than 16
- *     13  a number of a new line is out of range
+ *     13  a number of a new line, or of a bundle, is out of range
  *     14  a claim that is not the new line
  *     15  a close or rounding whose condition is not met
- *     16  a 129th line on a branch
+ *     16  a 129th line on a branch, or in edition 2 a 1,001st
  *     17  a 33rd open step, or in a formula a 601st level of and/or
  *     18  a 1,025th row
  *     19  a known field after the end of the proof or formula
@@ -71,8 +76,8 @@ extern "C" {
  *
  * The other three say where in the tree of a proof that is; 65,535 says that there is none.
  *
- *    row  the row at fault; rows are numbered in the file from 0, claims and notes are none. 10 to 13 and 15 to 18 have
- *         their own row, 14 that before the claim, every other refusal none
+ *    row  the row at fault; rows are numbered in the file from 0, claims and notes are none. In a proof 10 to 13 and 15
+ *         to 18 have their own row, 14 that before the claim, every other refusal none
  *   step  the row number of the innermost step (a strengthen, rounding or split) that is open where the fault is found,
  *         before the field at fault takes effect; for 20 at the end of the proof. None on the root, and after its close
  * branch  which branch of that step it is, from 0 in file order, at most 16; none where step is
@@ -88,11 +93,12 @@ typedef struct dulgaverk_answer {
     uint16_t branch;
 } dulgaverk_answer;
 
-/* What reading a bundle gives. A refusal has count 0 and k 0. */
+/* What reading a bundle gives. A refusal has count 0, k 0 and edition 0. */
 typedef struct dulgaverk_read_result {
     dulgaverk_answer answer;
-    size_t count; /* constraints */
-    uint8_t k;    /* constants */
+    size_t count;    /* constraints */
+    uint8_t k;       /* constants */
+    uint8_t edition; /* 1 or 2 */
 } dulgaverk_read_result;
 
 /* What writing and checking give. A refusal has count 0. */
@@ -107,24 +113,29 @@ typedef struct dulgaverk_tested {
     bool holds;
 } dulgaverk_tested;
 
-/* Reads a bundle of at most 4,096 bytes.
+/* Reads a bundle of at most 8,192 bytes, or 4,096 in edition 1.
  *
- * Accepted: `count` constraints over `k` constants. kinds[i] is 0 where constraint i says "t <= 0", 1 where it says
+ * Accepted: `count` constraints over `k` constants, and the edition. kinds[i] is 0 where constraint i says "t <= 0", 1 where it says
  * "t = 0" and 2 where it says "t != 0"; numbers[i * (k + 1)] and the k numbers after it are its coefficients and then d.
  * 32 kinds and 544 numbers are always enough.
- * Refused: 1 to 8 with file 1; 21 with file 4, and as place the number of constraints, where either output is too short.
+ * Refused: 1 to 8 and 13 with file 1, 13 for a number that is -2,147,483,648; 21 with file 4, and as place the number
+ * of constraints, where either output is too short. 1 comes first above 8,192 bytes, and after 5 above 4,096 bytes of
+ * edition 1, both at place 0.
  */
 dulgaverk_read_result dulgaverk_read(const uint8_t *file, size_t file_length, uint8_t *kinds, size_t kinds_length,
-                                     int16_t *numbers, size_t numbers_length);
+                                     int32_t *numbers, size_t numbers_length);
 
-/* Writes a bundle over k constants: one kind and k + 1 numbers for each constraint, as dulgaverk_read gives them.
+/* Writes a bundle of an edition over k constants: one kind and k + 1 numbers for each constraint, as dulgaverk_read gives
+ * them.
  *
- * Accepted: `count` bytes of `out`, at most 1,192.
- * Refused, all with file 4: 7 for k and 8 for more than 32 kinds (place 0); 24 for a kind (place its index), else for
- * the count of numbers (place the number of kinds); 21 where `out` is too short (place the bytes needed).
+ * Accepted: `count` bytes of `out`, at most 2,280.
+ * Refused, all with file 4: 5 for the edition, 7 for k and 8 for more than 32 kinds (place 0); 24 for a kind (place its
+ * index), else for the count of numbers (place the number of kinds); 13 for a number that the edition cannot hold or that
+ * is -2,147,483,648 (place the number's index); 21 where `out` is too short (place the bytes needed).
  */
-dulgaverk_write_result dulgaverk_write(uint8_t k, const uint8_t *kinds, size_t kinds_length, const int16_t *numbers,
-                                       size_t numbers_length, uint8_t *out, size_t out_length);
+dulgaverk_write_result dulgaverk_write(uint8_t edition, uint8_t k, const uint8_t *kinds, size_t kinds_length,
+                                       const int32_t *numbers, size_t numbers_length, uint8_t *out,
+                                       size_t out_length);
 
 /* Whether there is a constraint for a line number: A's are 0, 1, .. in file order, then B's.
  *
@@ -134,7 +145,7 @@ dulgaverk_answer dulgaverk_show_answer(const uint8_t *a, size_t a_length, const 
                                        uint16_t line);
 
 /* Copies that constraint's field, tag and length and contents, to the front of `out`, and returns its length: at most
- * 37, and 0 where dulgaverk_show_answer refuses. A length above out_length says that nothing was copied.
+ * 71, and 0 where dulgaverk_show_answer refuses. A length above out_length says that nothing was copied.
  */
 size_t dulgaverk_show(const uint8_t *a, size_t a_length, const uint8_t *b, size_t b_length, uint16_t line,
                       uint8_t *out, size_t out_length);
@@ -143,9 +154,9 @@ size_t dulgaverk_show(const uint8_t *a, size_t a_length, const uint8_t *b, size_
  *
  * Accepted: `count` bytes of `out` are the file of the interpolant, a formula that holds wherever A is met, fails wherever
  * B is met, and names only constants that both use. 65,536 bytes are always enough.
- * Refused: 1 for A, B and the proof (files 1, 2, 3, place 0); then what reading refuses of A and of B, for B also 9; then
- * 2 to 7 and 9 to 20 with file 3; then with file 4, and as place the bytes needed, 1 where the formula would have more
- * than 65,536 bytes, whatever `out` is, and 21 where `out` is too short.
+ * Refused: 1 for A and B above 8,192 bytes and the proof above 65,536 (files 1, 2, 3, place 0); then what reading refuses
+ * of A and of B, for B also 9; then 2 to 7 and 9 to 20 with file 3; then with file 4, and as place the bytes needed, 1
+ * where the formula would have more than 65,536 bytes, whatever `out` is, and 21 where `out` is too short.
  */
 dulgaverk_write_result dulgaverk_check(const uint8_t *a, size_t a_length, const uint8_t *b, size_t b_length,
                                        const uint8_t *proof, size_t proof_length, uint8_t *out, size_t out_length);
@@ -154,7 +165,8 @@ dulgaverk_write_result dulgaverk_check(const uint8_t *a, size_t a_length, const 
  *
  * Accepted: whether it holds.
  * Refused: 7 for the number of values (file 4, place 0) and 23 for a value (file 4, place its index); then 1, 2, 3, 19,
- * 4, 6, 5, 7, 9, 12 and 17 with file 3. 9 says that the formula's constants are not as many as the values.
+ * 4, 6, 5, 7, 9, 12 and 17 with file 3. 5 is for every edition but 1; 9 says that the formula's constants are not as
+ * many as the values.
  */
 dulgaverk_tested dulgaverk_test(const uint8_t *formula, size_t formula_length, const int32_t *values,
                                 size_t values_length);

@@ -22,8 +22,11 @@ unfolding fieldCount
 count-ends e = rw e
 
 -- Room for fewer lines, in a buffer of the same length.
-pub spare-less : {K c d : ℕ} {buf buf′ : List ℤ} → d ≤ c → length buf′ ≡ length buf → Spare K c buf → Spare K d buf′
-spare-less h l s = record { room = λ n m k. omega (arith, s .room n m (omega arith)) }
+pub spare-less : {e K c d : ℕ} {kinds kinds′ : List ℕ} {buf buf′ : List ℤ} → d ≤ c → length kinds′ ≡ length kinds → length buf′ ≡ length buf → Spare e K c kinds buf → Spare e K d kinds′ buf′
+spare-less h q l s = record {
+  room = λ n m k. omega (arith, s .room n m (omega arith));
+  kinds-room = λ n m k. omega (arith, s .kinds-room n m (omega arith));
+}
 
 -- ---- what falls from one branch to the next: the unread bytes x, y and how many more steps may be open, twice, and one more where the branches of a rounding are gone through
 pub one-less : {m t : ℕ} → m + 1 < t → m < t

@@ -55,15 +55,15 @@ module _ {K n x y : ℕ} {p : List ℕ} {kinds : List ℕ} {buf : List ℤ} {t :
   pub room-left : o + keptBack ≤ scratchLimit
   room-left = omega (arith, d .room)
 
-  module _ {kinds₁ : List ℕ} {buf₁ : List ℤ} {l : Line} (g : Longer K kinds buf n l kinds₁ buf₁) where
-    pub own-ready : Ready K kinds₁ buf₁ (n + 1)
-    own-ready = ready-more (d .ready) (g .kept) (g .limited) (d .spare .room (n + 1) (g .limited .most) (omega arith))
+  module _ {kinds₁ : List ℕ} {buf₁ : List ℤ} {l : Line} (g : Longer (t .edition) K kinds buf n l kinds₁ buf₁) where
+    pub own-ready : Ready (t .edition) K kinds₁ buf₁ (n + 1)
+    own-ready = ready-more (d .ready) (g .kept) (g .limited) (d .spare .room (n + 1) (g .limited .most) (omega arith)) (d .spare .kinds-room (n + 1) (g .limited .most) (omega arith))
 
     module _ {o₁ : ℕ} (short : o₁ ≤ o + keptBack) where
       pub own-started : Started K kinds₁ buf₁ t p at o₁
       own-started = record {
-        ready = subst (Ready K kinds₁ buf₁) (sym (d .lines-is)) own-ready;
-        spare = spare-less (omega (arith, d .lines-is)) (g .kept .lines-length) (d .spare);
+        ready = subst (Ready (t .edition) K kinds₁ buf₁) (sym (d .lines-is)) own-ready;
+        spare = spare-less (omega (arith, d .lines-is)) (g .kept .kinds-length) (g .kept .lines-length) (d .spare);
         room = omega (arith, d .room);
       }
 
@@ -94,11 +94,11 @@ module _ {K n x y : ℕ} {p : List ℕ} {kinds : List ℕ} {buf : List ℤ} {t :
 
           pub next-opened : Opened K n x y kinds₂ buf₂ t₁ i p a o₂
           next-opened = record {
-            ready = ready-kept (d .ready) on;
-            spare = spare-less (omega (arith, closes .few)) (on .lines-length) (d .spare);
+            ready = rw (closes .edition-is) (ready-kept (d .ready) on);
+            spare = rw (closes .edition-is) (spare-less (omega (arith, closes .few)) (on .kinds-length) (on .lines-length) (d .spare));
             room = omega (arith, closes .within, d .room);
             line = d .line;
-            space = d .space;
+            space = rw (closes .edition-is) (d .space);
             lines-is = closes .lines-is ∙ d .lines-is;
             small = subst (λ (l : Line). T (inRange (edition1 .range) (startOf x y l))) (sym line-is) (d .small);
           }
@@ -110,7 +110,7 @@ module _ {K n x y : ℕ} {p : List ℕ} {kinds : List ℕ} {buf : List ℤ} {t :
           next-same {back} branching step {scratch₃ = scratch₃} {r = r} x =
               let same : branching (deeper K t₁) (linesIn K kinds₂ buf₂ n) (lineIn K kinds₂ buf₂ i) step (t₁ .rows .0) (fieldsAt p a)
               ≡ branching (deeper K t) (linesIn K kinds buf n) (lineIn K kinds buf i) step (t₁ .rows .0) (fieldsAt p a)
-              = rw (closes .open-is, line-is, lines-same K n (on .lines-same) (on .kinds-same)) in
+              = rw (closes .open-is, closes .edition-is, line-is, lines-same K n (on .lines-same) (on .kinds-same)) in
               record {
                 kept = kept-trans (omega arith) on (x .kept);
                 long = x .long;
@@ -118,12 +118,12 @@ module _ {K n x y : ℕ} {p : List ℕ} {kinds : List ℕ} {buf : List ℤ} {t :
               }
 
   -- ---- any start of line n, raised by x and y at most: what a branch asks holds for each
-  pub start-asked : {u w : ℕ} → u ≤ x → w ≤ y → LineStart K buf i n u w × (edition1 .lines ≤ length kinds)
+  pub start-asked : {u w : ℕ} → u ≤ x → w ≤ y → LineStart K buf i n u w × (n < length kinds)
   start-asked hu hw = (start-less (d .ready) (d .line) (d .space) x y (d .small) hu hw, d .ready .room)
 
   module _ (u w m : ℕ) {kinds₁ : List ℕ} {buf₁ : List ℤ} (eb : buf₁ ≡ startedLine K i n u w buf) (ek : kinds₁ ≡ set kinds n m) (hu : u ≤ x) (hw : w ≤ y) (hm : m ≤ 1) where
-    pub some-longer : Longer K kinds buf n (line (kindOf m) (lineIn K kinds buf i .t plus u) (lineIn K kinds buf i .tA plus w)) kinds₁ buf₁
-    some-longer = starts (d .ready) (start-asked hu hw .0) m hm refl eb ek
+    pub some-longer : Longer (t .edition) K kinds buf n (line (kindOf m) (lineIn K kinds buf i .t plus u) (lineIn K kinds buf i .tA plus w)) kinds₁ buf₁
+    some-longer = starts (d .ready) (d .space) (start-asked hu hw .0) m hm refl eb ek
 
     module _ {o₁ : ℕ} (short : o₁ ≤ o + keptBack) where
       pub some-started : Started K kinds₁ buf₁ t p at o₁
@@ -142,7 +142,7 @@ module _ {K n x y : ℕ} {p : List ℕ} {kinds : List ℕ} {buf : List ℤ} {t :
 
   -- ---- the first branch, whose line stands, and the rest of them
   module _ (make : Formula → Formula → Formula) {tag : ℕ} (bytes : (f g : Formula) → encode edition1 (make f g) ≡ fieldBytes tag [] ++ encode edition1 f ++ encode edition1 g) (rest : Branching) (step : ℕ)
-      (f : FirstStands K n x y kinds buf i) {scratch : List ℕ} {scratch₁ : List ℕ} {o₁ : ℕ} (h : Heads scratch o tag scratch₁ o₁) where
+      (f : FirstStands (t .edition) K n x y kinds buf i) {scratch : List ℕ} {scratch₁ : List ℕ} {o₁ : ℕ} (h : Heads scratch o tag scratch₁ o₁) where
     pub first-started : Started K kinds buf t p at o₁
     first-started = own-started f (head-short h)
 
@@ -175,7 +175,7 @@ thirdBranch branch ls l step rows fs = branch (position step 2) rows (ls ▷ thi
 
 module _ {K n : ℕ} {p : List ℕ} {kinds : List ℕ} {buf : List ℤ} {t : Tally} {i at o : ℕ} (d : Opened K n 1 1 kinds buf t i p at o)
     (step : ℕ) {kinds₁ : List ℕ} {buf₁ : List ℤ} (eb : buf₁ ≡ startedLine K i n 0 0 buf) (ek : kinds₁ ≡ set kinds n 1) {scratch : List ℕ} {scratch₁ : List ℕ} {o₁ : ℕ} (h : Heads scratch o 0x32 scratch₁ o₁) where
-  middle : Longer K kinds buf n (middleOf (lineIn K kinds buf i)) kinds₁ buf₁
+  middle : Longer (t .edition) K kinds buf n (middleOf (lineIn K kinds buf i)) kinds₁ buf₁
   middle = middle-starts (d .ready) (d .line) (d .space) 1 1 (d .small) eb ek
 
   module _ {kinds₂ : List ℕ} {buf₂ : List ℤ} {scratch₂ : List ℕ} {r₁ : Branched} (b : Branches K p at (position step 1) kinds₁ buf₁ t scratch₁ o₁ kinds₂ buf₂ scratch₂ r₁) where
@@ -186,7 +186,7 @@ module _ {K n : ℕ} {p : List ℕ} {kinds : List ℕ} {buf : List ℤ} {t : Tal
       d₃ : Opened K n 1 1 kinds₂ buf₂ t₁ i p a o₂
       d₃ = next-opened d middle (head-short h) (position step 1) b e
 
-      third : Longer K kinds₂ buf₂ n (thirdOf (lineIn K kinds₂ buf₂ i)) kinds₃ buf₃
+      third : Longer (t₁ .edition) K kinds₂ buf₂ n (thirdOf (lineIn K kinds₂ buf₂ i)) kinds₃ buf₃
       third = third-starts (d₃ .ready) (d₃ .line) (d₃ .space) 1 1 (d₃ .small) (omega arith) eb₃ ek₃
 
       pub two-checks : {kinds₄ : List ℕ} {buf₄ : List ℤ} {scratch₃ : List ℕ} {r : Branched} → Branches K p a (position step 2) kinds₃ buf₃ t₁ scratch₂ o₂ kinds₄ buf₄ scratch₃ r
@@ -211,6 +211,9 @@ module _ {K : ℕ} {p : List ℕ} {at : ℕ} {kinds : List ℕ} {buf : List ℤ}
   same-lines : linesIn K kinds″ buf″ (u .lines .0) ≡ linesIn K kinds′ buf′ (u .lines .0)
   same-lines = lines-same K (u .lines .0) (w .kept .lines-same) (w .kept .kinds-same)
 
+  same-edition : v .edition ≡ u .edition
+  same-edition = ap (λ (w : Tally). w .edition) (stands .tally-is)
+
   opens-less : v .«open» ≡ t .«open» + 1
   opens-less = ap (λ (w : Tally). w .«open») (stands .tally-is) ∙ rw (m .open-is)
 
@@ -224,19 +227,19 @@ module _ {K : ℕ} {p : List ℕ} {at : ℕ} {kinds : List ℕ} {buf : List ℤ}
   module _ {o : ℕ} (st : Started K kinds buf t p at o) where
     pub opened : Opened K (u .lines .0) x y kinds″ buf″ v i p next o
     opened = record {
-      ready = ready-kept (m .ready) (w .kept);
-      spare = spare-less (omega (arith, m .few)) (w .kept .lines-length ∙ k .lines-length) (st .spare);
+      ready = rw (same-edition, m .edition-is) (ready-kept (m .ready) (w .kept));
+      spare = rw (same-edition, m .edition-is) (spare-less (omega (arith, m .few)) (w .kept .kinds-length ∙ k .kinds-length) (w .kept .lines-length ∙ k .lines-length) (st .spare));
       room = omega (arith, st .room, m .unread);
       line = stands .start .copy .first;
-      space = stands .start .copy .space;
+      space = rw same-edition (omega (arith, stands .longer .limited .most));
       lines-is = ap (λ (w : Tally). w .lines .0) (stands .tally-is);
       small = subst (λ (l : Line). T (inRange (edition1 .range) (startOf x y l))) (sym same-line) (stands .longer .small);
     }
 
-  pub first-stands : FirstStands K (u .lines .0) x y kinds″ buf″ i
+  pub first-stands : FirstStands (v .edition) K (u .lines .0) x y kinds″ buf″ i
   first-stands =
       let g = stands .longer in
-      rw same-line (record { kept = kept-refl; limited = g .limited; lines = g .lines ∙ rw same-lines; small = g .small })
+      rw (same-line, same-edition) (record { kept = kept-refl; limited = g .limited; lines = g .lines ∙ rw same-lines; small = g .small })
 
   module _ (here : Position) {scratch : List ℕ} {o : ℕ} {kinds₁ : List ℕ} {buf₁ : List ℤ} {scratch₁ : List ℕ} {b : Branched}
       (all : OpenedChecked keptBack branching K number (u .lines .0) p next kinds″ buf″ v i scratch o kinds₁ buf₁ scratch₁ b) where
@@ -245,7 +248,7 @@ module _ {K : ℕ} {p : List ℕ} {at : ℕ} {kinds : List ℕ} {buf : List ℤ}
     branches =
         let r : v .rows .0 ≡ suc number = omega (arith, ap (λ (w : Tally). w .rows .0) (stands .tally-is), m .rows-is) in
         let n : 32 - v .«open» ≡ 32 - (u .«open» + 1) = omega (arith, opens-less, m .open-is) in
-        comes-opened here m k ∙ (rw e at (w .by)) .0 _ (refusalAt here number a) number (fieldsAt p next) ∙ rw (same-line, same-lines, r, n)
+        comes-opened here m k ∙ (rw e at (w .by)) .0 _ (refusalAt here number a) number (fieldsAt p next) ∙ rw (same-line, same-lines, same-edition, r, n)
 
     resumed-by : (b : Branched) → BranchedBy keptBack (deeper K t here (t .rows .0) (linesIn K kinds buf (t .lines .0)) (fieldsAt p at)) p next v scratch o scratch₁ b
         → BranchedBy keptBack (deeper K t here (t .rows .0) (linesIn K kinds buf (t .lines .0)) (fieldsAt p at)) p at t scratch o scratch₁ (resumedBy b t)
@@ -260,6 +263,7 @@ module _ {K : ℕ} {p : List ℕ} {at : ℕ} {kinds : List ℕ} {buf : List ℤ}
       unread = omega (arith, g .unread, m .unread);
       lines-is = refl;
       open-is = refl;
+      edition-is = refl;
     }
 
     pub resumed-checks : {r : Branched} → r ≡ resumedBy b t → Branches K p at here kinds buf t scratch o kinds₁ buf₁ scratch₁ r

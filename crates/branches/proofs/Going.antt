@@ -1,5 +1,5 @@
 -- The entries of a branch, one after the other: what is left gives the same result. Assumes nothing.
-use mathlib.Core.Path.{_≡_, refl, _∙_}
+use mathlib.Core.Path.{_≡_, refl, subst, _∙_}
 use mathlib.Core.Bool.{Bool, true, false}
 use mathlib.Core.List.{List}
 use mathlib.Core.Option.{Option}
@@ -8,7 +8,7 @@ use native.Mathlib.Nat.{mul-le-mul-right}
 use native.Mathlib.Omega.{arith}
 use lib.ListN.{take, drop}
 use lib.IntN.{ℤ}
-use Rattle.forms.specs.Edition.{edition1}
+use Rattle.forms.specs.Edition.{edition}
 use Rattle.calculus.specs.Rules as rules
 use Rattle.fields.specs.declared.Position.{Position}
 use Rattle.fields.specs.Answers.{refusalAt, Result}
@@ -42,7 +42,7 @@ kept-trans {K} {m} {n} h a b = record {
   kinds-length = b .kinds-length ∙ a .kinds-length;
 }
 
-pub ready-kept : {K n : ℕ} {kinds : List ℕ} {buf : List ℤ} {kinds′ : List ℕ} {buf′ : List ℤ} → Ready K kinds buf n → LinesKept K n kinds buf kinds′ buf′ → Ready K kinds′ buf′ n
+pub ready-kept : {e K n : ℕ} {kinds : List ℕ} {buf : List ℤ} {kinds′ : List ℕ} {buf′ : List ℤ} → Ready e K kinds buf n → LinesKept K n kinds buf kinds′ buf′ → Ready e K kinds′ buf′ n
 ready-kept r k = record {
   branch = record {
     constants = r .branch .constants;
@@ -56,17 +56,18 @@ ready-kept r k = record {
 -- The entries from a place on, in the middle of a branch.
 abbrev entriesAt : (K : ℕ) (p : List ℕ) (place : ℕ) (kinds : List ℕ) (buf : List ℤ) (t : Tally) (made : Bool) (here : Position) (deeper : Option Checker) → Result Closing
 entriesAt K p place kinds buf t made here deeper =
-    checkEntries edition1 K here deeper (fieldsAt p place) (t .rows .0) (lastMade made K kinds buf (t .lines .0)) (linesIn K kinds buf (t .lines .0))
+    checkEntries (edition (t .edition)) K here deeper (fieldsAt p place) (t .rows .0) (lastMade made K kinds buf (t .lines .0)) (linesIn K kinds buf (t .lines .0))
 
 pub record Going (K : ℕ) (p : List ℕ) (at : ℕ) (kinds₀ : List ℕ) (buf₀ : List ℤ) (t₀ : Tally) (kinds : List ℕ) (buf : List ℤ) (place : ℕ) (t : Tally) (made : Bool) : Type 0 where
   pub same : (here : Position) (deeper : Option Checker) → entriesFrom K p at kinds₀ buf₀ t₀ here deeper ≡ entriesAt K p place kinds buf t made here deeper
   pub kept : LinesKept K (t₀ .lines .0) kinds₀ buf₀ kinds buf
-  pub ready : Ready K kinds buf (t .lines .0)
+  pub ready : Ready (t .edition) K kinds buf (t .lines .0)
   pub from : t₀ .lines .0 ≤ t .lines .0
   pub open-is : t .«open» ≡ t₀ .«open»
+  pub edition-is : t .edition ≡ t₀ .edition
   pub made-one : made ≡ true → 1 ≤ t .lines .0
   pub few : t .lines .0 + fieldsLeft p place ≤ t₀ .lines .0 + fieldsLeft p at
-  pub spare : Spare K (t₀ .lines .0 + fieldsLeft p at) buf
+  pub spare : Spare (t .edition) K (t₀ .lines .0 + fieldsLeft p at) kinds buf
   pub unread : unreadBytes p place ≤ unreadBytes p at
 
 module _ {K : ℕ} {p : List ℕ} {at : ℕ} {kinds₀ : List ℕ} {buf₀ : List ℤ} {t₀ : Tally} {kinds : List ℕ} {buf : List ℤ} {place : ℕ} {t : Tally} {made : Bool}
@@ -83,7 +84,7 @@ module _ {K : ℕ} {p : List ℕ} {at : ℕ} {kinds₀ : List ℕ} {buf₀ : Lis
       (x : Steps (fieldChecked K kinds buf t made tag (take len (drop start p))) K kinds buf t kinds′ buf′ r) (long : Advances len r) where
     -- the field that stands next, and what follows it
     field-is : (here : Position) (deeper : Option Checker) → entriesFrom K p at kinds₀ buf₀ t₀ here deeper
-        ≡ fieldChecked K kinds buf t made tag (take len (drop start p)) deeper (checkEntries edition1 K here deeper (fieldsAt p next)) (refusalAt here (t .rows .0) a) (fieldsAt p next)
+        ≡ fieldChecked K kinds buf t made tag (take len (drop start p)) deeper (checkEntries (edition (t .edition)) K here deeper (fieldsAt p next)) (refusalAt here (t .rows .0) a) (fieldsAt p next)
     unfolding checkEntries entry
     field-is here deeper = g .same here deeper ∙ rw (s .is)
 
@@ -91,14 +92,14 @@ module _ {K : ℕ} {p : List ℕ} {at : ℕ} {kinds₀ : List ℕ} {buf₀ : Lis
     all-kept = kept-trans (g .from) (g .kept) (x .kept)
 
     by-same : {f : _} → SameChecked (fieldChecked K kinds buf t made tag (take len (drop start p))) f → (here : Position) (deeper : Option Checker)
-        → entriesFrom K p at kinds₀ buf₀ t₀ here deeper ≡ f deeper (checkEntries edition1 K here deeper (fieldsAt p next)) (refusalAt here (t .rows .0) a) (fieldsAt p next)
-    by-same q here deeper = field-is here deeper ∙ q .is deeper (checkEntries edition1 K here deeper (fieldsAt p next)) (refusalAt here (t .rows .0) a) (fieldsAt p next)
+        → entriesFrom K p at kinds₀ buf₀ t₀ here deeper ≡ f deeper (checkEntries (edition (t .edition)) K here deeper (fieldsAt p next)) (refusalAt here (t .rows .0) a) (fieldsAt p next)
+    by-same q here deeper = field-is here deeper ∙ q .is deeper (checkEntries (edition (t .edition)) K here deeper (fieldsAt p next)) (refusalAt here (t .rows .0) a) (fieldsAt p next)
 
     pub going-refused : {n : ℕ} {rows : RowNumber} → rows ≡ t .rows → r ≡ Refused n → Stopped K p at kinds₀ buf₀ t₀ kinds′ buf′ (Stop.Fault n rows a)
     going-refused er e = let y = rw e at x in rw er (record { kept = all-kept; by = by-same (y .by) })
 
-    spare-kept : Spare K (t₀ .lines .0 + fieldsLeft p at) buf′
-    spare-kept = spare-less (omega arith) (x .kept .lines-length) (g .spare)
+    spare-kept : Spare (t .edition) K (t₀ .lines .0 + fieldsLeft p at) kinds′ buf′
+    spare-kept = spare-less (omega arith) (x .kept .kinds-length) (x .kept .lines-length) (g .spare)
 
     pub going-made : {u : Tally} → r ≡ Made u → Going K p at kinds₀ buf₀ t₀ kinds′ buf′ next u true
     going-made e =
@@ -108,9 +109,10 @@ module _ {K : ℕ} {p : List ℕ} {at : ℕ} {kinds₀ : List ℕ} {buf₀ : Lis
         record {
           same = λ here deeper. by-same (y .by .0) here deeper ∙ rw z;
           kept = all-kept;
-          ready = ready-more (g .ready) (x .kept) (y .by .1) (g .spare .room (t .lines .0 + 1) (y .by .1 .most) (omega (arith, g .few, count-starts s)));
+          ready = ready-more (g .ready) (x .kept) (y .by .1) (g .spare .room (t .lines .0 + 1) (y .by .1 .most) (omega (arith, g .few, count-starts s))) (g .spare .kinds-room (t .lines .0 + 1) (y .by .1 .most) (omega (arith, g .few, count-starts s)));
           from = omega (arith, g .from);
           open-is = g .open-is;
+          edition-is = g .edition-is;
           made-one = λ h. omega arith;
           few = omega (arith, g .few, count-starts s);
           spare = spare-kept;
@@ -129,6 +131,7 @@ module _ {K : ℕ} {p : List ℕ} {at : ℕ} {kinds₀ : List ℕ} {buf₀ : Lis
           ready = ready-kept (g .ready) (x .kept);
           from = g .from;
           open-is = g .open-is;
+          edition-is = g .edition-is;
           made-one = λ h. absurd (let z : _≡_ {A = ℕ} 0 1 = cc in omega arith);
           few = omega (arith, g .few, count-starts s);
           spare = spare-kept;
@@ -141,10 +144,11 @@ module _ {K : ℕ} {p : List ℕ} {at : ℕ} {kinds₀ : List ℕ} {buf₀ : Lis
         rw eu
         (record {
           rows-is = refl;
-          is = λ here deeper. by-same q here deeper ∙ rw lines-are;
-          ready = ready-kept (g .ready) (x .kept);
+          is = λ here deeper. by-same q here deeper ∙ rw (lines-are, g .edition-is);
+          ready = subst (λ (e : ℕ). Ready e K kinds′ buf′ (t .lines .0)) (g .edition-is) (ready-kept (g .ready) (x .kept));
           from = g .from;
           open-is = g .open-is;
+          edition-is = g .edition-is;
           few = omega (arith, g .few, count-starts s);
           unread = omega (arith, g .unread, s .from, s .start-is, s .next-is, s .upto, l);
         })
@@ -166,13 +170,14 @@ module _ {K : ℕ} {p : List ℕ} {at : ℕ} {kinds₀ : List ℕ} {buf₀ : Lis
       going-splits e = let y = rw e at x in let l = rw e at long in rw er (record { kept = all-kept; by = comes (y .by .0) (y .by .1) l })
 
 pub going-start : {K : ℕ} {p : List ℕ} {at : ℕ} {kinds : List ℕ} {buf : List ℤ} {t : Tally}
-    → Ready K kinds buf (t .lines .0) × Spare K (t .lines .0 + fieldsLeft p at) buf → Going K p at kinds buf t kinds buf at t false
+    → Ready (t .edition) K kinds buf (t .lines .0) × Spare (t .edition) K (t .lines .0 + fieldsLeft p at) kinds buf → Going K p at kinds buf t kinds buf at t false
 going-start (h, s) = record {
   same = λ here deeper. refl;
   kept = kept-refl;
   ready = h;
   from = omega arith;
   open-is = refl;
+  edition-is = refl;
   made-one = λ e. absurd (let z : _≡_ {A = ℕ} 0 1 = cc in omega arith);
   few = omega arith;
   spare = s;

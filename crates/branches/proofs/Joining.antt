@@ -95,6 +95,7 @@ module _ {p : List ℕ} {at : ℕ} {t : Tally} {scratch : List ℕ} {o : ℕ} {p
             unread = c .unread;
             lines-is = c .lines-is;
             open-is = c .open-is;
+            edition-is = c .edition-is;
           };
         }
 
@@ -124,6 +125,7 @@ module _ {p : List ℕ} {at : ℕ} {t : Tally} {scratch : List ℕ} {o : ℕ} {p
               unread = omega (arith, d .unread, c .unread);
               lines-is = d .lines-is ∙ c .lines-is;
               open-is = d .open-is ∙ c .open-is;
+              edition-is = d .edition-is ∙ c .edition-is;
             }
 
         in-turn-by : (scratch₃ : List ℕ) (r : Branched) → BranchedBy back₂ (second (t₁ .rows .0) (fieldsAt p a)) p a t₁ scratch₂ o₂ scratch₃ r → BranchedBy back (inTurn make R second) p at t scratch o scratch₃ r

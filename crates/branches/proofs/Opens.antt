@@ -8,10 +8,10 @@ use lib.Dec.{T, ltb}
 use lib.ListN.{set}
 use lib.IntN.{ℤ, pos, _+ℤ_}
 use borrow.Author.Tests.{lt-ltb, le-ltb, ltb-true, ltb-false}
-use Rattle.forms.specs.Edition.{edition1}
-use Rattle.forms.specs.Forms.{≤0, Line, _and_, _or_}
+use Rattle.forms.specs.Edition.{edition, edition1}
+use Rattle.forms.specs.Forms.{≤0, Line, _and_, _or_, small}
 use Rattle.calculus.specs.Rules as rules
-use Rattle.calculus.specs.Rules.{_▷_, small, inRange}
+use Rattle.calculus.specs.Rules.{_▷_, inRange}
 use Rattle.fields.specs.declared.Answer.{Answer}
 use Rattle.fields.specs.Answers.{position, Result, refused, accepted, _>>=_, _>>_, need, found}
 use Rattle.fields.specs.Fields.{Fields}
@@ -35,26 +35,29 @@ use Rattle.rows.proofs.Counting.{counted-made, counted-full}
 use Rattle.rows.proofs.Deriving.{kept-refl, counted-line, full-line}
 use Rattle.branches.proofs.Starting.{starts, start-less}
 
-pub counted-open : {t : Tally} {r : Tallied} → r ≡ openCounted t → r .made ≡ true → (t .«open» < 32) × (r .tally ≡ tally (t .rows .0) (t .lines .0) (t .«open» + 1))
+pub counted-open : {t : Tally} {r : Tallied} → r ≡ openCounted t → r .made ≡ true → (t .«open» < 32) × (r .tally ≡ tally (t .edition) (t .rows .0) (t .lines .0) (t .«open» + 1))
 unfolding openCounted
-counted-open {t} e h = let m = counted-made (ltb (t .«open») 32) (tally (t .rows .0) (t .lines .0) (t .«open» + 1)) t e h in (ltb-true (t .«open») 32 (m .0), m .1)
+counted-open {t} e h = let m = counted-made (ltb (t .«open») 32) (tally (t .edition) (t .rows .0) (t .lines .0) (t .«open» + 1)) t e h in (ltb-true (t .«open») 32 (m .0), m .1)
 
 pub full-open : (t : Tally) {r : Tallied} → r ≡ openCounted t → r .made ≡ false → 32 ≤ t .«open»
 unfolding openCounted
-full-open t e h = ltb-false (t .«open») 32 (counted-full (ltb (t .«open») 32) (tally (t .rows .0) (t .lines .0) (t .«open» + 1)) t e h)
+full-open t e h = ltb-false (t .«open») 32 (counted-full (ltb (t .«open») 32) (tally (t .edition) (t .rows .0) (t .lines .0) (t .«open» + 1)) t e h)
 
 module _ (t : Tally) {r q : Tallied} (e : r ≡ openCounted t) (h : r .made ≡ true) (f : q ≡ lineCounted (r .tally)) where
   same-lines : r .tally .lines .0 ≡ t .lines .0
   same-lines = ap (λ (x : Tally). x .lines .0) (counted-open e h .1)
 
-  pub counted-both : q .made ≡ true → (t .lines .0 < 128) × (q .tally ≡ tally (t .rows .0) (t .lines .0 + 1) (t .«open» + 1))
-  counted-both k = (omega (arith, counted-line f k, same-lines), counted-line f k .1 ∙ ap moreLines (counted-open e h .1))
+  same-edition : r .tally .edition ≡ t .edition
+  same-edition = ap (λ (x : Tally). x .edition) (counted-open e h .1)
 
-  pub full-both : q .made ≡ false → 128 ≤ t .lines .0
-  full-both k = omega (arith, full-line (r .tally) f k, same-lines)
+  pub counted-both : q .made ≡ true → (t .lines .0 < edition (t .edition) .lines) × (q .tally ≡ tally (t .edition) (t .rows .0) (t .lines .0 + 1) (t .«open» + 1))
+  counted-both k = (rw (same-lines, same-edition) at (counted-line f k .0), counted-line f k .1 ∙ ap moreLines (counted-open e h .1))
+
+  pub full-both : q .made ≡ false → edition (t .edition) .lines ≤ t .lines .0
+  full-both k = rw (same-lines, same-edition) at (full-line (r .tally) f k)
 
 -- ---- the tests that every such row has
-module _ {K : ℕ} {kinds : List ℕ} {buf : List ℤ} (t : Tally) (i x y : ℕ) (ready : Ready K kinds buf (t .lines .0)) where
+module _ {K : ℕ} {kinds : List ℕ} {buf : List ℤ} (t : Tally) (i x y : ℕ) (ready : Ready (t .edition) K kinds buf (t .lines .0)) where
   pub open-none : 32 ≤ t .«open» → Opens K kinds buf t i x y kinds buf (Refused 17)
   unfolding _>>=_ found
   open-none h =
@@ -63,18 +66,18 @@ module _ {K : ℕ} {kinds : List ℕ} {buf : List ℤ} (t : Tally) (i x y : ℕ)
 
   module _ (ho : t .«open» < 32) where
     tests : (refusal : ℕ → Answer) (rest : Checker → Result Closing) → opening K kinds buf t (startOf x y (lineIn K kinds buf i)) refusal rest
-        ≡ (fitting refusal (linesIn K kinds buf (t .lines .0)) edition1 (startOf x y (lineIn K kinds buf i)) >> rest (checkBranch edition1 K (32 - (t .«open» + 1))))
+        ≡ (fitting refusal (linesIn K kinds buf (t .lines .0)) (edition (t .edition)) (startOf x y (lineIn K kinds buf i)) >> rest (checkBranch (edition (t .edition)) K (32 - (t .«open» + 1))))
     unfolding _>>=_ found
     tests refusal rest =
         let z : 32 - t .«open» ≡ suc (32 - (t .«open» + 1)) = omega arith in
         rw z
 
-    pub open-full : 128 ≤ t .lines .0 → Opens K kinds buf t i x y kinds buf (Refused 16)
+    pub open-full : edition (t .edition) .lines ≤ t .lines .0 → Opens K kinds buf t i x y kinds buf (Refused 16)
     unfolding fitting _>>_ need
-    open-full h = record { kept = kept-refl; by = λ refusal rest. tests refusal rest ∙ rw (length-lines K kinds buf (t .lines .0), le-ltb (t .lines .0) 128 h) }
+    open-full h = record { kept = kept-refl; by = λ refusal rest. tests refusal rest ∙ rw (length-lines K kinds buf (t .lines .0), le-ltb (t .lines .0) (edition (t .edition) .lines) h) }
 
     -- What `raised_fit` tells of line i.
-    module _ (hi : i < t .lines .0) (space : t .lines .0 < 128) {b : Bool}
+    module _ (hi : i < t .lines .0) (space : t .lines .0 < edition (t .edition) .lines) {b : Bool}
         (fits : b ≡ small (edition1 .range) (formIn K buf (i * size K) .d +ℤ pos x) && small (edition1 .range) (formIn K buf (i * size K + (K + 1)) .d +ℤ pos y)) where
       range : inRange (edition1 .range) (startOf x y (lineIn K kinds buf i)) ≡ b
       range = tested-range (omega (arith, ready .branch .room)) (ready .branch .bounded) hi kinds x y ≤0 fits
@@ -83,7 +86,7 @@ module _ {K : ℕ} {kinds : List ℕ} {buf : List ℤ} (t : Tally) (i x y : ℕ)
       unfolding fitting _>>_ need
       open-range e = record {
         kept = kept-refl;
-        by = λ refusal rest. tests refusal rest ∙ rw (length-lines K kinds buf (t .lines .0), lt-ltb (t .lines .0) 128 space, range, e);
+        by = λ refusal rest. tests refusal rest ∙ rw (length-lines K kinds buf (t .lines .0), lt-ltb (t .lines .0) (edition (t .edition) .lines) space, range, e);
       }
 
       module _ (e : b ≡ true) where
@@ -91,15 +94,15 @@ module _ {K : ℕ} {kinds : List ℕ} {buf : List ℤ} (t : Tally) (i x y : ℕ)
         open-start hu hw = start-less ready hi space x y (subst T (sym (range ∙ e)) tt) hu hw
 
         pub open-made : {kinds′ : List ℕ} {buf′ : List ℤ} → buf′ ≡ startedLine K i (t .lines .0) x y buf → kinds′ ≡ set kinds (t .lines .0) 0
-            → {t′ : Tally} → t′ ≡ tally (t .rows .0) (t .lines .0 + 1) (t .«open» + 1) → Opens K kinds buf t i x y kinds′ buf′ (Made t′)
+            → {t′ : Tally} → t′ ≡ tally (t .edition) (t .rows .0) (t .lines .0 + 1) (t .«open» + 1) → Opens K kinds buf t i x y kinds′ buf′ (Made t′)
         unfolding fitting _>>_ need
         open-made eb ek u =
             let start : LineStart K buf i (t .lines .0) x y = open-start (omega arith) (omega arith) in
-            let longer = starts ready start 0 (omega arith) inequality-byte eb ek in
+            let longer = starts ready space start 0 (omega arith) inequality-byte eb ek in
             record {
               kept = longer .kept;
               by = (
-                λ refusal rest. tests refusal rest ∙ rw (length-lines K kinds buf (t .lines .0), lt-ltb (t .lines .0) 128 space, range, e),
+                λ refusal rest. tests refusal rest ∙ rw (length-lines K kinds buf (t .lines .0), lt-ltb (t .lines .0) (edition (t .edition) .lines) space, range, e),
                 record { longer = longer; tally-is = u; start = start; open-less = ho },
               );
             }
@@ -116,7 +119,7 @@ module _ {row : rules.Row} {branching : Branching} (flat : Branching) (same : (b
     kept = o .kept;
     by = (
       λ next refusal rows fs. opened next refusal rows fs ∙ o .by .0 refusal (λ branch. flat branch (linesIn K kinds buf (t .lines .0)) (lineIn K kinds buf i) rows (suc rows) fs)
-          ∙ same (checkBranch edition1 K (32 - (t .«open» + 1))) (linesIn K kinds buf (t .lines .0)) (lineIn K kinds buf i) rows (suc rows) fs,
+          ∙ same (checkBranch (edition (t .edition)) K (32 - (t .«open» + 1))) (linesIn K kinds buf (t .lines .0)) (lineIn K kinds buf i) rows (suc rows) fs,
       o .by .1,
     );
   }
@@ -181,7 +184,7 @@ module _ {K : ℕ} {kinds : List ℕ} {buf : List ℤ} {t : Tally} {i g by : ℕ
       }
 
   module _ (e : r ≡ test-of.Passed) where
-    passed : ((refusal : ℕ → Answer) → roundable refusal (linesIn K kinds buf (t .lines .0)) edition1 i g by ≡ accepted (lineIn K kinds buf i)) × (i < t .lines .0) × RoundsBy g by
+    passed : ((refusal : ℕ → Answer) → roundable refusal (linesIn K kinds buf (t .lines .0)) (edition (t .edition)) i g by ≡ accepted (lineIn K kinds buf i)) × (i < t .lines .0) × RoundsBy g by
     passed = rw e at (p .by)
 
     pub round-line : i < t .lines .0

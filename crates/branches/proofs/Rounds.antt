@@ -10,11 +10,12 @@ use lib.IntN.{ℤ, pos, natAbs, _+ℤ_}
 use lib.ListN.{length, getD, set, length-append}
 use borrow.Author.Tests.{le-leb, lt-leb, leb-true}
 use Rattle.integers.specs.Divides.{divb}
-use Rattle.forms.specs.Edition.{edition1}
-use Rattle.forms.specs.Forms.{≤0, Form, Line, Formula, _divides_, _and_, _or_, _plus_}
+use Rattle.forms.specs.Edition.{edition, edition1, newestEdition}
+use Rattle.forms.proofs.Editions.{lines-most}
+use Rattle.forms.specs.Forms.{≤0, Form, Line, Formula, _divides_, _and_, _or_, _plus_, every}
 use Rattle.forms.specs.Reduced.{reduced}
 use Rattle.forms.specs.Flat.{formIn}
-use Rattle.calculus.specs.Rules.{_▷_, every}
+use Rattle.calculus.specs.Rules.{_▷_}
 use Rattle.forms.specs.declared.RowNumber.{RowNumber}
 use Rattle.fields.specs.declared.Position.{Position}
 use Rattle.fields.specs.Answers.{position, Result, accepted, _>>=_, _>>_, need, found}
@@ -165,12 +166,12 @@ module _ (branch : Checker) (ls : List Line) (l : Line) (step g by j rows : ℕ)
       rw (add-one, z)
 
 -- ---- the stride part of a line's tA, where line n is any
-module _ {K n x y : ℕ} {p : List ℕ} {kinds : List ℕ} {buf : List ℤ} {t : Tally} {i at o : ℕ} (d : Opened K n x y kinds buf t i p at o) {l : Line} {kinds₁ : List ℕ} {buf₁ : List ℤ} (g : Longer K kinds buf n l kinds₁ buf₁) where
+module _ {K n x y : ℕ} {p : List ℕ} {kinds : List ℕ} {buf : List ℤ} {t : Tally} {i at o : ℕ} (d : Opened K n x y kinds buf t i p at o) {l : Line} {kinds₁ : List ℕ} {buf₁ : List ℤ} (g : Longer (t .edition) K kinds buf n l kinds₁ buf₁) where
   lines-numbered : (m : ℕ) → m ≤ n → Numbered K buf₁ (m * size K + (K + 1))
   lines-numbered m h = numbered (own-ready d g) (omega arith) refl
 
-  pub front-asked : {m : ℕ} → m ≤ n → {z : ℤ} {by : ℕ} → Multiplies (natAbs z) z → RoundsBy (natAbs z) by → (m ≤ edition1 .lines) × Numbered K buf₁ (m * size K + (K + 1)) × Divisor z
-  front-asked {m} h w q = (omega (arith, d .space), lines-numbered m h, divisor w (q .stride))
+  pub front-asked : {m : ℕ} → m ≤ n → {z : ℤ} {by : ℕ} → Multiplies (natAbs z) z → RoundsBy (natAbs z) by → (m ≤ edition newestEdition .lines) × Numbered K buf₁ (m * size K + (K + 1)) × Divisor z
+  front-asked {m} h w q = (omega (arith, d .space, lines-most (t .edition)), lines-numbered m h, divisor w (q .stride))
 
   stride-short : (m : ℕ) → m ≤ n → (s : ℕ) → length (encode edition1 (s divides reduced s (formIn K buf₁ (m * size K + (K + 1))))) ≤ 75
   stride-short m h s = omega (arith, stride-size (lines-numbered m h) s, lines-numbered m h .constants)
@@ -183,8 +184,8 @@ module _ {K n by : ℕ} {p : List ℕ} {kinds : List ℕ} {buf : List ℤ} {t : 
   rounded-start = start-asked d {u = by} {w = j} (omega arith) (omega arith) .0
 
   module _ {kinds₁ : List ℕ} {buf₁ : List ℤ} (eb : buf₁ ≡ startedLine K i n by j buf) (ek : kinds₁ ≡ set kinds n 0) where
-    own : Longer K kinds buf n (startOf by j (lineIn K kinds buf i)) kinds₁ buf₁
-    own = starts (d .ready) rounded-start 0 (omega arith) inequality-byte eb ek
+    own : Longer (t .edition) K kinds buf n (startOf by j (lineIn K kinds buf i)) kinds₁ buf₁
+    own = starts (d .ready) (d .space) rounded-start 0 (omega arith) inequality-byte eb ek
 
     module _ (step g : ℕ) (others : Bool) {scratch : List ℕ} {scratch₁ : List ℕ} {o₁ : ℕ}
         (h : Stores scratch o (frontBytes others (g divides reduced g (formIn K buf₁ (n * size K + (K + 1))))) scratch₁ o₁) where

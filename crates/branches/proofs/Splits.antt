@@ -9,11 +9,11 @@ use lib.Dec.{T, eqb}
 use lib.IntN.{ℤ, pos, negsuc, _+ℤ_, _*ℤ_}
 use lib.ListN.{length, getD, set}
 use borrow.Author.Tests.{lt-ltb, eqb-true, eqb-false}
-use Rattle.forms.specs.Edition.{edition1}
-use Rattle.forms.specs.Forms.{≤0, Side, LineKind, plain, apart, Line, line, Form, neg, Formula, _and_, _or_, _plus_}
+use Rattle.forms.specs.Edition.{edition, edition1, newestEdition}
+use Rattle.forms.specs.Forms.{≤0, Side, LineKind, plain, apart, Line, line, Form, neg, Formula, _and_, _or_, _plus_, small}
 use Rattle.forms.specs.Flat.{kindOf, lineKindOf, formIn}
 use Rattle.calculus.specs.Rules as rules
-use Rattle.calculus.specs.Rules.{_▷_, small, inRange}
+use Rattle.calculus.specs.Rules.{_▷_, inRange}
 use Rattle.forms.specs.declared.RowNumber.{RowNumber}
 use Rattle.fields.specs.declared.Answer.{Answer}
 use Rattle.fields.specs.declared.Position.{Position}
@@ -93,21 +93,21 @@ module _ (K : ℕ) (kinds : List ℕ) (buf : List ℤ) (t : Tally) (i : ℕ) whe
 
       split-row : (c : Bool) → eqb r 2 ≡ c → (next : Following) (refusal : ℕ → Answer) (rows : ℕ) (fs : Fields) → rowOpened K kinds buf t (rules.Split i) next refusal rows fs
           ≡ opening K kinds buf t (startOf 1 (cond c 1 0) (lineIn K kinds buf i)) refusal
-          (λ branch. fitting refusal (linesIn K kinds buf (t .lines .0)) edition1 (negatedOf 1 (cond c 1 0) (lineIn K kinds buf i)) >> bothOf (cond c Side.A Side.B) branch (linesIn K kinds buf (t .lines .0)) (lineIn K kinds buf i) rows (suc rows) fs)
+          (λ branch. fitting refusal (linesIn K kinds buf (t .lines .0)) (edition (t .edition)) (negatedOf 1 (cond c 1 0) (lineIn K kinds buf i)) >> bothOf (cond c Side.A Side.B) branch (linesIn K kinds buf (t .lines .0)) (lineIn K kinds buf i) rows (suc rows) fs)
       unfolding checkRow checkSplit disequality lineAt _>>=_ _>>_ found
       split-row true e next refusal rows fs = rw (line-at K kinds buf (t .lines .0) i hi, owner-is true e)
       split-row false e next refusal rows fs =
           let l = lineIn K kinds buf i in
           let ls = linesIn K kinds buf (t .lines .0) in
           let as-stated : rowOpened K kinds buf t (rules.Split i) next refusal rows fs
-          ≡ opening K kinds buf t (line ≤0 (l .t plus 1) (l .tA)) refusal (λ branch. fitting refusal ls edition1 (line ≤0 (neg (l .t) plus 1) (neg (l .tA))) >> bothOf Side.B branch ls l rows (suc rows) fs)
+          ≡ opening K kinds buf t (line ≤0 (l .t plus 1) (l .tA)) refusal (λ branch. fitting refusal ls (edition (t .edition)) (line ≤0 (neg (l .t) plus 1) (neg (l .tA))) >> bothOf Side.B branch ls l rows (suc rows) fs)
           = rw (line-at K kinds buf (t .lines .0) i hi, owner-is false e) in
           as-stated
-          ∙ ap₂ (λ (f g : Form). opening K kinds buf t (line ≤0 (l .t plus 1) f) refusal (λ branch. fitting refusal ls edition1 (line ≤0 (neg (l .t) plus 1) g) >> bothOf Side.B branch ls l rows (suc rows) fs))
+          ∙ ap₂ (λ (f g : Form). opening K kinds buf t (line ≤0 (l .t plus 1) f) refusal (λ branch. fitting refusal ls (edition (t .edition)) (line ≤0 (neg (l .t) plus 1) g) >> bothOf Side.B branch ls l rows (suc rows) fs))
           (sym (plus-none (l .tA))) (sym (plus-none (neg (l .tA))))
 
       -- What `open_step` leaves.
-      module _ (ready : Ready K kinds buf (t .lines .0)) {y : ℕ} (ey : y ≡ raisedBy r) {kinds′ : List ℕ} {buf′ : List ℤ} {d : Derived} (given : Opens K kinds buf t i 1 y kinds′ buf′ d) where
+      module _ (ready : Ready (t .edition) K kinds buf (t .lines .0)) {y : ℕ} (ey : y ≡ raisedBy r) {kinds′ : List ℕ} {buf′ : List ℤ} {d : Derived} (given : Opens K kinds buf t i 1 y kinds′ buf′ d) where
         same-y : y ≡ raisedBy (getD kinds i 0)
         same-y = ey ∙ ap (λ (c : Bool). cond {A = ℕ} c 1 0) (read-two k)
 
@@ -116,23 +116,26 @@ module _ (K : ℕ) (kinds : List ℕ) (buf : List ℤ) (t : Tally) (i : ℕ) whe
 
         abbrev rest : (refusal : ℕ → Answer) (rows : ℕ) (fs : Fields) → Checker → Result Closing
         rest refusal rows fs branch =
-            fitting refusal (linesIn K kinds buf (t .lines .0)) edition1 (negatedOf 1 (raisedBy (getD kinds i 0)) (lineIn K kinds buf i))
+            fitting refusal (linesIn K kinds buf (t .lines .0)) (edition (t .edition)) (negatedOf 1 (raisedBy (getD kinds i 0)) (lineIn K kinds buf i))
             >> bothOf (ownerOf (getD kinds i 0)) branch (linesIn K kinds buf (t .lines .0)) (lineIn K kinds buf i) rows (suc rows) fs
 
         pub split-refused : {x : ℕ} → d ≡ Refused x → Splits K kinds buf t i kinds′ buf′ (Refused x)
         split-refused e = refuses (λ next refusal rows fs. split-row (eqb (getD kinds i 0) 2) (read-two k) next refusal rows fs ∙ (rw e at opens) .by refusal (rest refusal rows fs)) (opens .kept)
 
-        still : Ready K kinds′ buf′ (t .lines .0)
+        still : Ready (t .edition) K kinds′ buf′ (t .lines .0)
         still = ready-kept ready (opens .kept)
 
         module _ {t′ : Tally} (e : d ≡ Made t′) where
           stands : Stands K kinds buf t i 1 (raisedBy (getD kinds i 0)) kinds′ buf′ t′
           stands = (rw e at (opens .by)) .1
 
-          row-is : (next : Following) (refusal : ℕ → Answer) (rows : ℕ) (fs : Fields) → rowOpened K kinds buf t (rules.Split i) next refusal rows fs ≡ rest refusal rows fs (checkBranch edition1 K (32 - (t .«open» + 1)))
+          row-is : (next : Following) (refusal : ℕ → Answer) (rows : ℕ) (fs : Fields) → rowOpened K kinds buf t (rules.Split i) next refusal rows fs ≡ rest refusal rows fs (checkBranch (edition (t .edition)) K (32 - (t .«open» + 1)))
           row-is next refusal rows fs = split-row (eqb (getD kinds i 0) 2) (read-two k) next refusal rows fs ∙ (rw e at (opens .by)) .0 refusal (rest refusal rows fs)
 
-          pub negated-fit-asked : ((i < edition1 .lines) × (K ≤ edition1 .constants) × (i * size K + size K ≤ length buf′)) × Bounded K buf′ (i + 1)
+          space : t .lines .0 < edition (t .edition) .lines
+          space = omega (arith, stands .longer .limited .most)
+
+          pub negated-fit-asked : ((i < edition newestEdition .lines) × (K ≤ edition1 .constants) × (i * size K + size K ≤ length buf′)) × Bounded K buf′ (i + 1)
           negated-fit-asked =
               let h = before K hi in
               ((omega (arith, stands .start .copy .space), still .branch .constants, omega (arith, still .branch .room)), bounded-less (omega arith) (still .branch .bounded))
@@ -148,21 +151,21 @@ module _ (K : ℕ) (kinds : List ℕ) (buf : List ℤ) (t : Tally) (i : ℕ) whe
             pub split-second : not f ≡ true → Splits K kinds buf t i kinds′ buf′ (Refused 13)
             unfolding fitting _>>_ need
             split-second h =
-                refuses (λ next refusal rows fs. row-is next refusal rows fs ∙ rw (length-lines K kinds buf (t .lines .0), lt-ltb (t .lines .0) 128 (stands .start .copy .space), range, unnot f h)) (opens .kept)
+                refuses (λ next refusal rows fs. row-is next refusal rows fs ∙ rw (length-lines K kinds buf (t .lines .0), lt-ltb (t .lines .0) (edition (t .edition) .lines) space, range, unnot f h)) (opens .kept)
 
             pub split-made : not f ≡ false → Splits K kinds buf t i kinds′ buf′ (Made t′)
             unfolding fitting _>>_ need
             split-made h = record {
               opens = record {
                 kept = opens .kept;
-                by = (λ next refusal rows fs. row-is next refusal rows fs ∙ rw (length-lines K kinds buf (t .lines .0), lt-ltb (t .lines .0) 128 (stands .start .copy .space), range, unnot f h), stands);
+                by = (λ next refusal rows fs. row-is next refusal rows fs ∙ rw (length-lines K kinds buf (t .lines .0), lt-ltb (t .lines .0) (edition (t .edition) .lines) space, range, unnot f h), stands);
               };
               second = λ t″ z. subst T (sym (range ∙ unnot f h)) tt;
             }
 
 -- ---- its branches
 pub split-there : {K n : ℕ} {p : List ℕ} {kinds : List ℕ} {buf : List ℤ} {t : Tally} {i at o : ℕ} → SplitOpened K n kinds buf t i p at o → i < length kinds
-split-there s = omega (arith, s .opened .line, s .opened .space, s .opened .ready .room)
+split-there s = omega (arith, s .opened .line, s .opened .ready .room)
 
 module _ {K n : ℕ} {p : List ℕ} {kinds : List ℕ} {buf : List ℤ} {t : Tally} {i at o : ℕ} (s : SplitOpened K n kinds buf t i p at o) {r : ℕ} (k : KindRead (getD kinds i 0) r) where
   module _ (step : ℕ) {tag : ℕ} (et : tag ≡ joinedBy r) {scratch : List ℕ} {scratch₁ : List ℕ} {o₁ : ℕ} (given : Heads scratch o tag scratch₁ o₁) where
@@ -201,12 +204,12 @@ module _ {K n : ℕ} {p : List ℕ} {kinds : List ℕ} {buf : List ℤ} {t : Tal
           y-is : y ≡ raisedBy (getD kinds i 0)
           y-is = ey ∙ ap (λ (c : Bool). cond {A = ℕ} c 1 0) (read-two k)
 
-          pub negated-asked : LineNegated K buf₁ i n 1 y × (edition1 .lines ≤ length kinds₁)
+          pub negated-asked : LineNegated K buf₁ i n 1 y × (n < length kinds₁)
           negated-asked = (negated-less (d₂ .ready) (d₂ .line) (d₂ .space) second₁ (omega (arith, y-is)), d₂ .ready .room)
 
           module _ {kinds₂ : List ℕ} {buf₂ : List ℤ} (eb : buf₂ ≡ negatedLine K i n 1 y buf₁) (ek : kinds₂ ≡ set kinds₁ n 0) where
-            negated : Longer K kinds₁ buf₁ n (negatedOf 1 (raisedBy (getD kinds i 0)) (lineIn K kinds₁ buf₁ i)) kinds₂ buf₂
-            negated = subst (λ (z : ℕ). Longer K kinds₁ buf₁ n (negatedOf 1 z (lineIn K kinds₁ buf₁ i)) kinds₂ buf₂) y-is (negated-starts (d₂ .ready) (negated-asked .0) eb ek)
+            negated : Longer (t₁ .edition) K kinds₁ buf₁ n (negatedOf 1 (raisedBy (getD kinds i 0)) (lineIn K kinds₁ buf₁ i)) kinds₂ buf₂
+            negated = subst (λ (z : ℕ). Longer (t₁ .edition) K kinds₁ buf₁ n (negatedOf 1 z (lineIn K kinds₁ buf₁ i)) kinds₂ buf₂) y-is (negated-starts (d₂ .ready) (d₂ .space) (negated-asked .0) eb ek)
 
             pub negated-started : Started K kinds₂ buf₂ t₁ p a o₂
             negated-started = own-started d₂ negated none-short
@@ -231,7 +234,7 @@ module _ {K : ℕ} {p : List ℕ} {at : ℕ} {kinds : List ℕ} {buf : List ℤ}
   pub split-opened : {o : ℕ} → Started K kinds buf t p at o → SplitOpened K (u .lines .0) kinds″ buf″ v i p next o
   split-opened {o} st = record {
     opened = subst (λ (b : ℕ). Opened K (u .lines .0) 1 (raisedBy b) kinds″ buf″ v i p next o) (sym byte) (opened m k (w .opens) e st);
-    stands = subst (λ (b : ℕ). FirstStands K (u .lines .0) 1 (raisedBy b) kinds″ buf″ i) (sym byte) (first-stands m k (w .opens) e);
+    stands = subst (λ (b : ℕ). FirstStands (v .edition) K (u .lines .0) 1 (raisedBy b) kinds″ buf″ i) (sym byte) (first-stands m k (w .opens) e);
     second =
         subst (λ (b : ℕ). T (inRange (edition1 .range) (negatedOf 1 (raisedBy b) (lineIn K kinds″ buf″ i)))) (sym byte)
         (subst (λ (l : Line). T (inRange (edition1 .range) (negatedOf 1 (raisedBy (getD kinds′ i 0)) l))) (sym (line-same K (w .opens .kept .lines-same) (w .opens .kept .kinds-same) i there)) (w .second v e));

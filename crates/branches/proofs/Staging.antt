@@ -1,11 +1,11 @@
 -- The check of a branch as plain mathematics: each way through it is a lemma over plain values. Assumes nothing.
-use mathlib.Core.Path.{_≡_, refl, sym, ap, _∙_}
+use mathlib.Core.Path.{_≡_, refl, _∙_}
 use mathlib.Core.List.{List}
 use mathlib.Core.Option.{none}
 use Prim.Native.Nat.{ℕ, zero, suc, _-_, _≤_}
 use native.Mathlib.Omega.{arith}
 use lib.IntN.{ℤ, natAbs}
-use Rattle.forms.specs.Edition.{edition1}
+use Rattle.forms.specs.Edition.{edition}
 use Rattle.forms.specs.Forms.{Line, Formula}
 use Rattle.calculus.specs.Rules as rules
 use Rattle.fields.specs.declared.Answer.{Answer}
@@ -19,7 +19,7 @@ use Rattle.proof.specs.Rows.{byNumber, byStride}
 use Rattle.proof.specs.Check.{checkRow, checkEntries, checkBranch}
 use Rattle.rows.specs.Entries.{Multiplies}
 use Rattle.rows.specs.Tally.{returnedTo}
-use Rattle.rows.specs.Rows.{LinesKept}
+use Rattle.rows.specs.Rows.{Ready, LinesKept}
 use Rattle.branches.specs.Branches.{Comes, Stopped}
 use Rattle.closes.specs.Ends.{EndedBy}
 use Rattle.branches.specs.Opening.{below, Branching, rowOpened, RowOpens}
@@ -40,11 +40,11 @@ pub started-room : {K : ℕ} {kinds : List ℕ} {buf : List ℤ} {t : Tally} {p 
 started-room s = omega (arith, s .room)
 
 -- A branch is its entries.
-pub branch-entries : (K : ℕ) (room : ℕ) (here : Position) (rows : ℕ) (ls : List Line) (fs : Fields)
-    → checkBranch edition1 K room here rows ls fs ≡ checkEntries edition1 K here (below K room) fs rows none ls
+pub branch-entries : (e K : ℕ) (room : ℕ) (here : Position) (rows : ℕ) (ls : List Line) (fs : Fields)
+    → checkBranch (edition e) K room here rows ls fs ≡ checkEntries (edition e) K here (below e K room) fs rows none ls
 unfolding checkBranch
-branch-entries K zero here rows ls fs = refl
-branch-entries K (suc room) here rows ls fs = refl
+branch-entries e K zero here rows ls fs = refl
+branch-entries e K (suc room) here rows ls fs = refl
 
 module _ {K : ℕ} {p : List ℕ} {at : ℕ} {kinds : List ℕ} {buf : List ℤ} {t : Tally} {kinds′ : List ℕ} {buf′ : List ℤ} where
   pub stopped-fault : (here : Position) {r : Stop} {x : ℕ} {rows : RowNumber} {a : ℕ} (scratch : List ℕ) (o : ℕ) → Stopped K p at kinds buf t kinds′ buf′ r → r ≡ Stop.Fault x rows a
@@ -52,7 +52,7 @@ module _ {K : ℕ} {p : List ℕ} {at : ℕ} {kinds : List ℕ} {buf : List ℤ}
   stopped-fault here scratch o s e = record {
     kept = s .kept;
     long = refl;
-    by = branch-entries K (32 - t .«open») here _ _ _ ∙ (rw e at s) .by here (below K (32 - t .«open»));
+    by = branch-entries (t .edition) K (32 - t .«open») here _ _ _ ∙ (rw e at s) .by here (below (t .edition) K (32 - t .«open»));
   }
 
   -- The row that the entries come to, by the code's answer.
@@ -74,15 +74,18 @@ module _ {K : ℕ} {p : List ℕ} {at : ℕ} {kinds : List ℕ} {buf : List ℤ}
 
   module _ {row : rules.Row} {number a next : ℕ} {u : Tally} (m : Comes K p at kinds buf t kinds′ buf′ row number a next u) where
     -- The row that the entries come to.
-    pub comes-row : (here : Position) → checkBranch edition1 K (32 - t .«open») here (t .rows .0) (linesIn K kinds buf (t .lines .0)) (fieldsAt p at)
-        ≡ checkRow edition1 K (below K (32 - t .«open»)) (checkEntries edition1 K here (below K (32 - t .«open»)) (fieldsAt p next)) (refusalAt here number a) number (linesIn K kinds′ buf′ (u .lines .0)) (fieldsAt p next) row
-    comes-row here = branch-entries K (32 - t .«open») here (t .rows .0) (linesIn K kinds buf (t .lines .0)) (fieldsAt p at) ∙ m .is here (below K (32 - t .«open»))
+    pub comes-row : (here : Position) → checkBranch (edition (t .edition)) K (32 - t .«open») here (t .rows .0) (linesIn K kinds buf (t .lines .0)) (fieldsAt p at)
+        ≡ checkRow (edition (t .edition)) K (below (t .edition) K (32 - t .«open»)) (checkEntries (edition (t .edition)) K here (below (t .edition) K (32 - t .«open»)) (fieldsAt p next)) (refusalAt here number a) number (linesIn K kinds′ buf′ (u .lines .0)) (fieldsAt p next) row
+    comes-row here = branch-entries (t .edition) K (32 - t .«open») here (t .rows .0) (linesIn K kinds buf (t .lines .0)) (fieldsAt p at) ∙ m .is here (below (t .edition) K (32 - t .«open»))
+
+    pub comes-ready : Ready (u .edition) K kinds′ buf′ (u .lines .0)
+    comes-ready = rw (m .edition-is) (m .ready)
 
   -- ---- a row that closes the branch
   -- `row` gives the formula that f gives.
   module _ (here : Position) {row : rules.Row} (number : RowNumber) {a next : ℕ} {u : Tally} (m : Comes K p at kinds buf t kinds′ buf′ row (number .0) a next u) (k : LinesKept K (t .lines .0) kinds buf kinds′ buf′)
       (f : (ℕ → Answer) → Result Formula)
-      (row-is : checkRow edition1 K (below K (32 - t .«open»)) (checkEntries edition1 K here (below K (32 - t .«open»)) (fieldsAt p next)) (refusalAt here (number .0) a) (number .0) (linesIn K kinds′ buf′ (u .lines .0)) (fieldsAt p next) row
+      (row-is : checkRow (edition (t .edition)) K (below (t .edition) K (32 - t .«open»)) (checkEntries (edition (t .edition)) K here (below (t .edition) K (32 - t .«open»)) (fieldsAt p next)) (refusalAt here (number .0) a) (number .0) (linesIn K kinds′ buf′ (u .lines .0)) (fieldsAt p next) row
       ≡ (f (refusalAt here (number .0) a) >>= λ I. accepted (record { formula = I; rows = suc (number .0); after = fieldsAt p next }))) where
     row-closed : (scratch : List ℕ) (o : ℕ) (scratch′ : List ℕ) (e : Ended) → EndedBy f scratch o scratch′ e
         → Branches K p at here kinds buf t scratch o kinds′ buf′ scratch′ (closedBy e here number a next (returnedTo u t))
@@ -103,6 +106,7 @@ module _ {K : ℕ} {p : List ℕ} {at : ℕ} {kinds : List ℕ} {buf : List ℤ}
             unread = omega (arith, m .unread);
             lines-is = refl;
             open-is = refl;
+            edition-is = refl;
           };
         }
 
@@ -125,9 +129,9 @@ module _ {K : ℕ} {p : List ℕ} {at : ℕ} {kinds : List ℕ} {buf : List ℤ}
 
   -- ---- a row that opens branches
   module _ (here : Position) {row : rules.Row} {number a next : ℕ} {u : Tally} (m : Comes K p at kinds buf t kinds′ buf′ row number a next u) (k : LinesKept K (t .lines .0) kinds buf kinds′ buf′) where
-    pub comes-opened : checkBranch edition1 K (32 - t .«open») here (t .rows .0) (linesIn K kinds buf (t .lines .0)) (fieldsAt p at)
-        ≡ rowOpened K kinds′ buf′ u row (checkEntries edition1 K here (below K (32 - t .«open»)) (fieldsAt p next)) (refusalAt here number a) number (fieldsAt p next)
-    comes-opened = comes-row m here ∙ ap (λ (n : ℕ). checkRow edition1 K (below K (32 - n)) (checkEntries edition1 K here (below K (32 - t .«open»)) (fieldsAt p next)) (refusalAt here number a) number (linesIn K kinds′ buf′ (u .lines .0)) (fieldsAt p next) row) (sym (m .open-is))
+    pub comes-opened : checkBranch (edition (t .edition)) K (32 - t .«open») here (t .rows .0) (linesIn K kinds buf (t .lines .0)) (fieldsAt p at)
+        ≡ rowOpened K kinds′ buf′ u row (checkEntries (edition (t .edition)) K here (below (t .edition) K (32 - t .«open»)) (fieldsAt p next)) (refusalAt here number a) number (fieldsAt p next)
+    comes-opened = comes-row m here ∙ rw (← m .open-is, ← m .edition-is)
 
     pub opens-refused : {branching : Branching} {i x y : ℕ} {r : Derived} {z : ℕ} {row-number : RowNumber} {kinds″ : List ℕ} {buf″ : List ℤ} (scratch : List ℕ) (o : ℕ) → RowOpens row branching K kinds′ buf′ u i x y kinds″ buf″ r → r ≡ derived.Refused z
         → row-number .0 ≡ number → Branches K p at here kinds buf t scratch o kinds″ buf″ scratch (branched.Fault z row-number here a)

@@ -8,7 +8,8 @@ use lib.Dec.{T}
 use lib.IntN.{ℤ}
 use lib.ListN.{getD, set, length-set}
 use Rattle.integers.proofs.Magnitude.{within-between}
-use Rattle.forms.specs.Edition.{edition1}
+use Rattle.forms.specs.Edition.{edition, edition1}
+use Rattle.forms.proofs.Editions.{lines-most}
 use Rattle.forms.specs.Forms.{Kind, ≤0, plain, Line, line, _plus_}
 use Rattle.forms.specs.Flat.{kindOf, lineKindOf, formIn}
 use Rattle.calculus.specs.Rules.{inRange}
@@ -25,11 +26,11 @@ use Rattle.branches.specs.Opening.{startOf, middleOf, thirdOf, Longer}
 use Rattle.branches.specs.Splitting.{negatedOf}
 
 -- The branch with its new line, of the kind that is stored: line i raised, and line i negated and raised.
-pub starts : {K n : ℕ} {kinds : List ℕ} {buf : List ℤ} → Ready K kinds buf n → {i x y : ℕ} → LineStart K buf i n x y → (b : ℕ) → b ≤ 1 → {k : Kind} → kindOf b ≡ k
+pub starts : {e K n : ℕ} {kinds : List ℕ} {buf : List ℤ} → Ready e K kinds buf n → n < edition e .lines → {i x y : ℕ} → LineStart K buf i n x y → (b : ℕ) → b ≤ 1 → {k : Kind} → kindOf b ≡ k
     → {kinds′ : List ℕ} {buf′ : List ℤ} → buf′ ≡ startedLine K i n x y buf → kinds′ ≡ set kinds n b
-    → Longer K kinds buf n (line k (lineIn K kinds buf i .t plus x) (lineIn K kinds buf i .tA plus y)) kinds′ buf′
-starts {K} {n} {kinds} {buf} r {i} s b l {k} kind {kinds′} {buf′} e f =
-    let new : lineKindOf (getD kinds′ n 0) ≡ plain k = rw f (plain-stored kinds n b (omega (arith, r .room, s .copy .space)) l ∙ ap plain kind) in
+    → Longer e K kinds buf n (line k (lineIn K kinds buf i .t plus x) (lineIn K kinds buf i .tA plus y)) kinds′ buf′
+starts {K = K} {n} {kinds} {buf} r space {i} s b l {k} kind {kinds′} {buf′} e f =
+    let new : lineKindOf (getD kinds′ n 0) ≡ plain k = rw f (plain-stored kinds n b (r .room) l ∙ ap plain kind) in
     let same : Agree n kinds kinds′ = rw f (agree-set n kinds n b (omega arith)) in
     record {
       kept = record {
@@ -38,15 +39,15 @@ starts {K} {n} {kinds} {buf} r {i} s b l {k} kind {kinds′} {buf′} e f =
         lines-length = rw e (length-started s);
         kinds-length = rw f (length-set kinds n b);
       };
-      limited = rw (add-one, e) (record { bounded = started-bounded s; most = omega (arith, s .copy .space) });
+      limited = rw (add-one, e) (record { bounded = started-bounded s; most = omega arith });
       lines = rw (add-one, e) (started-lines K kinds kinds′ buf n same new s refl);
       small = started-range s kinds k refl;
     }
 
-pub negated-starts : {K n : ℕ} {kinds : List ℕ} {buf : List ℤ} → Ready K kinds buf n → {i x y : ℕ} → LineNegated K buf i n x y
-    → {kinds′ : List ℕ} {buf′ : List ℤ} → buf′ ≡ negatedLine K i n x y buf → kinds′ ≡ set kinds n 0 → Longer K kinds buf n (negatedOf x y (lineIn K kinds buf i)) kinds′ buf′
-negated-starts {K} {n} {kinds} {buf} r {i} s {kinds′} {buf′} e f =
-    let new : lineKindOf (getD kinds′ n 0) ≡ plain ≤0 = rw f (plain-stored kinds n 0 (omega (arith, r .room, s .copy .space)) (omega arith) ∙ ap plain inequality-byte) in
+pub negated-starts : {e K n : ℕ} {kinds : List ℕ} {buf : List ℤ} → Ready e K kinds buf n → n < edition e .lines → {i x y : ℕ} → LineNegated K buf i n x y
+    → {kinds′ : List ℕ} {buf′ : List ℤ} → buf′ ≡ negatedLine K i n x y buf → kinds′ ≡ set kinds n 0 → Longer e K kinds buf n (negatedOf x y (lineIn K kinds buf i)) kinds′ buf′
+negated-starts {K = K} {n} {kinds} {buf} r space {i} s {kinds′} {buf′} e f =
+    let new : lineKindOf (getD kinds′ n 0) ≡ plain ≤0 = rw f (plain-stored kinds n 0 (r .room) (omega arith) ∙ ap plain inequality-byte) in
     let same : Agree n kinds kinds′ = rw f (agree-set n kinds n 0 (omega arith)) in
     record {
       kept = record {
@@ -55,7 +56,7 @@ negated-starts {K} {n} {kinds} {buf} r {i} s {kinds′} {buf′} e f =
         lines-length = rw e (length-negated s);
         kinds-length = rw f (length-set kinds n 0);
       };
-      limited = rw (add-one, e) (record { bounded = negated-bounded s; most = omega (arith, s .copy .space) });
+      limited = rw (add-one, e) (record { bounded = negated-bounded s; most = omega arith });
       lines = rw (add-one, e) (negated-lines K kinds kinds′ buf n same new s refl);
       small = negated-range s kinds ≤0 refl;
     }
@@ -67,14 +68,14 @@ unfolding lineIn
 start-form {K} {i} {n} {buf = buf} s kinds e = rw e (ap (λ (l : Line). l .tA) (started-line s kinds [] {s = lineIn K kinds buf i} refl (none-stored n)))
 
 -- ---- line i, which may be raised by x₀ and y₀
-module _ {K n : ℕ} {kinds : List ℕ} {buf : List ℤ} (ready : Ready K kinds buf n) {i : ℕ} (hi : i < n) (space : n < edition1 .lines) (x₀ y₀ : ℕ)
+module _ {e K n : ℕ} {kinds : List ℕ} {buf : List ℤ} (ready : Ready e K kinds buf n) {i : ℕ} (hi : i < n) (space : n < edition e .lines) (x₀ y₀ : ℕ)
     (first : T (inRange (edition1 .range) (startOf x₀ y₀ (lineIn K kinds buf i)))) where
   may-raise : Raised K buf i x₀ y₀
   may-raise = raised-line K kinds buf i x₀ y₀ ≤0 first
 
   pub start-less : {x y : ℕ} → x ≤ x₀ → y ≤ y₀ → LineStart K buf i n x y
   start-less hx hy = record {
-    copy = record { branch = ready .branch; first = hi; space = space };
+    copy = record { branch = ready .branch; first = hi; space = omega (arith, lines-most e) };
     fits = record {
       t = within-between hx (ready .branch .bounded .small (i * size K + K) (omega (arith, before K hi))) (may-raise .t);
       tA = within-between hy (ready .branch .bounded .small (i * size K + (K + 1) + K) (omega (arith, before K hi))) (may-raise .tA);
@@ -83,15 +84,15 @@ module _ {K n : ℕ} {kinds : List ℕ} {buf : List ℤ} (ready : Ready K kinds 
 
   module _ {kinds′ : List ℕ} {buf′ : List ℤ} where
     -- The second branch of a strengthen and its third.
-    pub middle-starts : buf′ ≡ startedLine K i n 0 0 buf → kinds′ ≡ set kinds n 1 → Longer K kinds buf n (middleOf (lineIn K kinds buf i)) kinds′ buf′
-    middle-starts e f = rw (plus-none (lineIn K kinds buf i .t), plus-none (lineIn K kinds buf i .tA)) at (starts ready (start-less (omega arith) (omega arith)) 1 (omega arith) equality-byte e f)
+    pub middle-starts : buf′ ≡ startedLine K i n 0 0 buf → kinds′ ≡ set kinds n 1 → Longer e K kinds buf n (middleOf (lineIn K kinds buf i)) kinds′ buf′
+    middle-starts eb ek = rw (plus-none (lineIn K kinds buf i .t), plus-none (lineIn K kinds buf i .tA)) at (starts ready space (start-less (omega arith) (omega arith)) 1 (omega arith) equality-byte eb ek)
 
-    pub third-starts : 1 ≤ x₀ → buf′ ≡ startedLine K i n 1 0 buf → kinds′ ≡ set kinds n 0 → Longer K kinds buf n (thirdOf (lineIn K kinds buf i)) kinds′ buf′
-    third-starts h e f = rw (plus-none (lineIn K kinds buf i .tA)) at (starts ready (start-less h (omega arith)) 0 (omega arith) inequality-byte e f)
+    pub third-starts : 1 ≤ x₀ → buf′ ≡ startedLine K i n 1 0 buf → kinds′ ≡ set kinds n 0 → Longer e K kinds buf n (thirdOf (lineIn K kinds buf i)) kinds′ buf′
+    third-starts h eb ek = rw (plus-none (lineIn K kinds buf i .tA)) at (starts ready space (start-less h (omega arith)) 0 (omega arith) inequality-byte eb ek)
 
 -- Line i, which may be negated and raised by x₀ and y₀.
-pub negated-less : {K n : ℕ} {kinds : List ℕ} {buf : List ℤ} → Ready K kinds buf n → {i : ℕ} → i < n → n < edition1 .lines → {x y₀ y : ℕ} → T (inRange (edition1 .range) (negatedOf x y₀ (lineIn K kinds buf i))) → y ≤ y₀ → LineNegated K buf i n x y
-negated-less {K} {kinds = kinds} {buf} ready {i} hi space {x} {y₀} second hy = record {
-  copy = record { branch = ready .branch; first = hi; space = space };
+pub negated-less : {e K n : ℕ} {kinds : List ℕ} {buf : List ℤ} → Ready e K kinds buf n → {i : ℕ} → i < n → n < edition e .lines → {x y₀ y : ℕ} → T (inRange (edition1 .range) (negatedOf x y₀ (lineIn K kinds buf i))) → y ≤ y₀ → LineNegated K buf i n x y
+negated-less {e} {K} {kinds = kinds} {buf} ready {i} hi space {x} {y₀} second hy = record {
+  copy = record { branch = ready .branch; first = hi; space = omega (arith, lines-most e) };
   fits = neg-less (ready .branch .bounded) hi hy (neg-line K kinds buf i x y₀ ≤0 second);
 }

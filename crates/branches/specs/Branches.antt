@@ -4,7 +4,7 @@ use mathlib.Core.List.{List}
 use mathlib.Core.Option.{Option, none}
 use Prim.Native.Nat.{ℕ, suc, _+_, _≤_}
 use lib.IntN.{ℤ, natAbs}
-use Rattle.forms.specs.Edition.{edition1}
+use Rattle.forms.specs.Edition.{edition}
 use Rattle.calculus.specs.Rules as rules
 use Rattle.fields.specs.declared.Position.{Position}
 use Rattle.fields.specs.Answers.{refusalAt, Result, refused}
@@ -19,17 +19,18 @@ use Rattle.branches.specs.declared.branch.Stop.{Stop}
 
 -- The entries from a place on, in a branch of the tally's lines at a position, where no claim may stand first.
 abbrev pub entriesFrom : (K : ℕ) (p : List ℕ) (at : ℕ) (kinds : List ℕ) (buf : List ℤ) (t : Tally) (here : Position) (deeper : Option Checker) → Result Closing
-entriesFrom K p at kinds buf t here deeper = checkEntries edition1 K here deeper (fieldsAt p at) (t .rows .0) none (linesIn K kinds buf (t .lines .0))
+entriesFrom K p at kinds buf t here deeper = checkEntries (edition (t .edition)) K here deeper (fieldsAt p at) (t .rows .0) none (linesIn K kinds buf (t .lines .0))
 
 -- They come to a row, by its number, at a, with the lines that there are then; each line more, and the row itself, took a field, and the row's field has four bytes at least.
 pub record Comes (K : ℕ) (p : List ℕ) (at : ℕ) (kinds : List ℕ) (buf : List ℤ) (t : Tally) (kinds′ : List ℕ) (buf′ : List ℤ) (row : rules.Row) (number a next : ℕ) (t′ : Tally) : Type 0 where
   pub rows-is : t′ .rows .0 ≡ number + 1
   pub is : (here : Position) (deeper : Option Checker)
       → entriesFrom K p at kinds buf t here deeper
-      ≡ checkRow edition1 K deeper (checkEntries edition1 K here deeper (fieldsAt p next)) (refusalAt here number a) number (linesIn K kinds′ buf′ (t′ .lines .0)) (fieldsAt p next) row
-  pub ready : Ready K kinds′ buf′ (t′ .lines .0)
+      ≡ checkRow (edition (t .edition)) K deeper (checkEntries (edition (t .edition)) K here deeper (fieldsAt p next)) (refusalAt here number a) number (linesIn K kinds′ buf′ (t′ .lines .0)) (fieldsAt p next) row
+  pub ready : Ready (t .edition) K kinds′ buf′ (t′ .lines .0)
   pub from : t .lines .0 ≤ t′ .lines .0
   pub open-is : t′ .«open» ≡ t .«open»
+  pub edition-is : t′ .edition ≡ t .edition
   pub few : t′ .lines .0 + suc (fieldsLeft p next) ≤ t .lines .0 + fieldsLeft p at
   pub unread : unreadBytes p next + 4 ≤ unreadBytes p at
 

@@ -6,7 +6,7 @@ use lib.IntN.{ℤ}
 use lib.ListN.{length, getD}
 use lib.Dec.{T}
 use lib.Seq.{sets}
-use Rattle.forms.specs.Edition.{edition1}
+use Rattle.forms.specs.Edition.{edition, edition1}
 use Rattle.forms.specs.Forms.{Formula}
 use Rattle.calculus.specs.Rules.{inRange}
 use Rattle.fields.specs.declared.Position.{Position}
@@ -49,8 +49,8 @@ keptBack = 81
 
 -- What a branch asks: its lines, room for one more for each field that is left, and that what is written, with what the bytes that are left may add, keeps its limit.
 pub record Started (K : ℕ) (kinds : List ℕ) (buf : List ℤ) (t : Tally) (p : List ℕ) (at o : ℕ) : Type 0 where
-  pub ready : Ready K kinds buf (t .lines .0)
-  pub spare : Spare K (t .lines .0 + fieldsLeft p at) buf
+  pub ready : Ready (t .edition) K kinds buf (t .lines .0)
+  pub spare : Spare (t .edition) K (t .lines .0 + fieldsLeft p at) kinds buf
   pub room : o + perByte * unreadBytes p at ≤ scratchLimit
 
 -- R, from `at` on, accepts a formula, whose bytes stand from o on if there is room for them; the fields go on at a. It keeps `back` bytes back.
@@ -64,6 +64,7 @@ pub record Closes (back : ℕ) (R : Result Closing) (p : List ℕ) (at : ℕ) (t
   pub unread : unreadBytes p a < unreadBytes p at
   pub lines-is : t′ .lines .0 ≡ t .lines .0
   pub open-is : t′ .«open» ≡ t .«open»
+  pub edition-is : t′ .edition ≡ t .edition
 
 abbrev pub BranchedBy : (back : ℕ) (R : Result Closing) (p : List ℕ) (at : ℕ) (t : Tally) (scratch : List ℕ) (o : ℕ) (scratch′ : List ℕ) → branched.Branched → Type 0
 BranchedBy back R p at t scratch o scratch′ (branched-of.Fault x rows here a) = R ≡ refused (refusalAt here (rows .0) a x)
@@ -78,7 +79,7 @@ pub record BranchChecked (back : ℕ) (R : Result Closing) (K n : ℕ) (p : List
 
 -- What checks the branches behind the tally's open steps.
 abbrev pub deeper : (K : ℕ) → Tally → Checker
-deeper K t = checkBranch edition1 K (edition1 .branchings - t .«open»)
+deeper K t = checkBranch (edition (t .edition)) K (edition1 .branchings - t .«open»)
 
 abbrev pub Branches : (K : ℕ) (p : List ℕ) (at : ℕ) (here : Position) (kinds : List ℕ) (buf : List ℤ) (t : Tally) (scratch : List ℕ) (o : ℕ)
     (kinds′ : List ℕ) (buf′ : List ℤ) (scratch′ : List ℕ) (r : branched.Branched) → Type 0
@@ -88,17 +89,17 @@ Branches K p at here kinds buf t scratch o kinds′ buf′ scratch′ r =
 -- ---- the branches that a row opens, behind n lines
 -- What they ask, where the first one starts with line i, t + x with tA + y: their own line comes behind the n lines, and the step that opened them is counted.
 pub record Opened (K n x y : ℕ) (kinds : List ℕ) (buf : List ℤ) (t : Tally) (i : ℕ) (p : List ℕ) (at o : ℕ) : Type 0 where
-  pub ready : Ready K kinds buf n
-  pub spare : Spare K (n + 1 + fieldsLeft p at) buf
+  pub ready : Ready (t .edition) K kinds buf n
+  pub spare : Spare (t .edition) K (n + 1 + fieldsLeft p at) kinds buf
   pub room : o + keptBack + perByte * unreadBytes p at ≤ scratchLimit
   pub line : i < n
-  pub space : n < edition1 .lines
+  pub space : n < edition (t .edition) .lines
   pub lines-is : t .lines .0 ≡ n + 1
   pub small : T (inRange (edition1 .range) (startOf x y (lineIn K kinds buf i)))
 
 -- The first branch's line stands behind the n lines.
-abbrev pub FirstStands : (K n x y : ℕ) (kinds : List ℕ) (buf : List ℤ) (i : ℕ) → Type 0
-FirstStands K n x y kinds buf i = Longer K kinds buf n (startOf x y (lineIn K kinds buf i)) kinds buf
+abbrev pub FirstStands : (e K n x y : ℕ) (kinds : List ℕ) (buf : List ℤ) (i : ℕ) → Type 0
+FirstStands e K n x y kinds buf i = Longer e K kinds buf n (startOf x y (lineIn K kinds buf i)) kinds buf
 
 -- What `branching` checks of them.
 abbrev pub OpenedChecked : (back : ℕ) (branching : Branching) (K step n : ℕ) (p : List ℕ) (at : ℕ) (kinds : List ℕ) (buf : List ℤ) (t : Tally) (i : ℕ) (scratch : List ℕ) (o : ℕ)
@@ -121,7 +122,7 @@ RoundedChecked K step n p at kinds buf t i g by j scratch o kinds′ buf′ scra
 -- What its branches ask: the first one's line stands, and the second one's is within the range.
 pub record SplitOpened (K n : ℕ) (kinds : List ℕ) (buf : List ℤ) (t : Tally) (i : ℕ) (p : List ℕ) (at o : ℕ) : Type 0 where
   pub opened : Opened K n 1 (raisedBy (getD kinds i 0)) kinds buf t i p at o
-  pub stands : FirstStands K n 1 (raisedBy (getD kinds i 0)) kinds buf i
+  pub stands : FirstStands (t .edition) K n 1 (raisedBy (getD kinds i 0)) kinds buf i
   pub second : T (inRange (edition1 .range) (negatedOf 1 (raisedBy (getD kinds i 0)) (lineIn K kinds buf i)))
 
 abbrev pub SplitChecked : (K step n : ℕ) (p : List ℕ) (at : ℕ) (kinds : List ℕ) (buf : List ℤ) (t : Tally) (i : ℕ) (scratch : List ℕ) (o : ℕ)

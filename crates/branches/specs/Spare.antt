@@ -1,9 +1,9 @@
 -- The room that a branch asks for: each row takes a field, and makes one line at most. Assumes nothing.
 use mathlib.Core.List.{List}
-use Prim.Native.Nat.{ℕ, suc, _+_, _-_, _*_, _≤_}
+use Prim.Native.Nat.{ℕ, suc, _+_, _-_, _*_, _≤_, _<_}
 use lib.IntN.{ℤ}
 use lib.ListN.{length}
-use Rattle.forms.specs.Edition.{edition1}
+use Rattle.forms.specs.Edition.{edition}
 use Rattle.fields.specs.Fields.{Fields, ends, cut, _▸_}
 use Rattle.fields.specs.Places.{fieldsAt}
 use Rattle.lines.specs.Buffer.{size}
@@ -22,6 +22,7 @@ fieldsLeft p at = fieldCount (fieldsAt p at)
 abbrev pub unreadBytes : (p : List ℕ) (at : ℕ) → ℕ
 unreadBytes p at = length p - at
 
--- A branch may come to have c lines, but never more than the limit: with each count of them the buffer has room for one more.
-pub record Spare (K c : ℕ) (buf : List ℤ) : Type 0 where
-  pub room : (n : ℕ) → n ≤ edition1 .lines → n ≤ c → n * size K + size K ≤ length buf
+-- A branch of a proof of edition e may come to have c lines, but never more than the limit: with each count of them the buffers have room for one more.
+pub record Spare (e K c : ℕ) (kinds : List ℕ) (buf : List ℤ) : Type 0 where
+  pub room : (n : ℕ) → n ≤ edition e .lines → n ≤ c → n * size K + size K ≤ length buf
+  pub kinds-room : (n : ℕ) → n ≤ edition e .lines → n ≤ c → n < length kinds

@@ -91,8 +91,8 @@ pub fn entries(
     tally: Tally,
     k: usize,
 ) -> Stop
-    requires { ⌜ Ready k (now kinds) (now lines) (tally .lines .0) ⌝ }
-    requires { ⌜ Spare k (tally .lines .0 + fieldsLeft (now p) at) (now lines) ⌝ }
+    requires { ⌜ Ready (tally .edition) k (now kinds) (now lines) (tally .lines .0) ⌝ }
+    requires { ⌜ Spare (tally .edition) k (tally .lines .0 + fieldsLeft (now p) at) (now kinds) (now lines) ⌝ }
     ensures { λ r. ⌜ Stopped k (now (p .entry)) at (now (kinds .entry)) (now (lines .entry)) tally (now (kinds .exit)) (now (lines .exit)) r ⌝ }
 {
     let mut here = at;
@@ -484,7 +484,7 @@ fn check_rounding(
     scratch: &mut [u8],
     o: usize,
 ) -> Branched
-    requires { ⌜ Opened k (n .0) by by (now kinds) (now lines) tally (t .0) (now p) at o × FirstStands k (n .0) by by (now kinds) (now lines) (t .0) ⌝ }
+    requires { ⌜ Opened k (n .0) by by (now kinds) (now lines) tally (t .0) (now p) at o × FirstStands (tally .edition) k (n .0) by by (now kinds) (now lines) (t .0) ⌝ }
     requires { ⌜ Multiplies (natAbs g) g × RoundsBy (natAbs g) by ⌝ }
     ensures { λ r. ⌜ RoundingChecked k (row .0) (n .0) (now (p .entry)) at (now (kinds .entry)) (now (lines .entry)) tally (t .0) (natAbs g) by (now (scratch .entry)) o (now (kinds .exit)) (now (lines .exit)) (now (scratch .exit)) r ⌝ }
 {

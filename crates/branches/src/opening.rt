@@ -2,7 +2,6 @@
 ghost use Prim.Native.Nat.{_≤_, _<_};
 ghost use lib.ListN.{length, set};
 ghost use mathlib.Core.Path.{_≡_};
-ghost use Rattle.forms.specs.Edition.{edition1};
 ghost use Rattle.lines.specs.Buffer.{LineStart, LineNegated, startedLine, negatedLine};
 ghost use Rattle.rows.specs.Rows.{Ready};
 ghost use Rattle.branches.specs.Opening.{Opens};
@@ -25,7 +24,7 @@ pub fn start(
     x: u16,
     y: u16,
 )
-    requires { ⌜ LineStart k (now lines) (i .0) (n .0) x y × (edition1 .lines ≤ length (now kinds)) ⌝ }
+    requires { ⌜ LineStart k (now lines) (i .0) (n .0) x y × (n .0 < length (now kinds)) ⌝ }
     ensures lines { λ _. ⌜ now (lines .exit) ≡ startedLine k (i .0) (n .0) x y (now (lines .entry)) ⌝ }
     ensures kinds { λ _. ⌜ now (kinds .exit) ≡ set (now (kinds .entry)) (n .0) kind ⌝ }
 {
@@ -44,7 +43,7 @@ pub fn start_negated(
     x: u16,
     y: u16,
 )
-    requires { ⌜ LineNegated k (now lines) (i .0) (n .0) x y × (edition1 .lines ≤ length (now kinds)) ⌝ }
+    requires { ⌜ LineNegated k (now lines) (i .0) (n .0) x y × (n .0 < length (now kinds)) ⌝ }
     ensures lines { λ _. ⌜ now (lines .exit) ≡ negatedLine k (i .0) (n .0) x y (now (lines .entry)) ⌝ }
     ensures kinds { λ _. ⌜ now (kinds .exit) ≡ set (now (kinds .entry)) (n .0) kind ⌝ }
 {
@@ -62,7 +61,7 @@ pub fn open_step(
     y: u16,
     k: usize,
 ) -> Derived
-    requires { ⌜ Ready k (now kinds) (now lines) (tally .lines .0) ⌝ }
+    requires { ⌜ Ready (tally .edition) k (now kinds) (now lines) (tally .lines .0) ⌝ }
     requires { ⌜ i .0 < tally .lines .0 ⌝ }
     ensures { λ r. ⌜ Opens k (now (kinds .entry)) (now (lines .entry)) tally (i .0) x y (now (kinds .exit)) (now (lines .exit)) r ⌝ }
 {

@@ -4,7 +4,7 @@ ghost use Prim.Native.Nat.{_+_, _*_, _≤_};
 ghost use lib.IntN.{pos, natAbs};
 ghost use lib.Signed.{_≤ℤ_};
 ghost use Rattle.integers.specs.Magnitude.{Within};
-ghost use Rattle.forms.specs.Edition.{edition1};
+ghost use Rattle.forms.specs.Edition.{edition, edition1, newestEdition};
 ghost use Rattle.forms.specs.Forms.{_divides_};
 ghost use Rattle.forms.specs.Reduced.{reduced};
 ghost use Rattle.forms.specs.Flat.{formIn};
@@ -54,7 +54,7 @@ fn test_round(
     by: u16,
     k: usize,
 ) -> Test
-    requires { ⌜ Ready k (now kinds) (now lines) (tally .lines .0) ⌝ }
+    requires { ⌜ Ready (tally .edition) k (now kinds) (now lines) (tally .lines .0) ⌝ }
     requires { ⌜ Multiplies (natAbs g) g ⌝ }
     ensures { λ r. ⌜ Roundable k (now (kinds .entry)) (now (lines .entry)) tally (i .0) (natAbs g) by r ⌝ }
 {
@@ -94,7 +94,7 @@ pub fn round(
     by: u16,
     k: usize,
 ) -> Derived
-    requires { ⌜ Ready k (now kinds) (now lines) (tally .lines .0) ⌝ }
+    requires { ⌜ Ready (tally .edition) k (now kinds) (now lines) (tally .lines .0) ⌝ }
     requires { ⌜ Multiplies (natAbs g) g ⌝ }
     ensures { λ r. ⌜ Rounds k (now (kinds .entry)) (now (lines .entry)) tally (i .0) (natAbs g) by (now (kinds .exit)) (now (lines .exit)) r ⌝ }
 {
@@ -129,7 +129,7 @@ pub fn put_front(
     scratch: &mut [u8],
     o: usize,
 ) -> usize
-    requires { ⌜ (n .0 ≤ edition1 .lines) × Numbered k (now lines) (n .0 * size k + (k + 1)) × Divisor g ⌝ }
+    requires { ⌜ (n .0 ≤ edition newestEdition .lines) × Numbered k (now lines) (n .0 * size k + (k + 1)) × Divisor g ⌝ }
     requires { ⌜ o + 81 ≤ scratchLimit ⌝ }
     ensures { λ r. ⌜ Stores (now (scratch .entry)) o (frontBytes others (natAbs g divides reduced (natAbs g) (formIn k (now (lines .entry)) (n .0 * size k + (k + 1))))) (now (scratch .exit)) r ⌝ }
 {

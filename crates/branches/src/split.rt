@@ -32,7 +32,7 @@ pub fn joined_by(kind: u8) -> u8
 
 // 10, 11, 17, 16, 13; the lines of both branches are tested here, and the first one's stands.
 pub fn split(lines: &mut [i32], kinds: &mut [u8], tally: Tally, i: LineNumber, k: usize) -> Derived
-    requires { ⌜ Ready k (now kinds) (now lines) (tally .lines .0) ⌝ }
+    requires { ⌜ Ready (tally .edition) k (now kinds) (now lines) (tally .lines .0) ⌝ }
     ensures { λ r. ⌜ Splits k (now (kinds .entry)) (now (lines .entry)) tally (i .0) (now (kinds .exit)) (now (lines .exit)) r ⌝ }
 {
     if !is_there(tally, i) {

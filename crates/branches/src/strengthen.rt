@@ -17,7 +17,7 @@ pub fn strengthen(
     i: LineNumber,
     k: usize,
 ) -> Derived
-    requires { ⌜ Ready k (now kinds) (now lines) (tally .lines .0) ⌝ }
+    requires { ⌜ Ready (tally .edition) k (now kinds) (now lines) (tally .lines .0) ⌝ }
     ensures { λ r. ⌜ Strengthens k (now (kinds .entry)) (now (lines .entry)) tally (i .0) (now (kinds .exit)) (now (lines .exit)) r ⌝ }
 {
     if !is_there(tally, i) {

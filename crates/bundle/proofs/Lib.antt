@@ -5,9 +5,13 @@ pub mod Notes
 pub mod Writable
 pub mod RoundTrips
 pub mod Scanning
+pub mod Bodies
 pub mod Storing
+pub mod Ranging
+pub mod Widths
 pub mod Reading
 pub mod Pairs
 pub mod Putting
 pub mod Writing
 pub mod Showing
+pub mod Tables

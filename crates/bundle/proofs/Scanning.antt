@@ -6,84 +6,92 @@ use mathlib.Core.List.{List, _∷_}
 use Prim.Native.Nat.{ℕ, zero, suc, _+_, _-_, _*_, _<_, _≤_}
 use native.Mathlib.Omega.{arith}
 use lib.Dec.{leb, ltb, eqb}
-use lib.ListN.{length}
-use borrow.Author.Tests.{ltb-true, ltb-false, eqb-true, eqb-false, leb-true, leb-false, ne-eqb, le-leb}
-use Rattle.forms.specs.Edition.{edition1, editionNumbered}
+use lib.ListN.{length, take, drop}
+use borrow.Author.Tests.{ltb-true, ltb-false, eqb-true, eqb-false, leb-true, leb-false, ne-eqb, le-leb, lt-leb}
+use Rattle.forms.specs.Edition.{edition, newestEdition}
 use Rattle.forms.specs.Forms.{≤0, =0, ConstraintKind, says, ≠0, Form, Constraint}
 use Rattle.forms.specs.Flat.{kindOf, constraintKindOf}
 use Rattle.fields.specs.declared.FileKind.{FileKind}
+use Rattle.fields.specs.declared.header.Numbered.{Numbered}
 use Rattle.fields.specs.declared.header.Headed.{Headed}
-use Rattle.fields.specs.Answers.{answer, acceptance, Result, refused, accepted, _>>=_, _>>_, need, found}
+use Rattle.fields.specs.Answers.{answer, Result, refused, accepted, _>>=_, _>>_, need, found}
 use Rattle.fields.specs.Numbers.{formFrom, formWidth}
 use Rattle.fields.specs.Fields.{Field, Fields, ends, cut, _▸_, fields, nth}
-use Rattle.fields.specs.Header.{Header, headerTag, known, headerField, header}
-use Rattle.fields.specs.Places.{fieldsAt, givenK, IsHeader}
+use Rattle.fields.specs.Header.{headerTag, known, headerField, editionField, constantsField}
+use Rattle.fields.specs.Places.{fieldsAt, givenK, IsEdition, IsConstants}
 use Rattle.fields.proofs.Places.{Starts, starts-size, starts-less}
-use Rattle.fields.proofs.Results.{Gives, gives-refused, gives-accepted, bind, test, finds}
-use Rattle.bundle.specs.Bundle.{Bundle, kindTagged, constraints, bundle}
-use Rattle.bundle.specs.Scan.{faultOf, unlessFault, counted, stated, countedOf, startOf, constraintStart, soughtOf, scanned}
-use Rattle.bundle.specs.declared.constraints.Counted.{Counted}
+use Rattle.fields.proofs.Results.{Gives, gives-refused, gives-accepted, bind, test}
+use Rattle.bundle.specs.Bundle.{Bundle, kindTagged, atMost, formSmall, constraints, bundleHeader, bundle}
+use Rattle.bundle.specs.Scan.{IsBundleHeader, faultOf, Counted, unlessFault, counted, stated, countedOf, startOf, constraintStart, soughtOf, IsBundle, Scans}
 use Rattle.bundle.specs.declared.constraints.Sought.{Sought}
+use Rattle.bundle.specs.declared.Scanned.{Scanned}
+use Rattle.bundle.specs.declared.Body.{Body}
 
 -- ---- one turn
-module _ {s : List ℕ} {at a t start len next : ℕ} (k : Starts s at a t start len next) (K n : ℕ) where
-  pub counted-on : counted K n (fieldsAt s at) ≡ unlessFault (faultOf K n t len) a (counted K (suc n) (fieldsAt s next))
+module _ {s : List ℕ} {at a t start len next : ℕ} (k : Starts s at a t start len next) (w K n : ℕ) where
+  pub counted-on : counted w K n (fieldsAt s at) ≡ unlessFault (faultOf w K n t (take len (drop start s))) a (counted w K (suc n) (fieldsAt s next))
   unfolding counted
-  counted-on = rw (k .is, starts-size k)
+  counted-on = rw (k .is)
 
-  module _ {number : ℕ} (f : number ≡ faultOf K n t len) where
-    pub counted-fault : (number ≡ 0 → ⊥) → counted K n (fieldsAt s at) ≡ Counted.Refused number a
+  module _ {number : ℕ} (f : number ≡ faultOf w K n t (take len (drop start s))) where
+    pub counted-fault : (number ≡ 0 → ⊥) → counted w K n (fieldsAt s at) ≡ Counted.fault number a
     counted-fault h = counted-on ∙ rw (← f) (go number h)
       where
-        go : (m : ℕ) → (m ≡ 0 → ⊥) → unlessFault m a (counted K (suc n) (fieldsAt s next)) ≡ Counted.Refused m a
+        go : (m : ℕ) → (m ≡ 0 → ⊥) → unlessFault m a (counted w K (suc n) (fieldsAt s next)) ≡ Counted.fault m a
         go zero h = absurd (h refl)
         go (suc m) h = refl
 
-    pub counted-next : number ≡ 0 → counted K n (fieldsAt s at) ≡ counted K (n + 1) (fieldsAt s next)
+    pub counted-next : number ≡ 0 → counted w K n (fieldsAt s at) ≡ counted w K (n + 1) (fieldsAt s next)
     counted-next e =
         let z : suc n ≡ n + 1 = omega arith in
         counted-on ∙ rw (← f, e, z)
 
-pub counted-cut : (K n : ℕ) {fs : Fields} {a : ℕ} → fs ≡ cut a → counted K n fs ≡ Counted.Refused 2 a
+pub counted-cut : (w K n : ℕ) {fs : Fields} {a : ℕ} → fs ≡ cut a → counted w K n fs ≡ Counted.fault 2 a
 unfolding counted
-counted-cut K n e = rw e
+counted-cut w K n e = rw e
 
-pub counted-ends : (K n : ℕ) {fs : Fields} {a : ℕ} → fs ≡ ends a → counted K n fs ≡ Counted.Count n
+pub counted-ends : (w K n : ℕ) {fs : Fields} {a : ℕ} → fs ≡ ends a → counted w K n fs ≡ Counted.count n
 unfolding counted
-counted-ends K n e = rw e
+counted-ends w K n e = rw e
 
 -- ---- a field without fault
-pub record Proper (K n tag len : ℕ) : Type 0 where
+pub record Proper (w K n tag : ℕ) (contents : List ℕ) : Type 0 where
   pub has : known FileKind.Bundle tag ≡ true
   pub from : ltb tag 0x03 ≡ false
-  pub size : eqb len (formWidth 2 K) ≡ true
+  pub size : eqb (length contents) (formWidth w K) ≡ true
   pub room : ltb n 32 ≡ true
+  pub range : formSmall 2_147_483_647 (formFrom w K contents) ≡ true
 
 -- the fault by its tests, each with its equation
-pub proper-of : (K n tag len : ℕ) → faultOf K n tag len ≡ 0 → Proper K n tag len
-proper-of K n tag len e = go (known FileKind.Bundle tag) (ltb tag 0x03) (eqb len (formWidth 2 K)) (ltb n 32) refl refl refl refl e
+pub proper-of : (w K n tag : ℕ) (contents : List ℕ) → faultOf w K n tag contents ≡ 0 → Proper w K n tag contents
+proper-of w K n tag bs e = go (known FileKind.Bundle tag) (ltb tag 0x03) (eqb (length bs) (formWidth w K)) (ltb n 32) (formSmall 2_147_483_647 (formFrom w K bs)) refl refl refl refl refl e
   where
-    go : (p q r u : Bool) → known FileKind.Bundle tag ≡ p → ltb tag 0x03 ≡ q → eqb len (formWidth 2 K) ≡ r → ltb n 32 ≡ u
-        → _≡_ {A = ℕ} (cond p (cond q 4 (cond r (cond u 0 8) 6)) 3) 0 → Proper K n tag len
-    go true false true true a b c d e = record { has = a; from = b; size = c; room = d }
-    go true false true false a b c d e = absurd (omega arith)
-    go true false false u a b c d e = absurd (omega arith)
-    go true true r u a b c d e = absurd (omega arith)
-    go false q r u a b c d e = absurd (omega arith)
+    go : (p q r u v : Bool) → known FileKind.Bundle tag ≡ p → ltb tag 0x03 ≡ q → eqb (length bs) (formWidth w K) ≡ r → ltb n 32 ≡ u → formSmall 2_147_483_647 (formFrom w K bs) ≡ v
+        → _≡_ {A = ℕ} (cond p (cond q 4 (cond r (cond u (cond v 0 13) 8) 6)) 3) 0 → Proper w K n tag bs
+    go true false true true true a b c d f e = record { has = a; from = b; size = c; room = d; range = f }
+    go true false true true false a b c d f e = absurd (omega arith)
+    go true false true false v a b c d f e = absurd (omega arith)
+    go true false false u v a b c d f e = absurd (omega arith)
+    go true true r u v a b c d f e = absurd (omega arith)
+    go false q r u v a b c d f e = absurd (omega arith)
 
 -- such a field has one size, so the next one stands where that ends
-module _ {s : List ℕ} {at a t start len next : ℕ} (k : Starts s at a t start len next) (K n : ℕ) {number : ℕ} (f : number ≡ faultOf K n t len) (e : number ≡ 0) where
-  pub sized-next : next ≡ start + (K + 1) * 2
-  sized-next = omega (arith, k .next-is, eqb-true len (suc K * 2) (proper-of K n t len (sym f ∙ e) .size))
+module _ {s : List ℕ} {at a t start len next : ℕ} (k : Starts s at a t start len next) (w K n : ℕ) {number : ℕ} (f : number ≡ faultOf w K n t (take len (drop start s))) (e : number ≡ 0) where
+  pub sized-next : next ≡ start + (K + 1) * w
+  sized-next =
+      let z : suc K ≡ K + 1 = omega arith in
+      let l : len ≡ suc K * w = sym (starts-size k) ∙ eqb-true (length (take len (drop start s))) (suc K * w) (proper-of w K n t (take len (drop start s)) (sym f ∙ e) .size) in
+      let m = rw z at l in
+      omega (arith, k .next-is, m)
 
-  pub counted-sized : counted K n (fieldsAt s at) ≡ counted K (n + 1) (fieldsAt s (start + (K + 1) * 2))
-  counted-sized = counted-next k K n f e ∙ ap (λ (x : ℕ). counted K (n + 1) (fieldsAt s x)) sized-next
+  pub counted-sized : counted w K n (fieldsAt s at) ≡ counted w K (n + 1) (fieldsAt s (start + (K + 1) * w))
+  counted-sized = counted-next k w K n f e ∙ ap (λ (x : ℕ). counted w K (n + 1) (fieldsAt s x)) sized-next
 
-  pub sized-less : length s - (start + (K + 1) * 2) < length s - at
+  pub sized-less : length s - (start + (K + 1) * w) < length s - at
   sized-less = omega (arith, sized-next, starts-less k)
 
-pub counted-room : (K n tag len : ℕ) {number : ℕ} → number ≡ faultOf K n tag len → number ≡ 0 → n < 32
-counted-room K n tag len f e = ltb-true n 32 (proper-of K n tag len (sym f ∙ e) .room)
+pub counted-room : (w K n tag : ℕ) (contents : List ℕ) {number : ℕ} → number ≡ faultOf w K n tag contents → number ≡ 0 → n < 32
+counted-room w K n tag contents f e = ltb-true n 32 (proper-of w K n tag contents (sym f ∙ e) .room)
 
 -- ---- the constraint that is wanted
 -- Of all the fields n are gone over and fs are left; the place kept is that of field `wanted`, 0 as long as it is not gone over.
@@ -119,10 +127,10 @@ module _ {s : List ℕ} {at a t start len next : ℕ} (k : Starts s at a t start
           let w = eqb-false n wanted q in
           record { ahead = wanted-later; none-yet = λ h. e ∙ g .none-yet (omega arith); behind = λ h. e ∙ g .behind (omega arith) }
 
-pub seeking-end : (K : ℕ) {all : Fields} {wanted n found : ℕ} {fs : Fields} {a : ℕ} → counted K 0 all ≡ counted K n fs → Seeking all wanted n found fs → fs ≡ ends a
-    → Sought.Count n found ≡ soughtOf (startOf (nth wanted all)) (counted K 0 all)
+pub seeking-end : (w K : ℕ) {all : Fields} {wanted n found : ℕ} {fs : Fields} {a : ℕ} → counted w K 0 all ≡ counted w K n fs → Seeking all wanted n found fs → fs ≡ ends a
+    → Sought.Count n found ≡ soughtOf (startOf (nth wanted all)) (counted w K 0 all)
 unfolding nth
-seeking-end K {all} {wanted} {n} {found} c g e = rw (c, counted-ends K n e) (ap (Sought.Count n) (go (ltb wanted n) refl))
+seeking-end w K {all} {wanted} {n} {found} c g e = rw (c, counted-ends w K n e) (ap (Sought.Count n) (go (ltb wanted n) refl))
   where
     go : (p : Bool) → ltb wanted n ≡ p → found ≡ startOf (nth wanted all)
     go true q = g .behind (ltb-true wanted n q)
@@ -130,13 +138,13 @@ seeking-end K {all} {wanted} {n} {found} c g e = rw (c, counted-ends K n e) (ap 
 
 -- what is answered with the place is the count or the fault without it
 module _ (start : ℕ) where
-  pub sought-count : (c : Counted) {q : Sought} {n found : ℕ} → q ≡ soughtOf start c → q ≡ Sought.Count n found → (c ≡ Counted.Count n) × (found ≡ start)
-  sought-count (Counted.Count m) {n = n} {found = found} e f = (ap Counted.Count (let z : m ≡ n = cc in z), let z : found ≡ start = cc in z)
-  sought-count (Counted.Refused x a) e f = absurd (let z : _≡_ {A = ℕ} 0 1 = cc in omega arith)
+  sought-count : (c : Counted) {q : Sought} {n found : ℕ} → q ≡ soughtOf start c → q ≡ Sought.Count n found → (c ≡ Counted.count n) × (found ≡ start)
+  sought-count (Counted.count m) {n = n} {found = found} e f = (ap Counted.count (let z : m ≡ n = cc in z), let z : found ≡ start = cc in z)
+  sought-count (Counted.fault x a) e f = absurd (let z : _≡_ {A = ℕ} 0 1 = cc in omega arith)
 
-  pub sought-refused : (c : Counted) {q : Sought} {n a : ℕ} → q ≡ soughtOf start c → q ≡ Sought.Refused n a → c ≡ Counted.Refused n a
-  sought-refused (Counted.Count m) e f = absurd (let z : _≡_ {A = ℕ} 0 1 = cc in omega arith)
-  sought-refused (Counted.Refused x y) {n = n} {a = a} e f = let z : x ≡ n = cc in let w : y ≡ a = cc in rw (z, w)
+  sought-refused : (c : Counted) {q : Sought} {n a : ℕ} → q ≡ soughtOf start c → q ≡ Sought.Refused n a → c ≡ Counted.fault n a
+  sought-refused (Counted.count m) e f = absurd (let z : _≡_ {A = ℕ} 0 1 = cc in omega arith)
+  sought-refused (Counted.fault x y) {n = n} {a = a} e f = let z : x ≡ n = cc in let w : y ≡ a = cc in rw (z, w)
 
 -- ---- the definitions
 -- a constraint's tag is 0x03, 0x04 or 0x05
@@ -178,95 +186,121 @@ no-kind tag l =
     go false false true a b c = absurd (let z : _≡_ {A = ℕ} 0 1 = cc in omega arith)
     go false false false a b c = refl
 
-module _ (file K : ℕ) where
+module _ (file number K : ℕ) where
+  abbrev width : ℕ
+  width = edition number .coefficientWidth
+
   -- the constraint of a field before those after it
   after : (f : Field) (fs : Fields) (r : Counted)
-      → (countedOf file K fs r >>= (λ (cs : List Constraint). accepted (record { kind = constraintKindOf (f .tag - 3); form = formFrom 2 K (f .contents) } ∷ cs)))
-      ≡ countedOf file K (f ▸ fs) r
+      → (countedOf file width K fs r >>= (λ (cs : List Constraint). accepted (record { kind = constraintKindOf (f .tag - 3); form = formFrom width K (f .contents) } ∷ cs)))
+      ≡ countedOf file width K (f ▸ fs) r
   unfolding _>>=_ stated
-  after f fs (Counted.Count n) = refl
-  after f fs (Counted.Refused n a) = refl
+  after f fs (Counted.count n) = refl
+  after f fs (Counted.fault n a) = refl
 
   -- the tests of one field, each way
-  tests : (a : ℕ) (form : Form) (fs : Fields) (κ : ConstraintKind) (o : Option ConstraintKind) (X : Result (List Constraint)) (c : Counted) (p q r u : Bool)
+  tests : (a : ℕ) (form : Form) (fs : Fields) (κ : ConstraintKind) (o : Option ConstraintKind) (X : Result (List Constraint)) (c : Counted) (p q r u v : Bool)
       → (q ≡ true → o ≡ none) → (p ≡ true → q ≡ false → o ≡ some κ)
-      → (X >>= (λ (cs : List Constraint). accepted (record { kind = κ; form = form } ∷ cs))) ≡ countedOf file K fs c
+      → (X >>= (λ (cs : List Constraint). accepted (record { kind = κ; form = form } ∷ cs))) ≡ countedOf file width K fs c
       → (need (answer 3 file a) p >> (found (answer 4 file a) o >>= (λ (kind : ConstraintKind).
-      need (answer 6 file a) r >> (need (answer 8 file a) u >> (X >>= (λ (cs : List Constraint). accepted (record { kind = kind; form = form } ∷ cs)))))))
-      ≡ countedOf file K fs (unlessFault (cond p (cond q 4 (cond r (cond u 0 8) 6)) 3) a c)
+      need (answer 6 file a) r >> (need (answer 8 file a) u >> (need (answer 13 file a) v >> (X >>= (λ (cs : List Constraint). accepted (record { kind = kind; form = form } ∷ cs))))))))
+      ≡ countedOf file width K fs (unlessFault (cond p (cond q 4 (cond r (cond u (cond v 0 13) 8) 6)) 3) a c)
   unfolding need _>>_ _>>=_ found
-  tests a form fs κ o X c false q r u none-if some-if e = refl
-  tests a form fs κ o X c true true r u none-if some-if e = rw (none-if refl)
-  tests a form fs κ o X c true false false u none-if some-if e = rw (some-if refl refl)
-  tests a form fs κ o X c true false true false none-if some-if e = rw (some-if refl refl)
-  tests a form fs κ o X c true false true true none-if some-if e = rw (some-if refl refl) e
+  tests a form fs κ o X c false q r u v none-if some-if e = refl
+  tests a form fs κ o X c true true r u v none-if some-if e = rw (none-if refl)
+  tests a form fs κ o X c true false false u v none-if some-if e = rw (some-if refl refl)
+  tests a form fs κ o X c true false true false v none-if some-if e = rw (some-if refl refl)
+  tests a form fs κ o X c true false true true false none-if some-if e = rw (some-if refl refl)
+  tests a form fs κ o X c true false true true true none-if some-if e = rw (some-if refl refl) e
 
-  pub constraints-counted : (n : ℕ) (fs : Fields) → constraints file edition1 K n fs ≡ countedOf file K fs (counted K n fs)
+  pub constraints-counted : (n : ℕ) (fs : Fields) → constraints file (edition number) K n fs ≡ countedOf file width K fs (counted width K n fs)
   unfolding constraints counted stated
   constraints-counted n (ends at) = refl
   constraints-counted n (cut at) = refl
   constraints-counted n (f ▸ fs) =
-      tests (f .at) (formFrom 2 K (f .contents)) (f ▸ fs) (constraintKindOf (f .tag - 3)) (kindTagged (f .tag))
-      (constraints file edition1 K (suc n) fs) (counted K (suc n) fs)
-      (known FileKind.Bundle (f .tag)) (ltb (f .tag) 0x03) (eqb (length (f .contents)) (formWidth 2 K)) (ltb n 32)
+      tests (f .at) (formFrom width K (f .contents)) (f ▸ fs) (constraintKindOf (f .tag - 3)) (kindTagged (f .tag))
+      (constraints file (edition number) K (suc n) fs) (counted width K (suc n) fs)
+      (known FileKind.Bundle (f .tag)) (ltb (f .tag) 0x03) (eqb (length (f .contents)) (formWidth width K)) (ltb n 32) (formSmall 2_147_483_647 (formFrom width K (f .contents)))
       (no-kind (f .tag)) (kind-of (f .tag))
-      (rw (constraints-counted (suc n) fs) (after f fs (counted K (suc n) fs)))
+      (rw (constraints-counted (suc n) fs) (after f fs (counted width K (suc n) fs)))
 
-pub passed-both : (x a m : ℕ) (c : Counted) → unlessFault x a c ≡ Counted.Count m → (x ≡ 0) × (c ≡ Counted.Count m)
+pub passed-both : (x a m : ℕ) (c : Counted) → unlessFault x a c ≡ Counted.count m → (x ≡ 0) × (c ≡ Counted.count m)
 passed-both zero a m c e = (refl, e)
 passed-both (suc x) a m c e = absurd (let z : _≡_ {A = ℕ} 0 1 = cc in omega arith)
 
-pub count-is : (K n m : ℕ) (fs : Fields) → counted K n fs ≡ Counted.Count m → m ≡ n + length (stated K fs)
+pub count-is : (w K n m : ℕ) (fs : Fields) → counted w K n fs ≡ Counted.count m → m ≡ n + length (stated w K fs)
 unfolding counted stated
-count-is K n m (ends at) e = let q : n ≡ m = cc in omega arith
-count-is K n m (cut at) e = absurd (let z : _≡_ {A = ℕ} 0 1 = cc in omega arith)
-count-is K n m (f ▸ fs) e = omega (arith, count-is K (suc n) m fs (passed-both (faultOf K n (f .tag) (length (f .contents))) (f .at) m (counted K (suc n) fs) e .1))
+count-is w K n m (ends at) e = let q : n ≡ m = cc in omega arith
+count-is w K n m (cut at) e = absurd (let z : _≡_ {A = ℕ} 0 1 = cc in omega arith)
+count-is w K n m (f ▸ fs) e = omega (arith, count-is w K (suc n) m fs (passed-both (faultOf w K n (f .tag) (f .contents)) (f .at) m (counted w K (suc n) fs) e .1))
 
 -- ---- a whole bundle
 -- the fields after a header field, and after the header
-field-rest : (kind : FileKind) (file tag : ℕ) (fs : Fields) → Gives (headerField kind file tag fs) (λ x. (i : ℕ) → nth (suc i) fs ≡ nth i (x .2))
+field-rest : (file tag : ℕ) (fs : Fields) → Gives (headerField FileKind.Bundle file tag fs) (λ x. (i : ℕ) → nth (suc i) fs ≡ nth i (x .2))
 unfolding headerField nth
-field-rest kind file tag (ends at) = gives-refused _ tt
-field-rest kind file tag (cut at) = gives-refused _ tt
-field-rest kind file tag (f ▸ fs) = test _ _ tt λ _. test _ _ tt λ _. test _ _ tt λ _. gives-accepted (λ i. refl)
+field-rest file tag (ends at) = gives-refused _ tt
+field-rest file tag (cut at) = gives-refused _ tt
+field-rest file tag (f ▸ fs) = test _ _ tt λ _. test _ _ tt λ _. test _ _ tt λ _. gives-accepted (λ i. refl)
 
-header-rest : (kind : FileKind) (file : ℕ) (given : Option ℕ) (fs : Fields) → Gives (header kind file given fs) (λ h. (i : ℕ) → nth (i + 2) fs ≡ nth i (h .rest))
-unfolding header
-header-rest kind file given fs = bind (field-rest kind file 0x01 fs) λ (at, n, fs1) h1. bind (finds _ (editionNumbered n) tt) λ e q. bind (field-rest kind file 0x02 fs1) λ (at2, K, fs2) h2.
-    test _ _ tt λ _. test _ _ tt λ _. gives-accepted (λ i. let z : i + 2 ≡ suc (suc i) = omega arith in rw z (h1 (suc i) ∙ h2 i))
+header-rest : (newest file : ℕ) (given : Option ℕ) (bytes : List ℕ) → Gives (bundleHeader newest file given bytes) (λ h. (i : ℕ) → nth (i + 2) (fields bytes) ≡ nth i (h .rest))
+unfolding bundleHeader editionField constantsField atMost
+header-rest newest file given bytes =
+    bind (bind (field-rest file 0x01 (fields bytes)) λ (at, n, fs1) h1. test _ _ tt λ _. gives-accepted {P = λ x. (i : ℕ) → nth (suc i) (fields bytes) ≡ nth i (x .1)} h1) λ (n, fs1) h1.
+    test _ _ tt λ _.
+    bind (bind (field-rest file 0x02 fs1) λ (at2, K, fs2) h2. test _ _ tt λ _. test _ _ tt λ _. gives-accepted {P = λ x. (i : ℕ) → nth (suc i) fs1 ≡ nth i (x .1)} h2) λ (K, fs2) h2.
+    gives-accepted (λ i. let z : i + 2 ≡ suc (suc i) = omega arith in rw z (h1 (suc i) ∙ h2 i))
 
-module _ {given : ℕ} {s : List ℕ} {r : Headed} (h : IsHeader FileKind.Bundle given s r) where
-  pub scan-header : (file : ℕ) {n a : ℕ} → r ≡ Headed.Refused n a → bundle file (givenK given) (fields s) ≡ refused (answer n file a)
+-- ---- each way through `scan`
+module _ {given : ℕ} {s : List ℕ} {r : Headed} (h : IsBundleHeader newestEdition given s r) where
+  pub scan-header : {n a : ℕ} → r ≡ Headed.Refused n a → (file : ℕ) → bundle newestEdition file (givenK given) s ≡ refused (answer n file a)
   unfolding bundle _>>=_
-  scan-header file e = rw (h .is file, e)
+  scan-header e file = rw (h .is file, e)
 
-  module _ {k next : ℕ} (e : r ≡ Headed.Header k next) (file : ℕ) {q : Counted} (c : q ≡ counted k 0 (fieldsAt s next)) where
-    pub scan-fault : {n a : ℕ} → q ≡ Counted.Refused n a → bundle file (givenK given) (fields s) ≡ refused (answer n file a)
-    unfolding bundle _>>=_
-    scan-fault t = rw (h .is file, e, constraints-counted file k 0 (fieldsAt s next), ← c, t)
+  module _ {number k next : ℕ} (e : r ≡ Headed.Header number k next) where
+    header-is : IsBundleHeader newestEdition given s (Headed.Header number k next)
+    header-is = rw e at h
 
-    pub scan-bundle : {n : ℕ} → q ≡ Counted.Count n
-        → bundle file (givenK given) (fields s) ≡ accepted (record { K = k; constraints = stated k (fieldsAt s next) })
-    unfolding bundle _>>=_
-    scan-bundle t = rw (h .is file, e, constraints-counted file k 0 (fieldsAt s next), ← c, t)
+    start-is : (wanted : ℕ) → startOf (nth wanted (fieldsAt s next)) ≡ constraintStart s wanted
+    start-is wanted = sym (ap startOf (header-rest newestEdition 1 (givenK given) s .gives _ (header-is .is 1) wanted))
 
-    pub scan-count : (start : ℕ) {n : ℕ} → q ≡ Counted.Count n
-        → scanned start (bundle file (givenK given) (fields s)) ≡ record { answer = acceptance; k = k; count = n; start = start }
-    scan-count start {n} t =
-        let m : length (stated k (fieldsAt s next)) ≡ n = omega (arith, count-is k 0 n (fieldsAt s next) (sym c ∙ t)) in
-        ap (scanned start) (scan-bundle t) ∙ rw m
+    module _ {w : ℕ} (v : w ≡ edition number .coefficientWidth) where
+      scan-fault : {n a : ℕ} → counted w k 0 (fieldsAt s next) ≡ Counted.fault n a → (file : ℕ) → bundle newestEdition file (givenK given) s ≡ refused (answer n file a)
+      unfolding bundle _>>=_
+      scan-fault t file = let u = rw v at t in rw (header-is .is file, constraints-counted file number k 0 (fieldsAt s next), u)
 
-  module _ {k next : ℕ} (e : r ≡ Headed.Header k next) (file wanted : ℕ) {q : Sought} (c : q ≡ soughtOf (startOf (nth wanted (fieldsAt s next))) (counted k 0 (fieldsAt s next))) where
-    pub seek-fault : {n a : ℕ} → q ≡ Sought.Refused n a → bundle file (givenK given) (fields s) ≡ refused (answer n file a)
-    seek-fault t = scan-fault e file refl (sought-refused _ _ c t)
+      module _ (wanted : ℕ) {q : Sought} (c : q ≡ soughtOf (startOf (nth wanted (fieldsAt s next))) (counted w k 0 (fieldsAt s next))) where
+        pub seek-fault : {n a : ℕ} → q ≡ Sought.Refused n a → Scans given s wanted (Scanned.Refused n a)
+        seek-fault t = record { by = scan-fault (sought-refused _ _ c t) }
 
-    start-is : startOf (nth wanted (fieldsAt s next)) ≡ constraintStart s wanted
-    start-is =
-        let d : header FileKind.Bundle file (givenK given) (fields s) ≡ accepted (record { edition = edition1; K = k; rest = fieldsAt s next }) = h .is file ∙ rw e in
-        sym (ap startOf (header-rest FileKind.Bundle file (givenK given) (fields s) .gives _ d wanted))
+        pub seek-count : {n found : ℕ} → q ≡ Sought.Count n found → Scans given s wanted (Scanned.Bundle k (record { edition = number; at = next; count = n }) found)
+        seek-count t =
+            let u = sought-count _ _ c t in
+            record { by = (record { header = header-is; counts = rw (← v) (u .0) }, u .1 ∙ start-is wanted) }
 
-    pub seek-count : {n found : ℕ} → q ≡ Sought.Count n found
-        → scanned (constraintStart s wanted) (bundle file (givenK given) (fields s)) ≡ record { answer = acceptance; k = k; count = n; start = found }
-    seek-count t =
-        let u = sought-count _ _ c t in
-        scan-count e file refl (constraintStart s wanted) (u .0) ∙ rw (u .1, start-is)
+-- what `scan` tells, by its answer
+module _ {given : ℕ} {s : List ℕ} {wanted : ℕ} {r : Scanned} (h : Scans given s wanted r) where
+  pub scanned-bundle : {K : ℕ} {body : Body} {start : ℕ} → r ≡ Scanned.Bundle K body start → IsBundle given s K body × (start ≡ constraintStart s wanted)
+  scanned-bundle e = rw e at (h .by)
+
+  pub scanned-refused : {n a : ℕ} → r ≡ Scanned.Refused n a → (file : ℕ) → bundle newestEdition file (givenK given) s ≡ refused (answer n file a)
+  scanned-refused e = rw e at (h .by)
+
+-- ---- opening: the two header fields, and the length between them
+module _ {newest given : ℕ} {s : List ℕ} {r : Numbered} (f : IsEdition FileKind.Bundle newest s r) where
+  pub open-refused : {n a : ℕ} → r ≡ Numbered.Refused n a → IsBundleHeader newest given s (Headed.Refused n a)
+  unfolding bundleHeader _>>=_
+  open-refused e = record { is = λ file. rw (f .is file, e) }
+
+  module _ {v at : ℕ} (e : r ≡ Numbered.Value v at) where
+    pub open-long : edition v .bundleBytes < length s → IsBundleHeader newest given s (Headed.Refused 1 0)
+    unfolding bundleHeader atMost need _>>_ _>>=_
+    open-long h = record { is = λ file. rw (f .is file, e, lt-leb (length s) (edition v .bundleBytes) h) }
+
+    module _ (h : length s ≤ edition v .bundleBytes) {q : Numbered} (k : IsConstants FileKind.Bundle given s at q) where
+      pub open-k-refused : {n a : ℕ} → q ≡ Numbered.Refused n a → IsBundleHeader newest given s (Headed.Refused n a)
+      unfolding bundleHeader atMost need _>>_ _>>=_
+      open-k-refused d = record { is = λ file. rw (f .is file, e, le-leb (length s) (edition v .bundleBytes) h, k .is file, d) }
+
+      pub open-value : {K next : ℕ} → q ≡ Numbered.Value K next → IsBundleHeader newest given s (Headed.Header v K next)
+      unfolding bundleHeader atMost need _>>_ _>>=_
+      open-value d = record { is = λ file. rw (f .is file, e, le-leb (length s) (edition v .bundleBytes) h, k .is file, d) }

@@ -9,3 +9,4 @@ pub mod Put
 pub mod Show
 pub mod Promises
 pub mod Locate
+pub mod Tables

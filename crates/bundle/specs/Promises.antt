@@ -1,4 +1,5 @@
--- What the functions read, write, show and show_answer ensure, each as one record; the theorems of `guarantee` speak of these very records. Assumes nothing.
+-- What the functions read, write, show and show_answer ensure, each as one record; the theorems of `guarantee` speak of these very records.
+-- This office reads and writes editions up to the newest. Assumes nothing.
 use mathlib.Core.Path.{_≡_}
 use mathlib.Core.Bool.{cond}
 use mathlib.Core.List.{List}
@@ -7,6 +8,7 @@ use lib.Dec.{eqb}
 use lib.IntN.{ℤ}
 use lib.ListN.{take, drop}
 use denote.Ref.{RefT}
+use Rattle.forms.specs.Edition.{newestEdition}
 use Rattle.fields.specs.declared.Answer.{Answer}
 use Rattle.fields.specs.declared.WriteResult.{WriteResult}
 use Rattle.fields.specs.Answers.{fileA, writtenOf}
@@ -17,14 +19,14 @@ use Rattle.bundle.specs.declared.ReadResult.{ReadResult}
 
 -- ---- reading: it returns r, and the outputs lent as kinds and numbers are kinds′ and numbers′ afterwards
 abbrev pub readOf : ReadResult → List ℕ → List ℤ → BundleRead
-readOf r kinds numbers = record { answer = r .answer; count = r .count; K = r .k; kinds = kinds; numbers = numbers }
+readOf r kinds numbers = record { answer = r .answer; edition = r .edition; count = r .count; K = r .k; kinds = kinds; numbers = numbers }
 
 pub record Reads (file kinds : List ℕ) (numbers : List ℤ) (kinds′ : List ℕ) (numbers′ : List ℤ) (r : ReadResult) : Type 0 where
-  pub is : readOf r kinds′ numbers′ ≡ readBundle kinds numbers file
+  pub is : readOf r kinds′ numbers′ ≡ readBundle kinds numbers newestEdition file
 
 -- ---- writing: it returns r, and the lent output is `left` afterwards
-pub record Writes (K : ℕ) (kinds : List ℕ) (numbers : List ℤ) (output left : List ℕ) (r : WriteResult) : Type 0 where
-  pub is : writtenOf r left ≡ writeBundle K kinds numbers output
+pub record Writes (n K : ℕ) (kinds : List ℕ) (numbers : List ℤ) (output left : List ℕ) (r : WriteResult) : Type 0 where
+  pub is : writtenOf r left ≡ writeBundle newestEdition n K kinds numbers output
 
 -- ---- showing
 -- A's or B's, by a part's file.
@@ -43,8 +45,8 @@ partPlace p a b = behind (ofFile (p .file) a b) (p .start)
 
 -- It returns r, a part of the buffers a and b: these bytes, and in these places.
 pub record Shows (a b : RefT (List ℕ)) (line : ℕ) (r : RefT (List ℕ)) : Type 0 where
-  pub bytes : r .now ≡ partBytes (showPart (a .now) (b .now) line) (a .now) (b .now)
-  pub place : r .ptr ≡ partPlace (showPart (a .now) (b .now) line) (a .ptr) (b .ptr)
+  pub bytes : r .now ≡ partBytes (showPart newestEdition (a .now) (b .now) line) (a .now) (b .now)
+  pub place : r .ptr ≡ partPlace (showPart newestEdition (a .now) (b .now) line) (a .ptr) (b .ptr)
 
 pub record AnswersShow (A B : List ℕ) (line : ℕ) (r : Answer) : Type 0 where
-  pub is : r ≡ showAnswer A B line
+  pub is : r ≡ showAnswer newestEdition A B line

@@ -10,7 +10,7 @@ use borrow.Author.Tests.{leb-true}
 use Rattle.fields.specs.Answers.{Result, refused, accepted, Written, writtenOf, over, fit, written}
 use Rattle.files.specs.Text.{Put, PutNumber, PutRefused, RefusedLine, ascii, hexOf}
 use Rattle.files.proofs.Texts.{both, uncut}
-use Rattle.proof.specs.Check.{check}
+use Rattle.proof.specs.Check.{checkBy, check}
 use Rattle.fields.specs.declared.WriteResult.{WriteResult}
 use Rattle.checker.specs.Said.{AcceptedLines, Printed, PutAccepted}
 
@@ -26,7 +26,7 @@ written-counts (refused a) out = omega arith
 written-counts (accepted bytes) out = fit-counts out bytes (leb (length bytes) (length out))
 
 check-counts : (A B P out : List ℕ) → check A B P out .count ≤ length (check A B P out .output)
-unfolding check
+unfolding check checkBy
 check-counts A B P out = written-counts _ out
 
 pub count-within : (A B P out : List ℕ) (c : WriteResult) (out₁ : List ℕ) → writtenOf c out₁ ≡ check A B P out → c .count ≤ length out₁
@@ -44,7 +44,7 @@ written-few (refused a) out = omega arith
 written-few (accepted bytes) out = fit-few out bytes (leb (length bytes) (length out)) refl
 
 check-few : (A B P out : List ℕ) → check A B P out .count ≤ length out
-unfolding check
+unfolding check checkBy
 check-few A B P out = written-few _ out
 
 pub few : (A B P out : List ℕ) (c : WriteResult) (out₁ : List ℕ) → writtenOf c out₁ ≡ check A B P out → c .count ≤ length out

@@ -23,5 +23,5 @@ module _ (p : List ℕ) where
   left-few zero at h = by-next at (λ next l u. absurd (omega arith)) (nextOf (fieldsAt p at)) refl
   left-few (suc fuel) at h = by-next at (λ next l u. left-few fuel next (omega arith)) (nextOf (fieldsAt p at)) refl
 
-  pub fields-few : (at : ℕ) → 3 * fieldsLeft p at ≤ length p
-  fields-few at = omega (arith, left-few (length p) at (omega arith))
+  pub fields-few : (at : ℕ) → 3 * fieldsLeft p at ≤ length p - at
+  fields-few at = left-few (length p) at (omega arith)

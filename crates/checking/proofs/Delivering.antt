@@ -33,8 +33,8 @@ delivered h f out n o eh ef l =
     let w : length (h ++ f) ≡ n + o = length-append h f ∙ omega arith in
     rw (s, t, u, v, w)
 
-holds-size : (K : ℕ) {bytes : List ℕ} {o : ℕ} {S : List ℕ} → Holds bytes o S → length (headerBytes K ++ bytes) ≡ 8 + o
-holds-size K {bytes} h = length-append (headerBytes K) bytes ∙ omega (arith, length-headerBytes K, h .o-is)
+holds-size : (K : ℕ) {bytes : List ℕ} {o : ℕ} {S : List ℕ} → Holds bytes o S → length (headerBytes 1 K ++ bytes) ≡ 8 + o
+holds-size K {bytes} h = length-append (headerBytes 1 K) bytes ∙ omega (arith, length-headerBytes 1 K, h .o-is)
 
 -- a file that is too long, and one that is not
 file-long : (bytes : List ℕ) (n : ℕ) → length bytes ≡ n → 65536 < n → fileWithin bytes ≡ refused (answer 1 4 n)
@@ -59,22 +59,22 @@ fit-done bytes out n e h = ap (λ (b : Bool). fit out b bytes) (le-leb (length b
 module _ {K : ℕ} {S : List ℕ} {o : ℕ} {out : List ℕ} where
   pub deliver-long : {r : WriteResult} → 65536 < 8 + o → r ≡ unwritten 1 4 (8 + o) → Delivers K S o out out r
   unfolding written
-  deliver-long h e = record { is = λ bytes x. rw (e, file-long (headerBytes K ++ bytes) (8 + o) (holds-size K x) h) }
+  deliver-long h e = record { is = λ bytes x. rw (e, file-long (headerBytes 1 K ++ bytes) (8 + o) (holds-size K x) h) }
 
   module _ (few : 8 + o ≤ 65536) (room : o ≤ length S) where
     pub deliver-short : {r : WriteResult} → length out < 8 + o → r ≡ unwritten 21 4 (8 + o) → Delivers K S o out out r
     deliver-short h e = record {
-      is = λ bytes x. rw (e, file-fits (headerBytes K ++ bytes) (8 + o) (holds-size K x) few) (sym (fit-short (headerBytes K ++ bytes) out (8 + o) (holds-size K x) h));
+      is = λ bytes x. rw (e, file-fits (headerBytes 1 K ++ bytes) (8 + o) (holds-size K x) few) (sym (fit-short (headerBytes 1 K ++ bytes) out (8 + o) (holds-size K x) h));
     }
 
-    pub deliver-done : {out₁ out₂ : List ℕ} {x : Answer} → 8 + o ≤ length out → out₁ ≡ sets out 0 (headerBytes K) → out₂ ≡ paste out₁ 8 (take o S) o → x ≡ acceptance
+    pub deliver-done : {out₁ out₂ : List ℕ} {x : Answer} → 8 + o ≤ length out → out₁ ≡ sets out 0 (headerBytes 1 K) → out₂ ≡ paste out₁ 8 (take o S) o → x ≡ acceptance
         → Delivers K S o out out₂ (record { answer = x; count = 8 + o })
     deliver-done {out₁} {out₂} h p q e = record {
       is = λ bytes x.
-          let w : out₂ ≡ over (headerBytes K ++ bytes) out
-          = q ∙ ap (λ (y : List ℕ). paste y 8 (take o S) o) p ∙ delivered (headerBytes K) (take o S) out 8 o (length-headerBytes K) (length-take-le o S room) h
-          ∙ ap (λ (y : List ℕ). over (headerBytes K ++ y) out) (x .stored (omega arith)) in
-          rw (e, w, file-fits (headerBytes K ++ bytes) (8 + o) (holds-size K x) few) (sym (fit-done (headerBytes K ++ bytes) out (8 + o) (holds-size K x) h));
+          let w : out₂ ≡ over (headerBytes 1 K ++ bytes) out
+          = q ∙ ap (λ (y : List ℕ). paste y 8 (take o S) o) p ∙ delivered (headerBytes 1 K) (take o S) out 8 o (length-headerBytes 1 K) (length-take-le o S room) h
+          ∙ ap (λ (y : List ℕ). over (headerBytes 1 K ++ y) out) (x .stored (omega arith)) in
+          rw (e, w, file-fits (headerBytes 1 K ++ bytes) (8 + o) (holds-size K x) few) (sym (fit-done (headerBytes 1 K ++ bytes) out (8 + o) (holds-size K x) h));
     }
 
 -- ---- a copy

@@ -1,36 +1,27 @@
 -- Loading the constraints of a bundle: one turn of each loop, and what the lines of the buffer then are. Assumes nothing.
-use mathlib.Core.Path.{_≡_, refl, sym, ap, ap₂, _∙_, subst}
-use mathlib.Core.Bool.{Bool, true, false, _&&_, true≢false}
+use mathlib.Core.Path.{_≡_, refl, sym, ap, ap₂, _∙_}
+use mathlib.Core.Bool.{Bool, true, false}
 use mathlib.Core.List.{List, [], _∷_, _++_, map, append-assoc, append-nil}
 use mathlib.Core.Logic.{_⊎_, inl, inr, ⊎-elim}
 use Prim.Native.Nat.{ℕ, zero, suc, _+_, _*_, _-_, _≤_, _<_}
-use native.Mathlib.Nat.{suc-mul, mul-le-mul-right, eq-or-lt-of-le, eq-zero-or-pos}
+use native.Mathlib.Nat.{suc-mul, mul-le-mul-right, eq-zero-or-pos}
 use native.Mathlib.Numerals.{add-one}
 use native.Mathlib.Omega.{arith}
-use lib.Dec.{leb}
-use borrow.Author.Tests.{ltb-false, eqb-true, eq-eqb, ne-eqb, leb-true}
-use lib.IntN.{ℤ, pos, negsuc, natAbs, _*ℤ_, zero-*ℤ}
-use lib.Signed.{mag}
-use mir.Syntax.{w16}
-use mir.Val.{SFits}
+use lib.Dec.{T, leb→le}
+use borrow.Author.Tests.{ltb-false, eqb-true, eq-eqb, ne-eqb}
+use lib.IntN.{ℤ, pos, _*ℤ_, zero-*ℤ}
 use lib.ListN.{length, getD, take, drop, set, replicate, length-replicate, getD-replicate, length-append, length-map, length-set}
-use lib.Seq.{paste, drop-drop, length-paste, take-take, take-all, take-at, getD-at, getD-set-same}
+use lib.Seq.{paste, sets, sets-eq, length-sets, length-paste, take-take, take-all, take-at, getD-at, getD-set-same}
 use Rattle.integers.specs.Magnitude.{Within}
-use Rattle.forms.specs.Forms.{Form, LineKind, Line, kindOn, _·_}
+use Rattle.forms.specs.Forms.{Form, LineKind, Line, kindOn, small, every, _·_}
 use Rattle.calculus.specs.Rules.{_▷_}
 use Rattle.fields.specs.Numbers.{signed, signeds, flat, formFrom}
-use Rattle.fields.specs.declared.FileKind.{FileKind}
-use Rattle.fields.specs.declared.header.Headed.{Headed}
-use Rattle.fields.specs.Answers.{answer, refused, accepted}
 use Rattle.fields.specs.Fields.{ends, cut}
-use Rattle.fields.specs.Header.{headerTag, known}
-use Rattle.fields.specs.Places.{fieldsAt, IsHeader}
-use Rattle.fields.proofs.Results.{one-value}
-use Rattle.fields.proofs.Places.{Starts}
-use Rattle.bundle.specs.Bundle.{Bundle}
-use Rattle.bundle.specs.Scan.{faultOf, counted, stated}
-use Rattle.bundle.specs.declared.constraints.Counted.{Counted}
-use Rattle.bundle.proofs.Scanning.{counted-on, passed-both, count-is, proper-of, scan-header, scan-fault, scan-bundle}
+use Rattle.fields.specs.Places.{fieldsAt}
+use Rattle.fields.proofs.Places.{Starts, starts-size}
+use Rattle.bundle.specs.Bundle.{formSmall}
+use Rattle.bundle.specs.Scan.{faultOf, count, fault, counted, stated}
+use Rattle.bundle.proofs.Scanning.{counted-on, passed-both, count-is, proper-of, tag-most}
 use Rattle.fields.proofs.Signed.{length-signeds, signeds-take, signeds-last}
 use Rattle.lines.specs.Parts.{part, Agree}
 use Rattle.lines.proofs.Parts.{part-take, part-paste, getD-part, agree-sym, agree-trans, agree-le, agree-getD, agree-part, agree-set, agree-paste}
@@ -38,61 +29,24 @@ use Rattle.forms.specs.Flat.{constraintKindOf, lineKindOf, formIn}
 use Rattle.forms.proofs.Flat.{kind-in-A, kind-in-B, kind-apart-B}
 use Rattle.lines.specs.Buffer.{size, times, lineIn, linesIn, Bounded}
 use Rattle.lines.proofs.Lines.{form-ext, line-ext, before, lines-more}
-use Rattle.lines.proofs.Fill.{Filled, filled-none, filled-length, filled-next}
-use Rattle.checking.specs.Load.{Copies, NumbersStored, partialOf, partialForm, sideOf, lineByte, lineOf, Space, Loads, Loaded, formLine, Able, Bundled, BundleLoaded}
+use Rattle.lines.proofs.Fill.{Filled, filled-length, filled-next}
+use Rattle.lines.proofs.Range.{every-at}
+use Rattle.checking.specs.Load.{Copies, NumbersStored, partialOf, partialForm, sideOf, lineByte, lineOf, Space, Loads, Loaded, formLine, Able}
 
 le-or-lt : (a b : ℕ) → (a ≤ b) ⊎ (b < a)
 le-or-lt a b = ⊎-elim (λ e. inl (omega arith)) (λ h. inr (omega arith)) (eq-zero-or-pos (a - b))
 
--- ---- numbers in a row
-pub getD-signeds : (w n : ℕ) (bs : List ℕ) (j : ℕ) → j < n → getD (signeds w n bs) j (pos 0) ≡ signed (take w (drop (j * w) bs))
-unfolding signeds
-getD-signeds w zero bs j h = absurd (omega arith)
-getD-signeds w (suc n) bs zero h = let z : 0 * w ≡ 0 = omega arith in rw z
-getD-signeds w (suc n) bs (suc j) h =
-    let z : w + j * w ≡ suc j * w = omega (arith, suc-mul j w) in
-    getD-signeds w n (drop w bs) j (omega arith) ∙ rw (drop-drop (j * w) w bs, z)
+-- ---- numbers of a bundle
+-- a run of stores is a copy of all of them
+sets-paste : (buf : List ℤ) (at : ℕ) (zs : List ℤ) (n : ℕ) → length zs ≡ n → at + n ≤ length buf → sets buf at zs ≡ paste buf at zs n
+sets-paste buf at zs n e h = sets-eq zs buf at (omega arith) ∙ rw (e, take-all n zs (omega arith))
 
-abs-mag : (z : ℤ) → natAbs z ≤ mag z + 1
-abs-mag (pos n) = omega arith
-abs-mag (negsuc n) = omega arith
-
-small-short : {z : ℤ} → SFits w16 z → Within 2147483647 z
-small-short {z} h = record { abs = omega (arith, abs-mag z, h .sfits) }
-
--- The first i numbers are in place.
-pub record Turn (s : List ℕ) (start n : ℕ) (buf₀ : List ℤ) (at : ℕ) (buf : List ℤ) (i : ℕ) : Type 0 where
-  pub filled : Filled buf₀ at (signeds 2 n (drop start s)) buf i
-  pub small : (j : ℕ) → j < i → Within 2147483647 (getD (signeds 2 n (drop start s)) j (pos 0))
-
-pub turn-none : {s : List ℕ} {start n : ℕ} {buf : List ℤ} {at : ℕ} → Turn s start n buf at buf 0
-turn-none = record { filled = filled-none; small = λ j h. absurd (omega arith) }
-
-module _ {s : List ℕ} {start n : ℕ} {buf₀ : List ℤ} {at : ℕ} (q : Copies s start n buf₀ at) {buf : List ℤ} {i : ℕ} (v : Turn s start n buf₀ at buf i) where
-  fits : at + length (signeds 2 n (drop start s)) ≤ length buf₀
-  fits = omega (arith, q .room, length-signeds 2 n (drop start s))
-
-  pub turn-length : length buf ≡ length buf₀
-  turn-length = filled-length fits (v .filled)
-
-  pub turn-most : i ≤ n
-  turn-most = omega (arith, v .filled .upto, length-signeds 2 n (drop start s))
-
-  pub turn-next : {x : ℤ} → i < n → x ≡ signed (take 2 (drop (start + i * 2) s)) → SFits w16 x → Turn s start n buf₀ at (set buf (at + i) x) (i + 1)
-  turn-next {x} h e r =
-      let is : x ≡ getD (signeds 2 n (drop start s)) i (pos 0) = e ∙ sym (getD-signeds 2 n (drop start s) i h ∙ rw (drop-drop (i * 2) start s)) in
-      record {
-        filled = filled-next fits (v .filled) x (pos 0) is (omega (arith, length-signeds 2 n (drop start s)));
-        small = λ j l. ⊎-elim
-            (λ (z : j ≡ i). rw (z, ← is) (small-short r))
-            (λ (m : j < i). v .small j m)
-            (eq-or-lt-of-le (omega arith));
-      }
-
-  pub turn-done : n ≤ i → NumbersStored buf₀ at (signeds 2 n (drop start s)) n buf
-  turn-done h =
-      let z : i ≡ n = omega (arith, turn-most) in
-      record { is = rw z at (v .filled .is); small = λ j l. v .small j (omega arith) }
+pub stored-all : {s : List ℕ} {start w n : ℕ} {buf : List ℤ} {at : ℕ} → Copies s start w n buf at → {buf′ : List ℤ} → buf′ ≡ sets buf at (signeds w n (drop start s))
+    → NumbersStored buf at (signeds w n (drop start s)) n buf′
+stored-all {s} {start} {w} {n} {buf} {at} q e = record {
+  is = e ∙ sets-paste buf at (signeds w n (drop start s)) n (length-signeds w n (drop start s)) (q .room);
+  small = q .small;
+}
 
 -- ---- zeros
 zero-small : Within 2147483647 (pos 0)
@@ -163,7 +117,7 @@ from-coeffs w K bs = length-signeds w K bs
 
 -- ---- room for lines
 pub space-less : {K c d : ℕ} {kinds : List ℕ} {buf : List ℤ} → d ≤ c → Space K c kinds buf → Space K d kinds buf
-space-less {K} h s = record { constants = s .constants; room = omega (arith, s .room, mul-le-mul-right (size K) h); most = omega (arith, s .most); kinds-room = s .kinds-room }
+space-less {K} h s = record { constants = s .constants; room = omega (arith, s .room, mul-le-mul-right (size K) h); most = omega (arith, s .most); kinds-room = omega (arith, s .kinds-room) }
 
 -- it is kept where the lengths are
 pub space-kept : {K c : ℕ} {kinds kinds₁ : List ℕ} {buf buf₁ : List ℤ} → length kinds₁ ≡ length kinds → length buf₁ ≡ length buf → Space K c kinds buf → Space K c kinds₁ buf₁
@@ -265,18 +219,37 @@ line-named false (suc zero) h = kind-in-B 1 (omega arith)
 line-named false (suc (suc zero)) h = kind-apart-B
 line-named false (suc (suc (suc kind))) h = absurd (omega arith)
 
+-- A form whose numbers are within the range, number by number.
+pub numbers-small : (w K : ℕ) (bs : List ℕ) → T (formSmall 2_147_483_647 (formFrom w K bs)) → (j : ℕ) → j < K + 1 → Within 2_147_483_647 (getD (signeds w (K + 1) bs) j (pos 0))
+unfolding formSmall small
+numbers-small w K bs t j h =
+    let u : T (every (small 2_147_483_647) (signeds w (K + 1) bs)) = rw (← flat-from w K bs) t in
+    record { abs = leb→le _ _ (every-at (small 2_147_483_647) (signeds w (K + 1) bs) j (pos 0) u (omega (arith, length-signeds w (K + 1) bs))) }
+
 -- The form at a place and its tA.
-module _ {s : List ℕ} {start K kind : ℕ} {kinds : List ℕ} {buf : List ℤ} {n : ℕ} (g : Loads s start K kind kinds buf n) (inA : Bool) where
-  pub form-loaded : {buf₁ buf₂ : List ℤ} → NumbersStored buf (n * size K) (signeds 2 (K + 1) (drop start s)) (K + 1) buf₁
-      → NumbersStored buf₁ (n * size K + (K + 1)) (partialOf inA (signeds 2 (K + 1) (drop start s))) (K + 1) buf₂
-      → Loaded K kinds buf n (formLine inA K kind s start ∷ []) (set kinds n (lineByte inA kind)) buf₂
-  form-loaded p q =
-      let t = formFrom 2 K (drop start s) in
-      let l = length-signeds 2 (K + 1) (drop start s) in
-      line-loaded K kinds buf n (lineByte inA kind) (signeds 2 (K + 1) (drop start s)) (partialOf inA (signeds 2 (K + 1) (drop start s))) (g .space) l
-      (partial-length inA (signeds 2 (K + 1) (drop start s)) ∙ l) p q
-      (line-named inA kind (g .kind-few)) t (partialForm inA t) (from-coeffs 2 K (drop start s)) (partial-coeffs inA t ∙ from-coeffs 2 K (drop start s)) (flat-from 2 K (drop start s))
-      (flat-partial inA t ∙ ap (partialOf inA) (flat-from 2 K (drop start s)))
+module _ {s : List ℕ} {start w K kind : ℕ} {kinds : List ℕ} {buf : List ℤ} {n : ℕ} (g : Loads s start w K kind kinds buf n) where
+  -- both have room
+  pub copies-t : {at : ℕ} → at ≡ n * size K → Copies s start w (K + 1) buf at
+  copies-t e = record { width = g .width; bytes = g .bytes; room = omega (arith, space-end (g .space), e); small = numbers-small w K (drop start s) (g .small) }
+
+  pub copies-tA : {at : ℕ} {buf₁ : List ℤ} → at ≡ n * size K → buf₁ ≡ sets buf at (signeds w (K + 1) (drop start s)) → Copies s start w (K + 1) buf₁ (at + (K + 1))
+  copies-tA {at} e q = record {
+    width = g .width;
+    bytes = g .bytes;
+    room = rw (q, length-sets buf at (signeds w (K + 1) (drop start s))) (omega (arith, space-end (g .space), e));
+    small = numbers-small w K (drop start s) (g .small);
+  }
+
+  pub form-loaded : (inA : Bool) {buf₁ buf₂ : List ℤ} → NumbersStored buf (n * size K) (signeds w (K + 1) (drop start s)) (K + 1) buf₁
+      → NumbersStored buf₁ (n * size K + (K + 1)) (partialOf inA (signeds w (K + 1) (drop start s))) (K + 1) buf₂
+      → Loaded K kinds buf n (formLine inA w K kind s start ∷ []) (set kinds n (lineByte inA kind)) buf₂
+  form-loaded inA p q =
+      let t = formFrom w K (drop start s) in
+      let l = length-signeds w (K + 1) (drop start s) in
+      line-loaded K kinds buf n (lineByte inA kind) (signeds w (K + 1) (drop start s)) (partialOf inA (signeds w (K + 1) (drop start s))) (g .space) l
+      (partial-length inA (signeds w (K + 1) (drop start s)) ∙ l) p q
+      (line-named inA kind (g .kind-few)) t (partialForm inA t) (from-coeffs w K (drop start s)) (partial-coeffs inA t ∙ from-coeffs w K (drop start s)) (flat-from w K (drop start s))
+      (flat-partial inA t ∙ ap (partialOf inA) (flat-from w K (drop start s)))
 
 -- ---- lines one after the other
 pub loaded-none : {K : ℕ} {kinds : List ℕ} {buf : List ℤ} {n : ℕ} → Loaded K kinds buf n [] kinds buf
@@ -303,71 +276,66 @@ form-front w K m bs h =
     (signeds-take w K m bs (omega (arith, suc-mul K w)))
     (ap signed (part-take (K * w) w m bs (omega (arith, suc-mul K w))))
 
--- ---- the tags of a bundle's constraints
-last-tag : (tag : ℕ) → known FileKind.Bundle tag ≡ true → 3 ≤ tag → tag ≤ 5
-unfolding known headerTag
-last-tag tag e h =
-    let one = ne-eqb tag 0x01 (λ z. omega arith) in
-    let two = ne-eqb tag 0x02 (λ z. omega arith) in
-    let both : (leb 0x03 tag && leb tag 0x05) ≡ true = sym (rw (one, two)) ∙ e in
-    below (leb 0x03 tag) (leb tag 0x05) refl both
-  where
-    below : (p q : Bool) → leb tag 0x05 ≡ q → (p && q) ≡ true → tag ≤ 5
-    below true true f g = leb-true tag 5 f
-    below true false f g = absurd (true≢false (sym g))
-    below false q f g = absurd (true≢false (sym g))
-
 -- ---- the fields of a bundle
 -- The invariant: what is left to load gives what the whole gives.
-pub record Loading (inA : Bool) (s : List ℕ) (at K : ℕ) (kinds₀ : List ℕ) (buf₀ : List ℤ) (n : ℕ) (kinds : List ℕ) (buf : List ℤ) (here m : ℕ) : Type 0 where
+pub record Loading (inA : Bool) (s : List ℕ) (at w K : ℕ) (kinds₀ : List ℕ) (buf₀ : List ℤ) (n : ℕ) (kinds : List ℕ) (buf : List ℤ) (here m : ℕ) : Type 0 where
+  pub width : (w ≡ 2) ⊎ (w ≡ 4)
   pub done : ℕ
   pub m-is : m ≡ n + done
-  pub count : ℕ
-  pub space : Space K (n + count) kinds buf
-  pub is : counted K done (fieldsAt s here) ≡ Counted.Count count
+  pub total : ℕ
+  pub space : Space K (n + total) kinds buf
+  pub is : counted w K done (fieldsAt s here) ≡ count total
   pub kinds-length : length kinds ≡ length kinds₀
   pub lines-length : length buf ≡ length buf₀
-  pub rest : {kinds′ : List ℕ} {buf′ : List ℤ} → Loaded K kinds buf m (map (lineOf inA) (stated K (fieldsAt s here))) kinds′ buf′
-      → Loaded K kinds₀ buf₀ n (map (lineOf inA) (stated K (fieldsAt s at))) kinds′ buf′
+  pub rest : {kinds′ : List ℕ} {buf′ : List ℤ} → Loaded K kinds buf m (map (lineOf inA) (stated w K (fieldsAt s here))) kinds′ buf′
+      → Loaded K kinds₀ buf₀ n (map (lineOf inA) (stated w K (fieldsAt s at))) kinds′ buf′
 
-pub loading-start : {inA : Bool} {s : List ℕ} {at K : ℕ} {kinds : List ℕ} {buf : List ℤ} {n : ℕ} → Able K (fieldsAt s at) kinds buf n → Loading inA s at K kinds buf n kinds buf at n
-loading-start a = record { done = 0; m-is = omega arith; count = a .count; space = a .space; is = a .is; kinds-length = refl; lines-length = refl; rest = λ l. l }
+pub loading-start : {inA : Bool} {s : List ℕ} {at w K : ℕ} {kinds : List ℕ} {buf : List ℤ} {n : ℕ} → Able w K (fieldsAt s at) kinds buf n → Loading inA s at w K kinds buf n kinds buf at n
+loading-start a = record { width = a .width; done = 0; m-is = omega arith; total = a .m; space = a .space; is = a .is; kinds-length = refl; lines-length = refl; rest = λ l. l }
 
 -- What a turn needs.
-pub record Fit (s : List ℕ) (K : ℕ) (kinds : List ℕ) (buf : List ℤ) (m tag start len : ℕ) : Type 0 where
+pub record Fit (s : List ℕ) (w K : ℕ) (kinds : List ℕ) (buf : List ℤ) (m tag start len : ℕ) : Type 0 where
   pub from : 3 ≤ tag
-  pub len-is : len ≡ suc K * 2
-  pub loads : Loads s start K (tag - 3) kinds buf m
+  pub len-is : len ≡ suc K * w
+  pub loads : Loads s start w K (tag - 3) kinds buf m
 
-module _ {inA : Bool} {s : List ℕ} {at K : ℕ} {kinds₀ : List ℕ} {buf₀ : List ℤ} {n : ℕ} {kinds : List ℕ} {buf : List ℤ} {here m : ℕ}
-    (v : Loading inA s at K kinds₀ buf₀ n kinds buf here m) where
+module _ {inA : Bool} {s : List ℕ} {at w K : ℕ} {kinds₀ : List ℕ} {buf₀ : List ℤ} {n : ℕ} {kinds : List ℕ} {buf : List ℤ} {here m : ℕ}
+    (v : Loading inA s at w K kinds₀ buf₀ n kinds buf here m) where
   module _ {a tag start len next : ℕ} (k : Starts s here a tag start len next) where
-    on : (faultOf K (v .done) tag len ≡ 0) × (counted K (suc (v .done)) (fieldsAt s next) ≡ Counted.Count (v .count))
-    on = passed-both (faultOf K (v .done) tag len) a (v .count) (counted K (suc (v .done)) (fieldsAt s next)) (sym (counted-on k K (v .done)) ∙ v .is)
+    on : (faultOf w K (v .done) tag (take len (drop start s)) ≡ 0) × (counted w K (suc (v .done)) (fieldsAt s next) ≡ count (v .total))
+    on = passed-both (faultOf w K (v .done) tag (take len (drop start s))) a (v .total) (counted w K (suc (v .done)) (fieldsAt s next)) (sym (counted-on k w K (v .done)) ∙ v .is)
 
-    pub fit : Fit s K kinds buf m tag start len
+    pub fit : Fit s w K kinds buf m tag start len
     fit =
-        let r = proper-of K (v .done) tag len (on .0) in
-        let l = eqb-true len (suc K * 2) (r .size) in
+        let r = proper-of w K (v .done) tag (take len (drop start s)) (on .0) in
+        let l : len ≡ suc K * w = sym (starts-size k) ∙ eqb-true (length (take len (drop start s))) (suc K * w) (r .size) in
+        let one : K + 1 ≡ suc K = omega arith in
         record {
           from = ltb-false tag 3 (r .from);
           len-is = l;
-          loads = record { space = space-less (omega (arith, v .m-is, count-is K (suc (v .done)) (v .count) (fieldsAt s next) (on .1))) (v .space); bytes = omega (arith, k .upto, k .next-is, l); kind-few = omega (arith, last-tag tag (r .has) (ltb-false tag 3 (r .from))) };
+          loads = record {
+            space = space-less (omega (arith, v .m-is, count-is w K (suc (v .done)) (v .total) (fieldsAt s next) (on .1))) (v .space);
+            width = v .width;
+            bytes = rw one (omega (arith, k .upto, k .next-is, l));
+            small = rw (← form-front w K len (drop start s) (omega arith), r .range) tt;
+            kind-few = omega (arith, tag-most tag (r .has) (r .from));
+          };
         }
 
-    line-is : formLine inA K (tag - 3) s start ≡ lineOf inA (record { kind = constraintKindOf (tag - 3); form = formFrom 2 K (take len (drop start s)) })
-    line-is = ap (λ (t : Form). lineOf inA (record { kind = constraintKindOf (tag - 3); form = t })) (sym (form-front 2 K len (drop start s) (omega (arith, fit .len-is))))
+    line-is : formLine inA w K (tag - 3) s start ≡ lineOf inA (record { kind = constraintKindOf (tag - 3); form = formFrom w K (take len (drop start s)) })
+    line-is = ap (λ (t : Form). lineOf inA (record { kind = constraintKindOf (tag - 3); form = t })) (sym (form-front w K len (drop start s) (omega (arith, fit .len-is))))
 
-    pub loading-next : {kinds₁ : List ℕ} {buf₁ : List ℤ} → Loaded K kinds buf m (formLine inA K (tag - 3) s start ∷ []) kinds₁ buf₁
-        → Loading inA s at K kinds₀ buf₀ n kinds₁ buf₁ next (m + 1)
+    pub loading-next : {kinds₁ : List ℕ} {buf₁ : List ℤ} → Loaded K kinds buf m (formLine inA w K (tag - 3) s start ∷ []) kinds₁ buf₁
+        → Loading inA s at w K kinds₀ buf₀ n kinds₁ buf₁ next (m + 1)
     unfolding stated
     loading-next p =
-        let fs : map (lineOf inA) (stated K (fieldsAt s here)) ≡ formLine inA K (tag - 3) s start ∷ map (lineOf inA) (stated K (fieldsAt s next))
-        = rw (k .is) (ap (λ (l : Line). l ∷ map (lineOf inA) (stated K (fieldsAt s next))) (sym line-is)) in
+        let fs : map (lineOf inA) (stated w K (fieldsAt s here)) ≡ formLine inA w K (tag - 3) s start ∷ map (lineOf inA) (stated w K (fieldsAt s next))
+        = rw (k .is) (ap (λ (l : Line). l ∷ map (lineOf inA) (stated w K (fieldsAt s next))) (sym line-is)) in
         record {
+          width = v .width;
           done = suc (v .done);
           m-is = omega (arith, v .m-is);
-          count = v .count;
+          total = v .total;
           space = space-kept (p .kinds-length) (p .lines-length) (v .space);
           is = on .1;
           kinds-length = p .kinds-length ∙ v .kinds-length;
@@ -379,40 +347,9 @@ module _ {inA : Bool} {s : List ℕ} {at K : ℕ} {kinds₀ : List ℕ} {buf₀ 
   pub loading-cut : {a : ℕ} → fieldsAt s here ≡ cut a → ⊥
   unfolding counted
   loading-cut {a} e =
-      let q : Counted.Refused 2 a ≡ Counted.Count (v .count) = sym (rw e) ∙ v .is in
+      let q : fault 2 a ≡ count (v .total) = sym (rw e) ∙ v .is in
       let z : _≡_ {A = ℕ} 0 1 = cc in omega arith
 
-  pub loading-done : {a : ℕ} → fieldsAt s here ≡ ends a → Loaded K kinds₀ buf₀ n (map (lineOf inA) (stated K (fieldsAt s at))) kinds buf
+  pub loading-done : {a : ℕ} → fieldsAt s here ≡ ends a → Loaded K kinds₀ buf₀ n (map (lineOf inA) (stated w K (fieldsAt s at))) kinds buf
   unfolding stated
   loading-done e = v .rest (rw e loaded-none)
-
--- ---- a whole bundle
-module _ {given : ℕ} {s : List ℕ} {r : Headed} (h : IsHeader FileKind.Bundle given s r) {kinds : List ℕ} {buf : List ℤ} {n : ℕ} (b : Bundled given s kinds buf n) where
-  pub never-refused : {x a : ℕ} → r ≡ Headed.Refused x a → ⊥
-  never-refused {x} {a} e =
-      let q : refused (answer x (b .file) a) ≡ accepted (b .states) = sym (scan-header h (b .file) e) ∙ b .is in
-      let z : _≡_ {A = ℕ} 0 1 = cc in omega arith
-
-  module _ {k next : ℕ} (e : r ≡ Headed.Header k next) where
-    counting : (x : Counted) → x ≡ counted k 0 (fieldsAt s next) → Able k (fieldsAt s next) kinds buf n
-    counting (Counted.Refused y a) c =
-        absurd
-        (let q : refused (answer y (b .file) a) ≡ accepted (b .states) = sym (scan-fault h e (b .file) c refl) ∙ b .is in
-        let z : _≡_ {A = ℕ} 0 1 = cc in omega arith)
-    counting (Counted.Count m) c =
-        let q : accepted (record { K = k; constraints = stated k (fieldsAt s next) }) ≡ accepted (b .states) = sym (scan-bundle h e (b .file) c refl) ∙ b .is in
-        let same : b .states ≡ record { K = k; constraints = stated k (fieldsAt s next) } = cc in
-        let few : m ≡ 0 + length (stated k (fieldsAt s next)) = count-is k 0 m (fieldsAt s next) (sym c) in
-        record { count = m; is = sym c; space = space-less (omega arith) (rw same at (b .space)) }
-
-    pub able : Able k (fieldsAt s next) kinds buf n
-    able = counting (counted k 0 (fieldsAt s next)) refl
-
-    pub bundle-loaded : {inA : Bool} {kinds′ : List ℕ} {buf′ : List ℤ} → Loaded k kinds buf n (map (lineOf inA) (stated k (fieldsAt s next))) kinds′ buf′
-        → BundleLoaded inA given s kinds buf n kinds′ buf′
-    bundle-loaded {inA} {kinds′} {buf′} l = record {
-      loaded = λ file x q.
-          let t = scan-bundle h e file refl (able .is) in
-          let z : record { K = k; constraints = stated k (fieldsAt s next) } ≡ x = one-value t q in
-          subst (λ (y : Bundle). Loaded (y .K) kinds buf n (map (lineOf inA) (y .constraints)) kinds′ buf′) z l;
-    }

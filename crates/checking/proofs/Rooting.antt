@@ -4,7 +4,7 @@ use mathlib.Core.List.{List}
 use Prim.Native.Nat.{ℕ}
 use native.Mathlib.Omega.{arith}
 use lib.IntN.{ℤ}
-use Rattle.forms.specs.Edition.{edition1}
+use Rattle.forms.specs.Edition.{edition}
 use Rattle.fields.specs.declared.Answer.{Answer}
 use Rattle.fields.specs.declared.Position.{Position}
 use Rattle.forms.specs.declared.RowNumber.{RowNumber}
@@ -20,18 +20,18 @@ use Rattle.checking.specs.Whole.{Finishes, Roots, Enough, InScratch}
 use Rattle.fields.specs.declared.WriteResult.{WriteResult}
 use Rattle.checking.proofs.Stages.{root-fault, root-ended, root-closed}
 
-module _ {K : ℕ} {P : List ℕ} {at n rows : ℕ} {kinds kinds′ : List ℕ} {buf buf′ : List ℤ} {S S′ : List ℕ} {x : Branched}
-    {here : Position} (b : Branches K P at here kinds buf (tally rows n 0) S 0 kinds′ buf′ S′ x) (at-root : here ≡ root) (none : rows ≡ 0) where
+module _ {e K : ℕ} {P : List ℕ} {at n rows : ℕ} {kinds kinds′ : List ℕ} {buf buf′ : List ℤ} {S S′ : List ℕ} {x : Branched}
+    {here : Position} (b : Branches K P at here kinds buf (tally e rows n 0) S 0 kinds′ buf′ S′ x) (at-root : here ≡ root) (none : rows ≡ 0) where
   pub by-fault : {number : ℕ} {so-far : RowNumber} {found : Position} {place : ℕ} {y : Answer} {out : List ℕ} → x ≡ Branched.Fault number so-far found place → y ≡ refusalAt found (so-far .0) place number
-      → Roots K (linesIn K kinds buf n) P at out out (record { answer = y; count = 0 })
-  by-fault e q = rw q (root-fault (rw (e, at-root, none) at (b .by)) refl)
+      → Roots e K (linesIn K kinds buf n) P at out out (record { answer = y; count = 0 })
+  by-fault f q = rw q (root-fault e (rw (f, at-root, none) at (b .by)) refl)
 
-  module _ (st : Started K kinds buf (tally rows n 0) P at 0) (len : Enough P at S) {end o : ℕ} {t′ : Tally} (e : x ≡ Branched.Closed end o t′) where
-    c : Closes keptBack (checkBranch edition1 K 32 root 0 (linesIn K kinds buf n) (fieldsAt P at)) P at (tally 0 n 0) end S 0 o S′ t′
-    c = rw (e, at-root, none) at (b .by)
+  module _ (st : Started K kinds buf (tally e rows n 0) P at 0) (len : Enough P at S) {end o : ℕ} {t′ : Tally} (f : x ≡ Branched.Closed end o t′) where
+    c : Closes keptBack (checkBranch (edition e) K 32 root 0 (linesIn K kinds buf n) (fieldsAt P at)) P at (tally e 0 n 0) end S 0 o S′ t′
+    c = rw (f, at-root, none) at (b .by)
 
     pub by-closed-ended : InScratch o S′
-    by-closed-ended = root-ended K (linesIn K kinds buf n) (record { formula = c .formula; rows = t′ .rows .0; after = fieldsAt P end }) (c .is) end o refl (omega (arith, c .o-is)) S (b .long) len (omega (arith, c .within, st .room)) (omega (arith, c .within)) (λ h. c .stored (omega arith))
+    by-closed-ended = root-ended e K (linesIn K kinds buf n) (record { formula = c .formula; rows = t′ .rows .0; after = fieldsAt P end }) (c .is) end o refl (omega (arith, c .o-is)) S (b .long) len (omega (arith, c .within, st .room)) (omega (arith, c .within)) (λ h. c .stored (omega arith))
 
-    pub by-closed : {out out′ : List ℕ} {r : WriteResult} → Finishes K P end S′ o out out′ r → Roots K (linesIn K kinds buf n) P at out out′ r
-    by-closed l = root-closed K (linesIn K kinds buf n) (record { formula = c .formula; rows = t′ .rows .0; after = fieldsAt P end }) (c .is) end o refl (omega (arith, c .o-is)) S (b .long) len (omega (arith, c .within, st .room)) (omega (arith, c .within)) (λ h. c .stored (omega arith)) l
+    pub by-closed : {out out′ : List ℕ} {r : WriteResult} → Finishes K P end S′ o out out′ r → Roots e K (linesIn K kinds buf n) P at out out′ r
+    by-closed l = root-closed e K (linesIn K kinds buf n) (record { formula = c .formula; rows = t′ .rows .0; after = fieldsAt P end }) (c .is) end o refl (omega (arith, c .o-is)) S (b .long) len (omega (arith, c .within, st .room)) (omega (arith, c .within)) (λ h. c .stored (omega arith)) l

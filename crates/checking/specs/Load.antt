@@ -1,29 +1,29 @@
 -- The constraints of a bundle as lines of the buffer: what loading asks and leaves. Document 01, "Forms and lines". Assumes nothing.
 use mathlib.Core.Path.{_≡_}
+use mathlib.Core.Logic.{_⊎_}
 use mathlib.Core.Bool.{Bool, true, false, cond}
-use lib.Dec.{eqb}
+use lib.Dec.{T, eqb}
 use mathlib.Core.List.{List, _++_, map}
 use Prim.Native.Nat.{ℕ, suc, _+_, _*_, _≤_, _<_}
 use lib.IntN.{ℤ, pos}
 use lib.ListN.{length, getD, drop}
 use lib.Seq.{paste}
 use Rattle.integers.specs.Magnitude.{Within}
-use Rattle.forms.specs.Edition.{edition1}
+use Rattle.forms.specs.Edition.{edition, edition1, newestEdition}
 use Rattle.forms.specs.Forms.{Form, Side, Line, Constraint, kindOn, _·_}
-use Rattle.fields.specs.Answers.{accepted}
-use Rattle.fields.specs.Numbers.{formFrom}
-use Rattle.fields.specs.Fields.{Fields, fields}
-use Rattle.fields.specs.Places.{givenK}
-use Rattle.bundle.specs.Bundle.{Bundle, bundle}
-use Rattle.bundle.specs.Scan.{counted}
-use Rattle.bundle.specs.declared.constraints.Counted.{Counted}
+use Rattle.fields.specs.Numbers.{formFrom, signeds}
+use Rattle.fields.specs.Fields.{Fields}
+use Rattle.bundle.specs.Bundle.{formSmall}
+use Rattle.bundle.specs.Scan.{count, counted}
 use Rattle.forms.specs.Flat.{constraintKindOf}
 use Rattle.lines.specs.Buffer.{size, times, linesIn, Bounded}
 
--- n numbers of a bundle from `start` on have room at `at`.
-pub record Copies (s : List ℕ) (start n : ℕ) (buf : List ℤ) (at : ℕ) : Type 0 where
-  pub bytes : start + n * edition1 .coefficientWidth ≤ length s
+-- n numbers of w bytes from `start` on are within the range, and have room at `at`.
+pub record Copies (s : List ℕ) (start w n : ℕ) (buf : List ℤ) (at : ℕ) : Type 0 where
+  pub width : (w ≡ 2) ⊎ (w ≡ 4)
+  pub bytes : start + n * w ≤ length s
   pub room : at + n ≤ length buf
+  pub small : (j : ℕ) → j < n → Within (edition1 .range) (getD (signeds w n (drop start s)) j (pos 0))
 
 -- n numbers are stored at a place, and are within the range.
 pub record NumbersStored (buf : List ℤ) (at : ℕ) (zs : List ℤ) (n : ℕ) (buf′ : List ℤ) : Type 0 where
@@ -55,13 +55,15 @@ lineByte false b = cond (eqb b 2) 3 b
 pub record Space (K c : ℕ) (kinds : List ℕ) (buf : List ℤ) : Type 0 where
   pub constants : K ≤ edition1 .constants
   pub room : c * size K ≤ length buf
-  pub most : c ≤ edition1 .lines
-  pub kinds-room : edition1 .lines ≤ length kinds
+  pub most : c ≤ edition newestEdition .lines
+  pub kinds-room : c ≤ length kinds
 
--- Line n with the form that starts at a place, of a constraint's kind.
-pub record Loads (s : List ℕ) (start K kind : ℕ) (kinds : List ℕ) (buf : List ℤ) (n : ℕ) : Type 0 where
+-- Line n with the form of numbers of w bytes that starts at a place, of a constraint's kind.
+pub record Loads (s : List ℕ) (start w K kind : ℕ) (kinds : List ℕ) (buf : List ℤ) (n : ℕ) : Type 0 where
   pub space : Space K (suc n) kinds buf
-  pub bytes : start + (K + 1) * edition1 .coefficientWidth ≤ length s
+  pub width : (w ≡ 2) ⊎ (w ≡ 4)
+  pub bytes : start + (K + 1) * w ≤ length s
+  pub small : T (formSmall (edition1 .range) (formFrom w K (drop start s)))
   pub kind-few : kind ≤ 2
 
 -- The lines ls stand behind the first n, which stay as they were; so do the lengths.
@@ -72,23 +74,12 @@ pub record Loaded (K : ℕ) (kinds : List ℕ) (buf : List ℤ) (n : ℕ) (ls : 
   pub lines-length : length buf′ ≡ length buf
 
 -- The line of one form.
-abbrev pub formLine : (inA : Bool) (K kind : ℕ) (s : List ℕ) (start : ℕ) → Line
-formLine inA K kind s start = lineOf inA (record { kind = constraintKindOf kind; form = formFrom (edition1 .coefficientWidth) K (drop start s) })
+abbrev pub formLine : (inA : Bool) (w K kind : ℕ) (s : List ℕ) (start : ℕ) → Line
+formLine inA w K kind s start = lineOf inA (record { kind = constraintKindOf kind; form = formFrom w K (drop start s) })
 
--- Fields that are constraints without fault have room behind the first n lines.
-pub record Able (K : ℕ) (fs : Fields) (kinds : List ℕ) (buf : List ℤ) (n : ℕ) : Type 0 where
-  pub count : ℕ
-  pub is : counted K 0 fs ≡ Counted.Count count
-  pub space : Space K (n + count) kinds buf
-
--- The same of a bundle that is accepted, whatever its file is called.
-pub record Bundled (given : ℕ) (s kinds : List ℕ) (buf : List ℤ) (n : ℕ) : Type 0 where
-  pub file : ℕ
-  pub states : Bundle
-  pub is : bundle file (givenK given) (fields s) ≡ accepted states
-  pub space : Space (states .K) (n + length (states .constraints)) kinds buf
-
--- Its constraints stand behind the first n lines.
-pub record BundleLoaded (inA : Bool) (given : ℕ) (s kinds : List ℕ) (buf : List ℤ) (n : ℕ) (kinds′ : List ℕ) (buf′ : List ℤ) : Type 0 where
-  pub loaded : (file : ℕ) (b : Bundle) → bundle file (givenK given) (fields s) ≡ accepted b
-      → Loaded (b .K) kinds buf n (map (lineOf inA) (b .constraints)) kinds′ buf′
+-- Fields that are m constraints without fault, of numbers of w bytes, have room behind the first n lines.
+pub record Able (w K : ℕ) (fs : Fields) (kinds : List ℕ) (buf : List ℤ) (n : ℕ) : Type 0 where
+  pub width : (w ≡ 2) ⊎ (w ≡ 4)
+  pub m : ℕ
+  pub is : counted w K 0 fs ≡ count m
+  pub space : Space K (n + m) kinds buf

@@ -2,7 +2,9 @@
 use crate::load::load;
 use branches::branch::Branched;
 use branches::branch::check_branch;
-use bundle::scan_both;
+use bundle::Body;
+use bundle::Scanned;
+use bundle::scan;
 use fields::FileKind;
 use fields::WriteResult;
 use fields::answers;
@@ -13,17 +15,22 @@ use fields::header::put_header;
 use fields::header::read_header;
 use forms::BUNDLE_BYTES;
 use forms::CONSTANTS;
+use forms::CONSTRAINTS;
 use forms::FORMULA_BYTES;
 use forms::LINES;
+use forms::LINES_1;
 use forms::LineNumber;
+use forms::NEWEST;
 use forms::PROOF_BYTES;
 use forms::RowNumber;
+use forms::coefficient_bytes;
+use forms::lines_limit;
 use rows::tally::Tally;
 ghost use mathlib.Core.Path.{_≡_};
 ghost use Prim.Native.Nat.{_+_, _*_, _≤_, min};
 ghost use lib.ListN.{length, take};
 ghost use lib.Seq.{paste};
-ghost use Rattle.forms.specs.Edition.{edition1};
+ghost use Rattle.forms.specs.Edition.{edition, edition1};
 ghost use Rattle.fields.specs.Answers.{answer};
 ghost use Rattle.lines.specs.Buffer.{size, linesIn};
 ghost use Rattle.rows.specs.Tally.{tally};
@@ -31,7 +38,7 @@ ghost use Rattle.branches.specs.Spare.{fieldsLeft, unreadBytes, Spare};
 ghost use Rattle.branches.specs.Branching.{Started};
 ghost use Rattle.checking.specs.Promises.{Checks};
 ghost use Rattle.checking.specs.Load.{Space};
-ghost use Rattle.checking.specs.Whole.{Short, Both, Prepared, Begun, InScratch, Delivers, Finishes, Roots, Enough, NumbersWithin};
+ghost use Rattle.checking.specs.Whole.{Short, Both, Prepared, Begun, InScratch, Delivers, Finishes, Roots, Enough, LinesWithin, NumbersWithin};
 
 fn refusal(number: u8, file: u8, place: usize) -> WriteResult
     ensures { λ r. ⌜ r ≡ record { answer = answer number file place; count = 0 } ⌝ }
@@ -65,7 +72,7 @@ fn deliver(scratch: &[u8], o: usize, k: u8, out: &mut [u8]) -> WriteResult
     if out.len() < needed {
         return refusal(21, 4, needed);
     }
-    put_header(out, k);
+    put_header(out, 1, k);
     copy_bytes(scratch, o, out, 8);
     let answer = answers::acceptance();
     WriteResult {
@@ -86,19 +93,48 @@ fn finish(proof: &[u8], at: usize, scratch: &[u8], o: usize, k: u8, out: &mut [u
 }
 
 // The lines of A and B.
-fn prepare(a: &[u8], b: &[u8], k: u8, m: usize, n: usize, lines: &mut [i32], kinds: &mut [u8])
-    requires { ⌜ Both (now a) (now b) k m n ⌝ }
-    requires { ⌜ Space k (m + n) (now kinds) (now lines) ⌝ }
-    ensures { λ _. ⌜ Prepared (now (a .entry)) (now (b .entry)) k (now (kinds .exit)) (now (lines .exit)) m n ⌝ }
+fn prepare(
+    a: &[u8],
+    b: &[u8],
+    first: Body,
+    second: Body,
+    k: u8,
+    lines: &mut [i32],
+    kinds: &mut [u8],
+)
+    requires { ⌜ Both (now a) (now b) first second k ⌝ }
+    requires { ⌜ Space k (first .count + second .count) (now kinds) (now lines) ⌝ }
+    ensures { λ _. ⌜ Prepared (now (a .entry)) (now (b .entry)) first second k (now (kinds .exit)) (now (lines .exit)) ⌝ }
 {
-    load(a, 0, true, lines, kinds, LineNumber(0));
-    load(b, k, false, lines, kinds, LineNumber(m as u16));
+    let none = LineNumber(0);
+    load(
+        a,
+        first.at,
+        coefficient_bytes(first.edition),
+        k,
+        true,
+        lines,
+        kinds,
+        none,
+    );
+    let n = LineNumber(first.count as u16);
+    load(
+        b,
+        second.at,
+        coefficient_bytes(second.edition),
+        k,
+        false,
+        lines,
+        kinds,
+        n,
+    );
 }
 
 // The root, from a place of the proof on, and all that follows. The buffers hold the lines, and the scratch takes the formula.
 fn check_root(
     proof: &[u8],
     at: usize,
+    e: u8,
     k: u8,
     count: usize,
     lines: &mut [i32],
@@ -106,9 +142,9 @@ fn check_root(
     scratch: &mut [u8],
     out: &mut [u8],
 ) -> WriteResult
-    requires { ⌜ Started k (now kinds) (now lines) (tally 0 count 0) (now proof) at 0 ⌝ }
+    requires { ⌜ Started k (now kinds) (now lines) (tally e 0 count 0) (now proof) at 0 ⌝ }
     requires { ⌜ Enough (now proof) at (now scratch) ⌝ }
-    ensures { λ r. ⌜ Roots k (linesIn k (now (kinds .entry)) (now (lines .entry)) count) (now (proof .entry)) at (now (out .entry)) (now (out .exit)) r ⌝ }
+    ensures { λ r. ⌜ Roots e k (linesIn k (now (kinds .entry)) (now (lines .entry)) count) (now (proof .entry)) at (now (out .entry)) (now (out .exit)) r ⌝ }
 {
     let rows = RowNumber(0);
     let made = LineNumber(count as u16);
@@ -116,6 +152,7 @@ fn check_root(
         rows,
         lines: made,
         open: 0,
+        edition: e,
     };
     let position = answers::root();
     match check_branch(
@@ -150,23 +187,34 @@ fn check_root(
 fn check_within(
     a: &[u8],
     b: &[u8],
+    first: Body,
+    second: Body,
     proof: &[u8],
     at: usize,
+    e: u8,
     k: u8,
-    m: usize,
-    n: usize,
     lines: &mut [i32],
+    kinds: &mut [u8],
     scratch: &mut [u8],
     out: &mut [u8],
 ) -> WriteResult
-    requires { ⌜ Begun (now a) (now b) (now proof) k m n at ⌝ }
-    requires { ⌜ Spare k (m + n + fieldsLeft (now proof) at) (now lines) ⌝ }
+    requires { ⌜ Begun (now a) (now b) first second (now proof) e k at ⌝ }
+    requires { ⌜ Spare e k (first .count + second .count + fieldsLeft (now proof) at) (now kinds) (now lines) ⌝ }
     requires { ⌜ Enough (now proof) at (now scratch) ⌝ }
     ensures { λ r. ⌜ Checks (now (a .entry)) (now (b .entry)) (now (proof .entry)) (now (out .entry)) (now (out .exit)) r ⌝ }
 {
-    let mut kinds = [0u8; LINES as usize];
-    prepare(a, b, k, m, n, lines, &mut kinds);
-    check_root(proof, at, k, m + n, lines, &mut kinds, scratch, out)
+    prepare(a, b, first, second, k, lines, kinds);
+    check_root(
+        proof,
+        at,
+        e,
+        k,
+        first.count + second.count,
+        lines,
+        kinds,
+        scratch,
+        out,
+    )
 }
 
 // The sizes of the arrays. An array is cleared before it is used, which takes longer than the check of a short proof, so a
@@ -175,13 +223,16 @@ fn check_within(
 // most: its own part over 16 constants has 75, the stride part before it, where it closes a branch of a rounding, 75 too, and
 // 6 are for the heads of an and and an or.
 // A field makes one line at most, and has three bytes: up to check_212 there is room for the lines of two constraints, of
-// N / 3 fields and for one that is being made, each of 16 constants (in check_41 of 7, so that the arrays have 2.6 KB). Then
-// there is room for all lines that a branch may have, and one more. With these the arrays of check_800 have 49 KB, about what
-// the first cache holds; what is larger takes longer by the byte (docs/SPEED.md).
+// N / 3 fields and for one that is being made, each of 16 constants (in check_24 of 7 and in check_41 of 7, so that the arrays
+// have 1.8 and 2.6 KB). Then there is room for all lines that a branch may have, and one more. With these the arrays of
+// check_800 have 49 KB, about what the first cache holds; what is larger takes longer by the byte (docs/SPEED.md).
+// Kinds are few bytes, so up to check_any there is room for all.
 const BYTE_BYTES: usize = 39;
 
 // The numbers of a line: t and tA, each with its constant term.
 const LINE_NUMBERS: usize = 2 * (CONSTANTS as usize + 1);
+
+const NUMBERS_24: usize = (8 + 3) * (2 * (7 + 1));
 
 const NUMBERS_41: usize = (13 + 3) * (2 * (7 + 1));
 
@@ -189,123 +240,266 @@ const NUMBERS_66: usize = (22 + 3) * LINE_NUMBERS;
 
 const NUMBERS_212: usize = (70 + 3) * LINE_NUMBERS;
 
-const NUMBERS_ALL: usize = (LINES as usize + 1) * LINE_NUMBERS;
+const NUMBERS_ALL: usize = (LINES_1 as usize + 1) * LINE_NUMBERS;
+
+const KINDS_ALL: usize = LINES_1 as usize + 1;
+
+// Where a branch may come to more than 128 lines: the lines of two bundles and one for each field of 1,200 bytes, and all.
+const KINDS_WIDE_1200: usize = 2 * CONSTRAINTS + 400 + 1;
+
+const NUMBERS_WIDE_1200: usize = KINDS_WIDE_1200 * LINE_NUMBERS;
+
+const KINDS_WIDE: usize = LINES as usize + 1;
+
+const NUMBERS_WIDE: usize = KINDS_WIDE * LINE_NUMBERS;
+
+fn check_24(
+    a: &[u8],
+    b: &[u8],
+    first: Body,
+    second: Body,
+    proof: &[u8],
+    at: usize,
+    e: u8,
+    k: u8,
+    out: &mut [u8],
+) -> WriteResult
+    requires { ⌜ Begun (now a) (now b) first second (now proof) e k at ⌝ }
+    requires { ⌜ LinesWithin e (first .count + second .count + fieldsLeft (now proof) at) (edition1 .lines) ⌝ }
+    requires { ⌜ unreadBytes (now proof) at ≤ 24 ⌝ }
+    requires { ⌜ NumbersWithin e k (first .count + second .count + fieldsLeft (now proof) at) ((8 + 3) * size 7) ⌝ }
+    ensures { λ r. ⌜ Checks (now (a .entry)) (now (b .entry)) (now (proof .entry)) (now (out .entry)) (now (out .exit)) r ⌝ }
+{
+    let mut lines = [0i32; NUMBERS_24];
+    let mut scratch = [0u8; 24 * BYTE_BYTES];
+    let mut kinds = [0u8; KINDS_ALL];
+    check_within(
+        a,
+        b,
+        first,
+        second,
+        proof,
+        at,
+        e,
+        k,
+        &mut lines,
+        &mut kinds,
+        &mut scratch,
+        out,
+    )
+}
 
 fn check_41(
     a: &[u8],
     b: &[u8],
+    first: Body,
+    second: Body,
     proof: &[u8],
     at: usize,
+    e: u8,
     k: u8,
-    m: usize,
-    n: usize,
     out: &mut [u8],
 ) -> WriteResult
-    requires { ⌜ Begun (now a) (now b) (now proof) k m n at ⌝ }
+    requires { ⌜ Begun (now a) (now b) first second (now proof) e k at ⌝ }
+    requires { ⌜ LinesWithin e (first .count + second .count + fieldsLeft (now proof) at) (edition1 .lines) ⌝ }
     requires { ⌜ unreadBytes (now proof) at ≤ 41 ⌝ }
-    requires { ⌜ NumbersWithin k (m + n + fieldsLeft (now proof) at) ((13 + 3) * size 7) ⌝ }
+    requires { ⌜ NumbersWithin e k (first .count + second .count + fieldsLeft (now proof) at) ((13 + 3) * size 7) ⌝ }
     ensures { λ r. ⌜ Checks (now (a .entry)) (now (b .entry)) (now (proof .entry)) (now (out .entry)) (now (out .exit)) r ⌝ }
 {
     let mut lines = [0i32; NUMBERS_41];
     let mut scratch = [0u8; 41 * BYTE_BYTES];
-    check_within(a, b, proof, at, k, m, n, &mut lines, &mut scratch, out)
+    let mut kinds = [0u8; KINDS_ALL];
+    check_within(
+        a,
+        b,
+        first,
+        second,
+        proof,
+        at,
+        e,
+        k,
+        &mut lines,
+        &mut kinds,
+        &mut scratch,
+        out,
+    )
 }
 
 fn check_66(
     a: &[u8],
     b: &[u8],
+    first: Body,
+    second: Body,
     proof: &[u8],
     at: usize,
+    e: u8,
     k: u8,
-    m: usize,
-    n: usize,
     out: &mut [u8],
 ) -> WriteResult
-    requires { ⌜ Begun (now a) (now b) (now proof) k m n at ⌝ }
+    requires { ⌜ Begun (now a) (now b) first second (now proof) e k at ⌝ }
+    requires { ⌜ LinesWithin e (first .count + second .count + fieldsLeft (now proof) at) (edition1 .lines) ⌝ }
     requires { ⌜ unreadBytes (now proof) at ≤ 66 ⌝ }
-    requires { ⌜ NumbersWithin k (m + n + fieldsLeft (now proof) at) ((22 + 3) * size (edition1 .constants)) ⌝ }
+    requires { ⌜ NumbersWithin e k (first .count + second .count + fieldsLeft (now proof) at) ((22 + 3) * size (edition1 .constants)) ⌝ }
     ensures { λ r. ⌜ Checks (now (a .entry)) (now (b .entry)) (now (proof .entry)) (now (out .entry)) (now (out .exit)) r ⌝ }
 {
     let mut lines = [0i32; NUMBERS_66];
     let mut scratch = [0u8; 66 * BYTE_BYTES];
-    check_within(a, b, proof, at, k, m, n, &mut lines, &mut scratch, out)
+    let mut kinds = [0u8; KINDS_ALL];
+    check_within(
+        a,
+        b,
+        first,
+        second,
+        proof,
+        at,
+        e,
+        k,
+        &mut lines,
+        &mut kinds,
+        &mut scratch,
+        out,
+    )
 }
 
 fn check_212(
     a: &[u8],
     b: &[u8],
+    first: Body,
+    second: Body,
     proof: &[u8],
     at: usize,
+    e: u8,
     k: u8,
-    m: usize,
-    n: usize,
     out: &mut [u8],
 ) -> WriteResult
-    requires { ⌜ Begun (now a) (now b) (now proof) k m n at ⌝ }
+    requires { ⌜ Begun (now a) (now b) first second (now proof) e k at ⌝ }
+    requires { ⌜ LinesWithin e (first .count + second .count + fieldsLeft (now proof) at) (edition1 .lines) ⌝ }
     requires { ⌜ unreadBytes (now proof) at ≤ 212 ⌝ }
-    requires { ⌜ NumbersWithin k (m + n + fieldsLeft (now proof) at) ((70 + 3) * size (edition1 .constants)) ⌝ }
+    requires { ⌜ NumbersWithin e k (first .count + second .count + fieldsLeft (now proof) at) ((70 + 3) * size (edition1 .constants)) ⌝ }
     ensures { λ r. ⌜ Checks (now (a .entry)) (now (b .entry)) (now (proof .entry)) (now (out .entry)) (now (out .exit)) r ⌝ }
 {
     let mut lines = [0i32; NUMBERS_212];
     let mut scratch = [0u8; 212 * BYTE_BYTES];
-    check_within(a, b, proof, at, k, m, n, &mut lines, &mut scratch, out)
+    let mut kinds = [0u8; KINDS_ALL];
+    check_within(
+        a,
+        b,
+        first,
+        second,
+        proof,
+        at,
+        e,
+        k,
+        &mut lines,
+        &mut kinds,
+        &mut scratch,
+        out,
+    )
 }
 
 fn check_800(
     a: &[u8],
     b: &[u8],
+    first: Body,
+    second: Body,
     proof: &[u8],
     at: usize,
+    e: u8,
     k: u8,
-    m: usize,
-    n: usize,
     out: &mut [u8],
 ) -> WriteResult
-    requires { ⌜ Begun (now a) (now b) (now proof) k m n at ⌝ }
+    requires { ⌜ Begun (now a) (now b) first second (now proof) e k at ⌝ }
+    requires { ⌜ LinesWithin e (first .count + second .count + fieldsLeft (now proof) at) (edition1 .lines) ⌝ }
     requires { ⌜ unreadBytes (now proof) at ≤ 800 ⌝ }
     ensures { λ r. ⌜ Checks (now (a .entry)) (now (b .entry)) (now (proof .entry)) (now (out .entry)) (now (out .exit)) r ⌝ }
 {
     let mut lines = [0i32; NUMBERS_ALL];
     let mut scratch = [0u8; 800 * BYTE_BYTES];
-    check_within(a, b, proof, at, k, m, n, &mut lines, &mut scratch, out)
+    let mut kinds = [0u8; KINDS_ALL];
+    check_within(
+        a,
+        b,
+        first,
+        second,
+        proof,
+        at,
+        e,
+        k,
+        &mut lines,
+        &mut kinds,
+        &mut scratch,
+        out,
+    )
 }
 
 fn check_1200(
     a: &[u8],
     b: &[u8],
+    first: Body,
+    second: Body,
     proof: &[u8],
     at: usize,
+    e: u8,
     k: u8,
-    m: usize,
-    n: usize,
     out: &mut [u8],
 ) -> WriteResult
-    requires { ⌜ Begun (now a) (now b) (now proof) k m n at ⌝ }
+    requires { ⌜ Begun (now a) (now b) first second (now proof) e k at ⌝ }
+    requires { ⌜ LinesWithin e (first .count + second .count + fieldsLeft (now proof) at) (edition1 .lines) ⌝ }
     requires { ⌜ unreadBytes (now proof) at ≤ 1200 ⌝ }
     ensures { λ r. ⌜ Checks (now (a .entry)) (now (b .entry)) (now (proof .entry)) (now (out .entry)) (now (out .exit)) r ⌝ }
 {
     let mut lines = [0i32; NUMBERS_ALL];
     let mut scratch = [0u8; 1200 * BYTE_BYTES];
-    check_within(a, b, proof, at, k, m, n, &mut lines, &mut scratch, out)
+    let mut kinds = [0u8; KINDS_ALL];
+    check_within(
+        a,
+        b,
+        first,
+        second,
+        proof,
+        at,
+        e,
+        k,
+        &mut lines,
+        &mut kinds,
+        &mut scratch,
+        out,
+    )
 }
 
-// Any proof, and the longest formula.
+// Any proof of at most 128 lines on a branch, and the longest formula.
 fn check_any(
     a: &[u8],
     b: &[u8],
+    first: Body,
+    second: Body,
     proof: &[u8],
     at: usize,
+    e: u8,
     k: u8,
-    m: usize,
-    n: usize,
     out: &mut [u8],
 ) -> WriteResult
-    requires { ⌜ Begun (now a) (now b) (now proof) k m n at ⌝ }
+    requires { ⌜ Begun (now a) (now b) first second (now proof) e k at ⌝ }
+    requires { ⌜ LinesWithin e (first .count + second .count + fieldsLeft (now proof) at) (edition1 .lines) ⌝ }
     ensures { λ r. ⌜ Checks (now (a .entry)) (now (b .entry)) (now (proof .entry)) (now (out .entry)) (now (out .exit)) r ⌝ }
 {
     let mut lines = [0i32; NUMBERS_ALL];
     let mut scratch = [0u8; FORMULA_BYTES];
-    check_within(a, b, proof, at, k, m, n, &mut lines, &mut scratch, out)
+    let mut kinds = [0u8; KINDS_ALL];
+    check_within(
+        a,
+        b,
+        first,
+        second,
+        proof,
+        at,
+        e,
+        k,
+        &mut lines,
+        &mut kinds,
+        &mut scratch,
+        out,
+    )
 }
 
 // A proof of more bytes than 212, or of more lines. A function of its own: the frame of a function has room for the largest of
@@ -314,31 +508,122 @@ fn check_any(
 fn check_long(
     a: &[u8],
     b: &[u8],
+    first: Body,
+    second: Body,
     proof: &[u8],
     at: usize,
+    e: u8,
     k: u8,
-    m: usize,
-    n: usize,
     out: &mut [u8],
 ) -> WriteResult
-    requires { ⌜ Begun (now a) (now b) (now proof) k m n at ⌝ }
+    requires { ⌜ Begun (now a) (now b) first second (now proof) e k at ⌝ }
+    requires { ⌜ LinesWithin e (first .count + second .count + fieldsLeft (now proof) at) (edition1 .lines) ⌝ }
     ensures { λ r. ⌜ Checks (now (a .entry)) (now (b .entry)) (now (proof .entry)) (now (out .entry)) (now (out .exit)) r ⌝ }
 {
     let bytes = proof.len();
     if bytes <= 800 {
-        return check_800(a, b, proof, at, k, m, n, out);
+        return check_800(a, b, first, second, proof, at, e, k, out);
     }
     if bytes <= 1200 {
-        return check_1200(a, b, proof, at, k, m, n, out);
+        return check_1200(a, b, first, second, proof, at, e, k, out);
     }
-    check_any(a, b, proof, at, k, m, n, out)
+    check_any(a, b, first, second, proof, at, e, k, out)
+}
+
+fn check_wide_1200(
+    a: &[u8],
+    b: &[u8],
+    first: Body,
+    second: Body,
+    proof: &[u8],
+    at: usize,
+    e: u8,
+    k: u8,
+    out: &mut [u8],
+) -> WriteResult
+    requires { ⌜ Begun (now a) (now b) first second (now proof) e k at ⌝ }
+    requires { ⌜ unreadBytes (now proof) at ≤ 1200 ⌝ }
+    ensures { λ r. ⌜ Checks (now (a .entry)) (now (b .entry)) (now (proof .entry)) (now (out .entry)) (now (out .exit)) r ⌝ }
+{
+    let mut lines = [0i32; NUMBERS_WIDE_1200];
+    let mut scratch = [0u8; 1200 * BYTE_BYTES];
+    let mut kinds = [0u8; KINDS_WIDE_1200];
+    check_within(
+        a,
+        b,
+        first,
+        second,
+        proof,
+        at,
+        e,
+        k,
+        &mut lines,
+        &mut kinds,
+        &mut scratch,
+        out,
+    )
+}
+
+// Any proof of edition 2, and the longest formula.
+fn check_wide_any(
+    a: &[u8],
+    b: &[u8],
+    first: Body,
+    second: Body,
+    proof: &[u8],
+    at: usize,
+    e: u8,
+    k: u8,
+    out: &mut [u8],
+) -> WriteResult
+    requires { ⌜ Begun (now a) (now b) first second (now proof) e k at ⌝ }
+    ensures { λ r. ⌜ Checks (now (a .entry)) (now (b .entry)) (now (proof .entry)) (now (out .entry)) (now (out .exit)) r ⌝ }
+{
+    let mut lines = [0i32; NUMBERS_WIDE];
+    let mut scratch = [0u8; FORMULA_BYTES];
+    let mut kinds = [0u8; KINDS_WIDE];
+    check_within(
+        a,
+        b,
+        first,
+        second,
+        proof,
+        at,
+        e,
+        k,
+        &mut lines,
+        &mut kinds,
+        &mut scratch,
+        out,
+    )
+}
+
+// A proof whose branches may come to more than 128 lines, so one of edition 2. A function of its own, as `check_long` is.
+fn check_wide(
+    a: &[u8],
+    b: &[u8],
+    first: Body,
+    second: Body,
+    proof: &[u8],
+    at: usize,
+    e: u8,
+    k: u8,
+    out: &mut [u8],
+) -> WriteResult
+    requires { ⌜ Begun (now a) (now b) first second (now proof) e k at ⌝ }
+    ensures { λ r. ⌜ Checks (now (a .entry)) (now (b .entry)) (now (proof .entry)) (now (out .entry)) (now (out .exit)) r ⌝ }
+{
+    if proof.len() <= 1200 {
+        return check_wide_1200(a, b, first, second, proof, at, e, k, out);
+    }
+    check_wide_any(a, b, first, second, proof, at, e, k, out)
 }
 
 // How many lines a branch may come to have, where count may come.
-fn most_lines(count: usize) -> usize
-    ensures { λ r. ⌜ r ≡ min count (edition1 .lines) ⌝ }
+fn most_lines(e: u8, count: usize) -> usize
+    ensures { λ r. ⌜ r ≡ min count (edition e .lines) ⌝ }
 {
-    let most = LINES as usize;
+    let most = lines_limit(e) as usize;
     if count < most {
         return count;
     }
@@ -350,55 +635,72 @@ fn most_lines(count: usize) -> usize
 fn check_lines(
     a: &[u8],
     b: &[u8],
+    first: Body,
+    second: Body,
     proof: &[u8],
     at: usize,
+    e: u8,
     k: u8,
-    m: usize,
-    n: usize,
     out: &mut [u8],
 ) -> WriteResult
-    requires { ⌜ Begun (now a) (now b) (now proof) k m n at ⌝ }
+    requires { ⌜ Begun (now a) (now b) first second (now proof) e k at ⌝ }
     ensures { λ r. ⌜ Checks (now (a .entry)) (now (b .entry)) (now (proof .entry)) (now (out .entry)) (now (out .exit)) r ⌝ }
 {
     let bytes = proof.len();
     let fields = bytes / 3;
     let size = 2 * (k as usize + 1);
-    let numbers = (most_lines(m + n + fields) + 1) * size;
-    if bytes <= 41 {
-        if numbers <= NUMBERS_41 {
-            return check_41(a, b, proof, at, k, m, n, out);
-        }
-    }
-    if bytes <= 66 {
-        if numbers <= NUMBERS_66 {
-            return check_66(a, b, proof, at, k, m, n, out);
-        }
-    }
+    let count = most_lines(e, first.count + second.count + fields);
+    let numbers = (count + 1) * size;
     if bytes <= 212 {
-        if numbers <= NUMBERS_212 {
-            return check_212(a, b, proof, at, k, m, n, out);
+        if count > LINES_1 as usize {
+            return check_wide(a, b, first, second, proof, at, e, k, out);
         }
-        return check_long(a, b, proof, at, k, m, n, out);
+        if bytes <= 24 {
+            if numbers <= NUMBERS_24 {
+                return check_24(a, b, first, second, proof, at, e, k, out);
+            }
+        }
+        if bytes <= 41 {
+            if numbers <= NUMBERS_41 {
+                return check_41(a, b, first, second, proof, at, e, k, out);
+            }
+        }
+        if bytes <= 66 {
+            if numbers <= NUMBERS_66 {
+                return check_66(a, b, first, second, proof, at, e, k, out);
+            }
+        }
+        if numbers <= NUMBERS_212 {
+            return check_212(a, b, first, second, proof, at, e, k, out);
+        }
+        return check_long(a, b, first, second, proof, at, e, k, out);
     }
-    check_long(a, b, proof, at, k, m, n, out)
+    if count > LINES_1 as usize {
+        return check_wide(a, b, first, second, proof, at, e, k, out);
+    }
+    check_long(a, b, first, second, proof, at, e, k, out)
 }
 
 // The proof's header, where both bundles were gone over. 2, 3, 4, 6, 5, 7, 9.
 fn check_header(
     a: &[u8],
     b: &[u8],
+    first: Body,
+    second: Body,
     proof: &[u8],
     k: u8,
-    m: usize,
-    n: usize,
     out: &mut [u8],
 ) -> WriteResult
     requires { ⌜ Short (now a) (now b) (now proof) ⌝ }
-    requires { ⌜ Both (now a) (now b) k m n ⌝ }
+    requires { ⌜ Both (now a) (now b) first second k ⌝ }
     ensures { λ r. ⌜ Checks (now (a .entry)) (now (b .entry)) (now (proof .entry)) (now (out .entry)) (now (out .exit)) r ⌝ }
 {
-    match read_header(proof, FileKind::Proof, k) {
-        Headed::Header { k: _, next } => check_lines(a, b, proof, next, k, m, n, out),
+    match read_header(proof, FileKind::Proof, NEWEST, k) {
+        Headed::Header {
+            edition: e,
+            k: _,
+            next,
+        } => check_lines(a, b, first, second, proof, next, e, k, out),
         Headed::Refused { number, place } => refusal(number, 3, place),
     }
 }
@@ -408,16 +710,21 @@ fn check_bundles(a: &[u8], b: &[u8], proof: &[u8], out: &mut [u8]) -> WriteResul
     requires { ⌜ Short (now a) (now b) (now proof) ⌝ }
     ensures { λ r. ⌜ Checks (now (a .entry)) (now (b .entry)) (now (proof .entry)) (now (out .entry)) (now (out .exit)) r ⌝ }
 {
-    let pair = scan_both(a, b, 0);
-    let answer = pair.answer;
-    let number = answer.number;
-    if number != 0 {
-        return WriteResult { answer, count: 0 };
+    match scan(a, 0, 0) {
+        Scanned::Bundle {
+            k,
+            body: first,
+            start: _,
+        } => match scan(b, k, 0) {
+            Scanned::Bundle {
+                k: _,
+                body: second,
+                start: _,
+            } => check_header(a, b, first, second, proof, k, out),
+            Scanned::Refused { number, place } => refusal(number, 2, place),
+        },
+        Scanned::Refused { number, place } => refusal(number, 1, place),
     }
-    let k = pair.k;
-    let m = pair.m;
-    let n = pair.n;
-    check_header(a, b, proof, k, m, n, out)
 }
 
 // Checks a proof over the bundles A and B, and writes the formula that it derives.

@@ -1,11 +1,7 @@
 // The constraints of a bundle as lines, behind the lines that the buffer has.
-use fields::FileKind;
+use bundle::store::store_numbers;
 use fields::Next;
-use fields::header::Headed;
-use fields::header::read_header;
 use fields::next_field;
-use fields::words::short_at;
-use forms::COEFFICIENT_BYTES;
 use forms::LineNumber;
 use rows::derive::APART_A;
 use rows::derive::APART_B;
@@ -15,23 +11,10 @@ ghost use mathlib.Core.List.{[], _∷_, map};
 ghost use Prim.Native.Nat.{_+_, _≤_};
 ghost use lib.IntN.{pos};
 ghost use lib.ListN.{length, drop, replicate};
-ghost use Rattle.forms.specs.Edition.{edition1};
 ghost use Rattle.fields.specs.Numbers.{signeds};
 ghost use Rattle.fields.specs.Places.{fieldsAt};
 ghost use Rattle.bundle.specs.Scan.{stated};
-ghost use Rattle.checking.specs.Load.{Copies, NumbersStored, partialOf, lineByte, lineOf, Loads, Loaded, formLine, Able, Bundled, BundleLoaded};
-
-// n numbers of a bundle from start on, in place of the n numbers at a place.
-fn load_numbers(s: &[u8], start: usize, n: usize, lines: &mut [i32], at: usize)
-    requires { ⌜ Copies (now s) start n (now lines) at ⌝ }
-    ensures { λ _. ⌜ NumbersStored (now (lines .entry)) at (signeds (edition1 .coefficientWidth) n (drop start (now (s .entry)))) n (now (lines .exit)) ⌝ }
-{
-    let mut i = 0;
-    while i < n {
-        lines[at + i] = short_at(s, start + i * COEFFICIENT_BYTES) as i32;
-        i += 1;
-    }
-}
+ghost use Rattle.checking.specs.Load.{Copies, NumbersStored, partialOf, lineByte, lineOf, Loads, Loaded, formLine, Able};
 
 // n times 0 in place of the n numbers at a place.
 fn clear_numbers(lines: &mut [i32], at: usize, n: usize)
@@ -46,12 +29,20 @@ fn clear_numbers(lines: &mut [i32], at: usize, n: usize)
 }
 
 // The numbers of tA: those of t for a line of A, 0 for one of B.
-fn load_partial(s: &[u8], start: usize, n: usize, lines: &mut [i32], at: usize, in_a: bool)
-    requires { ⌜ Copies (now s) start n (now lines) at ⌝ }
-    ensures { λ _. ⌜ NumbersStored (now (lines .entry)) at (partialOf in_a (signeds (edition1 .coefficientWidth) n (drop start (now (s .entry))))) n (now (lines .exit)) ⌝ }
+fn load_partial(
+    s: &[u8],
+    start: usize,
+    width: usize,
+    n: usize,
+    lines: &mut [i32],
+    at: usize,
+    in_a: bool,
+)
+    requires { ⌜ Copies (now s) start width n (now lines) at ⌝ }
+    ensures { λ _. ⌜ NumbersStored (now (lines .entry)) at (partialOf in_a (signeds width n (drop start (now (s .entry))))) n (now (lines .exit)) ⌝ }
 {
     if in_a {
-        load_numbers(s, start, n, lines, at);
+        store_numbers(s, start, width, n, lines, at);
         return;
     }
     clear_numbers(lines, at, n);
@@ -74,6 +65,7 @@ fn line_kind(kind: u8, in_a: bool) -> u8
 fn load_line(
     s: &[u8],
     start: usize,
+    width: usize,
     kind: u8,
     in_a: bool,
     lines: &mut [i32],
@@ -81,28 +73,29 @@ fn load_line(
     n: LineNumber,
     k: usize,
 )
-    requires { ⌜ Loads (now s) start k kind (now kinds) (now lines) (n .0) ⌝ }
-    ensures { λ _. ⌜ Loaded k (now (kinds .entry)) (now (lines .entry)) (n .0) (formLine in_a k kind (now (s .entry)) start ∷ []) (now (kinds .exit)) (now (lines .exit)) ⌝ }
+    requires { ⌜ Loads (now s) start width k kind (now kinds) (now lines) (n .0) ⌝ }
+    ensures { λ _. ⌜ Loaded k (now (kinds .entry)) (now (lines .entry)) (n .0) (formLine in_a width k kind (now (s .entry)) start ∷ []) (now (kinds .exit)) (now (lines .exit)) ⌝ }
 {
     let w = k + 1;
     let at = lines::place(n, k);
-    load_numbers(s, start, w, lines, at);
-    load_partial(s, start, w, lines, at + w, in_a);
+    store_numbers(s, start, width, w, lines, at);
+    load_partial(s, start, width, w, lines, at + w, in_a);
     set_kind(kinds, n, line_kind(kind, in_a));
 }
 
-// The fields from at on, which are constraints without fault, as lines behind the first n.
-fn load_constraints(
+// The fields from at on, which are constraints without fault with numbers of `width` bytes, as lines behind the first n.
+pub fn load(
     s: &[u8],
     at: usize,
+    width: usize,
     k: u8,
     in_a: bool,
     lines: &mut [i32],
     kinds: &mut [u8],
     n: LineNumber,
 )
-    requires { ⌜ Able k (fieldsAt (now s) at) (now kinds) (now lines) (n .0) ⌝ }
-    ensures { λ _. ⌜ Loaded k (now (kinds .entry)) (now (lines .entry)) (n .0) (map (lineOf in_a) (stated k (fieldsAt (now (s .entry)) at))) (now (kinds .exit)) (now (lines .exit)) ⌝ }
+    requires { ⌜ Able width k (fieldsAt (now s) at) (now kinds) (now lines) (n .0) ⌝ }
+    ensures { λ _. ⌜ Loaded k (now (kinds .entry)) (now (lines .entry)) (n .0) (map (lineOf in_a) (stated width k (fieldsAt (now (s .entry)) at))) (now (kinds .exit)) (now (lines .exit)) ⌝ }
 {
     let constants = k as usize;
     let mut here = at;
@@ -116,7 +109,7 @@ fn load_constraints(
                 len: _,
                 next,
             } => {
-                load_line(s, start, tag - 3, in_a, lines, kinds, m, constants);
+                load_line(s, start, width, tag - 3, in_a, lines, kinds, m, constants);
                 m = LineNumber(m.0 + 1);
                 here = next;
             }
@@ -127,21 +120,5 @@ fn load_constraints(
                 return;
             }
         }
-    }
-}
-
-// A bundle that was gone over, with the same given K, as lines behind the first n.
-pub fn load(s: &[u8], given: u8, in_a: bool, lines: &mut [i32], kinds: &mut [u8], n: LineNumber)
-    requires { ⌜ Bundled given (now s) (now kinds) (now lines) (n .0) ⌝ }
-    ensures { λ _. ⌜ BundleLoaded in_a given (now (s .entry)) (now (kinds .entry)) (now (lines .entry)) (n .0) (now (kinds .exit)) (now (lines .exit)) ⌝ }
-{
-    match read_header(s, FileKind::Bundle, given) {
-        Headed::Header { k, next } => {
-            load_constraints(s, next, k, in_a, lines, kinds, n);
-        }
-        Headed::Refused {
-            number: _,
-            place: _,
-        } => {}
     }
 }

@@ -9,9 +9,10 @@ use lib.ListN.{length, getD}
 use lib.IntN.{ℤ, pos}
 use lib.Signed.{ltZ}
 use Rattle.integers.specs.Linear.{eqZ}
-use Rattle.forms.specs.Forms.{nonzero}
+use Rattle.forms.specs.Edition.{edition, newestEdition}
+use Rattle.forms.specs.Forms.{nonzero, every}
+use Rattle.forms.proofs.Editions.{lines-most}
 use Rattle.forms.proofs.Flat.{kind-zero, kind-one}
-use Rattle.calculus.specs.Rules.{every}
 use Rattle.fields.specs.Answers.{_>>=_, _>>_, need, found}
 use Rattle.lines.specs.Parts.{part}
 use Rattle.forms.specs.Flat.{kindOf}
@@ -33,9 +34,13 @@ pub false-= : {b : ℕ} (d : ℤ) {r : Bool} → (b ≡ 0 → ⊥) → r ≡ eqZ
 unfolding fails nonzero
 false-= d h e = rw (kind-one h) (ap not e)
 
--- A line of the branch ends within the buffer.
-pub line-end : {K : ℕ} {kinds : List ℕ} {buf : List ℤ} {n i : ℕ} → Ready K kinds buf n → i < n → i * size K + size K ≤ length buf
-line-end {K} r h = omega (arith, before K h, r .branch .room)
+-- A line of the branch ends within the buffer, and its number is one that the newest edition has.
+module _ {e K : ℕ} {kinds : List ℕ} {buf : List ℤ} {n i : ℕ} where
+  pub line-end : Ready e K kinds buf n → i < n → i * size K + size K ≤ length buf
+  line-end r h = omega (arith, before K h, r .branch .room)
+
+  pub line-low : Ready e K kinds buf n → i < n → i ≤ edition newestEdition .lines
+  line-low r h = omega (arith, r .most, lines-most e)
 
 module _ (K : ℕ) (kinds : List ℕ) (buf : List ℤ) (t : Tally) (i : ℕ) where
   pub number-none : t .lines .0 ≤ i → ByNumber K kinds buf t i (Refused 10)

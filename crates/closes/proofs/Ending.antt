@@ -33,8 +33,8 @@ use Rattle.fields.proofs.Results.{never}
 use Rattle.closes.proofs.Closes.{number-none}
 use Rattle.closes.proofs.Strides.{stride-none, stride-kind, stride-small}
 
-pub numbered : {K : ℕ} {kinds : List ℕ} {buf : List ℤ} {n i x : ℕ} → Ready K kinds buf n → i < n → x ≡ i * size K + (K + 1) → Numbered K buf x
-numbered {K} {buf = buf} {n = n} {i = i} r h e =
+pub numbered : {e K : ℕ} {kinds : List ℕ} {buf : List ℤ} {n i x : ℕ} → Ready e K kinds buf n → i < n → x ≡ i * size K + (K + 1) → Numbered K buf x
+numbered {K = K} {buf = buf} {n = n} {i = i} r h e =
     let b : i * size K + size K ≤ n * size K = before K h in
     record {
       constants = r .branch .constants;
@@ -84,7 +84,7 @@ module _ {K : ℕ} {kinds : List ℕ} {buf : List ℤ} {t : Tally} {i : ℕ} whe
       → EndedBy (λ refusal. byStride refusal (linesIn K kinds buf (t .lines .0)) i g) scratch o scratch (ended.Refused x)
   stride-refused o scratch b e = ((rw e at b) .by, refl)
 
-  module _ (r : Ready K kinds buf (t .lines .0)) {x : ℕ} (ex : x ≡ i * size K + (K + 1)) {scratch scratch′ : List ℕ} {o o′ : ℕ} where
+  module _ (r : Ready (t .edition) K kinds buf (t .lines .0)) {x : ℕ} (ex : x ≡ i * size K + (K + 1)) {scratch scratch′ : List ℕ} {o o′ : ℕ} where
     pub number-written : {q : Test} {kind : ℕ} → ByNumber K kinds buf t i q → q ≡ test.Passed → KindRead (getD kinds i 0) kind
         → Puts scratch o (literal (kindOf kind) (formIn K buf x)) scratch′ o′
         → EndedBy (λ refusal. byNumber refusal (linesIn K kinds buf (t .lines .0)) i) scratch o scratch′ (ended.Written o′)

@@ -12,8 +12,7 @@ use borrow.Author.Tests.{le-leb, lt-leb, eqb-true, eqb-false, leb-true}
 use Rattle.integers.specs.Linear.{eqZ}
 use Rattle.integers.proofs.Differences.{ints}
 use Rattle.integers.specs.Divides.{divb}
-use Rattle.forms.specs.Forms.{=0}
-use Rattle.calculus.specs.Rules.{every}
+use Rattle.forms.specs.Forms.{=0, every}
 use Rattle.fields.specs.Answers.{_>>=_, _>>_, need, found}
 use Rattle.lines.specs.Parts.{part}
 use Rattle.lines.specs.Buffer.{size, lineIn}

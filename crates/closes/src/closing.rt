@@ -31,7 +31,7 @@ fn is_false(kind: u8, d: i64) -> bool
 
 // Close by number. 10, 11, 15.
 pub fn test_number(lines: &[i32], kinds: &[u8], tally: Tally, i: LineNumber, k: usize) -> Test
-    requires { ⌜ Ready k (now kinds) (now lines) (tally .lines .0) ⌝ }
+    requires { ⌜ Ready (tally .edition) k (now kinds) (now lines) (tally .lines .0) ⌝ }
     ensures { λ r. ⌜ ByNumber k (now (kinds .entry)) (now (lines .entry)) tally (i .0) r ⌝ }
 {
     if !is_there(tally, i) {
@@ -72,7 +72,7 @@ pub fn test_stride(
     g: i64,
     k: usize,
 ) -> Test
-    requires { ⌜ Ready k (now kinds) (now lines) (tally .lines .0) ⌝ }
+    requires { ⌜ Ready (tally .edition) k (now kinds) (now lines) (tally .lines .0) ⌝ }
     requires { ⌜ Multiplies (natAbs g) g ⌝ }
     ensures { λ r. ⌜ ByStride k (now (kinds .entry)) (now (lines .entry)) tally (i .0) (natAbs g) r ⌝ }
 {

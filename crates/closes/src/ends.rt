@@ -32,7 +32,7 @@ pub fn close_number(
     scratch: &mut [u8],
     o: usize,
 ) -> Ended
-    requires { ⌜ Ready k (now kinds) (now lines) (tally .lines .0) ⌝ }
+    requires { ⌜ Ready (tally .edition) k (now kinds) (now lines) (tally .lines .0) ⌝ }
     requires { ⌜ o ≤ scratchLimit ⌝ }
     ensures { λ r. ⌜ EndedBy (λ refusal. byNumber refusal (linesIn k (now (kinds .entry)) (now (lines .entry)) (tally .lines .0)) (i .0)) (now (scratch .entry)) o (now (scratch .exit)) r ⌝ }
 {
@@ -60,7 +60,7 @@ pub fn close_stride(
     scratch: &mut [u8],
     o: usize,
 ) -> Ended
-    requires { ⌜ Ready k (now kinds) (now lines) (tally .lines .0) ⌝ }
+    requires { ⌜ Ready (tally .edition) k (now kinds) (now lines) (tally .lines .0) ⌝ }
     requires { ⌜ Multiplies (natAbs g) g ⌝ }
     requires { ⌜ o ≤ scratchLimit ⌝ }
     ensures { λ r. ⌜ EndedBy (λ refusal. byStride refusal (linesIn k (now (kinds .entry)) (now (lines .entry)) (tally .lines .0)) (i .0) (natAbs g)) (now (scratch .entry)) o (now (scratch .exit)) r ⌝ }

@@ -5,6 +5,7 @@ ghost use mathlib.Core.List.{_++_};
 ghost use Prim.Native.Nat.{_≤_};
 ghost use lib.ListN.{length, drop};
 ghost use Rattle.dulgaverk.specs.Copied.{Copied};
+ghost use Rattle.forms.specs.Edition.{newestEdition};
 ghost use Rattle.bundle.specs.Show.{showPart};
 ghost use Rattle.bundle.specs.Promises.{Reads, Writes, AnswersShow, partBytes};
 ghost use Rattle.formula.specs.Promises.{Tests};
@@ -17,7 +18,7 @@ use forms::LineNumber;
 use formula::Tested;
 
 #[no_mangle]
-pub extern "C" fn dulgaverk_read(file: &[u8], kinds: &mut [u8], numbers: &mut [i16]) -> ReadResult
+pub extern "C" fn dulgaverk_read(file: &[u8], kinds: &mut [u8], numbers: &mut [i32]) -> ReadResult
     ensures { λ r. ⌜ Reads (now (file .entry)) (now (kinds .entry)) (now (numbers .entry)) (now (kinds .exit)) (now (numbers .exit)) r ⌝ }
 {
     bundle::read(file, kinds, numbers)
@@ -25,14 +26,15 @@ pub extern "C" fn dulgaverk_read(file: &[u8], kinds: &mut [u8], numbers: &mut [i
 
 #[no_mangle]
 pub extern "C" fn dulgaverk_write(
+    edition: u8,
     k: u8,
     kinds: &[u8],
-    numbers: &[i16],
+    numbers: &[i32],
     out: &mut [u8],
 ) -> WriteResult
-    ensures { λ r. ⌜ Writes k (now (kinds .entry)) (now (numbers .entry)) (now (out .entry)) (now (out .exit)) r ⌝ }
+    ensures { λ r. ⌜ Writes edition k (now (kinds .entry)) (now (numbers .entry)) (now (out .entry)) (now (out .exit)) r ⌝ }
 {
-    bundle::write(k, kinds, numbers, out)
+    bundle::write(edition, k, kinds, numbers, out)
 }
 
 #[no_mangle]
@@ -65,7 +67,7 @@ pub extern "C" fn dulgaverk_check(a: &[u8], b: &[u8], proof: &[u8], out: &mut [u
 // The constraint's field, copied into `out`, and its length. (An exported function cannot return a reference.) Where it does not fit, nothing is copied.
 #[no_mangle]
 pub extern "C" fn dulgaverk_show<'a>(a: &'a [u8], b: &'a [u8], line: u16, out: &mut [u8]) -> usize
-    ensures { λ r. ⌜ Copied (partBytes (showPart (now (a .entry)) (now (b .entry)) line) (now (a .entry)) (now (b .entry))) (now (out .entry)) (now (out .exit)) r ⌝ }
+    ensures { λ r. ⌜ Copied (partBytes (showPart newestEdition (now (a .entry)) (now (b .entry)) line) (now (a .entry)) (now (b .entry))) (now (out .entry)) (now (out .exit)) r ⌝ }
 {
     let part = bundle::show(a, b, LineNumber(line));
     let n = part.len();

@@ -13,7 +13,7 @@ use Rattle.fields.specs.declared.Answer.{Answer}
 use Rattle.fields.specs.declared.FileKind.{FileKind}
 use Rattle.fields.specs.Answers.{answer, Result, refused, accepted, _>>=_, _>>_, need, found, Written, written}
 use Rattle.fields.specs.Fields.{Field, Front, whole, broken, nothing, front, Fields, ends, cut, _▸_, note, unlessNote, fieldsFrom, fields, Noted, same, noted, passed, Kept}
-use Rattle.fields.specs.Header.{Header, headerField, header, finished}
+use Rattle.fields.specs.Header.{Header, headerField, editionField, constantsField, header, finished}
 use Rattle.fields.proofs.Notes.{note-tags}
 use Rattle.fields.proofs.Framing.{from-nothing, from-broken, from-whole, fieldsStarting, fieldsAt-field}
 
@@ -157,10 +157,14 @@ module _ {X : Type 0} where
 
 -- ---- the header and the end of a file
 abbrev pub bareHeader : Header → Header
-bareHeader h = record { edition = h .edition; K = h .K; rest = bare (h .rest) }
+bareHeader h = record { number = h .number; K = h .K; rest = bare (h .rest) }
 
 abbrev bareHeaderField : ℕ × ℕ × Fields → ℕ × ℕ × Fields
 bareHeaderField x = (0, x .1, bare (x .2))
+
+-- What a header field says, and the fields after it.
+abbrev pub bareNumbered : ℕ × Fields → ℕ × Fields
+bareNumbered x = (x .0, bare (x .1))
 
 module _ (kind : FileKind) (file : ℕ) where
   headerField-bare : (tag : ℕ) (fs : Fields) → Erased bareHeaderField (headerField kind file tag fs) (headerField kind file tag (bare fs))
@@ -169,13 +173,17 @@ module _ (kind : FileKind) (file : ℕ) where
   headerField-bare tag (cut at) = computed
   headerField-bare tag (f ▸ fs) = need-bare _ _ (need-bare _ _ (need-bare _ _ computed))
 
-  pub header-bare : (given : Option ℕ) (fs : Fields) → Erased bareHeader (header kind file given fs) (header kind file given (bare fs))
+  pub edition-bare : (newest : ℕ) (fs : Fields) → Erased bareNumbered (editionField kind file newest fs) (editionField kind file newest (bare fs))
+  unfolding editionField
+  edition-bare newest fs = bind-bare _ (headerField-bare 0x01 fs) λ x. need-bare _ _ computed
+
+  pub constants-bare : (given : Option ℕ) (fs : Fields) → Erased bareNumbered (constantsField kind file given fs) (constantsField kind file given (bare fs))
+  unfolding constantsField
+  constants-bare given fs = bind-bare _ (headerField-bare 0x02 fs) λ x. need-bare _ _ (need-bare _ _ computed)
+
+  pub header-bare : (newest : ℕ) (given : Option ℕ) (fs : Fields) → Erased bareHeader (header kind file newest given fs) (header kind file newest given (bare fs))
   unfolding header
-  header-bare given fs =
-      bind-bare _ (headerField-bare 0x01 fs) λ x.
-      found-bare _ _ λ e.
-      bind-bare _ (headerField-bare 0x02 (x .2)) λ y.
-      need-bare _ _ (need-bare _ _ computed)
+  header-bare newest given fs = bind-bare _ (edition-bare newest fs) λ x. bind-bare _ (constants-bare given (x .1)) λ y. computed
 
   pub finished-bare : (fs : Fields) → Erased (λ x. x) (finished kind file fs) (finished kind file (bare fs))
   unfolding finished

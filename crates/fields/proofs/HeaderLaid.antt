@@ -8,22 +8,13 @@ use native.Mathlib.Omega.{arith}
 use lib.Dec.{T, leb, eqb, leb→le, le→leb, eqb→eq, eqb-refl}
 use lib.ListN.{length, getD}
 use mir.Facts.{and-yes, yes-and}
-use Rattle.forms.specs.Edition.{Edition, edition1, editionNumbered}
+use Rattle.forms.specs.Edition.{edition1}
 use Rattle.fields.specs.declared.FileKind.{FileKind}
 use Rattle.fields.specs.declared.FileKind.the-variants.{Bundle, Proof, Formula}
-use Rattle.fields.specs.Answers.{accepted}
+use Rattle.fields.specs.Answers.{Result, accepted}
 use Rattle.fields.specs.Fields.{Field, Fields, ends, cut, _▸_, Item, item, items}
-use Rattle.fields.specs.Header.{headerTag, known, Header, agrees, headerField, header, finished}
-use Rattle.fields.proofs.Results.{Gives, gives-refused, gives-accepted, bind, test, finds, binds, needs, found-some}
-
--- there is one edition
-pub edition-is : (n : ℕ) (e : Edition) → editionNumbered n ≡ some e → (n ≡ 1) × (e ≡ edition1)
-unfolding editionNumbered
-edition-is n e h = go (eqb n 1) refl h
-  where
-    go : (b : Bool) → eqb n 1 ≡ b → elim b [ true ↦ some edition1 | false ↦ none ] ≡ some e → (n ≡ 1) × (e ≡ edition1)
-    go true t q = (eqb→eq n 1 (rw t tt), let p : e ≡ edition1 = cc in p)
-    go false t q = absurd (let z : _≡_ {A = ℕ} 0 1 = cc in omega arith)
+use Rattle.fields.specs.Header.{headerTag, known, Header, agrees, headerField, editionField, constantsField, header, finished}
+use Rattle.fields.proofs.Results.{Gives, gives-refused, gives-accepted, bind, test, binds, needs}
 
 or-left : (a b : Bool) → T a → T (a || b)
 or-left true b t = tt
@@ -88,13 +79,27 @@ header-known Formula tag t = or-left (headerTag tag) _ t
 pub record LaidHeaderField (tag : ℕ) (fs : Fields) (x : ℕ × ℕ × Fields) : Type 0 where
   pub from : (is : List Item) → items (x .2) ≡ some is → items fs ≡ some (item tag (x .1 ∷ []) ∷ is)
 
--- the fields fs are 0x01 of edition 1, 0x02 with K from 1 to 16 and as given, and then h .rest
-pub record LaidHeader (given : Option ℕ) (fs : Fields) (h : Header) : Type 0 where
-  pub edition : h .edition ≡ edition1
+-- the fields fs are 0x01 of an edition up to the newest, and then x .1
+pub record LaidEdition (newest : ℕ) (fs : Fields) (x : ℕ × Fields) : Type 0 where
+  pub first : 1 ≤ x .0
+  pub last : x .0 ≤ newest
+  pub from : (is : List Item) → items (x .1) ≡ some is → items fs ≡ some (item 0x01 (x .0 ∷ []) ∷ is)
+
+-- they are 0x02 with K from 1 to 16 and as given, and then x .1
+pub record LaidConstants (given : Option ℕ) (fs : Fields) (x : ℕ × Fields) : Type 0 where
+  pub low : 1 ≤ x .0
+  pub high : x .0 ≤ edition1 .constants
+  pub agree : T (agrees given (x .0))
+  pub from : (is : List Item) → items (x .1) ≡ some is → items fs ≡ some (item 0x02 (x .0 ∷ []) ∷ is)
+
+-- they are both, and then h .rest
+pub record LaidHeader (newest : ℕ) (given : Option ℕ) (fs : Fields) (h : Header) : Type 0 where
+  pub first : 1 ≤ h .number
+  pub last : h .number ≤ newest
   pub low : 1 ≤ h .K
   pub high : h .K ≤ edition1 .constants
   pub agree : T (agrees given (h .K))
-  pub from : (is : List Item) → items (h .rest) ≡ some is → items fs ≡ some (item 0x01 (1 ∷ []) ∷ item 0x02 (h .K ∷ []) ∷ is)
+  pub from : (is : List Item) → items (h .rest) ≡ some is → items fs ≡ some (item 0x01 (h .number ∷ []) ∷ item 0x02 (h .K ∷ []) ∷ is)
 
 module _ (kind : FileKind) (file : ℕ) where
   header-field : (tag : ℕ) (fs : Fields) → Gives (headerField kind file tag fs) (LaidHeaderField tag fs)
@@ -124,38 +129,60 @@ module _ (kind : FileKind) (file : ℕ) where
             ∙ ap (λ (bs : List ℕ). accepted (f .first .at, getD bs 0 0, f .after)) (f .contents);
       }
 
-  -- ---- the whole header
-  pub header-gives : (given : Option ℕ) (fs : Fields) → Gives (header kind file given fs) (LaidHeader given fs)
-  unfolding header
-  header-gives given fs = bind (header-field 0x01 fs) λ (at, n, fs1) h1. bind (finds _ (editionNumbered n) tt) λ e q. bind (header-field 0x02 fs1) λ (at2, K, fs2) h2.
-      test _ _ tt λ b. test _ _ tt λ a.
-      let (n1, e1) = edition-is n e q in
-      let (l, m) = and-yes (leb 1 K) (leb K (e .constants)) b in
-      gives-accepted (record {
-        edition = e1;
-        low = leb→le 1 K l;
-        high = rw e1 at (leb→le K (e .constants) m);
-        agree = a;
-        from = λ is h. rw n1 at (h1 .from _ (h2 .from is h));
-      })
+  -- ---- the two fields of the header, and both
+  pub edition-gives : (newest : ℕ) (fs : Fields) → Gives (editionField kind file newest fs) (LaidEdition newest fs)
+  unfolding editionField
+  edition-gives newest fs = bind (header-field 0x01 fs) λ (at, n, fs1) h. test _ _ tt λ b.
+      let (l, m) = and-yes (leb 1 n) (leb n newest) b in
+      gives-accepted (record { first = leb→le 1 n l; last = leb→le n newest m; from = h .from })
 
-  -- the other way: such a header is read
-  pub record HeaderRead (given : Option ℕ) (fs : Fields) (K : ℕ) (is : List Item) : Type 0 where
+  pub constants-gives : (given : Option ℕ) (fs : Fields) → Gives (constantsField kind file given fs) (LaidConstants given fs)
+  unfolding constantsField
+  constants-gives given fs = bind (header-field 0x02 fs) λ (at, K, fs1) h. test _ _ tt λ b. test _ _ tt λ a.
+      let (l, m) = and-yes (leb 1 K) (leb K (edition1 .constants)) b in
+      gives-accepted (record { low = leb→le 1 K l; high = leb→le K (edition1 .constants) m; agree = a; from = h .from })
+
+  pub header-gives : (newest : ℕ) (given : Option ℕ) (fs : Fields) → Gives (header kind file newest given fs) (LaidHeader newest given fs)
+  unfolding header
+  header-gives newest given fs = bind (edition-gives newest fs) λ (n, fs1) h1. bind (constants-gives given fs1) λ (K, fs2) h2.
+      gives-accepted (record { first = h1 .first; last = h1 .last; low = h2 .low; high = h2 .high; agree = h2 .agree; from = λ is h. h1 .from _ (h2 .from is h) })
+
+  -- the other way: such fields are read
+  pub record NumberRead (r : Fields → Result (ℕ × Fields)) (fs : Fields) (x : ℕ) (is : List Item) : Type 0 where
     pub after : Fields
     pub rest : items after ≡ some is
-    pub reads : header kind file given fs ≡ accepted (record { edition = edition1; K = K; rest = after })
+    pub reads : r fs ≡ accepted (x, after)
 
-  pub header-read : (given : Option ℕ) (fs : Fields) (K : ℕ) (is : List Item) → items fs ≡ some (item 0x01 (1 ∷ []) ∷ item 0x02 (K ∷ []) ∷ is)
-      → 1 ≤ K → K ≤ edition1 .constants → T (agrees given K) → HeaderRead given fs K is
-  unfolding header headerTag editionNumbered
-  header-read given fs K is h l m a =
-      let r1 = field-read 0x01 1 fs (item 0x02 (K ∷ []) ∷ is) (header-known kind 0x01 tt) h in
-      let r2 = field-read 0x02 K (r1 .after) is (header-known kind 0x02 tt) (r1 .rest) in
+  pub edition-read : (newest : ℕ) (fs : Fields) (n : ℕ) (is : List Item) → items fs ≡ some (item 0x01 (n ∷ []) ∷ is) → 1 ≤ n → n ≤ newest
+      → NumberRead (editionField kind file newest) fs n is
+  unfolding editionField headerTag
+  edition-read newest fs n is h l m =
+      let r = field-read 0x01 n fs is (header-known kind 0x01 tt) h in
+      record { after = r .after; rest = r .rest; reads = binds _ (r .reads) ∙ needs _ _ _ (yes-and (leb 1 n) (leb n newest) (le→leb 1 n l) (le→leb n newest m)) }
+
+  pub constants-read : (given : Option ℕ) (fs : Fields) (K : ℕ) (is : List Item) → items fs ≡ some (item 0x02 (K ∷ []) ∷ is)
+      → 1 ≤ K → K ≤ edition1 .constants → T (agrees given K) → NumberRead (constantsField kind file given) fs K is
+  unfolding constantsField headerTag
+  constants-read given fs K is h l m a =
+      let r = field-read 0x02 K fs is (header-known kind 0x02 tt) h in
       record {
-        after = r2 .after;
-        rest = r2 .rest;
-        reads = binds _ (r1 .reads) ∙ binds _ (found-some _ refl) ∙ binds _ (r2 .reads) ∙ needs _ _ _ (yes-and (leb 1 K) (leb K (edition1 .constants)) (le→leb 1 K l) (le→leb K (edition1 .constants) m)) ∙ needs _ _ _ a;
+        after = r .after;
+        rest = r .rest;
+        reads = binds _ (r .reads) ∙ needs _ _ _ (yes-and (leb 1 K) (leb K (edition1 .constants)) (le→leb 1 K l) (le→leb K (edition1 .constants) m)) ∙ needs _ _ _ a;
       }
+
+  pub record HeaderRead (newest : ℕ) (given : Option ℕ) (fs : Fields) (n K : ℕ) (is : List Item) : Type 0 where
+    pub after : Fields
+    pub rest : items after ≡ some is
+    pub reads : header kind file newest given fs ≡ accepted (record { number = n; K = K; rest = after })
+
+  pub header-read : (newest : ℕ) (given : Option ℕ) (fs : Fields) (n K : ℕ) (is : List Item) → items fs ≡ some (item 0x01 (n ∷ []) ∷ item 0x02 (K ∷ []) ∷ is)
+      → 1 ≤ n → n ≤ newest → 1 ≤ K → K ≤ edition1 .constants → T (agrees given K) → HeaderRead newest given fs n K is
+  unfolding header
+  header-read newest given fs n K is h f g l m a =
+      let r1 = edition-read newest fs n (item 0x02 (K ∷ []) ∷ is) h f g in
+      let r2 = constants-read given (r1 .after) K is (r1 .rest) l m a in
+      record { after = r2 .after; rest = r2 .rest; reads = binds _ (r1 .reads) ∙ binds _ (r2 .reads) }
 
   -- ---- the end of the file
   pub finished-gives : (fs : Fields) → Gives (finished kind file fs) (λ _. items fs ≡ some [])

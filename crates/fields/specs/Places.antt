@@ -1,19 +1,17 @@
 -- The fields of a file by place, as the code reads them: one field at a place, and the next that is no note. Assumes nothing.
 use mathlib.Core.Path.{_≡_}
 use mathlib.Core.Option.{Option, none, some}
-use mathlib.Core.Bool.{_&&_}
 use mathlib.Core.List.{List}
 use Prim.Native.Nat.{ℕ, zero, suc, _+_}
-use lib.Dec.{leb}
 use lib.ListN.{length, drop}
-use Rattle.forms.specs.Edition.{edition1}
-use Rattle.fields.specs.Answers.{answer, Result, refused, accepted, _>>=_, _>>_, need}
+use Rattle.fields.specs.Answers.{answer, Result, refused, accepted}
 use Rattle.fields.specs.Fields.{Field, Front, whole, broken, nothing, front, Fields, ends, cut, _▸_, fieldsFrom, fields}
-use Rattle.fields.specs.Header.{Header, headerField, header, agrees}
+use Rattle.fields.specs.Header.{Header, headerField, editionField, constantsField, header}
 use Rattle.fields.specs.declared.FileKind.{FileKind}
 use Rattle.fields.specs.declared.Found.{Found}
 use Rattle.fields.specs.declared.Next.{Next}
 use Rattle.fields.specs.declared.header.HeaderField.{HeaderField}
+use Rattle.fields.specs.declared.header.Numbered.{Numbered}
 use Rattle.fields.specs.declared.header.Headed.{Headed}
 
 -- What stands at a place: the field's tag, where its contents start, how many bytes they have, and the place after it.
@@ -46,25 +44,25 @@ abbrev pub headerFieldOf : (file : ℕ) → List ℕ → HeaderField → Result 
 headerFieldOf file s (HeaderField.Value at value next) = accepted (at, value, fieldsAt s next)
 headerFieldOf file s (HeaderField.Refused number place) = refused (answer number file place)
 
+-- A header field read, by the code's answer: its number, and the fields after it.
+abbrev pub numberedOf : (file : ℕ) → List ℕ → Numbered → Result (ℕ × Fields)
+numberedOf file s (Numbered.Value value next) = accepted (value, fieldsAt s next)
+numberedOf file s (Numbered.Refused number place) = refused (answer number file place)
+
 -- The whole header, by the code's answer.
 abbrev pub headedOf : (file : ℕ) → List ℕ → Headed → Result Header
-headedOf file s (Headed.Header k next) = accepted (record { edition = edition1; K = k; rest = fieldsAt s next })
+headedOf file s (Headed.Header edition k next) = accepted (record { number = edition; K = k; rest = fieldsAt s next })
 headedOf file s (Headed.Refused number place) = refused (answer number file place)
 
--- The code's answer is that of a definition, whatever the file is called; an accepted header leaves the place at which it ends.
+-- The code's answer is that of a definition, whatever the file is called; what is accepted leaves the place at which it ends.
 pub record IsHeaderField (kind : FileKind) (tag : ℕ) (s : List ℕ) (at : ℕ) (r : HeaderField) : Type 0 where
   pub is : (file : ℕ) → headerField kind file tag (fieldsAt s at) ≡ headerFieldOf file s r
 
--- The second header field, after 0x01 of edition 1.
-unfoldable pub headerK : (kind : FileKind) (file : ℕ) → Option ℕ → Fields → Result Header
-headerK kind file given fs = do
-  (at2, K, fs2) ← headerField kind file 0x02 fs
-  need (answer 7 file at2) (leb 1 K && leb K (edition1 .constants))
-  need (answer 9 file at2) (agrees given K)
-  accepted (record { edition = edition1; K = K; rest = fs2 })
+pub record IsEdition (kind : FileKind) (newest : ℕ) (s : List ℕ) (r : Numbered) : Type 0 where
+  pub is : (file : ℕ) → editionField kind file newest (fields s) ≡ numberedOf file s r
 
-pub record IsHeaderK (kind : FileKind) (given : ℕ) (s : List ℕ) (at : ℕ) (r : Headed) : Type 0 where
-  pub is : (file : ℕ) → headerK kind file (givenK given) (fieldsAt s at) ≡ headedOf file s r
+pub record IsConstants (kind : FileKind) (given : ℕ) (s : List ℕ) (at : ℕ) (r : Numbered) : Type 0 where
+  pub is : (file : ℕ) → constantsField kind file (givenK given) (fieldsAt s at) ≡ numberedOf file s r
 
-pub record IsHeader (kind : FileKind) (given : ℕ) (s : List ℕ) (r : Headed) : Type 0 where
-  pub is : (file : ℕ) → header kind file (givenK given) (fields s) ≡ headedOf file s r
+pub record IsHeader (kind : FileKind) (newest given : ℕ) (s : List ℕ) (r : Headed) : Type 0 where
+  pub is : (file : ℕ) → header kind file newest (givenK given) (fields s) ≡ headedOf file s r

@@ -100,7 +100,7 @@ pub enum Next {
     },
 }
 
-// Notes are passed over here, and where a bundle that was gone over is stored.
+// Notes are passed over here, and nowhere else.
 fn next_at(s: &[u8], at: usize) -> Next
     ensures { λ r. ⌜ r ≡ nextOf (fieldsAt (now (s .entry)) at) ⌝ }
 {

@@ -1,12 +1,11 @@
 // Big-endian numbers of some bytes, unsigned and two's complement, read and written.
 ghost use mathlib.Core.Path.{_≡_};
-ghost use mathlib.Core.Logic.{_⊎_};
 ghost use mathlib.Core.List.{_∷_};
 ghost use Prim.Native.Nat.{_+_, _^_, _<_, _≤_};
 ghost use lib.ListN.{length, take, drop};
 ghost use lib.Seq.{sets};
-ghost use Rattle.fields.specs.Numbers.{unsigned, complement, residue, unsignedBytes, signedBytes};
-ghost use Rattle.fields.specs.Ranges.{Half, Held};
+ghost use Rattle.fields.specs.Numbers.{unsigned, complement, residue, unsignedBytes};
+ghost use Rattle.fields.specs.Ranges.{Half};
 
 fn wide(x: u8) -> u64
     ensures { λ r. ⌜ (r ≡ x) × (r < 256) ⌝ }
@@ -28,14 +27,6 @@ pub fn unsigned_at(s: &[u8], at: usize, width: usize) -> u64
         i += 1;
     }
     n
-}
-
-// How many numbers a signed width has.
-fn count_of(width: usize) -> u64
-    requires { ⌜ (width ≡ 2) ⊎ (width ≡ 4) ⌝ }
-    ensures { λ r. ⌜ (r ≡ 256 ^ width) × (r ≤ 0x1_0000_0000) ⌝ }
-{
-    if width == 2 { 0x1_0000 } else { 0x1_0000_0000 }
 }
 
 // n, below full, read as two's complement.
@@ -75,17 +66,6 @@ pub fn residue_of(value: i64, full: u64) -> u64
     } else {
         value as u64
     }
-}
-
-pub fn put_signed(out: &mut [u8], at: usize, width: usize, value: i64)
-    requires { ⌜ (width ≡ 2) ⊎ (width ≡ 4) ⌝ }
-    requires { ⌜ at + width ≤ length (now out) ⌝ }
-    requires { ⌜ Held width value ⌝ }
-    ensures { λ _. ⌜ now (out .exit) ≡ sets (now (out .entry)) at (signedBytes width value) ⌝ }
-{
-    let full = count_of(width);
-    let n = residue_of(value, full);
-    put_unsigned(out, at, width, n);
 }
 
 // The tag and the two length bytes of a field.

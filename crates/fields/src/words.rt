@@ -1,8 +1,10 @@
-// Signed numbers of two and four bytes, read and written as words of the machine.
+// Signed numbers of two or four bytes, read and written: each way as a word of the machine.
 // The bytes are taken with the low one first, of which the compiler makes one load or store, and then turned round.
+use super::numbers::put_unsigned;
 use super::numbers::residue_of;
 use super::numbers::signed_of;
 ghost use mathlib.Core.Path.{_≡_};
+ghost use mathlib.Core.Logic.{_⊎_};
 ghost use Prim.Native.Nat.{_+_, _*_, _/_, _%_, _≤_};
 ghost use lib.ListN.{length, getD, take, drop, set};
 ghost use lib.Seq.{sets};
@@ -27,21 +29,12 @@ fn turned_pair(x: u16) -> u16
 }
 
 // The two's complement number of two bytes at `at`.
-pub fn short_at(s: &[u8], at: usize) -> i16
+fn short_at(s: &[u8], at: usize) -> i16
     requires { ⌜ at + 2 ≤ length (now s) ⌝ }
     ensures { λ r. ⌜ r ≡ signed (take 2 (drop at (now (s .entry)))) ⌝ }
 {
     let n = turned_pair(pair_at(s, at));
     signed_of(n as u64, 0x1_0000) as i16
-}
-
-// The same number, widened.
-pub fn wide_short_at(s: &[u8], at: usize) -> i64
-    requires { ⌜ at + 2 ≤ length (now s) ⌝ }
-    ensures is { λ r. ⌜ r ≡ signed (take 2 (drop at (now (s .entry)))) ⌝ }
-    ensures range { λ r. ⌜ Held 2 r ⌝ }
-{
-    short_at(s, at) as i64
 }
 
 // Two bytes, the low one first.
@@ -53,12 +46,21 @@ fn put_pair(out: &mut [u8], at: usize, x: u16)
     out[at + 1] = (x / 256) as u8;
 }
 
-pub fn put_short(out: &mut [u8], at: usize, value: i16)
+fn put_short(out: &mut [u8], at: usize, value: i16)
     requires { ⌜ at + 2 ≤ length (now out) ⌝ }
     ensures { λ _. ⌜ now (out .exit) ≡ sets (now (out .entry)) at (signedBytes 2 value) ⌝ }
 {
     let n = residue_of(value as i64, 0x1_0000);
     put_pair(out, at, turned_pair(n as u16));
+}
+
+fn put_long(out: &mut [u8], at: usize, value: i64)
+    requires { ⌜ at + 4 ≤ length (now out) ⌝ }
+    requires { ⌜ Held 4 value ⌝ }
+    ensures { λ _. ⌜ now (out .exit) ≡ sets (now (out .entry)) at (signedBytes 4 value) ⌝ }
+{
+    let n = residue_of(value, 0x1_0000_0000);
+    put_unsigned(out, at, 4, n);
 }
 
 // Four bytes, the first one low.
@@ -82,7 +84,7 @@ fn turned_four(x: u32) -> u32
 }
 
 // The two's complement number of four bytes at `at`.
-pub fn long_at(s: &[u8], at: usize) -> i32
+fn long_at(s: &[u8], at: usize) -> i32
     requires { ⌜ at + 4 ≤ length (now s) ⌝ }
     ensures is { λ r. ⌜ r ≡ signed (take 4 (drop at (now (s .entry)))) ⌝ }
     ensures range { λ r. ⌜ Held 4 r ⌝ }
@@ -91,11 +93,29 @@ pub fn long_at(s: &[u8], at: usize) -> i32
     signed_of(n as u64, 0x1_0000_0000) as i32
 }
 
-// The same number, widened.
-pub fn wide_long_at(s: &[u8], at: usize) -> i64
-    requires { ⌜ at + 4 ≤ length (now s) ⌝ }
-    ensures is { λ r. ⌜ r ≡ signed (take 4 (drop at (now (s .entry)))) ⌝ }
-    ensures range { λ r. ⌜ Held 4 r ⌝ }
+// The two's complement number of `width` bytes at `at`.
+pub fn signed_at(s: &[u8], at: usize, width: usize) -> i64
+    requires { ⌜ (width ≡ 2) ⊎ (width ≡ 4) ⌝ }
+    requires { ⌜ at + width ≤ length (now s) ⌝ }
+    ensures is { λ r. ⌜ r ≡ signed (take width (drop at (now (s .entry)))) ⌝ }
+    ensures range { λ r. ⌜ Held width r ⌝ }
 {
+    if width == 2 {
+        return short_at(s, at) as i64;
+    }
     long_at(s, at) as i64
+}
+
+// A number as `width` bytes at `at`.
+pub fn put_signed(out: &mut [u8], at: usize, width: usize, value: i64)
+    requires { ⌜ (width ≡ 2) ⊎ (width ≡ 4) ⌝ }
+    requires { ⌜ at + width ≤ length (now out) ⌝ }
+    requires { ⌜ Held width value ⌝ }
+    ensures { λ _. ⌜ now (out .exit) ≡ sets (now (out .entry)) at (signedBytes width value) ⌝ }
+{
+    if width == 2 {
+        put_short(out, at, value as i16);
+        return;
+    }
+    put_long(out, at, value);
 }

@@ -2,10 +2,11 @@
 use mathlib.Core.Path.{_≡_}
 use mathlib.Core.Logic.{_⊎_}
 use mathlib.Core.List.{List, [], _∷_, _++_, map}
-use mathlib.Core.Bool.{Bool, false, not, cond, _||_}
+use mathlib.Core.Bool.{Bool, true, false, not, cond, _&&_, _||_}
 use Prim.Native.Nat.{ℕ, suc, max}
+use lib.Dec.{leb}
 use lib.ListN.{getD}
-use lib.IntN.{ℤ, pos, negsuc, _+ℤ_, _*ℤ_}
+use lib.IntN.{ℤ, pos, negsuc, natAbs, _+ℤ_, _*ℤ_}
 use lib.Signed.{_≤ℤ_}
 use Rattle.integers.specs.Linear.{eqZ}
 use Rattle.integers.specs.Divides.{_∣ℤ_}
@@ -97,6 +98,14 @@ Meets v c = ConstraintHolds (c .kind) (value (c .form) v)
 pub data All {X : Type 0} (P : X → Type 0) : List X → Type 0 where
   nil : All P []
   cons : {x : X} {xs : List X} → P x → All P xs → All P (x ∷ xs)
+
+-- z lies within ± the range, and each number of a list passes a test.
+unfoldable pub small : ℕ → ℤ → Bool
+small range z = leb (natAbs z) range
+
+unfoldable pub every : (ℤ → Bool) → List ℤ → Bool
+every p [] = true
+every p (c ∷ cs) = p c && every p cs
 
 -- A constant occurs in a bundle if some constraint there gives it a non-zero coefficient.
 unfoldable pub nonzero : ℤ → Bool

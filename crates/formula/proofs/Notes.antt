@@ -52,8 +52,8 @@ module _ (e : Edition) (K : ℕ) where
 pub readFormula-bare : (K : ℕ) (fs : Fields) → Erased (λ x. x) (readFormula K fs) (readFormula K (bare fs))
 unfolding readFormula
 readFormula-bare K fs =
-    bind-bare _ (header-bare FileKind.Formula fileProof (some K) fs) λ h.
-    bind-bare _ (formulaWithin-bare (h .edition) (h .K) (h .edition .levels) (h .rest)) λ x.
+    bind-bare _ (header-bare FileKind.Formula fileProof 1 (some K) fs) λ h.
+    bind-bare _ (formulaWithin-bare edition1 (h .K) (edition1 .levels) (h .rest)) λ x.
     then-bare (finished-bare FileKind.Formula fileProof (x .1)) computed
 
 abbrev bareTested : Tested → Tested

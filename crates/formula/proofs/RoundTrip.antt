@@ -10,14 +10,14 @@ use lib.ListN.{length, take, drop, length-append}
 use lib.Seq.{take-at, drop-at}
 use lib.IntN.{ℤ, pos, natAbs}
 use borrow.Author.Tests.{le-leb, eq-eqb, ne-eqb}
-use Rattle.forms.specs.Edition.{edition1, editionNumbered}
+use Rattle.forms.specs.Edition.{edition1}
 use Rattle.forms.specs.Forms.{Kind, ≤0, =0, Form, Formula, literal, _divides_, _and_, _or_, height}
 use Rattle.fields.specs.declared.FileKind.{FileKind}
 use Rattle.fields.specs.declared.Answer.{Answer}
 use Rattle.fields.specs.Answers.{answer, fileProof, Result, refused, accepted, _>>=_, _>>_, need}
 use Rattle.fields.specs.Numbers.{signed, signedBytes, formFrom, formBytes, formWidth}
 use Rattle.fields.specs.Fields.{Field, Fields, ends, _▸_, note, fields, fieldsFrom, fieldBytes}
-use Rattle.fields.specs.Header.{Header, agrees, known, headerTag, header, headerField, finished, headerBytes}
+use Rattle.fields.specs.Header.{Header, agrees, known, headerTag, header, headerField, editionField, constantsField, finished, headerBytes}
 use Rattle.fields.specs.Ranges.{InWidth, FormInWidth}
 use Rattle.fields.proofs.Signed.{length-signedBytes, signed-signedBytes, length-formBytes, formFrom-written}
 use Rattle.formula.specs.Formula.{encode, formulaFile, Encodable, Connective, disjunction, conjunction, FormulaTag, pair, atom, stride, formulaTagged, compound, formulaSize, formulaOf, formulaField, twoParts, formulaWithin, readFormula}
@@ -178,16 +178,19 @@ header-field-read : (tag at b : ℕ) (fs : Fields) → known FileKind.Formula ta
 unfolding headerField
 header-field-read tag at b fs k = pass _ _ k ∙ pass _ _ (eq-eqb tag tag refl) ∙ pass _ _ refl
 
-header-read : (K : ℕ) (fs : Fields) → 1 ≤ K → K ≤ 16 → header FileKind.Formula fileProof (some K) (field 0 0x01 (1 ∷ []) ▸ field 4 0x02 (K ∷ []) ▸ fs) ≡ accepted (record { edition = edition1; K = K; rest = fs })
-unfolding header editionNumbered agrees known headerTag
-header-read K fs low high =
-    binds _ (header-field-read 0x01 0 1 (field 4 0x02 (K ∷ []) ▸ fs) refl)
-    ∙ binds _ (found-some _ refl)
-    ∙ binds _ (header-field-read 0x02 4 K fs refl)
-    ∙ pass _ _ (rw (le-leb 1 K low, le-leb K 16 high))
-    ∙ pass _ _ (eq-eqb K K refl)
+edition-read : (fs : Fields) → editionField FileKind.Formula fileProof 1 (field 0 0x01 (1 ∷ []) ▸ fs) ≡ accepted (1, fs)
+unfolding editionField known headerTag
+edition-read fs = binds _ (header-field-read 0x01 0 1 fs refl) ∙ pass _ _ refl
 
-pub header-fields : (K fuel : ℕ) (bs : List ℕ) → fieldsFrom (suc (suc fuel)) 0 (headerBytes K ++ bs) ≡ field 0 0x01 (1 ∷ []) ▸ field 4 0x02 (K ∷ []) ▸ fieldsFrom fuel 8 bs
+header-read : (K : ℕ) (fs : Fields) → 1 ≤ K → K ≤ 16 → header FileKind.Formula fileProof 1 (some K) (field 0 0x01 (1 ∷ []) ▸ field 4 0x02 (K ∷ []) ▸ fs) ≡ accepted (record { number = 1; K = K; rest = fs })
+unfolding header constantsField agrees known headerTag
+header-read K fs low high =
+    binds _ (edition-read (field 4 0x02 (K ∷ []) ▸ fs))
+    ∙ binds _ (binds _ (header-field-read 0x02 4 K fs refl)
+    ∙ pass _ _ (rw (le-leb 1 K low, le-leb K 16 high))
+    ∙ pass _ _ (eq-eqb K K refl))
+
+pub header-fields : (K fuel : ℕ) (bs : List ℕ) → fieldsFrom (suc (suc fuel)) 0 (headerBytes 1 K ++ bs) ≡ field 0 0x01 (1 ∷ []) ▸ field 4 0x02 (K ∷ []) ▸ fieldsFrom fuel 8 bs
 unfolding headerBytes note
 header-fields K fuel bs =
     ap (fieldsFrom (suc (suc fuel)) 0) (append-assoc (fieldBytes 0x01 (1 ∷ [])) (fieldBytes 0x02 (K ∷ [])) bs)
@@ -200,40 +203,44 @@ unfolding readFormula fields formulaFile finished
 read-written K I low high h l =
     let X = encode edition1 I in
     let n = 6 + length X in
-    let size : length (headerBytes K ++ X) ≡ suc (suc n) = omega (arith, length-append (headerBytes K) X, length-headerBytes K) in
+    let size : length (headerBytes 1 K ++ X) ≡ suc (suc n) = omega (arith, length-append (headerBytes 1 K) X, length-headerBytes 1 K) in
     let own : length (X ++ []) ≤ n = rw append-nil (omega arith) in
     let part : formulaWithin edition1 K 600 (fieldsFrom n 8 X) ≡ accepted (I, ends (8 + length X))
     = ap (λ (bs : List ℕ). formulaWithin edition1 K 600 (fieldsFrom n 8 bs)) (sym (append-nil X))
     ∙ formula-read K 600 I high h l n 8 [] own
     ∙ ap (λ (fs : Fields). accepted (I, fs)) (fields-end n (8 + length X)) in
-    ap (readFormula K) (ap (λ (m : ℕ). fieldsFrom m 0 (headerBytes K ++ X)) size ∙ header-fields K n X)
+    ap (readFormula K) (ap (λ (m : ℕ). fieldsFrom m 0 (headerBytes 1 K ++ X)) size ∙ header-fields K n X)
     ∙ binds _ (header-read K (fieldsFrom n 8 X) low high)
     ∙ binds _ part
     ∙ passes (accepted I) refl
-
--- A file over another number of constants is refused by its header, whatever formula follows.
-header-other : (K n : ℕ) (fs : Fields) → ¬ (K ≡ n) → header FileKind.Formula fileProof (some n) (field 0 0x01 (1 ∷ []) ▸ field 4 0x02 (K ∷ []) ▸ fs) ≡ (need (answer 7 fileProof 4) (leb 1 K && leb K 16) >> refused (answer 9 fileProof 4))
-unfolding header editionNumbered agrees known headerTag
-header-other K n fs h =
-    binds _ (header-field-read 0x01 0 1 (field 4 0x02 (K ∷ []) ▸ fs) refl)
-    ∙ binds _ (found-some _ refl)
-    ∙ binds _ (header-field-read 0x02 4 K fs refl)
-    ∙ ap (λ (r : Result Header). need (answer 7 fileProof 4) (leb 1 K && leb K 16) >> r) (fail _ _ (ne-eqb K n h))
 
 refused-still : {X Y : Type 0} (a c : Answer) (b : Bool) (f : X → Result Y) → ((need a b >> refused c) >>= f) ≡ (need a b >> refused c)
 unfolding need _>>_ _>>=_
 refused-still a c true f = refl
 refused-still a c false f = refl
 
+-- the header of K and the fields after it
+abbrev numbered : ℕ × Fields → Result Header
+numbered (K, fs) = accepted (record { number = 1; K = K; rest = fs })
+
+-- A file over another number of constants is refused by its header, whatever formula follows.
+header-other : (K n : ℕ) (fs : Fields) → ¬ (K ≡ n) → header FileKind.Formula fileProof 1 (some n) (field 0 0x01 (1 ∷ []) ▸ field 4 0x02 (K ∷ []) ▸ fs) ≡ (need (answer 7 fileProof 4) (leb 1 K && leb K 16) >> refused (answer 9 fileProof 4))
+unfolding header constantsField agrees known headerTag
+header-other K n fs h =
+    binds _ (edition-read (field 4 0x02 (K ∷ []) ▸ fs))
+    ∙ ap (λ (r : Result (ℕ × Fields)). r >>= numbered) (binds _ (header-field-read 0x02 4 K fs refl)
+    ∙ ap (λ (r : Result (ℕ × Fields)). need (answer 7 fileProof 4) (leb 1 K && leb K 16) >> r) (fail _ _ (ne-eqb K n h)))
+    ∙ refused-still _ _ (leb 1 K && leb K 16) numbered
+
 -- what is read after the header
 abbrev follows : Header → Result Formula
-follows h = formulaWithin (h .edition) (h .K) (h .edition .levels) (h .rest) >>= λ (I, after). finished FileKind.Formula fileProof after >> accepted I
+follows h = formulaWithin edition1 (h .K) (edition1 .levels) (h .rest) >>= λ (I, after). finished FileKind.Formula fileProof after >> accepted I
 
 pub read-other : (K n : ℕ) (I : Formula) → ¬ (K ≡ n) → readFormula n (fields (formulaFile edition1 K I)) ≡ (need (answer 7 fileProof 4) (leb 1 K && leb K 16) >> refused (answer 9 fileProof 4))
 unfolding readFormula fields formulaFile
 read-other K n I h =
     let X = encode edition1 I in
-    let size : length (headerBytes K ++ X) ≡ suc (suc (6 + length X)) = omega (arith, length-append (headerBytes K) X, length-headerBytes K) in
-    ap (readFormula n) (ap (λ (m : ℕ). fieldsFrom m 0 (headerBytes K ++ X)) size ∙ header-fields K (6 + length X) X)
+    let size : length (headerBytes 1 K ++ X) ≡ suc (suc (6 + length X)) = omega (arith, length-append (headerBytes 1 K) X, length-headerBytes 1 K) in
+    ap (readFormula n) (ap (λ (m : ℕ). fieldsFrom m 0 (headerBytes 1 K ++ X)) size ∙ header-fields K (6 + length X) X)
     ∙ ap (λ (r : Result Header). r >>= follows) (header-other K n (fieldsFrom (6 + length X) 8 X) h)
     ∙ refused-still _ _ (leb 1 K && leb K 16) follows

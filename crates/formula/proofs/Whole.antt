@@ -9,7 +9,6 @@ use lib.Dec.{leb, eqb→eq}
 use lib.IntN.{ℤ}
 use lib.ListN.{length}
 use borrow.Author.Tests.{le-leb, lt-leb}
-use Rattle.forms.specs.Edition.{edition1}
 use Rattle.forms.specs.Forms.{Formula}
 use Rattle.fields.specs.declared.FileKind.{FileKind}
 use Rattle.fields.specs.declared.ending.Ending.{Ending}
@@ -46,22 +45,22 @@ unfolding judged _>>_
 end-judged values I e (refused a) = refl
 end-judged values I e (accepted x) = rw e
 
-module _ {s : List ℕ} {values : List ℤ} {K : ℕ} (g : Registers values K) {h : Headed} (k : IsHeader FileKind.Formula K s h) where
-  header-is : header FileKind.Formula fileProof (some K) (fields s) ≡ headedOf fileProof s h
-  header-is = ap (λ o. header FileKind.Formula fileProof o (fields s)) (sym (given-some K (g .some))) ∙ k .is fileProof
+module _ {s : List ℕ} {values : List ℤ} {K : ℕ} (g : Registers values K) {h : Headed} (k : IsHeader FileKind.Formula 1 K s h) where
+  header-is : header FileKind.Formula fileProof 1 (some K) (fields s) ≡ headedOf fileProof s h
+  header-is = ap (λ o. header FileKind.Formula fileProof 1 o (fields s)) (sym (given-some K (g .some))) ∙ k .is fileProof
 
   pub header-refused : {number place : ℕ} {r : Tested} → h ≡ Headed.Refused number place → r ≡ testRefused number fileProof place
       → r ≡ asTested (judged values (readFormula K (fields s)))
   unfolding readFormula judged
   header-refused e f = f ∙ sym (ap (λ w. asTested (judged values w)) (bind-refused _ (header-is ∙ rw e)))
 
-  module _ {k′ next : ℕ} (e : h ≡ Headed.Header k′ next) where
+  module _ {n k′ next : ℕ} (e : h ≡ Headed.Header n k′ next) where
     -- K is the number of values
-    header-K : header FileKind.Formula fileProof (some K) (fields s) ≡ accepted (record { edition = edition1; K = K; rest = fieldsAt s next })
+    header-K : header FileKind.Formula fileProof 1 (some K) (fields s) ≡ accepted (record { number = n; K = K; rest = fieldsAt s next })
     unfolding agrees
     header-K =
-        let p : header FileKind.Formula fileProof (some K) (fields s) ≡ accepted (record { edition = edition1; K = k′; rest = fieldsAt s next }) = header-is ∙ rw e in
-        let q : k′ ≡ K = eqb→eq k′ K (header-gives FileKind.Formula fileProof (some K) (fields s) .gives _ p .agree) in
+        let p : header FileKind.Formula fileProof 1 (some K) (fields s) ≡ accepted (record { number = n; K = k′; rest = fieldsAt s next }) = header-is ∙ rw e in
+        let q : k′ ≡ K = eqb→eq k′ K (header-gives FileKind.Formula fileProof 1 (some K) (fields s) .gives _ p .agree) in
         p ∙ rw q
 
     module _ {j : Judged} (b : FormulaRead s next values K 600 j) where

@@ -7,7 +7,7 @@ use lib.Dec.{eqb}
 use lib.ListN.{length, take, drop}
 use lib.IntN.{pos, natAbs}
 use lib.Signed.{leZ}
-use Rattle.forms.specs.Edition.{Edition}
+use Rattle.forms.specs.Edition.{Edition, edition1}
 use Rattle.forms.specs.Forms.{Kind, ≤0, =0, Formula, literal, _divides_, _and_, _or_}
 use Rattle.fields.specs.declared.FileKind.{FileKind}
 use Rattle.fields.specs.Answers.{answer, fileProof, Result, refused, accepted, _>>=_, _>>_, need, found}
@@ -28,7 +28,7 @@ module _ (e : Edition) where
 
   -- The two header fields and the formula, no notes.
   unfoldable pub formulaFile : (K : ℕ) → Formula → List ℕ
-  formulaFile K I = headerBytes K ++ encode I
+  formulaFile K I = headerBytes 1 K ++ encode I
 
 -- Every form has K coefficients, every number fits its four bytes, and g is at least 2.
 abbrev pub Encodable : ℕ → Formula → Type 0
@@ -112,10 +112,10 @@ module _ (e : Edition) (K : ℕ) where
   formulaWithin zero = formulaField (λ at fs. refused (answer 17 fileProof at))
   formulaWithin (suc levels) = formulaField (λ at fs. twoParts (formulaWithin levels) fs)
 
--- The formula of a file over the given number of constants. 2, 3, 19, 4, 6, 5, 7, 9, 12, 17.
+-- The formula of a file over the given number of constants. Formulas stay in edition 1 (document 02, point 3). 2, 3, 19, 4, 6, 5, 7, 9, 12, 17.
 unfoldable pub readFormula : (K : ℕ) → Fields → Result Formula
 readFormula given fs = do
-  h ← header FileKind.Formula fileProof (some given) fs
-  (I, after) ← formulaWithin (h .edition) (h .K) (h .edition .levels) (h .rest)
+  h ← header FileKind.Formula fileProof 1 (some given) fs
+  (I, after) ← formulaWithin edition1 (h .K) (edition1 .levels) (h .rest)
   finished FileKind.Formula fileProof after
   accepted I

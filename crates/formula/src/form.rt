@@ -1,5 +1,5 @@
 // The value of a form at the register values.
-use fields::words::wide_long_at;
+use fields::words::signed_at;
 use forms::TERM_BYTES;
 use integers::number;
 ghost use mathlib.Core.Path.{_≡_};
@@ -21,7 +21,7 @@ fn with_term(s: &[u8], at: usize, values: &[i32], i: usize, total: i64) -> i64
     ensures is { λ r. ⌜ r ≡ signed (take (edition1 .termWidth) (drop at (now (s .entry)))) *ℤ getD (now (values .entry)) i (pos 0) +ℤ total ⌝ }
     ensures range { λ r. ⌜ Held (edition1 .termWidth) (signed (take (edition1 .termWidth) (drop at (now (s .entry))))) ⌝ }
 {
-    let c = wide_long_at(s, at);
+    let c = signed_at(s, at, TERM_BYTES);
     let x = number(values, i);
     c * x + total
 }
@@ -32,7 +32,7 @@ pub fn value_at(s: &[u8], at: usize, values: &[i32], k: usize) -> i64
     requires { ⌜ Registers (now values) k ⌝ }
     ensures { λ r. ⌜ r ≡ value (formAt (now (s .entry)) at k) (registers (now (values .entry))) ⌝ }
 {
-    let mut total = wide_long_at(s, at + k * TERM_BYTES);
+    let mut total = signed_at(s, at + k * TERM_BYTES, TERM_BYTES);
     let mut i = k;
     while 0 < i {
         i -= 1;

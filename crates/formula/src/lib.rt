@@ -62,9 +62,13 @@ fn read_whole(formula: &[u8], values: &[i32], k: usize) -> Tested
     requires { ⌜ Registers (now values) k ⌝ }
     ensures { λ r. ⌜ r ≡ asTested (judged (now (values .entry)) (readFormula k (fields (now (formula .entry))))) ⌝ }
 {
-    match read_header(formula, FileKind::Formula, k as u8) {
+    match read_header(formula, FileKind::Formula, 1, k as u8) {
         Headed::Refused { number, place } => refuse(number, 3, place),
-        Headed::Header { k: _, next } => match formula_at(formula, next, values, k, LEVELS) {
+        Headed::Header {
+            edition: _,
+            k: _,
+            next,
+        } => match formula_at(formula, next, values, k, LEVELS) {
             Judged::Fault { number, at } => refuse(number, 3, at),
             Judged::Value { holds, next: end } => finish(formula, end, holds),
         },

@@ -4,7 +4,7 @@ use crate::node::Node;
 use crate::node::node_of;
 use fields::Next;
 use fields::next_field;
-use fields::words::wide_long_at;
+use fields::words::signed_at;
 use forms::TERM_BYTES;
 use integers::divides;
 use integers::is_zero;
@@ -73,7 +73,7 @@ fn stride_at(s: &[u8], place: usize, start: usize, next: usize, values: &[i32], 
     requires { ⌜ Registers (now values) k ⌝ }
     ensures { λ r. ⌜ r ≡ strideJudged place next (signed (take (edition1 .termWidth) (drop start (now (s .entry))))) (value (formAt (now (s .entry)) (start + edition1 .termWidth) k) (registers (now (values .entry)))) ⌝ }
 {
-    let g = wide_long_at(s, start);
+    let g = signed_at(s, start, TERM_BYTES);
     if g < 2 {
         return Judged::Fault {
             number: 12,

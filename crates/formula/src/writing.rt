@@ -11,7 +11,7 @@ ghost use Rattle.fields.specs.Numbers.{formBytes};
 ghost use Rattle.forms.specs.Flat.{kindOf, formIn};
 ghost use Rattle.formula.specs.Writing.{scratchLimit, Numbered, Divisor, Heads, Puts};
 use fields::numbers::put_head;
-use fields::numbers::put_signed;
+use fields::words::put_signed;
 use integers::number;
 use integers::remainder;
 

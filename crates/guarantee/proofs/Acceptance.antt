@@ -3,36 +3,40 @@ use mathlib.Core.Path.{_≡_, refl, sym, _∙_, ap, subst}
 use mathlib.Core.Bool.{Bool, true, false, _&&_}
 use mathlib.Core.List.{List, [], _∷_, _++_}
 use mathlib.Core.Option.{Option, none, some, Option·map}
+use mathlib.Core.Logic.{_⊎_, inl, inr}
 use Prim.Native.Nat.{ℕ, zero, suc, _+_, _-_, _≤_, _<_}
 use native.Mathlib.Omega.{arith}
 use borrow.Author.Tests.{lt-leb, ltb-true, ltb-false, leb-true, leb-false}
-use lib.Dec.{T, leb, ltb, leb→le, le→leb}
-use lib.IntN.{ℤ}
+use lib.Dec.{T, leb, ltb, leb→le, le→leb, ltb→lt, lt→ltb}
+use mir.Facts.{and-yes, yes-and}
+use lib.IntN.{ℤ, pos, negsuc, natAbs}
 use lib.ListN.{length}
-use Rattle.forms.specs.Edition.{edition1}
-use Rattle.forms.specs.Forms.{All, nil, cons, Constraint, Formula}
+use lib.Signed.{mag}
+use Rattle.forms.specs.Edition.{edition, edition1, newestEdition}
+use Rattle.forms.specs.Forms.{All, nil, cons, Constraint, Formula, small}
+use Rattle.forms.proofs.Editions.{bundleBytes-grows}
 use Rattle.fields.specs.declared.Answer.{Answer}
 use Rattle.fields.specs.declared.WriteResult.{WriteResult}
-use Rattle.fields.specs.Answers.{answer, acceptance, fileA, fileB, fileLent, Result, refused, accepted, _>>=_, _>>_, found, over, fit, Written, written}
+use Rattle.fields.specs.Answers.{answer, acceptance, fileA, fileB, fileLent, Result, refused, accepted, _>>=_, _>>_, fit, Written, written}
 use Rattle.fields.specs.Numbers.{Bytes, unsignedBytes}
 use Rattle.fields.specs.Fields.{Field, Fields, ends, cut, _▸_, fields, nth, Item, item, items, fieldBytes, fileOf}
 use Rattle.fields.specs.Header.{agrees}
-use Rattle.fields.proofs.Results.{Gives, never, not-0, gives-accepted, weaken, bind, seq, finds, binds, passes, found-some}
+use Rattle.fields.proofs.Results.{Gives, not-0, weaken, bind, seq, finds, binds, passes, found-some}
 use Rattle.fields.proofs.Signed.{all-weaken}
 use Rattle.fields.proofs.Contents.{ItemBytes}
 use Rattle.bundle.specs.declared.ReadResult.{ReadResult}
-use Rattle.bundle.specs.Bundle.{Bundle, atMost, bundles}
+use Rattle.bundle.specs.Bundle.{Bundle}
 use Rattle.bundle.specs.Layout.{Each, nil as nil-each, cons as cons-each, BundleFile}
 use Rattle.bundle.specs.Read.{BundleRead, kindsOf, numbersOf, unread, store, stored, readBundle}
-use Rattle.bundle.specs.Write.{writeBundle}
+use Rattle.bundle.specs.Write.{holdable, writeBundle}
 use Rattle.bundle.specs.Show.{Part, partOf, constraintPart, shownPart, answerOf, showAnswer}
 use Rattle.bundle.specs.Promises.{Reads, Writes}
-use Rattle.bundle.proofs.Laid.{BothLaid, laid-file, file-laid, bundle-gives, bundles-give, bundles-accept, short-gives, short-accepted}
+use Rattle.bundle.proofs.Laid.{BothLaid, bundle-gives, bundles-give, bundles-accept, short-gives, short-accepted}
 use Rattle.bundle.specs.Put.{InOrder as Ready}
 use Rattle.bundle.proofs.Writable.{bundleBytes-gives, bundleBytes-accepted}
 use Rattle.bundle.proofs.RoundTrips.{bytesWritten, rewritten, writtenAs, written-fits, readAs, read-file, write-then-read, read-then-write}
 use Rattle.formula.specs.Formula.{formulaFile}
-use Rattle.proof.specs.Check.{formulaAtMost, interpolant, check}
+use Rattle.proof.specs.Check.{formulaAtMost, interpolant, checkBy, check}
 use Rattle.proof.specs.Layout.{Yields, Certifies}
 use Rattle.proof.proofs.Agree.{interpolant-iff, interpolant-yields, interpolant-long, never-0, one-formula, agreed, agrees-refl}
 use Rattle.checking.specs.Promises.{Checks}
@@ -59,38 +63,38 @@ module _ (output : List ℕ) where
     left-by : Result (ℕ × Formula) → Written
     left-by r = written (r >>= λ (K, I). accepted (formulaFile edition1 K I)) output
 
-    from : (r : Result (ℕ × Formula)) → interpolant A B proof ≡ r → left-by r .answer .number ≡ 0 → Checkable A B proof output
+    from : (r : Result (ℕ × Formula)) → interpolant newestEdition A B proof ≡ r → left-by r .answer .number ≡ 0 → Checkable A B proof output
     unfolding left-by written _>>=_
-    from (refused a) e h = absurd (never-0 A B proof a e h)
+    from (refused a) e h = absurd (never-0 newestEdition A B proof a e h)
     from (accepted (K, I)) e h = record {
       K = K;
       formula = I;
-      certified = interpolant-iff A B proof K I .0 e;
+      certified = interpolant-iff newestEdition A B proof K I .0 e;
       fits = leb→le _ _ (fit-accepted (formulaFile edition1 K I) (leb (length (formulaFile edition1 K I)) (length output)) h);
     }
 
     checkable : check A B proof output .answer .number ≡ 0 → Checkable A B proof output
-    unfolding check left-by
-    checkable h = from (interpolant A B proof) refl h
+    unfolding check checkBy left-by
+    checkable h = from (interpolant newestEdition A B proof) refl h
 
     certified-written : (c : Checkable A B proof output) → check A B proof output ≡ writtenAs (formulaFile edition1 (c .K) (c .formula)) output
-    unfolding check written _>>=_
-    certified-written c = rw (interpolant-iff A B proof (c .K) (c .formula) .1 (c .certified)) (fit-yes (formulaFile edition1 (c .K) (c .formula)) _ (le→leb _ _ (c .fits)))
+    unfolding check checkBy written _>>=_
+    certified-written c = rw (interpolant-iff newestEdition A B proof (c .K) (c .formula) .1 (c .certified)) (fit-yes (formulaFile edition1 (c .K) (c .formula)) _ (le→leb _ _ (c .fits)))
 
     -- what it leaves depends on the proof by K and the formula alone
-    pub yielded-left : (K : ℕ) (I : Formula) → Yields A B proof K I
+    pub yielded-left : (K : ℕ) (I : Formula) → Yields newestEdition A B proof K I
         → check A B proof output ≡ written ((formulaAtMost K I >> accepted (K, I)) >>= λ (k, J). accepted (formulaFile edition1 k J)) output
-    unfolding check
-    yielded-left K I y = rw (interpolant-yields A B proof K I y)
+    unfolding check checkBy
+    yielded-left K I y = rw (interpolant-yields newestEdition A B proof K I y)
 
-    certified-short : (K : ℕ) (I : Formula) → Certifies A B proof K I → length output < length (formulaFile edition1 K I)
+    certified-short : (K : ℕ) (I : Formula) → Certifies newestEdition A B proof K I → length output < length (formulaFile edition1 K I)
         → check A B proof output .answer ≡ answer 21 fileLent (length (formulaFile edition1 K I))
-    unfolding check written fit _>>=_
-    certified-short K I c h = rw (interpolant-iff A B proof K I .1 c, lt-leb (length (formulaFile edition1 K I)) (length output) h)
+    unfolding check checkBy written fit _>>=_
+    certified-short K I c h = rw (interpolant-iff newestEdition A B proof K I .1 c, lt-leb (length (formulaFile edition1 K I)) (length output) h)
 
-    derived-long : (K : ℕ) (I : Formula) → Yields A B proof K I → edition1 .formulaBytes < length (formulaFile edition1 K I) → check A B proof output .answer ≡ answer 1 fileLent (length (formulaFile edition1 K I))
-    unfolding check written _>>=_
-    derived-long K I y h = rw (interpolant-long A B proof K I y h)
+    derived-long : (K : ℕ) (I : Formula) → Yields newestEdition A B proof K I → edition1 .formulaBytes < length (formulaFile edition1 K I) → check A B proof output .answer ≡ answer 1 fileLent (length (formulaFile edition1 K I))
+    unfolding check checkBy written _>>=_
+    derived-long K I y h = rw (interpolant-long newestEdition A B proof K I y h)
 
 -- The same of the function.
 module _ {A B proof output left : List ℕ} {r : WriteResult} (c : Checks A B proof output left r) where
@@ -125,56 +129,115 @@ module _ (kinds : List ℕ) (numbers : List ℤ) where
       let (s, t) = store-from (leb (length (kindsOf (b .constraints))) (length kinds)) (leb (length (numbersOf (b .constraints))) (length numbers)) b h in
       (b, g .gives b refl, (leb→le _ _ s, leb→le _ _ t))
 
-  read-from : (file : List ℕ) → readBundle kinds numbers file .answer .number ≡ 0 → (b : Bundle) × BundleFile file (b .K) (b .constraints) × Fit b
+  read-from : (file : List ℕ) → readBundle kinds numbers newestEdition file .answer .number ≡ 0 → (b : Bundle) × BundleFile newestEdition file (b .edition) (b .K) (b .constraints) × Fit b
   unfolding readBundle
-  read-from file h = stored-from _ (seq (short-gives _ _ file) λ s. weaken (bundle-gives fileA none (fields file)) λ b l. laid-file file b s l) h
+  read-from file h = stored-from _ (seq (short-gives _ _ file) λ _. weaken (bundle-gives newestEdition fileA none file) λ b l. l .file) h
 
 module _ {file kinds : List ℕ} {numbers : List ℤ} {kinds′ : List ℕ} {numbers′ : List ℤ} {r : ReadResult} (c : Reads file kinds numbers kinds′ numbers′ r) where
-  read-answer : r .answer .number ≡ 0 → readBundle kinds numbers file .answer ≡ acceptance
+  read-answer : r .answer .number ≡ 0 → readBundle kinds numbers newestEdition file .answer ≡ acceptance
   read-answer h = subst (λ (x : BundleRead). x .answer ≡ acceptance) (c .is) (refusals .read file kinds numbers kinds′ numbers′ r c .0 .accepts .0 h)
 
-  read-as : {K : ℕ} {ks : List ℕ} {zs : List ℤ} → readBundle kinds numbers file ≡ readAs K ks zs kinds numbers → ReadAs K ks zs kinds numbers kinds′ numbers′ r
+  read-as : {n K : ℕ} {ks : List ℕ} {zs : List ℤ} → readBundle kinds numbers newestEdition file ≡ readAs n K ks zs kinds numbers → ReadAs n K ks zs kinds numbers kinds′ numbers′ r
   read-as q =
       let e = c .is ∙ q in
       record {
         answer = ap (λ (x : BundleRead). x .answer) e;
+        edition = ap (λ (x : BundleRead). x .edition) e;
         count = ap (λ (x : BundleRead). x .count) e;
         constants = ap (λ (x : BundleRead). x .K) e;
         kinds-left = ap (λ (x : BundleRead). x .kinds) e;
         numbers-left = ap (λ (x : BundleRead). x .numbers) e;
       }
 
-  reads-it : (b : Readable file kinds numbers) → ReadAs (b .K) (kindsOf (b .constraints)) (numbersOf (b .constraints)) kinds numbers kinds′ numbers′ r
-  reads-it b = read-as (read-file kinds numbers file (record { K = b .K; constraints = b .constraints }) (b .states) (b .kinds-fit) (b .numbers-fit))
+  reads-it : (b : Readable file kinds numbers) → ReadAs (b .n) (b .K) (kindsOf (b .constraints)) (numbersOf (b .constraints)) kinds numbers kinds′ numbers′ r
+  reads-it b = read-as (read-file kinds numbers newestEdition file (record { edition = b .n; K = b .K; constraints = b .constraints }) (b .states) (b .kinds-fit) (b .numbers-fit))
 
   readable : r .answer .number ≡ 0 → Readable file kinds numbers
   readable h =
       let (b, f, fit) = read-from kinds numbers file (subst (λ (x : BundleRead). x .answer .number ≡ 0) (c .is) h) in
-      record { K = b .K; constraints = b .constraints; states = f; kinds-fit = fit .0; numbers-fit = fit .1 }
+      record { n = b .edition; K = b .K; constraints = b .constraints; states = f; kinds-fit = fit .0; numbers-fit = fit .1 }
 
 -- ---- write
-module _ {K : ℕ} {kinds : List ℕ} {numbers : List ℤ} {output left : List ℕ} {w : WriteResult} (c : Writes K kinds numbers output left w) where
-  write-answer : w .answer .number ≡ 0 → writeBundle K kinds numbers output .answer ≡ acceptance
-  write-answer h = subst (λ (x : Written). x .answer ≡ acceptance) (c .is) (refusals .write K kinds numbers output left w c .0 .accepts .0 h)
+-- the editions up to the newest are 1 and 2
+pub of-editions : (n : ℕ) → 1 ≤ n → n ≤ newestEdition → (n ≡ 1) ⊎ (n ≡ 2)
+of-editions zero h k = absurd (omega arith)
+of-editions (suc zero) h k = inl refl
+of-editions (suc (suc zero)) h k = inr refl
+of-editions (suc (suc (suc n))) h k = absurd (omega arith)
 
-  writable : w .answer .number ≡ 0 → Writable K kinds numbers output
+edition-first : {n : ℕ} → (n ≡ 1) ⊎ (n ≡ 2) → 1 ≤ n
+edition-first (inl e) = omega arith
+edition-first (inr e) = omega arith
+
+edition-last : {n : ℕ} → (n ≡ 1) ⊎ (n ≡ 2) → n ≤ newestEdition
+edition-last (inl e) = omega arith
+edition-last (inr e) = omega arith
+
+-- a number's size and n of n and of -n-1 differ by one at most
+mag-low : (z : ℤ) → mag z ≤ natAbs z
+mag-low (pos n) = omega arith
+mag-low (negsuc n) = omega arith
+
+mag-high : (z : ℤ) → natAbs z ≤ suc (mag z)
+mag-high (pos n) = omega arith
+mag-high (negsuc n) = omega arith
+
+-- what two bytes hold is what edition 1 holds, and what four hold, but for one number, is what edition 2 holds
+held-two : (z : ℤ) → T (holdable 2 z) → mag z ≤ 32_767
+unfolding holdable
+held-two z h = omega (arith, ltb→lt (mag z + mag z) 65_536 (and-yes (ltb (mag z + mag z) 65_536) (small 2_147_483_647 z) h .0))
+
+pub two-held : (z : ℤ) → mag z ≤ 32_767 → T (holdable 2 z)
+unfolding holdable small
+two-held z h = yes-and (ltb (mag z + mag z) 65_536) (leb (natAbs z) 2_147_483_647) (lt→ltb (mag z + mag z) 65_536 (omega arith)) (le→leb (natAbs z) 2_147_483_647 (omega (arith, mag-high z)))
+
+held-four : (z : ℤ) → T (holdable 4 z) → natAbs z ≤ 2_147_483_647
+unfolding holdable small
+held-four z h = leb→le (natAbs z) 2_147_483_647 (and-yes (ltb (mag z + mag z) 4_294_967_296) (leb (natAbs z) 2_147_483_647) h .1)
+
+pub four-held : (z : ℤ) → natAbs z ≤ 2_147_483_647 → T (holdable 4 z)
+unfolding holdable small
+four-held z h = yes-and (ltb (mag z + mag z) 4_294_967_296) (leb (natAbs z) 2_147_483_647) (lt→ltb (mag z + mag z) 4_294_967_296 (omega (arith, mag-low z))) (le→leb (natAbs z) 2_147_483_647 h)
+
+all-held : {n : ℕ} {numbers : List ℤ} → (n ≡ 1) ⊎ (n ≡ 2) → (n ≡ 1 → All (λ z. mag z ≤ 32_767) numbers) → (n ≡ 2 → All (λ z. natAbs z ≤ 2_147_483_647) numbers)
+    → All (λ z. T (holdable (edition n .coefficientWidth) z)) numbers
+all-held (inl e) h k = rw e (all-weaken two-held (h e))
+all-held (inr e) h k = rw e (all-weaken four-held (k e))
+
+module _ {n K : ℕ} {kinds : List ℕ} {numbers : List ℤ} {output left : List ℕ} {w : WriteResult} (c : Writes n K kinds numbers output left w) where
+  write-answer : w .answer .number ≡ 0 → writeBundle newestEdition n K kinds numbers output .answer ≡ acceptance
+  write-answer h = subst (λ (x : Written). x .answer ≡ acceptance) (c .is) (refusals .write n K kinds numbers output left w c .0 .accepts .0 h)
+
+  writable : w .answer .number ≡ 0 → Writable n K kinds numbers output
   unfolding writeBundle
   writable h =
-      let (bytes, (ready, are), fit) = written-from output _ (bundleBytes-gives K kinds numbers) (subst (λ (x : Written). x .answer .number ≡ 0) (c .is) h) in
+      let (bytes, (ready, are), fit) = written-from output _ (bundleBytes-gives newestEdition n K kinds numbers) (subst (λ (x : Written). x .answer .number ≡ 0) (c .is) h) in
       record {
+        one-or-two = of-editions n (ready .first) (ready .last);
         low = ready .low;
         high = ready .high;
         few = ready .few;
         valid = all-weaken (λ kind t. leb→le kind 2 t) (ready .valid);
         size = ready .size;
+        held-by-1 = λ e. all-weaken held-two (rw e at (ready .held));
+        held-by-2 = λ e. all-weaken held-four (rw e at (ready .held));
         fits = subst (λ (bs : List ℕ). length bs ≤ length output) are fit;
       }
 
-  writes-it : Writable K kinds numbers output → WrittenAs (bundleFile K kinds numbers) output left (w .answer) (w .count)
+  writes-it : Writable n K kinds numbers output → WrittenAs (bundleFile n K kinds numbers) output left (w .answer) (w .count)
   unfolding writeBundle
   writes-it b =
-      let ready : Ready K kinds numbers = record { low = b .low; high = b .high; few = b .few; valid = all-weaken (λ kind h. le→leb kind 2 h) (b .valid); size = b .size } in
-      written-as (c .is ∙ ap (λ (x : Result (List ℕ)). written x output) (bundleBytes-accepted K kinds numbers ready) ∙ written-fits output (bundleFile K kinds numbers) (b .fits))
+      let ready : Ready newestEdition n K kinds numbers = record {
+        first = edition-first (b .one-or-two);
+        last = edition-last (b .one-or-two);
+        low = b .low;
+        high = b .high;
+        few = b .few;
+        valid = all-weaken (λ kind h. le→leb kind 2 h) (b .valid);
+        size = b .size;
+        held = all-held (b .one-or-two) (b .held-by-1) (b .held-by-2);
+      } in
+      written-as (c .is ∙ ap (λ (x : Result (List ℕ)). written x output) (bundleBytes-accepted newestEdition n K kinds numbers ready) ∙ written-fits output (bundleFile n K kinds numbers) (b .fits))
 
 -- ---- show
 -- there are as many fields as are listed
@@ -210,11 +273,15 @@ each-length : {X Y : Type 0} {R : X → Y → Type 0} {xs : List X} {ys : List Y
 each-length nil-each = refl
 each-length (cons-each _ h) = ap suc (each-length h)
 
-listed-length : {file : List ℕ} {K : ℕ} {cs : List Constraint} (f : BundleFile file K cs) → length (f .list) ≡ suc (suc (length cs))
+listed-length : {file : List ℕ} {n K : ℕ} {cs : List Constraint} (f : BundleFile newestEdition file n K cs) → length (f .list) ≡ suc (suc (length cs))
 listed-length f = ap length (f .laid .are) ∙ ap (λ (n : ℕ). suc (suc n)) (each-length (f .laid .states))
 
+-- no bundle is longer than the longest of any edition
+bundle-short : {file : List ℕ} {n K : ℕ} {cs : List Constraint} → BundleFile newestEdition file n K cs → length file ≤ edition newestEdition .bundleBytes
+bundle-short {n = n} f = omega (arith, f .short, bundleBytes-grows n newestEdition (f .first) (f .last))
+
 module _ (A B : List ℕ) (line : ℕ) where
-  module _ {K : ℕ} {a b : List Constraint} (fA : BundleFile A K a) (fB : BundleFile B K b) where
+  module _ {nA nB K : ℕ} {a b : List Constraint} (fA : BundleFile newestEdition A nA K a) (fB : BundleFile newestEdition B nB K b) where
     part-there : line < length a + length b → (p : Part) × (constraintPart A B (length a) line ≡ some p)
     unfolding constraintPart partOf
     part-there h = go (ltb line (length a)) refl
@@ -232,39 +299,39 @@ module _ (A B : List ℕ) (line : ℕ) where
         go false e = rw (nth-gone (fields B) (fB .whole) (line - length a + 2) (omega (arith, listed-length fB)))
 
     -- what the show finds in two bundles
-    found-there : line < length a + length b → showAnswer A B line ≡ acceptance
+    found-there : line < length a + length b → showAnswer newestEdition A B line ≡ acceptance
     unfolding showAnswer shownPart agrees answerOf
     found-there h =
-        let a′ : Bundle = record { K = K; constraints = a } in
-        let b′ : Bundle = record { K = K; constraints = b } in
+        let a′ : Bundle = record { edition = nA; K = K; constraints = a } in
+        let b′ : Bundle = record { edition = nB; K = K; constraints = b } in
         let (p, e) = part-there h in
         ap answerOf
-        (passes _ (short-accepted _ fileA A (fA .short)) ∙ passes _ (short-accepted _ fileB B (fB .short))
-        ∙ binds _ (bundles-accept A B a′ b′ (record { laidA = file-laid A a′ fA tt; laidB = file-laid B b′ fB (agrees-refl K) })) ∙ found-some _ e)
+        (passes _ (short-accepted _ fileA A (bundle-short fA)) ∙ passes _ (short-accepted _ fileB B (bundle-short fB))
+        ∙ binds _ (bundles-accept newestEdition A B a′ b′ (record { laidA = record { file = fA; agree = tt }; laidB = record { file = fB; agree = agrees-refl K } })) ∙ found-some _ e)
 
   -- the line is there if the part is
-  is-there : {K : ℕ} {a b : List Constraint} → BundleFile A K a → BundleFile B K b → {p : Part} → constraintPart A B (length a) line ≡ some p → line < length a + length b
+  is-there : {nA nB K : ℕ} {a b : List Constraint} → BundleFile newestEdition A nA K a → BundleFile newestEdition B nB K b → {p : Part} → constraintPart A B (length a) line ≡ some p → line < length a + length b
   is-there {a = a} {b = b} fA fB {p} e = go (leb (length a + length b) line) refl
     where
       go : (t : Bool) → leb (length a + length b) line ≡ t → line < length a + length b
       go true q = absurd (let n = part-gone fA fB (leb-true _ _ q) in let z : _≡_ {A = ℕ} 0 1 = cc in omega arith)
       go false q = leb-false _ _ q
 
-  both-showable : (a b : Bundle) → BothLaid A B (a, b) → length A ≤ edition1 .bundleBytes → length B ≤ edition1 .bundleBytes → {p : Part} → constraintPart A B (length (a .constraints)) line ≡ some p → Showable A B line
-  both-showable a b l sA sB e =
-      let fA = laid-file A a sA (l .laidA) in
-      let fB = subst (λ (K : ℕ). BundleFile B K (b .constraints)) (agreed (a .K) (b .K) (l .laidB .agree)) (laid-file B b sB (l .laidB)) in
-      record { K = a .K; a = a .constraints; b = b .constraints; statesA = fA; statesB = fB; there = is-there fA fB e }
+  both-showable : (a b : Bundle) → BothLaid newestEdition A B (a, b) → {p : Part} → constraintPart A B (length (a .constraints)) line ≡ some p → Showable A B line
+  both-showable a b l e =
+      let fA = l .laidA .file in
+      let fB = subst (λ (K : ℕ). BundleFile newestEdition B (b .edition) K (b .constraints)) (agreed (a .K) (b .K) (l .laidB .agree)) (l .laidB .file) in
+      record { nA = a .edition; nB = b .edition; K = a .K; a = a .constraints; b = b .constraints; statesA = fA; statesB = fB; there = is-there fA fB e }
 
-  shown-gives : Gives (shownPart A B line) (λ _. Showable A B line)
+  shown-gives : Gives (shownPart newestEdition A B line) (λ _. Showable A B line)
   unfolding shownPart
-  shown-gives = seq (short-gives _ fileA A) λ sA. seq (short-gives _ fileB B) λ sB. bind (bundles-give A B) λ (a, b) l. weaken (finds _ _ tt) λ p e. both-showable a b l sA sB e
+  shown-gives = seq (short-gives _ fileA A) λ _. seq (short-gives _ fileB B) λ _. bind (bundles-give newestEdition A B) λ (a, b) l. weaken (finds _ _ tt) λ p e. both-showable a b l e
 
-  showable : showAnswer A B line .number ≡ 0 → Showable A B line
+  showable : showAnswer newestEdition A B line .number ≡ 0 → Showable A B line
   unfolding showAnswer answerOf
-  showable = go (shownPart A B line) refl
+  showable = go (shownPart newestEdition A B line) refl
     where
-      go : (r : Result Part) → shownPart A B line ≡ r → answerOf r .number ≡ 0 → Showable A B line
+      go : (r : Result Part) → shownPart newestEdition A B line ≡ r → answerOf r .number ≡ 0 → Showable A B line
       go (refused a) e h = absurd (not-0 (shown-gives .refusal a e) h)
       go (accepted p) e h = shown-gives .gives p e
 
@@ -293,16 +360,16 @@ acceptance-holds = record {
   one-formula = λ A B proof K K′ I I′ y y′. one-formula y y′;
   read-iff = λ file lentKinds lentNumbers leftKinds leftNumbers r c. (readable c, λ b. ap (λ (x : Answer). x .number) (reads-it c b .answer));
   reads = λ file lentKinds lentNumbers leftKinds leftNumbers r c b. reads-it c b;
-  write-iff = λ K kinds numbers output left w c. (writable c, λ b. ap (λ (x : Answer). x .number) (writes-it c b .answer));
-  writes-bundle = λ K kinds numbers output left w c b. writes-it c b;
+  write-iff = λ n K kinds numbers output left w c. (writable c, λ b. ap (λ (x : Answer). x .number) (writes-it c b .answer));
+  writes-bundle = λ n K kinds numbers output left w c b. writes-it c b;
   show-iff = λ A B line r c. (
     λ h. showable A B line (ap (λ (x : Answer). x .number) (sym (c .is)) ∙ h),
     λ s. ap (λ (x : Answer). x .number) (c .is ∙ found-there A B line (s .statesA) (s .statesB) (s .there)),
   );
-  write-then-read = λ K kinds numbers output left w widths c h lentKinds lentNumbers leftKinds leftNumbers r roomKinds roomNumbers d.
-      read-as d (ap (λ (x : Written). readBundle lentKinds lentNumbers (bytesWritten x)) (c .is)
-      ∙ write-then-read K kinds numbers widths output (write-answer c h) lentKinds lentNumbers roomKinds roomNumbers);
+  write-then-read = λ n K kinds numbers output left w c h lentKinds lentNumbers leftKinds leftNumbers r roomKinds roomNumbers d.
+      read-as d (ap (λ (x : Written). readBundle lentKinds lentNumbers newestEdition (bytesWritten x)) (c .is)
+      ∙ write-then-read newestEdition n K kinds numbers output (write-answer c h) lentKinds lentNumbers roomKinds roomNumbers);
   read-then-write = λ F framed bytes lentKinds lentNumbers leftKinds leftNumbers r c h output left w room d.
-      written-as (d .is ∙ ap (λ (x : BundleRead). rewritten x output) (c .is)
-      ∙ read-then-write F framed (contents-bytes F bytes) lentKinds lentNumbers (read-answer c h) output room);
+      written-as (d .is ∙ ap (λ (x : BundleRead). rewritten newestEdition x output) (c .is)
+      ∙ read-then-write newestEdition F framed (contents-bytes F bytes) lentKinds lentNumbers (read-answer c h) output room);
 }

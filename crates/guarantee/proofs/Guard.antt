@@ -51,9 +51,9 @@ module _ (file : List ℕ) (values : List ℤ) (I : Formula) (reads : readFormul
 
 pub guard-tells : GuardTells
 guard-tells = record {
-  tells = λ FA FB framedA framedB MA MB faithfulA faithfulB proof output left r bytesA bytesB bytesP c h values count range t d.
+  tells = λ FA FB framedA framedB MA MB faithfulA faithfulB proof output left r bytes c h values count range t d.
       let x = soundness .interpolates FA FB framedA framedB MA MB faithfulA faithfulB proof output left r c h in
-      let (reads, short) = x .reads-back bytesA bytesB bytesP in
+      let (reads, short) = x .reads-back bytes in
       let K-is : length values ≡ x .K = count ∙ x .K-of-A in
       let told : t ≡ asTested (record { answer = acceptance; holds = judge (x .formula) (registers values) }) =
       d .is ∙ ap asTested (tested-as (take (r .count) left) values (x .formula) (subst (λ (k : ℕ). readFormula k (fields (take (r .count) left)) ≡ accepted (x .formula)) (sym K-is) reads)

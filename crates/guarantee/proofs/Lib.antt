@@ -7,3 +7,6 @@ pub mod Guard
 pub mod Reduced
 pub mod Rounding
 pub mod Apart
+pub mod Wide
+pub mod Long
+pub mod Editions

@@ -9,7 +9,7 @@ use native.Mathlib.Omega.{arith}
 use lib.Dec.{leb}
 use lib.ListN.{length}
 use lib.IntN.{ℤ}
-use Rattle.forms.specs.Edition.{Edition, edition1}
+use Rattle.forms.specs.Edition.{Edition, edition1, newestEdition}
 use Rattle.forms.specs.Forms.{Formula}
 use Rattle.fields.specs.declared.Answer.{Answer}
 use Rattle.fields.specs.declared.FileKind.{FileKind}
@@ -26,7 +26,7 @@ use Rattle.bundle.proofs.Laid.{short-gives, bundle-gives, bundles-give}
 use Rattle.bundle.proofs.Writable.{bundleBytes-gives}
 use Rattle.formula.specs.Formula.{FormulaTag, pair, atom, stride, formulaOf, formulaField, twoParts, formulaWithin, readFormula, formulaFile}
 use Rattle.formula.specs.Test.{Tested as Outcome, tested, judged, testFormula}
-use Rattle.proof.specs.Check.{interpolant, check}
+use Rattle.proof.specs.Check.{interpolant, checkBy, check}
 use Rattle.proof.proofs.Agree.{never-0, never-22}
 use Rattle.dulgaverk.specs.Copied.{Copied}
 use Rattle.guarantee.specs.Refusals.{ToldByNumber, Refusals}
@@ -72,32 +72,32 @@ then-numbered (refused a) f h = record {
 then-numbered (accepted x) f h = record { not-zero = λ b e. absurd (never (sym e)); not-free = λ b e. absurd (never (sym e)) }
 
 pub check-told : (A B proof output : List ℕ) → Unwritten output (check A B proof output)
-unfolding check
+unfolding check checkBy
 check-told A B proof output =
-    written-told _ (then-numbered (interpolant A B proof) (λ (K, I). formulaFile edition1 K I) (record { not-zero = never-0 A B proof; not-free = never-22 A B proof })) output
+    written-told _ (then-numbered (interpolant newestEdition A B proof) (λ (K, I). formulaFile edition1 K I) (record { not-zero = never-0 newestEdition A B proof; not-free = never-22 newestEdition A B proof })) output
 
-pub write-told : (K : ℕ) (kinds : List ℕ) (numbers : List ℤ) (output : List ℕ) → Unwritten output (writeBundle K kinds numbers output)
+pub write-told : (n K : ℕ) (kinds : List ℕ) (numbers : List ℤ) (output : List ℕ) → Unwritten output (writeBundle newestEdition n K kinds numbers output)
 unfolding writeBundle
-write-told K kinds numbers output = written-told _ (by-number (bundleBytes-gives K kinds numbers)) output
+write-told n K kinds numbers output = written-told _ (by-number (bundleBytes-gives newestEdition n K kinds numbers)) output
 
 -- ---- what is read
 abbrev Unread : (kinds : List ℕ) (numbers : List ℤ) → BundleRead → Type 0
-Unread kinds numbers r = ToldByNumber (r .answer) × (¬ (r .answer .number ≡ 0) → (r .kinds ≡ kinds) × (r .numbers ≡ numbers) × (r .count ≡ 0) × (r .K ≡ 0))
+Unread kinds numbers r = ToldByNumber (r .answer) × (¬ (r .answer .number ≡ 0) → (r .kinds ≡ kinds) × (r .numbers ≡ numbers) × (r .edition ≡ 0) × (r .count ≡ 0) × (r .K ≡ 0))
 
 module _ (kinds : List ℕ) (numbers : List ℤ) where
   store-told : (t : Bool) (b : Bundle) → Unread kinds numbers (store kinds numbers t b)
   unfolding store unread
   store-told true b = (told-accepted, λ h. absurd (h refl))
-  store-told false b = (told-refused (λ e. omega arith) (λ e. omega arith), λ _. (refl, refl, refl, refl))
+  store-told false b = (told-refused (λ e. omega arith) (λ e. omega arith), λ _. (refl, refl, refl, refl, refl))
 
   stored-told : (r : Result Bundle) → Numbered r → Unread kinds numbers (stored kinds numbers r)
   unfolding stored unread
-  stored-told (refused a) h = (told-by h, λ _. (refl, refl, refl, refl))
+  stored-told (refused a) h = (told-by h, λ _. (refl, refl, refl, refl, refl))
   stored-told (accepted b) h = store-told (leb (length (kindsOf (b .constraints))) (length kinds) && leb (length (numbersOf (b .constraints))) (length numbers)) b
 
-  pub read-told : (file : List ℕ) → Unread kinds numbers (readBundle kinds numbers file)
+  pub read-told : (file : List ℕ) → Unread kinds numbers (readBundle kinds numbers newestEdition file)
   unfolding readBundle
-  read-told file = stored-told _ (by-number (seq (short-gives _ _ file) λ _. bundle-gives fileA _ (fields file)))
+  read-told file = stored-told _ (by-number (seq (short-gives _ _ file) λ _. bundle-gives newestEdition fileA _ file))
 
 -- ---- what is shown
 shown-told : (r : Result Part) → Numbered r
@@ -107,9 +107,9 @@ shown-told (refused a) h = (told-by h, λ _. refl)
 shown-told (accepted p) h = (told-accepted, λ h. absurd (h refl))
 
 show-told : (A B : List ℕ) (line : ℕ)
-    → ToldByNumber (showAnswer A B line) × (¬ (showAnswer A B line .number ≡ 0) → showPart A B line ≡ record { file = fileA; start = 0; size = 0 })
+    → ToldByNumber (showAnswer newestEdition A B line) × (¬ (showAnswer newestEdition A B line .number ≡ 0) → showPart newestEdition A B line ≡ record { file = fileA; start = 0; size = 0 })
 unfolding showAnswer showPart shownPart
-show-told A B line = shown-told _ (by-number {P = λ _. Unit {0}} (seq (short-gives _ fileA A) λ _. seq (short-gives _ fileB B) λ _. bind (bundles-give A B) λ (a, b) _. weaken (finds _ _ tt) λ _ _. tt))
+show-told A B line = shown-told _ (by-number {P = λ _. Unit {0}} (seq (short-gives _ fileA A) λ _. seq (short-gives _ fileB B) λ _. bind (bundles-give newestEdition A B) λ (a, b) _. weaken (finds _ _ tt) λ _ _. tt))
 
 -- ---- what is tested
 abbrev GivesAny : {X : Type 0} → Result X → Type 0
@@ -139,7 +139,7 @@ module _ (e : Edition) (K : ℕ) where
 reading-gives : (K : ℕ) (fs : Fields) → GivesAny (readFormula K fs)
 unfolding readFormula
 reading-gives K fs =
-    bind (header-gives FileKind.Formula fileProof (some K) fs) λ h _. bind (within-gives (h .edition) (h .K) (h .edition .levels) (h .rest)) λ (I, after) _.
+    bind (header-gives FileKind.Formula fileProof 1 (some K) fs) λ h _. bind (within-gives edition1 (h .K) (edition1 .levels) (h .rest)) λ (I, after) _.
     seq (finished-gives FileKind.Formula fileProof after) λ _. gives-accepted tt
 
 tested-numbered : (formula : List ℕ) (values : List ℤ) → Numbered (tested formula values)
@@ -174,7 +174,7 @@ pub refusals : Refusals
 refusals = record {
   check = λ A B proof output left r c. subst (Unwritten output) (sym (c .is)) (check-told A B proof output);
   read = λ file kinds numbers kinds′ numbers′ r c. subst (Unread kinds numbers) (sym (c .is)) (read-told kinds numbers file);
-  write = λ K kinds numbers output left r c. subst (Unwritten output) (sym (c .is)) (write-told K kinds numbers output);
+  write = λ n K kinds numbers output left r c. subst (Unwritten output) (sym (c .is)) (write-told n K kinds numbers output);
   show = λ a b line part r s c.
       let (told, empty) = show-told (a .now) (b .now) line in (
         subst ToldByNumber (sym (c .is)) told,

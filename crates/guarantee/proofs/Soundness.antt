@@ -2,24 +2,27 @@
 use mathlib.Core.Path.{_≡_, refl, sym, _∙_, ap, ap₂, subst}
 use mathlib.Core.Bool.{Bool, true, false}
 use mathlib.Core.List.{List, []}
-use mathlib.Core.Option.{some}
+use mathlib.Core.Option.{none, some}
 use Prim.Native.Nat.{ℕ, zero, suc, _+_, _≤_}
 use native.Mathlib.Omega.{arith}
 use lib.ListN.{length, take}
 use lib.Seq.{take-at}
-use Rattle.forms.specs.Edition.{Edition, edition1}
+use Rattle.forms.specs.Edition.{Edition, edition1, newestEdition}
 use Rattle.forms.specs.Forms.{All, Form, Line, Constraint, Formula}
 use Rattle.calculus.specs.Rules.{Entry, Closed, derive, strengthen, round, splitEq, splitNeq, number, stride, Rounded, last, more, step, entries, entriesRounded, Interpolant}
 use Rattle.fields.specs.declared.Answer.{Answer}
-use Rattle.fields.specs.Answers.{accepted, over, Written, writtenOf}
+use Rattle.fields.specs.Answers.{fileA, Result, refused, accepted, _>>_, over, Written, writtenOf}
 use Rattle.fields.specs.Numbers.{Bytes}
 use Rattle.fields.specs.Fields.{Item, Framed, fileOf, withoutNotes, fields, Noted, Kept}
 use Rattle.fields.proofs.Framing.{items-fileOf}
 use Rattle.fields.proofs.Whole.{whole-file}
-use Rattle.bundle.specs.Layout.{StatesAll, BundleFile}
+use Rattle.bundle.specs.Bundle.{bundle}
+use Rattle.bundle.specs.Layout.{StatesAll, BundleFile, bundleLimit}
+use Rattle.bundle.proofs.Bare.{limit-most, kept-higher}
 use Rattle.formula.specs.Formula.{formulaFile, readFormula}
 use Rattle.proof.specs.Check.{check}
 use Rattle.proof.specs.Layout.{Yields}
+use Rattle.proof.specs.Editions.{limitBehind, lengthsFit, limitA, limitB}
 use Rattle.proof.proofs.Agree.{yielded-interpolant}
 use Rattle.proof.proofs.Notes.{check-noted}
 use Rattle.fields.proofs.Bare.{bareWritten}
@@ -28,24 +31,24 @@ use Rattle.fields.specs.declared.WriteResult.{WriteResult}
 use Rattle.checking.specs.Promises.{Checks}
 use Rattle.guarantee.specs.LaidOut.{Listed, LaidBundle, Placed, unclaimed, claimed, strengthen as strengthens, round as rounds, split as splits, number as numbers, stride as strides, PlacedTimes, none as nones, more as mores, LaidProof, LaidOut}
 use Rattle.guarantee.specs.Acceptance.{Checkable}
-use Rattle.guarantee.specs.Soundness.{Meaning, Faithful, Delivered, Soundness}
-use Rattle.guarantee.proofs.Acceptance.{is-checkable, leaves}
+use Rattle.guarantee.specs.Soundness.{Meaning, Faithful, Delivered, NotesPassedOver, Soundness}
+use Rattle.guarantee.proofs.Acceptance.{of-editions, is-checkable, leaves}
 
 -- ---- what a writer stated is what the check read
 some-is : {X : Type 0} {x y : X} → some x ≡ some y → x ≡ y
 some-is e = cc
 
-meaning-is : (F : List Item) → All Framed F → (M : Meaning) → Faithful M → (K : ℕ) (cs : List Constraint) → BundleFile (fileOf F) K cs → M F ≡ (K, cs)
-meaning-is F framed M faithful K cs b =
+meaning-is : (F : List Item) → All Framed F → (M : Meaning) → Faithful M → (n K : ℕ) (cs : List Constraint) → BundleFile newestEdition (fileOf F) n K cs → M F ≡ (K, cs)
+meaning-is F framed M faithful n K cs b =
     let e : withoutNotes F ≡ b .list = some-is (sym (items-fileOf F framed) ∙ b .whole) in
-    faithful F K cs (subst (λ (l : List Item). StatesAll l K cs) (sym e) (b .laid))
+    faithful n (of-editions n (b .first) (b .last)) F K cs (subst (λ (l : List Item). StatesAll n l K cs) (sym e) (b .laid))
 
-module _ (F : List Item) (framed : All Framed F) (M : Meaning) (faithful : Faithful M) (K : ℕ) (cs : List Constraint) (b : BundleFile (fileOf F) K cs) where
+module _ (F : List Item) (framed : All Framed F) (M : Meaning) (faithful : Faithful M) {n : ℕ} (K : ℕ) (cs : List Constraint) (b : BundleFile newestEdition (fileOf F) n K cs) where
   stated-K : M F .0 ≡ K
-  stated-K = ap (λ (m : ℕ × List Constraint). m .0) (meaning-is F framed M faithful K cs b)
+  stated-K = ap (λ (m : ℕ × List Constraint). m .0) (meaning-is F framed M faithful n K cs b)
 
   stated : M F .1 ≡ cs
-  stated = ap (λ (m : ℕ × List Constraint). m .1) (meaning-is F framed M faithful K cs b)
+  stated = ap (λ (m : ℕ × List Constraint). m .1) (meaning-is F framed M faithful n K cs b)
 
 -- ---- a closed proof's entries are one closed table
 mutual
@@ -68,15 +71,17 @@ mutual
   rounded-placed (more b _ p ps) rest zero e = absurd (omega arith)
   rounded-placed (more b _ p ps) rest (suc n) e = mores (closed-placed p _) (rounded-placed ps rest n (omega arith))
 
-laid-bundle : {file : List ℕ} {K : ℕ} {cs : List Constraint} → BundleFile file K cs → LaidBundle file K
-laid-bundle {cs = cs} b = record { constraints = cs; list = b .list; whole = b .whole; laid = b .laid }
+laid-bundle : {file : List ℕ} {n K : ℕ} {cs : List Constraint} → BundleFile newestEdition file n K cs → LaidBundle file K
+laid-bundle {n = n} {cs = cs} b = record { n = n; one-or-two = of-editions n (b .first) (b .last); constraints = cs; list = b .list; whole = b .whole; laid = b .laid }
 
-laid-out : {A B proof : List ℕ} {K : ℕ} {I : Formula} → Yields A B proof K I → LaidOut A B proof
+laid-out : {A B proof : List ℕ} {K : ℕ} {I : Formula} → Yields newestEdition A B proof K I → LaidOut A B proof
 laid-out {K = K} y = record {
   K = K;
   ofA = laid-bundle (y .fileA);
   ofB = laid-bundle (y .fileB);
   ofProof = record {
+    n = y .editionProof;
+    one-or-two = of-editions (y .editionProof) (y .fileProof .first) (y .fileProof .last);
     entries = y .es;
     body = y .fileProof .body;
     whole = y .fileProof .whole;
@@ -87,7 +92,7 @@ laid-out {K = K} y = record {
   };
 }
 
-lists : {file : List ℕ} {K : ℕ} {cs : List Constraint} → Bytes file → BundleFile file K cs → Listed file
+lists : {file : List ℕ} {n K : ℕ} {cs : List Constraint} → Bytes file → BundleFile newestEdition file n K cs → Listed file
 lists {file} k b = let o = whole-file file k (b .list) (b .whole) in record { list = o .list; framed = o .framed; are = o .are }
 
 -- ---- what is delivered
@@ -110,8 +115,8 @@ module _ (FA FB : List Item) (framedA : All Framed FA) (framedB : All Framed FB)
     fits = a .fits;
     count = leaves c a .count-is;
     bytes = leaves c a .left-is;
-    reads-back = λ bytesA bytesB bytesP.
-        let (reads, short) = written-reads-back (fileOf FA) (fileOf FB) proof bytesA bytesB bytesP (a .certified) in
+    reads-back = λ bytes.
+        let (reads, short) = written-reads-back (fileOf FA) (fileOf FB) proof bytes (a .certified) in
         (ap (λ (bs : List ℕ). readFormula (a .K) (fields bs)) front-is ∙ reads, subst (λ (n : ℕ). n ≤ edition1 .formulaBytes) (sym (leaves c a .count-is)) short);
     interpolant = rw (stated FA framedA MA faithfulA (a .K) _ (a .certified .yields .fileA), stated FB framedB MB faithfulB (a .K) _ (a .certified .yields .fileB)) (yielded-interpolant (a .certified .yields));
   }
@@ -121,15 +126,37 @@ module _ (FA FB : List Item) (framedA : All Framed FA) (framedB : All Framed FB)
 bare-is : {A B proof output left : List ℕ} {r : WriteResult} → Checks A B proof output left r → bareWritten (writtenOf r left) ≡ bareWritten (check A B proof output)
 bare-is c = ap bareWritten (c .is)
 
+-- the length by the file alone is no more than that behind what was read before
+behind-least : {X : Type 0} (r : Result X) (file : List ℕ) → bundleLimit file ≤ limitBehind r file
+unfolding limitBehind
+behind-least (refused a) file = limit-most file
+behind-least (accepted x) file = omega arith
+
+limit-A-least : (A B proof : List ℕ) → bundleLimit A ≤ limitA A B proof
+unfolding limitA
+limit-A-least A B proof = behind-least (lengthsFit A B proof) A
+
+limit-B-least : (A B proof : List ℕ) → bundleLimit B ≤ limitB A B proof
+unfolding limitB
+limit-B-least A B proof = behind-least (lengthsFit A B proof >> bundle newestEdition fileA none A) B
+
+notes : NotesPassedOver limitA limitB
+notes A A′ B B′ proof proof′ output left left′ r r′ nA nB nP kA kB kP c c′ =
+    let same = bare-is c′ ∙ check-noted nA nB nP kA kB kP output ∙ sym (bare-is c) in
+    (ap (λ (w : Written). w .answer) same, ap (λ (w : Written). w .count) same, ap (λ (w : Written). w .output) same)
+
+notes-plain : NotesPassedOver (λ A B proof. bundleLimit A) (λ A B proof. bundleLimit B)
+notes-plain A A′ B B′ proof proof′ output left left′ r r′ nA nB nP kA kB =
+    notes A A′ B B′ proof proof′ output left left′ r r′ nA nB nP (kept-higher (limit-A-least A B proof) kA) (kept-higher (limit-B-least A B proof) kB)
+
 -- Demand 3.
 pub soundness : Soundness
 soundness = record {
   interpolates = λ FA FB framedA framedB MA MB faithfulA faithfulB proof output left r c h.
       delivered FA FB framedA framedB MA MB faithfulA faithfulB proof output left r c (is-checkable c h);
   listed = λ A B proof output left r bytesA bytesB c h. let x = is-checkable c h .certified .yields in (lists bytesA (x .fileA), lists bytesB (x .fileB));
-  notes = λ A A′ B B′ proof proof′ output left left′ r r′ nA nB nP kA kB kP c c′.
-      let same = bare-is c′ ∙ check-noted nA nB nP kA kB kP output ∙ sym (bare-is c) in
-      (ap (λ (w : Written). w .answer) same, ap (λ (w : Written). w .count) same, ap (λ (w : Written). w .output) same);
+  notes = notes;
+  notes-plain = notes-plain;
   laid-out = λ A B proof output left r c h. laid-out (is-checkable c h .certified .yields);
   refuses = λ A B proof output left r c none h. none (laid-out (is-checkable c h .certified .yields));
 }

@@ -1,10 +1,11 @@
--- What is laid out: whole fields of known tags, in their places, of right lengths, edition and one K, and of a proof one table whose branches are all closed. Document 01, "Fields"; document 02, points 1 and 6. Assumes nothing.
--- (How long a file may be, and how many constraints and rows it may have, are limits of `BundleFile`, `ProofFile` and `Proves`.)
+-- What is laid out: whole fields of known tags, in their places, of right lengths, edition and one K, and of a proof one table whose branches are all closed. Document 01, "Fields"; document 02, points 1, 3 and 6. Assumes nothing.
+-- (How long a file may be, how many constraints and rows it may have, and that no number of a bundle is -2,147,483,648, are limits of `BundleFile`, `ProofFile` and `Proves`.)
 use mathlib.Core.Path.{_≡_}
+use mathlib.Core.Logic.{_⊎_}
 use mathlib.Core.List.{List, [], _∷_}
 use mathlib.Core.Option.{some}
 use Prim.Native.Nat.{ℕ, suc, _≤_}
-use Rattle.forms.specs.Edition.{edition1}
+use Rattle.forms.specs.Edition.{edition, edition1}
 use Rattle.forms.specs.Forms.{All, Form, Constraint}
 use Rattle.calculus.specs.Rules.{Step, Derive, Strengthen, CloseNumber, CloseStride, Round, Split, Entry, row, claim}
 use Rattle.fields.specs.Fields.{Item, item, Framed, fileOf, fields, items}
@@ -17,11 +18,14 @@ pub record Listed (file : List ℕ) : Type 0 where
   pub framed : All Framed list
   pub are : file ≡ fileOf list
 
+-- A bundle of edition 1 or 2, by that edition's layout.
 pub record LaidBundle (file : List ℕ) (K : ℕ) : Type 0 where
+  pub n : ℕ
+  pub one-or-two : (n ≡ 1) ⊎ (n ≡ 2)
   pub constraints : List Constraint
   pub list : List Item
   pub whole : items (fields file) ≡ some list
-  pub laid : StatesAll list K constraints
+  pub laid : StatesAll n list K constraints
 
 -- The entries of one closed branch, and then the rest.
 mutual
@@ -42,17 +46,19 @@ mutual
     none : {rest : List Entry} → PlacedTimes 0 rest rest
     more : {n : ℕ} {es next rest : List Entry} → Placed es next → PlacedTimes n next rest → PlacedTimes (suc n) es rest
 
--- Nothing stands after the root is closed.
+-- A proof of edition 1 or 2, by that edition's layout. Nothing stands after the root is closed.
 pub record LaidProof (file : List ℕ) (K : ℕ) : Type 0 where
+  pub n : ℕ
+  pub one-or-two : (n ≡ 1) ⊎ (n ≡ 2)
   pub entries : List Entry
   pub body : List Item
-  pub whole : items (fields file) ≡ some (item 0x01 (1 ∷ []) ∷ item 0x02 (K ∷ []) ∷ body)
+  pub whole : items (fields file) ≡ some (item 0x01 (n ∷ []) ∷ item 0x02 (K ∷ []) ∷ body)
   pub low : 1 ≤ K
   pub high : K ≤ edition1 .constants
-  pub enters : Each (Enters edition1 K) body entries
+  pub enters : Each (Enters (edition n) K) body entries
   pub placed : Placed entries []
 
--- All three, with one K.
+-- All three, with one K; their editions may differ.
 pub record LaidOut (A B proof : List ℕ) : Type 0 where
   pub K : ℕ
   pub ofA : LaidBundle A K

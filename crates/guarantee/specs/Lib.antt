@@ -8,3 +8,4 @@ pub mod Guard
 pub mod Reduced
 pub mod Rounding
 pub mod Apart
+pub mod Editions

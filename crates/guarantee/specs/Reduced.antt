@@ -5,7 +5,7 @@ use mathlib.Core.List.{List}
 use mathlib.Core.Bool.{Bool}
 use Prim.Native.Nat.{ℕ, _≤_}
 use lib.IntN.{ℤ}
-use Rattle.forms.specs.Edition.{Edition, edition1}
+use Rattle.forms.specs.Edition.{Edition, edition1, newestEdition}
 use Rattle.forms.specs.Forms.{Form, Line, Assignment, Formula, literal, _divides_, _and_, _or_, _plus_, within, True, height}
 use Rattle.forms.specs.Reduced.{reducing, Strides, Reduced}
 use Rattle.calculus.specs.Rules.{Closed, derive, strengthen, round, splitEq, splitNeq, number, stride, Rounded, last, more}
@@ -42,7 +42,7 @@ pub record WrittenReduced (A B proof output left : List ℕ) (r : WriteResult) :
 pub record InReducedForm : Type 0 where
   pub writes : (A B proof output left : List ℕ) (r : WriteResult) → Checks A B proof output left r → r .answer .number ≡ 0 → WrittenReduced A B proof output left r
   -- It is the formula with the numbers as they stand, reduced, and true under the same assignments.
-  pub of-document-01 : (A B proof : List ℕ) (K : ℕ) (I : Formula) (y : Yields A B proof K I)
+  pub of-document-01 : (A B proof : List ℕ) (K : ℕ) (I : Formula) (y : Yields newestEdition A B proof K I)
       → (reducing (asItStood (y .proves .proof)) ≡ I) × ((v : Assignment) → True (asItStood (y .proves .proof)) v ↔ True I v)
   -- Of every formula whose strides are 2 at least: the reduced one has numbers from 0 to g-1, and reducing it again changes nothing.
   pub reduces : (I : Formula) → Strides I → Reduced (reducing I) × (reducing (reducing I) ≡ reducing I)

@@ -7,6 +7,7 @@ use mathlib.Core.List.{List, []}
 use Prim.Native.Nat.{ℕ}
 use lib.IntN.{ℤ}
 use denote.Ref.{RefT}
+use Rattle.forms.specs.Edition.{newestEdition}
 use Rattle.fields.specs.declared.Answer.{Answer}
 use Rattle.fields.specs.declared.WriteResult.{WriteResult}
 use Rattle.fields.specs.Answers.{acceptance}
@@ -27,17 +28,17 @@ pub record Refusals : Type 0 where
   -- check: the output is as it was, and no byte is counted
   pub check : (A B proof output left : List ℕ) (r : WriteResult) → Checks A B proof output left r
       → ToldByNumber (r .answer) × (¬ (r .answer .number ≡ 0) → (left ≡ output) × (r .count ≡ 0))
-  -- read: both outputs are as they were, count and K are 0
+  -- read: both outputs are as they were, edition, count and K are 0
   pub read : (file kinds : List ℕ) (numbers : List ℤ) (kinds′ : List ℕ) (numbers′ : List ℤ) (r : ReadResult) → Reads file kinds numbers kinds′ numbers′ r
-      → ToldByNumber (r .answer) × (¬ (r .answer .number ≡ 0) → (kinds′ ≡ kinds) × (numbers′ ≡ numbers) × (r .count ≡ 0) × (r .k ≡ 0))
+      → ToldByNumber (r .answer) × (¬ (r .answer .number ≡ 0) → (kinds′ ≡ kinds) × (numbers′ ≡ numbers) × (r .edition ≡ 0) × (r .count ≡ 0) × (r .k ≡ 0))
   -- write: as check
-  pub write : (K : ℕ) (kinds : List ℕ) (numbers : List ℤ) (output left : List ℕ) (r : WriteResult) → Writes K kinds numbers output left r
+  pub write : (n K : ℕ) (kinds : List ℕ) (numbers : List ℤ) (output left : List ℕ) (r : WriteResult) → Writes n K kinds numbers output left r
       → ToldByNumber (r .answer) × (¬ (r .answer .number ≡ 0) → (left ≡ output) × (r .count ≡ 0))
   -- show, which is lent nothing to change: the part handed back is empty and lies at A's start
   pub show : (a b : RefT (List ℕ)) (line : ℕ) (part : RefT (List ℕ)) (r : Answer) → Shows a b line part → AnswersShow (a .now) (b .now) line r
       → ToldByNumber r × (¬ (r .number ≡ 0) → (part .now ≡ []) × (part .ptr ≡ a .ptr))
   -- and where the library copies that part into an output, the output is as it was
-  pub show-copied : (A B : List ℕ) (line : ℕ) (output left : List ℕ) (count : ℕ) (r : Answer) → Copied (partBytes (showPart A B line) A B) output left count → AnswersShow A B line r
+  pub show-copied : (A B : List ℕ) (line : ℕ) (output left : List ℕ) (count : ℕ) (r : Answer) → Copied (partBytes (showPart newestEdition A B line) A B) output left count → AnswersShow A B line r
       → ¬ (r .number ≡ 0) → (left ≡ output) × (count ≡ 0)
   -- test, which is lent nothing to change: false
   pub test : (formula : List ℕ) (values : List ℤ) (r : Tested) → Tests formula values r

@@ -16,6 +16,6 @@ pub record InTree : Type 0 where
   pub check : (A B proof output left : List ℕ) (r : WriteResult) → Checks A B proof output left r → AnswerStands proof (r .answer)
   -- the operations that check no proof: none
   pub read : (file kinds : List ℕ) (numbers : List ℤ) (kinds′ : List ℕ) (numbers′ : List ℤ) (r : ReadResult) → Reads file kinds numbers kinds′ numbers′ r → Outside (r .answer)
-  pub write : (K : ℕ) (kinds : List ℕ) (numbers : List ℤ) (output left : List ℕ) (r : WriteResult) → Writes K kinds numbers output left r → Outside (r .answer)
+  pub write : (n K : ℕ) (kinds : List ℕ) (numbers : List ℤ) (output left : List ℕ) (r : WriteResult) → Writes n K kinds numbers output left r → Outside (r .answer)
   pub show : (A B : List ℕ) (line : ℕ) (r : Answer) → AnswersShow A B line r → Outside r
   pub test : (formula : List ℕ) (values : List ℤ) (r : Tested) → Tests formula values r → Outside (r .answer)

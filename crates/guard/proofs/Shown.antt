@@ -6,12 +6,11 @@ use mathlib.Core.Bool.{Bool, true, false}
 use mathlib.Core.List.{List}
 use native.Mathlib.Nat.{eq-zero-or-pos}
 use native.Mathlib.Omega.{arith}
-use Rattle.forms.specs.Edition.{editionNumbered}
 use Rattle.forms.specs.Forms.{sum, value}
 use Rattle.fields.specs.Answers.{answer, acceptance, fileLent, _>>=_, _>>_, need, found, each}
 use Rattle.fields.specs.Numbers.{unsigned, complement, signed, signeds, formFrom}
 use Rattle.fields.specs.Fields.{front, note, unlessNote, fieldsFrom, fields}
-use Rattle.fields.specs.Header.{headerTag, known, agrees, headerField, header, finished}
+use Rattle.fields.specs.Header.{headerTag, known, agrees, headerField, editionField, constantsField, header, finished}
 use Rattle.formula.specs.Formula.{formulaTagged, formulaSize, formulaOf, formulaField, formulaWithin, readFormula}
 use Rattle.formula.specs.Test.{Tested, testFormula, tested, judged, judge}
 use Rattle.files.specs.Text.{ascii}
@@ -31,7 +30,7 @@ truth-shown : {t : Tested} (b : Bool) → t ≡ record { answer = acceptance; ho
 truth-shown b e = subst (λ (t : Tested). Printed t (truthLine b)) (sym e) (record { if-accepted = λ _. refl; if-refused = λ (h : 1 ≤ 0). absurd (omega arith) })
 
 tests : (testFiles (even .f) (even .v) ≡ record { answer = acceptance; holds = true }) × (testFiles (odd .f) (odd .v) ≡ record { answer = acceptance; holds = false })
-unfolding editionNumbered sum value _>>=_ _>>_ need found each unsigned complement signed signeds formFrom front note unlessNote fieldsFrom fields headerTag known agrees headerField header finished formulaTagged formulaSize formulaOf formulaField formulaWithin readFormula testFormula tested judged judge valuesOf testFiles
+unfolding sum value _>>=_ _>>_ need found each unsigned complement signed signeds formFrom front note unlessNote fieldsFrom fields headerTag known agrees headerField editionField constantsField header finished formulaTagged formulaSize formulaOf formulaField formulaWithin readFormula testFormula tested judged judge valuesOf testFiles
 tests = (refl, refl)
 
 pub shows-even : Printed (testFiles (even .f) (even .v)) (ascii (even .text))

@@ -10,10 +10,13 @@ use lib.Dec.{leb}
 use lib.IntN.{ℤ, natAbs}
 use lib.ListN.{length, take, drop, set}
 use lib.Seq.{sets, sets-eq, take-at, drop-drop, length-take-le, take-all}
+use mir.Syntax.{w32}
+use mir.Val.{SFits}
 use borrow.Author.Tests.{le-leb, lt-leb, eq-eqb, ne-eqb}
 use Rattle.forms.specs.Forms.{Formula}
 use Rattle.fields.specs.Answers.{answer, fileLent, Result, _>>_, need, each}
 use Rattle.fields.specs.Numbers.{signed, signeds}
+use Rattle.fields.specs.Ranges.{Held}
 use Rattle.fields.proofs.Results.{fail}
 use Rattle.fields.proofs.Signed.{length-signeds}
 use Rattle.formula.specs.declared.Tested.{Tested as Answered}
@@ -26,6 +29,10 @@ abbrev pub refused-7 : Tested
 refused-7 = record { answer = answer 7 fileLent 0; holds = false }
 
 -- ---- loading
+-- a number that four bytes hold fits 32 bits
+pub long-fits : {z : ℤ} → Held 4 z → SFits w32 z
+long-fits h = record { sfits = omega (arith, h .held .half) }
+
 -- one value more
 pub loaded-next : (l : List ℤ) (i n : ℕ) (v : List ℕ) → i < n
     → sets (set l i (signed (take 4 (drop (i * 4) v)))) (i + 1) (signeds 4 (n - (i + 1)) (drop ((i + 1) * 4) v))

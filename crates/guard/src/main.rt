@@ -7,7 +7,7 @@ ghost use lib.Seq.{sets};
 ghost use Rattle.io.specs.Counts.{Counts};
 ghost use Rattle.fields.specs.Numbers.{signeds};
 ghost use Rattle.guard.specs.Said.{testFiles, Printed};
-use fields::words::long_at;
+use fields::words::signed_at;
 use forms::CONSTANTS;
 use forms::FORMULA_BYTES;
 use libc::STDOUT_FILENO;
@@ -19,7 +19,7 @@ fn load(v: &[u8], count: usize, values: &mut [i32])
 {
     let mut i = 0;
     while i < count {
-        values[i] = long_at(v, i * 4);
+        values[i] = signed_at(v, i * 4, 4) as i32;
         i += 1;
     }
 }

@@ -10,7 +10,7 @@ use lib.ListN.{length, getD, drop, length-drop, drop-of-length-le}
 use lib.IntN.{ℤ, pos}
 use lib.Seq.{take-suc, drop-cons, getD-drop, length-take-le}
 use Rattle.integers.specs.Linear.{eqZ}
-use Rattle.calculus.specs.Rules.{every}
+use Rattle.forms.specs.Forms.{every}
 use Rattle.lines.specs.Parts.{part}
 use Rattle.lines.proofs.Parts.{getD-part}
 use Rattle.lines.proofs.Range.{every-snoc}

@@ -8,7 +8,7 @@ use native.Mathlib.Nat.{mul-le-mul, mul-le-mul-right, eq-or-lt-of-le}
 use native.Mathlib.Omega.{arith}
 use lib.IntN.{ℤ, pos}
 use lib.ListN.{length, getElem?, length-append}
-use Rattle.forms.specs.Edition.{edition1}
+use Rattle.forms.specs.Edition.{edition, edition1, newestEdition}
 use Rattle.forms.specs.Forms.{Form, LineKind, Line}
 use Rattle.calculus.specs.Rules.{_▷_}
 use Rattle.lines.specs.Parts.{Agree}
@@ -31,7 +31,7 @@ pub before : (K : ℕ) {i n : ℕ} → i < n → i * size K + size K ≤ n * siz
 before K {i} {n} h = omega (arith, mul-le-mul-right (size K) h)
 
 -- A line's place is a small number.
-pub place-small : {K i : ℕ} → K ≤ edition1 .constants → i ≤ edition1 .lines → i * size K ≤ 4352
+pub place-small : {K i : ℕ} → K ≤ edition1 .constants → i ≤ edition newestEdition .lines → i * size K ≤ 34000
 place-small {K} {i} hK hi = let h : size K ≤ 34 = omega arith in omega (arith, mul-le-mul hi h)
 
 module _ (K : ℕ) (kinds : List ℕ) (buf : List ℤ) where

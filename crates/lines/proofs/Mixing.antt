@@ -12,8 +12,8 @@ use lib.Seq.{paste, length-paste, take-add, take-all}
 use borrow.Author.Tests.{not-true, not-false}
 use Rattle.integers.proofs.Ring.{var, ring, poly}
 use Rattle.forms.specs.Edition.{edition1}
-use Rattle.forms.specs.Forms.{Form, Line, sums, _⊞_, _·_}
-use Rattle.calculus.specs.Rules.{small, every, inRange}
+use Rattle.forms.specs.Forms.{Form, Line, sums, _⊞_, _·_, small, every}
+use Rattle.calculus.specs.Rules.{inRange}
 use Rattle.calculus.proofs.Readings.{getD-sums, getD-scaled, length-sums}
 use Rattle.lines.specs.Parts.{part, Agree}
 use Rattle.lines.proofs.Parts.{part-part, length-part, part-paste, paste-paste, getD-part, getD-paste, agree-part, agree-paste, agree-getD, agree-trans, agree-le}

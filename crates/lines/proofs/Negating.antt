@@ -11,8 +11,8 @@ use Rattle.integers.specs.Magnitude.{Within}
 use Rattle.integers.proofs.Divisibility.{abs-mul}
 use Rattle.integers.proofs.Magnitude.{within-between}
 use Rattle.forms.specs.Edition.{edition1}
-use Rattle.forms.specs.Forms.{Form, Kind, ≤0, LineKind, plain, Line, line, neg, _·_, _plus_}
-use Rattle.calculus.specs.Rules.{small, every, inRange}
+use Rattle.forms.specs.Forms.{Form, Kind, ≤0, LineKind, plain, Line, line, neg, _·_, _plus_, small, every}
+use Rattle.calculus.specs.Rules.{inRange}
 use Rattle.lines.specs.Parts.{Agree}
 use Rattle.lines.proofs.Parts.{agree-getD}
 use Rattle.forms.specs.Flat.{lineKindOf, formIn}

@@ -13,7 +13,8 @@ use lib.Seq.{length-take-le, take-add, drop-drop}
 use Rattle.integers.specs.Magnitude.{Within}
 use Rattle.forms.specs.Edition.{edition1}
 use Rattle.forms.proofs.Flat.{part-form}
-use Rattle.calculus.specs.Rules.{small, every, inRange}
+use Rattle.forms.specs.Forms.{small, every}
+use Rattle.calculus.specs.Rules.{inRange}
 use Rattle.lines.specs.Parts.{part}
 use Rattle.lines.proofs.Parts.{getD-part}
 use Rattle.lines.specs.Buffer.{size, lineIn, Bounded}

@@ -7,10 +7,10 @@ use lib.ListN.{length, getD, set}
 use lib.Seq.{paste}
 use lib.IntN.{ℤ, pos, negsuc, _+ℤ_, _*ℤ_}
 use Rattle.integers.specs.Magnitude.{Within, Factors}
-use Rattle.forms.specs.Edition.{edition1}
-use Rattle.forms.specs.Forms.{Line, sums}
+use Rattle.forms.specs.Edition.{edition, edition1, newestEdition, multiplierRange}
+use Rattle.forms.specs.Forms.{Line, sums, small, every}
 use Rattle.forms.specs.Flat.{lineKindOf, formIn}
-use Rattle.calculus.specs.Rules.{_▷_, small, every}
+use Rattle.calculus.specs.Rules.{_▷_}
 use Rattle.lines.specs.Parts.{part, Agree}
 
 -- How many numbers a line has.
@@ -85,9 +85,9 @@ pub record LineTerms (K : ℕ) (buf : List ℤ) (f : ℤ) (i : ℕ) (g : ℤ) (j
   pub branch : Branch K buf n
   pub first : i < n
   pub second : j < n
-  pub space : n < edition1 .lines
-  pub f-in : Within 65535 f
-  pub g-in : Within 65535 g
+  pub space : n < edition newestEdition .lines
+  pub f-in : Within multiplierRange f
+  pub g-in : Within multiplierRange g
 
 -- The constant terms of line i's t and tA stay within the range when they are raised by x and y.
 pub record Raised (K : ℕ) (buf : List ℤ) (i x y : ℕ) : Type 0 where
@@ -103,7 +103,7 @@ pub record Negated (K : ℕ) (buf : List ℤ) (i x y : ℕ) : Type 0 where
 pub record LineCopy (K : ℕ) (buf : List ℤ) (i n : ℕ) : Type 0 where
   pub branch : Branch K buf n
   pub first : i < n
-  pub space : n < edition1 .lines
+  pub space : n < edition newestEdition .lines
 
 -- The same, where it may be raised so.
 pub record LineStart (K : ℕ) (buf : List ℤ) (i n x y : ℕ) : Type 0 where

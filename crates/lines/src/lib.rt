@@ -12,15 +12,15 @@ ghost use lib.Signed.{_≤ℤ_};
 ghost use Rattle.integers.specs.Magnitude.{Within};
 ghost use Rattle.integers.specs.Linear.{eqZ};
 ghost use Rattle.integers.specs.Divides.{divb};
-ghost use Rattle.calculus.specs.Rules.{small, every};
-ghost use Rattle.forms.specs.Edition.{edition1};
+ghost use Rattle.forms.specs.Forms.{small, every};
+ghost use Rattle.forms.specs.Edition.{edition, edition1, newestEdition, multiplierRange};
 ghost use Rattle.lines.specs.Parts.{part};
 ghost use Rattle.forms.specs.Flat.{formIn};
 ghost use Rattle.lines.specs.Buffer.{size, Bounded, Terms, LineTerms, LineCopy, LineStart, LineNegated, Mixes, Raised, raised, raisedLine, copiedLine, startedLine, negatedLine};
 
 // Where the numbers of line i's t start, with k constants. Only here a line number becomes a place.
 pub fn place(i: LineNumber, k: usize) -> usize
-    requires { ⌜ (i .0 ≤ edition1 .lines) × (k ≤ edition1 .constants) ⌝ }
+    requires { ⌜ (i .0 ≤ edition newestEdition .lines) × (k ≤ edition1 .constants) ⌝ }
     ensures { λ r. ⌜ r ≡ i .0 * size k ⌝ }
 {
     let n = i.0 as usize;
@@ -29,7 +29,7 @@ pub fn place(i: LineNumber, k: usize) -> usize
 
 // Where the numbers of line i's tA start.
 pub fn place_a(i: LineNumber, k: usize) -> usize
-    requires { ⌜ (i .0 ≤ edition1 .lines) × (k ≤ edition1 .constants) ⌝ }
+    requires { ⌜ (i .0 ≤ edition newestEdition .lines) × (k ≤ edition1 .constants) ⌝ }
     ensures { λ r. ⌜ r ≡ i .0 * size k + (k + 1) ⌝ }
 {
     place(i, k) + (k + 1)
@@ -163,7 +163,7 @@ fn copy_line(lines: &mut [i32], i: LineNumber, n: LineNumber, k: usize)
 
 // t + x and tA + y in place of t and tA of line n.
 fn raise_line(lines: &mut [i32], n: LineNumber, k: usize, x: u16, y: u16)
-    requires { ⌜ (n .0 < edition1 .lines) × (k ≤ edition1 .constants) × (n .0 * size k + size k ≤ length (now lines)) ⌝ }
+    requires { ⌜ (n .0 < edition newestEdition .lines) × (k ≤ edition1 .constants) × (n .0 * size k + size k ≤ length (now lines)) ⌝ }
     requires { ⌜ Raised k (now lines) (n .0) x y ⌝ }
     ensures { λ _. ⌜ now (lines .exit) ≡ raisedLine k (n .0) x y (now (lines .entry)) ⌝ }
 {
@@ -193,7 +193,7 @@ pub fn start_negated(lines: &mut [i32], i: LineNumber, new: LineNumber, k: usize
 
 // Whether f times the number at a place, and x more, is within the range.
 fn term_fits(lines: &[i32], at: usize, f: i64, x: u16) -> bool
-    requires { ⌜ (at < length (now lines)) × Within 65535 f × Within (edition1 .range) (getD (now lines) at (pos 0)) ⌝ }
+    requires { ⌜ (at < length (now lines)) × Within multiplierRange f × Within (edition1 .range) (getD (now lines) at (pos 0)) ⌝ }
     ensures { λ r. ⌜ r ≡ small (edition1 .range) (f *ℤ getD (now (lines .entry)) at (pos 0) +ℤ pos x) ⌝ }
 {
     let product = f * number(lines, at);
@@ -203,8 +203,8 @@ fn term_fits(lines: &[i32], at: usize, f: i64, x: u16) -> bool
 
 // Whether f·t + x and f·tA + y of line i stay within the range: told by their constant terms.
 fn terms_fit(lines: &[i32], i: LineNumber, k: usize, f: i64, x: u16, y: u16) -> bool
-    requires { ⌜ (i .0 < edition1 .lines) × (k ≤ edition1 .constants) × (i .0 * size k + size k ≤ length (now lines)) ⌝ }
-    requires { ⌜ Bounded k (now lines) (i .0 + 1) × Within 65535 f ⌝ }
+    requires { ⌜ (i .0 < edition newestEdition .lines) × (k ≤ edition1 .constants) × (i .0 * size k + size k ≤ length (now lines)) ⌝ }
+    requires { ⌜ Bounded k (now lines) (i .0 + 1) × Within multiplierRange f ⌝ }
     ensures { λ r. ⌜ r ≡ small (edition1 .range) (f *ℤ formIn k (now (lines .entry)) (i .0 * size k) .d +ℤ pos x) && small (edition1 .range) (f *ℤ formIn k (now (lines .entry)) (i .0 * size k + (k + 1)) .d +ℤ pos y) ⌝ }
 {
     let at = place(i, k);
@@ -216,7 +216,7 @@ fn terms_fit(lines: &[i32], i: LineNumber, k: usize, f: i64, x: u16, y: u16) -> 
 
 // Whether t + x and tA + y of line i stay within the range.
 pub fn raised_fit(lines: &[i32], i: LineNumber, k: usize, x: u16, y: u16) -> bool
-    requires { ⌜ (i .0 < edition1 .lines) × (k ≤ edition1 .constants) × (i .0 * size k + size k ≤ length (now lines)) ⌝ }
+    requires { ⌜ (i .0 < edition newestEdition .lines) × (k ≤ edition1 .constants) × (i .0 * size k + size k ≤ length (now lines)) ⌝ }
     requires { ⌜ Bounded k (now lines) (i .0 + 1) ⌝ }
     ensures { λ r. ⌜ r ≡ small (edition1 .range) (formIn k (now (lines .entry)) (i .0 * size k) .d +ℤ pos x) && small (edition1 .range) (formIn k (now (lines .entry)) (i .0 * size k + (k + 1)) .d +ℤ pos y) ⌝ }
 {
@@ -225,7 +225,7 @@ pub fn raised_fit(lines: &[i32], i: LineNumber, k: usize, x: u16, y: u16) -> boo
 
 // Whether -t + x and -tA + y of line i stay within the range.
 pub fn negated_fit(lines: &[i32], i: LineNumber, k: usize, x: u16, y: u16) -> bool
-    requires { ⌜ (i .0 < edition1 .lines) × (k ≤ edition1 .constants) × (i .0 * size k + size k ≤ length (now lines)) ⌝ }
+    requires { ⌜ (i .0 < edition newestEdition .lines) × (k ≤ edition1 .constants) × (i .0 * size k + size k ≤ length (now lines)) ⌝ }
     requires { ⌜ Bounded k (now lines) (i .0 + 1) ⌝ }
     ensures { λ r. ⌜ r ≡ small (edition1 .range) (negsuc 0 *ℤ formIn k (now (lines .entry)) (i .0 * size k) .d +ℤ pos x) && small (edition1 .range) (negsuc 0 *ℤ formIn k (now (lines .entry)) (i .0 * size k + (k + 1)) .d +ℤ pos y) ⌝ }
 {

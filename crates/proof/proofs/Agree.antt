@@ -1,5 +1,5 @@
 -- The check accepts just where the three files certify the formula, never refuses by 22, and what it accepts is an interpolant. Assumes nothing.
-use mathlib.Core.Path.{_≡_, refl, sym, _∙_, ap, subst, subst₂}
+use mathlib.Core.Path.{_≡_, refl, sym, _∙_, ap, subst}
 use mathlib.Core.Logic.{_↔_}
 use mathlib.Core.Option.{none, some}
 use mathlib.Core.Bool.{Bool}
@@ -9,8 +9,9 @@ use native.Mathlib.Omega.{arith}
 use borrow.Author.Tests.{lt-leb}
 use lib.Dec.{T, eqb→eq, eqb-refl, leb→le, le→leb}
 use lib.ListN.{length}
-use Rattle.forms.specs.Edition.{Edition, edition1}
-use Rattle.forms.specs.Forms.{Formula, lines, occurs}
+use Rattle.forms.specs.Edition.{Edition, edition, edition1}
+use Rattle.forms.proofs.Editions.{bundleBytes-grows}
+use Rattle.forms.specs.Forms.{Constraint, Formula, lines, occurs}
 use Rattle.calculus.specs.Rules.{Entry, entries, Proves, Interpolant}
 use Rattle.calculus.proofs.Sides.{Side}
 use Rattle.calculus.proofs.Interpolation.{interpolation, initial-words, sides}
@@ -23,7 +24,7 @@ use Rattle.fields.proofs.Results.{one-value, Gives, gives-accepted, weaken, giv
 use Rattle.fields.proofs.HeaderLaid.{LaidHeader, header-gives, header-read, finished-gives, finished-ends}
 use Rattle.bundle.specs.Bundle.{Bundle, bundles}
 use Rattle.bundle.specs.Layout.{Each, nil, BundleFile}
-use Rattle.bundle.proofs.Laid.{Itemed, itemed, no-items, listed, BothLaid, laid-file, file-laid, bundles-give, bundles-accept, short-gives, short-accepted}
+use Rattle.bundle.proofs.Laid.{Itemed, itemed, no-items, listed, BothLaid, bundles-give, bundles-accept, short-gives, short-accepted}
 use Rattle.formula.specs.Formula.{formulaFile}
 use Rattle.proof.specs.Check.{Closing, checkProof, formulaAtMost, interpolant}
 use Rattle.proof.specs.Layout.{Enters, Yields, Certifies}
@@ -34,15 +35,18 @@ abbrev occurring : Bundle → Bundle → Side → ℕ → Bool
 occurring a b σ = occurs (sides (a .constraints) (b .constraints) σ)
 
 -- ---- the proof
--- The fields fs are laid out as a proof of I from a and b.
-pub record Proof (a b : Bundle) (fs : Fields) (I : Formula) : Type 0 where
+-- The fields fs are laid out as a proof of I from a and b, of an edition up to the newest.
+pub record Proof (newest : ℕ) (a b : Bundle) (fs : Fields) (I : Formula) : Type 0 where
+  pub number : ℕ
+  pub first : 1 ≤ number
+  pub last : number ≤ newest
   pub es : List Entry
   pub body : List Item
-  pub whole : items fs ≡ some (item 0x01 (1 ∷ []) ∷ item 0x02 (a .K ∷ []) ∷ body)
+  pub whole : items fs ≡ some (item 0x01 (number ∷ []) ∷ item 0x02 (a .K ∷ []) ∷ body)
   pub low : 1 ≤ a .K
   pub high : a .K ≤ edition1 .constants
-  pub enters : Each (Enters edition1 (a .K)) body es
-  pub proves : Proves edition1 (a .constraints) (b .constraints) es I
+  pub enters : Each (Enters (edition number) (a .K)) body es
+  pub proves : Proves (edition number) (a .constraints) (b .constraints) es I
 
 pub agreed : (K L : ℕ) → T (agrees (some K) L) → L ≡ K
 unfolding agrees
@@ -52,16 +56,19 @@ pub agrees-refl : (K : ℕ) → T (agrees (some K) K)
 unfolding agrees
 agrees-refl K = eqb-refl K
 
-module _ (a b : Bundle) (fs : Fields) where
+module _ (newest : ℕ) (a b : Bundle) (fs : Fields) where
   -- what the check of the root finds
   abbrev Root : Edition → ℕ → Fields → Closing → Type 0
   Root e K rest root = BranchDerived e K (occurring a b) (e .branchings) 0 none (lines (a .constraints) (b .constraints)) rest root
 
-  root-proof : (rest : Fields) (root : Closing) → Root edition1 (a .K) rest root → items (root .after) ≡ some [] → 1 ≤ a .K → a .K ≤ edition1 .constants
-      → ((is : List Item) → items rest ≡ some is → items fs ≡ some (item 0x01 (1 ∷ []) ∷ item 0x02 (a .K ∷ []) ∷ is)) → Proof a b fs (root .formula)
-  root-proof rest root r ended low high from =
-      let t : Itemed (Enters edition1 (a .K)) rest (entries (r .proof) []) = itemed (r .from [] (listed (root .after) ended nil)) in
+  root-proof : (n : ℕ) → 1 ≤ n → n ≤ newest → (rest : Fields) (root : Closing) → Root (edition n) (a .K) rest root → items (root .after) ≡ some [] → 1 ≤ a .K → a .K ≤ edition1 .constants
+      → ((is : List Item) → items rest ≡ some is → items fs ≡ some (item 0x01 (n ∷ []) ∷ item 0x02 (a .K ∷ []) ∷ is)) → Proof newest a b fs (root .formula)
+  root-proof n first last rest root r ended low high from =
+      let t : Itemed (Enters (edition n) (a .K)) rest (entries (r .proof) []) = itemed (r .from [] (listed (root .after) ended nil)) in
       record {
+        number = n;
+        first = first;
+        last = last;
         es = entries (r .proof) [];
         body = t .list;
         whole = from (t .list) (t .are);
@@ -71,24 +78,26 @@ module _ (a b : Bundle) (fs : Fields) where
         proves = record { proof = r .proof; are = refl; rows = omega (arith, r .count, r .few); opened = r .fits };
       }
 
-  -- there is one edition, and K is that of A
-  header-proof : (h : Header) → LaidHeader (some (a .K)) fs h → (root : Closing) → Root (h .edition) (h .K) (h .rest) root → items (root .after) ≡ some [] → Proof a b fs (root .formula)
+  -- K is that of A
+  header-proof : (h : Header) → LaidHeader newest (some (a .K)) fs h → (root : Closing) → Root (edition (h .number)) (h .K) (h .rest) root → items (root .after) ≡ some [] → Proof newest a b fs (root .formula)
   header-proof h d root r ended =
       let k : h .K ≡ a .K = agreed (a .K) (h .K) (d .agree) in
-      root-proof (h .rest) root (subst₂ (λ (e : Edition) (K : ℕ). Root e K (h .rest) root) (d .edition) k r) ended (rw k at (d .low)) (rw k at (d .high)) (λ is q. rw k at (d .from is q))
+      root-proof (h .number) (d .first) (d .last) (h .rest) root (subst (λ (K : ℕ). Root (edition (h .number)) K (h .rest) root) k r) ended
+      (rw k at (d .low)) (rw k at (d .high)) (λ is q. rw k at (d .from is q))
 
-  proof-gives : Gives (checkProof a b fs) (Proof a b fs)
+  proof-gives : Gives (checkProof newest a b fs) (Proof newest a b fs)
   unfolding checkProof
-  proof-gives = bind (header-gives FileKind.Proof fileProof (some (a .K)) fs) λ h d.
-      bind (branch-derives (h .edition) (h .K) (occurring a b) (h .edition .branchings) _ 0 _ (h .rest) (initial-words (sides (a .constraints) (b .constraints)))) λ root r.
+  proof-gives = bind (header-gives FileKind.Proof fileProof newest (some (a .K)) fs) λ h d.
+      bind (branch-derives (edition (h .number)) (h .K) (occurring a b) (edition (h .number) .branchings) _ 0 _ (h .rest) (initial-words (sides (a .constraints) (b .constraints)))) λ root r.
       seq (finished-gives FileKind.Proof fileProof (root .after)) λ ended. gives-accepted (header-proof h d root r ended)
 
-  proof-accepts : (I : Formula) → Proof a b fs I → checkProof a b fs ≡ accepted I
+  proof-accepts : (I : Formula) → Proof newest a b fs I → checkProof newest a b fs ≡ accepted I
   unfolding checkProof
   proof-accepts I p =
-      let h = header-read FileKind.Proof fileProof (some (a .K)) fs (a .K) (p .body) (p .whole) (p .low) (p .high) (agrees-refl (a .K)) in
-      let r = branch-accepts edition1 (a .K) (occurring a b) (edition1 .branchings) _ 0 _ I (p .proves .proof) [] (h .after) (initial-words (sides (a .constraints) (b .constraints)))
-      (p .proves .opened) _ refl (omega (arith, p .proves .rows)) (listed (h .after) (h .rest) (subst (Each (Enters edition1 (a .K)) (p .body)) (sym (p .proves .are)) (p .enters))) in
+      let h = header-read FileKind.Proof fileProof newest (some (a .K)) fs (p .number) (a .K) (p .body) (p .whole) (p .first) (p .last) (p .low) (p .high) (agrees-refl (a .K)) in
+      let e = edition (p .number) in
+      let r = branch-accepts e (a .K) (occurring a b) (e .branchings) _ 0 _ I (p .proves .proof) [] (h .after) (initial-words (sides (a .constraints) (b .constraints)))
+      (p .proves .opened) _ refl (omega (arith, p .proves .rows)) (listed (h .after) (h .rest) (subst (Each (Enters e (a .K)) (p .body)) (sym (p .proves .are)) (p .enters))) in
       binds _ (h .reads) ∙ binds _ (r .is) ∙ passes _ (finished-ends FileKind.Proof fileProof (r .after) (no-items (r .lists)))
 
 -- ---- the formula's file
@@ -106,81 +115,98 @@ unfolding formulaAtMost
 formulaAtMost-refuses r K I h = fail _ r (lt-leb (length (formulaFile edition1 K I)) (edition1 .formulaBytes) h)
 
 -- ---- the three files
-module _ (A B P : List ℕ) where
-  yielded : (a b : Bundle) → BothLaid A B (a, b) → length A ≤ edition1 .bundleBytes → length B ≤ edition1 .bundleBytes → length P ≤ edition1 .proofBytes
-      → (I : Formula) → Proof a b (fields P) I → Yields A B P (a .K) I
-  yielded a b l sA sB sP I p = record {
+module _ (newest : ℕ) (A B P : List ℕ) where
+  yielded : (a b : Bundle) → BothLaid newest A B (a, b) → length P ≤ edition newest .proofBytes → (I : Formula) → Proof newest a b (fields P) I → Yields newest A B P (a .K) I
+  yielded a b l sP I p = record {
+    editionA = a .edition;
+    editionB = b .edition;
+    editionProof = p .number;
     a = a .constraints;
     b = b .constraints;
     es = p .es;
-    fileA = laid-file A a sA (l .laidA);
-    fileB = subst (λ (K : ℕ). BundleFile B K (b .constraints)) (agreed (a .K) (b .K) (l .laidB .agree)) (laid-file B b sB (l .laidB));
-    fileProof = record { short = sP; body = p .body; whole = p .whole; low = p .low; high = p .high; enters = p .enters };
+    fileA = l .laidA .file;
+    fileB = subst (λ (K : ℕ). BundleFile newest B (b .edition) K (b .constraints)) (agreed (a .K) (b .K) (l .laidB .agree)) (l .laidB .file);
+    fileProof = record { first = p .first; last = p .last; short = sP; body = p .body; whole = p .whole; low = p .low; high = p .high; enters = p .enters };
     proves = p .proves;
   }
 
-  interpolant-gives : Gives (interpolant A B P) (λ r. Certifies A B P (r .0) (r .1))
+  interpolant-gives : Gives (interpolant newest A B P) (λ r. Certifies newest A B P (r .0) (r .1))
   unfolding interpolant
-  interpolant-gives = seq (short-gives _ fileA A) λ sA. seq (short-gives _ fileB B) λ sB. seq (short-gives _ fileProof P) λ sP.
-      bind (bundles-give A B) λ (a, b) l. bind (proof-gives a b (fields P)) λ I p. seq (formulaAtMost-gives (a .K) I) λ sI.
-      gives-accepted (record { yields = yielded a b l sA sB sP I p; short = sI })
+  interpolant-gives = seq (short-gives _ fileA A) λ _. seq (short-gives _ fileB B) λ _. seq (short-gives _ fileProof P) λ sP.
+      bind (bundles-give newest A B) λ (a, b) l. bind (proof-gives newest a b (fields P)) λ I p. seq (formulaAtMost-gives (a .K) I) λ sI.
+      gives-accepted (record { yields = yielded a b l sP I p; short = sI })
 
   -- the formula that the proof's fields derive, however long its file
   derives : Result (ℕ × Formula)
-  derives = bundles A B >>= λ (a, b). checkProof a b (fields P) >>= λ I. accepted (a .K, I)
+  derives = bundles newest A B >>= λ (a, b). checkProof newest a b (fields P) >>= λ I. accepted (a .K, I)
 
-  module _ (K : ℕ) (I : Formula) (y : Yields A B P K I) where
+  -- what is short enough for its edition is so for those after it
+  short-file : {file : List ℕ} {n K : ℕ} {cs : List Constraint} → BundleFile newest file n K cs → length file ≤ edition newest .bundleBytes
+  short-file {n = n} f = omega (arith, f .short, bundleBytes-grows n newest (f .first) (f .last))
+
+  module _ (K : ℕ) (I : Formula) (y : Yields newest A B P K I) where
     abbrev ofA : Bundle
-    ofA = record { K = K; constraints = y .a }
+    ofA = record { edition = y .editionA; K = K; constraints = y .a }
 
     abbrev ofB : Bundle
-    ofB = record { K = K; constraints = y .b }
+    ofB = record { edition = y .editionB; K = K; constraints = y .b }
 
-    bundles-read : bundles A B ≡ accepted (ofA, ofB)
+    bundles-read : bundles newest A B ≡ accepted (ofA, ofB)
     unfolding agrees
-    bundles-read = bundles-accept A B ofA ofB (record { laidA = file-laid A ofA (y .fileA) tt; laidB = file-laid B ofB (y .fileB) (agrees-refl K) })
+    bundles-read = bundles-accept newest A B ofA ofB (record { laidA = record { file = y .fileA; agree = tt }; laidB = record { file = y .fileB; agree = agrees-refl K } })
 
-    proof-read : checkProof ofA ofB (fields P) ≡ accepted I
+    proof-read : checkProof newest ofA ofB (fields P) ≡ accepted I
     proof-read =
         let f = y .fileProof in
-        proof-accepts ofA ofB (fields P) I (record { es = y .es; body = f .body; whole = f .whole; low = f .low; high = f .high; enters = f .enters; proves = y .proves })
+        proof-accepts newest ofA ofB (fields P) I (record {
+          number = y .editionProof;
+          first = f .first;
+          last = f .last;
+          es = y .es;
+          body = f .body;
+          whole = f .whole;
+          low = f .low;
+          high = f .high;
+          enters = f .enters;
+          proves = y .proves;
+        })
 
     -- where the rows derive I, all that is left to ask is whether its file is too long
-    pub interpolant-yields : interpolant A B P ≡ (formulaAtMost K I >> accepted (K, I))
+    pub interpolant-yields : interpolant newest A B P ≡ (formulaAtMost K I >> accepted (K, I))
     unfolding interpolant
     interpolant-yields =
-        passes _ (short-accepted _ fileA A (y .fileA .short)) ∙ passes _ (short-accepted _ fileB B (y .fileB .short)) ∙ passes _ (short-accepted _ fileProof P (y .fileProof .short))
+        passes _ (short-accepted _ fileA A (short-file (y .fileA))) ∙ passes _ (short-accepted _ fileB B (short-file (y .fileB))) ∙ passes _ (short-accepted _ fileProof P (y .fileProof .short))
         ∙ binds _ bundles-read ∙ binds _ proof-read
 
     -- where it is, 1
-    pub interpolant-long : edition1 .formulaBytes < length (formulaFile edition1 K I) → interpolant A B P ≡ refused (answer 1 fileLent (length (formulaFile edition1 K I)))
+    pub interpolant-long : edition1 .formulaBytes < length (formulaFile edition1 K I) → interpolant newest A B P ≡ refused (answer 1 fileLent (length (formulaFile edition1 K I)))
     interpolant-long h = interpolant-yields ∙ formulaAtMost-refuses _ K I h
 
     derives-yields : derives ≡ accepted (K, I)
     unfolding derives
     derives-yields = binds _ bundles-read ∙ binds _ proof-read
 
-  interpolant-accepts : (K : ℕ) (I : Formula) → Certifies A B P K I → interpolant A B P ≡ accepted (K, I)
+  interpolant-accepts : (K : ℕ) (I : Formula) → Certifies newest A B P K I → interpolant newest A B P ≡ accepted (K, I)
   interpolant-accepts K I c = interpolant-yields K I (c .yields) ∙ passes _ (formulaAtMost-accepts K I (c .short))
 
   -- the check accepts with K and I just where the files certify I over K constants
-  pub interpolant-iff : (K : ℕ) (I : Formula) → interpolant A B P ≡ accepted (K, I) ↔ Certifies A B P K I
+  pub interpolant-iff : (K : ℕ) (I : Formula) → interpolant newest A B P ≡ accepted (K, I) ↔ Certifies newest A B P K I
   interpolant-iff K I = (interpolant-gives .gives (K, I), interpolant-accepts K I)
 
   -- the refusal by 22 never comes
-  pub never-22 : (a : Answer) → interpolant A B P ≡ refused a → ¬ (a .number ≡ 22)
+  pub never-22 : (a : Answer) → interpolant newest A B P ≡ refused a → ¬ (a .number ≡ 22)
   never-22 a e = not-22 (interpolant-gives .refusal a e)
 
   -- a refusal's number is never that of acceptance
-  pub never-0 : (a : Answer) → interpolant A B P ≡ refused a → ¬ (a .number ≡ 0)
+  pub never-0 : (a : Answer) → interpolant newest A B P ≡ refused a → ¬ (a .number ≡ 0)
   never-0 a e = not-0 (interpolant-gives .refusal a e)
 
 -- three files derive one formula at most
-pub one-formula : {A B P : List ℕ} {K K′ : ℕ} {I I′ : Formula} → Yields A B P K I → Yields A B P K′ I′ → (K ≡ K′) × (I ≡ I′)
-one-formula {A} {B} {P} {K} {K′} {I} {I′} y y′ =
-    let same : _≡_ {A = ℕ × Formula} (K, I) (K′, I′) = one-value (derives-yields A B P K I y) (derives-yields A B P K′ I′ y′) in
+pub one-formula : {newest : ℕ} {A B P : List ℕ} {K K′ : ℕ} {I I′ : Formula} → Yields newest A B P K I → Yields newest A B P K′ I′ → (K ≡ K′) × (I ≡ I′)
+one-formula {newest} {A} {B} {P} {K} {K′} {I} {I′} y y′ =
+    let same : _≡_ {A = ℕ × Formula} (K, I) (K′, I′) = one-value (derives-yields newest A B P K I y) (derives-yields newest A B P K′ I′ y′) in
     (ap (λ (r : ℕ × Formula). r .0) same, ap (λ (r : ℕ × Formula). r .1) same)
 
 -- and it is an interpolant of what A and B state
-pub yielded-interpolant : {A B P : List ℕ} {K : ℕ} {I : Formula} (y : Yields A B P K I) → Interpolant (y .a) (y .b) I
+pub yielded-interpolant : {newest : ℕ} {A B P : List ℕ} {K : ℕ} {I : Formula} (y : Yields newest A B P K I) → Interpolant (y .a) (y .b) I
 yielded-interpolant y = interpolation (y .a) (y .b) (y .proves .proof)

@@ -78,7 +78,7 @@ reducing-length K (I or J) h = pair-length 0x31 _ _ (encode edition1 I) (encode 
 
 pub file-length : (K : ℕ) (I : Formula) → Encodable K I → length (formulaFile edition1 K (reducing I)) ≡ length (formulaFile edition1 K I)
 unfolding formulaFile
-file-length K I h = length-append (headerBytes K) _ ∙ ap (λ (n : ℕ). length (headerBytes K) + n) (reducing-length K I h) ∙ sym (length-append (headerBytes K) _)
+file-length K I h = length-append (headerBytes 1 K) _ ∙ ap (λ (n : ℕ). length (headerBytes 1 K) + n) (reducing-length K I h) ∙ sym (length-append (headerBytes 1 K) _)
 
 -- ---- and is judged alike
 same-bool : (a b : Bool) → T a ↔ T b → a ≡ b

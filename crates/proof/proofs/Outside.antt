@@ -9,20 +9,20 @@ use native.Mathlib.Omega.{arith}
 use lib.Dec.{leb}
 use lib.ListN.{length}
 use lib.IntN.{ℤ}
-use Rattle.forms.specs.Edition.{Edition, edition1}
+use Rattle.forms.specs.Edition.{Edition, edition, edition1, newestEdition}
 use Rattle.forms.specs.Forms.{Formula}
 use Rattle.fields.specs.declared.Answer.{Answer}
 use Rattle.fields.specs.declared.FileKind.{FileKind}
 use Rattle.fields.specs.Answers.{answer, fileA, fileB, fileProof, Result, refused, accepted, fit, written}
 use Rattle.fields.specs.Fields.{Field, Fields, ends, cut, _▸_, fields}
-use Rattle.fields.specs.Header.{headerField, header, finished}
-use Rattle.bundle.specs.Bundle.{Bundle, atMost, constraints, bundle, bundles}
+use Rattle.fields.specs.Header.{headerField, editionField, constantsField, header, finished}
+use Rattle.bundle.specs.Bundle.{Bundle, atMost, constraints, bundleHeader, bundle, bundles}
 use Rattle.bundle.specs.Read.{kindsOf, numbersOf, unread, store, stored, readBundle}
 use Rattle.bundle.specs.Write.{bundleBytes, writeBundle}
 use Rattle.bundle.specs.Show.{shownPart, answerOf, showAnswer}
 use Rattle.formula.specs.Formula.{FormulaTag, pair, atom, stride, formulaOf, formulaField, twoParts, formulaWithin, readFormula}
 use Rattle.formula.specs.Test.{tested, judged, testFormula}
-use Rattle.proof.specs.Check.{checkProof, formulaAtMost, interpolant, check}
+use Rattle.proof.specs.Check.{checkProof, formulaAtMost, interpolant, checkBy, check}
 use Rattle.proof.specs.Tree.{Outside, AnswerStands, outside, amid}
 use Rattle.proof.proofs.Says.{Says, says-refused, says-accepted, bind, seq, says-need as need-says, test as needed, finds, weaken, each-says}
 use Rattle.proof.proofs.Tree.{proof-stands}
@@ -39,9 +39,17 @@ module _ (kind : FileKind) (file : ℕ) where
   field-in tag (cut at) = says-refused (refl, refl)
   field-in tag (f ▸ fs) = needed _ _ (refl, refl) λ _. needed _ _ (refl, refl) λ _. needed _ _ (refl, refl) λ _. says-accepted tt
 
-  header-in : (given : Option ℕ) (fs : Fields) → Says (In file) (header kind file given fs) (λ _. Unit {0})
+  edition-in : (newest : ℕ) (fs : Fields) → Says (In file) (editionField kind file newest fs) (λ _. Unit {0})
+  unfolding editionField
+  edition-in newest fs = bind (field-in 0x01 fs) λ x _. needed _ _ (refl, refl) λ _. says-accepted tt
+
+  constants-in : (given : Option ℕ) (fs : Fields) → Says (In file) (constantsField kind file given fs) (λ _. Unit {0})
+  unfolding constantsField
+  constants-in given fs = bind (field-in 0x02 fs) λ x _. needed _ _ (refl, refl) λ _. needed _ _ (refl, refl) λ _. says-accepted tt
+
+  header-in : (newest : ℕ) (given : Option ℕ) (fs : Fields) → Says (In file) (header kind file newest given fs) (λ _. Unit {0})
   unfolding header
-  header-in given fs = bind (field-in 0x01 fs) λ x _. bind (finds _ _ (refl, refl)) λ e _. bind (field-in 0x02 (x .2)) λ y _. needed _ _ (refl, refl) λ _. needed _ _ (refl, refl) λ _. says-accepted tt
+  header-in newest given fs = bind (edition-in newest fs) λ x _. bind (constants-in given (x .1)) λ y _. says-accepted tt
 
   finished-in : (fs : Fields) → Says (In file) (finished kind file fs) (λ _. Unit {0})
   unfolding finished
@@ -55,25 +63,29 @@ module _ (file : ℕ) where
   unfolding constraints
   constraints-in e K n (ends at) = says-accepted tt
   constraints-in e K n (cut at) = says-refused (refl, refl)
-  constraints-in e K n (f ▸ fs) = needed _ _ (refl, refl) λ _. bind (finds _ _ (refl, refl)) λ k _. needed _ _ (refl, refl) λ _. needed _ _ (refl, refl) λ _.
+  constraints-in e K n (f ▸ fs) = needed _ _ (refl, refl) λ _. bind (finds _ _ (refl, refl)) λ k _. needed _ _ (refl, refl) λ _. needed _ _ (refl, refl) λ _. needed _ _ (refl, refl) λ _.
       bind (constraints-in e K (suc n) fs) λ cs _. says-accepted tt
-
-  bundle-in : (given : Option ℕ) (fs : Fields) → Says (In file) (bundle file given fs) (λ _. Unit {0})
-  unfolding bundle
-  bundle-in given fs = bind (header-in FileKind.Bundle file given fs) λ h _. bind (constraints-in (h .edition) (h .K) 0 (h .rest)) λ cs _. says-accepted tt
 
   short-in : (limit : ℕ) (bytes : List ℕ) → Says (In file) (atMost limit file bytes) (λ _. Unit {0})
   unfolding atMost
   short-in limit bytes = weaken (need-says _ _ (refl, refl)) (λ a q. q) (λ _ _. tt)
 
+  bundleHeader-in : (newest : ℕ) (given : Option ℕ) (bytes : List ℕ) → Says (In file) (bundleHeader newest file given bytes) (λ _. Unit {0})
+  unfolding bundleHeader
+  bundleHeader-in newest given bytes = bind (edition-in FileKind.Bundle file newest (fields bytes)) λ x _. seq (short-in _ bytes) (bind (constants-in FileKind.Bundle file given (x .1)) λ y _. says-accepted tt)
+
+  bundle-in : (newest : ℕ) (given : Option ℕ) (bytes : List ℕ) → Says (In file) (bundle newest file given bytes) (λ _. Unit {0})
+  unfolding bundle
+  bundle-in newest given bytes = bind (bundleHeader-in newest given bytes) λ h _. bind (constraints-in (edition (h .number)) (h .K) 0 (h .rest)) λ cs _. says-accepted tt
+
 -- whatever the file
 any : {X : Type 0} {file : ℕ} {r : Result X} → Says (In file) r (λ _. Unit {0}) → Says Outside r (λ _. Unit {0})
 any s = weaken s (λ a q. q .1) (λ _ u. u)
 
-bundles-in : (A B : List ℕ) → Says (λ a. (¬ (a .file ≡ fileProof)) × Outside a) (bundles A B) (λ _. Unit {0})
+bundles-in : (newest : ℕ) (A B : List ℕ) → Says (λ a. (¬ (a .file ≡ fileProof)) × Outside a) (bundles newest A B) (λ _. Unit {0})
 unfolding bundles
-bundles-in A B = bind (weaken (bundle-in fileA _ (fields A)) (λ a q. (λ e. omega (arith, q .0), q .1)) (λ _ u. u)) λ a _.
-    bind (weaken (bundle-in fileB _ (fields B)) (λ a q. (λ e. omega (arith, q .0), q .1)) (λ _ u. u)) λ b _. says-accepted tt
+bundles-in newest A B = bind (weaken (bundle-in fileA newest _ A) (λ a q. (λ e. omega (arith, q .0), q .1)) (λ _ u. u)) λ a _.
+    bind (weaken (bundle-in fileB newest _ B) (λ a q. (λ e. omega (arith, q .0), q .1)) (λ _ u. u)) λ b _. says-accepted tt
 
 -- ---- the operations that check no proof
 of-block : {X : Type 0} (r : Result X) → Says Outside r (λ _. Unit {0}) → Outside (answerOf r)
@@ -81,9 +93,9 @@ unfolding answerOf
 of-block (refused a) s = s .refusal a refl
 of-block (accepted x) s = refl
 
-pub show-outside : (A B : List ℕ) (line : ℕ) → Outside (showAnswer A B line)
+pub show-outside : (newest : ℕ) (A B : List ℕ) (line : ℕ) → Outside (showAnswer newest A B line)
 unfolding showAnswer shownPart
-show-outside A B line = of-block (shownPart A B line) (seq (any (short-in fileA _ A)) (seq (any (short-in fileB _ B)) (bind (weaken (bundles-in A B) (λ a q. q .1) (λ _ u. u)) λ x _. weaken (finds _ _ refl) (λ a q. q) (λ _ _. tt))))
+show-outside newest A B line = of-block (shownPart newest A B line) (seq (any (short-in fileA _ A)) (seq (any (short-in fileB _ B)) (bind (weaken (bundles-in newest A B) (λ a q. q .1) (λ _ u. u)) λ x _. weaken (finds _ _ refl) (λ a q. q) (λ _ _. tt))))
 
 of-stored : (kinds : List ℕ) (numbers : List ℤ) (r : Result Bundle) → Says Outside r (λ _. Unit {0}) → Outside (stored kinds numbers r .answer)
 unfolding stored store unread
@@ -94,9 +106,9 @@ of-stored kinds numbers (accepted b) s = of-store (leb (length (kindsOf (b .cons
     of-store true = refl
     of-store false = refl
 
-pub read-outside : (kinds : List ℕ) (numbers : List ℤ) (file : List ℕ) → Outside (readBundle kinds numbers file .answer)
+pub read-outside : (kinds : List ℕ) (numbers : List ℤ) (newest : ℕ) (file : List ℕ) → Outside (readBundle kinds numbers newest file .answer)
 unfolding readBundle
-read-outside kinds numbers file = of-stored kinds numbers _ (seq (any (short-in fileA _ file)) (any (bundle-in fileA _ (fields file))))
+read-outside kinds numbers newest file = of-stored kinds numbers _ (seq (any (short-in fileA _ file)) (any (bundle-in fileA newest _ file)))
 
 of-written : (r : Result (List ℕ)) (out : List ℕ) → Says Outside r (λ _. Unit {0}) → Outside (written r out .answer)
 unfolding written fit
@@ -107,10 +119,10 @@ of-written (accepted bytes) out s = of-fit (leb (length bytes) (length out))
     of-fit true = refl
     of-fit false = refl
 
-pub write-outside : (K : ℕ) (kinds : List ℕ) (numbers : List ℤ) (output : List ℕ) → Outside (writeBundle K kinds numbers output .answer)
+pub write-outside : (newest n K : ℕ) (kinds : List ℕ) (numbers : List ℤ) (output : List ℕ) → Outside (writeBundle newest n K kinds numbers output .answer)
 unfolding writeBundle bundleBytes
-write-outside K kinds numbers output = of-written (bundleBytes edition1 K kinds numbers) output
-    (needed _ _ refl λ _. needed _ _ refl λ _. seq (each-says _ _ (λ i. refl) 0 kinds) (needed _ _ refl λ _. says-accepted tt))
+write-outside newest n K kinds numbers output = of-written (bundleBytes newest n K kinds numbers) output
+    (needed _ _ refl λ _. needed _ _ refl λ _. needed _ _ refl λ _. seq (each-says _ _ (λ i. refl) 0 kinds) (needed _ _ refl λ _. seq (each-says _ _ (λ i. refl) 0 numbers) (says-accepted tt)))
 
 -- ---- formulas
 module _ (e : Edition) (K : ℕ) where
@@ -142,28 +154,28 @@ pub test-outside : (formula : List ℕ) (values : List ℤ) → Outside (testFor
 unfolding testFormula tested readFormula
 test-outside formula values = of-judged values (tested formula values)
     (needed _ _ refl λ _. seq (each-says _ _ (λ i. refl) 0 values) (needed _ _ refl λ _.
-    bind (any (header-in FileKind.Formula fileProof _ (fields formula))) λ h _. bind (within-outside (h .edition) (h .K) (h .edition .levels) (h .rest)) λ x _.
+    bind (any (header-in FileKind.Formula fileProof 1 _ (fields formula))) λ h _. bind (within-outside edition1 (h .K) (edition1 .levels) (h .rest)) λ x _.
     seq (any (finished-in FileKind.Formula fileProof (x .1))) (says-accepted tt)))
 
 -- ---- check
-proof-short : (P : List ℕ) → Says (AnswerStands P) (atMost (edition1 .proofBytes) fileProof P) (λ _. Unit {0})
+proof-short : (limit : ℕ) (P : List ℕ) → Says (AnswerStands P) (atMost limit fileProof P) (λ _. Unit {0})
 unfolding atMost
-proof-short P = weaken (need-says (answer 1 fileProof 0) _ (outside (inr refl) refl)) (λ a q. q) (λ _ _. tt)
+proof-short limit P = weaken (need-says (answer 1 fileProof 0) _ (outside (inr refl) refl)) (λ a q. q) (λ _ _. tt)
 
-proof-located : (a b : Bundle) (P : List ℕ) → Says (AnswerStands P) (checkProof a b (fields P)) (λ _. Unit {0})
-proof-located a b P = record { refusal = λ x e. amid (proof-stands a b (fields P) x e); value = λ I e. tt }
+proof-located : (newest : ℕ) (a b : Bundle) (P : List ℕ) → Says (AnswerStands P) (checkProof newest a b (fields P)) (λ _. Unit {0})
+proof-located newest a b P = record { refusal = λ x e. amid (proof-stands newest a b (fields P) x e); value = λ I e. tt }
 
 file-located : (P : List ℕ) (K : ℕ) (I : Formula) → Says (AnswerStands P) (formulaAtMost K I) (λ _. Unit {0})
 unfolding formulaAtMost
 file-located P K I = weaken (need-says _ _ (outside (inl λ e. omega arith) refl)) (λ a q. q) (λ _ _. tt)
 
-interpolant-located : (A B P : List ℕ) → Says (AnswerStands P) (interpolant A B P) (λ _. Unit {0})
+interpolant-located : (newest : ℕ) (A B P : List ℕ) → Says (AnswerStands P) (interpolant newest A B P) (λ _. Unit {0})
 unfolding interpolant
-interpolant-located A B P = seq (weaken (short-in fileA _ A) (λ a q. outside (inl λ e. omega (arith, q .0)) (q .1)) (λ _ u. u))
+interpolant-located newest A B P = seq (weaken (short-in fileA _ A) (λ a q. outside (inl λ e. omega (arith, q .0)) (q .1)) (λ _ u. u))
     (seq (weaken (short-in fileB _ B) (λ a q. outside (inl λ e. omega (arith, q .0)) (q .1)) (λ _ u. u))
-    (seq (proof-short P)
-    (bind (weaken (bundles-in A B) (λ a q. outside (inl (q .0)) (q .1)) (λ _ u. u)) λ x _.
-    bind (proof-located (x .0) (x .1) P) λ I _. seq (file-located P (x .0 .K) I) (says-accepted tt))))
+    (seq (proof-short _ P)
+    (bind (weaken (bundles-in newest A B) (λ a q. outside (inl (q .0)) (q .1)) (λ _ u. u)) λ x _.
+    bind (proof-located newest (x .0) (x .1) P) λ I _. seq (file-located P (x .0 .K) I) (says-accepted tt))))
 
 of-located : (P : List ℕ) (r : Result (List ℕ)) (out : List ℕ) → Says (AnswerStands P) r (λ _. Unit {0}) → AnswerStands P (written r out .answer)
 unfolding written fit
@@ -174,6 +186,11 @@ of-located P (accepted bytes) out s = of-fit (leb (length bytes) (length out))
     of-fit true = outside (inl λ e. omega arith) refl
     of-fit false = outside (inl λ e. omega arith) refl
 
+-- Whatever editions the office reads, and so this one.
+pub checkBy-located : (newest : ℕ) (A B P output : List ℕ) → AnswerStands P (checkBy newest A B P output .answer)
+unfolding checkBy
+checkBy-located newest A B P output = of-located P _ output (bind (interpolant-located newest A B P) λ x _. says-accepted tt)
+
 pub check-located : (A B P output : List ℕ) → AnswerStands P (check A B P output .answer)
 unfolding check
-check-located A B P output = of-located P _ output (bind (interpolant-located A B P) λ x _. says-accepted tt)
+check-located = checkBy-located newestEdition

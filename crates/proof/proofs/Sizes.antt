@@ -1,8 +1,8 @@
 -- What three files certify can be written: every number fits its bytes, the levels and the length stay within limits, and the file reads back. Assumes nothing.
-use mathlib.Core.Path.{_≡_, sym, _∙_, subst}
+use mathlib.Core.Path.{_≡_, sym, _∙_, ap, subst}
 use mathlib.Core.Bool.{Bool, true, false, _&&_}
-use mathlib.Core.List.{List, [], _∷_, map}
-use Prim.Native.Nat.{ℕ, _*_, _^_, _<_, _≤_}
+use mathlib.Core.List.{List, [], _∷_, _++_, map}
+use Prim.Native.Nat.{ℕ, _+_, _*_, _^_, _<_, _≤_}
 use native.Mathlib.Nat.{pow-le-pow-right}
 use native.Mathlib.Omega.{arith}
 use lib.Dec.{T, leb→le}
@@ -15,18 +15,19 @@ use Rattle.integers.proofs.Magnitude.{within-between}
 use Rattle.forms.specs.Reduced.{reduced, Residue, Residues}
 use Rattle.forms.proofs.Residues.{residues}
 use Rattle.calculus.proofs.Reducing.{positive}
-use Rattle.forms.specs.Edition.{Edition, edition1}
-use Rattle.forms.specs.Forms.{Form, ≤0, Constraint, Line, line, neg, lineA, lineB, lines, All, nil, cons, _⊞_, _·_, _plus_, within, Formula, literal, _divides_, _and_, _or_, height}
-use Rattle.calculus.specs.Rules.{Row, CloseStride, Derive, Strengthen, CloseNumber, Round, Split, Entry, row, claim, small, every, inRange, New, combine, reduce, scale, StrideOf, Closed, derive, strengthen, round, splitEq, splitNeq, number, stride, Rounded, last, more, claims, entries, entriesRounded, Proves}
+use Rattle.forms.specs.Edition.{Edition, edition, edition1}
+use Rattle.forms.specs.Forms.{Form, ≤0, Constraint, Line, line, neg, lineA, lineB, lines, All, nil, cons, _⊞_, _·_, _plus_, within, Formula, literal, _divides_, _and_, _or_, height, small, every}
+use Rattle.calculus.specs.Rules.{Row, CloseStride, Derive, Strengthen, CloseNumber, Round, Split, Entry, row, claim, inRange, New, combine, reduce, scale, StrideOf, Closed, derive, strengthen, round, splitEq, splitNeq, number, stride, Rounded, last, more, claims, entries, entriesRounded, Proves}
 use Rattle.calculus.proofs.Sizes.{closed-height}
 use Rattle.calculus.proofs.Readings.{length-sums, length-only}
 use Rattle.calculus.proofs.Sides.{all-nth, all-and, all-map, all-append}
 use Rattle.fields.specs.Answers.{accepted}
-use Rattle.fields.specs.Numbers.{Bytes, unsigned}
+use Rattle.fields.specs.Numbers.{Bytes, unsigned, flat, formFrom}
 use Rattle.fields.specs.Fields.{Item, fields}
 use Rattle.fields.specs.Ranges.{InWidth, FormInWidth}
-use Rattle.fields.proofs.Signed.{all-weaken, all-take, all-drop, unsigned-below, formFrom-in}
+use Rattle.fields.proofs.Signed.{all-weaken, all-take, all-drop, unsigned-below, length-signeds}
 use Rattle.fields.proofs.Contents.{ItemBytes, contents-bytes}
+use Rattle.bundle.specs.Bundle.{formSmall}
 use Rattle.bundle.specs.Layout.{Each, States, BundleFile}
 use Rattle.formula.specs.Formula.{formulaFile, Encodable, readFormula}
 use Rattle.formula.proofs.RoundTrip.{read-written}
@@ -77,6 +78,18 @@ module _ {range : ℕ} where
   every-within [] t = nil
   every-within (z ∷ zs) t = let b = and-both (small range z) (every (small range) zs) t in cons (small-within z (b .0)) (every-within zs (b .1))
 
+  small-parts : (cs : List ℤ) (d : ℤ) → T (every (small range) (cs ++ (d ∷ []))) → All (Within range) cs × Within range d
+  unfolding every
+  small-parts [] d t = (nil, small-within d (and-both (small range d) true t .0))
+  small-parts (c ∷ cs) d t =
+      let b = and-both (small range c) (every (small range) (cs ++ (d ∷ []))) t in
+      let r = small-parts cs d (b .1) in
+      (cons (small-within c (b .0)) (r .0), r .1)
+
+  form-ranged : (t : Form) → T (formSmall range t) → FormRanged range t
+  unfolding formSmall flat
+  form-ranged t h = let r = small-parts (t .coeffs) (t .d) h in record { coeffs = r .0; d = r .1 }
+
   tA-ranged : (l : Line) → T (inRange range l) → FormRanged range (l .tA)
   unfolding inRange
   tA-ranged l t =
@@ -100,7 +113,7 @@ module _ {range : ℕ} where
   raised-ranged h own top = record { coeffs = own .coeffs; d = within-between h (own .d) (top .d) }
 
 -- ---- the partial interpolants of a branch
--- A form of K coefficients whose numbers are within edition 1's range.
+-- A form of K coefficients whose numbers are within the range, which is the same in every edition.
 pub record Fit (K : ℕ) (t : Form) : Type 0 where
   pub sized : Size K t
   pub ranged : FormRanged 2147483647 t
@@ -128,9 +141,11 @@ module _ (K : ℕ) where
   stride-fit : {inB : ℕ → Bool} {g : ℕ} {tA : Form} {E : Formula} → 2 ≤ g → Size K tA → StrideOf inB g tA E → FitFormula K E
   stride-fit {inB} {g} low h is = subst (FitFormula K) (sym (is .is)) (low, size-reduced g (size-within inB h), residues (positive low) _)
 
+-- by the rows of a proof of edition n
+module _ (K n : ℕ) where
   mutual
-    closed-fit : {inB : ℕ → Bool} {ls : List Line} {I : Formula} → Closed edition1 inB ls I → All (FitLine K) ls → FitFormula K I
-    closed-fit (derive {l = l} _ n room c) h = closed-fit c (all-and h (record { fit = record { sized = new-sized h n; ranged = tA-ranged l (room .range) } }))
+    closed-fit : {inB : ℕ → Bool} {ls : List Line} {I : Formula} → Closed (edition n) inB ls I → All (FitLine K) ls → FitFormula K I
+    closed-fit (derive {l = l} _ new room c) h = closed-fit c (all-and h (record { fit = record { sized = new-sized K h new; ranged = tA-ranged l (room .range) } }))
     closed-fit (strengthen {t = t} {tA = tA} i p room c1 cE c0) h =
         let own = (all-nth i h p) .fit in (
           closed-fit c1 (all-and h (record { fit = record { sized = size-plus 1 (own .sized); ranged = tA-ranged (line ≤0 (t plus 1) (tA plus 1)) (room .range) } })),
@@ -149,14 +164,14 @@ module _ (K : ℕ) where
       closed-fit c2 (all-and h (record { fit = record { sized = size-times (negsuc 0) (own .sized); ranged = tA-ranged (line ≤0 (neg t plus 1) (neg tA)) (r2 .range) } })),
     )
     closed-fit (number i p _ _) h = (all-nth i h p) .fit
-    closed-fit (stride i g p low _ _ is) h = stride-fit low ((all-nth i h p) .fit .sized) is
+    closed-fit (stride i g p low _ _ is) h = stride-fit K low ((all-nth i h p) .fit .sized) is
 
-    rounded-fit : {inB : ℕ → Bool} {ls : List Line} {t tA : Form} {g k j : ℕ} {J : Formula} → Rounded edition1 inB ls t tA g k j J
+    rounded-fit : {inB : ℕ → Bool} {ls : List Line} {t tA : Form} {g k j : ℕ} {J : Formula} → Rounded (edition n) inB ls t tA g k j J
         → All (FitLine K) ls → 2 ≤ g → Fit K tA → FormRanged 2147483647 (tA plus k) → FitFormula K J
     rounded-fit (last {j = j} b is c) h low own top =
-        (stride-fit low (size-plus j (own .sized)) is, closed-fit c (all-and h (record { fit = record { sized = size-plus j (own .sized); ranged = raised-ranged (omega arith) (own .ranged) top } })))
+        (stride-fit K low (size-plus j (own .sized)) is, closed-fit c (all-and h (record { fit = record { sized = size-plus j (own .sized); ranged = raised-ranged (omega arith) (own .ranged) top } })))
     rounded-fit (more {j = j} b is c cs) h low own top = (
-      (stride-fit low (size-plus j (own .sized)) is, closed-fit c (all-and h (record { fit = record { sized = size-plus j (own .sized); ranged = raised-ranged (omega arith) (own .ranged) top } }))),
+      (stride-fit K low (size-plus j (own .sized)) is, closed-fit c (all-and h (record { fit = record { sized = size-plus j (own .sized); ranged = raised-ranged (omega arith) (own .ranged) top } }))),
       rounded-fit cs h low own top,
     )
 
@@ -230,10 +245,6 @@ in-four : (z : ℤ) → Within 2147483647 z → InWidth 4 z
 in-four (pos n) h = record { high = omega arith; low = omega arith }
 in-four (negsuc n) h = record { high = omega arith; low = omega arith }
 
-in-two : (z : ℤ) → InWidth 2 z → Within 2147483647 z
-in-two (pos n) h = record { abs = omega arith }
-in-two (negsuc n) h = record { abs = omega arith }
-
 fit-in-four : {K : ℕ} {t : Form} → Fit K t → FormInWidth 4 K t
 fit-in-four {t = t} h = record { size = h .sized .size; coeffs = all-weaken in-four (h .ranged .coeffs); d = in-four (t .d) (h .ranged .d) }
 
@@ -245,9 +256,6 @@ residue-in-four s (negsuc n) h = absurd (omega (ints, h .low))
 residues-in-four : {K g : ℕ} {t : Form} → Size K t → g < 65536 → Residues g t → FormInWidth 4 K t
 residues-in-four {t = t} k s h = record { size = k .size; coeffs = all-weaken (residue-in-four s) (h .of-coeffs); d = residue-in-four s (t .d) (h .of-d) }
 
-two-fit : {K : ℕ} {t : Form} → FormInWidth 2 K t → Fit K t
-two-fit {t = t} h = record { sized = record { size = h .size }; ranged = record { coeffs = all-weaken in-two (h .coeffs); d = in-two (t .d) (h .d) } }
-
 encodable : (K : ℕ) (I : Formula) → FitFormula K I → ShortFormula I → Encodable K I
 encodable K (literal k t) h s = fit-in-four h
 encodable K (g divides t) h s = (h .0, in-four (pos g) (record { abs = omega arith }), residues-in-four (h .1) s (h .2))
@@ -255,62 +263,71 @@ encodable K (I and J) h s = (encodable K I (h .0) (s .0), encodable K J (h .1) (
 encodable K (I or J) h s = (encodable K I (h .0) (s .0), encodable K J (h .1) (s .1))
 
 -- ---- a closed proof
--- Every form has K coefficients, and every number two bytes.
+-- Every form has K coefficients, and every number is within the range.
 abbrev pub Stated : ℕ → List Constraint → Type 0
-Stated K cs = All (λ c. FormInWidth 2 K (c .form)) cs
+Stated K cs = All (λ c. Fit K (c .form)) cs
 
-pub proves-height : {a b : List Constraint} {es : List Entry} {I : Formula} → Proves edition1 a b es I → height I ≤ 600
-proves-height p = omega (arith, closed-height (p .proof) (omega arith), p .opened)
+pub proves-height : (n : ℕ) {a b : List Constraint} {es : List Entry} {I : Formula} → Proves (edition n) a b es I → height I ≤ 600
+proves-height n p = omega (arith, closed-height (p .proof) (omega arith), p .opened)
 
-module _ (K : ℕ) {a b : List Constraint} {es : List Entry} {I : Formula} (p : Proves edition1 a b es I) (inA : Stated K a) (inB : Stated K b) (short : All EntryShort es) where
+module _ (K n : ℕ) {a b : List Constraint} {es : List Entry} {I : Formula} (p : Proves (edition n) a b es I) (inA : Stated K a) (inB : Stated K b) (short : All EntryShort es) where
   pub proves-encodable : Encodable K I
-  proves-encodable = encodable K I (closed-fit K (p .proof) (initial-fit K (all-weaken (λ _. two-fit) inA) (all-weaken (λ _. two-fit) inB))) (closed-short (p .proof) [] (rw (p .are) short) .0)
+  proves-encodable = encodable K I (closed-fit K n (p .proof) (initial-fit K inA inB)) (closed-short (p .proof) [] (rw (p .are) short) .0)
 
 -- ---- from the files
-states-in : (K : ℕ) {is : List Item} {cs : List Constraint} → All ItemBytes is → Each (States edition1 K) is cs → Stated K cs
-states-in K h Each.nil = nil
-states-in K (cons {x = i} h hs) (Each.cons s ss) = cons (subst (FormInWidth 2 K) (s .form) (formFrom-in 2 K (i .contents) (s .size) (h .bytes))) (states-in K hs ss)
+-- A constraint's form has K coefficients, whatever bytes they are read from.
+states-size : (n K : ℕ) {i : Item} {c : Constraint} → States (edition n) K i c → Size K (c .form)
+unfolding formFrom
+states-size n K {i} s = record { size = ap (λ (t : Form). length (t .coeffs)) (sym (s .form)) ∙ length-signeds (edition n .coefficientWidth) K (i .contents) }
 
-bundle-in : {file : List ℕ} {K : ℕ} {cs : List Constraint} → Bytes file → BundleFile file K cs → Stated K cs
-bundle-in {file} {K} h f = states-in K (all-drop 2 (rw (f .laid .are) at (contents-bytes file h (f .whole)))) (f .laid .states)
+states-in : (n K : ℕ) {is : List Item} {cs : List Constraint} → Each (States (edition n) K) is cs → All (λ c. T (formSmall 2147483647 (c .form))) cs → Stated K cs
+states-in n K Each.nil nil = nil
+states-in n K (Each.cons {y = c} s ss) (cons h hs) = cons (record { sized = states-size n K s; ranged = form-ranged (c .form) h }) (states-in n K ss hs)
 
--- g is read from two bytes.
-two-bytes : (bs : List ℕ) → Bytes bs → unsigned (multiplier edition1 1 0 bs) < 65536
-unfolding multiplier
-two-bytes bs h =
-    let own = take 2 (drop 1 bs) in
+bundle-in : {newest n K : ℕ} {file : List ℕ} {cs : List Constraint} → BundleFile newest file n K cs → Stated K cs
+bundle-in {n = n} {K = K} f = states-in n K (f .laid .states) (f .within)
+
+-- g is read from two bytes, behind a line number.
+short-unsigned : (at : ℕ) (bs : List ℕ) → Bytes bs → unsigned (take 2 (drop at bs)) < 65536
+short-unsigned at bs h =
+    let own = take 2 (drop at bs) in
     let few : length own ≤ 2 = rw length-take (omega arith) in
     let most : 256 ^ length own ≤ 256 ^ 2 = pow-le-pow-right (omega arith) few in
-    omega (arith, unsigned-below own (all-take 2 (all-drop 1 h)))
+    omega (arith, unsigned-below own (all-take 2 (all-drop at h)))
 
-entry-short : (K : ℕ) (tagged : EntryTag) (bs : List ℕ) → Bytes bs → EntryShort (entryFrom edition1 K tagged bs)
+two-bytes : (n : ℕ) (bs : List ℕ) → Bytes bs → unsigned (multiplier (edition n) 1 0 bs) < 65536
+unfolding multiplier
+two-bytes n bs h = short-unsigned (1 * edition n .lineWidth + 0 * 2) bs h
+
+entry-short : (n K : ℕ) (tagged : EntryTag) (bs : List ℕ) → Bytes bs → EntryShort (entryFrom (edition n) K tagged bs)
 unfolding entryFrom
-entry-short K combineTag bs h = tt
-entry-short K reduceTag bs h = tt
-entry-short K scaleTag bs h = tt
-entry-short K strengthenTag bs h = tt
-entry-short K numberTag bs h = tt
-entry-short K strideTag bs h = two-bytes bs h
-entry-short K roundTag bs h = two-bytes bs h
-entry-short K splitTag bs h = tt
-entry-short K claimTag bs h = tt
+entry-short n K combineTag bs h = tt
+entry-short n K reduceTag bs h = tt
+entry-short n K scaleTag bs h = tt
+entry-short n K strengthenTag bs h = tt
+entry-short n K numberTag bs h = tt
+entry-short n K strideTag bs h = two-bytes n bs h
+entry-short n K roundTag bs h = two-bytes n bs h
+entry-short n K splitTag bs h = tt
+entry-short n K claimTag bs h = tt
 
-enters-short : (K : ℕ) {is : List Item} {es : List Entry} → All ItemBytes is → Each (Enters edition1 K) is es → All EntryShort es
-enters-short K h Each.nil = nil
-enters-short K (cons {x = i} h hs) (Each.cons s ss) = cons (subst EntryShort (s .entry) (entry-short K (s .tagged) (i .contents) (h .bytes))) (enters-short K hs ss)
+enters-short : (n K : ℕ) {is : List Item} {es : List Entry} → All ItemBytes is → Each (Enters (edition n) K) is es → All EntryShort es
+enters-short n K h Each.nil = nil
+enters-short n K (cons {x = i} h hs) (Each.cons s ss) = cons (subst EntryShort (s .entry) (entry-short n K (s .tagged) (i .contents) (h .bytes))) (enters-short n K hs ss)
 
-proof-short : {file : List ℕ} {K : ℕ} {es : List Entry} → Bytes file → ProofFile file K es → All EntryShort es
-proof-short {file} {K} h f = enters-short K (all-drop 2 (contents-bytes file h (f .whole))) (f .enters)
+proof-short : {newest n K : ℕ} {file : List ℕ} {es : List Entry} → Bytes file → ProofFile newest file n K es → All EntryShort es
+proof-short {n = n} {K = K} {file = file} h f = enters-short n K (all-drop 2 (contents-bytes file h (f .whole))) (f .enters)
 
--- What three files certify is written as a file that reads back, and is not too long.
-pub written-reads-back : (A B P : List ℕ) {K : ℕ} {I : Formula} → All (λ x. x < 256) A → All (λ x. x < 256) B → All (λ x. x < 256) P → Certifies A B P K I
+-- What three files certify is written as a file that reads back, and is not too long. (Only the proof need be of bytes: a bundle's numbers are tested.)
+pub written-reads-back : {newest : ℕ} (A B P : List ℕ) {K : ℕ} {I : Formula} → All (λ x. x < 256) P → Certifies newest A B P K I
     → (readFormula K (fields (formulaFile edition1 K I)) ≡ accepted I) × (length (formulaFile edition1 K I) ≤ edition1 .formulaBytes)
-written-reads-back A B P {K} {I} hA hB hP c =
-    let inA = bundle-in hA (c .yields .fileA) in
-    let inB = bundle-in hB (c .yields .fileB) in
+written-reads-back A B P {K} {I} hP c =
+    let inA = bundle-in (c .yields .fileA) in
+    let inB = bundle-in (c .yields .fileB) in
     let short = proof-short hP (c .yields .fileProof) in
+    let n = c .yields .editionProof in
     let low = c .yields .fileProof .low in
     let high = c .yields .fileProof .high in (
-      read-written K I low high (proves-encodable K (c .yields .proves) inA inB short) (proves-height (c .yields .proves)),
+      read-written K I low high (proves-encodable K n (c .yields .proves) inA inB short) (proves-height n (c .yields .proves)),
       c .short,
     )

@@ -10,7 +10,7 @@ use lib.ListN.{length, drop, take, length-drop}
 use lib.Seq.{take-length}
 use mir.Facts.{and-yes}
 use borrow.Author.Tests.{eq-eqb, ne-eqb}
-use Rattle.forms.specs.Edition.{Edition, edition1}
+use Rattle.forms.specs.Edition.{Edition, edition}
 use Rattle.forms.specs.Forms.{Form, Side, A, B, Line}
 use Rattle.calculus.specs.Rules.{Row, Derive, Strengthen, CloseNumber, CloseStride, Round, Split, Step, Combine, Reduce, Scale, Entry, row, claim}
 use Rattle.fields.specs.declared.Answer.{Answer}
@@ -18,8 +18,7 @@ use Rattle.fields.specs.declared.FileKind.{FileKind}
 use Rattle.fields.specs.Answers.{nowhere, rowTold, refusalAt, answer, fileProof, Result, refused, _>>=_, _>>_, found}
 use Rattle.fields.specs.Fields.{Field, Fields, ends, cut, _▸_, item}
 use Rattle.fields.specs.Numbers.{unsigned}
-use Rattle.fields.specs.Header.{headerField, header, finished}
-use Rattle.fields.proofs.HeaderLaid.{header-gives}
+use Rattle.fields.specs.Header.{headerField, editionField, constantsField, header, finished}
 use Rattle.bundle.specs.Bundle.{Bundle}
 use Rattle.proof.specs.Entries.{EntryTag, combineTag, reduceTag, scaleTag, strengthenTag, numberTag, strideTag, roundTag, splitTag, claimTag, entryTagged, multiplier, sizeOf, entryFrom, entry}
 use Rattle.proof.specs.Rows.{lineAt, derived, fitting, inequality, roundable, disequality, byNumber, byStride}
@@ -285,11 +284,17 @@ field-says tag h (f ▸ fs) = test _ _ (outside 0 (f ▸ fs) 3 refl) λ _. test 
       told = λ n q. outside 0 (f ▸ fs) n q;
     })
 
-header-says : (given : Option ℕ) (fs : Fields) → Says (Stands (tree 0 []) fs) (header FileKind.Proof fileProof given fs) (λ h. Leads (tree 0 []) fs (tree 0 []) (h .rest))
-unfolding header entryTagged rowTold
-header-says given fs = bind (field-says 0x01 refl fs) λ x p. bind (finds _ _ (p .told 5 refl)) λ e _.
-    bind (weaken (field-says 0x02 refl (x .2)) (λ a s. stands-on (p .leads) s) (λ y q. q)) λ y q.
-    test _ _ (stands-on (p .leads) (q .told 7 refl)) λ _. test _ _ (stands-on (p .leads) (q .told 9 refl)) λ _. says-accepted (leads-on (p .leads) (q .leads))
+edition-says : (newest : ℕ) (fs : Fields) → Says (Stands (tree 0 []) fs) (editionField FileKind.Proof fileProof newest fs) (λ x. Leads (tree 0 []) fs (tree 0 []) (x .1))
+unfolding editionField entryTagged rowTold
+edition-says newest fs = bind (field-says 0x01 refl fs) λ x p. test _ _ (p .told 5 refl) λ _. says-accepted (p .leads)
+
+constants-says : (given : Option ℕ) (fs : Fields) → Says (Stands (tree 0 []) fs) (constantsField FileKind.Proof fileProof given fs) (λ x. Leads (tree 0 []) fs (tree 0 []) (x .1))
+unfolding constantsField entryTagged rowTold
+constants-says given fs = bind (field-says 0x02 refl fs) λ x p. test _ _ (p .told 7 refl) λ _. test _ _ (p .told 9 refl) λ _. says-accepted (p .leads)
+
+header-says : (newest : ℕ) (given : Option ℕ) (fs : Fields) → Says (Stands (tree 0 []) fs) (header FileKind.Proof fileProof newest given fs) (λ h. Leads (tree 0 []) fs (tree 0 []) (h .rest))
+unfolding header
+header-says newest given fs = bind (edition-says newest fs) λ x l. bind (weaken (constants-says given (x .1)) (λ a s. stands-on l s) (λ y m. leads-on l m)) λ y m. says-accepted m
 
 finished-says : {rows : ℕ} (fs : Fields) → Says (Stands (tree rows []) fs) (finished FileKind.Proof fileProof fs) (λ _. Unit {0})
 unfolding finished startsAt rowTold
@@ -297,19 +302,12 @@ finished-says {rows} (ends at) = says-accepted tt
 finished-says {rows} (cut at) = says-refused (outside rows (cut at) 2 refl)
 finished-says {rows} (f ▸ fs) = test _ _ (outside rows (f ▸ fs) 3 refl) λ _. says-refused (outside rows (f ▸ fs) 19 refl)
 
--- there is one edition
-header-leads : (given : Option ℕ) (fs : Fields) → Says (Stands (tree 0 []) fs) (header FileKind.Proof fileProof given fs) (λ h. Leads (tree 0 []) fs (tree 0 []) (h .rest) × (h .edition ≡ edition1))
-header-leads given fs = record {
-  refusal = header-says given fs .refusal;
-  value = λ h e. (header-says given fs .value h e, header-gives FileKind.Proof fileProof given fs .gives h e .edition);
-}
-
-proof-says : (a b : Bundle) (fs : Fields) → Says (Stands (tree 0 []) fs) (checkProof a b fs) (λ _. Unit {0})
+proof-says : (newest : ℕ) (a b : Bundle) (fs : Fields) → Says (Stands (tree 0 []) fs) (checkProof newest a b fs) (λ _. Unit {0})
 unfolding checkProof innermost afterClose
-proof-says a b fs = bind (header-leads (some (a .K)) fs) λ h (l, one).
-    bind (weaken (branch-through (h .edition) (ap (λ (e : Edition). e .multiplierWidth) one) (h .K) (h .edition .branchings) [] 0 _ (h .rest)) (λ y s. stands-on l s) (λ c m. leads-on l m)) λ c m.
+proof-says newest a b fs = bind (header-says newest (some (a .K)) fs) λ h l.
+    bind (weaken (branch-through (edition (h .number)) refl (h .K) (edition (h .number) .branchings) [] 0 _ (h .rest)) (λ y s. stands-on l s) (λ c m. leads-on l m)) λ c m.
     seq (weaken (finished-says (c .after)) (λ y s. stands-on m s) (λ _ u. u)) (says-accepted tt)
 
 -- Every refusal of the proof's fields.
-pub proof-stands : (a b : Bundle) (fs : Fields) (x : Answer) → checkProof a b fs ≡ refused x → Stands (tree 0 []) fs x
-proof-stands a b fs x r = proof-says a b fs .refusal x r
+pub proof-stands : (newest : ℕ) (a b : Bundle) (fs : Fields) (x : Answer) → checkProof newest a b fs ≡ refused x → Stands (tree 0 []) fs x
+proof-stands newest a b fs x r = proof-says newest a b fs .refusal x r

@@ -1,4 +1,4 @@
--- How a proof file states its rows and claims. Document 01, "The rows" and "Fields"; document 02, points 1 and 6. Assumes nothing.
+-- How a proof file states its rows and claims. Document 01, "The rows" and "Fields"; document 02, points 1, 3 and 6. Assumes nothing.
 use mathlib.Core.Option.{Option, none, some}
 use mathlib.Core.Bool.{Bool, true, false}
 use mathlib.Core.List.{List}
@@ -69,7 +69,7 @@ inPlace none claimTag = false
 inPlace (some l) claimTag = true
 
 module _ (e : Edition) where
-  -- Line number i of a row, and the bytes of its multiplier i (or g, or k) behind n line numbers.
+  -- Line number i of a row, and the bytes of its multiplier i (or g, or k) behind n line numbers. (Line numbers have one byte in edition 1, two in edition 2: document 02, point 3.)
   unfoldable pub lineNumber : (i : ℕ) → List ℕ → ℕ
   lineNumber i bs = unsigned (take (e .lineWidth) (drop (i * e .lineWidth) bs))
 

@@ -2,7 +2,7 @@
 use mathlib.Core.Path.{_≡_, refl, sym, ap, _∙_}
 use mathlib.Core.Bool.{Bool, true, false, true≢false}
 use lib.Dec.{ltb}
-use Rattle.forms.specs.Edition.{edition1}
+use Rattle.forms.specs.Edition.{edition, edition1}
 use Rattle.rows.specs.Tally.{tallied, rowCounted, lineCounted, openCounted}
 use Rattle.rows.specs.declared.tally.Tally.{Tally}
 use Rattle.rows.specs.declared.tally.Tallied.{Tallied}
@@ -29,7 +29,7 @@ row-keeps t isnt = refused (ltb (t .rows .0) (edition1 .rows)) _ t isnt
 
 pub line-keeps : Keeps lineCounted
 unfolding lineCounted
-line-keeps t isnt = refused (ltb (t .lines .0) (edition1 .lines)) _ t isnt
+line-keeps t isnt = refused (ltb (t .lines .0) (edition (t .edition) .lines)) _ t isnt
 
 pub open-keeps : Keeps openCounted
 unfolding openCounted

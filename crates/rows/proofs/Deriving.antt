@@ -9,7 +9,7 @@ use lib.Dec.{T, ltb}
 use lib.ListN.{length, set, length-set}
 use lib.IntN.{ℤ}
 use borrow.Author.Tests.{lt-ltb, le-ltb, ltb-true, ltb-false}
-use Rattle.forms.specs.Edition.{edition1}
+use Rattle.forms.specs.Edition.{edition, edition1}
 use Rattle.calculus.specs.Rules.{inRange}
 use Rattle.fields.specs.Answers.{_>>_, need}
 use Rattle.lines.proofs.Parts.{agree-refl, agree-set, agree-sym}
@@ -30,30 +30,30 @@ pub kept-refl : {K n : ℕ} {kinds : List ℕ} {buf : List ℤ} → LinesKept K 
 kept-refl = record { lines-same = agree-refl; kinds-same = agree-refl; lines-length = refl; kinds-length = refl }
 
 -- ---- one more line
--- A branch with one line more, if the buffer has room for yet another.
-pub ready-more : {K n : ℕ} {kinds : List ℕ} {buf : List ℤ} {kinds′ : List ℕ} {buf′ : List ℤ}
-    → Ready K kinds buf n → LinesKept K n kinds buf kinds′ buf′ → Limited K buf′ (n + 1) → (n + 1) * size K + size K ≤ length buf → Ready K kinds′ buf′ (n + 1)
-ready-more r k l h = record {
+-- A branch with one line more, if the buffers have room for yet another.
+pub ready-more : {e K n : ℕ} {kinds : List ℕ} {buf : List ℤ} {kinds′ : List ℕ} {buf′ : List ℤ}
+    → Ready e K kinds buf n → LinesKept K n kinds buf kinds′ buf′ → Limited e K buf′ (n + 1) → (n + 1) * size K + size K ≤ length buf → n + 1 < length kinds → Ready e K kinds′ buf′ (n + 1)
+ready-more r k l h q = record {
   branch = record { constants = r .branch .constants; room = omega (arith, k .lines-length); bounded = l .bounded };
-  room = omega (arith, r .room, k .kinds-length);
+  room = omega (arith, k .kinds-length);
   most = l .most;
 }
 
-pub counted-line : {t : Tally} {r : Tallied} → r ≡ lineCounted t → r .made ≡ true → (t .lines .0 < 128) × (r .tally ≡ moreLines t)
+pub counted-line : {t : Tally} {r : Tallied} → r ≡ lineCounted t → r .made ≡ true → (t .lines .0 < edition (t .edition) .lines) × (r .tally ≡ moreLines t)
 unfolding lineCounted
-counted-line {t} e h = let c = counted-made (ltb (t .lines .0) 128) (moreLines t) t e h in (ltb-true (t .lines .0) 128 (c .0), c .1)
+counted-line {t} e h = let c = counted-made (ltb (t .lines .0) (edition (t .edition) .lines)) (moreLines t) t e h in (ltb-true (t .lines .0) (edition (t .edition) .lines) (c .0), c .1)
 
-pub full-line : (t : Tally) {r : Tallied} → r ≡ lineCounted t → r .made ≡ false → 128 ≤ t .lines .0
+pub full-line : (t : Tally) {r : Tallied} → r ≡ lineCounted t → r .made ≡ false → edition (t .edition) .lines ≤ t .lines .0
 unfolding lineCounted
-full-line t e h = ltb-false (t .lines .0) 128 (counted-full (ltb (t .lines .0) 128) (moreLines t) t e h)
+full-line t e h = ltb-false (t .lines .0) (edition (t .edition) .lines) (counted-full (ltb (t .lines .0) (edition (t .edition) .lines)) (moreLines t) t e h)
 
-module _ {K : ℕ} {kinds : List ℕ} {buf : List ℤ} (t : Tally) (f : ℤ) (i : ℕ) (g : ℤ) (j kind : ℕ) (ready : Ready K kinds buf (t .lines .0)) where
-  pub append-full : 128 ≤ t .lines .0 → Appended K kinds buf t f i g j kind kinds buf (Refused 16)
+module _ {K : ℕ} {kinds : List ℕ} {buf : List ℤ} (t : Tally) (f : ℤ) (i : ℕ) (g : ℤ) (j kind : ℕ) (ready : Ready (t .edition) K kinds buf (t .lines .0)) where
+  pub append-full : edition (t .edition) .lines ≤ t .lines .0 → Appended K kinds buf t f i g j kind kinds buf (Refused 16)
   unfolding fitting _>>_ need
-  append-full h = record { kept = kept-refl; by = λ refusal. rw (length-lines K kinds buf (t .lines .0), le-ltb (t .lines .0) 128 h) }
+  append-full h = record { kept = kept-refl; by = λ refusal. rw (length-lines K kinds buf (t .lines .0), le-ltb (t .lines .0) (edition (t .edition) .lines) h) }
 
   -- What `mix_line` left; the kind is stored where the line is made.
-  module _ (terms : Operands (t .lines .0) f i g j kind) (space : t .lines .0 < 128) {buf′ : List ℤ} {b : Bool}
+  module _ (terms : Operands (t .lines .0) f i g j kind) (space : t .lines .0 < edition (t .edition) .lines) {buf′ : List ℤ} {b : Bool}
       (mixes : Mixes buf f (i * size K) g (j * size K) (t .lines .0 * size K) (size K) buf′ b) where
     sum-is : {kinds′ : List ℕ} → kinds′ ≡ set kinds (t .lines .0) kind → lineIn K kinds′ (mixedLine K f i g j (t .lines .0) buf) (t .lines .0) ≡ sumOf K kinds buf f i g j kind
     sum-is {kinds′} sets =
@@ -70,7 +70,7 @@ module _ {K : ℕ} {kinds : List ℕ} {buf : List ℤ} (t : Tally) (f : ℤ) (i 
     unfolding fitting _>>_ need
     append-range e = record {
       kept = record { lines-same = agree-sym (mixes .keeps); kinds-same = agree-refl; lines-length = mixes .long; kinds-length = refl };
-      by = λ refusal. rw (length-lines K kinds buf (t .lines .0), lt-ltb (t .lines .0) 128 space, range, e);
+      by = λ refusal. rw (length-lines K kinds buf (t .lines .0), lt-ltb (t .lines .0) (edition (t .edition) .lines) space, range, e);
     }
 
     pub append-made : {t′ : Tally} {kinds′ : List ℕ} → b ≡ true → kinds′ ≡ set kinds (t .lines .0) kind → t′ ≡ moreLines t → Appended K kinds buf t f i g j kind kinds′ buf′ (Made t′)
@@ -85,7 +85,7 @@ module _ {K : ℕ} {kinds : List ℕ} {buf : List ℤ} (t : Tally) (f : ℤ) (i 
             kinds-length = rw sets (length-set kinds (t .lines .0) kind);
           };
           by = (
-            λ refusal. rw (length-lines K kinds buf (t .lines .0), lt-ltb (t .lines .0) 128 space, range, e),
+            λ refusal. rw (length-lines K kinds buf (t .lines .0), lt-ltb (t .lines .0) (edition (t .edition) .lines) space, range, e),
             record {
               last = new;
               limited = record {

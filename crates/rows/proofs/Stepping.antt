@@ -9,8 +9,7 @@ use lib.Dec.{ltb}
 use lib.ListN.{take, drop}
 use lib.IntN.{ℤ, natAbs}
 use borrow.Author.Tests.{lt-ltb, le-ltb, ltb-true, ltb-false}
-use Rattle.forms.specs.Edition.{edition1}
-use Rattle.forms.specs.Forms.{Line}
+use Rattle.forms.specs.Edition.{edition, edition1}
 use Rattle.calculus.specs.Rules as rules
 use Rattle.calculus.specs.Rules.{_▷_}
 use Rattle.fields.specs.Fields.{Fields}
@@ -145,14 +144,14 @@ there-made : (made : Bool) (K : ℕ) (kinds : List ℕ) (buf : List ℤ) (n : �
 there-made true K kinds buf n = refl
 there-made false K kinds buf n = refl
 
-module _ {K : ℕ} (kinds : List ℕ) (buf : List ℤ) (t : Tally) {p : List ℕ} {tag start len : ℕ} (made : Bool) {x : entries.Entry} (e : Entered K p tag start len made x) where
+module _ {K : ℕ} (kinds : List ℕ) (buf : List ℤ) (t : Tally) {p : List ℕ} {tag start len : ℕ} (made : Bool) {x : entries.Entry} (e : Entered (t .edition) K p tag start len made x) where
   -- the entry that the field states, checked
   enters : (y : Result rules.Entry) (refusal : ℕ → Answer) → entryOf refusal K (take len (drop start p)) x ≡ y
       → (deeper : Option Checker) (next : Following) (fs : Fields)
       → fieldChecked K kinds buf t made tag (take len (drop start p)) deeper next refusal fs
-      ≡ (y >>= λ z. checkEntry edition1 K deeper next refusal (t .rows .0) (lastMade made K kinds buf (t .lines .0)) (linesIn K kinds buf (t .lines .0)) fs z)
+      ≡ (y >>= λ z. checkEntry (edition (t .edition)) K deeper next refusal (t .rows .0) (lastMade made K kinds buf (t .lines .0)) (linesIn K kinds buf (t .lines .0)) fs z)
   enters y refusal q deeper next fs =
-      ap (λ (w : Result rules.Entry). w >>= λ z. checkEntry edition1 K deeper next refusal (t .rows .0) (lastMade made K kinds buf (t .lines .0)) (linesIn K kinds buf (t .lines .0)) fs z)
+      ap (λ (w : Result rules.Entry). w >>= λ z. checkEntry (edition (t .edition)) K deeper next refusal (t .rows .0) (lastMade made K kinds buf (t .lines .0)) (linesIn K kinds buf (t .lines .0)) fs z)
       (e .is refusal 0 (lastMade made K kinds buf (t .lines .0)) (there-made made K kinds buf (t .lines .0)) ∙ q)
 
   field-row : (row : rules.Row) → ((refusal : ℕ → Answer) → entryOf refusal K (take len (drop start p)) x ≡ accepted (rules.row row))

@@ -8,7 +8,7 @@ use lib.Dec.{eqb}
 use lib.ListN.{length, take, drop}
 use lib.IntN.{ℤ, pos, natAbs}
 use Rattle.integers.specs.Magnitude.{Within}
-use Rattle.forms.specs.Edition.{edition1, multiplierRange}
+use Rattle.forms.specs.Edition.{edition, edition1, multiplierRange}
 use Rattle.forms.specs.Forms.{Line}
 use Rattle.calculus.specs.Rules as rules
 use Rattle.fields.specs.Answers.{Result, refused, accepted, _>>_, need}
@@ -62,10 +62,10 @@ Filled len (Split t) = 1 ≤ len
 Filled len (Claim from) = 1 ≤ len
 Filled len (Refused n) = Unit {0}
 
--- The answer for a field of a known tag in its place: 6, or the entry.
-pub record Shaped (tagged : EntryTag) (p : List ℕ) (start len : ℕ) (r : Entry) : Type 0 where
+-- The answer for a field of a known tag in its place, in a proof of edition n: 6, or the entry.
+pub record Shaped (n : ℕ) (tagged : EntryTag) (p : List ℕ) (start len : ℕ) (r : Entry) : Type 0 where
   pub is : (refusal : ℕ → Answer) (K : ℕ) → entryOf refusal K (take len (drop start p)) r
-      ≡ (need (refusal 6) (eqb (length (take len (drop start p))) (sizeOf edition1 K tagged)) >> accepted (entryFrom edition1 K tagged (take len (drop start p))))
+      ≡ (need (refusal 6) (eqb (length (take len (drop start p))) (sizeOf (edition n) K tagged)) >> accepted (entryFrom (edition n) K tagged (take len (drop start p))))
   pub ranged : (K : ℕ) → Ranged K start len r
   pub filled : Filled len r
 
@@ -79,9 +79,9 @@ abbrev pub there : Option Line → Bool
 there none = false
 there (some l) = true
 
--- The answer for a field: 3, 4, 6, or the entry.
-pub record Entered (K : ℕ) (p : List ℕ) (tag start len : ℕ) (made : Bool) (r : Entry) : Type 0 where
+-- The answer for a field of a proof of edition n: 3, 4, 6, or the entry.
+pub record Entered (n K : ℕ) (p : List ℕ) (tag start len : ℕ) (made : Bool) (r : Entry) : Type 0 where
   pub is : (refusal : ℕ → Answer) (at : ℕ) (l : Option Line) → there l ≡ made
-      → entry edition1 K refusal l (record { at = at; tag = tag; contents = take len (drop start p) }) ≡ entryOf refusal K (take len (drop start p)) r
+      → entry (edition n) K refusal l (record { at = at; tag = tag; contents = take len (drop start p) }) ≡ entryOf refusal K (take len (drop start p)) r
   pub ranged : Ranged K start len r
   pub filled : Filled len r

@@ -5,7 +5,7 @@ use Prim.Native.Nat.{ℕ, _+_, _*_, _≤_, _<_}
 use lib.ListN.{length}
 use lib.IntN.{ℤ}
 use Rattle.integers.specs.Magnitude.{Within}
-use Rattle.forms.specs.Edition.{edition1, multiplierRange}
+use Rattle.forms.specs.Edition.{edition, multiplierRange}
 use Rattle.forms.specs.Forms.{Line, line, _⊞_, _·_}
 use Rattle.calculus.specs.Rules as rules
 use Rattle.fields.specs.declared.Answer.{Answer}
@@ -24,16 +24,16 @@ use Rattle.rows.specs.declared.derive.Derived.the-variants.{Refused, Mad
 pub record KindRead (b r : ℕ) : Type 0 where
   pub is : r ≡ b
 
--- The n first lines of the buffers are a branch, with room for one more.
-pub record Ready (K : ℕ) (kinds : List ℕ) (buf : List ℤ) (n : ℕ) : Type 0 where
+-- The n first lines of the buffers are a branch of a proof of edition e, with room for one more.
+pub record Ready (e K : ℕ) (kinds : List ℕ) (buf : List ℤ) (n : ℕ) : Type 0 where
   pub branch : Branch K buf n
-  pub room : edition1 .lines ≤ length kinds
-  pub most : n ≤ edition1 .lines
+  pub room : n < length kinds
+  pub most : n ≤ edition e .lines
 
 -- The n first lines keep the limits of a branch. Whether there is room for one more is for the caller to say.
-pub record Limited (K : ℕ) (buf : List ℤ) (n : ℕ) : Type 0 where
+pub record Limited (e K : ℕ) (buf : List ℤ) (n : ℕ) : Type 0 where
   pub bounded : Bounded K buf n
-  pub most : n ≤ edition1 .lines
+  pub most : n ≤ edition e .lines
 
 -- What is written behind the n first lines keeps them, and the lengths.
 pub record LinesKept (K n : ℕ) (kinds : List ℕ) (buf : List ℤ) (kinds′ : List ℕ) (buf′ : List ℤ) : Type 0 where
@@ -52,7 +52,7 @@ pub record Operands (n : ℕ) (f : ℤ) (i : ℕ) (g : ℤ) (j kind : ℕ) : Typ
 
 -- The tally with one line more.
 abbrev pub moreLines : Tally → Tally
-moreLines t = tally (t .rows .0) (t .lines .0 + 1) (t .«open»)
+moreLines t = tally (t .edition) (t .rows .0) (t .lines .0 + 1) (t .«open»)
 
 -- f times line i plus g times line j.
 abbrev pub sumOf : (K : ℕ) (kinds : List ℕ) (buf : List ℤ) (f : ℤ) (i : ℕ) (g : ℤ) (j kind : ℕ) → Line
@@ -64,29 +64,29 @@ sumOf K kinds buf f i g j kind =
 -- The branch has the line l more, within all limits.
 pub record Grown (K : ℕ) (t : Tally) (l : Line) (kinds′ : List ℕ) (buf′ : List ℤ) (t′ : Tally) : Type 0 where
   pub last : lineIn K kinds′ buf′ (t .lines .0) ≡ l
-  pub limited : Limited K buf′ (t .lines .0 + 1)
+  pub limited : Limited (t .edition) K buf′ (t .lines .0 + 1)
   pub tally : t′ ≡ moreLines t
 
 abbrev pub AppendedBy : (K : ℕ) (kinds : List ℕ) (buf : List ℤ) (t : Tally) (l : Line) (kinds′ : List ℕ) (buf′ : List ℤ) → Derived → Type 0
-AppendedBy K kinds buf t l kinds′ buf′ (Refused x) = (refusal : ℕ → Answer) → fitting refusal (linesIn K kinds buf (t .lines .0)) edition1 l ≡ refused (refusal x)
+AppendedBy K kinds buf t l kinds′ buf′ (Refused x) = (refusal : ℕ → Answer) → fitting refusal (linesIn K kinds buf (t .lines .0)) (edition (t .edition)) l ≡ refused (refusal x)
 AppendedBy K kinds buf t l kinds′ buf′ (Made t′) =
-    ((refusal : ℕ → Answer) → fitting refusal (linesIn K kinds buf (t .lines .0)) edition1 l ≡ accepted tt) × Grown K t l kinds′ buf′ t′
+    ((refusal : ℕ → Answer) → fitting refusal (linesIn K kinds buf (t .lines .0)) (edition (t .edition)) l ≡ accepted tt) × Grown K t l kinds′ buf′ t′
 
 pub record Appended (K : ℕ) (kinds : List ℕ) (buf : List ℤ) (t : Tally) (f : ℤ) (i : ℕ) (g : ℤ) (j kind : ℕ) (kinds′ : List ℕ) (buf′ : List ℤ) (r : Derived) : Type 0 where
   pub kept : LinesKept K (t .lines .0) kinds buf kinds′ buf′
   pub by : AppendedBy K kinds buf t (sumOf K kinds buf f i g j kind) kinds′ buf′ r
 
--- A row 0x10 to 0x12 and what follows it, as `checkRow` has it; `refusal` gives the refusal by a number at this row.
-abbrev pub followed : (refusal : ℕ → Answer) → List Line → rules.Step → (Line → Result Closing) → Result Closing
-followed refusal ls s next = derived refusal ls s >>= λ l. (fitting refusal ls edition1 l >> next l)
+-- A row 0x10 to 0x12 of a proof of edition e and what follows it, as `checkRow` has it; `refusal` gives the refusal by a number at this row.
+abbrev pub followed : (e : ℕ) (refusal : ℕ → Answer) → List Line → rules.Step → (Line → Result Closing) → Result Closing
+followed e refusal ls s next = derived refusal ls s >>= λ l. (fitting refusal ls (edition e) l >> next l)
 
 abbrev pub DerivedBy : (K : ℕ) (kinds : List ℕ) (buf : List ℤ) (t : Tally) (s : rules.Step) (kinds′ : List ℕ) (buf′ : List ℤ) → Derived → Type 0
 DerivedBy K kinds buf t s kinds′ buf′ (Refused x) =
-    (refusal : ℕ → Answer) (next : Line → Result Closing) → followed refusal (linesIn K kinds buf (t .lines .0)) s next ≡ refused (refusal x)
+    (refusal : ℕ → Answer) (next : Line → Result Closing) → followed (t .edition) refusal (linesIn K kinds buf (t .lines .0)) s next ≡ refused (refusal x)
 DerivedBy K kinds buf t s kinds′ buf′ (Made t′) =
     ((refusal : ℕ → Answer) (next : Line → Result Closing)
-    → followed refusal (linesIn K kinds buf (t .lines .0)) s next ≡ next (lineIn K kinds′ buf′ (t .lines .0)))
-    × Limited K buf′ (t .lines .0 + 1) × (t′ ≡ moreLines t)
+    → followed (t .edition) refusal (linesIn K kinds buf (t .lines .0)) s next ≡ next (lineIn K kinds′ buf′ (t .lines .0)))
+    × Limited (t .edition) K buf′ (t .lines .0 + 1) × (t′ ≡ moreLines t)
 
 pub record Derives (K : ℕ) (kinds : List ℕ) (buf : List ℤ) (t : Tally) (s : rules.Step) (kinds′ : List ℕ) (buf′ : List ℤ) (r : Derived) : Type 0 where
   pub kept : LinesKept K (t .lines .0) kinds buf kinds′ buf′

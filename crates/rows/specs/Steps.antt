@@ -7,7 +7,7 @@ use Prim.Native.Nat.{ℕ, _+_, _-_, _*_, _≤_}
 use lib.Dec.{ltb}
 use lib.ListN.{take, drop}
 use lib.IntN.{ℤ, natAbs}
-use Rattle.forms.specs.Edition.{edition1}
+use Rattle.forms.specs.Edition.{edition, edition1}
 use Rattle.forms.specs.Forms.{Line}
 use Rattle.calculus.specs.Rules as rules
 use Rattle.fields.specs.declared.Answer.{Answer}
@@ -40,21 +40,21 @@ pub record SameChecked (f g : Checked) : Type 0 where
 -- A row, counted first, in a branch of the tally's lines.
 abbrev pub rowChecked : (K : ℕ) (kinds : List ℕ) (buf : List ℤ) (t : Tally) → rules.Row → Checked
 rowChecked K kinds buf t row deeper next refusal fs =
-    need (refusal 18) (ltb (t .rows .0) (edition1 .rows)) >> checkRow edition1 K deeper next refusal (t .rows .0) (linesIn K kinds buf (t .lines .0)) fs row
+    need (refusal 18) (ltb (t .rows .0) (edition1 .rows)) >> checkRow (edition (t .edition)) K deeper next refusal (t .rows .0) (linesIn K kinds buf (t .lines .0)) fs row
 
 -- The same row, counted already.
 abbrev pub rowLeft : (K : ℕ) (kinds : List ℕ) (buf : List ℤ) (t : Tally) → rules.Row → Checked
-rowLeft K kinds buf t row deeper next refusal fs = checkRow edition1 K deeper next refusal (t .rows .0) (linesIn K kinds buf (t .lines .0)) fs row
+rowLeft K kinds buf t row deeper next refusal fs = checkRow (edition (t .edition)) K deeper next refusal (t .rows .0) (linesIn K kinds buf (t .lines .0)) fs row
 
 abbrev pub moreRows : Tally → Tally
-moreRows t = tally (t .rows .0 + 1) (t .lines .0) (t .«open»)
+moreRows t = tally (t .edition) (t .rows .0 + 1) (t .lines .0) (t .«open»)
 
 -- What f is, by the code's answer.
 abbrev pub SteppedBy : (f : Checked) (K : ℕ) (kinds : List ℕ) (buf : List ℤ) (t : Tally) (kinds′ : List ℕ) (buf′ : List ℤ) → Stepped → Type 0
 SteppedBy f K kinds buf t kinds′ buf′ (Refused x) = SameChecked f (λ deeper next refusal fs. refused (refusal x))
 SteppedBy f K kinds buf t kinds′ buf′ (Made t′) =
     SameChecked f (λ deeper next refusal fs. next (t .rows .0 + 1) (some (lineIn K kinds′ buf′ (t .lines .0))) (linesIn K kinds′ buf′ (t .lines .0 + 1)))
-    × Limited K buf′ (t .lines .0 + 1) × (t′ ≡ moreLines (moreRows t))
+    × Limited (t .edition) K buf′ (t .lines .0 + 1) × (t′ ≡ moreLines (moreRows t))
 SteppedBy f K kinds buf t kinds′ buf′ Claimed = SameChecked f (λ deeper next refusal fs. next (t .rows .0) none (linesIn K kinds buf (t .lines .0)))
 SteppedBy f K kinds buf t kinds′ buf′ (Strengthens t′ i) = SameChecked f (rowLeft K kinds buf t (rules.Strengthen (i .0))) × (t′ ≡ moreRows t)
 SteppedBy f K kinds buf t kinds′ buf′ (ClosesNumber t′ i) = SameChecked f (rowLeft K kinds buf t (rules.CloseNumber (i .0))) × (t′ ≡ moreRows t)
@@ -87,8 +87,8 @@ lastMade false K kinds buf n = none
 -- A field of the branch, read and then checked.
 abbrev pub fieldChecked : (K : ℕ) (kinds : List ℕ) (buf : List ℤ) (t : Tally) (made : Bool) (tag : ℕ) (contents : List ℕ) → Checked
 fieldChecked K kinds buf t made tag contents deeper next refusal fs =
-    entry edition1 K refusal (lastMade made K kinds buf (t .lines .0)) (record { at = 0; tag = tag; contents = contents })
-    >>= λ x. checkEntry edition1 K deeper next refusal (t .rows .0) (lastMade made K kinds buf (t .lines .0)) (linesIn K kinds buf (t .lines .0)) fs x
+    entry (edition (t .edition)) K refusal (lastMade made K kinds buf (t .lines .0)) (record { at = 0; tag = tag; contents = contents })
+    >>= λ x. checkEntry (edition (t .edition)) K deeper next refusal (t .rows .0) (lastMade made K kinds buf (t .lines .0)) (linesIn K kinds buf (t .lines .0)) fs x
 
 -- A row that opens branches or ends this one is counted and left as it is, in any buffers.
 pub record Counts (row : rules.Row) (t : Tally) (r : Stepped) : Type 0 where
@@ -97,7 +97,7 @@ pub record Counts (row : rules.Row) (t : Tally) (r : Stepped) : Type 0 where
 -- The claim whose contents start there, checked. 4, 14.
 abbrev pub claimChecked : (K : ℕ) (p : List ℕ) (start : ℕ) (made : Bool) (kinds : List ℕ) (buf : List ℤ) (t : Tally) (len : ℕ) → Checked
 claimChecked K p start made kinds buf t len deeper next refusal fs =
-    checkEntry edition1 K deeper next refusal (t .rows .0) (lastMade made K kinds buf (t .lines .0)) (linesIn K kinds buf (t .lines .0)) fs
+    checkEntry (edition (t .edition)) K deeper next refusal (t .rows .0) (lastMade made K kinds buf (t .lines .0)) (linesIn K kinds buf (t .lines .0)) fs
     (rules.claim (formFrom (edition1 .termWidth) K (take len (drop start p))) (formFrom (edition1 .termWidth) K (drop (formWidth (edition1 .termWidth) K) (take len (drop start p)))))
 
 pub record Claims (K : ℕ) (p : List ℕ) (start : ℕ) (made : Bool) (buf : List ℤ) (t : Tally) (r : Stepped) : Type 0 where

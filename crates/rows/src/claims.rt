@@ -2,7 +2,7 @@
 ghost use mathlib.Core.Path.{_≡_};
 ghost use Prim.Native.Nat.{_+_, _*_, _≤_, _<_};
 ghost use lib.ListN.{length, drop};
-ghost use Rattle.forms.specs.Edition.{edition1};
+ghost use Rattle.forms.specs.Edition.{edition, edition1, newestEdition};
 ghost use Rattle.fields.specs.Numbers.{signeds};
 ghost use Rattle.lines.specs.Parts.{part};
 ghost use Rattle.proof.specs.Rows.{equals};
@@ -17,7 +17,7 @@ fn same_form(p: &[u8], start: usize, lines: &[i32], at: usize, k: usize) -> bool
 {
     let mut x = 0;
     while x <= k {
-        let n = fields::words::wide_long_at(p, start + TERM_BYTES * x);
+        let n = fields::words::signed_at(p, start + TERM_BYTES * x, TERM_BYTES);
         if !integers::same(n, integers::number(lines, at + x)) {
             return false;
         }
@@ -28,7 +28,7 @@ fn same_form(p: &[u8], start: usize, lines: &[i32], at: usize, k: usize) -> bool
 
 // Whether t, and then tA, are those of line i.
 pub fn claim_holds(p: &[u8], start: usize, lines: &[i32], i: LineNumber, k: usize) -> bool
-    requires { ⌜ (k ≤ edition1 .constants) × (start + 2 * edition1 .termWidth * (k + 1) ≤ length (now p)) × (i .0 < edition1 .lines) × (i .0 * (2 * (k + 1)) + 2 * (k + 1) ≤ length (now lines)) ⌝ }
+    requires { ⌜ (k ≤ edition1 .constants) × (start + 2 * edition1 .termWidth * (k + 1) ≤ length (now p)) × (i .0 < edition newestEdition .lines) × (i .0 * (2 * (k + 1)) + 2 * (k + 1) ≤ length (now lines)) ⌝ }
     ensures { λ r. ⌜ Claimed k (now (p .entry)) start (now (lines .entry)) (i .0) r ⌝ }
 {
     let t = lines::place(i, k);

@@ -40,7 +40,7 @@ fn append(
     kind: u8,
     k: usize,
 ) -> Derived
-    requires { ⌜ Ready k (now kinds) (now lines) (tally .lines .0) ⌝ }
+    requires { ⌜ Ready (tally .edition) k (now kinds) (now lines) (tally .lines .0) ⌝ }
     requires { ⌜ Operands (tally .lines .0) f (i .0) g (j .0) kind ⌝ }
     ensures { λ r. ⌜ Appended k (now (kinds .entry)) (now (lines .entry)) tally f (i .0) g (j .0) kind (now (kinds .exit)) (now (lines .exit)) r ⌝ }
 {
@@ -93,7 +93,7 @@ pub fn combine(
     beta: i64,
     k: usize,
 ) -> Derived
-    requires { ⌜ Ready k (now kinds) (now lines) (tally .lines .0) ⌝ }
+    requires { ⌜ Ready (tally .edition) k (now kinds) (now lines) (tally .lines .0) ⌝ }
     requires { ⌜ Multiplies (natAbs alpha) alpha × Multiplies (natAbs beta) beta ⌝ }
     ensures { λ r. ⌜ Derives k (now (kinds .entry)) (now (lines .entry)) tally (Combine (s .0) (t .0) (natAbs alpha) (natAbs beta)) (now (kinds .exit)) (now (lines .exit)) r ⌝ }
 {
@@ -128,7 +128,7 @@ pub fn reduce(
     alpha: i64,
     k: usize,
 ) -> Derived
-    requires { ⌜ Ready k (now kinds) (now lines) (tally .lines .0) ⌝ }
+    requires { ⌜ Ready (tally .edition) k (now kinds) (now lines) (tally .lines .0) ⌝ }
     requires { ⌜ Within multiplierRange alpha ⌝ }
     ensures { λ r. ⌜ Derives k (now (kinds .entry)) (now (lines .entry)) tally (Reduce (s .0) (t .0) alpha) (now (kinds .exit)) (now (lines .exit)) r ⌝ }
 {
@@ -160,7 +160,7 @@ pub fn scale(
     alpha: i64,
     k: usize,
 ) -> Derived
-    requires { ⌜ Ready k (now kinds) (now lines) (tally .lines .0) ⌝ }
+    requires { ⌜ Ready (tally .edition) k (now kinds) (now lines) (tally .lines .0) ⌝ }
     requires { ⌜ Multiplies (natAbs alpha) alpha ⌝ }
     ensures { λ r. ⌜ Derives k (now (kinds .entry)) (now (lines .entry)) tally (Scale (t .0) (natAbs alpha)) (now (kinds .exit)) (now (lines .exit)) r ⌝ }
 {

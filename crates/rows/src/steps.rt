@@ -5,7 +5,7 @@ ghost use Prim.Native.Nat.{_+_, _*_, _≤_};
 ghost use lib.ListN.{length, take, drop};
 ghost use lib.IntN.{natAbs};
 ghost use Rattle.integers.specs.Magnitude.{Within};
-ghost use Rattle.forms.specs.Edition.{edition1, multiplierRange};
+ghost use Rattle.forms.specs.Edition.{edition, edition1, newestEdition, multiplierRange};
 ghost use Rattle.calculus.specs.Rules.{Derive, Combine, Reduce, Scale, Strengthen, CloseNumber, CloseStride, Round, Split};
 ghost use Rattle.rows.specs.Entries.{Multiplies};
 ghost use Rattle.rows.specs.Rows.{Ready};
@@ -68,7 +68,7 @@ pub fn combine_row(
     beta: i64,
     k: usize,
 ) -> Stepped
-    requires { ⌜ Ready k (now kinds) (now lines) (tally .lines .0) ⌝ }
+    requires { ⌜ Ready (tally .edition) k (now kinds) (now lines) (tally .lines .0) ⌝ }
     requires { ⌜ Multiplies (natAbs alpha) alpha × Multiplies (natAbs beta) beta ⌝ }
     ensures { λ r. ⌜ Steps (rowChecked k (now (kinds .entry)) (now (lines .entry)) tally (Derive (Combine (s .0) (t .0) (natAbs alpha) (natAbs beta)))) k (now (kinds .entry)) (now (lines .entry)) tally (now (kinds .exit)) (now (lines .exit)) r ⌝ }
 {
@@ -97,7 +97,7 @@ pub fn reduce_row(
     alpha: i64,
     k: usize,
 ) -> Stepped
-    requires { ⌜ Ready k (now kinds) (now lines) (tally .lines .0) ⌝ }
+    requires { ⌜ Ready (tally .edition) k (now kinds) (now lines) (tally .lines .0) ⌝ }
     requires { ⌜ Within multiplierRange alpha ⌝ }
     ensures { λ r. ⌜ Steps (rowChecked k (now (kinds .entry)) (now (lines .entry)) tally (Derive (Reduce (s .0) (t .0) alpha))) k (now (kinds .entry)) (now (lines .entry)) tally (now (kinds .exit)) (now (lines .exit)) r ⌝ }
 {
@@ -125,7 +125,7 @@ pub fn scale_row(
     alpha: i64,
     k: usize,
 ) -> Stepped
-    requires { ⌜ Ready k (now kinds) (now lines) (tally .lines .0) ⌝ }
+    requires { ⌜ Ready (tally .edition) k (now kinds) (now lines) (tally .lines .0) ⌝ }
     requires { ⌜ Multiplies (natAbs alpha) alpha ⌝ }
     ensures { λ r. ⌜ Steps (rowChecked k (now (kinds .entry)) (now (lines .entry)) tally (Derive (Scale (t .0) (natAbs alpha)))) k (now (kinds .entry)) (now (lines .entry)) tally (now (kinds .exit)) (now (lines .exit)) r ⌝ }
 {
@@ -214,7 +214,7 @@ fn split_row(tally: Tally, t: LineNumber) -> Stepped
 
 // A claim of the line made last. 4, 14.
 fn claim_step(p: &[u8], start: usize, made: bool, lines: &[i32], tally: Tally, k: usize) -> Stepped
-    requires { ⌜ (k ≤ edition1 .constants) × (start + 2 * edition1 .termWidth * (k + 1) ≤ length (now p)) × (tally .lines .0 ≤ edition1 .lines) × (tally .lines .0 * (2 * (k + 1)) ≤ length (now lines)) ⌝ }
+    requires { ⌜ (k ≤ edition1 .constants) × (start + 2 * edition1 .termWidth * (k + 1) ≤ length (now p)) × (tally .lines .0 ≤ edition newestEdition .lines) × (tally .lines .0 * (2 * (k + 1)) ≤ length (now lines)) ⌝ }
     requires { ⌜ (made ≡ true → 1 ≤ tally .lines .0) ⌝ }
     ensures { λ r. ⌜ Claims k (now (p .entry)) start made (now (lines .entry)) tally r ⌝ }
 {
@@ -241,11 +241,11 @@ pub fn step(
     tally: Tally,
     k: usize,
 ) -> Stepped
-    requires { ⌜ Ready k (now kinds) (now lines) (tally .lines .0) ⌝ }
+    requires { ⌜ Ready (tally .edition) k (now kinds) (now lines) (tally .lines .0) ⌝ }
     requires { ⌜ (start + len ≤ length (now p)) × (made ≡ true → 1 ≤ tally .lines .0) ⌝ }
     ensures { λ r. ⌜ Steps (fieldChecked k (now (kinds .entry)) (now (lines .entry)) tally made tag (take len (drop start (now (p .entry))))) k (now (kinds .entry)) (now (lines .entry)) tally (now (kinds .exit)) (now (lines .exit)) r × Advances len r ⌝ }
 {
-    let entry = entry_at(p, tag, start, len, k, made);
+    let entry = entry_at(p, tag, start, len, k, tally.edition, made);
     match entry {
         Entry::Combine { s, t, alpha, beta } => {
             return combine_row(lines, kinds, tally, s, t, alpha, beta, k);

@@ -1,9 +1,9 @@
-// The tally of a check: the numbers of the next row and the next line, and the branching steps open.
+// The tally of a check: the numbers of the next row and the next line, and the branching steps open; and the edition of the proof, by which lines are limited.
 use forms::BRANCHINGS;
-use forms::LINES;
 use forms::LineNumber;
 use forms::ROWS;
 use forms::RowNumber;
+use forms::lines_limit;
 ghost use mathlib.Core.Path.{_≡_};
 ghost use Rattle.rows.specs.Tally.{rowCounted, lineCounted, openCounted, returnedTo, Advanced};
 
@@ -11,6 +11,7 @@ pub struct Tally {
     pub rows: RowNumber,
     pub lines: LineNumber,
     pub open: u16,
+    pub edition: u8,
 }
 
 // The tally after a step, and whether the step was made. A refused step leaves the tally as it was.
@@ -31,6 +32,7 @@ fn next_row(t: Tally) -> Tallied
             rows: RowNumber(n + 1),
             lines: line,
             open: t.open,
+            edition: t.edition,
         };
         return Tallied { made: true, tally };
     }
@@ -46,11 +48,12 @@ fn next_line(t: Tally) -> Tallied
     let row = t.rows;
     let line = t.lines;
     let n = line.0;
-    if n < LINES {
+    if n < lines_limit(t.edition) {
         let tally = Tally {
             rows: row,
             lines: LineNumber(n + 1),
             open: t.open,
+            edition: t.edition,
         };
         return Tallied { made: true, tally };
     }
@@ -71,6 +74,7 @@ fn next_open(t: Tally) -> Tallied
             rows: row,
             lines: line,
             open: n + 1,
+            edition: t.edition,
         };
         return Tallied { made: true, tally };
     }
@@ -137,5 +141,6 @@ pub fn returned(t: Tally, given: Tally) -> Tally
         rows,
         lines,
         open: given.open,
+        edition: given.edition,
     }
 }

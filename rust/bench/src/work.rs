@@ -1,7 +1,10 @@
 //! What is timed: calls of each operation, small and as large as can be.
 
-use stages::build;
+use reference::Edition;
+use stages::build::{self, Layout};
+use stages::other::number;
 use stages::rng::Rng;
+use stages::turn::turned_up;
 use std::hint::black_box;
 
 /// Calls one side so many times and gives a sum of what came out.
@@ -39,13 +42,13 @@ fn rust_check(a: &[u8], b: &[u8], proof: &[u8], out: &mut [u8]) -> usize {
 }
 
 #[inline(never)]
-fn rust_read(file: &[u8], kinds: &mut [u8], numbers: &mut [i16]) -> usize {
+fn rust_read(file: &[u8], kinds: &mut [u8], numbers: &mut [i32]) -> usize {
     reference::read_bundle(file, kinds, numbers).count
 }
 
 #[inline(never)]
-fn rust_write(k: u8, kinds: &[u8], numbers: &[i16], out: &mut [u8]) -> usize {
-    reference::write_bundle(k, kinds, numbers, out).written
+fn rust_write(edition: u8, k: u8, kinds: &[u8], numbers: &[i32], out: &mut [u8]) -> usize {
+    reference::write_bundle(edition, k, kinds, numbers, out).written
 }
 
 #[inline(never)]
@@ -190,6 +193,25 @@ fn longest() -> Stage {
     ]
 }
 
+/// The same three files in edition 2.
+fn in_edition_2(stage: Stage) -> Stage {
+    stage.map(|file| turned_up(&file))
+}
+
+/// A proof of edition 2 that makes so many lines of 16 constants, each from the one before, and closes the last.
+fn long_branch(lines: usize) -> Stage {
+    let rows = Layout(Edition::Two);
+    let mut one = vec![0; 17];
+    one[16] = 1;
+    let mut proof = build::header_of(Edition::Two, 16);
+    for line in 0..lines - 1 {
+        proof.extend(rows.scale(line, 1));
+    }
+    proof.extend(rows.close(lines - 1));
+    let a = build::file_of(Edition::Two, 16, &[rows.constraint(0, &one)]);
+    [a, build::header_of(Edition::Two, 16), proof]
+}
+
 fn checks(list: &mut Vec<Work>) {
     list.push(check("stage 1, 2 rows".to_string(), stage_1(), None));
     for rows in [8, 32, 128, 256, 512, 1_024] {
@@ -214,6 +236,16 @@ fn checks(list: &mut Vec<Work>) {
     }
     let name = "458 rows, roundings by 16, the longest formula".to_string();
     list.push(check(name, longest_rounded(), None));
+    let name = "edition 2, stage 1, 2 rows".to_string();
+    list.push(check(name, in_edition_2(stage_1()), None));
+    for rows in [128, 1_024] {
+        let name = format!("edition 2, {rows} rows, 16 constants, nested strengthens");
+        list.push(check(name, in_edition_2(nested(rows, false)), None));
+    }
+    for lines in [128, 1_000] {
+        let name = format!("edition 2, {lines} lines of 16 constants on one branch");
+        list.push(check(name, long_branch(lines), None));
+    }
 }
 
 fn check(name: String, stage: Stage, point: Option<Point>) -> Work {
@@ -244,23 +276,31 @@ fn check(name: String, stage: Stage, point: Option<Point>) -> Work {
 }
 
 /// K, kinds and numbers of a bundle.
-fn lists(k: u8, count: usize) -> (Vec<u8>, Vec<i16>) {
+fn lists(edition: Edition, k: u8, count: usize) -> (Vec<u8>, Vec<i32>) {
     let mut rng = Rng::new(u64::from(k));
     let kinds = (0..count).map(|_| rng.below(2) as u8).collect();
     let numbers = (0..count * (usize::from(k) + 1))
-        .map(|_| rng.word() as i16)
+        .map(|_| number(&mut rng, edition))
         .collect();
     (kinds, numbers)
 }
 
 fn bundles(list: &mut Vec<Work>) {
-    for (size, k, count) in [
-        ("3 constants, 2 constraints", 3, 2),
-        ("16 constants, 32 constraints", 16, 32),
+    for (size, edition, k, count) in [
+        ("3 constants, 2 constraints", Edition::One, 3, 2),
+        ("16 constants, 32 constraints", Edition::One, 16, 32),
+        ("edition 2, 3 constants, 2 constraints", Edition::Two, 3, 2),
+        (
+            "edition 2, 16 constants, 32 constraints",
+            Edition::Two,
+            16,
+            32,
+        ),
     ] {
-        let (kinds, numbers) = lists(k, count);
+        let (kinds, numbers) = lists(edition, k, count);
+        let edition = edition.number();
         let mut file = vec![0; dulgaverk::WRITTEN_BUNDLE];
-        let written = dulgaverk::write_bundle_into(k, &kinds, &numbers, &mut file);
+        let written = dulgaverk::write_bundle_into(edition, k, &kinds, &numbers, &mut file);
         file.truncate(written.expect("a sound bundle"));
         let read = (file.clone(), [0; 32], [0; 544]);
         let other = read.clone();
@@ -284,7 +324,7 @@ fn bundles(list: &mut Vec<Work>) {
             }),
             point: None,
         });
-        let write = (kinds, numbers, vec![0; 1_192]);
+        let write = (kinds, numbers, vec![0; dulgaverk::WRITTEN_BUNDLE]);
         let other = write.clone();
         list.push(Work {
             name: format!("write a bundle: {size}"),
@@ -293,14 +333,18 @@ fn bundles(list: &mut Vec<Work>) {
                 (0..times)
                     .map(|_| {
                         let kinds = black_box(kinds.as_slice());
-                        dulgaverk::write_bundle_into(k, kinds, &numbers, &mut out).unwrap_or(0)
+                        dulgaverk::write_bundle_into(edition, k, kinds, &numbers, &mut out)
+                            .unwrap_or(0)
                     })
                     .sum()
             }),
             rust: Box::new(move |times| {
                 let (kinds, numbers, mut out) = other.clone();
                 (0..times)
-                    .map(|_| rust_write(k, black_box(kinds.as_slice()), &numbers, &mut out))
+                    .map(|_| {
+                        let kinds = black_box(kinds.as_slice());
+                        rust_write(edition, k, kinds, &numbers, &mut out)
+                    })
                     .sum()
             }),
             point: None,

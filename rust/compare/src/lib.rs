@@ -11,8 +11,9 @@ mod tally;
 
 pub use tally::Tally;
 
-use dulgaverk::{Counts, Refusal};
+use dulgaverk::{Counts, Edition, Refusal};
 use reference::{Answer, NONE};
+use stages::damage::edition_of;
 use stages::rng::Rng;
 use stages::tree::spot;
 use stages::{Case, Operation};
@@ -79,11 +80,17 @@ pub fn compare(case: &Case, rng: &mut Rng, tally: &mut Tally) {
             }
         }
         Case::Write {
-            k, kinds, numbers, ..
+            edition,
+            k,
+            kinds,
+            numbers,
+            out,
         } => {
-            let needed = 8 + 3 * kinds.len() + 2 * numbers.len();
+            let mut lent = vec![0; *out];
+            let needed = reference::write_bundle(*edition, *k, kinds, numbers, &mut lent).written;
             for out in [needed, needed - 1] {
                 let next = Case::Write {
+                    edition: *edition,
                     k: *k,
                     kinds: kinds.clone(),
                     numbers: numbers.clone(),
@@ -142,9 +149,11 @@ fn call(case: &Case, rng: &mut Rng, tally: &mut Tally) -> u8 {
             let (mut lent, mut other) = (before.clone(), before.clone());
             let verified = dulgaverk::read_bundle_into(file, &mut lent.0, &mut lent.1);
             let r = reference::read_bundle(file, &mut other.0, &mut other.1);
+            // A refusal has no edition, and no counts that are looked at.
             let counts = Counts {
                 constraints: r.count,
                 constants: r.k,
+                edition: Edition::numbered(r.edition).unwrap_or(Edition::One),
             };
             let expected = outcome(r.answer, counts);
             let kept = expected.is_ok() || lent == before;
@@ -154,6 +163,7 @@ fn call(case: &Case, rng: &mut Rng, tally: &mut Tally) -> u8 {
             )
         }
         Case::Write {
+            edition,
             k,
             kinds,
             numbers,
@@ -161,8 +171,8 @@ fn call(case: &Case, rng: &mut Rng, tally: &mut Tally) -> u8 {
         } => {
             let before = bytes(rng, *out);
             let (mut lent, mut other) = (before.clone(), before.clone());
-            let verified = dulgaverk::write_bundle_into(*k, kinds, numbers, &mut lent);
-            let r = reference::write_bundle(*k, kinds, numbers, &mut other);
+            let verified = dulgaverk::write_bundle_into(*edition, *k, kinds, numbers, &mut lent);
+            let r = reference::write_bundle(*edition, *k, kinds, numbers, &mut other);
             let expected = outcome(r.answer, r.written);
             let kept = expected.is_ok() || lent == before;
             (
@@ -207,6 +217,7 @@ fn call(case: &Case, rng: &mut Rng, tally: &mut Tally) -> u8 {
             let (mut lent, mut other) = (before.clone(), before.clone());
             let verified = dulgaverk::check_into(a, b, proof, &mut lent);
             let r = reference::check(a, b, proof, &mut other);
+            tally.count_mix([a, b, proof].map(|file| edition_of(file)));
             if r.answer.file == 3 {
                 tally.count_depth(spot(proof, r.answer.place).open.len());
             }
@@ -230,9 +241,9 @@ fn bytes(rng: &mut Rng, count: usize) -> Vec<u8> {
         .collect()
 }
 
-fn words(rng: &mut Rng, count: usize) -> Vec<i16> {
-    let (start, step) = (rng.word() as i16, rng.word() as i16 | 1);
+fn words(rng: &mut Rng, count: usize) -> Vec<i32> {
+    let (start, step) = (rng.word() as i32, rng.word() as i32 | 1);
     (0..count)
-        .map(|index| start.wrapping_add(step.wrapping_mul(index as i16)))
+        .map(|index| start.wrapping_add(step.wrapping_mul(index as i32)))
         .collect()
 }

@@ -1,7 +1,7 @@
 //! How many calls there were, by operation and answer, and where the two sides differed.
 
 use crate::COMPARED;
-use reference::NOT_GIVEN;
+use reference::{Edition, NOT_GIVEN};
 use stages::{Case, Operation};
 use std::fmt;
 
@@ -16,6 +16,8 @@ pub struct Tally {
     depths: [u64; 4],
     /// Checks that are refused since the formula is too long, outputs of several lengths counted each.
     too_long: u64,
+    /// Checks by the editions of A, B and proof, a bit each that is 1 for edition 2, A's the highest.
+    mixes: [u64; 8],
     differences: u64,
     /// The first ones, as lines that say what was called and what the Rust checker answers.
     kept: Vec<String>,
@@ -41,6 +43,19 @@ impl Tally {
     /// Counts a check that is refused since the formula is too long.
     pub(crate) fn count_too_long(&mut self) {
         self.too_long += 1;
+    }
+
+    /// Counts a check of files in these editions.
+    pub(crate) fn count_mix(&mut self, editions: [Edition; 3]) {
+        let index = editions.iter().fold(0, |index, &edition| {
+            2 * index + usize::from(edition == Edition::Two)
+        });
+        self.mixes[index] += 1;
+    }
+
+    /// Checks by the editions of A, B and proof, from all in edition 1 to all in edition 2.
+    pub fn mixes(&self) -> [u64; 8] {
+        self.mixes
     }
 
     /// Checks that were refused since the formula is too long.
@@ -90,6 +105,12 @@ impl fmt::Display for Tally {
                     "    refusals of the proof inside no branch: {none} one: {one} two: {two} three or more: {more}"
                 )?;
                 writeln!(f, "    formulas that are too long: {}", self.too_long)?;
+                write!(f, "    editions of A, B and proof:")?;
+                for (index, count) in self.mixes.iter().enumerate() {
+                    let [a, b, proof] = [4, 2, 1].map(|bit| 1 + usize::from(index & bit != 0));
+                    write!(f, " {a}{b}{proof}: {count}")?;
+                }
+                writeln!(f)?;
             }
         }
         for line in &self.kept {

@@ -54,6 +54,11 @@ fn checking_proofs() {
         assert!(tally.inside(depth) >= 4_000, "{tally}");
     }
     assert!(tally.too_long() >= 1_000, "{tally}");
+    // Every mix of editions.
+    assert!(
+        tally.mixes().iter().all(|&calls| calls >= 10_000),
+        "{tally}"
+    );
 }
 
 #[test]
@@ -62,13 +67,13 @@ fn reading_bundles() {
         Operation::Read,
         3,
         100_000,
-        &[0, 1, 2, 3, 4, 5, 6, 7, 8, 21],
+        &[0, 1, 2, 3, 4, 5, 6, 7, 8, 13, 21],
     );
 }
 
 #[test]
 fn writing_bundles() {
-    agree(Operation::Write, 4, 100_000, &[0, 7, 8, 21, 24]);
+    agree(Operation::Write, 4, 100_000, &[0, 5, 7, 8, 13, 21, 24]);
 }
 
 #[test]
@@ -77,7 +82,7 @@ fn showing_constraints() {
         Operation::Show,
         5,
         100_000,
-        &[0, 1, 2, 3, 4, 5, 6, 7, 8, 9, 10],
+        &[0, 1, 2, 3, 4, 5, 6, 7, 8, 9, 10, 13],
     );
 }
 

@@ -1,6 +1,6 @@
 //! docs/FORMAT.md says what the code does: its refusals and its worked stages.
 
-use dulgaverk::{Kind, Refusal};
+use dulgaverk::{Edition, Kind, Refusal};
 use std::fs;
 use std::path::PathBuf;
 
@@ -54,12 +54,13 @@ fn listings() -> Vec<Vec<u8>> {
 #[test]
 fn the_worked_stages_are_right() {
     let listings = listings();
-    assert_eq!(listings.len(), 17);
+    assert_eq!(listings.len(), 21);
     for (stage, lengths) in listings.chunks_exact(4).zip([
         [15, 15, 78, 51],
         [19, 30, 51, 75],
         [30, 30, 86, 171],
         [15, 22, 38, 33],
+        [19, 15, 24, 19],
     ]) {
         let [a, b, proof, formula] = stage else {
             panic!("four listings a stage");
@@ -161,12 +162,46 @@ fn what_is_said_of_the_fourth_stage() {
     assert_eq!((refusal.number, refusal.place), (11, 8));
 }
 
+#[test]
+fn what_is_said_of_the_fifth_stage() {
+    let [a, b, proof, formula] = &listings()[16..20] else {
+        panic!("four listings");
+    };
+    let read = dulgaverk::read_bundle(a).expect("A is read");
+    assert_eq!(
+        (read.edition, read.numbers),
+        (Edition::Two, vec![-1, 40_000])
+    );
+    let read = dulgaverk::read_bundle(b).expect("B is read");
+    assert_eq!(
+        (read.edition, read.numbers),
+        (Edition::One, vec![1, -30_000])
+    );
+    assert_eq!(dulgaverk::test_formula(formula, &[40_000]), Ok(true));
+    assert_eq!(dulgaverk::test_formula(formula, &[30_000]), Ok(false));
+
+    let kinds = [Kind::Inequality];
+    let cut = dulgaverk::write_bundle(Edition::One, 1, &kinds, &[-1, -25_536]).expect("a bundle");
+    let expected = Refusal {
+        row: Some(1),
+        ..Refusal::outside(15, 3, 19)
+    };
+    assert_eq!(dulgaverk::check(&cut, b, proof), Err(expected));
+    let mut other = a.clone();
+    other[3] = 1;
+    let expected = Refusal::outside(6, 1, 8);
+    assert_eq!(dulgaverk::check(&other, b, proof), Err(expected));
+    let page = page();
+    assert!(page.contains("15, file 3, place 19, row 1."));
+    assert!(page.contains("with 6, file 1, place 8,"));
+}
+
 /// The proof over the first stage's bundles with a fault inside two branches, and what is said of other faults in it.
 #[test]
 fn the_fault_inside_two_branches() {
     let page = page();
     let listings = listings();
-    let (a, b, proof) = (&listings[0], &listings[1], &listings[16]);
+    let (a, b, proof) = (&listings[0], &listings[1], &listings[20]);
     assert_eq!(proof.len(), 96);
     let expected = Refusal {
         row: Some(6),

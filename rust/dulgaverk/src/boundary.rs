@@ -20,6 +20,7 @@ pub struct ReadResult {
     pub answer: Answer,
     pub count: usize,
     pub k: u8,
+    pub edition: u8,
 }
 
 #[repr(C)]
@@ -41,7 +42,7 @@ const _: () = {
     assert!(offset_of!(Answer, place) == 8 && offset_of!(Answer, row) == 16);
     assert!(offset_of!(Answer, step) == 18 && offset_of!(Answer, branch) == 20);
     assert!(size_of::<ReadResult>() == 40 && offset_of!(ReadResult, count) == 24);
-    assert!(offset_of!(ReadResult, k) == 32);
+    assert!(offset_of!(ReadResult, k) == 32 && offset_of!(ReadResult, edition) == 33);
     assert!(size_of::<WriteResult>() == 32 && offset_of!(WriteResult, count) == 24);
     assert!(size_of::<Tested>() == 32 && offset_of!(Tested, holds) == 24);
 };
@@ -52,14 +53,15 @@ extern "C" {
         file_len: usize,
         kinds: *mut u8,
         kinds_len: usize,
-        numbers: *mut i16,
+        numbers: *mut i32,
         numbers_len: usize,
     ) -> ReadResult;
     pub fn dulgaverk_write(
+        edition: u8,
         k: u8,
         kinds: *const u8,
         kinds_len: usize,
-        numbers: *const i16,
+        numbers: *const i32,
         numbers_len: usize,
         out: *mut u8,
         out_len: usize,

@@ -6,9 +6,11 @@
 //! Nothing has to be tested before a call.
 
 mod boundary;
+mod edition;
 mod kind;
 mod refusal;
 
+pub use edition::Edition;
 pub use kind::Kind;
 pub use refusal::{Refusal, MEANINGS};
 
@@ -18,26 +20,28 @@ pub const CONSTANTS: usize = 16;
 pub const CONSTRAINTS: usize = 32;
 /// Most numbers of a bundle.
 pub const NUMBERS: usize = CONSTRAINTS * (CONSTANTS + 1);
-/// Most bytes that writing a bundle takes.
-pub const WRITTEN_BUNDLE: usize = 8 + CONSTRAINTS * 3 + NUMBERS * 2;
-/// Most bytes of a constraint's field.
-pub const CONSTRAINT_FIELD: usize = 3 + 2 * (CONSTANTS + 1);
+/// Most bytes that writing a bundle takes, in edition 2.
+pub const WRITTEN_BUNDLE: usize = 8 + CONSTRAINTS * 3 + NUMBERS * 4;
+/// Most bytes of a constraint's field, in edition 2.
+pub const CONSTRAINT_FIELD: usize = 3 + 4 * (CONSTANTS + 1);
 /// Most bytes of a proof or of a formula.
 pub const FORMULA: usize = 65_536;
 
-/// How much a bundle holds.
+/// How much a bundle holds, and of which edition it is.
 #[derive(Clone, Copy, PartialEq, Eq, Debug)]
 pub struct Counts {
     pub constraints: usize,
     pub constants: usize,
+    pub edition: Edition,
 }
 
 /// What a bundle holds: for each constraint its kind and K+1 numbers, the coefficients and d.
 #[derive(Clone, PartialEq, Eq, Debug)]
 pub struct Bundle {
+    pub edition: Edition,
     pub constants: usize,
     pub kinds: Vec<Kind>,
-    pub numbers: Vec<i16>,
+    pub numbers: Vec<i32>,
 }
 
 /// Accepted is 0, 0, 0 and no row, step or branch. The library gives nothing else with the number 0; if it did, that
@@ -64,13 +68,18 @@ fn accepted<T>(answer: boundary::Answer, value: T) -> Result<T, Refusal> {
 /// Reads a bundle.
 ///
 /// ```
-/// use dulgaverk::Kind;
+/// use dulgaverk::{Edition, Kind};
 /// // x - 2 ≤ 0 and 3x ≠ 0.
 /// let file = b"\x01\0\x01\x01\x02\0\x01\x01\x03\0\x04\0\x01\xFF\xFE\x05\0\x04\0\x03\0\0";
 /// let bundle = dulgaverk::read_bundle(file)?;
-/// assert_eq!(bundle.constants, 1);
+/// assert_eq!((bundle.edition, bundle.constants), (Edition::One, 1));
 /// assert_eq!(bundle.kinds, [Kind::Inequality, Kind::Disequality]);
 /// assert_eq!(bundle.numbers, [1, -2, 3, 0]);
+///
+/// // -x + 40,000 ≤ 0 in edition 2.
+/// let file = b"\x01\0\x01\x02\x02\0\x01\x01\x03\0\x08\xFF\xFF\xFF\xFF\0\0\x9C\x40";
+/// let bundle = dulgaverk::read_bundle(file)?;
+/// assert_eq!((bundle.edition, bundle.numbers), (Edition::Two, vec![-1, 40_000]));
 /// # Ok::<(), dulgaverk::Refusal>(())
 /// ```
 pub fn read_bundle(file: &[u8]) -> Result<Bundle, Refusal> {
@@ -87,6 +96,7 @@ pub fn read_bundle(file: &[u8]) -> Result<Bundle, Refusal> {
         .collect::<Result<Vec<Kind>, Refusal>>()?;
     numbers.truncate(counts.constraints * (counts.constants + 1));
     Ok(Bundle {
+        edition: counts.edition,
         constants: counts.constants,
         kinds,
         numbers,
@@ -108,7 +118,7 @@ pub fn read_bundle(file: &[u8]) -> Result<Bundle, Refusal> {
 pub fn read_bundle_into(
     file: &[u8],
     kinds: &mut [u8],
-    numbers: &mut [i16],
+    numbers: &mut [i32],
 ) -> Result<Counts, Refusal> {
     let r = unsafe {
         boundary::dulgaverk_read(
@@ -120,50 +130,69 @@ pub fn read_bundle_into(
             numbers.len(),
         )
     };
-    let counts = Counts {
+    accepted(r.answer, ())?;
+    // The library accepts no other edition; if it did, that would be a refusal.
+    let edition = Edition::numbered(r.edition).ok_or(Refusal::outside(5, 4, 0))?;
+    Ok(Counts {
         constraints: r.count,
         constants: usize::from(r.k),
-    };
-    accepted(r.answer, counts)
+        edition,
+    })
 }
 
-/// Writes a bundle of K constants from kinds and K+1 numbers for each constraint.
+/// Writes a bundle of an edition over K constants from kinds and K+1 numbers for each constraint.
 ///
 /// ```
-/// use dulgaverk::Kind;
-/// let file = dulgaverk::write_bundle(1, &[Kind::Equality], &[3, -1])?;
+/// use dulgaverk::{Edition, Kind};
+/// let file = dulgaverk::write_bundle(Edition::One, 1, &[Kind::Equality], &[3, -1])?;
 /// assert_eq!(file, b"\x01\0\x01\x01\x02\0\x01\x01\x04\0\x04\0\x03\xFF\xFF");
-/// let refusal = dulgaverk::write_bundle(1, &[Kind::Equality], &[3]).unwrap_err();
+/// let refusal = dulgaverk::write_bundle(Edition::One, 1, &[Kind::Equality], &[3]).unwrap_err();
 /// assert_eq!((refusal.number, refusal.file, refusal.place), (24, 4, 1));
+///
+/// // Two bytes cannot hold 40,000, four can.
+/// let refusal = dulgaverk::write_bundle(Edition::One, 1, &[Kind::Equality], &[3, 40_000]).unwrap_err();
+/// assert_eq!((refusal.number, refusal.file, refusal.place), (13, 4, 1));
+/// let file = dulgaverk::write_bundle(Edition::Two, 1, &[Kind::Equality], &[3, 40_000])?;
+/// assert_eq!(file, b"\x01\0\x01\x02\x02\0\x01\x01\x04\0\x08\0\0\0\x03\0\0\x9C\x40");
 /// # Ok::<(), dulgaverk::Refusal>(())
 /// ```
-pub fn write_bundle(k: u8, kinds: &[Kind], numbers: &[i16]) -> Result<Vec<u8>, Refusal> {
+pub fn write_bundle(
+    edition: Edition,
+    k: u8,
+    kinds: &[Kind],
+    numbers: &[i32],
+) -> Result<Vec<u8>, Refusal> {
     let mut out = vec![0; WRITTEN_BUNDLE];
     let kinds: Vec<u8> = kinds.iter().map(|kind| kind.number()).collect();
-    let written = write_bundle_into(k, &kinds, numbers, &mut out)?;
+    let written = write_bundle_into(edition.number(), k, &kinds, numbers, &mut out)?;
     out.truncate(written);
     Ok(out)
 }
 
-/// Writes a bundle from the numbers of kinds ([`Kind::number`]) into an output, and gives the number of bytes written.
+/// Writes a bundle from the numbers of an edition ([`Edition::number`]) and of kinds ([`Kind::number`]) into an output,
+/// and gives the number of bytes written.
 ///
 /// ```
 /// let mut out = [7; 16];
-/// let refusal = dulgaverk::write_bundle_into(1, &[3], &[3, -1], &mut out).unwrap_err();
+/// let refusal = dulgaverk::write_bundle_into(1, 1, &[3], &[3, -1], &mut out).unwrap_err();
 /// assert_eq!((refusal.number, refusal.file, refusal.place), (24, 4, 0));
-/// assert_eq!(dulgaverk::write_bundle_into(1, &[1], &[3, -1], &mut out), Ok(15));
+/// assert_eq!(dulgaverk::write_bundle_into(1, 1, &[1], &[3, -1], &mut out), Ok(15));
 /// assert_eq!(out, *b"\x01\0\x01\x01\x02\0\x01\x01\x04\0\x04\0\x03\xFF\xFF\x07");
-/// let refusal = dulgaverk::write_bundle_into(1, &[1], &[3, -1], &mut out[..14]).unwrap_err();
+/// let refusal = dulgaverk::write_bundle_into(1, 1, &[1], &[3, -1], &mut out[..14]).unwrap_err();
 /// assert_eq!((refusal.number, refusal.file, refusal.place), (21, 4, 15));
+/// let refusal = dulgaverk::write_bundle_into(3, 1, &[1], &[3, -1], &mut out).unwrap_err();
+/// assert_eq!((refusal.number, refusal.file, refusal.place), (5, 4, 0));
 /// ```
 pub fn write_bundle_into(
+    edition: u8,
     k: u8,
     kinds: &[u8],
-    numbers: &[i16],
+    numbers: &[i32],
     out: &mut [u8],
 ) -> Result<usize, Refusal> {
     let r = unsafe {
         boundary::dulgaverk_write(
+            edition,
             k,
             kinds.as_ptr(),
             kinds.len(),

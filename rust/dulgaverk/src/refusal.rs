@@ -6,12 +6,12 @@ use std::fmt;
 /// Why a call was refused.
 ///
 /// ```
-/// let refusal = dulgaverk::read_bundle(&[1, 0, 1, 2]).unwrap_err();
+/// let refusal = dulgaverk::read_bundle(&[1, 0, 1, 3]).unwrap_err();
 /// assert_eq!((refusal.number, refusal.file, refusal.place), (5, 1, 0));
-/// assert_eq!(refusal.meaning(), "the edition is not 1");
+/// assert_eq!(refusal.meaning(), "an edition that this kind of file does not have");
 /// assert_eq!(
 ///     refusal.to_string(),
-///     "refused 5 file 1 at 0: the edition is not 1 (A, or a bundle read alone)"
+///     "refused 5 file 1 at 0: an edition that this kind of file does not have (A, or a bundle read alone)"
 /// );
 ///
 /// // 2x - 1 ≤ 0 in A, nothing in B; strengthen line 0, then close line 0, which has a coefficient.
@@ -43,7 +43,7 @@ impl Refusal {
     /// A refusal outside every row and branch.
     ///
     /// ```
-    /// let refusal = dulgaverk::read_bundle(&[1, 0, 1, 2]).unwrap_err();
+    /// let refusal = dulgaverk::read_bundle(&[1, 0, 1, 3]).unwrap_err();
     /// assert_eq!(refusal, dulgaverk::Refusal::outside(5, 1, 0));
     /// ```
     pub const fn outside(number: u8, file: u8, place: usize) -> Refusal {
@@ -62,7 +62,7 @@ impl Refusal {
         MEANINGS
             .iter()
             .find(|(number, _)| *number == self.number)
-            .map_or("no refusal of this edition", |(_, meaning)| meaning)
+            .map_or("no refusal", |(_, meaning)| meaning)
     }
 
     /// Which file the refusal is about.
@@ -94,14 +94,14 @@ impl fmt::Display for Refusal {
 
 impl Error for Refusal {}
 
-/// Every refusal of edition 1, by number, and the one number that is kept free.
+/// Every refusal, by number, and the one number that is kept free.
 /// (include/dulgaverk.h and docs/FORMAT.md have the same words.)
 pub const MEANINGS: [(u8, &str); 24] = [
     (1, "a file is longer than its limit, or a formula would be"),
     (2, "bytes are no whole field, or a file ends too early"),
     (3, "a tag below 0x80 that this kind of file does not have"),
     (4, "a known tag where it may not stand"),
-    (5, "the edition is not 1"),
+    (5, "an edition that this kind of file does not have"),
     (6, "a field of the wrong length"),
     (7, "the number of constants, or of values, is not 1 to 16"),
     (8, "more than 32 constraints"),
@@ -112,10 +112,13 @@ pub const MEANINGS: [(u8, &str); 24] = [
         12,
         "a multiplier of 0, a stride below 2, or a rounding by 0 or more than 16",
     ),
-    (13, "a number of a new line is out of range"),
+    (
+        13,
+        "a number of a new line, or of a bundle, is out of range",
+    ),
     (14, "a claim that is not the new line"),
     (15, "a close or rounding whose condition is not met"),
-    (16, "a 129th line on a branch"),
+    (16, "a 129th line on a branch, or in edition 2 a 1,001st"),
     (
         17,
         "a 33rd open step, or in a formula a 601st level of and/or",

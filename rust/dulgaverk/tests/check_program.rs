@@ -8,6 +8,7 @@ use stages::build::{fill, header};
 use stages::limit;
 use stages::rng::Rng;
 use stages::table::Size;
+use stages::turn::turned_up;
 use stages::{stream, Case, Operation, CLASSES};
 use std::fs;
 use std::io::Write;
@@ -18,8 +19,9 @@ use std::thread;
 use std::time::Duration;
 
 /// The worked stages as folders under examples/, and the first line that is printed of each.
-const STAGES: [(&str, &str); 21] = [
+const STAGES: [(&str, &str); 33] = [
     ("stage-1", "accepted 31"),
+    ("stage-1-mixed", "accepted 31"),
     ("stage-10", "accepted 79"),
     ("stage-10-constants", "refused 7 file 1 at 4"),
     ("stage-10-constraints", "refused 8 file 1 at 1192"),
@@ -27,16 +29,27 @@ const STAGES: [(&str, &str); 21] = [
     ("stage-3", "accepted 19"),
     ("stage-4", "refused 15 file 3 at 17"),
     ("stage-5", "accepted 51"),
+    ("stage-5-mixed", "accepted 51"),
     ("stage-6", "accepted 19"),
     ("stage-6-exchanged", "accepted 19"),
     ("stage-7", "refused 20 file 3 at 8"),
     ("stage-8-edition", "refused 5 file 1 at 0"),
+    ("stage-8-edition-2", "refused 6 file 1 at 8"),
     ("stage-8-note", "accepted 31"),
     ("stage-8-tag", "refused 3 file 1 at 8"),
     ("stage-9", "accepted 19"),
     ("stage-9-again", "refused 13 file 3 at 14"),
+    ("stage-four-bytes", "accepted 19"),
+    ("stage-four-bytes-cut", "refused 15 file 3 at 17"),
+    ("stage-four-bytes-edition", "refused 6 file 1 at 8"),
+    ("stage-four-bytes-lowest", "refused 13 file 1 at 8"),
     ("stage-interlock", "accepted 33"),
     ("stage-interlock-exchanged", "accepted 33"),
+    ("stage-interlock-mixed", "accepted 33"),
+    ("stage-lines", "accepted 19"),
+    ("stage-lines-over", "refused 16 file 3 at 6994"),
+    ("stage-long", "accepted 19"),
+    ("stage-long-over", "refused 1 file 2 at 0"),
     ("stage-rounding-1", "accepted 51"),
     ("stage-rounding-2", "accepted 83"),
     ("stage-rounding-3", "accepted 171"),
@@ -192,11 +205,25 @@ fn files_that_are_not_there() {
 /// A file above its limit is refused with 1, and never cut to one that fits; one that is as long as its limit is read.
 #[test]
 fn files_at_their_limits() {
-    for (index, limit) in [4_096, 4_096, 65_536].into_iter().enumerate() {
+    let limits = [
+        (0, 1, 4_096),
+        (0, 2, 8_192),
+        (1, 1, 4_096),
+        (1, 2, 8_192),
+        (2, 1, 65_536),
+        (2, 2, 65_536),
+    ];
+    for (index, edition, limit) in limits {
         let run = |how: &str, change: &dyn Fn(&mut Vec<u8>)| {
             let mut files = stage_1();
-            change([&mut files.a, &mut files.b, &mut files.p][index]);
-            (files.answer(), files.folder(&format!("{index}-{how}")))
+            let all = [&mut files.a, &mut files.b, &mut files.p];
+            let file = &mut *all[index];
+            if edition == 2 {
+                *file = turned_up(file);
+            }
+            change(file);
+            let name = format!("{index}-{edition}-{how}");
+            (files.answer(), files.folder(&name))
         };
         let refused = format!("refused 1 file {} at 0\n", index + 1);
         let (answer, folder) = run("longest", &|file| fill(file, limit));

@@ -143,8 +143,94 @@ fn stage_8() {
     assert_eq!(of(stage_1(&field(0x80, b"note"), 2)), Ok(formula_1()));
     assert_eq!(of(stage_1(&field(0x06, b"note"), 2)), refused(3, 3, 8));
     let [mut a, b, proof] = stage_1(&[], 2);
-    a[3] = 2;
+    a[3] = 3;
     assert_eq!(check(&a, &b, &proof), refused(5, 1, 0));
+    // Edition 2 over numbers of two bytes.
+    a[3] = 2;
+    assert_eq!(check(&a, &b, &proof), refused(6, 1, 8));
+}
+
+/// The header and the given fields, in edition 2.
+fn second(k: u8, fields: &[Bytes]) -> Bytes {
+    let mut bytes = file(k, fields);
+    bytes[3] = 2;
+    bytes
+}
+
+/// Stage 1 in every mix of editions: the same formula, in edition 1.
+#[test]
+fn stage_1_in_every_mix_of_editions() {
+    let first = stage_1(&[], 2);
+    let rows = [field(0x11, &[0, 1, 0, 0, 0, 1]), field(0x15, &[0, 2, 0, 2])];
+    let other = [
+        second(3, &[field(0x04, &longs(&[-2, 1, 0, 0]))]),
+        second(3, &[field(0x04, &longs(&[0, -1, 2, 1]))]),
+        second(3, &rows),
+    ];
+    for mix in 0..8 {
+        let files = [0, 1, 2].map(|index| {
+            if mix >> index & 1 == 1 {
+                other[index].clone()
+            } else {
+                first[index].clone()
+            }
+        });
+        assert_eq!(of(files), Ok(formula_1()));
+    }
+}
+
+/// A register at least 40,000 in A and at most 30,000 in B, in edition 2; the same cut to two bytes; and the same bytes
+/// under edition 1.
+#[test]
+fn a_stage_of_four_byte_numbers() {
+    let bundle = |numbers: &[i32]| second(1, &[field(0x03, &longs(numbers))]);
+    let (mut a, b) = (bundle(&[-1, 40_000]), bundle(&[1, -30_000]));
+    let rows = [field(0x10, &[0, 0, 0, 1, 0, 1, 0, 1]), field(0x14, &[0, 2])];
+    let proof = second(1, &rows);
+    let expected = file(1, &[field(0x33, &longs(&[-1, 40_000]))]);
+    assert_eq!(check(&a, &b, &proof), Ok(expected));
+    let cut = file(1, &[at_most(&[-1, 40_000_i32 as i16])]);
+    assert_eq!(check(&cut, &b, &proof), refused_row(15, 19, 1, None));
+    a[3] = 1;
+    assert_eq!(check(&a, &b, &proof), refused(6, 1, 8));
+}
+
+/// 1,000 lines on a branch of edition 2, and one more.
+#[test]
+fn lines_of_edition_2() {
+    let a = file(1, &[equals(&[0, 1])]);
+    let b = file(1, &[]);
+    let scale = field(0x12, &[0, 0, 0, 1]);
+    let mut rows = vec![scale.clone(); 999];
+    rows.push(field(0x14, &[0x03, 0xE7]));
+    let expected = file(1, &[field(0x34, &longs(&[0, 1]))]);
+    assert_eq!(check(&a, &b, &second(1, &rows)), Ok(expected));
+    rows[999] = scale;
+    let place = 8 + 999 * 7;
+    let expected = refused_row(16, place, 999, None);
+    assert_eq!(check(&a, &b, &second(1, &rows)), expected);
+}
+
+/// -2,147,483,648 in a bundle, and the lengths of bundles.
+#[test]
+fn bundles_of_edition_2() {
+    let b = file(1, &[]);
+    let lowest = second(1, &[field(0x03, &longs(&[0, i32::MIN]))]);
+    assert_eq!(check(&lowest, &b, &b), refused(13, 1, 8));
+    assert_eq!(check(&b, &lowest, &b), refused(13, 2, 8));
+    let noted = |start: Bytes, length: usize| {
+        let contents = vec![7; length - start.len() - 3];
+        [start, field(0x80, &contents)].concat()
+    };
+    for (edition, most) in [(1, 4_096), (2, 8_192)] {
+        let mut start = b.clone();
+        start[3] = edition;
+        let full = noted(start.clone(), most);
+        assert_eq!(check(&full, &full, &b), refused(20, 3, 8));
+        let over = noted(start, most + 1);
+        assert_eq!(check(&over, &b, &b), refused(1, 1, 0));
+        assert_eq!(check(&b, &over, &b), refused(1, 2, 0));
+    }
 }
 
 /// -32,768 times 65,535 stands, with its claim; twice that does not.

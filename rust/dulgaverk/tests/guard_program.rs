@@ -29,6 +29,19 @@ fn true_and_false() {
     run("false", &[1, -3, 0]).prints("false\n");
 }
 
+/// Formulas are of edition 1, and nothing else.
+#[test]
+fn other_editions() {
+    for edition in [0, 2, 3, 255] {
+        let mut formula = FORMULA.to_vec();
+        formula[3] = edition;
+        folder(&format!("edition {edition}"))
+            .with("f", &formula)
+            .with("v", &values(&[1, 4, -7]))
+            .prints("refused 5 file 3 at 0\n");
+    }
+}
+
 #[test]
 fn values_out_of_range_or_number() {
     let run = |name: &str, v: &[u8]| folder(name).with("f", FORMULA).with("v", v);

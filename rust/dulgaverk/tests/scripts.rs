@@ -87,6 +87,8 @@ fn exit_status() {
         (vec![], 2),
         (vec!["examples/guard-1"], 0),
         (vec!["examples/guard-1-odd"], 1),
+        (vec!["examples/guard-four-bytes"], 0),
+        (vec!["examples/guard-edition-2"], 1),
         (vec!["examples/none"], 2),
         (vec!["examples/guard-1", "x"], 2),
     ] {
@@ -111,7 +113,14 @@ fn formula_file() {
         assert_ne!(status(&run("check", &arguments)), 0);
         assert_eq!(fs::read(&path).expect("the file"), b"before");
     }
-    for stage in ["stage-1", "stage-5", "stage-6", "stage-9", "stage-10"] {
+    for stage in [
+        "stage-1",
+        "stage-5",
+        "stage-6",
+        "stage-9",
+        "stage-10",
+        "stage-four-bytes",
+    ] {
         let folder = format!("examples/{stage}");
         let output = run("check", &[&folder, "-o", file]);
         assert_eq!(status(&output), 0);
@@ -139,5 +148,17 @@ fn example_guards() {
             seen += 1;
         }
     }
-    assert_eq!(seen, 2);
+    assert_eq!(seen, 4);
+}
+
+/// The stage of four-byte numbers from end to end: the formula that ./check writes is the one that ./guard tests.
+#[test]
+fn four_byte_stage_and_its_guard() {
+    let path = own("four-bytes");
+    let file = path.to_str().expect("a path");
+    let output = run("check", &["examples/stage-four-bytes", "-o", file]);
+    assert_eq!(status(&output), 0);
+    let guard = fs::read(root().join("examples/guard-four-bytes/f")).expect("a file");
+    assert_eq!(fs::read(&path).expect("the file"), guard);
+    let _ = fs::remove_file(&path);
 }

@@ -1,10 +1,14 @@
 //! The stack that a call takes is what include/dulgaverk.h says: each call is made on a thread that has little more.
 
-use stages::build::{and, close, comparison, constraint, file, fill, rounding, strengthen};
+use dulgaverk::Edition;
+use stages::build::{and, close, comparison, constraint, file, fill, rounding, scale, strengthen};
+use stages::turn::turned_up;
 use std::thread;
 
-/// What the header says of a check, of a test, and of the other calls.
+/// What the header says of a check whose proof is of edition 1, of one whose proof is of edition 2, of a test, and of the
+/// other calls.
 const CHECK: usize = 152 * 1024;
+const CHECK_2: usize = 272 * 1024;
 const TEST: usize = 64 * 1024;
 const OTHER: usize = 12 * 1024;
 
@@ -36,8 +40,25 @@ fn the_deepest_check() {
     assert_eq!(written.map(|bytes| bytes.len()), Ok(8 + 32 * 6 + 65 * 71));
 }
 
+/// The same with 960 lines on the deepest branch, the most that 1,024 rows leave for it, in edition 2.
+#[test]
+fn the_deepest_check_of_edition_2() {
+    let mut numbers = [0i16; 17];
+    numbers[16] = 1;
+    let a = file(16, &[constraint(false, &numbers)]);
+    let b = file(16, &[]);
+    let mut rows = vec![strengthen(0); 32];
+    rows.extend(vec![scale(0, 1); 927]);
+    rows.extend(vec![close(0); 65]);
+    assert_eq!(rows.len(), 1_024);
+    let mut proof = turned_up(&file(16, &rows));
+    fill(&mut proof, 65_536);
+    let written = on_stack(CHECK_2, move || dulgaverk::check(&a, &b, &proof));
+    assert_eq!(written.map(|bytes| bytes.len()), Ok(8 + 32 * 6 + 65 * 71));
+}
+
 /// 32 roundings by 16, one inside the other: in the first branch of the one before, and in the last. Over 12 constants the
-/// formula has 61,503 bytes, over 13 it would be too long.
+/// formula has 61,503 bytes, over 13 it would be too long. In both editions.
 #[test]
 fn the_deepest_roundings() {
     for branch in [0, 16] {
@@ -49,15 +70,18 @@ fn the_deepest_roundings() {
             let step = [vec![rounding(0, 17, 16)], vec![close(0); branch]].concat();
             let mut rows = vec![step; 32].concat();
             rows.extend(vec![close(0); 1 + 32 * (16 - branch)]);
-            let mut proof = file(constants as u8, &rows);
-            fill(&mut proof, 65_536);
-            let written = on_stack(CHECK, move || dulgaverk::check(&a, &b, &proof));
-            let expected = if needed > 65_536 {
-                Err(dulgaverk::Refusal::outside(1, 4, needed))
-            } else {
-                Ok(needed)
-            };
-            assert_eq!(written.map(|bytes| bytes.len()), expected);
+            let proof = file(constants as u8, &rows);
+            for (stack, mut proof) in [(CHECK_2, turned_up(&proof)), (CHECK, proof)] {
+                fill(&mut proof, 65_536);
+                let (a, b) = (a.clone(), b.clone());
+                let written = on_stack(stack, move || dulgaverk::check(&a, &b, &proof));
+                let expected = if needed > 65_536 {
+                    Err(dulgaverk::Refusal::outside(1, 4, needed))
+                } else {
+                    Ok(needed)
+                };
+                assert_eq!(written.map(|bytes| bytes.len()), expected);
+            }
         }
     }
 }
@@ -79,10 +103,10 @@ fn the_deepest_formula() {
 
 #[test]
 fn bundles() {
-    let numbers: Vec<i16> = (0..32 * 17).collect();
+    let numbers: Vec<i32> = (0..32 * 17).map(|number| 65_537 * number).collect();
     let kinds = vec![dulgaverk::Kind::Disequality; 32];
     let same = on_stack(OTHER, move || {
-        let bytes = dulgaverk::write_bundle(16, &kinds, &numbers)?;
+        let bytes = dulgaverk::write_bundle(Edition::Two, 16, &kinds, &numbers)?;
         let read = dulgaverk::read_bundle(&bytes)?;
         dulgaverk::show(&bytes, &bytes, 63)?;
         Ok::<bool, dulgaverk::Refusal>((read.kinds, read.numbers) == (kinds, numbers))

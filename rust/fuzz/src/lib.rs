@@ -40,16 +40,18 @@ pub fn decode(bytes: &[u8]) -> Case {
             file: reader.rest(),
         },
         1 => {
+            let edition = reader.byte();
             let k = reader.byte();
             let out = reader.short();
             let count = usize::from(reader.byte());
             let kinds = reader.bytes(count).to_vec();
             let numbers = reader
                 .rest()
-                .chunks_exact(2)
-                .map(|pair| i16::from_be_bytes([pair[0], pair[1]]))
+                .chunks_exact(4)
+                .map(|four| i32::from_be_bytes([four[0], four[1], four[2], four[3]]))
                 .collect();
             Case::Write {
+                edition,
                 k,
                 kinds,
                 numbers,
@@ -101,6 +103,7 @@ pub fn encode(case: &Case) -> Vec<u8> {
             numbers,
         } => [&[0, byte(*kinds)], &short(*numbers)[..], file].concat(),
         Case::Write {
+            edition,
             k,
             kinds,
             numbers,
@@ -108,7 +111,14 @@ pub fn encode(case: &Case) -> Vec<u8> {
         } => {
             let numbers: Vec<u8> = numbers.iter().flat_map(|n| n.to_be_bytes()).collect();
             let count = [byte(kinds.len())];
-            [&[1, *k], &short(*out)[..], &count, kinds, &numbers].concat()
+            [
+                &[1, *edition, *k],
+                &short(*out)[..],
+                &count,
+                kinds,
+                &numbers,
+            ]
+            .concat()
         }
         Case::Show { a, b, line } => [&[2][..], &short(*line), &short(a.len()), a, b].concat(),
         Case::Test { formula, values } => {

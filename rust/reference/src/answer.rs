@@ -85,7 +85,7 @@ pub fn meaning(number: u8) -> &'static str {
         NOT_WHOLE => "a field runs past the end of the file, or the file ends unfinished",
         UNKNOWN_TAG => "a tag below 0x80 that this kind of file does not have",
         OUT_OF_PLACE => "a known tag out of place",
-        WRONG_EDITION => "the edition is not 1",
+        WRONG_EDITION => "an edition that this kind of file does not have",
         WRONG_LENGTH => "a field of the wrong length",
         WRONG_K => "the number of constants or values is outside 1 to 16",
         TOO_MANY_CONSTRAINTS => "a 33rd constraint",
@@ -95,10 +95,10 @@ pub fn meaning(number: u8) -> &'static str {
         WRONG_MULTIPLIER => {
             "a multiplier of 0, a stride below 2, or a rounding by 0 or more than 16"
         }
-        OUT_OF_RANGE => "a number of a new line is out of range",
+        OUT_OF_RANGE => "a number of a new line, or of a bundle, is out of range",
         CLAIM_DIFFERS => "a claim that differs from the new line",
         NOT_MET => "a close or rounding whose condition is not met",
-        TOO_MANY_LINES => "a 129th line on a branch",
+        TOO_MANY_LINES => "a 129th line on a branch, or in edition 2 a 1,001st",
         TOO_DEEP => "a 33rd open step, or a 601st level of and/or",
         TOO_MANY_ROWS => "a 1,025th row",
         AFTER_THE_END => "a known field after the root is closed",
@@ -107,6 +107,6 @@ pub fn meaning(number: u8) -> &'static str {
         NOT_GIVEN => "no longer given; its number is not used again",
         VALUE_OUT_OF_RANGE => "a value outside -1,000,000 to 1,000,000",
         WRONG_LIST => "a kind that is not 0, 1 or 2, or a wrong count of numbers",
-        _ => "no number of this edition",
+        _ => "no refusal",
     }
 }

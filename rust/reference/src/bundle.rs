@@ -1,8 +1,11 @@
 //! Bundles: reading one into lists, writing one from lists.
 
 use crate::answer::*;
-use crate::field::{signed, Fields, Unfinished};
-use crate::header::{header_bytes, Header, Step, TAG_EDITION};
+use crate::edition::Edition;
+use crate::field::{signed, signed_long, Fields, Unfinished};
+use crate::header::{
+    header_bytes, read_constants, read_edition, HeaderFault, TAG_CONSTANTS, TAG_EDITION,
+};
 use crate::limits;
 
 /// What a constraint or a line says of its form t, by its number in lists.
@@ -22,12 +25,13 @@ const TAG_DISEQUALITY: u8 = 0x05;
 /// Kinds are below this.
 const KINDS: u8 = 3;
 
-/// What reading a bundle gives; count and K are 0 on refusal.
+/// What reading a bundle gives; count, K and edition are 0 on refusal.
 #[derive(Clone, Copy, PartialEq, Eq, Debug)]
 pub struct ReadResult {
     pub answer: Answer,
     pub count: usize,
     pub k: usize,
+    pub edition: u8,
 }
 
 /// What writing gives; the bytes written are 0 on refusal.
@@ -53,6 +57,7 @@ impl WriteResult {
 /// A bundle that has been found right: where its constraints stand.
 pub(crate) struct Bundle<'a> {
     file: &'a [u8],
+    edition: Edition,
     pub k: usize,
     count: usize,
     starts: [u16; limits::CONSTRAINTS],
@@ -61,25 +66,56 @@ pub(crate) struct Bundle<'a> {
 /// One constraint of a bundle.
 pub(crate) struct Constraint<'a> {
     pub kind: Kind,
-    /// K coefficients and d, two bytes each.
+    edition: Edition,
+    /// K coefficients and d, each as wide as the edition says.
     numbers: &'a [u8],
 }
 
-impl<'a> Constraint<'a> {
-    /// The K coefficients, then d.
-    pub fn numbers(&self) -> impl Iterator<Item = i16> + 'a {
-        self.numbers.chunks_exact(2).map(signed)
+// In each of these two loops, so that each has a width that the compiler knows.
+impl Constraint<'_> {
+    /// Appends the K coefficients, then d.
+    #[inline]
+    pub fn push_to(&self, numbers: &mut Vec<i32>) {
+        match self.edition {
+            Edition::One => {
+                let shorts = self.numbers.chunks_exact(2);
+                numbers.extend(shorts.map(|bytes| i32::from(signed(bytes))));
+            }
+            Edition::Two => numbers.extend(self.numbers.chunks_exact(4).map(signed_long)),
+        }
+    }
+
+    /// Puts the K coefficients, then d, into a row of as many.
+    fn store(&self, row: &mut [i32]) {
+        match self.edition {
+            Edition::One => {
+                for (slot, bytes) in row.iter_mut().zip(self.numbers.chunks_exact(2)) {
+                    *slot = i32::from(signed(bytes));
+                }
+            }
+            Edition::Two => {
+                for (slot, bytes) in row.iter_mut().zip(self.numbers.chunks_exact(4)) {
+                    *slot = signed_long(bytes);
+                }
+            }
+        }
     }
 }
 
 impl<'a> Bundle<'a> {
-    /// Reads a bundle whose length has been tested. `wanted` is A's K when B
-    /// is read.
+    /// Reads a bundle that is not above the longest of any edition. `wanted` is
+    /// A's K when B is read.
     pub fn read(file: &'a [u8], name: u8, wanted: Option<usize>) -> Result<Bundle<'a>, Answer> {
-        let mut header = Header::Start;
+        let header_fault =
+            |HeaderFault(number, place): HeaderFault| Answer::refused(number, name, place);
+        let mut fields = Fields::of(file);
+        let edition = read_edition(&mut fields, is_known, Edition::NEWEST).map_err(header_fault)?;
+        // Only now is it known how long the file may be.
+        length_within(file, edition.bundle_bytes(), name)?;
+        let k = read_constants(&mut fields, is_known, wanted).map_err(header_fault)?;
+        let length = edition.number_bytes() * (k + 1);
         let mut count = 0;
         let mut starts = [0; limits::CONSTRAINTS];
-        let mut fields = Fields::of(file);
         loop {
             let field = match fields.take() {
                 Ok(Some(field)) => field,
@@ -87,34 +123,31 @@ impl<'a> Bundle<'a> {
                 Err(Unfinished(place)) => return Err(Answer::refused(NOT_WHOLE, name, place)),
             };
             let refuse = |number| Err(Answer::refused(number, name, field.place));
-            if !matches!(field.tag, TAG_EDITION..=TAG_DISEQUALITY) {
-                return refuse(UNKNOWN_TAG);
+            match field.tag {
+                TAG_INEQUALITY..=TAG_DISEQUALITY => {}
+                TAG_EDITION | TAG_CONSTANTS => return refuse(OUT_OF_PLACE),
+                _ => return refuse(UNKNOWN_TAG),
             }
-            match header.take(&field, wanted) {
-                Err(number) => return refuse(number),
-                Ok(Step::Header(next)) => header = next,
-                Ok(Step::Body(k)) => {
-                    if field.contents.len() != 2 * (k + 1) {
-                        return refuse(WRONG_LENGTH);
-                    }
-                    if count == limits::CONSTRAINTS {
-                        return refuse(TOO_MANY_CONSTRAINTS);
-                    }
-                    // Below 4,096, so two bytes hold it.
-                    starts[count] = field.place as u16;
-                    count += 1;
-                }
+            if field.contents.len() != length {
+                return refuse(WRONG_LENGTH);
             }
+            if count == limits::CONSTRAINTS {
+                return refuse(TOO_MANY_CONSTRAINTS);
+            }
+            if edition == Edition::Two && has_lowest(field.contents) {
+                return refuse(OUT_OF_RANGE);
+            }
+            // Below 8,192, so two bytes hold it.
+            starts[count] = field.place as u16;
+            count += 1;
         }
-        match header {
-            Header::Complete(k) => Ok(Bundle {
-                file,
-                k,
-                count,
-                starts,
-            }),
-            _ => Err(Answer::refused(NOT_WHOLE, name, file.len())),
-        }
+        Ok(Bundle {
+            file,
+            edition,
+            k,
+            count,
+            starts,
+        })
     }
 
     pub fn count(&self) -> usize {
@@ -124,7 +157,8 @@ impl<'a> Bundle<'a> {
     /// The whole field of a constraint; none for a number not below the count.
     pub fn field(&self, index: usize) -> Option<&'a [u8]> {
         let start = usize::from(*self.starts[..self.count].get(index)?);
-        Some(&self.file[start..start + 3 + 2 * (self.k + 1)])
+        let length = 3 + self.edition.number_bytes() * (self.k + 1);
+        Some(&self.file[start..start + length])
     }
 
     /// The constraints in file order.
@@ -137,9 +171,22 @@ impl<'a> Bundle<'a> {
                     1 => Kind::Equality,
                     _ => Kind::Disequality,
                 },
+                edition: self.edition,
                 numbers: &field[3..],
             })
     }
+}
+
+/// Whether bundles have the tag.
+fn is_known(tag: u8) -> bool {
+    matches!(tag, TAG_EDITION..=TAG_DISEQUALITY)
+}
+
+/// Whether one of these four-byte numbers is -2^31, which no line may hold.
+fn has_lowest(numbers: &[u8]) -> bool {
+    numbers
+        .chunks_exact(4)
+        .any(|bytes| signed_long(bytes) == i32::MIN)
 }
 
 /// Refuses a file above its limit.
@@ -152,17 +199,19 @@ pub(crate) fn length_within(file: &[u8], limit: usize, name: u8) -> Result<(), A
 
 /// Reads a bundle into kinds (0 inequality, 1 equality, 2 disequality) and
 /// numbers (for each constraint its K coefficients, then d).
-pub fn read_bundle(file: &[u8], kinds: &mut [u8], numbers: &mut [i16]) -> ReadResult {
+pub fn read_bundle(file: &[u8], kinds: &mut [u8], numbers: &mut [i32]) -> ReadResult {
     match read_into(file, kinds, numbers) {
         Ok(bundle) => ReadResult {
             answer: Answer::ACCEPTED,
             count: bundle.count,
             k: bundle.k,
+            edition: bundle.edition.number(),
         },
         Err(answer) => ReadResult {
             answer,
             count: 0,
             k: 0,
+            edition: 0,
         },
     }
 }
@@ -170,7 +219,7 @@ pub fn read_bundle(file: &[u8], kinds: &mut [u8], numbers: &mut [i16]) -> ReadRe
 fn read_into<'a>(
     file: &'a [u8],
     kinds: &mut [u8],
-    numbers: &mut [i16],
+    numbers: &mut [i32],
 ) -> Result<Bundle<'a>, Answer> {
     length_within(file, limits::BUNDLE_BYTES, FILE_A)?;
     let bundle = Bundle::read(file, FILE_A, None)?;
@@ -181,22 +230,33 @@ fn read_into<'a>(
     let rows = kinds.iter_mut().zip(numbers.chunks_exact_mut(width));
     for (constraint, (kind, row)) in bundle.constraints().zip(rows) {
         *kind = constraint.kind as u8;
-        for (slot, number) in row.iter_mut().zip(constraint.numbers()) {
-            *slot = number;
-        }
+        constraint.store(row);
     }
     Ok(bundle)
 }
 
-/// Writes a bundle from K, kinds and numbers.
-pub fn write_bundle(k: u8, kinds: &[u8], numbers: &[i16], out: &mut [u8]) -> WriteResult {
-    match write_into(k, kinds, numbers, out) {
+/// Writes a bundle of an edition from K, kinds and numbers.
+pub fn write_bundle(
+    edition: u8,
+    k: u8,
+    kinds: &[u8],
+    numbers: &[i32],
+    out: &mut [u8],
+) -> WriteResult {
+    match write_into(edition, k, kinds, numbers, out) {
         Ok(written) => WriteResult::accepted(written),
         Err((number, place)) => WriteResult::refused(Answer::refused(number, FILE_OUTPUT, place)),
     }
 }
 
-fn write_into(k: u8, kinds: &[u8], numbers: &[i16], out: &mut [u8]) -> Result<usize, (u8, usize)> {
+fn write_into(
+    edition: u8,
+    k: u8,
+    kinds: &[u8],
+    numbers: &[i32],
+    out: &mut [u8],
+) -> Result<usize, (u8, usize)> {
+    let edition = Edition::numbered(edition).ok_or((WRONG_EDITION, 0))?;
     let width = usize::from(k) + 1;
     if k == 0 || usize::from(k) > limits::CONSTANTS {
         return Err((WRONG_K, 0));
@@ -210,24 +270,42 @@ fn write_into(k: u8, kinds: &[u8], numbers: &[i16], out: &mut [u8]) -> Result<us
     if numbers.len() != kinds.len() * width {
         return Err((WRONG_LIST, kinds.len()));
     }
-    let header = header_bytes(k);
-    let field_bytes = 3 + 2 * width;
-    // At most 8 + 32 * 37.
-    let needed = header.len() + kinds.len() * field_bytes;
+    if let Some(index) = edition.first_outside(numbers) {
+        return Err((OUT_OF_RANGE, index));
+    }
+    let header = header_bytes(edition, k);
+    let length = edition.number_bytes() * width;
+    // At most 8 + 32 * 71.
+    let needed = header.len() + kinds.len() * (3 + length);
     if out.len() < needed {
         return Err((OUTPUT_TOO_SHORT, needed));
     }
     let (start, rest) = out.split_at_mut(header.len());
     start.copy_from_slice(&header);
-    let fields = rest.chunks_exact_mut(field_bytes);
+    let fields = rest.chunks_exact_mut(3 + length);
     for ((&kind, row), field) in kinds.iter().zip(numbers.chunks_exact(width)).zip(fields) {
-        // The length is at most 34, so its high byte is 0.
+        // The length is at most 68, so its high byte is 0.
         field[0] = TAG_INEQUALITY + kind;
         field[1] = 0;
-        field[2] = (2 * width) as u8;
-        for (slot, number) in field[3..].chunks_exact_mut(2).zip(row) {
-            slot.copy_from_slice(&number.to_be_bytes());
-        }
+        field[2] = length as u8;
+        put_numbers(edition, row, &mut field[3..]);
     }
     Ok(needed)
+}
+
+/// Writes numbers that the edition can hold.
+fn put_numbers(edition: Edition, row: &[i32], contents: &mut [u8]) {
+    match edition {
+        // Two's complement: the lower two bytes are the number in two bytes.
+        Edition::One => {
+            for (slot, number) in contents.chunks_exact_mut(2).zip(row) {
+                slot.copy_from_slice(&number.to_be_bytes()[2..]);
+            }
+        }
+        Edition::Two => {
+            for (slot, number) in contents.chunks_exact_mut(4).zip(row) {
+                slot.copy_from_slice(&number.to_be_bytes());
+            }
+        }
+    }
 }

@@ -2,9 +2,12 @@
 
 use crate::answer::*;
 use crate::bundle::{length_within, Bundle, Kind, WriteResult};
-use crate::field::{signed, unsigned, Field, Fields, Unfinished};
+use crate::edition::Edition;
+use crate::field::{unsigned, Field, Fields, Unfinished};
 use crate::formula::{push_comparison, push_junction, push_stride, stride_bytes, TAG_AND, TAG_OR};
-use crate::header::{header_bytes, Header, Step, TAG_CONSTANTS, TAG_EDITION};
+use crate::header::{
+    header_bytes, read_constants, read_edition, HeaderFault, TAG_CONSTANTS, TAG_EDITION,
+};
 use crate::limits;
 use crate::line::{Lines, OutOfRange};
 
@@ -45,51 +48,31 @@ fn interpolant(a: &[u8], b: &[u8], proof: &[u8]) -> Result<Vec<u8>, Answer> {
     length_within(proof, limits::PROOF_BYTES, FILE_PROOF)?;
     let a = Bundle::read(a, FILE_A, None)?;
     let b = Bundle::read(b, FILE_B, Some(a.k))?;
-    let mut header = Header::Start;
-    let mut table = Table::over(&a, &b, proof.len());
+    let header_fault =
+        |HeaderFault(number, place): HeaderFault| Answer::refused(number, FILE_PROOF, place);
     let mut fields = Fields::of(proof);
+    let edition = read_edition(&mut fields, is_known, Edition::NEWEST).map_err(header_fault)?;
+    read_constants(&mut fields, is_known, Some(a.k)).map_err(header_fault)?;
+    let mut table = Table::over(&a, &b, edition, proof.len());
     loop {
         let field = match fields.take() {
             Ok(Some(field)) => field,
             Ok(None) => break,
             Err(Unfinished(place)) => return Err(table.refuse(Fault::of(NOT_WHOLE), place)),
         };
-        let refuse = |table: &Table, number| Err(table.refuse(Fault::of(number), field.place));
-        let length = match field.tag {
-            TAG_EDITION | TAG_CONSTANTS => 1,
-            COMBINE => 6,
-            REDUCE => 4,
-            SCALE => 3,
-            STRENGTHEN => 1,
-            CLOSE_BY_NUMBER => 1,
-            CLOSE_BY_STRIDE => 3,
-            ROUND => 5,
-            SPLIT => 1,
-            CLAIM => 2 * 4 * (a.k + 1),
-            _ => return refuse(&table, UNKNOWN_TAG),
-        };
-        if table.root_closed {
-            return refuse(&table, AFTER_THE_END);
-        }
-        match header.take(&field, Some(a.k)) {
-            Err(number) => return refuse(&table, number),
-            Ok(Step::Header(next)) => {
-                header = next;
-                continue;
-            }
-            Ok(Step::Body(_)) => {}
-        }
-        if let Err(fault) = table.take(&field, length) {
+        if let Err(fault) = table.take(&field) {
             return Err(table.refuse(fault, field.place));
         }
-    }
-    if !matches!(header, Header::Complete(_)) {
-        return Err(table.refuse(Fault::of(NOT_WHOLE), proof.len()));
     }
     if !table.root_closed {
         return Err(table.refuse(Fault::of(STILL_OPEN), proof.len()));
     }
     Ok(table.formula)
+}
+
+/// Whether proofs have the tag.
+fn is_known(tag: u8) -> bool {
+    matches!(tag, TAG_EDITION | TAG_CONSTANTS | COMBINE..=SPLIT | CLAIM)
 }
 
 /// The number of a refusal, and the row at fault where it is one.
@@ -102,6 +85,36 @@ impl Fault {
     /// A refusal that is no row's own.
     fn of(number: u8) -> Fault {
         Fault { number, row: NONE }
+    }
+}
+
+/// The parameters of a row of the right length, one after the other.
+struct Parameters<'a> {
+    /// The proof's.
+    edition: Edition,
+    rest: &'a [u8],
+}
+
+impl Parameters<'_> {
+    /// A line number.
+    #[inline]
+    fn line(&mut self) -> u16 {
+        match self.edition {
+            Edition::One => {
+                let number = u16::from(self.rest[0]);
+                self.rest = &self.rest[1..];
+                number
+            }
+            Edition::Two => self.number(),
+        }
+    }
+
+    /// A multiplier, a stride or an amount: two bytes in both editions.
+    #[inline]
+    fn number(&mut self) -> u16 {
+        let number = unsigned(self.rest);
+        self.rest = &self.rest[2..];
+        number
     }
 }
 
@@ -137,6 +150,10 @@ struct Open {
 
 /// The proof table as far as it has been read.
 struct Table {
+    /// The proof's own, by which line numbers are read.
+    edition: Edition,
+    /// The bytes of a claim.
+    claim_bytes: usize,
     lines: Lines,
     /// The steps around the current branch, outermost first.
     open: Vec<Open>,
@@ -157,17 +174,20 @@ impl Table {
     /// is enough: a row has at least 4 bytes, makes one line at most (a step
     /// is counted once for its branch), and adds at most 71 bytes to the
     /// formula, or 75 if it has 6. Only roundings may ask for more.
-    fn over(a: &Bundle, b: &Bundle, proof: usize) -> Table {
+    fn over(a: &Bundle, b: &Bundle, edition: Edition, proof: usize) -> Table {
         let mut formula = Vec::with_capacity((8 + 18 * proof).min(limits::FORMULA_BYTES));
-        // K is at most 16, so one byte holds it.
-        formula.extend_from_slice(&header_bytes(a.k as u8));
+        // K is at most 16, so one byte holds it. Formulas are of the first edition.
+        formula.extend_from_slice(&header_bytes(Edition::One, a.k as u8));
+        let lines = Lines::of(a, b, edition.lines(), proof / 4);
         Table {
-            lines: Lines::of(a, b, proof / 4),
+            edition,
+            claim_bytes: 2 * 4 * (a.k + 1),
+            in_b: lines.occurring(),
+            lines,
             open: Vec::new(),
             rows: 0,
             claim_in_place: false,
             root_closed: false,
-            in_b: occurring(b),
             formula,
         }
     }
@@ -187,11 +207,26 @@ impl Table {
         }
     }
 
-    /// Takes a row or a claim, given the length that its tag asks for.
-    fn take(&mut self, field: &Field, length: usize) -> Result<(), Fault> {
-        if field.tag == CLAIM && !self.claim_in_place {
-            return Err(Fault::of(OUT_OF_PLACE));
+    /// Takes a field behind the header.
+    fn take(&mut self, field: &Field) -> Result<(), Fault> {
+        let line = self.edition.line_bytes();
+        // Lines, then multipliers, stride and amount of two bytes each.
+        let length = match field.tag {
+            COMBINE => Some(2 * line + 4),
+            REDUCE => Some(2 * line + 2),
+            SCALE | CLOSE_BY_STRIDE => Some(line + 2),
+            STRENGTHEN | CLOSE_BY_NUMBER | SPLIT => Some(line),
+            ROUND => Some(line + 4),
+            CLAIM if self.claim_in_place => Some(self.claim_bytes),
+            CLAIM | TAG_EDITION | TAG_CONSTANTS => None,
+            _ => return Err(Fault::of(UNKNOWN_TAG)),
+        };
+        if self.root_closed {
+            return Err(Fault::of(AFTER_THE_END));
         }
+        let Some(length) = length else {
+            return Err(Fault::of(OUT_OF_PLACE));
+        };
         if field.contents.len() != length {
             return Err(Fault::of(WRONG_LENGTH));
         }
@@ -221,30 +256,25 @@ impl Table {
         }
         self.rows += 1;
         self.claim_in_place = matches!(field.tag, COMBINE | REDUCE | SCALE);
-        let contents = field.contents;
+        let mut given = Parameters {
+            edition: self.edition,
+            rest: field.contents,
+        };
         match field.tag {
-            COMBINE => self.combine(
-                contents[0],
-                contents[1],
-                unsigned(&contents[2..]),
-                unsigned(&contents[4..]),
-            ),
-            REDUCE => self.reduce(contents[0], contents[1], signed(&contents[2..])),
-            SCALE => self.scale(contents[0], unsigned(&contents[1..])),
-            STRENGTHEN => self.strengthen(contents[0]),
-            SPLIT => self.split(contents[0]),
-            CLOSE_BY_NUMBER => self.close_by_number(contents[0]),
-            ROUND => self.round(
-                contents[0],
-                unsigned(&contents[1..]),
-                unsigned(&contents[3..]),
-            ),
+            COMBINE => self.combine(given.line(), given.line(), given.number(), given.number()),
+            // The one multiplier with a sign.
+            REDUCE => self.reduce(given.line(), given.line(), given.number() as i16),
+            SCALE => self.scale(given.line(), given.number()),
+            STRENGTHEN => self.strengthen(given.line()),
+            SPLIT => self.split(given.line()),
+            CLOSE_BY_NUMBER => self.close_by_number(given.line()),
+            ROUND => self.round(given.line(), given.number(), given.number()),
             // The caller lets no other tag through.
-            _ => self.close_by_stride(contents[0], unsigned(&contents[1..])),
+            _ => self.close_by_stride(given.line(), given.number()),
         }
     }
 
-    fn combine(&mut self, s: u8, t: u8, alpha: u16, beta: u16) -> Result<(), u8> {
+    fn combine(&mut self, s: u16, t: u16, alpha: u16, beta: u16) -> Result<(), u8> {
         let s = self.line(s)?;
         let t = self.line(t)?;
         self.asks(s, Kind::Inequality)?;
@@ -256,7 +286,7 @@ impl Table {
         in_range(self.lines.add_sum(s, i64::from(alpha), t, i64::from(beta)))
     }
 
-    fn reduce(&mut self, s: u8, t: u8, alpha: i16) -> Result<(), u8> {
+    fn reduce(&mut self, s: u16, t: u16, alpha: i16) -> Result<(), u8> {
         let s = self.line(s)?;
         let t = self.line(t)?;
         self.asks_no_disequality(s)?;
@@ -268,7 +298,7 @@ impl Table {
         in_range(self.lines.add_sum(s, 1, t, i64::from(alpha)))
     }
 
-    fn scale(&mut self, t: u8, alpha: u16) -> Result<(), u8> {
+    fn scale(&mut self, t: u16, alpha: u16) -> Result<(), u8> {
         let t = self.line(t)?;
         self.asks_no_disequality(t)?;
         if alpha == 0 {
@@ -281,7 +311,7 @@ impl Table {
     /// Opens the three branches and enters the first. That the new lines of
     /// the other two are in range and have room follows: their numbers are
     /// t's, tA's and those of t+1, and they start from as many lines.
-    fn strengthen(&mut self, t: u8) -> Result<(), u8> {
+    fn strengthen(&mut self, t: u16) -> Result<(), u8> {
         let line = self.line(t)?;
         self.asks(line, Kind::Inequality)?;
         self.room_for_a_step()?;
@@ -291,7 +321,7 @@ impl Table {
     /// Opens the two branches and enters the first. A's formula is an "or", as
     /// one of the two holds wherever A does, B's is an "and". The second
     /// branch's numbers are tested here too.
-    fn split(&mut self, t: u8) -> Result<(), u8> {
+    fn split(&mut self, t: u16) -> Result<(), u8> {
         let line = self.line(t)?;
         self.asks(line, Kind::Disequality)?;
         self.room_for_a_step()?;
@@ -309,7 +339,7 @@ impl Table {
     /// All start with t + k, and no other raises tA by more. (Not inlined, so
     /// that the choice by the tag stays small for the commoner rows.)
     #[inline(never)]
-    fn round(&mut self, t: u8, g: u16, k: u16) -> Result<(), u8> {
+    fn round(&mut self, t: u16, g: u16, k: u16) -> Result<(), u8> {
         let line = self.line(t)?;
         self.asks(line, Kind::Inequality)?;
         if g < 2 || k == 0 || k > limits::ROUNDING {
@@ -353,7 +383,7 @@ impl Table {
         Ok(())
     }
 
-    fn close_by_number(&mut self, t: u8) -> Result<(), u8> {
+    fn close_by_number(&mut self, t: u16) -> Result<(), u8> {
         let t = self.line(t)?;
         self.asks_no_disequality(t)?;
         let equality = self.lines.kind(t) == Kind::Equality;
@@ -366,7 +396,7 @@ impl Table {
         self.close_branch()
     }
 
-    fn close_by_stride(&mut self, t: u8, g: u16) -> Result<(), u8> {
+    fn close_by_stride(&mut self, t: u16, g: u16) -> Result<(), u8> {
         let t = self.line(t)?;
         self.asks(t, Kind::Equality)?;
         if g < 2 {
@@ -420,7 +450,7 @@ impl Table {
         Ok(())
     }
 
-    fn line(&self, number: u8) -> Result<usize, u8> {
+    fn line(&self, number: u16) -> Result<usize, u8> {
         let line = usize::from(number);
         if self.lines.has(line) {
             Ok(line)
@@ -507,18 +537,4 @@ fn push_pair(
         formula.extend_from_within(*stride..before_d);
         formula.extend_from_slice(&d.rem_euclid(i32::from(g)).to_be_bytes());
     }
-}
-
-/// The constants to which some constraint gives a non-zero coefficient, a bit
-/// each.
-fn occurring(bundle: &Bundle) -> u32 {
-    let mut found = 0;
-    for constraint in bundle.constraints() {
-        for (constant, number) in constraint.numbers().take(bundle.k).enumerate() {
-            if number != 0 {
-                found |= 1 << constant;
-            }
-        }
-    }
-    found
 }

@@ -27,6 +27,11 @@ impl<'a> Fields<'a> {
         Fields { file, place: 0 }
     }
 
+    /// Behind the fields taken so far; at the end the file's length.
+    pub fn place(&self) -> usize {
+        self.place
+    }
+
     /// The next field that is not a note; none at the end of the file.
     #[inline]
     pub fn take(&mut self) -> Result<Option<Field<'a>>, Unfinished> {
@@ -57,7 +62,7 @@ impl<'a> Fields<'a> {
 }
 
 /// Appends a field's tag and length. The length is always below 65,536 here:
-/// no field of a formula or bundle has more than 72 bytes of contents.
+/// no field of a formula has more than 72 bytes of contents.
 pub(crate) fn push_field_header(out: &mut Vec<u8>, tag: u8, length: u16) {
     let [high, low] = length.to_be_bytes();
     out.extend_from_slice(&[tag, high, low]);

@@ -2,8 +2,9 @@
 
 use crate::answer::*;
 use crate::bundle::length_within;
+use crate::edition::Edition;
 use crate::field::{push_field_header, signed_long, Fields, Unfinished};
-use crate::header::{Header, Step, TAG_CONSTANTS, TAG_EDITION};
+use crate::header::{read_constants, read_edition, HeaderFault, TAG_CONSTANTS, TAG_EDITION};
 use crate::limits;
 
 pub(crate) const TAG_OR: u8 = 0x31;
@@ -150,12 +151,17 @@ fn judge(formula: &[u8], values: &[i32]) -> Result<bool, Answer> {
     }
     length_within(formula, limits::FORMULA_BYTES, FILE_PROOF)?;
 
-    let mut header = Header::Start;
+    let header_fault =
+        |HeaderFault(number, place): HeaderFault| Answer::refused(number, FILE_PROOF, place);
+    let mut fields = Fields::of(formula);
+    // A formula is written in the first edition, whatever its proof is in.
+    read_edition(&mut fields, is_known, Edition::One).map_err(header_fault)?;
+    // Its K is the number of values, or it is refused.
+    read_constants(&mut fields, is_known, Some(k)).map_err(header_fault)?;
     // Their room is made when the first comes: a formula of one part needs none.
     let mut junctions: Option<Junctions> = None;
     // The whole formula's value, once it is complete.
     let mut verdict = None;
-    let mut fields = Fields::of(formula);
     loop {
         let field = match fields.take() {
             Ok(Some(field)) => field,
@@ -165,24 +171,19 @@ fn judge(formula: &[u8], values: &[i32]) -> Result<bool, Answer> {
         let refuse = |number| Err(Answer::refused(number, FILE_PROOF, field.place));
         let form_bytes = 4 * (k + 1);
         let length = match field.tag {
-            TAG_EDITION | TAG_CONSTANTS => 1,
-            TAG_OR | TAG_AND => 0,
-            TAG_INEQUALITY | TAG_EQUALITY => form_bytes,
-            TAG_STRIDE => 4 + form_bytes,
+            TAG_EDITION | TAG_CONSTANTS => None,
+            TAG_OR | TAG_AND => Some(0),
+            TAG_INEQUALITY | TAG_EQUALITY => Some(form_bytes),
+            TAG_STRIDE => Some(4 + form_bytes),
             _ => return refuse(UNKNOWN_TAG),
         };
         if verdict.is_some() {
             return refuse(AFTER_THE_END);
         }
-        match header.take(&field, Some(k)) {
-            Err(number) => return refuse(number),
-            Ok(Step::Header(next)) => {
-                header = next;
-                continue;
-            }
-            // Its K is the number of values, or 9 had been given.
-            Ok(Step::Body(_)) => {}
-        }
+        // The header is read.
+        let Some(length) = length else {
+            return refuse(OUT_OF_PLACE);
+        };
         if field.contents.len() != length {
             return refuse(WRONG_LENGTH);
         }
@@ -210,8 +211,13 @@ fn judge(formula: &[u8], values: &[i32]) -> Result<bool, Answer> {
             None => Some(part),
         };
     }
-    // A file that ends inside its header or before its formula is complete.
+    // A file that ends before its formula is complete.
     verdict.ok_or(Answer::refused(NOT_WHOLE, FILE_PROOF, formula.len()))
+}
+
+/// Whether formulas have the tag.
+fn is_known(tag: u8) -> bool {
+    matches!(tag, TAG_EDITION | TAG_CONSTANTS | TAG_OR..=TAG_STRIDE)
 }
 
 /// The value of a form, given as K coefficients and d of four bytes each.

@@ -16,6 +16,7 @@
 mod answer;
 mod bundle;
 mod check;
+mod edition;
 mod field;
 mod formula;
 mod header;
@@ -25,10 +26,11 @@ mod show;
 pub use answer::{meaning, Answer, NONE, NOT_GIVEN};
 pub use bundle::{read_bundle, write_bundle, ReadResult, WriteResult};
 pub use check::check;
+pub use edition::Edition;
 pub use formula::{test_formula, TestResult};
 pub use show::{show, show_answer};
 
-/// The limits that the paper sets.
+/// The limits that the paper sets; `Edition` has those that go by the edition.
 pub mod limits {
     /// Most constants of a file.
     pub const CONSTANTS: usize = 16;
@@ -36,8 +38,6 @@ pub mod limits {
     pub const CONSTRAINTS: usize = 32;
     /// Most rows of a proof.
     pub const ROWS: usize = 1_024;
-    /// Most lines on a branch.
-    pub const LINES: usize = 128;
     /// Most strengthens, roundings and splits open at once.
     pub const STEPS: usize = 32;
     /// The most that a rounding may round by.
@@ -45,8 +45,8 @@ pub mod limits {
     /// Most levels of and/or in a formula that is tested. A check cannot write
     /// more than 32 times 17.
     pub const LEVELS: usize = 600;
-    /// Most bytes of a bundle.
-    pub const BUNDLE_BYTES: usize = 4_096;
+    /// Most bytes of a bundle of any edition.
+    pub const BUNDLE_BYTES: usize = 8_192;
     /// Most bytes of a proof.
     pub const PROOF_BYTES: usize = 65_536;
     /// Most bytes of a formula, written or tested.

@@ -11,6 +11,8 @@ pub(crate) struct OutOfRange;
 /// w = K+1: t's coefficients and d, then tA's.
 pub(crate) struct Lines {
     width: usize,
+    /// Most lines on a branch, by the proof's edition.
+    most: usize,
     /// How many are A's constraints: they stand first.
     own: usize,
     kinds: Vec<Kind>,
@@ -18,29 +20,44 @@ pub(crate) struct Lines {
 }
 
 impl Lines {
-    /// A's constraints with tA = t, then B's with tA = 0. A proof that makes
-    /// at most `more` lines needs no further room.
-    pub fn of(a: &Bundle, b: &Bundle, more: usize) -> Lines {
+    /// A's constraints with tA = t, then B's with tA = 0. At most so many lines
+    /// may stand on a branch; a proof that makes at most `more` lines needs no
+    /// further room.
+    pub fn of(a: &Bundle, b: &Bundle, most: usize, more: usize) -> Lines {
         let width = a.k + 1;
-        let count = (a.count() + b.count() + more).min(limits::LINES);
+        let count = (a.count() + b.count() + more).min(most);
         let mut lines = Lines {
             width,
+            most,
             own: a.count(),
             kinds: Vec::with_capacity(count),
             numbers: Vec::with_capacity(count * 2 * width),
         };
         for constraint in a.constraints() {
+            let start = lines.numbers.len();
+            constraint.push_to(&mut lines.numbers);
+            lines.numbers.extend_from_within(start..);
             lines.kinds.push(constraint.kind);
-            lines.numbers.extend(constraint.numbers().map(i32::from));
-            lines.numbers.extend(constraint.numbers().map(i32::from));
         }
         for constraint in b.constraints() {
-            lines.kinds.push(constraint.kind);
-            lines.numbers.extend(constraint.numbers().map(i32::from));
+            constraint.push_to(&mut lines.numbers);
             let filled = lines.numbers.len();
             lines.numbers.resize(filled + width, 0);
+            lines.kinds.push(constraint.kind);
         }
         lines
+    }
+
+    /// The constants to which a line that is not A's gives a non-zero
+    /// coefficient, a bit each. Before the first row these lines are B's.
+    pub fn occurring(&self) -> u32 {
+        let mut found = 0;
+        for line in self.own..self.count() {
+            for (constant, &number) in self.coefficients(line).iter().enumerate() {
+                found |= u32::from(number != 0) << constant;
+            }
+        }
+        found
     }
 
     pub fn count(&self) -> usize {
@@ -48,7 +65,7 @@ impl Lines {
     }
 
     pub fn is_full(&self) -> bool {
-        self.count() >= limits::LINES
+        self.count() >= self.most
     }
 
     pub fn has(&self, line: usize) -> bool {

@@ -30,7 +30,7 @@ fn stands(fields: &[Vec<u8>]) {
 
 #[test]
 fn refusal_1_in_turn_and_before_all_else() {
-    let bundle = vec![0x7F; 4_097];
+    let bundle = vec![0x7F; 8_193];
     let proof = vec![0x7F; 65_537];
     assert_eq!(answer(&bundle, &bundle, &proof), refused(1, 1, 0));
     assert_eq!(answer(&[], &bundle, &proof), refused(1, 2, 0));
@@ -57,9 +57,6 @@ fn bundles_of_4096_bytes_are_read_and_4097_not() {
     let (a, b) = bundles();
     let proof = file(1, &[combine(0, 2, 1, 1), close(4)]);
     let expected = formula(&a, &b, &proof);
-    let fill = |start: &[u8], size: usize| {
-        [start, &field(0x80, &vec![7; size - start.len() - 3])].concat()
-    };
     assert_eq!(
         formula(&fill(&a, 4_096), &fill(&b, 4_096), &proof),
         expected
@@ -324,7 +321,7 @@ fn refusal_6_a_claims_length_goes_with_k() {
 
 #[test]
 fn refusal_5_every_other_edition() {
-    for number in (0..=0xFF).filter(|&number| number != 1) {
+    for number in (0..=0xFF).filter(|number| ![1, 2].contains(number)) {
         assert_eq!(over(&edition(number)), refused(5, 3, 0));
     }
 }

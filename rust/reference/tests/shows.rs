@@ -50,7 +50,7 @@ fn shows_with_an_empty_bundle_and_with_full_ones() {
 #[test]
 fn refuses_as_check_does() {
     let (a, b) = bundles();
-    let long = vec![0x7F; 4_097];
+    let long = vec![0x7F; 8_193];
     let faults: Vec<(Vec<u8>, u8, usize)> = vec![
         (long, 1, 0),
         (vec![], 2, 0),
@@ -59,7 +59,7 @@ fn refuses_as_check_does() {
         (file(1, &[field(0x06, &[])]), 3, 8),
         (file(1, &[ne(&[1])]), 6, 8),
         (file(1, &[edition(1)]), 4, 8),
-        (edition(2), 5, 0),
+        (edition(3), 5, 0),
         (file(1, &[le(&[1, 2, 3])]), 6, 8),
         (file(0, &[]), 7, 4),
         (file(1, &vec![le(&[1, 2]); 33]), 8, 8 + 32 * 7),
@@ -79,7 +79,7 @@ fn refuses_as_check_does() {
 
 #[test]
 fn a_too_long_b_comes_before_a_fault_in_a() {
-    let long = vec![0; 4_097];
+    let long = vec![0; 8_193];
     assert_eq!(show_part(&[], &long, 0), (refused(1, 2, 0), None));
     assert_eq!(show_part(&long, &long, 0), (refused(1, 1, 0), None));
     assert_eq!(show_part(&[], &[], 0), (refused(2, 1, 0), None));

@@ -111,7 +111,7 @@ fn stage_5_with_its_rows_changed() {
 fn lengths_and_bundles_have_no_place_in_the_tree() {
     let (a, b) = bundles();
     let proof = file(1, &inside(&[1]));
-    let (long, longest) = (vec![0x80; 4_097], vec![0x80; 65_537]);
+    let (long, longest) = (vec![0x80; 8_193], vec![0x80; 65_537]);
     assert_eq!(whole_answer(&long, &b, &proof), refused(1, 1, 0));
     assert_eq!(whole_answer(&a, &long, &proof), refused(1, 2, 0));
     assert_eq!(whole_answer(&a, &b, &longest), refused(1, 3, 0));
@@ -120,7 +120,7 @@ fn lengths_and_bundles_have_no_place_in_the_tree() {
         (2, 8, [file(1, &[]), vec![0x80, 0]].concat()),
         (3, 8, file(1, &[field(0x13, &[0])])),
         (4, 8, file(1, &[constants(1)])),
-        (5, 0, edition(2)),
+        (5, 0, edition(3)),
         (6, 8, file(1, &[le(&[1])])),
         (7, 4, file(17, &[])),
         (8, 232, file(1, &vec![le(&[1, 0]); 33])),
@@ -143,7 +143,7 @@ fn the_proofs_header_has_no_place_in_the_tree() {
         (4, 0, strengthen(0)),
         (4, 4, [edition(1), strengthen(0)].concat()),
         (6, 0, field(0x01, &[])),
-        (5, 0, edition(2)),
+        (5, 0, edition(3)),
         (7, 4, file(17, &inside(&[1]))),
         (9, 4, file(2, &inside(&[1]))),
     ] {

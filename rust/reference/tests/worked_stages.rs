@@ -155,15 +155,102 @@ fn stage_8_an_unknown_tag_is_refused() {
 }
 
 #[test]
-fn stage_8_edition_2_is_refused() {
+fn stage_8_edition_3_is_refused_and_edition_2_asks_for_its_own_layout() {
     let files = stage_1();
     let files = [files.0, files.1, files.2];
     for index in 0..3 {
         let mut other = files.clone();
-        other[index][3] = 2;
+        other[index][3] = 3;
         let expected = refused(5, index as u8 + 1, 0);
         assert_eq!(whole_answer(&other[0], &other[1], &other[2]), expected);
+        // Edition 2 over numbers of two bytes, or line numbers of one: the
+        // first constraint or row has the wrong length.
+        other[index][3] = 2;
+        let expected = refused(6, index as u8 + 1, 8);
+        assert_eq!(whole_answer(&other[0], &other[1], &other[2]), expected);
     }
+}
+
+/// Stage 1 in edition 2.
+fn stage_1_in_edition_2() -> [Vec<u8>; 3] {
+    [
+        two::file(3, &[two::eq(&[-2, 1, 0, 0])]),
+        two::file(3, &[two::eq(&[0, -1, 2, 1])]),
+        two::file(3, &[two::reduce(1, 0, 1), two::stride(2, 2)]),
+    ]
+}
+
+#[test]
+fn stage_1_in_every_mix_of_editions() {
+    let first = stage_1();
+    let first = [first.0, first.1, first.2];
+    let second = stage_1_in_edition_2();
+    for mix in 0..8 {
+        let of = |index: usize| {
+            let files = if mix >> index & 1 == 1 {
+                &second
+            } else {
+                &first
+            };
+            files[index].clone()
+        };
+        let written = formula(&of(0), &of(1), &of(2));
+        // Formulas stay in edition 1.
+        assert_eq!(written, hex(STAGE_1_FORMULA));
+    }
+    let [a, _, proof] = second;
+    let bytes = "01000102 02000103 040010 FFFFFFFE 00000001 00000000 00000000";
+    assert_eq!(a, hex(bytes));
+    let bytes = "01000102 02000103 110006 0001 0000 0001 150004 0002 0002";
+    assert_eq!(proof, hex(bytes));
+}
+
+/// A stage that needs four bytes: A says that a register is at least one number,
+/// B that it is at most another.
+fn levels(least: i32, most: i32) -> [Vec<u8>; 3] {
+    [
+        two::file(1, &[two::le(&[-1, least])]),
+        two::file(1, &[two::le(&[1, -most])]),
+        two::file(1, &[two::combine(0, 1, 1, 1), two::close(2)]),
+    ]
+}
+
+/// The lower two bytes of each number, in edition 1.
+fn cut(bundle: &[u8]) -> Vec<u8> {
+    let result = read(bundle);
+    let numbers: Vec<i16> = result.numbers.iter().map(|&n| n as i16).collect();
+    file(1, &[le(&numbers)])
+}
+
+#[test]
+fn a_stage_of_four_byte_numbers_and_the_same_stage_cut_to_two() {
+    // At least 40,000 and at most 30,000.
+    let [a, b, proof] = levels(40_000, 30_000);
+    let expected = file(1, &[at_most(&[-1, 40_000])]);
+    assert_eq!(formula(&a, &b, &proof), expected);
+    // In two bytes 40,000 is -25,536, and nothing contradicts it.
+    let old_proof = file(1, &[combine(0, 1, 1, 1), close(2)]);
+    let answer = whole_answer(&cut(&a), &cut(&b), &old_proof);
+    assert_eq!(answer, refused_at(15, 17, [1, NONE, NONE]));
+    let answer = whole_answer(&cut(&a), &b, &proof);
+    assert_eq!(answer, refused_at(15, 19, [1, NONE, NONE]));
+    // The same bytes under edition 1 are of the wrong length.
+    let [mut a, mut b, _] = levels(40_000, 30_000);
+    assert_eq!(whole_answer(&a, &b, &old_proof), ACCEPTED);
+    b[3] = 1;
+    assert_eq!(whole_answer(&a, &b, &old_proof), refused(6, 2, 8));
+    a[3] = 1;
+    assert_eq!(whole_answer(&a, &b, &old_proof), refused(6, 1, 8));
+}
+
+#[test]
+fn what_only_the_cut_numbers_contradict_is_refused() {
+    // At least 30,000 and at most 40,000: nothing is wrong with that.
+    let [a, b, proof] = levels(30_000, 40_000);
+    let answer = whole_answer(&a, &b, &proof);
+    assert_eq!(answer, refused_at(15, 19, [1, NONE, NONE]));
+    // Cut to two bytes it would be accepted.
+    assert_eq!(whole_answer(&cut(&a), &cut(&b), &proof), ACCEPTED);
 }
 
 #[test]
@@ -173,7 +260,14 @@ fn stage_9_the_range_of_numbers() {
     let claimed = claim(&[-2_147_450_880, 0], &[-2_147_450_880, 0]);
     let stands = file(1, &[scale(0, 65_535), claimed.clone()]);
     assert_eq!(whole_answer(&a, &b, &stands), refused(20, 3, stands.len()));
-    let again = file(1, &[scale(0, 65_535), claimed, scale(1, 2)]);
+    let again = file(1, &[scale(0, 65_535), claimed.clone(), scale(1, 2)]);
+    let expected = refused_at(13, stands.len(), [1, NONE, NONE]);
+    assert_eq!(whole_answer(&a, &b, &again), expected);
+    // The same in edition 2, where the rows have a byte more.
+    let a = two::file(1, &[two::le(&[-32_768, 0])]);
+    let stands = two::file(1, &[two::scale(0, 65_535), claimed]);
+    assert_eq!(whole_answer(&a, &b, &stands), refused(20, 3, stands.len()));
+    let again = [stands.clone(), two::scale(1, 2)].concat();
     let expected = refused_at(13, stands.len(), [1, NONE, NONE]);
     assert_eq!(whole_answer(&a, &b, &again), expected);
 }
@@ -192,10 +286,24 @@ fn stage_10_sizes() {
     assert_eq!((result.answer, result.count, result.k), (ACCEPTED, 32, 16));
     let over = file(16, &vec![constraint; 33]);
     assert_eq!(read(&over).answer, refused(8, 1, full.len()));
+
+    let full = two::file(16, &vec![two::le(&[0; 17]); 32]);
+    let result = read(&full);
+    assert_eq!((result.answer, result.count, result.k), (ACCEPTED, 32, 16));
+    let over = [full.clone(), two::le(&[0; 17])].concat();
+    assert_eq!(read(&over).answer, refused(8, 1, full.len()));
+    let seventeen = two::file(17, &[two::le(&[0; 18])]);
+    assert_eq!(read(&seventeen).answer, refused(7, 1, 4));
 }
 
 /// The folders under examples/ whose fault is a row's: its number, none of them inside a branch.
-const ROWS: [(&str, u16); 3] = [("stage-2", 1), ("stage-4", 1), ("stage-9-again", 1)];
+const ROWS: [(&str, u16); 5] = [
+    ("stage-2", 1),
+    ("stage-4", 1),
+    ("stage-9-again", 1),
+    ("stage-four-bytes-cut", 1),
+    ("stage-lines-over", 998),
+];
 
 /// The folders under examples/ with a proof: what the check program is to print of each.
 #[test]
@@ -228,5 +336,38 @@ fn the_examples_expect_these_answers() {
         assert_eq!(printed, expected, "{}", stage.display());
         stages += 1;
     }
-    assert_eq!(stages, 21);
+    assert_eq!(stages, 33);
+}
+
+/// The folders under examples/ with register values: what the guard program is to print of each.
+#[test]
+fn the_guards_expect_these_answers() {
+    let folder = concat!(env!("CARGO_MANIFEST_DIR"), "/../../examples");
+    let mut guards = 0;
+    for entry in std::fs::read_dir(folder).unwrap() {
+        let guard = entry.unwrap().path();
+        if !guard.join("v").is_file() {
+            continue;
+        }
+        let read = |name: &str| std::fs::read(guard.join(name)).unwrap();
+        let values = read("v");
+        // The program's own refusal, for values that are not whole.
+        let printed = if values.len() % 4 != 0 {
+            "refused 7 file 4 at 0\n".to_string()
+        } else {
+            let four = |bytes: &[u8]| i32::from_be_bytes(bytes.try_into().unwrap());
+            let values: Vec<i32> = values.chunks(4).map(four).collect();
+            match test(&read("f"), &values) {
+                Ok(holds) => format!("{holds}\n"),
+                Err(answer) => format!(
+                    "refused {} file {} at {}\n",
+                    answer.number, answer.file, answer.place
+                ),
+            }
+        };
+        let expected = String::from_utf8(read("expected")).unwrap();
+        assert_eq!(printed, expected, "{}", guard.display());
+        guards += 1;
+    }
+    assert_eq!(guards, 4);
 }

@@ -1,5 +1,5 @@
 //! The paper's five plausible but wrong readings, and those of reduced stride
-//! formulas, of roundings and of splits; each test fails for a checker with that fault. (But for one: since
+//! formulas, of roundings, of splits and of edition 2; each test fails for a checker with that fault. (But for one: since
 //! stride formulas are reduced, constants that only A has are gone from them
 //! whether a checker drops them or not.)
 
@@ -433,4 +433,95 @@ fn a_disequality_may_only_be_split() {
         let proof = file(1, &[split(0)]);
         assert_eq!(answer(&a, &b, &proof), refused(20, 3, 12));
     }
+}
+
+#[test]
+fn the_late_1_stands_at_place_0_and_after_5() {
+    // Not at the place of 0x01, which is 7 here.
+    let late = fill(&[note(), file(1, &[])].concat(), 5_000);
+    assert_eq!(read(&late).answer, refused(1, 1, 0));
+    // Not before 5, and not for an edition that is not there.
+    let other = fill(&[note(), file_of(3, 1, &[])].concat(), 5_000);
+    assert_eq!(read(&other).answer, refused(5, 1, 7));
+}
+
+#[test]
+fn an_edition_1_bundle_of_5000_bytes_is_refused_also_where_its_notes_fill_it() {
+    let (a, b) = (file(1, &[le(&[0, 1])]), file(1, &[]));
+    let proofs = [file(1, &[close(0)]), two::file(1, &[two::close(0)])];
+    for proof in &proofs {
+        assert_eq!(answer(&a, &b, proof), ACCEPTED);
+        assert_eq!(answer(&fill(&a, 5_000), &b, proof), refused(1, 1, 0));
+        assert_eq!(answer(&a, &fill(&b, 5_000), proof), refused(1, 2, 0));
+        // Neither by what the other files are in.
+        let second = two::file(1, &[two::le(&[0, 1])]);
+        assert_eq!(answer(&fill(&second, 8_192), &b, proof), ACCEPTED);
+        let expected = refused(1, 2, 0);
+        assert_eq!(answer(&second, &fill(&b, 5_000), proof), expected);
+    }
+}
+
+#[test]
+fn the_lines_on_a_branch_go_by_the_proof() {
+    let line = [eq(&[0, 1]), two::eq(&[0, 1])];
+    for (number, field) in [1, 2].into_iter().zip(line) {
+        let a = file_of(number, 1, &[field]);
+        for (other, row, most) in [(1, scale(0, 1), 128), (2, two::scale(0, 1), 1_000)] {
+            let full = file_of(other, 1, &[row.repeat(most - 1)]);
+            let over = [full.clone(), row].concat();
+            for b in [file(1, &[]), two::file(1, &[])] {
+                assert_eq!(answer(&a, &b, &full), refused(20, 3, full.len()));
+                assert_eq!(answer(&a, &b, &over), refused(16, 3, full.len()));
+            }
+        }
+    }
+}
+
+#[test]
+fn the_lowest_number_comes_after_8_and_that_of_two_bytes_stands() {
+    let full = two::file(1, &vec![two::le(&[0, 1]); 32]);
+    let over = [full.clone(), two::le(&[0, i32::MIN])].concat();
+    assert_eq!(read(&over).answer, refused(8, 1, full.len()));
+    assert_eq!(read(&file(1, &[le(&[-32_768, 0])])).answer, ACCEPTED);
+    let negative = two::file(1, &[two::le(&[-32_768, 0])]);
+    assert_eq!(read(&negative).answer, ACCEPTED);
+    // Written in edition 1 it stands too, and in both at the end of the range.
+    assert_eq!(write_of(1, 1, &[0], &[-32_768, 0], 99).0, ACCEPTED);
+    assert_eq!(write_of(2, 1, &[0], &[-32_768, -i32::MAX], 99).0, ACCEPTED);
+}
+
+#[test]
+fn a_formula_stays_in_edition_1() {
+    let a = two::file(1, &[two::le(&[0, 1])]);
+    let b = two::file(1, &[]);
+    let written = formula(&a, &b, &two::file(1, &[two::close(0)]));
+    assert_eq!(written, file(1, &[at_most(&[0, 1])]));
+    let other = two::file(1, &[at_most(&[0, 1])]);
+    assert_eq!(test(&other, &[0]), Err(refused(5, 3, 0)));
+}
+
+#[test]
+fn line_numbers_stand_two_bytes_apart() {
+    // Read one byte apart, combine 1, 0 would name the lines 0 and 1.
+    let a = file(1, &[le(&[3, 0]), le(&[5, 0])]);
+    let b = file(1, &[]);
+    let stated = |t: i32| {
+        let row = two::combine(1, 0, 1, 2);
+        let proof = two::file(1, &[row, claim(&[t, 0], &[t, 0])]);
+        answer(&a, &b, &proof).number
+    };
+    assert_eq!(stated(11), 20);
+    assert_eq!(stated(13), 14);
+    // And a multiplier behind one: not 0x0000, not 0x0201.
+    let row = [0x12, 0, 4, 0, 1, 2, 3];
+    let form = [5 * 0x0203, 0];
+    let proof = two::file(1, &[row.to_vec(), claim(&form, &form)]);
+    assert_eq!(answer(&a, &b, &proof), refused(20, 3, proof.len()));
+}
+
+#[test]
+fn writing_tells_the_index_of_the_number_and_not_of_its_constraint() {
+    let numbers = [0, 1, 2, 3, 4, 40_000];
+    let answer = write_of(1, 2, &[0, 0], &numbers, 99).0;
+    assert_eq!(answer, refused(13, 4, 5));
 }

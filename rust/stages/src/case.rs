@@ -37,9 +37,10 @@ pub enum Case {
         numbers: usize,
     },
     Write {
+        edition: u8,
         k: u8,
         kinds: Vec<u8>,
-        numbers: Vec<i16>,
+        numbers: Vec<i32>,
         out: usize,
     },
     Show {
@@ -67,8 +68,9 @@ pub enum Output {
     Bytes(Vec<u8>),
     Bundle {
         k: usize,
+        edition: u8,
         kinds: Vec<u8>,
-        numbers: Vec<i16>,
+        numbers: Vec<i32>,
     },
     /// File, start and end of a part.
     Part(u8, usize, usize),
@@ -130,19 +132,21 @@ impl Case {
                 numbers.truncate(result.count * (result.k + 1));
                 let bundle = Output::Bundle {
                     k: result.k,
+                    edition: result.edition,
                     kinds,
                     numbers,
                 };
                 (result.answer, bundle)
             }
             Case::Write {
+                edition,
                 k,
                 kinds,
                 numbers,
                 out,
             } => {
                 let mut output = vec![0; *out];
-                let result = reference::write_bundle(*k, kinds, numbers, &mut output);
+                let result = reference::write_bundle(*edition, *k, kinds, numbers, &mut output);
                 output.truncate(result.written);
                 (result.answer, Output::Bytes(output))
             }
@@ -196,12 +200,14 @@ impl Case {
                 push(&mut text, numbers);
             }
             Case::Write {
+                edition,
                 k,
                 kinds,
                 numbers,
                 out,
             } => {
                 text.push_str("write ");
+                push(&mut text, edition);
                 push(&mut text, k);
                 push_list(&mut text, kinds);
                 push_list(&mut text, numbers);
@@ -227,12 +233,18 @@ impl Case {
         push(&mut text, answer.step);
         push(&mut text, answer.branch);
         match result {
-            Output::Nothing if self.operation() == Operation::Read => text.push_str("0 0 - - "),
+            Output::Nothing if self.operation() == Operation::Read => text.push_str("0 0 0 - - "),
             Output::Nothing => text.push_str("- "),
             Output::Bytes(bytes) => push_bytes(&mut text, &bytes),
-            Output::Bundle { k, kinds, numbers } => {
+            Output::Bundle {
+                k,
+                edition,
+                kinds,
+                numbers,
+            } => {
                 push(&mut text, kinds.len());
                 push(&mut text, k);
+                push(&mut text, edition);
                 push_list(&mut text, &kinds);
                 push_list(&mut text, &numbers);
             }

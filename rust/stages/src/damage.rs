@@ -1,7 +1,8 @@
 //! Damaging files: single bytes, whole fields, lengths, ends, parameters.
 
-use crate::build::{field, push_field};
+use crate::build::{field, header_of, push_field};
 use crate::rng::Rng;
+use reference::Edition;
 use std::ops::Range;
 
 /// Every tag below 0x80 that some kind of file has, and some that none has.
@@ -25,20 +26,42 @@ pub fn fields(file: &[u8]) -> Vec<Range<usize>> {
     found
 }
 
-/// A field with a random tag and contents; often one that could stand.
-pub fn random_field(rng: &mut Rng, k: usize) -> Vec<u8> {
+/// The edition that a file's first field, notes aside, tells; the first if it
+/// tells none.
+pub fn edition_of(file: &[u8]) -> Edition {
+    let parts = fields(file).into_iter().map(|part| &file[part]);
+    let first = parts.into_iter().find(|part| part[0] < 0x80);
+    match first {
+        Some(&[0x01, 0, 1, number]) => Edition::numbered(number).unwrap_or(Edition::One),
+        _ => Edition::One,
+    }
+}
+
+/// How many line numbers a row has, and how many numbers of two bytes.
+fn parameters(tag: u8) -> (usize, usize) {
+    match tag {
+        0x10 => (2, 2),
+        0x11 => (2, 1),
+        0x12 | 0x15 => (1, 1),
+        0x16 => (1, 2),
+        _ => (1, 0),
+    }
+}
+
+/// A field with a random tag and contents; often one that could stand in a file
+/// of the edition.
+pub fn random_field(rng: &mut Rng, edition: Edition, k: usize) -> Vec<u8> {
     let tag = if rng.chance(1, 10) {
         rng.byte()
     } else {
         *rng.pick(&TAGS)
     };
+    let (number_bytes, line_bytes) = (edition.number_bytes(), edition.line_bytes());
+    let (lines, numbers) = parameters(tag);
     let right = match tag {
-        0x01 | 0x02 | 0x13 | 0x14 | 0x17 => 1,
-        0x03..=0x05 => 2 * (k + 1),
-        0x10 => 6,
-        0x11 => 4,
-        0x12 | 0x15 => 3,
-        0x16 => 5,
+        0x01 | 0x02 => 1,
+        0x03..=0x05 => number_bytes * (k + 1),
+        0x10..=0x17 => lines * line_bytes + numbers * 2,
         0x20 => 8 * (k + 1),
         0x33 | 0x34 => 4 * (k + 1),
         0x35 => 4 + 4 * (k + 1),
@@ -53,29 +76,27 @@ pub fn random_field(rng: &mut Rng, k: usize) -> Vec<u8> {
     let mut contents = rng.bytes(length);
     match tag {
         // Mostly the edition, a K, line numbers that are there.
-        0x01 if rng.chance(3, 4) => contents.fill(1),
+        0x01 if rng.chance(3, 4) => contents.fill(edition.number()),
         0x02 if rng.chance(3, 4) => contents.fill(k as u8),
         0x10..=0x17 if rng.chance(7, 8) => {
-            for (place, byte) in contents.iter_mut().enumerate() {
-                let number = rng.below(5) as u8;
-                *byte = match (tag, place) {
-                    (0x10 | 0x11, 2 | 4) | (0x12 | 0x15, 1) | (0x16, 1 | 3) => 0,
-                    _ => number,
-                };
-            }
+            let (of_lines, of_numbers) = contents.split_at_mut(length.min(lines * line_bytes));
+            small_numbers(rng, of_lines, line_bytes, 0, 4);
+            small_numbers(rng, of_numbers, 2, 0, 4);
         }
-        0x03..=0x05 | 0x33..=0x35 if rng.chance(3, 4) => {
-            let width = if tag < 0x10 { 2 } else { 4 };
-            for number in contents.chunks_mut(width) {
-                let small = rng.within(-4, 4) as i32;
-                let bytes = small.to_be_bytes();
-                let length = number.len();
-                number.copy_from_slice(&bytes[4 - length..]);
-            }
-        }
+        0x03..=0x05 if rng.chance(3, 4) => small_numbers(rng, &mut contents, number_bytes, -4, 4),
+        0x33..=0x35 if rng.chance(3, 4) => small_numbers(rng, &mut contents, 4, -4, 4),
         _ => {}
     }
     field(tag, &contents)
+}
+
+/// Fills the contents with numbers of so many bytes between two small ones.
+fn small_numbers(rng: &mut Rng, contents: &mut [u8], bytes: usize, low: i64, high: i64) {
+    for number in contents.chunks_mut(bytes) {
+        let small = rng.within(low, high) as i32;
+        let length = number.len();
+        number.copy_from_slice(&small.to_be_bytes()[4 - length..]);
+    }
 }
 
 /// Changes a file in one of many ways. K is for the fields that are put in.
@@ -86,9 +107,10 @@ pub fn damage(rng: &mut Rng, file: &mut Vec<u8>, k: usize) {
         *file = rng.bytes(length);
         return;
     }
+    let edition = edition_of(file);
     let one = rng.pick(&found).clone();
     let contents = one.start + 3..one.end;
-    match rng.below(20) {
+    match rng.below(22) {
         0 => {
             let place = rng.below(file.len());
             file[place] ^= 1 << rng.below(8);
@@ -155,19 +177,35 @@ pub fn damage(rng: &mut Rng, file: &mut Vec<u8>, k: usize) {
             file.extend(rng.bytes(more));
         }
         11 => {
-            let new = random_field(rng, k);
+            let new = random_field(rng, edition, k);
             file.extend(new);
         }
         12 => file[one.start] = *rng.pick(&TAGS),
         13 => file[one.start] = rng.byte(),
         14 => {
-            let new = random_field(rng, k);
+            let new = random_field(rng, edition, k);
             file.splice(one.start..one.start, new);
         }
         15 => {
             let mut note = Vec::new();
             push_field(&mut note, 0x80 | rng.byte(), &[1, 2, 3]);
             file.splice(one.start..one.start, note);
+        }
+        // Another edition over the same fields.
+        20 => {
+            if let Some(first) = found.iter().find(|part| file[part.start] == 0x01) {
+                let last = first.end - 1;
+                file[last] = rng.below(4) as u8;
+            }
+        }
+        // The lowest number of two bytes or of four, in some place.
+        21 => {
+            let width = *rng.pick(&[2, 4]);
+            if let Some(last) = contents.len().checked_sub(width) {
+                let place = contents.start + rng.below(last / width + 1) * width;
+                file[place..place + width].fill(0);
+                file[place] = 0x80;
+            }
         }
         // Parameters, multipliers, claims: a byte of the contents.
         16..=18 if !contents.is_empty() => {
@@ -186,13 +224,19 @@ pub fn damage(rng: &mut Rng, file: &mut Vec<u8>, k: usize) {
 
 /// Bytes without plan: from quite random ones to fields in random order.
 pub fn noise(rng: &mut Rng, k: usize) -> Vec<u8> {
+    let edition = *rng.pick(&Edition::ALL);
+    noise_in(rng, edition, k)
+}
+
+/// The same, where it has a header one of the edition.
+pub fn noise_in(rng: &mut Rng, edition: Edition, k: usize) -> Vec<u8> {
     match rng.below(4) {
         0 => {
             let length = rng.below(40);
             rng.bytes(length)
         }
         1 => {
-            let mut bytes = crate::build::header(k as u8);
+            let mut bytes = header_of(edition, k as u8);
             let more = rng.below(30);
             bytes.extend(rng.bytes(more));
             bytes
@@ -200,14 +244,14 @@ pub fn noise(rng: &mut Rng, k: usize) -> Vec<u8> {
         2 => {
             let mut bytes = Vec::new();
             for _ in 0..rng.below(6) {
-                bytes.extend(random_field(rng, k));
+                bytes.extend(random_field(rng, edition, k));
             }
             bytes
         }
         _ => {
-            let mut bytes = crate::build::header(k as u8);
+            let mut bytes = header_of(edition, k as u8);
             for _ in 0..rng.below(8) {
-                bytes.extend(random_field(rng, k));
+                bytes.extend(random_field(rng, edition, k));
             }
             bytes
         }

@@ -4,9 +4,13 @@
 use crate::build::*;
 use crate::case::{Case, Operation};
 use crate::deep::misused;
+use crate::editions;
+use crate::other;
 use crate::rng::Rng;
 use crate::rounding::{damaged, exact, rounded};
 use crate::stride::{closes, near_miss};
+use crate::turn::mix_aimed;
+use reference::Edition;
 
 /// A case and the number that it is made to be answered with.
 pub type Aimed = (u8, Case);
@@ -91,15 +95,19 @@ pub fn check(a: Vec<u8>, b: Vec<u8>, proof: Vec<u8>) -> Case {
     }
 }
 
-/// The cases of one operation.
+/// The cases of one operation, in every mix of editions.
 pub fn directed(rng: &mut Rng, operation: Operation) -> Vec<Aimed> {
-    match operation {
+    let mut cases = match operation {
         Operation::Check => checks(rng),
         Operation::Read => reads(rng),
         Operation::Write => writes(rng),
         Operation::Show => shows(rng),
         Operation::Test => tests(rng),
+    };
+    for aimed in &mut cases {
+        mix_aimed(rng, aimed);
     }
+    cases
 }
 
 /// Bundles that are refused, K of the sound one being given.
@@ -113,8 +121,11 @@ fn broken_bundles(rng: &mut Rng, base: &Base) -> Vec<(u8, Vec<u8>)> {
     let cut = *rng.pick(&[1, 2]);
     let other_tag = *rng.pick(&[0x00, 0x06, 0x07, 0x10, 0x17, 0x20, 0x31, 0x7F]);
     let wrong_k = *rng.pick(&[0, 17, 255]);
-    vec![
-        (1, vec![0x7F; 4_097]),
+    let mut late = sound.clone();
+    fill(&mut late, 4_097 + rng.below(4_096));
+    let mut bundles = vec![
+        (1, vec![0x7F; 8_193]),
+        (1, late),
         (2, sound[..sound.len() - cut].to_vec()),
         (2, [sound.clone(), vec![0x80, 0]].concat()),
         (2, [sound.clone(), vec![0x80, 0, 2, 9]].concat()),
@@ -123,13 +134,15 @@ fn broken_bundles(rng: &mut Rng, base: &Base) -> Vec<(u8, Vec<u8>)> {
         (3, [sound.clone(), field(other_tag, &[1])].concat()),
         (4, file(k, &[field(0x02, &[k])])),
         (4, [field(0x01, &[1]), base.inequality(1, 2)].concat()),
-        (5, field(0x01, &[*rng.pick(&[0, 2, 3, 255])])),
+        (5, field(0x01, &[*rng.pick(&[0, 3, 4, 255])])),
         (6, [sound.clone(), field(0x03, &[0; 3])].concat()),
         (6, [sound.clone(), field(0x05, &[0; 3])].concat()),
         (6, field(0x01, &[1, 1])),
         (7, file(wrong_k, &[])),
         (8, file(k, &vec![base.inequality(1, -1); 33])),
-    ]
+    ];
+    bundles.extend(editions::broken_bundles(rng, k));
+    bundles
 }
 
 fn checks(rng: &mut Rng) -> Vec<Aimed> {
@@ -145,8 +158,12 @@ fn checks(rng: &mut Rng) -> Vec<Aimed> {
         cases.extend([(number, a), (number, b)]);
     }
     cases.push((1, base.check_file(vec![0x7F; 65_537])));
-    let other = file(other_k, &[]);
-    cases.push((9, check(base.a.clone(), other, proof.clone())));
+    for edition in Edition::ALL {
+        let other = file_of(edition, other_k, &[]);
+        cases.push((9, check(base.a.clone(), other.clone(), proof.clone())));
+        cases.push((9, check(other, base.b.clone(), proof.clone())));
+        cases.push((9, base.check_file(file_of(edition, other_k, &closed))));
+    }
 
     let unknown = *rng.pick(&[0x00, 0x03, 0x04, 0x05, 0x18, 0x21, 0x31, 0x35, 0x7F]);
     let line = 4 + rng.below(252) as u8;
@@ -246,8 +263,43 @@ fn checks(rng: &mut Rng) -> Vec<Aimed> {
         base.check_file([field(0x01, &[1]), scale(0, 1)].concat()),
     ));
     cases.push((4, base.check_file(field(0x02, &[k]))));
-    cases.push((5, base.check_file(field(0x01, &[2]))));
+    cases.push((
+        5,
+        base.check_file(field(0x01, &[*rng.pick(&[0, 3, 4, 255])])),
+    ));
     cases.push((6, base.check_file(field(0x01, &[]))));
+    // Rows of each edition under the other.
+    for (edition, rows) in [
+        (Edition::One, Layout(Edition::Two)),
+        (Edition::Two, Layout(Edition::One)),
+    ] {
+        for row in [
+            rows.combine(0, 2, 1, 1),
+            rows.reduce(0, 1, 1),
+            rows.scale(0, 1),
+            rows.strengthen(0),
+            rows.close(0),
+            rows.stride(1, 2),
+            rows.rounding(0, 2, 1),
+            rows.split(0),
+        ] {
+            cases.push((6, base.check_file(file_of(edition, k, &[row]))));
+        }
+    }
+    // Line numbers above one byte: 256 and more is not a line below.
+    let second = Layout(Edition::Two);
+    let far = 256 * (1 + rng.below(255)) + rng.below(4);
+    for row in [
+        second.combine(0, far, 0, 0),
+        second.combine(far, 0, 0, 0),
+        second.reduce(far, 1, 0),
+        second.scale(far, 0),
+        second.close(far),
+        second.split(far),
+    ] {
+        let proof = file_of(Edition::Two, k, &[row]);
+        cases.push((10, base.check_file(proof)));
+    }
     cases.push((7, base.check_file(file(*rng.pick(&[0, 17, 200]), &[]))));
     cases.push((9, base.check_file(file(other_k, &[]))));
     let needed = 8 + 3 + 4 * (usize::from(k) + 1);
@@ -396,18 +448,49 @@ fn reads(rng: &mut Rng) -> Vec<Aimed> {
 }
 
 fn writes(rng: &mut Rng) -> Vec<Aimed> {
+    let mut cases = Vec::new();
+    for edition in Edition::ALL {
+        cases.extend(writes_in(rng, edition));
+    }
+    cases
+}
+
+fn writes_in(rng: &mut Rng, edition: Edition) -> Vec<Aimed> {
     let k = 1 + rng.below(16) as u8;
     let width = usize::from(k) + 1;
-    let numbers: Vec<i16> = (0..2 * width).map(|_| rng.word() as i16).collect();
-    let needed = 8 + 2 * (3 + 2 * width);
-    let case = |k: u8, kinds: &[u8], numbers: &[i16], out: usize| Case::Write {
+    let mut some = || -> Vec<i32> {
+        (0..2 * width)
+            .map(|_| other::number(rng, edition))
+            .collect()
+    };
+    let numbers = some();
+    let outside: Vec<Vec<i32>> = match edition {
+        Edition::One => [-32_769, 32_768, i32::MIN, i32::MAX].to_vec(),
+        Edition::Two => [i32::MIN; 2].to_vec(),
+    }
+    .into_iter()
+    .map(|wrong| {
+        let mut numbers = some();
+        numbers[width - 1] = wrong;
+        numbers
+    })
+    .collect();
+    let needed = 8 + 2 * (3 + edition.number_bytes() * width);
+    let write = |edition: u8, k: u8, kinds: &[u8], numbers: &[i32], out: usize| Case::Write {
+        edition,
         k,
         kinds: kinds.to_vec(),
         numbers: numbers.to_vec(),
         out,
     };
+    let case = |k: u8, kinds: &[u8], numbers: &[i32], out: usize| {
+        write(edition.number(), k, kinds, numbers, out)
+    };
     let kind = 3 + rng.below(253) as u8;
-    vec![
+    let wrong = *rng.pick(&[0, 3, 4, 255]);
+    let mut cases = vec![
+        (5, write(wrong, 17, &[3; 33], &[i32::MIN], 0)),
+        (5, write(wrong, k, &[0, 1], &numbers, needed)),
         (7, case(0, &[0], &[1], 99)),
         (7, case(17, &[2; 33], &[], 0)),
         (7, case(255, &[], &[], 8)),
@@ -424,7 +507,14 @@ fn writes(rng: &mut Rng) -> Vec<Aimed> {
         (0, case(k, &[2, 2], &numbers, needed)),
         (24, case(k, &[2, 3], &numbers, needed)),
         (0, case(k, &[], &[], 8)),
-    ]
+    ];
+    for numbers in outside {
+        cases.push((13, case(k, &[0, 1], &numbers, 0)));
+        cases.push((13, case(k, &[2, 2], &numbers, needed)));
+        cases.push((24, case(k, &[0, 3], &numbers, needed)));
+        cases.push((24, case(k, &[0], &numbers, needed)));
+    }
+    cases
 }
 
 fn shows(rng: &mut Rng) -> Vec<Aimed> {
@@ -497,7 +587,8 @@ fn tests(rng: &mut Rng) -> Vec<Aimed> {
     push(2, Vec::new(), &values);
     push(4, leaf.clone(), &values);
     push(4, [field(0x01, &[1]), leaf.clone()].concat(), &values);
-    push(5, field(0x01, &[2]), &values);
+    push(5, field(0x01, &[*rng.pick(&[0, 2, 3, 255])]), &values);
+    push(5, file_of(Edition::Two, k, &[leaf.clone()]), &values);
     push(7, file(*rng.pick(&[0, 17]), &[leaf.clone()]), &values);
     push(9, file(other_k, &[]), &values);
     push(0, whole, &values);

@@ -4,22 +4,32 @@ use crate::build::*;
 use crate::case::{Case, Operation};
 use crate::deep::roundable;
 use crate::directed::{check, Aimed};
+use crate::editions::{end_numbers, long_branches, many_lines, some_constraint};
 use crate::other;
 use crate::rng::Rng;
 use crate::rounding::{exact, random_by, rounded};
+use crate::turn::mix_aimed;
+use reference::Edition;
 
-/// A case of an operation at one of its limits, with the number that it is made to be answered with.
+/// A case of an operation at one of its limits, with the number that it is made to be answered with, in every mix of
+/// editions.
 pub fn edge(rng: &mut Rng, operation: Operation) -> Aimed {
+    let mut aimed = some_edge(rng, operation);
+    mix_aimed(rng, &mut aimed);
+    aimed
+}
+
+fn some_edge(rng: &mut Rng, operation: Operation) -> Aimed {
     let over = rng.chance(1, 2);
     match operation {
-        Operation::Check => match rng.below(9) {
-            0 | 1 => rows(rng, over),
-            2 => lines(rng, over),
-            3 => open(rng, over),
-            4 => numbers(rng, over),
-            5 => bundles(rng, over),
-            6 => rounds(rng, over),
-            7 => {
+        Operation::Check => match rng.below(14) {
+            0..=3 => rows(rng, over),
+            4 => lines(rng, over),
+            5 => open(rng, over),
+            6 => numbers(rng, over),
+            7 => bundles(rng, over),
+            8 => rounds(rng, over),
+            9 => {
                 let lengths = if over {
                     [65_537, 65_539]
                 } else {
@@ -27,6 +37,19 @@ pub fn edge(rng: &mut Rng, operation: Operation) -> Aimed {
                 };
                 let length = *rng.pick(&lengths);
                 (u8::from(over), exact(rng, length))
+            }
+            10 => many_lines(rng, over),
+            11 => long_branches(rng),
+            12 => {
+                let k = 1 + rng.below(16) as u8;
+                let (number, full) = end_numbers(rng, k, over);
+                let number = if number == 0 { 20 } else { number };
+                let (a, b) = if rng.chance(1, 2) {
+                    (full, header(k))
+                } else {
+                    (header(k), full)
+                };
+                (number, check(a, b, header(k)))
             }
             _ => lengths(rng, over),
         },
@@ -340,29 +363,44 @@ fn numbers(rng: &mut Rng, over: bool) -> Aimed {
 }
 
 /// The fields of a bundle with random constraints.
-fn random_fields(rng: &mut Rng, k: u8, count: usize) -> Vec<Vec<u8>> {
-    let mut fields = vec![field(0x01, &[1]), field(0x02, &[k])];
+fn random_fields(rng: &mut Rng, edition: Edition, k: u8, count: usize) -> Vec<Vec<u8>> {
+    let mut fields = vec![field(0x01, &[edition.number()]), field(0x02, &[k])];
     for _ in 0..count {
-        let numbers: Vec<i16> = (0..=k).map(|_| other::short(rng)).collect();
-        fields.push(constraint_of(rng.below(3) as u8, &numbers));
+        fields.push(some_constraint(rng, edition, k));
     }
     fields
 }
 
-/// A bundle of 32 constraints or 33, or of 4,096 bytes or 4,097.
+/// A length above the most of a bundle of the edition; in edition 1 up to the most of any.
+fn too_long(rng: &mut Rng, edition: Edition) -> usize {
+    match edition {
+        Edition::One if rng.chance(1, 2) => rng.within(4_097, 8_192) as usize,
+        _ => edition.bundle_bytes() + 1,
+    }
+}
+
+/// A bundle of 32 constraints or 33, as long as its edition allows or longer, or of the largest numbers and one past them.
 fn bundle(rng: &mut Rng, over: bool) -> (u8, Vec<u8>) {
     let k = 1 + rng.below(16) as u8;
+    let edition = other::edition(rng);
+    if rng.chance(1, 3) {
+        return end_numbers(rng, k, over);
+    }
     if rng.chance(1, 2) {
-        let fields = random_fields(rng, k, 32 + usize::from(over));
+        let fields = random_fields(rng, edition, k, 32 + usize::from(over));
         let used: usize = fields.iter().map(Vec::len).sum();
         let length = used + 3 * rng.below(60);
         let file = filled(rng, fields, length);
         return (if over { 8 } else { 0 }, file);
     }
     let count = rng.below(33);
-    let fields = random_fields(rng, k, count);
-    let file = filled(rng, fields, 4_096 + usize::from(over));
-    (u8::from(over), file)
+    let fields = random_fields(rng, edition, k, count);
+    let length = if over {
+        too_long(rng, edition)
+    } else {
+        edition.bundle_bytes()
+    };
+    (u8::from(over), filled(rng, fields, length))
 }
 
 /// A or B at the limits of a bundle, with a table that closes at once where that can be.
@@ -371,16 +409,17 @@ fn bundles(rng: &mut Rng, over: bool) -> Aimed {
     let mut one = vec![0; usize::from(k) + 1];
     one[usize::from(k)] = 1;
     let small = file(k, &[constraint(false, &one)]);
+    let edition = other::edition(rng);
     let count = 32 + usize::from(over);
-    let mut fields = random_fields(rng, k, count);
+    let mut fields = random_fields(rng, edition, k, count);
     let used: usize = fields.iter().map(Vec::len).sum();
     let (number, length) = match over {
         // Notes up to the longest file, or a few.
-        false if rng.chance(1, 2) => (0, 4_096),
+        false if rng.chance(1, 2) => (0, edition.bundle_bytes()),
         false => (0, used + 3 * rng.below(50)),
         true if rng.chance(1, 2) => {
             fields.pop();
-            (1, 4_097)
+            (1, too_long(rng, edition))
         }
         true => (8, used + 3 * rng.below(50)),
     };
@@ -405,7 +444,7 @@ fn lengths(rng: &mut Rng, over: bool) -> Aimed {
     (u8::from(over), check(ground.a, ground.b, proof))
 }
 
-/// 32 kinds or 33, outputs as needed or one byte short.
+/// 32 kinds or 33, a number past the ends, outputs as needed or one byte short.
 fn write(rng: &mut Rng, over: bool) -> Aimed {
     let k = 1 + rng.below(16) as u8;
     let many = rng.chance(1, 2);
@@ -415,14 +454,29 @@ fn write(rng: &mut Rng, over: bool) -> Aimed {
         rng.below(33)
     };
     let width = usize::from(k) + 1;
-    let needed = 8 + count * (3 + 2 * width);
+    let edition = other::edition(rng);
+    let needed = 8 + count * (3 + edition.number_bytes() * width);
+    let mut numbers: Vec<i32> = (0..count * width)
+        .map(|_| other::number(rng, edition))
+        .collect();
+    let place = rng.below(numbers.len());
+    // A number past the ends, with the output short or not.
+    let past = over && !many && !numbers.is_empty() && rng.chance(1, 2);
+    if past {
+        numbers[place] = match edition {
+            Edition::One => *rng.pick(&[-32_769, 32_768, i32::MIN, i32::MAX]),
+            Edition::Two => i32::MIN,
+        };
+    }
     let case = Case::Write {
+        edition: edition.number(),
         k,
         kinds: (0..count).map(|_| rng.below(3) as u8).collect(),
-        numbers: (0..count * width).map(|_| other::short(rng)).collect(),
+        numbers,
         out: needed - usize::from(over && !many),
     };
     let number = match (over, many) {
+        _ if past => 13,
         (false, _) => 0,
         (true, true) => 8,
         (true, false) => 21,
@@ -430,13 +484,14 @@ fn write(rng: &mut Rng, over: bool) -> Aimed {
     (number, case)
 }
 
-/// The last line or the one after it, of bundles with up to 32 constraints and notes up to 4,096 bytes.
+/// The last line or the one after it, of bundles with up to 32 constraints and notes up to the most bytes.
 fn show(rng: &mut Rng, over: bool) -> Aimed {
     let k = 1 + rng.below(16) as u8;
     let bundle = |rng: &mut Rng| {
         let count = if rng.chance(1, 2) { 32 } else { rng.below(33) };
-        let fields = random_fields(rng, k, count);
-        (count, filled(rng, fields, 4_096))
+        let edition = other::edition(rng);
+        let fields = random_fields(rng, edition, k, count);
+        (count, filled(rng, fields, edition.bundle_bytes()))
     };
     let (first, a) = bundle(rng);
     let (second, b) = bundle(rng);

@@ -10,6 +10,7 @@ pub mod damage;
 pub mod deep;
 pub mod directed;
 pub mod edge;
+pub mod editions;
 pub mod limit;
 mod list;
 pub mod other;
@@ -20,6 +21,7 @@ pub mod stride;
 pub mod table;
 pub mod tie;
 pub mod tree;
+pub mod turn;
 
 pub use case::{Case, Operation, Outcome, Output, OPERATIONS};
 pub use list::{heavy_list, list, HEAVY};

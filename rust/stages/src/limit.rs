@@ -4,30 +4,45 @@
 use crate::build::*;
 use crate::case::{Case, Operation};
 use crate::directed::{bushy, check, flat_a, Aimed, Base};
+use crate::editions;
+use crate::other;
 use crate::rng::Rng;
 use crate::rounding::{exact, MOST};
 use crate::table::{closed_table, Size, Table};
+use crate::turn::mix_aimed;
+use reference::Edition;
 
-/// The cases of one operation with short files.
+/// The cases of one operation with short files, in every mix of editions.
 pub fn light(rng: &mut Rng, operation: Operation) -> Vec<Aimed> {
-    match operation {
+    let mut cases = match operation {
         Operation::Check => light_checks(rng),
         Operation::Read => reads(rng, 1),
         Operation::Write => writes(rng),
         Operation::Show => shows(1),
         Operation::Test => light_tests(rng),
+    };
+    cases.extend(editions::light(rng, operation));
+    for aimed in &mut cases {
+        mix_aimed(rng, aimed);
     }
+    cases
 }
 
-/// The cases of one operation with long files.
+/// The cases of one operation with long files, likewise.
 pub fn heavy(rng: &mut Rng, operation: Operation) -> Vec<Aimed> {
-    match operation {
+    let mut cases = match operation {
         Operation::Check => heavy_checks(rng),
         Operation::Read => heavy_reads(rng),
         Operation::Write => Vec::new(),
         Operation::Show => heavy_shows(rng),
         Operation::Test => heavy_tests(rng),
+    };
+    for aimed in &mut cases {
+        mix_aimed(rng, aimed);
     }
+    // These have their editions already, and are long by them.
+    cases.extend(editions::heavy(rng, operation));
+    cases
 }
 
 /// So many strengthens, each in the given branch of the one before, and all
@@ -551,10 +566,18 @@ fn heavy_reads(rng: &mut Rng) -> Vec<Aimed> {
 
 fn writes(rng: &mut Rng) -> Vec<Aimed> {
     let mut cases = Vec::new();
+    for edition in Edition::ALL {
+        cases.extend(writes_in(rng, edition));
+    }
+    cases
+}
+
+fn writes_in(rng: &mut Rng, edition: Edition) -> Vec<Aimed> {
+    let mut cases = Vec::new();
     for k in [0u8, 1, 16, 17] {
         for count in [31usize, 32, 33] {
             let width = usize::from(k) + 1;
-            let needed = 8 + count * (3 + 2 * width);
+            let needed = 8 + count * (3 + edition.number_bytes() * width);
             let number = match (k, count) {
                 (0 | 17, _) => 7,
                 (_, 33) => 8,
@@ -565,10 +588,12 @@ fn writes(rng: &mut Rng) -> Vec<Aimed> {
                 if number == 21 && !((1..=16).contains(&k) && count <= 32) {
                     continue;
                 }
+                let numbers = (0..count * width).map(|_| other::number(rng, edition));
                 let case = Case::Write {
+                    edition: edition.number(),
                     k,
                     kinds: (0..count).map(|i| (i % 3) as u8).collect(),
-                    numbers: (0..count * width).map(|_| rng.word() as i16).collect(),
+                    numbers: numbers.collect(),
                     out,
                 };
                 cases.push((number, case));

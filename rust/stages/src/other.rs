@@ -1,7 +1,8 @@
 //! Random bundles, lists and formulas that are right.
 
-use crate::build;
+use crate::build::{self, Layout};
 use crate::rng::Rng;
+use reference::Edition;
 
 /// A number of two bytes, often small, sometimes at the ends of the range.
 pub fn short(rng: &mut Rng) -> i16 {
@@ -39,17 +40,38 @@ pub fn note(rng: &mut Rng) -> Vec<u8> {
     build::field(0x80 | rng.byte(), &contents)
 }
 
-/// K, kinds and numbers of a bundle.
-pub fn lists(rng: &mut Rng, constants: usize, most: usize) -> (u8, Vec<u8>, Vec<i16>) {
+pub fn edition(rng: &mut Rng) -> Edition {
+    *rng.pick(&Edition::ALL)
+}
+
+/// A number that bundles of the edition hold; of four bytes often the ends of
+/// two.
+pub fn number(rng: &mut Rng, edition: Edition) -> i32 {
+    match edition {
+        Edition::One => i32::from(short(rng)),
+        Edition::Two if rng.chance(1, 6) => {
+            *rng.pick(&[-32_768, -32_769, 32_767, 32_768, 65_535, 65_536])
+        }
+        Edition::Two => long(rng).max(-i32::MAX),
+    }
+}
+
+/// K, kinds and numbers of a bundle of an edition.
+pub fn lists(
+    rng: &mut Rng,
+    edition: Edition,
+    constants: usize,
+    most: usize,
+) -> (u8, Vec<u8>, Vec<i32>) {
     let k = 1 + rng.below(constants);
     let count = rng.below(most + 1);
     let kinds = (0..count).map(|_| rng.below(3) as u8).collect();
-    let numbers = (0..count * (k + 1)).map(|_| short(rng)).collect();
+    let numbers = (0..count * (k + 1)).map(|_| number(rng, edition)).collect();
     (k as u8, kinds, numbers)
 }
 
 /// The file of a bundle, with notes now and then.
-pub fn bundle(rng: &mut Rng, k: u8, kinds: &[u8], numbers: &[i16]) -> Vec<u8> {
+pub fn bundle(rng: &mut Rng, edition: Edition, k: u8, kinds: &[u8], numbers: &[i32]) -> Vec<u8> {
     let notes = rng.below(3);
     let mut file = Vec::new();
     let mut push = |rng: &mut Rng, part: Vec<u8>| {
@@ -58,10 +80,10 @@ pub fn bundle(rng: &mut Rng, k: u8, kinds: &[u8], numbers: &[i16]) -> Vec<u8> {
         }
         file.extend(part);
     };
-    push(rng, build::field(0x01, &[1]));
+    push(rng, build::field(0x01, &[edition.number()]));
     push(rng, build::field(0x02, &[k]));
     for (kind, row) in kinds.iter().zip(numbers.chunks(usize::from(k) + 1)) {
-        push(rng, build::constraint_of(*kind, row));
+        push(rng, Layout(edition).constraint(*kind, row));
     }
     push(rng, Vec::new());
     file

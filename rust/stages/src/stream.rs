@@ -1,11 +1,13 @@
 //! Endless rows of cases of one operation and class.
 
 use crate::case::{Case, Operation};
-use crate::damage::{damage, noise};
+use crate::damage::{damage, noise, noise_in};
 use crate::rng::Rng;
 use crate::table::{careless_table, closed_table, Size, Table};
 use crate::tie::tied;
+use crate::turn::{mix, turned_up};
 use crate::{deep, directed, edge, limit, other, rounding};
+use reference::Edition;
 
 /// What sort of cases are wanted.
 #[derive(Clone, Copy, PartialEq, Eq, Debug)]
@@ -103,8 +105,9 @@ pub fn sound(rng: &mut Rng, operation: Operation, size: &Size) -> Case {
             Case::Check { a, b, proof, out }
         }
         Operation::Read => {
-            let (k, kinds, numbers) = other::lists(rng, size.constants, size.others + 2);
-            let file = other::bundle(rng, k, &kinds, &numbers);
+            let edition = other::edition(rng);
+            let (k, kinds, numbers) = other::lists(rng, edition, size.constants, size.others + 2);
+            let file = other::bundle(rng, edition, k, &kinds, &numbers);
             let (kinds, numbers) = (near(rng, kinds.len()), near(rng, numbers.len()));
             Case::Read {
                 file,
@@ -113,9 +116,11 @@ pub fn sound(rng: &mut Rng, operation: Operation, size: &Size) -> Case {
             }
         }
         Operation::Write => {
-            let (k, kinds, numbers) = other::lists(rng, 16, size.others + 2);
-            let needed = 8 + 3 * kinds.len() + 2 * numbers.len();
+            let edition = other::edition(rng);
+            let (k, kinds, numbers) = other::lists(rng, edition, 16, size.others + 2);
+            let needed = 8 + 3 * kinds.len() + edition.number_bytes() * numbers.len();
             Case::Write {
+                edition: edition.number(),
                 k,
                 kinds,
                 numbers,
@@ -123,12 +128,15 @@ pub fn sound(rng: &mut Rng, operation: Operation, size: &Size) -> Case {
             }
         }
         Operation::Show => {
-            let (k, kinds, numbers) = other::lists(rng, size.constants, size.others + 2);
-            let a = other::bundle(rng, k, &kinds, &numbers);
+            let (first, second) = (other::edition(rng), other::edition(rng));
+            // Numbers that both may hold.
+            let both = first.min(second);
+            let (k, kinds, numbers) = other::lists(rng, both, size.constants, size.others + 2);
+            let a = other::bundle(rng, first, k, &kinds, &numbers);
             // B has some of A's constraints, so that K is the same.
             let kept = rng.below(kinds.len() + 1);
             let width = usize::from(k) + 1;
-            let b = other::bundle(rng, k, &kinds[..kept], &numbers[..kept * width]);
+            let b = other::bundle(rng, second, k, &kinds[..kept], &numbers[..kept * width]);
             let line = rng.below(kinds.len() + kept + 2);
             Case::Show { a, b, line }
         }
@@ -146,11 +154,18 @@ fn some_table(rng: &mut Rng, size: &Size) -> Table {
     match rng.below(10) {
         0 => {
             let table = rounding::rounded(rng, size.constants);
+            let mut turn = |file: Vec<u8>| {
+                if rng.chance(1, 2) {
+                    turned_up(&file)
+                } else {
+                    file
+                }
+            };
             Table {
                 k: table.constants,
-                proof: table.proof(),
-                a: table.a,
-                b: table.b,
+                proof: turn(table.proof()),
+                a: turn(table.a),
+                b: turn(table.b),
             }
         }
         1 => {
@@ -183,10 +198,14 @@ pub fn damaged(rng: &mut Rng, operation: Operation, size: &Size) -> Case {
         return Case::Check { a, b, proof, out };
     }
     if operation == Operation::Check && rng.chance(3, 10) {
-        return deep::deep(rng, size.constants).1;
+        let mut case = deep::deep(rng, size.constants).1;
+        mix(rng, &mut case);
+        return case;
     }
     if operation == Operation::Check && rng.chance(1, 12) {
-        return rounding::damaged(rng, size.constants).1;
+        let mut case = rounding::damaged(rng, size.constants).1;
+        mix(rng, &mut case);
+        return case;
     }
     let mut case = sound(rng, operation, size);
     let times = if rng.chance(1, 4) { 2 } else { 1 };
@@ -201,11 +220,19 @@ pub fn damaged(rng: &mut Rng, operation: Operation, size: &Size) -> Case {
             },
             Case::Read { file, .. } => damage(rng, file, k),
             Case::Write {
+                edition,
                 k,
                 kinds,
                 numbers,
                 out,
-            } => match rng.below(5) {
+            } => match rng.below(8) {
+                5 => *edition = rng.below(4) as u8,
+                6 | 7 => {
+                    let place = rng.below(numbers.len());
+                    if let Some(number) = numbers.get_mut(place) {
+                        *number = other::long(rng);
+                    }
+                }
                 0 => *k = rng.byte(),
                 1 => kinds.push(rng.below(4) as u8),
                 2 => {
@@ -252,12 +279,14 @@ pub fn random(rng: &mut Rng, operation: Operation) -> Case {
             } else {
                 (base.a, base.b)
             };
-            Case::Check {
+            let mut case = Case::Check {
                 a,
                 b,
                 proof: noise(rng, k),
                 out: rng.below(100),
-            }
+            };
+            mix(rng, &mut case);
+            case
         }
         Operation::Read => Case::Read {
             file: noise(rng, k),
@@ -267,9 +296,10 @@ pub fn random(rng: &mut Rng, operation: Operation) -> Case {
         Operation::Write => {
             let (count, numbers) = (rng.below(5), rng.below(14));
             Case::Write {
+                edition: rng.below(4) as u8,
                 k: rng.below(20) as u8,
                 kinds: (0..count).map(|_| rng.below(4) as u8).collect(),
-                numbers: (0..numbers).map(|_| other::short(rng)).collect(),
+                numbers: (0..numbers).map(|_| other::long(rng)).collect(),
                 out: rng.below(60),
             }
         }
@@ -278,9 +308,17 @@ pub fn random(rng: &mut Rng, operation: Operation) -> Case {
             b: noise(rng, k),
             line: rng.below(6),
         },
-        Operation::Test => Case::Test {
-            formula: noise(rng, k),
-            values: (0..k).map(|_| other::value(rng)).collect(),
-        },
+        Operation::Test => {
+            // Formulas are of edition 1, or refused.
+            let edition = if rng.chance(1, 6) {
+                Edition::Two
+            } else {
+                Edition::One
+            };
+            Case::Test {
+                formula: noise_in(rng, edition, k),
+                values: (0..k).map(|_| other::value(rng)).collect(),
+            }
+        }
     }
 }

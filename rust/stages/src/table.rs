@@ -4,14 +4,18 @@
 //! branch by it. As lines never leave a branch before it ends, one of them is
 //! at hand in every branch, whatever rows come before.
 
-use crate::build;
+use crate::build::{self, Layout};
 use crate::damage::fields;
 use crate::rng::Rng;
 use crate::rounding::random_by;
+use reference::Edition;
 
 pub const MOST: i64 = 2_147_483_647;
 /// Lines that are kept free for the rows that close a branch.
 const RESERVE: usize = 8;
+/// The numbers of a contradiction over four bytes: the rows that show it take
+/// them at most 27 times.
+const WIDE: i64 = 70_000_000;
 
 /// K coefficients, then d; what follows is 0.
 pub type Form = [i64; 17];
@@ -56,6 +60,15 @@ impl Size {
         others: 20,
         strengthens: 30,
         derivations: 6,
+    };
+    /// A branch with more lines than one byte numbers, where the proof is of
+    /// edition 2.
+    pub const LONG: Size = Size {
+        constants: 5,
+        contradictions: 3,
+        others: 8,
+        strengthens: 0,
+        derivations: 900,
     };
 }
 
@@ -179,12 +192,17 @@ fn random_form(rng: &mut Rng, k: usize, largest: i64) -> Form {
     form
 }
 
-fn random_size(rng: &mut Rng) -> i64 {
-    match rng.below(12) {
+/// How large the coefficients of a form are; above two bytes only where that
+/// many are held.
+fn random_size(rng: &mut Rng, most: i64) -> i64 {
+    match rng.below(if most > 32_767 { 16 } else { 12 }) {
         0..=7 => 3,
         8..=9 => 12,
         10 => 400,
-        _ => 32_767,
+        11 => 32_767,
+        12 => 70_000,
+        13 => 5_000_000,
+        _ => most,
     }
 }
 
@@ -220,13 +238,16 @@ fn not_divided(rng: &mut Rng, g: i64) -> i64 {
 }
 
 /// A random contradiction; one that takes a rounding only if that is allowed.
-fn random_contradiction(rng: &mut Rng, k: usize, rounding: bool) -> Contradiction {
+/// `wide`: with numbers of four bytes.
+fn random_contradiction(rng: &mut Rng, k: usize, rounding: bool, wide: bool) -> Contradiction {
     use Of::{Given, Made};
+    let most = if wide { WIDE } else { 32_767 };
     for _ in 0..20 {
-        let size = random_size(rng);
+        let size = random_size(rng, most);
         let f = random_form(rng, k, size);
-        let h = random_form(rng, k, size.min(400));
-        let other = random_form(rng, k, size.min(400));
+        let smaller = if size > 32_767 { 70_000 } else { 400 };
+        let h = random_form(rng, k, size.min(smaller));
+        let other = random_form(rng, k, size.min(smaller));
         let zero = [0; 17];
         let (p, q) = (rng.within(1, 3), rng.within(1, 3));
         let sign = if rng.chance(1, 2) { 1 } else { -1 };
@@ -393,8 +414,8 @@ fn random_contradiction(rng: &mut Rng, k: usize, rounding: bool) -> Contradictio
                 )
             }
         };
-        let short = |form: &Form| form.iter().all(|n| (-32_768..=32_767).contains(n));
-        if constraints.iter().all(|(_, form)| short(form)) {
+        let held = |form: &Form| form.iter().all(|n| (-most - 1..=most).contains(n));
+        if constraints.iter().all(|(_, form)| held(form)) {
             return Contradiction { constraints, plan };
         }
     }
@@ -404,25 +425,43 @@ fn random_contradiction(rng: &mut Rng, k: usize, rounding: bool) -> Contradictio
     }
 }
 
-/// A random table that check accepts.
+/// The editions of A, B and proof.
+pub type Editions = [Edition; 3];
+
+/// A random mix of editions.
+pub fn random_editions(rng: &mut Rng) -> Editions {
+    [(); 3].map(|()| *rng.pick(&Edition::ALL))
+}
+
+/// A random table that check accepts, in a random mix of editions.
 pub fn closed_table(rng: &mut Rng, size: &Size) -> Table {
-    table(rng, size, false)
+    let editions = random_editions(rng);
+    closed_table_in(rng, size, editions)
+}
+
+/// A random table that check accepts, in these editions.
+pub fn closed_table_in(rng: &mut Rng, size: &Size, editions: Editions) -> Table {
+    table(rng, size, editions, false)
 }
 
 /// A random table like a closed one, except that a row may take a number out
 /// of range.
 pub fn careless_table(rng: &mut Rng, size: &Size) -> Table {
-    table(rng, size, true)
+    let editions = random_editions(rng);
+    table(rng, size, editions, true)
 }
 
-fn table(rng: &mut Rng, size: &Size, careless: bool) -> Table {
+fn table(rng: &mut Rng, size: &Size, editions: Editions, careless: bool) -> Table {
+    let [of_a, of_b, of_proof] = editions;
+    // A constraint may stand in either bundle, so both must hold its numbers.
+    let wide = of_a.min(of_b) == Edition::Two;
     let k = 1 + rng.below(size.constants);
     let mut all: Vec<Placed> = Vec::new();
     let mut plans = Vec::new();
     let contradictions = 1 + rng.below(size.contradictions);
     for number in 0..contradictions {
         // The first closes a branch even where no step may be added.
-        let new = random_contradiction(rng, k, number > 0);
+        let new = random_contradiction(rng, k, number > 0, wide);
         for (place, (kind, form)) in new.constraints.iter().enumerate() {
             all.push(Placed {
                 kind: *kind,
@@ -436,7 +475,7 @@ fn table(rng: &mut Rng, size: &Size, careless: bool) -> Table {
         });
     }
     for _ in 0..rng.below(size.others + 1) {
-        let largest = random_size(rng);
+        let largest = random_size(rng, if wide { MOST } else { 32_767 });
         let form = random_form(rng, k, largest);
         // Now and then one that can be rounded.
         let times = if largest < 400 && rng.chance(1, 3) {
@@ -445,7 +484,7 @@ fn table(rng: &mut Rng, size: &Size, careless: bool) -> Table {
             1
         };
         let form = sum(times, &form, 0, &form);
-        let d = rng.within(-largest - 1, largest);
+        let d = rng.within(-largest - 1, largest).max(-MOST);
         all.push(Placed {
             kind: *rng.pick(&[Inequality, Inequality, Equality, Equality, Disequality]),
             form: raised(&form, k, d),
@@ -457,7 +496,7 @@ fn table(rng: &mut Rng, size: &Size, careless: bool) -> Table {
     // constraints of a contradiction in turn.
     let way = rng.below(12);
     let first_in_a = rng.chance(1, 2);
-    let (of_a, of_b): (Vec<Placed>, Vec<Placed>) =
+    let (own, theirs): (Vec<Placed>, Vec<Placed>) =
         all.into_iter().partition(|given| match (way, given.part) {
             (0, _) => false,
             (1, _) => true,
@@ -469,7 +508,9 @@ fn table(rng: &mut Rng, size: &Size, careless: bool) -> Table {
         k,
         own: 0,
         lines: Vec::new(),
-        proof: build::header(k as u8),
+        rows: Layout(of_proof),
+        most: of_proof.lines(),
+        proof: build::header_of(of_proof, k as u8),
         branches: 2 * rng.below(size.strengthens + 1),
         derivations: size.derivations,
         multiplier: *rng.pick(&[4, 4, 4, 4, 4, 60, 65_535]),
@@ -478,13 +519,14 @@ fn table(rng: &mut Rng, size: &Size, careless: bool) -> Table {
         notes: *rng.pick(&[0, 0, 0, 1, 3]),
         plans,
     };
-    let mut bundles = [build::header(k as u8), build::header(k as u8)];
-    for (bundle, (own, constraints)) in bundles.iter_mut().zip([(true, &of_a), (false, &of_b)]) {
+    let mut bundles = [of_a, of_b].map(|edition| build::header_of(edition, k as u8));
+    let given = [(of_a, true, &own), (of_b, false, &theirs)];
+    for (bundle, (edition, own, constraints)) in bundles.iter_mut().zip(given) {
         for given in constraints {
             let form = given.form;
-            let numbers: Vec<i16> = form[..=k].iter().map(|&n| n as i16).collect();
+            let numbers: Vec<i32> = form[..=k].iter().map(|&n| n as i32).collect();
             random_notes(rng, maker.notes, bundle);
-            bundle.extend(build::constraint_of(given.kind as u8, &numbers));
+            bundle.extend(Layout(edition).constraint(given.kind as u8, &numbers));
             if let Some((number, place)) = given.part {
                 maker.plans[number].lines[place] = maker.lines.len();
             }
@@ -527,6 +569,9 @@ struct Maker {
     /// How many lines are A's constraints.
     own: usize,
     lines: Vec<Line>,
+    /// The rows of the proof's edition, and the most lines of it.
+    rows: Layout,
+    most: usize,
     proof: Vec<u8>,
     /// Branches that steps may still add.
     branches: usize,
@@ -545,11 +590,11 @@ impl Maker {
     /// Writes the rows of a branch up to its end. The caller drops its lines.
     fn branch(&mut self, rng: &mut Rng, depth: usize) {
         for _ in 0..rng.below(self.derivations + 1) {
-            if self.lines.len() + RESERVE < 128 {
+            if self.has_room() {
                 self.derive(rng);
             }
         }
-        let room = depth < 24 && self.lines.len() + RESERVE < 128;
+        let room = depth < 24 && self.has_room();
         if self.branches >= 2 && room && rng.chance(6, 8) {
             if rng.chance(1, 3) {
                 if let Some(line) = self.line_to_split(rng) {
@@ -568,10 +613,15 @@ impl Maker {
         self.finish(rng);
     }
 
+    /// Whether there are lines left beside those kept free.
+    fn has_room(&self) -> bool {
+        self.lines.len() + RESERVE < self.most
+    }
+
     /// A step of its own that adds one branch counts like a strengthen.
     fn split(&mut self, rng: &mut Rng, depth: usize, line: usize) {
         self.branches -= 2;
-        self.emit(rng, &build::split(line as u8));
+        self.emit(rng, &self.rows.split(line));
         for part in 0..2 {
             let before = self.lines.len();
             self.enter_split(line, part);
@@ -580,16 +630,17 @@ impl Maker {
         }
     }
 
-    /// A disequality, if a few tries find one.
+    /// A disequality whose d may be raised both ways, if a few tries find one.
     fn line_to_split(&self, rng: &mut Rng) -> Option<usize> {
-        (0..6)
-            .map(|_| rng.below(self.lines.len()))
-            .find(|&number| self.lines[number].kind == Disequality)
+        (0..6).map(|_| rng.below(self.lines.len())).find(|&number| {
+            let Line { kind, t, .. } = &self.lines[number];
+            *kind == Disequality && t[self.k].abs() < MOST
+        })
     }
 
     fn strengthen(&mut self, rng: &mut Rng, depth: usize, line: usize) {
         self.branches -= 2;
-        self.emit(rng, &build::strengthen(line as u8));
+        self.emit(rng, &self.rows.strengthen(line));
         for part in 0..3 {
             let before = self.lines.len();
             self.enter(line, part);
@@ -600,7 +651,7 @@ impl Maker {
 
     fn round(&mut self, rng: &mut Rng, depth: usize, line: usize, g: i64, by: i64) {
         self.branches -= rounding_cost(by);
-        self.emit(rng, &build::rounding(line as u8, g as u16, by as u16));
+        self.emit(rng, &self.rows.rounding(line, g as u16, by as u16));
         for j in std::iter::once(by).chain(0..by) {
             let before = self.lines.len();
             self.enter_rounded(line, by, j);
@@ -723,7 +774,7 @@ impl Maker {
             t: sum(alpha, &first.t, beta, &second.t),
             partial: sum(alpha, &first.partial, beta, &second.partial),
         };
-        let row = build::combine(s as u8, t as u8, alpha as u16, beta as u16);
+        let row = self.rows.combine(s, t, alpha as u16, beta as u16);
         self.add(rng, line, &row)
     }
 
@@ -734,7 +785,7 @@ impl Maker {
             t: sum(1, &first.t, alpha, &second.t),
             partial: sum(1, &first.partial, alpha, &second.partial),
         };
-        let row = build::reduce(s as u8, t as u8, alpha as i16);
+        let row = self.rows.reduce(s, t, alpha as i16);
         self.add(rng, line, &row)
     }
 
@@ -745,7 +796,7 @@ impl Maker {
             t: sum(alpha, &old.t, 0, &old.t),
             partial: sum(alpha, &old.partial, 0, &old.partial),
         };
-        let row = build::scale(t as u8, alpha as u16);
+        let row = self.rows.scale(t, alpha as u16);
         self.add(rng, line, &row)
     }
 
@@ -781,7 +832,7 @@ impl Maker {
                 return;
             }
         }
-        if rng.chance(2, 3) && self.lines.len() + RESERVE < 128 && self.close_by_two(rng) {
+        if rng.chance(2, 3) && self.has_room() && self.close_by_two(rng) {
             return;
         }
         let number = rng.below(self.plans.len());
@@ -800,7 +851,7 @@ impl Maker {
             let line = (start + offset) % self.lines.len();
             let Line { kind, t, .. } = &self.lines[line];
             if let Some(closing) = closing(rng, self.k, *kind, t) {
-                return Some(closing.row(line));
+                return Some(closing.row(self.rows, line));
             }
         }
         None
@@ -823,7 +874,7 @@ impl Maker {
                 let new = sum(1, &first.t, alpha, &second.t);
                 if let Some(closing) = closing(rng, self.k, first.kind, &new) {
                     if self.reduce(rng, s, t, alpha) {
-                        let row = closing.row(self.lines.len() - 1);
+                        let row = closing.row(self.rows, self.lines.len() - 1);
                         self.emit(rng, &row);
                         return true;
                     }
@@ -844,7 +895,7 @@ impl Maker {
                 let new = sum(alpha, &first.t, beta, &second.t);
                 if let Some(closing) = closing(rng, self.k, Inequality, &new) {
                     if self.combine(rng, s, t, alpha, beta) {
-                        let row = closing.row(self.lines.len() - 1);
+                        let row = closing.row(self.rows, self.lines.len() - 1);
                         self.emit(rng, &row);
                         return true;
                     }
@@ -854,9 +905,9 @@ impl Maker {
         false
     }
 
-    /// The rows of a contradiction that was built in. Their numbers are far
-    /// inside the range, as the constraints have two bytes and the
-    /// multipliers are at most 3.
+    /// The rows of a contradiction that was built in. Their numbers are inside
+    /// the range, as the multipliers are at most 3 and what they come to in all
+    /// is at most 27 times a constraint's.
     fn follow(&mut self, rng: &mut Rng, number: usize) {
         let made = self.lines.len();
         for index in 0..self.plans[number].plan.len() {
@@ -879,57 +930,57 @@ impl Maker {
                     self.scale(rng, t, alpha);
                 }
                 Row::Close(t) => {
-                    let row = build::close(line(t) as u8);
+                    let row = self.rows.close(line(t));
                     self.emit(rng, &row);
                 }
                 Row::Stride(t, g) => {
-                    let row = build::stride(line(t) as u8, g as u16);
+                    let row = self.rows.stride(line(t), g as u16);
                     self.emit(rng, &row);
                 }
                 Row::Round(t, minus, g) => {
                     let (t, minus) = (line(t), line(minus));
-                    self.emit(rng, &build::strengthen(t as u8));
+                    self.emit(rng, &self.rows.strengthen(t));
                     for part in 0..3 {
                         self.lines.truncate(made);
                         self.enter(t, part);
                         if part == 1 {
-                            self.emit(rng, &build::stride(made as u8, g as u16));
+                            self.emit(rng, &self.rows.stride(made, g as u16));
                         } else {
                             self.combine(rng, made, minus, 1, 1);
-                            self.emit(rng, &build::close(made as u8 + 1));
+                            self.emit(rng, &self.rows.close(made + 1));
                         }
                     }
                 }
                 Row::Split(t, minus, plus) => {
                     let t = line(t);
                     let others = [minus, plus].map(|(of, times)| (line(of), times));
-                    self.emit(rng, &build::split(t as u8));
+                    self.emit(rng, &self.rows.split(t));
                     for (part, (other, times)) in others.into_iter().enumerate() {
                         self.lines.truncate(made);
                         self.enter_split(t, part);
                         self.combine(rng, made, other, times, 1);
-                        self.emit(rng, &build::close(made as u8 + 1));
+                        self.emit(rng, &self.rows.close(made + 1));
                     }
                 }
                 Row::SplitEqual(t, equal) => {
                     let (t, equal) = (line(t), line(equal));
-                    self.emit(rng, &build::split(t as u8));
+                    self.emit(rng, &self.rows.split(t));
                     for (part, alpha) in [-1, 1].into_iter().enumerate() {
                         self.lines.truncate(made);
                         self.enter_split(t, part);
                         self.reduce(rng, made, equal, alpha);
-                        self.emit(rng, &build::close(made as u8 + 1));
+                        self.emit(rng, &self.rows.close(made + 1));
                     }
                 }
                 Row::RoundBy(t, minus, g, by) => {
                     let (t, minus) = (line(t), line(minus));
                     let start = self.lines.len();
-                    self.emit(rng, &build::rounding(t as u8, g as u16, by as u16));
+                    self.emit(rng, &self.rows.rounding(t, g as u16, by as u16));
                     for j in std::iter::once(by).chain(0..by) {
                         self.lines.truncate(start);
                         self.enter_rounded(t, by, j);
                         self.combine(rng, start, minus, 1, 1);
-                        self.emit(rng, &build::close(start as u8 + 1));
+                        self.emit(rng, &self.rows.close(start + 1));
                     }
                 }
             }
@@ -943,10 +994,10 @@ enum Closing {
 }
 
 impl Closing {
-    fn row(&self, line: usize) -> Vec<u8> {
+    fn row(&self, rows: Layout, line: usize) -> Vec<u8> {
         match *self {
-            Closing::Number => build::close(line as u8),
-            Closing::Stride(g) => build::stride(line as u8, g),
+            Closing::Number => rows.close(line),
+            Closing::Stride(g) => rows.stride(line, g),
         }
     }
 }

@@ -2,7 +2,7 @@
 //! middle branch is only the close of its new line by a stride, the rounding
 //! by that stride may stand in its place, with the rows of the other two.
 
-use crate::build::rounding;
+use crate::build::field;
 use crate::damage::fields;
 use crate::tree::branches;
 use std::ops::Range;
@@ -49,17 +49,19 @@ impl<'a> Walk<'a> {
     fn branch(&mut self, mut lines: usize) {
         loop {
             let start = self.out.len();
-            let Some(field) = self.copy() else {
+            let Some(row) = self.copy() else {
                 return;
             };
-            match field[0] {
+            match row[0] {
                 0x10..=0x12 => lines += 1,
                 0x13 => {
                     self.branch(lines + 1);
                     match self.lone_stride(lines) {
                         Some(g) => {
-                            let end = start + field.len();
-                            self.out.splice(start..end, rounding(field[3], g, 1));
+                            // The line number as it stands, in either edition.
+                            let contents = [&row[3..], g, &[0, 1]].concat();
+                            let end = start + row.len();
+                            self.out.splice(start..end, field(0x16, &contents));
                             self.ties += 1;
                         }
                         None => self.branch(lines + 1),
@@ -68,7 +70,7 @@ impl<'a> Walk<'a> {
                 }
                 0x14 | 0x15 => return,
                 0x16 | 0x17 => {
-                    return (0..branches(field)).for_each(|_| self.branch(lines + 1));
+                    return (0..branches(row)).for_each(|_| self.branch(lines + 1));
                 }
                 // Header fields, claims and notes.
                 _ => {}
@@ -77,8 +79,8 @@ impl<'a> Walk<'a> {
     }
 
     /// Passes over a branch that is only the close of a line by a stride, and
-    /// gives the stride.
-    fn lone_stride(&mut self, line: usize) -> Option<u16> {
+    /// gives the stride's two bytes.
+    fn lone_stride(&mut self, line: usize) -> Option<&'a [u8]> {
         let start = self.next;
         let field = loop {
             match self.take()? {
@@ -86,14 +88,14 @@ impl<'a> Walk<'a> {
                 field => break field,
             }
         };
-        match *field {
-            [0x15, _, _, t, high, low] if usize::from(t) == line => {
-                Some(u16::from_be_bytes([high, low]))
-            }
-            _ => {
-                self.next = start;
-                None
+        if field[0] == 0x15 {
+            let (t, g) = field[3..].split_at(field.len() - 5);
+            let named = t.iter().fold(0, |t, &byte| 256 * t + usize::from(byte));
+            if named == line {
+                return Some(g);
             }
         }
+        self.next = start;
+        None
     }
 }

@@ -27,7 +27,8 @@ pub fn branches(field: &[u8]) -> u16 {
     match field[0] {
         0x13 => 3,
         0x17 => 2,
-        0x16 => u16::from_be_bytes([field[6], field[7]]) + 1,
+        // The amount stands last in either edition.
+        0x16 => u16::from_be_bytes([field[field.len() - 2], field[field.len() - 1]]) + 1,
         _ => 0,
     }
 }

@@ -89,8 +89,8 @@ fn edge_cases_meet_their_number_on_both_sides() {
         }
         let all: &[u8] = match operation {
             Operation::Check => &[0, 1, 8, 12, 13, 15, 16, 17, 18, 20],
-            Operation::Read => &[0, 1, 8],
-            Operation::Write => &[0, 8, 21],
+            Operation::Read => &[0, 1, 8, 13],
+            Operation::Write => &[0, 8, 13, 21],
             Operation::Show => &[0, 10],
             Operation::Test => &[0, 1, 17, 23],
         };
@@ -100,14 +100,14 @@ fn edge_cases_meet_their_number_on_both_sides() {
 
 /// The refusals that each operation can give, with their file; 0 is accepted.
 fn all_answers(operation: Operation) -> Vec<(u8, u8)> {
-    let bundle = [1, 2, 3, 4, 5, 6, 7, 8];
+    let bundle = [1, 2, 3, 4, 5, 6, 7, 8, 13];
     let of = |file: u8, numbers: &[u8]| -> Vec<(u8, u8)> {
         numbers.iter().map(|&number| (number, file)).collect()
     };
     let accepted = vec![(0, 0)];
     let parts = match operation {
         Operation::Read => vec![accepted, of(1, &bundle), of(4, &[21])],
-        Operation::Write => vec![accepted, of(4, &[7, 8, 24, 21])],
+        Operation::Write => vec![accepted, of(4, &[5, 7, 8, 24, 13, 21])],
         Operation::Show => vec![
             accepted,
             of(1, &bundle),
@@ -264,12 +264,13 @@ fn parse(line: &str) -> (Case, Vec<String>) {
         ),
         "write" => (
             Case::Write {
-                k: number(1) as u8,
-                kinds: numbers(words[2]),
-                numbers: numbers(words[3]),
-                out: number(4),
+                edition: number(1) as u8,
+                k: number(2) as u8,
+                kinds: numbers(words[3]),
+                numbers: numbers(words[4]),
+                out: number(5),
             },
-            5,
+            6,
         ),
         "show" => (
             Case::Show {
@@ -315,10 +316,13 @@ fn printed_lines_say_what_the_case_is_and_its_answer() {
                 assert_eq!(words.len(), 1);
                 assert_eq!(parse_bytes(&words[0]), Some(bytes));
             }
-            Output::Bundle { k, kinds, .. } => {
-                assert_eq!(words.len(), 4);
+            Output::Bundle {
+                k, edition, kinds, ..
+            } => {
+                assert_eq!(words.len(), 5);
                 assert_eq!(words[0], kinds.len().to_string());
                 assert_eq!(words[1], k.to_string());
+                assert_eq!(words[2], edition.to_string());
             }
             Output::Part(file, start, end) => {
                 assert_eq!(words.len(), 1);
@@ -326,7 +330,7 @@ fn printed_lines_say_what_the_case_is_and_its_answer() {
             }
             Output::Verdict(holds) => assert_eq!(*words, [holds.to_string()]),
             Output::Nothing if case.operation() == Operation::Read => {
-                assert_eq!(*words, ["0", "0", "-", "-"]);
+                assert_eq!(*words, ["0", "0", "0", "-", "-"]);
             }
             Output::Nothing => assert_eq!(*words, ["-"]),
         }

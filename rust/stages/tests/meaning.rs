@@ -124,7 +124,8 @@ fn accepted_checks_give_interpolants() {
             let own = bundle(&table.a).constraints.len();
             for part in fields(&table.proof) {
                 if table.proof[part.start] == 0x17 {
-                    let line = usize::from(table.proof[part.start + 3]);
+                    // One byte or two; no line of a bundle is above 255.
+                    let line = usize::from(table.proof[part.end - 1]);
                     splits[usize::from(line >= own)] += 1;
                 }
             }
@@ -233,10 +234,12 @@ fn every_accepted_formula_names_common_constants_only() {
 fn bundles_come_back_from_their_bytes() {
     let mut rng = Rng::new(24);
     for _ in 0..5_000 {
-        let (k, kinds, numbers) = stages::other::lists(&mut rng, 16, 32);
-        let needed = 8 + 3 * kinds.len() + 2 * numbers.len();
+        let edition = stages::other::edition(&mut rng);
+        let (k, kinds, numbers) = stages::other::lists(&mut rng, edition, 16, 32);
+        let needed = 8 + 3 * kinds.len() + edition.number_bytes() * numbers.len();
         let mut file = vec![0x77; needed + 5];
-        let result = reference::write_bundle(k, &kinds, &numbers, &mut file);
+        let number = edition.number();
+        let result = reference::write_bundle(number, k, &kinds, &numbers, &mut file);
         assert_eq!((result.answer.number, result.written), (0, needed));
         assert_eq!(file[needed..], [0x77; 5]);
         let (mut kinds_back, mut numbers_back) = (vec![9; 40], vec![9; 600]);
@@ -244,6 +247,7 @@ fn bundles_come_back_from_their_bytes() {
         let result = reference::read_bundle(file, &mut kinds_back, &mut numbers_back);
         assert_eq!(result.answer.number, 0);
         assert_eq!((result.count, result.k), (kinds.len(), usize::from(k)));
+        assert_eq!(result.edition, number);
         assert_eq!(kinds_back[..kinds.len()], kinds);
         assert_eq!(numbers_back[..numbers.len()], numbers);
         assert!(kinds_back[kinds.len()..].iter().all(|&kind| kind == 9));
@@ -255,8 +259,9 @@ fn bundles_come_back_from_their_bytes() {
 fn a_bundle_with_notes_is_written_without_them() {
     let mut rng = Rng::new(25);
     for _ in 0..5_000 {
-        let (k, kinds, numbers) = stages::other::lists(&mut rng, 16, 32);
-        let noted = stages::other::bundle(&mut rng, k, &kinds, &numbers);
+        let edition = stages::other::edition(&mut rng);
+        let (k, kinds, numbers) = stages::other::lists(&mut rng, edition, 16, 32);
+        let noted = stages::other::bundle(&mut rng, edition, k, &kinds, &numbers);
         let plain: Vec<u8> = fields(&noted)
             .into_iter()
             .filter(|part| noted[part.start] < 0x80)
@@ -265,8 +270,9 @@ fn a_bundle_with_notes_is_written_without_them() {
         let (mut kinds_back, mut numbers_back) = ([0; 32], [0; 544]);
         let read = reference::read_bundle(&noted, &mut kinds_back, &mut numbers_back);
         assert_eq!(read.answer.number, 0);
-        let mut out = vec![0; 2_000];
+        let mut out = vec![0; 2_500];
         let written = reference::write_bundle(
+            read.edition,
             read.k as u8,
             &kinds_back[..read.count],
             &numbers_back[..read.count * (read.k + 1)],

@@ -287,8 +287,8 @@ fn roundings_of_every_amount_and_other_steps_stand_in_one_another() {
                     let branches = match field[0] {
                         0x13 | 0x17 => usize::from(branches(field)),
                         0x16 => {
-                            amounts.insert(field[7]);
-                            usize::from(field[7]) + 1
+                            amounts.insert(branches(field) - 1);
+                            usize::from(branches(field))
                         }
                         0x14 | 0x15 => {
                             while let Some((_, left)) = open.last_mut() {

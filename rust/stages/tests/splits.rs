@@ -117,7 +117,7 @@ fn every_class_splits_lines_of_a_and_of_b() {
         Class::Edge,
     ] {
         let mut splits = [0; 2];
-        for case in stream(Operation::Check, class, Size::SMALL, 73).take(1_500) {
+        for case in stream(Operation::Check, class, Size::SMALL, 73).take(3_000) {
             if case.outcome().answer.number != 0 {
                 continue;
             }
@@ -130,7 +130,7 @@ fn every_class_splits_lines_of_a_and_of_b() {
             let own = constraints.count();
             for part in fields(&proof) {
                 if proof[part.start] == 0x17 {
-                    splits[usize::from(usize::from(proof[part.start + 3]) >= own)] += 1;
+                    splits[usize::from(usize::from(proof[part.end - 1]) >= own)] += 1;
                 }
             }
         }

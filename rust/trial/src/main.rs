@@ -19,35 +19,35 @@ use mathlib.Core.Bool.{true, false}
 use Prim.Native.Nat.{ℕ, zero, suc}
 use lib.ListN.{replicate}
 use lib.IntN.{ℤ, pos, negsuc}
-use Rattle.forms.specs.Edition.{editionNumbered}
+use Rattle.forms.specs.Edition.{newestEdition}
 use Rattle.integers.specs.Remainder.{remainder}
-use Rattle.forms.specs.Forms.{coeff, sum, value, sums, _⊞_, _·_, _plus_, nonzero}
+use Rattle.forms.specs.Forms.{coeff, sum, value, sums, _⊞_, _·_, _plus_, nonzero, small, every}
 use Rattle.forms.specs.Reduced.{reduced}
-use Rattle.calculus.specs.Rules.{small, every, inRange}
+use Rattle.calculus.specs.Rules.{inRange}
 use Rattle.fields.specs.Answers.{position, answerAt, rowTold, _>>=_, _>>_, need, found, each, over, fit, written}
 use Rattle.fields.specs.Numbers.{unsigned, complement, signed, unsignedBytes, residue, signedBytes, signeds, signedsBytes, flat, formFrom, formBytes}
 use Rattle.fields.specs.Fields.{front, note, unlessNote, fieldsFrom, fields, fieldBytes, nth}
-use Rattle.fields.specs.Header.{headerTag, known, agrees, headerField, header, finished, headerBytes}
-use Rattle.bundle.specs.Bundle.{kindTagged, atMost, constraints, bundle, bundles}
+use Rattle.fields.specs.Header.{headerTag, known, agrees, headerField, editionField, constantsField, header, finished, headerBytes}
+use Rattle.bundle.specs.Bundle.{kindTagged, atMost, formSmall, constraints, bundleHeader, bundle, bundles}
 use Rattle.bundle.specs.Read.{kindNumber, kindsOf, numbersOf, unread, store, stored, readBundle}
-use Rattle.bundle.specs.Write.{constraintsBytes, bundleBytes, writeBundle}
+use Rattle.bundle.specs.Write.{constraintsBytes, holdable, bundleBytes, writeBundle}
 use Rattle.bundle.specs.Show.{partOf, constraintPart, shownPart, answerOf, showAnswer, handed, showPart}
 use Rattle.formula.specs.Formula.{encode, formulaFile, formulaTagged, compound, formulaSize, formulaOf, formulaField, twoParts, formulaWithin, readFormula}
 use Rattle.formula.specs.Test.{holds, judge, tested, judged, testFormula}
 use Rattle.proof.specs.Entries.{entryTagged, inPlace, lineNumber, multiplier, sizeOf, entryFrom, entry}
 use Rattle.proof.specs.Rows.{is, plainKind, owner, fails, equals, sameForm, lineAt, derived, fitting, undivided, inequality, roundable, disequality, byNumber, byStride, states}
-use Rattle.proof.specs.Check.{checkRounded, checkSplit, checkRow, checkEntry, checkEntries, checkBranch, checkProof, formulaAtMost, interpolant, check}
+use Rattle.proof.specs.Check.{checkRounded, checkSplit, checkRow, checkEntry, checkEntries, checkBranch, checkProof, formulaAtMost, interpolant, checkBy, check}
 
 ";
 
 /// The names that one operation's evaluation opens.
-const SHARED: &str = "editionNumbered _>>=_ _>>_ need found unsigned complement signed signeds formFrom front note unlessNote fieldsFrom fields headerTag known agrees headerField header";
-const BUNDLES: &str = "kindTagged atMost constraints bundle bundles";
+const SHARED: &str = "small every flat _>>=_ _>>_ need found unsigned complement signed signeds formFrom front note unlessNote fieldsFrom fields headerTag known agrees headerField editionField constantsField header";
+const BUNDLES: &str = "kindTagged atMost formSmall constraints bundleHeader bundle bundles";
 const WRITING: &str =
     "over fit written unsignedBytes residue signedBytes signedsBytes fieldBytes headerBytes";
-const CHECK: &str = "rowTold remainder coeff sum value sums _⊞_ _·_ _plus_ nonzero reduced small every inRange flat formBytes finished encode formulaFile entryTagged inPlace lineNumber multiplier sizeOf entryFrom entry is plainKind owner fails equals sameForm lineAt derived fitting undivided inequality roundable disequality byNumber byStride states checkRounded checkSplit checkRow checkEntry checkEntries checkBranch checkProof formulaAtMost interpolant check";
-const READ: &str = "over flat kindNumber kindsOf numbersOf unread store stored readBundle";
-const WRITE: &str = "each constraintsBytes bundleBytes writeBundle";
+const CHECK: &str = "rowTold remainder coeff sum value sums _⊞_ _·_ _plus_ nonzero reduced inRange formBytes finished encode formulaFile entryTagged inPlace lineNumber multiplier sizeOf entryFrom entry is plainKind owner fails equals sameForm lineAt derived fitting undivided inequality roundable disequality byNumber byStride states checkRounded checkSplit checkRow checkEntry checkEntries checkBranch checkProof formulaAtMost interpolant checkBy check";
+const READ: &str = "over kindNumber kindsOf numbersOf unread store stored readBundle";
+const WRITE: &str = "each constraintsBytes holdable bundleBytes writeBundle";
 const SHOW: &str = "nth partOf constraintPart shownPart answerOf showAnswer handed showPart";
 const TEST: &str = "each sum value finished formulaTagged compound formulaSize formulaOf formulaField twoParts formulaWithin readFormula holds judge tested judged testFormula";
 
@@ -148,9 +148,9 @@ fn statement(case: &[&str]) -> (String, String) {
             ),
             format!("{SHARED} {BUNDLES} {WRITING} {CHECK}"),
         ),
-        ["read", file, kinds, nums, words @ .., count, k, out_kinds, out_nums] => (
+        ["read", file, kinds, nums, words @ .., count, k, edition, out_kinds, out_nums] => (
             format!(
-                "readBundle (replicate {kinds} 0xAA) (replicate {nums} (pos 0x55)) {} ≡ record {{ answer = {}; count = {count}; K = {k}; kinds = ({}) ++ replicate {} 0xAA; numbers = ({}) ++ replicate {} (pos 0x55) }}",
+                "readBundle (replicate {kinds} 0xAA) (replicate {nums} (pos 0x55)) newestEdition {} ≡ record {{ answer = {}; count = {count}; K = {k}; edition = {edition}; kinds = ({}) ++ replicate {} 0xAA; numbers = ({}) ++ replicate {} (pos 0x55) }}",
                 bytes(file),
                 answer(words),
                 naturals(out_kinds),
@@ -160,9 +160,9 @@ fn statement(case: &[&str]) -> (String, String) {
             ),
             format!("{SHARED} {BUNDLES} {READ}"),
         ),
-        ["write", k, kinds, nums, lent, words @ .., output] => (
+        ["write", edition, k, kinds, nums, lent, words @ .., output] => (
             format!(
-                "writeBundle {k} ({}) ({}) (replicate {lent} 0xAA) ≡ {}",
+                "writeBundle newestEdition {edition} {k} ({}) ({}) (replicate {lent} 0xAA) ≡ {}",
                 naturals(kinds),
                 integers(nums),
                 written(words, lent, output)
@@ -175,7 +175,7 @@ fn statement(case: &[&str]) -> (String, String) {
             let (a, b) = (bytes(a), bytes(b));
             (
                 format!(
-                    "(showAnswer {a} {b} {line} ≡ {}) × (showPart {a} {b} {line} ≡ record {{ file = {}; start = {}; size = {} }})",
+                    "(showAnswer newestEdition {a} {b} {line} ≡ {}) × (showPart newestEdition {a} {b} {line} ≡ record {{ file = {}; start = {}; size = {} }})",
                     answer(words),
                     at[0],
                     at[1],

@@ -1,6 +1,6 @@
 -- `bundle::read` meets its contract: each `return` cites the law for its way. Assumes nothing.
 use mathlib.Core.Path.{sym, _∙_}
-use Rattle.bundle.proofs.Scanning.{scan-header}
+use Rattle.bundle.proofs.Scanning.{scanned-bundle, scanned-refused}
 use Rattle.bundle.proofs.Reading.{read-unread, read-long, read-short, stored-refused}
 use borrow.Author.Needs.{needs}
 use Rattle.bundle.proofs.read.Statement.{statement}
@@ -12,14 +12,14 @@ refused-read-requires c κs = search needs
 returns : tie.Need-returns
 returns c = record { is = read-unread _ _ (c .refused-read .ensures) ∙ sym (read-long _ _ _ (c .before .if1 .taken)) }
 
-read-header-requires : tie.Need-read-header-requires
-read-header-requires c κs = search needs
+scan-requires : tie.Need-scan-requires
+scan-requires c κs = search needs
 
 enum-known-k : tie.Need-enum-known-k
 enum-known-k c = search needs
 
-read-constraints-requires : tie.Need-read-constraints-requires
-read-constraints-requires c κs = rw (c .before .before .before .k .given .1) at (c .before .before .before .before .before .read-header .ensures)
+store-body-requires : tie.Need-store-body-requires
+store-body-requires c κs = scanned-bundle (c .before .before .before .before .before .scan .ensures) (c .before .before .before .k .given .1) .0
 
 enum-known-number : tie.Need-enum-known-number
 enum-known-number c = search needs
@@ -34,10 +34,10 @@ same-length-2 : tie.Need-same-length-2
 same-length-2 c = search needs
 
 returns-2 : tie.Need-returns-2
-returns-2 c = record { is = c .before .before .before .read-constraints .ensures ∙ sym (read-short _ _ _ (c .before .before .before .before .before .before .before .before .before .before .if1 .left)) }
+returns-2 c = record { is = c .before .before .before .store-body .ensures ∙ sym (read-short _ _ _ (c .before .before .before .before .before .before .before .before .before .before .if1 .left)) }
 
 returns-3 : tie.Need-returns-3
-returns-3 c = record { is = read-unread _ _ (c .refused-read2 .ensures) ∙ sym (read-short _ _ _ (c .before .before .before .before .before .if1 .left) ∙ stored-refused _ _ (scan-header (c .before .before .before .before .read-header .ensures) 1 (c .before .before .number .given .1))) }
+returns-3 c = record { is = read-unread _ _ (c .refused-read2 .ensures) ∙ sym (read-short _ _ _ (c .before .before .before .before .before .if1 .left) ∙ stored-refused _ _ (scanned-refused (c .before .before .before .before .scan .ensures) (c .before .before .number .given .1) 1)) }
 
 pub read-spec : {M : Type 1} → statement M
 read-spec =
@@ -45,9 +45,9 @@ read-spec =
     (tie.spec
     refused-read-requires
     returns
-    read-header-requires
+    scan-requires
     enum-known-k
-    read-constraints-requires
+    store-body-requires
     enum-known-number
     refused-read-requires-2
     same-length

@@ -1,14 +1,15 @@
 -- `guard::load` meets its contract: what is left to load gives what the whole gives. Assumes nothing.
 use mathlib.Core.Path.{_≡_, refl, _∙_}
+use mathlib.Core.Logic.{inr}
 use Prim.Native.Nat.{_≤_, _-_, _*_}
 use native.Mathlib.Omega.{arith}
 use lib.ListN.{length, drop, length-set}
 use lib.Seq.{sets}
-use mir.Syntax.{w32}
+use mir.Syntax.{w32, w64}
 use mir.ValLaws.{toZ-ofZ}
 use borrow.Author.Needs.{needs}
 use Rattle.fields.specs.Numbers.{signeds}
-use Rattle.guard.proofs.Values.{loaded-next}
+use Rattle.guard.proofs.Values.{long-fits, loaded-next}
 use Rattle.guard.proofs.load.Statement.{statement}
 use Rattle.guard.proofs.load.Tie as tie
 
@@ -25,14 +26,17 @@ loop-holds c =
     let y : c .before .args .count - 0 ≡ c .before .args .count = omega arith in
     (rw y, refl, omega arith)
 
-mul-long-at : tie.Need-mul-long-at Inv-loop μ-loop
-mul-long-at c = search needs
+mul-signed-at : tie.Need-mul-signed-at Inv-loop μ-loop
+mul-signed-at c = search needs
 
-long-at-requires : tie.Need-long-at-requires Inv-loop μ-loop
-long-at-requires c κs = search needs
+signed-at-requires : tie.Need-signed-at-requires Inv-loop μ-loop
+signed-at-requires c κs = (inr refl, omega arith)
 
-mul-t8 : tie.Need-mul-t8 Inv-loop μ-loop
-mul-t8 c = search needs
+cast-values : tie.Need-cast-values Inv-loop μ-loop
+cast-values c = rw (toZ-ofZ w64 (c .signed-at .result) (record { sfits = c .signed-at .ok })) (long-fits (c .signed-at .ensures .1))
+
+mul-t9 : tie.Need-mul-t9 Inv-loop μ-loop
+mul-t9 c = search needs
 
 slice-set-from-values : tie.Need-slice-set-from-values Inv-loop μ-loop
 slice-set-from-values c = search needs
@@ -46,7 +50,7 @@ loop-less c = search needs
 loop-again : tie.Need-loop-again Inv-loop μ-loop
 loop-again c =
     let a = c .before .before .before .before .args in
-    let x = toZ-ofZ w32 (c .long-at .result) (record { sfits = c .long-at .ok }) ∙ c .long-at .ensures .0 in (
+    let x = toZ-ofZ w32 _ (cast-values c) ∙ toZ-ofZ w64 (c .signed-at .result) (record { sfits = c .signed-at .ok }) ∙ c .signed-at .ensures .0 in (
       rw x (loaded-next (c .before .before .loop .values) (c .before .before .loop .i) (a .count) (a .v .now) (c .before .loop-test .taken) ∙ c .before .before .loop .inv .0),
       simp length-set (c .before .before .loop .inv .1),
       omega arith,
@@ -68,9 +72,10 @@ load-spec =
     Inv-loop
     μ-loop
     loop-holds
-    mul-long-at
-    long-at-requires
-    mul-t8
+    mul-signed-at
+    signed-at-requires
+    cast-values
+    mul-t9
     slice-set-from-values
     add-i
     loop-less

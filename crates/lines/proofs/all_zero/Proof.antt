@@ -8,7 +8,7 @@ use mir.Val.{toZ}
 use mir.ValLaws.{toZ-ofZ}
 use borrow.Author.Needs.{needs}
 use Rattle.integers.specs.Linear.{eqZ}
-use Rattle.calculus.specs.Rules.{every}
+use Rattle.forms.specs.Forms.{every}
 use Rattle.lines.specs.Parts.{part}
 use Rattle.lines.proofs.Every.{joined-next}
 use Rattle.lines.proofs.all_zero.Statement.{statement}

@@ -14,7 +14,7 @@ use mir.ValLaws.{toZ-ofZ}
 use Rattle.integers.specs.Magnitude.{Factors, Within}
 use Rattle.integers.proofs.Magnitude.{within-fits, first-fits, second-fits, sum-fits}
 use Rattle.forms.specs.Edition.{edition1}
-use Rattle.calculus.specs.Rules.{small, every}
+use Rattle.forms.specs.Forms.{small, every}
 use Rattle.lines.specs.Parts.{Agree}
 use Rattle.lines.proofs.Parts.{agree-paste}
 use Rattle.lines.specs.Buffer.{Terms, Mixes, mixed}

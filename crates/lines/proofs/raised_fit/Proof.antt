@@ -4,8 +4,8 @@ use mathlib.Core.Bool.{Bool, _&&_}
 use Prim.Native.Nat.{ℕ, _+_, _*_}
 use lib.IntN.{ℤ, pos, _+ℤ_, _*ℤ_}
 use Rattle.forms.specs.Edition.{edition1}
+use Rattle.forms.specs.Forms.{small}
 use Rattle.forms.specs.Flat.{formIn}
-use Rattle.calculus.specs.Rules.{small}
 use Rattle.lines.specs.Buffer.{size}
 use Rattle.lines.proofs.Mixing.{one-mul}
 use borrow.Author.Needs.{needs}

@@ -11,8 +11,8 @@ use mir.ValLaws.{toZ-ofZ, toZ-pos}
 use borrow.Author.Needs.{needs}
 use Rattle.integers.specs.Magnitude.{Within}
 use Rattle.integers.proofs.Magnitude.{within-add, within-mul, within-fits}
-use Rattle.forms.specs.Edition.{edition1}
-use Rattle.calculus.specs.Rules.{small}
+use Rattle.forms.specs.Edition.{edition1, multiplierRange}
+use Rattle.forms.specs.Forms.{small}
 use Rattle.lines.proofs.term_fits.Statement.{statement}
 use Rattle.lines.proofs.term_fits.Tie as tie
 
@@ -21,7 +21,7 @@ abbrev word : ℤ → ℤ
 word z = toZ w64 (ofZ w64 z)
 
 -- The number was read as v, which is z.
-module _ {f : ℤ} (ff : Within 65535 f) {v z : ℤ} (e : v ≡ z) (w : Within (edition1 .range) z) where
+module _ {f : ℤ} (ff : Within multiplierRange f) {v z : ℤ} (e : v ≡ z) (w : Within (edition1 .range) z) where
   product-is : word f *ℤ word v ≡ f *ℤ z
   product-is = let vw : Within (edition1 .range) v = rw e w in ap₂ _*ℤ_ (toZ-ofZ w64 f (within-fits ff tt)) (toZ-ofZ w64 v (within-fits vw tt) ∙ e)
 
@@ -35,7 +35,7 @@ module _ {f : ℤ} (ff : Within 65535 f) {v z : ℤ} (e : v ≡ z) (w : Within (
 
     sum-fits : SFits w64 (word (word f *ℤ word v) +ℤ m)
     sum-fits =
-        let most : Within 65535 (pos x) = record { abs = omega arith } in
+        let most : Within multiplierRange (pos x) = record { abs = omega arith } in
         rw sum-is (within-fits (within-add (within-mul ff w) most) tt)
 
     tested : {r : Bool} → r ≡ leb (natAbs (word (word (word f *ℤ word v) +ℤ m))) (edition1 .range) → r ≡ small (edition1 .range) (f *ℤ z +ℤ pos x)

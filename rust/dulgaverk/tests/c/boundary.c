@@ -16,7 +16,8 @@ _Static_assert(sizeof(((dulgaverk_answer *)0)->row) == 2 && sizeof(((dulgaverk_a
                    sizeof(((dulgaverk_answer *)0)->branch) == 2,
                "row, step and branch have 2 bytes each");
 _Static_assert(sizeof(dulgaverk_read_result) == 40 && offsetof(dulgaverk_read_result, answer) == 0 &&
-                   offsetof(dulgaverk_read_result, count) == 24 && offsetof(dulgaverk_read_result, k) == 32,
+                   offsetof(dulgaverk_read_result, count) == 24 && offsetof(dulgaverk_read_result, k) == 32 &&
+                   offsetof(dulgaverk_read_result, edition) == 33,
                "what reading gives");
 _Static_assert(sizeof(dulgaverk_write_result) == 32 && offsetof(dulgaverk_write_result, answer) == 0 &&
                    offsetof(dulgaverk_write_result, count) == 24,
@@ -68,17 +69,20 @@ static const uint8_t b[] = {0x01, 0, 1, 1, 0x02, 0, 1, 3, 0x04, 0, 8, 0, 0, 0xFF
 static const uint8_t formula[] = {0x01, 0, 1, 1, 0x02, 0, 1, 3, 0x35, 0, 20, 0, 0, 0, 2, 0,
                                   0,    0, 0, 0, 0,    0, 1, 0, 0,    0, 0,  0, 0, 0, 0};
 
+/* -x + 40,000 <= 0 in edition 2. */
+static const uint8_t wide[] = {0x01, 0, 1, 2, 0x02, 0, 1, 1, 0x03, 0, 8, 0xFF, 0xFF, 0xFF, 0xFF, 0, 0, 0x9C, 0x40};
+
 static void reading(void) {
     uint8_t kinds[3];
-    int16_t numbers[6];
+    int32_t numbers[6];
     FILL(kinds);
     FILL(numbers);
-    /* Refused by 1, 2, 3, 5, 21: nothing changes. */
+    /* Refused by 1, 2, 3, 5, 6, 13, 21: nothing changes. */
     static const uint8_t long_file[DULGAVERK_BUNDLE + 1];
     dulgaverk_read_result r = dulgaverk_read(long_file, sizeof long_file, kinds, 3, numbers, 6);
-    EXPECT(is(r.answer, 1, 1, 0) && r.count == 0 && r.k == 0);
+    EXPECT(is(r.answer, 1, 1, 0) && r.count == 0 && r.k == 0 && r.edition == 0);
     r = dulgaverk_read(a, sizeof a - 1, kinds, 3, numbers, 6);
-    EXPECT(is(r.answer, 2, 1, 8) && r.count == 0 && r.k == 0);
+    EXPECT(is(r.answer, 2, 1, 8) && r.count == 0 && r.k == 0 && r.edition == 0);
     r = dulgaverk_read(NULL, 0, kinds, 3, numbers, 6);
     EXPECT(is(r.answer, 2, 1, 0));
     uint8_t other[sizeof a];
@@ -87,9 +91,25 @@ static void reading(void) {
     r = dulgaverk_read(other, sizeof other, kinds, 3, numbers, 6);
     EXPECT(is(r.answer, 3, 1, 8));
     memcpy(other, a, sizeof a);
+    other[3] = 3;
+    r = dulgaverk_read(other, sizeof other, kinds, 3, numbers, 6);
+    EXPECT(is(r.answer, 5, 1, 0) && r.edition == 0);
     other[3] = 2;
     r = dulgaverk_read(other, sizeof other, kinds, 3, numbers, 6);
-    EXPECT(is(r.answer, 5, 1, 0));
+    EXPECT(is(r.answer, 6, 1, 8) && r.edition == 0);
+    uint8_t lowest[sizeof wide];
+    memcpy(lowest, wide, sizeof wide);
+    lowest[15] = 0x80;
+    lowest[17] = lowest[18] = 0;
+    r = dulgaverk_read(lowest, sizeof lowest, kinds, 3, numbers, 6);
+    EXPECT(is(r.answer, 13, 1, 8) && r.count == 0 && r.k == 0 && r.edition == 0);
+    /* A note that makes edition 1 longer than 4,096 bytes, and edition 2 as long as it may be. */
+    static uint8_t noted[DULGAVERK_BUNDLE] = {0x01, 0, 1, 1, 0x02, 0, 1, 3, 0x80, 0x1F, 0xF5};
+    r = dulgaverk_read(noted, sizeof noted, kinds, 3, numbers, 6);
+    EXPECT(is(r.answer, 1, 1, 0) && r.edition == 0);
+    noted[3] = 2;
+    r = dulgaverk_read(noted, sizeof noted, kinds, 3, numbers, 6);
+    EXPECT(is(r.answer, 0, 0, 0) && r.count == 0 && r.k == 3 && r.edition == 2);
     r = dulgaverk_read(a, sizeof a, kinds, 3, numbers, 3);
     EXPECT(is(r.answer, 21, 4, 1) && r.count == 0 && r.k == 0);
     r = dulgaverk_read(a, sizeof a, NULL, 0, numbers, 6);
@@ -98,53 +118,77 @@ static void reading(void) {
     UNCHANGED(numbers);
     /* Accepted: what is behind the used elements stays. */
     r = dulgaverk_read(a, sizeof a, kinds, 3, numbers, 6);
-    EXPECT(is(r.answer, 0, 0, 0) && r.count == 1 && r.k == 3);
+    EXPECT(is(r.answer, 0, 0, 0) && r.count == 1 && r.k == 3 && r.edition == 1);
     EXPECT(kinds[0] == 1 && all(kinds + 1, 2, 0xA5));
     EXPECT(numbers[0] == -2 && numbers[1] == 1 && numbers[2] == 0 && numbers[3] == 0);
     EXPECT(all(numbers + 4, 2 * sizeof numbers[0], 0xA5));
     r = dulgaverk_read(a, 8, NULL, 0, NULL, 0);
-    EXPECT(is(r.answer, 0, 0, 0) && r.count == 0 && r.k == 3);
+    EXPECT(is(r.answer, 0, 0, 0) && r.count == 0 && r.k == 3 && r.edition == 1);
+    FILL(kinds);
+    FILL(numbers);
+    r = dulgaverk_read(wide, sizeof wide, kinds, 3, numbers, 6);
+    EXPECT(is(r.answer, 0, 0, 0) && r.count == 1 && r.k == 1 && r.edition == 2);
+    EXPECT(kinds[0] == 0 && all(kinds + 1, 2, 0xA5));
+    EXPECT(numbers[0] == -1 && numbers[1] == 40000 && all(numbers + 2, 4 * sizeof numbers[0], 0xA5));
 }
 
 static void writing(void) {
     static const uint8_t kinds[33] = {1};
-    static const int16_t numbers[] = {-2, 1, 0, 0};
+    static const int32_t numbers[] = {-2, 1, 0, 0};
     uint8_t out[sizeof a + 4];
     FILL(out);
-    dulgaverk_write_result r = dulgaverk_write(17, kinds, 1, numbers, 4, out, sizeof out);
+    dulgaverk_write_result r = dulgaverk_write(3, 17, kinds, 33, numbers, 4, out, 0);
+    EXPECT(is(r.answer, 5, 4, 0) && r.count == 0);
+    r = dulgaverk_write(0, 3, kinds, 1, numbers, 4, out, sizeof out);
+    EXPECT(is(r.answer, 5, 4, 0) && r.count == 0);
+    r = dulgaverk_write(1, 17, kinds, 1, numbers, 4, out, sizeof out);
     EXPECT(is(r.answer, 7, 4, 0) && r.count == 0);
-    r = dulgaverk_write(0, NULL, 0, NULL, 0, out, sizeof out);
+    r = dulgaverk_write(1, 0, NULL, 0, NULL, 0, out, sizeof out);
     EXPECT(is(r.answer, 7, 4, 0));
-    r = dulgaverk_write(3, kinds, 33, numbers, 4, out, sizeof out);
+    r = dulgaverk_write(1, 3, kinds, 33, numbers, 4, out, sizeof out);
     EXPECT(is(r.answer, 8, 4, 0));
     static const uint8_t wrong[] = {2, 3};
-    r = dulgaverk_write(1, wrong, 2, numbers, 4, out, sizeof out);
+    r = dulgaverk_write(1, 1, wrong, 2, numbers, 4, out, sizeof out);
     EXPECT(is(r.answer, 24, 4, 1));
-    r = dulgaverk_write(3, kinds, 1, numbers, 3, out, sizeof out);
+    r = dulgaverk_write(1, 3, kinds, 1, numbers, 3, out, sizeof out);
     EXPECT(is(r.answer, 24, 4, 1));
-    r = dulgaverk_write(3, kinds, 1, numbers, 4, out, sizeof a - 1);
+    /* Numbers that two bytes, or no edition, can hold. */
+    static const int32_t outside[] = {-32768, 32767, 1, 32768}, lowest[] = {INT32_MAX, -INT32_MAX, INT32_MIN, 0};
+    r = dulgaverk_write(1, 3, kinds, 1, outside, 4, out, 0);
+    EXPECT(is(r.answer, 13, 4, 3) && r.count == 0);
+    r = dulgaverk_write(2, 3, kinds, 1, lowest, 4, out, sizeof out);
+    EXPECT(is(r.answer, 13, 4, 2) && r.count == 0);
+    r = dulgaverk_write(2, 3, kinds, 1, outside, 4, out, sizeof out);
+    EXPECT(is(r.answer, 21, 4, 27) && r.count == 0);
+    r = dulgaverk_write(1, 3, kinds, 1, numbers, 4, out, sizeof a - 1);
     EXPECT(is(r.answer, 21, 4, sizeof a) && r.count == 0);
     UNCHANGED(out);
-    r = dulgaverk_write(3, kinds, 1, numbers, 4, out, sizeof out);
+    r = dulgaverk_write(1, 3, kinds, 1, numbers, 4, out, sizeof out);
     EXPECT(is(r.answer, 0, 0, 0) && r.count == sizeof a);
     EXPECT(memcmp(out, a, sizeof a) == 0 && all(out + sizeof a, 4, 0xA5));
+    static const uint8_t at_most[] = {0};
+    static const int32_t level[] = {-1, 40000};
+    FILL(out);
+    r = dulgaverk_write(2, 1, at_most, 1, level, 2, out, sizeof out);
+    EXPECT(is(r.answer, 0, 0, 0) && r.count == sizeof wide);
+    EXPECT(memcmp(out, wide, sizeof wide) == 0 && all(out + sizeof wide, sizeof out - sizeof wide, 0xA5));
 }
 
-/* Stage 10: K 16 with 32 constraints is written and read back; the 33rd is refused. */
+/* Stage 10 in edition 2: K 16 with 32 constraints is written and read back; the 33rd is refused. */
 static void largest(void) {
     uint8_t kinds[32], kinds_back[32], file[DULGAVERK_WRITTEN_BUNDLE + DULGAVERK_FIELD];
-    int16_t numbers[DULGAVERK_NUMBERS], numbers_back[DULGAVERK_NUMBERS];
+    int32_t numbers[DULGAVERK_NUMBERS], numbers_back[DULGAVERK_NUMBERS];
     for (int i = 0; i < 32; i += 1) {
         kinds[i] = (uint8_t)(i % 3);
     }
     for (int i = 0; i < DULGAVERK_NUMBERS; i += 1) {
-        numbers[i] = (int16_t)(i * 120 - 32640);
+        numbers[i] = (i - 272) * 7800000;
     }
     dulgaverk_write_result w =
-        dulgaverk_write(16, kinds, 32, numbers, DULGAVERK_NUMBERS, file, DULGAVERK_WRITTEN_BUNDLE);
+        dulgaverk_write(2, 16, kinds, 32, numbers, DULGAVERK_NUMBERS, file, DULGAVERK_WRITTEN_BUNDLE);
     EXPECT(is(w.answer, 0, 0, 0) && w.count == DULGAVERK_WRITTEN_BUNDLE);
     dulgaverk_read_result r = dulgaverk_read(file, w.count, kinds_back, 32, numbers_back, DULGAVERK_NUMBERS);
-    EXPECT(is(r.answer, 0, 0, 0) && r.count == 32 && r.k == 16);
+    EXPECT(is(r.answer, 0, 0, 0) && r.count == 32 && r.k == 16 && r.edition == 2);
     EXPECT(memcmp(kinds, kinds_back, sizeof kinds) == 0 && memcmp(numbers, numbers_back, sizeof numbers) == 0);
     memcpy(file + DULGAVERK_WRITTEN_BUNDLE, file + 8, DULGAVERK_FIELD);
     r = dulgaverk_read(file, sizeof file, kinds_back, 32, numbers_back, DULGAVERK_NUMBERS);
@@ -271,6 +315,43 @@ static void testing(void) {
     EXPECT(is(t.answer, 1, 3, 0) && !t.holds);
 }
 
+/* A register at least 40,000 in A and at most 30,000 in B: a proof of edition 2, and one of edition 1 over the same. */
+static void editions(void) {
+    static const uint8_t most[] = {0x01, 0, 1, 2, 0x02, 0, 1, 1, 0x03, 0, 8, 0, 0, 0, 1, 0xFF, 0xFF, 0x8A, 0xD0};
+    static const uint8_t first[] = {0x01, 0, 1, 1, 0x02, 0, 1, 1, 0x10, 0, 6, 0, 1, 0, 1, 0, 1, 0x14, 0, 1, 2};
+    static const uint8_t second[] = {0x01, 0, 1, 2, 0x02, 0, 1, 1, 0x10, 0,    8, 0,
+                                     0,    0, 1, 0, 1,    0, 1, 0x14, 0,    2, 0, 2};
+    static const uint8_t level[] = {0x01, 0,    1,    1,    0x02, 0, 1, 1,    0x33, 0,
+                                    8,    0xFF, 0xFF, 0xFF, 0xFF, 0, 0, 0x9C, 0x40};
+    uint8_t out[sizeof level], other[sizeof wide];
+    FILL(out);
+    dulgaverk_write_result r =
+        dulgaverk_check(wide, sizeof wide, most, sizeof most, second, sizeof second, out, sizeof out);
+    EXPECT(is(r.answer, 0, 0, 0) && r.count == sizeof level && memcmp(out, level, sizeof level) == 0);
+    FILL(out);
+    r = dulgaverk_check(wide, sizeof wide, most, sizeof most, first, sizeof first, out, sizeof out);
+    EXPECT(is(r.answer, 0, 0, 0) && r.count == sizeof level && memcmp(out, level, sizeof level) == 0);
+    FILL(out);
+    /* As a reader of two bytes sees 40,000: -25,536. And the same bytes under edition 1. */
+    static const uint8_t cut[] = {0x01, 0, 1, 1, 0x02, 0, 1, 1, 0x03, 0, 4, 0xFF, 0xFF, 0x9C, 0x40};
+    r = dulgaverk_check(cut, sizeof cut, most, sizeof most, second, sizeof second, out, sizeof out);
+    EXPECT(is_at(r.answer, 15, 19, 1, NONE, NONE) && r.count == 0);
+    memcpy(other, wide, sizeof wide);
+    other[3] = 1;
+    r = dulgaverk_check(other, sizeof other, most, sizeof most, second, sizeof second, out, sizeof out);
+    EXPECT(is(r.answer, 6, 1, 8) && r.count == 0);
+    /* A formula of edition 2. */
+    static const int32_t value[] = {50000};
+    uint8_t formula_2[sizeof level];
+    memcpy(formula_2, level, sizeof level);
+    dulgaverk_tested t = dulgaverk_test(formula_2, sizeof formula_2, value, 1);
+    EXPECT(is(t.answer, 0, 0, 0) && t.holds);
+    formula_2[3] = 2;
+    t = dulgaverk_test(formula_2, sizeof formula_2, value, 1);
+    EXPECT(is(t.answer, 5, 3, 0) && !t.holds);
+    UNCHANGED(out);
+}
+
 int main(void) {
     reading();
     writing();
@@ -278,6 +359,7 @@ int main(void) {
     showing();
     checking();
     branches();
+    editions();
     testing();
     return differences < 100 ? differences : 100;
 }

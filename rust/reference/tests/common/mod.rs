@@ -67,11 +67,11 @@ pub fn note() -> Vec<u8> {
     field(0x9A, b"note")
 }
 
-fn shorts(numbers: &[i16]) -> Vec<u8> {
+pub fn shorts(numbers: &[i16]) -> Vec<u8> {
     numbers.iter().flat_map(|n| n.to_be_bytes()).collect()
 }
 
-fn longs(numbers: &[i32]) -> Vec<u8> {
+pub fn longs(numbers: &[i32]) -> Vec<u8> {
     numbers.iter().flat_map(|n| n.to_be_bytes()).collect()
 }
 
@@ -90,12 +90,20 @@ pub fn ne(numbers: &[i16]) -> Vec<u8> {
     field(0x05, &shorts(numbers))
 }
 
-/// A file of the two header fields and the given ones.
+/// A file of edition 1: the two header fields and the given ones.
 pub fn file(k: u8, fields: &[Vec<u8>]) -> Vec<u8> {
-    let mut bytes = edition(1);
-    bytes.extend(constants(k));
-    bytes.extend(fields.concat());
-    bytes
+    file_of(1, k, fields)
+}
+
+/// A file of the two header fields and the given ones.
+pub fn file_of(number: u8, k: u8, fields: &[Vec<u8>]) -> Vec<u8> {
+    [edition(number), constants(k), fields.concat()].concat()
+}
+
+/// A note that makes a file as long as asked for.
+pub fn fill(bytes: &[u8], length: usize) -> Vec<u8> {
+    let filler = field(0x80, &vec![7; length - bytes.len() - 3]);
+    [bytes, &filler].concat()
 }
 
 pub fn combine(s: u8, t: u8, alpha: u16, beta: u16) -> Vec<u8> {
@@ -135,6 +143,65 @@ pub fn round(t: u8, g: u16, k: u16) -> Vec<u8> {
 /// A split of line t, a disequality.
 pub fn split(t: u8) -> Vec<u8> {
     field(0x17, &[t])
+}
+
+/// The same in edition 2.
+pub mod two {
+    use super::{field, file_of, longs};
+
+    pub fn le(numbers: &[i32]) -> Vec<u8> {
+        field(0x03, &longs(numbers))
+    }
+
+    pub fn eq(numbers: &[i32]) -> Vec<u8> {
+        field(0x04, &longs(numbers))
+    }
+
+    pub fn ne(numbers: &[i32]) -> Vec<u8> {
+        field(0x05, &longs(numbers))
+    }
+
+    pub fn file(k: u8, fields: &[Vec<u8>]) -> Vec<u8> {
+        file_of(2, k, fields)
+    }
+
+    /// A row of line numbers, multipliers, strides and amounts: two bytes each.
+    fn row(tag: u8, parameters: &[u16]) -> Vec<u8> {
+        let bytes: Vec<u8> = parameters.iter().flat_map(|n| n.to_be_bytes()).collect();
+        field(tag, &bytes)
+    }
+
+    pub fn combine(s: u16, t: u16, alpha: u16, beta: u16) -> Vec<u8> {
+        row(0x10, &[s, t, alpha, beta])
+    }
+
+    pub fn reduce(s: u16, t: u16, alpha: i16) -> Vec<u8> {
+        row(0x11, &[s, t, alpha as u16])
+    }
+
+    pub fn scale(t: u16, alpha: u16) -> Vec<u8> {
+        row(0x12, &[t, alpha])
+    }
+
+    pub fn strengthen(t: u16) -> Vec<u8> {
+        row(0x13, &[t])
+    }
+
+    pub fn close(t: u16) -> Vec<u8> {
+        row(0x14, &[t])
+    }
+
+    pub fn stride(t: u16, g: u16) -> Vec<u8> {
+        row(0x15, &[t, g])
+    }
+
+    pub fn round(t: u16, g: u16, k: u16) -> Vec<u8> {
+        row(0x16, &[t, g, k])
+    }
+
+    pub fn split(t: u16) -> Vec<u8> {
+        row(0x17, &[t])
+    }
 }
 
 /// A claim of t and tA.
@@ -212,8 +279,9 @@ pub struct Read {
     pub answer: Answer,
     pub count: usize,
     pub k: usize,
+    pub edition: u8,
     pub kinds: Vec<u8>,
-    pub numbers: Vec<i16>,
+    pub numbers: Vec<i32>,
 }
 
 /// Reads into outputs of the given lengths, which must be unchanged on
@@ -223,7 +291,7 @@ pub fn read_into(file: &[u8], kinds_length: usize, numbers_length: usize) -> Rea
     let mut numbers = vec![0x5AA5; numbers_length];
     let result = read_bundle(file, &mut kinds, &mut numbers);
     if result.answer != ACCEPTED {
-        assert_eq!((result.count, result.k), (0, 0));
+        assert_eq!((result.count, result.k, result.edition), (0, 0, 0));
     }
     let used = result.count * (result.k + 1);
     assert!(kinds[result.count..].iter().all(|&kind| kind == 0xA5));
@@ -234,6 +302,7 @@ pub fn read_into(file: &[u8], kinds_length: usize, numbers_length: usize) -> Rea
         answer: result.answer,
         count: result.count,
         k: result.k,
+        edition: result.edition,
         kinds,
         numbers,
     }
@@ -243,11 +312,22 @@ pub fn read(file: &[u8]) -> Read {
     read_into(file, 40, 700)
 }
 
+/// Writes in edition 1, as below.
+pub fn write_into(k: u8, kinds: &[u8], numbers: &[i32], length: usize) -> (Answer, Vec<u8>) {
+    write_of(1, k, kinds, numbers, length)
+}
+
 /// Writes into an output of the given length, which must be unchanged on
 /// refusal and behind the bytes written.
-pub fn write_into(k: u8, kinds: &[u8], numbers: &[i16], length: usize) -> (Answer, Vec<u8>) {
+pub fn write_of(
+    edition: u8,
+    k: u8,
+    kinds: &[u8],
+    numbers: &[i32],
+    length: usize,
+) -> (Answer, Vec<u8>) {
     let mut out = vec![0xA5; length];
-    let result = write_bundle(k, kinds, numbers, &mut out);
+    let result = write_bundle(edition, k, kinds, numbers, &mut out);
     assert_eq!(result.answer == ACCEPTED, result.written > 0);
     assert!(out[result.written..].iter().all(|&byte| byte == 0xA5));
     out.truncate(result.written);

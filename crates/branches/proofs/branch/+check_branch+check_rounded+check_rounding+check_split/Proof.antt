@@ -14,7 +14,7 @@ use Rattle.forms.specs.Forms.{_or_}
 use Rattle.branches.specs.Spare.{unreadBytes}
 use Rattle.branches.specs.Opening.{lastTwo, fromBranch}
 use Rattle.branches.proofs.Counting.{one-less, next-falls, own-falls, others-fall, turn-falls}
-use Rattle.branches.proofs.Staging.{started-room, stopped-fault, number-comes, stride-comes, strengthen-comes, round-comes, split-comes, number-closed, stride-closed, opens-refused}
+use Rattle.branches.proofs.Staging.{started-room, stopped-fault, comes-ready, number-comes, stride-comes, strengthen-comes, round-comes, split-comes, number-closed, stride-closed, opens-refused}
 use Rattle.branches.proofs.Finishing.{room-left, first-started, first-fault, rest-open, rest-unread, rest-opened, first-checks, head-short, none-short, start-asked, some-longer, some-started, some-open, some-unread, some-opened, two-fault, two-checks, opening-falls, opened, first-stands, resumed-fault, resumed-checks}
 use Rattle.branches.proofs.Joining.{or-bytes}
 use Rattle.branches.proofs.Splits.{split-there, split-started, split-fault, split-open, split-unread, negated-asked, negated-started, split-checks, split-opened, split-resumed}
@@ -137,7 +137,7 @@ module _ (t : ℕ) where
   check-branch-enum-known-t c = search needs
 
   check-branch-close-number-requires : check-branch-lts.Need-close-number-requires (check-branch-claims t) (check-branch-at t) check-branch.Post
-  check-branch-close-number-requires c κs = (number-comes (c .before .before .before .before .before .before .before .before .before .entries .ensures) (c .before .before .before .before .t .given .1) .ready, started-room (c .before .before .before .before .before .before .before .before .before .before .before .before .before .before .before .pre .1))
+  check-branch-close-number-requires c κs = (comes-ready (number-comes (c .before .before .before .before .before .before .before .before .before .entries .ensures) (c .before .before .before .before .t .given .1)), started-room (c .before .before .before .before .before .before .before .before .before .before .before .before .before .before .before .pre .1))
 
   check-branch-returned-requires : check-branch-lts.Need-returned-requires (check-branch-claims t) (check-branch-at t) check-branch.Post
   check-branch-returned-requires c κs = search needs
@@ -164,7 +164,7 @@ module _ (t : ℕ) where
   check-branch-close-stride-requires c κs =
       let y = stride-comes (c .before .before .before .before .before .before .before .before .before .entries .ensures) (c .before .before .before .before .t2 .given .1) in
       let fits = within-fits (y .1 .within) tt in
-      simp toZ-ofZ (y .0 .ready, (y .1, started-room (c .before .before .before .before .before .before .before .before .before .before .before .before .before .before .before .pre .1)))
+      simp toZ-ofZ (comes-ready (y .0), (y .1, started-room (c .before .before .before .before .before .before .before .before .before .before .before .before .before .before .before .pre .1)))
 
   check-branch-returned-requires-2 : check-branch-lts.Need-returned-requires-2 (check-branch-claims t) (check-branch-at t) check-branch.Post
   check-branch-returned-requires-2 c κs = search needs
@@ -191,7 +191,7 @@ module _ (t : ℕ) where
   check-branch-enum-known-t-3 c = search needs
 
   check-branch-strengthen-requires : check-branch-lts.Need-strengthen-requires (check-branch-claims t) (check-branch-at t) check-branch.Post
-  check-branch-strengthen-requires c κs = strengthen-comes (c .before .before .before .before .before .before .before .before .entries .ensures) (c .before .before .before .t3 .given .1) .ready
+  check-branch-strengthen-requires c κs = comes-ready (strengthen-comes (c .before .before .before .before .before .before .before .before .entries .ensures) (c .before .before .before .t3 .given .1))
 
   check-branch-enum-known-number-2 : check-branch-lts.Need-enum-known-number-2 (check-branch-claims t) (check-branch-at t) check-branch.Post
   check-branch-enum-known-number-2 c = search needs
@@ -415,7 +415,7 @@ module _ (t : ℕ) where
       let stop = c .before .before .before .before .before .before .before .before .entries .ensures in
       let y = round-comes stop (c .before .before .before .t4 .given .1) in
       let fits = within-fits (y .1 .within) tt in
-      simp toZ-ofZ (y .0 .ready, y .1)
+      simp toZ-ofZ (comes-ready (y .0), y .1)
 
   check-branch-enum-known-number-3 : check-branch-lts.Need-enum-known-number-3 (check-branch-claims t) (check-branch-at t) check-branch.Post
   check-branch-enum-known-number-3 c = search needs
@@ -471,7 +471,7 @@ module _ (t : ℕ) where
   check-branch-enum-known-t-5 c = search needs
 
   check-branch-split-requires : check-branch-lts.Need-split-requires (check-branch-claims t) (check-branch-at t) check-branch.Post
-  check-branch-split-requires c κs = split-comes (c .before .before .before .before .before .before .before .before .entries .ensures) (c .before .before .before .t5 .given .1) .ready
+  check-branch-split-requires c κs = comes-ready (split-comes (c .before .before .before .before .before .before .before .before .entries .ensures) (c .before .before .before .t5 .given .1))
 
   check-branch-enum-known-number-4 : check-branch-lts.Need-enum-known-number-4 (check-branch-claims t) (check-branch-at t) check-branch.Post
   check-branch-enum-known-number-4 c = search needs

@@ -1,6 +1,7 @@
 -- `branches::opening::open_step` meets its contract. Assumes nothing.
 use borrow.Author.Needs.{needs}
 use native.Mathlib.Omega.{arith}
+use Rattle.forms.proofs.Editions.{lines-most}
 use Rattle.lines.proofs.Lines.{before, bounded-less}
 use Rattle.rows.proofs.Testing.{unnot}
 use Rattle.branches.proofs.Opens.{counted-open, full-open, counted-both, full-both, open-none, open-full, open-range, open-start, open-made}
@@ -27,7 +28,7 @@ raised-fit-requires c κs =
     let s = c .before .before .before .before .before .before .before .before in
     let both = counted-both (s .args .tally) (c .before .before .before .before .before .before .open-counted .ensures) (unnot _ (c .before .before .before .before .if1 .left)) (c .before .before .before .line-counted .ensures) (unnot _ (c .before .if2 .left)) in
     let h = before (s .args .k) (s .pre .1) in
-    ((omega (arith, both .0, s .pre .1), s .pre .0 .branch .constants, omega (arith, s .pre .0 .branch .room)), bounded-less (omega (arith, s .pre .1)) (s .pre .0 .branch .bounded))
+    ((omega (arith, both .0, s .pre .1, lines-most (s .args .tally .edition)), s .pre .0 .branch .constants, omega (arith, s .pre .0 .branch .room)), bounded-less (omega (arith, s .pre .1)) (s .pre .0 .branch .bounded))
 
 same-length : tie.Need-same-length
 same-length c = search needs

@@ -5,6 +5,7 @@ use mathlib.Core.Path.{_∙_}
 use lib.IntN.{natAbs}
 use mir.Syntax.{w64}
 use mir.ValLaws.{toZ-ofZ}
+use Rattle.forms.proofs.Editions.{lines-most}
 use Rattle.lines.proofs.Lines.{before}
 use Rattle.rows.proofs.KindBytes.{kind-≤, kind-not-≤}
 use Rattle.rows.proofs.Testing.{is-below, past, unnot}
@@ -65,7 +66,7 @@ place-requires : tie.Need-place-requires
 place-requires c κs =
     let s = c .before .before .before .before .before .before .before .before .before in
     let h = is-below (s .args .i .0) (s .args .tally .lines .0) (c .before .before .before .before .before .before .before .is-there .ensures) (c .before .before .before .before .before .before .if1 .left) in
-    (omega (arith, h, s .pre .0 .most), s .pre .0 .branch .constants)
+    (omega (arith, h, s .pre .0 .most, lines-most (s .args .tally .edition)), s .pre .0 .branch .constants)
 
 all-divisible-requires : tie.Need-all-divisible-requires
 all-divisible-requires c κs =

@@ -1,7 +1,9 @@
 -- `bundle::put::first_bad` meets its contract: looking on from here finds what the start finds. Assumes nothing.
 use mathlib.Core.Path.{_≡_, refl, sym, _∙_}
 use Prim.Native.Nat.{_-_}
+use lib.Dec.{leb}
 use lib.ListN.{length, drop}
+use borrow.Author.Tests.{le-leb, lt-leb}
 use Rattle.bundle.specs.Put.{firstBad}
 use Rattle.bundle.proofs.Putting.{bad-next, bad-here, bad-none}
 use borrow.Author.Needs.{needs}
@@ -9,7 +11,7 @@ use Rattle.bundle.proofs.put.first_bad.Statement.{statement}
 use Rattle.bundle.proofs.put.first_bad.Tie as tie
 
 abbrev Inv-loop : tie.InvT-loop
-Inv-loop kinds i₀ i = firstBad 0 kinds ≡ firstBad i (drop i kinds)
+Inv-loop kinds i₀ i = firstBad (λ kind. leb kind 2) 0 kinds ≡ firstBad (λ kind. leb kind 2) i (drop i kinds)
 
 abbrev μ-loop : tie.MeasureT-loop
 μ-loop kinds i₀ i = length kinds - i
@@ -21,7 +23,7 @@ shared-slice-read-if1 : tie.Need-shared-slice-read-if1 Inv-loop μ-loop
 shared-slice-read-if1 c = search needs
 
 returns : tie.Need-returns Inv-loop μ-loop
-returns c = sym (c .before .before .before .loop .inv ∙ bad-here _ _ (c .before .before .loop-test .taken) (c .if1 .taken))
+returns c = sym (c .before .before .before .loop .inv ∙ bad-here (λ kind. leb kind 2) 0 _ _ (c .before .before .loop-test .taken) (lt-leb _ 2 (c .if1 .taken)))
 
 add-i : tie.Need-add-i Inv-loop μ-loop
 add-i c = search needs
@@ -30,10 +32,10 @@ loop-less : tie.Need-loop-less Inv-loop μ-loop
 loop-less c = search needs
 
 loop-again : tie.Need-loop-again Inv-loop μ-loop
-loop-again c = c .before .before .before .loop .inv ∙ bad-next _ _ (c .before .before .loop-test .taken) (c .if1 .left)
+loop-again c = c .before .before .before .loop .inv ∙ bad-next (λ kind. leb kind 2) 0 _ _ (c .before .before .loop-test .taken) (le-leb _ 2 (c .if1 .left))
 
 returns-2 : tie.Need-returns-2 Inv-loop μ-loop
-returns-2 c = sym (c .before .loop .inv ∙ bad-none _ _ (c .loop-test .left))
+returns-2 c = sym (c .before .loop .inv ∙ bad-none (λ kind. leb kind 2) 0 _ _ (c .loop-test .left))
 
 pub first-bad-spec : {M : Type 1} → statement M
 first-bad-spec =

@@ -1,53 +1,54 @@
 -- `bundle::put::put_run` meets its contract: what is left to write gives what the whole gives. Assumes nothing.
 use mathlib.Core.Path.{_≡_, refl, _∙_}
 use Prim.Native.Nat.{_+_, _*_, _-_, _≤_}
+use native.Mathlib.Nat.{zero-mul}
 use native.Mathlib.Omega.{arith}
 use lib.IntN.{pos}
 use lib.ListN.{length, getD, take, drop}
 use lib.Seq.{sets}
-use mir.Syntax.{w16}
+use mir.Syntax.{w64}
 use mir.ValLaws.{toZ-ofZ}
-use borrow.Author.Needs.{needs, scaled-fits}
 use Rattle.fields.specs.Numbers.{signedBytes, signedsBytes}
+use Rattle.bundle.proofs.Writable.{all-getD}
 use Rattle.bundle.proofs.Putting.{put-next}
+use Rattle.bundle.proofs.Widths.{part-before}
+use borrow.Author.Needs.{needs}
 use Rattle.bundle.proofs.put.put_run.Statement.{statement}
 use Rattle.bundle.proofs.put.put_run.Tie as tie
 
 abbrev Inv-loop : tie.InvT-loop
-Inv-loop out₀ at numbers from n i₀ out i =
-    (sets out (at + i * 2) (signedsBytes 2 (take (n - i) (drop (from + i) numbers))) ≡ sets out₀ at (signedsBytes 2 (take n (drop from numbers))))
+Inv-loop out₀ at width numbers from n i₀ out i =
+    (sets out (at + i * width) (signedsBytes width (take (n - i) (drop (from + i) numbers))) ≡ sets out₀ at (signedsBytes width (take n (drop from numbers))))
     × (length out ≡ length out₀) × (i ≤ n)
 
 abbrev μ-loop : tie.MeasureT-loop
-μ-loop out₀ at numbers from n i₀ out i = n - i
+μ-loop out₀ at width numbers from n i₀ out i = n - i
 
 loop-holds : tie.Need-loop-holds Inv-loop μ-loop
 loop-holds c =
     let a = c .before .args in
-    let x : a .at + 0 ≡ a .at = omega arith in
+    let x : a .at + 0 * a .width ≡ a .at = rw (zero-mul (a .width)) (omega arith) in
     let y : a .n - 0 ≡ a .n = omega arith in
     let z : a .from + 0 ≡ a .from = omega arith in
     (rw (x, y, z), refl, omega arith)
 
-add-x : tie.Need-add-x Inv-loop μ-loop
-add-x c = search needs
+add-number : tie.Need-add-number Inv-loop μ-loop
+add-number c = search needs
 
-mul-x : tie.Need-mul-x Inv-loop μ-loop
-mul-x c =
-    let a = c .before .before .before .args in
-    scaled-fits (a .from + c .before .loop .i) (length (a .numbers .now)) 2 (omega arith) (c .before .before .before .good .1 .1 .0 .1)
+number-requires : tie.Need-number-requires Inv-loop μ-loop
+number-requires c κs = omega (arith, c .before .before .before .pre .1 .1, c .loop-test .taken)
 
-shared-slice-copy-out-x : tie.Need-shared-slice-copy-out-x Inv-loop μ-loop
-shared-slice-copy-out-x c = search needs
+mul-put-signed : tie.Need-mul-put-signed Inv-loop μ-loop
+mul-put-signed c = record { fits = omega (arith, part-before (c .before .before .before .loop .i) (c .before .before .before .before .before .args .n) (c .before .before .before .before .before .args .width) (c .before .before .loop-test .taken), c .before .before .before .before .before .pre .1 .0) }
 
-mul-put-short : tie.Need-mul-put-short Inv-loop μ-loop
-mul-put-short c = search needs
+add-put-signed : tie.Need-add-put-signed Inv-loop μ-loop
+add-put-signed c = record { fits = omega (arith, part-before (c .before .before .before .loop .i) (c .before .before .before .before .before .args .n) (c .before .before .before .before .before .args .width) (c .before .before .loop-test .taken), c .before .before .before .before .before .pre .1 .0) }
 
-add-put-short : tie.Need-add-put-short Inv-loop μ-loop
-add-put-short c = search needs
-
-put-short-requires : tie.Need-put-short-requires Inv-loop μ-loop
-put-short-requires c κs = search needs
+put-signed-requires : tie.Need-put-signed-requires Inv-loop μ-loop
+put-signed-requires c κs =
+    let a = c .before .before .before .before .before .args in
+    let e = toZ-ofZ w64 (c .before .number .result) (record { sfits = c .before .number .ok }) ∙ c .before .number .ensures in
+    (c .before .before .before .before .before .pre .0 .0, (omega (arith, part-before (c .before .before .before .loop .i) (a .n) (a .width) (c .before .before .loop-test .taken), c .before .before .before .before .before .pre .1 .0, c .before .before .before .loop .inv .1), rw e (all-getD (a .from + c .before .before .before .loop .i) (pos 0) (c .before .before .before .before .before .pre .0 .1 .each) (omega (arith, c .before .before .before .before .before .pre .1 .1, c .before .before .loop-test .taken)))))
 
 add-i : tie.Need-add-i Inv-loop μ-loop
 add-i c = search needs
@@ -59,11 +60,11 @@ loop-again : tie.Need-loop-again Inv-loop μ-loop
 loop-again c =
     let a = c .before .before .before .before .before .before .before .before .args in
     let x = getD (a .numbers .now) (a .from + c .before .before .before .before .before .before .loop .i) (pos 0) in
-    let e = toZ-ofZ w16 x (record { sfits = c .before .before .before .before .x .given }) in
-    let o : c .before .before .put-short .last .0 ≡ sets (c .before .before .before .before .before .before .loop .out) (a .at + c .before .before .before .before .before .before .loop .i * 2) (signedBytes 2 x) = c .before .before .put-short .ensures ∙ rw e in (
-      rw o (put-next (c .before .before .before .before .before .before .loop .out) (a .at) (c .before .before .before .before .before .before .loop .i) (a .n) (a .numbers .now) (a .from) (c .before .before .before .before .before .loop-test .taken) (c .before .before .before .before .before .before .before .before .pre .1) ∙ c .before .before .before .before .before .before .loop .inv .0),
-      c .before .before .put-short .kept .0 ∙ c .before .before .before .before .before .before .loop .inv .1,
-      omega arith,
+    let e = toZ-ofZ w64 (c .before .before .before .before .number .result) (record { sfits = c .before .before .before .before .number .ok }) ∙ c .before .before .before .before .number .ensures in
+    let o : c .before .before .put-signed .last .0 ≡ sets (c .before .before .before .before .before .before .loop .out) (a .at + c .before .before .before .before .before .before .loop .i * a .width) (signedBytes (a .width) x) = c .before .before .put-signed .ensures ∙ rw e in (
+      rw o (put-next (a .width) (c .before .before .before .before .before .before .loop .out) (a .at) (c .before .before .before .before .before .before .loop .i) (a .n) (a .numbers .now) (a .from) (c .before .before .before .before .before .loop-test .taken) (c .before .before .before .before .before .before .before .before .pre .1 .1) ∙ c .before .before .before .before .before .before .loop .inv .0),
+      c .before .before .put-signed .kept .0 ∙ c .before .before .before .before .before .before .loop .inv .1,
+      omega (arith, c .before .before .before .before .before .loop-test .taken),
     )
 
 same-length : tie.Need-same-length Inv-loop μ-loop
@@ -82,12 +83,11 @@ put-run-spec =
     Inv-loop
     μ-loop
     loop-holds
-    add-x
-    mul-x
-    shared-slice-copy-out-x
-    mul-put-short
-    add-put-short
-    put-short-requires
+    add-number
+    number-requires
+    mul-put-signed
+    add-put-signed
+    put-signed-requires
     add-i
     loop-less
     loop-again

@@ -1,133 +1,98 @@
 -- `bundle::store::store_constraints` meets its contract. The invariant `Storing`: what is left to store gives what the whole gives. Assumes nothing.
-use mathlib.Core.Path.{_≡_}
-use Prim.Native.Nat.{_+_, _*_, _-_}
+use Prim.Native.Nat.{_+_, _-_, _≤_}
+use native.Mathlib.Nat.{mul-le-mul}
 use native.Mathlib.Omega.{arith}
 use lib.ListN.{length}
-use Rattle.fields.proofs.Places.{lenAt, took-less}
-use Rattle.bundle.proofs.Storing.{Storing, storing-start, storing-whole, next-is, not-broken, not-end, storing-starts, storing-note, room, storing-next, storing-done}
+use Rattle.fields.proofs.Places.{starts, next-cut, next-ends}
+use Rattle.bundle.proofs.Storing.{Storing, storing-start, no-cut, no-end, room, storing-next, storing-done}
+use Rattle.bundle.proofs.Widths.{width-most}
 use borrow.Author.Needs.{needs}
 use Rattle.bundle.proofs.store.store_constraints.Statement.{statement}
 use Rattle.bundle.proofs.store.store_constraints.Tie as tie
 
 abbrev Inv-loop : tie.InvT-loop
-Inv-loop s at k count kinds₀ numbers₀ width size here₀ n₀ kinds numbers here n = Storing s at k count kinds₀ numbers₀ kinds numbers here n
+Inv-loop s at width k count kinds₀ numbers₀ many size here₀ n₀ kinds numbers here n = Storing s at width k count kinds₀ numbers₀ kinds numbers here n
 
 abbrev μ-loop : tie.MeasureT-loop
-μ-loop s at k count kinds₀ numbers₀ width size here₀ n₀ kinds numbers here n = length s - here
+μ-loop s at width k count kinds₀ numbers₀ many size here₀ n₀ kinds numbers here n = length s - here
 
-add-width : tie.Need-add-width Inv-loop μ-loop
-add-width c = search needs
+add-many : tie.Need-add-many Inv-loop μ-loop
+add-many c = search needs
 
 mul-size : tie.Need-mul-size Inv-loop μ-loop
-mul-size c = search needs
-
-add-size : tie.Need-add-size Inv-loop μ-loop
-add-size c = search needs
+mul-size c =
+    let k : c .before .before .args .k + 1 ≤ 256 = omega arith in
+    record { fits = omega (arith, mul-le-mul k (width-most (c .before .before .pre .0))) }
 
 loop-holds : tie.Need-loop-holds Inv-loop μ-loop
-loop-holds c = storing-start (c .before .before .pre)
+loop-holds c = storing-start (c .before .before .pre .1)
 
-shared-slice-read-tag : tie.Need-shared-slice-read-tag Inv-loop μ-loop
-shared-slice-read-tag c = omega (arith, storing-whole (c .before .before .loop .inv) (c .before .loop-test .taken) .upto)
+next-field-requires : tie.Need-next-field-requires Inv-loop μ-loop
+next-field-requires c κs = search needs
+
+enum-known-tag : tie.Need-enum-known-tag Inv-loop μ-loop
+enum-known-tag c = search needs
 
 sub-kinds : tie.Need-sub-kinds Inv-loop μ-loop
 sub-kinds c =
-    let k = storing-starts (c .before .before .before .loop .inv) (c .before .before .loop-test .taken) (c .if1 .taken) in
-    let r = room k (c .before .before .before .loop .inv .able) in
+    let r = room (starts (c .before .before .before .next-field .ensures) (c .before .tag .given .1)) (c .before .before .before .before .before .loop .inv .able) in
     omega (arith, r .from)
 
 slice-write-kinds : tie.Need-slice-write-kinds Inv-loop μ-loop
-slice-write-kinds c =
-    let k = storing-starts (c .before .before .before .loop .inv) (c .before .before .loop-test .taken) (c .if1 .taken) in
-    let r = room k (c .before .before .before .loop .inv .able) in
-    r .kinds-room
-
-add-store-numbers : tie.Need-add-store-numbers Inv-loop μ-loop
-add-store-numbers c =
-    let k = storing-starts (c .before .before .before .loop .inv) (c .before .before .loop-test .taken) (c .if1 .taken) in
-    let r = room k (c .before .before .before .loop .inv .able) in
-    omega (arith, r .bytes)
+slice-write-kinds c = room (starts (c .before .before .before .next-field .ensures) (c .before .tag .given .1)) (c .before .before .before .before .before .loop .inv .able) .kinds-room
 
 mul-store-numbers : tie.Need-mul-store-numbers Inv-loop μ-loop
 mul-store-numbers c =
-    let k = storing-starts (c .before .before .before .before .loop .inv) (c .before .before .before .loop-test .taken) (c .before .if1 .taken) in
-    let r = room k (c .before .before .before .before .loop .inv .able) in
-    omega (arith, r .numbers-room, c .before .before .before .before .loop .inv .numbers-long)
+    let r = room (starts (c .before .before .before .before .next-field .ensures) (c .before .before .tag .given .1)) (c .before .before .before .before .before .before .loop .inv .able) in
+    omega (arith, r .numbers-room, c .before .before .before .before .before .before .loop .inv .numbers-long)
 
 store-numbers-requires : tie.Need-store-numbers-requires Inv-loop μ-loop
 store-numbers-requires c κs =
-    let k = storing-starts (c .before .before .before .before .loop .inv) (c .before .before .before .loop-test .taken) (c .before .if1 .taken) in
-    let r = room k (c .before .before .before .before .loop .inv .able) in
-    (r .bytes, r .numbers-room)
+    let r = room (starts (c .before .before .before .before .next-field .ensures) (c .before .before .tag .given .1)) (c .before .before .before .before .before .before .loop .inv .able) in
+    (c .before .before .before .before .before .before .before .before .before .pre .0, (r .bytes, r .numbers-room))
 
 add-n : tie.Need-add-n Inv-loop μ-loop
 add-n c =
-    let k = storing-starts (c .before .before .before .before .before .before .loop .inv) (c .before .before .before .before .before .loop-test .taken) (c .before .before .before .if1 .taken) in
-    let r = room k (c .before .before .before .before .before .before .loop .inv .able) in
+    let r = room (starts (c .before .before .before .before .before .before .next-field .ensures) (c .before .before .before .before .tag .given .1)) (c .before .before .before .before .before .before .before .before .loop .inv .able) in
     omega (arith, r .few)
 
 add-here : tie.Need-add-here Inv-loop μ-loop
 add-here c =
-    let k = storing-starts (c .before .before .before .before .before .before .loop .inv) (c .before .before .before .before .before .loop-test .taken) (c .before .before .before .if1 .taken) in
-    let r = room k (c .before .before .before .before .before .before .loop .inv .able) in
+    let r = room (starts (c .before .before .before .before .before .before .next-field .ensures) (c .before .before .before .before .tag .given .1)) (c .before .before .before .before .before .before .before .before .loop .inv .able) in
     omega (arith, r .bytes)
 
 loop-less : tie.Need-loop-less Inv-loop μ-loop
 loop-less c =
-    let k = storing-starts (c .before .before .before .before .before .before .loop .inv) (c .before .before .before .before .before .loop-test .taken) (c .before .before .before .if1 .taken) in
-    let r = room k (c .before .before .before .before .before .before .loop .inv .able) in
-    omega (arith, r .bytes)
+    let k = starts (c .before .before .before .before .before .before .next-field .ensures) (c .before .before .before .before .tag .given .1) in
+    let r = room k (c .before .before .before .before .before .before .before .before .loop .inv .able) in
+    omega (arith, r .bytes, k .start-is, k .from)
 
 loop-again : tie.Need-loop-again Inv-loop μ-loop
-loop-again c =
-    let k = storing-starts (c .before .before .before .before .before .before .loop .inv) (c .before .before .before .before .before .loop-test .taken) (c .before .before .before .if1 .taken) in
-    let r = room k (c .before .before .before .before .before .before .loop .inv .able) in
-    let K = c .before .before .before .before .before .before .before .before .before .args .k in
-    let here = c .before .before .before .before .before .before .loop .here in
-    let e : here + (3 + (K + 1) * 2) ≡ here + 3 + lenAt (c .before .before .before .before .before .before .before .before .before .args .s .now) here = omega (arith, r .size) in
-    rw e (storing-next k (c .before .before .before .before .before .before .loop .inv) (c .before .store-numbers .ensures))
-
-field-at-requires : tie.Need-field-at-requires Inv-loop μ-loop
-field-at-requires c κs = search needs
-
-enum-known-next : tie.Need-enum-known-next Inv-loop μ-loop
-enum-known-next c = search needs
-
-loop-less-2 : tie.Need-loop-less-2 Inv-loop μ-loop
-loop-less-2 c =
-    let v = c .before .before .before .before .before .before .before .loop .inv in
-    let h = c .before .before .before .before .before .before .loop-test .taken in
-    omega (arith, next-is v h (c .before .before .before .field-at .ensures) (c .before .next .given .1), took-less (storing-whole v h))
-
-loop-again-2 : tie.Need-loop-again-2 Inv-loop μ-loop
-loop-again-2 c =
-    let v = c .before .before .before .before .before .before .before .loop .inv in
-    let h = c .before .before .before .before .before .before .loop-test .taken in
-    rw (next-is v h (c .before .before .before .field-at .ensures) (c .before .next .given .1)) (storing-note v h (c .before .before .before .before .if1 .left))
+loop-again c = storing-next (starts (c .before .before .before .before .before .before .next-field .ensures) (c .before .before .before .before .tag .given .1)) (c .before .before .before .before .before .before .before .before .loop .inv) (c .before .store-numbers .ensures)
 
 enum-told : tie.Need-enum-told Inv-loop μ-loop
 enum-told c = search needs
 
 same-length : tie.Need-same-length Inv-loop μ-loop
-same-length c = c .before .before .before .before .before .before .loop .inv .kinds-long
+same-length c = c .before .before .before .before .loop .inv .kinds-long
 
 same-length-2 : tie.Need-same-length-2 Inv-loop μ-loop
-same-length-2 c = c .before .before .before .before .before .before .loop .inv .numbers-long
+same-length-2 c = c .before .before .before .before .loop .inv .numbers-long
 
 returns : tie.Need-returns Inv-loop μ-loop
-returns c = absurd (not-broken (c .before .before .before .before .before .before .loop .inv) (c .before .before .before .before .before .loop-test .taken) (c .before .before .field-at .ensures) (c .enum-told .given .1))
+returns c = absurd (no-cut (c .before .before .before .before .loop .inv) (next-cut _ (c .before .before .next-field .ensures) (c .enum-told .given .1)))
 
 enum-told-2 : tie.Need-enum-told-2 Inv-loop μ-loop
 enum-told-2 c = search needs
 
 same-length-3 : tie.Need-same-length-3 Inv-loop μ-loop
-same-length-3 c = c .before .before .before .before .before .before .loop .inv .kinds-long
+same-length-3 c = c .before .before .before .before .loop .inv .kinds-long
 
 same-length-4 : tie.Need-same-length-4 Inv-loop μ-loop
-same-length-4 c = c .before .before .before .before .before .before .loop .inv .numbers-long
+same-length-4 c = c .before .before .before .before .loop .inv .numbers-long
 
 returns-2 : tie.Need-returns-2 Inv-loop μ-loop
-returns-2 c = absurd (not-end (c .before .before .before .before .before .before .loop .inv) (c .before .before .before .before .before .loop-test .taken) (c .before .before .field-at .ensures) (c .enum-told2 .given .1))
+returns-2 c = absurd (no-end (c .before .before .before .before .loop .inv) (c .before .before .before .loop-test .taken) (next-ends _ (c .before .before .next-field .ensures) (c .enum-told2 .given .1)))
 
 same-length-5 : tie.Need-same-length-5 Inv-loop μ-loop
 same-length-5 c = c .before .loop .inv .kinds-long
@@ -144,24 +109,19 @@ store-constraints-spec =
     (tie.spec
     Inv-loop
     μ-loop
-    add-width
+    add-many
     mul-size
-    add-size
     loop-holds
-    shared-slice-read-tag
+    next-field-requires
+    enum-known-tag
     sub-kinds
     slice-write-kinds
-    add-store-numbers
     mul-store-numbers
     store-numbers-requires
     add-n
     add-here
     loop-less
     loop-again
-    field-at-requires
-    enum-known-next
-    loop-less-2
-    loop-again-2
     enum-told
     same-length
     same-length-2

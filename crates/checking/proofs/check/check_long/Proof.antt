@@ -6,8 +6,8 @@ use Rattle.checking.proofs.check.check_long.Tie as tie
 
 check-800-requires : tie.Need-check-800-requires
 check-800-requires c κs =
-    let s = c .before .before .before .before .before .before in
-    (s .pre, omega (arith, c .before .if1 .taken))
+    let w = c .before .before .before .before .before .before .pre in
+    (w .0, (w .1, omega (arith, c .before .if1 .taken)))
 
 same-length : tie.Need-same-length
 same-length c = search needs
@@ -17,8 +17,8 @@ returns c = search needs
 
 check-1200-requires : tie.Need-check-1200-requires
 check-1200-requires c κs =
-    let s = c .before .before .before .before .before .before .before in
-    (s .pre, omega (arith, c .before .if2 .taken))
+    let w = c .before .before .before .before .before .before .before .pre in
+    (w .0, (w .1, omega (arith, c .before .if2 .taken)))
 
 same-length-2 : tie.Need-same-length-2
 same-length-2 c = search needs

@@ -1,12 +1,14 @@
 -- `checking::check::check_root` meets its contract: each answer cites the law for its way. Assumes nothing.
 use mathlib.Core.Path.{refl}
+use native.Mathlib.Omega.{arith}
+use Rattle.forms.proofs.Editions.{lines-most}
 use Rattle.checking.proofs.Rooting.{by-fault, by-closed-ended, by-closed}
 use borrow.Author.Needs.{needs}
 use Rattle.checking.proofs.check.check_root.Statement.{statement}
 use Rattle.checking.proofs.check.check_root.Tie as tie
 
-cast-t20 : tie.Need-cast-t20
-cast-t20 c = search needs
+cast-t21 : tie.Need-cast-t21
+cast-t21 c = omega (arith, lines-most (c .before .before .before .before .args .e), c .before .before .before .before .pre .0 .ready .most)
 
 root-requires : tie.Need-root-requires
 root-requires c κs = search needs
@@ -57,7 +59,7 @@ pub check-root-spec : {M : Type 1} → statement M
 check-root-spec =
     tie.close
     (tie.spec
-    cast-t20
+    cast-t21
     root-requires
     check-branch-requires
     enum-known-number

@@ -1,7 +1,5 @@
 -- `checking::check::check_within` meets its contract. Assumes nothing.
 use native.Mathlib.Omega.{arith}
-use Prim.Native.Nat.{ℕ}
-use lib.ListN.{length-replicate}
 use Rattle.branches.proofs.Counting.{spare-less}
 use Rattle.checking.proofs.Preparing.{space-from}
 use Rattle.checking.proofs.Stages.{started, checks-root}
@@ -9,26 +7,20 @@ use borrow.Author.Needs.{needs}
 use Rattle.checking.proofs.check.check_within.Statement.{statement}
 use Rattle.checking.proofs.check.check_within.Tie as tie
 
-slice-aggregate-prepare : tie.Need-slice-aggregate-prepare
-slice-aggregate-prepare c = search needs
-
 prepare-requires : tie.Need-prepare-requires
 prepare-requires c κs =
-    let g = c .before .before .before .before .before .before .before .pre .0 in
-    (g .both, space-from (g .both) (c .before .before .before .before .before .before .before .pre .1 .0) (omega arith) (omega (arith, length-replicate {A = ℕ} 128 0)))
+    let g = c .before .before .before .before .before .before .before .before .pre .0 in
+    (g .both, space-from (g .both) (c .before .before .before .before .before .before .before .before .pre .1 .0) (omega arith))
 
 add-check-root : tie.Need-add-check-root
 add-check-root c = search needs
 
-slice-aggregate-check-root : tie.Need-slice-aggregate-check-root
-slice-aggregate-check-root c = search needs
-
 check-root-requires : tie.Need-check-root-requires
 check-root-requires c κs =
-    let w = c .before .before .before .before .before .before .before .before .before .before .before .before .before .before .pre .1 in
-    let g = c .before .before .before .before .before .before .before .before .before .before .before .before .before .before .pre .0 in
-    let q = c .before .before .before .before .before .before .prepare .ensures in
-    (started g q (spare-less (omega arith) (omega arith) (w .0)), w .1)
+    let w = c .before .before .before .before .before .before .before .before .before .before .before .before .before .before .before .before .before .before .pre .1 in
+    let g = c .before .before .before .before .before .before .before .before .before .before .before .before .before .before .before .before .before .before .pre .0 in
+    let q = c .before .before .before .before .before .before .before .before .before .prepare .ensures in
+    (started g q (spare-less (omega arith) (omega arith) (omega arith) (w .0)), w .1)
 
 same-length : tie.Need-same-length
 same-length c = search needs
@@ -39,19 +31,21 @@ same-length-2 c = search needs
 same-length-3 : tie.Need-same-length-3
 same-length-3 c = search needs
 
+same-length-4 : tie.Need-same-length-4
+same-length-4 c = search needs
+
 returns : tie.Need-returns
-returns c = checks-root (c .before .before .before .before .before .before .before .before .before .before .before .before .before .before .before .before .before .before .before .before .before .pre .0) (c .before .before .before .before .before .before .before .before .before .before .before .before .before .prepare .ensures) (c .before .before .before .before .before .before .check-root .ensures)
+returns c = checks-root (c .before .before .before .before .before .before .before .before .before .before .before .before .before .before .before .before .before .before .before .before .before .before .before .before .before .before .pre .0) (c .before .before .before .before .before .before .before .before .before .before .before .before .before .before .before .before .before .prepare .ensures) (c .before .before .before .before .before .before .before .check-root .ensures)
 
 pub check-within-spec : {M : Type 1} → statement M
 check-within-spec =
     tie.close
     (tie.spec
-    slice-aggregate-prepare
     prepare-requires
     add-check-root
-    slice-aggregate-check-root
     check-root-requires
     same-length
     same-length-2
     same-length-3
+    same-length-4
     returns)

@@ -1,6 +1,6 @@
 -- `checking::load::load_line` meets its contract: t, then tA, then the kind. Assumes nothing.
 use native.Mathlib.Omega.{arith}
-use Rattle.checking.proofs.Loading.{space-end, form-loaded}
+use Rattle.checking.proofs.Loading.{stored-all, space-end, copies-t, copies-tA, form-loaded}
 use borrow.Author.Needs.{needs}
 use Rattle.checking.proofs.load.load_line.Statement.{statement}
 use Rattle.checking.proofs.load.load_line.Tie as tie
@@ -11,26 +11,24 @@ add-w c = search needs
 place-requires : tie.Need-place-requires
 place-requires c κs = search needs
 
-load-numbers-requires : tie.Need-load-numbers-requires
-load-numbers-requires c κs =
-    let p = c .before .before .before .before .pre in
-    record { bytes = p .bytes; room = omega (arith, space-end (p .space), c .before .place .ensures) }
+store-numbers-requires : tie.Need-store-numbers-requires
+store-numbers-requires c κs =
+    let q = copies-t (c .before .before .before .before .pre) (c .before .place .ensures) in
+    (q .width, (q .bytes, q .room))
 
 add-load-partial : tie.Need-add-load-partial
-add-load-partial c =
-    let p = c .before .before .before .before .before .before .before .pre in
-    omega (arith, space-end (p .space), c .before .before .before .before .place .ensures)
+add-load-partial c = omega (arith, space-end (c .before .before .before .before .before .before .before .pre .space), c .before .before .before .before .place .ensures)
 
 load-partial-requires : tie.Need-load-partial-requires
-load-partial-requires c κs =
-    let p = c .before .before .before .before .before .before .before .pre in
-    record { bytes = p .bytes; room = omega (arith, space-end (p .space), c .before .before .before .before .place .ensures) }
+load-partial-requires c κs = copies-tA (c .before .before .before .before .before .before .before .pre) (c .before .before .before .before .place .ensures) (c .before .before .store-numbers .ensures)
 
 line-kind-requires : tie.Need-line-kind-requires
 line-kind-requires c κs = search needs
 
 set-kind-requires : tie.Need-set-kind-requires
-set-kind-requires c κs = search needs
+set-kind-requires c κs =
+    let s = c .before .before .before .before .before .before .before .before .before .before .before .pre .space in
+    omega (arith, s .kinds-room)
 
 same-length : tie.Need-same-length
 same-length c = search needs
@@ -39,7 +37,11 @@ same-length-2 : tie.Need-same-length-2
 same-length-2 c = search needs
 
 returns : tie.Need-returns
-returns c = rw (c .before .before .set-kind .ensures, c .before .before .before .line-kind .ensures) (form-loaded (c .before .before .before .before .before .before .before .before .before .before .before .before .before .before .pre) (c .before .before .before .before .before .before .before .before .before .before .before .before .before .before .args .in-a) (rw (c .before .before .before .before .before .before .before .before .before .before .before .place .ensures) at (c .before .before .before .before .before .before .before .before .before .load-numbers .ensures)) (rw (c .before .before .before .before .before .before .before .before .before .before .before .place .ensures) at (c .before .before .before .before .before .before .load-partial .ensures)))
+returns c =
+    let p = c .before .before .before .before .before .before .before .before .before .before .before .before .before .before .pre in
+    let x = c .before .before .before .before .before .before .before .before .before .before .before .place .ensures in
+    rw (c .before .before .set-kind .ensures, c .before .before .before .line-kind .ensures)
+    (form-loaded p (c .before .before .before .before .before .before .before .before .before .before .before .before .before .before .args .in-a) (rw x at (stored-all (copies-t p x) (c .before .before .before .before .before .before .before .before .before .store-numbers .ensures))) (rw x at (c .before .before .before .before .before .before .load-partial .ensures)))
 
 pub load-line-spec : {M : Type 1} → statement M
 load-line-spec =
@@ -47,7 +49,7 @@ load-line-spec =
     (tie.spec
     add-w
     place-requires
-    load-numbers-requires
+    store-numbers-requires
     add-load-partial
     load-partial-requires
     line-kind-requires

@@ -6,7 +6,7 @@ use mir.Syntax.{w64}
 use mir.ValLaws.{toZ-ofZ}
 use Rattle.rows.proofs.KindBytes.{kind-apart}
 use Rattle.rows.proofs.Testing.{is-below, past}
-use Rattle.closes.proofs.Closes.{line-end, number-none, number-apart, number-coeffs, number-d, number-passed}
+use Rattle.closes.proofs.Closes.{line-end, line-low, number-none, number-apart, number-coeffs, number-d, number-passed}
 use Rattle.closes.proofs.closing.test_number.Statement.{statement}
 use Rattle.closes.proofs.closing.test_number.Tie as tie
 
@@ -24,7 +24,7 @@ kind-of-requires c κs =
     let s = c .before .before .before in
     let a = s .args in
     let h = is-below (a .i .0) (a .tally .lines .0) (c .before .is-there .ensures) (c .if1 .left) in
-    omega (arith, s .pre .most, s .pre .room)
+    omega (arith, s .pre .room)
 
 returns-2 : tie.Need-returns-2
 returns-2 c =
@@ -38,7 +38,7 @@ place-requires c κs =
     let s = c .before .before .before .before .before in
     let a = s .args in
     let h = is-below (a .i .0) (a .tally .lines .0) (c .before .before .before .is-there .ensures) (c .before .before .if1 .left) in
-    (omega (arith, s .pre .most), s .pre .branch .constants)
+    (line-low (s .pre) h, s .pre .branch .constants)
 
 all-zero-requires : tie.Need-all-zero-requires
 all-zero-requires c κs =

@@ -1,13 +1,13 @@
 -- `closes::closing::test_stride` meets its contract. Assumes nothing.
 use borrow.Author.Needs.{needs}
 use native.Mathlib.Omega.{arith}
-use mathlib.Core.Path.{sym, _∙_}
+use mathlib.Core.Path.{_∙_}
 use lib.IntN.{natAbs}
 use mir.Syntax.{w64}
 use mir.ValLaws.{toZ-ofZ}
 use Rattle.rows.proofs.KindBytes.{kind-=, kind-not-=}
 use Rattle.rows.proofs.Testing.{is-below, past, unnot}
-use Rattle.closes.proofs.Closes.{line-end}
+use Rattle.closes.proofs.Closes.{line-end, line-low}
 use Rattle.closes.proofs.Strides.{at-least-two, stride-none, stride-kind, stride-small, stride-coeffs, stride-d, stride-passed}
 use Rattle.closes.proofs.closing.test_stride.Statement.{statement}
 use Rattle.closes.proofs.closing.test_stride.Tie as tie
@@ -21,7 +21,7 @@ returns c = stride-none (c .before .before .before .args .k) (c .before .before 
 kind-of-requires : tie.Need-kind-of-requires
 kind-of-requires c κs =
     let h = (is-below (c .before .before .before .args .i .0) (c .before .before .before .args .tally .lines .0) (c .before .is-there .ensures) (c .if1 .left)) in
-    omega (arith, c .before .before .before .pre .0 .most, c .before .before .before .pre .0 .room)
+    omega (arith, c .before .before .before .pre .0 .room)
 
 returns-2 : tie.Need-returns-2
 returns-2 c = stride-kind (c .before .before .before .before .before .args .k) (c .before .before .before .before .before .args .kinds .now) (c .before .before .before .before .before .args .lines .now) (c .before .before .before .before .before .args .tally) (c .before .before .before .before .before .args .i .0) (natAbs (c .before .before .before .before .before .args .g)) (is-below (c .before .before .before .before .before .args .i .0) (c .before .before .before .before .before .args .tally .lines .0) (c .before .before .before .is-there .ensures) (c .before .before .if1 .left)) (kind-not-= _ _ _ _ (c .before .kind-of .ensures) (c .if2 .taken))
@@ -35,7 +35,7 @@ returns-3 c = let fg = c .before .before .before .before .before .before .before
 place-requires : tie.Need-place-requires
 place-requires c κs =
     let h = (is-below (c .before .before .before .before .before .before .before .args .i .0) (c .before .before .before .before .before .before .before .args .tally .lines .0) (c .before .before .before .before .before .is-there .ensures) (c .before .before .before .before .if1 .left)) in
-    (omega (arith, c .before .before .before .before .before .before .before .pre .0 .most), c .before .before .before .before .before .before .before .pre .0 .branch .constants)
+    (line-low (c .before .before .before .before .before .before .before .pre .0) h, c .before .before .before .before .before .before .before .pre .0 .branch .constants)
 
 all-divisible-requires : tie.Need-all-divisible-requires
 all-divisible-requires c κs =

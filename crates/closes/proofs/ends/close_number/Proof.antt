@@ -1,6 +1,7 @@
 -- `closes::ends::close_number` meets its contract. Assumes nothing.
 use borrow.Author.Needs.{needs}
 use native.Mathlib.Omega.{arith}
+use Rattle.closes.proofs.Closes.{line-low}
 use Rattle.closes.proofs.Ending.{number-there, number-refused, number-written, numbered}
 use Rattle.closes.proofs.ends.close_number.Statement.{statement}
 use Rattle.closes.proofs.ends.close_number.Tie as tie
@@ -20,12 +21,12 @@ enum-told c = search needs
 place-a-requires : tie.Need-place-a-requires
 place-a-requires c κs =
     let h = number-there (rw (c .enum-told .given .1) at (c .before .before .test-number .ensures)) in
-    (omega (arith, c .before .before .before .before .before .pre .0 .most), c .before .before .before .before .before .pre .0 .branch .constants)
+    (line-low (c .before .before .before .before .before .pre .0) h, c .before .before .before .before .before .pre .0 .branch .constants)
 
 kind-of-requires : tie.Need-kind-of-requires
 kind-of-requires c κs =
     let h = number-there (rw (c .before .enum-told .given .1) at (c .before .before .before .test-number .ensures)) in
-    omega (arith, c .before .before .before .before .before .before .pre .0 .most, c .before .before .before .before .before .before .pre .0 .room)
+    omega (arith, c .before .before .before .before .before .before .pre .0 .room)
 
 put-literal-requires : tie.Need-put-literal-requires
 put-literal-requires c κs =

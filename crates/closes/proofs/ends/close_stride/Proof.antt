@@ -1,7 +1,7 @@
 -- `closes::ends::close_stride` meets its contract. Assumes nothing.
 use borrow.Author.Needs.{needs}
-use native.Mathlib.Omega.{arith}
 use mir.ValLaws.{toZ-ofZ}
+use Rattle.closes.proofs.Closes.{line-low}
 use Rattle.closes.proofs.Ending.{stride-there, stride-two, stride-refused, stride-written, numbered, divisor}
 use Rattle.closes.proofs.ends.close_stride.Statement.{statement}
 use Rattle.closes.proofs.ends.close_stride.Tie as tie
@@ -21,7 +21,7 @@ enum-told c = search needs
 place-a-requires : tie.Need-place-a-requires
 place-a-requires c κs = let fg = c .before .before .before .before .before .fits .g in
     let h = (stride-there (rw (c .enum-told .given .1) at (simp toZ-ofZ at (c .before .before .test-stride .ensures)))) in
-    (omega (arith, c .before .before .before .before .before .pre .0 .most), c .before .before .before .before .before .pre .0 .branch .constants)
+    (line-low (c .before .before .before .before .before .pre .0) h, c .before .before .before .before .before .pre .0 .branch .constants)
 
 put-stride-requires : tie.Need-put-stride-requires
 put-stride-requires c κs = let fg = c .before .before .before .before .before .before .before .fits .g in

@@ -22,8 +22,14 @@ returns c = field-other (starts (c .before .before .before .before .before .befo
 returns-2 : tie.Need-returns-2
 returns-2 c = field-size (starts (c .before .before .before .before .before .before .before .next-field .ensures) (c .before .before .before .before .before .place .given .1)) (sym (c .before .before .before .known .ensures) ∙ c .before .before .if1 .taken) (c .before .if2 .left) (c .if3 .taken)
 
-shared-slice-read-t17 : tie.Need-shared-slice-read-t17
-shared-slice-read-t17 c =
+shared-slice-read-t16 : tie.Need-shared-slice-read-t16
+shared-slice-read-t16 c =
+    let k = starts (c .before .before .before .before .before .before .before .before .next-field .ensures) (c .before .before .before .before .before .before .place .given .1) in
+    let l = c .before .if3 .left in
+    omega (arith, k .upto, k .next-is, l)
+
+add-t17 : tie.Need-add-t17
+add-t17 c =
     let k = starts (c .before .before .before .before .before .before .before .before .next-field .ensures) (c .before .before .before .before .before .before .place .given .1) in
     let l = c .before .if3 .left in
     omega (arith, k .upto, k .next-is, l)
@@ -55,7 +61,8 @@ header-field-spec =
     known-requires
     returns
     returns-2
-    shared-slice-read-t17
+    shared-slice-read-t16
+    add-t17
     returns-3
     enum-known-place-2
     enum-known-place-3

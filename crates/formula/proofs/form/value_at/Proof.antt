@@ -1,10 +1,10 @@
 -- `formula::form::value_at` meets its contract. The invariant: the terms from i on are summed. Assumes nothing.
 use mathlib.Core.Path.{refl}
+use mathlib.Core.Logic.{inr}
 use native.Mathlib.Omega.{arith}
 use mir.Syntax.{w64}
 use mir.Val.{toZ}
 use mir.ValLaws.{toZ-ofZ}
-use borrow.Author.Needs.{needs}
 use Rattle.integers.proofs.Magnitude.{within-le}
 use Rattle.formula.proofs.Value.{Summed, summed-none, summed-more, summed-all}
 use Rattle.formula.proofs.form.value_at.Statement.{statement}
@@ -16,17 +16,17 @@ Inv-loop s at values k total₀ i₀ total i = Summed s at values k i (toZ w64 t
 abbrev μ-loop : tie.MeasureT-loop
 μ-loop s at values k total₀ i₀ total i = i
 
-mul-wide-long-at : tie.Need-mul-wide-long-at Inv-loop μ-loop
-mul-wide-long-at c = omega arith
+mul-signed-at : tie.Need-mul-signed-at Inv-loop μ-loop
+mul-signed-at c = omega arith
 
-add-wide-long-at : tie.Need-add-wide-long-at Inv-loop μ-loop
-add-wide-long-at c = omega arith
+add-signed-at : tie.Need-add-signed-at Inv-loop μ-loop
+add-signed-at c = omega arith
 
-wide-long-at-requires : tie.Need-wide-long-at-requires Inv-loop μ-loop
-wide-long-at-requires c κs = omega arith
+signed-at-requires : tie.Need-signed-at-requires Inv-loop μ-loop
+signed-at-requires c κs = (inr refl, omega arith)
 
 loop-holds : tie.Need-loop-holds Inv-loop μ-loop
-loop-holds c = rw (toZ-ofZ w64 (c .wide-long-at .result) (record { sfits = c .wide-long-at .ok })) (summed-none _ _ _ _ (c .wide-long-at .ensures .0) (c .wide-long-at .ensures .1))
+loop-holds c = rw (toZ-ofZ w64 (c .signed-at .result) (record { sfits = c .signed-at .ok })) (summed-none _ _ _ _ (c .signed-at .ensures .0) (c .signed-at .ensures .1))
 
 sub-i : tie.Need-sub-i Inv-loop μ-loop
 sub-i c = c .loop-test .taken
@@ -62,9 +62,9 @@ value-at-spec =
     (tie.spec
     Inv-loop
     μ-loop
-    mul-wide-long-at
-    add-wide-long-at
-    wide-long-at-requires
+    mul-signed-at
+    add-signed-at
+    signed-at-requires
     loop-holds
     sub-i
     mul-with-term

@@ -1,6 +1,7 @@
 -- `formula::form::with_term` meets its contract. Assumes nothing.
 use mathlib.Core.Path.{_≡_, refl}
-use lib.IntN.{pos, _+ℤ_, _*ℤ_}
+use mathlib.Core.Logic.{inr}
+use lib.IntN.{_+ℤ_, _*ℤ_}
 use mir.Syntax.{w64}
 use mir.Val.{SFits, toZ, ofZ}
 use mir.ValLaws.{toZ-ofZ}
@@ -9,8 +10,8 @@ use Rattle.formula.proofs.Value.{product-fits, sum-fits}
 use Rattle.formula.proofs.form.with_term.Statement.{statement}
 use Rattle.formula.proofs.form.with_term.Tie as tie
 
-wide-long-at-requires : tie.Need-wide-long-at-requires
-wide-long-at-requires c κs = c .before .pre .0
+signed-at-requires : tie.Need-signed-at-requires
+signed-at-requires c κs = (inr refl, c .before .pre .0)
 
 number-requires : tie.Need-number-requires
 number-requires c κs = c .before .before .pre .1 .register
@@ -19,15 +20,15 @@ module _ (c : tie.After-number) where
   value-in : Within 1_000_000 (c .number .result)
   value-in = rw (c .number .ensures) (c .before .before .before .pre .1 .all .at (c .before .before .before .args .i))
 
-  product-in : SFits w64 (c .before .wide-long-at .result *ℤ c .number .result)
-  product-in = product-fits (c .before .wide-long-at .ensures .1) value-in
+  product-in : SFits w64 (c .before .signed-at .result *ℤ c .number .result)
+  product-in = product-fits (c .before .signed-at .ensures .1) value-in
 
-  sum-in : SFits w64 (c .before .wide-long-at .result *ℤ c .number .result +ℤ c .before .before .before .args .total)
-  sum-in = sum-fits (c .before .wide-long-at .ensures .1) value-in (c .before .before .before .pre .1 .small)
+  sum-in : SFits w64 (c .before .signed-at .result *ℤ c .number .result +ℤ c .before .before .before .args .total)
+  sum-in = sum-fits (c .before .signed-at .ensures .1) value-in (c .before .before .before .pre .1 .small)
 
   -- the factors, the product and the total as the machine reads them back
-  coefficient-is : toZ w64 (ofZ w64 (c .before .wide-long-at .result)) ≡ c .before .wide-long-at .result
-  coefficient-is = toZ-ofZ w64 (c .before .wide-long-at .result) (record { sfits = c .before .wide-long-at .ok })
+  coefficient-is : toZ w64 (ofZ w64 (c .before .signed-at .result)) ≡ c .before .signed-at .result
+  coefficient-is = toZ-ofZ w64 (c .before .signed-at .result) (record { sfits = c .before .signed-at .ok })
 
   value-is : toZ w64 (ofZ w64 (c .number .result)) ≡ c .number .result
   value-is = toZ-ofZ w64 (c .number .result) (record { sfits = c .number .ok })
@@ -43,9 +44,9 @@ add-result c = rw (coefficient-is c, value-is c, toZ-ofZ w64 _ (product-in c), t
 
 returns : tie.Need-returns
 returns c = (
-  rw (coefficient-is c, value-is c, toZ-ofZ w64 _ (product-in c), total-is c, toZ-ofZ w64 _ (sum-in c), c .before .wide-long-at .ensures .0, c .number .ensures),
-  rw (c .before .wide-long-at .ensures .0) at (c .before .wide-long-at .ensures .1),
+  rw (coefficient-is c, value-is c, toZ-ofZ w64 _ (product-in c), total-is c, toZ-ofZ w64 _ (sum-in c), c .before .signed-at .ensures .0, c .number .ensures),
+  rw (c .before .signed-at .ensures .0) at (c .before .signed-at .ensures .1),
 )
 
 pub with-term-spec : {M : Type 1} → statement M
-with-term-spec = tie.close (tie.spec wide-long-at-requires number-requires mul-result add-result returns)
+with-term-spec = tie.close (tie.spec signed-at-requires number-requires mul-result add-result returns)

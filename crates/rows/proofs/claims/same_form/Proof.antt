@@ -1,4 +1,6 @@
 -- `rows::claims::same_form` meets its contract. Assumes nothing.
+use mathlib.Core.Path.{refl}
+use mathlib.Core.Logic.{inr}
 use borrow.Author.Needs.{needs}
 use native.Mathlib.Omega.{arith}
 use Prim.Native.Nat.{_+_, _-_}
@@ -16,14 +18,14 @@ abbrev μ-loop : tie.MeasureT-loop
 loop-holds : tie.Need-loop-holds Inv-loop μ-loop
 loop-holds c = claim-start _ _ _ _ _
 
-mul-wide-long-at : tie.Need-mul-wide-long-at Inv-loop μ-loop
-mul-wide-long-at c = search needs
+mul-signed-at : tie.Need-mul-signed-at Inv-loop μ-loop
+mul-signed-at c = search needs
 
-add-wide-long-at : tie.Need-add-wide-long-at Inv-loop μ-loop
-add-wide-long-at c = search needs
+add-signed-at : tie.Need-add-signed-at Inv-loop μ-loop
+add-signed-at c = search needs
 
-wide-long-at-requires : tie.Need-wide-long-at-requires Inv-loop μ-loop
-wide-long-at-requires c κs = omega (arith, c .before .loop .inv .upto)
+signed-at-requires : tie.Need-signed-at-requires Inv-loop μ-loop
+signed-at-requires c κs = (inr refl, omega (arith, c .before .loop .inv .upto))
 
 add-number : tie.Need-add-number Inv-loop μ-loop
 add-number c = search needs
@@ -35,7 +37,7 @@ same-requires : tie.Need-same-requires Inv-loop μ-loop
 same-requires c κs = search needs
 
 returns : tie.Need-returns Inv-loop μ-loop
-returns c = claim-off _ _ _ _ (c .before .before .before .before .before .loop .inv) (omega arith) (c .before .before .before .before .before .before .before .pre .2) (c .before .before .before .wide-long-at .ensures .0) (c .before .before .number .ensures) (c .before .before .before .wide-long-at .ok) (c .before .before .number .ok) (c .before .same .ensures) (unnot _ (c .if1 .taken))
+returns c = claim-off _ _ _ _ (c .before .before .before .before .before .loop .inv) (omega arith) (c .before .before .before .before .before .before .before .pre .2) (c .before .before .before .signed-at .ensures .0) (c .before .before .number .ensures) (c .before .before .before .signed-at .ok) (c .before .before .number .ok) (c .before .same .ensures) (unnot _ (c .if1 .taken))
 
 add-x : tie.Need-add-x Inv-loop μ-loop
 add-x c = search needs
@@ -44,10 +46,10 @@ loop-less : tie.Need-loop-less Inv-loop μ-loop
 loop-less c = search needs
 
 loop-again : tie.Need-loop-again Inv-loop μ-loop
-loop-again c = claim-on _ _ _ _ (c .before .before .before .before .before .loop .inv) (omega arith) (c .before .before .before .before .before .before .before .pre .2) (c .before .before .before .wide-long-at .ensures .0) (c .before .before .number .ensures) (c .before .before .before .wide-long-at .ok) (c .before .before .number .ok) (c .before .same .ensures) (unnot _ (c .if1 .left))
+loop-again c = claim-on _ _ _ _ (c .before .before .before .before .before .loop .inv) (omega arith) (c .before .before .before .before .before .before .before .pre .2) (c .before .before .before .signed-at .ensures .0) (c .before .before .number .ensures) (c .before .before .before .signed-at .ok) (c .before .before .number .ok) (c .before .same .ensures) (unnot _ (c .if1 .left))
 
 returns-2 : tie.Need-returns-2 Inv-loop μ-loop
 returns-2 c = claim-end _ _ _ _ (c .before .loop .inv) (omega arith)
 
 pub same-form-spec : {M : Type 1} → statement M
-same-form-spec = tie.close (tie.spec Inv-loop μ-loop loop-holds mul-wide-long-at add-wide-long-at wide-long-at-requires add-number number-requires same-requires returns add-x loop-less loop-again returns-2)
+same-form-spec = tie.close (tie.spec Inv-loop μ-loop loop-holds mul-signed-at add-signed-at signed-at-requires add-number number-requires same-requires returns add-x loop-less loop-again returns-2)

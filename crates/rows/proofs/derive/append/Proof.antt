@@ -1,6 +1,7 @@
 -- `rows::derive::append` meets its contract. Assumes nothing.
 use borrow.Author.Needs.{needs}
 use native.Mathlib.Omega.{arith}
+use Rattle.forms.proofs.Editions.{lines-most}
 use mir.ValLaws.{toZ-ofZ}
 use Rattle.rows.proofs.Deriving.{counted-line, full-line, append-full, append-range, append-made}
 use Rattle.rows.proofs.derive.append.Statement.{statement}
@@ -15,10 +16,10 @@ mix-line-requires c κs =
     let ff = s .fits .f in
     let fg = s .fits .g in
     let h = counted-line (c .before .before .before .before .line-counted .ensures) (c .before .if1 .taken) in
-    simp toZ-ofZ (record { branch = s .pre .0 .branch; first = s .pre .1 .first; second = s .pre .1 .second; space = h .0; f-in = s .pre .1 .f-in; g-in = s .pre .1 .g-in })
+    simp toZ-ofZ (record { branch = s .pre .0 .branch; first = s .pre .1 .first; second = s .pre .1 .second; space = omega (arith, h .0, lines-most (s .args .tally .edition)); f-in = s .pre .1 .f-in; g-in = s .pre .1 .g-in })
 
 set-kind-requires : tie.Need-set-kind-requires
-set-kind-requires c κs = omega (arith, counted-line (c .before .before .before .before .before .before .before .before .line-counted .ensures) (c .before .before .before .before .before .if1 .taken), c .before .before .before .before .before .before .before .before .before .before .pre .0 .room)
+set-kind-requires c κs = omega (arith, c .before .before .before .before .before .before .before .before .before .before .pre .0 .room)
 
 same-length : tie.Need-same-length
 same-length c = search needs

@@ -29,7 +29,7 @@ kind-of-requires : tie.Need-kind-of-requires
 kind-of-requires c κs =
     let s = c .before .before .before .before .before .before in
     let a = s .args in
-    omega (arith, (is-below (a .s .0) (a .tally .lines .0) (c .before .before .before .before .is-there .ensures) (c .before .before .before .if1 .left)), s .pre .0 .room, s .pre .0 .most)
+    omega (arith, (is-below (a .s .0) (a .tally .lines .0) (c .before .before .before .before .is-there .ensures) (c .before .before .before .if1 .left)), s .pre .0 .room)
 
 same-length : tie.Need-same-length
 same-length c = search needs
@@ -44,7 +44,7 @@ kind-of-requires-2 : tie.Need-kind-of-requires-2
 kind-of-requires-2 c κs =
     let s = c .before .before .before .before .before .before .before .before .before in
     let a = s .args in
-    omega (arith, (is-below (a .t .0) (a .tally .lines .0) (c .before .before .before .before .before .is-there2 .ensures) (c .before .before .before .before .if2 .left)), s .pre .0 .room, s .pre .0 .most)
+    omega (arith, (is-below (a .t .0) (a .tally .lines .0) (c .before .before .before .before .before .is-there2 .ensures) (c .before .before .before .before .if2 .left)), s .pre .0 .room)
 
 same-length-2 : tie.Need-same-length-2
 same-length-2 c = search needs

@@ -20,7 +20,7 @@ kind-of-requires : tie.Need-kind-of-requires
 kind-of-requires c κs =
     let s = c .before .before .before .before in
     let a = s .args in
-    omega (arith, (is-below (a .t .0) (a .tally .lines .0) (c .before .before .is-there .ensures) (c .before .if1 .left)), s .pre .0 .room, s .pre .0 .most)
+    omega (arith, (is-below (a .t .0) (a .tally .lines .0) (c .before .before .is-there .ensures) (c .before .if1 .left)), s .pre .0 .room)
 
 same-length : tie.Need-same-length
 same-length c = search needs

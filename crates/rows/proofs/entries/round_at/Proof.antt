@@ -1,12 +1,21 @@
 -- `rows::entries::round_at` meets its contract. Assumes nothing.
+use native.Mathlib.Omega.{arith}
 use mir.Syntax.{w64}
 use mir.ValLaws.{toZ-ofZ}
-use Rattle.rows.proofs.Reading.{round-is, wrong-size}
-use mathlib.Core.Path.{refl}
 use Rattle.proof.specs.Entries.{sizeOf}
+use Rattle.rows.proofs.Reading.{lineWidth-most, round-is, wrong-size}
 use borrow.Author.Needs.{needs}
 use Rattle.rows.proofs.entries.round_at.Statement.{statement}
 use Rattle.rows.proofs.entries.round_at.Tie as tie
+
+line-bytes-requires : tie.Need-line-bytes-requires
+line-bytes-requires c κs = search needs
+
+mul-if1 : tie.Need-mul-if1
+mul-if1 c = search needs
+
+add-if1 : tie.Need-add-if1
+add-if1 c = record { fits = omega (arith, c .line-bytes .ensures, lineWidth-most (c .before .before .args .e)) }
 
 line-at-requires : tie.Need-line-at-requires
 line-at-requires c κs = search needs
@@ -20,24 +29,18 @@ multiplier-at-requires c κs = search needs
 add-rounding-at : tie.Need-add-rounding-at
 add-rounding-at c = search needs
 
+add-rounding-at-2 : tie.Need-add-rounding-at-2
+add-rounding-at-2 c = search needs
+
 rounding-at-requires : tie.Need-rounding-at-requires
 rounding-at-requires c κs = search needs
 
 returns : tie.Need-returns
-returns c = rw (toZ-ofZ w64 (c .before .multiplier-at .result) (record { sfits = c .before .multiplier-at .ok })) (round-is _ _ _ (c .before .before .before .before .before .pre) (c .before .before .before .if1 .taken) (c .before .before .line-at .ensures) (c .before .multiplier-at .ensures) (c .rounding-at .ensures))
+returns c = rw (toZ-ofZ w64 (c .before .multiplier-at .result) (record { sfits = c .before .multiplier-at .ok })) (round-is _ _ _ (c .before .before .before .before .before .before .pre) _ (c .before .before .before .before .line-bytes .ensures) (c .before .before .before .if1 .taken) (c .before .before .line-at .ensures) (c .before .multiplier-at .ensures) (c .rounding-at .ensures))
 
 returns-2 : tie.Need-returns-2
 unfolding sizeOf
-returns-2 c = wrong-size _ _ _ (c .before .before .pre) _ 5 (λ K. refl) (c .if1 .left)
+returns-2 c = wrong-size _ _ _ (c .before .before .before .pre) _ _ (c .if1 .left) (λ K. rw (c .before .line-bytes .ensures))
 
 pub round-at-spec : {M : Type 1} → statement M
-round-at-spec =
-    tie.close
-    (tie.spec
-    line-at-requires
-    add-multiplier-at
-    multiplier-at-requires
-    add-rounding-at
-    rounding-at-requires
-    returns
-    returns-2)
+round-at-spec = tie.close (tie.spec line-bytes-requires mul-if1 add-if1 line-at-requires add-multiplier-at multiplier-at-requires add-rounding-at add-rounding-at-2 rounding-at-requires returns returns-2)

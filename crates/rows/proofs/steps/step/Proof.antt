@@ -3,6 +3,7 @@ use borrow.Author.Needs.{needs}
 use native.Mathlib.Omega.{arith}
 use mathlib.Core.Path.{ap}
 use mir.ValLaws.{toZ-ofZ}
+use Rattle.forms.proofs.Editions.{lines-most}
 use Rattle.integers.proofs.Magnitude.{within-fits}
 use Rattle.rows.specs.Entries.{entryOf}
 use Rattle.rows.proofs.Stepping.{step-row, step-claim, step-refused}
@@ -174,7 +175,7 @@ claim-step-requires c κs =
     let s = c .before .before .before .before .before .before .before in
     let a = s .args in
     let e = rw (c .before .before .entry9 .given .1) at (c .before .before .before .before .entry-at .ensures) in
-    ((s .pre .0 .branch .constants, omega (arith, e .ranged .0, e .ranged .1, s .pre .1 .0), s .pre .0 .most, omega (arith, s .pre .0 .branch .room)), s .pre .1 .1)
+    ((s .pre .0 .branch .constants, omega (arith, e .ranged .0, e .ranged .1, s .pre .1 .0), omega (arith, s .pre .0 .most, lines-most (a .tally .edition)), omega (arith, s .pre .0 .branch .room)), s .pre .1 .1)
 
 same-length-7 : tie.Need-same-length-7
 same-length-7 c = search needs

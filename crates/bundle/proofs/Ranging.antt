@@ -1,0 +1,163 @@
+-- Numbers within the range, tested one by one; every number of two bytes is. Assumes nothing.
+use mathlib.Core.Path.{_≡_, refl, sym, ap, _∙_}
+use mathlib.Core.Bool.{Bool, true, false, cond, _&&_}
+use mathlib.Core.List.{List, [], _∷_}
+use Prim.Native.Nat.{ℕ, suc, _+_, _*_, _-_, _^_, _≤_, _<_}
+use native.Mathlib.Omega.{arith}
+use lib.Dec.{T, leb, ltb, le→leb}
+use lib.IntN.{ℤ, pos, negsuc, natAbs}
+use lib.Signed.{mag, ltZ, leZ}
+use lib.ListN.{length, getD, take, drop, length-drop, drop-of-length-le}
+use lib.Seq.{drop-drop, drop-cons, length-take-le}
+use borrow.Author.Tests.{ltb-true, ltb-false, lt-ltb, le-ltb, leb-true, leb-false, le-leb, lt-leb}
+use mir.Syntax.{w32}
+use mir.Val.{SFits}
+use mir.Facts.{and-yes, yes-and}
+use Rattle.forms.specs.Forms.{All, nil, cons, small, every}
+use Rattle.fields.specs.Numbers.{Bytes, signed, signeds, formFrom}
+use Rattle.fields.specs.Ranges.{InWidth}
+use Rattle.fields.proofs.Signed.{all-drop, all-weaken, signeds-in, signeds-take}
+use Rattle.bundle.specs.Bundle.{formSmall}
+use Rattle.bundle.specs.Write.{holdable}
+use Rattle.bundle.specs.Put.{firstBad}
+use Rattle.bundle.proofs.Storing.{flat-signeds}
+
+-- ---- a test of each number
+pub every-of : (p : ℤ → Bool) {zs : List ℤ} → All (λ z. T (p z)) zs → T (every p zs)
+unfolding every
+every-of p nil = tt
+every-of p (cons {x = z} {xs = zs} h hs) = yes-and (p z) (every p zs) h (every-of p hs)
+
+pub of-every : (p : ℤ → Bool) (zs : List ℤ) → T (every p zs) → All (λ z. T (p z)) zs
+unfolding every
+of-every p [] h = nil
+of-every p (z ∷ zs) h = let (a, b) = and-yes (p z) (every p zs) h in cons a (of-every p zs b)
+
+is-true : (b : Bool) → T b → true ≡ b
+is-true true t = refl
+is-true false t = absurd t
+
+and-assoc : (a b c : Bool) → ((a && b) && c) ≡ (a && (b && c))
+and-assoc true b c = refl
+and-assoc false b c = refl
+
+pub and-true : (a : Bool) → (a && true) ≡ a
+and-true true = refl
+and-true false = refl
+
+-- one number more
+module _ (p : ℤ → Bool) (s : List ℕ) (start i n : ℕ) (h : i < n) where
+  every-on : every p (signeds 4 (n - i) (drop (start + i * 4) s)) ≡ (p (signed (take 4 (drop (start + i * 4) s))) && every p (signeds 4 (n - (i + 1)) (drop (start + (i + 1) * 4) s)))
+  unfolding signeds every
+  every-on =
+      let m : n - i ≡ suc (n - (i + 1)) = omega arith in
+      let d : start + (i + 1) * 4 ≡ start + i * 4 + 4 = omega arith in
+      rw (m, d, drop-drop 4 (start + i * 4) s)
+
+  -- what is tested so far, and what is left, give the whole
+  pub every-next : (ok : Bool) {next e : Bool} → (ok && every p (signeds 4 (n - i) (drop (start + i * 4) s))) ≡ e → next ≡ (ok && p (signed (take 4 (drop (start + i * 4) s))))
+      → (next && every p (signeds 4 (n - (i + 1)) (drop (start + (i + 1) * 4) s))) ≡ e
+  every-next ok v q = rw q (and-assoc ok (p (signed (take 4 (drop (start + i * 4) s)))) (every p (signeds 4 (n - (i + 1)) (drop (start + (i + 1) * 4) s))) ∙ (rw every-on at v))
+
+-- the whole list, tested to its end
+module _ (p : ℤ → Bool) (zs : List ℤ) (i : ℕ) (ok : Bool) {e : Bool} (v : (ok && every p (drop i zs)) ≡ e) where
+  pub all-next : {next : Bool} → i < length zs → next ≡ (ok && p (getD zs i (pos 0))) → (next && every p (drop (i + 1) zs)) ≡ e
+  unfolding every
+  all-next h q =
+      let z : i + 1 ≡ suc i = omega arith in
+      rw (q, z) (and-assoc ok (p (getD zs i (pos 0))) (every p (drop (suc i) zs)) ∙ (rw (drop-cons zs i (pos 0) h) at v))
+
+  pub all-done : length zs ≤ i → ok ≡ e
+  unfolding every
+  all-done h = sym (and-true ok) ∙ (rw (drop-of-length-le zs h) at v)
+
+-- where each passes, there is no first that does not
+pub all-good : (p : ℤ → Bool) (i : ℕ) (zs : List ℤ) → every p zs ≡ true → i + length zs ≡ firstBad p i zs
+unfolding every
+all-good p i [] e = omega arith
+all-good p i (z ∷ zs) e = go (p z) e (all-good p (suc i) zs)
+  where
+    go : (b : Bool) → (b && every p zs) ≡ true → (every p zs ≡ true → suc i + length zs ≡ firstBad p (suc i) zs) → i + suc (length zs) ≡ cond b (firstBad p (suc i) zs) i
+    go true e k = omega (arith, k e)
+    go false e k = absurd (let q : _≡_ {A = ℕ} 0 1 = cc in omega arith)
+
+-- ---- two bytes
+pub bytes-of : (s : List ℕ) → ((i : ℕ) → getD s i 0 < 256) → Bytes s
+bytes-of [] h = nil
+bytes-of (x ∷ s) h = cons (h 0) (bytes-of s (λ i. h (suc i)))
+
+short-small : (z : ℤ) → InWidth 2 z → T (small 2_147_483_647 z)
+unfolding small
+short-small (pos n) h = le→leb n 2_147_483_647 (omega (arith, h .high))
+short-small (negsuc n) h = le→leb (suc n) 2_147_483_647 (omega (arith, h .low))
+
+pub shorts-small : (s : List ℕ) (start n : ℕ) → start + n * 2 ≤ length s → Bytes s → true ≡ every (small 2_147_483_647) (signeds 2 n (drop start s))
+shorts-small s start n h b =
+    let l : n * 2 ≤ length (drop start s) = simp length-drop (omega arith) in
+    is-true _ (every-of _ (all-weaken short-small (signeds-in 2 n (drop start s) l (all-drop start b))))
+
+-- ---- the numbers of a field are those of its form
+pub form-small : (w K len start : ℕ) (s : List ℕ) → len ≡ (K + 1) * w → formSmall 2_147_483_647 (formFrom w K (take len (drop start s))) ≡ every (small 2_147_483_647) (signeds w (K + 1) (drop start s))
+unfolding formSmall
+form-small w K len start s e =
+    let z : K + 1 ≡ suc K = omega arith in
+    let l : suc K * w ≤ len = rw (← z, e) (omega arith) in
+    rw z (ap (every (small 2_147_483_647)) (flat-signeds w K (take len (drop start s)) ∙ signeds-take w (suc K) len (drop start s) l))
+
+pub contents-size : (start len : ℕ) (s : List ℕ) → start + len ≤ length s → length (take len (drop start s)) ≡ len
+contents-size start len s h = length-take-le len (drop start s) (simp length-drop (omega arith))
+
+-- ---- what a width holds
+mag-abs : (z : ℤ) → mag z ≤ natAbs z
+mag-abs (pos n) = omega arith
+mag-abs (negsuc n) = omega arith
+
+abs-mag : (z : ℤ) → natAbs z ≤ suc (mag z)
+abs-mag (pos n) = omega arith
+abs-mag (negsuc n) = omega arith
+
+-- a number of two bytes is within the range
+pub two-held : (z : ℤ) → holdable 2 z ≡ ltb (mag z + mag z) (256 ^ 2)
+unfolding holdable small
+two-held z = go (ltb (mag z + mag z) (256 ^ 2)) refl
+  where
+    go : (b : Bool) → ltb (mag z + mag z) (256 ^ 2) ≡ b → (b && leb (natAbs z) 2_147_483_647) ≡ b
+    go true e = le-leb (natAbs z) 2_147_483_647 (omega (arith, abs-mag z, ltb-true (mag z + mag z) (256 ^ 2) e))
+    go false e = refl
+
+-- a number within the range has four bytes
+four-held : (z : ℤ) → holdable 4 z ≡ leb (natAbs z) 2_147_483_647
+unfolding holdable small
+four-held z = go (leb (natAbs z) 2_147_483_647) refl (ltb (mag z + mag z) (256 ^ 4)) refl
+  where
+    go : (b : Bool) → leb (natAbs z) 2_147_483_647 ≡ b → (c : Bool) → ltb (mag z + mag z) (256 ^ 4) ≡ c → (c && b) ≡ b
+    go true e true f = refl
+    go true e false f = absurd (omega (arith, mag-abs z, leb-true (natAbs z) 2_147_483_647 e, ltb-false (mag z + mag z) (256 ^ 4) f))
+    go false e true f = refl
+    go false e false f = refl
+
+-- of the numbers of 32 bits all but one
+pub lowest-held : (z : ℤ) → SFits w32 z → ltZ (negsuc 2_147_483_647) z ≡ holdable 4 z
+lowest-held (pos n) f = sym (four-held (pos n) ∙ le-leb n 2_147_483_647 (omega (arith, f .sfits)))
+lowest-held (negsuc n) f = go (ltb n 2_147_483_647) refl ∙ sym (four-held (negsuc n))
+  where
+    go : (b : Bool) → ltb n 2_147_483_647 ≡ b → b ≡ leb (suc n) 2_147_483_647
+    go true e = sym (le-leb (suc n) 2_147_483_647 (ltb-true n 2_147_483_647 e))
+    go false e = sym (lt-leb (suc n) 2_147_483_647 (omega (arith, ltb-false n 2_147_483_647 e)))
+
+pub lowest-small : (z : ℤ) → SFits w32 z → ltZ (negsuc 2_147_483_647) z ≡ small 2_147_483_647 z
+unfolding small
+lowest-small z f = lowest-held z f ∙ four-held z
+
+-- the two tests of two bytes
+pub below-short : (z : ℤ) → ltZ z (negsuc 32767) ≡ true → ltb (mag z + mag z) (256 ^ 2) ≡ false
+below-short (pos n) e = absurd (let q : _≡_ {A = ℕ} 0 1 = cc in omega arith)
+below-short (negsuc n) e = le-ltb (n + n) (256 ^ 2) (omega (arith, ltb-true 32767 n e))
+
+pub upto-short : (z : ℤ) → ltZ z (negsuc 32767) ≡ false → leZ z (pos 32767) ≡ ltb (mag z + mag z) (256 ^ 2)
+upto-short (pos n) e = go (leb n 32767) refl
+  where
+    go : (b : Bool) → leb n 32767 ≡ b → b ≡ ltb (n + n) (256 ^ 2)
+    go true f = sym (lt-ltb (n + n) (256 ^ 2) (omega (arith, leb-true n 32767 f)))
+    go false f = sym (le-ltb (n + n) (256 ^ 2) (omega (arith, leb-false n 32767 f)))
+upto-short (negsuc n) e = sym (lt-ltb (n + n) (256 ^ 2) (omega (arith, ltb-false 32767 n e)))

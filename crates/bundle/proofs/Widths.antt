@@ -1,0 +1,37 @@
+-- A width of 2 or 4, and products with it. Assumes nothing.
+use mathlib.Core.Path.{_≡_, ap}
+use mathlib.Core.Logic.{_⊎_, inl, inr}
+use Prim.Native.Nat.{ℕ, suc, _+_, _*_, _≤_, _<_}
+use native.Mathlib.Nat.{suc-mul, mul-le-mul-right}
+use native.Mathlib.Omega.{arith}
+use lib.IntN.{ℤ}
+use mir.Syntax.{w32}
+use mir.Val.{SFits}
+use Rattle.fields.specs.Ranges.{Held}
+
+pub width-most : {w : ℕ} → (w ≡ 2) ⊎ (w ≡ 4) → w ≤ 4
+width-most (inl e) = omega arith
+width-most (inr e) = omega arith
+
+pub one-more : (k w : ℕ) → (k + 1) * w ≡ suc k * w
+one-more k w = let e : k + 1 ≡ suc k = omega arith in ap (λ (x : ℕ). x * w) e
+
+-- the i-th of n parts of w each lies before their end
+pub part-before : (i n w : ℕ) → i < n → i * w + w ≤ n * w
+part-before i n w h = omega (arith, mul-le-mul-right {m = suc i} {n = n} w h, suc-mul i w)
+
+-- one, two and three parts of w are no more than n of them
+module _ (n w : ℕ) where
+  pub once : 1 ≤ n → w ≤ n * w
+  once h = omega (arith, mul-le-mul-right {m = 1} {n = n} w h)
+
+  pub twice : 2 ≤ n → w + w ≤ n * w
+  twice h = omega (arith, mul-le-mul-right {m = 2} {n = n} w h)
+
+  pub thrice : 3 ≤ n → w + w + w ≤ n * w
+  thrice h = omega (arith, mul-le-mul-right {m = 3} {n = n} w h)
+
+-- a number that such a width holds fits 32 bits
+pub held-fits : {w : ℕ} {z : ℤ} → (w ≡ 2) ⊎ (w ≡ 4) → Held w z → SFits w32 z
+held-fits (inl e) h = let k = rw e at h in record { sfits = omega (arith, k .held .half) }
+held-fits (inr e) h = let k = rw e at h in record { sfits = omega (arith, k .held .half) }
