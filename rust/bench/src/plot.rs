@@ -5,9 +5,9 @@ use crate::report::duration;
 use crate::work::Work;
 use std::fmt::Write;
 
-const WIDTH: f64 = 860.0;
+const WIDTH: f64 = 930.0;
 /// Where the names end and the bars start.
-const LEFT: f64 = 430.0;
+const LEFT: f64 = 500.0;
 const BAR: f64 = 18.0;
 const PANEL: f64 = 260.0;
 const RATTLE: &str = "#2166ac";
