@@ -8,6 +8,7 @@ pub mod Scanning
 pub mod Bodies
 pub mod Storing
 pub mod Ranging
+pub mod Merging
 pub mod Widths
 pub mod Reading
 pub mod Pairs

@@ -3,12 +3,12 @@ use mathlib.Core.Path.{_≡_, refl, sym, ap, _∙_}
 use mathlib.Core.Bool.{Bool, true, false}
 use mathlib.Core.List.{List, [], _∷_, _++_}
 use Prim.Native.Nat.{ℕ, suc, _+_, _*_, _-_, _≤_, _<_}
-use native.Mathlib.Nat.{suc-mul, zero-mul, mul-le-mul-right}
+use native.Mathlib.Nat.{add-mul, suc-mul, zero-mul, mul-le-mul-right}
 use native.Mathlib.Numerals.{add-one}
 use native.Mathlib.Omega.{arith}
 use lib.IntN.{ℤ, pos}
-use lib.ListN.{length, getD, take, drop, length-append, length-drop, drop-of-length-le}
-use lib.Seq.{sets, length-sets, take-add, drop-cons, drop-drop, length-take-le}
+use lib.ListN.{length, getD, take, drop, set, length-append, length-drop, drop-of-length-le}
+use lib.Seq.{sets, length-sets, take-add, take-suc, take-suc-set, getD-drop, drop-cons, drop-drop, length-take-le}
 use lib.Dec.{T, leb}
 use Rattle.forms.specs.Edition.{Edition, edition}
 use Rattle.forms.specs.Forms.{All}
@@ -32,6 +32,15 @@ module _ {X : Type 0} (p : X → Bool) (d : X) (xs : List X) (i : ℕ) where
   pub bad-none : length xs ≤ i → firstBad p i (drop i xs) ≡ i
   bad-none h = rw (drop-of-length-le xs h)
 
+-- ---- numbers taken over into x
+-- one number more
+pub taken-next : (x numbers : List ℤ) (from i : ℕ) → i < length x → from + i < length numbers → take i x ≡ take i (drop from numbers)
+    → take (i + 1) (set x i (getD numbers (from + i) (pos 0))) ≡ take (i + 1) (drop from numbers)
+taken-next x numbers from i h l e =
+    let z : i + 1 ≡ suc i = omega arith in
+    let d : i < length (drop from numbers) = simp length-drop (omega arith) in
+    rw (z, take-suc-set x i (getD numbers (from + i) (pos 0)) h, e, take-suc (drop from numbers) i (pos 0) d, getD-drop from numbers i (pos 0))
+
 -- ---- numbers of w bytes each
 module _ (w : ℕ) where
   put-first : (out : List ℕ) (at : ℕ) (numbers : List ℤ) (from n : ℕ) → from < length numbers
@@ -53,29 +62,6 @@ module _ (w : ℕ) where
       let a : at + (i + 1) * w ≡ at + i * w + w = rw e (omega (arith, suc-mul i w)) in
       rw (m, f, a) (put-first out (at + i * w) numbers (from + i) (n - (i + 1)) (omega arith))
 
-  -- one, two and three numbers
-  module _ (out : List ℕ) {o₁ : List ℕ} (at : ℕ) (numbers : List ℤ) (from : ℕ) (e₁ : o₁ ≡ sets out at (signedBytes w (getD numbers from (pos 0)))) where
-    pub rest-one : from + 1 ≤ length numbers → o₁ ≡ sets out at (signedsBytes w (take 1 (drop from numbers)))
-    unfolding signedsBytes
-    rest-one h = e₁ ∙ put-first out at numbers from 0 (omega arith)
-
-    more-behind : {o : List ℕ} (n : ℕ) → from + 1 ≤ length numbers → o ≡ sets o₁ (at + w) (signedsBytes w (take n (drop (from + 1) numbers)))
-        → o ≡ sets out at (signedsBytes w (take (suc n) (drop from numbers)))
-    more-behind n h e = e ∙ rw e₁ (put-first out at numbers from n (omega arith))
-
-  pub rest-two : (out : List ℕ) {o₁ o₂ : List ℕ} (at : ℕ) (numbers : List ℤ) (from : ℕ) → o₁ ≡ sets out at (signedBytes w (getD numbers from (pos 0)))
-      → o₂ ≡ sets o₁ (at + w) (signedBytes w (getD numbers (from + 1) (pos 0))) → from + 2 ≤ length numbers
-      → o₂ ≡ sets out at (signedsBytes w (take 2 (drop from numbers)))
-  rest-two out {o₁} at numbers from e₁ e₂ h =
-      more-behind out at numbers from e₁ 1 (omega arith) (rest-one o₁ (at + w) numbers (from + 1) e₂ (omega arith))
-
-  pub rest-three : (out : List ℕ) {o₁ o₂ o₃ : List ℕ} (at : ℕ) (numbers : List ℤ) (from : ℕ) → o₁ ≡ sets out at (signedBytes w (getD numbers from (pos 0)))
-      → o₂ ≡ sets o₁ (at + w) (signedBytes w (getD numbers (from + 1) (pos 0))) → o₃ ≡ sets o₂ (at + w + w) (signedBytes w (getD numbers (from + 2) (pos 0)))
-      → from + 3 ≤ length numbers → o₃ ≡ sets out at (signedsBytes w (take 3 (drop from numbers)))
-  rest-three out {o₁} at numbers from e₁ e₂ e₃ h =
-      let f : from + 2 ≡ from + 1 + 1 = omega arith in
-      more-behind out at numbers from e₁ 2 (omega arith) (rest-two o₁ (at + w) numbers (from + 1) e₂ (rw f at e₃) (omega arith))
-
   pub numbers-bytes : (numbers : List ℤ) (from n : ℕ) → from + n ≤ length numbers → length (signedsBytes w (take n (drop from numbers))) ≡ n * w
   numbers-bytes numbers from n h =
       let l : length (take n (drop from numbers)) ≡ n = length-take-le n (drop from numbers) (simp length-drop (omega arith)) in
@@ -90,6 +76,15 @@ module _ (w : ℕ) where
       e₂
       ∙ rw (e₁, ← e, take-add m r (drop from numbers), drop-drop m from numbers, signedsBytes-append w (take m (drop from numbers)) (take r (drop (from + m) numbers)))
       (sym (sets-append (signedsBytes w (take m (drop from numbers))) (signedsBytes w (take r (drop (from + m) numbers))) out at ∙ rw (numbers-bytes numbers from m (omega arith))))
+
+  -- s numbers more behind i of m
+  pub put-more : (out : List ℕ) {o : List ℕ} (at i s m : ℕ) (numbers : List ℤ) (from : ℕ) → i + s ≤ m → from + m ≤ length numbers
+      → o ≡ sets out (at + i * w) (signedsBytes w (take s (drop (from + i) numbers)))
+      → sets o (at + (i + s) * w) (signedsBytes w (take (m - (i + s)) (drop (from + (i + s)) numbers))) ≡ sets out (at + i * w) (signedsBytes w (take (m - i) (drop (from + i) numbers)))
+  put-more out at i s m numbers from h l e =
+      let a : at + (i + s) * w ≡ at + i * w + s * w = omega (arith, add-mul i s w) in
+      let f : from + (i + s) ≡ from + i + s = omega arith in
+      rw (a, f) (put-runs out (at + i * w) numbers (from + i) s (m - (i + s)) (m - i) (omega arith) (omega arith) e refl)
 
 -- ---- all constraints
 -- the invariant: what is left to write gives what the whole gives

@@ -6,16 +6,16 @@ use Prim.Native.Nat.{ℕ, suc, _+_, _*_, _-_, _^_, _≤_, _<_}
 use native.Mathlib.Omega.{arith}
 use lib.Dec.{T, leb, ltb, le→leb}
 use lib.IntN.{ℤ, pos, negsuc, natAbs}
-use lib.Signed.{mag, ltZ, leZ}
+use lib.Signed.{mag, ltZ}
 use lib.ListN.{length, getD, take, drop, length-drop, drop-of-length-le}
 use lib.Seq.{drop-drop, drop-cons, length-take-le}
-use borrow.Author.Tests.{ltb-true, ltb-false, lt-ltb, le-ltb, leb-true, leb-false, le-leb, lt-leb}
+use borrow.Author.Tests.{ltb-true, ltb-false, leb-true, le-leb, lt-leb}
 use mir.Syntax.{w32}
 use mir.Val.{SFits}
 use mir.Facts.{and-yes, yes-and}
 use Rattle.forms.specs.Forms.{All, nil, cons, small, every}
 use Rattle.fields.specs.Numbers.{Bytes, signed, signeds, formFrom}
-use Rattle.fields.specs.Ranges.{InWidth}
+use Rattle.fields.specs.Ranges.{Held, InWidth}
 use Rattle.fields.proofs.Signed.{all-drop, all-weaken, signeds-in, signeds-take}
 use Rattle.bundle.specs.Bundle.{formSmall}
 use Rattle.bundle.specs.Write.{holdable}
@@ -60,24 +60,24 @@ module _ (p : ℤ → Bool) (s : List ℕ) (start i n : ℕ) (h : i < n) where
   every-next ok v q = rw q (and-assoc ok (p (signed (take 4 (drop (start + i * 4) s)))) (every p (signeds 4 (n - (i + 1)) (drop (start + (i + 1) * 4) s))) ∙ (rw every-on at v))
 
 -- the whole list, tested to its end
-module _ (p : ℤ → Bool) (zs : List ℤ) (i : ℕ) (ok : Bool) {e : Bool} (v : (ok && every p (drop i zs)) ≡ e) where
-  pub all-next : {next : Bool} → i < length zs → next ≡ (ok && p (getD zs i (pos 0))) → (next && every p (drop (i + 1) zs)) ≡ e
+module _ {X : Type 0} (p : X → Bool) (xs : List X) (i : ℕ) (ok : Bool) {e : Bool} (v : (ok && every p (drop i xs)) ≡ e) where
+  pub all-next : (d : X) {next : Bool} → i < length xs → next ≡ (ok && p (getD xs i d)) → (next && every p (drop (i + 1) xs)) ≡ e
   unfolding every
-  all-next h q =
+  all-next d h q =
       let z : i + 1 ≡ suc i = omega arith in
-      rw (q, z) (and-assoc ok (p (getD zs i (pos 0))) (every p (drop (suc i) zs)) ∙ (rw (drop-cons zs i (pos 0) h) at v))
+      rw (q, z) (and-assoc ok (p (getD xs i d)) (every p (drop (suc i) xs)) ∙ (rw (drop-cons xs i d h) at v))
 
-  pub all-done : length zs ≤ i → ok ≡ e
+  pub all-done : length xs ≤ i → ok ≡ e
   unfolding every
-  all-done h = sym (and-true ok) ∙ (rw (drop-of-length-le zs h) at v)
+  all-done h = sym (and-true ok) ∙ (rw (drop-of-length-le xs h) at v)
 
 -- where each passes, there is no first that does not
-pub all-good : (p : ℤ → Bool) (i : ℕ) (zs : List ℤ) → every p zs ≡ true → i + length zs ≡ firstBad p i zs
+pub all-good : {X : Type 0} (p : X → Bool) (i : ℕ) (xs : List X) → every p xs ≡ true → i + length xs ≡ firstBad p i xs
 unfolding every
 all-good p i [] e = omega arith
-all-good p i (z ∷ zs) e = go (p z) e (all-good p (suc i) zs)
+all-good p i (x ∷ xs) e = go (p x) e (all-good p (suc i) xs)
   where
-    go : (b : Bool) → (b && every p zs) ≡ true → (every p zs ≡ true → suc i + length zs ≡ firstBad p (suc i) zs) → i + suc (length zs) ≡ cond b (firstBad p (suc i) zs) i
+    go : (b : Bool) → (b && every p xs) ≡ true → (every p xs ≡ true → suc i + length xs ≡ firstBad p (suc i) xs) → i + suc (length xs) ≡ cond b (firstBad p (suc i) xs) i
     go true e k = omega (arith, k e)
     go false e k = absurd (let q : _≡_ {A = ℕ} 0 1 = cc in omega arith)
 
@@ -149,15 +149,11 @@ pub lowest-small : (z : ℤ) → SFits w32 z → ltZ (negsuc 2_147_483_647) z �
 unfolding small
 lowest-small z f = lowest-held z f ∙ four-held z
 
--- the two tests of two bytes
-pub below-short : (z : ℤ) → ltZ z (negsuc 32767) ≡ true → ltb (mag z + mag z) (256 ^ 2) ≡ false
-below-short (pos n) e = absurd (let q : _≡_ {A = ℕ} 0 1 = cc in omega arith)
-below-short (negsuc n) e = le-ltb (n + n) (256 ^ 2) (omega (arith, ltb-true 32767 n e))
+-- a number of two bytes is neither below -32768 nor above 32767
+pub not-below-short : (z : ℤ) → Held 2 z → ltZ z (negsuc 32767) ≡ true → ⊥
+not-below-short (pos n) h e = let q : _≡_ {A = ℕ} 0 1 = cc in omega arith
+not-below-short (negsuc n) h e = omega (arith, h .held .half, ltb-true 32767 n e)
 
-pub upto-short : (z : ℤ) → ltZ z (negsuc 32767) ≡ false → leZ z (pos 32767) ≡ ltb (mag z + mag z) (256 ^ 2)
-upto-short (pos n) e = go (leb n 32767) refl
-  where
-    go : (b : Bool) → leb n 32767 ≡ b → b ≡ ltb (n + n) (256 ^ 2)
-    go true f = sym (lt-ltb (n + n) (256 ^ 2) (omega (arith, leb-true n 32767 f)))
-    go false f = sym (le-ltb (n + n) (256 ^ 2) (omega (arith, leb-false n 32767 f)))
-upto-short (negsuc n) e = sym (lt-ltb (n + n) (256 ^ 2) (omega (arith, ltb-false 32767 n e)))
+pub not-above-short : (z : ℤ) → Held 2 z → ltZ (pos 32767) z ≡ true → ⊥
+not-above-short (pos n) h e = omega (arith, h .held .half, ltb-true 32767 n e)
+not-above-short (negsuc n) h e = let q : _≡_ {A = ℕ} 0 1 = cc in omega arith

@@ -1,13 +1,13 @@
 -- Going over a bundle: the code's count and faults are those of the definitions. Assumes nothing.
 use mathlib.Core.Path.{_≡_, refl, sym, ap, _∙_}
 use mathlib.Core.Option.{Option, none, some}
-use mathlib.Core.Bool.{Bool, true, false, cond}
+use mathlib.Core.Bool.{Bool, true, false, cond, _||_, _&&_}
 use mathlib.Core.List.{List, _∷_}
 use Prim.Native.Nat.{ℕ, zero, suc, _+_, _-_, _*_, _<_, _≤_}
 use native.Mathlib.Omega.{arith}
 use lib.Dec.{leb, ltb, eqb}
 use lib.ListN.{length, take, drop}
-use borrow.Author.Tests.{ltb-true, ltb-false, eqb-true, eqb-false, leb-true, leb-false, ne-eqb, le-leb, lt-leb}
+use borrow.Author.Tests.{ltb-true, ltb-false, eqb-true, eqb-false, leb-true, leb-false, ne-eqb, le-leb, lt-leb, le-ltb}
 use Rattle.forms.specs.Edition.{edition, newestEdition}
 use Rattle.forms.specs.Forms.{≤0, =0, ConstraintKind, says, ≠0, Form, Constraint}
 use Rattle.forms.specs.Flat.{kindOf, constraintKindOf}
@@ -160,6 +160,32 @@ tag-most tag h l = go (leb tag 5) refl
         let two : eqb tag 2 ≡ false = ne-eqb tag 2 (λ q. omega arith) in
         let three : leb 3 tag ≡ true = le-leb 3 tag (omega arith) in
         absurd (let z : _≡_ {A = Bool} true false = sym h ∙ rw (one, two, three, e) in let w : _≡_ {A = ℕ} 0 1 = cc in omega arith)
+
+-- what the one test of a constraint's tag says of the two of the definition
+module _ (tag : ℕ) where
+  pub constraint-known : (leb 0x03 tag && leb tag 0x05) ≡ true → known FileKind.Bundle tag ≡ true
+  unfolding known
+  constraint-known h = rw h (go (headerTag tag))
+    where
+      go : (b : Bool) → (b || true) ≡ true
+      go true = refl
+      go false = refl
+
+  pub constraint-from : (leb 0x03 tag && leb tag 0x05) ≡ true → ltb tag 0x03 ≡ false
+  constraint-from h = go (leb 3 tag) refl h
+    where
+      go : (b : Bool) → leb 3 tag ≡ b → (b && leb tag 5) ≡ true → ltb tag 3 ≡ false
+      go true e q = le-ltb tag 3 (leb-true 3 tag e)
+      go false e q = absurd (let z : _≡_ {A = ℕ} 0 1 = cc in omega arith)
+
+  pub header-below : (leb 0x03 tag && leb tag 0x05) ≡ false → known FileKind.Bundle tag ≡ true → ltb tag 0x03 ≡ true
+  header-below h k = go (ltb tag 3) refl
+    where
+      go : (b : Bool) → ltb tag 3 ≡ b → b ≡ true
+      go true e = refl
+      go false e =
+          let q : (leb 3 tag && leb tag 5) ≡ true = rw (le-leb 3 tag (ltb-false tag 3 e), le-leb tag 5 (tag-most tag k e)) in
+          absurd (let z : _≡_ {A = Bool} true false = sym q ∙ h in let w : _≡_ {A = ℕ} 0 1 = cc in omega arith)
 
 -- the kind that a tag names, by its number
 kind-of : (tag : ℕ) → known FileKind.Bundle tag ≡ true → ltb tag 0x03 ≡ false → kindTagged tag ≡ some (constraintKindOf (tag - 3))

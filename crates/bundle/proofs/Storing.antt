@@ -1,14 +1,14 @@
 -- Storing constraints: one turn of each loop, as laws over plain values. Assumes nothing.
 use mathlib.Core.Path.{_≡_, refl, sym, ap, _∙_}
 use mathlib.Core.Bool.{true, false}
-use mathlib.Core.List.{List, [], _∷_, _++_}
+use mathlib.Core.List.{List, [], _∷_, _++_, append-nil}
 use Prim.Native.Nat.{ℕ, zero, suc, _+_, _*_, _-_, _≤_, _<_}
-use native.Mathlib.Nat.{suc-mul, zero-mul, mul-le-mul-right}
+use native.Mathlib.Nat.{zero-add, add-mul, suc-mul, zero-mul, mul-le-mul-right}
 use native.Mathlib.Omega.{arith}
 use lib.Dec.{ltb}
-use lib.IntN.{ℤ}
-use lib.ListN.{length, take, drop, set, length-set}
-use lib.Seq.{sets, length-sets, drop-drop}
+use lib.IntN.{ℤ, pos}
+use lib.ListN.{length, getD, take, drop, set, length-set, drop-of-length-le}
+use lib.Seq.{sets, length-sets, sets-eq, drop-cons, drop-drop}
 use borrow.Author.Tests.{ltb-true, ltb-false, eqb-true}
 use Rattle.forms.specs.Forms.{Constraint}
 use Rattle.forms.specs.Flat.{kindOf, constraintKindOf}
@@ -17,7 +17,7 @@ use Rattle.fields.specs.Fields.{Fields, ends, cut}
 use Rattle.fields.specs.Header.{known}
 use Rattle.fields.specs.Numbers.{signed, signeds, flat, formFrom}
 use Rattle.fields.specs.Places.{fieldsAt}
-use Rattle.fields.proofs.Places.{Starts, starts-size}
+use Rattle.fields.proofs.Places.{lenAt, Took, took-here, Starts, starts-size}
 use Rattle.fields.proofs.Signed.{length-signeds, signeds-take, signeds-last}
 use Rattle.fields.proofs.Stores.{sets-append}
 use Rattle.bundle.specs.Scan.{faultOf, Counted, counted, stated}
@@ -42,6 +42,48 @@ stored-next w l at i n s start h =
     let e : i + 1 ≡ suc i = omega arith in
     let d : start + (i + 1) * w ≡ start + i * w + w = rw e (omega (arith, suc-mul i w)) in
     rw (m, a, d, drop-drop w (start + i * w) s)
+
+signeds-add : (w m r : ℕ) (bs : List ℕ) → signeds w (m + r) bs ≡ signeds w m bs ++ signeds w r (drop (m * w) bs)
+unfolding signeds
+signeds-add w zero r bs = rw (zero-add r, zero-mul w)
+signeds-add w (suc m) r bs =
+    let e : suc m + r ≡ suc (m + r) = omega arith in
+    let f : w + m * w ≡ suc m * w = omega (arith, suc-mul m w) in
+    rw (e, signeds-add w m r (drop w bs), drop-drop (m * w) w bs, f)
+
+module _ (w : ℕ) where
+  -- m numbers, and r more behind them
+  pub store-runs : (l : List ℤ) {l₁ l₂ : List ℤ} (at : ℕ) (s : List ℕ) (start m r n : ℕ) → m + r ≡ n
+      → l₁ ≡ sets l at (signeds w m (drop start s)) → l₂ ≡ sets l₁ (at + m) (signeds w r (drop (start + m * w) s))
+      → l₂ ≡ sets l at (signeds w n (drop start s))
+  store-runs l at s start m r n e e₁ e₂ =
+      e₂
+      ∙ rw (e₁, ← e, signeds-add w m r (drop start s), drop-drop (m * w) start s)
+      (sym (sets-append (signeds w m (drop start s)) (signeds w r (drop (start + m * w) s)) l at ∙ rw (length-signeds w m (drop start s))))
+
+  -- t numbers more behind i of m
+  pub store-more : (l : List ℤ) {o : List ℤ} (at i t m : ℕ) (s : List ℕ) (start : ℕ) → i + t ≤ m
+      → o ≡ sets l (at + i) (signeds w t (drop (start + i * w) s))
+      → sets o (at + (i + t)) (signeds w (m - (i + t)) (drop (start + (i + t) * w) s)) ≡ sets l (at + i) (signeds w (m - i) (drop (start + i * w) s))
+  store-more l at i t m s start h e =
+      let a : at + (i + t) ≡ at + i + t = omega arith in
+      let f : start + (i + t) * w ≡ start + i * w + t * w = omega (arith, add-mul i t w) in
+      rw (a, f) (store-runs l (at + i) s (start + i * w) t (m - (i + t)) (m - i) (omega arith) e refl)
+
+-- ---- numbers by way of others
+-- one number more copied
+pub copied-next : (l xs : List ℤ) (at i : ℕ) → i < length xs
+    → sets (set l (at + i) (getD xs i (pos 0))) (at + (i + 1)) (drop (i + 1) xs) ≡ sets l (at + i) (drop i xs)
+copied-next l xs at i h =
+    let a : at + (i + 1) ≡ suc (at + i) = omega arith in
+    let e : i + 1 ≡ suc i = omega arith in
+    rw (a, e, drop-cons xs i (pos 0) h)
+
+-- what is stored over the whole of a list is all of it
+pub stored-whole : (l zs : List ℤ) → length zs ≡ length l → sets l 0 zs ≡ zs
+stored-whole l zs e =
+    let d : drop (0 + length zs) l ≡ [] = drop-of-length-le l {i = 0 + length zs} (omega arith) in
+    sets-eq zs l 0 (omega arith) ∙ rw (d, append-nil zs)
 
 -- ---- constraints
 -- the kind's number, as the code computes it
@@ -146,6 +188,13 @@ module _ {s : List ℕ} {at w K count : ℕ} {kinds₀ : List ℕ} {numbers₀ :
   no-end h {a} e =
       let q : Counted.count n ≡ Counted.count count = sym (rw e) ∙ v .able .is in
       let z : n ≡ count = cc in omega arith
+
+  pub here-took : n < count → Took s here (getD s here 0) (here + 3) (lenAt s here) (here + 3 + lenAt s here)
+  here-took h = took-here s here no-cut (no-end h)
+
+  -- past a note the same is left
+  pub storing-note : {next : ℕ} → fieldsAt s here ≡ fieldsAt s next → Storing s at w K count kinds₀ numbers₀ kinds numbers next n
+  storing-note e = record { able = rw e at (v .able); kinds-is = rw e at (v .kinds-is); numbers-is = rw e at (v .numbers-is); kinds-long = v .kinds-long; numbers-long = v .numbers-long }
 
   pub storing-done : count ≤ n
       → (kinds ≡ sets kinds₀ 0 (kindsOf (stated w K (fieldsAt s at)))) × (numbers ≡ sets numbers₀ 0 (numbersOf (stated w K (fieldsAt s at))))

@@ -13,23 +13,16 @@ pub width-most : {w : ℕ} → (w ≡ 2) ⊎ (w ≡ 4) → w ≤ 4
 width-most (inl e) = omega arith
 width-most (inr e) = omega arith
 
+pub width-four : {w : ℕ} → (w ≡ 2) ⊎ (w ≡ 4) → (w ≡ 2 → ⊥) → w ≡ 4
+width-four (inl e) h = absurd (h e)
+width-four (inr e) h = e
+
 pub one-more : (k w : ℕ) → (k + 1) * w ≡ suc k * w
 one-more k w = let e : k + 1 ≡ suc k = omega arith in ap (λ (x : ℕ). x * w) e
 
 -- the i-th of n parts of w each lies before their end
 pub part-before : (i n w : ℕ) → i < n → i * w + w ≤ n * w
 part-before i n w h = omega (arith, mul-le-mul-right {m = suc i} {n = n} w h, suc-mul i w)
-
--- one, two and three parts of w are no more than n of them
-module _ (n w : ℕ) where
-  pub once : 1 ≤ n → w ≤ n * w
-  once h = omega (arith, mul-le-mul-right {m = 1} {n = n} w h)
-
-  pub twice : 2 ≤ n → w + w ≤ n * w
-  twice h = omega (arith, mul-le-mul-right {m = 2} {n = n} w h)
-
-  pub thrice : 3 ≤ n → w + w + w ≤ n * w
-  thrice h = omega (arith, mul-le-mul-right {m = 3} {n = n} w h)
 
 -- a number that such a width holds fits 32 bits
 pub held-fits : {w : ℕ} {z : ℤ} → (w ≡ 2) ⊎ (w ≡ 4) → Held w z → SFits w32 z

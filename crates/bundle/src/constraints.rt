@@ -1,6 +1,7 @@
 // The constraints after a bundle's header, gone over one by one.
 use fields::FileKind;
 use fields::Next;
+use fields::header::between;
 use fields::header::known;
 use fields::next_field;
 use fields::words::signed_at;
@@ -76,10 +77,7 @@ fn constraint_fault(
     requires { ⌜ start + len ≤ length (now s) ⌝ }
     ensures { λ r. ⌜ r ≡ faultOf width k n tag (take len (drop start (now (s .entry)))) ⌝ }
 {
-    if known(FileKind::Bundle, tag) {
-        if tag < 0x03 {
-            return 4;
-        }
+    if between(tag, 0x03, 0x05) {
         let many = k as usize + 1;
         if len != many * width {
             return 6;
@@ -91,6 +89,9 @@ fn constraint_fault(
             return 13;
         }
         return 8;
+    }
+    if known(FileKind::Bundle, tag) {
+        return 4;
     }
     3
 }

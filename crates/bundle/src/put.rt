@@ -1,92 +1,134 @@
 // The constraints of a bundle, written as fields.
 use fields::numbers::put_head;
 use fields::words::put_signed;
+use forms::coefficient_bytes;
 use integers::number;
 ghost use mathlib.Core.Path.{_≡_};
 ghost use mathlib.Core.Logic.{_⊎_};
 ghost use mathlib.Core.Bool.{_&&_};
-ghost use Prim.Native.Nat.{_+_, _*_, _^_, _≤_};
+ghost use Prim.Native.Nat.{_+_, _*_, _/_, _≤_};
 ghost use lib.Dec.{leb, ltb};
 ghost use lib.ListN.{length, take, drop};
 ghost use lib.Seq.{sets};
-ghost use lib.Signed.{mag};
 ghost use Rattle.forms.specs.Edition.{edition, newestEdition};
 ghost use Rattle.forms.specs.Forms.{every};
 ghost use Rattle.fields.specs.Fields.{fieldBytes};
 ghost use Rattle.fields.specs.Numbers.{signedsBytes};
+ghost use Rattle.fields.specs.Ranges.{Held};
 ghost use Rattle.bundle.specs.Write.{constraintsBytes, holdable};
 ghost use Rattle.bundle.specs.Put.{firstBad, fieldSize, HeldAll, InOrder};
 
-// The index of the first kind that is not 0, 1 or 2, or how many there are.
-pub fn first_bad(kinds: &[u8]) -> usize
-    ensures { λ r. ⌜ r ≡ firstBad (λ kind. leb kind 2) 0 (now (kinds .entry)) ⌝ }
+// Whether it is a kind: 0, 1 or 2.
+fn is_kind(kind: u8) -> bool
+    ensures { λ r. ⌜ r ≡ leb kind 2 ⌝ }
 {
-    let mut i = 0;
-    while i < kinds.len() {
-        if kinds[i] > 2 {
-            return i;
-        }
-        i += 1;
-    }
-    i
+    kind <= 2
 }
 
-// Whether two bytes hold x.
-fn in_short(x: i32) -> bool
-    ensures { λ r. ⌜ r ≡ ltb (mag x + mag x) (256 ^ 2) ⌝ }
-{
-    if x < -32768 {
-        return false;
-    }
-    x <= 32767
-}
-
-// Four bytes hold every number, but for this one.
-const LOWEST: i32 = -2147483648;
-
-// Whether `width` bytes hold x, and it is not -2,147,483,648. In 32 bits, so that the compiler tests four numbers at once.
-fn held(width: usize, x: i32) -> bool
-    requires { ⌜ (width ≡ 2) ⊎ (width ≡ 4) ⌝ }
-    ensures { λ r. ⌜ r ≡ holdable width x ⌝ }
-{
-    if width == 2 {
-        return in_short(x);
-    }
-    x > LOWEST
-}
-
-fn both(a: bool, b: bool) -> bool
-    ensures { λ r. ⌜ r ≡ (a && b) ⌝ }
-{
-    if a {
-        return b;
-    }
-    false
-}
-
-// Whether each number is held. It goes on to the end, so that the compiler tests several at once.
-fn held_run(width: usize, numbers: &[i32]) -> bool
-    requires { ⌜ (width ≡ 2) ⊎ (width ≡ 4) ⌝ }
-    ensures { λ r. ⌜ r ≡ every (holdable width) (now (numbers .entry)) ⌝ }
+// Whether each is a kind. It goes on to the end, so that the compiler tests several at once.
+fn all_kinds(kinds: &[u8]) -> bool
+    ensures { λ r. ⌜ r ≡ every (λ kind. leb kind 2) (now (kinds .entry)) ⌝ }
 {
     let mut ok = true;
     let mut i = 0;
-    while i < numbers.len() {
-        ok = both(ok, held(width, numbers[i]));
+    while i < kinds.len() {
+        ok = ok & is_kind(kinds[i]);
         i += 1;
     }
     ok
 }
 
-// The same, as two calls: the compiler makes a loop for each width.
+// The index of the first that is no kind, or how many there are. Most often each is.
+pub fn first_bad(kinds: &[u8]) -> usize
+    ensures { λ r. ⌜ r ≡ firstBad (λ kind. leb kind 2) 0 (now (kinds .entry)) ⌝ }
+{
+    if all_kinds(kinds) {
+        return kinds.len();
+    }
+    let mut i = 0;
+    while i < kinds.len() {
+        if is_kind(kinds[i]) {
+            i += 1;
+        } else {
+            return i;
+        }
+    }
+    i
+}
+
+// x + 32,768, and 2^32 more where that is negative: below 65,536 where two bytes hold x, and only there.
+fn raised(x: i32) -> u32
+    ensures { λ r. ⌜ ltb r 0x1_0000 ≡ holdable 2 x ⌝ }
+{
+    let y = x as i64 + 0x8000;
+    if y < 0 {
+        return (y + 0x1_0000_0000) as u32;
+    }
+    y as u32
+}
+
+// A number that is below 65,536 where x and y both are, and only there.
+fn merged(x: u32, y: u32) -> u32
+    ensures { λ r. ⌜ ltb r 0x1_0000 ≡ (ltb x 0x1_0000 && ltb y 0x1_0000) ⌝ }
+{
+    x | y
+}
+
+// Whether two bytes hold each number. All are merged and tested once: a sum and an `or` for four numbers.
+fn all_short(numbers: &[i32]) -> bool
+    ensures { λ r. ⌜ r ≡ every (holdable 2) (now (numbers .entry)) ⌝ }
+{
+    let mut all: u32 = 0;
+    let mut i = 0;
+    while i < numbers.len() {
+        all = merged(all, raised(numbers[i]));
+        i += 1;
+    }
+    all < 0x1_0000
+}
+
+// Four bytes hold every number, but for this one.
+const LOWEST: i32 = -2147483648;
+
+fn above_lowest(x: i32) -> bool
+    ensures { λ r. ⌜ r ≡ holdable 4 x ⌝ }
+{
+    x > LOWEST
+}
+
+// Whether no number is -2,147,483,648. It goes on to the end, so that the compiler tests several at once.
+fn all_above_lowest(numbers: &[i32]) -> bool
+    ensures { λ r. ⌜ r ≡ every (holdable 4) (now (numbers .entry)) ⌝ }
+{
+    let mut ok = true;
+    let mut i = 0;
+    while i < numbers.len() {
+        ok = ok & above_lowest(numbers[i]);
+        i += 1;
+    }
+    ok
+}
+
+// Whether `width` bytes hold each number, and none is -2,147,483,648.
 fn all_held(width: usize, numbers: &[i32]) -> bool
     requires { ⌜ (width ≡ 2) ⊎ (width ≡ 4) ⌝ }
     ensures { λ r. ⌜ r ≡ every (holdable width) (now (numbers .entry)) ⌝ }
 {
     if width == 2 {
-        return held_run(2, numbers);
+        return all_short(numbers);
     }
-    held_run(4, numbers)
+    all_above_lowest(numbers)
+}
+
+// The same of one number.
+fn held(width: usize, x: i32) -> bool
+    requires { ⌜ (width ≡ 2) ⊎ (width ≡ 4) ⌝ }
+    ensures { λ r. ⌜ r ≡ holdable width x ⌝ }
+{
+    if width == 2 {
+        return raised(x) < 0x1_0000;
+    }
+    above_lowest(x)
 }
 
 // The index of the first number that is not held, or how many there are. Most often each is.
@@ -123,37 +165,110 @@ fn put_run(out: &mut [u8], at: usize, width: usize, numbers: &[i32], from: usize
     }
 }
 
-// At most three of them, each behind a test: a loop costs more.
-fn put_rest(out: &mut [u8], at: usize, width: usize, numbers: &[i32], from: usize, n: usize)
-    requires { ⌜ ((width ≡ 2) ⊎ (width ≡ 4)) × HeldAll width (now numbers) ⌝ }
-    requires { ⌜ (n ≤ 3) × (at + n * width ≤ length (now out)) ⌝ }
-    requires { ⌜ from + n ≤ length (now numbers) ⌝ }
-    ensures { λ _. ⌜ now (out .exit) ≡ sets (now (out .entry)) at (signedsBytes width (take n (drop from (now (numbers .entry))))) ⌝ }
+// x, which two bytes hold. Told so, the compiler narrows eight such numbers by one instruction.
+fn shortened(x: i32) -> i32
+    requires { ⌜ Held 2 x ⌝ }
+    ensures { λ r. ⌜ r ≡ x ⌝ }
 {
-    if n == 0 {
-        return;
+    if x < -32768 {
+        return -32768;
     }
-    put_signed(out, at, width, number(numbers, from));
-    if n == 1 {
-        return;
+    if x > 32767 {
+        return 32767;
     }
-    put_signed(out, at + width, width, number(numbers, from + 1));
-    if n == 2 {
-        return;
-    }
-    put_signed(out, at + width + width, width, number(numbers, from + 2));
+    x
 }
 
-// The whole fours, which the compiler turns into words of four numbers with nothing left over, and then the rest.
-fn put_fours(out: &mut [u8], at: usize, width: usize, numbers: &[i32], from: usize, n: usize)
-    requires { ⌜ ((width ≡ 2) ⊎ (width ≡ 4)) × HeldAll width (now numbers) ⌝ }
+// As many numbers from index from on as x has room for.
+fn take_shorts(numbers: &[i32], from: usize, x: &mut [i32])
+    requires { ⌜ HeldAll 2 (now numbers) ⌝ }
+    requires { ⌜ from + length (now x) ≤ length (now numbers) ⌝ }
+    ensures { λ _. ⌜ now (x .exit) ≡ take (length (now (x .entry))) (drop from (now (numbers .entry))) ⌝ }
+{
+    let mut i = 0;
+    while i < x.len() {
+        x[i] = shortened(numbers[from + i]);
+        i += 1;
+    }
+}
+
+// As many numbers as x has room for, by way of x, two bytes each. All are read before the first is written: the compiler does not know that numbers and out lie apart.
+fn put_through(out: &mut [u8], at: usize, numbers: &[i32], from: usize, x: &mut [i32])
+    requires { ⌜ HeldAll 2 (now numbers) ⌝ }
+    requires { ⌜ at + length (now x) * 2 ≤ length (now out) ⌝ }
+    requires { ⌜ from + length (now x) ≤ length (now numbers) ⌝ }
+    ensures { λ _. ⌜ now (out .exit) ≡ sets (now (out .entry)) at (signedsBytes 2 (take (length (now (x .entry))) (drop from (now (numbers .entry))))) ⌝ }
+{
+    take_shorts(numbers, from, x);
+    let n = x.len();
+    put_run(out, at, 2, x, 0, n);
+}
+
+fn put_four(out: &mut [u8], at: usize, numbers: &[i32], from: usize)
+    requires { ⌜ HeldAll 2 (now numbers) ⌝ }
+    requires { ⌜ at + 8 ≤ length (now out) ⌝ }
+    requires { ⌜ from + 4 ≤ length (now numbers) ⌝ }
+    ensures { λ _. ⌜ now (out .exit) ≡ sets (now (out .entry)) at (signedsBytes 2 (take 4 (drop from (now (numbers .entry))))) ⌝ }
+{
+    let mut x: [i32; 4] = [0; 4];
+    put_through(out, at, numbers, from, &mut x);
+}
+
+fn put_eight(out: &mut [u8], at: usize, numbers: &[i32], from: usize)
+    requires { ⌜ HeldAll 2 (now numbers) ⌝ }
+    requires { ⌜ at + 16 ≤ length (now out) ⌝ }
+    requires { ⌜ from + 8 ≤ length (now numbers) ⌝ }
+    ensures { λ _. ⌜ now (out .exit) ≡ sets (now (out .entry)) at (signedsBytes 2 (take 8 (drop from (now (numbers .entry))))) ⌝ }
+{
+    let mut x: [i32; 8] = [0; 8];
+    put_through(out, at, numbers, from, &mut x);
+}
+
+// The whole fours of n numbers, two bytes each.
+fn put_fours(out: &mut [u8], at: usize, numbers: &[i32], from: usize, n: usize)
+    requires { ⌜ HeldAll 2 (now numbers) ⌝ }
+    requires { ⌜ at + n * 2 ≤ length (now out) ⌝ }
+    requires { ⌜ from + n ≤ length (now numbers) ⌝ }
+    ensures { λ _. ⌜ now (out .exit) ≡ sets (now (out .entry)) at (signedsBytes 2 (take (n / 4 * 4) (drop from (now (numbers .entry))))) ⌝ }
+{
+    let m = n / 4 * 4;
+    let mut i = 0;
+    while i < m {
+        put_four(out, at + i * 2, numbers, from + i);
+        i += 4;
+    }
+}
+
+// n numbers, two bytes each: in fours, or 16 at once where there are so many, and the rest one by one.
+fn put_shorts(out: &mut [u8], at: usize, numbers: &[i32], from: usize, n: usize)
+    requires { ⌜ HeldAll 2 (now numbers) × (n ≤ 19) ⌝ }
+    requires { ⌜ at + n * 2 ≤ length (now out) ⌝ }
+    requires { ⌜ from + n ≤ length (now numbers) ⌝ }
+    ensures { λ _. ⌜ now (out .exit) ≡ sets (now (out .entry)) at (signedsBytes 2 (take n (drop from (now (numbers .entry))))) ⌝ }
+{
+    if n < 16 {
+        put_fours(out, at, numbers, from, n);
+        let m = n / 4 * 4;
+        put_run(out, at + m * 2, 2, numbers, from + m, n % 4);
+        return;
+    }
+    put_eight(out, at, numbers, from);
+    put_eight(out, at + 16, numbers, from + 8);
+    put_run(out, at + 32, 2, numbers, from + 16, n % 4);
+}
+
+// n numbers of `width` bytes each.
+fn put_numbers(out: &mut [u8], at: usize, width: usize, numbers: &[i32], from: usize, n: usize)
+    requires { ⌜ ((width ≡ 2) ⊎ (width ≡ 4)) × HeldAll width (now numbers) × (n ≤ 19) ⌝ }
     requires { ⌜ at + n * width ≤ length (now out) ⌝ }
     requires { ⌜ from + n ≤ length (now numbers) ⌝ }
     ensures { λ _. ⌜ now (out .exit) ≡ sets (now (out .entry)) at (signedsBytes width (take n (drop from (now (numbers .entry))))) ⌝ }
 {
-    let m = n / 4 * 4;
-    put_run(out, at, width, numbers, from, m);
-    put_rest(out, at + m * width, width, numbers, from + m, n % 4);
+    if width == 2 {
+        put_shorts(out, at, numbers, from, n);
+    } else {
+        put_run(out, at, 4, numbers, from, n);
+    }
 }
 
 // One constraint's field.
@@ -167,22 +282,23 @@ fn put_constraint(
     from: usize,
 )
     requires { ⌜ ((width ≡ 2) ⊎ (width ≡ 4)) × HeldAll width (now numbers) ⌝ }
-    requires { ⌜ kind ≤ 2 ⌝ }
+    requires { ⌜ (k ≤ 16) × (kind ≤ 2) ⌝ }
     requires { ⌜ at + fieldSize width k ≤ length (now out) ⌝ }
     requires { ⌜ from + (k + 1) ≤ length (now numbers) ⌝ }
     ensures { λ _. ⌜ now (out .exit) ≡ sets (now (out .entry)) at (fieldBytes (3 + kind) (signedsBytes width (take (k + 1) (drop from (now (numbers .entry)))))) ⌝ }
 {
     let n = k as usize + 1;
     put_head(out, at, 3 + kind, n * width);
-    put_fours(out, at + 3, width, numbers, from, n);
+    put_numbers(out, at + 3, width, numbers, from, n);
 }
 
-// All constraints of a bundle of edition e, whose numbers have `width` bytes, from at on.
-fn put_all(out: &mut [u8], at: usize, e: u8, width: usize, k: u8, kinds: &[u8], numbers: &[i32])
-    requires { ⌜ (width ≡ edition e .coefficientWidth) × InOrder newestEdition e k (now kinds) (now numbers) ⌝ }
-    requires { ⌜ at + length (now kinds) * fieldSize width k ≤ length (now out) ⌝ }
+// All constraints of a bundle of edition e, from at on.
+pub fn put_constraints(out: &mut [u8], at: usize, e: u8, k: u8, kinds: &[u8], numbers: &[i32])
+    requires { ⌜ InOrder newestEdition e k (now kinds) (now numbers) ⌝ }
+    requires { ⌜ at + length (now kinds) * fieldSize (edition e .coefficientWidth) k ≤ length (now out) ⌝ }
     ensures { λ _. ⌜ now (out .exit) ≡ sets (now (out .entry)) at (constraintsBytes (edition e) k (now (kinds .entry)) (now (numbers .entry))) ⌝ }
 {
+    let width = coefficient_bytes(e);
     let many = k as usize + 1;
     let size = 3 + many * width;
     let mut here = at;
@@ -194,18 +310,5 @@ fn put_all(out: &mut [u8], at: usize, e: u8, width: usize, k: u8, kinds: &[u8], 
         here += size;
         from += many;
         n += 1;
-    }
-}
-
-// The same, as two calls: the compiler makes a loop for each width.
-pub fn put_constraints(out: &mut [u8], at: usize, e: u8, k: u8, kinds: &[u8], numbers: &[i32])
-    requires { ⌜ InOrder newestEdition e k (now kinds) (now numbers) ⌝ }
-    requires { ⌜ at + length (now kinds) * fieldSize (edition e .coefficientWidth) k ≤ length (now out) ⌝ }
-    ensures { λ _. ⌜ now (out .exit) ≡ sets (now (out .entry)) at (constraintsBytes (edition e) k (now (kinds .entry)) (now (numbers .entry))) ⌝ }
-{
-    if e == 1 {
-        put_all(out, at, e, 2, k, kinds, numbers);
-    } else {
-        put_all(out, at, e, 4, k, kinds, numbers);
     }
 }

@@ -221,6 +221,30 @@ module _ {s : List ℕ} {at tag start len next : ℕ} (k : Took s at tag start l
       let f : start + len ≡ next = omega arith in
       rw (took-field h, took-size, e, f)
 
+-- where no file ends and none is cut, a whole field stands
+pub took-here : (s : List ℕ) (at : ℕ) → (fieldsAt s at ≡ cut at → ⊥) → (fieldsAt s at ≡ ends at → ⊥) → Took s at (getD s at 0) (at + 3) (lenAt s at) (at + 3 + lenAt s at)
+took-here s at no-cut no-end = started (leb (length s) at) refl
+  where
+    whole-by : at < length s → 3 ≤ length s - at → (b : Bool) → leb (lenAt s at) (length s - at - 3) ≡ b → Took s at (getD s at 0) (at + 3) (lenAt s at) (at + 3 + lenAt s at)
+    whole-by h k true e = took refl (found-whole s at h k (leb-true (lenAt s at) (length s - at - 3) e))
+    whole-by h k false e = absurd (no-cut (cut-at s at refl (found-cut s at h k (leb-false (lenAt s at) (length s - at - 3) e))))
+
+    headed : at < length s → (b : Bool) → leb 3 (length s - at) ≡ b → Took s at (getD s at 0) (at + 3) (lenAt s at) (at + 3 + lenAt s at)
+    headed h true e = whole-by h (leb-true 3 (length s - at) e) (leb (lenAt s at) (length s - at - 3)) refl
+    headed h false e = absurd (no-cut (cut-at s at refl (found-short s at h (leb-false 3 (length s - at) e))))
+
+    started : (b : Bool) → leb (length s) at ≡ b → Took s at (getD s at 0) (at + 3) (lenAt s at) (at + 3 + lenAt s at)
+    started true e = absurd (no-end (ends-at s at refl (found-end s at (leb-true (length s) at e))))
+    started false e = headed (leb-false (length s) at e) (leb 3 (length s - at)) refl
+
+-- the length, as a number of two bytes
+pub len-is : (s : List ℕ) (at : ℕ) → at + 2 < length s → unsigned (take 2 (drop (at + 1) s)) ≡ lenAt s at
+len-is s at h =
+    let h₁ : at + 1 < length s = omega arith in
+    let e₁ : suc (at + 1) ≡ at + 2 = omega arith in
+    let d : drop (at + 1) s ≡ getD s (at + 1) 0 ∷ getD s (at + 2) 0 ∷ drop (suc (at + 2)) s = rw (drop-cons s (at + 1) 0, e₁, drop-cons s (at + 2) 0) in
+    ap (λ (bs : List ℕ). unsigned (take 2 bs)) d ∙ two-bytes (getD s (at + 1) 0) (getD s (at + 2) 0)
+
 -- ---- what a caller of `next_field` knows
 -- The fields from `at` on start with the field at a, and go on at n.
 pub record Starts (s : List ℕ) (at a tag start len next : ℕ) : Type 0 where
@@ -230,6 +254,9 @@ pub record Starts (s : List ℕ) (at a tag start len next : ℕ) : Type 0 where
   pub upto : next ≤ length s
   pub from : at ≤ a
   pub below : tag < 0x80
+
+pub took-starts : {s : List ℕ} {at tag start len next : ℕ} → Took s at tag start len next → tag < 0x80 → Starts s at at tag start len next
+took-starts k h = record { is = took-field k h; start-is = k .start-is; next-is = k .next-is; upto = k .upto; from = omega arith; below = h }
 
 module _ (s : List ℕ) (a tag start len next : ℕ) where
   starts-by : (at : ℕ) → nextOf (fieldsAt s at) ≡ Next.Field a tag start len next

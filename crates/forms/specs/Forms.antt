@@ -103,9 +103,9 @@ pub data All {X : Type 0} (P : X → Type 0) : List X → Type 0 where
 unfoldable pub small : ℕ → ℤ → Bool
 small range z = leb (natAbs z) range
 
-unfoldable pub every : (ℤ → Bool) → List ℤ → Bool
+unfoldable pub every : {X : Type 0} → (X → Bool) → List X → Bool
 every p [] = true
-every p (c ∷ cs) = p c && every p cs
+every p (x ∷ xs) = p x && every p xs
 
 -- A constant occurs in a bundle if some constraint there gives it a non-zero coefficient.
 unfoldable pub nonzero : ℤ → Bool

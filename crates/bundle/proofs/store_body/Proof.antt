@@ -36,7 +36,7 @@ coefficient-bytes-requires c κs = search needs
 store-constraints-requires : tie.Need-store-constraints-requires
 store-constraints-requires c κs =
     let e : suc (c .before .before .before .before .before .before .before .args .k) ≡ c .before .before .before .before .before .before .before .args .k + 1 = omega arith in
-    rw (c .before .before .coefficient-bytes .ensures) (coefficientWidth-is (c .before .before .before .before .before .before .before .args .body .edition), record { is = c .before .before .before .before .before .before .before .pre .counts; kinds-fit = c .before .before .before .before .if1 .left; numbers-fit = rw e (c .before .before .before .if2 .left) })
+    rw (c .before .before .coefficient-bytes .ensures) ((coefficientWidth-is (c .before .before .before .before .before .before .before .args .body .edition), high (c .before .before .before .before .before .before .before .pre)), record { is = c .before .before .before .before .before .before .before .pre .counts; kinds-fit = c .before .before .before .before .if1 .left; numbers-fit = rw e (c .before .before .before .if2 .left) })
 
 acceptance-requires : tie.Need-acceptance-requires
 acceptance-requires c κs = search needs

@@ -1,21 +1,17 @@
 -- `bundle::constraints::all_in_range` meets its contract. Assumes nothing.
-use mathlib.Core.Path.{_≡_}
-use mathlib.Core.Logic.{⊎-elim}
 use Rattle.bundle.proofs.Ranging.{bytes-of, shorts-small}
+use Rattle.bundle.proofs.Widths.{width-four}
 use Rattle.bundle.proofs.constraints.all_in_range.Statement.{statement}
 use Rattle.bundle.proofs.constraints.all_in_range.Tie as tie
-
-four : (c : tie.Else1) → c .before .before .args .width ≡ 4
-four c = ⊎-elim (λ e. absurd (c .if1 .left e)) (λ e. e) (c .before .before .pre .0)
 
 returns : tie.Need-returns
 returns c = rw (c .if1 .taken) (shorts-small (c .before .before .args .s .now) (c .before .before .args .start) (c .before .before .args .n) (rw (c .if1 .taken) at (c .before .before .pre .1)) (bytes-of (c .before .before .args .s .now) (λ i. c .before .shared-slice-known .given i .fits)))
 
 longs-in-range-requires : tie.Need-longs-in-range-requires
-longs-in-range-requires c κs = rw (four c) at (c .before .before .pre .1)
+longs-in-range-requires c κs = rw (width-four (c .before .before .pre .0) (c .if1 .left)) at (c .before .before .pre .1)
 
 returns-2 : tie.Need-returns-2
-returns-2 c = rw (four (c .before)) (c .longs-in-range .ensures)
+returns-2 c = rw (width-four (c .before .before .before .pre .0) (c .before .if1 .left)) (c .longs-in-range .ensures)
 
 pub all-in-range-spec : {M : Type 1} → statement M
 all-in-range-spec =

@@ -1,10 +1,8 @@
 -- `bundle::constraints::long_in_range` meets its contract: of the numbers of four bytes all but the lowest are within the range. Assumes nothing.
-use mathlib.Core.Path.{_≡_, refl, ap, _∙_}
+use mathlib.Core.Path.{refl, ap, _∙_}
 use mathlib.Core.Logic.{inr}
-use native.Mathlib.Omega.{arith}
 use mir.Syntax.{w32, w64}
 use mir.ValLaws.{toZ-ofZ}
-use borrow.Author.Needs.{needs}
 use Rattle.forms.specs.Forms.{small}
 use Rattle.bundle.proofs.Ranging.{lowest-small}
 use Rattle.bundle.proofs.Widths.{held-fits}

@@ -1,11 +1,12 @@
 -- `bundle::put::first_bad` meets its contract: looking on from here finds what the start finds. Assumes nothing.
 use mathlib.Core.Path.{_≡_, refl, sym, _∙_}
 use Prim.Native.Nat.{_-_}
+use native.Mathlib.Omega.{arith}
 use lib.Dec.{leb}
 use lib.ListN.{length, drop}
-use borrow.Author.Tests.{le-leb, lt-leb}
 use Rattle.bundle.specs.Put.{firstBad}
 use Rattle.bundle.proofs.Putting.{bad-next, bad-here, bad-none}
+use Rattle.bundle.proofs.Ranging.{all-good}
 use borrow.Author.Needs.{needs}
 use Rattle.bundle.proofs.put.first_bad.Statement.{statement}
 use Rattle.bundle.proofs.put.first_bad.Tie as tie
@@ -16,14 +17,20 @@ Inv-loop kinds i₀ i = firstBad (λ kind. leb kind 2) 0 kinds ≡ firstBad (λ 
 abbrev μ-loop : tie.MeasureT-loop
 μ-loop kinds i₀ i = length kinds - i
 
+all-kinds-requires : tie.Need-all-kinds-requires Inv-loop μ-loop
+all-kinds-requires c κs = search needs
+
+returns : tie.Need-returns Inv-loop μ-loop
+returns c = omega (arith, all-good (λ kind. leb kind 2) 0 (c .before .before .before .args .kinds .now) (sym (c .before .all-kinds .ensures) ∙ c .if1 .taken))
+
 loop-holds : tie.Need-loop-holds Inv-loop μ-loop
 loop-holds c = refl
 
-shared-slice-read-if1 : tie.Need-shared-slice-read-if1 Inv-loop μ-loop
-shared-slice-read-if1 c = search needs
+shared-slice-read-is-kind : tie.Need-shared-slice-read-is-kind Inv-loop μ-loop
+shared-slice-read-is-kind c = search needs
 
-returns : tie.Need-returns Inv-loop μ-loop
-returns c = sym (c .before .before .before .loop .inv ∙ bad-here (λ kind. leb kind 2) 0 _ _ (c .before .before .loop-test .taken) (lt-leb _ 2 (c .if1 .taken)))
+is-kind-requires : tie.Need-is-kind-requires Inv-loop μ-loop
+is-kind-requires c κs = search needs
 
 add-i : tie.Need-add-i Inv-loop μ-loop
 add-i c = search needs
@@ -32,10 +39,13 @@ loop-less : tie.Need-loop-less Inv-loop μ-loop
 loop-less c = search needs
 
 loop-again : tie.Need-loop-again Inv-loop μ-loop
-loop-again c = c .before .before .before .loop .inv ∙ bad-next (λ kind. leb kind 2) 0 _ _ (c .before .before .loop-test .taken) (le-leb _ 2 (c .if1 .left))
+loop-again c = c .before .before .before .before .loop .inv ∙ bad-next (λ kind. leb kind 2) 0 _ _ (c .before .before .before .loop-test .taken) (sym (c .before .is-kind .ensures) ∙ c .if2 .taken)
 
 returns-2 : tie.Need-returns-2 Inv-loop μ-loop
-returns-2 c = sym (c .before .loop .inv ∙ bad-none (λ kind. leb kind 2) 0 _ _ (c .loop-test .left))
+returns-2 c = sym (c .before .before .before .before .loop .inv ∙ bad-here (λ kind. leb kind 2) 0 _ _ (c .before .before .before .loop-test .taken) (sym (c .before .is-kind .ensures) ∙ c .if2 .left))
+
+returns-3 : tie.Need-returns-3 Inv-loop μ-loop
+returns-3 c = sym (c .before .loop .inv ∙ bad-none (λ kind. leb kind 2) 0 _ _ (c .loop-test .left))
 
 pub first-bad-spec : {M : Type 1} → statement M
 first-bad-spec =
@@ -43,10 +53,13 @@ first-bad-spec =
     (tie.spec
     Inv-loop
     μ-loop
-    loop-holds
-    shared-slice-read-if1
+    all-kinds-requires
     returns
+    loop-holds
+    shared-slice-read-is-kind
+    is-kind-requires
     add-i
     loop-less
     loop-again
-    returns-2)
+    returns-2
+    returns-3)

@@ -1,11 +1,7 @@
 -- `bundle::put::put_constraint` meets its contract. Assumes nothing.
-use mathlib.Core.Path.{_∙_}
-use Prim.Native.Nat.{_+_, _≤_}
-use native.Mathlib.Nat.{mul-le-mul}
-use native.Mathlib.Omega.{arith}
+use Prim.Native.Nat.{_+_}
 use Rattle.fields.proofs.Stores.{put-field}
 use Rattle.bundle.proofs.Putting.{numbers-bytes}
-use Rattle.bundle.proofs.Widths.{width-most}
 use borrow.Author.Needs.{needs}
 use Rattle.bundle.proofs.put.put_constraint.Statement.{statement}
 use Rattle.bundle.proofs.put.put_constraint.Tie as tie
@@ -17,26 +13,24 @@ add-put-head : tie.Need-add-put-head
 add-put-head c = search needs
 
 mul-put-head : tie.Need-mul-put-head
-mul-put-head c =
-    let k : c .before .before .args .k + 1 ≤ 256 = omega arith in
-    record { fits = omega (arith, mul-le-mul k (width-most (c .before .before .pre .0 .0))) }
+mul-put-head c = search needs
 
 put-head-requires : tie.Need-put-head-requires
-put-head-requires c κs = omega (arith, c .before .before .pre .1 .1 .0)
+put-head-requires c κs = search needs
 
-add-put-fours : tie.Need-add-put-fours
-add-put-fours c = omega (arith, c .before .before .before .before .before .before .pre .1 .1 .0)
+add-put-numbers : tie.Need-add-put-numbers
+add-put-numbers c = search needs
 
-put-fours-requires : tie.Need-put-fours-requires
-put-fours-requires c κs = (c .before .before .before .before .before .before .pre .0, (omega (arith, c .before .before .before .before .before .before .pre .1 .1 .0, c .before .before .before .put-head .kept .0), c .before .before .before .before .before .before .pre .1 .1 .1))
+put-numbers-requires : tie.Need-put-numbers-requires
+put-numbers-requires c κs = search needs
 
 same-length : tie.Need-same-length
-same-length c = c .before .before .put-fours .kept .0 ∙ c .before .before .before .before .before .before .put-head .kept .0
+same-length c = search needs
 
 returns : tie.Need-returns
 returns c =
     let a = c .before .before .before .before .before .before .before .before .before .args in
-    put-field (a .out .now) (a .at) (3 + a .kind) _ _ (c .before .before .before .before .before .before .put-head .ensures) (c .before .before .put-fours .ensures) (numbers-bytes (a .width) (a .numbers .now) (a .from) (a .k + 1) (c .before .before .before .before .before .before .before .before .before .pre .1 .1 .1))
+    put-field (a .out .now) (a .at) (3 + a .kind) _ _ (c .before .before .before .before .before .before .put-head .ensures) (c .before .before .put-numbers .ensures) (numbers-bytes (a .width) (a .numbers .now) (a .from) (a .k + 1) (c .before .before .before .before .before .before .before .before .before .pre .1 .1 .1))
 
 pub put-constraint-spec : {M : Type 1} → statement M
 put-constraint-spec =
@@ -46,7 +40,7 @@ put-constraint-spec =
     add-put-head
     mul-put-head
     put-head-requires
-    add-put-fours
-    put-fours-requires
+    add-put-numbers
+    put-numbers-requires
     same-length
     returns)

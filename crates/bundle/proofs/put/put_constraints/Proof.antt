@@ -1,40 +1,95 @@
--- `bundle::put::put_constraints` meets its contract: the width is 2 in edition 1, and 4 in any other. Assumes nothing.
-use mathlib.Core.Path.{sym}
-use borrow.Author.Tests.{eq-eqb, ne-eqb}
-use Rattle.forms.proofs.Editions.{coefficientWidth-by}
+-- `bundle::put::put_constraints` meets its contract. The invariant `Putting`: what is left to write gives what the whole gives. Assumes nothing.
+use Prim.Native.Nat.{_+_, _-_, _≤_}
+use native.Mathlib.Nat.{mul-le-mul}
+use native.Mathlib.Omega.{arith}
+use lib.Dec.{leb→le}
+use lib.ListN.{length}
+use Rattle.forms.specs.Edition.{edition}
+use Rattle.forms.proofs.Editions.{coefficientWidth-is, coefficientWidth-most}
+use Rattle.fields.proofs.Signed.{all-weaken}
+use Rattle.bundle.proofs.Writable.{all-getD, holdable-held}
+use Rattle.bundle.proofs.Putting.{Putting, putting-start, putting-next, putting-done, numbers-left, out-left}
 use borrow.Author.Needs.{needs}
 use Rattle.bundle.proofs.put.put_constraints.Statement.{statement}
 use Rattle.bundle.proofs.put.put_constraints.Tie as tie
 
-put-all-requires : tie.Need-put-all-requires
-put-all-requires c κs =
-    let w = coefficientWidth-by (c .before .before .before .before .args .e) (eq-eqb _ 1 (c .before .if1 .taken)) in
-    ((sym w, c .before .before .before .before .pre .0), rw w at (c .before .before .before .before .pre .1))
+abbrev Inv-loop : tie.InvT-loop
+Inv-loop out₀ at e k kinds numbers width many size here₀ from₀ n₀ out here from n = Putting (edition e) k kinds numbers out₀ at out here from n
 
-put-all-requires-2 : tie.Need-put-all-requires-2
-put-all-requires-2 c κs =
-    let w = coefficientWidth-by (c .before .before .before .before .args .e) (ne-eqb _ 1 (c .before .if1 .left)) in
-    ((sym w, c .before .before .before .before .pre .0), rw w at (c .before .before .before .before .pre .1))
+abbrev μ-loop : tie.MeasureT-loop
+μ-loop out₀ at e k kinds numbers width many size here₀ from₀ n₀ out here from n = length kinds - n
 
-same-length : tie.Need-same-length
+coefficient-bytes-requires : tie.Need-coefficient-bytes-requires Inv-loop μ-loop
+coefficient-bytes-requires c κs = search needs
+
+add-many : tie.Need-add-many Inv-loop μ-loop
+add-many c = search needs
+
+mul-size : tie.Need-mul-size Inv-loop μ-loop
+mul-size c =
+    let k : c .before .before .before .args .k + 1 ≤ 256 = omega arith in
+    let w : c .coefficient-bytes .result ≤ 4 = rw (c .coefficient-bytes .ensures) (coefficientWidth-most (c .before .before .before .args .e)) in
+    record { fits = omega (arith, mul-le-mul k w) }
+
+add-size : tie.Need-add-size Inv-loop μ-loop
+add-size c =
+    let k : c .before .before .before .args .k + 1 ≤ 256 = omega arith in
+    let w : c .coefficient-bytes .result ≤ 4 = rw (c .coefficient-bytes .ensures) (coefficientWidth-most (c .before .before .before .args .e)) in
+    record { fits = omega (arith, mul-le-mul k w) }
+
+loop-holds : tie.Need-loop-holds Inv-loop μ-loop
+loop-holds c = putting-start (edition (c .before .before .before .args .e)) (c .before .before .before .pre .0 .valid) (c .before .before .before .pre .0 .size) (c .before .before .before .pre .1)
+
+shared-slice-read-kind : tie.Need-shared-slice-read-kind Inv-loop μ-loop
+shared-slice-read-kind c = c .before .loop-test .taken
+
+put-constraint-requires : tie.Need-put-constraint-requires Inv-loop μ-loop
+put-constraint-requires c κs =
+    let i = c .before .before .before .loop .inv in
+    let h = c .before .before .loop-test .taken in
+    let p = c .before .before .before .before .before .before .before .pre .0 in
+    rw (c .before .before .before .before .coefficient-bytes .ensures) ((coefficientWidth-is (c .before .before .before .before .before .before .before .args .e), record { each = all-weaken (holdable-held (edition (c .before .before .before .before .before .before .before .args .e) .coefficientWidth)) (p .held) }), ((p .high, leb→le _ 2 (all-getD _ 0 (i .valid) h)), (out-left i h, numbers-left i h)))
+
+add-here : tie.Need-add-here Inv-loop μ-loop
+add-here c = rw (c .before .before .before .before .before .before .before .coefficient-bytes .ensures) (record { fits = omega (arith, out-left (c .before .before .before .before .before .before .loop .inv) (c .before .before .before .before .before .loop-test .taken), c .before .before .before .before .before .before .loop .inv .long) })
+
+add-from : tie.Need-add-from Inv-loop μ-loop
+add-from c = omega (arith, numbers-left (c .before .before .before .before .before .before .loop .inv) (c .before .before .before .before .before .loop-test .taken))
+
+add-n : tie.Need-add-n Inv-loop μ-loop
+add-n c = search needs
+
+loop-less : tie.Need-loop-less Inv-loop μ-loop
+loop-less c = search needs
+
+loop-again : tie.Need-loop-again Inv-loop μ-loop
+loop-again c =
+    let w = c .before .before .before .before .before .before .before .coefficient-bytes .ensures in
+    rw w (putting-next (c .before .before .before .before .before .before .loop .inv) (c .before .before .before .before .before .loop-test .taken) (rw w at (c .before .before .put-constraint .ensures)))
+
+same-length : tie.Need-same-length Inv-loop μ-loop
 same-length c = search needs
 
-returns : tie.Need-returns
-returns c = c .before .before .put-all .ensures
-
-same-length-2 : tie.Need-same-length-2
-same-length-2 c = search needs
-
-returns-2 : tie.Need-returns-2
-returns-2 c = c .before .before .put-all2 .ensures
+returns : tie.Need-returns Inv-loop μ-loop
+returns c = putting-done (c .before .loop .inv) (c .loop-test .left)
 
 pub put-constraints-spec : {M : Type 1} → statement M
 put-constraints-spec =
     tie.close
     (tie.spec
-    put-all-requires
-    put-all-requires-2
+    Inv-loop
+    μ-loop
+    coefficient-bytes-requires
+    add-many
+    mul-size
+    add-size
+    loop-holds
+    shared-slice-read-kind
+    put-constraint-requires
+    add-here
+    add-from
+    add-n
+    loop-less
+    loop-again
     same-length
-    returns
-    same-length-2
-    returns-2)
+    returns)

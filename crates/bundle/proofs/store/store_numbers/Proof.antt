@@ -1,18 +1,16 @@
 -- `bundle::store::store_numbers` meets its contract: the width is 2 or 4. Assumes nothing.
-use mathlib.Core.Path.{_≡_, refl}
-use mathlib.Core.Logic.{inl, inr, ⊎-elim}
+use mathlib.Core.Path.{refl}
+use mathlib.Core.Logic.{inl, inr}
+use Rattle.bundle.proofs.Widths.{width-four}
 use borrow.Author.Needs.{needs}
 use Rattle.bundle.proofs.store.store_numbers.Statement.{statement}
 use Rattle.bundle.proofs.store.store_numbers.Tie as tie
-
-four : (c : tie.Else1) → c .before .before .args .width ≡ 4
-four c = ⊎-elim (λ e. absurd (c .if1 .left e)) (λ e. e) (c .before .before .pre .0)
 
 store-run-requires : tie.Need-store-run-requires
 store-run-requires c κs = (inl refl, rw (c .before .if1 .taken) at (c .before .before .before .pre .1))
 
 store-run-requires-2 : tie.Need-store-run-requires-2
-store-run-requires-2 c κs = (inr refl, rw (four (c .before)) at (c .before .before .before .pre .1))
+store-run-requires-2 c κs = (inr refl, rw (width-four (c .before .before .before .pre .0) (c .before .if1 .left)) at (c .before .before .before .pre .1))
 
 same-length : tie.Need-same-length
 same-length c = search needs
@@ -24,7 +22,7 @@ same-length-2 : tie.Need-same-length-2
 same-length-2 c = search needs
 
 returns-2 : tie.Need-returns-2
-returns-2 c = rw (four (c .before .before .before)) (c .before .store-run2 .ensures)
+returns-2 c = rw (width-four (c .before .before .before .before .before .pre .0) (c .before .before .before .if1 .left)) (c .before .store-run2 .ensures)
 
 pub store-numbers-spec : {M : Type 1} → statement M
 store-numbers-spec =

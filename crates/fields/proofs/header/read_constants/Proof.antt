@@ -1,11 +1,13 @@
 -- `fields::header::read_constants` meets its contract: each `return` cites the law for its way. Assumes nothing.
 use mathlib.Core.Path.{sym, _∙_}
 use Rattle.fields.proofs.Headers.{k-refused, k-range, k-other, k-agrees}
+use Rattle.fields.specs.Header.{headerTag}
 use borrow.Author.Needs.{needs}
 use Rattle.fields.proofs.header.read_constants.Statement.{statement}
 use Rattle.fields.proofs.header.read_constants.Tie as tie
 
 header-field-requires : tie.Need-header-field-requires
+unfolding headerTag
 header-field-requires c κs = search needs
 
 enum-known-place : tie.Need-enum-known-place

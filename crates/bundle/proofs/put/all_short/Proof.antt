@@ -1,0 +1,69 @@
+-- `bundle::put::all_short` meets its contract: what is merged so far, and what is left, give the whole. Assumes nothing.
+use mathlib.Core.Path.{_≡_, refl, ap, _∙_}
+use mathlib.Core.Bool.{_&&_}
+use Prim.Native.Nat.{_-_}
+use lib.Dec.{ltb}
+use lib.IntN.{pos}
+use lib.ListN.{length, getD, drop}
+use mir.Syntax.{w32}
+use mir.ValLaws.{toZ-ofZ}
+use Rattle.forms.specs.Forms.{every}
+use Rattle.bundle.specs.Write.{holdable}
+use Rattle.bundle.proofs.Ranging.{all-next, all-done}
+use borrow.Author.Needs.{needs}
+use Rattle.bundle.proofs.put.all_short.Statement.{statement}
+use Rattle.bundle.proofs.put.all_short.Tie as tie
+
+abbrev Inv-loop : tie.InvT-loop
+Inv-loop numbers all₀ i₀ all i = (ltb all 0x1_0000 && every (holdable 2) (drop i numbers)) ≡ every (holdable 2) numbers
+
+abbrev μ-loop : tie.MeasureT-loop
+μ-loop numbers all₀ i₀ all i = length numbers - i
+
+loop-holds : tie.Need-loop-holds Inv-loop μ-loop
+loop-holds c = refl
+
+mul-raised : tie.Need-mul-raised Inv-loop μ-loop
+mul-raised c = search needs
+
+shared-slice-copy-out-raised : tie.Need-shared-slice-copy-out-raised Inv-loop μ-loop
+shared-slice-copy-out-raised c = search needs
+
+raised-requires : tie.Need-raised-requires Inv-loop μ-loop
+raised-requires c κs = search needs
+
+merged-requires : tie.Need-merged-requires Inv-loop μ-loop
+merged-requires c κs = search needs
+
+add-i : tie.Need-add-i Inv-loop μ-loop
+add-i c = search needs
+
+loop-less : tie.Need-loop-less Inv-loop μ-loop
+loop-less c = search needs
+
+loop-again : tie.Need-loop-again Inv-loop μ-loop
+loop-again c =
+    let xs = c .before .before .before .before .before .args .numbers .now in
+    let l = c .before .before .before .before .loop in
+    let e = toZ-ofZ w32 (getD xs (l .i) (pos 0)) (record { sfits = c .before .before .raised-arg .given }) in
+    let b = ltb (l .all) 0x1_0000 in
+    all-next (holdable 2) xs (l .i) b (l .inv) (pos 0) (c .before .before .before .loop-test .taken) (c .merged .ensures ∙ ap (_&&_ b) (c .before .raised .ensures ∙ ap (holdable 2) e))
+
+returns : tie.Need-returns Inv-loop μ-loop
+returns c = all-done (holdable 2) (c .before .before .args .numbers .now) (c .before .loop .i) (ltb (c .before .loop .all) 0x1_0000) (c .before .loop .inv) (c .loop-test .left)
+
+pub all-short-spec : {M : Type 1} → statement M
+all-short-spec =
+    tie.close
+    (tie.spec
+    Inv-loop
+    μ-loop
+    loop-holds
+    mul-raised
+    shared-slice-copy-out-raised
+    raised-requires
+    merged-requires
+    add-i
+    loop-less
+    loop-again
+    returns)
