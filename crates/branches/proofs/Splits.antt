@@ -10,8 +10,8 @@ use lib.IntN.{ℤ, pos, negsuc, _+ℤ_, _*ℤ_}
 use lib.ListN.{length, getD, set}
 use borrow.Author.Tests.{lt-ltb, eqb-true, eqb-false}
 use Rattle.forms.specs.Edition.{edition, edition1, newestEdition}
-use Rattle.forms.specs.Forms.{≤0, Side, LineKind, plain, apart, Line, line, Form, neg, Formula, _and_, _or_, _plus_, small}
-use Rattle.forms.specs.Flat.{kindOf, lineKindOf, formIn}
+use Rattle.forms.specs.Forms.{≤0, Side, Line, line, Form, neg, Formula, _and_, _or_, _plus_, small}
+use Rattle.forms.specs.Flat.{formIn}
 use Rattle.calculus.specs.Rules as rules
 use Rattle.calculus.specs.Rules.{_▷_, inRange}
 use Rattle.forms.specs.declared.RowNumber.{RowNumber}

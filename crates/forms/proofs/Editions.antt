@@ -5,8 +5,8 @@ use mathlib.Core.Bool.{Bool, true, false, cond}
 use Prim.Native.Nat.{ℕ, _+_, _*_, _≤_}
 use native.Mathlib.Omega.{arith}
 use lib.Dec.{eqb}
-use borrow.Author.Tests.{eqb-true, ne-eqb}
-use Rattle.forms.specs.Edition.{edition, edition1, edition2}
+use borrow.Author.Tests.{eqb-true}
+use Rattle.forms.specs.Edition.{edition, edition1}
 
 -- As edition 1 has it, or as those after it.
 either : (P : ℕ → Type 0) (b : Bool) (x y : ℕ) → P x → P y → P (cond b x y)
@@ -22,9 +22,6 @@ module _ (n : ℕ) where
 
   pub bundleBytes-most : edition n .bundleBytes ≤ 8_192
   bundleBytes-most = either (λ x. x ≤ 8_192) (eqb n 1) 4_096 8_192 (omega arith) (omega arith)
-
-  pub bundleBytes-least : 4_096 ≤ edition n .bundleBytes
-  bundleBytes-least = either (λ x. 4_096 ≤ x) (eqb n 1) 4_096 8_192 (omega arith) (omega arith)
 
   pub coefficientWidth-is : (edition n .coefficientWidth ≡ 2) ⊎ (edition n .coefficientWidth ≡ 4)
   coefficientWidth-is = either (λ x. (x ≡ 2) ⊎ (x ≡ 4)) (eqb n 1) 2 4 (inl refl) (inr refl)
@@ -48,12 +45,6 @@ module _ (n : ℕ) where
     pub bundleBytes-by : edition n .bundleBytes ≡ cond b 4_096 8_192
     bundleBytes-by = rw e
 
-    pub coefficientWidth-by : edition n .coefficientWidth ≡ cond b 2 4
-    coefficientWidth-by = rw e
-
-    pub lines-by : edition n .lines ≡ cond b 128 1_000
-    lines-by = rw e
-
     pub lineWidth-by : edition n .lineWidth ≡ cond b 1 2
     lineWidth-by = rw e
 
@@ -67,6 +58,3 @@ bundleBytes-grows n m h l = go (eqb m 1) refl
 
 pub first : {n : ℕ} → n ≡ 1 → edition n ≡ edition1
 first e = rw e
-
-pub after-first : {n : ℕ} → (n ≡ 1 → ⊥) → edition n ≡ edition2
-after-first {n} h = rw (ne-eqb n 1 h)

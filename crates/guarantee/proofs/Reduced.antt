@@ -9,14 +9,12 @@ use lib.IntN.{ℤ}
 use lib.ListN.{length}
 use borrow.Author.Tests.{eqb-true, eqb-false}
 use Rattle.forms.specs.Edition.{Edition, edition1}
-use Rattle.forms.specs.Forms.{Form, Line, Assignment, Formula, _divides_, _and_, _or_, within, True, height}
+use Rattle.forms.specs.Forms.{Form, Line, Formula, _divides_, _and_, _or_, within, True, height}
 use Rattle.forms.specs.Reduced.{reducing, Strides}
 use Rattle.calculus.specs.Rules.{StrideOf, Closed, derive, strengthen, round, splitEq, splitNeq, number, stride, Rounded, last, more}
 use Rattle.calculus.proofs.Reducing.{reducing-alike, reducing-reduced, reducing-again, derived-reduced, derived-stands}
-use Rattle.fields.specs.Answers.{fileProof, answer, Result}
-use Rattle.fields.specs.Fields.{fields}
-use Rattle.formula.specs.Formula.{formulaFile, Encodable, readFormula}
-use Rattle.formula.specs.Test.{tested, judged, testFormula}
+use Rattle.formula.specs.Formula.{formulaFile, Encodable}
+use Rattle.formula.specs.Test.{tested, testFormula}
 use Rattle.formula.specs.Promises.{asTested}
 use Rattle.formula.proofs.RoundTrip.{read-other}
 use Rattle.proof.proofs.Alike.{tested-alike, file-length}

@@ -9,11 +9,10 @@ use lib.ListN.{length, take}
 use lib.Seq.{take-at}
 use Rattle.forms.specs.Edition.{Edition, edition1, newestEdition}
 use Rattle.forms.specs.Forms.{All, Form, Line, Constraint, Formula}
-use Rattle.calculus.specs.Rules.{Entry, Closed, derive, strengthen, round, splitEq, splitNeq, number, stride, Rounded, last, more, step, entries, entriesRounded, Interpolant}
-use Rattle.fields.specs.declared.Answer.{Answer}
+use Rattle.calculus.specs.Rules.{Entry, Closed, derive, strengthen, round, splitEq, splitNeq, number, stride, Rounded, last, more, step, entries, entriesRounded}
 use Rattle.fields.specs.Answers.{fileA, Result, refused, accepted, _>>_, over, Written, writtenOf}
 use Rattle.fields.specs.Numbers.{Bytes}
-use Rattle.fields.specs.Fields.{Item, Framed, fileOf, withoutNotes, fields, Noted, Kept}
+use Rattle.fields.specs.Fields.{Item, Framed, fileOf, withoutNotes, fields}
 use Rattle.fields.proofs.Framing.{items-fileOf}
 use Rattle.fields.proofs.Whole.{whole-file}
 use Rattle.bundle.specs.Bundle.{bundle}
@@ -29,7 +28,7 @@ use Rattle.fields.proofs.Bare.{bareWritten}
 use Rattle.proof.proofs.Sizes.{written-reads-back}
 use Rattle.fields.specs.declared.WriteResult.{WriteResult}
 use Rattle.checking.specs.Promises.{Checks}
-use Rattle.guarantee.specs.LaidOut.{Listed, LaidBundle, Placed, unclaimed, claimed, strengthen as strengthens, round as rounds, split as splits, number as numbers, stride as strides, PlacedTimes, none as nones, more as mores, LaidProof, LaidOut}
+use Rattle.guarantee.specs.LaidOut.{Listed, LaidBundle, Placed, unclaimed, claimed, strengthen as strengthens, round as rounds, split as splits, number as numbers, stride as strides, PlacedTimes, none as nones, more as mores, LaidOut}
 use Rattle.guarantee.specs.Acceptance.{Checkable}
 use Rattle.guarantee.specs.Soundness.{Meaning, Faithful, Delivered, NotesPassedOver, Soundness}
 use Rattle.guarantee.proofs.Acceptance.{of-editions, is-checkable, leaves}

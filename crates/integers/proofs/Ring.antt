@@ -4,7 +4,7 @@ use Prim.Native.Nat.{ℕ, suc, _+_, _*_}
 use native.Mathlib.Omega.{arith}
 use lib.IntN.{ℤ, pos, negsuc, negℤ, subℕ, _+ℤ_, _*ℤ_}
 use Rattle.integers.specs.Linear.{pp, np}
-use Rattle.integers.proofs.Differences.{add-pn, neg-pn, mul-pn, eq-pn, pn-eq, sub-pn}
+use Rattle.integers.proofs.Differences.{add-pn, neg-pn, mul-pn, eq-pn, sub-pn}
 
 -- z is `up − dn`
 pub record Rep (z : ℤ) : Type 0 where
@@ -37,9 +37,6 @@ _⊗_ {a} {b} p q = record { up = p .up * q .up + p .dn * q .dn; dn = p .up * q 
 
 pub ring : {a b : ℤ} (p : Rep a) (q : Rep b) → p .up + q .dn ≡ q .up + p .dn → a ≡ b
 ring {a} {b} p q h = eq-pn a b (omega (arith, p .fact, q .fact))
-
-pub eqof : {a b : ℤ} (p : Rep a) (q : Rep b) → a ≡ b → p .up + q .dn ≡ q .up + p .dn
-eqof p q h = omega (arith, p .fact, q .fact, pn-eq h)
 
 abbrev pub diff : (a b : ℕ) → Rep (subℕ a b)
 diff a b = record { up = a; dn = b; fact = omega (arith, sub-pn a b) }

@@ -6,7 +6,7 @@ use native.Mathlib.Omega.{arith}
 use lib.IntN.{ℤ}
 use lib.ListN.{length, getD, set}
 use lib.Seq.{getD-set-same}
-use Rattle.forms.specs.Forms.{≤0, =0, A, B, plain, apart, Line}
+use Rattle.forms.specs.Forms.{≤0, =0, A, B, plain, Line}
 use Rattle.calculus.specs.Rules.{_▷_}
 use Rattle.lines.specs.Parts.{Agree}
 use Rattle.forms.specs.Flat.{kindOf, lineKindOf}
@@ -22,24 +22,12 @@ pub equality-byte : kindOf 1 ≡ =0
 unfolding kindOf
 equality-byte = refl
 
--- The kind that a store at n gives line n.
-pub kind-stored : (kinds : List ℕ) (n b : ℕ) → n < length kinds → kindOf (getD (set kinds n b) n 0) ≡ kindOf b
-kind-stored kinds n b h = ap kindOf (getD-set-same kinds n b 0 h)
-
--- ---- kinds of lines by their bytes: the two that rows make, and a constraint t ≠ 0 of A and of B
+-- ---- the kinds of line that rows make, by their bytes
 pub plain-byte : (b : ℕ) → b ≤ 1 → lineKindOf b ≡ plain (kindOf b)
 unfolding lineKindOf
 plain-byte zero h = refl
 plain-byte (suc zero) h = refl
 plain-byte (suc (suc b)) h = absurd (omega arith)
-
-pub apart-A-byte : lineKindOf 2 ≡ apart A
-unfolding lineKindOf
-apart-A-byte = refl
-
-pub apart-B-byte : lineKindOf 3 ≡ apart B
-unfolding lineKindOf
-apart-B-byte = refl
 
 -- The kind that a store of 0 or 1 at n gives line n.
 pub plain-stored : (kinds : List ℕ) (n b : ℕ) → n < length kinds → b ≤ 1 → lineKindOf (getD (set kinds n b) n 0) ≡ plain (kindOf b)

@@ -212,9 +212,6 @@ pub mix-zero : (f : ℤ) (t : Form) → f · t ⊞ pos 0 · t ≡ f · t
 unfolding _⊞_ _·_
 mix-zero f t = form-ext (sums-zero f (t .coeffs)) (add-zero-mul (f *ℤ t .d) (t .d))
 
-pub mix-copy : (t : Form) → pos 1 · t ⊞ pos 0 · t ≡ t
-mix-copy t = mix-zero (pos 1) t ∙ one-form t
-
 -- The numbers of the branch's lines are terms, whatever stands behind these lines.
 pub terms : {K : ℕ} {buf buf′ : List ℤ} {f : ℤ} {i : ℕ} {g : ℤ} {j n a b d w : ℕ} → LineTerms K buf f i g j n → Agree (n * size K) buf buf′
     → a + w ≤ n * size K → b + w ≤ n * size K → n * size K ≤ d → d + w ≤ length buf′ → Terms buf′ f a g b d w

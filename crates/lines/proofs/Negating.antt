@@ -14,13 +14,12 @@ use Rattle.forms.specs.Edition.{edition1}
 use Rattle.forms.specs.Forms.{Form, Kind, ≤0, LineKind, plain, Line, line, neg, _·_, _plus_, small, every}
 use Rattle.calculus.specs.Rules.{inRange}
 use Rattle.lines.specs.Parts.{Agree}
-use Rattle.lines.proofs.Parts.{agree-getD}
 use Rattle.forms.specs.Flat.{lineKindOf, formIn}
 use Rattle.lines.specs.Buffer.{size, lineIn, times, mixed, Mixes, Bounded, Negated, LineCopy, LineNegated, Raised, mixedLine, negatedLine}
 use Rattle.lines.proofs.Lines.{lineAs, before, line-ext, bounded-same}
 use Rattle.lines.proofs.Mixing.{mixed-range, mixes-line}
 use Rattle.lines.proofs.Range.{and-both, bounded-more, bounded-line}
-use Rattle.lines.proofs.Starting.{times-line, times-room, length-new, new-keeps, new-line, new-raised, tested-both, terms-within, raised-range, none-stored}
+use Rattle.lines.proofs.Starting.{times-line, times-room, length-new, new-keeps, new-line, new-raised, terms-within, raised-range, none-stored}
 
 -- ---- -z is as large as z
 abs-neg : (z : ℤ) → natAbs (negsuc 0 *ℤ z) ≡ natAbs z
@@ -77,19 +76,10 @@ module _ {K : ℕ} {buf : List ℤ} {i n : ℕ} (p : LineCopy K buf i n) where
 pub negated-raised : {K : ℕ} {buf : List ℤ} {i n x y : ℕ} → LineNegated K buf i n x y → (buf′ : List ℤ) → buf′ ≡ mixedLine K (negsuc 0) i (pos 0) i n buf → (n * size K + size K ≤ length buf′) × Raised K buf′ n x y
 negated-raised {x = x} {y = y} p buf′ e = rw e (times-room (p .copy) (negsuc 0), new-raised (p .copy) (negsuc 0) x y (p .fits .t) (p .fits .tA))
 
--- ---- line i may be negated and raised: by a test of its two constant terms, where the new line is in range, in every buffer that keeps the line, and by less
-pub neg-fits : {K : ℕ} {buf : List ℤ} {i x y : ℕ} {r : Bool} → r ≡ small (edition1 .range) (negsuc 0 *ℤ formIn K buf (i * size K) .d +ℤ pos x) && small (edition1 .range) (negsuc 0 *ℤ formIn K buf (i * size K + (K + 1)) .d +ℤ pos y) → r ≡ true → Negated K buf i x y
-neg-fits e h = let w = tested-both e h in record { t = w .0; tA = w .1 }
-
+-- ---- line i may be negated and raised: where the new line is in range, and by less
 pub neg-line : (K : ℕ) (kinds : List ℕ) (buf : List ℤ) (i x y : ℕ) (k : Kind) → T (inRange (edition1 .range) (line k (neg (lineIn K kinds buf i .t) plus x) (neg (lineIn K kinds buf i .tA) plus y))) → Negated K buf i x y
 unfolding lineIn _·_
 neg-line K kinds buf i x y k h = let w = terms-within x y k (neg (lineIn K kinds buf i .t)) (neg (lineIn K kinds buf i .tA)) h in record { t = w .0; tA = w .1 }
-
-pub neg-same : {K : ℕ} {buf buf′ : List ℤ} {i n x y : ℕ} → Agree (n * size K) buf buf′ → i < n → Negated K buf i x y → Negated K buf′ i x y
-neg-same {K} {i = i} a h r = record {
-  t = rw (sym (agree-getD a (i * size K + K) (pos 0) (omega (arith, before K h)))) (r .t);
-  tA = rw (sym (agree-getD a (i * size K + (K + 1) + K) (pos 0) (omega (arith, before K h)))) (r .tA);
-}
 
 pub neg-less : {K : ℕ} {buf : List ℤ} {i n x y z : ℕ} → Bounded K buf n → i < n → z ≤ y → Negated K buf i x y → Negated K buf i x z
 neg-less {K} {i = i} b h l r = record {

@@ -8,12 +8,11 @@ use lib.Dec.{T, leb→le, le→leb}
 use lib.IntN.{ℤ, pos, _+ℤ_, _*ℤ_, +ℤ-idr}
 use lib.ListN.{length, getD}
 use Rattle.integers.specs.Magnitude.{Within}
-use Rattle.integers.proofs.Magnitude.{within-between}
 use Rattle.forms.specs.Edition.{edition1}
 use Rattle.forms.specs.Forms.{Form, Kind, ≤0, LineKind, plain, Line, line, _·_, _plus_, small, every}
 use Rattle.calculus.specs.Rules.{inRange}
 use Rattle.lines.specs.Parts.{Agree}
-use Rattle.lines.proofs.Parts.{agree-trans, agree-getD}
+use Rattle.lines.proofs.Parts.{agree-trans}
 use Rattle.forms.specs.Flat.{lineKindOf, formIn}
 use Rattle.lines.specs.Buffer.{size, lineIn, Bounded, Raised, LineCopy, LineStart, mixedLine, raisedLine, copiedLine, startedLine}
 use Rattle.lines.proofs.Lines.{lineAs, before, form-ext, line-ext, bounded-same}
@@ -103,25 +102,10 @@ terms-within x y k t tA h =
       record { abs = leb→le _ _ (and-right (one && all (tA .coeffs)) (small r (tA .d +ℤ pos y)) h) },
     )
 
--- ---- line i may be raised: by a test of its two constant terms, where the raised line is in range, in every buffer that keeps the line, and by less
-pub raised-fits : {K : ℕ} {buf : List ℤ} {i x y : ℕ} {r : Bool} → r ≡ small (edition1 .range) (formIn K buf (i * size K) .d +ℤ pos x) && small (edition1 .range) (formIn K buf (i * size K + (K + 1)) .d +ℤ pos y) → r ≡ true → Raised K buf i x y
-raised-fits e h = let w = tested-both e h in record { t = w .0; tA = w .1 }
-
+-- ---- line i may be raised: where the raised line is in range
 pub raised-line : (K : ℕ) (kinds : List ℕ) (buf : List ℤ) (i x y : ℕ) (k : Kind) → T (inRange (edition1 .range) (line k (lineIn K kinds buf i .t plus x) (lineIn K kinds buf i .tA plus y))) → Raised K buf i x y
 unfolding lineIn
 raised-line K kinds buf i x y k h = let w = terms-within x y k (lineIn K kinds buf i .t) (lineIn K kinds buf i .tA) h in record { t = w .0; tA = w .1 }
-
-pub raised-same : {K : ℕ} {buf buf′ : List ℤ} {i n x y : ℕ} → Agree (n * size K) buf buf′ → i < n → Raised K buf i x y → Raised K buf′ i x y
-raised-same {K} {i = i} a h r = record {
-  t = rw (sym (agree-getD a (i * size K + K) (pos 0) (omega (arith, before K h)))) (r .t);
-  tA = rw (sym (agree-getD a (i * size K + (K + 1) + K) (pos 0) (omega (arith, before K h)))) (r .tA);
-}
-
-pub raised-less : {K : ℕ} {buf : List ℤ} {i n x y z : ℕ} → Bounded K buf n → i < n → z ≤ y → Raised K buf i x y → Raised K buf i x z
-raised-less {K} {i = i} b h l r = record {
-  t = r .t;
-  tA = within-between l (b .small (i * size K + (K + 1) + K) (omega (arith, before K h))) (r .tA);
-}
 
 -- ---- ranges
 -- A raised line is in range if the two constant terms that are raised are.

@@ -1,7 +1,7 @@
 -- The lines of a branch in one flat buffer. With K constants a form has K + 1 numbers, the coefficients first and d last; line i has its t and then its tA. Assumes nothing.
 use mathlib.Core.Path.{_≡_}
 use mathlib.Core.List.{List, [], map}
-use mathlib.Core.Bool.{Bool, true, false}
+use mathlib.Core.Bool.{Bool, true}
 use Prim.Native.Nat.{ℕ, zero, suc, _+_, _*_, _<_, _≤_}
 use lib.ListN.{length, getD, set}
 use lib.Seq.{paste}

@@ -18,7 +18,7 @@ use Rattle.fields.specs.declared.Position.{Position}
 use Rattle.fields.specs.Answers.{refusalAt, accepted}
 use Rattle.fields.specs.Fields.{Field, item}
 use Rattle.fields.specs.Header.{headerTag, known}
-use Rattle.fields.proofs.Results.{Gives, gives-refused, gives-accepted, weaken, bind, gives-need, test, finds, binds, need-yes, needs, found-some}
+use Rattle.fields.proofs.Results.{Gives, gives-accepted, bind, test, finds, binds, needs, found-some}
 use Rattle.fields.proofs.HeaderLaid.{by-tag}
 use Rattle.proof.specs.Entries.{EntryTag, combineTag, reduceTag, scaleTag, strengthenTag, numberTag, strideTag, roundTag, splitTag, claimTag, entryTagged, inPlace, sizeOf, entryFrom, entry}
 use Rattle.proof.specs.Rows.{equals, sameForm, states}

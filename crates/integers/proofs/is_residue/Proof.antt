@@ -1,6 +1,5 @@
 -- `integers::is_residue` meets its contract. Assumes nothing.
 use mathlib.Core.Path.{_≡_}
-use lib.IntN.{ℤ}
 use mir.Syntax.{w64}
 use mir.Val.{toZ, ofZ}
 use mir.ValLaws.{toZ-ofZ}

@@ -1,6 +1,5 @@
 -- `lines::start_line` meets its contract. Assumes nothing.
 use mathlib.Core.Path.{_∙_, ap}
-use native.Mathlib.Omega.{arith}
 use Rattle.lines.specs.Buffer.{raisedLine, startedLine}
 use Rattle.lines.proofs.Starting.{copy-raised}
 use borrow.Author.Needs.{needs}

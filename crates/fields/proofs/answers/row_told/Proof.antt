@@ -1,7 +1,6 @@
 -- `fields::answers::row_told` meets its contract. Assumes nothing.
 use borrow.Author.Needs.{needs}
 use borrow.Author.Tests.{eq-eqb, ne-eqb}
-use native.Mathlib.Omega.{arith}
 use mathlib.Core.Path.{sym, _∙_}
 use Rattle.fields.specs.Answers.{rowTold}
 use Rattle.fields.proofs.answers.row_told.Statement.{statement}

@@ -1,8 +1,7 @@
 -- `rows::entries::line_at` meets its contract: the edition's width is 1 in edition 1 and 2 after it. Assumes nothing.
-use mathlib.Core.Path.{_≡_, _∙_, sym}
+use mathlib.Core.Path.{_≡_, _∙_}
 use Prim.Native.Nat.{ℕ}
 use native.Mathlib.Omega.{arith}
-use borrow.Author.Needs.{needs}
 use borrow.Author.Tests.{eq-eqb, ne-eqb}
 use Rattle.forms.specs.Edition.{edition}
 use Rattle.forms.proofs.Editions.{lineWidth-by}
