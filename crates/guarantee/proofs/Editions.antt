@@ -38,7 +38,7 @@ use Rattle.proof.specs.Editions.{InFirst, Accepts, limitBehind, lengthsFit, lim
 use Rattle.proof.proofs.Agree.{agrees-refl}
 use Rattle.proof.proofs.Editions.{Starting, starting, field-said, not-read, other-bundle, late-bundle, offices}
 use Rattle.checking.specs.Promises.{Checks}
-use Rattle.guarantee.specs.Editions.{Short, ReadA, ReadBoth, SaysAt, Other, HasLowest, HasMore, EditionsPromised}
+use Rattle.guarantee.specs.Editions.{ShortBundles, ReadA, ReadBoth, SaysAt, Other, HasLowest, HasMore, EditionsPromised}
 use Rattle.guarantee.proofs.Long.{check-1-A, check-1-B, check-1-proof, show-1-A, show-1-B, read-1}
 use Rattle.guarantee.proofs.Wide.{bundle-lowest, bundle-more, write-kind, write-count, wide-1, wide-2}
 
@@ -82,7 +82,7 @@ module _ (A B : List ℕ) where
   unfolding bundles
   other-B r o s = binds _ (A-accepted r) ∙ bind-refused _ (bundle-other fileB (some (r .K)) B o s)
 
-  lowest-A : Short A B → {K at : ℕ} → HasLowest A K at → bundles newestEdition A B ≡ refused (answer 13 fileA at)
+  lowest-A : ShortBundles A B → {K at : ℕ} → HasLowest A K at → bundles newestEdition A B ≡ refused (answer 13 fileA at)
   unfolding bundles agrees
   lowest-A s h = bind-refused _ (bundle-lowest fileA none A tt (s .a) h)
 
@@ -116,11 +116,11 @@ module _ {A B proof output left : List ℕ} {r : WriteResult} (c : Checks A B pr
   unfolding interpolant atMost
   long-B k h = refused-so (needs _ _ _ (le→leb (length A) 8_192 k) ∙ fail _ _ (lt-leb (length B) 8_192 h))
 
-  long-proof : Short A B → 65_536 < length proof → r .answer ≡ answer 1 fileProof 0
+  long-proof : ShortBundles A B → 65_536 < length proof → r .answer ≡ answer 1 fileProof 0
   unfolding interpolant atMost
   long-proof s h = refused-so (needs _ _ _ (le→leb (length A) 8_192 (s .a)) ∙ needs _ _ _ (le→leb (length B) 8_192 (s .b)) ∙ fail _ _ (lt-leb (length proof) 65_536 h))
 
-  module _ (s : Short A B) (p : length proof ≤ 65_536) where
+  module _ (s : ShortBundles A B) (p : length proof ≤ 65_536) where
     bundles-refused : {a : Answer} → bundles newestEdition A B ≡ refused a → r .answer ≡ a
     unfolding interpolant
     bundles-refused e = refused-so (passes _ (short-accepted 8_192 fileA A (s .a)) ∙ passes _ (short-accepted 8_192 fileB B (s .b)) ∙ passes _ (short-accepted 65_536 fileProof proof p) ∙ bind-refused _ e)
@@ -174,7 +174,7 @@ module _ {A B : List ℕ} {line : ℕ} {r : Answer} (c : AnswersShow A B line r)
   unfolding showAnswer shownPart answerOf atMost
   show-long-B k h = c .is ∙ ap answerOf (needs _ _ _ (le→leb (length A) 8_192 k) ∙ fail _ _ (lt-leb (length B) 8_192 h))
 
-  show-by : Short A B → {a : Answer} → bundles newestEdition A B ≡ refused a → r ≡ a
+  show-by : ShortBundles A B → {a : Answer} → bundles newestEdition A B ≡ refused a → r ≡ a
   unfolding showAnswer shownPart answerOf
   show-by s e = c .is ∙ ap answerOf (passes _ (short-accepted 8_192 fileA A (s .a)) ∙ passes _ (short-accepted 8_192 fileB B (s .b)) ∙ bind-refused _ e)
 
@@ -230,19 +230,19 @@ behind-else {r = refused a} file g n = refl
 behind-else {r = accepted x} file g n = plain-else file (n x (g .gives x refl))
 
 module _ (A B proof : List ℕ) where
-  lengths-accepted : Short A B → length proof ≤ 65_536 → lengthsFit A B proof ≡ accepted tt
+  lengths-accepted : ShortBundles A B → length proof ≤ 65_536 → lengthsFit A B proof ≡ accepted tt
   unfolding lengthsFit
   lengths-accepted s p = passes _ (short-accepted 8_192 fileA A (s .a)) ∙ passes _ (short-accepted 8_192 fileB B (s .b)) ∙ short-accepted 65_536 fileProof proof p
 
-  lengths-give : Gives (lengthsFit A B proof) (λ _. Short A B × (length proof ≤ 65_536))
+  lengths-give : Gives (lengthsFit A B proof) (λ _. ShortBundles A B × (length proof ≤ 65_536))
   unfolding lengthsFit
   lengths-give = seq (short-gives 8_192 fileA A) λ a. seq (short-gives 8_192 fileB B) λ b. weaken (short-gives 65_536 fileProof proof) λ _ p. (record { a = a; b = b }, p)
 
-  length-A : Short A B → length proof ≤ 65_536 → Says A 1 → limitA A B proof ≡ 4_096
+  length-A : ShortBundles A B → length proof ≤ 65_536 → Says A 1 → limitA A B proof ≡ 4_096
   unfolding limitA
   length-A s p h = behind A (lengths-accepted s p) h
 
-  length-A-else : ¬ (Short A B × (length proof ≤ 65_536) × Says A 1) → limitA A B proof ≡ 8_192
+  length-A-else : ¬ (ShortBundles A B × (length proof ≤ 65_536) × Says A 1) → limitA A B proof ≡ 8_192
   unfolding limitA
   length-A-else n = behind-else A lengths-give λ _ (s, p) h. n (s, p, h)
 
@@ -318,7 +318,7 @@ editions-promised = record {
   write-other = λ n K kinds numbers output left r c o. write-other c o;
   write-kind = λ n K kinds numbers output left r c k before after kind are held h. write-kind c k before after kind are held h;
   write-count = λ n K kinds numbers output left r c k valid h. write-count c k valid h;
-  write-wide-1 = λ K kinds numbers output left r c k before after z are held h. wide-1 k before after z are c held h;
-  write-wide-2 = λ K kinds numbers output left r c k before after z are held h. wide-2 k before after z are c held h;
+  write-wide-1 = λ K kinds numbers output left r c k before after z are held h. wide-1 before after z are c k held h;
+  write-wide-2 = λ K kinds numbers output left r c k before after z are held h. wide-2 before after z are c k held h;
   test-other = λ formula values r c low high range short n at h s. test-other h s c low high range short;
 }

@@ -1,24 +1,24 @@
 -- 1 comes only for a file that is too long: for every edition, or for edition 1, which it says. Assumes nothing.
 use mathlib.Core.Path.{_≡_, refl, sym, _∙_, ap, subst}
-use mathlib.Core.Logic.{_⊎_, inl, inr}
+use mathlib.Core.Logic.{_⊎_, inl, inr, ⊎-elim}
 use mathlib.Core.Option.{Option, none, some}
 use mathlib.Core.Bool.{Bool, true, false, cond, _&&_}
 use mathlib.Core.List.{List, []}
-use Prim.Native.Nat.{ℕ, zero, suc, _-_, _<_}
+use Prim.Native.Nat.{ℕ, zero, suc, _-_, _≤_, _<_}
 use native.Mathlib.Omega.{arith}
-use borrow.Author.Tests.{leb-false}
+use borrow.Author.Tests.{leb-true, leb-false}
 use lib.Dec.{T, leb, eqb, eqb→eq}
 use lib.ListN.{length}
 use lib.IntN.{ℤ}
 use Rattle.forms.specs.Edition.{Edition, edition, newestEdition}
 use Rattle.forms.specs.Forms.{Form, Side, A, B, Line}
-use Rattle.calculus.specs.Rules.{Row, Derive, Strengthen, CloseNumber, CloseStride, Round, Split, Step, Combine, Reduce, Scale, Entry, row, claim}
+use Rattle.calculus.specs.Rules.{Row, Derive, Strengthen, CloseNumber, CloseStride, Round, Split, Entry, row, claim}
 use Rattle.fields.specs.declared.Answer.{Answer}
 use Rattle.fields.specs.declared.WriteResult.{WriteResult}
 use Rattle.fields.specs.declared.Position.{Position}
 use Rattle.fields.specs.declared.FileKind.{FileKind}
 use Rattle.fields.specs.Answers.{answer, refusalAt, fileA, fileB, fileProof, fileLent, Result, refused, accepted, _>>=_, _>>_, need, found, Written, fit, written}
-use Rattle.fields.specs.Fields.{Field, Fields, ends, cut, _▸_, fields}
+use Rattle.fields.specs.Fields.{Fields, ends, cut, _▸_, fields}
 use Rattle.fields.specs.Header.{headerField, editionField, constantsField, header, finished}
 use Rattle.bundle.specs.Bundle.{Bundle, atMost, constraints, bundleHeader, bundle, bundles}
 use Rattle.bundle.specs.declared.ReadResult.{ReadResult}
@@ -26,61 +26,16 @@ use Rattle.bundle.specs.Layout.{editionSaid, Says}
 use Rattle.bundle.specs.Read.{BundleRead, kindsOf, numbersOf, unread, store, stored, readBundle}
 use Rattle.bundle.specs.Show.{shownPart, answerOf, showAnswer}
 use Rattle.bundle.specs.Promises.{Reads, AnswersShow}
+use Rattle.bundle.proofs.Laid.{Laid, bundle-gives}
 use Rattle.checking.specs.Promises.{Checks}
-use Rattle.proof.specs.Entries.{entry}
-use Rattle.proof.specs.Rows.{lineAt, derived, fitting, inequality, roundable, disequality, byNumber, byStride}
 use Rattle.proof.specs.Check.{Checker, Following, checkRounded, checkSplit, checkRow, checkEntry, checkEntries, checkBranch, checkProof, formulaAtMost, interpolant, checkBy, check}
-use Rattle.proof.proofs.Says.{Says as Tells, says-refused, says-accepted, bind, seq, says-need, test, finds, weaken}
+use Rattle.proof.proofs.Says.{Says as Tells, says-refused, says-accepted, bind, seq, test, finds, weaken}
+use Rattle.proof.proofs.Tree.{derived-says, fitting-says, inequality-says, roundable-says, disequality-says, byNumber-says, byStride-says, entry-says}
+use Rattle.guarantee.specs.Editions.{ShortBundles, ReadA}
 
 -- ---- the proof's fields: none of their refusals is 1
 abbrev Not1 : {X : Type 0} → Result X → Type 0
 Not1 r = Tells (λ (a : Answer). ¬ (a .number ≡ 1)) r (λ _. Unit {0})
-
-module _ (refusal : ℕ → Answer) (h : (n : ℕ) → T (leb 2 n) → ¬ (refusal n .number ≡ 1)) where
-  needs-not1 : (n : ℕ) → T (leb 2 n) → (b : Bool) → Not1 (need (refusal n) b)
-  needs-not1 n t b = weaken (says-need _ b (h n t)) (λ a q. q) (λ _ _. tt)
-
-  finds-not1 : {X : Type 0} (n : ℕ) → T (leb 2 n) → (o : Option X) → Not1 (found (refusal n) o)
-  finds-not1 n t o = weaken (finds _ o (h n t)) (λ a q. q) (λ _ _. tt)
-
-  module _ (ls : List Line) where
-    line-not1 : (i : ℕ) → Not1 (lineAt refusal ls i)
-    unfolding lineAt
-    line-not1 i = finds-not1 10 tt _
-
-    derived-not1 : (s : Step) → Not1 (derived refusal ls s)
-    unfolding derived
-    derived-not1 (Combine i j α β) = bind (line-not1 i) λ s _. bind (line-not1 j) λ t _. test _ _ (h 11 tt) λ _. test _ _ (h 12 tt) λ _. says-accepted tt
-    derived-not1 (Reduce i j α) = bind (line-not1 i) λ s _. bind (line-not1 j) λ t _. bind (finds-not1 11 tt _) λ k _. test _ _ (h 11 tt) λ _. test _ _ (h 12 tt) λ _. says-accepted tt
-    derived-not1 (Scale i α) = bind (line-not1 i) λ t _. bind (finds-not1 11 tt _) λ k _. test _ _ (h 12 tt) λ _. says-accepted tt
-
-    fitting-not1 : (e : Edition) (l : Line) → Not1 (fitting refusal ls e l)
-    unfolding fitting
-    fitting-not1 e l = test _ _ (h 16 tt) λ _. needs-not1 13 tt _
-
-    inequality-not1 : (i : ℕ) → Not1 (inequality refusal ls i)
-    unfolding inequality
-    inequality-not1 i = bind (line-not1 i) λ t _. test _ _ (h 11 tt) λ _. says-accepted tt
-
-    roundable-not1 : (e : Edition) (i g k : ℕ) → Not1 (roundable refusal ls e i g k)
-    unfolding roundable
-    roundable-not1 e i g k = bind (inequality-not1 i) λ t _. test _ _ (h 12 tt) λ _. test _ _ (h 15 tt) λ _. says-accepted tt
-
-    disequality-not1 : (i : ℕ) → Not1 (disequality refusal ls i)
-    unfolding disequality
-    disequality-not1 i = bind (line-not1 i) λ t _. bind (finds-not1 11 tt _) λ σ _. says-accepted tt
-
-    byNumber-not1 : (i : ℕ) → Not1 (byNumber refusal ls i)
-    unfolding byNumber
-    byNumber-not1 i = bind (line-not1 i) λ t _. bind (finds-not1 11 tt _) λ k _. test _ _ (h 15 tt) λ _. says-accepted tt
-
-    byStride-not1 : (i g : ℕ) → Not1 (byStride refusal ls i g)
-    unfolding byStride
-    byStride-not1 i g = bind (line-not1 i) λ t _. test _ _ (h 11 tt) λ _. test _ _ (h 12 tt) λ _. test _ _ (h 15 tt) λ _. says-accepted tt
-
-  entry-not1 : (e : Edition) (K : ℕ) (made : Option Line) (f : Field) → Not1 (entry e K refusal made f)
-  unfolding entry
-  entry-not1 e K made f = test _ _ (h 3 tt) λ _. bind (finds-not1 4 tt _) λ x _. test _ _ (h 4 tt) λ _. test _ _ (h 6 tt) λ _. says-accepted tt
 
 abbrev Never1 : Checker → Type 0
 Never1 checker = (p : Position) (rows : ℕ) (ls : List Line) (fs : Fields) → Not1 (checker p rows ls fs)
@@ -99,9 +54,9 @@ module _ (e : Edition) (refusal : ℕ → Answer) (h : (n : ℕ) → T (leb 2 n)
   split-not1 : (checker : Checker) → Never1 checker → (σ : Side) (ls : List Line) (t tA : Form) (rows : ℕ) (fs : Fields) → Not1 (checkSplit e refusal checker σ ls t tA rows fs)
   unfolding checkSplit
   split-not1 checker d A ls t tA rows fs =
-      seq (fitting-not1 refusal h ls e _) (seq (fitting-not1 refusal h ls e _) (bind (d _ _ _ fs) λ first _. bind (d _ _ _ (first .after)) λ second _. says-accepted tt))
+      seq (fitting-says refusal h ls e _) (seq (fitting-says refusal h ls e _) (bind (d _ _ _ fs) λ first _. bind (d _ _ _ (first .after)) λ second _. says-accepted tt))
   split-not1 checker d B ls t tA rows fs =
-      seq (fitting-not1 refusal h ls e _) (seq (fitting-not1 refusal h ls e _) (bind (d _ _ _ fs) λ first _. bind (d _ _ _ (first .after)) λ second _. says-accepted tt))
+      seq (fitting-says refusal h ls e _) (seq (fitting-says refusal h ls e _) (bind (d _ _ _ fs) λ first _. bind (d _ _ _ (first .after)) λ second _. says-accepted tt))
 
   -- the checker of deeper branches, and what is done with it
   deeper-not1 : {X : Type 0} (deeper : Option Checker) → NeverIn deeper → {k : Checker → Result X} → ((c : Checker) → Never1 c → Not1 (k c)) → Not1 (found (refusal 17) deeper >>= k)
@@ -112,19 +67,19 @@ module _ (e : Edition) (refusal : ℕ → Answer) (h : (n : ℕ) → T (leb 2 n)
   module _ (K : ℕ) (deeper : Option Checker) (p : NeverIn deeper) (next : Following) (q : (rows : ℕ) (made : Option Line) (ls : List Line) → Not1 (next rows made ls)) (rows : ℕ) (ls : List Line) (fs : Fields) where
     row-not1 : (r : Row) → Not1 (checkRow e K deeper next refusal rows ls fs r)
     unfolding checkRow
-    row-not1 (Derive s) = bind (derived-not1 refusal h ls s) λ l _. seq (fitting-not1 refusal h ls e l) (q _ _ _)
-    row-not1 (Strengthen i) = bind (inequality-not1 refusal h ls i) λ l _. deeper-not1 deeper p λ branch d. seq (fitting-not1 refusal h ls e _)
+    row-not1 (Derive s) = bind (derived-says refusal h ls s) λ l _. seq (fitting-says refusal h ls e l) (q _ _ _)
+    row-not1 (Strengthen i) = bind (inequality-says refusal h ls i) λ l _. deeper-not1 deeper p λ branch d. seq (fitting-says refusal h ls e _)
         (bind (d _ _ _ fs) λ first _. bind (d _ _ _ (first .after)) λ second _. bind (d _ _ _ (second .after)) λ third _. says-accepted tt)
-    row-not1 (Round i g k) = bind (roundable-not1 refusal h ls e i g k) λ l _. deeper-not1 deeper p λ branch d. seq (fitting-not1 refusal h ls e _)
+    row-not1 (Round i g k) = bind (roundable-says refusal h ls e i g k) λ l _. deeper-not1 deeper p λ branch d. seq (fitting-says refusal h ls e _)
         (bind (d _ _ _ fs) λ first _. bind (rounded-not1 branch d ls l rows g k 0 (k - 1) (first .rows) (first .after)) λ others _. says-accepted tt)
-    row-not1 (Split i) = bind (disequality-not1 refusal h ls i) λ (σ, l) _. deeper-not1 deeper p λ branch d. split-not1 branch d σ ls (l .t) (l .tA) rows fs
-    row-not1 (CloseNumber i) = bind (byNumber-not1 refusal h ls i) λ I _. says-accepted tt
-    row-not1 (CloseStride i g) = bind (byStride-not1 refusal h ls i g) λ I _. says-accepted tt
+    row-not1 (Split i) = bind (disequality-says refusal h ls i) λ (σ, l) _. deeper-not1 deeper p λ branch d. split-not1 branch d σ ls (l .t) (l .tA) rows fs
+    row-not1 (CloseNumber i) = bind (byNumber-says refusal h ls i) λ I _. says-accepted tt
+    row-not1 (CloseStride i g) = bind (byStride-says refusal h ls i g) λ I _. says-accepted tt
 
     checkEntry-not1 : (made : Option Line) (x : Entry) → Not1 (checkEntry e K deeper next refusal rows made ls fs x)
     unfolding checkEntry
     checkEntry-not1 made (row r) = test _ _ (h 18 tt) λ _. row-not1 r
-    checkEntry-not1 made (claim t tA) = bind (finds-not1 refusal h 4 tt made) λ l _. test _ _ (h 14 tt) λ _. q _ _ _
+    checkEntry-not1 made (claim t tA) = bind (finds _ made (h 4 tt)) λ l _. test _ _ (h 14 tt) λ _. q _ _ _
 
 above-1 : (n : ℕ) → T (leb 2 n) → ¬ (n ≡ 1)
 above-1 n t e = subst (λ (n : ℕ). T (leb 2 n)) e t
@@ -134,7 +89,7 @@ module _ (e : Edition) (K : ℕ) where
   unfolding checkEntries
   entries-not1 p deeper d (ends at) rows made ls = says-refused (above-1 20 tt)
   entries-not1 p deeper d (cut at) rows made ls = says-refused (above-1 2 tt)
-  entries-not1 p deeper d (f ▸ fs) rows made ls = bind (entry-not1 (refusalAt p rows (f .at)) above-1 e K made f) λ x _.
+  entries-not1 p deeper d (f ▸ fs) rows made ls = bind (entry-says e K (refusalAt p rows (f .at)) made f above-1) λ x _.
       checkEntry-not1 e (refusalAt p rows (f .at)) above-1 K deeper d (checkEntries e K p deeper fs) (entries-not1 p deeper d fs) rows ls fs made x
 
   branch-not1 : (room : ℕ) → Never1 (checkBranch e K room)
@@ -188,17 +143,6 @@ constraints-not1 file e K n (f ▸ fs) = test _ _ (above-1 3 tt) λ _. bind (fin
     bind (constraints-not1 file e K (suc n) fs) λ cs _. says-accepted tt
 
 -- ---- a refusal by 1 has a reason, by its file
--- A bundle is too long, for every edition or for edition 1.
-abbrev pub Long : List ℕ → Type 0
-Long bytes = (8_192 < length bytes) ⊎ (Says bytes 1 × (4_096 < length bytes))
-
-long-for : (bytes : List ℕ) (n : ℕ) → Says bytes n → leb (length bytes) (edition n .bundleBytes) ≡ false → Long bytes
-long-for bytes n s e = go (eqb n 1) refl e
-  where
-    go : (b : Bool) → eqb n 1 ≡ b → leb (length bytes) (cond b 4_096 8_192) ≡ false → Long bytes
-    go true q e = inr (s ∙ ap some (eqb→eq n 1 (rw q tt)), leb-false _ _ e)
-    go false q e = inl (leb-false _ _ e)
-
 module _ (Why : ℕ → Type 0) where
   abbrev One : Answer → Type 0
   One a = a .number ≡ 1 → Why (a .file)
@@ -207,112 +151,133 @@ module _ (Why : ℕ → Type 0) where
   never1 : {X : Type 0} {P : X → Type 0} {r : Result X} → Tells (λ (a : Answer). ¬ (a .number ≡ 1)) r P → Tells One r P
   never1 s = weaken s (λ a q e. absurd (q e)) (λ _ u. u)
 
-  at-most : (limit file : ℕ) (bytes : List ℕ) → (limit < length bytes → Why file) → Tells One (atMost limit file bytes) (λ _. Unit {0})
-  unfolding atMost need
-  at-most limit file bytes h = go (leb (length bytes) limit) refl
+  -- a length is tested, and what follows knows it
+  at-most : {X : Type 0} {P : X → Type 0} {r : Result X} (limit file : ℕ) (bytes : List ℕ) → (limit < length bytes → Why file) → (length bytes ≤ limit → Tells One r P) → Tells One (atMost limit file bytes >> r) P
+  unfolding atMost need _>>_
+  at-most {X} {P} {r} limit file bytes h k = go (leb (length bytes) limit) refl
     where
-      go : (b : Bool) → leb (length bytes) limit ≡ b → Tells One (need (answer 1 file 0) b) (λ _. Unit {0})
-      go true q = says-accepted tt
+      go : (b : Bool) → leb (length bytes) limit ≡ b → Tells One (need (answer 1 file 0) b >> r) P
+      go true q = k (leb-true _ _ q)
       go false q = says-refused λ _. h (leb-false _ _ q)
 
-  module _ (file : ℕ) (given : Option ℕ) (bytes : List ℕ) (h : Long bytes → Why file) where
-    fits-one : (n : ℕ) → Says bytes n → Tells One (atMost (edition n .bundleBytes) file bytes) (λ _. Unit {0})
-    unfolding atMost need
-    fits-one n s = go (leb (length bytes) (edition n .bundleBytes)) refl
+  -- a bundle that is not too long for every edition
+  module _ (file : ℕ) (given : Option ℕ) (bytes : List ℕ) (short : length bytes ≤ 8_192) (h : Says bytes 1 → 4_096 < length bytes → Why file) where
+    late : (n : ℕ) → Says bytes n → edition n .bundleBytes < length bytes → Why file
+    late n s l = go (eqb n 1) refl l
       where
-        go : (b : Bool) → leb (length bytes) (edition n .bundleBytes) ≡ b → Tells One (need (answer 1 file 0) b) (λ _. Unit {0})
-        go true q = says-accepted tt
-        go false q = says-refused λ _. h (long-for bytes n s q)
+        go : (b : Bool) → eqb n 1 ≡ b → cond b 4_096 8_192 < length bytes → Why file
+        go true q l = h (s ∙ ap some (eqb→eq n 1 (rw q tt))) l
+        go false q l = absurd (omega arith)
 
     header-one : Tells One (bundleHeader newestEdition file given bytes) (λ _. Unit {0})
     unfolding bundleHeader
-    header-one = bind (never1 (edition-not1 FileKind.Bundle file newestEdition (fields bytes))) λ x s. seq (fits-one (x .0) s) (bind (never1 (constants-not1 FileKind.Bundle file given (x .1))) λ y _. says-accepted tt)
+    header-one = bind (never1 (edition-not1 FileKind.Bundle file newestEdition (fields bytes))) λ x s. at-most _ file bytes (late (x .0) s) λ _. bind (never1 (constants-not1 FileKind.Bundle file given (x .1))) λ y _. says-accepted tt
 
-    bundle-one : Tells One (bundle newestEdition file given bytes) (λ _. Unit {0})
+    constraints-one : Tells One (bundle newestEdition file given bytes) (λ _. Unit {0})
     unfolding bundle
-    bundle-one = bind header-one λ x _. bind (never1 (constraints-not1 file (edition (x .number)) (x .K) 0 (x .rest))) λ cs _. says-accepted tt
+    constraints-one = bind header-one λ x _. bind (never1 (constraints-not1 file (edition (x .number)) (x .K) 0 (x .rest))) λ cs _. says-accepted tt
 
-  module _ (A B : List ℕ) (a : Long A → Why fileA) (b : Long B → Why fileB) where
-    bundles-one : Tells One (bundles newestEdition A B) (λ _. Unit {0})
-    unfolding bundles
-    bundles-one = bind (bundle-one fileA none A a) λ x _. bind (bundle-one fileB (some (x .K)) B b) λ y _. says-accepted tt
-
-    shown-one : (line : ℕ) → Tells One (shownPart newestEdition A B line) (λ _. Unit {0})
-    unfolding shownPart
-    shown-one line = seq (at-most _ fileA A (λ h. a (inl h))) (seq (at-most _ fileB B (λ h. b (inl h))) (bind bundles-one λ x _. weaken (finds _ _ (λ e. absurd (omega arith))) (λ _ q. q) (λ _ _. tt)))
-
-    interpolant-one : (proof : List ℕ) → (65_536 < length proof → Why fileProof) → Why fileLent → Tells One (interpolant newestEdition A B proof) (λ _. Unit {0})
-    unfolding interpolant formulaAtMost
-    interpolant-one proof p l = seq (at-most _ fileA A (λ h. a (inl h))) (seq (at-most _ fileB B (λ h. b (inl h))) (seq (at-most _ fileProof proof p)
-        (bind bundles-one λ x _. bind (never1 (proof-not1 newestEdition (x .0) (x .1) (fields proof))) λ I _. test _ _ (λ _. l) λ _. says-accepted tt)))
+    bundle-one : Tells One (bundle newestEdition file given bytes) (Laid newestEdition given bytes)
+    bundle-one = record { refusal = constraints-one .refusal; value = bundle-gives newestEdition file given bytes .gives }
 
 -- ---- the operations
+-- A and B are too long: for every edition, or, where they come to be read, for edition 1.
+module _ (A B proof : List ℕ) where
+  abbrev LongA : Type 0
+  LongA = (8_192 < length A) ⊎ (ShortBundles A B × (length proof ≤ 65_536) × Says A 1 × (4_096 < length A))
+
+  abbrev LongB : Type 0
+  LongB = ((length A ≤ 8_192) × (8_192 < length B)) ⊎ (ReadA A B × (length proof ≤ 65_536) × Says B 1 × (4_096 < length B))
+
 -- The reasons of check and show: a lent output (file 4) needs none.
 record Reasons (A B proof : List ℕ) (file : ℕ) : Type 0 where
-  ofA : file ≡ fileA → Long A
-  ofB : file ≡ fileB → Long B
-  ofProof : file ≡ fileProof → 65_536 < length proof
+  ofA : file ≡ fileA → LongA A B proof
+  ofB : file ≡ fileB → LongB A B proof
+  ofProof : file ≡ fileProof → ShortBundles A B × (65_536 < length proof)
 
 module _ (A B proof : List ℕ) where
-  reason-A : Long A → Reasons A B proof fileA
+  reason-A : LongA A B proof → Reasons A B proof fileA
   reason-A h = record { ofA = λ _. h; ofB = λ e. absurd (omega arith); ofProof = λ e. absurd (omega arith) }
 
-  reason-B : Long B → Reasons A B proof fileB
+  reason-B : LongB A B proof → Reasons A B proof fileB
   reason-B h = record { ofA = λ e. absurd (omega arith); ofB = λ _. h; ofProof = λ e. absurd (omega arith) }
 
-  reason-proof : 65_536 < length proof → Reasons A B proof fileProof
+  reason-proof : ShortBundles A B × (65_536 < length proof) → Reasons A B proof fileProof
   reason-proof h = record { ofA = λ e. absurd (omega arith); ofB = λ e. absurd (omega arith); ofProof = λ _. h }
 
   reason-lent : Reasons A B proof fileLent
   reason-lent = record { ofA = λ e. absurd (omega arith); ofB = λ e. absurd (omega arith); ofProof = λ e. absurd (omega arith) }
 
+  abbrev Ones : Answer → Type 0
+  Ones = One (Reasons A B proof)
+
+  bundles-one : ShortBundles A B → length proof ≤ 65_536 → Tells Ones (bundles newestEdition A B) (λ _. Unit {0})
+  unfolding bundles
+  bundles-one s p = bind (bundle-one _ fileA none A (s .a) λ e l. reason-A (inr (s, p, e, l))) λ x f.
+      let read : ReadA A B = record { short = s; nA = x .edition; K = x .K; a = x .constraints; statesA = f .file } in
+      bind (bundle-one _ fileB (some (x .K)) B (s .b) λ e l. reason-B (inr (read, p, e, l))) λ y _. says-accepted tt
+
+  shown-one : length proof ≤ 65_536 → (line : ℕ) → Tells Ones (shownPart newestEdition A B line) (λ _. Unit {0})
+  unfolding shownPart
+  shown-one p line = at-most _ _ fileA A (λ h. reason-A (inl h)) λ a. at-most _ _ fileB B (λ h. reason-B (inl (a, h))) λ b.
+      bind (bundles-one (record { a = a; b = b }) p) λ x _. weaken (finds _ _ (λ e. absurd (omega arith))) (λ _ q. q) (λ _ _. tt)
+
+  interpolant-one : Tells Ones (interpolant newestEdition A B proof) (λ _. Unit {0})
+  unfolding interpolant formulaAtMost
+  interpolant-one = at-most _ _ fileA A (λ h. reason-A (inl h)) λ a. at-most _ _ fileB B (λ h. reason-B (inl (a, h))) λ b.
+      at-most _ _ fileProof proof (λ h. reason-proof (record { a = a; b = b }, h)) λ p.
+      bind (bundles-one (record { a = a; b = b }) p) λ x _. bind (never1 _ (proof-not1 newestEdition (x .0) (x .1) (fields proof))) λ I _. test _ _ (λ _. reason-lent) λ _. says-accepted tt
+
   -- what is left, by the bytes or the refusal
-  left-one : (r : Result (List ℕ)) (output : List ℕ) → Tells (One (Reasons A B proof)) r (λ _. Unit {0}) → One (Reasons A B proof) (written r output .answer)
+  left-one : (r : Result (List ℕ)) (output : List ℕ) → Tells Ones r (λ _. Unit {0}) → Ones (written r output .answer)
   unfolding written fit
   left-one (refused a) output s = s .refusal a refl
   left-one (accepted bytes) output s = go (leb (length bytes) (length output))
     where
-      go : (b : Bool) → One (Reasons A B proof) (fit output b bytes .answer)
+      go : (b : Bool) → Ones (fit output b bytes .answer)
       go true e = absurd (omega arith)
       go false e = absurd (omega arith)
 
-  check-one : (output : List ℕ) → One (Reasons A B proof) (check A B proof output .answer)
+  check-one : (output : List ℕ) → Ones (check A B proof output .answer)
   unfolding check checkBy
-  check-one output = left-one _ output (bind (interpolant-one (Reasons A B proof) A B reason-A reason-B proof reason-proof reason-lent) λ x _. says-accepted tt)
+  check-one output = left-one _ output (bind interpolant-one λ x _. says-accepted tt)
 
-  shown-by : {X : Type 0} (r : Result X) → Tells (One (Reasons A B proof)) r (λ _. Unit {0}) → One (Reasons A B proof) (answerOf r)
+  shown-by : {X : Type 0} (r : Result X) → Tells Ones r (λ _. Unit {0}) → Ones (answerOf r)
   unfolding answerOf
   shown-by (refused a) s = s .refusal a refl
   shown-by (accepted x) s = λ e. absurd (omega arith)
 
-  show-one : (line : ℕ) → One (Reasons A B proof) (showAnswer newestEdition A B line)
+  show-one : length proof ≤ 65_536 → (line : ℕ) → Ones (showAnswer newestEdition A B line)
   unfolding showAnswer
-  show-one line = shown-by (shownPart newestEdition A B line) (shown-one (Reasons A B proof) A B reason-A reason-B line)
+  show-one p line = shown-by (shownPart newestEdition A B line) (shown-one p line)
 
 module _ {A B proof output left : List ℕ} {r : WriteResult} (c : Checks A B proof output left r) (one : r .answer .number ≡ 1) where
   check-why : Reasons A B proof (r .answer .file)
-  check-why = subst (λ (w : Written). One (Reasons A B proof) (w .answer)) (sym (c .is)) (check-one A B proof output) one
+  check-why = subst (λ (w : Written). Ones A B proof (w .answer)) (sym (c .is)) (check-one A B proof output) one
 
-  pub check-1-A : r .answer .file ≡ fileA → Long A
+  pub check-1-A : r .answer .file ≡ fileA → LongA A B proof
   check-1-A f = check-why .ofA f
 
-  pub check-1-B : r .answer .file ≡ fileB → Long B
+  pub check-1-B : r .answer .file ≡ fileB → LongB A B proof
   check-1-B f = check-why .ofB f
 
-  pub check-1-proof : r .answer .file ≡ fileProof → 65_536 < length proof
+  pub check-1-proof : r .answer .file ≡ fileProof → ShortBundles A B × (65_536 < length proof)
   check-1-proof f = check-why .ofProof f
 
 module _ {A B : List ℕ} {line : ℕ} {r : Answer} (c : AnswersShow A B line r) (one : r .number ≡ 1) where
   show-why : Reasons A B [] (r .file)
-  show-why = subst (One (Reasons A B [])) (sym (c .is)) (show-one A B [] line) one
+  show-why = subst (Ones A B []) (sym (c .is)) (show-one A B [] (omega arith) line) one
 
-  pub show-1-A : r .file ≡ fileA → Long A
-  show-1-A f = show-why .ofA f
+  pub show-1-A : r .file ≡ fileA → (8_192 < length A) ⊎ (ShortBundles A B × Says A 1 × (4_096 < length A))
+  show-1-A f = ⊎-elim inl (λ (s, p, e, l). inr (s, e, l)) (show-why .ofA f)
 
-  pub show-1-B : r .file ≡ fileB → Long B
-  show-1-B f = show-why .ofB f
+  pub show-1-B : r .file ≡ fileB → ((length A ≤ 8_192) × (8_192 < length B)) ⊎ (ReadA A B × Says B 1 × (4_096 < length B))
+  show-1-B f = ⊎-elim inl (λ (a, p, e, l). inr (a, e, l)) (show-why .ofB f)
 
--- what is read, in whatever file it is refused
+-- what is read, in whatever file it is refused: too long for every edition, or for edition 1
+abbrev Long : List ℕ → Type 0
+Long bytes = (8_192 < length bytes) ⊎ (Says bytes 1 × (4_096 < length bytes))
+
 module _ (file kinds : List ℕ) (numbers : List ℤ) where
   stored-one : (r : Result Bundle) → Tells (One (λ _. Long file)) r (λ _. Unit {0}) → One (λ _. Long file) (stored kinds numbers r .answer)
   unfolding stored store unread
@@ -325,7 +290,7 @@ module _ (file kinds : List ℕ) (numbers : List ℤ) where
 
   read-one : One (λ _. Long file) (readBundle kinds numbers newestEdition file .answer)
   unfolding readBundle
-  read-one = stored-one _ (seq (at-most (λ _. Long file) _ fileA file (λ h. inl h)) (bundle-one (λ _. Long file) fileA none file (λ h. h)))
+  read-one = stored-one _ (at-most (λ _. Long file) _ fileA file (λ h. inl h) λ s. weaken (bundle-one (λ _. Long file) fileA none file s λ e l. inr (e, l)) (λ _ q. q) (λ _ _. tt))
 
 pub read-1 : {file kinds : List ℕ} {numbers : List ℤ} {kinds′ : List ℕ} {numbers′ : List ℤ} {r : ReadResult} → Reads file kinds numbers kinds′ numbers′ r → r .answer .number ≡ 1 → Long file
 read-1 {file} {kinds} {numbers} c = subst (λ (b : BundleRead). One (λ _. Long file) (b .answer)) (sym (c .is)) (read-one file kinds numbers)

@@ -32,7 +32,7 @@ use Rattle.bundle.specs.Promises.{Writes}
 use Rattle.bundle.proofs.Laid.{kind-known, AllSmall, short-accepted}
 use Rattle.bundle.proofs.Ranging.{every-of}
 use Rattle.proof.proofs.Editions.{Starting, field-said}
-use Rattle.guarantee.specs.Editions.{Starts, HasLowest, HasMore, InLimits, Counted}
+use Rattle.guarantee.specs.Editions.{Starts, HasLowest, HasMore, InLimits, WellCounted}
 use Rattle.guarantee.proofs.Acceptance.{two-held, four-held}
 
 -- ---- in a bundle
@@ -220,24 +220,26 @@ no-four : (z : ℤ) → 2_147_483_647 < natAbs z → holdable 4 z ≡ false
 unfolding holdable small
 no-four z h = stopped (ltb (mag z + mag z) 4_294_967_296) (lt-leb (natAbs z) 2_147_483_647 h)
 
-module _ (n : ℕ) {K : ℕ} {kinds : List ℕ} {numbers : List ℤ} {output left : List ℕ} {r : WriteResult} (c : Writes n K kinds numbers output left r) (low : 1 ≤ n) (high : n ≤ newestEdition) (k : Counted K kinds numbers) where
+module _ (n : ℕ) {K : ℕ} {kinds : List ℕ} {numbers : List ℤ} {output left : List ℕ} {r : WriteResult} (c : Writes n K kinds numbers output left r) (k : WellCounted n K kinds numbers) where
   write-wide : {before : List ℤ} (after : List ℤ) (z : ℤ) → numbers ≡ before ++ z ∷ after → All (λ y. T (holdable (edition n .coefficientWidth) y)) before → holdable (edition n .coefficientWidth) z ≡ false
       → r .answer ≡ answer 13 fileLent (length before)
   unfolding writeBundle bundleBytes written
   write-wide {before} after z are held bad =
+      let l = k .limits in
+      let (first, last) = up-to-2 (l .one-or-two) in
       let e : bundleBytes newestEdition n K kinds numbers ≡ refused (answer 13 fileLent (length before)) =
-      needs _ _ _ (yes-and (leb 1 n) (leb n 2) (le→leb 1 n low) (le→leb n 2 high))
-      ∙ needs _ _ _ (yes-and (leb 1 K) (leb K 16) (le→leb 1 K (k .low)) (le→leb K 16 (k .high)))
-      ∙ needs _ _ _ (le→leb (length kinds) 32 (k .few))
+      needs _ _ _ (yes-and (leb 1 n) (leb n 2) (le→leb 1 n first) (le→leb n 2 last))
+      ∙ needs _ _ _ (yes-and (leb 1 K) (leb K 16) (le→leb 1 K (l .low)) (le→leb K 16 (l .high)))
+      ∙ needs _ _ _ (le→leb (length kinds) 32 (l .few))
       ∙ passes _ (each-accepted _ _ 0 (all-weaken (λ kind h. le→leb kind 2 h) (k .valid)))
       ∙ needs _ _ _ (rw (k .size) (eqb-refl (length kinds * suc K)))
       ∙ then-refused _ (ap (each (λ i. answer 13 fileLent i) (holdable (edition n .coefficientWidth)) 0) are ∙ each-fails (λ i. answer 13 fileLent i) (holdable (edition n .coefficientWidth)) 0 z after held bad)
       ∙ ap (λ (i : ℕ). refused (answer 13 fileLent i)) (zero-add (length before)) in
       ap (λ (w : Written). w .answer) (c .is) ∙ ap (λ (x : Result (List ℕ)). written x output .answer) e
 
-module _ {K : ℕ} {kinds : List ℕ} {numbers : List ℤ} {output left : List ℕ} {r : WriteResult} (k : Counted K kinds numbers) (before after : List ℤ) (z : ℤ) (are : numbers ≡ before ++ z ∷ after) where
-  pub wide-1 : Writes 1 K kinds numbers output left r → All (λ y. mag y ≤ 32_767) before → 32_767 < mag z → r .answer ≡ answer 13 fileLent (length before)
-  wide-1 c held h = write-wide 1 c (omega arith) (omega arith) k after z are (all-weaken two-held held) (no-two z h)
+module _ {K : ℕ} {kinds : List ℕ} {numbers : List ℤ} {output left : List ℕ} {r : WriteResult} (before after : List ℤ) (z : ℤ) (are : numbers ≡ before ++ z ∷ after) where
+  pub wide-1 : Writes 1 K kinds numbers output left r → WellCounted 1 K kinds numbers → All (λ y. mag y ≤ 32_767) before → 32_767 < mag z → r .answer ≡ answer 13 fileLent (length before)
+  wide-1 c k held h = write-wide 1 c k after z are (all-weaken two-held held) (no-two z h)
 
-  pub wide-2 : Writes 2 K kinds numbers output left r → All (λ y. natAbs y ≤ 2_147_483_647) before → 2_147_483_647 < natAbs z → r .answer ≡ answer 13 fileLent (length before)
-  wide-2 c held h = write-wide 2 c (omega arith) (omega arith) k after z are (all-weaken four-held held) (no-four z h)
+  pub wide-2 : Writes 2 K kinds numbers output left r → WellCounted 2 K kinds numbers → All (λ y. natAbs y ≤ 2_147_483_647) before → 2_147_483_647 < natAbs z → r .answer ≡ answer 13 fileLent (length before)
+  wide-2 c k held h = write-wide 2 c k after z are (all-weaken four-held held) (no-four z h)

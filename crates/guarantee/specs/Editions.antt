@@ -1,4 +1,4 @@
--- Edition 2: document 02, point 3. This office beside that of document 01, how long a bundle may be, what an edition that is not read gives, a 33rd constraint, and a number that its edition does not hold. Of what each operation's function ensures. Assumes nothing.
+-- Edition 2: document 02, point 3. This office beside that of document 01, how long a bundle may be, what an edition that is not read gives, a 33rd constraint, a kind or count that is wrong, and a number that its edition does not hold. The offices and the lengths of the definitions, all else of what each operation's function ensures. Assumes nothing.
 -- (That files of both editions are sound, laid out, read and written, and may differ in edition, is in the demands, which speak of both.)
 use mathlib.Core.Path.{_≡_}
 use mathlib.Core.Logic.{_⊎_}
@@ -26,13 +26,13 @@ use Rattle.proof.specs.Editions.{InFirst, Accepts, Offices, limitA, limitB}
 use Rattle.checking.specs.Promises.{Checks}
 
 -- A and B have at most 8,192 bytes each, so that A is read (by check, where the proof too is short enough).
-pub record Short (A B : List ℕ) : Type 0 where
+pub record ShortBundles (A B : List ℕ) : Type 0 where
   pub a : length A ≤ 8_192
   pub b : length B ≤ 8_192
 
 -- And A is a bundle, so that B is read.
 pub record ReadA (A B : List ℕ) : Type 0 where
-  pub short : Short A B
+  pub short : ShortBundles A B
   pub nA : ℕ
   pub K : ℕ
   pub a : List Constraint
@@ -100,11 +100,9 @@ pub record InLimits (n K : ℕ) (kinds : List ℕ) : Type 0 where
   pub high : K ≤ 16
   pub few : length kinds ≤ 32
 
--- What is to be written is right in K, kinds and count: 7, 8 and 24 do not apply.
-pub record Counted (K : ℕ) (kinds : List ℕ) (numbers : List ℤ) : Type 0 where
-  pub low : 1 ≤ K
-  pub high : K ≤ 16
-  pub few : length kinds ≤ 32
+-- And in its kinds and the count of its numbers: 24 does not apply.
+pub record WellCounted (n K : ℕ) (kinds : List ℕ) (numbers : List ℤ) : Type 0 where
+  pub limits : InLimits n K kinds
   pub valid : All (λ kind. kind ≤ 2) kinds
   pub size : length numbers ≡ length kinds * suc K
 
@@ -125,8 +123,8 @@ pub record EditionsPromised : Type 0 where
   pub as-accepted : (A B proof output left : List ℕ) (r : WriteResult) → Checks A B proof output left r → Accepts (checkBy 1 A B proof output)
       → writtenOf r left ≡ checkBy 1 A B proof output
   -- ---- the length that demand 3 means: 4,096 for a bundle in which check reads edition 1, 8,192 for any other
-  pub length-A : (A B proof : List ℕ) → Short A B → length proof ≤ 65_536 → Says A 1 → limitA A B proof ≡ 4_096
-  pub length-A-else : (A B proof : List ℕ) → ¬ (Short A B × (length proof ≤ 65_536) × Says A 1) → limitA A B proof ≡ 8_192
+  pub length-A : (A B proof : List ℕ) → ShortBundles A B → length proof ≤ 65_536 → Says A 1 → limitA A B proof ≡ 4_096
+  pub length-A-else : (A B proof : List ℕ) → ¬ (ShortBundles A B × (length proof ≤ 65_536) × Says A 1) → limitA A B proof ≡ 8_192
   pub length-B : (A B proof : List ℕ) → ReadA A B → length proof ≤ 65_536 → Says B 1 → limitB A B proof ≡ 4_096
   pub length-B-else : (A B proof : List ℕ) → ¬ (ReadA A B × (length proof ≤ 65_536) × Says B 1) → limitB A B proof ≡ 8_192
   -- by the file alone
@@ -135,32 +133,33 @@ pub record EditionsPromised : Type 0 where
   -- ---- check: 1 first above 8,192 bytes, A before B, and then for a proof above 65,536 (so A of edition 1 with 5,000 bytes gives 1 in B where B has 8,193, and 1 in the proof where that has 65,537)
   pub check-long-A : (A B proof output left : List ℕ) (r : WriteResult) → Checks A B proof output left r → 8_192 < length A → r .answer ≡ answer 1 fileA 0
   pub check-long-B : (A B proof output left : List ℕ) (r : WriteResult) → Checks A B proof output left r → length A ≤ 8_192 → 8_192 < length B → r .answer ≡ answer 1 fileB 0
-  pub check-long-proof : (A B proof output left : List ℕ) (r : WriteResult) → Checks A B proof output left r → Short A B → 65_536 < length proof → r .answer ≡ answer 1 fileProof 0
+  pub check-long-proof : (A B proof output left : List ℕ) (r : WriteResult) → Checks A B proof output left r → ShortBundles A B → 65_536 < length proof → r .answer ≡ answer 1 fileProof 0
   -- a bundle of edition 1 above 4,096 bytes: 1 at place 0, A's when A is read, B's when B is
-  pub check-late-A : (A B proof output left : List ℕ) (r : WriteResult) → Checks A B proof output left r → Short A B → length proof ≤ 65_536
+  pub check-late-A : (A B proof output left : List ℕ) (r : WriteResult) → Checks A B proof output left r → ShortBundles A B → length proof ≤ 65_536
       → Says A 1 → 4_096 < length A → r .answer ≡ answer 1 fileA 0
   pub check-late-B : (A B proof output left : List ℕ) (r : WriteResult) → Checks A B proof output left r → ReadA A B → length proof ≤ 65_536
       → Says B 1 → 4_096 < length B → r .answer ≡ answer 1 fileB 0
-  -- 1 only there: so, within 8,192 bytes, every fault in front of 0x01 comes before it
+  -- 1 in these cases only: so, within 8,192 bytes, every fault in front of 0x01 comes before it
   pub check-1-A : (A B proof output left : List ℕ) (r : WriteResult) → Checks A B proof output left r → r .answer .number ≡ 1 → r .answer .file ≡ fileA
-      → (8_192 < length A) ⊎ (Says A 1 × (4_096 < length A))
+      → (8_192 < length A) ⊎ (ShortBundles A B × (length proof ≤ 65_536) × Says A 1 × (4_096 < length A))
   pub check-1-B : (A B proof output left : List ℕ) (r : WriteResult) → Checks A B proof output left r → r .answer .number ≡ 1 → r .answer .file ≡ fileB
-      → (8_192 < length B) ⊎ (Says B 1 × (4_096 < length B))
-  pub check-1-proof : (A B proof output left : List ℕ) (r : WriteResult) → Checks A B proof output left r → r .answer .number ≡ 1 → r .answer .file ≡ fileProof → 65_536 < length proof
+      → ((length A ≤ 8_192) × (8_192 < length B)) ⊎ (ReadA A B × (length proof ≤ 65_536) × Says B 1 × (4_096 < length B))
+  pub check-1-proof : (A B proof output left : List ℕ) (r : WriteResult) → Checks A B proof output left r → r .answer .number ≡ 1 → r .answer .file ≡ fileProof
+      → ShortBundles A B × (65_536 < length proof)
   -- an edition that is neither 1 nor 2: 5 at its field, in A, in B, in the proof
-  pub check-other-A : (A B proof output left : List ℕ) (r : WriteResult) → Checks A B proof output left r → Short A B → length proof ≤ 65_536
+  pub check-other-A : (A B proof output left : List ℕ) (r : WriteResult) → Checks A B proof output left r → ShortBundles A B → length proof ≤ 65_536
       → (n at : ℕ) → Other n → SaysAt A n at → r .answer ≡ answer 5 fileA at
   pub check-other-B : (A B proof output left : List ℕ) (r : WriteResult) → Checks A B proof output left r → ReadA A B → length proof ≤ 65_536
       → (n at : ℕ) → Other n → SaysAt B n at → r .answer ≡ answer 5 fileB at
   pub check-other-proof : (A B proof output left : List ℕ) (r : WriteResult) → Checks A B proof output left r → ReadBoth A B → length proof ≤ 65_536
       → (n at : ℕ) → Other n → SaysAt proof n at → r .answer ≡ answer 5 fileProof at
   -- a 33rd constraint: 8 at its field, before 13 for its numbers
-  pub check-more-A : (A B proof output left : List ℕ) (r : WriteResult) → Checks A B proof output left r → Short A B → length proof ≤ 65_536
+  pub check-more-A : (A B proof output left : List ℕ) (r : WriteResult) → Checks A B proof output left r → ShortBundles A B → length proof ≤ 65_536
       → (n K at : ℕ) → HasMore A n K at → r .answer ≡ answer 8 fileA at
   pub check-more-B : (A B proof output left : List ℕ) (r : WriteResult) → Checks A B proof output left r → (a : ReadA A B) → length proof ≤ 65_536
       → (n at : ℕ) → HasMore B n (a .K) at → r .answer ≡ answer 8 fileB at
   -- -2,147,483,648 in a bundle: 13 at its field
-  pub check-lowest-A : (A B proof output left : List ℕ) (r : WriteResult) → Checks A B proof output left r → Short A B → length proof ≤ 65_536
+  pub check-lowest-A : (A B proof output left : List ℕ) (r : WriteResult) → Checks A B proof output left r → ShortBundles A B → length proof ≤ 65_536
       → (K at : ℕ) → HasLowest A K at → r .answer ≡ answer 13 fileA at
   pub check-lowest-B : (A B proof output left : List ℕ) (r : WriteResult) → Checks A B proof output left r → (a : ReadA A B) → length proof ≤ 65_536
       → (at : ℕ) → HasLowest B (a .K) at → r .answer ≡ answer 13 fileB at
@@ -180,15 +179,17 @@ pub record EditionsPromised : Type 0 where
   -- ---- show: as check does for A and B
   pub show-long-A : (A B : List ℕ) (line : ℕ) (r : Answer) → AnswersShow A B line r → 8_192 < length A → r ≡ answer 1 fileA 0
   pub show-long-B : (A B : List ℕ) (line : ℕ) (r : Answer) → AnswersShow A B line r → length A ≤ 8_192 → 8_192 < length B → r ≡ answer 1 fileB 0
-  pub show-late-A : (A B : List ℕ) (line : ℕ) (r : Answer) → AnswersShow A B line r → Short A B → Says A 1 → 4_096 < length A → r ≡ answer 1 fileA 0
+  pub show-late-A : (A B : List ℕ) (line : ℕ) (r : Answer) → AnswersShow A B line r → ShortBundles A B → Says A 1 → 4_096 < length A → r ≡ answer 1 fileA 0
   pub show-late-B : (A B : List ℕ) (line : ℕ) (r : Answer) → AnswersShow A B line r → ReadA A B → Says B 1 → 4_096 < length B → r ≡ answer 1 fileB 0
-  pub show-1-A : (A B : List ℕ) (line : ℕ) (r : Answer) → AnswersShow A B line r → r .number ≡ 1 → r .file ≡ fileA → (8_192 < length A) ⊎ (Says A 1 × (4_096 < length A))
-  pub show-1-B : (A B : List ℕ) (line : ℕ) (r : Answer) → AnswersShow A B line r → r .number ≡ 1 → r .file ≡ fileB → (8_192 < length B) ⊎ (Says B 1 × (4_096 < length B))
-  pub show-other-A : (A B : List ℕ) (line : ℕ) (r : Answer) → AnswersShow A B line r → Short A B → (n at : ℕ) → Other n → SaysAt A n at → r ≡ answer 5 fileA at
+  pub show-1-A : (A B : List ℕ) (line : ℕ) (r : Answer) → AnswersShow A B line r → r .number ≡ 1 → r .file ≡ fileA
+      → (8_192 < length A) ⊎ (ShortBundles A B × Says A 1 × (4_096 < length A))
+  pub show-1-B : (A B : List ℕ) (line : ℕ) (r : Answer) → AnswersShow A B line r → r .number ≡ 1 → r .file ≡ fileB
+      → ((length A ≤ 8_192) × (8_192 < length B)) ⊎ (ReadA A B × Says B 1 × (4_096 < length B))
+  pub show-other-A : (A B : List ℕ) (line : ℕ) (r : Answer) → AnswersShow A B line r → ShortBundles A B → (n at : ℕ) → Other n → SaysAt A n at → r ≡ answer 5 fileA at
   pub show-other-B : (A B : List ℕ) (line : ℕ) (r : Answer) → AnswersShow A B line r → ReadA A B → (n at : ℕ) → Other n → SaysAt B n at → r ≡ answer 5 fileB at
-  pub show-more-A : (A B : List ℕ) (line : ℕ) (r : Answer) → AnswersShow A B line r → Short A B → (n K at : ℕ) → HasMore A n K at → r ≡ answer 8 fileA at
+  pub show-more-A : (A B : List ℕ) (line : ℕ) (r : Answer) → AnswersShow A B line r → ShortBundles A B → (n K at : ℕ) → HasMore A n K at → r ≡ answer 8 fileA at
   pub show-more-B : (A B : List ℕ) (line : ℕ) (r : Answer) → AnswersShow A B line r → (a : ReadA A B) → (n at : ℕ) → HasMore B n (a .K) at → r ≡ answer 8 fileB at
-  pub show-lowest-A : (A B : List ℕ) (line : ℕ) (r : Answer) → AnswersShow A B line r → Short A B → (K at : ℕ) → HasLowest A K at → r ≡ answer 13 fileA at
+  pub show-lowest-A : (A B : List ℕ) (line : ℕ) (r : Answer) → AnswersShow A B line r → ShortBundles A B → (K at : ℕ) → HasLowest A K at → r ≡ answer 13 fileA at
   pub show-lowest-B : (A B : List ℕ) (line : ℕ) (r : Answer) → AnswersShow A B line r → (a : ReadA A B) → (at : ℕ) → HasLowest B (a .K) at → r ≡ answer 13 fileB at
   -- ---- write: first 5 for an edition that is neither 1 nor 2, whatever the rest is
   pub write-other : (n K : ℕ) (kinds : List ℕ) (numbers : List ℤ) (output left : List ℕ) (r : WriteResult) → Writes n K kinds numbers output left r
@@ -199,9 +200,9 @@ pub record EditionsPromised : Type 0 where
   pub write-count : (n K : ℕ) (kinds : List ℕ) (numbers : List ℤ) (output left : List ℕ) (r : WriteResult) → Writes n K kinds numbers output left r → InLimits n K kinds
       → All (λ k. k ≤ 2) kinds → ¬ (length numbers ≡ length kinds * suc K) → r .answer ≡ answer 24 fileLent (length kinds)
   -- behind 24, 13 at the index of the first number that the edition cannot hold: edition 1 holds -32,768 to 32,767 (`mag` is n of n and of -n-1), edition 2 -2,147,483,647 to 2,147,483,647
-  pub write-wide-1 : (K : ℕ) (kinds : List ℕ) (numbers : List ℤ) (output left : List ℕ) (r : WriteResult) → Writes 1 K kinds numbers output left r → Counted K kinds numbers
+  pub write-wide-1 : (K : ℕ) (kinds : List ℕ) (numbers : List ℤ) (output left : List ℕ) (r : WriteResult) → Writes 1 K kinds numbers output left r → WellCounted 1 K kinds numbers
       → (before after : List ℤ) (z : ℤ) → numbers ≡ before ++ z ∷ after → All (λ y. mag y ≤ 32_767) before → 32_767 < mag z → r .answer ≡ answer 13 fileLent (length before)
-  pub write-wide-2 : (K : ℕ) (kinds : List ℕ) (numbers : List ℤ) (output left : List ℕ) (r : WriteResult) → Writes 2 K kinds numbers output left r → Counted K kinds numbers
+  pub write-wide-2 : (K : ℕ) (kinds : List ℕ) (numbers : List ℤ) (output left : List ℕ) (r : WriteResult) → Writes 2 K kinds numbers output left r → WellCounted 2 K kinds numbers
       → (before after : List ℤ) (z : ℤ) → numbers ≡ before ++ z ∷ after → All (λ y. natAbs y ≤ 2_147_483_647) before → 2_147_483_647 < natAbs z
       → r .answer ≡ answer 13 fileLent (length before)
   -- ---- test: formulas stay in edition 1, so 5 for any other, 2 too, at its field (at values that are right in number and range)

@@ -5,7 +5,7 @@ use mathlib.Core.Bool.{Bool, true, false, _&&_}
 use mathlib.Core.List.{List, [], _∷_}
 use Prim.Native.Nat.{ℕ, zero, suc, _+_, _*_, _-_, _≤_, _<_}
 use native.Mathlib.Omega.{arith}
-use lib.Dec.{leb, leb→le, eqb→eq}
+use lib.Dec.{T, leb, leb→le, eqb→eq}
 use lib.ListN.{length, drop, take, length-drop}
 use lib.Seq.{take-length}
 use mir.Facts.{and-yes}
@@ -27,44 +27,43 @@ use Rattle.proof.specs.Layout.{Enters}
 use Rattle.proof.proofs.Says.{Says, says-refused, says-accepted, bind, seq, says-need, test, finds, weaken}
 use Rattle.proof.specs.Tree.{OpenStep, openStep, Tree, tree, afterClose, roundingOf, treeBehind, innermost, startsAt, Stands, here, past}
 
--- ---- the tests of a row: each refusal is one of this row, by a number
-
-module _ {Q : Answer → Type 0} (refusal : ℕ → Answer) (h : (n : ℕ) → Q (refusal n)) (ls : List Line) where
-  line-says : (i : ℕ) → Says Q (lineAt refusal ls i) (λ _. Unit {0})
+-- ---- the tests of a row: each refusal is one of this row, by a number from 2 on
+module _ {Q : Answer → Type 0} (refusal : ℕ → Answer) (h : (n : ℕ) → T (leb 2 n) → Q (refusal n)) (ls : List Line) where
+  pub line-says : (i : ℕ) → Says Q (lineAt refusal ls i) (λ _. Unit {0})
   unfolding lineAt
-  line-says i = weaken (finds (refusal 10) _ (h 10)) (λ a q. q) (λ _ _. tt)
+  line-says i = weaken (finds (refusal 10) _ (h 10 tt)) (λ a q. q) (λ _ _. tt)
 
-  derived-says : (s : Step) → Says Q (derived refusal ls s) (λ _. Unit {0})
+  pub derived-says : (s : Step) → Says Q (derived refusal ls s) (λ _. Unit {0})
   unfolding derived
-  derived-says (Combine i j α β) = bind (line-says i) λ s _. bind (line-says j) λ t _. test _ _ (h 11) λ _. test _ _ (h 12) λ _. says-accepted tt
-  derived-says (Reduce i j α) = bind (line-says i) λ s _. bind (line-says j) λ t _. bind (finds _ _ (h 11)) λ k _. test _ _ (h 11) λ _. test _ _ (h 12) λ _. says-accepted tt
-  derived-says (Scale i α) = bind (line-says i) λ t _. bind (finds _ _ (h 11)) λ k _. test _ _ (h 12) λ _. says-accepted tt
+  derived-says (Combine i j α β) = bind (line-says i) λ s _. bind (line-says j) λ t _. test _ _ (h 11 tt) λ _. test _ _ (h 12 tt) λ _. says-accepted tt
+  derived-says (Reduce i j α) = bind (line-says i) λ s _. bind (line-says j) λ t _. bind (finds _ _ (h 11 tt)) λ k _. test _ _ (h 11 tt) λ _. test _ _ (h 12 tt) λ _. says-accepted tt
+  derived-says (Scale i α) = bind (line-says i) λ t _. bind (finds _ _ (h 11 tt)) λ k _. test _ _ (h 12 tt) λ _. says-accepted tt
 
-  fitting-says : (e : Edition) (l : Line) → Says Q (fitting refusal ls e l) (λ _. Unit {0})
+  pub fitting-says : (e : Edition) (l : Line) → Says Q (fitting refusal ls e l) (λ _. Unit {0})
   unfolding fitting
-  fitting-says e l = test _ _ (h 16) λ _. weaken (says-need _ _ (h 13)) (λ a q. q) (λ _ _. tt)
+  fitting-says e l = test _ _ (h 16 tt) λ _. weaken (says-need _ _ (h 13 tt)) (λ a q. q) (λ _ _. tt)
 
-  inequality-says : (i : ℕ) → Says Q (inequality refusal ls i) (λ _. Unit {0})
+  pub inequality-says : (i : ℕ) → Says Q (inequality refusal ls i) (λ _. Unit {0})
   unfolding inequality
-  inequality-says i = bind (line-says i) λ t _. test _ _ (h 11) λ _. says-accepted tt
+  inequality-says i = bind (line-says i) λ t _. test _ _ (h 11 tt) λ _. says-accepted tt
 
   -- what passes is rounded by 1 at least
-  roundable-says : (e : Edition) (i g k : ℕ) → Says Q (roundable refusal ls e i g k) (λ _. 1 ≤ k)
+  pub roundable-says : (e : Edition) (i g k : ℕ) → Says Q (roundable refusal ls e i g k) (λ _. 1 ≤ k)
   unfolding roundable
-  roundable-says e i g k = bind (inequality-says i) λ t _. test _ _ (h 12) λ n. test _ _ (h 15) λ _.
+  roundable-says e i g k = bind (inequality-says i) λ t _. test _ _ (h 12 tt) λ n. test _ _ (h 15 tt) λ _.
       says-accepted (leb→le 1 k (and-yes (leb 2 g) (leb 1 k) (and-yes (leb 2 g && leb 1 k) (leb k (e .rounding)) n .0) .1))
 
-  disequality-says : (i : ℕ) → Says Q (disequality refusal ls i) (λ _. Unit {0})
+  pub disequality-says : (i : ℕ) → Says Q (disequality refusal ls i) (λ _. Unit {0})
   unfolding disequality
-  disequality-says i = bind (line-says i) λ t _. bind (finds _ _ (h 11)) λ σ _. says-accepted tt
+  disequality-says i = bind (line-says i) λ t _. bind (finds _ _ (h 11 tt)) λ σ _. says-accepted tt
 
-  byNumber-says : (i : ℕ) → Says Q (byNumber refusal ls i) (λ _. Unit {0})
+  pub byNumber-says : (i : ℕ) → Says Q (byNumber refusal ls i) (λ _. Unit {0})
   unfolding byNumber
-  byNumber-says i = bind (line-says i) λ t _. bind (finds _ _ (h 11)) λ k _. test _ _ (h 15) λ _. says-accepted tt
+  byNumber-says i = bind (line-says i) λ t _. bind (finds _ _ (h 11 tt)) λ k _. test _ _ (h 15 tt) λ _. says-accepted tt
 
-  byStride-says : (i g : ℕ) → Says Q (byStride refusal ls i g) (λ _. Unit {0})
+  pub byStride-says : (i g : ℕ) → Says Q (byStride refusal ls i g) (λ _. Unit {0})
   unfolding byStride
-  byStride-says i g = bind (line-says i) λ t _. test _ _ (h 11) λ _. test _ _ (h 12) λ _. test _ _ (h 15) λ _. says-accepted tt
+  byStride-says i g = bind (line-says i) λ t _. test _ _ (h 11 tt) λ _. test _ _ (h 12 tt) λ _. test _ _ (h 15 tt) λ _. says-accepted tt
 
 -- ---- from one tree to another
 data Leads : Tree → Fields → Tree → Fields → Type 0 where
@@ -106,10 +105,10 @@ at-front : (ps : List OpenStep) (rows : ℕ) (fs : Fields) (n : ℕ) → Stands 
 at-front ps rows fs n = here {t = tree rows ps} {fs = fs} {a = refusalAt (innermost ps) rows (startsAt fs) n} refl
 
 -- what a field is that states an entry
-entry-says : (e : Edition) (K : ℕ) (refusal : ℕ → Answer) (made : Option Line) (f : Field) {Q : Answer → Type 0} → ((n : ℕ) → Q (refusal n))
+pub entry-says : (e : Edition) (K : ℕ) (refusal : ℕ → Answer) (made : Option Line) (f : Field) {Q : Answer → Type 0} → ((n : ℕ) → T (leb 2 n) → Q (refusal n))
     → Says Q (entry e K refusal made f) (Enters e K (item (f .tag) (f .contents)))
 unfolding entry
-entry-says e K refusal made f h = test _ _ (h 3) λ _. bind (finds _ (entryTagged (f .tag)) (h 4)) λ x t. test _ _ (h 4) λ _. test _ _ (h 6) λ n.
+entry-says e K refusal made f h = test _ _ (h 3 tt) λ _. bind (finds _ (entryTagged (f .tag)) (h 4 tt)) λ x t. test _ _ (h 4 tt) λ _. test _ _ (h 6 tt) λ n.
     says-accepted (record { tagged = x; tag = t; size = eqb→eq (length (f .contents)) (sizeOf e K x) n; entry = refl })
 
 -- ---- a close
@@ -183,9 +182,9 @@ module _ (e : Edition) (two : e .multiplierWidth ≡ 2) (K : ℕ) (deeper : Opti
     leads-behind : {t : Tree} → Behind t → Leads (tree rows ps) (f ▸ fs) t fs
     leads-behind e = on f (subst (λ (t : Tree). Leads (treeBehind (entryTagged (f .tag)) (f .contents) (tree rows ps)) fs t fs) e stays)
 
-    told : (n : ℕ) → Stands (tree rows ps) (f ▸ fs) (refusalAt (innermost ps) rows (f .at) n)
+    told : (n : ℕ) → T (leb 2 n) → Stands (tree rows ps) (f ▸ fs) (refusalAt (innermost ps) rows (f .at) n)
     unfolding startsAt
-    told n = at-front ps rows (f ▸ fs) n
+    told n _ = at-front ps rows (f ▸ fs) n
 
     derive-through : (s : Step) → Behind (tree (suc rows) ps) → Through (tree rows ps) (f ▸ fs) (checkRow e K deeper next (refusalAt (innermost ps) rows (f .at)) rows ls fs (Derive s))
     unfolding checkRow
@@ -200,7 +199,7 @@ module _ (e : Edition) (two : e .multiplierWidth ≡ 2) (K : ℕ) (deeper : Opti
     strengthen-through i b =
         let l = leads-behind b in
         bind (inequality-says _ told ls i) λ line _.
-        deeper-says deeper p _ (told 17) λ branch d.
+        deeper-says deeper p _ (told 17 tt) λ branch d.
         seq (fitting-says _ told ls e _)
         (bind (weaken (d (openStep rows 0 2 ∷ ps) _ _ fs) (λ a s. stands-on l s) (λ c m. leads-on l m)) λ first m1.
         bind (weaken (d (openStep rows 1 2 ∷ ps) _ _ (first .after)) (λ a s. stands-on m1 s) (λ c m. leads-on m1 m)) λ second m2.
@@ -212,7 +211,7 @@ module _ (e : Edition) (two : e .multiplierWidth ≡ 2) (K : ℕ) (deeper : Opti
     round-through i g k b =
         let l = leads-behind b in
         bind (roundable-says _ told ls e i g k) λ line low.
-        deeper-says deeper p _ (told 17) λ branch d.
+        deeper-says deeper p _ (told 17 tt) λ branch d.
         seq (fitting-says _ told ls e _)
         (bind (weaken (d (openStep rows 0 k ∷ ps) _ _ fs) (λ a s. stands-on l s)
         (λ c m. leads-on l (subst (λ (ss : List OpenStep). Leads (tree (suc rows) (openStep rows 0 k ∷ ps)) fs (tree (c .rows) ss) (c .after)) (after-other rows ps low) m))) λ first m1.
@@ -242,13 +241,13 @@ module _ (e : Edition) (two : e .multiplierWidth ≡ 2) (K : ℕ) (deeper : Opti
     row-through (CloseNumber i) b = close-through (byNumber-says _ told ls i) (λ I. says-accepted (refl, refl)) b
     row-through (CloseStride i g) b = close-through (byStride-says _ told ls i g) (λ I. says-accepted (refl, refl)) b
     row-through (Round i g k) b = round-through i g k b
-    row-through (Split i) b = bind (disequality-says _ told ls i) λ (σ, l) _. deeper-says deeper p _ (told 17) λ branch d. split-through branch d σ (l .t) (l .tA) b
+    row-through (Split i) b = bind (disequality-says _ told ls i) λ (σ, l) _. deeper-says deeper p _ (told 17 tt) λ branch d. split-through branch d σ (l .t) (l .tA) b
 
     entry-through : (made : Option Line) (x : Entry) → Behind (entryBehind x (tree rows ps))
         → Through (tree rows ps) (f ▸ fs) (checkEntry e K deeper next (refusalAt (innermost ps) rows (f .at)) rows made ls fs x)
     unfolding checkEntry
-    entry-through made (row r) b = test _ _ (told 18) λ _. row-through r b
-    entry-through made (claim t tA) b = bind (finds _ made (told 4)) λ l _. test _ _ (told 14) λ _. through-on refl (leads-behind b) (q _ _ _)
+    entry-through made (row r) b = test _ _ (told 18 tt) λ _. row-through r b
+    entry-through made (claim t tA) b = bind (finds _ made (told 4 tt)) λ l _. test _ _ (told 14 tt) λ _. through-on refl (leads-behind b) (q _ _ _)
 
   entries-through : (fs : Fields) (rows : ℕ) (made : Option Line) (ls : List Line) → Through (tree rows ps) fs (checkEntries e K (innermost ps) deeper fs rows made ls)
   unfolding checkEntries startsAt
