@@ -257,6 +257,21 @@ fn put_shorts(out: &mut [u8], at: usize, numbers: &[i32], from: usize, n: usize)
     put_run(out, at + 32, 2, numbers, from + 16, n % 4);
 }
 
+// n numbers, four bytes each: 16 at once where there are so many, and the rest one by one.
+fn put_longs(out: &mut [u8], at: usize, numbers: &[i32], from: usize, n: usize)
+    requires { ⌜ HeldAll 4 (now numbers) × (n ≤ 19) ⌝ }
+    requires { ⌜ at + n * 4 ≤ length (now out) ⌝ }
+    requires { ⌜ from + n ≤ length (now numbers) ⌝ }
+    ensures { λ _. ⌜ now (out .exit) ≡ sets (now (out .entry)) at (signedsBytes 4 (take n (drop from (now (numbers .entry))))) ⌝ }
+{
+    if n < 16 {
+        put_run(out, at, 4, numbers, from, n);
+        return;
+    }
+    put_run(out, at, 4, numbers, from, 16);
+    put_run(out, at + 64, 4, numbers, from + 16, n % 4);
+}
+
 // n numbers of `width` bytes each.
 fn put_numbers(out: &mut [u8], at: usize, width: usize, numbers: &[i32], from: usize, n: usize)
     requires { ⌜ ((width ≡ 2) ⊎ (width ≡ 4)) × HeldAll width (now numbers) × (n ≤ 19) ⌝ }
@@ -267,7 +282,7 @@ fn put_numbers(out: &mut [u8], at: usize, width: usize, numbers: &[i32], from: u
     if width == 2 {
         put_shorts(out, at, numbers, from, n);
     } else {
-        put_run(out, at, 4, numbers, from, n);
+        put_longs(out, at, numbers, from, n);
     }
 }
 

@@ -9,11 +9,11 @@ put-shorts-requires c κs =
     let p = rw (c .before .if1 .taken) at (c .before .before .before .pre) in
     ((p .0 .1, p .0 .2), p .1)
 
-put-run-requires : tie.Need-put-run-requires
-put-run-requires c κs =
+put-longs-requires : tie.Need-put-longs-requires
+put-longs-requires c κs =
     let w = width-four (c .before .before .before .pre .0 .0) (c .before .if1 .left) in
     let p = rw w at (c .before .before .before .pre) in
-    ((p .0 .0, p .0 .1), p .1)
+    ((p .0 .1, p .0 .2), p .1)
 
 same-length : tie.Need-same-length
 same-length c = search needs
@@ -27,9 +27,9 @@ same-length-2 c = search needs
 returns-2 : tie.Need-returns-2
 returns-2 c =
     let w = width-four (c .before .before .before .before .before .before .pre .0 .0) (c .before .before .before .before .if1 .left) in
-    rw w (c .before .before .put-run .ensures)
+    rw w (c .before .before .put-longs .ensures)
 
 pub put-numbers-spec : {M : Type 1} → statement M
 put-numbers-spec =
     tie.close
-    (tie.spec put-shorts-requires put-run-requires same-length returns same-length-2 returns-2)
+    (tie.spec put-shorts-requires put-longs-requires same-length returns same-length-2 returns-2)
