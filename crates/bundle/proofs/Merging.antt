@@ -1,4 +1,4 @@
--- Numbers tested for two bytes all at once: each is raised to a natural that is below 65,536 where it passes, and these are joined bit by bit. Assumes nothing.
+-- Numbers tested for two bytes all at once: each is shifted to a natural that is below 65,536 where it passes, and these are merged. Assumes nothing.
 use mathlib.Core.Path.{_≡_, refl, sym, _∙_}
 use mathlib.Core.Bool.{Bool, true, false, cond, _&&_, true≢false}
 use Prim.Native.Nat.{ℕ, suc, _+_, _-_, _^_, _≤_, _<_}
@@ -14,7 +14,7 @@ use Rattle.integers.proofs.Differences.{ints, add-pn}
 use Rattle.bundle.specs.Write.{holdable}
 use Rattle.bundle.proofs.Ranging.{two-held}
 
--- Two numbers joined are below a power of two where both are, and only there.
+-- Two numbers merged are below a power of two where both are, and only there.
 pub or-below : (k a b : ℕ) → ltb (bitOr a b) (2 ^ k) ≡ (ltb a (2 ^ k) && ltb b (2 ^ k))
 or-below k a b = go (ltb a (2 ^ k)) refl (ltb b (2 ^ k)) refl
   where
@@ -23,15 +23,15 @@ or-below k a b = go (ltb a (2 ^ k)) refl (ltb b (2 ^ k)) refl
     go true e false f = le-ltb (bitOr a b) (2 ^ k) (omega (arith, ltb-false b (2 ^ k) f, or-add-and a b, and-le-l a b))
     go false e t f = le-ltb (bitOr a b) (2 ^ k) (omega (arith, ltb-false a (2 ^ k) e, or-add-and a b, and-le-r a b))
 
--- y is a natural of 32 bits, below 65,536 where two bytes hold z.
-pub record Raised (z y : ℤ) : Type 0 where
+-- y is a natural of 32 bits, below 65,536 where two bytes hold z, and only there.
+pub record Shifted (z y : ℤ) : Type 0 where
   pub wide : SFits w64 y
   pub natural : T (nonNeg y)
   pub fits : Fits w32 (natAbs y)
   pub test : ltb (natAbs y) 0x1_0000 ≡ holdable 2 z
 
-raised-to : (z : ℤ) (m : ℕ) → m < 0x1_0000_0000 → (m < 0x1_0000 → mag z < 0x8000) → (0x1_0000 ≤ m → 0x8000 ≤ mag z) → Raised z (pos m)
-raised-to z m h f g = record { wide = record { sfits = omega arith }; natural = tt; fits = record { fits = h }; test = go (ltb m 0x1_0000) refl ∙ sym (two-held z) }
+shifted-to : (z : ℤ) (m : ℕ) → m < 0x1_0000_0000 → (m < 0x1_0000 → mag z < 0x8000) → (0x1_0000 ≤ m → 0x8000 ≤ mag z) → Shifted z (pos m)
+shifted-to z m h f g = record { wide = record { sfits = omega arith }; natural = tt; fits = record { fits = h }; test = go (ltb m 0x1_0000) refl ∙ sym (two-held z) }
   where
     go : (b : Bool) → ltb m 0x1_0000 ≡ b → b ≡ ltb (mag z + mag z) 0x1_0000
     go true e = sym (lt-ltb (mag z + mag z) 0x1_0000 (omega (arith, f (ltb-true m 0x1_0000 e))))
@@ -46,28 +46,28 @@ sum-fits (negsuc n) f = go (ltb 0x8000 (suc n))
     go false = record { sfits = omega arith }
 
 -- z + 32,768, where that is not negative
-pub raised-high : (z : ℤ) → SFits w32 z → ltZ (z +ℤ pos 0x8000) (pos 0) ≡ false → Raised z (z +ℤ pos 0x8000)
-raised-high (pos n) f t = raised-to (pos n) (n + 0x8000) (omega (arith, f .sfits)) (λ l. omega arith) (λ l. omega arith)
-raised-high (negsuc n) f t = go (ltb 0x8000 (suc n)) refl t
+pub shifted-high : (z : ℤ) → SFits w32 z → ltZ (z +ℤ pos 0x8000) (pos 0) ≡ false → Shifted z (z +ℤ pos 0x8000)
+shifted-high (pos n) f t = shifted-to (pos n) (n + 0x8000) (omega (arith, f .sfits)) (λ l. omega arith) (λ l. omega arith)
+shifted-high (negsuc n) f t = go (ltb 0x8000 (suc n)) refl t
   where
     go : (b : Bool) → ltb 0x8000 (suc n) ≡ b → ltZ (cond b (negsuc (suc n - suc 0x8000)) (pos (0x8000 - suc n))) (pos 0) ≡ false
-        → Raised (negsuc n) (cond b (negsuc (suc n - suc 0x8000)) (pos (0x8000 - suc n)))
+        → Shifted (negsuc n) (cond b (negsuc (suc n - suc 0x8000)) (pos (0x8000 - suc n)))
     go true e t = absurd (true≢false t)
     go false e t =
         let h : suc n ≤ 0x8000 = ltb-false 0x8000 (suc n) e in
-        raised-to (negsuc n) (0x8000 - suc n) (omega arith) (λ l. omega arith) (λ l. omega arith)
+        shifted-to (negsuc n) (0x8000 - suc n) (omega arith) (λ l. omega arith) (λ l. omega arith)
 
 -- and 2^32 more where it is
-pub raised-low : (z : ℤ) → SFits w32 z → ltZ (z +ℤ pos 0x8000) (pos 0) ≡ true → Raised z (z +ℤ pos 0x8000 +ℤ pos 0x1_0000_0000)
-raised-low (pos n) f t = absurd (omega (arith, ltb-true (n + 0x8000) 0 t))
-raised-low (negsuc n) f t = go (ltb 0x8000 (suc n)) refl t
+pub shifted-low : (z : ℤ) → SFits w32 z → ltZ (z +ℤ pos 0x8000) (pos 0) ≡ true → Shifted z (z +ℤ pos 0x8000 +ℤ pos 0x1_0000_0000)
+shifted-low (pos n) f t = absurd (omega (arith, ltb-true (n + 0x8000) 0 t))
+shifted-low (negsuc n) f t = go (ltb 0x8000 (suc n)) refl t
   where
     go : (b : Bool) → ltb 0x8000 (suc n) ≡ b → ltZ (cond b (negsuc (suc n - suc 0x8000)) (pos (0x8000 - suc n))) (pos 0) ≡ true
-        → Raised (negsuc n) (cond b (negsuc (suc n - suc 0x8000)) (pos (0x8000 - suc n)) +ℤ pos 0x1_0000_0000)
+        → Shifted (negsuc n) (cond b (negsuc (suc n - suc 0x8000)) (pos (0x8000 - suc n)) +ℤ pos 0x1_0000_0000)
     go true e t =
         let h : 0x8000 < suc n = ltb-true 0x8000 (suc n) e in
         let s : n < 0x8000_0000 = f .sfits in
         let k = suc n - suc 0x8000 in
         let y : negsuc k +ℤ pos 0x1_0000_0000 ≡ pos (0x1_0000_0000 - suc k) = omega (ints, add-pn (negsuc k) (pos 0x1_0000_0000)) in
-        rw y (raised-to (negsuc n) (0x1_0000_0000 - suc k) (omega arith) (λ l. omega arith) (λ l. omega arith))
+        rw y (shifted-to (negsuc n) (0x1_0000_0000 - suc k) (omega arith) (λ l. omega arith) (λ l. omega arith))
     go false e t = absurd (omega (arith, ltb-true (0x8000 - suc n) 0 t))

@@ -32,7 +32,7 @@ module _ {X : Type 0} (p : X → Bool) (d : X) (xs : List X) (i : ℕ) where
   pub bad-none : length xs ≤ i → firstBad p i (drop i xs) ≡ i
   bad-none h = rw (drop-of-length-le xs h)
 
--- ---- numbers taken over into x
+-- ---- numbers taken over into a block
 -- one number more
 pub taken-next : (x numbers : List ℤ) (from i : ℕ) → i < length x → from + i < length numbers → take i x ≡ take i (drop from numbers)
     → take (i + 1) (set x i (getD numbers (from + i) (pos 0))) ≡ take (i + 1) (drop from numbers)

@@ -25,8 +25,8 @@ pub enum Sought {
     Refused { number: u8, place: usize },
 }
 
-// Four bytes hold every number within the range, and this one.
-const LOWEST: i32 = -2147483648;
+// The one number of four bytes that is not within the range.
+pub const LOWEST: i32 = -2147483648;
 
 // Whether the number of four bytes at a place is within the range.
 fn long_in_range(s: &[u8], at: usize) -> bool

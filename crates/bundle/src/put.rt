@@ -1,4 +1,5 @@
 // The constraints of a bundle, written as fields.
+use super::constraints::LOWEST;
 use fields::numbers::put_head;
 use fields::words::put_signed;
 use forms::coefficient_bytes;
@@ -57,7 +58,7 @@ pub fn first_bad(kinds: &[u8]) -> usize
 }
 
 // x + 32,768, and 2^32 more where that is negative: below 65,536 where two bytes hold x, and only there.
-fn raised(x: i32) -> u32
+fn shifted(x: i32) -> u32
     ensures { λ r. ⌜ ltb r 0x1_0000 ≡ holdable 2 x ⌝ }
 {
     let y = x as i64 + 0x8000;
@@ -81,15 +82,13 @@ fn all_short(numbers: &[i32]) -> bool
     let mut all: u32 = 0;
     let mut i = 0;
     while i < numbers.len() {
-        all = merged(all, raised(numbers[i]));
+        all = merged(all, shifted(numbers[i]));
         i += 1;
     }
     all < 0x1_0000
 }
 
-// Four bytes hold every number, but for this one.
-const LOWEST: i32 = -2147483648;
-
+// Whether it is not -2,147,483,648, and so within the range.
 fn above_lowest(x: i32) -> bool
     ensures { λ r. ⌜ r ≡ holdable 4 x ⌝ }
 {
@@ -126,7 +125,7 @@ fn held(width: usize, x: i32) -> bool
     ensures { λ r. ⌜ r ≡ holdable width x ⌝ }
 {
     if width == 2 {
-        return raised(x) < 0x1_0000;
+        return shifted(x) < 0x1_0000;
     }
     above_lowest(x)
 }
@@ -179,29 +178,29 @@ fn shortened(x: i32) -> i32
     x
 }
 
-// As many numbers from index from on as x has room for.
-fn take_shorts(numbers: &[i32], from: usize, x: &mut [i32])
+// Into the block as many numbers, from index from on, as it has room for. Two bytes hold each.
+fn take_shorts(numbers: &[i32], from: usize, block: &mut [i32])
     requires { ⌜ HeldAll 2 (now numbers) ⌝ }
-    requires { ⌜ from + length (now x) ≤ length (now numbers) ⌝ }
-    ensures { λ _. ⌜ now (x .exit) ≡ take (length (now (x .entry))) (drop from (now (numbers .entry))) ⌝ }
+    requires { ⌜ from + length (now block) ≤ length (now numbers) ⌝ }
+    ensures { λ _. ⌜ now (block .exit) ≡ take (length (now (block .entry))) (drop from (now (numbers .entry))) ⌝ }
 {
     let mut i = 0;
-    while i < x.len() {
-        x[i] = shortened(numbers[from + i]);
+    while i < block.len() {
+        block[i] = shortened(numbers[from + i]);
         i += 1;
     }
 }
 
-// As many numbers as x has room for, by way of x, two bytes each. All are read before the first is written: the compiler does not know that numbers and out lie apart.
-fn put_through(out: &mut [u8], at: usize, numbers: &[i32], from: usize, x: &mut [i32])
+// As many numbers as the block has room for, by way of it, two bytes each. All are read before the first is written: the compiler does not know that numbers and out lie apart.
+fn put_through(out: &mut [u8], at: usize, numbers: &[i32], from: usize, block: &mut [i32])
     requires { ⌜ HeldAll 2 (now numbers) ⌝ }
-    requires { ⌜ at + length (now x) * 2 ≤ length (now out) ⌝ }
-    requires { ⌜ from + length (now x) ≤ length (now numbers) ⌝ }
-    ensures { λ _. ⌜ now (out .exit) ≡ sets (now (out .entry)) at (signedsBytes 2 (take (length (now (x .entry))) (drop from (now (numbers .entry))))) ⌝ }
+    requires { ⌜ at + length (now block) * 2 ≤ length (now out) ⌝ }
+    requires { ⌜ from + length (now block) ≤ length (now numbers) ⌝ }
+    ensures { λ _. ⌜ now (out .exit) ≡ sets (now (out .entry)) at (signedsBytes 2 (take (length (now (block .entry))) (drop from (now (numbers .entry))))) ⌝ }
 {
-    take_shorts(numbers, from, x);
-    let n = x.len();
-    put_run(out, at, 2, x, 0, n);
+    take_shorts(numbers, from, block);
+    let n = block.len();
+    put_run(out, at, 2, block, 0, n);
 }
 
 fn put_four(out: &mut [u8], at: usize, numbers: &[i32], from: usize)
@@ -210,8 +209,8 @@ fn put_four(out: &mut [u8], at: usize, numbers: &[i32], from: usize)
     requires { ⌜ from + 4 ≤ length (now numbers) ⌝ }
     ensures { λ _. ⌜ now (out .exit) ≡ sets (now (out .entry)) at (signedsBytes 2 (take 4 (drop from (now (numbers .entry))))) ⌝ }
 {
-    let mut x: [i32; 4] = [0; 4];
-    put_through(out, at, numbers, from, &mut x);
+    let mut block: [i32; 4] = [0; 4];
+    put_through(out, at, numbers, from, &mut block);
 }
 
 fn put_eight(out: &mut [u8], at: usize, numbers: &[i32], from: usize)
@@ -220,8 +219,8 @@ fn put_eight(out: &mut [u8], at: usize, numbers: &[i32], from: usize)
     requires { ⌜ from + 8 ≤ length (now numbers) ⌝ }
     ensures { λ _. ⌜ now (out .exit) ≡ sets (now (out .entry)) at (signedsBytes 2 (take 8 (drop from (now (numbers .entry))))) ⌝ }
 {
-    let mut x: [i32; 8] = [0; 8];
-    put_through(out, at, numbers, from, &mut x);
+    let mut block: [i32; 8] = [0; 8];
+    put_through(out, at, numbers, from, &mut block);
 }
 
 // The whole fours of n numbers, two bytes each.
@@ -239,7 +238,7 @@ fn put_fours(out: &mut [u8], at: usize, numbers: &[i32], from: usize, n: usize)
     }
 }
 
-// n numbers, two bytes each: in fours, or 16 at once where there are so many, and the rest one by one.
+// n numbers, two bytes each: in fours, or 16 at once where there are so many, and the rest one by one. They are at most 19, so that behind 16 the rest is n % 4.
 fn put_shorts(out: &mut [u8], at: usize, numbers: &[i32], from: usize, n: usize)
     requires { ⌜ HeldAll 2 (now numbers) × (n ≤ 19) ⌝ }
     requires { ⌜ at + n * 2 ≤ length (now out) ⌝ }
@@ -257,7 +256,7 @@ fn put_shorts(out: &mut [u8], at: usize, numbers: &[i32], from: usize, n: usize)
     put_run(out, at + 32, 2, numbers, from + 16, n % 4);
 }
 
-// n numbers, four bytes each: 16 at once where there are so many, and the rest one by one.
+// n numbers, four bytes each: 16 at once where there are so many, and the rest one by one. They are at most 19 here too.
 fn put_longs(out: &mut [u8], at: usize, numbers: &[i32], from: usize, n: usize)
     requires { ⌜ HeldAll 4 (now numbers) × (n ≤ 19) ⌝ }
     requires { ⌜ at + n * 4 ≤ length (now out) ⌝ }

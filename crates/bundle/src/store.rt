@@ -41,27 +41,27 @@ pub fn store_numbers(s: &[u8], start: usize, width: usize, n: usize, numbers: &m
     }
 }
 
-// All of x, into numbers from at on.
-fn copy_run(x: &[i32], numbers: &mut [i32], at: usize)
-    requires { ⌜ at + length (now x) ≤ length (now numbers) ⌝ }
-    ensures { λ _. ⌜ now (numbers .exit) ≡ sets (now (numbers .entry)) at (now (x .entry)) ⌝ }
+// All of a block, into numbers from at on.
+fn copy_run(block: &[i32], numbers: &mut [i32], at: usize)
+    requires { ⌜ at + length (now block) ≤ length (now numbers) ⌝ }
+    ensures { λ _. ⌜ now (numbers .exit) ≡ sets (now (numbers .entry)) at (now (block .entry)) ⌝ }
 {
     let mut i = 0;
-    while i < x.len() {
-        numbers[at + i] = x[i];
+    while i < block.len() {
+        numbers[at + i] = block[i];
         i += 1;
     }
 }
 
-// As many numbers of two bytes as x has room for, by way of x. All are read before the first is stored: the compiler does not know that s and numbers lie apart.
-fn store_through(s: &[u8], start: usize, x: &mut [i32], numbers: &mut [i32], at: usize)
-    requires { ⌜ start + length (now x) * 2 ≤ length (now s) ⌝ }
-    requires { ⌜ at + length (now x) ≤ length (now numbers) ⌝ }
-    ensures { λ _. ⌜ now (numbers .exit) ≡ sets (now (numbers .entry)) at (signeds 2 (length (now (x .entry))) (drop start (now (s .entry)))) ⌝ }
+// As many numbers of two bytes as the block has room for, by way of it. All are read before the first is stored: the compiler does not know that s and numbers lie apart.
+fn store_through(s: &[u8], start: usize, block: &mut [i32], numbers: &mut [i32], at: usize)
+    requires { ⌜ start + length (now block) * 2 ≤ length (now s) ⌝ }
+    requires { ⌜ at + length (now block) ≤ length (now numbers) ⌝ }
+    ensures { λ _. ⌜ now (numbers .exit) ≡ sets (now (numbers .entry)) at (signeds 2 (length (now (block .entry))) (drop start (now (s .entry)))) ⌝ }
 {
-    let n = x.len();
-    store_run(s, start, 2, n, x, 0);
-    copy_run(x, numbers, at);
+    let n = block.len();
+    store_run(s, start, 2, n, block, 0);
+    copy_run(block, numbers, at);
 }
 
 fn store_four(s: &[u8], start: usize, numbers: &mut [i32], at: usize)
@@ -69,8 +69,8 @@ fn store_four(s: &[u8], start: usize, numbers: &mut [i32], at: usize)
     requires { ⌜ at + 4 ≤ length (now numbers) ⌝ }
     ensures { λ _. ⌜ now (numbers .exit) ≡ sets (now (numbers .entry)) at (signeds 2 4 (drop start (now (s .entry)))) ⌝ }
 {
-    let mut x: [i32; 4] = [0; 4];
-    store_through(s, start, &mut x, numbers, at);
+    let mut block: [i32; 4] = [0; 4];
+    store_through(s, start, &mut block, numbers, at);
 }
 
 fn store_eight(s: &[u8], start: usize, numbers: &mut [i32], at: usize)
@@ -78,8 +78,8 @@ fn store_eight(s: &[u8], start: usize, numbers: &mut [i32], at: usize)
     requires { ⌜ at + 8 ≤ length (now numbers) ⌝ }
     ensures { λ _. ⌜ now (numbers .exit) ≡ sets (now (numbers .entry)) at (signeds 2 8 (drop start (now (s .entry)))) ⌝ }
 {
-    let mut x: [i32; 8] = [0; 8];
-    store_through(s, start, &mut x, numbers, at);
+    let mut block: [i32; 8] = [0; 8];
+    store_through(s, start, &mut block, numbers, at);
 }
 
 // The whole fours of n numbers of two bytes.
@@ -96,7 +96,7 @@ fn store_fours(s: &[u8], start: usize, n: usize, numbers: &mut [i32], at: usize)
     }
 }
 
-// n numbers of two bytes: in fours, or 16 at once where there are so many, and the rest one by one.
+// n numbers of two bytes: in fours, or 16 at once where there are so many, and the rest one by one. They are at most 19, so that behind 16 the rest is n % 4.
 fn store_shorts(s: &[u8], start: usize, n: usize, numbers: &mut [i32], at: usize)
     requires { ⌜ n ≤ 19 ⌝ }
     requires { ⌜ start + n * 2 ≤ length (now s) ⌝ }

@@ -221,7 +221,7 @@ module _ {s : List ℕ} {at tag start len next : ℕ} (k : Took s at tag start l
       let f : start + len ≡ next = omega arith in
       rw (took-field h, took-size, e, f)
 
--- where no file ends and none is cut, a whole field stands
+-- where the fields from a place on neither end there nor are cut there, a whole field stands
 pub took-here : (s : List ℕ) (at : ℕ) → (fieldsAt s at ≡ cut at → ⊥) → (fieldsAt s at ≡ ends at → ⊥) → Took s at (getD s at 0) (at + 3) (lenAt s at) (at + 3 + lenAt s at)
 took-here s at no-cut no-end = started (leb (length s) at) refl
   where

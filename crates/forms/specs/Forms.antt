@@ -99,7 +99,7 @@ pub data All {X : Type 0} (P : X → Type 0) : List X → Type 0 where
   nil : All P []
   cons : {x : X} {xs : List X} → P x → All P xs → All P (x ∷ xs)
 
--- z lies within ± the range, and each number of a list passes a test.
+-- z lies within ± the range, and each element of a list passes a test.
 unfoldable pub small : ℕ → ℤ → Bool
 small range z = leb (natAbs z) range
 

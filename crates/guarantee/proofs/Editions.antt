@@ -39,7 +39,7 @@ use Rattle.proof.proofs.Agree.{agrees-refl}
 use Rattle.proof.proofs.Editions.{Starting, starting, field-said, not-read, other-bundle, late-bundle, offices}
 use Rattle.checking.specs.Promises.{Checks}
 use Rattle.guarantee.specs.Editions.{ShortBundles, ReadA, ReadBoth, SaysAt, Other, HasLowest, HasMore, EditionsPromised}
-use Rattle.guarantee.proofs.Long.{check-1-A, check-1-B, check-1-proof, show-1-A, show-1-B, read-1}
+use Rattle.guarantee.proofs.Long.{check-1, show-1, read-1}
 use Rattle.guarantee.proofs.Wide.{bundle-lowest, bundle-more, write-kind, write-count, wide-1, wide-2}
 
 -- ---- what a file says, and where
@@ -287,9 +287,7 @@ editions-promised = record {
   check-long-proof = λ A B proof output left r c s h. long-proof c s h;
   check-late-A = λ A B proof output left r c s p h l. bundles-refused c s p (late-A A B h l);
   check-late-B = λ A B proof output left r c s p h l. bundles-refused c (s .short) p (late-B A B s h l);
-  check-1-A = λ A B proof output left r c one f. check-1-A c one f;
-  check-1-B = λ A B proof output left r c one f. check-1-B c one f;
-  check-1-proof = λ A B proof output left r c one f. check-1-proof c one f;
+  check-1 = λ A B proof output left r c one. check-1 c one;
   check-other-A = λ A B proof output left r c s p n at o h. bundles-refused c s p (other-A A B o h);
   check-other-B = λ A B proof output left r c s p n at o h. bundles-refused c (s .short) p (other-B A B s o h);
   check-other-proof = λ A B proof output left r c s p n at o h. proof-refused c (s .first .short) p (both-accepted A B s) (proof-other _ _ proof o h);
@@ -307,8 +305,7 @@ editions-promised = record {
   show-long-B = λ A B line r c k h. show-long-B c k h;
   show-late-A = λ A B line r c s h l. show-by c s (late-A A B h l);
   show-late-B = λ A B line r c s h l. show-by c (s .short) (late-B A B s h l);
-  show-1-A = λ A B line r c one f. show-1-A c one f;
-  show-1-B = λ A B line r c one f. show-1-B c one f;
+  show-1 = λ A B line r c one. show-1 c one;
   show-other-A = λ A B line r c s n at o h. show-by c s (other-A A B o h);
   show-other-B = λ A B line r c s n at o h. show-by c (s .short) (other-B A B s o h);
   show-more-A = λ A B line r c s n K at h. show-by c s (more-A A B h);

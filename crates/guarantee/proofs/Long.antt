@@ -1,9 +1,9 @@
--- 1 comes only for a file that is too long: for every edition, or for edition 1, which it says. Assumes nothing.
+-- 1 comes in A, B and the proof only for a file that is too long: for every edition, or for edition 1, which it says. Assumes nothing.
 use mathlib.Core.Path.{_≡_, refl, sym, _∙_, ap, subst}
-use mathlib.Core.Logic.{_⊎_, inl, inr, ⊎-elim}
+use mathlib.Core.Logic.{_⊎_, inl, inr}
 use mathlib.Core.Option.{Option, none, some}
 use mathlib.Core.Bool.{Bool, true, false, cond, _&&_}
-use mathlib.Core.List.{List, []}
+use mathlib.Core.List.{List}
 use Prim.Native.Nat.{ℕ, zero, suc, _-_, _≤_, _<_}
 use native.Mathlib.Omega.{arith}
 use borrow.Author.Tests.{leb-true, leb-false}
@@ -31,7 +31,7 @@ use Rattle.checking.specs.Promises.{Checks}
 use Rattle.proof.specs.Check.{Checker, Following, checkRounded, checkSplit, checkRow, checkEntry, checkEntries, checkBranch, checkProof, formulaAtMost, interpolant, checkBy, check}
 use Rattle.proof.proofs.Says.{Says as Tells, says-refused, says-accepted, bind, seq, test, finds, weaken}
 use Rattle.proof.proofs.Tree.{derived-says, fitting-says, inequality-says, roundable-says, disequality-says, byNumber-says, byStride-says, entry-says}
-use Rattle.guarantee.specs.Editions.{ShortBundles, ReadA}
+use Rattle.guarantee.specs.Editions.{ShortBundles, ReadA, TooLong, long-A, long-B, late-A, late-B}
 
 -- ---- the proof's fields: none of their refusals is 1
 abbrev Not1 : {X : Type 0} → Result X → Type 0
@@ -181,98 +181,64 @@ module _ (Why : ℕ → Type 0) where
     bundle-one = record { refusal = constraints-one .refusal; value = bundle-gives newestEdition file given bytes .gives }
 
 -- ---- the operations
--- A and B are too long: for every edition, or, where they come to be read, for edition 1.
-module _ (A B proof : List ℕ) where
-  abbrev LongA : Type 0
-  LongA = (8_192 < length A) ⊎ (ShortBundles A B × (length proof ≤ 65_536) × Says A 1 × (4_096 < length A))
-
-  abbrev LongB : Type 0
-  LongB = ((length A ≤ 8_192) × (8_192 < length B)) ⊎ (ReadA A B × (length proof ≤ 65_536) × Says B 1 × (4_096 < length B))
-
--- The reasons of check and show: a lent output (file 4) needs none.
-record Reasons (A B proof : List ℕ) (file : ℕ) : Type 0 where
-  ofA : file ≡ fileA → LongA A B proof
-  ofB : file ≡ fileB → LongB A B proof
-  ofProof : file ≡ fileProof → ShortBundles A B × (65_536 < length proof)
-
-module _ (A B proof : List ℕ) where
-  reason-A : LongA A B proof → Reasons A B proof fileA
-  reason-A h = record { ofA = λ _. h; ofB = λ e. absurd (omega arith); ofProof = λ e. absurd (omega arith) }
-
-  reason-B : LongB A B proof → Reasons A B proof fileB
-  reason-B h = record { ofA = λ e. absurd (omega arith); ofB = λ _. h; ofProof = λ e. absurd (omega arith) }
-
-  reason-proof : ShortBundles A B × (65_536 < length proof) → Reasons A B proof fileProof
-  reason-proof h = record { ofA = λ e. absurd (omega arith); ofB = λ e. absurd (omega arith); ofProof = λ _. h }
-
-  reason-lent : Reasons A B proof fileLent
-  reason-lent = record { ofA = λ e. absurd (omega arith); ofB = λ e. absurd (omega arith); ofProof = λ e. absurd (omega arith) }
-
-  abbrev Ones : Answer → Type 0
-  Ones = One (Reasons A B proof)
-
-  bundles-one : ShortBundles A B → length proof ≤ 65_536 → Tells Ones (bundles newestEdition A B) (λ _. Unit {0})
+-- A and B, where no other file stands in the way
+module _ (Why : ℕ → Type 0) (A B : List ℕ) (Rest : Type 0) (why : (file : ℕ) → TooLong A B Rest file → Why file) where
+  bundles-one : ShortBundles A B → Rest → Tells (One Why) (bundles newestEdition A B) (λ _. Unit {0})
   unfolding bundles
-  bundles-one s p = bind (bundle-one _ fileA none A (s .a) λ e l. reason-A (inr (s, p, e, l))) λ x f.
+  bundles-one s p = bind (bundle-one Why fileA none A (s .a) λ e l. why fileA (late-A s p e l)) λ x f.
       let read : ReadA A B = record { short = s; nA = x .edition; K = x .K; a = x .constraints; statesA = f .file } in
-      bind (bundle-one _ fileB (some (x .K)) B (s .b) λ e l. reason-B (inr (read, p, e, l))) λ y _. says-accepted tt
+      bind (bundle-one Why fileB (some (x .K)) B (s .b) λ e l. why fileB (late-B read p e l)) λ y _. says-accepted tt
 
-  shown-one : length proof ≤ 65_536 → (line : ℕ) → Tells Ones (shownPart newestEdition A B line) (λ _. Unit {0})
-  unfolding shownPart
-  shown-one p line = at-most _ _ fileA A (λ h. reason-A (inl h)) λ a. at-most _ _ fileB B (λ h. reason-B (inl (a, h))) λ b.
-      bind (bundles-one (record { a = a; b = b }) p) λ x _. weaken (finds _ _ (λ e. absurd (omega arith))) (λ _ q. q) (λ _ _. tt)
+  -- their lengths are tested first, and what follows knows them
+  lengths-one : {X : Type 0} {P : X → Type 0} {r : Result X} → (ShortBundles A B → Tells (One Why) r P) → Tells (One Why) (atMost 8_192 fileA A >> (atMost 8_192 fileB B >> r)) P
+  lengths-one k = at-most Why 8_192 fileA A (λ h. why fileA (long-A h)) λ a. at-most Why 8_192 fileB B (λ h. why fileB (long-B a h)) λ b. k (record { a = a; b = b })
 
-  interpolant-one : Tells Ones (interpolant newestEdition A B proof) (λ _. Unit {0})
+module _ (A B proof : List ℕ) where
+  -- Why check is refused by 1, by the file.
+  abbrev Why1 : ℕ → Type 0
+  Why1 file = TooLong A B (length proof ≤ 65_536) file ⊎ ((file ≡ fileProof) × ShortBundles A B × (65_536 < length proof)) ⊎ (file ≡ fileLent)
+
+  interpolant-one : Tells (One Why1) (interpolant newestEdition A B proof) (λ _. Unit {0})
   unfolding interpolant formulaAtMost
-  interpolant-one = at-most _ _ fileA A (λ h. reason-A (inl h)) λ a. at-most _ _ fileB B (λ h. reason-B (inl (a, h))) λ b.
-      at-most _ _ fileProof proof (λ h. reason-proof (record { a = a; b = b }, h)) λ p.
-      bind (bundles-one (record { a = a; b = b }) p) λ x _. bind (never1 _ (proof-not1 newestEdition (x .0) (x .1) (fields proof))) λ I _. test _ _ (λ _. reason-lent) λ _. says-accepted tt
+  interpolant-one = lengths-one Why1 A B (length proof ≤ 65_536) (λ _ w. inl w) λ s. at-most Why1 _ fileProof proof (λ h. inr (inl (refl, s, h))) λ p.
+      bind (bundles-one Why1 A B (length proof ≤ 65_536) (λ _ w. inl w) s p) λ x _. bind (never1 Why1 (proof-not1 newestEdition (x .0) (x .1) (fields proof))) λ I _. test _ _ (λ _. inr (inr refl)) λ _. says-accepted tt
 
   -- what is left, by the bytes or the refusal
-  left-one : (r : Result (List ℕ)) (output : List ℕ) → Tells Ones r (λ _. Unit {0}) → Ones (written r output .answer)
+  left-one : (r : Result (List ℕ)) (output : List ℕ) → Tells (One Why1) r (λ _. Unit {0}) → One Why1 (written r output .answer)
   unfolding written fit
   left-one (refused a) output s = s .refusal a refl
   left-one (accepted bytes) output s = go (leb (length bytes) (length output))
     where
-      go : (b : Bool) → Ones (fit output b bytes .answer)
+      go : (b : Bool) → One Why1 (fit output b bytes .answer)
       go true e = absurd (omega arith)
       go false e = absurd (omega arith)
 
-  check-one : (output : List ℕ) → Ones (check A B proof output .answer)
+  check-one : (output : List ℕ) → One Why1 (check A B proof output .answer)
   unfolding check checkBy
   check-one output = left-one _ output (bind interpolant-one λ x _. says-accepted tt)
 
-  shown-by : {X : Type 0} (r : Result X) → Tells Ones r (λ _. Unit {0}) → Ones (answerOf r)
+pub check-1 : {A B proof output left : List ℕ} {r : WriteResult} → Checks A B proof output left r → r .answer .number ≡ 1 → Why1 A B proof (r .answer .file)
+check-1 {A = X} {B = Y} {proof} {output} c = subst (λ (w : Written). One (Why1 X Y proof) (w .answer)) (sym (c .is)) (check-one X Y proof output)
+
+module _ (A B : List ℕ) where
+  abbrev Shown1 : ℕ → Type 0
+  Shown1 = TooLong A B (Unit {0})
+
+  shown-one : (line : ℕ) → Tells (One Shown1) (shownPart newestEdition A B line) (λ _. Unit {0})
+  unfolding shownPart
+  shown-one line = lengths-one Shown1 A B (Unit {0}) (λ _ w. w) λ s. bind (bundles-one Shown1 A B (Unit {0}) (λ _ w. w) s tt) λ x _. weaken (finds _ _ (λ e. absurd (omega arith))) (λ _ q. q) (λ _ _. tt)
+
+  shown-by : {X : Type 0} (r : Result X) → Tells (One Shown1) r (λ _. Unit {0}) → One Shown1 (answerOf r)
   unfolding answerOf
   shown-by (refused a) s = s .refusal a refl
   shown-by (accepted x) s = λ e. absurd (omega arith)
 
-  show-one : length proof ≤ 65_536 → (line : ℕ) → Ones (showAnswer newestEdition A B line)
+  show-one : (line : ℕ) → One Shown1 (showAnswer newestEdition A B line)
   unfolding showAnswer
-  show-one p line = shown-by (shownPart newestEdition A B line) (shown-one p line)
+  show-one line = shown-by (shownPart newestEdition A B line) (shown-one line)
 
-module _ {A B proof output left : List ℕ} {r : WriteResult} (c : Checks A B proof output left r) (one : r .answer .number ≡ 1) where
-  check-why : Reasons A B proof (r .answer .file)
-  check-why = subst (λ (w : Written). Ones A B proof (w .answer)) (sym (c .is)) (check-one A B proof output) one
-
-  pub check-1-A : r .answer .file ≡ fileA → LongA A B proof
-  check-1-A f = check-why .ofA f
-
-  pub check-1-B : r .answer .file ≡ fileB → LongB A B proof
-  check-1-B f = check-why .ofB f
-
-  pub check-1-proof : r .answer .file ≡ fileProof → ShortBundles A B × (65_536 < length proof)
-  check-1-proof f = check-why .ofProof f
-
-module _ {A B : List ℕ} {line : ℕ} {r : Answer} (c : AnswersShow A B line r) (one : r .number ≡ 1) where
-  show-why : Reasons A B [] (r .file)
-  show-why = subst (Ones A B []) (sym (c .is)) (show-one A B [] (omega arith) line) one
-
-  pub show-1-A : r .file ≡ fileA → (8_192 < length A) ⊎ (ShortBundles A B × Says A 1 × (4_096 < length A))
-  show-1-A f = ⊎-elim inl (λ (s, p, e, l). inr (s, e, l)) (show-why .ofA f)
-
-  pub show-1-B : r .file ≡ fileB → ((length A ≤ 8_192) × (8_192 < length B)) ⊎ (ReadA A B × Says B 1 × (4_096 < length B))
-  show-1-B f = ⊎-elim inl (λ (a, p, e, l). inr (a, e, l)) (show-why .ofB f)
+pub show-1 : {A B : List ℕ} {line : ℕ} {r : Answer} → AnswersShow A B line r → r .number ≡ 1 → TooLong A B (Unit {0}) (r .file)
+show-1 {A = X} {B = Y} {line} c = subst (One (TooLong X Y (Unit {0}))) (sym (c .is)) (show-one X Y line)
 
 -- what is read, in whatever file it is refused: too long for every edition, or for edition 1
 abbrev Long : List ℕ → Type 0

@@ -1,4 +1,4 @@
--- Edition 2: document 02, point 3. This office beside that of document 01, how long a bundle may be, what an edition that is not read gives, a 33rd constraint, a kind or count that is wrong, and a number that its edition does not hold. The offices and the lengths of the definitions, all else of what each operation's function ensures. Assumes nothing.
+-- Edition 2: document 02, point 3. This office beside that of document 01, how long a bundle may be, what an edition that is not read gives, a 33rd constraint, a kind or count that is wrong, and a number that its edition does not hold. What differs, `offices` and `length-A` to `length-plain-else` are said of the definitions, all else of what each operation's function ensures. Assumes nothing.
 -- (That files of both editions are sound, laid out, read and written, and may differ in edition, is in the demands, which speak of both.)
 use mathlib.Core.Path.{_≡_}
 use mathlib.Core.Logic.{_⊎_}
@@ -37,6 +37,13 @@ pub record ReadA (A B : List ℕ) : Type 0 where
   pub K : ℕ
   pub a : List Constraint
   pub statesA : BundleFile newestEdition A nA K a
+
+-- Why A or B is refused by 1, by its file: it is too long for every edition, A before B, or for edition 1, which it says, where it comes to be read; for that `Rest` must hold too.
+pub data TooLong (A B : List ℕ) (Rest : Type 0) : ℕ → Type 0 where
+  long-A : 8_192 < length A → TooLong A B Rest fileA
+  long-B : length A ≤ 8_192 → 8_192 < length B → TooLong A B Rest fileB
+  late-A : ShortBundles A B → Rest → Says A 1 → 4_096 < length A → TooLong A B Rest fileA
+  late-B : ReadA A B → Rest → Says B 1 → 4_096 < length B → TooLong A B Rest fileB
 
 -- And B is one with A's K, so that the proof is read.
 pub record ReadBoth (A B : List ℕ) : Type 0 where
@@ -139,13 +146,9 @@ pub record EditionsPromised : Type 0 where
       → Says A 1 → 4_096 < length A → r .answer ≡ answer 1 fileA 0
   pub check-late-B : (A B proof output left : List ℕ) (r : WriteResult) → Checks A B proof output left r → ReadA A B → length proof ≤ 65_536
       → Says B 1 → 4_096 < length B → r .answer ≡ answer 1 fileB 0
-  -- 1 in these cases only: so, within 8,192 bytes, every fault in front of 0x01 comes before it
-  pub check-1-A : (A B proof output left : List ℕ) (r : WriteResult) → Checks A B proof output left r → r .answer .number ≡ 1 → r .answer .file ≡ fileA
-      → (8_192 < length A) ⊎ (ShortBundles A B × (length proof ≤ 65_536) × Says A 1 × (4_096 < length A))
-  pub check-1-B : (A B proof output left : List ℕ) (r : WriteResult) → Checks A B proof output left r → r .answer .number ≡ 1 → r .answer .file ≡ fileB
-      → ((length A ≤ 8_192) × (8_192 < length B)) ⊎ (ReadA A B × (length proof ≤ 65_536) × Says B 1 × (4_096 < length B))
-  pub check-1-proof : (A B proof output left : List ℕ) (r : WriteResult) → Checks A B proof output left r → r .answer .number ≡ 1 → r .answer .file ≡ fileProof
-      → ShortBundles A B × (65_536 < length proof)
+  -- 1 in these cases only, and with file 4 for a formula (document 02, point 1): so, within 8,192 bytes, every fault in front of 0x01 comes before it
+  pub check-1 : (A B proof output left : List ℕ) (r : WriteResult) → Checks A B proof output left r → r .answer .number ≡ 1
+      → TooLong A B (length proof ≤ 65_536) (r .answer .file) ⊎ ((r .answer .file ≡ fileProof) × ShortBundles A B × (65_536 < length proof)) ⊎ (r .answer .file ≡ fileLent)
   -- an edition that is neither 1 nor 2: 5 at its field, in A, in B, in the proof
   pub check-other-A : (A B proof output left : List ℕ) (r : WriteResult) → Checks A B proof output left r → ShortBundles A B → length proof ≤ 65_536
       → (n at : ℕ) → Other n → SaysAt A n at → r .answer ≡ answer 5 fileA at
@@ -181,10 +184,7 @@ pub record EditionsPromised : Type 0 where
   pub show-long-B : (A B : List ℕ) (line : ℕ) (r : Answer) → AnswersShow A B line r → length A ≤ 8_192 → 8_192 < length B → r ≡ answer 1 fileB 0
   pub show-late-A : (A B : List ℕ) (line : ℕ) (r : Answer) → AnswersShow A B line r → ShortBundles A B → Says A 1 → 4_096 < length A → r ≡ answer 1 fileA 0
   pub show-late-B : (A B : List ℕ) (line : ℕ) (r : Answer) → AnswersShow A B line r → ReadA A B → Says B 1 → 4_096 < length B → r ≡ answer 1 fileB 0
-  pub show-1-A : (A B : List ℕ) (line : ℕ) (r : Answer) → AnswersShow A B line r → r .number ≡ 1 → r .file ≡ fileA
-      → (8_192 < length A) ⊎ (ShortBundles A B × Says A 1 × (4_096 < length A))
-  pub show-1-B : (A B : List ℕ) (line : ℕ) (r : Answer) → AnswersShow A B line r → r .number ≡ 1 → r .file ≡ fileB
-      → ((length A ≤ 8_192) × (8_192 < length B)) ⊎ (ReadA A B × Says B 1 × (4_096 < length B))
+  pub show-1 : (A B : List ℕ) (line : ℕ) (r : Answer) → AnswersShow A B line r → r .number ≡ 1 → TooLong A B (Unit {0}) (r .file)
   pub show-other-A : (A B : List ℕ) (line : ℕ) (r : Answer) → AnswersShow A B line r → ShortBundles A B → (n at : ℕ) → Other n → SaysAt A n at → r ≡ answer 5 fileA at
   pub show-other-B : (A B : List ℕ) (line : ℕ) (r : Answer) → AnswersShow A B line r → ReadA A B → (n at : ℕ) → Other n → SaysAt B n at → r ≡ answer 5 fileB at
   pub show-more-A : (A B : List ℕ) (line : ℕ) (r : Answer) → AnswersShow A B line r → ShortBundles A B → (n K at : ℕ) → HasMore A n K at → r ≡ answer 8 fileA at

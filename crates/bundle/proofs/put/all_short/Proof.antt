@@ -23,14 +23,14 @@ abbrev μ-loop : tie.MeasureT-loop
 loop-holds : tie.Need-loop-holds Inv-loop μ-loop
 loop-holds c = refl
 
-mul-raised : tie.Need-mul-raised Inv-loop μ-loop
-mul-raised c = search needs
+mul-shifted : tie.Need-mul-shifted Inv-loop μ-loop
+mul-shifted c = search needs
 
-shared-slice-copy-out-raised : tie.Need-shared-slice-copy-out-raised Inv-loop μ-loop
-shared-slice-copy-out-raised c = search needs
+shared-slice-copy-out-shifted : tie.Need-shared-slice-copy-out-shifted Inv-loop μ-loop
+shared-slice-copy-out-shifted c = search needs
 
-raised-requires : tie.Need-raised-requires Inv-loop μ-loop
-raised-requires c κs = search needs
+shifted-requires : tie.Need-shifted-requires Inv-loop μ-loop
+shifted-requires c κs = search needs
 
 merged-requires : tie.Need-merged-requires Inv-loop μ-loop
 merged-requires c κs = search needs
@@ -45,9 +45,9 @@ loop-again : tie.Need-loop-again Inv-loop μ-loop
 loop-again c =
     let xs = c .before .before .before .before .before .args .numbers .now in
     let l = c .before .before .before .before .loop in
-    let e = toZ-ofZ w32 (getD xs (l .i) (pos 0)) (record { sfits = c .before .before .raised-arg .given }) in
+    let e = toZ-ofZ w32 (getD xs (l .i) (pos 0)) (record { sfits = c .before .before .shifted-arg .given }) in
     let b = ltb (l .all) 0x1_0000 in
-    all-next (holdable 2) xs (l .i) b (l .inv) (pos 0) (c .before .before .before .loop-test .taken) (c .merged .ensures ∙ ap (_&&_ b) (c .before .raised .ensures ∙ ap (holdable 2) e))
+    all-next (holdable 2) xs (l .i) b (l .inv) (pos 0) (c .before .before .before .loop-test .taken) (c .merged .ensures ∙ ap (_&&_ b) (c .before .shifted .ensures ∙ ap (holdable 2) e))
 
 returns : tie.Need-returns Inv-loop μ-loop
 returns c = all-done (holdable 2) (c .before .before .args .numbers .now) (c .before .loop .i) (ltb (c .before .loop .all) 0x1_0000) (c .before .loop .inv) (c .loop-test .left)
@@ -59,9 +59,9 @@ all-short-spec =
     Inv-loop
     μ-loop
     loop-holds
-    mul-raised
-    shared-slice-copy-out-raised
-    raised-requires
+    mul-shifted
+    shared-slice-copy-out-shifted
+    shifted-requires
     merged-requires
     add-i
     loop-less

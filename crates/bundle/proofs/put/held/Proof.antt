@@ -6,13 +6,13 @@ use borrow.Author.Needs.{needs}
 use Rattle.bundle.proofs.put.held.Statement.{statement}
 use Rattle.bundle.proofs.put.held.Tie as tie
 
-raised-requires : tie.Need-raised-requires
-raised-requires c κs = search needs
+shifted-requires : tie.Need-shifted-requires
+shifted-requires c κs = search needs
 
 returns : tie.Need-returns
 returns c =
     let e = toZ-ofZ w32 (c .before .before .args .x) (c .before .before .fits .x) in
-    rw (c .before .if1 .taken) (rw e at (c .raised .ensures))
+    rw (c .before .if1 .taken) (rw e at (c .shifted .ensures))
 
 above-lowest-requires : tie.Need-above-lowest-requires
 above-lowest-requires c κs = search needs
@@ -26,7 +26,7 @@ pub held-spec : {M : Type 1} → statement M
 held-spec =
     tie.close
     (tie.spec
-    raised-requires
+    shifted-requires
     returns
     above-lowest-requires
     returns-2)

@@ -14,7 +14,7 @@ take-shorts-requires c κs = search needs
 put-run-requires : tie.Need-put-run-requires
 put-run-requires c κs =
     let b = c .before .before .before .before .before .before in
-    ((inl refl, rw (c .before .before .before .take-shorts .ensures) (record { each = all-take (length (b .args .x .now)) (all-drop (b .args .from) (b .pre .0 .each)) })), search needs)
+    ((inl refl, rw (c .before .before .before .take-shorts .ensures) (record { each = all-take (length (b .args .block .now)) (all-drop (b .args .from) (b .pre .0 .each)) })), search needs)
 
 same-length : tie.Need-same-length
 same-length c = search needs

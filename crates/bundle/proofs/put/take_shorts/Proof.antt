@@ -14,10 +14,10 @@ use Rattle.bundle.proofs.put.take_shorts.Statement.{statement}
 use Rattle.bundle.proofs.put.take_shorts.Tie as tie
 
 abbrev Inv-loop : tie.InvT-loop
-Inv-loop numbers from x₀ i₀ x i = (take i x ≡ take i (drop from numbers)) × (length x ≡ length x₀) × (i ≤ length x)
+Inv-loop numbers from block₀ i₀ block i = (take i block ≡ take i (drop from numbers)) × (length block ≡ length block₀) × (i ≤ length block)
 
 abbrev μ-loop : tie.MeasureT-loop
-μ-loop numbers from x₀ i₀ x i = length x - i
+μ-loop numbers from block₀ i₀ block i = length block - i
 
 loop-holds : tie.Need-loop-holds Inv-loop μ-loop
 loop-holds c = (refl, refl, omega arith)
@@ -41,10 +41,10 @@ shortened-requires c κs =
 
 mul-t11 : tie.Need-mul-t11 Inv-loop μ-loop
 mul-t11 c =
-    scaled-fits (c .before .before .before .loop .i) (length (c .before .before .before .before .args .x .now)) 4 (omega arith) (c .before .before .before .before .good .1 .1 .0 .1)
+    scaled-fits (c .before .before .before .loop .i) (length (c .before .before .before .before .args .block .now)) 4 (omega arith) (c .before .before .before .before .good .1 .1 .0 .1)
 
-slice-set-from-x : tie.Need-slice-set-from-x Inv-loop μ-loop
-slice-set-from-x c = search needs
+slice-set-from-block : tie.Need-slice-set-from-block Inv-loop μ-loop
+slice-set-from-block c = search needs
 
 add-i : tie.Need-add-i Inv-loop μ-loop
 add-i c = search needs
@@ -57,7 +57,7 @@ loop-again c =
     let a = c .before .before .before .before .args in
     let i = c .before .before .before .loop .i in
     let e = toZ-ofZ w32 (c .shortened .result) (record { sfits = c .shortened .ok }) ∙ c .shortened .ensures ∙ toZ-ofZ w32 (getD (a .numbers .now) (a .from + i) (pos 0)) (record { sfits = c .before .shortened-arg .given }) in (
-      rw e (taken-next (c .before .before .before .loop .x) (a .numbers .now) (a .from) i (omega arith) (omega arith) (c .before .before .before .loop .inv .0)),
+      rw e (taken-next (c .before .before .before .loop .block) (a .numbers .now) (a .from) i (omega arith) (omega arith) (c .before .before .before .loop .inv .0)),
       simp length-set (c .before .before .before .loop .inv .1),
       simp length-set (omega arith),
     )
@@ -67,9 +67,9 @@ same-length c = search needs
 
 returns : tie.Need-returns Inv-loop μ-loop
 returns c =
-    let x = c .before .loop .x in
+    let x = c .before .loop .block in
     let e : c .before .loop .i ≡ length x = omega arith in
-    let l : length x ≡ length (c .before .before .args .x .now) = c .before .loop .inv .1 in
+    let l : length x ≡ length (c .before .before .args .block .now) = c .before .loop .inv .1 in
     sym (take-length x) ∙ rw (← l, ← e) (c .before .loop .inv .0)
 
 pub take-shorts-spec : {M : Type 1} → statement M
@@ -84,7 +84,7 @@ take-shorts-spec =
     shared-slice-copy-out-shortened
     shortened-requires
     mul-t11
-    slice-set-from-x
+    slice-set-from-block
     add-i
     loop-less
     loop-again

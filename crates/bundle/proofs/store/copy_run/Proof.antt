@@ -13,10 +13,10 @@ use Rattle.bundle.proofs.store.copy_run.Statement.{statement}
 use Rattle.bundle.proofs.store.copy_run.Tie as tie
 
 abbrev Inv-loop : tie.InvT-loop
-Inv-loop x numbers₀ at i₀ numbers i = (sets numbers (at + i) (drop i x) ≡ sets numbers₀ at x) × (length numbers ≡ length numbers₀) × (i ≤ length x)
+Inv-loop block numbers₀ at i₀ numbers i = (sets numbers (at + i) (drop i block) ≡ sets numbers₀ at block) × (length numbers ≡ length numbers₀) × (i ≤ length block)
 
 abbrev μ-loop : tie.MeasureT-loop
-μ-loop x numbers₀ at i₀ numbers i = length x - i
+μ-loop block numbers₀ at i₀ numbers i = length block - i
 
 loop-holds : tie.Need-loop-holds Inv-loop μ-loop
 loop-holds c =
@@ -24,7 +24,7 @@ loop-holds c =
     (rw e, refl, omega arith)
 
 mul-numbers : tie.Need-mul-numbers Inv-loop μ-loop
-mul-numbers c = scaled-fits (c .before .loop .i) (length (c .before .before .args .x .now)) 4 (omega arith) (c .before .before .good .0 .1)
+mul-numbers c = scaled-fits (c .before .loop .i) (length (c .before .before .args .block .now)) 4 (omega arith) (c .before .before .good .0 .1)
 
 shared-slice-copy-out-numbers : tie.Need-shared-slice-copy-out-numbers Inv-loop μ-loop
 shared-slice-copy-out-numbers c = search needs
@@ -47,8 +47,8 @@ loop-less c = search needs
 loop-again : tie.Need-loop-again Inv-loop μ-loop
 loop-again c =
     let a = c .before .before .before .args in
-    let x = toZ-ofZ w32 (getD (a .x .now) (c .before .before .loop .i) (pos 0)) (record { sfits = c .numbers .given }) in (
-      rw x (copied-next (c .before .before .loop .numbers) (a .x .now) (a .at) (c .before .before .loop .i) (c .before .loop-test .taken) ∙ c .before .before .loop .inv .0),
+    let x = toZ-ofZ w32 (getD (a .block .now) (c .before .before .loop .i) (pos 0)) (record { sfits = c .numbers .given }) in (
+      rw x (copied-next (c .before .before .loop .numbers) (a .block .now) (a .at) (c .before .before .loop .i) (c .before .loop-test .taken) ∙ c .before .before .loop .inv .0),
       simp length-set (c .before .before .loop .inv .1),
       omega arith,
     )
@@ -57,7 +57,7 @@ same-length : tie.Need-same-length Inv-loop μ-loop
 same-length c = c .before .loop .inv .1
 
 returns : tie.Need-returns Inv-loop μ-loop
-returns c = rw (drop-of-length-le (c .before .before .args .x .now) (c .loop-test .left)) at (c .before .loop .inv .0)
+returns c = rw (drop-of-length-le (c .before .before .args .block .now) (c .loop-test .left)) at (c .before .loop .inv .0)
 
 pub copy-run-spec : {M : Type 1} → statement M
 copy-run-spec =

@@ -1,4 +1,4 @@
--- `bundle::store::store_through` meets its contract: what is read fills x, and all of it is copied. Assumes nothing.
+-- `bundle::store::store_through` meets its contract: what is read fills the block, and all of it is copied. Assumes nothing.
 use mathlib.Core.Path.{refl, _∙_}
 use mathlib.Core.Logic.{inl}
 use lib.ListN.{length, drop}
@@ -24,8 +24,8 @@ same-length-2 c = search needs
 returns : tie.Need-returns
 returns c =
     let a = c .before .before .before .before .before .before .before .before .args in
-    let zs = signeds 2 (length (a .x .now)) (drop (a .start) (a .s .now)) in
-    rw (c .before .before .before .before .before .store-run .ensures ∙ stored-whole (a .x .now) zs (length-signeds 2 (length (a .x .now)) (drop (a .start) (a .s .now)))) at (c .before .copy-run .ensures)
+    let zs = signeds 2 (length (a .block .now)) (drop (a .start) (a .s .now)) in
+    rw (c .before .before .before .before .before .store-run .ensures ∙ stored-whole (a .block .now) zs (length-signeds 2 (length (a .block .now)) (drop (a .start) (a .s .now)))) at (c .before .copy-run .ensures)
 
 pub store-through-spec : {M : Type 1} → statement M
 store-through-spec =

@@ -1,13 +1,13 @@
--- `bundle::put::raised` meets its contract: no sum wraps. Assumes nothing.
+-- `bundle::put::shifted` meets its contract: no sum wraps. Assumes nothing.
 use mathlib.Core.Path.{_≡_}
 use lib.IntN.{ℤ, pos, _+ℤ_}
 use mir.Syntax.{w32, w64}
 use mir.Val.{SFits, toZ, ofZ}
 use mir.ValLaws.{toZ-ofZ}
 use mir.Facts.{sfits-widen}
-use Rattle.bundle.proofs.Merging.{Raised, sum-fits, raised-low, raised-high}
-use Rattle.bundle.proofs.put.raised.Statement.{statement}
-use Rattle.bundle.proofs.put.raised.Tie as tie
+use Rattle.bundle.proofs.Merging.{Shifted, sum-fits, shifted-low, shifted-high}
+use Rattle.bundle.proofs.put.shifted.Statement.{statement}
+use Rattle.bundle.proofs.put.shifted.Tie as tie
 
 -- x in 64 bits, and y
 widened : (z : ℤ) → SFits w32 z → toZ w64 (ofZ w64 (toZ w32 (ofZ w32 z))) ≡ z
@@ -16,11 +16,11 @@ widened z f = rw (toZ-ofZ w32 z f) (toZ-ofZ w64 z (sfits-widen tt f))
 summed : (z : ℤ) → SFits w32 z → toZ w64 (ofZ w64 (toZ w64 (ofZ w64 (toZ w32 (ofZ w32 z))) +ℤ pos 0x8000)) ≡ z +ℤ pos 0x8000
 summed z f = rw (widened z f) (toZ-ofZ w64 (z +ℤ pos 0x8000) (sum-fits z f))
 
-low : (c : tie.Then1) → Raised (c .before .args .x) (c .before .args .x +ℤ pos 0x8000 +ℤ pos 0x1_0000_0000)
-low c = let x = c .before .args .x in let f = c .before .fits .x in raised-low x f (rw (summed x f) at (c .if1 .taken))
+low : (c : tie.Then1) → Shifted (c .before .args .x) (c .before .args .x +ℤ pos 0x8000 +ℤ pos 0x1_0000_0000)
+low c = let x = c .before .args .x in let f = c .before .fits .x in shifted-low x f (rw (summed x f) at (c .if1 .taken))
 
-high : (c : tie.Else1) → Raised (c .before .args .x) (c .before .args .x +ℤ pos 0x8000)
-high c = let x = c .before .args .x in let f = c .before .fits .x in raised-high x f (rw (summed x f) at (c .if1 .left))
+high : (c : tie.Else1) → Shifted (c .before .args .x) (c .before .args .x +ℤ pos 0x8000)
+high c = let x = c .before .args .x in let f = c .before .fits .x in shifted-high x f (rw (summed x f) at (c .if1 .left))
 
 cast-y : tie.Need-cast-y
 cast-y c = rw (toZ-ofZ w32 (c .args .x) (c .fits .x)) (sfits-widen tt (c .fits .x))
@@ -43,6 +43,6 @@ cast-result-2 c = rw (summed (c .before .args .x) (c .before .fits .x)) (high c 
 returns-2 : tie.Need-returns-2
 returns-2 c = rw (summed (c .before .args .x) (c .before .fits .x)) (high c .test)
 
-pub raised-spec : {M : Type 1} → statement M
-raised-spec =
+pub shifted-spec : {M : Type 1} → statement M
+shifted-spec =
     tie.close (tie.spec cast-y add-y add-result cast-result returns cast-result-2 returns-2)
