@@ -38,19 +38,19 @@ pub record ReadA (A B : List ℕ) : Type 0 where
   pub a : List Constraint
   pub statesA : BundleFile newestEdition A nA K a
 
--- Why A or B is refused by 1, by its file: it is too long for every edition, A before B, or for edition 1, which it says, where it comes to be read; for that `Rest` must hold too.
-pub data TooLong (A B : List ℕ) (Rest : Type 0) : ℕ → Type 0 where
-  long-A : 8_192 < length A → TooLong A B Rest fileA
-  long-B : length A ≤ 8_192 → 8_192 < length B → TooLong A B Rest fileB
-  late-A : ShortBundles A B → Rest → Says A 1 → 4_096 < length A → TooLong A B Rest fileA
-  late-B : ReadA A B → Rest → Says B 1 → 4_096 < length B → TooLong A B Rest fileB
-
 -- And B is one with A's K, so that the proof is read.
 pub record ReadBoth (A B : List ℕ) : Type 0 where
   pub first : ReadA A B
   pub nB : ℕ
   pub b : List Constraint
   pub statesB : BundleFile newestEdition B nB (first .K) b
+
+-- Why A or B is refused by 1 (the index is the file's number): it is too long for every edition, A before B, or, where it comes to be read, for edition 1, which it says; then `Rest`, what else must hold before A is read, holds too.
+pub data TooLong (A B : List ℕ) (Rest : Type 0) : ℕ → Type 0 where
+  long-A : 8_192 < length A → TooLong A B Rest fileA
+  long-B : length A ≤ 8_192 → 8_192 < length B → TooLong A B Rest fileB
+  late-A : ShortBundles A B → Rest → Says A 1 → 4_096 < length A → TooLong A B Rest fileA
+  late-B : ReadA A B → Rest → Says B 1 → 4_096 < length B → TooLong A B Rest fileB
 
 -- The file's first field, notes aside, is a whole 0x01 of length 1, says n and starts at that byte.
 pub record SaysAt (file : List ℕ) (n at : ℕ) : Type 0 where
@@ -146,7 +146,7 @@ pub record EditionsPromised : Type 0 where
       → Says A 1 → 4_096 < length A → r .answer ≡ answer 1 fileA 0
   pub check-late-B : (A B proof output left : List ℕ) (r : WriteResult) → Checks A B proof output left r → ReadA A B → length proof ≤ 65_536
       → Says B 1 → 4_096 < length B → r .answer ≡ answer 1 fileB 0
-  -- 1 in these cases only, and with file 4 for a formula (document 02, point 1): so, within 8,192 bytes, every fault in front of 0x01 comes before it
+  -- 1 in A, B and the proof in these cases only: so a bundle's late 1 comes behind every fault in front of its 0x01 and in it. With file 4, of which no more is said here, it is a formula's (`too-long` in Acceptance)
   pub check-1 : (A B proof output left : List ℕ) (r : WriteResult) → Checks A B proof output left r → r .answer .number ≡ 1
       → TooLong A B (length proof ≤ 65_536) (r .answer .file) ⊎ ((r .answer .file ≡ fileProof) × ShortBundles A B × (65_536 < length proof)) ⊎ (r .answer .file ≡ fileLent)
   -- an edition that is neither 1 nor 2: 5 at its field, in A, in B, in the proof
