@@ -14,19 +14,19 @@ use lib.ListN.{length, getD, take, drop, set, replicate, length-replicate, getD-
 use lib.Seq.{paste, sets, sets-eq, length-sets, length-paste, take-take, take-all, take-at, getD-at, getD-set-same}
 use Rattle.integers.specs.Magnitude.{Within}
 use Rattle.forms.specs.Forms.{Form, LineKind, Line, kindOn, small, every, _·_}
+use Rattle.forms.specs.Flat.{constraintKindOf, lineKindOf, formIn}
+use Rattle.forms.proofs.Flat.{kind-in-A, kind-in-B, kind-apart-B}
 use Rattle.calculus.specs.Rules.{_▷_}
 use Rattle.fields.specs.Numbers.{signed, signeds, flat, formFrom}
 use Rattle.fields.specs.Fields.{ends, cut}
 use Rattle.fields.specs.Places.{fieldsAt}
 use Rattle.fields.proofs.Places.{Starts, starts-size}
-use Rattle.bundle.specs.Bundle.{formSmall}
-use Rattle.bundle.specs.Scan.{faultOf, count, fault, counted, stated}
-use Rattle.bundle.proofs.Scanning.{counted-on, passed-both, count-is, proper-of, tag-most}
 use Rattle.fields.proofs.Signed.{length-signeds, signeds-take, signeds-last}
+use Rattle.bundle.specs.Bundle.{formSmall}
+use Rattle.bundle_scan.specs.Scan.{faultOf, count, fault, counted, stated}
+use Rattle.bundle_scan.proofs.Scanning.{counted-on, passed-both, count-is, proper-of, tag-most}
 use Rattle.lines.specs.Parts.{part, Agree}
 use Rattle.lines.proofs.Parts.{part-take, part-paste, getD-part, agree-sym, agree-trans, agree-le, agree-getD, agree-part, agree-set, agree-paste}
-use Rattle.forms.specs.Flat.{constraintKindOf, lineKindOf, formIn}
-use Rattle.forms.proofs.Flat.{kind-in-A, kind-in-B, kind-apart-B}
 use Rattle.lines.specs.Buffer.{size, times, lineIn, linesIn, Bounded}
 use Rattle.lines.proofs.Lines.{form-ext, line-ext, before, lines-more}
 use Rattle.lines.proofs.Fill.{Filled, filled-length, filled-next}

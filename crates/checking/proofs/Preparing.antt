@@ -10,9 +10,9 @@ use Rattle.forms.specs.Edition.{edition}
 use Rattle.forms.proofs.Editions.{lines-least, coefficientWidth-is}
 use Rattle.forms.specs.Forms.{lineA, lineB, lines}
 use Rattle.fields.specs.Places.{fieldsAt}
-use Rattle.bundle.specs.Scan.{stated}
-use Rattle.bundle.specs.declared.Body.{Body}
-use Rattle.bundle.proofs.Bodies.{count-is}
+use Rattle.bundle_scan.specs.Scan.{stated}
+use Rattle.bundle_scan.specs.declared.Body.{Body}
+use Rattle.bundle_scan.proofs.Bodies.{count-is}
 use Rattle.lines.specs.Buffer.{linesIn}
 use Rattle.branches.specs.Spare.{Spare}
 use Rattle.checking.specs.Load.{lineOf, Space, Loaded, Able}

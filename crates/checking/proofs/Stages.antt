@@ -21,22 +21,22 @@ use Rattle.fields.specs.Header.{header, finished, headerBytes}
 use Rattle.fields.specs.Places.{fieldsAt, headedOf, IsHeader}
 use Rattle.fields.proofs.HeaderLaid.{header-gives}
 use Rattle.fields.proofs.Headers.{given-some}
+use Rattle.fields.specs.declared.WriteResult.{WriteResult}
 use Rattle.bundle.specs.Bundle.{Bundle, atMost, bundle, bundles}
-use Rattle.bundle.specs.Scan.{IsBundle, Scans}
-use Rattle.bundle.specs.declared.Body.{Body}
-use Rattle.bundle.specs.declared.Scanned.{Scanned}
-use Rattle.bundle.proofs.Bodies as bodies
+use Rattle.bundle_scan.specs.Scan.{IsBundle, Scans}
+use Rattle.bundle_scan.specs.declared.Body.{Body}
+use Rattle.bundle_scan.specs.declared.Scanned.{Scanned}
+use Rattle.bundle_scan.proofs.Bodies as bodies
 use Rattle.formula.specs.Formula.{encode, formulaFile}
 use Rattle.formula.specs.Writing.{scratchLimit}
-use Rattle.lines.specs.Buffer.{linesIn}
 use Rattle.proof.specs.Check.{Closing, checkBranch, checkProof, formulaAtMost, interpolant, checkBy, check}
 use Rattle.proof.proofs.Agree.{agreed}
+use Rattle.lines.specs.Buffer.{linesIn}
 use Rattle.rows.specs.Tally.{tally}
 use Rattle.branches.specs.Spare.{fieldsLeft, unreadBytes, Spare}
 use Rattle.branches.specs.Branching.{Started}
 use Rattle.checking.specs.Whole.{Short, statedIn, Both, Prepared, Begun, fileWithin, finishing, rooted, Holds, Finishes, Roots, Enough, InScratch}
 use Rattle.checking.specs.Promises.{Checks}
-use Rattle.fields.specs.declared.WriteResult.{WriteResult}
 use Rattle.checking.proofs.Delivering.{unwritten}
 use Rattle.checking.proofs.Preparing.{few}
 

@@ -11,11 +11,11 @@ use lib.Seq.{paste}
 use Rattle.integers.specs.Magnitude.{Within}
 use Rattle.forms.specs.Edition.{edition, edition1, newestEdition}
 use Rattle.forms.specs.Forms.{Form, Side, Line, Constraint, kindOn, _·_}
+use Rattle.forms.specs.Flat.{constraintKindOf}
 use Rattle.fields.specs.Numbers.{formFrom, signeds}
 use Rattle.fields.specs.Fields.{Fields}
 use Rattle.bundle.specs.Bundle.{formSmall}
-use Rattle.bundle.specs.Scan.{count, counted}
-use Rattle.forms.specs.Flat.{constraintKindOf}
+use Rattle.bundle_scan.specs.Scan.{count, counted}
 use Rattle.lines.specs.Buffer.{size, times, linesIn, Bounded}
 
 -- n numbers of w bytes from `start` on are within the range, and have room at `at`.

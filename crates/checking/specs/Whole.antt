@@ -13,16 +13,16 @@ use Rattle.fields.specs.Answers.{answer, root, fileProof, fileLent, Result, acc
 use Rattle.fields.specs.Fields.{Fields, fields}
 use Rattle.fields.specs.Header.{header, finished, headerBytes}
 use Rattle.fields.specs.Places.{fieldsAt}
-use Rattle.bundle.specs.declared.Body.{Body}
-use Rattle.bundle.specs.Scan.{stated, IsBundle}
+use Rattle.fields.specs.declared.WriteResult.{WriteResult}
+use Rattle.bundle_scan.specs.declared.Body.{Body}
+use Rattle.bundle_scan.specs.Scan.{stated, IsBundle}
 use Rattle.formula.specs.Formula.{encode}
 use Rattle.formula.specs.Writing.{scratchLimit}
-use Rattle.lines.specs.Buffer.{size, linesIn, Bounded}
 use Rattle.proof.specs.Check.{checkBranch}
+use Rattle.lines.specs.Buffer.{size, linesIn, Bounded}
 use Rattle.branches.specs.Spare.{unreadBytes}
 use Rattle.branches.specs.Branching.{perByte}
 use Rattle.checking.specs.Load.{Space}
-use Rattle.fields.specs.declared.WriteResult.{WriteResult}
 
 -- No file is too long for every edition.
 pub record Short (A B P : List ℕ) : Type 0 where

@@ -2,12 +2,11 @@
 use crate::load::load;
 use branches::branch::Branched;
 use branches::branch::check_branch;
-use bundle::Body;
-use bundle::Scanned;
-use bundle::scan;
+use bundle_scan::Body;
+use bundle_scan::Scanned;
+use bundle_scan::scan;
 use fields::FileKind;
 use fields::WriteResult;
-use fields::answers;
 use fields::ending::Ending;
 use fields::ending::ending_at;
 use fields::header::Headed;
@@ -43,7 +42,7 @@ ghost use Rattle.checking.specs.Whole.{Short, Both, Prepared, Begun, InS
 fn refusal(number: u8, file: u8, place: usize) -> WriteResult
     ensures { λ r. ⌜ r ≡ record { answer = answer number file place; count = 0 } ⌝ }
 {
-    let answer = answers::refusal(number, file, place);
+    let answer = fields::answers::refusal(number, file, place);
     WriteResult { answer, count: 0 }
 }
 
@@ -74,7 +73,7 @@ fn deliver(scratch: &[u8], o: usize, k: u8, out: &mut [u8]) -> WriteResult
     }
     put_header(out, 1, k);
     copy_bytes(scratch, o, out, 8);
-    let answer = answers::acceptance();
+    let answer = fields::answers::acceptance();
     WriteResult {
         answer,
         count: needed,
@@ -154,7 +153,7 @@ fn check_root(
         open: 0,
         edition: e,
     };
-    let position = answers::root();
+    let position = fields::answers::root();
     match check_branch(
         proof,
         at,
@@ -172,7 +171,7 @@ fn check_root(
             position: found,
             at: place,
         } => {
-            let answer = answers::proof_refusal(found, so_far, number, place);
+            let answer = fields::answers::proof_refusal(found, so_far, number, place);
             WriteResult { answer, count: 0 }
         }
         Branched::Closed {

@@ -1,8 +1,8 @@
 // The constraints of a bundle as lines, behind the lines that the buffer has.
-use bundle::store::store_numbers;
 use fields::Next;
 use fields::next_field;
 use forms::LineNumber;
+use number_runs::store::store_numbers;
 use rows::derive::APART_A;
 use rows::derive::APART_B;
 use rows::derive::set_kind;
@@ -13,7 +13,7 @@ ghost use lib.IntN.{pos};
 ghost use lib.ListN.{length, drop, replicate};
 ghost use Rattle.fields.specs.Numbers.{signeds};
 ghost use Rattle.fields.specs.Places.{fieldsAt};
-ghost use Rattle.bundle.specs.Scan.{stated};
+ghost use Rattle.bundle_scan.specs.Scan.{stated};
 ghost use Rattle.checking.specs.Load.{Copies, NumbersStored, partialOf, lineByte, lineOf, Loads, Loaded, formLine, Able};
 
 // n times 0 in place of the n numbers at a place.

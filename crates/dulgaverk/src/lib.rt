@@ -4,13 +4,15 @@ ghost use mathlib.Core.Path.{_≡_};
 ghost use mathlib.Core.List.{_++_};
 ghost use Prim.Native.Nat.{_≤_};
 ghost use lib.ListN.{length, drop};
-ghost use Rattle.dulgaverk.specs.Copied.{Copied};
 ghost use Rattle.forms.specs.Edition.{newestEdition};
 ghost use Rattle.bundle.specs.Show.{showPart};
-ghost use Rattle.bundle.specs.Promises.{Reads, Writes, AnswersShow, partBytes};
+ghost use Rattle.bundle_show.specs.Promises.{AnswersShow, partBytes};
+ghost use Rattle.bundle_read.specs.Promises.{Reads};
+ghost use Rattle.bundle_write.specs.Promises.{Writes};
 ghost use Rattle.formula.specs.Promises.{Tests};
 ghost use Rattle.checking.specs.Promises.{Checks};
-use bundle::ReadResult;
+ghost use Rattle.dulgaverk.specs.Copied.{Copied};
+use bundle_read::ReadResult;
 use checking::check::check;
 use fields::Answer;
 use fields::WriteResult;
@@ -21,7 +23,7 @@ use formula::Tested;
 pub extern "C" fn dulgaverk_read(file: &[u8], kinds: &mut [u8], numbers: &mut [i32]) -> ReadResult
     ensures { λ r. ⌜ Reads (now (file .entry)) (now (kinds .entry)) (now (numbers .entry)) (now (kinds .exit)) (now (numbers .exit)) r ⌝ }
 {
-    bundle::read(file, kinds, numbers)
+    bundle_read::read(file, kinds, numbers)
 }
 
 #[no_mangle]
@@ -34,14 +36,14 @@ pub extern "C" fn dulgaverk_write(
 ) -> WriteResult
     ensures { λ r. ⌜ Writes edition k (now (kinds .entry)) (now (numbers .entry)) (now (out .entry)) (now (out .exit)) r ⌝ }
 {
-    bundle::write(edition, k, kinds, numbers, out)
+    bundle_write::write(edition, k, kinds, numbers, out)
 }
 
 #[no_mangle]
 pub extern "C" fn dulgaverk_show_answer(a: &[u8], b: &[u8], line: u16) -> Answer
     ensures { λ r. ⌜ AnswersShow (now (a .entry)) (now (b .entry)) line r ⌝ }
 {
-    bundle::show_answer(a, b, LineNumber(line))
+    bundle_show::show_answer(a, b, LineNumber(line))
 }
 
 // The first bytes of `to` become those of `from`.
@@ -69,7 +71,7 @@ pub extern "C" fn dulgaverk_check(a: &[u8], b: &[u8], proof: &[u8], out: &mut [u
 pub extern "C" fn dulgaverk_show<'a>(a: &'a [u8], b: &'a [u8], line: u16, out: &mut [u8]) -> usize
     ensures { λ r. ⌜ Copied (partBytes (showPart newestEdition (now (a .entry)) (now (b .entry)) line) (now (a .entry)) (now (b .entry))) (now (out .entry)) (now (out .exit)) r ⌝ }
 {
-    let part = bundle::show(a, b, LineNumber(line));
+    let part = bundle_show::show(a, b, LineNumber(line));
     let n = part.len();
     if out.len() < n {
         return n;

@@ -15,3 +15,4 @@ pub mod Headers
 pub mod Endings
 pub mod Apart
 pub mod Together
+pub mod Widths

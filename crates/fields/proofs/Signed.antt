@@ -8,7 +8,7 @@ use native.Mathlib.Omega.{arith}
 use lib.Dec.{ltb, ltb→lt, nltb→le}
 use lib.Arith.{digits-div, digits-mod, digits-lt}
 use lib.IntN.{ℤ, pos, negsuc, negℤ, _-ℤ_}
-use lib.ListN.{length, take, drop, length-append, length-drop, take-append-drop}
+use lib.ListN.{length, take, drop, length-append, length-drop, take-append-drop, getD}
 use lib.Seq.{take-at, drop-at, drop-drop, take-take, length-take-le}
 use Rattle.integers.specs.Linear.{pp, np}
 use Rattle.integers.proofs.Differences.{ints, add-pn, neg-pn, cond-ind}
@@ -250,3 +250,14 @@ module _ (w K : ℕ) where
         coeffs = signeds-in w K bs (omega arith) b;
         d = rw own at (signed-in (take w (drop (K * w) bs)) (all-take w (all-drop (K * w) b)));
       }
+
+-- ---- numbers of some bytes each, over the width
+-- the coefficients and then d are K+1 numbers in a row
+pub flat-signeds : (w K : ℕ) (bs : List ℕ) → flat (formFrom w K bs) ≡ signeds w (suc K) bs
+unfolding flat formFrom
+flat-signeds w K bs = sym (signeds-last w K bs)
+
+pub all-getD : {X : Type 0} {P : X → Type 0} {xs : List X} (i : ℕ) (x : X) → All P xs → i < length xs → P (getD xs i x)
+all-getD i x nil h = absurd (omega arith)
+all-getD zero x (cons p ps) h = p
+all-getD (suc i) x (cons p ps) h = all-getD i x ps (omega arith)

@@ -24,17 +24,18 @@ use Rattle.fields.specs.Header.{agrees}
 use Rattle.fields.proofs.Results.{Gives, not-0, weaken, bind, seq, finds, binds, passes, found-some}
 use Rattle.fields.proofs.Signed.{all-weaken}
 use Rattle.fields.proofs.Contents.{ItemBytes}
-use Rattle.bundle.specs.declared.ReadResult.{ReadResult}
 use Rattle.bundle.specs.Bundle.{Bundle}
 use Rattle.bundle.specs.Layout.{Each, nil as nil-each, cons as cons-each, BundleFile}
 use Rattle.bundle.specs.Read.{BundleRead, kindsOf, numbersOf, unread, store, stored, readBundle}
 use Rattle.bundle.specs.Write.{holdable, writeBundle}
 use Rattle.bundle.specs.Show.{Part, partOf, constraintPart, shownPart, answerOf, showAnswer}
-use Rattle.bundle.specs.Promises.{Reads, Writes}
 use Rattle.bundle.proofs.Laid.{BothLaid, bundle-gives, bundles-give, bundles-accept, short-gives, short-accepted}
-use Rattle.bundle.specs.Put.{InOrder as Ready}
+use Rattle.bundle.specs.Writable.{InOrder as Ready}
 use Rattle.bundle.proofs.Writable.{bundleBytes-gives, bundleBytes-accepted}
 use Rattle.bundle.proofs.RoundTrips.{bytesWritten, rewritten, writtenAs, written-fits, readAs, read-file, write-then-read, read-then-write}
+use Rattle.bundle_read.specs.declared.ReadResult.{ReadResult}
+use Rattle.bundle_read.specs.Promises.{Reads}
+use Rattle.bundle_write.specs.Promises.{Writes}
 use Rattle.formula.specs.Formula.{formulaFile}
 use Rattle.proof.specs.Check.{formulaAtMost, interpolant, checkBy, check}
 use Rattle.proof.specs.Layout.{Yields, Certifies}

@@ -21,14 +21,16 @@ use Rattle.fields.specs.Fields.{_▸_, fields}
 use Rattle.fields.specs.Header.{headerTag, known, agrees, header}
 use Rattle.fields.proofs.Results.{Gives, weaken, seq, binds, passes, needs, fail, bind-refused, each-accepted}
 use Rattle.fields.proofs.Signed.{all-weaken}
-use Rattle.bundle.specs.declared.ReadResult.{ReadResult}
 use Rattle.bundle.specs.Bundle.{Bundle, atMost, bundle, bundles}
 use Rattle.bundle.specs.Layout.{editionSaid, Says, limitSaid, bundleLimit}
 use Rattle.bundle.specs.Read.{BundleRead, unread, stored, readBundle}
 use Rattle.bundle.specs.Write.{bundleBytes, writeBundle}
 use Rattle.bundle.specs.Show.{answerOf, shownPart, showAnswer}
-use Rattle.bundle.specs.Promises.{Reads, Writes, AnswersShow}
 use Rattle.bundle.proofs.Laid.{short-gives, short-accepted, bundle-gives, bundle-accepts}
+use Rattle.bundle_show.specs.Promises.{AnswersShow}
+use Rattle.bundle_read.specs.declared.ReadResult.{ReadResult}
+use Rattle.bundle_read.specs.Promises.{Reads}
+use Rattle.bundle_write.specs.Promises.{Writes}
 use Rattle.formula.specs.Formula.{readFormula}
 use Rattle.formula.specs.declared.Tested.{Tested}
 use Rattle.formula.specs.Test.{tested, judged, testFormula}

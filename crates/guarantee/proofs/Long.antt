@@ -21,16 +21,17 @@ use Rattle.fields.specs.Answers.{answer, refusalAt, fileA, fileB, fileProof, fi
 use Rattle.fields.specs.Fields.{Fields, ends, cut, _▸_, fields}
 use Rattle.fields.specs.Header.{headerField, editionField, constantsField, header, finished}
 use Rattle.bundle.specs.Bundle.{Bundle, atMost, constraints, bundleHeader, bundle, bundles}
-use Rattle.bundle.specs.declared.ReadResult.{ReadResult}
 use Rattle.bundle.specs.Layout.{editionSaid, Says}
 use Rattle.bundle.specs.Read.{BundleRead, kindsOf, numbersOf, unread, store, stored, readBundle}
 use Rattle.bundle.specs.Show.{shownPart, answerOf, showAnswer}
-use Rattle.bundle.specs.Promises.{Reads, AnswersShow}
 use Rattle.bundle.proofs.Laid.{Laid, bundle-gives}
-use Rattle.checking.specs.Promises.{Checks}
+use Rattle.bundle_show.specs.Promises.{AnswersShow}
+use Rattle.bundle_read.specs.declared.ReadResult.{ReadResult}
+use Rattle.bundle_read.specs.Promises.{Reads}
 use Rattle.proof.specs.Check.{Checker, Following, checkRounded, checkSplit, checkRow, checkEntry, checkEntries, checkBranch, checkProof, formulaAtMost, interpolant, checkBy, check}
 use Rattle.proof.proofs.Says.{Says as Tells, says-refused, says-accepted, bind, seq, test, finds, weaken}
 use Rattle.proof.proofs.Tree.{derived-says, fitting-says, inequality-says, roundable-says, disequality-says, byNumber-says, byStride-says, entry-says}
+use Rattle.checking.specs.Promises.{Checks}
 use Rattle.guarantee.specs.Editions.{ShortBundles, ReadA, TooLong, long-A, long-B, late-A, late-B}
 
 -- ---- the proof's fields: none of their refusals is 1

@@ -21,9 +21,9 @@ use Rattle.bundle.specs.Bundle.{Bundle}
 use Rattle.bundle.specs.Read.{BundleRead, kindsOf, numbersOf, unread, store, stored, readBundle}
 use Rattle.bundle.specs.Write.{writeBundle}
 use Rattle.bundle.specs.Show.{Part, shownPart, answerOf, handed, showPart, showAnswer}
-use Rattle.bundle.specs.Promises.{partBytes, behind, partPlace}
 use Rattle.bundle.proofs.Laid.{short-gives, bundle-gives, bundles-give}
 use Rattle.bundle.proofs.Writable.{bundleBytes-gives}
+use Rattle.bundle_show.specs.Promises.{partBytes, behind, partPlace}
 use Rattle.formula.specs.Formula.{FormulaTag, pair, atom, stride, formulaOf, formulaField, twoParts, formulaWithin, readFormula, formulaFile}
 use Rattle.formula.specs.Test.{Tested as Outcome, tested, judged, testFormula}
 use Rattle.proof.specs.Check.{interpolant, checkBy, check}

@@ -28,9 +28,9 @@ use Rattle.bundle.specs.Bundle.{formSmall, constraints, bundleHeader, bundle}
 use Rattle.bundle.specs.Layout.{Each, States, StatesAll}
 use Rattle.bundle.specs.Read.{numbersOf}
 use Rattle.bundle.specs.Write.{holdable, bundleBytes, writeBundle}
-use Rattle.bundle.specs.Promises.{Writes}
 use Rattle.bundle.proofs.Laid.{kind-known, AllSmall, short-accepted}
-use Rattle.bundle.proofs.Ranging.{every-of}
+use Rattle.bundle.proofs.Every.{every-of}
+use Rattle.bundle_write.specs.Promises.{Writes}
 use Rattle.proof.proofs.Editions.{Starting, field-said}
 use Rattle.guarantee.specs.Editions.{Starts, HasLowest, HasMore, InLimits, WellCounted}
 use Rattle.guarantee.proofs.Acceptance.{two-held, four-held}

@@ -14,11 +14,13 @@ use Rattle.fields.specs.Answers.{answer, acceptance, fileLent, over}
 use Rattle.fields.specs.Numbers.{Bytes}
 use Rattle.fields.specs.Fields.{Item, Framed, fileOf, withoutNotes}
 use Rattle.fields.specs.Header.{headerBytes}
-use Rattle.bundle.specs.declared.ReadResult.{ReadResult}
 use Rattle.bundle.specs.Layout.{BundleFile}
 use Rattle.bundle.specs.Read.{kindsOf, numbersOf}
 use Rattle.bundle.specs.Write.{constraintsBytes}
-use Rattle.bundle.specs.Promises.{Reads, Writes, AnswersShow}
+use Rattle.bundle_show.specs.Promises.{AnswersShow}
+use Rattle.bundle_read.specs.declared.ReadResult.{ReadResult}
+use Rattle.bundle_read.specs.Promises.{Reads}
+use Rattle.bundle_write.specs.Promises.{Writes}
 use Rattle.formula.specs.Formula.{formulaFile}
 use Rattle.proof.specs.Layout.{Yields, Certifies}
 use Rattle.checking.specs.Promises.{Checks}

@@ -15,10 +15,12 @@ use Rattle.fields.specs.declared.WriteResult.{WriteResult}
 use Rattle.fields.specs.Answers.{answer, fileA, fileB, fileProof, fileLent, writtenOf}
 use Rattle.fields.specs.Numbers.{flat}
 use Rattle.fields.specs.Fields.{Field, Fields, _▸_, fields, nth, Item, item}
-use Rattle.bundle.specs.declared.ReadResult.{ReadResult}
 use Rattle.bundle.specs.Layout.{StatesAll, BundleFile, Says, bundleLimit}
 use Rattle.bundle.specs.Read.{numbersOf}
-use Rattle.bundle.specs.Promises.{Reads, Writes, AnswersShow}
+use Rattle.bundle_show.specs.Promises.{AnswersShow}
+use Rattle.bundle_read.specs.declared.ReadResult.{ReadResult}
+use Rattle.bundle_read.specs.Promises.{Reads}
+use Rattle.bundle_write.specs.Promises.{Writes}
 use Rattle.formula.specs.declared.Tested.{Tested}
 use Rattle.formula.specs.Promises.{Tests}
 use Rattle.proof.specs.Check.{checkBy}

@@ -11,9 +11,11 @@ use Rattle.forms.specs.Edition.{newestEdition}
 use Rattle.fields.specs.declared.Answer.{Answer}
 use Rattle.fields.specs.declared.WriteResult.{WriteResult}
 use Rattle.fields.specs.Answers.{acceptance}
-use Rattle.bundle.specs.declared.ReadResult.{ReadResult}
 use Rattle.bundle.specs.Show.{showPart}
-use Rattle.bundle.specs.Promises.{Reads, Writes, Shows, AnswersShow, partBytes}
+use Rattle.bundle_show.specs.Promises.{Shows, AnswersShow, partBytes}
+use Rattle.bundle_read.specs.declared.ReadResult.{ReadResult}
+use Rattle.bundle_read.specs.Promises.{Reads}
+use Rattle.bundle_write.specs.Promises.{Writes}
 use Rattle.formula.specs.declared.Tested.{Tested}
 use Rattle.formula.specs.Promises.{Tests}
 use Rattle.checking.specs.Promises.{Checks}

@@ -4,8 +4,10 @@ use Prim.Native.Nat.{ℕ}
 use lib.IntN.{ℤ}
 use Rattle.fields.specs.declared.Answer.{Answer}
 use Rattle.fields.specs.declared.WriteResult.{WriteResult}
-use Rattle.bundle.specs.declared.ReadResult.{ReadResult}
-use Rattle.bundle.specs.Promises.{Reads, Writes, AnswersShow}
+use Rattle.bundle_show.specs.Promises.{AnswersShow}
+use Rattle.bundle_read.specs.declared.ReadResult.{ReadResult}
+use Rattle.bundle_read.specs.Promises.{Reads}
+use Rattle.bundle_write.specs.Promises.{Writes}
 use Rattle.formula.specs.declared.Tested.{Tested}
 use Rattle.formula.specs.Promises.{Tests}
 use Rattle.proof.specs.Tree.{Outside, AnswerStands}

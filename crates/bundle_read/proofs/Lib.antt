@@ -1,0 +1,3 @@
+-- What is stored, by the definition.
+pub mod Reading
+pub mod Storing

@@ -1,0 +1,3 @@
+-- Reading a bundle: the contracts.
+pub mod Promises
+pub mod Store

@@ -1,0 +1,2 @@
+-- A bundle as the code goes over it.
+pub mod Scan

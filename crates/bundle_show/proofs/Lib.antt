@@ -1,0 +1,2 @@
+-- What is shown, by the definition.
+pub mod Showing

@@ -1,0 +1,3 @@
+-- Showing a constraint: the contracts.
+pub mod Locate
+pub mod Promises

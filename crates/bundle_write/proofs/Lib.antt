@@ -1,0 +1,3 @@
+-- What is written, by the definition.
+pub mod Putting
+pub mod Writing

@@ -1,0 +1,2 @@
+-- Writing a bundle: the contract.
+pub mod Promises

@@ -1,0 +1,4 @@
+-- Laws of the tests.
+pub mod Merging
+pub mod First
+pub mod Ranging

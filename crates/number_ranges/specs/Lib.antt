@@ -1,0 +1,2 @@
+-- Which numbers are within a range.
+pub mod First

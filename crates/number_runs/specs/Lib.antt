@@ -1,0 +1,2 @@
+-- Runs of numbers.
+pub mod Runs
