@@ -9,9 +9,9 @@ use lib.ListN.{length, set}
 use Rattle.forms.specs.Edition.{edition1}
 use Rattle.forms.specs.Forms.{Line, line, Formula, _and_, _plus_}
 use Rattle.forms.specs.Flat.{kindOf}
+use Rattle.forms.specs.declared.RowNumber.{RowNumber}
 use Rattle.calculus.specs.Rules as rules
 use Rattle.calculus.specs.Rules.{_▷_, inRange}
-use Rattle.forms.specs.declared.RowNumber.{RowNumber}
 use Rattle.fields.specs.declared.Position.{Position}
 use Rattle.fields.specs.Answers.{position, refusalAt, Result}
 use Rattle.fields.specs.Fields.{fieldBytes}
@@ -19,25 +19,27 @@ use Rattle.fields.specs.Places.{fieldsAt}
 use Rattle.fields.proofs.Framing.{length-fieldBytes as field-size}
 use Rattle.formula.specs.Formula.{encode}
 use Rattle.formula.specs.Writing.{scratchLimit, Heads}
+use Rattle.proof.specs.Check.{Closing}
 use Rattle.lines.specs.Buffer.{lineIn, linesIn, LineStart, startedLine}
 use Rattle.lines.proofs.Lines.{line-same, lines-same}
-use Rattle.proof.specs.Check.{Closing}
 use Rattle.rows.specs.Rows.{Ready, LinesKept}
 use Rattle.rows.specs.declared.tally.Tally.{Tally}
 use Rattle.rows.specs.declared.derive.Derived.{Derived}
 use Rattle.rows.specs.declared.derive.Derived.the-variants as derived
+use Rattle.rows.proofs.Deriving.{kept-refl, ready-more}
+use Rattle.openings.specs.Opening.{inTurn, startOf, middleOf, thirdOf, Branching, lastTwo, Longer, Stands, RowOpens}
+use Rattle.openings.proofs.Keeping.{ready-kept}
+use Rattle.openings.proofs.Starting.{starts, start-less, middle-starts, third-starts}
+use Rattle.openings.proofs.Storing.{stores-head}
 use Rattle.branches.specs.Spare.{unreadBytes}
 use Rattle.branches.specs.Branches.{Comes}
-use Rattle.branches.specs.Opening.{inTurn, startOf, middleOf, thirdOf, Branching, lastTwo, Longer, Stands, RowOpens}
 use Rattle.branches.specs.Branching.{resumedBy, keptBack, Started, Closes, BranchedBy, BranchChecked, deeper, Branches, Opened, FirstStands, OpenedChecked}
 use Rattle.branches.specs.declared.branch.Branched.{Branched}
 use Rattle.branches.specs.declared.branch.Branched.the-variants as branched
 use Rattle.branches.proofs.Counting.{spare-less}
-use Rattle.branches.proofs.Going.{kept-trans, ready-kept}
-use Rattle.rows.proofs.Deriving.{kept-refl, ready-more}
+use Rattle.branches.proofs.Going.{kept-trans}
 use Rattle.branches.proofs.Staging.{comes-opened}
-use Rattle.branches.proofs.Starting.{starts, start-less, middle-starts, third-starts}
-use Rattle.branches.proofs.Joining.{stores-head, and-bytes, in-turn-fault, in-turn-checks}
+use Rattle.branches.proofs.Joining.{and-bytes, in-turn-fault, in-turn-checks}
 
 -- The first branch, of line l raised by x and y, and the rest of them.
 abbrev pub firstThen : (x y : ℕ) (make : Formula → Formula → Formula) (rest : Branching) → Branching

@@ -9,29 +9,30 @@ use native.Mathlib.Omega.{arith}
 use lib.ListN.{take, drop}
 use lib.IntN.{ℤ}
 use Rattle.forms.specs.Edition.{edition}
+use Rattle.forms.specs.declared.LineNumber.{LineNumber}
+use Rattle.forms.specs.declared.RowNumber.{RowNumber}
 use Rattle.calculus.specs.Rules as rules
 use Rattle.fields.specs.declared.Position.{Position}
 use Rattle.fields.specs.Answers.{refusalAt, Result}
 use Rattle.fields.specs.Fields.{ends, cut}
 use Rattle.fields.specs.Places.{fieldsAt}
 use Rattle.fields.proofs.Places.{Starts, starts-less}
-use Rattle.lines.proofs.Parts.{agree-trans, agree-le, agree-sym}
-use Rattle.lines.proofs.Lines.{lines-same, bounded-same}
-use Rattle.rows.proofs.Deriving.{kept-refl, ready-more}
-use Rattle.lines.specs.Buffer.{size, linesIn}
 use Rattle.proof.specs.Entries.{entry}
 use Rattle.proof.specs.Check.{Closing, Checker, checkEntries}
+use Rattle.lines.proofs.Parts.{agree-trans, agree-le, agree-sym}
+use Rattle.lines.proofs.Lines.{lines-same}
+use Rattle.lines.specs.Buffer.{size, linesIn}
+use Rattle.rows.proofs.Deriving.{kept-refl, ready-more}
 use Rattle.rows.specs.Rows.{Ready, LinesKept}
 use Rattle.rows.specs.Steps.{SameChecked, rowLeft, moreRows, lastMade, fieldChecked, Steps, Advances}
-use Rattle.branches.specs.Spare.{fieldsLeft, unreadBytes, Spare}
-use Rattle.branches.specs.Branches.{entriesFrom, Comes, Stopped}
-use Rattle.branches.proofs.Counting.{count-starts, spare-less}
-use Rattle.forms.specs.declared.LineNumber.{LineNumber}
-use Rattle.forms.specs.declared.RowNumber.{RowNumber}
 use Rattle.rows.specs.declared.tally.Tally.{Tally}
 use Rattle.rows.specs.declared.steps.Stepped.{Stepped}
 use Rattle.rows.specs.declared.steps.Stepped.the-variants.{Refused, Made, Strengthens, ClosesNumber, ClosesStride, Rounds, Splits}
+use Rattle.openings.proofs.Keeping.{ready-kept}
+use Rattle.branches.specs.Spare.{fieldsLeft, unreadBytes, Spare}
+use Rattle.branches.specs.Branches.{entriesFrom, Comes, Stopped}
 use Rattle.branches.specs.declared.branch.Stop.{Stop}
+use Rattle.branches.proofs.Counting.{count-starts, spare-less}
 
 pub kept-trans : {K m n : ℕ} {kinds : List ℕ} {buf : List ℤ} {kinds′ : List ℕ} {buf′ : List ℤ} {kinds″ : List ℕ} {buf″ : List ℤ}
     → m ≤ n → LinesKept K m kinds buf kinds′ buf′ → LinesKept K n kinds′ buf′ kinds″ buf″ → LinesKept K m kinds buf kinds″ buf″
@@ -40,17 +41,6 @@ kept-trans {K} {m} {n} h a b = record {
   kinds-same = agree-trans (agree-le h (b .kinds-same)) (a .kinds-same);
   lines-length = b .lines-length ∙ a .lines-length;
   kinds-length = b .kinds-length ∙ a .kinds-length;
-}
-
-pub ready-kept : {e K n : ℕ} {kinds : List ℕ} {buf : List ℤ} {kinds′ : List ℕ} {buf′ : List ℤ} → Ready e K kinds buf n → LinesKept K n kinds buf kinds′ buf′ → Ready e K kinds′ buf′ n
-ready-kept r k = record {
-  branch = record {
-    constants = r .branch .constants;
-    room = omega (arith, r .branch .room, k .lines-length);
-    bounded = bounded-same (agree-sym (k .lines-same)) (r .branch .bounded);
-  };
-  room = omega (arith, r .room, k .kinds-length);
-  most = r .most;
 }
 
 -- The entries from a place on, in the middle of a branch.

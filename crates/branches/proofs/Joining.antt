@@ -5,7 +5,6 @@ use Prim.Native.Nat.{ℕ, _+_, _≤_}
 use native.Mathlib.Omega.{arith}
 use lib.IntN.{ℤ}
 use lib.ListN.{length, length-append}
-use lib.Seq.{sets}
 use Rattle.forms.specs.Edition.{edition1}
 use Rattle.forms.specs.Forms.{Formula, _and_, _or_}
 use Rattle.forms.specs.declared.RowNumber.{RowNumber}
@@ -14,43 +13,15 @@ use Rattle.fields.specs.declared.Position.{Position}
 use Rattle.fields.specs.Answers.{Result, refused, accepted, _>>=_}
 use Rattle.fields.specs.Fields.{Fields, fieldBytes}
 use Rattle.fields.specs.Places.{fieldsAt}
-use Rattle.fields.proofs.Framing.{length-fieldBytes as field-size}
-use Rattle.fields.proofs.Stores.{sets-append}
 use Rattle.formula.specs.Formula.{encode}
-use Rattle.formula.specs.Writing.{Puts, Heads, Stores}
+use Rattle.formula.specs.Writing.{Stores}
 use Rattle.proof.specs.Check.{Closing}
 use Rattle.rows.specs.declared.tally.Tally.{Tally}
-use Rattle.branches.specs.Opening.{inTurn}
+use Rattle.openings.specs.Opening.{inTurn}
+use Rattle.openings.proofs.Storing.{both-stored, stores-both}
 use Rattle.branches.specs.Branching.{Closes, BranchedBy, BranchChecked}
 use Rattle.branches.specs.declared.branch.Branched.{Branched}
 use Rattle.branches.specs.declared.branch.Branched.the-variants as branched
-
--- ---- bytes behind bytes
--- What is written behind a run that is written.
-both-stored : (scratch₀ : List ℕ) (o₀ : ℕ) (bytes bs : List ℕ) {scratch scratch′ : List ℕ} {o : ℕ} → o ≡ o₀ + length bytes → length scratch ≡ length scratch₀
-    → (o₀ + length bytes ≤ length scratch₀ → scratch ≡ sets scratch₀ o₀ bytes) → (o + length bs ≤ length scratch → scratch′ ≡ sets scratch o bs)
-    → o₀ + length (bytes ++ bs) ≤ length scratch₀ → scratch′ ≡ sets scratch₀ o₀ (bytes ++ bs)
-both-stored scratch₀ o₀ bytes bs {o = o} e l f g h =
-    let s = length-append bytes bs in
-    g (omega arith) ∙ rw (f (omega arith), e) (sym (sets-append bytes bs scratch₀ o₀))
-
-pub stores-both : {scratch scratch₁ scratch₂ : List ℕ} {o o₁ o₂ : ℕ} (bytes bs : List ℕ) → Stores scratch o bytes scratch₁ o₁ → Stores scratch₁ o₁ bs scratch₂ o₂ → Stores scratch o (bytes ++ bs) scratch₂ o₂
-stores-both {scratch} {o = o} bytes bs s t = record {
-  long = t .long ∙ s .long;
-  o-is = omega (arith, s .o-is, t .o-is, length-append bytes bs);
-  stored = both-stored scratch o bytes bs (s .o-is) (s .long) (s .stored) (t .stored);
-}
-
-pub stores-head : {scratch scratch′ : List ℕ} {o o′ tag : ℕ} → Heads scratch o tag scratch′ o′ → Stores scratch o (fieldBytes tag []) scratch′ o′
-stores-head {tag = tag} h =
-    let w : length (fieldBytes tag []) ≡ 3 = field-size tag [] in
-    record { long = h .long; o-is = omega (arith, h .o-is); stored = λ r. h .stored (omega arith) }
-
-pub stores-formula : {scratch scratch′ : List ℕ} {o o′ : ℕ} {I : Formula} → Puts scratch o I scratch′ o′ → Stores scratch o (encode edition1 I) scratch′ o′
-stores-formula p = record { long = p .long; o-is = p .o-is; stored = p .stored }
-
-pub stores-none : {scratch : List ℕ} {o : ℕ} → Stores scratch o [] scratch o
-stores-none = record { long = refl; o-is = omega arith; stored = λ r. refl }
 
 -- ---- the bytes of a formula of one or of two
 pub or-bytes : (f g : Formula) → encode edition1 (f or g) ≡ fieldBytes 0x31 [] ++ encode edition1 f ++ encode edition1 g

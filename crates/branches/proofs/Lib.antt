@@ -1,8 +1,6 @@
 -- Laws that the proofs of the functions cite: each way through a function as a lemma over plain values.
 pub mod Counting
 pub mod Going
-pub mod Starting
-pub mod Opens
 pub mod Staging
 pub mod Joining
 pub mod Finishing

@@ -7,6 +7,8 @@ use native.Mathlib.Omega.{arith}
 use lib.IntN.{ℤ, natAbs}
 use Rattle.forms.specs.Edition.{edition}
 use Rattle.forms.specs.Forms.{Line, Formula}
+use Rattle.forms.specs.declared.LineNumber.{LineNumber}
+use Rattle.forms.specs.declared.RowNumber.{RowNumber}
 use Rattle.calculus.specs.Rules as rules
 use Rattle.fields.specs.declared.Answer.{Answer}
 use Rattle.fields.specs.declared.Position.{Position}
@@ -14,23 +16,21 @@ use Rattle.fields.specs.Answers.{refusalAt, Result, accepted, _>>=_}
 use Rattle.fields.specs.Fields.{Fields}
 use Rattle.fields.specs.Places.{fieldsAt}
 use Rattle.formula.specs.Writing.{scratchLimit}
-use Rattle.lines.specs.Buffer.{linesIn}
 use Rattle.proof.specs.Rows.{byNumber, byStride}
 use Rattle.proof.specs.Check.{checkRow, checkEntries, checkBranch}
+use Rattle.lines.specs.Buffer.{linesIn}
 use Rattle.rows.specs.Entries.{Multiplies}
 use Rattle.rows.specs.Tally.{returnedTo}
 use Rattle.rows.specs.Rows.{Ready, LinesKept}
-use Rattle.branches.specs.Branches.{Comes, Stopped}
-use Rattle.closes.specs.Ends.{EndedBy}
-use Rattle.branches.specs.Opening.{below, Branching, rowOpened, RowOpens}
-use Rattle.branches.specs.Branching.{closedBy, Started, Branches}
-use Rattle.forms.specs.declared.LineNumber.{LineNumber}
-use Rattle.forms.specs.declared.RowNumber.{RowNumber}
 use Rattle.rows.specs.declared.tally.Tally.{Tally}
 use Rattle.rows.specs.declared.derive.Derived.{Derived}
 use Rattle.rows.specs.declared.derive.Derived.the-variants as derived
+use Rattle.closes.specs.Ends.{EndedBy}
 use Rattle.closes.specs.declared.ends.Ended.{Ended}
 use Rattle.closes.specs.declared.ends.Ended.the-variants as ended
+use Rattle.openings.specs.Opening.{below, Branching, rowOpened, RowOpens}
+use Rattle.branches.specs.Branches.{Comes, Stopped}
+use Rattle.branches.specs.Branching.{closedBy, Started, Branches}
 use Rattle.branches.specs.declared.branch.Stop.{Stop}
 use Rattle.branches.specs.declared.branch.Branched.{Branched}
 use Rattle.branches.specs.declared.branch.Branched.the-variants as branched

@@ -8,25 +8,25 @@ use lib.Dec.{T}
 use lib.Seq.{sets}
 use Rattle.forms.specs.Edition.{edition, edition1}
 use Rattle.forms.specs.Forms.{Formula}
+use Rattle.forms.specs.declared.RowNumber.{RowNumber}
 use Rattle.calculus.specs.Rules.{inRange}
 use Rattle.fields.specs.declared.Position.{Position}
-use Rattle.forms.specs.declared.RowNumber.{RowNumber}
 use Rattle.fields.specs.Answers.{refusalAt, Result, refused, accepted}
 use Rattle.fields.specs.Places.{fieldsAt}
 use Rattle.formula.specs.Formula.{encode}
 use Rattle.formula.specs.Writing.{scratchLimit}
-use Rattle.lines.specs.Buffer.{lineIn, linesIn}
 use Rattle.proof.specs.Check.{Closing, Checker, checkBranch}
+use Rattle.lines.specs.Buffer.{lineIn, linesIn}
 use Rattle.rows.specs.Tally.{returnedTo}
 use Rattle.rows.specs.Rows.{Ready, LinesKept}
 use Rattle.rows.specs.declared.tally.Tally.{Tally}
-use Rattle.branches.specs.Spare.{fieldsLeft, unreadBytes, Spare}
-use Rattle.branches.specs.Opening.{Branching, startOf, Longer, fromBranch, allRounded}
-use Rattle.branches.specs.Splitting.{ownerOf, raisedBy, negatedOf, bothOf}
-use Rattle.branches.specs.declared.branch.Branched as branched
-use Rattle.branches.specs.declared.branch.Branched.the-variants as branched-of
 use Rattle.closes.specs.declared.ends.Ended as ended
 use Rattle.closes.specs.declared.ends.Ended.the-variants as ended-of
+use Rattle.openings.specs.Opening.{Branching, startOf, Longer, fromBranch, allRounded}
+use Rattle.openings.specs.Splitting.{ownerOf, raisedBy, negatedOf, bothOf}
+use Rattle.branches.specs.Spare.{fieldsLeft, unreadBytes, Spare}
+use Rattle.branches.specs.declared.branch.Branched as branched
+use Rattle.branches.specs.declared.branch.Branched.the-variants as branched-of
 
 -- ---- the whole branch
 -- The row of that number closes the branch at a position, or is refused.

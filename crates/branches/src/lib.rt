@@ -1,6 +1,2 @@
 // A branch of the proof: its entries, its end, and the branches that a strengthen, a rounding or a split opens.
 pub mod branch;
-pub mod opening;
-pub mod rounding;
-pub mod split;
-pub mod strengthen;

@@ -8,11 +8,11 @@ use borrow.Author.Tests.{ltb-true, ltb-false}
 use mir.Syntax.{w64}
 use mir.Val.{toZ}
 use mir.ValLaws.{toZ-ofZ}
-use Rattle.rows.proofs.Testing.{unnot}
 use Rattle.integers.proofs.Magnitude.{within-fits}
 use Rattle.forms.specs.Forms.{_or_}
+use Rattle.rows.proofs.Testing.{unnot}
+use Rattle.openings.specs.Opening.{lastTwo, fromBranch}
 use Rattle.branches.specs.Spare.{unreadBytes}
-use Rattle.branches.specs.Opening.{lastTwo, fromBranch}
 use Rattle.branches.proofs.Counting.{one-less, next-falls, own-falls, others-fall, turn-falls}
 use Rattle.branches.proofs.Staging.{started-room, stopped-fault, comes-ready, number-comes, stride-comes, strengthen-comes, round-comes, split-comes, number-closed, stride-closed, opens-refused}
 use Rattle.branches.proofs.Finishing.{room-left, first-started, first-fault, rest-open, rest-unread, rest-opened, first-checks, head-short, none-short, start-asked, some-longer, some-started, some-open, some-unread, some-opened, two-fault, two-checks, opening-falls, opened, first-stands, resumed-fault, resumed-checks}
@@ -20,9 +20,21 @@ use Rattle.branches.proofs.Joining.{or-bytes}
 use Rattle.branches.proofs.Splits.{split-there, split-started, split-fault, split-open, split-unread, negated-asked, negated-started, split-checks, split-opened, split-resumed}
 use Rattle.branches.proofs.Rounds.{front-asked, front-short, Rounding, rounding-start, rounding-last, rounding-fault, rounding-next}
 use Prim.Native.Nat.{ℕ, _+_, _*_, _-_, _<_}
-use borrow.Author.Needs.{needs}
 use borrow.Fn.Kinds.{In}
 use borrow.Fn.PlainCycle.{Measures, is, falls, and}
+use Rattle.formula.proofs.writing.put_pair.Reads as put-pair-reads
+use Rattle.rows.proofs.derive.kind_of.Reads as kind-of-reads
+use Rattle.rows.proofs.tally.returned.Reads as returned-reads
+use Rattle.closes.proofs.ends.close_number.Reads as close-number-reads
+use Rattle.closes.proofs.ends.close_stride.Reads as close-stride-reads
+use Rattle.openings.proofs.opening.start.Reads as start-reads
+use Rattle.openings.proofs.opening.start_negated.Reads as start-negated-reads
+use Rattle.openings.proofs.rounding.put_front.Reads as put-front-reads
+use Rattle.openings.proofs.rounding.round.Reads as round-reads
+use Rattle.openings.proofs.split.joined_by.Reads as joined-by-reads
+use Rattle.openings.proofs.split.raised_by.Reads as raised-by-reads
+use Rattle.openings.proofs.split.split.Reads as split-reads
+use Rattle.openings.proofs.strengthen.strengthen.Reads as strengthen-reads
 use Rattle.branches.proofs.branch.check_branch.Reads as check-branch
 use Rattle.branches.proofs.branch.check_branch.Kinds as check-branch-kinds
 use Rattle.branches.proofs.branch.+check_branch+check_rounded+check_rounding+check_split.Lts-check_branch as check-branch-lts
@@ -38,21 +50,9 @@ use Rattle.branches.proofs.branch.+check_branch+check_rounded+check_rou
 use Rattle.branches.proofs.branch.closed.Reads as closed-reads
 use Rattle.branches.proofs.branch.entries.Reads as entries-reads
 use Rattle.branches.proofs.branch.resumed.Reads as resumed-reads
-use Rattle.branches.proofs.opening.start.Reads as start-reads
-use Rattle.branches.proofs.opening.start_negated.Reads as start-negated-reads
-use Rattle.branches.proofs.rounding.put_front.Reads as put-front-reads
-use Rattle.branches.proofs.rounding.round.Reads as round-reads
-use Rattle.branches.proofs.split.joined_by.Reads as joined-by-reads
-use Rattle.branches.proofs.split.raised_by.Reads as raised-by-reads
-use Rattle.branches.proofs.split.split.Reads as split-reads
-use Rattle.branches.proofs.strengthen.strengthen.Reads as strengthen-reads
-use Rattle.closes.proofs.ends.close_number.Reads as close-number-reads
-use Rattle.closes.proofs.ends.close_stride.Reads as close-stride-reads
-use Rattle.formula.proofs.writing.put_pair.Reads as put-pair-reads
-use Rattle.rows.proofs.derive.kind_of.Reads as kind-of-reads
-use Rattle.rows.proofs.tally.returned.Reads as returned-reads
 use Rattle.branches.proofs.branch.+check_branch+check_rounded+check_rounding+check_split.{statement}
 use Rattle.branches.proofs.branch.+check_branch+check_rounded+check_rounding+check_split.Tie.{close}
+use borrow.Author.Needs.{needs}
 
 abbrev μ-check-branch : Measures 4 check-branch-kinds.ps ℕ
 μ-check-branch κs a = 2 * (unreadBytes (a .0 .now) (a .1 .0) + (32 - a .1 .1 .1 .1 .1 .0 .«open»))

@@ -1,0 +1,7 @@
+-- Laws of the rows that open branches.
+pub mod Keeping
+pub mod Storing
+pub mod Opens
+pub mod Roundable
+pub mod Splittable
+pub mod Starting

@@ -1,0 +1,3 @@
+-- The rows that open branches.
+pub mod Opening
+pub mod Splitting
