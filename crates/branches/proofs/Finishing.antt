@@ -22,13 +22,12 @@ use Rattle.formula.specs.Writing.{scratchLimit, Heads}
 use Rattle.proof.specs.Check.{Closing}
 use Rattle.lines.specs.Buffer.{lineIn, linesIn, LineStart, startedLine}
 use Rattle.lines.proofs.Lines.{line-same, lines-same}
-use Rattle.rows.specs.Rows.{Ready, LinesKept}
-use Rattle.rows.specs.declared.tally.Tally.{Tally}
+use Rattle.lines.specs.Ready.{Ready, LinesKept}
+use Rattle.lines.proofs.Keeping.{kept-refl, ready-more, ready-kept, kept-trans}
+use Rattle.tally.specs.declared.Tally.{Tally}
 use Rattle.rows.specs.declared.derive.Derived.{Derived}
 use Rattle.rows.specs.declared.derive.Derived.the-variants as derived
-use Rattle.rows.proofs.Deriving.{kept-refl, ready-more}
 use Rattle.openings.specs.Opening.{inTurn, startOf, middleOf, thirdOf, Branching, lastTwo, Longer, Stands, RowOpens}
-use Rattle.openings.proofs.Keeping.{ready-kept}
 use Rattle.openings.proofs.Starting.{starts, start-less, middle-starts, third-starts}
 use Rattle.openings.proofs.Storing.{stores-head}
 use Rattle.branches.specs.Spare.{unreadBytes}
@@ -37,7 +36,6 @@ use Rattle.branches.specs.Branching.{resumedBy, keptBack, Started, Close
 use Rattle.branches.specs.declared.branch.Branched.{Branched}
 use Rattle.branches.specs.declared.branch.Branched.the-variants as branched
 use Rattle.branches.proofs.Counting.{spare-less}
-use Rattle.branches.proofs.Going.{kept-trans}
 use Rattle.branches.proofs.Staging.{comes-opened}
 use Rattle.branches.proofs.Joining.{and-bytes, in-turn-fault, in-turn-checks}
 

@@ -4,7 +4,6 @@ use mathlib.Core.Bool.{Bool, true, false}
 use mathlib.Core.List.{List}
 use mathlib.Core.Option.{Option}
 use Prim.Native.Nat.{ℕ, _+_, _-_, _≤_}
-use native.Mathlib.Nat.{mul-le-mul-right}
 use native.Mathlib.Omega.{arith}
 use lib.ListN.{take, drop}
 use lib.IntN.{ℤ}
@@ -19,29 +18,20 @@ use Rattle.fields.specs.Places.{fieldsAt}
 use Rattle.fields.proofs.Places.{Starts, starts-less}
 use Rattle.proof.specs.Entries.{entry}
 use Rattle.proof.specs.Check.{Closing, Checker, checkEntries}
-use Rattle.lines.proofs.Parts.{agree-trans, agree-le, agree-sym}
+use Rattle.lines.proofs.Parts.{agree-sym}
 use Rattle.lines.proofs.Lines.{lines-same}
-use Rattle.lines.specs.Buffer.{size, linesIn}
-use Rattle.rows.proofs.Deriving.{kept-refl, ready-more}
-use Rattle.rows.specs.Rows.{Ready, LinesKept}
-use Rattle.rows.specs.Steps.{SameChecked, rowLeft, moreRows, lastMade, fieldChecked, Steps, Advances}
-use Rattle.rows.specs.declared.tally.Tally.{Tally}
-use Rattle.rows.specs.declared.steps.Stepped.{Stepped}
-use Rattle.rows.specs.declared.steps.Stepped.the-variants.{Refused, Made, Strengthens, ClosesNumber, ClosesStride, Rounds, Splits}
-use Rattle.openings.proofs.Keeping.{ready-kept}
+use Rattle.lines.specs.Buffer.{linesIn}
+use Rattle.lines.proofs.Keeping.{kept-refl, ready-more, ready-kept, kept-trans}
+use Rattle.lines.specs.Ready.{Ready, LinesKept}
+use Rattle.tally.specs.Tally.{moreRows}
+use Rattle.tally.specs.declared.Tally.{Tally}
+use Rattle.steps.specs.Steps.{SameChecked, rowLeft, lastMade, fieldChecked, Steps, Advances}
+use Rattle.steps.specs.declared.Stepped.{Stepped}
+use Rattle.steps.specs.declared.Stepped.the-variants.{Refused, Made, Strengthens, ClosesNumber, ClosesStride, Rounds, Splits}
 use Rattle.branches.specs.Spare.{fieldsLeft, unreadBytes, Spare}
 use Rattle.branches.specs.Branches.{entriesFrom, Comes, Stopped}
 use Rattle.branches.specs.declared.branch.Stop.{Stop}
 use Rattle.branches.proofs.Counting.{count-starts, spare-less}
-
-pub kept-trans : {K m n : ℕ} {kinds : List ℕ} {buf : List ℤ} {kinds′ : List ℕ} {buf′ : List ℤ} {kinds″ : List ℕ} {buf″ : List ℤ}
-    → m ≤ n → LinesKept K m kinds buf kinds′ buf′ → LinesKept K n kinds′ buf′ kinds″ buf″ → LinesKept K m kinds buf kinds″ buf″
-kept-trans {K} {m} {n} h a b = record {
-  lines-same = agree-trans (agree-le (mul-le-mul-right (size K) h) (b .lines-same)) (a .lines-same);
-  kinds-same = agree-trans (agree-le h (b .kinds-same)) (a .kinds-same);
-  lines-length = b .lines-length ∙ a .lines-length;
-  kinds-length = b .kinds-length ∙ a .kinds-length;
-}
 
 -- The entries from a place on, in the middle of a branch.
 abbrev entriesAt : (K : ℕ) (p : List ℕ) (place : ℕ) (kinds : List ℕ) (buf : List ℤ) (t : Tally) (made : Bool) (here : Position) (deeper : Option Checker) → Result Closing

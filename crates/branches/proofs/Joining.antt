@@ -16,7 +16,7 @@ use Rattle.fields.specs.Places.{fieldsAt}
 use Rattle.formula.specs.Formula.{encode}
 use Rattle.formula.specs.Writing.{Stores}
 use Rattle.proof.specs.Check.{Closing}
-use Rattle.rows.specs.declared.tally.Tally.{Tally}
+use Rattle.tally.specs.declared.Tally.{Tally}
 use Rattle.openings.specs.Opening.{inTurn}
 use Rattle.openings.proofs.Storing.{both-stored, stores-both}
 use Rattle.branches.specs.Branching.{Closes, BranchedBy, BranchChecked}

@@ -25,10 +25,10 @@ use Rattle.formula.proofs.Written.{stride-size}
 use Rattle.proof.specs.Check.{Closing, Checker, checkRounded}
 use Rattle.lines.specs.Buffer.{size, lineIn, linesIn, LineStart, startedLine}
 use Rattle.lines.proofs.Branch.{inequality-byte}
-use Rattle.rows.specs.Entries.{Multiplies}
-use Rattle.rows.specs.Rows.{LinesKept}
-use Rattle.rows.proofs.Deriving.{kept-refl}
-use Rattle.rows.specs.declared.tally.Tally.{Tally}
+use Rattle.lines.specs.Ready.{LinesKept}
+use Rattle.lines.proofs.Keeping.{kept-refl, kept-trans}
+use Rattle.tally.specs.declared.Tally.{Tally}
+use Rattle.entries.specs.Entries.{Multiplies}
 use Rattle.closes.proofs.Ending.{numbered, divisor}
 use Rattle.openings.specs.Opening.{inTurn, startOf, fromBranch, Longer, RoundsBy, frontBytes}
 use Rattle.openings.proofs.Starting.{starts, start-form}
@@ -37,7 +37,6 @@ use Rattle.branches.specs.Spare.{unreadBytes}
 use Rattle.branches.specs.Branching.{keptBack, deeper, Branches, Opened, OpenedChecked, RoundedChecked}
 use Rattle.branches.specs.declared.branch.Branched.{Branched}
 use Rattle.branches.specs.declared.branch.Branched.the-variants as branched
-use Rattle.branches.proofs.Going.{kept-trans}
 use Rattle.branches.proofs.Joining.{checked-as, alone-checks, in-turn-fault, in-turn-checks}
 use Rattle.branches.proofs.Finishing.{own-ready, own-checked, start-asked, next-open, next-unread, next-opened, next-same}
 

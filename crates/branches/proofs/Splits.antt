@@ -23,8 +23,8 @@ use Rattle.lines.specs.Buffer.{lineIn, linesIn, LineNegated, negatedLine}
 use Rattle.lines.proofs.Parts.{agree-getD}
 use Rattle.lines.proofs.Lines.{line-same}
 use Rattle.lines.proofs.Starting.{plus-none}
-use Rattle.rows.specs.Rows.{KindRead, LinesKept}
-use Rattle.rows.specs.declared.tally.Tally.{Tally}
+use Rattle.lines.specs.Ready.{KindRead, LinesKept}
+use Rattle.tally.specs.declared.Tally.{Tally}
 use Rattle.rows.specs.declared.derive.Derived.{Derived}
 use Rattle.rows.specs.declared.derive.Derived.the-variants.{Made}
 use Rattle.openings.specs.Opening.{inTurn, Branching, Longer}

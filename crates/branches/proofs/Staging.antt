@@ -19,10 +19,11 @@ use Rattle.formula.specs.Writing.{scratchLimit}
 use Rattle.proof.specs.Rows.{byNumber, byStride}
 use Rattle.proof.specs.Check.{checkRow, checkEntries, checkBranch}
 use Rattle.lines.specs.Buffer.{linesIn}
-use Rattle.rows.specs.Entries.{Multiplies}
-use Rattle.rows.specs.Tally.{returnedTo}
-use Rattle.rows.specs.Rows.{Ready, LinesKept}
-use Rattle.rows.specs.declared.tally.Tally.{Tally}
+use Rattle.lines.specs.Ready.{Ready, LinesKept}
+use Rattle.lines.proofs.Keeping.{kept-trans}
+use Rattle.tally.specs.Tally.{returnedTo}
+use Rattle.tally.specs.declared.Tally.{Tally}
+use Rattle.entries.specs.Entries.{Multiplies}
 use Rattle.rows.specs.declared.derive.Derived.{Derived}
 use Rattle.rows.specs.declared.derive.Derived.the-variants as derived
 use Rattle.closes.specs.Ends.{EndedBy}
@@ -34,7 +35,6 @@ use Rattle.branches.specs.Branching.{closedBy, Started, Branches}
 use Rattle.branches.specs.declared.branch.Stop.{Stop}
 use Rattle.branches.specs.declared.branch.Branched.{Branched}
 use Rattle.branches.specs.declared.branch.Branched.the-variants as branched
-use Rattle.branches.proofs.Going.{kept-trans}
 
 pub started-room : {K : ℕ} {kinds : List ℕ} {buf : List ℤ} {t : Tally} {p : List ℕ} {at o : ℕ} → Started K kinds buf t p at o → o ≤ scratchLimit
 started-room s = omega (arith, s .room)

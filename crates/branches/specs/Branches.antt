@@ -9,11 +9,11 @@ use Rattle.calculus.specs.Rules as rules
 use Rattle.fields.specs.declared.Position.{Position}
 use Rattle.fields.specs.Answers.{refusalAt, Result, refused}
 use Rattle.fields.specs.Places.{fieldsAt}
-use Rattle.lines.specs.Buffer.{linesIn}
 use Rattle.proof.specs.Check.{Closing, Checker, checkRow, checkEntries}
-use Rattle.rows.specs.Entries.{Multiplies}
-use Rattle.rows.specs.Rows.{Ready, LinesKept}
-use Rattle.rows.specs.declared.tally.Tally.{Tally}
+use Rattle.lines.specs.Buffer.{linesIn}
+use Rattle.lines.specs.Ready.{Ready, LinesKept}
+use Rattle.tally.specs.declared.Tally.{Tally}
+use Rattle.entries.specs.Entries.{Multiplies}
 use Rattle.branches.specs.Spare.{fieldsLeft, unreadBytes}
 use Rattle.branches.specs.declared.branch.Stop.{Stop}
 

@@ -17,9 +17,9 @@ use Rattle.formula.specs.Formula.{encode}
 use Rattle.formula.specs.Writing.{scratchLimit}
 use Rattle.proof.specs.Check.{Closing, Checker, checkBranch}
 use Rattle.lines.specs.Buffer.{lineIn, linesIn}
-use Rattle.rows.specs.Tally.{returnedTo}
-use Rattle.rows.specs.Rows.{Ready, LinesKept}
-use Rattle.rows.specs.declared.tally.Tally.{Tally}
+use Rattle.lines.specs.Ready.{Ready, LinesKept}
+use Rattle.tally.specs.Tally.{returnedTo}
+use Rattle.tally.specs.declared.Tally.{Tally}
 use Rattle.closes.specs.declared.ends.Ended as ended
 use Rattle.closes.specs.declared.ends.Ended.the-variants as ended-of
 use Rattle.openings.specs.Opening.{Branching, startOf, Longer, fromBranch, allRounded}

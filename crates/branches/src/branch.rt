@@ -1,10 +1,10 @@
 // A branch: its entries up to the row that ends it or opens branches, and the branches that are opened.
-ghost use Rattle.rows.specs.Rows.{Ready};
+ghost use Rattle.lines.specs.Ready.{Ready};
 ghost use Rattle.branches.specs.Spare.{fieldsLeft, Spare};
 ghost use Rattle.branches.specs.Branches.{Stopped};
 ghost use mathlib.Core.Path.{_≡_};
 ghost use Prim.Native.Nat.{_+_};
-ghost use Rattle.rows.specs.Entries.{Multiplies};
+ghost use Rattle.entries.specs.Entries.{Multiplies};
 ghost use Rattle.openings.specs.Opening.{RoundsBy};
 ghost use Rattle.branches.specs.Branching.{closedBy, resumedBy, Started, Branches, Opened, FirstStands, RoundingChecked, RoundedChecked, SplitOpened, SplitChecked};
 ghost use lib.IntN.{natAbs};
@@ -17,6 +17,9 @@ use fields::next_field;
 use forms::LineNumber;
 use forms::RowNumber;
 use formula::writing::put_pair;
+use lines::kinds::EQUALITY;
+use lines::kinds::INEQUALITY;
+use lines::kinds::kind_of;
 use openings::opening::start;
 use openings::opening::start_negated;
 use openings::rounding::put_front;
@@ -26,13 +29,10 @@ use openings::split::raised_by;
 use openings::split::split;
 use openings::strengthen::strengthen;
 use rows::derive::Derived;
-use rows::derive::EQUALITY;
-use rows::derive::INEQUALITY;
-use rows::derive::kind_of;
-use rows::steps::Stepped;
-use rows::steps::step;
-use rows::tally::Tally;
-use rows::tally::returned;
+use steps::Stepped;
+use steps::step;
+use tally::Tally;
+use tally::returned;
 
 pub enum Stop {
     // A refusal by a number at a place, before which there were so many rows.

@@ -5,19 +5,19 @@ use Prim.Native.Nat.{ℕ}
 use native.Mathlib.Omega.{arith}
 use lib.IntN.{ℤ}
 use Rattle.forms.specs.Edition.{edition}
+use Rattle.forms.specs.declared.RowNumber.{RowNumber}
 use Rattle.fields.specs.declared.Answer.{Answer}
 use Rattle.fields.specs.declared.Position.{Position}
-use Rattle.forms.specs.declared.RowNumber.{RowNumber}
 use Rattle.fields.specs.Answers.{root, refusalAt}
 use Rattle.fields.specs.Places.{fieldsAt}
-use Rattle.lines.specs.Buffer.{linesIn}
+use Rattle.fields.specs.declared.WriteResult.{WriteResult}
 use Rattle.proof.specs.Check.{checkBranch}
-use Rattle.rows.specs.Tally.{tally}
-use Rattle.rows.specs.declared.tally.Tally.{Tally}
+use Rattle.lines.specs.Buffer.{linesIn}
+use Rattle.tally.specs.Tally.{tally}
+use Rattle.tally.specs.declared.Tally.{Tally}
 use Rattle.branches.specs.Branching.{keptBack, Started, Closes, Branches}
 use Rattle.branches.specs.declared.branch.Branched.{Branched}
 use Rattle.checking.specs.Whole.{Finishes, Roots, Enough, InScratch}
-use Rattle.fields.specs.declared.WriteResult.{WriteResult}
 use Rattle.checking.proofs.Stages.{root-fault, root-ended, root-closed}
 
 module _ {e K : ℕ} {P : List ℕ} {at n rows : ℕ} {kinds kinds′ : List ℕ} {buf buf′ : List ℤ} {S S′ : List ℕ} {x : Branched}

@@ -32,7 +32,7 @@ use Rattle.formula.specs.Writing.{scratchLimit}
 use Rattle.proof.specs.Check.{Closing, checkBranch, checkProof, formulaAtMost, interpolant, checkBy, check}
 use Rattle.proof.proofs.Agree.{agreed}
 use Rattle.lines.specs.Buffer.{linesIn}
-use Rattle.rows.specs.Tally.{tally}
+use Rattle.tally.specs.Tally.{tally}
 use Rattle.branches.specs.Spare.{fieldsLeft, unreadBytes, Spare}
 use Rattle.branches.specs.Branching.{Started}
 use Rattle.checking.specs.Whole.{Short, statedIn, Both, Prepared, Begun, fileWithin, finishing, rooted, Holds, Finishes, Roots, Enough, InScratch}

@@ -2,10 +2,10 @@
 use fields::Next;
 use fields::next_field;
 use forms::LineNumber;
+use lines::kinds::APART_A;
+use lines::kinds::APART_B;
+use lines::kinds::set_kind;
 use number_runs::store::store_numbers;
-use rows::derive::APART_A;
-use rows::derive::APART_B;
-use rows::derive::set_kind;
 ghost use mathlib.Core.Path.{_≡_};
 ghost use mathlib.Core.List.{[], _∷_, map};
 ghost use Prim.Native.Nat.{_+_, _≤_};

@@ -13,18 +13,18 @@ use Rattle.forms.specs.Edition.{edition, newestEdition}
 use Rattle.forms.specs.Forms.{nonzero, every}
 use Rattle.forms.proofs.Editions.{lines-most}
 use Rattle.forms.proofs.Flat.{kind-zero, kind-one}
-use Rattle.fields.specs.Answers.{_>>=_, _>>_, need, found}
-use Rattle.lines.specs.Parts.{part}
 use Rattle.forms.specs.Flat.{kindOf}
+use Rattle.fields.specs.Answers.{_>>=_, _>>_, need, found}
+use Rattle.proof.specs.Rows.{plainKind, fails, lineAt, byNumber}
+use Rattle.lines.specs.Parts.{part}
 use Rattle.lines.specs.Buffer.{size, lineIn}
 use Rattle.lines.proofs.Lines.{line-at, line-past, before}
-use Rattle.proof.specs.Rows.{plainKind, fails, lineAt, byNumber}
-use Rattle.rows.specs.Rows.{KindRead, Ready}
+use Rattle.lines.specs.Ready.{KindRead, Ready}
+use Rattle.lines.proofs.KindBytes.{kind-plain}
+use Rattle.lines.proofs.Tests.{unnot}
+use Rattle.tally.specs.declared.Tally.{Tally}
 use Rattle.closes.specs.Closing.{ByNumber}
-use Rattle.rows.specs.declared.tally.Tally.{Tally}
 use Rattle.closes.specs.declared.closing.Test.the-variants.{Refused, Passed}
-use Rattle.rows.proofs.KindBytes.{kind-plain}
-use Rattle.rows.proofs.Testing.{unnot}
 
 pub false-≤ : {b : ℕ} (d : ℤ) {r : Bool} → b ≡ 0 → r ≡ ltZ (pos 0) d → r ≡ fails (kindOf b) d
 unfolding fails

@@ -12,24 +12,24 @@ use borrow.Author.Tests.{lt-leb}
 use Rattle.integers.proofs.Differences.{ints}
 use Rattle.forms.specs.Forms.{=0, literal, _divides_}
 use Rattle.forms.specs.Reduced.{reduced}
+use Rattle.forms.specs.Flat.{kindOf, formIn}
 use Rattle.fields.specs.declared.Answer.{Answer}
 use Rattle.fields.specs.Answers.{answer, fileProof}
-use Rattle.forms.specs.Flat.{kindOf, formIn}
-use Rattle.lines.specs.Buffer.{size, lineIn, linesIn}
+use Rattle.fields.proofs.Results.{never}
 use Rattle.formula.specs.Writing.{Numbered, Divisor, Puts}
 use Rattle.formula.proofs.Written.{held, literal-size, stride-size}
-use Rattle.lines.proofs.Lines.{before}
 use Rattle.proof.specs.Rows.{is, byNumber, byStride}
-use Rattle.rows.specs.Entries.{Multiplies}
-use Rattle.rows.specs.Rows.{KindRead, Ready}
+use Rattle.lines.specs.Buffer.{size, lineIn, linesIn}
+use Rattle.lines.proofs.Lines.{before}
+use Rattle.lines.specs.Ready.{KindRead, Ready}
+use Rattle.tally.specs.declared.Tally.{Tally}
+use Rattle.entries.specs.Entries.{Multiplies}
 use Rattle.closes.specs.Closing.{ByNumber}
 use Rattle.closes.specs.Striding.{ByStride}
 use Rattle.closes.specs.Ends.{EndedBy}
-use Rattle.rows.specs.declared.tally.Tally.{Tally}
 use Rattle.closes.specs.declared.closing.Test.{Test}
 use Rattle.closes.specs.declared.closing.Test.the-variants as test
 use Rattle.closes.specs.declared.ends.Ended.the-variants as ended
-use Rattle.fields.proofs.Results.{never}
 use Rattle.closes.proofs.Closes.{number-none}
 use Rattle.closes.proofs.Strides.{stride-none, stride-kind, stride-small}
 

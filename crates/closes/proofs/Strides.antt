@@ -14,15 +14,15 @@ use Rattle.integers.proofs.Differences.{ints}
 use Rattle.integers.specs.Divides.{divb}
 use Rattle.forms.specs.Forms.{=0, every}
 use Rattle.fields.specs.Answers.{_>>=_, _>>_, need, found}
+use Rattle.proof.specs.Rows.{is, lineAt, byStride}
 use Rattle.lines.specs.Parts.{part}
 use Rattle.lines.specs.Buffer.{size, lineIn}
 use Rattle.lines.proofs.Lines.{line-at, line-past}
-use Rattle.proof.specs.Rows.{is, lineAt, byStride}
-use Rattle.rows.specs.Entries.{Multiplies}
+use Rattle.lines.proofs.Tests.{unnot, zero-abs, some-abs}
+use Rattle.tally.specs.declared.Tally.{Tally}
+use Rattle.entries.specs.Entries.{Multiplies}
 use Rattle.closes.specs.Striding.{ByStride}
-use Rattle.rows.specs.declared.tally.Tally.{Tally}
 use Rattle.closes.specs.declared.closing.Test.the-variants.{Refused, Passed}
-use Rattle.rows.proofs.Testing.{unnot, zero-abs, some-abs}
 
 -- ---- g is 2 at least
 one-abs : (z : ℤ) {b : Bool} → b ≡ eqZ z (pos 1) → b ≡ true → natAbs z ≡ 1

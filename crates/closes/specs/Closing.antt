@@ -8,9 +8,9 @@ use Rattle.forms.specs.Flat.{kindOf}
 use Rattle.forms.specs.Forms.{Formula, literal}
 use Rattle.fields.specs.declared.Answer.{Answer}
 use Rattle.fields.specs.Answers.{Result, refused, accepted}
-use Rattle.lines.specs.Buffer.{lineIn, linesIn}
 use Rattle.proof.specs.Rows.{byNumber}
-use Rattle.rows.specs.declared.tally.Tally.{Tally}
+use Rattle.lines.specs.Buffer.{lineIn, linesIn}
+use Rattle.tally.specs.declared.Tally.{Tally}
 use Rattle.closes.specs.declared.closing.Test.{Test}
 use Rattle.closes.specs.declared.closing.Test.the-variants.{Refused, Passed}
 

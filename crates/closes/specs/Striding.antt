@@ -4,10 +4,10 @@ use Prim.Native.Nat.{ℕ}
 use lib.IntN.{ℤ}
 use Rattle.forms.specs.Forms.{_divides_}
 use Rattle.forms.specs.Reduced.{reduced}
-use Rattle.lines.specs.Buffer.{lineIn, linesIn}
 use Rattle.proof.specs.Rows.{byStride}
+use Rattle.lines.specs.Buffer.{lineIn, linesIn}
+use Rattle.tally.specs.declared.Tally.{Tally}
 use Rattle.closes.specs.Closing.{TestedBy}
-use Rattle.rows.specs.declared.tally.Tally.{Tally}
 use Rattle.closes.specs.declared.closing.Test.{Test}
 
 pub record ByStride (K : ℕ) (kinds : List ℕ) (buf : List ℤ) (t : Tally) (i g : ℕ) (r : Test) : Type 0 where

@@ -4,15 +4,15 @@ ghost use lib.Dec.{leb};
 ghost use lib.IntN.{natAbs};
 ghost use Rattle.forms.specs.Flat.{kindOf};
 ghost use Rattle.proof.specs.Rows.{fails};
-ghost use Rattle.rows.specs.Rows.{Ready};
-ghost use Rattle.rows.specs.Entries.{Multiplies};
+ghost use Rattle.lines.specs.Ready.{Ready};
+ghost use Rattle.entries.specs.Entries.{Multiplies};
 ghost use Rattle.closes.specs.Closing.{ByNumber};
 ghost use Rattle.closes.specs.Striding.{ByStride};
 use forms::LineNumber;
-use rows::derive::EQUALITY;
-use rows::derive::is_there;
-use rows::derive::kind_of;
-use rows::tally::Tally;
+use lines::kinds::EQUALITY;
+use lines::kinds::kind_of;
+use tally::Tally;
+use tally::is_there;
 
 pub enum Test {
     Refused { number: u8 },

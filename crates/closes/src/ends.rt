@@ -2,10 +2,10 @@
 ghost use Prim.Native.Nat.{_≤_};
 ghost use lib.IntN.{natAbs};
 ghost use Rattle.formula.specs.Writing.{scratchLimit};
-ghost use Rattle.lines.specs.Buffer.{linesIn};
 ghost use Rattle.proof.specs.Rows.{byNumber, byStride};
-ghost use Rattle.rows.specs.Entries.{Multiplies};
-ghost use Rattle.rows.specs.Rows.{Ready};
+ghost use Rattle.lines.specs.Buffer.{linesIn};
+ghost use Rattle.lines.specs.Ready.{Ready};
+ghost use Rattle.entries.specs.Entries.{Multiplies};
 ghost use Rattle.closes.specs.Ends.{EndedBy};
 use crate::closing::Test;
 use crate::closing::test_number;
@@ -13,8 +13,8 @@ use crate::closing::test_stride;
 use forms::LineNumber;
 use formula::writing::put_literal;
 use formula::writing::put_stride;
-use rows::derive::kind_of;
-use rows::tally::Tally;
+use lines::kinds::kind_of;
+use tally::Tally;
 
 pub enum Ended {
     Refused { number: u8 },

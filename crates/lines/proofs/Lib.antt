@@ -11,3 +11,6 @@ pub mod Next
 pub mod Fill
 pub mod Every
 pub mod Narrow
+pub mod Keeping
+pub mod KindBytes
+pub mod Tests

@@ -1,5 +1,7 @@
 // The lines of a branch in one flat lent buffer: the functions that read and write them.
 // Every number is within the range, so it has 32 bits here; what is computed of it has 64.
+pub mod kinds;
+
 use forms::LineNumber;
 use integers::number;
 ghost use mathlib.Core.Path.{_≡_};
@@ -14,8 +16,8 @@ ghost use Rattle.integers.specs.Linear.{eqZ};
 ghost use Rattle.integers.specs.Divides.{divb};
 ghost use Rattle.forms.specs.Forms.{small, every};
 ghost use Rattle.forms.specs.Edition.{edition, edition1, newestEdition, multiplierRange};
-ghost use Rattle.lines.specs.Parts.{part};
 ghost use Rattle.forms.specs.Flat.{formIn};
+ghost use Rattle.lines.specs.Parts.{part};
 ghost use Rattle.lines.specs.Buffer.{size, Bounded, Terms, LineTerms, LineCopy, LineStart, LineNegated, Mixes, Raised, raised, raisedLine, copiedLine, startedLine, negatedLine};
 
 // Where the numbers of line i's t start, with k constants. Only here a line number becomes a place.

@@ -4,10 +4,10 @@ use mathlib.Core.Bool.{Bool, true, false, _&&_}
 use mathlib.Core.List.{List}
 use Prim.Native.Nat.{ℕ, suc, _+_, _*_, _-_, _≤_, _<_}
 use native.Mathlib.Omega.{arith}
-use lib.Dec.{T, ltb}
+use lib.Dec.{T}
 use lib.ListN.{set}
 use lib.IntN.{ℤ, pos, _+ℤ_}
-use borrow.Author.Tests.{lt-ltb, le-ltb, ltb-true, ltb-false}
+use borrow.Author.Tests.{lt-ltb, le-ltb}
 use Rattle.forms.specs.Edition.{edition, edition1}
 use Rattle.forms.specs.Forms.{≤0, Line, _and_, _or_, small}
 use Rattle.forms.specs.Flat.{formIn}
@@ -22,26 +22,18 @@ use Rattle.lines.specs.Buffer.{size, lineIn, linesIn, LineStart, startedLine}
 use Rattle.lines.proofs.Lines.{line-at, line-past, length-lines}
 use Rattle.lines.proofs.Branch.{inequality-byte}
 use Rattle.lines.proofs.Starting.{tested-range}
-use Rattle.rows.specs.Tally.{tally, lineCounted, openCounted}
-use Rattle.rows.specs.Rows.{Ready, moreLines}
-use Rattle.rows.specs.declared.tally.Tally.{Tally}
-use Rattle.rows.specs.declared.tally.Tallied.{Tallied}
+use Rattle.lines.specs.Ready.{Ready}
+use Rattle.lines.proofs.Keeping.{kept-refl}
+use Rattle.tally.specs.Tally.{tally, lineCounted, openCounted, moreLines}
+use Rattle.tally.specs.declared.Tally.{Tally}
+use Rattle.tally.specs.declared.Tallied.{Tallied}
+use Rattle.tally.proofs.Counted.{counted-line, full-line, counted-open}
 use Rattle.rows.specs.declared.derive.Derived.{Derived}
 use Rattle.rows.specs.declared.derive.Derived.the-variants.{Refused, Made}
-use Rattle.rows.proofs.Counting.{counted-made, counted-full}
-use Rattle.rows.proofs.Deriving.{kept-refl, counted-line, full-line}
 use Rattle.closes.specs.declared.closing.Test as test
 use Rattle.closes.specs.declared.closing.Test.the-variants as test-of
 use Rattle.openings.specs.Opening.{joining, inTurn, startOf, middleOf, thirdOf, Branching, three, allRounded, opening, Opens, rowOpened, RowOpens, Strengthens, RoundsBy, Roundable, Rounds}
 use Rattle.openings.proofs.Starting.{starts, start-less}
-
-pub counted-open : {t : Tally} {r : Tallied} → r ≡ openCounted t → r .made ≡ true → (t .«open» < 32) × (r .tally ≡ tally (t .edition) (t .rows .0) (t .lines .0) (t .«open» + 1))
-unfolding openCounted
-counted-open {t} e h = let m = counted-made (ltb (t .«open») 32) (tally (t .edition) (t .rows .0) (t .lines .0) (t .«open» + 1)) t e h in (ltb-true (t .«open») 32 (m .0), m .1)
-
-pub full-open : (t : Tally) {r : Tallied} → r ≡ openCounted t → r .made ≡ false → 32 ≤ t .«open»
-unfolding openCounted
-full-open t e h = ltb-false (t .«open») 32 (counted-full (ltb (t .«open») 32) (tally (t .edition) (t .rows .0) (t .lines .0) (t .«open» + 1)) t e h)
 
 module _ (t : Tally) {r q : Tallied} (e : r ≡ openCounted t) (h : r .made ≡ true) (f : q ≡ lineCounted (r .tally)) where
   same-lines : r .tally .lines .0 ≡ t .lines .0

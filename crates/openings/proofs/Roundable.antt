@@ -19,8 +19,8 @@ use Rattle.proof.specs.Rows.{is, lineAt, inequality, roundable, undivided}
 use Rattle.lines.specs.Parts.{part}
 use Rattle.lines.specs.Buffer.{size, lineIn}
 use Rattle.lines.proofs.Lines.{line-at, line-past}
-use Rattle.rows.specs.declared.tally.Tally.{Tally}
-use Rattle.rows.proofs.Testing.{unnot}
+use Rattle.lines.proofs.Tests.{unnot}
+use Rattle.tally.specs.declared.Tally.{Tally}
 use Rattle.closes.specs.declared.closing.Test.the-variants.{Refused, Passed}
 use Rattle.openings.specs.Opening.{Roundable, orBytes, frontBytes}
 

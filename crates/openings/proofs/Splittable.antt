@@ -23,16 +23,15 @@ use Rattle.lines.specs.Buffer.{size, lineIn, linesIn, Bounded}
 use Rattle.lines.proofs.Lines.{before, line-at, line-past, line-same, length-lines, bounded-less}
 use Rattle.lines.proofs.Starting.{plus-none}
 use Rattle.lines.proofs.Negating.{tested-neg}
-use Rattle.rows.specs.Rows.{KindRead, Ready, LinesKept}
-use Rattle.rows.specs.declared.tally.Tally.{Tally}
+use Rattle.lines.specs.Ready.{KindRead, Ready, LinesKept}
+use Rattle.lines.proofs.Keeping.{kept-refl, ready-kept}
+use Rattle.lines.proofs.Tests.{unnot}
+use Rattle.lines.proofs.KindBytes.{apart-A, apart-B, kind-unowned}
+use Rattle.tally.specs.declared.Tally.{Tally}
 use Rattle.rows.specs.declared.derive.Derived.{Derived}
 use Rattle.rows.specs.declared.derive.Derived.the-variants.{Refused, Made}
-use Rattle.rows.proofs.Deriving.{kept-refl}
-use Rattle.rows.proofs.Testing.{unnot}
-use Rattle.rows.proofs.KindBytes.{apart-A, apart-B, kind-unowned}
 use Rattle.openings.specs.Opening.{startOf, opening, Stands, Opens, rowOpened}
 use Rattle.openings.specs.Splitting.{ownerOf, raisedBy, negatedOf, bothOf, Splits}
-use Rattle.openings.proofs.Keeping.{ready-kept}
 
 -- ---- whose line it is, by what is read of the byte that is stored
 pub read-two : {b r : ℕ} → KindRead b r → eqb r 2 ≡ eqb b 2

@@ -17,9 +17,9 @@ use Rattle.formula.specs.Formula.{encode}
 use Rattle.proof.specs.Rows.{fitting, roundable}
 use Rattle.proof.specs.Check.{Closing, Checker, Following, checkRow, checkRounded, checkBranch}
 use Rattle.lines.specs.Buffer.{lineIn, linesIn, LineStart}
-use Rattle.rows.specs.Tally.{tally}
-use Rattle.rows.specs.Rows.{Limited, LinesKept}
-use Rattle.rows.specs.declared.tally.Tally.{Tally}
+use Rattle.lines.specs.Ready.{Limited, LinesKept}
+use Rattle.tally.specs.Tally.{tally}
+use Rattle.tally.specs.declared.Tally.{Tally}
 use Rattle.rows.specs.declared.derive.Derived.{Derived}
 use Rattle.rows.specs.declared.derive.Derived.the-variants.{Refused, Made}
 use Rattle.closes.specs.declared.closing.Test as test

@@ -12,8 +12,8 @@ ghost use Rattle.fields.specs.Fields.{};
 ghost use Rattle.formula.specs.Writing.{scratchLimit, Numbered, Divisor, Stores};
 ghost use Rattle.proof.specs.Rows.{undivided};
 ghost use Rattle.lines.specs.Buffer.{size};
-ghost use Rattle.rows.specs.Entries.{Multiplies};
-ghost use Rattle.rows.specs.Rows.{Ready};
+ghost use Rattle.lines.specs.Ready.{Ready};
+ghost use Rattle.entries.specs.Entries.{Multiplies};
 ghost use Rattle.openings.specs.Opening.{Roundable, Rounds, orBytes, frontBytes};
 use crate::opening::open_step;
 use closes::closing::Test;
@@ -22,11 +22,11 @@ use forms::LineNumber;
 use forms::ROUNDING;
 use formula::writing::put_pair;
 use formula::writing::put_stride;
+use lines::kinds::INEQUALITY;
+use lines::kinds::kind_of;
 use rows::derive::Derived;
-use rows::derive::INEQUALITY;
-use rows::derive::is_there;
-use rows::derive::kind_of;
-use rows::tally::Tally;
+use tally::Tally;
+use tally::is_there;
 
 // Whether g divides d + j for no j below `by`.
 fn is_undivided(g: i64, d: i64, by: u16) -> bool

@@ -2,50 +2,29 @@
 use mathlib.Core.Path.{_≡_, refl, sym, ap, subst, _∙_}
 use mathlib.Core.Bool.{Bool, true, false}
 use mathlib.Core.List.{List}
-use Prim.Native.Nat.{ℕ, _+_, _*_, _≤_, _<_}
+use Prim.Native.Nat.{ℕ, _*_, _≤_, _<_}
 use native.Mathlib.Numerals.{add-one}
 use native.Mathlib.Omega.{arith}
-use lib.Dec.{T, ltb}
-use lib.ListN.{length, set, length-set}
+use lib.Dec.{T}
+use lib.ListN.{set, length-set}
 use lib.IntN.{ℤ}
-use borrow.Author.Tests.{lt-ltb, le-ltb, ltb-true, ltb-false}
+use borrow.Author.Tests.{lt-ltb, le-ltb}
 use Rattle.forms.specs.Edition.{edition, edition1}
 use Rattle.calculus.specs.Rules.{inRange}
 use Rattle.fields.specs.Answers.{_>>_, need}
+use Rattle.proof.specs.Rows.{fitting}
 use Rattle.lines.proofs.Parts.{agree-refl, agree-set, agree-sym}
 use Rattle.lines.specs.Buffer.{size, lineIn, Mixes, mixedLine}
 use Rattle.lines.proofs.Lines.{length-lines, line-ext, bounded-same}
 use Rattle.lines.proofs.Branch.{plain-stored}
 use Rattle.lines.proofs.Mixing.{mixed-line, mixed-range, mixes-line}
 use Rattle.lines.proofs.Range.{bounded-more}
-use Rattle.proof.specs.Rows.{fitting}
-use Rattle.rows.specs.Tally.{lineCounted}
-use Rattle.rows.specs.Rows.{Ready, Limited, LinesKept, Operands, moreLines, sumOf, Appended}
-use Rattle.rows.specs.declared.tally.Tally.{Tally}
-use Rattle.rows.specs.declared.tally.Tallied.{Tallied}
+use Rattle.lines.specs.Ready.{Ready}
+use Rattle.lines.proofs.Keeping.{kept-refl}
+use Rattle.tally.specs.Tally.{moreLines}
+use Rattle.tally.specs.declared.Tally.{Tally}
+use Rattle.rows.specs.Rows.{Operands, sumOf, Appended}
 use Rattle.rows.specs.declared.derive.Derived.the-variants.{Refused, Made}
-use Rattle.rows.proofs.Counting.{counted-made, counted-full}
-
-pub kept-refl : {K n : ℕ} {kinds : List ℕ} {buf : List ℤ} → LinesKept K n kinds buf kinds buf
-kept-refl = record { lines-same = agree-refl; kinds-same = agree-refl; lines-length = refl; kinds-length = refl }
-
--- ---- one more line
--- A branch with one line more, if the buffers have room for yet another.
-pub ready-more : {e K n : ℕ} {kinds : List ℕ} {buf : List ℤ} {kinds′ : List ℕ} {buf′ : List ℤ}
-    → Ready e K kinds buf n → LinesKept K n kinds buf kinds′ buf′ → Limited e K buf′ (n + 1) → (n + 1) * size K + size K ≤ length buf → n + 1 < length kinds → Ready e K kinds′ buf′ (n + 1)
-ready-more r k l h q = record {
-  branch = record { constants = r .branch .constants; room = omega (arith, k .lines-length); bounded = l .bounded };
-  room = omega (arith, k .kinds-length);
-  most = l .most;
-}
-
-pub counted-line : {t : Tally} {r : Tallied} → r ≡ lineCounted t → r .made ≡ true → (t .lines .0 < edition (t .edition) .lines) × (r .tally ≡ moreLines t)
-unfolding lineCounted
-counted-line {t} e h = let c = counted-made (ltb (t .lines .0) (edition (t .edition) .lines)) (moreLines t) t e h in (ltb-true (t .lines .0) (edition (t .edition) .lines) (c .0), c .1)
-
-pub full-line : (t : Tally) {r : Tallied} → r ≡ lineCounted t → r .made ≡ false → edition (t .edition) .lines ≤ t .lines .0
-unfolding lineCounted
-full-line t e h = ltb-false (t .lines .0) (edition (t .edition) .lines) (counted-full (ltb (t .lines .0) (edition (t .edition) .lines)) (moreLines t) t e h)
 
 module _ {K : ℕ} {kinds : List ℕ} {buf : List ℤ} (t : Tally) (f : ℤ) (i : ℕ) (g : ℤ) (j kind : ℕ) (ready : Ready (t .edition) K kinds buf (t .lines .0)) where
   pub append-full : edition (t .edition) .lines ≤ t .lines .0 → Appended K kinds buf t f i g j kind kinds buf (Refused 16)

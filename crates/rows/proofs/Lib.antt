@@ -1,10 +1,4 @@
--- Laws that the proofs of the functions cite: each way through a function as a lemma over plain values, and the walks over a tally that is lent.
-pub mod Reading
+-- Laws of the rows that make a line, and of claims.
 pub mod Deriving
-pub mod Counting
-pub mod Lent
-pub mod Lending
-pub mod KindBytes
 pub mod Testing
 pub mod Claiming
-pub mod Stepping

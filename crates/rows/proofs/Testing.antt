@@ -1,48 +1,28 @@
 -- The tests of the rows that make a line, one way through each function after the other. Assumes nothing.
-use mathlib.Core.Path.{_≡_, refl, sym, ap, _∙_}
-use mathlib.Core.Bool.{Bool, true, false, not, _&&_}
+use mathlib.Core.Path.{_≡_, refl, _∙_}
+use mathlib.Core.Bool.{Bool, true, false, _&&_}
 use mathlib.Core.List.{List}
 use mathlib.Core.Option.{none, some}
-use Prim.Native.Nat.{ℕ, zero, suc, _≤_, _<_}
+use Prim.Native.Nat.{ℕ, _≤_, _<_}
 use native.Mathlib.Omega.{arith}
-use lib.Dec.{ltb, leb}
-use lib.IntN.{ℤ, pos, negsuc, natAbs}
-use borrow.Author.Tests.{ltb-true, ltb-false, le-leb, lt-leb, eqb-true, eqb-false}
+use lib.Dec.{leb}
+use lib.IntN.{ℤ, pos}
+use borrow.Author.Tests.{le-leb, lt-leb}
 use Rattle.integers.specs.Linear.{eqZ}
 use Rattle.forms.specs.Forms.{≤0, =0, Line, line, nonzero, _⊞_, _·_}
+use Rattle.forms.specs.Flat.{kindOf}
 use Rattle.calculus.specs.Rules.{Step, Combine, Reduce, Scale}
 use Rattle.fields.specs.declared.Answer.{Answer}
 use Rattle.fields.specs.Answers.{refused, accepted, _>>=_, _>>_, need, found}
-use Rattle.forms.specs.Flat.{kindOf}
+use Rattle.proof.specs.Rows.{is, plainKind, lineAt, derived}
 use Rattle.lines.specs.Buffer.{lineIn, linesIn}
 use Rattle.lines.proofs.Lines.{line-at, line-past, line-ext}
 use Rattle.lines.proofs.Mixing.{mix-one, mix-zero}
-use Rattle.proof.specs.Rows.{is, plainKind, lineAt, derived}
+use Rattle.lines.proofs.Keeping.{kept-refl}
+use Rattle.tally.specs.declared.Tally.{Tally}
 use Rattle.rows.specs.Rows.{sumOf, Appended, Derives}
-use Rattle.rows.specs.declared.tally.Tally.{Tally}
 use Rattle.rows.specs.declared.derive.Derived.{Derived}
 use Rattle.rows.specs.declared.derive.Derived.the-variants.{Refused, Made}
-use Rattle.rows.proofs.Deriving.{kept-refl}
-
--- ---- what the code's tests say
-pub unnot : (b : Bool) {c : Bool} → not b ≡ c → b ≡ not c
-unnot true h = ap not h
-unnot false h = ap not h
-
-pub is-below : (i n : ℕ) {b : Bool} → b ≡ ltb i n → not b ≡ false → i < n
-is-below i n {b} e h = ltb-true i n (sym e ∙ unnot b h)
-
-pub past : (i n : ℕ) {b : Bool} → b ≡ ltb i n → not b ≡ true → n ≤ i
-past i n {b} e h = ltb-false i n (sym e ∙ unnot b h)
-
-pub zero-abs : (z : ℤ) {b : Bool} → b ≡ eqZ z (pos 0) → b ≡ true → natAbs z ≡ 0
-zero-abs (pos n) e h = eqb-true n 0 (sym e ∙ h)
-zero-abs (negsuc n) e h = absurd (let z : _≡_ {A = ℕ} 0 1 = cc in omega arith)
-
-pub some-abs : (z : ℤ) {b : Bool} → b ≡ eqZ z (pos 0) → b ≡ false → 1 ≤ natAbs z
-some-abs (pos zero) e h = absurd (eqb-false 0 0 (sym e ∙ h) refl)
-some-abs (pos (suc n)) e h = omega arith
-some-abs (negsuc n) e h = omega arith
 
 zero-none : (z : ℤ) {b : Bool} → b ≡ eqZ z (pos 0) → b ≡ true → nonzero z ≡ false
 unfolding nonzero

@@ -1,6 +1,3 @@
--- The contracts of a row's functions.
-pub mod Tally
-pub mod Entries
+-- The rows that make a line, and claims.
 pub mod Rows
 pub mod Claims
-pub mod Steps

@@ -1,46 +1,23 @@
 -- What the rows that make a line leave: the answer, and the branch with the new line. Document 01, "The rows" and "Check". Assumes nothing.
 use mathlib.Core.Path.{_≡_}
 use mathlib.Core.List.{List}
-use Prim.Native.Nat.{ℕ, _+_, _*_, _≤_, _<_}
-use lib.ListN.{length}
+use Prim.Native.Nat.{ℕ, _+_, _≤_, _<_}
 use lib.IntN.{ℤ}
 use Rattle.integers.specs.Magnitude.{Within}
 use Rattle.forms.specs.Edition.{edition, multiplierRange}
 use Rattle.forms.specs.Forms.{Line, line, _⊞_, _·_}
+use Rattle.forms.specs.Flat.{kindOf}
 use Rattle.calculus.specs.Rules as rules
 use Rattle.fields.specs.declared.Answer.{Answer}
 use Rattle.fields.specs.Answers.{Result, refused, accepted, _>>=_, _>>_}
-use Rattle.lines.specs.Parts.{Agree}
-use Rattle.forms.specs.Flat.{kindOf}
-use Rattle.lines.specs.Buffer.{size, lineIn, linesIn, Bounded, Branch}
 use Rattle.proof.specs.Rows.{derived, fitting}
 use Rattle.proof.specs.Check.{Closing}
-use Rattle.rows.specs.Tally.{tally}
-use Rattle.rows.specs.declared.tally.Tally.{Tally}
+use Rattle.lines.specs.Buffer.{lineIn, linesIn}
+use Rattle.lines.specs.Ready.{Limited, LinesKept}
+use Rattle.tally.specs.Tally.{tally, moreLines}
+use Rattle.tally.specs.declared.Tally.{Tally}
 use Rattle.rows.specs.declared.derive.Derived.{Derived}
 use Rattle.rows.specs.declared.derive.Derived.the-variants.{Refused, Made}
-
--- What is read of the byte of a line's kind. (A record, so that the byte is inferred from it.)
-pub record KindRead (b r : ℕ) : Type 0 where
-  pub is : r ≡ b
-
--- The n first lines of the buffers are a branch of a proof of edition e, with room for one more.
-pub record Ready (e K : ℕ) (kinds : List ℕ) (buf : List ℤ) (n : ℕ) : Type 0 where
-  pub branch : Branch K buf n
-  pub room : n < length kinds
-  pub most : n ≤ edition e .lines
-
--- The n first lines keep the limits of a branch. Whether there is room for one more is for the caller to say.
-pub record Limited (e K : ℕ) (buf : List ℤ) (n : ℕ) : Type 0 where
-  pub bounded : Bounded K buf n
-  pub most : n ≤ edition e .lines
-
--- What is written behind the n first lines keeps them, and the lengths.
-pub record LinesKept (K n : ℕ) (kinds : List ℕ) (buf : List ℤ) (kinds′ : List ℕ) (buf′ : List ℤ) : Type 0 where
-  pub lines-same : Agree (n * size K) buf′ buf
-  pub kinds-same : Agree n kinds′ kinds
-  pub lines-length : length buf′ ≡ length buf
-  pub kinds-length : length kinds′ ≡ length kinds
 
 -- Factors and lines of a branch of n lines, and the kind of a line that rows make.
 pub record Operands (n : ℕ) (f : ℤ) (i : ℕ) (g : ℤ) (j kind : ℕ) : Type 0 where
@@ -49,10 +26,6 @@ pub record Operands (n : ℕ) (f : ℤ) (i : ℕ) (g : ℤ) (j kind : ℕ) : Typ
   pub first : i < n
   pub g-in : Within multiplierRange g
   pub second : j < n
-
--- The tally with one line more.
-abbrev pub moreLines : Tally → Tally
-moreLines t = tally (t .edition) (t .rows .0) (t .lines .0 + 1) (t .«open»)
 
 -- f times line i plus g times line j.
 abbrev pub sumOf : (K : ℕ) (kinds : List ℕ) (buf : List ℤ) (f : ℤ) (i : ℕ) (g : ℤ) (j kind : ℕ) → Line

@@ -1,26 +1,19 @@
 // The rows that make a line: their tests, and the new line behind the branch's lines.
-ghost use mathlib.Core.Path.{_≡_};
-ghost use Prim.Native.Nat.{_<_};
-ghost use lib.Dec.{ltb};
+use forms::LineNumber;
+use lines::kinds::EQUALITY;
+use lines::kinds::INEQUALITY;
+use lines::kinds::kind_of;
+use lines::kinds::set_kind;
+use tally::Tally;
+use tally::is_there;
+use tally::line_counted;
 ghost use lib.IntN.{natAbs};
-ghost use lib.ListN.{length, getD, set};
 ghost use Rattle.integers.specs.Magnitude.{Within};
 ghost use Rattle.forms.specs.Edition.{multiplierRange};
 ghost use Rattle.calculus.specs.Rules.{Combine, Reduce, Scale};
-ghost use Rattle.rows.specs.Entries.{Multiplies};
-ghost use Rattle.rows.specs.Rows.{KindRead, Ready, Operands, Appended, Derives};
-use crate::tally::Tally;
-use crate::tally::line_counted;
-use forms::LineNumber;
-
-// The kind of a line as its byte: an inequality, an equality, and behind these a constraint t ≠ 0, of A and of B.
-pub const INEQUALITY: u8 = 0;
-
-pub const EQUALITY: u8 = 1;
-
-pub const APART_A: u8 = 2;
-
-pub const APART_B: u8 = 3;
+ghost use Rattle.lines.specs.Ready.{Ready};
+ghost use Rattle.entries.specs.Entries.{Multiplies};
+ghost use Rattle.rows.specs.Rows.{Operands, Appended, Derives};
 
 pub enum Derived {
     Refused { number: u8 },
@@ -56,30 +49,6 @@ fn append(
         return Derived::Refused { number: 13 };
     }
     Derived::Refused { number: 16 }
-}
-
-// A lookup takes a line number: whether the line is there, and its kind, which is read and stored here only. (No byte above 3 is stored; the definitions read it as an equality.)
-pub fn is_there(tally: Tally, i: LineNumber) -> bool
-    ensures { λ r. ⌜ r ≡ ltb (i .0) (tally .lines .0) ⌝ }
-{
-    let count = tally.lines;
-    i.0 < count.0
-}
-
-pub fn kind_of(kinds: &[u8], i: LineNumber) -> u8
-    requires { ⌜ i .0 < length (now kinds) ⌝ }
-    ensures { λ r. ⌜ KindRead (getD (now (kinds .entry)) (i .0) 0) r ⌝ }
-{
-    let x = i.0 as usize;
-    kinds[x]
-}
-
-pub fn set_kind(kinds: &mut [u8], i: LineNumber, kind: u8)
-    requires { ⌜ i .0 < length (now kinds) ⌝ }
-    ensures { λ _. ⌜ now (kinds .exit) ≡ set (now (kinds .entry)) (i .0) kind ⌝ }
-{
-    let x = i.0 as usize;
-    kinds[x] = kind;
 }
 
 // FM-ELIM of Figure 6 in source 000: α·s, then β·t, then their sum αs + βt; then the partial interpolants in the same steps, αsA + βtA (`lines::mix`). 10, 11, 12, then as `append`.

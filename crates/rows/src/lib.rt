@@ -1,6 +1,3 @@
-// A row of the proof table: its field, its tests, the line it makes, and the counts it is held to.
+// The rows that make a line, combine, reduce and scale: their tests, and the new line behind the branch's lines; and claims.
 pub mod claims;
 pub mod derive;
-pub mod entries;
-pub mod steps;
-pub mod tally;

@@ -10,7 +10,7 @@ use mir.Val.{toZ}
 use mir.ValLaws.{toZ-ofZ}
 use Rattle.integers.proofs.Magnitude.{within-fits}
 use Rattle.forms.specs.Forms.{_or_}
-use Rattle.rows.proofs.Testing.{unnot}
+use Rattle.lines.proofs.Tests.{unnot}
 use Rattle.openings.specs.Opening.{lastTwo, fromBranch}
 use Rattle.branches.specs.Spare.{unreadBytes}
 use Rattle.branches.proofs.Counting.{one-less, next-falls, own-falls, others-fall, turn-falls}
@@ -23,8 +23,8 @@ use Prim.Native.Nat.{ℕ, _+_, _*_, _-_, _<_}
 use borrow.Fn.Kinds.{In}
 use borrow.Fn.PlainCycle.{Measures, is, falls, and}
 use Rattle.formula.proofs.writing.put_pair.Reads as put-pair-reads
-use Rattle.rows.proofs.derive.kind_of.Reads as kind-of-reads
-use Rattle.rows.proofs.tally.returned.Reads as returned-reads
+use Rattle.lines.proofs.kinds.kind_of.Reads as kind-of-reads
+use Rattle.tally.proofs.returned.Reads as returned-reads
 use Rattle.closes.proofs.ends.close_number.Reads as close-number-reads
 use Rattle.closes.proofs.ends.close_stride.Reads as close-stride-reads
 use Rattle.openings.proofs.opening.start.Reads as start-reads

@@ -1,12 +1,12 @@
 -- `closes::closing::test_number` meets its contract. Assumes nothing.
-use borrow.Author.Needs.{needs}
 use mathlib.Core.Path.{_∙_}
 use native.Mathlib.Omega.{arith}
 use mir.Syntax.{w64}
 use mir.ValLaws.{toZ-ofZ}
-use Rattle.rows.proofs.KindBytes.{kind-apart}
-use Rattle.rows.proofs.Testing.{is-below, past}
+use Rattle.lines.proofs.KindBytes.{kind-apart}
+use Rattle.lines.proofs.Tests.{is-below, past}
 use Rattle.closes.proofs.Closes.{line-end, line-low, number-none, number-apart, number-coeffs, number-d, number-passed}
+use borrow.Author.Needs.{needs}
 use Rattle.closes.proofs.closing.test_number.Statement.{statement}
 use Rattle.closes.proofs.closing.test_number.Tie as tie
 

@@ -2,8 +2,9 @@
 use native.Mathlib.Omega.{arith}
 use Rattle.forms.proofs.Editions.{lines-most}
 use Rattle.lines.proofs.Lines.{before, bounded-less}
-use Rattle.rows.proofs.Testing.{unnot}
-use Rattle.openings.proofs.Opens.{counted-open, full-open, counted-both, full-both, open-none, open-full, open-range, open-start, open-made}
+use Rattle.lines.proofs.Tests.{unnot}
+use Rattle.tally.proofs.Counted.{counted-open, full-open}
+use Rattle.openings.proofs.Opens.{counted-both, full-both, open-none, open-full, open-range, open-start, open-made}
 use borrow.Author.Needs.{needs}
 use Rattle.openings.proofs.opening.open_step.Statement.{statement}
 use Rattle.openings.proofs.opening.open_step.Tie as tie

@@ -6,8 +6,8 @@ use mir.Syntax.{w64}
 use mir.ValLaws.{toZ-ofZ}
 use Rattle.forms.proofs.Editions.{lines-most}
 use Rattle.lines.proofs.Lines.{before}
-use Rattle.rows.proofs.KindBytes.{kind-≤, kind-not-≤}
-use Rattle.rows.proofs.Testing.{is-below, past, unnot}
+use Rattle.lines.proofs.KindBytes.{kind-≤, kind-not-≤}
+use Rattle.lines.proofs.Tests.{is-below, past, unnot}
 use Rattle.closes.proofs.Closes.{line-end}
 use Rattle.closes.proofs.Strides.{at-least-two}
 use Rattle.openings.proofs.Roundable.{round-none, round-kind, round-small, round-least, round-most, round-coeffs, round-d, round-passed}

@@ -1,7 +1,7 @@
 -- `openings::strengthen::strengthen` meets its contract. Assumes nothing.
 use native.Mathlib.Omega.{arith}
-use Rattle.rows.proofs.KindBytes.{kind-≤, kind-not-≤}
-use Rattle.rows.proofs.Testing.{is-below, past}
+use Rattle.lines.proofs.KindBytes.{kind-≤, kind-not-≤}
+use Rattle.lines.proofs.Tests.{is-below, past}
 use Rattle.openings.proofs.Opens.{strengthen-none, strengthen-kind, strengthen-opens}
 use borrow.Author.Needs.{needs}
 use Rattle.openings.proofs.strengthen.strengthen.Statement.{statement}

@@ -1,11 +1,11 @@
 -- `rows::claims::same_form` meets its contract. Assumes nothing.
 use mathlib.Core.Path.{refl}
 use mathlib.Core.Logic.{inr}
-use borrow.Author.Needs.{needs}
 use native.Mathlib.Omega.{arith}
 use Prim.Native.Nat.{_+_, _-_}
-use Rattle.rows.proofs.Testing.{unnot}
+use Rattle.lines.proofs.Tests.{unnot}
 use Rattle.rows.proofs.Claiming.{Going, claim-start, claim-on, claim-off, claim-end}
+use borrow.Author.Needs.{needs}
 use Rattle.rows.proofs.claims.same_form.Statement.{statement}
 use Rattle.rows.proofs.claims.same_form.Tie as tie
 

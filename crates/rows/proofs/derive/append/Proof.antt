@@ -1,9 +1,10 @@
 -- `rows::derive::append` meets its contract. Assumes nothing.
-use borrow.Author.Needs.{needs}
 use native.Mathlib.Omega.{arith}
 use Rattle.forms.proofs.Editions.{lines-most}
 use mir.ValLaws.{toZ-ofZ}
-use Rattle.rows.proofs.Deriving.{counted-line, full-line, append-full, append-range, append-made}
+use Rattle.tally.proofs.Counted.{counted-line, full-line}
+use Rattle.rows.proofs.Deriving.{append-full, append-range, append-made}
+use borrow.Author.Needs.{needs}
 use Rattle.rows.proofs.derive.append.Statement.{statement}
 use Rattle.rows.proofs.derive.append.Tie as tie
 

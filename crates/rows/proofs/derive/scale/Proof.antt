@@ -1,9 +1,10 @@
 -- `rows::derive::scale` meets its contract. Assumes nothing.
-use borrow.Author.Needs.{needs}
 use native.Mathlib.Omega.{arith}
 use mir.ValLaws.{toZ-ofZ}
-use Rattle.rows.proofs.KindBytes.{kind-plain, kind-apart}
-use Rattle.rows.proofs.Testing.{is-below, past, zero-abs, some-abs, scale-none, scale-apart, scale-zero, scale-made}
+use Rattle.lines.proofs.KindBytes.{kind-plain, kind-apart}
+use Rattle.lines.proofs.Tests.{is-below, past, zero-abs, some-abs}
+use Rattle.rows.proofs.Testing.{scale-none, scale-apart, scale-zero, scale-made}
+use borrow.Author.Needs.{needs}
 use Rattle.rows.proofs.derive.scale.Statement.{statement}
 use Rattle.rows.proofs.derive.scale.Tie as tie
 

@@ -1,0 +1,2 @@
+-- What a field states, entry by entry.
+pub mod Reading

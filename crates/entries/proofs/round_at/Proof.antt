@@ -1,0 +1,46 @@
+-- `entries::round_at` meets its contract. Assumes nothing.
+use native.Mathlib.Omega.{arith}
+use mir.Syntax.{w64}
+use mir.ValLaws.{toZ-ofZ}
+use Rattle.proof.specs.Entries.{sizeOf}
+use Rattle.entries.proofs.Reading.{lineWidth-most, round-is, wrong-size}
+use borrow.Author.Needs.{needs}
+use Rattle.entries.proofs.round_at.Statement.{statement}
+use Rattle.entries.proofs.round_at.Tie as tie
+
+line-bytes-requires : tie.Need-line-bytes-requires
+line-bytes-requires c κs = search needs
+
+mul-if1 : tie.Need-mul-if1
+mul-if1 c = search needs
+
+add-if1 : tie.Need-add-if1
+add-if1 c = record { fits = omega (arith, c .line-bytes .ensures, lineWidth-most (c .before .before .args .e)) }
+
+line-at-requires : tie.Need-line-at-requires
+line-at-requires c κs = search needs
+
+add-multiplier-at : tie.Need-add-multiplier-at
+add-multiplier-at c = search needs
+
+multiplier-at-requires : tie.Need-multiplier-at-requires
+multiplier-at-requires c κs = search needs
+
+add-rounding-at : tie.Need-add-rounding-at
+add-rounding-at c = search needs
+
+add-rounding-at-2 : tie.Need-add-rounding-at-2
+add-rounding-at-2 c = search needs
+
+rounding-at-requires : tie.Need-rounding-at-requires
+rounding-at-requires c κs = search needs
+
+returns : tie.Need-returns
+returns c = rw (toZ-ofZ w64 (c .before .multiplier-at .result) (record { sfits = c .before .multiplier-at .ok })) (round-is _ _ _ (c .before .before .before .before .before .before .pre) _ (c .before .before .before .before .line-bytes .ensures) (c .before .before .before .if1 .taken) (c .before .before .line-at .ensures) (c .before .multiplier-at .ensures) (c .rounding-at .ensures))
+
+returns-2 : tie.Need-returns-2
+unfolding sizeOf
+returns-2 c = wrong-size _ _ _ (c .before .before .before .pre) _ _ (c .if1 .left) (λ K. rw (c .before .line-bytes .ensures))
+
+pub round-at-spec : {M : Type 1} → statement M
+round-at-spec = tie.close (tie.spec line-bytes-requires mul-if1 add-if1 line-at-requires add-multiplier-at multiplier-at-requires add-rounding-at add-rounding-at-2 rounding-at-requires returns returns-2)

@@ -1,0 +1,2 @@
+-- Entries as the code reads them.
+pub mod Entries

@@ -1,0 +1,2 @@
+-- Each way through an entry of a branch.
+pub mod Stepping

@@ -1,0 +1,2 @@
+-- One entry of a branch.
+pub mod Steps

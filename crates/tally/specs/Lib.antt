@@ -1,0 +1,2 @@
+-- The tally of a check.
+pub mod Tally
