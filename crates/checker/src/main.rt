@@ -5,7 +5,7 @@ ghost use Rattle.io.specs.Counts.{Counts};
 ghost use Rattle.forms.specs.Edition.{edition1};
 ghost use Rattle.proof.specs.Check.{check as Check·check};
 ghost use Rattle.checker.specs.Said.{PutAccepted, Printed};
-use checking::check::check;
+use checking::check;
 use forms::BUNDLE_BYTES;
 use forms::FORMULA_BYTES;
 use forms::PROOF_BYTES;

@@ -40,7 +40,7 @@ use Rattle.formula.specs.Formula.{formulaFile}
 use Rattle.proof.specs.Check.{formulaAtMost, interpolant, checkBy, check}
 use Rattle.proof.specs.Layout.{Yields, Certifies}
 use Rattle.proof.proofs.Agree.{interpolant-iff, interpolant-yields, interpolant-long, never-0, one-formula, agreed, agrees-refl}
-use Rattle.checking.specs.Promises.{Checks}
+use Rattle.proof.specs.Promises.{Checks}
 use Rattle.guarantee.specs.Acceptance.{Checkable, Readable, bundleFile, Writable, Showable, WrittenAs, ReadAs, Acceptance}
 use Rattle.guarantee.proofs.Refusals.{refusals}
 

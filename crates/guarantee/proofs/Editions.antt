@@ -39,7 +39,7 @@ use Rattle.proof.specs.Check.{checkProof, interpolant, checkBy, check}
 use Rattle.proof.specs.Editions.{InFirst, Accepts, limitBehind, lengthsFit, limitA, limitB}
 use Rattle.proof.proofs.Agree.{agrees-refl}
 use Rattle.proof.proofs.Editions.{Starting, starting, field-said, not-read, other-bundle, late-bundle, offices}
-use Rattle.checking.specs.Promises.{Checks}
+use Rattle.proof.specs.Promises.{Checks}
 use Rattle.guarantee.specs.Editions.{ShortBundles, ReadA, ReadBoth, SaysAt, Other, HasLowest, HasMore, EditionsPromised}
 use Rattle.guarantee.proofs.Long.{check-1, show-1, read-1}
 use Rattle.guarantee.proofs.Wide.{bundle-lowest, bundle-more, write-kind, write-count, wide-1, wide-2}

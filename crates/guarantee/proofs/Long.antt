@@ -31,7 +31,7 @@ use Rattle.bundle_read.specs.Promises.{Reads}
 use Rattle.proof.specs.Check.{Checker, Following, checkRounded, checkSplit, checkRow, checkEntry, checkEntries, checkBranch, checkProof, formulaAtMost, interpolant, checkBy, check}
 use Rattle.proof.proofs.Says.{Says as Tells, says-refused, says-accepted, bind, seq, test, finds, weaken}
 use Rattle.proof.proofs.Tree.{derived-says, fitting-says, inequality-says, roundable-says, disequality-says, byNumber-says, byStride-says, entry-says}
-use Rattle.checking.specs.Promises.{Checks}
+use Rattle.proof.specs.Promises.{Checks}
 use Rattle.guarantee.specs.Editions.{ShortBundles, ReadA, TooLong, long-A, long-B, late-A, late-B}
 
 -- ---- the proof's fields: none of their refusals is 1

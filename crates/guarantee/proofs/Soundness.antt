@@ -15,6 +15,8 @@ use Rattle.fields.specs.Numbers.{Bytes}
 use Rattle.fields.specs.Fields.{Item, Framed, fileOf, withoutNotes, fields}
 use Rattle.fields.proofs.Framing.{items-fileOf}
 use Rattle.fields.proofs.Whole.{whole-file}
+use Rattle.fields.proofs.Bare.{bareWritten}
+use Rattle.fields.specs.declared.WriteResult.{WriteResult}
 use Rattle.bundle.specs.Bundle.{bundle}
 use Rattle.bundle.specs.Layout.{StatesAll, BundleFile, bundleLimit}
 use Rattle.bundle.proofs.Bare.{limit-most, kept-higher}
@@ -24,10 +26,8 @@ use Rattle.proof.specs.Layout.{Yields}
 use Rattle.proof.specs.Editions.{limitBehind, lengthsFit, limitA, limitB}
 use Rattle.proof.proofs.Agree.{yielded-interpolant}
 use Rattle.proof.proofs.Notes.{check-noted}
-use Rattle.fields.proofs.Bare.{bareWritten}
 use Rattle.proof.proofs.Sizes.{written-reads-back}
-use Rattle.fields.specs.declared.WriteResult.{WriteResult}
-use Rattle.checking.specs.Promises.{Checks}
+use Rattle.proof.specs.Promises.{Checks}
 use Rattle.guarantee.specs.LaidOut.{Listed, LaidBundle, Placed, unclaimed, claimed, strengthen as strengthens, round as rounds, split as splits, number as numbers, stride as strides, PlacedTimes, none as nones, more as mores, LaidOut}
 use Rattle.guarantee.specs.Acceptance.{Checkable}
 use Rattle.guarantee.specs.Soundness.{Meaning, Faithful, Delivered, NotesPassedOver, Soundness}

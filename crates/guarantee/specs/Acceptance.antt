@@ -23,7 +23,7 @@ use Rattle.bundle_read.specs.Promises.{Reads}
 use Rattle.bundle_write.specs.Promises.{Writes}
 use Rattle.formula.specs.Formula.{formulaFile}
 use Rattle.proof.specs.Layout.{Yields, Certifies}
-use Rattle.checking.specs.Promises.{Checks}
+use Rattle.proof.specs.Promises.{Checks}
 
 -- ---- what each operation accepts
 -- Check: the rows form a closed proof, the files keep the layouts, rules and limits (`Certifies`), and the output is long enough for the formula that the rules assign.

@@ -25,7 +25,7 @@ use Rattle.formula.specs.declared.Tested.{Tested}
 use Rattle.formula.specs.Promises.{Tests}
 use Rattle.proof.specs.Check.{checkBy}
 use Rattle.proof.specs.Editions.{InFirst, Accepts, Offices, limitA, limitB}
-use Rattle.checking.specs.Promises.{Checks}
+use Rattle.proof.specs.Promises.{Checks}
 
 -- A and B have at most 8,192 bytes each, so that A is read (by check, where the proof too is short enough).
 pub record ShortBundles (A B : List ℕ) : Type 0 where

@@ -11,12 +11,12 @@ use Rattle.forms.specs.Forms.{All, Meets, Formula, True}
 use Rattle.fields.specs.Answers.{acceptance}
 use Rattle.fields.specs.Numbers.{Bytes}
 use Rattle.fields.specs.Fields.{Item, Framed, fileOf}
+use Rattle.fields.specs.declared.WriteResult.{WriteResult}
 use Rattle.formula.specs.declared.Tested.{Tested}
 use Rattle.formula.specs.Test.{registers}
 use Rattle.formula.specs.Promises.{Tests}
 use Rattle.proof.specs.Layout.{Certifies}
-use Rattle.fields.specs.declared.WriteResult.{WriteResult}
-use Rattle.checking.specs.Promises.{Checks}
+use Rattle.proof.specs.Promises.{Checks}
 use Rattle.guarantee.specs.Soundness.{Meaning, Faithful}
 
 -- The bytes written, tested at values within ±1,000,000, one for each constant: accepted, true just where the formula is true of the values, so true where they meet all of A and false where they meet all of B.

@@ -9,12 +9,12 @@ use Rattle.forms.specs.Edition.{Edition, edition1, newestEdition}
 use Rattle.forms.specs.Forms.{Form, Line, Assignment, Formula, literal, _divides_, _and_, _or_, _plus_, within, True, height}
 use Rattle.forms.specs.Reduced.{reducing, Strides, Reduced}
 use Rattle.calculus.specs.Rules.{Closed, derive, strengthen, round, splitEq, splitNeq, number, stride, Rounded, last, more}
+use Rattle.fields.specs.declared.WriteResult.{WriteResult}
 use Rattle.formula.specs.declared.Tested.{Tested}
 use Rattle.formula.specs.Formula.{formulaFile, Encodable}
 use Rattle.formula.specs.Promises.{Tests}
 use Rattle.proof.specs.Layout.{Yields}
-use Rattle.fields.specs.declared.WriteResult.{WriteResult}
-use Rattle.checking.specs.Promises.{Checks}
+use Rattle.proof.specs.Promises.{Checks}
 use Rattle.guarantee.specs.Acceptance.{Checkable, WrittenAs}
 
 -- The formula of a closed branch with the numbers of a stride form as they stand, as document 01 has it.

@@ -18,7 +18,7 @@ use Rattle.bundle_read.specs.Promises.{Reads}
 use Rattle.bundle_write.specs.Promises.{Writes}
 use Rattle.formula.specs.declared.Tested.{Tested}
 use Rattle.formula.specs.Promises.{Tests}
-use Rattle.checking.specs.Promises.{Checks}
+use Rattle.proof.specs.Promises.{Checks}
 use Rattle.dulgaverk.specs.Copied.{Copied}
 
 -- The number is 0 just where the answer is that of an accepted call (0, 0, 0, and no row, step and branch); and it is never 22, which is no longer given.

@@ -6,9 +6,9 @@ use Rattle.forms.specs.Edition.{edition, edition1, newestEdition}
 use Rattle.forms.specs.Forms.{Formula, height}
 use Rattle.calculus.specs.Rules.{Entry}
 use Rattle.calculus.specs.Tied.{Tied}
-use Rattle.proof.specs.Layout.{ProofFile, Yields}
 use Rattle.fields.specs.declared.WriteResult.{WriteResult}
-use Rattle.checking.specs.Promises.{Checks}
+use Rattle.proof.specs.Layout.{ProofFile, Yields}
+use Rattle.proof.specs.Promises.{Checks}
 
 pub record RoundingPromised : Type 0 where
   -- Where a table with strengthens derives a formula, a table that has, in the place of any of them whose middle branch is only the close of its new line by stride g,

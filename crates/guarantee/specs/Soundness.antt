@@ -10,13 +10,13 @@ use Rattle.calculus.specs.Rules.{Interpolant}
 use Rattle.fields.specs.Answers.{accepted, over}
 use Rattle.fields.specs.Numbers.{Bytes}
 use Rattle.fields.specs.Fields.{Item, Framed, fileOf, withoutNotes, fields, Noted, Kept}
+use Rattle.fields.specs.declared.Answer.{Answer}
+use Rattle.fields.specs.declared.WriteResult.{WriteResult}
 use Rattle.bundle.specs.Layout.{StatesAll, bundleLimit}
 use Rattle.formula.specs.Formula.{formulaFile, readFormula}
 use Rattle.proof.specs.Layout.{Certifies}
 use Rattle.proof.specs.Editions.{limitA, limitB}
-use Rattle.fields.specs.declared.Answer.{Answer}
-use Rattle.fields.specs.declared.WriteResult.{WriteResult}
-use Rattle.checking.specs.Promises.{Checks}
+use Rattle.proof.specs.Promises.{Checks}
 use Rattle.guarantee.specs.LaidOut.{Listed, LaidOut}
 
 -- What a writer stated is given by any function of his list of fields. It gives a K and constraints.

@@ -11,7 +11,7 @@ use Rattle.bundle_write.specs.Promises.{Writes}
 use Rattle.formula.specs.declared.Tested.{Tested}
 use Rattle.formula.specs.Promises.{Tests}
 use Rattle.proof.specs.Tree.{Outside, AnswerStands}
-use Rattle.checking.specs.Promises.{Checks}
+use Rattle.proof.specs.Promises.{Checks}
 
 pub record InTree : Type 0 where
   -- check: amid the proof the row, step and branch to which the fields before the one at fault lead, elsewhere none

@@ -6,3 +6,4 @@ pub mod Tree
 pub mod Layout
 pub mod Editions
 pub mod Stages
+pub mod Promises

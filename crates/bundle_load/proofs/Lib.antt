@@ -1,0 +1,3 @@
+-- Laws of loading.
+pub mod Loading
+pub mod Preparing

@@ -1,0 +1,3 @@
+-- Lines out of bundles.
+pub mod Load
+pub mod Both

@@ -1,0 +1,2 @@
+-- What the output gets, by the definition.
+pub mod Delivering

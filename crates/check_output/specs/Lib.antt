@@ -1,0 +1,2 @@
+-- The end of a check.
+pub mod Output

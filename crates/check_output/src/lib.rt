@@ -1,0 +1,72 @@
+// The end of a check: what follows the root, and the formula's file in the lent output.
+use fields::FileKind;
+use fields::WriteResult;
+use fields::ending::Ending;
+use fields::ending::ending_at;
+use fields::header::put_header;
+use forms::FORMULA_BYTES;
+ghost use mathlib.Core.Path.{_≡_};
+ghost use Prim.Native.Nat.{_+_, _≤_};
+ghost use lib.ListN.{length, take};
+ghost use lib.Seq.{paste};
+ghost use Rattle.fields.specs.Answers.{answer};
+ghost use Rattle.check_output.specs.Output.{InScratch, Delivers, Finishes};
+
+pub fn refusal(number: u8, file: u8, place: usize) -> WriteResult
+    ensures { λ r. ⌜ r ≡ record { answer = answer number file place; count = 0 } ⌝ }
+{
+    let answer = fields::answers::refusal(number, file, place);
+    WriteResult { answer, count: 0 }
+}
+
+// The n first bytes of from, behind the at first of to.
+fn copy_bytes(from: &[u8], n: usize, to: &mut [u8], at: usize)
+    requires { ⌜ n ≤ length (now from) ⌝ }
+    requires { ⌜ at + n ≤ length (now to) ⌝ }
+    ensures { λ _. ⌜ now (to .exit) ≡ paste (now (to .entry)) at (take n (now (from .entry))) n ⌝ }
+{
+    let mut i = 0;
+    while i < n {
+        to[at + i] = from[i];
+        i += 1;
+    }
+}
+
+// The two header fields and the o first bytes of the scratch, if a formula's file may be so long, and the output has room for them. 1, 21.
+fn deliver(scratch: &[u8], o: usize, k: u8, out: &mut [u8]) -> WriteResult
+    requires { ⌜ InScratch o (now scratch) ⌝ }
+    ensures { λ r. ⌜ Delivers k (now (scratch .entry)) o (now (out .entry)) (now (out .exit)) r ⌝ }
+{
+    let needed = 8 + o;
+    if needed > FORMULA_BYTES {
+        return refusal(1, 4, needed);
+    }
+    if out.len() < needed {
+        return refusal(21, 4, needed);
+    }
+    put_header(out, 1, k);
+    copy_bytes(scratch, o, out, 8);
+    let answer = fields::answers::acceptance();
+    WriteResult {
+        answer,
+        count: needed,
+    }
+}
+
+// What follows the root, and then the output. 2, 3, 19, 1, 21.
+pub fn finish(
+    proof: &[u8],
+    at: usize,
+    scratch: &[u8],
+    o: usize,
+    k: u8,
+    out: &mut [u8],
+) -> WriteResult
+    requires { ⌜ InScratch o (now scratch) ⌝ }
+    ensures { λ r. ⌜ Finishes k (now (proof .entry)) at (now (scratch .entry)) o (now (out .entry)) (now (out .exit)) r ⌝ }
+{
+    match ending_at(proof, at, FileKind::Proof) {
+        Ending::Ended => deliver(scratch, o, k, out),
+        Ending::Fault { number, at: place } => refusal(number, 3, place),
+    }
+}

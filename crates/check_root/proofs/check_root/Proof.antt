@@ -1,0 +1,77 @@
+-- `check_root::check_root` meets its contract: each answer cites the law for its way. Assumes nothing.
+use mathlib.Core.Path.{refl}
+use native.Mathlib.Omega.{arith}
+use Rattle.forms.proofs.Editions.{lines-most}
+use Rattle.check_root.proofs.Rooting.{by-fault, by-closed-ended, by-closed}
+use borrow.Author.Needs.{needs}
+use Rattle.check_root.proofs.check_root.Statement.{statement}
+use Rattle.check_root.proofs.check_root.Tie as tie
+
+cast-t21 : tie.Need-cast-t21
+cast-t21 c = omega (arith, lines-most (c .before .before .before .before .args .e), c .before .before .before .before .pre .0 .ready .most)
+
+root-requires : tie.Need-root-requires
+root-requires c κs = search needs
+
+check-branch-requires : tie.Need-check-branch-requires
+check-branch-requires c κs = search needs
+
+enum-known-number : tie.Need-enum-known-number
+enum-known-number c = search needs
+
+proof-refusal-requires : tie.Need-proof-refusal-requires
+proof-refusal-requires c κs = search needs
+
+enum-known-end : tie.Need-enum-known-end
+enum-known-end c = search needs
+
+finish-requires : tie.Need-finish-requires
+finish-requires c κs = by-closed-ended (c .before .before .before .before .before .before .before .before .before .before .check-branch .ensures) (c .before .before .before .before .before .before .before .before .before .before .before .before .before .before .root .ensures) refl (c .before .before .before .before .before .before .before .before .before .before .before .before .before .before .before .before .before .before .before .pre .0) (c .before .before .before .before .before .before .before .before .before .before .before .before .before .before .before .before .before .before .before .pre .1) (c .before .before .before .end .given .1)
+
+same-length : tie.Need-same-length
+same-length c = search needs
+
+same-length-2 : tie.Need-same-length-2
+same-length-2 c = search needs
+
+same-length-3 : tie.Need-same-length-3
+same-length-3 c = search needs
+
+returns : tie.Need-returns
+returns c = by-fault (c .before .before .before .before .before .before .before .before .before .check-branch .ensures) (c .before .before .before .before .before .before .before .before .before .before .before .before .before .root .ensures) refl (c .before .before .number .given .1) (c .proof-refusal .ensures)
+
+same-length-4 : tie.Need-same-length-4
+same-length-4 c = search needs
+
+same-length-5 : tie.Need-same-length-5
+same-length-5 c = search needs
+
+same-length-6 : tie.Need-same-length-6
+same-length-6 c = search needs
+
+same-length-7 : tie.Need-same-length-7
+same-length-7 c = search needs
+
+returns-2 : tie.Need-returns-2
+returns-2 c = by-closed (c .before .before .before .before .before .before .before .before .before .before .before .before .before .check-branch .ensures) (c .before .before .before .before .before .before .before .before .before .before .before .before .before .before .before .before .before .root .ensures) refl (c .before .before .before .before .before .before .before .before .before .before .before .before .before .before .before .before .before .before .before .before .before .before .pre .0) (c .before .before .before .before .before .before .before .before .before .before .before .before .before .before .before .before .before .before .before .before .before .before .pre .1) (c .before .before .before .before .before .before .end .given .1) (c .before .before .finish .ensures)
+
+pub check-root-spec : {M : Type 1} → statement M
+check-root-spec =
+    tie.close
+    (tie.spec
+    cast-t21
+    root-requires
+    check-branch-requires
+    enum-known-number
+    proof-refusal-requires
+    enum-known-end
+    finish-requires
+    same-length
+    same-length-2
+    same-length-3
+    returns
+    same-length-4
+    same-length-5
+    same-length-6
+    same-length-7
+    returns-2)

@@ -1,0 +1,2 @@
+-- The root of a proof.
+pub mod Root

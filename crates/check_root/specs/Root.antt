@@ -1,0 +1,27 @@
+-- The root of a proof, over lines that are there, and the room that its formula needs. Assumes nothing.
+use mathlib.Core.Path.{_≡_}
+use mathlib.Core.List.{List}
+use Prim.Native.Nat.{ℕ, _+_, _*_, _≤_}
+use lib.ListN.{length}
+use Rattle.forms.specs.Edition.{edition, edition1}
+use Rattle.forms.specs.Forms.{Line}
+use Rattle.fields.specs.Answers.{root, Result, _>>=_, writtenOf, written}
+use Rattle.fields.specs.Fields.{Fields}
+use Rattle.fields.specs.Places.{fieldsAt}
+use Rattle.fields.specs.declared.WriteResult.{WriteResult}
+use Rattle.formula.specs.Formula.{encode}
+use Rattle.proof.specs.Check.{checkBranch}
+use Rattle.branches.specs.Spare.{unreadBytes}
+use Rattle.branches.specs.Branching.{perByte}
+use Rattle.check_output.specs.Output.{finishing}
+
+-- The root of a proof of edition e, what follows it, and the formula's file.
+abbrev pub rooted : (e K : ℕ) → List Line → Fields → Result (List ℕ)
+rooted e K ls fs = checkBranch (edition e) K (edition1 .branchings) root 0 ls fs >>= λ c. finishing K (c .after) (encode edition1 (c .formula))
+
+pub record Roots (e K : ℕ) (ls : List Line) (P : List ℕ) (at : ℕ) (out out′ : List ℕ) (r : WriteResult) : Type 0 where
+  pub is : writtenOf r out′ ≡ written (rooted e K ls (fieldsAt P at)) out
+
+-- A scratch as long as a formula may be does, and so does one with so many bytes for each byte of the proof that is left.
+pub record Enough (P : List ℕ) (at : ℕ) (scratch : List ℕ) : Type 0 where
+  pub enough : (l : ℕ) → l ≤ perByte * unreadBytes P at → l + 8 ≤ edition1 .formulaBytes → l ≤ length scratch

@@ -1,0 +1,2 @@
+-- A check with its arrays.
+pub mod Sizes

@@ -1,0 +1,517 @@
+// The lines and the root, in arrays of a size that suits the proof.
+use bundle_load::prepare;
+use bundle_scan::Body;
+use check_root::check_root;
+use fields::WriteResult;
+use forms::CONSTANTS;
+use forms::CONSTRAINTS;
+use forms::FORMULA_BYTES;
+use forms::LINES;
+use forms::LINES_1;
+use forms::lines_limit;
+ghost use mathlib.Core.Path.{_≡_};
+ghost use Prim.Native.Nat.{_+_, _*_, _≤_, min};
+ghost use Rattle.forms.specs.Edition.{edition, edition1};
+ghost use Rattle.proof.specs.Promises.{Checks};
+ghost use Rattle.lines.specs.Buffer.{size};
+ghost use Rattle.branches.specs.Spare.{fieldsLeft, unreadBytes, Spare};
+ghost use Rattle.check_root.specs.Root.{Enough};
+ghost use Rattle.check_sizes.specs.Sizes.{Begun, LinesWithin, NumbersWithin};
+
+// The lines, and then the root, with room for the lines that may come and for the formula.
+fn check_within(
+    a: &[u8],
+    b: &[u8],
+    first: Body,
+    second: Body,
+    proof: &[u8],
+    at: usize,
+    e: u8,
+    k: u8,
+    lines: &mut [i32],
+    kinds: &mut [u8],
+    scratch: &mut [u8],
+    out: &mut [u8],
+) -> WriteResult
+    requires { ⌜ Begun (now a) (now b) first second (now proof) e k at ⌝ }
+    requires { ⌜ Spare e k (first .count + second .count + fieldsLeft (now proof) at) (now kinds) (now lines) ⌝ }
+    requires { ⌜ Enough (now proof) at (now scratch) ⌝ }
+    ensures { λ r. ⌜ Checks (now (a .entry)) (now (b .entry)) (now (proof .entry)) (now (out .entry)) (now (out .exit)) r ⌝ }
+{
+    prepare(a, b, first, second, k, lines, kinds);
+    check_root(
+        proof,
+        at,
+        e,
+        k,
+        first.count + second.count,
+        lines,
+        kinds,
+        scratch,
+        out,
+    )
+}
+
+// The sizes of the arrays. An array is cleared before it is used, which takes longer than the check of a short proof, so a
+// short proof is given little: check_N is for proofs of N bytes at most. (A row has six bytes or so.)
+// The scratch has BYTE_BYTES for each byte: a close has a field of four bytes at least, and adds 156 bytes to the formula at
+// most: its own part over 16 constants has 75, the stride part before it, where it closes a branch of a rounding, 75 too, and
+// 6 are for the heads of an and and an or.
+// A field makes one line at most, and has three bytes: up to check_212 there is room for the lines of two constraints, of
+// N / 3 fields and for one that is being made, each of 16 constants (in check_24 of 7 and in check_41 of 7, so that the arrays
+// have 1.8 and 2.6 KB). Then there is room for all lines that a branch may have, and one more. With these the arrays of
+// check_800 have 49 KB, about what the first cache holds; what is larger takes longer by the byte (docs/SPEED.md).
+// Kinds are few bytes, so up to check_any there is room for all.
+const BYTE_BYTES: usize = 39;
+
+// The numbers of a line: t and tA, each with its constant term.
+const LINE_NUMBERS: usize = 2 * (CONSTANTS as usize + 1);
+
+const NUMBERS_24: usize = (8 + 3) * (2 * (7 + 1));
+
+const NUMBERS_41: usize = (13 + 3) * (2 * (7 + 1));
+
+const NUMBERS_66: usize = (22 + 3) * LINE_NUMBERS;
+
+const NUMBERS_212: usize = (70 + 3) * LINE_NUMBERS;
+
+const NUMBERS_ALL: usize = (LINES_1 as usize + 1) * LINE_NUMBERS;
+
+const KINDS_ALL: usize = LINES_1 as usize + 1;
+
+// Where a branch may come to more than 128 lines: the lines of two bundles and one for each field of 1,200 bytes, and all.
+const KINDS_WIDE_1200: usize = 2 * CONSTRAINTS + 400 + 1;
+
+const NUMBERS_WIDE_1200: usize = KINDS_WIDE_1200 * LINE_NUMBERS;
+
+const KINDS_WIDE: usize = LINES as usize + 1;
+
+const NUMBERS_WIDE: usize = KINDS_WIDE * LINE_NUMBERS;
+
+fn check_24(
+    a: &[u8],
+    b: &[u8],
+    first: Body,
+    second: Body,
+    proof: &[u8],
+    at: usize,
+    e: u8,
+    k: u8,
+    out: &mut [u8],
+) -> WriteResult
+    requires { ⌜ Begun (now a) (now b) first second (now proof) e k at ⌝ }
+    requires { ⌜ LinesWithin e (first .count + second .count + fieldsLeft (now proof) at) (edition1 .lines) ⌝ }
+    requires { ⌜ unreadBytes (now proof) at ≤ 24 ⌝ }
+    requires { ⌜ NumbersWithin e k (first .count + second .count + fieldsLeft (now proof) at) ((8 + 3) * size 7) ⌝ }
+    ensures { λ r. ⌜ Checks (now (a .entry)) (now (b .entry)) (now (proof .entry)) (now (out .entry)) (now (out .exit)) r ⌝ }
+{
+    let mut lines = [0i32; NUMBERS_24];
+    let mut scratch = [0u8; 24 * BYTE_BYTES];
+    let mut kinds = [0u8; KINDS_ALL];
+    check_within(
+        a,
+        b,
+        first,
+        second,
+        proof,
+        at,
+        e,
+        k,
+        &mut lines,
+        &mut kinds,
+        &mut scratch,
+        out,
+    )
+}
+
+fn check_41(
+    a: &[u8],
+    b: &[u8],
+    first: Body,
+    second: Body,
+    proof: &[u8],
+    at: usize,
+    e: u8,
+    k: u8,
+    out: &mut [u8],
+) -> WriteResult
+    requires { ⌜ Begun (now a) (now b) first second (now proof) e k at ⌝ }
+    requires { ⌜ LinesWithin e (first .count + second .count + fieldsLeft (now proof) at) (edition1 .lines) ⌝ }
+    requires { ⌜ unreadBytes (now proof) at ≤ 41 ⌝ }
+    requires { ⌜ NumbersWithin e k (first .count + second .count + fieldsLeft (now proof) at) ((13 + 3) * size 7) ⌝ }
+    ensures { λ r. ⌜ Checks (now (a .entry)) (now (b .entry)) (now (proof .entry)) (now (out .entry)) (now (out .exit)) r ⌝ }
+{
+    let mut lines = [0i32; NUMBERS_41];
+    let mut scratch = [0u8; 41 * BYTE_BYTES];
+    let mut kinds = [0u8; KINDS_ALL];
+    check_within(
+        a,
+        b,
+        first,
+        second,
+        proof,
+        at,
+        e,
+        k,
+        &mut lines,
+        &mut kinds,
+        &mut scratch,
+        out,
+    )
+}
+
+fn check_66(
+    a: &[u8],
+    b: &[u8],
+    first: Body,
+    second: Body,
+    proof: &[u8],
+    at: usize,
+    e: u8,
+    k: u8,
+    out: &mut [u8],
+) -> WriteResult
+    requires { ⌜ Begun (now a) (now b) first second (now proof) e k at ⌝ }
+    requires { ⌜ LinesWithin e (first .count + second .count + fieldsLeft (now proof) at) (edition1 .lines) ⌝ }
+    requires { ⌜ unreadBytes (now proof) at ≤ 66 ⌝ }
+    requires { ⌜ NumbersWithin e k (first .count + second .count + fieldsLeft (now proof) at) ((22 + 3) * size (edition1 .constants)) ⌝ }
+    ensures { λ r. ⌜ Checks (now (a .entry)) (now (b .entry)) (now (proof .entry)) (now (out .entry)) (now (out .exit)) r ⌝ }
+{
+    let mut lines = [0i32; NUMBERS_66];
+    let mut scratch = [0u8; 66 * BYTE_BYTES];
+    let mut kinds = [0u8; KINDS_ALL];
+    check_within(
+        a,
+        b,
+        first,
+        second,
+        proof,
+        at,
+        e,
+        k,
+        &mut lines,
+        &mut kinds,
+        &mut scratch,
+        out,
+    )
+}
+
+fn check_212(
+    a: &[u8],
+    b: &[u8],
+    first: Body,
+    second: Body,
+    proof: &[u8],
+    at: usize,
+    e: u8,
+    k: u8,
+    out: &mut [u8],
+) -> WriteResult
+    requires { ⌜ Begun (now a) (now b) first second (now proof) e k at ⌝ }
+    requires { ⌜ LinesWithin e (first .count + second .count + fieldsLeft (now proof) at) (edition1 .lines) ⌝ }
+    requires { ⌜ unreadBytes (now proof) at ≤ 212 ⌝ }
+    requires { ⌜ NumbersWithin e k (first .count + second .count + fieldsLeft (now proof) at) ((70 + 3) * size (edition1 .constants)) ⌝ }
+    ensures { λ r. ⌜ Checks (now (a .entry)) (now (b .entry)) (now (proof .entry)) (now (out .entry)) (now (out .exit)) r ⌝ }
+{
+    let mut lines = [0i32; NUMBERS_212];
+    let mut scratch = [0u8; 212 * BYTE_BYTES];
+    let mut kinds = [0u8; KINDS_ALL];
+    check_within(
+        a,
+        b,
+        first,
+        second,
+        proof,
+        at,
+        e,
+        k,
+        &mut lines,
+        &mut kinds,
+        &mut scratch,
+        out,
+    )
+}
+
+fn check_800(
+    a: &[u8],
+    b: &[u8],
+    first: Body,
+    second: Body,
+    proof: &[u8],
+    at: usize,
+    e: u8,
+    k: u8,
+    out: &mut [u8],
+) -> WriteResult
+    requires { ⌜ Begun (now a) (now b) first second (now proof) e k at ⌝ }
+    requires { ⌜ LinesWithin e (first .count + second .count + fieldsLeft (now proof) at) (edition1 .lines) ⌝ }
+    requires { ⌜ unreadBytes (now proof) at ≤ 800 ⌝ }
+    ensures { λ r. ⌜ Checks (now (a .entry)) (now (b .entry)) (now (proof .entry)) (now (out .entry)) (now (out .exit)) r ⌝ }
+{
+    let mut lines = [0i32; NUMBERS_ALL];
+    let mut scratch = [0u8; 800 * BYTE_BYTES];
+    let mut kinds = [0u8; KINDS_ALL];
+    check_within(
+        a,
+        b,
+        first,
+        second,
+        proof,
+        at,
+        e,
+        k,
+        &mut lines,
+        &mut kinds,
+        &mut scratch,
+        out,
+    )
+}
+
+fn check_1200(
+    a: &[u8],
+    b: &[u8],
+    first: Body,
+    second: Body,
+    proof: &[u8],
+    at: usize,
+    e: u8,
+    k: u8,
+    out: &mut [u8],
+) -> WriteResult
+    requires { ⌜ Begun (now a) (now b) first second (now proof) e k at ⌝ }
+    requires { ⌜ LinesWithin e (first .count + second .count + fieldsLeft (now proof) at) (edition1 .lines) ⌝ }
+    requires { ⌜ unreadBytes (now proof) at ≤ 1200 ⌝ }
+    ensures { λ r. ⌜ Checks (now (a .entry)) (now (b .entry)) (now (proof .entry)) (now (out .entry)) (now (out .exit)) r ⌝ }
+{
+    let mut lines = [0i32; NUMBERS_ALL];
+    let mut scratch = [0u8; 1200 * BYTE_BYTES];
+    let mut kinds = [0u8; KINDS_ALL];
+    check_within(
+        a,
+        b,
+        first,
+        second,
+        proof,
+        at,
+        e,
+        k,
+        &mut lines,
+        &mut kinds,
+        &mut scratch,
+        out,
+    )
+}
+
+// Any proof of at most 128 lines on a branch, and the longest formula.
+fn check_any(
+    a: &[u8],
+    b: &[u8],
+    first: Body,
+    second: Body,
+    proof: &[u8],
+    at: usize,
+    e: u8,
+    k: u8,
+    out: &mut [u8],
+) -> WriteResult
+    requires { ⌜ Begun (now a) (now b) first second (now proof) e k at ⌝ }
+    requires { ⌜ LinesWithin e (first .count + second .count + fieldsLeft (now proof) at) (edition1 .lines) ⌝ }
+    ensures { λ r. ⌜ Checks (now (a .entry)) (now (b .entry)) (now (proof .entry)) (now (out .entry)) (now (out .exit)) r ⌝ }
+{
+    let mut lines = [0i32; NUMBERS_ALL];
+    let mut scratch = [0u8; FORMULA_BYTES];
+    let mut kinds = [0u8; KINDS_ALL];
+    check_within(
+        a,
+        b,
+        first,
+        second,
+        proof,
+        at,
+        e,
+        k,
+        &mut lines,
+        &mut kinds,
+        &mut scratch,
+        out,
+    )
+}
+
+// A proof of more bytes than 212, or of more lines. A function of its own: the frame of a function has room for the largest of
+// its arrays, and each page of that is touched at every call. It stays one since it is called twice and has three choices
+// (docs/SPEED.md).
+fn check_long(
+    a: &[u8],
+    b: &[u8],
+    first: Body,
+    second: Body,
+    proof: &[u8],
+    at: usize,
+    e: u8,
+    k: u8,
+    out: &mut [u8],
+) -> WriteResult
+    requires { ⌜ Begun (now a) (now b) first second (now proof) e k at ⌝ }
+    requires { ⌜ LinesWithin e (first .count + second .count + fieldsLeft (now proof) at) (edition1 .lines) ⌝ }
+    ensures { λ r. ⌜ Checks (now (a .entry)) (now (b .entry)) (now (proof .entry)) (now (out .entry)) (now (out .exit)) r ⌝ }
+{
+    let bytes = proof.len();
+    if bytes <= 800 {
+        return check_800(a, b, first, second, proof, at, e, k, out);
+    }
+    if bytes <= 1200 {
+        return check_1200(a, b, first, second, proof, at, e, k, out);
+    }
+    check_any(a, b, first, second, proof, at, e, k, out)
+}
+
+fn check_wide_1200(
+    a: &[u8],
+    b: &[u8],
+    first: Body,
+    second: Body,
+    proof: &[u8],
+    at: usize,
+    e: u8,
+    k: u8,
+    out: &mut [u8],
+) -> WriteResult
+    requires { ⌜ Begun (now a) (now b) first second (now proof) e k at ⌝ }
+    requires { ⌜ unreadBytes (now proof) at ≤ 1200 ⌝ }
+    ensures { λ r. ⌜ Checks (now (a .entry)) (now (b .entry)) (now (proof .entry)) (now (out .entry)) (now (out .exit)) r ⌝ }
+{
+    let mut lines = [0i32; NUMBERS_WIDE_1200];
+    let mut scratch = [0u8; 1200 * BYTE_BYTES];
+    let mut kinds = [0u8; KINDS_WIDE_1200];
+    check_within(
+        a,
+        b,
+        first,
+        second,
+        proof,
+        at,
+        e,
+        k,
+        &mut lines,
+        &mut kinds,
+        &mut scratch,
+        out,
+    )
+}
+
+// Any proof of edition 2, and the longest formula.
+fn check_wide_any(
+    a: &[u8],
+    b: &[u8],
+    first: Body,
+    second: Body,
+    proof: &[u8],
+    at: usize,
+    e: u8,
+    k: u8,
+    out: &mut [u8],
+) -> WriteResult
+    requires { ⌜ Begun (now a) (now b) first second (now proof) e k at ⌝ }
+    ensures { λ r. ⌜ Checks (now (a .entry)) (now (b .entry)) (now (proof .entry)) (now (out .entry)) (now (out .exit)) r ⌝ }
+{
+    let mut lines = [0i32; NUMBERS_WIDE];
+    let mut scratch = [0u8; FORMULA_BYTES];
+    let mut kinds = [0u8; KINDS_WIDE];
+    check_within(
+        a,
+        b,
+        first,
+        second,
+        proof,
+        at,
+        e,
+        k,
+        &mut lines,
+        &mut kinds,
+        &mut scratch,
+        out,
+    )
+}
+
+// A proof whose branches may come to more than 128 lines, so one of edition 2. A function of its own, as `check_long` is.
+fn check_wide(
+    a: &[u8],
+    b: &[u8],
+    first: Body,
+    second: Body,
+    proof: &[u8],
+    at: usize,
+    e: u8,
+    k: u8,
+    out: &mut [u8],
+) -> WriteResult
+    requires { ⌜ Begun (now a) (now b) first second (now proof) e k at ⌝ }
+    ensures { λ r. ⌜ Checks (now (a .entry)) (now (b .entry)) (now (proof .entry)) (now (out .entry)) (now (out .exit)) r ⌝ }
+{
+    if proof.len() <= 1200 {
+        return check_wide_1200(a, b, first, second, proof, at, e, k, out);
+    }
+    check_wide_any(a, b, first, second, proof, at, e, k, out)
+}
+
+// How many lines a branch may come to have, where count may come.
+fn most_lines(e: u8, count: usize) -> usize
+    ensures { λ r. ⌜ r ≡ min count (edition e .lines) ⌝ }
+{
+    let most = lines_limit(e) as usize;
+    if count < most {
+        return count;
+    }
+    most
+}
+
+// The lines, and then the root, with arrays for the fields that the proof may have by its bytes: each has three at least.
+// To count them would take longer than to clear what is then not used.
+pub fn check_lines(
+    a: &[u8],
+    b: &[u8],
+    first: Body,
+    second: Body,
+    proof: &[u8],
+    at: usize,
+    e: u8,
+    k: u8,
+    out: &mut [u8],
+) -> WriteResult
+    requires { ⌜ Begun (now a) (now b) first second (now proof) e k at ⌝ }
+    ensures { λ r. ⌜ Checks (now (a .entry)) (now (b .entry)) (now (proof .entry)) (now (out .entry)) (now (out .exit)) r ⌝ }
+{
+    let bytes = proof.len();
+    let fields = bytes / 3;
+    let size = 2 * (k as usize + 1);
+    let count = most_lines(e, first.count + second.count + fields);
+    let numbers = (count + 1) * size;
+    if bytes <= 212 {
+        if count > LINES_1 as usize {
+            return check_wide(a, b, first, second, proof, at, e, k, out);
+        }
+        if bytes <= 24 {
+            if numbers <= NUMBERS_24 {
+                return check_24(a, b, first, second, proof, at, e, k, out);
+            }
+        }
+        if bytes <= 41 {
+            if numbers <= NUMBERS_41 {
+                return check_41(a, b, first, second, proof, at, e, k, out);
+            }
+        }
+        if bytes <= 66 {
+            if numbers <= NUMBERS_66 {
+                return check_66(a, b, first, second, proof, at, e, k, out);
+            }
+        }
+        if numbers <= NUMBERS_212 {
+            return check_212(a, b, first, second, proof, at, e, k, out);
+        }
+        return check_long(a, b, first, second, proof, at, e, k, out);
+    }
+    if count > LINES_1 as usize {
+        return check_wide(a, b, first, second, proof, at, e, k, out);
+    }
+    check_long(a, b, first, second, proof, at, e, k, out)
+}
