@@ -18,7 +18,7 @@ use Rattle.fields.specs.Fields.{fieldBytes}
 use Rattle.fields.specs.Places.{fieldsAt}
 use Rattle.fields.proofs.Framing.{length-fieldBytes as field-size}
 use Rattle.formula.specs.Formula.{encode}
-use Rattle.formula.specs.Writing.{scratchLimit, Heads}
+use Rattle.formula_write.specs.Writing.{scratchLimit, Heads}
 use Rattle.proof.specs.Check.{Closing}
 use Rattle.lines.specs.Buffer.{lineIn, linesIn, LineStart, startedLine}
 use Rattle.lines.proofs.Lines.{line-same, lines-same}

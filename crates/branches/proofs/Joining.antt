@@ -14,7 +14,7 @@ use Rattle.fields.specs.Answers.{Result, refused, accepted, _>>=_}
 use Rattle.fields.specs.Fields.{Fields, fieldBytes}
 use Rattle.fields.specs.Places.{fieldsAt}
 use Rattle.formula.specs.Formula.{encode}
-use Rattle.formula.specs.Writing.{Stores}
+use Rattle.formula_write.specs.Writing.{Stores}
 use Rattle.proof.specs.Check.{Closing}
 use Rattle.tally.specs.declared.Tally.{Tally}
 use Rattle.openings.specs.Opening.{inTurn}

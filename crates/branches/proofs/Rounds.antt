@@ -20,8 +20,8 @@ use Rattle.fields.specs.Fields.{Fields, fieldBytes}
 use Rattle.fields.specs.Numbers.{unsignedBytes}
 use Rattle.fields.specs.Places.{fieldsAt}
 use Rattle.formula.specs.Formula.{encode}
-use Rattle.formula.specs.Writing.{Numbered, Divisor, Stores}
-use Rattle.formula.proofs.Written.{stride-size}
+use Rattle.formula_write.specs.Writing.{Numbered, Divisor, Stores}
+use Rattle.formula_write.proofs.Written.{stride-size}
 use Rattle.proof.specs.Check.{Closing, Checker, checkRounded}
 use Rattle.lines.specs.Buffer.{size, lineIn, linesIn, LineStart, startedLine}
 use Rattle.lines.proofs.Branch.{inequality-byte}

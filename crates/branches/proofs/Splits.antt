@@ -17,7 +17,7 @@ use Rattle.fields.specs.Answers.{position}
 use Rattle.fields.specs.Fields.{Fields, fieldBytes}
 use Rattle.fields.specs.Places.{fieldsAt}
 use Rattle.formula.specs.Formula.{encode}
-use Rattle.formula.specs.Writing.{Heads}
+use Rattle.formula_write.specs.Writing.{Heads}
 use Rattle.proof.specs.Check.{Checker}
 use Rattle.lines.specs.Buffer.{lineIn, linesIn, LineNegated, negatedLine}
 use Rattle.lines.proofs.Parts.{agree-getD}

@@ -15,7 +15,7 @@ use Rattle.fields.specs.declared.Position.{Position}
 use Rattle.fields.specs.Answers.{refusalAt, Result, accepted, _>>=_}
 use Rattle.fields.specs.Fields.{Fields}
 use Rattle.fields.specs.Places.{fieldsAt}
-use Rattle.formula.specs.Writing.{scratchLimit}
+use Rattle.formula_write.specs.Writing.{scratchLimit}
 use Rattle.proof.specs.Rows.{byNumber, byStride}
 use Rattle.proof.specs.Check.{checkRow, checkEntries, checkBranch}
 use Rattle.lines.specs.Buffer.{linesIn}

@@ -14,7 +14,7 @@ use Rattle.fields.specs.declared.Position.{Position}
 use Rattle.fields.specs.Answers.{refusalAt, Result, refused, accepted}
 use Rattle.fields.specs.Places.{fieldsAt}
 use Rattle.formula.specs.Formula.{encode}
-use Rattle.formula.specs.Writing.{scratchLimit}
+use Rattle.formula_write.specs.Writing.{scratchLimit}
 use Rattle.proof.specs.Check.{Closing, Checker, checkBranch}
 use Rattle.lines.specs.Buffer.{lineIn, linesIn}
 use Rattle.lines.specs.Ready.{Ready, LinesKept}

@@ -16,7 +16,7 @@ use fields::Position;
 use fields::next_field;
 use forms::LineNumber;
 use forms::RowNumber;
-use formula::writing::put_pair;
+use formula_write::put_pair;
 use lines::kinds::EQUALITY;
 use lines::kinds::INEQUALITY;
 use lines::kinds::kind_of;

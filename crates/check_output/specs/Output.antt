@@ -11,7 +11,7 @@ use Rattle.fields.specs.Fields.{Fields}
 use Rattle.fields.specs.Header.{finished, headerBytes}
 use Rattle.fields.specs.Places.{fieldsAt}
 use Rattle.fields.specs.declared.WriteResult.{WriteResult}
-use Rattle.formula.specs.Writing.{scratchLimit}
+use Rattle.formula_write.specs.Writing.{scratchLimit}
 
 -- The bytes of a formula's file, which may not be too long: 1.
 abbrev pub fileWithin : List ℕ → Result (List ℕ)

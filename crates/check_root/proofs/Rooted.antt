@@ -12,7 +12,7 @@ use Rattle.fields.specs.Answers.{root, answer, Result, refused, accepted, _>>=_
 use Rattle.fields.specs.Places.{fieldsAt}
 use Rattle.fields.specs.declared.WriteResult.{WriteResult}
 use Rattle.formula.specs.Formula.{encode}
-use Rattle.formula.specs.Writing.{scratchLimit}
+use Rattle.formula_write.specs.Writing.{scratchLimit}
 use Rattle.proof.specs.Check.{Closing, checkBranch}
 use Rattle.branches.specs.Spare.{unreadBytes}
 use Rattle.check_output.specs.Output.{finishing, Holds, Finishes, InScratch}

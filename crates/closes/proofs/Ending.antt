@@ -16,8 +16,8 @@ use Rattle.forms.specs.Flat.{kindOf, formIn}
 use Rattle.fields.specs.declared.Answer.{Answer}
 use Rattle.fields.specs.Answers.{answer, fileProof}
 use Rattle.fields.proofs.Results.{never}
-use Rattle.formula.specs.Writing.{Numbered, Divisor, Puts}
-use Rattle.formula.proofs.Written.{held, literal-size, stride-size}
+use Rattle.formula_write.specs.Writing.{Numbered, Divisor, Puts}
+use Rattle.formula_write.proofs.Written.{held, literal-size, stride-size}
 use Rattle.proof.specs.Rows.{is, byNumber, byStride}
 use Rattle.lines.specs.Buffer.{size, lineIn, linesIn}
 use Rattle.lines.proofs.Lines.{before}

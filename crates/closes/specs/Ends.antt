@@ -6,7 +6,7 @@ use lib.ListN.{length}
 use Rattle.forms.specs.Forms.{Formula}
 use Rattle.fields.specs.declared.Answer.{Answer}
 use Rattle.fields.specs.Answers.{Result, refused, accepted}
-use Rattle.formula.specs.Writing.{Puts}
+use Rattle.formula_write.specs.Writing.{Puts}
 use Rattle.closes.specs.declared.ends.Ended as ended
 use Rattle.closes.specs.declared.ends.Ended.the-variants as ended-of
 

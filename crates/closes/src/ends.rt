@@ -1,7 +1,7 @@
 // The rows that close a branch, with the formula's bytes.
 ghost use Prim.Native.Nat.{_≤_};
 ghost use lib.IntN.{natAbs};
-ghost use Rattle.formula.specs.Writing.{scratchLimit};
+ghost use Rattle.formula_write.specs.Writing.{scratchLimit};
 ghost use Rattle.proof.specs.Rows.{byNumber, byStride};
 ghost use Rattle.lines.specs.Buffer.{linesIn};
 ghost use Rattle.lines.specs.Ready.{Ready};
@@ -11,8 +11,8 @@ use crate::closing::Test;
 use crate::closing::test_number;
 use crate::closing::test_stride;
 use forms::LineNumber;
-use formula::writing::put_literal;
-use formula::writing::put_stride;
+use formula_write::put_literal;
+use formula_write::put_stride;
 use lines::kinds::kind_of;
 use tally::Tally;
 

@@ -9,7 +9,7 @@ ghost use Rattle.bundle.specs.Show.{showPart};
 ghost use Rattle.bundle_show.specs.Promises.{AnswersShow, partBytes};
 ghost use Rattle.bundle_read.specs.Promises.{Reads};
 ghost use Rattle.bundle_write.specs.Promises.{Writes};
-ghost use Rattle.formula.specs.Promises.{Tests};
+ghost use Rattle.formula_test.specs.Promises.{Tests};
 ghost use Rattle.proof.specs.Promises.{Checks};
 ghost use Rattle.dulgaverk.specs.Copied.{Copied};
 use bundle_read::ReadResult;
@@ -17,7 +17,7 @@ use checking::check;
 use fields::Answer;
 use fields::WriteResult;
 use forms::LineNumber;
-use formula::Tested;
+use formula_test::Tested;
 
 #[no_mangle]
 pub extern "C" fn dulgaverk_read(file: &[u8], kinds: &mut [u8], numbers: &mut [i32]) -> ReadResult
@@ -84,5 +84,5 @@ pub extern "C" fn dulgaverk_show<'a>(a: &'a [u8], b: &'a [u8], line: u16, out: &
 pub extern "C" fn dulgaverk_test(formula: &[u8], values: &[i32]) -> Tested
     ensures { λ r. ⌜ Tests (now (formula .entry)) (now (values .entry)) r ⌝ }
 {
-    formula::test(formula, values)
+    formula_test::test(formula, values)
 }

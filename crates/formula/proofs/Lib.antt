@@ -1,12 +1,5 @@
--- Laws that belong to no one function: a formula's file reads back, notes change nothing of it, and what the code reads, judges and writes.
+-- Laws that belong to no one function: what is written is read again, a tested formula is true, and notes change nothing.
 mod Fronts
 pub mod RoundTrip
 pub mod Notes
 pub mod Judge
-pub mod Registers
-pub mod Nodes
-pub mod Value
-pub mod Parts
-pub mod Ways
-pub mod Whole
-pub mod Written

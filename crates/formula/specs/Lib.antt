@@ -1,10 +1,3 @@
--- Formulas on bytes: writing, reading, testing.
+-- Formulas: their files, and testing them.
 pub mod Formula
 pub mod Test
-pub mod Promises
-pub mod Registers
-pub mod Nodes
-pub mod FormAt
-pub mod Judging
-pub mod Outcomes
-pub mod Writing

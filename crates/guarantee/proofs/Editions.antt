@@ -32,9 +32,9 @@ use Rattle.bundle_read.specs.declared.ReadResult.{ReadResult}
 use Rattle.bundle_read.specs.Promises.{Reads}
 use Rattle.bundle_write.specs.Promises.{Writes}
 use Rattle.formula.specs.Formula.{readFormula}
-use Rattle.formula.specs.declared.Tested.{Tested}
 use Rattle.formula.specs.Test.{tested, judged, testFormula}
-use Rattle.formula.specs.Promises.{Tests}
+use Rattle.formula_test.specs.declared.Tested.{Tested}
+use Rattle.formula_test.specs.Promises.{Tests}
 use Rattle.proof.specs.Check.{checkProof, interpolant, checkBy, check}
 use Rattle.proof.specs.Editions.{InFirst, Accepts, limitBehind, lengthsFit, limitA, limitB}
 use Rattle.proof.proofs.Agree.{agrees-refl}

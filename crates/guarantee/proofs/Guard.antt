@@ -14,10 +14,10 @@ use Rattle.fields.specs.Answers.{acceptance, accepted}
 use Rattle.fields.specs.Fields.{fields}
 use Rattle.fields.proofs.Results.{needs, passes, each-accepted}
 use Rattle.formula.specs.Formula.{readFormula}
-use Rattle.formula.specs.declared.Tested.{Tested}
 use Rattle.formula.specs.Test.{judge, registers, tested, judged, testFormula}
-use Rattle.formula.specs.Promises.{asTested}
 use Rattle.formula.proofs.Judge.{judge-true}
+use Rattle.formula_test.specs.declared.Tested.{Tested}
+use Rattle.formula_test.specs.Promises.{asTested}
 use Rattle.proof.proofs.Agree.{one-formula}
 use Rattle.guarantee.specs.Guard.{GuardTells}
 use Rattle.guarantee.proofs.Soundness.{soundness}

@@ -15,8 +15,8 @@ use Rattle.calculus.specs.Rules.{StrideOf, Closed, derive, strengthen, round, s
 use Rattle.calculus.proofs.Reducing.{reducing-alike, reducing-reduced, reducing-again, derived-reduced, derived-stands}
 use Rattle.formula.specs.Formula.{formulaFile, Encodable}
 use Rattle.formula.specs.Test.{tested, testFormula}
-use Rattle.formula.specs.Promises.{asTested}
 use Rattle.formula.proofs.RoundTrip.{read-other}
+use Rattle.formula_test.specs.Promises.{asTested}
 use Rattle.proof.proofs.Alike.{tested-alike, file-length}
 use Rattle.guarantee.specs.Reduced.{asItStood, roundedAsItStood, InReducedForm}
 use Rattle.guarantee.proofs.Acceptance.{is-checkable, leaves}

@@ -3,7 +3,7 @@ use mathlib.Core.Path.{sym, ap, subst}
 use Rattle.forms.specs.Edition.{newestEdition}
 use Rattle.fields.specs.Answers.{Written}
 use Rattle.bundle.specs.Read.{BundleRead}
-use Rattle.formula.specs.declared.Tested.{Tested}
+use Rattle.formula_test.specs.declared.Tested.{Tested}
 use Rattle.proof.specs.Tree.{Outside, AnswerStands}
 use Rattle.proof.proofs.Outside.{check-located, read-outside, write-outside, show-outside, test-outside}
 use Rattle.guarantee.specs.Tree.{InTree}

@@ -21,8 +21,8 @@ use Rattle.bundle_show.specs.Promises.{AnswersShow}
 use Rattle.bundle_read.specs.declared.ReadResult.{ReadResult}
 use Rattle.bundle_read.specs.Promises.{Reads}
 use Rattle.bundle_write.specs.Promises.{Writes}
-use Rattle.formula.specs.declared.Tested.{Tested}
-use Rattle.formula.specs.Promises.{Tests}
+use Rattle.formula_test.specs.declared.Tested.{Tested}
+use Rattle.formula_test.specs.Promises.{Tests}
 use Rattle.proof.specs.Check.{checkBy}
 use Rattle.proof.specs.Editions.{InFirst, Accepts, Offices, limitA, limitB}
 use Rattle.proof.specs.Promises.{Checks}

@@ -12,9 +12,9 @@ use Rattle.fields.specs.Answers.{acceptance}
 use Rattle.fields.specs.Numbers.{Bytes}
 use Rattle.fields.specs.Fields.{Item, Framed, fileOf}
 use Rattle.fields.specs.declared.WriteResult.{WriteResult}
-use Rattle.formula.specs.declared.Tested.{Tested}
 use Rattle.formula.specs.Test.{registers}
-use Rattle.formula.specs.Promises.{Tests}
+use Rattle.formula_test.specs.declared.Tested.{Tested}
+use Rattle.formula_test.specs.Promises.{Tests}
 use Rattle.proof.specs.Layout.{Certifies}
 use Rattle.proof.specs.Promises.{Checks}
 use Rattle.guarantee.specs.Soundness.{Meaning, Faithful}

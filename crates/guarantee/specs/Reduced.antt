@@ -10,9 +10,9 @@ use Rattle.forms.specs.Forms.{Form, Line, Assignment, Formula, literal, _divide
 use Rattle.forms.specs.Reduced.{reducing, Strides, Reduced}
 use Rattle.calculus.specs.Rules.{Closed, derive, strengthen, round, splitEq, splitNeq, number, stride, Rounded, last, more}
 use Rattle.fields.specs.declared.WriteResult.{WriteResult}
-use Rattle.formula.specs.declared.Tested.{Tested}
 use Rattle.formula.specs.Formula.{formulaFile, Encodable}
-use Rattle.formula.specs.Promises.{Tests}
+use Rattle.formula_test.specs.declared.Tested.{Tested}
+use Rattle.formula_test.specs.Promises.{Tests}
 use Rattle.proof.specs.Layout.{Yields}
 use Rattle.proof.specs.Promises.{Checks}
 use Rattle.guarantee.specs.Acceptance.{Checkable, WrittenAs}

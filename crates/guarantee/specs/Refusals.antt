@@ -16,8 +16,8 @@ use Rattle.bundle_show.specs.Promises.{Shows, AnswersShow, partBytes}
 use Rattle.bundle_read.specs.declared.ReadResult.{ReadResult}
 use Rattle.bundle_read.specs.Promises.{Reads}
 use Rattle.bundle_write.specs.Promises.{Writes}
-use Rattle.formula.specs.declared.Tested.{Tested}
-use Rattle.formula.specs.Promises.{Tests}
+use Rattle.formula_test.specs.declared.Tested.{Tested}
+use Rattle.formula_test.specs.Promises.{Tests}
 use Rattle.proof.specs.Promises.{Checks}
 use Rattle.dulgaverk.specs.Copied.{Copied}
 

@@ -7,11 +7,11 @@ use native.Mathlib.Omega.{arith}
 use lib.ListN.{length, take}
 use Rattle.fields.specs.declared.Answer.{Answer}
 use Rattle.fields.specs.Answers.{answer, fileLent}
+use Rattle.formula.specs.Test.{Tested as Outcome}
+use Rattle.formula_test.specs.Promises.{asTested}
+use Rattle.formula_test.specs.declared.Tested.{Tested}
 use Rattle.files.specs.Text.{Put, PutRefused, RefusedLine}
 use Rattle.files.proofs.Texts.{uncut}
-use Rattle.formula.specs.Test.{Tested as Outcome}
-use Rattle.formula.specs.Promises.{asTested}
-use Rattle.formula.specs.declared.Tested.{Tested}
 use Rattle.guard.specs.Said.{testFiles, truthLine, Printed}
 use Rattle.guard.proofs.Values.{files-odd}
 

@@ -19,9 +19,9 @@ use Rattle.fields.specs.Numbers.{signed, signeds}
 use Rattle.fields.specs.Ranges.{Held}
 use Rattle.fields.proofs.Results.{fail}
 use Rattle.fields.proofs.Signed.{length-signeds}
-use Rattle.formula.specs.declared.Tested.{Tested as Answered}
-use Rattle.formula.specs.Promises.{asTested}
 use Rattle.formula.specs.Test.{Tested, tested, judged, testFormula}
+use Rattle.formula_test.specs.declared.Tested.{Tested as Answered}
+use Rattle.formula_test.specs.Promises.{asTested}
 use Rattle.guard.specs.Said.{valuesOf, testFiles}
 
 -- 7, file 4, place 0

@@ -52,7 +52,7 @@ fn answer(f: &[u8], v: &[u8], text: &mut [u8; LINE]) -> usize
     let mut values = [0i32; MANY];
     let n = count(v);
     load(v, n, &mut values);
-    let r = formula::test(f, &values[..n]);
+    let r = formula_test::test(f, &values[..n]);
     let a = r.answer;
     if a.number != 0 {
         return files::put_refused(text, a.number, a.file, a.place);

@@ -11,7 +11,7 @@ use Rattle.fields.specs.Fields.{fieldBytes}
 use Rattle.fields.proofs.Framing.{length-fieldBytes as field-size}
 use Rattle.fields.proofs.Stores.{sets-append}
 use Rattle.formula.specs.Formula.{encode}
-use Rattle.formula.specs.Writing.{Puts, Heads, Stores}
+use Rattle.formula_write.specs.Writing.{Puts, Heads, Stores}
 
 -- ---- bytes behind bytes
 -- What is written behind a run that is written.

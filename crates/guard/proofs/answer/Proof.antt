@@ -6,11 +6,11 @@ use lib.ListN.{replicate}
 use lib.IntN.{pos}
 use native.Mathlib.Omega.{arith}
 use lib.Seq.{length-take-le}
-use borrow.Author.Needs.{needs}
-use Rattle.formula.specs.Promises.{asTested}
+use Rattle.formula_test.specs.Promises.{asTested}
 use Rattle.guard.specs.Said.{testFiles}
 use Rattle.guard.proofs.Values.{files-loaded}
 use Rattle.guard.proofs.Printing.{prints-odd, prints-refusal, prints-truth}
+use borrow.Author.Needs.{needs}
 use Rattle.guard.proofs.answer.Statement.{statement}
 use Rattle.guard.proofs.answer.Tie as tie
 

@@ -22,7 +22,7 @@ use Rattle.branches.proofs.Rounds.{front-asked, front-short, Rounding, 
 use Prim.Native.Nat.{ℕ, _+_, _*_, _-_, _<_}
 use borrow.Fn.Kinds.{In}
 use borrow.Fn.PlainCycle.{Measures, is, falls, and}
-use Rattle.formula.proofs.writing.put_pair.Reads as put-pair-reads
+use Rattle.formula_write.proofs.put_pair.Reads as put-pair-reads
 use Rattle.lines.proofs.kinds.kind_of.Reads as kind-of-reads
 use Rattle.tally.proofs.returned.Reads as returned-reads
 use Rattle.closes.proofs.ends.close_number.Reads as close-number-reads

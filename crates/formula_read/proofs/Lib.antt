@@ -1,0 +1,5 @@
+-- Each way through a formula that is read.
+pub mod Nodes
+pub mod Parts
+pub mod Value
+pub mod Ways

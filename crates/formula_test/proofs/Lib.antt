@@ -1,0 +1,3 @@
+-- Each way through a test.
+pub mod Registers
+pub mod Whole

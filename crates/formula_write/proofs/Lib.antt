@@ -1,0 +1,2 @@
+-- What is written of a formula, by the definition.
+pub mod Written

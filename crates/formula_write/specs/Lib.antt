@@ -1,0 +1,2 @@
+-- Writing the parts of a formula.
+pub mod Writing

@@ -1,0 +1,47 @@
+-- What the functions that write a formula's bytes ask and leave. Document 01, "Fields". Assumes nothing.
+use mathlib.Core.Path.{_≡_}
+use mathlib.Core.List.{List, []}
+use Prim.Native.Nat.{ℕ, _+_, _*_, _<_, _≤_}
+use lib.IntN.{ℤ, pos}
+use lib.ListN.{length, getD}
+use lib.Seq.{sets}
+use lib.Signed.{_≤ℤ_}
+use Rattle.integers.specs.Magnitude.{Within}
+use Rattle.forms.specs.Edition.{edition1}
+use Rattle.forms.specs.Forms.{Formula}
+use Rattle.fields.specs.Fields.{fieldBytes}
+use Rattle.fields.specs.Ranges.{Held}
+use Rattle.formula.specs.Formula.{encode}
+
+-- No place in the scratch is above this, so no sum of places overflows: a byte of a proof adds at most 39 bytes to a formula.
+abbrev pub scratchLimit : ℕ
+scratchLimit = 80 * edition1 .proofBytes
+
+-- The K + 1 numbers of the form at a place, all within the range.
+pub record Numbered (K : ℕ) (buf : List ℤ) (at : ℕ) : Type 0 where
+  pub constants : K ≤ edition1 .constants
+  pub room : at + K < length buf
+  pub small : (x : ℕ) → x ≤ K → Within (edition1 .range) (getD buf (at + x) (pos 0))
+
+-- A stride that can be written: 2 at least, and of four signed bytes.
+pub record Divisor (g : ℤ) : Type 0 where
+  pub low : pos 2 ≤ℤ g
+  pub held : Held (edition1 .termWidth) g
+
+-- The bytes of I stand from o on, if there is room for them; o′ is behind them.
+pub record Puts (scratch : List ℕ) (o : ℕ) (I : Formula) (scratch′ : List ℕ) (o′ : ℕ) : Type 0 where
+  pub long : length scratch′ ≡ length scratch
+  pub o-is : o′ ≡ o + length (encode edition1 I)
+  pub stored : o + length (encode edition1 I) ≤ length scratch → scratch′ ≡ sets scratch o (encode edition1 I)
+
+-- The same for the field without contents that an and or an or starts with.
+pub record Heads (scratch : List ℕ) (o tag : ℕ) (scratch′ : List ℕ) (o′ : ℕ) : Type 0 where
+  pub long : length scratch′ ≡ length scratch
+  pub o-is : o′ ≡ o + 3
+  pub stored : o + 3 ≤ length scratch → scratch′ ≡ sets scratch o (fieldBytes tag [])
+
+-- The same for any bytes.
+pub record Stores (scratch : List ℕ) (o : ℕ) (bytes scratch′ : List ℕ) (o′ : ℕ) : Type 0 where
+  pub long : length scratch′ ≡ length scratch
+  pub o-is : o′ ≡ o + length bytes
+  pub stored : o + length bytes ≤ length scratch → scratch′ ≡ sets scratch o bytes

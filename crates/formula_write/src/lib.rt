@@ -1,0 +1,110 @@
+// Writing a formula's bytes into a scratch that is lent. Where they do not fit nothing is written.
+ghost use mathlib.Core.Path.{_≡_};
+ghost use Prim.Native.Nat.{_+_, _*_, _≤_};
+ghost use lib.IntN.{natAbs};
+ghost use lib.ListN.{length};
+ghost use lib.Seq.{sets};
+ghost use Rattle.forms.specs.Edition.{edition1};
+ghost use Rattle.forms.specs.Forms.{literal, _divides_};
+ghost use Rattle.forms.specs.Reduced.{reduced};
+ghost use Rattle.forms.specs.Flat.{kindOf, formIn};
+ghost use Rattle.fields.specs.Numbers.{formBytes};
+ghost use Rattle.formula_write.specs.Writing.{scratchLimit, Numbered, Divisor, Heads, Puts};
+use fields::numbers::put_head;
+use fields::words::put_signed;
+use integers::number;
+use integers::remainder;
+
+// The numbers of the form at a place, of four bytes each.
+fn put_form(numbers: &[i32], at: usize, k: usize, scratch: &mut [u8], o: usize)
+    requires { ⌜ Numbered k (now numbers) at ⌝ }
+    requires { ⌜ o + edition1 .termWidth * (k + 1) ≤ length (now scratch) ⌝ }
+    ensures { λ _. ⌜ now (scratch .exit) ≡ sets (now (scratch .entry)) o (formBytes (edition1 .termWidth) (formIn k (now (numbers .entry)) at)) ⌝ }
+{
+    let mut x = 0;
+    while x <= k {
+        let n = number(numbers, at + x);
+        put_signed(scratch, o + 4 * x, 4, n);
+        x += 1;
+    }
+}
+
+// The same with each number as its remainder from 0 to g-1.
+fn put_reduced(numbers: &[i32], at: usize, k: usize, g: i64, scratch: &mut [u8], o: usize)
+    requires { ⌜ Numbered k (now numbers) at × Divisor g ⌝ }
+    requires { ⌜ o + edition1 .termWidth * (k + 1) ≤ length (now scratch) ⌝ }
+    ensures { λ _. ⌜ now (scratch .exit) ≡ sets (now (scratch .entry)) o (formBytes (edition1 .termWidth) (reduced (natAbs g) (formIn k (now (numbers .entry)) at))) ⌝ }
+{
+    let mut x = 0;
+    while x <= k {
+        let n = number(numbers, at + x);
+        let r = remainder(n, g);
+        put_signed(scratch, o + 4 * x, 4, r);
+        x += 1;
+    }
+}
+
+// The three bytes of an and or an or; its two parts follow.
+pub fn put_pair(scratch: &mut [u8], o: usize, tag: u8) -> usize
+    requires { ⌜ o ≤ scratchLimit ⌝ }
+    ensures { λ r. ⌜ Heads (now (scratch .entry)) o tag (now (scratch .exit)) r ⌝ }
+{
+    let end = o + 3;
+    if scratch.len() < end {
+        return end;
+    }
+    put_head(scratch, o, tag, 0);
+    end
+}
+
+// t ≤ 0 or t = 0, by the kind's byte.
+pub fn put_literal(
+    numbers: &[i32],
+    at: usize,
+    k: usize,
+    kind: u8,
+    scratch: &mut [u8],
+    o: usize,
+) -> usize
+    requires { ⌜ Numbered k (now numbers) at ⌝ }
+    requires { ⌜ o ≤ scratchLimit ⌝ }
+    ensures { λ r. ⌜ Puts (now (scratch .entry)) o (literal (kindOf kind) (formIn k (now (numbers .entry)) at)) (now (scratch .exit)) r ⌝ }
+{
+    let len = 4 * (k + 1);
+    let end = o + 3 + len;
+    if scratch.len() < end {
+        return end;
+    }
+    if kind == 0 {
+        put_head(scratch, o, 0x33, len);
+        put_form(numbers, at, k, scratch, o + 3);
+        return end;
+    }
+    put_head(scratch, o, 0x34, len);
+    put_form(numbers, at, k, scratch, o + 3);
+    end
+}
+
+// g divides the form, with each number as its remainder.
+pub fn put_stride(
+    numbers: &[i32],
+    at: usize,
+    k: usize,
+    g: i64,
+    scratch: &mut [u8],
+    o: usize,
+) -> usize
+    requires { ⌜ Numbered k (now numbers) at × Divisor g ⌝ }
+    requires { ⌜ o ≤ scratchLimit ⌝ }
+    ensures { λ r. ⌜ Puts (now (scratch .entry)) o (natAbs g divides reduced (natAbs g) (formIn k (now (numbers .entry)) at)) (now (scratch .exit)) r ⌝ }
+{
+    let len = 4 * (k + 2);
+    let end = o + 3 + len;
+    if scratch.len() < end {
+        return end;
+    }
+    put_head(scratch, o, 0x35, len);
+    put_signed(scratch, o + 3, 4, g);
+    put_reduced(numbers, at, k, g, scratch, o + 7);
+    end
+}
