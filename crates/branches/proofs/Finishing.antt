@@ -12,8 +12,8 @@ use Rattle.forms.specs.Flat.{kindOf}
 use Rattle.forms.specs.declared.RowNumber.{RowNumber}
 use Rattle.calculus.specs.Rules as rules
 use Rattle.calculus.specs.Rules.{_▷_, inRange}
-use Rattle.fields.specs.declared.Position.{Position}
-use Rattle.fields.specs.Answers.{position, refusalAt, Result}
+use Rattle.answers.specs.declared.Position.{Position}
+use Rattle.answers.specs.Answers.{position, refusalAt, Result}
 use Rattle.fields.specs.Fields.{fieldBytes}
 use Rattle.fields.specs.Places.{fieldsAt}
 use Rattle.fields.proofs.Framing.{length-fieldBytes as field-size}

@@ -11,8 +11,8 @@ use Rattle.forms.specs.Edition.{edition}
 use Rattle.forms.specs.declared.LineNumber.{LineNumber}
 use Rattle.forms.specs.declared.RowNumber.{RowNumber}
 use Rattle.calculus.specs.Rules as rules
-use Rattle.fields.specs.declared.Position.{Position}
-use Rattle.fields.specs.Answers.{refusalAt, Result}
+use Rattle.answers.specs.declared.Position.{Position}
+use Rattle.answers.specs.Answers.{refusalAt, Result}
 use Rattle.fields.specs.Fields.{ends, cut}
 use Rattle.fields.specs.Places.{fieldsAt}
 use Rattle.fields.proofs.Places.{Starts, starts-less}

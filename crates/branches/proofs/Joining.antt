@@ -8,9 +8,9 @@ use lib.ListN.{length, length-append}
 use Rattle.forms.specs.Edition.{edition1}
 use Rattle.forms.specs.Forms.{Formula, _and_, _or_}
 use Rattle.forms.specs.declared.RowNumber.{RowNumber}
-use Rattle.fields.specs.declared.Answer.{Answer}
-use Rattle.fields.specs.declared.Position.{Position}
-use Rattle.fields.specs.Answers.{Result, refused, accepted, _>>=_}
+use Rattle.answers.specs.declared.Answer.{Answer}
+use Rattle.answers.specs.declared.Position.{Position}
+use Rattle.answers.specs.Answers.{Result, refused, accepted, _>>=_}
 use Rattle.fields.specs.Fields.{Fields, fieldBytes}
 use Rattle.fields.specs.Places.{fieldsAt}
 use Rattle.formula.specs.Formula.{encode}

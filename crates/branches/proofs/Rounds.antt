@@ -14,10 +14,10 @@ use Rattle.forms.specs.Reduced.{reduced}
 use Rattle.forms.specs.Flat.{formIn}
 use Rattle.forms.specs.declared.RowNumber.{RowNumber}
 use Rattle.calculus.specs.Rules.{_▷_}
-use Rattle.fields.specs.declared.Position.{Position}
-use Rattle.fields.specs.Answers.{position, Result, accepted, _>>=_}
+use Rattle.answers.specs.declared.Position.{Position}
+use Rattle.answers.specs.Answers.{position, Result, accepted, _>>=_}
+use Rattle.number_bytes.specs.Numbers.{unsignedBytes}
 use Rattle.fields.specs.Fields.{Fields, fieldBytes}
-use Rattle.fields.specs.Numbers.{unsignedBytes}
 use Rattle.fields.specs.Places.{fieldsAt}
 use Rattle.formula.specs.Formula.{encode}
 use Rattle.formula_write.specs.Writing.{Numbered, Divisor, Stores}

@@ -12,8 +12,8 @@ use Rattle.forms.specs.Forms.{≤0, Side, Line, line, Form, neg, Formula, _and_
 use Rattle.forms.specs.declared.RowNumber.{RowNumber}
 use Rattle.calculus.specs.Rules as rules
 use Rattle.calculus.specs.Rules.{_▷_, inRange}
-use Rattle.fields.specs.declared.Position.{Position}
-use Rattle.fields.specs.Answers.{position}
+use Rattle.answers.specs.declared.Position.{Position}
+use Rattle.answers.specs.Answers.{position}
 use Rattle.fields.specs.Fields.{Fields, fieldBytes}
 use Rattle.fields.specs.Places.{fieldsAt}
 use Rattle.formula.specs.Formula.{encode}

@@ -10,9 +10,9 @@ use Rattle.forms.specs.Forms.{Line, Formula}
 use Rattle.forms.specs.declared.LineNumber.{LineNumber}
 use Rattle.forms.specs.declared.RowNumber.{RowNumber}
 use Rattle.calculus.specs.Rules as rules
-use Rattle.fields.specs.declared.Answer.{Answer}
-use Rattle.fields.specs.declared.Position.{Position}
-use Rattle.fields.specs.Answers.{refusalAt, Result, accepted, _>>=_}
+use Rattle.answers.specs.declared.Answer.{Answer}
+use Rattle.answers.specs.declared.Position.{Position}
+use Rattle.answers.specs.Answers.{refusalAt, Result, accepted, _>>=_}
 use Rattle.fields.specs.Fields.{Fields}
 use Rattle.fields.specs.Places.{fieldsAt}
 use Rattle.formula_write.specs.Writing.{scratchLimit}

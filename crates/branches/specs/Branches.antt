@@ -6,8 +6,8 @@ use Prim.Native.Nat.{ℕ, suc, _+_, _≤_}
 use lib.IntN.{ℤ, natAbs}
 use Rattle.forms.specs.Edition.{edition}
 use Rattle.calculus.specs.Rules as rules
-use Rattle.fields.specs.declared.Position.{Position}
-use Rattle.fields.specs.Answers.{refusalAt, Result, refused}
+use Rattle.answers.specs.declared.Position.{Position}
+use Rattle.answers.specs.Answers.{refusalAt, Result, refused}
 use Rattle.fields.specs.Places.{fieldsAt}
 use Rattle.proof.specs.Check.{Closing, Checker, checkRow, checkEntries}
 use Rattle.lines.specs.Buffer.{linesIn}

@@ -10,8 +10,8 @@ use Rattle.forms.specs.Edition.{edition, edition1}
 use Rattle.forms.specs.Forms.{Formula}
 use Rattle.forms.specs.declared.RowNumber.{RowNumber}
 use Rattle.calculus.specs.Rules.{inRange}
-use Rattle.fields.specs.declared.Position.{Position}
-use Rattle.fields.specs.Answers.{refusalAt, Result, refused, accepted}
+use Rattle.answers.specs.declared.Position.{Position}
+use Rattle.answers.specs.Answers.{refusalAt, Result, refused, accepted}
 use Rattle.fields.specs.Places.{fieldsAt}
 use Rattle.formula.specs.Formula.{encode}
 use Rattle.formula_write.specs.Writing.{scratchLimit}

@@ -17,11 +17,11 @@ use Rattle.forms.specs.Forms.{Form, LineKind, Line, kindOn, small, every, _·_}
 use Rattle.forms.specs.Flat.{constraintKindOf, lineKindOf, formIn}
 use Rattle.forms.proofs.Flat.{kind-in-A, kind-in-B, kind-apart-B}
 use Rattle.calculus.specs.Rules.{_▷_}
-use Rattle.fields.specs.Numbers.{signed, signeds, flat, formFrom}
+use Rattle.number_bytes.specs.Numbers.{signed, signeds, flat, formFrom}
+use Rattle.number_bytes.proofs.Signed.{length-signeds, signeds-take, signeds-last}
 use Rattle.fields.specs.Fields.{ends, cut}
 use Rattle.fields.specs.Places.{fieldsAt}
 use Rattle.fields.proofs.Places.{Starts, starts-size}
-use Rattle.fields.proofs.Signed.{length-signeds, signeds-take, signeds-last}
 use Rattle.bundle.specs.Bundle.{formSmall}
 use Rattle.bundle_scan.specs.Scan.{faultOf, count, fault, counted, stated}
 use Rattle.bundle_scan.proofs.Scanning.{counted-on, passed-both, count-is, proper-of, tag-most}

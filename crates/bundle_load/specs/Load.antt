@@ -12,7 +12,7 @@ use Rattle.integers.specs.Magnitude.{Within}
 use Rattle.forms.specs.Edition.{edition, edition1, newestEdition}
 use Rattle.forms.specs.Forms.{Form, Side, Line, Constraint, kindOn, _·_}
 use Rattle.forms.specs.Flat.{constraintKindOf}
-use Rattle.fields.specs.Numbers.{formFrom, signeds}
+use Rattle.number_bytes.specs.Numbers.{formFrom, signeds}
 use Rattle.fields.specs.Fields.{Fields}
 use Rattle.bundle.specs.Bundle.{formSmall}
 use Rattle.bundle_scan.specs.Scan.{count, counted}

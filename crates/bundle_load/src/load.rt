@@ -11,7 +11,7 @@ ghost use mathlib.Core.List.{[], _∷_, map};
 ghost use Prim.Native.Nat.{_+_, _≤_};
 ghost use lib.IntN.{pos};
 ghost use lib.ListN.{length, drop, replicate};
-ghost use Rattle.fields.specs.Numbers.{signeds};
+ghost use Rattle.number_bytes.specs.Numbers.{signeds};
 ghost use Rattle.fields.specs.Places.{fieldsAt};
 ghost use Rattle.bundle_scan.specs.Scan.{stated};
 ghost use Rattle.bundle_load.specs.Load.{Copies, NumbersStored, partialOf, lineByte, lineOf, Loads, Loaded, formLine, Able};

@@ -11,13 +11,13 @@ use lib.Seq.{sets}
 use borrow.Author.Tests.{le-leb, lt-leb}
 use Rattle.forms.specs.Edition.{edition}
 use Rattle.forms.specs.Forms.{Constraint}
-use Rattle.fields.specs.declared.Answer.{Answer}
-use Rattle.fields.specs.Answers.{answer, acceptance, fileA, Result, refused, _>>_, need, over}
+use Rattle.answers.specs.declared.Answer.{Answer}
+use Rattle.answers.specs.Answers.{answer, acceptance, fileA, Result, refused, _>>_, need, over}
+use Rattle.answers.proofs.Over.{sets-over}
+use Rattle.number_bytes.specs.Numbers.{flat, formFrom}
+use Rattle.number_bytes.proofs.Signed.{length-signeds, flat-signeds}
 use Rattle.fields.specs.Fields.{Fields, ends, cut, _▸_}
-use Rattle.fields.specs.Numbers.{flat, formFrom}
 use Rattle.fields.specs.Places.{fieldsAt}
-use Rattle.fields.proofs.Signed.{length-signeds, flat-signeds}
-use Rattle.fields.proofs.Stores.{sets-over}
 use Rattle.bundle.specs.Bundle.{Bundle, atMost, bundle}
 use Rattle.bundle.specs.Read.{kindsOf, numbersOf, unread, store, stored, readBundle}
 use Rattle.bundle_scan.specs.Scan.{stated, IsBundle}

@@ -12,14 +12,14 @@ use lib.Seq.{sets, length-sets}
 use borrow.Author.Tests.{ltb-true, ltb-false, eqb-true}
 use Rattle.forms.specs.Forms.{Constraint}
 use Rattle.forms.specs.Flat.{kindOf, constraintKindOf}
+use Rattle.number_bytes.specs.Numbers.{signeds, flat, formFrom}
+use Rattle.number_bytes.proofs.Signed.{length-signeds, signeds-take, flat-signeds}
+use Rattle.number_bytes.proofs.Stores.{sets-append}
 use Rattle.fields.specs.declared.FileKind.{FileKind}
 use Rattle.fields.specs.Fields.{Fields, ends, cut}
 use Rattle.fields.specs.Header.{known}
-use Rattle.fields.specs.Numbers.{signeds, flat, formFrom}
 use Rattle.fields.specs.Places.{fieldsAt}
 use Rattle.fields.proofs.Places.{lenAt, Took, took-here, Starts, starts-size}
-use Rattle.fields.proofs.Signed.{length-signeds, signeds-take, flat-signeds}
-use Rattle.fields.proofs.Stores.{sets-append}
 use Rattle.bundle.specs.Read.{kindNumber, kindsOf, numbersOf}
 use Rattle.bundle_scan.specs.Scan.{faultOf, Counted, counted, stated}
 use Rattle.bundle_scan.proofs.Scanning.{Proper, counted-on, count-is, proper-of, tag-most, passed-both}

@@ -1,19 +1,19 @@
 // Reading a bundle into kinds and numbers.
 mod store;
 
+use answers::Answer;
+use answers::acceptance;
+use answers::refusal;
 use bundle_scan::Body;
 use bundle_scan::Scanned;
 use bundle_scan::scan;
-use fields::Answer;
-use fields::answers::acceptance;
-use fields::answers::refusal;
 use forms::BUNDLE_BYTES;
 use forms::coefficient_bytes;
 use store::store_constraints;
 ghost use mathlib.Core.Path.{_≡_};
 ghost use mathlib.Core.Option.{none};
 ghost use Rattle.forms.specs.Edition.{newestEdition};
-ghost use Rattle.fields.specs.Answers.{answer, fileA};
+ghost use Rattle.answers.specs.Answers.{answer, fileA};
 ghost use Rattle.bundle.specs.Bundle.{bundle};
 ghost use Rattle.bundle.specs.Read.{stored};
 ghost use Rattle.bundle_scan.specs.Scan.{IsBundle};

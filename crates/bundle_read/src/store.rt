@@ -1,5 +1,5 @@
 // The constraints of a bundle, stored into lent outputs.
-use fields::numbers::unsigned_at;
+use number_bytes::numbers::unsigned_at;
 use number_runs::store::store_form;
 ghost use mathlib.Core.Path.{_≡_};
 ghost use mathlib.Core.Logic.{_⊎_};

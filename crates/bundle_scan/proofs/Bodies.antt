@@ -6,7 +6,7 @@ use native.Mathlib.Omega.{arith}
 use lib.Dec.{T, eqb→eq}
 use lib.ListN.{length}
 use Rattle.forms.specs.Edition.{edition, edition1, newestEdition}
-use Rattle.fields.specs.Answers.{accepted, _>>=_}
+use Rattle.answers.specs.Answers.{accepted, _>>=_}
 use Rattle.fields.specs.Places.{givenK, fieldsAt}
 use Rattle.fields.proofs.Headers.{agrees-some}
 use Rattle.bundle.specs.Bundle.{bundle}

@@ -6,8 +6,8 @@ use native.Mathlib.Omega.{arith}
 use lib.ListN.{length, take, drop, length-drop}
 use lib.Seq.{length-take-le}
 use Rattle.forms.specs.Forms.{small, every}
-use Rattle.fields.specs.Numbers.{signeds, formFrom}
-use Rattle.fields.proofs.Signed.{signeds-take, flat-signeds}
+use Rattle.number_bytes.specs.Numbers.{signeds, formFrom}
+use Rattle.number_bytes.proofs.Signed.{signeds-take, flat-signeds}
 use Rattle.bundle.specs.Bundle.{formSmall}
 
 -- ---- the numbers of a field are those of its form

@@ -4,8 +4,8 @@ use mathlib.Core.Option.{none, some}
 use mathlib.Core.List.{List}
 use Prim.Native.Nat.{ℕ}
 use Rattle.forms.specs.Edition.{edition, newestEdition}
-use Rattle.fields.specs.declared.Answer.{Answer}
-use Rattle.fields.specs.Answers.{fileA, fileB, refused, accepted, _>>=_}
+use Rattle.answers.specs.declared.Answer.{Answer}
+use Rattle.answers.specs.Answers.{fileA, fileB, refused, accepted, _>>=_}
 use Rattle.fields.specs.Places.{givenK, fieldsAt}
 use Rattle.fields.proofs.Headers.{given-some}
 use Rattle.bundle.specs.Bundle.{Bundle, bundle, bundles}

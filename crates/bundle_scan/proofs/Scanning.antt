@@ -11,16 +11,16 @@ use borrow.Author.Tests.{ltb-true, ltb-false, eqb-true, eqb-false, leb-true, leb
 use Rattle.forms.specs.Edition.{edition, newestEdition}
 use Rattle.forms.specs.Forms.{≤0, =0, ConstraintKind, says, ≠0, Form, Constraint}
 use Rattle.forms.specs.Flat.{kindOf, constraintKindOf}
+use Rattle.answers.specs.Answers.{answer, Result, refused, accepted, _>>=_, _>>_, need, found}
+use Rattle.answers.proofs.Results.{Gives, gives-refused, gives-accepted, bind, test}
+use Rattle.number_bytes.specs.Numbers.{formFrom, formWidth}
 use Rattle.fields.specs.declared.FileKind.{FileKind}
 use Rattle.fields.specs.declared.header.Numbered.{Numbered}
 use Rattle.fields.specs.declared.header.Headed.{Headed}
-use Rattle.fields.specs.Answers.{answer, Result, refused, accepted, _>>=_, _>>_, need, found}
-use Rattle.fields.specs.Numbers.{formFrom, formWidth}
 use Rattle.fields.specs.Fields.{Field, Fields, ends, cut, _▸_, fields, nth}
 use Rattle.fields.specs.Header.{headerTag, known, headerField, editionField, constantsField}
 use Rattle.fields.specs.Places.{fieldsAt, givenK, IsEdition, IsConstants}
 use Rattle.fields.proofs.Places.{Starts, starts-size, starts-less}
-use Rattle.fields.proofs.Results.{Gives, gives-refused, gives-accepted, bind, test}
 use Rattle.bundle.specs.Bundle.{Bundle, kindTagged, atMost, formSmall, constraints, bundleHeader, bundle}
 use Rattle.bundle_scan.specs.Scan.{IsBundleHeader, faultOf, Counted, unlessFault, counted, stated, countedOf, startOf, constraintStart, soughtOf, IsBundle, Scans}
 use Rattle.bundle_scan.specs.declared.constraints.Sought.{Sought}

@@ -9,9 +9,9 @@ use lib.ListN.{length}
 use Rattle.forms.specs.Edition.{edition, edition1, newestEdition}
 use Rattle.forms.specs.Forms.{Constraint}
 use Rattle.forms.specs.Flat.{constraintKindOf}
+use Rattle.answers.specs.Answers.{answer, Result, refused, accepted}
+use Rattle.number_bytes.specs.Numbers.{formFrom, formWidth}
 use Rattle.fields.specs.declared.FileKind.{FileKind}
-use Rattle.fields.specs.Answers.{answer, Result, refused, accepted}
-use Rattle.fields.specs.Numbers.{formFrom, formWidth}
 use Rattle.fields.specs.Fields.{Field, Fields, ends, cut, _▸_, fields, nth}
 use Rattle.fields.specs.Header.{known}
 use Rattle.fields.specs.Places.{givenK, headedOf, fieldsAt}

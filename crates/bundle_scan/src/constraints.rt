@@ -1,10 +1,10 @@
 // The constraints after a bundle's header, gone over one by one.
 use fields::FileKind;
 use fields::Next;
-use fields::header::between;
 use fields::header::known;
 use fields::next_field;
 use forms::CONSTRAINTS;
+use integers::between;
 use number_ranges::read::all_in_range;
 ghost use mathlib.Core.Path.{_≡_};
 ghost use mathlib.Core.Logic.{_⊎_};

@@ -10,8 +10,8 @@ use lib.ListN.{length}
 use borrow.Author.Tests.{lt-ltb, le-ltb, ltb-true, ltb-false, lt-leb, le-leb, eq-eqb, ne-eqb}
 use Rattle.forms.specs.Edition.{Edition, edition}
 use Rattle.forms.specs.Forms.{Constraint}
-use Rattle.fields.specs.declared.Answer.{Answer}
-use Rattle.fields.specs.Answers.{answer, acceptance, fileA, fileB, refused, accepted, _>>=_, _>>_, need, found}
+use Rattle.answers.specs.declared.Answer.{Answer}
+use Rattle.answers.specs.Answers.{answer, acceptance, fileA, fileB, refused, accepted, _>>=_, _>>_, need, found}
 use Rattle.fields.specs.Fields.{Field, Fields, ends, cut, _▸_, Item, fields, nth}
 use Rattle.fields.specs.Places.{fieldsAt}
 use Rattle.fields.proofs.HeaderLaid.{First, first-of}

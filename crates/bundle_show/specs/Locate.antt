@@ -4,7 +4,7 @@ use mathlib.Core.List.{List}
 use Prim.Native.Nat.{ℕ, _+_, _≤_}
 use lib.ListN.{length}
 use Rattle.forms.specs.Edition.{newestEdition}
-use Rattle.fields.specs.Answers.{fileA}
+use Rattle.answers.specs.Answers.{fileA}
 use Rattle.bundle.specs.Show.{Part, showPart}
 use Rattle.bundle_show.specs.Promises.{ofFile}
 use Rattle.bundle_show.specs.declared.locate.Located.{Located}

@@ -8,8 +8,8 @@ use lib.Dec.{eqb}
 use lib.ListN.{take, drop}
 use denote.Ref.{RefT}
 use Rattle.forms.specs.Edition.{newestEdition}
-use Rattle.fields.specs.declared.Answer.{Answer}
-use Rattle.fields.specs.Answers.{fileA}
+use Rattle.answers.specs.declared.Answer.{Answer}
+use Rattle.answers.specs.Answers.{fileA}
 use Rattle.bundle.specs.Show.{Part, showPart, showAnswer}
 
 -- ---- showing

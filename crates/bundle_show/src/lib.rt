@@ -1,11 +1,11 @@
 // Showing a constraint: the part of A's or B's bytes that states it.
 mod locate;
 
+use answers::Answer;
+use answers::acceptance;
+use answers::refusal;
 use bundle_scan::Scanned;
 use bundle_scan::scan;
-use fields::Answer;
-use fields::answers::acceptance;
-use fields::answers::refusal;
 use forms::BUNDLE_BYTES;
 use forms::LineNumber;
 use locate::Located;

@@ -10,12 +10,12 @@ use lib.Seq.{sets, length-sets, drop-cons, drop-drop, length-take-le}
 use lib.Dec.{T, leb}
 use Rattle.forms.specs.Edition.{Edition, edition}
 use Rattle.forms.specs.Forms.{All}
+use Rattle.number_bytes.specs.Numbers.{unsignedBytes, signedsBytes}
+use Rattle.number_bytes.proofs.Signed.{length-signedsBytes}
+use Rattle.number_bytes.proofs.Stores.{sets-append}
 use Rattle.fields.specs.Fields.{fieldBytes}
 use Rattle.fields.specs.Header.{headerBytes}
-use Rattle.fields.specs.Numbers.{unsignedBytes, signedsBytes}
 use Rattle.fields.proofs.Framing.{length-fieldBytes}
-use Rattle.fields.proofs.Signed.{length-signedsBytes}
-use Rattle.fields.proofs.Stores.{sets-append}
 use Rattle.number_runs.proofs.Putting.{numbers-bytes}
 use Rattle.bundle.specs.Write.{constraintsBytes}
 use Rattle.bundle.specs.Writable.{fieldSize}

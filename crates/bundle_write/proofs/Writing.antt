@@ -10,13 +10,14 @@ use lib.ListN.{length}
 use lib.Seq.{sets}
 use borrow.Author.Tests.{le-leb, lt-leb, eq-eqb, ne-eqb}
 use Rattle.forms.specs.Edition.{edition}
-use Rattle.fields.specs.declared.Answer.{Answer}
-use Rattle.fields.specs.Answers.{answer, acceptance, fileLent, Result, refused, accepted, _>>_, need, each, over, fit, written}
+use Rattle.answers.specs.declared.Answer.{Answer}
+use Rattle.answers.specs.Answers.{answer, acceptance, fileLent, Result, refused, accepted, _>>_, need, each, over, fit, written}
+use Rattle.answers.proofs.Results.{Gives, not-0}
+use Rattle.answers.proofs.Over.{sets-over}
+use Rattle.number_bytes.specs.Numbers.{unsignedBytes}
+use Rattle.number_bytes.proofs.Stores.{sets-append}
 use Rattle.fields.specs.Header.{headerBytes}
 use Rattle.fields.specs.Fields.{fieldBytes}
-use Rattle.fields.specs.Numbers.{unsignedBytes}
-use Rattle.fields.proofs.Results.{Gives, not-0}
-use Rattle.fields.proofs.Stores.{sets-append, sets-over}
 use Rattle.bundle.specs.Show.{answerOf}
 use Rattle.bundle.specs.Write.{constraintsBytes, holdable, bundleBytes, writeBundle}
 use Rattle.bundle.specs.Writable.{fieldSize, InOrder}

@@ -5,8 +5,8 @@ use mathlib.Core.List.{List}
 use Prim.Native.Nat.{ℕ}
 use lib.IntN.{ℤ}
 use Rattle.forms.specs.Edition.{newestEdition}
-use Rattle.fields.specs.declared.WriteResult.{WriteResult}
-use Rattle.fields.specs.Answers.{writtenOf}
+use Rattle.answers.specs.declared.WriteResult.{WriteResult}
+use Rattle.answers.specs.Answers.{writtenOf}
 use Rattle.bundle.specs.Write.{writeBundle}
 
 -- ---- writing: it returns r, and the lent output is `left` afterwards

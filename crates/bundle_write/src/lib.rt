@@ -1,16 +1,16 @@
 // Writing a bundle from K, kinds and numbers.
 mod put;
 
-use fields::Answer;
-use fields::WriteResult;
-use fields::answers::acceptance;
-use fields::answers::refusal;
-use fields::header::between;
+use answers::Answer;
+use answers::WriteResult;
+use answers::acceptance;
+use answers::refusal;
 use fields::header::put_header;
 use forms::CONSTANTS;
 use forms::CONSTRAINTS;
 use forms::NEWEST;
 use forms::coefficient_bytes;
+use integers::between;
 use number_ranges::held::first_unheld;
 use put::first_bad;
 use put::put_constraints;

@@ -1,5 +1,5 @@
 // The constraints of a bundle, written as fields.
-use fields::numbers::put_head;
+use fields::header::put_head;
 use forms::coefficient_bytes;
 use number_runs::put::put_numbers;
 ghost use mathlib.Core.Path.{_≡_};
@@ -10,8 +10,8 @@ ghost use lib.ListN.{length, take, drop};
 ghost use lib.Seq.{sets};
 ghost use Rattle.forms.specs.Edition.{edition, newestEdition};
 ghost use Rattle.forms.specs.Forms.{every};
+ghost use Rattle.number_bytes.specs.Numbers.{signedsBytes};
 ghost use Rattle.fields.specs.Fields.{fieldBytes};
-ghost use Rattle.fields.specs.Numbers.{signedsBytes};
 ghost use Rattle.number_runs.specs.Runs.{HeldAll};
 ghost use Rattle.bundle.specs.Write.{constraintsBytes};
 ghost use Rattle.bundle.specs.Writable.{fieldSize, InOrder};

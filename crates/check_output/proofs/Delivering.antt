@@ -7,13 +7,13 @@ use native.Mathlib.Omega.{arith}
 use lib.ListN.{length, take, drop, set, getD, length-append}
 use lib.Seq.{sets, sets-eq, paste, take-at, take-all, drop-append-add, drop-drop, length-take-le, getD-take}
 use borrow.Author.Tests.{le-leb, lt-leb}
+use Rattle.answers.specs.declared.Answer.{Answer}
+use Rattle.answers.specs.Answers.{answer, acceptance, refused, accepted, _>>_, need, Written, over, fit, written}
+use Rattle.answers.specs.declared.WriteResult.{WriteResult}
 use Rattle.fields.specs.declared.FileKind.{FileKind}
-use Rattle.fields.specs.declared.Answer.{Answer}
-use Rattle.fields.specs.Answers.{answer, acceptance, refused, accepted, _>>_, need, Written, over, fit, written}
 use Rattle.fields.specs.Header.{headerBytes}
 use Rattle.fields.proofs.Headers.{length-headerBytes}
 use Rattle.fields.specs.Ending.{IsEnding}
-use Rattle.fields.specs.declared.WriteResult.{WriteResult}
 use Rattle.fields.specs.declared.ending.Ending.{Ending}
 use Rattle.lines.proofs.Fill.{Filled, filled-length, filled-next}
 use Rattle.check_output.specs.Output.{fileWithin, Holds, Delivers, Finishes}

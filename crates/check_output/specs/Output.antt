@@ -5,12 +5,12 @@ use Prim.Native.Nat.{ℕ, _+_, _≤_}
 use lib.Dec.{leb}
 use lib.ListN.{length, take}
 use Rattle.forms.specs.Edition.{edition1}
+use Rattle.answers.specs.Answers.{answer, fileProof, fileLent, Result, accepted, _>>_, need, writtenOf, written}
+use Rattle.answers.specs.declared.WriteResult.{WriteResult}
 use Rattle.fields.specs.declared.FileKind.{FileKind}
-use Rattle.fields.specs.Answers.{answer, fileProof, fileLent, Result, accepted, _>>_, need, writtenOf, written}
 use Rattle.fields.specs.Fields.{Fields}
 use Rattle.fields.specs.Header.{finished, headerBytes}
 use Rattle.fields.specs.Places.{fieldsAt}
-use Rattle.fields.specs.declared.WriteResult.{WriteResult}
 use Rattle.formula_write.specs.Writing.{scratchLimit}
 
 -- The bytes of a formula's file, which may not be too long: 1.

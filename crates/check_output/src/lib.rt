@@ -1,6 +1,6 @@
 // The end of a check: what follows the root, and the formula's file in the lent output.
+use answers::WriteResult;
 use fields::FileKind;
-use fields::WriteResult;
 use fields::ending::Ending;
 use fields::ending::ending_at;
 use fields::header::put_header;
@@ -9,13 +9,13 @@ ghost use mathlib.Core.Path.{_≡_};
 ghost use Prim.Native.Nat.{_+_, _≤_};
 ghost use lib.ListN.{length, take};
 ghost use lib.Seq.{paste};
-ghost use Rattle.fields.specs.Answers.{answer};
+ghost use Rattle.answers.specs.Answers.{answer};
 ghost use Rattle.check_output.specs.Output.{InScratch, Delivers, Finishes};
 
 pub fn refusal(number: u8, file: u8, place: usize) -> WriteResult
     ensures { λ r. ⌜ r ≡ record { answer = answer number file place; count = 0 } ⌝ }
 {
-    let answer = fields::answers::refusal(number, file, place);
+    let answer = answers::refusal(number, file, place);
     WriteResult { answer, count: 0 }
 }
 
@@ -46,7 +46,7 @@ fn deliver(scratch: &[u8], o: usize, k: u8, out: &mut [u8]) -> WriteResult
     }
     put_header(out, 1, k);
     copy_bytes(scratch, o, out, 8);
-    let answer = fields::answers::acceptance();
+    let answer = answers::acceptance();
     WriteResult {
         answer,
         count: needed,

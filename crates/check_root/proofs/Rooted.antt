@@ -7,10 +7,10 @@ use lib.ListN.{length}
 use lib.Seq.{sets, sets-eq, take-at}
 use Rattle.forms.specs.Edition.{edition, edition1}
 use Rattle.forms.specs.Forms.{Line}
-use Rattle.fields.specs.declared.Answer.{Answer}
-use Rattle.fields.specs.Answers.{root, answer, Result, refused, accepted, _>>=_, written}
+use Rattle.answers.specs.declared.Answer.{Answer}
+use Rattle.answers.specs.Answers.{root, answer, Result, refused, accepted, _>>=_, written}
+use Rattle.answers.specs.declared.WriteResult.{WriteResult}
 use Rattle.fields.specs.Places.{fieldsAt}
-use Rattle.fields.specs.declared.WriteResult.{WriteResult}
 use Rattle.formula.specs.Formula.{encode}
 use Rattle.formula_write.specs.Writing.{scratchLimit}
 use Rattle.proof.specs.Check.{Closing, checkBranch}

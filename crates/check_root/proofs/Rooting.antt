@@ -6,11 +6,11 @@ use native.Mathlib.Omega.{arith}
 use lib.IntN.{ℤ}
 use Rattle.forms.specs.Edition.{edition}
 use Rattle.forms.specs.declared.RowNumber.{RowNumber}
-use Rattle.fields.specs.declared.Answer.{Answer}
-use Rattle.fields.specs.declared.Position.{Position}
-use Rattle.fields.specs.Answers.{root, refusalAt}
+use Rattle.answers.specs.declared.Answer.{Answer}
+use Rattle.answers.specs.declared.Position.{Position}
+use Rattle.answers.specs.Answers.{root, refusalAt}
+use Rattle.answers.specs.declared.WriteResult.{WriteResult}
 use Rattle.fields.specs.Places.{fieldsAt}
-use Rattle.fields.specs.declared.WriteResult.{WriteResult}
 use Rattle.proof.specs.Check.{checkBranch}
 use Rattle.lines.specs.Buffer.{linesIn}
 use Rattle.tally.specs.Tally.{tally}

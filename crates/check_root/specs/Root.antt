@@ -5,10 +5,10 @@ use Prim.Native.Nat.{ℕ, _+_, _*_, _≤_}
 use lib.ListN.{length}
 use Rattle.forms.specs.Edition.{edition, edition1}
 use Rattle.forms.specs.Forms.{Line}
-use Rattle.fields.specs.Answers.{root, Result, _>>=_, writtenOf, written}
+use Rattle.answers.specs.Answers.{root, Result, _>>=_, writtenOf, written}
+use Rattle.answers.specs.declared.WriteResult.{WriteResult}
 use Rattle.fields.specs.Fields.{Fields}
 use Rattle.fields.specs.Places.{fieldsAt}
-use Rattle.fields.specs.declared.WriteResult.{WriteResult}
 use Rattle.formula.specs.Formula.{encode}
 use Rattle.proof.specs.Check.{checkBranch}
 use Rattle.branches.specs.Spare.{unreadBytes}

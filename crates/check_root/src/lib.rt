@@ -1,8 +1,8 @@
 // The root of a proof, checked over lines that are there; and all that follows it.
+use answers::WriteResult;
 use branches::branch::Branched;
 use branches::branch::check_branch;
 use check_output::finish;
-use fields::WriteResult;
 use forms::LineNumber;
 use forms::RowNumber;
 use tally::Tally;
@@ -35,7 +35,7 @@ pub fn check_root(
         open: 0,
         edition: e,
     };
-    let position = fields::answers::root();
+    let position = answers::root();
     match check_branch(
         proof,
         at,
@@ -53,7 +53,7 @@ pub fn check_root(
             position: found,
             at: place,
         } => {
-            let answer = fields::answers::proof_refusal(found, so_far, number, place);
+            let answer = answers::proof_refusal(found, so_far, number, place);
             WriteResult { answer, count: 0 }
         }
         Branched::Closed {

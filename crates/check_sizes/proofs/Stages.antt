@@ -11,14 +11,14 @@ use lib.ListN.{length}
 use borrow.Author.Tests.{le-leb}
 use Rattle.forms.specs.Edition.{edition, edition1}
 use Rattle.forms.specs.Forms.{Formula, lines}
-use Rattle.fields.specs.declared.Answer.{Answer}
+use Rattle.answers.specs.declared.Answer.{Answer}
+use Rattle.answers.specs.Answers.{root, answer, fileA, fileB, fileProof, Result, refused, accepted, _>>=_, _>>_, need, written}
+use Rattle.answers.specs.declared.WriteResult.{WriteResult}
 use Rattle.fields.specs.declared.FileKind.{FileKind}
-use Rattle.fields.specs.Answers.{root, answer, fileA, fileB, fileProof, Result, refused, accepted, _>>=_, _>>_, need, written}
 use Rattle.fields.specs.Fields.{Fields, fields}
 use Rattle.fields.specs.Header.{header, finished, headerBytes}
 use Rattle.fields.specs.Places.{fieldsAt}
 use Rattle.fields.proofs.Headers.{given-some}
-use Rattle.fields.specs.declared.WriteResult.{WriteResult}
 use Rattle.bundle.specs.Bundle.{Bundle, atMost, bundle, bundles}
 use Rattle.bundle_scan.specs.Scan.{IsBundle}
 use Rattle.bundle_scan.specs.declared.Body.{Body}

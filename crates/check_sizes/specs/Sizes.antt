@@ -6,8 +6,8 @@ use Prim.Native.Nat.{ℕ, _+_, _*_, _≤_, min}
 use lib.ListN.{length}
 use Rattle.forms.specs.Edition.{edition, newestEdition}
 use Rattle.forms.specs.Forms.{lines}
+use Rattle.answers.specs.Answers.{fileProof, accepted}
 use Rattle.fields.specs.declared.FileKind.{FileKind}
-use Rattle.fields.specs.Answers.{fileProof, accepted}
 use Rattle.fields.specs.Fields.{fields}
 use Rattle.fields.specs.Header.{header}
 use Rattle.fields.specs.Places.{fieldsAt}

@@ -1,8 +1,8 @@
 // The lines and the root, in arrays of a size that suits the proof.
+use answers::WriteResult;
 use bundle_load::prepare;
 use bundle_scan::Body;
 use check_root::check_root;
-use fields::WriteResult;
 use forms::CONSTANTS;
 use forms::CONSTRAINTS;
 use forms::FORMULA_BYTES;

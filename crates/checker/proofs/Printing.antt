@@ -7,11 +7,11 @@ use native.Mathlib.Omega.{arith}
 use lib.ListN.{length, take, drop, length-append, length-take}
 use lib.Dec.{leb}
 use borrow.Author.Tests.{leb-true}
-use Rattle.fields.specs.Answers.{Result, refused, accepted, Written, writtenOf, over, fit, written}
+use Rattle.answers.specs.Answers.{Result, refused, accepted, Written, writtenOf, over, fit, written}
+use Rattle.answers.specs.declared.WriteResult.{WriteResult}
+use Rattle.proof.specs.Check.{checkBy, check}
 use Rattle.files.specs.Text.{Put, PutNumber, PutRefused, RefusedLine, ascii, hexOf}
 use Rattle.files.proofs.Texts.{both, uncut}
-use Rattle.proof.specs.Check.{checkBy, check}
-use Rattle.fields.specs.declared.WriteResult.{WriteResult}
 use Rattle.checker.specs.Said.{AcceptedLines, Printed, PutAccepted}
 
 -- ---- the bytes written are there

@@ -6,12 +6,12 @@ use mathlib.Core.List.{List, _∷_}
 use native.Mathlib.Nat.{eq-zero-or-pos}
 use native.Mathlib.Omega.{arith}
 use Rattle.forms.specs.Forms.{All, cons}
-use Rattle.fields.specs.Answers.{Written}
-use Rattle.files.specs.Text.{ascii, hexOf}
-use Rattle.files.proofs.Texts.{decimal-once, one-digit, two-digits, refused-once}
+use Rattle.answers.specs.Answers.{Written}
 use Rattle.proof.specs.Check.{check}
 use Rattle.proof.specs.Stages.{lent}
 use Rattle.proof.proofs.Stages.{stages}
+use Rattle.files.specs.Text.{ascii, hexOf}
+use Rattle.files.proofs.Texts.{decimal-once, one-digit, two-digits, refused-once}
 use Rattle.checker.specs.Said.{AcceptedLines, Printed}
 use Rattle.checker.specs.Shown.{stage-1, stage-2}
 

@@ -3,7 +3,7 @@ use Prim.Native.Nat.{ℕ, _+_, _*_, _≤_}
 use mathlib.Core.Path.{_≡_}
 use mathlib.Core.List.{List, _++_}
 use lib.ListN.{length, take}
-use Rattle.fields.specs.Answers.{Written}
+use Rattle.answers.specs.Answers.{Written}
 use Rattle.files.specs.Text.{Put, Decimal, RefusedLine, ascii, hexOf}
 
 -- s is two lines: the word and how many bytes there are, then their capital hexadecimal digits

@@ -5,15 +5,15 @@ use mathlib.Core.List.{List}
 use Prim.Native.Nat.{ℕ, _≤_, _<_}
 use lib.ListN.{length}
 use borrow.Author.Tests.{le-leb, lt-leb}
+use Rattle.answers.specs.Answers.{answer, fileA, fileB, fileProof, refused, accepted, _>>=_, _>>_, need, written}
+use Rattle.answers.specs.declared.WriteResult.{WriteResult}
 use Rattle.fields.specs.declared.FileKind.{FileKind}
 use Rattle.fields.specs.declared.header.Headed.{Headed}
-use Rattle.fields.specs.Answers.{answer, fileA, fileB, fileProof, refused, accepted, _>>=_, _>>_, need, written}
 use Rattle.fields.specs.Fields.{fields}
 use Rattle.fields.specs.Header.{header}
 use Rattle.fields.specs.Places.{fieldsAt, headedOf, IsHeader}
 use Rattle.fields.proofs.HeaderLaid.{header-gives}
 use Rattle.fields.proofs.Headers.{given-some}
-use Rattle.fields.specs.declared.WriteResult.{WriteResult}
 use Rattle.bundle.specs.Bundle.{Bundle, atMost}
 use Rattle.bundle_scan.specs.Scan.{IsBundle, Scans}
 use Rattle.bundle_scan.specs.declared.Body.{Body}

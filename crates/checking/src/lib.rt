@@ -1,11 +1,11 @@
 // The operation check: its bundles, the proof's header, and then the lines and the root.
+use answers::WriteResult;
 use bundle_scan::Body;
 use bundle_scan::Scanned;
 use bundle_scan::scan;
 use check_output::refusal;
 use check_sizes::check_lines;
 use fields::FileKind;
-use fields::WriteResult;
 use fields::header::Headed;
 use fields::header::read_header;
 use forms::BUNDLE_BYTES;

@@ -14,7 +14,7 @@ use Rattle.forms.specs.Forms.{nonzero, every}
 use Rattle.forms.proofs.Editions.{lines-most}
 use Rattle.forms.proofs.Flat.{kind-zero, kind-one}
 use Rattle.forms.specs.Flat.{kindOf}
-use Rattle.fields.specs.Answers.{_>>=_, _>>_, need, found}
+use Rattle.answers.specs.Answers.{_>>=_, _>>_, need, found}
 use Rattle.proof.specs.Rows.{plainKind, fails, lineAt, byNumber}
 use Rattle.lines.specs.Parts.{part}
 use Rattle.lines.specs.Buffer.{size, lineIn}

@@ -13,9 +13,9 @@ use Rattle.integers.proofs.Differences.{ints}
 use Rattle.forms.specs.Forms.{=0, literal, _divides_}
 use Rattle.forms.specs.Reduced.{reduced}
 use Rattle.forms.specs.Flat.{kindOf, formIn}
-use Rattle.fields.specs.declared.Answer.{Answer}
-use Rattle.fields.specs.Answers.{answer, fileProof}
-use Rattle.fields.proofs.Results.{never}
+use Rattle.answers.specs.declared.Answer.{Answer}
+use Rattle.answers.specs.Answers.{answer, fileProof}
+use Rattle.answers.proofs.Results.{never}
 use Rattle.formula_write.specs.Writing.{Numbered, Divisor, Puts}
 use Rattle.formula_write.proofs.Written.{held, literal-size, stride-size}
 use Rattle.proof.specs.Rows.{is, byNumber, byStride}

@@ -13,7 +13,7 @@ use Rattle.integers.specs.Linear.{eqZ}
 use Rattle.integers.proofs.Differences.{ints}
 use Rattle.integers.specs.Divides.{divb}
 use Rattle.forms.specs.Forms.{=0, every}
-use Rattle.fields.specs.Answers.{_>>=_, _>>_, need, found}
+use Rattle.answers.specs.Answers.{_>>=_, _>>_, need, found}
 use Rattle.proof.specs.Rows.{is, lineAt, byStride}
 use Rattle.lines.specs.Parts.{part}
 use Rattle.lines.specs.Buffer.{size, lineIn}

@@ -6,8 +6,8 @@ use lib.IntN.{ℤ}
 use lib.ListN.{getD}
 use Rattle.forms.specs.Flat.{kindOf}
 use Rattle.forms.specs.Forms.{Formula, literal}
-use Rattle.fields.specs.declared.Answer.{Answer}
-use Rattle.fields.specs.Answers.{Result, refused, accepted}
+use Rattle.answers.specs.declared.Answer.{Answer}
+use Rattle.answers.specs.Answers.{Result, refused, accepted}
 use Rattle.proof.specs.Rows.{byNumber}
 use Rattle.lines.specs.Buffer.{lineIn, linesIn}
 use Rattle.tally.specs.declared.Tally.{Tally}

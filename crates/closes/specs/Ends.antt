@@ -4,8 +4,8 @@ use mathlib.Core.List.{List}
 use Prim.Native.Nat.{ℕ, _+_, _≤_}
 use lib.ListN.{length}
 use Rattle.forms.specs.Forms.{Formula}
-use Rattle.fields.specs.declared.Answer.{Answer}
-use Rattle.fields.specs.Answers.{Result, refused, accepted}
+use Rattle.answers.specs.declared.Answer.{Answer}
+use Rattle.answers.specs.Answers.{Result, refused, accepted}
 use Rattle.formula_write.specs.Writing.{Puts}
 use Rattle.closes.specs.declared.ends.Ended as ended
 use Rattle.closes.specs.declared.ends.Ended.the-variants as ended-of

@@ -12,10 +12,10 @@ ghost use Rattle.bundle_write.specs.Promises.{Writes};
 ghost use Rattle.formula_test.specs.Promises.{Tests};
 ghost use Rattle.proof.specs.Promises.{Checks};
 ghost use Rattle.dulgaverk.specs.Copied.{Copied};
+use answers::Answer;
+use answers::WriteResult;
 use bundle_read::ReadResult;
 use checking::check;
-use fields::Answer;
-use fields::WriteResult;
 use forms::LineNumber;
 use formula_test::Tested;
 

@@ -18,13 +18,13 @@ use Rattle.forms.proofs.Editions.{lineWidth-is}
 use Rattle.forms.specs.Forms as forms
 use Rattle.forms.specs.declared.LineNumber.{LineNumber}
 use Rattle.calculus.specs.Rules as rules
-use Rattle.fields.specs.declared.Answer.{Answer}
-use Rattle.fields.specs.Answers.{refused, accepted, _>>=_, _>>_, need, found}
+use Rattle.answers.specs.declared.Answer.{Answer}
+use Rattle.answers.specs.Answers.{refused, accepted, _>>=_, _>>_, need, found}
+use Rattle.number_bytes.specs.Numbers.{unsigned, signed}
+use Rattle.number_bytes.specs.Ranges.{Held}
 use Rattle.fields.specs.declared.FileKind.{FileKind}
 use Rattle.fields.specs.Fields.{Field}
 use Rattle.fields.specs.Header.{known, headerTag}
-use Rattle.fields.specs.Numbers.{unsigned, signed}
-use Rattle.fields.specs.Ranges.{Held}
 use Rattle.proof.specs.Entries.{EntryTag, combineTag, reduceTag, scaleTag, strengthenTag, numberTag, strideTag, roundTag, splitTag, claimTag, sizeOf, entryFrom, lineNumber, multiplier, entryTagged, inPlace, entry}
 use Rattle.lines.proofs.Parts.{part-part}
 use Rattle.entries.specs.Entries.{Multiplies, entryOf, Ranged, Filled, Shaped, claimed, there, Entered}

@@ -11,9 +11,9 @@ use Rattle.integers.specs.Magnitude.{Within}
 use Rattle.forms.specs.Edition.{edition, edition1, multiplierRange}
 use Rattle.forms.specs.Forms.{Line}
 use Rattle.calculus.specs.Rules as rules
-use Rattle.fields.specs.Answers.{Result, refused, accepted, _>>_, need}
-use Rattle.fields.specs.Numbers.{formFrom, formWidth}
-use Rattle.fields.specs.declared.Answer.{Answer}
+use Rattle.answers.specs.Answers.{Result, refused, accepted, _>>_, need}
+use Rattle.answers.specs.declared.Answer.{Answer}
+use Rattle.number_bytes.specs.Numbers.{formFrom, formWidth}
 use Rattle.proof.specs.Entries.{EntryTag, sizeOf, entryFrom, entry}
 use Rattle.entries.specs.declared.Entry.{Entry}
 use Rattle.entries.specs.declared.Entry.the-variants.{Combine, Reduce, Scale, Strengthen, CloseNumber, CloseStride, Round, Split, Claim, Refused}

@@ -3,7 +3,7 @@ ghost use mathlib.Core.Path.{_≡_};
 ghost use Prim.Native.Nat.{_+_, _≤_};
 ghost use lib.ListN.{length, take, drop};
 ghost use Rattle.forms.specs.Edition.{edition, edition1};
-ghost use Rattle.fields.specs.Numbers.{unsigned};
+ghost use Rattle.number_bytes.specs.Numbers.{unsigned};
 ghost use Rattle.proof.specs.Entries.{combineTag, reduceTag, scaleTag, strengthenTag, numberTag, strideTag, roundTag, splitTag};
 ghost use Rattle.entries.specs.Entries.{Multiplies, Shaped, claimed, Entered};
 use forms::LineNumber;
@@ -64,10 +64,10 @@ fn line_at(p: &[u8], at: usize, e: u8) -> LineNumber
     ensures { λ r. ⌜ r .0 ≡ unsigned (take (edition e .lineWidth) (drop at (now (p .entry)))) ⌝ }
 {
     if e == 1 {
-        let n = fields::numbers::unsigned_at(p, at, 1);
+        let n = number_bytes::numbers::unsigned_at(p, at, 1);
         return LineNumber(n as u16);
     }
-    let n = fields::numbers::unsigned_at(p, at, 2);
+    let n = number_bytes::numbers::unsigned_at(p, at, 2);
     LineNumber(n as u16)
 }
 
@@ -76,7 +76,7 @@ fn multiplier_at(p: &[u8], at: usize) -> i64
     requires { ⌜ at + edition1 .multiplierWidth ≤ length (now p) ⌝ }
     ensures { λ r. ⌜ Multiplies (unsigned (take (edition1 .multiplierWidth) (drop at (now (p .entry))))) r ⌝ }
 {
-    let n = fields::numbers::unsigned_at(p, at, MULTIPLIER_BYTES);
+    let n = number_bytes::numbers::unsigned_at(p, at, MULTIPLIER_BYTES);
     n as i64
 }
 
@@ -104,7 +104,7 @@ fn reduce_at(p: &[u8], start: usize, len: usize, e: u8) -> Entry
     if len == 2 * width + MULTIPLIER_BYTES {
         let s = line_at(p, start, e);
         let t = line_at(p, start + width, e);
-        let alpha = fields::words::signed_at(p, start + 2 * width, MULTIPLIER_BYTES);
+        let alpha = number_bytes::words::signed_at(p, start + 2 * width, MULTIPLIER_BYTES);
         return Entry::Reduce { s, t, alpha };
     }
     Entry::Refused { number: 6 }
@@ -165,7 +165,7 @@ fn rounding_at(p: &[u8], at: usize) -> u16
     requires { ⌜ at + edition1 .multiplierWidth ≤ length (now p) ⌝ }
     ensures { λ r. ⌜ r ≡ unsigned (take (edition1 .multiplierWidth) (drop at (now (p .entry)))) ⌝ }
 {
-    let n = fields::numbers::unsigned_at(p, at, MULTIPLIER_BYTES);
+    let n = number_bytes::numbers::unsigned_at(p, at, MULTIPLIER_BYTES);
     n as u16
 }
 

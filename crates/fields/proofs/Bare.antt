@@ -9,9 +9,9 @@ use native.Mathlib.Omega.{arith}
 use lib.Dec.{T, leb}
 use lib.ListN.{length, length-append}
 use borrow.Author.Tests.{le-leb}
-use Rattle.fields.specs.declared.Answer.{Answer}
+use Rattle.answers.specs.declared.Answer.{Answer}
+use Rattle.answers.specs.Answers.{answer, Result, refused, accepted, _>>=_, _>>_, need, found, Written, written}
 use Rattle.fields.specs.declared.FileKind.{FileKind}
-use Rattle.fields.specs.Answers.{answer, Result, refused, accepted, _>>=_, _>>_, need, found, Written, written}
 use Rattle.fields.specs.Fields.{Field, Front, whole, broken, nothing, front, Fields, ends, cut, _▸_, note, unlessNote, fieldsFrom, fields, Noted, same, noted, passed, Kept}
 use Rattle.fields.specs.Header.{Header, headerField, editionField, constantsField, header, finished}
 use Rattle.fields.proofs.Notes.{note-tags}

@@ -8,9 +8,9 @@ use native.Mathlib.Omega.{arith}
 use lib.Dec.{leb}
 use lib.ListN.{length, take, drop}
 use Rattle.forms.specs.Forms.{All, nil, cons}
-use Rattle.fields.specs.Numbers.{Bytes, unsigned}
+use Rattle.number_bytes.specs.Numbers.{Bytes, unsigned}
+use Rattle.number_bytes.proofs.Signed.{all-take, all-drop}
 use Rattle.fields.specs.Fields.{Field, Front, whole, broken, nothing, front, Fields, ends, cut, _▸_, note, unlessNote, fieldsFrom, fields, Item, item, items}
-use Rattle.fields.proofs.Signed.{all-take, all-drop}
 
 abbrev FrontBytes : Front → Type 0
 FrontBytes (whole t c after) = Bytes c × Bytes after

@@ -3,14 +3,14 @@ use mathlib.Core.Path.{_≡_}
 use mathlib.Core.Bool.{true, false}
 use mathlib.Core.List.{List}
 use Prim.Native.Nat.{ℕ}
+use Rattle.answers.specs.Answers.{_>>_, need}
 use Rattle.fields.specs.declared.FileKind.{FileKind}
 use Rattle.fields.specs.declared.Next.{Next}
-use Rattle.fields.specs.Answers.{_>>_, need}
 use Rattle.fields.specs.Header.{known, finished}
 use Rattle.fields.specs.Places.{fieldsAt, nextOf}
-use Rattle.fields.proofs.Places.{Starts, next-cut, next-ends}
 use Rattle.fields.specs.Ending.{IsEnding}
 use Rattle.fields.specs.declared.ending.Ending.{Ending}
+use Rattle.fields.proofs.Places.{Starts, next-cut, next-ends}
 
 module _ {kind : FileKind} {s : List ℕ} {at : ℕ} {r : Next} (e : r ≡ nextOf (fieldsAt s at)) where
   pub ending-none : {a : ℕ} → r ≡ Next.Ends a → IsEnding kind s at Ending.Ended

@@ -10,9 +10,9 @@ use lib.ListN.{length, take, drop, length-append, length-drop}
 use lib.Seq.{take-at, drop-at}
 use borrow.Author.Tests.{le-leb}
 use Rattle.forms.specs.Forms.{All, nil, cons}
-use Rattle.fields.specs.Numbers.{unsigned, unsignedBytes}
+use Rattle.number_bytes.specs.Numbers.{unsigned, unsignedBytes}
+use Rattle.number_bytes.proofs.Signed.{unsigned-unsignedBytes}
 use Rattle.fields.specs.Fields.{Field, Front, whole, broken, nothing, front, Fields, ends, cut, note, unlessNote, fieldsFrom, fields, fieldBytes, Item, item, items, Framed, fileOf, unlessNoteItem, withoutNotes}
-use Rattle.fields.proofs.Signed.{unsigned-unsignedBytes}
 
 -- ---- what a list of bytes begins with
 -- What follows three header bytes, where the length stated is n.

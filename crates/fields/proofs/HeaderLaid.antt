@@ -9,12 +9,12 @@ use lib.Dec.{T, leb, eqb, leb→le, le→leb, eqb→eq, eqb-refl}
 use lib.ListN.{length, getD}
 use mir.Facts.{and-yes, yes-and}
 use Rattle.forms.specs.Edition.{edition1}
+use Rattle.answers.specs.Answers.{Result, accepted}
+use Rattle.answers.proofs.Results.{Gives, gives-refused, gives-accepted, bind, test, binds, needs}
 use Rattle.fields.specs.declared.FileKind.{FileKind}
 use Rattle.fields.specs.declared.FileKind.the-variants.{Bundle, Proof, Formula}
-use Rattle.fields.specs.Answers.{Result, accepted}
 use Rattle.fields.specs.Fields.{Field, Fields, ends, cut, _▸_, Item, item, items}
 use Rattle.fields.specs.Header.{headerTag, known, Header, agrees, headerField, editionField, constantsField, header, finished}
-use Rattle.fields.proofs.Results.{Gives, gives-refused, gives-accepted, bind, test, binds, needs}
 
 or-left : (a b : Bool) → T a → T (a || b)
 or-left true b t = tt

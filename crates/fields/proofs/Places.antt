@@ -8,7 +8,7 @@ use lib.Dec.{leb}
 use lib.ListN.{length, getD, take, drop, length-drop, drop-of-length-le}
 use lib.Seq.{drop-cons, drop-drop, length-take-le}
 use borrow.Author.Tests.{le-leb, lt-leb, leb-true, leb-false}
-use Rattle.fields.specs.Numbers.{unsigned}
+use Rattle.number_bytes.specs.Numbers.{unsigned}
 use Rattle.fields.specs.Fields.{Field, Front, whole, broken, nothing, front, Fields, ends, cut, _▸_, note, unlessNote, fieldsFrom, fields}
 use Rattle.fields.specs.Places.{foundIn, foundAt, fieldsAt, nextOf}
 use Rattle.fields.specs.declared.Found.{Found}

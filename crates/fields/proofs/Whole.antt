@@ -10,9 +10,9 @@ use lib.ListN.{length, take, drop, take-append-drop}
 use lib.Seq.{length-take-le}
 use borrow.Author.Tests.{leb-true}
 use Rattle.forms.specs.Forms.{All, nil, cons}
-use Rattle.fields.specs.Numbers.{Bytes, unsigned, unsignedBytes}
+use Rattle.number_bytes.specs.Numbers.{Bytes, unsigned, unsignedBytes}
+use Rattle.number_bytes.proofs.Signed.{all-take, all-drop, unsigned-below, unsignedBytes-unsigned}
 use Rattle.fields.specs.Fields.{Field, Front, whole, broken, nothing, front, Fields, note, unlessNote, fieldsFrom, fields, fieldBytes, Item, item, items, Framed, fileOf}
-use Rattle.fields.proofs.Signed.{all-take, all-drop, unsigned-below, unsignedBytes-unsigned}
 use Rattle.fields.proofs.Framing.{front-shorter, from-broken, from-whole}
 use Rattle.fields.proofs.Contents.{ItemBytes}
 

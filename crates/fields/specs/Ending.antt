@@ -2,8 +2,8 @@
 use mathlib.Core.Path.{_≡_}
 use mathlib.Core.List.{List}
 use Prim.Native.Nat.{ℕ}
+use Rattle.answers.specs.Answers.{answer, Result, refused, accepted}
 use Rattle.fields.specs.declared.FileKind.{FileKind}
-use Rattle.fields.specs.Answers.{answer, Result, refused, accepted}
 use Rattle.fields.specs.Header.{finished}
 use Rattle.fields.specs.Places.{fieldsAt}
 use Rattle.fields.specs.declared.ending.Ending.{Ending}

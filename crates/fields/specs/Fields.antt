@@ -7,7 +7,7 @@ use mathlib.Core.List.{List, [], _∷_, _++_}
 use Prim.Native.Nat.{ℕ, zero, suc, _+_, _<_, _≤_}
 use lib.Dec.{leb}
 use lib.ListN.{length, take, drop}
-use Rattle.fields.specs.Numbers.{unsigned, unsignedBytes}
+use Rattle.number_bytes.specs.Numbers.{unsigned, unsignedBytes}
 
 -- Every file is fields: one-byte tag, two-byte length, contents. `at` is the byte at which the field starts.
 pub record Field : Type 0 where

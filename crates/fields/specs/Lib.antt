@@ -1,7 +1,4 @@
--- Bytes to fields and numbers, and the answers of the operations.
-pub mod Answers
-pub mod Numbers
-pub mod Ranges
+-- Fields, headers and endings of a file.
 pub mod Fields
 pub mod Header
 pub mod Places

@@ -4,7 +4,7 @@ use mathlib.Core.Option.{Option, none, some}
 use mathlib.Core.List.{List}
 use Prim.Native.Nat.{ℕ, zero, suc, _+_}
 use lib.ListN.{length, drop}
-use Rattle.fields.specs.Answers.{answer, Result, refused, accepted}
+use Rattle.answers.specs.Answers.{answer, Result, refused, accepted}
 use Rattle.fields.specs.Fields.{Field, Front, whole, broken, nothing, front, Fields, ends, cut, _▸_, fieldsFrom, fields}
 use Rattle.fields.specs.Header.{Header, headerField, editionField, constantsField, header}
 use Rattle.fields.specs.declared.FileKind.{FileKind}

@@ -1,39 +1,9 @@
-// Fields of a file, numbers of any width, and the answer that every operation gives.
-use forms::RowNumber;
-ghost use mathlib.Core.Path.{_≡_};
-ghost use Rattle.fields.specs.Places.{foundAt, fieldsAt, nextOf};
-
-pub mod answers;
+// The fields of a file, its header, and what may follow its last field.
 pub mod ending;
 pub mod header;
-pub mod numbers;
-pub mod words;
 
-// An answer: a refusal's number, the file and the place at fault, all three 0 for accepted. Amid a proof it tells also the row at
-// fault, the row of the innermost open branching step, and its branch; each is 65,535 where there is none.
-#[repr(C)]
-pub struct Answer {
-    pub number: u8,
-    pub file: u8,
-    pub place: usize,
-    pub row: RowNumber,
-    pub step: RowNumber,
-    pub branch: u16,
-}
-
-// Where in the tree a field of the proof stands: the innermost open branching step, by its row, and its branch; branches count
-// from 0 in file order. The root is no branch: both are 65,535.
-pub struct Position {
-    pub step: RowNumber,
-    pub branch: u16,
-}
-
-// What an operation that writes bytes answers: how many it wrote, 0 where it is refused.
-#[repr(C)]
-pub struct WriteResult {
-    pub answer: Answer,
-    pub count: usize,
-}
+ghost use mathlib.Core.Path.{_≡_};
+ghost use Rattle.fields.specs.Places.{foundAt, fieldsAt, nextOf};
 
 // The kinds of file, each with tags of its own.
 pub enum FileKind {

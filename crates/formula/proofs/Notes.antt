@@ -6,8 +6,8 @@ use Prim.Native.Nat.{ℕ, zero, suc}
 use lib.IntN.{ℤ}
 use Rattle.forms.specs.Edition.{Edition, edition1}
 use Rattle.forms.specs.Forms.{Formula}
+use Rattle.answers.specs.Answers.{fileProof, Result, refused, accepted}
 use Rattle.fields.specs.declared.FileKind.{FileKind}
-use Rattle.fields.specs.Answers.{fileProof, Result, refused, accepted}
 use Rattle.fields.specs.Fields.{Field, Fields, ends, cut, _▸_, Noted, Kept}
 use Rattle.fields.proofs.Bare.{bareField, bare, bareAnswer, bareOf, Erased, Same, kept-length, computed, need-bare, found-bare, bind-bare, then-bare, then-same, noted-same, header-bare, finished-bare}
 use Rattle.formula.specs.Formula.{FormulaTag, pair, atom, stride, Reader, formulaOf, formulaField, twoParts, formulaWithin, readFormula}

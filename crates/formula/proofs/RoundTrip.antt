@@ -12,18 +12,18 @@ use lib.IntN.{ℤ, pos, natAbs}
 use borrow.Author.Tests.{le-leb, eq-eqb, ne-eqb}
 use Rattle.forms.specs.Edition.{edition1}
 use Rattle.forms.specs.Forms.{Kind, ≤0, =0, Form, Formula, literal, _divides_, _and_, _or_, height}
+use Rattle.answers.specs.declared.Answer.{Answer}
+use Rattle.answers.specs.Answers.{answer, fileProof, Result, refused, accepted, _>>=_, _>>_, need}
+use Rattle.answers.proofs.Results.{binds, passes, found-some, pass, fail}
+use Rattle.number_bytes.specs.Numbers.{signed, signedBytes, formFrom, formBytes, formWidth}
+use Rattle.number_bytes.specs.Ranges.{InWidth, FormInWidth}
+use Rattle.number_bytes.proofs.Signed.{length-signedBytes, signed-signedBytes, length-formBytes, formFrom-written}
 use Rattle.fields.specs.declared.FileKind.{FileKind}
-use Rattle.fields.specs.declared.Answer.{Answer}
-use Rattle.fields.specs.Answers.{answer, fileProof, Result, refused, accepted, _>>=_, _>>_, need}
-use Rattle.fields.specs.Numbers.{signed, signedBytes, formFrom, formBytes, formWidth}
 use Rattle.fields.specs.Fields.{Field, Fields, ends, _▸_, note, fields, fieldsFrom, fieldBytes}
 use Rattle.fields.specs.Header.{Header, agrees, known, headerTag, header, headerField, editionField, constantsField, finished, headerBytes}
-use Rattle.fields.specs.Ranges.{InWidth, FormInWidth}
-use Rattle.fields.proofs.Signed.{length-signedBytes, signed-signedBytes, length-formBytes, formFrom-written}
-use Rattle.formula.specs.Formula.{encode, formulaFile, Encodable, Connective, disjunction, conjunction, FormulaTag, pair, atom, stride, formulaTagged, compound, formulaSize, formulaOf, formulaField, twoParts, formulaWithin, readFormula}
 use Rattle.fields.proofs.Framing.{fuel-irrelevant, length-fieldBytes}
 use Rattle.fields.proofs.Headers.{length-headerBytes}
-use Rattle.fields.proofs.Results.{binds, passes, found-some, pass, fail}
+use Rattle.formula.specs.Formula.{encode, formulaFile, Encodable, Connective, disjunction, conjunction, FormulaTag, pair, atom, stride, formulaTagged, compound, formulaSize, formulaOf, formulaField, twoParts, formulaWithin, readFormula}
 use Rattle.formula.proofs.Fronts.{fields-field, fields-end}
 
 -- The fuel for the fields of a formula, and then so much more.

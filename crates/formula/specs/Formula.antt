@@ -9,10 +9,10 @@ use lib.IntN.{pos, natAbs}
 use lib.Signed.{leZ}
 use Rattle.forms.specs.Edition.{Edition, edition1}
 use Rattle.forms.specs.Forms.{Kind, ≤0, =0, Formula, literal, _divides_, _and_, _or_}
+use Rattle.answers.specs.Answers.{answer, fileProof, Result, refused, accepted, _>>=_, _>>_, need, found}
+use Rattle.number_bytes.specs.Numbers.{signed, signedBytes, formFrom, formBytes, formWidth}
+use Rattle.number_bytes.specs.Ranges.{InWidth, FormInWidth}
 use Rattle.fields.specs.declared.FileKind.{FileKind}
-use Rattle.fields.specs.Answers.{answer, fileProof, Result, refused, accepted, _>>=_, _>>_, need, found}
-use Rattle.fields.specs.Numbers.{signed, signedBytes, formFrom, formBytes, formWidth}
-use Rattle.fields.specs.Ranges.{InWidth, FormInWidth}
 use Rattle.fields.specs.Fields.{Field, Fields, ends, cut, _▸_, fieldBytes}
 use Rattle.fields.specs.Header.{known, header, finished, headerBytes}
 

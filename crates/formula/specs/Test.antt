@@ -10,8 +10,8 @@ use Rattle.integers.specs.Linear.{eqZ}
 use Rattle.integers.specs.Divides.{divb}
 use Rattle.forms.specs.Edition.{edition1}
 use Rattle.forms.specs.Forms.{Kind, ≤0, =0, value, Assignment, Formula, literal, _divides_, _and_, _or_}
-use Rattle.fields.specs.declared.Answer.{Answer}
-use Rattle.fields.specs.Answers.{answer, acceptance, fileProof, fileLent, Result, refused, accepted, _>>=_, _>>_, need, each}
+use Rattle.answers.specs.declared.Answer.{Answer}
+use Rattle.answers.specs.Answers.{answer, acceptance, fileProof, fileLent, Result, refused, accepted, _>>=_, _>>_, need, each}
 use Rattle.fields.specs.Fields.{fields}
 use Rattle.formula.specs.Formula.{readFormula}
 

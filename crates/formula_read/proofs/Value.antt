@@ -12,8 +12,8 @@ use mir.Val.{SFits}
 use Rattle.integers.specs.Magnitude.{Within}
 use Rattle.integers.proofs.Magnitude.{within-add, within-mul, within-le, within-fits}
 use Rattle.forms.specs.Forms.{sum, value}
-use Rattle.fields.specs.Numbers.{signed, signeds, formFrom, formWidth}
-use Rattle.fields.specs.Ranges.{Held}
+use Rattle.number_bytes.specs.Numbers.{signed, signeds, formFrom, formWidth}
+use Rattle.number_bytes.specs.Ranges.{Held}
 use Rattle.formula.specs.Test.{registers}
 use Rattle.formula_read.specs.Registers.{AllWithin}
 use Rattle.formula_read.specs.FormAt.{formAt}

@@ -14,15 +14,15 @@ use borrow.Author.Tests.{eqb-true}
 use Rattle.integers.specs.Divides.{divb}
 use Rattle.forms.specs.Edition.{edition1}
 use Rattle.forms.specs.Forms.{≤0, =0, value, Formula, literal, _divides_}
+use Rattle.answers.specs.Answers.{answer, fileProof, Result, accepted, _>>=_, _>>_, need, found}
+use Rattle.answers.proofs.Results.{binds, bind-refused}
+use Rattle.number_bytes.specs.Numbers.{signed, formWidth}
 use Rattle.fields.specs.declared.FileKind.{FileKind}
 use Rattle.fields.specs.declared.Next.{Next}
-use Rattle.fields.specs.Answers.{answer, fileProof, Result, accepted, _>>=_, _>>_, need, found}
-use Rattle.fields.specs.Numbers.{signed, formWidth}
 use Rattle.fields.specs.Fields.{Field, Fields, _▸_}
 use Rattle.fields.specs.Header.{known}
 use Rattle.fields.specs.Places.{fieldsAt, nextOf}
 use Rattle.fields.proofs.Places.{Starts, starts-size, next-cut, next-ends}
-use Rattle.fields.proofs.Results.{binds, bind-refused}
 use Rattle.formula.specs.Formula.{disjunction, conjunction, FormulaTag, pair, atom, stride, formulaTagged, compound, formulaSize, formulaOf, formulaField, twoParts, formulaWithin}
 use Rattle.formula.specs.Test.{holds, judge, registers}
 use Rattle.formula_read.specs.FormAt.{formAt, Whole}

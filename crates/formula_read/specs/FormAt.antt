@@ -6,7 +6,7 @@ use lib.IntN.{ℤ}
 use Rattle.integers.specs.Magnitude.{Within}
 use Rattle.forms.specs.Edition.{edition1}
 use Rattle.forms.specs.Forms.{Form}
-use Rattle.fields.specs.Numbers.{formFrom, formWidth}
+use Rattle.number_bytes.specs.Numbers.{formFrom, formWidth}
 use Rattle.formula_read.specs.Registers.{AllWithin}
 
 unfoldable pub formAt : List ℕ → (at K : ℕ) → Form

@@ -8,7 +8,7 @@ use lib.Signed.{leZ}
 use Rattle.integers.specs.Divides.{divb}
 use Rattle.forms.specs.Edition.{edition1}
 use Rattle.forms.specs.Forms.{Formula}
-use Rattle.fields.specs.Answers.{answer, fileProof, Result, refused, accepted}
+use Rattle.answers.specs.Answers.{answer, fileProof, Result, refused, accepted}
 use Rattle.fields.specs.Fields.{Fields}
 use Rattle.fields.specs.Places.{fieldsAt}
 use Rattle.formula.specs.Formula.{formulaWithin, twoParts}

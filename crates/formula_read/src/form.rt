@@ -1,15 +1,15 @@
 // The value of a form at the register values.
-use fields::words::signed_at;
 use forms::TERM_BYTES;
 use integers::number;
+use number_bytes::words::signed_at;
 ghost use mathlib.Core.Path.{_≡_};
 ghost use Prim.Native.Nat.{_+_, _*_, _≤_};
 ghost use lib.ListN.{length, getD, take, drop};
 ghost use lib.IntN.{pos, _+ℤ_, _*ℤ_};
 ghost use Rattle.forms.specs.Edition.{edition1};
 ghost use Rattle.forms.specs.Forms.{value};
-ghost use Rattle.fields.specs.Numbers.{signed};
-ghost use Rattle.fields.specs.Ranges.{Held};
+ghost use Rattle.number_bytes.specs.Numbers.{signed};
+ghost use Rattle.number_bytes.specs.Ranges.{Held};
 ghost use Rattle.formula.specs.Test.{registers};
 ghost use Rattle.formula_read.specs.Registers.{Registers};
 ghost use Rattle.formula_read.specs.FormAt.{formAt, Whole, Summand};

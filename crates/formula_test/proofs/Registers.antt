@@ -12,7 +12,7 @@ use lib.Seq.{drop-cons}
 use borrow.Author.Tests.{leb-true, ltb-true, ltb-false}
 use borrow.Author.Count.{below-more}
 use Rattle.integers.specs.Magnitude.{Within}
-use Rattle.fields.specs.Answers.{_>>_, need, each}
+use Rattle.answers.specs.Answers.{_>>_, need, each}
 use Rattle.formula_test.specs.Values.{ranged, FirstOutside}
 
 -- The values before i are in range, so that the first one out of range is the first from i on.

@@ -10,17 +10,17 @@ use lib.IntN.{ℤ}
 use lib.ListN.{length}
 use borrow.Author.Tests.{le-leb, lt-leb}
 use Rattle.forms.specs.Forms.{Formula}
+use Rattle.answers.specs.Answers.{answer, fileProof, fileLent, Result, refused, accepted, _>>_, need}
+use Rattle.answers.proofs.Results.{binds, passes, pass, fail, bind-refused, then-refused}
 use Rattle.fields.specs.declared.FileKind.{FileKind}
 use Rattle.fields.specs.declared.ending.Ending.{Ending}
 use Rattle.fields.specs.declared.header.Headed.{Headed}
-use Rattle.fields.specs.Answers.{answer, fileProof, fileLent, Result, refused, accepted, _>>_, need}
 use Rattle.fields.specs.Fields.{fields}
 use Rattle.fields.specs.Header.{agrees, header, finished}
 use Rattle.fields.specs.Places.{fieldsAt, headedOf, IsHeader}
 use Rattle.fields.specs.Ending.{IsEnding}
 use Rattle.fields.proofs.Headers.{given-some}
 use Rattle.fields.proofs.HeaderLaid.{header-gives}
-use Rattle.fields.proofs.Results.{binds, passes, pass, fail, bind-refused, then-refused}
 use Rattle.formula.specs.Formula.{readFormula}
 use Rattle.formula.specs.Test.{judge, registers, judged, tested, testFormula}
 use Rattle.formula_read.specs.Registers.{Registers}

@@ -3,8 +3,8 @@ use mathlib.Core.Path.{_≡_}
 use mathlib.Core.Bool.{Bool, false}
 use mathlib.Core.List.{List}
 use Prim.Native.Nat.{ℕ}
+use Rattle.answers.specs.Answers.{answer, acceptance, fileProof, Result, refused, accepted}
 use Rattle.fields.specs.declared.FileKind.{FileKind}
-use Rattle.fields.specs.Answers.{answer, acceptance, fileProof, Result, refused, accepted}
 use Rattle.fields.specs.Header.{finished}
 use Rattle.fields.specs.Places.{fieldsAt}
 use Rattle.formula_test.specs.declared.Tested.{Tested}

@@ -1,10 +1,10 @@
 // Testing a formula's file at register values.
 mod values;
 
-use fields::Answer;
+use answers::Answer;
+use answers::acceptance;
+use answers::refusal;
 use fields::FileKind;
-use fields::answers::acceptance;
-use fields::answers::refusal;
 use fields::ending::Ending;
 use fields::ending::ending_at;
 use fields::header::Headed;

@@ -16,11 +16,12 @@ use Rattle.forms.specs.Forms.{Kind, ≤0, =0, Form, literal, _divides_}
 use Rattle.forms.specs.Reduced.{reduced}
 use Rattle.forms.specs.Flat.{kindOf, formIn}
 use Rattle.forms.proofs.Flat.{kind-zero, kind-one, part-form}
+use Rattle.number_bytes.specs.Numbers.{unsignedBytes, signedBytes, signedsBytes, flat, formBytes}
+use Rattle.number_bytes.specs.Ranges.{Held}
+use Rattle.number_bytes.proofs.Stores.{sets-append}
+use Rattle.number_bytes.proofs.Signed.{length-formBytes, length-signedBytes}
 use Rattle.fields.specs.Fields.{fieldBytes}
-use Rattle.fields.specs.Numbers.{unsignedBytes, signedBytes, signedsBytes, flat, formBytes}
-use Rattle.fields.specs.Ranges.{Held}
-use Rattle.fields.proofs.Stores.{sets-append, put-field}
-use Rattle.fields.proofs.Signed.{length-formBytes, length-signedBytes}
+use Rattle.fields.proofs.Stores.{put-field}
 use Rattle.fields.proofs.Framing.{length-fieldBytes as field-size}
 use Rattle.formula.specs.Formula.{encode}
 use Rattle.formula_write.specs.Writing.{Numbered, Divisor, Heads, Puts}

@@ -9,8 +9,8 @@ use lib.Signed.{_≤ℤ_}
 use Rattle.integers.specs.Magnitude.{Within}
 use Rattle.forms.specs.Edition.{edition1}
 use Rattle.forms.specs.Forms.{Formula}
+use Rattle.number_bytes.specs.Ranges.{Held}
 use Rattle.fields.specs.Fields.{fieldBytes}
-use Rattle.fields.specs.Ranges.{Held}
 use Rattle.formula.specs.Formula.{encode}
 
 -- No place in the scratch is above this, so no sum of places overflows: a byte of a proof adds at most 39 bytes to a formula.

@@ -8,12 +8,12 @@ ghost use Rattle.forms.specs.Edition.{edition1};
 ghost use Rattle.forms.specs.Forms.{literal, _divides_};
 ghost use Rattle.forms.specs.Reduced.{reduced};
 ghost use Rattle.forms.specs.Flat.{kindOf, formIn};
-ghost use Rattle.fields.specs.Numbers.{formBytes};
+ghost use Rattle.number_bytes.specs.Numbers.{formBytes};
 ghost use Rattle.formula_write.specs.Writing.{scratchLimit, Numbered, Divisor, Heads, Puts};
-use fields::numbers::put_head;
-use fields::words::put_signed;
+use fields::header::put_head;
 use integers::number;
 use integers::remainder;
+use number_bytes::words::put_signed;
 
 // The numbers of the form at a place, of four bytes each.
 fn put_form(numbers: &[i32], at: usize, k: usize, scratch: &mut [u8], o: usize)

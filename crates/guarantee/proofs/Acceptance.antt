@@ -15,14 +15,14 @@ use lib.Signed.{mag}
 use Rattle.forms.specs.Edition.{edition, edition1, newestEdition}
 use Rattle.forms.specs.Forms.{All, nil, cons, Constraint, Formula, small}
 use Rattle.forms.proofs.Editions.{bundleBytes-grows}
-use Rattle.fields.specs.declared.Answer.{Answer}
-use Rattle.fields.specs.declared.WriteResult.{WriteResult}
-use Rattle.fields.specs.Answers.{answer, acceptance, fileA, fileB, fileLent, Result, refused, accepted, _>>=_, _>>_, fit, Written, written}
-use Rattle.fields.specs.Numbers.{Bytes, unsignedBytes}
+use Rattle.answers.specs.declared.Answer.{Answer}
+use Rattle.answers.specs.declared.WriteResult.{WriteResult}
+use Rattle.answers.specs.Answers.{answer, acceptance, fileA, fileB, fileLent, Result, refused, accepted, _>>=_, _>>_, fit, Written, written}
+use Rattle.answers.proofs.Results.{Gives, not-0, weaken, bind, seq, finds, binds, passes, found-some}
+use Rattle.number_bytes.specs.Numbers.{Bytes, unsignedBytes}
+use Rattle.number_bytes.proofs.Signed.{all-weaken}
 use Rattle.fields.specs.Fields.{Field, Fields, ends, cut, _▸_, fields, nth, Item, item, items, fieldBytes, fileOf}
 use Rattle.fields.specs.Header.{agrees}
-use Rattle.fields.proofs.Results.{Gives, not-0, weaken, bind, seq, finds, binds, passes, found-some}
-use Rattle.fields.proofs.Signed.{all-weaken}
 use Rattle.fields.proofs.Contents.{ItemBytes}
 use Rattle.bundle.specs.Bundle.{Bundle}
 use Rattle.bundle.specs.Layout.{Each, nil as nil-each, cons as cons-each, BundleFile}

@@ -13,14 +13,14 @@ use mir.Facts.{yes-and}
 use Rattle.forms.specs.Edition.{newestEdition}
 use Rattle.forms.specs.Forms.{All}
 use Rattle.forms.proofs.Editions.{bundleBytes-most, bundleBytes-by}
-use Rattle.fields.specs.declared.Answer.{Answer}
+use Rattle.answers.specs.declared.Answer.{Answer}
+use Rattle.answers.specs.declared.WriteResult.{WriteResult}
+use Rattle.answers.specs.Answers.{answer, fileA, fileB, fileProof, fileLent, Result, refused, accepted, _>>_, Written, writtenOf, written}
+use Rattle.answers.proofs.Results.{Gives, weaken, seq, binds, passes, needs, fail, bind-refused, each-accepted}
+use Rattle.number_bytes.proofs.Signed.{all-weaken}
 use Rattle.fields.specs.declared.FileKind.{FileKind}
-use Rattle.fields.specs.declared.WriteResult.{WriteResult}
-use Rattle.fields.specs.Answers.{answer, fileA, fileB, fileProof, fileLent, Result, refused, accepted, _>>_, Written, writtenOf, written}
 use Rattle.fields.specs.Fields.{_▸_, fields}
 use Rattle.fields.specs.Header.{headerTag, known, agrees, header}
-use Rattle.fields.proofs.Results.{Gives, weaken, seq, binds, passes, needs, fail, bind-refused, each-accepted}
-use Rattle.fields.proofs.Signed.{all-weaken}
 use Rattle.bundle.specs.Bundle.{Bundle, atMost, bundle, bundles}
 use Rattle.bundle.specs.Layout.{editionSaid, Says, limitSaid, bundleLimit}
 use Rattle.bundle.specs.Read.{BundleRead, unread, stored, readBundle}

@@ -10,9 +10,9 @@ use lib.ListN.{length, take, length-take}
 use lib.IntN.{ℤ, natAbs}
 use Rattle.forms.specs.Edition.{edition1}
 use Rattle.forms.specs.Forms.{All, nil, cons, Formula}
-use Rattle.fields.specs.Answers.{acceptance, accepted}
+use Rattle.answers.specs.Answers.{acceptance, accepted}
+use Rattle.answers.proofs.Results.{needs, passes, each-accepted}
 use Rattle.fields.specs.Fields.{fields}
-use Rattle.fields.proofs.Results.{needs, passes, each-accepted}
 use Rattle.formula.specs.Formula.{readFormula}
 use Rattle.formula.specs.Test.{judge, registers, tested, judged, testFormula}
 use Rattle.formula.proofs.Judge.{judge-true}

@@ -13,11 +13,11 @@ use lib.IntN.{ℤ}
 use Rattle.forms.specs.Edition.{Edition, edition, newestEdition}
 use Rattle.forms.specs.Forms.{Form, Side, A, B, Line}
 use Rattle.calculus.specs.Rules.{Row, Derive, Strengthen, CloseNumber, CloseStride, Round, Split, Entry, row, claim}
-use Rattle.fields.specs.declared.Answer.{Answer}
-use Rattle.fields.specs.declared.WriteResult.{WriteResult}
-use Rattle.fields.specs.declared.Position.{Position}
+use Rattle.answers.specs.declared.Answer.{Answer}
+use Rattle.answers.specs.declared.WriteResult.{WriteResult}
+use Rattle.answers.specs.declared.Position.{Position}
+use Rattle.answers.specs.Answers.{answer, refusalAt, fileA, fileB, fileProof, fileLent, Result, refused, accepted, _>>=_, _>>_, need, found, Written, fit, written}
 use Rattle.fields.specs.declared.FileKind.{FileKind}
-use Rattle.fields.specs.Answers.{answer, refusalAt, fileA, fileB, fileProof, fileLent, Result, refused, accepted, _>>=_, _>>_, need, found, Written, fit, written}
 use Rattle.fields.specs.Fields.{Fields, ends, cut, _▸_, fields}
 use Rattle.fields.specs.Header.{headerField, editionField, constantsField, header, finished}
 use Rattle.bundle.specs.Bundle.{Bundle, atMost, constraints, bundleHeader, bundle, bundles}

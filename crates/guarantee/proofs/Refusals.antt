@@ -11,11 +11,11 @@ use lib.ListN.{length}
 use lib.IntN.{ℤ}
 use Rattle.forms.specs.Edition.{Edition, edition1, newestEdition}
 use Rattle.forms.specs.Forms.{Formula}
-use Rattle.fields.specs.declared.Answer.{Answer}
+use Rattle.answers.specs.declared.Answer.{Answer}
+use Rattle.answers.specs.Answers.{acceptance, fileA, fileB, fileProof, Result, refused, accepted, _>>=_, Written, over, fit, written}
+use Rattle.answers.proofs.Results.{Gives, never, not-0, not-22, gives-refused, gives-accepted, weaken, bind, seq, test, finds, each-gives}
 use Rattle.fields.specs.declared.FileKind.{FileKind}
-use Rattle.fields.specs.Answers.{acceptance, fileA, fileB, fileProof, Result, refused, accepted, _>>=_, Written, over, fit, written}
 use Rattle.fields.specs.Fields.{Field, Fields, ends, cut, _▸_, fields}
-use Rattle.fields.proofs.Results.{Gives, never, not-0, not-22, gives-refused, gives-accepted, weaken, bind, seq, test, finds, each-gives}
 use Rattle.fields.proofs.HeaderLaid.{header-gives, finished-gives}
 use Rattle.bundle.specs.Bundle.{Bundle}
 use Rattle.bundle.specs.Read.{BundleRead, kindsOf, numbersOf, unread, store, stored, readBundle}

@@ -10,8 +10,8 @@ use Rattle.calculus.specs.Rules.{Entry, Room, Rounds, Closed, derive, strengthe
 use Rattle.calculus.specs.Tied.{Tied}
 use Rattle.calculus.proofs.Sizes.{closed-height}
 use Rattle.calculus.proofs.Tied.{tied-proves}
-use Rattle.fields.specs.declared.WriteResult.{WriteResult}
-use Rattle.fields.specs.Answers.{Written}
+use Rattle.answers.specs.declared.WriteResult.{WriteResult}
+use Rattle.answers.specs.Answers.{Written}
 use Rattle.proof.specs.Check.{check}
 use Rattle.proof.specs.Layout.{ProofFile, Yields}
 use Rattle.guarantee.specs.Rounding.{RoundingPromised}

@@ -10,13 +10,13 @@ use lib.Seq.{take-at}
 use Rattle.forms.specs.Edition.{Edition, edition1, newestEdition}
 use Rattle.forms.specs.Forms.{All, Form, Line, Constraint, Formula}
 use Rattle.calculus.specs.Rules.{Entry, Closed, derive, strengthen, round, splitEq, splitNeq, number, stride, Rounded, last, more, step, entries, entriesRounded}
-use Rattle.fields.specs.Answers.{fileA, Result, refused, accepted, _>>_, over, Written, writtenOf}
-use Rattle.fields.specs.Numbers.{Bytes}
+use Rattle.answers.specs.Answers.{fileA, Result, refused, accepted, _>>_, over, Written, writtenOf}
+use Rattle.answers.specs.declared.WriteResult.{WriteResult}
+use Rattle.number_bytes.specs.Numbers.{Bytes}
 use Rattle.fields.specs.Fields.{Item, Framed, fileOf, withoutNotes, fields}
 use Rattle.fields.proofs.Framing.{items-fileOf}
 use Rattle.fields.proofs.Whole.{whole-file}
 use Rattle.fields.proofs.Bare.{bareWritten}
-use Rattle.fields.specs.declared.WriteResult.{WriteResult}
 use Rattle.bundle.specs.Bundle.{bundle}
 use Rattle.bundle.specs.Layout.{StatesAll, BundleFile, bundleLimit}
 use Rattle.bundle.proofs.Bare.{limit-most, kept-higher}

@@ -1,7 +1,7 @@
 -- Each answer tells where in the tree it stands, or nothing. Assumes nothing.
 use mathlib.Core.Path.{sym, ap, subst}
 use Rattle.forms.specs.Edition.{newestEdition}
-use Rattle.fields.specs.Answers.{Written}
+use Rattle.answers.specs.Answers.{Written}
 use Rattle.bundle.specs.Read.{BundleRead}
 use Rattle.formula_test.specs.declared.Tested.{Tested}
 use Rattle.proof.specs.Tree.{Outside, AnswerStands}

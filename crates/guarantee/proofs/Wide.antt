@@ -15,15 +15,15 @@ use lib.Signed.{mag}
 use mir.Facts.{yes-and}
 use Rattle.forms.specs.Edition.{Edition, edition, newestEdition}
 use Rattle.forms.specs.Forms.{All, nil, cons, Form, Constraint, small, every}
-use Rattle.fields.specs.declared.Answer.{Answer}
+use Rattle.answers.specs.declared.Answer.{Answer}
+use Rattle.answers.specs.declared.WriteResult.{WriteResult}
+use Rattle.answers.specs.Answers.{answer, fileLent, Result, refused, accepted, each, Written, written}
+use Rattle.answers.proofs.Results.{binds, passes, needs, fail, found-some, bind-refused, then-refused, each-accepted}
+use Rattle.number_bytes.specs.Numbers.{flat, formWidth}
+use Rattle.number_bytes.proofs.Signed.{all-weaken}
 use Rattle.fields.specs.declared.FileKind.{FileKind}
-use Rattle.fields.specs.declared.WriteResult.{WriteResult}
-use Rattle.fields.specs.Answers.{answer, fileLent, Result, refused, accepted, each, Written, written}
-use Rattle.fields.specs.Numbers.{flat, formWidth}
 use Rattle.fields.specs.Fields.{Field, Fields, _▸_, fields, nth, Item, item}
 use Rattle.fields.specs.Header.{headerTag, known, agrees, headerField, constantsField}
-use Rattle.fields.proofs.Results.{binds, passes, needs, fail, found-some, bind-refused, then-refused, each-accepted}
-use Rattle.fields.proofs.Signed.{all-weaken}
 use Rattle.bundle.specs.Bundle.{formSmall, constraints, bundleHeader, bundle}
 use Rattle.bundle.specs.Layout.{Each, States, StatesAll}
 use Rattle.bundle.specs.Read.{numbersOf}

@@ -8,10 +8,10 @@ use lib.ListN.{length, take}
 use lib.Signed.{mag}
 use Rattle.forms.specs.Edition.{edition, edition1, newestEdition}
 use Rattle.forms.specs.Forms.{All, Constraint, Formula}
-use Rattle.fields.specs.declared.Answer.{Answer}
-use Rattle.fields.specs.declared.WriteResult.{WriteResult}
-use Rattle.fields.specs.Answers.{answer, acceptance, fileLent, over}
-use Rattle.fields.specs.Numbers.{Bytes}
+use Rattle.answers.specs.declared.Answer.{Answer}
+use Rattle.answers.specs.declared.WriteResult.{WriteResult}
+use Rattle.answers.specs.Answers.{answer, acceptance, fileLent, over}
+use Rattle.number_bytes.specs.Numbers.{Bytes}
 use Rattle.fields.specs.Fields.{Item, Framed, fileOf, withoutNotes}
 use Rattle.fields.specs.Header.{headerBytes}
 use Rattle.bundle.specs.Layout.{BundleFile}

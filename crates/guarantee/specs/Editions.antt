@@ -10,10 +10,10 @@ use lib.ListN.{length, getD}
 use lib.Signed.{mag}
 use Rattle.forms.specs.Edition.{edition, newestEdition}
 use Rattle.forms.specs.Forms.{All, Constraint}
-use Rattle.fields.specs.declared.Answer.{Answer}
-use Rattle.fields.specs.declared.WriteResult.{WriteResult}
-use Rattle.fields.specs.Answers.{answer, fileA, fileB, fileProof, fileLent, writtenOf}
-use Rattle.fields.specs.Numbers.{flat}
+use Rattle.answers.specs.declared.Answer.{Answer}
+use Rattle.answers.specs.declared.WriteResult.{WriteResult}
+use Rattle.answers.specs.Answers.{answer, fileA, fileB, fileProof, fileLent, writtenOf}
+use Rattle.number_bytes.specs.Numbers.{flat}
 use Rattle.fields.specs.Fields.{Field, Fields, _▸_, fields, nth, Item, item}
 use Rattle.bundle.specs.Layout.{StatesAll, BundleFile, Says, bundleLimit}
 use Rattle.bundle.specs.Read.{numbersOf}

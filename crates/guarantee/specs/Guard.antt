@@ -8,10 +8,10 @@ use lib.ListN.{length, take}
 use lib.IntN.{ℤ, natAbs}
 use Rattle.forms.specs.Edition.{edition1, newestEdition}
 use Rattle.forms.specs.Forms.{All, Meets, Formula, True}
-use Rattle.fields.specs.Answers.{acceptance}
-use Rattle.fields.specs.Numbers.{Bytes}
+use Rattle.answers.specs.Answers.{acceptance}
+use Rattle.answers.specs.declared.WriteResult.{WriteResult}
+use Rattle.number_bytes.specs.Numbers.{Bytes}
 use Rattle.fields.specs.Fields.{Item, Framed, fileOf}
-use Rattle.fields.specs.declared.WriteResult.{WriteResult}
 use Rattle.formula.specs.Test.{registers}
 use Rattle.formula_test.specs.declared.Tested.{Tested}
 use Rattle.formula_test.specs.Promises.{Tests}

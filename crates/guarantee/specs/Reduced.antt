@@ -9,7 +9,7 @@ use Rattle.forms.specs.Edition.{Edition, edition1, newestEdition}
 use Rattle.forms.specs.Forms.{Form, Line, Assignment, Formula, literal, _divides_, _and_, _or_, _plus_, within, True, height}
 use Rattle.forms.specs.Reduced.{reducing, Strides, Reduced}
 use Rattle.calculus.specs.Rules.{Closed, derive, strengthen, round, splitEq, splitNeq, number, stride, Rounded, last, more}
-use Rattle.fields.specs.declared.WriteResult.{WriteResult}
+use Rattle.answers.specs.declared.WriteResult.{WriteResult}
 use Rattle.formula.specs.Formula.{formulaFile, Encodable}
 use Rattle.formula_test.specs.declared.Tested.{Tested}
 use Rattle.formula_test.specs.Promises.{Tests}

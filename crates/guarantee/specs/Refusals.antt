@@ -8,9 +8,9 @@ use Prim.Native.Nat.{ℕ}
 use lib.IntN.{ℤ}
 use denote.Ref.{RefT}
 use Rattle.forms.specs.Edition.{newestEdition}
-use Rattle.fields.specs.declared.Answer.{Answer}
-use Rattle.fields.specs.declared.WriteResult.{WriteResult}
-use Rattle.fields.specs.Answers.{acceptance}
+use Rattle.answers.specs.declared.Answer.{Answer}
+use Rattle.answers.specs.declared.WriteResult.{WriteResult}
+use Rattle.answers.specs.Answers.{acceptance}
 use Rattle.bundle.specs.Show.{showPart}
 use Rattle.bundle_show.specs.Promises.{Shows, AnswersShow, partBytes}
 use Rattle.bundle_read.specs.declared.ReadResult.{ReadResult}

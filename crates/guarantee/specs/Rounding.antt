@@ -6,7 +6,7 @@ use Rattle.forms.specs.Edition.{edition, edition1, newestEdition}
 use Rattle.forms.specs.Forms.{Formula, height}
 use Rattle.calculus.specs.Rules.{Entry}
 use Rattle.calculus.specs.Tied.{Tied}
-use Rattle.fields.specs.declared.WriteResult.{WriteResult}
+use Rattle.answers.specs.declared.WriteResult.{WriteResult}
 use Rattle.proof.specs.Layout.{ProofFile, Yields}
 use Rattle.proof.specs.Promises.{Checks}
 

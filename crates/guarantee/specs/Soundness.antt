@@ -7,11 +7,11 @@ use lib.ListN.{length, take}
 use Rattle.forms.specs.Edition.{edition1, newestEdition}
 use Rattle.forms.specs.Forms.{All, Constraint, Formula}
 use Rattle.calculus.specs.Rules.{Interpolant}
-use Rattle.fields.specs.Answers.{accepted, over}
-use Rattle.fields.specs.Numbers.{Bytes}
+use Rattle.answers.specs.Answers.{accepted, over}
+use Rattle.answers.specs.declared.Answer.{Answer}
+use Rattle.answers.specs.declared.WriteResult.{WriteResult}
+use Rattle.number_bytes.specs.Numbers.{Bytes}
 use Rattle.fields.specs.Fields.{Item, Framed, fileOf, withoutNotes, fields, Noted, Kept}
-use Rattle.fields.specs.declared.Answer.{Answer}
-use Rattle.fields.specs.declared.WriteResult.{WriteResult}
 use Rattle.bundle.specs.Layout.{StatesAll, bundleLimit}
 use Rattle.formula.specs.Formula.{formulaFile, readFormula}
 use Rattle.proof.specs.Layout.{Certifies}

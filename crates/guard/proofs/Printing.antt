@@ -5,8 +5,8 @@ use mathlib.Core.Bool.{Bool, true, false}
 use mathlib.Core.List.{List}
 use native.Mathlib.Omega.{arith}
 use lib.ListN.{length, take}
-use Rattle.fields.specs.declared.Answer.{Answer}
-use Rattle.fields.specs.Answers.{answer, fileLent}
+use Rattle.answers.specs.declared.Answer.{Answer}
+use Rattle.answers.specs.Answers.{answer, fileLent}
 use Rattle.formula.specs.Test.{Tested as Outcome}
 use Rattle.formula_test.specs.Promises.{asTested}
 use Rattle.formula_test.specs.declared.Tested.{Tested}

@@ -7,8 +7,8 @@ use mathlib.Core.List.{List}
 use native.Mathlib.Nat.{eq-zero-or-pos}
 use native.Mathlib.Omega.{arith}
 use Rattle.forms.specs.Forms.{sum, value}
-use Rattle.fields.specs.Answers.{answer, acceptance, fileLent, _>>=_, _>>_, need, found, each}
-use Rattle.fields.specs.Numbers.{unsigned, complement, signed, signeds, formFrom}
+use Rattle.answers.specs.Answers.{answer, acceptance, fileLent, _>>=_, _>>_, need, found, each}
+use Rattle.number_bytes.specs.Numbers.{unsigned, complement, signed, signeds, formFrom}
 use Rattle.fields.specs.Fields.{front, note, unlessNote, fieldsFrom, fields}
 use Rattle.fields.specs.Header.{headerTag, known, agrees, headerField, editionField, constantsField, header, finished}
 use Rattle.formula.specs.Formula.{formulaTagged, formulaSize, formulaOf, formulaField, formulaWithin, readFormula}

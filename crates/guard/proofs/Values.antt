@@ -14,11 +14,11 @@ use mir.Syntax.{w32}
 use mir.Val.{SFits}
 use borrow.Author.Tests.{le-leb, lt-leb, eq-eqb, ne-eqb}
 use Rattle.forms.specs.Forms.{Formula}
-use Rattle.fields.specs.Answers.{answer, fileLent, Result, _>>_, need, each}
-use Rattle.fields.specs.Numbers.{signed, signeds}
-use Rattle.fields.specs.Ranges.{Held}
-use Rattle.fields.proofs.Results.{fail}
-use Rattle.fields.proofs.Signed.{length-signeds}
+use Rattle.answers.specs.Answers.{answer, fileLent, Result, _>>_, need, each}
+use Rattle.answers.proofs.Results.{fail}
+use Rattle.number_bytes.specs.Numbers.{signed, signeds}
+use Rattle.number_bytes.specs.Ranges.{Held}
+use Rattle.number_bytes.proofs.Signed.{length-signeds}
 use Rattle.formula.specs.Test.{Tested, tested, judged, testFormula}
 use Rattle.formula_test.specs.declared.Tested.{Tested as Answered}
 use Rattle.formula_test.specs.Promises.{asTested}

@@ -6,8 +6,8 @@ use mathlib.Core.List.{List}
 use lib.Dec.{eqb}
 use lib.IntN.{ℤ}
 use lib.ListN.{length}
-use Rattle.fields.specs.Answers.{answer, fileLent}
-use Rattle.fields.specs.Numbers.{signeds}
+use Rattle.answers.specs.Answers.{answer, fileLent}
+use Rattle.number_bytes.specs.Numbers.{signeds}
 use Rattle.formula.specs.Test.{Tested, testFormula}
 use Rattle.files.specs.Text.{RefusedLine, ascii}
 

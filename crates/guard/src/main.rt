@@ -5,12 +5,12 @@ ghost use Prim.Native.Nat.{_≤_, _*_, _/_, min};
 ghost use lib.ListN.{length, take};
 ghost use lib.Seq.{sets};
 ghost use Rattle.io.specs.Counts.{Counts};
-ghost use Rattle.fields.specs.Numbers.{signeds};
+ghost use Rattle.number_bytes.specs.Numbers.{signeds};
 ghost use Rattle.guard.specs.Said.{testFiles, Printed};
-use fields::words::signed_at;
 use forms::CONSTANTS;
 use forms::FORMULA_BYTES;
 use libc::STDOUT_FILENO;
+use number_bytes::words::signed_at;
 
 // The first count values of v, in place of as many at the start of values.
 fn load(v: &[u8], count: usize, values: &mut [i32])

@@ -88,3 +88,9 @@ pub fn same(x: i64, y: i64) -> bool
 {
     x == y
 }
+
+pub fn between(x: u8, low: u8, high: u8) -> bool
+    ensures { λ r. ⌜ r ≡ (leb low x && leb x high) ⌝ }
+{
+    if low <= x { x <= high } else { false }
+}

@@ -13,9 +13,9 @@ use borrow.Author.Tests.{ltb-true, ltb-false, leb-true, le-leb, lt-leb}
 use mir.Syntax.{w32}
 use mir.Val.{SFits}
 use Rattle.forms.specs.Forms.{nil, cons, small, every}
-use Rattle.fields.specs.Numbers.{Bytes, signed, signeds}
-use Rattle.fields.specs.Ranges.{InWidth}
-use Rattle.fields.proofs.Signed.{all-drop, all-weaken, signeds-in}
+use Rattle.number_bytes.specs.Numbers.{Bytes, signed, signeds}
+use Rattle.number_bytes.specs.Ranges.{InWidth}
+use Rattle.number_bytes.proofs.Signed.{all-drop, all-weaken, signeds-in}
 use Rattle.bundle.specs.Write.{holdable}
 use Rattle.bundle.proofs.Every.{every-of}
 use Rattle.number_ranges.specs.First.{firstBad}

@@ -1,13 +1,13 @@
 // Numbers that stand in bytes: whether each is within the range.
 use crate::LOWEST;
-use fields::words::signed_at;
+use number_bytes::words::signed_at;
 ghost use mathlib.Core.Path.{_≡_};
 ghost use mathlib.Core.Logic.{_⊎_};
 ghost use Prim.Native.Nat.{_+_, _*_, _≤_};
 ghost use lib.ListN.{length, take, drop};
 ghost use Rattle.forms.specs.Edition.{edition1};
 ghost use Rattle.forms.specs.Forms.{small, every};
-ghost use Rattle.fields.specs.Numbers.{signed, signeds};
+ghost use Rattle.number_bytes.specs.Numbers.{signed, signeds};
 
 // Whether the number of four bytes at a place is within the range.
 fn long_in_range(s: &[u8], at: usize) -> bool

@@ -8,9 +8,9 @@ use native.Mathlib.Omega.{arith}
 use lib.IntN.{ℤ, pos}
 use lib.ListN.{length, getD, take, drop, set, length-drop}
 use lib.Seq.{sets, take-add, take-suc, take-suc-set, getD-drop, drop-cons, drop-drop, length-take-le}
-use Rattle.fields.specs.Numbers.{signedBytes, signedsBytes}
-use Rattle.fields.proofs.Signed.{length-signedBytes, length-signedsBytes, signedsBytes-append}
-use Rattle.fields.proofs.Stores.{sets-append}
+use Rattle.number_bytes.specs.Numbers.{signedBytes, signedsBytes}
+use Rattle.number_bytes.proofs.Signed.{length-signedBytes, length-signedsBytes, signedsBytes-append}
+use Rattle.number_bytes.proofs.Stores.{sets-append}
 
 -- ---- numbers taken over into a block
 -- one number more

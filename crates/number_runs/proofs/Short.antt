@@ -6,7 +6,7 @@ use native.Mathlib.Omega.{arith}
 use lib.IntN.{ℤ, pos, negsuc}
 use lib.Signed.{ltZ}
 use borrow.Author.Tests.{ltb-true}
-use Rattle.fields.specs.Ranges.{Held}
+use Rattle.number_bytes.specs.Ranges.{Held}
 
 -- a number of two bytes is neither below -32768 nor above 32767
 pub not-below-short : (z : ℤ) → Held 2 z → ltZ z (negsuc 32767) ≡ true → ⊥

@@ -7,9 +7,9 @@ use native.Mathlib.Omega.{arith}
 use lib.IntN.{ℤ, pos}
 use lib.ListN.{length, getD, take, drop, set, drop-of-length-le}
 use lib.Seq.{sets, sets-eq, drop-cons, drop-drop}
-use Rattle.fields.specs.Numbers.{signed, signeds}
-use Rattle.fields.proofs.Signed.{length-signeds}
-use Rattle.fields.proofs.Stores.{sets-append}
+use Rattle.number_bytes.specs.Numbers.{signed, signeds}
+use Rattle.number_bytes.proofs.Signed.{length-signeds}
+use Rattle.number_bytes.proofs.Stores.{sets-append}
 
 -- one number more
 pub stored-next : (w : ℕ) (l : List ℤ) (at i n : ℕ) (s : List ℕ) (start : ℕ) → i < n

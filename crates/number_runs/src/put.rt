@@ -1,13 +1,13 @@
 // A run of numbers, written as bytes.
-use fields::words::put_signed;
 use integers::number;
+use number_bytes::words::put_signed;
 ghost use mathlib.Core.Path.{_≡_};
 ghost use mathlib.Core.Logic.{_⊎_};
 ghost use Prim.Native.Nat.{_+_, _*_, _/_, _≤_};
 ghost use lib.ListN.{length, take, drop};
 ghost use lib.Seq.{sets};
-ghost use Rattle.fields.specs.Numbers.{signedsBytes};
-ghost use Rattle.fields.specs.Ranges.{Held};
+ghost use Rattle.number_bytes.specs.Numbers.{signedsBytes};
+ghost use Rattle.number_bytes.specs.Ranges.{Held};
 ghost use Rattle.number_runs.specs.Runs.{HeldAll};
 
 // n numbers of `width` bytes each, from index from on.

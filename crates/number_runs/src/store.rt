@@ -1,11 +1,11 @@
 // A run of numbers, read from bytes into lent numbers.
-use fields::words::signed_at;
+use number_bytes::words::signed_at;
 ghost use mathlib.Core.Path.{_≡_};
 ghost use mathlib.Core.Logic.{_⊎_};
 ghost use Prim.Native.Nat.{_+_, _*_, _/_, _≤_};
 ghost use lib.ListN.{length, drop};
 ghost use lib.Seq.{sets};
-ghost use Rattle.fields.specs.Numbers.{signeds};
+ghost use Rattle.number_bytes.specs.Numbers.{signeds};
 
 // n numbers of `width` bytes from start on, into numbers from at on.
 fn store_run(s: &[u8], start: usize, width: usize, n: usize, numbers: &mut [i32], at: usize)

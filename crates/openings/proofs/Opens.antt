@@ -13,8 +13,8 @@ use Rattle.forms.specs.Forms.{≤0, Line, _and_, _or_, small}
 use Rattle.forms.specs.Flat.{formIn}
 use Rattle.calculus.specs.Rules as rules
 use Rattle.calculus.specs.Rules.{_▷_, inRange}
-use Rattle.fields.specs.declared.Answer.{Answer}
-use Rattle.fields.specs.Answers.{position, Result, refused, accepted, _>>=_, _>>_, need, found}
+use Rattle.answers.specs.declared.Answer.{Answer}
+use Rattle.answers.specs.Answers.{position, Result, refused, accepted, _>>=_, _>>_, need, found}
 use Rattle.fields.specs.Fields.{Fields}
 use Rattle.proof.specs.Rows.{is, lineAt, inequality, roundable, fitting}
 use Rattle.proof.specs.Check.{Closing, Checker, Following, checkRow, checkBranch}

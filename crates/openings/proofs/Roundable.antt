@@ -11,7 +11,7 @@ use borrow.Author.Tests.{le-leb, lt-leb, leb-true}
 use Rattle.integers.specs.Divides.{divb}
 use Rattle.forms.specs.Edition.{edition1}
 use Rattle.forms.specs.Forms.{≤0, Formula, every}
-use Rattle.fields.specs.Answers.{_>>=_, _>>_, need, found}
+use Rattle.answers.specs.Answers.{_>>=_, _>>_, need, found}
 use Rattle.fields.specs.Fields.{fieldBytes}
 use Rattle.fields.proofs.Framing.{length-fieldBytes as field-size}
 use Rattle.formula.specs.Formula.{encode}

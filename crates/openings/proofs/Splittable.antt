@@ -14,8 +14,8 @@ use Rattle.forms.specs.Forms.{≤0, Side, Line, line, Form, neg, _plus_, small}
 use Rattle.forms.specs.Flat.{formIn}
 use Rattle.calculus.specs.Rules as rules
 use Rattle.calculus.specs.Rules.{inRange}
-use Rattle.fields.specs.declared.Answer.{Answer}
-use Rattle.fields.specs.Answers.{Result, refused, _>>=_, _>>_, need, found}
+use Rattle.answers.specs.declared.Answer.{Answer}
+use Rattle.answers.specs.Answers.{Result, refused, _>>=_, _>>_, need, found}
 use Rattle.fields.specs.Fields.{Fields}
 use Rattle.proof.specs.Rows.{lineAt, owner, disequality, fitting}
 use Rattle.proof.specs.Check.{Closing, Checker, Following, checkRow, checkSplit, checkBranch}

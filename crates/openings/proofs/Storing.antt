@@ -7,9 +7,9 @@ use lib.ListN.{length, length-append}
 use lib.Seq.{sets}
 use Rattle.forms.specs.Edition.{edition1}
 use Rattle.forms.specs.Forms.{Formula}
+use Rattle.number_bytes.proofs.Stores.{sets-append}
 use Rattle.fields.specs.Fields.{fieldBytes}
 use Rattle.fields.proofs.Framing.{length-fieldBytes as field-size}
-use Rattle.fields.proofs.Stores.{sets-append}
 use Rattle.formula.specs.Formula.{encode}
 use Rattle.formula_write.specs.Writing.{Puts, Heads, Stores}
 

@@ -10,8 +10,8 @@ use Rattle.forms.specs.Edition.{edition, edition1}
 use Rattle.forms.specs.Forms.{≤0, =0, Line, line, Formula, _and_, _or_, _plus_}
 use Rattle.calculus.specs.Rules as rules
 use Rattle.calculus.specs.Rules.{_▷_, inRange}
-use Rattle.fields.specs.declared.Answer.{Answer}
-use Rattle.fields.specs.Answers.{position, Result, refused, accepted, _>>=_, _>>_, found}
+use Rattle.answers.specs.declared.Answer.{Answer}
+use Rattle.answers.specs.Answers.{position, Result, refused, accepted, _>>=_, _>>_, found}
 use Rattle.fields.specs.Fields.{Fields, fieldBytes}
 use Rattle.formula.specs.Formula.{encode}
 use Rattle.proof.specs.Rows.{fitting, roundable}

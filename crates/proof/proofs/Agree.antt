@@ -15,12 +15,12 @@ use Rattle.forms.specs.Forms.{Constraint, Formula, lines, occurs}
 use Rattle.calculus.specs.Rules.{Entry, entries, Proves, Interpolant}
 use Rattle.calculus.proofs.Sides.{Side}
 use Rattle.calculus.proofs.Interpolation.{interpolation, initial-words, sides}
-use Rattle.fields.specs.declared.Answer.{Answer}
+use Rattle.answers.specs.declared.Answer.{Answer}
+use Rattle.answers.specs.Answers.{answer, fileA, fileB, fileProof, fileLent, Result, refused, accepted, _>>=_, _>>_}
+use Rattle.answers.proofs.Results.{one-value, Gives, gives-accepted, weaken, gives-need, bind, seq, binds, passes, need-yes, fail, not-0, not-22}
 use Rattle.fields.specs.declared.FileKind.{FileKind}
-use Rattle.fields.specs.Answers.{answer, fileA, fileB, fileProof, fileLent, Result, refused, accepted, _>>=_, _>>_}
 use Rattle.fields.specs.Fields.{Fields, Item, item, fields, items}
 use Rattle.fields.specs.Header.{Header, agrees}
-use Rattle.fields.proofs.Results.{one-value, Gives, gives-accepted, weaken, gives-need, bind, seq, binds, passes, need-yes, fail, not-0, not-22}
 use Rattle.fields.proofs.HeaderLaid.{LaidHeader, header-gives, header-read, finished-gives, finished-ends}
 use Rattle.bundle.specs.Bundle.{Bundle, bundles}
 use Rattle.bundle.specs.Layout.{Each, nil, BundleFile}

@@ -16,12 +16,12 @@ use Rattle.forms.specs.Forms.{Form, ≤0, =0, Assignment, Formula, literal, _di
 use Rattle.forms.specs.Reduced.{reduced, reducing, Residue, Strides}
 use Rattle.forms.proofs.Residues.{residues}
 use Rattle.calculus.proofs.Reducing.{positive, reducing-alike}
-use Rattle.fields.specs.Answers.{answer, fileProof, fileLent, Result, refused, accepted, _>>_, need, each}
-use Rattle.fields.specs.Numbers.{signedBytes, formBytes, formWidth}
+use Rattle.answers.specs.Answers.{answer, fileProof, fileLent, Result, refused, accepted, _>>_, need, each}
+use Rattle.number_bytes.specs.Numbers.{signedBytes, formBytes, formWidth}
+use Rattle.number_bytes.specs.Ranges.{InWidth, FormInWidth}
+use Rattle.number_bytes.proofs.Signed.{all-weaken, length-signedBytes, length-formBytes}
 use Rattle.fields.specs.Fields.{fields, fieldBytes}
 use Rattle.fields.specs.Header.{headerBytes}
-use Rattle.fields.specs.Ranges.{InWidth, FormInWidth}
-use Rattle.fields.proofs.Signed.{all-weaken, length-signedBytes, length-formBytes}
 use Rattle.fields.proofs.Framing.{length-fieldBytes}
 use Rattle.formula.specs.Formula.{encode, formulaFile, Encodable, readFormula}
 use Rattle.formula.specs.Test.{judge, registers, tested, judged, Tested, testFormula}

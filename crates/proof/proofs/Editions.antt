@@ -13,11 +13,11 @@ use mir.Facts.{and-yes}
 use Rattle.forms.specs.Edition.{edition, edition1}
 use Rattle.forms.specs.Forms.{Constraint, Formula}
 use Rattle.calculus.specs.Rules.{Entry}
+use Rattle.answers.specs.Answers.{answer, fileA, fileB, fileProof, Result, refused, accepted, _>>=_, _>>_, need, Written, written}
+use Rattle.answers.proofs.Results.{binds, passes, needs, fail, bind-refused}
 use Rattle.fields.specs.declared.FileKind.{FileKind}
-use Rattle.fields.specs.Answers.{answer, fileA, fileB, fileProof, Result, refused, accepted, _>>=_, _>>_, need, Written, written}
 use Rattle.fields.specs.Fields.{Field, Fields, ends, cut, _▸_, Item, item, fields, items}
 use Rattle.fields.specs.Header.{headerTag, known, headerField, editionField, header}
-use Rattle.fields.proofs.Results.{binds, passes, needs, fail, bind-refused}
 use Rattle.fields.proofs.HeaderLaid.{first-of}
 use Rattle.bundle.specs.Bundle.{Bundle, atMost, bundleHeader, bundle, bundles}
 use Rattle.bundle.specs.Layout.{BundleFile, editionSaid, Says}

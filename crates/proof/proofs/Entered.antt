@@ -13,12 +13,12 @@ use Rattle.integers.specs.Linear.{eqZ}
 use Rattle.forms.specs.Edition.{Edition}
 use Rattle.forms.specs.Forms.{Form, Line}
 use Rattle.calculus.specs.Rules.{Row, Entry, row, claim, claims}
+use Rattle.answers.specs.declared.Position.{Position}
+use Rattle.answers.specs.Answers.{refusalAt, accepted}
+use Rattle.answers.proofs.Results.{Gives, gives-accepted, bind, test, finds, binds, needs, found-some}
 use Rattle.fields.specs.declared.FileKind.{FileKind}
-use Rattle.fields.specs.declared.Position.{Position}
-use Rattle.fields.specs.Answers.{refusalAt, accepted}
 use Rattle.fields.specs.Fields.{Field, item}
 use Rattle.fields.specs.Header.{headerTag, known}
-use Rattle.fields.proofs.Results.{Gives, gives-accepted, bind, test, finds, binds, needs, found-some}
 use Rattle.fields.proofs.HeaderLaid.{by-tag}
 use Rattle.proof.specs.Entries.{EntryTag, combineTag, reduceTag, scaleTag, strengthenTag, numberTag, strideTag, roundTag, splitTag, claimTag, entryTagged, inPlace, sizeOf, entryFrom, entry}
 use Rattle.proof.specs.Rows.{equals, sameForm, states}

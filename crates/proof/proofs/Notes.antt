@@ -5,9 +5,9 @@ use mathlib.Core.List.{List}
 use Prim.Native.Nat.{ℕ, _≤_}
 use native.Mathlib.Omega.{arith}
 use Rattle.forms.specs.Edition.{edition, edition2}
-use Rattle.fields.specs.Answers.{fileA, fileB, fileProof, Result, refused, accepted, _>>_}
+use Rattle.answers.specs.Answers.{fileA, fileB, fileProof, Result, refused, accepted, _>>_}
+use Rattle.answers.proofs.Results.{passes}
 use Rattle.fields.specs.Fields.{Noted, Kept}
-use Rattle.fields.proofs.Results.{passes}
 use Rattle.fields.proofs.Bare.{bareWritten, Same, bind-same, then-same, noted-same, written-same}
 use Rattle.bundle.specs.Bundle.{Bundle, atMost, bundle}
 use Rattle.bundle.specs.Layout.{bundleLimit}

@@ -11,9 +11,9 @@ use lib.ListN.{length}
 use lib.IntN.{ℤ}
 use Rattle.forms.specs.Edition.{Edition, edition, edition1, newestEdition}
 use Rattle.forms.specs.Forms.{Formula}
-use Rattle.fields.specs.declared.Answer.{Answer}
+use Rattle.answers.specs.declared.Answer.{Answer}
+use Rattle.answers.specs.Answers.{answer, fileA, fileB, fileProof, Result, refused, accepted, fit, written}
 use Rattle.fields.specs.declared.FileKind.{FileKind}
-use Rattle.fields.specs.Answers.{answer, fileA, fileB, fileProof, Result, refused, accepted, fit, written}
 use Rattle.fields.specs.Fields.{Field, Fields, ends, cut, _▸_, fields}
 use Rattle.fields.specs.Header.{headerField, editionField, constantsField, header, finished}
 use Rattle.bundle.specs.Bundle.{Bundle, atMost, constraints, bundleHeader, bundle, bundles}

@@ -5,9 +5,9 @@ use mathlib.Core.Bool.{Bool, true, false}
 use mathlib.Core.List.{List, [], _∷_}
 use Prim.Native.Nat.{ℕ, suc}
 use lib.Dec.{T}
-use Rattle.fields.specs.declared.Answer.{Answer}
-use Rattle.fields.specs.Answers.{Result, refused, accepted, _>>=_, _>>_, need, found, each}
-use Rattle.fields.proofs.Results.{never}
+use Rattle.answers.specs.declared.Answer.{Answer}
+use Rattle.answers.specs.Answers.{Result, refused, accepted, _>>=_, _>>_, need, found, each}
+use Rattle.answers.proofs.Results.{never}
 
 pub record Says {X : Type 0} (Q : Answer → Type 0) (r : Result X) (P : X → Type 0) : Type 0 where
   pub refusal : (a : Answer) → r ≡ refused a → Q a

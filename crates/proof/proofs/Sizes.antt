@@ -14,18 +14,18 @@ use Rattle.integers.specs.Magnitude.{Within}
 use Rattle.integers.proofs.Magnitude.{within-between}
 use Rattle.forms.specs.Reduced.{reduced, Residue, Residues}
 use Rattle.forms.proofs.Residues.{residues}
-use Rattle.calculus.proofs.Reducing.{positive}
 use Rattle.forms.specs.Edition.{Edition, edition, edition1}
 use Rattle.forms.specs.Forms.{Form, ≤0, Constraint, Line, line, neg, lineA, lineB, lines, All, nil, cons, _⊞_, _·_, _plus_, within, Formula, literal, _divides_, _and_, _or_, height, small, every}
+use Rattle.calculus.proofs.Reducing.{positive}
 use Rattle.calculus.specs.Rules.{Row, CloseStride, Derive, Strengthen, CloseNumber, Round, Split, Entry, row, claim, inRange, New, combine, reduce, scale, StrideOf, Closed, derive, strengthen, round, splitEq, splitNeq, number, stride, Rounded, last, more, claims, entries, entriesRounded, Proves}
 use Rattle.calculus.proofs.Sizes.{closed-height}
 use Rattle.calculus.proofs.Readings.{length-sums, length-only}
 use Rattle.calculus.proofs.Sides.{all-nth, all-and, all-map, all-append}
-use Rattle.fields.specs.Answers.{accepted}
-use Rattle.fields.specs.Numbers.{Bytes, unsigned, flat, formFrom}
+use Rattle.answers.specs.Answers.{accepted}
+use Rattle.number_bytes.specs.Numbers.{Bytes, unsigned, flat, formFrom}
+use Rattle.number_bytes.specs.Ranges.{InWidth, FormInWidth}
+use Rattle.number_bytes.proofs.Signed.{all-weaken, all-take, all-drop, unsigned-below, length-signeds}
 use Rattle.fields.specs.Fields.{Item, fields}
-use Rattle.fields.specs.Ranges.{InWidth, FormInWidth}
-use Rattle.fields.proofs.Signed.{all-weaken, all-take, all-drop, unsigned-below, length-signeds}
 use Rattle.fields.proofs.Contents.{ItemBytes, contents-bytes}
 use Rattle.bundle.specs.Bundle.{formSmall}
 use Rattle.bundle.specs.Layout.{Each, States, BundleFile}

@@ -13,19 +13,19 @@ use borrow.Author.Tests.{eq-eqb, ne-eqb}
 use Rattle.forms.specs.Edition.{Edition, edition}
 use Rattle.forms.specs.Forms.{Form, Side, A, B, Line}
 use Rattle.calculus.specs.Rules.{Row, Derive, Strengthen, CloseNumber, CloseStride, Round, Split, Step, Combine, Reduce, Scale, Entry, row, claim}
-use Rattle.fields.specs.declared.Answer.{Answer}
+use Rattle.answers.specs.declared.Answer.{Answer}
+use Rattle.answers.specs.Answers.{nowhere, rowTold, refusalAt, answer, fileProof, Result, refused, _>>=_, _>>_, found}
+use Rattle.number_bytes.specs.Numbers.{unsigned}
 use Rattle.fields.specs.declared.FileKind.{FileKind}
-use Rattle.fields.specs.Answers.{nowhere, rowTold, refusalAt, answer, fileProof, Result, refused, _>>=_, _>>_, found}
 use Rattle.fields.specs.Fields.{Field, Fields, ends, cut, _▸_, item}
-use Rattle.fields.specs.Numbers.{unsigned}
 use Rattle.fields.specs.Header.{headerField, editionField, constantsField, header, finished}
 use Rattle.bundle.specs.Bundle.{Bundle}
 use Rattle.proof.specs.Entries.{EntryTag, combineTag, reduceTag, scaleTag, strengthenTag, numberTag, strideTag, roundTag, splitTag, claimTag, entryTagged, multiplier, sizeOf, entryFrom, entry}
 use Rattle.proof.specs.Rows.{lineAt, derived, fitting, inequality, roundable, disequality, byNumber, byStride}
 use Rattle.proof.specs.Check.{Closing, Checker, Following, checkRounded, checkSplit, checkRow, checkEntry, checkEntries, checkBranch, checkProof}
 use Rattle.proof.specs.Layout.{Enters}
-use Rattle.proof.proofs.Says.{Says, says-refused, says-accepted, bind, seq, says-need, test, finds, weaken}
 use Rattle.proof.specs.Tree.{OpenStep, openStep, Tree, tree, afterClose, roundingOf, treeBehind, innermost, startsAt, Stands, here, past}
+use Rattle.proof.proofs.Says.{Says, says-refused, says-accepted, bind, seq, says-need, test, finds, weaken}
 
 -- ---- the tests of a row: each refusal is one of this row, by a number from 2 on
 module _ {Q : Answer → Type 0} (refusal : ℕ → Answer) (h : (n : ℕ) → T (leb 2 n) → Q (refusal n)) (ls : List Line) where

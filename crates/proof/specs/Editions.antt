@@ -6,7 +6,7 @@ use mathlib.Core.List.{List}
 use Prim.Native.Nat.{ℕ, _≤_}
 use lib.ListN.{length}
 use Rattle.forms.specs.Edition.{edition1, edition2, newestEdition}
-use Rattle.fields.specs.Answers.{fileA, fileB, fileProof, Result, refused, accepted, _>>_, Written}
+use Rattle.answers.specs.Answers.{fileA, fileB, fileProof, Result, refused, accepted, _>>_, Written}
 use Rattle.bundle.specs.Bundle.{atMost, bundle}
 use Rattle.bundle.specs.Layout.{Says, bundleLimit}
 use Rattle.proof.specs.Check.{checkBy, check}

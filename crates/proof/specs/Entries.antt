@@ -8,10 +8,10 @@ use lib.ListN.{length, take, drop}
 use Rattle.forms.specs.Edition.{Edition}
 use Rattle.forms.specs.Forms.{Line}
 use Rattle.calculus.specs.Rules.{Combine, Reduce, Scale, Derive, Strengthen, CloseNumber, CloseStride, Round, Split, Entry, row, claim}
-use Rattle.fields.specs.declared.Answer.{Answer}
+use Rattle.answers.specs.declared.Answer.{Answer}
+use Rattle.answers.specs.Answers.{Result, accepted, _>>=_, _>>_, need, found}
+use Rattle.number_bytes.specs.Numbers.{unsigned, signed, formFrom, formWidth}
 use Rattle.fields.specs.declared.FileKind.{FileKind}
-use Rattle.fields.specs.Answers.{Result, accepted, _>>=_, _>>_, need, found}
-use Rattle.fields.specs.Numbers.{unsigned, signed, formFrom, formWidth}
 use Rattle.fields.specs.Fields.{Field}
 use Rattle.fields.specs.Header.{known}
 

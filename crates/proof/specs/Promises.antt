@@ -2,8 +2,8 @@
 use mathlib.Core.Path.{_≡_}
 use mathlib.Core.List.{List}
 use Prim.Native.Nat.{ℕ}
-use Rattle.fields.specs.Answers.{writtenOf}
-use Rattle.fields.specs.declared.WriteResult.{WriteResult}
+use Rattle.answers.specs.Answers.{writtenOf}
+use Rattle.answers.specs.declared.WriteResult.{WriteResult}
 use Rattle.proof.specs.Check.{check}
 
 -- It returns r, and the lent output is `left` afterwards.

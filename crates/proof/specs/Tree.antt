@@ -7,10 +7,10 @@ use mathlib.Core.List.{List, [], _∷_}
 use Prim.Native.Nat.{ℕ, suc, _-_}
 use lib.Dec.{eqb}
 use lib.ListN.{length, drop}
-use Rattle.fields.specs.declared.Answer.{Answer}
-use Rattle.fields.specs.declared.Position.{Position}
-use Rattle.fields.specs.Answers.{position, root, answer, refusalAt, fileProof}
-use Rattle.fields.specs.Numbers.{unsigned}
+use Rattle.answers.specs.declared.Answer.{Answer}
+use Rattle.answers.specs.declared.Position.{Position}
+use Rattle.answers.specs.Answers.{position, root, answer, refusalAt, fileProof}
+use Rattle.number_bytes.specs.Numbers.{unsigned}
 use Rattle.fields.specs.Fields.{Field, Fields, ends, cut, _▸_, fields}
 use Rattle.proof.specs.Entries.{EntryTag, combineTag, reduceTag, scaleTag, strengthenTag, numberTag, strideTag, roundTag, splitTag, claimTag, entryTagged}
 

@@ -14,14 +14,14 @@ use mir.Syntax.{w64}
 use mir.Val.{toZ, ofZ, hbits}
 use mir.ValLaws.{toZ-ofZ}
 use Rattle.integers.specs.Linear.{eqZ}
-use Rattle.fields.specs.Numbers.{signed, signeds, formFrom, formWidth}
-use Rattle.fields.proofs.Signed.{drop-take, length-signeds, signeds-take, signeds-last}
+use Rattle.forms.specs.Flat.{formIn}
+use Rattle.forms.proofs.Flat.{part-form}
+use Rattle.number_bytes.specs.Numbers.{signed, signeds, formFrom, formWidth}
+use Rattle.number_bytes.proofs.Signed.{drop-take, length-signeds, signeds-take, signeds-last}
+use Rattle.proof.specs.Rows.{equals, sameForm, states}
 use Rattle.lines.specs.Parts.{part}
 use Rattle.lines.proofs.Parts.{part-take}
-use Rattle.forms.specs.Flat.{formIn}
 use Rattle.lines.specs.Buffer.{size, lineIn}
-use Rattle.forms.proofs.Flat.{part-form}
-use Rattle.proof.specs.Rows.{equals, sameForm, states}
 use Rattle.rows.specs.Claims.{Claimed}
 
 -- ---- number by number

@@ -11,7 +11,7 @@ use lib.IntN.{ℤ}
 use borrow.Author.Tests.{lt-ltb, le-ltb}
 use Rattle.forms.specs.Edition.{edition, edition1}
 use Rattle.calculus.specs.Rules.{inRange}
-use Rattle.fields.specs.Answers.{_>>_, need}
+use Rattle.answers.specs.Answers.{_>>_, need}
 use Rattle.proof.specs.Rows.{fitting}
 use Rattle.lines.proofs.Parts.{agree-refl, agree-set, agree-sym}
 use Rattle.lines.specs.Buffer.{size, lineIn, Mixes, mixedLine}

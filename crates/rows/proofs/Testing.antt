@@ -12,8 +12,8 @@ use Rattle.integers.specs.Linear.{eqZ}
 use Rattle.forms.specs.Forms.{≤0, =0, Line, line, nonzero, _⊞_, _·_}
 use Rattle.forms.specs.Flat.{kindOf}
 use Rattle.calculus.specs.Rules.{Step, Combine, Reduce, Scale}
-use Rattle.fields.specs.declared.Answer.{Answer}
-use Rattle.fields.specs.Answers.{refused, accepted, _>>=_, _>>_, need, found}
+use Rattle.answers.specs.declared.Answer.{Answer}
+use Rattle.answers.specs.Answers.{refused, accepted, _>>=_, _>>_, need, found}
 use Rattle.proof.specs.Rows.{is, plainKind, lineAt, derived}
 use Rattle.lines.specs.Buffer.{lineIn, linesIn}
 use Rattle.lines.proofs.Lines.{line-at, line-past, line-ext}

@@ -6,9 +6,9 @@ use Prim.Native.Nat.{ℕ, _*_}
 use lib.ListN.{take, drop}
 use lib.IntN.{ℤ}
 use Rattle.forms.specs.Edition.{edition1}
-use Rattle.fields.specs.Numbers.{formFrom, formWidth}
-use Rattle.lines.specs.Buffer.{lineIn}
+use Rattle.number_bytes.specs.Numbers.{formFrom, formWidth}
 use Rattle.proof.specs.Rows.{states}
+use Rattle.lines.specs.Buffer.{lineIn}
 
 -- r tells whether the claim whose contents start there states line i.
 pub record Claimed (K : ℕ) (p : List ℕ) (start : ℕ) (buf : List ℤ) (i : ℕ) (r : Bool) : Type 0 where

@@ -8,8 +8,8 @@ use Rattle.forms.specs.Edition.{edition, multiplierRange}
 use Rattle.forms.specs.Forms.{Line, line, _⊞_, _·_}
 use Rattle.forms.specs.Flat.{kindOf}
 use Rattle.calculus.specs.Rules as rules
-use Rattle.fields.specs.declared.Answer.{Answer}
-use Rattle.fields.specs.Answers.{Result, refused, accepted, _>>=_, _>>_}
+use Rattle.answers.specs.declared.Answer.{Answer}
+use Rattle.answers.specs.Answers.{Result, refused, accepted, _>>=_, _>>_}
 use Rattle.proof.specs.Rows.{derived, fitting}
 use Rattle.proof.specs.Check.{Closing}
 use Rattle.lines.specs.Buffer.{lineIn, linesIn}

@@ -3,9 +3,9 @@ ghost use mathlib.Core.Path.{_≡_};
 ghost use Prim.Native.Nat.{_+_, _*_, _≤_, _<_};
 ghost use lib.ListN.{length, drop};
 ghost use Rattle.forms.specs.Edition.{edition, edition1, newestEdition};
-ghost use Rattle.fields.specs.Numbers.{signeds};
-ghost use Rattle.lines.specs.Parts.{part};
+ghost use Rattle.number_bytes.specs.Numbers.{signeds};
 ghost use Rattle.proof.specs.Rows.{equals};
+ghost use Rattle.lines.specs.Parts.{part};
 ghost use Rattle.rows.specs.Claims.{Claimed};
 use forms::LineNumber;
 use forms::TERM_BYTES;
@@ -17,7 +17,7 @@ fn same_form(p: &[u8], start: usize, lines: &[i32], at: usize, k: usize) -> bool
 {
     let mut x = 0;
     while x <= k {
-        let n = fields::words::signed_at(p, start + TERM_BYTES * x, TERM_BYTES);
+        let n = number_bytes::words::signed_at(p, start + TERM_BYTES * x, TERM_BYTES);
         if !integers::same(n, integers::number(lines, at + x)) {
             return false;
         }

@@ -12,10 +12,10 @@ use Rattle.forms.specs.Edition.{edition, edition1}
 use Rattle.forms.specs.declared.LineNumber.{LineNumber}
 use Rattle.calculus.specs.Rules as rules
 use Rattle.calculus.specs.Rules.{_▷_}
+use Rattle.answers.specs.declared.Answer.{Answer}
+use Rattle.answers.specs.Answers.{Result, accepted, _>>=_, _>>_, need, found}
+use Rattle.number_bytes.specs.Numbers.{formWidth}
 use Rattle.fields.specs.Fields.{Fields}
-use Rattle.fields.specs.Numbers.{formWidth}
-use Rattle.fields.specs.declared.Answer.{Answer}
-use Rattle.fields.specs.Answers.{Result, accepted, _>>=_, _>>_, need, found}
 use Rattle.proof.specs.Check.{checkRow, checkEntry, Checker, Following}
 use Rattle.lines.proofs.Parts.{agree-sym}
 use Rattle.lines.specs.Buffer.{linesIn}

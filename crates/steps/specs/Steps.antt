@@ -10,9 +10,9 @@ use lib.IntN.{ℤ, natAbs}
 use Rattle.forms.specs.Edition.{edition, edition1}
 use Rattle.forms.specs.Forms.{Line}
 use Rattle.calculus.specs.Rules as rules
-use Rattle.fields.specs.declared.Answer.{Answer}
-use Rattle.fields.specs.Answers.{Result, refused, _>>=_, _>>_, need}
-use Rattle.fields.specs.Numbers.{formFrom, formWidth}
+use Rattle.answers.specs.declared.Answer.{Answer}
+use Rattle.answers.specs.Answers.{Result, refused, _>>=_, _>>_, need}
+use Rattle.number_bytes.specs.Numbers.{formFrom, formWidth}
 use Rattle.fields.specs.Fields.{Fields}
 use Rattle.proof.specs.Entries.{entry}
 use Rattle.proof.specs.Check.{Closing, Checker, Following, checkRow, checkEntry}

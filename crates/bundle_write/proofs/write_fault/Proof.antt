@@ -4,7 +4,7 @@ use native.Mathlib.Omega.{arith}
 use Prim.Native.Nat.{ℕ, _+_, _≤_}
 use native.Mathlib.Nat.{mul-le-mul}
 use Rattle.forms.proofs.Editions.{coefficientWidth-is}
-use Rattle.fields.specs.Answers.{answer}
+use Rattle.answers.specs.Answers.{answer}
 use Rattle.bundle_write.proofs.Writing.{fault-edition, fault-k, fault-count, fault-kind, fault-size, fault-number, fault-none}
 use borrow.Author.Needs.{needs}
 use Rattle.bundle_write.proofs.write_fault.Statement.{statement}

@@ -4,9 +4,9 @@ use mathlib.Core.List.{List, _++_}
 use Prim.Native.Nat.{ℕ, _≤_, _<_}
 use native.Mathlib.Omega.{arith}
 use lib.ListN.{length, drop}
-use borrow.Author.Needs.{needs}
-use Rattle.fields.specs.Answers.{over}
+use Rattle.answers.specs.Answers.{over}
 use Rattle.dulgaverk.specs.Copied.{Copied}
+use borrow.Author.Needs.{needs}
 use Rattle.dulgaverk.proofs.dulgaverk_show.Statement.{statement}
 use Rattle.dulgaverk.proofs.dulgaverk_show.Tie as tie
 

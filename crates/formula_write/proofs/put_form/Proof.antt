@@ -6,7 +6,7 @@ use mathlib.Core.Path.{refl, sym, _∙_}
 use mir.Syntax.{w64}
 use mir.ValLaws.{toZ-ofZ}
 use Rattle.forms.specs.Flat.{formIn}
-use Rattle.fields.specs.Numbers.{flat}
+use Rattle.number_bytes.specs.Numbers.{flat}
 use Rattle.formula_write.proofs.Written.{Putting, putting-start, putting-on, form-end, form-long, form-number, held}
 use borrow.Author.Needs.{needs}
 use Rattle.formula_write.proofs.put_form.Statement.{statement}

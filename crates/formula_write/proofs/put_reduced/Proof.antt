@@ -9,7 +9,7 @@ use mir.Val.{toZ, ofZ}
 use mir.ValLaws.{toZ-ofZ}
 use Rattle.forms.specs.Reduced.{reduced}
 use Rattle.forms.specs.Flat.{formIn}
-use Rattle.fields.specs.Numbers.{flat}
+use Rattle.number_bytes.specs.Numbers.{flat}
 use Rattle.formula_write.proofs.Written.{Putting, putting-start, putting-on, form-end, reduced-form-long, reduced-number, held-remainder}
 use borrow.Author.Needs.{needs}
 use Rattle.formula_write.proofs.put_reduced.Statement.{statement}

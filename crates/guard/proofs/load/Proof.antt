@@ -7,9 +7,9 @@ use lib.ListN.{length, drop, length-set}
 use lib.Seq.{sets}
 use mir.Syntax.{w32, w64}
 use mir.ValLaws.{toZ-ofZ}
-use borrow.Author.Needs.{needs}
-use Rattle.fields.specs.Numbers.{signeds}
+use Rattle.number_bytes.specs.Numbers.{signeds}
 use Rattle.guard.proofs.Values.{long-fits, loaded-next}
+use borrow.Author.Needs.{needs}
 use Rattle.guard.proofs.load.Statement.{statement}
 use Rattle.guard.proofs.load.Tie as tie
 

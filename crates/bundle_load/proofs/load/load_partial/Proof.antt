@@ -1,7 +1,7 @@
 -- `bundle_load::load::load_partial` meets its contract, both ways. Assumes nothing.
 use lib.ListN.{drop}
-use Rattle.fields.specs.Numbers.{signeds}
-use Rattle.fields.proofs.Signed.{length-signeds}
+use Rattle.number_bytes.specs.Numbers.{signeds}
+use Rattle.number_bytes.proofs.Signed.{length-signeds}
 use Rattle.bundle_load.proofs.Loading.{stored-all, partial-A, partial-B}
 use borrow.Author.Needs.{needs}
 use Rattle.bundle_load.proofs.load.load_partial.Statement.{statement}

@@ -4,8 +4,8 @@ use Prim.Native.Nat.{_+_, _*_, _-_, _≤_}
 use native.Mathlib.Nat.{zero-mul, mul-le-mul, add-mul, one-mul}
 use native.Mathlib.Omega.{arith}
 use lib.ListN.{length}
+use Rattle.number_bytes.proofs.Widths.{width-most}
 use Rattle.fields.proofs.Places.{took-note, took-starts, len-is}
-use Rattle.fields.proofs.Widths.{width-most}
 use Rattle.bundle_read.proofs.Storing.{Storing, storing-start, here-took, room, storing-next, storing-note, storing-done}
 use borrow.Author.Needs.{needs}
 use Rattle.bundle_read.proofs.store.store_constraints.Statement.{statement}

@@ -4,7 +4,7 @@ use Prim.Native.Nat.{_*_, _+_, _≤_, suc}
 use native.Mathlib.Nat.{mul-le-mul}
 use native.Mathlib.Omega.{arith}
 use borrow.Author.Tests.{lt-ltb, le-ltb, eq-eqb, ne-eqb}
-use Rattle.fields.proofs.Widths.{width-most, one-more}
+use Rattle.number_bytes.proofs.Widths.{width-most, one-more}
 use Rattle.bundle_scan.proofs.Contents.{form-small, contents-size}
 use Rattle.bundle_scan.proofs.Scanning.{constraint-known, constraint-from, header-below}
 use borrow.Author.Needs.{needs}

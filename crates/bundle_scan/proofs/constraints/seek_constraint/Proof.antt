@@ -4,9 +4,9 @@ use Prim.Native.Nat.{_+_, _-_, _≤_}
 use native.Mathlib.Nat.{mul-le-mul}
 use native.Mathlib.Omega.{arith}
 use lib.ListN.{length, take, drop}
+use Rattle.number_bytes.proofs.Widths.{width-most}
 use Rattle.fields.specs.Places.{fieldsAt}
 use Rattle.fields.proofs.Places.{starts, next-cut, next-ends}
-use Rattle.fields.proofs.Widths.{width-most}
 use Rattle.bundle_scan.specs.Scan.{counted, soughtOf}
 use Rattle.bundle_scan.proofs.Scanning.{counted-fault, counted-sized, sized-next, sized-less, counted-room, counted-cut, Seeking, seeking-start, seeking-next, seeking-end}
 use borrow.Author.Needs.{needs}

@@ -6,7 +6,7 @@ use lib.Dec.{leb→le}
 use lib.ListN.{length}
 use Rattle.forms.specs.Edition.{edition}
 use Rattle.forms.proofs.Editions.{coefficientWidth-is, coefficientWidth-most}
-use Rattle.fields.proofs.Signed.{all-weaken, all-getD}
+use Rattle.number_bytes.proofs.Signed.{all-weaken, all-getD}
 use Rattle.bundle.proofs.Writable.{holdable-held}
 use Rattle.bundle_write.proofs.Putting.{Putting, putting-start, putting-next, putting-done, numbers-left, out-left}
 use borrow.Author.Needs.{needs}

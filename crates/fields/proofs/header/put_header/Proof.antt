@@ -2,9 +2,9 @@
 use mathlib.Core.Path.{refl}
 use native.Mathlib.Omega.{arith}
 use lib.ListN.{length-set}
+use Rattle.number_bytes.specs.Numbers.{unsignedBytes}
 use Rattle.fields.specs.Header.{headerBytes}
 use Rattle.fields.specs.Fields.{fieldBytes}
-use Rattle.fields.specs.Numbers.{unsignedBytes}
 use borrow.Author.Needs.{needs}
 use Rattle.fields.proofs.header.put_header.Statement.{statement}
 use Rattle.fields.proofs.header.put_header.Tie as tie

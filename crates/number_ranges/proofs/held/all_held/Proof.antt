@@ -1,5 +1,5 @@
 -- `number_ranges::held::all_held` meets its contract: the width is 2 or 4. Assumes nothing.
-use Rattle.fields.proofs.Widths.{width-four}
+use Rattle.number_bytes.proofs.Widths.{width-four}
 use borrow.Author.Needs.{needs}
 use Rattle.number_ranges.proofs.held.all_held.Statement.{statement}
 use Rattle.number_ranges.proofs.held.all_held.Tie as tie

@@ -1,7 +1,7 @@
 -- `number_ranges::held::held` meets its contract: the width is 2 or 4. Assumes nothing.
 use mir.Syntax.{w32}
 use mir.ValLaws.{toZ-ofZ}
-use Rattle.fields.proofs.Widths.{width-four}
+use Rattle.number_bytes.proofs.Widths.{width-four}
 use borrow.Author.Needs.{needs}
 use Rattle.number_ranges.proofs.held.held.Statement.{statement}
 use Rattle.number_ranges.proofs.held.held.Tie as tie

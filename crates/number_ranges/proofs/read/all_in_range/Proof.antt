@@ -1,5 +1,5 @@
 -- `number_ranges::read::all_in_range` meets its contract. Assumes nothing.
-use Rattle.fields.proofs.Widths.{width-four}
+use Rattle.number_bytes.proofs.Widths.{width-four}
 use Rattle.number_ranges.proofs.Ranging.{bytes-of, shorts-small}
 use Rattle.number_ranges.proofs.read.all_in_range.Statement.{statement}
 use Rattle.number_ranges.proofs.read.all_in_range.Tie as tie

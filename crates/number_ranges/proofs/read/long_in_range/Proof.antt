@@ -4,7 +4,7 @@ use mathlib.Core.Logic.{inr}
 use mir.Syntax.{w32, w64}
 use mir.ValLaws.{toZ-ofZ}
 use Rattle.forms.specs.Forms.{small}
-use Rattle.fields.proofs.Widths.{held-fits}
+use Rattle.number_bytes.proofs.Widths.{held-fits}
 use Rattle.number_ranges.proofs.Ranging.{lowest-small}
 use Rattle.number_ranges.proofs.read.long_in_range.Statement.{statement}
 use Rattle.number_ranges.proofs.read.long_in_range.Tie as tie

@@ -5,7 +5,7 @@ use Prim.Native.Nat.{_+_, _*_, _-_, _≤_}
 use native.Mathlib.Omega.{arith}
 use lib.ListN.{drop}
 use Rattle.forms.specs.Forms.{small, every}
-use Rattle.fields.specs.Numbers.{signeds}
+use Rattle.number_bytes.specs.Numbers.{signeds}
 use Rattle.number_ranges.proofs.Ranging.{every-next, and-true}
 use borrow.Author.Needs.{needs}
 use Rattle.number_ranges.proofs.read.longs_in_range.Statement.{statement}

@@ -4,7 +4,7 @@ use Prim.Native.Nat.{_+_, _*_, _-_, _/_, _%_, _≤_}
 use native.Mathlib.Omega.{arith}
 use lib.ListN.{length, take, drop}
 use lib.Seq.{sets}
-use Rattle.fields.specs.Numbers.{signedsBytes}
+use Rattle.number_bytes.specs.Numbers.{signedsBytes}
 use Rattle.number_runs.proofs.Putting.{put-more}
 use borrow.Author.Needs.{needs}
 use Rattle.number_runs.proofs.put.put_fours.Statement.{statement}

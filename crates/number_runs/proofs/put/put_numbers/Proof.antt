@@ -1,5 +1,5 @@
 -- `number_runs::put::put_numbers` meets its contract: the width is 2 or else 4. Assumes nothing.
-use Rattle.fields.proofs.Widths.{width-four}
+use Rattle.number_bytes.proofs.Widths.{width-four}
 use borrow.Author.Needs.{needs}
 use Rattle.number_runs.proofs.put.put_numbers.Statement.{statement}
 use Rattle.number_runs.proofs.put.put_numbers.Tie as tie

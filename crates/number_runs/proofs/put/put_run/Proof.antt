@@ -8,9 +8,9 @@ use lib.ListN.{length, getD, take, drop}
 use lib.Seq.{sets}
 use mir.Syntax.{w64}
 use mir.ValLaws.{toZ-ofZ}
-use Rattle.fields.specs.Numbers.{signedBytes, signedsBytes}
-use Rattle.fields.proofs.Signed.{all-getD}
-use Rattle.fields.proofs.Widths.{part-before}
+use Rattle.number_bytes.specs.Numbers.{signedBytes, signedsBytes}
+use Rattle.number_bytes.proofs.Signed.{all-getD}
+use Rattle.number_bytes.proofs.Widths.{part-before}
 use Rattle.number_runs.proofs.Putting.{put-next}
 use borrow.Author.Needs.{needs}
 use Rattle.number_runs.proofs.put.put_run.Statement.{statement}

@@ -3,7 +3,7 @@ use mathlib.Core.Path.{refl}
 use mathlib.Core.Logic.{inl}
 use lib.ListN.{length}
 use lib.Seq.{take-length}
-use Rattle.fields.proofs.Signed.{all-take, all-drop}
+use Rattle.number_bytes.proofs.Signed.{all-take, all-drop}
 use borrow.Author.Needs.{needs}
 use Rattle.number_runs.proofs.put.put_through.Statement.{statement}
 use Rattle.number_runs.proofs.put.put_through.Tie as tie

@@ -7,7 +7,7 @@ use lib.ListN.{length, getD, take, drop, length-set}
 use lib.Seq.{take-length}
 use mir.Syntax.{w32}
 use mir.ValLaws.{toZ-ofZ}
-use Rattle.fields.proofs.Signed.{all-getD}
+use Rattle.number_bytes.proofs.Signed.{all-getD}
 use Rattle.number_runs.proofs.Putting.{taken-next}
 use borrow.Author.Needs.{needs, scaled-fits}
 use Rattle.number_runs.proofs.put.take_shorts.Statement.{statement}

@@ -4,7 +4,7 @@ use Prim.Native.Nat.{_+_, _*_, _-_, _/_, _%_, _≤_}
 use native.Mathlib.Omega.{arith}
 use lib.ListN.{length, drop}
 use lib.Seq.{sets}
-use Rattle.fields.specs.Numbers.{signeds}
+use Rattle.number_bytes.specs.Numbers.{signeds}
 use Rattle.number_runs.proofs.Storing.{store-more}
 use borrow.Author.Needs.{needs}
 use Rattle.number_runs.proofs.store.store_fours.Statement.{statement}

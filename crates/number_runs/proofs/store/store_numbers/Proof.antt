@@ -1,7 +1,7 @@
 -- `number_runs::store::store_numbers` meets its contract: the width is 2 or 4. Assumes nothing.
 use mathlib.Core.Path.{refl}
 use mathlib.Core.Logic.{inl, inr}
-use Rattle.fields.proofs.Widths.{width-four}
+use Rattle.number_bytes.proofs.Widths.{width-four}
 use borrow.Author.Needs.{needs}
 use Rattle.number_runs.proofs.store.store_numbers.Statement.{statement}
 use Rattle.number_runs.proofs.store.store_numbers.Tie as tie

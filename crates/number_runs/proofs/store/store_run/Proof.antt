@@ -7,8 +7,8 @@ use lib.ListN.{length, drop, length-set}
 use lib.Seq.{sets}
 use mir.Syntax.{w32, w64}
 use mir.ValLaws.{toZ-ofZ}
-use Rattle.fields.specs.Numbers.{signeds}
-use Rattle.fields.proofs.Widths.{part-before, held-fits}
+use Rattle.number_bytes.specs.Numbers.{signeds}
+use Rattle.number_bytes.proofs.Widths.{part-before, held-fits}
 use Rattle.number_runs.proofs.Storing.{stored-next}
 use borrow.Author.Needs.{needs, scaled-fits}
 use Rattle.number_runs.proofs.store.store_run.Statement.{statement}

@@ -2,8 +2,8 @@
 use mathlib.Core.Path.{refl, _∙_}
 use mathlib.Core.Logic.{inl}
 use lib.ListN.{length, drop}
-use Rattle.fields.specs.Numbers.{signeds}
-use Rattle.fields.proofs.Signed.{length-signeds}
+use Rattle.number_bytes.specs.Numbers.{signeds}
+use Rattle.number_bytes.proofs.Signed.{length-signeds}
 use Rattle.number_runs.proofs.Storing.{stored-whole}
 use borrow.Author.Needs.{needs}
 use Rattle.number_runs.proofs.store.store_through.Statement.{statement}

@@ -1,0 +1,3 @@
+-- Laws of results.
+pub mod Results
+pub mod Over

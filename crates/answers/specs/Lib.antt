@@ -1,0 +1,2 @@
+-- Answers, and results that are refused or accepted.
+pub mod Answers
