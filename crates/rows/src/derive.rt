@@ -42,7 +42,7 @@ fn append(
     let next = counted.tally;
     let n = tally.lines;
     if made {
-        if lines::mix_line(lines, apart, f, i, g, j, n, k) {
+        if line_sums::mix_line(lines, apart, f, i, g, j, n, k) {
             set_kind(kinds, n, kind);
             return Derived::Made { tally: next };
         }

@@ -1,8 +1,8 @@
--- `lines::mix_line` meets its contract. Assumes nothing.
+-- `line_sums::mix_line` meets its contract. Assumes nothing.
 use mir.ValLaws.{toZ-ofZ}
 use borrow.Author.Needs.{needs}
-use Rattle.lines.proofs.mix_line.Statement.{statement}
-use Rattle.lines.proofs.mix_line.Tie as tie
+use Rattle.line_sums.proofs.mix_line.Statement.{statement}
+use Rattle.line_sums.proofs.mix_line.Tie as tie
 
 mix-requires : tie.Need-mix-requires
 mix-requires c κs = search needs

@@ -1,15 +1,15 @@
--- `lines::raise_line` meets its contract. Assumes nothing.
+-- `line_starts::raise_line` meets its contract. Assumes nothing.
 use mathlib.Core.Path.{_≡_, refl, _∙_, ap₂}
 use mathlib.Core.List.{List}
 use Prim.Native.Nat.{ℕ, _+_}
 use native.Mathlib.Omega.{arith}
 use lib.IntN.{ℤ}
 use Rattle.lines.specs.Buffer.{raised, raisedLine}
 use Rattle.lines.proofs.Lines.{place-small}
 use Rattle.lines.proofs.Raising.{t-term, tA-term}
 use borrow.Author.Needs.{needs}
-use Rattle.lines.proofs.raise_line.Statement.{statement}
-use Rattle.lines.proofs.raise_line.Tie as tie
+use Rattle.line_starts.proofs.raise_line.Statement.{statement}
+use Rattle.line_starts.proofs.raise_line.Tie as tie
 
 -- What `raise` leaves, by where it raised and in what.
 raise-is : (k x : ℕ) {at at′ : ℕ} {buf buf′ buf″ : List ℤ} → buf″ ≡ raised (at + k) x buf → at ≡ at′ → buf ≡ buf′ → buf″ ≡ raised (at′ + k) x buf′

@@ -1,10 +1,10 @@
--- `lines::start_line` meets its contract. Assumes nothing.
+-- `line_starts::start_line` meets its contract. Assumes nothing.
 use mathlib.Core.Path.{_∙_, ap}
 use Rattle.lines.specs.Buffer.{raisedLine, startedLine}
 use Rattle.lines.proofs.Starting.{copy-raised}
 use borrow.Author.Needs.{needs}
-use Rattle.lines.proofs.start_line.Statement.{statement}
-use Rattle.lines.proofs.start_line.Tie as tie
+use Rattle.line_starts.proofs.start_line.Statement.{statement}
+use Rattle.line_starts.proofs.start_line.Tie as tie
 
 copy-line-requires : tie.Need-copy-line-requires
 copy-line-requires c κs = search needs

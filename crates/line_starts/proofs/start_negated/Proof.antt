@@ -1,11 +1,11 @@
--- `lines::start_negated` meets its contract. Assumes nothing.
+-- `line_starts::start_negated` meets its contract. Assumes nothing.
 use mathlib.Core.Path.{_∙_, ap}
 use native.Mathlib.Omega.{arith}
 use Rattle.lines.specs.Buffer.{raisedLine, negatedLine}
 use Rattle.lines.proofs.Negating.{mixes-negated, negated-raised}
 use borrow.Author.Needs.{needs}
-use Rattle.lines.proofs.start_negated.Statement.{statement}
-use Rattle.lines.proofs.start_negated.Tie as tie
+use Rattle.line_starts.proofs.start_negated.Statement.{statement}
+use Rattle.line_starts.proofs.start_negated.Tie as tie
 
 mix-whole-requires : tie.Need-mix-whole-requires
 mix-whole-requires c κs =

@@ -1,4 +1,4 @@
--- `lines::copy_numbers` meets its contract: after x turns the first x numbers are in place. Assumes nothing.
+-- `line_starts::copy_numbers` meets its contract: after x turns the first x numbers are in place. Assumes nothing.
 use mathlib.Core.Path.{_≡_, sym, _∙_}
 use mathlib.Core.List.{List}
 use Prim.Native.Nat.{ℕ, _<_, _≤_, _-_, _+_}
@@ -7,11 +7,11 @@ use lib.IntN.{ℤ, pos}
 use lib.ListN.{length, getD}
 use mir.Syntax.{w32}
 use mir.ValLaws.{toZ-ofZ}
 use Rattle.lines.specs.Parts.{part}
 use Rattle.lines.proofs.Parts.{getD-part, length-part}
 use Rattle.lines.proofs.Fill.{Filled, filled-none, filled-length, filled-before, filled-next}
-use Rattle.lines.proofs.copy_numbers.Statement.{statement}
-use Rattle.lines.proofs.copy_numbers.Tie as tie
+use Rattle.line_starts.proofs.copy_numbers.Statement.{statement}
+use Rattle.line_starts.proofs.copy_numbers.Tie as tie
 
 abbrev Inv-loop : tie.InvT-loop
 Inv-loop lines₀ s new w x₀ lines x = Filled lines₀ new (part s w lines₀) lines x

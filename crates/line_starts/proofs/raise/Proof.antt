@@ -1,4 +1,4 @@
--- `lines::raise` meets its contract: the sum is within the range, so it fits 64 bits and then 32. Assumes nothing.
+-- `line_starts::raise` meets its contract: the sum is within the range, so it fits 64 bits and then 32. Assumes nothing.
 use mathlib.Core.Path.{_≡_, _∙_, ap, ap₂}
 use native.Mathlib.Omega.{arith}
 use lib.IntN.{pos, _+ℤ_}
@@ -6,11 +6,11 @@ use lib.ListN.{getD, set}
 use mir.Syntax.{w64}
 use mir.Val.{toZ, ofZ}
 use mir.ValLaws.{toZ-ofZ, toZ-pos}
 use Rattle.lines.specs.Buffer.{raised}
 use Rattle.lines.proofs.Narrow.{wide-fits, narrow-fits, narrowed}
 use borrow.Author.Needs.{needs}
-use Rattle.lines.proofs.raise.Statement.{statement}
-use Rattle.lines.proofs.raise.Tie as tie
+use Rattle.line_starts.proofs.raise.Statement.{statement}
+use Rattle.line_starts.proofs.raise.Tie as tie
 
 number-requires : tie.Need-number-requires
 number-requires c κs = search needs

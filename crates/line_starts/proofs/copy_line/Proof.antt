@@ -1,16 +1,16 @@
--- `lines::copy_line` meets its contract. Assumes nothing.
+-- `line_starts::copy_line` meets its contract. Assumes nothing.
 use mathlib.Core.Path.{sym, ap, _∙_}
 use mathlib.Core.List.{List}
 use Prim.Native.Nat.{_*_}
 use native.Mathlib.Omega.{arith}
 use lib.IntN.{ℤ}
 use lib.Seq.{paste}
 use Rattle.lines.specs.Buffer.{size, mixedLine, copiedLine}
 use Rattle.lines.proofs.Lines.{before}
 use Rattle.lines.proofs.Mixing.{mixed-copy}
 use borrow.Author.Needs.{needs}
-use Rattle.lines.proofs.copy_line.Statement.{statement}
-use Rattle.lines.proofs.copy_line.Tie as tie
+use Rattle.line_starts.proofs.copy_line.Statement.{statement}
+use Rattle.line_starts.proofs.copy_line.Tie as tie
 
 place-requires : tie.Need-place-requires
 place-requires c κs = search needs

@@ -1,4 +1,4 @@
--- `lines::terms_fit` meets its contract: one number, and then the other. Assumes nothing.
+-- `line_starts::terms_fit` meets its contract: one number, and then the other. Assumes nothing.
 use mathlib.Core.Path.{ap₂}
 use mathlib.Core.Bool.{_&&_}
 use mathlib.Core.List.{List}
@@ -7,13 +7,13 @@ use native.Mathlib.Omega.{arith}
 use lib.IntN.{ℤ, pos}
 use lib.ListN.{getD}
 use mir.ValLaws.{toZ-ofZ}
-use borrow.Author.Needs.{needs}
 use Rattle.integers.specs.Magnitude.{Within}
 use Rattle.forms.specs.Edition.{edition1}
 use Rattle.lines.specs.Buffer.{size, Bounded}
 use Rattle.lines.proofs.Lines.{before}
-use Rattle.lines.proofs.terms_fit.Statement.{statement}
-use Rattle.lines.proofs.terms_fit.Tie as tie
+use borrow.Author.Needs.{needs}
+use Rattle.line_starts.proofs.terms_fit.Statement.{statement}
+use Rattle.line_starts.proofs.terms_fit.Tie as tie
 
 -- A number of line i.
 in-line : {k : ℕ} {buf : List ℤ} (i : ℕ) → Bounded k buf (i + 1) → (y : ℕ) → y < i * size k + size k → Within (edition1 .range) (getD buf y (pos 0))

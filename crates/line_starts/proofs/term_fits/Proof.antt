@@ -1,4 +1,4 @@
--- `lines::term_fits` meets its contract. Assumes nothing.
+-- `line_starts::term_fits` meets its contract. Assumes nothing.
 use mathlib.Core.Path.{_≡_, ap, ap₂, _∙_}
 use mathlib.Core.Bool.{Bool}
 use Prim.Native.Nat.{ℕ, _<_}
@@ -8,13 +8,13 @@ use lib.IntN.{ℤ, pos, natAbs, _+ℤ_, _*ℤ_}
 use mir.Syntax.{w64}
 use mir.Val.{toZ, ofZ, SFits}
 use mir.ValLaws.{toZ-ofZ, toZ-pos}
-use borrow.Author.Needs.{needs}
 use Rattle.integers.specs.Magnitude.{Within}
 use Rattle.integers.proofs.Magnitude.{within-add, within-mul, within-fits}
 use Rattle.forms.specs.Edition.{edition1, multiplierRange}
 use Rattle.forms.specs.Forms.{small}
-use Rattle.lines.proofs.term_fits.Statement.{statement}
-use Rattle.lines.proofs.term_fits.Tie as tie
+use borrow.Author.Needs.{needs}
+use Rattle.line_starts.proofs.term_fits.Statement.{statement}
+use Rattle.line_starts.proofs.term_fits.Tie as tie
 
 -- An integer as the machine word that holds it.
 abbrev word : ℤ → ℤ
