@@ -58,9 +58,9 @@ fn check_within(
 // most: its own part over 16 constants has 75, the stride part before it, where it closes a branch of a rounding, 75 too, and
 // 6 are for the heads of an and and an or.
 // A field makes one line at most, and has three bytes: up to check_212 there is room for the lines of two constraints, of
-// N / 3 fields and for one that is being made, each of 16 constants (in check_24 of 7 and in check_41 of 7, so that the arrays
-// have 1.8 and 2.6 KB). Then there is room for all lines that a branch may have, and one more. With these the arrays of
-// check_800 have 49 KB, about what the first cache holds; what is larger takes longer by the byte (docs/SPEED.md).
+// N / 3 fields and for one that is being made, each of 16 constants (in check_24 of 7, so that the arrays have 1.8 KB).
+// Then there is room for all lines that a branch may have, and one more. With these the arrays of check_900 have 53 KB, a little
+// more than the first cache holds; what is larger takes longer by the byte (docs/SPEED.md).
 // Kinds are few bytes, so up to check_any there is room for all.
 const BYTE_BYTES: usize = 39;
 
@@ -68,8 +68,6 @@ const BYTE_BYTES: usize = 39;
 const LINE_NUMBERS: usize = 2 * (CONSTANTS as usize + 1);
 
 const NUMBERS_24: usize = (8 + 3) * (2 * (7 + 1));
-
-const NUMBERS_41: usize = (13 + 3) * (2 * (7 + 1));
 
 const NUMBERS_66: usize = (22 + 3) * LINE_NUMBERS;
 
@@ -107,42 +105,6 @@ fn check_24(
 {
     let mut lines = [0i32; NUMBERS_24];
     let mut scratch = [0u8; 24 * BYTE_BYTES];
-    let mut kinds = [0u8; KINDS_ALL];
-    check_within(
-        a,
-        b,
-        first,
-        second,
-        proof,
-        at,
-        e,
-        k,
-        &mut lines,
-        &mut kinds,
-        &mut scratch,
-        out,
-    )
-}
-
-fn check_41(
-    a: &[u8],
-    b: &[u8],
-    first: Body,
-    second: Body,
-    proof: &[u8],
-    at: usize,
-    e: u8,
-    k: u8,
-    out: &mut [u8],
-) -> WriteResult
-    requires { ⌜ Begun (now a) (now b) first second (now proof) e k at ⌝ }
-    requires { ⌜ LinesWithin e (first .count + second .count + fieldsLeft (now proof) at) (edition1 .lines) ⌝ }
-    requires { ⌜ unreadBytes (now proof) at ≤ 41 ⌝ }
-    requires { ⌜ NumbersWithin e k (first .count + second .count + fieldsLeft (now proof) at) ((13 + 3) * size 7) ⌝ }
-    ensures { λ r. ⌜ Checks (now (a .entry)) (now (b .entry)) (now (proof .entry)) (now (out .entry)) (now (out .exit)) r ⌝ }
-{
-    let mut lines = [0i32; NUMBERS_41];
-    let mut scratch = [0u8; 41 * BYTE_BYTES];
     let mut kinds = [0u8; KINDS_ALL];
     check_within(
         a,
@@ -232,7 +194,7 @@ fn check_212(
     )
 }
 
-fn check_800(
+fn check_900(
     a: &[u8],
     b: &[u8],
     first: Body,
@@ -245,46 +207,11 @@ fn check_800(
 ) -> WriteResult
     requires { ⌜ Begun (now a) (now b) first second (now proof) e k at ⌝ }
     requires { ⌜ LinesWithin e (first .count + second .count + fieldsLeft (now proof) at) (edition1 .lines) ⌝ }
-    requires { ⌜ unreadBytes (now proof) at ≤ 800 ⌝ }
+    requires { ⌜ unreadBytes (now proof) at ≤ 900 ⌝ }
     ensures { λ r. ⌜ Checks (now (a .entry)) (now (b .entry)) (now (proof .entry)) (now (out .entry)) (now (out .exit)) r ⌝ }
 {
     let mut lines = [0i32; NUMBERS_ALL];
-    let mut scratch = [0u8; 800 * BYTE_BYTES];
-    let mut kinds = [0u8; KINDS_ALL];
-    check_within(
-        a,
-        b,
-        first,
-        second,
-        proof,
-        at,
-        e,
-        k,
-        &mut lines,
-        &mut kinds,
-        &mut scratch,
-        out,
-    )
-}
-
-fn check_1200(
-    a: &[u8],
-    b: &[u8],
-    first: Body,
-    second: Body,
-    proof: &[u8],
-    at: usize,
-    e: u8,
-    k: u8,
-    out: &mut [u8],
-) -> WriteResult
-    requires { ⌜ Begun (now a) (now b) first second (now proof) e k at ⌝ }
-    requires { ⌜ LinesWithin e (first .count + second .count + fieldsLeft (now proof) at) (edition1 .lines) ⌝ }
-    requires { ⌜ unreadBytes (now proof) at ≤ 1200 ⌝ }
-    ensures { λ r. ⌜ Checks (now (a .entry)) (now (b .entry)) (now (proof .entry)) (now (out .entry)) (now (out .exit)) r ⌝ }
-{
-    let mut lines = [0i32; NUMBERS_ALL];
-    let mut scratch = [0u8; 1200 * BYTE_BYTES];
+    let mut scratch = [0u8; 900 * BYTE_BYTES];
     let mut kinds = [0u8; KINDS_ALL];
     check_within(
         a,
@@ -338,7 +265,7 @@ fn check_any(
 }
 
 // A proof of more bytes than 212, or of more lines. A function of its own: the frame of a function has room for the largest of
-// its arrays, and each page of that is touched at every call. It stays one since it is called twice and has three choices
+// its arrays, and each page of that is touched at every call. It stays one since it is called twice
 // (docs/SPEED.md).
 fn check_long(
     a: &[u8],
@@ -356,11 +283,8 @@ fn check_long(
     ensures { λ r. ⌜ Checks (now (a .entry)) (now (b .entry)) (now (proof .entry)) (now (out .entry)) (now (out .exit)) r ⌝ }
 {
     let bytes = proof.len();
-    if bytes <= 800 {
-        return check_800(a, b, first, second, proof, at, e, k, out);
-    }
-    if bytes <= 1200 {
-        return check_1200(a, b, first, second, proof, at, e, k, out);
+    if bytes <= 900 {
+        return check_900(a, b, first, second, proof, at, e, k, out);
     }
     check_any(a, b, first, second, proof, at, e, k, out)
 }
@@ -493,11 +417,6 @@ pub fn check_lines(
         if bytes <= 24 {
             if numbers <= NUMBERS_24 {
                 return check_24(a, b, first, second, proof, at, e, k, out);
-            }
-        }
-        if bytes <= 41 {
-            if numbers <= NUMBERS_41 {
-                return check_41(a, b, first, second, proof, at, e, k, out);
             }
         }
         if bytes <= 66 {

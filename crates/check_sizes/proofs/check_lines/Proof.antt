@@ -56,8 +56,8 @@ same-length-2 c = search needs
 returns-2 : tie.Need-returns-2
 returns-2 c = search needs
 
-check-41-requires : tie.Need-check-41-requires
-check-41-requires c κs =
+check-66-requires : tie.Need-check-66-requires
+check-66-requires c κs =
     let s = c .before .before .before .before .before .before .before .before .before .before .before .before .before .args in
     let few = fields-few (s .proof .now) (s .at) in
     let m = s .first .count + s .second .count in
@@ -69,12 +69,12 @@ same-length-3 c = search needs
 returns-3 : tie.Need-returns-3
 returns-3 c = search needs
 
-check-66-requires : tie.Need-check-66-requires
-check-66-requires c κs =
-    let s = c .before .before .before .before .before .before .before .before .before .before .before .before .before .before .args in
+check-212-requires : tie.Need-check-212-requires
+check-212-requires c κs =
+    let s = c .before .before .before .before .before .before .before .before .before .before .before .before .before .args in
     let few = fields-few (s .proof .now) (s .at) in
     let m = s .first .count + s .second .count in
-    (c .before .before .before .before .before .before .before .before .before .before .before .before .before .before .pre, (lines-less m (s .e) (omega (arith, few)) (c .before .before .before .before .before .before .before .most-lines .ensures) (omega (arith, c .before .before .before .before .before .if2 .left)), (omega (arith, few, c .before .before .if7 .taken), numbers-less m (s .e) (omega (arith, few)) (c .before .before .before .before .before .before .before .most-lines .ensures) (s .k) (c .before .if8 .taken))))
+    (c .before .before .before .before .before .before .before .before .before .before .before .before .before .pre, (lines-less m (s .e) (omega (arith, few)) (c .before .before .before .before .before .before .most-lines .ensures) (omega (arith, c .before .before .before .before .if2 .left)), (omega (arith, few, c .before .before .before .before .before .if1 .taken), numbers-less m (s .e) (omega (arith, few)) (c .before .before .before .before .before .before .most-lines .ensures) (s .k) (c .before .if7 .taken))))
 
 same-length-4 : tie.Need-same-length-4
 same-length-4 c = search needs
@@ -82,12 +82,11 @@ same-length-4 c = search needs
 returns-4 : tie.Need-returns-4
 returns-4 c = search needs
 
-check-212-requires : tie.Need-check-212-requires
-check-212-requires c κs =
-    let s = c .before .before .before .before .before .before .before .before .before .before .before .before .before .before .args in
+check-long-requires : tie.Need-check-long-requires
+check-long-requires c κs =
+    let s = c .before .before .before .before .before .before .before .before .before .before .before .before .before .args in
     let few = fields-few (s .proof .now) (s .at) in
-    let m = s .first .count + s .second .count in
-    (c .before .before .before .before .before .before .before .before .before .before .before .before .before .before .pre, (lines-less m (s .e) (omega (arith, few)) (c .before .before .before .before .before .before .before .most-lines .ensures) (omega (arith, c .before .before .before .before .before .if2 .left)), (omega (arith, few, c .before .before .before .before .before .before .if1 .taken), numbers-less m (s .e) (omega (arith, few)) (c .before .before .before .before .before .before .before .most-lines .ensures) (s .k) (c .before .if9 .taken))))
+    (c .before .before .before .before .before .before .before .before .before .before .before .before .before .pre, lines-less (s .first .count + s .second .count) (s .e) (omega (arith, few)) (c .before .before .before .before .before .before .most-lines .ensures) (omega (arith, c .before .before .before .before .if2 .left)))
 
 same-length-5 : tie.Need-same-length-5
 same-length-5 c = search needs
@@ -95,11 +94,11 @@ same-length-5 c = search needs
 returns-5 : tie.Need-returns-5
 returns-5 c = search needs
 
-check-long-requires : tie.Need-check-long-requires
-check-long-requires c κs =
-    let s = c .before .before .before .before .before .before .before .before .before .before .before .before .before .before .args in
-    let few = fields-few (s .proof .now) (s .at) in
-    (c .before .before .before .before .before .before .before .before .before .before .before .before .before .before .pre, lines-less (s .first .count + s .second .count) (s .e) (omega (arith, few)) (c .before .before .before .before .before .before .before .most-lines .ensures) (omega (arith, c .before .before .before .before .before .if2 .left)))
+cast-if8 : tie.Need-cast-if8
+cast-if8 c = search needs
+
+check-wide-requires-2 : tie.Need-check-wide-requires-2
+check-wide-requires-2 c κs = search needs
 
 same-length-6 : tie.Need-same-length-6
 same-length-6 c = search needs
@@ -107,29 +106,17 @@ same-length-6 c = search needs
 returns-6 : tie.Need-returns-6
 returns-6 c = search needs
 
-cast-if10 : tie.Need-cast-if10
-cast-if10 c = search needs
-
-check-wide-requires-2 : tie.Need-check-wide-requires-2
-check-wide-requires-2 c κs = search needs
+check-long-requires-2 : tie.Need-check-long-requires-2
+check-long-requires-2 c κs =
+    let s = c .before .before .before .before .before .before .before .before .before .before .args in
+    let few = fields-few (s .proof .now) (s .at) in
+    (c .before .before .before .before .before .before .before .before .before .before .pre, lines-less (s .first .count + s .second .count) (s .e) (omega (arith, few)) (c .before .before .before .most-lines .ensures) (omega (arith, c .before .if8 .left)))
 
 same-length-7 : tie.Need-same-length-7
 same-length-7 c = search needs
 
 returns-7 : tie.Need-returns-7
 returns-7 c = search needs
-
-check-long-requires-2 : tie.Need-check-long-requires-2
-check-long-requires-2 c κs =
-    let s = c .before .before .before .before .before .before .before .before .before .before .args in
-    let few = fields-few (s .proof .now) (s .at) in
-    (c .before .before .before .before .before .before .before .before .before .before .pre, lines-less (s .first .count + s .second .count) (s .e) (omega (arith, few)) (c .before .before .before .most-lines .ensures) (omega (arith, c .before .if10 .left)))
-
-same-length-8 : tie.Need-same-length-8
-same-length-8 c = search needs
-
-returns-8 : tie.Need-returns-8
-returns-8 c = search needs
 
 pub check-lines-spec : {M : Type 1} → statement M
 check-lines-spec =
@@ -149,22 +136,19 @@ check-lines-spec =
     check-24-requires
     same-length-2
     returns-2
-    check-41-requires
+    check-66-requires
     same-length-3
     returns-3
-    check-66-requires
+    check-212-requires
     same-length-4
     returns-4
-    check-212-requires
+    check-long-requires
     same-length-5
     returns-5
-    check-long-requires
+    cast-if8
+    check-wide-requires-2
     same-length-6
     returns-6
-    cast-if10
-    check-wide-requires-2
-    same-length-7
-    returns-7
     check-long-requires-2
-    same-length-8
-    returns-8)
+    same-length-7
+    returns-7)

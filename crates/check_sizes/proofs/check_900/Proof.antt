@@ -1,4 +1,4 @@
--- `check_sizes::check_800` meets its contract: its buffers have the room that is asked. Assumes nothing.
+-- `check_sizes::check_900` meets its contract: its buffers have the room that is asked. Assumes nothing.
 use native.Mathlib.Omega.{arith}
 use Prim.Native.Nat.{ℕ, _+_}
 use lib.IntN.{ℤ, pos}
@@ -6,8 +6,8 @@ use lib.ListN.{length-replicate}
 use Rattle.branches.specs.Spare.{fieldsLeft}
 use Rattle.check_sizes.proofs.Sparing.{spare-all}
 use borrow.Author.Needs.{needs}
-use Rattle.check_sizes.proofs.check_800.Statement.{statement}
-use Rattle.check_sizes.proofs.check_800.Tie as tie
+use Rattle.check_sizes.proofs.check_900.Statement.{statement}
+use Rattle.check_sizes.proofs.check_900.Tie as tie
 
 slice-aggregate-check-within : tie.Need-slice-aggregate-check-within
 slice-aggregate-check-within c = search needs
@@ -21,7 +21,7 @@ slice-aggregate-check-within-3 c = search needs
 check-within-requires : tie.Need-check-within-requires
 check-within-requires c κs =
     let w = c .before .before .before .before .before .before .before .before .pre in
-    (w .0, (spare-all (c .before .before .before .before .before .before .before .before .args .e) (c .before .before .before .before .before .before .before .before .args .first .count + c .before .before .before .before .before .before .before .before .args .second .count + fieldsLeft (c .before .before .before .before .before .before .before .before .args .proof .now) (c .before .before .before .before .before .before .before .before .args .at)) (w .1 .0) (omega (arith, length-replicate {A = ℕ} 129 0)) (w .0 .both .high) (omega (arith, length-replicate {A = ℤ} 4386 (pos 0))), record { enough = λ l h u. omega (arith, w .1 .1, length-replicate {A = ℕ} 31200 0) }))
+    (w .0, (spare-all (c .before .before .before .before .before .before .before .before .args .e) (c .before .before .before .before .before .before .before .before .args .first .count + c .before .before .before .before .before .before .before .before .args .second .count + fieldsLeft (c .before .before .before .before .before .before .before .before .args .proof .now) (c .before .before .before .before .before .before .before .before .args .at)) (w .1 .0) (omega (arith, length-replicate {A = ℕ} 129 0)) (w .0 .both .high) (omega (arith, length-replicate {A = ℤ} 4386 (pos 0))), record { enough = λ l h u. omega (arith, w .1 .1, length-replicate {A = ℕ} 35100 0) }))
 
 same-length : tie.Need-same-length
 same-length c = search needs
@@ -29,8 +29,8 @@ same-length c = search needs
 returns : tie.Need-returns
 returns c = search needs
 
-pub check-800-spec : {M : Type 1} → statement M
-check-800-spec =
+pub check-900-spec : {M : Type 1} → statement M
+check-900-spec =
     tie.close
     (tie.spec
     slice-aggregate-check-within
