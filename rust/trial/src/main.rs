@@ -24,8 +24,8 @@ use Rattle.integers.specs.Remainder.{remainder}
 use Rattle.forms.specs.Forms.{coeff, sum, value, sums, _⊞_, _·_, _plus_, nonzero, small, every}
 use Rattle.forms.specs.Reduced.{reduced}
 use Rattle.calculus.specs.Rules.{inRange}
-use Rattle.fields.specs.Answers.{position, answerAt, rowTold, _>>=_, _>>_, need, found, each, over, fit, written}
-use Rattle.fields.specs.Numbers.{unsigned, complement, signed, unsignedBytes, residue, signedBytes, signeds, signedsBytes, flat, formFrom, formBytes}
+use Rattle.answers.specs.Answers.{position, answerAt, rowTold, _>>=_, _>>_, need, found, each, over, fit, written}
+use Rattle.number_bytes.specs.Numbers.{unsigned, complement, signed, unsignedBytes, residue, signedBytes, signeds, signedsBytes, flat, formFrom, formBytes}
 use Rattle.fields.specs.Fields.{front, note, unlessNote, fieldsFrom, fields, fieldBytes, nth}
 use Rattle.fields.specs.Header.{headerTag, known, agrees, headerField, editionField, constantsField, header, finished, headerBytes}
 use Rattle.bundle.specs.Bundle.{kindTagged, atMost, formSmall, constraints, bundleHeader, bundle, bundles}
