@@ -1,7 +1,6 @@
 -- A test that holds of each, as a test of all. Assumes nothing.
 use mathlib.Core.Bool.{Bool}
 use mathlib.Core.List.{List, [], _∷_}
-use Prim.Native.Nat.{_-_}
 use lib.Dec.{T}
 use lib.IntN.{ℤ}
 use mir.Facts.{and-yes, yes-and}
