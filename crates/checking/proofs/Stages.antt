@@ -1,4 +1,4 @@
--- The check stage by stage, over plain values: each refusal, the root, and that a formula which is not too long stands in the scratch. Assumes nothing.
+-- The check stage by stage, over plain values: each refusal on the way, and the check that is begun. Assumes nothing.
 use mathlib.Core.Path.{_≡_, sym, ap, _∙_, subst}
 use mathlib.Core.Option.{Option, some}
 use mathlib.Core.List.{List}

@@ -51,7 +51,7 @@ fn append(
     Derived::Refused { number: 16 }
 }
 
-// FM-ELIM of Figure 6 in source 000: α·s, then β·t, then their sum αs + βt; then the partial interpolants in the same steps, αsA + βtA (`lines::mix`). 10, 11, 12, then as `append`.
+// FM-ELIM of Figure 6 in source 000: α·s, then β·t, then their sum αs + βt; then the partial interpolants in the same steps, αsA + βtA (`line_sums::mix`). 10, 11, 12, then as `append`.
 pub fn combine(
     lines: &mut [i32],
     kinds: &mut [u8],
