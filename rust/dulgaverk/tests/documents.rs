@@ -1,5 +1,6 @@
 //! docs/GUARANTEES.md names every file under specs/, those to be believed with their lines, and only files that are there;
-//! docs/MUST-FAIL.md names every edit, and only edits that are there.
+//! docs/MUST-FAIL.md names every edit, and only edits that are there;
+//! docs/PROOF.md names laws, contracts and functions that stand in the files it gives for them.
 
 mod common;
 use common::root;
@@ -87,4 +88,49 @@ fn every_edit_is_listed() {
         let known = name.starts_with("crates/") || name.starts_with("./") || edits.contains(name);
         assert!(known, "{name} is not there");
     }
+}
+
+/// Whether a definition, a law or a function of that name is declared there.
+fn declares(text: &str, name: &str) -> bool {
+    text.lines().any(|line| {
+        let mut words = line
+            .split_whitespace()
+            .skip_while(|w| ["pub", "abbrev", "unfoldable"].contains(w));
+        match words.next() {
+            Some("data" | "record" | "fn") => words
+                .next()
+                .is_some_and(|w| w.split(['(', '<']).next() == Some(name)),
+            first => first == Some(name) && words.next() == Some(":"),
+        }
+    })
+}
+
+/// In each line a name belongs to the file that follows it, or to one given for it further up; the last name before a file is that file's own.
+#[test]
+fn names_of_the_tour_stand_in_their_files() {
+    let page = fs::read_to_string(root().join("docs/PROOF.md")).expect("a page");
+    let mut given = BTreeSet::new();
+    for line in page.lines() {
+        let mut names = Vec::new();
+        for quoted in line.split('`').skip(1).step_by(2) {
+            if !quoted.contains('/') {
+                names.push(quoted);
+                continue;
+            }
+            let path = root().join("crates").join(quoted);
+            let text =
+                fs::read_to_string(&path).unwrap_or_else(|_| panic!("{quoted} is not there"));
+            let own = names.last().copied();
+            for name in names.drain(..) {
+                let stands = declares(&text, name);
+                let known = given.contains(name) && own != Some(name);
+                assert!(stands || known, "{name} is not in {quoted}");
+                given.insert(name);
+            }
+        }
+        for name in names {
+            assert!(given.contains(name), "{name} has no file");
+        }
+    }
+    assert!(given.len() > 100, "{} names", given.len());
 }
