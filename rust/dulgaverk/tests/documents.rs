@@ -1,6 +1,7 @@
 //! docs/GUARANTEES.md names every file under specs/, those to be believed with their lines, and only files that are there;
 //! docs/MUST-FAIL.md names every edit, and only edits that are there;
-//! docs/PROOF.md names laws, contracts and functions that stand in the files it gives for them.
+//! docs/PROOF.md names laws, contracts and functions that stand in the files it gives for them;
+//! README.md has every crate in its diagram and in its table, and only crates that are there.
 
 mod common;
 use common::root;
@@ -133,4 +134,33 @@ fn names_of_the_tour_stand_in_their_files() {
         }
     }
     assert!(given.len() > 100, "{} names", given.len());
+}
+
+#[test]
+fn every_crate_is_in_the_layout() {
+    let list = fs::read_to_string(root().join("crates.txt")).expect("a list");
+    let crates: BTreeSet<String> = list
+        .lines()
+        .filter(|line| !line.starts_with('#'))
+        .filter_map(|line| line.split_once(':'))
+        .map(|(name, _)| name.to_string())
+        .collect();
+    let page = fs::read_to_string(root().join("README.md")).expect("a page");
+    let layout = page.split("## Layout").nth(1).expect("the part");
+    let (_, rest) = layout.split_once("```text").expect("a diagram");
+    let (diagram, table) = rest.split_once("```").expect("its end");
+    let drawn: BTreeSet<&str> = diagram.split_whitespace().collect();
+    for name in &crates {
+        assert!(
+            drawn.contains(name.as_str()),
+            "{name} is not in the diagram"
+        );
+    }
+    let listed: BTreeSet<String> = table
+        .lines()
+        .filter_map(|line| line.strip_prefix("| "))
+        .filter_map(|line| line.split(" | ").next())
+        .flat_map(quoted)
+        .collect();
+    assert_eq!(listed, crates);
 }
