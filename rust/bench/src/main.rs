@@ -1,6 +1,7 @@
-//! Times the verified operations beside the independent Rust checker, and writes the table and the plot.
+//! Times the verified operations beside the independent Rust checker and prints the table; asked to, it also writes it,
+//! with the plot.
 //!
-//! usage: bench FOLDER [ROUNDS]      (writes FOLDER/BENCHMARKS.md and FOLDER/bench.svg)
+//! usage: bench [--write] [ROUNDS]      (writes docs/BENCHMARKS.md and docs/bench.svg in the working directory)
 
 mod measure;
 mod plot;
@@ -8,22 +9,20 @@ mod report;
 mod work;
 
 use measure::measure;
-use std::path::Path;
 use std::process::ExitCode;
 
 fn main() -> ExitCode {
-    let arguments: Vec<String> = std::env::args().skip(1).collect();
-    let (folder, rounds) = match arguments.as_slice() {
-        [folder] => (folder, Some(301)),
-        [folder, rounds] => (folder, rounds.parse().ok()),
-        _ => {
-            eprintln!("usage: bench FOLDER [ROUNDS]");
-            return ExitCode::FAILURE;
-        }
+    let mut arguments: Vec<String> = std::env::args().skip(1).collect();
+    let write = arguments.first().is_some_and(|first| first == "--write");
+    arguments.drain(..usize::from(write));
+    let rounds = match arguments.as_slice() {
+        [] => Some(301),
+        [rounds] => rounds.parse().ok().filter(|&rounds| rounds > 0),
+        _ => None,
     };
-    let Some(rounds) = rounds.filter(|&rounds| rounds > 0) else {
-        eprintln!("ROUNDS is a number above 0");
-        return ExitCode::FAILURE;
+    let Some(rounds) = rounds else {
+        eprintln!("usage: bench [--write] [ROUNDS], a number above 0");
+        return ExitCode::from(2);
     };
     let mut timed = Vec::new();
     for work in work::all() {
@@ -31,17 +30,17 @@ fn main() -> ExitCode {
         println!("{}", report::line(&work, &time));
         timed.push((work, time));
     }
-    let folder = Path::new(folder);
-    let written = std::fs::write(
-        folder.join("BENCHMARKS.md"),
-        report::page(&timed, rounds, &machine()),
-    )
-    .and_then(|()| std::fs::write(folder.join("bench.svg"), plot::plot(&timed)));
+    if !write {
+        return ExitCode::SUCCESS;
+    }
+    let page = report::page(&timed, rounds, &machine());
+    let written = std::fs::write("docs/BENCHMARKS.md", page)
+        .and_then(|()| std::fs::write("docs/bench.svg", plot::plot(&timed)));
     match written {
         Ok(()) => ExitCode::SUCCESS,
         Err(error) => {
-            eprintln!("{}: {error}", folder.display());
-            ExitCode::FAILURE
+            eprintln!("docs: {error}");
+            ExitCode::from(2)
         }
     }
 }

@@ -46,10 +46,10 @@ pub fn page(timed: &[(Work, Time)], rounds: usize, machine: &str) -> String {
         .fold(0.0, f64::max);
     let _ = write!(
         text,
-        "Written by `./bench`: the verified operations, called through the static library, beside the independent Rust \
-         checker, called through functions that are not inlined. Both are optimised builds for plain x86-64; Rust's has \
-         link-time optimisation. Medians of {rounds} rounds, the two sides in turn; a ratio above 1 says that Rattle \
-         is slower. Largest ratio: {most:.2}. Measured on {machine}.\n\n\
+        "Written by `./bench --write`: the verified operations, called through the static library, beside the \
+         independent Rust checker, called through functions that are not inlined. Both are optimised builds for plain \
+         x86-64; Rust's has link-time optimisation. Medians of {rounds} rounds, the two sides in turn; a ratio above 1 \
+         says that Rattle is slower. Largest ratio: {most:.2}. Measured on {machine}.\n\n\
          | Call | Rattle | Rust | Ratio | Middle half of the rounds |\n|---|---|---|---|---|\n"
     );
     for (work, time) in timed {
