@@ -4,7 +4,12 @@ use compare::{compare, Tally, COMPARED};
 use stages::rng::Rng;
 use stages::table::Size;
 use stages::{stream, Class, CLASSES};
+use std::io::{stderr, IsTerminal};
 use std::process::ExitCode;
+use std::time::{Duration, Instant};
+
+/// How often a terminal is told how far the comparison is.
+const TOLD_EVERY: Duration = Duration::from_millis(500);
 
 fn main() -> ExitCode {
     let numbers: Option<Vec<u64>> = std::env::args()
@@ -17,10 +22,11 @@ fn main() -> ExitCode {
         Some([seed, calls]) => (*seed, *calls),
         _ => {
             eprintln!("usage: compare [SEED [CALLS]]");
-            return ExitCode::FAILURE;
+            return ExitCode::from(2);
         }
     };
-    let start = std::time::Instant::now();
+    let start = Instant::now();
+    let mut told = stderr().is_terminal().then_some(start);
     let mut rng = Rng::new(seed);
     let mut tally = Tally::default();
     let mut streams = Vec::new();
@@ -44,6 +50,14 @@ fn main() -> ExitCode {
                 compare(&case, &mut rng, &mut tally);
             }
         }
+        if told.is_some_and(|last| last.elapsed() >= TOLD_EVERY) {
+            let (made, differences) = (tally.all_calls(), tally.differences());
+            eprint!("\r{made} of {calls} calls, {differences} differences");
+            told = Some(Instant::now());
+        }
+    }
+    if told.is_some() {
+        eprint!("\r\x1b[K");
     }
     println!("{tally}");
     println!("seed {seed}, {} s", start.elapsed().as_secs());
