@@ -317,7 +317,7 @@ pub fn check_into(a: &[u8], b: &[u8], proof: &[u8], out: &mut [u8]) -> Result<us
     accepted(r.answer, r.count)
 }
 
-/// Whether the formula holds at these register values, one for each constant.
+/// Whether the formula holds at these register values, one for each constant, each within ±1,000,000.
 ///
 /// ```
 /// // 2 divides y, over x, y, z.
