@@ -84,12 +84,11 @@ library() {
 }
 
 # Builds Rust packages, from the root. On a terminal cargo shows how far it is.
-packages() { # FOLDER WORD...
+packages() { # WHAT FOLDER WORD...
     needs cargo Rust
-    CARGO_TARGET_DIR=$root/$1
-    export CARGO_TARGET_DIR
+    tell "building $1"
+    export CARGO_TARGET_DIR="$root/$2"
     [ -t 2 ] || export CARGO_TERM_QUIET=true
-    shift
-    tell "building in rust/: $*"
+    shift 2
     cargo build --offline --manifest-path rust/Cargo.toml "$@" || exit 2
 }

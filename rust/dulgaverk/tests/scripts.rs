@@ -75,22 +75,21 @@ impl Bare {
         for file in SCRIPTS.iter().chain(&["scripts/program.sh", "crates.txt"]) {
             fs::copy(root().join(file), folder.join(file)).expect("a file");
         }
-        for tool in ["sh", "readlink", "sed", "find", "head"] {
+        for tool in ["sh", "readlink", "sed", "find", "head", "mkdir", "cat"] {
             let found = text(&shell(&format!("command -v {tool}")).stdout);
             symlink(found.trim_end(), folder.join("tools").join(tool)).expect("a link");
         }
         Bare { folder }
     }
 
-    /// A program in place of the one that is built. A shell writes it, so that no other test has it open when it is run.
-    fn program(&self, name: &str, lines: &str) {
-        let path = self.folder.join("target/bin").join(name);
+    /// Puts a program there. A shell writes it, so that no other test has it open when it is run.
+    fn put(&self, path: &str, lines: &str) {
         let written = Command::new("sh")
             .args([
                 "-c",
                 r#"printf '#!/bin/sh\n%s\n' "$1" >"$0"; chmod +x "$0""#,
             ])
-            .args([path.as_os_str(), lines.as_ref()])
+            .args([self.folder.join(path).as_os_str(), lines.as_ref()])
             .status();
         assert!(written.expect("a shell").success());
     }
@@ -297,7 +296,7 @@ fn senseless_text() {
         ("echo true", 2),
         ("echo accepted 1; echo 0A; exit 1", 2),
     ] {
-        bare.program("checker", lines);
+        bare.put("target/bin/checker", lines);
         let output = bare.run("check", &[folder]);
         assert_eq!(status(&output), expected, "{lines}");
     }
@@ -313,7 +312,7 @@ fn senseless_text() {
         ("echo true; exit 1", 2, 2),
         ("echo true; kill -9 $$", 2, 2),
     ] {
-        bare.program("guard", lines);
+        bare.put("target/bin/guard", lines);
         let output = bare.run("guard", &[folder]);
         assert_eq!(status(&output), expected, "{lines}");
         let output = bare.run("guard", &["-e", folder]);
@@ -408,6 +407,39 @@ fn without_the_kit() {
         let told = format!("{missing} is not there: ./{script} needs ");
         assert!(text(&output.stderr).starts_with(&told), "{script}");
         assert!(output.stdout.is_empty(), "{script}");
+        assert_eq!(status(&output), 2, "{script}");
+    }
+}
+
+/// What is built is said. A build that fails is no refusal, no difference and no false: the status is 2.
+#[test]
+fn builds() {
+    let bare = Bare::new("builds");
+    let folder = bare.folder.to_str().expect("a path");
+    bare.put("tools/clang", "exit 1");
+    bare.put("tools/rt", "echo not proved; exit 1");
+    for script in ["check", "guard"] {
+        let output = bare.run(script, &[folder]);
+        assert_eq!(status(&output), 2, "{script}");
+        assert!(output.stdout.is_empty(), "{script}");
+    }
+    let library = "building target/staticlib/libdulgaverk.a";
+    let others = ["compare", "bench", "fuzz"];
+    for script in others {
+        let output = bare.run(script, &[]);
+        let told = text(&output.stderr);
+        assert!(told.starts_with(library), "{told}");
+        assert!(told.ends_with("\nnot proved\n"), "{told}");
+        assert_eq!(status(&output), 2, "{script}");
+    }
+    bare.put("tools/rt", "");
+    bare.put("tools/cargo", "exit 1");
+    for script in others {
+        let output = bare.run(script, &[]);
+        let told = text(&output.stderr);
+        assert!(told.starts_with(library), "{told}");
+        let package = format!("\nbuilding rust/{script}\n");
+        assert!(told.ends_with(&package), "{told}");
         assert_eq!(status(&output), 2, "{script}");
     }
 }
