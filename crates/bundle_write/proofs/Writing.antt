@@ -19,9 +19,9 @@ use Rattle.number_bytes.proofs.Stores.{sets-append}
 use Rattle.fields.specs.Header.{headerBytes}
 use Rattle.fields.specs.Fields.{fieldBytes}
 use Rattle.bundle.specs.Show.{answerOf}
-use Rattle.bundle.specs.Write.{constraintsBytes, holdable, bundleBytes, writeBundle}
+use Rattle.bundle.specs.Write.{constraintsBytes, holdable, encodeBundle, writeBundle}
 use Rattle.bundle.specs.Writable.{fieldSize, InOrder}
-use Rattle.bundle.proofs.Writable.{bytesOf, bundleBytes-gives}
+use Rattle.bundle.proofs.Writable.{bytesOf, encodeBundle-gives}
 use Rattle.number_ranges.specs.First.{firstBad}
 use Rattle.bundle_write.specs.Promises.{Writes}
 use Rattle.bundle_write.proofs.Putting.{bundle-size}
@@ -53,30 +53,30 @@ module _ {X : Type 0} (at : ℕ → Answer) (p : X → Bool) where
 -- ---- what `write_fault` answers
 module _ (newest n K : ℕ) (kinds : List ℕ) (numbers : List ℤ) where
   abbrev fault : Answer
-  fault = answerOf (bundleBytes newest n K kinds numbers)
+  fault = answerOf (encodeBundle newest n K kinds numbers)
 
   pub fault-edition : (leb 1 n && leb n newest) ≡ false → fault ≡ answer 5 4 0
-  unfolding bundleBytes answerOf need _>>_
+  unfolding encodeBundle answerOf need _>>_
   fault-edition h = rw h
 
   module _ (e : (leb 1 n && leb n newest) ≡ true) where
     pub fault-k : (leb 1 K && leb K 16) ≡ false → fault ≡ answer 7 4 0
-    unfolding bundleBytes answerOf need _>>_
+    unfolding encodeBundle answerOf need _>>_
     fault-k h = rw (e, h)
 
     module _ (h : (leb 1 K && leb K 16) ≡ true) where
       pub fault-count : 32 < length kinds → fault ≡ answer 8 4 0
-      unfolding bundleBytes answerOf need _>>_
+      unfolding encodeBundle answerOf need _>>_
       fault-count l = rw (e, h, lt-leb (length kinds) 32 l)
 
       module _ (l : length kinds ≤ 32) where
         pub fault-kind : firstBad (λ kind. leb kind 2) 0 kinds < length kinds → fault ≡ answer 24 4 (firstBad (λ kind. leb kind 2) 0 kinds)
-        unfolding bundleBytes answerOf need _>>_
+        unfolding encodeBundle answerOf need _>>_
         fault-kind b = rw (e, h, le-leb (length kinds) 32 l, each-bad (λ i. answer 24 fileLent i) (λ kind. leb kind 2) 0 kinds (omega arith))
 
         module _ (g : length kinds ≤ firstBad (λ kind. leb kind 2) 0 kinds) where
           pub fault-size : (length numbers ≡ length kinds * (K + 1) → ⊥) → fault ≡ answer 24 4 (length kinds)
-          unfolding bundleBytes answerOf need _>>_
+          unfolding encodeBundle answerOf need _>>_
           fault-size m =
               let z : K + 1 ≡ suc K = omega arith in
               rw (e, h, le-leb (length kinds) 32 l, each-good (λ i. answer 24 fileLent i) (λ kind. leb kind 2) 0 kinds (omega arith), ne-eqb (length numbers) (length kinds * suc K) (rw z at m))
@@ -84,7 +84,7 @@ module _ (newest n K : ℕ) (kinds : List ℕ) (numbers : List ℤ) where
           module _ (m : length numbers ≡ length kinds * (K + 1)) where
             -- only the numbers are left to test
             numbers-only : fault ≡ answerOf (each (λ i. answer 13 fileLent i) (holdable (edition n .coefficientWidth)) 0 numbers >> accepted (bytesOf n K kinds numbers))
-            unfolding bundleBytes need _>>_
+            unfolding encodeBundle need _>>_
             numbers-only =
                 let z : K + 1 ≡ suc K = omega arith in
                 rw (e, h, le-leb (length kinds) 32 l, each-good (λ i. answer 24 fileLent i) (λ kind. leb kind 2) 0 kinds (omega arith), eq-eqb (length numbers) (length kinds * suc K) (rw z at m))
@@ -110,16 +110,16 @@ pub record Granted (newest n K : ℕ) (kinds : List ℕ) (numbers : List ℤ) (B
   pub order : InOrder newest n K kinds numbers
   pub answer-is : a ≡ acceptance
 
-module _ (newest n K : ℕ) (kinds : List ℕ) (numbers : List ℤ) {a : Answer} (e : a ≡ answerOf (bundleBytes newest n K kinds numbers)) where
-  pub granted : a .number ≡ 0 → Granted newest n K kinds numbers (bundleBytes newest n K kinds numbers) a
+module _ (newest n K : ℕ) (kinds : List ℕ) (numbers : List ℤ) {a : Answer} (e : a ≡ answerOf (encodeBundle newest n K kinds numbers)) where
+  pub granted : a .number ≡ 0 → Granted newest n K kinds numbers (encodeBundle newest n K kinds numbers) a
   unfolding answerOf
-  granted z = go _ (bundleBytes-gives newest n K kinds numbers) e
+  granted z = go _ (encodeBundle-gives newest n K kinds numbers) e
     where
       go : (B : Result (List ℕ)) → Gives B (λ bytes. InOrder newest n K kinds numbers × (bytes ≡ bytesOf n K kinds numbers)) → a ≡ answerOf B → Granted newest n K kinds numbers B a
       go (refused r) g e = absurd (not-0 (g .refusal r refl) (rw e at z))
       go (accepted bytes) g e = record { grants = ap accepted (g .gives bytes refl .1); order = g .gives bytes refl .0; answer-is = e }
 
-  pub not-granted : (a .number ≡ 0 → ⊥) → bundleBytes newest n K kinds numbers ≡ refused a
+  pub not-granted : (a .number ≡ 0 → ⊥) → encodeBundle newest n K kinds numbers ≡ refused a
   unfolding answerOf
   not-granted z = go _ e
     where
@@ -128,12 +128,12 @@ module _ (newest n K : ℕ) (kinds : List ℕ) (numbers : List ℤ) {a : Answer}
       go (accepted bytes) e = absurd (z (rw e))
 
 module _ (n K : ℕ) (kinds : List ℕ) (numbers : List ℤ) (out : List ℕ) where
-  pub write-refused : {a : Answer} → bundleBytes 2 n K kinds numbers ≡ refused a
+  pub write-refused : {a : Answer} → encodeBundle 2 n K kinds numbers ≡ refused a
       → Writes n K kinds numbers out out (record { answer = a; count = 0 })
   unfolding writeBundle written
   write-refused e = record { is = rw e }
 
-  module _ {a : Answer} (t : Granted 2 n K kinds numbers (bundleBytes 2 n K kinds numbers) a) {w : ℕ} (v : w ≡ edition n .coefficientWidth) where
+  module _ {a : Answer} (t : Granted 2 n K kinds numbers (encodeBundle 2 n K kinds numbers) a) {w : ℕ} (v : w ≡ edition n .coefficientWidth) where
     size-is : length (bytesOf n K kinds numbers) ≡ 8 + length kinds * fieldSize w K
     size-is =
         let e : suc K ≡ K + 1 = omega arith in

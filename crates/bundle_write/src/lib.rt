@@ -16,13 +16,13 @@ use put::first_bad;
 use put::put_constraints;
 ghost use mathlib.Core.Path.{_≡_};
 ghost use Rattle.forms.specs.Edition.{newestEdition};
-ghost use Rattle.bundle.specs.Write.{bundleBytes};
+ghost use Rattle.bundle.specs.Write.{encodeBundle};
 ghost use Rattle.bundle.specs.Show.{answerOf};
 ghost use Rattle.bundle_write.specs.Promises.{Writes};
 
 // What a bundle to write is refused for, apart from the output: its answer, or that of an accepted one.
 fn write_fault(edition: u8, k: u8, kinds: &[u8], numbers: &[i32]) -> Answer
-    ensures { λ r. ⌜ r ≡ answerOf (bundleBytes newestEdition edition k (now (kinds .entry)) (now (numbers .entry))) ⌝ }
+    ensures { λ r. ⌜ r ≡ answerOf (encodeBundle newestEdition edition k (now (kinds .entry)) (now (numbers .entry))) ⌝ }
 {
     if between(edition, 1, NEWEST) {
         if between(k, 1, CONSTANTS) {

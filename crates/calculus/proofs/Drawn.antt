@@ -8,7 +8,7 @@ use lib.IntN.{ℤ, +ℤ-idr}
 use Rattle.forms.specs.Edition.{Edition}
 use Rattle.forms.specs.Forms.{Form, Kind, ≤0, =0, Line, line, lineApart, neg, Constraint, lines, All, nil, cons, coeff, nonzero, occurs, Formula, names, _plus_}
 use Rattle.calculus.specs.Rules.{Nth, _▷_, Closed, derive, strengthen, round, splitEq, splitNeq, number, stride, Rounded, last, more}
-use Rattle.calculus.specs.Reached.{Drawn, DrawnApart, Reached, root, derived, branched, split, splitNegated, Throughout, ThroughoutRounded}
+use Rattle.calculus.specs.Reached.{Drawn, DrawnBySide, Reached, root, derived, branched, split, splitNegated, Throughout, ThroughoutRounded}
 use Rattle.calculus.proofs.Sides.{Side, A, B, part, all-nth}
 use Rattle.calculus.proofs.Vocabulary.{Words, words-new, words-raised, words-neg, vocabulary}
 use Rattle.calculus.proofs.Interpolation.{sides, initial-words, occurs-if}
@@ -107,8 +107,8 @@ pub drawn-throughout : (As Bs : List Constraint) {e : Edition} {inB : ℕ → Bo
 drawn-throughout As Bs p = throughout p (λ ls. drawn As Bs) (reached p root)
 
 -- Point 10.
-pub drawn-apart : (As Bs : List Constraint) → DrawnApart As Bs
-drawn-apart As Bs = record {
+pub drawn-by-side : (As Bs : List Constraint) → DrawnBySide As Bs
+drawn-by-side As Bs = record {
   of-lines = λ ls r. drawn As Bs r;
   of-rows = λ e inB I p. drawn-throughout As Bs p;
   of-closes = λ e ls I r p c n. names-common As Bs r p c n;

@@ -10,7 +10,7 @@ use lib.IntN.{ℤ, pos, _+ℤ_, +ℤ-idr}
 use Rattle.integers.specs.Divides.{_∣ℤ_}
 use Rattle.forms.specs.Edition.{Edition}
 use Rattle.forms.specs.Forms.{Form, ≤0, =0, Line, line, Constraint, occurs, Formula, _and_, _or_, coeff, _plus_}
-use Rattle.calculus.specs.Rules.{Nth, _▷_, step, Room, StrideOf, Closed, derive, strengthen, round, splitEq, splitNeq, number, stride, Rounded, last, more, Derive, Strengthen, Round, Entry, row, claims, entries, entriesRounded, rowCount, rowCountRounded, depth, depthRounded, Proves}
+use Rattle.calculus.specs.Rules.{Nth, _▷_, inference, Room, StrideOf, Closed, derive, strengthen, round, splitEq, splitNeq, number, stride, Rounded, last, more, Derive, Strengthen, Round, Entry, row, claims, entries, entriesRounded, rowCount, rowCountRounded, depth, depthRounded, Proves}
 use Rattle.calculus.specs.Tied.{_then_, OnlyStride, Tied, TiedRounded}
 use Rattle.calculus.proofs.Drawn.{plus-0}
 
@@ -104,7 +104,7 @@ module _ (e : Edition) (inB : ℕ → Bool) where
         let x = tied p most rest (h .0) (h .1) in
         record {
           proof = derive claimed n room (x .proof);
-          are = ap (λ (y : List Entry). row (Derive (step n)) ∷ claims claimed l y) (x .are) ∙ sym (h .2);
+          are = ap (λ (y : List Entry). row (Derive (inference n)) ∷ claims claimed l y) (x .are) ∙ sym (h .2);
           few = omega (arith, x .few);
           flat = x .flat;
         }

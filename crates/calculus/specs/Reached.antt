@@ -43,7 +43,7 @@ abbrev mutual
   ThroughoutRounded P (more _ _ p ps) = Throughout P p × ThroughoutRounded P ps
 
 -- Point 10: over all rows partial interpolants draw their constants from A alone and the rest of a line from B alone, so a close names common ones only.
-pub record DrawnApart (A B : List Constraint) : Type 0 where
+pub record DrawnBySide (A B : List Constraint) : Type 0 where
   -- every line of every list that rows reach
   pub of-lines : (ls : List Line) → Reached A B ls → All (Drawn A B) ls
   -- every line that each row of a closed proof from A and B finds

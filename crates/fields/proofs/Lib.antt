@@ -9,5 +9,5 @@ pub mod Places
 pub mod Stores
 pub mod Headers
 pub mod Endings
-pub mod Apart
+pub mod Unpacking
 pub mod Together

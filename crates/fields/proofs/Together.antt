@@ -36,7 +36,7 @@ use types.Run.{look, init, forget, stop, from, load, and-then, no-more, assigns,
 use Rattle.fields.specs.declared.Fields.{Fields}
 use Rattle.fields.proofs.Fields as T
 use Rattle.fields.proofs.Fields.Laws as T′
-use Rattle.fields.proofs.Apart.{B, OfType, carried-ended, carried-clauses, loose-ended, loose-clauses, Carried}
+use Rattle.fields.proofs.Unpacking.{B, OfType, carried-ended, carried-clauses, loose-ended, loose-clauses, Carried}
 
 -- the MIR of such a function, at the callee's key
 abbrev togetherFn : Ty → Name → Fn

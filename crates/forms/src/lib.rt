@@ -1,5 +1,5 @@
 // Forms, constraints, lines and formulas, and what they say: specs/. Here are the numbers of lines and rows, and the limits that
-// code tests, as specs/Edition.antt has them. Document 01, "Forms and lines", "Fields" and "Formulas"; document 02, point 3.
+// code tests, as specs/Edition.antt has them. Document 01, "Forms and lines", "Fields" and "Test a formula"; document 02, points 1 and 3.
 ghost use mathlib.Core.Path.{_≡_};
 ghost use Rattle.forms.specs.Edition.{edition};
 

@@ -31,7 +31,7 @@ use Rattle.bundle.specs.Write.{holdable, writeBundle}
 use Rattle.bundle.specs.Show.{Part, partOf, constraintPart, shownPart, answerOf, showAnswer}
 use Rattle.bundle.proofs.Laid.{BothLaid, bundle-gives, bundles-give, bundles-accept, short-gives, short-accepted}
 use Rattle.bundle.specs.Writable.{InOrder as Ready}
-use Rattle.bundle.proofs.Writable.{bundleBytes-gives, bundleBytes-accepted}
+use Rattle.bundle.proofs.Writable.{encodeBundle-gives, encodeBundle-accepted}
 use Rattle.bundle.proofs.RoundTrips.{bytesWritten, rewritten, writtenAs, written-fits, readAs, read-file, write-then-read, read-then-write}
 use Rattle.bundle_read.specs.declared.ReadResult.{ReadResult}
 use Rattle.bundle_read.specs.Promises.{Reads}
@@ -212,7 +212,7 @@ module _ {n K : ℕ} {kinds : List ℕ} {numbers : List ℤ} {output left : List
   writable : w .answer .number ≡ 0 → Writable n K kinds numbers output
   unfolding writeBundle
   writable h =
-      let (bytes, (ready, are), fit) = written-from output _ (bundleBytes-gives newestEdition n K kinds numbers) (subst (λ (x : Written). x .answer .number ≡ 0) (c .is) h) in
+      let (bytes, (ready, are), fit) = written-from output _ (encodeBundle-gives newestEdition n K kinds numbers) (subst (λ (x : Written). x .answer .number ≡ 0) (c .is) h) in
       record {
         one-or-two = of-editions n (ready .first) (ready .last);
         low = ready .low;
@@ -238,7 +238,7 @@ module _ {n K : ℕ} {kinds : List ℕ} {numbers : List ℤ} {output left : List
         size = b .size;
         held = all-held (b .one-or-two) (b .held-by-1) (b .held-by-2);
       } in
-      written-as (c .is ∙ ap (λ (x : Result (List ℕ)). written x output) (bundleBytes-accepted newestEdition n K kinds numbers ready) ∙ written-fits output (bundleFile n K kinds numbers) (b .fits))
+      written-as (c .is ∙ ap (λ (x : Result (List ℕ)). written x output) (encodeBundle-accepted newestEdition n K kinds numbers ready) ∙ written-fits output (bundleFile n K kinds numbers) (b .fits))
 
 -- ---- show
 -- there are as many fields as are listed

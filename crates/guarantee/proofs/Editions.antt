@@ -24,7 +24,7 @@ use Rattle.fields.specs.Header.{headerTag, known, agrees, header}
 use Rattle.bundle.specs.Bundle.{Bundle, atMost, bundle, bundles}
 use Rattle.bundle.specs.Layout.{editionSaid, Says, limitSaid, bundleLimit}
 use Rattle.bundle.specs.Read.{BundleRead, unread, stored, readBundle}
-use Rattle.bundle.specs.Write.{bundleBytes, writeBundle}
+use Rattle.bundle.specs.Write.{encodeBundle, writeBundle}
 use Rattle.bundle.specs.Show.{answerOf, shownPart, showAnswer}
 use Rattle.bundle.proofs.Laid.{short-gives, short-accepted, bundle-gives, bundle-accepts}
 use Rattle.bundle_show.specs.Promises.{AnswersShow}
@@ -182,7 +182,7 @@ module _ {A B : List ℕ} {line : ℕ} {r : Answer} (c : AnswersShow A B line r)
 
 -- ---- write
 write-other : {n K : ℕ} {kinds : List ℕ} {numbers : List ℤ} {output left : List ℕ} {r : WriteResult} → Writes n K kinds numbers output left r → Other n → r .answer ≡ answer 5 fileLent 0
-unfolding writeBundle bundleBytes written
+unfolding writeBundle encodeBundle written
 write-other {n} {output = output} c o = ap (λ (w : Written). w .answer) (c .is) ∙ ap (λ (x : Result (List ℕ)). written x output .answer) (fail _ _ (not-read n (o .not-1) (o .not-2)))
 
 -- ---- test
@@ -259,7 +259,7 @@ module _ (A B proof : List ℕ) where
   unfolding limitB
   length-B-else n = behind-else B A-gives λ _ (r, p) h. n (r, p, h)
 
--- ---- the office of document 01
+-- ---- the office before edition 2
 module _ {A B proof output left : List ℕ} {r : WriteResult} (c : Checks A B proof output left r) where
   as-accepting : InFirst A B proof → Accepts (check A B proof output) → writtenOf r left ≡ checkBy 1 A B proof output
   as-accepting f h = c .is ∙ offices .same-bytes A B proof output f h

@@ -22,7 +22,7 @@ use Rattle.bundle.specs.Read.{BundleRead, kindsOf, numbersOf, unread, store, st
 use Rattle.bundle.specs.Write.{writeBundle}
 use Rattle.bundle.specs.Show.{Part, shownPart, answerOf, handed, showPart, showAnswer}
 use Rattle.bundle.proofs.Laid.{short-gives, bundle-gives, bundles-give}
-use Rattle.bundle.proofs.Writable.{bundleBytes-gives}
+use Rattle.bundle.proofs.Writable.{encodeBundle-gives}
 use Rattle.bundle_show.specs.Promises.{partBytes, behind, partPlace}
 use Rattle.formula.specs.Formula.{FormulaTag, pair, atom, stride, formulaOf, formulaField, twoParts, formulaWithin, readFormula, formulaFile}
 use Rattle.formula.specs.Test.{Tested as Outcome, tested, judged, testFormula}
@@ -78,7 +78,7 @@ check-told A B proof output =
 
 pub write-told : (n K : ℕ) (kinds : List ℕ) (numbers : List ℤ) (output : List ℕ) → Unwritten output (writeBundle newestEdition n K kinds numbers output)
 unfolding writeBundle
-write-told n K kinds numbers output = written-told _ (by-number (bundleBytes-gives newestEdition n K kinds numbers)) output
+write-told n K kinds numbers output = written-told _ (by-number (encodeBundle-gives newestEdition n K kinds numbers)) output
 
 -- ---- what is read
 abbrev Unread : (kinds : List ℕ) (numbers : List ℤ) → BundleRead → Type 0

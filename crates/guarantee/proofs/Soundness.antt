@@ -9,7 +9,7 @@ use lib.ListN.{length, take}
 use lib.Seq.{take-at}
 use Rattle.forms.specs.Edition.{Edition, edition1, newestEdition}
 use Rattle.forms.specs.Forms.{All, Form, Line, Constraint, Formula}
-use Rattle.calculus.specs.Rules.{Entry, Closed, derive, strengthen, round, splitEq, splitNeq, number, stride, Rounded, last, more, step, entries, entriesRounded}
+use Rattle.calculus.specs.Rules.{Entry, Closed, derive, strengthen, round, splitEq, splitNeq, number, stride, Rounded, last, more, inference, entries, entriesRounded}
 use Rattle.answers.specs.Answers.{fileA, Result, refused, accepted, _>>_, over, Written, writtenOf}
 use Rattle.answers.specs.declared.WriteResult.{WriteResult}
 use Rattle.number_bytes.specs.Numbers.{Bytes}
@@ -52,8 +52,8 @@ module _ (F : List Item) (framed : All Framed F) (M : Meaning) (faithful : Faith
 -- ---- a closed proof's entries are one closed table
 mutual
   closed-placed : {e : Edition} {inB : ℕ → Bool} {ls : List Line} {I : Formula} (p : Closed e inB ls I) (rest : List Entry) → Placed (entries p rest) rest
-  closed-placed (derive true n _ p) rest = claimed (step n) _ _ (closed-placed p rest)
-  closed-placed (derive false n _ p) rest = unclaimed (step n) (closed-placed p rest)
+  closed-placed (derive true n _ p) rest = claimed (inference n) _ _ (closed-placed p rest)
+  closed-placed (derive false n _ p) rest = unclaimed (inference n) (closed-placed p rest)
   closed-placed (strengthen i _ _ p1 pE p0) rest = strengthens i (closed-placed p1 _) (closed-placed pE _) (closed-placed p0 rest)
   closed-placed (round i g k _ p ps) rest = rounds i g k (closed-placed p _) (rounded-placed ps rest k (omega arith))
   closed-placed (splitEq i _ _ _ p q) rest = splits i (closed-placed p _) (closed-placed q rest)

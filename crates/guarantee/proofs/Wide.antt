@@ -27,7 +27,7 @@ use Rattle.fields.specs.Header.{headerTag, known, agrees, headerField, constant
 use Rattle.bundle.specs.Bundle.{formSmall, constraints, bundleHeader, bundle}
 use Rattle.bundle.specs.Layout.{Each, States, StatesAll}
 use Rattle.bundle.specs.Read.{numbersOf}
-use Rattle.bundle.specs.Write.{holdable, bundleBytes, writeBundle}
+use Rattle.bundle.specs.Write.{holdable, encodeBundle, writeBundle}
 use Rattle.bundle.proofs.Laid.{kind-known, AllSmall, short-accepted}
 use Rattle.bundle.proofs.Every.{every-of}
 use Rattle.bundle_write.specs.Promises.{Writes}
@@ -187,12 +187,12 @@ module _ {X : Type 0} (at : ℕ → Answer) (p : X → Bool) where
 
 -- 24, for a kind and for the count of numbers
 module _ {n K : ℕ} {kinds : List ℕ} {numbers : List ℤ} {output left : List ℕ} {r : WriteResult} (c : Writes n K kinds numbers output left r) (k : InLimits n K kinds) where
-  written-refused : {a : Answer} → bundleBytes newestEdition n K kinds numbers ≡ refused a → r .answer ≡ a
+  written-refused : {a : Answer} → encodeBundle newestEdition n K kinds numbers ≡ refused a → r .answer ≡ a
   unfolding writeBundle written
   written-refused e = ap (λ (w : Written). w .answer) (c .is) ∙ ap (λ (x : Result (List ℕ)). written x output .answer) e
 
   pub write-kind : (before after : List ℕ) (kind : ℕ) → kinds ≡ before ++ kind ∷ after → All (λ k. k ≤ 2) before → 2 < kind → r .answer ≡ answer 24 fileLent (length before)
-  unfolding bundleBytes
+  unfolding encodeBundle
   write-kind before after kind are held h =
       let (first, last) = up-to-2 (k .one-or-two) in
       written-refused (needs _ _ _ (yes-and (leb 1 n) (leb n 2) (le→leb 1 n first) (le→leb n 2 last))
@@ -203,7 +203,7 @@ module _ {n K : ℕ} {kinds : List ℕ} {numbers : List ℤ} {output left : List
       ∙ ap (λ (i : ℕ). refused (answer 24 fileLent i)) (zero-add (length before)))
 
   pub write-count : All (λ k. k ≤ 2) kinds → ¬ (length numbers ≡ length kinds * suc K) → r .answer ≡ answer 24 fileLent (length kinds)
-  unfolding bundleBytes
+  unfolding encodeBundle
   write-count valid h =
       let (first, last) = up-to-2 (k .one-or-two) in
       written-refused (needs _ _ _ (yes-and (leb 1 n) (leb n 2) (le→leb 1 n first) (le→leb n 2 last))
@@ -223,11 +223,11 @@ no-four z h = stopped (ltb (mag z + mag z) 4_294_967_296) (lt-leb (natAbs z) 2_1
 module _ (n : ℕ) {K : ℕ} {kinds : List ℕ} {numbers : List ℤ} {output left : List ℕ} {r : WriteResult} (c : Writes n K kinds numbers output left r) (k : WellCounted n K kinds numbers) where
   write-wide : {before : List ℤ} (after : List ℤ) (z : ℤ) → numbers ≡ before ++ z ∷ after → All (λ y. T (holdable (edition n .coefficientWidth) y)) before → holdable (edition n .coefficientWidth) z ≡ false
       → r .answer ≡ answer 13 fileLent (length before)
-  unfolding writeBundle bundleBytes written
+  unfolding writeBundle encodeBundle written
   write-wide {before} after z are held bad =
       let l = k .limits in
       let (first, last) = up-to-2 (l .one-or-two) in
-      let e : bundleBytes newestEdition n K kinds numbers ≡ refused (answer 13 fileLent (length before)) =
+      let e : encodeBundle newestEdition n K kinds numbers ≡ refused (answer 13 fileLent (length before)) =
       needs _ _ _ (yes-and (leb 1 n) (leb n 2) (le→leb 1 n first) (le→leb n 2 last))
       ∙ needs _ _ _ (yes-and (leb 1 K) (leb K 16) (le→leb 1 K (l .low)) (le→leb K 16 (l .high)))
       ∙ needs _ _ _ (le→leb (length kinds) 32 (l .few))

@@ -1,4 +1,4 @@
--- Edition 2: document 02, point 3. This office beside that of document 01, how long a bundle may be, what an edition that is not read gives, a 33rd constraint, a kind or count that is wrong, and a number that its edition does not hold. What differs, `offices` and `length-A` to `length-plain-else` are said of the definitions, all else of what each operation's function ensures. Assumes nothing.
+-- Edition 2: document 02, point 3. This office beside the one before edition 2, how long a bundle may be, what an edition that is not read gives, a 33rd constraint, a kind or count that is wrong, and a number that its edition does not hold. What differs, `offices` and `length-A` to `length-plain-else` are said of the definitions, all else of what each operation's function ensures. Assumes nothing.
 -- (That files of both editions are sound, laid out, read and written, and may differ in edition, is in the demands, which speak of both.)
 use mathlib.Core.Path.{_≡_}
 use mathlib.Core.Logic.{_⊎_}
@@ -120,7 +120,7 @@ pub record EditionsPromised : Type 0 where
   pub first-edition : (edition 1 .coefficientWidth ≡ 2) × (edition 1 .lineWidth ≡ 1) × (edition 1 .lines ≡ 128) × (edition 1 .bundleBytes ≡ 4_096)
   pub second-edition : (edition 2 .coefficientWidth ≡ 4) × (edition 2 .lineWidth ≡ 2) × (edition 2 .lines ≡ 1_000) × (edition 2 .bundleBytes ≡ 8_192)
   -- ---- two offices
-  -- what the office of document 01, which reads edition 1 only, accepts, and what both do alike
+  -- what the office before edition 2, which reads edition 1 only, accepts, and what both do alike
   pub offices : Offices
   -- the function check leaves what that office leaves: of three files of edition 1 whose bundles have at most 4,096 bytes,
   pub as-first : (A B proof output left : List ℕ) (r : WriteResult) → Checks A B proof output left r → InFirst A B proof → length A ≤ 4_096 → length B ≤ 4_096

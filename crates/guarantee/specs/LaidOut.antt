@@ -7,7 +7,7 @@ use mathlib.Core.Option.{some}
 use Prim.Native.Nat.{ℕ, suc, _≤_}
 use Rattle.forms.specs.Edition.{edition, edition1}
 use Rattle.forms.specs.Forms.{All, Form, Constraint}
-use Rattle.calculus.specs.Rules.{Step, Derive, Strengthen, CloseNumber, CloseStride, Round, Split, Entry, row, claim}
+use Rattle.calculus.specs.Rules.{Inference, Derive, Strengthen, CloseNumber, CloseStride, Round, Split, Entry, row, claim}
 use Rattle.fields.specs.Fields.{Item, item, Framed, fileOf, fields, items}
 use Rattle.bundle.specs.Layout.{Each, StatesAll}
 use Rattle.proof.specs.Layout.{Enters}
@@ -31,8 +31,8 @@ pub record LaidBundle (file : List ℕ) (K : ℕ) : Type 0 where
 mutual
   pub data Placed : List Entry → (rest : List Entry) → Type 0 where
     -- a row 0x10 to 0x12, without its claim or with it, goes on
-    unclaimed : {es rest : List Entry} (s : Step) → Placed es rest → Placed (row (Derive s) ∷ es) rest
-    claimed : {es rest : List Entry} (s : Step) (t tA : Form) → Placed es rest → Placed (row (Derive s) ∷ claim t tA ∷ es) rest
+    unclaimed : {es rest : List Entry} (s : Inference) → Placed es rest → Placed (row (Derive s) ∷ es) rest
+    claimed : {es rest : List Entry} (s : Inference) (t tA : Form) → Placed es rest → Placed (row (Derive s) ∷ claim t tA ∷ es) rest
     -- three branches follow a strengthen, complete one after the other, k+1 a rounding by k, two a split
     strengthen : {es second third rest : List Entry} (t : ℕ) → Placed es second → Placed second third → Placed third rest → Placed (row (Strengthen t) ∷ es) rest
     round : {es second rest : List Entry} (t g k : ℕ) → Placed es second → PlacedTimes k second rest → Placed (row (Round t g k) ∷ es) rest

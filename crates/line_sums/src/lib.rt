@@ -82,7 +82,7 @@ pub fn mix_whole(
 // Line n of lines s and t: the form and then the partial interpolant, or both in one run.
 pub fn mix_line(
     lines: &mut [i32],
-    apart: bool,
+    form_first: bool,
     alpha: i64,
     s: LineNumber,
     beta: i64,
@@ -93,7 +93,7 @@ pub fn mix_line(
     requires { ⌜ LineTerms k (now lines) alpha (s .0) beta (t .0) (n .0) ⌝ }
     ensures { λ r. ⌜ Mixes (now (lines .entry)) alpha (s .0 * size k) beta (t .0 * size k) (n .0 * size k) (size k) (now (lines .exit)) r ⌝ }
 {
-    if apart {
+    if form_first {
         return mix(lines, alpha, s, beta, t, n, k);
     }
     mix_whole(lines, alpha, s, beta, t, n, k)

@@ -1,4 +1,4 @@
--- What the office of edition 1 accepts, and that this one does so too and answers alike; where its 1 comes later. Document 02, point 3. Assumes nothing.
+-- What the office before edition 2 accepts, and that this one does so too and answers alike; where its 1 comes later. Document 02, point 3. Assumes nothing.
 use mathlib.Core.Path.{_≡_, refl, sym, _∙_, ap, ap₂, subst}
 use mathlib.Core.Logic.{_⊎_, inl, inr}
 use mathlib.Core.Option.{Option, none, some}
@@ -107,7 +107,7 @@ module _ {A B P : List ℕ} {K : ℕ} {I : Formula} where
       let p : y .editionProof ≡ 1 = one-said (sym (proof-says (y .fileProof)) ∙ f .ofProof) in
       certifies-for 1 c (omega arith) (omega arith) (omega arith)
 
-  -- the office of edition 1 certifies only what says edition 1
+  -- the office before edition 2 certifies only what says edition 1
   certified-first : Certifies 1 A B P K I → InFirst A B P
   certified-first c =
       let y = c .yields in

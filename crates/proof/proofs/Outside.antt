@@ -18,7 +18,7 @@ use Rattle.fields.specs.Fields.{Field, Fields, ends, cut, _▸_, fields}
 use Rattle.fields.specs.Header.{headerField, editionField, constantsField, header, finished}
 use Rattle.bundle.specs.Bundle.{Bundle, atMost, constraints, bundleHeader, bundle, bundles}
 use Rattle.bundle.specs.Read.{kindsOf, numbersOf, unread, store, stored, readBundle}
-use Rattle.bundle.specs.Write.{bundleBytes, writeBundle}
+use Rattle.bundle.specs.Write.{encodeBundle, writeBundle}
 use Rattle.bundle.specs.Show.{shownPart, answerOf, showAnswer}
 use Rattle.formula.specs.Formula.{FormulaTag, pair, atom, stride, formulaOf, formulaField, twoParts, formulaWithin, readFormula}
 use Rattle.formula.specs.Test.{tested, judged, testFormula}
@@ -120,8 +120,8 @@ of-written (accepted bytes) out s = of-fit (leb (length bytes) (length out))
     of-fit false = refl
 
 pub write-outside : (newest n K : ℕ) (kinds : List ℕ) (numbers : List ℤ) (output : List ℕ) → Outside (writeBundle newest n K kinds numbers output .answer)
-unfolding writeBundle bundleBytes
-write-outside newest n K kinds numbers output = of-written (bundleBytes newest n K kinds numbers) output
+unfolding writeBundle encodeBundle
+write-outside newest n K kinds numbers output = of-written (encodeBundle newest n K kinds numbers) output
     (needed _ _ refl λ _. needed _ _ refl λ _. needed _ _ refl λ _. seq (each-says _ _ (λ i. refl) 0 kinds) (needed _ _ refl λ _. seq (each-says _ _ (λ i. refl) 0 numbers) (says-accepted tt)))
 
 -- ---- formulas

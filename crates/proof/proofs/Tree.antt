@@ -12,7 +12,7 @@ use mir.Facts.{and-yes}
 use borrow.Author.Tests.{eq-eqb, ne-eqb}
 use Rattle.forms.specs.Edition.{Edition, edition}
 use Rattle.forms.specs.Forms.{Form, Side, A, B, Line}
-use Rattle.calculus.specs.Rules.{Row, Derive, Strengthen, CloseNumber, CloseStride, Round, Split, Step, Combine, Reduce, Scale, Entry, row, claim}
+use Rattle.calculus.specs.Rules.{Row, Derive, Strengthen, CloseNumber, CloseStride, Round, Split, Inference, Combine, Reduce, Scale, Entry, row, claim}
 use Rattle.answers.specs.declared.Answer.{Answer}
 use Rattle.answers.specs.Answers.{nowhere, rowTold, refusalAt, answer, fileProof, Result, refused, _>>=_, _>>_, found}
 use Rattle.number_bytes.specs.Numbers.{unsigned}
@@ -33,7 +33,7 @@ module _ {Q : Answer → Type 0} (refusal : ℕ → Answer) (h : (n : ℕ) → T
   unfolding lineAt
   line-says i = weaken (finds (refusal 10) _ (h 10 tt)) (λ a q. q) (λ _ _. tt)
 
-  pub derived-says : (s : Step) → Says Q (derived refusal ls s) (λ _. Unit {0})
+  pub derived-says : (s : Inference) → Says Q (derived refusal ls s) (λ _. Unit {0})
   unfolding derived
   derived-says (Combine i j α β) = bind (line-says i) λ s _. bind (line-says j) λ t _. test _ _ (h 11 tt) λ _. test _ _ (h 12 tt) λ _. says-accepted tt
   derived-says (Reduce i j α) = bind (line-says i) λ s _. bind (line-says j) λ t _. bind (finds _ _ (h 11 tt)) λ k _. test _ _ (h 11 tt) λ _. test _ _ (h 12 tt) λ _. says-accepted tt
@@ -186,7 +186,7 @@ module _ (e : Edition) (two : e .multiplierWidth ≡ 2) (K : ℕ) (deeper : Opti
     unfolding startsAt
     told n _ = at-front ps rows (f ▸ fs) n
 
-    derive-through : (s : Step) → Behind (tree (suc rows) ps) → Through (tree rows ps) (f ▸ fs) (checkRow e K deeper next (refusalAt (innermost ps) rows (f .at)) rows ls fs (Derive s))
+    derive-through : (s : Inference) → Behind (tree (suc rows) ps) → Through (tree rows ps) (f ▸ fs) (checkRow e K deeper next (refusalAt (innermost ps) rows (f .at)) rows ls fs (Derive s))
     unfolding checkRow
     derive-through s b = bind (derived-says _ told ls s) λ l _. seq (fitting-says _ told ls e l) (through-on refl (leads-behind b) (q _ _ _))
 

@@ -1,4 +1,4 @@
--- This office, which reads editions 1 and 2, beside that of document 01, which reads edition 1 only; and how long a bundle with notes may be. Document 02, point 3. Assumes nothing.
+-- This office, which reads editions 1 and 2, beside the one before edition 2, which reads edition 1 only and has every row and constraint of document 02 all the same; and how long a bundle with notes may be. Document 02, point 3. Assumes nothing.
 use mathlib.Core.Path.{_≡_}
 use mathlib.Core.Logic.{_↔_, _⊎_}
 use mathlib.Core.Option.{none}
@@ -22,7 +22,7 @@ abbrev pub Accepts : Written → Type 0
 Accepts w = w .answer .number ≡ 0
 
 pub record Offices : Type 0 where
-  -- the office of edition 1 accepts only what says edition 1 in all three files, and so none in which A, B or the proof says another
+  -- the office before edition 2 accepts only what says edition 1 in all three files, and so none in which A, B or the proof says another
   pub first-only : (A B proof output : List ℕ) → Accepts (checkBy 1 A B proof output) → InFirst A B proof
   pub refuses-others : (A B proof output : List ℕ) (n : ℕ) → ¬ (n ≡ 1) → Says A n ⊎ Says B n ⊎ Says proof n → ¬ (Accepts (checkBy 1 A B proof output))
   -- both accept the same triples of edition 1, with the same bytes

@@ -11,7 +11,7 @@ use borrow.Author.Tests.{le-leb, lt-leb}
 use Rattle.integers.specs.Linear.{eqZ}
 use Rattle.forms.specs.Forms.{≤0, =0, Line, line, nonzero, _⊞_, _·_}
 use Rattle.forms.specs.Flat.{kindOf}
-use Rattle.calculus.specs.Rules.{Step, Combine, Reduce, Scale}
+use Rattle.calculus.specs.Rules.{Inference, Combine, Reduce, Scale}
 use Rattle.answers.specs.declared.Answer.{Answer}
 use Rattle.answers.specs.Answers.{refused, accepted, _>>=_, _>>_, need, found}
 use Rattle.proof.specs.Rows.{is, plainKind, lineAt, derived}
@@ -33,7 +33,7 @@ unfolding nonzero
 some-nonzero z e h = rw (← e, h)
 
 -- ---- from `derived` to what follows the row
-module _ {K : ℕ} {kinds : List ℕ} {buf : List ℤ} {t : Tally} {s : Step} where
+module _ {K : ℕ} {kinds : List ℕ} {buf : List ℤ} {t : Tally} {s : Inference} where
   derives-refused : {x : ℕ} → ((refusal : ℕ → Answer) → derived refusal (linesIn K kinds buf (t .lines .0)) s ≡ refused (refusal x)) → Derives K kinds buf t s kinds buf (Refused x)
   unfolding _>>=_
   derives-refused e = record { kept = kept-refl; by = λ refusal next. rw (e refusal) }

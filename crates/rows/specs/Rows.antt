@@ -50,10 +50,10 @@ pub record Appended (K : ℕ) (kinds : List ℕ) (buf : List ℤ) (t : Tally) (f
   pub by : AppendedBy K kinds buf t (sumOf K kinds buf f i g j kind) kinds′ buf′ r
 
 -- A row 0x10 to 0x12 of a proof of edition e and what follows it, as `checkRow` has it; `refusal` gives the refusal by a number at this row.
-abbrev pub followed : (e : ℕ) (refusal : ℕ → Answer) → List Line → rules.Step → (Line → Result Closing) → Result Closing
+abbrev pub followed : (e : ℕ) (refusal : ℕ → Answer) → List Line → rules.Inference → (Line → Result Closing) → Result Closing
 followed e refusal ls s next = derived refusal ls s >>= λ l. (fitting refusal ls (edition e) l >> next l)
 
-abbrev pub DerivedBy : (K : ℕ) (kinds : List ℕ) (buf : List ℤ) (t : Tally) (s : rules.Step) (kinds′ : List ℕ) (buf′ : List ℤ) → Derived → Type 0
+abbrev pub DerivedBy : (K : ℕ) (kinds : List ℕ) (buf : List ℤ) (t : Tally) (s : rules.Inference) (kinds′ : List ℕ) (buf′ : List ℤ) → Derived → Type 0
 DerivedBy K kinds buf t s kinds′ buf′ (Refused x) =
     (refusal : ℕ → Answer) (next : Line → Result Closing) → followed (t .edition) refusal (linesIn K kinds buf (t .lines .0)) s next ≡ refused (refusal x)
 DerivedBy K kinds buf t s kinds′ buf′ (Made t′) =
@@ -61,6 +61,6 @@ DerivedBy K kinds buf t s kinds′ buf′ (Made t′) =
     → followed (t .edition) refusal (linesIn K kinds buf (t .lines .0)) s next ≡ next (lineIn K kinds′ buf′ (t .lines .0)))
     × Limited (t .edition) K buf′ (t .lines .0 + 1) × (t′ ≡ moreLines t)
 
-pub record Derives (K : ℕ) (kinds : List ℕ) (buf : List ℤ) (t : Tally) (s : rules.Step) (kinds′ : List ℕ) (buf′ : List ℤ) (r : Derived) : Type 0 where
+pub record Derives (K : ℕ) (kinds : List ℕ) (buf : List ℤ) (t : Tally) (s : rules.Inference) (kinds′ : List ℕ) (buf′ : List ℤ) (r : Derived) : Type 0 where
   pub kept : LinesKept K (t .lines .0) kinds buf kinds′ buf′
   pub by : DerivedBy K kinds buf t s kinds′ buf′ r

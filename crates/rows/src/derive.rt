@@ -20,12 +20,12 @@ pub enum Derived {
     Made { tally: Tally },
 }
 
-// One line more: f times line i plus g times line j, of the kind given; form and partial interpolant apart, where it is said. 16, 13.
+// One line more: f times line i plus g times line j, of the kind given; the form first and then the partial interpolant, where it is said. 16, 13.
 fn append(
     lines: &mut [i32],
     kinds: &mut [u8],
     tally: Tally,
-    apart: bool,
+    form_first: bool,
     f: i64,
     i: LineNumber,
     g: i64,
@@ -42,7 +42,7 @@ fn append(
     let next = counted.tally;
     let n = tally.lines;
     if made {
-        if line_sums::mix_line(lines, apart, f, i, g, j, n, k) {
+        if line_sums::mix_line(lines, form_first, f, i, g, j, n, k) {
             set_kind(kinds, n, kind);
             return Derived::Made { tally: next };
         }

@@ -44,7 +44,7 @@ module _ (K : ℕ) (kinds : List ℕ) (buf : List ℤ) (t : Tally) (row : rules.
   row-counted h = record { is = λ deeper next refusal fs. rw (lt-ltb (t .rows .0) 1024 h) }
 
 -- A row that makes a line, from what `combine`, `reduce` or `scale` answers.
-module _ {K : ℕ} {kinds : List ℕ} {buf : List ℤ} (t : Tally) {s : rules.Step} {kinds′ : List ℕ} {buf′ : List ℤ} (h : t .rows .0 < 1024) where
+module _ {K : ℕ} {kinds : List ℕ} {buf : List ℤ} (t : Tally) {s : rules.Inference} {kinds′ : List ℕ} {buf′ : List ℤ} (h : t .rows .0 < 1024) where
   derive-by : (d : Derived) → Derives K kinds buf (moreRows t) s kinds′ buf′ d → Steps (rowChecked K kinds buf t (rules.Derive s)) K kinds buf t kinds′ buf′ (steppedOf d)
   unfolding checkRow
   derive-by (derived-of.Refused x) a = record {

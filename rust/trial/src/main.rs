@@ -30,7 +30,7 @@ use Rattle.fields.specs.Fields.{front, note, unlessNote, fieldsFrom, fields, fi
 use Rattle.fields.specs.Header.{headerTag, known, agrees, headerField, editionField, constantsField, header, finished, headerBytes}
 use Rattle.bundle.specs.Bundle.{kindTagged, atMost, formSmall, constraints, bundleHeader, bundle, bundles}
 use Rattle.bundle.specs.Read.{kindNumber, kindsOf, numbersOf, unread, store, stored, readBundle}
-use Rattle.bundle.specs.Write.{constraintsBytes, holdable, bundleBytes, writeBundle}
+use Rattle.bundle.specs.Write.{constraintsBytes, holdable, encodeBundle, writeBundle}
 use Rattle.bundle.specs.Show.{partOf, constraintPart, shownPart, answerOf, showAnswer, handed, showPart}
 use Rattle.formula.specs.Formula.{encode, formulaFile, formulaTagged, compound, formulaSize, formulaOf, formulaField, twoParts, formulaWithin, readFormula}
 use Rattle.formula.specs.Test.{holds, judge, tested, judged, testFormula}
@@ -47,7 +47,7 @@ const WRITING: &str =
     "over fit written unsignedBytes residue signedBytes signedsBytes fieldBytes headerBytes";
 const CHECK: &str = "rowTold remainder coeff sum value sums _⊞_ _·_ _plus_ nonzero reduced inRange formBytes finished encode formulaFile entryTagged inPlace lineNumber multiplier sizeOf entryFrom entry is plainKind owner fails equals sameForm lineAt derived fitting undivided inequality roundable disequality byNumber byStride states checkRounded checkSplit checkRow checkEntry checkEntries checkBranch checkProof formulaAtMost interpolant checkBy check";
 const READ: &str = "over kindNumber kindsOf numbersOf unread store stored readBundle";
-const WRITE: &str = "each constraintsBytes holdable bundleBytes writeBundle";
+const WRITE: &str = "each constraintsBytes holdable encodeBundle writeBundle";
 const SHOW: &str = "nth partOf constraintPart shownPart answerOf showAnswer handed showPart";
 const TEST: &str = "each sum value finished formulaTagged compound formulaSize formulaOf formulaField twoParts formulaWithin readFormula holds judge tested judged testFormula";
 

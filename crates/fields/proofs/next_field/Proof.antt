@@ -9,7 +9,7 @@ use Rattle.fields.specs.Places.{fieldsAt, nextOf}
 use Rattle.fields.specs.declared.Next.{Next}
 use Rattle.fields.proofs.Next as N
 use Rattle.fields.proofs.Next.Laws as N′
-use Rattle.fields.proofs.Apart.{Carried}
+use Rattle.fields.proofs.Unpacking.{Carried}
 use Rattle.fields.proofs.Together.{together-meets}
 use Rattle.fields.proofs.Fields.next.Symbol as callee-def
 use Rattle.fields.proofs.Fields.next.Symbol.{name as #callee}

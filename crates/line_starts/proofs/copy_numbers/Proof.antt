@@ -20,11 +20,11 @@ abbrev μ-loop : tie.MeasureT-loop
 μ-loop lines₀ s new w x₀ lines x = w - x
 
 -- A turn, in the source's terms.
-record Apart (l : List ℤ) (a d w : ℕ) : Type 0 where
+record Disjoint (l : List ℤ) (a d w : ℕ) : Type 0 where
   first : a + w ≤ d
   second : d + w ≤ length l
 
-module _ {l : List ℤ} {a d w : ℕ} (p : Apart l a d w) where
+module _ {l : List ℤ} {a d w : ℕ} (p : Disjoint l a d w) where
   same : length (part a w l) ≡ w
   same = length-part a w l (omega arith)
 
@@ -41,8 +41,8 @@ module _ {l : List ℤ} {a d w : ℕ} (p : Apart l a d w) where
     value : x < w → getD m (a + x) (pos 0) ≡ getD (part a w l) x (pos 0)
     value h = filled-before room v (a + x) (pos 0) (omega arith) ∙ sym (getD-part a w l x (pos 0) h)
 
-apart : (s : tie.Start Inv-loop μ-loop) → Apart (s .args .lines .now) (s .args .s) (s .args .new) (s .args .w)
-apart s = record { first = s .pre .0; second = s .pre .1 }
+disjoint : (s : tie.Start Inv-loop μ-loop) → Disjoint (s .args .lines .now) (s .args .s) (s .args .new) (s .args .w)
+disjoint s = record { first = s .pre .0; second = s .pre .1 }
 
 loop-holds : tie.Need-loop-holds Inv-loop μ-loop
 loop-holds c = filled-none
@@ -54,7 +54,7 @@ mul-same : tie.Need-mul-same Inv-loop μ-loop
 mul-same c = omega arith
 
 slice-copy-out-same : tie.Need-slice-copy-out-same Inv-loop μ-loop
-slice-copy-out-same c = omega (arith, len (apart (c .before .before)) (c .before .loop .inv))
+slice-copy-out-same c = omega (arith, len (disjoint (c .before .before)) (c .before .loop .inv))
 
 add-same-2 : tie.Need-add-same-2 Inv-loop μ-loop
 add-same-2 c = omega arith
@@ -63,7 +63,7 @@ mul-same-2 : tie.Need-mul-same-2 Inv-loop μ-loop
 mul-same-2 c = omega arith
 
 slice-set-from-same : tie.Need-slice-set-from-same Inv-loop μ-loop
-slice-set-from-same c = omega (arith, len (apart (c .before .before .before)) (c .before .before .loop .inv))
+slice-set-from-same c = omega (arith, len (disjoint (c .before .before .before)) (c .before .before .loop .inv))
 
 add-x : tie.Need-add-x Inv-loop μ-loop
 add-x c = omega arith
@@ -73,19 +73,19 @@ loop-less c = omega arith
 
 loop-again : tie.Need-loop-again Inv-loop μ-loop
 loop-again c =
-    let p = apart (c .before .before .before) in
+    let p = disjoint (c .before .before .before) in
     let v = c .before .before .loop .inv in
     let h = c .before .loop-test .taken in
     filled-next (room p v) v _ (pos 0) (toZ-ofZ w32 _ (record { sfits = c .same .given }) ∙ value p v h) (omega (arith, same p))
 
 same-length : tie.Need-same-length Inv-loop μ-loop
-same-length c = len (apart (c .before .before)) (c .before .loop .inv)
+same-length c = len (disjoint (c .before .before)) (c .before .loop .inv)
 
 returns : tie.Need-returns Inv-loop μ-loop
 returns c =
     let s = c .before .before in
     let v = c .before .loop .inv in
-    let e : c .before .loop .x ≡ s .args .w = omega (arith, below (apart s) v) in
+    let e : c .before .loop .x ≡ s .args .w = omega (arith, below (disjoint s) v) in
     rw e at (v .is)
 
 pub copy-numbers-spec : {M : Type 1} → statement M

@@ -1,4 +1,4 @@
--- `fields::Fields::next` meets its contract: it takes the reader apart (`Apart.antt`) and calls `next_at`. Assumes nothing.
+-- `fields::Fields::next` meets its contract: it takes the reader apart (`Unpacking.antt`) and calls `next_at`. Assumes nothing.
 use mathlib.Core.List.{List}
 use Prim.Native.Nat.{ℕ}
 use contract.Running.{givenOf, tables, tablesOf}
@@ -9,7 +9,7 @@ use Rattle.fields.specs.Places.{fieldsAt, nextOf}
 use Rattle.fields.specs.declared.Next.{Next}
 use Rattle.fields.proofs.Next as N
 use Rattle.fields.proofs.Next.Laws as N′
-use Rattle.fields.proofs.Apart.{Loose, apart-meets}
+use Rattle.fields.proofs.Unpacking.{Loose, unpacking-meets}
 use Rattle.fields.proofs.next_at.Symbol as callee-def
 use Rattle.fields.proofs.next_at.Symbol.{name as #callee}
 use Rattle.fields.proofs.next_at.Met as callee-thm
@@ -26,6 +26,6 @@ unfolding code.routine tablesOf
 next-spec 𝓤 H 𝓜 𝓖 𝓡 =
     entered 𝓤 H (tripleOf 𝓤 H (𝓖 .A) self.signature (self.spec 𝓤 H (𝓖 .A) (𝓜 .mem) (𝓡 .run)))
     (tables 𝓤 H 𝓜 𝓡 code.env .C) (tables 𝓤 H 𝓜 𝓡 code.env .Λ) #self code.function (code.unfolded 𝓤 H 𝓜 𝓡)
-    (apart-meets N.the-row N′.mir (λ r u is. EL.lawful N.the-type N′.the-laws 𝓤 H (𝓖 .A) (givenOf 𝓤 H 𝓜 𝓖) tt .typed r _ is .0) f
+    (unpacking-meets N.the-row N′.mir (λ r u is. EL.lawful N.the-type N′.the-laws 𝓤 H (𝓖 .A) (givenOf 𝓤 H 𝓜 𝓖) tt .typed r _ is .0) f
     𝓤 H (𝓖 .A) (givenOf 𝓤 H 𝓜 𝓖) (tablesOf 𝓤 H 𝓜 (tables 𝓤 H 𝓜 𝓡 code.env)) #callee
     (cited 𝓤 H (Loose N.the-row f 𝓤 H (𝓖 .A)) 𝓜 𝓡 code.env #callee callee-def.routine code.calls-fields·next-at (callee-thm.met 𝓤 H 𝓜 𝓖 𝓡)))

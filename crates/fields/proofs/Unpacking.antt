@@ -127,8 +127,8 @@ module _ (R : RattleType) (τ : Ty) (typed : OfType R τ) (f : List ℕ → ℕ 
   asked = qed W ((‵ (flft κ q) ⊛ ‵ ftrue) ∷ ‵ (owns (ShrSlice (named 0) κ u8 ∷ usize ∷ []) (d .file, (d .at, tt)) passed) ∷ []) ∵ join ! $ frame ! $ done !
 
   -- what the struct owns gives what the callee asks, and is kept
-  apart : d .at < 2 ^ 64 → ent 𝓤 (onEntry 𝓤 H A (carried-ended R .signature) (κ, tt) (q, tt) (d, tt) (mach ∷ [], tt)) (sep 𝓤 (Loose R f 𝓤 H A .pre to) (sem 𝓤 H A Own))
-  apart fits =
+  unpacked : d .at < 2 ^ 64 → ent 𝓤 (onEntry 𝓤 H A (carried-ended R .signature) (κ, tt) (q, tt) (d, tt) (mach ∷ [], tt)) (sep 𝓤 (Loose R f 𝓤 H A .pre to) (sem 𝓤 H A Own))
+  unpacked fits =
       qed W ((‵ (flft κ q) ⊛ ‵ ftrue) ∷ ‵ (owns (B (κ, tt) ∷ []) (d, tt) (mach ∷ [], tt)) ∷ []) ∵
       move ! (1 ∷ []) $ fsplit ! $ move ! (1 ∷ []) $ drop ! $ use1 W (‵ Own ⊛ ‵ Own) (LL.copy D (T′.the-copy (namedLft 1 0 tt (κ, tt))) 𝓤 H A W .twice d (mach ∷ [])) $ split ! $
       use1 W (given (mach ∷ [] ≡ mach ∷ []) (‵ (all-own (D .parts) L vd))) (own-open 𝓤 H A W D L vd mach) $ learn ! (λ _. use1 W (‵ (ownAt (D .parts) L 0 (d .file)) ⊛ ‵ (rest (D .parts) L 0 vd)) (own-out 𝓤 H A W (D .parts) L 0 vd) $ split ! $
@@ -153,7 +153,7 @@ module _ (R : RattleType) (τ : Ty) (typed : OfType R τ) (f : List ℕ → ℕ 
         alloc1 ! (λ l₀. alloc1 ! (λ l₁. alloc1 ! (λ l₂. alloc1 ! (λ l₃. alloc0 ! $ params1 ! $ pass1 ! (init ! 4 refl wt) $ pass0 ! $
         assigns ! (of-opd ! (load ! (from ! (fld ! refl (stop !))) (look-in ! 4 (sub ! 0 refl (whole !))))) (from ! (stop !)) (init ! 2 refl (tt, wt .1 .0)) $
         assigns ! (of-opd ! (load ! (from ! (fld ! refl (stop !))) (look-in ! 4 (sub ! 1 refl (whole !))))) (from ! (stop !)) (init ! 0 refl (tt, wt .1 .1 .0)) $
-        move ! (8 ∷ []) $ use1 W (raw (Loose R f 𝓤 H A .pre to) ⊛ ‵ Own) (apart (wt .1 .1 .0 .fits)) $ split ! $
+        move ! (8 ∷ []) $ use1 W (raw (Loose R f 𝓤 H A .pre to) ⊛ ‵ Own) (unpacked (wt .1 .1 .0 .fits)) $ split ! $
         calls-at ! fm (Loose R f 𝓤 H A) known to (and-then ! (load ! (from ! (stop !)) (look ! 4 refl)) (and-then ! (load ! (from ! (stop !)) (look ! 2 refl)) (no-more !))) (λ u.
         use1 W (later (some (λ (r : R .Denot). ((‵ (flft κ q) ⊛ ‵ ftrue) ⊛ ‵ (R .own r (u ∷ []))) ⊛ raw (ensured 𝓤 H A (loose-ended R) (loose-clauses R f 𝓤) (κ, tt) (d .file, (d .at, tt)) tt r)))) (id⊢ 𝓤 _) $ await ! tt $ pick ! (λ r.
         split ! $ move ! (1 ∷ []) $ use1 W (raw (fact 𝓤 (r ≡ found))) (said r) $ heard ! (r ≡ found) (λ e. split ! $ move ! (1 ∷ []) $
@@ -164,11 +164,11 @@ module _ (R : RattleType) (τ : Ty) (typed : OfType R τ) (f : List ℕ → ℕ 
         move ! (9 ∷ 10 ∷ []) $ free1 ! $ move ! (7 ∷ 8 ∷ []) $ free1 ! $ move ! (5 ∷ 6 ∷ []) $ free1 ! $ move ! (3 ∷ 4 ∷ []) $ free1 ! $ free0 ! $ by ! (exits r u e)))))))))
 
 module _ (R : RattleType) (τ : Ty) (typed : OfType R τ) (f : List ℕ → ℕ → R .Denot) {M : Type 1} (𝓤 : URA M) (H : Heap 𝓤) (A : Atoms 𝓤) (W : Given 𝓤 H A) where
-  apart-walks : (C : Calls 𝓤 H) (Λ : Loops 𝓤 H) → FmC 𝓤 H (W .laws) C → (k : Name) → Triple 𝓤 (C k) (Loose R f 𝓤 H A)
+  unpacking-walks : (C : Calls 𝓤 H) (Λ : Loops 𝓤 H) → FmC 𝓤 H (W .laws) C → (k : Name) → Triple 𝓤 (C k) (Loose R f 𝓤 H A)
       → Walks 𝓤 H A (carried-ended R) (carried-stayed R) (WpFn 𝓤 H C Λ (apartFn τ k)) (carried-clauses R f 𝓤)
-  apart-walks C Λ fm k known = walked 𝓤 H A (carried-ended R) (carried-stayed R) (carried-clauses R f 𝓤) (WpFn 𝓤 H C Λ (apartFn τ k)) (λ κs. (LL.vals (T.the-type (namedLft 1 0 tt κs)) (T′.the-laws (namedLft 1 0 tt κs)), tt)) (λ κs. (LL.tells (T.the-type (namedLft 1 0 tt κs)) (T′.the-laws (namedLft 1 0 tt κs)), tt))
+  unpacking-walks C Λ fm k known = walked 𝓤 H A (carried-ended R) (carried-stayed R) (carried-clauses R f 𝓤) (WpFn 𝓤 H C Λ (apartFn τ k)) (λ κs. (LL.vals (T.the-type (namedLft 1 0 tt κs)) (T′.the-laws (namedLft 1 0 tt κs)), tt)) (λ κs. (LL.tells (T.the-type (namedLft 1 0 tt κs)) (T′.the-laws (namedLft 1 0 tt κs)), tt))
       (λ κs qs bounds a g are. via 𝓤 _ (fst∗ 𝓤 _ (emp 𝓤)) (walk R τ typed f 𝓤 H A W (κs .0) (qs .0) (a .0) C Λ fm k known (LL.lawful (T.the-type (namedLft 1 0 tt κs)) (T′.the-laws (namedLft 1 0 tt κs)) 𝓤 H A W .typed (a .0) _ (are .0) .0)))
 
-  pub apart-meets : (𝓣 : Tables 𝓤 H) (k : Name) → Triple 𝓤 (𝓣 .C k) (Loose R f 𝓤 H A) → Meets 𝓤 H A (carried-ended R .signature) (WpFn 𝓤 H (𝓣 .C) (𝓣 .Λ) (apartFn τ k)) (closing 𝓤 H A (carried-ended R) (carried-clauses R f 𝓤))
-  apart-meets 𝓣 k known = walk-meets 𝓤 H A (carried-ended R) (carried-stayed R) W (goes-none 𝓤 H A W 1 B yes (λ κs x g. refl), tt) (carried-clauses R f 𝓤) (WpFn 𝓤 H (𝓣 .C) (𝓣 .Λ) (apartFn τ k)) (WpFn-mono 𝓤 H (W .laws) 𝓣 (apartFn τ k))
-      (apart-walks (𝓣 .C) (𝓣 .Λ) (fmOf 𝓤 H (W .laws) 𝓣) k known)
+  pub unpacking-meets : (𝓣 : Tables 𝓤 H) (k : Name) → Triple 𝓤 (𝓣 .C k) (Loose R f 𝓤 H A) → Meets 𝓤 H A (carried-ended R .signature) (WpFn 𝓤 H (𝓣 .C) (𝓣 .Λ) (apartFn τ k)) (closing 𝓤 H A (carried-ended R) (carried-clauses R f 𝓤))
+  unpacking-meets 𝓣 k known = walk-meets 𝓤 H A (carried-ended R) (carried-stayed R) W (goes-none 𝓤 H A W 1 B yes (λ κs x g. refl), tt) (carried-clauses R f 𝓤) (WpFn 𝓤 H (𝓣 .C) (𝓣 .Λ) (apartFn τ k)) (WpFn-mono 𝓤 H (W .laws) 𝓣 (apartFn τ k))
+      (unpacking-walks (𝓣 .C) (𝓣 .Λ) (fmOf 𝓤 H (W .laws) 𝓣) k known)
