@@ -3,3 +3,4 @@ mod Fronts
 pub mod RoundTrip
 pub mod Notes
 pub mod Judge
+pub mod Tables

@@ -1,3 +1,4 @@
--- Formulas: their files, and testing them.
+-- Formulas: their files, and testing them, with a table.
 pub mod Formula
 pub mod Test
+pub mod Tables
