@@ -42,7 +42,7 @@ fn answer(a: &[u8], b: &[u8], p: &[u8], text: &mut [u8; TEXT]) -> usize
     put_accepted(text, &out[..n])
 }
 
-// Each file has room for one byte more than it may have, so that one that is too long is seen to be so.
+// Each file has room for one byte more than it may have, so that one that is too long is seen to be so; the rest of it changes nothing (`read-enough` of proofs/Enough.antt).
 fn main() {
     let mut a = [0u8; BUNDLE_BYTES + 1];
     let mut b = [0u8; BUNDLE_BYTES + 1];

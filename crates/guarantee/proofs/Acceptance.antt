@@ -166,11 +166,11 @@ of-editions (suc zero) h k = inl refl
 of-editions (suc (suc zero)) h k = inr refl
 of-editions (suc (suc (suc n))) h k = absurd (omega arith)
 
-edition-first : {n : ℕ} → (n ≡ 1) ⊎ (n ≡ 2) → 1 ≤ n
+pub edition-first : {n : ℕ} → (n ≡ 1) ⊎ (n ≡ 2) → 1 ≤ n
 edition-first (inl e) = omega arith
 edition-first (inr e) = omega arith
 
-edition-last : {n : ℕ} → (n ≡ 1) ⊎ (n ≡ 2) → n ≤ newestEdition
+pub edition-last : {n : ℕ} → (n ≡ 1) ⊎ (n ≡ 2) → n ≤ newestEdition
 edition-last (inl e) = omega arith
 edition-last (inr e) = omega arith
 
@@ -184,7 +184,7 @@ mag-high (pos n) = omega arith
 mag-high (negsuc n) = omega arith
 
 -- what two bytes hold is what edition 1 holds, and what four hold, but for one number, is what edition 2 holds
-held-two : (z : ℤ) → T (holdable 2 z) → mag z ≤ 32_767
+pub held-two : (z : ℤ) → T (holdable 2 z) → mag z ≤ 32_767
 unfolding holdable
 held-two z h = omega (arith, ltb→lt (mag z + mag z) 65_536 (and-yes (ltb (mag z + mag z) 65_536) (small 2_147_483_647 z) h .0))
 
@@ -192,7 +192,7 @@ pub two-held : (z : ℤ) → mag z ≤ 32_767 → T (holdable 2 z)
 unfolding holdable small
 two-held z h = yes-and (ltb (mag z + mag z) 65_536) (leb (natAbs z) 2_147_483_647) (lt→ltb (mag z + mag z) 65_536 (omega arith)) (le→leb (natAbs z) 2_147_483_647 (omega (arith, mag-high z)))
 
-held-four : (z : ℤ) → T (holdable 4 z) → natAbs z ≤ 2_147_483_647
+pub held-four : (z : ℤ) → T (holdable 4 z) → natAbs z ≤ 2_147_483_647
 unfolding holdable small
 held-four z h = leb→le (natAbs z) 2_147_483_647 (and-yes (ltb (mag z + mag z) 4_294_967_296) (leb (natAbs z) 2_147_483_647) h .1)
 
@@ -200,7 +200,7 @@ pub four-held : (z : ℤ) → natAbs z ≤ 2_147_483_647 → T (holdable 4 z)
 unfolding holdable small
 four-held z h = yes-and (ltb (mag z + mag z) 4_294_967_296) (leb (natAbs z) 2_147_483_647) (lt→ltb (mag z + mag z) 4_294_967_296 (omega (arith, mag-low z))) (le→leb (natAbs z) 2_147_483_647 h)
 
-all-held : {n : ℕ} {numbers : List ℤ} → (n ≡ 1) ⊎ (n ≡ 2) → (n ≡ 1 → All (λ z. mag z ≤ 32_767) numbers) → (n ≡ 2 → All (λ z. natAbs z ≤ 2_147_483_647) numbers)
+pub all-held : {n : ℕ} {numbers : List ℤ} → (n ≡ 1) ⊎ (n ≡ 2) → (n ≡ 1 → All (λ z. mag z ≤ 32_767) numbers) → (n ≡ 2 → All (λ z. natAbs z ≤ 2_147_483_647) numbers)
     → All (λ z. T (holdable (edition n .coefficientWidth) z)) numbers
 all-held (inl e) h k = rw e (all-weaken two-held (h e))
 all-held (inr e) h k = rw e (all-weaken four-held (k e))
@@ -278,7 +278,7 @@ listed-length : {file : List ℕ} {n K : ℕ} {cs : List Constraint} (f : Bundle
 listed-length f = ap length (f .laid .are) ∙ ap (λ (n : ℕ). suc (suc n)) (each-length (f .laid .states))
 
 -- no bundle is longer than the longest of any edition
-bundle-short : {file : List ℕ} {n K : ℕ} {cs : List Constraint} → BundleFile newestEdition file n K cs → length file ≤ edition newestEdition .bundleBytes
+pub bundle-short : {file : List ℕ} {n K : ℕ} {cs : List Constraint} → BundleFile newestEdition file n K cs → length file ≤ edition newestEdition .bundleBytes
 bundle-short {n = n} f = omega (arith, f .short, bundleBytes-grows n newestEdition (f .first) (f .last))
 
 module _ (A B : List ℕ) (line : ℕ) where

@@ -22,7 +22,7 @@ use Rattle.proof.proofs.Agree.{one-formula}
 use Rattle.guarantee.specs.Guard.{GuardTells}
 use Rattle.guarantee.proofs.Soundness.{soundness}
 
-bool-true : (b : Bool) → T b → b ≡ true
+pub bool-true : (b : Bool) → T b → b ≡ true
 bool-true true t = refl
 bool-true false t = absurd t
 

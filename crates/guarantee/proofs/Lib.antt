@@ -4,6 +4,10 @@ pub mod Tree
 pub mod Acceptance
 pub mod Soundness
 pub mod Guard
+pub mod Testing
+pub mod Showing
+pub mod RefusedIff
+pub mod Meant
 pub mod Reduced
 pub mod Rounding
 pub mod Apart

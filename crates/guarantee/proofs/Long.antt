@@ -30,118 +30,121 @@ use Rattle.bundle_read.specs.declared.ReadResult.{ReadResult}
 use Rattle.bundle_read.specs.Promises.{Reads}
 use Rattle.proof.specs.Check.{Checker, Following, checkRounded, checkSplit, checkRow, checkEntry, checkEntries, checkBranch, checkProof, formulaAtMost, interpolant, checkBy, check}
 use Rattle.proof.proofs.Says.{Says as Tells, says-refused, says-accepted, bind, seq, test, finds, weaken}
-use Rattle.proof.proofs.Tree.{derived-says, fitting-says, inequality-says, roundable-says, disequality-says, byNumber-says, byStride-says, entry-says}
+use Rattle.proof.proofs.Tree.{amidst, derived-says, fitting-says, inequality-says, roundable-says, disequality-says, byNumber-says, byStride-says, entry-says}
 use Rattle.proof.specs.Promises.{Checks}
 use Rattle.guarantee.specs.Editions.{ShortBundles, ReadA, TooLong, long-A, long-B, late-A, late-B}
 
--- ---- the proof's fields: none of their refusals is 1
-abbrev Not1 : {X : Type 0} → Result X → Type 0
-Not1 r = Tells (λ (a : Answer). ¬ (a .number ≡ 1)) r (λ _. Unit {0})
+-- ---- the proof's fields: each of their refusals is by a number from 2 to 20
+abbrev pub Amidst : Answer → Type 0
+Amidst a = T (amidst (a .number))
 
-abbrev Never1 : Checker → Type 0
-Never1 checker = (p : Position) (rows : ℕ) (ls : List Line) (fs : Fields) → Not1 (checker p rows ls fs)
+abbrev pub AllAmidst : {X : Type 0} → Result X → Type 0
+AllAmidst r = Tells Amidst r (λ _. Unit {0})
 
-abbrev NeverIn : Option Checker → Type 0
-NeverIn none = Unit
-NeverIn (some checker) = Never1 checker
+abbrev ChecksAmidst : Checker → Type 0
+ChecksAmidst checker = (p : Position) (rows : ℕ) (ls : List Line) (fs : Fields) → AllAmidst (checker p rows ls fs)
 
-rounded-not1 : (checker : Checker) → Never1 checker → (ls : List Line) (l : Line) (step g k j left rows : ℕ) (fs : Fields) → Not1 (checkRounded checker ls l step g k j left rows fs)
+abbrev AmidstIn : Option Checker → Type 0
+AmidstIn none = Unit
+AmidstIn (some checker) = ChecksAmidst checker
+
+rounded-amidst : (checker : Checker) → ChecksAmidst checker → (ls : List Line) (l : Line) (step g k j left rows : ℕ) (fs : Fields) → AllAmidst (checkRounded checker ls l step g k j left rows fs)
 unfolding checkRounded
-rounded-not1 checker d ls l step g k j zero rows fs = bind (d _ rows _ fs) λ own _. says-accepted tt
-rounded-not1 checker d ls l step g k j (suc left) rows fs =
-    bind (d _ rows _ fs) λ own _. bind (rounded-not1 checker d ls l step g k (suc j) left (own .rows) (own .after)) λ others _. says-accepted tt
+rounded-amidst checker d ls l step g k j zero rows fs = bind (d _ rows _ fs) λ own _. says-accepted tt
+rounded-amidst checker d ls l step g k j (suc left) rows fs =
+    bind (d _ rows _ fs) λ own _. bind (rounded-amidst checker d ls l step g k (suc j) left (own .rows) (own .after)) λ others _. says-accepted tt
 
-module _ (e : Edition) (refusal : ℕ → Answer) (h : (n : ℕ) → T (leb 2 n) → ¬ (refusal n .number ≡ 1)) where
-  split-not1 : (checker : Checker) → Never1 checker → (σ : Side) (ls : List Line) (t tA : Form) (rows : ℕ) (fs : Fields) → Not1 (checkSplit e refusal checker σ ls t tA rows fs)
+module _ (e : Edition) (refusal : ℕ → Answer) (h : (n : ℕ) → T (amidst n) → Amidst (refusal n)) where
+  split-amidst : (checker : Checker) → ChecksAmidst checker → (σ : Side) (ls : List Line) (t tA : Form) (rows : ℕ) (fs : Fields) → AllAmidst (checkSplit e refusal checker σ ls t tA rows fs)
   unfolding checkSplit
-  split-not1 checker d A ls t tA rows fs =
+  split-amidst checker d A ls t tA rows fs =
       seq (fitting-says refusal h ls e _) (seq (fitting-says refusal h ls e _) (bind (d _ _ _ fs) λ first _. bind (d _ _ _ (first .after)) λ second _. says-accepted tt))
-  split-not1 checker d B ls t tA rows fs =
+  split-amidst checker d B ls t tA rows fs =
       seq (fitting-says refusal h ls e _) (seq (fitting-says refusal h ls e _) (bind (d _ _ _ fs) λ first _. bind (d _ _ _ (first .after)) λ second _. says-accepted tt))
 
   -- the checker of deeper branches, and what is done with it
-  deeper-not1 : {X : Type 0} (deeper : Option Checker) → NeverIn deeper → {k : Checker → Result X} → ((c : Checker) → Never1 c → Not1 (k c)) → Not1 (found (refusal 17) deeper >>= k)
+  deeper-amidst : {X : Type 0} (deeper : Option Checker) → AmidstIn deeper → {k : Checker → Result X} → ((c : Checker) → ChecksAmidst c → AllAmidst (k c)) → AllAmidst (found (refusal 17) deeper >>= k)
   unfolding found _>>=_
-  deeper-not1 none p k = says-refused (h 17 tt)
-  deeper-not1 (some c) p k = k c p
+  deeper-amidst none p k = says-refused (h 17 tt)
+  deeper-amidst (some c) p k = k c p
 
-  module _ (K : ℕ) (deeper : Option Checker) (p : NeverIn deeper) (next : Following) (q : (rows : ℕ) (made : Option Line) (ls : List Line) → Not1 (next rows made ls)) (rows : ℕ) (ls : List Line) (fs : Fields) where
-    row-not1 : (r : Row) → Not1 (checkRow e K deeper next refusal rows ls fs r)
+  module _ (K : ℕ) (deeper : Option Checker) (p : AmidstIn deeper) (next : Following) (q : (rows : ℕ) (made : Option Line) (ls : List Line) → AllAmidst (next rows made ls)) (rows : ℕ) (ls : List Line) (fs : Fields) where
+    row-amidst : (r : Row) → AllAmidst (checkRow e K deeper next refusal rows ls fs r)
     unfolding checkRow
-    row-not1 (Derive s) = bind (derived-says refusal h ls s) λ l _. seq (fitting-says refusal h ls e l) (q _ _ _)
-    row-not1 (Strengthen i) = bind (inequality-says refusal h ls i) λ l _. deeper-not1 deeper p λ branch d. seq (fitting-says refusal h ls e _)
+    row-amidst (Derive s) = bind (derived-says refusal h ls s) λ l _. seq (fitting-says refusal h ls e l) (q _ _ _)
+    row-amidst (Strengthen i) = bind (inequality-says refusal h ls i) λ l _. deeper-amidst deeper p λ branch d. seq (fitting-says refusal h ls e _)
         (bind (d _ _ _ fs) λ first _. bind (d _ _ _ (first .after)) λ second _. bind (d _ _ _ (second .after)) λ third _. says-accepted tt)
-    row-not1 (Round i g k) = bind (roundable-says refusal h ls e i g k) λ l _. deeper-not1 deeper p λ branch d. seq (fitting-says refusal h ls e _)
-        (bind (d _ _ _ fs) λ first _. bind (rounded-not1 branch d ls l rows g k 0 (k - 1) (first .rows) (first .after)) λ others _. says-accepted tt)
-    row-not1 (Split i) = bind (disequality-says refusal h ls i) λ (σ, l) _. deeper-not1 deeper p λ branch d. split-not1 branch d σ ls (l .t) (l .tA) rows fs
-    row-not1 (CloseNumber i) = bind (byNumber-says refusal h ls i) λ I _. says-accepted tt
-    row-not1 (CloseStride i g) = bind (byStride-says refusal h ls i g) λ I _. says-accepted tt
+    row-amidst (Round i g k) = bind (roundable-says refusal h ls e i g k) λ l _. deeper-amidst deeper p λ branch d. seq (fitting-says refusal h ls e _)
+        (bind (d _ _ _ fs) λ first _. bind (rounded-amidst branch d ls l rows g k 0 (k - 1) (first .rows) (first .after)) λ others _. says-accepted tt)
+    row-amidst (Split i) = bind (disequality-says refusal h ls i) λ (σ, l) _. deeper-amidst deeper p λ branch d. split-amidst branch d σ ls (l .t) (l .tA) rows fs
+    row-amidst (CloseNumber i) = bind (byNumber-says refusal h ls i) λ I _. says-accepted tt
+    row-amidst (CloseStride i g) = bind (byStride-says refusal h ls i g) λ I _. says-accepted tt
 
-    checkEntry-not1 : (made : Option Line) (x : Entry) → Not1 (checkEntry e K deeper next refusal rows made ls fs x)
+    checkEntry-amidst : (made : Option Line) (x : Entry) → AllAmidst (checkEntry e K deeper next refusal rows made ls fs x)
     unfolding checkEntry
-    checkEntry-not1 made (row r) = test _ _ (h 18 tt) λ _. row-not1 r
-    checkEntry-not1 made (claim t tA) = bind (finds _ made (h 4 tt)) λ l _. test _ _ (h 14 tt) λ _. q _ _ _
+    checkEntry-amidst made (row r) = test _ _ (h 18 tt) λ _. row-amidst r
+    checkEntry-amidst made (claim t tA) = bind (finds _ made (h 4 tt)) λ l _. test _ _ (h 14 tt) λ _. q _ _ _
 
-above-1 : (n : ℕ) → T (leb 2 n) → ¬ (n ≡ 1)
-above-1 n t e = subst (λ (n : ℕ). T (leb 2 n)) e t
+pub above-1 : {n : ℕ} → T (amidst n) → ¬ (n ≡ 1)
+above-1 t e = subst (λ (n : ℕ). T (amidst n)) e t
 
 module _ (e : Edition) (K : ℕ) where
-  entries-not1 : (p : Position) (deeper : Option Checker) → NeverIn deeper → (fs : Fields) (rows : ℕ) (made : Option Line) (ls : List Line) → Not1 (checkEntries e K p deeper fs rows made ls)
+  entries-amidst : (p : Position) (deeper : Option Checker) → AmidstIn deeper → (fs : Fields) (rows : ℕ) (made : Option Line) (ls : List Line) → AllAmidst (checkEntries e K p deeper fs rows made ls)
   unfolding checkEntries
-  entries-not1 p deeper d (ends at) rows made ls = says-refused (above-1 20 tt)
-  entries-not1 p deeper d (cut at) rows made ls = says-refused (above-1 2 tt)
-  entries-not1 p deeper d (f ▸ fs) rows made ls = bind (entry-says e K (refusalAt p rows (f .at)) made f above-1) λ x _.
-      checkEntry-not1 e (refusalAt p rows (f .at)) above-1 K deeper d (checkEntries e K p deeper fs) (entries-not1 p deeper d fs) rows ls fs made x
+  entries-amidst p deeper d (ends at) rows made ls = says-refused tt
+  entries-amidst p deeper d (cut at) rows made ls = says-refused tt
+  entries-amidst p deeper d (f ▸ fs) rows made ls = bind (entry-says e K (refusalAt p rows (f .at)) made f (λ n t. t)) λ x _.
+      checkEntry-amidst e (refusalAt p rows (f .at)) (λ n t. t) K deeper d (checkEntries e K p deeper fs) (entries-amidst p deeper d fs) rows ls fs made x
 
-  branch-not1 : (room : ℕ) → Never1 (checkBranch e K room)
+  branch-amidst : (room : ℕ) → ChecksAmidst (checkBranch e K room)
   unfolding checkBranch
-  branch-not1 zero p rows ls fs = entries-not1 p none tt fs rows none ls
-  branch-not1 (suc room) p rows ls fs = entries-not1 p (some (checkBranch e K room)) (branch-not1 room) fs rows none ls
+  branch-amidst zero p rows ls fs = entries-amidst p none tt fs rows none ls
+  branch-amidst (suc room) p rows ls fs = entries-amidst p (some (checkBranch e K room)) (branch-amidst room) fs rows none ls
 
 -- ---- headers and ends
 module _ (kind : FileKind) (file : ℕ) where
   -- the edition that is read is the one that the file says
-  edition-field-not1 : (fs : Fields) → Tells (λ (a : Answer). ¬ (a .number ≡ 1)) (headerField kind file 0x01 fs) (λ x. editionSaid fs ≡ some (x .1))
+  edition-field-amidst : (fs : Fields) → Tells Amidst (headerField kind file 0x01 fs) (λ x. editionSaid fs ≡ some (x .1))
   unfolding headerField editionSaid
-  edition-field-not1 (ends at) = says-refused (above-1 2 tt)
-  edition-field-not1 (cut at) = says-refused (above-1 2 tt)
-  edition-field-not1 (f ▸ fs) = test _ _ (above-1 3 tt) λ _. test _ _ (above-1 4 tt) λ t. test _ _ (above-1 6 tt) λ l. says-accepted (rw (eqb→eq (f .tag) 0x01 t, eqb→eq (length (f .contents)) 1 l))
+  edition-field-amidst (ends at) = says-refused tt
+  edition-field-amidst (cut at) = says-refused tt
+  edition-field-amidst (f ▸ fs) = test _ _ tt λ _. test _ _ tt λ t. test _ _ tt λ l. says-accepted (rw (eqb→eq (f .tag) 0x01 t, eqb→eq (length (f .contents)) 1 l))
 
-  edition-not1 : (newest : ℕ) (fs : Fields) → Tells (λ (a : Answer). ¬ (a .number ≡ 1)) (editionField kind file newest fs) (λ x. editionSaid fs ≡ some (x .0))
+  pub edition-amidst : (newest : ℕ) (fs : Fields) → Tells Amidst (editionField kind file newest fs) (λ x. editionSaid fs ≡ some (x .0))
   unfolding editionField
-  edition-not1 newest fs = bind (edition-field-not1 fs) λ x s. test _ _ (above-1 5 tt) λ _. says-accepted s
+  edition-amidst newest fs = bind (edition-field-amidst fs) λ x s. test _ _ tt λ _. says-accepted s
 
-  constants-field-not1 : (fs : Fields) → Not1 (headerField kind file 0x02 fs)
+  constants-field-amidst : (fs : Fields) → AllAmidst (headerField kind file 0x02 fs)
   unfolding headerField
-  constants-field-not1 (ends at) = says-refused (above-1 2 tt)
-  constants-field-not1 (cut at) = says-refused (above-1 2 tt)
-  constants-field-not1 (f ▸ fs) = test _ _ (above-1 3 tt) λ _. test _ _ (above-1 4 tt) λ _. test _ _ (above-1 6 tt) λ _. says-accepted tt
+  constants-field-amidst (ends at) = says-refused tt
+  constants-field-amidst (cut at) = says-refused tt
+  constants-field-amidst (f ▸ fs) = test _ _ tt λ _. test _ _ tt λ _. test _ _ tt λ _. says-accepted tt
 
-  constants-not1 : (given : Option ℕ) (fs : Fields) → Not1 (constantsField kind file given fs)
+  pub constants-amidst : (given : Option ℕ) (fs : Fields) → AllAmidst (constantsField kind file given fs)
   unfolding constantsField
-  constants-not1 given fs = bind (constants-field-not1 fs) λ x _. test _ _ (above-1 7 tt) λ _. test _ _ (above-1 9 tt) λ _. says-accepted tt
+  constants-amidst given fs = bind (constants-field-amidst fs) λ x _. test _ _ tt λ _. test _ _ tt λ _. says-accepted tt
 
-  header-not1 : (newest : ℕ) (given : Option ℕ) (fs : Fields) → Not1 (header kind file newest given fs)
+  header-amidst : (newest : ℕ) (given : Option ℕ) (fs : Fields) → AllAmidst (header kind file newest given fs)
   unfolding header
-  header-not1 newest given fs = bind (edition-not1 newest fs) λ x _. bind (constants-not1 given (x .1)) λ y _. says-accepted tt
+  header-amidst newest given fs = bind (edition-amidst newest fs) λ x _. bind (constants-amidst given (x .1)) λ y _. says-accepted tt
 
-  finished-not1 : (fs : Fields) → Not1 (finished kind file fs)
+  finished-amidst : (fs : Fields) → AllAmidst (finished kind file fs)
   unfolding finished
-  finished-not1 (ends at) = says-accepted tt
-  finished-not1 (cut at) = says-refused (above-1 2 tt)
-  finished-not1 (f ▸ fs) = test _ _ (above-1 3 tt) λ _. says-refused (above-1 19 tt)
+  finished-amidst (ends at) = says-accepted tt
+  finished-amidst (cut at) = says-refused tt
+  finished-amidst (f ▸ fs) = test _ _ tt λ _. says-refused tt
 
-proof-not1 : (newest : ℕ) (a b : Bundle) (fs : Fields) → Not1 (checkProof newest a b fs)
+pub proof-amidst : (newest : ℕ) (a b : Bundle) (fs : Fields) → AllAmidst (checkProof newest a b fs)
 unfolding checkProof
-proof-not1 newest a b fs = bind (header-not1 FileKind.Proof fileProof newest _ fs) λ h _. bind (branch-not1 (edition (h .number)) (h .K) _ _ _ _ (h .rest)) λ c _.
-    seq (finished-not1 FileKind.Proof fileProof (c .after)) (says-accepted tt)
+proof-amidst newest a b fs = bind (header-amidst FileKind.Proof fileProof newest _ fs) λ h _. bind (branch-amidst (edition (h .number)) (h .K) _ _ _ _ (h .rest)) λ c _.
+    seq (finished-amidst FileKind.Proof fileProof (c .after)) (says-accepted tt)
 
-constraints-not1 : (file : ℕ) (e : Edition) (K n : ℕ) (fs : Fields) → Not1 (constraints file e K n fs)
+pub constraints-amidst : (file : ℕ) (e : Edition) (K n : ℕ) (fs : Fields) → AllAmidst (constraints file e K n fs)
 unfolding constraints
-constraints-not1 file e K n (ends at) = says-accepted tt
-constraints-not1 file e K n (cut at) = says-refused (above-1 2 tt)
-constraints-not1 file e K n (f ▸ fs) = test _ _ (above-1 3 tt) λ _. bind (finds _ _ (above-1 4 tt)) λ k _. test _ _ (above-1 6 tt) λ _. test _ _ (above-1 8 tt) λ _. test _ _ (above-1 13 tt) λ _.
-    bind (constraints-not1 file e K (suc n) fs) λ cs _. says-accepted tt
+constraints-amidst file e K n (ends at) = says-accepted tt
+constraints-amidst file e K n (cut at) = says-refused tt
+constraints-amidst file e K n (f ▸ fs) = test _ _ tt λ _. bind (finds _ _ tt) λ k _. test _ _ tt λ _. test _ _ tt λ _. test _ _ tt λ _.
+    bind (constraints-amidst file e K (suc n) fs) λ cs _. says-accepted tt
 
 -- ---- a refusal by 1 has a reason, by its file
 module _ (Why : ℕ → Type 0) where
@@ -149,8 +152,8 @@ module _ (Why : ℕ → Type 0) where
   One a = a .number ≡ 1 → Why (a .file)
 
   -- no reason is needed for what is never refused by 1
-  never1 : {X : Type 0} {P : X → Type 0} {r : Result X} → Tells (λ (a : Answer). ¬ (a .number ≡ 1)) r P → Tells One r P
-  never1 s = weaken s (λ a q e. absurd (q e)) (λ _ u. u)
+  never1 : {X : Type 0} {P : X → Type 0} {r : Result X} → Tells Amidst r P → Tells One r P
+  never1 s = weaken s (λ a q e. absurd (above-1 q e)) (λ _ u. u)
 
   -- a length is tested, and what follows knows it
   at-most : {X : Type 0} {P : X → Type 0} {r : Result X} (limit file : ℕ) (bytes : List ℕ) → (limit < length bytes → Why file) → (length bytes ≤ limit → Tells One r P) → Tells One (atMost limit file bytes >> r) P
@@ -172,11 +175,11 @@ module _ (Why : ℕ → Type 0) where
 
     header-one : Tells One (bundleHeader newestEdition file given bytes) (λ _. Unit {0})
     unfolding bundleHeader
-    header-one = bind (never1 (edition-not1 FileKind.Bundle file newestEdition (fields bytes))) λ x s. at-most _ file bytes (late (x .0) s) λ _. bind (never1 (constants-not1 FileKind.Bundle file given (x .1))) λ y _. says-accepted tt
+    header-one = bind (never1 (edition-amidst FileKind.Bundle file newestEdition (fields bytes))) λ x s. at-most _ file bytes (late (x .0) s) λ _. bind (never1 (constants-amidst FileKind.Bundle file given (x .1))) λ y _. says-accepted tt
 
     constraints-one : Tells One (bundle newestEdition file given bytes) (λ _. Unit {0})
     unfolding bundle
-    constraints-one = bind header-one λ x _. bind (never1 (constraints-not1 file (edition (x .number)) (x .K) 0 (x .rest))) λ cs _. says-accepted tt
+    constraints-one = bind header-one λ x _. bind (never1 (constraints-amidst file (edition (x .number)) (x .K) 0 (x .rest))) λ cs _. says-accepted tt
 
     bundle-one : Tells One (bundle newestEdition file given bytes) (Laid newestEdition given bytes)
     bundle-one = record { refusal = constraints-one .refusal; value = bundle-gives newestEdition file given bytes .gives }
@@ -202,7 +205,7 @@ module _ (A B proof : List ℕ) where
   interpolant-one : Tells (One Why1) (interpolant newestEdition A B proof) (λ _. Unit {0})
   unfolding interpolant formulaAtMost
   interpolant-one = lengths-one Why1 A B (length proof ≤ 65_536) (λ _ w. inl w) λ s. at-most Why1 _ fileProof proof (λ h. inr (inl (refl, s, h))) λ p.
-      bind (bundles-one Why1 A B (length proof ≤ 65_536) (λ _ w. inl w) s p) λ x _. bind (never1 Why1 (proof-not1 newestEdition (x .0) (x .1) (fields proof))) λ I _. test _ _ (λ _. inr (inr refl)) λ _. says-accepted tt
+      bind (bundles-one Why1 A B (length proof ≤ 65_536) (λ _ w. inl w) s p) λ x _. bind (never1 Why1 (proof-amidst newestEdition (x .0) (x .1) (fields proof))) λ I _. test _ _ (λ _. inr (inr refl)) λ _. says-accepted tt
 
   -- what is left, by the bytes or the refusal
   left-one : (r : Result (List ℕ)) (output : List ℕ) → Tells (One Why1) r (λ _. Unit {0}) → One Why1 (written r output .answer)

@@ -31,7 +31,7 @@ use Rattle.proof.specs.Promises.{Checks}
 use Rattle.guarantee.specs.LaidOut.{Listed, LaidBundle, Placed, unclaimed, claimed, strengthen as strengthens, round as rounds, split as splits, number as numbers, stride as strides, PlacedTimes, none as nones, more as mores, LaidOut}
 use Rattle.guarantee.specs.Acceptance.{Checkable}
 use Rattle.guarantee.specs.Soundness.{Meaning, Faithful, Delivered, NotesPassedOver, Soundness}
-use Rattle.guarantee.proofs.Acceptance.{of-editions, is-checkable, leaves}
+use Rattle.guarantee.proofs.Acceptance.{of-editions, is-checkable, leaves, acceptance-holds}
 
 -- ---- what a writer stated is what the check read
 some-is : {X : Type 0} {x y : X} → some x ≡ some y → x ≡ y
@@ -154,6 +154,7 @@ soundness = record {
   interpolates = λ FA FB framedA framedB MA MB faithfulA faithfulB proof output left r c h.
       delivered FA FB framedA framedB MA MB faithfulA faithfulB proof output left r c (is-checkable c h);
   listed = λ A B proof output left r bytesA bytesB c h. let x = is-checkable c h .certified .yields in (lists bytesA (x .fileA), lists bytesB (x .fileB));
+  listed-read = λ file kinds numbers kinds′ numbers′ r bytes c h. lists bytes (acceptance-holds .read-iff file kinds numbers kinds′ numbers′ r c .0 h .states);
   notes = notes;
   notes-plain = notes-plain;
   laid-out = λ A B proof output left r c h. laid-out (is-checkable c h .certified .yields);

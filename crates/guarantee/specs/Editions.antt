@@ -148,7 +148,7 @@ pub record EditionsPromised : Type 0 where
       → Says A 1 → 4_096 < length A → r .answer ≡ answer 1 fileA 0
   pub check-late-B : (A B proof output left : List ℕ) (r : WriteResult) → Checks A B proof output left r → ReadA A B → length proof ≤ 65_536
       → Says B 1 → 4_096 < length B → r .answer ≡ answer 1 fileB 0
-  -- 1 in A, B and the proof in these cases only: so a bundle's late 1 comes behind every fault in front of its 0x01 and in it. With file 4, of which no more is said here, it is a formula's (`too-long` in Acceptance)
+  -- 1 in A, B and the proof in these cases only: so a bundle's late 1 comes behind every fault in front of its 0x01 and in it. With file 4 it is a formula's, just where that is too long (`check-1-at-end` in RefusedIff)
   pub check-1 : (A B proof output left : List ℕ) (r : WriteResult) → Checks A B proof output left r → r .answer .number ≡ 1
       → TooLong A B (length proof ≤ 65_536) (r .answer .file) ⊎ ((r .answer .file ≡ fileProof) × ShortBundles A B × (65_536 < length proof)) ⊎ (r .answer .file ≡ fileLent)
   -- an edition that is neither 1 nor 2: 5 at its field, in A, in B, in the proof

@@ -4,6 +4,7 @@ use mathlib.Core.Logic.{_⊎_}
 use mathlib.Core.List.{List}
 use Prim.Native.Nat.{ℕ, _≤_}
 use lib.ListN.{length, take}
+use lib.IntN.{ℤ}
 use Rattle.forms.specs.Edition.{edition1, newestEdition}
 use Rattle.forms.specs.Forms.{All, Constraint, Formula}
 use Rattle.calculus.specs.Rules.{Interpolant}
@@ -13,6 +14,8 @@ use Rattle.answers.specs.declared.WriteResult.{WriteResult}
 use Rattle.number_bytes.specs.Numbers.{Bytes}
 use Rattle.fields.specs.Fields.{Item, Framed, fileOf, withoutNotes, fields, Noted, Kept}
 use Rattle.bundle.specs.Layout.{StatesAll, bundleLimit}
+use Rattle.bundle_read.specs.declared.ReadResult.{ReadResult}
+use Rattle.bundle_read.specs.Promises.{Reads}
 use Rattle.formula.specs.Formula.{formulaFile, readFormula}
 use Rattle.proof.specs.Layout.{Certifies}
 use Rattle.proof.specs.Editions.{limitA, limitB}
@@ -64,6 +67,8 @@ pub record Soundness : Type 0 where
       → Delivered FA FB MA MB proof output left r
   -- and every A and B that is accepted is the file of some writer's fields
   pub listed : (A B proof output left : List ℕ) (r : WriteResult) → Bytes A → Bytes B → Checks A B proof output left r → r .answer .number ≡ 0 → Listed A × Listed B
+  -- and so is every bundle that read accepts
+  pub listed-read : (file kinds : List ℕ) (numbers : List ℤ) (kinds′ : List ℕ) (numbers′ : List ℤ) (r : ReadResult) → Bytes file → Reads file kinds numbers kinds′ numbers′ r → r .answer .number ≡ 0 → Listed file
   -- notes are passed over, a bundle's length being 4,096 where check reads edition 1 in it, 8,192 where it does not or never comes to read it (document 02, point 3; in numerals in `EditionsPromised`)
   pub notes : NotesPassedOver limitA limitB
   -- and with the length by the file alone: 4,096 for a bundle whose first field, notes aside, is a whole 0x01 of length 1 that says 1, 8,192 for any other

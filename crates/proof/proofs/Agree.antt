@@ -85,7 +85,7 @@ module _ (newest : ℕ) (a b : Bundle) (fs : Fields) where
       root-proof (h .number) (d .first) (d .last) (h .rest) root (subst (λ (K : ℕ). Root (edition (h .number)) K (h .rest) root) k r) ended
       (rw k at (d .low)) (rw k at (d .high)) (λ is q. rw k at (d .from is q))
 
-  proof-gives : Gives (checkProof newest a b fs) (Proof newest a b fs)
+  pub proof-gives : Gives (checkProof newest a b fs) (Proof newest a b fs)
   unfolding checkProof
   proof-gives = bind (header-gives FileKind.Proof fileProof newest (some (a .K)) fs) λ h d.
       bind (branch-derives (edition (h .number)) (h .K) (occurring a b) (edition (h .number) .branchings) _ 0 _ (h .rest) (initial-words (sides (a .constraints) (b .constraints)))) λ root r.
@@ -116,7 +116,7 @@ formulaAtMost-refuses r K I h = fail _ r (lt-leb (length (formulaFile edition1 K
 
 -- ---- the three files
 module _ (newest : ℕ) (A B P : List ℕ) where
-  yielded : (a b : Bundle) → BothLaid newest A B (a, b) → length P ≤ edition newest .proofBytes → (I : Formula) → Proof newest a b (fields P) I → Yields newest A B P (a .K) I
+  pub yielded : (a b : Bundle) → BothLaid newest A B (a, b) → length P ≤ edition newest .proofBytes → (I : Formula) → Proof newest a b (fields P) I → Yields newest A B P (a .K) I
   yielded a b l sP I p = record {
     editionA = a .edition;
     editionB = b .edition;

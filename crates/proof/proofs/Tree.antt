@@ -27,8 +27,11 @@ use Rattle.proof.specs.Layout.{Enters}
 use Rattle.proof.specs.Tree.{OpenStep, openStep, Tree, tree, afterClose, roundingOf, treeBehind, innermost, startsAt, Stands, here, past}
 use Rattle.proof.proofs.Says.{Says, says-refused, says-accepted, bind, seq, says-need, test, finds, weaken}
 
--- ---- the tests of a row: each refusal is one of this row, by a number from 2 on
-module _ {Q : Answer → Type 0} (refusal : ℕ → Answer) (h : (n : ℕ) → T (leb 2 n) → Q (refusal n)) (ls : List Line) where
+-- ---- the tests of a row: each refusal is one of this row, by a number from 2 to 20
+abbrev pub amidst : ℕ → Bool
+amidst n = leb 2 n && leb n 20
+
+module _ {Q : Answer → Type 0} (refusal : ℕ → Answer) (h : (n : ℕ) → T (amidst n) → Q (refusal n)) (ls : List Line) where
   pub line-says : (i : ℕ) → Says Q (lineAt refusal ls i) (λ _. Unit {0})
   unfolding lineAt
   line-says i = weaken (finds (refusal 10) _ (h 10 tt)) (λ a q. q) (λ _ _. tt)
@@ -105,7 +108,7 @@ at-front : (ps : List OpenStep) (rows : ℕ) (fs : Fields) (n : ℕ) → Stands 
 at-front ps rows fs n = here {t = tree rows ps} {fs = fs} {a = refusalAt (innermost ps) rows (startsAt fs) n} refl
 
 -- what a field is that states an entry
-pub entry-says : (e : Edition) (K : ℕ) (refusal : ℕ → Answer) (made : Option Line) (f : Field) {Q : Answer → Type 0} → ((n : ℕ) → T (leb 2 n) → Q (refusal n))
+pub entry-says : (e : Edition) (K : ℕ) (refusal : ℕ → Answer) (made : Option Line) (f : Field) {Q : Answer → Type 0} → ((n : ℕ) → T (amidst n) → Q (refusal n))
     → Says Q (entry e K refusal made f) (Enters e K (item (f .tag) (f .contents)))
 unfolding entry
 entry-says e K refusal made f h = test _ _ (h 3 tt) λ _. bind (finds _ (entryTagged (f .tag)) (h 4 tt)) λ x t. test _ _ (h 4 tt) λ _. test _ _ (h 6 tt) λ n.
@@ -182,7 +185,7 @@ module _ (e : Edition) (two : e .multiplierWidth ≡ 2) (K : ℕ) (deeper : Opti
     leads-behind : {t : Tree} → Behind t → Leads (tree rows ps) (f ▸ fs) t fs
     leads-behind e = on f (subst (λ (t : Tree). Leads (treeBehind (entryTagged (f .tag)) (f .contents) (tree rows ps)) fs t fs) e stays)
 
-    told : (n : ℕ) → T (leb 2 n) → Stands (tree rows ps) (f ▸ fs) (refusalAt (innermost ps) rows (f .at) n)
+    told : (n : ℕ) → T (amidst n) → Stands (tree rows ps) (f ▸ fs) (refusalAt (innermost ps) rows (f .at) n)
     unfolding startsAt
     told n _ = at-front ps rows (f ▸ fs) n
 
