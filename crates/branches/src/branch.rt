@@ -255,22 +255,30 @@ fn resumed(b: Branched, given: Tally) -> Branched
     }
 }
 
-// The branch at a position. The formula's bytes go into the scratch from o on, as far as they fit.
+// Where a branch starts: its first field is at `at` in the proof, its formula's first byte at `o` in the scratch; and K, which
+// goes along. One argument for three (docs/SPEED.md).
+pub struct Here {
+    pub at: usize,
+    pub k: usize,
+    pub o: usize,
+}
+
+// The branch that starts here. The formula's bytes go into the scratch as far as they fit.
 pub fn check_branch(
     p: &[u8],
-    at: usize,
+    here: Here,
     position: Position,
     lines: &mut [i32],
     kinds: &mut [u8],
     tally: Tally,
-    k: usize,
     scratch: &mut [u8],
-    o: usize,
 ) -> Branched
-    requires { ⌜ Started k (now kinds) (now lines) tally (now p) at o ⌝ }
-    ensures { λ r. ⌜ Branches k (now (p .entry)) at position (now (kinds .entry)) (now (lines .entry)) tally (now (scratch .entry)) o (now (kinds .exit)) (now (lines .exit)) (now (scratch .exit)) r ⌝ }
+    requires { ⌜ Started (here .k) (now kinds) (now lines) tally (now p) (here .at) (here .o) ⌝ }
+    ensures { λ r. ⌜ Branches (here .k) (now (p .entry)) (here .at) position (now (kinds .entry)) (now (lines .entry)) tally (now (scratch .entry)) (here .o) (now (kinds .exit)) (now (lines .exit)) (now (scratch .exit)) r ⌝ }
 {
-    match entries(p, at, lines, kinds, tally, k) {
+    let k = here.k;
+    let o = here.o;
+    match entries(p, here.at, lines, kinds, tally, k) {
         Stop::Fault {
             number,
             rows,
@@ -329,7 +337,12 @@ pub fn check_branch(
                         step: row,
                         branch: 0,
                     };
-                    let first = check_branch(p, next, place, lines, kinds, v, k, scratch, head);
+                    let from = Here {
+                        at: next,
+                        k,
+                        o: head,
+                    };
+                    let first = check_branch(p, from, place, lines, kinds, v, scratch);
                     let Branched::Closed {
                         at: a1,
                         o: o1,
@@ -344,7 +357,12 @@ pub fn check_branch(
                         step: row,
                         branch: 1,
                     };
-                    let second = check_branch(p, a1, place2, lines, kinds, v1, k, scratch, head2);
+                    let from2 = Here {
+                        at: a1,
+                        k,
+                        o: head2,
+                    };
+                    let second = check_branch(p, from2, place2, lines, kinds, v1, scratch);
                     let Branched::Closed {
                         at: a2,
                         o: o2,
@@ -358,7 +376,8 @@ pub fn check_branch(
                         step: row,
                         branch: 2,
                     };
-                    let third = check_branch(p, a2, place3, lines, kinds, v2, k, scratch, o2);
+                    let from3 = Here { at: a2, k, o: o2 };
+                    let third = check_branch(p, from3, place3, lines, kinds, v2, scratch);
                     return resumed(third, tally);
                 }
             }
@@ -383,21 +402,8 @@ pub fn check_branch(
                 }
                 Derived::Made { tally: v } => {
                     let n = u.lines;
-                    let all = check_rounding(
-                        p,
-                        next,
-                        row,
-                        lines,
-                        kinds,
-                        v,
-                        k,
-                        t,
-                        n,
-                        g,
-                        by,
-                        scratch,
-                        o,
-                    );
+                    let from = Here { at: next, k, o };
+                    let all = check_rounding(p, from, row, lines, kinds, v, t, n, g, by, scratch);
                     return resumed(all, tally);
                 }
             }
@@ -420,7 +426,8 @@ pub fn check_branch(
                 }
                 Derived::Made { tally: v } => {
                     let n = u.lines;
-                    let both = check_split(p, next, row, lines, kinds, v, k, t, n, scratch, o);
+                    let from = Here { at: next, k, o };
+                    let both = check_split(p, from, row, lines, kinds, v, t, n, scratch);
                     return resumed(both, tally);
                 }
             }
@@ -431,27 +438,31 @@ pub fn check_branch(
 // The two branches of a split of line t, behind n lines: t + 1 ≤ 0, whose line stands already, and then -t + 1 ≤ 0. Its row tells the step.
 fn check_split(
     p: &[u8],
-    at: usize,
+    here: Here,
     row: RowNumber,
     lines: &mut [i32],
     kinds: &mut [u8],
     tally: Tally,
-    k: usize,
     t: LineNumber,
     n: LineNumber,
     scratch: &mut [u8],
-    o: usize,
 ) -> Branched
-    requires { ⌜ SplitOpened k (n .0) (now kinds) (now lines) tally (t .0) (now p) at o ⌝ }
-    ensures { λ r. ⌜ SplitChecked k (row .0) (n .0) (now (p .entry)) at (now (kinds .entry)) (now (lines .entry)) tally (t .0) (now (scratch .entry)) o (now (kinds .exit)) (now (lines .exit)) (now (scratch .exit)) r ⌝ }
+    requires { ⌜ SplitOpened (here .k) (n .0) (now kinds) (now lines) tally (t .0) (now p) (here .at) (here .o) ⌝ }
+    ensures { λ r. ⌜ SplitChecked (here .k) (row .0) (n .0) (now (p .entry)) (here .at) (now (kinds .entry)) (now (lines .entry)) tally (t .0) (now (scratch .entry)) (here .o) (now (kinds .exit)) (now (lines .exit)) (now (scratch .exit)) r ⌝ }
 {
+    let k = here.k;
     let kind = kind_of(kinds, t);
-    let head = put_pair(scratch, o, joined_by(kind));
+    let head = put_pair(scratch, here.o, joined_by(kind));
     let place = Position {
         step: row,
         branch: 0,
     };
-    let first = check_branch(p, at, place, lines, kinds, tally, k, scratch, head);
+    let from = Here {
+        at: here.at,
+        k,
+        o: head,
+    };
+    let first = check_branch(p, from, place, lines, kinds, tally, scratch);
     let Branched::Closed {
         at: a1,
         o: o1,
@@ -465,35 +476,40 @@ fn check_split(
         step: row,
         branch: 1,
     };
-    check_branch(p, a1, place2, lines, kinds, v1, k, scratch, o1)
+    let from2 = Here { at: a1, k, o: o1 };
+    check_branch(p, from2, place2, lines, kinds, v1, scratch)
 }
 
 // The branches of a rounding of line t by `by`, behind n lines: that of j = by, whose line stands already, and then the others. Its row tells the step.
 fn check_rounding(
     p: &[u8],
-    at: usize,
+    here: Here,
     row: RowNumber,
     lines: &mut [i32],
     kinds: &mut [u8],
     tally: Tally,
-    k: usize,
     t: LineNumber,
     n: LineNumber,
     g: i64,
     by: u16,
     scratch: &mut [u8],
-    o: usize,
 ) -> Branched
-    requires { ⌜ Opened k (n .0) by by (now kinds) (now lines) tally (t .0) (now p) at o × FirstStands (tally .edition) k (n .0) by by (now kinds) (now lines) (t .0) ⌝ }
+    requires { ⌜ Opened (here .k) (n .0) by by (now kinds) (now lines) tally (t .0) (now p) (here .at) (here .o) × FirstStands (tally .edition) (here .k) (n .0) by by (now kinds) (now lines) (t .0) ⌝ }
     requires { ⌜ Multiplies (natAbs g) g × RoundsBy (natAbs g) by ⌝ }
-    ensures { λ r. ⌜ RoundingChecked k (row .0) (n .0) (now (p .entry)) at (now (kinds .entry)) (now (lines .entry)) tally (t .0) (natAbs g) by (now (scratch .entry)) o (now (kinds .exit)) (now (lines .exit)) (now (scratch .exit)) r ⌝ }
+    ensures { λ r. ⌜ RoundingChecked (here .k) (row .0) (n .0) (now (p .entry)) (here .at) (now (kinds .entry)) (now (lines .entry)) tally (t .0) (natAbs g) by (now (scratch .entry)) (here .o) (now (kinds .exit)) (now (lines .exit)) (now (scratch .exit)) r ⌝ }
 {
-    let head = put_pair(scratch, o, 0x31);
+    let k = here.k;
+    let head = put_pair(scratch, here.o, 0x31);
     let place = Position {
         step: row,
         branch: 0,
     };
-    let first = check_branch(p, at, place, lines, kinds, tally, k, scratch, head);
+    let from = Here {
+        at: here.at,
+        k,
+        o: head,
+    };
+    let first = check_branch(p, from, place, lines, kinds, tally, scratch);
     let Branched::Closed {
         at: a1,
         o: o1,
@@ -502,31 +518,31 @@ fn check_rounding(
     else {
         return first;
     };
-    check_rounded(p, a1, row, lines, kinds, v1, k, t, n, g, by, scratch, o1)
+    let from2 = Here { at: a1, k, o: o1 };
+    check_rounded(p, from2, row, lines, kinds, v1, t, n, g, by, scratch)
 }
 
 // The branches of a rounding behind the first: t + by ≤ 0 with tA + j for each j below `by`, each with Ej before its formula.
 fn check_rounded(
     p: &[u8],
-    at: usize,
+    here: Here,
     row: RowNumber,
     lines: &mut [i32],
     kinds: &mut [u8],
     tally: Tally,
-    k: usize,
     t: LineNumber,
     n: LineNumber,
     g: i64,
     by: u16,
     scratch: &mut [u8],
-    o: usize,
 ) -> Branched
-    requires { ⌜ Opened k (n .0) by by (now kinds) (now lines) tally (t .0) (now p) at o ⌝ }
+    requires { ⌜ Opened (here .k) (n .0) by by (now kinds) (now lines) tally (t .0) (now p) (here .at) (here .o) ⌝ }
     requires { ⌜ Multiplies (natAbs g) g × RoundsBy (natAbs g) by ⌝ }
-    ensures { λ r. ⌜ RoundedChecked k (row .0) (n .0) (now (p .entry)) at (now (kinds .entry)) (now (lines .entry)) tally (t .0) (natAbs g) by 0 (now (scratch .entry)) o (now (kinds .exit)) (now (lines .exit)) (now (scratch .exit)) r ⌝ }
+    ensures { λ r. ⌜ RoundedChecked (here .k) (row .0) (n .0) (now (p .entry)) (here .at) (now (kinds .entry)) (now (lines .entry)) tally (t .0) (natAbs g) by 0 (now (scratch .entry)) (here .o) (now (kinds .exit)) (now (lines .exit)) (now (scratch .exit)) r ⌝ }
 {
-    let mut here = at;
-    let mut end = o;
+    let k = here.k;
+    let mut at = here.at;
+    let mut end = here.o;
     let mut count = tally;
     let mut j = 0;
     loop {
@@ -538,7 +554,8 @@ fn check_rounded(
             step: row,
             branch: following,
         };
-        let own = check_branch(p, here, place, lines, kinds, count, k, scratch, front);
+        let from = Here { at, k, o: front };
+        let own = check_branch(p, from, place, lines, kinds, count, scratch);
         if !others {
             return own;
         }
@@ -550,7 +567,7 @@ fn check_rounded(
         else {
             return own;
         };
-        here = a1;
+        at = a1;
         end = o1;
         count = v1;
         j = following;

@@ -1,6 +1,7 @@
 // The root of a proof, checked over lines that are there; and all that follows it.
 use answers::WriteResult;
 use branches::branch::Branched;
+use branches::branch::Here;
 use branches::branch::check_branch;
 use check_output::finish;
 use forms::LineNumber;
@@ -36,17 +37,12 @@ pub fn check_root(
         edition: e,
     };
     let position = answers::root();
-    match check_branch(
-        proof,
+    let here = Here {
         at,
-        position,
-        lines,
-        kinds,
-        tally,
-        k as usize,
-        scratch,
-        0,
-    ) {
+        k: k as usize,
+        o: 0,
+    };
+    match check_branch(proof, here, position, lines, kinds, tally, scratch) {
         Branched::Fault {
             number,
             rows: so_far,

@@ -18,6 +18,13 @@ ghost use Rattle.branches.specs.Spare.{fieldsLeft, unreadBytes, Spare};
 ghost use Rattle.check_root.specs.Root.{Enough};
 ghost use Rattle.check_sizes.specs.Sizes.{Begun, LinesWithin, NumbersWithin};
 
+// What a proof's header tells, and where its root starts.
+pub struct ProofHeader {
+    pub edition: u8,
+    pub k: u8,
+    pub next: usize,
+}
+
 // The lines, and then the root, with room for the lines that may come and for the formula.
 fn check_within(
     a: &[u8],
@@ -25,24 +32,23 @@ fn check_within(
     first: Body,
     second: Body,
     proof: &[u8],
-    at: usize,
-    e: u8,
-    k: u8,
+    header: ProofHeader,
     lines: &mut [i32],
     kinds: &mut [u8],
     scratch: &mut [u8],
     out: &mut [u8],
 ) -> WriteResult
-    requires { ⌜ Begun (now a) (now b) first second (now proof) e k at ⌝ }
-    requires { ⌜ Spare e k (first .count + second .count + fieldsLeft (now proof) at) (now kinds) (now lines) ⌝ }
-    requires { ⌜ Enough (now proof) at (now scratch) ⌝ }
+    requires { ⌜ Begun (now a) (now b) first second (now proof) (header .edition) (header .k) (header .next) ⌝ }
+    requires { ⌜ Spare (header .edition) (header .k) (first .count + second .count + fieldsLeft (now proof) (header .next)) (now kinds) (now lines) ⌝ }
+    requires { ⌜ Enough (now proof) (header .next) (now scratch) ⌝ }
     ensures { λ r. ⌜ Checks (now (a .entry)) (now (b .entry)) (now (proof .entry)) (now (out .entry)) (now (out .exit)) r ⌝ }
 {
+    let k = header.k;
     prepare(a, b, first, second, k, lines, kinds);
     check_root(
         proof,
-        at,
-        e,
+        header.next,
+        header.edition,
         k,
         first.count + second.count,
         lines,
@@ -92,15 +98,13 @@ fn check_24(
     first: Body,
     second: Body,
     proof: &[u8],
-    at: usize,
-    e: u8,
-    k: u8,
+    header: ProofHeader,
     out: &mut [u8],
 ) -> WriteResult
-    requires { ⌜ Begun (now a) (now b) first second (now proof) e k at ⌝ }
-    requires { ⌜ LinesWithin e (first .count + second .count + fieldsLeft (now proof) at) (edition1 .lines) ⌝ }
-    requires { ⌜ unreadBytes (now proof) at ≤ 24 ⌝ }
-    requires { ⌜ NumbersWithin e k (first .count + second .count + fieldsLeft (now proof) at) ((8 + 3) * size 7) ⌝ }
+    requires { ⌜ Begun (now a) (now b) first second (now proof) (header .edition) (header .k) (header .next) ⌝ }
+    requires { ⌜ LinesWithin (header .edition) (first .count + second .count + fieldsLeft (now proof) (header .next)) (edition1 .lines) ⌝ }
+    requires { ⌜ unreadBytes (now proof) (header .next) ≤ 24 ⌝ }
+    requires { ⌜ NumbersWithin (header .edition) (header .k) (first .count + second .count + fieldsLeft (now proof) (header .next)) ((8 + 3) * size 7) ⌝ }
     ensures { λ r. ⌜ Checks (now (a .entry)) (now (b .entry)) (now (proof .entry)) (now (out .entry)) (now (out .exit)) r ⌝ }
 {
     let mut lines = [0i32; NUMBERS_24];
@@ -112,9 +116,7 @@ fn check_24(
         first,
         second,
         proof,
-        at,
-        e,
-        k,
+        header,
         &mut lines,
         &mut kinds,
         &mut scratch,
@@ -128,15 +130,13 @@ fn check_66(
     first: Body,
     second: Body,
     proof: &[u8],
-    at: usize,
-    e: u8,
-    k: u8,
+    header: ProofHeader,
     out: &mut [u8],
 ) -> WriteResult
-    requires { ⌜ Begun (now a) (now b) first second (now proof) e k at ⌝ }
-    requires { ⌜ LinesWithin e (first .count + second .count + fieldsLeft (now proof) at) (edition1 .lines) ⌝ }
-    requires { ⌜ unreadBytes (now proof) at ≤ 66 ⌝ }
-    requires { ⌜ NumbersWithin e k (first .count + second .count + fieldsLeft (now proof) at) ((22 + 3) * size (edition1 .constants)) ⌝ }
+    requires { ⌜ Begun (now a) (now b) first second (now proof) (header .edition) (header .k) (header .next) ⌝ }
+    requires { ⌜ LinesWithin (header .edition) (first .count + second .count + fieldsLeft (now proof) (header .next)) (edition1 .lines) ⌝ }
+    requires { ⌜ unreadBytes (now proof) (header .next) ≤ 66 ⌝ }
+    requires { ⌜ NumbersWithin (header .edition) (header .k) (first .count + second .count + fieldsLeft (now proof) (header .next)) ((22 + 3) * size (edition1 .constants)) ⌝ }
     ensures { λ r. ⌜ Checks (now (a .entry)) (now (b .entry)) (now (proof .entry)) (now (out .entry)) (now (out .exit)) r ⌝ }
 {
     let mut lines = [0i32; NUMBERS_66];
@@ -148,9 +148,7 @@ fn check_66(
         first,
         second,
         proof,
-        at,
-        e,
-        k,
+        header,
         &mut lines,
         &mut kinds,
         &mut scratch,
@@ -164,15 +162,13 @@ fn check_212(
     first: Body,
     second: Body,
     proof: &[u8],
-    at: usize,
-    e: u8,
-    k: u8,
+    header: ProofHeader,
     out: &mut [u8],
 ) -> WriteResult
-    requires { ⌜ Begun (now a) (now b) first second (now proof) e k at ⌝ }
-    requires { ⌜ LinesWithin e (first .count + second .count + fieldsLeft (now proof) at) (edition1 .lines) ⌝ }
-    requires { ⌜ unreadBytes (now proof) at ≤ 212 ⌝ }
-    requires { ⌜ NumbersWithin e k (first .count + second .count + fieldsLeft (now proof) at) ((70 + 3) * size (edition1 .constants)) ⌝ }
+    requires { ⌜ Begun (now a) (now b) first second (now proof) (header .edition) (header .k) (header .next) ⌝ }
+    requires { ⌜ LinesWithin (header .edition) (first .count + second .count + fieldsLeft (now proof) (header .next)) (edition1 .lines) ⌝ }
+    requires { ⌜ unreadBytes (now proof) (header .next) ≤ 212 ⌝ }
+    requires { ⌜ NumbersWithin (header .edition) (header .k) (first .count + second .count + fieldsLeft (now proof) (header .next)) ((70 + 3) * size (edition1 .constants)) ⌝ }
     ensures { λ r. ⌜ Checks (now (a .entry)) (now (b .entry)) (now (proof .entry)) (now (out .entry)) (now (out .exit)) r ⌝ }
 {
     let mut lines = [0i32; NUMBERS_212];
@@ -184,9 +180,7 @@ fn check_212(
         first,
         second,
         proof,
-        at,
-        e,
-        k,
+        header,
         &mut lines,
         &mut kinds,
         &mut scratch,
@@ -200,14 +194,12 @@ fn check_900(
     first: Body,
     second: Body,
     proof: &[u8],
-    at: usize,
-    e: u8,
-    k: u8,
+    header: ProofHeader,
     out: &mut [u8],
 ) -> WriteResult
-    requires { ⌜ Begun (now a) (now b) first second (now proof) e k at ⌝ }
-    requires { ⌜ LinesWithin e (first .count + second .count + fieldsLeft (now proof) at) (edition1 .lines) ⌝ }
-    requires { ⌜ unreadBytes (now proof) at ≤ 900 ⌝ }
+    requires { ⌜ Begun (now a) (now b) first second (now proof) (header .edition) (header .k) (header .next) ⌝ }
+    requires { ⌜ LinesWithin (header .edition) (first .count + second .count + fieldsLeft (now proof) (header .next)) (edition1 .lines) ⌝ }
+    requires { ⌜ unreadBytes (now proof) (header .next) ≤ 900 ⌝ }
     ensures { λ r. ⌜ Checks (now (a .entry)) (now (b .entry)) (now (proof .entry)) (now (out .entry)) (now (out .exit)) r ⌝ }
 {
     let mut lines = [0i32; NUMBERS_ALL];
@@ -219,9 +211,7 @@ fn check_900(
         first,
         second,
         proof,
-        at,
-        e,
-        k,
+        header,
         &mut lines,
         &mut kinds,
         &mut scratch,
@@ -236,13 +226,11 @@ fn check_any(
     first: Body,
     second: Body,
     proof: &[u8],
-    at: usize,
-    e: u8,
-    k: u8,
+    header: ProofHeader,
     out: &mut [u8],
 ) -> WriteResult
-    requires { ⌜ Begun (now a) (now b) first second (now proof) e k at ⌝ }
-    requires { ⌜ LinesWithin e (first .count + second .count + fieldsLeft (now proof) at) (edition1 .lines) ⌝ }
+    requires { ⌜ Begun (now a) (now b) first second (now proof) (header .edition) (header .k) (header .next) ⌝ }
+    requires { ⌜ LinesWithin (header .edition) (first .count + second .count + fieldsLeft (now proof) (header .next)) (edition1 .lines) ⌝ }
     ensures { λ r. ⌜ Checks (now (a .entry)) (now (b .entry)) (now (proof .entry)) (now (out .entry)) (now (out .exit)) r ⌝ }
 {
     let mut lines = [0i32; NUMBERS_ALL];
@@ -254,9 +242,7 @@ fn check_any(
         first,
         second,
         proof,
-        at,
-        e,
-        k,
+        header,
         &mut lines,
         &mut kinds,
         &mut scratch,
@@ -273,20 +259,18 @@ fn check_long(
     first: Body,
     second: Body,
     proof: &[u8],
-    at: usize,
-    e: u8,
-    k: u8,
+    header: ProofHeader,
     out: &mut [u8],
 ) -> WriteResult
-    requires { ⌜ Begun (now a) (now b) first second (now proof) e k at ⌝ }
-    requires { ⌜ LinesWithin e (first .count + second .count + fieldsLeft (now proof) at) (edition1 .lines) ⌝ }
+    requires { ⌜ Begun (now a) (now b) first second (now proof) (header .edition) (header .k) (header .next) ⌝ }
+    requires { ⌜ LinesWithin (header .edition) (first .count + second .count + fieldsLeft (now proof) (header .next)) (edition1 .lines) ⌝ }
     ensures { λ r. ⌜ Checks (now (a .entry)) (now (b .entry)) (now (proof .entry)) (now (out .entry)) (now (out .exit)) r ⌝ }
 {
     let bytes = proof.len();
     if bytes <= 900 {
-        return check_900(a, b, first, second, proof, at, e, k, out);
+        return check_900(a, b, first, second, proof, header, out);
     }
-    check_any(a, b, first, second, proof, at, e, k, out)
+    check_any(a, b, first, second, proof, header, out)
 }
 
 fn check_wide_1200(
@@ -295,13 +279,11 @@ fn check_wide_1200(
     first: Body,
     second: Body,
     proof: &[u8],
-    at: usize,
-    e: u8,
-    k: u8,
+    header: ProofHeader,
     out: &mut [u8],
 ) -> WriteResult
-    requires { ⌜ Begun (now a) (now b) first second (now proof) e k at ⌝ }
-    requires { ⌜ unreadBytes (now proof) at ≤ 1200 ⌝ }
+    requires { ⌜ Begun (now a) (now b) first second (now proof) (header .edition) (header .k) (header .next) ⌝ }
+    requires { ⌜ unreadBytes (now proof) (header .next) ≤ 1200 ⌝ }
     ensures { λ r. ⌜ Checks (now (a .entry)) (now (b .entry)) (now (proof .entry)) (now (out .entry)) (now (out .exit)) r ⌝ }
 {
     let mut lines = [0i32; NUMBERS_WIDE_1200];
@@ -313,9 +295,7 @@ fn check_wide_1200(
         first,
         second,
         proof,
-        at,
-        e,
-        k,
+        header,
         &mut lines,
         &mut kinds,
         &mut scratch,
@@ -330,12 +310,10 @@ fn check_wide_any(
     first: Body,
     second: Body,
     proof: &[u8],
-    at: usize,
-    e: u8,
-    k: u8,
+    header: ProofHeader,
     out: &mut [u8],
 ) -> WriteResult
-    requires { ⌜ Begun (now a) (now b) first second (now proof) e k at ⌝ }
+    requires { ⌜ Begun (now a) (now b) first second (now proof) (header .edition) (header .k) (header .next) ⌝ }
     ensures { λ r. ⌜ Checks (now (a .entry)) (now (b .entry)) (now (proof .entry)) (now (out .entry)) (now (out .exit)) r ⌝ }
 {
     let mut lines = [0i32; NUMBERS_WIDE];
@@ -347,9 +325,7 @@ fn check_wide_any(
         first,
         second,
         proof,
-        at,
-        e,
-        k,
+        header,
         &mut lines,
         &mut kinds,
         &mut scratch,
@@ -364,18 +340,16 @@ fn check_wide(
     first: Body,
     second: Body,
     proof: &[u8],
-    at: usize,
-    e: u8,
-    k: u8,
+    header: ProofHeader,
     out: &mut [u8],
 ) -> WriteResult
-    requires { ⌜ Begun (now a) (now b) first second (now proof) e k at ⌝ }
+    requires { ⌜ Begun (now a) (now b) first second (now proof) (header .edition) (header .k) (header .next) ⌝ }
     ensures { λ r. ⌜ Checks (now (a .entry)) (now (b .entry)) (now (proof .entry)) (now (out .entry)) (now (out .exit)) r ⌝ }
 {
     if proof.len() <= 1200 {
-        return check_wide_1200(a, b, first, second, proof, at, e, k, out);
+        return check_wide_1200(a, b, first, second, proof, header, out);
     }
-    check_wide_any(a, b, first, second, proof, at, e, k, out)
+    check_wide_any(a, b, first, second, proof, header, out)
 }
 
 // How many lines a branch may come to have, where count may come.
@@ -397,40 +371,39 @@ pub fn check_lines(
     first: Body,
     second: Body,
     proof: &[u8],
-    at: usize,
-    e: u8,
-    k: u8,
+    header: ProofHeader,
     out: &mut [u8],
 ) -> WriteResult
-    requires { ⌜ Begun (now a) (now b) first second (now proof) e k at ⌝ }
+    requires { ⌜ Begun (now a) (now b) first second (now proof) (header .edition) (header .k) (header .next) ⌝ }
     ensures { λ r. ⌜ Checks (now (a .entry)) (now (b .entry)) (now (proof .entry)) (now (out .entry)) (now (out .exit)) r ⌝ }
 {
     let bytes = proof.len();
     let fields = bytes / 3;
+    let k = header.k;
     let size = 2 * (k as usize + 1);
-    let count = most_lines(e, first.count + second.count + fields);
+    let count = most_lines(header.edition, first.count + second.count + fields);
     let numbers = (count + 1) * size;
     if bytes <= 212 {
         if count > LINES_1 as usize {
-            return check_wide(a, b, first, second, proof, at, e, k, out);
+            return check_wide(a, b, first, second, proof, header, out);
         }
         if bytes <= 24 {
             if numbers <= NUMBERS_24 {
-                return check_24(a, b, first, second, proof, at, e, k, out);
+                return check_24(a, b, first, second, proof, header, out);
             }
         }
         if bytes <= 66 {
             if numbers <= NUMBERS_66 {
-                return check_66(a, b, first, second, proof, at, e, k, out);
+                return check_66(a, b, first, second, proof, header, out);
             }
         }
         if numbers <= NUMBERS_212 {
-            return check_212(a, b, first, second, proof, at, e, k, out);
+            return check_212(a, b, first, second, proof, header, out);
         }
-        return check_long(a, b, first, second, proof, at, e, k, out);
+        return check_long(a, b, first, second, proof, header, out);
     }
     if count > LINES_1 as usize {
-        return check_wide(a, b, first, second, proof, at, e, k, out);
+        return check_wide(a, b, first, second, proof, header, out);
     }
-    check_long(a, b, first, second, proof, at, e, k, out)
+    check_long(a, b, first, second, proof, header, out)
 }

@@ -4,6 +4,7 @@ use bundle_scan::Body;
 use bundle_scan::Scanned;
 use bundle_scan::scan;
 use check_output::refusal;
+use check_sizes::ProofHeader;
 use check_sizes::check_lines;
 use fields::FileKind;
 use fields::header::Headed;
@@ -31,10 +32,13 @@ fn check_header(
 {
     match read_header(proof, FileKind::Proof, NEWEST, k) {
         Headed::Header {
-            edition: e,
+            edition,
             k: _,
             next,
-        } => check_lines(a, b, first, second, proof, next, e, k, out),
+        } => {
+            let header = ProofHeader { edition, k, next };
+            check_lines(a, b, first, second, proof, header, out)
+        }
         Headed::Refused { number, place } => refusal(number, 3, place),
     }
 }

@@ -7,8 +7,8 @@ use borrow.Author.Needs.{needs}
 use Rattle.check_root.proofs.check_root.Statement.{statement}
 use Rattle.check_root.proofs.check_root.Tie as tie
 
-cast-t21 : tie.Need-cast-t21
-cast-t21 c = omega (arith, lines-most (c .before .before .before .before .args .e), c .before .before .before .before .pre .0 .ready .most)
+cast-t22 : tie.Need-cast-t22
+cast-t22 c = omega (arith, lines-most (c .before .before .before .before .args .e), c .before .before .before .before .pre .0 .ready .most)
 
 root-requires : tie.Need-root-requires
 root-requires c κs = search needs
@@ -59,7 +59,7 @@ pub check-root-spec : {M : Type 1} → statement M
 check-root-spec =
     tie.close
     (tie.spec
-    cast-t21
+    cast-t22
     root-requires
     check-branch-requires
     enum-known-number

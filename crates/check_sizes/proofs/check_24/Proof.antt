@@ -21,7 +21,7 @@ slice-aggregate-check-within-3 c = search needs
 check-within-requires : tie.Need-check-within-requires
 check-within-requires c κs =
     let w = c .before .before .before .before .before .before .before .before .pre in
-    (w .0, (spare-most (c .before .before .before .before .before .before .before .before .args .e) (c .before .before .before .before .before .before .before .before .args .first .count + c .before .before .before .before .before .before .before .before .args .second .count + fieldsLeft (c .before .before .before .before .before .before .before .before .args .proof .now) (c .before .before .before .before .before .before .before .before .args .at)) (w .1 .0) (omega (arith, length-replicate {A = ℕ} 129 0)) (w .1 .1 .1) (omega (arith, length-replicate {A = ℤ} 176 (pos 0))), record { enough = λ l h u. omega (arith, w .1 .1 .0, length-replicate {A = ℕ} 936 0) }))
+    (w .0, (spare-most (c .before .before .before .before .before .before .before .before .args .header .edition) (c .before .before .before .before .before .before .before .before .args .first .count + c .before .before .before .before .before .before .before .before .args .second .count + fieldsLeft (c .before .before .before .before .before .before .before .before .args .proof .now) (c .before .before .before .before .before .before .before .before .args .header .next)) (w .1 .0) (omega (arith, length-replicate {A = ℕ} 129 0)) (w .1 .1 .1) (omega (arith, length-replicate {A = ℤ} 176 (pos 0))), record { enough = λ l h u. omega (arith, w .1 .1 .0, length-replicate {A = ℕ} 936 0) }))
 
 same-length : tie.Need-same-length
 same-length c = search needs

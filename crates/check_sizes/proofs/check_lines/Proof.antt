@@ -8,6 +8,9 @@ use borrow.Author.Needs.{needs}
 use Rattle.check_sizes.proofs.check_lines.Statement.{statement}
 use Rattle.check_sizes.proofs.check_lines.Tie as tie
 
+cast-size : tie.Need-cast-size
+cast-size c = search needs
+
 add-size : tie.Need-add-size
 add-size c = search needs
 
@@ -24,12 +27,12 @@ most-lines-requires : tie.Need-most-lines-requires
 most-lines-requires c κs = search needs
 
 add-numbers : tie.Need-add-numbers
-add-numbers c = omega (arith, c .most-lines .ensures, lines-most (c .before .before .before .before .before .before .before .args .e))
+add-numbers c = omega (arith, c .most-lines .ensures, lines-most (c .before .before .before .before .before .before .before .args .header .edition))
 
 mul-numbers : tie.Need-mul-numbers
 mul-numbers c =
     let s = c .before .before .before .before .before .before .before in
-    omega (arith, numbers-small (c .most-lines .result + 1) (s .args .k) {N = 1001} (omega (arith, c .most-lines .ensures, lines-most (s .args .e))) (s .pre .both .high))
+    omega (arith, numbers-small (c .most-lines .result + 1) (s .args .header .k) {N = 1001} (omega (arith, c .most-lines .ensures, lines-most (s .args .header .edition))) (s .pre .both .high))
 
 cast-if2 : tie.Need-cast-if2
 cast-if2 c = search needs
@@ -46,9 +49,9 @@ returns c = search needs
 check-24-requires : tie.Need-check-24-requires
 check-24-requires c κs =
     let s = c .before .before .before .before .before .before .before .before .before .before .before .before .args in
-    let few = fields-few (s .proof .now) (s .at) in
+    let few = fields-few (s .proof .now) (s .header .next) in
     let m = s .first .count + s .second .count in
-    (c .before .before .before .before .before .before .before .before .before .before .before .before .pre, (lines-less m (s .e) (omega (arith, few)) (c .before .before .before .before .before .most-lines .ensures) (omega (arith, c .before .before .before .if2 .left)), (omega (arith, few, c .before .before .if3 .taken), numbers-less m (s .e) (omega (arith, few)) (c .before .before .before .before .before .most-lines .ensures) (s .k) (c .before .if4 .taken))))
+    (c .before .before .before .before .before .before .before .before .before .before .before .before .pre, (lines-less m (s .header .edition) (omega (arith, few)) (c .before .before .before .before .before .most-lines .ensures) (omega (arith, c .before .before .before .if2 .left)), (omega (arith, few, c .before .before .if3 .taken), numbers-less m (s .header .edition) (omega (arith, few)) (c .before .before .before .before .before .most-lines .ensures) (s .header .k) (c .before .if4 .taken))))
 
 same-length-2 : tie.Need-same-length-2
 same-length-2 c = search needs
@@ -59,9 +62,9 @@ returns-2 c = search needs
 check-66-requires : tie.Need-check-66-requires
 check-66-requires c κs =
     let s = c .before .before .before .before .before .before .before .before .before .before .before .before .before .args in
-    let few = fields-few (s .proof .now) (s .at) in
+    let few = fields-few (s .proof .now) (s .header .next) in
     let m = s .first .count + s .second .count in
-    (c .before .before .before .before .before .before .before .before .before .before .before .before .before .pre, (lines-less m (s .e) (omega (arith, few)) (c .before .before .before .before .before .before .most-lines .ensures) (omega (arith, c .before .before .before .before .if2 .left)), (omega (arith, few, c .before .before .if5 .taken), numbers-less m (s .e) (omega (arith, few)) (c .before .before .before .before .before .before .most-lines .ensures) (s .k) (c .before .if6 .taken))))
+    (c .before .before .before .before .before .before .before .before .before .before .before .before .before .pre, (lines-less m (s .header .edition) (omega (arith, few)) (c .before .before .before .before .before .before .most-lines .ensures) (omega (arith, c .before .before .before .before .if2 .left)), (omega (arith, few, c .before .before .if5 .taken), numbers-less m (s .header .edition) (omega (arith, few)) (c .before .before .before .before .before .before .most-lines .ensures) (s .header .k) (c .before .if6 .taken))))
 
 same-length-3 : tie.Need-same-length-3
 same-length-3 c = search needs
@@ -72,9 +75,9 @@ returns-3 c = search needs
 check-212-requires : tie.Need-check-212-requires
 check-212-requires c κs =
     let s = c .before .before .before .before .before .before .before .before .before .before .before .before .before .args in
-    let few = fields-few (s .proof .now) (s .at) in
+    let few = fields-few (s .proof .now) (s .header .next) in
     let m = s .first .count + s .second .count in
-    (c .before .before .before .before .before .before .before .before .before .before .before .before .before .pre, (lines-less m (s .e) (omega (arith, few)) (c .before .before .before .before .before .before .most-lines .ensures) (omega (arith, c .before .before .before .before .if2 .left)), (omega (arith, few, c .before .before .before .before .before .if1 .taken), numbers-less m (s .e) (omega (arith, few)) (c .before .before .before .before .before .before .most-lines .ensures) (s .k) (c .before .if7 .taken))))
+    (c .before .before .before .before .before .before .before .before .before .before .before .before .before .pre, (lines-less m (s .header .edition) (omega (arith, few)) (c .before .before .before .before .before .before .most-lines .ensures) (omega (arith, c .before .before .before .before .if2 .left)), (omega (arith, few, c .before .before .before .before .before .if1 .taken), numbers-less m (s .header .edition) (omega (arith, few)) (c .before .before .before .before .before .before .most-lines .ensures) (s .header .k) (c .before .if7 .taken))))
 
 same-length-4 : tie.Need-same-length-4
 same-length-4 c = search needs
@@ -85,8 +88,8 @@ returns-4 c = search needs
 check-long-requires : tie.Need-check-long-requires
 check-long-requires c κs =
     let s = c .before .before .before .before .before .before .before .before .before .before .before .before .before .args in
-    let few = fields-few (s .proof .now) (s .at) in
-    (c .before .before .before .before .before .before .before .before .before .before .before .before .before .pre, lines-less (s .first .count + s .second .count) (s .e) (omega (arith, few)) (c .before .before .before .before .before .before .most-lines .ensures) (omega (arith, c .before .before .before .before .if2 .left)))
+    let few = fields-few (s .proof .now) (s .header .next) in
+    (c .before .before .before .before .before .before .before .before .before .before .before .before .before .pre, lines-less (s .first .count + s .second .count) (s .header .edition) (omega (arith, few)) (c .before .before .before .before .before .before .most-lines .ensures) (omega (arith, c .before .before .before .before .if2 .left)))
 
 same-length-5 : tie.Need-same-length-5
 same-length-5 c = search needs
@@ -109,8 +112,8 @@ returns-6 c = search needs
 check-long-requires-2 : tie.Need-check-long-requires-2
 check-long-requires-2 c κs =
     let s = c .before .before .before .before .before .before .before .before .before .before .args in
-    let few = fields-few (s .proof .now) (s .at) in
-    (c .before .before .before .before .before .before .before .before .before .before .pre, lines-less (s .first .count + s .second .count) (s .e) (omega (arith, few)) (c .before .before .before .most-lines .ensures) (omega (arith, c .before .if8 .left)))
+    let few = fields-few (s .proof .now) (s .header .next) in
+    (c .before .before .before .before .before .before .before .before .before .before .pre, lines-less (s .first .count + s .second .count) (s .header .edition) (omega (arith, few)) (c .before .before .before .most-lines .ensures) (omega (arith, c .before .if8 .left)))
 
 same-length-7 : tie.Need-same-length-7
 same-length-7 c = search needs
@@ -122,6 +125,7 @@ pub check-lines-spec : {M : Type 1} → statement M
 check-lines-spec =
     tie.close
     (tie.spec
+    cast-size
     add-size
     mul-size
     add-most-lines

@@ -23,8 +23,8 @@ check-within-requires : tie.Need-check-within-requires
 check-within-requires c κs =
     let w = c .before .before .before .before .before .before .before .before .pre in
     let s = c .before .before .before .before .before .before .before .before .args in
-    let few = fields-few (s .proof .now) (s .at) in
-    (w .0, (spare-all (s .e) (c .before .before .before .before .before .before .before .before .args .first .count + c .before .before .before .before .before .before .before .before .args .second .count + fieldsLeft (c .before .before .before .before .before .before .before .before .args .proof .now) (c .before .before .before .before .before .before .before .before .args .at)) {N = 464} (lines-upto (s .e) (omega (arith, w .0 .both .a-few, w .0 .both .b-few, few, w .1))) (omega (arith, length-replicate {A = ℕ} 465 0)) (w .0 .both .high) (omega (arith, length-replicate {A = ℤ} 15810 (pos 0))), record { enough = λ l h u. omega (arith, w .1, length-replicate {A = ℕ} 46800 0) }))
+    let few = fields-few (s .proof .now) (s .header .next) in
+    (w .0, (spare-all (s .header .edition) (c .before .before .before .before .before .before .before .before .args .first .count + c .before .before .before .before .before .before .before .before .args .second .count + fieldsLeft (c .before .before .before .before .before .before .before .before .args .proof .now) (c .before .before .before .before .before .before .before .before .args .header .next)) {N = 464} (lines-upto (s .header .edition) (omega (arith, w .0 .both .a-few, w .0 .both .b-few, few, w .1))) (omega (arith, length-replicate {A = ℕ} 465 0)) (w .0 .both .high) (omega (arith, length-replicate {A = ℤ} 15810 (pos 0))), record { enough = λ l h u. omega (arith, w .1, length-replicate {A = ℕ} 46800 0) }))
 
 same-length : tie.Need-same-length
 same-length c = search needs

@@ -21,7 +21,7 @@ slice-aggregate-check-within-3 c = search needs
 check-within-requires : tie.Need-check-within-requires
 check-within-requires c κs =
     let w = c .before .before .before .before .before .before .before .before .pre in
-    (w, (spare-all (c .before .before .before .before .before .before .before .before .args .e) (c .before .before .before .before .before .before .before .before .args .first .count + c .before .before .before .before .before .before .before .before .args .second .count + fieldsLeft (c .before .before .before .before .before .before .before .before .args .proof .now) (c .before .before .before .before .before .before .before .before .args .at)) (lines-any (c .before .before .before .before .before .before .before .before .args .e) (c .before .before .before .before .before .before .before .before .args .first .count + c .before .before .before .before .before .before .before .before .args .second .count + fieldsLeft (c .before .before .before .before .before .before .before .before .args .proof .now) (c .before .before .before .before .before .before .before .before .args .at))) (omega (arith, length-replicate {A = ℕ} 1001 0)) (w .both .high) (omega (arith, length-replicate {A = ℤ} 34034 (pos 0))), record { enough = λ l h u. omega (arith, length-replicate {A = ℕ} 65536 0) }))
+    (w, (spare-all (c .before .before .before .before .before .before .before .before .args .header .edition) (c .before .before .before .before .before .before .before .before .args .first .count + c .before .before .before .before .before .before .before .before .args .second .count + fieldsLeft (c .before .before .before .before .before .before .before .before .args .proof .now) (c .before .before .before .before .before .before .before .before .args .header .next)) (lines-any (c .before .before .before .before .before .before .before .before .args .header .edition) (c .before .before .before .before .before .before .before .before .args .first .count + c .before .before .before .before .before .before .before .before .args .second .count + fieldsLeft (c .before .before .before .before .before .before .before .before .args .proof .now) (c .before .before .before .before .before .before .before .before .args .header .next))) (omega (arith, length-replicate {A = ℕ} 1001 0)) (w .both .high) (omega (arith, length-replicate {A = ℤ} 34034 (pos 0))), record { enough = λ l h u. omega (arith, length-replicate {A = ℕ} 65536 0) }))
 
 same-length : tie.Need-same-length
 same-length c = search needs

@@ -7,11 +7,11 @@ use Rattle.checking.proofs.check_header.Tie as tie
 read-header-requires : tie.Need-read-header-requires
 read-header-requires c κs = search needs
 
-enum-known-e : tie.Need-enum-known-e
-enum-known-e c = search needs
+enum-known-edition : tie.Need-enum-known-edition
+enum-known-edition c = search needs
 
 check-lines-requires : tie.Need-check-lines-requires
-check-lines-requires c κs = begun (c .before .before .before .before .before .before .before .before .before .pre .0) (c .before .before .before .before .before .before .before .before .before .pre .1) (c .before .before .before .before .read-header .ensures) (c .before .before .e .given .1)
+check-lines-requires c κs = begun (c .before .before .before .before .before .before .before .before .before .pre .0) (c .before .before .before .before .before .before .before .before .before .pre .1) (c .before .before .before .before .read-header .ensures) (c .before .before .edition .given .1)
 
 enum-known-number : tie.Need-enum-known-number
 enum-known-number c = search needs
@@ -33,7 +33,7 @@ check-header-spec =
     tie.close
     (tie.spec
     read-header-requires
-    enum-known-e
+    enum-known-edition
     check-lines-requires
     enum-known-number
     refusal-requires

@@ -55,16 +55,16 @@ use Rattle.branches.proofs.branch.+check_branch+check_rounded+check_rou
 use borrow.Author.Needs.{needs}
 
 abbrev μ-check-branch : Measures 4 check-branch-kinds.ps ℕ
-μ-check-branch κs a = 2 * (unreadBytes (a .0 .now) (a .1 .0) + (32 - a .1 .1 .1 .1 .1 .0 .«open»))
+μ-check-branch κs a = 2 * (unreadBytes (a .0 .now) (a .1 .0 .at) + (32 - a .1 .1 .1 .1 .1 .0 .«open»))
 
 abbrev μ-check-rounded : Measures 4 check-rounded-kinds.ps ℕ
-μ-check-rounded κs a = 2 * (unreadBytes (a .0 .now) (a .1 .0) + (32 - a .1 .1 .1 .1 .1 .0 .«open»)) + 1
+μ-check-rounded κs a = 2 * (unreadBytes (a .0 .now) (a .1 .0 .at) + (32 - a .1 .1 .1 .1 .1 .0 .«open»)) + 1
 
 abbrev μ-check-rounding : Measures 4 check-rounding-kinds.ps ℕ
-μ-check-rounding κs a = 2 * (unreadBytes (a .0 .now) (a .1 .0) + (32 - a .1 .1 .1 .1 .1 .0 .«open»)) + 1
+μ-check-rounding κs a = 2 * (unreadBytes (a .0 .now) (a .1 .0 .at) + (32 - a .1 .1 .1 .1 .1 .0 .«open»)) + 1
 
 abbrev μ-check-split : Measures 4 check-split-kinds.ps ℕ
-μ-check-split κs a = 2 * (unreadBytes (a .0 .now) (a .1 .0) + (32 - a .1 .1 .1 .1 .1 .0 .«open»)) + 1
+μ-check-split κs a = 2 * (unreadBytes (a .0 .now) (a .1 .0 .at) + (32 - a .1 .1 .1 .1 .1 .0 .«open»)) + 1
 
 abbrev check-branch-at : ℕ → In 4 check-branch-kinds.ps
 check-branch-at t = and 4 check-branch-kinds.ps (is 4 check-branch-kinds.ps μ-check-branch t) check-branch.Pre
@@ -109,11 +109,11 @@ check-split-claims t =
 
 -- The loop over j of a rounding's branches.
 abbrev Inv-loop : check-rounded-lts.InvT-loop
-Inv-loop p at row lines₀ kinds₀ k t n g by scratch₀ o here₀ end₀ count₀ j₀ lines kinds scratch here end count j =
-    Rounding k (row .0) (n .0) p at kinds₀ lines₀ count₀ (t .0) (natAbs (toZ w64 g)) by scratch₀ o kinds lines scratch here end count j
+Inv-loop p row lines₀ kinds₀ t n g by scratch₀ k at₀ end₀ count₀ j₀ lines kinds scratch at end count j =
+    Rounding k (row .0) (n .0) p at₀ kinds₀ lines₀ count₀ (t .0) (natAbs (toZ w64 g)) by scratch₀ end₀ kinds lines scratch at end count j
 
 abbrev μ-loop : check-rounded-lts.MeasureT-loop
-μ-loop p at row lines₀ kinds₀ k t n g by scratch₀ o here₀ end₀ count₀ j₀ lines kinds scratch here end count j = unreadBytes p here
+μ-loop p row lines₀ kinds₀ t n g by scratch₀ k at₀ end₀ count₀ j₀ lines kinds scratch at end count j = unreadBytes p at
 
 module _ (t : ℕ) where
   check-branch-entries-requires : check-branch-lts.Need-entries-requires (check-branch-claims t) (check-branch-at t) check-branch.Post
