@@ -1,8 +1,8 @@
 -- Laws that the proofs of the functions cite: each way through a function as a lemma over plain values.
-pub mod Counting
-pub mod Going
-pub mod Staging
-pub mod Joining
-pub mod Finishing
+pub mod Spare
+pub mod EntriesLoop
+pub mod BranchStops
+pub mod JoinedClosings
+pub mod OpenedBranches
 pub mod Rounds
 pub mod Splits

@@ -37,8 +37,8 @@ use Rattle.branches.specs.Spare.{unreadBytes}
 use Rattle.branches.specs.Branching.{keptBack, deeper, Branches, Opened, OpenedChecked, RoundedChecked}
 use Rattle.branches.specs.declared.branch.Branched.{Branched}
 use Rattle.branches.specs.declared.branch.Branched.the-variants as branched
-use Rattle.branches.proofs.Joining.{checked-as, alone-checks, in-turn-fault, in-turn-checks}
-use Rattle.branches.proofs.Finishing.{own-ready, own-checked, start-asked, next-open, next-unread, next-opened, next-same}
+use Rattle.branches.proofs.JoinedClosings.{checked-as, alone-checks, in-turn-fault, in-turn-checks}
+use Rattle.branches.proofs.OpenedBranches.{own-ready, own-checked, start-asked, next-open, next-unread, next-opened, next-same}
 
 more-bytes : (E f g : Formula) → encode edition1 ((E and f) or g) ≡ frontBytes true E ++ encode edition1 f ++ encode edition1 g
 unfolding encode fieldBytes unsignedBytes

@@ -36,8 +36,8 @@ use Rattle.branches.specs.Branches.{Comes}
 use Rattle.branches.specs.Branching.{resumedBy, keptBack, Started, Branches, deeper, Opened, FirstStands, OpenedChecked, SplitOpened, SplitChecked}
 use Rattle.branches.specs.declared.branch.Branched.{Branched}
 use Rattle.branches.specs.declared.branch.Branched.the-variants as branched
-use Rattle.branches.proofs.Joining.{checked-as, or-bytes, and-bytes}
-use Rattle.branches.proofs.Finishing.{none-short, firstThen, own-started, own-checked, first-started, first-kept, first-fault, rest-open, rest-unread, rest-opened, first-checks, opened, first-stands, resumed-checks}
+use Rattle.branches.proofs.JoinedClosings.{checked-as, or-bytes, and-bytes}
+use Rattle.branches.proofs.OpenedBranches.{none-short, firstThen, own-started, own-checked, first-started, first-kept, first-fault, rest-open, rest-unread, rest-opened, first-checks, opened, first-stands, resumed-checks}
 
 -- ---- both branches, by whose line it is
 abbrev joinOf : Bool → Formula → Formula → Formula

@@ -1,3 +1,3 @@
 -- The root, one way after the other.
-pub mod Rooting
-pub mod Rooted
+pub mod RootBranched
+pub mod Root

@@ -1,5 +1,5 @@
 -- Which arrays are long enough.
-pub mod Counting
+pub mod FieldsByBytes
 pub mod Preparing
-pub mod Sparing
-pub mod Stages
+pub mod Sizes
+pub mod Begun

@@ -25,7 +25,7 @@ use Rattle.proof.specs.Promises.{Checks}
 use Rattle.bundle_load.specs.Both.{Both}
 use Rattle.check_output.proofs.Delivering.{unwritten}
 use Rattle.check_sizes.specs.Sizes.{Short, Begun}
-use Rattle.check_sizes.proofs.Stages.{refused-A, refused-B, refused-P}
+use Rattle.check_sizes.proofs.Begun.{refused-A, refused-B, refused-P}
 
 pub checks-refused : {A B P out : List ℕ} {number file place : ℕ} {r : WriteResult} → interpolant 2 A B P ≡ refused (answer number file place) → r ≡ unwritten number file place
     → Checks A B P out out r

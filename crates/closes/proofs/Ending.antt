@@ -30,8 +30,8 @@ use Rattle.closes.specs.Ends.{EndedBy}
 use Rattle.closes.specs.declared.closing.Test.{Test}
 use Rattle.closes.specs.declared.closing.Test.the-variants as test
 use Rattle.closes.specs.declared.ends.Ended.the-variants as ended
-use Rattle.closes.proofs.Closes.{number-none}
-use Rattle.closes.proofs.Strides.{stride-none, stride-kind, stride-small}
+use Rattle.closes.proofs.NumberTests.{number-none}
+use Rattle.closes.proofs.StrideTests.{stride-none, stride-kind, stride-small}
 
 pub numbered : {e K : ℕ} {kinds : List ℕ} {buf : List ℤ} {n i x : ℕ} → Ready e K kinds buf n → i < n → x ≡ i * size K + (K + 1) → Numbered K buf x
 numbered {K = K} {buf = buf} {n = n} {i = i} r h e =

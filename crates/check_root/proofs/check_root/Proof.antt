@@ -2,7 +2,7 @@
 use mathlib.Core.Path.{refl}
 use native.Mathlib.Omega.{arith}
 use Rattle.forms.proofs.Editions.{lines-most}
-use Rattle.check_root.proofs.Rooting.{by-fault, by-closed-ended, by-closed}
+use Rattle.check_root.proofs.RootBranched.{by-fault, by-closed-ended, by-closed}
 use borrow.Author.Needs.{needs}
 use Rattle.check_root.proofs.check_root.Statement.{statement}
 use Rattle.check_root.proofs.check_root.Tie as tie

@@ -4,7 +4,7 @@ use Prim.Native.Nat.{ℕ, _+_}
 use lib.IntN.{ℤ, pos}
 use lib.ListN.{length-replicate}
 use Rattle.branches.specs.Spare.{fieldsLeft}
-use Rattle.check_sizes.proofs.Sparing.{spare-most}
+use Rattle.check_sizes.proofs.Sizes.{spare-most}
 use borrow.Author.Needs.{needs}
 use Rattle.check_sizes.proofs.check_24.Statement.{statement}
 use Rattle.check_sizes.proofs.check_24.Tie as tie

@@ -2,8 +2,8 @@
 use native.Mathlib.Omega.{arith}
 use Prim.Native.Nat.{_+_}
 use Rattle.forms.proofs.Editions.{lines-most}
-use Rattle.check_sizes.proofs.Counting.{fields-few}
-use Rattle.check_sizes.proofs.Sparing.{lines-less, numbers-less, numbers-small}
+use Rattle.check_sizes.proofs.FieldsByBytes.{fields-few}
+use Rattle.check_sizes.proofs.Sizes.{lines-less, numbers-less, numbers-small}
 use borrow.Author.Needs.{needs}
 use Rattle.check_sizes.proofs.check_lines.Statement.{statement}
 use Rattle.check_sizes.proofs.check_lines.Tie as tie

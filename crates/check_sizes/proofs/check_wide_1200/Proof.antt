@@ -4,8 +4,8 @@ use Prim.Native.Nat.{ℕ, _+_}
 use lib.IntN.{ℤ, pos}
 use lib.ListN.{length-replicate}
 use Rattle.branches.specs.Spare.{fieldsLeft}
-use Rattle.check_sizes.proofs.Counting.{fields-few}
-use Rattle.check_sizes.proofs.Sparing.{spare-all, lines-upto}
+use Rattle.check_sizes.proofs.FieldsByBytes.{fields-few}
+use Rattle.check_sizes.proofs.Sizes.{spare-all, lines-upto}
 use borrow.Author.Needs.{needs}
 use Rattle.check_sizes.proofs.check_wide_1200.Statement.{statement}
 use Rattle.check_sizes.proofs.check_wide_1200.Tie as tie

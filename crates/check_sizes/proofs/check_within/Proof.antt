@@ -1,8 +1,8 @@
 -- `check_sizes::check_within` meets its contract. Assumes nothing.
 use native.Mathlib.Omega.{arith}
-use Rattle.branches.proofs.Counting.{spare-less}
+use Rattle.branches.proofs.Spare.{spare-less}
 use Rattle.check_sizes.proofs.Preparing.{space-from}
-use Rattle.check_sizes.proofs.Stages.{started, checks-root}
+use Rattle.check_sizes.proofs.Begun.{started, checks-root}
 use borrow.Author.Needs.{needs}
 use Rattle.check_sizes.proofs.check_within.Statement.{statement}
 use Rattle.check_sizes.proofs.check_within.Tie as tie

@@ -1,5 +1,5 @@
 -- The proof of the cycle {check_branch, check_rounded, check_rounding, check_split}: the measure is how many bytes are unread and how many more branching steps may be open, twice, and one more where the branches of a rounding or a split are gone through.
--- Each answer collects the facts on its way and cites a lemma of `Staging`, `Finishing`, `Rounds` or `Splits`; what is checked in a turn of the loop over j gives what is checked from 0 on. Assumes nothing.
+-- Each answer collects the facts on its way and cites a lemma of `BranchStops`, `OpenedBranches`, `Rounds` or `Splits`; what is checked in a turn of the loop over j gives what is checked from 0 on. Assumes nothing.
 use native.Mathlib.Omega.{arith}
 use mathlib.Core.Path.{refl, _∙_}
 use lib.Dec.{ltb}
@@ -13,10 +13,10 @@ use Rattle.forms.specs.Forms.{_or_}
 use Rattle.lines.proofs.Tests.{unnot}
 use Rattle.openings.specs.Opening.{lastTwo, fromBranch}
 use Rattle.branches.specs.Spare.{unreadBytes}
-use Rattle.branches.proofs.Counting.{one-less, next-falls, own-falls, others-fall, turn-falls}
-use Rattle.branches.proofs.Staging.{started-room, stopped-fault, comes-ready, number-comes, stride-comes, strengthen-comes, round-comes, split-comes, number-closed, stride-closed, opens-refused}
-use Rattle.branches.proofs.Finishing.{room-left, first-started, first-fault, rest-open, rest-unread, rest-opened, first-checks, head-short, none-short, start-asked, some-longer, some-started, some-open, some-unread, some-opened, two-fault, two-checks, opening-falls, opened, first-stands, resumed-fault, resumed-checks}
-use Rattle.branches.proofs.Joining.{or-bytes}
+use Rattle.branches.proofs.Spare.{one-less, next-falls, own-falls, others-fall, turn-falls}
+use Rattle.branches.proofs.BranchStops.{started-room, stopped-fault, comes-ready, number-comes, stride-comes, strengthen-comes, round-comes, split-comes, number-closed, stride-closed, opens-refused}
+use Rattle.branches.proofs.OpenedBranches.{room-left, first-started, first-fault, rest-open, rest-unread, rest-opened, first-checks, head-short, none-short, start-asked, some-longer, some-started, some-open, some-unread, some-opened, two-fault, two-checks, opening-falls, opened, first-stands, resumed-fault, resumed-checks}
+use Rattle.branches.proofs.JoinedClosings.{or-bytes}
 use Rattle.branches.proofs.Splits.{split-there, split-started, split-fault, split-open, split-unread, negated-asked, negated-started, split-checks, split-opened, split-resumed}
 use Rattle.branches.proofs.Rounds.{front-asked, front-short, Rounding, rounding-start, rounding-last, rounding-fault, rounding-next}
 use Prim.Native.Nat.{ℕ, _+_, _*_, _-_, _<_}

@@ -7,7 +7,7 @@ use lib.ListN.{length}
 use mir.ValLaws.{toZ-ofZ}
 use Rattle.integers.proofs.Magnitude.{within-fits}
 use Rattle.fields.proofs.Places.{starts, starts-less, next-cut, next-ends}
-use Rattle.branches.proofs.Going.{Going, going-start, going-refused, going-made, going-claimed, going-strengthens, going-number, going-stride, going-rounds, going-splits, going-cut, going-ends}
+use Rattle.branches.proofs.EntriesLoop.{Going, going-start, going-refused, going-made, going-claimed, going-strengthens, going-number, going-stride, going-rounds, going-splits, going-cut, going-ends}
 use Rattle.branches.proofs.branch.entries.Statement.{statement}
 use Rattle.branches.proofs.branch.entries.Tie as tie
 

@@ -1,7 +1,7 @@
 -- `closes::closing::is_false` meets its contract. Assumes nothing.
 use borrow.Author.Needs.{needs}
 use mir.ValLaws.{toZ-ofZ}
-use Rattle.closes.proofs.Closes.{false-≤, false-=}
+use Rattle.closes.proofs.NumberTests.{false-≤, false-=}
 use Rattle.closes.proofs.closing.is_false.Statement.{statement}
 use Rattle.closes.proofs.closing.is_false.Tie as tie
 

@@ -1,7 +1,7 @@
 -- `closes::closing::is_stride` meets its contract. Assumes nothing.
 use borrow.Author.Needs.{needs}
 use mir.ValLaws.{toZ-ofZ}
-use Rattle.closes.proofs.Strides.{stride-zero, stride-one}
+use Rattle.closes.proofs.StrideTests.{stride-zero, stride-one}
 use Rattle.closes.proofs.closing.is_stride.Statement.{statement}
 use Rattle.closes.proofs.closing.is_stride.Tie as tie
 

@@ -5,7 +5,7 @@ use mir.Syntax.{w64}
 use mir.ValLaws.{toZ-ofZ}
 use Rattle.lines.proofs.KindBytes.{kind-apart}
 use Rattle.lines.proofs.Tests.{is-below, past}
-use Rattle.closes.proofs.Closes.{line-end, line-low, number-none, number-apart, number-coeffs, number-d, number-passed}
+use Rattle.closes.proofs.NumberTests.{line-end, line-low, number-none, number-apart, number-coeffs, number-d, number-passed}
 use borrow.Author.Needs.{needs}
 use Rattle.closes.proofs.closing.test_number.Statement.{statement}
 use Rattle.closes.proofs.closing.test_number.Tie as tie

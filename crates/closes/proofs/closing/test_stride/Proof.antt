@@ -6,8 +6,8 @@ use mir.Syntax.{w64}
 use mir.ValLaws.{toZ-ofZ}
 use Rattle.lines.proofs.KindBytes.{kind-=, kind-not-=}
 use Rattle.lines.proofs.Tests.{is-below, past, unnot}
-use Rattle.closes.proofs.Closes.{line-end, line-low}
-use Rattle.closes.proofs.Strides.{at-least-two, stride-none, stride-kind, stride-small, stride-coeffs, stride-d, stride-passed}
+use Rattle.closes.proofs.NumberTests.{line-end, line-low}
+use Rattle.closes.proofs.StrideTests.{at-least-two, stride-none, stride-kind, stride-small, stride-coeffs, stride-d, stride-passed}
 use borrow.Author.Needs.{needs}
 use Rattle.closes.proofs.closing.test_stride.Statement.{statement}
 use Rattle.closes.proofs.closing.test_stride.Tie as tie

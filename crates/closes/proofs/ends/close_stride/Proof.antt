@@ -1,7 +1,7 @@
 -- `closes::ends::close_stride` meets its contract. Assumes nothing.
 use borrow.Author.Needs.{needs}
 use mir.ValLaws.{toZ-ofZ}
-use Rattle.closes.proofs.Closes.{line-low}
+use Rattle.closes.proofs.NumberTests.{line-low}
 use Rattle.closes.proofs.Ending.{stride-there, stride-two, stride-refused, stride-written, numbered, divisor}
 use Rattle.closes.proofs.ends.close_stride.Statement.{statement}
 use Rattle.closes.proofs.ends.close_stride.Tie as tie

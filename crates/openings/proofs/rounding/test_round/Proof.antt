@@ -8,8 +8,8 @@ use Rattle.forms.proofs.Editions.{lines-most}
 use Rattle.lines.proofs.Lines.{before}
 use Rattle.lines.proofs.KindBytes.{kind-≤, kind-not-≤}
 use Rattle.lines.proofs.Tests.{is-below, past, unnot}
-use Rattle.closes.proofs.Closes.{line-end}
-use Rattle.closes.proofs.Strides.{at-least-two}
+use Rattle.closes.proofs.NumberTests.{line-end}
+use Rattle.closes.proofs.StrideTests.{at-least-two}
 use Rattle.openings.proofs.Roundable.{round-none, round-kind, round-small, round-least, round-most, round-coeffs, round-d, round-passed}
 use borrow.Author.Needs.{needs}
 use Rattle.openings.proofs.rounding.test_round.Statement.{statement}

@@ -1,4 +1,4 @@
--- The tests of the close rows, one way after the other. Assumes nothing.
+-- The tests of a close by number, one way after the other; and that a line stands within the buffer. Assumes nothing.
 use mathlib.Core.Path.{_≡_, sym, ap, _∙_}
 use mathlib.Core.Bool.{Bool, true, false, not}
 use mathlib.Core.List.{List}

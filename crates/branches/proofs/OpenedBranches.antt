@@ -35,9 +35,9 @@ use Rattle.branches.specs.Branches.{Comes}
 use Rattle.branches.specs.Branching.{resumedBy, keptBack, Started, Closes, BranchedBy, BranchChecked, deeper, Branches, Opened, FirstStands, OpenedChecked}
 use Rattle.branches.specs.declared.branch.Branched.{Branched}
 use Rattle.branches.specs.declared.branch.Branched.the-variants as branched
-use Rattle.branches.proofs.Counting.{spare-less}
-use Rattle.branches.proofs.Staging.{comes-opened}
-use Rattle.branches.proofs.Joining.{and-bytes, in-turn-fault, in-turn-checks}
+use Rattle.branches.proofs.Spare.{spare-less}
+use Rattle.branches.proofs.BranchStops.{comes-opened}
+use Rattle.branches.proofs.JoinedClosings.{and-bytes, in-turn-fault, in-turn-checks}
 
 -- The first branch, of line l raised by x and y, and the rest of them.
 abbrev pub firstThen : (x y : ℕ) (make : Formula → Formula → Formula) (rest : Branching) → Branching

@@ -1,4 +1,4 @@
--- The entries of a branch, one after the other: what is left gives the same result. Assumes nothing.
+-- The loop of `entries`, its invariant `Going` and its turns: what is left gives the same result. Assumes nothing.
 use mathlib.Core.Path.{_≡_, refl, subst, _∙_}
 use mathlib.Core.Bool.{Bool, true, false}
 use mathlib.Core.List.{List}
@@ -31,7 +31,7 @@ use Rattle.steps.specs.declared.Stepped.the-variants.{Refused, Made, Strengthen
 use Rattle.branches.specs.Spare.{fieldsLeft, unreadBytes, Spare}
 use Rattle.branches.specs.Branches.{entriesFrom, Comes, Stopped}
 use Rattle.branches.specs.declared.branch.Stop.{Stop}
-use Rattle.branches.proofs.Counting.{count-starts, spare-less}
+use Rattle.branches.proofs.Spare.{count-starts, spare-less}
 
 -- The entries from a place on, in the middle of a branch.
 abbrev entriesAt : (K : ℕ) (p : List ℕ) (place : ℕ) (kinds : List ℕ) (buf : List ℤ) (t : Tally) (made : Bool) (here : Position) (deeper : Option Checker) → Result Closing

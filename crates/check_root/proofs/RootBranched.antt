@@ -19,7 +19,7 @@ use Rattle.branches.specs.Branching.{keptBack, Started, Closes, Branches}
 use Rattle.branches.specs.declared.branch.Branched.{Branched}
 use Rattle.check_output.specs.Output.{Finishes, InScratch}
 use Rattle.check_root.specs.Root.{Roots, Enough}
-use Rattle.check_root.proofs.Rooted.{root-fault, root-ended, root-closed}
+use Rattle.check_root.proofs.Root.{root-fault, root-ended, root-closed}
 
 module _ {e K : ℕ} {P : List ℕ} {at n rows : ℕ} {kinds kinds′ : List ℕ} {buf buf′ : List ℤ} {S S′ : List ℕ} {x : Branched}
     {here : Position} (b : Branches K P at here kinds buf (tally e rows n 0) S 0 kinds′ buf′ S′ x) (at-root : here ≡ root) (none : rows ≡ 0) where

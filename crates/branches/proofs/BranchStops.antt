@@ -1,4 +1,4 @@
--- The check of a branch as plain mathematics: each way through it is a lemma over plain values. Assumes nothing.
+-- What `check_branch` makes of where its entries stop: each way as a lemma over plain values. Assumes nothing.
 use mathlib.Core.Path.{_≡_, refl, _∙_}
 use mathlib.Core.List.{List}
 use mathlib.Core.Option.{none}
