@@ -1,4 +1,5 @@
 // The answer that every operation gives. Every answer is made here.
+// specs/Answers.antt has what an answer is, and results: the first refusal that applies, by which every operation is defined.
 use forms::RowNumber;
 use integers::between;
 ghost use mathlib.Core.Path.{_≡_};

@@ -1,4 +1,5 @@
-// The constraints of a bundle as lines of a branch; and those of A and B.
+// The constraints of a bundle as lines of a branch; and those of A and B (`prepare`), which check starts with.
+// What it asks and leaves: specs/Load.antt for one bundle, specs/Both.antt for two.
 mod load;
 
 use bundle_scan::Body;

@@ -1,4 +1,5 @@
-// Reading a bundle into kinds and numbers.
+// The operation read: a bundle into kinds and numbers.
+// Its definition is bundle/specs/Read.antt, its contract specs/Promises.antt.
 mod store;
 
 use answers::Answer;

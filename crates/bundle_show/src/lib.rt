@@ -1,4 +1,5 @@
-// Showing a constraint: the part of A's or B's bytes that states it.
+// The operation show: the part of A's or B's bytes that states a constraint.
+// Its definition is bundle/specs/Show.antt, its contracts specs/Promises.antt.
 mod locate;
 
 use answers::Answer;

@@ -1,4 +1,5 @@
-// Writing a bundle from K, kinds and numbers.
+// The operation write: a bundle from its edition, K, kinds and numbers.
+// Its definition is bundle/specs/Write.antt, its contract specs/Promises.antt.
 mod put;
 
 use answers::Answer;

@@ -1,4 +1,5 @@
-// The end of a check: what follows the root, and the formula's file in the lent output.
+// The end of a check: what follows the root, and the formula's file in the lent output; and the result of a refusal.
+// What is left is said in specs/Output.antt; check_root ends with it.
 use answers::WriteResult;
 use fields::FileKind;
 use fields::ending::Ending;

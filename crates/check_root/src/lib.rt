@@ -1,4 +1,5 @@
 // The root of a proof, checked over lines that are there; and all that follows it.
+// specs/Root.antt says what it gives (`rooted`) and the room that it asks; check_sizes lends it arrays and lines.
 use answers::WriteResult;
 use branches::branch::Branched;
 use branches::branch::Here;

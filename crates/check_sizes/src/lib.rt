@@ -1,4 +1,5 @@
-// The lines and the root, in arrays of a size that suits the proof.
+// The lines and the root, in arrays of a size that suits the proof: each function here gives what check gives (`Checks`,
+// proof/specs/Promises.antt), where bundles and header are read and the arrays are long enough (specs/Sizes.antt).
 use answers::WriteResult;
 use bundle_load::prepare;
 use bundle_scan::Body;

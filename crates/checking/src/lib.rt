@@ -1,4 +1,5 @@
 // The operation check: its bundles, the proof's header, and then the lines and the root.
+// Its definition is proof/specs/Check.antt, its contract proof/specs/Promises.antt.
 use answers::WriteResult;
 use bundle_scan::Body;
 use bundle_scan::Scanned;

@@ -1,4 +1,5 @@
 // Rows and claims as a proof's field states them: what entry a tag and its contents are.
+// The definition is proof/specs/Entries.antt; specs/Entries.antt has the code's answers as its entries.
 ghost use mathlib.Core.Path.{_≡_};
 ghost use Prim.Native.Nat.{_+_, _≤_};
 ghost use lib.ListN.{length, take, drop};

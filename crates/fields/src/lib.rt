@@ -1,4 +1,5 @@
-// The fields of a file, its header, and what may follow its last field.
+// The fields of a file of any kind, its header, and what may follow its last field. Notes are passed over here.
+// The definitions are specs/Fields.antt and specs/Header.antt; specs/Places.antt has them by place, as the code reads.
 pub mod ending;
 pub mod header;
 

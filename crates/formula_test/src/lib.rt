@@ -1,4 +1,5 @@
-// Testing a formula's file at register values.
+// The operation test: a formula's file at register values.
+// Its definition is formula/specs/Test.antt, its contract specs/Promises.antt.
 mod values;
 
 use answers::Answer;

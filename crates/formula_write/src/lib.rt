@@ -1,4 +1,5 @@
 // Writing a formula's bytes into a scratch that is lent. Where they do not fit nothing is written.
+// The bytes are those of `encode` (formula/specs/Formula.antt): specs/Writing.antt. closes, openings and branches call it.
 ghost use mathlib.Core.Path.{_≡_};
 ghost use Prim.Native.Nat.{_+_, _*_, _≤_};
 ghost use lib.IntN.{natAbs};

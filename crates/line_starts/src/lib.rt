@@ -1,4 +1,5 @@
 // The line that a branch starts with: a line copied or negated, and raised; and whether it stays within the range.
+// The lines are `startedLine` and `negatedLine` (lines/specs/Buffer.antt); openings calls it.
 use forms::LineNumber;
 use integers::number;
 use line_sums::mix_whole;

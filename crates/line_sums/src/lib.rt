@@ -1,4 +1,5 @@
 // A new line as a sum of two: α·s + β·t, form and partial interpolant, number by number within the range.
+// The line is `mixedLine` (lines/specs/Buffer.antt); rows and line_starts call it.
 use forms::LineNumber;
 use integers::number;
 use lines::place;

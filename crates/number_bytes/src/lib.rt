@@ -1,3 +1,4 @@
-// Numbers to and from bytes: big-endian, unsigned and two's complement.
+// Numbers to and from bytes: big-endian, unsigned and two's complement, one at a time.
+// The definitions, for any width, are specs/Numbers.antt; every number in a file is one of these.
 pub mod numbers;
 pub mod words;

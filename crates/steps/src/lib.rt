@@ -1,4 +1,5 @@
 // One entry of a branch: a row or a claim, counted, tested and applied.
+// specs/Steps.antt has the code's answers as those of the definition (`checkEntry`, proof/specs/Check.antt); branches calls `step`.
 ghost use mathlib.Core.Path.{_≡_};
 ghost use mathlib.Core.Bool.{true};
 ghost use Prim.Native.Nat.{_+_, _*_, _≤_};
