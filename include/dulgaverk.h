@@ -11,7 +11,8 @@
  *   leaves those behind them as they were.
  * - nothing is allocated, kept or shared: calls may run in several threads at once.
  * - working memory is on the stack: a check takes up to 152 KiB of it where the proof is of edition 1 and up to
- *   272 KiB where it is of edition 2, testing a formula up to 64 KiB, every other call less than 12 KiB.
+ *   272 KiB where it is of edition 2, also as a turn of the scheduler (which takes 2 KiB more than the check itself),
+ *   testing a formula up to 64 KiB, every other call less than 12 KiB.
  * - each file is read by the edition that it says: A, B and the proof may differ in it. Formulas are of edition 1.
  *
  * docs/FORMAT.md has the layout of the files and the order in which each operation tests them.
@@ -70,6 +71,11 @@ extern "C" {
  *     22  no longer given; its number is not used again
  *     23  a register value outside -1,000,000 to 1,000,000
  *     24  a kind that is not 0, 1 or 2, or the wrong count of numbers
+ *     29  a seat above 7
+ *     30  a job for a seat where one waits
+ *     31  no job waits at the seat
+ *     34  a part of a job does not lie in the buffer
+ *     35  no job waits
  *
  *   file  1 A, or a bundle read alone; 2 B; 3 the proof or formula; 4 a lent output, or no file
  *  place  the byte at which the field at fault starts, if nothing else is said
@@ -82,7 +88,8 @@ extern "C" {
  *         before the field at fault takes effect; for 20 at the end of the proof. None on the root, and after its close
  * branch  which branch of that step it is, from 0 in file order, at most 16; none where step is
  *
- * Only a check has them: the other operations, and what a check refuses of A, B or a lent output, have none.
+ * Only a check has them, also as a turn of the scheduler: the other operations, and what a check refuses of A, B or a lent
+ * output, have none.
  */
 typedef struct dulgaverk_answer {
     uint8_t number;
@@ -112,6 +119,51 @@ typedef struct dulgaverk_tested {
     dulgaverk_answer answer;
     bool holds;
 } dulgaverk_tested;
+
+/* Checks that wait at eight seats and are served in turn: the scheduler. A seat is a number, 0 to 7; a slot is what stands at
+ * a seat. The state is a struct by value: each call is handed one and gives the next. Any state may be handed in: a slot's
+ * job waits where `waiting` is not 0, and a `first` above 7 counts by its remainder by 8. The state has no padding: two states
+ * are equal just where their bytes are, and all bytes 0 is the state in which no job waits. */
+#define DULGAVERK_SEATS 8
+
+/* Where a file stands in the buffer: from byte `start` to the byte before `end`. */
+typedef struct dulgaverk_part {
+    size_t start;
+    size_t end;
+} dulgaverk_part;
+
+/* A job: where its three files stand. Any numbers may be given; they are tested when the job is served. */
+typedef struct dulgaverk_job {
+    dulgaverk_part a;
+    dulgaverk_part b;
+    dulgaverk_part proof;
+} dulgaverk_job;
+
+/* What stands at a seat: `waiting` is 1 where a job waits. A call that clears a slot sets all its numbers to 0. */
+typedef struct dulgaverk_slot {
+    size_t waiting;
+    dulgaverk_job job;
+} dulgaverk_slot;
+
+typedef struct dulgaverk_scheduler {
+    dulgaverk_slot slots[DULGAVERK_SEATS];
+    size_t first; /* the seat that the next turn looks at first */
+} dulgaverk_scheduler;
+
+/* What submitting and cancelling give. A refusal leaves the state as it was. */
+typedef struct dulgaverk_changed {
+    dulgaverk_scheduler scheduler;
+    dulgaverk_answer answer;
+} dulgaverk_changed;
+
+/* What a turn gives. Where `idle` is true no job waited: the answer's number is 35, its file 4, its place 0, its row, step and
+ * branch 65,535; seat and count are 0, and the state is as it was. So the number is 0 just where a job was accepted. */
+typedef struct dulgaverk_turned {
+    dulgaverk_scheduler scheduler;
+    dulgaverk_write_result result; /* what the check of the job gave */
+    size_t seat;                   /* the seat served */
+    bool idle;
+} dulgaverk_turned;
 
 /* Reads a bundle of at most 8,192 bytes, or 4,096 in edition 1.
  *
@@ -170,6 +222,32 @@ dulgaverk_write_result dulgaverk_check(const uint8_t *a, size_t a_length, const 
  */
 dulgaverk_tested dulgaverk_test(const uint8_t *formula, size_t formula_length, const int32_t *values,
                                 size_t values_length);
+
+/* The state in which no job waits, and seat 0 is looked at first. */
+dulgaverk_scheduler dulgaverk_scheduler_empty(void);
+
+/* Submits a job for a seat.
+ *
+ * Refused, with file 4 and place 0: 29 for a seat above 7, 30 where a job waits there.
+ */
+dulgaverk_changed dulgaverk_scheduler_submit(dulgaverk_scheduler state, size_t seat, dulgaverk_job job);
+
+/* Cancels the job that waits at a seat.
+ *
+ * Refused, with file 4 and place 0: 29 for a seat above 7, 31 where no job waits there.
+ */
+dulgaverk_changed dulgaverk_scheduler_cancel(dulgaverk_scheduler state, size_t seat);
+
+/* Serves the first job that waits, from the seat after the one served last upwards, 0 after 7 (in the empty state from seat 0
+ * on): checks its parts of the buffer as they are now, into `out`, and clears its slot, whatever the check answers. From the
+ * empty state on, with each call handed the state that the one before gave, a job that is not cancelled is served by the eighth
+ * turn after its submission at the latest.
+ *
+ * The result is that of dulgaverk_check on the three parts, with places counted in the part; 34 with file 4 and place 0 where a
+ * part ends before it starts or behind the buffer's end; 35 with file 4 and place 0 where no job waits.
+ */
+dulgaverk_turned dulgaverk_scheduler_turn(dulgaverk_scheduler state, const uint8_t *buffer, size_t buffer_length,
+                                          uint8_t *out, size_t out_length);
 
 #ifdef __cplusplus
 }

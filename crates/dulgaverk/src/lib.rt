@@ -11,6 +11,8 @@ ghost use Rattle.bundle_read.specs.Promises.{Reads};
 ghost use Rattle.bundle_write.specs.Promises.{Writes};
 ghost use Rattle.formula_test.specs.Promises.{Tests};
 ghost use Rattle.proof.specs.Promises.{Checks};
+ghost use Rattle.scheduler.specs.Scheduler.{empty};
+ghost use Rattle.scheduler.specs.Promises.{Submits, Cancels, Turns};
 ghost use Rattle.dulgaverk.specs.Copied.{Copied};
 use answers::Answer;
 use answers::WriteResult;
@@ -18,6 +20,10 @@ use bundle_read::ReadResult;
 use checking::check;
 use forms::LineNumber;
 use formula_test::Tested;
+use scheduler::Changed;
+use scheduler::Job;
+use scheduler::Scheduler;
+use scheduler::Turned;
 
 #[no_mangle]
 pub extern "C" fn dulgaverk_read(file: &[u8], kinds: &mut [u8], numbers: &mut [i32]) -> ReadResult
@@ -85,4 +91,33 @@ pub extern "C" fn dulgaverk_test(formula: &[u8], values: &[i32]) -> Tested
     ensures { λ r. ⌜ Tests (now (formula .entry)) (now (values .entry)) r ⌝ }
 {
     formula_test::test(formula, values)
+}
+
+// Checks that wait at eight seats. The state is a struct by value: it goes in, and comes back with the answer.
+#[no_mangle]
+pub extern "C" fn dulgaverk_scheduler_empty() -> Scheduler
+    ensures { λ r. ⌜ r ≡ empty ⌝ }
+{
+    scheduler_change::empty()
+}
+
+#[no_mangle]
+pub extern "C" fn dulgaverk_scheduler_submit(s: Scheduler, seat: usize, job: Job) -> Changed
+    ensures { λ r. ⌜ Submits s seat job r ⌝ }
+{
+    scheduler_change::submit(s, seat, job)
+}
+
+#[no_mangle]
+pub extern "C" fn dulgaverk_scheduler_cancel(s: Scheduler, seat: usize) -> Changed
+    ensures { λ r. ⌜ Cancels s seat r ⌝ }
+{
+    scheduler_change::cancel(s, seat)
+}
+
+#[no_mangle]
+pub extern "C" fn dulgaverk_scheduler_turn(s: Scheduler, buffer: &[u8], out: &mut [u8]) -> Turned
+    ensures { λ r. ⌜ Turns s (now (buffer .entry)) (now (out .entry)) (now (out .exit)) r ⌝ }
+{
+    scheduler_turn::turn(s, buffer, out)
 }

@@ -3,16 +3,19 @@ use mathlib.Core.Path.{_≡_, refl, sym, _∙_, ap, subst}
 use mathlib.Core.Bool.{Bool, true, false, _&&_}
 use mathlib.Core.List.{List, []}
 use mathlib.Core.Option.{some}
+use mathlib.Core.Logic.{_⊎_, inl, inr}
 use Prim.Native.Nat.{ℕ, zero, suc}
 use native.Mathlib.Nat.{zero-add}
 use native.Mathlib.Omega.{arith}
-use lib.Dec.{leb}
+use lib.Dec.{leb, ltb}
+use borrow.Author.Tests.{ltb-true, ltb-false}
 use lib.ListN.{length}
 use lib.IntN.{ℤ}
 use Rattle.forms.specs.Edition.{Edition, edition1, newestEdition}
 use Rattle.forms.specs.Forms.{Formula}
 use Rattle.answers.specs.declared.Answer.{Answer}
-use Rattle.answers.specs.Answers.{acceptance, fileA, fileB, fileProof, Result, refused, accepted, _>>=_, Written, over, fit, written}
+use Rattle.answers.specs.declared.WriteResult.{WriteResult}
+use Rattle.answers.specs.Answers.{answer, acceptance, fileLent, fileA, fileB, fileProof, Result, refused, accepted, _>>=_, Written, over, fit, written}
 use Rattle.answers.proofs.Results.{Gives, never, not-0, not-22, gives-refused, gives-accepted, weaken, bind, seq, test, finds, each-gives}
 use Rattle.fields.specs.declared.FileKind.{FileKind}
 use Rattle.fields.specs.Fields.{Field, Fields, ends, cut, _▸_, fields}
@@ -28,7 +31,16 @@ use Rattle.formula.specs.Formula.{FormulaTag, pair, atom, stride, formulaOf, fo
 use Rattle.formula.specs.Test.{Tested as Outcome, tested, judged, testFormula}
 use Rattle.proof.specs.Check.{interpolant, checkBy, check}
 use Rattle.proof.proofs.Agree.{never-0, never-22}
+use Rattle.proof.specs.Promises.{Checks}
 use Rattle.dulgaverk.specs.Copied.{Copied}
+use Rattle.scheduler.specs.declared.Job.{Job}
+use Rattle.scheduler.specs.declared.Scheduler.{Scheduler}
+use Rattle.scheduler.specs.declared.Changed.{Changed}
+use Rattle.scheduler.specs.declared.Turned.{Turned}
+use Rattle.scheduler.specs.Scheduler.{slotAt, isWaiting}
+use Rattle.scheduler.specs.Promises.{Submits, Cancels, Turns}
+use Rattle.scheduler.specs.Fair.{AllLie, CheckedAlone}
+use Rattle.scheduler.proofs.Fair.{told-apart, answers}
 use Rattle.guarantee.specs.Refusals.{ToldByNumber, Refusals}
 
 -- ---- a result whose refusals all have a number that is given: neither 0 nor 22
@@ -169,6 +181,53 @@ none-copied {part} {output} c e =
     let size : length part ≡ 0 = ap length e in
     (c .fits (omega arith) ∙ ap (λ (bs : List ℕ). over bs output) e, c .size ∙ size)
 
+-- ---- the scheduler's calls
+refused-so : {a : Answer} (n : ℕ) → a ≡ answer n fileLent 0 → ¬ (n ≡ 0) → ¬ (n ≡ 22) → ToldByNumber a
+refused-so n e h k = rw e (told-refused h k)
+
+accepted-so : {a : Answer} {P : Type 0} → a ≡ acceptance → ToldByNumber a × (¬ (a .number ≡ 0) → P)
+accepted-so e = (rw e told-accepted, λ h. absurd (h (ap (λ (x : Answer). x .number) e)))
+
+submit-told : (s : Scheduler) (seat : ℕ) (job : Job) (r : Changed) → Submits s seat job r → ToldByNumber (r .answer) × (¬ (r .answer .number ≡ 0) → r .scheduler ≡ s)
+submit-told s seat job r c = go (ltb seat 8) refl (isWaiting s seat) refl
+  where
+    go : (b : Bool) → ltb seat 8 ≡ b → (w : Bool) → isWaiting s seat ≡ w → ToldByNumber (r .answer) × (¬ (r .answer .number ≡ 0) → r .scheduler ≡ s)
+    go false e w q = let x = answers .submit-29 s seat job r c (ltb-false seat 8 e) in (refused-so 29 (x .0) (λ z. omega arith) (λ z. omega arith), λ _. x .1)
+    go true e true q = let x = answers .submit-30 s seat job r c (ltb-true seat 8 e) q in (refused-so 30 (x .0) (λ z. omega arith) (λ z. omega arith), λ _. x .1)
+    go true e false q = accepted-so (answers .submit-taken s seat job r c (ltb-true seat 8 e) q .0)
+
+cancel-told : (s : Scheduler) (seat : ℕ) (r : Changed) → Cancels s seat r → ToldByNumber (r .answer) × (¬ (r .answer .number ≡ 0) → r .scheduler ≡ s)
+cancel-told s seat r c = go (ltb seat 8) refl (isWaiting s seat) refl
+  where
+    go : (b : Bool) → ltb seat 8 ≡ b → (w : Bool) → isWaiting s seat ≡ w → ToldByNumber (r .answer) × (¬ (r .answer .number ≡ 0) → r .scheduler ≡ s)
+    go false e w q = let x = answers .cancel-29 s seat r c (ltb-false seat 8 e) in (refused-so 29 (x .0) (λ z. omega arith) (λ z. omega arith), λ _. x .1)
+    go true e false q = let x = answers .cancel-31 s seat r c (ltb-true seat 8 e) q in (refused-so 31 (x .0) (λ z. omega arith) (λ z. omega arith), λ _. x .1)
+    go true e true q = accepted-so (answers .cancel-taken s seat r c (ltb-true seat 8 e) q .0)
+
+check-unwritten : (A B proof output left : List ℕ) (r : WriteResult) → Checks A B proof output left r → ToldByNumber (r .answer) × (¬ (r .answer .number ≡ 0) → (left ≡ output) × (r .count ≡ 0))
+check-unwritten A B proof output left r c = subst (Unwritten output) (sym (c .is)) (check-told A B proof output)
+
+turn-told : (s : Scheduler) (buffer output left : List ℕ) (r : Turned) → Turns s buffer output left r
+    → (r .result .answer .number ≡ 0 → r .idle ≡ false) × ToldByNumber (r .result .answer) × (¬ (r .result .answer .number ≡ 0) → (left ≡ output) × (r .result .count ≡ 0))
+turn-told s buffer output left r c = go (r .idle) refl
+  where
+    job : Job
+    job = slotAt s (r .seat) .job
+
+    served : CheckedAlone job buffer output left (r .result) → AllLie buffer job ⊎ (AllLie buffer job → ⊥) → ToldByNumber (r .result .answer) × (¬ (r .result .answer .number ≡ 0) → (left ≡ output) × (r .result .count ≡ 0))
+    served a (inl l) = check-unwritten _ _ _ output left (r .result) (a .checks l)
+    served a (inr l) = let x = a .outside l in (refused-so 34 (x .0) (λ z. omega arith) (λ z. omega arith), λ _. (x .2, x .1))
+
+    go : (b : Bool) → r .idle ≡ b → (r .result .answer .number ≡ 0 → r .idle ≡ false) × ToldByNumber (r .result .answer) × (¬ (r .result .answer .number ≡ 0) → (left ≡ output) × (r .result .count ≡ 0))
+    go true e =
+        let x = answers .turn-idle s buffer output left r c e in
+        let n : r .result .answer .number ≡ 35 = ap (λ (a : Answer). a .number) (x .3) in (
+          λ z. absurd (omega (arith, n, z)),
+          refused-so 35 (x .3) (λ z. omega arith) (λ z. omega arith),
+          λ _. (x .1, x .4),
+        )
+    go false e = let (told, none) = served (answers .turn-serves s buffer output left r c e .4) (told-apart buffer job) in (λ _. e, told, none)
+
 -- Demand 1.
 pub refusals : Refusals
 refusals = record {
@@ -186,4 +245,7 @@ refusals = record {
       let e = show-told A B line .1 (λ z. h (ap (λ (x : Answer). x .number) (c .is) ∙ z)) in
       none-copied k (ap (λ (p : Part). partBytes p A B) e);
   test = λ formula values r c. let t = test-told formula values in rw (c .is) t;
+  submit = submit-told;
+  cancel = cancel-told;
+  turn = turn-told;
 }

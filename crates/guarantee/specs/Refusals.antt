@@ -20,6 +20,11 @@ use Rattle.formula_test.specs.declared.Tested.{Tested}
 use Rattle.formula_test.specs.Promises.{Tests}
 use Rattle.proof.specs.Promises.{Checks}
 use Rattle.dulgaverk.specs.Copied.{Copied}
+use Rattle.scheduler.specs.declared.Job.{Job}
+use Rattle.scheduler.specs.declared.Scheduler.{Scheduler}
+use Rattle.scheduler.specs.declared.Changed.{Changed}
+use Rattle.scheduler.specs.declared.Turned.{Turned}
+use Rattle.scheduler.specs.Promises.{Submits, Cancels, Turns}
 
 -- The number is 0 just where the answer is that of an accepted call (0, 0, 0, and no row, step and branch); and it is never 22, which is no longer given.
 pub record ToldByNumber (a : Answer) : Type 0 where
@@ -45,3 +50,9 @@ pub record Refusals : Type 0 where
   -- test, which is lent nothing to change: false
   pub test : (formula : List ℕ) (values : List ℤ) (r : Tested) → Tests formula values r
       → ToldByNumber (r .answer) × (¬ (r .answer .number ≡ 0) → r .holds ≡ false)
+  -- submit and cancel: the scheduler is as it was
+  pub submit : (s : Scheduler) (seat : ℕ) (job : Job) (r : Changed) → Submits s seat job r → ToldByNumber (r .answer) × (¬ (r .answer .number ≡ 0) → r .scheduler ≡ s)
+  pub cancel : (s : Scheduler) (seat : ℕ) (r : Changed) → Cancels s seat r → ToldByNumber (r .answer) × (¬ (r .answer .number ≡ 0) → r .scheduler ≡ s)
+  -- a turn: as check (the scheduler is no lent buffer: its seat is cleared); 0 just where a job was accepted, so never of an idle one
+  pub turn : (s : Scheduler) (buffer output left : List ℕ) (r : Turned) → Turns s buffer output left r
+      → (r .result .answer .number ≡ 0 → r .idle ≡ false) × ToldByNumber (r .result .answer) × (¬ (r .result .answer .number ≡ 0) → (left ≡ output) × (r .result .count ≡ 0))

@@ -1,4 +1,6 @@
 -- Where in the tree a refusal stands: document 02, point 8. Of what each operation's function ensures. Assumes nothing.
+use mathlib.Core.Path.{_≡_}
+use mathlib.Core.Bool.{false}
 use mathlib.Core.List.{List}
 use Prim.Native.Nat.{ℕ}
 use lib.IntN.{ℤ}
@@ -12,12 +14,25 @@ use Rattle.formula_test.specs.declared.Tested.{Tested}
 use Rattle.formula_test.specs.Promises.{Tests}
 use Rattle.proof.specs.Tree.{Outside, AnswerStands}
 use Rattle.proof.specs.Promises.{Checks}
+use Rattle.scheduler.specs.declared.Job.{Job}
+use Rattle.scheduler.specs.declared.Scheduler.{Scheduler}
+use Rattle.scheduler.specs.declared.Changed.{Changed}
+use Rattle.scheduler.specs.declared.Turned.{Turned}
+use Rattle.scheduler.specs.Scheduler.{slotAt, part}
+use Rattle.scheduler.specs.Promises.{Submits, Cancels, Turns}
+use Rattle.scheduler.specs.Fair.{AllLie}
 
 pub record InTree : Type 0 where
   -- check: amid the proof the row, step and branch to which the fields before the one at fault lead, elsewhere none
   pub check : (A B proof output left : List ℕ) (r : WriteResult) → Checks A B proof output left r → AnswerStands proof (r .answer)
+  -- a turn of the scheduler that serves a job: the same, in the proof's part of the buffer; where it checks no proof (34, 35): none
+  pub turn : (s : Scheduler) (buffer output left : List ℕ) (r : Turned) → Turns s buffer output left r → r .idle ≡ false → AllLie buffer (slotAt s (r .seat) .job)
+      → AnswerStands (part buffer (slotAt s (r .seat) .job .proof)) (r .result .answer)
+  pub turn-unchecked : (s : Scheduler) (buffer output left : List ℕ) (r : Turned) → Turns s buffer output left r → (r .idle ≡ false → ¬ AllLie buffer (slotAt s (r .seat) .job)) → Outside (r .result .answer)
   -- the operations that check no proof: none
   pub read : (file kinds : List ℕ) (numbers : List ℤ) (kinds′ : List ℕ) (numbers′ : List ℤ) (r : ReadResult) → Reads file kinds numbers kinds′ numbers′ r → Outside (r .answer)
   pub write : (n K : ℕ) (kinds : List ℕ) (numbers : List ℤ) (output left : List ℕ) (r : WriteResult) → Writes n K kinds numbers output left r → Outside (r .answer)
   pub show : (A B : List ℕ) (line : ℕ) (r : Answer) → AnswersShow A B line r → Outside r
   pub test : (formula : List ℕ) (values : List ℤ) (r : Tested) → Tests formula values r → Outside (r .answer)
+  pub submit : (s : Scheduler) (seat : ℕ) (job : Job) (r : Changed) → Submits s seat job r → Outside (r .answer)
+  pub cancel : (s : Scheduler) (seat : ℕ) (r : Changed) → Cancels s seat r → Outside (r .answer)

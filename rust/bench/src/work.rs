@@ -1,6 +1,7 @@
 //! What is timed: calls of each operation, small and as large as can be.
 
-use reference::Edition;
+use dulgaverk::{Job, Scheduler};
+use reference::{Edition, Parts, Scheduler as AtSeats};
 use stages::build::{self, Layout};
 use stages::other::number;
 use stages::rng::Rng;
@@ -31,6 +32,7 @@ pub fn all() -> Vec<Work> {
     checks(&mut list);
     bundles(&mut list);
     formulas(&mut list);
+    jobs(&mut list);
     list
 }
 
@@ -59,6 +61,26 @@ fn rust_show(a: &[u8], b: &[u8], line: usize) -> usize {
 #[inline(never)]
 fn rust_test(formula: &[u8], values: &[i32]) -> usize {
     usize::from(reference::test_formula(formula, values).holds)
+}
+
+// The scheduler's state by value, as the library has it.
+
+#[inline(never)]
+fn rust_submit(mut state: AtSeats, seat: usize, parts: Parts) -> (AtSeats, u8) {
+    let number = state.submit(seat, parts).number;
+    (state, number)
+}
+
+#[inline(never)]
+fn rust_cancel(mut state: AtSeats, seat: usize) -> (AtSeats, u8) {
+    let number = state.cancel(seat).number;
+    (state, number)
+}
+
+#[inline(never)]
+fn rust_turn(mut state: AtSeats, buffer: &[u8], out: &mut [u8]) -> (AtSeats, usize) {
+    let turned = state.turn(buffer, out);
+    (state, turned.map_or(0, |(_, result)| result.written))
 }
 
 /// Three files: A, B and a proof.
@@ -455,4 +477,69 @@ fn test(name: String, file: Vec<u8>, values: Vec<i32>, point: Option<Point>) -> 
         }),
         point,
     }
+}
+
+/// Calls at the scheduler. The turn serves stage 1, and each starts from the same state.
+fn jobs(list: &mut Vec<Work>) {
+    let [a, b, proof] = stage_1();
+    let (x, y) = (a.len(), a.len() + b.len());
+    let buffer = [a, b, proof].concat();
+    let parts = [(0, x), (x, y), (y, buffer.len())];
+    let [a, b, proof] = parts.map(|(start, end)| start..end);
+    let job = Job { a, b, proof };
+    let mut waiting = Scheduler::new();
+    waiting.submit(3, &job).expect("a free seat");
+    let mut other = AtSeats::default();
+    other.submit(3, parts);
+    list.push(Work {
+        name: "submit a job and cancel it".to_string(),
+        rattle: Box::new(move |times| {
+            let mut state = Scheduler::new();
+            (0..times)
+                .map(|_| {
+                    let refused = state.submit(black_box(3), &job).is_err();
+                    usize::from(refused | state.cancel(black_box(3)).is_err())
+                })
+                .sum()
+        }),
+        rust: Box::new(move |times| {
+            let mut state = AtSeats::default();
+            let mut refused = 0;
+            for _ in 0..times {
+                let (submitted, first) = rust_submit(state, black_box(3), parts);
+                let (cancelled, second) = rust_cancel(submitted, black_box(3));
+                state = cancelled;
+                refused += usize::from(first | second);
+            }
+            refused
+        }),
+        point: None,
+    });
+    let lent = buffer.clone();
+    list.push(Work {
+        name: "a turn that serves stage 1, 2 rows".to_string(),
+        rattle: Box::new(move |times| {
+            let mut out = vec![0; 65_536];
+            (0..times)
+                .map(|_| {
+                    let mut state = waiting;
+                    let served = state.turn(black_box(buffer.as_slice()), &mut out);
+                    black_box(state);
+                    served.map_or(0, |served| served.result.unwrap_or(0))
+                })
+                .sum()
+        }),
+        rust: Box::new(move |times| {
+            let mut out = vec![0; 65_536];
+            (0..times)
+                .map(|_| {
+                    let state = other.clone();
+                    let (left, written) = rust_turn(state, black_box(lent.as_slice()), &mut out);
+                    black_box(left);
+                    written
+                })
+                .sum()
+        }),
+        point: None,
+    });
 }

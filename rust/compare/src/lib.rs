@@ -7,8 +7,10 @@
 
 #![forbid(unsafe_code)]
 
+mod scheduler;
 mod tally;
 
+pub use scheduler::{play, Calls};
 pub use tally::Tally;
 
 use dulgaverk::{Counts, Edition, Refusal};

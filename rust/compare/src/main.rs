@@ -1,9 +1,10 @@
 //! Compares the verified operations with the independent checker until so many calls are made.
 
-use compare::{compare, Tally, COMPARED};
+use compare::{compare, play, Calls, Tally, COMPARED};
+use stages::calls::sequence;
 use stages::rng::Rng;
 use stages::table::Size;
-use stages::{stream, Class, CLASSES};
+use stages::{stream, Class, Operation, CLASSES};
 use std::io::{stderr, IsTerminal};
 use std::process::ExitCode;
 use std::time::{Duration, Instant};
@@ -29,6 +30,7 @@ fn main() -> ExitCode {
     let mut told = stderr().is_terminal().then_some(start);
     let mut rng = Rng::new(seed);
     let mut tally = Tally::default();
+    let mut calls_at_seats = Calls::default();
     let mut streams = Vec::new();
     for operation in COMPARED {
         for class in CLASSES {
@@ -37,7 +39,16 @@ fn main() -> ExitCode {
             }
         }
     }
+    let mut closed = stream(Operation::Check, Class::Sound, Size::SMALL, rng.word());
+    let mut damaged = stream(Operation::Check, Class::Damaged, Size::SMALL, rng.word());
     while tally.all_calls() < calls {
+        let files: Vec<_> = closed
+            .by_ref()
+            .take(3)
+            .chain(damaged.by_ref().take(3))
+            .collect();
+        let calls = sequence(&mut rng, &files, 60);
+        play(&calls, &mut rng, &mut calls_at_seats);
         for (class, cases) in &mut streams {
             // Limits and edges are dear; most of the rest is random tables and damaged ones.
             let share = match class {
@@ -60,8 +71,9 @@ fn main() -> ExitCode {
         eprint!("\r\x1b[K");
     }
     println!("{tally}");
+    println!("{calls_at_seats}");
     println!("seed {seed}, {} s", start.elapsed().as_secs());
-    if tally.differences() == 0 {
+    if tally.differences() == 0 && calls_at_seats.differences == 0 {
         ExitCode::SUCCESS
     } else {
         ExitCode::FAILURE

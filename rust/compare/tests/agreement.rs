@@ -1,7 +1,8 @@
 //! The comparison in the gate: fixed seeds, every class of stages, every operation.
 
-use compare::{compare, Tally};
+use compare::{compare, play, Calls, Tally};
 use reference::NOT_GIVEN;
+use stages::calls::sequence;
 use stages::rng::Rng;
 use stages::table::Size;
 use stages::{stream, Class, Operation, CLASSES};
@@ -94,4 +95,32 @@ fn testing_formulas() {
         100_000,
         &[0, 1, 2, 3, 4, 5, 6, 7, 9, 12, 17, 19, 23],
     );
+}
+
+/// Sequences of 60 calls at the scheduler, over files of closed and damaged tables.
+#[test]
+fn serving_jobs() {
+    let mut seen = Calls::default();
+    let mut rng = Rng::new(8);
+    for class in [Class::Sound, Class::Damaged] {
+        let mut cases = stream(Operation::Check, class, Size::SMALL, rng.word());
+        for _ in 0..5_000 {
+            let some: Vec<_> = cases.by_ref().take(6).collect();
+            let calls = sequence(&mut rng, &some, 60);
+            play(&calls, &mut rng, &mut seen);
+        }
+    }
+    println!("{} calls: {seen:?}", seen.all());
+    assert_eq!(seen.differences, 0);
+    assert_eq!(seen.longest, 8);
+    for number in [0, 29, 30] {
+        assert!(seen.submitted[&number] > 1_000);
+    }
+    for number in [0, 29, 31] {
+        assert!(seen.cancelled[&number] > 1_000);
+    }
+    for number in [0, 21, 34] {
+        assert!(seen.served[&number] > 1_000);
+    }
+    assert!(seen.idle[&35] > 1_000 && seen.idle.len() == 1);
 }

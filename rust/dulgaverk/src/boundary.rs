@@ -35,6 +35,49 @@ pub struct Tested {
     pub holds: bool,
 }
 
+#[repr(C)]
+#[derive(Clone, Copy)]
+pub struct Part {
+    pub start: usize,
+    pub end: usize,
+}
+
+#[repr(C)]
+#[derive(Clone, Copy)]
+pub struct Job {
+    pub a: Part,
+    pub b: Part,
+    pub proof: Part,
+}
+
+#[repr(C)]
+#[derive(Clone, Copy)]
+pub struct Slot {
+    pub waiting: usize,
+    pub job: Job,
+}
+
+#[repr(C)]
+#[derive(Clone, Copy)]
+pub struct Scheduler {
+    pub slots: [Slot; 8],
+    pub first: usize,
+}
+
+#[repr(C)]
+pub struct Changed {
+    pub scheduler: Scheduler,
+    pub answer: Answer,
+}
+
+#[repr(C)]
+pub struct Turned {
+    pub scheduler: Scheduler,
+    pub result: WriteResult,
+    pub seat: usize,
+    pub idle: bool,
+}
+
 // The layout that the C test asserts of the header too.
 const _: () = {
     assert!(size_of::<Answer>() == 24);
@@ -45,6 +88,12 @@ const _: () = {
     assert!(offset_of!(ReadResult, k) == 32 && offset_of!(ReadResult, edition) == 33);
     assert!(size_of::<WriteResult>() == 32 && offset_of!(WriteResult, count) == 24);
     assert!(size_of::<Tested>() == 32 && offset_of!(Tested, holds) == 24);
+    assert!(size_of::<Job>() == 48 && offset_of!(Job, b) == 16 && offset_of!(Job, proof) == 32);
+    assert!(size_of::<Slot>() == 56 && offset_of!(Slot, job) == 8);
+    assert!(size_of::<Scheduler>() == 456 && offset_of!(Scheduler, first) == 448);
+    assert!(size_of::<Changed>() == 480 && offset_of!(Changed, answer) == 456);
+    assert!(size_of::<Turned>() == 504 && offset_of!(Turned, result) == 456);
+    assert!(offset_of!(Turned, seat) == 488 && offset_of!(Turned, idle) == 496);
 };
 
 extern "C" {
@@ -98,4 +147,14 @@ extern "C" {
         values: *const i32,
         values_len: usize,
     ) -> Tested;
+    pub fn dulgaverk_scheduler_empty() -> Scheduler;
+    pub fn dulgaverk_scheduler_submit(state: Scheduler, seat: usize, job: Job) -> Changed;
+    pub fn dulgaverk_scheduler_cancel(state: Scheduler, seat: usize) -> Changed;
+    pub fn dulgaverk_scheduler_turn(
+        state: Scheduler,
+        buffer: *const u8,
+        buffer_len: usize,
+        out: *mut u8,
+        out_len: usize,
+    ) -> Turned;
 }

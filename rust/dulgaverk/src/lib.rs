@@ -9,10 +9,12 @@ mod boundary;
 mod edition;
 mod kind;
 mod refusal;
+mod scheduler;
 
 pub use edition::Edition;
 pub use kind::Kind;
 pub use refusal::{Refusal, MEANINGS};
+pub use scheduler::{Job, Scheduler, Served};
 
 /// Most constants of a file.
 pub const CONSTANTS: usize = 16;

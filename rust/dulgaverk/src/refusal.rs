@@ -23,7 +23,7 @@ use std::fmt;
 /// ```
 #[derive(Clone, Copy, PartialEq, Eq, Hash, Debug)]
 pub struct Refusal {
-    /// The number of the refusal, 1 to 24, but never 22.
+    /// The number of the refusal, 1 to 24, but never 22; of a scheduler also 29, 30, 31 and 34. (35, no job waits, is told as none.)
     pub number: u8,
     /// 1 A or a bundle read alone, 2 B, 3 the proof or formula, 4 a lent output or what concerns no file.
     pub file: u8,
@@ -96,7 +96,7 @@ impl Error for Refusal {}
 
 /// Every refusal, by number, and the one number that is kept free.
 /// (include/dulgaverk.h and docs/FORMAT.md have the same words.)
-pub const MEANINGS: [(u8, &str); 24] = [
+pub const MEANINGS: [(u8, &str); 29] = [
     (1, "a file is longer than its limit, or a formula would be"),
     (2, "bytes are no whole field, or a file ends too early"),
     (3, "a tag below 0x80 that this kind of file does not have"),
@@ -133,4 +133,9 @@ pub const MEANINGS: [(u8, &str); 24] = [
         24,
         "a kind that is not 0, 1 or 2, or the wrong count of numbers",
     ),
+    (29, "a seat above 7"),
+    (30, "a job for a seat where one waits"),
+    (31, "no job waits at the seat"),
+    (34, "a part of a job does not lie in the buffer"),
+    (35, "no job waits"),
 ];

@@ -1,6 +1,6 @@
 //! The stack that a call takes is what include/dulgaverk.h says: each call is made on a thread that has little more.
 
-use dulgaverk::Edition;
+use dulgaverk::{Edition, Job, Scheduler};
 use stages::build::{and, close, comparison, constraint, file, fill, rounding, scale, strengthen};
 use stages::turn::turned_up;
 use std::thread;
@@ -35,9 +35,12 @@ fn the_deepest_check() {
     rows.extend(vec![close(0); 65]);
     let mut proof = file(16, &rows);
     fill(&mut proof, 65_536);
+    let turned = turn_on_stack(CHECK, a.clone(), b.clone(), proof.clone());
     let written = on_stack(CHECK, move || dulgaverk::check(&a, &b, &proof));
     // an or and an and for each strengthen, and 65 times "1 is at most 0", over 16 constants
-    assert_eq!(written.map(|bytes| bytes.len()), Ok(8 + 32 * 6 + 65 * 71));
+    let written = written.map(|bytes| bytes.len());
+    assert_eq!(written, Ok(8 + 32 * 6 + 65 * 71));
+    assert_eq!(written, turned);
 }
 
 /// The same with 960 lines on the deepest branch, the most that 1,024 rows leave for it, in edition 2.
@@ -53,8 +56,33 @@ fn the_deepest_check_of_edition_2() {
     assert_eq!(rows.len(), 1_024);
     let mut proof = turned_up(&file(16, &rows));
     fill(&mut proof, 65_536);
+    let turned = turn_on_stack(CHECK_2, a.clone(), b.clone(), proof.clone());
     let written = on_stack(CHECK_2, move || dulgaverk::check(&a, &b, &proof));
-    assert_eq!(written.map(|bytes| bytes.len()), Ok(8 + 32 * 6 + 65 * 71));
+    let written = written.map(|bytes| bytes.len());
+    assert_eq!(written, Ok(8 + 32 * 6 + 65 * 71));
+    assert_eq!(written, turned);
+}
+
+/// A turn of the scheduler that makes such a check: 2 KiB more at most, by the header, and within the same figure.
+fn turn_on_stack(
+    bytes: usize,
+    a: Vec<u8>,
+    b: Vec<u8>,
+    proof: Vec<u8>,
+) -> Result<usize, dulgaverk::Refusal> {
+    let (x, y) = (a.len(), a.len() + b.len());
+    let buffer = [a, b, proof].concat();
+    let mut scheduler = Scheduler::new();
+    let job = Job {
+        a: 0..x,
+        b: x..y,
+        proof: y..buffer.len(),
+    };
+    scheduler.submit(3, &job)?;
+    let mut out = vec![0; 65_536];
+    let served = on_stack(bytes, move || scheduler.turn(&buffer, &mut out))?;
+    assert_eq!(served.seat, 3);
+    served.result
 }
 
 /// 32 roundings by 16, one inside the other: in the first branch of the one before, and in the last. Over 12 constants the
@@ -74,6 +102,7 @@ fn the_deepest_roundings() {
             for (stack, mut proof) in [(CHECK_2, turned_up(&proof)), (CHECK, proof)] {
                 fill(&mut proof, 65_536);
                 let (a, b) = (a.clone(), b.clone());
+                let turned = turn_on_stack(stack, a.clone(), b.clone(), proof.clone());
                 let written = on_stack(stack, move || dulgaverk::check(&a, &b, &proof));
                 let expected = if needed > 65_536 {
                     Err(dulgaverk::Refusal::outside(1, 4, needed))
@@ -81,6 +110,7 @@ fn the_deepest_roundings() {
                     Ok(needed)
                 };
                 assert_eq!(written.map(|bytes| bytes.len()), expected);
+                assert_eq!(turned, expected);
             }
         }
     }
@@ -99,6 +129,22 @@ fn the_deepest_formula() {
             Ok(true)
         );
     }
+}
+
+#[test]
+fn jobs() {
+    let refused = on_stack(OTHER, move || {
+        let mut scheduler = Scheduler::new();
+        let job = Job {
+            a: 0..1,
+            b: 0..1,
+            proof: 0..1,
+        };
+        scheduler.submit(3, &job)?;
+        scheduler.cancel(3)?;
+        scheduler.turn(&[], &mut []).map(|served| served.seat)
+    });
+    assert_eq!(refused, Err(dulgaverk::Refusal::outside(35, 4, 0)));
 }
 
 #[test]

@@ -1,8 +1,9 @@
-//! The comparison for libFuzzer: bytes to a case and back, and the entry that libFuzzer calls.
+//! The comparison for libFuzzer: bytes to a case or to calls at the scheduler and back, and the entry that libFuzzer calls.
 //!
 //! What steers it is the coverage of the Rust checker; the verified code is compared with that on every input.
 
-use compare::{compare, Tally};
+use compare::{compare, play, Calls, Tally};
+use stages::calls::{Call, Sequence};
 use stages::rng::Rng;
 use stages::Case;
 
@@ -30,10 +31,17 @@ impl<'a> Reader<'a> {
     }
 }
 
-/// The case that some bytes stand for; every list of bytes is one.
-pub fn decode(bytes: &[u8]) -> Case {
+/// What some bytes stand for.
+pub enum Input {
+    One(Case),
+    AtSeats(Sequence),
+}
+
+/// The case or the calls that some bytes stand for; every list of bytes is one.
+pub fn decode(bytes: &[u8]) -> Input {
     let mut reader = Reader(bytes);
-    match reader.byte() % 5 {
+    let case = match reader.byte() % 6 {
+        5 => return Input::AtSeats(sequence(&mut reader)),
         0 => Case::Read {
             kinds: usize::from(reader.byte()),
             numbers: reader.short(),
@@ -89,7 +97,82 @@ pub fn decode(bytes: &[u8]) -> Case {
                 out,
             }
         }
+    };
+    Input::One(case)
+}
+
+/// The largest number, and one that is too large for a byte, have a code of their own.
+const NUMBERS: [usize; 2] = [256, usize::MAX];
+
+/// A buffer, then calls up to the end.
+fn sequence(reader: &mut Reader) -> Sequence {
+    let length = reader.short();
+    let buffer = reader.bytes(length).to_vec();
+    let mut calls = Vec::new();
+    while !reader.0.is_empty() {
+        calls.push(match reader.byte() % 4 {
+            0 => Call::Submit {
+                seat: seat(reader),
+                parts: [(); 3].map(|()| (number(reader), number(reader))),
+            },
+            1 => Call::Cancel { seat: seat(reader) },
+            2 => Call::Turn {
+                lent: reader.short().min(buffer.len()),
+                room: reader.short(),
+            },
+            _ => {
+                let (place, byte) = (reader.short(), reader.byte());
+                if place >= buffer.len() {
+                    continue;
+                }
+                Call::Put { place, byte }
+            }
+        });
     }
+    Sequence { buffer, calls }
+}
+
+fn seat(reader: &mut Reader) -> usize {
+    let byte = usize::from(reader.byte());
+    *NUMBERS.get(byte.wrapping_sub(254)).unwrap_or(&byte)
+}
+
+fn number(reader: &mut Reader) -> usize {
+    match reader.short() {
+        65_535 => usize::MAX,
+        short => short,
+    }
+}
+
+/// Bytes that stand for calls, where their numbers have room in two bytes.
+pub fn encode_calls(sequence: &Sequence) -> Vec<u8> {
+    let short = |number: usize| (number.min(65_535) as u16).to_be_bytes();
+    let seat = |seat: usize| match NUMBERS.iter().position(|&number| number == seat) {
+        Some(index) => 254 + index as u8,
+        None => seat.min(253) as u8,
+    };
+    let mut bytes = [&[5][..], &short(sequence.buffer.len()), &sequence.buffer].concat();
+    for call in &sequence.calls {
+        match *call {
+            Call::Submit { seat: at, parts } => {
+                bytes.extend([0, seat(at)]);
+                for (start, end) in parts {
+                    bytes.extend([short(start), short(end)].concat());
+                }
+            }
+            Call::Cancel { seat: at } => bytes.extend([1, seat(at)]),
+            Call::Turn { lent, room } => {
+                bytes.push(2);
+                bytes.extend([short(lent), short(room)].concat());
+            }
+            Call::Put { place, byte } => {
+                bytes.push(3);
+                bytes.extend(short(place));
+                bytes.push(byte);
+            }
+        }
+    }
+    bytes
 }
 
 /// Bytes that stand for a case, where its lengths have room in two bytes.
@@ -140,10 +223,19 @@ pub fn encode(case: &Case) -> Vec<u8> {
 
 /// Stops the program where the two sides differ.
 pub fn judge(bytes: &[u8]) {
-    let case = decode(bytes);
-    let mut tally = Tally::default();
-    compare(&case, &mut Rng::new(bytes.len() as u64), &mut tally);
-    assert_eq!(tally.differences(), 0, "{tally}");
+    let mut rng = Rng::new(bytes.len() as u64);
+    match decode(bytes) {
+        Input::One(case) => {
+            let mut tally = Tally::default();
+            compare(&case, &mut rng, &mut tally);
+            assert_eq!(tally.differences(), 0, "{tally}");
+        }
+        Input::AtSeats(calls) => {
+            let mut seen = Calls::default();
+            play(&calls, &mut rng, &mut seen);
+            assert_eq!(seen.differences, 0, "{seen}");
+        }
+    }
 }
 
 /// What libFuzzer calls for each input.

@@ -1,9 +1,11 @@
-//! Writes inputs to start from, a file each: stages of every operation and class.
+//! Writes inputs to start from, a file each: stages of every operation and class, and calls at the scheduler.
 //!
 //! usage: fuzz FOLDER
 
+use stages::calls::sequence;
+use stages::rng::Rng;
 use stages::table::Size;
-use stages::{stream, CLASSES, OPERATIONS};
+use stages::{stream, Class, Operation, CLASSES, OPERATIONS};
 use std::path::Path;
 
 fn main() -> std::io::Result<()> {
@@ -22,6 +24,15 @@ fn main() -> std::io::Result<()> {
                 std::fs::write(Path::new(&folder).join(name), fuzz::encode(&case))?;
             }
         }
+    }
+    let mut rng = Rng::new(1);
+    let mut files = stream(Operation::Check, Class::Sound, Size::SMALL, 1)
+        .filter(|case| case.longest_file() < 200);
+    for index in 0..100 {
+        let some: Vec<_> = files.by_ref().take(3).collect();
+        let calls = sequence(&mut rng, &some, 30);
+        let name = format!("AtSeats-{index}");
+        std::fs::write(Path::new(&folder).join(name), fuzz::encode_calls(&calls))?;
     }
     Ok(())
 }

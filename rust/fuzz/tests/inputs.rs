@@ -1,17 +1,34 @@
 //! What the fuzzer makes of its bytes.
 
-use fuzz::{decode, encode, judge};
+use fuzz::{decode, encode, encode_calls, judge, Input};
+use stages::calls::sequence;
 use stages::rng::Rng;
 use stages::table::Size;
-use stages::{stream, Class, OPERATIONS};
+use stages::{stream, Class, Operation, OPERATIONS};
 
 #[test]
 fn a_case_comes_back_from_its_bytes() {
     for operation in OPERATIONS {
         for case in stream(operation, Class::Sound, Size::SMALL, 1).take(500) {
-            let back = decode(&encode(&case));
+            let Input::One(back) = decode(&encode(&case)) else {
+                panic!("no case");
+            };
             // An output of 65,536 bytes has no room in two: it is one shorter.
             assert_eq!(encode(&back), encode(&case));
+        }
+    }
+}
+
+#[test]
+fn calls_come_back_from_their_bytes() {
+    let mut rng = Rng::new(1);
+    let mut files = stream(Operation::Check, Class::Sound, Size::SMALL, 1);
+    for _ in 0..500 {
+        let some: Vec<_> = files.by_ref().take(3).collect();
+        let calls = sequence(&mut rng, &some, 30);
+        match decode(&encode_calls(&calls)) {
+            Input::AtSeats(back) => assert_eq!(back, calls),
+            Input::One(_) => panic!("no calls"),
         }
     }
 }

@@ -76,6 +76,12 @@ pub(crate) const OUTPUT_TOO_SHORT: u8 = 21;
 pub const NOT_GIVEN: u8 = 22;
 pub(crate) const VALUE_OUT_OF_RANGE: u8 = 23;
 pub(crate) const WRONG_LIST: u8 = 24;
+pub(crate) const NO_SEAT: u8 = 29;
+pub(crate) const OCCUPIED: u8 = 30;
+pub(crate) const EMPTY: u8 = 31;
+pub(crate) const OUTSIDE: u8 = 34;
+/// Not of the paper: a turn without a job says idle, and that is no acceptance.
+pub(crate) const IDLE: u8 = 35;
 
 /// The meaning of an answer's number in words.
 pub fn meaning(number: u8) -> &'static str {
@@ -107,6 +113,11 @@ pub fn meaning(number: u8) -> &'static str {
         NOT_GIVEN => "no longer given; its number is not used again",
         VALUE_OUT_OF_RANGE => "a value outside -1,000,000 to 1,000,000",
         WRONG_LIST => "a kind that is not 0, 1 or 2, or a wrong count of numbers",
+        NO_SEAT => "a seat above 7",
+        OCCUPIED => "a job for a seat that is occupied",
+        EMPTY => "a withdrawal from a seat that is empty",
+        OUTSIDE => "a part outside the buffer, or ending before it starts",
+        IDLE => "a turn with no job",
         _ => "no refusal",
     }
 }

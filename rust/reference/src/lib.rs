@@ -21,6 +21,7 @@ mod field;
 mod formula;
 mod header;
 mod line;
+mod scheduler;
 mod show;
 
 pub use answer::{meaning, Answer, NONE, NOT_GIVEN};
@@ -28,6 +29,7 @@ pub use bundle::{read_bundle, write_bundle, ReadResult, WriteResult};
 pub use check::check;
 pub use edition::Edition;
 pub use formula::{test_formula, TestResult};
+pub use scheduler::{Parts, Scheduler};
 pub use show::{show, show_answer};
 
 /// The limits that the paper sets; `Edition` has those that go by the edition.

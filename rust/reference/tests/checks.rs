@@ -849,10 +849,11 @@ fn notes_change_nothing_in_any_place() {
 
 #[test]
 fn every_number_has_its_own_words() {
-    let mut words: Vec<&str> = (0..=24).map(reference::meaning).collect();
+    let numbers = (0..=24).chain([29, 30, 31, 34, 35]);
+    let mut words: Vec<&str> = numbers.map(reference::meaning).collect();
     words.sort_unstable();
     words.dedup();
-    assert_eq!(words.len(), 25);
+    assert_eq!(words.len(), 30);
     assert!(!words.contains(&reference::meaning(25)));
     assert_eq!(reference::meaning(0), "accepted");
     let free = reference::meaning(reference::NOT_GIVEN);

@@ -1,10 +1,12 @@
 //! Test cases for check and the other operations, from a seed.
 //!
 //! `stream` gives an endless row of cases of a chosen operation and class;
-//! `list` gives the mixed list that the program prints.
+//! `list` gives the mixed list that the program prints; `calls::sequence` gives
+//! calls at the scheduler.
 #![forbid(unsafe_code)]
 
 pub mod build;
+pub mod calls;
 pub mod case;
 pub mod damage;
 pub mod deep;

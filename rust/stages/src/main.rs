@@ -1,23 +1,28 @@
 //! Prints test cases with the reference's answers, one a line.
 
 use reference::NOT_GIVEN;
-use stages::{heavy_list, list, CLASSES, OPERATIONS};
+use stages::calls::sequence;
+use stages::rng::Rng;
+use stages::table::Size;
+use stages::{heavy_list, list, stream, Class, Operation, CLASSES, OPERATIONS};
 use std::io::{self, BufWriter, Write};
 use std::process::ExitCode;
 
-const USAGE: &str = "usage: stages SEED COUNT [--heavy | --light] [--tally]
+const USAGE: &str = "usage: stages SEED COUNT [--heavy | --light | --seats] [--tally]
 
   --heavy  the cases with long files instead of the usual list
   --light  the usual list without any file above 2,000 bytes
+  --seats  sequences of calls at the scheduler instead, over short files
   --tally  how many cases of each sort there are, instead of the cases";
 
 fn main() -> ExitCode {
     let mut numbers = Vec::new();
-    let (mut heavy, mut light, mut tally) = (false, false, false);
+    let (mut heavy, mut light, mut seats, mut tally) = (false, false, false, false);
     for argument in std::env::args().skip(1) {
         match argument.as_str() {
             "--heavy" => heavy = true,
             "--light" => light = true,
+            "--seats" => seats = true,
             "--tally" => tally = true,
             other => match other.parse::<u64>() {
                 Ok(number) => numbers.push(number),
@@ -32,6 +37,9 @@ fn main() -> ExitCode {
         eprintln!("{USAGE}");
         return ExitCode::FAILURE;
     };
+    if seats {
+        return print_seats(seed, count as usize);
+    }
     let cases = if heavy {
         heavy_list(seed, count as usize)
     } else {
@@ -49,6 +57,22 @@ fn main() -> ExitCode {
         Ok(()) => ExitCode::SUCCESS,
         Err(_) => ExitCode::FAILURE,
     }
+}
+
+/// Each over four checks, two of them damaged, whose files have at most 120 bytes.
+fn print_seats(seed: u64, count: usize) -> ExitCode {
+    let mut rng = Rng::new(seed);
+    let mut short = |class| {
+        stream(Operation::Check, class, Size::SMALL, rng.word())
+            .filter(|case| case.longest_file() <= 120)
+    };
+    let (mut sound, mut damaged) = (short(Class::Sound), short(Class::Damaged));
+    for _ in 0..count {
+        let files = sound.by_ref().take(2).chain(damaged.by_ref().take(2));
+        let files: Vec<_> = files.collect();
+        println!("{}", sequence(&mut rng, &files, 14).print());
+    }
+    ExitCode::SUCCESS
 }
 
 fn print_tally(out: &mut impl Write, cases: &[(stages::Class, stages::Case)]) -> io::Result<()> {

@@ -37,6 +37,9 @@ use Rattle.formula.specs.Test.{holds, judge, tested, judged, testFormula}
 use Rattle.proof.specs.Entries.{entryTagged, inPlace, lineNumber, multiplier, sizeOf, entryFrom, entry}
 use Rattle.proof.specs.Rows.{is, plainKind, owner, fails, equals, sameForm, lineAt, derived, fitting, undivided, inequality, roundable, disequality, byNumber, byStride, states}
 use Rattle.proof.specs.Check.{checkRounded, checkSplit, checkRow, checkEntry, checkEntries, checkBranch, checkProof, formulaAtMost, interpolant, checkBy, check}
+use Rattle.scheduler.specs.Scheduler.{empty, isWaiting, submission, cancellation, nextFrom, nextSeat, checkJob, turnAt, turn as turned}
+use Rattle.scheduler.specs.Promises.{changed}
+use Rattle.scheduler.specs.Table.{submit, cancel, turn, job, played}
 
 ";
 
@@ -49,6 +52,8 @@ const CHECK: &str = "rowTold remainder coeff sum value sums _⊞_ _·_ _plus_ no
 const READ: &str = "over kindNumber kindsOf numbersOf unread store stored readBundle";
 const WRITE: &str = "each constraintsBytes holdable encodeBundle writeBundle";
 const SHOW: &str = "nth partOf constraintPart shownPart answerOf showAnswer handed showPart";
+const SEATS: &str =
+    "isWaiting submission cancellation nextFrom nextSeat checkJob turnAt turned changed";
 const TEST: &str = "each sum value finished formulaTagged compound formulaSize formulaOf formulaField twoParts formulaWithin readFormula holds judge tested judged testFormula";
 
 fn list(items: impl Iterator<Item = String>) -> String {
@@ -134,6 +139,16 @@ fn written(words: &[&str], lent: &str, output: &str) -> String {
     )
 }
 
+/// A call at the scheduler, as the table of the definitions writes it.
+fn call(word: &str) -> String {
+    match word.split(':').collect::<Vec<_>>()[..] {
+        ["submit", seat, job] => format!("submit {seat} (job {})", job.replace(',', " ")),
+        ["cancel", seat] => format!("cancel {seat}"),
+        ["turn", room, hex] => format!("turn ({}) {room}", hex_list(hex)),
+        _ => panic!("no call: {word}"),
+    }
+}
+
 /// The statement of a case, and the names that its evaluation opens.
 fn statement(case: &[&str]) -> (String, String) {
     match case {
@@ -194,6 +209,23 @@ fn statement(case: &[&str]) -> (String, String) {
             ),
             format!("{SHARED} {TEST}"),
         ),
+        ["seats", calls @ ..] => {
+            let (calls, tells): (Vec<_>, Vec<_>) = calls
+                .iter()
+                .map(|word| word.split_once('=').expect("a call and what it tells"))
+                .unzip();
+            (
+                format!(
+                    "played empty ({}) ≡ {}",
+                    list(calls.into_iter().map(call)),
+                    list(tells.into_iter().map(|told| {
+                        let numbers = told.split(',').map(str::to_string);
+                        format!("({})", list(numbers))
+                    }))
+                ),
+                format!("{SHARED} {BUNDLES} {WRITING} {CHECK} {SEATS}"),
+            )
+        }
         other => panic!("no case: {other:?}"),
     }
 }

@@ -26,6 +26,15 @@ _Static_assert(sizeof(dulgaverk_tested) == 32 && offsetof(dulgaverk_tested, answ
                    offsetof(dulgaverk_tested, holds) == 24,
                "what testing gives");
 
+_Static_assert(sizeof(dulgaverk_job) == 48 && offsetof(dulgaverk_job, b) == 16 && offsetof(dulgaverk_job, proof) == 32 &&
+                   sizeof(dulgaverk_slot) == 56 && offsetof(dulgaverk_slot, job) == 8,
+               "a job and a slot");
+_Static_assert(sizeof(dulgaverk_scheduler) == 456 && offsetof(dulgaverk_scheduler, first) == 448, "a scheduler");
+_Static_assert(sizeof(dulgaverk_changed) == 480 && offsetof(dulgaverk_changed, answer) == 456 &&
+                   sizeof(dulgaverk_turned) == 504 && offsetof(dulgaverk_turned, result) == 456 &&
+                   offsetof(dulgaverk_turned, seat) == 488 && offsetof(dulgaverk_turned, idle) == 496,
+               "what a scheduler's calls give");
+
 static int differences = 0;
 
 static void expect(bool right, const char *what, int line) {
@@ -352,6 +361,77 @@ static void editions(void) {
     UNCHANGED(out);
 }
 
+static bool same(dulgaverk_scheduler a, dulgaverk_scheduler b) {
+    return memcmp(&a, &b, sizeof a) == 0;
+}
+
+/* Jobs at seats: stage 6, the same with a part outside the buffer, and with a proof that has one field too many. */
+static void scheduling(void) {
+    static const uint8_t buffer[] = {0x01, 0, 1, 1, 0x02, 0, 1, 1, 0x03, 0, 4, 0, 0,    0,
+                                     1,    0x01, 0, 1, 1, 0x02, 0, 1, 1, 0x14, 0, 1, 0, 0x14};
+    static const dulgaverk_job job = {{0, 15}, {0, 8}, {15, 27}}, outside = {{0, 15}, {0, 29}, {15, 27}},
+                               backwards = {{0, 15}, {8, 0}, {15, 27}}, cut = {{0, 15}, {28, 28}, {15, 28}};
+    dulgaverk_scheduler none, empty = dulgaverk_scheduler_empty();
+    memset(&none, 0, sizeof none);
+    EXPECT(same(empty, none));
+    uint8_t out[64];
+    FILL(out);
+    dulgaverk_turned t = dulgaverk_scheduler_turn(empty, buffer, sizeof buffer, out, sizeof out);
+    EXPECT(t.idle && is(t.result.answer, 35, 4, 0) && t.seat == 0 && t.result.count == 0 && same(t.scheduler, empty));
+    UNCHANGED(out);
+    /* no seat: a number that does not fit in a byte is none either */
+    static const size_t seats[] = {8, 255, 256, 259, SIZE_MAX};
+    for (size_t i = 0; i < sizeof seats / sizeof seats[0]; i += 1) {
+        dulgaverk_changed c = dulgaverk_scheduler_submit(empty, seats[i], job);
+        EXPECT(is(c.answer, 29, 4, 0) && same(c.scheduler, empty));
+        c = dulgaverk_scheduler_cancel(empty, seats[i]);
+        EXPECT(is(c.answer, 29, 4, 0) && same(c.scheduler, empty));
+    }
+    dulgaverk_changed c = dulgaverk_scheduler_cancel(empty, 3);
+    EXPECT(is(c.answer, 31, 4, 0) && same(c.scheduler, empty));
+    c = dulgaverk_scheduler_submit(c.scheduler, 3, job);
+    EXPECT(is(c.answer, 0, 0, 0) && c.scheduler.slots[3].waiting == 1 && c.scheduler.slots[3].job.proof.end == 27);
+    dulgaverk_scheduler before = c.scheduler;
+    c = dulgaverk_scheduler_submit(c.scheduler, 3, outside);
+    EXPECT(is(c.answer, 30, 4, 0) && same(c.scheduler, before));
+    c = dulgaverk_scheduler_cancel(c.scheduler, 3);
+    EXPECT(is(c.answer, 0, 0, 0) && same(c.scheduler, empty));
+    c = dulgaverk_scheduler_submit(before, 1, outside);
+    EXPECT(is(c.answer, 0, 0, 0) && c.scheduler.slots[1].job.b.end == 29);
+    c = dulgaverk_scheduler_submit(c.scheduler, 2, backwards);
+    EXPECT(is(c.answer, 0, 0, 0));
+    c = dulgaverk_scheduler_submit(c.scheduler, 0, cut);
+    EXPECT(is(c.answer, 0, 0, 0));
+    /* seats 0 to 3 in turn: an empty B at the buffer's end, two that are not within it, the accepted one */
+    t = dulgaverk_scheduler_turn(c.scheduler, buffer, sizeof buffer, out, sizeof out);
+    EXPECT(!t.idle && t.seat == 0 && is(t.result.answer, 2, 2, 0) && t.scheduler.first == 1);
+    for (size_t seat = 1; seat < 3; seat += 1) {
+        t = dulgaverk_scheduler_turn(t.scheduler, buffer, sizeof buffer, out, sizeof out);
+        EXPECT(!t.idle && t.seat == seat && is(t.result.answer, 34, 4, 0) && t.result.count == 0 && t.scheduler.first == seat + 1);
+    }
+    UNCHANGED(out);
+    t = dulgaverk_scheduler_turn(t.scheduler, buffer, sizeof buffer, out, sizeof out);
+    EXPECT(!t.idle && t.seat == 3 && is(t.result.answer, 0, 0, 0) && t.result.count == 19);
+    none.first = 4;
+    EXPECT(same(t.scheduler, none));
+    /* places are counted in the part */
+    static const dulgaverk_job late = {{0, 15}, {0, 8}, {15, 28}};
+    c = dulgaverk_scheduler_submit(t.scheduler, 7, late);
+    t = dulgaverk_scheduler_turn(c.scheduler, buffer, sizeof buffer, out, sizeof out);
+    EXPECT(!t.idle && t.seat == 7 && is(t.result.answer, 2, 3, 12) && t.scheduler.first == 0);
+    /* a state that no call leaves: any number but 0 waits, and the seat to look at first counts by its remainder */
+    none.slots[2].waiting = SIZE_MAX;
+    none.slots[2].job = job;
+    none.slots[4].waiting = 256;
+    none.first = SIZE_MAX - 4;
+    c = dulgaverk_scheduler_submit(none, 4, job);
+    EXPECT(is(c.answer, 30, 4, 0) && same(c.scheduler, none));
+    t = dulgaverk_scheduler_turn(none, buffer, sizeof buffer, out, sizeof out);
+    EXPECT(!t.idle && t.seat == 4 && is(t.result.answer, 2, 1, 0) && t.scheduler.first == 5);
+    t = dulgaverk_scheduler_turn(t.scheduler, buffer, sizeof buffer, out, sizeof out);
+    EXPECT(!t.idle && t.seat == 2 && is(t.result.answer, 0, 0, 0) && t.scheduler.first == 3);
+}
+
 int main(void) {
     reading();
     writing();
@@ -361,5 +441,6 @@ int main(void) {
     branches();
     editions();
     testing();
+    scheduling();
     return differences < 100 ? differences : 100;
 }

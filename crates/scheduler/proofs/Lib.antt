@@ -1,0 +1,5 @@
+-- Laws of the scheduler, and that it is fair.
+pub mod Looking
+pub mod Changing
+pub mod Fair
+pub mod Table

@@ -1,0 +1,2 @@
+-- Each way through a turn.
+pub mod Ways

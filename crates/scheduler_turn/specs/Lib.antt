@@ -1,0 +1,2 @@
+-- What the functions inside a turn ensure.
+pub mod Promises
