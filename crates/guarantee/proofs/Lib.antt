@@ -14,3 +14,4 @@ pub mod Apart
 pub mod Wide
 pub mod Long
 pub mod Editions
+pub mod Reordering

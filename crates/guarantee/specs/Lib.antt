@@ -13,3 +13,4 @@ pub mod Reduced
 pub mod Rounding
 pub mod Apart
 pub mod Editions
+pub mod Reordering

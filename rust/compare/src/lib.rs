@@ -7,9 +7,11 @@
 
 #![forbid(unsafe_code)]
 
+mod reorder;
 mod scheduler;
 mod tally;
 
+pub use reorder::{reorder, Reorderings};
 pub use scheduler::{play, Calls};
 pub use tally::Tally;
 

@@ -1,6 +1,6 @@
 //! Compares the verified operations with the independent checker until so many calls are made.
 
-use compare::{compare, play, Calls, Tally, COMPARED};
+use compare::{compare, play, reorder, Calls, Reorderings, Tally, COMPARED};
 use stages::calls::sequence;
 use stages::rng::Rng;
 use stages::table::Size;
@@ -30,6 +30,7 @@ fn main() -> ExitCode {
     let mut told = stderr().is_terminal().then_some(start);
     let mut rng = Rng::new(seed);
     let mut tally = Tally::default();
+    let mut reorderings = Reorderings::default();
     let mut calls_at_seats = Calls::default();
     let mut streams = Vec::new();
     for operation in COMPARED {
@@ -59,6 +60,7 @@ fn main() -> ExitCode {
             };
             for case in cases.take(share) {
                 compare(&case, &mut rng, &mut tally);
+                reorder(&case, &mut rng, &mut reorderings);
             }
         }
         if told.is_some_and(|last| last.elapsed() >= TOLD_EVERY) {
@@ -71,9 +73,11 @@ fn main() -> ExitCode {
         eprint!("\r\x1b[K");
     }
     println!("{tally}");
+    println!("{reorderings}");
     println!("{calls_at_seats}");
     println!("seed {seed}, {} s", start.elapsed().as_secs());
-    if tally.differences() == 0 && calls_at_seats.differences == 0 {
+    let differences = tally.differences() + reorderings.differences + calls_at_seats.differences;
+    if differences == 0 {
         ExitCode::SUCCESS
     } else {
         ExitCode::FAILURE

@@ -1,6 +1,6 @@
 //! The comparison in the gate: fixed seeds, every class of stages, every operation.
 
-use compare::{compare, play, Calls, Tally};
+use compare::{compare, play, reorder, Calls, Reorderings, Tally};
 use reference::NOT_GIVEN;
 use stages::calls::sequence;
 use stages::rng::Rng;
@@ -95,6 +95,26 @@ fn testing_formulas() {
         100_000,
         &[0, 1, 2, 3, 4, 5, 6, 7, 9, 12, 17, 19, 23],
     );
+}
+
+/// Registers listed in another sequence: random closed tables, damaged ones, and the rest; and formulas, right and wrong.
+#[test]
+fn reordering_constants() {
+    let mut seen = Reorderings::default();
+    let mut rng = Rng::new(7);
+    for operation in [Operation::Check, Operation::Test] {
+        for class in CLASSES {
+            for size in [Size::SMALL, Size::MEDIUM, Size::LARGE] {
+                for case in stream(operation, class, size, rng.word()).take(share(class, 20_000)) {
+                    reorder(&case, &mut rng, &mut seen);
+                }
+            }
+        }
+    }
+    println!("{seen}");
+    assert_eq!(seen.differences, 0, "{seen}");
+    assert!(seen.accepted > 10_000 && seen.moved > 50_000 && seen.one_way > 50_000);
+    assert!(seen.judged > 50_000 && seen.tested - seen.judged > 10_000);
 }
 
 /// Sequences of 60 calls at the scheduler, over files of closed and damaged tables.

@@ -19,9 +19,10 @@ use std::thread;
 use std::time::Duration;
 
 /// The worked stages as folders under examples/, and the first line that is printed of each.
-const STAGES: [(&str, &str); 33] = [
+const STAGES: [(&str, &str); 34] = [
     ("stage-1", "accepted 31"),
     ("stage-1-mixed", "accepted 31"),
+    ("stage-1-reordered", "accepted 31"),
     ("stage-10", "accepted 79"),
     ("stage-10-constants", "refused 7 file 1 at 4"),
     ("stage-10-constraints", "refused 8 file 1 at 1192"),

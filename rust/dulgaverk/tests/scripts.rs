@@ -165,6 +165,7 @@ fn exit_status() {
         (vec![], 2),
         (vec!["examples/guard-1"], 0),
         (vec!["examples/guard-1-odd"], 1),
+        (vec!["examples/guard-1-reordered"], 0),
         (vec!["examples/guard-four-bytes"], 0),
         (vec!["examples/guard-edition-2"], 1),
         (vec!["examples/none"], 2),
@@ -519,7 +520,7 @@ fn example_guards() {
             seen += 1;
         }
     }
-    assert_eq!(seen, 4);
+    assert_eq!(seen, 5);
 }
 
 /// The stage of four-byte numbers from end to end: the formula that ./check writes is the one that ./guard tests.
