@@ -223,6 +223,17 @@ dulgaverk_write_result dulgaverk_check(const uint8_t *a, size_t a_length, const 
 dulgaverk_tested dulgaverk_test(const uint8_t *formula, size_t formula_length, const int32_t *values,
                                 size_t values_length);
 
+/* Turns a bundle, or a proof, into the other edition; `edition` is the one asked for. Notes are left out.
+ *
+ * Refused: 5 with file 4 for an edition that is not 1 or 2; 1 for a file that is too long; 5 at the edition of a file that
+ * has the edition asked for; then as reading a bundle (file 1), or a proof (file 3) field by field; 13 or 10 for a number
+ * or a line number that the edition cannot hold; 1 and 21 with file 4 and as place the bytes needed.
+ */
+dulgaverk_write_result dulgaverk_turn_bundle(const uint8_t *file, size_t file_length, uint8_t edition, uint8_t *out,
+                                             size_t out_length);
+dulgaverk_write_result dulgaverk_turn_proof(const uint8_t *file, size_t file_length, uint8_t edition, uint8_t *out,
+                                            size_t out_length);
+
 /* The state in which no job waits, and seat 0 is looked at first. */
 dulgaverk_scheduler dulgaverk_scheduler_empty(void);
 

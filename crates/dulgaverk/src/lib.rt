@@ -11,6 +11,7 @@ ghost use Rattle.bundle_read.specs.Promises.{Reads};
 ghost use Rattle.bundle_write.specs.Promises.{Writes};
 ghost use Rattle.formula_test.specs.Promises.{Tests};
 ghost use Rattle.proof.specs.Promises.{Checks};
+ghost use Rattle.conversion.specs.Promises.{TurnsBundle, TurnsProof};
 ghost use Rattle.scheduler.specs.Scheduler.{empty};
 ghost use Rattle.scheduler.specs.Promises.{Submits, Cancels, Turns};
 ghost use Rattle.dulgaverk.specs.Copied.{Copied};
@@ -91,6 +92,21 @@ pub extern "C" fn dulgaverk_test(formula: &[u8], values: &[i32]) -> Tested
     ensures { λ r. ⌜ Tests (now (formula .entry)) (now (values .entry)) r ⌝ }
 {
     formula_test::test(formula, values)
+}
+
+// Into the other edition; `edition` is the one asked for.
+#[no_mangle]
+pub extern "C" fn dulgaverk_turn_bundle(file: &[u8], edition: u8, out: &mut [u8]) -> WriteResult
+    ensures { λ r. ⌜ TurnsBundle edition (now (file .entry)) (now (out .entry)) (now (out .exit)) r ⌝ }
+{
+    convert::turn_bundle(file, edition, out)
+}
+
+#[no_mangle]
+pub extern "C" fn dulgaverk_turn_proof(file: &[u8], edition: u8, out: &mut [u8]) -> WriteResult
+    ensures { λ r. ⌜ TurnsProof edition (now (file .entry)) (now (out .entry)) (now (out .exit)) r ⌝ }
+{
+    convert::turn_proof(file, edition, out)
 }
 
 // Checks that wait at eight seats. The state is a struct by value: it goes in, and comes back with the answer.

@@ -106,7 +106,7 @@ module _ {A B proof output left : List ℕ} {r : WriteResult} (c : Checks A B pr
   leaves a = written-as (c .is ∙ certified-written output A B proof a)
 
 -- What was written fits.
-written-from : {P : List ℕ → Type 0} (output : List ℕ) (r : Result (List ℕ)) → Gives r P → written r output .answer .number ≡ 0 → (bytes : List ℕ) × P bytes × (length bytes ≤ length output)
+pub written-from : {P : List ℕ → Type 0} (output : List ℕ) (r : Result (List ℕ)) → Gives r P → written r output .answer .number ≡ 0 → (bytes : List ℕ) × P bytes × (length bytes ≤ length output)
 unfolding written
 written-from output (refused a) g h = absurd (not-0 (g .refusal a refl) h)
 written-from output (accepted bytes) g h = (bytes, g .gives bytes refl, leb→le _ _ (fit-accepted output bytes (leb (length bytes) (length output)) h))

@@ -15,3 +15,5 @@ pub mod Wide
 pub mod Long
 pub mod Editions
 pub mod Reordering
+pub mod Turnable
+pub mod Conversion

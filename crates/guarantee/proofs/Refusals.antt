@@ -32,6 +32,9 @@ use Rattle.formula.specs.Test.{Tested as Outcome, tested, judged, testFormula}
 use Rattle.proof.specs.Check.{interpolant, checkBy, check}
 use Rattle.proof.proofs.Agree.{never-0, never-22}
 use Rattle.proof.specs.Promises.{Checks}
+use Rattle.conversion.specs.Turning.{turnBundle, turnProof}
+use Rattle.conversion.proofs.Bundles.{bundle-turned-gives}
+use Rattle.conversion.proofs.Proofs.{proof-turned-gives}
 use Rattle.dulgaverk.specs.Copied.{Copied}
 use Rattle.scheduler.specs.declared.Job.{Job}
 use Rattle.scheduler.specs.declared.Scheduler.{Scheduler}
@@ -91,6 +94,14 @@ check-told A B proof output =
 pub write-told : (n K : ℕ) (kinds : List ℕ) (numbers : List ℤ) (output : List ℕ) → Unwritten output (writeBundle newestEdition n K kinds numbers output)
 unfolding writeBundle
 write-told n K kinds numbers output = written-told _ (by-number (encodeBundle-gives newestEdition n K kinds numbers)) output
+
+turn-bundle-told : (to : ℕ) (file output : List ℕ) → Unwritten output (turnBundle to file output)
+unfolding turnBundle
+turn-bundle-told to file output = written-told _ (by-number (bundle-turned-gives to file)) output
+
+turn-proof-told : (to : ℕ) (file output : List ℕ) → Unwritten output (turnProof to file output)
+unfolding turnProof
+turn-proof-told to file output = written-told _ (by-number (proof-turned-gives to file)) output
 
 -- ---- what is read
 abbrev Unread : (kinds : List ℕ) (numbers : List ℤ) → BundleRead → Type 0
@@ -233,6 +244,8 @@ pub refusals : Refusals
 refusals = record {
   check = λ A B proof output left r c. subst (Unwritten output) (sym (c .is)) (check-told A B proof output);
   read = λ file kinds numbers kinds′ numbers′ r c. subst (Unread kinds numbers) (sym (c .is)) (read-told kinds numbers file);
+  turn-bundle = λ to file output left r c. subst (Unwritten output) (sym (c .is)) (turn-bundle-told to file output);
+  turn-proof = λ to file output left r c. subst (Unwritten output) (sym (c .is)) (turn-proof-told to file output);
   write = λ n K kinds numbers output left r c. subst (Unwritten output) (sym (c .is)) (write-told n K kinds numbers output);
   show = λ a b line part r s c.
       let (told, empty) = show-told (a .now) (b .now) line in (

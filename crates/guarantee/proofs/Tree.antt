@@ -13,6 +13,7 @@ use Rattle.bundle.specs.Read.{BundleRead}
 use Rattle.formula_test.specs.declared.Tested.{Tested}
 use Rattle.proof.specs.Tree.{Outside, AnswerStands}
 use Rattle.proof.proofs.Outside.{check-located, read-outside, write-outside, show-outside, test-outside}
+use Rattle.conversion.proofs.Outside.{bundle-outside, proof-outside}
 use Rattle.proof.specs.Promises.{Checks}
 use Rattle.scheduler.specs.declared.Job.{Job}
 use Rattle.scheduler.specs.declared.Scheduler.{Scheduler}
@@ -61,6 +62,8 @@ in-tree = record {
   turn-unchecked = turn-outside;
   read = λ file kinds numbers kinds′ numbers′ r c. subst Outside (sym (ap (λ (b : BundleRead). b .answer) (c .is))) (read-outside kinds numbers newestEdition file);
   write = λ n K kinds numbers output left r c. subst Outside (sym (ap (λ (w : Written). w .answer) (c .is))) (write-outside newestEdition n K kinds numbers output);
+  turn-bundle = λ to file output left r c. subst Outside (sym (ap (λ (w : Written). w .answer) (c .is))) (bundle-outside to file output);
+  turn-proof = λ to file output left r c. subst Outside (sym (ap (λ (w : Written). w .answer) (c .is))) (proof-outside to file output);
   show = λ A B line r c. subst Outside (sym (c .is)) (show-outside newestEdition A B line);
   test = λ formula values r c. subst Outside (sym (ap (λ (t : Tested). t .answer) (c .is))) (test-outside formula values);
   submit = submit-outside;

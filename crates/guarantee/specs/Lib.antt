@@ -14,3 +14,4 @@ pub mod Rounding
 pub mod Apart
 pub mod Editions
 pub mod Reordering
+pub mod Conversion

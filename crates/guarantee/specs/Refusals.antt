@@ -19,6 +19,7 @@ use Rattle.bundle_write.specs.Promises.{Writes}
 use Rattle.formula_test.specs.declared.Tested.{Tested}
 use Rattle.formula_test.specs.Promises.{Tests}
 use Rattle.proof.specs.Promises.{Checks}
+use Rattle.conversion.specs.Promises.{TurnsBundle, TurnsProof}
 use Rattle.dulgaverk.specs.Copied.{Copied}
 use Rattle.scheduler.specs.declared.Job.{Job}
 use Rattle.scheduler.specs.declared.Scheduler.{Scheduler}
@@ -40,6 +41,11 @@ pub record Refusals : Type 0 where
       → ToldByNumber (r .answer) × (¬ (r .answer .number ≡ 0) → (kinds′ ≡ kinds) × (numbers′ ≡ numbers) × (r .edition ≡ 0) × (r .count ≡ 0) × (r .k ≡ 0))
   -- write: as check
   pub write : (n K : ℕ) (kinds : List ℕ) (numbers : List ℤ) (output left : List ℕ) (r : WriteResult) → Writes n K kinds numbers output left r
+      → ToldByNumber (r .answer) × (¬ (r .answer .number ≡ 0) → (left ≡ output) × (r .count ≡ 0))
+  -- turning into the other edition: as check
+  pub turn-bundle : (to : ℕ) (file output left : List ℕ) (r : WriteResult) → TurnsBundle to file output left r
+      → ToldByNumber (r .answer) × (¬ (r .answer .number ≡ 0) → (left ≡ output) × (r .count ≡ 0))
+  pub turn-proof : (to : ℕ) (file output left : List ℕ) (r : WriteResult) → TurnsProof to file output left r
       → ToldByNumber (r .answer) × (¬ (r .answer .number ≡ 0) → (left ≡ output) × (r .count ≡ 0))
   -- show, which is lent nothing to change: the part handed back is empty and lies at A's start
   pub show : (a b : RefT (List ℕ)) (line : ℕ) (part : RefT (List ℕ)) (r : Answer) → Shows a b line part → AnswersShow (a .now) (b .now) line r

@@ -14,6 +14,7 @@ use Rattle.formula_test.specs.declared.Tested.{Tested}
 use Rattle.formula_test.specs.Promises.{Tests}
 use Rattle.proof.specs.Tree.{Outside, AnswerStands}
 use Rattle.proof.specs.Promises.{Checks}
+use Rattle.conversion.specs.Promises.{TurnsBundle, TurnsProof}
 use Rattle.scheduler.specs.declared.Job.{Job}
 use Rattle.scheduler.specs.declared.Scheduler.{Scheduler}
 use Rattle.scheduler.specs.declared.Changed.{Changed}
@@ -32,6 +33,8 @@ pub record InTree : Type 0 where
   -- the operations that check no proof: none
   pub read : (file kinds : List ℕ) (numbers : List ℤ) (kinds′ : List ℕ) (numbers′ : List ℤ) (r : ReadResult) → Reads file kinds numbers kinds′ numbers′ r → Outside (r .answer)
   pub write : (n K : ℕ) (kinds : List ℕ) (numbers : List ℤ) (output left : List ℕ) (r : WriteResult) → Writes n K kinds numbers output left r → Outside (r .answer)
+  pub turn-bundle : (to : ℕ) (file output left : List ℕ) (r : WriteResult) → TurnsBundle to file output left r → Outside (r .answer)
+  pub turn-proof : (to : ℕ) (file output left : List ℕ) (r : WriteResult) → TurnsProof to file output left r → Outside (r .answer)
   pub show : (A B : List ℕ) (line : ℕ) (r : Answer) → AnswersShow A B line r → Outside r
   pub test : (formula : List ℕ) (values : List ℤ) (r : Tested) → Tests formula values r → Outside (r .answer)
   pub submit : (s : Scheduler) (seat : ℕ) (job : Job) (r : Changed) → Submits s seat job r → Outside (r .answer)

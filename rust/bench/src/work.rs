@@ -31,6 +31,8 @@ pub fn all() -> Vec<Work> {
     let mut list = Vec::new();
     checks(&mut list);
     bundles(&mut list);
+    turned_bundles(&mut list);
+    turned_proofs(&mut list);
     formulas(&mut list);
     jobs(&mut list);
     list
@@ -56,6 +58,16 @@ fn rust_write(edition: u8, k: u8, kinds: &[u8], numbers: &[i32], out: &mut [u8])
 #[inline(never)]
 fn rust_show(a: &[u8], b: &[u8], line: usize) -> usize {
     usize::from(reference::show_answer(a, b, line).number)
+}
+
+#[inline(never)]
+fn rust_turn_bundle(file: &[u8], to: u8, out: &mut [u8]) -> Result<usize, dulgaverk::Refusal> {
+    Ok(reference::turn_bundle(file, to, out).written)
+}
+
+#[inline(never)]
+fn rust_turn_proof(file: &[u8], to: u8, out: &mut [u8]) -> Result<usize, dulgaverk::Refusal> {
+    Ok(reference::turn_proof(file, to, out).written)
 }
 
 #[inline(never)]
@@ -393,6 +405,119 @@ fn bundles(list: &mut Vec<Work>) {
             }),
             point: None,
         });
+    }
+}
+
+/// A bundle turned up and down, each beside the same bundle read and written in its own edition.
+fn turned_bundles(list: &mut Vec<Work>) {
+    for (size, k, count) in [
+        ("3 constants, 2 constraints", 3, 2),
+        ("16 constants, 32 constraints", 16, 32),
+    ] {
+        for edition in Edition::ALL {
+            // Numbers that both editions hold.
+            let (kinds, numbers) = lists(Edition::One, k, count);
+            let mut file = vec![0; dulgaverk::WRITTEN_BUNDLE];
+            let written =
+                dulgaverk::write_bundle_into(edition.number(), k, &kinds, &numbers, &mut file);
+            file.truncate(written.expect("a sound bundle"));
+            let size = format!("edition {}, {size}", edition.number());
+            list.push(read_and_write(
+                format!("read and write a bundle: {size}"),
+                file.clone(),
+            ));
+            list.push(turn(
+                format!("turn a bundle: {size}"),
+                file,
+                edition.other().number(),
+                [dulgaverk::turn_bundle_into, rust_turn_bundle],
+            ));
+        }
+    }
+}
+
+/// A bundle read, and what was read written again.
+fn read_and_write(name: String, file: Vec<u8>) -> Work {
+    let other = file.clone();
+    Work {
+        name,
+        rattle: Box::new(move |times| {
+            let (mut kinds, mut numbers) = ([0; 32], [0; 544]);
+            let mut out = vec![0; dulgaverk::WRITTEN_BUNDLE];
+            (0..times)
+                .map(|_| {
+                    let file = black_box(file.as_slice());
+                    let read = dulgaverk::read_bundle_into(file, &mut kinds, &mut numbers);
+                    read.and_then(|found| {
+                        let (count, k) = (found.constraints, found.constants);
+                        let (kinds, numbers) = (&kinds[..count], &numbers[..count * (k + 1)]);
+                        let edition = found.edition.number();
+                        dulgaverk::write_bundle_into(edition, k as u8, kinds, numbers, &mut out)
+                    })
+                    .unwrap_or(0)
+                })
+                .sum()
+        }),
+        rust: Box::new(move |times| {
+            let (mut kinds, mut numbers) = ([0; 32], [0; 544]);
+            let mut out = vec![0; dulgaverk::WRITTEN_BUNDLE];
+            (0..times)
+                .map(|_| {
+                    let file = black_box(other.as_slice());
+                    let found = reference::read_bundle(file, &mut kinds, &mut numbers);
+                    let (count, k) = (found.count, found.k);
+                    let (kinds, numbers) = (&kinds[..count], &numbers[..count * (k + 1)]);
+                    rust_write(found.edition, k as u8, kinds, numbers, &mut out)
+                })
+                .sum()
+        }),
+        point: None,
+    }
+}
+
+/// A proof turned up and down, each beside the check of it.
+fn turned_proofs(list: &mut Vec<Work>) {
+    for (size, stage) in [
+        ("stage 1, 2 rows", stage_1()),
+        ("32 rows", nested(32, false)),
+        ("128 rows", nested(128, false)),
+        ("1,024 rows", nested(1_024, false)),
+        ("1,024 rows and claims", nested(1_024, true)),
+    ] {
+        for (edition, stage) in [(1, stage.clone()), (2, in_edition_2(stage))] {
+            let [_, _, proof] = stage.clone();
+            let name = format!("the proof turned next: edition {edition}, {size}");
+            list.push(check(name, stage, None));
+            list.push(turn(
+                format!("turn a proof: edition {edition}, {size}"),
+                proof,
+                3 - edition,
+                [dulgaverk::turn_proof_into, rust_turn_proof],
+            ));
+        }
+    }
+}
+
+/// Turns a file into an edition, into an output.
+type Turn = fn(&[u8], u8, &mut [u8]) -> Result<usize, dulgaverk::Refusal>;
+
+fn turn(name: String, file: Vec<u8>, to: u8, sides: [Turn; 2]) -> Work {
+    let [rattle, rust] = sides.map(|turn| {
+        let file = file.clone();
+        let side: Side = Box::new(move |times| {
+            let mut out = vec![0; 65_536];
+            (0..times)
+                .map(|_| turn(black_box(file.as_slice()), to, &mut out).unwrap_or(0))
+                .sum()
+        });
+        side
+    });
+    assert!(rattle(1) > 0, "{name}");
+    Work {
+        name,
+        rattle,
+        rust,
+        point: None,
     }
 }
 

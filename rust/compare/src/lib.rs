@@ -10,10 +10,12 @@
 mod reorder;
 mod scheduler;
 mod tally;
+mod turning;
 
 pub use reorder::{reorder, Reorderings};
 pub use scheduler::{play, Calls};
 pub use tally::Tally;
+pub use turning::{turn_back, turn_stage, without_notes, Turnings};
 
 use dulgaverk::{Counts, Edition, Refusal};
 use reference::{Answer, NONE};
@@ -23,12 +25,14 @@ use stages::tree::spot;
 use stages::{Case, Operation};
 
 /// The operations that are compared.
-pub const COMPARED: [Operation; 5] = [
+pub const COMPARED: [Operation; 7] = [
     Operation::Check,
     Operation::Read,
     Operation::Write,
     Operation::Show,
     Operation::Test,
+    Operation::TurnBundle,
+    Operation::TurnProof,
 ];
 
 /// The reference's answer as a result. As in the wrapper, accepted is 0, 0, 0 and no row, step or branch.
@@ -106,13 +110,13 @@ pub fn compare(case: &Case, rng: &mut Rng, tally: &mut Tally) {
         Case::Check { a, b, proof, out } => {
             let needed = reference::check(a, b, proof, &mut vec![0; *out]).written;
             for out in [needed, needed - 1] {
-                let next = Case::Check {
-                    a: a.clone(),
-                    b: b.clone(),
-                    proof: proof.clone(),
-                    out,
-                };
-                call(&next, rng, tally);
+                call(&with_output(case, out), rng, tally);
+            }
+        }
+        Case::TurnBundle { .. } | Case::TurnProof { .. } => {
+            let needed = turned(case);
+            for out in [needed, needed - 1] {
+                call(&with_output(case, out), rng, tally);
             }
         }
         // The outputs of show are tried in the call itself; a test has none.
@@ -120,24 +124,41 @@ pub fn compare(case: &Case, rng: &mut Rng, tally: &mut Tally) {
     }
 }
 
-/// Compares a check whose formula is too long with other outputs: none, one that could hold it, and a longer one.
+/// The bytes that an accepted turn gives.
+fn turned(case: &Case) -> usize {
+    match case.outcome().result {
+        stages::Output::Bytes(bytes) => bytes.len(),
+        _ => 0,
+    }
+}
+
+/// The same check or turn with another output.
+fn with_output(case: &Case, length: usize) -> Case {
+    let mut next = case.clone();
+    if let Case::Check { out, .. } | Case::TurnBundle { out, .. } | Case::TurnProof { out, .. } =
+        &mut next
+    {
+        *out = length;
+    }
+    next
+}
+
+/// Compares a check whose formula is too long, or a turn whose result is, with other outputs: none, one that could hold
+/// it, and a longer one.
 fn longer(case: &Case, rng: &mut Rng, tally: &mut Tally) {
-    let Case::Check { a, b, proof, .. } = case else {
-        return;
+    let answer = match case {
+        Case::Check { a, b, proof, .. } => reference::check(a, b, proof, &mut []).answer,
+        Case::TurnProof { file, edition, .. } => {
+            reference::turn_proof(file, *edition, &mut []).answer
+        }
+        _ => return,
     };
-    let answer = reference::check(a, b, proof, &mut []).answer;
     if (answer.number, answer.file) != (1, 4) {
         return;
     }
     for out in [0, answer.place, answer.place + 9] {
-        let next = Case::Check {
-            a: a.clone(),
-            b: b.clone(),
-            proof: proof.clone(),
-            out,
-        };
-        call(&next, rng, tally);
-        tally.count_too_long();
+        call(&with_output(case, out), rng, tally);
+        tally.count_too_long(case.operation());
     }
 }
 
@@ -225,6 +246,30 @@ fn call(case: &Case, rng: &mut Rng, tally: &mut Tally) -> u8 {
             if r.answer.file == 3 {
                 tally.count_depth(spot(proof, r.answer.place).open.len());
             }
+            let expected = outcome(r.answer, r.written);
+            let kept = expected.is_ok() || lent == before;
+            (
+                number(&expected),
+                verified == expected && lent == other && kept,
+            )
+        }
+        Case::TurnBundle { file, edition, out } => {
+            let before = bytes(rng, *out);
+            let (mut lent, mut other) = (before.clone(), before.clone());
+            let verified = dulgaverk::turn_bundle_into(file, *edition, &mut lent);
+            let r = reference::turn_bundle(file, *edition, &mut other);
+            let expected = outcome(r.answer, r.written);
+            let kept = expected.is_ok() || lent == before;
+            (
+                number(&expected),
+                verified == expected && lent == other && kept,
+            )
+        }
+        Case::TurnProof { file, edition, out } => {
+            let before = bytes(rng, *out);
+            let (mut lent, mut other) = (before.clone(), before.clone());
+            let verified = dulgaverk::turn_proof_into(file, *edition, &mut lent);
+            let r = reference::turn_proof(file, *edition, &mut other);
             let expected = outcome(r.answer, r.written);
             let kept = expected.is_ok() || lent == before;
             (

@@ -1,9 +1,12 @@
 //! Compares the verified operations with the independent checker until so many calls are made.
 
-use compare::{compare, play, reorder, Calls, Reorderings, Tally, COMPARED};
+use compare::{
+    compare, play, reorder, turn_back, turn_stage, Calls, Reorderings, Tally, Turnings, COMPARED,
+};
 use stages::calls::sequence;
 use stages::rng::Rng;
 use stages::table::Size;
+use stages::turning::many_lines;
 use stages::{stream, Class, Operation, CLASSES};
 use std::io::{stderr, IsTerminal};
 use std::process::ExitCode;
@@ -32,6 +35,7 @@ fn main() -> ExitCode {
     let mut tally = Tally::default();
     let mut reorderings = Reorderings::default();
     let mut calls_at_seats = Calls::default();
+    let mut turnings = Turnings::default();
     let mut streams = Vec::new();
     for operation in COMPARED {
         for class in CLASSES {
@@ -48,8 +52,12 @@ fn main() -> ExitCode {
             .take(3)
             .chain(damaged.by_ref().take(3))
             .collect();
-        let calls = sequence(&mut rng, &files, 60);
-        play(&calls, &mut rng, &mut calls_at_seats);
+        let at_seats = sequence(&mut rng, &files, 60);
+        play(&at_seats, &mut rng, &mut calls_at_seats);
+        for _ in 0..8 {
+            let case = many_lines(&mut rng);
+            turn_stage(&case, &mut rng, &mut turnings);
+        }
         for (class, cases) in &mut streams {
             // Limits and edges are dear; most of the rest is random tables and damaged ones.
             let share = match class {
@@ -61,6 +69,11 @@ fn main() -> ExitCode {
             for case in cases.take(share) {
                 compare(&case, &mut rng, &mut tally);
                 reorder(&case, &mut rng, &mut reorderings);
+                turn_back(&case, &mut turnings);
+                // Seven checks each.
+                if rng.chance(1, 4) {
+                    turn_stage(&case, &mut rng, &mut turnings);
+                }
             }
         }
         if told.is_some_and(|last| last.elapsed() >= TOLD_EVERY) {
@@ -75,8 +88,12 @@ fn main() -> ExitCode {
     println!("{tally}");
     println!("{reorderings}");
     println!("{calls_at_seats}");
+    println!("{turnings}");
     println!("seed {seed}, {} s", start.elapsed().as_secs());
-    let differences = tally.differences() + reorderings.differences + calls_at_seats.differences;
+    let differences = tally.differences()
+        + reorderings.differences
+        + calls_at_seats.differences
+        + turnings.differences;
     if differences == 0 {
         ExitCode::SUCCESS
     } else {

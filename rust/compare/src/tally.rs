@@ -11,11 +11,12 @@ const KEPT: usize = 10;
 #[derive(Default)]
 pub struct Tally {
     /// Calls by operation and by number, 0 for accepted.
-    calls: [[u64; 25]; 5],
+    calls: [[u64; 25]; 7],
     /// Refusals of a proof by how many branches they stand inside; the last is for three or more.
     depths: [u64; 4],
-    /// Checks that are refused since the formula is too long, outputs of several lengths counted each.
-    too_long: u64,
+    /// Checks that are refused since the formula is too long, and turns since the result is, outputs of several lengths
+    /// counted each.
+    too_long: [u64; 7],
     /// Checks by the editions of A, B and proof, a bit each that is 1 for edition 2, A's the highest.
     mixes: [u64; 8],
     differences: u64,
@@ -40,9 +41,9 @@ impl Tally {
         self.depths[depth.min(3)] += 1;
     }
 
-    /// Counts a check that is refused since the formula is too long.
-    pub(crate) fn count_too_long(&mut self) {
-        self.too_long += 1;
+    /// Counts a call that is refused since what it would write is too long.
+    pub(crate) fn count_too_long(&mut self, operation: Operation) {
+        self.too_long[operation as usize] += 1;
     }
 
     /// Counts a check of files in these editions.
@@ -58,9 +59,9 @@ impl Tally {
         self.mixes
     }
 
-    /// Checks that were refused since the formula is too long.
-    pub fn too_long(&self) -> u64 {
-        self.too_long
+    /// Calls that were refused since what they would write is too long.
+    pub fn too_long(&self, operation: Operation) -> u64 {
+        self.too_long[operation as usize]
     }
 
     /// Refusals of a proof inside so many branches, three for three or more.
@@ -104,13 +105,24 @@ impl fmt::Display for Tally {
                     f,
                     "    refusals of the proof inside no branch: {none} one: {one} two: {two} three or more: {more}"
                 )?;
-                writeln!(f, "    formulas that are too long: {}", self.too_long)?;
+                writeln!(
+                    f,
+                    "    formulas that are too long: {}",
+                    self.too_long(operation)
+                )?;
                 write!(f, "    editions of A, B and proof:")?;
                 for (index, count) in self.mixes.iter().enumerate() {
                     let [a, b, proof] = [4, 2, 1].map(|bit| 1 + usize::from(index & bit != 0));
                     write!(f, " {a}{b}{proof}: {count}")?;
                 }
                 writeln!(f)?;
+            }
+            if operation == Operation::TurnProof {
+                writeln!(
+                    f,
+                    "    results that are too long: {}",
+                    self.too_long(operation)
+                )?;
             }
         }
         for line in &self.kept {

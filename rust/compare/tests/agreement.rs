@@ -1,10 +1,11 @@
 //! The comparison in the gate: fixed seeds, every class of stages, every operation.
 
-use compare::{compare, play, reorder, Calls, Reorderings, Tally};
+use compare::{compare, play, reorder, turn_back, turn_stage, Calls, Reorderings, Tally, Turnings};
 use reference::NOT_GIVEN;
 use stages::calls::sequence;
 use stages::rng::Rng;
 use stages::table::Size;
+use stages::turning::many_lines;
 use stages::{stream, Class, Operation, CLASSES};
 
 /// So many cases of each class and size; those at the limits have long files, so a part of that.
@@ -54,7 +55,7 @@ fn checking_proofs() {
     for depth in 0..=3 {
         assert!(tally.inside(depth) >= 4_000, "{tally}");
     }
-    assert!(tally.too_long() >= 1_000, "{tally}");
+    assert!(tally.too_long(Operation::Check) >= 1_000, "{tally}");
     // Every mix of editions.
     assert!(
         tally.mixes().iter().all(|&calls| calls >= 10_000),
@@ -95,6 +96,77 @@ fn testing_formulas() {
         100_000,
         &[0, 1, 2, 3, 4, 5, 6, 7, 9, 12, 17, 19, 23],
     );
+}
+
+#[test]
+fn turning_bundles() {
+    agree(
+        Operation::TurnBundle,
+        9,
+        100_000,
+        &[0, 1, 2, 3, 4, 5, 6, 7, 8, 13, 21],
+    );
+}
+
+#[test]
+fn turning_proofs() {
+    let tally = agree(
+        Operation::TurnProof,
+        10,
+        20_000,
+        &[0, 1, 2, 3, 4, 5, 6, 7, 10, 21],
+    );
+    assert!(tally.too_long(Operation::TurnProof) >= 1_000, "{tally}");
+}
+
+/// What is turned and turned back is the file without its notes.
+#[test]
+fn turning_back() {
+    let mut seen = Turnings::default();
+    let mut rng = Rng::new(11);
+    for operation in [Operation::TurnBundle, Operation::TurnProof] {
+        for class in CLASSES {
+            for size in [Size::SMALL, Size::MEDIUM, Size::LARGE] {
+                let cases = stream(operation, class, size, rng.word());
+                for case in cases.take(share(class, 10_000)) {
+                    turn_back(&case, &mut seen);
+                }
+            }
+        }
+    }
+    println!("{seen}");
+    assert_eq!(seen.differences, 0, "{seen}");
+    assert!(seen.back.iter().all(|&files| files > 20_000), "{seen}");
+}
+
+/// Every choice of A, B and proof of an accepted stage, turned: the check gives the same, or 16 where a branch of a proof
+/// that was turned down has more than 128 lines.
+#[test]
+fn checking_turned_files() {
+    let mut seen = Turnings::default();
+    let mut rng = Rng::new(12);
+    for class in CLASSES {
+        for size in [Size::SMALL, Size::MEDIUM, Size::LARGE] {
+            let cases = stream(Operation::Check, class, size, rng.word());
+            for case in cases.take(share(class, 8_000)) {
+                turn_stage(&case, &mut rng, &mut seen);
+            }
+        }
+    }
+    for _ in 0..1_500 {
+        let case = many_lines(&mut rng);
+        turn_stage(&case, &mut rng, &mut seen);
+    }
+    println!("{seen}");
+    assert_eq!(seen.differences, 0, "{seen}");
+    assert!(seen.stages > 20_000, "{seen}");
+    for choice in 1..8 {
+        assert!(seen.checks[choice] > 10_000, "{seen}");
+    }
+    assert!(seen.wide > 1_000 && seen.narrow > 200, "{seen}");
+    for number in [10, 13] {
+        assert!(seen.refused[&number] > 200, "{seen}");
+    }
 }
 
 /// Registers listed in another sequence: random closed tables, damaged ones, and the rest; and formulas, right and wrong.

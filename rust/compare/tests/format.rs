@@ -42,7 +42,8 @@ fn every_refusal_is_in_the_table() {
     }
 }
 
-/// The listings of the page: A, B, the proof and the formula of each worked stage, then a proof with a fault.
+/// The listings of the page: A, B, the proof and the formula of each worked stage, then a proof with a fault, then the
+/// files of the first stage turned.
 fn listings() -> Vec<Vec<u8>> {
     page()
         .split("```text")
@@ -54,7 +55,7 @@ fn listings() -> Vec<Vec<u8>> {
 #[test]
 fn the_worked_stages_are_right() {
     let listings = listings();
-    assert_eq!(listings.len(), 21);
+    assert_eq!(listings.len(), 24);
     for (stage, lengths) in listings.chunks_exact(4).zip([
         [15, 15, 78, 51],
         [19, 30, 51, 75],
@@ -238,6 +239,108 @@ fn the_fault_inside_two_branches() {
         let refusal = dulgaverk::check(a, b, &other).expect_err(fault);
         assert!(page.contains(&table_row(fault, &refusal)), "{refusal:?}");
     }
+}
+
+/// The first stage turned up and down, and what is said of other calls.
+#[test]
+fn the_first_stage_turned() {
+    use dulgaverk::{check, turn_bundle, turn_bundle_into, turn_proof};
+    let page = page();
+    let listings = listings();
+    let [a, b, proof, formula] = &listings[..4] else {
+        panic!("four listings");
+    };
+    let [a_2, b_2, proof_2] = &listings[21..] else {
+        panic!("three listings");
+    };
+    assert_eq!([a_2, b_2, proof_2].map(Vec::len), [19, 19, 71]);
+    assert_eq!(turn_bundle(a, Edition::Two).as_ref(), Ok(a_2));
+    assert_eq!(turn_bundle(b, Edition::Two).as_ref(), Ok(b_2));
+    assert_eq!(turn_proof(proof, Edition::Two).as_ref(), Ok(proof_2));
+    assert_eq!(turn_bundle(a_2, Edition::One).as_ref(), Ok(a));
+    assert_eq!(turn_bundle(b_2, Edition::One).as_ref(), Ok(b));
+    let back = turn_proof(proof_2, Edition::One).expect("turned down");
+    assert_eq!((back.len(), back), (63, compare::without_notes(proof)));
+    for a in [a, a_2] {
+        for b in [b, b_2] {
+            for proof in [proof, proof_2] {
+                assert_eq!(check(a, b, proof).as_ref(), Ok(formula));
+            }
+        }
+    }
+    let folder = PathBuf::from(env!("CARGO_MANIFEST_DIR")).join("../../examples/stage-5-turned");
+    for (name, bytes) in [("a", a_2), ("b", b_2), ("p", proof_2)] {
+        assert_eq!(&fs::read(folder.join(name)).expect("a file"), bytes);
+    }
+
+    let mut large = a_2.clone();
+    large.splice(15..19, 32_768_i32.to_be_bytes());
+    let unknown = [&large[..], &[0x06, 0, 0]].concat();
+    let mut far = proof_2.clone();
+    (far[69], far[70]) = (1, 0);
+    let claimed = [&proof_2[..], &proof_2[24..43]].concat();
+    let longer = [&proof_2[..], &proof_2[66..]].concat();
+    let mut cut = proof.clone();
+    cut[52] = 200;
+    for (words, to, result) in [
+        ("this A", 2, turn_bundle(a_2, Edition::Two)),
+        (
+            "this A",
+            3,
+            turn_bundle_into(a_2, 3, &mut [0; 99]).map(|_| Vec::new()),
+        ),
+        (
+            "this A, into an output of 14 bytes",
+            1,
+            turn_bundle_into(a_2, 1, &mut [0; 14]).map(|_| Vec::new()),
+        ),
+        (
+            "this A with 32,768 in place of -1",
+            1,
+            turn_bundle(&large, Edition::One),
+        ),
+        (
+            "the same with a field of tag 0x06 behind it",
+            1,
+            turn_bundle(&unknown, Edition::One),
+        ),
+        (
+            "the proof, with line 256 in its last row",
+            1,
+            turn_proof(&far, Edition::One),
+        ),
+        (
+            "the proof, with its claim once more behind it",
+            1,
+            turn_proof(&claimed, Edition::One),
+        ),
+        (
+            "the proof, with its last row once more behind it",
+            1,
+            turn_proof(&longer, Edition::One),
+        ),
+        (
+            "the proof of the first stage, with the note's length 200",
+            2,
+            turn_proof(&cut, Edition::Two),
+        ),
+    ] {
+        let told = match &result {
+            Ok(bytes) => format!("accepted, {} bytes;", bytes.len()),
+            Err(refusal) => {
+                let (number, file, place) = (refusal.number, refusal.file, refusal.place);
+                let expected = Refusal::outside(number, file, place);
+                assert_eq!(refusal, &expected);
+                format!("{number}, file {file}, place {place}")
+            }
+        };
+        let row = format!("\n| {words} | {to} | {told}");
+        assert!(page.contains(&row), "{row}");
+    }
+    assert_eq!(
+        check(a, b, &longer).expect_err("behind the root").number,
+        19
+    );
 }
 
 /// A refusal as the page's table of faults has it.

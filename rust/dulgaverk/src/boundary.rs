@@ -15,6 +15,9 @@ pub struct Answer {
 /// A row, step or branch where there is none.
 pub const NONE: u16 = 65_535;
 
+/// The edition that a file is to be turned into.
+pub type AskedEdition = u8;
+
 #[repr(C)]
 pub struct ReadResult {
     pub answer: Answer,
@@ -147,6 +150,20 @@ extern "C" {
         values: *const i32,
         values_len: usize,
     ) -> Tested;
+    pub fn dulgaverk_turn_bundle(
+        file: *const u8,
+        file_len: usize,
+        edition: AskedEdition,
+        out: *mut u8,
+        out_len: usize,
+    ) -> WriteResult;
+    pub fn dulgaverk_turn_proof(
+        file: *const u8,
+        file_len: usize,
+        edition: AskedEdition,
+        out: *mut u8,
+        out_len: usize,
+    ) -> WriteResult;
     pub fn dulgaverk_scheduler_empty() -> Scheduler;
     pub fn dulgaverk_scheduler_submit(state: Scheduler, seat: usize, job: Job) -> Changed;
     pub fn dulgaverk_scheduler_cancel(state: Scheduler, seat: usize) -> Changed;

@@ -1,11 +1,11 @@
 //! The edition of a file.
 
-/// The edition in which a bundle is written.
+/// The edition of a bundle or proof.
 #[derive(Clone, Copy, PartialEq, Eq, PartialOrd, Ord, Hash, Debug)]
 pub enum Edition {
-    /// Numbers of two bytes, 4,096 bytes at most.
+    /// Bundles with numbers of two bytes, 4,096 bytes at most; proofs with line numbers of one.
     One,
-    /// Numbers of four bytes, 8,192 bytes at most.
+    /// Bundles with numbers of four bytes, 8,192 bytes at most; proofs with line numbers of two.
     Two,
 }
 

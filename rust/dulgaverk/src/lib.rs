@@ -341,3 +341,106 @@ pub fn test_formula(formula: &[u8], values: &[i32]) -> Result<bool, Refusal> {
     };
     accepted(r.answer, r.holds)
 }
+
+/// Turns a bundle into the other edition, without its notes: numbers of two bytes become numbers of four, or the other way
+/// round where two bytes hold them.
+///
+/// ```
+/// use dulgaverk::Edition;
+/// // x - 2 ≤ 0, and behind it a note.
+/// let one = b"\x01\0\x01\x01\x02\0\x01\x01\x03\0\x04\0\x01\xFF\xFE\x80\0\x01\x07";
+/// let two = dulgaverk::turn_bundle(one, Edition::Two)?;
+/// assert_eq!(two, b"\x01\0\x01\x02\x02\0\x01\x01\x03\0\x08\0\0\0\x01\xFF\xFF\xFF\xFE");
+/// assert_eq!(dulgaverk::turn_bundle(&two, Edition::One)?, one[..15]);
+/// let refusal = dulgaverk::turn_bundle(&two, Edition::Two).unwrap_err();
+/// assert_eq!((refusal.number, refusal.file, refusal.place), (5, 1, 0));
+///
+/// // Two bytes cannot hold the 40,000 of -x + 40,000 ≤ 0.
+/// let level = b"\x01\0\x01\x02\x02\0\x01\x01\x03\0\x08\xFF\xFF\xFF\xFF\0\0\x9C\x40";
+/// let refusal = dulgaverk::turn_bundle(level, Edition::One).unwrap_err();
+/// assert_eq!((refusal.number, refusal.file, refusal.place), (13, 1, 8));
+/// # Ok::<(), dulgaverk::Refusal>(())
+/// ```
+pub fn turn_bundle(file: &[u8], edition: Edition) -> Result<Vec<u8>, Refusal> {
+    let mut out = vec![0; WRITTEN_BUNDLE];
+    let written = turn_bundle_into(file, edition.number(), &mut out)?;
+    out.truncate(written);
+    Ok(out)
+}
+
+/// Turns a bundle into the edition of a number ([`Edition::number`]), into an output, and gives the number of bytes written.
+///
+/// ```
+/// let two = b"\x01\0\x01\x02\x02\0\x01\x01\x04\0\x08\0\0\0\x03\xFF\xFF\xFF\xFF";
+/// let mut out = [7; 16];
+/// let refusal = dulgaverk::turn_bundle_into(two, 3, &mut out).unwrap_err();
+/// assert_eq!((refusal.number, refusal.file, refusal.place), (5, 4, 0));
+/// let refusal = dulgaverk::turn_bundle_into(two, 1, &mut out[..14]).unwrap_err();
+/// assert_eq!((refusal.number, refusal.file, refusal.place), (21, 4, 15));
+/// assert_eq!(dulgaverk::turn_bundle_into(two, 1, &mut out), Ok(15));
+/// assert_eq!(out, *b"\x01\0\x01\x01\x02\0\x01\x01\x04\0\x04\0\x03\xFF\xFF\x07");
+/// ```
+pub fn turn_bundle_into(file: &[u8], edition: u8, out: &mut [u8]) -> Result<usize, Refusal> {
+    let r = unsafe {
+        boundary::dulgaverk_turn_bundle(
+            file.as_ptr(),
+            file.len(),
+            boundary::AskedEdition::from(edition),
+            out.as_mut_ptr(),
+            out.len(),
+        )
+    };
+    accepted(r.answer, r.count)
+}
+
+/// Turns a proof into the other edition, without its notes: line numbers of one byte become line numbers of two, or the
+/// other way round where one byte holds them. Its rows are not followed: a turned proof is still to be checked, and one
+/// that was turned down may have too many lines on a branch.
+///
+/// ```
+/// use dulgaverk::Edition;
+/// // Stage 3: combine lines 0 and 1, close line 2 by number.
+/// let one = b"\x01\0\x01\x01\x02\0\x01\x01\x10\0\x06\0\x01\0\x01\0\x01\x14\0\x01\x02";
+/// let two = dulgaverk::turn_proof(one, Edition::Two)?;
+/// assert_eq!(two, b"\x01\0\x01\x02\x02\0\x01\x01\x10\0\x08\0\0\0\x01\0\x01\0\x01\x14\0\x02\0\x02");
+/// assert_eq!(dulgaverk::turn_proof(&two, Edition::One)?, one);
+///
+/// // One byte cannot hold line number 256.
+/// let far = b"\x01\0\x01\x02\x02\0\x01\x01\x14\0\x02\x01\0";
+/// let refusal = dulgaverk::turn_proof(far, Edition::One).unwrap_err();
+/// assert_eq!((refusal.number, refusal.file, refusal.place), (10, 3, 8));
+/// # Ok::<(), dulgaverk::Refusal>(())
+/// ```
+pub fn turn_proof(file: &[u8], edition: Edition) -> Result<Vec<u8>, Refusal> {
+    let mut out = vec![0; FORMULA];
+    let written = turn_proof_into(file, edition.number(), &mut out)?;
+    out.truncate(written);
+    Ok(out)
+}
+
+/// Turns a proof into the edition of a number ([`Edition::number`]), into an output, and gives the number of bytes written.
+///
+/// ```
+/// let one = b"\x01\0\x01\x01\x02\0\x01\x01\x14\0\x01\x02";
+/// let mut out = [7; 14];
+/// let refusal = dulgaverk::turn_proof_into(one, 0, &mut out).unwrap_err();
+/// assert_eq!((refusal.number, refusal.file, refusal.place), (5, 4, 0));
+/// let refusal = dulgaverk::turn_proof_into(one, 1, &mut out).unwrap_err();
+/// assert_eq!((refusal.number, refusal.file, refusal.place), (5, 3, 0));
+/// let refusal = dulgaverk::turn_proof_into(one, 2, &mut out[..12]).unwrap_err();
+/// assert_eq!((refusal.number, refusal.file, refusal.place), (21, 4, 13));
+/// assert_eq!(dulgaverk::turn_proof_into(one, 2, &mut out), Ok(13));
+/// assert_eq!(out, *b"\x01\0\x01\x02\x02\0\x01\x01\x14\0\x02\0\x02\x07");
+/// ```
+pub fn turn_proof_into(file: &[u8], edition: u8, out: &mut [u8]) -> Result<usize, Refusal> {
+    let r = unsafe {
+        boundary::dulgaverk_turn_proof(
+            file.as_ptr(),
+            file.len(),
+            boundary::AskedEdition::from(edition),
+            out.as_mut_ptr(),
+            out.len(),
+        )
+    };
+    accepted(r.answer, r.count)
+}

@@ -19,7 +19,7 @@ use std::thread;
 use std::time::Duration;
 
 /// The worked stages as folders under examples/, and the first line that is printed of each.
-const STAGES: [(&str, &str); 34] = [
+const STAGES: [(&str, &str); 36] = [
     ("stage-1", "accepted 31"),
     ("stage-1-mixed", "accepted 31"),
     ("stage-1-reordered", "accepted 31"),
@@ -31,6 +31,7 @@ const STAGES: [(&str, &str); 34] = [
     ("stage-4", "refused 15 file 3 at 17"),
     ("stage-5", "accepted 51"),
     ("stage-5-mixed", "accepted 51"),
+    ("stage-5-turned", "accepted 51"),
     ("stage-6", "accepted 19"),
     ("stage-6-exchanged", "accepted 19"),
     ("stage-7", "refused 20 file 3 at 8"),
@@ -49,6 +50,7 @@ const STAGES: [(&str, &str); 34] = [
     ("stage-interlock-mixed", "accepted 33"),
     ("stage-lines", "accepted 19"),
     ("stage-lines-over", "refused 16 file 3 at 6994"),
+    ("stage-lines-turned", "refused 16 file 3 at 764"),
     ("stage-long", "accepted 19"),
     ("stage-long-over", "refused 1 file 2 at 0"),
     ("stage-rounding-1", "accepted 51"),

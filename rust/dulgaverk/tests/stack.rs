@@ -159,3 +159,27 @@ fn bundles() {
     });
     assert_eq!(same, Ok(true));
 }
+
+/// The largest bundle and the longest proof, there and back.
+#[test]
+fn turning() {
+    let numbers: Vec<i32> = (0..32 * 17).map(|number| 60 * number).collect();
+    let kinds = vec![dulgaverk::Kind::Disequality; 32];
+    let proof = file(
+        16,
+        &[strengthen(255).repeat(6_553), scale(0, 1).repeat(4_680)],
+    );
+    assert_eq!(proof.len(), 54_300);
+    let back = on_stack(OTHER, move || {
+        let bundle = dulgaverk::write_bundle(Edition::One, 16, &kinds, &numbers)?;
+        let wide = dulgaverk::turn_bundle(&bundle, Edition::Two)?;
+        let same = dulgaverk::turn_bundle(&wide, Edition::One)? == bundle;
+        let wide = dulgaverk::turn_proof(&proof, Edition::Two)?;
+        let whole = (
+            wide.len(),
+            dulgaverk::turn_proof(&wide, Edition::One)? == proof,
+        );
+        Ok::<(bool, (usize, bool)), dulgaverk::Refusal>((same, whole))
+    });
+    assert_eq!(back, Ok((true, (65_533, true))));
+}

@@ -2,7 +2,7 @@
 //!
 //! What steers it is the coverage of the Rust checker; the verified code is compared with that on every input.
 
-use compare::{compare, play, Calls, Tally};
+use compare::{compare, play, turn_back, Calls, Tally, Turnings};
 use stages::calls::{Call, Sequence};
 use stages::rng::Rng;
 use stages::Case;
@@ -40,8 +40,8 @@ pub enum Input {
 /// The case or the calls that some bytes stand for; every list of bytes is one.
 pub fn decode(bytes: &[u8]) -> Input {
     let mut reader = Reader(bytes);
-    let case = match reader.byte() % 6 {
-        5 => return Input::AtSeats(sequence(&mut reader)),
+    let case = match reader.byte() % 8 {
+        7 => return Input::AtSeats(sequence(&mut reader)),
         0 => Case::Read {
             kinds: usize::from(reader.byte()),
             numbers: reader.short(),
@@ -87,6 +87,16 @@ pub fn decode(bytes: &[u8]) -> Input {
                 values,
             }
         }
+        5 => Case::TurnBundle {
+            edition: reader.byte(),
+            out: reader.short(),
+            file: reader.rest(),
+        },
+        6 => Case::TurnProof {
+            edition: reader.byte(),
+            out: reader.short(),
+            file: reader.rest(),
+        },
         _ => {
             let out = reader.short();
             let (first, second) = (reader.short(), reader.short());
@@ -218,6 +228,10 @@ pub fn encode(case: &Case) -> Vec<u8> {
             proof,
         ]
         .concat(),
+        Case::TurnBundle { file, edition, out } => {
+            [&[5, *edition], &short(*out)[..], file].concat()
+        }
+        Case::TurnProof { file, edition, out } => [&[6, *edition], &short(*out)[..], file].concat(),
     }
 }
 
@@ -229,6 +243,9 @@ pub fn judge(bytes: &[u8]) {
             let mut tally = Tally::default();
             compare(&case, &mut rng, &mut tally);
             assert_eq!(tally.differences(), 0, "{tally}");
+            let mut turnings = Turnings::default();
+            turn_back(&case, &mut turnings);
+            assert_eq!(turnings.differences, 0, "{}", case.print());
         }
         Input::AtSeats(calls) => {
             let mut seen = Calls::default();

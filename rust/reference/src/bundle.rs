@@ -20,7 +20,7 @@ pub(crate) enum Kind {
 }
 
 /// The tag of a constraint of the first kind; the others follow.
-const TAG_INEQUALITY: u8 = 0x03;
+pub(crate) const TAG_INEQUALITY: u8 = 0x03;
 const TAG_DISEQUALITY: u8 = 0x05;
 /// Kinds are below this.
 const KINDS: u8 = 3;
@@ -106,10 +106,21 @@ impl<'a> Bundle<'a> {
     /// Reads a bundle that is not above the longest of any edition. `wanted` is
     /// A's K when B is read.
     pub fn read(file: &'a [u8], name: u8, wanted: Option<usize>) -> Result<Bundle<'a>, Answer> {
+        Bundle::read_in(file, name, &Edition::ALL, wanted)
+    }
+
+    /// The same, where only some editions are allowed.
+    #[inline]
+    pub fn read_in(
+        file: &'a [u8],
+        name: u8,
+        editions: &[Edition],
+        wanted: Option<usize>,
+    ) -> Result<Bundle<'a>, Answer> {
         let header_fault =
             |HeaderFault(number, place): HeaderFault| Answer::refused(number, name, place);
         let mut fields = Fields::of(file);
-        let edition = read_edition(&mut fields, is_known, Edition::NEWEST).map_err(header_fault)?;
+        let edition = read_edition(&mut fields, is_known, editions).map_err(header_fault)?;
         // Only now is it known how long the file may be.
         length_within(file, edition.bundle_bytes(), name)?;
         let k = read_constants(&mut fields, is_known, wanted).map_err(header_fault)?;
@@ -159,6 +170,11 @@ impl<'a> Bundle<'a> {
         let start = usize::from(*self.starts[..self.count].get(index)?);
         let length = 3 + self.edition.number_bytes() * (self.k + 1);
         Some(&self.file[start..start + length])
+    }
+
+    /// Where the constraints stand in the file, in order.
+    pub fn places(&self) -> impl Iterator<Item = usize> + '_ {
+        self.starts[..self.count].iter().copied().map(usize::from)
     }
 
     /// The constraints in file order.
@@ -294,7 +310,7 @@ fn write_into(
 }
 
 /// Writes numbers that the edition can hold.
-fn put_numbers(edition: Edition, row: &[i32], contents: &mut [u8]) {
+pub(crate) fn put_numbers(edition: Edition, row: &[i32], contents: &mut [u8]) {
     match edition {
         // Two's complement: the lower two bytes are the number in two bytes.
         Edition::One => {

@@ -11,15 +11,15 @@ use crate::header::{
 use crate::limits;
 use crate::line::{Lines, OutOfRange};
 
-const COMBINE: u8 = 0x10;
-const REDUCE: u8 = 0x11;
-const SCALE: u8 = 0x12;
-const STRENGTHEN: u8 = 0x13;
-const CLOSE_BY_NUMBER: u8 = 0x14;
-const CLOSE_BY_STRIDE: u8 = 0x15;
-const ROUND: u8 = 0x16;
-const SPLIT: u8 = 0x17;
-const CLAIM: u8 = 0x20;
+pub(crate) const COMBINE: u8 = 0x10;
+pub(crate) const REDUCE: u8 = 0x11;
+pub(crate) const SCALE: u8 = 0x12;
+pub(crate) const STRENGTHEN: u8 = 0x13;
+pub(crate) const CLOSE_BY_NUMBER: u8 = 0x14;
+pub(crate) const CLOSE_BY_STRIDE: u8 = 0x15;
+pub(crate) const ROUND: u8 = 0x16;
+pub(crate) const SPLIT: u8 = 0x17;
+pub(crate) const CLAIM: u8 = 0x20;
 
 /// Checks a proof over the lines of A and B and writes the interpolant's file.
 pub fn check(a: &[u8], b: &[u8], proof: &[u8], out: &mut [u8]) -> WriteResult {
@@ -51,7 +51,7 @@ fn interpolant(a: &[u8], b: &[u8], proof: &[u8]) -> Result<Vec<u8>, Answer> {
     let header_fault =
         |HeaderFault(number, place): HeaderFault| Answer::refused(number, FILE_PROOF, place);
     let mut fields = Fields::of(proof);
-    let edition = read_edition(&mut fields, is_known, Edition::NEWEST).map_err(header_fault)?;
+    let edition = read_edition(&mut fields, is_known, &Edition::ALL).map_err(header_fault)?;
     read_constants(&mut fields, is_known, Some(a.k)).map_err(header_fault)?;
     let mut table = Table::over(&a, &b, edition, proof.len());
     loop {
@@ -71,7 +71,7 @@ fn interpolant(a: &[u8], b: &[u8], proof: &[u8]) -> Result<Vec<u8>, Answer> {
 }
 
 /// Whether proofs have the tag.
-fn is_known(tag: u8) -> bool {
+pub(crate) fn is_known(tag: u8) -> bool {
     matches!(tag, TAG_EDITION | TAG_CONSTANTS | COMBINE..=SPLIT | CLAIM)
 }
 

@@ -8,10 +8,8 @@ pub enum Edition {
 }
 
 impl Edition {
-    /// All editions, the oldest first.
+    /// All editions, the oldest first. Formulas stay in the first.
     pub const ALL: [Edition; 2] = [Edition::One, Edition::Two];
-    /// The newest edition of bundles and proofs. Formulas stay in the first.
-    pub const NEWEST: Edition = Edition::Two;
 
     /// The edition that a file's first field tells, if there is one of that number.
     pub fn numbered(number: u8) -> Option<Edition> {
@@ -26,6 +24,14 @@ impl Edition {
         match self {
             Edition::One => 1,
             Edition::Two => 2,
+        }
+    }
+
+    /// The one that a file of this edition is turned into.
+    pub fn other(self) -> Edition {
+        match self {
+            Edition::One => Edition::Two,
+            Edition::Two => Edition::One,
         }
     }
 

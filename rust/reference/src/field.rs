@@ -62,7 +62,7 @@ impl<'a> Fields<'a> {
 }
 
 /// Appends a field's tag and length. The length is always below 65,536 here:
-/// no field of a formula has more than 72 bytes of contents.
+/// no field that is made has more than 136 bytes of contents.
 pub(crate) fn push_field_header(out: &mut Vec<u8>, tag: u8, length: u16) {
     let [high, low] = length.to_be_bytes();
     out.extend_from_slice(&[tag, high, low]);

@@ -155,7 +155,7 @@ fn judge(formula: &[u8], values: &[i32]) -> Result<bool, Answer> {
         |HeaderFault(number, place): HeaderFault| Answer::refused(number, FILE_PROOF, place);
     let mut fields = Fields::of(formula);
     // A formula is written in the first edition, whatever its proof is in.
-    read_edition(&mut fields, is_known, Edition::One).map_err(header_fault)?;
+    read_edition(&mut fields, is_known, &[Edition::One]).map_err(header_fault)?;
     // Its K is the number of values, or it is refused.
     read_constants(&mut fields, is_known, Some(k)).map_err(header_fault)?;
     // Their room is made when the first comes: a formula of one part needs none.

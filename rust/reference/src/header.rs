@@ -13,18 +13,17 @@ pub(crate) const TAG_CONSTANTS: u8 = 0x02;
 /// A refusal inside the header: its number and place.
 pub(crate) struct HeaderFault(pub u8, pub usize);
 
-/// Reads 0x01 of a file that may be of any edition up to the newest. `known`
-/// tells the tags that this kind of file has. Refuses with 2, 3, 4, 6 and 5, in
-/// this order.
+/// Reads 0x01 of a file that may be of any of these editions. `known` tells the
+/// tags that this kind of file has. Refuses with 2, 3, 4, 6 and 5, in this order.
 #[inline]
 pub(crate) fn read_edition(
     fields: &mut Fields,
     known: impl Fn(u8) -> bool,
-    newest: Edition,
+    editions: &[Edition],
 ) -> Result<Edition, HeaderFault> {
     let (number, place) = read_byte(fields, known, TAG_EDITION)?;
     Edition::numbered(number)
-        .filter(|&edition| edition <= newest)
+        .filter(|edition| editions.contains(edition))
         .ok_or(HeaderFault(WRONG_EDITION, place))
 }
 

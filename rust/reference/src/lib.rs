@@ -23,6 +23,7 @@ mod header;
 mod line;
 mod scheduler;
 mod show;
+mod turn;
 
 pub use answer::{meaning, Answer, NONE, NOT_GIVEN};
 pub use bundle::{read_bundle, write_bundle, ReadResult, WriteResult};
@@ -31,6 +32,7 @@ pub use edition::Edition;
 pub use formula::{test_formula, TestResult};
 pub use scheduler::{Parts, Scheduler};
 pub use show::{show, show_answer};
+pub use turn::{turn_bundle, turn_proof};
 
 /// The limits that the paper sets; `Edition` has those that go by the edition.
 pub mod limits {

@@ -297,12 +297,13 @@ fn stage_10_sizes() {
 }
 
 /// The folders under examples/ whose fault is a row's: its number, none of them inside a branch.
-const ROWS: [(&str, u16); 5] = [
+const ROWS: [(&str, u16); 6] = [
     ("stage-2", 1),
     ("stage-4", 1),
     ("stage-9-again", 1),
     ("stage-four-bytes-cut", 1),
     ("stage-lines-over", 998),
+    ("stage-lines-turned", 126),
 ];
 
 /// The folders under examples/ with a proof: what the check program is to print of each.
@@ -336,7 +337,7 @@ fn the_examples_expect_these_answers() {
         assert_eq!(printed, expected, "{}", stage.display());
         stages += 1;
     }
-    assert_eq!(stages, 33);
+    assert_eq!(stages, 35);
 }
 
 /// The folders under examples/ with register values: what the guard program is to print of each.

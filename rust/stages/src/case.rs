@@ -12,14 +12,18 @@ pub enum Operation {
     Write,
     Show,
     Test,
+    TurnBundle,
+    TurnProof,
 }
 
-pub const OPERATIONS: [Operation; 5] = [
+pub const OPERATIONS: [Operation; 7] = [
     Operation::Check,
     Operation::Read,
     Operation::Write,
     Operation::Show,
     Operation::Test,
+    Operation::TurnBundle,
+    Operation::TurnProof,
 ];
 
 /// One call: the files and lists lent, and the lengths of the outputs.
@@ -51,6 +55,17 @@ pub enum Case {
     Test {
         formula: Vec<u8>,
         values: Vec<i32>,
+    },
+    /// The edition is the one asked for.
+    TurnBundle {
+        file: Vec<u8>,
+        edition: u8,
+        out: usize,
+    },
+    TurnProof {
+        file: Vec<u8>,
+        edition: u8,
+        out: usize,
     },
 }
 
@@ -85,6 +100,8 @@ impl Case {
             Case::Write { .. } => Operation::Write,
             Case::Show { .. } => Operation::Show,
             Case::Test { .. } => Operation::Test,
+            Case::TurnBundle { .. } => Operation::TurnBundle,
+            Case::TurnProof { .. } => Operation::TurnProof,
         }
     }
 
@@ -92,7 +109,9 @@ impl Case {
     pub fn longest_file(&self) -> usize {
         match self {
             Case::Check { a, b, proof, .. } => a.len().max(b.len()).max(proof.len()),
-            Case::Read { file, .. } => file.len(),
+            Case::Read { file, .. }
+            | Case::TurnBundle { file, .. }
+            | Case::TurnProof { file, .. } => file.len(),
             Case::Write { .. } => 0,
             Case::Show { a, b, .. } => a.len().max(b.len()),
             Case::Test { formula, .. } => formula.len(),
@@ -100,12 +119,13 @@ impl Case {
     }
 
     /// The length of the longest file, that of a formula which a check writes
-    /// or finds too long among them.
+    /// or finds too long among them, and that of a turned file.
     pub fn largest_file(&self) -> usize {
         let Outcome { answer, result } = self.outcome();
-        let made = match (self, result) {
-            (Case::Check { .. }, Output::Bytes(bytes)) => bytes.len(),
-            (Case::Check { .. }, _) if (answer.number, answer.file) == (1, 4) => answer.place,
+        let made = match (self.operation(), result) {
+            (Operation::Write, _) => 0,
+            (_, Output::Bytes(bytes)) => bytes.len(),
+            _ if (answer.number, answer.file) == (1, 4) => answer.place,
             _ => 0,
         };
         made.max(self.longest_file())
@@ -167,6 +187,18 @@ impl Case {
                 let result = reference::test_formula(formula, values);
                 (result.answer, Output::Verdict(result.holds))
             }
+            Case::TurnBundle { file, edition, out } => {
+                let mut output = vec![0; *out];
+                let result = reference::turn_bundle(file, *edition, &mut output);
+                output.truncate(result.written);
+                (result.answer, Output::Bytes(output))
+            }
+            Case::TurnProof { file, edition, out } => {
+                let mut output = vec![0; *out];
+                let result = reference::turn_proof(file, *edition, &mut output);
+                output.truncate(result.written);
+                (result.answer, Output::Bytes(output))
+            }
         };
         Outcome {
             answer,
@@ -223,6 +255,18 @@ impl Case {
                 text.push_str("test ");
                 push_bytes(&mut text, formula);
                 push_list(&mut text, values);
+            }
+            Case::TurnBundle { file, edition, out } => {
+                text.push_str("turn-bundle ");
+                push_bytes(&mut text, file);
+                push(&mut text, edition);
+                push(&mut text, out);
+            }
+            Case::TurnProof { file, edition, out } => {
+                text.push_str("turn-proof ");
+                push_bytes(&mut text, file);
+                push(&mut text, edition);
+                push(&mut text, out);
             }
         }
         let Outcome { answer, result } = self.outcome();

@@ -10,6 +10,7 @@ use crate::rng::Rng;
 use crate::rounding::{damaged, exact, rounded};
 use crate::stride::{closes, near_miss};
 use crate::turn::mix_aimed;
+use crate::turning;
 use reference::Edition;
 
 /// A case and the number that it is made to be answered with.
@@ -103,6 +104,7 @@ pub fn directed(rng: &mut Rng, operation: Operation) -> Vec<Aimed> {
         Operation::Write => writes(rng),
         Operation::Show => shows(rng),
         Operation::Test => tests(rng),
+        Operation::TurnBundle | Operation::TurnProof => turning::directed(rng, operation),
     };
     for aimed in &mut cases {
         mix_aimed(rng, aimed);
@@ -111,7 +113,7 @@ pub fn directed(rng: &mut Rng, operation: Operation) -> Vec<Aimed> {
 }
 
 /// Bundles that are refused, K of the sound one being given.
-fn broken_bundles(rng: &mut Rng, base: &Base) -> Vec<(u8, Vec<u8>)> {
+pub(crate) fn broken_bundles(rng: &mut Rng, base: &Base) -> Vec<(u8, Vec<u8>)> {
     let k = base.k;
     let mut lines = [base.inequality(1, 2), base.equality(3, 4)];
     if rng.chance(1, 2) {

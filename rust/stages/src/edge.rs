@@ -9,6 +9,7 @@ use crate::other;
 use crate::rng::Rng;
 use crate::rounding::{exact, random_by, rounded};
 use crate::turn::mix_aimed;
+use crate::turning;
 use reference::Edition;
 
 /// A case of an operation at one of its limits, with the number that it is made to be answered with, in every mix of
@@ -69,6 +70,7 @@ fn some_edge(rng: &mut Rng, operation: Operation) -> Aimed {
             1 => long_formula(rng, over),
             _ => large_values(rng, over),
         },
+        Operation::TurnBundle | Operation::TurnProof => turning::edge(rng, operation, over),
     }
 }
 
@@ -90,7 +92,7 @@ fn notes(rng: &mut Rng, bytes: usize) -> Vec<Vec<u8>> {
 }
 
 /// The fields with notes in random places, so many bytes in all.
-fn filled(rng: &mut Rng, fields: Vec<Vec<u8>>, length: usize) -> Vec<u8> {
+pub(crate) fn filled(rng: &mut Rng, fields: Vec<Vec<u8>>, length: usize) -> Vec<u8> {
     let used: usize = fields.iter().map(Vec::len).sum();
     let mut places: Vec<Vec<Vec<u8>>> = vec![Vec::new(); fields.len() + 1];
     for note in notes(rng, length - used) {

@@ -3,10 +3,12 @@
 
 use crate::build::*;
 use crate::case::{Case, Operation};
+use crate::damage::edition_of;
 use crate::directed::{check, Aimed};
 use crate::other;
 use crate::rng::Rng;
 use crate::table::{closed_table_in, random_editions, Size, Table};
+use crate::turning::turn;
 use reference::limits::BUNDLE_BYTES;
 use reference::Edition;
 
@@ -160,7 +162,15 @@ pub fn heavy(rng: &mut Rng, operation: Operation) -> Vec<Aimed> {
                     },
                 ));
             }
-            Operation::Write | Operation::Test => {}
+            // Refused as in reading.
+            Operation::TurnBundle => {
+                let to = edition_of(&long).other().number();
+                // One that is accepted may have numbers that two bytes cannot hold.
+                if (number, to) != (0, 1) {
+                    cases.push((number, turn(operation, long, to)));
+                }
+            }
+            Operation::Write | Operation::Test | Operation::TurnProof => {}
         }
     }
     if operation == Operation::Check {
@@ -278,7 +288,11 @@ pub fn light(rng: &mut Rng, operation: Operation) -> Vec<Aimed> {
                     cases.push((aim, write_with(rng, edition, number)));
                 }
             }
-            Operation::Test => {}
+            Operation::TurnBundle => {
+                let aim = if Edition::One.holds(number) { 0 } else { 13 };
+                cases.push((aim, turn(operation, bundle, 1)));
+            }
+            Operation::Test | Operation::TurnProof => {}
         }
     }
     match operation {
@@ -361,6 +375,14 @@ fn ranges() -> Vec<Aimed> {
 
 /// 1,000 lines on a branch of edition 2 or one more, some of them from steps.
 pub fn many_lines(rng: &mut Rng, over: bool) -> Aimed {
+    let number = if over { 16 } else { 0 };
+    let most = 1_000 + usize::from(over);
+    (number, lines_on_a_branch(rng, most, most))
+}
+
+/// A check of an edition 2 proof with so many lines on a branch, which names only
+/// lines below a number.
+pub fn lines_on_a_branch(rng: &mut Rng, most: usize, below: usize) -> Case {
     let rows = SECOND;
     let [of_a, of_b, _] = random_editions(rng);
     let lines = [(0, [1, 0]), (1, [0, 1]), (2, [1, 0])];
@@ -378,7 +400,7 @@ pub fn many_lines(rng: &mut Rng, over: bool) -> Aimed {
     let mut closes = 24;
     let mut waiting = 0;
     let mut count = 3;
-    while count < 1_000 + usize::from(over) {
+    while count < most {
         let (step, branches) = match rng.below(2) {
             0 => (rows.strengthen(0), 3),
             _ => (rows.split(2), 2),
@@ -391,7 +413,7 @@ pub fn many_lines(rng: &mut Rng, over: bool) -> Aimed {
             waiting += branches - 1 - branch;
         } else {
             // Any line but the disequality.
-            let line = match rng.below(count) {
+            let line = match rng.below(count.min(below)) {
                 2 => 0,
                 line => line,
             };
@@ -403,8 +425,7 @@ pub fn many_lines(rng: &mut Rng, over: bool) -> Aimed {
         count += 1;
     }
     fields.push(rows.close(1).repeat(1 + waiting));
-    let proof = file_of(Edition::Two, 1, &fields);
-    (if over { 16 } else { 0 }, check(a, b, proof))
+    check(a, b, file_of(Edition::Two, 1, &fields))
 }
 
 /// A table with long branches in edition 2.

@@ -24,6 +24,7 @@ pub mod table;
 pub mod tie;
 pub mod tree;
 pub mod turn;
+pub mod turning;
 
 pub use case::{Case, Operation, Outcome, Output, OPERATIONS};
 pub use list::{heavy_list, list, HEAVY};

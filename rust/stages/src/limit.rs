@@ -10,6 +10,7 @@ use crate::rng::Rng;
 use crate::rounding::{exact, MOST};
 use crate::table::{closed_table, Size, Table};
 use crate::turn::mix_aimed;
+use crate::turning;
 use reference::Edition;
 
 /// The cases of one operation with short files, in every mix of editions.
@@ -20,6 +21,7 @@ pub fn light(rng: &mut Rng, operation: Operation) -> Vec<Aimed> {
         Operation::Write => writes(rng),
         Operation::Show => shows(1),
         Operation::Test => light_tests(rng),
+        Operation::TurnBundle | Operation::TurnProof => turning::light(rng, operation),
     };
     cases.extend(editions::light(rng, operation));
     for aimed in &mut cases {
@@ -36,6 +38,7 @@ pub fn heavy(rng: &mut Rng, operation: Operation) -> Vec<Aimed> {
         Operation::Write => Vec::new(),
         Operation::Show => heavy_shows(rng),
         Operation::Test => heavy_tests(rng),
+        Operation::TurnBundle | Operation::TurnProof => turning::heavy(rng, operation),
     };
     for aimed in &mut cases {
         mix_aimed(rng, aimed);

@@ -32,8 +32,8 @@ pub fn list(seed: u64, count: usize, light: bool) -> Vec<(Class, Case)> {
         for (number, case) in aimed {
             let heavy = case.largest_file() > HEAVY;
             let file = case.outcome().answer.file;
-            // A formula that is too long is for the heavy list: all of it
-            // would have to be evaluated.
+            // A formula or turned file that is too long is for the heavy list:
+            // all of it would have to be evaluated.
             if heavy && (light || (number, file) == (1, 4)) {
                 continue;
             }
@@ -50,6 +50,7 @@ pub fn list(seed: u64, count: usize, light: bool) -> Vec<(Class, Case)> {
         let share = match operation {
             Operation::Check => 22,
             Operation::Test => 8,
+            Operation::TurnProof => 8,
             _ => 4,
         };
         aimed.retain(|(_, case)| case.largest_file() <= HEAVY);
@@ -86,7 +87,8 @@ pub fn list(seed: u64, count: usize, light: bool) -> Vec<(Class, Case)> {
             14..=15 => Operation::Read,
             16 => Operation::Write,
             17 => Operation::Show,
-            _ => Operation::Test,
+            18 => Operation::Test,
+            _ => *rng.pick(&[Operation::TurnBundle, Operation::TurnProof]),
         };
         let case = match class {
             Class::Sound => sound(&mut rng, operation, &Size::SMALL),

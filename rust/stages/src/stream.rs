@@ -6,7 +6,7 @@ use crate::rng::Rng;
 use crate::table::{careless_table, closed_table, Size, Table};
 use crate::tie::tied;
 use crate::turn::{mix, turned_up};
-use crate::{deep, directed, edge, limit, other, rounding};
+use crate::{deep, directed, edge, limit, other, rounding, turning};
 use reference::Edition;
 
 /// What sort of cases are wanted.
@@ -85,7 +85,7 @@ impl Iterator for Stream {
 }
 
 /// How much longer or shorter an output is than needed, mostly not at all.
-fn near(rng: &mut Rng, needed: usize) -> usize {
+pub(crate) fn near(rng: &mut Rng, needed: usize) -> usize {
     match rng.below(8) {
         0 => needed.saturating_sub(1),
         1 => rng.below(needed + 1),
@@ -145,12 +145,13 @@ pub fn sound(rng: &mut Rng, operation: Operation, size: &Size) -> Case {
             let values = (0..k).map(|_| other::value(rng)).collect();
             Case::Test { formula, values }
         }
+        Operation::TurnBundle | Operation::TurnProof => turning::sound(rng, operation, size),
     }
 }
 
 /// A table that is accepted: mostly a closed one as it is made, or with its
 /// ties, or one rounded line.
-fn some_table(rng: &mut Rng, size: &Size) -> Table {
+pub(crate) fn some_table(rng: &mut Rng, size: &Size) -> Table {
     match rng.below(10) {
         0 => {
             let table = rounding::rounded(rng, size.constants);
@@ -207,7 +208,12 @@ pub fn damaged(rng: &mut Rng, operation: Operation, size: &Size) -> Case {
         mix(rng, &mut case);
         return case;
     }
-    let mut case = sound(rng, operation, size);
+    let mut case = match operation {
+        Operation::TurnBundle | Operation::TurnProof if rng.chance(1, 3) => {
+            turning::large(rng, operation, size)
+        }
+        _ => sound(rng, operation, size),
+    };
     let times = if rng.chance(1, 4) { 2 } else { 1 };
     let k = 1 + rng.below(size.constants);
     for _ in 0..times {
@@ -263,6 +269,14 @@ pub fn damaged(rng: &mut Rng, operation: Operation, size: &Size) -> Case {
                 }
                 _ => damage(rng, formula, values.len()),
             },
+            Case::TurnBundle { file, edition, out } | Case::TurnProof { file, edition, out } => {
+                match rng.below(10) {
+                    0 => *edition = rng.below(4) as u8,
+                    1 => *out = rng.below(*out + 1),
+                    2 => {}
+                    _ => damage(rng, file, k),
+                }
+            }
         }
     }
     case
@@ -320,5 +334,6 @@ pub fn random(rng: &mut Rng, operation: Operation) -> Case {
                 values: (0..k).map(|_| other::value(rng)).collect(),
             }
         }
+        Operation::TurnBundle | Operation::TurnProof => turning::random(rng, operation, k),
     }
 }

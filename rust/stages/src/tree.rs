@@ -60,3 +60,24 @@ fn branch<'a>(fields: &mut impl Iterator<Item = &'a [u8]>, found: &mut Spot) -> 
     }
     false
 }
+
+/// The most lines on a branch of a proof that is right, over bundles of so many.
+pub fn widest(proof: &[u8], lines: usize) -> usize {
+    let mut fields = fields(proof).into_iter().map(|part| &proof[part]);
+    widest_branch(&mut fields, lines)
+}
+
+fn widest_branch<'a>(fields: &mut impl Iterator<Item = &'a [u8]>, mut lines: usize) -> usize {
+    while let Some(field) = fields.next() {
+        match field[0] {
+            0x10..=0x12 => lines += 1,
+            0x13 | 0x16 | 0x17 => {
+                let each = (0..branches(field)).map(|_| widest_branch(fields, lines + 1));
+                return each.max().unwrap_or(lines);
+            }
+            0x14 | 0x15 => return lines,
+            _ => {}
+        }
+    }
+    lines
+}

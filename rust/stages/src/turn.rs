@@ -88,7 +88,11 @@ pub fn mix(rng: &mut Rng, case: &mut Case) {
             turn(a, BUNDLE_BYTES);
             turn(b, BUNDLE_BYTES);
         }
-        Case::Write { .. } | Case::Test { .. } => {}
+        // A file that is turned has its edition for that.
+        Case::Write { .. }
+        | Case::Test { .. }
+        | Case::TurnBundle { .. }
+        | Case::TurnProof { .. } => {}
     }
 }
 

@@ -93,6 +93,8 @@ fn edge_cases_meet_their_number_on_both_sides() {
             Operation::Write => &[0, 8, 13, 21],
             Operation::Show => &[0, 10],
             Operation::Test => &[0, 1, 17, 23],
+            Operation::TurnBundle => &[0, 1, 8, 13],
+            Operation::TurnProof => &[0, 1, 10],
         };
         assert_eq!(met, all.iter().copied().collect(), "{operation:?}");
     }
@@ -134,6 +136,13 @@ fn all_answers(operation: Operation) -> Vec<(u8, u8)> {
             // 1 for a formula that is too long.
             of(4, &[1, 21]),
         ],
+        Operation::TurnBundle => vec![accepted, of(1, &bundle), of(4, &[5, 21])],
+        // 1 for a result that is too long, which a bundle's never is.
+        Operation::TurnProof => vec![
+            accepted,
+            of(3, &[1, 2, 3, 4, 5, 6, 7, 10]),
+            of(4, &[1, 5, 21]),
+        ],
     };
     parts.concat()
 }
@@ -151,8 +160,9 @@ fn the_list_covers_every_refusal() {
                 .map(|answer| (answer.number, answer.file))
                 .collect();
             let mut all: BTreeSet<(u8, u8)> = all_answers(operation).into_iter().collect();
-            // A formula that is too long has many parts to be evaluated.
-            if operation == Operation::Check {
+            // A formula that is too long has many parts to be evaluated, and so
+            // has a turned proof.
+            if matches!(operation, Operation::Check | Operation::TurnProof) {
                 assert!(all.remove(&(1, 4)));
             }
             assert_eq!(met, all, "{operation:?} with seed {seed}");
@@ -286,6 +296,22 @@ fn parse(line: &str) -> (Case, Vec<String>) {
                 values: numbers(words[2]),
             },
             3,
+        ),
+        "turn-bundle" => (
+            Case::TurnBundle {
+                file: bytes(1),
+                edition: number(2) as u8,
+                out: number(3),
+            },
+            4,
+        ),
+        "turn-proof" => (
+            Case::TurnProof {
+                file: bytes(1),
+                edition: number(2) as u8,
+                out: number(3),
+            },
+            4,
         ),
         other => panic!("{other}"),
     };

@@ -36,6 +36,7 @@ use Rattle.formula.specs.Formula.{encode, formulaFile, formulaTagged, compound,
 use Rattle.formula.specs.Test.{holds, judge, tested, judged, testFormula}
 use Rattle.proof.specs.Entries.{entryTagged, inPlace, lineNumber, multiplier, sizeOf, entryFrom, entry}
 use Rattle.proof.specs.Rows.{is, plainKind, owner, fails, equals, sameForm, lineAt, derived, fitting, undivided, inequality, roundable, disequality, byNumber, byStride, states}
+use Rattle.conversion.specs.Turning.{asked, otherEdition, eachField, numbersFit, resultWithin, bundleTurned, behindHeader, entriesRead, lineCount, madeBy, unsigneds, linesFit, unsignedsBytes, linesTurned, fieldsTurned, proofTurned, turnBundle, turnProof}
 use Rattle.proof.specs.Check.{checkRounded, checkSplit, checkRow, checkEntry, checkEntries, checkBranch, checkProof, formulaAtMost, interpolant, checkBy, check}
 use Rattle.scheduler.specs.Scheduler.{empty, isWaiting, submission, cancellation, nextFrom, nextSeat, checkJob, turnAt, turn as turned}
 use Rattle.scheduler.specs.Promises.{changed}
@@ -55,6 +56,10 @@ const SHOW: &str = "nth partOf constraintPart shownPart answerOf showAnswer hand
 const SEATS: &str =
     "isWaiting submission cancellation nextFrom nextSeat checkJob turnAt turned changed";
 const TEST: &str = "each sum value finished formulaTagged compound formulaSize formulaOf formulaField twoParts formulaWithin readFormula holds judge tested judged testFormula";
+
+const TURN_BUNDLE: &str =
+    "asked otherEdition behindHeader eachField each kindNumber kindsOf numbersOf numbersFit constraintsBytes holdable bundleBytes resultWithin bundleTurned turnBundle";
+const TURN_PROOF: &str = "asked otherEdition eachField atMost formBytes finished entryTagged inPlace lineNumber multiplier sizeOf entryFrom entry behindHeader entriesRead lineCount madeBy unsigneds linesFit unsignedsBytes linesTurned fieldsTurned resultWithin proofTurned turnProof";
 
 fn list(items: impl Iterator<Item = String>) -> String {
     let mut text = String::new();
@@ -149,6 +154,22 @@ fn call(word: &str) -> String {
     }
 }
 
+/// A turn's statement: what the definition of this name gives.
+fn turned(
+    name: &str,
+    edition: &str,
+    file: &str,
+    words: &[&str],
+    lent: &str,
+    output: &str,
+) -> String {
+    format!(
+        "{name} {edition} {} (replicate {lent} 0xAA) ≡ {}",
+        bytes(file),
+        written(words, lent, output)
+    )
+}
+
 /// The statement of a case, and the names that its evaluation opens.
 fn statement(case: &[&str]) -> (String, String) {
     match case {
@@ -226,6 +247,14 @@ fn statement(case: &[&str]) -> (String, String) {
                 format!("{SHARED} {BUNDLES} {WRITING} {CHECK} {SEATS}"),
             )
         }
+        ["turn-bundle", file, edition, lent, words @ .., output] => (
+            turned("turnBundle", edition, file, words, lent, output),
+            format!("{SHARED} {BUNDLES} {WRITING} {TURN_BUNDLE}"),
+        ),
+        ["turn-proof", file, edition, lent, words @ .., output] => (
+            turned("turnProof", edition, file, words, lent, output),
+            format!("{SHARED} {WRITING} {TURN_PROOF}"),
+        ),
         other => panic!("no case: {other:?}"),
     }
 }

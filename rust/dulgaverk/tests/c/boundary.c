@@ -361,6 +361,97 @@ static void editions(void) {
     UNCHANGED(out);
 }
 
+/* Stage 1's B and proof turned up and down again; then each refusal. */
+static void turning(void) {
+    static const uint8_t b2[] = {0x01, 0, 1,    2,    0x02, 0,    1, 3, 0x04, 0, 16, 0, 0, 0,
+                                 0,    0xFF, 0xFF, 0xFF, 0xFF, 0, 0, 0, 2,    0, 0,  0, 1};
+    static const uint8_t noted[] = {0x90, 0, 1, 7, 0x01, 0, 1, 1, 0x02, 0, 1, 3,    0xFF, 0, 0, 0x11, 0,    4,
+                                    1,    0, 0, 1, 0x80, 0, 1, 9, 0x15, 0, 3, 2, 0, 2, 0x80, 0, 0};
+    static const uint8_t plain[] = {0x01, 0, 1, 1, 0x02, 0, 1, 3, 0x11, 0, 4, 1, 0, 0, 1, 0x15, 0, 3, 2, 0, 2};
+    static const uint8_t wider[] = {0x01, 0, 1, 2, 0x02, 0, 1, 3, 0x11, 0, 6, 0,
+                                    1,    0, 0, 0, 1,    0x15, 0, 4, 0, 2, 0, 2};
+    uint8_t out[40], other[sizeof b2];
+    FILL(out);
+    static const uint8_t long_file[DULGAVERK_PROOF + 1];
+    /* The edition asked for comes first. */
+    for (unsigned asked = 0; asked < 256; asked += asked == 0 ? 3 : 1) {
+        dulgaverk_write_result r = dulgaverk_turn_bundle(long_file, sizeof long_file, asked, out, 0);
+        EXPECT(is(r.answer, 5, 4, 0) && r.count == 0);
+        r = dulgaverk_turn_proof(NULL, 0, asked, out, sizeof out);
+        EXPECT(is(r.answer, 5, 4, 0) && r.count == 0);
+    }
+    dulgaverk_write_result r = dulgaverk_turn_bundle(long_file, DULGAVERK_BUNDLE + 1, 2, out, sizeof out);
+    EXPECT(is(r.answer, 1, 1, 0) && r.count == 0);
+    r = dulgaverk_turn_proof(long_file, sizeof long_file, 2, out, sizeof out);
+    EXPECT(is(r.answer, 1, 3, 0) && r.count == 0);
+    r = dulgaverk_turn_bundle(NULL, 0, 1, out, sizeof out);
+    EXPECT(is(r.answer, 2, 1, 0) && r.count == 0);
+    r = dulgaverk_turn_proof(NULL, 0, 2, out, sizeof out);
+    EXPECT(is(r.answer, 2, 3, 0) && r.count == 0);
+    /* The edition that the file has already, and one that is none. */
+    r = dulgaverk_turn_bundle(b2, sizeof b2, 2, out, sizeof out);
+    EXPECT(is(r.answer, 5, 1, 0) && r.count == 0);
+    r = dulgaverk_turn_proof(noted, sizeof noted, 1, out, sizeof out);
+    EXPECT(is(r.answer, 5, 3, 4) && r.count == 0);
+    memcpy(other, b2, sizeof b2);
+    other[3] = 3;
+    r = dulgaverk_turn_bundle(other, sizeof other, 1, out, sizeof out);
+    EXPECT(is(r.answer, 5, 1, 0) && r.count == 0);
+    /* 40,000 in two bytes, and line 512 in one. */
+    r = dulgaverk_turn_bundle(wide, sizeof wide, 1, out, sizeof out);
+    EXPECT(is(r.answer, 13, 1, 8) && r.count == 0);
+    memcpy(other, wider, sizeof wider);
+    other[20] = 2;
+    r = dulgaverk_turn_proof(other, sizeof wider, 1, out, sizeof out);
+    EXPECT(is(r.answer, 10, 3, 17) && r.count == 0);
+    /* One byte too short. */
+    r = dulgaverk_turn_bundle(b, sizeof b, 2, out, sizeof b2 - 1);
+    EXPECT(is(r.answer, 21, 4, sizeof b2) && r.count == 0);
+    r = dulgaverk_turn_bundle(b, sizeof b, 2, NULL, 0);
+    EXPECT(is(r.answer, 21, 4, sizeof b2) && r.count == 0);
+    r = dulgaverk_turn_proof(noted, sizeof noted, 2, out, sizeof wider - 1);
+    EXPECT(is(r.answer, 21, 4, sizeof wider) && r.count == 0);
+    UNCHANGED(out);
+    r = dulgaverk_turn_bundle(b, sizeof b, 2, out, sizeof out);
+    EXPECT(is(r.answer, 0, 0, 0) && r.count == sizeof b2);
+    EXPECT(memcmp(out, b2, sizeof b2) == 0 && all(out + sizeof b2, sizeof out - sizeof b2, 0xA5));
+    FILL(out);
+    r = dulgaverk_turn_bundle(b2, sizeof b2, 1, out, sizeof out);
+    EXPECT(is(r.answer, 0, 0, 0) && r.count == sizeof b);
+    EXPECT(memcmp(out, b, sizeof b) == 0 && all(out + sizeof b, sizeof out - sizeof b, 0xA5));
+    FILL(out);
+    r = dulgaverk_turn_proof(noted, sizeof noted, 2, out, sizeof out);
+    EXPECT(is(r.answer, 0, 0, 0) && r.count == sizeof wider);
+    EXPECT(memcmp(out, wider, sizeof wider) == 0 && all(out + sizeof wider, sizeof out - sizeof wider, 0xA5));
+    FILL(out);
+    r = dulgaverk_turn_proof(wider, sizeof wider, 1, out, sizeof out);
+    EXPECT(is(r.answer, 0, 0, 0) && r.count == sizeof plain);
+    EXPECT(memcmp(out, plain, sizeof plain) == 0 && all(out + sizeof plain, sizeof out - sizeof plain, 0xA5));
+    /* The longest result, and one byte more. */
+    static uint8_t rows[8 + 4 * 13102 + 14 + 1], turned[DULGAVERK_PROOF];
+    memcpy(rows, plain, 8);
+    size_t length = 8;
+    for (int i = 0; i < 13102; i += 1) {
+        memcpy(rows + length, "\x14\0\1\3", 4);
+        length += 4;
+    }
+    memcpy(rows + length, "\x11\0\4\0\0\0\1\x11\0\4\0\0\0\1", 14);
+    length += 14;
+    r = dulgaverk_turn_proof(rows, length, 2, turned, sizeof turned);
+    EXPECT(is(r.answer, 0, 0, 0) && r.count == DULGAVERK_PROOF);
+    FILL(turned);
+    /* 13,103 closes and two scales: 65,537. */
+    length = 8 + 4 * 13102;
+    memcpy(rows + length, "\x14\0\1\3\x12\0\3\0\0\1", 10);
+    length += 10;
+    static uint8_t longer[sizeof rows + 6];
+    memcpy(longer, rows, length);
+    memcpy(longer + length, "\x12\0\3\0\0\1", 6);
+    r = dulgaverk_turn_proof(longer, length + 6, 2, turned, sizeof turned);
+    EXPECT(is(r.answer, 1, 4, DULGAVERK_PROOF + 1) && r.count == 0);
+    UNCHANGED(turned);
+}
+
 static bool same(dulgaverk_scheduler a, dulgaverk_scheduler b) {
     return memcmp(&a, &b, sizeof a) == 0;
 }
@@ -442,5 +533,6 @@ int main(void) {
     editions();
     testing();
     scheduling();
+    turning();
     return differences < 100 ? differences : 100;
 }

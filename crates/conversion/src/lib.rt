@@ -1,0 +1,1 @@
+// Turning a bundle or a proof into the other edition (document 02, point 4): what it means and what stays. No code.

@@ -1,0 +1,2 @@
+-- Laws of the bytes written.
+pub mod Putting

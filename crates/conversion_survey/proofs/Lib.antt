@@ -1,0 +1,2 @@
+-- Each way through a field of a proof that is turned.
+pub mod Ways

@@ -1,0 +1,2 @@
+-- A proof gone over.
+pub mod Going

@@ -1,0 +1,46 @@
+-- `convert::write_again` meets its contract. Assumes nothing.
+use Rattle.convert.proofs.Unheld.{again-other, again-13}
+use borrow.Author.Needs.{needs}
+use Rattle.convert.proofs.write_again.Statement.{statement}
+use Rattle.convert.proofs.write_again.Tie as tie
+
+write-requires : tie.Need-write-requires
+write-requires c κs = search needs
+
+add-place-of : tie.Need-add-place-of
+add-place-of c = search needs
+
+div-place-of : tie.Need-div-place-of
+div-place-of c = search needs
+
+place-of-requires : tie.Need-place-of-requires
+place-of-requires c κs = search needs
+
+refused-requires : tie.Need-refused-requires
+refused-requires c κs = search needs
+
+same-length : tie.Need-same-length
+same-length c = search needs
+
+returns : tie.Need-returns
+returns c = again-13 (c .before .before .before .before .before .before .before .before .before .before .args .to) (c .before .before .before .before .before .before .before .before .before .before .args .file .now) (c .before .before .before .before .before .before .before .before .before .before .args .k) (c .before .before .before .before .before .before .before .before .before .before .args .kinds .now) (c .before .before .before .before .before .before .before .before .before .before .args .numbers .now) (c .before .before .before .before .before .before .before .before .before .before .pre) (c .before .before .before .before .before .before .before .before .before .before .args .out .now) _ (c .before .before .before .before .before .write .result) (c .before .before .before .before .before .write .ensures) _ _ (c .before .before .if1 .taken) (c .before .place-of .ensures) (c .refused .ensures)
+
+same-length-2 : tie.Need-same-length-2
+same-length-2 c = search needs
+
+returns-2 : tie.Need-returns-2
+returns-2 c = again-other (c .before .before .before .before .before .before .before .before .args .to) (c .before .before .before .before .before .before .before .before .args .file .now) (c .before .before .before .before .before .before .before .before .args .k) (c .before .before .before .before .before .before .before .before .args .kinds .now) (c .before .before .before .before .before .before .before .before .args .numbers .now) (c .before .before .before .before .before .before .before .before .pre) (c .before .before .before .before .before .before .before .before .args .out .now) _ (c .before .before .before .write .result) (c .before .before .before .write .ensures) (c .if1 .left)
+
+pub write-again-spec : {M : Type 1} → statement M
+write-again-spec =
+    tie.close
+    (tie.spec
+    write-requires
+    add-place-of
+    div-place-of
+    place-of-requires
+    refused-requires
+    same-length
+    returns
+    same-length-2
+    returns-2)

@@ -1,0 +1,49 @@
+-- What the functions that turn a file know on the way. Assumes nothing.
+use mathlib.Core.Path.{_≡_}
+use mathlib.Core.Option.{none}
+use mathlib.Core.List.{List}
+use Prim.Native.Nat.{ℕ, _≤_}
+use lib.IntN.{ℤ}
+use lib.ListN.{length}
+use Rattle.forms.specs.Edition.{newestEdition}
+use Rattle.answers.specs.Answers.{fileA, fileProof, accepted}
+use Rattle.fields.specs.declared.FileKind.{FileKind}
+use Rattle.fields.specs.Fields.{fields}
+use Rattle.fields.specs.Header.{header}
+use Rattle.fields.specs.Places.{fieldsAt}
+use Rattle.bundle.specs.Bundle.{Bundle, bundle}
+use Rattle.bundle.specs.Read.{kindsOf, numbersOf}
+use Rattle.conversion.specs.Turning.{asked, otherEdition}
+use Rattle.conversion_survey.specs.declared.Survey.{Survey}
+use Rattle.conversion_survey.specs.Going.{surveyOf}
+
+pub record HasOther (kind : FileKind) (to : ℕ) (s : List ℕ) (r : Survey) : Type 0 where
+  pub is : (file : ℕ) → otherEdition kind file to (fields s) ≡ surveyOf file r
+
+-- ---- a bundle on its way
+-- It is a bundle's file.
+pub record Readable (file : List ℕ) : Type 0 where
+  pub b : Bundle
+  pub reads : bundle newestEdition fileA none file ≡ accepted b
+
+-- It is to be read.
+pub record ToTurn (to : ℕ) (file : List ℕ) : Type 0 where
+  pub asks : asked to ≡ accepted tt
+  pub short : length file ≤ 8_192
+  pub from : otherEdition FileKind.Bundle fileA to (fields file) ≡ accepted tt
+
+-- It is read.
+pub record ToWrite (to : ℕ) (file : List ℕ) (K : ℕ) (kinds : List ℕ) (numbers : List ℤ) : Type 0 where
+  pub turn : ToTurn to file
+  pub b : Bundle
+  pub reads : bundle newestEdition fileA none file ≡ accepted b
+  pub constants : b .K ≡ K
+  pub kinds-are : kinds ≡ kindsOf (b .constraints)
+  pub numbers-are : numbers ≡ numbersOf (b .constraints)
+
+-- ---- a proof on its way: its header is read
+pub record ToEnter (to : ℕ) (file : List ℕ) (at K e : ℕ) : Type 0 where
+  pub asks : asked to ≡ accepted tt
+  pub short : length file ≤ 65_536
+  pub from : otherEdition FileKind.Proof fileProof to (fields file) ≡ accepted tt
+  pub heads : header FileKind.Proof fileProof newestEdition none (fields file) ≡ accepted (record { number = e; K = K; rest = fieldsAt file at })

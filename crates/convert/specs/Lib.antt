@@ -1,0 +1,2 @@
+-- What is known on the way.
+pub mod Known

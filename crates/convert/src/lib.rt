@@ -1,0 +1,212 @@
+// The operations that turn a bundle and a proof into the other edition: document 02, point 4.
+use answers::WriteResult;
+use answers::acceptance;
+use answers::refusal;
+use bundle_read::read;
+use bundle_scan::Scanned;
+use bundle_scan::scan;
+use bundle_write::write;
+use conversion_put::put_entries;
+use conversion_survey::Survey;
+use conversion_survey::first_wide;
+use conversion_survey::read_entries;
+use conversion_survey::turned_size;
+use fields::FileKind;
+use fields::Next;
+use fields::header::Headed;
+use fields::header::Numbered;
+use fields::header::put_header;
+use fields::header::read_edition;
+use fields::header::read_header;
+use fields::next_field;
+use forms::BUNDLE_BYTES;
+use forms::NEWEST;
+use forms::PROOF_BYTES;
+use integers::between;
+ghost use mathlib.Core.Path.{_≡_};
+ghost use Rattle.answers.specs.Answers.{answer, accepted};
+ghost use Rattle.fields.specs.Fields.{fields};
+ghost use Rattle.bundle_scan.specs.Scan.{constraintStart};
+ghost use Rattle.proof.specs.Tree.{startsAt};
+ghost use Rattle.conversion.specs.Turning.{asked};
+ghost use Rattle.conversion.specs.Promises.{TurnsBundle, TurnsProof};
+ghost use Rattle.convert.specs.Known.{HasOther, Readable, ToTurn, ToWrite, ToEnter};
+
+fn refused(number: u8, file: u8, place: usize) -> WriteResult
+    ensures { λ r. ⌜ r ≡ record { answer = answer number file place; count = 0 } ⌝ }
+{
+    WriteResult {
+        answer: refusal(number, file, place),
+        count: 0,
+    }
+}
+
+// Where the first field of a file starts, notes aside, or the file ends.
+fn first_place(s: &[u8]) -> usize
+    ensures { λ r. ⌜ r ≡ startsAt (fields (now (s .entry))) ⌝ }
+{
+    match next_field(s, 0) {
+        Next::Field {
+            at: place,
+            tag: _,
+            start: _,
+            len: _,
+            next: _,
+        } => place,
+        Next::Cut { at: place } => place,
+        Next::Ends { at: place } => place,
+    }
+}
+
+// Whether the file has the other edition than the one asked for; or what it is refused for.
+fn has_other(s: &[u8], kind: FileKind, to: u8) -> Survey
+    requires { ⌜ asked to ≡ accepted tt ⌝ }
+    ensures { λ r. ⌜ HasOther kind to (now (s .entry)) r ⌝ }
+{
+    match read_edition(s, kind, NEWEST) {
+        Numbered::Value { value, next: _ } => {
+            if value == to {
+                return Survey::Refused {
+                    number: 5,
+                    place: first_place(s),
+                };
+            }
+            Survey::Fine
+        }
+        Numbered::Refused { number, place } => Survey::Refused { number, place },
+    }
+}
+
+// ---- a bundle
+// Where constraint i of a bundle starts.
+fn place_of(file: &[u8], i: usize) -> usize
+    requires { ⌜ Readable (now file) ⌝ }
+    ensures { λ r. ⌜ r ≡ constraintStart (now (file .entry)) i ⌝ }
+{
+    match scan(file, 0, i) {
+        Scanned::Bundle {
+            k: _,
+            body: _,
+            start,
+        } => start,
+        Scanned::Refused {
+            number: _,
+            place: _,
+        } => 0,
+    }
+}
+
+// Writes what was read of the file; a number that the edition asked for cannot hold is told by its field.
+fn write_again(
+    file: &[u8],
+    to: u8,
+    k: u8,
+    kinds: &[u8],
+    numbers: &[i32],
+    out: &mut [u8],
+) -> WriteResult
+    requires { ⌜ ToWrite to (now file) k (now kinds) (now numbers) ⌝ }
+    ensures { λ r. ⌜ TurnsBundle to (now (file .entry)) (now (out .entry)) (now (out .exit)) r ⌝ }
+{
+    let w = write(to, k, kinds, numbers, out);
+    let number = w.answer.number;
+    if number == 13 {
+        let index = w.answer.place;
+        return refused(13, 1, place_of(file, index / (k as usize + 1)));
+    }
+    w
+}
+
+// A bundle is read into kinds and numbers of its own, and these are written in the edition asked for.
+fn turn_read(file: &[u8], to: u8, out: &mut [u8]) -> WriteResult
+    requires { ⌜ ToTurn to (now file) ⌝ }
+    ensures { λ r. ⌜ TurnsBundle to (now (file .entry)) (now (out .entry)) (now (out .exit)) r ⌝ }
+{
+    let mut kinds: [u8; 32] = [0; 32];
+    let mut numbers: [i32; 544] = [0; 544];
+    let r = read(file, &mut kinds, &mut numbers);
+    let answer = r.answer;
+    let number = answer.number;
+    if number != 0 {
+        return WriteResult { answer, count: 0 };
+    }
+    let count = r.count;
+    let k = r.k;
+    let total = count * (k as usize + 1);
+    write_again(file, to, k, &kinds[..count], &numbers[..total], out)
+}
+
+// Turns a bundle into the edition asked for.
+pub fn turn_bundle(file: &[u8], to: u8, out: &mut [u8]) -> WriteResult
+    ensures { λ r. ⌜ TurnsBundle to (now (file .entry)) (now (out .entry)) (now (out .exit)) r ⌝ }
+{
+    if between(to, 1, NEWEST) {
+        if file.len() > BUNDLE_BYTES {
+            return refused(1, 1, 0);
+        }
+        return match has_other(file, FileKind::Bundle, to) {
+            Survey::Fine => turn_read(file, to, out),
+            Survey::Refused { number, place } => refused(number, 1, place),
+        };
+    }
+    refused(5, 4, 0)
+}
+
+// ---- a proof
+// Turns what stands behind the header, a proof of edition e.
+fn turn_entries(file: &[u8], at: usize, k: u8, e: u8, to: u8, out: &mut [u8]) -> WriteResult
+    requires { ⌜ ToEnter to (now file) at k e ⌝ }
+    ensures { λ r. ⌜ TurnsProof to (now (file .entry)) (now (out .entry)) (now (out .exit)) r ⌝ }
+{
+    match read_entries(file, at, k, e) {
+        Survey::Fine => {}
+        Survey::Refused { number, place } => {
+            return refused(number, 3, place);
+        }
+    }
+    match first_wide(file, at, e, to) {
+        Survey::Fine => {}
+        Survey::Refused { number, place } => {
+            return refused(number, 3, place);
+        }
+    }
+    let size = 8 + turned_size(file, at, e, to);
+    if size > PROOF_BYTES {
+        return refused(1, 4, size);
+    }
+    if out.len() < size {
+        return refused(21, 4, size);
+    }
+    put_header(out, to, k);
+    put_entries(file, at, e, to, out, 8);
+    WriteResult {
+        answer: acceptance(),
+        count: size,
+    }
+}
+
+// Turns a proof into the edition asked for.
+pub fn turn_proof(file: &[u8], to: u8, out: &mut [u8]) -> WriteResult
+    ensures { λ r. ⌜ TurnsProof to (now (file .entry)) (now (out .entry)) (now (out .exit)) r ⌝ }
+{
+    if between(to, 1, NEWEST) {
+        if file.len() > PROOF_BYTES {
+            return refused(1, 3, 0);
+        }
+        match has_other(file, FileKind::Proof, to) {
+            Survey::Fine => {}
+            Survey::Refused { number, place } => {
+                return refused(number, 3, place);
+            }
+        }
+        return match read_header(file, FileKind::Proof, NEWEST, 0) {
+            Headed::Header {
+                edition: e,
+                k,
+                next,
+            } => turn_entries(file, next, k, e, to, out),
+            Headed::Refused { number, place } => refused(number, 3, place),
+        };
+    }
+    refused(5, 4, 0)
+}

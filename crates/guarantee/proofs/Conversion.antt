@@ -1,0 +1,374 @@
+-- What is promised of turning holds. Assumes nothing.
+use mathlib.Core.Path.{_≡_, refl, sym, _∙_, ap, ap₂, subst}
+use mathlib.Core.Logic.{_⊎_, inl, inr}
+use mathlib.Core.Option.{none, some}
+use mathlib.Core.Bool.{Bool, true, false, _&&_}
+use mathlib.Core.List.{List, []}
+use Prim.Native.Nat.{ℕ, zero, suc, _≤_, _<_}
+use native.Mathlib.Omega.{arith}
+use borrow.Author.Tests.{lt-leb, ne-eqb, eqb-false}
+use lib.Dec.{leb, eqb, eqb→eq, T}
+use lib.ListN.{length, take, drop}
+use lib.Seq.{take-at}
+use Rattle.forms.specs.Edition.{Edition, edition, newestEdition}
+use Rattle.forms.specs.Forms.{All, Constraint, Formula}
+use Rattle.answers.specs.declared.Answer.{Answer}
+use Rattle.answers.specs.declared.WriteResult.{WriteResult}
+use Rattle.answers.specs.Answers.{answer, acceptance, fileA, fileProof, fileLent, Result, refused, accepted, _>>=_, _>>_, need, over, fit, Written, written, writtenOf}
+use Rattle.answers.proofs.Results.{Gives, never, not-0, binds, passes, needs, fail, bind-refused, then-refused}
+use Rattle.number_bytes.specs.Numbers.{Bytes}
+use Rattle.fields.specs.declared.FileKind.{FileKind}
+use Rattle.fields.specs.Fields.{Field, Fields, ends, cut, _▸_, Item, Framed, fileOf, withoutNotes, fields}
+use Rattle.fields.specs.Header.{Header, headerTag, known, headerField, editionField, constantsField}
+use Rattle.fields.proofs.Framing.{items-fileOf}
+use Rattle.bundle.specs.Bundle.{Bundle, atMost, kindTagged, formSmall, constraints, bundleHeader, bundle}
+use Rattle.bundle.specs.Layout.{StatesAll, BundleFile, editionSaid, Says}
+use Rattle.bundle.proofs.Laid.{short-accepted}
+use Rattle.bundle.proofs.RoundTrips.{writtenAs, written-fits}
+use Rattle.proof.specs.Check.{check}
+use Rattle.proof.specs.Layout.{Yields}
+use Rattle.proof.specs.Tree.{startsAt}
+use Rattle.proof.proofs.Says.{Says as Tells, says-refused, says-accepted, bind as tell-bind, seq as tell-seq, says-need, test as tests, finds as tell-finds, weaken as weakens}
+use Rattle.proof.proofs.Editions.{Starting, starting, not-read}
+use Rattle.proof.specs.Promises.{Checks}
+use Rattle.conversion.specs.Turning.{other, asked, otherEdition, eachField, resultWithin, bundleTurned, turnBundle, proofTurned, turnProof}
+use Rattle.conversion.specs.Widest.{widest}
+use Rattle.conversion.specs.Promises.{TurnsBundle, TurnsProof}
+use Rattle.conversion.proofs.Asking.{Asked, down, up, asked-accepted, said-gives, within-accepted}
+use Rattle.conversion.proofs.Bundles.{bundle-turned-gives, bundle-back, BundleTurns, result-short}
+use Rattle.conversion.proofs.Proofs.{proof-turned-gives, proof-back}
+use Rattle.conversion.proofs.Checked.{bundle-restated, proof-restated, BundleChosen, as-it-is as as-is, turned as is-turned, yields-same, yields-up, yields-down, overflows-down, same-left, overflow-left, Left16}
+use Rattle.conversion.specs.Turnable.{BundleTurnable, ProofTurnable}
+use Rattle.guarantee.specs.Acceptance.{WrittenAs}
+use Rattle.guarantee.specs.Soundness.{Meaning, Faithful}
+use Rattle.guarantee.specs.Conversion.{BundleChoice, as-it-is, turned, Direction, kept, ProofChoice, turned-up, turned-down, ConversionPromised}
+use Rattle.guarantee.proofs.Acceptance.{of-editions, written-from}
+use Rattle.guarantee.proofs.Turnable.{bundle-turnable, turnable-bundle, proof-turnable, turnable-proof, bundle-narrow, proof-narrow}
+
+-- ---- what is left of an output
+number-of : {r : WriteResult} {left : List ℕ} {w : Written} → writtenOf r left ≡ w → r .answer .number ≡ w .answer .number
+number-of e = ap (λ (w : Written). w .answer .number) e
+
+answer-of : {r : WriteResult} {left : List ℕ} {w : Written} → writtenOf r left ≡ w → r .answer ≡ w .answer
+answer-of e = ap (λ (w : Written). w .answer) e
+
+module _ (output left : List ℕ) (r : WriteResult) where
+  -- An accepted call: these bytes.
+  by-fit : (b : Bool) (bs : List ℕ) → writtenOf r left ≡ fit output b bs → r .answer .number ≡ 0 → bs ≡ take (r .count) left
+  unfolding fit over
+  by-fit true bs e h =
+      let count : r .count ≡ length bs = ap (λ (w : Written). w .count) e in
+      let is : left ≡ over bs output = ap (λ (w : Written). w .output) e in
+      sym (rw (count, is) (take-at bs (drop (length bs) output) (length bs) refl))
+  by-fit false bs e h = absurd (let z = number-of e in omega arith)
+
+  was-accepted : {P : List ℕ → Type 0} (m : Result (List ℕ)) → Gives m P → writtenOf r left ≡ written m output → r .answer .number ≡ 0 → m ≡ accepted (take (r .count) left)
+  unfolding written
+  was-accepted (refused a) g e h = absurd (not-0 (g .refusal a refl) (sym (number-of e) ∙ h))
+  was-accepted (accepted bs) g e h = ap accepted (by-fit (leb (length bs) (length output)) bs e h)
+
+  refused-as : {m : Result (List ℕ)} {a : Answer} → writtenOf r left ≡ written m output → m ≡ refused a → r .answer ≡ a
+  unfolding written
+  refused-as e f = answer-of e ∙ rw f
+
+  written-as : {m : Result (List ℕ)} {bs : List ℕ} → writtenOf r left ≡ written m output → m ≡ accepted bs → length bs ≤ length output → WrittenAs bs output left (r .answer) (r .count)
+  written-as {bs = bs} e f h =
+      let all : writtenOf r left ≡ writtenAs bs output = e ∙ ap (λ (m : Result (List ℕ)). written m output) f ∙ written-fits output bs h in
+      record { answer = answer-of all; count-is = ap (λ (w : Written). w .count) all; left-is = ap (λ (w : Written). w .output) all }
+
+-- ---- the two operations
+module _ {to : ℕ} {file output left : List ℕ} {r : WriteResult} where
+  bundle-is : TurnsBundle to file output left r → writtenOf r left ≡ written (bundleTurned to file) output
+  unfolding turnBundle
+  bundle-is d = d .is
+
+  proof-is : TurnsProof to file output left r → writtenOf r left ≡ written (proofTurned to file) output
+  unfolding turnProof
+  proof-is d = d .is
+
+  bundle-accepted : TurnsBundle to file output left r → r .answer .number ≡ 0 → bundleTurned to file ≡ accepted (take (r .count) left)
+  bundle-accepted d h = was-accepted output left r (bundleTurned to file) (bundle-turned-gives to file) (bundle-is d) h
+
+  proof-accepted : TurnsProof to file output left r → r .answer .number ≡ 0 → proofTurned to file ≡ accepted (take (r .count) left)
+  proof-accepted d h = was-accepted output left r (proofTurned to file) (proof-turned-gives to file) (proof-is d) h
+
+-- ---- accepted just where
+too-short : (output left : List ℕ) (r : WriteResult) {m : Result (List ℕ)} {bs : List ℕ} → writtenOf r left ≡ written m output → m ≡ accepted bs → length output < length bs → r .answer ≡ answer 21 4 (length bs)
+unfolding written fit
+too-short output left r {bs = bs} e f h = answer-of e ∙ rw (f, lt-leb (length bs) (length output) h)
+
+within-refused : (bytes : List ℕ) → 65_536 < length bytes → resultWithin 65_536 bytes ≡ refused (answer 1 4 (length bytes))
+unfolding resultWithin need
+within-refused bytes h = then-refused _ (rw (lt-leb (length bytes) 65_536 h) refl)
+
+module _ {to : ℕ} {file output left : List ℕ} {r : WriteResult} where
+  is-turnable-bundle : TurnsBundle to file output left r → r .answer .number ≡ 0 → (bytes : List ℕ) × BundleTurnable to file bytes × (length bytes ≤ length output)
+  is-turnable-bundle d h =
+      let (bytes, t, fits) = written-from output (bundleTurned to file) (bundle-turned-gives to file) (sym (number-of (bundle-is d)) ∙ h) in
+      (bytes, bundle-turnable t, fits)
+
+  is-turnable-proof : TurnsProof to file output left r → r .answer .number ≡ 0 → (bytes : List ℕ) × ProofTurnable to file bytes × (length bytes ≤ 65_536) × (length bytes ≤ length output)
+  is-turnable-proof d h =
+      let (bytes, t, fits) = written-from output (proofTurned to file) (proof-turned-gives to file) (sym (number-of (proof-is d)) ∙ h) in
+      (bytes, proof-turnable t, t .short, fits)
+
+  turns-bundle : TurnsBundle to file output left r → {bytes : List ℕ} → BundleTurnable to file bytes → length bytes ≤ length output → WrittenAs bytes output left (r .answer) (r .count)
+  turns-bundle d t fits = written-as output left r (bundle-is d) (turnable-bundle t) fits
+
+  turns-proof : Bytes file → TurnsProof to file output left r → {bytes : List ℕ} → ProofTurnable to file bytes → length bytes ≤ 65_536 → length bytes ≤ length output → WrittenAs bytes output left (r .answer) (r .count)
+  turns-proof k d {bytes} t short fits = written-as output left r (proof-is d) (turnable-proof k t ∙ within-accepted 65_536 bytes short) fits
+
+-- ---- what the files state
+some-is : {X : Type 0} {x y : X} → some x ≡ some y → x ≡ y
+some-is e = cc
+
+meaning-is : (F : List Item) → All Framed F → (M : Meaning) → Faithful M → (n K : ℕ) (cs : List Constraint) → BundleFile newestEdition (fileOf F) n K cs → M F ≡ (K, cs)
+meaning-is F framed M faithful n K cs b =
+    let e : withoutNotes F ≡ b .list = some-is (sym (items-fileOf F framed) ∙ b .whole) in
+    faithful n (of-editions n (b .first) (b .last)) F K cs (subst (λ (l : List Item). StatesAll n l K cs) (sym e) (b .laid))
+
+means-alike : (to : ℕ) (F G : List Item) → All Framed F → All Framed G → (M N : Meaning) → Faithful M → Faithful N → (bytes : List ℕ) → bundleTurned to (fileOf F) ≡ accepted bytes → bytes ≡ fileOf G → N G ≡ M F
+means-alike to F G fF fG M N hM hN bytes e is =
+    let t = bundle-turned-gives to (fileOf F) .gives bytes e in
+    let b = bundle-restated to (t .source) e in
+    meaning-is G fG N hN to (t .K) (t .cs) (subst (λ (bs : List ℕ). BundleFile newestEdition bs to (t .K) (t .cs)) is b) ∙ sym (meaning-is F fF M hM (other to) (t .K) (t .cs) (t .source))
+
+-- ---- check
+chosen : {A A₂ : List ℕ} → BundleChoice A A₂ → BundleChosen A A₂
+chosen as-it-is = as-is
+chosen (turned to output left r d h) = is-turned to (bundle-accepted d h)
+
+yields-chosen : {A B P : List ℕ} {K : ℕ} {I : Formula} (y : Yields newestEdition A B P K I) {A₂ B₂ P₂ : List ℕ} (d : Direction) → BundleChoice A A₂ → BundleChoice B B₂ → ProofChoice P d P₂
+    → (d ≡ Direction.down → widest (y .proves .proof) ≤ 128) → Yields newestEdition A₂ B₂ P₂ K I
+yields-chosen y d cA cB as-it-is h = yields-same y (chosen cA) (chosen cB)
+yields-chosen y d cA cB (turned-up output left r t a) h = yields-up y (chosen cA) (chosen cB) (proof-accepted t a)
+yields-chosen y d cA cB (turned-down output left r t a) h = yields-down y (chosen cA) (chosen cB) (proof-accepted t a) (h refl)
+
+left-same : {r r₂ : WriteResult} {left left₂ : List ℕ} {w w₂ : Written} → writtenOf r left ≡ w → writtenOf r₂ left₂ ≡ w₂ → w₂ ≡ w → (r₂ ≡ r) × (left₂ ≡ left)
+left-same e f s =
+    let all = f ∙ s ∙ sym e in
+    (ap (λ (w : Written). let r : WriteResult = record { answer = w .answer; count = w .count } in r) all, ap (λ (w : Written). w .output) all)
+
+overflow-chosen : {A B P : List ℕ} {K : ℕ} {I : Formula} (y : Yields newestEdition A B P K I) {A₂ B₂ P₂ : List ℕ} → BundleChoice A A₂ → BundleChoice B B₂ → ProofChoice P Direction.down P₂
+    → 128 < widest (y .proves .proof) → (output : List ℕ) → Left16 output (check A₂ B₂ P₂ output)
+overflow-chosen y {A₂} {B₂} {P₂} cA cB (turned-down o left r t a) h output = overflow-left output A₂ B₂ P₂ (overflows-down y (chosen cA) (chosen cB) (proof-accepted t a) h)
+
+of-16 : {r : WriteResult} {left output : List ℕ} {w : Written} → writtenOf r left ≡ w → Left16 output w → (r .answer .number ≡ 16) × (r .answer .file ≡ 3) × (r .count ≡ 0) × (left ≡ output)
+of-16 e l = (number-of e ∙ l .number, ap (λ (w : Written). w .answer .file) e ∙ l .file, ap (λ (w : Written). w .count) e ∙ l .count, ap (λ (w : Written). w .output) e ∙ l .kept)
+
+-- ---- refusals
+is-asked : {to : ℕ} → (to ≡ 1) ⊎ (to ≡ 2) → Asked to
+is-asked (inl e) = subst Asked (sym e) down
+is-asked (inr e) = subst Asked (sym e) up
+
+not-other : {to : ℕ} → Asked to → eqb to (other to) ≡ false
+not-other down = refl
+not-other up = refl
+
+unasked : (to : ℕ) → ¬ (to ≡ 1) → ¬ (to ≡ 2) → asked to ≡ refused (answer 5 fileLent 0)
+unfolding asked need
+unasked to h k = rw (not-read to h k)
+
+too-long : (limit file : ℕ) (bytes : List ℕ) → limit < length bytes → atMost limit file bytes ≡ refused (answer 1 file 0)
+unfolding atMost need
+too-long limit file bytes h = rw (lt-leb (length bytes) limit h)
+
+module _ (kind : FileKind) (file : ℕ) (k : T (known kind 0x01)) where
+  said-so : {fs : Fields} {n : ℕ} (s : Starting fs n) (to : ℕ) → otherEdition kind file to fs ≡ need (answer 5 file (startsAt fs)) (eqb n (other to))
+  unfolding otherEdition headerField startsAt
+  said-so {n = n} s to =
+      let f = s .first in
+      ap (otherEdition kind file to) (s .are)
+      ∙ binds _ (needs _ _ _ (rw (s .tag) k) ∙ needs _ _ _ (rw (s .tag) tt) ∙ needs _ _ _ (rw (s .size) tt) ∙ ap (λ (n : ℕ). accepted (f .at, n, s .after)) (s .says))
+      ∙ ap (λ (fs : Fields). need (answer 5 file (startsAt fs)) (eqb n (other to))) (sym (s .are))
+
+  already : (fs : Fields) (to : ℕ) → Asked to → editionSaid fs ≡ some to → otherEdition kind file to fs ≡ refused (answer 5 file (startsAt fs))
+  unfolding need
+  already fs to a e = said-so (starting fs to e) to ∙ rw (not-other a)
+
+  -- where turning refuses the first field, and it does not say the edition asked for, so does reading
+  neither : {to : ℕ} → Asked to → (n : ℕ) → ¬ (n ≡ to) → ¬ (n ≡ other to) → (leb 1 n && leb n 2) ≡ false
+  neither down n h k = not-read n h k
+  neither up n h k = not-read n k h
+
+  one-refusal : {X : Type 0} {a b : Answer} {r : Result X} → r ≡ refused a → r ≡ refused b → a ≡ b
+  one-refusal p q = cc
+
+  refused-5 : (b : Bool) (x a : Answer) → need x b ≡ refused a → (b ≡ false) × (x ≡ a)
+  unfolding need
+  refused-5 true x a e = absurd (never (sym e))
+  refused-5 false x a e = (refl, let z : x ≡ a = cc in z)
+
+  module _ (fs : Fields) (to : ℕ) (asks : Asked to) (h : ¬ (editionSaid fs ≡ some to)) (a : Answer) (e : otherEdition kind file to fs ≡ refused a) where
+    no-value : (x : ℕ × ℕ × Fields) → headerField kind file 0x01 fs ≡ accepted x → editionField kind file newestEdition fs ≡ refused a
+    unfolding otherEdition editionField
+    no-value x q =
+        let said : editionSaid fs ≡ some (x .1) = said-gives kind file fs .gives x q in
+        let (t, is) = refused-5 (eqb (x .1) (other to)) (answer 5 file (x .0)) a (sym (binds (λ (x : ℕ × ℕ × Fields). need (answer 5 file (x .0)) (eqb (x .1) (other to))) q) ∙ e) in
+        binds _ q ∙ fail (answer 5 file (x .0)) _ (neither asks (x .1) (λ z. h (said ∙ ap some z)) (eqb-false (x .1) (other to) t)) ∙ ap refused is
+
+    no-field : (b : Answer) → headerField kind file 0x01 fs ≡ refused b → editionField kind file newestEdition fs ≡ refused a
+    unfolding otherEdition editionField
+    no-field b q = bind-refused _ q ∙ ap refused (one-refusal (bind-refused (λ (x : ℕ × ℕ × Fields). need (answer 5 file (x .0)) (eqb (x .1) (other to))) q) e)
+
+    same-first : editionField kind file newestEdition fs ≡ refused a
+    same-first = go (headerField kind file 0x01 fs) refl
+      where
+        go : (r : Result (ℕ × ℕ × Fields)) → headerField kind file 0x01 fs ≡ r → editionField kind file newestEdition fs ≡ refused a
+        go (refused b) q = no-field b q
+        go (accepted x) q = no-value x q
+
+known-first : Unit {0} → T (known FileKind.Bundle 0x01)
+unfolding known headerTag
+known-first u = tt
+
+known-second : Unit {0} → T (known FileKind.Proof 0x01)
+unfolding known headerTag
+known-second u = tt
+
+first-refused : (file : List ℕ) (b : Answer) → editionField FileKind.Bundle fileA newestEdition (fields file) ≡ refused b → bundle newestEdition fileA none file ≡ refused b
+unfolding bundle bundleHeader
+first-refused file b e = bind-refused _ (bind-refused _ e)
+
+-- ---- reading refused
+either-refused : {X Y : Type 0} (m : Result (Unit {0})) {n : Result X} (f : X → Result Y) (a : Answer) → n ≡ refused a → ((b : Answer) → m ≡ refused b → b ≡ a) → (m >> (n >>= f)) ≡ refused a
+either-refused (refused b) f a e k = then-refused _ refl ∙ ap refused (k b refl)
+either-refused (accepted u) f a e k = passes _ refl ∙ bind-refused f e
+
+reading-refused : (to : ℕ) (file : List ℕ) → Asked to → length file ≤ 8_192 → ¬ (Says file to) → (a : Answer) → bundle newestEdition fileA none file ≡ refused a → bundleTurned to file ≡ refused a
+unfolding bundleTurned
+reading-refused to file x l h a e = passes _ (asked-accepted x) ∙ passes _ (short-accepted _ fileA file l)
+    ∙ either-refused (otherEdition FileKind.Bundle fileA to (fields file)) _ a e λ b q. same b q
+  where
+    same : (b : Answer) → otherEdition FileKind.Bundle fileA to (fields file) ≡ refused b → b ≡ a
+    same b q = one-refusal FileKind.Bundle fileA (known-first tt) (first-refused file b (same-first FileKind.Bundle fileA (known-first tt) (fields file) to x h b q)) e
+
+-- ---- the result of a bundle is never too long
+-- Where 1 is given, it is for the file.
+abbrev OfFile : Answer → Type 0
+OfFile a = a .number ≡ 1 → a .file ≡ 1
+
+-- A step that is accepted, and then the rest.
+then-tells : {Y : Type 0} {R : Y → Type 0} {P : Unit {0} → Type 0} (m : Result (Unit {0})) (r : Result Y) → Tells OfFile m P → (m ≡ accepted tt → Tells OfFile r R) → Tells OfFile (m >> r) R
+unfolding _>>_
+then-tells (refused a) r h k = says-refused (h .refusal a refl)
+then-tells (accepted u) r h k = k refl
+
+asked-tells : (to : ℕ) → Tells OfFile (asked to) (λ _. Unit {0})
+unfolding asked
+asked-tells to = weakens (says-need _ _ (λ e. absurd (omega arith))) (λ a h. h) (λ _ _. tt)
+
+most-tells : (limit : ℕ) (file : List ℕ) → Tells OfFile (atMost limit fileA file) (λ _. Unit {0})
+unfolding atMost
+most-tells limit file = weakens (says-need _ _ (λ e. refl)) (λ a h. h) (λ _ _. tt)
+
+field-tells : (tag : ℕ) (fs : Fields) → Tells OfFile (headerField FileKind.Bundle fileA tag fs) (λ _. Unit {0})
+unfolding headerField
+field-tells tag (ends at) = says-refused (λ e. absurd (omega arith))
+field-tells tag (cut at) = says-refused (λ e. absurd (omega arith))
+field-tells tag (f ▸ fs) = tests _ _ (λ e. absurd (omega arith)) λ _. tests _ _ (λ e. absurd (omega arith)) λ _. tests _ _ (λ e. absurd (omega arith)) λ _. says-accepted tt
+
+constraints-tell : (e : Edition) (K n : ℕ) (fs : Fields) → Tells OfFile (constraints fileA e K n fs) (λ _. Unit {0})
+unfolding constraints
+constraints-tell e K n (ends at) = says-accepted tt
+constraints-tell e K n (cut at) = says-refused (λ e. absurd (omega arith))
+constraints-tell e K n (f ▸ fs) = tests _ _ (λ e. absurd (omega arith)) λ _. tell-bind (tell-finds _ (kindTagged (f .tag)) (λ e. absurd (omega arith))) λ k _.
+    tests _ _ (λ e. absurd (omega arith)) λ _. tests _ _ (λ e. absurd (omega arith)) λ _. tests _ _ (λ e. absurd (omega arith)) λ _.
+    tell-bind (constraints-tell e K (suc n) fs) λ cs _. says-accepted tt
+
+whole-tells : (file : List ℕ) → Tells OfFile (bundle newestEdition fileA none file) (λ _. Unit {0})
+unfolding bundle bundleHeader editionField constantsField
+whole-tells file =
+    tell-bind
+    (tell-bind (tell-bind (field-tells 0x01 (fields file)) λ x _. tests {R = λ _. Unit {0}} _ _ (λ e. absurd (omega arith)) λ _. says-accepted tt) λ (n, fs) _.
+    tell-seq (most-tells _ file)
+    (tell-bind (tell-bind (field-tells 0x02 fs) λ x _. tests {R = λ _. Unit {0}} _ _ (λ e. absurd (omega arith)) λ _. tests _ _ (λ e. absurd (omega arith)) λ _. says-accepted tt) λ (K, rest) _.
+    says-accepted {P = λ _. Unit {0}} tt))
+    λ h _. tell-bind (constraints-tell (edition (h .number)) (h .K) 0 (h .rest)) λ cs _. says-accepted tt
+
+bundle-tells : (file : List ℕ) → Tells OfFile (bundle newestEdition fileA none file) (λ b. bundle newestEdition fileA none file ≡ accepted b)
+bundle-tells file = record { refusal = whole-tells file .refusal; value = λ b e. e }
+
+other-tells : (to : ℕ) (fs : Fields) → Tells OfFile (otherEdition FileKind.Bundle fileA to fs) (λ _. otherEdition FileKind.Bundle fileA to fs ≡ accepted tt)
+unfolding otherEdition
+other-tells to fs =
+    let t : Tells OfFile (otherEdition FileKind.Bundle fileA to fs) (λ _. Unit {0}) = tell-bind (field-tells 0x01 fs) λ x _. weakens (says-need _ _ (λ e. absurd (omega arith))) (λ a h. h) (λ _ _. tt) in
+    record { refusal = t .refusal; value = λ u e. e }
+
+each-tells : (fits : Item → Bool) (fs : Fields) → Tells OfFile (eachField 13 fileA fits fs) (λ _. Unit {0})
+unfolding eachField
+each-tells fits (ends at) = says-accepted tt
+each-tells fits (cut at) = says-accepted tt
+each-tells fits (f ▸ fs) = tests _ _ (λ e. absurd (omega arith)) λ _. each-tells fits fs
+
+turning-tells : (to : ℕ) (file : List ℕ) → Tells OfFile (bundleTurned to file) (λ _. Unit {0})
+unfolding bundleTurned
+turning-tells to file = then-tells _ _ (asked-tells to) λ a. then-tells _ _ (most-tells _ file) λ _. then-tells _ _ (other-tells to (fields file)) λ o.
+    tell-bind (bundle-tells file) λ b e. then-tells _ _ (each-tells _ _) λ f.
+    subst (λ (r : Result (List ℕ)). Tells OfFile r (λ _. Unit {0})) (sym (within-accepted (edition to .bundleBytes) _ (result-short to file b a o e f))) (says-accepted tt)
+
+fits-or-21 : (output : List ℕ) (b : Bool) (bs : List ℕ) → ¬ (fit output b bs .answer .number ≡ 1)
+unfolding fit
+fits-or-21 output true bs h = omega arith
+fits-or-21 output false bs h = omega arith
+
+never-long : (output left : List ℕ) (r : WriteResult) (m : Result (List ℕ)) → Tells OfFile m (λ _. Unit {0}) → writtenOf r left ≡ written m output → OfFile (r .answer)
+unfolding written
+never-long output left r (refused a) t e h = ap (λ (w : Written). w .answer .file) e ∙ t .refusal a refl (sym (number-of e) ∙ h)
+never-long output left r (accepted bs) t e h = absurd (fits-or-21 output (leb (length bs) (length output)) bs (sym (number-of e) ∙ h))
+
+-- ---- each refusal of the definitions
+unasked-bundle : (to : ℕ) (file : List ℕ) → ¬ (to ≡ 1) → ¬ (to ≡ 2) → bundleTurned to file ≡ refused (answer 5 4 0)
+unfolding bundleTurned
+unasked-bundle to file h k = then-refused _ (unasked to h k)
+
+unasked-proof : (to : ℕ) (file : List ℕ) → ¬ (to ≡ 1) → ¬ (to ≡ 2) → proofTurned to file ≡ refused (answer 5 4 0)
+unfolding proofTurned
+unasked-proof to file h k = then-refused _ (unasked to h k)
+
+bundle-too-long : {to : ℕ} (file : List ℕ) → Asked to → 8_192 < length file → bundleTurned to file ≡ refused (answer 1 1 0)
+unfolding bundleTurned
+bundle-too-long file a h = passes _ (asked-accepted a) ∙ then-refused _ (too-long 8_192 fileA file h)
+
+proof-too-long : {to : ℕ} (file : List ℕ) → Asked to → 65_536 < length file → proofTurned to file ≡ refused (answer 1 3 0)
+unfolding proofTurned
+proof-too-long file a h = passes _ (asked-accepted a) ∙ then-refused _ (too-long 65_536 fileProof file h)
+
+bundle-there : {to : ℕ} (file : List ℕ) → Asked to → length file ≤ 8_192 → Says file to → bundleTurned to file ≡ refused (answer 5 1 (startsAt (fields file)))
+unfolding bundleTurned
+bundle-there {to} file a l s = passes _ (asked-accepted a) ∙ passes _ (short-accepted _ fileA file l) ∙ then-refused _ (already FileKind.Bundle fileA (known-first tt) (fields file) to a s)
+
+proof-there : {to : ℕ} (file : List ℕ) → Asked to → length file ≤ 65_536 → Says file to → proofTurned to file ≡ refused (answer 5 3 (startsAt (fields file)))
+unfolding proofTurned
+proof-there {to} file a l s = passes _ (asked-accepted a) ∙ passes _ (short-accepted _ fileProof file l) ∙ then-refused _ (already FileKind.Proof fileProof (known-second tt) (fields file) to a s)
+
+-- Point 4.
+pub conversion-promised : ConversionPromised
+conversion-promised = record {
+  bundle-iff = λ to file output left r d. (is-turnable-bundle d, λ (bytes, t, fits). ap (λ (a : Answer). a .number) (turns-bundle d t fits .answer));
+  bundle-turns = λ to file output left r d bytes t fits. turns-bundle d t fits;
+  bundle-21 = λ to file output left r d bytes t h. too-short output left r (bundle-is d) (turnable-bundle t) h;
+  proof-iff = λ to file output left r k d. (is-turnable-proof d, λ (bytes, t, short, fits). ap (λ (a : Answer). a .number) (turns-proof k d t short fits .answer));
+  proof-turns = λ to file output left r k d bytes t short fits. turns-proof k d t short fits;
+  proof-1 = λ to file output left r k d bytes t h. refused-as output left r (proof-is d) (turnable-proof k t ∙ within-refused bytes h);
+  proof-21 = λ to file output left r k d bytes t short h. too-short output left r (proof-is d) (turnable-proof k t ∙ within-accepted 65_536 bytes short) h;
+  bundle-13 = λ file output left r d K cs b before c after e h k f at. refused-as output left r (bundle-is d) (bundle-narrow file K cs b before c after e h k f at);
+  proof-10 = λ file output left r d K es p t before i after e h k f at. refused-as output left r (proof-is d) (proof-narrow file K es p t before i after e h k f at);
+  bundle-and-back = λ to F framed k output left r d h output₂ left₂ r₂ fits d₂.
+      written-as output₂ left₂ r₂ (bundle-is d₂) (bundle-back to F framed k (take (r .count) left) (bundle-accepted d h)) fits;
+  proof-and-back = λ to F framed k output left r d h output₂ left₂ r₂ fits d₂.
+      written-as output₂ left₂ r₂ (proof-is d₂) (proof-back to F framed k (take (r .count) left) (proof-accepted d h)) fits;
+  states-same = λ to A output left r d h n K cs f. bundle-restated to f (bundle-accepted d h);
+  enters-same = λ to P output left r d h n K es f. proof-restated to f (proof-accepted d h) .file;
+  means-same = λ to F G fF fG M N hM hN output left r d h is. means-alike to F G fF fG M N hM hN (take (r .count) left) (bundle-accepted d h) is;
+  checked-same = λ A B P K I y A₂ B₂ P₂ dir cA cB cP h output left left₂ r r₂ d d₂. left-same (d .is) (d₂ .is) (same-left output y (yields-chosen y dir cA cB cP h));
+  checked-16 = λ A B P K I y A₂ B₂ P₂ cA cB cP h output left r d. of-16 (d .is) (overflow-chosen y cA cB cP h output);
+  asked-bundle = λ to file output left r d h k. refused-as output left r (bundle-is d) (unasked-bundle to file h k);
+  asked-proof = λ to file output left r d h k. refused-as output left r (proof-is d) (unasked-proof to file h k);
+  long-bundle = λ to file output left r d a h. refused-as output left r (bundle-is d) (bundle-too-long file (is-asked a) h);
+  long-proof = λ to file output left r d a h. refused-as output left r (proof-is d) (proof-too-long file (is-asked a) h);
+  there-bundle = λ to file output left r d a l s. refused-as output left r (bundle-is d) (bundle-there file (is-asked a) l s);
+  there-proof = λ to file output left r d a l s. refused-as output left r (proof-is d) (proof-there file (is-asked a) l s);
+  as-reading = λ to file output left r d a l s x e. refused-as output left r (bundle-is d) (reading-refused to file (is-asked a) l s x e);
+  never-too-long = λ to file output left r d h. never-long output left r (bundleTurned to file) (turning-tells to file) (bundle-is d) h;
+}
