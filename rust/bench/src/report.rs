@@ -34,8 +34,9 @@ Of a check of 128 rows that was a tenth on another processor. Claims make a proo
 own.
 - Checking a proof of edition 2 of some hundred rows. As soon as a branch may have more than 128 lines, 63,240 bytes are \
 cleared for them, and 136,136 where the proof has more than 1,200 bytes.
-- Submitting and cancelling a job. The scheduler's state, 456 bytes, goes in and comes back by value, and the caller puts \
-it back in its place; the Rust version changes its own in place. A turn has the same cost beside its check.
+- Submitting and cancelling a job. The library is handed the scheduler's state as C does it, 456 bytes copied to the \
+stack, and gives it back in the same way; the Rust version's functions take it by value too, but Rust hands on its \
+address. A turn has the same cost beside its check.
 - Testing a formula of many levels where a level has little to test: two levels of a formula are a call, and a processor \
 foretells the returns of some two dozen.
 ";
