@@ -26,6 +26,7 @@ use Rattle.lines.specs.Ready.{Ready, LinesKept}
 use Rattle.tally.specs.Tally.{moreRows}
 use Rattle.tally.specs.declared.Tally.{Tally}
 use Rattle.steps.specs.Steps.{SameChecked, rowLeft, lastMade, fieldChecked, Steps, Advances}
+use Rattle.steps.proofs.Stepping.{there-made}
 use Rattle.steps.specs.declared.Stepped.{Stepped}
 use Rattle.steps.specs.declared.Stepped.the-variants.{Refused, Made, Strengthens, ClosesNumber, ClosesStride, Rounds, Splits}
 use Rattle.branches.specs.Spare.{fieldsLeft, unreadBytes, Spare}
@@ -66,7 +67,7 @@ module _ {K : ℕ} {p : List ℕ} {at : ℕ} {kinds₀ : List ℕ} {buf₀ : Lis
     field-is : (here : Position) (deeper : Option Checker) → entriesFrom K p at kinds₀ buf₀ t₀ here deeper
         ≡ fieldChecked K kinds buf t made tag (take len (drop start p)) deeper (checkEntries (edition (t .edition)) K here deeper (fieldsAt p next)) (refusalAt here (t .rows .0) a) (fieldsAt p next)
     unfolding checkEntries entry
-    field-is here deeper = g .same here deeper ∙ rw (s .is)
+    field-is here deeper = g .same here deeper ∙ rw (s .is, there-made made K kinds buf (t .lines .0))
 
     all-kept : LinesKept K (t₀ .lines .0) kinds₀ buf₀ kinds′ buf′
     all-kept = kept-trans (g .from) (g .kept) (x .kept)

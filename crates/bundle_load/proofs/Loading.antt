@@ -26,7 +26,8 @@ use Rattle.bundle.specs.Bundle.{formSmall}
 use Rattle.bundle_scan.specs.Scan.{faultOf, count, fault, counted, stated}
 use Rattle.bundle_scan.proofs.Scanning.{counted-on, passed-both, count-is, proper-of, tag-most}
 use Rattle.lines.specs.Parts.{part, Agree}
-use Rattle.lines.proofs.Parts.{part-take, part-paste, getD-part, agree-sym, agree-trans, agree-le, agree-getD, agree-part, agree-set, agree-paste}
+use Rattle.number_bytes.proofs.Stores.{part-take}
+use Rattle.lines.proofs.Parts.{part-paste, getD-part, agree-sym, agree-trans, agree-le, agree-getD, agree-part, agree-set, agree-paste}
 use Rattle.lines.specs.Buffer.{size, times, lineIn, linesIn, Bounded}
 use Rattle.lines.proofs.Lines.{form-ext, line-ext, before, lines-more}
 use Rattle.lines.proofs.Fill.{Filled, filled-length, filled-next}

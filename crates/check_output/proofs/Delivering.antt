@@ -4,8 +4,8 @@ use mathlib.Core.Bool.{Bool}
 use mathlib.Core.List.{List, _++_}
 use Prim.Native.Nat.{ℕ, _+_, _≤_, _<_}
 use native.Mathlib.Omega.{arith}
-use lib.ListN.{length, take, drop, set, getD, length-append}
-use lib.Seq.{sets, sets-eq, paste, take-at, take-all, drop-append-add, drop-drop, length-take-le, getD-take}
+use lib.ListN.{length, take, drop, length-append}
+use lib.Seq.{sets, sets-eq, length-take-le}
 use borrow.Author.Tests.{le-leb, lt-leb}
 use Rattle.answers.specs.declared.Answer.{Answer}
 use Rattle.answers.specs.Answers.{answer, acceptance, refused, accepted, _>>_, need, Written, over, fit, written}
@@ -15,7 +15,7 @@ use Rattle.fields.specs.Header.{headerBytes}
 use Rattle.fields.proofs.Headers.{length-headerBytes}
 use Rattle.fields.specs.Ending.{IsEnding}
 use Rattle.fields.specs.declared.ending.Ending.{Ending}
-use Rattle.lines.proofs.Fill.{Filled, filled-length, filled-next}
+use Rattle.number_bytes.proofs.Stores.{sets-append}
 use Rattle.check_output.specs.Output.{fileWithin, Holds, Delivers, Finishes}
 
 abbrev pub unwritten : (number file place : ℕ) → WriteResult
@@ -23,15 +23,12 @@ unwritten number file place = record { answer = answer number file place; count 
 
 -- ---- the output
 -- a header and then some bytes over the front of the output
-delivered : (h f out : List ℕ) (n o : ℕ) → length h ≡ n → length f ≡ o → n + o ≤ length out → paste (sets out 0 h) n f o ≡ over (h ++ f) out
+delivered : (h f out : List ℕ) (n : ℕ) → length h ≡ n → n + length f ≤ length out → sets (sets out 0 h) n f ≡ over (h ++ f) out
 unfolding over
-delivered h f out n o eh ef l =
-    let s : sets out 0 h ≡ h ++ drop n out = sets-eq h out 0 (omega arith) ∙ (let z : 0 + length h ≡ n = omega arith in rw z) in
-    let t : take n (h ++ drop n out) ≡ h = take-at h (drop n out) n eh in
-    let u : drop (n + o) (h ++ drop n out) ≡ drop (n + o) out = rw eh at (drop-append-add h (drop n out) o) ∙ drop-drop o n out in
-    let v : take o f ≡ f = take-all o f (omega arith) in
-    let w : length (h ++ f) ≡ n + o = length-append h f ∙ omega arith in
-    rw (s, t, u, v, w)
+delivered h f out n e l =
+    let z : n ≡ 0 + length h = omega (arith, e) in
+    let w : 0 + length (h ++ f) ≡ length (h ++ f) = omega arith in
+    ap (λ (k : ℕ). sets (sets out 0 h) k f) z ∙ sym (sets-append h f out 0) ∙ sets-eq (h ++ f) out 0 (omega (arith, length-append h f, e)) ∙ rw w
 
 holds-size : (K : ℕ) {bytes : List ℕ} {o : ℕ} {S : List ℕ} → Holds bytes o S → length (headerBytes 1 K ++ bytes) ≡ 8 + o
 holds-size K {bytes} h = length-append (headerBytes 1 K) bytes ∙ omega (arith, length-headerBytes 1 K, h .o-is)
@@ -67,31 +64,15 @@ module _ {K : ℕ} {S : List ℕ} {o : ℕ} {out : List ℕ} where
       is = λ bytes x. rw (e, file-fits (headerBytes 1 K ++ bytes) (8 + o) (holds-size K x) few) (sym (fit-short (headerBytes 1 K ++ bytes) out (8 + o) (holds-size K x) h));
     }
 
-    pub deliver-done : {out₁ out₂ : List ℕ} {x : Answer} → 8 + o ≤ length out → out₁ ≡ sets out 0 (headerBytes 1 K) → out₂ ≡ paste out₁ 8 (take o S) o → x ≡ acceptance
+    pub deliver-done : {out₁ out₂ : List ℕ} {x : Answer} → 8 + o ≤ length out → out₁ ≡ sets out 0 (headerBytes 1 K) → out₂ ≡ sets out₁ 8 (take o S) → x ≡ acceptance
         → Delivers K S o out out₂ (record { answer = x; count = 8 + o })
     deliver-done {out₁} {out₂} h p q e = record {
       is = λ bytes x.
           let w : out₂ ≡ over (headerBytes 1 K ++ bytes) out
-          = q ∙ ap (λ (y : List ℕ). paste y 8 (take o S) o) p ∙ delivered (headerBytes 1 K) (take o S) out 8 o (length-headerBytes 1 K) (length-take-le o S room) h
+          = q ∙ ap (λ (y : List ℕ). sets y 8 (take o S)) p ∙ delivered (headerBytes 1 K) (take o S) out 8 (length-headerBytes 1 K) (omega (arith, length-take-le o S room))
           ∙ ap (λ (y : List ℕ). over (headerBytes 1 K ++ y) out) (x .stored (omega arith)) in
           rw (e, w, file-fits (headerBytes 1 K ++ bytes) (8 + o) (holds-size K x) few) (sym (fit-done (headerBytes 1 K ++ bytes) out (8 + o) (holds-size K x) h));
     }
-
--- ---- a copy
-module _ {to₀ : List ℕ} {at : ℕ} (n : ℕ) (from : List ℕ) {to : List ℕ} {i : ℕ} (hf : n ≤ length from) (ht : at + n ≤ length to₀) (v : Filled to₀ at (take n from) to i) where
-  len : length (take n from) ≡ n
-  len = length-take-le n from hf
-
-  pub copy-length : length to ≡ length to₀
-  copy-length = filled-length (omega (arith, len)) v
-
-  pub copy-next : i < n → Filled to₀ at (take n from) (set to (at + i) (getD from i 0)) (i + 1)
-  copy-next h = filled-next (omega (arith, len)) v (getD from i 0) 0 (sym (getD-take n from i 0 h)) (omega (arith, len))
-
-  pub copy-done : n ≤ i → to ≡ paste to₀ at (take n from) n
-  copy-done h =
-      let z : i ≡ n = omega (arith, v .upto, len) in
-      rw z at (v .is)
 
 -- ---- what follows the root
 module _ {P : List ℕ} {at : ℕ} {e : Ending} (k : IsEnding FileKind.Proof P at e) {K : ℕ} {S : List ℕ} {o : ℕ} {out : List ℕ} where

@@ -6,10 +6,8 @@ use fields::ending::Ending;
 use fields::ending::ending_at;
 use fields::header::put_header;
 use forms::FORMULA_BYTES;
+use number_bytes::copy::copy_bytes;
 ghost use mathlib.Core.Path.{_≡_};
-ghost use Prim.Native.Nat.{_+_, _≤_};
-ghost use lib.ListN.{length, take};
-ghost use lib.Seq.{paste};
 ghost use Rattle.answers.specs.Answers.{answer};
 ghost use Rattle.check_output.specs.Output.{InScratch, Delivers, Finishes};
 
@@ -18,19 +16,6 @@ pub fn refusal(number: u8, file: u8, place: usize) -> WriteResult
 {
     let answer = answers::refusal(number, file, place);
     WriteResult { answer, count: 0 }
-}
-
-// The n first bytes of from, behind the at first of to.
-fn copy_bytes(from: &[u8], n: usize, to: &mut [u8], at: usize)
-    requires { ⌜ n ≤ length (now from) ⌝ }
-    requires { ⌜ at + n ≤ length (now to) ⌝ }
-    ensures { λ _. ⌜ now (to .exit) ≡ paste (now (to .entry)) at (take n (now (from .entry))) n ⌝ }
-{
-    let mut i = 0;
-    while i < n {
-        to[at + i] = from[i];
-        i += 1;
-    }
 }
 
 // The two header fields and the o first bytes of the scratch, if a formula's file may be so long, and the output has room for them. 1, 21.
@@ -46,7 +31,7 @@ fn deliver(scratch: &[u8], o: usize, k: u8, out: &mut [u8]) -> WriteResult
         return refusal(21, 4, needed);
     }
     put_header(out, 1, k);
-    copy_bytes(scratch, o, out, 8);
+    copy_bytes(scratch, 0, o, out, 8);
     let answer = answers::acceptance();
     WriteResult {
         answer,

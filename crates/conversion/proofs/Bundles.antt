@@ -18,7 +18,7 @@ use Rattle.answers.specs.Answers.{answer, fileA, Result, accepted, _>>=_, _>>_}
 use Rattle.answers.proofs.Results.{Gives, gives-accepted, weaken, bind, seq, binds, passes}
 use Rattle.number_bytes.specs.Numbers.{Bytes, flat, formFrom, signeds}
 use Rattle.number_bytes.specs.Ranges.{InWidth, FormInWidth}
-use Rattle.number_bytes.proofs.Signed.{length-signeds}
+use Rattle.number_bytes.proofs.Signed.{length-signeds, all-weaken}
 use Rattle.fields.specs.declared.FileKind.{FileKind}
 use Rattle.fields.specs.Fields.{Fields, Item, item, fields, items, Framed, fileOf, withoutNotes}
 use Rattle.fields.specs.Header.{headerTag, known, agrees}
@@ -30,7 +30,8 @@ use Rattle.bundle.specs.Read.{kindsOf, numbersOf}
 use Rattle.bundle.specs.Write.{holdable}
 use Rattle.bundle.proofs.Laid.{Lists, done, next, listed, AllSmall, Laid, bundle-gives, bundle-accepts, short-gives, short-accepted}
 use Rattle.bundle.proofs.Every.{every-of, of-every}
-use Rattle.bundle.proofs.Writable.{FormsInWidth, bytesOf, bytesOf-file, sized, bundleItems, constraintItem, bundleItems-framed, bundleItems-bare, bundleItems-short, constraintItems-state, restated, holdable-both}
+use Rattle.bundle.proofs.Writable.{FormsInWidth, bytesOf, bytesOf-file, sized, bundleItems, constraintItem, bundleItems-framed, bundleItems-bare, bundleItems-short, constraintItems-state, restated, holdable-both, holdable-in, all-append, all-both}
+use Rattle.bundle.proofs.RoundTrips.{items-file}
 use Rattle.conversion.specs.Turning.{other, asked, otherEdition, eachField, numbersFit, bundleTurned, behindHeader}
 use Rattle.conversion.proofs.Asking.{Asked, down, up, asked-gives, asked-accepted, other-first, other-last, asked-first, asked-last, asked-back, other-other, other-gives, other-accepted, same-edition, Fit, ends-fit, next-fits, each-field-gives, each-field-accepted, within-gives, within-accepted, behind}
 
@@ -39,30 +40,15 @@ use Rattle.conversion.proofs.Asking.{Asked, down, up, asked-gives, aske
 abbrev pub AllHeld : (w : ℕ) → List Constraint → Type 0
 AllHeld w = All (λ c. T (every (holdable w) (flat (c .form))))
 
--- (The width is 2 or 4, so that 256 ^ w is even.)
-in-width : (w : ℕ) → (w ≡ 2) ⊎ (w ≡ 4) → (z : ℤ) → mag z + mag z < 256 ^ w → InWidth w z
-in-width w (inl e) (pos n) h = record { high = h; low = omega arith }
-in-width w (inl e) (negsuc n) h = rw e (record { high = omega arith; low = omega (arith, rw e at h) })
-in-width w (inr e) (pos n) h = record { high = h; low = omega arith }
-in-width w (inr e) (negsuc n) h = rw e (record { high = omega arith; low = omega (arith, rw e at h) })
-
-holdable-in : (w : ℕ) → (w ≡ 2) ⊎ (w ≡ 4) → (z : ℤ) → T (holdable w z) → InWidth w z
-unfolding holdable
-holdable-in w two-or-four z h = in-width w two-or-four z (ltb→lt _ _ (and-yes (ltb (mag z + mag z) (256 ^ w)) (small 2_147_483_647 z) h .0))
-
 all-split : {X : Type 0} {P : X → Type 0} (xs : List X) {y : X} → All P (xs ++ (y ∷ [])) → All P xs × P y
 all-split [] (cons p nil) = (nil, p)
 all-split (x ∷ xs) (cons p ps) = let (qs, q) = all-split xs ps in (cons p qs, q)
-
-all-to : {X : Type 0} {P Q : X → Type 0} → ((x : X) → P x → Q x) → {xs : List X} → All P xs → All Q xs
-all-to f nil = nil
-all-to f (cons {x = x} p ps) = cons (f x p) (all-to f ps)
 
 form-held : (w K : ℕ) → (w ≡ 2) ⊎ (w ≡ 4) → (t : Form) → length (t .coeffs) ≡ K → T (every (holdable w) (flat t)) → FormInWidth w K t
 unfolding flat
 form-held w K e t s h =
     let (cs, d) = all-split (t .coeffs) (of-every (holdable w) (t .coeffs ++ (t .d ∷ [])) h) in
-    record { size = s; coeffs = all-to (holdable-in w e) cs; d = holdable-in w e _ d }
+    record { size = s; coeffs = all-weaken (holdable-in w e) cs; d = holdable-in w e _ d }
 
 -- A stated form has K coefficients.
 pub stated-size : {e : Edition} {K : ℕ} {i : Item} {c : Constraint} → States e K i c → length (c .form .coeffs) ≡ K
@@ -155,35 +141,14 @@ module _ (to : ℕ) (file : List ℕ) where
       ∙ ap accepted same
 
 -- ---- the turned bundle states what the bundle stated: its K, and its constraints in order
-items-file : (n : ℕ) {K : ℕ} {cs : List Constraint} → 1 ≤ n → n ≤ newestEdition → 1 ≤ K → K ≤ edition1 .constants → length cs ≤ edition1 .constraints → FormsInWidth (edition n .coefficientWidth) K cs → AllSmall 2_147_483_647 cs
-    → BundleFile newestEdition (fileOf (bundleItems n K cs)) n K cs
-items-file n {K} {cs} f l low high few t r = record {
-  first = f;
-  last = l;
-  short = bundleItems-short n high t few;
-  list = bundleItems n K cs;
-  whole = items-fileOf (bundleItems n K cs) (bundleItems-framed n high t) ∙ ap some (bundleItems-bare n K cs);
-  laid = record { body = map (constraintItem (edition n .coefficientWidth)) cs; are = refl; low = low; high = high; states = constraintItems-state n t };
-  few = few;
-  within = r;
-}
-
 pub turned-states : {to : ℕ} {file bytes : List ℕ} (t : BundleTurns to file bytes) → BundleFile newestEdition bytes to (t .K) (t .cs)
 turned-states {to} {file} {bytes} t =
     let f = t .source in
     subst (λ (bs : List ℕ). BundleFile newestEdition bs to (t .K) (t .cs)) (sym (t .are))
-    (items-file to (asked-first (t .asks)) (asked-last (t .asks)) (f .laid .low) (f .laid .high) (f .few)
+    (items-file newestEdition to (asked-first (t .asks)) (asked-last (t .asks)) (f .laid .low) (f .laid .high) (f .few)
     (file-widths (edition to .coefficientWidth) (coefficientWidth-is to) f (t .held)) (f .within))
 
 -- ---- turned back
-all-append : {X : Type 0} {P : X → Type 0} {xs ys : List X} → All P xs → All P ys → All P (xs ++ ys)
-all-append nil k = k
-all-append (cons h hs) k = cons h (all-append hs k)
-
-all-both : {X : Type 0} {P Q R : X → Type 0} → ((x : X) → P x → Q x → R x) → {xs : List X} → All P xs → All Q xs → All R xs
-all-both f nil nil = nil
-all-both f (cons {x = x} h hs) (cons k ks) = cons (f x h k) (all-both f hs ks)
-
 form-holdable : (w K : ℕ) (t : Form) → FormInWidth w K t → T (formSmall 2_147_483_647 t) → T (every (holdable w) (flat t))
 unfolding flat formSmall
 form-holdable w K t h r = every-of (holdable w) (all-both (holdable-both w) (all-append (h .coeffs) (cons (h .d) nil)) (of-every (small 2_147_483_647) (t .coeffs ++ (t .d ∷ [])) r))

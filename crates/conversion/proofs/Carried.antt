@@ -3,7 +3,7 @@ use mathlib.Core.Path.{_≡_, refl, sym, _∙_, ap, ap₂, subst}
 use mathlib.Core.Logic.{_⊎_, inl, inr}
 use mathlib.Core.Option.{Option, none, some}
 use mathlib.Core.Bool.{Bool, true, false}
-use mathlib.Core.List.{List, [], _∷_, _++_, append-assoc}
+use mathlib.Core.List.{List, [], _∷_, _++_, map, append-assoc}
 use Prim.Native.Nat.{ℕ, zero, suc, _+_, _*_, _-_, _^_, _≤_, _<_}
 use native.Mathlib.Nat.{suc-mul}
 use native.Mathlib.Omega.{arith}
@@ -12,17 +12,17 @@ use lib.Dec.{T, ltb, ltb→lt, lt→ltb}
 use lib.ListN.{length, take, drop, length-append, length-drop, take-append-drop}
 use lib.Seq.{take-at, drop-at, drop-append-add, drop-drop, length-take-le}
 use Rattle.forms.specs.Edition.{Edition, edition, edition1}
-use Rattle.forms.proofs.Editions.{lineWidth-is}
+use Rattle.forms.proofs.Editions.{lineWidth-most}
 use Rattle.forms.specs.Forms.{All, nil, cons, every}
 use Rattle.calculus.specs.Rules.{Entry}
-use Rattle.number_bytes.specs.Numbers.{Bytes, unsigned, unsignedBytes, formFrom, formWidth}
+use Rattle.number_bytes.specs.Numbers.{Bytes, unsigned, unsignedBytes, unsigneds, unsignedsBytes, formFrom, formWidth}
 use Rattle.number_bytes.proofs.Signed.{length-unsignedBytes, unsigned-unsignedBytes, unsigned-below, unsignedBytes-unsigned, all-take, all-drop}
 use Rattle.fields.specs.Fields.{Item, item, note, Framed}
 use Rattle.fields.proofs.HeaderLaid.{by-tag}
-use Rattle.proof.specs.Entries.{EntryTag, combineTag, reduceTag, scaleTag, strengthenTag, numberTag, strideTag, roundTag, splitTag, claimTag, entryTagged, lineNumber, multiplier, sizeOf, entryFrom}
+use Rattle.proof.specs.Entries.{EntryTag, combineTag, reduceTag, scaleTag, strengthenTag, numberTag, strideTag, roundTag, splitTag, claimTag, entryTagged, lineCount, renumbered, lineNumber, multiplier, sizeOf, entryFrom}
 use Rattle.proof.specs.Layout.{Enters}
 use Rattle.conversion.specs.Turnable.{turnedItem}
-use Rattle.conversion.specs.Turning.{lineCount, unsigneds, unsignedsBytes, linesNamed, linesFit, linesTurned}
+use Rattle.conversion.specs.Turning.{linesNamed, linesFit, linesTurned}
 
 -- ---- numbers in another width
 drop-behind : (p q : List ℕ) (n m : ℕ) → length p ≡ n → drop (n + m) (p ++ q) ≡ drop m q
@@ -79,6 +79,15 @@ pub record Carries (a b n : ℕ) (bs turned : List ℕ) : Type 0 where
 abbrev pub turnedBytes : (a b n : ℕ) → List ℕ → List ℕ
 turnedBytes a b n bs = unsignedsBytes (edition b .lineWidth) (unsigneds (edition a .lineWidth) n bs) ++ drop (n * edition a .lineWidth) bs
 
+map-same : (ns : List ℕ) → map (λ n. n) ns ≡ ns
+map-same [] = refl
+map-same (n ∷ ns) = ap (λ (ms : List ℕ). n ∷ ms) (map-same ns)
+
+-- The contents of a turned field: its line numbers as they are, in the new width.
+pub turned-is : (a b : ℕ) (i : Item) → linesTurned (edition a) (edition b) i ≡ turnedBytes a b (lineCount (entryTagged (i .tag))) (i .contents)
+unfolding linesTurned renumbered
+turned-is a b i = ap (λ (ns : List ℕ). unsignedsBytes (edition b .lineWidth) ns ++ drop (lineCount (entryTagged (i .tag)) * edition a .lineWidth) (i .contents)) (map-same (linesNamed (edition a) i))
+
 pub head-size : (w w′ n : ℕ) (bs : List ℕ) → length (unsignedsBytes w′ (unsigneds w n bs)) ≡ n * w′
 head-size w w′ n bs = length-unsignedsBytes w′ (unsigneds w n bs) ∙ ap (λ (k : ℕ). k * w′) (length-unsigneds w n bs)
 
@@ -105,7 +114,7 @@ module _ (a b K : ℕ) {bs turned : List ℕ} where
       ap (λ (k : ℕ). drop k turned) (sym z) ∙ c .behind 0 ∙ ap (λ (k : ℕ). drop k bs) y
 
   pub entry-same : (x : EntryTag) → Carries a b (lineCount (some x)) bs turned → entryFrom (edition b) K x turned ≡ entryFrom (edition a) K x bs
-  unfolding entryFrom lineCount
+  unfolding entryFrom
   entry-same combineTag c = rw (c .line 0 (omega arith), c .line 1 (omega arith), multiplier-same c 0, multiplier-same c 1)
   entry-same reduceTag c = rw (c .line 0 (omega arith), c .line 1 (omega arith), multiplier-same c 0)
   entry-same scaleTag c = rw (c .line 0 (omega arith), multiplier-same c 0)
@@ -117,7 +126,7 @@ module _ (a b K : ℕ) {bs turned : List ℕ} where
   entry-same claimTag c = rw (whole-same c)
 
   pub size-same : (x : EntryTag) → Carries a b (lineCount (some x)) bs turned → length bs ≡ sizeOf (edition a) K x → length turned ≡ sizeOf (edition b) K x
-  unfolding sizeOf lineCount
+  unfolding sizeOf
   size-same combineTag c h = omega (arith, c .size)
   size-same reduceTag c h = omega (arith, c .size)
   size-same scaleTag c h = omega (arith, c .size)
@@ -126,7 +135,7 @@ module _ (a b K : ℕ) {bs turned : List ℕ} where
   size-same strideTag c h = omega (arith, c .size)
   size-same roundTag c h = omega (arith, c .size)
   size-same splitTag c h = omega (arith, c .size)
-  size-same claimTag c h = ap length (whole-same c) ∙ h
+  size-same claimTag c h = ap length (whole-same c) ∙ omega (arith, h)
 
 -- ---- and back again
 unsigneds-back : (w : ℕ) {ns : List ℕ} (rest : List ℕ) → Below w ns → unsigneds w (length ns) (unsignedsBytes w ns ++ rest) ≡ ns
@@ -172,16 +181,9 @@ unfolding every
 below-every w nil = tt
 below-every w (cons {x = n} {xs = ns} h hs) = yes-and (ltb n (256 ^ w)) (every (λ n. ltb n (256 ^ w)) ns) (lt→ltb n (256 ^ w) h) (below-every w hs)
 
-pub lineWidth-most : (n : ℕ) → edition n .lineWidth ≤ 2
-lineWidth-most n = go (lineWidth-is n)
-  where
-    go : {w : ℕ} → (w ≡ 1) ⊎ (w ≡ 2) → w ≤ 2
-    go (inl e) = omega arith
-    go (inr e) = omega arith
-
 -- Its line numbers stand in its contents.
 lines-there : (a K : ℕ) (x : EntryTag) (bs : List ℕ) → length bs ≡ sizeOf (edition a) K x → lineCount (some x) * edition a .lineWidth ≤ length bs
-unfolding sizeOf lineCount
+unfolding sizeOf
 lines-there a K combineTag bs h = omega arith
 lines-there a K reduceTag bs h = omega arith
 lines-there a K scaleTag bs h = omega arith
@@ -216,10 +218,10 @@ module _ (a b K : ℕ) (i : Item) {x : Entry} (h : Enters (edition a) K i x) whe
   tagged = h .tagged
 
   item-carries : T (linesFit (edition a) (edition b) i) → Carries a b (lineCount (some tagged)) (i .contents) (turnedItem a b i .contents)
-  unfolding linesFit linesTurned
+  unfolding linesFit
   item-carries t =
       subst (λ (o : Option EntryTag). Carries a b (lineCount o) (i .contents) (turnedItem a b i .contents)) (h .tag)
-      (carries a b (lineCount (entryTagged (i .tag))) (i .contents) (every-below (edition b .lineWidth) _ t))
+      (subst (Carries a b (lineCount (entryTagged (i .tag))) (i .contents)) (sym (turned-is a b i)) (carries a b (lineCount (entryTagged (i .tag))) (i .contents) (every-below (edition b .lineWidth) _ t)))
 
   -- It states the same entry.
   pub turned-enters : T (linesFit (edition a) (edition b) i) → Enters (edition b) K (turnedItem a b i) x
@@ -234,12 +236,13 @@ module _ (a b K : ℕ) (i : Item) {x : Entry} (h : Enters (edition a) K i x) whe
   there = subst (λ (o : Option EntryTag). lineCount o * edition a .lineWidth ≤ length (i .contents)) (sym (h .tag)) (lines-there a K tagged (i .contents) (h .size))
 
   -- The line numbers of the turned field are its own,
-  lines-same : T (linesFit (edition a) (edition b) i) → linesNamed (edition b) (edition a) (turnedItem a b i) ≡ linesNamed (edition a) (edition b) i
-  unfolding linesFit linesTurned
+  lines-same : T (linesFit (edition a) (edition b) i) → linesNamed (edition b) (turnedItem a b i) ≡ linesNamed (edition a) i
+  unfolding linesFit
   lines-same t =
       let n = lineCount (entryTagged (i .tag)) in
-      let ns = linesNamed (edition a) (edition b) i in
+      let ns = linesNamed (edition a) i in
       ap (λ (m : ℕ). unsigneds (edition b .lineWidth) m (turnedItem a b i .contents)) (sym (length-unsigneds (edition a .lineWidth) n (i .contents)))
+      ∙ ap (unsigneds (edition b .lineWidth) (length ns)) (turned-is a b i)
       ∙ unsigneds-back (edition b .lineWidth) {ns = ns} _ (every-below (edition b .lineWidth) ns t)
 
   -- so it is turned back,
@@ -250,12 +253,12 @@ module _ (a b K : ℕ) (i : Item) {x : Entry} (h : Enters (edition a) K i x) whe
 
   -- and is then itself.
   pub back-same : Bytes (i .contents) → T (linesFit (edition a) (edition b) i) → turnedItem b a (turnedItem a b i) ≡ i
-  unfolding linesTurned
   back-same k t =
       let n = lineCount (entryTagged (i .tag)) in
       let w = edition a .lineWidth in
       let w′ = edition b .lineWidth in
       ap (item (i .tag))
-      (ap₂ (λ (ns rest : List ℕ). unsignedsBytes w ns ++ rest) (lines-same t)
-      (drop-at (unsignedsBytes w′ (unsigneds w n (i .contents))) (drop (n * w) (i .contents)) (n * w′) (head-size w w′ n (i .contents)))
+      (turned-is b a (turnedItem a b i)
+      ∙ ap₂ (λ (ns rest : List ℕ). unsignedsBytes w ns ++ rest) (lines-same t)
+      (ap (drop (n * w′)) (turned-is a b i) ∙ drop-at (unsignedsBytes w′ (unsigneds w n (i .contents))) (drop (n * w) (i .contents)) (n * w′) (head-size w w′ n (i .contents)))
       ∙ bytes-back w n (i .contents) there k)

@@ -7,7 +7,6 @@ use Prim.Native.Nat.{ℕ, suc}
 use lib.Dec.{leb}
 use lib.ListN.{length}
 use Rattle.forms.specs.Edition.{Edition, edition, newestEdition}
-use Rattle.forms.specs.Forms.{Line}
 use Rattle.answers.specs.declared.Answer.{Answer}
 use Rattle.answers.specs.Answers.{answer, fileA, fileProof, Result, refused, accepted, fit, written}
 use Rattle.fields.specs.declared.FileKind.{FileKind}
@@ -17,7 +16,7 @@ use Rattle.bundle.specs.Bundle.{atMost, constraints, bundleHeader, bundle}
 use Rattle.proof.specs.Entries.{entryTagged, entry}
 use Rattle.proof.specs.Tree.{Outside}
 use Rattle.proof.proofs.Says.{Says, says-refused, says-accepted, bind, seq, says-need, test, finds, weaken}
-use Rattle.conversion.specs.Turning.{asked, otherEdition, eachField, resultWithin, madeBy, entriesRead, bundleTurned, turnBundle, proofTurned, turnProof}
+use Rattle.conversion.specs.Turning.{asked, otherEdition, eachField, resultWithin, makesLine, entriesRead, bundleTurned, turnBundle, proofTurned, turnProof}
 
 abbrev Tells : {X : Type 0} → Result X → Type 0
 Tells r = Says Outside r (λ _. Unit {0})
@@ -74,15 +73,15 @@ within-tells : (limit : ℕ) (bytes : List ℕ) → Tells (resultWithin limit by
 unfolding resultWithin
 within-tells limit bytes = test _ _ refl λ _. says-accepted tt
 
-entry-tells : (e : Edition) (K : ℕ) (made : Option Line) (f : Field) → Tells (entry e K (λ n. answer n fileProof (f .at)) made f)
+entry-tells : (e : Edition) (K : ℕ) (made : Bool) (f : Field) → Tells (entry e K (λ n. answer n fileProof (f .at)) made f)
 unfolding entry
 entry-tells e K made f = test _ _ refl λ _. bind (finds _ _ refl) λ t _. test _ _ refl λ _. test _ _ refl λ _. says-accepted tt
 
-entries-tell : (e : Edition) (K : ℕ) (made : Option Line) (fs : Fields) → Tells (entriesRead e K made fs)
+entries-tell : (e : Edition) (K : ℕ) (made : Bool) (fs : Fields) → Tells (entriesRead e K made fs)
 unfolding entriesRead
 entries-tell e K made (ends at) = says-accepted tt
 entries-tell e K made (cut at) = says-refused refl
-entries-tell e K made (f ▸ fs) = bind (entry-tells e K made f) λ x _. entries-tell e K (madeBy x) fs
+entries-tell e K made (f ▸ fs) = bind (entry-tells e K made f) λ x _. entries-tell e K (makesLine x) fs
 
 of-written : (r : Result (List ℕ)) (out : List ℕ) → Tells r → Outside (written r out .answer)
 unfolding written fit
@@ -102,4 +101,4 @@ pub proof-outside : (to : ℕ) (file output : List ℕ) → Outside (turnProof t
 unfolding turnProof proofTurned
 proof-outside to file output = of-written (proofTurned to file) output
     (seq (asked-tells to) (seq (most-tells _ fileProof file) (seq (other-tells FileKind.Proof fileProof to (fields file)) (bind (header-tells FileKind.Proof fileProof newestEdition none (fields file)) λ h _.
-    seq (entries-tell (edition (h .number)) (h .K) none (h .rest)) (seq (each-tells 10 fileProof _ _) (within-tells _ _))))))
+    seq (entries-tell (edition (h .number)) (h .K) false (h .rest)) (seq (each-tells 10 fileProof _ _) (within-tells _ _))))))

@@ -22,7 +22,7 @@ use Rattle.answers.proofs.Results.{binds, passes, needs, found-some, fail, bind
 use Rattle.fields.specs.Fields.{Field, Fields, ends, cut, _▸_, item}
 use Rattle.bundle.proofs.Laid.{Lists, next}
 use Rattle.proof.specs.Rows.{roundable, fitting}
-use Rattle.proof.specs.Check.{Closing, Checker, Following, checkRounded, checkSplit, checkRow, checkEntry, checkEntries, checkBranch}
+use Rattle.proof.specs.Check.{Closing, Checker, Following, there, checkRounded, checkSplit, checkRow, checkEntry, checkEntries, checkBranch}
 use Rattle.proof.specs.Layout.{Enters}
 use Rattle.proof.proofs.Entered.{row-accepted, claim-accepted, states-own}
 use Rattle.proof.proofs.RowsAgree.{fitting-accepted, inequality-accepted, roundable-accepted, disequality-accepted, derived-accepted}
@@ -185,25 +185,25 @@ module _ (n m K : ℕ) (occ : Side → ℕ → Bool) where
         → Overflows (checkEntries (edition m) K here deeper fs rows made ls)
     unfolding checkEntries checkEntry checkRow
     entries-overflow made rows ls I (derive {l = l} false s r p) es _ w d c q b (next f {fs = fs} x t) k h =
-        after-steps (binds _ (row-accepted (edition m) K here rows made f x) ∙ needs _ _ _ (lt→ltb rows 1_024 (omega arith)) ∙ binds _ (derived-accepted here rows (f .at) ls s))
+        after-steps (binds _ (row-accepted (edition m) K here rows (there made) f x) ∙ needs _ _ _ (lt→ltb rows 1_024 (omega arith)) ∙ binds _ (derived-accepted here rows (f .at) ls s))
         (room-then here rows (f .at) ls l r _ λ y.
         entries-overflow (some l) (suc rows) (ls ▷ l) I p es fs (words-new occ w s) d c (omega arith) b t (omega (arith, one-more ls l)) h)
     entries-overflow made rows ls I (derive {l = l} true s r p) es _ w d c q b (next f x (next f2 {fs = fs} x2 t)) k h =
-        after-steps (binds _ (row-accepted (edition m) K here rows made f x) ∙ needs _ _ _ (lt→ltb rows 1_024 (omega arith)) ∙ binds _ (derived-accepted here rows (f .at) ls s))
+        after-steps (binds _ (row-accepted (edition m) K here rows (there made) f x) ∙ needs _ _ _ (lt→ltb rows 1_024 (omega arith)) ∙ binds _ (derived-accepted here rows (f .at) ls s))
         (room-then here rows (f .at) ls l r _ λ y.
-        after-steps (binds _ (claim-accepted (edition m) K here (suc rows) l f2 x2) ∙ binds _ (found-some _ refl) ∙ needs _ _ _ (states-own l))
+        after-steps (binds _ (claim-accepted (edition m) K here (suc rows) f2 x2) ∙ binds _ (found-some _ refl) ∙ needs _ _ _ (states-own l))
         (entries-overflow none (suc rows) (ls ▷ l) I p es fs (words-new occ w s) d c (omega arith) b t (omega (arith, one-more ls l)) h))
     entries-overflow made rows ls I (strengthen i p r p1 pE p0) es _ w d c q b (next f {fs = fs} x t) k h =
-        after-steps (binds _ (row-accepted (edition m) K here rows made f x) ∙ needs _ _ _ (lt→ltb rows 1_024 (omega arith)))
+        after-steps (binds _ (row-accepted (edition m) K here rows (there made) f x) ∙ needs _ _ _ (lt→ltb rows 1_024 (omega arith)))
         (strengthen-overflows here (f .at) fs (checkEntries (edition m) K here deeper fs) rows w k es i p r p1 pE p0 g d c q b t h)
     entries-overflow made rows ls I (round i s z r p ps) es _ w d c q b (next f {fs = fs} x t) k h =
-        after-steps (binds _ (row-accepted (edition m) K here rows made f x) ∙ needs _ _ _ (lt→ltb rows 1_024 (omega arith)))
+        after-steps (binds _ (row-accepted (edition m) K here rows (there made) f x) ∙ needs _ _ _ (lt→ltb rows 1_024 (omega arith)))
         (round-overflows here (f .at) fs (checkEntries (edition m) K here deeper fs) rows w k es r p ps g d c q b t h)
     entries-overflow made rows ls I (splitEq i p r1 r2 p1 p2) es _ w d c q b (next f {fs = fs} x t) k h =
-        after-steps (binds _ (row-accepted (edition m) K here rows made f x) ∙ needs _ _ _ (lt→ltb rows 1_024 (omega arith)))
+        after-steps (binds _ (row-accepted (edition m) K here rows (there made) f x) ∙ needs _ _ _ (lt→ltb rows 1_024 (omega arith)))
         (split-eq-overflows here (f .at) fs (checkEntries (edition m) K here deeper fs) rows w k es i p r1 r2 p1 p2 g d c q b t h)
     entries-overflow made rows ls I (splitNeq i p r1 r2 p1 p2) es _ w d c q b (next f {fs = fs} x t) k h =
-        after-steps (binds _ (row-accepted (edition m) K here rows made f x) ∙ needs _ _ _ (lt→ltb rows 1_024 (omega arith)))
+        after-steps (binds _ (row-accepted (edition m) K here rows (there made) f x) ∙ needs _ _ _ (lt→ltb rows 1_024 (omega arith)))
         (split-neq-overflows here (f .at) fs (checkEntries (edition m) K here deeper fs) rows w k es i p r1 r2 p1 p2 g d c q b t h)
     entries-overflow made rows ls I (number i p z y) es fs w d c q b t k h = absurd (omega arith)
     entries-overflow made rows ls I (stride i s p y all z is) es fs w d c q b t k h = absurd (omega arith)

@@ -8,7 +8,7 @@ use native.Mathlib.Omega.{arith}
 use lib.Dec.{T, eqb→eq, eqb-refl}
 use lib.ListN.{length, length-append}
 use Rattle.forms.specs.Edition.{Edition, edition, edition1, newestEdition}
-use Rattle.forms.specs.Forms.{Form, Line, All, nil, cons}
+use Rattle.forms.specs.Forms.{Form, All, nil, cons}
 use Rattle.calculus.specs.Rules.{Row, Derive, Strengthen, CloseNumber, CloseStride, Round, Split, Entry, row, claim}
 use Rattle.answers.specs.Answers.{answer, fileProof, Result, accepted, _>>=_, _>>_}
 use Rattle.answers.proofs.Results.{Gives, gives-refused, gives-accepted, weaken, bind, seq, test, finds, binds, passes, needs, found-some}
@@ -16,37 +16,32 @@ use Rattle.number_bytes.specs.Numbers.{Bytes}
 use Rattle.fields.specs.declared.FileKind.{FileKind}
 use Rattle.fields.specs.Fields.{Field, Fields, ends, cut, _▸_, Item, item, fields, items, note, Framed, fieldBytes, fileOf, withoutNotes, unlessNoteItem}
 use Rattle.fields.specs.Header.{headerTag, known, agrees, Header, headerBytes}
-use Rattle.fields.proofs.HeaderLaid.{by-tag, first-of, not-empty, LaidHeader, header-gives, header-read, next-items}
+use Rattle.fields.proofs.HeaderLaid.{first-of, not-empty, LaidHeader, header-gives, header-read, next-items}
 use Rattle.fields.proofs.Framing.{items-fileOf}
 use Rattle.fields.proofs.Contents.{ItemBytes, contents-bytes}
 use Rattle.bundle.specs.Layout.{Each}
+use Rattle.bundle.proofs.Writable.{header-file}
 use Rattle.bundle.proofs.Laid.{Lists, done, next, listed, short-gives, short-accepted}
 use Rattle.proof.specs.Entries.{EntryTag, combineTag, reduceTag, scaleTag, strengthenTag, numberTag, strideTag, roundTag, splitTag, claimTag, entryTagged, inPlace, sizeOf, entryFrom, entry}
 use Rattle.proof.specs.Layout.{Enters, ProofFile}
-use Rattle.conversion.specs.Turning.{other, linesFit, linesTurned, fieldsTurned, someLine, madeBy, entriesRead, resultWithin, proofTurned}
+use Rattle.proof.proofs.Entered.{entry-known}
+use Rattle.conversion.specs.Turning.{other, linesFit, linesTurned, fieldsTurned, makesLine, entriesRead, resultWithin, proofTurned}
 use Rattle.conversion.specs.Turnable.{InTurn, none-left, a-row, a-claim, turnedItem}
 use Rattle.conversion.proofs.Asking.{Asked, down, up, asked-gives, asked-accepted, other-first, other-last, asked-first, asked-last, asked-back, other-other, other-gives, other-accepted, same-edition, Fit, ends-fit, cut-fit, next-fits, each-field-gives, each-field-accepted, within-gives, within-accepted}
 use Rattle.conversion.proofs.Carried.{turned-enters, turned-framed, entry-no-note, back-fits, back-same}
 
 -- ---- entries with each claim in its place
-claim-made : {made : Option Line} {t tA : Form} {es : List Entry} → InTurn made (claim t tA ∷ es) → (l : Line) × (made ≡ some l)
-claim-made (a-claim {l = l} h) = (l, refl)
+claim-made : {made : Bool} {t tA : Form} {es : List Entry} → InTurn made (claim t tA ∷ es) → T made
+claim-made (a-claim h) = tt
 
-then-turn : {made : Option Line} {x : Entry} {es : List Entry} → InTurn made (x ∷ es) → InTurn (madeBy x) es
-unfolding madeBy
+then-turn : {made : Bool} {x : Entry} {es : List Entry} → InTurn made (x ∷ es) → InTurn (makesLine x) es
+unfolding makesLine
 then-turn (a-row r h) = h
 then-turn (a-claim h) = h
 
-entry-known : (tag : ℕ) (x : EntryTag) → entryTagged tag ≡ some x → T (known FileKind.Proof tag)
-unfolding entryTagged known headerTag
-entry-known tag x h =
-    let P : ℕ → Type 0 = λ n. T (known FileKind.Proof n) in
-    by-tag P tag 0x10 combineTag tt (by-tag P tag 0x11 reduceTag tt (by-tag P tag 0x12 scaleTag tt (by-tag P tag 0x13 strengthenTag tt
-    (by-tag P tag 0x14 numberTag tt (by-tag P tag 0x15 strideTag tt (by-tag P tag 0x16 roundTag tt (by-tag P tag 0x17 splitTag tt (by-tag P tag 0x20 claimTag tt (λ e. absurd (let z : _≡_ {A = ℕ} 0 1 = cc in omega arith)))))))))) h
-
 module _ (e : Edition) (K : ℕ) where
-  in-turn : (made : Option Line) (x : EntryTag) (bs : List ℕ) → T (inPlace made x) → {es : List Entry} → InTurn (madeBy (entryFrom e K x bs)) es → InTurn made (entryFrom e K x bs ∷ es)
-  unfolding inPlace entryFrom madeBy
+  in-turn : (made : Bool) (x : EntryTag) (bs : List ℕ) → T (inPlace made x) → {es : List Entry} → InTurn (makesLine (entryFrom e K x bs)) es → InTurn made (entryFrom e K x bs ∷ es)
+  unfolding inPlace entryFrom makesLine
   in-turn made combineTag bs t h = a-row _ h
   in-turn made reduceTag bs t h = a-row _ h
   in-turn made scaleTag bs t h = a-row _ h
@@ -55,10 +50,10 @@ module _ (e : Edition) (K : ℕ) where
   in-turn made strideTag bs t h = a-row _ h
   in-turn made roundTag bs t h = a-row _ h
   in-turn made splitTag bs t h = a-row _ h
-  in-turn none claimTag bs t h = absurd t
-  in-turn (some l) claimTag bs t h = a-claim h
+  in-turn false claimTag bs t h = absurd t
+  in-turn true claimTag bs t h = a-claim h
 
-  in-place : (made : Option Line) (x : EntryTag) (bs : List ℕ) {es : List Entry} → InTurn made (entryFrom e K x bs ∷ es) → T (inPlace made x)
+  in-place : (made : Bool) (x : EntryTag) (bs : List ℕ) {es : List Entry} → InTurn made (entryFrom e K x bs ∷ es) → T (inPlace made x)
   unfolding inPlace entryFrom
   in-place made combineTag bs h = tt
   in-place made reduceTag bs h = tt
@@ -68,19 +63,19 @@ module _ (e : Edition) (K : ℕ) where
   in-place made strideTag bs h = tt
   in-place made roundTag bs h = tt
   in-place made splitTag bs h = tt
-  in-place made claimTag bs h = let (l, is) = claim-made h in rw is tt
+  in-place made claimTag bs h = claim-made h
 
   -- One field.
-  record Entered (made : Option Line) (i : Item) (x : Entry) : Type 0 where
+  record Entered (made : Bool) (i : Item) (x : Entry) : Type 0 where
     enters : Enters e K i x
-    turn : {es : List Entry} → InTurn (madeBy x) es → InTurn made (x ∷ es)
+    turn : {es : List Entry} → InTurn (makesLine x) es → InTurn made (x ∷ es)
 
-  entry-gives : (made : Option Line) (f : Field) → Gives (entry e K (λ n. answer n fileProof (f .at)) made f) (Entered made (item (f .tag) (f .contents)))
+  entry-gives : (made : Bool) (f : Field) → Gives (entry e K (λ n. answer n fileProof (f .at)) made f) (Entered made (item (f .tag) (f .contents)))
   unfolding entry
   entry-gives made f = test _ _ tt λ _. bind (finds _ (entryTagged (f .tag)) tt) λ x t. test _ _ tt λ p. test _ _ tt λ n.
       gives-accepted (record { enters = record { tagged = x; tag = t; size = eqb→eq (length (f .contents)) (sizeOf e K x) n; entry = refl }; turn = λ h. in-turn made x (f .contents) p h })
 
-  entry-accepts : (made : Option Line) (f : Field) {x : Entry} → Enters e K (item (f .tag) (f .contents)) x → {es : List Entry} → InTurn made (x ∷ es)
+  entry-accepts : (made : Bool) (f : Field) {x : Entry} → Enters e K (item (f .tag) (f .contents)) x → {es : List Entry} → InTurn made (x ∷ es)
       → entry e K (λ n. answer n fileProof (f .at)) made f ≡ accepted x
   unfolding entry
   entry-accepts made f h {es} t = needs _ _ _ (entry-known (f .tag) (h .tagged) (h .tag)) ∙ binds _ (found-some _ (h .tag))
@@ -88,21 +83,21 @@ module _ (e : Edition) (K : ℕ) where
       ∙ needs _ _ _ (rw (h .size) (eqb-refl (sizeOf e K (h .tagged)))) ∙ ap accepted (h .entry)
 
   -- All fields after the header.
-  pub record EntriesIn (made : Option Line) (fs : Fields) : Type 0 where
+  pub record EntriesIn (made : Bool) (fs : Fields) : Type 0 where
     pub es : List Entry
     pub lists : Lists (Enters e K) fs es
     pub turn : InTurn made es
 
-  pub entries-give : (made : Option Line) (fs : Fields) → Gives (entriesRead e K made fs) (λ _. EntriesIn made fs)
+  pub entries-give : (made : Bool) (fs : Fields) → Gives (entriesRead e K made fs) (λ _. EntriesIn made fs)
   unfolding entriesRead
   entries-give made (ends at) = gives-accepted (record { es = []; lists = done at; turn = none-left })
   entries-give made (cut at) = gives-refused _ tt
-  entries-give made (f ▸ fs) = bind (entry-gives made f) λ x n. weaken (entries-give (madeBy x) fs) λ _ r. record { es = x ∷ r .es; lists = next f (n .enters) (r .lists); turn = n .turn (r .turn) }
+  entries-give made (f ▸ fs) = bind (entry-gives made f) λ x n. weaken (entries-give (makesLine x) fs) λ _ r. record { es = x ∷ r .es; lists = next f (n .enters) (r .lists); turn = n .turn (r .turn) }
 
-  pub entries-accept : (made : Option Line) {fs : Fields} {es : List Entry} → Lists (Enters e K) fs es → InTurn made es → entriesRead e K made fs ≡ accepted tt
+  pub entries-accept : (made : Bool) {fs : Fields} {es : List Entry} → Lists (Enters e K) fs es → InTurn made es → entriesRead e K made fs ≡ accepted tt
   unfolding entriesRead
   entries-accept made (done at) t = refl
-  entries-accept made (next f {x = x} s l) t = binds _ (entry-accepts made f s t) ∙ entries-accept (madeBy x) l (then-turn t)
+  entries-accept made (next f {x = x} s l) t = binds _ (entry-accepts made f s t) ∙ entries-accept (makesLine x) l (then-turn t)
 
 -- ---- the fields as items
 -- The items of fields that state entries; each passes the test; and the bytes of these fields turned.
@@ -142,10 +137,6 @@ fit-of {P} fs h (cons {x = i} {xs = is} p ps) =
 abbrev pub proofItems : (n K : ℕ) → List Item → List Item
 proofItems n K is = item 0x01 (n ∷ []) ∷ item 0x02 (K ∷ []) ∷ is
 
-pub header-file : (n K : ℕ) (is : List Item) → headerBytes n K ++ fileOf is ≡ fileOf (proofItems n K is)
-unfolding fileOf headerBytes
-header-file n K is = append-assoc (fieldBytes 0x01 (n ∷ [])) (fieldBytes 0x02 (K ∷ [])) (fileOf is)
-
 one-list : {is js : List Item} {o : Option (List Item)} → o ≡ some is → o ≡ some js → is ≡ js
 one-list p q = cc
 
@@ -155,7 +146,7 @@ pub record ProofTurns (to : ℕ) (file bytes : List ℕ) : Type 0 where
   pub K : ℕ
   pub es : List Entry
   pub source : ProofFile newestEdition file (other to) K es
-  pub turn : InTurn none es
+  pub turn : InTurn false es
   pub held : All (λ i. T (linesFit (edition (other to)) (edition to) i)) (source .body)
   pub are : bytes ≡ fileOf (proofItems to K (map (turnedItem (other to) to) (source .body)))
   pub short : length bytes ≤ 65_536
@@ -167,7 +158,7 @@ module _ (to : ℕ) (file : List ℕ) where
   abbrev TurnedAs : ℕ → Type 0
   TurnedAs n = (K : ℕ) (rest : Fields) → 1 ≤ K → K ≤ edition1 .constants
       → ((is : List Item) → items rest ≡ some is → items (fields file) ≡ some (proofItems n K is))
-      → EntriesIn (edition n) K none rest → Fit (λ i. T (linesFit (edition n) (edition to) i)) rest → length (Rest n K rest) ≤ 65_536 → ProofTurns to file (Rest n K rest)
+      → EntriesIn (edition n) K false rest → Fit (λ i. T (linesFit (edition n) (edition to) i)) rest → length (Rest n K rest) ≤ 65_536 → ProofTurns to file (Rest n K rest)
 
   turned-as : Asked to → length file ≤ 65_536 → TurnedAs (other to)
   turned-as a l K rest low high from x h s =
@@ -179,14 +170,14 @@ module _ (to : ℕ) (file : List ℕ) where
         source = record { first = other-first a; last = other-last a; short = l; body = b .list; whole = from (b .list) (b .are); low = low; high = high; enters = b .each };
         turn = x .turn;
         held = b .held;
-        are = ap (λ (bs : List ℕ). headerBytes to K ++ bs) (b .turned) ∙ header-file to K (map (turnedItem (other to) to) (b .list));
+        are = ap (λ (bs : List ℕ). headerBytes to K ++ bs) (b .turned) ∙ sym (header-file to K (map (turnedItem (other to) to) (b .list)));
         short = s;
       }
 
   pub proof-turned-gives : Gives (proofTurned to file) (ProofTurns to file)
   unfolding proofTurned
   proof-turned-gives = seq (asked-gives to) λ a. seq (short-gives _ fileProof file) λ l. seq (other-gives FileKind.Proof fileProof to (fields file)) λ s.
-      bind (header-gives FileKind.Proof fileProof newestEdition none (fields file)) λ h d. seq (entries-give (edition (h .number)) (h .K) none (h .rest)) λ x.
+      bind (header-gives FileKind.Proof fileProof newestEdition none (fields file)) λ h d. seq (entries-give (edition (h .number)) (h .K) false (h .rest)) λ x.
       seq (each-field-gives 10 fileProof _ tt (h .rest)) λ f. weaken (within-gives _ _) λ bs r.
       let b = body-of (h .number) to (h .K) (x .lists) f in
       let e : h .number ≡ other to = same-edition (fields file) (other to) (h .number) _ s (d .from (b .list) (b .are)) in
@@ -196,7 +187,7 @@ module _ (to : ℕ) (file : List ℕ) where
   abbrev resultOf : (K : ℕ) → List Item → List ℕ
   resultOf K body = fileOf (proofItems to K (map (turnedItem (other to) to) body))
 
-  pub proof-turned-as : Asked to → {K : ℕ} {es : List Entry} (f : ProofFile newestEdition file (other to) K es) → InTurn none es
+  pub proof-turned-as : Asked to → {K : ℕ} {es : List Entry} (f : ProofFile newestEdition file (other to) K es) → InTurn false es
       → All (λ i. T (linesFit (edition (other to)) (edition to) i)) (f .body) → proofTurned to file ≡ resultWithin 65_536 (resultOf K (f .body))
   unfolding proofTurned agrees known headerTag
   proof-turned-as a {K} {es} f t held =
@@ -205,16 +196,16 @@ module _ (to : ℕ) (file : List ℕ) where
       let k : Fit (λ i. T (linesFit (edition (other to)) (edition to) i)) (h .after) = fit-of (h .after) (h .rest) held in
       let b = body-of (other to) to K l k in
       let same : Rest (other to) K (h .after) ≡ resultOf K (f .body) =
-      ap (λ (bs : List ℕ). headerBytes to K ++ bs) (b .turned) ∙ header-file to K (map (turnedItem (other to) to) (b .list)) ∙ ap (resultOf K) (one-list (b .are) (h .rest)) in
+      ap (λ (bs : List ℕ). headerBytes to K ++ bs) (b .turned) ∙ sym (header-file to K (map (turnedItem (other to) to) (b .list))) ∙ ap (resultOf K) (one-list (b .are) (h .rest)) in
       passes _ (asked-accepted a)
       ∙ passes _ (short-accepted _ fileProof file (f .short))
       ∙ passes _ (other-accepted FileKind.Proof fileProof to (fields file) _ tt (f .whole))
       ∙ binds _ (h .reads)
-      ∙ passes _ (entries-accept (edition (other to)) K none l t)
+      ∙ passes _ (entries-accept (edition (other to)) K false l t)
       ∙ passes _ (each-field-accepted 10 fileProof _ k)
       ∙ ap (resultWithin 65_536) same
 
-  pub proof-turned-accepts : Asked to → {K : ℕ} {es : List Entry} (f : ProofFile newestEdition file (other to) K es) → InTurn none es
+  pub proof-turned-accepts : Asked to → {K : ℕ} {es : List Entry} (f : ProofFile newestEdition file (other to) K es) → InTurn false es
       → All (λ i. T (linesFit (edition (other to)) (edition to) i)) (f .body) → length (resultOf K (f .body)) ≤ 65_536 → proofTurned to file ≡ accepted (resultOf K (f .body))
   proof-turned-accepts a f t held short = proof-turned-as a f t held ∙ within-accepted 65_536 _ short
 

@@ -1,23 +1,22 @@
 -- Turning a bundle or a proof into the other edition. Document 02, point 4. Assumes nothing.
-use mathlib.Core.Option.{Option, none, some}
-use mathlib.Core.Bool.{Bool, cond, _&&_}
-use mathlib.Core.List.{List, [], _∷_, _++_}
-use Prim.Native.Nat.{ℕ, zero, suc, _*_, _^_}
+use mathlib.Core.Option.{none}
+use mathlib.Core.Bool.{Bool, true, false, cond, _&&_}
+use mathlib.Core.List.{List, [], _++_}
+use Prim.Native.Nat.{ℕ, _^_}
 use lib.Dec.{leb, ltb, eqb}
-use lib.IntN.{pos}
-use lib.ListN.{length, take, drop}
+use lib.ListN.{length}
 use Rattle.forms.specs.Edition.{Edition, edition, newestEdition}
-use Rattle.forms.specs.Forms.{≤0, Line, line, every}
+use Rattle.forms.specs.Forms.{every}
 use Rattle.calculus.specs.Rules.{Derive, Strengthen, CloseNumber, CloseStride, Round, Split, Entry, row, claim}
 use Rattle.answers.specs.Answers.{answer, fileA, fileProof, fileLent, Result, refused, accepted, _>>=_, _>>_, need, Written, written}
-use Rattle.number_bytes.specs.Numbers.{unsigned, unsignedBytes, flat, formFrom}
+use Rattle.number_bytes.specs.Numbers.{unsigneds, flat, formFrom}
 use Rattle.fields.specs.declared.FileKind.{FileKind}
 use Rattle.fields.specs.Fields.{Fields, ends, cut, _▸_, fields, fieldBytes, Item, item}
 use Rattle.fields.specs.Header.{Header, headerField, header, headerBytes}
 use Rattle.bundle.specs.Bundle.{Bundle, atMost, bundle}
 use Rattle.bundle.specs.Read.{kindsOf, numbersOf}
 use Rattle.bundle.specs.Write.{constraintsBytes, holdable}
-use Rattle.proof.specs.Entries.{EntryTag, combineTag, reduceTag, scaleTag, strengthenTag, numberTag, strideTag, roundTag, splitTag, claimTag, entryTagged, entry}
+use Rattle.proof.specs.Entries.{entryTagged, lineCount, renumbered, entry}
 
 -- ---- the editions
 -- A file is turned into the edition asked for from the other one.
@@ -78,39 +77,17 @@ unfoldable pub turnBundle : (to : ℕ) (file output : List ℕ) → Written
 turnBundle to file output = written (bundleTurned to file) output
 
 -- ---- a proof: from the edition e to e′, each line number in the other width
--- How many line numbers a row begins with; a claim has none.
-unfoldable pub lineCount : Option EntryTag → ℕ
-lineCount none = 0
-lineCount (some combineTag) = 2
-lineCount (some reduceTag) = 2
-lineCount (some scaleTag) = 1
-lineCount (some strengthenTag) = 1
-lineCount (some numberTag) = 1
-lineCount (some strideTag) = 1
-lineCount (some roundTag) = 1
-lineCount (some splitTag) = 1
-lineCount (some claimTag) = 0
-
--- n numbers of w bytes each, and the other way.
-unfoldable pub unsigneds : (w n : ℕ) → List ℕ → List ℕ
-unsigneds w zero bs = []
-unsigneds w (suc n) bs = unsigned (take w bs) ∷ unsigneds w n (drop w bs)
-
-unfoldable pub unsignedsBytes : (w : ℕ) → List ℕ → List ℕ
-unsignedsBytes w [] = []
-unsignedsBytes w (n ∷ ns) = unsignedBytes w n ++ unsignedsBytes w ns
+abbrev pub linesNamed : (e : Edition) → Item → List ℕ
+linesNamed e i = unsigneds (e .lineWidth) (lineCount (entryTagged (i .tag))) (i .contents)
 
 module _ (e e′ : Edition) where
-  abbrev pub linesNamed : Item → List ℕ
-  linesNamed i = unsigneds (e .lineWidth) (lineCount (entryTagged (i .tag))) (i .contents)
-
   -- The new width holds each line number. (Turning up it always does.)
   unfoldable pub linesFit : Item → Bool
-  linesFit i = every (λ n. ltb n (256 ^ e′ .lineWidth)) (linesNamed i)
+  linesFit i = every (λ n. ltb n (256 ^ e′ .lineWidth)) (linesNamed e i)
 
   -- The line numbers in the new width, and what stands behind them as it is: multipliers, strides, and a claim's forms.
   unfoldable pub linesTurned : Item → List ℕ
-  linesTurned i = unsignedsBytes (e′ .lineWidth) (linesNamed i) ++ drop (lineCount (entryTagged (i .tag)) * e .lineWidth) (i .contents)
+  linesTurned i = renumbered (e .lineWidth) (e′ .lineWidth) (λ n. n) (lineCount (entryTagged (i .tag))) (i .contents)
 
 -- The fields in order, each with its tag and its contents turned. Notes are not among them.
 unfoldable pub fieldsTurned : (turn : Item → List ℕ) → Fields → List ℕ
@@ -118,26 +95,23 @@ fieldsTurned turn (ends at) = []
 fieldsTurned turn (cut at) = []
 fieldsTurned turn (f ▸ fs) = fieldBytes (f .tag) (turn (item (f .tag) (f .contents))) ++ fieldsTurned turn fs
 
--- What a claim may state behind an entry: after a row 0x10 to 0x12 the line that it made, whichever that is; lines are not looked at here.
-abbrev pub someLine : Line
-someLine = line ≤0 (record { coeffs = []; d = pos 0 }) (record { coeffs = []; d = pos 0 })
-
-unfoldable pub madeBy : Entry → Option Line
-madeBy (row (Derive s)) = some someLine
-madeBy (row (Strengthen t)) = none
-madeBy (row (Split t)) = none
-madeBy (row (CloseNumber t)) = none
-madeBy (row (CloseStride t g)) = none
-madeBy (row (Round t g k)) = none
-madeBy (claim t tA) = none
+-- Whether a claim may stand behind an entry: after a row 0x10 to 0x12, which makes a line. (Which line it is is not looked at here.)
+unfoldable pub makesLine : Entry → Bool
+makesLine (row (Derive s)) = true
+makesLine (row (Strengthen t)) = false
+makesLine (row (Split t)) = false
+makesLine (row (CloseNumber t)) = false
+makesLine (row (CloseStride t g)) = false
+makesLine (row (Round t g k)) = false
+makesLine (claim t tA) = false
 
 -- The fields after the header: each is an entry as in check. 2, 3, 4, 6.
-unfoldable pub entriesRead : (e : Edition) (K : ℕ) (made : Option Line) → Fields → Result (Unit {0})
+unfoldable pub entriesRead : (e : Edition) (K : ℕ) (made : Bool) → Fields → Result (Unit {0})
 entriesRead e K made (ends at) = accepted tt
 entriesRead e K made (cut at) = refused (answer 2 fileProof at)
 entriesRead e K made (f ▸ fs) = do
   x ← entry e K (λ n. answer n fileProof (f .at)) made f
-  entriesRead e K (madeBy x) fs
+  entriesRead e K (makesLine x) fs
 
 -- 5; 1; 2, 3, 4, 6 and 5 for the field 0x01; then as check, 2, 3, 4, 6, 7. The whole file read, 10 for a line number that the edition asked for cannot hold; 1.
 unfoldable pub proofTurned : (to : ℕ) → List ℕ → Result (List ℕ)
@@ -146,7 +120,7 @@ proofTurned to file = do
   atMost (edition newestEdition .proofBytes) fileProof file
   otherEdition FileKind.Proof fileProof to (fields file)
   h ← header FileKind.Proof fileProof newestEdition none (fields file)
-  entriesRead (edition (h .number)) (h .K) none (h .rest)
+  entriesRead (edition (h .number)) (h .K) false (h .rest)
   eachField 10 fileProof (linesFit (edition (h .number)) (edition to)) (h .rest)
   resultWithin (edition to .proofBytes) (headerBytes to (h .K) ++ fieldsTurned (linesTurned (edition (h .number)) (edition to)) (h .rest))
 

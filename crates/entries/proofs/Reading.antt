@@ -14,8 +14,7 @@ use lib.Signed.{mag}
 use borrow.Author.Tests.{eq-eqb, ne-eqb, leb-true, eqb-true}
 use Rattle.integers.specs.Magnitude.{Within}
 use Rattle.forms.specs.Edition.{edition}
-use Rattle.forms.proofs.Editions.{lineWidth-is}
-use Rattle.forms.specs.Forms as forms
+use Rattle.forms.proofs.Editions.{lineWidth-some}
 use Rattle.forms.specs.declared.LineNumber.{LineNumber}
 use Rattle.calculus.specs.Rules as rules
 use Rattle.answers.specs.declared.Answer.{Answer}
@@ -26,8 +25,9 @@ use Rattle.fields.specs.declared.FileKind.{FileKind}
 use Rattle.fields.specs.Fields.{Field}
 use Rattle.fields.specs.Header.{known, headerTag}
 use Rattle.proof.specs.Entries.{EntryTag, combineTag, reduceTag, scaleTag, strengthenTag, numberTag, strideTag, roundTag, splitTag, claimTag, sizeOf, entryFrom, lineNumber, multiplier, entryTagged, inPlace, entry}
-use Rattle.lines.proofs.Parts.{part-part}
-use Rattle.entries.specs.Entries.{Multiplies, entryOf, Ranged, Filled, Shaped, claimed, there, Entered}
+use Rattle.proof.proofs.Entered.{unknown, entry-unknown, entry-none, entry-out, entry-in}
+use Rattle.number_bytes.proofs.Stores.{part-part}
+use Rattle.entries.specs.Entries.{Multiplies, entryOf, Ranged, Filled, Shaped, claimed, Entered}
 use Rattle.entries.specs.declared.Entry.{Entry}
 
 pub multiplies-abs : {n : ℕ} {z : ℤ} → Multiplies n z → n ≡ natAbs z
@@ -46,13 +46,6 @@ held-abs (negsuc n) h = omega arith
 
 held-within : {z : ℤ} → Held 2 z → Within 65535 z
 held-within {z} h = record { abs = held-abs z (h .held .half) }
-
--- ---- line numbers of an edition
-pub lineWidth-most : (n : ℕ) → edition n .lineWidth ≤ 2
-lineWidth-most n = elim (lineWidth-is n) [ inl e ↦ omega (arith, e) | inr e ↦ omega (arith, e) ]
-
-lineWidth-some : (n : ℕ) → 1 ≤ edition n .lineWidth
-lineWidth-some n = elim (lineWidth-is n) [ inl e ↦ omega (arith, e) | inr e ↦ omega (arith, e) ]
 
 -- ---- the contents of a field
 module _ (p : List ℕ) (start len : ℕ) (there : start + len ≤ length p) where
@@ -165,85 +158,66 @@ module _ (p : List ℕ) (start len : ℕ) (there : start + len ≤ length p) whe
 
         pub strengthen-is : Shaped n strengthenTag p start len (Entry.Strengthen t)
         unfolding sizeOf entryFrom
-        strengthen-is = right-size strengthenTag h (λ K. sym width) (λ refusal K. rw only-line) (λ K. tt) some-byte
+        strengthen-is = right-size strengthenTag h (λ K. omega (arith, width)) (λ refusal K. rw only-line) (λ K. tt) some-byte
 
         pub split-is : Shaped n splitTag p start len (Entry.Split t)
         unfolding sizeOf entryFrom
-        split-is = right-size splitTag h (λ K. sym width) (λ refusal K. rw only-line) (λ K. tt) some-byte
+        split-is = right-size splitTag h (λ K. omega (arith, width)) (λ refusal K. rw only-line) (λ K. tt) some-byte
 
         pub number-is : Shaped n numberTag p start len (Entry.CloseNumber t)
         unfolding sizeOf entryFrom
-        number-is = right-size numberTag h (λ K. sym width) (λ refusal K. rw only-line) (λ K. tt) some-byte
+        number-is = right-size numberTag h (λ K. omega (arith, width)) (λ refusal K. rw only-line) (λ K. tt) some-byte
 
 -- ---- the entry of a field, by its tag
 abbrev fieldOf : (at tag : ℕ) → List ℕ → Field
 fieldOf at tag bs = record { at = at; tag = tag; contents = bs }
 
-module _ (n : ℕ) (refusal : ℕ → Answer) (K at tag : ℕ) (bs : List ℕ) (l : Option forms.Line) where
-  entry-unknown : known FileKind.Proof tag ≡ false → entry (edition n) K refusal l (fieldOf at tag bs) ≡ refused (refusal 3)
-  unfolding entry _>>_ need
-  entry-unknown e = rw e
-
-  entry-none : known FileKind.Proof tag ≡ true → entryTagged tag ≡ none → entry (edition n) K refusal l (fieldOf at tag bs) ≡ refused (refusal 4)
-  unfolding entry _>>_ _>>=_ need found
-  entry-none e f = rw (e, f)
-
-  module _ (x : EntryTag) (e : known FileKind.Proof tag ≡ true) (f : entryTagged tag ≡ some x) where
-    entry-out : inPlace l x ≡ false → entry (edition n) K refusal l (fieldOf at tag bs) ≡ refused (refusal 4)
-    unfolding entry _>>_ _>>=_ need found
-    entry-out g = rw (e, f, g)
-
-    entry-in : inPlace l x ≡ true
-        → entry (edition n) K refusal l (fieldOf at tag bs) ≡ (need (refusal 6) (eqb (length bs) (sizeOf (edition n) K x)) >> accepted (entryFrom (edition n) K x bs))
-    unfolding entry _>>_ _>>=_ need found
-    entry-in g = rw (e, f, g)
-
 module _ {p : List ℕ} {tag start len : ℕ} (n K : ℕ) (made : Bool) where
   -- of each tag below 0x20
-  entered : (x : EntryTag) → known FileKind.Proof tag ≡ true → entryTagged tag ≡ some x → ((l : Option forms.Line) → inPlace l x ≡ true)
+  entered : (x : EntryTag) → known FileKind.Proof tag ≡ true → entryTagged tag ≡ some x → inPlace made x ≡ true
       → {r : Entry} → Shaped n x p start len r → Entered n K p tag start len made r
-  entered x e f g s = record { is = λ refusal at l h. entry-in n refusal K at tag _ l x e f (g l) ∙ sym (s .is refusal K); ranged = s .ranged K; filled = s .filled }
+  entered x e f g s = record { is = λ refusal at. entry-in (edition n) K refusal made (fieldOf at tag _) x e f g ∙ sym (s .is refusal K); ranged = s .ranged K; filled = s .filled }
 
   module _ {r : Entry} where
     pub combine-in : tag ≡ 0x10 → Shaped n combineTag p start len r → Entered n K p tag start len made r
     unfolding known headerTag entryTagged inPlace
-    combine-in e s = entered combineTag (rw e) (rw e) (λ l. refl) s
+    combine-in e s = entered combineTag (rw e) (rw e) refl s
 
     pub reduce-in : tag ≡ 0x11 → Shaped n reduceTag p start len r → Entered n K p tag start len made r
     unfolding known headerTag entryTagged inPlace
-    reduce-in e s = entered reduceTag (rw e) (rw e) (λ l. refl) s
+    reduce-in e s = entered reduceTag (rw e) (rw e) refl s
 
     pub scale-in : tag ≡ 0x12 → Shaped n scaleTag p start len r → Entered n K p tag start len made r
     unfolding known headerTag entryTagged inPlace
-    scale-in e s = entered scaleTag (rw e) (rw e) (λ l. refl) s
+    scale-in e s = entered scaleTag (rw e) (rw e) refl s
 
     pub strengthen-in : tag ≡ 0x13 → Shaped n strengthenTag p start len r → Entered n K p tag start len made r
     unfolding known headerTag entryTagged inPlace
-    strengthen-in e s = entered strengthenTag (rw e) (rw e) (λ l. refl) s
+    strengthen-in e s = entered strengthenTag (rw e) (rw e) refl s
 
     pub number-in : tag ≡ 0x14 → Shaped n numberTag p start len r → Entered n K p tag start len made r
     unfolding known headerTag entryTagged inPlace
-    number-in e s = entered numberTag (rw e) (rw e) (λ l. refl) s
+    number-in e s = entered numberTag (rw e) (rw e) refl s
 
     pub stride-in : tag ≡ 0x15 → Shaped n strideTag p start len r → Entered n K p tag start len made r
     unfolding known headerTag entryTagged inPlace
-    stride-in e s = entered strideTag (rw e) (rw e) (λ l. refl) s
+    stride-in e s = entered strideTag (rw e) (rw e) refl s
 
     pub round-in : tag ≡ 0x16 → Shaped n roundTag p start len r → Entered n K p tag start len made r
     unfolding known headerTag entryTagged inPlace
-    round-in e s = entered roundTag (rw e) (rw e) (λ l. refl) s
+    round-in e s = entered roundTag (rw e) (rw e) refl s
 
     pub split-in : tag ≡ 0x17 → Shaped n splitTag p start len r → Entered n K p tag start len made r
     unfolding known headerTag entryTagged inPlace
-    split-in e s = entered splitTag (rw e) (rw e) (λ l. refl) s
+    split-in e s = entered splitTag (rw e) (rw e) refl s
 
   pub header-in : tag ≡ 0x01 → Entered n K p tag start len made (Entry.Refused 4)
   unfolding known headerTag entryTagged
-  header-in e = record { is = λ refusal at l h. entry-none n refusal K at tag _ l (rw e) (rw e); ranged = tt; filled = tt }
+  header-in e = record { is = λ refusal at. entry-none (edition n) K refusal made (fieldOf at tag _) (rw e) (rw e); ranged = tt; filled = tt }
 
   pub header-in-2 : tag ≡ 0x02 → Entered n K p tag start len made (Entry.Refused 4)
   unfolding known headerTag entryTagged
-  header-in-2 e = record { is = λ refusal at l h. entry-none n refusal K at tag _ l (rw e) (rw e); ranged = tt; filled = tt }
+  header-in-2 e = record { is = λ refusal at. entry-none (edition n) K refusal made (fieldOf at tag _) (rw e) (rw e); ranged = tt; filled = tt }
 
   claimed-by : (b : Bool) → tag ≡ 0x20 → start + len ≤ length p → eqb len (8 * (K + 1)) ≡ b → Entered n K p tag start len true (elim b [ true ↦ Entry.Claim start | false ↦ Entry.Refused 6 ])
   unfolding known headerTag entryTagged inPlace sizeOf entryFrom _>>_ need
@@ -258,10 +232,9 @@ module _ {p : List ℕ} {tag start len : ℕ} (n K : ℕ) (made : Bool) where
       by true refusal q = rw (size p start len h, size-is, q)
       by false refusal q = rw (size p start len h, size-is, q)
 
-      is : (refusal : ℕ → Answer) (at : ℕ) (l : Option forms.Line) → there l ≡ true
-          → entry (edition n) K refusal l (fieldOf at tag (take len (drop start p))) ≡ entryOf refusal K (take len (drop start p)) (elim b [ true ↦ Entry.Claim start | false ↦ Entry.Refused 6 ])
-      is refusal at none t = absurd (let z : _≡_ {A = ℕ} 0 1 = cc in omega arith)
-      is refusal at (some l) t = entry-in n refusal K at tag _ (some l) claimTag (rw e) (rw e) refl ∙ by b refusal q
+      is : (refusal : ℕ → Answer) (at : ℕ)
+          → entry (edition n) K refusal true (fieldOf at tag (take len (drop start p))) ≡ entryOf refusal K (take len (drop start p)) (elim b [ true ↦ Entry.Claim start | false ↦ Entry.Refused 6 ])
+      is refusal at = entry-in (edition n) K refusal true (fieldOf at tag _) claimTag (rw e) (rw e) refl ∙ by b refusal q
 
       ranged : (b : Bool) → eqb len (8 * (K + 1)) ≡ b → Ranged K start len (elim b [ true ↦ Entry.Claim start | false ↦ Entry.Refused 6 ])
       ranged true q = (refl, omega (arith, eqb-true len (8 * (K + 1)) q))
@@ -273,38 +246,17 @@ module _ {p : List ℕ} {tag start len : ℕ} (n K : ℕ) (made : Bool) where
 
   unclaimed : tag ≡ 0x20 → Entered n K p tag start len false (Entry.Refused 4)
   unfolding known headerTag entryTagged inPlace
-  unclaimed e = record { is = is; ranged = tt; filled = tt }
-    where
-      is : (refusal : ℕ → Answer) (at : ℕ) (l : Option forms.Line) → there l ≡ false
-          → entry (edition n) K refusal l (fieldOf at tag (take len (drop start p))) ≡ refused (refusal 4)
-      is refusal at none t = entry-out n refusal K at tag _ none claimTag (rw e) (rw e) refl
-      is refusal at (some l) t = absurd (let z : _≡_ {A = ℕ} 0 1 = cc in omega arith)
+  unclaimed e = record { is = λ refusal at. entry-out (edition n) K refusal false (fieldOf at tag _) claimTag (rw e) (rw e) refl; ranged = tt; filled = tt }
 
 pub claim-in : {p : List ℕ} {tag start len n K : ℕ} (made : Bool) {r : Entry} → tag ≡ 0x20 → start + len ≤ length p → r ≡ claimed K start len made → Entered n K p tag start len made r
 claim-in {len = len} {n = n} {K = K} true e h q = rw q (claimed-by n K true (eqb len (8 * (K + 1))) e h refl)
 claim-in {n = n} {K = K} false e h q = rw q (unclaimed n K false e)
 
-above : (n : ℕ) {tag : ℕ} → n ≤ tag → (tag ≡ n → ⊥) → suc n ≤ tag
-above n h k = omega arith
-
-clash : {tag n : ℕ} {P : Type 0} → suc n ≤ tag → tag ≤ n → P
-clash h k = absurd (omega arith)
-
-between : (tag : ℕ) → (tag ≡ 0x10 → ⊥) → (tag ≡ 0x11 → ⊥) → (tag ≡ 0x12 → ⊥) → (tag ≡ 0x13 → ⊥) → (tag ≡ 0x14 → ⊥) → (tag ≡ 0x15 → ⊥) → (tag ≡ 0x16 → ⊥) → (tag ≡ 0x17 → ⊥)
-    → leb 0x10 tag && leb tag 0x17 ≡ false
-between tag a b c d e f g h = go (leb 0x10 tag) (leb tag 0x17) refl refl
-  where
-    go : (x y : Bool) → leb 0x10 tag ≡ x → leb tag 0x17 ≡ y → x && y ≡ false
-    go true true p q = clash (above 0x17 (above 0x16 (above 0x15 (above 0x14 (above 0x13 (above 0x12 (above 0x11 (above 0x10 (leb-true 0x10 tag p) a) b) c) d) e) f) g) h) (leb-true tag 0x17 q)
-    go true false p q = refl
-    go false y p q = refl
-
 pub unknown-in : {p : List ℕ} {tag start len : ℕ} (n K : ℕ) (made : Bool)
     → (tag ≡ 0x10 → ⊥) → (tag ≡ 0x11 → ⊥) → (tag ≡ 0x12 → ⊥) → (tag ≡ 0x13 → ⊥) → (tag ≡ 0x14 → ⊥) → (tag ≡ 0x15 → ⊥) → (tag ≡ 0x16 → ⊥) → (tag ≡ 0x17 → ⊥) → (tag ≡ 0x20 → ⊥)
     → (tag ≡ 0x01 → ⊥) → (tag ≡ 0x02 → ⊥) → Entered n K p tag start len made (Entry.Refused 3)
-unfolding known headerTag
 unknown-in {tag = tag} n K made a b c d e f g j i x y = record {
-  is = λ refusal at l h. entry-unknown n refusal K at tag _ l (rw (ne-eqb tag 0x01 x, ne-eqb tag 0x02 y, between tag a b c d e f g j, ne-eqb tag 0x20 i));
+  is = λ refusal at. entry-unknown (edition n) K refusal made (fieldOf at tag _) (unknown tag a b c d e f g j i x y);
   ranged = tt;
   filled = tt;
 }

@@ -2,14 +2,12 @@
 use mathlib.Core.Path.{_≡_}
 use mathlib.Core.Bool.{Bool, true, false}
 use mathlib.Core.List.{List}
-use mathlib.Core.Option.{Option, none, some}
 use Prim.Native.Nat.{ℕ, _+_, _*_, _≤_}
 use lib.Dec.{eqb}
 use lib.ListN.{length, take, drop}
 use lib.IntN.{ℤ, pos, natAbs}
 use Rattle.integers.specs.Magnitude.{Within}
 use Rattle.forms.specs.Edition.{edition, edition1, multiplierRange}
-use Rattle.forms.specs.Forms.{Line}
 use Rattle.calculus.specs.Rules as rules
 use Rattle.answers.specs.Answers.{Result, refused, accepted, _>>_, need}
 use Rattle.answers.specs.declared.Answer.{Answer}
@@ -74,14 +72,8 @@ abbrev pub claimed : (K start len : ℕ) (made : Bool) → Entry
 claimed K start len false = Refused 4
 claimed K start len true = elim (eqb len (2 * edition1 .termWidth * (K + 1))) [ true ↦ Claim start | false ↦ Refused 6 ]
 
--- Whether there is a line that a claim may state.
-abbrev pub there : Option Line → Bool
-there none = false
-there (some l) = true
-
 -- The answer for a field of a proof of edition n: 3, 4, 6, or the entry.
 pub record Entered (n K : ℕ) (p : List ℕ) (tag start len : ℕ) (made : Bool) (r : Entry) : Type 0 where
-  pub is : (refusal : ℕ → Answer) (at : ℕ) (l : Option Line) → there l ≡ made
-      → entry (edition n) K refusal l (record { at = at; tag = tag; contents = take len (drop start p) }) ≡ entryOf refusal K (take len (drop start p)) r
+  pub is : (refusal : ℕ → Answer) (at : ℕ) → entry (edition n) K refusal made (record { at = at; tag = tag; contents = take len (drop start p) }) ≡ entryOf refusal K (take len (drop start p)) r
   pub ranged : Ranged K start len r
   pub filled : Filled len r

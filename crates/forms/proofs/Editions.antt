@@ -32,6 +32,12 @@ module _ (n : ℕ) where
   pub lineWidth-is : (edition n .lineWidth ≡ 1) ⊎ (edition n .lineWidth ≡ 2)
   lineWidth-is = either (λ x. (x ≡ 1) ⊎ (x ≡ 2)) (eqb n 1) 1 2 (inl refl) (inr refl)
 
+  pub lineWidth-some : 1 ≤ edition n .lineWidth
+  lineWidth-some = either (λ x. 1 ≤ x) (eqb n 1) 1 2 (omega arith) (omega arith)
+
+  pub lineWidth-most : edition n .lineWidth ≤ 2
+  lineWidth-most = either (λ x. x ≤ 2) (eqb n 1) 1 2 (omega arith) (omega arith)
+
   -- the header and 32 constraints of 16 constants are not too long
   pub constraints-fit : 8 + 32 * (3 + 17 * edition n .coefficientWidth) ≤ edition n .bundleBytes
   constraints-fit = go (eqb n 1)

@@ -28,7 +28,7 @@ use Rattle.bundle.proofs.Laid.{Laid, bundle-gives}
 use Rattle.bundle_show.specs.Promises.{AnswersShow}
 use Rattle.bundle_read.specs.declared.ReadResult.{ReadResult}
 use Rattle.bundle_read.specs.Promises.{Reads}
-use Rattle.proof.specs.Check.{Checker, Following, checkRounded, checkSplit, checkRow, checkEntry, checkEntries, checkBranch, checkProof, formulaAtMost, interpolant, checkBy, check}
+use Rattle.proof.specs.Check.{Checker, Following, there, checkRounded, checkSplit, checkRow, checkEntry, checkEntries, checkBranch, checkProof, formulaAtMost, interpolant, checkBy, check}
 use Rattle.proof.proofs.Says.{Says as Tells, says-refused, says-accepted, bind, seq, test, finds, weaken}
 use Rattle.proof.proofs.Tree.{amidst, derived-says, fitting-says, inequality-says, roundable-says, disequality-says, byNumber-says, byStride-says, entry-says}
 use Rattle.proof.specs.Promises.{Checks}
@@ -93,7 +93,7 @@ module _ (e : Edition) (K : ℕ) where
   unfolding checkEntries
   entries-amidst p deeper d (ends at) rows made ls = says-refused tt
   entries-amidst p deeper d (cut at) rows made ls = says-refused tt
-  entries-amidst p deeper d (f ▸ fs) rows made ls = bind (entry-says e K (refusalAt p rows (f .at)) made f (λ n t. t)) λ x _.
+  entries-amidst p deeper d (f ▸ fs) rows made ls = bind (entry-says e K (refusalAt p rows (f .at)) (there made) f (λ n t. t)) λ x _.
       checkEntry-amidst e (refusalAt p rows (f .at)) (λ n t. t) K deeper d (checkEntries e K p deeper fs) (entries-amidst p deeper d fs) rows ls fs made x
 
   branch-amidst : (room : ℕ) → ChecksAmidst (checkBranch e K room)

@@ -37,7 +37,7 @@ use Rattle.guarantee.proofs.Acceptance.{of-editions, is-checkable, leav
 some-is : {X : Type 0} {x y : X} → some x ≡ some y → x ≡ y
 some-is e = cc
 
-meaning-is : (F : List Item) → All Framed F → (M : Meaning) → Faithful M → (n K : ℕ) (cs : List Constraint) → BundleFile newestEdition (fileOf F) n K cs → M F ≡ (K, cs)
+pub meaning-is : (F : List Item) → All Framed F → (M : Meaning) → Faithful M → (n K : ℕ) (cs : List Constraint) → BundleFile newestEdition (fileOf F) n K cs → M F ≡ (K, cs)
 meaning-is F framed M faithful n K cs b =
     let e : withoutNotes F ≡ b .list = some-is (sym (items-fileOf F framed) ∙ b .whole) in
     faithful n (of-editions n (b .first) (b .last)) F K cs (subst (λ (l : List Item). StatesAll n l K cs) (sym e) (b .laid))

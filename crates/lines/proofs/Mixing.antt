@@ -15,8 +15,9 @@ use Rattle.forms.specs.Edition.{edition1}
 use Rattle.forms.specs.Forms.{Form, Line, sums, _⊞_, _·_, small, every}
 use Rattle.calculus.specs.Rules.{inRange}
 use Rattle.calculus.proofs.Readings.{getD-sums, getD-scaled, length-sums}
+use Rattle.number_bytes.proofs.Stores.{part-part}
 use Rattle.lines.specs.Parts.{part, Agree}
-use Rattle.lines.proofs.Parts.{part-part, length-part, part-paste, paste-paste, getD-part, getD-paste, agree-part, agree-paste, agree-getD, agree-trans, agree-le}
+use Rattle.lines.proofs.Parts.{length-part, part-paste, paste-paste, getD-part, getD-paste, agree-part, agree-paste, agree-getD, agree-trans, agree-le}
 use Rattle.forms.specs.Flat.{lineKindOf, formIn}
 use Rattle.lines.specs.Buffer.{size, lineIn, times, mixed, Mixes, mixedLine, Terms, LineTerms}
 use Rattle.lines.proofs.Lines.{lineAs, form-ext, line-ext, before}

@@ -7,22 +7,12 @@ use native.Mathlib.Nat.{add-zero, add-assoc}
 use native.Mathlib.Omega.{arith}
 use lib.ListN.{length, getD, take, drop, set, getElem?, length-drop}
 use lib.Seq.{paste, take-paste, drop-paste, length-take-le, take-append-le, drop-append-add, take-take, take-set-le, drop-drop, getD-drop, getD-take}
+use Rattle.number_bytes.proofs.Stores.{part-take}
 use Rattle.lines.specs.Parts.{part, Agree}
 
 module _ {A : Type 0} where
   pub length-part : (at n : ℕ) (l : List A) → at + n ≤ length l → length (part at n l) ≡ n
   length-part at n l h = length-take-le n (drop at l) (simp length-drop (omega arith))
-
-  -- A part of the first m elements.
-  pub part-take : (at n m : ℕ) (l : List A) → at + n ≤ m → part at n (take m l) ≡ part at n l
-  part-take zero n m l h = take-take n m l (omega arith)
-  part-take (suc at) n zero l h = absurd (omega arith)
-  part-take (suc at) n (suc m) [] h = refl
-  part-take (suc at) n (suc m) (x ∷ l) h = part-take at n m l (omega arith)
-
-  -- A part of a part.
-  pub part-part : (o k at n : ℕ) (l : List A) → o + k ≤ n → part o k (part at n l) ≡ part (at + o) k l
-  part-part o k at n l h = part-take o k n (drop at l) h ∙ ap (take k) (drop-drop o at l)
 
   pub getD-part : (at n : ℕ) (l : List A) (j : ℕ) (z : A) → j < n → getD (part at n l) j z ≡ getD l (at + j) z
   getD-part at n l j z h = getD-take n (drop at l) j z h ∙ getD-drop at l j z

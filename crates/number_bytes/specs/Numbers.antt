@@ -39,6 +39,15 @@ residue full (negsuc n) = full - suc n
 unfoldable pub signedBytes : (w : ℕ) → ℤ → List ℕ
 signedBytes w z = unsignedBytes w (residue (256 ^ w) z)
 
+-- n numbers of w bytes each.
+unfoldable pub unsigneds : (w n : ℕ) → List ℕ → List ℕ
+unsigneds w zero bs = []
+unsigneds w (suc n) bs = unsigned (take w bs) ∷ unsigneds w n (drop w bs)
+
+unfoldable pub unsignedsBytes : (w : ℕ) → List ℕ → List ℕ
+unsignedsBytes w [] = []
+unsignedsBytes w (n ∷ ns) = unsignedBytes w n ++ unsignedsBytes w ns
+
 -- n signed numbers of w bytes each.
 unfoldable pub signeds : (w n : ℕ) → List ℕ → List ℤ
 signeds w zero bs = []

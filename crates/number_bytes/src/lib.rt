@@ -1,4 +1,5 @@
-// Numbers to and from bytes: big-endian, unsigned and two's complement, one at a time.
+// Numbers to and from bytes: big-endian, unsigned and two's complement, one at a time; and runs of bytes copied.
 // The definitions, for any width, are specs/Numbers.antt; every number in a file is one of these.
+pub mod copy;
 pub mod numbers;
 pub mod words;

@@ -22,7 +22,7 @@ use Rattle.fields.specs.Header.{headerField, editionField, constantsField, head
 use Rattle.bundle.specs.Bundle.{Bundle}
 use Rattle.proof.specs.Entries.{EntryTag, combineTag, reduceTag, scaleTag, strengthenTag, numberTag, strideTag, roundTag, splitTag, claimTag, entryTagged, multiplier, sizeOf, entryFrom, entry}
 use Rattle.proof.specs.Rows.{lineAt, derived, fitting, inequality, roundable, disequality, byNumber, byStride}
-use Rattle.proof.specs.Check.{Closing, Checker, Following, checkRounded, checkSplit, checkRow, checkEntry, checkEntries, checkBranch, checkProof}
+use Rattle.proof.specs.Check.{Closing, Checker, Following, there, checkRounded, checkSplit, checkRow, checkEntry, checkEntries, checkBranch, checkProof}
 use Rattle.proof.specs.Layout.{Enters}
 use Rattle.proof.specs.Tree.{OpenStep, openStep, Tree, tree, afterClose, roundingOf, treeBehind, innermost, startsAt, Stands, here, past}
 use Rattle.proof.proofs.Says.{Says, says-refused, says-accepted, bind, seq, says-need, test, finds, weaken}
@@ -108,7 +108,7 @@ at-front : (ps : List OpenStep) (rows : ℕ) (fs : Fields) (n : ℕ) → Stands 
 at-front ps rows fs n = here {t = tree rows ps} {fs = fs} {a = refusalAt (innermost ps) rows (startsAt fs) n} refl
 
 -- what a field is that states an entry
-pub entry-says : (e : Edition) (K : ℕ) (refusal : ℕ → Answer) (made : Option Line) (f : Field) {Q : Answer → Type 0} → ((n : ℕ) → T (amidst n) → Q (refusal n))
+pub entry-says : (e : Edition) (K : ℕ) (refusal : ℕ → Answer) (made : Bool) (f : Field) {Q : Answer → Type 0} → ((n : ℕ) → T (amidst n) → Q (refusal n))
     → Says Q (entry e K refusal made f) (Enters e K (item (f .tag) (f .contents)))
 unfolding entry
 entry-says e K refusal made f h = test _ _ (h 3 tt) λ _. bind (finds _ (entryTagged (f .tag)) (h 4 tt)) λ x t. test _ _ (h 4 tt) λ _. test _ _ (h 6 tt) λ n.
@@ -169,7 +169,7 @@ module _ (e : Edition) (two : e .multiplierWidth ≡ 2) where
   tagged-behind K strengthenTag bs size t = refl
   tagged-behind K numberTag bs size t = refl
   tagged-behind K strideTag bs size t = refl
-  tagged-behind K roundTag bs size t = ap (λ (k : ℕ). tree (suc (t .rows)) (openStep (t .rows) 0 k ∷ t .steps)) (rounding-read bs size)
+  tagged-behind K roundTag bs size t = ap (λ (k : ℕ). tree (suc (t .rows)) (openStep (t .rows) 0 k ∷ t .steps)) (rounding-read bs (omega (arith, size)))
   tagged-behind K splitTag bs size t = refl
   tagged-behind K claimTag bs size t = refl
 
@@ -256,7 +256,7 @@ module _ (e : Edition) (two : e .multiplierWidth ≡ 2) (K : ℕ) (deeper : Opti
   unfolding checkEntries startsAt
   entries-through (ends at) rows made ls = says-refused (at-front ps rows (ends at) 20)
   entries-through (cut at) rows made ls = says-refused (at-front ps rows (cut at) 2)
-  entries-through (f ▸ fs) rows made ls = bind (entry-says e K _ made f (λ n. told f fs _ (entries-through fs) rows ls n)) λ x n.
+  entries-through (f ▸ fs) rows made ls = bind (entry-says e K _ (there made) f (λ n. told f fs _ (entries-through fs) rows ls n)) λ x n.
       entry-through f fs _ (entries-through fs) rows ls made x (field-behind e two K f n (tree rows ps))
 
 branch-through : (e : Edition) → e .multiplierWidth ≡ 2 → (K : ℕ) (room : ℕ) → Places (checkBranch e K room)

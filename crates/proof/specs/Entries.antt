@@ -1,16 +1,15 @@
 -- How a proof file states its rows and claims. Document 01, "The rows" and "Fields"; document 02, points 1, 3 and 6. Assumes nothing.
 use mathlib.Core.Option.{Option, none, some}
 use mathlib.Core.Bool.{Bool, true, false}
-use mathlib.Core.List.{List}
+use mathlib.Core.List.{List, _++_, map}
 use Prim.Native.Nat.{ℕ, _+_, _*_}
 use lib.Dec.{eqb}
 use lib.ListN.{length, take, drop}
 use Rattle.forms.specs.Edition.{Edition}
-use Rattle.forms.specs.Forms.{Line}
 use Rattle.calculus.specs.Rules.{Combine, Reduce, Scale, Derive, Strengthen, CloseNumber, CloseStride, Round, Split, Entry, row, claim}
 use Rattle.answers.specs.declared.Answer.{Answer}
 use Rattle.answers.specs.Answers.{Result, accepted, _>>=_, _>>_, need, found}
-use Rattle.number_bytes.specs.Numbers.{unsigned, signed, formFrom, formWidth}
+use Rattle.number_bytes.specs.Numbers.{unsigned, unsigneds, unsignedsBytes, signed, formFrom, formWidth}
 use Rattle.fields.specs.declared.FileKind.{FileKind}
 use Rattle.fields.specs.Fields.{Field}
 use Rattle.fields.specs.Header.{known}
@@ -55,8 +54,34 @@ entryTagged tag =
           ]
     ]
 
--- A claim stands directly after a row 0x10 to 0x12 only; `made` is the line that the row before it made, if it is one of these.
-unfoldable pub inPlace : (made : Option Line) → EntryTag → Bool
+-- What stands in the contents of a tag, in this order: so many line numbers, so many multipliers (or g, or k), so many forms.
+pub record Shape : Type 0 where
+  pub lineNumbers : ℕ
+  pub multipliers : ℕ
+  pub forms : ℕ
+
+abbrev pub shape : EntryTag → Shape
+shape combineTag = record { lineNumbers = 2; multipliers = 2; forms = 0 }
+shape reduceTag = record { lineNumbers = 2; multipliers = 1; forms = 0 }
+shape scaleTag = record { lineNumbers = 1; multipliers = 1; forms = 0 }
+shape strengthenTag = record { lineNumbers = 1; multipliers = 0; forms = 0 }
+shape numberTag = record { lineNumbers = 1; multipliers = 0; forms = 0 }
+shape strideTag = record { lineNumbers = 1; multipliers = 1; forms = 0 }
+shape roundTag = record { lineNumbers = 1; multipliers = 2; forms = 0 }
+shape splitTag = record { lineNumbers = 1; multipliers = 0; forms = 0 }
+shape claimTag = record { lineNumbers = 0; multipliers = 0; forms = 2 }
+
+-- How many line numbers a field of a proof begins with; none where it is no entry.
+abbrev pub lineCount : Option EntryTag → ℕ
+lineCount none = 0
+lineCount (some x) = shape x .lineNumbers
+
+-- The n line numbers that contents begin with, w bytes each, written anew: each by way of `number` and in w′ bytes. The bytes behind them stay.
+unfoldable pub renumbered : (w w′ : ℕ) (number : ℕ → ℕ) (n : ℕ) → List ℕ → List ℕ
+renumbered w w′ number n bs = unsignedsBytes w′ (map number (unsigneds w n bs)) ++ drop (n * w) bs
+
+-- A claim stands directly after a row 0x10 to 0x12 only; `made` says whether the row before it is one of these.
+unfoldable pub inPlace : (made : Bool) → EntryTag → Bool
 inPlace made combineTag = true
 inPlace made reduceTag = true
 inPlace made scaleTag = true
@@ -65,8 +90,7 @@ inPlace made numberTag = true
 inPlace made strideTag = true
 inPlace made roundTag = true
 inPlace made splitTag = true
-inPlace none claimTag = false
-inPlace (some l) claimTag = true
+inPlace made claimTag = made
 
 module _ (e : Edition) where
   -- Line number i of a row, and the bytes of its multiplier i (or g, or k) behind n line numbers. (Line numbers have one byte in edition 1, two in edition 2: document 02, point 3.)
@@ -78,15 +102,7 @@ module _ (e : Edition) where
 
   module _ (K : ℕ) where
     unfoldable pub sizeOf : EntryTag → ℕ
-    sizeOf combineTag = 2 * e .lineWidth + 2 * e .multiplierWidth
-    sizeOf reduceTag = 2 * e .lineWidth + e .multiplierWidth
-    sizeOf scaleTag = e .lineWidth + e .multiplierWidth
-    sizeOf strengthenTag = e .lineWidth
-    sizeOf numberTag = e .lineWidth
-    sizeOf strideTag = e .lineWidth + e .multiplierWidth
-    sizeOf roundTag = e .lineWidth + 2 * e .multiplierWidth
-    sizeOf splitTag = e .lineWidth
-    sizeOf claimTag = 2 * formWidth (e .termWidth) K
+    sizeOf x = shape x .lineNumbers * e .lineWidth + shape x .multipliers * e .multiplierWidth + shape x .forms * formWidth (e .termWidth) K
 
     -- Parameters in the order given; multipliers are signed only in 0x11. A claim is t then tA.
     unfoldable pub entryFrom : EntryTag → List ℕ → Entry
@@ -101,7 +117,7 @@ module _ (e : Edition) where
     entryFrom claimTag bs = claim (formFrom (e .termWidth) K bs) (formFrom (e .termWidth) K (drop (formWidth (e .termWidth) K) bs))
 
     -- The entry that a field states; `refusal` gives the refusal by a number at this field. 3, 4, 6.
-    unfoldable pub entry : (refusal : ℕ → Answer) (made : Option Line) → Field → Result Entry
+    unfoldable pub entry : (refusal : ℕ → Answer) (made : Bool) → Field → Result Entry
     entry refusal made f = do
       need (refusal 3) (known FileKind.Proof (f .tag))
       tagged ← found (refusal 4) (entryTagged (f .tag))

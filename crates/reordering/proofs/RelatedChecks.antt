@@ -20,7 +20,7 @@ use Rattle.fields.specs.Fields.{Field, Fields, ends, cut, _▸_}
 use Rattle.bundle.specs.Layout.{Each, nil, cons}
 use Rattle.proof.specs.Entries.{EntryTag, combineTag, reduceTag, scaleTag, strengthenTag, numberTag, strideTag, roundTag, splitTag, claimTag, entryTagged, inPlace, sizeOf, entryFrom, entry}
 use Rattle.proof.specs.Rows.{is, plainKind, owner, fails, sameForm, undivided, lineAt, derived, fitting, inequality, roundable, disequality, byNumber, byStride, states}
-use Rattle.proof.specs.Check.{Closing, Checker, Following, checkRounded, checkSplit, checkRow, checkEntry, checkEntries, checkBranch}
+use Rattle.proof.specs.Check.{Closing, Checker, Following, there, checkRounded, checkSplit, checkRow, checkEntry, checkEntries, checkBranch}
 use Rattle.reordering.proofs.MappedContents.{ContentsMap, KeepsLength, mapFields}
 use Rattle.reordering.proofs.RelatedResults.{Like, alike, related, Both, neither, both, Passed, test-like, need-same, need-like, found-same, found-equal, found-like, bind-like, then-like, each-nth, each-length, each-append}
 
@@ -241,18 +241,10 @@ module _ {R : Form → Form → Type 0} (laws : Laws R) where
         checkEntry-like refusal rows b h fs (a-claim p q) = found-like _ b λ l l′ r. need-like _ (states-like p q r) λ _. n _ _ _ neither _ _ h
 
       -- ---- entries
-      in-place : {made made′ : Option Line} → Both (LineLike R) made made′ → (x : EntryTag) → inPlace made x ≡ inPlace made′ x
-      unfolding inPlace
-      in-place b combineTag = refl
-      in-place b reduceTag = refl
-      in-place b scaleTag = refl
-      in-place b strengthenTag = refl
-      in-place b numberTag = refl
-      in-place b strideTag = refl
-      in-place b roundTag = refl
-      in-place b splitTag = refl
-      in-place neither claimTag = refl
-      in-place (both l) claimTag = refl
+      -- A claim may stand in the one just where it may in the other.
+      there-alike : {made made′ : Option Line} → Both (LineLike R) made made′ → there made ≡ there made′
+      there-alike neither = refl
+      there-alike (both l) = refl
 
       -- A field of right length states related entries.
       abbrev pub Entering : Type 0
@@ -260,10 +252,10 @@ module _ {R : Form → Form → Type 0} (laws : Laws R) where
 
       module _ (keeping : KeepsLength m) (entering : Entering) where
         entry-like : (refusal : ℕ → Answer) {made made′ : Option Line} → Both (LineLike R) made made′ → (f : Field)
-            → Like (EntryLike R) (entry e K refusal made f) (entry e K refusal made′ (record { at = f .at; tag = f .tag; contents = m (f .tag) (f .contents) }))
+            → Like (EntryLike R) (entry e K refusal (there made) f) (entry e K refusal (there made′) (record { at = f .at; tag = f .tag; contents = m (f .tag) (f .contents) }))
         unfolding entry
         entry-like refusal b f =
-            need-same _ _ λ _. found-same _ _ λ x t. need-like _ (in-place b x) λ _.
+            need-same _ _ λ _. found-same _ _ λ x t. need-like _ (ap (λ (b : Bool). inPlace b x) (there-alike b)) λ _.
             need-like _ (ap (λ (n : ℕ). eqb n (sizeOf e K x)) (sym (keeping .keeps (f .tag) (f .contents)))) λ s.
             related (entering (f .tag) x t (f .contents) (eqb→eq _ _ s))
 

@@ -294,7 +294,7 @@ module _ {K : ℕ} (π : Reordering K) (n : ℕ) where
     entry-near tag strideTag t c h = row-near tag strideTag t (λ e. absurd (let z : _≡_ {A = ℕ} 0 1 = cc in omega arith)) c refl
     entry-near tag roundTag t c h = row-near tag roundTag t (λ e. absurd (let z : _≡_ {A = ℕ} 0 1 = cc in omega arith)) c refl
     entry-near tag splitTag t c h = row-near tag splitTag t (λ e. absurd (let z : _≡_ {A = ℕ} 0 1 = cc in omega arith)) c refl
-    entry-near tag claimTag t c h = claim-near tag t c h
+    entry-near tag claimTag t c h = claim-near tag t c (omega (arith, h))
 
   -- ---- formulas
   -- how many coefficients

@@ -20,7 +20,7 @@ use Rattle.number_bytes.specs.Numbers.{signed, signeds, formFrom, formWidth}
 use Rattle.number_bytes.proofs.Signed.{drop-take, length-signeds, signeds-take, signeds-last}
 use Rattle.proof.specs.Rows.{equals, sameForm, states}
 use Rattle.lines.specs.Parts.{part}
-use Rattle.lines.proofs.Parts.{part-take}
+use Rattle.number_bytes.proofs.Stores.{part-take}
 use Rattle.lines.specs.Buffer.{size, lineIn}
 use Rattle.rows.specs.Claims.{Claimed}
 

@@ -16,14 +16,14 @@ use Rattle.answers.specs.declared.Answer.{Answer}
 use Rattle.answers.specs.Answers.{Result, accepted, _>>=_, _>>_, need, found}
 use Rattle.number_bytes.specs.Numbers.{formWidth}
 use Rattle.fields.specs.Fields.{Fields}
-use Rattle.proof.specs.Check.{checkRow, checkEntry, Checker, Following}
+use Rattle.proof.specs.Check.{there, checkRow, checkEntry, Checker, Following}
 use Rattle.lines.proofs.Parts.{agree-sym}
 use Rattle.lines.specs.Buffer.{linesIn}
 use Rattle.lines.proofs.Lines.{lines-more}
 use Rattle.lines.proofs.Keeping.{kept-refl}
 use Rattle.tally.specs.Tally.{moreRows}
 use Rattle.tally.specs.declared.Tally.{Tally}
-use Rattle.entries.specs.Entries.{Multiplies, entryOf, there, Entered}
+use Rattle.entries.specs.Entries.{Multiplies, entryOf, Entered}
 use Rattle.entries.specs.declared.Entry as entries
 use Rattle.entries.specs.declared.Entry.the-variants as entry-of
 use Rattle.rows.specs.Rows.{Derives}
@@ -129,7 +129,7 @@ advances h (ClosesStride u i g) = h
 advances h (Rounds u i g by) = h
 advances h (Splits u i) = h
 
-there-made : (made : Bool) (K : ℕ) (kinds : List ℕ) (buf : List ℤ) (n : ℕ) → there (lastMade made K kinds buf n) ≡ made
+pub there-made : (made : Bool) (K : ℕ) (kinds : List ℕ) (buf : List ℤ) (n : ℕ) → there (lastMade made K kinds buf n) ≡ made
 there-made true K kinds buf n = refl
 there-made false K kinds buf n = refl
 
@@ -141,7 +141,7 @@ module _ {K : ℕ} (kinds : List ℕ) (buf : List ℤ) (t : Tally) {p : List ℕ
       ≡ (y >>= λ z. checkEntry (edition (t .edition)) K deeper next refusal (t .rows .0) (lastMade made K kinds buf (t .lines .0)) (linesIn K kinds buf (t .lines .0)) fs z)
   enters y refusal q deeper next fs =
       ap (λ (w : Result rules.Entry). w >>= λ z. checkEntry (edition (t .edition)) K deeper next refusal (t .rows .0) (lastMade made K kinds buf (t .lines .0)) (linesIn K kinds buf (t .lines .0)) fs z)
-      (e .is refusal 0 (lastMade made K kinds buf (t .lines .0)) (there-made made K kinds buf (t .lines .0)) ∙ q)
+      (e .is refusal 0 ∙ q)
 
   field-row : (row : rules.Row) → ((refusal : ℕ → Answer) → entryOf refusal K (take len (drop start p)) x ≡ accepted (rules.row row))
       → SameChecked (fieldChecked K kinds buf t made tag (take len (drop start p))) (rowChecked K kinds buf t row)

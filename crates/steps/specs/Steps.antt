@@ -84,7 +84,7 @@ lastMade false K kinds buf n = none
 -- A field of the branch, read and then checked.
 abbrev pub fieldChecked : (K : ℕ) (kinds : List ℕ) (buf : List ℤ) (t : Tally) (made : Bool) (tag : ℕ) (contents : List ℕ) → Checked
 fieldChecked K kinds buf t made tag contents deeper next refusal fs =
-    entry (edition (t .edition)) K refusal (lastMade made K kinds buf (t .lines .0)) (record { at = 0; tag = tag; contents = contents })
+    entry (edition (t .edition)) K refusal made (record { at = 0; tag = tag; contents = contents })
     >>= λ x. checkEntry (edition (t .edition)) K deeper next refusal (t .rows .0) (lastMade made K kinds buf (t .lines .0)) (linesIn K kinds buf (t .lines .0)) fs x
 
 -- A row that opens branches or ends this one is counted and left as it is, in any buffers.

@@ -3,7 +3,8 @@ use native.Mathlib.Omega.{arith}
 use mir.Syntax.{w64}
 use mir.ValLaws.{toZ-ofZ}
 use Rattle.proof.specs.Entries.{sizeOf}
-use Rattle.entries.proofs.Reading.{lineWidth-most, combine-is, wrong-size}
+use Rattle.forms.proofs.Editions.{lineWidth-most}
+use Rattle.entries.proofs.Reading.{combine-is, wrong-size}
 use borrow.Author.Needs.{needs}
 use Rattle.entries.proofs.combine_at.Statement.{statement}
 use Rattle.entries.proofs.combine_at.Tie as tie
@@ -55,7 +56,7 @@ returns c = rw (toZ-ofZ w64 (c .before .multiplier-at .result) (record { sfits =
 
 returns-2 : tie.Need-returns-2
 unfolding sizeOf
-returns-2 c = wrong-size _ _ _ (c .before .before .before .pre) _ _ (c .if1 .left) (λ K. rw (c .before .line-bytes .ensures))
+returns-2 c = wrong-size _ _ _ (c .before .before .before .pre) _ _ (c .if1 .left) (λ K. omega (arith, c .before .line-bytes .ensures))
 
 pub combine-at-spec : {M : Type 1} → statement M
 combine-at-spec = tie.close (tie.spec line-bytes-requires mul-if1 mul-if1-2 add-if1 line-at-requires add-line-at line-at-requires-2 mul-multiplier-at add-multiplier-at multiplier-at-requires mul-multiplier-at-2 add-multiplier-at-2 add-multiplier-at-3 multiplier-at-requires-2 returns returns-2)

@@ -5,7 +5,8 @@ use native.Mathlib.Omega.{arith}
 use mir.Syntax.{w64}
 use mir.ValLaws.{toZ-ofZ}
 use Rattle.proof.specs.Entries.{sizeOf}
-use Rattle.entries.proofs.Reading.{lineWidth-most, reduce-is, wrong-size}
+use Rattle.forms.proofs.Editions.{lineWidth-most}
+use Rattle.entries.proofs.Reading.{reduce-is, wrong-size}
 use borrow.Author.Needs.{needs}
 use Rattle.entries.proofs.reduce_at.Statement.{statement}
 use Rattle.entries.proofs.reduce_at.Tie as tie
@@ -42,7 +43,7 @@ returns c = rw (toZ-ofZ w64 (c .signed-at .result) (record { sfits = c .signed-a
 
 returns-2 : tie.Need-returns-2
 unfolding sizeOf
-returns-2 c = wrong-size _ _ _ (c .before .before .before .pre) _ _ (c .if1 .left) (λ K. rw (c .before .line-bytes .ensures))
+returns-2 c = wrong-size _ _ _ (c .before .before .before .pre) _ _ (c .if1 .left) (λ K. omega (arith, c .before .line-bytes .ensures))
 
 pub reduce-at-spec : {M : Type 1} → statement M
 reduce-at-spec = tie.close (tie.spec line-bytes-requires mul-if1 add-if1 line-at-requires add-line-at line-at-requires-2 mul-signed-at add-signed-at signed-at-requires returns returns-2)

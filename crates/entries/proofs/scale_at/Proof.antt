@@ -3,7 +3,8 @@ use native.Mathlib.Omega.{arith}
 use mir.Syntax.{w64}
 use mir.ValLaws.{toZ-ofZ}
 use Rattle.proof.specs.Entries.{sizeOf}
-use Rattle.entries.proofs.Reading.{lineWidth-most, scale-is, wrong-size}
+use Rattle.forms.proofs.Editions.{lineWidth-most}
+use Rattle.entries.proofs.Reading.{scale-is, wrong-size}
 use borrow.Author.Needs.{needs}
 use Rattle.entries.proofs.scale_at.Statement.{statement}
 use Rattle.entries.proofs.scale_at.Tie as tie
@@ -28,7 +29,7 @@ returns c = rw (toZ-ofZ w64 (c .multiplier-at .result) (record { sfits = c .mult
 
 returns-2 : tie.Need-returns-2
 unfolding sizeOf
-returns-2 c = wrong-size _ _ _ (c .before .before .before .pre) _ _ (c .if1 .left) (λ K. rw (c .before .line-bytes .ensures))
+returns-2 c = wrong-size _ _ _ (c .before .before .before .pre) _ _ (c .if1 .left) (λ K. omega (arith, c .before .line-bytes .ensures))
 
 pub scale-at-spec : {M : Type 1} → statement M
 scale-at-spec = tie.close (tie.spec line-bytes-requires add-if1 line-at-requires add-multiplier-at multiplier-at-requires returns returns-2)

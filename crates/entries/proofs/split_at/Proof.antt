@@ -1,4 +1,5 @@
 -- `entries::split_at` meets its contract. Assumes nothing.
+use native.Mathlib.Omega.{arith}
 use Rattle.proof.specs.Entries.{sizeOf}
 use Rattle.entries.proofs.Reading.{split-is, wrong-size}
 use borrow.Author.Needs.{needs}
@@ -16,7 +17,7 @@ returns c = split-is _ _ _ (c .before .before .before .before .pre) _ (c .before
 
 returns-2 : tie.Need-returns-2
 unfolding sizeOf
-returns-2 c = wrong-size _ _ _ (c .before .before .before .pre) _ _ (c .if1 .left) (λ K. rw (c .before .line-bytes .ensures))
+returns-2 c = wrong-size _ _ _ (c .before .before .before .pre) _ _ (c .if1 .left) (λ K. omega (arith, c .before .line-bytes .ensures))
 
 pub split-at-spec : {M : Type 1} → statement M
 split-at-spec = tie.close (tie.spec line-bytes-requires line-at-requires returns returns-2)
