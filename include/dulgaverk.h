@@ -223,15 +223,20 @@ dulgaverk_write_result dulgaverk_check(const uint8_t *a, size_t a_length, const 
 dulgaverk_tested dulgaverk_test(const uint8_t *formula, size_t formula_length, const int32_t *values,
                                 size_t values_length);
 
-/* Turns a bundle, or a proof, into the other edition; `edition` is the one asked for. Notes are left out.
+/* Turns a bundle, or a proof, into the other edition; `edition` is the one asked for, and may be any number. Notes are left
+ * out, claims keep their form, and the rest of `out` stays.
  *
- * Refused: 5 with file 4 for an edition that is not 1 or 2; 1 for a file that is too long; 5 at the edition of a file that
- * has the edition asked for; then as reading a bundle (file 1), or a proof (file 3) field by field; 13 or 10 for a number
- * or a line number that the edition cannot hold; 1 and 21 with file 4 and as place the bytes needed.
+ * Accepted: the number of bytes written.
+ * Refused, in this order: 5 with file 4 and place 0 for every edition but 1 and 2; 1 for a bundle above 8,192 bytes (file 1)
+ * or a proof above 65,536 (file 3), place 0; then a bundle as in reading, a proof as in check by 2, 3, 4, 6, 5 and 7 (no
+ * line, row or branch is looked for), with 5 also where the file has the edition asked for; then, the file read whole and
+ * turned down, 13 at the first field with a number that two bytes cannot hold, or 10 at the first row with a line number
+ * above 255; then 1 for a proof whose result would be above 65,536 bytes, and 21, both with file 4 and as place the bytes
+ * needed.
  */
-dulgaverk_write_result dulgaverk_turn_bundle(const uint8_t *file, size_t file_length, uint8_t edition, uint8_t *out,
+dulgaverk_write_result dulgaverk_turn_bundle(const uint8_t *file, size_t file_length, size_t edition, uint8_t *out,
                                              size_t out_length);
-dulgaverk_write_result dulgaverk_turn_proof(const uint8_t *file, size_t file_length, uint8_t edition, uint8_t *out,
+dulgaverk_write_result dulgaverk_turn_proof(const uint8_t *file, size_t file_length, size_t edition, uint8_t *out,
                                             size_t out_length);
 
 /* The state in which no job waits, and seat 0 is looked at first. */

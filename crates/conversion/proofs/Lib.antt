@@ -8,4 +8,5 @@ pub mod Narrow
 pub mod Overflow
 pub mod Checked
 pub mod Outside
+pub mod AsCheck
 pub mod First

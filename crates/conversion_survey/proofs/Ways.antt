@@ -7,92 +7,143 @@ use mathlib.Core.List.{List, [], _∷_, _++_}
 use Prim.Native.Nat.{ℕ, zero, suc, _+_, _-_, _*_, _^_, _≤_, _<_}
 use native.Mathlib.Nat.{suc-mul, mul-le-mul}
 use native.Mathlib.Omega.{arith}
-use borrow.Author.Tests.{leb-true, leb-false, le-leb, eqb-true, eqb-false, ne-eqb}
+use borrow.Author.Tests.{leb-true, leb-false, le-leb, eqb-true, eqb-false, eq-eqb, ne-eqb}
 use mir.Facts.{and-yes}
 use lib.Dec.{leb, ltb, eqb, leb→le}
 use lib.ListN.{length, take, drop, length-drop, length-append}
-use lib.Seq.{drop-drop}
+use lib.Seq.{drop-drop, take-take}
 use Rattle.forms.specs.Edition.{edition}
-use Rattle.forms.proofs.Editions.{lineWidth-is, lineWidth-by}
-use Rattle.forms.specs.Forms.{Line, every}
-use Rattle.answers.specs.Answers.{answer, fileProof, Result, refused, _>>=_, _>>_}
+use Rattle.forms.proofs.Editions.{lineWidth-is, lineWidth-most, lineWidth-by}
+use Rattle.forms.specs.Forms.{every}
+use Rattle.calculus.specs.Rules.{Entry}
+use Rattle.answers.specs.declared.Answer.{Answer}
+use Rattle.answers.specs.Answers.{answer, fileProof, Result, refused, accepted, _>>=_, _>>_, need}
 use Rattle.answers.proofs.Results.{binds, needs, fail, bind-refused}
-use Rattle.number_bytes.specs.Numbers.{unsigned}
+use Rattle.number_bytes.specs.Numbers.{unsigned, unsigneds, unsignedsBytes}
 use Rattle.number_bytes.proofs.Signed.{drop-take}
-use Rattle.fields.specs.Fields.{Fields, ends, cut, _▸_, item, fieldBytes}
+use Rattle.fields.specs.declared.FileKind.{FileKind}
+use Rattle.fields.specs.Header.{known, headerTag}
+use Rattle.fields.specs.Fields.{Field, Fields, ends, cut, _▸_, item, fieldBytes}
 use Rattle.fields.specs.Places.{fieldsAt}
 use Rattle.fields.proofs.Places.{Starts, starts-size}
 use Rattle.fields.proofs.Framing.{length-fieldBytes}
-use Rattle.proof.specs.Entries.{EntryTag, combineTag, reduceTag, scaleTag, strengthenTag, numberTag, strideTag, roundTag, splitTag, claimTag, entryTagged, entry}
-use Rattle.entries.specs.Entries.{entryOf, there, Entered}
-use Rattle.entries.specs.declared.Entry.{Entry}
-use Rattle.entries.specs.declared.Entry.the-variants.{Combine, Reduce, Scale, Strengthen, CloseNumber, CloseStride, Round, Split, Claim, Refused}
-use Rattle.conversion.specs.Turning.{eachField, lineCount, unsigneds, unsignedsBytes, linesFit, linesTurned, fieldsTurned, madeBy, entriesRead}
-use Rattle.conversion.proofs.Carried.{head-size, lineWidth-most}
-use Rattle.conversion_survey.specs.Going.{surveyOf, lineIf, goesOn, LinesThere, at-field}
+use Rattle.proof.specs.Entries.{EntryTag, combineTag, reduceTag, scaleTag, strengthenTag, numberTag, strideTag, roundTag, splitTag, claimTag, entryTagged, shape, lineCount, inPlace, sizeOf, entryFrom, entry}
+use Rattle.proof.proofs.Entered.{entry-unknown, entry-none, entry-out, entry-in}
+use Rattle.conversion.specs.Turning.{eachField, linesFit, linesTurned, fieldsTurned, makesLine, entriesRead}
+use Rattle.conversion.proofs.Carried.{head-size, turned-is}
+use Rattle.conversion_survey.specs.Going.{surveyOf, sizedBy, sizedAs, Answers, LaidOut, LinesThere, at-field}
 use Rattle.conversion_survey.specs.declared.Survey.{Survey}
-use Rattle.conversion_survey.specs.declared.Behind.{Behind}
+use Rattle.conversion_survey.specs.declared.Laid.{Laid}
+
+-- ---- what a tag and a length tell
+pub sized-fine : {len size : ℕ} (made : Bool) → len ≡ size → Laid.Fine made ≡ sizedAs len size made
+sized-fine {len} {size} made h = ap (λ (b : Bool). sizedBy b made) (sym (eq-eqb len size h))
+
+pub sized-not : {len size : ℕ} (made : Bool) → ¬ (len ≡ size) → Laid.Refused 6 ≡ sizedAs len size made
+sized-not {len} {size} made h = ap (λ (b : Bool). sizedBy b made) (sym (ne-eqb len size h))
+
+-- An entry in its place: 6, or the entry.
+in-size : (n K tag len : ℕ) (x : EntryTag) {size : ℕ} {m : Bool} (b : Bool) (f : Field) (refusal : ℕ → Answer) → eqb len size ≡ b → sizeOf (edition n) K x ≡ size → length (f .contents) ≡ len
+    → ((bs : List ℕ) → makesLine (entryFrom (edition n) K x bs) ≡ m) → lineCount (entryTagged tag) ≡ shape x .lineNumbers → shape x .lineNumbers * edition n .lineWidth ≤ size → {r : Result Entry}
+    → r ≡ (need (refusal 6) (eqb (length (f .contents)) (sizeOf (edition n) K x)) >> accepted (entryFrom (edition n) K x (f .contents)))
+    → Answers refusal (edition n .lineWidth) tag len (sizedBy b m) r
+unfolding need _>>_
+in-size n K tag len x {size} true f refusal q z l k c few e = (entryFrom (edition n) K x (f .contents), e ∙ rw (l, z, q), k (f .contents), rw c (omega (arith, few, eqb-true len size q)))
+in-size n K tag len x false f refusal q z l k c few e = e ∙ rw (l, z, q)
+
+module _ {n K tag len : ℕ} {made : Bool} where
+  lays : (x : EntryTag) (t : ℕ) {size : ℕ} {m : Bool} {r : Laid} → tag ≡ t → known FileKind.Proof t ≡ true → entryTagged t ≡ some x → inPlace made x ≡ true → sizeOf (edition n) K x ≡ size
+      → ((bs : List ℕ) → makesLine (entryFrom (edition n) K x bs) ≡ m) → shape x .lineNumbers * edition n .lineWidth ≤ size → r ≡ sizedAs len size m → LaidOut n K tag len made r
+  lays x t {size} {m} e k g p z s few q = rw q (record {
+    is = λ refusal f tagged l.
+        in-size n K tag len x (eqb len size) f refusal refl z l s (ap lineCount (ap entryTagged e ∙ g)) few
+        (entry-in (edition n) K refusal made f x (ap (known FileKind.Proof) (tagged ∙ e) ∙ k) (ap entryTagged (tagged ∙ e) ∙ g) p);
+  })
+
+  module _ {w : ℕ} (width : w ≡ edition n .lineWidth) {r : Laid} where
+    pub combine-laid : tag ≡ 0x10 → r ≡ sizedAs len (2 * w + 4) true → LaidOut n K tag len made r
+    unfolding known headerTag entryTagged inPlace sizeOf entryFrom makesLine
+    combine-laid e q = lays combineTag 0x10 e refl refl refl (omega (arith, width)) (λ bs. refl) (omega (arith, width)) q
+
+    pub reduce-laid : tag ≡ 0x11 → r ≡ sizedAs len (2 * w + 2) true → LaidOut n K tag len made r
+    unfolding known headerTag entryTagged inPlace sizeOf entryFrom makesLine
+    reduce-laid e q = lays reduceTag 0x11 e refl refl refl (omega (arith, width)) (λ bs. refl) (omega (arith, width)) q
+
+    pub scale-laid : tag ≡ 0x12 → r ≡ sizedAs len (w + 2) true → LaidOut n K tag len made r
+    unfolding known headerTag entryTagged inPlace sizeOf entryFrom makesLine
+    scale-laid e q = lays scaleTag 0x12 e refl refl refl (omega (arith, width)) (λ bs. refl) (omega (arith, width)) q
+
+    pub strengthen-laid : tag ≡ 0x13 → r ≡ sizedAs len w false → LaidOut n K tag len made r
+    unfolding known headerTag entryTagged inPlace sizeOf entryFrom makesLine
+    strengthen-laid e q = lays strengthenTag 0x13 e refl refl refl (omega (arith, width)) (λ bs. refl) (omega (arith, width)) q
+
+    pub number-laid : tag ≡ 0x14 → r ≡ sizedAs len w false → LaidOut n K tag len made r
+    unfolding known headerTag entryTagged inPlace sizeOf entryFrom makesLine
+    number-laid e q = lays numberTag 0x14 e refl refl refl (omega (arith, width)) (λ bs. refl) (omega (arith, width)) q
+
+    pub stride-laid : tag ≡ 0x15 → r ≡ sizedAs len (w + 2) false → LaidOut n K tag len made r
+    unfolding known headerTag entryTagged inPlace sizeOf entryFrom makesLine
+    stride-laid e q = lays strideTag 0x15 e refl refl refl (omega (arith, width)) (λ bs. refl) (omega (arith, width)) q
+
+    pub round-laid : tag ≡ 0x16 → r ≡ sizedAs len (w + 4) false → LaidOut n K tag len made r
+    unfolding known headerTag entryTagged inPlace sizeOf entryFrom makesLine
+    round-laid e q = lays roundTag 0x16 e refl refl refl (omega (arith, width)) (λ bs. refl) (omega (arith, width)) q
+
+    pub split-laid : tag ≡ 0x17 → r ≡ sizedAs len w false → LaidOut n K tag len made r
+    unfolding known headerTag entryTagged inPlace sizeOf entryFrom makesLine
+    split-laid e q = lays splitTag 0x17 e refl refl refl (omega (arith, width)) (λ bs. refl) (omega (arith, width)) q
+
+  pub claim-laid : {r : Laid} → tag ≡ 0x20 → made ≡ true → r ≡ sizedAs len (8 * (K + 1)) false → LaidOut n K tag len made r
+  unfolding known headerTag entryTagged inPlace sizeOf entryFrom makesLine
+  claim-laid e h q = lays claimTag 0x20 e refl refl h (omega arith) (λ bs. refl) (omega arith) q
+
+  pub claim-out : tag ≡ 0x20 → made ≡ false → LaidOut n K tag len made (Laid.Refused 4)
+  unfolding known headerTag entryTagged inPlace
+  claim-out e h = record { is = λ refusal f tagged l. entry-out (edition n) K refusal made f claimTag (rw (tagged, e)) (rw (tagged, e)) h }
+
+  pub first-out : tag ≡ 0x01 → LaidOut n K tag len made (Laid.Refused 4)
+  unfolding known headerTag entryTagged
+  first-out e = record { is = λ refusal f tagged l. entry-none (edition n) K refusal made f (rw (tagged, e)) (rw (tagged, e)) }
+
+  pub second-out : tag ≡ 0x02 → LaidOut n K tag len made (Laid.Refused 4)
+  unfolding known headerTag entryTagged
+  second-out e = record { is = λ refusal f tagged l. entry-none (edition n) K refusal made f (rw (tagged, e)) (rw (tagged, e)) }
+
+  pub unknown-out : known FileKind.Proof tag ≡ false → LaidOut n K tag len made (Laid.Refused 3)
+  unknown-out k = record { is = λ refusal f tagged l. entry-unknown (edition n) K refusal made f (ap (known FileKind.Proof) tagged ∙ k) }
 
 -- ---- the entries
 module _ (n K : ℕ) where
-  abbrev pub read : Option Line → Fields → Result (Unit {0})
+  abbrev pub read : (made : Bool) → Fields → Result (Unit {0})
   read = entriesRead (edition n) K
 
-  there-if : (made : Bool) → there (lineIf made) ≡ made
-  there-if true = refl
-  there-if false = refl
-
-  entries-here : (made : Bool) {s : List ℕ} {at a t start len next : ℕ} → Starts s at a t start len next
-      → read (lineIf made) (fieldsAt s at) ≡ (entry (edition n) K (λ m. answer m fileProof a) (lineIf made) (record { at = a; tag = t; contents = take len (drop start s) }) >>= λ x. read (madeBy x) (fieldsAt s next))
-  unfolding entriesRead
-  entries-here made k = rw (k .is)
-
   module _ {s : List ℕ} {at a t start len next : ℕ} (k : Starts s at a t start len next) (made : Bool) where
-    entry-is : {x : Entry} → Entered n K s t start len made x → entry (edition n) K (λ m. answer m fileProof a) (lineIf made) (record { at = a; tag = t; contents = take len (drop start s) }) ≡ entryOf (λ m. answer m fileProof a) K (take len (drop start s)) x
-    entry-is e = e .is (λ m. answer m fileProof a) a (lineIf made) (there-if made)
+    abbrev field : Field
+    field = record { at = a; tag = t; contents = take len (drop start s) }
 
-    fine-made : {m m′ : Bool} → Behind.Fine m ≡ Behind.Fine m′ → m ≡ m′
-    fine-made e = cc
+    entries-here : read made (fieldsAt s at) ≡ (entry (edition n) K (λ m. answer m fileProof a) made field >>= λ x. read (makesLine x) (fieldsAt s next))
+    unfolding entriesRead
+    entries-here = rw (k .is)
 
-    not-fine : {m : Bool} {number : ℕ} → Behind.Refused number ≡ Behind.Fine m → ⊥
-    not-fine e = let z : _≡_ {A = ℕ} 0 1 = cc in omega arith
+    laid-here : {x : Laid} → LaidOut n K t len made x → Answers (λ m. answer m fileProof a) (edition n .lineWidth) t len x (entry (edition n) K (λ m. answer m fileProof a) made field)
+    laid-here e = e .is (λ m. answer m fileProof a) field refl (starts-size k)
 
-    pub entries-on : (x : Entry) → Entered n K s t start len made x → {m : Bool} → goesOn x ≡ Behind.Fine m → read (lineIf made) (fieldsAt s at) ≡ read (lineIf m) (fieldsAt s next)
-    unfolding madeBy
-    entries-on (Combine _ _ _ _) e f = entries-here made k ∙ binds _ (entry-is e) ∙ ap (λ (m : Bool). read (lineIf m) (fieldsAt s next)) (fine-made f)
-    entries-on (Reduce _ _ _) e f = entries-here made k ∙ binds _ (entry-is e) ∙ ap (λ (m : Bool). read (lineIf m) (fieldsAt s next)) (fine-made f)
-    entries-on (Scale _ _) e f = entries-here made k ∙ binds _ (entry-is e) ∙ ap (λ (m : Bool). read (lineIf m) (fieldsAt s next)) (fine-made f)
-    entries-on (Strengthen _) e f = entries-here made k ∙ binds _ (entry-is e) ∙ ap (λ (m : Bool). read (lineIf m) (fieldsAt s next)) (fine-made f)
-    entries-on (CloseNumber _) e f = entries-here made k ∙ binds _ (entry-is e) ∙ ap (λ (m : Bool). read (lineIf m) (fieldsAt s next)) (fine-made f)
-    entries-on (CloseStride _ _) e f = entries-here made k ∙ binds _ (entry-is e) ∙ ap (λ (m : Bool). read (lineIf m) (fieldsAt s next)) (fine-made f)
-    entries-on (Round _ _ _) e f = entries-here made k ∙ binds _ (entry-is e) ∙ ap (λ (m : Bool). read (lineIf m) (fieldsAt s next)) (fine-made f)
-    entries-on (Split _) e f = entries-here made k ∙ binds _ (entry-is e) ∙ ap (λ (m : Bool). read (lineIf m) (fieldsAt s next)) (fine-made f)
-    entries-on (Claim _) e f = entries-here made k ∙ binds _ (entry-is e) ∙ ap (λ (m : Bool). read (lineIf m) (fieldsAt s next)) (fine-made f)
-    entries-on (Refused number) e f = absurd (not-fine f)
+    pub entries-on : {x : Laid} {m : Bool} → LaidOut n K t len made x → x ≡ Laid.Fine m → read made (fieldsAt s at) ≡ read m (fieldsAt s next)
+    entries-on e f =
+        let (x, is, makes, few) = laid-here (rw f at e) in
+        entries-here ∙ binds _ is ∙ ap (λ (m : Bool). read m (fieldsAt s next)) makes
 
-    not-refused : {m : Bool} {number : ℕ} → Behind.Fine m ≡ Behind.Refused number → ⊥
-    not-refused e = let z : _≡_ {A = ℕ} 0 1 = cc in omega arith
+    pub lines-here : {x : Laid} {m : Bool} → LaidOut n K t len made x → x ≡ Laid.Fine m → lineCount (entryTagged t) * edition n .lineWidth ≤ len
+    lines-here e f = let (x, is, makes, few) = laid-here (rw f at e) in few
 
-    one-number : {x y : ℕ} → Behind.Refused x ≡ Behind.Refused y → x ≡ y
-    one-number e = cc
+    pub entries-stop : {x : Laid} {number : ℕ} → LaidOut n K t len made x → x ≡ Laid.Refused number → read made (fieldsAt s at) ≡ refused (answer number fileProof a)
+    entries-stop e f = entries-here ∙ bind-refused _ (laid-here (rw f at e))
 
-    pub entries-stop : (x : Entry) → Entered n K s t start len made x → {number : ℕ} → goesOn x ≡ Behind.Refused number → read (lineIf made) (fieldsAt s at) ≡ surveyOf fileProof (Survey.Refused number a)
-    entries-stop (Combine _ _ _ _) e f = absurd (not-refused f)
-    entries-stop (Reduce _ _ _) e f = absurd (not-refused f)
-    entries-stop (Scale _ _) e f = absurd (not-refused f)
-    entries-stop (Strengthen _) e f = absurd (not-refused f)
-    entries-stop (CloseNumber _) e f = absurd (not-refused f)
-    entries-stop (CloseStride _ _) e f = absurd (not-refused f)
-    entries-stop (Round _ _ _) e f = absurd (not-refused f)
-    entries-stop (Split _) e f = absurd (not-refused f)
-    entries-stop (Claim _) e f = absurd (not-refused f)
-    entries-stop (Refused number) e f = entries-here made k ∙ bind-refused _ (entry-is e) ∙ ap (λ (m : ℕ). refused (answer m fileProof a)) (one-number f)
-
-  pub entries-cut : (made : Option Line) {fs : Fields} {a : ℕ} → fs ≡ cut a → read made fs ≡ surveyOf fileProof (Survey.Refused 2 a)
+  pub entries-cut : (made : Bool) {fs : Fields} {a : ℕ} → fs ≡ cut a → read made fs ≡ refused (answer 2 fileProof a)
   unfolding entriesRead
   entries-cut made e = rw e
 
-  pub entries-ends : (made : Option Line) {fs : Fields} {a : ℕ} → fs ≡ ends a → read made fs ≡ surveyOf fileProof Survey.Fine
+  pub entries-ends : (made : Bool) {fs : Fields} {a : ℕ} → fs ≡ ends a → read made fs ≡ accepted tt
   unfolding entriesRead
   entries-ends made e = rw e
 
@@ -108,12 +159,6 @@ and-true : (b : Bool) → b ≡ (b && true)
 and-true true = refl
 and-true false = refl
 
-take-take : {X : Type 0} (n m : ℕ) (l : List X) → n ≤ m → take n (take m l) ≡ take n l
-take-take zero m l h = refl
-take-take (suc n) zero l h = absurd (omega arith)
-take-take (suc n) (suc m) [] h = refl
-take-take {X} (suc n) (suc m) (x ∷ l) h = ap (λ (xs : List X). x ∷ xs) (take-take n m l (omega arith))
-
 two-of : (low high x : ℕ) → (leb low x && leb x high) ≡ true → (low ≤ x) × (x ≤ high)
 two-of low high x h = let (p, q) = and-yes (leb low x) (leb x high) (rw h tt) in (leb→le low x p, leb→le x high q)
 
@@ -121,7 +166,7 @@ none-of : (low high x : ℕ) → (leb low x && leb x high) ≡ false → low ≤
 none-of low high x h p q = let w : _≡_ {A = Bool} true false = sym (ap₂ _&&_ (le-leb low x p) (le-leb x high q)) ∙ h in let v : _≡_ {A = ℕ} 0 1 = cc in omega arith
 
 pub two-lines : (tag : ℕ) → (leb 0x10 tag && leb tag 0x11) ≡ true → 2 ≡ lineCount (entryTagged tag)
-unfolding entryTagged lineCount
+unfolding entryTagged
 two-lines tag h = go (two-of 0x10 0x11 tag h) (eqb tag 0x10) refl
   where
     go : (0x10 ≤ tag) × (tag ≤ 0x11) → (b : Bool) → eqb tag 0x10 ≡ b → 2 ≡ lineCount (entryTagged tag)
@@ -129,7 +174,7 @@ two-lines tag h = go (two-of 0x10 0x11 tag h) (eqb tag 0x10) refl
     go r false e = let z : tag ≡ 0x11 = omega (arith, r .0, r .1, eqb-false tag 0x10 e) in rw z
 
 pub one-line : (tag : ℕ) → (leb 0x12 tag && leb tag 0x17) ≡ true → 1 ≡ lineCount (entryTagged tag)
-unfolding entryTagged lineCount
+unfolding entryTagged
 one-line tag h = go (two-of 0x12 0x17 tag h) (eqb tag 0x12) (eqb tag 0x13) (eqb tag 0x14) (eqb tag 0x15) (eqb tag 0x16) refl refl refl refl refl
   where
     go : (0x12 ≤ tag) × (tag ≤ 0x17) → (a b c d e : Bool) → eqb tag 0x12 ≡ a → eqb tag 0x13 ≡ b → eqb tag 0x14 ≡ c → eqb tag 0x15 ≡ d → eqb tag 0x16 ≡ e → 1 ≡ lineCount (entryTagged tag)
@@ -142,7 +187,6 @@ one-line tag h = go (two-of 0x12 0x17 tag h) (eqb tag 0x12) (eqb tag 0x13) (eqb 
         let z : tag ≡ 0x17 = omega (arith, r .0, r .1, eqb-false tag 0x12 p, eqb-false tag 0x13 q, eqb-false tag 0x14 s, eqb-false tag 0x15 t, eqb-false tag 0x16 u) in rw z
 
 no-tag : (a b c d e f g h i : Bool) → a ≡ false → b ≡ false → c ≡ false → d ≡ false → e ≡ false → f ≡ false → g ≡ false → h ≡ false → 0 ≡ lineCount (elim a as (λ _. Option EntryTag) [ true ↦ some combineTag | false ↦ elim b as (λ _. Option EntryTag) [ true ↦ some reduceTag | false ↦ elim c as (λ _. Option EntryTag) [ true ↦ some scaleTag | false ↦ elim d as (λ _. Option EntryTag) [ true ↦ some strengthenTag | false ↦ elim e as (λ _. Option EntryTag) [ true ↦ some numberTag | false ↦ elim f as (λ _. Option EntryTag) [ true ↦ some strideTag | false ↦ elim g as (λ _. Option EntryTag) [ true ↦ some roundTag | false ↦ elim h as (λ _. Option EntryTag) [ true ↦ some splitTag | false ↦ elim i [ true ↦ some claimTag | false ↦ none ] ] ] ] ] ] ] ] ])
-unfolding lineCount
 no-tag true b c d e f g h i e0 e1 e2 e3 e4 e5 e6 e7 = absurd (let z : _≡_ {A = ℕ} 0 1 = cc in omega arith)
 no-tag false true c d e f g h i e0 e1 e2 e3 e4 e5 e6 e7 = absurd (let z : _≡_ {A = ℕ} 0 1 = cc in omega arith)
 no-tag false false true d e f g h i e0 e1 e2 e3 e4 e5 e6 e7 = absurd (let z : _≡_ {A = ℕ} 0 1 = cc in omega arith)
@@ -244,10 +288,9 @@ module _ (a b : ℕ) where
 
     -- how long the field is, turned
     pub turned-size : length (linesTurned (edition a) (edition b) (item t contents)) ≡ lineCount (entryTagged t) * edition b .lineWidth + (len - lineCount (entryTagged t) * edition a .lineWidth)
-    unfolding linesTurned
     turned-size =
         let n = lineCount (entryTagged t) in
-        length-append (unsignedsBytes (edition b .lineWidth) (unsigneds (edition a .lineWidth) n contents)) (drop (n * edition a .lineWidth) contents) ∙ ap₂ (λ (x y : ℕ). x + y) (head-size (edition a .lineWidth) (edition b .lineWidth) n contents) (length-drop (n * edition a .lineWidth) contents ∙ ap (λ (m : ℕ). m - n * edition a .lineWidth) (starts-size k))
+        ap length (turned-is a b (item t contents)) ∙ length-append (unsignedsBytes (edition b .lineWidth) (unsigneds (edition a .lineWidth) n contents)) (drop (n * edition a .lineWidth) contents) ∙ ap₂ (λ (x y : ℕ). x + y) (head-size (edition a .lineWidth) (edition b .lineWidth) n contents) (length-drop (n * edition a .lineWidth) contents ∙ ap (λ (m : ℕ). m - n * edition a .lineWidth) (starts-size k))
 
     pub turned-on : turned (fieldsAt s at) ≡ fieldBytes t (linesTurned (edition a) (edition b) (item t contents)) ++ turned (fieldsAt s next)
     unfolding fieldsTurned
@@ -286,6 +329,9 @@ bytes-least n r e = go (lineWidth-is n) e
     go : {w : ℕ} → (w ≡ 1) ⊎ (w ≡ 2) → r ≡ w → 1 ≤ r
     go (inl p) q = omega arith
     go (inr p) q = omega arith
+
+pub narrow-width : (n : ℕ) → n ≡ 1 → edition n .lineWidth ≡ 1
+narrow-width n h = lineWidth-by n (eq-eqb n 1 h)
 
 pub wide-width : (n : ℕ) → ¬ (n ≡ 1) → edition n .lineWidth ≡ 2
 wide-width n h = lineWidth-by n (ne-eqb n 1 h)

@@ -1,24 +1,24 @@
 // A proof gone over before it is turned: its entries read, its line numbers, the bytes of the result.
-use entries::Entry;
-use entries::entry_at;
 use fields::Next;
 use fields::next_field;
+use forms::MULTIPLIER_BYTES;
+use forms::TERM_BYTES;
 use forms::line_bytes;
 use integers::between;
 use number_bytes::numbers::unsigned_at;
 ghost use mathlib.Core.Path.{_≡_};
-ghost use mathlib.Core.Option.{none};
+ghost use mathlib.Core.Bool.{false};
 ghost use Prim.Native.Nat.{_+_, _-_, _*_, _^_, _≤_};
 ghost use lib.Dec.{ltb};
 ghost use lib.ListN.{length, take, drop};
 ghost use Rattle.forms.specs.Edition.{edition, edition1};
 ghost use Rattle.forms.specs.Forms.{every};
 ghost use Rattle.answers.specs.Answers.{fileProof};
-ghost use Rattle.number_bytes.specs.Numbers.{unsigned};
+ghost use Rattle.number_bytes.specs.Numbers.{unsigned, unsigneds};
 ghost use Rattle.fields.specs.Places.{fieldsAt};
-ghost use Rattle.proof.specs.Entries.{entryTagged};
-ghost use Rattle.conversion.specs.Turning.{eachField, lineCount, unsigneds, linesFit, linesTurned, fieldsTurned, entriesRead};
-ghost use Rattle.conversion_survey.specs.Going.{surveyOf, goesOn, LinesThere};
+ghost use Rattle.proof.specs.Entries.{entryTagged, lineCount};
+ghost use Rattle.conversion.specs.Turning.{eachField, linesFit, linesTurned, fieldsTurned, entriesRead};
+ghost use Rattle.conversion_survey.specs.Going.{surveyOf, sizedAs, LaidOut, ReadAs, LinesThere};
 
 // Nothing is amiss; or the first fault and its place.
 pub enum Survey {
@@ -26,71 +26,52 @@ pub enum Survey {
     Refused { number: u8, place: usize },
 }
 
+// Each field is an entry in its place, and turned they have so many bytes together; or the first fault and its place.
+pub enum Entries {
+    Turned { size: usize },
+    Refused { number: u8, place: usize },
+}
+
 // An entry is as it should be, and a claim may stand behind it or not; or what it is refused for.
-pub enum Behind {
+enum Laid {
     Fine { made: bool },
     Refused { number: u8 },
 }
 
-fn goes_on(x: Entry) -> Behind
-    ensures { λ r. ⌜ r ≡ goesOn x ⌝ }
+// Contents of `len` bytes where `size` are laid out. 6.
+fn sized(len: usize, size: usize, made: bool) -> Laid
+    ensures { λ r. ⌜ r ≡ sizedAs len size made ⌝ }
 {
-    match x {
-        Entry::Combine {
-            s: _,
-            t: _,
-            alpha: _,
-            beta: _,
-        } => Behind::Fine { made: true },
-        Entry::Reduce {
-            s: _,
-            t: _,
-            alpha: _,
-        } => Behind::Fine { made: true },
-        Entry::Scale { t: _, alpha: _ } => Behind::Fine { made: true },
-        Entry::Strengthen { t: _ } => Behind::Fine { made: false },
-        Entry::CloseNumber { t: _ } => Behind::Fine { made: false },
-        Entry::CloseStride { t: _, g: _ } => Behind::Fine { made: false },
-        Entry::Round { t: _, g: _, by: _ } => Behind::Fine { made: false },
-        Entry::Split { t: _ } => Behind::Fine { made: false },
-        Entry::Claim { start: _ } => Behind::Fine { made: false },
-        Entry::Refused { number } => Behind::Refused { number },
+    if len == size {
+        return Laid::Fine { made };
     }
+    Laid::Refused { number: 6 }
 }
 
-// Whether each field is an entry in its place. No line is looked for.
-pub fn read_entries(p: &[u8], at: usize, k: u8, e: u8) -> Survey
+// What a field of a proof of edition e is, by its tag and length alone: an entry's contents are not looked at. 3, 4, 6.
+fn laid_out(tag: u8, len: usize, k: usize, e: u8, made: bool) -> Laid
     requires { ⌜ k ≤ edition1 .constants ⌝ }
-    ensures { λ r. ⌜ entriesRead (edition e) k none (fieldsAt (now (p .entry)) at) ≡ surveyOf fileProof r ⌝ }
+    ensures { λ r. ⌜ LaidOut e k tag len made r ⌝ }
 {
-    let mut here = at;
-    let mut made = false;
-    loop {
-        match next_field(p, here) {
-            Next::Field {
-                at: place,
-                tag,
-                start,
-                len,
-                next,
-            } => {
-                match goes_on(entry_at(p, tag, start, len, k as usize, e, made)) {
-                    Behind::Fine { made: claimable } => {
-                        made = claimable;
-                        here = next;
-                    }
-                    Behind::Refused { number } => {
-                        return Survey::Refused { number, place };
-                    }
-                }
+    let width = line_bytes(e);
+    match tag {
+        0x10 => sized(len, 2 * width + 2 * MULTIPLIER_BYTES, true),
+        0x11 => sized(len, 2 * width + MULTIPLIER_BYTES, true),
+        0x12 => sized(len, width + MULTIPLIER_BYTES, true),
+        0x13 => sized(len, width, false),
+        0x14 => sized(len, width, false),
+        0x15 => sized(len, width + MULTIPLIER_BYTES, false),
+        0x16 => sized(len, width + 2 * MULTIPLIER_BYTES, false),
+        0x17 => sized(len, width, false),
+        0x20 => {
+            if made {
+                return sized(len, 2 * TERM_BYTES * (k + 1), false);
             }
-            Next::Cut { at: place } => {
-                return Survey::Refused { number: 2, place };
-            }
-            Next::Ends { at: _ } => {
-                return Survey::Fine;
-            }
+            Laid::Refused { number: 4 }
         }
+        0x01 => Laid::Refused { number: 4 },
+        0x02 => Laid::Refused { number: 4 },
+        _ => Laid::Refused { number: 3 },
     }
 }
 
@@ -115,12 +96,15 @@ fn line_full(number: u8) -> u64
     if number == 1 { 0x100 } else { 0x1_0000 }
 }
 
-// Whether the edition asked for holds the line number at a place.
+// Whether the edition asked for holds the line number at a place. Two calls, so that the compiler makes a load for each width.
 fn line_held(p: &[u8], at: usize, e: u8, to: u8) -> bool
     requires { ⌜ at + edition e .lineWidth ≤ length (now p) ⌝ }
     ensures { λ r. ⌜ r ≡ ltb (unsigned (take (edition e .lineWidth) (drop at (now (p .entry))))) (256 ^ edition to .lineWidth) ⌝ }
 {
-    unsigned_at(p, at, line_bytes(e)) < line_full(to)
+    if e == 1 {
+        return unsigned_at(p, at, 1) < line_full(to);
+    }
+    unsigned_at(p, at, 2) < line_full(to)
 }
 
 // The same of the n line numbers, two at most, from start on.
@@ -183,32 +167,40 @@ pub fn turned_len(tag: u8, len: usize, e: u8, to: u8) -> usize
     n * line_bytes(to) + (len - n * line_bytes(e))
 }
 
-// How many bytes the fields have together.
-pub fn turned_size(p: &[u8], at: usize, e: u8, to: u8) -> usize
-    requires { ⌜ LinesThere (edition e .lineWidth) (fieldsAt (now p) at) ⌝ }
+// Whether each field is an entry in its place, and how many bytes they have together when they are turned. No line is looked for.
+pub fn read_entries(p: &[u8], at: usize, k: u8, e: u8, to: u8) -> Entries
+    requires { ⌜ k ≤ edition1 .constants ⌝ }
     requires { ⌜ length (now p) ≤ 65_536 ⌝ }
-    ensures is { λ r. ⌜ r ≡ length (fieldsTurned (linesTurned (edition e) (edition to)) (fieldsAt (now (p .entry)) at)) ⌝ }
-    ensures most { λ r. ⌜ r ≤ 131_072 ⌝ }
+    ensures { λ r. ⌜ ReadAs e to k (fieldsAt (now (p .entry)) at) r ⌝ }
 {
     let mut here = at;
+    let mut made = false;
     let mut size = 0;
     loop {
         match next_field(p, here) {
             Next::Field {
-                at: _,
+                at: place,
                 tag,
                 start: _,
                 len,
                 next,
             } => {
-                size += 3 + turned_len(tag, len, e, to);
-                here = next;
+                match laid_out(tag, len, k as usize, e, made) {
+                    Laid::Fine { made: claimable } => {
+                        size += 3 + turned_len(tag, len, e, to);
+                        made = claimable;
+                        here = next;
+                    }
+                    Laid::Refused { number } => {
+                        return Entries::Refused { number, place };
+                    }
+                }
             }
-            Next::Cut { at: _ } => {
-                return size;
+            Next::Cut { at: place } => {
+                return Entries::Refused { number: 2, place };
             }
             Next::Ends { at: _ } => {
-                return size;
+                return Entries::Turned { size };
             }
         }
     }

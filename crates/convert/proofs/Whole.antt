@@ -6,7 +6,8 @@ use mathlib.Core.List.{List, [], _∷_, _++_}
 use Prim.Native.Nat.{ℕ, _+_, _≤_, _<_}
 use native.Mathlib.Omega.{arith}
 use borrow.Author.Tests.{le-leb, lt-leb}
-use lib.Dec.{leb, T, le→leb}
+use mir.Facts.{and-yes}
+use lib.Dec.{leb, T, le→leb, leb→le}
 use lib.ListN.{length, length-append}
 use lib.Seq.{sets, length-sets}
 use Rattle.forms.specs.Edition.{edition, edition1, newestEdition}
@@ -31,10 +32,11 @@ use Rattle.conversion.specs.Turning.{asked, otherEdition, eachField, resultWith
 use Rattle.conversion.specs.Promises.{TurnsBundle, TurnsProof}
 use Rattle.conversion.proofs.Carried.{there}
 use Rattle.conversion.proofs.Proofs.{entries-give}
-use Rattle.conversion_survey.specs.Going.{surveyOf, LinesThere, at-end, at-field}
+use Rattle.conversion_survey.specs.Going.{surveyOf, ReadAs, LinesThere, at-end, at-field}
 use Rattle.conversion_survey.specs.declared.Survey.{Survey}
+use Rattle.conversion_survey.specs.declared.Entries.{Entries}
 use Rattle.conversion_survey.proofs.Ways.{fits, turned}
-use Rattle.convert.specs.Known.{HasOther, ToTurn, ToEnter}
+use Rattle.convert.specs.Known.{HasOther, ToTurn, ToEnter, ToPut}
 
 -- ---- what a refusal leaves
 abbrev pub refusedAs : (number file place : ℕ) → WriteResult
@@ -50,11 +52,21 @@ module _ (to : ℕ) (file out : List ℕ) where
   bundle-refused e h = rw e (record { is = rw h })
 
 -- ---- before a file is read
+pub edition-low : (n : ℕ) → 1 ≤ n → leb n 2 ≡ (leb 1 n && leb n 2)
+edition-low n h = ap (λ (b : Bool). b && leb n 2) (sym (le-leb 1 n h))
+
+pub edition-zero : (n : ℕ) → n < 1 → false ≡ (leb 1 n && leb n 2)
+edition-zero n h = ap (λ (b : Bool). b && leb n 2) (sym (lt-leb 1 n h))
+
 module _ (to : ℕ) (file out : List ℕ) where
   -- the edition asked for
   pub asked-by : {b : Bool} → b ≡ (leb 1 to && leb to 2) → b ≡ true → asked to ≡ accepted tt
   unfolding asked need
   asked-by e f = rw (sym e ∙ f)
+
+  -- so it is one byte
+  pub one-or-two : {b : Bool} → b ≡ (leb 1 to && leb to 2) → b ≡ true → to ≤ 2
+  one-or-two e f = leb→le to 2 (and-yes (leb 1 to) (leb to 2) (rw (sym e ∙ f) tt) .1)
 
   asked-not : {b : Bool} → b ≡ (leb 1 to && leb to 2) → b ≡ false → asked to ≡ refused (answer 5 fileLent 0)
   unfolding asked need
@@ -121,57 +133,67 @@ module _ (to : ℕ) (file out : List ℕ) (at K e : ℕ) (t : ToEnter to file at
   pub constants-most : K ≤ 16
   constants-most = header-gives FileKind.Proof fileProof newestEdition none (fields file) .gives _ (t .heads) .high
 
-  prefix : proofTurned to file ≡ (entriesRead (edition e) K none body >> (fits e to body >> resultWithin 65_536 bytes))
+  prefix : proofTurned to file ≡ (entriesRead (edition e) K false body >> (fits e to body >> resultWithin 65_536 bytes))
   unfolding proofTurned
   prefix = passes _ (t .asks) ∙ passes _ (short-accepted _ fileProof file (t .short)) ∙ passes _ (t .from) ∙ binds _ (t .heads)
 
   bytes-size : length bytes ≡ 8 + length (turned e to body)
   bytes-size = length-append (headerBytes to K) (turned e to body) ∙ ap (λ (n : ℕ). n + length (turned e to body)) (header-length to K)
 
-  module _ (s : Survey) (i : entriesRead (edition e) K none body ≡ surveyOf fileProof s) where
-    pub no-entries : {n p : ℕ} {r : WriteResult} → s ≡ Survey.Refused n p → r ≡ refusedAs n 3 p → TurnsProof to file out out r
-    no-entries f r = proof-refused to file out r (prefix ∙ then-refused _ (i ∙ ap (surveyOf fileProof) f))
+  -- what reading the entries answers
+  pub no-entries : {s : Entries} {n p : ℕ} {r : WriteResult} → ReadAs e to K body s → s ≡ Entries.Refused n p → r ≡ refusedAs n 3 p → TurnsProof to file out out r
+  no-entries i f r = proof-refused to file out r (prefix ∙ then-refused _ (rw f at i))
 
-    pub lines-stand : s ≡ Survey.Fine → LinesThere (edition e .lineWidth) body
-    lines-stand f = lines-of e K (entries-give (edition e) K none body .gives tt (i ∙ ap (surveyOf fileProof) f) .lists)
+  pub to-put : {s : Entries} {n : ℕ} → ReadAs e to K body s → s ≡ Entries.Turned n → ToPut to file at K e n
+  to-put i f = let (read, size, most) = rw f at i in record { enter = t; read = read; size = size; most = most }
 
-    entered : s ≡ Survey.Fine → proofTurned to file ≡ (fits e to body >> resultWithin 65_536 bytes)
-    entered f = prefix ∙ passes _ (i ∙ ap (surveyOf fileProof) f)
+module _ (to : ℕ) (file out : List ℕ) (at K e size : ℕ) (t : ToPut to file at K e size) where
+  abbrev bodyOf : Fields
+  bodyOf = fieldsAt file at
 
-    module _ (f : s ≡ Survey.Fine) (u : Survey) (j : fits e to body ≡ surveyOf fileProof u) where
-      pub too-wide : {n p : ℕ} {r : WriteResult} → u ≡ Survey.Refused n p → r ≡ refusedAs n 3 p → TurnsProof to file out out r
-      too-wide g r = proof-refused to file out r (entered f ∙ then-refused _ (j ∙ ap (surveyOf fileProof) g))
+  abbrev bytesOf : List ℕ
+  bytesOf = headerBytes to K ++ turned e to bodyOf
 
-      module _ (g : u ≡ Survey.Fine) {size : ℕ} (z : size ≡ length (turned e to body)) where
-        held : proofTurned to file ≡ resultWithin 65_536 bytes
-        held = entered f ∙ passes _ (j ∙ ap (surveyOf fileProof) g)
+  pub lines-stand : LinesThere (edition e .lineWidth) bodyOf
+  lines-stand = lines-of e K (entries-give (edition e) K false bodyOf .gives tt (t .read) .lists)
 
-        size-is : 8 + size ≡ length bytes
-        size-is = ap (λ (n : ℕ). 8 + n) z ∙ sym bytes-size
+  entered : proofTurned to file ≡ (fits e to bodyOf >> resultWithin 65_536 bytesOf)
+  entered = prefix to file out at K e (t .enter) ∙ passes _ (t .read)
 
-        result-long : 65_536 < 8 + size → resultWithin 65_536 bytes ≡ refused (answer 1 fileLent (8 + size))
-        unfolding resultWithin
-        result-long h = fail _ _ (lt-leb (length bytes) 65_536 (omega (arith, size-is))) ∙ ap (λ (n : ℕ). refused (answer 1 fileLent n)) (sym size-is)
+  module _ (u : Survey) (j : fits e to bodyOf ≡ surveyOf fileProof u) where
+    pub too-wide : {n p : ℕ} {r : WriteResult} → u ≡ Survey.Refused n p → r ≡ refusedAs n 3 p → TurnsProof to file out out r
+    too-wide g r = proof-refused to file out r (entered ∙ then-refused _ (j ∙ ap (surveyOf fileProof) g))
 
-        pub result-too-long : {r : WriteResult} → 65_536 < 8 + size → r ≡ refusedAs 1 4 (8 + size) → TurnsProof to file out out r
-        result-too-long h r = proof-refused to file out r (held ∙ result-long h)
+    module _ (g : u ≡ Survey.Fine) where
+      held : proofTurned to file ≡ resultWithin 65_536 bytesOf
+      held = entered ∙ passes _ (j ∙ ap (surveyOf fileProof) g)
 
-        done-bytes : 8 + size ≤ 65_536 → proofTurned to file ≡ accepted bytes
-        unfolding resultWithin
-        done-bytes h = held ∙ needs _ _ _ (le→leb (length bytes) 65_536 (omega (arith, size-is)))
+      size-is : 8 + size ≡ length bytesOf
+      size-is = ap (λ (n : ℕ). 8 + n) (t .size) ∙ sym (bytes-size to file out at K e (t .enter))
 
-        pub output-short : {r : WriteResult} → 8 + size ≤ 65_536 → length out < 8 + size → r ≡ refusedAs 21 4 (8 + size) → TurnsProof to file out out r
-        unfolding turnProof written fit
-        output-short h l r = rw r (record { is = rw (done-bytes h, lt-leb (length bytes) (length out) (omega (arith, size-is)), size-is) })
+      result-long : 65_536 < 8 + size → resultWithin 65_536 bytesOf ≡ refused (answer 1 fileLent (8 + size))
+      unfolding resultWithin
+      result-long h = fail _ _ (lt-leb (length bytesOf) 65_536 (omega (arith, size-is))) ∙ ap (λ (n : ℕ). refused (answer 1 fileLent n)) (sym size-is)
 
-        pub put-fits : {x : List ℕ} → 8 + size ≤ length out → x ≡ sets out 0 (headerBytes to K) → 8 + length (turned e to body) ≤ length x
-        put-fits {x} l h = omega (arith, ap length h ∙ length-sets out 0 (headerBytes to K), z)
+      pub result-too-long : {r : WriteResult} → 65_536 < 8 + size → r ≡ refusedAs 1 4 (8 + size) → TurnsProof to file out out r
+      result-too-long h r = proof-refused to file out r (held ∙ result-long h)
 
-        pub all-put : {x y : List ℕ} {a : Answer} → 8 + size ≤ 65_536 → 8 + size ≤ length out → x ≡ sets out 0 (headerBytes to K) → y ≡ sets x 8 (turned e to body) → a ≡ acceptance
-            → TurnsProof to file out y (record { answer = a; count = 8 + size })
-        unfolding turnProof written fit
-        all-put {x} {y} h l hx hy ha =
-            let first : 8 ≡ 0 + length (headerBytes to K) = omega (arith, header-length to K) in
-            let whole : y ≡ over bytes out =
-            hy ∙ ap₂ (λ (o : List ℕ) (n : ℕ). sets o n (turned e to body)) hx first ∙ sym (sets-append (headerBytes to K) (turned e to body) out 0) ∙ sets-over bytes out (omega (arith, size-is)) in
-            rw (ha, whole) (record { is = rw (done-bytes h, le-leb (length bytes) (length out) (omega (arith, size-is)), size-is) })
+      done-bytes : 8 + size ≤ 65_536 → proofTurned to file ≡ accepted bytesOf
+      unfolding resultWithin
+      done-bytes h = held ∙ needs _ _ _ (le→leb (length bytesOf) 65_536 (omega (arith, size-is)))
+
+      pub output-short : {r : WriteResult} → 8 + size ≤ 65_536 → length out < 8 + size → r ≡ refusedAs 21 4 (8 + size) → TurnsProof to file out out r
+      unfolding turnProof written fit
+      output-short h l r = rw r (record { is = rw (done-bytes h, lt-leb (length bytesOf) (length out) (omega (arith, size-is)), size-is) })
+
+      pub put-fits : {x : List ℕ} → 8 + size ≤ length out → x ≡ sets out 0 (headerBytes to K) → 8 + length (turned e to bodyOf) ≤ length x
+      put-fits {x} l h = omega (arith, ap length h ∙ length-sets out 0 (headerBytes to K), t .size)
+
+      pub all-put : {x y : List ℕ} {a : Answer} → 8 + size ≤ 65_536 → 8 + size ≤ length out → x ≡ sets out 0 (headerBytes to K) → y ≡ sets x 8 (turned e to bodyOf) → a ≡ acceptance
+          → TurnsProof to file out y (record { answer = a; count = 8 + size })
+      unfolding turnProof written fit
+      all-put {x} {y} h l hx hy ha =
+          let first : 8 ≡ 0 + length (headerBytes to K) = omega (arith, header-length to K) in
+          let whole : y ≡ over bytesOf out =
+          hy ∙ ap₂ (λ (o : List ℕ) (n : ℕ). sets o n (turned e to bodyOf)) hx first ∙ sym (sets-append (headerBytes to K) (turned e to bodyOf) out 0) ∙ sets-over bytesOf out (omega (arith, size-is)) in
+          rw (ha, whole) (record { is = rw (done-bytes h, le-leb (length bytesOf) (length out) (omega (arith, size-is)), size-is) })

@@ -1,11 +1,12 @@
 -- What the functions that turn a file know on the way. Assumes nothing.
 use mathlib.Core.Path.{_≡_}
 use mathlib.Core.Option.{none}
+use mathlib.Core.Bool.{false}
 use mathlib.Core.List.{List}
 use Prim.Native.Nat.{ℕ, _≤_}
 use lib.IntN.{ℤ}
 use lib.ListN.{length}
-use Rattle.forms.specs.Edition.{newestEdition}
+use Rattle.forms.specs.Edition.{edition, newestEdition}
 use Rattle.answers.specs.Answers.{fileA, fileProof, accepted}
 use Rattle.fields.specs.declared.FileKind.{FileKind}
 use Rattle.fields.specs.Fields.{fields}
@@ -13,7 +14,7 @@ use Rattle.fields.specs.Header.{header}
 use Rattle.fields.specs.Places.{fieldsAt}
 use Rattle.bundle.specs.Bundle.{Bundle, bundle}
 use Rattle.bundle.specs.Read.{kindsOf, numbersOf}
-use Rattle.conversion.specs.Turning.{asked, otherEdition}
+use Rattle.conversion.specs.Turning.{asked, otherEdition, linesTurned, fieldsTurned, entriesRead}
 use Rattle.conversion_survey.specs.declared.Survey.{Survey}
 use Rattle.conversion_survey.specs.Going.{surveyOf}
 
@@ -47,3 +48,10 @@ pub record ToEnter (to : ℕ) (file : List ℕ) (at K e : ℕ) : Type 0 where
   pub short : length file ≤ 65_536
   pub from : otherEdition FileKind.Proof fileProof to (fields file) ≡ accepted tt
   pub heads : header FileKind.Proof fileProof newestEdition none (fields file) ≡ accepted (record { number = e; K = K; rest = fieldsAt file at })
+
+-- Its fields are entries, which turned have so many bytes together.
+pub record ToPut (to : ℕ) (file : List ℕ) (at K e turned : ℕ) : Type 0 where
+  pub enter : ToEnter to file at K e
+  pub read : entriesRead (edition e) K false (fieldsAt file at) ≡ accepted tt
+  pub size : turned ≡ length (fieldsTurned (linesTurned (edition e) (edition to)) (fieldsAt file at))
+  pub most : turned ≤ 131_072

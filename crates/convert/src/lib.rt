@@ -6,11 +6,11 @@ use bundle_read::read;
 use bundle_scan::Scanned;
 use bundle_scan::scan;
 use bundle_write::write;
-use conversion_put::put_entries;
+use conversion_survey::Entries;
 use conversion_survey::Survey;
 use conversion_survey::first_wide;
 use conversion_survey::read_entries;
-use conversion_survey::turned_size;
+use conversion_write::put_entries;
 use fields::FileKind;
 use fields::Next;
 use fields::header::Headed;
@@ -22,15 +22,17 @@ use fields::next_field;
 use forms::BUNDLE_BYTES;
 use forms::NEWEST;
 use forms::PROOF_BYTES;
-use integers::between;
 ghost use mathlib.Core.Path.{_≡_};
+ghost use mathlib.Core.Bool.{_&&_};
+ghost use lib.Dec.{leb};
+ghost use Rattle.forms.specs.Edition.{newestEdition};
 ghost use Rattle.answers.specs.Answers.{answer, accepted};
 ghost use Rattle.fields.specs.Fields.{fields};
 ghost use Rattle.bundle_scan.specs.Scan.{constraintStart};
 ghost use Rattle.proof.specs.Tree.{startsAt};
 ghost use Rattle.conversion.specs.Turning.{asked};
 ghost use Rattle.conversion.specs.Promises.{TurnsBundle, TurnsProof};
-ghost use Rattle.convert.specs.Known.{HasOther, Readable, ToTurn, ToWrite, ToEnter};
+ghost use Rattle.convert.specs.Known.{HasOther, Readable, ToTurn, ToWrite, ToEnter, ToPut};
 
 fn refused(number: u8, file: u8, place: usize) -> WriteResult
     ensures { λ r. ⌜ r ≡ record { answer = answer number file place; count = 0 } ⌝ }
@@ -74,6 +76,17 @@ fn has_other(s: &[u8], kind: FileKind, to: u8) -> Survey
             Survey::Fine
         }
         Numbered::Refused { number, place } => Survey::Refused { number, place },
+    }
+}
+
+// Whether it is an edition that may be asked for, whatever number it is.
+fn is_edition(edition: usize) -> bool
+    ensures { λ r. ⌜ r ≡ (leb 1 edition && leb edition newestEdition) ⌝ }
+{
+    if 1 <= edition {
+        edition <= NEWEST as usize
+    } else {
+        false
     }
 }
 
@@ -137,13 +150,14 @@ fn turn_read(file: &[u8], to: u8, out: &mut [u8]) -> WriteResult
 }
 
 // Turns a bundle into the edition asked for.
-pub fn turn_bundle(file: &[u8], to: u8, out: &mut [u8]) -> WriteResult
-    ensures { λ r. ⌜ TurnsBundle to (now (file .entry)) (now (out .entry)) (now (out .exit)) r ⌝ }
+pub fn turn_bundle(file: &[u8], edition: usize, out: &mut [u8]) -> WriteResult
+    ensures { λ r. ⌜ TurnsBundle edition (now (file .entry)) (now (out .entry)) (now (out .exit)) r ⌝ }
 {
-    if between(to, 1, NEWEST) {
+    if is_edition(edition) {
         if file.len() > BUNDLE_BYTES {
             return refused(1, 1, 0);
         }
+        let to = edition as u8;
         return match has_other(file, FileKind::Bundle, to) {
             Survey::Fine => turn_read(file, to, out),
             Survey::Refused { number, place } => refused(number, 1, place),
@@ -153,24 +167,26 @@ pub fn turn_bundle(file: &[u8], to: u8, out: &mut [u8]) -> WriteResult
 }
 
 // ---- a proof
-// Turns what stands behind the header, a proof of edition e.
-fn turn_entries(file: &[u8], at: usize, k: u8, e: u8, to: u8, out: &mut [u8]) -> WriteResult
-    requires { ⌜ ToEnter to (now file) at k e ⌝ }
+// The fields are entries that have so many bytes together when they are turned: what is left to test, and then they are written.
+fn put_proof(
+    file: &[u8],
+    at: usize,
+    k: u8,
+    e: u8,
+    to: u8,
+    turned: usize,
+    out: &mut [u8],
+) -> WriteResult
+    requires { ⌜ ToPut to (now file) at k e turned ⌝ }
     ensures { λ r. ⌜ TurnsProof to (now (file .entry)) (now (out .entry)) (now (out .exit)) r ⌝ }
 {
-    match read_entries(file, at, k, e) {
-        Survey::Fine => {}
-        Survey::Refused { number, place } => {
-            return refused(number, 3, place);
-        }
-    }
     match first_wide(file, at, e, to) {
         Survey::Fine => {}
         Survey::Refused { number, place } => {
             return refused(number, 3, place);
         }
     }
-    let size = 8 + turned_size(file, at, e, to);
+    let size = 8 + turned;
     if size > PROOF_BYTES {
         return refused(1, 4, size);
     }
@@ -185,14 +201,26 @@ fn turn_entries(file: &[u8], at: usize, k: u8, e: u8, to: u8, out: &mut [u8]) ->
     }
 }
 
-// Turns a proof into the edition asked for.
-pub fn turn_proof(file: &[u8], to: u8, out: &mut [u8]) -> WriteResult
+// Turns what stands behind the header, a proof of edition e.
+fn turn_entries(file: &[u8], at: usize, k: u8, e: u8, to: u8, out: &mut [u8]) -> WriteResult
+    requires { ⌜ ToEnter to (now file) at k e ⌝ }
     ensures { λ r. ⌜ TurnsProof to (now (file .entry)) (now (out .entry)) (now (out .exit)) r ⌝ }
 {
-    if between(to, 1, NEWEST) {
+    match read_entries(file, at, k, e, to) {
+        Entries::Turned { size } => put_proof(file, at, k, e, to, size, out),
+        Entries::Refused { number, place } => refused(number, 3, place),
+    }
+}
+
+// Turns a proof into the edition asked for.
+pub fn turn_proof(file: &[u8], edition: usize, out: &mut [u8]) -> WriteResult
+    ensures { λ r. ⌜ TurnsProof edition (now (file .entry)) (now (out .entry)) (now (out .exit)) r ⌝ }
+{
+    if is_edition(edition) {
         if file.len() > PROOF_BYTES {
             return refused(1, 3, 0);
         }
+        let to = edition as u8;
         match has_other(file, FileKind::Proof, to) {
             Survey::Fine => {}
             Survey::Refused { number, place } => {

@@ -1,9 +1,6 @@
 // The operations for other programs: what a static library has for Rust and C. Thin, over the proved operations.
 // A slice is a pointer and a length; what is lent as `&mut` overlaps nothing else that is passed.
 ghost use mathlib.Core.Path.{_≡_};
-ghost use mathlib.Core.List.{_++_};
-ghost use Prim.Native.Nat.{_≤_};
-ghost use lib.ListN.{length, drop};
 ghost use Rattle.forms.specs.Edition.{newestEdition};
 ghost use Rattle.bundle.specs.Show.{showPart};
 ghost use Rattle.bundle_show.specs.Promises.{AnswersShow, partBytes};
@@ -21,6 +18,7 @@ use bundle_read::ReadResult;
 use checking::check;
 use forms::LineNumber;
 use formula_test::Tested;
+use number_bytes::copy::copy_bytes;
 use scheduler::Changed;
 use scheduler::Job;
 use scheduler::Scheduler;
@@ -53,18 +51,6 @@ pub extern "C" fn dulgaverk_show_answer(a: &[u8], b: &[u8], line: u16) -> Answer
     bundle_show::show_answer(a, b, LineNumber(line))
 }
 
-// The first bytes of `to` become those of `from`.
-fn copy(from: &[u8], to: &mut [u8])
-    requires { ⌜ length (now from) ≤ length (now to) ⌝ }
-    ensures { λ _. ⌜ now (to .exit) ≡ now (from .entry) ++ drop (length (now (from .entry))) (now (to .entry)) ⌝ }
-{
-    let mut i = 0;
-    while i < from.len() {
-        to[i] = from[i];
-        i += 1;
-    }
-}
-
 // The check of a proof; the formula's file goes into `out`.
 #[no_mangle]
 pub extern "C" fn dulgaverk_check(a: &[u8], b: &[u8], proof: &[u8], out: &mut [u8]) -> WriteResult
@@ -83,7 +69,7 @@ pub extern "C" fn dulgaverk_show<'a>(a: &'a [u8], b: &'a [u8], line: u16, out: &
     if out.len() < n {
         return n;
     }
-    copy(part, out);
+    copy_bytes(part, 0, n, out, 0);
     n
 }
 
@@ -94,16 +80,16 @@ pub extern "C" fn dulgaverk_test(formula: &[u8], values: &[i32]) -> Tested
     formula_test::test(formula, values)
 }
 
-// Into the other edition; `edition` is the one asked for.
+// Into the other edition; `edition` is the one asked for, any number: 5 for every one but 1 and 2.
 #[no_mangle]
-pub extern "C" fn dulgaverk_turn_bundle(file: &[u8], edition: u8, out: &mut [u8]) -> WriteResult
+pub extern "C" fn dulgaverk_turn_bundle(file: &[u8], edition: usize, out: &mut [u8]) -> WriteResult
     ensures { λ r. ⌜ TurnsBundle edition (now (file .entry)) (now (out .entry)) (now (out .exit)) r ⌝ }
 {
     convert::turn_bundle(file, edition, out)
 }
 
 #[no_mangle]
-pub extern "C" fn dulgaverk_turn_proof(file: &[u8], edition: u8, out: &mut [u8]) -> WriteResult
+pub extern "C" fn dulgaverk_turn_proof(file: &[u8], edition: usize, out: &mut [u8]) -> WriteResult
     ensures { λ r. ⌜ TurnsProof edition (now (file .entry)) (now (out .entry)) (now (out .exit)) r ⌝ }
 {
     convert::turn_proof(file, edition, out)

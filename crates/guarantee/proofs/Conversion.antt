@@ -6,8 +6,9 @@ use mathlib.Core.Bool.{Bool, true, false, _&&_}
 use mathlib.Core.List.{List, []}
 use Prim.Native.Nat.{ℕ, zero, suc, _≤_, _<_}
 use native.Mathlib.Omega.{arith}
-use borrow.Author.Tests.{lt-leb, ne-eqb, eqb-false}
+use borrow.Author.Tests.{lt-leb, leb-true, leb-false, ne-eqb, eqb-false}
 use lib.Dec.{leb, eqb, eqb→eq, T}
+use lib.IntN.{ℤ}
 use lib.ListN.{length, take, drop}
 use lib.Seq.{take-at}
 use Rattle.forms.specs.Edition.{Edition, edition, newestEdition}
@@ -23,11 +24,14 @@ use Rattle.fields.specs.Header.{Header, headerTag, known, headerField, editionF
 use Rattle.fields.proofs.Framing.{items-fileOf}
 use Rattle.bundle.specs.Bundle.{Bundle, atMost, kindTagged, formSmall, constraints, bundleHeader, bundle}
 use Rattle.bundle.specs.Layout.{StatesAll, BundleFile, editionSaid, Says}
+use Rattle.bundle.specs.Read.{BundleRead, kindsOf, numbersOf, unread, store, stored, readBundle}
+use Rattle.bundle_read.specs.declared.ReadResult.{ReadResult}
+use Rattle.bundle_read.specs.Promises.{Reads}
 use Rattle.bundle.proofs.Laid.{short-accepted}
 use Rattle.bundle.proofs.RoundTrips.{writtenAs, written-fits}
 use Rattle.proof.specs.Check.{check}
 use Rattle.proof.specs.Layout.{Yields}
-use Rattle.proof.specs.Tree.{startsAt}
+use Rattle.proof.specs.Tree.{startsAt, Outside}
 use Rattle.proof.proofs.Says.{Says as Tells, says-refused, says-accepted, bind as tell-bind, seq as tell-seq, says-need, test as tests, finds as tell-finds, weaken as weakens}
 use Rattle.proof.proofs.Editions.{Starting, starting, not-read}
 use Rattle.proof.specs.Promises.{Checks}
@@ -35,6 +39,8 @@ use Rattle.conversion.specs.Turning.{other, asked, otherEdition, eachField, res
 use Rattle.conversion.specs.Widest.{widest}
 use Rattle.conversion.specs.Promises.{TurnsBundle, TurnsProof}
 use Rattle.conversion.proofs.Asking.{Asked, down, up, asked-accepted, said-gives, within-accepted}
+use Rattle.conversion.proofs.Outside.{proof-outside}
+use Rattle.conversion.proofs.AsCheck.{Refuses, as-check as check-refused}
 use Rattle.conversion.proofs.Bundles.{bundle-turned-gives, bundle-back, BundleTurns, result-short}
 use Rattle.conversion.proofs.Proofs.{proof-turned-gives, proof-back}
 use Rattle.conversion.proofs.Checked.{bundle-restated, proof-restated, BundleChosen, as-it-is as as-is, turned as is-turned, yields-same, yields-up, yields-down, overflows-down, same-left, overflow-left, Left16}
@@ -42,7 +48,8 @@ use Rattle.conversion.specs.Turnable.{BundleTurnable, ProofTurnable}
 use Rattle.guarantee.specs.Acceptance.{WrittenAs}
 use Rattle.guarantee.specs.Soundness.{Meaning, Faithful}
 use Rattle.guarantee.specs.Conversion.{BundleChoice, as-it-is, turned, Direction, kept, ProofChoice, turned-up, turned-down, ConversionPromised}
-use Rattle.guarantee.proofs.Acceptance.{of-editions, written-from}
+use Rattle.guarantee.proofs.Acceptance.{written-from}
+use Rattle.guarantee.proofs.Soundness.{meaning-is}
 use Rattle.guarantee.proofs.Turnable.{bundle-turnable, turnable-bundle, proof-turnable, turnable-proof, bundle-narrow, proof-narrow}
 
 -- ---- what is left of an output
@@ -119,14 +126,6 @@ module _ {to : ℕ} {file output left : List ℕ} {r : WriteResult} where
   turns-proof k d {bytes} t short fits = written-as output left r (proof-is d) (turnable-proof k t ∙ within-accepted 65_536 bytes short) fits
 
 -- ---- what the files state
-some-is : {X : Type 0} {x y : X} → some x ≡ some y → x ≡ y
-some-is e = cc
-
-meaning-is : (F : List Item) → All Framed F → (M : Meaning) → Faithful M → (n K : ℕ) (cs : List Constraint) → BundleFile newestEdition (fileOf F) n K cs → M F ≡ (K, cs)
-meaning-is F framed M faithful n K cs b =
-    let e : withoutNotes F ≡ b .list = some-is (sym (items-fileOf F framed) ∙ b .whole) in
-    faithful n (of-editions n (b .first) (b .last)) F K cs (subst (λ (l : List Item). StatesAll n l K cs) (sym e) (b .laid))
-
 means-alike : (to : ℕ) (F G : List Item) → All Framed F → All Framed G → (M N : Meaning) → Faithful M → Faithful N → (bytes : List ℕ) → bundleTurned to (fileOf F) ≡ accepted bytes → bytes ≡ fileOf G → N G ≡ M F
 means-alike to F G fF fG M N hM hN bytes e is =
     let t = bundle-turned-gives to (fileOf F) .gives bytes e in
@@ -342,6 +341,48 @@ proof-there : {to : ℕ} (file : List ℕ) → Asked to → length file ≤ 65_5
 unfolding proofTurned
 proof-there {to} file a l s = passes _ (asked-accepted a) ∙ passes _ (short-accepted _ fileProof file l) ∙ then-refused _ (already FileKind.Proof fileProof (known-second tt) (fields file) to a s)
 
+-- ---- as reading, as check
+stored-file : (kinds : List ℕ) (numbers : List ℤ) (m : Result Bundle) → stored kinds numbers m .answer .file ≡ 1 → (a : Answer) × (m ≡ refused a) × (stored kinds numbers m .answer ≡ a)
+unfolding stored unread store
+stored-file kinds numbers (refused a) e = (a, refl, refl)
+stored-file kinds numbers (accepted b) e = absurd (by-room (leb (length (kindsOf (b .constraints))) (length kinds) && leb (length (numbersOf (b .constraints))) (length numbers)) e)
+  where
+    by-room : (fits : Bool) → store kinds numbers fits b .answer .file ≡ 1 → ⊥
+    by-room true e = omega arith
+    by-room false e = omega arith
+
+same-refusal : {X : Type 0} {a b : Answer} {m : Result X} → m ≡ refused a → m ≡ refused b → b ≡ a
+same-refusal p q = cc
+
+module _ {to : ℕ} (file : List ℕ) (x : Asked to) (h : ¬ (Says file to)) where
+  read-refused : (a : Answer) → (atMost 8_192 fileA file >> bundle newestEdition fileA none file) ≡ refused a → bundleTurned to file ≡ refused a
+  read-refused a e = go (leb (length file) 8_192) refl
+    where
+      go : (b : Bool) → leb (length file) 8_192 ≡ b → bundleTurned to file ≡ refused a
+      go true q = let l = leb-true (length file) 8_192 q in reading-refused to file x l h a (sym (passes _ (short-accepted _ fileA file l)) ∙ e)
+      go false q = let l = leb-false (length file) 8_192 q in bundle-too-long file x l ∙ ap refused (same-refusal e (then-refused _ (too-long 8_192 fileA file l)))
+
+as-read : {file kinds : List ℕ} {numbers : List ℤ} {kinds′ : List ℕ} {numbers′ : List ℤ} {r : ReadResult} → Reads file kinds numbers kinds′ numbers′ r → r .answer .file ≡ 1
+    → {to : ℕ} → Asked to → ¬ (Says file to) → {output left : List ℕ} {r₂ : WriteResult} → TurnsBundle to file output left r₂ → r₂ .answer ≡ r .answer
+unfolding readBundle
+as-read {file} {kinds} {numbers} {r = r} d f {to} x h {output} {left} {r₂} d₂ =
+    let is : r .answer ≡ readBundle kinds numbers newestEdition file .answer = ap (λ (b : BundleRead). b .answer) (d .is) in
+    let (a, e, same) = stored-file kinds numbers (atMost 8_192 fileA file >> bundle newestEdition fileA none file) (ap (λ (a : Answer). a .file) (sym is) ∙ f) in
+    refused-as output left r₂ (bundle-is d₂) (read-refused file x h a e) ∙ sym (is ∙ same)
+
+told-alike : {a : Answer} {n at : ℕ} → Outside a → a .number ≡ n → a .file ≡ 3 → a .place ≡ at → a ≡ answer n 3 at
+told-alike {a} {n} {at} o p q s = o ∙ ap (λ (m : ℕ). answer m (a .file) (a .place)) p ∙ ap (λ (f : ℕ). answer n f (a .place)) q ∙ ap (answer n 3) s
+
+as-checked : {A B P output left : List ℕ} {r : WriteResult} → Checks A B P output left r → r .answer .file ≡ 3 → r .answer .number ≤ 7
+    → {to : ℕ} → Asked to → ¬ (Says P to) → {output₂ left₂ : List ℕ} {r₂ : WriteResult} → TurnsProof to P output₂ left₂ r₂ → r₂ .answer ≡ answer (r .answer .number) 3 (r .answer .place)
+unfolding turnProof
+as-checked {A} {B} {P} {output} {r = r} d f n {to} x h {output₂} {left₂} {r₂} d₂ =
+    let is : r .answer ≡ check A B P output .answer = answer-of (d .is) in
+    let t = check-refused to x P h A B output (ap (λ (a : Answer). a .file) (sym is) ∙ f) (subst (λ (a : Answer). a .number ≤ 7) is n) in
+    let e : r₂ .answer ≡ t .b = refused-as output₂ left₂ r₂ (proof-is d₂) (t .turned) in
+    let o : Outside (r₂ .answer) = subst Outside (sym (answer-of (proof-is d₂))) (proof-outside to P output₂) in
+    told-alike o (ap (λ (a : Answer). a .number) e ∙ t .number ∙ ap (λ (a : Answer). a .number) (sym is)) (ap (λ (a : Answer). a .file) e ∙ t .file) (ap (λ (a : Answer). a .place) e ∙ t .place ∙ ap (λ (a : Answer). a .place) (sym is))
+
 -- Point 4.
 pub conversion-promised : ConversionPromised
 conversion-promised = record {
@@ -369,6 +410,7 @@ conversion-promised = record {
   long-proof = λ to file output left r d a h. refused-as output left r (proof-is d) (proof-too-long file (is-asked a) h);
   there-bundle = λ to file output left r d a l s. refused-as output left r (bundle-is d) (bundle-there file (is-asked a) l s);
   there-proof = λ to file output left r d a l s. refused-as output left r (proof-is d) (proof-there file (is-asked a) l s);
-  as-reading = λ to file output left r d a l s x e. refused-as output left r (bundle-is d) (reading-refused to file (is-asked a) l s x e);
+  as-reading = λ file kinds numbers kinds′ numbers′ r d h to a s output left r₂ d₂. as-read d h (is-asked a) s d₂;
+  as-check = λ A B P output left r d h n to a s output₂ left₂ r₂ d₂. as-checked d h n (is-asked a) s d₂;
   never-too-long = λ to file output left r d h. never-long output left r (bundleTurned to file) (turning-tells to file) (bundle-is d) h;
 }

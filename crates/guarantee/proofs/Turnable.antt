@@ -2,6 +2,7 @@
 use mathlib.Core.Path.{_≡_, refl, sym, _∙_, ap, subst}
 use mathlib.Core.Logic.{_⊎_, inl, inr}
 use mathlib.Core.Option.{none, some}
+use mathlib.Core.Bool.{false}
 use mathlib.Core.List.{List, [], _∷_, _++_, map}
 use Prim.Native.Nat.{ℕ, suc, _*_, _^_, _≤_, _<_}
 use native.Mathlib.Omega.{arith}
@@ -27,16 +28,16 @@ use Rattle.bundle.specs.Layout.{Each, States, BundleFile}
 use Rattle.bundle.proofs.Laid.{Lists, listed, bundle-accepts, short-accepted}
 use Rattle.bundle.specs.Write.{holdable}
 use Rattle.bundle.proofs.Every.{every-of, of-every}
-use Rattle.bundle.proofs.Writable.{bytesOf-file, sized}
-use Rattle.proof.specs.Entries.{entryTagged}
+use Rattle.bundle.proofs.Writable.{bytesOf-file, header-file, sized}
+use Rattle.proof.specs.Entries.{entryTagged, lineCount}
 use Rattle.proof.specs.Layout.{Enters, ProofFile}
-use Rattle.conversion.specs.Turning.{other, lineCount, linesNamed, linesFit, numbersFit, behindHeader, bundleTurned, proofTurned, resultWithin}
+use Rattle.conversion.specs.Turning.{other, linesNamed, linesFit, numbersFit, behindHeader, bundleTurned, proofTurned, resultWithin}
 use Rattle.conversion.specs.Turnable.{BundleTurnable, ProofTurnable, InTurn, turnedItem}
 use Rattle.conversion.proofs.Asking.{Asked, down, up, asked-accepted, other-accepted}
 use Rattle.conversion.proofs.Bundles.{AllHeld, file-widths, body-lists, BundleTurns, bundle-turned-gives, bundle-turned-accepts}
 use Rattle.conversion.proofs.Carried.{below-own, every-below, below-every, there}
 use Rattle.conversion.proofs.First.{first-unfit, lists-items, rest-gives, nth-behind}
-use Rattle.conversion.proofs.Proofs.{ProofTurns, entries-accept, header-file, proof-turned-gives, proof-turned-as}
+use Rattle.conversion.proofs.Proofs.{ProofTurns, entries-accept, proof-turned-gives, proof-turned-as}
 use Rattle.guarantee.proofs.Acceptance.{held-two, two-held, four-held}
 
 to-ask : {to : ℕ} → Asked to → (to ≡ 1) ⊎ (to ≡ 2)
@@ -90,13 +91,13 @@ up-256 h = all-weaken (λ n k. omega arith) h
 most-255 : {ns : List ℕ} → All (λ n. n < 256 ^ 1) ns → All (λ n. n ≤ 255) ns
 most-255 h = all-weaken (λ n k. omega arith) h
 
-fit-down : (i : Item) → All (λ n. n ≤ 255) (linesNamed edition2 edition1 i) → T (linesFit edition2 edition1 i)
+fit-down : (i : Item) → All (λ n. n ≤ 255) (linesNamed edition2 i) → T (linesFit edition2 edition1 i)
 unfolding linesFit
 fit-down i h = below-every 1 (below-256 h)
 
-down-fit : (i : Item) → T (linesFit edition2 edition1 i) → All (λ n. n ≤ 255) (linesNamed edition2 edition1 i)
+down-fit : (i : Item) → T (linesFit edition2 edition1 i) → All (λ n. n ≤ 255) (linesNamed edition2 i)
 unfolding linesFit
-down-fit i t = most-255 (every-below 1 (linesNamed edition2 edition1 i) t)
+down-fit i t = most-255 (every-below 1 (linesNamed edition2 i) t)
 
 -- A line number of one byte has two.
 fit-up : {K : ℕ} {i : Item} {x : Entry} → Enters edition1 K i x → Bytes (i .contents) → T (linesFit edition1 edition2 i)
@@ -111,7 +112,7 @@ behind-two : {i j : Item} {is : List Item} → All ItemBytes (i ∷ j ∷ is) �
 behind-two (cons _ (cons _ h)) = h
 
 lines-held : {to : ℕ} {file : List ℕ} {K : ℕ} {es : List Entry} → Bytes file → (f : ProofFile newestEdition file (other to) K es) → (to ≡ 1) ⊎ (to ≡ 2)
-    → (to ≡ 1 → All (λ i. All (λ n. n ≤ 255) (linesNamed edition2 edition1 i)) (f .body)) → All (λ i. T (linesFit (edition (other to)) (edition to) i)) (f .body)
+    → (to ≡ 1 → All (λ i. All (λ n. n ≤ 255) (linesNamed edition2 i)) (f .body)) → All (λ i. T (linesFit (edition (other to)) (edition to) i)) (f .body)
 lines-held k f (inl e) h = rw e (all-weaken fit-down (h e))
 lines-held {to} {file} k f (inr e) h = let own = behind-two (contents-bytes file k (f .whole)) in rw e (fits-up (rw e at (f .enters)) own)
 
@@ -123,20 +124,20 @@ proof-turnable {to} t = record {
   states = t .source;
   in-turn = t .turn;
   held = λ e. all-weaken down-fit (rw e at (t .held));
-  are = t .are ∙ sym (header-file to (t .K) (map (turnedItem (other to) to) (t .source .body)));
+  are = t .are ∙ header-file to (t .K) (map (turnedItem (other to) to) (t .source .body));
 }
 
 pub turnable-proof : {to : ℕ} {file bytes : List ℕ} → Bytes file → ProofTurnable to file bytes → proofTurned to file ≡ resultWithin 65_536 bytes
 turnable-proof {to} {file} k t =
     proof-turned-as to file (to-asked (t .one-or-two)) (t .states) (t .in-turn) (lines-held k (t .states) (t .one-or-two) (t .held))
-    ∙ ap (resultWithin 65_536) (sym (t .are ∙ header-file to (t .K) (map (turnedItem (other to) to) (t .states .body))))
+    ∙ ap (resultWithin 65_536) (sym (t .are ∙ sym (header-file to (t .K) (map (turnedItem (other to) to) (t .states .body)))))
 
 -- ---- turning down, 13 and 10 at the first field at fault
 abbrev Held : Constraint → Type 0
 Held c = All (λ z. mag z ≤ 32_767) (flat (c .form))
 
 abbrev Low : Item → Type 0
-Low i = All (λ n. n ≤ 255) (linesNamed edition2 edition1 i)
+Low i = All (λ n. n ≤ 255) (linesNamed edition2 i)
 
 module _ (K : ℕ) where
   held-fits : (i : Item) (c : Constraint) → States edition2 K i c → Held c → T (numbersFit edition2 edition1 K i)
@@ -165,7 +166,7 @@ bundle-narrow file K cs b before c after e h k f at =
     ∙ then-refused _ (first-unfit 13 fileA (numbersFit edition2 edition1 K) {R = States edition2 K} {P = Held} (held-fits K) (unheld-fails K) before c after
     (subst (Lists (States edition2 K) (behindHeader (fields file))) e (body-lists b)) h k f (sym (nth-behind (fields file) (length before)) ∙ at))
 
-pub proof-narrow : (file : List ℕ) (K : ℕ) (es : List Entry) (p : ProofFile newestEdition file 2 K es) → InTurn none es → (before : List Item) (i : Item) (after : List Item) → p .body ≡ before ++ (i ∷ after)
+pub proof-narrow : (file : List ℕ) (K : ℕ) (es : List Entry) (p : ProofFile newestEdition file 2 K es) → InTurn false es → (before : List Item) (i : Item) (after : List Item) → p .body ≡ before ++ (i ∷ after)
     → All Low before → (Low i → ⊥) → (f : Field) → nth (suc (suc (length before))) (fields file) ≡ some f → proofTurned 1 file ≡ refused (answer 10 3 (f .at))
 unfolding proofTurned agrees known headerTag
 proof-narrow file K es p t before i after e h k f at =
@@ -175,6 +176,6 @@ proof-narrow file K es p t before i after e h k f at =
     ∙ passes _ (short-accepted _ fileProof file (p .short))
     ∙ passes _ (other-accepted FileKind.Proof fileProof 1 (fields file) _ tt (p .whole))
     ∙ binds _ (r .reads)
-    ∙ passes _ (entries-accept edition2 K none (listed (r .after) (r .rest) (p .enters)) t)
+    ∙ passes _ (entries-accept edition2 K false (listed (r .after) (r .rest) (p .enters)) t)
     ∙ then-refused _ (first-unfit 10 fileProof (linesFit edition2 edition1) {R = λ i j. i ≡ j} {P = Low} low-fits high-fails before i after
     (subst (Lists (λ i j. i ≡ j) (r .after)) e (lists-items (r .after) (p .body) (r .rest))) h k f (ap (nth (length before)) is ∙ sym (nth-behind (fields file) (length before)) ∙ at))

@@ -1,21 +1,23 @@
 -- Between the editions: document 02, point 4. Of what the functions turn_bundle, turn_proof and check ensure. Assumes nothing.
 use mathlib.Core.Path.{_≡_}
 use mathlib.Core.Logic.{_⊎_, _↔_}
-use mathlib.Core.Option.{none, some}
+use mathlib.Core.Option.{some}
+use mathlib.Core.Bool.{false}
 use mathlib.Core.List.{List, _∷_, _++_}
 use Prim.Native.Nat.{ℕ, suc, _≤_, _<_}
 use lib.ListN.{length, take}
+use lib.IntN.{ℤ}
 use lib.Signed.{mag}
-use Rattle.forms.specs.Edition.{edition1, edition2, newestEdition}
+use Rattle.forms.specs.Edition.{edition2, newestEdition}
 use Rattle.forms.specs.Forms.{All, Constraint, Formula}
 use Rattle.calculus.specs.Rules.{Entry}
-use Rattle.answers.specs.declared.Answer.{Answer}
 use Rattle.answers.specs.declared.WriteResult.{WriteResult}
-use Rattle.answers.specs.Answers.{answer, fileA, fileProof, refused}
+use Rattle.answers.specs.Answers.{answer}
 use Rattle.number_bytes.specs.Numbers.{Bytes, flat}
 use Rattle.fields.specs.Fields.{Field, nth, Item, Framed, fileOf, withoutNotes, fields}
-use Rattle.bundle.specs.Bundle.{bundle}
 use Rattle.bundle.specs.Layout.{BundleFile, Says}
+use Rattle.bundle_read.specs.declared.ReadResult.{ReadResult}
+use Rattle.bundle_read.specs.Promises.{Reads}
 use Rattle.proof.specs.Layout.{ProofFile, Yields}
 use Rattle.proof.specs.Tree.{startsAt}
 use Rattle.proof.specs.Promises.{Checks}
@@ -60,8 +62,8 @@ pub record ConversionPromised : Type 0 where
   pub bundle-13 : (file output left : List ℕ) (r : WriteResult) → TurnsBundle 1 file output left r → (K : ℕ) (cs : List Constraint) → BundleFile newestEdition file 2 K cs
       → (before : List Constraint) (c : Constraint) (after : List Constraint) → cs ≡ before ++ (c ∷ after) → All (λ c. All (λ z. mag z ≤ 32_767) (flat (c .form))) before → ¬ All (λ z. mag z ≤ 32_767) (flat (c .form))
       → (f : Field) → nth (suc (suc (length before))) (fields file) ≡ some f → r .answer ≡ answer 13 1 (f .at)
-  pub proof-10 : (file output left : List ℕ) (r : WriteResult) → TurnsProof 1 file output left r → (K : ℕ) (es : List Entry) (p : ProofFile newestEdition file 2 K es) → InTurn none es
-      → (before : List Item) (i : Item) (after : List Item) → p .body ≡ before ++ (i ∷ after) → All (λ i. All (λ n. n ≤ 255) (linesNamed edition2 edition1 i)) before → ¬ All (λ n. n ≤ 255) (linesNamed edition2 edition1 i)
+  pub proof-10 : (file output left : List ℕ) (r : WriteResult) → TurnsProof 1 file output left r → (K : ℕ) (es : List Entry) (p : ProofFile newestEdition file 2 K es) → InTurn false es
+      → (before : List Item) (i : Item) (after : List Item) → p .body ≡ before ++ (i ∷ after) → All (λ i. All (λ n. n ≤ 255) (linesNamed edition2 i)) before → ¬ All (λ n. n ≤ 255) (linesNamed edition2 i)
       → (f : Field) → nth (suc (suc (length before))) (fields file) ≡ some f → r .answer ≡ answer 10 3 (f .at)
   -- ---- turned and turned back: the same bytes, notes removed, in both directions, for every file that is turned at all (a file of bytes, as a slice is); no second turn is refused
   pub bundle-and-back : (to : ℕ) (F : List Item) → All Framed F → Bytes (fileOf F) → (output left : List ℕ) (r : WriteResult) → TurnsBundle to (fileOf F) output left r → r .answer .number ≡ 0
@@ -99,8 +101,11 @@ pub record ConversionPromised : Type 0 where
       → r .answer ≡ answer 5 1 (startsAt (fields file))
   pub there-proof : (to : ℕ) (file output left : List ℕ) (r : WriteResult) → TurnsProof to file output left r → (to ≡ 1) ⊎ (to ≡ 2) → length file ≤ 65_536 → Says file to
       → r .answer ≡ answer 5 3 (startsAt (fields file))
-  -- every other refusal of reading is that of turning
-  pub as-reading : (to : ℕ) (file output left : List ℕ) (r : WriteResult) → TurnsBundle to file output left r → (to ≡ 1) ⊎ (to ≡ 2) → length file ≤ 8_192 → ¬ (Says file to)
-      → (a : Answer) → bundle newestEdition fileA none file ≡ refused a → r .answer ≡ a
+  -- every other refusal of reading for the file is that of turning it,
+  pub as-reading : (file kinds : List ℕ) (numbers : List ℤ) (kinds′ : List ℕ) (numbers′ : List ℤ) (r : ReadResult) → Reads file kinds numbers kinds′ numbers′ r → r .answer .file ≡ 1
+      → (to : ℕ) → (to ≡ 1) ⊎ (to ≡ 2) → ¬ (Says file to) → (output left : List ℕ) (r₂ : WriteResult) → TurnsBundle to file output left r₂ → r₂ .answer ≡ r .answer
+  -- and every refusal of check in a proof by a number up to 7, whatever A and B are, is that of turning it: number, file and place
+  pub as-check : (A B P output left : List ℕ) (r : WriteResult) → Checks A B P output left r → r .answer .file ≡ 3 → r .answer .number ≤ 7
+      → (to : ℕ) → (to ≡ 1) ⊎ (to ≡ 2) → ¬ (Says P to) → (output₂ left₂ : List ℕ) (r₂ : WriteResult) → TurnsProof to P output₂ left₂ r₂ → r₂ .answer ≡ answer (r .answer .number) 3 (r .answer .place)
   -- 1 for a result that is too long never comes for a bundle: where 1 comes, it is for the file
   pub never-too-long : (to : ℕ) (file output left : List ℕ) (r : WriteResult) → TurnsBundle to file output left r → r .answer .number ≡ 1 → r .answer .file ≡ 1

@@ -1,25 +1,25 @@
--- `conversion_survey::read_entries` meets its contract. Assumes nothing.
+-- `conversion_survey::read_entries` meets its contract: what is left to read and to count from here is the whole from the start. Assumes nothing.
 use mathlib.Core.Path.{_≡_, refl, sym, _∙_}
-use mathlib.Core.Option.{none}
-use Prim.Native.Nat.{_-_}
+use mathlib.Core.Bool.{false}
+use Prim.Native.Nat.{_+_, _-_, _≤_}
 use lib.ListN.{length}
 use native.Mathlib.Omega.{arith}
 use Rattle.fields.specs.Places.{fieldsAt}
 use Rattle.fields.proofs.Places.{starts, starts-less, next-cut, next-ends}
-use Rattle.conversion_survey.specs.Going.{lineIf}
-use Rattle.conversion_survey.proofs.Ways.{read, entries-on, entries-stop, entries-cut, entries-ends}
+use Rattle.conversion_survey.proofs.Ways.{read, turned, entries-on, lines-here, entries-stop, entries-cut, entries-ends, size-step, spare-step, len-most, size-ends}
 use borrow.Author.Needs.{needs}
 use Rattle.conversion_survey.proofs.read_entries.Statement.{statement}
 use Rattle.conversion_survey.proofs.read_entries.Tie as tie
 
 abbrev Inv-loop : tie.InvT-loop
-Inv-loop p at k e here₀ made₀ here made = read e k none (fieldsAt p at) ≡ read e k (lineIf made) (fieldsAt p here)
+Inv-loop p at k e to here₀ made₀ size₀ here made size = (read e k false (fieldsAt p at) ≡ read e k made (fieldsAt p here)) × (length (turned e to (fieldsAt p at)) ≡ size + length (turned e to (fieldsAt p here)))
+    × (size + (length p - here) + (length p - here) ≤ 131_072)
 
 abbrev μ-loop : tie.MeasureT-loop
-μ-loop p at k e here₀ made₀ here made = length p - here
+μ-loop p at k e to here₀ made₀ size₀ here made size = length p - here
 
 loop-holds : tie.Need-loop-holds Inv-loop μ-loop
-loop-holds c = refl
+loop-holds c = (refl, omega arith, omega (arith, c .before .pre .1))
 
 next-field-requires : tie.Need-next-field-requires Inv-loop μ-loop
 next-field-requires c κs = search needs
@@ -27,38 +27,44 @@ next-field-requires c κs = search needs
 enum-known-place : tie.Need-enum-known-place Inv-loop μ-loop
 enum-known-place c = search needs
 
-entry-at-requires : tie.Need-entry-at-requires Inv-loop μ-loop
-entry-at-requires c κs = let k = starts (c .before .before .before .next-field .ensures) (c .before .place .given .1) in (c .before .before .before .before .before .before .pre, omega (arith, k .upto, k .next-is))
-
-goes-on-requires : tie.Need-goes-on-requires Inv-loop μ-loop
-goes-on-requires c κs = search needs
+laid-out-requires : tie.Need-laid-out-requires Inv-loop μ-loop
+laid-out-requires c κs = c .before .before .before .before .before .before .pre .0
 
 enum-known-claimable : tie.Need-enum-known-claimable Inv-loop μ-loop
 enum-known-claimable c = search needs
+
+turned-len-requires : tie.Need-turned-len-requires Inv-loop μ-loop
+turned-len-requires c κs = let k = starts (c .before .before .before .before .before .before .before .next-field .ensures) (c .before .before .before .before .before .place .given .1) in (lines-here (c .before .before .before .before .before .before .before .before .before .before .args .e) (c .before .before .before .before .before .before .before .before .before .before .args .k) k (c .before .before .before .before .before .before .before .before .loop .made) (c .before .before .before .laid-out .ensures) (c .before .claimable .given .1), len-most (c .before .before .before .before .before .before .before .before .before .before .args .e) (c .before .before .before .before .before .before .before .before .before .before .args .to) k (c .before .before .before .before .before .before .before .before .before .before .pre .1))
+
+add-size : tie.Need-add-size Inv-loop μ-loop
+add-size c = let k = starts (c .before .before .before .before .before .before .before .before .next-field .ensures) (c .before .before .before .before .before .before .place .given .1) in omega (arith, c .turned-len .ensures .1, len-most (c .before .before .before .before .before .before .before .before .before .before .before .args .e) (c .before .before .before .before .before .before .before .before .before .before .before .args .to) k (c .before .before .before .before .before .before .before .before .before .before .before .pre .1))
+
+add-size-2 : tie.Need-add-size-2 Inv-loop μ-loop
+add-size-2 c = let k = starts (c .before .before .before .before .before .before .before .before .next-field .ensures) (c .before .before .before .before .before .before .place .given .1) in omega (arith, c .turned-len .ensures .1, len-most (c .before .before .before .before .before .before .before .before .before .before .before .args .e) (c .before .before .before .before .before .before .before .before .before .before .before .args .to) k (c .before .before .before .before .before .before .before .before .before .before .before .pre .1), c .before .before .before .before .before .before .before .before .before .loop .inv .2)
 
 loop-less : tie.Need-loop-less Inv-loop μ-loop
 loop-less c = starts-less (starts (c .before .before .before .before .before .before .before .before .next-field .ensures) (c .before .before .before .before .before .before .place .given .1))
 
 loop-again : tie.Need-loop-again Inv-loop μ-loop
-loop-again c = c .before .before .before .before .before .before .before .before .before .loop .inv ∙ entries-on _ _ (starts (c .before .before .before .before .before .before .before .before .next-field .ensures) (c .before .before .before .before .before .before .place .given .1)) _ _ (c .before .before .before .before .entry-at .ensures) (sym (c .before .before .before .goes-on .ensures) ∙ c .before .claimable .given .1)
+loop-again c = let k = starts (c .before .before .before .before .before .before .before .before .next-field .ensures) (c .before .before .before .before .before .before .place .given .1) in (c .before .before .before .before .before .before .before .before .before .loop .inv .0 ∙ entries-on (c .before .before .before .before .before .before .before .before .before .before .before .args .e) (c .before .before .before .before .before .before .before .before .before .before .before .args .k) k (c .before .before .before .before .before .before .before .before .before .loop .made) (c .before .before .before .before .laid-out .ensures) (c .before .before .claimable .given .1), c .before .before .before .before .before .before .before .before .before .loop .inv .1 ∙ size-step (c .before .before .before .before .before .before .before .before .before .before .before .args .e) (c .before .before .before .before .before .before .before .before .before .before .before .args .to) k _ _ (c .turned-len .ensures .0), spare-step (c .before .before .before .before .before .before .before .before .before .before .before .args .e) (c .before .before .before .before .before .before .before .before .before .before .before .args .to) k _ _ (c .turned-len .ensures .1) (c .before .before .before .before .before .before .before .before .before .loop .inv .2))
 
 enum-known-number : tie.Need-enum-known-number Inv-loop μ-loop
 enum-known-number c = search needs
 
 returns : tie.Need-returns Inv-loop μ-loop
-returns c = c .before .before .before .before .before .before .before .before .before .loop .inv ∙ entries-stop _ _ (starts (c .before .before .before .before .before .before .before .before .next-field .ensures) (c .before .before .before .before .before .before .place .given .1)) _ _ (c .before .before .before .before .entry-at .ensures) (sym (c .before .before .before .goes-on .ensures) ∙ c .before .number .given .1)
+returns c = let k = starts (c .before .before .before .before .before .before .before .next-field .ensures) (c .before .before .before .before .before .place .given .1) in c .before .before .before .before .before .before .before .before .loop .inv .0 ∙ entries-stop (c .before .before .before .before .before .before .before .before .before .before .args .e) (c .before .before .before .before .before .before .before .before .before .before .args .k) k (c .before .before .before .before .before .before .before .before .loop .made) (c .before .before .before .laid-out .ensures) (c .before .number .given .1)
 
 enum-known-place-2 : tie.Need-enum-known-place-2 Inv-loop μ-loop
 enum-known-place-2 c = search needs
 
 returns-2 : tie.Need-returns-2 Inv-loop μ-loop
-returns-2 c = c .before .before .before .before .loop .inv ∙ entries-cut (c .before .before .before .before .before .before .args .e) (c .before .before .before .before .before .before .args .k) (lineIf (c .before .before .before .before .loop .made)) (next-cut (fieldsAt (c .before .before .before .before .before .before .args .p .now) (c .before .before .before .before .loop .here)) (c .before .before .before .next-field .ensures) (c .before .place2 .given .1))
+returns-2 c = c .before .before .before .before .loop .inv .0 ∙ entries-cut (c .before .before .before .before .before .before .args .e) (c .before .before .before .before .before .before .args .k) (c .before .before .before .before .loop .made) (next-cut (fieldsAt (c .before .before .before .before .before .before .args .p .now) (c .before .before .before .before .loop .here)) (c .before .before .before .next-field .ensures) (c .before .place2 .given .1))
 
 enum-told : tie.Need-enum-told Inv-loop μ-loop
 enum-told c = search needs
 
 returns-3 : tie.Need-returns-3 Inv-loop μ-loop
-returns-3 c = c .before .before .before .loop .inv ∙ entries-ends (c .before .before .before .before .before .args .e) (c .before .before .before .before .before .args .k) (lineIf (c .before .before .before .loop .made)) (next-ends (fieldsAt (c .before .before .before .before .before .args .p .now) (c .before .before .before .loop .here)) (c .before .before .next-field .ensures) (c .enum-told .given .1))
+returns-3 c = let e = next-ends (fieldsAt (c .before .before .before .before .before .args .p .now) (c .before .before .before .loop .here)) (c .before .before .next-field .ensures) (c .enum-told .given .1) in (c .before .before .before .loop .inv .0 ∙ entries-ends (c .before .before .before .before .before .args .e) (c .before .before .before .before .before .args .k) (c .before .before .before .loop .made) e, size-ends (c .before .before .before .before .before .args .e) (c .before .before .before .before .before .args .to) (c .before .before .before .loop .inv .1) e, omega (arith, c .before .before .before .loop .inv .2))
 
 pub read-entries-spec : {M : Type 1} → statement M
 read-entries-spec =
@@ -69,9 +75,11 @@ read-entries-spec =
     loop-holds
     next-field-requires
     enum-known-place
-    entry-at-requires
-    goes-on-requires
+    laid-out-requires
     enum-known-claimable
+    turned-len-requires
+    add-size
+    add-size-2
     loop-less
     loop-again
     enum-known-number

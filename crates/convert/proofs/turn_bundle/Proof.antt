@@ -1,27 +1,30 @@
 -- `convert::turn_bundle` meets its contract. Assumes nothing.
 use native.Mathlib.Omega.{arith}
-use Rattle.convert.proofs.Whole.{asked-by, bundle-unasked, bundle-long, bundle-not-other, to-turn}
+use Rattle.convert.proofs.Whole.{asked-by, one-or-two, bundle-unasked, bundle-long, bundle-not-other, to-turn}
 use borrow.Author.Needs.{needs}
 use Rattle.convert.proofs.turn_bundle.Statement.{statement}
 use Rattle.convert.proofs.turn_bundle.Tie as tie
 
-between-requires : tie.Need-between-requires
-between-requires c κs = search needs
+is-edition-requires : tie.Need-is-edition-requires
+is-edition-requires c κs = search needs
 
 refused-requires : tie.Need-refused-requires
 refused-requires c κs = search needs
 
 returns : tie.Need-returns
-returns c = bundle-long (c .before .before .before .before .before .before .args .to) (c .before .before .before .before .before .before .args .file .now) (c .before .before .before .before .before .before .args .out .now) (asked-by (c .before .before .before .before .before .before .args .to) (c .before .before .before .before .before .before .args .file .now) (c .before .before .before .before .before .before .args .out .now) (c .before .before .before .between .ensures) (c .before .before .if1 .taken)) (c .before .if2 .taken) (c .refused .ensures)
+returns c = bundle-long (c .before .before .before .before .before .before .args .edition) (c .before .before .before .before .before .before .args .file .now) (c .before .before .before .before .before .before .args .out .now) (asked-by (c .before .before .before .before .before .before .args .edition) (c .before .before .before .before .before .before .args .file .now) (c .before .before .before .before .before .before .args .out .now) (c .before .before .before .is-edition .ensures) (c .before .before .if1 .taken)) (c .before .if2 .taken) (c .refused .ensures)
+
+cast-to : tie.Need-cast-to
+cast-to c = omega (arith, one-or-two (c .before .before .before .before .before .args .edition) (c .before .before .before .before .before .args .file .now) (c .before .before .before .before .before .args .out .now) (c .before .before .is-edition .ensures) (c .before .if1 .taken))
 
 has-other-requires : tie.Need-has-other-requires
-has-other-requires c κs = asked-by (c .before .before .before .before .before .args .to) (c .before .before .before .before .before .args .file .now) (c .before .before .before .before .before .args .out .now) (c .before .before .between .ensures) (c .before .if1 .taken)
+has-other-requires c κs = asked-by (c .before .before .before .before .before .args .edition) (c .before .before .before .before .before .args .file .now) (c .before .before .before .before .before .args .out .now) (c .before .before .is-edition .ensures) (c .before .if1 .taken)
 
 enum-told : tie.Need-enum-told
 enum-told c = search needs
 
 turn-read-requires : tie.Need-turn-read-requires
-turn-read-requires c κs = to-turn (c .before .before .before .before .before .before .before .before .before .args .to) (c .before .before .before .before .before .before .before .before .before .args .file .now) (c .before .before .before .before .before .before .before .before .before .args .out .now) (asked-by (c .before .before .before .before .before .before .before .before .before .args .to) (c .before .before .before .before .before .before .before .before .before .args .file .now) (c .before .before .before .before .before .before .before .before .before .args .out .now) (c .before .before .before .before .before .before .between .ensures) (c .before .before .before .before .before .if1 .taken)) (omega (arith, c .before .before .before .before .if2 .left)) (c .before .before .before .has-other .ensures) (c .before .enum-told .given .1)
+turn-read-requires c κs = to-turn (c .before .before .before .before .before .before .before .before .before .args .edition) (c .before .before .before .before .before .before .before .before .before .args .file .now) (c .before .before .before .before .before .before .before .before .before .args .out .now) (asked-by (c .before .before .before .before .before .before .before .before .before .args .edition) (c .before .before .before .before .before .before .before .before .before .args .file .now) (c .before .before .before .before .before .before .before .before .before .args .out .now) (c .before .before .before .before .before .before .is-edition .ensures) (c .before .before .before .before .before .if1 .taken)) (omega (arith, c .before .before .before .before .if2 .left)) (c .before .before .before .has-other .ensures) (c .before .enum-told .given .1)
 
 enum-known-number : tie.Need-enum-known-number
 enum-known-number c = search needs
@@ -36,21 +39,22 @@ returns-2 : tie.Need-returns-2
 returns-2 c = search needs
 
 returns-3 : tie.Need-returns-3
-returns-3 c = bundle-not-other (c .before .before .before .before .before .before .before .before .before .before .args .to) (c .before .before .before .before .before .before .before .before .before .before .args .file .now) (c .before .before .before .before .before .before .before .before .before .before .args .out .now) (asked-by (c .before .before .before .before .before .before .before .before .before .before .args .to) (c .before .before .before .before .before .before .before .before .before .before .args .file .now) (c .before .before .before .before .before .before .before .before .before .before .args .out .now) (c .before .before .before .before .before .before .before .between .ensures) (c .before .before .before .before .before .before .if1 .taken)) (omega (arith, c .before .before .before .before .before .if2 .left)) (c .before .before .before .before .has-other .ensures) (c .before .before .number .given .1) (c .refused2 .ensures)
+returns-3 c = bundle-not-other (c .before .before .before .before .before .before .before .before .before .before .args .edition) (c .before .before .before .before .before .before .before .before .before .before .args .file .now) (c .before .before .before .before .before .before .before .before .before .before .args .out .now) (asked-by (c .before .before .before .before .before .before .before .before .before .before .args .edition) (c .before .before .before .before .before .before .before .before .before .before .args .file .now) (c .before .before .before .before .before .before .before .before .before .before .args .out .now) (c .before .before .before .before .before .before .before .is-edition .ensures) (c .before .before .before .before .before .before .if1 .taken)) (omega (arith, c .before .before .before .before .before .if2 .left)) (c .before .before .before .before .has-other .ensures) (c .before .before .number .given .1) (c .refused2 .ensures)
 
 refused-requires-3 : tie.Need-refused-requires-3
 refused-requires-3 c κs = search needs
 
 returns-4 : tie.Need-returns-4
-returns-4 c = bundle-unasked (c .before .before .before .before .before .args .to) (c .before .before .before .before .before .args .file .now) (c .before .before .before .before .before .args .out .now) (c .before .before .between .ensures) (c .before .if1 .left) (c .refused3 .ensures)
+returns-4 c = bundle-unasked (c .before .before .before .before .before .args .edition) (c .before .before .before .before .before .args .file .now) (c .before .before .before .before .before .args .out .now) (c .before .before .is-edition .ensures) (c .before .if1 .left) (c .refused3 .ensures)
 
 pub turn-bundle-spec : {M : Type 1} → statement M
 turn-bundle-spec =
     tie.close
     (tie.spec
-    between-requires
+    is-edition-requires
     refused-requires
     returns
+    cast-to
     has-other-requires
     enum-told
     turn-read-requires

@@ -3,10 +3,10 @@ use mathlib.Core.Path.{_≡_, sym, _∙_, ap, ap₂}
 use mathlib.Core.List.{List, [], _∷_, _++_, append-nil}
 use Prim.Native.Nat.{ℕ, suc, _+_, _-_, _*_, _≤_, _<_}
 use native.Mathlib.Omega.{arith}
-use lib.ListN.{length, take, drop, getD, set, length-drop, length-append}
-use lib.Seq.{sets, take-suc, getD-drop, length-take-le, drop-drop, length-sets}
+use lib.ListN.{length, take, drop, length-drop, length-append}
+use lib.Seq.{sets, length-take-le, drop-drop, length-sets}
 use Rattle.forms.specs.Edition.{edition}
-use Rattle.number_bytes.specs.Numbers.{unsigned, unsignedBytes}
+use Rattle.number_bytes.specs.Numbers.{unsigned, unsignedBytes, unsigneds, unsignedsBytes}
 use Rattle.number_bytes.proofs.Signed.{drop-take, length-unsignedBytes}
 use Rattle.number_bytes.proofs.Stores.{sets-append}
 use Rattle.fields.specs.Fields.{item, fieldBytes}
@@ -14,21 +14,10 @@ use Rattle.fields.specs.Places.{fieldsAt}
 use Rattle.fields.proofs.Places.{Starts}
 use Rattle.fields.proofs.Framing.{length-fieldBytes}
 use Rattle.fields.proofs.Stores.{put-field}
-use Rattle.proof.specs.Entries.{entryTagged}
-use Rattle.conversion.specs.Turning.{lineCount, unsigneds, unsignedsBytes, linesTurned}
-use Rattle.conversion.proofs.Carried.{head-size}
+use Rattle.proof.specs.Entries.{entryTagged, lineCount}
+use Rattle.conversion.specs.Turning.{linesTurned}
+use Rattle.conversion.proofs.Carried.{head-size, turned-is}
 use Rattle.conversion_survey.proofs.Ways.{unsigneds-take, turned, turned-size, turned-on, size-on, size-step}
-
--- ---- copying
-pub copy-step : (out₀ out p : List ℕ) (start o n i : ℕ) → start + n ≤ length p → i < n → out ≡ sets out₀ o (take i (drop start p)) → set out (o + i) (getD p (start + i) 0) ≡ sets out₀ o (take (i + 1) (drop start p))
-copy-step out₀ out p start o n i h l e =
-    let inside : i < length (drop start p) = rw (length-drop start p) (omega arith) in
-    let own : length (take i (drop start p)) ≡ i = length-take-le i (drop start p) (omega arith) in
-    let z : i + 1 ≡ suc i = omega arith in
-    rw (e, z, take-suc (drop start p) i 0 inside, sets-append (take i (drop start p)) (getD (drop start p) i 0 ∷ []) out₀ o, own, getD-drop start p i 0)
-
-pub copy-length : (out₀ out p : List ℕ) (start o i : ℕ) → out ≡ sets out₀ o (take i (drop start p)) → length out ≡ length out₀
-copy-length out₀ out p start o i e = ap length e ∙ length-sets out₀ o (take i (drop start p))
 
 -- ---- line numbers put
 module _ (w w′ n : ℕ) (p : List ℕ) (start : ℕ) (out : List ℕ) (o : ℕ) where
@@ -78,9 +67,8 @@ module _ (a b tag start len o : ℕ) (p out : List ℕ) where
   abbrev Rest : List ℕ
   Rest = take (len - N * wa) (drop (start + N * wa) p)
 
-  turned-is : N * wa ≤ len → linesTurned (edition a) (edition b) (item tag (take len (drop start p))) ≡ Lines ++ Rest
-  unfolding linesTurned
-  turned-is h = ap₂ (λ (x y : List ℕ). x ++ y) (ap (unsignedsBytes wb) (unsigneds-take wa wb N len (drop start p) h))
+  contents-turned : N * wa ≤ len → linesTurned (edition a) (edition b) (item tag (take len (drop start p))) ≡ Lines ++ Rest
+  contents-turned h = turned-is a b (item tag (take len (drop start p))) ∙ ap₂ (λ (x y : List ℕ). x ++ y) (ap (unsignedsBytes wb) (unsigneds-take wa wb N len (drop start p) h))
       (drop-take (N * wa) len (drop start p) h ∙ ap (take (len - N * wa)) (drop-drop (N * wa) start p))
 
   size-is : N * wa ≤ len → start + len ≤ length p → length (Lines ++ Rest) ≡ N * wb + (len - N * wa)
@@ -94,7 +82,7 @@ module _ (a b tag start len o : ℕ) (p out : List ℕ) where
       let ez′ : z ≡ sets x (o + 3 + N * wb) Rest = rw (en, ea, eb) at ez in
       let whole : z ≡ sets y (o + 3) (Lines ++ Rest) =
       ez′ ∙ ap₂ (λ (l : List ℕ) (m : ℕ). sets l (o + 3 + m) Rest) ex′ (sym (head-size wa wb N (drop start p))) ∙ sym (sets-append Lines Rest y (o + 3)) in
-      put-field out o tag r (Lines ++ Rest) ey whole (size-is h k ∙ sym er) ∙ ap (λ (c : List ℕ). sets out o (fieldBytes tag c)) (sym (turned-is h))
+      put-field out o tag r (Lines ++ Rest) ey whole (size-is h k ∙ sym er) ∙ ap (λ (c : List ℕ). sets out o (fieldBytes tag c)) (sym (contents-turned h))
 
 -- ---- all fields put
 module _ (a b : ℕ) {s : List ℕ} {at c t start len next : ℕ} (k : Starts s at c t start len next) (out : List ℕ) (end : ℕ) where

@@ -1,17 +1,17 @@
--- `conversion_put::put_entry` meets its contract. Assumes nothing.
+-- `conversion_write::put_entry` meets its contract. Assumes nothing.
 use mathlib.Core.Path.{_≡_, sym, _∙_}
 use mathlib.Core.List.{_∷_}
 use Prim.Native.Nat.{_+_, _-_, _*_, _≤_}
 use lib.ListN.{length, drop}
 use Rattle.number_bytes.specs.Numbers.{unsignedBytes}
-use Rattle.conversion.specs.Turning.{unsigneds, unsignedsBytes}
+use Rattle.number_bytes.specs.Numbers.{unsigneds, unsignedsBytes}
 use native.Mathlib.Omega.{arith}
 use Rattle.forms.specs.Edition.{edition}
 use Rattle.conversion_survey.proofs.Ways.{small-product, bytes-most}
-use Rattle.conversion_put.proofs.Putting.{entry-room, entry-put, second-room, N, wa, wb}
+use Rattle.conversion_write.proofs.Putting.{entry-room, entry-put, second-room, N, wa, wb}
 use borrow.Author.Needs.{needs}
-use Rattle.conversion_put.proofs.put_entry.Statement.{statement}
-use Rattle.conversion_put.proofs.put_entry.Tie as tie
+use Rattle.conversion_write.proofs.put_entry.Statement.{statement}
+use Rattle.conversion_write.proofs.put_entry.Tie as tie
 
 line-count-requires : tie.Need-line-count-requires
 line-count-requires c κs = search needs

@@ -5,6 +5,7 @@ use fields::Next;
 use fields::header::put_head;
 use fields::next_field;
 use forms::line_bytes;
+use number_bytes::copy::copy_bytes;
 use number_bytes::numbers::put_unsigned;
 use number_bytes::numbers::unsigned_at;
 ghost use mathlib.Core.Path.{_≡_};
@@ -12,12 +13,24 @@ ghost use Prim.Native.Nat.{_+_, _-_, _*_, _≤_};
 ghost use lib.ListN.{length, take, drop};
 ghost use lib.Seq.{sets};
 ghost use Rattle.forms.specs.Edition.{edition};
-ghost use Rattle.number_bytes.specs.Numbers.{unsigned, unsignedBytes};
+ghost use Rattle.number_bytes.specs.Numbers.{unsigned, unsignedBytes, unsigneds, unsignedsBytes};
 ghost use Rattle.fields.specs.Fields.{fieldBytes, item};
 ghost use Rattle.fields.specs.Places.{fieldsAt};
-ghost use Rattle.proof.specs.Entries.{entryTagged};
-ghost use Rattle.conversion.specs.Turning.{lineCount, unsigneds, unsignedsBytes, linesTurned, fieldsTurned};
+ghost use Rattle.proof.specs.Entries.{entryTagged, lineCount};
+ghost use Rattle.conversion.specs.Turning.{linesTurned, fieldsTurned};
 ghost use Rattle.conversion_survey.specs.Going.{LinesThere};
+
+// A line number as wide as an edition has it. Two calls, so that the compiler makes a store for each width, and a load below.
+fn put_number(n: u64, to: u8, out: &mut [u8], o: usize)
+    requires { ⌜ o + edition to .lineWidth ≤ length (now out) ⌝ }
+    ensures { λ _. ⌜ now (out .exit) ≡ sets (now (out .entry)) o (unsignedBytes (edition to .lineWidth) n) ⌝ }
+{
+    if to == 1 {
+        put_unsigned(out, o, 1, n);
+        return;
+    }
+    put_unsigned(out, o, 2, n);
+}
 
 // A line number in the other width.
 fn put_line(p: &[u8], at: usize, e: u8, to: u8, out: &mut [u8], o: usize)
@@ -25,8 +38,11 @@ fn put_line(p: &[u8], at: usize, e: u8, to: u8, out: &mut [u8], o: usize)
     requires { ⌜ o + edition to .lineWidth ≤ length (now out) ⌝ }
     ensures { λ _. ⌜ now (out .exit) ≡ sets (now (out .entry)) o (unsignedBytes (edition to .lineWidth) (unsigned (take (edition e .lineWidth) (drop at (now (p .entry)))))) ⌝ }
 {
-    let n = unsigned_at(p, at, line_bytes(e));
-    put_unsigned(out, o, line_bytes(to), n);
+    if e == 1 {
+        put_number(unsigned_at(p, at, 1), to, out, o);
+        return;
+    }
+    put_number(unsigned_at(p, at, 2), to, out, o);
 }
 
 // n of them, two at most.
@@ -43,20 +59,8 @@ fn put_lines(p: &[u8], start: usize, n: usize, e: u8, to: u8, out: &mut [u8], o:
     if n == 1 {
         return;
     }
-    put_line(p, start + line_bytes(e), e, to, out, o + line_bytes(to));
-}
-
-// n bytes as they are.
-fn copy_bytes(p: &[u8], start: usize, n: usize, out: &mut [u8], o: usize)
-    requires { ⌜ start + n ≤ length (now p) ⌝ }
-    requires { ⌜ o + n ≤ length (now out) ⌝ }
-    ensures { λ _. ⌜ now (out .exit) ≡ sets (now (out .entry)) o (take n (drop start (now (p .entry)))) ⌝ }
-{
-    let mut i = 0;
-    while i < n {
-        out[o + i] = p[start + i];
-        i += 1;
-    }
+    let second = start + line_bytes(e);
+    put_line(p, second, e, to, out, o + line_bytes(to));
 }
 
 // One field.

@@ -1,4 +1,4 @@
--- `conversion_put::put_entries` meets its contract. Assumes nothing.
+-- `conversion_write::put_entries` meets its contract. Assumes nothing.
 use mathlib.Core.Path.{_≡_, refl, sym, _∙_}
 use Prim.Native.Nat.{_+_, _-_, _≤_}
 use lib.ListN.{length}
@@ -9,10 +9,10 @@ use Rattle.fields.specs.Places.{fieldsAt}
 use Rattle.fields.proofs.Places.{starts, starts-less, next-cut, next-ends}
 use Rattle.conversion_survey.specs.Going.{LinesThere}
 use Rattle.conversion_survey.proofs.Ways.{turned, turned-cut, turned-ends, there-here, there-on, len-most}
-use Rattle.conversion_put.proofs.Putting.{room-step, put-step, put-length, put-room, put-over}
+use Rattle.conversion_write.proofs.Putting.{room-step, put-step, put-length, put-room, put-over}
 use borrow.Author.Needs.{needs}
-use Rattle.conversion_put.proofs.put_entries.Statement.{statement}
-use Rattle.conversion_put.proofs.put_entries.Tie as tie
+use Rattle.conversion_write.proofs.put_entries.Statement.{statement}
+use Rattle.conversion_write.proofs.put_entries.Tie as tie
 
 abbrev Inv-loop : tie.InvT-loop
 Inv-loop p at e to out₀ o here₀ end₀ out here end = (sets out₀ o (turned e to (fieldsAt p at)) ≡ sets out end (turned e to (fieldsAt p here))) × LinesThere (edition e .lineWidth) (fieldsAt p here) × (end + length (turned e to (fieldsAt p here)) ≤ length out) × (length out ≡ length out₀)
