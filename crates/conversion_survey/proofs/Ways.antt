@@ -155,6 +155,11 @@ either-le a b = go (leb a b) refl
     go true e = inl (leb-true a b e)
     go false e = inr (leb-false a b e)
 
+both-true : (a b : Bool) → (a && b) ≡ true → (a ≡ true) × (b ≡ true)
+both-true true true e = (refl, refl)
+both-true true false e = absurd (let z : _≡_ {A = ℕ} 0 1 = cc in omega arith)
+both-true false b e = absurd (let z : _≡_ {A = ℕ} 0 1 = cc in omega arith)
+
 and-true : (b : Bool) → b ≡ (b && true)
 and-true true = refl
 and-true false = refl
@@ -273,6 +278,17 @@ module _ (a b : ℕ) where
     pub fit-is : (n : ℕ) → n ≡ lineCount (entryTagged t) → n * edition a .lineWidth ≤ len → linesFit (edition a) (edition b) (item t contents) ≡ every (held (edition a .lineWidth) (edition b .lineWidth)) (unsigneds (edition a .lineWidth) n (drop start s))
     unfolding linesFit
     fit-is n e h = rw (← e) (ap (every (held (edition a .lineWidth) (edition b .lineWidth))) (unsigneds-take (edition a .lineWidth) (edition b .lineWidth) n len (drop start s) h))
+
+    -- the line numbers of one field, and those before it
+    pub fit-step : {n : ℕ} {all fit r : Bool} → n ≡ lineCount (entryTagged t) → lineCount (entryTagged t) * edition a .lineWidth ≤ len
+        → all ≡ every (held (edition a .lineWidth) (edition b .lineWidth)) (unsigneds (edition a .lineWidth) n (drop start s)) → r ≡ (fit && all) → {R : Result (Unit {0})} → (fit ≡ true → R ≡ fits (fieldsAt s at)) → r ≡ true
+        → R ≡ fits (fieldsAt s next)
+    fit-step {n} {all} {fit} e h x y before z =
+        let (f, g) = both-true fit all (sym y ∙ z) in
+        before f ∙ fits-on (fit-is n e (rw e h) ∙ sym x ∙ g)
+
+    pub line-room : {n : ℕ} → n ≡ lineCount (entryTagged t) → lineCount (entryTagged t) * edition a .lineWidth ≤ len → start + n * edition a .lineWidth ≤ length s
+    line-room e h = rw e (omega (arith, h, k .upto, k .next-is))
 
     there-both : {w : ℕ} → LinesThere w (fieldsAt s at) → (lineCount (entryTagged t) * w ≤ len) × LinesThere w (fieldsAt s next)
     there-both {w} h = go (subst (LinesThere w) (k .is) h)

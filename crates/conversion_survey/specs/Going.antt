@@ -10,7 +10,7 @@ use Rattle.answers.specs.declared.Answer.{Answer}
 use Rattle.answers.specs.Answers.{answer, fileProof, Result, refused, accepted}
 use Rattle.fields.specs.Fields.{Field, Fields, ends, cut, _▸_}
 use Rattle.proof.specs.Entries.{entryTagged, lineCount, entry}
-use Rattle.conversion.specs.Turning.{makesLine, entriesRead, linesTurned, fieldsTurned}
+use Rattle.conversion.specs.Turning.{eachField, makesLine, entriesRead, linesFit, linesTurned, fieldsTurned}
 use Rattle.conversion_survey.specs.declared.Survey.{Survey}
 use Rattle.conversion_survey.specs.declared.Entries.{Entries}
 use Rattle.conversion_survey.specs.declared.Laid.{Laid}
@@ -37,9 +37,10 @@ Answers refusal w tag len (Laid.Refused n) r = r ≡ refused (refusal n)
 pub record LaidOut (n K tag len : ℕ) (made : Bool) (r : Laid) : Type 0 where
   pub is : (refusal : ℕ → Answer) (f : Field) → f .tag ≡ tag → length (f .contents) ≡ len → Answers refusal (edition n .lineWidth) tag len r (entry (edition n) K refusal made f)
 
--- The fields are read as check reads them, and turned into the edition `to` they have so many bytes.
+-- The fields are read as check reads them, and turned into the edition `to` they have so many bytes; if `fit`, that edition holds each line number.
 abbrev pub ReadAs : (e to K : ℕ) → Fields → Entries → Type 0
-ReadAs e to K fs (Entries.Turned size) = (entriesRead (edition e) K false fs ≡ accepted tt) × (size ≡ length (fieldsTurned (linesTurned (edition e) (edition to)) fs)) × (size ≤ 131_072)
+ReadAs e to K fs (Entries.Turned size fit) = (entriesRead (edition e) K false fs ≡ accepted tt) × (size ≡ length (fieldsTurned (linesTurned (edition e) (edition to)) fs)) × (size ≤ 131_072)
+    × (fit ≡ true → eachField 10 fileProof (linesFit (edition e) (edition to)) fs ≡ accepted tt)
 ReadAs e to K fs (Entries.Refused n place) = entriesRead (edition e) K false fs ≡ refused (answer n fileProof place)
 
 -- The line numbers of each field, w bytes each, stand in its contents.

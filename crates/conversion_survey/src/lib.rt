@@ -7,7 +7,7 @@ use forms::line_bytes;
 use integers::between;
 use number_bytes::numbers::unsigned_at;
 ghost use mathlib.Core.Path.{_≡_};
-ghost use mathlib.Core.Bool.{false};
+ghost use mathlib.Core.Bool.{_&&_};
 ghost use Prim.Native.Nat.{_+_, _-_, _*_, _^_, _≤_};
 ghost use lib.Dec.{ltb};
 ghost use lib.ListN.{length, take, drop};
@@ -26,9 +26,10 @@ pub enum Survey {
     Refused { number: u8, place: usize },
 }
 
-// Each field is an entry in its place, and turned they have so many bytes together; or the first fault and its place.
+// Each field is an entry in its place, and turned they have so many bytes together; if `fit`, the edition asked for holds each
+// line number. Or the first fault and its place.
 pub enum Entries {
-    Turned { size: usize },
+    Turned { size: usize, fit: bool },
     Refused { number: u8, place: usize },
 }
 
@@ -167,7 +168,14 @@ pub fn turned_len(tag: u8, len: usize, e: u8, to: u8) -> usize
     n * line_bytes(to) + (len - n * line_bytes(e))
 }
 
-// Whether each field is an entry in its place, and how many bytes they have together when they are turned. No line is looked for.
+fn both(a: bool, b: bool) -> bool
+    ensures { λ r. ⌜ r ≡ (a && b) ⌝ }
+{
+    if a { b } else { false }
+}
+
+// Whether each field is an entry in its place, whether its line numbers fit, and how many bytes they have together when they are
+// turned: all at once, since a proof that is turned passes all. No line is looked for.
 pub fn read_entries(p: &[u8], at: usize, k: u8, e: u8, to: u8) -> Entries
     requires { ⌜ k ≤ edition1 .constants ⌝ }
     requires { ⌜ length (now p) ≤ 65_536 ⌝ }
@@ -176,17 +184,19 @@ pub fn read_entries(p: &[u8], at: usize, k: u8, e: u8, to: u8) -> Entries
     let mut here = at;
     let mut made = false;
     let mut size = 0;
+    let mut fit = true;
     loop {
         match next_field(p, here) {
             Next::Field {
                 at: place,
                 tag,
-                start: _,
+                start,
                 len,
                 next,
             } => {
                 match laid_out(tag, len, k as usize, e, made) {
                     Laid::Fine { made: claimable } => {
+                        fit = both(fit, lines_held(p, start, line_count(tag), e, to));
                         size += 3 + turned_len(tag, len, e, to);
                         made = claimable;
                         here = next;
@@ -200,7 +210,7 @@ pub fn read_entries(p: &[u8], at: usize, k: u8, e: u8, to: u8) -> Entries
                 return Entries::Refused { number: 2, place };
             }
             Next::Ends { at: _ } => {
-                return Entries::Turned { size };
+                return Entries::Turned { size, fit };
             }
         }
     }

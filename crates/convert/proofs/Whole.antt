@@ -36,7 +36,7 @@ use Rattle.conversion_survey.specs.Going.{surveyOf, ReadAs, LinesThere, at-end,
 use Rattle.conversion_survey.specs.declared.Survey.{Survey}
 use Rattle.conversion_survey.specs.declared.Entries.{Entries}
 use Rattle.conversion_survey.proofs.Ways.{fits, turned}
-use Rattle.convert.specs.Known.{HasOther, ToTurn, ToEnter, ToPut}
+use Rattle.convert.specs.Known.{HasOther, ToTurn, ToEnter, ToFit, ToPut}
 
 -- ---- what a refusal leaves
 abbrev pub refusedAs : (number file place : ℕ) → WriteResult
@@ -144,10 +144,13 @@ module _ (to : ℕ) (file out : List ℕ) (at K e : ℕ) (t : ToEnter to file at
   pub no-entries : {s : Entries} {n p : ℕ} {r : WriteResult} → ReadAs e to K body s → s ≡ Entries.Refused n p → r ≡ refusedAs n 3 p → TurnsProof to file out out r
   no-entries i f r = proof-refused to file out r (prefix ∙ then-refused _ (rw f at i))
 
-  pub to-put : {s : Entries} {n : ℕ} → ReadAs e to K body s → s ≡ Entries.Turned n → ToPut to file at K e n
-  to-put i f = let (read, size, most) = rw f at i in record { enter = t; read = read; size = size; most = most }
+  pub to-fit : {s : Entries} {n : ℕ} {fit : Bool} → ReadAs e to K body s → s ≡ Entries.Turned n fit → ToFit to file at K e n
+  to-fit i f = let (read, size, most, held) = rw f at i in record { enter = t; read = read; size = size; most = most }
 
-module _ (to : ℕ) (file out : List ℕ) (at K e size : ℕ) (t : ToPut to file at K e size) where
+  pub to-put : {s : Entries} {n : ℕ} {fit : Bool} → ReadAs e to K body s → s ≡ Entries.Turned n fit → fit ≡ true → ToPut to file at K e n
+  to-put i f h = let (read, size, most, held) = rw f at i in record { entered = to-fit i f; fits = held h }
+
+module _ (to : ℕ) (file out : List ℕ) (at K e size : ℕ) (t : ToFit to file at K e size) where
   abbrev bodyOf : Fields
   bodyOf = fieldsAt file at
 
@@ -160,40 +163,49 @@ module _ (to : ℕ) (file out : List ℕ) (at K e size : ℕ) (t : ToPut to file
   entered : proofTurned to file ≡ (fits e to bodyOf >> resultWithin 65_536 bytesOf)
   entered = prefix to file out at K e (t .enter) ∙ passes _ (t .read)
 
-  module _ (u : Survey) (j : fits e to bodyOf ≡ surveyOf fileProof u) where
+  module _ {u : Survey} (j : fits e to bodyOf ≡ surveyOf fileProof u) where
     pub too-wide : {n p : ℕ} {r : WriteResult} → u ≡ Survey.Refused n p → r ≡ refusedAs n 3 p → TurnsProof to file out out r
     too-wide g r = proof-refused to file out r (entered ∙ then-refused _ (j ∙ ap (surveyOf fileProof) g))
 
-    module _ (g : u ≡ Survey.Fine) where
-      held : proofTurned to file ≡ resultWithin 65_536 bytesOf
-      held = entered ∙ passes _ (j ∙ ap (surveyOf fileProof) g)
+    pub none-wide : u ≡ Survey.Fine → ToPut to file at K e size
+    none-wide g = record { entered = t; fits = j ∙ ap (surveyOf fileProof) g }
 
-      size-is : 8 + size ≡ length bytesOf
-      size-is = ap (λ (n : ℕ). 8 + n) (t .size) ∙ sym (bytes-size to file out at K e (t .enter))
+module _ (to : ℕ) (file out : List ℕ) (at K e size : ℕ) (t : ToPut to file at K e size) where
+  abbrev bodyIn : Fields
+  bodyIn = fieldsAt file at
 
-      result-long : 65_536 < 8 + size → resultWithin 65_536 bytesOf ≡ refused (answer 1 fileLent (8 + size))
-      unfolding resultWithin
-      result-long h = fail _ _ (lt-leb (length bytesOf) 65_536 (omega (arith, size-is))) ∙ ap (λ (n : ℕ). refused (answer 1 fileLent n)) (sym size-is)
+  abbrev bytesIn : List ℕ
+  bytesIn = headerBytes to K ++ turned e to bodyIn
 
-      pub result-too-long : {r : WriteResult} → 65_536 < 8 + size → r ≡ refusedAs 1 4 (8 + size) → TurnsProof to file out out r
-      result-too-long h r = proof-refused to file out r (held ∙ result-long h)
+  held : proofTurned to file ≡ resultWithin 65_536 bytesIn
+  held = entered to file out at K e size (t .entered) ∙ passes _ (t .fits)
 
-      done-bytes : 8 + size ≤ 65_536 → proofTurned to file ≡ accepted bytesOf
-      unfolding resultWithin
-      done-bytes h = held ∙ needs _ _ _ (le→leb (length bytesOf) 65_536 (omega (arith, size-is)))
+  size-is : 8 + size ≡ length bytesIn
+  size-is = ap (λ (n : ℕ). 8 + n) (t .entered .size) ∙ sym (bytes-size to file out at K e (t .entered .enter))
 
-      pub output-short : {r : WriteResult} → 8 + size ≤ 65_536 → length out < 8 + size → r ≡ refusedAs 21 4 (8 + size) → TurnsProof to file out out r
-      unfolding turnProof written fit
-      output-short h l r = rw r (record { is = rw (done-bytes h, lt-leb (length bytesOf) (length out) (omega (arith, size-is)), size-is) })
+  result-long : 65_536 < 8 + size → resultWithin 65_536 bytesIn ≡ refused (answer 1 fileLent (8 + size))
+  unfolding resultWithin
+  result-long h = fail _ _ (lt-leb (length bytesIn) 65_536 (omega (arith, size-is))) ∙ ap (λ (n : ℕ). refused (answer 1 fileLent n)) (sym size-is)
 
-      pub put-fits : {x : List ℕ} → 8 + size ≤ length out → x ≡ sets out 0 (headerBytes to K) → 8 + length (turned e to bodyOf) ≤ length x
-      put-fits {x} l h = omega (arith, ap length h ∙ length-sets out 0 (headerBytes to K), t .size)
+  pub result-too-long : {r : WriteResult} → 65_536 < 8 + size → r ≡ refusedAs 1 4 (8 + size) → TurnsProof to file out out r
+  result-too-long h r = proof-refused to file out r (held ∙ result-long h)
 
-      pub all-put : {x y : List ℕ} {a : Answer} → 8 + size ≤ 65_536 → 8 + size ≤ length out → x ≡ sets out 0 (headerBytes to K) → y ≡ sets x 8 (turned e to bodyOf) → a ≡ acceptance
-          → TurnsProof to file out y (record { answer = a; count = 8 + size })
-      unfolding turnProof written fit
-      all-put {x} {y} h l hx hy ha =
-          let first : 8 ≡ 0 + length (headerBytes to K) = omega (arith, header-length to K) in
-          let whole : y ≡ over bytesOf out =
-          hy ∙ ap₂ (λ (o : List ℕ) (n : ℕ). sets o n (turned e to bodyOf)) hx first ∙ sym (sets-append (headerBytes to K) (turned e to bodyOf) out 0) ∙ sets-over bytesOf out (omega (arith, size-is)) in
-          rw (ha, whole) (record { is = rw (done-bytes h, le-leb (length bytesOf) (length out) (omega (arith, size-is)), size-is) })
+  done-bytes : 8 + size ≤ 65_536 → proofTurned to file ≡ accepted bytesIn
+  unfolding resultWithin
+  done-bytes h = held ∙ needs _ _ _ (le→leb (length bytesIn) 65_536 (omega (arith, size-is)))
+
+  pub output-short : {r : WriteResult} → 8 + size ≤ 65_536 → length out < 8 + size → r ≡ refusedAs 21 4 (8 + size) → TurnsProof to file out out r
+  unfolding turnProof written fit
+  output-short h l r = rw r (record { is = rw (done-bytes h, lt-leb (length bytesIn) (length out) (omega (arith, size-is)), size-is) })
+
+  pub put-fits : {x : List ℕ} → 8 + size ≤ length out → x ≡ sets out 0 (headerBytes to K) → 8 + length (turned e to bodyIn) ≤ length x
+  put-fits {x} l h = omega (arith, ap length h ∙ length-sets out 0 (headerBytes to K), t .entered .size)
+
+  pub all-put : {x y : List ℕ} {a : Answer} → 8 + size ≤ 65_536 → 8 + size ≤ length out → x ≡ sets out 0 (headerBytes to K) → y ≡ sets x 8 (turned e to bodyIn) → a ≡ acceptance
+      → TurnsProof to file out y (record { answer = a; count = 8 + size })
+  unfolding turnProof written fit
+  all-put {x} {y} h l hx hy ha =
+      let first : 8 ≡ 0 + length (headerBytes to K) = omega (arith, header-length to K) in
+      let whole : y ≡ over bytesIn out =
+      hy ∙ ap₂ (λ (o : List ℕ) (n : ℕ). sets o n (turned e to bodyIn)) hx first ∙ sym (sets-append (headerBytes to K) (turned e to bodyIn) out 0) ∙ sets-over bytesIn out (omega (arith, size-is)) in
+      rw (ha, whole) (record { is = rw (done-bytes h, le-leb (length bytesIn) (length out) (omega (arith, size-is)), size-is) })

@@ -14,7 +14,7 @@ use Rattle.fields.specs.Header.{header}
 use Rattle.fields.specs.Places.{fieldsAt}
 use Rattle.bundle.specs.Bundle.{Bundle, bundle}
 use Rattle.bundle.specs.Read.{kindsOf, numbersOf}
-use Rattle.conversion.specs.Turning.{asked, otherEdition, linesTurned, fieldsTurned, entriesRead}
+use Rattle.conversion.specs.Turning.{asked, otherEdition, eachField, linesFit, linesTurned, fieldsTurned, entriesRead}
 use Rattle.conversion_survey.specs.declared.Survey.{Survey}
 use Rattle.conversion_survey.specs.Going.{surveyOf}
 
@@ -50,8 +50,13 @@ pub record ToEnter (to : ℕ) (file : List ℕ) (at K e : ℕ) : Type 0 where
   pub heads : header FileKind.Proof fileProof newestEdition none (fields file) ≡ accepted (record { number = e; K = K; rest = fieldsAt file at })
 
 -- Its fields are entries, which turned have so many bytes together.
-pub record ToPut (to : ℕ) (file : List ℕ) (at K e turned : ℕ) : Type 0 where
+pub record ToFit (to : ℕ) (file : List ℕ) (at K e turned : ℕ) : Type 0 where
   pub enter : ToEnter to file at K e
   pub read : entriesRead (edition e) K false (fieldsAt file at) ≡ accepted tt
   pub size : turned ≡ length (fieldsTurned (linesTurned (edition e) (edition to)) (fieldsAt file at))
   pub most : turned ≤ 131_072
+
+-- And the edition asked for holds each line number.
+pub record ToPut (to : ℕ) (file : List ℕ) (at K e turned : ℕ) : Type 0 where
+  pub entered : ToFit to file at K e turned
+  pub fits : eachField 10 fileProof (linesFit (edition e) (edition to)) (fieldsAt file at) ≡ accepted tt

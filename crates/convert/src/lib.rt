@@ -32,7 +32,7 @@ ghost use Rattle.bundle_scan.specs.Scan.{constraintStart};
 ghost use Rattle.proof.specs.Tree.{startsAt};
 ghost use Rattle.conversion.specs.Turning.{asked};
 ghost use Rattle.conversion.specs.Promises.{TurnsBundle, TurnsProof};
-ghost use Rattle.convert.specs.Known.{HasOther, Readable, ToTurn, ToWrite, ToEnter, ToPut};
+ghost use Rattle.convert.specs.Known.{HasOther, Readable, ToTurn, ToWrite, ToEnter, ToFit, ToPut};
 
 fn refused(number: u8, file: u8, place: usize) -> WriteResult
     ensures { λ r. ⌜ r ≡ record { answer = answer number file place; count = 0 } ⌝ }
@@ -167,7 +167,7 @@ pub fn turn_bundle(file: &[u8], edition: usize, out: &mut [u8]) -> WriteResult
 }
 
 // ---- a proof
-// The fields are entries that have so many bytes together when they are turned: what is left to test, and then they are written.
+// The fields are entries that fit and have so many bytes together when they are turned: 1, 21, or they are written.
 fn put_proof(
     file: &[u8],
     at: usize,
@@ -180,12 +180,6 @@ fn put_proof(
     requires { ⌜ ToPut to (now file) at k e turned ⌝ }
     ensures { λ r. ⌜ TurnsProof to (now (file .entry)) (now (out .entry)) (now (out .exit)) r ⌝ }
 {
-    match first_wide(file, at, e, to) {
-        Survey::Fine => {}
-        Survey::Refused { number, place } => {
-            return refused(number, 3, place);
-        }
-    }
     let size = 8 + turned;
     if size > PROOF_BYTES {
         return refused(1, 4, size);
@@ -201,13 +195,37 @@ fn put_proof(
     }
 }
 
+// A proof with a line number that the edition asked for does not hold: 10 at the first field with one.
+fn turn_wide(
+    file: &[u8],
+    at: usize,
+    k: u8,
+    e: u8,
+    to: u8,
+    turned: usize,
+    out: &mut [u8],
+) -> WriteResult
+    requires { ⌜ ToFit to (now file) at k e turned ⌝ }
+    ensures { λ r. ⌜ TurnsProof to (now (file .entry)) (now (out .entry)) (now (out .exit)) r ⌝ }
+{
+    match first_wide(file, at, e, to) {
+        Survey::Fine => put_proof(file, at, k, e, to, turned, out),
+        Survey::Refused { number, place } => refused(number, 3, place),
+    }
+}
+
 // Turns what stands behind the header, a proof of edition e.
 fn turn_entries(file: &[u8], at: usize, k: u8, e: u8, to: u8, out: &mut [u8]) -> WriteResult
     requires { ⌜ ToEnter to (now file) at k e ⌝ }
     ensures { λ r. ⌜ TurnsProof to (now (file .entry)) (now (out .entry)) (now (out .exit)) r ⌝ }
 {
     match read_entries(file, at, k, e, to) {
-        Entries::Turned { size } => put_proof(file, at, k, e, to, size, out),
+        Entries::Turned { size, fit } => {
+            if fit {
+                return put_proof(file, at, k, e, to, size, out);
+            }
+            turn_wide(file, at, k, e, to, size, out)
+        }
         Entries::Refused { number, place } => refused(number, 3, place),
     }
 }
