@@ -11,7 +11,7 @@ use lib.Dec.{T, leb, eqb, leb→le, le→leb}
 use lib.ListN.{length}
 use Rattle.forms.specs.Edition.{Edition, edition, edition1, newestEdition}
 use Rattle.forms.specs.Forms.{Form, Side, Line, Formula}
-use Rattle.calculus.specs.Rules.{Row, Derive, Strengthen, CloseNumber, CloseStride, Round, Split, Step, Combine, Reduce, Scale, Entry, row, claim}
+use Rattle.calculus.specs.Rules.{Row, Derive, Strengthen, CloseNumber, CloseStride, Round, Split, Inference, Combine, Reduce, Scale, Entry, row, claim}
 use Rattle.answers.specs.declared.Answer.{Answer}
 use Rattle.answers.specs.declared.Position.{Position}
 use Rattle.answers.specs.Answers.{answer, refusalAt, fileA, fileB, fileProof, fileLent, Result, refused, accepted, _>>=_, _>>_, need, found, fit, written}
@@ -37,7 +37,7 @@ module _ {Q : Answer → Type 0} (refusal : ℕ → Answer) (h : (n : ℕ) → T
   unfolding lineAt
   line-late i = weaken (finds _ _ (h 10 tt)) (λ a q. q) (λ _ _. tt)
 
-  derived-late : (s : Step) → Says Q (derived refusal ls s) (λ _. Unit {0})
+  derived-late : (s : Inference) → Says Q (derived refusal ls s) (λ _. Unit {0})
   unfolding derived
   derived-late (Combine i j α β) = bind (line-late i) λ s _. bind (line-late j) λ t _. test _ _ (h 11 tt) λ _. test _ _ (h 12 tt) λ _. says-accepted tt
   derived-late (Reduce i j α) = bind (line-late i) λ s _. bind (line-late j) λ t _. bind (finds _ _ (h 11 tt)) λ k _. test _ _ (h 11 tt) λ _. test _ _ (h 12 tt) λ _. says-accepted tt

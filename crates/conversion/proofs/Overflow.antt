@@ -12,7 +12,7 @@ use lib.ListN.{length}
 use Rattle.forms.specs.Edition.{Edition, edition}
 use Rattle.forms.specs.Forms.{Form, ≤0, =0, Line, line, lineApart, neg, Formula, _divides_, _and_, _or_, _plus_}
 use Rattle.forms.specs.Reduced.{reduced}
-use Rattle.calculus.specs.Rules.{Nth, _▷_, Room, Rounds, StrideOf, Closed, derive, strengthen, round, splitEq, splitNeq, number, stride, Rounded, last, more, Row, Derive, Strengthen, CloseNumber, CloseStride, Round, Split, Step, Entry, row, claim, entries, entriesRounded, rowCount, rowCountRounded, depth, depthRounded}
+use Rattle.calculus.specs.Rules.{Nth, _▷_, Room, Rounds, StrideOf, Closed, derive, strengthen, round, splitEq, splitNeq, number, stride, Rounded, last, more, Row, Derive, Strengthen, CloseNumber, CloseStride, Round, Split, Inference, Entry, row, claim, entries, entriesRounded, rowCount, rowCountRounded, depth, depthRounded}
 use Rattle.calculus.proofs.Sides.{Side, A, B}
 use Rattle.calculus.proofs.Vocabulary.{Words, words-new, words-raised, words-1, words-E, words-0, words-neg, words-neg-0}
 use Rattle.answers.specs.declared.Answer.{Answer}

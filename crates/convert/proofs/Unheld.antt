@@ -25,7 +25,7 @@ use Rattle.fields.proofs.HeaderLaid.{first-of}
 use Rattle.bundle.specs.Bundle.{Bundle, bundle}
 use Rattle.bundle.specs.Layout.{States, BundleFile}
 use Rattle.bundle.specs.Read.{kindsOf, numbersOf}
-use Rattle.bundle.specs.Write.{holdable, bundleBytes, writeBundle}
+use Rattle.bundle.specs.Write.{holdable, encodeBundle, writeBundle}
 use Rattle.bundle.proofs.Laid.{Lists, done, next, bundle-gives, short-accepted}
 use Rattle.bundle.proofs.Writable.{bytesOf, length-flat, length-kindsOf, kinds-valid}
 use Rattle.bundle_scan.specs.Scan.{startOf, constraintStart}
@@ -147,8 +147,8 @@ module _ (to : ℕ) (file : List ℕ) (t : ToTurn to file) (b : Bundle) (e : bun
   own : BundleFile newestEdition file (b .edition) (b .K) cs
   own = bundle-gives newestEdition fileA none file .gives b e .file
 
-  written-prefix : bundleBytes 2 to (b .K) (kindsOf cs) (numbersOf cs) ≡ (index >> accepted bytes)
-  unfolding bundleBytes
+  written-prefix : encodeBundle 2 to (b .K) (kindsOf cs) (numbersOf cs) ≡ (index >> accepted bytes)
+  unfolding encodeBundle
   written-prefix =
       let a = asked-gives to .gives tt (t .asks) in
       let size : length (numbersOf cs) ≡ length (kindsOf cs) * suc (b .K) = numbers-size (own .laid .states) ∙ ap₂ (λ (x y : ℕ). x * y) (sym (length-kindsOf cs)) (let z : b .K + 1 ≡ suc (b .K) = omega arith in z) in
@@ -167,12 +167,12 @@ module _ (to : ℕ) (file : List ℕ) (t : ToTurn to file) (b : Bundle) (e : bun
       subst (λ (n : ℕ). Both (edition (b .edition)) (edition to) (b .K) 0 (behindHeader (fields file)) (byIndex (edition (b .edition)) (edition to) (b .K) n (numbersOf cs)) field) z
       (together (edition (b .edition)) (edition to) (b .K) (body-lists own) 0)
 
-  module _ (w : writtenOf r out′ ≡ written (bundleBytes 2 to (b .K) (kindsOf cs) (numbersOf cs)) out) where
+  module _ (w : writtenOf r out′ ≡ written (encodeBundle 2 to (b .K) (kindsOf cs) (numbersOf cs)) out) where
     when-fine : index ≡ accepted tt → field ≡ accepted tt → TurnsBundle to file out out′ r
     unfolding turnBundle
     when-fine x y =
         let turned : bundleTurned to file ≡ accepted bytes = turned-prefix ∙ passes _ y ∙ within-accepted (edition to .bundleBytes) bytes (result-short to file b (t .asks) (t .from) e y) in
-        let written-so : bundleBytes 2 to (b .K) (kindsOf cs) (numbersOf cs) ≡ accepted bytes = written-prefix ∙ passes _ x in
+        let written-so : encodeBundle 2 to (b .K) (kindsOf cs) (numbersOf cs) ≡ accepted bytes = written-prefix ∙ passes _ x in
         record { is = w ∙ ap (λ (m : Result (List ℕ)). written m out) (written-so ∙ sym turned) }
 
     not-13 : index ≡ accepted tt → ¬ (r .answer .number ≡ 13)
@@ -215,7 +215,7 @@ module _ (to : ℕ) (file : List ℕ) (t : ToTurn to file) (b : Bundle) (e : bun
 
 -- The same, of the kinds and numbers that were read.
 module _ (to : ℕ) (file : List ℕ) (K : ℕ) (kinds : List ℕ) (numbers : List ℤ) (t : ToWrite to file K kinds numbers) (out out′ : List ℕ) (r : WriteResult) (w : Writes to K kinds numbers out out′ r) where
-  as-read : writtenOf r out′ ≡ written (bundleBytes 2 to (t .b .K) (kindsOf (t .b .constraints)) (numbersOf (t .b .constraints))) out
+  as-read : writtenOf r out′ ≡ written (encodeBundle 2 to (t .b .K) (kindsOf (t .b .constraints)) (numbersOf (t .b .constraints))) out
   unfolding writeBundle
   as-read = w .is ∙ rw (t .constants, t .kinds-are, t .numbers-are)
 

@@ -58,7 +58,7 @@ const SEATS: &str =
 const TEST: &str = "each sum value finished formulaTagged compound formulaSize formulaOf formulaField twoParts formulaWithin readFormula holds judge tested judged testFormula";
 
 const TURN_BUNDLE: &str =
-    "asked otherEdition behindHeader eachField each kindNumber kindsOf numbersOf numbersFit constraintsBytes holdable bundleBytes resultWithin bundleTurned turnBundle";
+    "asked otherEdition behindHeader eachField each kindNumber kindsOf numbersOf numbersFit constraintsBytes holdable encodeBundle resultWithin bundleTurned turnBundle";
 const TURN_PROOF: &str = "asked otherEdition eachField atMost formBytes finished entryTagged inPlace lineNumber multiplier sizeOf entryFrom entry behindHeader entriesRead lineCount madeBy unsigneds linesFit unsignedsBytes linesTurned fieldsTurned resultWithin proofTurned turnProof";
 
 fn list(items: impl Iterator<Item = String>) -> String {
