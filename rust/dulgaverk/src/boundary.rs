@@ -16,7 +16,7 @@ pub struct Answer {
 pub const NONE: u16 = 65_535;
 
 /// The edition that a file is to be turned into.
-pub type AskedEdition = u8;
+pub type AskedEdition = usize;
 
 #[repr(C)]
 pub struct ReadResult {

@@ -380,6 +380,18 @@ static void turning(void) {
         r = dulgaverk_turn_proof(NULL, 0, asked, out, sizeof out);
         EXPECT(is(r.answer, 5, 4, 0) && r.count == 0);
     }
+    /* Numbers that one, two and four bytes would cut to 1 or 2 are refused too. */
+    static const size_t cut[] = {256, 257, 258, 65537, 65538, 0x100000001, 0x100000002, SIZE_MAX};
+    for (size_t i = 0; i < sizeof cut / sizeof cut[0]; i += 1) {
+        dulgaverk_write_result w = dulgaverk_turn_bundle(b2, sizeof b2, cut[i], out, sizeof out);
+        EXPECT(is(w.answer, 5, 4, 0) && w.count == 0);
+        w = dulgaverk_turn_bundle(b, sizeof b, cut[i], out, sizeof out);
+        EXPECT(is(w.answer, 5, 4, 0) && w.count == 0);
+        w = dulgaverk_turn_proof(plain, sizeof plain, cut[i], out, sizeof out);
+        EXPECT(is(w.answer, 5, 4, 0) && w.count == 0);
+        w = dulgaverk_turn_proof(wider, sizeof wider, cut[i], out, sizeof out);
+        EXPECT(is(w.answer, 5, 4, 0) && w.count == 0);
+    }
     dulgaverk_write_result r = dulgaverk_turn_bundle(long_file, DULGAVERK_BUNDLE + 1, 2, out, sizeof out);
     EXPECT(is(r.answer, 1, 1, 0) && r.count == 0);
     r = dulgaverk_turn_proof(long_file, sizeof long_file, 2, out, sizeof out);
