@@ -12,7 +12,7 @@
  * - nothing is allocated, kept or shared: calls may run in several threads at once.
  * - working memory is on the stack: a check takes up to 152 KiB of it where the proof is of edition 1 and up to
  *   272 KiB where it is of edition 2, also as a turn of the scheduler (which takes 2 KiB more than the check itself),
- *   testing a formula up to 64 KiB, every other call less than 12 KiB.
+ *   testing a formula up to 64 KiB, at a list of vectors up to 96 KiB, every other call less than 12 KiB.
  * - each file is read by the edition that it says: A, B and the proof may differ in it. Formulas are of edition 1.
  *
  * docs/FORMAT.md has the layout of the files and the order in which each operation tests them.
@@ -53,7 +53,7 @@ extern "C" {
  *      4  a known tag where it may not stand
  *      5  an edition that this kind of file does not have
  *      6  a field of the wrong length
- *      7  the number of constants, or of values, is not 1 to 16
+ *      7  the number of constants, or of values, is not 1 to 16, or a list is not whole vectors
  *      8  more than 32 constraints
  *      9  the number of constants is not the one given before
  *     10  a line that is not there
@@ -108,10 +108,10 @@ typedef struct dulgaverk_read_result {
     uint8_t edition; /* 1 or 2 */
 } dulgaverk_read_result;
 
-/* What writing and checking give. A refusal has count 0. */
+/* What writing, checking, turning and testing at a list give. A refusal has count 0. */
 typedef struct dulgaverk_write_result {
     dulgaverk_answer answer;
-    size_t count; /* bytes written */
+    size_t count; /* bytes written; of a list, the number of vectors */
 } dulgaverk_write_result;
 
 /* What testing a formula gives. A refusal has holds false. */
@@ -264,6 +264,17 @@ dulgaverk_changed dulgaverk_scheduler_cancel(dulgaverk_scheduler state, size_t s
  */
 dulgaverk_turned dulgaverk_scheduler_turn(dulgaverk_scheduler state, const uint8_t *buffer, size_t buffer_length,
                                           uint8_t *out, size_t out_length);
+
+/* Tests a formula of at most 65,536 bytes at a list of vectors: k register values each, one vector after the other.
+ *
+ * Accepted: `count` vectors; out[i] is 1 where the formula holds at vector i, and 0 where it does not.
+ * Refused: 7 where k is not 1 to 16 or the list is not whole vectors of k (file 4, place 0), and 23 for a value (file 4,
+ * place its index in the list); then what dulgaverk_test refuses of the formula, which is read once, also for an empty
+ * list; then 21 where `out` is too short (file 4, place the number of vectors).
+ */
+dulgaverk_write_result dulgaverk_test_list(const uint8_t *formula, size_t formula_length, size_t k,
+                                           const int32_t *values, size_t values_length, uint8_t *out,
+                                           size_t out_length);
 
 #ifdef __cplusplus
 }

@@ -1,4 +1,5 @@
 // The operations that turn a bundle and a proof into the other edition: document 02, point 4.
+// Their definitions are conversion/specs/Turning.antt, their contracts conversion/specs/Promises.antt.
 use answers::WriteResult;
 use answers::acceptance;
 use answers::refusal;

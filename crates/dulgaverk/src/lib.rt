@@ -7,6 +7,7 @@ ghost use Rattle.bundle_show.specs.Promises.{AnswersShow, partBytes};
 ghost use Rattle.bundle_read.specs.Promises.{Reads};
 ghost use Rattle.bundle_write.specs.Promises.{Writes};
 ghost use Rattle.formula_test.specs.Promises.{Tests};
+ghost use Rattle.formula_list.specs.Promises.{TestsList};
 ghost use Rattle.proof.specs.Promises.{Checks};
 ghost use Rattle.conversion.specs.Promises.{TurnsBundle, TurnsProof};
 ghost use Rattle.scheduler.specs.Scheduler.{empty};
@@ -122,4 +123,17 @@ pub extern "C" fn dulgaverk_scheduler_turn(s: Scheduler, buffer: &[u8], out: &mu
     ensures { λ r. ⌜ Turns s (now (buffer .entry)) (now (out .entry)) (now (out .exit)) r ⌝ }
 {
     scheduler_turn::turn(s, buffer, out)
+}
+
+// Tests a formula at a list of vectors, K values each; one byte a vector goes into `out`.
+#[no_mangle]
+pub extern "C" fn dulgaverk_test_list(
+    formula: &[u8],
+    k: usize,
+    values: &[i32],
+    out: &mut [u8],
+) -> WriteResult
+    ensures { λ r. ⌜ TestsList (now (formula .entry)) k (now (values .entry)) (now (out .entry)) (now (out .exit)) r ⌝ }
+{
+    formula_list::test_list(formula, k, values, out)
 }

@@ -2,3 +2,4 @@
 pub mod Formula
 pub mod Test
 pub mod Tables
+pub mod TestList

@@ -1,5 +1,4 @@
 -- Each way through a formula that is read.
 pub mod Nodes
 pub mod Parts
-pub mod Value
 pub mod Ways

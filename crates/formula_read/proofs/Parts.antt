@@ -1,5 +1,5 @@
 -- The leaves of the formula reader: a joined pair and a stride part, as the code's tests leave them. Assumes nothing.
-use mathlib.Core.Path.{_≡_, refl, sym, ap₂, subst, _∙_}
+use mathlib.Core.Path.{_≡_, refl, sym, ap, subst, _∙_}
 use mathlib.Core.Bool.{Bool, true, false}
 use Prim.Native.Nat.{ℕ}
 use native.Mathlib.Omega.{arith}
@@ -23,11 +23,11 @@ pub joined-both : {pair : Pair} {first second b : Bool} {next : ℕ} (either : B
 joined-both either e f = rw (e, f)
 
 -- g below 2, or not
-low : (g : ℤ) → ltZ g (pos 2) ≡ true → leZ (pos 2) g ≡ false
+pub low : (g : ℤ) → ltZ g (pos 2) ≡ true → leZ (pos 2) g ≡ false
 low (pos n) h = lt-leb 2 n (ltb-true n 2 h)
 low (negsuc n) h = refl
 
-high : (g : ℤ) → ltZ g (pos 2) ≡ false → leZ (pos 2) g ≡ true
+pub high : (g : ℤ) → ltZ g (pos 2) ≡ false → leZ (pos 2) g ≡ true
 high (pos n) h = le-leb 2 n (ltb-false n 2 h)
 high (negsuc n) h = absurd (let z : _≡_ {A = ℕ} 0 1 = cc in omega arith)
 
@@ -39,9 +39,9 @@ module _ {r g : ℤ} (place next : ℕ) (f : SFits w64 r) (e : r ≡ g) where
   unfolding strideJudged
   stride-refused v h = rw (low g (rw (toZ-ofZ w64 r f, e) at h))
 
-  pub stride-judged : {b : Bool} {x v : ℤ} → SFits w64 x → x ≡ v → ltZ (toZ w64 (ofZ w64 r)) (pos 2) ≡ false
-      → b ≡ divb (toZ w64 (ofZ w64 r)) (toZ w64 (ofZ w64 x)) → Judged.Value b next ≡ strideJudged place next g v
+  pub stride-judged : {b : Bool} (v : ℤ) → ltZ (toZ w64 (ofZ w64 r)) (pos 2) ≡ false
+      → b ≡ divb (toZ w64 (ofZ w64 r)) v → Judged.Value b next ≡ strideJudged place next g v
   unfolding strideJudged
-  stride-judged {b} {x} {v} k d h m =
-      let n : b ≡ divb g v = m ∙ ap₂ divb (toZ-ofZ w64 r f ∙ e) (toZ-ofZ w64 x k ∙ d) in
+  stride-judged {b} v h m =
+      let n : b ≡ divb g v = m ∙ ap (λ (z : ℤ). divb z v) (toZ-ofZ w64 r f ∙ e) in
       rw (high g (rw (toZ-ofZ w64 r f, e) at h), n)

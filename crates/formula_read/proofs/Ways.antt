@@ -25,7 +25,7 @@ use Rattle.fields.specs.Places.{fieldsAt, nextOf}
 use Rattle.fields.proofs.Places.{Starts, starts-size, next-cut, next-ends}
 use Rattle.formula.specs.Formula.{disjunction, conjunction, FormulaTag, pair, atom, stride, formulaTagged, compound, formulaSize, formulaOf, formulaField, twoParts, formulaWithin}
 use Rattle.formula.specs.Test.{holds, judge, registers}
-use Rattle.formula_read.specs.FormAt.{formAt, Whole}
+use Rattle.form_value.specs.FormAt.{formAt, Whole}
 use Rattle.formula_read.specs.Nodes.{connective, literalKind, nodeTagged, sized, nodeIf, nodeOf, nodeRead}
 use Rattle.formula_read.specs.Judging.{twoWithin, FormulaRead, PairRead, connected, joinedPair, strideJudged}
 use Rattle.formula_read.specs.declared.node.Node.{Node}
@@ -111,8 +111,15 @@ compound-truth values true I J u v = ap₂ _||_ u v
 compound-truth values false I J u v = ap₂ _&&_ u v
 
 module _ {s : List ℕ} {at place tag start len next : ℕ} (k : Starts s at place tag start len next) (K : ℕ) {node : Node} (e : node ≡ nodeOf K tag len) where
-  further : at ≤ next
+  pub further : at ≤ next
   further = omega (arith, k .from, k .start-is, k .next-is)
+
+  -- how long the field is
+  pub literal-long : {equality : Bool} → node ≡ Node.Literal equality → len ≡ formWidth 4 K
+  literal-long f = rw (sym e ∙ f) at (sizes K tag len)
+
+  pub stride-long : node ≡ Node.Stride → len ≡ 4 + formWidth 4 K
+  stride-long f = rw (sym e ∙ f) at (sizes K tag len)
 
   pub literal-whole : {equality : Bool} → node ≡ Node.Literal equality → Whole s start K
   literal-whole f =
@@ -124,8 +131,9 @@ module _ {s : List ℕ} {at place tag start len next : ℕ} (k : Starts s at pla
       let h : len ≡ 4 + formWidth 4 K = rw (sym e ∙ f) at (sizes K tag len) in
       record { upto = omega (arith, k .upto, k .next-is) }
 
-  module _ (values : List ℤ) (levels : ℕ) where
-    formula-node : {n : Node} → node ≡ n
+  -- what the node's field gives, as an equation
+  module _ (levels : ℕ) where
+    pub formula-node : {n : Node} → node ≡ n
         → formulaWithin edition1 K levels (fieldsAt s at)
         ≡ nodeRead K (twoWithin K levels) (record { at = place; tag = tag; contents = take len (drop start s) }) (fieldsAt s next) n
     formula-node f =
@@ -134,30 +142,42 @@ module _ {s : List ℕ} {at place tag start len next : ℕ} (k : Starts s at pla
         ∙ node-read K (twoWithin K levels) _ _
         ∙ ap (nodeRead K (twoWithin K levels) (record { at = place; tag = tag; contents = take len (drop start s) }) (fieldsAt s next)) (ap (nodeOf K tag) (starts-size k) ∙ sym e ∙ f)
 
+    pub literal-is : {equality : Bool} → node ≡ Node.Literal equality
+        → formulaWithin edition1 K levels (fieldsAt s at) ≡ accepted (literal (literalKind equality) (formAt s start K), fieldsAt s next)
+    unfolding nodeRead formulaOf formAt
+    literal-is f =
+        let h : len ≡ formWidth 4 K = rw (sym e ∙ f) at (sizes K tag len) in
+        formula-node f ∙ rw h
+
+    pub stride-is : node ≡ Node.Stride → formulaWithin edition1 K levels (fieldsAt s at) ≡ (need (answer 12 fileProof place) (leZ (pos 2) (signed (take 4 (drop start s))))
+        >> accepted (natAbs (signed (take 4 (drop start s))) divides formAt s (start + 4) K, fieldsAt s next))
+    unfolding nodeRead formulaOf formAt
+    stride-is f =
+        let h : len ≡ 4 + formWidth 4 K = rw (sym e ∙ f) at (sizes K tag len) in
+        formula-node f ∙ rw (h, take-take 4 (4 + formWidth 4 K) (drop start s) (omega arith), drop-take 4 (formWidth 4 K) (drop start s), drop-drop 4 start s)
+
+    pub pair-is : {either : Bool} → node ≡ Node.Pair either → formulaWithin edition1 K levels (fieldsAt s at)
+        ≡ (twoWithin K levels place (fieldsAt s next) >>= λ p. accepted (compound (connective either) (p .0) (p .1), p .2))
+    unfolding nodeRead formulaOf
+    pair-is f = formula-node f
+
+  module _ (values : List ℤ) (levels : ℕ) where
     pub formula-refused : {number : ℕ} → node ≡ Node.Refused number → FormulaRead s at values K levels (Judged.Fault number place)
     unfolding nodeRead
-    formula-refused f = record { judged = formula-node f }
+    formula-refused f = record { judged = formula-node levels f }
 
     pub formula-literal : {equality : Bool} {r : Judged} → node ≡ Node.Literal equality
         → r ≡ Judged.Value (holds (literalKind equality) (value (formAt s start K) (registers values))) next → FormulaRead s at values K levels r
-    unfolding nodeRead formulaOf formAt judge
+    unfolding judge
     formula-literal {equality} f g =
-        let h : len ≡ formWidth 4 K = rw (sym e ∙ f) at (sizes K tag len) in
-        rw g (record { judged = record { formula = literal (literalKind equality) (formAt s start K); is = formula-node f ∙ rw h; truth = refl; on = further } })
+        rw g (record { judged = record { formula = literal (literalKind equality) (formAt s start K); is = literal-is levels f; truth = refl; on = further } })
 
     module _ (f : node ≡ Node.Stride) where
-      stride-is : formulaWithin edition1 K levels (fieldsAt s at) ≡ (need (answer 12 fileProof place) (leZ (pos 2) (signed (take 4 (drop start s))))
-          >> accepted (natAbs (signed (take 4 (drop start s))) divides formAt s (start + 4) K, fieldsAt s next))
-      unfolding nodeRead formulaOf formAt
-      stride-is =
-          let h : len ≡ 4 + formWidth 4 K = rw (sym e ∙ f) at (sizes K tag len) in
-          formula-node f ∙ rw (h, take-take 4 (4 + formWidth 4 K) (drop start s) (omega arith), drop-take 4 (formWidth 4 K) (drop start s), drop-drop 4 start s)
-
       stride-by : (b : Bool) → leZ (pos 2) (signed (take 4 (drop start s))) ≡ b
           → FormulaRead s at values K levels (cond b (Judged.Value (divb (signed (take 4 (drop start s))) (value (formAt s (start + 4) K) (registers values))) next) (Judged.Fault 12 place))
       unfolding need _>>_ judge
-      stride-by true h = record { judged = record { formula = natAbs (signed (take 4 (drop start s))) divides formAt s (start + 4) K; is = stride-is ∙ rw h; truth = refl; on = further } }
-      stride-by false h = record { judged = stride-is ∙ rw h }
+      stride-by true h = record { judged = record { formula = natAbs (signed (take 4 (drop start s))) divides formAt s (start + 4) K; is = stride-is levels f ∙ rw h; truth = refl; on = further } }
+      stride-by false h = record { judged = stride-is levels f ∙ rw h }
 
       pub formula-stride : {r : Judged} → r ≡ strideJudged place next (signed (take 4 (drop start s))) (value (formAt s (start + 4) K) (registers values))
           → FormulaRead s at values K levels r
@@ -167,11 +187,11 @@ module _ {s : List ℕ} {at place tag start len next : ℕ} (k : Starts s at pla
     module _ {either : Bool} (f : node ≡ Node.Pair either) where
       pair-by : (p : Pair) → PairRead s place next values K levels p → FormulaRead s at values K levels (joinedPair p either)
       unfolding nodeRead formulaOf
-      pair-by (Pair.Fault number a) b = record { judged = formula-node f ∙ bind-refused _ (b .judged) }
+      pair-by (Pair.Fault number a) b = record { judged = formula-node levels f ∙ bind-refused _ (b .judged) }
       pair-by (Pair.Both x y n) b = record {
         judged = record {
           formula = compound (connective either) (b .judged .left) (b .judged .right);
-          is = formula-node f ∙ binds _ (b .judged .is);
+          is = formula-node levels f ∙ binds _ (b .judged .is);
           truth = compound-truth values either _ _ (b .judged .left-truth) (b .judged .right-truth);
           on = omega (arith, further, b .judged .on);
         };

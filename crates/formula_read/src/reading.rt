@@ -1,11 +1,11 @@
 // Reading a formula and judging it at the register values, in one pass.
-use crate::form::value_at;
 use crate::node::Node;
 use crate::node::node_of;
 use fields::Next;
 use fields::next_field;
+use form_value::divides_at;
+use form_value::value_at;
 use forms::TERM_BYTES;
-use integers::divides;
 use integers::is_zero;
 use number_bytes::words::signed_at;
 ghost use mathlib.Core.Path.{_≡_};
@@ -15,8 +15,8 @@ ghost use Rattle.forms.specs.Edition.{edition1};
 ghost use Rattle.forms.specs.Forms.{value};
 ghost use Rattle.number_bytes.specs.Numbers.{signed};
 ghost use Rattle.formula.specs.Test.{holds, registers};
-ghost use Rattle.formula_read.specs.Registers.{Registers};
-ghost use Rattle.formula_read.specs.FormAt.{formAt, Whole};
+ghost use Rattle.form_value.specs.Registers.{Registers};
+ghost use Rattle.form_value.specs.FormAt.{formAt, Whole};
 ghost use Rattle.formula_read.specs.declared.reading.Judged.the-variants.{Value};
 ghost use Rattle.formula_read.specs.Nodes.{literalKind};
 ghost use Rattle.formula_read.specs.Judging.{FormulaRead, PairRead, connected, joinedPair, strideJudged};
@@ -40,7 +40,7 @@ pub enum Pair {
     },
 }
 
-fn says(equality: bool, x: i64) -> bool
+pub fn says(equality: bool, x: i64) -> bool
     ensures { λ r. ⌜ r ≡ holds (literalKind equality) x ⌝ }
 {
     if equality {
@@ -80,9 +80,8 @@ fn stride_at(s: &[u8], place: usize, start: usize, next: usize, values: &[i32], 
             at: place,
         };
     }
-    let x = value_at(s, start + TERM_BYTES, values, k);
     Judged::Value {
-        holds: divides(g, x),
+        holds: divides_at(s, start + TERM_BYTES, values, k, g),
         next,
     }
 }

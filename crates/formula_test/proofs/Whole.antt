@@ -23,7 +23,7 @@ use Rattle.fields.proofs.Headers.{given-some}
 use Rattle.fields.proofs.HeaderLaid.{header-gives}
 use Rattle.formula.specs.Formula.{readFormula}
 use Rattle.formula.specs.Test.{judge, registers, judged, tested, testFormula}
-use Rattle.formula_read.specs.Registers.{Registers}
+use Rattle.form_value.specs.Registers.{Registers}
 use Rattle.formula_read.specs.Judging.{FormulaRead}
 use Rattle.formula_read.specs.declared.reading.Judged.{Judged}
 use Rattle.formula_test.specs.Values.{ranged, FirstOutside}
@@ -46,29 +46,31 @@ unfolding judged _>>_
 end-judged values I e (refused a) = refl
 end-judged values I e (accepted x) = rw e
 
-module _ {s : List ℕ} {values : List ℤ} {K : ℕ} (g : Registers values K) {h : Headed} (k : IsHeader FileKind.Formula 1 K s h) where
-  header-is : header FileKind.Formula fileProof 1 (some K) (fields s) ≡ headedOf fileProof s h
-  header-is = ap (λ o. header FileKind.Formula fileProof 1 o (fields s)) (sym (given-some K (g .some))) ∙ k .is fileProof
+-- its header: K is the number of values
+module _ {s : List ℕ} {K : ℕ} (positive : 1 ≤ K) {h : Headed} (k : IsHeader FileKind.Formula 1 K s h) where
+  pub header-is : header FileKind.Formula fileProof 1 (some K) (fields s) ≡ headedOf fileProof s h
+  header-is = ap (λ o. header FileKind.Formula fileProof 1 o (fields s)) (sym (given-some K positive)) ∙ k .is fileProof
 
+  pub header-K : {n k′ next : ℕ} → h ≡ Headed.Header n k′ next
+      → header FileKind.Formula fileProof 1 (some K) (fields s) ≡ accepted (record { number = n; K = K; rest = fieldsAt s next })
+  unfolding agrees
+  header-K {n} {k′} {next} e =
+      let p : header FileKind.Formula fileProof 1 (some K) (fields s) ≡ accepted (record { number = n; K = k′; rest = fieldsAt s next }) = header-is ∙ rw e in
+      let q : k′ ≡ K = eqb→eq k′ K (header-gives FileKind.Formula fileProof 1 (some K) (fields s) .gives _ p .agree) in
+      p ∙ rw q
+
+module _ {s : List ℕ} {values : List ℤ} {K : ℕ} (g : Registers values K) {h : Headed} (k : IsHeader FileKind.Formula 1 K s h) where
   pub header-refused : {number place : ℕ} {r : Tested} → h ≡ Headed.Refused number place → r ≡ testRefused number fileProof place
       → r ≡ asTested (judged values (readFormula K (fields s)))
   unfolding readFormula judged
-  header-refused e f = f ∙ sym (ap (λ w. asTested (judged values w)) (bind-refused _ (header-is ∙ rw e)))
+  header-refused e f = f ∙ sym (ap (λ w. asTested (judged values w)) (bind-refused _ (header-is (g .some) k ∙ rw e)))
 
   module _ {n k′ next : ℕ} (e : h ≡ Headed.Header n k′ next) where
-    -- K is the number of values
-    header-K : header FileKind.Formula fileProof 1 (some K) (fields s) ≡ accepted (record { number = n; K = K; rest = fieldsAt s next })
-    unfolding agrees
-    header-K =
-        let p : header FileKind.Formula fileProof 1 (some K) (fields s) ≡ accepted (record { number = n; K = k′; rest = fieldsAt s next }) = header-is ∙ rw e in
-        let q : k′ ≡ K = eqb→eq k′ K (header-gives FileKind.Formula fileProof 1 (some K) (fields s) .gives _ p .agree) in
-        p ∙ rw q
-
     module _ {j : Judged} (b : FormulaRead s next values K 600 j) where
       pub formula-fault : {number place : ℕ} {r : Tested} → j ≡ Judged.Fault number place → r ≡ testRefused number fileProof place
           → r ≡ asTested (judged values (readFormula K (fields s)))
       unfolding readFormula judged
-      formula-fault q f = f ∙ sym (ap (λ w. asTested (judged values w)) (binds _ header-K ∙ bind-refused _ (rw q at (b .judged))))
+      formula-fault q f = f ∙ sym (ap (λ w. asTested (judged values w)) (binds _ (header-K (g .some) k e) ∙ bind-refused _ (rw q at (b .judged))))
 
       pub formula-value : {holds : Bool} {end : ℕ} {r : Tested} → j ≡ Judged.Value holds end → Finish s end holds r
           → r ≡ asTested (judged values (readFormula K (fields s)))
@@ -76,7 +78,7 @@ module _ {s : List ℕ} {values : List ℤ} {K : ℕ} (g : Registers values K) {
       formula-value q f =
           let x = rw q at (b .judged) in
           f .is ∙ end-judged values (x .formula) (x .truth) (finished FileKind.Formula fileProof (fieldsAt s _))
-          ∙ sym (ap (λ w. asTested (judged values w)) (binds _ header-K ∙ binds _ (x .is)))
+          ∙ sym (ap (λ w. asTested (judged values w)) (binds _ (header-K (g .some) k e) ∙ binds _ (x .is)))
 
 -- ---- the values, then the length, then the formula
 module _ (formula : List ℕ) (values : List ℤ) where

@@ -7,7 +7,7 @@ use lib.IntN.{ℤ, natAbs}
 use lib.ListN.{length}
 use Rattle.forms.specs.Edition.{edition1}
 use Rattle.answers.specs.Answers.{answer, fileLent, Result, refused, accepted, each}
-use Rattle.formula_read.specs.Registers.{AllWithin}
+use Rattle.form_value.specs.Registers.{AllWithin}
 
 -- 23 at the first value out of range, if there is one; i is the first value's index.
 unfoldable pub ranged : ℕ → List ℤ → Result (Unit {0})

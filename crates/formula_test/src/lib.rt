@@ -1,6 +1,6 @@
 // The operation test: a formula's file at register values.
 // Its definition is formula/specs/Test.antt, its contract specs/Promises.antt.
-mod values;
+pub mod values;
 
 use answers::Answer;
 use answers::acceptance;
@@ -20,7 +20,7 @@ ghost use mathlib.Core.Path.{_≡_};
 ghost use Rattle.fields.specs.Fields.{fields};
 ghost use Rattle.formula.specs.Formula.{readFormula};
 ghost use Rattle.formula.specs.Test.{judged};
-ghost use Rattle.formula_read.specs.Registers.{Registers};
+ghost use Rattle.form_value.specs.Registers.{Registers};
 ghost use Rattle.formula_test.specs.Promises.{asTested, Tests};
 ghost use Rattle.formula_test.specs.Outcomes.{testRefused, Finish};
 

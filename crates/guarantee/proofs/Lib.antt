@@ -17,3 +17,5 @@ pub mod Editions
 pub mod Reordering
 pub mod Turnable
 pub mod Conversion
+pub mod Quick
+pub mod TestList

@@ -4,7 +4,7 @@ use mathlib.Core.Bool.{Bool, true, false, _&&_}
 use mathlib.Core.List.{List, []}
 use mathlib.Core.Option.{some}
 use mathlib.Core.Logic.{_⊎_, inl, inr}
-use Prim.Native.Nat.{ℕ, zero, suc}
+use Prim.Native.Nat.{ℕ, zero, suc, _/_}
 use native.Mathlib.Nat.{zero-add}
 use native.Mathlib.Omega.{arith}
 use lib.Dec.{leb, ltb}
@@ -29,6 +29,7 @@ use Rattle.bundle.proofs.Writable.{encodeBundle-gives}
 use Rattle.bundle_show.specs.Promises.{partBytes, behind, partPlace}
 use Rattle.formula.specs.Formula.{FormulaTag, pair, atom, stride, formulaOf, formulaField, twoParts, formulaWithin, readFormula, formulaFile}
 use Rattle.formula.specs.Test.{Tested as Outcome, tested, judged, testFormula}
+use Rattle.formula.specs.TestList.{vectors, listed, truths, testList}
 use Rattle.proof.specs.Check.{interpolant, checkBy, check}
 use Rattle.proof.proofs.Agree.{never-0, never-22}
 use Rattle.proof.specs.Promises.{Checks}
@@ -65,7 +66,7 @@ told-by : {X : Type 0} {a : Answer} → Numbered {X = X} (refused a) → ToldByN
 told-by {a = a} h = told-refused (h .not-zero a refl) (h .not-free a refl)
 
 -- ---- what is written
-abbrev Unwritten : (output : List ℕ) → Written → Type 0
+abbrev pub Unwritten : (output : List ℕ) → Written → Type 0
 Unwritten output w = ToldByNumber (w .answer) × (¬ (w .answer .number ≡ 0) → (w .output ≡ output) × (w .count ≡ 0))
 
 fit-told : (output : List ℕ) (b : Bool) (bytes : List ℕ) → Unwritten output (fit output b bytes)
@@ -135,7 +136,7 @@ unfolding showAnswer showPart shownPart
 show-told A B line = shown-told _ (by-number {P = λ _. Unit {0}} (seq (short-gives _ fileA A) λ _. seq (short-gives _ fileB B) λ _. bind (bundles-give newestEdition A B) λ (a, b) _. weaken (finds _ _ tt) λ _ _. tt))
 
 -- ---- what is tested
-abbrev GivesAny : {X : Type 0} → Result X → Type 0
+abbrev pub GivesAny : {X : Type 0} → Result X → Type 0
 GivesAny r = Gives r (λ _. Unit {0})
 
 module _ (e : Edition) (K : ℕ) where
@@ -159,7 +160,7 @@ module _ (e : Edition) (K : ℕ) where
   within-gives zero fs = field-gives _ (λ at fs. gives-refused _ tt) fs
   within-gives (suc levels) fs = field-gives _ (λ at fs. bind (within-gives levels fs) λ (I, fs1) _. bind (within-gives levels fs1) λ (J, fs2) _. gives-accepted tt) fs
 
-reading-gives : (K : ℕ) (fs : Fields) → GivesAny (readFormula K fs)
+pub reading-gives : (K : ℕ) (fs : Fields) → GivesAny (readFormula K fs)
 unfolding readFormula
 reading-gives K fs =
     bind (header-gives FileKind.Formula fileProof 1 (some K) fs) λ h _. bind (within-gives edition1 (h .K) (edition1 .levels) (h .rest)) λ (I, after) _.
@@ -181,6 +182,11 @@ judged-told values (accepted I) h = (told-accepted, λ h. absurd (h refl))
 pub test-told : (formula : List ℕ) (values : List ℤ) → Untested (testFormula formula values)
 unfolding testFormula
 test-told formula values = judged-told values (tested formula values) (tested-numbered formula values)
+
+pub list-told : (formula : List ℕ) (K : ℕ) (values : List ℤ) (output : List ℕ) → Unwritten output (testList formula K values output)
+unfolding testList listed
+list-told formula K values output =
+    written-told _ (then-numbered _ (λ I. truths I (vectors K (length values / K) values)) (by-number (test _ _ tt λ _. seq (each-gives _ _ (λ i. tt) 0 values) λ _. test _ _ tt λ _. reading-gives K (fields formula)))) output
 
 behind-0 : (p : ℕ × ℕ) → behind p 0 ≡ p
 behind-0 p = ap (λ (n : ℕ). (p .0, n)) (zero-add (p .1))
@@ -261,4 +267,5 @@ refusals = record {
   submit = submit-told;
   cancel = cancel-told;
   turn = turn-told;
+  test-list = λ formula K values output left r c. subst (Unwritten output) (sym (c .is)) (list-told formula K values output);
 }

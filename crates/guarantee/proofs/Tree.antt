@@ -12,7 +12,7 @@ use Rattle.answers.specs.Answers.{Written, answer}
 use Rattle.bundle.specs.Read.{BundleRead}
 use Rattle.formula_test.specs.declared.Tested.{Tested}
 use Rattle.proof.specs.Tree.{Outside, AnswerStands}
-use Rattle.proof.proofs.Outside.{check-located, read-outside, write-outside, show-outside, test-outside}
+use Rattle.proof.proofs.Outside.{check-located, read-outside, write-outside, show-outside, test-outside, list-outside}
 use Rattle.conversion.proofs.Outside.{bundle-outside, proof-outside}
 use Rattle.proof.specs.Promises.{Checks}
 use Rattle.scheduler.specs.declared.Job.{Job}
@@ -65,6 +65,7 @@ in-tree = record {
   turn-bundle = λ to file output left r c. subst Outside (sym (ap (λ (w : Written). w .answer) (c .is))) (bundle-outside to file output);
   turn-proof = λ to file output left r c. subst Outside (sym (ap (λ (w : Written). w .answer) (c .is))) (proof-outside to file output);
   show = λ A B line r c. subst Outside (sym (c .is)) (show-outside newestEdition A B line);
+  test-list = λ formula K values output left r c. subst Outside (sym (ap (λ (w : Written). w .answer) (c .is))) (list-outside formula K values output);
   test = λ formula values r c. subst Outside (sym (ap (λ (t : Tested). t .answer) (c .is))) (test-outside formula values);
   submit = submit-outside;
   cancel = cancel-outside;

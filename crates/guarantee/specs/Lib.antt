@@ -15,3 +15,5 @@ pub mod Apart
 pub mod Editions
 pub mod Reordering
 pub mod Conversion
+pub mod Quick
+pub mod TestList

@@ -18,6 +18,7 @@ use Rattle.bundle_read.specs.Promises.{Reads}
 use Rattle.bundle_write.specs.Promises.{Writes}
 use Rattle.formula_test.specs.declared.Tested.{Tested}
 use Rattle.formula_test.specs.Promises.{Tests}
+use Rattle.formula_list.specs.Promises.{TestsList}
 use Rattle.proof.specs.Promises.{Checks}
 use Rattle.conversion.specs.Promises.{TurnsBundle, TurnsProof}
 use Rattle.dulgaverk.specs.Copied.{Copied}
@@ -62,3 +63,6 @@ pub record Refusals : Type 0 where
   -- a turn: as check (the scheduler is no lent buffer: its seat is cleared); 0 just where a job was accepted, so never of an idle one
   pub turn : (s : Scheduler) (buffer output left : List ℕ) (r : Turned) → Turns s buffer output left r
       → (r .result .answer .number ≡ 0 → r .idle ≡ false) × ToldByNumber (r .result .answer) × (¬ (r .result .answer .number ≡ 0) → (left ≡ output) × (r .result .count ≡ 0))
+  -- test_list: as check (document 02, point 11)
+  pub test-list : (formula : List ℕ) (K : ℕ) (values : List ℤ) (output left : List ℕ) (r : WriteResult) → TestsList formula K values output left r
+      → ToldByNumber (r .answer) × (¬ (r .answer .number ≡ 0) → (left ≡ output) × (r .count ≡ 0))

@@ -12,6 +12,7 @@ use Rattle.bundle_read.specs.Promises.{Reads}
 use Rattle.bundle_write.specs.Promises.{Writes}
 use Rattle.formula_test.specs.declared.Tested.{Tested}
 use Rattle.formula_test.specs.Promises.{Tests}
+use Rattle.formula_list.specs.Promises.{TestsList}
 use Rattle.proof.specs.Tree.{Outside, AnswerStands}
 use Rattle.proof.specs.Promises.{Checks}
 use Rattle.conversion.specs.Promises.{TurnsBundle, TurnsProof}
@@ -36,6 +37,7 @@ pub record InTree : Type 0 where
   pub turn-bundle : (to : ℕ) (file output left : List ℕ) (r : WriteResult) → TurnsBundle to file output left r → Outside (r .answer)
   pub turn-proof : (to : ℕ) (file output left : List ℕ) (r : WriteResult) → TurnsProof to file output left r → Outside (r .answer)
   pub show : (A B : List ℕ) (line : ℕ) (r : Answer) → AnswersShow A B line r → Outside r
+  pub test-list : (formula : List ℕ) (K : ℕ) (values : List ℤ) (output left : List ℕ) (r : WriteResult) → TestsList formula K values output left r → Outside (r .answer)
   pub test : (formula : List ℕ) (values : List ℤ) (r : Tested) → Tests formula values r → Outside (r .answer)
   pub submit : (s : Scheduler) (seat : ℕ) (job : Job) (r : Changed) → Submits s seat job r → Outside (r .answer)
   pub cancel : (s : Scheduler) (seat : ℕ) (r : Changed) → Cancels s seat r → Outside (r .answer)

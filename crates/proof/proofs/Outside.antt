@@ -22,6 +22,7 @@ use Rattle.bundle.specs.Write.{encodeBundle, writeBundle}
 use Rattle.bundle.specs.Show.{shownPart, answerOf, showAnswer}
 use Rattle.formula.specs.Formula.{FormulaTag, pair, atom, stride, formulaOf, formulaField, twoParts, formulaWithin, readFormula}
 use Rattle.formula.specs.Test.{tested, judged, testFormula}
+use Rattle.formula.specs.TestList.{listed, testList}
 use Rattle.proof.specs.Check.{checkProof, formulaAtMost, interpolant, checkBy, check}
 use Rattle.proof.specs.Tree.{Outside, AnswerStands, outside, amid}
 use Rattle.proof.proofs.Says.{Says, says-refused, says-accepted, bind, seq, says-need as need-says, test as needed, finds, weaken, each-says}
@@ -150,12 +151,20 @@ unfolding judged
 of-judged values (refused a) s = s .refusal a refl
 of-judged values (accepted I) s = refl
 
+formula-outside : (K : ℕ) (fs : Fields) → Says Outside (readFormula K fs) (λ _. Unit {0})
+unfolding readFormula
+formula-outside K fs = bind (any (header-in FileKind.Formula fileProof 1 _ fs)) λ h _. bind (within-outside edition1 (h .K) (edition1 .levels) (h .rest)) λ x _.
+    seq (any (finished-in FileKind.Formula fileProof (x .1))) (says-accepted tt)
+
 pub test-outside : (formula : List ℕ) (values : List ℤ) → Outside (testFormula formula values .answer)
-unfolding testFormula tested readFormula
+unfolding testFormula tested
 test-outside formula values = of-judged values (tested formula values)
-    (needed _ _ refl λ _. seq (each-says _ _ (λ i. refl) 0 values) (needed _ _ refl λ _.
-    bind (any (header-in FileKind.Formula fileProof 1 _ (fields formula))) λ h _. bind (within-outside edition1 (h .K) (edition1 .levels) (h .rest)) λ x _.
-    seq (any (finished-in FileKind.Formula fileProof (x .1))) (says-accepted tt)))
+    (needed _ _ refl λ _. seq (each-says _ _ (λ i. refl) 0 values) (needed _ _ refl λ _. formula-outside (length values) (fields formula)))
+
+pub list-outside : (formula : List ℕ) (K : ℕ) (values : List ℤ) (output : List ℕ) → Outside (testList formula K values output .answer)
+unfolding testList listed
+list-outside formula K values output = of-written _ output (bind
+    (needed _ _ refl λ _. seq (each-says _ _ (λ i. refl) 0 values) (needed _ _ refl λ _. formula-outside K (fields formula))) λ I _. says-accepted tt)
 
 -- ---- check
 proof-short : (limit : ℕ) (P : List ℕ) → Says (AnswerStands P) (atMost limit fileProof P) (λ _. Unit {0})

@@ -1,4 +1,5 @@
 // Submitting a job and cancelling it. The state goes in by value and comes back by value; any state that a caller hands in is served.
+// Definitions and contracts are scheduler/specs/Scheduler.antt and Promises.antt.
 use scheduler::Changed;
 use scheduler::Job;
 use scheduler::Part;

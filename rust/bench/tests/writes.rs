@@ -35,7 +35,17 @@ fn written_when_asked_to() {
 
 #[test]
 fn used_wrongly() {
-    for arguments in [vec!["0"], vec!["x"], vec!["1", "--write"], vec!["1", "1"]] {
+    for arguments in [
+        vec!["0"],
+        vec!["x"],
+        vec!["1", "--write"],
+        vec!["1", "1"],
+        vec!["lists", "0"],
+        vec!["lists", "x"],
+        vec!["lists", "--write"],
+        vec!["1", "lists"],
+        vec!["--write", "lists", "1", "1"],
+    ] {
         let (output, none) = bench("wrong", &arguments);
         assert_eq!(output.status.code(), Some(2), "{arguments:?}");
         assert!(output.stdout.is_empty() && none.is_empty(), "{arguments:?}");

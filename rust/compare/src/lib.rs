@@ -25,7 +25,7 @@ use stages::tree::spot;
 use stages::{Case, Operation};
 
 /// The operations that are compared.
-pub const COMPARED: [Operation; 7] = [
+pub const COMPARED: [Operation; 8] = [
     Operation::Check,
     Operation::Read,
     Operation::Write,
@@ -33,6 +33,7 @@ pub const COMPARED: [Operation; 7] = [
     Operation::Test,
     Operation::TurnBundle,
     Operation::TurnProof,
+    Operation::List,
 ];
 
 /// The reference's answer as a result. As in the wrapper, accepted is 0, 0, 0 and no row, step or branch.
@@ -119,6 +120,15 @@ pub fn compare(case: &Case, rng: &mut Rng, tally: &mut Tally) {
                 call(&with_output(case, out), rng, tally);
             }
         }
+        Case::List { k, values, .. } => {
+            let vectors = values.len() / k;
+            for out in [Some(vectors), vectors.checked_sub(1)]
+                .into_iter()
+                .flatten()
+            {
+                call(&with_output(case, out), rng, tally);
+            }
+        }
         // The outputs of show are tried in the call itself; a test has none.
         Case::Show { .. } | Case::Test { .. } => {}
     }
@@ -132,11 +142,13 @@ fn turned(case: &Case) -> usize {
     }
 }
 
-/// The same check or turn with another output.
+/// The same check, turn or test at a list with another output.
 fn with_output(case: &Case, length: usize) -> Case {
     let mut next = case.clone();
-    if let Case::Check { out, .. } | Case::TurnBundle { out, .. } | Case::TurnProof { out, .. } =
-        &mut next
+    if let Case::Check { out, .. }
+    | Case::TurnBundle { out, .. }
+    | Case::TurnProof { out, .. }
+    | Case::List { out, .. } = &mut next
     {
         *out = length;
     }
@@ -235,6 +247,24 @@ fn call(case: &Case, rng: &mut Rng, tally: &mut Tally) -> u8 {
             (
                 number(&expected),
                 dulgaverk::test_formula(formula, values) == expected,
+            )
+        }
+        Case::List {
+            formula,
+            k,
+            values,
+            out,
+        } => {
+            let before = bytes(rng, *out);
+            let (mut lent, mut other) = (before.clone(), before.clone());
+            let verified = dulgaverk::test_list_into(formula, *k, values, &mut lent);
+            let r = reference::test_list(formula, *k, values, &mut other);
+            tally.count_vectors(r.written);
+            let expected = outcome(r.answer, r.written);
+            let kept = expected.is_ok() || lent == before;
+            (
+                number(&expected),
+                verified == expected && lent == other && kept,
             )
         }
         Case::Check { a, b, proof, out } => {

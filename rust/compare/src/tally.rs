@@ -11,14 +11,16 @@ const KEPT: usize = 10;
 #[derive(Default)]
 pub struct Tally {
     /// Calls by operation and by number, 0 for accepted.
-    calls: [[u64; 25]; 7],
+    calls: [[u64; 25]; 8],
     /// Refusals of a proof by how many branches they stand inside; the last is for three or more.
     depths: [u64; 4],
     /// Checks that are refused since the formula is too long, and turns since the result is, outputs of several lengths
     /// counted each.
-    too_long: [u64; 7],
+    too_long: [u64; 8],
     /// Checks by the editions of A, B and proof, a bit each that is 1 for edition 2, A's the highest.
     mixes: [u64; 8],
+    /// Vectors of the lists that were accepted.
+    vectors: u64,
     differences: u64,
     /// The first ones, as lines that say what was called and what the Rust checker answers.
     kept: Vec<String>,
@@ -52,6 +54,16 @@ impl Tally {
             2 * index + usize::from(edition == Edition::Two)
         });
         self.mixes[index] += 1;
+    }
+
+    /// Counts the vectors of an accepted list.
+    pub(crate) fn count_vectors(&mut self, vectors: usize) {
+        self.vectors += vectors as u64;
+    }
+
+    /// Vectors at which a formula was tested in lists.
+    pub fn vectors(&self) -> u64 {
+        self.vectors
     }
 
     /// Checks by the editions of A, B and proof, from all in edition 1 to all in edition 2.
@@ -123,6 +135,9 @@ impl fmt::Display for Tally {
                     "    results that are too long: {}",
                     self.too_long(operation)
                 )?;
+            }
+            if operation == Operation::List {
+                writeln!(f, "    vectors of accepted lists: {}", self.vectors)?;
             }
         }
         for line in &self.kept {

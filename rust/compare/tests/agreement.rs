@@ -169,6 +169,18 @@ fn checking_turned_files() {
     }
 }
 
+/// Lists of vectors, in and out of order, with K 0, 17 and 272 among them, and outputs that are too short.
+#[test]
+fn testing_lists() {
+    let tally = agree(
+        Operation::List,
+        13,
+        20_000,
+        &[0, 1, 2, 3, 4, 5, 6, 7, 9, 12, 17, 19, 21, 23],
+    );
+    assert!(tally.vectors() >= 1_000_000, "{tally}");
+}
+
 /// Registers listed in another sequence: random closed tables, damaged ones, and the rest; and formulas, right and wrong.
 #[test]
 fn reordering_constants() {

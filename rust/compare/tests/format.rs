@@ -355,3 +355,21 @@ fn table_row(fault: &str, refusal: &Refusal) -> String {
         .map(|number| number.map_or("none".to_string(), |number| number.to_string()));
     format!("\n| {fault} | {number}, {file}, {place} | {row} | {step} | {branch} |\n")
 }
+
+/// The list at which the page tests "2 divides y", and its three refusals.
+#[test]
+fn a_list_of_vectors() {
+    assert!(page().contains("the six values 1, 4, -7, 1, -3, 0 writes the bytes `01 00`. With a seventh value the answer is 7, file 4, place 0; with 1,000,001 for -3 it is 23, file 4, place 4; with an output of one byte 21, file 4, place 2."));
+    let path = PathBuf::from(env!("CARGO_MANIFEST_DIR")).join("../../examples/guard-1/f");
+    let formula = fs::read(path).expect("the formula of stage 1");
+    let mut out = [7; 3];
+    let mut test = |values: &[i32], room: usize| {
+        dulgaverk::test_list_into(&formula, 3, values, &mut out[..room])
+    };
+    let refused = |number, place| Err(Refusal::outside(number, 4, place));
+    assert_eq!(test(&[1, 4, -7, 1, -3, 0, 0], 3), refused(7, 0));
+    assert_eq!(test(&[1, 4, -7, 1, 1_000_001, 0], 3), refused(23, 4));
+    assert_eq!(test(&[1, 4, -7, 1, -3, 0], 1), refused(21, 2));
+    assert_eq!(test(&[1, 4, -7, 1, -3, 0], 3), Ok(2));
+    assert_eq!(out, [1, 0, 7]);
+}

@@ -174,4 +174,13 @@ extern "C" {
         out: *mut u8,
         out_len: usize,
     ) -> Turned;
+    pub fn dulgaverk_test_list(
+        formula: *const u8,
+        formula_len: usize,
+        k: usize,
+        values: *const i32,
+        values_len: usize,
+        out: *mut u8,
+        out_len: usize,
+    ) -> WriteResult;
 }

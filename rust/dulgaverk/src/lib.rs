@@ -444,3 +444,61 @@ pub fn turn_proof_into(file: &[u8], edition: u8, out: &mut [u8]) -> Result<usize
     };
     accepted(r.answer, r.count)
 }
+
+/// Whether the formula holds at each vector of a list, k register values each, one vector after the other.
+///
+/// ```
+/// // 2 divides y, over x, y, z.
+/// let formula = b"\x01\0\x01\x01\x02\0\x01\x03\x35\0\x14\0\0\0\x02\0\0\0\0\0\0\0\x01\0\0\0\0\0\0\0\0";
+/// assert_eq!(dulgaverk::test_list(formula, 3, &[1, 4, -7, 1, -3, 0])?, [true, false]);
+/// // Five values are not whole vectors of three; 272 is not 16.
+/// let refusal = dulgaverk::test_list(formula, 3, &[1, 4, -7, 1, -3]).unwrap_err();
+/// assert_eq!((refusal.number, refusal.file, refusal.place), (7, 4, 0));
+/// let refusal = dulgaverk::test_list(formula, 272, &[0; 272]).unwrap_err();
+/// assert_eq!((refusal.number, refusal.file, refusal.place), (7, 4, 0));
+/// // The place of a value is its index in the whole list.
+/// let refusal = dulgaverk::test_list(formula, 3, &[1, 4, -7, 1, 1_000_001, 0]).unwrap_err();
+/// assert_eq!((refusal.number, refusal.file, refusal.place), (23, 4, 4));
+/// // The formula is read for an empty list too.
+/// let refusal = dulgaverk::test_list(&formula[..8], 3, &[]).unwrap_err();
+/// assert_eq!((refusal.number, refusal.file, refusal.place), (2, 3, 8));
+/// # Ok::<(), dulgaverk::Refusal>(())
+/// ```
+pub fn test_list(formula: &[u8], k: usize, values: &[i32]) -> Result<Vec<bool>, Refusal> {
+    let mut out = vec![0; values.len() / k.max(1)];
+    let vectors = test_list_into(formula, k, values, &mut out)?;
+    Ok(out[..vectors].iter().map(|&byte| byte == 1).collect())
+}
+
+/// Tests the formula at each vector of a list into an output, one byte each, 1 where it holds; gives the number of
+/// vectors. A refusal leaves the output as it was.
+///
+/// ```
+/// // 2 divides x.
+/// let formula = b"\x01\0\x01\x01\x02\0\x01\x01\x35\0\x0C\0\0\0\x02\0\0\0\x01\0\0\0\0";
+/// let mut out = [7; 3];
+/// assert_eq!(dulgaverk::test_list_into(formula, 1, &[4, 5], &mut out), Ok(2));
+/// assert_eq!(out, [1, 0, 7]);
+/// let refusal = dulgaverk::test_list_into(formula, 1, &[6, 8], &mut out[1..2]).unwrap_err();
+/// assert_eq!((refusal.number, refusal.file, refusal.place), (21, 4, 2));
+/// assert_eq!(out, [1, 0, 7]);
+/// ```
+pub fn test_list_into(
+    formula: &[u8],
+    k: usize,
+    values: &[i32],
+    out: &mut [u8],
+) -> Result<usize, Refusal> {
+    let r = unsafe {
+        boundary::dulgaverk_test_list(
+            formula.as_ptr(),
+            formula.len(),
+            k,
+            values.as_ptr(),
+            values.len(),
+            out.as_mut_ptr(),
+            out.len(),
+        )
+    };
+    accepted(r.answer, r.count)
+}

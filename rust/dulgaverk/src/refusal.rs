@@ -103,7 +103,10 @@ pub const MEANINGS: [(u8, &str); 29] = [
     (4, "a known tag where it may not stand"),
     (5, "an edition that this kind of file does not have"),
     (6, "a field of the wrong length"),
-    (7, "the number of constants, or of values, is not 1 to 16"),
+    (
+        7,
+        "the number of constants, or of values, is not 1 to 16, or a list is not whole vectors",
+    ),
     (8, "more than 32 constraints"),
     (9, "the number of constants is not the one given before"),
     (10, "a line that is not there"),

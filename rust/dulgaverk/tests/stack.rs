@@ -5,11 +5,12 @@ use stages::build::{and, close, comparison, constraint, file, fill, rounding, sc
 use stages::turn::turned_up;
 use std::thread;
 
-/// What the header says of a check whose proof is of edition 1, of one whose proof is of edition 2, of a test, and of the
-/// other calls.
+/// What the header says of a check whose proof is of edition 1, of one whose proof is of edition 2, of a test, of a test at
+/// a list, and of the other calls.
 const CHECK: usize = 152 * 1024;
 const CHECK_2: usize = 272 * 1024;
 const TEST: usize = 64 * 1024;
+const LIST: usize = 96 * 1024;
 const OTHER: usize = 12 * 1024;
 
 /// What a thread of Rust and the wrapper take for themselves.
@@ -125,8 +126,15 @@ fn the_deepest_formula() {
     for parts in [first, second] {
         let formula = file(1, &parts);
         assert_eq!(
-            on_stack(TEST, move || dulgaverk::test_formula(&formula, &[7])),
+            on_stack(TEST, {
+                let formula = formula.clone();
+                move || dulgaverk::test_formula(&formula, &[7])
+            }),
             Ok(true)
+        );
+        assert_eq!(
+            on_stack(LIST, move || dulgaverk::test_list(&formula, 1, &[7; 64])),
+            Ok(vec![true; 64])
         );
     }
 }

@@ -40,7 +40,7 @@ pub enum Input {
 /// The case or the calls that some bytes stand for; every list of bytes is one.
 pub fn decode(bytes: &[u8]) -> Input {
     let mut reader = Reader(bytes);
-    let case = match reader.byte() % 8 {
+    let case = match reader.byte() % 9 {
         7 => return Input::AtSeats(sequence(&mut reader)),
         0 => Case::Read {
             kinds: usize::from(reader.byte()),
@@ -97,6 +97,23 @@ pub fn decode(bytes: &[u8]) -> Input {
             out: reader.short(),
             file: reader.rest(),
         },
+        8 => {
+            // K has two bytes, so that one above 255 comes.
+            let k = reader.short();
+            let out = usize::from(reader.byte());
+            let count = usize::from(reader.byte());
+            let values = reader
+                .bytes(4 * count)
+                .chunks_exact(4)
+                .map(|four| i32::from_be_bytes([four[0], four[1], four[2], four[3]]))
+                .collect();
+            Case::List {
+                formula: reader.rest(),
+                k,
+                values,
+                out,
+            }
+        }
         _ => {
             let out = reader.short();
             let (first, second) = (reader.short(), reader.short());
@@ -161,7 +178,7 @@ pub fn encode_calls(sequence: &Sequence) -> Vec<u8> {
         Some(index) => 254 + index as u8,
         None => seat.min(253) as u8,
     };
-    let mut bytes = [&[5][..], &short(sequence.buffer.len()), &sequence.buffer].concat();
+    let mut bytes = [&[7][..], &short(sequence.buffer.len()), &sequence.buffer].concat();
     for call in &sequence.calls {
         match *call {
             Call::Submit { seat: at, parts } => {
@@ -217,6 +234,17 @@ pub fn encode(case: &Case) -> Vec<u8> {
         Case::Test { formula, values } => {
             let list: Vec<u8> = values.iter().flat_map(|v| v.to_be_bytes()).collect();
             [&[3, byte(values.len())][..], &list, formula].concat()
+        }
+        Case::List {
+            formula,
+            k,
+            values,
+            out,
+        } => {
+            let values = &values[..values.len().min(255)];
+            let list: Vec<u8> = values.iter().flat_map(|v| v.to_be_bytes()).collect();
+            let sizes = [byte(*out), byte(values.len())];
+            [&[8][..], &short(*k), &sizes, &list, formula].concat()
         }
         Case::Check { a, b, proof, out } => [
             &[4][..],

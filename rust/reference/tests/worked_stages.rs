@@ -337,7 +337,7 @@ fn the_examples_expect_these_answers() {
         assert_eq!(printed, expected, "{}", stage.display());
         stages += 1;
     }
-    assert_eq!(stages, 35);
+    assert_eq!(stages, 36);
 }
 
 /// The folders under examples/ with register values: what the guard program is to print of each.
@@ -370,5 +370,5 @@ fn the_guards_expect_these_answers() {
         assert_eq!(printed, expected, "{}", guard.display());
         guards += 1;
     }
-    assert_eq!(guards, 4);
+    assert_eq!(guards, 5);
 }

@@ -14,9 +14,10 @@ pub enum Operation {
     Test,
     TurnBundle,
     TurnProof,
+    List,
 }
 
-pub const OPERATIONS: [Operation; 7] = [
+pub const OPERATIONS: [Operation; 8] = [
     Operation::Check,
     Operation::Read,
     Operation::Write,
@@ -24,6 +25,7 @@ pub const OPERATIONS: [Operation; 7] = [
     Operation::Test,
     Operation::TurnBundle,
     Operation::TurnProof,
+    Operation::List,
 ];
 
 /// One call: the files and lists lent, and the lengths of the outputs.
@@ -67,6 +69,12 @@ pub enum Case {
         edition: u8,
         out: usize,
     },
+    List {
+        formula: Vec<u8>,
+        k: usize,
+        values: Vec<i32>,
+        out: usize,
+    },
 }
 
 /// What the reference makes of a case.
@@ -102,6 +110,7 @@ impl Case {
             Case::Test { .. } => Operation::Test,
             Case::TurnBundle { .. } => Operation::TurnBundle,
             Case::TurnProof { .. } => Operation::TurnProof,
+            Case::List { .. } => Operation::List,
         }
     }
 
@@ -114,7 +123,7 @@ impl Case {
             | Case::TurnProof { file, .. } => file.len(),
             Case::Write { .. } => 0,
             Case::Show { a, b, .. } => a.len().max(b.len()),
-            Case::Test { formula, .. } => formula.len(),
+            Case::Test { formula, .. } | Case::List { formula, .. } => formula.len(),
         }
     }
 
@@ -199,6 +208,17 @@ impl Case {
                 output.truncate(result.written);
                 (result.answer, Output::Bytes(output))
             }
+            Case::List {
+                formula,
+                k,
+                values,
+                out,
+            } => {
+                let mut output = vec![0; *out];
+                let result = reference::test_list(formula, *k, values, &mut output);
+                output.truncate(result.written);
+                (result.answer, Output::Bytes(output))
+            }
         };
         Outcome {
             answer,
@@ -266,6 +286,18 @@ impl Case {
                 text.push_str("turn-proof ");
                 push_bytes(&mut text, file);
                 push(&mut text, edition);
+                push(&mut text, out);
+            }
+            Case::List {
+                formula,
+                k,
+                values,
+                out,
+            } => {
+                text.push_str("list ");
+                push_bytes(&mut text, formula);
+                push(&mut text, k);
+                push_list(&mut text, values);
                 push(&mut text, out);
             }
         }

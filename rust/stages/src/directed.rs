@@ -11,6 +11,7 @@ use crate::rounding::{damaged, exact, rounded};
 use crate::stride::{closes, near_miss};
 use crate::turn::mix_aimed;
 use crate::turning;
+use crate::vectors;
 use reference::Edition;
 
 /// A case and the number that it is made to be answered with.
@@ -105,6 +106,12 @@ pub fn directed(rng: &mut Rng, operation: Operation) -> Vec<Aimed> {
         Operation::Show => shows(rng),
         Operation::Test => tests(rng),
         Operation::TurnBundle | Operation::TurnProof => turning::directed(rng, operation),
+        Operation::List => {
+            let tests = tests(rng);
+            let mut cases = vectors::from_tests(rng, tests);
+            cases.extend(vectors::directed(rng));
+            cases
+        }
     };
     for aimed in &mut cases {
         mix_aimed(rng, aimed);

@@ -10,6 +10,7 @@ use crate::rng::Rng;
 use crate::rounding::{exact, random_by, rounded};
 use crate::turn::mix_aimed;
 use crate::turning;
+use crate::vectors;
 use reference::Edition;
 
 /// A case of an operation at one of its limits, with the number that it is made to be answered with, in every mix of
@@ -71,6 +72,10 @@ fn some_edge(rng: &mut Rng, operation: Operation) -> Aimed {
             _ => large_values(rng, over),
         },
         Operation::TurnBundle | Operation::TurnProof => turning::edge(rng, operation, over),
+        Operation::List => {
+            let test = some_edge(rng, Operation::Test);
+            vectors::from_tests(rng, vec![test]).remove(0)
+        }
     }
 }
 

@@ -170,7 +170,7 @@ pub fn heavy(rng: &mut Rng, operation: Operation) -> Vec<Aimed> {
                     cases.push((number, turn(operation, long, to)));
                 }
             }
-            Operation::Write | Operation::Test | Operation::TurnProof => {}
+            Operation::Write | Operation::Test | Operation::TurnProof | Operation::List => {}
         }
     }
     if operation == Operation::Check {
@@ -292,7 +292,7 @@ pub fn light(rng: &mut Rng, operation: Operation) -> Vec<Aimed> {
                 let aim = if Edition::One.holds(number) { 0 } else { 13 };
                 cases.push((aim, turn(operation, bundle, 1)));
             }
-            Operation::Test | Operation::TurnProof => {}
+            Operation::Test | Operation::TurnProof | Operation::List => {}
         }
     }
     match operation {

@@ -25,6 +25,7 @@ pub mod tie;
 pub mod tree;
 pub mod turn;
 pub mod turning;
+pub mod vectors;
 
 pub use case::{Case, Operation, Outcome, Output, OPERATIONS};
 pub use list::{heavy_list, list, HEAVY};

@@ -11,6 +11,7 @@ use crate::rounding::{exact, MOST};
 use crate::table::{closed_table, Size, Table};
 use crate::turn::mix_aimed;
 use crate::turning;
+use crate::vectors;
 use reference::Edition;
 
 /// The cases of one operation with short files, in every mix of editions.
@@ -22,6 +23,10 @@ pub fn light(rng: &mut Rng, operation: Operation) -> Vec<Aimed> {
         Operation::Show => shows(1),
         Operation::Test => light_tests(rng),
         Operation::TurnBundle | Operation::TurnProof => turning::light(rng, operation),
+        Operation::List => {
+            let tests = light_tests(rng);
+            vectors::from_tests(rng, tests)
+        }
     };
     cases.extend(editions::light(rng, operation));
     for aimed in &mut cases {
@@ -39,6 +44,10 @@ pub fn heavy(rng: &mut Rng, operation: Operation) -> Vec<Aimed> {
         Operation::Show => heavy_shows(rng),
         Operation::Test => heavy_tests(rng),
         Operation::TurnBundle | Operation::TurnProof => turning::heavy(rng, operation),
+        Operation::List => {
+            let tests = heavy_tests(rng);
+            vectors::from_tests(rng, tests)
+        }
     };
     for aimed in &mut cases {
         mix_aimed(rng, aimed);

@@ -51,6 +51,7 @@ pub fn list(seed: u64, count: usize, light: bool) -> Vec<(Class, Case)> {
             Operation::Check => 22,
             Operation::Test => 8,
             Operation::TurnProof => 8,
+            Operation::List => 0,
             _ => 4,
         };
         aimed.retain(|(_, case)| case.largest_file() <= HEAVY);
@@ -82,13 +83,14 @@ pub fn list(seed: u64, count: usize, light: bool) -> Vec<(Class, Case)> {
             12..=17 => Class::Damaged,
             _ => Class::Noise,
         };
-        let operation = match rng.below(20) {
+        let operation = match rng.below(21) {
             0..=13 => Operation::Check,
             14..=15 => Operation::Read,
             16 => Operation::Write,
             17 => Operation::Show,
             18 => Operation::Test,
-            _ => *rng.pick(&[Operation::TurnBundle, Operation::TurnProof]),
+            19 => *rng.pick(&[Operation::TurnBundle, Operation::TurnProof]),
+            _ => Operation::List,
         };
         let case = match class {
             Class::Sound => sound(&mut rng, operation, &Size::SMALL),

@@ -111,10 +111,12 @@ pub fn formula(rng: &mut Rng, k: usize, junctions: usize) -> Vec<u8> {
             continue;
         }
         let numbers: Vec<i32> = (0..=k).map(|_| long(rng)).collect();
-        let g = match rng.below(6) {
+        let g = match rng.below(8) {
             0..=3 => rng.within(2, 9) as i32,
             4 => rng.within(2, 65_535) as i32,
-            _ => i32::MAX,
+            5 => *rng.pick(&[i32::MAX, (1 << 30) - 2, (1 << 30) + 2, 3 << 29]),
+            // A power of two, up to the largest that four signed bytes hold.
+            _ => 1 << rng.within(1, 30),
         };
         file.extend(match rng.below(4) {
             0 => build::comparison(true, &numbers),

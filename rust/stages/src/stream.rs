@@ -6,7 +6,7 @@ use crate::rng::Rng;
 use crate::table::{careless_table, closed_table, Size, Table};
 use crate::tie::tied;
 use crate::turn::{mix, turned_up};
-use crate::{deep, directed, edge, limit, other, rounding, turning};
+use crate::{deep, directed, edge, limit, other, rounding, turning, vectors};
 use reference::Edition;
 
 /// What sort of cases are wanted.
@@ -146,6 +146,10 @@ pub fn sound(rng: &mut Rng, operation: Operation, size: &Size) -> Case {
             Case::Test { formula, values }
         }
         Operation::TurnBundle | Operation::TurnProof => turning::sound(rng, operation, size),
+        Operation::List => {
+            let (k, formula) = some_formula(rng, size);
+            vectors::sound(rng, k, formula)
+        }
     }
 }
 
@@ -277,6 +281,7 @@ pub fn damaged(rng: &mut Rng, operation: Operation, size: &Size) -> Case {
                     _ => damage(rng, file, k),
                 }
             }
+            Case::List { .. } => vectors::damaged(rng, &mut case),
         }
     }
     case
@@ -335,5 +340,14 @@ pub fn random(rng: &mut Rng, operation: Operation) -> Case {
             }
         }
         Operation::TurnBundle | Operation::TurnProof => turning::random(rng, operation, k),
+        Operation::List => {
+            let count = rng.below(12);
+            Case::List {
+                formula: noise(rng, k),
+                k: if rng.chance(1, 4) { rng.below(20) } else { k },
+                values: (0..count).map(|_| other::long(rng)).collect(),
+                out: rng.below(8),
+            }
+        }
     }
 }

@@ -92,7 +92,8 @@ pub fn mix(rng: &mut Rng, case: &mut Case) {
         Case::Write { .. }
         | Case::Test { .. }
         | Case::TurnBundle { .. }
-        | Case::TurnProof { .. } => {}
+        | Case::TurnProof { .. }
+        | Case::List { .. } => {}
     }
 }
 

@@ -92,7 +92,7 @@ fn edge_cases_meet_their_number_on_both_sides() {
             Operation::Read => &[0, 1, 8, 13],
             Operation::Write => &[0, 8, 13, 21],
             Operation::Show => &[0, 10],
-            Operation::Test => &[0, 1, 17, 23],
+            Operation::Test | Operation::List => &[0, 1, 17, 23],
             Operation::TurnBundle => &[0, 1, 8, 13],
             Operation::TurnProof => &[0, 1, 10],
         };
@@ -120,6 +120,11 @@ fn all_answers(operation: Operation) -> Vec<(u8, u8)> {
         Operation::Test => vec![
             accepted,
             of(4, &[7, 23]),
+            of(3, &[1, 2, 3, 4, 5, 6, 7, 9, 12, 17, 19]),
+        ],
+        Operation::List => vec![
+            accepted,
+            of(4, &[7, 23, 21]),
             of(3, &[1, 2, 3, 4, 5, 6, 7, 9, 12, 17, 19]),
         ],
         Operation::Check => vec![
@@ -312,6 +317,15 @@ fn parse(line: &str) -> (Case, Vec<String>) {
                 out: number(3),
             },
             4,
+        ),
+        "list" => (
+            Case::List {
+                formula: bytes(1),
+                k: number(2),
+                values: numbers(words[3]),
+                out: number(4),
+            },
+            5,
         ),
         other => panic!("{other}"),
     };

@@ -34,6 +34,7 @@ use Rattle.bundle.specs.Write.{constraintsBytes, holdable, encodeBundle, writeB
 use Rattle.bundle.specs.Show.{partOf, constraintPart, shownPart, answerOf, showAnswer, handed, showPart}
 use Rattle.formula.specs.Formula.{encode, formulaFile, formulaTagged, compound, formulaSize, formulaOf, formulaField, twoParts, formulaWithin, readFormula}
 use Rattle.formula.specs.Test.{holds, judge, tested, judged, testFormula}
+use Rattle.formula.specs.TestList.{vectors, listed, truths, testList}
 use Rattle.proof.specs.Entries.{entryTagged, inPlace, lineNumber, multiplier, sizeOf, entryFrom, entry}
 use Rattle.proof.specs.Rows.{is, plainKind, owner, fails, equals, sameForm, lineAt, derived, fitting, undivided, inequality, roundable, disequality, byNumber, byStride, states}
 use Rattle.conversion.specs.Turning.{asked, otherEdition, eachField, numbersFit, resultWithin, bundleTurned, behindHeader, entriesRead, lineCount, madeBy, unsigneds, linesFit, unsignedsBytes, linesTurned, fieldsTurned, proofTurned, turnBundle, turnProof}
@@ -56,7 +57,7 @@ const SHOW: &str = "nth partOf constraintPart shownPart answerOf showAnswer hand
 const SEATS: &str =
     "isWaiting submission cancellation nextFrom nextSeat checkJob turnAt turned changed";
 const TEST: &str = "each sum value finished formulaTagged compound formulaSize formulaOf formulaField twoParts formulaWithin readFormula holds judge tested judged testFormula";
-
+const LIST: &str = "over fit written vectors listed truths testList";
 const TURN_BUNDLE: &str =
     "asked otherEdition behindHeader eachField each kindNumber kindsOf numbersOf numbersFit constraintsBytes holdable encodeBundle resultWithin bundleTurned turnBundle";
 const TURN_PROOF: &str = "asked otherEdition eachField atMost formBytes finished entryTagged inPlace lineNumber multiplier sizeOf entryFrom entry behindHeader entriesRead lineCount madeBy unsigneds linesFit unsignedsBytes linesTurned fieldsTurned resultWithin proofTurned turnProof";
@@ -254,6 +255,15 @@ fn statement(case: &[&str]) -> (String, String) {
         ["turn-proof", file, edition, lent, words @ .., output] => (
             turned("turnProof", edition, file, words, lent, output),
             format!("{SHARED} {WRITING} {TURN_PROOF}"),
+        ),
+        ["list", file, k, values, lent, words @ .., output] => (
+            format!(
+                "testList {} {k} ({}) (replicate {lent} 0xAA) ≡ {}",
+                bytes(file),
+                integers(values),
+                written(words, lent, output)
+            ),
+            format!("{SHARED} {TEST} {LIST}"),
         ),
         other => panic!("no case: {other:?}"),
     }

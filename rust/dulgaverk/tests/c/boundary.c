@@ -324,6 +324,45 @@ static void testing(void) {
     EXPECT(is(t.answer, 1, 3, 0) && !t.holds);
 }
 
+/* The formula of stage 1 at lists of vectors of three values. */
+static void testing_lists(void) {
+    static const int32_t list[] = {1, 4, -7, 1, -3, 0, 0, -1000000, 5}, outside[] = {1, 4, -7, 1, 1000001, 0};
+    static const int32_t many[272] = {0};
+    uint8_t out[5];
+    FILL(out);
+    /* 7, where the list is not whole vectors too: 272 is not 16, and nothing is divided by 0. */
+    static const size_t wrong[] = {0, 17, 272, 65552, SIZE_MAX};
+    for (size_t i = 0; i < sizeof wrong / sizeof wrong[0]; i += 1) {
+        dulgaverk_write_result r = dulgaverk_test_list(formula, sizeof formula, wrong[i], many, 272, out, sizeof out);
+        EXPECT(is(r.answer, 7, 4, 0) && r.count == 0);
+        r = dulgaverk_test_list(formula, sizeof formula, wrong[i], NULL, 0, out, sizeof out);
+        EXPECT(is(r.answer, 7, 4, 0) && r.count == 0);
+    }
+    dulgaverk_write_result r = dulgaverk_test_list(formula, sizeof formula, 3, list, 8, out, sizeof out);
+    EXPECT(is(r.answer, 7, 4, 0) && r.count == 0);
+    /* 23 at the index in the whole list, before the formula. */
+    r = dulgaverk_test_list(NULL, 0, 3, outside, 6, out, 0);
+    EXPECT(is(r.answer, 23, 4, 4) && r.count == 0);
+    /* The formula before 21, for an empty list too. */
+    r = dulgaverk_test_list(formula, 8, 3, list, 9, out, 0);
+    EXPECT(is(r.answer, 2, 3, 8) && r.count == 0);
+    r = dulgaverk_test_list(formula, 8, 3, NULL, 0, NULL, 0);
+    EXPECT(is(r.answer, 2, 3, 8) && r.count == 0);
+    r = dulgaverk_test_list(formula, sizeof formula, 1, list, 9, out, sizeof out);
+    EXPECT(is(r.answer, 9, 3, 4) && r.count == 0);
+    static const uint8_t long_file[DULGAVERK_PROOF + 1];
+    r = dulgaverk_test_list(long_file, sizeof long_file, 3, list, 9, out, sizeof out);
+    EXPECT(is(r.answer, 1, 3, 0) && r.count == 0);
+    r = dulgaverk_test_list(formula, sizeof formula, 3, list, 9, out, 2);
+    EXPECT(is(r.answer, 21, 4, 3) && r.count == 0);
+    UNCHANGED(out);
+    r = dulgaverk_test_list(formula, sizeof formula, 3, NULL, 0, NULL, 0);
+    EXPECT(is(r.answer, 0, 0, 0) && r.count == 0);
+    r = dulgaverk_test_list(formula, sizeof formula, 3, list, 9, out, sizeof out);
+    EXPECT(is(r.answer, 0, 0, 0) && r.count == 3);
+    EXPECT(out[0] == 1 && out[1] == 0 && out[2] == 1 && all(out + 3, 2, 0xA5));
+}
+
 /* A register at least 40,000 in A and at most 30,000 in B: a proof of edition 2, and one of edition 1 over the same. */
 static void editions(void) {
     static const uint8_t most[] = {0x01, 0, 1, 2, 0x02, 0, 1, 1, 0x03, 0, 8, 0, 0, 0, 1, 0xFF, 0xFF, 0x8A, 0xD0};
@@ -544,6 +583,7 @@ int main(void) {
     branches();
     editions();
     testing();
+    testing_lists();
     scheduling();
     turning();
     return differences < 100 ? differences : 100;

@@ -1,0 +1,2 @@
+-- A formula judged at a block of vectors.
+pub mod Blocks

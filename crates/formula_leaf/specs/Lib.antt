@@ -1,0 +1,3 @@
+-- Leaves of a formula, and truths as bits.
+pub mod Leaves
+pub mod Masks

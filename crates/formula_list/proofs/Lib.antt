@@ -1,0 +1,3 @@
+-- Laws of the stages of testing a list.
+pub mod Stages
+pub mod Permitted
