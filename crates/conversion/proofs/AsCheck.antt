@@ -7,15 +7,15 @@ use Prim.Native.Nat.{ℕ, zero, suc, _-_, _≤_}
 use native.Mathlib.Omega.{arith}
 use borrow.Author.Tests.{leb-true, eq-eqb, ne-eqb}
 use mir.Facts.{and-yes}
-use lib.Dec.{T, leb, eqb, leb→le, le→leb}
+use lib.Dec.{T, leb, eqb, leb→le}
 use lib.ListN.{length}
 use Rattle.forms.specs.Edition.{Edition, edition, edition1, newestEdition}
 use Rattle.forms.specs.Forms.{Form, Side, Line, Formula}
 use Rattle.calculus.specs.Rules.{Row, Derive, Strengthen, CloseNumber, CloseStride, Round, Split, Inference, Combine, Reduce, Scale, Entry, row, claim}
 use Rattle.answers.specs.declared.Answer.{Answer}
 use Rattle.answers.specs.declared.Position.{Position}
-use Rattle.answers.specs.Answers.{answer, refusalAt, fileA, fileB, fileProof, fileLent, Result, refused, accepted, _>>=_, _>>_, need, found, fit, written}
-use Rattle.answers.proofs.Results.{never, binds, passes, needs, fail, bind-refused, then-refused}
+use Rattle.answers.specs.Answers.{answer, refusalAt, fileA, fileB, fileProof, Result, refused, accepted, _>>=_, _>>_, need, found, fit, written}
+use Rattle.answers.proofs.Results.{binds, passes, bind-refused, then-refused}
 use Rattle.fields.specs.declared.FileKind.{FileKind}
 use Rattle.fields.specs.Fields.{Field, Fields, ends, cut, _▸_, fields}
 use Rattle.fields.specs.Header.{Header, known, agrees, headerField, editionField, constantsField, header, finished}
@@ -28,7 +28,7 @@ use Rattle.proof.specs.Rows.{lineAt, derived, fitting, inequality, roundable, d
 use Rattle.proof.specs.Check.{Closing, Checker, Following, there, checkRounded, checkSplit, checkRow, checkEntry, checkEntries, checkBranch, checkProof, formulaAtMost, interpolant, checkBy, check}
 use Rattle.proof.proofs.Says.{Says, says-refused, says-accepted, bind, seq, says-need, test, finds, weaken}
 use Rattle.proof.proofs.Entered.{entry-unknown, entry-none, entry-out, entry-in}
-use Rattle.conversion.specs.Turning.{other, asked, otherEdition, makesLine, entriesRead, proofTurned}
+use Rattle.conversion.specs.Turning.{other, otherEdition, makesLine, entriesRead, proofTurned}
 use Rattle.conversion.proofs.Asking.{Asked, down, up, asked-accepted, said-gives}
 
 -- ---- what a row refuses has a number above 7

@@ -1,26 +1,22 @@
 -- A bundle that is turned is the file of the same constraints in the other edition, and turned back it is what it was, without notes. Assumes nothing.
-use mathlib.Core.Path.{_≡_, refl, sym, _∙_, ap, ap₂, subst}
-use mathlib.Core.Logic.{_⊎_, inl, inr, _↔_}
+use mathlib.Core.Path.{_≡_, sym, _∙_, ap, subst}
+use mathlib.Core.Logic.{_⊎_}
 use mathlib.Core.Option.{Option, none, some}
-use mathlib.Core.Bool.{Bool, true, _&&_}
-use mathlib.Core.List.{List, [], _∷_, _++_, map}
-use Prim.Native.Nat.{ℕ, _+_, _^_, _≤_, _<_}
+use mathlib.Core.List.{List, [], _∷_, _++_}
+use Prim.Native.Nat.{ℕ, _+_, _≤_}
 use native.Mathlib.Omega.{arith}
-use mir.Facts.{and-yes}
-use lib.Dec.{T, ltb, ltb→lt}
-use lib.IntN.{ℤ, pos, negsuc}
-use lib.Signed.{mag}
+use lib.Dec.{T}
 use lib.ListN.{length}
-use Rattle.forms.specs.Edition.{Edition, edition, edition1, newestEdition}
+use Rattle.forms.specs.Edition.{Edition, edition, newestEdition}
 use Rattle.forms.proofs.Editions.{coefficientWidth-is, bundleBytes-grows}
 use Rattle.forms.specs.Forms.{Form, Constraint, All, nil, cons, every, small}
-use Rattle.answers.specs.Answers.{answer, fileA, Result, accepted, _>>=_, _>>_}
-use Rattle.answers.proofs.Results.{Gives, gives-accepted, weaken, bind, seq, binds, passes}
-use Rattle.number_bytes.specs.Numbers.{Bytes, flat, formFrom, signeds}
-use Rattle.number_bytes.specs.Ranges.{InWidth, FormInWidth}
+use Rattle.answers.specs.Answers.{fileA, accepted, _>>=_, _>>_}
+use Rattle.answers.proofs.Results.{Gives, weaken, bind, seq, binds, passes}
+use Rattle.number_bytes.specs.Numbers.{Bytes, flat, formFrom}
+use Rattle.number_bytes.specs.Ranges.{FormInWidth}
 use Rattle.number_bytes.proofs.Signed.{length-signeds, all-weaken}
 use Rattle.fields.specs.declared.FileKind.{FileKind}
-use Rattle.fields.specs.Fields.{Fields, Item, item, fields, items, Framed, fileOf, withoutNotes}
+use Rattle.fields.specs.Fields.{Fields, Item, item, fields, Framed, fileOf, withoutNotes}
 use Rattle.fields.specs.Header.{headerTag, known, agrees}
 use Rattle.fields.proofs.Framing.{items-fileOf}
 use Rattle.fields.proofs.Contents.{ItemBytes, contents-bytes}
@@ -30,10 +26,10 @@ use Rattle.bundle.specs.Read.{kindsOf, numbersOf}
 use Rattle.bundle.specs.Write.{holdable}
 use Rattle.bundle.proofs.Laid.{Lists, done, next, listed, AllSmall, Laid, bundle-gives, bundle-accepts, short-gives, short-accepted}
 use Rattle.bundle.proofs.Every.{every-of, of-every}
-use Rattle.bundle.proofs.Writable.{FormsInWidth, bytesOf, bytesOf-file, sized, bundleItems, constraintItem, bundleItems-framed, bundleItems-bare, bundleItems-short, constraintItems-state, restated, holdable-both, holdable-in, all-append, all-both}
+use Rattle.bundle.proofs.Writable.{FormsInWidth, bytesOf, bytesOf-file, sized, bundleItems, bundleItems-short, restated, holdable-both, holdable-in, all-append, all-both}
 use Rattle.bundle.proofs.RoundTrips.{items-file}
 use Rattle.conversion.specs.Turning.{other, asked, otherEdition, eachField, numbersFit, bundleTurned, behindHeader}
-use Rattle.conversion.proofs.Asking.{Asked, down, up, asked-gives, asked-accepted, other-first, other-last, asked-first, asked-last, asked-back, other-other, other-gives, other-accepted, same-edition, Fit, ends-fit, next-fits, each-field-gives, each-field-accepted, within-gives, within-accepted, behind}
+use Rattle.conversion.proofs.Asking.{Asked, asked-gives, asked-accepted, asked-first, asked-last, asked-back, other-other, other-gives, other-accepted, same-edition, Fit, ends-fit, next-fits, each-field-gives, each-field-accepted, within-gives, within-accepted, behind}
 
 -- ---- numbers that a width holds
 -- Each number of each constraint.

@@ -1,8 +1,7 @@
 -- A row whose line numbers are turned states the same entry. Assumes nothing.
 use mathlib.Core.Path.{_≡_, refl, sym, _∙_, ap, ap₂, subst}
-use mathlib.Core.Logic.{_⊎_, inl, inr}
-use mathlib.Core.Option.{Option, none, some}
-use mathlib.Core.Bool.{Bool, true, false}
+use mathlib.Core.Option.{Option, some}
+use mathlib.Core.Bool.{false}
 use mathlib.Core.List.{List, [], _∷_, _++_, map, append-assoc}
 use Prim.Native.Nat.{ℕ, zero, suc, _+_, _*_, _-_, _^_, _≤_, _<_}
 use native.Mathlib.Nat.{suc-mul}
@@ -11,11 +10,11 @@ use mir.Facts.{and-yes, yes-and}
 use lib.Dec.{T, ltb, ltb→lt, lt→ltb}
 use lib.ListN.{length, take, drop, length-append, length-drop, take-append-drop}
 use lib.Seq.{take-at, drop-at, drop-append-add, drop-drop, length-take-le}
-use Rattle.forms.specs.Edition.{Edition, edition, edition1}
+use Rattle.forms.specs.Edition.{edition, edition1}
 use Rattle.forms.proofs.Editions.{lineWidth-most}
 use Rattle.forms.specs.Forms.{All, nil, cons, every}
 use Rattle.calculus.specs.Rules.{Entry}
-use Rattle.number_bytes.specs.Numbers.{Bytes, unsigned, unsignedBytes, unsigneds, unsignedsBytes, formFrom, formWidth}
+use Rattle.number_bytes.specs.Numbers.{Bytes, unsigned, unsignedBytes, unsigneds, unsignedsBytes}
 use Rattle.number_bytes.proofs.Signed.{length-unsignedBytes, unsigned-unsignedBytes, unsigned-below, unsignedBytes-unsigned, all-take, all-drop}
 use Rattle.fields.specs.Fields.{Item, item, note, Framed}
 use Rattle.fields.proofs.HeaderLaid.{by-tag}

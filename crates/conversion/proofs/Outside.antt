@@ -1,5 +1,5 @@
 -- No answer of turning tells a row, step or branch. Assumes nothing.
-use mathlib.Core.Path.{_≡_, refl}
+use mathlib.Core.Path.{refl}
 use mathlib.Core.Bool.{Bool, true, false}
 use mathlib.Core.List.{List}
 use mathlib.Core.Option.{Option, none}
@@ -7,13 +7,12 @@ use Prim.Native.Nat.{ℕ, suc}
 use lib.Dec.{leb}
 use lib.ListN.{length}
 use Rattle.forms.specs.Edition.{Edition, edition, newestEdition}
-use Rattle.answers.specs.declared.Answer.{Answer}
 use Rattle.answers.specs.Answers.{answer, fileA, fileProof, Result, refused, accepted, fit, written}
 use Rattle.fields.specs.declared.FileKind.{FileKind}
 use Rattle.fields.specs.Fields.{Field, Fields, ends, cut, _▸_, Item, fields}
 use Rattle.fields.specs.Header.{headerField, editionField, constantsField, header}
 use Rattle.bundle.specs.Bundle.{atMost, constraints, bundleHeader, bundle}
-use Rattle.proof.specs.Entries.{entryTagged, entry}
+use Rattle.proof.specs.Entries.{entry}
 use Rattle.proof.specs.Tree.{Outside}
 use Rattle.proof.proofs.Says.{Says, says-refused, says-accepted, bind, seq, says-need, test, finds, weaken}
 use Rattle.conversion.specs.Turning.{asked, otherEdition, eachField, resultWithin, makesLine, entriesRead, bundleTurned, turnBundle, proofTurned, turnProof}

@@ -10,16 +10,15 @@ use borrow.Author.Tests.{le-ltb, leb-true, leb-false}
 use lib.Dec.{leb, ltb, lt→ltb}
 use lib.ListN.{length}
 use Rattle.forms.specs.Edition.{Edition, edition}
-use Rattle.forms.specs.Forms.{Form, ≤0, =0, Line, line, lineApart, neg, Formula, _divides_, _and_, _or_, _plus_}
-use Rattle.forms.specs.Reduced.{reduced}
-use Rattle.calculus.specs.Rules.{Nth, _▷_, Room, Rounds, StrideOf, Closed, derive, strengthen, round, splitEq, splitNeq, number, stride, Rounded, last, more, Row, Derive, Strengthen, CloseNumber, CloseStride, Round, Split, Inference, Entry, row, claim, entries, entriesRounded, rowCount, rowCountRounded, depth, depthRounded}
+use Rattle.forms.specs.Forms.{Form, ≤0, =0, Line, line, lineApart, neg, Formula, _and_, _or_, _plus_}
+use Rattle.calculus.specs.Rules.{Nth, _▷_, Room, Rounds, Closed, derive, strengthen, round, splitEq, splitNeq, number, stride, Rounded, last, more, Strengthen, Round, Split, Entry, row, entries, entriesRounded, rowCount, rowCountRounded, depth, depthRounded}
 use Rattle.calculus.proofs.Sides.{Side, A, B}
 use Rattle.calculus.proofs.Vocabulary.{Words, words-new, words-raised, words-1, words-E, words-0, words-neg, words-neg-0}
 use Rattle.answers.specs.declared.Answer.{Answer}
 use Rattle.answers.specs.declared.Position.{Position}
 use Rattle.answers.specs.Answers.{refusalAt, fileProof, Result, refused, accepted, _>>=_, _>>_}
 use Rattle.answers.proofs.Results.{binds, passes, needs, found-some, fail, bind-refused, then-refused}
-use Rattle.fields.specs.Fields.{Field, Fields, ends, cut, _▸_, item}
+use Rattle.fields.specs.Fields.{Fields}
 use Rattle.bundle.proofs.Laid.{Lists, next}
 use Rattle.proof.specs.Rows.{roundable, fitting}
 use Rattle.proof.specs.Check.{Closing, Checker, Following, there, checkRounded, checkSplit, checkRow, checkEntry, checkEntries, checkBranch}

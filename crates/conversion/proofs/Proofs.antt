@@ -2,21 +2,21 @@
 use mathlib.Core.Path.{_≡_, refl, sym, _∙_, ap, ap₂, subst}
 use mathlib.Core.Option.{Option, none, some}
 use mathlib.Core.Bool.{Bool, true, false}
-use mathlib.Core.List.{List, [], _∷_, _++_, map, append-assoc}
+use mathlib.Core.List.{List, [], _∷_, _++_, map}
 use Prim.Native.Nat.{ℕ, _≤_}
 use native.Mathlib.Omega.{arith}
 use lib.Dec.{T, eqb→eq, eqb-refl}
 use lib.ListN.{length, length-append}
 use Rattle.forms.specs.Edition.{Edition, edition, edition1, newestEdition}
 use Rattle.forms.specs.Forms.{Form, All, nil, cons}
-use Rattle.calculus.specs.Rules.{Row, Derive, Strengthen, CloseNumber, CloseStride, Round, Split, Entry, row, claim}
-use Rattle.answers.specs.Answers.{answer, fileProof, Result, accepted, _>>=_, _>>_}
+use Rattle.calculus.specs.Rules.{Entry, claim}
+use Rattle.answers.specs.Answers.{answer, fileProof, accepted, _>>=_, _>>_}
 use Rattle.answers.proofs.Results.{Gives, gives-refused, gives-accepted, weaken, bind, seq, test, finds, binds, passes, needs, found-some}
 use Rattle.number_bytes.specs.Numbers.{Bytes}
 use Rattle.fields.specs.declared.FileKind.{FileKind}
 use Rattle.fields.specs.Fields.{Field, Fields, ends, cut, _▸_, Item, item, fields, items, note, Framed, fieldBytes, fileOf, withoutNotes, unlessNoteItem}
-use Rattle.fields.specs.Header.{headerTag, known, agrees, Header, headerBytes}
-use Rattle.fields.proofs.HeaderLaid.{first-of, not-empty, LaidHeader, header-gives, header-read, next-items}
+use Rattle.fields.specs.Header.{headerTag, known, agrees, headerBytes}
+use Rattle.fields.proofs.HeaderLaid.{first-of, not-empty, header-gives, header-read, next-items}
 use Rattle.fields.proofs.Framing.{items-fileOf}
 use Rattle.fields.proofs.Contents.{ItemBytes, contents-bytes}
 use Rattle.bundle.specs.Layout.{Each}
@@ -27,7 +27,7 @@ use Rattle.proof.specs.Layout.{Enters, ProofFile}
 use Rattle.proof.proofs.Entered.{entry-known}
 use Rattle.conversion.specs.Turning.{other, linesFit, linesTurned, fieldsTurned, makesLine, entriesRead, resultWithin, proofTurned}
 use Rattle.conversion.specs.Turnable.{InTurn, none-left, a-row, a-claim, turnedItem}
-use Rattle.conversion.proofs.Asking.{Asked, down, up, asked-gives, asked-accepted, other-first, other-last, asked-first, asked-last, asked-back, other-other, other-gives, other-accepted, same-edition, Fit, ends-fit, cut-fit, next-fits, each-field-gives, each-field-accepted, within-gives, within-accepted}
+use Rattle.conversion.proofs.Asking.{Asked, asked-gives, asked-accepted, other-first, other-last, asked-first, asked-last, asked-back, other-other, other-gives, other-accepted, same-edition, Fit, ends-fit, cut-fit, next-fits, each-field-gives, each-field-accepted, within-gives, within-accepted}
 use Rattle.conversion.proofs.Carried.{turned-enters, turned-framed, entry-no-note, back-fits, back-same}
 
 -- ---- entries with each claim in its place

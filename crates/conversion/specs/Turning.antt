@@ -77,6 +77,7 @@ unfoldable pub turnBundle : (to : ℕ) (file output : List ℕ) → Written
 turnBundle to file output = written (bundleTurned to file) output
 
 -- ---- a proof: from the edition e to e′, each line number in the other width
+-- The line numbers that a field begins with; a claim has none.
 abbrev pub linesNamed : (e : Edition) → Item → List ℕ
 linesNamed e i = unsigneds (e .lineWidth) (lineCount (entryTagged (i .tag))) (i .contents)
 

@@ -18,7 +18,7 @@ ghost use Rattle.answers.specs.Answers.{fileProof};
 ghost use Rattle.number_bytes.specs.Numbers.{unsigned, unsigneds};
 ghost use Rattle.fields.specs.Places.{fieldsAt};
 ghost use Rattle.proof.specs.Entries.{entryTagged, lineCount};
-ghost use Rattle.conversion.specs.Turning.{eachField, linesFit, linesTurned, fieldsTurned, entriesRead};
+ghost use Rattle.conversion.specs.Turning.{eachField, linesFit};
 ghost use Rattle.conversion_survey.specs.Going.{surveyOf, sizedAs, LaidOut, ReadAs, LinesThere};
 
 // Nothing is amiss; or the first fault and its place.

@@ -1,20 +1,20 @@
 -- Laws for each way through turn_proof and turn_bundle. Assumes nothing.
-use mathlib.Core.Path.{_≡_, refl, sym, _∙_, ap, ap₂, subst}
-use mathlib.Core.Option.{none, some}
+use mathlib.Core.Path.{_≡_, refl, sym, _∙_, ap, ap₂}
+use mathlib.Core.Option.{none}
 use mathlib.Core.Bool.{Bool, true, false, _&&_}
-use mathlib.Core.List.{List, [], _∷_, _++_}
+use mathlib.Core.List.{List, _++_}
 use Prim.Native.Nat.{ℕ, _+_, _≤_, _<_}
 use native.Mathlib.Omega.{arith}
 use borrow.Author.Tests.{le-leb, lt-leb}
 use mir.Facts.{and-yes}
-use lib.Dec.{leb, T, le→leb, leb→le}
+use lib.Dec.{leb, le→leb, leb→le}
 use lib.ListN.{length, length-append}
 use lib.Seq.{sets, length-sets}
-use Rattle.forms.specs.Edition.{edition, edition1, newestEdition}
+use Rattle.forms.specs.Edition.{edition, newestEdition}
 use Rattle.calculus.specs.Rules.{Entry}
 use Rattle.answers.specs.declared.Answer.{Answer}
 use Rattle.answers.specs.declared.WriteResult.{WriteResult}
-use Rattle.answers.specs.Answers.{answer, acceptance, fileA, fileProof, fileLent, Result, refused, accepted, _>>=_, _>>_, need, over, fit, Written, written, writtenOf}
+use Rattle.answers.specs.Answers.{answer, acceptance, fileA, fileProof, fileLent, refused, accepted, _>>=_, _>>_, need, over, fit, written}
 use Rattle.answers.proofs.Results.{passes, binds, bind-refused, then-refused, needs, fail}
 use Rattle.answers.proofs.Over.{sets-over}
 use Rattle.number_bytes.specs.Numbers.{unsignedBytes}
@@ -28,7 +28,7 @@ use Rattle.fields.proofs.HeaderLaid.{header-gives}
 use Rattle.bundle.specs.Bundle.{atMost}
 use Rattle.bundle.proofs.Laid.{Lists, done, next, short-accepted}
 use Rattle.proof.specs.Layout.{Enters}
-use Rattle.conversion.specs.Turning.{asked, otherEdition, eachField, resultWithin, linesFit, linesTurned, fieldsTurned, entriesRead, bundleTurned, turnBundle, proofTurned, turnProof}
+use Rattle.conversion.specs.Turning.{asked, resultWithin, entriesRead, bundleTurned, turnBundle, proofTurned, turnProof}
 use Rattle.conversion.specs.Promises.{TurnsBundle, TurnsProof}
 use Rattle.conversion.proofs.Carried.{there}
 use Rattle.conversion.proofs.Proofs.{entries-give}

@@ -1,29 +1,28 @@
 -- What is promised of turning holds. Assumes nothing.
-use mathlib.Core.Path.{_≡_, refl, sym, _∙_, ap, ap₂, subst}
+use mathlib.Core.Path.{_≡_, refl, sym, _∙_, ap, subst}
 use mathlib.Core.Logic.{_⊎_, inl, inr}
 use mathlib.Core.Option.{none, some}
 use mathlib.Core.Bool.{Bool, true, false, _&&_}
-use mathlib.Core.List.{List, []}
-use Prim.Native.Nat.{ℕ, zero, suc, _≤_, _<_}
+use mathlib.Core.List.{List}
+use Prim.Native.Nat.{ℕ, suc, _≤_, _<_}
 use native.Mathlib.Omega.{arith}
-use borrow.Author.Tests.{lt-leb, leb-true, leb-false, ne-eqb, eqb-false}
-use lib.Dec.{leb, eqb, eqb→eq, T}
+use borrow.Author.Tests.{lt-leb, leb-true, leb-false, eqb-false}
+use lib.Dec.{leb, eqb, T}
 use lib.IntN.{ℤ}
 use lib.ListN.{length, take, drop}
 use lib.Seq.{take-at}
 use Rattle.forms.specs.Edition.{Edition, edition, newestEdition}
-use Rattle.forms.specs.Forms.{All, Constraint, Formula}
+use Rattle.forms.specs.Forms.{All, Formula}
 use Rattle.answers.specs.declared.Answer.{Answer}
 use Rattle.answers.specs.declared.WriteResult.{WriteResult}
-use Rattle.answers.specs.Answers.{answer, acceptance, fileA, fileProof, fileLent, Result, refused, accepted, _>>=_, _>>_, need, over, fit, Written, written, writtenOf}
+use Rattle.answers.specs.Answers.{answer, fileA, fileProof, fileLent, Result, refused, accepted, _>>=_, _>>_, need, over, fit, Written, written, writtenOf}
 use Rattle.answers.proofs.Results.{Gives, never, not-0, binds, passes, needs, fail, bind-refused, then-refused}
 use Rattle.number_bytes.specs.Numbers.{Bytes}
 use Rattle.fields.specs.declared.FileKind.{FileKind}
-use Rattle.fields.specs.Fields.{Field, Fields, ends, cut, _▸_, Item, Framed, fileOf, withoutNotes, fields}
-use Rattle.fields.specs.Header.{Header, headerTag, known, headerField, editionField, constantsField}
-use Rattle.fields.proofs.Framing.{items-fileOf}
-use Rattle.bundle.specs.Bundle.{Bundle, atMost, kindTagged, formSmall, constraints, bundleHeader, bundle}
-use Rattle.bundle.specs.Layout.{StatesAll, BundleFile, editionSaid, Says}
+use Rattle.fields.specs.Fields.{Fields, ends, cut, _▸_, Item, Framed, fileOf, fields}
+use Rattle.fields.specs.Header.{headerTag, known, headerField, editionField, constantsField}
+use Rattle.bundle.specs.Bundle.{Bundle, atMost, kindTagged, constraints, bundleHeader, bundle}
+use Rattle.bundle.specs.Layout.{BundleFile, editionSaid, Says}
 use Rattle.bundle.specs.Read.{BundleRead, kindsOf, numbersOf, unread, store, stored, readBundle}
 use Rattle.bundle_read.specs.declared.ReadResult.{ReadResult}
 use Rattle.bundle_read.specs.Promises.{Reads}
@@ -40,8 +39,8 @@ use Rattle.conversion.specs.Widest.{widest}
 use Rattle.conversion.specs.Promises.{TurnsBundle, TurnsProof}
 use Rattle.conversion.proofs.Asking.{Asked, down, up, asked-accepted, said-gives, within-accepted}
 use Rattle.conversion.proofs.Outside.{proof-outside}
-use Rattle.conversion.proofs.AsCheck.{Refuses, as-check as check-refused}
-use Rattle.conversion.proofs.Bundles.{bundle-turned-gives, bundle-back, BundleTurns, result-short}
+use Rattle.conversion.proofs.AsCheck.{as-check as check-refused}
+use Rattle.conversion.proofs.Bundles.{bundle-turned-gives, bundle-back, result-short}
 use Rattle.conversion.proofs.Proofs.{proof-turned-gives, proof-back}
 use Rattle.conversion.proofs.Checked.{bundle-restated, proof-restated, BundleChosen, as-it-is as as-is, turned as is-turned, yields-same, yields-up, yields-down, overflows-down, same-left, overflow-left, Left16}
 use Rattle.conversion.specs.Turnable.{BundleTurnable, ProofTurnable}

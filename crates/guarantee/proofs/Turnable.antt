@@ -3,8 +3,8 @@ use mathlib.Core.Path.{_≡_, refl, sym, _∙_, ap, subst}
 use mathlib.Core.Logic.{_⊎_, inl, inr}
 use mathlib.Core.Option.{none, some}
 use mathlib.Core.Bool.{false}
-use mathlib.Core.List.{List, [], _∷_, _++_, map}
-use Prim.Native.Nat.{ℕ, suc, _*_, _^_, _≤_, _<_}
+use mathlib.Core.List.{List, _∷_, _++_, map}
+use Prim.Native.Nat.{ℕ, suc, _^_, _≤_, _<_}
 use native.Mathlib.Omega.{arith}
 use lib.Dec.{T, leb→le}
 use lib.IntN.{ℤ, natAbs}
@@ -14,12 +14,12 @@ use Rattle.forms.specs.Edition.{edition, edition1, edition2, newestEdition}
 use Rattle.forms.specs.Forms.{Form, All, nil, cons, Constraint, small, every}
 use Rattle.forms.proofs.Editions.{coefficientWidth-is}
 use Rattle.calculus.specs.Rules.{Entry}
-use Rattle.answers.specs.Answers.{answer, fileA, fileProof, Result, refused, accepted}
+use Rattle.answers.specs.Answers.{answer, fileA, fileProof, refused, accepted}
 use Rattle.answers.proofs.Results.{passes, binds, then-refused}
 use Rattle.number_bytes.specs.Numbers.{Bytes, flat}
 use Rattle.number_bytes.proofs.Signed.{all-weaken}
 use Rattle.fields.specs.declared.FileKind.{FileKind}
-use Rattle.fields.specs.Fields.{Field, Item, fields, fileOf, nth}
+use Rattle.fields.specs.Fields.{Field, Item, fields, nth}
 use Rattle.fields.specs.Header.{headerTag, known, agrees}
 use Rattle.fields.proofs.HeaderLaid.{header-read}
 use Rattle.fields.proofs.Contents.{ItemBytes, contents-bytes}
@@ -34,10 +34,10 @@ use Rattle.proof.specs.Layout.{Enters, ProofFile}
 use Rattle.conversion.specs.Turning.{other, linesNamed, linesFit, numbersFit, behindHeader, bundleTurned, proofTurned, resultWithin}
 use Rattle.conversion.specs.Turnable.{BundleTurnable, ProofTurnable, InTurn, turnedItem}
 use Rattle.conversion.proofs.Asking.{Asked, down, up, asked-accepted, other-accepted}
-use Rattle.conversion.proofs.Bundles.{AllHeld, file-widths, body-lists, BundleTurns, bundle-turned-gives, bundle-turned-accepts}
+use Rattle.conversion.proofs.Bundles.{AllHeld, file-widths, body-lists, BundleTurns, bundle-turned-accepts}
 use Rattle.conversion.proofs.Carried.{below-own, every-below, below-every, there}
 use Rattle.conversion.proofs.First.{first-unfit, lists-items, rest-gives, nth-behind}
-use Rattle.conversion.proofs.Proofs.{ProofTurns, entries-accept, proof-turned-gives, proof-turned-as}
+use Rattle.conversion.proofs.Proofs.{ProofTurns, entries-accept, proof-turned-as}
 use Rattle.guarantee.proofs.Acceptance.{held-two, two-held, four-held}
 
 to-ask : {to : ℕ} → Asked to → (to ≡ 1) ⊎ (to ≡ 2)

@@ -18,7 +18,7 @@ use Rattle.answers.specs.declared.Position.{Position}
 use Rattle.answers.specs.Answers.{refusalAt, Result, accepted, _>>=_, found}
 use Rattle.fields.specs.Fields.{Field, Fields, ends, cut, _▸_}
 use Rattle.bundle.specs.Layout.{Each, nil, cons}
-use Rattle.proof.specs.Entries.{EntryTag, combineTag, reduceTag, scaleTag, strengthenTag, numberTag, strideTag, roundTag, splitTag, claimTag, entryTagged, inPlace, sizeOf, entryFrom, entry}
+use Rattle.proof.specs.Entries.{EntryTag, entryTagged, inPlace, sizeOf, entryFrom, entry}
 use Rattle.proof.specs.Rows.{is, plainKind, owner, fails, sameForm, undivided, lineAt, derived, fitting, inequality, roundable, disequality, byNumber, byStride, states}
 use Rattle.proof.specs.Check.{Closing, Checker, Following, there, checkRounded, checkSplit, checkRow, checkEntry, checkEntries, checkBranch}
 use Rattle.reordering.proofs.MappedContents.{ContentsMap, KeepsLength, mapFields}

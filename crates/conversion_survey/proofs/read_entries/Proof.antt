@@ -1,5 +1,5 @@
 -- `conversion_survey::read_entries` meets its contract: what is left to read and to count from here is the whole from the start. Assumes nothing.
-use mathlib.Core.Path.{_≡_, refl, sym, _∙_}
+use mathlib.Core.Path.{_≡_, refl, _∙_}
 use mathlib.Core.Bool.{true, false}
 use Prim.Native.Nat.{_+_, _-_, _≤_}
 use lib.ListN.{length}

@@ -1,5 +1,4 @@
 -- `conversion_write::put_entry` meets its contract. Assumes nothing.
-use mathlib.Core.Path.{_≡_, sym, _∙_}
 use mathlib.Core.List.{_∷_}
 use Prim.Native.Nat.{_+_, _-_, _*_, _≤_}
 use lib.ListN.{length, drop}
@@ -8,7 +7,7 @@ use Rattle.number_bytes.specs.Numbers.{unsigneds, unsignedsBytes}
 use native.Mathlib.Omega.{arith}
 use Rattle.forms.specs.Edition.{edition}
 use Rattle.conversion_survey.proofs.Ways.{small-product, bytes-most}
-use Rattle.conversion_write.proofs.Putting.{entry-room, entry-put, second-room, N, wa, wb}
+use Rattle.conversion_write.proofs.Putting.{entry-room, entry-put, second-room}
 use borrow.Author.Needs.{needs}
 use Rattle.conversion_write.proofs.put_entry.Statement.{statement}
 use Rattle.conversion_write.proofs.put_entry.Tie as tie

@@ -1,5 +1,4 @@
 -- `conversion_write::put_lines` meets its contract. Assumes nothing.
-use mathlib.Core.Path.{_≡_, sym, _∙_}
 use Prim.Native.Nat.{_+_, _≤_}
 use lib.ListN.{length, take, drop}
 use Rattle.forms.specs.Edition.{edition}

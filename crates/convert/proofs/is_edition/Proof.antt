@@ -1,5 +1,4 @@
 -- `convert::is_edition` meets its contract. Assumes nothing.
-use native.Mathlib.Omega.{arith}
 use Rattle.convert.proofs.Whole.{edition-low, edition-zero}
 use borrow.Author.Needs.{needs}
 use Rattle.convert.proofs.is_edition.Statement.{statement}
