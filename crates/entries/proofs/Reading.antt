@@ -1,24 +1,23 @@
 -- What the code reads of a field is what the definitions give of its contents. Assumes nothing.
 use mathlib.Core.Path.{_≡_, refl, sym, ap, ap₂, _∙_}
-use mathlib.Core.Logic.{inl, inr}
-use mathlib.Core.Bool.{Bool, true, false, _&&_}
+use mathlib.Core.Bool.{Bool, true, false}
 use mathlib.Core.List.{List}
-use mathlib.Core.Option.{Option, none, some}
-use Prim.Native.Nat.{ℕ, suc, _+_, _*_, _≤_, _<_}
+use mathlib.Core.Option.{some}
+use Prim.Native.Nat.{ℕ, _+_, _*_, _≤_, _<_}
 use native.Mathlib.Omega.{arith}
-use lib.Dec.{eqb, leb}
+use lib.Dec.{eqb}
 use lib.ListN.{length, take, drop, length-drop}
 use lib.Seq.{length-take-le}
 use lib.IntN.{ℤ, pos, negsuc, natAbs}
 use lib.Signed.{mag}
-use borrow.Author.Tests.{eq-eqb, ne-eqb, leb-true, eqb-true}
+use borrow.Author.Tests.{eq-eqb, ne-eqb, eqb-true}
 use Rattle.integers.specs.Magnitude.{Within}
 use Rattle.forms.specs.Edition.{edition}
 use Rattle.forms.proofs.Editions.{lineWidth-some}
 use Rattle.forms.specs.declared.LineNumber.{LineNumber}
 use Rattle.calculus.specs.Rules as rules
 use Rattle.answers.specs.declared.Answer.{Answer}
-use Rattle.answers.specs.Answers.{refused, accepted, _>>=_, _>>_, need, found}
+use Rattle.answers.specs.Answers.{accepted, _>>=_, _>>_, need}
 use Rattle.number_bytes.specs.Numbers.{unsigned, signed}
 use Rattle.number_bytes.specs.Ranges.{Held}
 use Rattle.fields.specs.declared.FileKind.{FileKind}

@@ -1,6 +1,6 @@
 -- `number_bytes::copy::copy_bytes` meets its contract: after i turns the first i bytes are in place. Assumes nothing.
-use mathlib.Core.Path.{_≡_, refl, sym, _∙_, ap}
-use Prim.Native.Nat.{_+_, _-_, _≤_}
+use mathlib.Core.Path.{_≡_, refl}
+use Prim.Native.Nat.{_-_, _≤_}
 use lib.ListN.{take, drop}
 use lib.Seq.{sets}
 use native.Mathlib.Omega.{arith}
