@@ -37,7 +37,7 @@ extern "C" {
 #define DULGAVERK_CONSTRAINTS 32      /* constraints of a bundle */
 #define DULGAVERK_NUMBERS 544         /* numbers of a bundle: 32 constraints of 16 coefficients and d */
 #define DULGAVERK_BUNDLE 8192         /* bytes of a bundle; 4,096 in edition 1 */
-#define DULGAVERK_WRITTEN_BUNDLE 2280 /* bytes of a bundle that dulgaverk_write makes; 1,192 in edition 1 */
+#define DULGAVERK_WRITTEN_BUNDLE 2280 /* bytes of a bundle that dulgaverk_write or dulgaverk_turn_bundle makes; 1,192 in edition 1 */
 #define DULGAVERK_FIELD 71            /* bytes of a constraint's field; 37 in edition 1 */
 #define DULGAVERK_PROOF 65536         /* bytes of a proof, and of a formula */
 
@@ -47,16 +47,16 @@ extern "C" {
 /* What an operation answers. Accepted is 0, 0, 0 with no row, step or branch.
  *
  * number  meaning
- *      1  a file is longer than its limit, or a formula would be
+ *      1  a file is longer than its limit, or a formula or a turned proof would be
  *      2  bytes are no whole field, or a file ends too early
  *      3  a tag below 0x80 that this kind of file does not have
  *      4  a known tag where it may not stand
- *      5  an edition that this kind of file does not have
+ *      5  an edition that this kind of file does not have, or that a file to be turned has already
  *      6  a field of the wrong length
  *      7  the number of constants, or of values, is not 1 to 16, or a list is not whole vectors
  *      8  more than 32 constraints
  *      9  the number of constants is not the one given before
- *     10  a line that is not there
+ *     10  a line that is not there, or a line number that has no room in the edition asked for
  *     11  a line of the wrong kind
  *     12  a multiplier of 0, a stride below 2, or a rounding by 0 or more than 16
  *     13  a number of a new line, or of a bundle, is out of range
@@ -77,7 +77,7 @@ extern "C" {
  *     34  a part of a job does not lie in the buffer
  *     35  no job waits
  *
- *   file  1 A, or a bundle read alone; 2 B; 3 the proof or formula; 4 a lent output, or no file
+ *   file  1 A, or a bundle read or turned alone; 2 B; 3 the proof or formula; 4 a lent output, or no file
  *  place  the byte at which the field at fault starts, if nothing else is said
  *
  * The other three say where in the tree of a proof that is; 65,535 says that there is none.
@@ -139,7 +139,7 @@ typedef struct dulgaverk_job {
     dulgaverk_part proof;
 } dulgaverk_job;
 
-/* What stands at a seat: `waiting` is 1 where a job waits. A call that clears a slot sets all its numbers to 0. */
+/* What stands at a seat: `waiting` is 0 where no job waits; a submission sets it to 1. A call that clears a slot sets all its numbers to 0. */
 typedef struct dulgaverk_slot {
     size_t waiting;
     dulgaverk_job job;
@@ -226,7 +226,7 @@ dulgaverk_tested dulgaverk_test(const uint8_t *formula, size_t formula_length, c
 /* Turns a bundle, or a proof, into the other edition; `edition` is the one asked for, and may be any number. Notes are left
  * out, claims keep their form, and the rest of `out` stays.
  *
- * Accepted: the number of bytes written.
+ * Accepted: `count` bytes of `out`, at most 2,280 of a bundle and 65,536 of a proof.
  * Refused, in this order: 5 with file 4 and place 0 for every edition but 1 and 2; 1 for a bundle above 8,192 bytes (file 1)
  * or a proof above 65,536 (file 3), place 0; then a bundle as in reading, a proof as in check by 2, 3, 4, 6, 5 and 7 (no
  * line, row or branch is looked for), with 5 also where the file has the edition asked for; then, the file read whole and

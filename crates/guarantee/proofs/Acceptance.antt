@@ -41,6 +41,13 @@ use Rattle.proof.specs.Check.{formulaAtMost, interpolant, checkBy, check}
 use Rattle.proof.specs.Layout.{Yields, Certifies}
 use Rattle.proof.proofs.Agree.{interpolant-iff, interpolant-yields, interpolant-long, never-0, one-formula, agreed, agrees-refl}
 use Rattle.proof.specs.Promises.{Checks}
+use Rattle.scheduler.specs.declared.Job.{Job}
+use Rattle.scheduler.specs.declared.Scheduler.{Scheduler}
+use Rattle.scheduler.specs.declared.Turned.{Turned}
+use Rattle.scheduler.specs.Scheduler.{slotAt, part}
+use Rattle.scheduler.specs.Promises.{Turns}
+use Rattle.scheduler.specs.Fair.{AllLie, CheckedAlone}
+use Rattle.scheduler.proofs.Fair.{lie-or-not, answers}
 use Rattle.guarantee.specs.Acceptance.{Checkable, Readable, bundleFile, Writable, Showable, WrittenAs, ReadAs, Acceptance}
 use Rattle.guarantee.proofs.Refusals.{refusals}
 
@@ -351,10 +358,29 @@ unfolding fileOf fieldBytes
 contents-bytes [] h = nil
 contents-bytes (i ∷ is) h = cons (record { bytes = all-right (i .tag ∷ unsignedBytes 2 (length (i .contents))) (i .contents) (all-left (fieldBytes (i .tag) (i .contents)) (fileOf is) h) }) (contents-bytes is (all-right (fieldBytes (i .tag) (i .contents)) (fileOf is) h))
 
+-- ---- a turn
+module _ (s : Scheduler) (buffer output left : List ℕ) (r : Turned) (c : Turns s buffer output left r) where
+  turn-job : Job
+  turn-job = slotAt s (r .seat) .job
+
+  turn-checkable : Type 0
+  turn-checkable = Checkable (part buffer (turn-job .a)) (part buffer (turn-job .b)) (part buffer (turn-job .proof)) output
+
+  turn-accepts : r .result .answer .number ≡ 0 → (r .idle ≡ false) × AllLie buffer turn-job × turn-checkable
+  turn-accepts z = let e = refusals .turn s buffer output left r c .0 z in go e (answers .turn-serves s buffer output left r c e .4) (lie-or-not buffer turn-job)
+    where
+      go : r .idle ≡ false → CheckedAlone turn-job buffer output left (r .result) → AllLie buffer turn-job ⊎ (AllLie buffer turn-job → ⊥) → (r .idle ≡ false) × AllLie buffer turn-job × turn-checkable
+      go e a (inl l) = (e, l, is-checkable (a .checks l) z)
+      go e a (inr l) = let n : r .result .answer .number ≡ 34 = ap (λ (x : Answer). x .number) (a .outside l .0) in absurd (omega (arith, n, z))
+
+  turn-accepted : (r .idle ≡ false) × AllLie buffer turn-job × turn-checkable → r .result .answer .number ≡ 0
+  turn-accepted (e, l, k) = ap (λ (x : Answer). x .number) (leaves (answers .turn-serves s buffer output left r c e .4 .checks l) k .answer)
+
 -- Demand 2.
 pub acceptance-holds : Acceptance
 acceptance-holds = record {
   accepted-iff = λ A B proof output left r c. (is-checkable c, λ a. ap (λ (x : Answer). x .number) (leaves c a .answer));
+  turn-iff = λ s buffer output left r c. (turn-accepts s buffer output left r c, turn-accepted s buffer output left r c);
   writes = λ A B proof output left r c a. leaves c a;
   too-short = λ A B proof output left r c K I d h. ap (λ (w : Written). w .answer) (c .is) ∙ certified-short output A B proof K I d h;
   too-long = λ A B proof output left r c K I y h. ap (λ (w : Written). w .answer) (c .is) ∙ derived-long output A B proof K I y h;

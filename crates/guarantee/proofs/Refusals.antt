@@ -44,7 +44,7 @@ use Rattle.scheduler.specs.declared.Turned.{Turned}
 use Rattle.scheduler.specs.Scheduler.{slotAt, isWaiting}
 use Rattle.scheduler.specs.Promises.{Submits, Cancels, Turns}
 use Rattle.scheduler.specs.Fair.{AllLie, CheckedAlone}
-use Rattle.scheduler.proofs.Fair.{told-apart, answers}
+use Rattle.scheduler.proofs.Fair.{lie-or-not, answers}
 use Rattle.guarantee.specs.Refusals.{ToldByNumber, Refusals}
 
 -- ---- a result whose refusals all have a number that is given: neither 0 nor 22
@@ -243,7 +243,7 @@ turn-told s buffer output left r c = go (r .idle) refl
           refused-so 35 (x .3) (λ z. omega arith) (λ z. omega arith),
           λ _. (x .1, x .4),
         )
-    go false e = let (told, none) = served (answers .turn-serves s buffer output left r c e .4) (told-apart buffer job) in (λ _. e, told, none)
+    go false e = let (told, none) = served (answers .turn-serves s buffer output left r c e .4) (lie-or-not buffer job) in (λ _. e, told, none)
 
 -- Demand 1.
 pub refusals : Refusals

@@ -1,6 +1,7 @@
 -- Demand 2 of the user: what is accepted, what is then left, and that bundles survive writing and reading. Of what each operation's function ensures. Assumes nothing.
 use mathlib.Core.Path.{_≡_}
 use mathlib.Core.Logic.{_↔_, _⊎_}
+use mathlib.Core.Bool.{false}
 use mathlib.Core.List.{List, _++_}
 use Prim.Native.Nat.{ℕ, suc, _+_, _*_, _≤_, _<_}
 use lib.IntN.{ℤ, natAbs}
@@ -24,6 +25,11 @@ use Rattle.bundle_write.specs.Promises.{Writes}
 use Rattle.formula.specs.Formula.{formulaFile}
 use Rattle.proof.specs.Layout.{Yields, Certifies}
 use Rattle.proof.specs.Promises.{Checks}
+use Rattle.scheduler.specs.declared.Scheduler.{Scheduler}
+use Rattle.scheduler.specs.declared.Turned.{Turned}
+use Rattle.scheduler.specs.Scheduler.{slotAt, part}
+use Rattle.scheduler.specs.Promises.{Turns}
+use Rattle.scheduler.specs.Fair.{AllLie}
 
 -- ---- what each operation accepts
 -- Check: the rows form a closed proof, the files keep the layouts, rules and limits (`Certifies`), and the output is long enough for the formula that the rules assign.
@@ -88,6 +94,10 @@ pub record ReadAs (n K : ℕ) (kinds : List ℕ) (numbers : List ℤ) (lentKinds
 pub record Acceptance : Type 0 where
   -- ---- check
   pub accepted-iff : (A B proof output left : List ℕ) (r : WriteResult) → Checks A B proof output left r → r .answer .number ≡ 0 ↔ Checkable A B proof output
+  -- and so is that of a turn, just where it serves a job whose parts lie in the buffer and check accepts them (document 02, point 13)
+  pub turn-iff : (s : Scheduler) (buffer output left : List ℕ) (r : Turned) → Turns s buffer output left r → r .result .answer .number ≡ 0
+      ↔ ((r .idle ≡ false) × AllLie buffer (slotAt s (r .seat) .job)
+         × Checkable (part buffer (slotAt s (r .seat) .job .a)) (part buffer (slotAt s (r .seat) .job .b)) (part buffer (slotAt s (r .seat) .job .proof)) output)
   -- whatever the files certify is what is written
   pub writes : (A B proof output left : List ℕ) (r : WriteResult) → Checks A B proof output left r → (c : Checkable A B proof output)
       → WrittenAs (formulaFile edition1 (c .K) (c .formula)) output left (r .answer) (r .count)

@@ -60,7 +60,7 @@ pub record Refusals : Type 0 where
   -- submit and cancel: the scheduler is as it was
   pub submit : (s : Scheduler) (seat : ℕ) (job : Job) (r : Changed) → Submits s seat job r → ToldByNumber (r .answer) × (¬ (r .answer .number ≡ 0) → r .scheduler ≡ s)
   pub cancel : (s : Scheduler) (seat : ℕ) (r : Changed) → Cancels s seat r → ToldByNumber (r .answer) × (¬ (r .answer .number ≡ 0) → r .scheduler ≡ s)
-  -- a turn: as check (the scheduler is no lent buffer: its seat is cleared); 0 just where a job was accepted, so never of an idle one
+  -- a turn: as check (the scheduler is no lent buffer: its seat is cleared); 0 only of a turn that served a job, never of an idle one (just where: `turn-iff` of `Acceptance`)
   pub turn : (s : Scheduler) (buffer output left : List ℕ) (r : Turned) → Turns s buffer output left r
       → (r .result .answer .number ≡ 0 → r .idle ≡ false) × ToldByNumber (r .result .answer) × (¬ (r .result .answer .number ≡ 0) → (left ≡ output) × (r .result .count ≡ 0))
   -- test_list: as check (document 02, point 11)

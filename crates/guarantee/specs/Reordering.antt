@@ -17,7 +17,7 @@ use Rattle.reordering.specs.Reordering.{Reordering, bundleReordered, proofReord
 
 -- For every K and every reordering of the constants 0 .. K-1, whatever the files hold, and with the same output lent: where the coefficients are so reordered in A's and B's
 -- constraints and in both forms of each claim, in fields of right length for K and the bundle's own edition, and every other byte stays, the answer (number, file, place, row,
--- step and branch) and the count stay, and the bytes written are the old ones so reordered. (A refusal writes none. Where A's K is another, no field touched is read.)
+-- step and branch) and the count stay, and the bytes written are the old ones so reordered. (A refusal writes none. Where A's K is another, of no field touched are the contents read.)
 pub record Reordered : Type 0 where
   -- Of the definition, whatever the newest edition that an office reads: 2 in this one (`check`), 1 in the office before edition 2.
   pub of-check : (newest K : ℕ) (π : Reordering K) (A B proof output : List ℕ)

@@ -54,7 +54,7 @@ pub record ListTells : Type 0 where
   pub value : (formula : List ℕ) (K n : ℕ) (values : List ℤ) (output left : List ℕ) (r : WriteResult) → TestsList formula K values output left r → Vectors K n values
       → (i : ℕ) → i < length values → ((j : ℕ) → j < i → natAbs (getD values j (pos 0)) ≤ 1_000_000) → 1_000_000 < natAbs (getD values i (pos 0))
       → r .answer ≡ answer 23 fileLent i
-  -- then, in an empty list too, what testing refuses for any K permitted values, and where it refuses nothing 21
+  -- then, in an empty list too, what testing refuses for any K permitted values, and where it refuses nothing, 21 for an output that is too short, with the number of vectors
   pub reading : (formula : List ℕ) (K n : ℕ) (values : List ℤ) (output left : List ℕ) (r : WriteResult) → TestsList formula K values output left r → Vectors K n values → Permitted values
       → (v : List ℤ) → length v ≡ K → Permitted v → (t : Tested) → Tests formula v t
       → (¬ (t .answer .number ≡ 0) → r .answer ≡ t .answer) × (t .answer .number ≡ 0 → length output < n → r .answer ≡ answer 21 fileLent n)

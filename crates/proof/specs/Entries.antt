@@ -80,7 +80,7 @@ lineCount (some x) = shape x .lineNumbers
 unfoldable pub renumbered : (w w′ : ℕ) (number : ℕ → ℕ) (n : ℕ) → List ℕ → List ℕ
 renumbered w w′ number n bs = unsignedsBytes w′ (map number (unsigneds w n bs)) ++ drop (n * w) bs
 
--- A claim stands directly after a row 0x10 to 0x12 only; `made` says whether the row before it is one of these.
+-- A claim stands directly after a row 0x10 to 0x12 only; `made` says whether what stands directly before it, notes aside, is one of these.
 unfoldable pub inPlace : (made : Bool) → EntryTag → Bool
 inPlace made combineTag = true
 inPlace made reduceTag = true

@@ -21,8 +21,8 @@ use Rattle.scheduler.specs.declared.Changed.{Changed}
 use Rattle.scheduler.specs.declared.Turned.{Turned}
 use Rattle.scheduler.specs.declared.Next.{Next}
 use Rattle.scheduler.specs.declared.Next.the-variants.{Seat, Nobody}
-use Rattle.scheduler.specs.Scheduler.{vacant, holding, empty, slotAt, isWaiting, withSlot, refusal, submission, cancellation, after, nextSeat, isWithin, partsWithin, checkJob, Turning, turnAt, turn}
-use Rattle.scheduler.specs.Promises.{changed, Submits, Cancels, turningOf, Turns}
+use Rattle.scheduler.specs.Scheduler.{vacant, holding, empty, slotAt, isWaiting, withSlot, refusal, submission, cancellation, after, nextSeat, isWithin, partsWithin, checkJob, TurnLeaves, turnAt, turn}
+use Rattle.scheduler.specs.Promises.{changed, Submits, Cancels, turnLeavesOf, Turns}
 use Rattle.scheduler.specs.Fair.{Call, submitted, cancelled, turned, leaves, Ensures, Run, none, next, turns, CancelledAt, ServedAt, Idle, Lies, AllLie, CheckedAlone, WaitsThrough, Served, Cancelled, StillWaits, Fate, lookAfter, slotAfter, Answers, Fair}
 use Rattle.scheduler.proofs.Looking.{Ahead, near, counted, Finds, looks, passes, nobody, next-seated, next-waits, next-nth}
 use Rattle.scheduler.proofs.Changing.{submission-29, submission-30, submission-taken, cancellation-29, cancellation-31, cancellation-taken, all-lie, check-outside, check-inside}
@@ -104,17 +104,17 @@ record Turns-at (s : Scheduler) (buffer output left : List ℕ) (r : Turned) (se
 turns-at : {s : Scheduler} {buffer output left : List ℕ} {r : Turned} {seat : ℕ} → Turns s buffer output left r → nextSeat s ≡ Seat seat → Turns-at s buffer output left r seat
 unfolding turn turnAt
 turns-at {s} {buffer} {output} {left} {r} {seat} c e =
-    let z : turningOf r left ≡ turnAt s buffer output (Seat seat) = c .is ∙ ap (λ (x : Next). turnAt s buffer output x) e in
+    let z : turnLeavesOf r left ≡ turnAt s buffer output (Seat seat) = c .is ∙ ap (λ (x : Next). turnAt s buffer output x) e in
     record {
-      busy = ap (λ (t : Turning). t .idle) z;
-      seat-is = ap (λ (t : Turning). t .seat) z;
-      written-is = ap (λ (t : Turning). t .written) z;
-      slots-are = ap (λ (t : Turning). t .scheduler .slots) z;
-      first-is = ap (λ (t : Turning). t .scheduler .first) z;
+      busy = ap (λ (t : TurnLeaves). t .idle) z;
+      seat-is = ap (λ (t : TurnLeaves). t .seat) z;
+      written-is = ap (λ (t : TurnLeaves). t .written) z;
+      slots-are = ap (λ (t : TurnLeaves). t .scheduler .slots) z;
+      first-is = ap (λ (t : TurnLeaves). t .scheduler .first) z;
     }
 
 turns-idle : {s : Scheduler} {buffer output left : List ℕ} {r : Turned} → Turns s buffer output left r → nextSeat s ≡ Nobody
-    → turningOf r left ≡ record { idle = true; seat = 0; written = record { answer = refusal 35; count = 0; output = output }; scheduler = s }
+    → turnLeavesOf r left ≡ record { idle = true; seat = 0; written = record { answer = refusal 35; count = 0; output = output }; scheduler = s }
 unfolding turn turnAt
 turns-idle {s} {buffer} {output} c e = c .is ∙ ap (λ (x : Next). turnAt s buffer output x) e
 
@@ -123,8 +123,8 @@ lie : (buffer : List ℕ) (job : Job) → AllLie buffer job → partsWithin (len
 lie buffer job l = rw (le-leb _ _ (l .a .0), le-leb _ _ (l .a .1), le-leb _ _ (l .b .0), le-leb _ _ (l .b .1), le-leb _ _ (l .proof .0), le-leb _ _ (l .proof .1)) refl
 
 -- whether all parts lie in the buffer can be told
-pub told-apart : (buffer : List ℕ) (job : Job) → AllLie buffer job ⊎ (AllLie buffer job → ⊥)
-told-apart buffer job = go (partsWithin (length buffer) job) refl
+pub lie-or-not : (buffer : List ℕ) (job : Job) → AllLie buffer job ⊎ (AllLie buffer job → ⊥)
+lie-or-not buffer job = go (partsWithin (length buffer) job) refl
   where
     go : (b : Bool) → partsWithin (length buffer) job ≡ b → AllLie buffer job ⊎ (AllLie buffer job → ⊥)
     go true q = let (a, b, p) = all-lie (length buffer) job q in inl (record { a = a; b = b; proof = p })
@@ -251,7 +251,7 @@ eight-step s (turned buffer output left r) c h = go (nextSeat s) refl
   where
     go : (x : Next) → nextSeat s ≡ x → length (r .scheduler .slots) ≡ 8
     go (Seat seat) e = ap length (turns-at c e .slots-are) ∙ length-set (s .slots) seat vacant ∙ h
-    go Nobody e = ap (λ (t : Turning). length (t .scheduler .slots)) (turns-idle c e) ∙ h
+    go Nobody e = ap (λ (t : TurnLeaves). length (t .scheduler .slots)) (turns-idle c e) ∙ h
 
 eight-run : {s s′ : Scheduler} {calls : List Call} → Run s calls s′ → length (s .slots) ≡ 8 → length (s′ .slots) ≡ 8
 eight-run none h = h
@@ -295,7 +295,7 @@ is-busy {s} {r = r} c h = go (nextSeat s) refl
   where
     go : (x : Next) → nextSeat s ≡ x → (seat : ℕ) × (nextSeat s ≡ Seat seat)
     go (Seat seat) e = (seat, e)
-    go Nobody e = absurd (true-false (ap (λ (t : Turning). t .idle) (turns-idle c e)) h)
+    go Nobody e = absurd (true-false (ap (λ (t : TurnLeaves). t .idle) (turns-idle c e)) h)
 
 busy-turn : (s : Scheduler) (buffer output left : List ℕ) (r : Turned) → Turns s buffer output left r → (seat : ℕ) → nextSeat s ≡ Seat seat
     → (r .seat < 8) × (isWaiting s (r .seat) ≡ true) × (r .scheduler .slots ≡ set (s .slots) (r .seat) vacant) × (r .scheduler .first ≡ after (r .seat))
@@ -323,7 +323,7 @@ answers = record {
   turn-order = λ s buffer output left r c n h w k. let t = turns-at c (next-nth s n h w k) in (t .busy, t .seat-is);
   turn-idle = λ s buffer output left r c h.
       let z = turns-idle c (is-idle c h) in
-      (ap (λ (t : Turning). t .scheduler) z, ap (λ (t : Turning). t .written .output) z, ap (λ (t : Turning). t .seat) z, ap (λ (t : Turning). t .written .answer) z, ap (λ (t : Turning). t .written .count) z);
+      (ap (λ (t : TurnLeaves). t .scheduler) z, ap (λ (t : TurnLeaves). t .written .output) z, ap (λ (t : TurnLeaves). t .seat) z, ap (λ (t : TurnLeaves). t .written .answer) z, ap (λ (t : TurnLeaves). t .written .count) z);
 }
 
 -- ---- what calls leave, by their answers
@@ -348,7 +348,7 @@ look-step s (turned buffer output left r) c = go (nextSeat s) refl
 
     go : (x : Next) → nextSeat s ≡ x → r .scheduler .first ≡ cond (r .idle) (s .first) (after (r .seat))
     go (Seat seat) e = let t = turns-at c e in t .first-is ∙ ap (λ (k : ℕ). after k) (sym (t .seat-is)) ∙ so (t .busy)
-    go Nobody e = let z = turns-idle c e in ap (λ (t : Turning). t .scheduler .first) z ∙ so (ap (λ (t : Turning). t .idle) z)
+    go Nobody e = let z = turns-idle c e in ap (λ (t : TurnLeaves). t .scheduler .first) z ∙ so (ap (λ (t : TurnLeaves). t .idle) z)
 
 look-run : {s s′ : Scheduler} {calls : List Call} → Run s calls s′ → s′ .first ≡ lookAfter (s .first) calls
 unfolding lookAfter
@@ -407,7 +407,7 @@ module _ (s : Scheduler) (eight : length (s .slots) ≡ 8) (seat : ℕ) (l : sea
           ∙ is-set (s .slots) served seat vacant eight l
           ∙ ap (λ (k : ℕ). cond (eqb k seat) vacant (slotAt s seat)) (sym (t .seat-is))
           ∙ so (t .busy)
-      go Nobody e = let z = turns-idle c e in ap (λ (t : Turning). slotAt (t .scheduler) seat) z ∙ so (ap (λ (t : Turning). t .idle) z)
+      go Nobody e = let z = turns-idle c e in ap (λ (t : TurnLeaves). slotAt (t .scheduler) seat) z ∙ so (ap (λ (t : TurnLeaves). t .idle) z)
 
 slots-run : {s s′ : Scheduler} {calls : List Call} (seat : ℕ) → seat < 8 → Run s calls s′ → length (s .slots) ≡ 8 → slotAt s′ seat ≡ slotAfter seat (slotAt s seat) calls
 unfolding slotAfter
@@ -426,5 +426,5 @@ fair = record {
   fate = λ calls s run seat job r c h more s′ run′. let (n, few, w) = taken s seat job r (eight-run run refl) c h in fated few (fate-of run′ w few);
   look = λ calls s run. look-run run;
   slots = λ calls s run seat l. slots-run seat l run refl ∙ ap (λ (x : Slot). slotAfter seat x calls) (none-waits seat l);
-  idle-iff = λ s buffer output left r c. (λ h. idle-none s (is-idle c h), λ h. ap (λ (t : Turning). t .idle) (turns-idle c (none-idle s h)));
+  idle-iff = λ s buffer output left r c. (λ h. idle-none s (is-idle c h), λ h. ap (λ (t : TurnLeaves). t .idle) (turns-idle c (none-idle s h)));
 }

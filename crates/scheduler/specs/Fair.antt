@@ -134,7 +134,7 @@ slotAfter seat x (submitted at job r ∷ calls) = slotAfter seat (cond (eqb at s
 slotAfter seat x (cancelled at r ∷ calls) = slotAfter seat (cond (eqb at seat && eqb (r .answer .number) 0) vacant x) calls
 slotAfter seat x (turned buffer output left r ∷ calls) = slotAfter seat (cond (not (r .idle) && eqb (r .seat) seat) vacant x) calls
 
--- What each call answers and leaves, in numerals; for every scheduler, also one that no call leaves.
+-- What each call answers and leaves, in numerals; for every scheduler, also one that calls do not reach from the empty one.
 pub record Answers : Type 0 where
   pub submit-29 : (s : Scheduler) (seat : ℕ) (job : Job) (r : Changed) → Submits s seat job r → 8 ≤ seat → (r .answer ≡ answer 29 4 0) × (r .scheduler ≡ s)
   pub submit-30 : (s : Scheduler) (seat : ℕ) (job : Job) (r : Changed) → Submits s seat job r → seat < 8 → isWaiting s seat ≡ true → (r .answer ≡ answer 30 4 0) × (r .scheduler ≡ s)

@@ -7,7 +7,7 @@ use Rattle.scheduler.specs.declared.Job.{Job}
 use Rattle.scheduler.specs.declared.Scheduler.{Scheduler}
 use Rattle.scheduler.specs.declared.Changed.{Changed}
 use Rattle.scheduler.specs.declared.Turned.{Turned}
-use Rattle.scheduler.specs.Scheduler.{submission, cancellation, Turning, turn}
+use Rattle.scheduler.specs.Scheduler.{submission, cancellation, TurnLeaves, turn}
 
 -- A refusal leaves the scheduler as it was.
 unfoldable pub changed : Scheduler → Result Scheduler → Changed
@@ -20,9 +20,9 @@ pub record Submits (s : Scheduler) (seat : ℕ) (job : Job) (r : Changed) : Type
 pub record Cancels (s : Scheduler) (seat : ℕ) (r : Changed) : Type 0 where
   pub is : r ≡ changed s (cancellation s seat)
 
-abbrev pub turningOf : Turned → (left : List ℕ) → Turning
-turningOf r left = record { idle = r .idle; seat = r .seat; written = writtenOf (r .result) left; scheduler = r .scheduler }
+abbrev pub turnLeavesOf : Turned → (left : List ℕ) → TurnLeaves
+turnLeavesOf r left = record { idle = r .idle; seat = r .seat; written = writtenOf (r .result) left; scheduler = r .scheduler }
 
 -- It returns r, and the lent output is `left` afterwards.
 pub record Turns (s : Scheduler) (buffer output left : List ℕ) (r : Turned) : Type 0 where
-  pub is : turningOf r left ≡ turn s buffer output
+  pub is : turnLeavesOf r left ≡ turn s buffer output

@@ -22,7 +22,7 @@ seats = 8
 abbrev pub after : (seat : ℕ) → ℕ
 after seat = (seat + 1) % seats
 
--- A slot without a job: all its numbers are 0.
+-- A cleared slot: all its numbers are 0.
 abbrev pub nothing : Part
 nothing = record { start = 0; end = 0 }
 
@@ -68,7 +68,7 @@ unfoldable pub nextFrom : Scheduler → (seat n : ℕ) → Next
 nextFrom s seat zero = Nobody
 nextFrom s seat (suc n) = cond (isWaiting s seat) (Seat seat) (nextFrom s (after seat) n)
 
--- All eight are looked at, from the seat after the last one served. (No call leaves a `first` above 7; such a one counts by its remainder.)
+-- All eight are looked at, from the seat after the last one served. (From the empty desk on no call leaves a `first` above 7; such a one counts by its remainder.)
 unfoldable pub nextSeat : Scheduler → Next
 nextSeat s = nextFrom s (s .first % seats) seats
 
@@ -90,7 +90,7 @@ checkJob job buffer output =
     (record { answer = refusal 34; count = 0; output = output })
 
 -- What a turn leaves: whether it was idle; the seat served; what its check left; and the scheduler.
-pub record Turning : Type 0 where
+pub record TurnLeaves : Type 0 where
   pub idle : Bool
   pub seat : ℕ
   pub written : Written
@@ -101,9 +101,9 @@ abbrev pub served : Scheduler → (seat : ℕ) → Scheduler
 served s seat = record { slots = set (s .slots) seat vacant; first = after seat }
 
 -- 35, no job waits: an idle turn is no acceptance.
-unfoldable pub turnAt : Scheduler → (buffer output : List ℕ) → Next → Turning
+unfoldable pub turnAt : Scheduler → (buffer output : List ℕ) → Next → TurnLeaves
 turnAt s buffer output (Seat seat) = record { idle = false; seat = seat; written = checkJob (slotAt s seat .job) buffer output; scheduler = served s seat }
 turnAt s buffer output Nobody = record { idle = true; seat = 0; written = record { answer = refusal 35; count = 0; output = output }; scheduler = s }
 
-unfoldable pub turn : Scheduler → (buffer output : List ℕ) → Turning
+unfoldable pub turn : Scheduler → (buffer output : List ℕ) → TurnLeaves
 turn s buffer output = turnAt s buffer output (nextSeat s)

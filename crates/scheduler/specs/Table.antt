@@ -11,7 +11,7 @@ use Rattle.scheduler.specs.declared.Job.{Job}
 use Rattle.scheduler.specs.declared.Slot.{Slot}
 use Rattle.scheduler.specs.declared.Scheduler.{Scheduler}
 use Rattle.scheduler.specs.declared.Changed.{Changed}
-use Rattle.scheduler.specs.Scheduler.{Turning, submission, cancellation, turn as turned}
+use Rattle.scheduler.specs.Scheduler.{TurnLeaves, submission, cancellation, turn as turned}
 use Rattle.scheduler.specs.Promises.{changed}
 
 pub data Move : Type 0 where
@@ -28,7 +28,7 @@ answered a = a .number ∷ a .file ∷ a .place ∷ a .row .0 ∷ a .step .0 ∷
 abbrev pub state : Scheduler → List ℕ
 state s = s .first ∷ map (λ (x : Slot). x .waiting) (s .slots)
 
-abbrev pub served : Bool → Turning → List ℕ
+abbrev pub served : Bool → TurnLeaves → List ℕ
 served true t = answered (t .written .answer)
 served false t = t .seat ∷ (answered (t .written .answer) ++ (t .written .count ∷ []))
 

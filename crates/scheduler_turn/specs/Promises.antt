@@ -9,7 +9,7 @@ use Rattle.scheduler.specs.declared.Scheduler.{Scheduler}
 use Rattle.scheduler.specs.declared.Turned.{Turned}
 use Rattle.scheduler.specs.declared.Next.the-variants.{Seat}
 use Rattle.scheduler.specs.Scheduler.{checkJob, turnAt}
-use Rattle.scheduler.specs.Promises.{turningOf}
+use Rattle.scheduler.specs.Promises.{turnLeavesOf}
 
 -- It returns r, and the lent output is `left` afterwards.
 pub record ChecksJob (job : Job) (buffer output left : List ℕ) (r : WriteResult) : Type 0 where
@@ -17,4 +17,4 @@ pub record ChecksJob (job : Job) (buffer output left : List ℕ) (r : WriteResul
 
 -- The same of a turn that serves a seat.
 pub record Serves (s : Scheduler) (seat : ℕ) (buffer output left : List ℕ) (r : Turned) : Type 0 where
-  pub is : turningOf r left ≡ turnAt s buffer output (Seat seat)
+  pub is : turnLeavesOf r left ≡ turnAt s buffer output (Seat seat)

@@ -8,10 +8,10 @@ use std::fmt;
 /// ```
 /// let refusal = dulgaverk::read_bundle(&[1, 0, 1, 3]).unwrap_err();
 /// assert_eq!((refusal.number, refusal.file, refusal.place), (5, 1, 0));
-/// assert_eq!(refusal.meaning(), "an edition that this kind of file does not have");
+/// assert_eq!(refusal.meaning(), "an edition that this kind of file does not have, or that a file to be turned has already");
 /// assert_eq!(
 ///     refusal.to_string(),
-///     "refused 5 file 1 at 0: an edition that this kind of file does not have (A, or a bundle read alone)"
+///     "refused 5 file 1 at 0: an edition that this kind of file does not have, or that a file to be turned has already (A, or a bundle read or turned alone)"
 /// );
 ///
 /// // 2x - 1 ≤ 0 in A, nothing in B; strengthen line 0, then close line 0, which has a coefficient.
@@ -23,9 +23,9 @@ use std::fmt;
 /// ```
 #[derive(Clone, Copy, PartialEq, Eq, Hash, Debug)]
 pub struct Refusal {
-    /// The number of the refusal, 1 to 24, but never 22; of a scheduler also 29, 30, 31 and 34. (35, no job waits, is told as none.)
+    /// The number of the refusal, 1 to 24, but never 22; of a scheduler also 29, 30, 31, 34 and 35.
     pub number: u8,
-    /// 1 A or a bundle read alone, 2 B, 3 the proof or formula, 4 a lent output or what concerns no file.
+    /// 1 A or a bundle read or turned alone, 2 B, 3 the proof or formula, 4 a lent output or what concerns no file.
     pub file: u8,
     /// The byte at which the field at fault starts, if the operation says nothing else.
     pub place: usize,
@@ -68,7 +68,7 @@ impl Refusal {
     /// Which file the refusal is about.
     pub fn file_name(&self) -> &'static str {
         match self.file {
-            1 => "A, or a bundle read alone",
+            1 => "A, or a bundle read or turned alone",
             2 => "B",
             3 => "the proof or formula",
             _ => "a lent output, or no file",
@@ -97,11 +97,17 @@ impl Error for Refusal {}
 /// Every refusal, by number, and the one number that is kept free.
 /// (include/dulgaverk.h and docs/FORMAT.md have the same words.)
 pub const MEANINGS: [(u8, &str); 29] = [
-    (1, "a file is longer than its limit, or a formula would be"),
+    (
+        1,
+        "a file is longer than its limit, or a formula or a turned proof would be",
+    ),
     (2, "bytes are no whole field, or a file ends too early"),
     (3, "a tag below 0x80 that this kind of file does not have"),
     (4, "a known tag where it may not stand"),
-    (5, "an edition that this kind of file does not have"),
+    (
+        5,
+        "an edition that this kind of file does not have, or that a file to be turned has already",
+    ),
     (6, "a field of the wrong length"),
     (
         7,
@@ -109,7 +115,10 @@ pub const MEANINGS: [(u8, &str); 29] = [
     ),
     (8, "more than 32 constraints"),
     (9, "the number of constants is not the one given before"),
-    (10, "a line that is not there"),
+    (
+        10,
+        "a line that is not there, or a line number that has no room in the edition asked for",
+    ),
     (11, "a line of the wrong kind"),
     (
         12,
