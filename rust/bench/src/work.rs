@@ -61,12 +61,12 @@ fn rust_show(a: &[u8], b: &[u8], line: usize) -> usize {
 }
 
 #[inline(never)]
-fn rust_turn_bundle(file: &[u8], to: u8, out: &mut [u8]) -> Result<usize, dulgaverk::Refusal> {
+fn rust_turn_bundle(file: &[u8], to: usize, out: &mut [u8]) -> Result<usize, dulgaverk::Refusal> {
     Ok(reference::turn_bundle(file, to, out).written)
 }
 
 #[inline(never)]
-fn rust_turn_proof(file: &[u8], to: u8, out: &mut [u8]) -> Result<usize, dulgaverk::Refusal> {
+fn rust_turn_proof(file: &[u8], to: usize, out: &mut [u8]) -> Result<usize, dulgaverk::Refusal> {
     Ok(reference::turn_proof(file, to, out).written)
 }
 
@@ -429,7 +429,7 @@ fn turned_bundles(list: &mut Vec<Work>) {
             list.push(turn(
                 format!("turn a bundle: {size}"),
                 file,
-                edition.other().number(),
+                usize::from(edition.other().number()),
                 [dulgaverk::turn_bundle_into, rust_turn_bundle],
             ));
         }
@@ -499,9 +499,9 @@ fn turned_proofs(list: &mut Vec<Work>) {
 }
 
 /// Turns a file into an edition, into an output.
-type Turn = fn(&[u8], u8, &mut [u8]) -> Result<usize, dulgaverk::Refusal>;
+type Turn = fn(&[u8], usize, &mut [u8]) -> Result<usize, dulgaverk::Refusal>;
 
-fn turn(name: String, file: Vec<u8>, to: u8, sides: [Turn; 2]) -> Work {
+fn turn(name: String, file: Vec<u8>, to: usize, sides: [Turn; 2]) -> Work {
     let [rattle, rust] = sides.map(|turn| {
         let file = file.clone();
         let side: Side = Box::new(move |times| {

@@ -15,9 +15,6 @@ pub struct Answer {
 /// A row, step or branch where there is none.
 pub const NONE: u16 = 65_535;
 
-/// The edition that a file is to be turned into.
-pub type AskedEdition = usize;
-
 #[repr(C)]
 pub struct ReadResult {
     pub answer: Answer,
@@ -153,14 +150,14 @@ extern "C" {
     pub fn dulgaverk_turn_bundle(
         file: *const u8,
         file_len: usize,
-        edition: AskedEdition,
+        edition: usize,
         out: *mut u8,
         out_len: usize,
     ) -> WriteResult;
     pub fn dulgaverk_turn_proof(
         file: *const u8,
         file_len: usize,
-        edition: AskedEdition,
+        edition: usize,
         out: *mut u8,
         out_len: usize,
     ) -> WriteResult;

@@ -363,7 +363,7 @@ pub fn test_formula(formula: &[u8], values: &[i32]) -> Result<bool, Refusal> {
 /// ```
 pub fn turn_bundle(file: &[u8], edition: Edition) -> Result<Vec<u8>, Refusal> {
     let mut out = vec![0; WRITTEN_BUNDLE];
-    let written = turn_bundle_into(file, edition.number(), &mut out)?;
+    let written = turn_bundle_into(file, usize::from(edition.number()), &mut out)?;
     out.truncate(written);
     Ok(out)
 }
@@ -373,19 +373,19 @@ pub fn turn_bundle(file: &[u8], edition: Edition) -> Result<Vec<u8>, Refusal> {
 /// ```
 /// let two = b"\x01\0\x01\x02\x02\0\x01\x01\x04\0\x08\0\0\0\x03\xFF\xFF\xFF\xFF";
 /// let mut out = [7; 16];
-/// let refusal = dulgaverk::turn_bundle_into(two, 3, &mut out).unwrap_err();
+/// let refusal = dulgaverk::turn_bundle_into(two, 257, &mut out).unwrap_err();
 /// assert_eq!((refusal.number, refusal.file, refusal.place), (5, 4, 0));
 /// let refusal = dulgaverk::turn_bundle_into(two, 1, &mut out[..14]).unwrap_err();
 /// assert_eq!((refusal.number, refusal.file, refusal.place), (21, 4, 15));
 /// assert_eq!(dulgaverk::turn_bundle_into(two, 1, &mut out), Ok(15));
 /// assert_eq!(out, *b"\x01\0\x01\x01\x02\0\x01\x01\x04\0\x04\0\x03\xFF\xFF\x07");
 /// ```
-pub fn turn_bundle_into(file: &[u8], edition: u8, out: &mut [u8]) -> Result<usize, Refusal> {
+pub fn turn_bundle_into(file: &[u8], edition: usize, out: &mut [u8]) -> Result<usize, Refusal> {
     let r = unsafe {
         boundary::dulgaverk_turn_bundle(
             file.as_ptr(),
             file.len(),
-            boundary::AskedEdition::from(edition),
+            edition,
             out.as_mut_ptr(),
             out.len(),
         )
@@ -413,7 +413,7 @@ pub fn turn_bundle_into(file: &[u8], edition: u8, out: &mut [u8]) -> Result<usiz
 /// ```
 pub fn turn_proof(file: &[u8], edition: Edition) -> Result<Vec<u8>, Refusal> {
     let mut out = vec![0; FORMULA];
-    let written = turn_proof_into(file, edition.number(), &mut out)?;
+    let written = turn_proof_into(file, usize::from(edition.number()), &mut out)?;
     out.truncate(written);
     Ok(out)
 }
@@ -432,12 +432,12 @@ pub fn turn_proof(file: &[u8], edition: Edition) -> Result<Vec<u8>, Refusal> {
 /// assert_eq!(dulgaverk::turn_proof_into(one, 2, &mut out), Ok(13));
 /// assert_eq!(out, *b"\x01\0\x01\x02\x02\0\x01\x01\x14\0\x02\0\x02\x07");
 /// ```
-pub fn turn_proof_into(file: &[u8], edition: u8, out: &mut [u8]) -> Result<usize, Refusal> {
+pub fn turn_proof_into(file: &[u8], edition: usize, out: &mut [u8]) -> Result<usize, Refusal> {
     let r = unsafe {
         boundary::dulgaverk_turn_proof(
             file.as_ptr(),
             file.len(),
-            boundary::AskedEdition::from(edition),
+            edition,
             out.as_mut_ptr(),
             out.len(),
         )

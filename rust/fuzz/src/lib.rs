@@ -88,12 +88,12 @@ pub fn decode(bytes: &[u8]) -> Input {
             }
         }
         5 => Case::TurnBundle {
-            edition: reader.byte(),
+            edition: reader.short(),
             out: reader.short(),
             file: reader.rest(),
         },
         6 => Case::TurnProof {
-            edition: reader.byte(),
+            edition: reader.short(),
             out: reader.short(),
             file: reader.rest(),
         },
@@ -257,9 +257,11 @@ pub fn encode(case: &Case) -> Vec<u8> {
         ]
         .concat(),
         Case::TurnBundle { file, edition, out } => {
-            [&[5, *edition], &short(*out)[..], file].concat()
+            [&[5], &short(*edition)[..], &short(*out), file].concat()
         }
-        Case::TurnProof { file, edition, out } => [&[6, *edition], &short(*out)[..], file].concat(),
+        Case::TurnProof { file, edition, out } => {
+            [&[6], &short(*edition)[..], &short(*out), file].concat()
+        }
     }
 }
 

@@ -16,14 +16,14 @@ use crate::header::{header_bytes, read_constants, read_edition, HeaderFault};
 use crate::limits;
 
 /// Turns a bundle into the edition of this number.
-pub fn turn_bundle(file: &[u8], edition: u8, out: &mut [u8]) -> WriteResult {
+pub fn turn_bundle(file: &[u8], edition: usize, out: &mut [u8]) -> WriteResult {
     turn(edition, out, Edition::bundle_bytes, |to| {
         turned_bundle(file, to)
     })
 }
 
 /// Turns a proof into the edition of this number.
-pub fn turn_proof(file: &[u8], edition: u8, out: &mut [u8]) -> WriteResult {
+pub fn turn_proof(file: &[u8], edition: usize, out: &mut [u8]) -> WriteResult {
     turn(
         edition,
         out,
@@ -34,13 +34,16 @@ pub fn turn_proof(file: &[u8], edition: u8, out: &mut [u8]) -> WriteResult {
 
 /// The edition asked for comes first, and what concerns the output last.
 fn turn(
-    edition: u8,
+    edition: usize,
     out: &mut [u8],
     most: impl Fn(Edition) -> usize,
     turned: impl Fn(Edition) -> Result<Vec<u8>, Answer>,
 ) -> WriteResult {
     let output = |number, place| WriteResult::refused(Answer::refused(number, FILE_OUTPUT, place));
-    let Some(to) = Edition::numbered(edition) else {
+    let Some(to) = Edition::ALL
+        .into_iter()
+        .find(|e| usize::from(e.number()) == edition)
+    else {
         return output(WRONG_EDITION, 0);
     };
     let bytes = match turned(to) {

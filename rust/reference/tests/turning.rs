@@ -4,11 +4,11 @@ mod common;
 use common::*;
 use reference::{turn_bundle, turn_proof, Answer, WriteResult};
 
-type Turn = fn(&[u8], u8, &mut [u8]) -> WriteResult;
+type Turn = fn(&[u8], usize, &mut [u8]) -> WriteResult;
 
 /// Turns into an output of the given length, which must be unchanged on refusal
 /// and behind the bytes written.
-fn turn_into(turn: Turn, file: &[u8], to: u8, length: usize) -> (Answer, Vec<u8>) {
+fn turn_into(turn: Turn, file: &[u8], to: usize, length: usize) -> (Answer, Vec<u8>) {
     let mut out = vec![0xA5; length];
     let result = turn(file, to, &mut out);
     assert!(out[result.written..].iter().all(|&byte| byte == 0xA5));
@@ -19,7 +19,7 @@ fn turn_into(turn: Turn, file: &[u8], to: u8, length: usize) -> (Answer, Vec<u8>
 
 /// Turns a file that must be accepted, also with just enough room and with a
 /// byte less.
-fn turned(turn: Turn, file: &[u8], to: u8) -> Vec<u8> {
+fn turned(turn: Turn, file: &[u8], to: usize) -> Vec<u8> {
     let (answer, bytes) = turn_into(turn, file, to, 70_000);
     assert_eq!(answer, ACCEPTED);
     let needed = bytes.len();
@@ -29,11 +29,11 @@ fn turned(turn: Turn, file: &[u8], to: u8) -> Vec<u8> {
     bytes
 }
 
-fn bundle_answer(file: &[u8], to: u8) -> Answer {
+fn bundle_answer(file: &[u8], to: usize) -> Answer {
     turn_into(turn_bundle, file, to, 70_000).0
 }
 
-fn proof_answer(file: &[u8], to: u8) -> Answer {
+fn proof_answer(file: &[u8], to: usize) -> Answer {
     turn_into(turn_proof, file, to, 70_000).0
 }
 
@@ -115,7 +115,7 @@ fn notes_are_dropped_wherever_they_stand() {
 
 #[test]
 fn the_edition_asked_for_comes_first() {
-    for to in [0, 3, 4, 128, 255] {
+    for to in [0, 3, 4, 128, 255, 257, 258, usize::MAX] {
         // Whatever the file, and without any room.
         for bytes in [vec![], vec![0x06; 70_000], file(1, &[]), two::file(1, &[])] {
             for turn in [turn_bundle as Turn, turn_proof] {
@@ -127,10 +127,10 @@ fn the_edition_asked_for_comes_first() {
 
 #[test]
 fn a_file_that_has_the_edition_already() {
-    for (to, other) in [(1, 2), (2, 1)] {
+    for (to, other) in [(1_u8, 2), (2, 1)] {
         for (turn, name) in [(turn_bundle as Turn, 1), (turn_proof, 3)] {
             let refuse = |number, place| refused(number, name, place);
-            let answer = |bytes: &[u8]| turn_into(turn, bytes, to, 70_000).0;
+            let answer = |bytes: &[u8]| turn_into(turn, bytes, to.into(), 70_000).0;
             assert_eq!(answer(&file_of(to, 1, &[])), refuse(5, 0));
             assert_eq!(answer(&[note(), edition(to)].concat()), refuse(5, 7));
             // Neither 0 nor 3 is an edition, whichever is asked for.

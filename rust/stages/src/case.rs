@@ -61,12 +61,12 @@ pub enum Case {
     /// The edition is the one asked for.
     TurnBundle {
         file: Vec<u8>,
-        edition: u8,
+        edition: usize,
         out: usize,
     },
     TurnProof {
         file: Vec<u8>,
-        edition: u8,
+        edition: usize,
         out: usize,
     },
     List {

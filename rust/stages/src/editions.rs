@@ -290,7 +290,7 @@ pub fn light(rng: &mut Rng, operation: Operation) -> Vec<Aimed> {
             }
             Operation::TurnBundle => {
                 let aim = if Edition::One.holds(number) { 0 } else { 13 };
-                cases.push((aim, turn(operation, bundle, 1)));
+                cases.push((aim, turn(operation, bundle, 1_usize)));
             }
             Operation::Test | Operation::TurnProof | Operation::List => {}
         }

@@ -275,7 +275,7 @@ pub fn damaged(rng: &mut Rng, operation: Operation, size: &Size) -> Case {
             },
             Case::TurnBundle { file, edition, out } | Case::TurnProof { file, edition, out } => {
                 match rng.below(10) {
-                    0 => *edition = rng.below(4) as u8,
+                    0 => *edition = rng.below(4),
                     1 => *out = rng.below(*out + 1),
                     2 => {}
                     _ => damage(rng, file, k),

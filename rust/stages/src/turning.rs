@@ -28,16 +28,17 @@ const LONG: [i32; 8] = [
     -i32::MAX,
     i32::MAX,
 ];
-/// Numbers that are no edition.
-const NONE: [u8; 5] = [0, 3, 4, 128, 255];
+/// Numbers that are no edition; a byte of the last four would be one.
+const NONE: [usize; 8] = [0, 3, 128, 255, 257, 258, 65_537, 1 << 32 | 2];
 
 /// A call with room for any result.
-pub fn turn(operation: Operation, file: Vec<u8>, edition: u8) -> Case {
+pub fn turn(operation: Operation, file: Vec<u8>, edition: impl Into<usize>) -> Case {
     turn_into(operation, file, edition, PROOF_BYTES)
 }
 
 /// A call of turning a proof, or else a bundle.
-fn turn_into(operation: Operation, file: Vec<u8>, edition: u8, out: usize) -> Case {
+fn turn_into(operation: Operation, file: Vec<u8>, edition: impl Into<usize>, out: usize) -> Case {
+    let edition = edition.into();
     if operation == Operation::TurnProof {
         Case::TurnProof { file, edition, out }
     } else {
@@ -160,7 +161,7 @@ pub fn large(rng: &mut Rng, operation: Operation, size: &Size) -> Case {
         noted(rng, fields)
     };
     let out = near(rng, file.len());
-    turn_into(operation, file, 1, out)
+    turn_into(operation, file, 1_usize, out)
 }
 
 /// A check of an edition 2 proof that can be turned down, as no line above 255 is
@@ -188,7 +189,7 @@ pub fn random(rng: &mut Rng, operation: Operation, k: usize) -> Case {
 fn editions(rng: &mut Rng, operation: Operation) -> Vec<Aimed> {
     let k = 1 + rng.below(16) as u8;
     let mut cases = Vec::new();
-    for asked in [0, 1, 2, 3, 255] {
+    for asked in [0_usize, 1, 2, 3, 255, 257] {
         for own in [0, 1, 2, 3, 255] {
             let start = [field(0x01, &[own]), field(0x02, &[k])].concat();
             let right = matches!((asked, own), (1, 2) | (2, 1));
@@ -236,8 +237,8 @@ fn editions(rng: &mut Rng, operation: Operation) -> Vec<Aimed> {
             cases.push((2, turn(operation, file, other)));
         }
     }
-    cases.push((2, turn(operation, Vec::new(), 1)));
-    cases.push((2, turn(operation, note(), 2)));
+    cases.push((2, turn(operation, Vec::new(), 1_usize)));
+    cases.push((2, turn(operation, note(), 2_usize)));
     cases
 }
 
@@ -251,7 +252,7 @@ pub fn directed(rng: &mut Rng, operation: Operation) -> Vec<Aimed> {
         }
         let mut late = base.a.clone();
         fill(&mut late, 4_097 + rng.below(4_096));
-        cases.push((5, turn(operation, late, 1)));
+        cases.push((5, turn(operation, late, 1_usize)));
         cases.extend(large_numbers(rng));
         cases.push((0, other_way(operation, base.a.clone())));
     } else {
@@ -299,9 +300,9 @@ fn large_numbers(rng: &mut Rng) -> Vec<Aimed> {
         ] {
             let fields = [vec![small.clone(), note(), large.clone()], rest].concat();
             let file = file_of(Edition::Two, k, &fields);
-            cases.push((aim, turn(operation, file.clone(), 1)));
+            cases.push((aim, turn(operation, file.clone(), 1_usize)));
             if aim == 13 {
-                cases.push((13, turn_into(operation, file, 1, 0)));
+                cases.push((13, turn_into(operation, file, 1_usize, 0)));
             }
         }
     }
@@ -371,14 +372,14 @@ fn large_lines(rng: &mut Rng, lines: &[usize]) -> Vec<Aimed> {
                 let number = if line > 255 { 10 } else { 0 };
                 let start = [Layout(Edition::Two).close(1), note(), large];
                 let file = file_of(Edition::Two, 1, &start);
-                cases.push((number, turn(operation, file.clone(), 1)));
+                cases.push((number, turn(operation, file.clone(), 1_usize)));
                 if line <= 255 {
                     let narrow = row(rng, Edition::One, tag, s, t);
                     let file = file_of(Edition::One, 1, &[narrow]);
-                    cases.push((0, turn(operation, file, 2)));
+                    cases.push((0, turn(operation, file, 2_usize)));
                     continue;
                 }
-                cases.push((10, turn_into(operation, file.clone(), 1, 0)));
+                cases.push((10, turn_into(operation, file.clone(), 1_usize, 0)));
                 let (number, rest) = rng
                     .pick(&[
                         (2, vec![0x14, 0]),
@@ -390,7 +391,7 @@ fn large_lines(rng: &mut Rng, lines: &[usize]) -> Vec<Aimed> {
                     ])
                     .clone();
                 let file = [file, rest].concat();
-                cases.push((number, turn(operation, file, 1)));
+                cases.push((number, turn(operation, file, 1_usize)));
             }
         }
     }
@@ -538,9 +539,12 @@ pub fn heavy(rng: &mut Rng, operation: Operation) -> Vec<Aimed> {
         for bytes in 65_530..65_545 {
             let file = long_result(rng, bytes);
             let (over, out) = (bytes > PROOF_BYTES, *rng.pick(&[PROOF_BYTES, bytes + 9]));
-            cases.push((u8::from(over), turn_into(operation, file.clone(), 2, out)));
+            cases.push((
+                u8::from(over),
+                turn_into(operation, file.clone(), 2_usize, out),
+            ));
             let (number, out) = (if over { 1 } else { 21 }, *rng.pick(&[0, bytes - 1]));
-            cases.push((number, turn_into(operation, file, 2, out)));
+            cases.push((number, turn_into(operation, file, 2_usize, out)));
         }
     }
     cases

@@ -305,7 +305,7 @@ fn parse(line: &str) -> (Case, Vec<String>) {
         "turn-bundle" => (
             Case::TurnBundle {
                 file: bytes(1),
-                edition: number(2) as u8,
+                edition: number(2),
                 out: number(3),
             },
             4,
@@ -313,7 +313,7 @@ fn parse(line: &str) -> (Case, Vec<String>) {
         "turn-proof" => (
             Case::TurnProof {
                 file: bytes(1),
-                edition: number(2) as u8,
+                edition: number(2),
                 out: number(3),
             },
             4,

@@ -9,7 +9,7 @@ use stages::{stream, Case, Class, Operation, Output};
 
 const TURNS: [Operation; 2] = [Operation::TurnBundle, Operation::TurnProof];
 
-fn parts(case: &Case) -> (&[u8], u8, usize) {
+fn parts(case: &Case) -> (&[u8], usize, usize) {
     match case {
         Case::TurnBundle { file, edition, out } | Case::TurnProof { file, edition, out } => {
             (file, *edition, *out)
@@ -27,11 +27,11 @@ fn right_files_are_turned() {
         for size in [Size::SMALL, Size::MEDIUM, Size::LARGE] {
             for case in stream(operation, Class::Sound, size, 91).take(2_000) {
                 let (file, to, out) = parts(&case);
-                assert_eq!(to, edition_of(file).other().number());
+                assert_eq!(to, usize::from(edition_of(file).other().number()));
                 let outcome = case.outcome();
                 match outcome.result {
                     Output::Bytes(bytes) => {
-                        assert_eq!(edition_of(&bytes).number(), to);
+                        assert_eq!(usize::from(edition_of(&bytes).number()), to);
                         assert!(bytes.len() <= out);
                     }
                     _ => {
