@@ -23,8 +23,8 @@ use Rattle.number_bytes.specs.Ranges.{Held}
 use Rattle.formula.specs.Test.{registers}
 use Rattle.form_value.specs.Registers.{AllWithin}
 use Rattle.form_value.specs.FormAt.{formAt}
-use Rattle.form_value.specs.Quick.{word, _⊕_, _⊗_, power}
-use Rattle.form_value.proofs.Quick.{word-add, word-mul, word-divides, power-true}
+use Rattle.form_value.specs.Quick.{word, _⊕_, _⊗_, wordValue, power}
+use Rattle.form_value.proofs.Quick.{word-add, word-mul, value-word, word-divides, power-true}
 use Rattle.form_value.proofs.Value.{Summed, summed-none, summed-more, summed-all}
 
 -- ---- a number raised by n: up to 2^32 it fits, by 2^31 at least it is not negative, by 2^32 its remainder is the word
@@ -87,8 +87,8 @@ module _ (s : List ℕ) (at : ℕ) (values : List ℤ) (K : ℕ) where
     is = is ∙ rw (p .is) (sym (word-add (c *ℤ getD values j (pos 0)) (p .sum) ∙ rw (word-mul c (getD values j (pos 0)))));
   }
 
-  pub worded-all : {i total : ℕ} → Worded s at values K i total → i ≤ 0 → total ≡ word (value (formAt s at K) (registers values))
-  worded-all p h = p .is ∙ ap (λ (z : ℤ). word z) (summed-all s at values K (p .summed) h)
+  pub worded-all : {i total : ℕ} → Worded s at values K i total → i ≤ 0 → total ≡ wordValue (formAt s at K) (registers values)
+  worded-all p h = p .is ∙ ap (λ (z : ℤ). word z) (summed-all s at values K (p .summed) h) ∙ sym (value-word (formAt s at K) (registers values))
 
 -- ---- a stride of four signed bytes
 module _ {g : ℤ} (low : pos 2 ≤ℤ g) where

@@ -17,7 +17,7 @@ ghost use Rattle.forms.specs.Forms.{value};
 ghost use Rattle.number_bytes.specs.Numbers.{signed};
 ghost use Rattle.number_bytes.specs.Ranges.{Held};
 ghost use Rattle.formula.specs.Test.{registers};
-ghost use Rattle.form_value.specs.Quick.{word, _⊕_, _⊗_, power, Power};
+ghost use Rattle.form_value.specs.Quick.{word, _⊕_, _⊗_, wordValue, power, Power};
 ghost use Rattle.form_value.specs.Registers.{Registers, AllWithin};
 ghost use Rattle.form_value.specs.FormAt.{formAt, Whole, Summand};
 
@@ -76,11 +76,11 @@ fn with_word(s: &[u8], at: usize, values: &[i32], i: usize, total: u32) -> u32
     wrapping_add_u32(wrapping_mul(c, x), total)
 }
 
-// value_at in words: the word of the value.
+// value_at in words.
 fn word_at(s: &[u8], at: usize, values: &[i32], k: usize) -> u32
     requires { ⌜ Whole (now s) at k ⌝ }
     requires { ⌜ Registers (now values) k ⌝ }
-    ensures { λ r. ⌜ r ≡ word (value (formAt (now (s .entry)) at k) (registers (now (values .entry)))) ⌝ }
+    ensures { λ r. ⌜ r ≡ wordValue (formAt (now (s .entry)) at k) (registers (now (values .entry))) ⌝ }
 {
     let mut total = word(signed_at(s, at + k * TERM_BYTES, TERM_BYTES));
     let mut i = k;

@@ -14,9 +14,9 @@ use Rattle.integers.proofs.Magnitude.{within-add, within-mul, within-le, within
 use Rattle.forms.specs.Forms.{Form, sum, value}
 use Rattle.forms.specs.Flat.{formIn}
 use Rattle.formula.specs.Test.{registers}
-use Rattle.form_value.specs.Quick.{word, _⊕_, _⊗_}
+use Rattle.form_value.specs.Quick.{word, _⊕_, _⊗_, wordValue}
 use Rattle.form_value.specs.Registers.{AllWithin}
-use Rattle.form_value.proofs.Quick.{word-add, word-mul}
+use Rattle.form_value.proofs.Quick.{word-add, word-mul, value-word}
 
 -- a number of four bytes
 pub four-bytes : {z : ℤ} → SFits w32 z → Within 2_147_483_648 z
@@ -97,5 +97,5 @@ module _ (numbers values : List ℤ) (K : ℕ) (room : K < length numbers) where
     is = is ∙ rw (p .is) (sym (word-add (getD numbers j (pos 0) *ℤ getD values j (pos 0)) (p .sum) ∙ rw (word-mul (getD numbers j (pos 0)) (getD values j (pos 0)))));
   }
 
-  pub worded-all : {i total : ℕ} → Worded numbers values K i total → i ≤ 0 → total ≡ word (value (formIn K numbers 0) (registers values))
-  worded-all p h = p .is ∙ ap (λ (z : ℤ). word z) (summed-all numbers values K room (p .summed) h)
+  pub worded-all : {i total : ℕ} → Worded numbers values K i total → i ≤ 0 → total ≡ wordValue (formIn K numbers 0) (registers values)
+  worded-all p h = p .is ∙ ap (λ (z : ℤ). word z) (summed-all numbers values K room (p .summed) h) ∙ sym (value-word (formIn K numbers 0) (registers values))

@@ -18,7 +18,7 @@ ghost use Rattle.integers.specs.Magnitude.{Within};
 ghost use Rattle.forms.specs.Forms.{value};
 ghost use Rattle.forms.specs.Flat.{formIn};
 ghost use Rattle.formula.specs.Test.{judge, registers};
-ghost use Rattle.form_value.specs.Quick.{word, _⊕_, _⊗_};
+ghost use Rattle.form_value.specs.Quick.{word, _⊕_, _⊗_, wordValue};
 ghost use Rattle.form_value.specs.Registers.{Registers, AllWithin};
 ghost use Rattle.form_value.specs.FormAt.{formAt, Whole, Summand};
 ghost use Rattle.formula_leaf.specs.Masks.{Marks};
@@ -85,7 +85,7 @@ fn with_word(numbers: &[i32], vector: &[i32], i: usize, total: u32) -> u32
 fn word_of(numbers: &[i32], vector: &[i32], k: usize) -> u32
     requires { ⌜ k < length (now numbers) ⌝ }
     requires { ⌜ Registers (now vector) k ⌝ }
-    ensures { λ r. ⌜ r ≡ word (value (formIn k (now (numbers .entry)) 0) (registers (now (vector .entry)))) ⌝ }
+    ensures { λ r. ⌜ r ≡ wordValue (formIn k (now (numbers .entry)) 0) (registers (now (vector .entry))) ⌝ }
 {
     let mut total = word(term(numbers, k));
     let mut i = k;

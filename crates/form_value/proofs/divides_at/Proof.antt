@@ -5,7 +5,7 @@ use mir.Syntax.{w64}
 use mir.Val.{toZ, ofZ}
 use mir.ValLaws.{toZ-ofZ}
 use Rattle.integers.specs.Divides.{divb}
-use Rattle.form_value.proofs.Quick.{power-true}
+use Rattle.form_value.proofs.Quick.{value-word, power-true}
 use Rattle.form_value.proofs.Words.{stride-positive, stride-low, stride-high, quick-stride}
 use borrow.Author.Needs.{needs}
 use Rattle.form_value.proofs.divides_at.Statement.{statement}
@@ -27,7 +27,7 @@ divides-word-requires : tie.Need-divides-word-requires
 divides-word-requires c κs = power-true 30 _ (sym (c .before .before .is-power .ensures) ∙ c .before .if1 .taken)
 
 returns : tie.Need-returns
-returns c = quick-stride (c .before .before .before .before .before .pre .1 .1 .0) _ (rw (same (c .before .before .before .before .before)) at (c .before .before .before .is-power .ensures)) (c .before .before .if1 .taken) (c .before .word-at .ensures) (rw (same (c .before .before .before .before .before)) at (c .divides-word .ensures))
+returns c = quick-stride (c .before .before .before .before .before .pre .1 .1 .0) _ (rw (same (c .before .before .before .before .before)) at (c .before .before .before .is-power .ensures)) (c .before .before .if1 .taken) (c .before .word-at .ensures ∙ value-word _ _) (rw (same (c .before .before .before .before .before)) at (c .divides-word .ensures))
 
 value-at-requires : tie.Need-value-at-requires
 value-at-requires c κs = search needs

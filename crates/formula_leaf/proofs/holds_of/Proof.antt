@@ -4,6 +4,7 @@ use lib.IntN.{pos}
 use mathlib.Core.Path.{subst, _∙_}
 use mir.Syntax.{w64}
 use mir.ValLaws.{toZ-ofZ}
+use Rattle.form_value.proofs.Quick.{value-word}
 use Rattle.formula_leaf.specs.Leaves.{Proper}
 use Rattle.formula_leaf.proofs.Leaves.{literal-holds, power-holds, stride-holds, stride-fits, stride-low}
 use Rattle.formula_leaf.proofs.holds_of.Statement.{statement}
@@ -43,7 +44,7 @@ returns : tie.Need-returns
 returns c = literal-holds _ (c .before .before .before .before .before .args .vector .now) (c .before .before .before .leaf .given .1) (toZ-ofZ w64 (c .before .value-of .result) (record { sfits = c .before .value-of .ok }) ∙ c .before .value-of .ensures) (c .says .ensures)
 
 returns-2 : tie.Need-returns-2
-returns-2 c = power-holds _ (c .before .before .before .before .before .args .vector .now) (c .before .before .before .leaf2 .given .1) (c .before .before .before .before .before .pre .0) (c .before .word-of .ensures) (c .divides-word .ensures)
+returns-2 c = power-holds _ (c .before .before .before .before .before .args .vector .now) (c .before .before .before .leaf2 .given .1) (c .before .before .before .before .before .pre .0) (c .before .word-of .ensures ∙ value-word _ _) (c .divides-word .ensures)
 
 returns-3 : tie.Need-returns-3
 returns-3 c =
