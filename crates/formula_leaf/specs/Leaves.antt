@@ -17,7 +17,7 @@ leafFormula (Leaf.Literal equality) t = literal (literalKind equality) t
 leafFormula (Leaf.Power g) t = g divides t
 leafFormula (Leaf.Stride g) t = g divides t
 
--- Its stride is one.
+-- Its stride is a power of two, 2 to 2^30, or any from 2 to 2^31 - 1.
 abbrev pub Proper : Leaf → Type 0
 Proper (Leaf.Literal equality) = Unit {0}
 Proper (Leaf.Power g) = Power g

@@ -30,7 +30,7 @@ pub enum Leaf {
     Literal { equality: bool },
     // A stride that is a power of two.
     Power { g: u32 },
-    // Any other stride.
+    // Any stride.
     Stride { g: u32 },
 }
 
