@@ -97,7 +97,7 @@ pub record Acceptance : Type 0 where
   -- and so is that of a turn, just where it serves a job whose parts lie in the buffer and check accepts them (document 02, point 13)
   pub turn-iff : (s : Scheduler) (buffer output left : List ℕ) (r : Turned) → Turns s buffer output left r → r .result .answer .number ≡ 0
       ↔ ((r .idle ≡ false) × AllLie buffer (slotAt s (r .seat) .job)
-         × Checkable (part buffer (slotAt s (r .seat) .job .a)) (part buffer (slotAt s (r .seat) .job .b)) (part buffer (slotAt s (r .seat) .job .proof)) output)
+      × Checkable (part buffer (slotAt s (r .seat) .job .a)) (part buffer (slotAt s (r .seat) .job .b)) (part buffer (slotAt s (r .seat) .job .proof)) output)
   -- whatever the files certify is what is written
   pub writes : (A B proof output left : List ℕ) (r : WriteResult) → Checks A B proof output left r → (c : Checkable A B proof output)
       → WrittenAs (formulaFile edition1 (c .K) (c .formula)) output left (r .answer) (r .count)
