@@ -360,10 +360,10 @@ contents-bytes (i ∷ is) h = cons (record { bytes = all-right (i .tag ∷ unsig
 
 -- ---- a turn
 module _ (s : Scheduler) (buffer output left : List ℕ) (r : Turned) (c : Turns s buffer output left r) where
-  turn-job : Job
+  abbrev turn-job : Job
   turn-job = slotAt s (r .seat) .job
 
-  turn-checkable : Type 0
+  abbrev turn-checkable : Type 0
   turn-checkable = Checkable (part buffer (turn-job .a)) (part buffer (turn-job .b)) (part buffer (turn-job .proof)) output
 
   turn-accepts : r .result .answer .number ≡ 0 → (r .idle ≡ false) × AllLie buffer turn-job × turn-checkable
