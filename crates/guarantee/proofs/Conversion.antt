@@ -45,10 +45,11 @@ use Rattle.conversion.proofs.Proofs.{proof-turned-gives, proof-back}
 use Rattle.conversion.proofs.Checked.{bundle-restated, proof-restated, BundleChosen, as-it-is as as-is, turned as is-turned, yields-same, yields-up, yields-down, overflows-down, same-left, overflow-left, Left16}
 use Rattle.conversion.specs.Turnable.{BundleTurnable, ProofTurnable}
 use Rattle.guarantee.specs.Acceptance.{WrittenAs}
+use Rattle.guarantee.specs.LaidOut.{Listed}
 use Rattle.guarantee.specs.Soundness.{Meaning, Faithful}
 use Rattle.guarantee.specs.Conversion.{BundleChoice, as-it-is, turned, Direction, kept, ProofChoice, turned-up, turned-down, ConversionPromised}
 use Rattle.guarantee.proofs.Acceptance.{written-from}
-use Rattle.guarantee.proofs.Soundness.{meaning-is}
+use Rattle.guarantee.proofs.Soundness.{lists, meaning-is}
 use Rattle.guarantee.proofs.Turnable.{bundle-turnable, turnable-bundle, proof-turnable, turnable-proof, bundle-narrow, proof-narrow}
 
 -- ---- what is left of an output
@@ -117,6 +118,12 @@ module _ {to : ℕ} {file output left : List ℕ} {r : WriteResult} where
   is-turnable-proof d h =
       let (bytes, t, fits) = written-from output (proofTurned to file) (proof-turned-gives to file) (sym (number-of (proof-is d)) ∙ h) in
       (bytes, proof-turnable t, t .short, fits)
+
+  listed-bundle : Bytes file → TurnsBundle to file output left r → r .answer .number ≡ 0 → Listed file
+  listed-bundle k d h = let (bytes, t, fits) = is-turnable-bundle d h in lists k (t .states .whole)
+
+  listed-proof : Bytes file → TurnsProof to file output left r → r .answer .number ≡ 0 → Listed file
+  listed-proof k d h = let (bytes, t, short, fits) = is-turnable-proof d h in lists k (t .states .whole)
 
   turns-bundle : TurnsBundle to file output left r → {bytes : List ℕ} → BundleTurnable to file bytes → length bytes ≤ length output → WrittenAs bytes output left (r .answer) (r .count)
   turns-bundle d t fits = written-as output left r (bundle-is d) (turnable-bundle t) fits
@@ -398,6 +405,8 @@ conversion-promised = record {
       written-as output₂ left₂ r₂ (bundle-is d₂) (bundle-back to F framed k (take (r .count) left) (bundle-accepted d h)) fits;
   proof-and-back = λ to F framed k output left r d h output₂ left₂ r₂ fits d₂.
       written-as output₂ left₂ r₂ (proof-is d₂) (proof-back to F framed k (take (r .count) left) (proof-accepted d h)) fits;
+  bundle-listed = λ to file output left r k d h. listed-bundle k d h;
+  proof-listed = λ to file output left r k d h. listed-proof k d h;
   states-same = λ to A output left r d h n K cs f. bundle-restated to f (bundle-accepted d h);
   enters-same = λ to P output left r d h n K es f. proof-restated to f (proof-accepted d h) .file;
   means-same = λ to F G fF fG M N hM hN output left r d h is. means-alike to F G fF fG M N hM hN (take (r .count) left) (bundle-accepted d h) is;

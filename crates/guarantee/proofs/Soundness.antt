@@ -13,7 +13,7 @@ use Rattle.calculus.specs.Rules.{Entry, Closed, derive, strengthen, round, spli
 use Rattle.answers.specs.Answers.{fileA, Result, refused, accepted, _>>_, over, Written, writtenOf}
 use Rattle.answers.specs.declared.WriteResult.{WriteResult}
 use Rattle.number_bytes.specs.Numbers.{Bytes}
-use Rattle.fields.specs.Fields.{Item, Framed, fileOf, withoutNotes, fields}
+use Rattle.fields.specs.Fields.{Item, Framed, fileOf, withoutNotes, fields, items}
 use Rattle.fields.proofs.Framing.{items-fileOf}
 use Rattle.fields.proofs.Whole.{whole-file}
 use Rattle.fields.proofs.Bare.{bareWritten}
@@ -91,8 +91,8 @@ laid-out {K = K} y = record {
   };
 }
 
-lists : {file : List ℕ} {n K : ℕ} {cs : List Constraint} → Bytes file → BundleFile newestEdition file n K cs → Listed file
-lists {file} k b = let o = whole-file file k (b .list) (b .whole) in record { list = o .list; framed = o .framed; are = o .are }
+pub lists : {file : List ℕ} {is : List Item} → Bytes file → items (fields file) ≡ some is → Listed file
+lists {file} {is} k e = let o = whole-file file k is e in record { list = o .list; framed = o .framed; are = o .are }
 
 -- ---- what is delivered
 module _ (FA FB : List Item) (framedA : All Framed FA) (framedB : All Framed FB) (MA MB : Meaning) (faithfulA : Faithful MA) (faithfulB : Faithful MB)
@@ -153,8 +153,8 @@ pub soundness : Soundness
 soundness = record {
   interpolates = λ FA FB framedA framedB MA MB faithfulA faithfulB proof output left r c h.
       delivered FA FB framedA framedB MA MB faithfulA faithfulB proof output left r c (is-checkable c h);
-  listed = λ A B proof output left r bytesA bytesB c h. let x = is-checkable c h .certified .yields in (lists bytesA (x .fileA), lists bytesB (x .fileB));
-  listed-read = λ file kinds numbers kinds′ numbers′ r bytes c h. lists bytes (acceptance-holds .read-iff file kinds numbers kinds′ numbers′ r c .0 h .states);
+  listed = λ A B proof output left r bytesA bytesB c h. let x = is-checkable c h .certified .yields in (lists bytesA (x .fileA .whole), lists bytesB (x .fileB .whole));
+  listed-read = λ file kinds numbers kinds′ numbers′ r bytes c h. lists bytes (acceptance-holds .read-iff file kinds numbers kinds′ numbers′ r c .0 h .states .whole);
   notes = notes;
   notes-plain = notes-plain;
   laid-out = λ A B proof output left r c h. laid-out (is-checkable c h .certified .yields);

@@ -26,6 +26,7 @@ use Rattle.conversion.specs.Turnable.{BundleTurnable, InTurn, ProofTurnable}
 use Rattle.conversion.specs.Widest.{widest}
 use Rattle.conversion.specs.Promises.{TurnsBundle, TurnsProof}
 use Rattle.guarantee.specs.Acceptance.{WrittenAs}
+use Rattle.guarantee.specs.LaidOut.{Listed}
 use Rattle.guarantee.specs.Soundness.{Meaning, Faithful}
 
 -- ---- a choice of files
@@ -44,7 +45,7 @@ pub data ProofChoice (P : List ℕ) : Direction → List ℕ → Type 0 where
   turned-down : (output left : List ℕ) (r : WriteResult) → TurnsProof 1 P output left r → r .answer .number ≡ 0 → ProofChoice P down (take (r .count) left)
 
 pub record ConversionPromised : Type 0 where
-  -- ---- accepted just where the file is one to be turned and its result fits; then these bytes are written. Else, of a file to be turned, 1 and 21 with the bytes needed
+  -- ---- accepted just where the file is one to be turned (of a proof: a file of bytes, as a slice is) and its result fits; then these bytes are written. Else, of a file to be turned, 1 and 21 with the bytes needed
   pub bundle-iff : (to : ℕ) (file output left : List ℕ) (r : WriteResult) → TurnsBundle to file output left r → r .answer .number ≡ 0 ↔ ((bytes : List ℕ) × BundleTurnable to file bytes × (length bytes ≤ length output))
   pub bundle-turns : (to : ℕ) (file output left : List ℕ) (r : WriteResult) → TurnsBundle to file output left r → (bytes : List ℕ) → BundleTurnable to file bytes → length bytes ≤ length output
       → WrittenAs bytes output left (r .answer) (r .count)
@@ -65,13 +66,16 @@ pub record ConversionPromised : Type 0 where
   pub proof-10 : (file output left : List ℕ) (r : WriteResult) → TurnsProof 1 file output left r → (K : ℕ) (es : List Entry) (p : ProofFile newestEdition file 2 K es) → InTurn false es
       → (before : List Item) (i : Item) (after : List Item) → p .body ≡ before ++ (i ∷ after) → All (λ i. All (λ n. n ≤ 255) (linesNamed edition2 i)) before → ¬ All (λ n. n ≤ 255) (linesNamed edition2 i)
       → (f : Field) → nth (suc (suc (length before))) (fields file) ≡ some f → r .answer ≡ answer 10 3 (f .at)
-  -- ---- turned and turned back: the same bytes, notes removed, in both directions, for every file that is turned at all (a file of bytes, as a slice is); no second turn is refused
+  -- ---- turned and turned back: the same bytes, notes removed, in both directions, for every file that is turned at all (a file of bytes, as a slice is); no second turn into an output that is long enough is refused
   pub bundle-and-back : (to : ℕ) (F : List Item) → All Framed F → Bytes (fileOf F) → (output left : List ℕ) (r : WriteResult) → TurnsBundle to (fileOf F) output left r → r .answer .number ≡ 0
       → (output₂ left₂ : List ℕ) (r₂ : WriteResult) → length (fileOf (withoutNotes F)) ≤ length output₂ → TurnsBundle (other to) (take (r .count) left) output₂ left₂ r₂
       → WrittenAs (fileOf (withoutNotes F)) output₂ left₂ (r₂ .answer) (r₂ .count)
   pub proof-and-back : (to : ℕ) (F : List Item) → All Framed F → Bytes (fileOf F) → (output left : List ℕ) (r : WriteResult) → TurnsProof to (fileOf F) output left r → r .answer .number ≡ 0
       → (output₂ left₂ : List ℕ) (r₂ : WriteResult) → length (fileOf (withoutNotes F)) ≤ length output₂ → TurnsProof (other to) (take (r .count) left) output₂ left₂ r₂
       → WrittenAs (fileOf (withoutNotes F)) output₂ left₂ (r₂ .answer) (r₂ .count)
+  -- and every file of bytes that is turned is the file of such fields
+  pub bundle-listed : (to : ℕ) (file output left : List ℕ) (r : WriteResult) → Bytes file → TurnsBundle to file output left r → r .answer .number ≡ 0 → Listed file
+  pub proof-listed : (to : ℕ) (file output left : List ℕ) (r : WriteResult) → Bytes file → TurnsProof to file output left r → r .answer .number ≡ 0 → Listed file
   -- ---- the turned bundle has the edition asked for and states what the bundle stated: K, and the constraints in order
   pub states-same : (to : ℕ) (A output left : List ℕ) (r : WriteResult) → TurnsBundle to A output left r → r .answer .number ≡ 0
       → (n K : ℕ) (cs : List Constraint) → BundleFile newestEdition A n K cs → BundleFile newestEdition (take (r .count) left) to K cs
