@@ -20,21 +20,22 @@ use Rattle.answers.proofs.Results.{Gives, never, not-0, binds, passes, needs, f
 use Rattle.number_bytes.specs.Numbers.{Bytes}
 use Rattle.fields.specs.declared.FileKind.{FileKind}
 use Rattle.fields.specs.Fields.{Fields, ends, cut, _▸_, Item, Framed, fileOf, fields}
-use Rattle.fields.specs.Header.{headerTag, known, headerField, editionField, constantsField}
+use Rattle.fields.specs.Header.{headerTag, known, headerField, editionField, constantsField, header}
 use Rattle.bundle.specs.Bundle.{Bundle, atMost, kindTagged, constraints, bundleHeader, bundle}
 use Rattle.bundle.specs.Layout.{BundleFile, editionSaid, Says}
 use Rattle.bundle.specs.Read.{BundleRead, kindsOf, numbersOf, unread, store, stored, readBundle}
 use Rattle.bundle_read.specs.declared.ReadResult.{ReadResult}
 use Rattle.bundle_read.specs.Promises.{Reads}
-use Rattle.bundle.proofs.Laid.{short-accepted}
+use Rattle.bundle.proofs.Laid.{short-gives, short-accepted}
 use Rattle.bundle.proofs.RoundTrips.{writtenAs, written-fits}
 use Rattle.proof.specs.Check.{check}
+use Rattle.proof.specs.Entries.{entryTagged, entry}
 use Rattle.proof.specs.Layout.{Yields}
 use Rattle.proof.specs.Tree.{startsAt, Outside}
 use Rattle.proof.proofs.Says.{Says as Tells, says-refused, says-accepted, bind as tell-bind, seq as tell-seq, says-need, test as tests, finds as tell-finds, weaken as weakens}
 use Rattle.proof.proofs.Editions.{Starting, starting, not-read}
 use Rattle.proof.specs.Promises.{Checks}
-use Rattle.conversion.specs.Turning.{other, asked, otherEdition, eachField, resultWithin, bundleTurned, turnBundle, proofTurned, turnProof}
+use Rattle.conversion.specs.Turning.{other, asked, otherEdition, eachField, resultWithin, bundleTurned, turnBundle, makesLine, entriesRead, proofTurned, turnProof}
 use Rattle.conversion.specs.Widest.{widest}
 use Rattle.conversion.specs.Promises.{TurnsBundle, TurnsProof}
 use Rattle.conversion.proofs.Asking.{Asked, down, up, asked-accepted, said-gives, within-accepted}
@@ -51,6 +52,7 @@ use Rattle.guarantee.specs.Conversion.{BundleChoice, as-it-is, turned, D
 use Rattle.guarantee.proofs.Acceptance.{written-from}
 use Rattle.guarantee.proofs.Soundness.{lists, meaning-is}
 use Rattle.guarantee.proofs.Turnable.{bundle-turnable, turnable-bundle, proof-turnable, turnable-proof, bundle-narrow, proof-narrow}
+use Rattle.guarantee.proofs.Shorter.{down-shorter}
 
 -- ---- what is left of an output
 number-of : {r : WriteResult} {left : List ℕ} {w : Written} → writtenOf r left ≡ w → r .answer .number ≡ w .answer .number
@@ -248,32 +250,56 @@ reading-refused to file x l h a e = passes _ (asked-accepted x) ∙ passes _ (sh
     same : (b : Answer) → otherEdition FileKind.Bundle fileA to (fields file) ≡ refused b → b ≡ a
     same b q = one-refusal FileKind.Bundle fileA (known-first tt) (first-refused file b (same-first FileKind.Bundle fileA (known-first tt) (fields file) to x h b q)) e
 
--- ---- the result of a bundle is never too long
+-- ---- the result of a bundle is never too long, nor that of a proof turned down
 -- Where 1 is given, it is for the file.
-abbrev OfFile : Answer → Type 0
-OfFile a = a .number ≡ 1 → a .file ≡ 1
+abbrev OfFile : (file : ℕ) → Answer → Type 0
+OfFile file a = a .number ≡ 1 → a .file ≡ file
 
 -- A step that is accepted, and then the rest.
-then-tells : {Y : Type 0} {R : Y → Type 0} {P : Unit {0} → Type 0} (m : Result (Unit {0})) (r : Result Y) → Tells OfFile m P → (m ≡ accepted tt → Tells OfFile r R) → Tells OfFile (m >> r) R
+then-tells : {Q : Answer → Type 0} {Y : Type 0} {R : Y → Type 0} {P : Unit {0} → Type 0} (m : Result (Unit {0})) (r : Result Y) → Tells Q m P → (m ≡ accepted tt → Tells Q r R) → Tells Q (m >> r) R
 unfolding _>>_
 then-tells (refused a) r h k = says-refused (h .refusal a refl)
 then-tells (accepted u) r h k = k refl
 
-asked-tells : (to : ℕ) → Tells OfFile (asked to) (λ _. Unit {0})
-unfolding asked
-asked-tells to = weakens (says-need _ _ (λ e. absurd (omega arith))) (λ a h. h) (λ _ _. tt)
+-- What is accepted is what was accepted.
+itself : {Q : Answer → Type 0} {X : Type 0} {m : Result X} → Tells Q m (λ _. Unit {0}) → Tells Q m (λ x. m ≡ accepted x)
+itself t = record { refusal = t .refusal; value = λ x e. e }
 
-most-tells : (limit : ℕ) (file : List ℕ) → Tells OfFile (atMost limit fileA file) (λ _. Unit {0})
-unfolding atMost
-most-tells limit file = weakens (says-need _ _ (λ e. refl)) (λ a h. h) (λ _ _. tt)
+module _ (kind : FileKind) (file : ℕ) where
+  asked-tells : (to : ℕ) → Tells (OfFile file) (asked to) (λ _. Unit {0})
+  unfolding asked
+  asked-tells to = weakens (says-need _ _ (λ e. absurd (omega arith))) (λ a h. h) (λ _ _. tt)
 
-field-tells : (tag : ℕ) (fs : Fields) → Tells OfFile (headerField FileKind.Bundle fileA tag fs) (λ _. Unit {0})
-unfolding headerField
-field-tells tag (ends at) = says-refused (λ e. absurd (omega arith))
-field-tells tag (cut at) = says-refused (λ e. absurd (omega arith))
-field-tells tag (f ▸ fs) = tests _ _ (λ e. absurd (omega arith)) λ _. tests _ _ (λ e. absurd (omega arith)) λ _. tests _ _ (λ e. absurd (omega arith)) λ _. says-accepted tt
+  most-tells : (limit : ℕ) (bytes : List ℕ) → Tells (OfFile file) (atMost limit file bytes) (λ _. Unit {0})
+  unfolding atMost
+  most-tells limit bytes = weakens (says-need _ _ (λ e. refl)) (λ a h. h) (λ _ _. tt)
 
-constraints-tell : (e : Edition) (K n : ℕ) (fs : Fields) → Tells OfFile (constraints fileA e K n fs) (λ _. Unit {0})
+  field-tells : (tag : ℕ) (fs : Fields) → Tells (OfFile file) (headerField kind file tag fs) (λ _. Unit {0})
+  unfolding headerField
+  field-tells tag (ends at) = says-refused (λ e. absurd (omega arith))
+  field-tells tag (cut at) = says-refused (λ e. absurd (omega arith))
+  field-tells tag (f ▸ fs) = tests _ _ (λ e. absurd (omega arith)) λ _. tests _ _ (λ e. absurd (omega arith)) λ _. tests _ _ (λ e. absurd (omega arith)) λ _. says-accepted tt
+
+  edition-tells : (fs : Fields) → Tells (OfFile file) (editionField kind file newestEdition fs) (λ _. Unit {0})
+  unfolding editionField
+  edition-tells fs = tell-bind (field-tells 0x01 fs) λ x _. tests {R = λ _. Unit {0}} _ _ (λ e. absurd (omega arith)) λ _. says-accepted tt
+
+  constants-tell : (fs : Fields) → Tells (OfFile file) (constantsField kind file none fs) (λ _. Unit {0})
+  unfolding constantsField
+  constants-tell fs = tell-bind (field-tells 0x02 fs) λ x _. tests {R = λ _. Unit {0}} _ _ (λ e. absurd (omega arith)) λ _. tests _ _ (λ e. absurd (omega arith)) λ _. says-accepted tt
+
+  other-tells : (to : ℕ) (fs : Fields) → Tells (OfFile file) (otherEdition kind file to fs) (λ _. Unit {0})
+  unfolding otherEdition
+  other-tells to fs = tell-bind (field-tells 0x01 fs) λ x _. weakens (says-need _ _ (λ e. absurd (omega arith))) (λ a h. h) (λ _ _. tt)
+
+  each-tells : (number : ℕ) → ¬ (number ≡ 1) → (fits : Item → Bool) (fs : Fields) → Tells (OfFile file) (eachField number file fits fs) (λ _. Unit {0})
+  unfolding eachField
+  each-tells number h fits (ends at) = says-accepted tt
+  each-tells number h fits (cut at) = says-accepted tt
+  each-tells number h fits (f ▸ fs) = tests _ _ (λ e. absurd (h e)) λ _. each-tells number h fits fs
+
+-- a bundle
+constraints-tell : (e : Edition) (K n : ℕ) (fs : Fields) → Tells (OfFile 1) (constraints fileA e K n fs) (λ _. Unit {0})
 unfolding constraints
 constraints-tell e K n (ends at) = says-accepted tt
 constraints-tell e K n (cut at) = says-refused (λ e. absurd (omega arith))
@@ -281,43 +307,50 @@ constraints-tell e K n (f ▸ fs) = tests _ _ (λ e. absurd (omega arith)) λ _.
     tests _ _ (λ e. absurd (omega arith)) λ _. tests _ _ (λ e. absurd (omega arith)) λ _. tests _ _ (λ e. absurd (omega arith)) λ _.
     tell-bind (constraints-tell e K (suc n) fs) λ cs _. says-accepted tt
 
-whole-tells : (file : List ℕ) → Tells OfFile (bundle newestEdition fileA none file) (λ _. Unit {0})
-unfolding bundle bundleHeader editionField constantsField
-whole-tells file =
+bundle-tells : (file : List ℕ) → Tells (OfFile 1) (bundle newestEdition fileA none file) (λ _. Unit {0})
+unfolding bundle bundleHeader
+bundle-tells file =
     tell-bind
-    (tell-bind (tell-bind (field-tells 0x01 (fields file)) λ x _. tests {R = λ _. Unit {0}} _ _ (λ e. absurd (omega arith)) λ _. says-accepted tt) λ (n, fs) _.
-    tell-seq (most-tells _ file)
-    (tell-bind (tell-bind (field-tells 0x02 fs) λ x _. tests {R = λ _. Unit {0}} _ _ (λ e. absurd (omega arith)) λ _. tests _ _ (λ e. absurd (omega arith)) λ _. says-accepted tt) λ (K, rest) _.
-    says-accepted {P = λ _. Unit {0}} tt))
+    (tell-bind (edition-tells FileKind.Bundle fileA (fields file)) λ (n, fs) _.
+    tell-seq (most-tells FileKind.Bundle fileA _ file)
+    (tell-bind (constants-tell FileKind.Bundle fileA fs) λ (K, rest) _. says-accepted {P = λ _. Unit {0}} tt))
     λ h _. tell-bind (constraints-tell (edition (h .number)) (h .K) 0 (h .rest)) λ cs _. says-accepted tt
 
-bundle-tells : (file : List ℕ) → Tells OfFile (bundle newestEdition fileA none file) (λ b. bundle newestEdition fileA none file ≡ accepted b)
-bundle-tells file = record { refusal = whole-tells file .refusal; value = λ b e. e }
-
-other-tells : (to : ℕ) (fs : Fields) → Tells OfFile (otherEdition FileKind.Bundle fileA to fs) (λ _. otherEdition FileKind.Bundle fileA to fs ≡ accepted tt)
-unfolding otherEdition
-other-tells to fs =
-    let t : Tells OfFile (otherEdition FileKind.Bundle fileA to fs) (λ _. Unit {0}) = tell-bind (field-tells 0x01 fs) λ x _. weakens (says-need _ _ (λ e. absurd (omega arith))) (λ a h. h) (λ _ _. tt) in
-    record { refusal = t .refusal; value = λ u e. e }
-
-each-tells : (fits : Item → Bool) (fs : Fields) → Tells OfFile (eachField 13 fileA fits fs) (λ _. Unit {0})
-unfolding eachField
-each-tells fits (ends at) = says-accepted tt
-each-tells fits (cut at) = says-accepted tt
-each-tells fits (f ▸ fs) = tests _ _ (λ e. absurd (omega arith)) λ _. each-tells fits fs
-
-turning-tells : (to : ℕ) (file : List ℕ) → Tells OfFile (bundleTurned to file) (λ _. Unit {0})
+turning-tells : (to : ℕ) (file : List ℕ) → Tells (OfFile 1) (bundleTurned to file) (λ _. Unit {0})
 unfolding bundleTurned
-turning-tells to file = then-tells _ _ (asked-tells to) λ a. then-tells _ _ (most-tells _ file) λ _. then-tells _ _ (other-tells to (fields file)) λ o.
-    tell-bind (bundle-tells file) λ b e. then-tells _ _ (each-tells _ _) λ f.
-    subst (λ (r : Result (List ℕ)). Tells OfFile r (λ _. Unit {0})) (sym (within-accepted (edition to .bundleBytes) _ (result-short to file b a o e f))) (says-accepted tt)
+turning-tells to file = then-tells _ _ (asked-tells FileKind.Bundle fileA to) λ a. then-tells _ _ (most-tells FileKind.Bundle fileA _ file) λ _. then-tells _ _ (other-tells FileKind.Bundle fileA to (fields file)) λ o.
+    tell-bind (itself (bundle-tells file)) λ b e. then-tells _ _ (each-tells FileKind.Bundle fileA 13 (λ e. omega arith) _ _) λ f.
+    subst (λ (r : Result (List ℕ)). Tells (OfFile 1) r (λ _. Unit {0})) (sym (within-accepted (edition to .bundleBytes) _ (result-short to file b a o e f))) (says-accepted tt)
+
+-- a proof
+entries-tell : (e : Edition) (K : ℕ) (made : Bool) (fs : Fields) → Tells (OfFile 3) (entriesRead e K made fs) (λ _. Unit {0})
+unfolding entriesRead entry
+entries-tell e K made (ends at) = says-accepted tt
+entries-tell e K made (cut at) = says-refused (λ e. absurd (omega arith))
+entries-tell e K made (f ▸ fs) =
+    tell-bind {P = λ _. Unit {0}}
+    (tests _ _ (λ e. absurd (omega arith)) λ _. tell-bind (tell-finds _ (entryTagged (f .tag)) (λ e. absurd (omega arith))) λ x _.
+    tests _ _ (λ e. absurd (omega arith)) λ _. tests _ _ (λ e. absurd (omega arith)) λ _. says-accepted tt)
+    λ x _. entries-tell e K (makesLine x) fs
+
+header-tells : (fs : Fields) → Tells (OfFile 3) (header FileKind.Proof fileProof newestEdition none fs) (λ _. Unit {0})
+unfolding header
+header-tells fs = tell-bind (edition-tells FileKind.Proof fileProof fs) λ x _. tell-bind (constants-tell FileKind.Proof fileProof (x .1)) λ y _. says-accepted tt
+
+down-tells : (file : List ℕ) → Tells (OfFile 3) (proofTurned 1 file) (λ _. Unit {0})
+unfolding proofTurned
+down-tells file = then-tells _ _ (asked-tells FileKind.Proof fileProof 1) λ _. then-tells _ _ (most-tells FileKind.Proof fileProof _ file) λ l. then-tells _ _ (other-tells FileKind.Proof fileProof 1 (fields file)) λ _.
+    tell-bind (itself (header-tells (fields file))) λ h e. then-tells _ _ (entries-tell (edition (h .number)) (h .K) false (h .rest)) λ r.
+    then-tells _ _ (each-tells FileKind.Proof fileProof 10 (λ e. omega arith) _ _) λ _.
+    subst (λ (r : Result (List ℕ)). Tells (OfFile 3) r (λ _. Unit {0}))
+    (sym (within-accepted 65_536 _ (omega (arith, short-gives 65_536 fileProof file .gives tt l, down-shorter file h e r)))) (says-accepted tt)
 
 fits-or-21 : (output : List ℕ) (b : Bool) (bs : List ℕ) → ¬ (fit output b bs .answer .number ≡ 1)
 unfolding fit
 fits-or-21 output true bs h = omega arith
 fits-or-21 output false bs h = omega arith
 
-never-long : (output left : List ℕ) (r : WriteResult) (m : Result (List ℕ)) → Tells OfFile m (λ _. Unit {0}) → writtenOf r left ≡ written m output → OfFile (r .answer)
+never-long : {file : ℕ} (output left : List ℕ) (r : WriteResult) (m : Result (List ℕ)) → Tells (OfFile file) m (λ _. Unit {0}) → writtenOf r left ≡ written m output → OfFile file (r .answer)
 unfolding written
 never-long output left r (refused a) t e h = ap (λ (w : Written). w .answer .file) e ∙ t .refusal a refl (sym (number-of e) ∙ h)
 never-long output left r (accepted bs) t e h = absurd (fits-or-21 output (leb (length bs) (length output)) bs (sym (number-of e) ∙ h))
@@ -421,4 +454,5 @@ conversion-promised = record {
   as-reading = λ file kinds numbers kinds′ numbers′ r d h to a s output left r₂ d₂. as-read d h (is-asked a) s d₂;
   as-check = λ A B P output left r d h n to a s output₂ left₂ r₂ d₂. as-checked d h n (is-asked a) s d₂;
   never-too-long = λ to file output left r d h. never-long output left r (bundleTurned to file) (turning-tells to file) (bundle-is d) h;
+  never-too-long-down = λ file output left r d h. never-long output left r (proofTurned 1 file) (down-tells file) (proof-is d) h;
 }

@@ -16,6 +16,7 @@ pub mod Long
 pub mod Editions
 pub mod Reordering
 pub mod Turnable
+pub mod Shorter
 pub mod Conversion
 pub mod Quick
 pub mod TestList

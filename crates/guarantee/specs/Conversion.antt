@@ -113,3 +113,5 @@ pub record ConversionPromised : Type 0 where
       → (to : ℕ) → (to ≡ 1) ⊎ (to ≡ 2) → ¬ (Says P to) → (output₂ left₂ : List ℕ) (r₂ : WriteResult) → TurnsProof to P output₂ left₂ r₂ → r₂ .answer ≡ answer (r .answer .number) 3 (r .answer .place)
   -- 1 for a result that is too long never comes for a bundle: where 1 comes, it is for the file
   pub never-too-long : (to : ℕ) (file output left : List ℕ) (r : WriteResult) → TurnsBundle to file output left r → r .answer .number ≡ 1 → r .answer .file ≡ 1
+  -- and for a proof only turning up
+  pub never-too-long-down : (file output left : List ℕ) (r : WriteResult) → TurnsProof 1 file output left r → r .answer .number ≡ 1 → r .answer .file ≡ 3
