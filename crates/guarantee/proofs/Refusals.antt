@@ -160,7 +160,7 @@ module _ (e : Edition) (K : ℕ) where
   within-gives zero fs = field-gives _ (λ at fs. gives-refused _ tt) fs
   within-gives (suc levels) fs = field-gives _ (λ at fs. bind (within-gives levels fs) λ (I, fs1) _. bind (within-gives levels fs1) λ (J, fs2) _. gives-accepted tt) fs
 
-pub reading-gives : (K : ℕ) (fs : Fields) → GivesAny (readFormula K fs)
+reading-gives : (K : ℕ) (fs : Fields) → GivesAny (readFormula K fs)
 unfolding readFormula
 reading-gives K fs =
     bind (header-gives FileKind.Formula fileProof 1 (some K) fs) λ h _. bind (within-gives edition1 (h .K) (edition1 .levels) (h .rest)) λ (I, after) _.

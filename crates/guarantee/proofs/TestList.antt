@@ -15,18 +15,17 @@ use Rattle.forms.specs.Forms.{All, Formula}
 use Rattle.answers.specs.declared.Answer.{Answer}
 use Rattle.answers.specs.declared.WriteResult.{WriteResult}
 use Rattle.answers.specs.Answers.{answer, acceptance, fileLent, Result, refused, accepted, Written, writtenOf}
-use Rattle.answers.proofs.Results.{Gives, not-0, each-gives, each-accepted, test, seq}
+use Rattle.answers.proofs.Results.{Gives, not-0, weaken, each-gives, each-accepted, test, seq}
 use Rattle.number_bytes.proofs.Signed.{all-weaken, all-take, all-drop}
-use Rattle.fields.specs.Fields.{fields}
-use Rattle.formula.specs.Formula.{readFormula}
 use Rattle.formula.specs.Test.{judge, registers, tested, judged, testFormula}
 use Rattle.formula.specs.TestList.{listed, byte, testList}
 use Rattle.formula.proofs.TestList.{no-constant, many-constants, not-whole, outside-at, to-read, vector-is, list-refused, list-short, list-filled, bytes, bytes-long, byte-at}
 use Rattle.formula_test.specs.declared.Tested.{Tested}
 use Rattle.formula_test.specs.Promises.{Tests}
 use Rattle.formula_list.specs.Promises.{TestsList}
+use Rattle.guarantee.specs.Testing.{FormulaFile}
 use Rattle.guarantee.specs.TestList.{Vectors, Permitted, vectorAt, Acceptable, ListTells}
-use Rattle.guarantee.proofs.Refusals.{reading-gives}
+use Rattle.guarantee.proofs.Testing.{read-gives, file-read}
 
 -- ---- shape and range, as tests
 abbrev Allowed : List ℤ → Type 0
@@ -53,18 +52,15 @@ record Passed (formula : List ℕ) (K : ℕ) (values : List ℤ) (I : Formula) :
   vectors : Vectors K (length values / K) values
   range : Allowed values
   upto : length formula ≤ 65_536
-  reads : readFormula K (fields formula) ≡ accepted I
+  states : FormulaFile K formula I
 
 list-gives : (formula : List ℕ) (K : ℕ) (values : List ℤ) → Gives (listed formula K values) (λ I. Passed formula K values I)
 unfolding listed
 list-gives formula K values =
-    test _ _ tt λ h. seq (each-gives _ _ (λ i. tt) 0 values) λ r. test _ _ tt λ s. record {
-      gives = λ I e.
-          let (a, c) = and-yes (leb 1 K && leb K 16) (eqb (length values % K) 0) h in
-          let (p, q) = and-yes (leb 1 K) (leb K 16) a in
-          record { vectors = of-rest (leb→le 1 K p) (leb→le K 16 q) (eqb→eq (length values % K) 0 c); range = r; upto = leb→le (length formula) 65_536 s; reads = e };
-      refusal = reading-gives K (fields formula) .refusal;
-    }
+    test _ _ tt λ h. seq (each-gives _ _ (λ i. tt) 0 values) λ r. test _ _ tt λ s. weaken (read-gives K formula) λ I f.
+    let (a, c) = and-yes (leb 1 K && leb K 16) (eqb (length values % K) 0) h in
+    let (p, q) = and-yes (leb 1 K) (leb K 16) a in
+    record { vectors = of-rest (leb→le 1 K p) (leb→le K 16 q) (eqb→eq (length values % K) 0 c); range = r; upto = leb→le (length formula) 65_536 s; states = f }
 
 -- ---- what one vector's test gives, by what the list's reading gives
 tested-refused : (formula : List ℕ) (v : List ℤ) (a : Answer) (t : Tested) → Tests formula v t → tested formula v ≡ refused a → t .answer ≡ a
@@ -123,12 +119,12 @@ module _ (formula : List ℕ) (K : ℕ) (values : List ℤ) (output left : List 
       let k = taken z in
       let p = k .passed in
       let m : length values / K ≡ n = sym (ap (λ (w : Written). w .count) (filled k)) ∙ e in
-      record { vectors = subst (λ (n : ℕ). Vectors K n values) m (p .vectors); range = permitted (p .range); upto = p .upto; I = k .I; reads = p .reads; room = subst (λ (n : ℕ). n ≤ length output) m (k .room) }
+      record { vectors = subst (λ (n : ℕ). Vectors K n values) m (p .vectors); range = permitted (p .range); upto = p .upto; I = k .I; states = p .states; room = subst (λ (n : ℕ). n ≤ length output) m (k .room) }
 
   back : (n : ℕ) → Acceptable formula K n values output → (r .answer .number ≡ 0) × (r .count ≡ n)
   back n a =
       let v = a .vectors in
-      let e = to-read formula K values (v .low) (v .high) (rest-0 v) (each-accepted _ _ 0 (allowed (a .range))) (a .upto) ∙ a .reads in
+      let e = to-read formula K values (v .low) (v .high) (rest-0 v) (each-accepted _ _ 0 (allowed (a .range))) (a .upto) ∙ file-read K formula (a .I) (v .low) (v .high) (a .states) in
       let w = c .is ∙ list-filled formula K values output e (subst (λ (n : ℕ). n ≤ length output) (sym (size-n v)) (a .room)) in
       (ap (λ (x : Written). x .answer .number) w, ap (λ (x : Written). x .count) w ∙ size-n v)
 

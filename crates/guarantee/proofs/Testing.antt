@@ -140,7 +140,7 @@ within-gives K (suc levels) fs = field-gives K (suc levels) _ (λ at fs.
     gives-accepted (record { low = omega (arith, h .low, k .low); middle = fs1; first = weaker h; second = weaker k })) fs
 
 module _ (K : ℕ) (file : List ℕ) where
-  read-gives : Gives (readFormula K (fields file)) (FormulaFile K file)
+  pub read-gives : Gives (readFormula K (fields file)) (FormulaFile K file)
   unfolding readFormula
   read-gives = bind (header-gives FileKind.Formula fileProof 1 (some K) (fields file)) λ h d. bind (within-gives (h .K) 600 (h .rest)) λ (I, after) s.
       seq (finished-gives FileKind.Formula fileProof after) λ ended.
@@ -228,7 +228,7 @@ module _ (K : ℕ) where
   spelt-read levels (equal bytes t n q) h fs e = atom-read levels =0 fs bytes t e n q
   spelt-read levels (stride bytes g t n q low r) h fs e = stride-read levels fs bytes g t e n q low r
 
-  file-read : (file : List ℕ) (I : Formula) → 1 ≤ K → K ≤ 16 → FormulaFile K file I → readFormula K (fields file) ≡ accepted I
+  pub file-read : (file : List ℕ) (I : Formula) → 1 ≤ K → K ≤ 16 → FormulaFile K file I → readFormula K (fields file) ≡ accepted I
   unfolding readFormula
   file-read file I low high f =
       let h = header-read FileKind.Formula fileProof 1 (some K) (fields file) 1 K (f .body) (f .whole) (omega arith) (omega arith) low high (agrees-refl K) in

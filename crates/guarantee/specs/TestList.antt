@@ -8,13 +8,12 @@ use lib.ListN.{length, getD, take, drop}
 use lib.IntN.{ℤ, pos, natAbs}
 use Rattle.forms.specs.Forms.{All, Formula}
 use Rattle.answers.specs.declared.WriteResult.{WriteResult}
-use Rattle.answers.specs.Answers.{answer, acceptance, fileLent, accepted}
-use Rattle.fields.specs.Fields.{fields}
-use Rattle.formula.specs.Formula.{readFormula}
+use Rattle.answers.specs.Answers.{answer, acceptance, fileLent}
 use Rattle.formula.specs.TestList.{byte}
 use Rattle.formula_test.specs.declared.Tested.{Tested}
 use Rattle.formula_test.specs.Promises.{Tests}
 use Rattle.formula_list.specs.Promises.{TestsList}
+use Rattle.guarantee.specs.Testing.{FormulaFile}
 
 -- n whole vectors of K values each, K from 1 to 16.
 pub record Vectors (K n : ℕ) (values : List ℤ) : Type 0 where
@@ -30,13 +29,13 @@ Permitted values = All (λ z. natAbs z ≤ 1_000_000) values
 abbrev pub vectorAt : (K : ℕ) → List ℤ → (i : ℕ) → List ℤ
 vectorAt K values i = take K (drop (i * K) values)
 
--- What an accepted list has: n whole vectors of permitted values, a formula of at most 65,536 bytes that can be read, and a byte of the output for each.
+-- What an accepted list has: n whole vectors of permitted values, a file of at most 65,536 bytes that states a formula over K constants, and a byte of the output for each.
 pub record Acceptable (formula : List ℕ) (K n : ℕ) (values : List ℤ) (output : List ℕ) : Type 0 where
   pub vectors : Vectors K n values
   pub range : Permitted values
   pub upto : length formula ≤ 65_536
   pub I : Formula
-  pub reads : readFormula K (fields formula) ≡ accepted I
+  pub states : FormulaFile K formula I
   pub room : n ≤ length output
 
 pub record ListTells : Type 0 where
