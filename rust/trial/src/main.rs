@@ -25,7 +25,7 @@ use Rattle.forms.specs.Forms.{coeff, sum, value, sums, _⊞_, _·_, _plus_, non
 use Rattle.forms.specs.Reduced.{reduced}
 use Rattle.calculus.specs.Rules.{inRange}
 use Rattle.answers.specs.Answers.{position, answerAt, rowTold, _>>=_, _>>_, need, found, each, over, fit, written}
-use Rattle.number_bytes.specs.Numbers.{unsigned, complement, signed, unsignedBytes, residue, signedBytes, signeds, signedsBytes, flat, formFrom, formBytes}
+use Rattle.number_bytes.specs.Numbers.{unsigned, complement, signed, unsignedBytes, residue, signedBytes, unsigneds, unsignedsBytes, signeds, signedsBytes, flat, formFrom, formBytes}
 use Rattle.fields.specs.Fields.{front, note, unlessNote, fieldsFrom, fields, fieldBytes, nth}
 use Rattle.fields.specs.Header.{headerTag, known, agrees, headerField, editionField, constantsField, header, finished, headerBytes}
 use Rattle.bundle.specs.Bundle.{kindTagged, atMost, formSmall, constraints, bundleHeader, bundle, bundles}
@@ -35,9 +35,9 @@ use Rattle.bundle.specs.Show.{partOf, constraintPart, shownPart, answerOf, show
 use Rattle.formula.specs.Formula.{encode, formulaFile, formulaTagged, compound, formulaSize, formulaOf, formulaField, twoParts, formulaWithin, readFormula}
 use Rattle.formula.specs.Test.{holds, judge, tested, judged, testFormula}
 use Rattle.formula.specs.TestList.{vectors, listed, truths, testList}
-use Rattle.proof.specs.Entries.{entryTagged, inPlace, lineNumber, multiplier, sizeOf, entryFrom, entry}
+use Rattle.proof.specs.Entries.{entryTagged, renumbered, inPlace, lineNumber, multiplier, sizeOf, entryFrom, entry}
 use Rattle.proof.specs.Rows.{is, plainKind, owner, fails, equals, sameForm, lineAt, derived, fitting, undivided, inequality, roundable, disequality, byNumber, byStride, states}
-use Rattle.conversion.specs.Turning.{asked, otherEdition, eachField, numbersFit, resultWithin, bundleTurned, behindHeader, entriesRead, lineCount, madeBy, unsigneds, linesFit, unsignedsBytes, linesTurned, fieldsTurned, proofTurned, turnBundle, turnProof}
+use Rattle.conversion.specs.Turning.{asked, otherEdition, eachField, numbersFit, resultWithin, bundleTurned, behindHeader, entriesRead, makesLine, linesFit, linesTurned, fieldsTurned, proofTurned, turnBundle, turnProof}
 use Rattle.proof.specs.Check.{checkRounded, checkSplit, checkRow, checkEntry, checkEntries, checkBranch, checkProof, formulaAtMost, interpolant, checkBy, check}
 use Rattle.scheduler.specs.Scheduler.{empty, isWaiting, submission, cancellation, nextFrom, nextSeat, checkJob, turnAt, turn as turned}
 use Rattle.scheduler.specs.Promises.{changed}
@@ -60,7 +60,7 @@ const TEST: &str = "each sum value finished formulaTagged compound formulaSize f
 const LIST: &str = "over fit written vectors listed truths testList";
 const TURN_BUNDLE: &str =
     "asked otherEdition behindHeader eachField each kindNumber kindsOf numbersOf numbersFit constraintsBytes holdable encodeBundle resultWithin bundleTurned turnBundle";
-const TURN_PROOF: &str = "asked otherEdition eachField atMost formBytes finished entryTagged inPlace lineNumber multiplier sizeOf entryFrom entry behindHeader entriesRead lineCount madeBy unsigneds linesFit unsignedsBytes linesTurned fieldsTurned resultWithin proofTurned turnProof";
+const TURN_PROOF: &str = "asked otherEdition eachField atMost formBytes finished entryTagged inPlace lineNumber multiplier sizeOf entryFrom entry behindHeader entriesRead makesLine unsigneds linesFit unsignedsBytes renumbered linesTurned fieldsTurned resultWithin proofTurned turnProof";
 
 fn list(items: impl Iterator<Item = String>) -> String {
     let mut text = String::new();
