@@ -36,7 +36,7 @@ own.
 cleared for them, and 136,136 where the proof has more than 1,200 bytes.
 - Submitting and cancelling a job. The library is handed the scheduler's state as C does it, 456 bytes copied to the \
 stack, and gives it back in the same way; the Rust version's functions take it by value too, but Rust hands on its \
-address. A turn has the same cost beside its check.
+address. That this makes the difference is a guess. A turn is handed the state in the same way.
 - Testing a formula of many levels where a level has little to test: two levels of a formula are a call, and a processor \
 foretells the returns of some two dozen.
 ";
