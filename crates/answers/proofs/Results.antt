@@ -11,15 +11,18 @@ use Rattle.answers.specs.declared.Answer.{Answer}
 use Rattle.answers.specs.Answers.{Result, refused, accepted, _>>=_, _>>_, need, found, each}
 
 -- ---- forwards: if r is accepted, P holds of its value; if it is refused, then by a number that can come
--- A refusal's number is not that of acceptance, and 22 never comes.
+-- A refusal's number is not that of acceptance, 22 never comes, and 21 only at the end, from the output.
 abbrev pub given : ℕ → Bool
-given n = not (eqb n 0) && not (eqb n 22)
+given n = not (eqb n 0) && not (eqb n 22) && not (eqb n 21)
 
 pub not-0 : {n : ℕ} → T (given n) → ¬ (n ≡ 0)
 not-0 t e = subst (λ (n : ℕ). T (given n)) e t
 
 pub not-22 : {n : ℕ} → T (given n) → ¬ (n ≡ 22)
 not-22 t e = subst (λ (n : ℕ). T (given n)) e t
+
+pub not-21 : {n : ℕ} → T (given n) → ¬ (n ≡ 21)
+not-21 t e = subst (λ (n : ℕ). T (given n)) e t
 
 pub never : {X : Type 0} {a : Answer} {x : X} → refused a ≡ accepted x → ⊥
 never e = let z : _≡_ {A = ℕ} 0 1 = cc in omega arith

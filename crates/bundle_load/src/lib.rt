@@ -1,6 +1,6 @@
 // The constraints of a bundle as lines of a branch; and those of A and B (`prepare`), which check starts with.
 // What it asks and leaves: specs/Load.antt for one bundle, specs/Both.antt for two.
-mod load;
+pub mod load;
 
 use bundle_scan::Body;
 use forms::LineNumber;

@@ -82,7 +82,7 @@ module _ (g : ℕ) (t tA u : Form) (v : Assignment) (all : (c : ℕ) → pos g �
   by-stride B n h = λ k. n (∣-right (value t v) (t .d) (∣-left (value t v) (value tA v) (rw h ∣-zero) (∣-left (value tA v) (value u v) gap k)) (∣-value t v all))
 
 -- ---- strengthen
-split : (z : ℤ) → z ≤ℤ pos 0 → (z ≡ pos 0) ⊎ ((z +ℤ pos 1) ≤ℤ pos 0)
+pub split : (z : ℤ) → z ≤ℤ pos 0 → (z ≡ pos 0) ⊎ ((z +ℤ pos 1) ≤ℤ pos 0)
 split (pos zero) h = inl refl
 split (pos (suc n)) h = absurd (omega ints)
 split (negsuc n) h = inr (omega (ints, add-pn (negsuc n) (pos 1)))

@@ -55,7 +55,7 @@ part-times B α x xA = simp ring-laws
 pub part-multiple : (σ : Side) {π : Form → ℤ} (r : Reading π) (α : ℤ) (t tA : Form) → part σ (π (α · t)) (π (α · tA)) ≡ α *ℤ part σ (π t) (π tA)
 part-multiple σ {π} r α t tA = ap₂ (part σ) (r .of-times α t) (r .of-times α tA) ∙ part-times σ α (π t) (π tA)
 
-zero-form : {π : Form → ℤ} (r : Reading π) (t : Form) → π (pos 0 · t) ≡ pos 0
+pub zero-form : {π : Form → ℤ} (r : Reading π) (t : Form) → π (pos 0 · t) ≡ pos 0
 zero-form {π} r t = r .of-times (pos 0) t ∙ zero-*ℤ (π t)
 
 -- what may be said of the side σ of a line by its kind, so that it passes to sums and multiples, and holds where the side is 0 since the line is the other's
@@ -72,10 +72,10 @@ abbrev pub On : (H : LineKind → ℤ → Type 0) (π : Form → ℤ) (σ : Side
 On H π σ c = H (kindOn σ (c .kind)) (π (c .form))
 
 module _ (σ : Side) {H : LineKind → ℤ → Type 0} (cone : Cone σ H) {π : Form → ℤ} (r : Reading π) where
-  sum-literal : {k : Kind} (s sA t tA : Form) → H (plain k) (part σ (π s) (π sA)) → H (plain k) (part σ (π t) (π tA)) → H (plain k) (part σ (π (s ⊞ t)) (π (sA ⊞ tA)))
+  pub sum-literal : {k : Kind} (s sA t tA : Form) → H (plain k) (part σ (π s) (π sA)) → H (plain k) (part σ (π t) (π tA)) → H (plain k) (part σ (π (s ⊞ t)) (π (sA ⊞ tA)))
   sum-literal {k} s sA t tA h g = subst (H (plain k)) (sym (ap₂ (part σ) (r .of-sum s t) (r .of-sum sA tA) ∙ part-plus σ (π s) (π sA) (π t) (π tA))) (cone .plus h g)
 
-  times-literal : {k : Kind} (α : ℤ) (t tA : Form) → H (plain k) (α *ℤ part σ (π t) (π tA)) → H (plain k) (part σ (π (α · t)) (π (α · tA)))
+  pub times-literal : {k : Kind} (α : ℤ) (t tA : Form) → H (plain k) (α *ℤ part σ (π t) (π tA)) → H (plain k) (part σ (π (α · t)) (π (α · tA)))
   times-literal {k} α t tA h = subst (H (plain k)) (sym (part-multiple σ r α t tA)) h
 
   pub new-literal : {ls : List Line} {l : Line} → All (Says H π σ) ls → New ls l → Says H π σ l

@@ -9,7 +9,7 @@ use Rattle.forms.specs.Forms.{apart, Formula, _and_, _or_, Assignment, True}
 use Rattle.calculus.proofs.Sides.{Side, A, B, part, Holding}
 use Rattle.calculus.proofs.Leaves.{Verdict}
 
-sign : (z : ℤ) → ¬ (z ≡ pos 0) → ((z +ℤ pos 1) ≤ℤ pos 0) ⊎ ((negℤ z +ℤ pos 1) ≤ℤ pos 0)
+pub sign : (z : ℤ) → ¬ (z ≡ pos 0) → ((z +ℤ pos 1) ≤ℤ pos 0) ⊎ ((negℤ z +ℤ pos 1) ≤ℤ pos 0)
 sign (pos zero) h = absurd (h refl)
 sign (pos (suc n)) h = inr (omega (ints, neg-pn (pos (suc n)), add-pn (negℤ (pos (suc n))) (pos 1)))
 sign (negsuc n) h = inl (omega (ints, add-pn (negsuc n) (pos 1)))

@@ -17,7 +17,7 @@ use Rattle.calculus.proofs.Sides.{Side}
 use Rattle.calculus.proofs.Interpolation.{interpolation, initial-words, sides}
 use Rattle.answers.specs.declared.Answer.{Answer}
 use Rattle.answers.specs.Answers.{answer, fileA, fileB, fileProof, fileLent, Result, refused, accepted, _>>=_, _>>_}
-use Rattle.answers.proofs.Results.{one-value, Gives, gives-accepted, weaken, gives-need, bind, seq, binds, passes, need-yes, fail, not-0, not-22}
+use Rattle.answers.proofs.Results.{one-value, Gives, gives-accepted, weaken, gives-need, bind, seq, binds, passes, need-yes, fail, not-0, not-22, not-21}
 use Rattle.fields.specs.declared.FileKind.{FileKind}
 use Rattle.fields.specs.Fields.{Fields, Item, item, fields, items}
 use Rattle.fields.specs.Header.{Header, agrees}
@@ -91,7 +91,7 @@ module _ (newest : ℕ) (a b : Bundle) (fs : Fields) where
       bind (branch-derives (edition (h .number)) (h .K) (occurring a b) (edition (h .number) .branchings) _ 0 _ (h .rest) (initial-words (sides (a .constraints) (b .constraints)))) λ root r.
       seq (finished-gives FileKind.Proof fileProof (root .after)) λ ended. gives-accepted (header-proof h d root r ended)
 
-  proof-accepts : (I : Formula) → Proof newest a b fs I → checkProof newest a b fs ≡ accepted I
+  pub proof-accepts : (I : Formula) → Proof newest a b fs I → checkProof newest a b fs ≡ accepted I
   unfolding checkProof
   proof-accepts I p =
       let h = header-read FileKind.Proof fileProof newest (some (a .K)) fs (p .number) (a .K) (p .body) (p .whole) (p .first) (p .last) (p .low) (p .high) (agrees-refl (a .K)) in
@@ -196,6 +196,10 @@ module _ (newest : ℕ) (A B P : List ℕ) where
   -- the refusal by 22 never comes
   pub never-22 : (a : Answer) → interpolant newest A B P ≡ refused a → ¬ (a .number ≡ 22)
   never-22 a e = not-22 (interpolant-gives .refusal a e)
+
+  -- and that by 21 only from the output that is lent: without one, 21 tells that the proof is accepted
+  pub never-21 : (a : Answer) → interpolant newest A B P ≡ refused a → ¬ (a .number ≡ 21)
+  never-21 a e = not-21 (interpolant-gives .refusal a e)
 
   -- a refusal's number is never that of acceptance
   pub never-0 : (a : Answer) → interpolant newest A B P ≡ refused a → ¬ (a .number ≡ 0)

@@ -29,7 +29,7 @@ use Rattle.proof.proofs.Says.{Says, says-refused, says-accepted, bind, 
 use Rattle.proof.proofs.Tree.{proof-stands}
 
 -- A refusal in a file of that number, which tells nothing.
-abbrev In : ℕ → Answer → Type 0
+abbrev pub In : ℕ → Answer → Type 0
 In file a = (a .file ≡ file) × Outside a
 
 -- ---- headers and ends
@@ -67,7 +67,7 @@ module _ (file : ℕ) where
   constraints-in e K n (f ▸ fs) = needed _ _ (refl, refl) λ _. bind (finds _ _ (refl, refl)) λ k _. needed _ _ (refl, refl) λ _. needed _ _ (refl, refl) λ _. needed _ _ (refl, refl) λ _.
       bind (constraints-in e K (suc n) fs) λ cs _. says-accepted tt
 
-  short-in : (limit : ℕ) (bytes : List ℕ) → Says (In file) (atMost limit file bytes) (λ _. Unit {0})
+  pub short-in : (limit : ℕ) (bytes : List ℕ) → Says (In file) (atMost limit file bytes) (λ _. Unit {0})
   unfolding atMost
   short-in limit bytes = weaken (need-says _ _ (refl, refl)) (λ a q. q) (λ _ _. tt)
 
@@ -75,7 +75,7 @@ module _ (file : ℕ) where
   unfolding bundleHeader
   bundleHeader-in newest given bytes = bind (edition-in FileKind.Bundle file newest (fields bytes)) λ x _. seq (short-in _ bytes) (bind (constants-in FileKind.Bundle file given (x .1)) λ y _. says-accepted tt)
 
-  bundle-in : (newest : ℕ) (given : Option ℕ) (bytes : List ℕ) → Says (In file) (bundle newest file given bytes) (λ _. Unit {0})
+  pub bundle-in : (newest : ℕ) (given : Option ℕ) (bytes : List ℕ) → Says (In file) (bundle newest file given bytes) (λ _. Unit {0})
   unfolding bundle
   bundle-in newest given bytes = bind (bundleHeader-in newest given bytes) λ h _. bind (constraints-in (edition (h .number)) (h .K) 0 (h .rest)) λ cs _. says-accepted tt
 

@@ -284,7 +284,7 @@ states-in : (n K : ℕ) {is : List Item} {cs : List Constraint} → Each (States
 states-in n K Each.nil nil = nil
 states-in n K (Each.cons {y = c} s ss) (cons h hs) = cons (record { sized = states-size n K s; ranged = form-ranged (c .form) h }) (states-in n K ss hs)
 
-bundle-in : {newest n K : ℕ} {file : List ℕ} {cs : List Constraint} → BundleFile newest file n K cs → Stated K cs
+pub bundle-in : {newest n K : ℕ} {file : List ℕ} {cs : List Constraint} → BundleFile newest file n K cs → Stated K cs
 bundle-in {n = n} {K = K} f = states-in n K (f .laid .states) (f .within)
 
 -- g is read from two bytes, behind a line number.
@@ -315,7 +315,7 @@ enters-short : (n K : ℕ) {is : List Item} {es : List Entry} → All ItemBytes 
 enters-short n K h Each.nil = nil
 enters-short n K (cons {x = i} h hs) (Each.cons s ss) = cons (subst EntryShort (s .entry) (entry-short n K (s .tagged) (i .contents) (h .bytes))) (enters-short n K hs ss)
 
-proof-short : {newest n K : ℕ} {file : List ℕ} {es : List Entry} → Bytes file → ProofFile newest file n K es → All EntryShort es
+pub proof-short : {newest n K : ℕ} {file : List ℕ} {es : List Entry} → Bytes file → ProofFile newest file n K es → All EntryShort es
 proof-short {n = n} {K = K} {file = file} h f = enters-short n K (all-drop 2 (contents-bytes file h (f .whole))) (f .enters)
 
 -- What three files certify is written as a file that reads back, and is not too long. (Only the proof need be of bytes: a bundle's numbers are tested.)

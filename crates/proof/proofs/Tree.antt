@@ -69,15 +69,15 @@ module _ {Q : Answer → Type 0} (refusal : ℕ → Answer) (h : (n : ℕ) → T
   byStride-says i g = bind (line-says i) λ t _. test _ _ (h 11 tt) λ _. test _ _ (h 12 tt) λ _. test _ _ (h 15 tt) λ _. says-accepted tt
 
 -- ---- from one tree to another
-data Leads : Tree → Fields → Tree → Fields → Type 0 where
+pub data Leads : Tree → Fields → Tree → Fields → Type 0 where
   stays : {t : Tree} {fs : Fields} → Leads t fs t fs
   on : {t t′ : Tree} (f : Field) {fs fs′ : Fields} → Leads (treeBehind (entryTagged (f .tag)) (f .contents) t) fs t′ fs′ → Leads t (f ▸ fs) t′ fs′
 
-stands-on : {t t′ : Tree} {fs fs′ : Fields} {a : Answer} → Leads t fs t′ fs′ → Stands t′ fs′ a → Stands t fs a
+pub stands-on : {t t′ : Tree} {fs fs′ : Fields} {a : Answer} → Leads t fs t′ fs′ → Stands t′ fs′ a → Stands t fs a
 stands-on stays s = s
 stands-on (on f l) s = past f (stands-on l s)
 
-leads-on : {t t′ t″ : Tree} {fs fs′ fs″ : Fields} → Leads t fs t′ fs′ → Leads t′ fs′ t″ fs″ → Leads t fs t″ fs″
+pub leads-on : {t t′ t″ : Tree} {fs fs′ fs″ : Fields} → Leads t fs t′ fs′ → Leads t′ fs′ t″ fs″ → Leads t fs t″ fs″
 leads-on stays m = m
 leads-on (on f l) m = on f (leads-on l m)
 
@@ -104,7 +104,7 @@ deeper-says none p a h k = says-refused h
 deeper-says (some c) p a h k = k c p
 
 -- a refusal at the front of fs
-at-front : (ps : List OpenStep) (rows : ℕ) (fs : Fields) (n : ℕ) → Stands (tree rows ps) fs (refusalAt (innermost ps) rows (startsAt fs) n)
+pub at-front : (ps : List OpenStep) (rows : ℕ) (fs : Fields) (n : ℕ) → Stands (tree rows ps) fs (refusalAt (innermost ps) rows (startsAt fs) n)
 at-front ps rows fs n = here {t = tree rows ps} {fs = fs} {a = refusalAt (innermost ps) rows (startsAt fs) n} refl
 
 -- what a field is that states an entry
@@ -117,11 +117,11 @@ entry-says e K refusal made f h = test _ _ (h 3 tt) λ _. bind (finds _ (entryTa
 -- ---- a close
 -- it goes on to the next branch of a step, and from its last one to the step around it
 module _ (step : ℕ) (ps : List OpenStep) where
-  after-last : {b k : ℕ} → b ≡ k → afterClose (openStep step b k ∷ ps) ≡ afterClose ps
+  pub after-last : {b k : ℕ} → b ≡ k → afterClose (openStep step b k ∷ ps) ≡ afterClose ps
   unfolding afterClose
   after-last {b} {k} q = ap (λ (c : Bool). elim c [ true ↦ afterClose ps | false ↦ openStep step (suc b) k ∷ ps ]) (eq-eqb b k q)
 
-  after-other : {b k : ℕ} → b < k → afterClose (openStep step b k ∷ ps) ≡ openStep step (suc b) k ∷ ps
+  pub after-other : {b k : ℕ} → b < k → afterClose (openStep step b k ∷ ps) ≡ openStep step (suc b) k ∷ ps
   unfolding afterClose
   after-other {b} {k} h = ap (λ (c : Bool). elim c [ true ↦ afterClose ps | false ↦ openStep step (suc b) k ∷ ps ]) (ne-eqb b k (λ q. omega arith))
 
@@ -141,7 +141,7 @@ module _ (checker : Checker) (d : Places checker) (ls : List Line) (l : Line) (s
       bind (weaken (rounded-through (suc j) left (own .rows) (omega arith) (own .after)) (λ a s. stands-on l s) (λ c n. leads-on l n)) λ others n. says-accepted n
 
 -- ---- the tree behind a field, by the entry that it states
-abbrev entryBehind : Entry → Tree → Tree
+abbrev pub entryBehind : Entry → Tree → Tree
 entryBehind (row (Derive s)) t = tree (suc (t .rows)) (t .steps)
 entryBehind (row (Strengthen i)) t = tree (suc (t .rows)) (openStep (t .rows) 0 2 ∷ t .steps)
 entryBehind (row (CloseNumber i)) t = tree (suc (t .rows)) (afterClose (t .steps))
@@ -173,7 +173,7 @@ module _ (e : Edition) (two : e .multiplierWidth ≡ 2) where
   tagged-behind K splitTag bs size t = refl
   tagged-behind K claimTag bs size t = refl
 
-  field-behind : (K : ℕ) (f : Field) {x : Entry} → Enters e K (item (f .tag) (f .contents)) x → (t : Tree) → treeBehind (entryTagged (f .tag)) (f .contents) t ≡ entryBehind x t
+  pub field-behind : (K : ℕ) (f : Field) {x : Entry} → Enters e K (item (f .tag) (f .contents)) x → (t : Tree) → treeBehind (entryTagged (f .tag)) (f .contents) t ≡ entryBehind x t
   field-behind K f n t = ap (λ (o : Option EntryTag). treeBehind o (f .contents) t) (n .tag) ∙ tagged-behind K (n .tagged) (f .contents) (n .size) t ∙ ap (λ (x : Entry). entryBehind x t) (n .entry)
 
 module _ (e : Edition) (two : e .multiplierWidth ≡ 2) (K : ℕ) (deeper : Option Checker) (p : PlacesIn deeper) (ps : List OpenStep) where
@@ -294,7 +294,7 @@ constants-says : (given : Option ℕ) (fs : Fields) → Says (Stands (tree 0 [])
 unfolding constantsField entryTagged rowTold
 constants-says given fs = bind (field-says 0x02 refl fs) λ x p. test _ _ (p .told 7 refl) λ _. test _ _ (p .told 9 refl) λ _. says-accepted (p .leads)
 
-header-says : (newest : ℕ) (given : Option ℕ) (fs : Fields) → Says (Stands (tree 0 []) fs) (header FileKind.Proof fileProof newest given fs) (λ h. Leads (tree 0 []) fs (tree 0 []) (h .rest))
+pub header-says : (newest : ℕ) (given : Option ℕ) (fs : Fields) → Says (Stands (tree 0 []) fs) (header FileKind.Proof fileProof newest given fs) (λ h. Leads (tree 0 []) fs (tree 0 []) (h .rest))
 unfolding header
 header-says newest given fs = bind (edition-says newest fs) λ x l. bind (weaken (constants-says given (x .1)) (λ a s. stands-on l s) (λ y m. leads-on l m)) λ y m. says-accepted m
 
