@@ -185,7 +185,7 @@ dulgaverk_read_result dulgaverk_read(const uint8_t *file, size_t file_length, ui
  * index), else for the count of numbers (place the number of kinds); 13 for a number that the edition cannot hold or that
  * is -2,147,483,648 (place the number's index); 21 where `out` is too short (place the bytes needed).
  */
-dulgaverk_write_result dulgaverk_write(uint8_t edition, uint8_t k, const uint8_t *kinds, size_t kinds_length,
+dulgaverk_write_result dulgaverk_write(size_t edition, size_t k, const uint8_t *kinds, size_t kinds_length,
                                        const int32_t *numbers, size_t numbers_length, uint8_t *out,
                                        size_t out_length);
 
@@ -194,12 +194,12 @@ dulgaverk_write_result dulgaverk_write(uint8_t edition, uint8_t k, const uint8_t
  * Refused: what a check refuses of A (file 1) and of B (file 2), then 10 with file 1 and place 0.
  */
 dulgaverk_answer dulgaverk_show_answer(const uint8_t *a, size_t a_length, const uint8_t *b, size_t b_length,
-                                       uint16_t line);
+                                       size_t line);
 
 /* Copies that constraint's field, tag and length and contents, to the front of `out`, and returns its length: at most
  * 71, and 0 where dulgaverk_show_answer refuses. A length above out_length says that nothing was copied.
  */
-size_t dulgaverk_show(const uint8_t *a, size_t a_length, const uint8_t *b, size_t b_length, uint16_t line,
+size_t dulgaverk_show(const uint8_t *a, size_t a_length, const uint8_t *b, size_t b_length, size_t line,
                       uint8_t *out, size_t out_length);
 
 /* Checks a proof of at most 65,536 bytes that A and B contradict each other.

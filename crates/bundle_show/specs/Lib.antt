@@ -1,3 +1,4 @@
 -- Showing a constraint: the contracts.
 pub mod Locate
 pub mod Promises
+pub mod Copied

@@ -1,6 +1,7 @@
 // The operation show: the part of A's or B's bytes that states a constraint.
 // Its definition is bundle/specs/Show.antt, its contracts specs/Promises.antt.
 mod locate;
+pub mod wide;
 
 use answers::Answer;
 use answers::acceptance;

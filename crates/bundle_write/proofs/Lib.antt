@@ -1,3 +1,4 @@
 -- What is written, by the definition.
 pub mod Putting
 pub mod Writing
+mod Wide

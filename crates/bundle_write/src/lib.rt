@@ -16,6 +16,7 @@ use number_ranges::held::first_unheld;
 use put::first_bad;
 use put::put_constraints;
 ghost use mathlib.Core.Path.{_≡_};
+ghost use Prim.Native.Nat.{min};
 ghost use Rattle.forms.specs.Edition.{newestEdition};
 ghost use Rattle.bundle.specs.Write.{encodeBundle};
 ghost use Rattle.bundle.specs.Show.{answerOf};
@@ -73,4 +74,27 @@ pub fn write(edition: u8, k: u8, kinds: &[u8], numbers: &[i32], out: &mut [u8]) 
         answer,
         count: needed,
     }
+}
+
+// 255, which is no edition and no K, for every number that a byte cannot hold.
+fn byte(n: usize) -> u8
+    ensures { λ r. ⌜ r ≡ min n 255 ⌝ }
+{
+    if n > 255 {
+        return 255;
+    }
+    n as u8
+}
+
+// The same for callers whose editions and K are wider than a byte: for any numbers.
+pub fn write_any(
+    edition: usize,
+    k: usize,
+    kinds: &[u8],
+    numbers: &[i32],
+    out: &mut [u8],
+) -> WriteResult
+    ensures { λ r. ⌜ Writes edition k (now (kinds .entry)) (now (numbers .entry)) (now (out .entry)) (now (out .exit)) r ⌝ }
+{
+    write(byte(edition), byte(k), kinds, numbers, out)
 }

@@ -12,14 +12,14 @@ ghost use Rattle.proof.specs.Promises.{Checks};
 ghost use Rattle.conversion.specs.Promises.{TurnsBundle, TurnsProof};
 ghost use Rattle.scheduler.specs.Scheduler.{empty};
 ghost use Rattle.scheduler.specs.Promises.{Submits, Cancels, Turns};
-ghost use Rattle.dulgaverk.specs.Copied.{Copied};
+ghost use Rattle.bundle_show.specs.Copied.{Copied};
 use answers::Answer;
 use answers::WriteResult;
 use bundle_read::ReadResult;
+use bundle_show::wide::answer_any;
+use bundle_show::wide::copy_any;
 use checking::check;
-use forms::LineNumber;
 use formula_test::Tested;
-use number_bytes::copy::copy_bytes;
 use scheduler::Changed;
 use scheduler::Job;
 use scheduler::Scheduler;
@@ -34,22 +34,22 @@ pub extern "C" fn dulgaverk_read(file: &[u8], kinds: &mut [u8], numbers: &mut [i
 
 #[no_mangle]
 pub extern "C" fn dulgaverk_write(
-    edition: u8,
-    k: u8,
+    edition: usize,
+    k: usize,
     kinds: &[u8],
     numbers: &[i32],
     out: &mut [u8],
 ) -> WriteResult
     ensures { λ r. ⌜ Writes edition k (now (kinds .entry)) (now (numbers .entry)) (now (out .entry)) (now (out .exit)) r ⌝ }
 {
-    bundle_write::write(edition, k, kinds, numbers, out)
+    bundle_write::write_any(edition, k, kinds, numbers, out)
 }
 
 #[no_mangle]
-pub extern "C" fn dulgaverk_show_answer(a: &[u8], b: &[u8], line: u16) -> Answer
+pub extern "C" fn dulgaverk_show_answer(a: &[u8], b: &[u8], line: usize) -> Answer
     ensures { λ r. ⌜ AnswersShow (now (a .entry)) (now (b .entry)) line r ⌝ }
 {
-    bundle_show::show_answer(a, b, LineNumber(line))
+    answer_any(a, b, line)
 }
 
 // The check of a proof; the formula's file goes into `out`.
@@ -62,16 +62,10 @@ pub extern "C" fn dulgaverk_check(a: &[u8], b: &[u8], proof: &[u8], out: &mut [u
 
 // The constraint's field, copied into `out`, and its length. (An exported function cannot return a reference.) Where it does not fit, nothing is copied.
 #[no_mangle]
-pub extern "C" fn dulgaverk_show<'a>(a: &'a [u8], b: &'a [u8], line: u16, out: &mut [u8]) -> usize
+pub extern "C" fn dulgaverk_show<'a>(a: &'a [u8], b: &'a [u8], line: usize, out: &mut [u8]) -> usize
     ensures { λ r. ⌜ Copied (partBytes (showPart newestEdition (now (a .entry)) (now (b .entry)) line) (now (a .entry)) (now (b .entry))) (now (out .entry)) (now (out .exit)) r ⌝ }
 {
-    let part = bundle_show::show(a, b, LineNumber(line));
-    let n = part.len();
-    if out.len() < n {
-        return n;
-    }
-    copy_bytes(part, 0, n, out, 0);
-    n
+    copy_any(a, b, line, out)
 }
 
 #[no_mangle]

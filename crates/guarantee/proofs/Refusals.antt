@@ -36,7 +36,7 @@ use Rattle.proof.specs.Promises.{Checks}
 use Rattle.conversion.specs.Turning.{turnBundle, turnProof}
 use Rattle.conversion.proofs.Bundles.{bundle-turned-gives}
 use Rattle.conversion.proofs.Proofs.{proof-turned-gives}
-use Rattle.dulgaverk.specs.Copied.{Copied}
+use Rattle.bundle_show.specs.Copied.{Copied}
 use Rattle.scheduler.specs.declared.Job.{Job}
 use Rattle.scheduler.specs.declared.Scheduler.{Scheduler}
 use Rattle.scheduler.specs.declared.Changed.{Changed}

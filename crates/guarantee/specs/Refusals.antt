@@ -21,7 +21,7 @@ use Rattle.formula_test.specs.Promises.{Tests}
 use Rattle.formula_list.specs.Promises.{TestsList}
 use Rattle.proof.specs.Promises.{Checks}
 use Rattle.conversion.specs.Promises.{TurnsBundle, TurnsProof}
-use Rattle.dulgaverk.specs.Copied.{Copied}
+use Rattle.bundle_show.specs.Copied.{Copied}
 use Rattle.scheduler.specs.declared.Job.{Job}
 use Rattle.scheduler.specs.declared.Scheduler.{Scheduler}
 use Rattle.scheduler.specs.declared.Changed.{Changed}

@@ -51,7 +51,7 @@ fn rust_read(file: &[u8], kinds: &mut [u8], numbers: &mut [i32]) -> usize {
 }
 
 #[inline(never)]
-fn rust_write(edition: u8, k: u8, kinds: &[u8], numbers: &[i32], out: &mut [u8]) -> usize {
+fn rust_write(edition: usize, k: usize, kinds: &[u8], numbers: &[i32], out: &mut [u8]) -> usize {
     reference::write_bundle(edition, k, kinds, numbers, out).written
 }
 
@@ -332,7 +332,7 @@ fn bundles(list: &mut Vec<Work>) {
         ),
     ] {
         let (kinds, numbers) = lists(edition, k, count);
-        let edition = edition.number();
+        let (edition, k) = (usize::from(edition.number()), usize::from(k));
         let mut file = vec![0; dulgaverk::WRITTEN_BUNDLE];
         let written = dulgaverk::write_bundle_into(edition, k, &kinds, &numbers, &mut file);
         file.truncate(written.expect("a sound bundle"));
@@ -391,7 +391,7 @@ fn bundles(list: &mut Vec<Work>) {
                 (0..times)
                     .map(|_| {
                         let file = black_box(file.as_slice());
-                        usize::from(dulgaverk::show_answer(file, file, last as u16).is_err())
+                        usize::from(dulgaverk::show_answer(file, file, last).is_err())
                     })
                     .sum()
             }),
@@ -418,8 +418,13 @@ fn turned_bundles(list: &mut Vec<Work>) {
             // Numbers that both editions hold.
             let (kinds, numbers) = lists(Edition::One, k, count);
             let mut file = vec![0; dulgaverk::WRITTEN_BUNDLE];
-            let written =
-                dulgaverk::write_bundle_into(edition.number(), k, &kinds, &numbers, &mut file);
+            let written = dulgaverk::write_bundle_into(
+                edition.number().into(),
+                k.into(),
+                &kinds,
+                &numbers,
+                &mut file,
+            );
             file.truncate(written.expect("a sound bundle"));
             let size = format!("edition {}, {size}", edition.number());
             list.push(read_and_write(
@@ -451,8 +456,8 @@ fn read_and_write(name: String, file: Vec<u8>) -> Work {
                     read.and_then(|found| {
                         let (count, k) = (found.constraints, found.constants);
                         let (kinds, numbers) = (&kinds[..count], &numbers[..count * (k + 1)]);
-                        let edition = found.edition.number();
-                        dulgaverk::write_bundle_into(edition, k as u8, kinds, numbers, &mut out)
+                        let edition = usize::from(found.edition.number());
+                        dulgaverk::write_bundle_into(edition, k, kinds, numbers, &mut out)
                     })
                     .unwrap_or(0)
                 })
@@ -467,7 +472,7 @@ fn read_and_write(name: String, file: Vec<u8>) -> Work {
                     let found = reference::read_bundle(file, &mut kinds, &mut numbers);
                     let (count, k) = (found.count, found.k);
                     let (kinds, numbers) = (&kinds[..count], &numbers[..count * (k + 1)]);
-                    rust_write(found.edition, k as u8, kinds, numbers, &mut out)
+                    rust_write(found.edition.into(), k, kinds, numbers, &mut out)
                 })
                 .sum()
         }),

@@ -218,10 +218,9 @@ fn call(case: &Case, rng: &mut Rng, tally: &mut Tally) -> u8 {
             )
         }
         Case::Show { a, b, line } => {
-            // A line number has two bytes at most.
-            let line = u16::try_from(*line).unwrap_or(u16::MAX);
-            let part = reference::show(a, b, usize::from(line));
-            let answer = reference::show_answer(a, b, usize::from(line));
+            let line = *line;
+            let part = reference::show(a, b, line);
+            let answer = reference::show_answer(a, b, line);
             let expected = outcome(answer, part.len());
             let mut same = dulgaverk::show_answer(a, b, line) == outcome(answer, ());
             same &= dulgaverk::show(a, b, line) == outcome(answer, part.to_vec());

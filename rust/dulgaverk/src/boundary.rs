@@ -106,8 +106,8 @@ extern "C" {
         numbers_len: usize,
     ) -> ReadResult;
     pub fn dulgaverk_write(
-        edition: u8,
-        k: u8,
+        edition: usize,
+        k: usize,
         kinds: *const u8,
         kinds_len: usize,
         numbers: *const i32,
@@ -120,14 +120,14 @@ extern "C" {
         a_len: usize,
         b: *const u8,
         b_len: usize,
-        line: u16,
+        line: usize,
     ) -> Answer;
     pub fn dulgaverk_show(
         a: *const u8,
         a_len: usize,
         b: *const u8,
         b_len: usize,
-        line: u16,
+        line: usize,
         out: *mut u8,
         out_len: usize,
     ) -> usize;

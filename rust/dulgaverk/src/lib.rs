@@ -160,13 +160,13 @@ pub fn read_bundle_into(
 /// ```
 pub fn write_bundle(
     edition: Edition,
-    k: u8,
+    k: usize,
     kinds: &[Kind],
     numbers: &[i32],
 ) -> Result<Vec<u8>, Refusal> {
     let mut out = vec![0; WRITTEN_BUNDLE];
     let kinds: Vec<u8> = kinds.iter().map(|kind| kind.number()).collect();
-    let written = write_bundle_into(edition.number(), k, &kinds, numbers, &mut out)?;
+    let written = write_bundle_into(usize::from(edition.number()), k, &kinds, numbers, &mut out)?;
     out.truncate(written);
     Ok(out)
 }
@@ -186,8 +186,8 @@ pub fn write_bundle(
 /// assert_eq!((refusal.number, refusal.file, refusal.place), (5, 4, 0));
 /// ```
 pub fn write_bundle_into(
-    edition: u8,
-    k: u8,
+    edition: usize,
+    k: usize,
     kinds: &[u8],
     numbers: &[i32],
     out: &mut [u8],
@@ -218,7 +218,7 @@ pub fn write_bundle_into(
 /// assert_eq!((refusal.number, refusal.file, refusal.place), (10, 1, 0));
 /// # Ok::<(), dulgaverk::Refusal>(())
 /// ```
-pub fn show(a: &[u8], b: &[u8], line: u16) -> Result<Vec<u8>, Refusal> {
+pub fn show(a: &[u8], b: &[u8], line: usize) -> Result<Vec<u8>, Refusal> {
     let mut out = vec![0; CONSTRAINT_FIELD];
     let size = show_into(a, b, line, &mut out)?;
     out.truncate(size);
@@ -235,7 +235,7 @@ pub fn show(a: &[u8], b: &[u8], line: u16) -> Result<Vec<u8>, Refusal> {
 /// let refusal = dulgaverk::show_into(a, &a[..8], 0, &mut out[..6]).unwrap_err();
 /// assert_eq!((refusal.number, refusal.file, refusal.place), (21, 4, 7));
 /// ```
-pub fn show_into(a: &[u8], b: &[u8], line: u16, out: &mut [u8]) -> Result<usize, Refusal> {
+pub fn show_into(a: &[u8], b: &[u8], line: usize, out: &mut [u8]) -> Result<usize, Refusal> {
     show_answer(a, b, line)?;
     let size = unsafe {
         boundary::dulgaverk_show(
@@ -261,7 +261,7 @@ pub fn show_into(a: &[u8], b: &[u8], line: u16, out: &mut [u8]) -> Result<usize,
 /// assert_eq!(dulgaverk::show_answer(a, a, 1), Ok(()));
 /// assert_eq!(dulgaverk::show_answer(a, a, 2).unwrap_err().number, 10);
 /// ```
-pub fn show_answer(a: &[u8], b: &[u8], line: u16) -> Result<(), Refusal> {
+pub fn show_answer(a: &[u8], b: &[u8], line: usize) -> Result<(), Refusal> {
     let answer =
         unsafe { boundary::dulgaverk_show_answer(a.as_ptr(), a.len(), b.as_ptr(), b.len(), line) };
     accepted(answer, ())

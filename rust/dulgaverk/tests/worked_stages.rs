@@ -23,7 +23,7 @@ fn largest(edition: Edition, step: i32, field: usize) {
     let needed = 8 + 32 * field;
     let mut file = vec![0; needed];
     assert_eq!(
-        write_bundle_into(number, 16, &kinds, &numbers, &mut file),
+        write_bundle_into(usize::from(number), 16, &kinds, &numbers, &mut file),
         Ok(needed)
     );
 
@@ -46,7 +46,7 @@ fn largest(edition: Edition, step: i32, field: usize) {
         refused(7, 1, 4)
     );
     assert_eq!(
-        write_bundle_into(number, 17, &kinds, &numbers, &mut file),
+        write_bundle_into(usize::from(number), 17, &kinds, &numbers, &mut file),
         refused(7, 4, 0)
     );
 

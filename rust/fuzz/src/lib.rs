@@ -48,8 +48,8 @@ pub fn decode(bytes: &[u8]) -> Input {
             file: reader.rest(),
         },
         1 => {
-            let edition = reader.byte();
-            let k = reader.byte();
+            let edition = reader.short();
+            let k = reader.short();
             let out = reader.short();
             let count = usize::from(reader.byte());
             let kinds = reader.bytes(count).to_vec();
@@ -222,8 +222,10 @@ pub fn encode(case: &Case) -> Vec<u8> {
             let numbers: Vec<u8> = numbers.iter().flat_map(|n| n.to_be_bytes()).collect();
             let count = [byte(kinds.len())];
             [
-                &[1, *edition, *k],
-                &short(*out)[..],
+                &[1][..],
+                &short(*edition),
+                &short(*k),
+                &short(*out),
                 &count,
                 kinds,
                 &numbers,

@@ -253,8 +253,8 @@ fn read_into<'a>(
 
 /// Writes a bundle of an edition from K, kinds and numbers.
 pub fn write_bundle(
-    edition: u8,
-    k: u8,
+    edition: usize,
+    k: usize,
     kinds: &[u8],
     numbers: &[i32],
     out: &mut [u8],
@@ -266,17 +266,20 @@ pub fn write_bundle(
 }
 
 fn write_into(
-    edition: u8,
-    k: u8,
+    edition: usize,
+    k: usize,
     kinds: &[u8],
     numbers: &[i32],
     out: &mut [u8],
 ) -> Result<usize, (u8, usize)> {
-    let edition = Edition::numbered(edition).ok_or((WRONG_EDITION, 0))?;
-    let width = usize::from(k) + 1;
-    if k == 0 || usize::from(k) > limits::CONSTANTS {
+    let edition = u8::try_from(edition)
+        .ok()
+        .and_then(Edition::numbered)
+        .ok_or((WRONG_EDITION, 0))?;
+    if k == 0 || k > limits::CONSTANTS {
         return Err((WRONG_K, 0));
     }
+    let width = k + 1;
     if kinds.len() > limits::CONSTRAINTS {
         return Err((TOO_MANY_CONSTRAINTS, 0));
     }
@@ -289,7 +292,7 @@ fn write_into(
     if let Some(index) = edition.first_outside(numbers) {
         return Err((OUT_OF_RANGE, index));
     }
-    let header = header_bytes(edition, k);
+    let header = header_bytes(edition, k as u8);
     let length = edition.number_bytes() * width;
     // At most 8 + 32 * 71.
     let needed = header.len() + kinds.len() * (3 + length);

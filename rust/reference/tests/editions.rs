@@ -578,7 +578,8 @@ fn writes_in_each_edition() {
     for number in [1, 2] {
         for k in 1..=16 {
             let expected = file_of(number, k, &[]);
-            assert_eq!(write_of(number, k, &[], &[], 8), (ACCEPTED, expected));
+            let wide = (usize::from(number), usize::from(k));
+            assert_eq!(write_of(wide.0, wide.1, &[], &[], 8), (ACCEPTED, expected));
         }
     }
 }
@@ -622,11 +623,11 @@ fn writing_refuses_13_after_24_and_before_21_at_the_numbers_index() {
 
 #[test]
 fn writing_in_edition_2_refuses_21_when_a_byte_is_missing() {
-    for k in 1..=16u8 {
+    for k in 1..=16 {
         for count in 0..=32usize {
-            let numbers = vec![-70_000; count * (k as usize + 1)];
+            let numbers = vec![-70_000; count * (k + 1)];
             let kinds = vec![2; count];
-            let needed = 8 + count * (3 + 4 * (k as usize + 1));
+            let needed = 8 + count * (3 + 4 * (k + 1));
             let (answer, bytes) = write_of(2, k, &kinds, &numbers, needed);
             assert_eq!((answer, bytes.len()), (ACCEPTED, needed));
             let result = read(&bytes);

@@ -43,8 +43,8 @@ pub enum Case {
         numbers: usize,
     },
     Write {
-        edition: u8,
-        k: u8,
+        edition: usize,
+        k: usize,
         kinds: Vec<u8>,
         numbers: Vec<i32>,
         out: usize,

@@ -485,24 +485,29 @@ fn writes_in(rng: &mut Rng, edition: Edition) -> Vec<Aimed> {
     })
     .collect();
     let needed = 8 + 2 * (3 + edition.number_bytes() * width);
-    let write = |edition: u8, k: u8, kinds: &[u8], numbers: &[i32], out: usize| Case::Write {
+    let write = |edition: usize, k: usize, kinds: &[u8], numbers: &[i32], out: usize| Case::Write {
         edition,
         k,
         kinds: kinds.to_vec(),
         numbers: numbers.to_vec(),
         out,
     };
-    let case = |k: u8, kinds: &[u8], numbers: &[i32], out: usize| {
-        write(edition.number(), k, kinds, numbers, out)
+    let case = |k: usize, kinds: &[u8], numbers: &[i32], out: usize| {
+        write(usize::from(edition.number()), k, kinds, numbers, out)
     };
     let kind = 3 + rng.below(253) as u8;
-    let wrong = *rng.pick(&[0, 3, 4, 255]);
+    let k = usize::from(k);
+    // 257 and 272 have the bytes of 1 and 16.
+    let wrong = *rng.pick(&[0, 3, 4, 255, 256, 257, 258, usize::MAX]);
+    let beyond = *rng.pick(&[17, 255, 256, 257, 272, 1 << 32, usize::MAX]);
     let mut cases = vec![
         (5, write(wrong, 17, &[3; 33], &[i32::MIN], 0)),
         (5, write(wrong, k, &[0, 1], &numbers, needed)),
         (7, case(0, &[0], &[1], 99)),
         (7, case(17, &[2; 33], &[], 0)),
         (7, case(255, &[], &[], 8)),
+        (7, case(beyond, &[], &[], 8)),
+        (7, case(256 + k, &[0, 1], &numbers, needed)),
         (8, case(k, &[2; 33], &[], 0)),
         (24, case(k, &[0, kind], &numbers, 0)),
         (24, case(k, &[kind, 1, kind], &numbers, 99)),

@@ -476,8 +476,8 @@ fn write(rng: &mut Rng, over: bool) -> Aimed {
         };
     }
     let case = Case::Write {
-        edition: edition.number(),
-        k,
+        edition: usize::from(edition.number()),
+        k: usize::from(k),
         kinds: (0..count).map(|_| rng.below(3) as u8).collect(),
         numbers,
         out: needed - usize::from(over && !many),

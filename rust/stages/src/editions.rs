@@ -322,8 +322,8 @@ fn write_with(rng: &mut Rng, edition: Edition, number: i32) -> Case {
     numbers[place] = number;
     let out = 8 + 3 * kinds.len() + edition.number_bytes() * numbers.len();
     Case::Write {
-        edition: edition.number(),
-        k,
+        edition: usize::from(edition.number()),
+        k: usize::from(k),
         kinds,
         numbers,
         out,

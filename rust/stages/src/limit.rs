@@ -602,8 +602,8 @@ fn writes_in(rng: &mut Rng, edition: Edition) -> Vec<Aimed> {
                 }
                 let numbers = (0..count * width).map(|_| other::number(rng, edition));
                 let case = Case::Write {
-                    edition: edition.number(),
-                    k,
+                    edition: usize::from(edition.number()),
+                    k: usize::from(k),
                     kinds: (0..count).map(|i| (i % 3) as u8).collect(),
                     numbers: numbers.collect(),
                     out,
@@ -627,7 +627,10 @@ fn shows(k: u8) -> Vec<Aimed> {
         (&full, &full, 63, 0),
         (&full, &full, 64, 10),
         (&full, &full, 255, 10),
+        (&full, &full, 65_535, 10),
+        (&full, &full, 65_536, 10),
         (&full, &full, 1_000_000, 10),
+        (&full, &full, usize::MAX, 10),
         (&empty, &full, 31, 0),
         (&empty, &full, 32, 10),
         (&full, &empty, 32, 10),

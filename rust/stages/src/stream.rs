@@ -120,8 +120,8 @@ pub fn sound(rng: &mut Rng, operation: Operation, size: &Size) -> Case {
             let (k, kinds, numbers) = other::lists(rng, edition, 16, size.others + 2);
             let needed = 8 + 3 * kinds.len() + edition.number_bytes() * numbers.len();
             Case::Write {
-                edition: edition.number(),
-                k,
+                edition: usize::from(edition.number()),
+                k: usize::from(k),
                 kinds,
                 numbers,
                 out: near(rng, needed),
@@ -236,14 +236,14 @@ pub fn damaged(rng: &mut Rng, operation: Operation, size: &Size) -> Case {
                 numbers,
                 out,
             } => match rng.below(8) {
-                5 => *edition = rng.below(4) as u8,
+                5 => *edition = wide(rng, 4),
                 6 | 7 => {
                     let place = rng.below(numbers.len());
                     if let Some(number) = numbers.get_mut(place) {
                         *number = other::long(rng);
                     }
                 }
-                0 => *k = rng.byte(),
+                0 => *k = wide(rng, 256),
                 1 => kinds.push(rng.below(4) as u8),
                 2 => {
                     numbers.pop();
@@ -259,7 +259,7 @@ pub fn damaged(rng: &mut Rng, operation: Operation, size: &Size) -> Case {
             Case::Show { a, b, line } => match rng.below(5) {
                 0 | 1 => damage(rng, a, k),
                 2 | 3 => damage(rng, b, k),
-                _ => *line = rng.below(300),
+                _ => *line = wide(rng, 300),
             },
             Case::Test { formula, values } => match rng.below(8) {
                 0 => {
@@ -315,8 +315,8 @@ pub fn random(rng: &mut Rng, operation: Operation) -> Case {
         Operation::Write => {
             let (count, numbers) = (rng.below(5), rng.below(14));
             Case::Write {
-                edition: rng.below(4) as u8,
-                k: rng.below(20) as u8,
+                edition: wide(rng, 4),
+                k: wide(rng, 20),
                 kinds: (0..count).map(|_| rng.below(4) as u8).collect(),
                 numbers: (0..numbers).map(|_| other::long(rng)).collect(),
                 out: rng.below(60),
@@ -349,5 +349,16 @@ pub fn random(rng: &mut Rng, operation: Operation) -> Case {
                 out: rng.below(8),
             }
         }
+    }
+}
+
+/// A number below the given one, or one whose lowest byte or two are those of such a number: a caller's numbers are not cut.
+fn wide(rng: &mut Rng, count: usize) -> usize {
+    let low = rng.below(count);
+    match rng.below(8) {
+        0 => low + 256,
+        1 => low + 65_536,
+        2 => low + (1 << 32),
+        _ => low,
     }
 }

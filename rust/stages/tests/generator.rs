@@ -279,8 +279,8 @@ fn parse(line: &str) -> (Case, Vec<String>) {
         ),
         "write" => (
             Case::Write {
-                edition: number(1) as u8,
-                k: number(2) as u8,
+                edition: number(1),
+                k: number(2),
                 kinds: numbers(words[3]),
                 numbers: numbers(words[4]),
                 out: number(5),

@@ -238,8 +238,8 @@ fn bundles_come_back_from_their_bytes() {
         let (k, kinds, numbers) = stages::other::lists(&mut rng, edition, 16, 32);
         let needed = 8 + 3 * kinds.len() + edition.number_bytes() * numbers.len();
         let mut file = vec![0x77; needed + 5];
-        let number = edition.number();
-        let result = reference::write_bundle(number, k, &kinds, &numbers, &mut file);
+        let number = usize::from(edition.number());
+        let result = reference::write_bundle(number, usize::from(k), &kinds, &numbers, &mut file);
         assert_eq!((result.answer.number, result.written), (0, needed));
         assert_eq!(file[needed..], [0x77; 5]);
         let (mut kinds_back, mut numbers_back) = (vec![9; 40], vec![9; 600]);
@@ -247,7 +247,7 @@ fn bundles_come_back_from_their_bytes() {
         let result = reference::read_bundle(file, &mut kinds_back, &mut numbers_back);
         assert_eq!(result.answer.number, 0);
         assert_eq!((result.count, result.k), (kinds.len(), usize::from(k)));
-        assert_eq!(result.edition, number);
+        assert_eq!(usize::from(result.edition), number);
         assert_eq!(kinds_back[..kinds.len()], kinds);
         assert_eq!(numbers_back[..numbers.len()], numbers);
         assert!(kinds_back[kinds.len()..].iter().all(|&kind| kind == 9));
@@ -272,8 +272,8 @@ fn a_bundle_with_notes_is_written_without_them() {
         assert_eq!(read.answer.number, 0);
         let mut out = vec![0; 2_500];
         let written = reference::write_bundle(
-            read.edition,
-            read.k as u8,
+            usize::from(read.edition),
+            read.k,
             &kinds_back[..read.count],
             &numbers_back[..read.count * (read.k + 1)],
             &mut out,

@@ -150,6 +150,11 @@ static void writing(void) {
     EXPECT(is(r.answer, 5, 4, 0) && r.count == 0);
     r = dulgaverk_write(0, 3, kinds, 1, numbers, 4, out, sizeof out);
     EXPECT(is(r.answer, 5, 4, 0) && r.count == 0);
+    /* A wider number is not cut to the byte that it would have: 257 is no 1, 272 no 16. */
+    r = dulgaverk_write(257, 3, kinds, 1, numbers, 4, out, sizeof out);
+    EXPECT(is(r.answer, 5, 4, 0));
+    r = dulgaverk_write(1, 259, kinds, 1, numbers, 4, out, sizeof out);
+    EXPECT(is(r.answer, 7, 4, 0));
     r = dulgaverk_write(1, 17, kinds, 1, numbers, 4, out, sizeof out);
     EXPECT(is(r.answer, 7, 4, 0) && r.count == 0);
     r = dulgaverk_write(1, 0, NULL, 0, NULL, 0, out, sizeof out);
@@ -210,6 +215,8 @@ static void showing(void) {
     EXPECT(is(dulgaverk_show_answer(a, sizeof a, b, sizeof b, 2), 10, 1, 0));
     EXPECT(dulgaverk_show(a, sizeof a, b, sizeof b, 2, out, sizeof out) == 0);
     EXPECT(is(dulgaverk_show_answer(a, sizeof a, b, 8, 65535), 10, 1, 0));
+    EXPECT(is(dulgaverk_show_answer(a, sizeof a, b, sizeof b, 65536), 10, 1, 0));
+    EXPECT(dulgaverk_show(a, sizeof a, b, sizeof b, 65536, out, sizeof out) == 0);
     EXPECT(is(dulgaverk_show_answer(a, sizeof a, b, 7, 0), 2, 2, 4));
     EXPECT(dulgaverk_show(a, sizeof a, b, 7, 0, out, sizeof out) == 0);
     EXPECT(is(dulgaverk_show_answer(NULL, 0, NULL, 0, 0), 2, 1, 0));

@@ -314,14 +314,14 @@ pub fn read(file: &[u8]) -> Read {
 
 /// Writes in edition 1, as below.
 pub fn write_into(k: u8, kinds: &[u8], numbers: &[i32], length: usize) -> (Answer, Vec<u8>) {
-    write_of(1, k, kinds, numbers, length)
+    write_of(1, usize::from(k), kinds, numbers, length)
 }
 
 /// Writes into an output of the given length, which must be unchanged on
 /// refusal and behind the bytes written.
 pub fn write_of(
-    edition: u8,
-    k: u8,
+    edition: usize,
+    k: usize,
     kinds: &[u8],
     numbers: &[i32],
     length: usize,

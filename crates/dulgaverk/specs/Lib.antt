@@ -1,2 +1,0 @@
--- What the exported functions say beyond the operations.
-pub mod Copied
