@@ -12,6 +12,7 @@ ghost use Rattle.proof.specs.Promises.{Checks};
 ghost use Rattle.conversion.specs.Promises.{TurnsBundle, TurnsProof};
 ghost use Rattle.scheduler.specs.Scheduler.{empty};
 ghost use Rattle.scheduler.specs.Promises.{Submits, Cancels, Turns};
+ghost use Rattle.dulgaverk.specs.Jobs.{ChecksJob};
 ghost use Rattle.bundle_show.specs.Copied.{Copied};
 use answers::Answer;
 use answers::WriteResult;
@@ -22,8 +23,16 @@ use checking::check;
 use formula_test::Tested;
 use scheduler::Changed;
 use scheduler::Job;
+use scheduler::Next;
 use scheduler::Scheduler;
 use scheduler::Turned;
+use scheduler_turn::a_of;
+use scheduler_turn::b_of;
+use scheduler_turn::idle;
+use scheduler_turn::next_seat;
+use scheduler_turn::parts_within;
+use scheduler_turn::proof_of;
+use scheduler_turn::served;
 
 #[no_mangle]
 pub extern "C" fn dulgaverk_read(file: &[u8], kinds: &mut [u8], numbers: &mut [i32]) -> ReadResult
@@ -112,11 +121,35 @@ pub extern "C" fn dulgaverk_scheduler_cancel(s: Scheduler, seat: usize) -> Chang
     scheduler_change::cancel(s, seat)
 }
 
+// The check of a job on the buffer as it is now. 34, then what the check gives on the three parts.
+fn check_job(job: Job, buffer: &[u8], out: &mut [u8]) -> WriteResult
+    ensures { λ r. ⌜ ChecksJob job (now (buffer .entry)) (now (out .entry)) (now (out .exit)) r ⌝ }
+{
+    if !parts_within(job, buffer.len()) {
+        let answer = answers::refusal(34, 4, 0);
+        return WriteResult { answer, count: 0 };
+    }
+    dulgaverk_check(
+        a_of(job, buffer),
+        b_of(job, buffer),
+        proof_of(job, buffer),
+        out,
+    )
+}
+
+// Serves the first seat that waits.
 #[no_mangle]
 pub extern "C" fn dulgaverk_scheduler_turn(s: Scheduler, buffer: &[u8], out: &mut [u8]) -> Turned
     ensures { λ r. ⌜ Turns s (now (buffer .entry)) (now (out .entry)) (now (out .exit)) r ⌝ }
 {
-    scheduler_turn::turn(s, buffer, out)
+    match next_seat(s) {
+        Next::Seat(seat) => {
+            let slot = s.slots[seat];
+            let result = check_job(slot.job, buffer, out);
+            served(s, seat, result)
+        }
+        Next::Nobody => idle(s),
+    }
 }
 
 // Tests a formula at a list of vectors, K values each; one byte a vector goes into `out`.

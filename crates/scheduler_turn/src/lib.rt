@@ -1,7 +1,7 @@
-// A turn of the scheduler: the first job that waits is checked, and its slot is cleared. The state goes in by value and comes back
-// by value; any state that a caller hands in is served.
+// What a turn of the scheduler does around its check: the first seat that waits, the three parts of its job, and the state
+// afterwards. (The check itself is called in the library's own crate: docs/SPEED.md, Second callers.) The state goes in by value
+// and comes back by value; any state that a caller hands in is served.
 use answers::WriteResult;
-use checking::check;
 use scheduler::Job;
 use scheduler::Next;
 use scheduler::Part;
@@ -10,10 +10,9 @@ use scheduler::Scheduler;
 use scheduler::Turned;
 ghost use mathlib.Core.Path.{_≡_};
 ghost use Prim.Native.Nat.{_≤_, _<_};
-ghost use lib.ListN.{length};
-ghost use Rattle.scheduler.specs.Scheduler.{after, nextSeat, isWithin, part, partsWithin};
-ghost use Rattle.scheduler.specs.Promises.{Turns};
-ghost use Rattle.scheduler_turn.specs.Promises.{ChecksJob, Serves};
+ghost use mathlib.Core.Bool.{true, false};
+ghost use lib.ListN.{length, set};
+ghost use Rattle.scheduler.specs.Scheduler.{vacant, refusal, after, nextSeat, isWithin, part, partsWithin};
 
 // The seat after a seat; 0 after 7.
 fn after(seat: usize) -> usize
@@ -24,7 +23,7 @@ fn after(seat: usize) -> usize
 }
 
 // The first seat that waits, from the one to look at first upwards, 0 after 7.
-fn next_seat(s: Scheduler) -> Next
+pub fn next_seat(s: Scheduler) -> Next
     ensures { λ r. ⌜ r ≡ nextSeat s ⌝ }
 {
     let mut seat = s.first % SEATS;
@@ -50,7 +49,7 @@ fn is_within(p: Part, n: usize) -> bool
     p.end <= n
 }
 
-fn parts_within(job: Job, n: usize) -> bool
+pub fn parts_within(job: Job, n: usize) -> bool
     ensures { λ r. ⌜ r ≡ partsWithin n job ⌝ }
 {
     let a = job.a;
@@ -74,33 +73,35 @@ fn part_of<'a>(buffer: &'a [u8], p: Part) -> &'a [u8]
     &buffer[start..end]
 }
 
-// The check of a job on the buffer as it is now. 34, then what the check gives on the three parts.
-fn check_job(job: Job, buffer: &[u8], out: &mut [u8]) -> WriteResult
-    ensures { λ r. ⌜ ChecksJob job (now (buffer .entry)) (now (out .entry)) (now (out .exit)) r ⌝ }
+// A's part of the buffer.
+pub fn a_of<'a>(job: Job, buffer: &'a [u8]) -> &'a [u8]
+    requires { ⌜ partsWithin (length (now buffer)) job ≡ true ⌝ }
+    ensures { λ r. ⌜ now r ≡ part (now (buffer .entry)) (job .a) ⌝ }
 {
-    if !parts_within(job, buffer.len()) {
-        let answer = answers::refusal(34, 4, 0);
-        return WriteResult { answer, count: 0 };
-    }
-    let a = job.a;
-    let b = job.b;
-    let proof = job.proof;
-    check(
-        part_of(buffer, a),
-        part_of(buffer, b),
-        part_of(buffer, proof),
-        out,
-    )
+    part_of(buffer, job.a)
 }
 
-// The seat's job is checked, and the seat is cleared; the next turn looks first at the one after it.
-fn serve(s: Scheduler, seat: usize, buffer: &[u8], out: &mut [u8]) -> Turned
-    requires { ⌜ seat < 8 ⌝ }
-    ensures { λ r. ⌜ Serves s seat (now (buffer .entry)) (now (out .entry)) (now (out .exit)) r ⌝ }
+// B's.
+pub fn b_of<'a>(job: Job, buffer: &'a [u8]) -> &'a [u8]
+    requires { ⌜ partsWithin (length (now buffer)) job ≡ true ⌝ }
+    ensures { λ r. ⌜ now r ≡ part (now (buffer .entry)) (job .b) ⌝ }
 {
-    let slot = s.slots[seat];
-    let job = slot.job;
-    let result = check_job(job, buffer, out);
+    part_of(buffer, job.b)
+}
+
+// The proof's.
+pub fn proof_of<'a>(job: Job, buffer: &'a [u8]) -> &'a [u8]
+    requires { ⌜ partsWithin (length (now buffer)) job ≡ true ⌝ }
+    ensures { λ r. ⌜ now r ≡ part (now (buffer .entry)) (job .proof) ⌝ }
+{
+    part_of(buffer, job.proof)
+}
+
+// The job at a seat was checked: the seat is cleared, and the next turn looks first at the one after it.
+pub fn served(s: Scheduler, seat: usize, result: WriteResult) -> Turned
+    requires { ⌜ seat < 8 ⌝ }
+    ensures { λ r. ⌜ r ≡ record { scheduler = record { slots = set (s .slots) seat vacant; first = after seat }; result = result; seat = seat; idle = false } ⌝ }
+{
     let cleared = scheduler_change::vacant();
     let mut scheduler = s;
     scheduler.slots[seat] = cleared;
@@ -113,21 +114,16 @@ fn serve(s: Scheduler, seat: usize, buffer: &[u8], out: &mut [u8]) -> Turned
     }
 }
 
-// Serves the first seat that waits. Where none does nothing changes: 35.
-pub fn turn(s: Scheduler, buffer: &[u8], out: &mut [u8]) -> Turned
-    ensures { λ r. ⌜ Turns s (now (buffer .entry)) (now (out .entry)) (now (out .exit)) r ⌝ }
+// No job waits, and nothing changes: 35.
+pub fn idle(s: Scheduler) -> Turned
+    ensures { λ r. ⌜ r ≡ record { scheduler = s; result = record { answer = refusal 35; count = 0 }; seat = 0; idle = true } ⌝ }
 {
-    match next_seat(s) {
-        Next::Seat(seat) => serve(s, seat, buffer, out),
-        Next::Nobody => {
-            let answer = answers::refusal(35, 4, 0);
-            let result = WriteResult { answer, count: 0 };
-            Turned {
-                scheduler: s,
-                result,
-                seat: 0,
-                idle: true,
-            }
-        }
+    let answer = answers::refusal(35, 4, 0);
+    let result = WriteResult { answer, count: 0 };
+    Turned {
+        scheduler: s,
+        result,
+        seat: 0,
+        idle: true,
     }
 }

@@ -9,15 +9,13 @@ use Rattle.answers.specs.declared.WriteResult.{WriteResult}
 use Rattle.answers.specs.Answers.{writtenOf}
 use Rattle.proof.specs.Promises.{Checks}
 use Rattle.scheduler.specs.declared.Job.{Job}
-use Rattle.scheduler.specs.declared.Slot.{Slot}
 use Rattle.scheduler.specs.declared.Scheduler.{Scheduler}
 use Rattle.scheduler.specs.declared.Turned.{Turned}
-use Rattle.scheduler.specs.declared.Next.{Next}
 use Rattle.scheduler.specs.declared.Next.the-variants.{Seat, Nobody}
 use Rattle.scheduler.specs.Scheduler.{vacant, slotAt, refusal, after, nextSeat, part, partsWithin, turnAt, turn}
 use Rattle.scheduler.specs.Promises.{Turns}
 use Rattle.scheduler.proofs.Changing.{check-outside, check-inside}
-use Rattle.scheduler_turn.specs.Promises.{ChecksJob, Serves}
+use Rattle.dulgaverk.specs.Jobs.{ChecksJob}
 
 -- ---- the check of a job
 module _ (job : Job) (buffer output : List ℕ) where
@@ -30,15 +28,11 @@ module _ (job : Job) (buffer output : List ℕ) where
 
 -- ---- a turn
 module _ (s : Scheduler) (buffer output : List ℕ) where
-  pub serves : {seat : ℕ} {left : List ℕ} {result : WriteResult} {x : Slot} {f : ℕ} → ChecksJob (slotAt s seat .job) buffer output left result → x ≡ vacant → f ≡ after seat
-      → Serves s seat buffer output left (record { idle = false; seat = seat; result = result; scheduler = record { slots = set (s .slots) seat x; first = f } })
-  unfolding turnAt
-  serves c q e = record { is = rw (← c .is, q, e) refl }
-
-  pub turn-serves : {seat : ℕ} {left : List ℕ} {r : Turned} → Seat seat ≡ nextSeat s → Serves s seat buffer output left r → Turns s buffer output left r
-  unfolding turn
-  turn-serves e c = record { is = c .is ∙ ap (λ (x : Next). turnAt s buffer output x) e }
-
-  pub turn-idle : {a : Answer} → Nobody ≡ nextSeat s → a ≡ refusal 35 → Turns s buffer output output (record { idle = true; seat = 0; result = record { answer = a; count = 0 }; scheduler = s })
+  pub turn-serves : {seat : ℕ} {left : List ℕ} {result : WriteResult} {r : Turned} → Seat seat ≡ nextSeat s → ChecksJob (slotAt s seat .job) buffer output left result
+      → r ≡ record { scheduler = record { slots = set (s .slots) seat vacant; first = after seat }; result = result; seat = seat; idle = false } → Turns s buffer output left r
   unfolding turn turnAt
-  turn-idle e p = record { is = rw (← e, p) refl }
+  turn-serves e c q = record { is = rw (q, ← e, ← c .is) refl }
+
+  pub turn-idle : {r : Turned} → Nobody ≡ nextSeat s → r ≡ record { scheduler = s; result = record { answer = refusal 35; count = 0 }; seat = 0; idle = true } → Turns s buffer output output r
+  unfolding turn turnAt
+  turn-idle e q = record { is = rw (q, ← e) refl }

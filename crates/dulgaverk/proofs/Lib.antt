@@ -1,2 +1,2 @@
 -- Each way through a turn.
-pub mod Ways
+mod Turning

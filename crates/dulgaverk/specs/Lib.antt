@@ -1,0 +1,2 @@
+-- What functions of this crate ensure beyond the operations.
+pub mod Jobs

@@ -1,2 +1,0 @@
--- What the functions inside a turn ensure.
-pub mod Promises
