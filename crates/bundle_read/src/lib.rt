@@ -63,13 +63,6 @@ fn store_body(file: &[u8], k: u8, body: Body, kinds: &mut [u8], numbers: &mut [i
     }
 }
 
-// The same slice, taken anew: it then goes on in registers and not through memory (docs/SPEED.md, Slices).
-fn whole<'a>(s: &'a [u8]) -> &'a [u8]
-    ensures { λ r. ⌜ now r ≡ now (s .entry) ⌝ }
-{
-    &s[0..s.len()]
-}
-
 // Reads a bundle into kinds (0 inequality, 1 equality, 2 disequality) and numbers, K+1 a constraint.
 pub fn read(file: &[u8], kinds: &mut [u8], numbers: &mut [i32]) -> ReadResult
     ensures { λ r. ⌜ Reads (now (file .entry)) (now (kinds .entry)) (now (numbers .entry)) (now (kinds .exit)) (now (numbers .exit)) r ⌝ }
@@ -77,9 +70,8 @@ pub fn read(file: &[u8], kinds: &mut [u8], numbers: &mut [i32]) -> ReadResult
     if file.len() > BUNDLE_BYTES {
         return refused_read(1, 1, 0);
     }
-    let bytes = whole(file);
-    match scan(bytes, 0, 0) {
-        Scanned::Bundle { k, body, start: _ } => store_body(bytes, k, body, kinds, numbers),
+    match scan(file, 0, 0) {
+        Scanned::Bundle { k, body, start: _ } => store_body(file, k, body, kinds, numbers),
         Scanned::Refused { number, place } => refused_read(number, 1, place),
     }
 }

@@ -1,12 +1,11 @@
-// The operations that turn a bundle and a proof into the other edition: document 02, point 4.
+// Turning a proof into the other edition: document 02, point 4; and the tests that a bundle passes first. (What reads and writes
+// the bundle itself stands in the library's crate: docs/SPEED.md, Second callers.)
 // Their definitions are conversion/specs/Turning.antt, their contracts conversion/specs/Promises.antt.
 use answers::WriteResult;
 use answers::acceptance;
 use answers::refusal;
-use bundle_read::read;
 use bundle_scan::Scanned;
 use bundle_scan::scan;
-use bundle_write::write;
 use conversion_survey::Entries;
 use conversion_survey::Survey;
 use conversion_survey::first_wide;
@@ -20,11 +19,11 @@ use fields::header::put_header;
 use fields::header::read_edition;
 use fields::header::read_header;
 use fields::next_field;
-use forms::BUNDLE_BYTES;
 use forms::NEWEST;
 use forms::PROOF_BYTES;
 ghost use mathlib.Core.Path.{_≡_};
 ghost use mathlib.Core.Bool.{_&&_};
+ghost use Prim.Native.Nat.{_+_, _/_};
 ghost use lib.Dec.{leb};
 ghost use Rattle.forms.specs.Edition.{newestEdition};
 ghost use Rattle.answers.specs.Answers.{answer, accepted};
@@ -32,10 +31,10 @@ ghost use Rattle.fields.specs.Fields.{fields};
 ghost use Rattle.bundle_scan.specs.Scan.{constraintStart};
 ghost use Rattle.proof.specs.Tree.{startsAt};
 ghost use Rattle.conversion.specs.Turning.{asked};
-ghost use Rattle.conversion.specs.Promises.{TurnsBundle, TurnsProof};
-ghost use Rattle.convert.specs.Known.{HasOther, Readable, ToTurn, ToWrite, ToEnter, ToFit, ToPut};
+ghost use Rattle.conversion.specs.Promises.{TurnsProof};
+ghost use Rattle.convert.specs.Known.{HasOther, Readable, ToEnter, ToFit, ToPut};
 
-fn refused(number: u8, file: u8, place: usize) -> WriteResult
+pub fn refused(number: u8, file: u8, place: usize) -> WriteResult
     ensures { λ r. ⌜ r ≡ record { answer = answer number file place; count = 0 } ⌝ }
 {
     WriteResult {
@@ -62,7 +61,7 @@ fn first_place(s: &[u8]) -> usize
 }
 
 // Whether the file has the other edition than the one asked for; or what it is refused for.
-fn has_other(s: &[u8], kind: FileKind, to: u8) -> Survey
+pub fn has_other(s: &[u8], kind: FileKind, to: u8) -> Survey
     requires { ⌜ asked to ≡ accepted tt ⌝ }
     ensures { λ r. ⌜ HasOther kind to (now (s .entry)) r ⌝ }
 {
@@ -81,7 +80,7 @@ fn has_other(s: &[u8], kind: FileKind, to: u8) -> Survey
 }
 
 // Whether it is an edition that may be asked for, whatever number it is.
-fn is_edition(edition: usize) -> bool
+pub fn is_edition(edition: usize) -> bool
     ensures { λ r. ⌜ r ≡ (leb 1 edition && leb edition newestEdition) ⌝ }
 {
     if 1 <= edition {
@@ -92,12 +91,12 @@ fn is_edition(edition: usize) -> bool
 }
 
 // ---- a bundle
-// Where constraint i of a bundle starts.
-fn place_of(file: &[u8], i: usize) -> usize
+// Where the constraint starts that has number `index` of a bundle's numbers, K+1 a constraint.
+pub fn number_place(file: &[u8], index: usize, k: u8) -> usize
     requires { ⌜ Readable (now file) ⌝ }
-    ensures { λ r. ⌜ r ≡ constraintStart (now (file .entry)) i ⌝ }
+    ensures { λ r. ⌜ r ≡ constraintStart (now (file .entry)) (index / (k + 1)) ⌝ }
 {
-    match scan(file, 0, i) {
+    match scan(file, 0, index / (k as usize + 1)) {
         Scanned::Bundle {
             k: _,
             body: _,
@@ -108,63 +107,6 @@ fn place_of(file: &[u8], i: usize) -> usize
             place: _,
         } => 0,
     }
-}
-
-// Writes what was read of the file; a number that the edition asked for cannot hold is told by its field.
-fn write_again(
-    file: &[u8],
-    to: u8,
-    k: u8,
-    kinds: &[u8],
-    numbers: &[i32],
-    out: &mut [u8],
-) -> WriteResult
-    requires { ⌜ ToWrite to (now file) k (now kinds) (now numbers) ⌝ }
-    ensures { λ r. ⌜ TurnsBundle to (now (file .entry)) (now (out .entry)) (now (out .exit)) r ⌝ }
-{
-    let w = write(to, k, kinds, numbers, out);
-    let number = w.answer.number;
-    if number == 13 {
-        let index = w.answer.place;
-        return refused(13, 1, place_of(file, index / (k as usize + 1)));
-    }
-    w
-}
-
-// A bundle is read into kinds and numbers of its own, and these are written in the edition asked for.
-fn turn_read(file: &[u8], to: u8, out: &mut [u8]) -> WriteResult
-    requires { ⌜ ToTurn to (now file) ⌝ }
-    ensures { λ r. ⌜ TurnsBundle to (now (file .entry)) (now (out .entry)) (now (out .exit)) r ⌝ }
-{
-    let mut kinds: [u8; 32] = [0; 32];
-    let mut numbers: [i32; 544] = [0; 544];
-    let r = read(file, &mut kinds, &mut numbers);
-    let answer = r.answer;
-    let number = answer.number;
-    if number != 0 {
-        return WriteResult { answer, count: 0 };
-    }
-    let count = r.count;
-    let k = r.k;
-    let total = count * (k as usize + 1);
-    write_again(file, to, k, &kinds[..count], &numbers[..total], out)
-}
-
-// Turns a bundle into the edition asked for.
-pub fn turn_bundle(file: &[u8], edition: usize, out: &mut [u8]) -> WriteResult
-    ensures { λ r. ⌜ TurnsBundle edition (now (file .entry)) (now (out .entry)) (now (out .exit)) r ⌝ }
-{
-    if is_edition(edition) {
-        if file.len() > BUNDLE_BYTES {
-            return refused(1, 1, 0);
-        }
-        let to = edition as u8;
-        return match has_other(file, FileKind::Bundle, to) {
-            Survey::Fine => turn_read(file, to, out),
-            Survey::Refused { number, place } => refused(number, 1, place),
-        };
-    }
-    refused(5, 4, 0)
 }
 
 // ---- a proof

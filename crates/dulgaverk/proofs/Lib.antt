@@ -1,2 +1,2 @@
 -- Each way through a turn.
-mod Turning
+mod Jobs

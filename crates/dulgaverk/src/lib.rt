@@ -1,5 +1,7 @@
 // The operations for other programs: what a static library has for Rust and C. Thin, over the proved operations.
 // A slice is a pointer and a length; what is lent as `&mut` overlaps nothing else that is passed.
+mod turning;
+
 ghost use mathlib.Core.Path.{_≡_};
 ghost use Rattle.forms.specs.Edition.{newestEdition};
 ghost use Rattle.bundle.specs.Show.{showPart};
@@ -33,6 +35,7 @@ use scheduler_turn::next_seat;
 use scheduler_turn::parts_within;
 use scheduler_turn::proof_of;
 use scheduler_turn::served;
+use turning::turn_bundle;
 
 #[no_mangle]
 pub extern "C" fn dulgaverk_read(file: &[u8], kinds: &mut [u8], numbers: &mut [i32]) -> ReadResult
@@ -89,7 +92,7 @@ pub extern "C" fn dulgaverk_test(formula: &[u8], values: &[i32]) -> Tested
 pub extern "C" fn dulgaverk_turn_bundle(file: &[u8], edition: usize, out: &mut [u8]) -> WriteResult
     ensures { λ r. ⌜ TurnsBundle edition (now (file .entry)) (now (out .entry)) (now (out .exit)) r ⌝ }
 {
-    convert::turn_bundle(file, edition, out)
+    turn_bundle(file, edition, out)
 }
 
 #[no_mangle]

@@ -12,9 +12,6 @@ refused-read-requires c κs = search needs
 returns : tie.Need-returns
 returns c = record { is = read-unread _ _ (c .refused-read .ensures) ∙ sym (read-long _ _ _ (c .before .if1 .taken)) }
 
-whole-requires : tie.Need-whole-requires
-whole-requires c κs = search needs
-
 scan-requires : tie.Need-scan-requires
 scan-requires c κs = search needs
 
@@ -37,10 +34,10 @@ same-length-2 : tie.Need-same-length-2
 same-length-2 c = search needs
 
 returns-2 : tie.Need-returns-2
-returns-2 c = record { is = rw (sym (c .before .before .before .before .before .before .before .before .before .before .whole .ensures)) (c .before .before .before .store-body .ensures) ∙ sym (read-short _ _ _ (c .before .before .before .before .before .before .before .before .before .before .before .if1 .left)) }
+returns-2 c = record { is = c .before .before .before .store-body .ensures ∙ sym (read-short _ _ _ (c .before .before .before .before .before .before .before .before .before .before .if1 .left)) }
 
 returns-3 : tie.Need-returns-3
-returns-3 c = record { is = read-unread _ _ (c .refused-read2 .ensures) ∙ sym (read-short _ _ _ (c .before .before .before .before .before .before .if1 .left) ∙ rw (sym (c .before .before .before .before .before .whole .ensures)) (stored-refused _ _ (scanned-refused (c .before .before .before .before .scan .ensures) (c .before .before .number .given .1) 1))) }
+returns-3 c = record { is = read-unread _ _ (c .refused-read2 .ensures) ∙ sym (read-short _ _ _ (c .before .before .before .before .before .if1 .left) ∙ stored-refused _ _ (scanned-refused (c .before .before .before .before .scan .ensures) (c .before .before .number .given .1) 1)) }
 
 pub read-spec : {M : Type 1} → statement M
 read-spec =
@@ -48,7 +45,6 @@ read-spec =
     (tie.spec
     refused-read-requires
     returns
-    whole-requires
     scan-requires
     enum-known-k
     store-body-requires

@@ -2,7 +2,7 @@
 use borrow.Author.Needs.{needs}
 use mathlib.Core.Path.{_≡_, refl, sym, _∙_}
 use borrow.Author.Tests.{not-true, not-false}
-use Rattle.dulgaverk.proofs.Turning.{check-34, check-parts}
+use Rattle.dulgaverk.proofs.Jobs.{check-34, check-parts}
 use Rattle.dulgaverk.proofs.check_job.Statement.{statement}
 use Rattle.dulgaverk.proofs.check_job.Tie as tie
 

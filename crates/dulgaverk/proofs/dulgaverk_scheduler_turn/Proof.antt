@@ -3,7 +3,7 @@ use native.Mathlib.Omega.{arith}
 use borrow.Author.Needs.{needs}
 use mathlib.Core.Path.{_≡_, sym, _∙_}
 use Rattle.scheduler.proofs.Looking.{next-seated}
-use Rattle.dulgaverk.proofs.Turning.{turn-serves, turn-idle}
+use Rattle.dulgaverk.proofs.Jobs.{turn-serves, turn-idle}
 use Rattle.dulgaverk.proofs.dulgaverk_scheduler_turn.Statement.{statement}
 use Rattle.dulgaverk.proofs.dulgaverk_scheduler_turn.Tie as tie
 

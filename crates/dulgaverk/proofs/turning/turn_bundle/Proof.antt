@@ -1,9 +1,9 @@
--- `convert::turn_bundle` meets its contract. Assumes nothing.
+-- `dulgaverk::turning::turn_bundle` meets its contract. Assumes nothing.
 use native.Mathlib.Omega.{arith}
 use Rattle.convert.proofs.Whole.{asked-by, one-or-two, bundle-unasked, bundle-long, bundle-not-other, to-turn}
 use borrow.Author.Needs.{needs}
-use Rattle.convert.proofs.turn_bundle.Statement.{statement}
-use Rattle.convert.proofs.turn_bundle.Tie as tie
+use Rattle.dulgaverk.proofs.turning.turn_bundle.Statement.{statement}
+use Rattle.dulgaverk.proofs.turning.turn_bundle.Tie as tie
 
 is-edition-requires : tie.Need-is-edition-requires
 is-edition-requires c κs = search needs
