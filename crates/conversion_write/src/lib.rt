@@ -22,7 +22,7 @@ ghost use Rattle.conversion.specs.Turning.{linesTurned, fieldsTurned};
 ghost use Rattle.conversion_survey.specs.Going.{LinesThere};
 
 // A line number as wide as an edition has it. Two calls, so that the compiler makes a store for each width, and a load below.
-fn put_number(n: u64, to: u8, out: &mut [u8], o: usize)
+pub fn put_number(n: u64, to: u8, out: &mut [u8], o: usize)
     requires { ⌜ o + edition to .lineWidth ≤ length (now out) ⌝ }
     ensures { λ _. ⌜ now (out .exit) ≡ sets (now (out .entry)) o (unsignedBytes (edition to .lineWidth) n) ⌝ }
 {

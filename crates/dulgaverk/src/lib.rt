@@ -3,6 +3,7 @@
 mod turning;
 
 ghost use mathlib.Core.Path.{_≡_};
+ghost use mathlib.Core.Bool.{true, false};
 ghost use Rattle.forms.specs.Edition.{newestEdition};
 ghost use Rattle.bundle.specs.Show.{showPart};
 ghost use Rattle.bundle_show.specs.Promises.{AnswersShow, partBytes};
@@ -10,12 +11,16 @@ ghost use Rattle.bundle_read.specs.Promises.{Reads};
 ghost use Rattle.bundle_write.specs.Promises.{Writes};
 ghost use Rattle.formula_test.specs.Promises.{Tests};
 ghost use Rattle.formula_list.specs.Promises.{TestsList};
+ghost use Rattle.printing.specs.Promises.{PrintsFile};
 ghost use Rattle.proof.specs.Promises.{Checks};
+ghost use Rattle.enumeration.specs.Promises.{WritesNext};
 ghost use Rattle.conversion.specs.Promises.{TurnsBundle, TurnsProof};
 ghost use Rattle.scheduler.specs.Scheduler.{empty};
 ghost use Rattle.scheduler.specs.Promises.{Submits, Cancels, Turns};
 ghost use Rattle.dulgaverk.specs.Jobs.{ChecksJob};
 ghost use Rattle.bundle_show.specs.Copied.{Copied};
+ghost use Rattle.shorten.specs.Promises.{Shortens};
+ghost use Rattle.run.specs.Promises.{WritesGuards};
 use answers::Answer;
 use answers::WriteResult;
 use bundle_read::ReadResult;
@@ -35,6 +40,8 @@ use scheduler_turn::next_seat;
 use scheduler_turn::parts_within;
 use scheduler_turn::proof_of;
 use scheduler_turn::served;
+use shorten::ShortenResult;
+use shorten::shorten;
 use turning::turn_bundle;
 
 #[no_mangle]
@@ -72,6 +79,37 @@ pub extern "C" fn dulgaverk_check(a: &[u8], b: &[u8], proof: &[u8], out: &mut [u
     check(a, b, proof, out)
 }
 
+// The report on the proof's rows goes into `report`, and the table without those that nothing rests on into `out`. An output of
+// one byte is too short for any formula's file, so that 21 says that the proof is accepted.
+#[no_mangle]
+pub extern "C" fn dulgaverk_shorten(
+    a: &[u8],
+    b: &[u8],
+    proof: &[u8],
+    report: &mut [u8],
+    out: &mut [u8],
+) -> ShortenResult
+    ensures { λ r. ⌜ Shortens (now (a .entry)) (now (b .entry)) (now (proof .entry)) (now (report .entry)) (now (out .entry)) (now (report .exit)) (now (out .exit)) r ⌝ }
+{
+    let mut none = [0u8; 1];
+    let checked = dulgaverk_check(a, b, proof, &mut none);
+    shorten(a, b, proof, checked.answer, report, out)
+}
+
+// The guards of a run of stages: bundles end to end in `buffer`, their lengths, the proof. The guard files go end to end into `out`, their sizes into `sizes`.
+#[no_mangle]
+pub extern "C" fn dulgaverk_guards(
+    buffer: &[u8],
+    lengths: &[usize],
+    proof: &[u8],
+    out: &mut [u8],
+    sizes: &mut [usize],
+) -> WriteResult
+    ensures { λ r. ⌜ WritesGuards (now (buffer .entry)) (now (lengths .entry)) (now (proof .entry)) (now (out .entry)) (now (sizes .entry)) (now (out .exit)) (now (sizes .exit)) r ⌝ }
+{
+    run_guards::guards::guards(buffer, lengths, proof, out, sizes)
+}
+
 // The constraint's field, copied into `out`, and its length. (An exported function cannot return a reference.) Where it does not fit, nothing is copied.
 #[no_mangle]
 pub extern "C" fn dulgaverk_show<'a>(a: &'a [u8], b: &'a [u8], line: usize, out: &mut [u8]) -> usize
@@ -100,6 +138,19 @@ pub extern "C" fn dulgaverk_turn_proof(file: &[u8], edition: usize, out: &mut [u
     ensures { λ r. ⌜ TurnsProof edition (now (file .entry)) (now (out .entry)) (now (out .exit)) r ⌝ }
 {
     convert::turn_proof(file, edition, out)
+}
+
+// The short proof after a table; after the header alone the first.
+#[no_mangle]
+pub extern "C" fn dulgaverk_next_proof(
+    a: &[u8],
+    b: &[u8],
+    table: &[u8],
+    out: &mut [u8],
+) -> WriteResult
+    ensures { λ r. ⌜ WritesNext (now (a .entry)) (now (b .entry)) (now (table .entry)) (now (out .entry)) (now (out .exit)) r ⌝ }
+{
+    enumerate::next_proof(a, b, table, out)
 }
 
 // Checks that wait at eight seats. The state is a struct by value: it goes in, and comes back with the answer.
@@ -166,4 +217,19 @@ pub extern "C" fn dulgaverk_test_list(
     ensures { λ r. ⌜ TestsList (now (formula .entry)) k (now (values .entry)) (now (out .entry)) (now (out .exit)) r ⌝ }
 {
     formula_list::test_list(formula, k, values, out)
+}
+
+// A formula as a term of SMT-LIB 2, and in words.
+#[no_mangle]
+pub extern "C" fn dulgaverk_print(formula: &[u8], out: &mut [u8]) -> WriteResult
+    ensures { λ r. ⌜ PrintsFile false (now (formula .entry)) (now (out .entry)) (now (out .exit)) r ⌝ }
+{
+    print::print(formula, out)
+}
+
+#[no_mangle]
+pub extern "C" fn dulgaverk_print_words(formula: &[u8], out: &mut [u8]) -> WriteResult
+    ensures { λ r. ⌜ PrintsFile true (now (formula .entry)) (now (out .entry)) (now (out .exit)) r ⌝ }
+{
+    print::print_words(formula, out)
 }

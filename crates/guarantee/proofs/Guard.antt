@@ -26,7 +26,7 @@ pub bool-true : (b : Bool) → T b → b ≡ true
 bool-true true t = refl
 bool-true false t = absurd t
 
-bool-false : (b : Bool) → (T b → ⊥) → b ≡ false
+pub bool-false : (b : Bool) → (T b → ⊥) → b ≡ false
 bool-false true h = absurd (h tt)
 bool-false false h = refl
 

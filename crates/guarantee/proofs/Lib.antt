@@ -1,4 +1,7 @@
 -- What is promised holds of the operations.
+pub mod Runs
+pub mod Numbers
+pub mod RunTree
 pub mod Refusals
 pub mod Tree
 pub mod Acceptance
@@ -6,6 +9,7 @@ pub mod Soundness
 pub mod Guard
 pub mod Testing
 pub mod Showing
+pub mod BundleNumbers
 pub mod RefusedIff
 pub mod Meant
 pub mod Reduced
@@ -20,3 +24,13 @@ pub mod Shorter
 pub mod Conversion
 pub mod Quick
 pub mod TestList
+pub mod Shortening
+pub mod ShortProofs
+pub mod PrintAsTest
+pub mod Print
+pub mod RunReasons
+pub mod RunAcceptance
+pub mod RunPromised
+pub mod RunTells
+pub mod Moved
+pub mod RunNotes

@@ -1,7 +1,7 @@
 -- Demand 1 holds of the operations. Assumes nothing.
 use mathlib.Core.Path.{_≡_, refl, sym, _∙_, ap, subst}
 use mathlib.Core.Bool.{Bool, true, false, _&&_}
-use mathlib.Core.List.{List, []}
+use mathlib.Core.List.{List, [], _∷_}
 use mathlib.Core.Option.{some}
 use mathlib.Core.Logic.{_⊎_, inl, inr}
 use Prim.Native.Nat.{ℕ, zero, suc, _/_}
@@ -13,6 +13,7 @@ use lib.ListN.{length}
 use lib.IntN.{ℤ}
 use Rattle.forms.specs.Edition.{Edition, edition1, newestEdition}
 use Rattle.forms.specs.Forms.{Formula}
+use Rattle.calculus.specs.Rules.{Row}
 use Rattle.answers.specs.declared.Answer.{Answer}
 use Rattle.answers.specs.declared.WriteResult.{WriteResult}
 use Rattle.answers.specs.Answers.{answer, acceptance, fileLent, fileA, fileB, fileProof, Result, refused, accepted, _>>=_, Written, over, fit, written}
@@ -30,13 +31,20 @@ use Rattle.bundle_show.specs.Promises.{partBytes, behind, partPlace}
 use Rattle.formula.specs.Formula.{FormulaTag, pair, atom, stride, formulaOf, formulaField, twoParts, formulaWithin, readFormula, formulaFile}
 use Rattle.formula.specs.Test.{Tested as Outcome, tested, judged, testFormula}
 use Rattle.formula.specs.TestList.{vectors, listed, truths, testList}
+use Rattle.printing.specs.Print.{printFormula}
+use Rattle.printing.proofs.Accepted.{printed-gives}
 use Rattle.proof.specs.Check.{interpolant, checkBy, check}
 use Rattle.proof.proofs.Agree.{never-0, never-22}
 use Rattle.proof.specs.Promises.{Checks}
+use Rattle.enumeration.specs.ShortProofs.{proofFile}
+use Rattle.enumeration.specs.Next.{sameBytes, firstRows, following, nextRows, nextFile, nextProof}
+use Rattle.enumeration.proofs.Listed.{shortProofs-gives}
 use Rattle.conversion.specs.Turning.{turnBundle, turnProof}
 use Rattle.conversion.proofs.Bundles.{bundle-turned-gives}
 use Rattle.conversion.proofs.Proofs.{proof-turned-gives}
 use Rattle.bundle_show.specs.Copied.{Copied}
+use Rattle.shortening.specs.Shorten.{Shorter, shortening, Shortened, fitBoth, writtenBoth, shorten}
+use Rattle.shortening.proofs.Promised.{shortening-not-0, shortening-not-22}
 use Rattle.scheduler.specs.declared.Job.{Job}
 use Rattle.scheduler.specs.declared.Scheduler.{Scheduler}
 use Rattle.scheduler.specs.declared.Changed.{Changed}
@@ -45,6 +53,7 @@ use Rattle.scheduler.specs.Scheduler.{slotAt, isWaiting}
 use Rattle.scheduler.specs.Promises.{Submits, Cancels, Turns}
 use Rattle.scheduler.specs.Fair.{AllLie, CheckedAlone}
 use Rattle.scheduler.proofs.Fair.{lie-or-not, answers}
+use Rattle.guarantee.proofs.Runs.{told-of}
 use Rattle.guarantee.specs.Refusals.{ToldByNumber, Refusals}
 
 -- ---- a result whose refusals all have a number that is given: neither 0 nor 22
@@ -103,6 +112,45 @@ turn-bundle-told to file output = written-told _ (by-number (bundle-turned-gives
 turn-proof-told : (to : ℕ) (file output : List ℕ) → Unwritten output (turnProof to file output)
 unfolding turnProof
 turn-proof-told to file output = written-told _ (by-number (proof-turned-gives to file)) output
+
+-- ---- what is shortened
+module _ (report table : List ℕ) where
+  abbrev Unshortened : Shortened → Type 0
+  Unshortened w = ToldByNumber (w .answer) × (¬ (w .answer .number ≡ 0) → (w .report ≡ report) × (w .table ≡ table) × (w .rows ≡ 0) × (w .count ≡ 0))
+
+  both-told : (b : Bool) (s : Shorter) → Unshortened (fitBoth report table b s)
+  unfolding fitBoth
+  both-told true s = (told-accepted, λ h. absurd (h refl))
+  both-told false s = (told-refused (λ e. omega arith) (λ e. omega arith), λ _. (refl, refl, refl, refl))
+
+  shortened-told : (r : Result Shorter) → Numbered r → Unshortened (writtenBoth report table r)
+  unfolding writtenBoth
+  shortened-told (refused a) h = (told-by h, λ _. (refl, refl, refl, refl))
+  shortened-told (accepted s) h = both-told (leb (length (s .report)) (length report) && leb (length (s .table)) (length table)) s
+
+  shorten-told : (A B proof : List ℕ) → Unshortened (shorten A B proof report table)
+  unfolding shorten
+  shorten-told A B proof = shortened-told (shortening newestEdition A B proof) (record { not-zero = shortening-not-0 A B proof; not-free = shortening-not-22 A B proof })
+
+-- the next short proof
+either-gives : {X : Type 0} {P : X → Type 0} (b : Bool) {p q : Result X} → Gives p P → Gives q P → Gives (elim b [ true ↦ p | false ↦ q ]) P
+either-gives true g h = g
+either-gives false g h = h
+
+first-gives : (rss : List (List Row)) → Gives (firstRows rss) (λ _. Unit {0})
+unfolding firstRows
+first-gives [] = gives-refused _ tt
+first-gives (rs ∷ rss) = gives-accepted tt
+
+following-gives : (K : ℕ) (table : List ℕ) (rss : List (List Row)) → Gives (following K table rss) (λ _. Unit {0})
+unfolding following
+following-gives K table [] = gives-refused _ tt
+following-gives K table (rs ∷ rss) = either-gives (sameBytes (proofFile K rs) table) (first-gives rss) (following-gives K table rss)
+
+next-told : (A B table output : List ℕ) → Unwritten output (nextProof A B table output)
+unfolding nextProof nextFile nextRows
+next-told A B table output =
+    written-told _ (by-number {P = λ _. Unit {0}} (bind (shortProofs-gives A B) λ (K, rss) _. bind (either-gives (sameBytes (proofFile K []) table) (first-gives rss) (following-gives K table rss)) λ rs _. gives-accepted tt)) output
 
 -- ---- what is read
 abbrev Unread : (kinds : List ℕ) (numbers : List ℤ) → BundleRead → Type 0
@@ -188,6 +236,10 @@ unfolding testList listed
 list-told formula K values output =
     written-told _ (then-numbered _ (λ I. truths I (vectors K (length values / K) values)) (by-number (test _ _ tt λ _. seq (each-gives _ _ (λ i. tt) 0 values) λ _. test _ _ tt λ _. reading-gives K (fields formula)))) output
 
+print-told : (wording : Bool) (formula output : List ℕ) → Unwritten output (printFormula wording formula output)
+unfolding printFormula
+print-told wording formula output = written-told _ (by-number (printed-gives wording formula)) output
+
 behind-0 : (p : ℕ × ℕ) → behind p 0 ≡ p
 behind-0 p = ap (λ (n : ℕ). (p .0, n)) (zero-add (p .1))
 
@@ -248,10 +300,12 @@ turn-told s buffer output left r c = go (r .idle) refl
 -- Demand 1.
 pub refusals : Refusals
 refusals = record {
+  guards = λ buffer lengths proof output sizes left sizesLeft r w. told-of w;
   check = λ A B proof output left r c. subst (Unwritten output) (sym (c .is)) (check-told A B proof output);
   read = λ file kinds numbers kinds′ numbers′ r c. subst (Unread kinds numbers) (sym (c .is)) (read-told kinds numbers file);
   turn-bundle = λ to file output left r c. subst (Unwritten output) (sym (c .is)) (turn-bundle-told to file output);
   turn-proof = λ to file output left r c. subst (Unwritten output) (sym (c .is)) (turn-proof-told to file output);
+  next-proof = λ A B table output left r c. subst (Unwritten output) (sym (c .is)) (next-told A B table output);
   write = λ n K kinds numbers output left r c. subst (Unwritten output) (sym (c .is)) (write-told n K kinds numbers output);
   show = λ a b line part r s c.
       let (told, empty) = show-told (a .now) (b .now) line in (
@@ -268,4 +322,6 @@ refusals = record {
   cancel = cancel-told;
   turn = turn-told;
   test-list = λ formula K values output left r c. subst (Unwritten output) (sym (c .is)) (list-told formula K values output);
+  shorten = λ A B proof report table reportLeft tableLeft r c. subst (Unshortened report table) (sym (c .is)) (shorten-told report table A B proof);
+  print = λ wording formula output left r c. subst (Unwritten output) (sym (c .is)) (print-told wording formula output);
 }

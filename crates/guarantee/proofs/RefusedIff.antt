@@ -3,7 +3,7 @@ use mathlib.Core.Path.{_≡_, refl, sym, _∙_, ap, subst}
 use mathlib.Core.Logic.{_⊎_, inl, inr}
 use mathlib.Core.Bool.{Bool, true, false, _&&_}
 use mathlib.Core.List.{List}
-use mathlib.Core.Option.{Option, none, some}
+use mathlib.Core.Option.{none, some}
 use Prim.Native.Nat.{ℕ, zero, suc, _<_}
 use native.Mathlib.Omega.{arith}
 use borrow.Author.Tests.{lt-leb, le-leb, leb-true, leb-false}
@@ -15,13 +15,12 @@ use Rattle.forms.specs.Edition.{edition, edition1, newestEdition}
 use Rattle.forms.specs.Forms.{Formula}
 use Rattle.answers.specs.declared.Answer.{Answer}
 use Rattle.answers.specs.declared.WriteResult.{WriteResult}
-use Rattle.answers.specs.Answers.{answer, fileA, fileB, Result, refused, accepted, _>>=_, _>>_, need, Written, fit, written}
+use Rattle.answers.specs.Answers.{answer, fileA, fileB, Result, refused, accepted, _>>=_, Written, fit, written}
 use Rattle.answers.proofs.Results.{fail, needs, passes}
 use Rattle.number_bytes.proofs.Signed.{all-weaken}
-use Rattle.fields.specs.declared.FileKind.{FileKind}
 use Rattle.fields.specs.Fields.{fields}
 use Rattle.fields.specs.Header.{agrees}
-use Rattle.bundle.specs.Bundle.{Bundle, atMost, bundleHeader, bundle, bundles}
+use Rattle.bundle.specs.Bundle.{Bundle, atMost, bundles}
 use Rattle.bundle.specs.Read.{BundleRead, kindsOf, numbersOf, unread, store, stored, readBundle}
 use Rattle.bundle.specs.Write.{encodeBundle, writeBundle}
 use Rattle.bundle.specs.Writable.{InOrder}
@@ -34,42 +33,13 @@ use Rattle.formula.specs.Formula.{formulaFile}
 use Rattle.proof.specs.Check.{formulaAtMost, interpolant, checkBy, check}
 use Rattle.proof.specs.Layout.{Yields, Certifies}
 use Rattle.proof.specs.Promises.{Checks}
-use Rattle.proof.proofs.Says.{Says, says-refused, says-accepted, bind, seq, says-need, test, weaken, each-says}
-use Rattle.proof.proofs.Tree.{amidst}
+use Rattle.proof.proofs.Says.{Says, says-accepted, bind, seq, test, weaken, each-says}
 use Rattle.proof.proofs.Agree.{proof-gives, yielded, interpolant-iff}
 use Rattle.guarantee.specs.Acceptance.{bundleFile}
 use Rattle.guarantee.specs.RefusedIff.{Derives, bytesNeeded, ShortOutput, LongFormula, ShortRead, WrongK, ManyKinds, ShortWrite, RefusedIff}
 use Rattle.guarantee.proofs.Acceptance.{acceptance-holds, of-editions, edition-first, edition-last, held-two, held-four, all-held, bundle-short}
-use Rattle.guarantee.proofs.Long.{Amidst, above-1, edition-amidst, constants-amidst, constraints-amidst, proof-amidst}
-
-below-21 : {n : ℕ} → T (amidst n) → ¬ (n ≡ 21)
-below-21 t e = subst (λ (n : ℕ). T (amidst n)) e t
-
--- a test, with what its failure tells
-because : {Q : Answer → Type 0} {Y : Type 0} {R : Y → Type 0} (a : Answer) (b : Bool) {r : Result Y} → (b ≡ false → Q a) → (b ≡ true → Says Q r R) → Says Q (need a b >> r) R
-unfolding need _>>_
-because a true h k = k refl
-because a false h k = says-refused (h refl)
-
--- ---- bundles: never 21, and 1 in their own file
-abbrev Plain : ℕ → Answer → Type 0
-Plain file a = (¬ (a .number ≡ 21)) × (a .number ≡ 1 → a .file ≡ file)
-
-plain : {X : Type 0} {P : X → Type 0} {r : Result X} (file : ℕ) → Says Amidst r P → Says (Plain file) r (λ _. Unit {0})
-plain file s = weaken s (λ a t. (below-21 t, λ e. absurd (above-1 t e))) (λ _ _. tt)
-
-short-plain : (limit file : ℕ) (bytes : List ℕ) → Says (Plain file) (atMost limit file bytes) (λ _. Unit {0})
-unfolding atMost
-short-plain limit file bytes = weaken (says-need _ _ (λ e. omega arith, λ _. refl)) (λ a q. q) (λ _ _. tt)
-
-header-plain : (file : ℕ) (given : Option ℕ) (bytes : List ℕ) → Says (Plain file) (bundleHeader newestEdition file given bytes) (λ _. Unit {0})
-unfolding bundleHeader
-header-plain file given bytes = bind (plain file (edition-amidst FileKind.Bundle file newestEdition (fields bytes))) λ x _. seq (short-plain _ file bytes)
-    (bind (plain file (constants-amidst FileKind.Bundle file given (x .1))) λ y _. says-accepted tt)
-
-bundle-plain : (file : ℕ) (given : Option ℕ) (bytes : List ℕ) → Says (Plain file) (bundle newestEdition file given bytes) (λ _. Unit {0})
-unfolding bundle
-bundle-plain file given bytes = bind (header-plain file given bytes) λ h _. bind (plain file (constraints-amidst file (edition (h .number)) (h .K) 0 (h .rest))) λ cs _. says-accepted tt
+use Rattle.guarantee.proofs.Long.{above-1, proof-amidst}
+use Rattle.guarantee.proofs.BundleNumbers.{up-to-20, because, Plain, short-plain, bundle-plain}
 
 -- ---- check
 module _ (A B proof : List ℕ) where
@@ -78,7 +48,7 @@ module _ (A B proof : List ℕ) where
   Late a = (¬ (a .number ≡ 21)) × (a .number ≡ 1 → a .file ≡ 4 → LongFormula A B proof)
 
   late : {X : Type 0} {P : X → Type 0} {r : Result X} (file : ℕ) → ¬ (file ≡ 4) → Says (Plain file) r P → Says Late r P
-  late file n s = weaken s (λ a q. (q .0, λ e f. absurd (n (sym (q .1 e) ∙ f)))) (λ _ u. u)
+  late file n s = weaken s (λ a q. (λ e. omega (arith, q .0), λ e f. absurd (n (sym (q .1 e) ∙ f)))) (λ _ u. u)
 
   bundles-late : Says Late (bundles newestEdition A B) (BothLaid newestEdition A B)
   unfolding bundles
@@ -92,7 +62,7 @@ module _ (A B proof : List ℕ) where
   interpolant-late =
       test _ _ (λ e. omega arith, λ e f. absurd (omega arith)) λ _. test _ _ (λ e. omega arith, λ e f. absurd (omega arith)) λ _. test _ _ (λ e. omega arith, λ e f. absurd (omega arith)) λ s.
       bind bundles-late λ (a, b) l.
-      bind (record { refusal = λ x e. let t = proof-amidst newestEdition a b (fields proof) .refusal x e in (below-21 t, λ e. absurd (above-1 t e)); value = proof-gives newestEdition a b (fields proof) .gives }) λ I p.
+      bind (record { refusal = λ x e. let t = proof-amidst newestEdition a b (fields proof) .refusal x e in (λ n. omega (arith, up-to-20 (x .number) t), λ e. absurd (above-1 t e)); value = proof-gives newestEdition a b (fields proof) .gives }) λ I p.
       because _ _ (λ q. (
         λ e. omega arith,
         λ _ _. record {
@@ -153,7 +123,7 @@ module _ {A B proof output left : List ℕ} {r : WriteResult} (c : Checks A B pr
 module _ (file kinds : List ℕ) (numbers : List ℤ) where
   stored-21 : (r : Result Bundle) → Says (Plain fileA) r (Laid newestEdition none file) → stored kinds numbers r .answer .number ≡ 21 → ShortRead file kinds numbers
   unfolding stored store unread
-  stored-21 (refused a) s e = absurd (s .refusal a refl .0 e)
+  stored-21 (refused a) s e = absurd (omega (arith, s .refusal a refl .0))
   stored-21 (accepted b) s e = go (leb (length (kindsOf (b .constraints))) (length kinds)) refl (leb (length (numbersOf (b .constraints))) (length numbers)) refl e
     where
       is : (length kinds < length (kindsOf (b .constraints))) ⊎ (length numbers < length (numbersOf (b .constraints))) → ShortRead file kinds numbers

@@ -1,5 +1,6 @@
 -- What is promised of the operations together: a file a demand of the user, statements only.
 pub mod Refusals
+pub mod RunTree
 pub mod Tree
 pub mod Acceptance
 pub mod LaidOut
@@ -17,3 +18,8 @@ pub mod Reordering
 pub mod Conversion
 pub mod Quick
 pub mod TestList
+pub mod Shortening
+pub mod ShortProofs
+pub mod Print
+pub mod Runs
+pub mod RunTells

@@ -1,8 +1,8 @@
 -- Demand 1 of the user: a refused call changes no lent buffer, and its number alone tells that it is refused. Of what each operation's function ensures. Assumes nothing.
--- (Each function has no `requires`, and a proved function always returns. Which number, file, place, row, step and branch a refusal has is the definition that the function's promise equates it with.)
+-- (No operation has a `requires`, and a proved function always returns; of shortening it is the library's `dulgaverk_shorten`, which checks and then calls `shorten`. Which number, file, place, row, step and branch a refusal has is the definition that the function's promise equates it with.)
 use mathlib.Core.Path.{_≡_}
 use mathlib.Core.Logic.{_↔_}
-use mathlib.Core.Bool.{false}
+use mathlib.Core.Bool.{Bool, false}
 use mathlib.Core.List.{List, []}
 use Prim.Native.Nat.{ℕ}
 use lib.IntN.{ℤ}
@@ -19,9 +19,14 @@ use Rattle.bundle_write.specs.Promises.{Writes}
 use Rattle.formula_test.specs.declared.Tested.{Tested}
 use Rattle.formula_test.specs.Promises.{Tests}
 use Rattle.formula_list.specs.Promises.{TestsList}
+use Rattle.printing.specs.Promises.{PrintsFile}
 use Rattle.proof.specs.Promises.{Checks}
+use Rattle.enumeration.specs.Promises.{WritesNext}
+use Rattle.run.specs.Promises.{WritesGuards}
 use Rattle.conversion.specs.Promises.{TurnsBundle, TurnsProof}
 use Rattle.bundle_show.specs.Copied.{Copied}
+use Rattle.shorten.specs.declared.ShortenResult.{ShortenResult}
+use Rattle.shorten.specs.Promises.{Shortens}
 use Rattle.scheduler.specs.declared.Job.{Job}
 use Rattle.scheduler.specs.declared.Scheduler.{Scheduler}
 use Rattle.scheduler.specs.declared.Changed.{Changed}
@@ -37,6 +42,9 @@ pub record Refusals : Type 0 where
   -- check: the output is as it was, and no byte is counted
   pub check : (A B proof output left : List ℕ) (r : WriteResult) → Checks A B proof output left r
       → ToldByNumber (r .answer) × (¬ (r .answer .number ≡ 0) → (left ≡ output) × (r .count ≡ 0))
+  -- the guards of a run: both outputs are as they were, and no byte is counted (document 02, point 7)
+  pub guards : (buffer lengths proof output sizes left sizesLeft : List ℕ) (r : WriteResult) → WritesGuards buffer lengths proof output sizes left sizesLeft r
+      → ToldByNumber (r .answer) × (¬ (r .answer .number ≡ 0) → (left ≡ output) × (sizesLeft ≡ sizes) × (r .count ≡ 0))
   -- read: both outputs are as they were, edition, count and K are 0
   pub read : (file kinds : List ℕ) (numbers : List ℤ) (kinds′ : List ℕ) (numbers′ : List ℤ) (r : ReadResult) → Reads file kinds numbers kinds′ numbers′ r
       → ToldByNumber (r .answer) × (¬ (r .answer .number ≡ 0) → (kinds′ ≡ kinds) × (numbers′ ≡ numbers) × (r .edition ≡ 0) × (r .count ≡ 0) × (r .k ≡ 0))
@@ -47,6 +55,9 @@ pub record Refusals : Type 0 where
   pub turn-bundle : (to : ℕ) (file output left : List ℕ) (r : WriteResult) → TurnsBundle to file output left r
       → ToldByNumber (r .answer) × (¬ (r .answer .number ≡ 0) → (left ≡ output) × (r .count ≡ 0))
   pub turn-proof : (to : ℕ) (file output left : List ℕ) (r : WriteResult) → TurnsProof to file output left r
+      → ToldByNumber (r .answer) × (¬ (r .answer .number ≡ 0) → (left ≡ output) × (r .count ≡ 0))
+  -- the next short proof: as check
+  pub next-proof : (A B given output left : List ℕ) (r : WriteResult) → WritesNext A B given output left r
       → ToldByNumber (r .answer) × (¬ (r .answer .number ≡ 0) → (left ≡ output) × (r .count ≡ 0))
   -- show, which is lent nothing to change: the part handed back is empty and lies at A's start
   pub show : (a b : RefT (List ℕ)) (line : ℕ) (part : RefT (List ℕ)) (r : Answer) → Shows a b line part → AnswersShow (a .now) (b .now) line r
@@ -65,4 +76,10 @@ pub record Refusals : Type 0 where
       → (r .result .answer .number ≡ 0 → r .idle ≡ false) × ToldByNumber (r .result .answer) × (¬ (r .result .answer .number ≡ 0) → (left ≡ output) × (r .result .count ≡ 0))
   -- test_list: as check (document 02, point 11)
   pub test-list : (formula : List ℕ) (K : ℕ) (values : List ℤ) (output left : List ℕ) (r : WriteResult) → TestsList formula K values output left r
+      → ToldByNumber (r .answer) × (¬ (r .answer .number ≡ 0) → (left ≡ output) × (r .count ≡ 0))
+  -- shorten: both outputs are as they were, and both counts 0 (document 02, point 12)
+  pub shorten : (A B proof report table reportLeft tableLeft : List ℕ) (r : ShortenResult) → Shortens A B proof report table reportLeft tableLeft r
+      → ToldByNumber (r .answer) × (¬ (r .answer .number ≡ 0) → (reportLeft ≡ report) × (tableLeft ≡ table) × (r .rows ≡ 0) × (r .count ≡ 0))
+  -- print and print_words: as check
+  pub print : (wording : Bool) (formula output left : List ℕ) (r : WriteResult) → PrintsFile wording formula output left r
       → ToldByNumber (r .answer) × (¬ (r .answer .number ≡ 0) → (left ≡ output) × (r .count ≡ 0))

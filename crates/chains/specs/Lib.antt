@@ -1,0 +1,2 @@
+-- Guards for a run of stages, as derivations.
+pub mod Runs

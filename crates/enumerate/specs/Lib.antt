@@ -1,0 +1,2 @@
+-- What the operation finds.
+pub mod Finding

@@ -1,0 +1,35 @@
+-- The buffers of the search, and what making a line and testing a close tell. Document 02, point 14. Assumes nothing.
+use mathlib.Core.Path.{_≡_}
+use mathlib.Core.Bool.{Bool, true, false}
+use mathlib.Core.List.{List}
+use Prim.Native.Nat.{ℕ, _+_, _*_, _≤_}
+use lib.ListN.{length}
+use lib.IntN.{ℤ}
+use Rattle.forms.specs.Edition.{edition1}
+use Rattle.forms.specs.Forms.{Formula}
+use Rattle.calculus.specs.Rules.{Row}
+use Rattle.answers.specs.declared.Answer.{Answer}
+use Rattle.answers.specs.Answers.{refused, accepted}
+use Rattle.enumeration.specs.Sequence.{closeFormula}
+use Rattle.lines.specs.Buffer.{size, linesIn, Bounded}
+use Rattle.tally.specs.declared.Tally.{Tally}
+use Rattle.closes.specs.declared.closing.Test.{Test}
+use Rattle.closes.specs.declared.closing.Test.the-variants.{Refused, Passed}
+
+-- The lines of a proof of edition 1 stand in buffers for seven, and d more may come: six at most.
+pub record SearchRoom (K d : ℕ) (kinds : List ℕ) (buf : List ℤ) (t : Tally) : Type 0 where
+  pub constants : K ≤ edition1 .constants
+  pub room : 7 * size K ≤ length buf
+  pub kinds-room : 7 ≤ length kinds
+  pub bounded : Bounded K buf (t .lines .0)
+  pub few : t .lines .0 + d ≤ 6
+  pub first-edition : t .edition ≡ 1
+
+abbrev pub isPassed : Test → Bool
+isPassed (Refused x) = false
+isPassed Passed = true
+
+-- Whether the row r closes the branch.
+pub record CloseHolds (K : ℕ) (kinds : List ℕ) (buf : List ℤ) (n : ℕ) (r : Row) (b : Bool) : Type 0 where
+  pub yes : b ≡ true → (I : Formula) × (closeFormula (linesIn K kinds buf n) r ≡ accepted I)
+  pub no : b ≡ false → (a : Answer) × (closeFormula (linesIn K kinds buf n) r ≡ refused a)

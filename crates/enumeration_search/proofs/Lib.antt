@@ -1,0 +1,2 @@
+-- Each way through the search.
+pub mod Searches

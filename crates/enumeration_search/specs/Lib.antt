@@ -1,0 +1,2 @@
+-- The search, as the code does it.
+pub mod Searching

@@ -1,0 +1,164 @@
+-- What the guards of a run are worth: sequence interpolants, for whatever the stages' writers made and meant. Document 02, point 7. Of what the function ensures. Assumes nothing.
+use mathlib.Core.Path.{_≡_}
+use mathlib.Core.Logic.{_↔_, _⊎_}
+use mathlib.Core.List.{List, map}
+use Prim.Native.Nat.{ℕ, suc, _≤_, _<_}
+use lib.ListN.{length, take}
+use Rattle.forms.specs.Edition.{edition1, newestEdition}
+use Rattle.forms.specs.Forms.{All, Constraint, Formula}
+use Rattle.answers.specs.declared.WriteResult.{WriteResult}
+use Rattle.answers.specs.Answers.{answer, acceptance, fileProof, fileLent, accepted, over, writtenOf, written}
+use Rattle.number_bytes.specs.Numbers.{Bytes}
+use Rattle.fields.specs.Fields.{Item, Framed, fileOf, fields, Noted, Kept}
+use Rattle.bundle.specs.Layout.{Each, BundleFile, bundleLimit}
+use Rattle.formula.specs.Formula.{formulaFile, readFormula}
+use Rattle.proof.specs.Check.{checkProof}
+use Rattle.proof.specs.Promises.{Checks}
+use Rattle.chains.specs.Runs.{Run, joined, upTo, beyond, Chain}
+use Rattle.run.specs.Run.{mostConstraints, parts, side}
+use Rattle.run.specs.Layout.{guardAt, StageFile, RunYields, RunCertifies}
+use Rattle.run.specs.Refused.{Earliest, RunRefused}
+use Rattle.run.specs.Ordered.{Parted, Short}
+use Rattle.run.specs.Promises.{WritesGuards}
+use Rattle.guarantee.specs.LaidOut.{Listed}
+use Rattle.guarantee.specs.RefusedIff.{JustWhere}
+use Rattle.guarantee.specs.Soundness.{Meaning, Faithful, placeless}
+
+-- A stage's writer: his fields, and what he meant by them.
+pub record Writer : Type 0 where
+  pub fields : List Item
+  pub framed : All Framed fields
+  pub means : Meaning
+  pub faithful : Faithful means
+
+-- His file, and what he stated.
+abbrev pub fileBy : Writer → List ℕ
+fileBy w = fileOf (w .fields)
+
+abbrev pub statedBy : Writer → List Constraint
+statedBy w = w .means (w .fields) .1
+
+-- The files of the writers end to end, their lengths, and the run that they stated.
+abbrev pub bufferBy : List Writer → List ℕ
+bufferBy ws = joined (map fileBy ws)
+
+abbrev pub lengthsBy : List Writer → List ℕ
+lengthsBy ws = map (λ w. length (fileBy w)) ws
+
+abbrev pub runBy : List Writer → Run
+runBy ws = map statedBy ws
+
+-- The files of these guards, end to end.
+abbrev pub guardsFile : (K : ℕ) → List Formula → List ℕ
+guardsFile K Is = joined (map (formulaFile edition1 K) Is)
+
+abbrev pub guardSizes : (K : ℕ) → List Formula → List ℕ
+guardSizes K Is = map (λ I. length (formulaFile edition1 K I)) Is
+
+-- What one accepted call leaves.
+pub record DeliveredRun (ws : List Writer) (proof output sizes left sizesLeft : List ℕ) (r : WriteResult) : Type 0 where
+  pub K : ℕ
+  pub Is : List Formula
+  -- n+1 guards, those that the rules assign to the one table for each cut, over the K that every writer stated
+  pub certified : RunCertifies newestEdition (bufferBy ws) (lengthsBy ws) proof K (runBy ws) Is
+  pub K-of : All (λ w. w .means (w .fields) .0 ≡ K) ws
+  pub guards : length Is ≡ suc (length ws)
+  -- I0 is true under every assignment, In under none, wherever I(i-1) and Ti hold Ii holds, and each Ii is an interpolant of T1 .. Ti and the rest: Ti being what its writer stated
+  pub chain : Chain (runBy ws) (guardAt Is)
+  -- the files stand end to end at the front of the output, their n+1 lengths at that of the other; the rest of both stays
+  pub fits : (length (guardsFile K Is) ≤ length output) × (length Is ≤ length sizes)
+  pub count : r .count ≡ length (guardsFile K Is)
+  pub bytes : left ≡ over (guardsFile K Is) output
+  pub lengths : sizesLeft ≡ over (guardSizes K Is) sizes
+  -- cut by the lengths that are left, the output gives the files
+  pub files : parts (take (length Is) sizesLeft) left ≡ map (formulaFile edition1 K) Is
+  -- each file, read as a formula, gives its guard back, and is no more than a formula's file may have (of a proof that is bytes, as a slice is)
+  pub reads-back : Bytes proof → All (λ I. (readFormula K (fields (formulaFile edition1 K I)) ≡ accepted I) × (length (formulaFile edition1 K I) ≤ edition1 .formulaBytes)) Is
+
+-- What is accepted: the files certify the guards, and both outputs are long enough.
+pub record RunCheckable (buffer lengths proof output sizes : List ℕ) : Type 0 where
+  pub K : ℕ
+  pub Ts : Run
+  pub Is : List Formula
+  pub certified : RunCertifies newestEdition buffer lengths proof K Ts Is
+  pub fits : (length (guardsFile K Is) ≤ length output) × (length Is ≤ length sizes)
+
+pub record RunPromised : Type 0 where
+  -- sequence interpolants, whatever the stages' writers made and meant
+  pub interpolates : (ws : List Writer) (proof output sizes left sizesLeft : List ℕ) (r : WriteResult) → WritesGuards (bufferBy ws) (lengthsBy ws) proof output sizes left sizesLeft r
+      → r .answer .number ≡ 0 → DeliveredRun ws proof output sizes left sizesLeft r
+  -- and every stage that is accepted is the file of some writer's fields
+  pub listed : (buffer lengths proof output sizes left sizesLeft : List ℕ) (r : WriteResult) → Bytes buffer → WritesGuards buffer lengths proof output sizes left sizesLeft r
+      → r .answer .number ≡ 0 → All Listed (parts lengths buffer)
+  -- the files certify one K, one run and one list of guards
+  pub one-list : (buffer lengths proof : List ℕ) (K K′ : ℕ) (Ts Ts′ : Run) (Is Is′ : List Formula) → RunYields newestEdition buffer lengths proof K Ts Is → RunYields newestEdition buffer lengths proof K′ Ts′ Is′
+      → (K ≡ K′) × (Ts ≡ Ts′) × (Is ≡ Is′)
+  -- guard i is what check writes for the same proof, whatever output it is lent, where T1 .. Ti and the rest can be written as bundles
+  pub as-check : (buffer lengths proof : List ℕ) (K : ℕ) (Ts : Run) (Is : List Formula) → RunCertifies newestEdition buffer lengths proof K Ts Is
+      → (i : ℕ) → i ≤ length Ts → (A B : List ℕ) (nA nB : ℕ) → BundleFile newestEdition A nA K (upTo Ts i) → BundleFile newestEdition B nB K (beyond Ts i)
+      → (lent checked : List ℕ) (q : WriteResult) → Checks A B proof lent checked q → writtenOf q checked ≡ written (accepted (formulaFile edition1 K (guardAt Is i))) lent
+  -- where the stages are in order and the answer names the proof: every cut is refused so, or it is a 13 of some cut, 27 or 28; nothing is refused at a lesser place, and 14 never comes
+  pub in-proof : (buffer lengths proof output sizes left sizesLeft : List ℕ) (r : WriteResult) → WritesGuards buffer lengths proof output sizes left sizesLeft r
+      → (K : ℕ) (Ts : Run) → Short lengths buffer proof → Each (StageFile newestEdition K) (parts lengths buffer) Ts → length (joined Ts) ≤ mostConstraints → r .answer .file ≡ fileProof
+      → RunRefused newestEdition K Ts proof (r .answer) × Earliest newestEdition K Ts proof (r .answer) × (¬ (r .answer .number ≡ 14))
+  -- and where check accepts every cut, but no guards are derived, the proof not being uniform, it does name the proof, by 27 or 28
+  pub not-uniform : (buffer lengths proof output sizes left sizesLeft : List ℕ) (r : WriteResult) → WritesGuards buffer lengths proof output sizes left sizesLeft r
+      → (K : ℕ) (Ts : Run) → Short lengths buffer proof → Each (StageFile newestEdition K) (parts lengths buffer) Ts → length (joined Ts) ≤ mostConstraints
+      → ((i : ℕ) → i ≤ length Ts → (I : Formula) × (checkProof newestEdition (side K (upTo Ts i)) (side K (beyond Ts i)) (fields proof) ≡ accepted I))
+      → ((Is : List Formula) → ¬ (RunYields newestEdition buffer lengths proof K Ts Is)) → (r .answer .file ≡ fileProof) × ((r .answer .number ≡ 27) ⊎ (r .answer .number ≡ 28))
+
+-- The files certify guards, and either output is too short.
+pub record ShortGuards (buffer lengths proof output sizes : List ℕ) : Type 0 where
+  pub K : ℕ
+  pub Ts : Run
+  pub Is : List Formula
+  pub certified : RunCertifies newestEdition buffer lengths proof K Ts Is
+  pub short : (length output < length (guardsFile K Is)) ⊎ (length sizes < length Is)
+
+-- Each stage is a bundle of this K, no file is too long for every edition, and they have more than 64 constraints together.
+pub record ManyConstraints (buffer lengths proof : List ℕ) : Type 0 where
+  pub K : ℕ
+  pub Ts : Run
+  pub short : Short lengths buffer proof
+  pub stages : Each (StageFile newestEdition K) (parts lengths buffer) Ts
+  pub many : mostConstraints < length (joined Ts)
+
+-- The rows derive guards, and some guard's file is longer than a formula's may be.
+pub record LongGuard (buffer lengths proof : List ℕ) : Type 0 where
+  pub K : ℕ
+  pub Ts : Run
+  pub Is : List Formula
+  pub yields : RunYields newestEdition buffer lengths proof K Ts Is
+  pub long : ¬ (All (λ I. length (formulaFile edition1 K I) ≤ edition1 .formulaBytes) Is)
+
+-- What is accepted, and what is then left; which refusals come just where they should. (Of a proof that is bytes, as a slice is, where guards are derived: two fields that state the same row are then the same.)
+pub record RunAcceptance : Type 0 where
+  pub accepted-iff : (buffer lengths proof output sizes left sizesLeft : List ℕ) (r : WriteResult) → Bytes proof → WritesGuards buffer lengths proof output sizes left sizesLeft r
+      → r .answer .number ≡ 0 ↔ RunCheckable buffer lengths proof output sizes
+  -- whatever the files certify is what is written
+  pub writes : (buffer lengths proof output sizes left sizesLeft : List ℕ) (r : WriteResult) → Bytes proof → WritesGuards buffer lengths proof output sizes left sizesLeft r
+      → (c : RunCheckable buffer lengths proof output sizes)
+      → (r .answer ≡ acceptance) × (r .count ≡ length (guardsFile (c .K) (c .Is))) × (left ≡ over (guardsFile (c .K) (c .Is)) output) × (sizesLeft ≡ over (guardSizes (c .K) (c .Is)) sizes)
+  -- 25 just where there are not 1 to 16 lengths that add up to the buffer
+  pub guards-25 : (buffer lengths proof output sizes left sizesLeft : List ℕ) (r : WriteResult) → WritesGuards buffer lengths proof output sizes left sizesLeft r
+      → JustWhere (r .answer .number ≡ 25) (¬ (Parted lengths buffer)) (r .answer) (λ _. answer 25 fileLent 0)
+  -- 26 just where the stages are in order and have too many constraints together
+  pub guards-26 : (buffer lengths proof output sizes left sizesLeft : List ℕ) (r : WriteResult) → WritesGuards buffer lengths proof output sizes left sizesLeft r
+      → JustWhere (r .answer .number ≡ 26) (ManyConstraints buffer lengths proof) (r .answer) (λ _. answer 26 fileLent 0)
+  -- 1 with file 4 just where a guard's file is too long, with the bytes of all guards, whatever is lent
+  pub guards-1-at-end : (buffer lengths proof output sizes left sizesLeft : List ℕ) (r : WriteResult) → Bytes proof → WritesGuards buffer lengths proof output sizes left sizesLeft r
+      → JustWhere ((r .answer .number ≡ 1) × (r .answer .file ≡ fileLent)) (LongGuard buffer lengths proof) (r .answer) (λ l. answer 1 fileLent (length (guardsFile (l .K) (l .Is))))
+  -- 21 just where only an output is too short, with the bytes of all guards
+  pub guards-21 : (buffer lengths proof output sizes left sizesLeft : List ℕ) (r : WriteResult) → Bytes proof → WritesGuards buffer lengths proof output sizes left sizesLeft r
+      → JustWhere (r .answer .number ≡ 21) (ShortGuards buffer lengths proof output sizes) (r .answer) (λ s. answer 21 fileLent (length (guardsFile (s .K) (s .Is))))
+
+-- A stage's file with notes, which leave it short enough for its edition.
+pub record NotedStage (F F′ : List ℕ) : Type 0 where
+  pub noted : Noted F F′
+  pub kept : Kept (bundleLimit F) F F′
+
+-- Whole notes between whole fields, in the stages and in the proof, change no number, file, row, step or branch, no count and no byte of the outputs (places move).
+pub record RunNotes : Type 0 where
+  pub passed-over : (Fs Fs′ : List (List ℕ)) (proof proof′ output sizes left left′ sizesLeft sizesLeft′ : List ℕ) (r r′ : WriteResult) → Each NotedStage Fs Fs′ → Noted proof proof′ → Kept (edition1 .proofBytes) proof proof′
+      → WritesGuards (joined Fs) (map length Fs) proof output sizes left sizesLeft r → WritesGuards (joined Fs′) (map length Fs′) proof′ output sizes left′ sizesLeft′ r′
+      → (placeless (r′ .answer) ≡ placeless (r .answer)) × (r′ .count ≡ r .count) × (left′ ≡ left) × (sizesLeft′ ≡ sizesLeft)

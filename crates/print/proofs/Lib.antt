@@ -1,0 +1,2 @@
+-- Each way through printing a file.
+pub mod Whole

@@ -1,0 +1,2 @@
+-- Numbers with their sign.
+pub mod Signs

@@ -1,0 +1,2 @@
+-- The small texts of a formula.
+pub mod Relations

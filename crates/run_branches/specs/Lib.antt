@@ -1,0 +1,3 @@
+-- The contracts of the walk's functions.
+pub mod Branches
+pub mod Walks

@@ -1,0 +1,2 @@
+-- All cuts, from the last down.
+pub mod AllCuts

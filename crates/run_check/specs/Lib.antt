@@ -1,0 +1,2 @@
+-- The contracts of all cuts together.
+pub mod All

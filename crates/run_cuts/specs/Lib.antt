@@ -1,0 +1,3 @@
+-- The contracts of one cut's functions.
+pub mod Staged
+pub mod Cuts

@@ -1,0 +1,2 @@
+-- The stages parted, tested for their lengths, and read.
+pub mod StagesRead

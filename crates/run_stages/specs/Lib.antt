@@ -1,0 +1,2 @@
+-- The contracts of reading the stages.
+pub mod Reading

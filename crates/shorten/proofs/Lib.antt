@@ -1,0 +1,3 @@
+-- Each way through the operation.
+pub mod Delivering
+pub mod Accepting

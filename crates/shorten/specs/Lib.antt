@@ -1,0 +1,3 @@
+-- The operation.
+pub mod Promises
+pub mod Known

@@ -1,0 +1,137 @@
+-- Laws of marks and of the report. Assumes nothing.
+use mathlib.Core.Path.{_≡_, refl, sym, _∙_, ap, ap₂, subst}
+use mathlib.Core.Bool.{Bool, true, false, not, _&&_, _||_}
+use mathlib.Core.List.{List, [], _∷_}
+use Prim.Native.Nat.{ℕ, zero, suc, _+_, _-_, _≤_, _<_}
+use native.Mathlib.Omega.{arith}
+use lib.Dec.{T, eqb, eqb→eq}
+use lib.ListN.{length, getD, set, length-set}
+use lib.Seq.{getD-set-same, getD-set-other, set-comm, sets}
+use borrow.Author.Tests.{eqb-true, eqb-false}
+use Rattle.shortening.specs.Needed.{markOf}
+use Rattle.shortening.specs.Passes.{Backward, cleared, branching, closing}
+use Rattle.shortening_marks.specs.Marks.{Marking, madeMarks, rowMarks, rowSaid, MarkedRow, making2, rowBack, backIn, Markable, MarkedFrom}
+
+-- a mark is set, or cleared
+marking-set : (marks : List ℕ) (m : ℕ → Bool) (i : ℕ) → Marking marks m → Marking (set marks i 1) (λ j. eqb j i || m j)
+marking-set marks m i h = record { at = λ j l. by j (subst (λ (n : ℕ). j < n) (length-set marks i 1) l) (eqb j i) refl }
+  where
+    by : (j : ℕ) → j < length marks → (b : Bool) → eqb j i ≡ b → getD (set marks i 1) j 0 ≡ markOf (b || m j)
+    by j l true e =
+        let q : j ≡ i = eqb-true j i e in
+        ap (λ (k : ℕ). getD (set marks i 1) k 0) q ∙ getD-set-same marks i 1 0 (subst (λ (k : ℕ). k < length marks) q l)
+    by j l false e = getD-set-other marks i j 1 0 (eqb-false j i e) ∙ h .at j l
+
+marking-clear : (marks : List ℕ) (m : ℕ → Bool) (n : ℕ) → Marking marks m → Marking (set marks n 0) (cleared n m)
+marking-clear marks m n h = record { at = λ j l. by j (subst (λ (k : ℕ). j < k) (length-set marks n 0) l) (eqb j n) refl }
+  where
+    by : (j : ℕ) → j < length marks → (b : Bool) → eqb j n ≡ b → getD (set marks n 0) j 0 ≡ markOf (not b && m j)
+    by j l true e =
+        let q : j ≡ n = eqb-true j n e in
+        ap (λ (k : ℕ). getD (set marks n 0) k 0) q ∙ getD-set-same marks n 0 0 (subst (λ (k : ℕ). k < length marks) q l)
+    by j l false e = getD-set-other marks n j 0 0 (eqb-false j n e) ∙ h .at j l
+
+marking-as : (marks : List ℕ) (m m′ : ℕ → Bool) → ((j : ℕ) → m j ≡ m′ j) → Marking marks m → Marking marks m′
+marking-as marks m m′ e h = record { at = λ j l. h .at j l ∙ ap markOf (e j) }
+
+-- a row that makes a line
+made-true : (a b c : Bool) → (b || (a || c)) ≡ (((a || b) && true) || c)
+made-true true true c = refl
+made-true true false c = refl
+made-true false true c = refl
+made-true false false c = refl
+
+made-false : (a c : Bool) → c ≡ ((a && false) || c)
+made-false true c = refl
+made-false false c = refl
+
+marking-made : (marks : List ℕ) (m : ℕ → Bool) (n s t : ℕ) → Marking marks m → (own : Bool) → Marking (madeMarks (markOf own) marks n s t) (λ j. ((eqb j s || eqb j t) && own) || cleared n m j)
+marking-made marks m n s t h true =
+    marking-as (set (set (set marks n 0) s 1) t 1) (λ j. eqb j t || (eqb j s || cleared n m j)) (λ j. ((eqb j s || eqb j t) && true) || cleared n m j) (λ j. made-true (eqb j s) (eqb j t) (cleared n m j))
+    (marking-set (set (set marks n 0) s 1) (λ j. eqb j s || cleared n m j) t (marking-set (set marks n 0) (cleared n m) s (marking-clear marks m n h)))
+marking-made marks m n s t h false =
+    marking-as (set marks n 0) (cleared n m) (λ j. ((eqb j s || eqb j t) && false) || cleared n m j) (λ j. made-false (eqb j s || eqb j t) (cleared n m j)) (marking-clear marks m n h)
+
+-- a row of any class
+marking-row : (marks : List ℕ) (b : Backward) (class n s t : ℕ) → n < length marks → Marking marks (b .marks) → Marking (rowMarks class marks n s t) (rowBack class n s t b .marks)
+marking-row marks b zero n s t l h = subst (λ (own : ℕ). Marking (madeMarks own marks n s t) (making2 s t n b .marks)) (sym (h .at n l)) (marking-made marks (b .marks) n s t h (b .marks n))
+marking-row marks b (suc zero) n s t l h = marking-set (set marks n 0) (cleared n (b .marks)) s (marking-clear marks (b .marks) n h)
+marking-row marks b (suc (suc c)) n s t l h = marking-set marks (b .marks) s h
+
+reported-row : (marks : List ℕ) (b : Backward) (class n s t : ℕ) → n < length marks → Marking marks (b .marks) → rowBack class n s t b .reported ≡ rowSaid class marks n ∷ b .reported
+reported-row marks b zero n s t l h = ap (λ (x : ℕ). x ∷ b .reported) (sym (h .at n l))
+reported-row marks b (suc zero) n s t l h = refl
+reported-row marks b (suc (suc c)) n s t l h = refl
+
+-- a store before a run
+sets-before : (vs l : List ℕ) (i j a : ℕ) → j < i → set (sets l i vs) j a ≡ sets (set l j a) i vs
+sets-before [] l i j a h = refl
+sets-before (v ∷ vs) l i j a h =
+    sets-before vs (set l i v) (suc i) j a (omega (arith, h)) ∙ ap (λ (m : List ℕ). sets m (suc i) vs) (set-comm l i j v a (λ e. absurd (let z : ⊥ = omega (arith, h, e) in z)))
+
+length-row : (class : ℕ) (marks : List ℕ) (n s t : ℕ) → length (rowMarks class marks n s t) ≡ length marks
+length-row zero marks n s t = by (getD marks n 0)
+  where
+    by : (own : ℕ) → length (madeMarks own marks n s t) ≡ length marks
+    by zero = length-set marks n 0
+    by (suc own) = length-set (set (set marks n 0) s 1) t 1 ∙ length-set (set marks n 0) s 1 ∙ length-set marks n 0
+length-row (suc zero) marks n s t = length-set (set marks n 0) s 1 ∙ length-set marks n 0
+length-row (suc (suc c)) marks n s t = length-set marks s 1
+
+-- ---- the loop
+module _ {classes firsts seconds befores : List ℕ} {rows : ℕ} {marks₀ report₀ : List ℕ} (able : Markable classes firsts seconds befores rows marks₀ report₀) where
+  pub marked-start : MarkedFrom classes firsts seconds befores rows rows marks₀ report₀ marks₀ report₀
+  marked-start = record { left = 0; left-is = omega arith; marking = able .none; reported = refl; marks-length = refl }
+
+  pub marked-less : {r : ℕ} {marks report : List ℕ} → MarkedFrom classes firsts seconds befores rows r marks₀ report₀ marks report → 0 < r → r - 1 < rows
+  marked-less v h = omega (arith, h, v .left-is)
+
+  pub marked-below : {r : ℕ} {marks report : List ℕ} → MarkedFrom classes firsts seconds befores rows r marks₀ report₀ marks report → 0 < r → getD befores (r - 1) 0 < length marks
+  marked-below {r} v h = subst (λ (n : ℕ). getD befores (r - 1) 0 < n) (sym (v .marks-length)) (able .below (r - 1) (marked-less v h))
+
+  marked-by : (r i : ℕ) {marks report marks′ : List ℕ} {reported : ℕ} → suc i ≡ r → (v : MarkedFrom classes firsts seconds befores rows r marks₀ report₀ marks report)
+      → MarkedRow marks (getD classes i 0) (getD befores i 0) (getD firsts i 0) (getD seconds i 0) marks′ reported → MarkedFrom classes firsts seconds befores rows i marks₀ report₀ marks′ (set report i reported)
+  marked-by r i {marks} {report} {marks′} {reported} e v k =
+      let b = backIn classes firsts seconds befores (v .left) (suc i) in
+      let vm : Marking marks (b .marks) = subst (λ (x : ℕ). Marking marks (backIn classes firsts seconds befores (v .left) x .marks)) (sym e) (v .marking) in
+      let l : getD befores i 0 < length marks = subst (λ (n : ℕ). getD befores i 0 < n) (sym (v .marks-length)) (able .below i (omega (arith, e, v .left-is))) in
+      let rep : report ≡ sets report₀ (suc i) (b .reported) = subst (λ (x : ℕ). report ≡ sets report₀ x (backIn classes firsts seconds befores (v .left) x .reported)) (sym e) (v .reported) in
+      record {
+        left = suc (v .left);
+        left-is = omega (arith, e, v .left-is);
+        marking = subst (λ (xs : List ℕ). Marking xs (rowBack (getD classes i 0) (getD befores i 0) (getD firsts i 0) (getD seconds i 0) b .marks)) (sym (k .marks-are))
+            (marking-row marks b (getD classes i 0) (getD befores i 0) (getD firsts i 0) (getD seconds i 0) l vm);
+        reported = ap₂ (λ (xs : List ℕ) (x : ℕ). set xs i x) rep (k .reported-is) ∙ sets-before (b .reported) report₀ (suc i) i (rowSaid (getD classes i 0) marks (getD befores i 0)) (omega arith)
+            ∙ ap (λ (ns : List ℕ). sets report₀ i ns) (sym (reported-row marks b (getD classes i 0) (getD befores i 0) (getD firsts i 0) (getD seconds i 0) l vm));
+        marks-length = ap length (k .marks-are) ∙ length-row (getD classes i 0) marks (getD befores i 0) (getD firsts i 0) (getD seconds i 0) ∙ v .marks-length;
+      }
+
+  pub marked-next : {r : ℕ} {marks report marks′ : List ℕ} {reported : ℕ} → (v : MarkedFrom classes firsts seconds befores rows r marks₀ report₀ marks report) → 0 < r
+      → MarkedRow marks (getD classes (r - 1) 0) (getD befores (r - 1) 0) (getD firsts (r - 1) 0) (getD seconds (r - 1) 0) marks′ reported
+      → MarkedFrom classes firsts seconds befores rows (r - 1) marks₀ report₀ marks′ (set report (r - 1) reported)
+  marked-next {r} v h k = marked-by r (r - 1) (omega (arith, h)) v k
+
+-- ---- one row, by its tests
+pub made-none : (own : ℕ) (marks : List ℕ) (n s t : ℕ) → own ≡ 0 → set marks n 0 ≡ madeMarks own marks n s t
+made-none own marks n s t h = sym (ap (λ (o : ℕ). madeMarks o marks n s t) h)
+
+pub made-some : (own : ℕ) (marks : List ℕ) (n s t : ℕ) → ¬ (own ≡ 0) → set (set (set marks n 0) s 1) t 1 ≡ madeMarks own marks n s t
+made-some zero marks n s t h = absurd (h refl)
+made-some (suc own) marks n s t h = refl
+
+pub row-makes : (marks marks′ : List ℕ) (class n s t r : ℕ) → class ≡ 0 → r ≡ getD marks n 0 → marks′ ≡ madeMarks (getD marks n 0) marks n s t → MarkedRow marks class n s t marks′ r
+row-makes marks marks′ class n s t r e h k = record { marks-are = k ∙ ap (λ (c : ℕ). rowMarks c marks n s t) (sym e); reported-is = h ∙ ap (λ (c : ℕ). rowSaid c marks n) (sym e) }
+
+pub row-branches : (marks marks′ : List ℕ) (class n s t : ℕ) → class ≡ 1 → marks′ ≡ set (set marks n 0) s 1 → MarkedRow marks class n s t marks′ 2
+row-branches marks marks′ class n s t e k = record { marks-are = k ∙ ap (λ (c : ℕ). rowMarks c marks n s t) (sym e); reported-is = ap (λ (c : ℕ). rowSaid c marks n) (sym e) }
+
+pub row-closes : (marks marks′ : List ℕ) (class n s t : ℕ) → ¬ (class ≡ 0) → ¬ (class ≡ 1) → marks′ ≡ set marks s 1 → MarkedRow marks class n s t marks′ 2
+row-closes marks marks′ zero n s t e f k = absurd (e refl)
+row-closes marks marks′ (suc zero) n s t e f k = absurd (f refl)
+row-closes marks marks′ (suc (suc c)) n s t e f k = record { marks-are = k; reported-is = refl }
+
+pub length-two : (marks : List ℕ) (n s : ℕ) → length (set (set marks n 0) s 1) ≡ length marks
+length-two marks n s = length-set (set marks n 0) s 1 ∙ length-set marks n 0
+
+pub length-three : (marks : List ℕ) (n s t : ℕ) → length (set (set (set marks n 0) s 1) t 1) ≡ length marks
+length-three marks n s t = length-set (set (set marks n 0) s 1) t 1 ∙ length-two marks n s

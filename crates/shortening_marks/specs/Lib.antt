@@ -1,0 +1,3 @@
+-- The rows gathered and marked.
+pub mod Gathered
+pub mod Marks

@@ -1,0 +1,3 @@
+-- The shortened table.
+pub mod Table
+pub mod Written
