@@ -1,6 +1,7 @@
 /* Dulgaverk, the verified office checker: its operations for C and C++.
  *
- * Link target/staticlib/libdulgaverk.a, which `rt staticlib dulgaverk` writes (x86-64 Linux). It needs nothing but the C library.
+ * Link target/staticlib/libdulgaverk.a, which `rt staticlib dulgaverk` writes (x86-64 Linux), or what `./install` puts below a
+ * folder, with the flags of `pkg-config --cflags --libs dulgaverk`. It needs nothing but the C library.
  *
  * In every call
  * - a file or list is a pointer and a length. The length counts elements, not bytes. Where it is 0 the pointer is never
@@ -12,7 +13,9 @@
  * - nothing is allocated, kept or shared: calls may run in several threads at once.
  * - working memory is on the stack: a check takes up to 152 KiB of it where the proof is of edition 1 and up to
  *   272 KiB where it is of edition 2, also as a turn of the scheduler (which takes 2 KiB more than the check itself),
- *   testing a formula up to 64 KiB, at a list of vectors up to 96 KiB, every other call less than 12 KiB.
+ *   shortening up to 168 KiB and 288 KiB likewise, the guards of a run up to 192 KiB, testing a formula up to 72 KiB,
+ *   at a list of vectors up to 96 KiB, printing one up to 152 KiB, every other call less than 12 KiB.
+ *   With less than that left the process ends by SIGSEGV, as by every overflow of a stack, and no answer is given.
  * - each file is read by the edition that it says: A, B and the proof may differ in it. Formulas are of edition 1.
  *
  * docs/FORMAT.md has the layout of the files and the order in which each operation tests them.
@@ -32,6 +35,13 @@ extern "C" {
 #define DULGAVERK_EDITION_1 1 /* numbers of two bytes, line numbers of one */
 #define DULGAVERK_EDITION_2 2 /* numbers of four bytes, line numbers of two */
 
+/* The kinds of constraints. */
+enum dulgaverk_kind {
+    DULGAVERK_INEQUALITY = 0, /* t <= 0 */
+    DULGAVERK_EQUALITY = 1,   /* t = 0 */
+    DULGAVERK_DISEQUALITY = 2 /* t != 0 */
+};
+
 /* The limits. Those of a bundle are the larger ones, of edition 2. */
 #define DULGAVERK_CONSTANTS 16        /* constants of a file */
 #define DULGAVERK_CONSTRAINTS 32      /* constraints of a bundle */
@@ -39,7 +49,15 @@ extern "C" {
 #define DULGAVERK_BUNDLE 8192         /* bytes of a bundle; 4,096 in edition 1 */
 #define DULGAVERK_WRITTEN_BUNDLE 2280 /* bytes of a bundle that dulgaverk_write or dulgaverk_turn_bundle makes; 1,192 in edition 1 */
 #define DULGAVERK_FIELD 71            /* bytes of a constraint's field; 37 in edition 1 */
-#define DULGAVERK_PROOF 65536         /* bytes of a proof, and of a formula */
+#define DULGAVERK_PROOF 65536         /* bytes of a proof */
+#define DULGAVERK_FORMULA 65536       /* bytes of a formula */
+#define DULGAVERK_VALUE 1000000       /* the largest register value; the least is as far below 0 */
+#define DULGAVERK_TEXT 393216         /* bytes of a printed formula: six for each byte of its file are always enough */
+#define DULGAVERK_SHORT_PROOF 32      /* bytes of a short proof */
+#define DULGAVERK_ROWS 1024           /* rows of a proof */
+#define DULGAVERK_STAGES 16           /* stages of a run */
+#define DULGAVERK_RUN_CONSTRAINTS 64  /* constraints of a run, of all its stages together */
+#define DULGAVERK_GUARDS 1114112      /* bytes of all guards of a run: 17 formulas */
 
 /* A row, step or branch of an answer where there is none. */
 #define DULGAVERK_NONE 65535
@@ -54,7 +72,7 @@ extern "C" {
  *      5  an edition that this kind of file does not have, or that a file to be turned has already
  *      6  a field of the wrong length
  *      7  the number of constants, or of values, is not 1 to 16, or a list is not whole vectors
- *      8  more than 32 constraints
+ *      8  more than 32 constraints, or for short proofs more than 4 in both bundles
  *      9  the number of constants is not the one given before
  *     10  a line that is not there, or a line number that has no room in the edition asked for
  *     11  a line of the wrong kind
@@ -71,25 +89,32 @@ extern "C" {
  *     22  no longer given; its number is not used again
  *     23  a register value outside -1,000,000 to 1,000,000
  *     24  a kind that is not 0, 1 or 2, or the wrong count of numbers
+ *     25  not 1 to 16 stages, or lengths that do not add up to the buffer
+ *     26  more than 64 constraints in a run
+ *     27  a claim in the proof of a run
+ *     28  branches that a run needs alike are not
  *     29  a seat above 7
  *     30  a job for a seat where one waits
  *     31  no job waits at the seat
+ *     32  a table that is not among the short proofs
+ *     33  no short proof follows the table
  *     34  a part of a job does not lie in the buffer
  *     35  no job waits
  *
- *   file  1 A, or a bundle read or turned alone; 2 B; 3 the proof or formula; 4 a lent output, or no file
+ *   file  1 A, or a bundle read or turned alone; 2 B; 3 the proof or formula; 4 a lent output, or no file; 11 to 26 a stage
+ *         of a run, 10 + i for stage i, counted from 1
  *  place  the byte at which the field at fault starts, if nothing else is said
  *
  * The other three say where in the tree of a proof that is; 65,535 says that there is none.
  *
- *    row  the row at fault; rows are numbered in the file from 0, claims and notes are none. In a proof 10 to 13 and 15
- *         to 18 have their own row, 14 that before the claim, every other refusal none
+ *    row  the row at fault; rows are numbered in the file from 0, claims and notes are none. In a proof 10 to 13, 15 to
+ *         18 and 28 have their own row, 14 and 27 that before the claim, every other refusal none
  *   step  the row number of the innermost step (a strengthen, rounding or split) that is open where the fault is found,
  *         before the field at fault takes effect; for 20 at the end of the proof. None on the root, and after its close
  * branch  which branch of that step it is, from 0 in file order, at most 16; none where step is
  *
- * Only a check has them, also as a turn of the scheduler: the other operations, and what a check refuses of A, B or a lent
- * output, have none.
+ * Only a check has them, also as a turn of the scheduler, shortening, and the guards of a run: the other operations, and what
+ * these refuse of A, B, a stage or a lent output, have none.
  */
 typedef struct dulgaverk_answer {
     uint8_t number;
@@ -100,6 +125,88 @@ typedef struct dulgaverk_answer {
     uint16_t branch;
 } dulgaverk_answer;
 
+/* The numbers by name. 22 is no longer given. */
+enum dulgaverk_number {
+    DULGAVERK_ACCEPTED = 0,
+    DULGAVERK_REFUSED_TOO_LONG = 1,
+    DULGAVERK_REFUSED_NOT_WHOLE = 2,
+    DULGAVERK_REFUSED_UNKNOWN_TAG = 3,
+    DULGAVERK_REFUSED_MISPLACED_TAG = 4,
+    DULGAVERK_REFUSED_EDITION = 5,
+    DULGAVERK_REFUSED_FIELD_LENGTH = 6,
+    DULGAVERK_REFUSED_COUNT = 7,
+    DULGAVERK_REFUSED_TOO_MANY_CONSTRAINTS = 8,
+    DULGAVERK_REFUSED_OTHER_CONSTANTS = 9,
+    DULGAVERK_REFUSED_NO_LINE = 10,
+    DULGAVERK_REFUSED_KIND_OF_LINE = 11,
+    DULGAVERK_REFUSED_MULTIPLIER = 12,
+    DULGAVERK_REFUSED_NUMBER_RANGE = 13,
+    DULGAVERK_REFUSED_CLAIM = 14,
+    DULGAVERK_REFUSED_CONDITION = 15,
+    DULGAVERK_REFUSED_TOO_MANY_LINES = 16,
+    DULGAVERK_REFUSED_TOO_DEEP = 17,
+    DULGAVERK_REFUSED_TOO_MANY_ROWS = 18,
+    DULGAVERK_REFUSED_AFTER_END = 19,
+    DULGAVERK_REFUSED_STILL_OPEN = 20,
+    DULGAVERK_REFUSED_OUTPUT_TOO_SHORT = 21,
+    DULGAVERK_REFUSED_VALUE_RANGE = 23,
+    DULGAVERK_REFUSED_KIND = 24,
+    DULGAVERK_REFUSED_STAGES = 25,
+    DULGAVERK_REFUSED_TOO_MANY_RUN_CONSTRAINTS = 26,
+    DULGAVERK_REFUSED_CLAIM_IN_RUN = 27,
+    DULGAVERK_REFUSED_UNLIKE_BRANCHES = 28,
+    DULGAVERK_REFUSED_SEAT = 29,
+    DULGAVERK_REFUSED_SEAT_TAKEN = 30,
+    DULGAVERK_REFUSED_SEAT_EMPTY = 31,
+    DULGAVERK_REFUSED_TABLE = 32,
+    DULGAVERK_REFUSED_LAST_TABLE = 33,
+    DULGAVERK_REFUSED_JOB_PART = 34,
+    DULGAVERK_REFUSED_NO_JOB = 35
+};
+
+/* What the number of an answer means, in the words of the table; 0 is "accepted", a number behind the table "no refusal". */
+static inline const char *dulgaverk_meaning(size_t number) {
+    static const char *const meanings[] = {
+        "accepted",
+        "a file is longer than its limit, or a formula or a turned proof would be",
+        "bytes are no whole field, or a file ends too early",
+        "a tag below 0x80 that this kind of file does not have",
+        "a known tag where it may not stand",
+        "an edition that this kind of file does not have, or that a file to be turned has already",
+        "a field of the wrong length",
+        "the number of constants, or of values, is not 1 to 16, or a list is not whole vectors",
+        "more than 32 constraints, or for short proofs more than 4 in both bundles",
+        "the number of constants is not the one given before",
+        "a line that is not there, or a line number that has no room in the edition asked for",
+        "a line of the wrong kind",
+        "a multiplier of 0, a stride below 2, or a rounding by 0 or more than 16",
+        "a number of a new line, or of a bundle, is out of range",
+        "a claim that is not the new line",
+        "a close or rounding whose condition is not met",
+        "a 129th line on a branch, or in edition 2 a 1,001st",
+        "a 33rd open step, or in a formula a 601st level of and/or",
+        "a 1,025th row",
+        "a known field after the end of the proof or formula",
+        "branches are still open at the end of the proof",
+        "a lent output is too short",
+        "no longer given; its number is not used again",
+        "a register value outside -1,000,000 to 1,000,000",
+        "a kind that is not 0, 1 or 2, or the wrong count of numbers",
+        "not 1 to 16 stages, or lengths that do not add up to the buffer",
+        "more than 64 constraints in a run",
+        "a claim in the proof of a run",
+        "branches that a run needs alike are not",
+        "a seat above 7",
+        "a job for a seat where one waits",
+        "no job waits at the seat",
+        "a table that is not among the short proofs",
+        "no short proof follows the table",
+        "a part of a job does not lie in the buffer",
+        "no job waits"
+    };
+    return number < sizeof meanings / sizeof *meanings ? meanings[number] : "no refusal";
+}
+
 /* What reading a bundle gives. A refusal has count 0, k 0 and edition 0. */
 typedef struct dulgaverk_read_result {
     dulgaverk_answer answer;
@@ -108,11 +215,19 @@ typedef struct dulgaverk_read_result {
     uint8_t edition; /* 1 or 2 */
 } dulgaverk_read_result;
 
-/* What writing, checking, turning and testing at a list give. A refusal has count 0. */
+/* What writing, checking, turning, testing at a list, printing, the next short proof and the guards of a run give. A refusal
+ * has count 0. */
 typedef struct dulgaverk_write_result {
     dulgaverk_answer answer;
-    size_t count; /* bytes written; of a list, the number of vectors */
+    size_t count; /* bytes written; of a list, the number of vectors; of a run, the bytes of all guards */
 } dulgaverk_write_result;
+
+/* What shortening gives. A refusal has rows 0 and count 0. */
+typedef struct dulgaverk_shorten_result {
+    dulgaverk_answer answer;
+    size_t rows;  /* rows of the proof: bytes of the report */
+    size_t count; /* bytes of the shorter table */
+} dulgaverk_shorten_result;
 
 /* What testing a formula gives. A refusal has holds false. */
 typedef struct dulgaverk_tested {
@@ -213,6 +328,39 @@ size_t dulgaverk_show(const uint8_t *a, size_t a_length, const uint8_t *b, size_
 dulgaverk_write_result dulgaverk_check(const uint8_t *a, size_t a_length, const uint8_t *b, size_t b_length,
                                        const uint8_t *proof, size_t proof_length, uint8_t *out, size_t out_length);
 
+/* Finds the rows of a proof that nothing rests on, and writes the table without them. A row that makes a line (0x10 to 0x12) is
+ * needed where a close or a branching row names its line, or a needed row does, on a branch where that line stands.
+ *
+ * Accepted: `rows` bytes of `report`, one a row in file order: 1 needed, 0 not, 2 a close or branching row, which always stays;
+ * and `count` bytes of `out`, a proof of the same edition with the needed rows, their claims, and all rows of 2, line numbers
+ * adjusted, notes left out. It has no more bytes than the proof, and a check of it with A and B gives what a check of the proof
+ * gives; shortened again it stays. 1,024 bytes of `report` and 65,536 of `out` are always enough.
+ * Refused: what dulgaverk_check refuses with 65,536 bytes lent, also 1 where the formula would be too long; then 21 with file 4
+ * and as place the bytes of the shorter table, where either output is too short.
+ */
+dulgaverk_shorten_result dulgaverk_shorten(const uint8_t *a, size_t a_length, const uint8_t *b, size_t b_length,
+                                      const uint8_t *proof, size_t proof_length, uint8_t *report,
+                                      size_t report_length, uint8_t *out, size_t out_length);
+
+/* Makes the guards of a run of n stages, 1 to 16: bundles end to end in `buffer`, of `lengths_length` = n lengths. The proof is
+ * one over the lines of all stages in order. Guard i, from 0 to n, is the formula that the proof gives with the stages 1 to i as
+ * A and the others as B: guard 0 holds everywhere, guard n nowhere, and guard i wherever guard i - 1 and stage i do.
+ *
+ * Accepted: `count` bytes of `out`, the n + 1 guard files end to end, and their lengths in sizes[0] to sizes[n]. 17 sizes and
+ * 1,114,112 bytes are always enough.
+ * Refused, in this order: 25 (file 4, place 0); 1 for each stage above 8,192 bytes (file 10 + i, place 0) and for the proof above
+ * 65,536 (file 3, place 0); what reading refuses of each stage, from the second on also 9 where its number of constants is not the
+ * first one's; 26 (file 4, place 0); then with file 3 what a check refuses of the proof, but 13 where a number is out of range for
+ * any guard, 27 for every claim in its place and of the right length, whatever it says, in place of 14, and after 15 28 at the
+ * close that ends the last branch of a strengthen whose first and third branch are not the same rows, or of a rounding whose
+ * branches are not all the same, notes aside; then with file 4, and as place the bytes of all guards, 1 where a guard would have
+ * more than 65,536 bytes, whatever the outputs are, and 21 where either output is too short. Places in a stage count from its own
+ * start.
+ */
+dulgaverk_write_result dulgaverk_guards(const uint8_t *buffer, size_t buffer_length, const size_t *lengths,
+                                        size_t lengths_length, const uint8_t *proof, size_t proof_length,
+                                        uint8_t *out, size_t out_length, size_t *sizes, size_t sizes_length);
+
 /* Tests a formula of at most 65,536 bytes at register values, one for each constant, each within +-1,000,000.
  *
  * Accepted: whether it holds.
@@ -275,6 +423,32 @@ dulgaverk_turned dulgaverk_scheduler_turn(dulgaverk_scheduler state, const uint8
 dulgaverk_write_result dulgaverk_test_list(const uint8_t *formula, size_t formula_length, size_t k,
                                            const int32_t *values, size_t values_length, uint8_t *out,
                                            size_t out_length);
+
+/* Prints a formula of at most 65,536 bytes, of any number of constants, which are called r0, r1, ..: as a term of SMT-LIB 2
+ * over integer constants, or in words. The text is ASCII without a newline, and no byte 0 is put behind it.
+ *
+ * Accepted: `count` bytes of `out` are the text, at most six for each byte of the formula.
+ * Refused: 1 (file 3, place 0); then 2, 3, 19, 4, 6, 5, 7, 12 and 17 with file 3, as dulgaverk_test reads a formula, but
+ * whatever K it has, so never 9; then 21 where `out` is too short (file 4, place the bytes needed).
+ */
+dulgaverk_write_result dulgaverk_print(const uint8_t *formula, size_t formula_length, uint8_t *out, size_t out_length);
+dulgaverk_write_result dulgaverk_print_words(const uint8_t *formula, size_t formula_length, uint8_t *out,
+                                             size_t out_length);
+
+/* Lists all short proofs that A and B, of at most four constraints together, contradict each other: the tables of edition 1
+ * that dulgaverk_check accepts with output enough, of one to three rows 0x10 to 0x15, without claims and notes, with the
+ * multipliers 1 and 2 (in a reduce also -1 and -2) and the strides 2 to 4. They are ordered by the number of rows, then by
+ * their bytes. Given one of them as `table`, the next is written; given the header alone (eight bytes: edition 1 and A's K),
+ * the first.
+ *
+ * Accepted: `count` bytes of `out` are that table, at most 32.
+ * Refused: 1 for A and B above 8,192 bytes (files 1, 2, place 0); then what reading refuses of A and of B, for B also 9; then
+ * with file 4 and place 0, 8 for a fifth constraint, 32 for a table that is neither one of them nor the header alone, and 33
+ * after the last one, or where there is none; then 21 where `out` is too short (file 4, place the bytes of the next table).
+ */
+dulgaverk_write_result dulgaverk_next_proof(const uint8_t *a, size_t a_length, const uint8_t *b, size_t b_length,
+                                            const uint8_t *table, size_t table_length, uint8_t *out,
+                                            size_t out_length);
 
 #ifdef __cplusplus
 }

@@ -8,6 +8,8 @@ mod lists;
 mod measure;
 mod plot;
 mod report;
+mod runs;
+mod shortening;
 mod simple;
 mod work;
 
@@ -55,6 +57,7 @@ fn tables(rounds: usize) -> Vec<(&'static str, String)> {
         println!("{}", report::line(&work, &time));
         timed.push((work, time));
     }
+    println!("{}", report::printing_line(&timed));
     vec![
         (
             "docs/BENCHMARKS.md",

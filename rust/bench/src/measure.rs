@@ -21,6 +21,10 @@ impl Time {
 /// How long a round of one side takes at least, in seconds.
 const ROUND: f64 = 0.000_2;
 
+/// How long all rounds of one side take at most, in seconds, as far as a dozen are made.
+const ALL: f64 = 2.0;
+const FEWEST: usize = 12;
+
 fn seconds(run: &dyn Fn(usize) -> usize, times: usize) -> f64 {
     let start = Instant::now();
     black_box(run(black_box(times)));
@@ -39,6 +43,8 @@ pub fn measure(work: &Work, rounds: usize) -> Time {
     while seconds(&*work.rattle, times).max(seconds(&*work.rust, times)) < ROUND {
         times *= 2;
     }
+    let longest = seconds(&*work.rattle, times).max(seconds(&*work.rust, times));
+    let rounds = rounds.min(((ALL / longest) as usize).max(FEWEST));
     let (mut rattle, mut rust, mut ratios) = (Vec::new(), Vec::new(), Vec::new());
     for _ in 0..rounds {
         let first = seconds(&*work.rattle, times);

@@ -1,21 +1,23 @@
 //! The table, on a line each and as a page.
 
 use crate::measure::Time;
-use crate::work::Work;
+use crate::work::{Work, PRINTS, TEST};
 use std::fmt::Write;
 
 /// Nanoseconds in a unit that reads well.
 pub fn duration(nanoseconds: f64) -> String {
     if nanoseconds < 1_000.0 {
         format!("{nanoseconds:.0} ns")
-    } else {
+    } else if nanoseconds < 10_000_000.0 {
         format!("{:.1} µs", nanoseconds / 1_000.0)
+    } else {
+        format!("{:.1} ms", nanoseconds / 1_000_000.0)
     }
 }
 
 pub fn line(work: &Work, time: &Time) -> String {
     format!(
-        "{:<66} {:>10} {:>10} {:>6.2}",
+        "{:<68} {:>10} {:>10} {:>6.2}",
         work.name,
         duration(time.rattle),
         duration(time.rust),
@@ -41,6 +43,33 @@ address. That this makes the difference is a guess. A turn is handed the state i
 foretells the returns of some two dozen.
 ";
 
+/// How many times a test of the same formula its printing takes, the least and the most, in either way.
+fn printing(timed: &[(Work, Time)]) -> [(f64, f64); 2] {
+    PRINTS.map(|start| {
+        let (mut least, mut most) = (f64::INFINITY, 0.0_f64);
+        for (work, time) in timed {
+            let name = work.name.strip_prefix(start);
+            let test = |(other, _): &&(Work, Time)| {
+                name.is_some() && other.name.strip_prefix(TEST) == name
+            };
+            if let Some((_, test)) = timed.iter().find(test) {
+                let times = time.rattle / test.rattle;
+                (least, most) = (least.min(times), most.max(times));
+            }
+        }
+        (least, most)
+    })
+}
+
+/// The same in words.
+pub fn printing_line(timed: &[(Work, Time)]) -> String {
+    let [smt, words] = printing(timed);
+    format!(
+        "Printing a formula takes {:.1} to {:.1} times as long as a test of it, in words {:.1} to {:.1} times (Rattle both).",
+        smt.0, smt.1, words.0, words.1
+    )
+}
+
 pub fn page(timed: &[(Work, Time)], rounds: usize, machine: &str) -> String {
     let mut text = String::from("# Speed\n\n");
     let most = timed
@@ -53,6 +82,9 @@ pub fn page(timed: &[(Work, Time)], rounds: usize, machine: &str) -> String {
          independent Rust checker, called through functions that are not inlined. Both are optimised builds for plain \
          x86-64; Rust's has link-time optimisation. Medians of {rounds} rounds, the two sides in turn; a ratio above 1 \
          says that Rattle is slower. Largest ratio: {most:.2}. Measured on {machine}.\n\n\
+         Shortening and the guards of a run stand behind a check of the same proof, beside which they are to be read: \
+         shortening is to take at most 3 times as long, the guards of n stages at most 2(n + 1) times. The Rust versions \
+         of these two are written plainly, and their times say little.\n\n\
          | Call | Rattle | Rust | Ratio | Middle half of the rounds |\n|---|---|---|---|---|\n"
     );
     for (work, time) in timed {
@@ -66,6 +98,7 @@ pub fn page(timed: &[(Work, Time)], rounds: usize, machine: &str) -> String {
             time.ratio()
         );
     }
+    let _ = writeln!(text, "\n{}", printing_line(timed));
     text.push_str(REASONS);
     text.push_str("\n![Ratios, and cost against size](bench.svg)\n");
     text

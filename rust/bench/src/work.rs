@@ -1,5 +1,7 @@
 //! What is timed: calls of each operation, small and as large as can be.
 
+use crate::runs::guarded;
+use crate::shortening::shortened;
 use dulgaverk::{Job, Scheduler};
 use reference::{Edition, Parts, Scheduler as AtSeats};
 use stages::build::{self, Layout};
@@ -33,7 +35,10 @@ pub fn all() -> Vec<Work> {
     bundles(&mut list);
     turned_bundles(&mut list);
     turned_proofs(&mut list);
+    shortened(&mut list);
+    guarded(&mut list);
     formulas(&mut list);
+    short_proofs(&mut list);
     jobs(&mut list);
     list
 }
@@ -75,6 +80,31 @@ fn rust_test(formula: &[u8], values: &[i32]) -> usize {
     usize::from(reference::test_formula(formula, values).holds)
 }
 
+#[inline(never)]
+fn rust_print(formula: &[u8], out: &mut [u8]) -> Result<usize, dulgaverk::Refusal> {
+    Ok(reference::print(formula, out).written)
+}
+
+#[inline(never)]
+fn rust_print_words(formula: &[u8], out: &mut [u8]) -> Result<usize, dulgaverk::Refusal> {
+    Ok(reference::print_words(formula, out).written)
+}
+
+/// By the search that carries the lines along.
+#[inline(never)]
+fn rust_next_proof(
+    a: &[u8],
+    b: &[u8],
+    table: &[u8],
+    out: &mut [u8],
+) -> Result<usize, dulgaverk::Refusal> {
+    let found = reference::search_next_proof(a, b, table, out);
+    match found.answer.number {
+        0 => Ok(found.written),
+        number => Err(dulgaverk::Refusal::outside(number, 4, 0)),
+    }
+}
+
 // The scheduler's state by value, as the library has it.
 
 #[inline(never)]
@@ -96,10 +126,10 @@ fn rust_turn(mut state: AtSeats, buffer: &[u8], out: &mut [u8]) -> (AtSeats, usi
 }
 
 /// Three files: A, B and a proof.
-type Stage = [Vec<u8>; 3];
+pub type Stage = [Vec<u8>; 3];
 
 /// Stage 1 of the paper: a reduce and a close by stride.
-fn stage_1() -> Stage {
+pub fn stage_1() -> Stage {
     [
         build::file(3, &[build::constraint(true, &[-2, 1, 0, 0])]),
         build::file(3, &[build::constraint(true, &[0, -1, 2, 1])]),
@@ -109,7 +139,7 @@ fn stage_1() -> Stage {
 
 /// A table of so many rows over 16 constants: f ≤ 0 in A, -f + 1 ≤ 0 in B, strengthens up to 30 deep, and each branch
 /// closed by combining the two. With claims, each combine is followed by one.
-fn nested(rows: usize, claims: bool) -> Stage {
+pub fn nested(rows: usize, claims: bool) -> Stage {
     let f: Vec<i16> = (0..17).map(|i| i * 37 - 300).collect();
     let mut minus: Vec<i16> = f.iter().map(|n| -n).collect();
     minus[16] += 1;
@@ -228,12 +258,12 @@ fn longest() -> Stage {
 }
 
 /// The same three files in edition 2.
-fn in_edition_2(stage: Stage) -> Stage {
+pub fn in_edition_2(stage: Stage) -> Stage {
     stage.map(|file| turned_up(&file))
 }
 
 /// A proof of edition 2 that makes so many lines of 16 constants, each from the one before, and closes the last.
-fn long_branch(lines: usize) -> Stage {
+pub fn long_branch(lines: usize) -> Stage {
     let rows = Layout(Edition::Two);
     let mut one = vec![0; 17];
     one[16] = 1;
@@ -282,7 +312,7 @@ fn checks(list: &mut Vec<Work>) {
     }
 }
 
-fn check(name: String, stage: Stage, point: Option<Point>) -> Work {
+pub fn check(name: String, stage: Stage, point: Option<Point>) -> Work {
     let name = format!("check: {name}");
     let [a, b, proof] = stage;
     assert!(dulgaverk::check(&a, &b, &proof).is_ok(), "{name}");
@@ -526,8 +556,9 @@ fn turn(name: String, file: Vec<u8>, to: usize, sides: [Turn; 2]) -> Work {
     }
 }
 
-/// So many comparisons and strides over K constants, joined by and/or as a check joins them.
-fn formula(k: u8, parts: usize) -> Vec<u8> {
+/// So many comparisons and strides over K constants, joined by and/or as a check joins them. Numbers are of any size, or
+/// of one digit.
+fn formula(k: u8, parts: usize, small: bool) -> Vec<u8> {
     let mut rng = Rng::new(parts as u64);
     let mut file = build::header(k);
     let mut left = parts - 1;
@@ -543,7 +574,15 @@ fn formula(k: u8, parts: usize) -> Vec<u8> {
             levels.extend([level + 1, level + 1]);
             continue;
         }
-        let numbers: Vec<i32> = (0..=k).map(|_| rng.word() as i32).collect();
+        let numbers: Vec<i32> = (0..=k)
+            .map(|_| {
+                if small {
+                    rng.within(-9, 9) as i32
+                } else {
+                    rng.word() as i32
+                }
+            })
+            .collect();
         file.extend(match rng.below(3) {
             0 => build::comparison(false, &numbers),
             1 => build::comparison(true, &numbers),
@@ -555,35 +594,146 @@ fn formula(k: u8, parts: usize) -> Vec<u8> {
 
 fn formulas(list: &mut Vec<Work>) {
     let small = build::file(3, &[build::divides(2, &[0, 1, 0, 0])]);
+    let name = "\"2 divides y\" of stage 1";
     list.push(test(
-        "test a formula: \"2 divides y\" of stage 1".to_string(),
-        small,
+        format!("{TEST}{name}"),
+        small.clone(),
         vec![1, 4, -7],
         None,
     ));
+    list.extend(prints(name, small));
     let deep = [
         vec![[build::and(), build::comparison(false, &[1, -7])].concat(); 600],
         vec![build::comparison(false, &[1, -7])],
     ];
-    list.push(test(
-        "test a formula: 600 levels of and, 601 parts over 1 constant".to_string(),
-        build::file(1, &deep.concat()),
-        vec![7],
-        None,
-    ));
+    let deep = build::file(1, &deep.concat());
+    let name = "600 levels of and, 601 parts over 1 constant";
+    list.push(test(format!("{TEST}{name}"), deep.clone(), vec![7], None));
+    list.extend(prints(name, deep));
     for parts in [8, 32, 128, 256, 512, 860] {
-        let file = formula(16, parts);
+        let file = formula(16, parts, false);
         let values = (0..16).map(|i| i * 7_919 - 60_000).collect();
-        let name = format!(
-            "test a formula: {parts} parts over 16 constants, {} bytes",
-            file.len()
-        );
+        let name = format!("{parts} parts over 16 constants, {} bytes", file.len());
         let point = Point {
             curve: "test a formula",
             unit: "parts",
             size: parts,
         };
-        list.push(test(name, file, values, Some(point)));
+        let printed = prints(&name, file.clone());
+        list.push(test(format!("{TEST}{name}"), file, values, Some(point)));
+        if matches!(parts, 8 | 128 | 860) {
+            list.extend(printed);
+        }
+    }
+    let file = formula(16, 128, true);
+    let name = "128 parts over 16 constants, numbers of one digit";
+    let values = (0..16).map(|i| i * 7_919 - 60_000).collect();
+    list.push(test(format!("{TEST}{name}"), file.clone(), values, None));
+    list.extend(prints(name, file));
+}
+
+/// How the rows of a test, and of the same formula printed, start.
+pub const TEST: &str = "test a formula: ";
+pub const PRINTS: [&str; 2] = ["print a formula: ", "print in words: "];
+
+/// Prints a formula into an output.
+type Print = fn(&[u8], &mut [u8]) -> Result<usize, dulgaverk::Refusal>;
+
+/// A formula printed both ways.
+fn prints(name: &str, formula: Vec<u8>) -> [Work; 2] {
+    let ways: [[Print; 2]; 2] = [
+        [dulgaverk::print_into, rust_print],
+        [dulgaverk::print_words_into, rust_print_words],
+    ];
+    let [smt, words] = ways;
+    [(PRINTS[0], smt), (PRINTS[1], words)].map(|(start, sides)| {
+        let [rattle, rust] = sides.map(|print| {
+            let formula = formula.clone();
+            let side: Side = Box::new(move |times| {
+                let mut out = vec![0; dulgaverk::TEXT];
+                (0..times)
+                    .map(|_| print(black_box(formula.as_slice()), &mut out).unwrap_or(0))
+                    .sum()
+            });
+            side
+        });
+        assert!(rattle(1) > 0, "{name}");
+        Work {
+            name: format!("{start}{name}"),
+            rattle,
+            rust,
+            point: None,
+        }
+    })
+}
+
+/// Writes the next short proof into an output.
+type Next = fn(&[u8], &[u8], &[u8], &mut [u8]) -> Result<usize, dulgaverk::Refusal>;
+
+/// One call that finds a proof at once, one that looks at every table and finds none, and all calls of a long list.
+fn short_proofs(list: &mut Vec<Work>) {
+    let sides: [Next; 2] = [dulgaverk::next_proof_into, rust_next_proof];
+    let [a, b, proof] = stage_1();
+    list.push(next(
+        "the next short proof: stage 1, after its own".to_string(),
+        [a, b, proof],
+        sides,
+    ));
+    // Every stride divides all numbers, so that each close is looked at to its end.
+    let numbers: Vec<i16> = (0..17).map(|i| 12 * (i + 1)).collect();
+    let none = build::file(16, &vec![build::constraint(true, &numbers); 4]);
+    let header = build::header(16);
+    list.push(next(
+        "the next short proof: none of four equalities, 16 constants".to_string(),
+        [none, header.clone(), header],
+        sides,
+    ));
+    let [rattle, rust] = sides.map(|next| {
+        let one = build::constraint(true, &[0, 1]);
+        let (a, b) = (build::file(1, &vec![one; 4]), build::header(1));
+        let side: Side = Box::new(move |times| {
+            let (mut tables, mut out) = (0, [0; dulgaverk::SHORT_PROOF]);
+            for _ in 0..times {
+                let mut table = b.clone();
+                while let Ok(written) = next(&a, &b, &table, &mut out) {
+                    table.clear();
+                    table.extend_from_slice(&out[..written]);
+                    tables += 1;
+                }
+            }
+            tables
+        });
+        side
+    });
+    assert_eq!(rattle(1), 170_104);
+    list.push(Work {
+        name: "all 170,104 short proofs of four times 1 = 0".to_string(),
+        rattle,
+        rust,
+        point: None,
+    });
+}
+
+/// One call; a refusal counts as its number.
+fn next(name: String, [a, b, table]: Stage, sides: [Next; 2]) -> Work {
+    let [rattle, rust] = sides.map(|next| {
+        let (a, b, table) = (a.clone(), b.clone(), table.clone());
+        let side: Side = Box::new(move |times| {
+            let mut out = [0; dulgaverk::SHORT_PROOF];
+            (0..times)
+                .map(|_| {
+                    let found = next(black_box(&a), &b, &table, &mut out);
+                    found.unwrap_or_else(|refusal| usize::from(refusal.number))
+                })
+                .sum()
+        });
+        side
+    });
+    Work {
+        name,
+        rattle,
+        rust,
+        point: None,
     }
 }
 

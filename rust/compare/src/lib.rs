@@ -2,30 +2,38 @@
 //! same contents of every lent buffer.
 //!
 //! Each case is called as it is. Where it is accepted, it is called again with each output just long enough, and with
-//! each output one short; a check whose formula is too long, with no output and with one that could hold it. Lent buffers hold random contents before; afterwards they must be as the checker leaves them,
-//! and after a refusal as they were.
+//! each output one short; printing and the next short proof also with no output and with a longer one; a check whose formula
+//! is too long, with no output and with one that could hold it. Lent buffers hold random contents before; afterwards they
+//! must be as the checker leaves them, and after a refusal as they were.
 
 #![forbid(unsafe_code)]
 
 mod reorder;
+mod runs;
 mod scheduler;
+mod short;
+mod shortening;
 mod tally;
 mod turning;
 
 pub use reorder::{reorder, Reorderings};
+pub use runs::{guard_run, Runs};
 pub use scheduler::{play, Calls};
+pub use short::{list_proofs, Listings};
+pub use shortening::{shorten_padded, shorten_stage, Shortenings};
 pub use tally::Tally;
 pub use turning::{turn_back, turn_stage, without_notes, Turnings};
 
 use dulgaverk::{Counts, Edition, Refusal};
 use reference::{Answer, NONE};
 use stages::damage::edition_of;
+use stages::printing::{enough, print};
 use stages::rng::Rng;
 use stages::tree::spot;
 use stages::{Case, Operation};
 
 /// The operations that are compared.
-pub const COMPARED: [Operation; 8] = [
+pub const COMPARED: [Operation; 11] = [
     Operation::Check,
     Operation::Read,
     Operation::Write,
@@ -34,6 +42,9 @@ pub const COMPARED: [Operation; 8] = [
     Operation::TurnBundle,
     Operation::TurnProof,
     Operation::List,
+    Operation::Print,
+    Operation::PrintWords,
+    Operation::NextProof,
 ];
 
 /// The reference's answer as a result. As in the wrapper, accepted is 0, 0, 0 and no row, step or branch.
@@ -115,8 +126,14 @@ pub fn compare(case: &Case, rng: &mut Rng, tally: &mut Tally) {
             }
         }
         Case::TurnBundle { .. } | Case::TurnProof { .. } => {
-            let needed = turned(case);
+            let needed = written(case);
             for out in [needed, needed - 1] {
+                call(&with_output(case, out), rng, tally);
+            }
+        }
+        Case::Print { .. } | Case::PrintWords { .. } | Case::NextProof { .. } => {
+            let needed = written(case);
+            for out in [0, needed - 1, needed, needed + 1 + rng.below(9)] {
                 call(&with_output(case, out), rng, tally);
             }
         }
@@ -134,21 +151,24 @@ pub fn compare(case: &Case, rng: &mut Rng, tally: &mut Tally) {
     }
 }
 
-/// The bytes that an accepted turn gives.
-fn turned(case: &Case) -> usize {
+/// The bytes that an accepted call writes.
+fn written(case: &Case) -> usize {
     match case.outcome().result {
         stages::Output::Bytes(bytes) => bytes.len(),
         _ => 0,
     }
 }
 
-/// The same check, turn or test at a list with another output.
+/// The same call with another output.
 fn with_output(case: &Case, length: usize) -> Case {
     let mut next = case.clone();
     if let Case::Check { out, .. }
     | Case::TurnBundle { out, .. }
     | Case::TurnProof { out, .. }
-    | Case::List { out, .. } = &mut next
+    | Case::List { out, .. }
+    | Case::Print { out, .. }
+    | Case::PrintWords { out, .. }
+    | Case::NextProof { out, .. } = &mut next
     {
         *out = length;
     }
@@ -306,9 +326,63 @@ fn call(case: &Case, rng: &mut Rng, tally: &mut Tally) -> u8 {
                 verified == expected && lent == other && kept,
             )
         }
+        Case::Print { formula, out } => {
+            let before = bytes(rng, *out);
+            let (mut lent, mut other) = (before.clone(), before.clone());
+            let verified = dulgaverk::print_into(formula, &mut lent);
+            let r = reference::print(formula, &mut other);
+            let expected = outcome(r.answer, r.written);
+            let kept = expected.is_ok() || lent == before;
+            (
+                number(&expected),
+                verified == expected && lent == other && kept,
+            )
+        }
+        Case::PrintWords { formula, out } => {
+            let before = bytes(rng, *out);
+            let (mut lent, mut other) = (before.clone(), before.clone());
+            let verified = dulgaverk::print_words_into(formula, &mut lent);
+            let r = reference::print_words(formula, &mut other);
+            let expected = outcome(r.answer, r.written);
+            let kept = expected.is_ok() || lent == before;
+            (
+                number(&expected),
+                verified == expected && lent == other && kept,
+            )
+        }
+        // The Rust side by its search; `list_proofs` has the other one too.
+        Case::NextProof { a, b, table, out } => {
+            let before = bytes(rng, *out);
+            let (mut lent, mut other) = (before.clone(), before.clone());
+            let verified = dulgaverk::next_proof_into(a, b, table, &mut lent);
+            let r = reference::search_next_proof(a, b, table, &mut other);
+            let expected = outcome(r.answer, r.written);
+            let kept = expected.is_ok() || lent == before;
+            (
+                number(&expected),
+                verified == expected && lent == other && kept,
+            )
+        }
     };
     tally.count(case, number, same);
     number
+}
+
+/// Compares the printing of a formula that is tested, both ways.
+pub fn print_tested(case: &Case, rng: &mut Rng, tally: &mut Tally) {
+    let formula = match case {
+        Case::Test { formula, .. } | Case::List { formula, .. } => formula,
+        _ => return,
+    };
+    // Mostly room enough.
+    let out = if rng.chance(1, 8) {
+        20
+    } else {
+        enough(formula)
+    };
+    for operation in [Operation::Print, Operation::PrintWords] {
+        call(&print(operation, formula.clone(), out), rng, tally);
+    }
 }
 
 fn bytes(rng: &mut Rng, count: usize) -> Vec<u8> {

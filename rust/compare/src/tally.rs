@@ -8,15 +8,17 @@ use std::fmt;
 /// A difference is printed with its case; after so many no more are kept.
 const KEPT: usize = 10;
 
-#[derive(Default)]
+/// Answers have numbers below this.
+const NUMBERS: usize = 36;
+
 pub struct Tally {
     /// Calls by operation and by number, 0 for accepted.
-    calls: [[u64; 25]; 8],
+    calls: [[u64; NUMBERS]; COMPARED.len()],
     /// Refusals of a proof by how many branches they stand inside; the last is for three or more.
     depths: [u64; 4],
     /// Checks that are refused since the formula is too long, and turns since the result is, outputs of several lengths
     /// counted each.
-    too_long: [u64; 8],
+    too_long: [u64; COMPARED.len()],
     /// Checks by the editions of A, B and proof, a bit each that is 1 for edition 2, A's the highest.
     mixes: [u64; 8],
     /// Vectors of the lists that were accepted.
@@ -24,6 +26,20 @@ pub struct Tally {
     differences: u64,
     /// The first ones, as lines that say what was called and what the Rust checker answers.
     kept: Vec<String>,
+}
+
+impl Default for Tally {
+    fn default() -> Tally {
+        Tally {
+            calls: [[0; NUMBERS]; COMPARED.len()],
+            depths: [0; 4],
+            too_long: [0; COMPARED.len()],
+            mixes: [0; 8],
+            vectors: 0,
+            differences: 0,
+            kept: Vec::new(),
+        }
+    }
 }
 
 impl Tally {

@@ -1,9 +1,13 @@
 //! The comparison in the gate: fixed seeds, every class of stages, every operation.
 
-use compare::{compare, play, reorder, turn_back, turn_stage, Calls, Reorderings, Tally, Turnings};
+use compare::{
+    compare, list_proofs, play, print_tested, reorder, turn_back, turn_stage, Calls, Listings,
+    Reorderings, Tally, Turnings,
+};
 use reference::NOT_GIVEN;
 use stages::calls::sequence;
 use stages::rng::Rng;
+use stages::short::pair;
 use stages::table::Size;
 use stages::turning::many_lines;
 use stages::{stream, Class, Operation, CLASSES};
@@ -30,7 +34,7 @@ fn agree(operation: Operation, seed: u64, cases: usize, numbers: &[u8]) -> Tally
     assert_eq!(tally.differences(), 0, "{tally}");
     // Every answer that the operation can give was met, and often; no other one ever, 22 among them.
     assert!(!numbers.contains(&NOT_GIVEN));
-    for number in 0..=24 {
+    for number in 0..=35 {
         let times = tally.answered(operation, number);
         if numbers.contains(&number) {
             assert!(times >= 1_000, "{number}: {tally}");
@@ -179,6 +183,62 @@ fn testing_lists() {
         &[0, 1, 2, 3, 4, 5, 6, 7, 9, 12, 17, 19, 21, 23],
     );
     assert!(tally.vectors() >= 1_000_000, "{tally}");
+}
+
+/// Formulas of every sort, with no output, one just long enough and others.
+#[test]
+fn printing_formulas() {
+    let numbers = [0, 1, 2, 3, 4, 5, 6, 7, 12, 17, 19, 21];
+    agree(Operation::Print, 14, 20_000, &numbers);
+    agree(Operation::PrintWords, 15, 20_000, &numbers);
+}
+
+/// Every formula that the streams test, printed both ways.
+#[test]
+fn printing_what_is_tested() {
+    let mut tally = Tally::default();
+    let mut rng = Rng::new(16);
+    for class in CLASSES {
+        for size in [Size::SMALL, Size::MEDIUM, Size::LARGE] {
+            let cases = stream(Operation::Test, class, size, rng.word());
+            for case in cases.take(share(class, 20_000)) {
+                print_tested(&case, &mut rng, &mut tally);
+            }
+        }
+    }
+    assert_eq!(tally.differences(), 0, "{tally}");
+    for operation in [Operation::Print, Operation::PrintWords] {
+        assert!(tally.answered(operation, 0) > 50_000, "{tally}");
+    }
+}
+
+#[test]
+fn finding_the_next_short_proof() {
+    agree(
+        Operation::NextProof,
+        17,
+        15_000,
+        &[0, 1, 2, 3, 4, 5, 6, 7, 8, 9, 13, 21, 32, 33],
+    );
+}
+
+/// All short proofs of some pairs, one after the other.
+#[test]
+fn listing_short_proofs() {
+    let mut seen = Listings::default();
+    let mut rng = Rng::new(18);
+    for (constraints, pairs) in [(0, 1), (1, 300), (2, 100), (3, 10), (4, 3)] {
+        for _ in 0..pairs {
+            let pair = pair(&mut rng, constraints);
+            list_proofs(&pair, constraints, &mut rng, &mut seen);
+        }
+    }
+    println!("{seen}");
+    assert_eq!(seen.differences, 0, "{seen}");
+    assert!(
+        seen.proved > 100 && seen.tables > 100_000 && seen.others > 1_000,
+        "{seen}"
+    );
 }
 
 /// Registers listed in another sequence: random closed tables, damaged ones, and the rest; and formulas, right and wrong.

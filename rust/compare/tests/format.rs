@@ -43,10 +43,23 @@ fn every_refusal_is_in_the_table() {
 }
 
 /// The listings of the page: A, B, the proof and the formula of each worked stage, then a proof with a fault, then the
-/// files of the first stage turned.
+/// files of the first stage turned, then a proof and what it is shortened to, then a run and its guards.
 fn listings() -> Vec<Vec<u8>> {
-    page()
-        .split("```text")
+    listings_of(&page())
+}
+
+/// The listings of a part of the page, under a heading.
+fn listings_under(heading: &str) -> Vec<Vec<u8>> {
+    let page = page();
+    let part = page
+        .split("\n## ")
+        .find(|part| part.starts_with(heading))
+        .expect("the part");
+    listings_of(part)
+}
+
+fn listings_of(text: &str) -> Vec<Vec<u8>> {
+    text.split("```text")
         .skip(1)
         .map(|rest| listing(rest.split("```").next().expect("an end")))
         .collect()
@@ -55,7 +68,7 @@ fn listings() -> Vec<Vec<u8>> {
 #[test]
 fn the_worked_stages_are_right() {
     let listings = listings();
-    assert_eq!(listings.len(), 24);
+    assert_eq!(listings.len(), 31);
     for (stage, lengths) in listings.chunks_exact(4).zip([
         [15, 15, 78, 51],
         [19, 30, 51, 75],
@@ -250,7 +263,7 @@ fn the_first_stage_turned() {
     let [a, b, proof, formula] = &listings[..4] else {
         panic!("four listings");
     };
-    let [a_2, b_2, proof_2] = &listings[21..] else {
+    let [a_2, b_2, proof_2] = &listings[21..24] else {
         panic!("three listings");
     };
     assert_eq!([a_2, b_2, proof_2].map(Vec::len), [19, 19, 71]);
@@ -372,4 +385,224 @@ fn a_list_of_vectors() {
     assert_eq!(test(&[1, 4, -7, 1, -3, 0], 1), refused(21, 2));
     assert_eq!(test(&[1, 4, -7, 1, -3, 0], 3), Ok(2));
     assert_eq!(out, [1, 0, 7]);
+}
+
+/// The lines of the page that are set apart, each as it stands.
+fn shows(page: &str, line: &str) {
+    assert!(page.contains(&format!("\n    {line}\n")), "{line}");
+}
+
+/// The guards that the page prints, and what it says of an output.
+#[test]
+fn printed_guards() {
+    let page = page();
+    let listings = listings();
+    for formula in [&listings[3], &listings[15]] {
+        shows(&page, &dulgaverk::print(formula).expect("a formula"));
+        shows(&page, &dulgaverk::print_words(formula).expect("a formula"));
+    }
+    let first = &listings[3];
+    assert!(page.contains("74 bytes are needed, and in words 44; with an output of 43 bytes the second is refused with 21, file 4, place 44."));
+    let mut out = [0; 74];
+    assert_eq!(dulgaverk::print_into(first, &mut out), Ok(74));
+    assert_eq!(dulgaverk::print_words_into(first, &mut out), Ok(44));
+    let refusal = Refusal::outside(21, 4, 44);
+    let short = dulgaverk::print_words_into(first, &mut out[..43]);
+    assert_eq!(short, Err(refusal));
+    // The pieces of the table of sums.
+    for (numbers, term, words) in [
+        ([2, 0, 0], "(+ (* 2 r0) 0)", "2*r0"),
+        ([0, -3, -1], "(+ (* (- 3) r1) (- 1))", "-3*r1 - 1"),
+    ] {
+        let formula = stages::build::file(2, &[stages::build::comparison(false, &numbers)]);
+        let printed = dulgaverk::print(&formula).expect("a formula");
+        assert_eq!(printed, format!("(<= {term} 0)"));
+        let printed = dulgaverk::print_words(&formula).expect("a formula");
+        assert_eq!(printed, format!("{words} <= 0"));
+        assert!(page.contains(&format!("`{words}`")), "{words}");
+    }
+}
+
+/// How many short proofs the page says there are, and the first two that it shows.
+#[test]
+fn short_proofs() {
+    use stages::build::{constraint, file};
+    let page = page();
+    let le = |numbers: &[i16]| vec![constraint(false, numbers)];
+    let eq = |numbers: &[i16]| vec![constraint(true, numbers)];
+    for (k, words, a, b) in [
+        (
+            3,
+            "y - 2x = 0 | -y + 2z + 1 = 0",
+            eq(&[-2, 1, 0, 0]),
+            eq(&[0, -1, 2, 1]),
+        ),
+        (1, "x ≤ 0 | -x + 1 ≤ 0", le(&[1, 0]), le(&[-1, 1])),
+        (1, "x ≤ 0 | -x ≤ 0", le(&[1, 0]), le(&[-1, 0])),
+        (1, "2x - 1 ≤ 0 | -2x + 1 ≤ 0", le(&[2, -1]), le(&[-2, 1])),
+        (1, "1 ≤ 0 | none", le(&[0, 1]), vec![]),
+        (1, "none | 1 ≤ 0", vec![], le(&[0, 1])),
+        (1, "x = 0 | x - 1 = 0", eq(&[1, 0]), eq(&[1, -1])),
+    ] {
+        let (a, b) = (file(k, &a), file(k, &b));
+        let mut counts = [0; 3];
+        for table in dulgaverk::short_proofs(&a, &b).expect("two bundles") {
+            counts[stages::damage::fields(&table).len() - 3] += 1;
+        }
+        let [one, two, three] = counts;
+        let line = format!("\n| {words} | {one} | {two} | {three} |\n");
+        assert!(page.contains(&line), "{line}");
+    }
+    let a = file(3, &[constraint(true, &[-2, 1, 0, 0])]);
+    let b = file(3, &[constraint(true, &[0, -1, 2, 1])]);
+    let shown = "01000101 02000103 110004 00 01 0001 150003 02 0002";
+    shows(&page, shown);
+    let bytes = |text: &str| -> Vec<u8> {
+        let digits: String = text.split_whitespace().collect();
+        (0..digits.len() / 2)
+            .map(|i| u8::from_str_radix(&digits[2 * i..2 * i + 2], 16).expect("a byte"))
+            .collect()
+    };
+    let first = dulgaverk::next_proof(&a, &b, &a[..8]);
+    assert_eq!(first, Ok(bytes(shown)));
+    let second = dulgaverk::next_proof(&a, &b, &bytes(shown));
+    assert_eq!(second, Ok(bytes(&shown.replace("01 0001", "01 FFFF"))));
+}
+
+/// A line of the page says what a call refuses.
+fn says(page: &str, words: &str, refusal: Refusal) {
+    let mut told = format!(
+        "{}, file {}, place {}",
+        refusal.number, refusal.file, refusal.place
+    );
+    for (name, number) in [
+        ("row", refusal.row),
+        ("step", refusal.step),
+        ("branch", refusal.branch),
+    ] {
+        if let Some(number) = number {
+            told.push_str(&format!(", {name} {number}"));
+        }
+    }
+    let line = format!("| {words} | {told} |");
+    assert!(page.contains(&line), "{line}");
+}
+
+#[test]
+fn what_is_said_of_the_proof_shortened() {
+    let [a, b, _, _] = &listings()[..4] else {
+        panic!("four listings");
+    };
+    let [proof, shorter] = &listings_under("A proof shortened")[..] else {
+        panic!("two listings");
+    };
+    let page = page();
+    let stage = PathBuf::from(env!("CARGO_MANIFEST_DIR")).join("../../examples/stage-5-unused");
+    assert_eq!(fs::read(stage.join("p")).expect("a file"), *proof);
+    assert_eq!((proof.len(), shorter.len()), (117, 69));
+    assert!(page.contains("The proof, 117 bytes, has rows") && page.contains("table, 69 bytes,"));
+
+    let told = |proof: &[u8], rows: usize, bytes: usize| {
+        let (mut report, mut out) = (vec![9; rows], vec![9; bytes]);
+        let sizes = dulgaverk::shorten_into(a, b, proof, &mut report, &mut out)?;
+        report.truncate(sizes.rows);
+        out.truncate(sizes.bytes);
+        let digits: Vec<String> = report.iter().map(|byte| format!("{byte:02X}")).collect();
+        Ok::<_, Refusal>((digits.join(" "), out))
+    };
+    let (report, table) = told(proof, 10, 69).expect("accepted");
+    assert_eq!(table, *shorter);
+    assert!(page.contains(&format!("So the report is `{report}`")));
+    let (report, table) = told(shorter, 10, 69).expect("accepted");
+    assert_eq!(table, *shorter);
+    let line = format!("| the shorter table | accepted, 69 bytes, the report `{report}` |");
+    assert!(page.contains(&line));
+    let formula = dulgaverk::check(a, b, proof);
+    assert_eq!(dulgaverk::check(a, b, shorter), formula);
+    assert_eq!(formula.map(|bytes| bytes.len()), Ok(51));
+
+    let refused = |proof: &[u8], rows, bytes| told(proof, rows, bytes).expect_err("refused");
+    says(
+        &page,
+        "this proof, with 9 bytes for the report",
+        refused(proof, 9, 69),
+    );
+    says(
+        &page,
+        "this proof, with 68 bytes for the table",
+        refused(proof, 10, 68),
+    );
+    let changed = |at: usize, byte: u8| {
+        let mut other = proof.clone();
+        other[at] = byte;
+        refused(&other, 10, 69)
+    };
+    says(
+        &page,
+        "this proof with another tA in its first claim",
+        changed(35, 0),
+    );
+    says(
+        &page,
+        "this proof with line 9 scaled in row 7",
+        changed(82, 9),
+    );
+}
+
+#[test]
+fn what_is_said_of_the_run() {
+    let [first, second, third, proof, guards] = &listings_under("A run of three stages")[..] else {
+        panic!("five listings");
+    };
+    let page = page();
+    let stages = [first, second, third];
+    let buffer = stages.map(Vec::as_slice).concat();
+    let call = |buffer: &[u8], lengths: &[usize], proof: &[u8], bytes: usize, count: usize| {
+        let (mut out, mut sizes) = (vec![9; bytes], vec![9; count]);
+        dulgaverk::guards_into(buffer, lengths, proof, &mut out, &mut sizes)?;
+        Ok::<_, Refusal>((out, sizes))
+    };
+    let lengths = [17, 17, 17];
+    let (out, sizes) = call(&buffer, &lengths, proof, 92, 4).expect("accepted");
+    assert_eq!((&out, sizes), (guards, vec![23; 4]));
+    assert!(page.contains("The four guards, 92 bytes, 23 each"));
+    for (guard, holds) in out.chunks_exact(23).zip([true, true, true, false]) {
+        assert_eq!(dulgaverk::test_formula(guard, &[2, 5]), Ok(holds));
+    }
+
+    let refused = |buffer: &[u8], lengths: &[usize], proof: &[u8], bytes, count| {
+        call(buffer, lengths, proof, bytes, count).expect_err("refused")
+    };
+    for (words, lengths) in [
+        ("the same, with lengths 17, 17 and 16", [17, 17, 16]),
+        ("the same, with lengths 17, 16 and 18", [17, 16, 18]),
+    ] {
+        says(&page, words, refused(&buffer, &lengths, proof, 92, 4));
+    }
+    let mut other = buffer.clone();
+    other[41] = 3;
+    let refusal = refused(&other, &lengths, proof, 92, 4);
+    says(&page, "the same with K 3 in T3", refusal);
+    let mut claimed = proof.clone();
+    claimed.splice(17..17, stages::build::claim(&[0, 1, -5], &[1, 0, -2]));
+    let refusal = refused(&buffer, &lengths, &claimed, 92, 4);
+    says(&page, "the same with a claim behind the first row", refusal);
+    let mut open = proof.clone();
+    open[29] = 3;
+    let refusal = refused(&buffer, &lengths, &open, 92, 4);
+    says(&page, "the same with line 3 in the close", refusal);
+    for (bytes, count) in [(91, 4), (92, 3)] {
+        let words = "the same, with 91 bytes for the guards, or three sizes";
+        says(
+            &page,
+            words,
+            refused(&buffer, &lengths, proof, bytes, count),
+        );
+    }
+    let folder = PathBuf::from(env!("CARGO_MANIFEST_DIR")).join("../../examples/run-unlike");
+    let file = |name: &str| fs::read(folder.join(name)).expect("a file");
+    let stages = ["t1", "t2", "t3"].map(file);
+    let stages: Vec<&[u8]> = stages.iter().map(Vec::as_slice).collect();
+    let refusal = dulgaverk::guards(&stages, &file("proof")).expect_err("refused");
+    says(&page, "`examples/run-unlike`", refusal);
 }

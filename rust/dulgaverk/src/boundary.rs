@@ -30,6 +30,13 @@ pub struct WriteResult {
 }
 
 #[repr(C)]
+pub struct ShortenResult {
+    pub answer: Answer,
+    pub rows: usize,
+    pub count: usize,
+}
+
+#[repr(C)]
 pub struct Tested {
     pub answer: Answer,
     pub holds: bool,
@@ -87,6 +94,8 @@ const _: () = {
     assert!(size_of::<ReadResult>() == 40 && offset_of!(ReadResult, count) == 24);
     assert!(offset_of!(ReadResult, k) == 32 && offset_of!(ReadResult, edition) == 33);
     assert!(size_of::<WriteResult>() == 32 && offset_of!(WriteResult, count) == 24);
+    assert!(size_of::<ShortenResult>() == 40 && offset_of!(ShortenResult, rows) == 24);
+    assert!(offset_of!(ShortenResult, count) == 32);
     assert!(size_of::<Tested>() == 32 && offset_of!(Tested, holds) == 24);
     assert!(size_of::<Job>() == 48 && offset_of!(Job, b) == 16 && offset_of!(Job, proof) == 32);
     assert!(size_of::<Slot>() == 56 && offset_of!(Slot, job) == 8);
@@ -141,6 +150,30 @@ extern "C" {
         out: *mut u8,
         out_len: usize,
     ) -> WriteResult;
+    pub fn dulgaverk_shorten(
+        a: *const u8,
+        a_len: usize,
+        b: *const u8,
+        b_len: usize,
+        proof: *const u8,
+        proof_len: usize,
+        report: *mut u8,
+        report_len: usize,
+        out: *mut u8,
+        out_len: usize,
+    ) -> ShortenResult;
+    pub fn dulgaverk_guards(
+        buffer: *const u8,
+        buffer_len: usize,
+        lengths: *const usize,
+        lengths_len: usize,
+        proof: *const u8,
+        proof_len: usize,
+        out: *mut u8,
+        out_len: usize,
+        sizes: *mut usize,
+        sizes_len: usize,
+    ) -> WriteResult;
     pub fn dulgaverk_test(
         formula: *const u8,
         formula_len: usize,
@@ -177,6 +210,28 @@ extern "C" {
         k: usize,
         values: *const i32,
         values_len: usize,
+        out: *mut u8,
+        out_len: usize,
+    ) -> WriteResult;
+    pub fn dulgaverk_print(
+        formula: *const u8,
+        formula_len: usize,
+        out: *mut u8,
+        out_len: usize,
+    ) -> WriteResult;
+    pub fn dulgaverk_print_words(
+        formula: *const u8,
+        formula_len: usize,
+        out: *mut u8,
+        out_len: usize,
+    ) -> WriteResult;
+    pub fn dulgaverk_next_proof(
+        a: *const u8,
+        a_len: usize,
+        b: *const u8,
+        b_len: usize,
+        table: *const u8,
+        table_len: usize,
         out: *mut u8,
         out_len: usize,
     ) -> WriteResult;

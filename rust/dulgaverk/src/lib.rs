@@ -6,15 +6,28 @@
 //! Nothing has to be tested before a call.
 
 mod boundary;
+mod bundle;
 mod edition;
+mod formula;
+mod guards;
 mod kind;
+mod print;
+mod proof;
 mod refusal;
 mod scheduler;
+mod short;
+mod shorten;
 
 pub use edition::Edition;
+pub use formula::{Form, Formula, Part};
+pub use guards::{guards, guards_into};
 pub use kind::Kind;
+pub use print::{print, print_into, print_words, print_words_into, TEXT};
+pub use proof::ProofWriter;
 pub use refusal::{Refusal, MEANINGS};
 pub use scheduler::{Job, Scheduler, Served};
+pub use short::{next_proof, next_proof_into, short_proofs, ShortProofs, SHORT_PROOF};
+pub use shorten::{shorten, shorten_into, RowUse, Shortened, ShortenedSizes};
 
 /// Most constants of a file.
 pub const CONSTANTS: usize = 16;
@@ -26,8 +39,18 @@ pub const NUMBERS: usize = CONSTRAINTS * (CONSTANTS + 1);
 pub const WRITTEN_BUNDLE: usize = 8 + CONSTRAINTS * 3 + NUMBERS * 4;
 /// Most bytes of a constraint's field, in edition 2.
 pub const CONSTRAINT_FIELD: usize = 3 + 4 * (CONSTANTS + 1);
-/// Most bytes of a proof or of a formula.
+/// Most bytes of a bundle, in edition 2; half as many in edition 1.
+pub const BUNDLE: usize = 8_192;
+/// Most bytes of a proof.
+pub const PROOF: usize = 65_536;
+/// Most bytes of a formula.
 pub const FORMULA: usize = 65_536;
+/// The largest register value; the least is as far below 0.
+pub const VALUE: i32 = 1_000_000;
+/// Most rows of a proof.
+pub const ROWS: usize = 1_024;
+/// Most stages of a run.
+pub const STAGES: usize = 16;
 
 /// How much a bundle holds, and of which edition it is.
 #[derive(Clone, Copy, PartialEq, Eq, Debug)]
@@ -412,7 +435,7 @@ pub fn turn_bundle_into(file: &[u8], edition: usize, out: &mut [u8]) -> Result<u
 /// # Ok::<(), dulgaverk::Refusal>(())
 /// ```
 pub fn turn_proof(file: &[u8], edition: Edition) -> Result<Vec<u8>, Refusal> {
-    let mut out = vec![0; FORMULA];
+    let mut out = vec![0; PROOF];
     let written = turn_proof_into(file, usize::from(edition.number()), &mut out)?;
     out.truncate(written);
     Ok(out)

@@ -20,12 +20,23 @@ use std::fmt;
 /// let refusal = dulgaverk::check(a, &a[..8], proof).unwrap_err();
 /// assert_eq!((refusal.number, refusal.file, refusal.place), (15, 3, 12));
 /// assert_eq!((refusal.row, refusal.step, refusal.branch), (Some(1), Some(0), Some(0)));
+/// assert_eq!(
+///     refusal.to_string(),
+///     "refused 15 file 3 at 12: a close or rounding whose condition is not met (the proof or formula), row 1, in branch 0 of the step in row 0"
+/// );
+/// let refusal = dulgaverk::Refusal::outside(2, 12, 8);
+/// assert_eq!(
+///     refusal.to_string(),
+///     "refused 2 file 12 at 8: bytes are no whole field, or a file ends too early (stage 2 of a run)"
+/// );
 /// ```
 #[derive(Clone, Copy, PartialEq, Eq, Hash, Debug)]
 pub struct Refusal {
-    /// The number of the refusal, 1 to 24, but never 22; of a scheduler also 29, 30, 31, 34 and 35.
+    /// The number of the refusal, 1 to 24, but never 22; of a run also 25 to 28, of a scheduler 29, 30, 31, 34 and 35, of
+    /// short proofs 32 and 33.
     pub number: u8,
-    /// 1 A or a bundle read or turned alone, 2 B, 3 the proof or formula, 4 a lent output or what concerns no file.
+    /// 1 A or a bundle read or turned alone, 2 B, 3 the proof or formula, 4 a lent output or what concerns no file; 11 to 26
+    /// a stage of a run, 10 + i for stage i, counted from 1.
     pub file: u8,
     /// The byte at which the field at fault starts, if the operation says nothing else.
     pub place: usize,
@@ -65,12 +76,13 @@ impl Refusal {
             .map_or("no refusal", |(_, meaning)| meaning)
     }
 
-    /// Which file the refusal is about.
+    /// Which file the refusal is about; Display also says which stage.
     pub fn file_name(&self) -> &'static str {
         match self.file {
             1 => "A, or a bundle read or turned alone",
             2 => "B",
             3 => "the proof or formula",
+            11..=26 => "a stage of a run",
             _ => "a lent output, or no file",
         }
     }
@@ -84,11 +96,18 @@ impl fmt::Display for Refusal {
             place,
             ..
         } = self;
-        let (meaning, name) = (self.meaning(), self.file_name());
-        write!(
-            f,
-            "refused {number} file {file} at {place}: {meaning} ({name})"
-        )
+        write!(f, "refused {number} file {file} at {place}: ")?;
+        match file {
+            11..=26 => write!(f, "{} (stage {} of a run)", self.meaning(), file - 10)?,
+            _ => write!(f, "{} ({})", self.meaning(), self.file_name())?,
+        }
+        if let Some(row) = self.row {
+            write!(f, ", row {row}")?;
+        }
+        if let (Some(step), Some(branch)) = (self.step, self.branch) {
+            write!(f, ", in branch {branch} of the step in row {step}")?;
+        }
+        Ok(())
     }
 }
 
@@ -96,7 +115,7 @@ impl Error for Refusal {}
 
 /// Every refusal, by number, and the one number that is kept free.
 /// (include/dulgaverk.h and docs/FORMAT.md have the same words.)
-pub const MEANINGS: [(u8, &str); 29] = [
+pub const MEANINGS: [(u8, &str); 35] = [
     (
         1,
         "a file is longer than its limit, or a formula or a turned proof would be",
@@ -113,7 +132,10 @@ pub const MEANINGS: [(u8, &str); 29] = [
         7,
         "the number of constants, or of values, is not 1 to 16, or a list is not whole vectors",
     ),
-    (8, "more than 32 constraints"),
+    (
+        8,
+        "more than 32 constraints, or for short proofs more than 4 in both bundles",
+    ),
     (9, "the number of constants is not the one given before"),
     (
         10,
@@ -145,9 +167,18 @@ pub const MEANINGS: [(u8, &str); 29] = [
         24,
         "a kind that is not 0, 1 or 2, or the wrong count of numbers",
     ),
+    (
+        25,
+        "not 1 to 16 stages, or lengths that do not add up to the buffer",
+    ),
+    (26, "more than 64 constraints in a run"),
+    (27, "a claim in the proof of a run"),
+    (28, "branches that a run needs alike are not"),
     (29, "a seat above 7"),
     (30, "a job for a seat where one waits"),
     (31, "no job waits at the seat"),
+    (32, "a table that is not among the short proofs"),
+    (33, "no short proof follows the table"),
     (34, "a part of a job does not lie in the buffer"),
     (35, "no job waits"),
 ];

@@ -69,13 +69,10 @@ fn the_header_has_every_meaning() {
     }
 }
 
-/// 1 to 24 have their words, and the scheduler's; those of 22 say that it is kept free.
+/// 1 to 35 have their words; those of 22 say that it is kept free.
 #[test]
 fn every_number_has_its_words() {
-    for ((number, meaning), expected) in MEANINGS
-        .into_iter()
-        .zip((1..=24).chain([29, 30, 31, 34, 35]))
-    {
+    for ((number, meaning), expected) in MEANINGS.into_iter().zip(1..=35) {
         assert_eq!(number, expected);
         assert_eq!(number == 22, meaning.starts_with("no longer given"));
     }

@@ -19,7 +19,7 @@ use std::thread;
 use std::time::Duration;
 
 /// The worked stages as folders under examples/, and the first line that is printed of each.
-const STAGES: [(&str, &str); 36] = [
+const STAGES: [(&str, &str); 40] = [
     ("stage-1", "accepted 31"),
     ("stage-1-mixed", "accepted 31"),
     ("stage-1-reordered", "accepted 31"),
@@ -31,7 +31,9 @@ const STAGES: [(&str, &str); 36] = [
     ("stage-4", "refused 15 file 3 at 17"),
     ("stage-5", "accepted 51"),
     ("stage-5-mixed", "accepted 51"),
+    ("stage-5-shortened", "accepted 51"),
     ("stage-5-turned", "accepted 51"),
+    ("stage-5-unused", "accepted 51"),
     ("stage-6", "accepted 19"),
     ("stage-6-exchanged", "accepted 19"),
     ("stage-7", "refused 20 file 3 at 8"),
@@ -53,9 +55,11 @@ const STAGES: [(&str, &str); 36] = [
     ("stage-lines-turned", "refused 16 file 3 at 764"),
     ("stage-long", "accepted 19"),
     ("stage-long-over", "refused 1 file 2 at 0"),
+    ("stage-pump", "accepted 41"),
     ("stage-rounding-1", "accepted 51"),
     ("stage-rounding-2", "accepted 83"),
     ("stage-rounding-3", "accepted 171"),
+    ("stage-two-deep", "refused 15 file 3 at 71"),
 ];
 
 const FORMULA: &str = "01000101020001033500140000000200000000000000010000000000000000";

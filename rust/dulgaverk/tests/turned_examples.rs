@@ -12,7 +12,7 @@ type Turn = fn(&[u8], Edition) -> Result<Vec<u8>, Refusal>;
 const TURNS: [(&str, Turn); 3] = [("a", turn_bundle), ("b", turn_bundle), ("p", turn_proof)];
 
 /// The files that cannot be turned, with number, file and place of the refusal.
-const REFUSED: [(&str, &str, (u8, u8, usize)); 13] = [
+const REFUSED: [(&str, &str, (u8, u8, usize)); 14] = [
     ("stage-10-constants", "a", (7, 1, 4)),
     ("stage-10-constants", "b", (7, 1, 4)),
     ("stage-10-constants", "p", (7, 3, 4)),
@@ -26,6 +26,7 @@ const REFUSED: [(&str, &str, (u8, u8, usize)); 13] = [
     ("stage-long", "a", (13, 1, 8)),
     ("stage-long-over", "a", (13, 1, 8)),
     ("stage-long-over", "b", (1, 1, 0)),
+    ("stage-pump", "b", (13, 1, 8)),
 ];
 
 /// The stage whose branch is too long for edition 1, and the same with the proof turned down.

@@ -1,10 +1,14 @@
-//! The comparison for libFuzzer: bytes to a case or to calls at the scheduler and back, and the entry that libFuzzer calls.
+//! The comparison for libFuzzer: bytes to a case, to calls at the scheduler or to a run of stages and back, and the entry that
+//! libFuzzer calls.
 //!
 //! What steers it is the coverage of the Rust checker; the verified code is compared with that on every input.
 
-use compare::{compare, play, turn_back, Calls, Tally, Turnings};
+use compare::{
+    compare, guard_run, play, shorten_stage, turn_back, Calls, Runs, Shortenings, Tally, Turnings,
+};
 use stages::calls::{Call, Sequence};
 use stages::rng::Rng;
+use stages::runs::Run;
 use stages::Case;
 
 /// Takes bytes from the front; past the end they are 0.
@@ -35,13 +39,15 @@ impl<'a> Reader<'a> {
 pub enum Input {
     One(Case),
     AtSeats(Sequence),
+    Run(Run),
 }
 
-/// The case or the calls that some bytes stand for; every list of bytes is one.
+/// The case, the calls or the run that some bytes stand for; every list of bytes is one.
 pub fn decode(bytes: &[u8]) -> Input {
     let mut reader = Reader(bytes);
-    let case = match reader.byte() % 9 {
+    let case = match reader.byte() % 13 {
         7 => return Input::AtSeats(sequence(&mut reader)),
+        12 => return Input::Run(run(&mut reader)),
         0 => Case::Read {
             kinds: usize::from(reader.byte()),
             numbers: reader.short(),
@@ -114,6 +120,24 @@ pub fn decode(bytes: &[u8]) -> Input {
                 out,
             }
         }
+        9 => Case::Print {
+            out: reader.short(),
+            formula: reader.rest(),
+        },
+        10 => Case::PrintWords {
+            out: reader.short(),
+            formula: reader.rest(),
+        },
+        11 => {
+            let out = usize::from(reader.byte());
+            let (first, second) = (reader.short(), reader.short());
+            Case::NextProof {
+                a: reader.bytes(first).to_vec(),
+                b: reader.bytes(second).to_vec(),
+                table: reader.rest(),
+                out,
+            }
+        }
         _ => {
             let out = reader.short();
             let (first, second) = (reader.short(), reader.short());
@@ -159,6 +183,18 @@ fn sequence(reader: &mut Reader) -> Sequence {
     Sequence { buffer, calls }
 }
 
+/// Lengths, then the buffer with a length of its own, then the proof.
+fn run(reader: &mut Reader) -> Run {
+    let count = usize::from(reader.byte() % 20);
+    let lengths = (0..count).map(|_| number(reader)).collect();
+    let length = reader.short();
+    Run {
+        lengths,
+        buffer: reader.bytes(length).to_vec(),
+        proof: reader.rest(),
+    }
+}
+
 fn seat(reader: &mut Reader) -> usize {
     let byte = usize::from(reader.byte());
     *NUMBERS.get(byte.wrapping_sub(254)).unwrap_or(&byte)
@@ -199,6 +235,19 @@ pub fn encode_calls(sequence: &Sequence) -> Vec<u8> {
             }
         }
     }
+    bytes
+}
+
+/// Bytes that stand for a run, where its lengths have room in two bytes or are the largest number.
+pub fn encode_run(run: &Run) -> Vec<u8> {
+    let short = |number: usize| (number.min(65_535) as u16).to_be_bytes();
+    let mut bytes = vec![12, run.lengths.len() as u8];
+    for &length in &run.lengths {
+        bytes.extend(short(length));
+    }
+    bytes.extend(short(run.buffer.len()));
+    bytes.extend_from_slice(&run.buffer);
+    bytes.extend_from_slice(&run.proof);
     bytes
 }
 
@@ -258,6 +307,17 @@ pub fn encode(case: &Case) -> Vec<u8> {
             proof,
         ]
         .concat(),
+        Case::Print { formula, out } => [&[9][..], &short(*out), formula].concat(),
+        Case::PrintWords { formula, out } => [&[10][..], &short(*out), formula].concat(),
+        Case::NextProof { a, b, table, out } => [
+            &[11, byte(*out)][..],
+            &short(a.len()),
+            &short(b.len()),
+            a,
+            b,
+            table,
+        ]
+        .concat(),
         Case::TurnBundle { file, edition, out } => {
             [&[5], &short(*edition)[..], &short(*out), file].concat()
         }
@@ -278,6 +338,14 @@ pub fn judge(bytes: &[u8]) {
             let mut turnings = Turnings::default();
             turn_back(&case, &mut turnings);
             assert_eq!(turnings.differences, 0, "{}", case.print());
+            let mut shortenings = Shortenings::default();
+            shorten_stage(&case, &mut rng, &mut shortenings);
+            assert_eq!(shortenings.differences, 0, "{shortenings}");
+        }
+        Input::Run(run) => {
+            let mut seen = Runs::default();
+            guard_run(&run, &mut rng, &mut seen);
+            assert_eq!(seen.differences, 0, "{seen}");
         }
         Input::AtSeats(calls) => {
             let mut seen = Calls::default();

@@ -1,9 +1,10 @@
-//! Writes inputs to start from, a file each: stages of every operation and class, and calls at the scheduler.
+//! Writes inputs to start from, a file each: stages of every operation and class, calls at the scheduler, and runs of stages.
 //!
 //! usage: fuzz FOLDER
 
 use stages::calls::sequence;
 use stages::rng::Rng;
+use stages::runs;
 use stages::table::Size;
 use stages::{stream, Class, Operation, CLASSES, OPERATIONS};
 use std::path::Path;
@@ -33,6 +34,13 @@ fn main() -> std::io::Result<()> {
         let calls = sequence(&mut rng, &some, 30);
         let name = format!("AtSeats-{index}");
         std::fs::write(Path::new(&folder).join(name), fuzz::encode_calls(&calls))?;
+    }
+    for index in 0..400 {
+        let run = runs::any(&mut rng, &Size::SMALL);
+        if run.buffer.len() + run.proof.len() < 2_000 {
+            let name = format!("Run-{index}");
+            std::fs::write(Path::new(&folder).join(name), fuzz::encode_run(&run))?;
+        }
     }
     Ok(())
 }

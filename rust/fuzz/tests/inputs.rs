@@ -1,8 +1,9 @@
 //! What the fuzzer makes of its bytes.
 
-use fuzz::{decode, encode, encode_calls, judge, Input};
+use fuzz::{decode, encode, encode_calls, encode_run, judge, Input};
 use stages::calls::sequence;
 use stages::rng::Rng;
+use stages::runs;
 use stages::table::Size;
 use stages::{stream, Class, Operation, OPERATIONS};
 
@@ -28,9 +29,29 @@ fn calls_come_back_from_their_bytes() {
         let calls = sequence(&mut rng, &some, 30);
         match decode(&encode_calls(&calls)) {
             Input::AtSeats(back) => assert_eq!(back, calls),
-            Input::One(_) => panic!("no calls"),
+            _ => panic!("no calls"),
         }
     }
+}
+
+#[test]
+fn runs_come_back_from_their_bytes() {
+    let mut rng = Rng::new(2);
+    let (mut seen, mut largest) = (0, 0);
+    for _ in 0..500 {
+        let run = runs::any(&mut rng, &Size::SMALL);
+        // Lengths of half the numbers that there are have no room.
+        if run.lengths.iter().any(|n| (65_535..usize::MAX).contains(n)) {
+            continue;
+        }
+        largest += usize::from(run.lengths.contains(&usize::MAX));
+        match decode(&encode_run(&run)) {
+            Input::Run(back) => assert_eq!(back, run),
+            _ => panic!("no run"),
+        }
+        seen += 1;
+    }
+    assert!(seen > 450 && largest > 0, "{seen} {largest}");
 }
 
 #[test]

@@ -9,7 +9,7 @@ pub const NONE: u16 = 65_535;
 pub struct Answer {
     /// 0 for accepted, else the number of the refusal.
     pub number: u8,
-    /// A or a bundle read alone 1, B 2, proof or formula 3, no file or a lent output 4.
+    /// A or a bundle read alone 1, B 2, proof or formula 3, no file or a lent output 4; stage i of a run 10 + i.
     pub file: u8,
     /// The byte at which the field at fault starts, if nothing else is said.
     pub place: usize,
@@ -76,9 +76,15 @@ pub(crate) const OUTPUT_TOO_SHORT: u8 = 21;
 pub const NOT_GIVEN: u8 = 22;
 pub(crate) const VALUE_OUT_OF_RANGE: u8 = 23;
 pub(crate) const WRONG_LIST: u8 = 24;
+pub(crate) const WRONG_LENGTHS: u8 = 25;
+pub(crate) const TOO_MANY_IN_A_RUN: u8 = 26;
+pub(crate) const CLAIM_IN_A_RUN: u8 = 27;
+pub(crate) const UNLIKE_BRANCHES: u8 = 28;
 pub(crate) const NO_SEAT: u8 = 29;
 pub(crate) const OCCUPIED: u8 = 30;
 pub(crate) const EMPTY: u8 = 31;
+pub(crate) const NO_SHORT_PROOF: u8 = 32;
+pub(crate) const NO_NEXT: u8 = 33;
 pub(crate) const OUTSIDE: u8 = 34;
 /// Not of the paper: a turn without a job says idle, and that is no acceptance.
 pub(crate) const IDLE: u8 = 35;
@@ -94,7 +100,7 @@ pub fn meaning(number: u8) -> &'static str {
         WRONG_EDITION => "an edition that this kind of file does not have",
         WRONG_LENGTH => "a field of the wrong length",
         WRONG_K => "the number of constants or values is outside 1 to 16",
-        TOO_MANY_CONSTRAINTS => "a 33rd constraint",
+        TOO_MANY_CONSTRAINTS => "a 33rd constraint, or for short proofs a fifth in both bundles",
         OTHER_K => "the number of constants is not the one already given",
         NO_SUCH_LINE => "a line that is not there",
         WRONG_KIND => "a line of the wrong kind",
@@ -113,9 +119,15 @@ pub fn meaning(number: u8) -> &'static str {
         NOT_GIVEN => "no longer given; its number is not used again",
         VALUE_OUT_OF_RANGE => "a value outside -1,000,000 to 1,000,000",
         WRONG_LIST => "a kind that is not 0, 1 or 2, or a wrong count of numbers",
+        WRONG_LENGTHS => "not 1 to 16 stages, or lengths that do not add up to the buffer",
+        TOO_MANY_IN_A_RUN => "more than 64 constraints in a run",
+        CLAIM_IN_A_RUN => "a claim in the proof of a run",
+        UNLIKE_BRANCHES => "branches that must be alike are not",
         NO_SEAT => "a seat above 7",
         OCCUPIED => "a job for a seat that is occupied",
         EMPTY => "a withdrawal from a seat that is empty",
+        NO_SHORT_PROOF => "a table that is not among the short proofs",
+        NO_NEXT => "no short proof follows, or there is none",
         OUTSIDE => "a part outside the buffer, or ending before it starts",
         IDLE => "a turn with no job",
         _ => "no refusal",

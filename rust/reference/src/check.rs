@@ -42,7 +42,7 @@ pub fn check(a: &[u8], b: &[u8], proof: &[u8], out: &mut [u8]) -> WriteResult {
 
 /// The interpolant's file, before it is known whether it is too long and
 /// whether the output can hold it.
-fn interpolant(a: &[u8], b: &[u8], proof: &[u8]) -> Result<Vec<u8>, Answer> {
+pub(crate) fn interpolant(a: &[u8], b: &[u8], proof: &[u8]) -> Result<Vec<u8>, Answer> {
     length_within(a, limits::BUNDLE_BYTES, FILE_A)?;
     length_within(b, limits::BUNDLE_BYTES, FILE_B)?;
     length_within(proof, limits::PROOF_BYTES, FILE_PROOF)?;
@@ -498,7 +498,7 @@ fn in_range(added: Result<(), OutOfRange>) -> Result<(), u8> {
 /// Appends "g divides the form" in reduced form: constants that B lacks leave
 /// it, and what is left, d in the last place too, is written as remainders
 /// from 0 to g-1.
-fn push_reduced(formula: &mut Vec<u8>, g: u16, partial: &[i32], in_b: u32) {
+pub(crate) fn push_reduced(formula: &mut Vec<u8>, g: u16, partial: &[i32], in_b: u32) {
     let mut form = [0; limits::CONSTANTS + 1];
     let form = &mut form[..partial.len()];
     let d = partial.len() - 1;

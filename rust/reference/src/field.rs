@@ -68,6 +68,13 @@ pub(crate) fn push_field_header(out: &mut Vec<u8>, tag: u8, length: u16) {
     out.extend_from_slice(&[tag, high, low]);
 }
 
+/// A line number, of one byte or two.
+pub(crate) fn line_number(bytes: &[u8]) -> usize {
+    bytes
+        .iter()
+        .fold(0, |number, &byte| 256 * number + usize::from(byte))
+}
+
 /// A two-byte number without a sign.
 #[inline]
 pub(crate) fn unsigned(bytes: &[u8]) -> u16 {

@@ -9,9 +9,9 @@ use crate::limits;
 
 pub(crate) const TAG_OR: u8 = 0x31;
 pub(crate) const TAG_AND: u8 = 0x32;
-const TAG_INEQUALITY: u8 = 0x33;
-const TAG_EQUALITY: u8 = 0x34;
-const TAG_STRIDE: u8 = 0x35;
+pub(crate) const TAG_INEQUALITY: u8 = 0x33;
+pub(crate) const TAG_EQUALITY: u8 = 0x34;
+pub(crate) const TAG_STRIDE: u8 = 0x35;
 
 /// Appends "or" or "and"; its two formulas follow.
 pub(crate) fn push_junction(out: &mut Vec<u8>, tag: u8) {
@@ -216,7 +216,7 @@ fn judge(formula: &[u8], values: &[i32]) -> Result<bool, Answer> {
 }
 
 /// Whether formulas have the tag.
-fn is_known(tag: u8) -> bool {
+pub(crate) fn is_known(tag: u8) -> bool {
     matches!(tag, TAG_EDITION | TAG_CONSTANTS | TAG_OR..=TAG_STRIDE)
 }
 

@@ -19,10 +19,15 @@ mod check;
 mod edition;
 mod field;
 mod formula;
+mod guards;
 mod header;
 mod line;
 mod list;
+mod print;
 mod scheduler;
+mod search;
+mod short;
+mod shorten;
 mod show;
 mod turn;
 
@@ -31,8 +36,13 @@ pub use bundle::{read_bundle, write_bundle, ReadResult, WriteResult};
 pub use check::check;
 pub use edition::Edition;
 pub use formula::{test_formula, TestResult};
+pub use guards::guards;
 pub use list::test_list;
+pub use print::{print, print_words};
 pub use scheduler::{Parts, Scheduler};
+pub use search::search_next_proof;
+pub use short::{next_proof, ShortProofs};
+pub use shorten::{shorten, ShortenResult};
 pub use show::{show, show_answer};
 pub use turn::{turn_bundle, turn_proof};
 
@@ -42,6 +52,10 @@ pub mod limits {
     pub const CONSTANTS: usize = 16;
     /// Most constraints of a bundle.
     pub const CONSTRAINTS: usize = 32;
+    /// Most stages of a run.
+    pub const STAGES: usize = 16;
+    /// Most constraints of a run, of all its stages together.
+    pub const RUN_CONSTRAINTS: usize = 64;
     /// Most rows of a proof.
     pub const ROWS: usize = 1_024;
     /// Most strengthens, roundings and splits open at once.

@@ -22,7 +22,7 @@ pub fn test_list(formula: &[u8], k: usize, values: &[i32], out: &mut [u8]) -> Wr
 
 fn refusal(formula: &[u8], k: usize, values: &[i32], room: usize) -> Option<Answer> {
     let lent = |number, place| Some(Answer::refused(number, FILE_OUTPUT, place));
-    if !(1..=limits::CONSTANTS).contains(&k) || values.len() % k > 0 {
+    if !(1..=limits::CONSTANTS).contains(&k) || !values.len().is_multiple_of(k) {
         return lent(WRONG_K, 0);
     }
     for (index, value) in values.iter().enumerate() {

@@ -296,14 +296,15 @@ fn stage_10_sizes() {
     assert_eq!(read(&seventeen).answer, refused(7, 1, 4));
 }
 
-/// The folders under examples/ whose fault is a row's: its number, none of them inside a branch.
-const ROWS: [(&str, u16); 6] = [
-    ("stage-2", 1),
-    ("stage-4", 1),
-    ("stage-9-again", 1),
-    ("stage-four-bytes-cut", 1),
-    ("stage-lines-over", 998),
-    ("stage-lines-turned", 126),
+/// The folders under examples/ whose fault is a row's: its number, and the innermost open step with the number of its branch.
+const ROWS: [(&str, [u16; 3]); 7] = [
+    ("stage-2", [1, NONE, NONE]),
+    ("stage-4", [1, NONE, NONE]),
+    ("stage-9-again", [1, NONE, NONE]),
+    ("stage-four-bytes-cut", [1, NONE, NONE]),
+    ("stage-lines-over", [998, NONE, NONE]),
+    ("stage-lines-turned", [126, NONE, NONE]),
+    ("stage-two-deep", [6, 3, 1]),
 ];
 
 /// The folders under examples/ with a proof: what the check program is to print of each.
@@ -319,8 +320,8 @@ fn the_examples_expect_these_answers() {
         let read = |name: &str| std::fs::read(stage.join(name)).unwrap();
         let (answer, bytes) = check_whole(&read("a"), &read("b"), &read("p"), 65_536);
         let row = ROWS.iter().find(|(name, _)| stage.ends_with(name));
-        let row = row.map_or(NONE, |&(_, row)| row);
-        assert_eq!([answer.row, answer.step, answer.branch], [row, NONE, NONE]);
+        let row = row.map_or([NONE; 3], |&(_, row)| row);
+        assert_eq!([answer.row, answer.step, answer.branch], row);
         let printed = if answer == ACCEPTED {
             let digits: String = bytes.iter().map(|byte| format!("{byte:02X}")).collect();
             format!("accepted {}\n{digits}\n", bytes.len())
@@ -337,7 +338,7 @@ fn the_examples_expect_these_answers() {
         assert_eq!(printed, expected, "{}", stage.display());
         stages += 1;
     }
-    assert_eq!(stages, 36);
+    assert_eq!(stages, 40);
 }
 
 /// The folders under examples/ with register values: what the guard program is to print of each.
@@ -371,4 +372,70 @@ fn the_guards_expect_these_answers() {
         guards += 1;
     }
     assert_eq!(guards, 5);
+}
+
+/// A refusal as a program prints it.
+fn told(answer: Answer) -> String {
+    let Answer {
+        number,
+        file,
+        place,
+        ..
+    } = answer;
+    format!("refused {number} file {file} at {place}\n")
+}
+
+/// The folders under examples/ whose names start so.
+fn folders(start: &str) -> Vec<std::path::PathBuf> {
+    let folder = concat!(env!("CARGO_MANIFEST_DIR"), "/../../examples");
+    let paths = std::fs::read_dir(folder).unwrap();
+    let paths = paths.map(|entry| entry.unwrap().path());
+    let starts = |path: &std::path::PathBuf| {
+        let name = path.file_name().unwrap().to_str().unwrap();
+        name.starts_with(start)
+    };
+    paths.filter(starts).collect()
+}
+
+/// The folders under examples/ whose formula is printed: what the example program is to print of each.
+#[test]
+fn the_printed_guards_expect_these_answers() {
+    let folders = folders("print-");
+    for folder in &folders {
+        let read = |name: &str| std::fs::read(folder.join(name)).unwrap();
+        let formula = read("f");
+        let mut printed = String::new();
+        for print in [reference::print, reference::print_words] {
+            let mut out = vec![0; 6 * formula.len()];
+            let result = print(&formula, &mut out);
+            if result.answer != ACCEPTED {
+                printed = told(result.answer);
+                break;
+            }
+            out.truncate(result.written);
+            printed += &format!("{}\n", String::from_utf8(out).unwrap());
+        }
+        let expected = String::from_utf8(read("expected")).unwrap();
+        assert_eq!(printed, expected, "{}", folder.display());
+    }
+    assert_eq!(folders.len(), 3);
+}
+
+/// The folders under examples/ whose short proofs are listed: what the example program is to print of each.
+#[test]
+fn the_lists_of_short_proofs_expect_these_tables() {
+    let folders = folders("short-");
+    for folder in &folders {
+        let read = |name: &str| std::fs::read(folder.join(name)).unwrap();
+        let proofs = reference::ShortProofs::of(&read("a"), &read("b")).unwrap();
+        let mut printed = String::new();
+        for table in proofs.tables() {
+            let digits: String = table.iter().map(|byte| format!("{byte:02X}")).collect();
+            printed += &format!("{digits}\n");
+        }
+        printed += &format!("{} short proofs\n", proofs.tables().len());
+        let expected = String::from_utf8(read("expected")).unwrap();
+        assert_eq!(printed, expected, "{}", folder.display());
+    }
+    assert_eq!(folders.len(), 2);
 }

@@ -15,9 +15,12 @@ pub enum Operation {
     TurnBundle,
     TurnProof,
     List,
+    Print,
+    PrintWords,
+    NextProof,
 }
 
-pub const OPERATIONS: [Operation; 8] = [
+pub const OPERATIONS: [Operation; 11] = [
     Operation::Check,
     Operation::Read,
     Operation::Write,
@@ -26,6 +29,9 @@ pub const OPERATIONS: [Operation; 8] = [
     Operation::TurnBundle,
     Operation::TurnProof,
     Operation::List,
+    Operation::Print,
+    Operation::PrintWords,
+    Operation::NextProof,
 ];
 
 /// One call: the files and lists lent, and the lengths of the outputs.
@@ -75,6 +81,20 @@ pub enum Case {
         values: Vec<i32>,
         out: usize,
     },
+    Print {
+        formula: Vec<u8>,
+        out: usize,
+    },
+    PrintWords {
+        formula: Vec<u8>,
+        out: usize,
+    },
+    NextProof {
+        a: Vec<u8>,
+        b: Vec<u8>,
+        table: Vec<u8>,
+        out: usize,
+    },
 }
 
 /// What the reference makes of a case.
@@ -111,6 +131,9 @@ impl Case {
             Case::TurnBundle { .. } => Operation::TurnBundle,
             Case::TurnProof { .. } => Operation::TurnProof,
             Case::List { .. } => Operation::List,
+            Case::Print { .. } => Operation::Print,
+            Case::PrintWords { .. } => Operation::PrintWords,
+            Case::NextProof { .. } => Operation::NextProof,
         }
     }
 
@@ -123,7 +146,11 @@ impl Case {
             | Case::TurnProof { file, .. } => file.len(),
             Case::Write { .. } => 0,
             Case::Show { a, b, .. } => a.len().max(b.len()),
-            Case::Test { formula, .. } | Case::List { formula, .. } => formula.len(),
+            Case::Test { formula, .. }
+            | Case::List { formula, .. }
+            | Case::Print { formula, .. }
+            | Case::PrintWords { formula, .. } => formula.len(),
+            Case::NextProof { a, b, table, .. } => a.len().max(b.len()).max(table.len()),
         }
     }
 
@@ -219,6 +246,25 @@ impl Case {
                 output.truncate(result.written);
                 (result.answer, Output::Bytes(output))
             }
+            Case::Print { formula, out } => {
+                let mut output = vec![0; *out];
+                let result = reference::print(formula, &mut output);
+                output.truncate(result.written);
+                (result.answer, Output::Bytes(output))
+            }
+            Case::PrintWords { formula, out } => {
+                let mut output = vec![0; *out];
+                let result = reference::print_words(formula, &mut output);
+                output.truncate(result.written);
+                (result.answer, Output::Bytes(output))
+            }
+            // The quick one of two that agree.
+            Case::NextProof { a, b, table, out } => {
+                let mut output = vec![0; *out];
+                let result = reference::search_next_proof(a, b, table, &mut output);
+                output.truncate(result.written);
+                (result.answer, Output::Bytes(output))
+            }
         };
         Outcome {
             answer,
@@ -300,14 +346,26 @@ impl Case {
                 push_list(&mut text, values);
                 push(&mut text, out);
             }
+            Case::Print { formula, out } => {
+                text.push_str("print ");
+                push_bytes(&mut text, formula);
+                push(&mut text, out);
+            }
+            Case::PrintWords { formula, out } => {
+                text.push_str("print-words ");
+                push_bytes(&mut text, formula);
+                push(&mut text, out);
+            }
+            Case::NextProof { a, b, table, out } => {
+                text.push_str("next-proof ");
+                push_bytes(&mut text, a);
+                push_bytes(&mut text, b);
+                push_bytes(&mut text, table);
+                push(&mut text, out);
+            }
         }
         let Outcome { answer, result } = self.outcome();
-        push(&mut text, answer.number);
-        push(&mut text, answer.file);
-        push(&mut text, answer.place);
-        push(&mut text, answer.row);
-        push(&mut text, answer.step);
-        push(&mut text, answer.branch);
+        push_answer(&mut text, answer);
         match result {
             Output::Nothing if self.operation() == Operation::Read => text.push_str("0 0 0 - - "),
             Output::Nothing => text.push_str("- "),
@@ -334,12 +392,21 @@ impl Case {
     }
 }
 
-fn push(text: &mut String, item: impl std::fmt::Display) {
+pub(crate) fn push(text: &mut String, item: impl std::fmt::Display) {
     // Writing to a string does not fail.
     let _ = write!(text, "{item} ");
 }
 
-fn push_list(text: &mut String, list: &[impl std::fmt::Display]) {
+pub(crate) fn push_answer(text: &mut String, answer: Answer) {
+    push(text, answer.number);
+    push(text, answer.file);
+    push(text, answer.place);
+    push(text, answer.row);
+    push(text, answer.step);
+    push(text, answer.branch);
+}
+
+pub(crate) fn push_list(text: &mut String, list: &[impl std::fmt::Display]) {
     if list.is_empty() {
         text.push('-');
     }
@@ -351,7 +418,7 @@ fn push_list(text: &mut String, list: &[impl std::fmt::Display]) {
 }
 
 /// Bytes in hexadecimal, long repetitions written once with their count.
-fn push_bytes(text: &mut String, bytes: &[u8]) {
+pub(crate) fn push_bytes(text: &mut String, bytes: &[u8]) {
     if bytes.is_empty() {
         text.push_str("- ");
         return;

@@ -6,8 +6,10 @@ use crate::case::{Case, Operation};
 use crate::deep::misused;
 use crate::editions;
 use crate::other;
+use crate::printing;
 use crate::rng::Rng;
 use crate::rounding::{damaged, exact, rounded};
+use crate::short;
 use crate::stride::{closes, near_miss};
 use crate::turn::mix_aimed;
 use crate::turning;
@@ -110,6 +112,16 @@ pub fn directed(rng: &mut Rng, operation: Operation) -> Vec<Aimed> {
             let tests = tests(rng);
             let mut cases = vectors::from_tests(rng, tests);
             cases.extend(vectors::directed(rng));
+            cases
+        }
+        Operation::Print | Operation::PrintWords => {
+            let mut cases = printing::from_tests(operation, tests(rng));
+            cases.extend(printing::directed(rng, operation));
+            cases
+        }
+        Operation::NextProof => {
+            let mut cases = short::from_shows(shows(rng));
+            cases.extend(short::directed(rng));
             cases
         }
     };

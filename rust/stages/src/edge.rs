@@ -11,6 +11,7 @@ use crate::rounding::{exact, random_by, rounded};
 use crate::turn::mix_aimed;
 use crate::turning;
 use crate::vectors;
+use crate::{printing, short};
 use reference::Edition;
 
 /// A case of an operation at one of its limits, with the number that it is made to be answered with, in every mix of
@@ -76,6 +77,14 @@ fn some_edge(rng: &mut Rng, operation: Operation) -> Aimed {
             let test = some_edge(rng, Operation::Test);
             vectors::from_tests(rng, vec![test]).remove(0)
         }
+        Operation::Print | Operation::PrintWords => loop {
+            // One that is the formula's, not the values'.
+            let test = some_edge(rng, Operation::Test);
+            if let Some(aimed) = printing::from_tests(operation, vec![test]).pop() {
+                break aimed;
+            }
+        },
+        Operation::NextProof => short::edge(rng, over),
     }
 }
 

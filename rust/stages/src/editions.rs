@@ -170,7 +170,7 @@ pub fn heavy(rng: &mut Rng, operation: Operation) -> Vec<Aimed> {
                     cases.push((number, turn(operation, long, to)));
                 }
             }
-            Operation::Write | Operation::Test | Operation::TurnProof | Operation::List => {}
+            _ => {}
         }
     }
     if operation == Operation::Check {
@@ -292,7 +292,7 @@ pub fn light(rng: &mut Rng, operation: Operation) -> Vec<Aimed> {
                 let aim = if Edition::One.holds(number) { 0 } else { 13 };
                 cases.push((aim, turn(operation, bundle, 1_usize)));
             }
-            Operation::Test | Operation::TurnProof | Operation::List => {}
+            _ => {}
         }
     }
     match operation {

@@ -2,7 +2,8 @@
 //!
 //! `stream` gives an endless row of cases of a chosen operation and class;
 //! `list` gives the mixed list that the program prints; `calls::sequence` gives
-//! calls at the scheduler.
+//! calls at the scheduler, `runs::any` runs of stages, and `unused::pad` proofs
+//! with rows that nothing uses.
 #![forbid(unsafe_code)]
 
 pub mod build;
@@ -16,8 +17,11 @@ pub mod editions;
 pub mod limit;
 mod list;
 pub mod other;
+pub mod printing;
 pub mod rng;
 pub mod rounding;
+pub mod runs;
+pub mod short;
 mod stream;
 pub mod stride;
 pub mod table;
@@ -25,6 +29,7 @@ pub mod tie;
 pub mod tree;
 pub mod turn;
 pub mod turning;
+pub mod unused;
 pub mod vectors;
 
 pub use case::{Case, Operation, Outcome, Output, OPERATIONS};

@@ -12,6 +12,7 @@ use crate::table::{closed_table, Size, Table};
 use crate::turn::mix_aimed;
 use crate::turning;
 use crate::vectors;
+use crate::{printing, short};
 use reference::Edition;
 
 /// The cases of one operation with short files, in every mix of editions.
@@ -26,6 +27,14 @@ pub fn light(rng: &mut Rng, operation: Operation) -> Vec<Aimed> {
         Operation::List => {
             let tests = light_tests(rng);
             vectors::from_tests(rng, tests)
+        }
+        Operation::Print | Operation::PrintWords => {
+            printing::from_tests(operation, light_tests(rng))
+        }
+        Operation::NextProof => {
+            let mut cases = short::from_shows(shows(1));
+            cases.extend(short::light(rng));
+            cases
         }
     };
     cases.extend(editions::light(rng, operation));
@@ -48,6 +57,10 @@ pub fn heavy(rng: &mut Rng, operation: Operation) -> Vec<Aimed> {
             let tests = heavy_tests(rng);
             vectors::from_tests(rng, tests)
         }
+        Operation::Print | Operation::PrintWords => {
+            printing::from_tests(operation, heavy_tests(rng))
+        }
+        Operation::NextProof => short::from_shows(heavy_shows(rng)),
     };
     for aimed in &mut cases {
         mix_aimed(rng, aimed);

@@ -51,7 +51,7 @@ pub fn list(seed: u64, count: usize, light: bool) -> Vec<(Class, Case)> {
             Operation::Check => 22,
             Operation::Test => 8,
             Operation::TurnProof => 8,
-            Operation::List => 0,
+            Operation::List | Operation::NextProof => 0,
             _ => 4,
         };
         aimed.retain(|(_, case)| case.largest_file() <= HEAVY);
@@ -72,7 +72,11 @@ pub fn list(seed: u64, count: usize, light: bool) -> Vec<(Class, Case)> {
         }
     }
     rng.shuffle(&mut rest);
-    cases.truncate(count);
+    if cases.len() > count {
+        // Some of every sort.
+        rng.shuffle(&mut cases);
+        cases.truncate(count);
+    }
     while cases.len() < count {
         if rng.chance(1, 8) {
             cases.extend(rest.pop());
@@ -83,14 +87,17 @@ pub fn list(seed: u64, count: usize, light: bool) -> Vec<(Class, Case)> {
             12..=17 => Class::Damaged,
             _ => Class::Noise,
         };
-        let operation = match rng.below(21) {
+        let operation = match rng.below(24) {
             0..=13 => Operation::Check,
             14..=15 => Operation::Read,
             16 => Operation::Write,
             17 => Operation::Show,
             18 => Operation::Test,
             19 => *rng.pick(&[Operation::TurnBundle, Operation::TurnProof]),
-            _ => Operation::List,
+            20 => Operation::List,
+            21 => Operation::Print,
+            22 => Operation::PrintWords,
+            _ => Operation::NextProof,
         };
         let case = match class {
             Class::Sound => sound(&mut rng, operation, &Size::SMALL),

@@ -4,25 +4,32 @@ use reference::NOT_GIVEN;
 use stages::calls::sequence;
 use stages::rng::Rng;
 use stages::table::Size;
-use stages::{heavy_list, list, stream, Class, Operation, CLASSES, OPERATIONS};
+use stages::unused::Shortening;
+use stages::{heavy_list, list, runs, stream, Class, Operation, CLASSES, OPERATIONS};
 use std::io::{self, BufWriter, Write};
 use std::process::ExitCode;
 
-const USAGE: &str = "usage: stages SEED COUNT [--heavy | --light | --seats] [--tally]
+const USAGE: &str =
+    "usage: stages SEED COUNT [--heavy | --light | --seats | --runs | --rows] [--tally]
 
   --heavy  the cases with long files instead of the usual list
   --light  the usual list without any file above 2,000 bytes
   --seats  sequences of calls at the scheduler instead, over short files
+  --runs   guards of runs of stages instead, over short files
+  --rows   proofs to be shortened instead, in short files
   --tally  how many cases of each sort there are, instead of the cases";
 
 fn main() -> ExitCode {
     let mut numbers = Vec::new();
-    let (mut heavy, mut light, mut seats, mut tally) = (false, false, false, false);
+    let (mut heavy, mut light, mut tally) = (false, false, false);
+    let mut other: Option<fn(&mut Rng, usize)> = None;
     for argument in std::env::args().skip(1) {
         match argument.as_str() {
             "--heavy" => heavy = true,
             "--light" => light = true,
-            "--seats" => seats = true,
+            "--seats" => other = Some(print_seats),
+            "--runs" => other = Some(print_runs),
+            "--rows" => other = Some(print_rows),
             "--tally" => tally = true,
             other => match other.parse::<u64>() {
                 Ok(number) => numbers.push(number),
@@ -37,8 +44,9 @@ fn main() -> ExitCode {
         eprintln!("{USAGE}");
         return ExitCode::FAILURE;
     };
-    if seats {
-        return print_seats(seed, count as usize);
+    if let Some(print) = other {
+        print(&mut Rng::new(seed), count as usize);
+        return ExitCode::SUCCESS;
     }
     let cases = if heavy {
         heavy_list(seed, count as usize)
@@ -60,8 +68,7 @@ fn main() -> ExitCode {
 }
 
 /// Each over four checks, two of them damaged, whose files have at most 120 bytes.
-fn print_seats(seed: u64, count: usize) -> ExitCode {
-    let mut rng = Rng::new(seed);
+fn print_seats(rng: &mut Rng, count: usize) {
     let mut short = |class| {
         stream(Operation::Check, class, Size::SMALL, rng.word())
             .filter(|case| case.longest_file() <= 120)
@@ -70,9 +77,26 @@ fn print_seats(seed: u64, count: usize) -> ExitCode {
     for _ in 0..count {
         let files = sound.by_ref().take(2).chain(damaged.by_ref().take(2));
         let files: Vec<_> = files.collect();
-        println!("{}", sequence(&mut rng, &files, 14).print());
+        println!("{}", sequence(rng, &files, 14).print());
     }
-    ExitCode::SUCCESS
+}
+
+/// Over files of at most 300 bytes together.
+fn print_runs(rng: &mut Rng, count: usize) {
+    for _ in 0..count {
+        let run = std::iter::repeat_with(|| runs::any(rng, &Size::SMALL))
+            .find(|run| run.buffer.len() + run.proof.len() <= 300);
+        println!("{}", run.expect("a run").print_call(rng));
+    }
+}
+
+/// In files of at most 300 bytes together.
+fn print_rows(rng: &mut Rng, count: usize) {
+    for _ in 0..count {
+        let case = std::iter::repeat_with(|| Shortening::any(rng, &Size::SMALL))
+            .find(|case| case.a.len() + case.b.len() + case.proof.len() <= 300);
+        println!("{}", case.expect("a proof").print());
+    }
 }
 
 fn print_tally(out: &mut impl Write, cases: &[(stages::Class, stages::Case)]) -> io::Result<()> {
@@ -86,7 +110,7 @@ fn print_tally(out: &mut impl Write, cases: &[(stages::Class, stages::Case)]) ->
             assert!(!answers.contains(&NOT_GIVEN), "a number that is not given");
             write!(out, "{operation:?} {class:?}: {}", answers.len())?;
             let mut separator = " (";
-            for number in 0..=24 {
+            for number in 0..=35 {
                 let times = answers.iter().filter(|&&n| n == number).count();
                 if times > 0 {
                     write!(out, "{separator}{number}: {times}")?;

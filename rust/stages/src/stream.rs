@@ -6,7 +6,7 @@ use crate::rng::Rng;
 use crate::table::{careless_table, closed_table, Size, Table};
 use crate::tie::tied;
 use crate::turn::{mix, turned_up};
-use crate::{deep, directed, edge, limit, other, rounding, turning, vectors};
+use crate::{deep, directed, edge, limit, other, printing, rounding, short, turning, vectors};
 use reference::Edition;
 
 /// What sort of cases are wanted.
@@ -150,6 +150,11 @@ pub fn sound(rng: &mut Rng, operation: Operation, size: &Size) -> Case {
             let (k, formula) = some_formula(rng, size);
             vectors::sound(rng, k, formula)
         }
+        Operation::Print | Operation::PrintWords => {
+            let (_, formula) = some_formula(rng, size);
+            printing::sound(rng, operation, formula)
+        }
+        Operation::NextProof => short::sound(rng),
     }
 }
 
@@ -282,6 +287,12 @@ pub fn damaged(rng: &mut Rng, operation: Operation, size: &Size) -> Case {
                 }
             }
             Case::List { .. } => vectors::damaged(rng, &mut case),
+            Case::Print { formula, out } | Case::PrintWords { formula, out } => {
+                printing::damaged(rng, formula, out, k)
+            }
+            Case::NextProof { a, b, table, out } => {
+                short::damaged(rng, [a, b, table], out, k);
+            }
         }
     }
     case
@@ -349,6 +360,11 @@ pub fn random(rng: &mut Rng, operation: Operation) -> Case {
                 out: rng.below(8),
             }
         }
+        Operation::Print | Operation::PrintWords => {
+            let (formula, out) = (noise(rng, k), rng.below(100));
+            printing::print(operation, formula, out)
+        }
+        Operation::NextProof => short::random(rng, k),
     }
 }
 

@@ -84,7 +84,7 @@ pub fn mix(rng: &mut Rng, case: &mut Case) {
             turn(proof, PROOF_BYTES);
         }
         Case::Read { file, .. } => turn(file, BUNDLE_BYTES),
-        Case::Show { a, b, .. } => {
+        Case::Show { a, b, .. } | Case::NextProof { a, b, .. } => {
             turn(a, BUNDLE_BYTES);
             turn(b, BUNDLE_BYTES);
         }
@@ -93,7 +93,9 @@ pub fn mix(rng: &mut Rng, case: &mut Case) {
         | Case::Test { .. }
         | Case::TurnBundle { .. }
         | Case::TurnProof { .. }
-        | Case::List { .. } => {}
+        | Case::List { .. }
+        | Case::Print { .. }
+        | Case::PrintWords { .. } => {}
     }
 }
 

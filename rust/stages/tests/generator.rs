@@ -95,6 +95,8 @@ fn edge_cases_meet_their_number_on_both_sides() {
             Operation::Test | Operation::List => &[0, 1, 17, 23],
             Operation::TurnBundle => &[0, 1, 8, 13],
             Operation::TurnProof => &[0, 1, 10],
+            Operation::Print | Operation::PrintWords => &[0, 1, 17],
+            Operation::NextProof => &[0, 8, 33],
         };
         assert_eq!(met, all.iter().copied().collect(), "{operation:?}");
     }
@@ -147,6 +149,18 @@ fn all_answers(operation: Operation) -> Vec<(u8, u8)> {
             accepted,
             of(3, &[1, 2, 3, 4, 5, 6, 7, 10]),
             of(4, &[1, 5, 21]),
+        ],
+        Operation::Print | Operation::PrintWords => vec![
+            accepted,
+            of(3, &[1, 2, 3, 4, 5, 6, 7, 12, 17, 19]),
+            of(4, &[21]),
+        ],
+        Operation::NextProof => vec![
+            accepted,
+            of(1, &bundle),
+            of(2, &bundle),
+            of(2, &[9]),
+            of(4, &[8, 32, 33, 21]),
         ],
     };
     parts.concat()
@@ -327,6 +341,29 @@ fn parse(line: &str) -> (Case, Vec<String>) {
             },
             5,
         ),
+        "print" => (
+            Case::Print {
+                formula: bytes(1),
+                out: number(2),
+            },
+            3,
+        ),
+        "print-words" => (
+            Case::PrintWords {
+                formula: bytes(1),
+                out: number(2),
+            },
+            3,
+        ),
+        "next-proof" => (
+            Case::NextProof {
+                a: bytes(1),
+                b: bytes(2),
+                table: bytes(3),
+                out: number(4),
+            },
+            5,
+        ),
         other => panic!("{other}"),
     };
     let rest = words[used..].iter().map(|word| word.to_string()).collect();
@@ -335,8 +372,14 @@ fn parse(line: &str) -> (Case, Vec<String>) {
 
 #[test]
 fn printed_lines_say_what_the_case_is_and_its_answer() {
-    let cases = list(9, 600, false).into_iter().chain(heavy_list(9, 60));
-    for (_, case) in cases {
+    let listed = list(9, 600, false).into_iter().chain(heavy_list(9, 60));
+    let mut cases: Vec<Case> = listed.map(|(_, case)| case).collect();
+    for operation in OPERATIONS {
+        for class in [Class::Sound, Class::Damaged] {
+            cases.extend(stream(operation, class, Size::SMALL, 9).take(100));
+        }
+    }
+    for case in cases {
         let (read, words) = parse(&case.print());
         assert_eq!(read, case);
         let outcome = case.outcome();

@@ -26,7 +26,7 @@ use Rattle.forms.specs.Reduced.{reduced}
 use Rattle.calculus.specs.Rules.{inRange}
 use Rattle.answers.specs.Answers.{position, answerAt, rowTold, _>>=_, _>>_, need, found, each, over, fit, written}
 use Rattle.number_bytes.specs.Numbers.{unsigned, complement, signed, unsignedBytes, residue, signedBytes, unsigneds, unsignedsBytes, signeds, signedsBytes, flat, formFrom, formBytes}
-use Rattle.fields.specs.Fields.{front, note, unlessNote, fieldsFrom, fields, fieldBytes, nth}
+use Rattle.fields.specs.Fields.{front, note, unlessNote, fieldsFrom, fields, fieldBytes, nth, fileOf}
 use Rattle.fields.specs.Header.{headerTag, known, agrees, headerField, editionField, constantsField, header, finished, headerBytes}
 use Rattle.bundle.specs.Bundle.{kindTagged, atMost, formSmall, constraints, bundleHeader, bundle, bundles}
 use Rattle.bundle.specs.Read.{kindNumber, kindsOf, numbersOf, unread, store, stored, readBundle}
@@ -35,10 +35,21 @@ use Rattle.bundle.specs.Show.{partOf, constraintPart, shownPart, answerOf, show
 use Rattle.formula.specs.Formula.{encode, formulaFile, formulaTagged, compound, formulaSize, formulaOf, formulaField, twoParts, formulaWithin, readFormula}
 use Rattle.formula.specs.Test.{holds, judge, tested, judged, testFormula}
 use Rattle.formula.specs.TestList.{vectors, listed, truths, testList}
+use Rattle.printing.specs.Text.{decimalBy, decimal, termText, propText}
+use Rattle.printing.specs.Translation.{integer, unlessZero, termsOf, summed, termOf, smt}
+use Rattle.printing.specs.Words.{unlessNone, summandsOf, sumOf, worded}
+use Rattle.printing.specs.WordsText.{summandText, summandsText, sumText, wordingText}
+use Rattle.printing.specs.Print.{textBehind, printed, printFormula}
 use Rattle.proof.specs.Entries.{entryTagged, renumbered, inPlace, lineNumber, multiplier, sizeOf, entryFrom, entry}
 use Rattle.proof.specs.Rows.{is, plainKind, owner, fails, equals, sameForm, lineAt, derived, fitting, undivided, inequality, roundable, disequality, byNumber, byStride, states}
 use Rattle.conversion.specs.Turning.{asked, otherEdition, eachField, numbersFit, resultWithin, bundleTurned, behindHeader, entriesRead, makesLine, linesFit, linesTurned, fieldsTurned, proofTurned, turnBundle, turnProof}
 use Rattle.proof.specs.Check.{checkRounded, checkSplit, checkRow, checkEntry, checkEntries, checkBranch, checkProof, formulaAtMost, interpolant, checkBy, check}
+use Rattle.shortening.specs.Shorten.{shorter, shortening, fitBoth, writtenBoth, shorten}
+use Rattle.enumeration.specs.ShortProofs.{rowItem, proofFile}
+use Rattle.enumeration.specs.Sequence.{concatMap, upFrom, combines, reduces, scales, inferences, numberCloses, strideCloses, closeRows, newLine, closeFormula, ifAccepted, proofsOf, shortProofsOf, bothRead, shortProofs}
+use Rattle.enumeration.specs.Next.{sameBytes as sameTable, firstRows, following, nextRows, nextFile, nextProof}
+use Rattle.run.specs.Uniform.{withNumber, sameBytes, sameItems, walkBranches, firstAndThird, allAlike, walkOpened, walkClosed, walkRow, walkEntry, walkEntries, walkBranch, uniform}
+use Rattle.run.specs.Run.{parted, total, parts, stagesShort, readStages, constantsOf, runOf, claimRefused, checkCut, both, checkCuts, checkRun, guardFiles, unwritten, fitGuards, writtenGuards, guardsBy, guards}
 use Rattle.scheduler.specs.Scheduler.{empty, isWaiting, submission, cancellation, nextFrom, nextSeat, checkJob, turnAt, turn as turned}
 use Rattle.scheduler.specs.Promises.{changed}
 use Rattle.scheduler.specs.Table.{submit, cancel, turn, job, played}
@@ -51,16 +62,24 @@ const BUNDLES: &str = "kindTagged atMost formSmall constraints bundleHeader bund
 const WRITING: &str =
     "over fit written unsignedBytes residue signedBytes signedsBytes fieldBytes headerBytes";
 const CHECK: &str = "rowTold remainder coeff sum value sums _⊞_ _·_ _plus_ nonzero reduced inRange formBytes finished encode formulaFile entryTagged inPlace lineNumber multiplier sizeOf entryFrom entry is plainKind owner fails equals sameForm lineAt derived fitting undivided inequality roundable disequality byNumber byStride states checkRounded checkSplit checkRow checkEntry checkEntries checkBranch checkProof formulaAtMost interpolant checkBy check";
+const NEXT: &str = "remainder coeff sum value sums _⊞_ _·_ nonzero reduced inRange is plainKind fails lineAt derived fitting byNumber byStride fileOf rowItem proofFile concatMap upFrom combines reduces scales inferences numberCloses strideCloses closeRows newLine closeFormula ifAccepted proofsOf shortProofsOf bothRead shortProofs sameTable firstRows following nextRows nextFile nextProof";
 const READ: &str = "over kindNumber kindsOf numbersOf unread store stored readBundle";
 const WRITE: &str = "each constraintsBytes holdable encodeBundle writeBundle";
 const SHOW: &str = "nth partOf constraintPart shownPart answerOf showAnswer handed showPart";
 const SEATS: &str =
     "isWaiting submission cancellation nextFrom nextSeat checkJob turnAt turned changed";
+const GUARDS: &str = "withNumber sameBytes sameItems walkBranches firstAndThird allAlike walkOpened walkClosed walkRow walkEntry walkEntries walkBranch uniform parted total parts stagesShort readStages constantsOf runOf claimRefused checkCut both checkCuts checkRun guardFiles unwritten fitGuards writtenGuards guardsBy guards";
 const TEST: &str = "each sum value finished formulaTagged compound formulaSize formulaOf formulaField twoParts formulaWithin readFormula holds judge tested judged testFormula";
 const LIST: &str = "over fit written vectors listed truths testList";
+const PRINT: &str = "over fit written nonzero decimal decimalBy textBehind printed printFormula";
+const PRINT_TERMS: &str = "integer unlessZero termsOf summed termOf smt termText propText";
+const PRINT_WORDS: &str =
+    "unlessNone summandsOf sumOf worded summandText summandsText sumText wordingText";
 const TURN_BUNDLE: &str =
     "asked otherEdition behindHeader eachField each kindNumber kindsOf numbersOf numbersFit constraintsBytes holdable encodeBundle resultWithin bundleTurned turnBundle";
 const TURN_PROOF: &str = "asked otherEdition eachField atMost formBytes finished entryTagged inPlace lineNumber multiplier sizeOf entryFrom entry behindHeader entriesRead makesLine unsigneds linesFit unsignedsBytes renumbered linesTurned fieldsTurned resultWithin proofTurned turnProof";
+const SHORTEN: &str =
+    "unsigneds unsignedsBytes renumbered fileOf shorter shortening fitBoth writtenBoth shorten";
 
 fn list(items: impl Iterator<Item = String>) -> String {
     let mut text = String::new();
@@ -111,6 +130,21 @@ fn numbers(field: &str) -> Vec<i64> {
 
 fn naturals(field: &str) -> String {
     list(numbers(field).iter().map(i64::to_string))
+}
+
+/// Sizes and lengths, up to the largest `usize`.
+fn sizes(field: &str) -> Vec<u64> {
+    if field == "-" {
+        return Vec::new();
+    }
+    field
+        .split(',')
+        .map(|n| n.parse().expect("a size"))
+        .collect()
+}
+
+fn size_list(field: &str) -> String {
+    list(sizes(field).iter().map(u64::to_string))
 }
 
 fn integers(field: &str) -> String {
@@ -185,6 +219,16 @@ fn statement(case: &[&str]) -> (String, String) {
             ),
             format!("{SHARED} {BUNDLES} {WRITING} {CHECK}"),
         ),
+        ["next-proof", a, b, table, lent, words @ .., output] => (
+            format!(
+                "nextProof {} {} {} (replicate {lent} 0xAA) ≡ {}",
+                bytes(a),
+                bytes(b),
+                bytes(table),
+                written(words, lent, output)
+            ),
+            format!("{SHARED} {BUNDLES} {WRITING} {NEXT}"),
+        ),
         ["read", file, kinds, nums, words @ .., count, k, edition, out_kinds, out_nums] => (
             format!(
                 "readBundle (replicate {kinds} 0xAA) (replicate {nums} (pos 0x55)) newestEdition {} ≡ record {{ answer = {}; count = {count}; K = {k}; edition = {edition}; kinds = ({}) ++ replicate {} 0xAA; numbers = ({}) ++ replicate {} (pos 0x55) }}",
@@ -256,6 +300,22 @@ fn statement(case: &[&str]) -> (String, String) {
             turned("turnProof", edition, file, words, lent, output),
             format!("{SHARED} {WRITING} {TURN_PROOF}"),
         ),
+        ["shorten", a, b, p, report_lent, table_lent, words @ .., report, table] => (
+            format!(
+                "shorten {} {} {} (replicate {report_lent} 0xAA) (replicate {table_lent} 0xAA) ≡ record {{ answer = {}; rows = {}; count = {}; report = {} ++ replicate {} 0xAA; table = {} ++ replicate {} 0xAA }}",
+                bytes(a),
+                bytes(b),
+                bytes(p),
+                answer(words),
+                size(report),
+                size(table),
+                bytes(report),
+                left(report_lent, size(report)),
+                bytes(table),
+                left(table_lent, size(table))
+            ),
+            format!("{SHARED} {BUNDLES} {WRITING} {CHECK} {SHORTEN}"),
+        ),
         ["list", file, k, values, lent, words @ .., output] => (
             format!(
                 "testList {} {k} ({}) (replicate {lent} 0xAA) ≡ {}",
@@ -265,8 +325,42 @@ fn statement(case: &[&str]) -> (String, String) {
             ),
             format!("{SHARED} {TEST} {LIST}"),
         ),
+        ["print", file, lent, words @ .., output] => (
+            printed("false", file, lent, words, output),
+            format!("{SHARED} {TEST} {PRINT} {PRINT_TERMS}"),
+        ),
+        ["print-words", file, lent, words @ .., output] => (
+            printed("true", file, lent, words, output),
+            format!("{SHARED} {TEST} {PRINT} {PRINT_WORDS}"),
+        ),
+        ["guards", buffer, lengths, proof, lent, slots, words @ .., output, filled] => {
+            let used = size(output);
+            (
+                format!(
+                    "guards {} ({}) {} (replicate {lent} 0xAA) (replicate {slots} 7) ≡ record {{ answer = {}; count = {used}; output = {} ++ replicate {} 0xAA; sizes = ({}) ++ replicate {} 7 }}",
+                    bytes(buffer),
+                    size_list(lengths),
+                    bytes(proof),
+                    answer(words),
+                    bytes(output),
+                    left(lent, used),
+                    size_list(filled),
+                    left(slots, sizes(filled).len())
+                ),
+                format!("{SHARED} {BUNDLES} {WRITING} {CHECK} {GUARDS}"),
+            )
+        }
         other => panic!("no case: {other:?}"),
     }
+}
+
+/// A formula printed, in words or not.
+fn printed(wording: &str, file: &str, lent: &str, words: &[&str], output: &str) -> String {
+    format!(
+        "printFormula {wording} {} (replicate {lent} 0xAA) ≡ {}",
+        bytes(file),
+        written(words, lent, output)
+    )
 }
 
 fn main() {

@@ -22,6 +22,9 @@ _Static_assert(sizeof(dulgaverk_read_result) == 40 && offsetof(dulgaverk_read_re
 _Static_assert(sizeof(dulgaverk_write_result) == 32 && offsetof(dulgaverk_write_result, answer) == 0 &&
                    offsetof(dulgaverk_write_result, count) == 24,
                "what writing gives");
+_Static_assert(sizeof(dulgaverk_shorten_result) == 40 && offsetof(dulgaverk_shorten_result, answer) == 0 &&
+                   offsetof(dulgaverk_shorten_result, rows) == 24 && offsetof(dulgaverk_shorten_result, count) == 32,
+               "what shortening gives");
 _Static_assert(sizeof(dulgaverk_tested) == 32 && offsetof(dulgaverk_tested, answer) == 0 &&
                    offsetof(dulgaverk_tested, holds) == 24,
                "what testing gives");
@@ -581,6 +584,238 @@ static void scheduling(void) {
     EXPECT(!t.idle && t.seat == 2 && is(t.result.answer, 0, 0, 0) && t.scheduler.first == 3);
 }
 
+static bool text_is(const uint8_t *out, size_t count, size_t length, const char *text) {
+    return count == strlen(text) && memcmp(out, text, count) == 0 && all(out + count, length - count, 0xA5);
+}
+
+/* The guards of stages 1 and 5, both ways. */
+static void printing(void) {
+    static const uint8_t five[] = {0x01, 0, 1, 1, 0x02, 0, 1, 1, 0x31, 0, 0, 0x33, 0, 8, 0, 0, 0,
+                                   2,    0, 0, 0, 0,    0x32, 0, 0, 0x35, 0, 12, 0, 0, 0, 2, 0, 0,
+                                   0,    0, 0, 0, 0,    1, 0x33, 0, 8, 0, 0, 0, 2, 0xFF, 0xFF, 0xFF, 0xFF};
+    static const char smt[] = "(or (<= (+ (* 2 r0) 0) 0) (and (= (mod 1 2) 0) (<= (+ (* 2 r0) (- 1)) 0)))";
+    static const char words[] = "2*r0 <= 0 or (2 divides 1 and 2*r0 - 1 <= 0)";
+    uint8_t out[100];
+    FILL(out);
+    /* Refused by 1, 2, 5, 12, 21: nothing changes. */
+    static const uint8_t long_file[DULGAVERK_PROOF + 1];
+    uint8_t other[sizeof formula];
+    dulgaverk_write_result r = dulgaverk_print(long_file, sizeof long_file, out, sizeof out);
+    EXPECT(is(r.answer, 1, 3, 0) && r.count == 0);
+    r = dulgaverk_print_words(long_file, sizeof long_file, out, sizeof out);
+    EXPECT(is(r.answer, 1, 3, 0) && r.count == 0);
+    r = dulgaverk_print(NULL, 0, NULL, 0);
+    EXPECT(is(r.answer, 2, 3, 0) && r.count == 0);
+    r = dulgaverk_print_words(formula, sizeof formula - 1, out, sizeof out);
+    EXPECT(is(r.answer, 2, 3, 8) && r.count == 0);
+    memcpy(other, formula, sizeof formula);
+    other[3] = 2;
+    r = dulgaverk_print(other, sizeof other, out, sizeof out);
+    EXPECT(is(r.answer, 5, 3, 0) && r.count == 0);
+    memcpy(other, formula, sizeof formula);
+    other[14] = 1;
+    r = dulgaverk_print_words(other, sizeof other, out, sizeof out);
+    EXPECT(is(r.answer, 12, 3, 8) && r.count == 0);
+    r = dulgaverk_print(five, sizeof five, NULL, 0);
+    EXPECT(is(r.answer, 21, 4, strlen(smt)) && r.count == 0);
+    r = dulgaverk_print(five, sizeof five, out, strlen(smt) - 1);
+    EXPECT(is(r.answer, 21, 4, strlen(smt)) && r.count == 0);
+    r = dulgaverk_print_words(five, sizeof five, out, strlen(words) - 1);
+    EXPECT(is(r.answer, 21, 4, strlen(words)) && r.count == 0);
+    UNCHANGED(out);
+    r = dulgaverk_print(five, sizeof five, out, strlen(smt));
+    EXPECT(is(r.answer, 0, 0, 0) && text_is(out, r.count, sizeof out, smt));
+    FILL(out);
+    r = dulgaverk_print_words(five, sizeof five, out, sizeof out);
+    EXPECT(is(r.answer, 0, 0, 0) && text_is(out, r.count, sizeof out, words));
+    FILL(out);
+    r = dulgaverk_print(formula, sizeof formula, out, sizeof out);
+    EXPECT(is(r.answer, 0, 0, 0) && text_is(out, r.count, sizeof out, "(= (mod (+ (* 1 r1) 0) 2) 0)"));
+    FILL(out);
+    r = dulgaverk_print_words(formula, sizeof formula, out, sizeof out);
+    EXPECT(is(r.answer, 0, 0, 0) && text_is(out, r.count, sizeof out, "2 divides 1*r1"));
+}
+
+/* All short proofs of stage 1, from the header on; then what is refused. */
+static void short_proofs(void) {
+    uint8_t table[DULGAVERK_SHORT_PROOF], out[DULGAVERK_SHORT_PROOF + 1], formula[100];
+    memcpy(table, a, 8);
+    size_t length = 8, count = 0;
+    dulgaverk_write_result r;
+    for (;;) {
+        FILL(out);
+        r = dulgaverk_next_proof(a, sizeof a, b, sizeof b, table, length, out, sizeof out);
+        if (r.answer.number != 0) {
+            break;
+        }
+        EXPECT(is(r.answer, 0, 0, 0) && r.count <= DULGAVERK_SHORT_PROOF);
+        EXPECT(all(out + r.count, sizeof out - r.count, 0xA5));
+        EXPECT(dulgaverk_check(a, sizeof a, b, sizeof b, out, r.count, formula, sizeof formula).answer.number == 0);
+        memcpy(table, out, r.count);
+        length = r.count;
+        count += 1;
+    }
+    EXPECT(count == 344 && is(r.answer, 33, 4, 0) && r.count == 0);
+    UNCHANGED(out);
+    /* The first: reduce 0, 1, 1, then close line 2 by stride 2. */
+    static const uint8_t first[] = {0x01, 0, 1, 1, 0x02, 0, 1, 3, 0x11, 0, 4, 0, 1, 0, 1, 0x15, 0, 3, 2, 0, 2};
+    r = dulgaverk_next_proof(a, sizeof a, b, sizeof b, a, 8, out, sizeof first);
+    EXPECT(is(r.answer, 0, 0, 0) && r.count == sizeof first && memcmp(out, first, sizeof first) == 0);
+    FILL(out);
+    /* Refused by 1, 2, 9, 8, 32, 33, 21: nothing changes. */
+    static const uint8_t long_file[DULGAVERK_BUNDLE + 1];
+    r = dulgaverk_next_proof(long_file, sizeof long_file, long_file, sizeof long_file, a, 8, out, sizeof out);
+    EXPECT(is(r.answer, 1, 1, 0) && r.count == 0);
+    r = dulgaverk_next_proof(NULL, 0, long_file, sizeof long_file, a, 8, out, sizeof out);
+    EXPECT(is(r.answer, 1, 2, 0) && r.count == 0);
+    r = dulgaverk_next_proof(NULL, 0, NULL, 0, NULL, 0, NULL, 0);
+    EXPECT(is(r.answer, 2, 1, 0) && r.count == 0);
+    r = dulgaverk_next_proof(a, sizeof a, wide, sizeof wide, a, 8, out, sizeof out);
+    EXPECT(is(r.answer, 9, 2, 4) && r.count == 0);
+    uint8_t five[8 + 5 * 11];
+    memcpy(five, a, 8);
+    for (int i = 0; i < 5; i += 1) {
+        memcpy(five + 8 + 11 * i, a + 8, 11);
+    }
+    r = dulgaverk_next_proof(five, sizeof five, b, 8, NULL, 0, out, sizeof out);
+    EXPECT(is(r.answer, 8, 4, 0) && r.count == 0);
+    r = dulgaverk_next_proof(five, 8 + 4 * 11, b, sizeof b, NULL, 0, out, sizeof out);
+    EXPECT(is(r.answer, 8, 4, 0) && r.count == 0);
+    r = dulgaverk_next_proof(a, sizeof a, b, sizeof b, NULL, 0, out, sizeof out);
+    EXPECT(is(r.answer, 32, 4, 0) && r.count == 0);
+    r = dulgaverk_next_proof(a, sizeof a, b, sizeof b, wide, 8, out, sizeof out);
+    EXPECT(is(r.answer, 32, 4, 0) && r.count == 0);
+    r = dulgaverk_next_proof(a, sizeof a, b, sizeof b, first, sizeof first - 1, out, sizeof out);
+    EXPECT(is(r.answer, 32, 4, 0) && r.count == 0);
+    r = dulgaverk_next_proof(a, sizeof a, b, 8, a, 8, out, sizeof out);
+    EXPECT(is(r.answer, 33, 4, 0) && r.count == 0);
+    r = dulgaverk_next_proof(a, sizeof a, b, sizeof b, a, 8, out, sizeof first - 1);
+    EXPECT(is(r.answer, 21, 4, sizeof first) && r.count == 0);
+    r = dulgaverk_next_proof(a, sizeof a, b, sizeof b, a, 8, NULL, 0);
+    EXPECT(is(r.answer, 21, 4, sizeof first) && r.count == 0);
+    UNCHANGED(out);
+}
+
+/* Stage 3 with a row that nothing uses: scale line 0 by 2, a note, combine lines 0 and 1, close line 3 by number. */
+static void shortening(void) {
+    static const uint8_t own[] = {0x01, 0, 1, 1, 0x02, 0, 1, 1, 0x03, 0, 4, 0, 1, 0, 0};
+    static const uint8_t theirs[] = {0x01, 0, 1, 1, 0x02, 0, 1, 1, 0x03, 0, 4, 0xFF, 0xFF, 0, 1};
+    uint8_t proof[] = {0x01, 0, 1, 1, 0x02, 0, 1, 1,    0x12, 0, 3, 0, 0, 2, 0x80,
+                       0,    0, 0x10, 0, 6, 0, 1, 0, 1,    0, 1,    0x14, 0, 1, 3};
+    static const uint8_t table[] = {0x01, 0, 1, 1, 0x02, 0, 1, 1, 0x10, 0, 6, 0, 1, 0, 1, 0, 1, 0x14, 0, 1, 2};
+    uint8_t report[5], out[64];
+    FILL(report);
+    FILL(out);
+    dulgaverk_shorten_result r;
+    /* Either output too short: the table's bytes. */
+    static const size_t short_ones[][2] = {{2, sizeof out}, {5, sizeof table - 1}, {0, 0}};
+    for (size_t i = 0; i < 3; i += 1) {
+        r = dulgaverk_shorten(own, sizeof own, theirs, sizeof theirs, proof, sizeof proof, report, short_ones[i][0], out,
+                              short_ones[i][1]);
+        EXPECT(is(r.answer, 21, 4, sizeof table) && r.rows == 0 && r.count == 0);
+    }
+    r = dulgaverk_shorten(own, sizeof own, theirs, sizeof theirs, proof, sizeof proof, NULL, 0, NULL, 0);
+    EXPECT(is(r.answer, 21, 4, sizeof table));
+    /* What a check refuses: B, a row that nothing needs, a close. */
+    r = dulgaverk_shorten(own, sizeof own, NULL, 0, proof, sizeof proof, report, sizeof report, out, sizeof out);
+    EXPECT(is(r.answer, 2, 2, 0) && r.rows == 0 && r.count == 0);
+    proof[11] = 9;
+    r = dulgaverk_shorten(own, sizeof own, theirs, sizeof theirs, proof, sizeof proof, report, sizeof report, out, sizeof out);
+    EXPECT(is_at(r.answer, 10, 8, 0, NONE, NONE) && r.rows == 0 && r.count == 0);
+    proof[11] = 0;
+    proof[29] = 2;
+    r = dulgaverk_shorten(own, sizeof own, theirs, sizeof theirs, proof, sizeof proof, report, sizeof report, out, sizeof out);
+    EXPECT(is_at(r.answer, 15, 26, 2, NONE, NONE));
+    proof[29] = 3;
+    UNCHANGED(report);
+    UNCHANGED(out);
+    r = dulgaverk_shorten(own, sizeof own, theirs, sizeof theirs, proof, sizeof proof, report, sizeof report, out, sizeof out);
+    EXPECT(is(r.answer, 0, 0, 0) && r.rows == 3 && r.count == sizeof table);
+    EXPECT(report[0] == 0 && report[1] == 1 && report[2] == 2 && all(report + 3, 2, 0xA5));
+    EXPECT(memcmp(out, table, sizeof table) == 0 && all(out + sizeof table, sizeof out - sizeof table, 0xA5));
+    /* The same table again, with outputs that are just long enough. */
+    r = dulgaverk_shorten(own, sizeof own, theirs, sizeof theirs, table, sizeof table, report, 2, out, sizeof table);
+    EXPECT(is(r.answer, 0, 0, 0) && r.rows == 2 && r.count == sizeof table && report[0] == 1 && report[1] == 2);
+    EXPECT(memcmp(out, table, sizeof table) == 0);
+}
+
+/* A run of three stages over x and y: x <= 2; y <= x + 3; y >= 9. */
+static void runs(void) {
+    static const uint8_t buffer[] = {0x01, 0, 1, 1, 0x02, 0, 1, 2, 0x03, 0, 6, 0,    1,    0,    0,    0xFF, 0xFE,
+                                     0x01, 0, 1, 1, 0x02, 0, 1, 2, 0x03, 0, 6, 0xFF, 0xFF, 0,    1,    0xFF, 0xFD,
+                                     0x01, 0, 1, 1, 0x02, 0, 1, 2, 0x03, 0, 6, 0,    0,    0xFF, 0xFF, 0,    9};
+    static const size_t lengths[] = {17, 17, 17};
+    static const uint8_t proof[] = {0x01, 0, 1, 1, 0x02, 0,    1, 2, 0x10, 0, 6, 0, 1, 0,    1, 0, 1,
+                                    0x10, 0, 6, 3, 2,    0,    1, 0, 1,    0x14, 0, 1, 4};
+    static const uint8_t expected[4][12] = {{0}, {0, 0, 0, 1, 0, 0, 0, 0, 0xFF, 0xFF, 0xFF, 0xFE},
+                                            {0, 0, 0, 0, 0, 0, 0, 1, 0xFF, 0xFF, 0xFF, 0xFB}, {0, 0, 0, 0, 0, 0, 0, 0, 0, 0, 0, 4}};
+    uint8_t out[96];
+    size_t sizes[6];
+    FILL(out);
+    FILL(sizes);
+    dulgaverk_write_result r;
+    /* How many stages, and what their lengths add up to, also where a sum wraps. */
+    static const size_t wrong[][4] = {{17, 17, 16, 0}, {17, 17, 18, 0}, {SIZE_MAX, 52, 0, 0}, {51, 1, SIZE_MAX, 0}};
+    for (size_t i = 0; i < 4; i += 1) {
+        r = dulgaverk_guards(buffer, sizeof buffer, wrong[i], 3, proof, sizeof proof, out, sizeof out, sizes, 6);
+        EXPECT(is(r.answer, 25, 4, 0) && r.count == 0);
+    }
+    r = dulgaverk_guards(buffer, sizeof buffer, NULL, 0, proof, sizeof proof, out, sizeof out, sizes, 6);
+    EXPECT(is(r.answer, 25, 4, 0));
+    static const size_t many[17] = {17, 17, 17};
+    r = dulgaverk_guards(buffer, sizeof buffer, many, 17, proof, sizeof proof, out, sizeof out, sizes, 6);
+    EXPECT(is(r.answer, 25, 4, 0));
+    /* Sixteen stages, the fourth without bytes: file 14. */
+    r = dulgaverk_guards(buffer, sizeof buffer, many, 16, proof, sizeof proof, out, sizeof out, sizes, 6);
+    EXPECT(is(r.answer, 2, 14, 0));
+    /* Places count from the stage's start. */
+    static const size_t shifted[] = {17, 16, 18};
+    r = dulgaverk_guards(buffer, sizeof buffer, shifted, 3, proof, sizeof proof, out, sizeof out, sizes, 6);
+    EXPECT(is(r.answer, 2, 12, 8));
+    /* Outputs: the bytes of all guards, also where the sizes have no room. */
+    r = dulgaverk_guards(buffer, sizeof buffer, lengths, 3, proof, sizeof proof, out, 91, sizes, 6);
+    EXPECT(is(r.answer, 21, 4, 92) && r.count == 0);
+    r = dulgaverk_guards(buffer, sizeof buffer, lengths, 3, proof, sizeof proof, out, sizeof out, sizes, 3);
+    EXPECT(is(r.answer, 21, 4, 92));
+    r = dulgaverk_guards(buffer, sizeof buffer, lengths, 3, proof, sizeof proof, NULL, 0, NULL, 0);
+    EXPECT(is(r.answer, 21, 4, 92));
+    /* A claim, here the right one: 27, of the row before it. */
+    uint8_t claimed[sizeof proof + 27];
+    memcpy(claimed, proof, 17);
+    memcpy(claimed + 17, "\x20\0\x18\0\0\0\0\0\0\0\1\xFF\xFF\xFF\xFB\0\0\0\1\0\0\0\0\xFF\xFF\xFF\xFE", 27);
+    memcpy(claimed + 44, proof + 17, sizeof proof - 17);
+    r = dulgaverk_guards(buffer, sizeof buffer, lengths, 3, claimed, sizeof claimed, out, sizeof out, sizes, 6);
+    EXPECT(is_at(r.answer, 27, 17, 0, NONE, NONE) && r.count == 0);
+    /* Strengthen line 0; the third branch has a row more: 28 at its close. */
+    static const uint8_t stage[] = {0x01, 0, 1, 1, 0x02, 0, 1, 1, 0x03, 0, 4, 0, 0, 0, 1};
+    static const size_t length[] = {sizeof stage};
+    static const uint8_t unlike[] = {0x01, 0, 1, 1, 0x02, 0, 1, 1, 0x13, 0,    1, 0, 0x14, 0,    1, 0,
+                                     0x14, 0, 1, 0, 0x12, 0, 3, 0, 0,    1, 0x14, 0, 1,    0};
+    r = dulgaverk_guards(stage, sizeof stage, length, 1, unlike, sizeof unlike, out, sizeof out, sizes, 6);
+    EXPECT(is_at(r.answer, 28, 26, 4, 0, 2) && r.count == 0);
+    UNCHANGED(out);
+    UNCHANGED(sizes);
+    r = dulgaverk_guards(buffer, sizeof buffer, lengths, 3, proof, sizeof proof, out, sizeof out, sizes, 6);
+    EXPECT(is(r.answer, 0, 0, 0) && r.count == 92);
+    for (size_t i = 0; i < 4; i += 1) {
+        EXPECT(sizes[i] == 23 && memcmp(out + 23 * i, proof, 8) == 0 && memcmp(out + 23 * i + 8, "\x33\0\x0C", 3) == 0);
+        EXPECT(memcmp(out + 23 * i + 11, expected[i], 12) == 0);
+    }
+    EXPECT(all(sizes + 4, 2 * sizeof sizes[0], 0xA5) && all(out + 92, 4, 0xA5));
+    /* 65 constraints in three stages. */
+    static uint8_t crowd[3 * 8 + 65 * 7];
+    size_t filled = 0, crowded[] = {8 + 32 * 7, 8 + 32 * 7, 8 + 7};
+    for (size_t i = 0; i < 3; i += 1) {
+        memcpy(crowd + filled, stage, 8);
+        for (size_t place = 8; place < crowded[i]; place += 7) {
+            memcpy(crowd + filled + place, stage + 8, 7);
+        }
+        filled += crowded[i];
+    }
+    r = dulgaverk_guards(crowd, sizeof crowd, crowded, 3, NULL, 0, out, sizeof out, sizes, 6);
+    EXPECT(is(r.answer, 26, 4, 0));
+}
+
 int main(void) {
     reading();
     writing();
@@ -593,5 +828,9 @@ int main(void) {
     testing_lists();
     scheduling();
     turning();
+    printing();
+    short_proofs();
+    shortening();
+    runs();
     return differences < 100 ? differences : 100;
 }
