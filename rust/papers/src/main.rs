@@ -16,7 +16,7 @@ fn main() -> ExitCode {
         [word] if word == "--write" => write(),
         [folder]
             if Path::new(folder).join("a").is_file()
-                && Path::new(folder).join("constants").is_file() =>
+                && Path::new(folder).join("names").is_file() =>
         {
             print!("{}", listing(&Stage::read(Path::new(folder))));
             ExitCode::SUCCESS

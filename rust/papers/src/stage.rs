@@ -132,7 +132,7 @@ pub fn constraints(bundle: &[u8]) -> Vec<Constraint> {
 }
 
 fn constants(folder: &Path) -> Vec<String> {
-    let text = String::from_utf8(file(folder, "constants")).expect("names");
+    let text = String::from_utf8(file(folder, "names")).expect("names");
     text.split_whitespace().map(String::from).collect()
 }
 

@@ -86,6 +86,36 @@ fn examples_come_back() {
     assert_eq!(broken, expected);
 }
 
+/// The papers' stages, and those that show how proofs are written, have their text beside them.
+#[test]
+fn texts_make_their_stages() {
+    let mut made = 0;
+    for set in ["papers", "proofs"] {
+        let root = concat!(env!("CARGO_MANIFEST_DIR"), "/../../examples/");
+        for entry in fs::read_dir(format!("{root}{set}")).expect("a folder") {
+            let folder = entry.expect("an entry").path();
+            if !folder.join("a").is_file() {
+                continue;
+            }
+            let text = fs::read_to_string(folder.join("stage.txt")).expect("a text");
+            let stated = parse::parse("stage.txt", &text).unwrap_or_else(|why| panic!("{why}"));
+            let names = fs::read_to_string(folder.join("names")).expect("names");
+            assert_eq!(stated.registers.join(" "), names.trim_end());
+            for (index, (name, sort)) in
+                [("a", Sort::Bundle), ("b", Sort::Bundle), ("p", Sort::Proof)]
+                    .into_iter()
+                    .enumerate()
+            {
+                let bytes = fs::read(folder.join(name)).expect("a file");
+                let same = fields::write(sort, &stated.files[index]) == bytes;
+                assert!(same, "{}/{name}", folder.display());
+            }
+            made += 1;
+        }
+    }
+    assert_eq!(made, 67);
+}
+
 /// Each line shown, put behind its row as a claim, is accepted by the verified check, which gives the same guard.
 #[test]
 fn lines_are_those_of_the_check() {
