@@ -16,11 +16,11 @@ use Rattle.fields.specs.Fields.{Field, Fields, ends, cut, _▸_, Item, fields, 
 use Rattle.fields.specs.Places.{fieldsAt}
 use Rattle.fields.proofs.HeaderLaid.{First, first-of}
 use Rattle.fields.proofs.Places.{Starts, starts, fields-whole-file}
-use Rattle.bundle.specs.Bundle.{Bundle, atMost, bundles}
+use Rattle.bundle.specs.Bundle.{Bundle, atMost, bundles, bothRead}
 use Rattle.bundle.specs.Layout.{States}
 use Rattle.bundle.specs.Show.{Part, partOf, constraintPart, shownPart, answerOf, showAnswer, handed, showPart}
 use Rattle.bundle.specs.Writable.{fieldSize}
-use Rattle.bundle.proofs.Laid.{Lists, done, next, listed, Laid, bundles-give}
+use Rattle.bundle.proofs.Laid.{Lists, done, next, listed, Laid, both-read-gives, both-read-short}
 use Rattle.bundle_scan.specs.Scan.{constraintStart, IsBundle}
 use Rattle.bundle_scan.specs.declared.Body.{Body}
 use Rattle.bundle_scan.proofs.Bodies.{count-is, laid-out}
@@ -131,18 +131,18 @@ module _ (A B : List ℕ) (i : ℕ) where
 -- ---- each way through the code, up to both bundles
 module _ (A B : List ℕ) (i : ℕ) where
   pub shown-long-A : 8192 < length A → shownPart 2 A B i ≡ refused (answer 1 1 0)
-  unfolding shownPart atMost need _>>_
+  unfolding shownPart bothRead atMost need _>>_ _>>=_
   shown-long-A h = rw (lt-leb (length A) 8192 h)
 
   module _ (la : length A ≤ 8192) where
     pub shown-long-B : 8192 < length B → shownPart 2 A B i ≡ refused (answer 1 2 0)
-    unfolding shownPart atMost need _>>_
+    unfolding shownPart bothRead atMost need _>>_ _>>=_
     shown-long-B h = rw (le-leb (length A) 8192 la, lt-leb (length B) 8192 h)
 
     module _ (lb : length B ≤ 8192) where
       shown-short : shownPart 2 A B i ≡ (bundles 2 A B >>= (λ (p : Bundle × Bundle). found (answer 10 fileA 0) (constraintPart A B (length (p .0 .constraints)) i)))
-      unfolding shownPart atMost need _>>_
-      shown-short = rw (le-leb (length A) 8192 la, le-leb (length B) 8192 lb)
+      unfolding shownPart
+      shown-short = rw (both-read-short 2 A B la lb)
 
       pub shown-refused : {x : Answer} → bundles 2 A B ≡ refused x → shownPart 2 A B i ≡ refused x
       unfolding _>>=_
@@ -154,17 +154,17 @@ module _ (A B : List ℕ) (i : ℕ) where
 
 -- ---- no line beyond 64 is there, so all of these are answered alike
 module _ (A B : List ℕ) (i j : ℕ) (hi : 64 ≤ i) (hj : 64 ≤ j) where
-  none-beyond : (i : ℕ) → 64 ≤ i → {a b : Bundle} → bundles 2 A B ≡ accepted (a, b) → constraintPart A B (length (a .constraints)) i ≡ none
+  none-beyond : (i : ℕ) → 64 ≤ i → {a b : Bundle} → bothRead 2 A B ≡ accepted (a, b) → constraintPart A B (length (a .constraints)) i ≡ none
   unfolding partOf
   none-beyond i h {a} {b} e =
-      let l = bundles-give 2 A B .gives (a, b) e in
+      let l = both-read-gives 2 A B .gives (a, b) e in
       of-B A B i _ (le-ltb i _ (omega (arith, l .laidA .file .few))) ∙ rw (gone (l .laidB) (i - length (a .constraints)) (omega (arith, l .laidA .file .few, l .laidB .file .few)))
 
   pub shown-beyond : shownPart 2 A B i ≡ shownPart 2 A B j
-  unfolding shownPart _>>=_ _>>_
-  shown-beyond = go (bundles 2 A B) refl
+  unfolding shownPart _>>=_
+  shown-beyond = go (bothRead 2 A B) refl
     where
-      go : (r : Result (Bundle × Bundle)) → bundles 2 A B ≡ r → shownPart 2 A B i ≡ shownPart 2 A B j
+      go : (r : Result (Bundle × Bundle)) → bothRead 2 A B ≡ r → shownPart 2 A B i ≡ shownPart 2 A B j
       go (refused x) e = rw e
       go (accepted (a, b)) e = rw (e, none-beyond i hi e, none-beyond j hj e)
 

@@ -10,7 +10,7 @@ use borrow.Author.Tests.{le-leb, lt-leb, eqb-true, eqb-false}
 use lib.Dec.{T, eqb}
 use lib.IntN.{ℤ}
 use lib.ListN.{length}
-use Rattle.forms.specs.Edition.{edition}
+use Rattle.forms.specs.Edition.{edition, newestEdition}
 use Rattle.forms.specs.Forms.{Line, lines}
 use Rattle.answers.specs.declared.Answer.{Answer}
 use Rattle.answers.specs.declared.WriteResult.{WriteResult}
@@ -18,12 +18,13 @@ use Rattle.answers.specs.Answers.{answer, fileA, fileB, Result, refused, accept
 use Rattle.answers.proofs.Results.{binds, bind-refused}
 use Rattle.fields.specs.Header.{headerBytes}
 use Rattle.fields.proofs.Headers.{length-headerBytes, given-some}
-use Rattle.bundle.specs.Bundle.{Bundle, atMost, bundle, bundles}
+use Rattle.bundle.specs.Bundle.{Bundle, atMost, bundle, bundles, bothRead}
+use Rattle.bundle.proofs.Laid.{both-read-short}
 use Rattle.bundle_scan.specs.Scan.{IsBundle, Scans}
 use Rattle.bundle_scan.specs.declared.Body.{Body}
 use Rattle.bundle_scan.specs.declared.Scanned.{Scanned}
 use Rattle.bundle_scan.proofs.Bodies as bodies
-use Rattle.enumeration.specs.Sequence.{bothRead, shortProofs, shortProofsOf}
+use Rattle.enumeration.specs.Sequence.{shortProofs, shortProofsOf}
 use Rattle.enumeration.specs.Next.{nextFile, nextProof}
 use Rattle.enumeration.specs.Numbering.{begins}
 use Rattle.enumeration.specs.Search.{Found, foundFile}
@@ -62,9 +63,8 @@ module _ {A B : List ℕ} where
   nexts-refused e q = record { is = rw (e, q) }
 
   module _ (s : ShortBoth A B) where
-    short-reading : bothRead A B ≡ bundles 2 A B
-    unfolding bothRead atMost need _>>_
-    short-reading = rw (le-leb (length A) 8192 (s .a), le-leb (length B) 8192 (s .b))
+    short-reading : bothRead newestEdition A B ≡ bundles 2 A B
+    short-reading = both-read-short newestEdition A B (s .a) (s .b)
 
     refused-A : {x : Answer} → bundle 2 fileA none A ≡ refused x → shortProofs A B ≡ refused x
     unfolding shortProofs bundles
@@ -75,7 +75,7 @@ module _ {A B : List ℕ} where
     refused-B a e = bind-refused _ (short-reading ∙ binds _ (bodies.states a fileA) ∙ bind-refused _ e)
 
     module _ {first second : Body} {K : ℕ} (w : Both A B first second K) where
-      read-both : bothRead A B ≡ accepted (bundleOf A K first, bundleOf B K second)
+      read-both : bothRead newestEdition A B ≡ accepted (bundleOf A K first, bundleOf B K second)
       unfolding bundles
       read-both = short-reading ∙ binds _ (bodies.states (w .a) fileA) ∙ binds _ (b-is (w .low) (w .b))
 

@@ -15,28 +15,24 @@ use Rattle.answers.specs.declared.Answer.{Answer}
 use Rattle.answers.specs.Answers.{answer, fileA, fileB, fileLent, Result, refused, accepted}
 use Rattle.answers.proofs.Results.{bind-refused, binds, passes, pass, fail}
 use Rattle.fields.specs.Header.{agrees}
-use Rattle.bundle.specs.Bundle.{Bundle}
+use Rattle.bundle.specs.Bundle.{Bundle, bothRead}
 use Rattle.bundle.specs.Layout.{BundleFile}
-use Rattle.bundle.proofs.Laid.{BothLaid, bundles-accept, short-accepted}
+use Rattle.bundle.proofs.Laid.{BothLaid, both-read-gives, both-read-accepts}
 use Rattle.proof.proofs.Agree.{agreed, agrees-refl}
 use Rattle.enumeration.specs.ShortProofs.{proofFile}
 use Rattle.enumeration.specs.Order.{Increasing}
-use Rattle.enumeration.specs.Sequence.{shortProofsOf, bothRead, shortProofs}
+use Rattle.enumeration.specs.Sequence.{shortProofsOf, shortProofs}
 use Rattle.enumeration.specs.Next.{nextFile}
 use Rattle.enumeration.specs.Enumerates.{BothState, Enumerable, Fifth, Follows, Enumerates}
-use Rattle.enumeration.proofs.Listed.{reading-gives, shortProofs-gives, none-left-out, only-these}
+use Rattle.enumeration.proofs.Listed.{shortProofs-gives, none-left-out, only-these}
 use Rattle.enumeration.proofs.Ordered.{each-once}
 use Rattle.enumeration.proofs.Next.{initial-few, increasing, next-turns}
 
 -- ---- what is read, by what the files state
-bundle-short : {file : List ℕ} {n K : ℕ} {cs : List Constraint} → BundleFile newestEdition file n K cs → length file ≤ edition newestEdition .bundleBytes
-bundle-short {n = n} f = omega (arith, f .short, bundleBytes-grows n newestEdition (f .first) (f .last))
-
 module _ {A B : List ℕ} {K : ℕ} {a b : List Constraint} (s : BothState A B K a b) where
-  pub state-read : bothRead A B ≡ accepted (record { edition = s .nA; K = K; constraints = a }, record { edition = s .nB; K = K; constraints = b })
-  unfolding bothRead agrees
-  state-read = passes _ (short-accepted _ fileA A (bundle-short (s .statesA))) ∙ passes _ (short-accepted _ fileB B (bundle-short (s .statesB)))
-      ∙ bundles-accept newestEdition A B _ _ (record { laidA = record { file = s .statesA; agree = tt }; laidB = record { file = s .statesB; agree = agrees-refl K } })
+  pub state-read : bothRead newestEdition A B ≡ accepted (record { edition = s .nA; K = K; constraints = a }, record { edition = s .nB; K = K; constraints = b })
+  unfolding agrees
+  state-read = both-read-accepts newestEdition A B _ _ (record { laidA = record { file = s .statesA; agree = tt }; laidB = record { file = s .statesB; agree = agrees-refl K } })
 
 laid-state : {A B : List ℕ} {a b : Bundle} → BothLaid newestEdition A B (a, b) → BothState A B (a .K) (a .constraints) (b .constraints)
 laid-state {B = B} {a = a} {b = b} l = record {
@@ -64,23 +60,23 @@ enumerates A B K rss e =
 
 -- ---- what is answered, and why
 pub data Answered (A B given : List ℕ) : Result (List ℕ) → Type 0 where
-  unread : (a : Answer) → bothRead A B ≡ refused a → Answered A B given (refused a)
+  unread : (a : Answer) → bothRead newestEdition A B ≡ refused a → Answered A B given (refused a)
   five : Fifth A B → Answered A B given (refused (answer 8 fileLent 0))
   follows : {told : Result (List ℕ)} → Follows A B given told → Answered A B given told
 
 pub answered : (A B given : List ℕ) → Answered A B given (nextFile A B given)
 unfolding nextFile shortProofs
-answered A B given = go (bothRead A B) refl
+answered A B given = go (bothRead newestEdition A B) refl
   where
-    by-count : (a b : Bundle) (t : Bool) → leb (length (a .constraints) + length (b .constraints)) 4 ≡ t → bothRead A B ≡ accepted (a, b) → Answered A B given (nextFile A B given)
+    by-count : (a b : Bundle) (t : Bool) → leb (length (a .constraints) + length (b .constraints)) 4 ≡ t → bothRead newestEdition A B ≡ accepted (a, b) → Answered A B given (nextFile A B given)
     by-count a b true q e =
-        let s = laid-state (reading-gives A B .gives (a, b) e .laid) in
+        let s = laid-state (both-read-gives newestEdition A B .gives (a, b) e) in
         follows (record { K = a .K; enumerable = record { a = a .constraints; b = b .constraints; state = s; four = leb-true _ _ q }; next = next-turns A B given (a .K) _ (binds _ e ∙ pass _ _ q) })
     by-count a b false q e =
-        let s = laid-state (reading-gives A B .gives (a, b) e .laid) in
+        let s = laid-state (both-read-gives newestEdition A B .gives (a, b) e) in
         subst (Answered A B given) (sym (bind-refused _ (binds _ e ∙ fail _ _ q))) (five (record { K = a .K; a = a .constraints; b = b .constraints; state = s; five = leb-false _ _ q }))
 
-    go : (r : Result (Bundle × Bundle)) → bothRead A B ≡ r → Answered A B given (nextFile A B given)
+    go : (r : Result (Bundle × Bundle)) → bothRead newestEdition A B ≡ r → Answered A B given (nextFile A B given)
     go (refused a) e = subst (Answered A B given) (sym (bind-refused _ (bind-refused _ e))) (unread a e)
     go (accepted (a, b)) e = by-count a b (leb (length (a .constraints) + length (b .constraints)) 4) refl e
 

@@ -20,13 +20,13 @@ use Rattle.fields.specs.Fields.{Item, item, items, fields}
 use Rattle.fields.specs.Header.{agrees}
 use Rattle.bundle.specs.Bundle.{Bundle}
 use Rattle.bundle.specs.Layout.{Each, BundleFile}
-use Rattle.bundle.proofs.Laid.{BothLaid, bundles-give, bundles-accept, short-gives}
+use Rattle.bundle.proofs.Laid.{BothLaid, bundles-accept, bundle-short, both-read-gives}
 use Rattle.formula.specs.Formula.{formulaFile}
 use Rattle.proof.specs.Layout.{Enters, Yields, Certifies}
 use Rattle.proof.proofs.Agree.{agreed, agrees-refl}
 use Rattle.proof.proofs.Sizes.{EntryShort}
 use Rattle.enumeration.specs.ShortProofs.{_∈_, here, there, strides, Permitted, NoStrengthen, rowItem, proofFile, ShortProof}
-use Rattle.enumeration.specs.Sequence.{proofsOf, shortProofsOf, bothRead, shortProofs}
+use Rattle.enumeration.specs.Sequence.{proofsOf, shortProofsOf, shortProofs}
 use Rattle.enumeration.proofs.Members.{in-left, in-right, all-in, in-map}
 use Rattle.enumeration.proofs.Bytes.{rows-enter, entered-rows, table-items, table-length}
 use Rattle.enumeration.proofs.Branches.{Good, rows-good, rows-found}
@@ -43,20 +43,10 @@ pub record Listing (A B : List ℕ) (r : ℕ × List (List Row)) : Type 0 where
   pub few : length (a .constraints) + length (b .constraints) ≤ 4
   pub is : r ≡ (a .K, shortProofsOf (lines (a .constraints) (b .constraints)))
 
--- A and B, read
-pub record BothRead (A B : List ℕ) (ab : Bundle × Bundle) : Type 0 where
-  pub shortA : length A ≤ edition newestEdition .bundleBytes
-  pub shortB : length B ≤ edition newestEdition .bundleBytes
-  pub laid : BothLaid newestEdition A B ab
-
-pub reading-gives : (A B : List ℕ) → Gives (bothRead A B) (BothRead A B)
-unfolding bothRead
-reading-gives A B = seq (short-gives _ fileA A) λ sA. seq (short-gives _ fileB B) λ sB. weaken (bundles-give newestEdition A B) λ ab l. record { shortA = sA; shortB = sB; laid = l }
-
 pub shortProofs-gives : (A B : List ℕ) → Gives (shortProofs A B) (Listing A B)
 unfolding shortProofs
-shortProofs-gives A B = bind (reading-gives A B) λ (a, b) l. test _ _ tt λ f.
-    gives-accepted (record { a = a; b = b; shortA = l .shortA; shortB = l .shortB; laid = l .laid; few = leb→le (length (a .constraints) + length (b .constraints)) 4 f; is = refl })
+shortProofs-gives A B = bind (both-read-gives newestEdition A B) λ (a, b) l. test _ _ tt λ f.
+    gives-accepted (record { a = a; b = b; shortA = bundle-short (l .laidA .file); shortB = bundle-short (l .laidB .file); laid = l; few = leb→le (length (a .constraints) + length (b .constraints)) 4 f; is = refl })
 
 -- ---- the rows of all lengths
 module _ (occ : Side → ℕ → Bool) (ls : List Line) (w : Words occ ls) where

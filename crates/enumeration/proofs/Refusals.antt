@@ -13,7 +13,7 @@ use Rattle.answers.specs.declared.Answer.{Answer}
 use Rattle.answers.specs.Answers.{answer, fileA, fileB, fileLent, fileProof, Result, refused, accepted, _>>=_, _>>_, need, fit, written}
 use Rattle.answers.proofs.Results.{never, bind-refused}
 use Rattle.fields.specs.Fields.{Fields, fields}
-use Rattle.bundle.specs.Bundle.{Bundle, atMost, bundles}
+use Rattle.bundle.specs.Bundle.{Bundle, atMost, bundles, bothRead}
 use Rattle.bundle.proofs.Laid.{short-accepted}
 use Rattle.formula.specs.Formula.{formulaFile}
 use Rattle.proof.specs.Check.{checkProof, formulaAtMost, interpolant, checkBy, check}
@@ -21,7 +21,7 @@ use Rattle.proof.specs.Tree.{Tree, Stands, here, past, Outside}
 use Rattle.proof.proofs.Says.{Says, says-accepted, says-need, bind, seq, weaken}
 use Rattle.proof.proofs.Outside.{In, short-in, bundle-in}
 use Rattle.proof.proofs.Tree.{proof-stands}
-use Rattle.enumeration.specs.Sequence.{bothRead, shortProofs}
+use Rattle.enumeration.specs.Sequence.{shortProofs}
 use Rattle.enumeration.specs.Next.{NextIs, nextFile, nextProof}
 use Rattle.enumeration.specs.Next as next
 use Rattle.enumeration.proofs.Enumerates.{Answered, unread, five, follows, answered}
@@ -30,7 +30,7 @@ use Rattle.enumeration.proofs.Enumerates.{Answered, unread, five, follo
 abbrev pub OfBundle : Answer → Type 0
 OfBundle a = (a .file ≡ fileA) ⊎ (a .file ≡ fileB)
 
-pub both-in : (A B : List ℕ) → Says (λ a. OfBundle a × Outside a) (bothRead A B) (λ _. Unit {0})
+pub both-in : (A B : List ℕ) → Says (λ a. OfBundle a × Outside a) (bothRead newestEdition A B) (λ _. Unit {0})
 unfolding bothRead bundles
 both-in A B = seq (of-A (short-in fileA _ A)) (seq (of-B (short-in fileB _ B)) (bind (of-A (bundle-in fileA newestEdition _ A)) λ a _. bind (of-B (bundle-in fileB newestEdition _ B)) λ b _. says-accepted tt))
   where
@@ -88,11 +88,11 @@ module _ (A B proof : List ℕ) (short : length proof ≤ edition newestEdition 
   behind : (ab : Bundle × Bundle) → Result (ℕ × Formula)
   behind (a, b) = checkProof newestEdition a b (fields proof) >>= λ I. formulaAtMost (a .K) I >> accepted (a .K, I)
 
-  read-refused : {a : Answer} → bothRead A B ≡ refused a → interpolant newestEdition A B proof ≡ refused a
+  read-refused : {a : Answer} → bothRead newestEdition A B ≡ refused a → interpolant newestEdition A B proof ≡ refused a
   unfolding bothRead interpolant
   read-refused e = between (atMost (edition newestEdition .bundleBytes) fileA A) (atMost (edition newestEdition .bundleBytes) fileB B) (atMost (edition newestEdition .proofBytes) fileProof proof) (bundles newestEdition A B) _ (short-accepted _ fileProof proof short) e
 
-  read-on : {ab : Bundle × Bundle} → bothRead A B ≡ accepted ab → interpolant newestEdition A B proof ≡ behind ab
+  read-on : {ab : Bundle × Bundle} → bothRead newestEdition A B ≡ accepted ab → interpolant newestEdition A B proof ≡ behind ab
   unfolding bothRead interpolant behind
   read-on e = between-on (atMost (edition newestEdition .bundleBytes) fileA A) (atMost (edition newestEdition .bundleBytes) fileB B) (atMost (edition newestEdition .proofBytes) fileProof proof) (bundles newestEdition A B) _ (short-accepted _ fileProof proof short) e
 
@@ -125,16 +125,16 @@ module _ (A B proof : List ℕ) (short : length proof ≤ edition newestEdition 
       by-room false (inr q) = omega arith
 
   -- A or B is refused where check's answer has its file
-  pub checked-file : (output : List ℕ) → OfBundle (check A B proof output .answer) → (a : Answer) × (bothRead A B ≡ refused a)
+  pub checked-file : (output : List ℕ) → OfBundle (check A B proof output .answer) → (a : Answer) × (bothRead newestEdition A B ≡ refused a)
   unfolding check checkBy
-  checked-file output h = go (bothRead A B) refl
+  checked-file output h = go (bothRead newestEdition A B) refl
     where
-      go : (r : Result (Bundle × Bundle)) → bothRead A B ≡ r → (a : Answer) × (bothRead A B ≡ refused a)
+      go : (r : Result (Bundle × Bundle)) → bothRead newestEdition A B ≡ r → (a : Answer) × (bothRead newestEdition A B ≡ refused a)
       go (refused a) e = (a, e)
       go (accepted ab) e = absurd (check-file (interpolant newestEdition A B proof) output (subst (λ (r : Result (ℕ × Formula)). Says (λ a. ¬ (OfBundle a)) r (λ _. Unit {0})) (sym (read-on e)) (behind-file ab)) h)
 
   -- and then check, with any proof that is not too long, answers and leaves the same as the next proof, whatever table is given
-  pub as-check : (given output : List ℕ) {a : Answer} → bothRead A B ≡ refused a
+  pub as-check : (given output : List ℕ) {a : Answer} → bothRead newestEdition A B ≡ refused a
       → (check A B proof output ≡ record { answer = a; count = 0; output = output }) × (nextProof A B given output ≡ record { answer = a; count = 0; output = output })
   unfolding check checkBy nextProof nextFile shortProofs written
   as-check given output {a} e = (

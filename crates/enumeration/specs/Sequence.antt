@@ -3,12 +3,12 @@ use mathlib.Core.List.{List, [], _∷_, _++_, map}
 use Prim.Native.Nat.{ℕ, zero, suc, _+_}
 use lib.Dec.{leb}
 use lib.ListN.{length}
-use Rattle.forms.specs.Edition.{edition, edition1, newestEdition}
+use Rattle.forms.specs.Edition.{edition1, newestEdition}
 use Rattle.forms.specs.Forms.{Line, lines, Formula}
 use Rattle.calculus.specs.Rules.{_▷_, Inference, Combine, Reduce, Scale, Row, Derive, Strengthen, Split, CloseNumber, CloseStride, Round}
 use Rattle.answers.specs.declared.Answer.{Answer}
-use Rattle.answers.specs.Answers.{answer, root, refusalAt, fileA, fileB, fileLent, Result, refused, accepted, _>>_, _>>=_, need}
-use Rattle.bundle.specs.Bundle.{Bundle, atMost, bundles}
+use Rattle.answers.specs.Answers.{answer, root, refusalAt, fileLent, Result, refused, accepted, _>>_, _>>=_, need}
+use Rattle.bundle.specs.Bundle.{Bundle, bothRead}
 use Rattle.proof.specs.Rows.{derived, fitting, byNumber, byStride}
 use Rattle.enumeration.specs.ShortProofs.{multipliers, signedMultipliers, strides}
 
@@ -76,16 +76,9 @@ proofsOf (suc k) ls = concatMap (λ s. ifAccepted (newLine ls s) (λ l. map (λ 
 unfoldable pub shortProofsOf : List Line → List (List Row)
 shortProofsOf ls = proofsOf 0 ls ++ (proofsOf 1 ls ++ proofsOf 2 ls)
 
--- A and B are read as check reads them, each by its own edition; they may hold t ≠ 0.
-unfoldable pub bothRead : (A B : List ℕ) → Result (Bundle × Bundle)
-bothRead A B = do
-  atMost (edition newestEdition .bundleBytes) fileA A
-  atMost (edition newestEdition .bundleBytes) fileB B
-  bundles newestEdition A B
-
--- Then 8 for a fifth constraint in both together. K, and the rows of each short proof.
+-- A and B are read as check reads them, each by its own edition; they may hold t ≠ 0. Then 8 for a fifth constraint in both together. K, and the rows of each short proof.
 unfoldable pub shortProofs : (A B : List ℕ) → Result (ℕ × List (List Row))
 shortProofs A B = do
-  (a, b) ← bothRead A B
+  (a, b) ← bothRead newestEdition A B
   need (answer 8 fileLent 0) (leb (length (a .constraints) + length (b .constraints)) 4)
   accepted (a .K, shortProofsOf (lines (a .constraints) (b .constraints)))

@@ -29,7 +29,7 @@ use Rattle.bundle.specs.Layout.{Each, nil as nil-each, cons as cons-each, Bundl
 use Rattle.bundle.specs.Read.{BundleRead, kindsOf, numbersOf, unread, store, stored, readBundle}
 use Rattle.bundle.specs.Write.{holdable, writeBundle}
 use Rattle.bundle.specs.Show.{Part, partOf, constraintPart, shownPart, answerOf, showAnswer}
-use Rattle.bundle.proofs.Laid.{BothLaid, bundle-gives, bundles-give, bundles-accept, short-gives, short-accepted}
+use Rattle.bundle.proofs.Laid.{BothLaid, bundle-gives, bundle-short, both-read-gives, both-read-accepts, short-gives, short-accepted}
 use Rattle.bundle.specs.Writable.{InOrder as Ready}
 use Rattle.bundle.proofs.Writable.{encodeBundle-gives, encodeBundle-accepted}
 use Rattle.bundle.proofs.RoundTrips.{bytesWritten, rewritten, writtenAs, written-fits, readAs, read-file, write-then-read, read-then-write}
@@ -284,10 +284,6 @@ each-length (cons-each _ h) = ap suc (each-length h)
 listed-length : {file : List ℕ} {n K : ℕ} {cs : List Constraint} (f : BundleFile newestEdition file n K cs) → length (f .list) ≡ suc (suc (length cs))
 listed-length f = ap length (f .laid .are) ∙ ap (λ (n : ℕ). suc (suc n)) (each-length (f .laid .states))
 
--- no bundle is longer than the longest of any edition
-pub bundle-short : {file : List ℕ} {n K : ℕ} {cs : List Constraint} → BundleFile newestEdition file n K cs → length file ≤ edition newestEdition .bundleBytes
-bundle-short {n = n} f = omega (arith, f .short, bundleBytes-grows n newestEdition (f .first) (f .last))
-
 module _ (A B : List ℕ) (line : ℕ) where
   module _ {nA nB K : ℕ} {a b : List Constraint} (fA : BundleFile newestEdition A nA K a) (fB : BundleFile newestEdition B nB K b) where
     part-there : line < length a + length b → (p : Part) × (constraintPart A B (length a) line ≡ some p)
@@ -314,8 +310,7 @@ module _ (A B : List ℕ) (line : ℕ) where
         let b′ : Bundle = record { edition = nB; K = K; constraints = b } in
         let (p, e) = part-there h in
         ap answerOf
-        (passes _ (short-accepted _ fileA A (bundle-short fA)) ∙ passes _ (short-accepted _ fileB B (bundle-short fB))
-        ∙ binds _ (bundles-accept newestEdition A B a′ b′ (record { laidA = record { file = fA; agree = tt }; laidB = record { file = fB; agree = agrees-refl K } })) ∙ found-some _ e)
+        (binds _ (both-read-accepts newestEdition A B a′ b′ (record { laidA = record { file = fA; agree = tt }; laidB = record { file = fB; agree = agrees-refl K } })) ∙ found-some _ e)
 
   -- the line is there if the part is
   is-there : {nA nB K : ℕ} {a b : List Constraint} → BundleFile newestEdition A nA K a → BundleFile newestEdition B nB K b → {p : Part} → constraintPart A B (length a) line ≡ some p → line < length a + length b
@@ -333,7 +328,7 @@ module _ (A B : List ℕ) (line : ℕ) where
 
   shown-gives : Gives (shownPart newestEdition A B line) (λ _. Showable A B line)
   unfolding shownPart
-  shown-gives = seq (short-gives _ fileA A) λ _. seq (short-gives _ fileB B) λ _. bind (bundles-give newestEdition A B) λ (a, b) l. weaken (finds _ _ tt) λ p e. both-showable a b l e
+  shown-gives = bind (both-read-gives newestEdition A B) λ (a, b) l. weaken (finds _ _ tt) λ p e. both-showable a b l e
 
   showable : showAnswer newestEdition A B line .number ≡ 0 → Showable A B line
   unfolding showAnswer answerOf

@@ -21,12 +21,12 @@ use Rattle.number_bytes.proofs.Signed.{all-weaken}
 use Rattle.fields.specs.declared.FileKind.{FileKind}
 use Rattle.fields.specs.Fields.{_▸_, fields}
 use Rattle.fields.specs.Header.{headerTag, known, agrees, header}
-use Rattle.bundle.specs.Bundle.{Bundle, atMost, bundle, bundles}
+use Rattle.bundle.specs.Bundle.{Bundle, atMost, bundle, bundles, bothRead}
 use Rattle.bundle.specs.Layout.{editionSaid, Says, limitSaid, bundleLimit}
 use Rattle.bundle.specs.Read.{BundleRead, unread, stored, readBundle}
 use Rattle.bundle.specs.Write.{encodeBundle, writeBundle}
 use Rattle.bundle.specs.Show.{answerOf, shownPart, showAnswer}
-use Rattle.bundle.proofs.Laid.{short-gives, short-accepted, bundle-gives, bundle-accepts}
+use Rattle.bundle.proofs.Laid.{short-gives, short-accepted, bundle-gives, bundle-accepts, both-read-short}
 use Rattle.bundle_show.specs.Promises.{AnswersShow}
 use Rattle.bundle_read.specs.declared.ReadResult.{ReadResult}
 use Rattle.bundle_read.specs.Promises.{Reads}
@@ -169,16 +169,16 @@ module _ {file kinds : List ℕ} {numbers : List ℤ} {kinds′ : List ℕ} {num
 -- ---- show
 module _ {A B : List ℕ} {line : ℕ} {r : Answer} (c : AnswersShow A B line r) where
   show-long-A : 8_192 < length A → r ≡ answer 1 fileA 0
-  unfolding showAnswer shownPart answerOf atMost
-  show-long-A h = c .is ∙ ap answerOf (fail _ _ (lt-leb (length A) 8_192 h))
+  unfolding showAnswer shownPart bothRead answerOf atMost
+  show-long-A h = c .is ∙ ap answerOf (bind-refused _ (fail _ _ (lt-leb (length A) 8_192 h)))
 
   show-long-B : length A ≤ 8_192 → 8_192 < length B → r ≡ answer 1 fileB 0
-  unfolding showAnswer shownPart answerOf atMost
-  show-long-B k h = c .is ∙ ap answerOf (needs _ _ _ (le→leb (length A) 8_192 k) ∙ fail _ _ (lt-leb (length B) 8_192 h))
+  unfolding showAnswer shownPart bothRead answerOf atMost
+  show-long-B k h = c .is ∙ ap answerOf (bind-refused _ (needs _ _ _ (le→leb (length A) 8_192 k) ∙ fail _ _ (lt-leb (length B) 8_192 h)))
 
   show-by : ShortBundles A B → {a : Answer} → bundles newestEdition A B ≡ refused a → r ≡ a
   unfolding showAnswer shownPart answerOf
-  show-by s e = c .is ∙ ap answerOf (passes _ (short-accepted 8_192 fileA A (s .a)) ∙ passes _ (short-accepted 8_192 fileB B (s .b)) ∙ bind-refused _ e)
+  show-by s e = c .is ∙ ap answerOf (bind-refused _ (both-read-short newestEdition A B (s .a) (s .b) ∙ e))
 
 -- ---- write
 write-other : {n K : ℕ} {kinds : List ℕ} {numbers : List ℤ} {output left : List ℕ} {r : WriteResult} → Writes n K kinds numbers output left r → Other n → r .answer ≡ answer 5 fileLent 0

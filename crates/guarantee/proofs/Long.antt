@@ -20,7 +20,7 @@ use Rattle.answers.specs.Answers.{answer, refusalAt, fileA, fileB, fileProof, f
 use Rattle.fields.specs.declared.FileKind.{FileKind}
 use Rattle.fields.specs.Fields.{Fields, ends, cut, _▸_, fields}
 use Rattle.fields.specs.Header.{headerField, editionField, constantsField, header, finished}
-use Rattle.bundle.specs.Bundle.{Bundle, atMost, constraints, bundleHeader, bundle, bundles}
+use Rattle.bundle.specs.Bundle.{Bundle, atMost, constraints, bundleHeader, bundle, bundles, bothRead}
 use Rattle.bundle.specs.Layout.{editionSaid, Says}
 use Rattle.bundle.specs.Read.{BundleRead, kindsOf, numbersOf, unread, store, stored, readBundle}
 use Rattle.bundle.specs.Show.{shownPart, answerOf, showAnswer}
@@ -229,8 +229,8 @@ module _ (A B : List ℕ) where
   Shown1 = TooLong A B (Unit {0})
 
   shown-one : (line : ℕ) → Tells (One Shown1) (shownPart newestEdition A B line) (λ _. Unit {0})
-  unfolding shownPart
-  shown-one line = lengths-one Shown1 A B (Unit {0}) (λ _ w. w) λ s. bind (bundles-one Shown1 A B (Unit {0}) (λ _ w. w) s tt) λ x _. weaken (finds _ _ (λ e. absurd (omega arith))) (λ _ q. q) (λ _ _. tt)
+  unfolding shownPart bothRead
+  shown-one line = bind (lengths-one Shown1 A B (Unit {0}) (λ _ w. w) λ s. bundles-one Shown1 A B (Unit {0}) (λ _ w. w) s tt) λ x _. weaken (finds _ _ (λ e. absurd (omega arith))) (λ _ q. q) (λ _ _. tt)
 
   shown-by : {X : Type 0} (r : Result X) → Tells (One Shown1) r (λ _. Unit {0}) → One Shown1 (answerOf r)
   unfolding answerOf

@@ -25,7 +25,7 @@ use Rattle.bundle.specs.Bundle.{Bundle}
 use Rattle.bundle.specs.Read.{BundleRead, kindsOf, numbersOf, unread, store, stored, readBundle}
 use Rattle.bundle.specs.Write.{writeBundle}
 use Rattle.bundle.specs.Show.{Part, shownPart, answerOf, handed, showPart, showAnswer}
-use Rattle.bundle.proofs.Laid.{short-gives, bundle-gives, bundles-give}
+use Rattle.bundle.proofs.Laid.{short-gives, bundle-gives, bundles-give, both-read-gives}
 use Rattle.bundle.proofs.Writable.{encodeBundle-gives}
 use Rattle.bundle_show.specs.Promises.{partBytes, behind, partPlace}
 use Rattle.formula.specs.Formula.{FormulaTag, pair, atom, stride, formulaOf, formulaField, twoParts, formulaWithin, readFormula, formulaFile}
@@ -181,7 +181,7 @@ shown-told (accepted p) h = (told-accepted, λ h. absurd (h refl))
 show-told : (A B : List ℕ) (line : ℕ)
     → ToldByNumber (showAnswer newestEdition A B line) × (¬ (showAnswer newestEdition A B line .number ≡ 0) → showPart newestEdition A B line ≡ record { file = fileA; start = 0; size = 0 })
 unfolding showAnswer showPart shownPart
-show-told A B line = shown-told _ (by-number {P = λ _. Unit {0}} (seq (short-gives _ fileA A) λ _. seq (short-gives _ fileB B) λ _. bind (bundles-give newestEdition A B) λ (a, b) _. weaken (finds _ _ tt) λ _ _. tt))
+show-told A B line = shown-told _ (by-number {P = λ _. Unit {0}} (bind (both-read-gives newestEdition A B) λ (a, b) _. weaken (finds _ _ tt) λ _ _. tt))
 
 -- ---- what is tested
 abbrev pub GivesAny : {X : Type 0} → Result X → Type 0

@@ -24,7 +24,7 @@ use Rattle.bundle.specs.Bundle.{Bundle, atMost, bundles}
 use Rattle.bundle.specs.Read.{BundleRead, kindsOf, numbersOf, unread, store, stored, readBundle}
 use Rattle.bundle.specs.Write.{encodeBundle, writeBundle}
 use Rattle.bundle.specs.Writable.{InOrder}
-use Rattle.bundle.proofs.Laid.{Laid, BothLaid, bundle-gives, bundle-accepts, bundles-give, short-accepted}
+use Rattle.bundle.proofs.Laid.{Laid, BothLaid, bundle-gives, bundle-accepts, bundles-give, bundle-short, short-accepted}
 use Rattle.bundle.proofs.Writable.{encodeBundle-gives, encodeBundle-accepted}
 use Rattle.bundle_read.specs.declared.ReadResult.{ReadResult}
 use Rattle.bundle_read.specs.Promises.{Reads}
@@ -37,7 +37,7 @@ use Rattle.proof.proofs.Says.{Says, says-accepted, bind, seq, test, weaken, eac
 use Rattle.proof.proofs.Agree.{proof-gives, yielded, interpolant-iff}
 use Rattle.guarantee.specs.Acceptance.{bundleFile}
 use Rattle.guarantee.specs.RefusedIff.{Derives, bytesNeeded, ShortOutput, LongFormula, ShortRead, WrongK, ManyKinds, ShortWrite, RefusedIff}
-use Rattle.guarantee.proofs.Acceptance.{acceptance-holds, of-editions, edition-first, edition-last, held-two, held-four, all-held, bundle-short}
+use Rattle.guarantee.proofs.Acceptance.{acceptance-holds, of-editions, edition-first, edition-last, held-two, held-four, all-held}
 use Rattle.guarantee.proofs.Long.{above-1, proof-amidst}
 use Rattle.guarantee.proofs.BundleNumbers.{up-to-20, because, Plain, short-plain, bundle-plain}
 

@@ -9,23 +9,25 @@ use native.Mathlib.Omega.{arith}
 use borrow.Author.Tests.{le-leb, lt-leb, leb-true, leb-false}
 use lib.Dec.{leb}
 use lib.ListN.{length}
+use Rattle.forms.specs.Edition.{newestEdition}
 use Rattle.answers.specs.declared.Answer.{Answer}
 use Rattle.answers.specs.declared.WriteResult.{WriteResult}
 use Rattle.answers.specs.Answers.{answer, acceptance, fileA, fileB, Result, refused, accepted, fit, over, Written, writtenOf, written}
 use Rattle.answers.proofs.Results.{not-0}
 use Rattle.fields.specs.Fields.{fieldBytes, fileOf}
 use Rattle.number_bytes.specs.Numbers.{unsignedBytes}
-use Rattle.bundle.specs.Bundle.{bundles}
+use Rattle.bundle.specs.Bundle.{bundles, bothRead}
+use Rattle.bundle.proofs.Laid.{both-read-gives}
 use Rattle.proof.specs.Promises.{Checks}
 use Rattle.proof.proofs.Says.{Says, says-accepted, bind, seq, weaken}
 use Rattle.enumeration.specs.ShortProofs.{proofFile}
-use Rattle.enumeration.specs.Sequence.{bothRead, shortProofsOf}
+use Rattle.enumeration.specs.Sequence.{shortProofsOf}
 use Rattle.enumeration.specs.Next.{NextIs, nextFile, nextProof}
 use Rattle.enumeration.specs.Next as next
 use Rattle.enumeration.specs.Enumerates.{Enumerable, Fifth, Follows}
 use Rattle.enumeration.specs.Promises.{WritesNext}
 use Rattle.enumeration.proofs.Bytes.{row-enters}
-use Rattle.enumeration.proofs.Listed.{no-strengthen, reading-gives}
+use Rattle.enumeration.proofs.Listed.{no-strengthen}
 use Rattle.enumeration.proofs.Next.{next-turns}
 use Rattle.enumeration.proofs.Enumerates.{Answered, unread, five, follows, answered, enumerable-sequence, enumerates, fifth-refused}
 use Rattle.enumeration.proofs.One.{one}
@@ -59,9 +61,9 @@ module _ (A B given output : List ℕ) where
     by-32 : a .number ≡ 32 → Follows A B given (refused (answer 32 4 0))
     by-33 : a .number ≡ 33 → Follows A B given (refused (answer 33 4 0))
     by-21 : a .number ≡ 21 → NoRoom A B given output
-    of-bundle : OfBundle a → (b : Answer) × (bothRead A B ≡ refused b)
+    of-bundle : OfBundle a → (b : Answer) × (bothRead newestEdition A B ≡ refused b)
 
-  not-lent : (a : Answer) → bothRead A B ≡ refused a → a .file ≡ 4 → ⊥
+  not-lent : (a : Answer) → bothRead newestEdition A B ≡ refused a → a .file ≡ 4 → ⊥
   not-lent a e f = go (both-in A B .refusal a e .0)
     where
       go : OfBundle a → ⊥
@@ -69,14 +71,14 @@ module _ (A B given output : List ℕ) where
       go (inr q) = omega (arith, q, f)
 
   -- A and B are refused by a number up to 20
-  read-few : (a : Answer) → bothRead A B ≡ refused a → a .number ≤ 20
+  read-few : (a : Answer) → bothRead newestEdition A B ≡ refused a → a .number ≤ 20
   unfolding bothRead bundles
   read-few a e = reads .refusal a e
     where
       few : {file : ℕ} {X : Type 0} {P : X → Type 0} {r : Result X} → Says (Plain file) r P → Says (λ a. a .number ≤ 20) r P
       few s = weaken s (λ a q. q .0) (λ _ u. u)
 
-      reads : Says (λ a. a .number ≤ 20) (bothRead A B) (λ _. Unit {0})
+      reads : Says (λ a. a .number ≤ 20) (bothRead newestEdition A B) (λ _. Unit {0})
       reads = seq (few (short-plain _ fileA A)) (seq (few (short-plain _ fileB B)) (bind (few (bundle-plain fileA none A)) λ a _. bind (few (bundle-plain fileB (some (a .K)) B)) λ b _. says-accepted tt))
 
   lent-none : (n place : ℕ) → OfBundle (answer n 4 place) → ⊥
@@ -129,7 +131,7 @@ module _ (A B given output : List ℕ) where
   why-answered : {told : Result (List ℕ)} → Answered A B given told → Why (written told output .answer)
   unfolding written
   why-answered (unread a e) = record {
-    zero = λ q. absurd (not-0 (reading-gives A B .refusal a e) q);
+    zero = λ q. absurd (not-0 (both-read-gives newestEdition A B .refusal a e) q);
     by-8 = λ _ f. absurd (not-lent a e f);
     by-32 = λ q. absurd (omega (arith, read-few a e));
     by-33 = λ q. absurd (omega (arith, read-few a e));
@@ -179,7 +181,7 @@ module _ {A B given output left : List ℕ} {r : WriteResult} (c : WritesNext A 
 
   -- as check
   module _ {proof checked : List ℕ} {q : WriteResult} (k : Checks A B proof output checked q) (short : length proof ≤ 65_536) where
-    both-refused : {a : Answer} → bothRead A B ≡ refused a → r .answer ≡ q .answer
+    both-refused : {a : Answer} → bothRead newestEdition A B ≡ refused a → r .answer ≡ q .answer
     both-refused e = let (p, n) = as-check A B proof short given output e in answer-of (c .is ∙ n) ∙ sym (ap (λ (w : Written). w .answer) (k .is ∙ p))
 
     as-checked : OfBundle (q .answer) → r .answer ≡ q .answer

@@ -22,12 +22,11 @@ use Rattle.fields.proofs.Whole.{whole-front}
 use Rattle.fields.proofs.HeaderLaid.{First, first-of}
 use Rattle.bundle.specs.Layout.{States, BundleFile}
 use Rattle.bundle.specs.Show.{Part, partOf, constraintPart, shownPart, handed, showPart}
-use Rattle.bundle.proofs.Laid.{Lists, done, next, listed, short-accepted, bundles-accept}
+use Rattle.bundle.proofs.Laid.{Lists, done, next, listed, both-read-accepts}
 use Rattle.bundle_show.specs.Promises.{Shows, partBytes, partPlace, behind}
 use Rattle.proof.proofs.Agree.{agrees-refl}
 use Rattle.guarantee.specs.Acceptance.{Showable}
 use Rattle.guarantee.specs.Showing.{WholeField, ShownAs, ShowingPromised}
-use Rattle.guarantee.proofs.Acceptance.{bundle-short}
 
 -- ---- where a field stands in its file
 -- These bytes, which start at a place, have the field f.
@@ -114,8 +113,7 @@ right-of (x ∷ xs) ys (suc i) h = let z : i - length xs ≡ suc i - suc (length
 module _ (A B : List ℕ) (line : ℕ) (s : Showable A B line) where
   shown-is : {p : Part} → constraintPart A B (length (s .a)) line ≡ some p → showPart newestEdition A B line ≡ p
   unfolding showPart shownPart handed agrees
-  shown-is e = ap handed (passes _ (short-accepted _ fileA A (bundle-short (s .statesA))) ∙ passes _ (short-accepted _ fileB B (bundle-short (s .statesB)))
-      ∙ binds _ (bundles-accept newestEdition A B (record { edition = s .nA; K = s .K; constraints = s .a }) (record { edition = s .nB; K = s .K; constraints = s .b })
+  shown-is e = ap handed (binds _ (both-read-accepts newestEdition A B (record { edition = s .nA; K = s .K; constraints = s .a }) (record { edition = s .nB; K = s .K; constraints = s .b })
       (record { laidA = record { file = s .statesA; agree = tt }; laidB = record { file = s .statesB; agree = agrees-refl (s .K) } })) ∙ found-some _ e)
 
   part-A : line < length (s .a) → {f : Field} → nth (line + 2) (fields A) ≡ some f → constraintPart A B (length (s .a)) line ≡ some (record { file = fileA; start = f .at; size = 3 + length (f .contents) })

@@ -16,7 +16,7 @@ use Rattle.answers.specs.Answers.{answer, fileA, fileB, fileProof, Result, refu
 use Rattle.fields.specs.declared.FileKind.{FileKind}
 use Rattle.fields.specs.Fields.{Field, Fields, ends, cut, _▸_, fields}
 use Rattle.fields.specs.Header.{headerField, editionField, constantsField, header, finished}
-use Rattle.bundle.specs.Bundle.{Bundle, atMost, constraints, bundleHeader, bundle, bundles}
+use Rattle.bundle.specs.Bundle.{Bundle, atMost, constraints, bundleHeader, bundle, bundles, bothRead}
 use Rattle.bundle.specs.Read.{kindsOf, numbersOf, unread, store, stored, readBundle}
 use Rattle.bundle.specs.Write.{encodeBundle, writeBundle}
 use Rattle.bundle.specs.Show.{shownPart, answerOf, showAnswer}
@@ -95,8 +95,8 @@ of-block (refused a) s = s .refusal a refl
 of-block (accepted x) s = refl
 
 pub show-outside : (newest : ℕ) (A B : List ℕ) (line : ℕ) → Outside (showAnswer newest A B line)
-unfolding showAnswer shownPart
-show-outside newest A B line = of-block (shownPart newest A B line) (seq (any (short-in fileA _ A)) (seq (any (short-in fileB _ B)) (bind (weaken (bundles-in newest A B) (λ a q. q .1) (λ _ u. u)) λ x _. weaken (finds _ _ refl) (λ a q. q) (λ _ _. tt))))
+unfolding showAnswer shownPart bothRead
+show-outside newest A B line = of-block (shownPart newest A B line) (bind (seq (any (short-in fileA _ A)) (seq (any (short-in fileB _ B)) (weaken (bundles-in newest A B) (λ a q. q .1) (λ _ u. u)))) λ x _. weaken (finds _ _ refl) (λ a q. q) (λ _ _. tt))
 
 of-stored : (kinds : List ℕ) (numbers : List ℤ) (r : Result Bundle) → Says Outside r (λ _. Unit {0}) → Outside (stored kinds numbers r .answer)
 unfolding stored store unread
