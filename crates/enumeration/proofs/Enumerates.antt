@@ -2,18 +2,16 @@
 use mathlib.Core.Path.{_≡_, refl, sym, _∙_, ap, subst}
 use mathlib.Core.Bool.{Bool, true, false}
 use mathlib.Core.List.{List, map}
-use Prim.Native.Nat.{ℕ, _+_, _≤_}
-use native.Mathlib.Omega.{arith}
+use Prim.Native.Nat.{ℕ, _+_}
 use borrow.Author.Tests.{leb-true, leb-false, le-leb, lt-leb}
 use lib.Dec.{leb}
 use lib.ListN.{length}
 use Rattle.forms.specs.Edition.{edition, newestEdition}
 use Rattle.forms.specs.Forms.{Constraint, lines}
-use Rattle.forms.proofs.Editions.{bundleBytes-grows}
 use Rattle.calculus.specs.Rules.{Row}
 use Rattle.answers.specs.declared.Answer.{Answer}
-use Rattle.answers.specs.Answers.{answer, fileA, fileB, fileLent, Result, refused, accepted}
-use Rattle.answers.proofs.Results.{bind-refused, binds, passes, pass, fail}
+use Rattle.answers.specs.Answers.{answer, fileLent, Result, refused, accepted}
+use Rattle.answers.proofs.Results.{bind-refused, binds, pass, fail}
 use Rattle.fields.specs.Header.{agrees}
 use Rattle.bundle.specs.Bundle.{Bundle, bothRead}
 use Rattle.bundle.specs.Layout.{BundleFile}

@@ -10,12 +10,13 @@ use Rattle.forms.specs.Forms.{Line}
 use Rattle.calculus.specs.Rules.{Row}
 use Rattle.answers.specs.Answers.{answer, fileLent, Result, refused, accepted, _>>=_}
 use Rattle.answers.proofs.Results.{binds}
+use Rattle.number_bytes.specs.Same.{sameBytes}
 use Rattle.fields.specs.Fields.{fileOf, fieldBytes}
 use Rattle.fields.specs.Header.{headerBytes}
 use Rattle.fields.proofs.Headers.{length-headerBytes}
 use Rattle.enumeration.specs.ShortProofs.{rowItem, proofFile}
 use Rattle.enumeration.specs.Sequence.{proofsOf, shortProofsOf, shortProofs}
-use Rattle.enumeration.specs.Next.{sameBytes, firstRows, following, nextRows, nextFile}
+use Rattle.enumeration.specs.Next.{firstRows, following, nextRows, nextFile}
 use Rattle.enumeration.specs.Numbering.{begins}
 use Rattle.enumeration.specs.Search.{Found, notAmong, noneLeft, at, firstFound, rowsBytes, nextFound, ifNoneLeft, ifNotAmong, firstOfDepths, nextOfDepths, foundFile}
 use Rattle.enumeration.proofs.Searched.{first-append, next-append, else-not-among, append-assoc, same-behind, same-not}

@@ -15,7 +15,7 @@ use Rattle.calculus.proofs.Sides.{Side}
 use Rattle.calculus.proofs.Vocabulary.{Words}
 use Rattle.calculus.proofs.Interpolation.{sides, initial-words}
 use Rattle.answers.specs.Answers.{fileA, fileB, accepted}
-use Rattle.answers.proofs.Results.{Gives, one-value, gives-accepted, weaken, bind, seq, test}
+use Rattle.answers.proofs.Results.{Gives, one-value, gives-accepted, bind, test}
 use Rattle.fields.specs.Fields.{Item, item, items, fields}
 use Rattle.fields.specs.Header.{agrees}
 use Rattle.bundle.specs.Bundle.{Bundle}

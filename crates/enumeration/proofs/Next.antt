@@ -1,38 +1,27 @@
 -- The proof answered is the least after the given one. Assumes nothing.
-use mathlib.Core.Path.{_≡_, refl, sym, _∙_, ap, ap₂, subst}
+use mathlib.Core.Path.{_≡_, refl, sym, _∙_, ap, subst}
 use mathlib.Core.Logic.{_⊎_, inl, inr}
 use mathlib.Core.Bool.{Bool, true, false}
 use mathlib.Core.List.{List, [], _∷_}
 use Prim.Native.Nat.{ℕ, _≤_}
 use native.Mathlib.Omega.{arith}
-use lib.Dec.{T, eqb, eqb→eq, eqb-refl}
+use lib.Dec.{T}
 use lib.ListN.{length, length-append, length-map}
-use mir.Facts.{and-yes, yes-and}
 use Rattle.forms.specs.Forms.{All, nil, cons, lines, lineA, lineB}
 use Rattle.calculus.specs.Rules.{Row}
 use Rattle.answers.specs.Answers.{answer, fileLent, Result, refused, accepted, _>>=_}
 use Rattle.answers.proofs.Results.{binds, bind-refused}
+use Rattle.number_bytes.specs.Same.{sameBytes}
+use Rattle.number_bytes.proofs.Comparing.{same-is, same-refl}
 use Rattle.enumeration.specs.ShortProofs.{_∈_, here, there, proofFile, ShortProof}
 use Rattle.enumeration.specs.Sequence.{shortProofs}
 use Rattle.enumeration.specs.Order.{Precedes, Increasing}
-use Rattle.enumeration.specs.Next.{sameBytes, firstRows, following, nextRows, nextFile, StandsAt, NextIs}
+use Rattle.enumeration.specs.Next.{firstRows, following, nextRows, nextFile, StandsAt, NextIs}
 use Rattle.enumeration.proofs.Members.{all-in, in-map}
 use Rattle.enumeration.proofs.Listed.{Listing, shortProofs-gives, rows-listed, only-these}
 use Rattle.enumeration.proofs.Ordered.{in-order, not-both, short-count}
 
 -- ---- bytes
-pub same-is : (xs ys : List ℕ) → T (sameBytes xs ys) → xs ≡ ys
-unfolding sameBytes
-same-is [] [] t = refl
-same-is [] (y ∷ ys) t = absurd t
-same-is (x ∷ xs) [] t = absurd t
-same-is (x ∷ xs) (y ∷ ys) t = let (p, q) = and-yes (eqb x y) (sameBytes xs ys) t in ap₂ (λ (x : ℕ) (xs : List ℕ). x ∷ xs) (eqb→eq x y p) (same-is xs ys q)
-
-pub same-refl : (xs : List ℕ) → T (sameBytes xs xs)
-unfolding sameBytes
-same-refl [] = tt
-same-refl (x ∷ xs) = yes-and (eqb x x) (sameBytes xs xs) (eqb-refl x) (same-refl xs)
-
 not-same : (xs ys : List ℕ) → sameBytes xs ys ≡ false → ¬ (ys ≡ xs)
 not-same xs ys e d = subst T (subst (λ (ys : List ℕ). sameBytes xs ys ≡ false) d e) (same-refl xs)
 

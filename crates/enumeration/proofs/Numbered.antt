@@ -10,12 +10,12 @@ use lib.ListN.{length, drop}
 use mir.Facts.{and-yes}
 use Rattle.calculus.specs.Rules.{Derive}
 use Rattle.number_bytes.specs.Numbers.{unsignedBytes, residue, signedBytes}
+use Rattle.number_bytes.specs.Same.{sameBytes}
+use Rattle.number_bytes.proofs.Comparing.{same-is}
 use Rattle.fields.specs.Fields.{fieldBytes}
 use Rattle.enumeration.specs.ShortProofs.{rowItem}
 use Rattle.enumeration.specs.Sequence.{concatMap, upFrom, combines, reduces, scales, inferences, numberCloses, strideCloses, closeRows}
-use Rattle.enumeration.specs.Next.{sameBytes}
 use Rattle.enumeration.specs.Numbering.{inferenceCount, closeCount, inferenceAt, closeAt, rowBytes, inferenceBytes, closeBytes, inferenceGuess, closeGuess, begins}
-use Rattle.enumeration.proofs.Next.{same-is}
 
 -- ---- a test of all numbers below c
 unfoldable upTo : (ℕ → Bool) → ℕ → Bool

@@ -10,14 +10,16 @@ use Rattle.forms.specs.Forms.{All, nil, cons}
 use Rattle.calculus.specs.Rules.{Row}
 use Rattle.answers.specs.Answers.{Result, accepted}
 use Rattle.answers.proofs.Results.{binds}
+use Rattle.number_bytes.specs.Same.{sameBytes}
+use Rattle.number_bytes.proofs.Comparing.{same-is, same-refl}
 use Rattle.enumeration.specs.ShortProofs.{_∈_, here, there, proofFile, ShortProof}
 use Rattle.enumeration.specs.Sequence.{shortProofs}
 use Rattle.enumeration.specs.Order.{Precedes, Increasing}
-use Rattle.enumeration.specs.Next.{sameBytes, firstRows, following, nextRows, nextFile}
+use Rattle.enumeration.specs.Next.{firstRows, following, nextRows, nextFile}
 use Rattle.enumeration.proofs.Members.{all-in, in-right}
 use Rattle.enumeration.proofs.Listed.{shortProofs-gives, rows-listed}
 use Rattle.enumeration.proofs.Ordered.{same-count, earlier-other}
-use Rattle.enumeration.proofs.Next.{same-is, same-refl, increasing, none-empty}
+use Rattle.enumeration.proofs.Next.{increasing, none-empty}
 
 -- ---- the files that are reached from the header alone by repeating the call.
 pub data Reachable (A B : List ℕ) (K : ℕ) : List ℕ → Type 0 where

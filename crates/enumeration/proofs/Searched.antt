@@ -11,14 +11,14 @@ use Rattle.forms.specs.Forms.{All, nil, cons, Line, Formula}
 use Rattle.calculus.specs.Rules.{_▷_, Row, Derive}
 use Rattle.answers.specs.declared.Answer.{Answer}
 use Rattle.answers.specs.Answers.{refused, accepted}
+use Rattle.number_bytes.specs.Same.{sameBytes}
+use Rattle.number_bytes.proofs.Comparing.{same-is}
 use Rattle.fields.specs.Fields.{fileOf}
 use Rattle.enumeration.specs.Sequence.{concatMap, upFrom, newLine, closeFormula, ifAccepted, proofsOf}
-use Rattle.enumeration.specs.Next.{sameBytes}
 use Rattle.enumeration.specs.Numbering.{inferenceCount, closeCount, inferenceAt, closeAt, rowBytes, inferenceBytes, closeBytes, closeGuess, begins}
 use Rattle.enumeration.specs.Search.{Found, notAmong, noneLeft, at, firstFound, rowsBytes, nextFound, ifNoneLeft, ifNotAmong, withRow, rowCount, proofsBeginning, proofsFrom}
 use Rattle.enumeration.proofs.Members.{all-both}
 use Rattle.enumeration.proofs.Branches.{ifAccepted-all}
-use Rattle.enumeration.proofs.Next.{same-is}
 use Rattle.enumeration.proofs.Numbered.{inferences-numbered, closes-numbered, inference-bytes, close-bytes, inference-guessed, close-guessed}
 
 -- ---- one list behind another

@@ -6,13 +6,14 @@ use Rattle.forms.specs.Forms.{All, nil, cons, coeff, sum, value, sums, _⊞_, _
 use Rattle.calculus.specs.Rules.{inRange}
 use Rattle.answers.specs.Answers.{_>>=_, _>>_, need, found, over, fit, written}
 use Rattle.number_bytes.specs.Numbers.{unsigned, complement, signed, unsignedBytes, residue, signedBytes, signeds, flat, formFrom}
+use Rattle.number_bytes.specs.Same.{sameBytes}
 use Rattle.fields.specs.Fields.{front, note, unlessNote, fieldsFrom, fields, fieldBytes, fileOf}
 use Rattle.fields.specs.Header.{headerTag, known, agrees, headerField, editionField, constantsField}
 use Rattle.bundle.specs.Bundle.{kindTagged, atMost, formSmall, constraints, bundleHeader, bundle, bundles, bothRead}
 use Rattle.proof.specs.Rows.{is, plainKind, fails, lineAt, derived, fitting, byNumber, byStride}
 use Rattle.enumeration.specs.ShortProofs.{rowItem, proofFile}
 use Rattle.enumeration.specs.Sequence.{concatMap, upFrom, combines, reduces, scales, inferences, numberCloses, strideCloses, closeRows, newLine, closeFormula, ifAccepted, proofsOf, shortProofsOf, shortProofs}
-use Rattle.enumeration.specs.Next.{sameBytes, firstRows, following, nextRows, nextFile, nextProof}
+use Rattle.enumeration.specs.Next.{firstRows, following, nextRows, nextFile, nextProof}
 use Rattle.enumeration.specs.Tables.{cases}
 
 pub cases-hold : All (λ c. nextProof (c .A) (c .B) (c .given) (c .output) ≡ c .leaves) cases

@@ -1,21 +1,15 @@
 -- The short proof after a given one. Document 02, point 14. Assumes nothing.
 use mathlib.Core.Path.{_≡_}
 use mathlib.Core.Logic.{_⊎_}
-use mathlib.Core.Bool.{Bool, true, false, _&&_}
+use mathlib.Core.Bool.{true, false}
 use mathlib.Core.List.{List, [], _∷_}
 use Prim.Native.Nat.{ℕ}
-use lib.Dec.{eqb}
 use Rattle.calculus.specs.Rules.{Row}
 use Rattle.answers.specs.Answers.{answer, fileLent, Result, refused, accepted, _>>=_, Written, written}
+use Rattle.number_bytes.specs.Same.{sameBytes}
 use Rattle.enumeration.specs.ShortProofs.{proofFile, ShortProof}
 use Rattle.enumeration.specs.Sequence.{shortProofs}
 use Rattle.enumeration.specs.Order.{Precedes}
-
-unfoldable pub sameBytes : List ℕ → List ℕ → Bool
-sameBytes [] [] = true
-sameBytes [] (y ∷ ys) = false
-sameBytes (x ∷ xs) [] = false
-sameBytes (x ∷ xs) (y ∷ ys) = eqb x y && sameBytes xs ys
 
 -- 33, after the last or if there is none.
 unfoldable pub firstRows : List (List Row) → Result (List Row)

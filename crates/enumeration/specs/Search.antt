@@ -6,10 +6,10 @@ use lib.ListN.{length}
 use Rattle.forms.specs.Forms.{Line}
 use Rattle.calculus.specs.Rules.{_▷_, Row, Derive}
 use Rattle.answers.specs.Answers.{answer, fileLent, Result, refused, accepted}
+use Rattle.number_bytes.specs.Same.{sameBytes}
 use Rattle.fields.specs.Fields.{fileOf}
 use Rattle.enumeration.specs.ShortProofs.{rowItem, proofFile}
 use Rattle.enumeration.specs.Sequence.{concatMap, upFrom, newLine, closeFormula, ifAccepted, proofsOf}
-use Rattle.enumeration.specs.Next.{sameBytes}
 use Rattle.enumeration.specs.Numbering.{inferenceCount, closeCount, inferenceAt, closeAt}
 
 -- What is found: the table is none of them, none is left, or these rows.

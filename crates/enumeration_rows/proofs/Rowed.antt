@@ -1,19 +1,18 @@
 -- The bytes of the rows, as they are stored, compared and told apart. Assumes nothing.
-use mathlib.Core.Path.{_≡_, refl, sym, _∙_, ap, ap₂, subst}
+use mathlib.Core.Path.{_≡_, refl, sym, _∙_, ap, subst}
 use mathlib.Core.Bool.{Bool, true, false, _&&_}
 use mathlib.Core.List.{List, [], _∷_}
-use Prim.Native.Nat.{ℕ, suc, _+_, _-_, _≤_, _<_}
+use Prim.Native.Nat.{ℕ, _+_, _-_, _≤_, _<_}
 use native.Mathlib.Omega.{arith}
 use lib.Dec.{T, eqb}
-use lib.ListN.{length, getD, take, drop, length-drop, length-take}
-use lib.Seq.{sets, drop-cons, take-at, getD-take}
-use borrow.Author.Tests.{eq-eqb, ne-eqb}
+use lib.ListN.{length, take, drop, length-drop, length-take}
+use lib.Seq.{sets, take-at}
 use mir.Facts.{and-yes}
 use Rattle.answers.specs.Answers.{over}
 use Rattle.answers.proofs.Over.{sets-over}
-use Rattle.enumeration.specs.Next.{sameBytes}
+use Rattle.number_bytes.specs.Same.{sameBytes}
+use Rattle.number_bytes.proofs.Comparing.{same-is}
 use Rattle.enumeration.specs.Numbering.{inferenceCount, closeCount, inferenceBytes, closeBytes, inferenceGuess, closeGuess, begins}
-use Rattle.enumeration.proofs.Next.{same-is}
 use Rattle.enumeration.proofs.Numbered.{inference-guessed, close-guessed}
 use Rattle.enumeration_rows.specs.Recognised.{InferenceFound, CloseFound}
 
@@ -25,48 +24,27 @@ no-both : {b : Bool} → b ≡ false → T b → ⊥
 no-both e t = absurd (subst T e t)
 
 -- ---- comparing
-none : (xs s : List ℕ) → length xs ≡ 0 → begins xs s ≡ true
-unfolding begins
-none [] s h = refl
-none (x ∷ xs) s h = absurd (omega arith)
-
 pub begins-longer : (xs s : List ℕ) → T (begins xs s) → length xs ≤ length s
 unfolding begins
 begins-longer [] s t = omega arith
 begins-longer (x ∷ xs) [] t = absurd t
 begins-longer (x ∷ xs) (y ∷ s) t = let (e, b) = and-yes (eqb x y) (begins xs s) t in omega (arith, begins-longer xs s b)
 
--- What the loop of stands knows: what is left to compare is the whole.
-pub record Compared (part s : List ℕ) (x : ℕ) (rest : List ℕ) : Type 0 where
-  pub same : begins part s ≡ begins (drop x part) rest
+-- Bytes begin others where they are the same as the front of these.
+begins-front : (xs s : List ℕ) → length xs ≤ length s → sameBytes xs (take (length xs) s) ≡ begins xs s
+unfolding begins sameBytes
+begins-front [] s h = refl
+begins-front (x ∷ xs) [] h = absurd (omega arith)
+begins-front (x ∷ xs) (y ∷ s) h = ap (λ (b : Bool). eqb x y && b) (begins-front xs s (omega arith))
 
 module _ (s part : List ℕ) (at n : ℕ) where
-  pub compared-start : Compared (take n part) (drop at s) 0 (drop (at + 0) s)
-  compared-start = let e : at + 0 ≡ at = omega arith in record { same = rw e }
+  pub stands-same : n ≤ length s - at → n ≤ length part → {r : Bool} → r ≡ sameBytes (take n part) (take n (drop at s)) → r ≡ begins (take n part) (drop at s)
+  stands-same room long e =
+      let l : length (take n part) ≡ n = omega (arith, length-take n part) in
+      e ∙ ap (λ (m : ℕ). sameBytes (take n part) (take m (drop at s))) (sym l) ∙ begins-front (take n part) (drop at s) (omega (arith, l, length-drop at s))
 
-  module _ {x : ℕ} (c : Compared (take n part) (drop at s) x (drop (at + x) s)) (room : n ≤ length s - at) (long : n ≤ length part) where
-    front : x < n → begins (drop x (take n part)) (drop (at + x) s) ≡ (eqb (getD (take n part) x 0) (getD s (at + x) 0) && begins (drop (suc x) (take n part)) (drop (suc (at + x)) s))
-    unfolding begins
-    front h = rw (drop-cons (take n part) x 0 (rw length-take (omega arith)), drop-cons s (at + x) 0 (omega arith))
-
-    pub compared-differs : x < n → ¬ (getD s (at + x) 0 ≡ getD part x 0) → false ≡ begins (take n part) (drop at s)
-    compared-differs h d = sym (c .same ∙ front h ∙ ap (λ (b : Bool). b && begins (drop (suc x) (take n part)) (drop (suc (at + x)) s)) (ne-eqb (getD (take n part) x 0) (getD s (at + x) 0) (λ e. d (sym e ∙ getD-take n part x 0 h))))
-
-    pub compared-next : x < n → getD s (at + x) 0 ≡ getD part x 0 → Compared (take n part) (drop at s) (x + 1) (drop (at + (x + 1)) s)
-    compared-next h d =
-        let i : suc x ≡ x + 1 = omega arith in
-        let j : suc (at + x) ≡ at + (x + 1) = omega arith in
-        record {
-          same = c .same ∙ front h
-              ∙ ap (λ (b : Bool). b && begins (drop (suc x) (take n part)) (drop (suc (at + x)) s)) (eq-eqb (getD (take n part) x 0) (getD s (at + x) 0) (getD-take n part x 0 h ∙ sym d))
-              ∙ ap₂ (λ (i j : ℕ). begins (drop i (take n part)) (drop j s)) i j;
-        }
-
-    pub compared-all : n ≤ x → true ≡ begins (take n part) (drop at s)
-    compared-all h = sym (c .same ∙ none (drop x (take n part)) (drop (at + x) s) (rw (length-drop, length-take) (omega arith)))
-
-  pub compared-short : n ≤ length part → length s - at < n → false ≡ begins (take n part) (drop at s)
-  compared-short long h = sym (false-is (begins (take n part) (drop at s)) (λ t. let q = begins-longer (take n part) (drop at s) t in absurd (omega (arith, length-take n part, length-drop at s))))
+  pub stands-short : n ≤ length part → length s - at < n → false ≡ begins (take n part) (drop at s)
+  stands-short long h = sym (false-is (begins (take n part) (drop at s)) (λ t. let q = begins-longer (take n part) (drop at s) t in absurd (omega (arith, length-take n part, length-drop at s))))
 
 -- ---- which inference stands there
 module _ {n : ℕ} {s : List ℕ} {count : ℕ} (few : n ≤ 5) (e : count ≡ inferenceCount n) where

@@ -3,8 +3,8 @@ use mathlib.Core.Path.{_≡_}
 use mathlib.Core.Bool.{true, false}
 use mathlib.Core.List.{List}
 use Prim.Native.Nat.{ℕ, _≤_, _<_}
+use Rattle.number_bytes.specs.Same.{sameBytes}
 use Rattle.enumeration.specs.Numbering.{inferenceCount, closeCount, inferenceBytes, closeBytes, begins}
-use Rattle.enumeration.specs.Next.{sameBytes}
 
 -- ---- the row that stands in a table at a place, whose bytes from there on are s
 pub record InferenceFound (n : ℕ) (s : List ℕ) (r : ℕ) : Type 0 where

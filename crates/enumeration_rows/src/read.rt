@@ -5,11 +5,12 @@ use crate::write::inference_bytes;
 use crate::write::inference_count;
 use crate::write::put_close;
 use crate::write::put_inference;
+use number_bytes::compare::same_bytes;
 ghost use mathlib.Core.Path.{_≡_};
 ghost use Prim.Native.Nat.{_+_, _*_, _%_, _≤_, _<_};
 ghost use lib.ListN.{length, getD, drop, take};
 ghost use Rattle.enumeration.specs.Numbering.{inferenceCount, closeCount, factorNumber, inferenceBytes, closeBytes, inferenceGuess, closeGuess, begins};
-ghost use Rattle.enumeration.specs.Next.{sameBytes};
+ghost use Rattle.number_bytes.specs.Same.{sameBytes};
 ghost use Rattle.enumeration_rows.specs.Recognised.{InferenceFound, CloseFound};
 
 // The byte at a place, 0 behind the end.
@@ -30,14 +31,7 @@ pub fn stands(s: &[u8], at: usize, part: &[u8], n: usize) -> bool
     if s.len() - at < n {
         return false;
     }
-    let mut x = 0;
-    while x < n {
-        if s[at + x] != part[x] {
-            return false;
-        }
-        x += 1;
-    }
-    true
+    same_bytes(part, 0, s, at, n)
 }
 
 // ---- the number of a row, by its bytes

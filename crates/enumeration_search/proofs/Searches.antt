@@ -13,8 +13,8 @@ use Rattle.forms.specs.Forms.{Line, Formula}
 use Rattle.calculus.specs.Rules.{_▷_, Derive}
 use Rattle.answers.specs.declared.Answer.{Answer}
 use Rattle.answers.specs.Answers.{refused, accepted}
+use Rattle.number_bytes.specs.Same.{sameBytes}
 use Rattle.enumeration.specs.Sequence.{newLine, closeFormula, proofsOf}
-use Rattle.enumeration.specs.Next.{sameBytes}
 use Rattle.enumeration.specs.Numbering.{inferenceCount, closeCount, inferenceAt, closeAt, inferenceBytes, closeBytes, begins}
 use Rattle.enumeration.specs.Search as search
 use Rattle.enumeration.specs.Search.{Found, firstFound, nextFound, ifNoneLeft, withRow, rowCount, proofsBeginning, proofsFrom}

@@ -14,11 +14,10 @@ use lib.ListN.{length}
 use lib.Signed.{mag}
 use Rattle.forms.specs.Edition.{edition, edition1, newestEdition}
 use Rattle.forms.specs.Forms.{All, nil, cons, Constraint, Formula, small}
-use Rattle.forms.proofs.Editions.{bundleBytes-grows}
 use Rattle.answers.specs.declared.Answer.{Answer}
 use Rattle.answers.specs.declared.WriteResult.{WriteResult}
 use Rattle.answers.specs.Answers.{answer, acceptance, fileA, fileB, fileLent, Result, refused, accepted, _>>=_, _>>_, fit, Written, written}
-use Rattle.answers.proofs.Results.{Gives, not-0, weaken, bind, seq, finds, binds, passes, found-some}
+use Rattle.answers.proofs.Results.{Gives, not-0, weaken, bind, seq, finds, binds, found-some}
 use Rattle.number_bytes.specs.Numbers.{Bytes, unsignedBytes}
 use Rattle.number_bytes.proofs.Signed.{all-weaken}
 use Rattle.fields.specs.Fields.{Field, Fields, ends, cut, _▸_, fields, nth, Item, item, items, fieldBytes, fileOf}
@@ -29,7 +28,7 @@ use Rattle.bundle.specs.Layout.{Each, nil as nil-each, cons as cons-each, Bundl
 use Rattle.bundle.specs.Read.{BundleRead, kindsOf, numbersOf, unread, store, stored, readBundle}
 use Rattle.bundle.specs.Write.{holdable, writeBundle}
 use Rattle.bundle.specs.Show.{Part, partOf, constraintPart, shownPart, answerOf, showAnswer}
-use Rattle.bundle.proofs.Laid.{BothLaid, bundle-gives, bundle-short, both-read-gives, both-read-accepts, short-gives, short-accepted}
+use Rattle.bundle.proofs.Laid.{BothLaid, bundle-gives, both-read-gives, both-read-accepts, short-gives}
 use Rattle.bundle.specs.Writable.{InOrder as Ready}
 use Rattle.bundle.proofs.Writable.{encodeBundle-gives, encodeBundle-accepted}
 use Rattle.bundle.proofs.RoundTrips.{bytesWritten, rewritten, writtenAs, written-fits, readAs, read-file, write-then-read, read-then-write}

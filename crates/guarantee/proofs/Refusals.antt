@@ -16,8 +16,9 @@ use Rattle.forms.specs.Forms.{Formula}
 use Rattle.calculus.specs.Rules.{Row}
 use Rattle.answers.specs.declared.Answer.{Answer}
 use Rattle.answers.specs.declared.WriteResult.{WriteResult}
-use Rattle.answers.specs.Answers.{answer, acceptance, fileLent, fileA, fileB, fileProof, Result, refused, accepted, _>>=_, Written, over, fit, written}
+use Rattle.answers.specs.Answers.{answer, acceptance, fileLent, fileA, fileProof, Result, refused, accepted, _>>=_, Written, over, fit, written}
 use Rattle.answers.proofs.Results.{Gives, never, not-0, not-22, gives-refused, gives-accepted, weaken, bind, seq, test, finds, each-gives}
+use Rattle.number_bytes.specs.Same.{sameBytes}
 use Rattle.fields.specs.declared.FileKind.{FileKind}
 use Rattle.fields.specs.Fields.{Field, Fields, ends, cut, _▸_, fields}
 use Rattle.fields.proofs.HeaderLaid.{header-gives, finished-gives}
@@ -25,7 +26,7 @@ use Rattle.bundle.specs.Bundle.{Bundle}
 use Rattle.bundle.specs.Read.{BundleRead, kindsOf, numbersOf, unread, store, stored, readBundle}
 use Rattle.bundle.specs.Write.{writeBundle}
 use Rattle.bundle.specs.Show.{Part, shownPart, answerOf, handed, showPart, showAnswer}
-use Rattle.bundle.proofs.Laid.{short-gives, bundle-gives, bundles-give, both-read-gives}
+use Rattle.bundle.proofs.Laid.{short-gives, bundle-gives, both-read-gives}
 use Rattle.bundle.proofs.Writable.{encodeBundle-gives}
 use Rattle.bundle_show.specs.Promises.{partBytes, behind, partPlace}
 use Rattle.formula.specs.Formula.{FormulaTag, pair, atom, stride, formulaOf, formulaField, twoParts, formulaWithin, readFormula, formulaFile}
@@ -37,7 +38,7 @@ use Rattle.proof.specs.Check.{interpolant, checkBy, check}
 use Rattle.proof.proofs.Agree.{never-0, never-22}
 use Rattle.proof.specs.Promises.{Checks}
 use Rattle.enumeration.specs.ShortProofs.{proofFile}
-use Rattle.enumeration.specs.Next.{sameBytes, firstRows, following, nextRows, nextFile, nextProof}
+use Rattle.enumeration.specs.Next.{firstRows, following, nextRows, nextFile, nextProof}
 use Rattle.enumeration.proofs.Listed.{shortProofs-gives}
 use Rattle.conversion.specs.Turning.{turnBundle, turnProof}
 use Rattle.conversion.proofs.Bundles.{bundle-turned-gives}

@@ -13,7 +13,7 @@ use lib.Seq.{take-at, drop-at}
 use Rattle.forms.specs.Edition.{edition, newestEdition}
 use Rattle.forms.specs.Forms.{Constraint}
 use Rattle.answers.specs.Answers.{fileA, fileB}
-use Rattle.answers.proofs.Results.{binds, passes, found-some}
+use Rattle.answers.proofs.Results.{binds, found-some}
 use Rattle.number_bytes.specs.Numbers.{Bytes}
 use Rattle.fields.specs.Fields.{Field, Front, whole, broken, nothing, front, Fields, note, unlessNote, fieldsFrom, fields, nth, Item, item, fieldBytes}
 use Rattle.fields.specs.Header.{agrees}

@@ -1,4 +1,5 @@
--- Laws of numbers as bytes.
+-- Laws of numbers as bytes, and of bytes compared.
+pub mod Comparing
 pub mod Digits
 pub mod Signed
 pub mod Stores

@@ -7,6 +7,7 @@ use Rattle.forms.specs.Forms.{All, nil, cons, coeff, sum, value, sums, _⊞_, _
 use Rattle.calculus.specs.Rules.{inRange}
 use Rattle.answers.specs.Answers.{rowTold, _>>=_, _>>_, need, found, over}
 use Rattle.number_bytes.specs.Numbers.{unsigned, complement, signed, unsignedBytes, residue, signedBytes, signeds, signedsBytes, flat, formFrom, formBytes}
+use Rattle.number_bytes.specs.Same.{sameBytes}
 use Rattle.fields.specs.Fields.{front, note, unlessNote, fieldsFrom, fields, fieldBytes}
 use Rattle.fields.specs.Header.{headerTag, known, agrees, headerField, editionField, constantsField, header, finished, headerBytes}
 use Rattle.bundle.specs.Bundle.{kindTagged, atMost, formSmall, constraints, bundleHeader, bundle}
@@ -14,7 +15,7 @@ use Rattle.formula.specs.Formula.{encode, formulaFile}
 use Rattle.proof.specs.Entries.{entryTagged, inPlace, lineNumber, multiplier, sizeOf, entryFrom, entry}
 use Rattle.proof.specs.Rows.{is, plainKind, owner, fails, equals, sameForm, lineAt, derived, fitting, undivided, inequality, roundable, disequality, byNumber, byStride, states}
 use Rattle.proof.specs.Check.{checkRounded, checkSplit, checkRow, checkEntry, checkEntries, checkBranch, checkProof}
-use Rattle.run.specs.Uniform.{withNumber, sameBytes, sameItems, walkBranches, firstAndThird, allAlike, walkOpened, walkClosed, walkRow, walkEntry, walkEntries, walkBranch, uniform}
+use Rattle.run.specs.Uniform.{withNumber, sameItems, walkBranches, firstAndThird, allAlike, walkOpened, walkClosed, walkRow, walkEntry, walkEntries, walkBranch, uniform}
 use Rattle.run.specs.Run.{parted, total, parts, stagesShort, readStages, constantsOf, runOf, claimRefused, checkCut, both, checkCuts, checkRun, guardFiles, unwritten, fitGuards, writtenGuards, guardsBy, guards}
 use Rattle.run.specs.Tables.{table}
 

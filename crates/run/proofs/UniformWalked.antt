@@ -20,19 +20,16 @@ use Rattle.bundle.specs.Layout.{Each, nil as nil-each, cons as cons-each}
 use Rattle.bundle.proofs.Laid.{Lists, next}
 use Rattle.proof.proofs.Entered.{row-accepted}
 use Rattle.chains.specs.Runs.{Alike, Uniform, UniformRounded, joined}
-use Rattle.run.specs.Uniform.{withNumber, sameBytes, sameItems, Walked, Branches, Walker, walkBranches, firstAndThird, allAlike, walkOpened, walkClosed, walkRow, walkEntry, walkEntries, walkBranch}
+use Rattle.number_bytes.specs.Same.{sameBytes}
+use Rattle.number_bytes.proofs.Comparing.{same-refl}
+use Rattle.run.specs.Uniform.{withNumber, sameItems, Walked, Branches, Walker, walkBranches, firstAndThird, allAlike, walkOpened, walkClosed, walkRow, walkEntry, walkEntries, walkBranch}
 use Rattle.run.proofs.OneField.{IsRow, EntersBytes, one-list}
 
 -- ---- the same fields are told to be the same
-bytes-refl : (xs : List ℕ) → T (sameBytes xs xs)
-unfolding sameBytes
-bytes-refl [] = tt
-bytes-refl (x ∷ xs) = yes-and (eqb x x) (sameBytes xs xs) (eqb-refl x) (bytes-refl xs)
-
 items-refl : (is : List Item) → T (sameItems is is)
 unfolding sameItems
 items-refl [] = tt
-items-refl (i ∷ is) = yes-and (eqb (i .tag) (i .tag) && sameBytes (i .contents) (i .contents)) (sameItems is is) (yes-and (eqb (i .tag) (i .tag)) (sameBytes (i .contents) (i .contents)) (eqb-refl (i .tag)) (bytes-refl (i .contents))) (items-refl is)
+items-refl (i ∷ is) = yes-and (eqb (i .tag) (i .tag) && sameBytes (i .contents) (i .contents)) (sameItems is is) (yes-and (eqb (i .tag) (i .tag)) (sameBytes (i .contents) (i .contents)) (eqb-refl (i .tag)) (same-refl (i .contents))) (items-refl is)
 
 -- ---- a uniform proof has rows only
 module _ {e : Edition} {inB : ℕ → Bool} where

@@ -22,16 +22,11 @@ use Rattle.proof.specs.Entries.{entryFrom, entry}
 use Rattle.proof.specs.Layout.{Enters}
 use Rattle.proof.proofs.Entered.{row-accepted, claim-accepted}
 use Rattle.chains.specs.Runs.{Alike, Uniform, UniformRounded, joined}
-use Rattle.run.specs.Uniform.{withNumber, sameBytes, sameItems, Walked, Branches, Walker, walkBranches, firstAndThird, allAlike, walkOpened, walkClosed, walkRow, walkEntry, walkEntries, walkBranch}
+use Rattle.number_bytes.specs.Same.{sameBytes}
+use Rattle.number_bytes.proofs.Comparing.{same-is}
+use Rattle.run.specs.Uniform.{withNumber, sameItems, Walked, Branches, Walker, walkBranches, firstAndThird, allAlike, walkOpened, walkClosed, walkRow, walkEntry, walkEntries, walkBranch}
 
 -- ---- the comparison tells of equality
-bytes-same : (xs ys : List ℕ) → T (sameBytes xs ys) → xs ≡ ys
-unfolding sameBytes
-bytes-same [] [] t = refl
-bytes-same [] (y ∷ ys) t = absurd t
-bytes-same (x ∷ xs) [] t = absurd t
-bytes-same (x ∷ xs) (y ∷ ys) t = let (p, q) = and-yes (eqb x y) (sameBytes xs ys) t in ap₂ _∷_ (eqb→eq x y p) (bytes-same xs ys q)
-
 items-same : (is js : List Item) → T (sameItems is js) → is ≡ js
 unfolding sameItems
 items-same [] [] t = refl
@@ -40,7 +35,7 @@ items-same (i ∷ is) [] t = absurd t
 items-same (i ∷ is) (j ∷ js) t =
     let (p, q) = and-yes (eqb (i .tag) (j .tag) && sameBytes (i .contents) (j .contents)) (sameItems is js) t in
     let (a, b) = and-yes (eqb (i .tag) (j .tag)) (sameBytes (i .contents) (j .contents)) p in
-    ap₂ _∷_ (ap₂ item (eqb→eq (i .tag) (j .tag) a) (bytes-same (i .contents) (j .contents) b)) (items-same is js q)
+    ap₂ _∷_ (ap₂ item (eqb→eq (i .tag) (j .tag) a) (same-is (i .contents) (j .contents) b)) (items-same is js q)
 
 module _ {e : Edition} {K : ℕ} where
   -- ---- the same fields state the same entries

@@ -15,18 +15,13 @@ use Rattle.fields.specs.Fields.{Field, Fields, ends, cut, _▸_, Item, item}
 use Rattle.fields.specs.Header.{header}
 use Rattle.proof.specs.Entries.{entry}
 use Rattle.chains.specs.Runs.{joined}
+use Rattle.number_bytes.specs.Same.{sameBytes}
 
 -- An answer by another number: file, place, row, step and branch stand.
 unfoldable pub withNumber : ℕ → Answer → Answer
 withNumber n a = record { number = n; file = a .file; place = a .place; row = a .row; step = a .step; branch = a .branch }
 
 -- The same fields: tags and contents. (Notes are no fields here, and places do not count.)
-unfoldable pub sameBytes : List ℕ → List ℕ → Bool
-sameBytes [] [] = true
-sameBytes [] (y ∷ ys) = false
-sameBytes (x ∷ xs) [] = false
-sameBytes (x ∷ xs) (y ∷ ys) = eqb x y && sameBytes xs ys
-
 unfoldable pub sameItems : List Item → List Item → Bool
 sameItems [] [] = true
 sameItems [] (j ∷ js) = false

@@ -13,7 +13,8 @@ use Rattle.answers.specs.declared.Answer.{Answer}
 use Rattle.answers.specs.Answers.{position, Result, refused, accepted, _>>=_, _>>_, need, found}
 use Rattle.fields.specs.Fields.{Field, Fields, Item, item}
 use Rattle.chains.specs.Runs.{joined}
-use Rattle.run.specs.Uniform.{sameBytes, sameItems, Walked, Branches, Walker, walkBranches, firstAndThird, allAlike, walkOpened}
+use Rattle.number_bytes.specs.Same.{sameBytes}
+use Rattle.run.specs.Uniform.{sameItems, Walked, Branches, Walker, walkBranches, firstAndThird, allAlike, walkOpened}
 use Rattle.run_fields.specs.declared.kind.Matching.{Matching}
 use Rattle.run_fields.specs.Kinds.{alikeBy, comparedIn}
 use Rattle.run_branches.specs.Branches.{likeFirst, firstRows, walkFrom, Likens}

@@ -1,68 +1,21 @@
--- Bytes and fields compared one after the other. Assumes nothing.
+-- Fields compared one after the other. Assumes nothing.
 use mathlib.Core.Path.{_≡_, refl, sym, _∙_, ap}
 use mathlib.Core.Bool.{Bool, true, false, _&&_}
 use mathlib.Core.List.{List, [], _∷_}
 use Prim.Native.Nat.{ℕ, suc, _+_, _-_, _≤_, _<_}
 use native.Mathlib.Omega.{arith}
 use lib.Dec.{eqb}
-use lib.ListN.{length, getD, take, drop}
-use lib.Seq.{drop-cons}
+use lib.ListN.{length, take, drop}
 use borrow.Author.Tests.{eq-eqb, ne-eqb}
+use Rattle.number_bytes.specs.Same.{sameBytes}
+use Rattle.number_bytes.proofs.Comparing.{same-lengths}
 use Rattle.fields.specs.Fields.{Field, Fields, ends, cut, _▸_, Item, item}
 use Rattle.fields.specs.Places.{fieldsAt}
 use Rattle.fields.proofs.Places.{Starts, starts-size}
-use Rattle.run.specs.Uniform.{sameBytes, sameItems}
+use Rattle.run.specs.Uniform.{sameItems}
 use Rattle.run_fields.specs.Spans.{Spans, none, one}
 use Rattle.run_fields.specs.Same.{SameFields, Compares}
 use Rattle.run_fields.specs.declared.same.Compared.{Compared}
-
--- ---- bytes
--- i of n bytes were the same.
-pub record BytesLeft (p : List ℕ) (a b n i : ℕ) : Type 0 where
-  pub upto : i ≤ n
-  pub is : sameBytes (take n (drop a p)) (take n (drop b p)) ≡ sameBytes (take (n - i) (drop (a + i) p)) (take (n - i) (drop (b + i) p))
-
-pub bytes-start : (p : List ℕ) (a b n : ℕ) → BytesLeft p a b n 0
-bytes-start p a b n =
-    let x : a + 0 ≡ a = omega arith in
-    let y : b + 0 ≡ b = omega arith in
-    let z : n - 0 ≡ n = omega arith in
-    record { upto = omega arith; is = rw (x, y, z) }
-
-module _ {p : List ℕ} {a b n i : ℕ} (h : BytesLeft p a b n i) where
-  pub bytes-done : n ≤ i → true ≡ sameBytes (take n (drop a p)) (take n (drop b p))
-  unfolding sameBytes
-  bytes-done l = let z : n - i ≡ 0 = omega arith in sym (h .is ∙ rw z)
-
-  module _ (fa : a + n ≤ length p) (fb : b + n ≤ length p) (l : i < n) where
-    one-byte : sameBytes (take (n - i) (drop (a + i) p)) (take (n - i) (drop (b + i) p))
-        ≡ (eqb (getD p (a + i) 0) (getD p (b + i) 0) && sameBytes (take (n - (i + 1)) (drop (a + (i + 1)) p)) (take (n - (i + 1)) (drop (b + (i + 1)) p)))
-    unfolding sameBytes
-    one-byte =
-        let z : n - i ≡ suc (n - (i + 1)) = omega arith in
-        let x : suc (a + i) ≡ a + (i + 1) = omega arith in
-        let y : suc (b + i) ≡ b + (i + 1) = omega arith in
-        let la : a + i < length p = omega arith in
-        let lb : b + i < length p = omega arith in
-        rw (z, drop-cons p (a + i) 0, drop-cons p (b + i) 0, x, y)
-
-    pub bytes-differ : (getD p (a + i) 0 ≡ getD p (b + i) 0 → ⊥) → false ≡ sameBytes (take n (drop a p)) (take n (drop b p))
-    bytes-differ d = sym (h .is ∙ one-byte ∙ rw (ne-eqb _ _ d))
-
-    pub bytes-next : getD p (a + i) 0 ≡ getD p (b + i) 0 → BytesLeft p a b n (i + 1)
-    bytes-next e = record { upto = omega arith; is = h .is ∙ one-byte ∙ rw (eq-eqb _ _ e) }
-
--- lists of different lengths are not the same
-bytes-lengths : (xs ys : List ℕ) → (length xs ≡ length ys → ⊥) → sameBytes xs ys ≡ false
-unfolding sameBytes
-bytes-lengths [] [] d = absurd (d refl)
-bytes-lengths [] (y ∷ ys) d = refl
-bytes-lengths (x ∷ xs) [] d = refl
-bytes-lengths (x ∷ xs) (y ∷ ys) d = go (eqb x y) (sameBytes xs ys) (bytes-lengths xs ys (λ e. d (ap suc e)))
-  where
-    go : (b c : Bool) → c ≡ false → (b && c) ≡ false
-    go true c e = e
-    go false c e = refl
 
 -- ---- one field
 module _ (p : List ℕ) (a b : ℕ) where
@@ -112,7 +65,7 @@ module _ {p : List ℕ} {a b a₁ tag start len next b₁ t s l m : ℕ} (x : St
   module _ (e : tag ≡ t) where
     pub lengths-differ : (len ≡ l → ⊥) → Compares p a b Compared.Differ
     lengths-differ d =
-        let z : sameBytes (take len (drop start p)) (take l (drop s p)) ≡ false = bytes-lengths _ _ (λ q. d (omega (arith, q, starts-size x, starts-size y))) in
+        let z : sameBytes (take len (drop start p)) (take l (drop s p)) ≡ false = same-lengths _ _ (λ q. d (omega (arith, q, starts-size x, starts-size y))) in
         record { by = λ n. by-fields (λ is js fs gs u v i j. rw (eq-eqb tag t e, z)) }
 
     module _ (f : len ≡ l) {c : Bool} (q : c ≡ sameBytes (take len (drop start p)) (take len (drop s p))) where

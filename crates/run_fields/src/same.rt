@@ -1,26 +1,9 @@
 // Whether parts of a proof are the same rows: the same fields, tags and contents, notes aside.
 use fields::Next;
 use fields::next_field;
+use number_bytes::compare::same_bytes;
 ghost use mathlib.Core.Path.{_≡_};
-ghost use Prim.Native.Nat.{_+_, _≤_};
-ghost use lib.ListN.{length, take, drop};
-ghost use Rattle.run.specs.Uniform.{sameBytes};
 ghost use Rattle.run_fields.specs.Same.{Compares, SameFields};
-
-// Whether the n bytes from a on are those from b on.
-fn same_bytes(p: &[u8], a: usize, b: usize, n: usize) -> bool
-    requires { ⌜ (a + n ≤ length (now p)) × (b + n ≤ length (now p)) ⌝ }
-    ensures { λ r. ⌜ r ≡ sameBytes (take n (drop a (now (p .entry)))) (take n (drop b (now (p .entry)))) ⌝ }
-{
-    let mut i = 0;
-    while i < n {
-        if p[a + i] != p[b + i] {
-            return false;
-        }
-        i += 1;
-    }
-    true
-}
 
 pub enum Compared {
     // The next fields are the same, and those after them start there.
@@ -54,7 +37,7 @@ fn same_field(p: &[u8], a: usize, b: usize) -> Compared
                     if len != l {
                         return Compared::Differ;
                     }
-                    if same_bytes(p, start, s, len) {
+                    if same_bytes(p, start, p, s, len) {
                         return Compared::Same {
                             first: next,
                             second: m,

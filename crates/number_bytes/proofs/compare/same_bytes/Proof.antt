@@ -1,19 +1,19 @@
--- `run_fields::same::same_bytes` meets its contract. Assumes nothing.
+-- `number_bytes::compare::same_bytes` meets its contract. Assumes nothing.
 use native.Mathlib.Omega.{arith}
 use Prim.Native.Nat.{_-_}
-use Rattle.run_fields.proofs.SameFields.{BytesLeft, bytes-start, bytes-done, bytes-differ, bytes-next}
+use Rattle.number_bytes.proofs.Comparing.{BytesLeft, bytes-start, bytes-done, bytes-differ, bytes-next}
 use borrow.Author.Needs.{needs}
-use Rattle.run_fields.proofs.same.same_bytes.Statement.{statement}
-use Rattle.run_fields.proofs.same.same_bytes.Tie as tie
+use Rattle.number_bytes.proofs.compare.same_bytes.Statement.{statement}
+use Rattle.number_bytes.proofs.compare.same_bytes.Tie as tie
 
 abbrev Inv-loop : tie.InvT-loop
-Inv-loop p a b n i₀ i = BytesLeft p a b n i
+Inv-loop s at t from n i₀ i = BytesLeft s at t from n i
 
 abbrev μ-loop : tie.MeasureT-loop
-μ-loop p a b n i₀ i = n - i
+μ-loop s at t from n i₀ i = n - i
 
 loop-holds : tie.Need-loop-holds Inv-loop μ-loop
-loop-holds c = bytes-start _ _ _ _
+loop-holds c = bytes-start _ _ _ _ _
 
 add-if1 : tie.Need-add-if1 Inv-loop μ-loop
 add-if1 c = search needs
