@@ -17,7 +17,7 @@ use Rattle.forms.specs.Forms.{All, nil, cons, Constraint, Formula, small}
 use Rattle.answers.specs.declared.Answer.{Answer}
 use Rattle.answers.specs.declared.WriteResult.{WriteResult}
 use Rattle.answers.specs.Answers.{answer, acceptance, fileA, fileB, fileLent, Result, refused, accepted, _>>=_, _>>_, fit, Written, written}
-use Rattle.answers.proofs.Results.{Gives, not-0, weaken, bind, seq, finds, binds, found-some}
+use Rattle.answers.proofs.Results.{Gives, not-0, not-21, weaken, bind, seq, finds, binds, found-some}
 use Rattle.number_bytes.specs.Numbers.{Bytes, unsignedBytes}
 use Rattle.number_bytes.proofs.Signed.{all-weaken}
 use Rattle.fields.specs.Fields.{Field, Fields, ends, cut, _▸_, fields, nth, Item, item, items, fieldBytes, fileOf}
@@ -116,6 +116,16 @@ pub written-from : {P : List ℕ → Type 0} (output : List ℕ) (r : Result (Li
 unfolding written
 written-from output (refused a) g h = absurd (not-0 (g .refusal a refl) h)
 written-from output (accepted bytes) g h = (bytes, g .gives bytes refl, leb→le _ _ (fit-accepted output bytes (leb (length bytes) (length output)) h))
+
+-- What has no room does not fit.
+pub short-from : {P : List ℕ → Type 0} (output : List ℕ) (r : Result (List ℕ)) → Gives r P → written r output .answer .number ≡ 21 → (bytes : List ℕ) × P bytes × (length output < length bytes)
+unfolding written fit
+short-from output (refused a) g h = absurd (not-21 (g .refusal a refl) h)
+short-from output (accepted bytes) g h = (bytes, g .gives bytes refl, go (leb (length bytes) (length output)) refl h)
+  where
+    go : (b : Bool) → leb (length bytes) (length output) ≡ b → fit output b bytes .answer .number ≡ 21 → length output < length bytes
+    go true e h = absurd (omega arith)
+    go false e h = leb-false _ _ e
 
 -- ---- read
 -- What was read fits both outputs.

@@ -1,10 +1,10 @@
 -- What is promised of turning holds. Assumes nothing.
 use mathlib.Core.Path.{_≡_, refl, sym, _∙_, ap, subst}
 use mathlib.Core.Logic.{_⊎_, inl, inr}
-use mathlib.Core.Option.{none, some}
+use mathlib.Core.Option.{Option, none, some}
 use mathlib.Core.Bool.{Bool, true, false, _&&_}
-use mathlib.Core.List.{List}
-use Prim.Native.Nat.{ℕ, suc, _≤_, _<_}
+use mathlib.Core.List.{List, _++_}
+use Prim.Native.Nat.{ℕ, _≤_, _<_}
 use native.Mathlib.Omega.{arith}
 use borrow.Author.Tests.{lt-leb, leb-true, leb-false, eqb-false}
 use lib.Dec.{leb, eqb, T}
@@ -20,25 +20,25 @@ use Rattle.answers.proofs.Results.{Gives, never, not-0, binds, passes, needs, f
 use Rattle.number_bytes.specs.Numbers.{Bytes}
 use Rattle.fields.specs.declared.FileKind.{FileKind}
 use Rattle.fields.specs.Fields.{Fields, ends, cut, _▸_, Item, Framed, fileOf, fields}
-use Rattle.fields.specs.Header.{headerTag, known, headerField, editionField, constantsField, header}
-use Rattle.bundle.specs.Bundle.{Bundle, atMost, kindTagged, constraints, bundleHeader, bundle}
+use Rattle.fields.specs.Header.{Header, headerTag, known, headerField, editionField, header, headerBytes}
+use Rattle.bundle.specs.Bundle.{Bundle, atMost, bundleHeader, bundle}
 use Rattle.bundle.specs.Layout.{BundleFile, editionSaid, Says}
 use Rattle.bundle.specs.Read.{BundleRead, kindsOf, numbersOf, unread, store, stored, readBundle}
 use Rattle.bundle_read.specs.declared.ReadResult.{ReadResult}
 use Rattle.bundle_read.specs.Promises.{Reads}
-use Rattle.bundle.proofs.Laid.{short-gives, short-accepted}
+use Rattle.bundle.proofs.Laid.{short-accepted}
 use Rattle.bundle.proofs.RoundTrips.{writtenAs, written-fits}
 use Rattle.proof.specs.Check.{check}
-use Rattle.proof.specs.Entries.{entryTagged, entry}
 use Rattle.proof.specs.Layout.{Yields}
 use Rattle.proof.specs.Tree.{startsAt, Outside}
-use Rattle.proof.proofs.Says.{Says as Tells, says-refused, says-accepted, bind as tell-bind, seq as tell-seq, says-need, test as tests, finds as tell-finds, weaken as weakens}
+use Rattle.proof.proofs.Says.{Says as Tells, says-refused, says-accepted, bind as tell-bind, says-need, test as tests, weaken as weakens}
+use Rattle.proof.proofs.Tree.{amidst, entry-says}
 use Rattle.proof.proofs.Editions.{Starting, starting, not-read}
 use Rattle.proof.specs.Promises.{Checks}
-use Rattle.conversion.specs.Turning.{other, asked, otherEdition, eachField, resultWithin, bundleTurned, turnBundle, makesLine, entriesRead, proofTurned, turnProof}
+use Rattle.conversion.specs.Turning.{other, asked, otherEdition, eachField, resultWithin, bundleTurned, turnBundle, linesTurned, fieldsTurned, makesLine, entriesRead, proofTurned, turnProof}
 use Rattle.conversion.specs.Widest.{widest}
 use Rattle.conversion.specs.Promises.{TurnsBundle, TurnsProof}
-use Rattle.conversion.proofs.Asking.{Asked, down, up, asked-accepted, said-gives, within-accepted}
+use Rattle.conversion.proofs.Asking.{Asked, down, up, asked-gives, asked-accepted, said-gives, other-gives, within-accepted}
 use Rattle.conversion.proofs.Outside.{proof-outside}
 use Rattle.conversion.proofs.AsCheck.{as-check as check-refused}
 use Rattle.conversion.proofs.Bundles.{bundle-turned-gives, bundle-back, result-short}
@@ -49,9 +49,11 @@ use Rattle.guarantee.specs.Acceptance.{WrittenAs}
 use Rattle.guarantee.specs.LaidOut.{Listed}
 use Rattle.guarantee.specs.Soundness.{Meaning, Faithful}
 use Rattle.guarantee.specs.Conversion.{BundleChoice, as-it-is, turned, Direction, kept, ProofChoice, turned-up, turned-down, ConversionPromised}
-use Rattle.guarantee.proofs.Acceptance.{written-from}
+use Rattle.guarantee.proofs.Acceptance.{written-from, short-from}
 use Rattle.guarantee.proofs.Soundness.{lists, meaning-is}
-use Rattle.guarantee.proofs.Turnable.{bundle-turnable, turnable-bundle, proof-turnable, turnable-proof, bundle-narrow, proof-narrow}
+use Rattle.guarantee.proofs.Turnable.{bundle-turnable, turnable-bundle, proof-turnable, turnable-proof, turnable-read, bundle-narrow, proof-narrow}
+use Rattle.guarantee.proofs.Long.{AllAmidst, edition-field-amidst, header-amidst, One, never1, at-most, bundle-one}
+use Rattle.guarantee.proofs.BundleNumbers.{because}
 use Rattle.guarantee.proofs.Shorter.{down-shorter}
 
 -- ---- what is left of an output
@@ -120,6 +122,16 @@ module _ {to : ℕ} {file output left : List ℕ} {r : WriteResult} where
   is-turnable-proof d h =
       let (bytes, t, fits) = written-from output (proofTurned to file) (proof-turned-gives to file) (sym (number-of (proof-is d)) ∙ h) in
       (bytes, proof-turnable t, t .short, fits)
+
+  no-room-bundle : TurnsBundle to file output left r → r .answer .number ≡ 21 → (bytes : List ℕ) × BundleTurnable to file bytes × (length output < length bytes)
+  no-room-bundle d h =
+      let (bytes, t, short) = short-from output (bundleTurned to file) (bundle-turned-gives to file) (sym (number-of (bundle-is d)) ∙ h) in
+      (bytes, bundle-turnable t, short)
+
+  no-room-proof : TurnsProof to file output left r → r .answer .number ≡ 21 → (bytes : List ℕ) × ProofTurnable to file bytes × (length bytes ≤ 65_536) × (length output < length bytes)
+  no-room-proof d h =
+      let (bytes, t, short) = short-from output (proofTurned to file) (proof-turned-gives to file) (sym (number-of (proof-is d)) ∙ h) in
+      (bytes, proof-turnable t, t .short, short)
 
   listed-bundle : Bytes file → TurnsBundle to file output left r → r .answer .number ≡ 0 → Listed file
   listed-bundle k d h = let (bytes, t, fits) = is-turnable-bundle d h in lists k (t .states .whole)
@@ -250,11 +262,7 @@ reading-refused to file x l h a e = passes _ (asked-accepted x) ∙ passes _ (sh
     same : (b : Answer) → otherEdition FileKind.Bundle fileA to (fields file) ≡ refused b → b ≡ a
     same b q = one-refusal FileKind.Bundle fileA (known-first tt) (first-refused file b (same-first FileKind.Bundle fileA (known-first tt) (fields file) to x h b q)) e
 
--- ---- the result of a bundle is never too long, nor that of a proof turned down
--- Where 1 is given, it is for the file.
-abbrev OfFile : (file : ℕ) → Answer → Type 0
-OfFile file a = a .number ≡ 1 → a .file ≡ file
-
+-- ---- 1: for the file, or for a result that is too long
 -- A step that is accepted, and then the rest.
 then-tells : {Q : Answer → Type 0} {Y : Type 0} {R : Y → Type 0} {P : Unit {0} → Type 0} (m : Result (Unit {0})) (r : Result Y) → Tells Q m P → (m ≡ accepted tt → Tells Q r R) → Tells Q (m >> r) R
 unfolding _>>_
@@ -262,98 +270,106 @@ then-tells (refused a) r h k = says-refused (h .refusal a refl)
 then-tells (accepted u) r h k = k refl
 
 -- What is accepted is what was accepted.
-itself : {Q : Answer → Type 0} {X : Type 0} {m : Result X} → Tells Q m (λ _. Unit {0}) → Tells Q m (λ x. m ≡ accepted x)
+itself : {Q : Answer → Type 0} {X : Type 0} {P : X → Type 0} {m : Result X} → Tells Q m P → Tells Q m (λ x. m ≡ accepted x)
 itself t = record { refusal = t .refusal; value = λ x e. e }
 
+-- no step but the tests of a length refuses by 1
+asked-amidst : (to : ℕ) → AllAmidst (asked to)
+unfolding asked
+asked-amidst to = weakens (says-need _ _ tt) (λ a h. h) (λ _ _. tt)
+
 module _ (kind : FileKind) (file : ℕ) where
-  asked-tells : (to : ℕ) → Tells (OfFile file) (asked to) (λ _. Unit {0})
-  unfolding asked
-  asked-tells to = weakens (says-need _ _ (λ e. absurd (omega arith))) (λ a h. h) (λ _ _. tt)
-
-  most-tells : (limit : ℕ) (bytes : List ℕ) → Tells (OfFile file) (atMost limit file bytes) (λ _. Unit {0})
-  unfolding atMost
-  most-tells limit bytes = weakens (says-need _ _ (λ e. refl)) (λ a h. h) (λ _ _. tt)
-
-  field-tells : (tag : ℕ) (fs : Fields) → Tells (OfFile file) (headerField kind file tag fs) (λ _. Unit {0})
-  unfolding headerField
-  field-tells tag (ends at) = says-refused (λ e. absurd (omega arith))
-  field-tells tag (cut at) = says-refused (λ e. absurd (omega arith))
-  field-tells tag (f ▸ fs) = tests _ _ (λ e. absurd (omega arith)) λ _. tests _ _ (λ e. absurd (omega arith)) λ _. tests _ _ (λ e. absurd (omega arith)) λ _. says-accepted tt
-
-  edition-tells : (fs : Fields) → Tells (OfFile file) (editionField kind file newestEdition fs) (λ _. Unit {0})
-  unfolding editionField
-  edition-tells fs = tell-bind (field-tells 0x01 fs) λ x _. tests {R = λ _. Unit {0}} _ _ (λ e. absurd (omega arith)) λ _. says-accepted tt
-
-  constants-tell : (fs : Fields) → Tells (OfFile file) (constantsField kind file none fs) (λ _. Unit {0})
-  unfolding constantsField
-  constants-tell fs = tell-bind (field-tells 0x02 fs) λ x _. tests {R = λ _. Unit {0}} _ _ (λ e. absurd (omega arith)) λ _. tests _ _ (λ e. absurd (omega arith)) λ _. says-accepted tt
-
-  other-tells : (to : ℕ) (fs : Fields) → Tells (OfFile file) (otherEdition kind file to fs) (λ _. Unit {0})
+  other-amidst : (to : ℕ) (fs : Fields) → AllAmidst (otherEdition kind file to fs)
   unfolding otherEdition
-  other-tells to fs = tell-bind (field-tells 0x01 fs) λ x _. weakens (says-need _ _ (λ e. absurd (omega arith))) (λ a h. h) (λ _ _. tt)
+  other-amidst to fs = tell-bind (edition-field-amidst kind file fs) λ x _. weakens (says-need _ _ tt) (λ a h. h) (λ _ _. tt)
 
-  each-tells : (number : ℕ) → ¬ (number ≡ 1) → (fits : Item → Bool) (fs : Fields) → Tells (OfFile file) (eachField number file fits fs) (λ _. Unit {0})
+  each-amidst : (number : ℕ) → T (amidst number) → (fits : Item → Bool) (fs : Fields) → AllAmidst (eachField number file fits fs)
   unfolding eachField
-  each-tells number h fits (ends at) = says-accepted tt
-  each-tells number h fits (cut at) = says-accepted tt
-  each-tells number h fits (f ▸ fs) = tests _ _ (λ e. absurd (h e)) λ _. each-tells number h fits fs
+  each-amidst number h fits (ends at) = says-accepted tt
+  each-amidst number h fits (cut at) = says-accepted tt
+  each-amidst number h fits (f ▸ fs) = tests _ _ h λ _. each-amidst number h fits fs
 
--- a bundle
-constraints-tell : (e : Edition) (K n : ℕ) (fs : Fields) → Tells (OfFile 1) (constraints fileA e K n fs) (λ _. Unit {0})
-unfolding constraints
-constraints-tell e K n (ends at) = says-accepted tt
-constraints-tell e K n (cut at) = says-refused (λ e. absurd (omega arith))
-constraints-tell e K n (f ▸ fs) = tests _ _ (λ e. absurd (omega arith)) λ _. tell-bind (tell-finds _ (kindTagged (f .tag)) (λ e. absurd (omega arith))) λ k _.
-    tests _ _ (λ e. absurd (omega arith)) λ _. tests _ _ (λ e. absurd (omega arith)) λ _. tests _ _ (λ e. absurd (omega arith)) λ _.
-    tell-bind (constraints-tell e K (suc n) fs) λ cs _. says-accepted tt
+entries-amidst : (e : Edition) (K : ℕ) (made : Bool) (fs : Fields) → AllAmidst (entriesRead e K made fs)
+unfolding entriesRead
+entries-amidst e K made (ends at) = says-accepted tt
+entries-amidst e K made (cut at) = says-refused tt
+entries-amidst e K made (f ▸ fs) = tell-bind (entry-says e K _ made f (λ n t. t)) λ x _. entries-amidst e K (makesLine x) fs
 
-bundle-tells : (file : List ℕ) → Tells (OfFile 1) (bundle newestEdition fileA none file) (λ _. Unit {0})
-unfolding bundle bundleHeader
-bundle-tells file =
-    tell-bind
-    (tell-bind (edition-tells FileKind.Bundle fileA (fields file)) λ (n, fs) _.
-    tell-seq (most-tells FileKind.Bundle fileA _ file)
-    (tell-bind (constants-tell FileKind.Bundle fileA fs) λ (K, rest) _. says-accepted {P = λ _. Unit {0}} tt))
-    λ h _. tell-bind (constraints-tell (edition (h .number)) (h .K) 0 (h .rest)) λ cs _. says-accepted tt
+said-one : {m n : ℕ} {o : Option ℕ} → o ≡ some m → o ≡ some n → m ≡ n
+said-one p q = cc
 
-turning-tells : (to : ℕ) (file : List ℕ) → Tells (OfFile 1) (bundleTurned to file) (λ _. Unit {0})
-unfolding bundleTurned
-turning-tells to file = then-tells _ _ (asked-tells FileKind.Bundle fileA to) λ a. then-tells _ _ (most-tells FileKind.Bundle fileA _ file) λ _. then-tells _ _ (other-tells FileKind.Bundle fileA to (fields file)) λ o.
-    tell-bind (itself (bundle-tells file)) λ b e. then-tells _ _ (each-tells FileKind.Bundle fileA 13 (λ e. omega arith) _ _) λ f.
-    subst (λ (r : Result (List ℕ)). Tells (OfFile 1) r (λ _. Unit {0})) (sym (within-accepted (edition to .bundleBytes) _ (result-short to file b a o e f))) (says-accepted tt)
+is-2 : {to : ℕ} → Asked to → other to ≡ 1 → to ≡ 2
+is-2 down e = absurd (omega arith)
+is-2 up e = refl
 
--- a proof
-entries-tell : (e : Edition) (K : ℕ) (made : Bool) (fs : Fields) → Tells (OfFile 3) (entriesRead e K made fs) (λ _. Unit {0})
-unfolding entriesRead entry
-entries-tell e K made (ends at) = says-accepted tt
-entries-tell e K made (cut at) = says-refused (λ e. absurd (omega arith))
-entries-tell e K made (f ▸ fs) =
-    tell-bind {P = λ _. Unit {0}}
-    (tests _ _ (λ e. absurd (omega arith)) λ _. tell-bind (tell-finds _ (entryTagged (f .tag)) (λ e. absurd (omega arith))) λ x _.
-    tests _ _ (λ e. absurd (omega arith)) λ _. tests _ _ (λ e. absurd (omega arith)) λ _. says-accepted tt)
-    λ x _. entries-tell e K (makesLine x) fs
+module _ (to : ℕ) (file : List ℕ) where
+  -- a bundle
+  abbrev LongBundle : Answer → Type 0
+  LongBundle a = (a ≡ answer 1 1 0) × ((8_192 < length file) ⊎ ((to ≡ 2) × Says file 1 × (4_096 < length file)))
 
-header-tells : (fs : Fields) → Tells (OfFile 3) (header FileKind.Proof fileProof newestEdition none fs) (λ _. Unit {0})
-unfolding header
-header-tells fs = tell-bind (edition-tells FileKind.Proof fileProof fs) λ x _. tell-bind (constants-tell FileKind.Proof fileProof (x .1)) λ y _. says-accepted tt
+  bundle-1 : Tells (One LongBundle) (bundleTurned to file) (λ _. Unit {0})
+  unfolding bundleTurned
+  bundle-1 = then-tells _ _ (never1 LongBundle (asked-amidst to)) λ a. at-most LongBundle _ fileA file (λ h. (refl, inl h)) λ l.
+      then-tells _ _ (never1 LongBundle (other-amidst FileKind.Bundle fileA to (fields file))) λ o.
+      let late : Says file 1 → to ≡ 2 = λ s. is-2 (asked-gives to .gives tt a) (said-one (other-gives FileKind.Bundle fileA to (fields file) .gives tt o) s) in
+      tell-bind (itself (bundle-one LongBundle fileA none file l λ s h. (refl, inr (late s, s, h)))) λ b e. then-tells _ _ (never1 LongBundle (each-amidst FileKind.Bundle fileA 13 tt _ _)) λ f.
+      subst (λ (r : Result (List ℕ)). Tells (One LongBundle) r (λ _. Unit {0})) (sym (within-accepted (edition to .bundleBytes) _ (result-short to file b a o e f))) (says-accepted tt)
 
-down-tells : (file : List ℕ) → Tells (OfFile 3) (proofTurned 1 file) (λ _. Unit {0})
-unfolding proofTurned
-down-tells file = then-tells _ _ (asked-tells FileKind.Proof fileProof 1) λ _. then-tells _ _ (most-tells FileKind.Proof fileProof _ file) λ l. then-tells _ _ (other-tells FileKind.Proof fileProof 1 (fields file)) λ _.
-    tell-bind (itself (header-tells (fields file))) λ h e. then-tells _ _ (entries-tell (edition (h .number)) (h .K) false (h .rest)) λ r.
-    then-tells _ _ (each-tells FileKind.Proof fileProof 10 (λ e. omega arith) _ _) λ _.
-    subst (λ (r : Result (List ℕ)). Tells (OfFile 3) r (λ _. Unit {0}))
-    (sym (within-accepted 65_536 _ (omega (arith, short-gives 65_536 fileProof file .gives tt l, down-shorter file h e r)))) (says-accepted tt)
+  -- a proof
+  abbrev LongProof : Answer → Type 0
+  LongProof a = (a .file ≡ 3) ⊎ ((a .file ≡ 4) × (¬ (to ≡ 1)) × ((bytes : List ℕ) × ProofTurnable to file bytes))
+
+  module _ (l : length file ≤ 65_536) (h : Header) (e : header FileKind.Proof fileProof newestEdition none (fields file) ≡ accepted h) (x : entriesRead (edition (h .number)) (h .K) false (h .rest) ≡ accepted tt) where
+    abbrev resultTo : ℕ → List ℕ
+    resultTo n = headerBytes n (h .K) ++ fieldsTurned (linesTurned (edition (h .number)) (edition n)) (h .rest)
+
+    not-down : leb (length (resultTo to)) 65_536 ≡ false → ¬ (to ≡ 1)
+    not-down long d = omega (arith, l, down-shorter file h e x, leb-false (length (resultTo 1)) 65_536 (subst (λ (n : ℕ). leb (length (resultTo n)) 65_536 ≡ false) d long))
+
+  proof-1 : Tells (One LongProof) (proofTurned to file) (λ _. Unit {0})
+  unfolding proofTurned resultWithin
+  proof-1 = then-tells _ _ (never1 LongProof (asked-amidst to)) λ a. at-most LongProof _ fileProof file (λ h. inl refl) λ l.
+      then-tells _ _ (never1 LongProof (other-amidst FileKind.Proof fileProof to (fields file))) λ o.
+      tell-bind (itself (never1 LongProof (header-amidst FileKind.Proof fileProof newestEdition none (fields file)))) λ h e.
+      then-tells _ _ (never1 LongProof (entries-amidst (edition (h .number)) (h .K) false (h .rest))) λ x. then-tells _ _ (never1 LongProof (each-amidst FileKind.Proof fileProof 10 tt _ _)) λ f.
+      because _ _ (λ long _. inr (refl, not-down l h e x long, turnable-read to file a l o h e x f)) λ _. says-accepted tt
 
 fits-or-21 : (output : List ℕ) (b : Bool) (bs : List ℕ) → ¬ (fit output b bs .answer .number ≡ 1)
 unfolding fit
 fits-or-21 output true bs h = omega arith
 fits-or-21 output false bs h = omega arith
 
-never-long : {file : ℕ} (output left : List ℕ) (r : WriteResult) (m : Result (List ℕ)) → Tells (OfFile file) m (λ _. Unit {0}) → writtenOf r left ≡ written m output → OfFile file (r .answer)
+told-1 : {Why : Answer → Type 0} (output left : List ℕ) (r : WriteResult) (m : Result (List ℕ)) → Tells (One Why) m (λ _. Unit {0}) → writtenOf r left ≡ written m output → r .answer .number ≡ 1
+    → (m ≡ refused (r .answer)) × Why (r .answer)
 unfolding written
-never-long output left r (refused a) t e h = ap (λ (w : Written). w .answer .file) e ∙ t .refusal a refl (sym (number-of e) ∙ h)
-never-long output left r (accepted bs) t e h = absurd (fits-or-21 output (leb (length bs) (length output)) bs (sym (number-of e) ∙ h))
+told-1 {Why} output left r (refused a) t e h = let same = answer-of e in (ap refused (sym same), subst Why (sym same) (t .refusal a refl (sym (number-of e) ∙ h)))
+told-1 output left r (accepted bs) t e h = absurd (fits-or-21 output (leb (length bs) (length output)) bs (sym (number-of e) ∙ h))
+
+-- where it is for the result, that is too long
+is-long : (bytes : List ℕ) {a : Answer} → resultWithin 65_536 bytes ≡ refused a → 65_536 < length bytes
+is-long bytes e = go (leb (length bytes) 65_536) refl
+  where
+    go : (b : Bool) → leb (length bytes) 65_536 ≡ b → 65_536 < length bytes
+    go true q = absurd (never (sym e ∙ within-accepted 65_536 bytes (leb-true _ _ q)))
+    go false q = leb-false _ _ q
+
+module _ {to : ℕ} {file output left : List ℕ} {r : WriteResult} (d : TurnsProof to file output left r) where
+  told-proof : r .answer .number ≡ 1 → (proofTurned to file ≡ refused (r .answer)) × LongProof to file (r .answer)
+  told-proof h = told-1 output left r (proofTurned to file) (proof-1 to file) (proof-is d) h
+
+  result-long : Bytes file → r .answer .number ≡ 1 → r .answer .file ≡ 4 → (bytes : List ℕ) × ProofTurnable to file bytes × (65_536 < length bytes)
+  result-long k n f = let (e, w) = told-proof n in go e w
+    where
+      go : proofTurned to file ≡ refused (r .answer) → LongProof to file (r .answer) → (bytes : List ℕ) × ProofTurnable to file bytes × (65_536 < length bytes)
+      go e (inl q) = absurd (omega (arith, q, f))
+      go e (inr (_, _, (bytes, t))) = (bytes, t, is-long bytes (sym (turnable-proof k t) ∙ e))
+
+  short-down : to ≡ 1 → r .answer .number ≡ 1 → r .answer .file ≡ 3
+  short-down e n = go (told-proof n .1)
+    where
+      go : LongProof to file (r .answer) → r .answer .file ≡ 3
+      go (inl q) = q
+      go (inr (_, n, _)) = absurd (n e)
 
 -- ---- each refusal of the definitions
 unasked-bundle : (to : ℕ) (file : List ℕ) → ¬ (to ≡ 1) → ¬ (to ≡ 2) → bundleTurned to file ≡ refused (answer 5 4 0)
@@ -427,11 +443,11 @@ pub conversion-promised : ConversionPromised
 conversion-promised = record {
   bundle-iff = λ to file output left r d. (is-turnable-bundle d, λ (bytes, t, fits). ap (λ (a : Answer). a .number) (turns-bundle d t fits .answer));
   bundle-turns = λ to file output left r d bytes t fits. turns-bundle d t fits;
-  bundle-21 = λ to file output left r d bytes t h. too-short output left r (bundle-is d) (turnable-bundle t) h;
+  bundle-21 = λ to file output left r d. (no-room-bundle d, λ (bytes, t, h). too-short output left r (bundle-is d) (turnable-bundle t) h);
   proof-iff = λ to file output left r k d. (is-turnable-proof d, λ (bytes, t, short, fits). ap (λ (a : Answer). a .number) (turns-proof k d t short fits .answer));
   proof-turns = λ to file output left r k d bytes t short fits. turns-proof k d t short fits;
-  proof-1 = λ to file output left r k d bytes t h. refused-as output left r (proof-is d) (turnable-proof k t ∙ within-refused bytes h);
-  proof-21 = λ to file output left r k d bytes t short h. too-short output left r (proof-is d) (turnable-proof k t ∙ within-accepted 65_536 bytes short) h;
+  proof-1 = λ to file output left r k d. (λ (n, f). result-long d k n f, λ (bytes, t, h). refused-as output left r (proof-is d) (turnable-proof k t ∙ within-refused bytes h));
+  proof-21 = λ to file output left r k d. (no-room-proof d, λ (bytes, t, short, h). too-short output left r (proof-is d) (turnable-proof k t ∙ within-accepted 65_536 bytes short) h);
   bundle-13 = λ file output left r d K cs b before c after e h k f at. refused-as output left r (bundle-is d) (bundle-narrow file K cs b before c after e h k f at);
   proof-10 = λ file output left r d K es p t before i after e h k f at. refused-as output left r (proof-is d) (proof-narrow file K es p t before i after e h k f at);
   bundle-and-back = λ to F framed k output left r d h output₂ left₂ r₂ fits d₂.
@@ -453,6 +469,6 @@ conversion-promised = record {
   there-proof = λ to file output left r d a l s. refused-as output left r (proof-is d) (proof-there file (is-asked a) l s);
   as-reading = λ file kinds numbers kinds′ numbers′ r d h to a s output left r₂ d₂. as-read d h (is-asked a) s d₂;
   as-check = λ A B P output left r d h n to a s output₂ left₂ r₂ d₂. as-checked d h n (is-asked a) s d₂;
-  never-too-long = λ to file output left r d h. never-long output left r (bundleTurned to file) (turning-tells to file) (bundle-is d) h;
-  never-too-long-down = λ file output left r d h. never-long output left r (proofTurned 1 file) (down-tells file) (proof-is d) h;
+  never-too-long = λ to file output left r d h. told-1 output left r (bundleTurned to file) (bundle-1 to file) (bundle-is d) h .1;
+  never-too-long-down = λ file output left r d h. short-down d refl h;
 }

@@ -20,6 +20,7 @@ use Rattle.formula_test.specs.declared.Tested.{Tested}
 use Rattle.formula_test.specs.Promises.{asTested}
 use Rattle.proof.proofs.Agree.{one-formula}
 use Rattle.guarantee.specs.Guard.{GuardTells}
+use Rattle.guarantee.proofs.FormulaFiles.{file-read}
 use Rattle.guarantee.proofs.Soundness.{soundness}
 
 pub bool-true : (b : Bool) → T b → b ≡ true
@@ -53,11 +54,13 @@ pub guard-tells : GuardTells
 guard-tells = record {
   tells = λ FA FB framedA framedB MA MB faithfulA faithfulB proof output left r bytes c h values count range t d.
       let x = soundness .interpolates FA FB framedA framedB MA MB faithfulA faithfulB proof output left r c h in
-      let (reads, short) = x .reads-back bytes in
+      let low = x .certified .yields .fileProof .low in
+      let high = x .certified .yields .fileProof .high in
+      let reads = file-read (x .K) (take (r .count) left) (x .formula) low high (x .states bytes) in
       let K-is : length values ≡ x .K = count ∙ x .K-of-A in
       let told : t ≡ asTested (record { answer = acceptance; holds = judge (x .formula) (registers values) }) =
       d .is ∙ ap asTested (tested-as (take (r .count) left) values (x .formula) (subst (λ (k : ℕ). readFormula k (fields (take (r .count) left)) ≡ accepted (x .formula)) (sym K-is) reads)
-      (omega (arith, short, length-take (r .count) left)) (omega (arith, x .certified .yields .fileProof .low)) (omega (arith, x .certified .yields .fileProof .high)) range) in (
+      (omega (arith, x .upto, length-take (r .count) left)) (omega (arith, low)) (omega (arith, high)) range) in (
         ap (λ (t : Tested). t .answer) told,
         λ K I d.
             let same : I ≡ x .formula = one-formula (d .yields) (x .certified .yields) .1 in (

@@ -5,6 +5,8 @@ pub mod RunTree
 pub mod Refusals
 pub mod Tree
 pub mod Acceptance
+pub mod FormulaFiles
+pub mod AtEnd
 pub mod Soundness
 pub mod Guard
 pub mod Testing

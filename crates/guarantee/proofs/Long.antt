@@ -104,7 +104,7 @@ module _ (e : Edition) (K : ℕ) where
 -- ---- headers and ends
 module _ (kind : FileKind) (file : ℕ) where
   -- the edition that is read is the one that the file says
-  edition-field-amidst : (fs : Fields) → Tells Amidst (headerField kind file 0x01 fs) (λ x. editionSaid fs ≡ some (x .1))
+  pub edition-field-amidst : (fs : Fields) → Tells Amidst (headerField kind file 0x01 fs) (λ x. editionSaid fs ≡ some (x .1))
   unfolding headerField editionSaid
   edition-field-amidst (ends at) = says-refused tt
   edition-field-amidst (cut at) = says-refused tt
@@ -124,7 +124,7 @@ module _ (kind : FileKind) (file : ℕ) where
   unfolding constantsField
   constants-amidst given fs = bind (constants-field-amidst fs) λ x _. test _ _ tt λ _. test _ _ tt λ _. says-accepted tt
 
-  header-amidst : (newest : ℕ) (given : Option ℕ) (fs : Fields) → AllAmidst (header kind file newest given fs)
+  pub header-amidst : (newest : ℕ) (given : Option ℕ) (fs : Fields) → AllAmidst (header kind file newest given fs)
   unfolding header
   header-amidst newest given fs = bind (edition-amidst newest fs) λ x _. bind (constants-amidst given (x .1)) λ y _. says-accepted tt
 
@@ -146,17 +146,17 @@ constraints-amidst file e K n (cut at) = says-refused tt
 constraints-amidst file e K n (f ▸ fs) = test _ _ tt λ _. bind (finds _ _ tt) λ k _. test _ _ tt λ _. test _ _ tt λ _. test _ _ tt λ _.
     bind (constraints-amidst file e K (suc n) fs) λ cs _. says-accepted tt
 
--- ---- a refusal by 1 has a reason, by its file
-module _ (Why : ℕ → Type 0) where
-  abbrev One : Answer → Type 0
-  One a = a .number ≡ 1 → Why (a .file)
+-- ---- a refusal by 1 has a reason
+module _ (Why : Answer → Type 0) where
+  abbrev pub One : Answer → Type 0
+  One a = a .number ≡ 1 → Why a
 
   -- no reason is needed for what is never refused by 1
-  never1 : {X : Type 0} {P : X → Type 0} {r : Result X} → Tells Amidst r P → Tells One r P
+  pub never1 : {X : Type 0} {P : X → Type 0} {r : Result X} → Tells Amidst r P → Tells One r P
   never1 s = weaken s (λ a q e. absurd (above-1 q e)) (λ _ u. u)
 
   -- a length is tested, and what follows knows it
-  at-most : {X : Type 0} {P : X → Type 0} {r : Result X} (limit file : ℕ) (bytes : List ℕ) → (limit < length bytes → Why file) → (length bytes ≤ limit → Tells One r P) → Tells One (atMost limit file bytes >> r) P
+  pub at-most : {X : Type 0} {P : X → Type 0} {r : Result X} (limit file : ℕ) (bytes : List ℕ) → (limit < length bytes → Why (answer 1 file 0)) → (length bytes ≤ limit → Tells One r P) → Tells One (atMost limit file bytes >> r) P
   unfolding atMost need _>>_
   at-most {X} {P} {r} limit file bytes h k = go (leb (length bytes) limit) refl
     where
@@ -165,11 +165,11 @@ module _ (Why : ℕ → Type 0) where
       go false q = says-refused λ _. h (leb-false _ _ q)
 
   -- a bundle that is not too long for every edition
-  module _ (file : ℕ) (given : Option ℕ) (bytes : List ℕ) (short : length bytes ≤ 8_192) (h : Says bytes 1 → 4_096 < length bytes → Why file) where
-    late : (n : ℕ) → Says bytes n → edition n .bundleBytes < length bytes → Why file
+  module _ (file : ℕ) (given : Option ℕ) (bytes : List ℕ) (short : length bytes ≤ 8_192) (h : Says bytes 1 → 4_096 < length bytes → Why (answer 1 file 0)) where
+    late : (n : ℕ) → Says bytes n → edition n .bundleBytes < length bytes → Why (answer 1 file 0)
     late n s l = go (eqb n 1) refl l
       where
-        go : (b : Bool) → eqb n 1 ≡ b → cond b 4_096 8_192 < length bytes → Why file
+        go : (b : Bool) → eqb n 1 ≡ b → cond b 4_096 8_192 < length bytes → Why (answer 1 file 0)
         go true q l = h (s ∙ ap some (eqb→eq n 1 (rw q tt))) l
         go false q l = absurd (omega arith)
 
@@ -181,12 +181,12 @@ module _ (Why : ℕ → Type 0) where
     unfolding bundle
     constraints-one = bind header-one λ x _. bind (never1 (constraints-amidst file (edition (x .number)) (x .K) 0 (x .rest))) λ cs _. says-accepted tt
 
-    bundle-one : Tells One (bundle newestEdition file given bytes) (Laid newestEdition given bytes)
+    pub bundle-one : Tells One (bundle newestEdition file given bytes) (Laid newestEdition given bytes)
     bundle-one = record { refusal = constraints-one .refusal; value = bundle-gives newestEdition file given bytes .gives }
 
 -- ---- the operations
 -- A and B, where no other file stands in the way
-module _ (Why : ℕ → Type 0) (A B : List ℕ) (Rest : Type 0) (why : (file : ℕ) → TooLong A B Rest file → Why file) where
+module _ (Why : Answer → Type 0) (A B : List ℕ) (Rest : Type 0) (why : (file : ℕ) → TooLong A B Rest file → Why (answer 1 file 0)) where
   bundles-one : ShortBundles A B → Rest → Tells (One Why) (bundles newestEdition A B) (λ _. Unit {0})
   unfolding bundles
   bundles-one s p = bind (bundle-one Why fileA none A (s .a) λ e l. why fileA (late-A s p e l)) λ x f.
@@ -199,8 +199,8 @@ module _ (Why : ℕ → Type 0) (A B : List ℕ) (Rest : Type 0) (why : (file : 
 
 module _ (A B proof : List ℕ) where
   -- Why check is refused by 1, by the file.
-  abbrev Why1 : ℕ → Type 0
-  Why1 file = TooLong A B (length proof ≤ 65_536) file ⊎ ((file ≡ fileProof) × ShortBundles A B × (65_536 < length proof)) ⊎ (file ≡ fileLent)
+  abbrev Why1 : Answer → Type 0
+  Why1 a = TooLong A B (length proof ≤ 65_536) (a .file) ⊎ ((a .file ≡ fileProof) × ShortBundles A B × (65_536 < length proof)) ⊎ (a .file ≡ fileLent)
 
   interpolant-one : Tells (One Why1) (interpolant newestEdition A B proof) (λ _. Unit {0})
   unfolding interpolant formulaAtMost
@@ -221,12 +221,12 @@ module _ (A B proof : List ℕ) where
   unfolding check checkBy
   check-one output = left-one _ output (bind interpolant-one λ x _. says-accepted tt)
 
-pub check-1 : {A B proof output left : List ℕ} {r : WriteResult} → Checks A B proof output left r → r .answer .number ≡ 1 → Why1 A B proof (r .answer .file)
+pub check-1 : {A B proof output left : List ℕ} {r : WriteResult} → Checks A B proof output left r → r .answer .number ≡ 1 → Why1 A B proof (r .answer)
 check-1 {A = X} {B = Y} {proof} {output} c = subst (λ (w : Written). One (Why1 X Y proof) (w .answer)) (sym (c .is)) (check-one X Y proof output)
 
 module _ (A B : List ℕ) where
-  abbrev Shown1 : ℕ → Type 0
-  Shown1 = TooLong A B (Unit {0})
+  abbrev Shown1 : Answer → Type 0
+  Shown1 a = TooLong A B (Unit {0}) (a .file)
 
   shown-one : (line : ℕ) → Tells (One Shown1) (shownPart newestEdition A B line) (λ _. Unit {0})
   unfolding shownPart bothRead
@@ -242,7 +242,7 @@ module _ (A B : List ℕ) where
   show-one line = shown-by (shownPart newestEdition A B line) (shown-one line)
 
 pub show-1 : {A B : List ℕ} {line : ℕ} {r : Answer} → AnswersShow A B line r → r .number ≡ 1 → TooLong A B (Unit {0}) (r .file)
-show-1 {A = X} {B = Y} {line} c = subst (One (TooLong X Y (Unit {0}))) (sym (c .is)) (show-one X Y line)
+show-1 {A = X} {B = Y} {line} c = subst (One (Shown1 X Y)) (sym (c .is)) (show-one X Y line)
 
 -- what is read, in whatever file it is refused: too long for every edition, or for edition 1
 abbrev Long : List ℕ → Type 0

@@ -24,7 +24,7 @@ use Rattle.guarantee.specs.Acceptance.{WrittenAs}
 use Rattle.guarantee.specs.Testing.{FormulaFile}
 use Rattle.guarantee.specs.Print.{textOf, Printable, SeparatesAs, PrintingPromised}
 use Rattle.guarantee.proofs.Soundness.{soundness}
-use Rattle.guarantee.proofs.Testing.{read-gives, file-read}
+use Rattle.guarantee.proofs.FormulaFiles.{read-gives, file-read}
 use Rattle.guarantee.proofs.PrintAsTest.{as-test}
 
 -- ---- bytes that are to be written
@@ -62,14 +62,14 @@ separates false {I = I} t m = record {
   reads = read-as false I;
   A-true = λ v h. m v .1 (t .A-true v h);
   B-false = λ v h s. t .B-false v h (m v .0 s);
-  shared = λ c h. t .shared c (names-only I c h);
+  shared = λ c h. t .shared c (names-only I c .0 h);
 }
 separates true {I = I} t m = record {
   wording = worded I;
   reads = read-as true I;
   A-true = λ v h. m v .1 (t .A-true v h);
   B-false = λ v h s. t .B-false v h (m v .0 s);
-  shared = λ c h. t .shared c (words-names-only I c h);
+  shared = λ c h. t .shared c (words-names-only I c .0 h);
 }
 
 pub printing-promised : PrintingPromised
@@ -80,10 +80,10 @@ printing-promised = record {
   as-test = as-test;
   tells = λ FA FB framedA framedB MA MB faithfulA faithfulB proof output left r bytes c h wording.
       let x = soundness .interpolates FA FB framedA framedB MA MB faithfulA faithfulB proof output left r c h in
-      let (reads, short) = x .reads-back bytes in (
+      let reads = file-read (x .K) (take (r .count) left) (x .formula) (x .certified .yields .fileProof .low) (x .certified .yields .fileProof .high) (x .states bytes) in (
         x .formula,
         (x .K, x .certified),
         separates wording (x .interpolant) (means-read wording (x .K) (take (r .count) left) (x .formula) reads),
-        λ page printed p d. read-prints wording (take (r .count) left) page printed p d (x .K) (x .formula) (omega (arith, short, length-take (r .count) left)) reads,
+        λ page printed p d. read-prints wording (take (r .count) left) page printed p d (x .K) (x .formula) (omega (arith, x .upto, length-take (r .count) left)) reads,
       );
 }

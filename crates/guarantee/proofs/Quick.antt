@@ -5,23 +5,21 @@ use mathlib.Core.List.{List}
 use Prim.Native.Nat.{ℕ, _+_, _^_, _<_}
 use native.Mathlib.Omega.{arith}
 use lib.Dec.{T, ltb}
-use lib.IntN.{ℤ, pos, negsuc, _-ℤ_}
+use lib.IntN.{pos, negsuc, _-ℤ_}
 use lib.ListN.{length}
 use Rattle.integers.specs.Divides.{_∣ℤ_, divb}
 use Rattle.integers.specs.Remainder.{remainder}
 use Rattle.integers.proofs.Ring.{lit, ring, poly}
 use Rattle.integers.proofs.Divisibility.{divb→∣, ∣→divb}
 use Rattle.integers.proofs.Remainders.{remainder-below, remainder-congruent, remainder-unique}
-use Rattle.forms.specs.Forms.{value, Formula}
-use Rattle.answers.specs.Answers.{accepted}
+use Rattle.forms.specs.Forms.{value}
 use Rattle.number_bytes.specs.Numbers.{Bytes, unsigned, complement, signed}
 use Rattle.number_bytes.proofs.Signed.{unsigned-below}
-use Rattle.formula.specs.Test.{judge, registers, tested, judged, testFormula}
+use Rattle.formula.specs.Test.{registers}
 use Rattle.form_value.specs.Quick.{wordSize, word, Power}
 use Rattle.form_value.proofs.Quick.{word-add, word-mul, value-word, word-divides, power-true, true-power, quick-judge}
-use Rattle.formula_test.specs.declared.Tested.{Tested}
-use Rattle.formula_test.specs.Promises.{asTested}
 use Rattle.guarantee.specs.Quick.{QuickAgrees}
+use Rattle.guarantee.proofs.Testing.{holds-is}
 
 -- ---- four bytes
 complement-word : (n : ℕ) → n < wordSize → (b : Bool) → remainder wordSize (cond b (pos n) (pos n -ℤ pos wordSize)) ≡ n
@@ -34,10 +32,6 @@ four-bytes bs h e =
     let n = unsigned bs in
     let m : n < wordSize = omega (arith, unsigned-below bs h, ap (λ (k : ℕ). 256 ^ k) e) in
     ap (λ (k : ℕ). remainder wordSize (cond (ltb (n + n) (256 ^ k)) (pos n) (pos n -ℤ pos (256 ^ k)))) e ∙ complement-word n m (ltb (n + n) wordSize)
-
-tested-holds : (formula : List ℕ) (values : List ℤ) (I : Formula) → tested formula values ≡ accepted I → asTested (testFormula formula values) .holds ≡ judge I (registers values)
-unfolding testFormula judged
-tested-holds formula values I e = rw e
 
 pub quick-agrees : QuickAgrees
 quick-agrees = record {
@@ -56,5 +50,5 @@ quick-agrees = record {
       );
   powers = λ g. (power-true 30 g, true-power 30 g);
   agrees = quick-judge;
-  tells = λ formula values r c I e. ap (λ (t : Tested). t .holds) (c .is) ∙ tested-holds formula values I e ∙ sym (quick-judge I (registers values));
+  tells = λ formula values r c x. holds-is c x ∙ sym (quick-judge (x .formula) (registers values));
 }

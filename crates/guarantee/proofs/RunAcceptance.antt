@@ -39,7 +39,7 @@ use Rattle.run.proofs.Ordered.{run-in-order}
 use Rattle.run.proofs.OneField.{EntersBytes}
 use Rattle.run.proofs.UniformWalked.{walk-accepts}
 use Rattle.guarantee.specs.Runs.{guardsFile, guardSizes, RunCheckable, ShortGuards, RunAcceptance}
-use Rattle.guarantee.proofs.Runs.{left-of}
+use Rattle.guarantee.proofs.Runs.{all-at, left-of}
 use Rattle.guarantee.proofs.RunReasons.{is-parted, every-short, Why, guards-why}
 
 -- ---- the fields of a proof of bytes
@@ -151,7 +151,7 @@ module _ {newest : ℕ} {buffer lengths proof : List ℕ} {K : ℕ} {Ts : Run} {
       need (answer 1 fileLent (length (joined (map (formulaFile edition1 L) Js)))) (every (λ file. leb (length file) (edition1 .formulaBytes)) (map (formulaFile edition1 L) Js)) >> accepted (map (formulaFile edition1 L) Js))) ≡ finishing K Is
   after-stages L S p q = rw (p, q) (needs _ _ _ (le→leb _ _ (y .few)) ∙ binds _ (run-accepted y bytes))
 
-  guards-yielded : guardFiles newest buffer lengths proof ≡ finishing K Is
+  pub guards-yielded : guardFiles newest buffer lengths proof ≡ finishing K Is
   unfolding guardFiles agrees
   guards-yielded = needs _ _ _ (is-parted lengths buffer (y .least, y .most, y .adds-up)) ∙ passes _ (stages-fit newest K (y .stages) firstStage) ∙ passes _ (short-accepted _ fileProof proof (y .fileProof .short))
       ∙ binds _ (stages-read newest K (y .stages) firstStage none tt)
@@ -211,10 +211,10 @@ module _ (output sizes : List ℕ) where
     short-all K [] t = nil
     short-all K (I ∷ Is) t = let (a, b) = and-yes (leb (length (formulaFile edition1 K I)) (edition1 .formulaBytes)) _ t in cons (leb→le _ _ a) (short-all K Is b)
 
-    left-long : (K : ℕ) (Ts : Run) (Is : List Formula) → RunYields newestEdition buffer lengths proof K Ts Is → ¬ (All (λ I. length (formulaFile edition1 K I) ≤ edition1 .formulaBytes) Is)
+    left-long : (K : ℕ) (Ts : Run) (Is : List Formula) → RunYields newestEdition buffer lengths proof K Ts Is → (i : ℕ) → i ≤ length Ts → edition1 .formulaBytes < length (formulaFile edition1 K (guardAt Is i))
         → guards buffer lengths proof output sizes ≡ unwritten output sizes (answer 1 fileLent (length (guardsFile K Is)))
     unfolding guards guardsBy
-    left-long K Ts Is y l = ap (writtenGuards output sizes) (guards-yielded y bytes) ∙ refuses-long K Is _ (λ t. l (short-all K Is t))
+    left-long K Ts Is y i h l = ap (writtenGuards output sizes) (guards-yielded y bytes) ∙ refuses-long K Is _ (λ t. omega (arith, l, all-at (short-all K Is t) i (omega (arith, y .count))))
 
 -- ---- 21 comes only from an output that is too short
 either-no : (a b : Bool) → a && b ≡ false → (a ≡ false) ⊎ (b ≡ false)
@@ -266,7 +266,7 @@ run-acceptance = record {
   );
   guards-1-at-end = λ buffer lengths proof output sizes left sizesLeft r bytes w. (
     λ (e, f). why-of w .2 e f,
-    λ l. ap (λ (g : GuardsWritten). g .answer) (answer-of w _ (left-long output sizes buffer lengths proof bytes (l .K) (l .Ts) (l .Is) (l .yields) (l .long))),
+    λ l. let (i, h, long) = l .long in ap (λ (g : GuardsWritten). g .answer) (answer-of w _ (left-long output sizes buffer lengths proof bytes (l .K) (l .Ts) (l .Is) (l .yields) i h long)),
   );
   guards-21 = λ buffer lengths proof output sizes left sizesLeft r bytes w. (
     λ h. only-21 buffer lengths proof output sizes (subst (λ (g : GuardsWritten). g .answer .number ≡ 21) (w .is) h),

@@ -20,7 +20,8 @@ use Rattle.bundle.specs.Layout.{Each, nil as nil-each, cons as cons-each}
 use Rattle.bundle.proofs.Laid.{short-accepted}
 use Rattle.formula.specs.Formula.{formulaFile}
 use Rattle.proof.specs.Check.{checkProof}
-use Rattle.proof.specs.Tree.{Tree, Stands, here, past}
+use Rattle.proof.specs.Tree.{Tree}
+use Rattle.proof.proofs.Tree.{proof-stands}
 use Rattle.chains.specs.Runs.{Run, joined, upTo, beyond}
 use Rattle.run.specs.Uniform.{withNumber}
 use Rattle.run.specs.Run.{mostConstraints, firstStage, parts, constantsOf, runOf, side, checkCut, checkRun, guardFiles, GuardsWritten, unwritten, fitGuards, writtenGuards, guardsBy, guards}
@@ -32,11 +33,12 @@ use Rattle.run.proofs.Refused.{refused-as-check}
 use Rattle.guarantee.specs.LaidOut.{Listed}
 use Rattle.guarantee.specs.RunTree.{StandsInRun, as-check, claim, unlike}
 use Rattle.guarantee.specs.Runs.{RunPromised}
+use Rattle.guarantee.proofs.AtEnd.{stands-file}
 use Rattle.guarantee.proofs.Soundness.{lists}
 use Rattle.guarantee.proofs.RunTree.{uniform-stands}
 use Rattle.guarantee.proofs.RunReasons.{is-parted, yields}
 use Rattle.guarantee.proofs.Runs.{left-of, delivered, cut-checked}
-use Rattle.guarantee.proofs.RunAcceptance.{bundlesOf, run-of, stages-read, stages-fit, constants-of, parts-count, cut-accepted}
+use Rattle.guarantee.proofs.RunAcceptance.{bundlesOf, run-of, stages-read, stages-fit, constants-of, parts-count, cut-accepted, guards-yielded}
 
 -- ---- one K, one run, one list of guards
 same-guards : (Is Js : List Formula) → length Is ≡ length Js → ((i : ℕ) → i < length Is → guardAt Is i ≡ guardAt Js i) → Is ≡ Js
@@ -80,10 +82,6 @@ all-listed [] buffer b nil-each = nil
 all-listed (n ∷ ns) buffer b (cons-each s ss) = let (a, r) = all-part n b in cons (lists a (s .states .whole)) (all-listed ns (drop n buffer) r ss)
 
 -- ---- a refusal of the proof
-stands-file : {t : Tree} {fs : Fields} {a : Answer} → Stands t fs a → a .file ≡ fileProof
-stands-file (here e) = ap (λ (a : Answer). a .file) e
-stands-file (past f s) = stands-file s
-
 stands-in-proof : {t : Tree} {fs : Fields} {a : Answer} → StandsInRun t fs a → a .file ≡ fileProof
 unfolding withNumber
 stands-in-proof (as-check n m s) = stands-file s
@@ -129,12 +127,35 @@ module _ (buffer lengths proof output sizes : List ℕ) (K : ℕ) (Ts : Run) (sh
   unfolding guards guardsBy
   refused-in-proof h = rw files-are (by-run (checkRun newestEdition K Ts (fields proof)) refl (rw files-are at h))
 
-  -- where check accepts every cut and no guards are derived, by 27 or 28, for the proof
-  abbrev Ours : Answer → Type 0
-  Ours a = (a .file ≡ fileProof) × ((a .number ≡ 27) ⊎ (a .number ≡ 28))
+  -- where guards are derived, the proof is not named
+  none-where-named : Bytes proof → guards buffer lengths proof output sizes .answer .file ≡ fileProof → (Is : List Formula) → ¬ (RunYields newestEdition buffer lengths proof K Ts Is)
+  unfolding guards guardsBy
+  none-where-named bytes h Is y =
+      finished-file (every (λ file. leb (length file) (edition1 .formulaBytes)) (map (formulaFile edition1 K) Is)) (length (joined (map (formulaFile edition1 K) Is))) (map (formulaFile edition1 K) Is) (rw (guards-yielded y bytes) at h)
 
-  module _ (cuts : (i : ℕ) → i ≤ length Ts → (I : Formula) × (checkProof newestEdition (side K (upTo Ts i)) (side K (beyond Ts i)) (fields proof) ≡ accepted I))
-      (none-derived : (Is : List Formula) → ¬ (RunYields newestEdition buffer lengths proof K Ts Is)) where
+  -- where none are, it is
+  of-proof : (a : Answer) → RunRefused newestEdition K Ts proof a → a .file ≡ fileProof
+  unfolding withNumber
+  of-proof a (every-cut h) = stands-file (proof-stands newestEdition (side K (upTo Ts 0)) (side K (beyond Ts 0)) (fields proof) a (h 0 (omega arith)))
+  of-proof a (some-cut i l n e) = stands-file (proof-stands newestEdition (side K (upTo Ts i)) (side K (beyond Ts i)) (fields proof) a e)
+  of-proof a (differing i l b n e q) = ap (λ (x : Answer). x .file) q ∙ stands-file (proof-stands newestEdition (side K (upTo Ts i)) (side K (beyond Ts i)) (fields proof) b e)
+  of-proof a (of-run n e h) = stands-in-proof (uniform-stands newestEdition K (fields proof) .refusal a e)
+
+  module _ (none-derived : (Is : List Formula) → ¬ (RunYields newestEdition buffer lengths proof K Ts Is)) (Q : Answer → Type 0) (of-refused : (a : Answer) → RunRefused newestEdition K Ts proof a → Q a) where
+    by-refusal : (R : Result (List Formula)) → checkRun newestEdition K Ts (fields proof) ≡ R → Q (writtenGuards output sizes (R >>= λ Js. finishing Js) .answer)
+    unfolding _>>=_ writtenGuards unwritten
+    by-refusal (refused a) e = of-refused a (refused-as-check .as-check newestEdition K Ts proof a e .0)
+    by-refusal (accepted Is) e = absurd (none-derived Is (yields buffer lengths proof short K Ts stages few Is (run-gives newestEdition K Ts (fields proof) .gives Is e)))
+
+    where-none : Q (guards buffer lengths proof output sizes .answer)
+    unfolding guards guardsBy
+    where-none = rw files-are (by-refusal (checkRun newestEdition K Ts (fields proof)) refl)
+
+  -- where moreover check accepts every cut, by 27 or 28
+  abbrev Ours : Answer → Type 0
+  Ours a = (a .number ≡ 27) ⊎ (a .number ≡ 28)
+
+  module _ (cuts : (i : ℕ) → i ≤ length Ts → (I : Formula) × (checkProof newestEdition (side K (upTo Ts i)) (side K (beyond Ts i)) (fields proof) ≡ accepted I)) where
     never-cut : (a : Answer) (i : ℕ) → i ≤ length Ts → CutRefused newestEdition K Ts proof a i → ⊥
     never-cut a i l e = let (I, q) = cuts i l in never (sym e ∙ q)
 
@@ -142,16 +163,7 @@ module _ (buffer lengths proof output sizes : List ℕ) (K : ℕ) (Ts : Run) (sh
     ours a (every-cut h) = absurd (never-cut a 0 (omega arith) (h 0 (omega arith)))
     ours a (some-cut i l n e) = absurd (never-cut a i l e)
     ours a (differing i l b n e q) = absurd (never-cut b i l e)
-    ours a (of-run n e h) = (stands-in-proof (uniform-stands newestEdition K (fields proof) .refusal a e), n)
-
-    by-walk : (R : Result (List Formula)) → checkRun newestEdition K Ts (fields proof) ≡ R → Ours (writtenGuards output sizes (R >>= λ Js. finishing Js) .answer)
-    unfolding _>>=_ writtenGuards unwritten
-    by-walk (refused a) e = ours a (refused-as-check .as-check newestEdition K Ts proof a e .0)
-    by-walk (accepted Is) e = absurd (none-derived Is (yields buffer lengths proof short K Ts stages few Is (run-gives newestEdition K Ts (fields proof) .gives Is e)))
-
-    refused-by-walk : Ours (guards buffer lengths proof output sizes .answer)
-    unfolding guards guardsBy
-    refused-by-walk = rw files-are (by-walk (checkRun newestEdition K Ts (fields proof)) refl)
+    ours a (of-run n e h) = n
 
 -- Document 02, point 7.
 pub run-promised : RunPromised
@@ -163,7 +175,12 @@ run-promised = record {
   in-proof = λ buffer lengths proof output sizes left sizesLeft r w K Ts short stages few h.
       let e : r .answer ≡ guards buffer lengths proof output sizes .answer = ap (λ (g : GuardsWritten). g .answer) (w .is) in
       rw e (refused-in-proof buffer lengths proof output sizes K Ts short stages few (rw e at h));
+  names-proof = λ buffer lengths proof output sizes left sizesLeft r bytes w K Ts short stages few.
+      let e : r .answer ≡ guards buffer lengths proof output sizes .answer = ap (λ (g : GuardsWritten). g .answer) (w .is) in (
+        λ h. none-where-named buffer lengths proof output sizes K Ts short stages few bytes (rw e at h),
+        λ n. rw e (where-none buffer lengths proof output sizes K Ts short stages few n (λ a. a .file ≡ fileProof) (of-proof buffer lengths proof output sizes K Ts short stages few)),
+      );
   not-uniform = λ buffer lengths proof output sizes left sizesLeft r w K Ts short stages few cuts n.
       let e : r .answer ≡ guards buffer lengths proof output sizes .answer = ap (λ (g : GuardsWritten). g .answer) (w .is) in
-      rw e (refused-by-walk buffer lengths proof output sizes K Ts short stages few cuts n);
+      rw e (where-none buffer lengths proof output sizes K Ts short stages few n (λ a. (a .number ≡ 27) ⊎ (a .number ≡ 28)) (ours buffer lengths proof output sizes K Ts short stages few cuts));
 }

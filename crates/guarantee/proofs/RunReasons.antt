@@ -4,7 +4,7 @@ use mathlib.Core.Logic.{_⊎_, inl, inr}
 use mathlib.Core.Option.{Option, none, some}
 use mathlib.Core.Bool.{Bool, true, false, _&&_}
 use mathlib.Core.List.{List, [], _∷_, map}
-use Prim.Native.Nat.{ℕ, suc, _≤_}
+use Prim.Native.Nat.{ℕ, suc, _≤_, _<_}
 use native.Mathlib.Omega.{arith}
 use borrow.Author.Tests.{leb-true, leb-false}
 use lib.Dec.{T, leb, eqb, le→leb, leb→le, eqb→eq, eqb-refl}
@@ -22,7 +22,7 @@ use Rattle.proof.proofs.Says.{Says, says-refused, says-accepted, bind, weaken}
 use Rattle.chains.specs.Runs.{Run, joined, upTo, beyond}
 use Rattle.run.specs.Uniform.{withNumber}
 use Rattle.run.specs.Run.{mostStages, mostConstraints, firstStage, total, parts, parted, stagesShort, readStages, constantsOf, runOf, side, checkRun, guardFiles, unwritten, fitGuards, writtenGuards, guardsBy, guards}
-use Rattle.run.specs.Layout.{StageFile, RunYields}
+use Rattle.run.specs.Layout.{guardAt, StageFile, RunYields}
 use Rattle.run.specs.Refused.{RunRefused, every-cut, some-cut, differing, of-run}
 use Rattle.run.specs.Ordered.{Parted, Short}
 use Rattle.run.proofs.Agree.{all-stages}
@@ -97,6 +97,18 @@ unfolding every
 every-short K nil = tt
 every-short K (cons {x = I} h hs) = yes-and (leb (length (formulaFile edition1 K I)) (edition1 .formulaBytes)) _ (le→leb _ _ h) (every-short K hs)
 
+some-long : (K : ℕ) (Is : List Formula) → every (λ file. leb (length file) (edition1 .formulaBytes)) (map (formulaFile edition1 K) Is) ≡ false
+    → (i : ℕ) × (i < length Is) × (edition1 .formulaBytes < length (formulaFile edition1 K (guardAt Is i)))
+unfolding every guardAt
+some-long K [] e = absurd (subst T e tt)
+some-long K (I ∷ Is) e = go (leb (length (formulaFile edition1 K I)) (edition1 .formulaBytes)) refl e (λ f. some-long K Is f)
+  where
+    go : (b : Bool) → leb (length (formulaFile edition1 K I)) (edition1 .formulaBytes) ≡ b → {c : Bool} → b && c ≡ false
+        → (c ≡ false → (i : ℕ) × (i < length Is) × (edition1 .formulaBytes < length (formulaFile edition1 K (guardAt Is i))))
+        → (i : ℕ) × (i < suc (length Is)) × (edition1 .formulaBytes < length (formulaFile edition1 K (guardAt (I ∷ Is) i)))
+    go true t f k = let (i, h, l) = k f in (suc i, omega arith, l)
+    go false t f k = (0, omega arith, leb-false _ _ t)
+
 module _ (buffer lengths proof : List ℕ) where
   abbrev pub Why : Answer → Type 0
   Why a = (a .number ≡ 25 → ¬ (Parted lengths buffer)) × (a .number ≡ 26 → ManyConstraints buffer lengths proof) × (a .number ≡ 1 → a .file ≡ 4 → LongGuard buffer lengths proof)
@@ -149,7 +161,7 @@ module _ (buffer lengths proof : List ℕ) where
           Ts = runOf ts;
           Is = Is;
           yields = yields short (constantsOf ts) (runOf ts) h (leb-true _ _ few) Is r;
-          long = λ all. subst T f (every-short (constantsOf ts) all);
+          long = let (i, h, l) = some-long (constantsOf ts) Is f in (i, omega (arith, r .count), l);
         },
       )) λ _. says-accepted tt
 

@@ -9,7 +9,7 @@ use lib.Dec.{T}
 use lib.ListN.{length, take, getD, getElem?, length-map}
 use lib.IntN.{ℤ, natAbs}
 use Rattle.forms.specs.Edition.{edition1}
-use Rattle.forms.specs.Forms.{All, nil, cons, Formula, True}
+use Rattle.forms.specs.Forms.{All, cons, Formula, True}
 use Rattle.answers.specs.declared.WriteResult.{WriteResult}
 use Rattle.answers.specs.Answers.{acceptance, accepted}
 use Rattle.number_bytes.specs.Numbers.{Bytes}
@@ -23,16 +23,12 @@ use Rattle.run.specs.Run.{parts}
 use Rattle.run.specs.Layout.{guardAt}
 use Rattle.guarantee.specs.Runs.{Writer, fileBy, statedBy, lengthsBy, runBy, DeliveredRun}
 use Rattle.guarantee.specs.RunTells.{guardFile, GuardsTold, RunTells}
+use Rattle.guarantee.proofs.FormulaFiles.{file-read}
 use Rattle.guarantee.proofs.Guard.{bool-true, bool-false, tested-as}
+use Rattle.guarantee.proofs.Runs.{all-at}
 use Rattle.guarantee.proofs.RunPromised.{run-promised}
 
 -- ---- elements by their number
-all-at : {P : Formula → Type 0} {Is : List Formula} → All P Is → (i : ℕ) → i < length Is → P (guardAt Is i)
-unfolding guardAt
-all-at nil i l = absurd (omega arith)
-all-at (cons h hs) zero l = h
-all-at (cons h hs) (suc i) l = all-at hs i (omega arith)
-
 file-at : (K : ℕ) (Is : List Formula) (i : ℕ) → i < length Is → getD (map (formulaFile edition1 K) Is) i [] ≡ formulaFile edition1 K (guardAt Is i)
 unfolding guardAt
 file-at K [] i l = absurd (omega arith)
@@ -66,11 +62,14 @@ module _ (ws : List Writer) (proof output sizes left sizesLeft : List ℕ) (r : 
   told : (i : ℕ) → i ≤ length ws → (t : Tested) → Tests (guardFile (length ws) left sizesLeft i) values t
       → t ≡ asTested (record { answer = acceptance; holds = judge (guardAt (x .Is) i) (registers values) })
   told i l t d =
-      let (reads, short) = all-at (x .reads-back bytes) i (omega (arith, x .guards)) in
+      let I = guardAt (x .Is) i in
+      let file = formulaFile edition1 (x .K) I in
+      let low = x .certified .yields .fileProof .low in
+      let high = x .certified .yields .fileProof .high in
+      let reads = file-read (x .K) file I low high (all-at (x .states bytes) i (omega (arith, x .guards))) in
       d .is ∙ ap (λ (f : List ℕ). asTested (testFormula f values)) (file-is i l)
-      ∙ ap asTested (tested-as (formulaFile edition1 (x .K) (guardAt (x .Is) i)) values (guardAt (x .Is) i)
-      (subst (λ (k : ℕ). readFormula k (fields (formulaFile edition1 (x .K) (guardAt (x .Is) i))) ≡ accepted (guardAt (x .Is) i)) (sym K-is) reads) short
-      (let z = K-is in omega (arith, x .certified .yields .fileProof .low)) (let z = K-is in omega (arith, x .certified .yields .fileProof .high)) range)
+      ∙ ap asTested (tested-as file values I (subst (λ (k : ℕ). readFormula k (fields file) ≡ accepted I) (sym K-is) reads) (all-at (x .upto) i (omega (arith, x .guards)))
+      (let z = K-is in omega (arith, low)) (let z = K-is in omega (arith, high)) range)
 
   holds-of : (i : ℕ) → i ≤ length ws → (t : Tested) → Tests (guardFile (length ws) left sizesLeft i) values t → t .holds ≡ judge (guardAt (x .Is) i) (registers values)
   holds-of i l t d = ap (λ (t : Tested). t .holds) (told i l t d)

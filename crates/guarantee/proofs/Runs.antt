@@ -32,7 +32,9 @@ use Rattle.run.specs.Layout.{guardAt, StageFile, RunCertifies}
 use Rattle.run.specs.Promises.{guardsOf, WritesGuards}
 use Rattle.run.proofs.Agree.{Certified, guards-give, never-0, never-22}
 use Rattle.guarantee.specs.Refusals.{ToldByNumber}
+use Rattle.guarantee.specs.Testing.{FormulaFile}
 use Rattle.guarantee.specs.Runs.{Writer, fileBy, statedBy, bufferBy, lengthsBy, runBy, guardsFile, guardSizes, DeliveredRun, RunCheckable}
+use Rattle.guarantee.proofs.FormulaFiles.{read-gives}
 
 -- ---- what is left
 module _ (output sizes : List ℕ) where
@@ -138,7 +140,7 @@ means {K} (w ∷ ws) (cons-each {y = T} {ys = Ts} s ss) =
     let q = meaning-is w (s .number) K T (s .states) in
     record { run = ap₂ _∷_ (ap (λ (m : ℕ × List Constraint). m .1) q) (h .run); K-of = cons (ap (λ (m : ℕ × List Constraint). m .0) q) (h .K-of) }
 
--- ---- each guard reads back
+-- ---- each guard's file states it
 all-joined : {K : ℕ} {files : List (List ℕ)} {Ts : Run} → Each (StageFile newestEdition K) files Ts → (i : ℕ) → Stated K (upTo Ts i) × Stated K (beyond Ts i)
 all-joined h i = (upTo-in h i, beyond-in h i)
   where
@@ -165,11 +167,11 @@ unfolding guardAt
 all-guards [] h = nil
 all-guards (I ∷ Is) h = cons (h 0 (omega arith)) (all-guards Is (λ i l. h (suc i) (omega arith)))
 
-short-at : (K : ℕ) {Js : List Formula} → All (λ I. length (formulaFile edition1 K I) ≤ edition1 .formulaBytes) Js → (i : ℕ) → i < length Js → length (formulaFile edition1 K (guardAt Js i)) ≤ edition1 .formulaBytes
+pub all-at : {P : Formula → Type 0} {Is : List Formula} → All P Is → (i : ℕ) → i < length Is → P (guardAt Is i)
 unfolding guardAt
-short-at K nil i h = absurd (omega arith)
-short-at K (cons s ss) zero h = s
-short-at K (cons s ss) (suc i) h = short-at K ss i (omega arith)
+all-at nil i l = absurd (omega arith)
+all-at (cons h hs) zero l = h
+all-at (cons h hs) (suc i) l = all-at hs i (omega arith)
 
 -- ---- check derives guard i from the bundles of cut i
 module _ {buffer lengths proof : List ℕ} {K : ℕ} {Ts : Run} {Is : List Formula} (c : RunCertifies newestEdition buffer lengths proof K Ts Is)
@@ -190,7 +192,7 @@ module _ {buffer lengths proof : List ℕ} {K : ℕ} {Ts : Run} {Is : List Formu
           fileProof = y .fileProof;
           proves = y .guards .proves i h;
         };
-        short = short-at K (c .short) i (omega (arith, y .count));
+        short = all-at (c .short) i (omega (arith, y .count));
       }
 
   pub cut-checked : (lent : List ℕ) → check A B proof lent ≡ written (accepted (formulaFile edition1 K (guardAt Is i))) lent
@@ -205,8 +207,8 @@ module _ {buffer lengths proof : List ℕ} {K : ℕ} {Ts : Run} {Is : List Formu
       let s = all-joined (y .stages) i in
       read-written K (guardAt Is i) (y .fileProof .low) (y .fileProof .high) (proves-encodable K (y .editionProof) p (s .0) (s .1) (proof-short bytes (y .fileProof))) (proves-height (y .editionProof) p)
 
-  guards-back : All (λ I. (readFormula K (fields (formulaFile edition1 K I)) ≡ accepted I) × (length (formulaFile edition1 K I) ≤ edition1 .formulaBytes)) Is
-  guards-back = all-guards Is (λ i h. (guard-back i (omega (arith, c .yields .count)), short-at K (c .short) i h))
+  guards-stated : All (λ I. FormulaFile K (formulaFile edition1 K I) I) Is
+  guards-stated = all-guards Is (λ i h. read-gives K (formulaFile edition1 K (guardAt Is i)) .gives (guardAt Is i) (guard-back i (omega (arith, c .yields .count))))
 
 -- ---- the output, cut by its sizes
 parts-front : (K : ℕ) (Is : List Formula) (rest : List ℕ) → parts (guardSizes K Is) (guardsFile K Is ++ rest) ≡ map (formulaFile edition1 K) Is
@@ -246,5 +248,6 @@ module _ (ws : List Writer) (proof output sizes left sizesLeft : List ℕ) (r : 
         bytes = l .bytes;
         lengths = l .many;
         files = cut-front (c .K) (c .Is) output sizes left sizesLeft (l .bytes) (l .many);
-        reads-back = guards-back certified;
+        upto = certified .short;
+        states = guards-stated certified;
       }

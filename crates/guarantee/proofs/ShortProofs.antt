@@ -180,12 +180,12 @@ module _ {A B given output left : List ℕ} {r : WriteResult} (c : WritesNext A 
   short-as n = answer-of (left-by (follows-is A B given (n .follows)) ∙ ap (λ (b : Bool). fit output b (n .file)) (lt-leb (length (n .file)) (length output) (n .short)))
 
   -- as check
-  module _ {proof checked : List ℕ} {q : WriteResult} (k : Checks A B proof output checked q) (short : length proof ≤ 65_536) where
+  module _ {lent proof checked : List ℕ} {q : WriteResult} (k : Checks A B proof lent checked q) (short : length proof ≤ 65_536) where
     both-refused : {a : Answer} → bothRead newestEdition A B ≡ refused a → r .answer ≡ q .answer
-    both-refused e = let (p, n) = as-check A B proof short given output e in answer-of (c .is ∙ n) ∙ sym (ap (λ (w : Written). w .answer) (k .is ∙ p))
+    both-refused e = answer-of (c .is ∙ as-check A B proof short given output e .1) ∙ sym (ap (λ (w : Written). w .answer) (k .is ∙ as-check A B proof short given lent e .0))
 
     as-checked : OfBundle (q .answer) → r .answer ≡ q .answer
-    as-checked o = let (a, e) = checked-file A B proof short output (subst (λ (w : Written). OfBundle (w .answer)) (k .is) o) in both-refused e
+    as-checked o = let (a, e) = checked-file A B proof short lent (subst (λ (w : Written). OfBundle (w .answer)) (k .is) o) in both-refused e
 
     checked-as : OfBundle (r .answer) → r .answer ≡ q .answer
     checked-as o = let (a, e) = why-told .of-bundle o in both-refused e

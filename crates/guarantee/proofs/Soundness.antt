@@ -20,7 +20,7 @@ use Rattle.fields.proofs.Bare.{bareWritten}
 use Rattle.bundle.specs.Bundle.{bundle}
 use Rattle.bundle.specs.Layout.{StatesAll, BundleFile, bundleLimit}
 use Rattle.bundle.proofs.Bare.{limit-most, kept-higher}
-use Rattle.formula.specs.Formula.{formulaFile, readFormula}
+use Rattle.formula.specs.Formula.{formulaFile}
 use Rattle.proof.specs.Check.{check}
 use Rattle.proof.specs.Layout.{Yields}
 use Rattle.proof.specs.Editions.{limitBehind, lengthsFit, limitA, limitB}
@@ -30,7 +30,10 @@ use Rattle.proof.proofs.Sizes.{written-reads-back}
 use Rattle.proof.specs.Promises.{Checks}
 use Rattle.guarantee.specs.LaidOut.{Listed, LaidBundle, Placed, unclaimed, claimed, strengthen as strengthens, round as rounds, split as splits, number as numbers, stride as strides, PlacedTimes, none as nones, more as mores, LaidOut}
 use Rattle.guarantee.specs.Acceptance.{Checkable}
+use Rattle.guarantee.specs.Testing.{FormulaFile}
 use Rattle.guarantee.specs.Soundness.{Meaning, Faithful, Delivered, NotesPassedOver, Soundness}
+use Rattle.guarantee.proofs.FormulaFiles.{read-gives}
+use Rattle.guarantee.proofs.AtEnd.{lent-kept}
 use Rattle.guarantee.proofs.Acceptance.{of-editions, is-checkable, leaves, acceptance-holds}
 
 -- ---- what a writer stated is what the check read
@@ -114,9 +117,9 @@ module _ (FA FB : List Item) (framedA : All Framed FA) (framedB : All Framed FB)
     fits = a .fits;
     count = leaves c a .count-is;
     bytes = leaves c a .left-is;
-    reads-back = λ bytes.
-        let (reads, short) = written-reads-back (fileOf FA) (fileOf FB) proof bytes (a .certified) in
-        (ap (λ (bs : List ℕ). readFormula (a .K) (fields bs)) front-is ∙ reads, subst (λ (n : ℕ). n ≤ edition1 .formulaBytes) (sym (leaves c a .count-is)) short);
+    upto = subst (λ (n : ℕ). n ≤ edition1 .formulaBytes) (sym (leaves c a .count-is)) (a .certified .short);
+    states = λ bytes. subst (λ (bs : List ℕ). FormulaFile (a .K) bs (a .formula)) (sym front-is)
+        (read-gives (a .K) file .gives (a .formula) (written-reads-back (fileOf FA) (fileOf FB) proof bytes (a .certified) .0));
     interpolant = rw (stated FA framedA MA faithfulA (a .K) _ (a .certified .yields .fileA), stated FB framedB MB faithfulB (a .K) _ (a .certified .yields .fileB)) (yielded-interpolant (a .certified .yields));
   }
 
@@ -142,7 +145,7 @@ limit-B-least A B proof = behind-least (lengthsFit A B proof >> bundle newestEdi
 notes : NotesPassedOver limitA limitB
 notes A A′ B B′ proof proof′ output left left′ r r′ nA nB nP kA kB kP c c′ =
     let same = bare-is c′ ∙ check-noted nA nB nP kA kB kP output ∙ sym (bare-is c) in
-    (ap (λ (w : Written). w .answer) same, ap (λ (w : Written). w .count) same, ap (λ (w : Written). w .output) same)
+    (ap (λ (w : Written). w .answer) same, ap (λ (w : Written). w .count) same, ap (λ (w : Written). w .output) same, lent-kept nA nB nP kA kB kP c c′)
 
 notes-plain : NotesPassedOver (λ A B proof. bundleLimit A) (λ A B proof. bundleLimit B)
 notes-plain A A′ B B′ proof proof′ output left left′ r r′ nA nB nP kA kB =

@@ -25,7 +25,7 @@ use Rattle.formula_test.specs.Promises.{Tests}
 use Rattle.formula_list.specs.Promises.{TestsList}
 use Rattle.guarantee.specs.Testing.{FormulaFile}
 use Rattle.guarantee.specs.TestList.{Vectors, Permitted, vectorAt, Acceptable, ListTells}
-use Rattle.guarantee.proofs.Testing.{read-gives, file-read}
+use Rattle.guarantee.proofs.FormulaFiles.{read-gives, file-read}
 
 -- ---- shape and range, as tests
 abbrev Allowed : List ℤ → Type 0

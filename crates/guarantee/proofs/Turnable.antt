@@ -3,7 +3,7 @@ use mathlib.Core.Path.{_≡_, refl, sym, _∙_, ap, subst}
 use mathlib.Core.Logic.{_⊎_, inl, inr}
 use mathlib.Core.Option.{none, some}
 use mathlib.Core.Bool.{false}
-use mathlib.Core.List.{List, _∷_, _++_, map}
+use mathlib.Core.List.{List, [], _∷_, _++_, map}
 use Prim.Native.Nat.{ℕ, suc, _^_, _≤_, _<_}
 use native.Mathlib.Omega.{arith}
 use lib.Dec.{T, leb→le}
@@ -19,25 +19,25 @@ use Rattle.answers.proofs.Results.{passes, binds, then-refused}
 use Rattle.number_bytes.specs.Numbers.{Bytes, flat}
 use Rattle.number_bytes.proofs.Signed.{all-weaken}
 use Rattle.fields.specs.declared.FileKind.{FileKind}
-use Rattle.fields.specs.Fields.{Field, Item, fields, nth}
-use Rattle.fields.specs.Header.{headerTag, known, agrees}
-use Rattle.fields.proofs.HeaderLaid.{header-read}
+use Rattle.fields.specs.Fields.{Field, Fields, Item, item, fields, items, nth}
+use Rattle.fields.specs.Header.{Header, headerTag, known, agrees, header}
+use Rattle.fields.proofs.HeaderLaid.{next-items, header-gives, header-read}
 use Rattle.fields.proofs.Contents.{ItemBytes, contents-bytes}
 use Rattle.bundle.specs.Bundle.{Bundle, formSmall}
 use Rattle.bundle.specs.Layout.{Each, States, BundleFile}
-use Rattle.bundle.proofs.Laid.{Lists, listed, bundle-accepts, short-accepted}
+use Rattle.bundle.proofs.Laid.{Lists, done, next, Itemed, itemed, listed, bundle-accepts, short-accepted}
 use Rattle.bundle.specs.Write.{holdable}
 use Rattle.bundle.proofs.Every.{every-of, of-every}
 use Rattle.bundle.proofs.Writable.{bytesOf-file, header-file, sized}
 use Rattle.proof.specs.Entries.{entryTagged, lineCount}
 use Rattle.proof.specs.Layout.{Enters, ProofFile}
-use Rattle.conversion.specs.Turning.{other, linesNamed, linesFit, numbersFit, behindHeader, bundleTurned, proofTurned, resultWithin}
+use Rattle.conversion.specs.Turning.{other, asked, otherEdition, eachField, linesNamed, linesFit, numbersFit, behindHeader, bundleTurned, entriesRead, proofTurned, resultWithin}
 use Rattle.conversion.specs.Turnable.{BundleTurnable, ProofTurnable, InTurn, turnedItem}
-use Rattle.conversion.proofs.Asking.{Asked, down, up, asked-accepted, other-accepted}
+use Rattle.conversion.proofs.Asking.{Asked, down, up, asked-gives, asked-accepted, other-first, other-last, other-gives, other-accepted, same-edition, Fit, ends-fit, next-fits, each-field-gives}
 use Rattle.conversion.proofs.Bundles.{AllHeld, file-widths, body-lists, BundleTurns, bundle-turned-accepts}
 use Rattle.conversion.proofs.Carried.{below-own, every-below, below-every, there}
 use Rattle.conversion.proofs.First.{first-unfit, lists-items, rest-gives, nth-behind}
-use Rattle.conversion.proofs.Proofs.{ProofTurns, entries-accept, proof-turned-as}
+use Rattle.conversion.proofs.Proofs.{ProofTurns, EntriesIn, entries-give, entries-accept, proof-turned-as}
 use Rattle.guarantee.proofs.Acceptance.{held-two, two-held, four-held}
 
 to-ask : {to : ℕ} → Asked to → (to ≡ 1) ⊎ (to ≡ 2)
@@ -116,6 +116,9 @@ lines-held : {to : ℕ} {file : List ℕ} {K : ℕ} {es : List Entry} → Bytes 
 lines-held k f (inl e) h = rw e (all-weaken fit-down (h e))
 lines-held {to} {file} k f (inr e) h = let own = behind-two (contents-bytes file k (f .whole)) in rw e (fits-up (rw e at (f .enters)) own)
 
+held-low : {to : ℕ} {is : List Item} → All (λ i. T (linesFit (edition (other to)) (edition to) i)) is → to ≡ 1 → All (λ i. All (λ n. n ≤ 255) (linesNamed edition2 i)) is
+held-low h e = all-weaken down-fit (rw e at h)
+
 pub proof-turnable : {to : ℕ} {file bytes : List ℕ} → ProofTurns to file bytes → ProofTurnable to file bytes
 proof-turnable {to} t = record {
   one-or-two = to-ask (t .asks);
@@ -123,7 +126,7 @@ proof-turnable {to} t = record {
   entries = t .es;
   states = t .source;
   in-turn = t .turn;
-  held = λ e. all-weaken down-fit (rw e at (t .held));
+  held = held-low (t .held);
   are = t .are ∙ header-file to (t .K) (map (turnedItem (other to) to) (t .source .body));
 }
 
@@ -131,6 +134,45 @@ pub turnable-proof : {to : ℕ} {file bytes : List ℕ} → Bytes file → Proof
 turnable-proof {to} {file} k t =
     proof-turned-as to file (to-asked (t .one-or-two)) (t .states) (t .in-turn) (lines-held k (t .states) (t .one-or-two) (t .held))
     ∙ ap (resultWithin 65_536) (sym (t .are ∙ sym (header-file to (t .K) (map (turnedItem (other to) to) (t .states .body)))))
+
+-- what is read whole is to be turned, however long the result
+itemed-fit : {P : Item → Type 0} {R : Item → Entry → Type 0} {fs : Fields} {es : List Entry} → Lists R fs es → Fit P fs → (t : Itemed R fs es) × All P (t .list)
+unfolding items
+itemed-fit (done at) ends-fit = (record { list = []; are = refl; each = Each.nil }, nil)
+itemed-fit (next f {fs = fs} r l) (next-fits h k) =
+    let t = itemed-fit l k in
+    (record { list = item (f .tag) (f .contents) ∷ t .0 .list; are = next-items f fs (t .0 .are); each = Each.cons r (t .0 .each) }, cons h (t .1))
+
+module _ (to : ℕ) (file : List ℕ) where
+  abbrev TurnableAs : ℕ → Type 0
+  TurnableAs n = (K : ℕ) (rest : Fields) → 1 ≤ K → K ≤ 16
+      → ((is : List Item) → items rest ≡ some is → items (fields file) ≡ some (item 0x01 (n ∷ []) ∷ item 0x02 (K ∷ []) ∷ is))
+      → EntriesIn (edition n) K false rest → Fit (λ i. T (linesFit (edition n) (edition to) i)) rest → (bytes : List ℕ) × ProofTurnable to file bytes
+
+  turnable-as : Asked to → length file ≤ 65_536 → TurnableAs (other to)
+  turnable-as a l K rest low high from x f =
+      let (b, held) = itemed-fit (x .lists) f in (
+        _,
+        record {
+          one-or-two = to-ask a;
+          K = K;
+          entries = x .es;
+          states = record { first = other-first a; last = other-last a; short = l; body = b .list; whole = from (b .list) (b .are); low = low; high = high; enters = b .each };
+          in-turn = x .turn;
+          held = held-low held;
+          are = refl;
+        },
+      )
+
+  pub turnable-read : asked to ≡ accepted tt → length file ≤ 65_536 → otherEdition FileKind.Proof fileProof to (fields file) ≡ accepted tt
+      → (h : Header) → header FileKind.Proof fileProof newestEdition none (fields file) ≡ accepted h → entriesRead (edition (h .number)) (h .K) false (h .rest) ≡ accepted tt
+      → eachField 10 fileProof (linesFit (edition (h .number)) (edition to)) (h .rest) ≡ accepted tt → (bytes : List ℕ) × ProofTurnable to file bytes
+  turnable-read a l o h e r f =
+      let d = header-gives FileKind.Proof fileProof newestEdition none (fields file) .gives h e in
+      let x = entries-give (edition (h .number)) (h .K) false (h .rest) .gives tt r in
+      let b = itemed (x .lists) in
+      let n : h .number ≡ other to = same-edition (fields file) (other to) (h .number) _ (other-gives FileKind.Proof fileProof to (fields file) .gives tt o) (d .from (b .list) (b .are)) in
+      subst TurnableAs (sym n) (turnable-as (asked-gives to .gives tt a) l) (h .K) (h .rest) (d .low) (d .high) (d .from) x (each-field-gives 10 fileProof _ tt (h .rest) .gives tt f)
 
 -- ---- turning down, 13 and 10 at the first field at fault
 abbrev Held : Constraint → Type 0

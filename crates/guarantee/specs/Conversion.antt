@@ -26,6 +26,7 @@ use Rattle.conversion.specs.Turnable.{BundleTurnable, InTurn, ProofTurnable}
 use Rattle.conversion.specs.Widest.{widest}
 use Rattle.conversion.specs.Promises.{TurnsBundle, TurnsProof}
 use Rattle.guarantee.specs.Acceptance.{WrittenAs}
+use Rattle.guarantee.specs.RefusedIff.{JustWhere}
 use Rattle.guarantee.specs.LaidOut.{Listed}
 use Rattle.guarantee.specs.Soundness.{Meaning, Faithful}
 
@@ -45,20 +46,20 @@ pub data ProofChoice (P : List ℕ) : Direction → List ℕ → Type 0 where
   turned-down : (output left : List ℕ) (r : WriteResult) → TurnsProof 1 P output left r → r .answer .number ≡ 0 → ProofChoice P down (take (r .count) left)
 
 pub record ConversionPromised : Type 0 where
-  -- ---- accepted just where the file is one to be turned (of a proof: a file of bytes, as a slice is) and its result fits; then these bytes are written. Else, of a file to be turned, 1 and 21 with the bytes needed
+  -- ---- accepted just where the file is one to be turned (of a proof: a file of bytes, as a slice is) and its result fits; then these bytes are written. 21, and 1 with file 4 (with 3 it is for the proof's file), come just where the file is one to be turned and its result does not fit, or is too long, with the bytes needed
   pub bundle-iff : (to : ℕ) (file output left : List ℕ) (r : WriteResult) → TurnsBundle to file output left r → r .answer .number ≡ 0 ↔ ((bytes : List ℕ) × BundleTurnable to file bytes × (length bytes ≤ length output))
   pub bundle-turns : (to : ℕ) (file output left : List ℕ) (r : WriteResult) → TurnsBundle to file output left r → (bytes : List ℕ) → BundleTurnable to file bytes → length bytes ≤ length output
       → WrittenAs bytes output left (r .answer) (r .count)
-  pub bundle-21 : (to : ℕ) (file output left : List ℕ) (r : WriteResult) → TurnsBundle to file output left r → (bytes : List ℕ) → BundleTurnable to file bytes → length output < length bytes
-      → r .answer ≡ answer 21 4 (length bytes)
+  pub bundle-21 : (to : ℕ) (file output left : List ℕ) (r : WriteResult) → TurnsBundle to file output left r
+      → JustWhere (r .answer .number ≡ 21) ((bytes : List ℕ) × BundleTurnable to file bytes × (length output < length bytes)) (r .answer) (λ w. answer 21 4 (length (w .0)))
   pub proof-iff : (to : ℕ) (file output left : List ℕ) (r : WriteResult) → Bytes file → TurnsProof to file output left r
       → r .answer .number ≡ 0 ↔ ((bytes : List ℕ) × ProofTurnable to file bytes × (length bytes ≤ 65_536) × (length bytes ≤ length output))
   pub proof-turns : (to : ℕ) (file output left : List ℕ) (r : WriteResult) → Bytes file → TurnsProof to file output left r → (bytes : List ℕ) → ProofTurnable to file bytes → length bytes ≤ 65_536
       → length bytes ≤ length output → WrittenAs bytes output left (r .answer) (r .count)
-  pub proof-1 : (to : ℕ) (file output left : List ℕ) (r : WriteResult) → Bytes file → TurnsProof to file output left r → (bytes : List ℕ) → ProofTurnable to file bytes → 65_536 < length bytes
-      → r .answer ≡ answer 1 4 (length bytes)
-  pub proof-21 : (to : ℕ) (file output left : List ℕ) (r : WriteResult) → Bytes file → TurnsProof to file output left r → (bytes : List ℕ) → ProofTurnable to file bytes → length bytes ≤ 65_536
-      → length output < length bytes → r .answer ≡ answer 21 4 (length bytes)
+  pub proof-1 : (to : ℕ) (file output left : List ℕ) (r : WriteResult) → Bytes file → TurnsProof to file output left r
+      → JustWhere ((r .answer .number ≡ 1) × (r .answer .file ≡ 4)) ((bytes : List ℕ) × ProofTurnable to file bytes × (65_536 < length bytes)) (r .answer) (λ w. answer 1 4 (length (w .0)))
+  pub proof-21 : (to : ℕ) (file output left : List ℕ) (r : WriteResult) → Bytes file → TurnsProof to file output left r
+      → JustWhere (r .answer .number ≡ 21) ((bytes : List ℕ) × ProofTurnable to file bytes × (length bytes ≤ 65_536) × (length output < length bytes)) (r .answer) (λ w. answer 21 4 (length (w .0)))
   -- Turning down, 13 and 10 come for what two bytes, or one, cannot hold, at the first such field: behind the header's two fields and those of `before`
   pub bundle-13 : (file output left : List ℕ) (r : WriteResult) → TurnsBundle 1 file output left r → (K : ℕ) (cs : List Constraint) → BundleFile newestEdition file 2 K cs
       → (before : List Constraint) (c : Constraint) (after : List Constraint) → cs ≡ before ++ (c ∷ after) → All (λ c. All (λ z. mag z ≤ 32_767) (flat (c .form))) before → ¬ All (λ z. mag z ≤ 32_767) (flat (c .form))
@@ -111,7 +112,8 @@ pub record ConversionPromised : Type 0 where
   -- and every refusal of check in a proof by a number up to 7, whatever A and B are, is that of turning it: number, file and place
   pub as-check : (A B P output left : List ℕ) (r : WriteResult) → Checks A B P output left r → r .answer .file ≡ 3 → r .answer .number ≤ 7
       → (to : ℕ) → (to ≡ 1) ⊎ (to ≡ 2) → ¬ (Says P to) → (output₂ left₂ : List ℕ) (r₂ : WriteResult) → TurnsProof to P output₂ left₂ r₂ → r₂ .answer ≡ answer (r .answer .number) 3 (r .answer .place)
-  -- 1 for a result that is too long never comes for a bundle: where 1 comes, it is for the file
-  pub never-too-long : (to : ℕ) (file output left : List ℕ) (r : WriteResult) → TurnsBundle to file output left r → r .answer .number ≡ 1 → r .answer .file ≡ 1
+  -- 1 for a result that is too long never comes for a bundle: where 1 comes, the file is too long for every edition, or, turned up, for edition 1, which it says
+  pub never-too-long : (to : ℕ) (file output left : List ℕ) (r : WriteResult) → TurnsBundle to file output left r → r .answer .number ≡ 1
+      → (r .answer ≡ answer 1 1 0) × ((8_192 < length file) ⊎ ((to ≡ 2) × Says file 1 × (4_096 < length file)))
   -- and for a proof only turning up
   pub never-too-long-down : (file output left : List ℕ) (r : WriteResult) → TurnsProof 1 file output left r → r .answer .number ≡ 1 → r .answer .file ≡ 3

@@ -4,9 +4,9 @@ pub mod RunTree
 pub mod Tree
 pub mod Acceptance
 pub mod LaidOut
+pub mod Testing
 pub mod Soundness
 pub mod Guard
-pub mod Testing
 pub mod Showing
 pub mod RefusedIff
 pub mod Meant

@@ -9,12 +9,12 @@ use lib.ListN.{length}
 use lib.IntN.{ℤ, pos, _+ℤ_, _-ℤ_, _*ℤ_}
 use Rattle.integers.specs.Divides.{_∣ℤ_}
 use Rattle.forms.specs.Forms.{Form, value, Assignment, Formula}
-use Rattle.answers.specs.Answers.{accepted}
 use Rattle.number_bytes.specs.Numbers.{Bytes, unsigned, signed}
-use Rattle.formula.specs.Test.{judge, registers, tested}
+use Rattle.formula.specs.Test.{judge, registers}
 use Rattle.form_value.specs.Quick.{word, wordValue, Power, power, quickJudge}
 use Rattle.formula_test.specs.declared.Tested.{Tested}
 use Rattle.formula_test.specs.Promises.{Tests}
+use Rattle.guarantee.specs.Testing.{Testable}
 
 pub record QuickAgrees : Type 0 where
   -- the word of a number is below 2^32 and differs from it by a multiple of that
@@ -32,6 +32,5 @@ pub record QuickAgrees : Type 0 where
   pub powers : (g : ℕ) → power g ≡ true ↔ Power g
   -- both ways agree
   pub agrees : (I : Formula) (v : Assignment) → quickJudge I v ≡ judge I v
-  -- and what testing a formula tells is the quick way's truth
-  pub tells : (formula : List ℕ) (values : List ℤ) (r : Tested) → Tests formula values r → (I : Formula) → tested formula values ≡ accepted I
-      → r .holds ≡ quickJudge I (registers values)
+  -- and wherever testing a formula accepts, which it does just where there is such an x (`TestingPromised`), what it tells is the quick way's truth
+  pub tells : (formula : List ℕ) (values : List ℤ) (r : Tested) → Tests formula values r → (x : Testable formula values) → r .holds ≡ quickJudge (x .formula) (registers values)

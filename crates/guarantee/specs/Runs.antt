@@ -11,7 +11,7 @@ use Rattle.answers.specs.Answers.{answer, acceptance, fileProof, fileLent, acce
 use Rattle.number_bytes.specs.Numbers.{Bytes}
 use Rattle.fields.specs.Fields.{Item, Framed, fileOf, fields, Noted, Kept}
 use Rattle.bundle.specs.Layout.{Each, BundleFile, bundleLimit}
-use Rattle.formula.specs.Formula.{formulaFile, readFormula}
+use Rattle.formula.specs.Formula.{formulaFile}
 use Rattle.proof.specs.Check.{checkProof}
 use Rattle.proof.specs.Promises.{Checks}
 use Rattle.chains.specs.Runs.{Run, joined, upTo, beyond, Chain}
@@ -23,6 +23,7 @@ use Rattle.run.specs.Promises.{WritesGuards}
 use Rattle.guarantee.specs.LaidOut.{Listed}
 use Rattle.guarantee.specs.RefusedIff.{JustWhere}
 use Rattle.guarantee.specs.Soundness.{Meaning, Faithful, placeless}
+use Rattle.guarantee.specs.Testing.{FormulaFile}
 
 -- A stage's writer: his fields, and what he meant by them.
 pub record Writer : Type 0 where
@@ -72,8 +73,9 @@ pub record DeliveredRun (ws : List Writer) (proof output sizes left sizesLeft : 
   pub lengths : sizesLeft ≡ over (guardSizes K Is) sizes
   -- cut by the lengths that are left, the output gives the files
   pub files : parts (take (length Is) sizesLeft) left ≡ map (formulaFile edition1 K) Is
-  -- each file, read as a formula, gives its guard back, and is no more than a formula's file may have (of a proof that is bytes, as a slice is)
-  pub reads-back : Bytes proof → All (λ I. (readFormula K (fields (formulaFile edition1 K I)) ≡ accepted I) × (length (formulaFile edition1 K I) ≤ edition1 .formulaBytes)) Is
+  -- each is no more than a formula's file may have, and states its guard over K (of a proof that is bytes, as a slice is)
+  pub upto : All (λ I. length (formulaFile edition1 K I) ≤ 65_536) Is
+  pub states : Bytes proof → All (λ I. FormulaFile K (formulaFile edition1 K I) I) Is
 
 -- What is accepted: the files certify the guards, and both outputs are long enough.
 pub record RunCheckable (buffer lengths proof output sizes : List ℕ) : Type 0 where
@@ -101,11 +103,15 @@ pub record RunPromised : Type 0 where
   pub in-proof : (buffer lengths proof output sizes left sizesLeft : List ℕ) (r : WriteResult) → WritesGuards buffer lengths proof output sizes left sizesLeft r
       → (K : ℕ) (Ts : Run) → Short lengths buffer proof → Each (StageFile newestEdition K) (parts lengths buffer) Ts → length (joined Ts) ≤ mostConstraints → r .answer .file ≡ fileProof
       → RunRefused newestEdition K Ts proof (r .answer) × Earliest newestEdition K Ts proof (r .answer) × (¬ (r .answer .number ≡ 14))
-  -- and where check accepts every cut, but no guards are derived, the proof not being uniform, it does name the proof, by 27 or 28
+  -- and it does name the proof just where the proof derives no guards (of a proof that is bytes, as a slice is)
+  pub names-proof : (buffer lengths proof output sizes left sizesLeft : List ℕ) (r : WriteResult) → Bytes proof → WritesGuards buffer lengths proof output sizes left sizesLeft r
+      → (K : ℕ) (Ts : Run) → Short lengths buffer proof → Each (StageFile newestEdition K) (parts lengths buffer) Ts → length (joined Ts) ≤ mostConstraints
+      → r .answer .file ≡ fileProof ↔ ((Is : List Formula) → ¬ (RunYields newestEdition buffer lengths proof K Ts Is))
+  -- by 27 or 28 where check accepts every cut, the proof not being uniform
   pub not-uniform : (buffer lengths proof output sizes left sizesLeft : List ℕ) (r : WriteResult) → WritesGuards buffer lengths proof output sizes left sizesLeft r
       → (K : ℕ) (Ts : Run) → Short lengths buffer proof → Each (StageFile newestEdition K) (parts lengths buffer) Ts → length (joined Ts) ≤ mostConstraints
       → ((i : ℕ) → i ≤ length Ts → (I : Formula) × (checkProof newestEdition (side K (upTo Ts i)) (side K (beyond Ts i)) (fields proof) ≡ accepted I))
-      → ((Is : List Formula) → ¬ (RunYields newestEdition buffer lengths proof K Ts Is)) → (r .answer .file ≡ fileProof) × ((r .answer .number ≡ 27) ⊎ (r .answer .number ≡ 28))
+      → ((Is : List Formula) → ¬ (RunYields newestEdition buffer lengths proof K Ts Is)) → (r .answer .number ≡ 27) ⊎ (r .answer .number ≡ 28)
 
 -- The files certify guards, and either output is too short.
 pub record ShortGuards (buffer lengths proof output sizes : List ℕ) : Type 0 where
@@ -123,13 +129,13 @@ pub record ManyConstraints (buffer lengths proof : List ℕ) : Type 0 where
   pub stages : Each (StageFile newestEdition K) (parts lengths buffer) Ts
   pub many : mostConstraints < length (joined Ts)
 
--- The rows derive guards, and some guard's file is longer than a formula's may be.
+-- The rows derive guards, and the file of some guard has more than 65,536 bytes.
 pub record LongGuard (buffer lengths proof : List ℕ) : Type 0 where
   pub K : ℕ
   pub Ts : Run
   pub Is : List Formula
   pub yields : RunYields newestEdition buffer lengths proof K Ts Is
-  pub long : ¬ (All (λ I. length (formulaFile edition1 K I) ≤ edition1 .formulaBytes) Is)
+  pub long : (i : ℕ) × (i ≤ length Ts) × (65_536 < length (formulaFile edition1 K (guardAt Is i)))
 
 -- What is accepted, and what is then left; which refusals come just where they should. (Of a proof that is bytes, as a slice is, where guards are derived: two fields that state the same row are then the same.)
 pub record RunAcceptance : Type 0 where

@@ -44,8 +44,8 @@ pub record ShortProofsEnumerated : Type 0 where
   pub next-32 : {A B given output left : List ℕ} {r : WriteResult} → WritesNext A B given output left r → JustWhere (r .answer .number ≡ 32) (Follows A B given (refused (answer 32 4 0))) (r .answer) (λ _. answer 32 4 0)
   pub next-33 : {A B given output left : List ℕ} {r : WriteResult} → WritesNext A B given output left r → JustWhere (r .answer .number ≡ 33) (Follows A B given (refused (answer 33 4 0))) (r .answer) (λ _. answer 33 4 0)
   pub next-21 : {A B given output left : List ℕ} {r : WriteResult} → WritesNext A B given output left r → JustWhere (r .answer .number ≡ 21) (NoRoom A B given output) (r .answer) (λ n. answer 21 4 (length (n .file)))
-  -- whatever check refuses of A or B, with any proof of at most 65,536 bytes, is refused so, whatever table is given; and nothing else is refused with file 1 or 2
-  pub as-check : {A B given output left : List ℕ} {r : WriteResult} → WritesNext A B given output left r → {proof checked : List ℕ} {q : WriteResult} → Checks A B proof output checked q → length proof ≤ 65_536
+  -- whatever check refuses of A or B, with any proof of at most 65,536 bytes and whatever output it is lent, is refused so, whatever table is given; and nothing else is refused with file 1 or 2
+  pub as-check : {A B given output left : List ℕ} {r : WriteResult} → WritesNext A B given output left r → {lent proof checked : List ℕ} {q : WriteResult} → Checks A B proof lent checked q → length proof ≤ 65_536
       → ((q .answer .file ≡ 1) ⊎ (q .answer .file ≡ 2) → r .answer ≡ q .answer) × ((r .answer .file ≡ 1) ⊎ (r .answer .file ≡ 2) → r .answer ≡ q .answer)
   -- no strengthen occurs in a short proof: it would need three closes
   pub no-strengthen : (A B file : List ℕ) (s : ShortProof A B file) → All NoStrengthen (s .rows)

@@ -8,19 +8,20 @@ use lib.IntN.{ℤ}
 use Rattle.forms.specs.Edition.{edition1, newestEdition}
 use Rattle.forms.specs.Forms.{All, Constraint, Formula}
 use Rattle.calculus.specs.Rules.{Interpolant}
-use Rattle.answers.specs.Answers.{accepted, over}
+use Rattle.answers.specs.Answers.{over}
 use Rattle.answers.specs.declared.Answer.{Answer}
 use Rattle.answers.specs.declared.WriteResult.{WriteResult}
 use Rattle.number_bytes.specs.Numbers.{Bytes}
-use Rattle.fields.specs.Fields.{Item, Framed, fileOf, withoutNotes, fields, Noted, Kept}
+use Rattle.fields.specs.Fields.{Item, Framed, fileOf, withoutNotes, Noted, Kept}
 use Rattle.bundle.specs.Layout.{StatesAll, bundleLimit}
 use Rattle.bundle_read.specs.declared.ReadResult.{ReadResult}
 use Rattle.bundle_read.specs.Promises.{Reads}
-use Rattle.formula.specs.Formula.{formulaFile, readFormula}
+use Rattle.formula.specs.Formula.{formulaFile}
 use Rattle.proof.specs.Layout.{Certifies}
 use Rattle.proof.specs.Editions.{limitA, limitB}
 use Rattle.proof.specs.Promises.{Checks}
 use Rattle.guarantee.specs.LaidOut.{Listed, LaidOut}
+use Rattle.guarantee.specs.Testing.{FormulaFile}
 
 -- What a writer stated is given by any function of his list of fields. It gives a K and constraints.
 abbrev pub Meaning : Type 0
@@ -43,8 +44,9 @@ pub record Delivered (FA FB : List Item) (MA MB : Meaning) (proof output left : 
   pub fits : length (formulaFile edition1 K formula) ≤ length output
   pub count : r .count ≡ length (formulaFile edition1 K formula)
   pub bytes : left ≡ over (formulaFile edition1 K formula) output
-  -- the bytes written, read as a formula, give it back, and are no more than a formula's file may have (of a proof that is bytes, as a slice is)
-  pub reads-back : Bytes proof → (readFormula K (fields (take (r .count) left)) ≡ accepted formula) × (r .count ≤ edition1 .formulaBytes)
+  -- they are no more than a formula's file may have, and are a file that states the formula over K (of a proof that is bytes, as a slice is)
+  pub upto : r .count ≤ 65_536
+  pub states : Bytes proof → FormulaFile K (take (r .count) left) formula
   -- true wherever all of A is met, false wherever all of B is, naming only constants of both: A and B being what the writers stated
   pub interpolant : Interpolant (MA FA .1) (MB FB .1) formula
 
@@ -52,13 +54,14 @@ pub record Delivered (FA FB : List Item) (MA MB : Meaning) (proof output left : 
 abbrev pub placeless : Answer → Answer
 placeless a = record { number = a .number; file = a .file; place = 0; row = a .row; step = a .step; branch = a .branch }
 
--- Whole notes between whole fields change no number, file, row, step or branch, no count and no output byte (places move), where no file gets too long by them: a bundle, by the lengths given.
+-- Whole notes between whole fields change no number, file, row, step or branch, no count and no output byte, where no file gets too long by them: a bundle, by the lengths given.
+-- Places in a file move; with file 4 the place is a number of bytes, and the whole answer stays.
 abbrev pub NotesPassedOver : (lengthA lengthB : (A B proof : List ℕ) → ℕ) → Type 0
 NotesPassedOver lengthA lengthB =
     (A A′ B B′ proof proof′ output left left′ : List ℕ) (r r′ : WriteResult) → Noted A A′ → Noted B B′ → Noted proof proof′
     → Kept (lengthA A B proof) A A′ → Kept (lengthB A B proof) B B′ → Kept (edition1 .proofBytes) proof proof′
     → Checks A B proof output left r → Checks A′ B′ proof′ output left′ r′
-    → (placeless (r′ .answer) ≡ placeless (r .answer)) × (r′ .count ≡ r .count) × (left′ ≡ left)
+    → (placeless (r′ .answer) ≡ placeless (r .answer)) × (r′ .count ≡ r .count) × (left′ ≡ left) × (r .answer .file ≡ 4 → r′ .answer ≡ r .answer)
 
 pub record Soundness : Type 0 where
   -- after one accepted check

@@ -1,6 +1,6 @@
--- A text names no constant but those that its formula names. Assumes nothing.
+-- A text names just the constants that its formula names. Assumes nothing.
 use mathlib.Core.Path.{_≡_, refl, sym, _∙_, subst}
-use mathlib.Core.Logic.{_⊎_, inl, inr}
+use mathlib.Core.Logic.{_↔_, _⊎_, inl, inr}
 use mathlib.Core.Bool.{Bool, true, false, _||_}
 use mathlib.Core.List.{List, [], _∷_}
 use Prim.Native.Nat.{ℕ, zero, suc, _+_}
@@ -37,6 +37,20 @@ either-right : (a b : Bool) → T b → T (a || b)
 either-right true b h = tt
 either-right false b h = h
 
+either-of : (a b : Bool) → T (a || b) → T a ⊎ T b
+either-of true b h = inl tt
+either-of false b h = inr h
+
+in-either : {A B C D : Type 0} → (A → C) → (B → D) → A ⊎ B → C ⊎ D
+in-either f g (inl x) = inl (f x)
+in-either f g (inr x) = inr (g x)
+
+-- no coefficient is given behind the last
+none-given : (k : ℕ) → ¬ (T (nonzero (getD [] k (pos 0))))
+unfolding nonzero
+none-given zero h = h
+none-given (suc k) h = h
+
 -- ---- as terms
 no-register : (z : ℤ) (c : ℕ) → ¬ (InTerm (integer z) c)
 unfolding integer
@@ -63,18 +77,52 @@ form-names : (t : Form) (c : ℕ) → InTerm (termOf t) c → T (nonzero (coeff 
 unfolding termOf
 form-names t c h = of-form t c (terms-names 0 (t .coeffs) (t .d) c (summed-names (termsOf 0 (t .coeffs) (t .d)) c h))
 
-pub names-only : (I : Formula) (c : ℕ) → PropNames (smt I) c → T (names I c)
+prop-names : (I : Formula) (c : ℕ) → PropNames (smt I) c → T (names I c)
 unfolding smt names
-names-only (literal ≤0 t) c (inl h) = form-names t c h
-names-only (literal ≤0 t) c (inr h) = absurd h
-names-only (literal =0 t) c (inl h) = form-names t c h
-names-only (literal =0 t) c (inr h) = absurd h
-names-only (g divides t) c (inl h) = form-names t c h
-names-only (g divides t) c (inr h) = absurd h
-names-only (I and J) c (inl h) = either-left (names I c) (names J c) (names-only I c h)
-names-only (I and J) c (inr h) = either-right (names I c) (names J c) (names-only J c h)
-names-only (I or J) c (inl h) = either-left (names I c) (names J c) (names-only I c h)
-names-only (I or J) c (inr h) = either-right (names I c) (names J c) (names-only J c h)
+prop-names (literal ≤0 t) c (inl h) = form-names t c h
+prop-names (literal ≤0 t) c (inr h) = absurd h
+prop-names (literal =0 t) c (inl h) = form-names t c h
+prop-names (literal =0 t) c (inr h) = absurd h
+prop-names (g divides t) c (inl h) = form-names t c h
+prop-names (g divides t) c (inr h) = absurd h
+prop-names (I and J) c (inl h) = either-left (names I c) (names J c) (prop-names I c h)
+prop-names (I and J) c (inr h) = either-right (names I c) (names J c) (prop-names J c h)
+prop-names (I or J) c (inl h) = either-left (names I c) (names J c) (prop-names I c h)
+prop-names (I or J) c (inr h) = either-right (names I c) (names J c) (prop-names J c h)
+
+in-terms : (i : ℕ) (cs : List ℤ) (d : ℤ) (c k : ℕ) → c ≡ i + k → T (nonzero (getD cs k (pos 0))) → InTerms (termsOf i cs d) c
+unfolding termsOf unlessZero
+in-terms i [] d c k e h = absurd (none-given k h)
+in-terms i (z ∷ cs) d c zero e h = go (nonzero z) h
+  where
+    go : (b : Bool) → T b → InTerms (unlessZero b (times (integer z) (register i)) (termsOf (suc i) cs d)) c
+    go true t = inl (inr (omega (arith, e)))
+    go false t = absurd t
+in-terms i (z ∷ cs) d c (suc k) e h = go (nonzero z) (in-terms (suc i) cs d c k (omega (arith, e)) h)
+  where
+    go : (b : Bool) → InTerms (termsOf (suc i) cs d) c → InTerms (unlessZero b (times (integer z) (register i)) (termsOf (suc i) cs d)) c
+    go true x = inr x
+    go false x = x
+
+in-summed : (ts : Terms) (c : ℕ) → InTerms ts c → InTerm (summed ts) c
+unfolding summed
+in-summed (final t) c h = h
+in-summed (also t ts) c h = h
+
+in-term : (t : Form) (c : ℕ) → T (nonzero (coeff t c)) → InTerm (termOf t) c
+unfolding termOf coeff
+in-term t c h = in-summed (termsOf 0 (t .coeffs) (t .d)) c (in-terms 0 (t .coeffs) (t .d) c c (omega arith) h)
+
+in-prop : (I : Formula) (c : ℕ) → T (names I c) → PropNames (smt I) c
+unfolding smt names
+in-prop (literal ≤0 t) c h = inl (in-term t c h)
+in-prop (literal =0 t) c h = inl (in-term t c h)
+in-prop (g divides t) c h = inl (in-term t c h)
+in-prop (I and J) c h = in-either (in-prop I c) (in-prop J c) (either-of (names I c) (names J c) h)
+in-prop (I or J) c h = in-either (in-prop I c) (in-prop J c) (either-of (names I c) (names J c) h)
+
+pub names-only : (I : Formula) (c : ℕ) → PropNames (smt I) c ↔ T (names I c)
+names-only I c = (prop-names I c, in-prop I c)
 
 -- ---- in words
 constant-names : (b : Bool) (d : ℤ) (c : ℕ) → ¬ (InSummands (unlessNone b (plain d) []) c)
@@ -102,12 +150,45 @@ line-names : (t : Form) (c : ℕ) → InSum (sumOf t) c → T (nonzero (coeff t 
 unfolding sumOf
 line-names t c h = of-form t c (summands-names 0 (t .coeffs) (t .d) c (sum-names (summandsOf 0 (t .coeffs) (t .d)) c h))
 
-pub words-names-only : (I : Formula) (c : ℕ) → WordingNames (worded I) c → T (names I c)
+wording-names : (I : Formula) (c : ℕ) → WordingNames (worded I) c → T (names I c)
 unfolding worded names
-words-names-only (literal ≤0 t) c h = line-names t c h
-words-names-only (literal =0 t) c h = line-names t c h
-words-names-only (g divides t) c h = line-names t c h
-words-names-only (I and J) c (inl h) = either-left (names I c) (names J c) (words-names-only I c h)
-words-names-only (I and J) c (inr h) = either-right (names I c) (names J c) (words-names-only J c h)
-words-names-only (I or J) c (inl h) = either-left (names I c) (names J c) (words-names-only I c h)
-words-names-only (I or J) c (inr h) = either-right (names I c) (names J c) (words-names-only J c h)
+wording-names (literal ≤0 t) c h = line-names t c h
+wording-names (literal =0 t) c h = line-names t c h
+wording-names (g divides t) c h = line-names t c h
+wording-names (I and J) c (inl h) = either-left (names I c) (names J c) (wording-names I c h)
+wording-names (I and J) c (inr h) = either-right (names I c) (names J c) (wording-names J c h)
+wording-names (I or J) c (inl h) = either-left (names I c) (names J c) (wording-names I c h)
+wording-names (I or J) c (inr h) = either-right (names I c) (names J c) (wording-names J c h)
+
+in-summands : (i : ℕ) (cs : List ℤ) (d : ℤ) (c k : ℕ) → c ≡ i + k → T (nonzero (getD cs k (pos 0))) → InSummands (summandsOf i cs d) c
+unfolding summandsOf unlessNone
+in-summands i [] d c k e h = absurd (none-given k h)
+in-summands i (z ∷ cs) d c zero e h = go (nonzero z) h
+  where
+    go : (b : Bool) → T b → InSummands (unlessNone b (scaled z i) (summandsOf (suc i) cs d)) c
+    go true t = inl (omega (arith, e))
+    go false t = absurd t
+in-summands i (z ∷ cs) d c (suc k) e h = go (nonzero z) (in-summands (suc i) cs d c k (omega (arith, e)) h)
+  where
+    go : (b : Bool) → InSummands (summandsOf (suc i) cs d) c → InSummands (unlessNone b (scaled z i) (summandsOf (suc i) cs d)) c
+    go true x = inr x
+    go false x = x
+
+in-sum : (xs : List Summand) (c : ℕ) → InSummands xs c → InSum (asSum xs) c
+in-sum [] c h = absurd h
+in-sum (x ∷ xs) c h = h
+
+in-line : (t : Form) (c : ℕ) → T (nonzero (coeff t c)) → InSum (sumOf t) c
+unfolding sumOf coeff
+in-line t c h = in-sum (summandsOf 0 (t .coeffs) (t .d)) c (in-summands 0 (t .coeffs) (t .d) c c (omega arith) h)
+
+in-wording : (I : Formula) (c : ℕ) → T (names I c) → WordingNames (worded I) c
+unfolding worded names
+in-wording (literal ≤0 t) c h = in-line t c h
+in-wording (literal =0 t) c h = in-line t c h
+in-wording (g divides t) c h = in-line t c h
+in-wording (I and J) c h = in-either (in-wording I c) (in-wording J c) (either-of (names I c) (names J c) h)
+in-wording (I or J) c h = in-either (in-wording I c) (in-wording J c) (either-of (names I c) (names J c) h)
+
+pub words-names-only : (I : Formula) (c : ℕ) → WordingNames (worded I) c ↔ T (names I c)
+words-names-only I c = (wording-names I c, in-wording I c)

@@ -41,8 +41,8 @@ pub record OneReading : Type 0 where
       → (pos n ∣ℤ valueOf t v -ℤ valueOf (modulo t n) v) × (pos 0 ≤ℤ valueOf (modulo t n) v) × (valueOf (modulo t n) v <ℤ pos n)
   -- it means what the formula says, at every assignment
   pub means-same : (I : Formula) → Strides I → (v : Assignment) → PropTrue (smt I) v ↔ True I v
-  -- it names no constant but those that the formula names
-  pub names-only : (I : Formula) (c : ℕ) → PropNames (smt I) c → T (names I c)
+  -- it names just the constants that the formula names
+  pub names-only : (I : Formula) (c : ℕ) → PropNames (smt I) c ↔ T (names I c)
   -- it reads as one proposition only
   pub unique : (p : Prop) → parseProp (propText p) ≡ some p
   -- and no other text reads as that one
@@ -51,7 +51,7 @@ pub record OneReading : Type 0 where
   pub kept : (K : ℕ) (I J : Formula) → Over K I → Over K J → propText (smt I) ≡ propText (smt J) → I ≡ J
   -- the same in words
   pub says-same : (I : Formula) (v : Assignment) → WordingTrue (worded I) v ↔ True I v
-  pub words-names-only : (I : Formula) (c : ℕ) → WordingNames (worded I) c → T (names I c)
+  pub words-names-only : (I : Formula) (c : ℕ) → WordingNames (worded I) c ↔ T (names I c)
   pub words-unique : (w : Wording) → parseWording (wordingText w) ≡ some w
   pub words-kept : (K : ℕ) (I J : Formula) → Over K I → Over K J → wordingText (worded I) ≡ wordingText (worded J) → I ≡ J
 
