@@ -1,6 +1,5 @@
 -- Laws that belong to no one function: what is accepted as a bundle, that notes change nothing of it, and the round trips.
 pub mod Laid
-pub mod Bare
 pub mod Notes
 pub mod Writable
 pub mod RoundTrips

@@ -12,7 +12,6 @@ pub mod Reachable
 pub mod Enumerates
 pub mod One
 pub mod Refusals
-pub mod Tables
 pub mod Numbered
 pub mod Searched
 pub mod FoundFile

@@ -4,7 +4,7 @@ pub mod Contents
 pub mod Framing
 pub mod Whole
 pub mod HeaderLaid
-pub mod Bare
+pub mod Moved
 pub mod Places
 pub mod Stores
 pub mod Headers

@@ -1,5 +1,5 @@
 -- Notes change nothing of what testing a formula gives but places. Assumes nothing.
-use mathlib.Core.Path.{_≡_, refl, sym, ap, _∙_}
+use mathlib.Core.Path.{_≡_, refl, ap}
 use mathlib.Core.Option.{some}
 use mathlib.Core.List.{List}
 use Prim.Native.Nat.{ℕ, zero, suc}
@@ -9,57 +9,55 @@ use Rattle.forms.specs.Forms.{Formula}
 use Rattle.answers.specs.Answers.{fileProof, Result, refused, accepted}
 use Rattle.fields.specs.declared.FileKind.{FileKind}
 use Rattle.fields.specs.Fields.{Field, Fields, ends, cut, _▸_, Noted, Kept}
-use Rattle.fields.proofs.Bare.{bareField, bare, bareAnswer, bareOf, Erased, Same, kept-length, computed, need-bare, found-bare, bind-bare, then-bare, then-same, noted-same, header-bare, finished-bare}
+use Rattle.fields.proofs.Moved.{moveField, move, moveAnswer, Moved, moveRead, computed, need-moved, found-moved, bind-moved, then-moved, header-moved, finished-moved, erase, kept-length, eraseOf, Same, then-same, noted-same, left-same}
 use Rattle.formula.specs.Formula.{FormulaTag, pair, atom, stride, Reader, formulaOf, formulaField, twoParts, formulaWithin, readFormula}
 use Rattle.formula.specs.Test.{tested, Tested, judged, testFormula}
 
-abbrev bareRead : Formula × Fields → Formula × Fields
-bareRead x = (x .0, bare (x .1))
+module _ (φ : ℕ → ℕ) where
+  abbrev moveTwo : Formula × Formula × Fields → Formula × Formula × Fields
+  moveTwo x = (x .0, x .1, move φ (x .2))
 
-abbrev bareTwo : Formula × Formula × Fields → Formula × Formula × Fields
-bareTwo x = (x .0, x .1, bare (x .2))
+  -- Readers that move with their fields: of a formula, and of the two parts of an and/or.
+  abbrev Moves : Reader → Type 0
+  Moves r = (fs : Fields) → Moved φ (moveRead φ) (r fs) (r (move φ fs))
 
--- Readers that do not depend on places: of a formula, and of the two parts of an and/or.
-abbrev Placeless : Reader → Type 0
-Placeless r = (fs : Fields) → Erased bareRead (r fs) (r (bare fs))
+  abbrev MovesTwo : (ℕ → Fields → Result (Formula × Formula × Fields)) → Type 0
+  MovesTwo two = (at : ℕ) (fs : Fields) → Moved φ moveTwo (two at fs) (two (φ at) (move φ fs))
 
-abbrev PlacelessTwo : (ℕ → Fields → Result (Formula × Formula × Fields)) → Type 0
-PlacelessTwo two = (at : ℕ) (fs : Fields) → Erased bareTwo (two at fs) (two 0 (bare fs))
+  module _ (e : Edition) (K : ℕ) where
+    formulaOf-moved : (two : ℕ → Fields → Result (Formula × Formula × Fields)) → MovesTwo two → (f : Field) (fs : Fields) (tagged : FormulaTag)
+        → Moved φ (moveRead φ) (formulaOf e K two f fs tagged) (formulaOf e K two (moveField φ f) (move φ fs) tagged)
+    unfolding formulaOf
+    formulaOf-moved two p f fs (pair c) = bind-moved _ (p (f .at) fs) λ x. computed
+    formulaOf-moved two p f fs (atom k) = computed
+    formulaOf-moved two p f fs stride = need-moved _ _ computed
 
-module _ (e : Edition) (K : ℕ) where
-  formulaOf-bare : (two : ℕ → Fields → Result (Formula × Formula × Fields)) → PlacelessTwo two → (f : Field) (fs : Fields) (tagged : FormulaTag)
-      → Erased bareRead (formulaOf e K two f fs tagged) (formulaOf e K two (bareField f) (bare fs) tagged)
-  unfolding formulaOf
-  formulaOf-bare two p f fs (pair c) = bind-bare _ (p (f .at) fs) λ x. computed
-  formulaOf-bare two p f fs (atom k) = computed
-  formulaOf-bare two p f fs stride = need-bare _ _ computed
+    formulaField-moved : (two : ℕ → Fields → Result (Formula × Formula × Fields)) → MovesTwo two → Moves (formulaField e K two)
+    unfolding formulaField
+    formulaField-moved two p (ends at) = computed
+    formulaField-moved two p (cut at) = computed
+    formulaField-moved two p (f ▸ fs) = need-moved _ _ (found-moved _ _ λ tagged. need-moved _ _ (formulaOf-moved two p f fs tagged))
 
-  formulaField-bare : (two : ℕ → Fields → Result (Formula × Formula × Fields)) → PlacelessTwo two → Placeless (formulaField e K two)
-  unfolding formulaField
-  formulaField-bare two p (ends at) = computed
-  formulaField-bare two p (cut at) = computed
-  formulaField-bare two p (f ▸ fs) = need-bare _ _ (found-bare _ _ λ tagged. need-bare _ _ (formulaOf-bare two p f fs tagged))
+    twoParts-moved : (part : Reader) → Moves part → (fs : Fields) → Moved φ moveTwo (twoParts e K part fs) (twoParts e K part (move φ fs))
+    unfolding twoParts
+    twoParts-moved part p fs = bind-moved _ (p fs) λ x. bind-moved _ (p (x .1)) λ y. computed
 
-  twoParts-bare : (part : Reader) → Placeless part → (fs : Fields) → Erased bareTwo (twoParts e K part fs) (twoParts e K part (bare fs))
-  unfolding twoParts
-  twoParts-bare part p fs = bind-bare _ (p fs) λ x. bind-bare _ (p (x .1)) λ y. computed
+    formulaWithin-moved : (levels : ℕ) → Moves (formulaWithin e K levels)
+    unfolding formulaWithin
+    formulaWithin-moved zero = formulaField-moved _ (λ at fs. computed)
+    formulaWithin-moved (suc levels) = formulaField-moved _ (λ at fs. twoParts-moved (formulaWithin e K levels) (formulaWithin-moved levels) fs)
 
-  pub formulaWithin-bare : (levels : ℕ) → Placeless (formulaWithin e K levels)
-  unfolding formulaWithin
-  formulaWithin-bare zero = formulaField-bare _ (λ at fs. computed)
-  formulaWithin-bare (suc levels) = formulaField-bare _ (λ at fs. twoParts-bare (formulaWithin e K levels) (formulaWithin-bare levels) fs)
+  readFormula-moved : (K : ℕ) (fs : Fields) → Moved φ (λ x. x) (readFormula K fs) (readFormula K (move φ fs))
+  unfolding readFormula
+  readFormula-moved K fs =
+      bind-moved _ (header-moved FileKind.Formula fileProof 1 (some K) fs) λ h.
+      bind-moved _ (formulaWithin-moved edition1 (h .K) (edition1 .levels) (h .rest)) λ x.
+      then-moved (finished-moved FileKind.Formula fileProof (x .1)) computed
 
-pub readFormula-bare : (K : ℕ) (fs : Fields) → Erased (λ x. x) (readFormula K fs) (readFormula K (bare fs))
-unfolding readFormula
-readFormula-bare K fs =
-    bind-bare _ (header-bare FileKind.Formula fileProof 1 (some K) fs) λ h.
-    bind-bare _ (formulaWithin-bare edition1 (h .K) (edition1 .levels) (h .rest)) λ x.
-    then-bare (finished-bare FileKind.Formula fileProof (x .1)) computed
+abbrev eraseTested : Tested → Tested
+eraseTested t = record { answer = moveAnswer erase (t .answer); holds = t .holds }
 
-abbrev bareTested : Tested → Tested
-bareTested t = record { answer = bareAnswer (t .answer); holds = t .holds }
-
-judged-of : (values : List ℤ) (r : Result Formula) → bareTested (judged values r) ≡ bareTested (judged values (bareOf r))
+judged-of : (values : List ℤ) (r : Result Formula) → eraseTested (judged values r) ≡ eraseTested (judged values (eraseOf r))
 unfolding judged
 judged-of values (refused a) = refl
 judged-of values (accepted I) = refl
@@ -67,14 +65,11 @@ judged-of values (accepted I) = refl
 module _ {f f′ : List ℕ} (values : List ℤ) (n : Noted f f′) (kept : Kept (edition1 .formulaBytes) f f′) where
   tested-noted : Same (tested f′ values) (tested f values)
   unfolding tested
-  tested-noted = rw (kept-length (edition1 .formulaBytes) n kept) (then-same _ (then-same _ (then-same _ (noted-same (readFormula-bare _) n))))
+  tested-noted = rw (kept-length (edition1 .formulaBytes) n kept) (then-same _ (then-same _ (then-same _ (noted-same (readFormula-moved erase _) n))))
 
-  test-noted : bareTested (testFormula f′ values) ≡ bareTested (testFormula f values)
+  test-noted : eraseTested (testFormula f′ values) ≡ eraseTested (testFormula f values)
   unfolding testFormula
-  test-noted =
-      judged-of values (tested f′ values)
-      ∙ ap (λ (r : Result Formula). bareTested (judged values r)) (tested-noted .equal)
-      ∙ sym (judged-of values (tested f values))
+  test-noted = left-same (λ (r : Result Formula). eraseTested (judged values r)) (judged-of values) tested-noted
 
   pub notes-change-no-test : (testFormula f′ values .answer .number ≡ testFormula f values .answer .number)
       × (testFormula f′ values .answer .file ≡ testFormula f values .answer .file)

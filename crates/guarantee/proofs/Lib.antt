@@ -34,5 +34,5 @@ pub mod RunReasons
 pub mod RunAcceptance
 pub mod RunPromised
 pub mod RunTells
-pub mod Moved
+pub mod RunMoved
 pub mod RunNotes

@@ -10,17 +10,17 @@ use lib.ListN.{length, length-append, length-map}
 use lib.Seq.{take-at, drop-at}
 use borrow.Author.Tests.{eq-eqb}
 use Rattle.forms.specs.Edition.{edition}
-use Rattle.answers.specs.Answers.{answer, fileProof, Result, refused, accepted, _>>=_, _>>_}
+use Rattle.answers.specs.Answers.{fileProof, Result, refused, accepted}
 use Rattle.fields.specs.Fields.{Field, Fields, ends, cut, _▸_, fields, Noted, Kept}
-use Rattle.fields.proofs.Bare.{bare, bareAnswer, bareOf, Same, bind-same, then-same, noted-bare}
+use Rattle.fields.proofs.Moved.{move, moveAnswer, moveResult, erase, noted-erased, eraseOf, Same, bind-same, then-same, left-same}
 use Rattle.bundle.specs.Layout.{Each, nil, cons}
-use Rattle.bundle.proofs.Bare.{limit-most, kept-higher, atMost-kept, bundle-noted}
+use Rattle.bundle.proofs.Notes.{limit-most, kept-higher, atMost-kept, bundle-noted}
 use Rattle.proof.specs.Tree.{startsAt}
 use Rattle.chains.specs.Runs.{Run, joined}
 use Rattle.run.specs.Run.{total, parts, parted, stagesShort, readStages, constantsOf, runOf, checkRun, guardFiles, GuardsWritten, unwritten, writtenGuards, guardsBy, guards}
 use Rattle.run.proofs.Ascending.{Ascending, fields-ascend}
 use Rattle.guarantee.specs.Runs.{NotedStage, RunNotes}
-use Rattle.guarantee.proofs.Moved.{move, moveResult, run-moved}
+use Rattle.guarantee.proofs.RunMoved.{run-moved}
 
 -- ---- fields numbered, and where each stands
 abbrev number : (n : ℕ) → Fields → Fields
@@ -28,10 +28,10 @@ number n (ends at) = ends n
 number n (cut at) = cut n
 number n (f ▸ fs) = (record { at = n; tag = f .tag; contents = f .contents }) ▸ number (suc n) fs
 
-number-bare : (n : ℕ) (fs : Fields) → number n (bare fs) ≡ number n fs
-number-bare n (ends at) = refl
-number-bare n (cut at) = refl
-number-bare n (f ▸ fs) = ap (λ (gs : Fields). (record { at = n; tag = f .tag; contents = f .contents }) ▸ gs) (number-bare (suc n) fs)
+number-erased : (n : ℕ) (fs : Fields) → number n (move erase fs) ≡ number n fs
+number-erased n (ends at) = refl
+number-erased n (cut at) = refl
+number-erased n (f ▸ fs) = ap (λ (gs : Fields). (record { at = n; tag = f .tag; contents = f .contents }) ▸ gs) (number-erased (suc n) fs)
 
 -- (Behind the end there are places enough.)
 abbrev placeOf : Fields → ℕ → ℕ
@@ -70,20 +70,20 @@ ascends (f ▸ fs) a (suc i) (suc j) h = ascends fs (a .1) i j (omega arith)
 
 -- ---- the proof
 module _ (newest K : ℕ) (Ts : Run) where
-  bare-moved : (φ : ℕ → ℕ) {X : Type 0} (r : Result X) → bareOf (moveResult φ (λ x. x) r) ≡ bareOf r
-  bare-moved φ (refused a) = refl
-  bare-moved φ (accepted x) = refl
+  erase-moved : (φ : ℕ → ℕ) {X : Type 0} (r : Result X) → eraseOf (moveResult φ (λ x. x) r) ≡ eraseOf r
+  erase-moved φ (refused a) = refl
+  erase-moved φ (accepted x) = refl
 
-  run-numbered : (fs : Fields) → Ascending fs → bareOf (checkRun newest K Ts fs) ≡ bareOf (checkRun newest K Ts (number 0 fs))
+  run-numbered : (fs : Fields) → Ascending fs → eraseOf (checkRun newest K Ts fs) ≡ eraseOf (checkRun newest K Ts (number 0 fs))
   run-numbered fs a =
-      ap (λ (gs : Fields). bareOf (checkRun newest K Ts gs)) (sym (moved-number (placeOf fs) 0 fs (λ i. let z : 0 + i ≡ i = omega arith in ap (placeOf fs) z)))
-      ∙ ap bareOf (sym (run-moved (placeOf fs) (ascends fs a) newest K Ts (number 0 fs) .equal))
-      ∙ bare-moved (placeOf fs) (checkRun newest K Ts (number 0 fs))
+      ap (λ (gs : Fields). eraseOf (checkRun newest K Ts gs)) (sym (moved-number (placeOf fs) 0 fs (λ i. let z : 0 + i ≡ i = omega arith in ap (placeOf fs) z)))
+      ∙ ap eraseOf (sym (run-moved (placeOf fs) (ascends fs a) newest K Ts (number 0 fs) .equal))
+      ∙ erase-moved (placeOf fs) (checkRun newest K Ts (number 0 fs))
 
   run-noted : {xs ys : List ℕ} → Noted xs ys → Same (checkRun newest K Ts (fields ys)) (checkRun newest K Ts (fields xs))
   run-noted {xs} {ys} r = record {
     equal = run-numbered (fields ys) (fields-ascend ys)
-        ∙ ap (λ (gs : Fields). bareOf (checkRun newest K Ts gs)) (sym (number-bare 0 (fields ys)) ∙ ap (number 0) (sym (noted-bare r)) ∙ number-bare 0 (fields xs))
+        ∙ ap (λ (gs : Fields). eraseOf (checkRun newest K Ts gs)) (sym (number-erased 0 (fields ys)) ∙ ap (number 0) (sym (noted-erased r)) ∙ number-erased 0 (fields xs))
         ∙ sym (run-numbered (fields xs) (fields-ascend xs));
   }
 
@@ -121,10 +121,10 @@ read-noted newest file given (cons h hs) = bind-same (bundle-noted newest file g
 
 -- ---- the operation
 -- All that it leaves, the answer's place apart.
-abbrev bareGuards : GuardsWritten → GuardsWritten
-bareGuards w = record { answer = bareAnswer (w .answer); count = w .count; output = w .output; sizes = w .sizes }
+abbrev eraseGuards : GuardsWritten → GuardsWritten
+eraseGuards w = record { answer = moveAnswer erase (w .answer); count = w .count; output = w .output; sizes = w .sizes }
 
-written-of : (output sizes : List ℕ) (r : Result (List (List ℕ))) → bareGuards (writtenGuards output sizes r) ≡ bareGuards (writtenGuards output sizes (bareOf r))
+written-of : (output sizes : List ℕ) (r : Result (List (List ℕ))) → eraseGuards (writtenGuards output sizes r) ≡ eraseGuards (writtenGuards output sizes (eraseOf r))
 unfolding writtenGuards unwritten
 written-of output sizes (refused a) = refl
 written-of output sizes (accepted fs) = refl
@@ -136,17 +136,14 @@ module _ {Fs Gs : List (List ℕ)} (h : Each NotedStage Fs Gs) {P Q : List ℕ} 
       rw (parted-noted h, parts-are Gs, parts-are Fs, short-noted 11 h, atMost-kept (edition 2 .proofBytes) fileProof p k)
       (then-same _ (then-same _ (then-same _ (bind-same (read-noted 2 11 none h) λ ts. then-same _ (bind-same (run-noted 2 (constantsOf ts) (runOf ts) p) λ Is. record { equal = refl })))))
 
-  guards-noted : (output sizes : List ℕ) → bareGuards (guards (joined Gs) (map length Gs) Q output sizes) ≡ bareGuards (guards (joined Fs) (map length Fs) P output sizes)
+  guards-noted : (output sizes : List ℕ) → eraseGuards (guards (joined Gs) (map length Gs) Q output sizes) ≡ eraseGuards (guards (joined Fs) (map length Fs) P output sizes)
   unfolding guards guardsBy
-  guards-noted output sizes =
-      written-of output sizes (guardFiles 2 (joined Gs) (map length Gs) Q)
-      ∙ ap (λ (r : Result (List (List ℕ))). bareGuards (writtenGuards output sizes r)) (files-noted .equal)
-      ∙ sym (written-of output sizes (guardFiles 2 (joined Fs) (map length Fs) P))
+  guards-noted output sizes = left-same (λ (r : Result (List (List ℕ))). eraseGuards (writtenGuards output sizes r)) (written-of output sizes) files-noted
 
 -- Notes are passed over.
 pub run-notes : RunNotes
 run-notes = record {
   passed-over = λ Fs Fs′ proof proof′ output sizes left left′ sizesLeft sizesLeft′ r r′ h p k w w′.
-      let e = ap (bareGuards) (w′ .is) ∙ guards-noted h p k output sizes ∙ sym (ap (bareGuards) (w .is)) in
+      let e = ap eraseGuards (w′ .is) ∙ guards-noted h p k output sizes ∙ sym (ap eraseGuards (w .is)) in
       (ap (λ (g : GuardsWritten). g .answer) e, ap (λ (g : GuardsWritten). g .count) e, ap (λ (g : GuardsWritten). g .output) e, ap (λ (g : GuardsWritten). g .sizes) e);
 }

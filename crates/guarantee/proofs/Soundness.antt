@@ -16,10 +16,10 @@ use Rattle.number_bytes.specs.Numbers.{Bytes}
 use Rattle.fields.specs.Fields.{Item, Framed, fileOf, withoutNotes, fields, items}
 use Rattle.fields.proofs.Framing.{items-fileOf}
 use Rattle.fields.proofs.Whole.{whole-file}
-use Rattle.fields.proofs.Bare.{bareWritten}
+use Rattle.fields.proofs.Moved.{eraseWritten}
 use Rattle.bundle.specs.Bundle.{bundle}
 use Rattle.bundle.specs.Layout.{StatesAll, BundleFile, bundleLimit}
-use Rattle.bundle.proofs.Bare.{limit-most, kept-higher}
+use Rattle.bundle.proofs.Notes.{limit-most, kept-higher}
 use Rattle.formula.specs.Formula.{formulaFile}
 use Rattle.proof.specs.Check.{check}
 use Rattle.proof.specs.Layout.{Yields}
@@ -125,8 +125,8 @@ module _ (FA FB : List Item) (framedA : All Framed FA) (framedB : All Framed FB)
 
 -- ---- notes
 -- What the function leaves, the answer's place apart.
-bare-is : {A B proof output left : List ℕ} {r : WriteResult} → Checks A B proof output left r → bareWritten (writtenOf r left) ≡ bareWritten (check A B proof output)
-bare-is c = ap bareWritten (c .is)
+erased-is : {A B proof output left : List ℕ} {r : WriteResult} → Checks A B proof output left r → eraseWritten (writtenOf r left) ≡ eraseWritten (check A B proof output)
+erased-is c = ap eraseWritten (c .is)
 
 -- the length by the file alone is no more than that behind what was read before
 behind-least : {X : Type 0} (r : Result X) (file : List ℕ) → bundleLimit file ≤ limitBehind r file
@@ -144,7 +144,7 @@ limit-B-least A B proof = behind-least (lengthsFit A B proof >> bundle newestEdi
 
 notes : NotesPassedOver limitA limitB
 notes A A′ B B′ proof proof′ output left left′ r r′ nA nB nP kA kB kP c c′ =
-    let same = bare-is c′ ∙ check-noted nA nB nP kA kB kP output ∙ sym (bare-is c) in
+    let same = erased-is c′ ∙ check-noted nA nB nP kA kB kP output ∙ sym (erased-is c) in
     (ap (λ (w : Written). w .answer) same, ap (λ (w : Written). w .count) same, ap (λ (w : Written). w .output) same, lent-kept nA nB nP kA kB kP c c′)
 
 notes-plain : NotesPassedOver (λ A B proof. bundleLimit A) (λ A B proof. bundleLimit B)

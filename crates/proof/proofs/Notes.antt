@@ -8,13 +8,13 @@ use Rattle.forms.specs.Edition.{edition, edition2}
 use Rattle.answers.specs.Answers.{fileA, fileB, fileProof, Result, refused, accepted, _>>_}
 use Rattle.answers.proofs.Results.{passes}
 use Rattle.fields.specs.Fields.{Noted, Kept}
-use Rattle.fields.proofs.Bare.{bareWritten, Same, bind-same, then-same, noted-same, written-same}
+use Rattle.fields.proofs.Moved.{erase, Same, bind-same, then-same, noted-same, eraseWritten, written-same}
 use Rattle.bundle.specs.Bundle.{Bundle, atMost, bundle}
 use Rattle.bundle.specs.Layout.{bundleLimit}
-use Rattle.bundle.proofs.Bare.{limit-most, kept-higher, atMost-kept, bundles-noted}
+use Rattle.bundle.proofs.Notes.{limit-most, kept-higher, atMost-kept, bundles-noted}
 use Rattle.proof.specs.Check.{interpolant, checkBy, check}
 use Rattle.proof.specs.Editions.{limitBehind, lengthsFit, limitA, limitB}
-use Rattle.proof.proofs.Bare.{checkProof-bare}
+use Rattle.proof.proofs.Moved.{checkProof-moved}
 
 -- Of two blocks behind one test, what follows where it is passed.
 then-same-where : {X : Type 0} (r : Result (Unit {0})) {s t : Result X} → (r ≡ accepted tt → Same s t) → Same (r >> s) (r >> t)
@@ -36,11 +36,11 @@ module _ (newest : ℕ) {A A′ B B′ P P′ : List ℕ} (a : Noted A A′) (b 
         rw (atMost-kept (edition newest .bundleBytes) fileA a keptA, atMost-kept (edition newest .bundleBytes) fileB b keptB, atMost-kept (edition newest .proofBytes) fileProof p keptP)
         (then-same-where _ λ fA. then-same-where _ λ fB. then-same-where _ λ fP.
         bind-same (bundles-noted newest a (readA (fA, fB, fP)) b (readB (fA, fB, fP))) λ x.
-        bind-same (noted-same (checkProof-bare newest (x .0) (x .1)) p) λ I.
+        bind-same (noted-same (checkProof-moved erase newest (x .0) (x .1)) p) λ I.
         then-same _ (record { equal = refl }))
 
     -- All that the check leaves, the answer's place apart.
-    pub checkBy-noted : (output : List ℕ) → bareWritten (checkBy newest A′ B′ P′ output) ≡ bareWritten (checkBy newest A B P output)
+    pub checkBy-noted : (output : List ℕ) → eraseWritten (checkBy newest A′ B′ P′ output) ≡ eraseWritten (checkBy newest A B P output)
     unfolding checkBy
     checkBy-noted output = written-same output (bind-same interpolant-noted λ x. record { equal = refl })
 
@@ -70,7 +70,7 @@ module _ {A A′ B B′ P P′ : List ℕ} (a : Noted A A′) (b : Noted B B′)
   unfolding lengthsFit
   fit-all (fA, fB, fP) = passes _ fA ∙ passes _ fB ∙ fP
 
-  pub check-noted : (output : List ℕ) → bareWritten (check A′ B′ P′ output) ≡ bareWritten (check A B P output)
+  pub check-noted : (output : List ℕ) → eraseWritten (check A′ B′ P′ output) ≡ eraseWritten (check A B P output)
   unfolding check limitA limitB
   check-noted output = checkBy-noted 2 a b p most-A most-B keptP
       (λ f. subst (λ (l : ℕ). Kept l A A′) (behind-accepted (fit-all f) A) keptA)
