@@ -3,11 +3,11 @@ use mathlib.Core.Path.{_≡_, refl, sym, ap, _∙_}
 use mathlib.Core.Option.{Option, none, some}
 use mathlib.Core.Bool.{Bool, true, false, cond}
 use mathlib.Core.List.{List}
-use Prim.Native.Nat.{ℕ, zero, suc, _+_, _-_, _*_, _≤_, _<_, min}
+use Prim.Native.Nat.{ℕ, zero, suc, _+_, _-_, _*_, _≤_, _<_}
 use native.Mathlib.Omega.{arith}
-use lib.Dec.{ltb, leb, eqb}
+use lib.Dec.{ltb, eqb}
 use lib.ListN.{length}
-use borrow.Author.Tests.{lt-ltb, le-ltb, ltb-true, ltb-false, lt-leb, le-leb, leb-true, leb-false, eq-eqb, ne-eqb}
+use borrow.Author.Tests.{lt-ltb, le-ltb, ltb-true, ltb-false, lt-leb, le-leb, eq-eqb, ne-eqb}
 use Rattle.forms.specs.Edition.{Edition, edition}
 use Rattle.forms.specs.Forms.{Constraint}
 use Rattle.answers.specs.declared.Answer.{Answer}
@@ -18,15 +18,15 @@ use Rattle.fields.proofs.HeaderLaid.{First, first-of}
 use Rattle.fields.proofs.Places.{Starts, starts, fields-whole-file}
 use Rattle.bundle.specs.Bundle.{Bundle, atMost, bundles, bothRead}
 use Rattle.bundle.specs.Layout.{States}
-use Rattle.bundle.specs.Show.{Part, partOf, constraintPart, shownPart, answerOf, showAnswer, handed, showPart}
+use Rattle.bundle.specs.Show.{partOf, constraintPart, shownPart, answerOf, showAnswer, handed, showPart}
 use Rattle.bundle.specs.Writable.{fieldSize}
-use Rattle.bundle.proofs.Laid.{Lists, done, next, listed, Laid, both-read-gives, both-read-short}
+use Rattle.bundle.proofs.Laid.{Lists, done, next, listed, Laid, both-read-short}
 use Rattle.bundle_scan.specs.Scan.{constraintStart, IsBundle}
 use Rattle.bundle_scan.specs.declared.Body.{Body}
 use Rattle.bundle_scan.proofs.Bodies.{count-is, laid-out}
 use Rattle.bundle_scan.proofs.Pairs.{same-k, accepted-both}
 use Rattle.bundle_show.specs.Locate.{IsLocated}
-use Rattle.bundle_show.specs.Promises.{ofFile, partBytes}
+use Rattle.bundle_show.specs.Promises.{ofFile}
 use Rattle.bundle_show.specs.declared.locate.Located.{Located}
 
 -- ---- a field lies in its file
@@ -151,39 +151,6 @@ module _ (A B : List ℕ) (i : ℕ) where
       shown-both : {a b : Bundle} → bundles 2 A B ≡ accepted (a, b) → shownPart 2 A B i ≡ found (answer 10 fileA 0) (constraintPart A B (length (a .constraints)) i)
       unfolding _>>=_
       shown-both e = shown-short ∙ rw e
-
--- ---- no line beyond 64 is there, so all of these are answered alike
-module _ (A B : List ℕ) (i j : ℕ) (hi : 64 ≤ i) (hj : 64 ≤ j) where
-  none-beyond : (i : ℕ) → 64 ≤ i → {a b : Bundle} → bothRead 2 A B ≡ accepted (a, b) → constraintPart A B (length (a .constraints)) i ≡ none
-  unfolding partOf
-  none-beyond i h {a} {b} e =
-      let l = both-read-gives 2 A B .gives (a, b) e in
-      of-B A B i _ (le-ltb i _ (omega (arith, l .laidA .file .few))) ∙ rw (gone (l .laidB) (i - length (a .constraints)) (omega (arith, l .laidA .file .few, l .laidB .file .few)))
-
-  pub shown-beyond : shownPart 2 A B i ≡ shownPart 2 A B j
-  unfolding shownPart _>>=_
-  shown-beyond = go (bothRead 2 A B) refl
-    where
-      go : (r : Result (Bundle × Bundle)) → bothRead 2 A B ≡ r → shownPart 2 A B i ≡ shownPart 2 A B j
-      go (refused x) e = rw e
-      go (accepted (a, b)) e = rw (e, none-beyond i hi e, none-beyond j hj e)
-
--- so a number that two bytes cannot hold is answered as 65,535 is
-module _ (A B : List ℕ) (line : ℕ) where
-  shown-any : shownPart 2 A B (min line 65535) ≡ shownPart 2 A B line
-  shown-any = go (leb line 65535) refl
-    where
-      go : (t : Bool) → leb line 65535 ≡ t → shownPart 2 A B (min line 65535) ≡ shownPart 2 A B line
-      go true e = let z : min line 65535 ≡ line = omega (arith, leb-true line 65535 e) in rw z
-      go false e = shown-beyond A B _ _ (omega (arith, leb-false line 65535 e)) (omega (arith, leb-false line 65535 e))
-
-  pub answer-any : showAnswer 2 A B (min line 65535) ≡ showAnswer 2 A B line
-  unfolding showAnswer
-  answer-any = ap answerOf shown-any
-
-  pub part-any : partBytes (showPart 2 A B (min line 65535)) A B ≡ partBytes (showPart 2 A B line) A B
-  unfolding showPart
-  part-any = ap (λ (r : Result Part). partBytes (handed r) A B) shown-any
 
 -- ---- each way from there
 -- Both files are short enough, and both were gone over.

@@ -2,7 +2,6 @@
 use bundle_scan::Scanned;
 use bundle_scan::scan;
 use forms::BUNDLE_BYTES;
-use forms::LineNumber;
 use forms::coefficient_bytes;
 ghost use mathlib.Core.Path.{_≡_};
 ghost use Prim.Native.Nat.{_-_};
@@ -34,8 +33,8 @@ fn beyond(i: usize, m: usize) -> usize
 }
 
 // A's lines come first: wanted is constraint i of A, or the one of B that lies as far beyond A's.
-pub fn locate(a: &[u8], b: &[u8], line: LineNumber) -> Located
-    ensures { λ r. ⌜ IsLocated (now (a .entry)) (now (b .entry)) (line .0) r ⌝ }
+pub fn locate(a: &[u8], b: &[u8], i: usize) -> Located
+    ensures { λ r. ⌜ IsLocated (now (a .entry)) (now (b .entry)) i r ⌝ }
 {
     if a.len() > BUNDLE_BYTES {
         return Located::Nowhere;
@@ -43,7 +42,6 @@ pub fn locate(a: &[u8], b: &[u8], line: LineNumber) -> Located
     if b.len() > BUNDLE_BYTES {
         return Located::Nowhere;
     }
-    let i = line.0 as usize;
     match scan(a, 0, i) {
         Scanned::Bundle {
             k,

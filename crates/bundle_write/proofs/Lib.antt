@@ -1,4 +1,3 @@
 -- What is written, by the definition.
 pub mod Putting
 pub mod Writing
-mod Wide

@@ -4,10 +4,11 @@ use mathlib.Core.Bool.{Bool, true, false, _&&_, cond}
 use mathlib.Core.List.{List, [], _∷_, _++_}
 use Prim.Native.Nat.{ℕ, suc, _+_, _*_, _≤_, _<_}
 use native.Mathlib.Omega.{arith}
-use lib.Dec.{leb}
+use lib.Dec.{leb, leb→le}
 use lib.IntN.{ℤ}
 use lib.ListN.{length}
 use lib.Seq.{sets}
+use mir.Facts.{and-yes}
 use borrow.Author.Tests.{le-leb, lt-leb, eq-eqb, ne-eqb}
 use Rattle.forms.specs.Edition.{edition}
 use Rattle.answers.specs.declared.Answer.{Answer}
@@ -51,6 +52,9 @@ module _ {X : Type 0} (at : ℕ → Answer) (p : X → Bool) where
       go false h k = refl
 
 -- ---- what `write_fault` answers
+pub up-to-most : (n most : ℕ) {b : Bool} → b ≡ (leb 1 n && leb n most) → b ≡ true → n ≤ most
+up-to-most n most e f = leb→le n most (and-yes (leb 1 n) (leb n most) (rw (sym e ∙ f) tt) .1)
+
 module _ (newest n K : ℕ) (kinds : List ℕ) (numbers : List ℤ) where
   abbrev fault : Answer
   fault = answerOf (encodeBundle newest n K kinds numbers)

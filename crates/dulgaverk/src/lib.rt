@@ -24,8 +24,8 @@ ghost use Rattle.run.specs.Promises.{WritesGuards};
 use answers::Answer;
 use answers::WriteResult;
 use bundle_read::ReadResult;
-use bundle_show::wide::answer_any;
-use bundle_show::wide::copy_any;
+use bundle_show::copy_shown;
+use bundle_show::show_answer;
 use checking::check;
 use formula_test::Tested;
 use scheduler::Changed;
@@ -44,11 +44,12 @@ use shorten::ShortenResult;
 use shorten::shorten;
 use turning::turn_bundle;
 
+// The file is taken anew: turning a bundle calls this too, and it is then handed over in registers (docs/SPEED.md, Slices taken anew).
 #[no_mangle]
 pub extern "C" fn dulgaverk_read(file: &[u8], kinds: &mut [u8], numbers: &mut [i32]) -> ReadResult
     ensures { λ r. ⌜ Reads (now (file .entry)) (now (kinds .entry)) (now (numbers .entry)) (now (kinds .exit)) (now (numbers .exit)) r ⌝ }
 {
-    bundle_read::read(file, kinds, numbers)
+    bundle_read::read(&file[0..file.len()], kinds, numbers)
 }
 
 #[no_mangle]
@@ -61,14 +62,14 @@ pub extern "C" fn dulgaverk_write(
 ) -> WriteResult
     ensures { λ r. ⌜ Writes edition k (now (kinds .entry)) (now (numbers .entry)) (now (out .entry)) (now (out .exit)) r ⌝ }
 {
-    bundle_write::write_any(edition, k, kinds, numbers, out)
+    bundle_write::write(edition, k, kinds, numbers, out)
 }
 
 #[no_mangle]
 pub extern "C" fn dulgaverk_show_answer(a: &[u8], b: &[u8], line: usize) -> Answer
     ensures { λ r. ⌜ AnswersShow (now (a .entry)) (now (b .entry)) line r ⌝ }
 {
-    answer_any(a, b, line)
+    show_answer(a, b, line)
 }
 
 // The check of a proof; the formula's file goes into `out`.
@@ -115,7 +116,7 @@ pub extern "C" fn dulgaverk_guards(
 pub extern "C" fn dulgaverk_show<'a>(a: &'a [u8], b: &'a [u8], line: usize, out: &mut [u8]) -> usize
     ensures { λ r. ⌜ Copied (partBytes (showPart newestEdition (now (a .entry)) (now (b .entry)) line) (now (a .entry)) (now (b .entry))) (now (out .entry)) (now (out .exit)) r ⌝ }
 {
-    copy_any(a, b, line, out)
+    copy_shown(a, b, line, out)
 }
 
 #[no_mangle]

@@ -21,9 +21,6 @@ refusal-requires-2 c κs = search needs
 returns-2 : tie.Need-returns-2
 returns-2 c = record { is = c .refusal2 .ensures ∙ sym (answer-refused _ _ _ (shown-long-B _ _ _ (c .before .before .if1 .left) (c .before .if2 .taken))) }
 
-cast-i : tie.Need-cast-i
-cast-i c = search needs
-
 scan-requires : tie.Need-scan-requires
 scan-requires c κs = search needs
 
@@ -49,7 +46,7 @@ returns-3 : tie.Need-returns-3
 returns-3 c =
     let a = scanned-bundle (c .before .before .before .before .before .before .before .before .before .before .before .scan .ensures) (c .before .before .before .before .before .before .before .before .before .k .given .1) .0 in
     let b = scanned-bundle (c .before .before .before .before .before .before .before .scan2 .ensures) (c .before .before .before .before .before .second .given .1) .0 in
-    record { is = c .acceptance .ensures ∙ sym (answer-part (record { shortA = c .before .before .before .before .before .before .before .before .before .before .before .before .before .before .if1 .left; shortB = c .before .before .before .before .before .before .before .before .before .before .before .before .before .if2 .left; a = a; b = b }) _ (c .before .if3 .taken)) }
+    record { is = c .acceptance .ensures ∙ sym (answer-part (record { shortA = c .before .before .before .before .before .before .before .before .before .before .before .before .before .if1 .left; shortB = c .before .before .before .before .before .before .before .before .before .before .before .before .if2 .left; a = a; b = b }) _ (c .before .if3 .taken)) }
 
 refusal-requires-3 : tie.Need-refusal-requires-3
 refusal-requires-3 c κs = search needs
@@ -70,15 +67,15 @@ returns-4 : tie.Need-returns-4
 returns-4 c =
     let a = scanned-bundle (c .before .before .before .before .before .before .before .before .before .before .before .scan .ensures) (c .before .before .before .before .before .before .before .before .before .k .given .1) .0 in
     let b = scanned-bundle (c .before .before .before .before .before .before .before .scan2 .ensures) (c .before .before .before .before .before .second .given .1) .0 in
-    record { is = c .refusal3 .ensures ∙ sym (answer-none (record { shortA = c .before .before .before .before .before .before .before .before .before .before .before .before .before .before .if1 .left; shortB = c .before .before .before .before .before .before .before .before .before .before .before .before .before .if2 .left; a = a; b = b }) _ (c .before .if3 .left)) }
+    record { is = c .refusal3 .ensures ∙ sym (answer-none (record { shortA = c .before .before .before .before .before .before .before .before .before .before .before .before .before .if1 .left; shortB = c .before .before .before .before .before .before .before .before .before .before .before .before .if2 .left; a = a; b = b }) _ (c .before .if3 .left)) }
 
 returns-5 : tie.Need-returns-5
 returns-5 c =
     let a = scanned-bundle (c .before .before .before .before .before .before .before .before .scan .ensures) (c .before .before .before .before .before .before .k .given .1) .0 in
-    record { is = c .refusal4 .ensures ∙ sym (answer-refused _ _ _ (shown-refused _ _ _ (c .before .before .before .before .before .before .before .before .before .before .before .if1 .left) (c .before .before .before .before .before .before .before .before .before .before .if2 .left) (refused-B a _ (scanned-refused (c .before .before .before .before .scan2 .ensures) (c .before .before .number .given .1) 2)))) }
+    record { is = c .refusal4 .ensures ∙ sym (answer-refused _ _ _ (shown-refused _ _ _ (c .before .before .before .before .before .before .before .before .before .before .if1 .left) (c .before .before .before .before .before .before .before .before .before .if2 .left) (refused-B a _ (scanned-refused (c .before .before .before .before .scan2 .ensures) (c .before .before .number .given .1) 2)))) }
 
 returns-6 : tie.Need-returns-6
-returns-6 c = record { is = c .refusal5 .ensures ∙ sym (answer-refused _ _ _ (shown-refused _ _ _ (c .before .before .before .before .before .before .before .if1 .left) (c .before .before .before .before .before .before .if2 .left) (refused-A _ _ (scanned-refused (c .before .before .before .before .scan .ensures) (c .before .before .number2 .given .1) 1)))) }
+returns-6 c = record { is = c .refusal5 .ensures ∙ sym (answer-refused _ _ _ (shown-refused _ _ _ (c .before .before .before .before .before .before .if1 .left) (c .before .before .before .before .before .if2 .left) (refused-A _ _ (scanned-refused (c .before .before .before .before .scan .ensures) (c .before .before .number2 .given .1) 1)))) }
 
 pub show-answer-spec : {M : Type 1} → statement M
 show-answer-spec =
@@ -88,7 +85,6 @@ show-answer-spec =
     returns
     refusal-requires-2
     returns-2
-    cast-i
     scan-requires
     enum-known-k
     scan-requires-2

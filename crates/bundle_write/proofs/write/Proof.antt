@@ -26,11 +26,20 @@ returns c =
     let a = c .before .before .before .before .args in
     write-refused _ _ _ _ _ (not-granted 2 (a .edition) (a .k) (a .kinds .now) (a .numbers .now) (c .before .write-fault .ensures) (c .if1 .taken))
 
+cast-e : tie.Need-cast-e
+cast-e c =
+    let a = c .before .before .before .before .args in
+    let t = granted 2 (a .edition) (a .k) (a .kinds .now) (a .numbers .now) (c .before .write-fault .ensures) (c .if1 .left) in
+    omega (arith, t .order .last)
+
 coefficient-bytes-requires : tie.Need-coefficient-bytes-requires
 coefficient-bytes-requires c κs = search needs
 
 add-needed : tie.Need-add-needed
-add-needed c = search needs
+add-needed c =
+    let a = c .before .before .before .before .before .args in
+    let t = granted 2 (a .edition) (a .k) (a .kinds .now) (a .numbers .now) (c .before .before .write-fault .ensures) (c .before .if1 .left) in
+    omega (arith, t .order .high)
 
 mul-needed : tie.Need-mul-needed
 mul-needed c = record { fits = omega (arith, size-most c) }
@@ -59,8 +68,20 @@ returns-2 c =
     let t = granted 2 (a .edition) (a .k) (a .kinds .now) (a .numbers .now) (c .before .before .before .before .write-fault .ensures) (c .before .before .before .if1 .left) in
     rw (c .refusal .ensures) (write-short _ _ _ _ _ t (c .before .before .coefficient-bytes .ensures) (c .before .if2 .taken))
 
+cast-put-header : tie.Need-cast-put-header
+cast-put-header c =
+    let a = c .before .before .before .before .before .before .before .args in
+    let t = granted 2 (a .edition) (a .k) (a .kinds .now) (a .numbers .now) (c .before .before .before .before .write-fault .ensures) (c .before .before .before .if1 .left) in
+    omega (arith, t .order .high)
+
 put-header-requires : tie.Need-put-header-requires
 put-header-requires c κs = omega arith
+
+cast-put-constraints : tie.Need-cast-put-constraints
+cast-put-constraints c =
+    let a = c .before .before .before .before .before .before .before .before .before .before .before .args in
+    let t = granted 2 (a .edition) (a .k) (a .kinds .now) (a .numbers .now) (c .before .before .before .before .before .before .before .before .write-fault .ensures) (c .before .before .before .before .before .before .before .if1 .left) in
+    omega (arith, t .order .high)
 
 put-constraints-requires : tie.Need-put-constraints-requires
 put-constraints-requires c κs =
@@ -84,6 +105,7 @@ write-spec =
     (tie.spec
     write-fault-requires
     returns
+    cast-e
     coefficient-bytes-requires
     add-needed
     mul-needed
@@ -92,7 +114,9 @@ write-spec =
     add-needed-3
     refusal-requires
     returns-2
+    cast-put-header
     put-header-requires
+    cast-put-constraints
     put-constraints-requires
     same-length
     returns-3)

@@ -15,9 +15,6 @@ returns c = located-nowhere _ _ _ (shown-long-A _ _ _ (c .if1 .taken))
 returns-2 : tie.Need-returns-2
 returns-2 c = located-nowhere _ _ _ (shown-long-B _ _ _ (c .before .if1 .left) (c .if2 .taken))
 
-cast-i : tie.Need-cast-i
-cast-i c = search needs
-
 scan-requires : tie.Need-scan-requires
 scan-requires c κs = search needs
 
@@ -40,7 +37,7 @@ returns-3 : tie.Need-returns-3
 returns-3 c =
     let a = scanned-bundle (c .before .before .before .before .before .before .before .before .before .before .scan .ensures) (c .before .before .before .before .before .before .before .before .k .given .1) in
     let b = scanned-bundle (c .before .before .before .before .before .scan2 .ensures) (c .before .before .before .second .given .1) in
-    located-A (record { shortA = c .before .before .before .before .before .before .before .before .before .before .before .before .before .if1 .left; shortB = c .before .before .before .before .before .before .before .before .before .before .before .before .if2 .left; a = a .0; b = b .0 }) _ (c .before .if3 .taken) (a .1) (c .field-size .ensures)
+    located-A (record { shortA = c .before .before .before .before .before .before .before .before .before .before .before .before .if1 .left; shortB = c .before .before .before .before .before .before .before .before .before .before .before .if2 .left; a = a .0; b = b .0 }) _ (c .before .if3 .taken) (a .1) (c .field-size .ensures)
 
 field-size-requires-2 : tie.Need-field-size-requires-2
 field-size-requires-2 c κs = search needs
@@ -49,7 +46,7 @@ returns-4 : tie.Need-returns-4
 returns-4 c =
     let a = scanned-bundle (c .before .before .before .before .before .before .before .before .before .before .before .before .scan .ensures) (c .before .before .before .before .before .before .before .before .before .before .k .given .1) in
     let b = scanned-bundle (c .before .before .before .before .before .before .before .scan2 .ensures) (c .before .before .before .before .before .second .given .1) in
-    located-B (record { shortA = c .before .before .before .before .before .before .before .before .before .before .before .before .before .before .before .if1 .left; shortB = c .before .before .before .before .before .before .before .before .before .before .before .before .before .before .if2 .left; a = a .0; b = b .0 }) _ (c .before .before .before .if3 .left) (c .before .if4 .taken) (b .1 ∙ ap (λ (j : ℕ). constraintStart (c .before .before .before .before .before .before .before .before .before .before .before .before .before .before .before .before .before .before .args .b .now) j) (c .before .before .before .before .before .before .before .before .beyond .ensures)) (c .field-size2 .ensures)
+    located-B (record { shortA = c .before .before .before .before .before .before .before .before .before .before .before .before .before .before .if1 .left; shortB = c .before .before .before .before .before .before .before .before .before .before .before .before .before .if2 .left; a = a .0; b = b .0 }) _ (c .before .before .before .if3 .left) (c .before .if4 .taken) (b .1 ∙ ap (λ (j : ℕ). constraintStart (c .before .before .before .before .before .before .before .before .before .before .before .before .before .before .before .before .before .args .b .now) j) (c .before .before .before .before .before .before .before .before .beyond .ensures)) (c .field-size2 .ensures)
 
 enum-told : tie.Need-enum-told
 enum-told c = search needs
@@ -61,15 +58,15 @@ returns-5 : tie.Need-returns-5
 returns-5 c =
     let a = scanned-bundle (c .before .before .before .before .before .before .before .before .before .before .before .scan .ensures) (c .before .before .before .before .before .before .before .before .before .k .given .1) .0 in
     let b = scanned-bundle (c .before .before .before .before .before .before .scan2 .ensures) (c .before .before .before .before .second .given .1) .0 in
-    located-nowhere _ _ _ (shown-none (record { shortA = c .before .before .before .before .before .before .before .before .before .before .before .before .before .before .if1 .left; shortB = c .before .before .before .before .before .before .before .before .before .before .before .before .before .if2 .left; a = a; b = b }) _ (c .before .before .if3 .left) (c .if4 .left))
+    located-nowhere _ _ _ (shown-none (record { shortA = c .before .before .before .before .before .before .before .before .before .before .before .before .before .if1 .left; shortB = c .before .before .before .before .before .before .before .before .before .before .before .before .if2 .left; a = a; b = b }) _ (c .before .before .if3 .left) (c .if4 .left))
 
 returns-6 : tie.Need-returns-6
 returns-6 c =
     let a = scanned-bundle (c .before .before .before .before .before .before .before .scan .ensures) (c .before .before .before .before .before .k .given .1) .0 in
-    located-nowhere _ _ _ (shown-refused _ _ _ (c .before .before .before .before .before .before .before .before .before .before .if1 .left) (c .before .before .before .before .before .before .before .before .before .if2 .left) (refused-B a _ (scanned-refused (c .before .before .scan2 .ensures) (c .enum-told .given .1) 2)))
+    located-nowhere _ _ _ (shown-refused _ _ _ (c .before .before .before .before .before .before .before .before .before .if1 .left) (c .before .before .before .before .before .before .before .before .if2 .left) (refused-B a _ (scanned-refused (c .before .before .scan2 .ensures) (c .enum-told .given .1) 2)))
 
 returns-7 : tie.Need-returns-7
-returns-7 c = located-nowhere _ _ _ (shown-refused _ _ _ (c .before .before .before .before .before .if1 .left) (c .before .before .before .before .if2 .left) (refused-A _ _ (scanned-refused (c .before .before .scan .ensures) (c .enum-told2 .given .1) 1)))
+returns-7 c = located-nowhere _ _ _ (shown-refused _ _ _ (c .before .before .before .before .if1 .left) (c .before .before .before .if2 .left) (refused-A _ _ (scanned-refused (c .before .before .scan .ensures) (c .enum-told2 .given .1) 1)))
 
 pub locate-spec : {M : Type 1} → statement M
 locate-spec =
@@ -77,7 +74,6 @@ locate-spec =
     (tie.spec
     returns
     returns-2
-    cast-i
     scan-requires
     enum-known-k
     beyond-requires

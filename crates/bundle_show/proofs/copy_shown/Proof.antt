@@ -1,4 +1,4 @@
--- `bundle_show::wide::copy_any` meets its contract: the part that `show` hands back is copied where it fits. Assumes nothing.
+-- `bundle_show::copy_shown` meets its contract: the part that `show` hands back is copied where it fits. Assumes nothing.
 use mathlib.Core.Path.{_≡_, refl, ap, _∙_}
 use mathlib.Core.List.{List, _++_}
 use Prim.Native.Nat.{ℕ, _+_, _≤_, _<_}
@@ -7,10 +7,9 @@ use lib.ListN.{length, take, drop}
 use lib.Seq.{sets, sets-eq, take-all}
 use Rattle.answers.specs.Answers.{over}
 use Rattle.bundle_show.specs.Copied.{Copied}
-use Rattle.bundle_show.proofs.Showing.{part-any}
 use borrow.Author.Needs.{needs}
-use Rattle.bundle_show.proofs.wide.copy_any.Statement.{statement}
-use Rattle.bundle_show.proofs.wide.copy_any.Tie as tie
+use Rattle.bundle_show.proofs.copy_shown.Statement.{statement}
+use Rattle.bundle_show.proofs.copy_shown.Tie as tie
 
 module _ {part p : List ℕ} (was : List ℕ) (e : p ≡ part) where
   kept : length was < length p → Copied part was was (length p)
@@ -27,14 +26,11 @@ module _ {part p : List ℕ} (was : List ℕ) (e : p ≡ part) where
   unfolding over
   copied h i = let q = i ∙ over-front (length p) refl h in record { size = ap length e; fits = λ _. q ∙ ap (λ (l : List ℕ). l ++ drop (length l) was) e; stays = λ k. absurd (omega (arith, ap length e)) }
 
-line-number-requires : tie.Need-line-number-requires
-line-number-requires c κs = search needs
-
 show-requires : tie.Need-show-requires
 show-requires c κs = search needs
 
 returns : tie.Need-returns
-returns c = kept _ (rw (c .before .before .line-number .ensures) at (c .before .show .ensures .bytes) ∙ part-any _ _ _) (search needs)
+returns c = kept _ (c .before .show .ensures .bytes) (search needs)
 
 copy-bytes-requires : tie.Need-copy-bytes-requires
 copy-bytes-requires c κs = search needs
@@ -43,7 +39,7 @@ same-length : tie.Need-same-length
 same-length c = search needs
 
 returns-2 : tie.Need-returns-2
-returns-2 c = copied _ (rw (c .before .before .before .before .before .before .line-number .ensures) at (c .before .before .before .before .before .show .ensures .bytes) ∙ part-any _ _ _) (search needs) (c .before .before .copy-bytes .ensures)
+returns-2 c = copied _ (c .before .before .before .before .before .show .ensures .bytes) (search needs) (c .before .before .copy-bytes .ensures)
 
-pub copy-any-spec : {M : Type 1} → statement M
-copy-any-spec = tie.close (tie.spec line-number-requires show-requires returns copy-bytes-requires same-length returns-2)
+pub copy-shown-spec : {M : Type 1} → statement M
+copy-shown-spec = tie.close (tie.spec show-requires returns copy-bytes-requires same-length returns-2)
