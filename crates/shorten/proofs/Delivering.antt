@@ -85,7 +85,7 @@ fit-all report table s true true p q = refl
 fit-all report table s false c p q = absurd (let z : _≡_ {A = ℕ} 1 0 = cc in omega arith)
 fit-all report table s true false p q = absurd (let z : _≡_ {A = ℕ} 1 0 = cc in omega arith)
 
-module _ {e K : ℕ} {fs : Fields} {n : ℕ} {reported : List ℕ} {rows : ℕ} {gones starts keeps lefts : List ℕ} (d : Deliverable e K fs n reported rows gones starts keeps lefts) where
+module _ {e K : ℕ} {fs : Fields} {n : ℕ} {reported : List ℕ} {rows : ℕ} {gones steps : List ℕ} (d : Deliverable e K fs n reported rows gones steps) where
   same-entries : entriesIn e K fs ≡ d .es
   same-entries = stated-entries e K fs (d .es) (d .stating)
 
@@ -150,16 +150,14 @@ module _ {e K : ℕ} {fs : Fields} {n : ℕ} {reported : List ℕ} {rows : ℕ} 
       table-short l p q = refused-21 (inr l) p q
 
       module _ (h : rows ≤ length report) (k : 8 + bytes ≤ length table) where
-        pub writable : {table₁ : List ℕ} → length table₁ ≡ length table → TableWritable e K fs n reported gones starts keeps lefts table₁ 8
+        pub writable : {table₁ : List ℕ} → length table₁ ≡ length table → TableWritable e K fs n reported gones steps table₁ 8
         writable l = record {
           es = d .es;
           stating = d .stating;
           tells = subst (Tells (d .es)) (sym (d .reported-is)) (report-tells (d .es) n [] (d .behind));
           report-room = omega (arith, ap length (d .reported-is), length-append (reportOn n (d .es)) (d .behind), reported-length);
           gones-room = d .gones-room;
-          starts-room = d .starts-room;
-          keeps-room = d .keeps-room;
-          lefts-room = d .lefts-room;
+          steps-room = d .steps-room;
           few = d .few;
           clear = d .clear;
           room = omega (arith, k, bytes-are, l);
@@ -193,18 +191,14 @@ module _ {e K : ℕ} {fs : Fields} {n : ℕ} {reported : List ℕ} {rows : ℕ} 
         }
 
 -- ---- the report, and then both
-module _ {e K : ℕ} {fs : Fields} {n : ℕ} {classes firsts seconds befores starts lefts marks gones reported : List ℕ} (d : ArraysFit e K fs n classes firsts seconds befores starts lefts marks gones reported) where
-  pub reportable : Reportable e K fs n classes firsts seconds befores starts lefts marks reported
+module _ {e K : ℕ} {fs : Fields} {n : ℕ} {gathered steps marks gones reported : List ℕ} (d : ArraysFit e K fs n gathered steps marks gones reported) where
+  pub reportable : Reportable e K fs n gathered steps marks reported
   reportable = record {
     gatherable = record {
       es = d .es;
       stating = d .stating;
-      classes-room = d .classes-room;
-      firsts-room = d .firsts-room;
-      seconds-room = d .seconds-room;
-      befores-room = d .befores-room;
-      starts-room = d .starts-room;
-      lefts-room = d .lefts-room;
+      gathered-room = d .gathered-room;
+      steps-room = d .steps-room;
       few = d .few;
     };
     marks-room = d .marks-room;
@@ -212,10 +206,9 @@ module _ {e K : ℕ} {fs : Fields} {n : ℕ} {classes firsts seconds befores sta
     clear = d .marks-clear;
   }
 
-  pub deliverable : {reported′ starts′ keeps′ lefts′ : List ℕ} {rows : ℕ} → Reported e K fs n reported reported′ rows → length starts′ ≡ length starts → length keeps′ ≡ length befores → length lefts′ ≡ length lefts
-      → Deliverable e K fs n reported′ rows gones starts′ keeps′ lefts′
+  pub deliverable : {reported′ steps′ : List ℕ} {rows : ℕ} → Reported e K fs n reported reported′ rows → length steps′ ≡ length steps → Deliverable e K fs n reported′ rows gones steps′
   unfolding over
-  deliverable {reported′} {rows = rows} r a b c =
+  deliverable {reported′} {rows = rows} r a =
       let q = stated-entries e K fs (d .es) (d .stating) in
       let ns = reportOn n (d .es) in
       record {
@@ -225,9 +218,7 @@ module _ {e K : ℕ} {fs : Fields} {n : ℕ} {classes firsts seconds befores sta
         reported-is = r .is ∙ ap (λ (es : List Entry). sets reported 0 (reportOn n es)) q ∙ sets-over ns reported (omega (arith, report-length n (d .es), d .reported-room));
         rows-are = r .rows-are ∙ ap (λ (es : List Entry). length (reportOn n es)) q ∙ report-length n (d .es);
         gones-room = d .gones-room;
-        starts-room = omega (arith, a, d .starts-room);
-        keeps-room = omega (arith, b, d .befores-room);
-        lefts-room = omega (arith, c, d .lefts-room);
+        steps-room = omega (arith, a, d .steps-room);
         few = d .few;
         clear = d .gones-clear;
       }
@@ -242,19 +233,15 @@ cleared (suc n) zero = refl
 cleared (suc n) (suc j) = cleared n j
 
 pub shortenable : {e K : ℕ} {fs : Fields} {n : ℕ} (rows : ℕ) → rows ≤ 1_024 → Stated e K fs n rows
-    → ArraysFit e K fs n (zeros rows) (zeros rows) (zeros rows) (zeros rows) (zeros rows) (zeros rows) (zeros (65 + rows)) (zeros (65 + rows)) (zeros rows)
+    → ArraysFit e K fs n (zeros rows) (zeros rows) (zeros (65 + rows)) (zeros (65 + rows)) (zeros rows)
 shortenable rows m d =
     let l : length (zeros rows) ≡ rows = length-replicate rows 0 in
     let k : length (zeros (65 + rows)) ≡ 65 + rows = length-replicate (65 + rows) 0 in
     record {
       es = d .es;
       stating = d .stating;
-      classes-room = omega (arith, d .few, l);
-      firsts-room = omega (arith, d .few, l);
-      seconds-room = omega (arith, d .few, l);
-      befores-room = omega (arith, d .few, l);
-      starts-room = omega (arith, d .few, l);
-      lefts-room = omega (arith, d .few, l);
+      gathered-room = omega (arith, d .few, l);
+      steps-room = omega (arith, d .few, l);
       reported-room = omega (arith, d .few, l);
       marks-room = omega (arith, d .few, d .constraints, k);
       gones-room = omega (arith, d .few, d .constraints, k);

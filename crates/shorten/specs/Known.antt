@@ -41,29 +41,23 @@ pub record Stated (e K : ℕ) (fs : Fields) (n rows : ℕ) : Type 0 where
   pub constraints : n ≤ 2 * edition1 .constraints
 
 -- The report on the rows is made, with anything behind it; the arrays have room for the rows and lines, and no line is gone yet.
-pub record Deliverable (e K : ℕ) (fs : Fields) (n : ℕ) (reported : List ℕ) (rows : ℕ) (gones starts keeps lefts : List ℕ) : Type 0 where
+pub record Deliverable (e K : ℕ) (fs : Fields) (n : ℕ) (reported : List ℕ) (rows : ℕ) (gones steps : List ℕ) : Type 0 where
   pub es : List Entry
   pub stating : Stating e K fs es
   pub behind : List ℕ
   pub reported-is : reported ≡ reportOn n es ++ behind
   pub rows-are : rows ≡ rowsOf es
   pub gones-room : n + rowsOf es ≤ length gones
-  pub starts-room : rowsOf es ≤ length starts
-  pub keeps-room : rowsOf es ≤ length keeps
-  pub lefts-room : rowsOf es ≤ length lefts
+  pub steps-room : rowsOf es ≤ length steps
   pub few : n + rowsOf es < 0xFFFF
   pub clear : (j : ℕ) → getD gones j 0 ≡ 0
 
 -- The arrays have room for the rows and lines of what the fields state, and hold 0 where marks and numbers are kept.
-pub record ArraysFit (e K : ℕ) (fs : Fields) (n : ℕ) (classes firsts seconds befores starts lefts marks gones reported : List ℕ) : Type 0 where
+pub record ArraysFit (e K : ℕ) (fs : Fields) (n : ℕ) (gathered steps marks gones reported : List ℕ) : Type 0 where
   pub es : List Entry
   pub stating : Stating e K fs es
-  pub classes-room : rowsOf es ≤ length classes
-  pub firsts-room : rowsOf es ≤ length firsts
-  pub seconds-room : rowsOf es ≤ length seconds
-  pub befores-room : rowsOf es ≤ length befores
-  pub starts-room : rowsOf es ≤ length starts
-  pub lefts-room : rowsOf es ≤ length lefts
+  pub gathered-room : rowsOf es ≤ length gathered
+  pub steps-room : rowsOf es ≤ length steps
   pub reported-room : rowsOf es ≤ length reported
   pub marks-room : n + rowsOf es < length marks
   pub gones-room : n + rowsOf es ≤ length gones

@@ -11,6 +11,7 @@ use forms::CONSTRAINTS;
 use forms::NEWEST;
 use forms::ROWS;
 use number_bytes::copy::copy_bytes;
+use shortening_marks::ProofBody;
 use shortening_marks::report_rows;
 use shortening_table::put_table;
 use shortening_table::table_bytes;
@@ -52,23 +53,18 @@ fn refused(answer: Answer) -> ShortenResult
 // By the report on the rows: the bytes of the table, and then the table and the report. 21.
 fn write_both(
     proof: &[u8],
-    at: usize,
-    e: u8,
-    k: u8,
-    n: u16,
+    body: ProofBody,
     reported: &[u8],
     rows: usize,
     gones: &mut [u16],
-    starts: &mut [u16],
-    keeps: &mut [u16],
-    lefts: &mut [u16],
+    steps: &mut [u64],
     report: &mut [u8],
     table: &mut [u8],
 ) -> ShortenResult
-    requires { ⌜ Deliverable e k (fieldsAt (now proof) at) n (now reported) rows (now gones) (now starts) (now keeps) (now lefts) ⌝ }
-    ensures { λ r. ⌜ ShortensFields e k (fieldsAt (now (proof .entry)) at) n (now (report .entry)) (now (table .entry)) (now (report .exit)) (now (table .exit)) r ⌝ }
+    requires { ⌜ Deliverable (body .edition) (body .k) (fieldsAt (now proof) (body .at)) (body .constraints) (now reported) rows (now gones) (now steps) ⌝ }
+    ensures { λ r. ⌜ ShortensFields (body .edition) (body .k) (fieldsAt (now (proof .entry)) (body .at)) (body .constraints) (now (report .entry)) (now (table .entry)) (now (report .exit)) (now (table .exit)) r ⌝ }
 {
-    let needed = 8 + table_bytes(proof, at, reported);
+    let needed = 8 + table_bytes(proof, body.at, reported);
     let short = refused(answers::refusal(21, 4, needed));
     if report.len() < rows {
         return short;
@@ -76,21 +72,8 @@ fn write_both(
     if table.len() < needed {
         return short;
     }
-    put_header(table, e, k);
-    put_table(
-        proof,
-        at,
-        e,
-        k,
-        n,
-        reported,
-        gones,
-        starts,
-        keeps,
-        lefts,
-        table,
-        8,
-    );
+    put_header(table, body.edition, body.k);
+    put_table(proof, body, reported, gones, steps, table, 8);
     copy_bytes(reported, 0, rows, report, 0);
     let answer = answers::acceptance();
     ShortenResult {
@@ -100,95 +83,40 @@ fn write_both(
     }
 }
 
-// A proof that is accepted: of edition e over k constants, whose rows start at a place, over n constraints. The arrays have
-// room for its rows and lines, and hold 0 only.
+// A proof that is accepted. The arrays have room for its rows and lines, and hold 0 only.
 fn shorten_within(
     proof: &[u8],
-    at: usize,
-    e: u8,
-    k: u8,
-    n: u16,
-    classes: &mut [u8],
-    firsts: &mut [u16],
-    seconds: &mut [u16],
-    befores: &mut [u16],
-    starts: &mut [u16],
-    lefts: &mut [u16],
+    body: ProofBody,
+    gathered: &mut [u64],
+    steps: &mut [u64],
     marks: &mut [u8],
     gones: &mut [u16],
     reported: &mut [u8],
     report: &mut [u8],
     table: &mut [u8],
 ) -> ShortenResult
-    requires { ⌜ ArraysFit e k (fieldsAt (now proof) at) n (now classes) (now firsts) (now seconds) (now befores) (now starts) (now lefts) (now marks) (now gones) (now reported) ⌝ }
-    ensures { λ r. ⌜ ShortensFields e k (fieldsAt (now (proof .entry)) at) n (now (report .entry)) (now (table .entry)) (now (report .exit)) (now (table .exit)) r ⌝ }
+    requires { ⌜ ArraysFit (body .edition) (body .k) (fieldsAt (now proof) (body .at)) (body .constraints) (now gathered) (now steps) (now marks) (now gones) (now reported) ⌝ }
+    ensures { λ r. ⌜ ShortensFields (body .edition) (body .k) (fieldsAt (now (proof .entry)) (body .at)) (body .constraints) (now (report .entry)) (now (table .entry)) (now (report .exit)) (now (table .exit)) r ⌝ }
 {
-    let rows = report_rows(
-        proof,
-        at,
-        e,
-        k,
-        n,
-        classes,
-        firsts,
-        seconds,
-        befores,
-        starts,
-        lefts,
-        marks,
-        reported,
-    );
-    write_both(
-        proof,
-        at,
-        e,
-        k,
-        n,
-        reported,
-        rows,
-        gones,
-        starts,
-        befores,
-        lefts,
-        report,
-        table,
-    )
+    let rows = report_rows(proof, body, gathered, steps, marks, reported);
+    write_both(proof, body, reported, rows, gones, steps, report, table)
 }
 
 // An array is cleared before it is used, which takes longer than shortening a short proof, so a short one is given little.
-fn shorten_few(
-    proof: &[u8],
-    at: usize,
-    e: u8,
-    k: u8,
-    n: u16,
-    report: &mut [u8],
-    table: &mut [u8],
-) -> ShortenResult
-    requires { ⌜ Stated e k (fieldsAt (now proof) at) n 64 ⌝ }
-    ensures { λ r. ⌜ ShortensFields e k (fieldsAt (now (proof .entry)) at) n (now (report .entry)) (now (table .entry)) (now (report .exit)) (now (table .exit)) r ⌝ }
+fn shorten_few(proof: &[u8], body: ProofBody, report: &mut [u8], table: &mut [u8]) -> ShortenResult
+    requires { ⌜ Stated (body .edition) (body .k) (fieldsAt (now proof) (body .at)) (body .constraints) 64 ⌝ }
+    ensures { λ r. ⌜ ShortensFields (body .edition) (body .k) (fieldsAt (now (proof .entry)) (body .at)) (body .constraints) (now (report .entry)) (now (table .entry)) (now (report .exit)) (now (table .exit)) r ⌝ }
 {
-    let mut classes = [0u8; ROWS_FEW];
-    let mut firsts = [0u16; ROWS_FEW];
-    let mut seconds = [0u16; ROWS_FEW];
-    let mut befores = [0u16; ROWS_FEW];
-    let mut starts = [0u16; ROWS_FEW];
-    let mut lefts = [0u16; ROWS_FEW];
+    let mut gathered = [0u64; ROWS_FEW];
+    let mut steps = [0u64; ROWS_FEW];
     let mut marks = [0u8; LINES_FEW];
     let mut gones = [0u16; LINES_FEW];
     let mut reported = [0u8; ROWS_FEW];
     shorten_within(
         proof,
-        at,
-        e,
-        k,
-        n,
-        &mut classes,
-        &mut firsts,
-        &mut seconds,
-        &mut befores,
-        &mut starts,
-        &mut lefts,
+        body,
+        &mut gathered,
+        &mut steps,
         &mut marks,
         &mut gones,
         &mut reported,
@@ -197,39 +125,20 @@ fn shorten_few(
     )
 }
 
-fn shorten_any(
-    proof: &[u8],
-    at: usize,
-    e: u8,
-    k: u8,
-    n: u16,
-    report: &mut [u8],
-    table: &mut [u8],
-) -> ShortenResult
-    requires { ⌜ Stated e k (fieldsAt (now proof) at) n 1_024 ⌝ }
-    ensures { λ r. ⌜ ShortensFields e k (fieldsAt (now (proof .entry)) at) n (now (report .entry)) (now (table .entry)) (now (report .exit)) (now (table .exit)) r ⌝ }
+fn shorten_any(proof: &[u8], body: ProofBody, report: &mut [u8], table: &mut [u8]) -> ShortenResult
+    requires { ⌜ Stated (body .edition) (body .k) (fieldsAt (now proof) (body .at)) (body .constraints) 1_024 ⌝ }
+    ensures { λ r. ⌜ ShortensFields (body .edition) (body .k) (fieldsAt (now (proof .entry)) (body .at)) (body .constraints) (now (report .entry)) (now (table .entry)) (now (report .exit)) (now (table .exit)) r ⌝ }
 {
-    let mut classes = [0u8; ROWS_MOST];
-    let mut firsts = [0u16; ROWS_MOST];
-    let mut seconds = [0u16; ROWS_MOST];
-    let mut befores = [0u16; ROWS_MOST];
-    let mut starts = [0u16; ROWS_MOST];
-    let mut lefts = [0u16; ROWS_MOST];
+    let mut gathered = [0u64; ROWS_MOST];
+    let mut steps = [0u64; ROWS_MOST];
     let mut marks = [0u8; LINES_MOST];
     let mut gones = [0u16; LINES_MOST];
     let mut reported = [0u8; ROWS_MOST];
     shorten_within(
         proof,
-        at,
-        e,
-        k,
-        n,
-        &mut classes,
-        &mut firsts,
-        &mut seconds,
-        &mut befores,
-        &mut starts,
-        &mut lefts,
+        body,
+        &mut gathered,
+        &mut steps,
         &mut marks,
         &mut gones,
         &mut reported,
@@ -266,11 +175,17 @@ fn shorten_accepted(
                     k: _,
                     next,
                 } => {
-                    let n = (first.count + second.count) as u16;
+                    let constraints = (first.count + second.count) as u16;
+                    let body = ProofBody {
+                        at: next,
+                        edition,
+                        k,
+                        constraints,
+                    };
                     if proof.len() <= BYTES_FEW {
-                        return shorten_few(proof, next, edition, k, n, report, table);
+                        return shorten_few(proof, body, report, table);
                     }
-                    shorten_any(proof, next, edition, k, n, report, table)
+                    shorten_any(proof, body, report, table)
                 }
                 Headed::Refused {
                     number: _,

@@ -3,7 +3,7 @@ use mathlib.Core.Path.{_≡_, refl, sym, _∙_, ap, ap₂, subst}
 use mathlib.Core.Option.{Option, none, some}
 use mathlib.Core.Bool.{Bool, true, false, not, _&&_, _||_}
 use mathlib.Core.List.{List, [], _∷_, map}
-use Prim.Native.Nat.{ℕ, zero, suc, _+_, _-_, _≤_, _<_}
+use Prim.Native.Nat.{ℕ, zero, suc, _+_, _-_, _%_, _≤_, _<_}
 use native.Mathlib.Omega.{arith}
 use lib.Dec.{eqb}
 use lib.ListN.{length, getD, set, length-set, take, drop}
@@ -26,7 +26,7 @@ use Rattle.shortening_stack.specs.Outline.{outlineOf, outlineBy, LaidBy}
 use Rattle.shortening_stack.specs.Stack.{stackOf, Alive, Same, Bound, linesAfter, openedAfter, MovedOn}
 use Rattle.shortening_stack.proofs.Outlines.{outline-is, laid-by}
 use Rattle.shortening_stack.proofs.Stacks.{same-self, same-set}
-use Rattle.shortening_marks.specs.Marks.{Marking, KeptRow, making2, rowBack, backIn, Markable, MarkedFrom}
+use Rattle.shortening_marks.specs.Marks.{Marking, beforeIn, firstIn, secondIn, classIn, RowOf, making2, rowBack, rowIn, backIn, Markable, MarkedFrom}
 use Rattle.shortening_marks.specs.Gathered.{rowsOf, Stating, SameBack, startsOf, Gathered, Gatherable, GathersAll}
 
 -- ---- one row beside the passes
@@ -77,7 +77,7 @@ backward-row (row (Derive (Scale t α))) es lines opened b d h = through (same-m
 backward-row (row (Strengthen i)) es lines opened b d h = same-branching i lines b _ h
 backward-row (row (Round i g k)) es lines opened b d h =
     same-branching i lines b (backward es (suc lines) (pushed k (suc lines) (map (λ (s : Start). s .lines) opened)))
-    (subst (λ (xs : List ℕ). SameBack b (backward es (suc lines) xs)) (map-pushed k (branchStart (suc lines) 0) opened) h)
+    (subst (λ (xs : List ℕ). SameBack b (backward es (suc lines) xs)) (map-pushed k (branchStart (suc lines) 1) opened) h)
 backward-row (row (Split i)) es lines opened b d h = same-branching i lines b _ h
 backward-row (row (CloseNumber i)) es lines opened b d h =
     same-closing i b (backward es (top 0 (map (λ (s : Start). s .lines) opened)) (pop (map (λ (s : Start). s .lines) opened)))
@@ -148,27 +148,21 @@ one-stating e K fs es es′ s s′ =
     sym (entries-of (edition e) K (s .each)) ∙ ap (map (definition.statedEntry (edition e) K)) (one-list (s .are) (s′ .are)) ∙ entries-of (edition e) K (s′ .each)
 
 -- ---- the invariant
-pub record Gathering (p : List ℕ) (at e K n : ℕ) (classes₀ firsts₀ seconds₀ befores₀ starts₀ lefts₀ classes firsts seconds befores starts lefts : List ℕ) (here lines depth rows : ℕ) : Type 0 where
-  pub able : Gatherable e K (fieldsAt p at) n classes₀ firsts₀ seconds₀ befores₀ starts₀ lefts₀
+pub record Gathering (p : List ℕ) (at e K n : ℕ) (gathered₀ steps₀ gathered steps : List ℕ) (here lines depth rows : ℕ) : Type 0 where
+  pub able : Gatherable e K (fieldsAt p at) n gathered₀ steps₀
   pub es : List Entry
   pub stating : Stating e K (fieldsAt p here) es
   pub rows-are : rows + rowsOf es ≡ rowsOf (able .es)
-  pub alive : Alive lefts depth
+  pub alive : Alive steps depth
   pub depth-most : depth ≤ rows
   pub lines-most : lines ≤ n + rows
-  pub bounded : Bound starts depth (n + rows)
-  pub below : (r : ℕ) → r < rows → getD befores r 0 ≤ n + r
-  pub classes-length : length classes ≡ length classes₀
-  pub firsts-length : length firsts ≡ length firsts₀
-  pub seconds-length : length seconds ≡ length seconds₀
-  pub befores-length : length befores ≡ length befores₀
-  pub starts-length : length starts ≡ length starts₀
-  pub lefts-length : length lefts ≡ length lefts₀
-  pub rest : (cs fs ss bs : List ℕ) (left : ℕ) → Same rows cs classes → Same rows fs firsts → Same rows ss seconds → Same rows bs befores
-      → SameBack (backIn cs fs ss bs left rows) (backward es lines (startsOf starts lefts depth)) → SameBack (backIn cs fs ss bs (rows + left) 0) (backward (able .es) n [])
+  pub bounded : Bound steps depth (n + rows)
+  pub below : (r : ℕ) → r < rows → beforeIn (getD gathered r 0) ≤ n + r
+  pub gathered-length : length gathered ≡ length gathered₀
+  pub steps-length : length steps ≡ length steps₀
+  pub rest : (ws : List ℕ) (left : ℕ) → Same rows ws gathered → SameBack (backIn ws left rows) (backward es lines (startsOf steps depth)) → SameBack (backIn ws (rows + left) 0) (backward (able .es) n [])
 
-pub gathering-start : {p : List ℕ} {at e K n : ℕ} {classes firsts seconds befores starts lefts : List ℕ} → Gatherable e K (fieldsAt p at) n classes firsts seconds befores starts lefts
-    → Gathering p at e K n classes firsts seconds befores starts lefts classes firsts seconds befores starts lefts at n 0 0
+pub gathering-start : {p : List ℕ} {at e K n : ℕ} {gathered steps : List ℕ} → Gatherable e K (fieldsAt p at) n gathered steps → Gathering p at e K n gathered steps gathered steps at n 0 0
 gathering-start {n = n} a = record {
   able = a;
   es = a .es;
@@ -179,51 +173,44 @@ gathering-start {n = n} a = record {
   lines-most = omega arith;
   bounded = record { bound = λ i h. absurd (omega (arith, h)) };
   below = λ r h. absurd (omega (arith, h));
-  classes-length = refl;
-  firsts-length = refl;
-  seconds-length = refl;
-  befores-length = refl;
-  starts-length = refl;
-  lefts-length = refl;
-  rest = λ cs fs ss bs left s1 s2 s3 s4 h. subst (λ (m : ℕ). SameBack (backIn cs fs ss bs m 0) (backward (a .es) n [])) (let z : left ≡ 0 + left = omega arith in z) h;
+  gathered-length = refl;
+  steps-length = refl;
+  rest = λ ws left s h. subst (λ (m : ℕ). SameBack (backIn ws m 0) (backward (a .es) n [])) (let z : left ≡ 0 + left = omega arith in z) h;
 }
 
-same-before : (d : ℕ) (xs ys zs : List ℕ) (x : ℕ) → zs ≡ set ys d x → Same (d + 1) xs zs → Same d xs ys
-same-before d xs ys zs x e s = record {
-  same = λ i h. s .same i (omega (arith, h)) ∙ ap (λ (l : List ℕ). getD l i 0) e ∙ same-set d ys x .same i h;
-}
+same-before : (d : ℕ) (xs ys : List ℕ) (x : ℕ) → Same (d + 1) xs (set ys d x) → Same d xs ys
+same-before d xs ys x s = record { same = λ i h. s .same i (omega (arith, h)) ∙ same-set d ys x .same i h }
 
-at-last : (d : ℕ) (xs ys zs : List ℕ) (x : ℕ) → d < length ys → zs ≡ set ys d x → Same (d + 1) xs zs → getD xs d 0 ≡ x
-at-last d xs ys zs x h e s = s .same d (omega arith) ∙ ap (λ (l : List ℕ). getD l d 0) e ∙ getD-set-same ys d x 0 h
+at-last : (d : ℕ) (xs ys : List ℕ) (x : ℕ) → d < length ys → Same (d + 1) xs (set ys d x) → getD xs d 0 ≡ x
+at-last d xs ys x h s = s .same d (omega arith) ∙ getD-set-same ys d x 0 h
 
-below-set : (befores : List ℕ) (rows lines n : ℕ) → rows < length befores → lines ≤ n + rows → ((r : ℕ) → r < rows → getD befores r 0 ≤ n + r) → (r : ℕ) → r < rows + 1 → getD (set befores rows lines) r 0 ≤ n + r
-below-set befores rows lines n h l k r m = by (eqb r rows) refl
+below-set : (gathered : List ℕ) (rows word n : ℕ) → rows < length gathered → beforeIn word ≤ n + rows → ((r : ℕ) → r < rows → beforeIn (getD gathered r 0) ≤ n + r) → (r : ℕ) → r < rows + 1 → beforeIn (getD (set gathered rows word) r 0) ≤ n + r
+below-set gathered rows word n h l k r m = by (eqb r rows) refl
   where
-    by : (b : Bool) → eqb r rows ≡ b → getD (set befores rows lines) r 0 ≤ n + r
+    by : (b : Bool) → eqb r rows ≡ b → beforeIn (getD (set gathered rows word) r 0) ≤ n + r
     by true e =
         let q : r ≡ rows = eqb-true r rows e in
-        subst (λ (i : ℕ). getD (set befores rows lines) i 0 ≤ n + i) (sym q) (subst (λ (x : ℕ). x ≤ n + rows) (sym (getD-set-same befores rows lines 0 h)) l)
+        subst (λ (i : ℕ). beforeIn (getD (set gathered rows word) i 0) ≤ n + i) (sym q) (subst (λ (x : ℕ). beforeIn x ≤ n + rows) (sym (getD-set-same gathered rows word 0 h)) l)
     by false e =
         let other : ¬ (r ≡ rows) = eqb-false r rows e in
         let less : r < rows = omega (arith, m, other) in
-        subst (λ (x : ℕ). x ≤ n + r) (sym (getD-set-other befores rows r lines 0 other)) (k r less)
+        subst (λ (x : ℕ). beforeIn x ≤ n + r) (sym (getD-set-other gathered rows r word 0 other)) (k r less)
 
-pub bound-more : (xs : List ℕ) (d b b′ : ℕ) → b ≤ b′ → Bound xs d b → Bound xs d b′
-bound-more xs d b b′ h a = record { bound = λ i l. omega (arith, h, a .bound i l) }
+pub bound-more : (steps : List ℕ) (d b b′ : ℕ) → b ≤ b′ → Bound steps d b → Bound steps d b′
+bound-more steps d b b′ h a = record { bound = λ i l. omega (arith, h, a .bound i l) }
 
-module _ {p : List ℕ} {at e K n : ℕ} {classes₀ firsts₀ seconds₀ befores₀ starts₀ lefts₀ classes firsts seconds befores starts lefts : List ℕ} {here lines depth rows : ℕ}
-    (v : Gathering p at e K n classes₀ firsts₀ seconds₀ befores₀ starts₀ lefts₀ classes firsts seconds befores starts lefts here lines depth rows) where
+module _ {p : List ℕ} {at e K n : ℕ} {gathered₀ steps₀ gathered steps : List ℕ} {here lines depth rows : ℕ} (v : Gathering p at e K n gathered₀ steps₀ gathered steps here lines depth rows) where
   -- bytes that are no whole field state nothing
   pub gathering-cut : {a : ℕ} → fieldsAt p here ≡ cut a → ⊥
   gathering-cut {a} q =
       let s = subst (λ (fs : Fields). Stating e K fs (v .es)) q (v .stating) in
       never-cut a (s .list) (s .are)
 
-  pub gathering-done : {a : ℕ} → fieldsAt p here ≡ ends a → GathersAll e K (fieldsAt p at) n classes firsts seconds befores rows
+  pub gathering-done : {a : ℕ} → fieldsAt p here ≡ ends a → GathersAll e K (fieldsAt p at) n gathered rows
   gathering-done {a} q =
       let none : v .es ≡ [] = nothing-left e K a (v .es) (subst (λ (fs : Fields). Stating e K fs (v .es)) q (v .stating)) in
-      let nil : SameBack (backIn classes firsts seconds befores 0 rows) (backward (v .es) lines (startsOf starts lefts depth)) = subst (λ (es : List Entry). SameBack (backIn classes firsts seconds befores 0 rows) (backward es lines (startsOf starts lefts depth))) (sym none) (record { marks = λ j. refl; reported = refl }) in
-      let back : SameBack (backIn classes firsts seconds befores (rows + 0) 0) (backward (v .able .es) n []) = v .rest classes firsts seconds befores 0 (same-self rows classes) (same-self rows firsts) (same-self rows seconds) (same-self rows befores) nil in
+      let nil : SameBack (backIn gathered 0 rows) (backward (v .es) lines (startsOf steps depth)) = subst (λ (es : List Entry). SameBack (backIn gathered 0 rows) (backward es lines (startsOf steps depth))) (sym none) (record { marks = λ j. refl; reported = refl }) in
+      let back : SameBack (backIn gathered (rows + 0) 0) (backward (v .able .es) n []) = v .rest gathered 0 (same-self rows gathered) nil in
       let zero-more : rows + 0 ≡ rows = omega arith in
       let none-left : rowsOf (v .es) ≡ 0 = ap rowsOf none in
       record {
@@ -231,7 +218,7 @@ module _ {p : List ℕ} {at e K n : ℕ} {classes₀ firsts₀ seconds₀ before
             let same : v .able .es ≡ es = one-stating e K (fieldsAt p at) (v .able .es) es (v .able .stating) s in
             record {
               rows-are = omega (arith, v .rows-are, none-left, ap rowsOf same);
-              back = subst (λ (m : ℕ). SameBack (backIn classes firsts seconds befores m 0) (backward es n [])) zero-more (subst (λ (xs : List Entry). SameBack (backIn classes firsts seconds befores (rows + 0) 0) (backward xs n [])) same back);
+              back = subst (λ (m : ℕ). SameBack (backIn gathered m 0) (backward es n [])) zero-more (subst (λ (xs : List Entry). SameBack (backIn gathered (rows + 0) 0) (backward xs n [])) same back);
               below = v .below;
             };
       }
@@ -251,7 +238,7 @@ module _ {p : List ℕ} {at e K n : ℕ} {classes₀ firsts₀ seconds₀ before
       is-outline = q ∙ outline-is e K p tag start len (head .y) inside (head .enters)
 
       -- a claim is passed over
-      pub gathering-claim : x .class ≡ 3 → Gathering p at e K n classes₀ firsts₀ seconds₀ befores₀ starts₀ lefts₀ classes firsts seconds befores starts lefts next lines depth rows
+      pub gathering-claim : x .class ≡ 3 → Gathering p at e K n gathered₀ steps₀ gathered steps next lines depth rows
       gathering-claim d =
           let c : outlineOf (head .y) .class ≡ 3 = sym (ap (λ (s : Outline). s .class) is-outline) ∙ d in
           record {
@@ -264,14 +251,10 @@ module _ {p : List ℕ} {at e K n : ℕ} {classes₀ firsts₀ seconds₀ before
             lines-most = v .lines-most;
             bounded = v .bounded;
             below = v .below;
-            classes-length = v .classes-length;
-            firsts-length = v .firsts-length;
-            seconds-length = v .seconds-length;
-            befores-length = v .befores-length;
-            starts-length = v .starts-length;
-            lefts-length = v .lefts-length;
-            rest = λ cs fs ss bs left s1 s2 s3 s4 b. v .rest cs fs ss bs left s1 s2 s3 s4
-                (subst (λ (m : Backward). SameBack (backIn cs fs ss bs left rows) m) (sym (ap (λ (es : List Entry). backward es lines (startsOf starts lefts depth)) (head .are) ∙ backward-claim (head .y) (head .others) lines (startsOf starts lefts depth) c)) b);
+            gathered-length = v .gathered-length;
+            steps-length = v .steps-length;
+            rest = λ ws left s b. v .rest ws left s
+                (subst (λ (m : Backward). SameBack (backIn ws left rows) m) (sym (ap (λ (es : List Entry). backward es lines (startsOf steps depth)) (head .are) ∙ backward-claim (head .y) (head .others) lines (startsOf steps depth) c)) b);
           }
 
       module _ (d : ¬ (x .class ≡ 3)) where
@@ -281,51 +264,45 @@ module _ {p : List ℕ} {at e K n : ℕ} {classes₀ firsts₀ seconds₀ before
         one-more : rows + suc (rowsOf (head .others)) ≡ rowsOf (v .able .es)
         one-more = omega (arith, v .rows-are, ap rowsOf (head .are), rows-row (head .y) (head .others) no-claim)
 
-        pub rows-room : (rows < length classes) × (rows < length firsts) × (rows < length seconds) × (rows < length befores)
-        rows-room = (
-          omega (arith, one-more, v .able .classes-room, v .classes-length),
-          omega (arith, one-more, v .able .firsts-room, v .firsts-length),
-          omega (arith, one-more, v .able .seconds-room, v .seconds-length),
-          omega (arith, one-more, v .able .befores-room, v .befores-length),
-        )
+        pub rows-room : rows < length gathered
+        rows-room = omega (arith, one-more, v .able .gathered-room, v .gathered-length)
 
-        pub stack-room : (lines < 0xFFFF) × (depth < length starts) × (depth < length lefts)
+        pub stack-room : (lines < 0xFFFF) × (0 < 0xFFFF) × (depth < length steps)
         stack-room = (
           omega (arith, one-more, v .lines-most, v .able .few),
-          omega (arith, one-more, v .depth-most, v .able .starts-room, v .starts-length),
-          omega (arith, one-more, v .depth-most, v .able .lefts-room, v .lefts-length),
+          omega arith,
+          omega (arith, one-more, v .depth-most, v .able .steps-room, v .steps-length),
         )
 
         pub rows-fit : rows + 1 < 0x10000
         rows-fit = omega (arith, one-more, v .able .few)
 
-        module _ {classes′ firsts′ seconds′ befores′ starts′ lefts′ : List ℕ} {lines′ depth′ : ℕ} (u : KeptRow rows x lines classes firsts seconds befores classes′ firsts′ seconds′ befores′)
-            (w : MovedOn (x .class) (x .come) lines depth starts lefts starts′ lefts′ lines′ depth′) where
+        module _ {word : ℕ} {steps′ : List ℕ} {lines′ kept′ depth′ : ℕ} (u : RowOf x lines word) (w : MovedOn (x .class) (x .come) lines 0 depth steps steps′ lines′ kept′ depth′) where
           -- what follows the row, and then the row
-          row-back : (cs fs ss bs : List ℕ) (left : ℕ) → Same (rows + 1) cs classes′ → Same (rows + 1) fs firsts′ → Same (rows + 1) ss seconds′ → Same (rows + 1) bs befores′
-              → SameBack (backIn cs fs ss bs left (rows + 1)) (backward (head .others) lines′ (startsOf starts′ lefts′ depth′)) → SameBack (backIn cs fs ss bs (suc left) rows) (backward (v .es) lines (startsOf starts lefts depth))
-          row-back cs fs ss bs left s1 s2 s3 s4 b =
+          row-back : (ws : List ℕ) (left : ℕ) → Same (rows + 1) ws (set gathered rows word)
+              → SameBack (backIn ws left (rows + 1)) (backward (head .others) lines′ (startsOf steps′ depth′)) → SameBack (backIn ws (suc left) rows) (backward (v .es) lines (startsOf steps depth))
+          row-back ws left s b =
               let y = head .y in
-              let opened = stackOf starts [] lefts depth in
-              let B = backIn cs fs ss bs left (suc rows) in
-              let b1 : SameBack B (backward (head .others) lines′ (startsOf starts′ lefts′ depth′)) = subst (λ (i : ℕ). SameBack (backIn cs fs ss bs left i) (backward (head .others) lines′ (startsOf starts′ lefts′ depth′))) (let z : rows + 1 ≡ suc rows = omega arith in z) b in
+              let opened = stackOf steps depth in
+              let B = backIn ws left (suc rows) in
+              let b1 : SameBack B (backward (head .others) lines′ (startsOf steps′ depth′)) = subst (λ (i : ℕ). SameBack (backIn ws left i) (backward (head .others) lines′ (startsOf steps′ depth′))) (let z : rows + 1 ≡ suc rows = omega arith in z) b in
               let b2 : SameBack B (backward (head .others) (linesAfter (x .class) lines opened) (map (λ (s : Start). s .lines) (openedAfter (x .class) (x .come) lines 0 opened))) =
-              subst (λ (m : ℕ). SameBack B (backward (head .others) m (map (λ (s : Start). s .lines) (openedAfter (x .class) (x .come) lines 0 opened)))) (w .lines-are (v .alive) [])
-              (subst (λ (o : List Start). SameBack B (backward (head .others) lines′ (map (λ (s : Start). s .lines) o))) (w .is (v .alive) [] [] (same-self depth [])) b1) in
+              subst (λ (m : ℕ). SameBack B (backward (head .others) m (map (λ (s : Start). s .lines) (openedAfter (x .class) (x .come) lines 0 opened)))) (w .lines-are (v .alive))
+              (subst (λ (o : List Start). SameBack B (backward (head .others) lines′ (map (λ (s : Start). s .lines) o))) (w .is (v .alive)) b1) in
               let b3 : SameBack (rowBack (outlineOf y .class) lines (outlineOf y .first) (outlineOf y .second) B) (backward (y ∷ head .others) lines (map (λ (s : Start). s .lines) opened)) =
               backward-row y (head .others) lines opened B no-claim
               (subst (λ (z : Outline). SameBack B (backward (head .others) (linesAfter (z .class) lines opened) (map (λ (s : Start). s .lines) (openedAfter (z .class) (z .come) lines 0 opened)))) is-outline b2) in
               let b4 : SameBack (rowBack (x .class) lines (x .first) (x .second) B) (backward (v .es) lines (map (λ (s : Start). s .lines) opened)) =
               subst (λ (es : List Entry). SameBack (rowBack (x .class) lines (x .first) (x .second) B) (backward es lines (map (λ (s : Start). s .lines) opened))) (sym (head .are))
               (subst (λ (z : Outline). SameBack (rowBack (z .class) lines (z .first) (z .second) B) (backward (y ∷ head .others) lines (map (λ (s : Start). s .lines) opened))) (sym is-outline) b3) in
-              subst (λ (c : ℕ). SameBack (rowBack c (getD bs rows 0) (getD fs rows 0) (getD ss rows 0) B) (backward (v .es) lines (startsOf starts lefts depth))) (sym (at-last rows cs classes classes′ (x .class) (rows-room .0) (u .class) s1))
-              (subst (λ (c : ℕ). SameBack (rowBack (x .class) c (getD fs rows 0) (getD ss rows 0) B) (backward (v .es) lines (startsOf starts lefts depth))) (sym (at-last rows bs befores befores′ lines (rows-room .3) (u .before) s4))
-              (subst (λ (c : ℕ). SameBack (rowBack (x .class) lines c (getD ss rows 0) B) (backward (v .es) lines (startsOf starts lefts depth))) (sym (at-last rows fs firsts firsts′ (x .first) (rows-room .1) (u .first) s2))
-              (subst (λ (c : ℕ). SameBack (rowBack (x .class) lines (x .first) c B) (backward (v .es) lines (startsOf starts lefts depth))) (sym (at-last rows ss seconds seconds′ (x .second) (rows-room .2) (u .second) s3)) b4)))
+              let b5 : rowBack (x .class) lines (x .first) (x .second) B ≡ rowIn word B =
+              sym (ap₂ (λ (c n : ℕ). rowBack c n (firstIn word) (secondIn word) B) (u .class) (u .before) ∙ ap₂ (λ (i j : ℕ). rowBack (x .class) lines i j B) (u .first) (u .second)) in
+              subst (λ (m : ℕ). SameBack (rowIn m B) (backward (v .es) lines (startsOf steps depth))) (sym (at-last rows ws gathered word rows-room s))
+              (subst (λ (c : Backward). SameBack c (backward (v .es) lines (startsOf steps depth))) b5 b4)
 
-          pub gathering-row : Gathering p at e K n classes₀ firsts₀ seconds₀ befores₀ starts₀ lefts₀ classes′ firsts′ seconds′ befores′ starts′ lefts′ next lines′ depth′ (rows + 1)
+          pub gathering-row : Gathering p at e K n gathered₀ steps₀ (set gathered rows word) steps′ next lines′ depth′ (rows + 1)
           gathering-row =
-              let grown = w .bounded (n + (rows + 1)) (omega (arith, v .lines-most)) (bound-more starts depth (n + rows) (n + (rows + 1)) (omega arith) (v .bounded)) in
+              let grown = w .bounded (n + (rows + 1)) (omega (arith, v .lines-most)) (bound-more steps depth (n + rows) (n + (rows + 1)) (omega arith) (v .bounded)) in
               record {
                 able = v .able;
                 es = head .others;
@@ -335,26 +312,21 @@ module _ {p : List ℕ} {at e K n : ℕ} {classes₀ firsts₀ seconds₀ before
                 depth-most = omega (arith, w .most, v .depth-most);
                 lines-most = grown .1;
                 bounded = grown .0;
-                below = subst (λ (l : List ℕ). (r : ℕ) → r < rows + 1 → getD l r 0 ≤ n + r) (sym (u .before)) (below-set befores rows lines n (rows-room .3) (v .lines-most) (v .below));
-                classes-length = ap length (u .class) ∙ length-set classes rows (x .class) ∙ v .classes-length;
-                firsts-length = ap length (u .first) ∙ length-set firsts rows (x .first) ∙ v .firsts-length;
-                seconds-length = ap length (u .second) ∙ length-set seconds rows (x .second) ∙ v .seconds-length;
-                befores-length = ap length (u .before) ∙ length-set befores rows lines ∙ v .befores-length;
-                starts-length = w .starts-length ∙ v .starts-length;
-                lefts-length = w .lefts-length ∙ v .lefts-length;
-                rest = λ cs fs ss bs left s1 s2 s3 s4 b.
-                    subst (λ (m : ℕ). SameBack (backIn cs fs ss bs m 0) (backward (v .able .es) n [])) (let z : rows + suc left ≡ rows + 1 + left = omega arith in z)
-                    (v .rest cs fs ss bs (suc left) (same-before rows cs classes classes′ (x .class) (u .class) s1) (same-before rows fs firsts firsts′ (x .first) (u .first) s2) (same-before rows ss seconds seconds′ (x .second) (u .second) s3) (same-before rows bs befores befores′ lines (u .before) s4)
-                    (row-back cs fs ss bs left s1 s2 s3 s4 b));
+                below = below-set gathered rows word n rows-room (omega (arith, u .before, v .lines-most)) (v .below);
+                gathered-length = length-set gathered rows word ∙ v .gathered-length;
+                steps-length = w .steps-length ∙ v .steps-length;
+                rest = λ ws left s b.
+                    subst (λ (m : ℕ). SameBack (backIn ws m 0) (backward (v .able .es) n [])) (let z : rows + suc left ≡ rows + 1 + left = omega arith in z)
+                    (v .rest ws (suc left) (same-before rows ws gathered word s) (row-back ws left s b));
               }
 
 -- ---- the report
 -- What gathering and marking leave is the report on the entries; behind it the array stays.
-pub report-left : {es : List Entry} {n : ℕ} {classes firsts seconds befores : List ℕ} {rows : ℕ} {marks₀ report₀ marks report : List ℕ} → Gathered es n classes firsts seconds befores rows
-    → MarkedFrom classes firsts seconds befores rows 0 marks₀ report₀ marks report → report ≡ sets report₀ 0 (reportOn n es)
-report-left {es} {n} {classes} {firsts} {seconds} {befores} {rows} {report₀ = report₀} g m =
+pub report-left : {es : List Entry} {n : ℕ} {gathered : List ℕ} {rows : ℕ} {marks₀ report₀ marks report : List ℕ} → Gathered es n gathered rows
+    → MarkedFrom gathered rows 0 marks₀ report₀ marks report → report ≡ sets report₀ 0 (reportOn n es)
+report-left {es} {n} {gathered} {rows} {report₀ = report₀} g m =
     m .reported ∙ ap (sets report₀ 0)
-    (ap (λ (k : ℕ). backIn classes firsts seconds befores k 0 .reported) (let z : m .left ≡ rows = omega (arith, m .left-is) in z) ∙ g .back .reported)
+    (ap (λ (k : ℕ). backIn gathered k 0 .reported) (let z : m .left ≡ rows = omega (arith, m .left-is) in z) ∙ g .back .reported)
 
 -- The report has a byte a row.
 backward-length : (es : List Entry) (n : ℕ) (opened : List ℕ) → length (backward es n opened .reported) ≡ rowsOf es
@@ -370,19 +342,10 @@ backward-length (row (CloseStride i _) ∷ es) n opened = ap suc (backward-lengt
 pub report-length : (n : ℕ) (es : List Entry) → length (reportOn n es) ≡ rowsOf es
 report-length n es = backward-length es n []
 
-pub report-rows : {es : List Entry} {n : ℕ} {classes firsts seconds befores : List ℕ} {rows : ℕ} → Gathered es n classes firsts seconds befores rows → length (reportOn n es) ≡ rows
+pub report-rows : {es : List Entry} {n : ℕ} {gathered : List ℕ} {rows : ℕ} → Gathered es n gathered rows → length (reportOn n es) ≡ rows
 report-rows {es} {n} g = report-length n es ∙ sym (g .rows-are)
 
 -- Where gathering was able, marking is.
-pub markable : {es : List Entry} {n : ℕ} {classes firsts seconds befores : List ℕ} {rows : ℕ} (marks report : List ℕ) → Gathered es n classes firsts seconds befores rows
-    → rows ≤ length classes → rows ≤ length firsts → rows ≤ length seconds → rows ≤ length befores → rows ≤ length report → n + rows < length marks → Marking marks (λ j. false)
-    → Markable classes firsts seconds befores rows marks report
-markable {n = n} marks report g a b c d e f clear = record {
-  classes-room = a;
-  firsts-room = b;
-  seconds-room = c;
-  befores-room = d;
-  report-room = e;
-  below = λ r h. omega (arith, g .below r h, h, f);
-  none = clear;
-}
+pub markable : {es : List Entry} {n : ℕ} {gathered : List ℕ} {rows : ℕ} (marks report : List ℕ) → Gathered es n gathered rows → rows ≤ length gathered → rows ≤ length report → n + rows < length marks
+    → Marking marks (λ j. false) → Markable gathered rows marks report
+markable marks report g a e f clear = record { gathered-room = a; report-room = e; below = λ r h. omega (arith, g .below r h, h, f); none = clear }

@@ -2,7 +2,7 @@
 use mathlib.Core.Path.{_≡_, refl, sym, _∙_, ap, ap₂, subst}
 use mathlib.Core.Bool.{Bool, true, false, not, _&&_, _||_}
 use mathlib.Core.List.{List, [], _∷_}
-use Prim.Native.Nat.{ℕ, zero, suc, _+_, _-_, _≤_, _<_}
+use Prim.Native.Nat.{ℕ, zero, suc, _+_, _*_, _-_, _/_, _%_, _≤_, _<_}
 use native.Mathlib.Omega.{arith}
 use lib.Dec.{T, eqb, eqb→eq}
 use lib.ListN.{length, getD, set, length-set}
@@ -10,7 +10,8 @@ use lib.Seq.{getD-set-same, getD-set-other, set-comm, sets}
 use borrow.Author.Tests.{eqb-true, eqb-false}
 use Rattle.shortening.specs.Needed.{markOf}
 use Rattle.shortening.specs.Passes.{Backward, cleared, branching, closing}
-use Rattle.shortening_marks.specs.Marks.{Marking, madeMarks, rowMarks, rowSaid, MarkedRow, making2, rowBack, backIn, Markable, MarkedFrom}
+use Rattle.shortening_stack.specs.declared.Outline.{Outline}
+use Rattle.shortening_marks.specs.Marks.{Marking, madeMarks, rowMarks, rowSaid, beforeIn, firstIn, secondIn, classIn, RowOf, MarkedRow, making2, rowBack, rowIn, backIn, Markable, MarkedFrom}
 
 -- a mark is set, or cleared
 marking-set : (marks : List ℕ) (m : ℕ → Bool) (i : ℕ) → Marking marks m → Marking (set marks i 1) (λ j. eqb j i || m j)
@@ -79,36 +80,35 @@ length-row (suc zero) marks n s t = length-set (set marks n 0) s 1 ∙ length-se
 length-row (suc (suc c)) marks n s t = length-set marks s 1
 
 -- ---- the loop
-module _ {classes firsts seconds befores : List ℕ} {rows : ℕ} {marks₀ report₀ : List ℕ} (able : Markable classes firsts seconds befores rows marks₀ report₀) where
-  pub marked-start : MarkedFrom classes firsts seconds befores rows rows marks₀ report₀ marks₀ report₀
+module _ {gathered : List ℕ} {rows : ℕ} {marks₀ report₀ : List ℕ} (able : Markable gathered rows marks₀ report₀) where
+  pub marked-start : MarkedFrom gathered rows rows marks₀ report₀ marks₀ report₀
   marked-start = record { left = 0; left-is = omega arith; marking = able .none; reported = refl; marks-length = refl }
 
-  pub marked-less : {r : ℕ} {marks report : List ℕ} → MarkedFrom classes firsts seconds befores rows r marks₀ report₀ marks report → 0 < r → r - 1 < rows
+  pub marked-less : {r : ℕ} {marks report : List ℕ} → MarkedFrom gathered rows r marks₀ report₀ marks report → 0 < r → r - 1 < rows
   marked-less v h = omega (arith, h, v .left-is)
 
-  pub marked-below : {r : ℕ} {marks report : List ℕ} → MarkedFrom classes firsts seconds befores rows r marks₀ report₀ marks report → 0 < r → getD befores (r - 1) 0 < length marks
-  marked-below {r} v h = subst (λ (n : ℕ). getD befores (r - 1) 0 < n) (sym (v .marks-length)) (able .below (r - 1) (marked-less v h))
+  pub marked-below : {r : ℕ} {marks report : List ℕ} → MarkedFrom gathered rows r marks₀ report₀ marks report → 0 < r → beforeIn (getD gathered (r - 1) 0) < length marks
+  marked-below {r} v h = subst (λ (n : ℕ). beforeIn (getD gathered (r - 1) 0) < n) (sym (v .marks-length)) (able .below (r - 1) (marked-less v h))
 
-  marked-by : (r i : ℕ) {marks report marks′ : List ℕ} {reported : ℕ} → suc i ≡ r → (v : MarkedFrom classes firsts seconds befores rows r marks₀ report₀ marks report)
-      → MarkedRow marks (getD classes i 0) (getD befores i 0) (getD firsts i 0) (getD seconds i 0) marks′ reported → MarkedFrom classes firsts seconds befores rows i marks₀ report₀ marks′ (set report i reported)
+  marked-by : (r i : ℕ) {marks report marks′ : List ℕ} {reported : ℕ} → suc i ≡ r → (v : MarkedFrom gathered rows r marks₀ report₀ marks report)
+      → MarkedRow marks (getD gathered i 0) marks′ reported → MarkedFrom gathered rows i marks₀ report₀ marks′ (set report i reported)
   marked-by r i {marks} {report} {marks′} {reported} e v k =
-      let b = backIn classes firsts seconds befores (v .left) (suc i) in
-      let vm : Marking marks (b .marks) = subst (λ (x : ℕ). Marking marks (backIn classes firsts seconds befores (v .left) x .marks)) (sym e) (v .marking) in
-      let l : getD befores i 0 < length marks = subst (λ (n : ℕ). getD befores i 0 < n) (sym (v .marks-length)) (able .below i (omega (arith, e, v .left-is))) in
-      let rep : report ≡ sets report₀ (suc i) (b .reported) = subst (λ (x : ℕ). report ≡ sets report₀ x (backIn classes firsts seconds befores (v .left) x .reported)) (sym e) (v .reported) in
+      let w = getD gathered i 0 in
+      let b = backIn gathered (v .left) (suc i) in
+      let vm : Marking marks (b .marks) = subst (λ (x : ℕ). Marking marks (backIn gathered (v .left) x .marks)) (sym e) (v .marking) in
+      let l : beforeIn w < length marks = subst (λ (n : ℕ). beforeIn w < n) (sym (v .marks-length)) (able .below i (omega (arith, e, v .left-is))) in
+      let rep : report ≡ sets report₀ (suc i) (b .reported) = subst (λ (x : ℕ). report ≡ sets report₀ x (backIn gathered (v .left) x .reported)) (sym e) (v .reported) in
       record {
         left = suc (v .left);
         left-is = omega (arith, e, v .left-is);
-        marking = subst (λ (xs : List ℕ). Marking xs (rowBack (getD classes i 0) (getD befores i 0) (getD firsts i 0) (getD seconds i 0) b .marks)) (sym (k .marks-are))
-            (marking-row marks b (getD classes i 0) (getD befores i 0) (getD firsts i 0) (getD seconds i 0) l vm);
-        reported = ap₂ (λ (xs : List ℕ) (x : ℕ). set xs i x) rep (k .reported-is) ∙ sets-before (b .reported) report₀ (suc i) i (rowSaid (getD classes i 0) marks (getD befores i 0)) (omega arith)
-            ∙ ap (λ (ns : List ℕ). sets report₀ i ns) (sym (reported-row marks b (getD classes i 0) (getD befores i 0) (getD firsts i 0) (getD seconds i 0) l vm));
-        marks-length = ap length (k .marks-are) ∙ length-row (getD classes i 0) marks (getD befores i 0) (getD firsts i 0) (getD seconds i 0) ∙ v .marks-length;
+        marking = subst (λ (xs : List ℕ). Marking xs (rowIn w b .marks)) (sym (k .marks-are)) (marking-row marks b (classIn w) (beforeIn w) (firstIn w) (secondIn w) l vm);
+        reported = ap₂ (λ (xs : List ℕ) (x : ℕ). set xs i x) rep (k .reported-is) ∙ sets-before (b .reported) report₀ (suc i) i (rowSaid (classIn w) marks (beforeIn w)) (omega arith)
+            ∙ ap (λ (ns : List ℕ). sets report₀ i ns) (sym (reported-row marks b (classIn w) (beforeIn w) (firstIn w) (secondIn w) l vm));
+        marks-length = ap length (k .marks-are) ∙ length-row (classIn w) marks (beforeIn w) (firstIn w) (secondIn w) ∙ v .marks-length;
       }
 
-  pub marked-next : {r : ℕ} {marks report marks′ : List ℕ} {reported : ℕ} → (v : MarkedFrom classes firsts seconds befores rows r marks₀ report₀ marks report) → 0 < r
-      → MarkedRow marks (getD classes (r - 1) 0) (getD befores (r - 1) 0) (getD firsts (r - 1) 0) (getD seconds (r - 1) 0) marks′ reported
-      → MarkedFrom classes firsts seconds befores rows (r - 1) marks₀ report₀ marks′ (set report (r - 1) reported)
+  pub marked-next : {r : ℕ} {marks report marks′ : List ℕ} {reported : ℕ} → (v : MarkedFrom gathered rows r marks₀ report₀ marks report) → 0 < r
+      → MarkedRow marks (getD gathered (r - 1) 0) marks′ reported → MarkedFrom gathered rows (r - 1) marks₀ report₀ marks′ (set report (r - 1) reported)
   marked-next {r} v h k = marked-by r (r - 1) (omega (arith, h)) v k
 
 -- ---- one row, by its tests
@@ -119,16 +119,43 @@ pub made-some : (own : ℕ) (marks : List ℕ) (n s t : ℕ) → ¬ (own ≡ 0) 
 made-some zero marks n s t h = absurd (h refl)
 made-some (suc own) marks n s t h = refl
 
-pub row-makes : (marks marks′ : List ℕ) (class n s t r : ℕ) → class ≡ 0 → r ≡ getD marks n 0 → marks′ ≡ madeMarks (getD marks n 0) marks n s t → MarkedRow marks class n s t marks′ r
-row-makes marks marks′ class n s t r e h k = record { marks-are = k ∙ ap (λ (c : ℕ). rowMarks c marks n s t) (sym e); reported-is = h ∙ ap (λ (c : ℕ). rowSaid c marks n) (sym e) }
+module _ (marks marks′ : List ℕ) (row : ℕ) where
+  pub row-makes : {r : ℕ} → classIn row ≡ 0 → r ≡ getD marks (beforeIn row) 0 → marks′ ≡ madeMarks (getD marks (beforeIn row) 0) marks (beforeIn row) (firstIn row) (secondIn row) → MarkedRow marks row marks′ r
+  row-makes e h k = record {
+    marks-are = k ∙ ap (λ (c : ℕ). rowMarks c marks (beforeIn row) (firstIn row) (secondIn row)) (sym e);
+    reported-is = h ∙ ap (λ (c : ℕ). rowSaid c marks (beforeIn row)) (sym e);
+  }
 
-pub row-branches : (marks marks′ : List ℕ) (class n s t : ℕ) → class ≡ 1 → marks′ ≡ set (set marks n 0) s 1 → MarkedRow marks class n s t marks′ 2
-row-branches marks marks′ class n s t e k = record { marks-are = k ∙ ap (λ (c : ℕ). rowMarks c marks n s t) (sym e); reported-is = ap (λ (c : ℕ). rowSaid c marks n) (sym e) }
+  pub row-branches : classIn row ≡ 1 → marks′ ≡ set (set marks (beforeIn row) 0) (firstIn row) 1 → MarkedRow marks row marks′ 2
+  row-branches e k = record {
+    marks-are = k ∙ ap (λ (c : ℕ). rowMarks c marks (beforeIn row) (firstIn row) (secondIn row)) (sym e);
+    reported-is = ap (λ (c : ℕ). rowSaid c marks (beforeIn row)) (sym e);
+  }
 
-pub row-closes : (marks marks′ : List ℕ) (class n s t : ℕ) → ¬ (class ≡ 0) → ¬ (class ≡ 1) → marks′ ≡ set marks s 1 → MarkedRow marks class n s t marks′ 2
-row-closes marks marks′ zero n s t e f k = absurd (e refl)
-row-closes marks marks′ (suc zero) n s t e f k = absurd (f refl)
-row-closes marks marks′ (suc (suc c)) n s t e f k = record { marks-are = k; reported-is = refl }
+  pub row-closes : ¬ (classIn row ≡ 0) → ¬ (classIn row ≡ 1) → marks′ ≡ set marks (firstIn row) 1 → MarkedRow marks row marks′ 2
+  row-closes e f k = by (classIn row) refl
+    where
+      by : (c : ℕ) → classIn row ≡ c → MarkedRow marks row marks′ 2
+      by zero q = absurd (e q)
+      by (suc zero) q = absurd (f q)
+      by (suc (suc c)) q = record {
+        marks-are = k ∙ ap (λ (c : ℕ). rowMarks c marks (beforeIn row) (firstIn row) (secondIn row)) (sym q);
+        reported-is = ap (λ (c : ℕ). rowSaid c marks (beforeIn row)) (sym q);
+      }
+
+-- ---- a row as one number
+pub row-of : (x : Outline) (lines : ℕ) → lines < 0x1_0000 → x .first < 0x1_0000 → x .second < 0x1_0000
+    → RowOf x lines (lines + x .first * 0x1_0000 + x .second * 0x1_0000_0000 + x .class * 0x1_0000_0000_0000)
+row-of x lines l f s =
+    let w = lines + x .first * 0x1_0000 + x .second * 0x1_0000_0000 + x .class * 0x1_0000_0000_0000 in
+    let above : w / 0x1_0000 ≡ x .first + x .second * 0x1_0000 + x .class * 0x1_0000_0000 = omega (arith, l) in
+    let over : w / 0x1_0000_0000 ≡ x .second + x .class * 0x1_0000 = omega (arith, l, f) in
+    record {
+      before = omega (arith, l);
+      first = ap (λ (n : ℕ). n % 0x1_0000) above ∙ (let z : (x .first + x .second * 0x1_0000 + x .class * 0x1_0000_0000) % 0x1_0000 ≡ x .first = omega (arith, f) in z);
+      second = ap (λ (n : ℕ). n % 0x1_0000) over ∙ (let z : (x .second + x .class * 0x1_0000) % 0x1_0000 ≡ x .second = omega (arith, s) in z);
+      class = omega (arith, l, f, s);
+    }
 
 pub length-two : (marks : List ℕ) (n s : ℕ) → length (set (set marks n 0) s 1) ≡ length marks
 length-two marks n s = length-set (set marks n 0) s 1 ∙ length-set marks n 0

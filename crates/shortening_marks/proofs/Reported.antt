@@ -21,23 +21,19 @@ pub stated-entries : (e K : ℕ) (fs : Fields) (es : List Entry) → Stating e K
 stated-entries e K fs es s = ap (map (statedEntry (edition e) K)) (listed-items fs (s .list) (s .are)) ∙ entries-of (edition e) K (s .each)
 
 -- ---- the report
-module _ {e K : ℕ} {fs : Fields} {n : ℕ} {classes₀ firsts₀ seconds₀ befores₀ starts₀ lefts₀ marks report : List ℕ} (d : Reportable e K fs n classes₀ firsts₀ seconds₀ befores₀ starts₀ lefts₀ marks report)
-    {classes firsts seconds befores : List ℕ} {rows : ℕ} (g : GathersAll e K fs n classes firsts seconds befores rows) where
-  gathered : Gathered (d .gatherable .es) n classes firsts seconds befores rows
-  gathered = g .all (d .gatherable .es) (d .gatherable .stating)
+module _ {e K : ℕ} {fs : Fields} {n : ℕ} {gathered₀ steps₀ marks report : List ℕ} (d : Reportable e K fs n gathered₀ steps₀ marks report) {gathered : List ℕ} {rows : ℕ} (g : GathersAll e K fs n gathered rows) where
+  all-gathered : Gathered (d .gatherable .es) n gathered rows
+  all-gathered = g .all (d .gatherable .es) (d .gatherable .stating)
 
-  pub rows-markable : length classes ≡ length classes₀ → length firsts ≡ length firsts₀ → length seconds ≡ length seconds₀ → length befores ≡ length befores₀
-      → Markable classes firsts seconds befores rows marks report
-  rows-markable a b c f =
-      let r = gathered .rows-are in
-      let w = d .gatherable in
-      markable marks report gathered (omega (arith, r, a, w .classes-room)) (omega (arith, r, b, w .firsts-room)) (omega (arith, r, c, w .seconds-room)) (omega (arith, r, f, w .befores-room))
-      (omega (arith, r, d .report-room)) (omega (arith, r, d .marks-room)) (record { at = λ j h. d .clear j })
+  pub rows-markable : length gathered ≡ length gathered₀ → Markable gathered rows marks report
+  rows-markable a =
+      let r = all-gathered .rows-are in
+      markable marks report all-gathered (omega (arith, r, a, d .gatherable .gathered-room)) (omega (arith, r, d .report-room)) (omega (arith, r, d .marks-room)) (record { at = λ j h. d .clear j })
 
-  pub rows-reported : {marks′ report′ : List ℕ} → MarkedFrom classes firsts seconds befores rows 0 marks report marks′ report′ → Reported e K fs n report report′ rows
+  pub rows-reported : {marks′ report′ : List ℕ} → MarkedFrom gathered rows 0 marks report marks′ report′ → Reported e K fs n report report′ rows
   rows-reported m =
       let q = sym (stated-entries e K fs (d .gatherable .es) (d .gatherable .stating)) in
       record {
-        is = report-left gathered m ∙ ap (λ (es : List Entry). sets report 0 (reportOn n es)) q;
-        rows-are = sym (report-rows gathered) ∙ ap (λ (es : List Entry). length (reportOn n es)) q;
+        is = report-left all-gathered m ∙ ap (λ (es : List Entry). sets report 0 (reportOn n es)) q;
+        rows-are = sym (report-rows all-gathered) ∙ ap (λ (es : List Entry). length (reportOn n es)) q;
       }

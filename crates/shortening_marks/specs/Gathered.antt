@@ -13,7 +13,7 @@ use Rattle.proof.specs.Layout.{Enters}
 use Rattle.shortening.specs.Passes.{Backward, backward, reportOn}
 use Rattle.shortening.specs.Shorten.{listOf, statedEntry}
 use Rattle.shortening_stack.specs.Stack.{stackOf}
-use Rattle.shortening_marks.specs.Marks.{backIn}
+use Rattle.shortening_marks.specs.Marks.{beforeIn, backIn}
 
 -- How many of the entries are rows.
 abbrev pub rowsOf : List Entry → ℕ
@@ -34,30 +34,26 @@ pub record SameBack (b c : Backward) : Type 0 where
   pub reported : b .reported ≡ c .reported
 
 -- The line counts with which the branches to come start.
-abbrev pub startsOf : (starts lefts : List ℕ) (d : ℕ) → List ℕ
-startsOf starts lefts d = map (λ s. s .lines) (stackOf starts [] lefts d)
+abbrev pub startsOf : (steps : List ℕ) (d : ℕ) → List ℕ
+startsOf steps d = map (λ s. s .lines) (stackOf steps d)
 
--- The entries es, over n lines at first, are gathered: `rows` of them, as the arrays have them; no line count is above n + rows.
-pub record Gathered (es : List Entry) (n : ℕ) (classes firsts seconds befores : List ℕ) (rows : ℕ) : Type 0 where
+-- The entries es, over n lines at first, are gathered: `rows` of them; no line count is above n + rows.
+pub record Gathered (es : List Entry) (n : ℕ) (gathered : List ℕ) (rows : ℕ) : Type 0 where
   pub rows-are : rows ≡ rowsOf es
-  pub back : SameBack (backIn classes firsts seconds befores rows 0) (backward es n [])
-  pub below : (r : ℕ) → r < rows → getD befores r 0 ≤ n + r
+  pub back : SameBack (backIn gathered rows 0) (backward es n [])
+  pub below : (r : ℕ) → r < rows → beforeIn (getD gathered r 0) ≤ n + r
 
 -- The arrays have room for the rows of what the fields state, and the line counts stay within two bytes.
-pub record Gatherable (e K : ℕ) (fs : Fields) (n : ℕ) (classes firsts seconds befores starts lefts : List ℕ) : Type 0 where
+pub record Gatherable (e K : ℕ) (fs : Fields) (n : ℕ) (gathered steps : List ℕ) : Type 0 where
   pub es : List Entry
   pub stating : Stating e K fs es
-  pub classes-room : rowsOf es ≤ length classes
-  pub firsts-room : rowsOf es ≤ length firsts
-  pub seconds-room : rowsOf es ≤ length seconds
-  pub befores-room : rowsOf es ≤ length befores
-  pub starts-room : rowsOf es ≤ length starts
-  pub lefts-room : rowsOf es ≤ length lefts
+  pub gathered-room : rowsOf es ≤ length gathered
+  pub steps-room : rowsOf es ≤ length steps
   pub few : n + rowsOf es < 0xFFFF
 
 -- Whatever the fields state is gathered.
-pub record GathersAll (e K : ℕ) (fs : Fields) (n : ℕ) (classes firsts seconds befores : List ℕ) (rows : ℕ) : Type 0 where
-  pub all : (es : List Entry) → Stating e K fs es → Gathered es n classes firsts seconds befores rows
+pub record GathersAll (e K : ℕ) (fs : Fields) (n : ℕ) (gathered : List ℕ) (rows : ℕ) : Type 0 where
+  pub all : (es : List Entry) → Stating e K fs es → Gathered es n gathered rows
 
 -- ---- the report
 -- The entries that the fields of a proof of edition e over K constants state.
@@ -65,8 +61,8 @@ abbrev pub entriesIn : (e K : ℕ) → Fields → List Entry
 entriesIn e K fs = map (statedEntry (edition e) K) (listOf fs)
 
 -- The rows can be gathered and marked; no line is marked yet.
-pub record Reportable (e K : ℕ) (fs : Fields) (n : ℕ) (classes firsts seconds befores starts lefts marks report : List ℕ) : Type 0 where
-  pub gatherable : Gatherable e K fs n classes firsts seconds befores starts lefts
+pub record Reportable (e K : ℕ) (fs : Fields) (n : ℕ) (gathered steps marks report : List ℕ) : Type 0 where
+  pub gatherable : Gatherable e K fs n gathered steps
   pub marks-room : n + rowsOf (gatherable .es) < length marks
   pub report-room : rowsOf (gatherable .es) ≤ length report
   pub clear : (j : ℕ) → getD marks j 0 ≡ 0

@@ -2,7 +2,7 @@
 use mathlib.Core.Path.{_≡_}
 use mathlib.Core.Bool.{Bool, false, _&&_, _||_}
 use mathlib.Core.List.{List, [], _∷_}
-use Prim.Native.Nat.{ℕ, zero, suc, _+_, _≤_, _<_}
+use Prim.Native.Nat.{ℕ, zero, suc, _+_, _/_, _%_, _≤_, _<_}
 use lib.Dec.{eqb}
 use lib.ListN.{length, getD, set}
 use lib.Seq.{sets}
@@ -29,9 +29,28 @@ abbrev pub rowSaid : (class : ℕ) → List ℕ → (n : ℕ) → ℕ
 rowSaid zero marks n = getD marks n 0
 rowSaid (suc _) marks n = 2
 
-pub record MarkedRow (marks : List ℕ) (class n s t : ℕ) (marks′ : List ℕ) (reported : ℕ) : Type 0 where
-  pub marks-are : marks′ ≡ rowMarks class marks n s t
-  pub reported-is : reported ≡ rowSaid class marks n
+-- What a row has as one number: how many lines stand before it, the lines that it names, and its class.
+abbrev pub beforeIn : (row : ℕ) → ℕ
+beforeIn row = row % 0x1_0000
+
+abbrev pub firstIn : (row : ℕ) → ℕ
+firstIn row = row / 0x1_0000 % 0x1_0000
+
+abbrev pub secondIn : (row : ℕ) → ℕ
+secondIn row = row / 0x1_0000_0000 % 0x1_0000
+
+abbrev pub classIn : (row : ℕ) → ℕ
+classIn row = row / 0x1_0000_0000_0000
+
+pub record RowOf (x : Outline) (lines row : ℕ) : Type 0 where
+  pub before : beforeIn row ≡ lines
+  pub first : firstIn row ≡ x .first
+  pub second : secondIn row ≡ x .second
+  pub class : classIn row ≡ x .class
+
+pub record MarkedRow (marks : List ℕ) (row : ℕ) (marks′ : List ℕ) (reported : ℕ) : Type 0 where
+  pub marks-are : marks′ ≡ rowMarks (classIn row) marks (beforeIn row) (firstIn row) (secondIn row)
+  pub reported-is : reported ≡ rowSaid (classIn row) marks (beforeIn row)
 
 -- The same over the marks as a function.
 abbrev pub making2 : (s t n : ℕ) → Backward → Backward
@@ -42,33 +61,25 @@ rowBack zero n s t b = making2 s t n b
 rowBack (suc zero) n s t b = branching s n b
 rowBack (suc (suc _)) n s t b = closing s b
 
--- Row r of the arrays.
-pub record KeptRow (r : ℕ) (x : Outline) (lines : ℕ) (classes firsts seconds befores classes′ firsts′ seconds′ befores′ : List ℕ) : Type 0 where
-  pub class : classes′ ≡ set classes r (x .class)
-  pub first : firsts′ ≡ set firsts r (x .first)
-  pub second : seconds′ ≡ set seconds r (x .second)
-  pub before : befores′ ≡ set befores r lines
+abbrev pub rowIn : (row : ℕ) → Backward → Backward
+rowIn row b = rowBack (classIn row) (beforeIn row) (firstIn row) (secondIn row) b
 
--- So many rows from row r on, as the arrays have them: of each its class, the lines that it names, and how many lines stand before it.
-abbrev pub backIn : (classes firsts seconds befores : List ℕ) (left r : ℕ) → Backward
-backIn classes firsts seconds befores zero r = record { marks = λ j. false; reported = [] }
-backIn classes firsts seconds befores (suc left) r =
-    rowBack (getD classes r 0) (getD befores r 0) (getD firsts r 0) (getD seconds r 0) (backIn classes firsts seconds befores left (suc r))
+-- So many rows from row r on.
+abbrev pub backIn : (gathered : List ℕ) (left r : ℕ) → Backward
+backIn gathered zero r = record { marks = λ j. false; reported = [] }
+backIn gathered (suc left) r = rowIn (getD gathered r 0) (backIn gathered left (suc r))
 
--- The arrays have the rows, whose lines have marks, and the report has room; no line is marked yet.
-pub record Markable (classes firsts seconds befores : List ℕ) (rows : ℕ) (marks report : List ℕ) : Type 0 where
-  pub classes-room : rows ≤ length classes
-  pub firsts-room : rows ≤ length firsts
-  pub seconds-room : rows ≤ length seconds
-  pub befores-room : rows ≤ length befores
+-- The rows are there, their lines have marks, and the report has room; no line is marked yet.
+pub record Markable (gathered : List ℕ) (rows : ℕ) (marks report : List ℕ) : Type 0 where
+  pub gathered-room : rows ≤ length gathered
   pub report-room : rows ≤ length report
-  pub below : (r : ℕ) → r < rows → getD befores r 0 < length marks
+  pub below : (r : ℕ) → r < rows → beforeIn (getD gathered r 0) < length marks
   pub none : Marking marks (λ j. false)
 
 -- The rows from r on are gone over: the marks that they leave, and their report.
-pub record MarkedFrom (classes firsts seconds befores : List ℕ) (rows r : ℕ) (marks₀ report₀ marks report : List ℕ) : Type 0 where
+pub record MarkedFrom (gathered : List ℕ) (rows r : ℕ) (marks₀ report₀ marks report : List ℕ) : Type 0 where
   pub left : ℕ
   pub left-is : r + left ≡ rows
-  pub marking : Marking marks (backIn classes firsts seconds befores left r .marks)
-  pub reported : report ≡ sets report₀ r (backIn classes firsts seconds befores left r .reported)
+  pub marking : Marking marks (backIn gathered left r .marks)
+  pub reported : report ≡ sets report₀ r (backIn gathered left r .reported)
   pub marks-length : length marks ≡ length marks₀

@@ -9,53 +9,44 @@ use shortening_stack::Outline;
 use shortening_stack::outline_at;
 use shortening_stack::stack::advance;
 ghost use mathlib.Core.Path.{_≡_};
-ghost use Prim.Native.Nat.{_<_};
+ghost use Prim.Native.Nat.{_%_, _<_};
 ghost use lib.ListN.{length, getD, set};
 ghost use Rattle.fields.specs.Places.{fieldsAt};
 ghost use Rattle.shortening_marks.specs.Gathered.{Gatherable, GathersAll, Reportable, Reported};
-ghost use Rattle.shortening_marks.specs.Marks.{KeptRow, madeMarks, MarkedRow, Markable, MarkedFrom};
+ghost use Rattle.shortening_marks.specs.Marks.{RowOf, madeMarks, MarkedRow, Markable, MarkedFrom};
 
-// Row r, before which so many lines stand.
-fn keep_row(
-    classes: &mut [u8],
-    firsts: &mut [u16],
-    seconds: &mut [u16],
-    befores: &mut [u16],
-    r: usize,
-    x: Outline,
-    lines: u16,
-)
-    requires { ⌜ (r < length (now classes)) × (r < length (now firsts)) × (r < length (now seconds)) × (r < length (now befores)) ⌝ }
-    ensures { λ _. ⌜ KeptRow r x lines (now (classes .entry)) (now (firsts .entry)) (now (seconds .entry)) (now (befores .entry)) (now (classes .exit)) (now (firsts .exit)) (now (seconds .exit)) (now (befores .exit)) ⌝ }
-{
-    classes[r] = x.class;
-    firsts[r] = x.first;
-    seconds[r] = x.second;
-    befores[r] = lines;
+// Of an accepted proof: where its rows start, its edition, and how many constants and constraints it is over.
+pub struct ProofBody {
+    pub at: usize,
+    pub edition: u8,
+    pub k: u8,
+    pub constraints: u16,
 }
 
-// The rows from a place on: of each its class, the lines that it names, and how many lines stand before it. n lines stand on
-// the branch. How many rows there are.
-pub fn gather(
-    p: &[u8],
-    at: usize,
-    e: u8,
-    k: u8,
-    n: u16,
-    classes: &mut [u8],
-    firsts: &mut [u16],
-    seconds: &mut [u16],
-    befores: &mut [u16],
-    starts: &mut [u16],
-    lefts: &mut [u16],
-) -> usize
-    requires { ⌜ Gatherable e k (fieldsAt (now p) at) n (now classes) (now firsts) (now seconds) (now befores) (now starts) (now lefts) ⌝ }
-    ensures { λ r. ⌜ GathersAll e k (fieldsAt (now (p .entry)) at) n (now (classes .exit)) (now (firsts .exit)) (now (seconds .exit)) (now (befores .exit)) r ⌝ }
+// In a row: how many lines stand before it, in the two low bytes, the lines that it names, in the next four, and its class.
+const FIRST: u64 = 0x1_0000;
+
+const SECOND: u64 = 0x1_0000_0000;
+
+const CLASS: u64 = 0x1_0000_0000_0000;
+
+// A row as one number.
+fn row_of(x: Outline, lines: u16) -> u64
+    ensures { λ r. ⌜ RowOf x lines r ⌝ }
 {
-    let mut here = at;
-    let mut lines = n;
+    lines as u64 + x.first as u64 * FIRST + x.second as u64 * SECOND + x.class as u64 * CLASS
+}
+
+// The rows of a proof, and how many there are.
+pub fn gather(p: &[u8], body: ProofBody, gathered: &mut [u64], steps: &mut [u64]) -> usize
+    requires { ⌜ Gatherable (body .edition) (body .k) (fieldsAt (now p) (body .at)) (body .constraints) (now gathered) (now steps) ⌝ }
+    ensures { λ r. ⌜ GathersAll (body .edition) (body .k) (fieldsAt (now (p .entry)) (body .at)) (body .constraints) (now (gathered .exit)) r ⌝ }
+{
+    let mut here = body.at;
+    let mut lines = body.constraints;
     let mut depth = 0;
     let mut rows = 0;
+    let e = body.edition;
     loop {
         match next_field(p, here) {
             Next::Field {
@@ -67,8 +58,8 @@ pub fn gather(
             } => {
                 let x = outline_at(p, tag, start, e);
                 if x.class != CLAIMS {
-                    keep_row(classes, firsts, seconds, befores, rows, x, lines);
-                    let moved = advance(x.class, x.come, lines, depth, starts, lefts);
+                    gathered[rows] = row_of(x, lines);
+                    let moved = advance(x.class, x.come, lines, 0, depth, steps);
                     lines = moved.lines;
                     depth = moved.depth;
                     rows += 1;
@@ -112,11 +103,15 @@ fn mark_made(marks: &mut [u8], n: u16, s: u16, t: u16) -> u8
     own
 }
 
-fn mark_row(marks: &mut [u8], class: u8, n: u16, s: u16, t: u16) -> u8
-    requires { ⌜ n < length (now marks) ⌝ }
-    ensures { λ r. ⌜ MarkedRow (now (marks .entry)) class n s t (now (marks .exit)) r ⌝ }
+fn mark_row(marks: &mut [u8], row: u64) -> u8
+    requires { ⌜ row % 0x1_0000 < length (now marks) ⌝ }
+    ensures { λ r. ⌜ MarkedRow (now (marks .entry)) row (now (marks .exit)) r ⌝ }
 {
+    let n = (row % FIRST) as u16;
+    let s = (row / FIRST % FIRST) as u16;
+    let class = (row / CLASS) as u16;
     if class == MAKES {
+        let t = (row / SECOND % FIRST) as u16;
         return mark_made(marks, n, s, t);
     }
     if class == BRANCHES {
@@ -130,58 +125,31 @@ fn mark_row(marks: &mut [u8], class: u8, n: u16, s: u16, t: u16) -> u8
 }
 
 // From the last row to the first.
-pub fn mark_rows(
-    classes: &[u8],
-    firsts: &[u16],
-    seconds: &[u16],
-    befores: &[u16],
-    rows: usize,
-    marks: &mut [u8],
-    report: &mut [u8],
-)
-    requires { ⌜ Markable (now classes) (now firsts) (now seconds) (now befores) rows (now marks) (now report) ⌝ }
-    ensures { λ _. ⌜ MarkedFrom (now (classes .entry)) (now (firsts .entry)) (now (seconds .entry)) (now (befores .entry)) rows 0 (now (marks .entry)) (now (report .entry)) (now (marks .exit)) (now (report .exit)) ⌝ }
+fn mark_rows(gathered: &[u64], rows: usize, marks: &mut [u8], report: &mut [u8])
+    requires { ⌜ Markable (now gathered) rows (now marks) (now report) ⌝ }
+    ensures { λ _. ⌜ MarkedFrom (now (gathered .entry)) rows 0 (now (marks .entry)) (now (report .entry)) (now (marks .exit)) (now (report .exit)) ⌝ }
 {
     let mut r = rows;
     while 0 < r {
         r -= 1;
-        let reported = mark_row(marks, classes[r], befores[r], firsts[r], seconds[r]);
+        let reported = mark_row(marks, gathered[r]);
         report[r] = reported;
     }
 }
 
-// The report on the rows from a place on, over n constraints; how many rows there are.
+// The report on the rows of a proof; how many rows there are.
 pub fn report_rows(
     p: &[u8],
-    at: usize,
-    e: u8,
-    k: u8,
-    n: u16,
-    classes: &mut [u8],
-    firsts: &mut [u16],
-    seconds: &mut [u16],
-    befores: &mut [u16],
-    starts: &mut [u16],
-    lefts: &mut [u16],
+    body: ProofBody,
+    gathered: &mut [u64],
+    steps: &mut [u64],
     marks: &mut [u8],
     report: &mut [u8],
 ) -> usize
-    requires { ⌜ Reportable e k (fieldsAt (now p) at) n (now classes) (now firsts) (now seconds) (now befores) (now starts) (now lefts) (now marks) (now report) ⌝ }
-    ensures { λ r. ⌜ Reported e k (fieldsAt (now (p .entry)) at) n (now (report .entry)) (now (report .exit)) r ⌝ }
+    requires { ⌜ Reportable (body .edition) (body .k) (fieldsAt (now p) (body .at)) (body .constraints) (now gathered) (now steps) (now marks) (now report) ⌝ }
+    ensures { λ r. ⌜ Reported (body .edition) (body .k) (fieldsAt (now (p .entry)) (body .at)) (body .constraints) (now (report .entry)) (now (report .exit)) r ⌝ }
 {
-    let rows = gather(
-        p,
-        at,
-        e,
-        k,
-        n,
-        classes,
-        firsts,
-        seconds,
-        befores,
-        starts,
-        lefts,
-    );
-    mark_rows(classes, firsts, seconds, befores, rows, marks, report);
+    let rows = gather(p, body, gathered, steps);
+    mark_rows(gathered, rows, marks, report);
     rows
 }

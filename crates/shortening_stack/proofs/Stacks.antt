@@ -2,26 +2,23 @@
 use mathlib.Core.Path.{_≡_, refl, sym, _∙_, ap, ap₂, subst}
 use mathlib.Core.Bool.{Bool, true, false}
 use mathlib.Core.List.{List, [], _∷_}
-use Prim.Native.Nat.{ℕ, zero, suc, _+_, _-_, _≤_, _<_}
+use Prim.Native.Nat.{ℕ, zero, suc, _+_, _*_, _-_, _/_, _%_, _≤_, _<_}
 use native.Mathlib.Omega.{arith}
-use lib.Dec.{T, eqb, eqb→eq}
+use lib.Dec.{eqb}
 use lib.ListN.{length, getD, set, length-set}
 use lib.Seq.{getD-set-same, getD-set-other}
 use borrow.Author.Tests.{eqb-true, eqb-false}
 use Rattle.shortening.specs.Passes.{top, pop, pushed, Start, noStart, branchStart}
-use Rattle.shortening_stack.specs.Stack.{stackOf, Alive, Same, topOf, Bound, Pushed, Popped, linesAfter, openedAfter, MovedOn}
+use Rattle.shortening_stack.specs.Stack.{stepOf, startIn, leftIn, stackOf, Alive, Same, topOf, Bound, Pushed, Closed, linesAfter, keptAfter, openedAfter, MovedOn}
 
 same-less : {d : ℕ} {xs ys : List ℕ} → Same (suc d) xs ys → Same d xs ys
 same-less s = record { same = λ i h. s .same i (omega (arith, h)) }
 
 -- what the stack is goes by its first d numbers
-same-stack : (starts starts′ keeps keeps′ lefts lefts′ : List ℕ) (d : ℕ) → Same d starts′ starts → Same d keeps′ keeps → Same d lefts′ lefts
-    → stackOf starts′ keeps′ lefts′ d ≡ stackOf starts keeps lefts d
-same-stack starts starts′ keeps keeps′ lefts lefts′ zero a b c = refl
-same-stack starts starts′ keeps keeps′ lefts lefts′ (suc d) a b c =
-    ap₂ (λ (s : Start) (ss : List Start). pushed (getD lefts′ d 0) s ss) (ap₂ branchStart (a .same d (omega arith)) (b .same d (omega arith)))
-    (same-stack starts starts′ keeps keeps′ lefts lefts′ d (same-less a) (same-less b) (same-less c))
-    ∙ ap (λ (n : ℕ). pushed n (branchStart (getD starts d 0) (getD keeps d 0)) (stackOf starts keeps lefts d)) (c .same d (omega arith))
+same-stack : (steps steps′ : List ℕ) (d : ℕ) → Same d steps′ steps → stackOf steps′ d ≡ stackOf steps d
+same-stack steps steps′ zero s = refl
+same-stack steps steps′ (suc d) s =
+    ap₂ (λ (x : ℕ) (ss : List Start). pushed (leftIn x) (startIn x) ss) (s .same d (omega arith)) (same-stack steps steps′ d (same-less s))
 
 pub same-self : (d : ℕ) (xs : List ℕ) → Same d xs xs
 same-self d xs = record { same = λ i h. refl }
@@ -30,140 +27,161 @@ same-self d xs = record { same = λ i h. refl }
 pub same-set : (d : ℕ) (xs : List ℕ) (x : ℕ) → Same d (set xs d x) xs
 same-set d xs x = record { same = λ i h. getD-set-other xs d i x 0 (λ e. absurd (let z : ⊥ = omega (arith, h, e) in z)) }
 
--- the numbers of the steps from the outermost on are at least 1
-alive-set : (lefts : List ℕ) (d x : ℕ) → d < length lefts → 1 ≤ x → Alive lefts d → Alive (set lefts d x) (suc d)
-alive-set lefts d x h k a = record { alive = λ i l. by i l (eqb i d) refl }
+stack-set : (steps : List ℕ) (d x : ℕ) → d < length steps → stackOf (set steps d x) (suc d) ≡ pushed (leftIn x) (startIn x) (stackOf steps d)
+stack-set steps d x h =
+    ap₂ (λ (y : ℕ) (ss : List Start). pushed (leftIn y) (startIn y) ss) (getD-set-same steps d x 0 h) (same-stack steps (set steps d x) d (same-set d steps x))
+
+-- what holds of the steps below d and of x holds of all
+set-each : (P : ℕ → Type 0) (steps : List ℕ) (d x : ℕ) → d < length steps → P x → ((i : ℕ) → i < d → P (getD steps i 0)) → (i : ℕ) → i < suc d → P (getD (set steps d x) i 0)
+set-each P steps d x h k a i l = by (eqb i d) refl
   where
-    by : (i : ℕ) → i < suc d → (b : Bool) → eqb i d ≡ b → 1 ≤ getD (set lefts d x) i 0
-    by i l true e = subst (λ (n : ℕ). 1 ≤ n) (sym (ap (λ (j : ℕ). getD (set lefts d x) j 0) (eqb-true i d e) ∙ getD-set-same lefts d x 0 h)) k
-    by i l false e =
+    by : (b : Bool) → eqb i d ≡ b → P (getD (set steps d x) i 0)
+    by true e = subst P (sym (ap (λ (j : ℕ). getD (set steps d x) j 0) (eqb-true i d e) ∙ getD-set-same steps d x 0 h)) k
+    by false e =
         let other : ¬ (i ≡ d) = eqb-false i d e in
         let below : i < d = omega (arith, l, other) in
-        subst (λ (n : ℕ). 1 ≤ n) (sym (getD-set-other lefts d i x 0 other)) (a .alive i below)
+        subst P (sym (getD-set-other steps d i x 0 other)) (a i below)
 
-alive-less : (lefts : List ℕ) (d : ℕ) → Alive lefts (suc d) → Alive lefts d
-alive-less lefts d a = record { alive = λ i h. a .alive i (omega (arith, h)) }
+alive-set : (steps : List ℕ) (d x : ℕ) → d < length steps → 1 ≤ leftIn x → Alive steps d → Alive (set steps d x) (suc d)
+alive-set steps d x h k a = record { alive = set-each (λ y. 1 ≤ leftIn y) steps d x h k (a .alive) }
+
+alive-less : (steps : List ℕ) (d : ℕ) → Alive steps (suc d) → Alive steps d
+alive-less steps d a = record { alive = λ i h. a .alive i (omega (arith, h)) }
+
+bound-set : (steps : List ℕ) (d b x : ℕ) → d < length steps → x % 0x1_0000 ≤ b → Bound steps d b → Bound (set steps d x) (suc d) b
+bound-set steps d b x h k a = record { bound = set-each (λ y. y % 0x1_0000 ≤ b) steps d x h k (a .bound) }
+
+bound-less : (steps : List ℕ) (d b : ℕ) → Bound steps (suc d) b → Bound steps d b
+bound-less steps d b a = record { bound = λ i l. a .bound i (omega (arith, l)) }
 
 -- ---- one more
-pub pushed-none : (starts lefts : List ℕ) (d start : ℕ) → Pushed starts lefts d start 0 starts lefts d
-pushed-none starts lefts d start = record { is = λ keeps keeps′ s. same-stack starts starts keeps keeps′ lefts lefts d (same-self d starts) s (same-self d lefts); alive = λ a. a; most = omega arith; bounded = λ b h k. k; starts-length = refl; lefts-length = refl }
+pub pushed-none : (steps : List ℕ) (d lines kept left : ℕ) → left ≡ 0 → Pushed steps d lines kept left steps d
+pushed-none steps d lines kept left e = record {
+  is = sym (ap (λ (n : ℕ). pushed n (branchStart lines kept) (stackOf steps d)) e);
+  alive = λ a. a;
+  most = omega arith;
+  bounded = λ b h k. k;
+  steps-length = refl;
+}
 
-bound-set : (xs : List ℕ) (d b x : ℕ) → d < length xs → x ≤ b → Bound xs d b → Bound (set xs d x) (suc d) b
-bound-set xs d b x h k a = record { bound = λ i l. by i l (eqb i d) refl }
-  where
-    by : (i : ℕ) → i < suc d → (c : Bool) → eqb i d ≡ c → getD (set xs d x) i 0 ≤ b
-    by i l true e = subst (λ (n : ℕ). n ≤ b) (sym (ap (λ (j : ℕ). getD (set xs d x) j 0) (eqb-true i d e) ∙ getD-set-same xs d x 0 h)) k
-    by i l false e =
-        let other : ¬ (i ≡ d) = eqb-false i d e in
-        let below : i < d = omega (arith, l, other) in
-        subst (λ (n : ℕ). n ≤ b) (sym (getD-set-other xs d i x 0 other)) (a .bound i below)
-
-pub pushed-some : (starts lefts : List ℕ) (d start left : ℕ) → d < length starts → d < length lefts → 1 ≤ left → Pushed starts lefts d start left (set starts d start) (set lefts d left) (d + 1)
-pushed-some starts lefts d start left h k l =
-    let one : d + 1 ≡ suc d = omega arith in
-    let on : Pushed starts lefts d start left (set starts d start) (set lefts d left) (suc d) = record {
-      is = λ keeps keeps′ s.
-          ap₂ (λ (n m : ℕ). pushed n (branchStart m (getD keeps′ d 0)) (stackOf (set starts d start) keeps′ (set lefts d left) d)) (getD-set-same lefts d left 0 k) (getD-set-same starts d start 0 h)
-          ∙ ap (pushed left (branchStart start (getD keeps′ d 0))) (same-stack starts (set starts d start) keeps keeps′ lefts (set lefts d left) d (same-set d starts start) s (same-set d lefts left));
-      alive = λ a. alive-set lefts d left k l a;
+pub pushed-some : (steps : List ℕ) (d lines kept left : ℕ) → d < length steps → lines < 0x1_0000 → kept < 0x1_0000 → ¬ (left ≡ 0) → Pushed steps d lines kept left (set steps d (stepOf lines kept left)) (d + 1)
+pushed-some steps d lines kept left h l k e =
+    let x = stepOf lines kept left in
+    let one : suc d ≡ d + 1 = omega arith in
+    let left-is : leftIn x ≡ left = omega (arith, l, k) in
+    let lines-are : x % 0x1_0000 ≡ lines = omega (arith, l, k) in
+    let above : x / 0x1_0000 ≡ kept + left * 0x1_0000 = omega (arith, l) in
+    let kept-are : x / 0x1_0000 % 0x1_0000 ≡ kept = ap (λ (n : ℕ). n % 0x1_0000) above ∙ (let z : (kept + left * 0x1_0000) % 0x1_0000 ≡ kept = omega (arith, k) in z) in
+    let on : Pushed steps d lines kept left (set steps d x) (suc d) = record {
+      is = stack-set steps d x h
+          ∙ ap (λ (n : ℕ). pushed n (startIn x) (stackOf steps d)) left-is
+          ∙ ap₂ (λ (n m : ℕ). pushed left (branchStart n m) (stackOf steps d)) lines-are kept-are;
+      alive = λ a. alive-set steps d x h (omega (arith, left-is, e)) a;
       most = omega arith;
-      bounded = λ b q r. bound-set starts d b start h q r;
-      starts-length = length-set starts d start;
-      lefts-length = length-set lefts d left;
+      bounded = λ b q r. bound-set steps d b x h (omega (arith, lines-are, q)) r;
+      steps-length = length-set steps d x;
     } in
-    subst (λ (n : ℕ). Pushed starts lefts d start left (set starts d start) (set lefts d left) n) (sym one) on
+    subst (λ (n : ℕ). Pushed steps d lines kept left (set steps d x) n) one on
 
 -- ---- one less
-pub popped-none : (lefts : List ℕ) → Popped lefts 0 lefts 0
-popped-none lefts = record { is = λ a starts keeps. refl; alive = λ a. a; most = omega arith; lefts-length = refl }
+pub closed-none : (steps : List ℕ) (d : ℕ) → d ≡ 0 → Closed steps d steps 0 0 d
+closed-none steps d e =
+    let on : Closed steps 0 steps 0 0 0 = record { is = λ a. refl; lines-are = refl; kept-are = refl; alive = λ a. a; most = omega arith; bounded = λ b k. k; steps-length = refl } in
+    subst (λ (n : ℕ). Closed steps n steps 0 0 n) (sym e) on
 
 times-one : (n : ℕ) (x : Start) (xs : List Start) → n ≡ 1 → xs ≡ pop (pushed n x xs)
 times-one n x xs h = sym (ap (λ (m : ℕ). pop (pushed m x xs)) h)
-
-pub popped-last : (lefts : List ℕ) (d : ℕ) → getD lefts d 0 ≤ 1 → Popped lefts (suc d) lefts d
-popped-last lefts d h = record {
-  is = λ a starts keeps. times-one (getD lefts d 0) (branchStart (getD starts d 0) (getD keeps d 0)) (stackOf starts keeps lefts d) (omega (arith, h, a .alive d (omega arith)));
-  alive = λ a. alive-less lefts d a;
-  most = omega arith;
-  lefts-length = refl;
-}
 
 times-less : (n : ℕ) (x : Start) (xs : List Start) → 1 < n → pushed (n - 1) x xs ≡ pop (pushed n x xs)
 times-less zero x xs h = absurd (omega (arith, h))
 times-less (suc n) x xs h = ap (λ (m : ℕ). pushed m x xs) (let z : suc n - 1 ≡ n = omega arith in z)
 
-pub popped-one : (lefts : List ℕ) (d : ℕ) → d < length lefts → 1 < getD lefts d 0 → Popped lefts (suc d) (set lefts d (getD lefts d 0 - 1)) (suc d)
-popped-one lefts d h k = record {
-  is = λ a starts keeps.
-      ap₂ (λ (n : ℕ) (ss : List Start). pushed n (branchStart (getD starts d 0) (getD keeps d 0)) ss) (getD-set-same lefts d (getD lefts d 0 - 1) 0 h)
-      (same-stack starts starts keeps keeps lefts (set lefts d (getD lefts d 0 - 1)) d (same-self d starts) (same-self d keeps) (same-set d lefts (getD lefts d 0 - 1)))
-      ∙ times-less (getD lefts d 0) (branchStart (getD starts d 0) (getD keeps d 0)) (stackOf starts keeps lefts d) k;
-  alive = λ a. alive-set lefts d (getD lefts d 0 - 1) h (omega (arith, k)) (alive-less lefts d a);
+closed-last : (steps : List ℕ) (d : ℕ) → leftIn (getD steps d 0) ≤ 1 → Closed steps (suc d) steps (getD steps d 0 % 0x1_0000) (getD steps d 0 / 0x1_0000 % 0x1_0000) d
+closed-last steps d h = record {
+  is = λ a. times-one (leftIn (getD steps d 0)) (startIn (getD steps d 0)) (stackOf steps d) (omega (arith, h, a .alive d (omega arith)));
+  lines-are = refl;
+  kept-are = refl;
+  alive = λ a. alive-less steps d a;
   most = omega arith;
-  lefts-length = length-set lefts d (getD lefts d 0 - 1);
+  bounded = λ b a. bound-less steps d b a;
+  steps-length = refl;
 }
 
+closed-one : (steps : List ℕ) (d : ℕ) → d < length steps → 1 < leftIn (getD steps d 0)
+    → Closed steps (suc d) (set steps d (getD steps d 0 - 0x1_0000_0000)) (getD steps d 0 % 0x1_0000) (getD steps d 0 / 0x1_0000 % 0x1_0000) (suc d)
+closed-one steps d h k =
+    let s = getD steps d 0 in
+    let left-is : leftIn (s - 0x1_0000_0000) ≡ leftIn s - 1 = omega (arith, k) in
+    let lines-are : (s - 0x1_0000_0000) % 0x1_0000 ≡ s % 0x1_0000 = omega (arith, k) in
+    let above : (s - 0x1_0000_0000) / 0x1_0000 + 0x1_0000 ≡ s / 0x1_0000 = omega (arith, k) in
+    let kept-are : (s - 0x1_0000_0000) / 0x1_0000 % 0x1_0000 ≡ s / 0x1_0000 % 0x1_0000 = omega (arith, above) in
+    record {
+      is = λ a. stack-set steps d (s - 0x1_0000_0000) h
+          ∙ ap (λ (n : ℕ). pushed n (startIn (s - 0x1_0000_0000)) (stackOf steps d)) left-is
+          ∙ ap₂ (λ (n m : ℕ). pushed (leftIn s - 1) (branchStart n m) (stackOf steps d)) lines-are kept-are
+          ∙ times-less (leftIn s) (startIn s) (stackOf steps d) k;
+      lines-are = refl;
+      kept-are = refl;
+      alive = λ a. alive-set steps d (s - 0x1_0000_0000) h (omega (arith, k, left-is)) (alive-less steps d a);
+      most = omega arith;
+      bounded = λ b a. bound-set steps d b (s - 0x1_0000_0000) h (omega (arith, lines-are, a .bound d (omega arith))) (bound-less steps d b a);
+      steps-length = length-set steps d (s - 0x1_0000_0000);
+    }
+
+-- the last index, as the code has it
+pub close-last : (steps : List ℕ) (d : ℕ) → ¬ (d ≡ 0) → leftIn (getD steps (d - 1) 0) ≤ 1
+    → Closed steps d steps (getD steps (d - 1) 0 % 0x1_0000) (getD steps (d - 1) 0 / 0x1_0000 % 0x1_0000) (d - 1)
+close-last steps d h k =
+    let e : suc (d - 1) ≡ d = omega (arith, h) in
+    subst (λ (m : ℕ). Closed steps m steps (getD steps (d - 1) 0 % 0x1_0000) (getD steps (d - 1) 0 / 0x1_0000 % 0x1_0000) (d - 1)) e (closed-last steps (d - 1) k)
+
+pub close-one : (steps : List ℕ) (d : ℕ) → ¬ (d ≡ 0) → d ≤ length steps → 1 < leftIn (getD steps (d - 1) 0)
+    → Closed steps d (set steps (d - 1) (getD steps (d - 1) 0 - 0x1_0000_0000)) (getD steps (d - 1) 0 % 0x1_0000) (getD steps (d - 1) 0 / 0x1_0000 % 0x1_0000) d
+close-one steps d h l k =
+    let e : suc (d - 1) ≡ d = omega (arith, h) in
+    subst (λ (m : ℕ). Closed steps m (set steps (d - 1) (getD steps (d - 1) 0 - 0x1_0000_0000)) (getD steps (d - 1) 0 % 0x1_0000) (getD steps (d - 1) 0 / 0x1_0000 % 0x1_0000) m) e
+    (closed-one steps (d - 1) (omega (arith, h, l)) k)
+
 -- ---- the top
-pub top-is : (starts keeps lefts : List ℕ) (d : ℕ) → Alive lefts d → top noStart (stackOf starts keeps lefts d) ≡ branchStart (topOf starts d) (topOf keeps d)
-top-is starts keeps lefts zero a = refl
-top-is starts keeps lefts (suc d) a = by (getD lefts d 0) (a .alive d (omega arith))
+top-is : (steps : List ℕ) (d : ℕ) → Alive steps d → top noStart (stackOf steps d) ≡ topOf steps d
+top-is steps zero a = refl
+top-is steps (suc d) a = by (leftIn (getD steps d 0)) (a .alive d (omega arith))
   where
-    by : (n : ℕ) → 1 ≤ n → top noStart (pushed n (branchStart (getD starts d 0) (getD keeps d 0)) (stackOf starts keeps lefts d)) ≡ branchStart (getD starts d 0) (getD keeps d 0)
+    by : (n : ℕ) → 1 ≤ n → top noStart (pushed n (startIn (getD steps d 0)) (stackOf steps d)) ≡ startIn (getD steps d 0)
     by zero h = absurd (omega (arith, h))
     by (suc n) h = refl
 
--- the last index, as the code has it
-pub top-at : (xs : List ℕ) (d : ℕ) → 1 ≤ d → getD xs (d - 1) 0 ≡ topOf xs d
-top-at xs zero h = absurd (omega (arith, h))
-top-at xs (suc d) h = ap (λ (i : ℕ). getD xs i 0) (let z : suc d - 1 ≡ d = omega arith in z)
-
-popped-suc : (lefts lefts′ : List ℕ) (d n d′ : ℕ) → suc n ≡ d → Popped lefts (suc n) lefts′ d′ → Popped lefts d lefts′ d′
-popped-suc lefts lefts′ d n d′ e p = subst (λ (m : ℕ). Popped lefts m lefts′ d′) e p
-
-pub pop-last : (lefts : List ℕ) (d : ℕ) → 1 ≤ d → getD lefts (d - 1) 0 ≤ 1 → Popped lefts d lefts (d - 1)
-pop-last lefts d h k = popped-suc lefts lefts d (d - 1) (d - 1) (omega (arith, h)) (popped-last lefts (d - 1) k)
-
-pub pop-one : (lefts : List ℕ) (d : ℕ) → 1 ≤ d → d ≤ length lefts → 1 < getD lefts (d - 1) 0 → Popped lefts d (set lefts (d - 1) (getD lefts (d - 1) 0 - 1)) d
-pop-one lefts d h l k =
-    let e : suc (d - 1) ≡ d = omega (arith, h) in
-    subst (λ (m : ℕ). Popped lefts m (set lefts (d - 1) (getD lefts (d - 1) 0 - 1)) m) e (popped-one lefts (d - 1) (omega (arith, h, l)) k)
-
 -- ---- a row goes by
-bound-less : (xs : List ℕ) (d d′ b : ℕ) → d′ ≤ d → Bound xs d b → Bound xs d′ b
-bound-less xs d d′ b h a = record { bound = λ i l. a .bound i (omega (arith, h, l)) }
+bound-top : (steps : List ℕ) (d b : ℕ) → Bound steps d b → topOf steps d .lines ≤ b
+bound-top steps zero b a = omega arith
+bound-top steps (suc d) b a = a .bound d (omega arith)
 
-bound-top : (xs : List ℕ) (d b : ℕ) → Bound xs d b → topOf xs d ≤ b
-bound-top xs zero b a = omega arith
-bound-top xs (suc d) b a = a .bound d (omega arith)
+module _ (class come lines kept d : ℕ) (steps : List ℕ) where
+  pub advanced-makes : class ≡ 0 → MovedOn class come lines kept d steps steps (lines + 1) (kept + 1) d
+  advanced-makes e = record {
+    is = λ a. sym (ap (λ (c : ℕ). openedAfter c come lines kept (stackOf steps d)) e);
+    lines-are = λ a. (let z : lines + 1 ≡ suc lines = omega arith in z) ∙ sym (ap (λ (c : ℕ). linesAfter c lines (stackOf steps d)) e);
+    kept-are = λ a. (let z : kept + 1 ≡ suc kept = omega arith in z) ∙ sym (ap (λ (c : ℕ). keptAfter c kept (top noStart (stackOf steps d) .kept)) e);
+    alive = λ a. a;
+    most = omega arith;
+    bounded = λ b h k. (k, omega (arith, h));
+    steps-length = refl;
+  }
 
-module _ (class come lines d : ℕ) (starts lefts : List ℕ) where
-  pub advanced-makes : class ≡ 0 → MovedOn class come lines d starts lefts starts lefts (lines + 1) d
-  advanced-makes e =
-      let one : suc lines ≡ lines + 1 = omega arith in
+  pub advanced-branches : {steps′ : List ℕ} {d′ : ℕ} → class ≡ 1 → Pushed steps d (lines + 1) (kept + 1) come steps′ d′ → MovedOn class come lines kept d steps steps′ (lines + 1) (kept + 1) d′
+  advanced-branches e p =
+      let one : lines + 1 ≡ suc lines = omega arith in
+      let one-kept : kept + 1 ≡ suc kept = omega arith in
       record {
-        is = λ a keeps keeps′ s. same-stack starts starts keeps keeps′ lefts lefts d (same-self d starts) s (same-self d lefts)
-            ∙ sym (ap (λ (c : ℕ). openedAfter c come lines (getD keeps′ d 0) (stackOf starts keeps lefts d)) e);
-        lines-are = λ a keeps. sym one ∙ sym (ap (λ (c : ℕ). linesAfter c lines (stackOf starts keeps lefts d)) e);
-        alive = λ a. a;
-        most = omega arith;
-        bounded = λ b h k. (k, omega (arith, h));
-        starts-length = refl;
-        lefts-length = refl;
-      }
-
-  pub advanced-branches : {starts′ lefts′ : List ℕ} {d′ : ℕ} → class ≡ 1 → Pushed starts lefts d (lines + 1) come starts′ lefts′ d′ → MovedOn class come lines d starts lefts starts′ lefts′ (lines + 1) d′
-  advanced-branches {starts′} {lefts′} {d′} e p =
-      let one : suc lines ≡ lines + 1 = omega arith in
-      record {
-        is = λ a keeps keeps′ s. p .is keeps keeps′ s
-            ∙ ap (λ (n : ℕ). pushed come (branchStart n (getD keeps′ d 0)) (stackOf starts keeps lefts d)) (sym one)
-            ∙ sym (ap (λ (c : ℕ). openedAfter c come lines (getD keeps′ d 0) (stackOf starts keeps lefts d)) e);
-        lines-are = λ a keeps. sym one ∙ sym (ap (λ (c : ℕ). linesAfter c lines (stackOf starts keeps lefts d)) e);
+        is = λ a. p .is
+            ∙ ap₂ (λ (n m : ℕ). pushed come (branchStart n m) (stackOf steps d)) one one-kept
+            ∙ sym (ap (λ (c : ℕ). openedAfter c come lines kept (stackOf steps d)) e);
+        lines-are = λ a. one ∙ sym (ap (λ (c : ℕ). linesAfter c lines (stackOf steps d)) e);
+        kept-are = λ a. one-kept ∙ sym (ap (λ (c : ℕ). keptAfter c kept (top noStart (stackOf steps d) .kept)) e);
         alive = p .alive;
         most = p .most;
         bounded = λ b h k. (p .bounded b (omega (arith, h)) k, omega (arith, h));
-        starts-length = p .starts-length;
-        lefts-length = p .lefts-length;
+        steps-length = p .steps-length;
       }
 
 closing-lines : (class lines : ℕ) (opened : List Start) → ¬ (class ≡ 0) → ¬ (class ≡ 1) → linesAfter class lines opened ≡ top noStart opened .lines
@@ -171,20 +189,24 @@ closing-lines zero lines opened e f = absurd (e refl)
 closing-lines (suc zero) lines opened e f = absurd (f refl)
 closing-lines (suc (suc c)) lines opened e f = refl
 
+closing-kept : (class kept first : ℕ) → ¬ (class ≡ 0) → ¬ (class ≡ 1) → keptAfter class kept first ≡ first
+closing-kept zero kept first e f = absurd (e refl)
+closing-kept (suc zero) kept first e f = absurd (f refl)
+closing-kept (suc (suc c)) kept first e f = refl
+
 closing-opened : (class come lines kept : ℕ) (opened : List Start) → ¬ (class ≡ 0) → ¬ (class ≡ 1) → openedAfter class come lines kept opened ≡ pop opened
 closing-opened zero come lines kept opened e f = absurd (e refl)
 closing-opened (suc zero) come lines kept opened e f = absurd (f refl)
 closing-opened (suc (suc c)) come lines kept opened e f = refl
 
-pub advanced-closes : (class come lines d : ℕ) (starts lefts : List ℕ) {lefts′ : List ℕ} {l d′ : ℕ} → ¬ (class ≡ 0) → ¬ (class ≡ 1) → l ≡ topOf starts d → Popped lefts d lefts′ d′
-    → MovedOn class come lines d starts lefts starts lefts′ l d′
-advanced-closes class come lines d starts lefts {lefts′} {l} {d′} e f h p = record {
-  is = λ a keeps keeps′ s. p .is a starts keeps′ ∙ ap pop (same-stack starts starts keeps keeps′ lefts lefts d (same-self d starts) s (same-self d lefts))
-      ∙ sym (closing-opened class come lines (getD keeps′ d 0) (stackOf starts keeps lefts d) e f);
-  lines-are = λ a keeps. h ∙ sym (ap (λ (x : Start). x .lines) (top-is starts keeps lefts d a)) ∙ sym (closing-lines class lines (stackOf starts keeps lefts d) e f);
+pub advanced-closes : (class come lines kept d : ℕ) (steps : List ℕ) {steps′ : List ℕ} {l m d′ : ℕ} → ¬ (class ≡ 0) → ¬ (class ≡ 1) → Closed steps d steps′ l m d′
+    → MovedOn class come lines kept d steps steps′ l m d′
+advanced-closes class come lines kept d steps e f p = record {
+  is = λ a. p .is a ∙ sym (closing-opened class come lines kept (stackOf steps d) e f);
+  lines-are = λ a. p .lines-are ∙ sym (ap (λ (x : Start). x .lines) (top-is steps d a)) ∙ sym (closing-lines class lines (stackOf steps d) e f);
+  kept-are = λ a. p .kept-are ∙ sym (ap (λ (x : Start). x .kept) (top-is steps d a)) ∙ sym (closing-kept class kept (top noStart (stackOf steps d) .kept) e f);
   alive = p .alive;
   most = omega (arith, p .most);
-  bounded = λ b q k. (bound-less starts d d′ b (p .most) k, subst (λ (n : ℕ). n ≤ b) (sym h) (bound-top starts d b k));
-  starts-length = refl;
-  lefts-length = p .lefts-length;
+  bounded = λ b q k. (p .bounded b k, subst (λ (n : ℕ). n ≤ b) (sym (p .lines-are)) (bound-top steps d b k));
+  steps-length = p .steps-length;
 }

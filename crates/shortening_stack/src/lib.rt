@@ -13,17 +13,17 @@ ghost use Rattle.number_bytes.specs.Numbers.{unsigned};
 ghost use Rattle.shortening_stack.specs.Outline.{outlineBy, LaidBy};
 
 // A row 0x10 to 0x12 makes a line, a branching row one for each of its branches, a close ends a branch; a claim is no row.
-pub const MAKES: u8 = 0;
+pub const MAKES: u16 = 0;
 
-pub const BRANCHES: u8 = 1;
+pub const BRANCHES: u16 = 1;
 
-pub const CLOSES: u8 = 2;
+pub const CLOSES: u16 = 2;
 
-pub const CLAIMS: u8 = 3;
+pub const CLAIMS: u16 = 3;
 
 // The lines that it names, the second the first where there is one only; how many branches are to come behind its first.
 pub struct Outline {
-    pub class: u8,
+    pub class: u16,
     pub first: u16,
     pub second: u16,
     pub come: u16,
@@ -48,7 +48,7 @@ fn rounding_at(p: &[u8], at: usize) -> u16
     unsigned_at(p, at, MULTIPLIER_BYTES) as u16
 }
 
-fn outlined(class: u8, first: u16, second: u16, come: u16) -> Outline
+fn outlined(class: u16, first: u16, second: u16, come: u16) -> Outline
     ensures { λ r. ⌜ r ≡ record { class = class; first = first; second = second; come = come } ⌝ }
 {
     Outline {

@@ -1,87 +1,90 @@
-// The branches to come, innermost first: for each branching step that has some, how many, and the line count with which they start.
+// The branches to come, innermost first: for each branching step that has some, one number.
+// specs/Stack.antt has what stands in it.
 ghost use mathlib.Core.Path.{_≡_};
 ghost use Prim.Native.Nat.{_<_, _≤_};
 use crate::BRANCHES;
 use crate::MAKES;
 ghost use lib.ListN.{length};
-ghost use Rattle.shortening_stack.specs.Stack.{topOf, Pushed, Popped, MovedOn};
+ghost use Rattle.shortening_stack.specs.Stack.{Pushed, Closed, MovedOn};
+
+// In a step: with how many lines its branches start, in the two low bytes; how many of these are kept, in the next two; and how
+// many branches are to come.
+const KEPT: u64 = 0x1_0000;
+
+const LEFT: u64 = 0x1_0000_0000;
 
 // One step more, unless it has no branches to come.
-pub fn push(starts: &mut [u16], lefts: &mut [u16], depth: usize, start: u16, left: u16) -> usize
-    requires { ⌜ depth < length (now starts) ⌝ }
-    requires { ⌜ depth < length (now lefts) ⌝ }
-    ensures { λ r. ⌜ Pushed (now (starts .entry)) (now (lefts .entry)) depth start left (now (starts .exit)) (now (lefts .exit)) r ⌝ }
+fn push(steps: &mut [u64], depth: usize, lines: u16, kept: u16, left: u16) -> usize
+    requires { ⌜ depth < length (now steps) ⌝ }
+    ensures { λ r. ⌜ Pushed (now (steps .entry)) depth lines kept left (now (steps .exit)) r ⌝ }
 {
     if left == 0 {
         return depth;
     }
-    starts[depth] = start;
-    lefts[depth] = left;
+    steps[depth] = lines as u64 + kept as u64 * KEPT + left as u64 * LEFT;
     depth + 1
 }
 
-// The number on top; 0 where there is none.
-pub fn top(starts: &[u16], depth: usize) -> u16
-    requires { ⌜ depth ≤ length (now starts) ⌝ }
-    ensures { λ r. ⌜ r ≡ topOf (now (starts .entry)) depth ⌝ }
-{
-    if depth == 0 {
-        return 0;
-    }
-    starts[depth - 1]
-}
-
-// A branch of the step on top is no longer to come.
-pub fn pop(lefts: &mut [u16], depth: usize) -> usize
-    requires { ⌜ depth ≤ length (now lefts) ⌝ }
-    ensures { λ r. ⌜ Popped (now (lefts .entry)) depth (now (lefts .exit)) r ⌝ }
-{
-    if depth == 0 {
-        return 0;
-    }
-    let left = lefts[depth - 1];
-    if left <= 1 {
-        return depth - 1;
-    }
-    lefts[depth - 1] = left - 1;
-    depth
-}
-
-// How many lines stand on the branch, and how many steps have branches to come.
+// How many lines stand on the branch, how many of them are kept, and how many steps have branches to come.
 pub struct Moved {
     pub lines: u16,
+    pub kept: u16,
     pub depth: usize,
 }
 
-// A row goes by: one more line, one more step, or the end of a branch.
+// A branch ends, and the next one to come starts; none is to come, and none has lines, where there is no step.
+fn end_branch(steps: &mut [u64], depth: usize) -> Moved
+    requires { ⌜ depth ≤ length (now steps) ⌝ }
+    ensures { λ r. ⌜ Closed (now (steps .entry)) depth (now (steps .exit)) (r .lines) (r .kept) (r .depth) ⌝ }
+{
+    if depth == 0 {
+        return Moved {
+            lines: 0,
+            kept: 0,
+            depth,
+        };
+    }
+    let last = depth - 1;
+    let step = steps[last];
+    let lines = (step % KEPT) as u16;
+    let kept = (step / KEPT % KEPT) as u16;
+    if step / LEFT <= 1 {
+        return Moved {
+            lines,
+            kept,
+            depth: last,
+        };
+    }
+    steps[last] = step - LEFT;
+    Moved { lines, kept, depth }
+}
+
+// A row that stays goes by: one more line, one more step, or the end of a branch.
 pub fn advance(
-    class: u8,
+    class: u16,
     come: u16,
     lines: u16,
+    kept: u16,
     depth: usize,
-    starts: &mut [u16],
-    lefts: &mut [u16],
+    steps: &mut [u64],
 ) -> Moved
-    requires { ⌜ (lines < 0xFFFF) × (depth < length (now starts)) × (depth < length (now lefts)) ⌝ }
-    ensures { λ r. ⌜ MovedOn class come lines depth (now (starts .entry)) (now (lefts .entry)) (now (starts .exit)) (now (lefts .exit)) (r .lines) (r .depth) ⌝ }
+    requires { ⌜ (lines < 0xFFFF) × (kept < 0xFFFF) × (depth < length (now steps)) ⌝ }
+    ensures { λ r. ⌜ MovedOn class come lines kept depth (now (steps .entry)) (now (steps .exit)) (r .lines) (r .kept) (r .depth) ⌝ }
 {
     if class == MAKES {
         return Moved {
             lines: lines + 1,
+            kept: kept + 1,
             depth,
         };
     }
     if class == BRANCHES {
-        let more = push(starts, lefts, depth, lines + 1, come);
+        let more = push(steps, depth, lines + 1, kept + 1, come);
         return Moved {
             lines: lines + 1,
+            kept: kept + 1,
             depth: more,
         };
     }
-    let first = top(starts, depth);
-    let fewer = pop(lefts, depth);
-    Moved {
-        lines: first,
-        depth: fewer,
-    }
+    end_branch(steps, depth)
 }

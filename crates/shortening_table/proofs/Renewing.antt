@@ -6,7 +6,7 @@ use native.Mathlib.Omega.{arith}
 use lib.ListN.{length, getD, set, take, drop, length-drop, List·getD-eq-default}
 use lib.Seq.{paste, length-take-le, getD-take, getD-drop}
 use Rattle.lines.proofs.Fill.{Filled, filled-length, filled-next}
-use Rattle.shortening_table.specs.Table.{renewed, keptAfter}
+use Rattle.shortening_table.specs.Table.{renewed}
 
 module _ (from : List ℕ) (start n : ℕ) {to₀ : List ℕ} {at : ℕ} {to : List ℕ} {i : ℕ} (h : start + n ≤ length from) (k : at + n ≤ length to₀) (v : Filled to₀ at (take n (drop start from)) to i) where
   len : length (take n (drop start from)) ≡ n
@@ -34,14 +34,3 @@ renewed-line zero gones lines kept h e = refl
 renewed-line (suc zero) gones lines kept h e = refl
 renewed-line (suc (suc zero)) gones lines kept h e = absurd (e refl)
 renewed-line (suc (suc (suc c))) gones lines kept h e = absurd (omega (arith, h))
-
-pub kept-made : (class kept first : ℕ) → class ≡ 0 → kept + 1 ≡ keptAfter class kept first
-kept-made class kept first e = (let z : kept + 1 ≡ suc kept = omega arith in z) ∙ sym (ap (λ (c : ℕ). keptAfter c kept first) e)
-
-pub kept-branch : (class kept first : ℕ) → class ≡ 1 → kept + 1 ≡ keptAfter class kept first
-kept-branch class kept first e = (let z : kept + 1 ≡ suc kept = omega arith in z) ∙ sym (ap (λ (c : ℕ). keptAfter c kept first) e)
-
-pub kept-close : (class kept first : ℕ) → ¬ (class ≡ 0) → ¬ (class ≡ 1) → first ≡ keptAfter class kept first
-kept-close zero kept first e f = absurd (e refl)
-kept-close (suc zero) kept first e f = absurd (f refl)
-kept-close (suc (suc c)) kept first e f = refl

@@ -27,13 +27,12 @@ use Rattle.shortening.proofs.Renumbering.{anew-none, anew-more, numbers-fit, le
 use Rattle.shortening.proofs.Filed.{line-width, never-cut}
 use Rattle.shortening_stack.specs.declared.Outline.{Outline}
 use Rattle.shortening_stack.specs.Outline.{outline, outlineOf, outlineBy, LaidBy}
-use Rattle.shortening_stack.specs.Stack.{stackOf, Alive, Same, topOf, Bound, linesAfter, openedAfter, MovedOn}
+use Rattle.shortening_stack.specs.Stack.{stackOf, Alive, Bound, linesAfter, keptAfter, openedAfter, MovedOn}
 use Rattle.shortening_stack.proofs.Outlines.{outline-is, laid-by}
-use Rattle.shortening_stack.proofs.Stacks.{same-set, top-is}
 use Rattle.shortening_marks.specs.Gathered.{rowsOf, Stating}
 use Rattle.shortening_marks.proofs.Gathering.{Head, head-of, nothing-left, rows-claim, rows-row, bound-more}
 use Rattle.shortening_marks.proofs.Reported.{stated-entries}
-use Rattle.shortening_table.specs.Table.{Fewer, renewed, keptAfter, numbered, Puttable, PutField, newNumber, Keepable, PutKept}
+use Rattle.shortening_table.specs.Table.{Fewer, renewed, numbered, Puttable, PutField, newNumber, Keepable, PutKept}
 use Rattle.shortening_table.specs.Written.{writtenFrom, tableFrom, Tells, TableWritable}
 use Rattle.shortening_table.proofs.Bytes.{claims, claim-field, one-more}
 
@@ -161,7 +160,7 @@ fates-row : (y : Entry) (es : List Entry) (reported : List ℕ) (b : Bool) (f : 
     → retentions (y ∷ es) reported b f lines kept opened
     ≡ retention (rowKept (outlineOf y .class) (top 0 reported)) f
     ∷ retentions es (pop reported) (rowKept (outlineOf y .class) (top 0 reported)) (renewBy (outlineOf y .class) f lines kept) (linesAfter (outlineOf y .class) lines opened)
-    (keptBy (outlineOf y .class) (rowKept (outlineOf y .class) (top 0 reported)) kept (top noStart opened .kept)) (openedAfter (outlineOf y .class) (outlineOf y .come) lines (suc kept) opened)
+    (keptBy (outlineOf y .class) (rowKept (outlineOf y .class) (top 0 reported)) kept (top noStart opened .kept)) (openedAfter (outlineOf y .class) (outlineOf y .come) lines kept opened)
 fates-row (row (Derive (Combine s t α β))) es reported b f lines kept opened d = refl
 fates-row (row (Derive (Reduce s t α))) es reported b f lines kept opened d = refl
 fates-row (row (Derive (Scale t α))) es reported b f lines kept opened d = refl
@@ -265,7 +264,7 @@ under-top : (opened : List Start) → All Under opened → top noStart opened .k
 under-top [] a = omega arith
 under-top (s ∷ opened) (cons u a) = u .under
 
-under-after : (class come lines kept : ℕ) (opened : List Start) → kept ≤ lines → All Under opened → All Under (openedAfter class come lines (suc kept) opened)
+under-after : (class come lines kept : ℕ) (opened : List Start) → kept ≤ lines → All Under opened → All Under (openedAfter class come lines kept opened)
 under-after zero come lines kept opened h a = a
 under-after (suc zero) come lines kept opened h a = under-times come (branchStart (suc lines) (suc kept)) opened (record { under = omega (arith, h) }) a
 under-after (suc (suc c)) come lines kept opened h a = under-pop opened a
@@ -274,10 +273,6 @@ kept-under : (class lines kept : ℕ) (opened : List Start) → kept ≤ lines �
 kept-under zero lines kept opened h a = omega (arith, h)
 kept-under (suc zero) lines kept opened h a = omega (arith, h)
 kept-under (suc (suc c)) lines kept opened h a = under-top opened a
-
-same-top : (d : ℕ) (xs ys : List ℕ) → Same d xs ys → topOf xs d ≡ topOf ys d
-same-top zero xs ys s = refl
-same-top (suc d) xs ys s = s .same d (omega arith)
 
 -- ---- one field more
 nothing-written : (out : List ℕ) (to : ℕ) → sets out to (fileOf []) ≡ out
@@ -296,32 +291,30 @@ one-written e f i true ds is n l out to =
 one-written e f i false ds is n l out to = refl
 
 -- ---- the invariant
-pub record Writing (p : List ℕ) (at e K n : ℕ) (report gones₀ starts₀ keeps₀ lefts₀ out₀ : List ℕ) (o : ℕ) (gones starts keeps lefts out : List ℕ) (here to lines kept depth rows : ℕ) (stays : Bool) : Type 0 where
-  pub able : TableWritable e K (fieldsAt p at) n report gones₀ starts₀ keeps₀ lefts₀ out₀ o
+pub record Writing (p : List ℕ) (at e K n : ℕ) (report gones₀ steps₀ out₀ : List ℕ) (o : ℕ) (gones steps out : List ℕ) (here to lines kept depth rows : ℕ) (stays : Bool) : Type 0 where
+  pub able : TableWritable e K (fieldsAt p at) n report gones₀ steps₀ out₀ o
   pub es : List Entry
   pub stating : Stating e K (fieldsAt p here) es
   pub tells : Tells es (drop rows report)
   pub new : ℕ → ℕ
   pub new-is : (j : ℕ) → new j ≡ newNumber gones j
   pub rows-are : rows + rowsOf es ≡ rowsOf (able .es)
-  pub alive : Alive lefts depth
+  pub alive : Alive steps depth
   pub depth-most : depth ≤ rows
   pub lines-most : lines ≤ n + rows
-  pub bounded : Bound starts depth (n + rows)
+  pub bounded : Bound steps depth (n + rows)
   pub kept-most : kept ≤ lines
-  pub under : All Under (stackOf starts keeps lefts depth)
+  pub under : All Under (stackOf steps depth)
   pub fewer : Fewer gones
   pub gones-length : length gones ≡ length gones₀
-  pub starts-length : length starts ≡ length starts₀
-  pub keeps-length : length keeps ≡ length keeps₀
-  pub lefts-length : length lefts ≡ length lefts₀
+  pub steps-length : length steps ≡ length steps₀
   pub out-length : length out ≡ length out₀
   -- what is left to write from here is the whole from the start
-  pub rest : sets out to (writtenFrom e es (drop rows report) stays new lines kept (stackOf starts keeps lefts depth) (listOf (fieldsAt p here))) ≡ sets out₀ o (tableFrom e K n (fieldsAt p at) report)
-  pub room : to + length (writtenFrom e es (drop rows report) stays new lines kept (stackOf starts keeps lefts depth) (listOf (fieldsAt p here))) ≤ length out
+  pub rest : sets out to (writtenFrom e es (drop rows report) stays new lines kept (stackOf steps depth) (listOf (fieldsAt p here))) ≡ sets out₀ o (tableFrom e K n (fieldsAt p at) report)
+  pub room : to + length (writtenFrom e es (drop rows report) stays new lines kept (stackOf steps depth) (listOf (fieldsAt p here))) ≤ length out
 
-pub writing-start : {p : List ℕ} {at e K n : ℕ} {report gones starts keeps lefts out : List ℕ} {o : ℕ} → TableWritable e K (fieldsAt p at) n report gones starts keeps lefts out o
-    → Writing p at e K n report gones starts keeps lefts out o gones starts keeps lefts out at o n n 0 0 true
+pub writing-start : {p : List ℕ} {at e K n : ℕ} {report gones steps out : List ℕ} {o : ℕ} → TableWritable e K (fieldsAt p at) n report gones steps out o
+    → Writing p at e K n report gones steps out o gones steps out at o n n 0 0 true
 writing-start {p} {at} {e} {K} {n} {report} {gones} {out = out} {o = o} a =
     let q = stated-entries e K (fieldsAt p at) (a .es) (a .stating) in
     let same : tableFrom e K n (fieldsAt p at) report ≡ writtenFrom e (a .es) report true (λ j. j) n n [] (listOf (fieldsAt p at)) = ap (λ (xs : List Entry). writtenFrom e xs report true (λ j. j) n n [] (listOf (fieldsAt p at))) q in
@@ -341,16 +334,14 @@ writing-start {p} {at} {e} {K} {n} {report} {gones} {out = out} {o = o} a =
       under = nil;
       fewer = record { fewer = λ j h. let c : getD gones j 0 ≡ 0 = a .clear j in omega (arith, c) };
       gones-length = refl;
-      starts-length = refl;
-      keeps-length = refl;
-      lefts-length = refl;
+      steps-length = refl;
       out-length = refl;
       rest = ap (sets out o) (sym same);
       room = subst (λ (bs : List ℕ). o + length bs ≤ length out) same (a .room);
     }
 
-module _ {p : List ℕ} {at e K n : ℕ} {report gones₀ starts₀ keeps₀ lefts₀ out₀ : List ℕ} {o : ℕ} {gones starts keeps lefts out : List ℕ} {here to lines kept depth rows : ℕ} {stays : Bool}
-    (v : Writing p at e K n report gones₀ starts₀ keeps₀ lefts₀ out₀ o gones starts keeps lefts out here to lines kept depth rows stays) where
+module _ {p : List ℕ} {at e K n : ℕ} {report gones₀ steps₀ out₀ : List ℕ} {o : ℕ} {gones steps out : List ℕ} {here to lines kept depth rows : ℕ} {stays : Bool}
+    (v : Writing p at e K n report gones₀ steps₀ out₀ o gones steps out here to lines kept depth rows stays) where
   -- bytes that are no whole field state nothing
   pub writing-cut : {a : ℕ} → fieldsAt p here ≡ cut a → ⊥
   writing-cut {a} q =
@@ -361,7 +352,7 @@ module _ {p : List ℕ} {at e K n : ℕ} {report gones₀ starts₀ keeps₀ lef
   writing-done {a} q =
       let none : v .es ≡ [] = nothing-left e K a (v .es) (subst (λ (fs : Fields). Stating e K fs (v .es)) q (v .stating)) in
       sym (nothing-written out to)
-      ∙ sym (ap (λ (es : List Entry). sets out to (writtenFrom e es (drop rows report) stays (v .new) lines kept (stackOf starts keeps lefts depth) (listOf (fieldsAt p here)))) none)
+      ∙ sym (ap (λ (es : List Entry). sets out to (writtenFrom e es (drop rows report) stays (v .new) lines kept (stackOf steps depth) (listOf (fieldsAt p here)))) none)
       ∙ v .rest
 
   module _ {a tag start len next : ℕ} (k : Starts p here a tag start len next) where
@@ -372,7 +363,7 @@ module _ {p : List ℕ} {at e K n : ℕ} {report gones₀ starts₀ keeps₀ lef
     field = item tag (take len (drop start p))
 
     abbrev opened : List Start
-    opened = stackOf starts keeps lefts depth
+    opened = stackOf steps depth
 
     head : Head e K (fieldsAt p next) field (v .es)
     head = head-of e K (record { at = a; tag = tag; contents = take len (drop start p) }) (fieldsAt p next) (v .es) (subst (λ (fs : Fields). Stating e K fs (v .es)) (k .is) (v .stating))
@@ -457,7 +448,7 @@ module _ {p : List ℕ} {at e K n : ℕ} {report gones₀ starts₀ keeps₀ lef
       claim-keepable = keepable stays _ claim-fates
 
       pub writing-claim : {out′ : List ℕ} {to′ : ℕ} → PutKept p tag start len (edition e .lineWidth) 0 0 stays gones out to out′ to′
-          → Writing p at e K n report gones₀ starts₀ keeps₀ lefts₀ out₀ o gones starts keeps lefts out′ next to′ lines kept depth rows stays
+          → Writing p at e K n report gones₀ steps₀ out₀ o gones steps out′ next to′ lines kept depth rows stays
       writing-claim u =
           let f : 0 ≡ outlineOf (head .y) .first = sym (ap (λ (s : Outline). s .first) claim-outline) in
           let g : 0 ≡ outlineOf (head .y) .second = sym (ap (λ (s : Outline). s .second) claim-outline) in
@@ -477,9 +468,7 @@ module _ {p : List ℕ} {at e K n : ℕ} {report gones₀ starts₀ keeps₀ lef
             under = v .under;
             fewer = v .fewer;
             gones-length = v .gones-length;
-            starts-length = v .starts-length;
-            keeps-length = v .keeps-length;
-            lefts-length = v .lefts-length;
+            steps-length = v .steps-length;
             out-length = u .out-length ∙ v .out-length;
             rest = rest-next stays _ claim-fates f g u;
             room = room-next stays _ claim-fates f g u;
@@ -519,7 +508,7 @@ module _ {p : List ℕ} {at e K n : ℕ} {report gones₀ starts₀ keeps₀ lef
 
       -- what follows a row of a class, which stays or not
       abbrev behind : Bool → (class come : ℕ) → List Retention
-      behind b class come = retentions (head .others) (drop (rows + 1) report) b (renewBy class (v .new) lines kept) (linesAfter class lines opened) (keptBy class b kept (top noStart opened .kept)) (openedAfter class come lines (suc kept) opened)
+      behind b class come = retentions (head .others) (drop (rows + 1) report) b (renewBy class (v .new) lines kept) (linesAfter class lines opened) (keptBy class b kept (top noStart opened .kept)) (openedAfter class come lines kept opened)
 
       row-fates : (b : Bool) → rowKept (outlineOf (head .y) .class) (getD report rows 0) ≡ b
           → retentions (v .es) (drop rows report) stays (v .new) lines kept opened ≡ retention b (v .new) ∷ behind b (outlineOf (head .y) .class) (outlineOf (head .y) .come)
@@ -544,7 +533,7 @@ module _ {p : List ℕ} {at e K n : ℕ} {report gones₀ starts₀ keeps₀ lef
         gone-renewable = (line-there, v .kept-most, omega arith)
 
         pub writing-gone : {gones′ : List ℕ} → gones′ ≡ renewed 0 gones lines kept
-            → Writing p at e K n report gones₀ starts₀ keeps₀ lefts₀ out₀ o gones′ starts keeps lefts out next to (lines + 1) kept depth (rows + 1) false
+            → Writing p at e K n report gones₀ steps₀ out₀ o gones′ steps out next to (lines + 1) kept depth (rows + 1) false
         writing-gone {gones′} q =
             let u : PutKept p tag start len (edition e .lineWidth) (outlineOf (head .y) .first) (outlineOf (head .y) .second) false gones out to out to = put-goes refl in
             record {
@@ -558,14 +547,12 @@ module _ {p : List ℕ} {at e K n : ℕ} {report gones₀ starts₀ keeps₀ lef
               alive = v .alive;
               depth-most = omega (arith, v .depth-most);
               lines-most = omega (arith, v .lines-most);
-              bounded = bound-more starts depth (n + rows) (n + (rows + 1)) (omega arith) (v .bounded);
+              bounded = bound-more steps depth (n + rows) (n + (rows + 1)) (omega arith) (v .bounded);
               kept-most = omega (arith, v .kept-most);
               under = v .under;
               fewer = subst Fewer (sym q) (fewer-set gones lines kept line-there (v .fewer));
               gones-length = ap length q ∙ length-set gones lines (lines - kept) ∙ v .gones-length;
-              starts-length = v .starts-length;
-              keeps-length = v .keeps-length;
-              lefts-length = v .lefts-length;
+              steps-length = v .steps-length;
               out-length = v .out-length;
               rest = rest-next false _ gone-fates refl refl u;
               room = room-next false _ gone-fates refl refl u;
@@ -579,24 +566,12 @@ module _ {p : List ℕ} {at e K n : ℕ} {report gones₀ starts₀ keeps₀ lef
         pub row-keepable : Keepable p tag start len (edition e .lineWidth) true gones out to
         row-keepable = keepable true _ stay-fates
 
-        pub stack-room : (lines < 0xFFFF) × (depth < length starts) × (depth < length lefts)
+        pub stack-room : (lines < 0xFFFF) × (kept < 0xFFFF) × (depth < length steps)
         stack-room = (
           lines-fit,
-          omega (arith, more-rows, v .depth-most, v .able .starts-room, v .starts-length),
-          omega (arith, more-rows, v .depth-most, v .able .lefts-room, v .lefts-length),
-        )
-
-        pub keeps-room : (kept < 0xFFFF) × (depth < length keeps)
-        keeps-room = (
           omega (arith, lines-fit, v .kept-most),
-          omega (arith, more-rows, v .depth-most, v .able .keeps-room, v .keeps-length),
+          omega (arith, more-rows, v .depth-most, v .able .steps-room, v .steps-length),
         )
-
-        pub keeps-there : (kept < 0xFFFF) × (depth ≤ length (set keeps depth (kept + 1)))
-        keeps-there = (keeps-room .0, omega (arith, keeps-room .1, length-set keeps depth (kept + 1)))
-
-        pub depth-fits : depth < 0xFFFF
-        depth-fits = omega (arith, more-rows, v .depth-most, v .able .few)
 
         module _ {x : Outline} (q : x ≡ outlineBy (edition e .lineWidth) tag (drop start p)) where
           is-outline : x ≡ outlineOf (head .y)
@@ -605,35 +580,28 @@ module _ {p : List ℕ} {at e K n : ℕ} {report gones₀ starts₀ keeps₀ lef
           pub row-renewable : (lines < length gones) × (kept ≤ lines) × (x .class ≤ 2)
           row-renewable = (line-there, v .kept-most, subst (λ (z : Outline). z .class ≤ 2) (sym is-outline) few-classes)
 
-          module _ {out′ gones′ keeps′ starts′ lefts′ : List ℕ} {to′ kept′ lines′ depth′ : ℕ} (u : PutKept p tag start len (edition e .lineWidth) (x .first) (x .second) true gones out to out′ to′)
-              (g : gones′ ≡ renewed (x .class) gones lines kept) (t : keeps′ ≡ set keeps depth (kept + 1)) (m : kept′ ≡ keptAfter (x .class) kept (topOf keeps′ depth))
-              (w : MovedOn (x .class) (x .come) lines depth starts lefts starts′ lefts′ lines′ depth′) where
-            same-keeps : Same depth keeps′ keeps
-            same-keeps = subst (λ (xs : List ℕ). Same depth xs keeps) (sym t) (same-set depth keeps (kept + 1))
-
-            kept-top : getD keeps′ depth 0 ≡ suc kept
-            kept-top = ap (λ (xs : List ℕ). getD xs depth 0) t ∙ getD-set-same keeps depth (kept + 1) 0 (keeps-room .1) ∙ (let z : kept + 1 ≡ suc kept = omega arith in z)
-
-            opened-is : stackOf starts′ keeps′ lefts′ depth′ ≡ openedAfter (x .class) (x .come) lines (suc kept) opened
-            opened-is = w .is (v .alive) keeps keeps′ same-keeps ∙ ap (λ (j : ℕ). openedAfter (x .class) (x .come) lines j opened) kept-top
+          module _ {out′ gones′ steps′ : List ℕ} {to′ lines′ kept′ depth′ : ℕ} (u : PutKept p tag start len (edition e .lineWidth) (x .first) (x .second) true gones out to out′ to′)
+              (g : gones′ ≡ renewed (x .class) gones lines kept) (w : MovedOn (x .class) (x .come) lines kept depth steps steps′ lines′ kept′ depth′) where
+            opened-is : stackOf steps′ depth′ ≡ openedAfter (x .class) (x .come) lines kept opened
+            opened-is = w .is (v .alive)
 
             lines-is : lines′ ≡ linesAfter (x .class) lines opened
-            lines-is = w .lines-are (v .alive) keeps
+            lines-is = w .lines-are (v .alive)
 
             kept-is : kept′ ≡ keptAfter (x .class) kept (top noStart opened .kept)
-            kept-is = m ∙ ap (keptAfter (x .class) kept) (same-top depth keeps′ keeps same-keeps ∙ sym (ap (λ (z : Start). z .kept) (top-is starts keeps lefts depth (v .alive))))
+            kept-is = w .kept-are (v .alive)
 
             after : retentions (v .es) (drop rows report) stays (v .new) lines kept opened
-                ≡ retention true (v .new) ∷ retentions (head .others) (drop (rows + 1) report) true (renewBy (x .class) (v .new) lines kept) lines′ kept′ (stackOf starts′ keeps′ lefts′ depth′)
+                ≡ retention true (v .new) ∷ retentions (head .others) (drop (rows + 1) report) true (renewBy (x .class) (v .new) lines kept) lines′ kept′ (stackOf steps′ depth′)
             after =
                 stay-fates
                 ∙ ap (λ (z : Outline). retention true (v .new) ∷ behind true (z .class) (z .come)) (sym is-outline)
-                ∙ ap₂ (λ (i j : ℕ). retention true (v .new) ∷ retentions (head .others) (drop (rows + 1) report) true (renewBy (x .class) (v .new) lines kept) i j (openedAfter (x .class) (x .come) lines (suc kept) opened)) (sym lines-is) (kept-stays (x .class) kept (top noStart opened .kept) ∙ sym kept-is)
+                ∙ ap₂ (λ (i j : ℕ). retention true (v .new) ∷ retentions (head .others) (drop (rows + 1) report) true (renewBy (x .class) (v .new) lines kept) i j (openedAfter (x .class) (x .come) lines kept opened)) (sym lines-is) (kept-stays (x .class) kept (top noStart opened .kept) ∙ sym kept-is)
                 ∙ ap (λ (ss : List Start). retention true (v .new) ∷ retentions (head .others) (drop (rows + 1) report) true (renewBy (x .class) (v .new) lines kept) lines′ kept′ ss) (sym opened-is)
 
-            pub writing-row : Writing p at e K n report gones₀ starts₀ keeps₀ lefts₀ out₀ o gones′ starts′ keeps′ lefts′ out′ next to′ lines′ kept′ depth′ (rows + 1) true
+            pub writing-row : Writing p at e K n report gones₀ steps₀ out₀ o gones′ steps′ out′ next to′ lines′ kept′ depth′ (rows + 1) true
             writing-row =
-                let grown = w .bounded (n + (rows + 1)) (omega (arith, v .lines-most)) (bound-more starts depth (n + rows) (n + (rows + 1)) (omega arith) (v .bounded)) in
+                let grown = w .bounded (n + (rows + 1)) (omega (arith, v .lines-most)) (bound-more steps depth (n + rows) (n + (rows + 1)) (omega arith) (v .bounded)) in
                 let f : x .first ≡ outlineOf (head .y) .first = ap (λ (z : Outline). z .first) is-outline in
                 let f₂ : x .second ≡ outlineOf (head .y) .second = ap (λ (z : Outline). z .second) is-outline in
                 record {
@@ -652,9 +620,7 @@ module _ {p : List ℕ} {at e K n : ℕ} {report gones₀ starts₀ keeps₀ lef
                   under = subst (All Under) (sym opened-is) (under-after (x .class) (x .come) lines kept opened (v .kept-most) (v .under));
                   fewer = subst Fewer (sym g) (fewer-renewed (x .class) gones lines kept line-there (v .fewer));
                   gones-length = ap length g ∙ renewed-length (x .class) gones lines kept ∙ v .gones-length;
-                  starts-length = w .starts-length ∙ v .starts-length;
-                  keeps-length = ap length t ∙ length-set keeps depth (kept + 1) ∙ v .keeps-length;
-                  lefts-length = w .lefts-length ∙ v .lefts-length;
+                  steps-length = w .steps-length ∙ v .steps-length;
                   out-length = u .out-length ∙ v .out-length;
                   rest = rest-next true _ after f f₂ u;
                   room = room-next true _ after f f₂ u;

@@ -40,12 +40,6 @@ renewed zero gones lines kept = set gones lines (lines - kept)
 renewed (suc zero) gones lines kept = set gones lines (lines - kept)
 renewed (suc (suc _)) gones lines kept = gones
 
--- How many lines are kept on the branch behind a row that stays; `first` are those with which the next branch starts.
-abbrev pub keptAfter : (class kept first : ℕ) → ℕ
-keptAfter zero kept first = suc kept
-keptAfter (suc zero) kept first = suc kept
-keptAfter (suc (suc _)) kept first = first
-
 -- ---- a field with new line numbers
 -- The contents, whose first `count` numbers of w bytes are these.
 abbrev pub numbered : (count w first second : ℕ) → List ℕ → List ℕ

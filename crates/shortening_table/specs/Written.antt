@@ -28,15 +28,13 @@ Tells (claim _ _ ∷ es) reported = Tells es reported
 Tells (row r ∷ es) reported = (top 0 reported ≡ 0 → outlineOf (row r) .class ≡ 0) × Tells es (pop reported)
 
 -- The arrays have room for the rows and lines of what the fields state, no line is gone yet, and the output has room for the table.
-pub record TableWritable (e K : ℕ) (fs : Fields) (n : ℕ) (report gones starts keeps lefts out : List ℕ) (o : ℕ) : Type 0 where
+pub record TableWritable (e K : ℕ) (fs : Fields) (n : ℕ) (report gones steps out : List ℕ) (o : ℕ) : Type 0 where
   pub es : List Entry
   pub stating : Stating e K fs es
   pub tells : Tells es report
   pub report-room : rowsOf es ≤ length report
   pub gones-room : n + rowsOf es ≤ length gones
-  pub starts-room : rowsOf es ≤ length starts
-  pub keeps-room : rowsOf es ≤ length keeps
-  pub lefts-room : rowsOf es ≤ length lefts
+  pub steps-room : rowsOf es ≤ length steps
   pub few : n + rowsOf es < 0xFFFF
   pub clear : (j : ℕ) → getD gones j 0 ≡ 0
   pub room : o + length (tableFrom e K n fs report) ≤ length out

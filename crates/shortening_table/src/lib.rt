@@ -7,12 +7,11 @@ use fields::header::put_head;
 use fields::next_field;
 use forms::line_bytes;
 use number_bytes::copy::copy_bytes;
-use shortening_stack::BRANCHES;
+use shortening_marks::ProofBody;
 use shortening_stack::CLOSES;
 use shortening_stack::MAKES;
 use shortening_stack::outline_at;
 use shortening_stack::stack::advance;
-use shortening_stack::stack::top;
 ghost use mathlib.Core.Path.{_≡_};
 ghost use mathlib.Core.Bool.{true};
 ghost use Rattle.fields.specs.Places.{fieldsAt};
@@ -20,8 +19,7 @@ ghost use Prim.Native.Nat.{_+_, _-_, _≤_, _<_};
 ghost use lib.ListN.{length, getD};
 ghost use lib.Seq.{sets};
 ghost use Rattle.forms.specs.Edition.{edition};
-ghost use Rattle.shortening_stack.specs.Stack.{topOf};
-ghost use Rattle.shortening_table.specs.Table.{Countable, bytesFrom, Fewer, renewed, keptAfter, Puttable, PutField, Keepable, PutKept};
+ghost use Rattle.shortening_table.specs.Table.{Countable, bytesFrom, Fewer, renewed, Puttable, PutField, Keepable, PutKept};
 ghost use Rattle.shortening_table.specs.Written.{TableWritable, tableFrom};
 
 // How many bytes the fields from a place on have that stay.
@@ -79,7 +77,7 @@ fn new_number(gones: &[u16], i: u16) -> u64
 }
 
 // A row whose line is made: how many of the lines before it are gone. A close makes none.
-fn renew(gones: &mut [u16], class: u8, lines: u16, kept: u16)
+fn renew(gones: &mut [u16], class: u16, lines: u16, kept: u16)
     requires { ⌜ (lines < length (now gones)) × (kept ≤ lines) × (class ≤ 2) ⌝ }
     ensures { λ _. ⌜ now (gones .exit) ≡ renewed class (now (gones .entry)) lines kept ⌝ }
 {
@@ -88,20 +86,6 @@ fn renew(gones: &mut [u16], class: u8, lines: u16, kept: u16)
     }
     let j = lines as usize;
     gones[j] = lines - kept;
-}
-
-// How many lines are kept on the branch behind a row that stays.
-fn kept_after(class: u8, kept: u16, keeps: &[u16], depth: usize) -> u16
-    requires { ⌜ (kept < 0xFFFF) × (depth ≤ length (now keeps)) ⌝ }
-    ensures { λ r. ⌜ r ≡ keptAfter class kept (topOf (now (keeps .entry)) depth) ⌝ }
-{
-    if class == MAKES {
-        return kept + 1;
-    }
-    if class == BRANCHES {
-        return kept + 1;
-    }
-    top(keeps, depth)
 }
 
 // A field of a proof of edition e whose first `count` line numbers are written anew: none, one or two.
@@ -168,31 +152,27 @@ fn put_kept(
     o
 }
 
-// The fields from a place on that stay, behind the o first bytes. n lines stand on the branch, all kept.
+// The fields of a proof that stay, behind the o first bytes.
 pub fn put_table(
     p: &[u8],
-    at: usize,
-    e: u8,
-    k: u8,
-    n: u16,
+    body: ProofBody,
     report: &[u8],
     gones: &mut [u16],
-    starts: &mut [u16],
-    keeps: &mut [u16],
-    lefts: &mut [u16],
+    steps: &mut [u64],
     out: &mut [u8],
     o: usize,
 )
-    requires { ⌜ TableWritable e k (fieldsAt (now p) at) n (now report) (now gones) (now starts) (now keeps) (now lefts) (now out) o ⌝ }
-    ensures { λ _. ⌜ now (out .exit) ≡ sets (now (out .entry)) o (tableFrom e k n (fieldsAt (now (p .entry)) at) (now (report .entry))) ⌝ }
+    requires { ⌜ TableWritable (body .edition) (body .k) (fieldsAt (now p) (body .at)) (body .constraints) (now report) (now gones) (now steps) (now out) o ⌝ }
+    ensures { λ _. ⌜ now (out .exit) ≡ sets (now (out .entry)) o (tableFrom (body .edition) (body .k) (body .constraints) (fieldsAt (now (p .entry)) (body .at)) (now (report .entry))) ⌝ }
 {
-    let mut here = at;
+    let mut here = body.at;
     let mut to = o;
-    let mut lines = n;
-    let mut kept = n;
+    let mut lines = body.constraints;
+    let mut kept = lines;
     let mut depth = 0;
     let mut rows = 0;
     let mut stays = true;
+    let e = body.edition;
     loop {
         match next_field(p, here) {
             Next::Field {
@@ -226,10 +206,9 @@ pub fn put_table(
                         to,
                     );
                     renew(gones, x.class, lines, kept);
-                    keeps[depth] = kept + 1;
-                    kept = kept_after(x.class, kept, keeps, depth);
-                    let moved = advance(x.class, x.come, lines, depth, starts, lefts);
+                    let moved = advance(x.class, x.come, lines, kept, depth, steps);
                     lines = moved.lines;
+                    kept = moved.kept;
                     depth = moved.depth;
                     rows += 1;
                 }

@@ -23,11 +23,11 @@ read-header-requires c κs = search needs
 enum-known-edition : tie.Need-enum-known-edition
 enum-known-edition c = search needs
 
-add-n : tie.Need-add-n
-add-n c = record { fits = omega (arith, counts-fit (c .before .before .before .before .before .before .before .before .before .before .before .before .before .before .before .before .before .before .before .pre) (c .before .before .before .before .before .before .before .before .before .before .before .before .before .scan .ensures) (c .before .before .before .before .before .before .before .before .before .before .before .k .given .1) (c .before .before .before .before .before .before .before .before .before .scan2 .ensures) (c .before .before .before .before .before .before .before .second .given .1) (c .before .before .before .before .before .read-header .ensures)) }
+add-constraints : tie.Need-add-constraints
+add-constraints c = record { fits = omega (arith, counts-fit (c .before .before .before .before .before .before .before .before .before .before .before .before .before .before .before .before .before .before .before .pre) (c .before .before .before .before .before .before .before .before .before .before .before .before .before .scan .ensures) (c .before .before .before .before .before .before .before .before .before .before .before .k .given .1) (c .before .before .before .before .before .before .before .before .before .scan2 .ensures) (c .before .before .before .before .before .before .before .second .given .1) (c .before .before .before .before .before .read-header .ensures)) }
 
-cast-n : tie.Need-cast-n
-cast-n c = record { fits = omega (arith, counts-fit (c .before .before .before .before .before .before .before .before .before .before .before .before .before .before .before .before .before .before .before .pre) (c .before .before .before .before .before .before .before .before .before .before .before .before .before .scan .ensures) (c .before .before .before .before .before .before .before .before .before .before .before .k .given .1) (c .before .before .before .before .before .before .before .before .before .scan2 .ensures) (c .before .before .before .before .before .before .before .second .given .1) (c .before .before .before .before .before .read-header .ensures)) }
+cast-constraints : tie.Need-cast-constraints
+cast-constraints c = record { fits = omega (arith, counts-fit (c .before .before .before .before .before .before .before .before .before .before .before .before .before .before .before .before .before .before .before .pre) (c .before .before .before .before .before .before .before .before .before .before .before .before .before .scan .ensures) (c .before .before .before .before .before .before .before .before .before .before .before .k .given .1) (c .before .before .before .before .before .before .before .before .before .scan2 .ensures) (c .before .before .before .before .before .before .before .second .given .1) (c .before .before .before .before .before .read-header .ensures)) }
 
 shorten-few-requires : tie.Need-shorten-few-requires
 shorten-few-requires c κs = stated-few (c .before .before .before .before .before .before .before .before .before .before .before .before .before .before .before .before .before .before .before .before .before .before .pre) (has-begun (c .before .before .before .before .before .before .before .before .before .before .before .before .before .before .before .before .before .before .before .before .before .before .pre) (c .before .before .before .before .before .before .before .before .before .before .before .before .before .before .before .before .scan .ensures) (c .before .before .before .before .before .before .before .before .before .before .before .before .before .before .k .given .1) (c .before .before .before .before .before .before .before .before .before .before .before .before .scan2 .ensures) (c .before .before .before .before .before .before .before .before .before .before .second .given .1) (c .before .before .before .before .before .before .before .before .read-header .ensures) (c .before .before .before .before .before .before .edition .given .1)) (c .before .before .if1 .taken)
@@ -81,4 +81,4 @@ returns-5 : tie.Need-returns-5
 returns-5 c = absurd (scans-A (c .before .before .before .before .before .before .before .before .before .pre) (c .before .before .before .scan .ensures) (c .before .enum-told3 .given .1))
 
 pub shorten-accepted-spec : {M : Type 1} → statement M
-shorten-accepted-spec = tie.close (tie.spec scan-requires enum-known-k scan-requires-2 enum-known-second read-header-requires enum-known-edition add-n cast-n shorten-few-requires same-length same-length-2 returns shorten-any-requires enum-told refused-requires enum-told-2 refused-requires-2 enum-told-3 refused-requires-3 same-length-3 same-length-4 returns-2 returns-3 returns-4 returns-5)
+shorten-accepted-spec = tie.close (tie.spec scan-requires enum-known-k scan-requires-2 enum-known-second read-header-requires enum-known-edition add-constraints cast-constraints shorten-few-requires same-length same-length-2 returns shorten-any-requires enum-told refused-requires enum-told-2 refused-requires-2 enum-told-3 refused-requires-3 same-length-3 same-length-4 returns-2 returns-3 returns-4 returns-5)

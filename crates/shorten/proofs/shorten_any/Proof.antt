@@ -20,20 +20,8 @@ slice-aggregate-shorten-within-4 c = search needs
 slice-aggregate-shorten-within-5 : tie.Need-slice-aggregate-shorten-within-5
 slice-aggregate-shorten-within-5 c = search needs
 
-slice-aggregate-shorten-within-6 : tie.Need-slice-aggregate-shorten-within-6
-slice-aggregate-shorten-within-6 c = search needs
-
-slice-aggregate-shorten-within-7 : tie.Need-slice-aggregate-shorten-within-7
-slice-aggregate-shorten-within-7 c = search needs
-
-slice-aggregate-shorten-within-8 : tie.Need-slice-aggregate-shorten-within-8
-slice-aggregate-shorten-within-8 c = search needs
-
-slice-aggregate-shorten-within-9 : tie.Need-slice-aggregate-shorten-within-9
-slice-aggregate-shorten-within-9 c = search needs
-
 shorten-within-requires : tie.Need-shorten-within-requires
-shorten-within-requires c κs = shortenable 1_024 (omega arith) (c .before .before .before .before .before .before .before .before .before .before .before .before .before .before .pre)
+shorten-within-requires c κs = shortenable 1_024 (omega arith) (c .before .before .before .before .before .before .before .before .before .before .pre)
 
 same-length : tie.Need-same-length
 same-length c = c .before .before .before .report .given
@@ -42,7 +30,7 @@ same-length-2 : tie.Need-same-length-2
 same-length-2 c = c .before .table .given
 
 returns : tie.Need-returns
-returns c = c .before .before .before .before .before .before .before .before .before .before .before .before .before .shorten-within .ensures
+returns c = c .before .before .before .before .before .before .before .before .before .shorten-within .ensures
 
 pub shorten-any-spec : {M : Type 1} → statement M
-shorten-any-spec = tie.close (tie.spec slice-aggregate-shorten-within slice-aggregate-shorten-within-2 slice-aggregate-shorten-within-3 slice-aggregate-shorten-within-4 slice-aggregate-shorten-within-5 slice-aggregate-shorten-within-6 slice-aggregate-shorten-within-7 slice-aggregate-shorten-within-8 slice-aggregate-shorten-within-9 shorten-within-requires same-length same-length-2 returns)
+shorten-any-spec = tie.close (tie.spec slice-aggregate-shorten-within slice-aggregate-shorten-within-2 slice-aggregate-shorten-within-3 slice-aggregate-shorten-within-4 slice-aggregate-shorten-within-5 shorten-within-requires same-length same-length-2 returns)
