@@ -18,7 +18,7 @@ use Rattle.formula_write.specs.Writing.{Stores}
 use Rattle.proof.specs.Check.{Closing}
 use Rattle.tally.specs.declared.Tally.{Tally}
 use Rattle.openings.specs.Opening.{inTurn}
-use Rattle.openings.proofs.Storing.{both-stored, stores-both}
+use Rattle.formula_write.proofs.Storing.{both-stored, stores-both}
 use Rattle.branches.specs.Branching.{Closes, BranchedBy, BranchChecked}
 use Rattle.branches.specs.declared.branch.Branched.{Branched}
 use Rattle.branches.specs.declared.branch.Branched.the-variants as branched

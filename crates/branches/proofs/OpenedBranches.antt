@@ -29,7 +29,7 @@ use Rattle.rows.specs.declared.derive.Derived.{Derived}
 use Rattle.rows.specs.declared.derive.Derived.the-variants as derived
 use Rattle.openings.specs.Opening.{inTurn, startOf, middleOf, thirdOf, Branching, lastTwo, Longer, Stands, RowOpens}
 use Rattle.openings.proofs.Starting.{starts, start-less, middle-starts, third-starts}
-use Rattle.openings.proofs.Storing.{stores-head}
+use Rattle.formula_write.proofs.Storing.{stores-head}
 use Rattle.branches.specs.Spare.{unreadBytes}
 use Rattle.branches.specs.Branches.{Comes}
 use Rattle.branches.specs.Branching.{resumedBy, keptBack, Started, Closes, BranchedBy, BranchChecked, deeper, Branches, Opened, FirstStands, OpenedChecked}

@@ -6,12 +6,10 @@ use Prim.Native.Nat.{ℕ, suc, _+_, _*_, _-_, _≤_, _<_}
 use native.Mathlib.Numerals.{add-one}
 use native.Mathlib.Omega.{arith}
 use lib.IntN.{ℤ, natAbs}
-use lib.ListN.{length, set}
-use Rattle.forms.specs.Edition.{edition, edition1, newestEdition}
-use Rattle.forms.proofs.Editions.{lines-most}
-use Rattle.forms.specs.Forms.{Form, Line, Formula, _divides_, _and_, _or_, _plus_}
+use lib.ListN.{length}
+use Rattle.forms.specs.Edition.{edition1}
+use Rattle.forms.specs.Forms.{Form, Line, Formula, _divides_, _and_, _or_}
 use Rattle.forms.specs.Reduced.{reduced}
-use Rattle.forms.specs.Flat.{formIn}
 use Rattle.forms.specs.declared.RowNumber.{RowNumber}
 use Rattle.calculus.specs.Rules.{_▷_}
 use Rattle.answers.specs.declared.Position.{Position}
@@ -20,25 +18,25 @@ use Rattle.number_bytes.specs.Numbers.{unsignedBytes}
 use Rattle.fields.specs.Fields.{Fields, fieldBytes}
 use Rattle.fields.specs.Places.{fieldsAt}
 use Rattle.formula.specs.Formula.{encode}
-use Rattle.formula_write.specs.Writing.{Numbered, Divisor, Stores}
+use Rattle.formula_write.specs.Writing.{scratchLimit, Numbered, Divisor, Stores, frontBytes}
 use Rattle.formula_write.proofs.Written.{stride-size}
+use Rattle.formula_write.proofs.Storing.{or-size, front-size}
 use Rattle.proof.specs.Check.{Closing, Checker, checkRounded}
-use Rattle.lines.specs.Buffer.{size, lineIn, linesIn, LineStart, startedLine}
+use Rattle.lines.specs.Buffer.{size, lineIn, linesIn, LineStart}
 use Rattle.lines.proofs.Branch.{inequality-byte}
 use Rattle.lines.specs.Ready.{LinesKept}
 use Rattle.lines.proofs.Keeping.{kept-refl, kept-trans}
 use Rattle.tally.specs.declared.Tally.{Tally}
 use Rattle.entries.specs.Entries.{Multiplies}
-use Rattle.closes.proofs.Ending.{numbered, divisor}
-use Rattle.openings.specs.Opening.{inTurn, startOf, fromBranch, Longer, RoundsBy, frontBytes}
-use Rattle.openings.proofs.Starting.{starts, start-form}
-use Rattle.openings.proofs.Roundable.{or-size, front-size}
+use Rattle.closes.proofs.Ending.{divisor}
+use Rattle.openings.specs.Opening.{inTurn, startOf, fromBranch, Longer, RoundsBy, strideOf, RoundedStarts}
+use Rattle.openings.proofs.Starting.{starts, start-form, start-numbered}
 use Rattle.branches.specs.Spare.{unreadBytes}
-use Rattle.branches.specs.Branching.{keptBack, deeper, Branches, Opened, OpenedChecked, RoundedChecked}
+use Rattle.branches.specs.Branching.{keptBack, Started, deeper, Branches, Opened, OpenedChecked, RoundedChecked}
 use Rattle.branches.specs.declared.branch.Branched.{Branched}
 use Rattle.branches.specs.declared.branch.Branched.the-variants as branched
 use Rattle.branches.proofs.JoinedClosings.{checked-as, alone-checks, in-turn-fault, in-turn-checks}
-use Rattle.branches.proofs.OpenedBranches.{own-ready, own-checked, start-asked, next-open, next-unread, next-opened, next-same}
+use Rattle.branches.proofs.OpenedBranches.{room-left, own-started, own-checked, start-asked, next-open, next-unread, next-opened, next-same}
 
 more-bytes : (E f g : Formula) → encode edition1 ((E and f) or g) ≡ frontBytes true E ++ encode edition1 f ++ encode edition1 g
 unfolding encode fieldBytes unsignedBytes
@@ -49,9 +47,6 @@ unfolding encode fieldBytes unsignedBytes
 last-bytes E f = refl
 
 -- ---- the branches from j on, by that of j and the others
-abbrev strideOf : (g j : ℕ) → Line → Formula
-strideOf g j l = g divides reduced g (l .tA plus j)
-
 module _ (branch : Checker) (ls : List Line) (l : Line) (step g by j rows : ℕ) (fs : Fields) where
   abbrev moreFrom : Result Closing
   moreFrom = inTurn (λ f g′. (strideOf g j l and f) or g′) (branch (position step (j + 1)) rows (ls ▷ startOf by j l) fs) (λ rows fs. fromBranch g by (j + 1) branch ls l step rows fs)
@@ -71,52 +66,49 @@ module _ (branch : Checker) (ls : List Line) (l : Line) (step g by j rows : ℕ)
       let z : by - suc j ≡ 0 = omega arith in
       rw (add-one, z)
 
--- ---- the stride part of a line's tA, where line n is any
-module _ {K n x y : ℕ} {p : List ℕ} {kinds : List ℕ} {buf : List ℤ} {t : Tally} {i at o : ℕ} (d : Opened K n x y kinds buf t i p at o) {l : Line} {kinds₁ : List ℕ} {buf₁ : List ℤ} (g : Longer (t .edition) K kinds buf n l kinds₁ buf₁) where
-  lines-numbered : (m : ℕ) → m ≤ n → Numbered K buf₁ (m * size K + (K + 1))
-  lines-numbered m h = numbered (own-ready d g) (omega arith) refl
-
-  pub front-asked : {m : ℕ} → m ≤ n → {z : ℤ} {by : ℕ} → Multiplies (natAbs z) z → RoundsBy (natAbs z) by → (m ≤ edition newestEdition .lines) × Numbered K buf₁ (m * size K + (K + 1)) × Divisor z
-  front-asked {m} h w q = (omega (arith, d .space, lines-most (t .edition)), lines-numbered m h, divisor w (q .stride))
-
-  stride-short : (m : ℕ) → m ≤ n → (s : ℕ) → length (encode edition1 (s divides reduced s (formIn K buf₁ (m * size K + (K + 1))))) ≤ 75
-  stride-short m h s = omega (arith, stride-size (lines-numbered m h) s, lines-numbered m h .constants)
-
-  pub front-short : (m s : ℕ) (others : Bool) {scratch : List ℕ} {scratch₁ : List ℕ} {o₁ : ℕ} → Stores scratch o (frontBytes others (s divides reduced s (formIn K buf₁ (m * size K + (K + 1))))) scratch₁ o₁ → m ≤ n → o₁ ≤ o + keptBack
-  front-short m s others f h = omega (arith, f .o-is, front-size others (s divides reduced s (formIn K buf₁ (m * size K + (K + 1)))), or-size others, stride-short m h s)
-
+-- ---- the branch of j
 module _ {K n by : ℕ} {p : List ℕ} {kinds : List ℕ} {buf : List ℤ} {t : Tally} {i at o : ℕ} (d : Opened K n by by kinds buf t i p at o) {j : ℕ} (hj : j < by) where
+  pub rounded-asked : {z : ℤ} {by′ : ℕ} → Multiplies (natAbs z) z → RoundsBy (natAbs z) by′ → (LineStart K buf i n by by × (n < length kinds) × (j < by)) × (Divisor z × (o + keptBack ≤ scratchLimit))
+  rounded-asked w q =
+      let s : LineStart K buf i n by by × (n < length kinds) = start-asked d (omega arith) (omega arith) in
+      ((s .0, s .1, hj), (divisor w (q .stride), room-left d))
+
   rounded-start : LineStart K buf i n by j
   rounded-start = start-asked d {u = by} {w = j} (omega arith) (omega arith) .0
 
-  module _ {kinds₁ : List ℕ} {buf₁ : List ℤ} (eb : buf₁ ≡ startedLine K i n by j buf) (ek : kinds₁ ≡ set kinds n 0) where
+  module _ (g : ℕ) (others : Bool) {scratch : List ℕ} {kinds₁ : List ℕ} {buf₁ : List ℤ} {scratch₁ : List ℕ} {o₁ : ℕ}
+      (h : RoundedStarts K i n g by j others kinds buf scratch o kinds₁ buf₁ scratch₁ o₁) where
     own : Longer (t .edition) K kinds buf n (startOf by j (lineIn K kinds buf i)) kinds₁ buf₁
-    own = starts (d .ready) (d .space) rounded-start 0 (omega arith) inequality-byte eb ek
+    own = starts (d .ready) (d .space) rounded-start 0 (omega arith) inequality-byte (h .line) (h .kind)
 
-    module _ (step g : ℕ) (others : Bool) {scratch : List ℕ} {scratch₁ : List ℕ} {o₁ : ℕ}
-        (h : Stores scratch o (frontBytes others (g divides reduced g (formIn K buf₁ (n * size K + (K + 1))))) scratch₁ o₁) where
-      front : Stores scratch o (frontBytes others (strideOf g j (lineIn K kinds buf i))) scratch₁ o₁
-      front = subst (λ (f : Form). Stores scratch o (frontBytes others (g divides reduced g f)) scratch₁ o₁) (start-form rounded-start kinds eb) h
+    own-short : length (encode edition1 (strideOf g j (lineIn K kinds buf i))) ≤ 75
+    own-short =
+        let f : Numbered K buf₁ (n * size K + (K + 1)) = start-numbered rounded-start (h .line) (omega arith) in
+        subst (λ (f : Form). length (encode edition1 (g divides reduced g f)) ≤ 75) (start-form rounded-start kinds (h .line)) (omega (arith, stride-size f g, f .constants))
 
-      own-short : length (encode edition1 (strideOf g j (lineIn K kinds buf i))) ≤ 75
-      own-short = subst (λ (f : Form). length (encode edition1 (g divides reduced g f)) ≤ 75) (start-form rounded-start kinds eb) (stride-short d own n (omega arith) g)
+    short : o₁ ≤ o + keptBack
+    short = omega (arith, h .front .o-is, front-size others (strideOf g j (lineIn K kinds buf i)), or-size others, own-short)
 
-      short : o₁ ≤ o + keptBack
-      short = front-short d own n g others h (omega arith)
+    pub rounded-started : Started K kinds₁ buf₁ t p at o₁
+    rounded-started = own-started d own short
 
+    module _ (step : ℕ) where
       module _ {kinds₂ : List ℕ} {buf₂ : List ℤ} {scratch₂ : List ℕ} {r : Branched} (b : Branches K p at (position step (j + 1)) kinds₁ buf₁ t scratch₁ o₁ kinds₂ buf₂ scratch₂ r) where
         -- No others follow.
         last-checks : others ≡ false → by ≤ j + 1 → OpenedChecked 3 (fromBranch g by j) K step n p at kinds buf t i scratch o kinds₂ buf₂ scratch₂ r
         last-checks e q =
             let E = strideOf g j (lineIn K kinds buf i) in
-            let h′ = rw e at front in
+            let h′ = rw e at (h .front) in
             checked-as (last-is (deeper K t) (linesIn K kinds buf n) (lineIn K kinds buf i) step g by j (t .rows .0) (fieldsAt p at) q)
             (alone-checks h′ keptBack (λ f. E and f) (last-bytes E) 3 (omega (arith, front-size false E, own-short)) (own-checked d own short (position step (j + 1)) b))
+
+        closed-unread : {a o₂ : ℕ} {t₁ : Tally} → r ≡ branched.Closed a o₂ t₁ → unreadBytes p a < unreadBytes p at
+        closed-unread c = next-unread d own short (position step (j + 1)) b c
 
         -- Others follow.
         module _ (e : others ≡ true) (q : j + 1 < by) where
           more : Stores scratch o (frontBytes true (strideOf g j (lineIn K kinds buf i))) scratch₁ o₁
-          more = rw e at front
+          more = rw e at (h .front)
 
           more-fault : {x : ℕ} {rows : RowNumber} {pl : Position} {z : ℕ} → r ≡ branched.Fault x rows pl z → OpenedChecked 3 (fromBranch g by j) K step n p at kinds buf t i scratch o kinds₂ buf₂ scratch₂ r
           more-fault y =
@@ -130,9 +122,6 @@ module _ {K n by : ℕ} {p : List ℕ} {kinds : List ℕ} {buf : List ℤ} {t : 
           module _ {a o₂ : ℕ} {t₁ : Tally} (c : r ≡ branched.Closed a o₂ t₁) where
             more-open : t₁ .«open» ≡ t .«open»
             more-open = next-open d own short (position step (j + 1)) b c
-
-            more-unread : unreadBytes p a < unreadBytes p at
-            more-unread = next-unread d own short (position step (j + 1)) b c
 
             more-opened : Opened K n by by kinds₂ buf₂ t₁ i p a o₂
             more-opened = next-opened d own short (position step (j + 1)) b c
@@ -164,24 +153,26 @@ rounding-start step d q = record { opened = d; less = omega (arith, q .least); k
 
 module _ {K step n : ℕ} {p : List ℕ} {at : ℕ} {kinds₀ : List ℕ} {buf₀ : List ℤ} {t₀ : Tally} {i g by : ℕ} {scratch₀ : List ℕ} {o₀ : ℕ}
     {kinds : List ℕ} {buf : List ℤ} {scratch : List ℕ} {here o : ℕ} {t : Tally} {j : ℕ} (turn : Rounding K step n p at kinds₀ buf₀ t₀ i g by scratch₀ o₀ kinds buf scratch here o t j)
-    {kinds₁ : List ℕ} {buf₁ : List ℤ} (eb : buf₁ ≡ startedLine K i n by j buf) (ek : kinds₁ ≡ set kinds n 0) (others : Bool) {scratch₁ : List ℕ} {o₁ : ℕ}
-    (h : Stores scratch o (frontBytes others (g divides reduced g (formIn K buf₁ (n * size K + (K + 1))))) scratch₁ o₁)
+    (others : Bool) {kinds₁ : List ℕ} {buf₁ : List ℤ} {scratch₁ : List ℕ} {o₁ : ℕ} (h : RoundedStarts K i n g by j others kinds buf scratch o kinds₁ buf₁ scratch₁ o₁)
     {kinds₂ : List ℕ} {buf₂ : List ℤ} {scratch₂ : List ℕ} {r : Branched} (b : Branches K p here (position step (j + 1)) kinds₁ buf₁ t scratch₁ o₁ kinds₂ buf₂ scratch₂ r) where
   pub rounding-last : others ≡ false → by ≤ j + 1 → RoundedChecked K step n p at kinds₀ buf₀ t₀ i g by 0 scratch₀ o₀ kinds₂ buf₂ scratch₂ r
-  rounding-last e q = turn .rest (last-checks (turn .opened) (turn .less) eb ek step g others h b e q)
+  rounding-last e q = turn .rest (last-checks (turn .opened) (turn .less) g others h step b e q)
+
+  pub rounding-unread : {a o₂ : ℕ} {t₁ : Tally} → r ≡ branched.Closed a o₂ t₁ → unreadBytes p a < unreadBytes p here
+  rounding-unread c = closed-unread (turn .opened) (turn .less) g others h step b c
 
   module _ (e : others ≡ true) (q : j + 1 < by) where
     pub rounding-fault : {x : ℕ} {rows : RowNumber} {pl : Position} {z : ℕ} → r ≡ branched.Fault x rows pl z → RoundedChecked K step n p at kinds₀ buf₀ t₀ i g by 0 scratch₀ o₀ kinds₂ buf₂ scratch₂ r
-    rounding-fault y = turn .rest (more-fault (turn .opened) (turn .less) eb ek step g others h b e q y)
+    rounding-fault y = turn .rest (more-fault (turn .opened) (turn .less) g others h step b e q y)
 
     module _ {a o₂ : ℕ} {t₁ : Tally} (c : r ≡ branched.Closed a o₂ t₁) where
       pub rounding-next : Rounding K step n p at kinds₀ buf₀ t₀ i g by scratch₀ o₀ kinds₂ buf₂ scratch₂ a o₂ t₁ (j + 1)
       rounding-next = record {
-        opened = more-opened (turn .opened) (turn .less) eb ek step g others h b e q c;
+        opened = more-opened (turn .opened) (turn .less) g others h step b e q c;
         less = q;
-        kept = kept-trans (omega arith) (turn .kept) (more-kept (turn .opened) (turn .less) eb ek step g others h b e q);
-        long = b .long ∙ h .long ∙ turn .long;
-        open-is = more-open (turn .opened) (turn .less) eb ek step g others h b e q c ∙ turn .open-is;
-        unread = omega (arith, turn .unread, more-unread (turn .opened) (turn .less) eb ek step g others h b e q c);
-        rest = λ x. turn .rest (more-checks (turn .opened) (turn .less) eb ek step g others h b e q c x);
+        kept = kept-trans (omega arith) (turn .kept) (more-kept (turn .opened) (turn .less) g others h step b e q);
+        long = b .long ∙ h .front .long ∙ turn .long;
+        open-is = more-open (turn .opened) (turn .less) g others h step b e q c ∙ turn .open-is;
+        unread = omega (arith, turn .unread, rounding-unread c);
+        rest = λ x. turn .rest (more-checks (turn .opened) (turn .less) g others h step b e q c x);
       }

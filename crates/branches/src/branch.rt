@@ -17,13 +17,13 @@ use fields::next_field;
 use forms::LineNumber;
 use forms::RowNumber;
 use formula_write::put_pair;
+use line_starts::start_line;
+use line_starts::start_negated;
 use lines::kinds::EQUALITY;
 use lines::kinds::INEQUALITY;
 use lines::kinds::kind_of;
-use openings::opening::start;
-use openings::opening::start_negated;
-use openings::rounding::put_front;
 use openings::rounding::round;
+use openings::rounding::start_rounded;
 use openings::split::joined_by;
 use openings::split::raised_by;
 use openings::split::split;
@@ -351,7 +351,7 @@ pub fn check_branch(
                     else {
                         return first;
                     };
-                    start(lines, kinds, t, n, k, EQUALITY, 0, 0);
+                    start_line(lines, kinds, t, n, k, EQUALITY, 0, 0);
                     let head2 = put_pair(scratch, o1, 0x32);
                     let place2 = Position {
                         step: row,
@@ -371,7 +371,7 @@ pub fn check_branch(
                     else {
                         return second;
                     };
-                    start(lines, kinds, t, n, k, INEQUALITY, 1, 0);
+                    start_line(lines, kinds, t, n, k, INEQUALITY, 1, 0);
                     let place3 = Position {
                         step: row,
                         branch: 2,
@@ -546,10 +546,9 @@ fn check_rounded(
     let mut count = tally;
     let mut j = 0;
     loop {
-        start(lines, kinds, t, n, k, INEQUALITY, by, j);
         let following = j + 1;
         let others = following < by;
-        let front = put_front(lines, n, k, g, others, scratch, end);
+        let front = start_rounded(lines, kinds, t, n, k, g, by, j, others, scratch, end);
         let place = Position {
             step: row,
             branch: following,

@@ -1,2 +1,3 @@
 -- What is written of a formula, by the definition.
 pub mod Written
+pub mod Storing

@@ -1,6 +1,7 @@
 -- What the functions that write a formula's bytes ask and leave. Document 01, "Fields". Assumes nothing.
 use mathlib.Core.Path.{_≡_}
-use mathlib.Core.List.{List, []}
+use mathlib.Core.Bool.{Bool, true, false}
+use mathlib.Core.List.{List, [], _++_}
 use Prim.Native.Nat.{ℕ, _+_, _*_, _<_, _≤_}
 use lib.IntN.{ℤ, pos}
 use lib.ListN.{length, getD}
@@ -45,3 +46,11 @@ pub record Stores (scratch : List ℕ) (o : ℕ) (bytes scratch′ : List ℕ) (
   pub long : length scratch′ ≡ length scratch
   pub o-is : o′ ≡ o + length bytes
   pub stored : o + length bytes ≤ length scratch → scratch′ ≡ sets scratch o bytes
+
+-- The head of an or, where others follow; and what stands before a branch's formula in a rounding's: that, and then "E and".
+abbrev pub orBytes : (others : Bool) → List ℕ
+orBytes true = fieldBytes 0x31 []
+orBytes false = []
+
+abbrev pub frontBytes : (others : Bool) (E : Formula) → List ℕ
+frontBytes others E = orBytes others ++ fieldBytes 0x32 [] ++ encode edition1 E

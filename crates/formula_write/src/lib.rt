@@ -10,7 +10,7 @@ ghost use Rattle.forms.specs.Forms.{literal, _divides_};
 ghost use Rattle.forms.specs.Reduced.{reduced};
 ghost use Rattle.forms.specs.Flat.{kindOf, formIn};
 ghost use Rattle.number_bytes.specs.Numbers.{formBytes};
-ghost use Rattle.formula_write.specs.Writing.{scratchLimit, Numbered, Divisor, Heads, Puts};
+ghost use Rattle.formula_write.specs.Writing.{scratchLimit, Numbered, Divisor, Heads, Puts, Stores, orBytes, frontBytes};
 use fields::header::put_head;
 use integers::number;
 use integers::remainder;
@@ -108,4 +108,34 @@ pub fn put_stride(
     put_signed(scratch, o + 3, 4, g);
     put_reduced(numbers, at, k, g, scratch, o + 7);
     end
+}
+
+// The head of an or, where others follow.
+fn put_or(scratch: &mut [u8], o: usize, others: bool) -> usize
+    requires { ⌜ o ≤ scratchLimit ⌝ }
+    ensures { λ r. ⌜ Stores (now (scratch .entry)) o (orBytes others) (now (scratch .exit)) r ⌝ }
+{
+    if others {
+        return put_pair(scratch, o, 0x31);
+    }
+    o
+}
+
+// What stands before Ij in a rounding's formula: an or where others follow, and then "Ej and", where Ej says that g divides the form.
+pub fn put_front(
+    numbers: &[i32],
+    at: usize,
+    k: usize,
+    g: i64,
+    others: bool,
+    scratch: &mut [u8],
+    o: usize,
+) -> usize
+    requires { ⌜ Numbered k (now numbers) at × Divisor g ⌝ }
+    requires { ⌜ o + 81 ≤ scratchLimit ⌝ }
+    ensures { λ r. ⌜ Stores (now (scratch .entry)) o (frontBytes others (natAbs g divides reduced (natAbs g) (formIn k (now (numbers .entry)) at))) (now (scratch .exit)) r ⌝ }
+{
+    let head = put_or(scratch, o, others);
+    let pair = put_pair(scratch, head, 0x32);
+    put_stride(numbers, at, k, g, scratch, pair)
 }

@@ -1,14 +1,15 @@
 // The line that a branch starts with: a line copied or negated, and raised; and whether it stays within the range.
-// The lines are `startedLine` and `negatedLine` (lines/specs/Buffer.antt); openings calls it.
+// The lines are `startedLine` and `negatedLine` (lines/specs/Buffer.antt); openings and branches call it.
 use forms::LineNumber;
 use integers::number;
 use line_sums::mix_whole;
+use lines::kinds::set_kind;
 use lines::place;
 use lines::place_a;
 ghost use mathlib.Core.Path.{_≡_};
 ghost use mathlib.Core.Bool.{_&&_};
 ghost use Prim.Native.Nat.{_+_, _*_, _<_, _≤_};
-ghost use lib.ListN.{length, getD};
+ghost use lib.ListN.{length, getD, set};
 ghost use lib.Seq.{paste};
 ghost use lib.IntN.{pos, negsuc, _+ℤ_, _*ℤ_};
 ghost use Rattle.integers.specs.Magnitude.{Within};
@@ -63,22 +64,44 @@ fn raise_line(lines: &mut [i32], n: LineNumber, k: usize, x: u16, y: u16)
     raise(lines, at_a + k, y);
 }
 
-// Line n becomes line i as a branch starts with it: t + x with tA + y.
-pub fn start_line(lines: &mut [i32], i: LineNumber, n: LineNumber, k: usize, x: u16, y: u16)
-    requires { ⌜ LineStart k (now lines) (i .0) (n .0) x y ⌝ }
-    ensures { λ _. ⌜ now (lines .exit) ≡ startedLine k (i .0) (n .0) x y (now (lines .entry)) ⌝ }
+// Line n, of the kind given, becomes line i as a branch starts with it: t + x with tA + y.
+pub fn start_line(
+    lines: &mut [i32],
+    kinds: &mut [u8],
+    i: LineNumber,
+    n: LineNumber,
+    k: usize,
+    kind: u8,
+    x: u16,
+    y: u16,
+)
+    requires { ⌜ LineStart k (now lines) (i .0) (n .0) x y × (n .0 < length (now kinds)) ⌝ }
+    ensures lines { λ _. ⌜ now (lines .exit) ≡ startedLine k (i .0) (n .0) x y (now (lines .entry)) ⌝ }
+    ensures kinds { λ _. ⌜ now (kinds .exit) ≡ set (now (kinds .entry)) (n .0) kind ⌝ }
 {
     copy_line(lines, i, n, k);
     raise_line(lines, n, k, x, y);
+    set_kind(kinds, n, kind);
 }
 
 // Line `new` becomes line i negated, as the second branch of a split starts with it: -t + x with -tA + y. (The negated numbers are in range.)
-pub fn start_negated(lines: &mut [i32], i: LineNumber, new: LineNumber, k: usize, x: u16, y: u16)
-    requires { ⌜ LineNegated k (now lines) (i .0) (new .0) x y ⌝ }
-    ensures { λ _. ⌜ now (lines .exit) ≡ negatedLine k (i .0) (new .0) x y (now (lines .entry)) ⌝ }
+pub fn start_negated(
+    lines: &mut [i32],
+    kinds: &mut [u8],
+    i: LineNumber,
+    new: LineNumber,
+    k: usize,
+    kind: u8,
+    x: u16,
+    y: u16,
+)
+    requires { ⌜ LineNegated k (now lines) (i .0) (new .0) x y × (new .0 < length (now kinds)) ⌝ }
+    ensures lines { λ _. ⌜ now (lines .exit) ≡ negatedLine k (i .0) (new .0) x y (now (lines .entry)) ⌝ }
+    ensures kinds { λ _. ⌜ now (kinds .exit) ≡ set (now (kinds .entry)) (new .0) kind ⌝ }
 {
     mix_whole(lines, -1, i, 0, i, new, k);
     raise_line(lines, new, k, x, y);
+    set_kind(kinds, new, kind);
 }
 
 // Whether f times the number at a place, and x more, is within the range.

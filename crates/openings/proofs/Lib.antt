@@ -1,5 +1,4 @@
 -- Laws of the rows that open branches.
-pub mod Storing
 pub mod Opens
 pub mod Roundable
 pub mod Splittable

@@ -1,20 +1,16 @@
--- The tests of a rounding, one way after the other, and what stands before a branch's formula. Assumes nothing.
+-- The tests of a rounding, one way after the other. Assumes nothing.
 use mathlib.Core.Path.{_≡_, refl, sym, ap, _∙_}
 use mathlib.Core.Bool.{Bool, true, false, not, _&&_}
-use mathlib.Core.List.{List, [], _++_}
+use mathlib.Core.List.{List}
 use Prim.Native.Nat.{ℕ, zero, suc, _+_, _*_, _-_, _≤_, _<_}
 use native.Mathlib.Omega.{arith}
 use lib.Dec.{leb}
 use lib.IntN.{ℤ, pos, _+ℤ_}
-use lib.ListN.{length, getD, length-append}
+use lib.ListN.{getD}
 use borrow.Author.Tests.{le-leb, lt-leb, leb-true}
 use Rattle.integers.specs.Divides.{divb}
-use Rattle.forms.specs.Edition.{edition1}
-use Rattle.forms.specs.Forms.{≤0, Formula, every}
+use Rattle.forms.specs.Forms.{≤0, every}
 use Rattle.answers.specs.Answers.{_>>=_, _>>_, need, found}
-use Rattle.fields.specs.Fields.{fieldBytes}
-use Rattle.fields.proofs.Framing.{length-fieldBytes as field-size}
-use Rattle.formula.specs.Formula.{encode}
 use Rattle.proof.specs.Rows.{is, lineAt, inequality, roundable, undivided}
 use Rattle.lines.specs.Parts.{part}
 use Rattle.lines.specs.Buffer.{size, lineIn}
@@ -22,7 +18,7 @@ use Rattle.lines.proofs.Lines.{line-at, line-past}
 use Rattle.lines.proofs.Tests.{unnot}
 use Rattle.tally.specs.declared.Tally.{Tally}
 use Rattle.closes.specs.declared.closing.Test.the-variants.{Refused, Passed}
-use Rattle.openings.specs.Opening.{Roundable, orBytes, frontBytes}
+use Rattle.openings.specs.Opening.{Roundable}
 
 -- ---- g divides d + j for no j below by
 -- The loop goes down from `by`: what is left to test is the whole.
@@ -100,11 +96,3 @@ module _ (K : ℕ) (kinds : List ℕ) (buf : List ℤ) (t : Tally) (i g by : ℕ
                   record { stride = leb-true 2 g (sym two ∙ unnot a h); least = positive by least; most = most },
                 );
               }
-
--- ---- what stands before Ij
-pub or-size : (others : Bool) → length (orBytes others) ≤ 3
-or-size true = omega (arith, field-size 0x31 [])
-or-size false = omega arith
-
-pub front-size : (others : Bool) (E : Formula) → length (frontBytes others E) ≡ length (orBytes others) + 3 + length (encode edition1 E)
-front-size others E = omega (arith, length-append (orBytes others ++ fieldBytes 0x32 []) (encode edition1 E), length-append (orBytes others) (fieldBytes 0x32 []), field-size 0x32 [])

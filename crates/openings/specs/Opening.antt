@@ -1,22 +1,24 @@
 -- The rows that open branches, strengthen and rounding: what their tests tell, and the lines that the branches start with. Document 01, "The rows", and document 02, point 1. Assumes nothing.
 use mathlib.Core.Path.{_≡_}
-use mathlib.Core.Bool.{Bool, true, false}
-use mathlib.Core.List.{List, [], _++_}
+use mathlib.Core.Bool.{Bool}
+use mathlib.Core.List.{List}
 use mathlib.Core.Option.{Option, none, some}
 use Prim.Native.Nat.{ℕ, zero, suc, _+_, _-_, _<_, _≤_}
 use lib.Dec.{T}
 use lib.IntN.{ℤ}
+use lib.ListN.{set}
 use Rattle.forms.specs.Edition.{edition, edition1}
-use Rattle.forms.specs.Forms.{≤0, =0, Line, line, Formula, _and_, _or_, _plus_}
+use Rattle.forms.specs.Forms.{≤0, =0, Line, line, Formula, _divides_, _and_, _or_, _plus_}
+use Rattle.forms.specs.Reduced.{reduced}
 use Rattle.calculus.specs.Rules as rules
 use Rattle.calculus.specs.Rules.{_▷_, inRange}
 use Rattle.answers.specs.declared.Answer.{Answer}
 use Rattle.answers.specs.Answers.{position, Result, refused, accepted, _>>=_, _>>_, found}
-use Rattle.fields.specs.Fields.{Fields, fieldBytes}
-use Rattle.formula.specs.Formula.{encode}
+use Rattle.fields.specs.Fields.{Fields}
+use Rattle.formula_write.specs.Writing.{Stores, frontBytes}
 use Rattle.proof.specs.Rows.{fitting, roundable}
 use Rattle.proof.specs.Check.{Closing, Checker, Following, checkRow, checkRounded, checkBranch}
-use Rattle.lines.specs.Buffer.{lineIn, linesIn, LineStart}
+use Rattle.lines.specs.Buffer.{lineIn, linesIn, LineStart, startedLine}
 use Rattle.lines.specs.Ready.{Limited, LinesKept}
 use Rattle.tally.specs.Tally.{tally}
 use Rattle.tally.specs.declared.Tally.{Tally}
@@ -136,10 +138,12 @@ pub record Rounds (K : ℕ) (kinds : List ℕ) (buf : List ℤ) (t : Tally) (i g
   pub opens : RowOpens (rules.Round i g by) (allRounded g by) K kinds buf t i by by kinds′ buf′ r
   pub sizes : (t′ : Tally) → r ≡ Made t′ → RoundsBy g by
 
--- The head of an or, where others follow; and what stands before Ij: that, and then "E and".
-abbrev pub orBytes : (others : Bool) → List ℕ
-orBytes true = fieldBytes 0x31 []
-orBytes false = []
+-- Ej of a rounding of line l: g divides tA + j, reduced.
+abbrev pub strideOf : (g j : ℕ) → Line → Formula
+strideOf g j l = g divides reduced g (l .tA plus j)
 
-abbrev pub frontBytes : (others : Bool) (E : Formula) → List ℕ
-frontBytes others E = orBytes others ++ fieldBytes 0x32 [] ++ encode edition1 E
+-- The branch of j starts: its line stands as line n, and what stands before its formula from o on.
+pub record RoundedStarts (K i n g by j : ℕ) (others : Bool) (kinds : List ℕ) (buf : List ℤ) (scratch : List ℕ) (o : ℕ) (kinds′ : List ℕ) (buf′ : List ℤ) (scratch′ : List ℕ) (o′ : ℕ) : Type 0 where
+  pub line : buf′ ≡ startedLine K i n by j buf
+  pub kind : kinds′ ≡ set kinds n 0
+  pub front : Stores scratch o (frontBytes others (strideOf g j (lineIn K kinds buf i))) scratch′ o′

@@ -1,29 +1,27 @@
 // A rounding (k-STRENGTHEN of section 6.1 in source 000): its tests, the line that its first branch starts with, and what stands before the formula of each other branch.
 ghost use mathlib.Core.Path.{_≡_};
-ghost use Prim.Native.Nat.{_+_, _*_, _≤_};
+ghost use Prim.Native.Nat.{_+_, _≤_, _<_};
 ghost use lib.IntN.{pos, natAbs};
 ghost use lib.Signed.{_≤ℤ_};
 ghost use Rattle.integers.specs.Magnitude.{Within};
-ghost use Rattle.forms.specs.Edition.{edition, edition1, newestEdition};
-ghost use Rattle.forms.specs.Forms.{_divides_};
-ghost use Rattle.forms.specs.Reduced.{reduced};
-ghost use Rattle.forms.specs.Flat.{formIn};
-ghost use Rattle.fields.specs.Fields.{};
-ghost use Rattle.formula_write.specs.Writing.{scratchLimit, Numbered, Divisor, Stores};
+ghost use lib.ListN.{length};
+ghost use Rattle.forms.specs.Edition.{edition1};
+ghost use Rattle.formula_write.specs.Writing.{scratchLimit, Divisor};
 ghost use Rattle.proof.specs.Rows.{undivided};
-ghost use Rattle.lines.specs.Buffer.{size};
+ghost use Rattle.lines.specs.Buffer.{LineStart};
 ghost use Rattle.lines.specs.Ready.{Ready};
 ghost use Rattle.entries.specs.Entries.{Multiplies};
-ghost use Rattle.openings.specs.Opening.{Roundable, Rounds, orBytes, frontBytes};
+ghost use Rattle.openings.specs.Opening.{Roundable, Rounds, RoundedStarts};
 use crate::opening::open_step;
 use closes::closing::Test;
 use closes::closing::is_stride;
 use forms::LineNumber;
 use forms::ROUNDING;
-use formula_write::put_pair;
-use formula_write::put_stride;
+use formula_write::put_front;
+use line_starts::start_line;
 use lines::kinds::INEQUALITY;
 use lines::kinds::kind_of;
+use lines::place_a;
 use rows::derive::Derived;
 use tally::Tally;
 use tally::is_there;
@@ -108,33 +106,25 @@ pub fn round(
     }
 }
 
-// The head of an or, where others follow.
-fn put_or(scratch: &mut [u8], o: usize, others: bool) -> usize
-    requires { ⌜ o ≤ scratchLimit ⌝ }
-    ensures { λ r. ⌜ Stores (now (scratch .entry)) o (orBytes others) (now (scratch .exit)) r ⌝ }
-{
-    if others {
-        return put_pair(scratch, o, 0x31);
-    }
-    o
-}
-
-// What stands before Ij in a rounding's formula: an or where others follow, and then "Ej and", where Ej is the stride part of line n's tA.
-pub fn put_front(
-    lines: &[i32],
+// The branch of j of a rounding by `by` starts: line n becomes line i with t + by and tA + j, and what stands before its formula is written, with Ej of that tA.
+pub fn start_rounded(
+    lines: &mut [i32],
+    kinds: &mut [u8],
+    i: LineNumber,
     n: LineNumber,
     k: usize,
     g: i64,
+    by: u16,
+    j: u16,
     others: bool,
     scratch: &mut [u8],
     o: usize,
 ) -> usize
-    requires { ⌜ (n .0 ≤ edition newestEdition .lines) × Numbered k (now lines) (n .0 * size k + (k + 1)) × Divisor g ⌝ }
-    requires { ⌜ o + 81 ≤ scratchLimit ⌝ }
-    ensures { λ r. ⌜ Stores (now (scratch .entry)) o (frontBytes others (natAbs g divides reduced (natAbs g) (formIn k (now (lines .entry)) (n .0 * size k + (k + 1))))) (now (scratch .exit)) r ⌝ }
+    requires { ⌜ LineStart k (now lines) (i .0) (n .0) by by × (n .0 < length (now kinds)) × (j < by) ⌝ }
+    requires { ⌜ Divisor g × (o + 81 ≤ scratchLimit) ⌝ }
+    ensures { λ r. ⌜ RoundedStarts k (i .0) (n .0) (natAbs g) by j others (now (kinds .entry)) (now (lines .entry)) (now (scratch .entry)) o (now (kinds .exit)) (now (lines .exit)) (now (scratch .exit)) r ⌝ }
 {
-    let head = put_or(scratch, o, others);
-    let pair = put_pair(scratch, head, 0x32);
-    let ta = lines::place_a(n, k);
-    put_stride(lines, ta, k, g, scratch, pair)
+    start_line(lines, kinds, i, n, k, INEQUALITY, by, j);
+    let ta = place_a(n, k);
+    put_front(lines, ta, k, g, others, scratch, o)
 }

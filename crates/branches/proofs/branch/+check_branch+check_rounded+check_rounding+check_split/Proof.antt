@@ -18,7 +18,7 @@ use Rattle.branches.proofs.BranchStops.{started-room, stopped-fault, co
 use Rattle.branches.proofs.OpenedBranches.{room-left, first-started, first-fault, rest-open, rest-unread, rest-opened, first-checks, head-short, none-short, start-asked, some-longer, some-started, some-open, some-unread, some-opened, two-fault, two-checks, opening-falls, opened, first-stands, resumed-fault, resumed-checks}
 use Rattle.branches.proofs.JoinedClosings.{or-bytes}
 use Rattle.branches.proofs.Splits.{split-there, split-started, split-fault, split-open, split-unread, negated-asked, negated-started, split-checks, split-opened, split-resumed}
-use Rattle.branches.proofs.Rounds.{front-asked, front-short, Rounding, rounding-start, rounding-last, rounding-fault, rounding-next}
+use Rattle.branches.proofs.Rounds.{rounded-asked, rounded-started, Rounding, rounding-start, rounding-last, rounding-unread, rounding-fault, rounding-next}
 use Prim.Native.Nat.{ℕ, _+_, _*_, _-_, _<_}
 use borrow.Fn.Kinds.{In}
 use borrow.Fn.PlainCycle.{Measures, is, falls, and}
@@ -27,10 +27,10 @@ use Rattle.lines.proofs.kinds.kind_of.Reads as kind-of-reads
 use Rattle.tally.proofs.returned.Reads as returned-reads
 use Rattle.closes.proofs.ends.close_number.Reads as close-number-reads
 use Rattle.closes.proofs.ends.close_stride.Reads as close-stride-reads
-use Rattle.openings.proofs.opening.start.Reads as start-reads
-use Rattle.openings.proofs.opening.start_negated.Reads as start-negated-reads
-use Rattle.openings.proofs.rounding.put_front.Reads as put-front-reads
+use Rattle.line_starts.proofs.start_line.Reads as start-line-reads
+use Rattle.line_starts.proofs.start_negated.Reads as start-negated-reads
 use Rattle.openings.proofs.rounding.round.Reads as round-reads
+use Rattle.openings.proofs.rounding.start_rounded.Reads as start-rounded-reads
 use Rattle.openings.proofs.split.joined_by.Reads as joined-by-reads
 use Rattle.openings.proofs.split.raised_by.Reads as raised-by-reads
 use Rattle.openings.proofs.split.split.Reads as split-reads
@@ -93,11 +93,11 @@ check-split-below t = and 4 check-split-kinds.ps (falls 4 check-split-kinds.ps _
 -- what is known of the functions that each calls
 abbrev check-branch-claims : ℕ → check-branch-lts.Claims
 check-branch-claims t =
-    (entries-reads.Asked, entries-reads.Learnt, close-number-reads.Asked, close-number-reads.Learnt, returned-reads.Asked, returned-reads.Learnt, closed-reads.Asked, closed-reads.Learnt, close-stride-reads.Asked, close-stride-reads.Learnt, strengthen-reads.Asked, strengthen-reads.Learnt, put-pair-reads.Asked, put-pair-reads.Learnt, check-branch-below t, check-branch.Post, start-reads.Asked, start-reads.Learnt, resumed-reads.Asked, resumed-reads.Learnt, round-reads.Asked, round-reads.Learnt, check-rounding-below t, check-rounding.Post, split-reads.Asked, split-reads.Learnt, check-split-below t, check-split.Post)
+    (entries-reads.Asked, entries-reads.Learnt, close-number-reads.Asked, close-number-reads.Learnt, returned-reads.Asked, returned-reads.Learnt, closed-reads.Asked, closed-reads.Learnt, close-stride-reads.Asked, close-stride-reads.Learnt, strengthen-reads.Asked, strengthen-reads.Learnt, put-pair-reads.Asked, put-pair-reads.Learnt, check-branch-below t, check-branch.Post, start-line-reads.Asked, start-line-reads.Learnt, resumed-reads.Asked, resumed-reads.Learnt, round-reads.Asked, round-reads.Learnt, check-rounding-below t, check-rounding.Post, split-reads.Asked, split-reads.Learnt, check-split-below t, check-split.Post)
 
 abbrev check-rounded-claims : ℕ → check-rounded-lts.Claims
 check-rounded-claims t =
-    (start-reads.Asked, start-reads.Learnt, put-front-reads.Asked, put-front-reads.Learnt, check-branch-below t, check-branch.Post)
+    (start-rounded-reads.Asked, start-rounded-reads.Learnt, check-branch-below t, check-branch.Post)
 
 abbrev check-rounding-claims : ℕ → check-rounding-lts.Claims
 check-rounding-claims t =
@@ -253,8 +253,8 @@ module _ (t : ℕ) where
       let b = c .before .before .before .before .before .before .before .check-branch .ensures in
       resumed-checks m (stop .kept) s made (c .before .before .before .before .before .before .before .before .before .before .before .before .before .before .before .before .before .before .before .before .before .before .before .before .before .before .before .before .before .before .before .before .before .before .before .before .before .args .position) (first-fault d _or_ or-bytes lastTwo _ f h b (c .enum-told .given .1)) (resumed-fault _ (c .enum-told .given .1))
 
-  check-branch-start-requires : check-branch-lts.Need-start-requires (check-branch-claims t) (check-branch-at t) check-branch.Post
-  check-branch-start-requires c κs =
+  check-branch-start-line-requires : check-branch-lts.Need-start-line-requires (check-branch-claims t) (check-branch-at t) check-branch.Post
+  check-branch-start-line-requires c κs =
       let st = c .before .before .before .before .before .before .before .before .before .before .before .before .before .before .before .before .before .before .before .before .before .before .before .before .before .before .before .before .before .before .before .before .before .before .before .before .before .before .before .before .pre .1 in
       let stop = c .before .before .before .before .before .before .before .before .before .before .before .before .before .before .before .before .before .before .before .before .before .before .before .before .before .before .before .before .before .before .before .before .before .before .entries .ensures in
       let m = strengthen-comes stop (c .before .before .before .before .before .before .before .before .before .before .before .before .before .before .before .before .before .before .before .before .before .before .before .before .before .before .before .before .before .t3 .given .1) in
@@ -296,8 +296,8 @@ module _ (t : ℕ) where
       let b = c .before .before .before .before .before .before .before .before .before .before .before .before .before .before .before .before .before .before .before .before .before .check-branch .ensures in
       let e = c .before .before .before .before .before .before .before .before .before .before .before .before .before .before .first .given .1 in
       let d₂ = rest-opened d _or_ or-bytes lastTwo _ f h b e in
-      let lines₂ = c .before .before .before .before .before .before .before .before .before .before .start .ensures .0 in
-      let kinds₂ = c .before .before .before .before .before .before .before .before .before .before .start .ensures .1 in
+      let lines₂ = c .before .before .before .before .before .before .before .before .before .before .start-line .ensures .0 in
+      let kinds₂ = c .before .before .before .before .before .before .before .before .before .before .start-line .ensures .1 in
       let h₂ = c .before .before .before .before .before .put-pair2 .ensures in
       (next-falls (rest-open d _or_ or-bytes lastTwo _ f h b e) (rest-unread d _or_ or-bytes lastTwo _ f h b e) (one-less (opening-falls m (stop .kept) s made (c .before .before .before .before .before .before .before .before .before .before .before .before .before .before .before .before .before .before .before .before .before .before .before .before .before .before .before .before .before .before .before .before .before .before .before .before .before .before .before .before .before .before .before .before .before .before .before .before .before .before .before .pre .0))), some-started d₂ _ _ _ lines₂ kinds₂ (omega arith) (omega arith) (omega arith) (head-short h₂))
 
@@ -329,14 +329,14 @@ module _ (t : ℕ) where
       let b = c .before .before .before .before .before .before .before .before .before .before .before .before .before .before .before .before .before .before .before .before .before .before .before .before .before .before .before .before .before .check-branch .ensures in
       let e = c .before .before .before .before .before .before .before .before .before .before .before .before .before .before .before .before .before .before .before .before .before .before .first .given .1 in
       let d₂ = rest-opened d _or_ or-bytes lastTwo _ f h b e in
-      let lines₂ = c .before .before .before .before .before .before .before .before .before .before .before .before .before .before .before .before .before .before .start .ensures .0 in
-      let kinds₂ = c .before .before .before .before .before .before .before .before .before .before .before .before .before .before .before .before .before .before .start .ensures .1 in
+      let lines₂ = c .before .before .before .before .before .before .before .before .before .before .before .before .before .before .before .before .before .before .start-line .ensures .0 in
+      let kinds₂ = c .before .before .before .before .before .before .before .before .before .before .before .before .before .before .before .before .before .before .start-line .ensures .1 in
       let h₂ = c .before .before .before .before .before .before .before .before .before .before .before .before .before .put-pair2 .ensures in
       let b₂ = c .before .before .before .before .before .before .before .check-branch2 .ensures in
       resumed-checks m (stop .kept) s made (c .before .before .before .before .before .before .before .before .before .before .before .before .before .before .before .before .before .before .before .before .before .before .before .before .before .before .before .before .before .before .before .before .before .before .before .before .before .before .before .before .before .before .before .before .before .before .before .before .before .before .before .before .before .before .before .before .before .before .before .args .position) (first-checks d _or_ or-bytes lastTwo _ f h b e (omega arith) (two-fault d₂ _ lines₂ kinds₂ h₂ b₂ (c .enum-told2 .given .1))) (resumed-fault _ (c .enum-told2 .given .1))
 
-  check-branch-start-requires-2 : check-branch-lts.Need-start-requires-2 (check-branch-claims t) (check-branch-at t) check-branch.Post
-  check-branch-start-requires-2 c κs =
+  check-branch-start-line-requires-2 : check-branch-lts.Need-start-line-requires-2 (check-branch-claims t) (check-branch-at t) check-branch.Post
+  check-branch-start-line-requires-2 c κs =
       let st = c .before .before .before .before .before .before .before .before .before .before .before .before .before .before .before .before .before .before .before .before .before .before .before .before .before .before .before .before .before .before .before .before .before .before .before .before .before .before .before .before .before .before .before .before .before .before .before .before .before .before .before .before .before .before .before .before .before .before .before .before .before .before .pre .1 in
       let stop = c .before .before .before .before .before .before .before .before .before .before .before .before .before .before .before .before .before .before .before .before .before .before .before .before .before .before .before .before .before .before .before .before .before .before .before .before .before .before .before .before .before .before .before .before .before .before .before .before .before .before .before .before .before .before .before .before .entries .ensures in
       let m = strengthen-comes stop (c .before .before .before .before .before .before .before .before .before .before .before .before .before .before .before .before .before .before .before .before .before .before .before .before .before .before .before .before .before .before .before .before .before .before .before .before .before .before .before .before .before .before .before .before .before .before .before .before .before .before .before .t3 .given .1) in
@@ -348,8 +348,8 @@ module _ (t : ℕ) where
       let b = c .before .before .before .before .before .before .before .before .before .before .before .before .before .before .before .before .before .before .before .before .before .before .before .before .before .before .before .before .before .before .before .before .check-branch .ensures in
       let e = c .before .before .before .before .before .before .before .before .before .before .before .before .before .before .before .before .before .before .before .before .before .before .before .before .before .first .given .1 in
       let d₂ = rest-opened d _or_ or-bytes lastTwo _ f h b e in
-      let lines₂ = c .before .before .before .before .before .before .before .before .before .before .before .before .before .before .before .before .before .before .before .before .before .start .ensures .0 in
-      let kinds₂ = c .before .before .before .before .before .before .before .before .before .before .before .before .before .before .before .before .before .before .before .before .before .start .ensures .1 in
+      let lines₂ = c .before .before .before .before .before .before .before .before .before .before .before .before .before .before .before .before .before .before .before .before .before .start-line .ensures .0 in
+      let kinds₂ = c .before .before .before .before .before .before .before .before .before .before .before .before .before .before .before .before .before .before .before .before .before .start-line .ensures .1 in
       let h₂ = c .before .before .before .before .before .before .before .before .before .before .before .before .before .before .before .before .put-pair2 .ensures in
       let b₂ = c .before .before .before .before .before .before .before .before .before .before .check-branch2 .ensures in
       let e₂ = c .before .before .before .second .given .1 in
@@ -368,12 +368,12 @@ module _ (t : ℕ) where
       let b = c .before .before .before .before .before .before .before .before .before .before .before .before .before .before .before .before .before .before .before .before .before .before .before .before .before .before .before .before .before .before .before .before .before .before .before .before .before .before .before .check-branch .ensures in
       let e = c .before .before .before .before .before .before .before .before .before .before .before .before .before .before .before .before .before .before .before .before .before .before .before .before .before .before .before .before .before .before .before .before .first .given .1 in
       let d₂ = rest-opened d _or_ or-bytes lastTwo _ f h b e in
-      let lines₂ = c .before .before .before .before .before .before .before .before .before .before .before .before .before .before .before .before .before .before .before .before .before .before .before .before .before .before .before .before .start .ensures .0 in
-      let kinds₂ = c .before .before .before .before .before .before .before .before .before .before .before .before .before .before .before .before .before .before .before .before .before .before .before .before .before .before .before .before .start .ensures .1 in
+      let lines₂ = c .before .before .before .before .before .before .before .before .before .before .before .before .before .before .before .before .before .before .before .before .before .before .before .before .before .before .before .before .start-line .ensures .0 in
+      let kinds₂ = c .before .before .before .before .before .before .before .before .before .before .before .before .before .before .before .before .before .before .before .before .before .before .before .before .before .before .before .before .start-line .ensures .1 in
       let h₂ = c .before .before .before .before .before .before .before .before .before .before .before .before .before .before .before .before .before .before .before .before .before .before .before .put-pair2 .ensures in
       let b₂ = c .before .before .before .before .before .before .before .before .before .before .before .before .before .before .before .before .before .check-branch2 .ensures in
       let e₂ = c .before .before .before .before .before .before .before .before .before .before .second .given .1 in
-      (next-falls (some-open d₂ _ _ _ lines₂ kinds₂ (omega arith) (omega arith) (omega arith) (head-short h₂) _ b₂ e₂) (some-unread d₂ _ _ _ lines₂ kinds₂ (omega arith) (omega arith) (omega arith) (head-short h₂) _ b₂ e₂) (next-falls (rest-open d _or_ or-bytes lastTwo _ f h b e) (rest-unread d _or_ or-bytes lastTwo _ f h b e) (one-less (opening-falls m (stop .kept) s made (c .before .before .before .before .before .before .before .before .before .before .before .before .before .before .before .before .before .before .before .before .before .before .before .before .before .before .before .before .before .before .before .before .before .before .before .before .before .before .before .before .before .before .before .before .before .before .before .before .before .before .before .before .before .before .before .before .before .before .before .before .before .before .before .before .before .before .before .before .before .pre .0)))), some-started (some-opened d₂ _ _ _ lines₂ kinds₂ (omega arith) (omega arith) (omega arith) (head-short h₂) _ b₂ e₂) _ _ _ (c .before .before .before .before .before .before .start2 .ensures .0) (c .before .before .before .before .before .before .start2 .ensures .1) (omega arith) (omega arith) (omega arith) none-short)
+      (next-falls (some-open d₂ _ _ _ lines₂ kinds₂ (omega arith) (omega arith) (omega arith) (head-short h₂) _ b₂ e₂) (some-unread d₂ _ _ _ lines₂ kinds₂ (omega arith) (omega arith) (omega arith) (head-short h₂) _ b₂ e₂) (next-falls (rest-open d _or_ or-bytes lastTwo _ f h b e) (rest-unread d _or_ or-bytes lastTwo _ f h b e) (one-less (opening-falls m (stop .kept) s made (c .before .before .before .before .before .before .before .before .before .before .before .before .before .before .before .before .before .before .before .before .before .before .before .before .before .before .before .before .before .before .before .before .before .before .before .before .before .before .before .before .before .before .before .before .before .before .before .before .before .before .before .before .before .before .before .before .before .before .before .before .before .before .before .before .before .before .before .before .before .pre .0)))), some-started (some-opened d₂ _ _ _ lines₂ kinds₂ (omega arith) (omega arith) (omega arith) (head-short h₂) _ b₂ e₂) _ _ _ (c .before .before .before .before .before .before .start-line2 .ensures .0) (c .before .before .before .before .before .before .start-line2 .ensures .1) (omega arith) (omega arith) (omega arith) none-short)
 
   check-branch-resumed-requires : check-branch-lts.Need-resumed-requires (check-branch-claims t) (check-branch-at t) check-branch.Post
   check-branch-resumed-requires c κs = search needs
@@ -400,12 +400,12 @@ module _ (t : ℕ) where
       let b = c .before .before .before .before .before .before .before .before .before .before .before .before .before .before .before .before .before .before .before .before .before .before .before .before .before .before .before .before .before .before .before .before .before .before .before .before .before .before .before .before .before .before .before .before .before .before .check-branch .ensures in
       let e = c .before .before .before .before .before .before .before .before .before .before .before .before .before .before .before .before .before .before .before .before .before .before .before .before .before .before .before .before .before .before .before .before .before .before .before .before .before .before .before .first .given .1 in
       let d₂ = rest-opened d _or_ or-bytes lastTwo _ f h b e in
-      let lines₂ = c .before .before .before .before .before .before .before .before .before .before .before .before .before .before .before .before .before .before .before .before .before .before .before .before .before .before .before .before .before .before .before .before .before .before .before .start .ensures .0 in
-      let kinds₂ = c .before .before .before .before .before .before .before .before .before .before .before .before .before .before .before .before .before .before .before .before .before .before .before .before .before .before .before .before .before .before .before .before .before .before .before .start .ensures .1 in
+      let lines₂ = c .before .before .before .before .before .before .before .before .before .before .before .before .before .before .before .before .before .before .before .before .before .before .before .before .before .before .before .before .before .before .before .before .before .before .before .start-line .ensures .0 in
+      let kinds₂ = c .before .before .before .before .before .before .before .before .before .before .before .before .before .before .before .before .before .before .before .before .before .before .before .before .before .before .before .before .before .before .before .before .before .before .before .start-line .ensures .1 in
       let h₂ = c .before .before .before .before .before .before .before .before .before .before .before .before .before .before .before .before .before .before .before .before .before .before .before .before .before .before .before .before .before .before .put-pair2 .ensures in
       let b₂ = c .before .before .before .before .before .before .before .before .before .before .before .before .before .before .before .before .before .before .before .before .before .before .before .before .check-branch2 .ensures in
       let e₂ = c .before .before .before .before .before .before .before .before .before .before .before .before .before .before .before .before .before .second .given .1 in
-      resumed-checks m (stop .kept) s made (c .before .before .before .before .before .before .before .before .before .before .before .before .before .before .before .before .before .before .before .before .before .before .before .before .before .before .before .before .before .before .before .before .before .before .before .before .before .before .before .before .before .before .before .before .before .before .before .before .before .before .before .before .before .before .before .before .before .before .before .before .before .before .before .before .before .before .before .before .before .before .before .before .before .before .before .before .args .position) (first-checks d _or_ or-bytes lastTwo _ f h b e (omega arith) (two-checks d₂ _ lines₂ kinds₂ h₂ b₂ e₂ (c .before .before .before .before .before .before .before .before .before .before .before .before .before .start2 .ensures .0) (c .before .before .before .before .before .before .before .before .before .before .before .before .before .start2 .ensures .1) (c .before .before .before .before .before .before .check-branch3 .ensures))) (c .resumed .ensures)
+      resumed-checks m (stop .kept) s made (c .before .before .before .before .before .before .before .before .before .before .before .before .before .before .before .before .before .before .before .before .before .before .before .before .before .before .before .before .before .before .before .before .before .before .before .before .before .before .before .before .before .before .before .before .before .before .before .before .before .before .before .before .before .before .before .before .before .before .before .before .before .before .before .before .before .before .before .before .before .before .before .before .before .before .before .before .args .position) (first-checks d _or_ or-bytes lastTwo _ f h b e (omega arith) (two-checks d₂ _ lines₂ kinds₂ h₂ b₂ e₂ (c .before .before .before .before .before .before .before .before .before .before .before .before .before .start-line2 .ensures .0) (c .before .before .before .before .before .before .before .before .before .before .before .before .before .start-line2 .ensures .1) (c .before .before .before .before .before .before .check-branch3 .ensures))) (c .resumed .ensures)
 
   check-branch-enum-known-t-4 : check-branch-lts.Need-enum-known-t-4 (check-branch-claims t) (check-branch-at t) check-branch.Post
   check-branch-enum-known-t-4 c = search needs
@@ -520,46 +520,39 @@ module _ (t : ℕ) where
       let fits = c .before .before .before .fits .g in
       simp toZ-ofZ (rounding-start _ (c .before .before .before .pre .1 .0) (c .before .before .before .pre .1 .1 .1))
 
-  check-rounded-start-requires : check-rounded-lts.Need-start-requires (check-rounded-claims t) (check-rounded-at t) check-rounded.Post Inv-loop μ-loop
-  check-rounded-start-requires c κs = start-asked (c .before .before .loop .inv .opened) (omega (arith, c .before .before .loop .inv .less)) (omega (arith, c .before .before .loop .inv .less))
-
   check-rounded-add-following : check-rounded-lts.Need-add-following (check-rounded-claims t) (check-rounded-at t) check-rounded.Post Inv-loop μ-loop
-  check-rounded-add-following c = omega (arith, c .before .before .before .before .before .before .loop .inv .less, c .before .before .before .before .before .before .before .before .before .before .fits .by)
+  check-rounded-add-following c = omega (arith, c .loop .inv .less, c .before .before .before .before .fits .by)
 
-  check-rounded-put-front-requires : check-rounded-lts.Need-put-front-requires (check-rounded-claims t) (check-rounded-at t) check-rounded.Post Inv-loop μ-loop
-  check-rounded-put-front-requires c κs =
-      let turn = c .before .before .before .before .before .before .before .before .loop .inv in
-      let fits = c .before .before .before .before .before .before .before .before .before .before .before .before .fits .g in
-      simp toZ-ofZ (front-asked (turn .opened) (some-longer (turn .opened) _ _ _ (c .before .before .before .before .before .start .ensures .0) (c .before .before .before .before .before .start .ensures .1) (omega (arith, turn .less)) (omega (arith, turn .less)) (omega arith)) (omega (arith, turn .opened .line)) (c .before .before .before .before .before .before .before .before .before .before .before .before .pre .1 .1 .0) (c .before .before .before .before .before .before .before .before .before .before .before .before .pre .1 .1 .1), room-left (turn .opened))
+  check-rounded-start-rounded-requires : check-rounded-lts.Need-start-rounded-requires (check-rounded-claims t) (check-rounded-at t) check-rounded.Post Inv-loop μ-loop
+  check-rounded-start-rounded-requires c κs =
+      let turn = c .before .before .before .loop .inv in
+      let fits = c .before .before .before .before .before .before .before .fits .g in
+      simp toZ-ofZ (rounded-asked (turn .opened) (turn .less) (c .before .before .before .before .before .before .before .pre .1 .1 .0) (c .before .before .before .before .before .before .before .pre .1 .1 .1))
 
   check-rounded-check-branch-requires : check-rounded-lts.Need-check-branch-requires (check-rounded-claims t) (check-rounded-at t) check-rounded.Post Inv-loop μ-loop
   check-rounded-check-branch-requires c κs =
-      let turn = c .before .before .before .before .before .before .before .before .before .before .before .before .before .before .loop .inv in
-      let eb = c .before .before .before .before .before .before .before .before .before .before .before .start .ensures .0 in
-      let ek = c .before .before .before .before .before .before .before .before .before .before .before .start .ensures .1 in
-      let others = ltb (c .before .before .before .before .before .before .before .before .before .before .before .before .before .before .loop .j + 1) (c .before .before .before .before .before .before .before .before .before .before .before .before .before .before .before .before .before .before .args .by) in
-      let h = c .before .before .before .before .before .put-front .ensures in
-      (turn-falls (turn .open-is) (turn .unread) (c .before .before .before .before .before .before .before .before .before .before .before .before .before .before .before .before .before .before .pre .0), some-started (turn .opened) _ _ _ eb ek (omega (arith, turn .less)) (omega (arith, turn .less)) (omega arith) (front-short (turn .opened) (some-longer (turn .opened) _ _ _ eb ek (omega (arith, turn .less)) (omega (arith, turn .less)) (omega arith)) _ _ others h (omega (arith, turn .opened .line))))
+      let turn = c .before .before .before .before .before .before .before .before .before .before .before .before .loop .inv in
+      let others = ltb (c .before .before .before .before .before .before .before .before .before .before .before .before .loop .j + 1) (c .before .before .before .before .before .before .before .before .before .before .before .before .before .before .before .before .args .by) in
+      let h = c .before .before .before .before .before .before .before .before .start-rounded .ensures in
+      (turn-falls (turn .open-is) (turn .unread) (c .before .before .before .before .before .before .before .before .before .before .before .before .before .before .before .before .pre .0), rounded-started (turn .opened) (turn .less) _ others h)
 
   check-rounded-same-length : check-rounded-lts.Need-same-length (check-rounded-claims t) (check-rounded-at t) check-rounded.Post Inv-loop μ-loop
-  check-rounded-same-length c = c .before .before .before .before .before .lines2 .given ∙ c .before .before .before .before .before .before .before .before .before .before .before .before .before .before .before .before .before .lines .given ∙ c .before .before .before .before .before .before .before .before .before .before .before .before .before .before .before .before .before .before .before .before .before .loop .inv .kept .lines-length
+  check-rounded-same-length c = c .before .before .before .before .before .lines2 .given ∙ c .before .before .before .before .before .before .before .before .before .before .before .before .before .before .lines .given ∙ c .before .before .before .before .before .before .before .before .before .before .before .before .before .before .before .before .before .before .before .loop .inv .kept .lines-length
 
   check-rounded-same-length-2 : check-rounded-lts.Need-same-length-2 (check-rounded-claims t) (check-rounded-at t) check-rounded.Post Inv-loop μ-loop
-  check-rounded-same-length-2 c = c .before .before .before .before .kinds2 .given ∙ c .before .before .before .before .before .before .before .before .before .before .before .before .before .before .before .before .kinds .given ∙ c .before .before .before .before .before .before .before .before .before .before .before .before .before .before .before .before .before .before .before .before .before .loop .inv .kept .kinds-length
+  check-rounded-same-length-2 c = c .before .before .before .before .kinds2 .given ∙ c .before .before .before .before .before .before .before .before .before .before .before .before .before .kinds .given ∙ c .before .before .before .before .before .before .before .before .before .before .before .before .before .before .before .before .before .before .before .loop .inv .kept .kinds-length
 
   check-rounded-same-length-3 : check-rounded-lts.Need-same-length-3 (check-rounded-claims t) (check-rounded-at t) check-rounded.Post Inv-loop μ-loop
-  check-rounded-same-length-3 c = c .before .before .scratch2 .given ∙ c .before .before .before .before .before .before .before .before .before .before .before .scratch .given ∙ c .before .before .before .before .before .before .before .before .before .before .before .before .before .before .before .before .before .before .before .before .before .loop .inv .long
+  check-rounded-same-length-3 c = c .before .before .scratch2 .given ∙ c .before .before .before .before .before .before .before .before .before .before .before .scratch .given ∙ c .before .before .before .before .before .before .before .before .before .before .before .before .before .before .before .before .before .before .before .loop .inv .long
 
   check-rounded-returns : check-rounded-lts.Need-returns (check-rounded-claims t) (check-rounded-at t) check-rounded.Post Inv-loop μ-loop
   check-rounded-returns c =
-      let turn = c .before .before .before .before .before .before .before .before .before .before .before .before .before .before .before .before .before .before .before .before .before .loop .inv in
-      let eb = c .before .before .before .before .before .before .before .before .before .before .before .before .before .before .before .before .before .before .start .ensures .0 in
-      let ek = c .before .before .before .before .before .before .before .before .before .before .before .before .before .before .before .before .before .before .start .ensures .1 in
-      let h = c .before .before .before .before .before .before .before .before .before .before .before .before .put-front .ensures in
+      let turn = c .before .before .before .before .before .before .before .before .before .before .before .before .before .before .before .before .before .before .before .loop .inv in
+      let h = c .before .before .before .before .before .before .before .before .before .before .before .before .before .before .before .start-rounded .ensures in
       let b = c .before .before .before .before .before .before .check-branch .ensures in
-      let others = ltb (c .before .before .before .before .before .before .before .before .before .before .before .before .before .before .before .before .before .before .before .before .before .loop .j + 1) (c .before .before .before .before .before .before .before .before .before .before .before .before .before .before .before .before .before .before .before .before .before .before .before .before .before .args .by) in
-      let fits = c .before .before .before .before .before .before .before .before .before .before .before .before .before .before .before .before .before .before .before .before .before .before .before .before .before .fits .g in
-      simp toZ-ofZ at (rounding-last turn eb ek others h b (unnot others (c .if1 .taken)) (ltb-false _ _ (unnot others (c .if1 .taken))))
+      let others = ltb (c .before .before .before .before .before .before .before .before .before .before .before .before .before .before .before .before .before .before .before .loop .j + 1) (c .before .before .before .before .before .before .before .before .before .before .before .before .before .before .before .before .before .before .before .before .before .before .before .args .by) in
+      let fits = c .before .before .before .before .before .before .before .before .before .before .before .before .before .before .before .before .before .before .before .before .before .before .before .fits .g in
+      simp toZ-ofZ at (rounding-last turn others h b (unnot others (c .if1 .taken)) (ltb-false _ _ (unnot others (c .if1 .taken))))
 
   check-rounded-enum-known-own : check-rounded-lts.Need-enum-known-own (check-rounded-claims t) (check-rounded-at t) check-rounded.Post Inv-loop μ-loop
   check-rounded-enum-known-own c = search needs
@@ -568,44 +561,38 @@ module _ (t : ℕ) where
   check-rounded-enum-told c = search needs
 
   check-rounded-same-length-4 : check-rounded-lts.Need-same-length-4 (check-rounded-claims t) (check-rounded-at t) check-rounded.Post Inv-loop μ-loop
-  check-rounded-same-length-4 c = c .before .before .before .before .before .before .before .lines2 .given ∙ c .before .before .before .before .before .before .before .before .before .before .before .before .before .before .before .before .before .before .before .lines .given ∙ c .before .before .before .before .before .before .before .before .before .before .before .before .before .before .before .before .before .before .before .before .before .before .before .loop .inv .kept .lines-length
+  check-rounded-same-length-4 c = c .before .before .before .before .before .before .before .lines2 .given ∙ c .before .before .before .before .before .before .before .before .before .before .before .before .before .before .before .before .lines .given ∙ c .before .before .before .before .before .before .before .before .before .before .before .before .before .before .before .before .before .before .before .before .before .loop .inv .kept .lines-length
 
   check-rounded-same-length-5 : check-rounded-lts.Need-same-length-5 (check-rounded-claims t) (check-rounded-at t) check-rounded.Post Inv-loop μ-loop
-  check-rounded-same-length-5 c = c .before .before .before .before .before .before .kinds2 .given ∙ c .before .before .before .before .before .before .before .before .before .before .before .before .before .before .before .before .before .before .kinds .given ∙ c .before .before .before .before .before .before .before .before .before .before .before .before .before .before .before .before .before .before .before .before .before .before .before .loop .inv .kept .kinds-length
+  check-rounded-same-length-5 c = c .before .before .before .before .before .before .kinds2 .given ∙ c .before .before .before .before .before .before .before .before .before .before .before .before .before .before .before .kinds .given ∙ c .before .before .before .before .before .before .before .before .before .before .before .before .before .before .before .before .before .before .before .before .before .loop .inv .kept .kinds-length
 
   check-rounded-same-length-6 : check-rounded-lts.Need-same-length-6 (check-rounded-claims t) (check-rounded-at t) check-rounded.Post Inv-loop μ-loop
-  check-rounded-same-length-6 c = c .before .before .before .before .scratch2 .given ∙ c .before .before .before .before .before .before .before .before .before .before .before .before .before .scratch .given ∙ c .before .before .before .before .before .before .before .before .before .before .before .before .before .before .before .before .before .before .before .before .before .before .before .loop .inv .long
+  check-rounded-same-length-6 c = c .before .before .before .before .scratch2 .given ∙ c .before .before .before .before .before .before .before .before .before .before .before .before .before .scratch .given ∙ c .before .before .before .before .before .before .before .before .before .before .before .before .before .before .before .before .before .before .before .before .before .loop .inv .long
 
   check-rounded-returns-2 : check-rounded-lts.Need-returns-2 (check-rounded-claims t) (check-rounded-at t) check-rounded.Post Inv-loop μ-loop
   check-rounded-returns-2 c =
-      let turn = c .before .before .before .before .before .before .before .before .before .before .before .before .before .before .before .before .before .before .before .before .before .before .before .loop .inv in
-      let eb = c .before .before .before .before .before .before .before .before .before .before .before .before .before .before .before .before .before .before .before .before .start .ensures .0 in
-      let ek = c .before .before .before .before .before .before .before .before .before .before .before .before .before .before .before .before .before .before .before .before .start .ensures .1 in
-      let h = c .before .before .before .before .before .before .before .before .before .before .before .before .before .before .put-front .ensures in
+      let turn = c .before .before .before .before .before .before .before .before .before .before .before .before .before .before .before .before .before .before .before .before .before .loop .inv in
+      let h = c .before .before .before .before .before .before .before .before .before .before .before .before .before .before .before .before .before .start-rounded .ensures in
       let b = c .before .before .before .before .before .before .before .before .check-branch .ensures in
-      let others = ltb (c .before .before .before .before .before .before .before .before .before .before .before .before .before .before .before .before .before .before .before .before .before .before .before .loop .j + 1) (c .before .before .before .before .before .before .before .before .before .before .before .before .before .before .before .before .before .before .before .before .before .before .before .before .before .before .before .args .by) in
-      let fits = c .before .before .before .before .before .before .before .before .before .before .before .before .before .before .before .before .before .before .before .before .before .before .before .before .before .before .before .fits .g in
-      simp toZ-ofZ at (rounding-fault turn eb ek others h b (unnot others (c .before .before .if1 .left)) (ltb-true _ _ (unnot others (c .before .before .if1 .left))) (c .enum-told .given .1))
+      let others = ltb (c .before .before .before .before .before .before .before .before .before .before .before .before .before .before .before .before .before .before .before .before .before .loop .j + 1) (c .before .before .before .before .before .before .before .before .before .before .before .before .before .before .before .before .before .before .before .before .before .before .before .before .before .args .by) in
+      let fits = c .before .before .before .before .before .before .before .before .before .before .before .before .before .before .before .before .before .before .before .before .before .before .before .before .before .fits .g in
+      simp toZ-ofZ at (rounding-fault turn others h b (unnot others (c .before .before .if1 .left)) (ltb-true _ _ (unnot others (c .before .before .if1 .left))) (c .enum-told .given .1))
 
   check-rounded-loop-less : check-rounded-lts.Need-loop-less (check-rounded-claims t) (check-rounded-at t) check-rounded.Post Inv-loop μ-loop
   check-rounded-loop-less c =
-      let turn = c .before .before .before .before .before .before .before .before .before .before .before .before .before .before .before .before .before .before .before .before .before .before .before .before .loop .inv in
-      let eb = c .before .before .before .before .before .before .before .before .before .before .before .before .before .before .before .before .before .before .before .before .before .start .ensures .0 in
-      let ek = c .before .before .before .before .before .before .before .before .before .before .before .before .before .before .before .before .before .before .before .before .before .start .ensures .1 in
-      let h = c .before .before .before .before .before .before .before .before .before .before .before .before .before .before .before .put-front .ensures in
+      let turn = c .before .before .before .before .before .before .before .before .before .before .before .before .before .before .before .before .before .before .before .before .before .before .loop .inv in
+      let h = c .before .before .before .before .before .before .before .before .before .before .before .before .before .before .before .before .before .before .start-rounded .ensures in
       let b = c .before .before .before .before .before .before .before .before .before .check-branch .ensures in
-      let others = ltb (c .before .before .before .before .before .before .before .before .before .before .before .before .before .before .before .before .before .before .before .before .before .before .before .before .loop .j + 1) (c .before .before .before .before .before .before .before .before .before .before .before .before .before .before .before .before .before .before .before .before .before .before .before .before .before .before .before .before .args .by) in
-      some-unread (turn .opened) _ _ _ eb ek (omega (arith, turn .less)) (omega (arith, turn .less)) (omega arith) (front-short (turn .opened) (some-longer (turn .opened) _ _ _ eb ek (omega (arith, turn .less)) (omega (arith, turn .less)) (omega arith)) _ _ others h (omega (arith, turn .opened .line))) _ b (c .before .own .given .1)
+      let others = ltb (c .before .before .before .before .before .before .before .before .before .before .before .before .before .before .before .before .before .before .before .before .before .before .loop .j + 1) (c .before .before .before .before .before .before .before .before .before .before .before .before .before .before .before .before .before .before .before .before .before .before .before .before .before .before .args .by) in
+      rounding-unread turn others h b (c .before .own .given .1)
 
   check-rounded-loop-again : check-rounded-lts.Need-loop-again (check-rounded-claims t) (check-rounded-at t) check-rounded.Post Inv-loop μ-loop
   check-rounded-loop-again c =
-      let turn = c .before .before .before .before .before .before .before .before .before .before .before .before .before .before .before .before .before .before .before .before .before .before .before .before .loop .inv in
-      let eb = c .before .before .before .before .before .before .before .before .before .before .before .before .before .before .before .before .before .before .before .before .before .start .ensures .0 in
-      let ek = c .before .before .before .before .before .before .before .before .before .before .before .before .before .before .before .before .before .before .before .before .before .start .ensures .1 in
-      let h = c .before .before .before .before .before .before .before .before .before .before .before .before .before .before .before .put-front .ensures in
+      let turn = c .before .before .before .before .before .before .before .before .before .before .before .before .before .before .before .before .before .before .before .before .before .before .loop .inv in
+      let h = c .before .before .before .before .before .before .before .before .before .before .before .before .before .before .before .before .before .before .start-rounded .ensures in
       let b = c .before .before .before .before .before .before .before .before .before .check-branch .ensures in
-      let others = ltb (c .before .before .before .before .before .before .before .before .before .before .before .before .before .before .before .before .before .before .before .before .before .before .before .before .loop .j + 1) (c .before .before .before .before .before .before .before .before .before .before .before .before .before .before .before .before .before .before .before .before .before .before .before .before .before .before .before .before .args .by) in
-      rounding-next turn eb ek others h b (unnot others (c .before .before .before .if1 .left)) (ltb-true _ _ (unnot others (c .before .before .before .if1 .left))) (c .before .own .given .1)
+      let others = ltb (c .before .before .before .before .before .before .before .before .before .before .before .before .before .before .before .before .before .before .before .before .before .before .loop .j + 1) (c .before .before .before .before .before .before .before .before .before .before .before .before .before .before .before .before .before .before .before .before .before .before .before .before .before .before .args .by) in
+      rounding-next turn others h b (unnot others (c .before .before .before .if1 .left)) (ltb-true _ _ (unnot others (c .before .before .before .if1 .left))) (c .before .own .given .1)
 
   check-rounding-put-pair-requires : check-rounding-lts.Need-put-pair-requires (check-rounding-claims t) (check-rounding-at t) check-rounding.Post
   check-rounding-put-pair-requires c κs = omega (arith, room-left (c .before .before .before .before .pre .1 .0 .0))
@@ -783,7 +770,7 @@ pub +check-branch+check-rounded+check-rounding+check-split-spec : {M : Type 1} �
     (check-branch-same-length-12 t)
     (check-branch-same-length-13 t)
     (check-branch-returns-5 t)
-    (check-branch-start-requires t)
+    (check-branch-start-line-requires t)
     (check-branch-put-pair-requires-2 t)
     (check-branch-check-branch-requires-2 t)
     (check-branch-enum-known-second t)
@@ -792,7 +779,7 @@ pub +check-branch+check-rounded+check-rounding+check-split-spec : {M : Type 1} �
     (check-branch-same-length-15 t)
     (check-branch-same-length-16 t)
     (check-branch-returns-6 t)
-    (check-branch-start-requires-2 t)
+    (check-branch-start-line-requires-2 t)
     (check-branch-check-branch-requires-3 t)
     (check-branch-resumed-requires t)
     (check-branch-same-length-17 t)
@@ -832,9 +819,8 @@ pub +check-branch+check-rounded+check-rounding+check-split-spec : {M : Type 1} �
     Inv-loop
     μ-loop
     (check-rounded-loop-holds t)
-    (check-rounded-start-requires t)
     (check-rounded-add-following t)
-    (check-rounded-put-front-requires t)
+    (check-rounded-start-rounded-requires t)
     (check-rounded-check-branch-requires t)
     (check-rounded-same-length t)
     (check-rounded-same-length-2 t)

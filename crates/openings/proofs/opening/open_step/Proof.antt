@@ -41,8 +41,8 @@ returns-3 c =
     let both = counted-both (s .args .tally) (c .before .before .before .before .before .before .before .before .open-counted .ensures) may (c .before .before .before .before .before .line-counted .ensures) (unnot _ (c .before .before .before .if2 .left)) in
     open-range (s .args .tally) (s .args .i .0) (s .args .x) (s .args .y) (s .pre .0) (counted-open (c .before .before .before .before .before .before .before .before .open-counted .ensures) may .0) (s .pre .1) (both .0) (c .before .raised-fit .ensures) (unnot _ (c .if3 .taken))
 
-start-requires : tie.Need-start-requires
-start-requires c κs =
+start-line-requires : tie.Need-start-line-requires
+start-line-requires c κs =
     let s = c .before .before .before .before .before .before .before .before .before .before .before .before .before in
     let may = unnot _ (c .before .before .before .before .before .before .before .before .before .if1 .left) in
     let both = counted-both (s .args .tally) (c .before .before .before .before .before .before .before .before .before .before .before .open-counted .ensures) may (c .before .before .before .before .before .before .before .before .line-counted .ensures) (unnot _ (c .before .before .before .before .before .before .if2 .left)) in
@@ -59,7 +59,7 @@ returns-4 c =
     let s = c .before .before .before .before .before .before .before .before .before .before .before .before .before .before .before .before .before in
     let may = unnot _ (c .before .before .before .before .before .before .before .before .before .before .before .before .before .if1 .left) in
     let both = counted-both (s .args .tally) (c .before .before .before .before .before .before .before .before .before .before .before .before .before .before .before .open-counted .ensures) may (c .before .before .before .before .before .before .before .before .before .before .before .before .line-counted .ensures) (unnot _ (c .before .before .before .before .before .before .before .before .before .before .if2 .left)) in
-    open-made (s .args .tally) (s .args .i .0) (s .args .x) (s .args .y) (s .pre .0) (counted-open (c .before .before .before .before .before .before .before .before .before .before .before .before .before .before .before .open-counted .ensures) may .0) (s .pre .1) (both .0) (c .before .before .before .before .before .before .before .before .raised-fit .ensures) (unnot _ (c .before .before .before .before .before .before .before .if3 .left)) (c .before .before .before .start .ensures .0) (c .before .before .before .start .ensures .1) (both .1)
+    open-made (s .args .tally) (s .args .i .0) (s .args .x) (s .args .y) (s .pre .0) (counted-open (c .before .before .before .before .before .before .before .before .before .before .before .before .before .before .before .open-counted .ensures) may .0) (s .pre .1) (both .0) (c .before .before .before .before .before .before .before .before .raised-fit .ensures) (unnot _ (c .before .before .before .before .before .before .before .if3 .left)) (c .before .before .before .start-line .ensures .0) (c .before .before .before .start-line .ensures .1) (both .1)
 
 pub open-step-spec : {M : Type 1} → statement M
 open-step-spec =
@@ -72,7 +72,7 @@ open-step-spec =
     raised-fit-requires
     same-length
     returns-3
-    start-requires
+    start-line-requires
     same-length-2
     same-length-3
     returns-4)

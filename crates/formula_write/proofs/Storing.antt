@@ -1,5 +1,6 @@
 -- Bytes stored one part behind the other. Assumes nothing.
 use mathlib.Core.Path.{_≡_, refl, sym, _∙_}
+use mathlib.Core.Bool.{Bool, true, false}
 use mathlib.Core.List.{List, [], _++_}
 use Prim.Native.Nat.{ℕ, _+_, _≤_}
 use native.Mathlib.Omega.{arith}
@@ -11,9 +12,8 @@ use Rattle.number_bytes.proofs.Stores.{sets-append}
 use Rattle.fields.specs.Fields.{fieldBytes}
 use Rattle.fields.proofs.Framing.{length-fieldBytes as field-size}
 use Rattle.formula.specs.Formula.{encode}
-use Rattle.formula_write.specs.Writing.{Puts, Heads, Stores}
+use Rattle.formula_write.specs.Writing.{Puts, Heads, Stores, orBytes, frontBytes}
 
--- ---- bytes behind bytes
 -- What is written behind a run that is written.
 pub both-stored : (scratch₀ : List ℕ) (o₀ : ℕ) (bytes bs : List ℕ) {scratch scratch′ : List ℕ} {o : ℕ} → o ≡ o₀ + length bytes → length scratch ≡ length scratch₀
     → (o₀ + length bytes ≤ length scratch₀ → scratch ≡ sets scratch₀ o₀ bytes) → (o + length bs ≤ length scratch → scratch′ ≡ sets scratch o bs)
@@ -39,3 +39,11 @@ stores-formula p = record { long = p .long; o-is = p .o-is; stored = p .stored }
 
 pub stores-none : {scratch : List ℕ} {o : ℕ} → Stores scratch o [] scratch o
 stores-none = record { long = refl; o-is = omega arith; stored = λ r. refl }
+
+-- ---- what stands before Ij in a rounding's formula
+pub or-size : (others : Bool) → length (orBytes others) ≤ 3
+or-size true = omega (arith, field-size 0x31 [])
+or-size false = omega arith
+
+pub front-size : (others : Bool) (E : Formula) → length (frontBytes others E) ≡ length (orBytes others) + 3 + length (encode edition1 E)
+front-size others E = omega (arith, length-append (orBytes others ++ fieldBytes 0x32 []) (encode edition1 E), length-append (orBytes others) (fieldBytes 0x32 []), field-size 0x32 [])

@@ -1,8 +1,8 @@
--- `openings::rounding::put_or` meets its contract. Assumes nothing.
-use Rattle.openings.proofs.Storing.{stores-head, stores-none}
+-- `formula_write::put_or` meets its contract. Assumes nothing.
+use Rattle.formula_write.proofs.Storing.{stores-head, stores-none}
 use borrow.Author.Needs.{needs}
-use Rattle.openings.proofs.rounding.put_or.Statement.{statement}
-use Rattle.openings.proofs.rounding.put_or.Tie as tie
+use Rattle.formula_write.proofs.put_or.Statement.{statement}
+use Rattle.formula_write.proofs.put_or.Tie as tie
 
 put-pair-requires : tie.Need-put-pair-requires
 put-pair-requires c κs = search needs
