@@ -102,7 +102,6 @@ module _ {K : ℕ} {p : List ℕ} {at : ℕ} {kinds : List ℕ} {buf : List ℤ}
             o-is = w .puts .o-is;
             stored = w .puts .stored;
             within = omega (arith, w .short, m .unread);
-            few = omega (arith, m .few, m .from);
             unread = omega (arith, m .unread);
             lines-is = refl;
             open-is = refl;

@@ -3,11 +3,12 @@ use mathlib.Core.Path.{_≡_, refl, subst, _∙_}
 use mathlib.Core.Bool.{Bool, true, false}
 use mathlib.Core.List.{List}
 use mathlib.Core.Option.{Option}
-use Prim.Native.Nat.{ℕ, _+_, _-_, _≤_}
+use Prim.Native.Nat.{ℕ, suc, _+_, _-_, _≤_}
 use native.Mathlib.Omega.{arith}
 use lib.ListN.{take, drop}
 use lib.IntN.{ℤ}
 use Rattle.forms.specs.Edition.{edition}
+use Rattle.forms.proofs.Editions.{lineWidth-some}
 use Rattle.forms.specs.declared.LineNumber.{LineNumber}
 use Rattle.forms.specs.declared.RowNumber.{RowNumber}
 use Rattle.calculus.specs.Rules as rules
@@ -29,10 +30,10 @@ use Rattle.steps.specs.Steps.{SameChecked, rowLeft, lastMade, fieldChecked, Ste
 use Rattle.steps.proofs.Stepping.{there-made}
 use Rattle.steps.specs.declared.Stepped.{Stepped}
 use Rattle.steps.specs.declared.Stepped.the-variants.{Refused, Made, Strengthens, ClosesNumber, ClosesStride, Rounds, Splits}
-use Rattle.branches.specs.Spare.{fieldsLeft, unreadBytes, Spare}
+use Rattle.branches.specs.Spare.{linesLeft, unreadBytes, Spare}
 use Rattle.branches.specs.Branches.{entriesFrom, Comes, Stopped}
 use Rattle.branches.specs.declared.branch.Stop.{Stop}
-use Rattle.branches.proofs.Spare.{count-starts, spare-less}
+use Rattle.branches.proofs.Spare.{lines-fewer, lines-starts, spare-less}
 
 -- The entries from a place on, in the middle of a branch.
 abbrev entriesAt : (K : ℕ) (p : List ℕ) (place : ℕ) (kinds : List ℕ) (buf : List ℤ) (t : Tally) (made : Bool) (here : Position) (deeper : Option Checker) → Result Closing
@@ -47,8 +48,8 @@ pub record Going (K : ℕ) (p : List ℕ) (at : ℕ) (kinds₀ : List ℕ) (buf�
   pub open-is : t .«open» ≡ t₀ .«open»
   pub edition-is : t .edition ≡ t₀ .edition
   pub made-one : made ≡ true → 1 ≤ t .lines .0
-  pub few : t .lines .0 + fieldsLeft p place ≤ t₀ .lines .0 + fieldsLeft p at
-  pub spare : Spare (t .edition) K (t₀ .lines .0 + fieldsLeft p at) kinds buf
+  pub few : t .lines .0 + linesLeft (t₀ .edition) p place ≤ t₀ .lines .0 + linesLeft (t₀ .edition) p at
+  pub spare : Spare (t .edition) K (t₀ .lines .0 + linesLeft (t₀ .edition) p at) kinds buf
   pub unread : unreadBytes p place ≤ unreadBytes p at
 
 module _ {K : ℕ} {p : List ℕ} {at : ℕ} {kinds₀ : List ℕ} {buf₀ : List ℤ} {t₀ : Tally} {kinds : List ℕ} {buf : List ℤ} {place : ℕ} {t : Tally} {made : Bool}
@@ -62,7 +63,7 @@ module _ {K : ℕ} {p : List ℕ} {at : ℕ} {kinds₀ : List ℕ} {buf₀ : Lis
   going-ends er e = rw er (record { kept = g .kept; by = λ here deeper. g .same here deeper ∙ rw e })
 
   module _ {a tag start len next : ℕ} (s : Starts p place a tag start len next) {kinds′ : List ℕ} {buf′ : List ℤ} {r : Stepped}
-      (x : Steps (fieldChecked K kinds buf t made tag (take len (drop start p))) K kinds buf t kinds′ buf′ r) (long : Advances len r) where
+      (x : Steps (fieldChecked K kinds buf t made tag (take len (drop start p))) K kinds buf t kinds′ buf′ r) (long : Advances (t .edition) len r) where
     -- the field that stands next, and what follows it
     field-is : (here : Position) (deeper : Option Checker) → entriesFrom K p at kinds₀ buf₀ t₀ here deeper
         ≡ fieldChecked K kinds buf t made tag (take len (drop start p)) deeper (checkEntries (edition (t .edition)) K here deeper (fieldsAt p next)) (refusalAt here (t .rows .0) a) (fieldsAt p next)
@@ -79,23 +80,27 @@ module _ {K : ℕ} {p : List ℕ} {at : ℕ} {kinds₀ : List ℕ} {buf₀ : Lis
     pub going-refused : {n : ℕ} {rows : RowNumber} → rows ≡ t .rows → r ≡ Refused n → Stopped K p at kinds₀ buf₀ t₀ kinds′ buf′ (Stop.Fault n rows a)
     going-refused er e = let y = rw e at x in rw er (record { kept = all-kept; by = by-same (y .by) })
 
-    spare-kept : Spare (t .edition) K (t₀ .lines .0 + fieldsLeft p at) kinds′ buf′
+    spare-kept : Spare (t .edition) K (t₀ .lines .0 + linesLeft (t₀ .edition) p at) kinds′ buf′
     spare-kept = spare-less (omega arith) (x .kept .kinds-length) (x .kept .lines-length) (g .spare)
+
+    one-less : edition (t .edition) .lineWidth ≤ len → suc (linesLeft (t₀ .edition) p next) ≤ linesLeft (t₀ .edition) p place
+    one-less l = lines-starts (t₀ .edition) s (rw (g .edition-is) at l)
 
     pub going-made : {u : Tally} → r ≡ Made u → Going K p at kinds₀ buf₀ t₀ kinds′ buf′ next u true
     going-made e =
         let y = rw e at x in
+        let l = one-less (rw e at long) in
         rw (y .by .2)
         (let z : t .lines .0 + 1 - 1 ≡ t .lines .0 = omega arith in
         record {
           same = λ here deeper. by-same (y .by .0) here deeper ∙ rw z;
           kept = all-kept;
-          ready = ready-more (g .ready) (x .kept) (y .by .1) (g .spare .room (t .lines .0 + 1) (y .by .1 .most) (omega (arith, g .few, count-starts s))) (g .spare .kinds-room (t .lines .0 + 1) (y .by .1 .most) (omega (arith, g .few, count-starts s)));
+          ready = ready-more (g .ready) (x .kept) (y .by .1) (g .spare .room (t .lines .0 + 1) (y .by .1 .most) (omega (arith, g .few, l))) (g .spare .kinds-room (t .lines .0 + 1) (y .by .1 .most) (omega (arith, g .few, l)));
           from = omega (arith, g .from);
           open-is = g .open-is;
           edition-is = g .edition-is;
           made-one = λ h. omega arith;
-          few = omega (arith, g .few, count-starts s);
+          few = omega (arith, g .few, l);
           spare = spare-kept;
           unread = omega (arith, g .unread, starts-less s);
         })
@@ -114,12 +119,12 @@ module _ {K : ℕ} {p : List ℕ} {at : ℕ} {kinds₀ : List ℕ} {buf₀ : Lis
           open-is = g .open-is;
           edition-is = g .edition-is;
           made-one = λ h. absurd (let z : _≡_ {A = ℕ} 0 1 = cc in omega arith);
-          few = omega (arith, g .few, count-starts s);
+          few = omega (arith, g .few, lines-fewer (t₀ .edition) (starts-less s));
           spare = spare-kept;
           unread = omega (arith, g .unread, starts-less s);
         }
 
-    comes : {row : rules.Row} {u : Tally} → SameChecked (fieldChecked K kinds buf t made tag (take len (drop start p))) (rowLeft K kinds buf t row) → u ≡ moreRows t → 1 ≤ len
+    comes : {row : rules.Row} {u : Tally} → SameChecked (fieldChecked K kinds buf t made tag (take len (drop start p))) (rowLeft K kinds buf t row) → u ≡ moreRows t → edition (t .edition) .lineWidth ≤ len
         → Comes K p at kinds₀ buf₀ t₀ kinds′ buf′ row (t .rows .0) a next u
     comes q eu l =
         rw eu
@@ -130,8 +135,8 @@ module _ {K : ℕ} {p : List ℕ} {at : ℕ} {kinds₀ : List ℕ} {buf₀ : Lis
           from = g .from;
           open-is = g .open-is;
           edition-is = g .edition-is;
-          few = omega (arith, g .few, count-starts s);
-          unread = omega (arith, g .unread, s .from, s .start-is, s .next-is, s .upto, l);
+          few = omega (arith, g .few, one-less l);
+          unread = omega (arith, g .unread, s .from, s .start-is, s .next-is, s .upto, l, lineWidth-some (t .edition));
         })
 
     module _ {row : RowNumber} (er : row ≡ t .rows) {u : Tally} where
@@ -151,7 +156,7 @@ module _ {K : ℕ} {p : List ℕ} {at : ℕ} {kinds₀ : List ℕ} {buf₀ : Lis
       going-splits e = let y = rw e at x in let l = rw e at long in rw er (record { kept = all-kept; by = comes (y .by .0) (y .by .1) l })
 
 pub going-start : {K : ℕ} {p : List ℕ} {at : ℕ} {kinds : List ℕ} {buf : List ℤ} {t : Tally}
-    → Ready (t .edition) K kinds buf (t .lines .0) × Spare (t .edition) K (t .lines .0 + fieldsLeft p at) kinds buf → Going K p at kinds buf t kinds buf at t false
+    → Ready (t .edition) K kinds buf (t .lines .0) × Spare (t .edition) K (t .lines .0 + linesLeft (t .edition) p at) kinds buf → Going K p at kinds buf t kinds buf at t false
 going-start (h, s) = record {
   same = λ here deeper. refl;
   kept = kept-refl;

@@ -62,7 +62,6 @@ module _ {p : List ℕ} {at : ℕ} {t : Tally} {scratch : List ℕ} {o : ℕ} {p
             o-is = rw e (s .o-is);
             stored = rw e (s .stored);
             within = omega (arith, c .within, h .o-is);
-            few = c .few;
             unread = c .unread;
             lines-is = c .lines-is;
             open-is = c .open-is;
@@ -92,7 +91,6 @@ module _ {p : List ℕ} {at : ℕ} {t : Tally} {scratch : List ℕ} {o : ℕ} {p
               o-is = rw e (omega (arith, d .o-is, s .o-is));
               stored = rw e (both-stored scratch o (pre ++ f) g (s .o-is) (s .long) (s .stored) (d .stored));
               within = omega (arith, d .within, c .within, h .o-is);
-              few = omega (arith, d .few, c .few);
               unread = omega (arith, d .unread, c .unread);
               lines-is = d .lines-is ∙ c .lines-is;
               open-is = d .open-is ∙ c .open-is;

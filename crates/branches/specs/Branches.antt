@@ -14,14 +14,14 @@ use Rattle.lines.specs.Buffer.{linesIn}
 use Rattle.lines.specs.Ready.{Ready, LinesKept}
 use Rattle.tally.specs.declared.Tally.{Tally}
 use Rattle.entries.specs.Entries.{Multiplies}
-use Rattle.branches.specs.Spare.{fieldsLeft, unreadBytes}
+use Rattle.branches.specs.Spare.{linesLeft, unreadBytes}
 use Rattle.branches.specs.declared.branch.Stop.{Stop}
 
 -- The entries from a place on, in a branch of the tally's lines at a position, where no claim may stand first.
 abbrev pub entriesFrom : (K : ℕ) (p : List ℕ) (at : ℕ) (kinds : List ℕ) (buf : List ℤ) (t : Tally) (here : Position) (deeper : Option Checker) → Result Closing
 entriesFrom K p at kinds buf t here deeper = checkEntries (edition (t .edition)) K here deeper (fieldsAt p at) (t .rows .0) none (linesIn K kinds buf (t .lines .0))
 
--- They come to a row, by its number, at a, with the lines that there are then; each line more, and the row itself, took a field, and the row's field has four bytes at least.
+-- They come to a row, by its number, at a, with the lines that there are then; each line more, and the row itself, took the bytes of a line, and the row's field has four at least.
 pub record Comes (K : ℕ) (p : List ℕ) (at : ℕ) (kinds : List ℕ) (buf : List ℤ) (t : Tally) (kinds′ : List ℕ) (buf′ : List ℤ) (row : rules.Row) (number a next : ℕ) (t′ : Tally) : Type 0 where
   pub rows-is : t′ .rows .0 ≡ number + 1
   pub is : (here : Position) (deeper : Option Checker)
@@ -31,7 +31,7 @@ pub record Comes (K : ℕ) (p : List ℕ) (at : ℕ) (kinds : List ℕ) (buf : L
   pub from : t .lines .0 ≤ t′ .lines .0
   pub open-is : t′ .«open» ≡ t .«open»
   pub edition-is : t′ .edition ≡ t .edition
-  pub few : t′ .lines .0 + suc (fieldsLeft p next) ≤ t .lines .0 + fieldsLeft p at
+  pub few : t′ .lines .0 + suc (linesLeft (t .edition) p next) ≤ t .lines .0 + linesLeft (t .edition) p at
   pub unread : unreadBytes p next + 4 ≤ unreadBytes p at
 
 abbrev pub StoppedBy : (K : ℕ) (p : List ℕ) (at : ℕ) (kinds : List ℕ) (buf : List ℤ) (t : Tally) (kinds′ : List ℕ) (buf′ : List ℤ) → Stop → Type 0

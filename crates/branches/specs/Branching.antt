@@ -24,7 +24,7 @@ use Rattle.closes.specs.declared.ends.Ended as ended
 use Rattle.closes.specs.declared.ends.Ended.the-variants as ended-of
 use Rattle.openings.specs.Opening.{Branching, startOf, Longer, fromBranch, allRounded}
 use Rattle.openings.specs.Splitting.{ownerOf, raisedBy, negatedOf, bothOf}
-use Rattle.branches.specs.Spare.{fieldsLeft, unreadBytes, Spare}
+use Rattle.branches.specs.Spare.{linesLeft, unreadBytes, Spare}
 use Rattle.branches.specs.declared.branch.Branched as branched
 use Rattle.branches.specs.declared.branch.Branched.the-variants as branched-of
 
@@ -47,10 +47,10 @@ perByte = 39
 abbrev pub keptBack : ℕ
 keptBack = 81
 
--- What a branch asks: its lines, room for one more for each field that is left, and that what is written, with what the bytes that are left may add, keeps its limit.
+-- What a branch asks: its lines, room for those that the bytes that are left may make, and that what is written, with what the bytes that are left may add, keeps its limit.
 pub record Started (K : ℕ) (kinds : List ℕ) (buf : List ℤ) (t : Tally) (p : List ℕ) (at o : ℕ) : Type 0 where
   pub ready : Ready (t .edition) K kinds buf (t .lines .0)
-  pub spare : Spare (t .edition) K (t .lines .0 + fieldsLeft p at) kinds buf
+  pub spare : Spare (t .edition) K (t .lines .0 + linesLeft (t .edition) p at) kinds buf
   pub room : o + perByte * unreadBytes p at ≤ scratchLimit
 
 -- R, from `at` on, accepts a formula, whose bytes stand from o on if there is room for them; the fields go on at a. It keeps `back` bytes back.
@@ -60,7 +60,6 @@ pub record Closes (back : ℕ) (R : Result Closing) (p : List ℕ) (at : ℕ) (t
   pub o-is : o′ ≡ o + length (encode edition1 formula)
   pub stored : o + length (encode edition1 formula) ≤ length scratch → scratch′ ≡ sets scratch o (encode edition1 formula)
   pub within : o′ + back + perByte * unreadBytes p a ≤ o + perByte * unreadBytes p at
-  pub few : fieldsLeft p a ≤ fieldsLeft p at
   pub unread : unreadBytes p a < unreadBytes p at
   pub lines-is : t′ .lines .0 ≡ t .lines .0
   pub open-is : t′ .«open» ≡ t .«open»
@@ -90,7 +89,7 @@ Branches K p at here kinds buf t scratch o kinds′ buf′ scratch′ r =
 -- What they ask, where the first one starts with line i, t + x with tA + y: their own line comes behind the n lines, and the step that opened them is counted.
 pub record Opened (K n x y : ℕ) (kinds : List ℕ) (buf : List ℤ) (t : Tally) (i : ℕ) (p : List ℕ) (at o : ℕ) : Type 0 where
   pub ready : Ready (t .edition) K kinds buf n
-  pub spare : Spare (t .edition) K (n + 1 + fieldsLeft p at) kinds buf
+  pub spare : Spare (t .edition) K (n + 1 + linesLeft (t .edition) p at) kinds buf
   pub room : o + keptBack + perByte * unreadBytes p at ≤ scratchLimit
   pub line : i < n
   pub space : n < edition (t .edition) .lines

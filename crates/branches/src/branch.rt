@@ -1,6 +1,6 @@
 // A branch: its entries up to the row that ends it or opens branches, and the branches that are opened.
 ghost use Rattle.lines.specs.Ready.{Ready};
-ghost use Rattle.branches.specs.Spare.{fieldsLeft, Spare};
+ghost use Rattle.branches.specs.Spare.{linesLeft, Spare};
 ghost use Rattle.branches.specs.Branches.{Stopped};
 ghost use mathlib.Core.Path.{_≡_};
 ghost use Prim.Native.Nat.{_+_};
@@ -92,7 +92,7 @@ pub fn entries(
     k: usize,
 ) -> Stop
     requires { ⌜ Ready (tally .edition) k (now kinds) (now lines) (tally .lines .0) ⌝ }
-    requires { ⌜ Spare (tally .edition) k (tally .lines .0 + fieldsLeft (now p) at) (now kinds) (now lines) ⌝ }
+    requires { ⌜ Spare (tally .edition) k (tally .lines .0 + linesLeft (tally .edition) (now p) at) (now kinds) (now lines) ⌝ }
     ensures { λ r. ⌜ Stopped k (now (p .entry)) at (now (kinds .entry)) (now (lines .entry)) tally (now (kinds .exit)) (now (lines .exit)) r ⌝ }
 {
     let mut here = at;

@@ -1,5 +1,6 @@
 -- A check whose bundles and header are read is the check of its root. Assumes nothing.
-use mathlib.Core.Path.{_≡_, refl, sym, ap, _∙_}
+use mathlib.Core.Path.{_≡_, refl, sym, ap, subst, _∙_}
+use mathlib.Core.Logic.{inr}
 use mathlib.Core.Option.{none, some}
 use mathlib.Core.Bool.{Bool, true, false}
 use mathlib.Core.List.{List, _++_}
@@ -28,13 +29,13 @@ use Rattle.proof.specs.Check.{Closing, checkBranch, checkProof, formulaAtMost, 
 use Rattle.proof.specs.Promises.{Checks}
 use Rattle.lines.specs.Buffer.{linesIn}
 use Rattle.tally.specs.Tally.{tally}
-use Rattle.branches.specs.Spare.{fieldsLeft, Spare}
+use Rattle.branches.specs.Spare.{linesLeft, Spare}
 use Rattle.branches.specs.Branching.{Started}
 use Rattle.bundle_load.specs.Both.{statedIn, Both, Prepared}
 use Rattle.bundle_load.proofs.Preparing.{few}
 use Rattle.check_output.specs.Output.{fileWithin, finishing}
-use Rattle.check_root.specs.Root.{rooted, Roots}
-use Rattle.check_sizes.specs.Sizes.{Short, Begun}
+use Rattle.check_sizes.specs.Root.{rooted, Roots}
+use Rattle.check_sizes.specs.Sizes.{Short, Begun, CheckedWithin, Tries}
 
 -- ---- the bundles
 -- A bundle's file as what it states.
@@ -117,13 +118,13 @@ module _ {A B : List ℕ} {first second : Body} {P : List ℕ} {e K at : ℕ} (g
       ap (λ (x : Result Closing). x >>= λ c. finishing K (c .after) (encode edition1 (c .formula))) same-root
       ∙ sym (ap (λ (x : Result (ℕ × Formula)). x >>= λ (k, I). accepted (formulaFile edition1 k I)) (begun-is g) ∙ then-bytes K (tree g))
 
-  pub checks-root : {out out′ : List ℕ} {r : WriteResult} → Roots e K (linesIn K kinds buf (first .count + second .count)) P at out out′ r → Checks A B P out out′ r
+  pub checks-root : {S out out′ : List ℕ} {r : WriteResult} → Roots e K (linesIn K kinds buf (first .count + second .count)) P at S out out′ r → CheckedWithin A B P at S out out′ r
   unfolding check checkBy
-  checks-root {out} l = record { is = l .is ∙ ap (λ (R : Result (List ℕ)). written R out) same-bytes }
+  checks-root {out = out} l = record { is = λ t. record { is = l .is t ∙ ap (λ (R : Result (List ℕ)). written R out) same-bytes }; same = l .same }
 
 -- ---- what the root asks
 module _ {A B : List ℕ} {first second : Body} {P : List ℕ} {e K at : ℕ} (g : Begun A B first second P e K at) {kinds : List ℕ} {buf : List ℤ} (q : Prepared A B first second K kinds buf) where
-  pub started : Spare e K (first .count + second .count + fieldsLeft P at) kinds buf
+  pub started : Spare e K (first .count + second .count + linesLeft e P at) kinds buf
       → Started K kinds buf (tally e 0 (first .count + second .count) 0) P at 0
   started spare = record {
     ready = record {
@@ -134,3 +135,14 @@ module _ {A B : List ℕ} {first second : Body} {P : List ℕ} {e K at : ℕ} (g
     spare = spare;
     room = omega (arith, g .short .p);
   }
+
+-- ---- a check that is tried
+module _ {A B P : List ℕ} where
+  pub not-tried : {out : List ℕ} {r : WriteResult} → r .answer .number ≡ 1 → Tries A B P out out r
+  not-tried one = record { is = λ other. absurd (other one); same = λ one. refl }
+
+  pub tried : {at : ℕ} {S out out′ : List ℕ} {r : WriteResult} → CheckedWithin A B P at S out out′ r → Tries A B P out out′ r
+  tried w = record { is = λ other. w .is (inr other); same = w .same }
+
+  pub tried-again : {out out₁ out₂ : List ℕ} {r₁ r : WriteResult} → Tries A B P out out₁ r₁ → r₁ .answer .number ≡ 1 → Checks A B P out₁ out₂ r → Checks A B P out out₂ r
+  tried-again {out₂ = out₂} {r = r} t one k = subst (λ (o : List ℕ). Checks A B P o out₂ r) (t .same one) k

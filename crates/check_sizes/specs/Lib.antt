@@ -1,2 +1,3 @@
--- A check with its arrays.
+-- The root, and a check with its arrays.
+pub mod Root
 pub mod Sizes

@@ -11,9 +11,12 @@ use Rattle.fields.specs.declared.FileKind.{FileKind}
 use Rattle.fields.specs.Fields.{fields}
 use Rattle.fields.specs.Header.{header}
 use Rattle.fields.specs.Places.{fieldsAt}
+use Rattle.answers.specs.declared.WriteResult.{WriteResult}
 use Rattle.bundle_scan.specs.declared.Body.{Body}
+use Rattle.proof.specs.Promises.{Checks}
 use Rattle.lines.specs.Buffer.{size}
 use Rattle.bundle_load.specs.Both.{Both}
+use Rattle.check_sizes.specs.Root.{Told}
 
 -- No file is too long for every edition.
 pub record Short (A B P : List ℕ) : Type 0 where
@@ -33,3 +36,12 @@ LinesWithin e c N = min c (edition e .lines) ≤ N
 
 abbrev pub NumbersWithin : (e K c N : ℕ) → Type 0
 NumbersWithin e K c N = (min c (edition e .lines) + 1) * size K ≤ N
+
+-- What is left by a check in a scratch that may be too short, and by one that is tried in such a scratch.
+pub record CheckedWithin (A B P : List ℕ) (at : ℕ) (scratch out out′ : List ℕ) (r : WriteResult) : Type 0 where
+  pub is : Told P at scratch r → Checks A B P out out′ r
+  pub same : r .answer .number ≡ 1 → out′ ≡ out
+
+pub record Tries (A B P out out′ : List ℕ) (r : WriteResult) : Type 0 where
+  pub is : (r .answer .number ≡ 1 → ⊥) → Checks A B P out out′ r
+  pub same : r .answer .number ≡ 1 → out′ ≡ out

@@ -13,7 +13,7 @@ use lib.Signed.{mag}
 use borrow.Author.Tests.{eq-eqb, ne-eqb, eqb-true}
 use Rattle.integers.specs.Magnitude.{Within}
 use Rattle.forms.specs.Edition.{edition}
-use Rattle.forms.proofs.Editions.{lineWidth-some}
+use Rattle.forms.proofs.Editions.{lineWidth-most}
 use Rattle.forms.specs.declared.LineNumber.{LineNumber}
 use Rattle.calculus.specs.Rules as rules
 use Rattle.answers.specs.declared.Answer.{Answer}
@@ -63,7 +63,7 @@ module _ (p : List ℕ) (start len : ℕ) (there : start + len ≤ length p) whe
 
       right-size : {r : Entry} → len ≡ m → ((K : ℕ) → sizeOf (edition n) K tagged ≡ m)
           → ((refusal : ℕ → Answer) (K : ℕ) → entryOf refusal K (take len (drop start p)) r ≡ accepted (entryFrom (edition n) K tagged (take len (drop start p))))
-          → ((K : ℕ) → Ranged K start len r) → Filled len r → Shaped n tagged p start len r
+          → ((K : ℕ) → Ranged K start len r) → Filled n len r → Shaped n tagged p start len r
       unfolding _>>_ need
       right-size h sizes e g f = record { is = λ refusal K. rw (size, sizes K, eq-eqb len m h) (e refusal K); ranged = g; filled = f }
 
@@ -93,7 +93,7 @@ module _ (p : List ℕ) (start len : ℕ) (there : start + len ≤ length p) whe
           let e₄ = sym (multiplies-abs b) ∙ ap unsigned (multiplier-is 2 1 (start + 2 * w + 2) (omega (arith, width)) (omega (arith, width))) in
           rw (e₁, e₂, e₃, e₄))
           (λ K. (multiplies-own a, multiplies-own b))
-          (omega arith)
+          (omega (arith, width))
 
       pub reduce-is : {s t : LineNumber} {α : ℤ} → len ≡ 2 * w + 2
           → s .0 ≡ unsigned (take (edition n .lineWidth) (drop start p)) → t .0 ≡ unsigned (take (edition n .lineWidth) (drop (start + w) p))
@@ -109,7 +109,7 @@ module _ (p : List ℕ) (start len : ℕ) (there : start + len ≤ length p) whe
           ap (λ (x : ℕ). accepted (rules.row (rules.Derive (rules.Reduce x (t .0) α)))) e₁
           ∙ ap₂ (λ (x : ℕ) (y : ℤ). accepted (rules.row (rules.Derive (rules.Reduce (lineNumber (edition n) 0 (take len (drop start p))) x y)))) e₂ e₃)
           (λ K. held-within held)
-          (omega arith)
+          (omega (arith, width))
 
       pub scale-is : {t : LineNumber} {α : ℤ} → len ≡ w + 2 → t .0 ≡ unsigned (take (edition n .lineWidth) (drop start p)) → Multiplies (unsigned (take 2 (drop (start + w) p))) α
           → Shaped n scaleTag p start len (Entry.Scale t α)
@@ -121,7 +121,7 @@ module _ (p : List ℕ) (start len : ℕ) (there : start + len ≤ length p) whe
           let e₂ = sym (multiplies-abs a) ∙ ap unsigned (multiplier-is 1 0 (start + w) (omega (arith, width)) (omega (arith, width))) in
           rw (e₁, e₂))
           (λ K. multiplies-own a)
-          (omega arith)
+          (omega (arith, width))
 
       pub stride-is : {t : LineNumber} {g : ℤ} → len ≡ w + 2 → t .0 ≡ unsigned (take (edition n .lineWidth) (drop start p)) → Multiplies (unsigned (take 2 (drop (start + w) p))) g
           → Shaped n strideTag p start len (Entry.CloseStride t g)
@@ -133,7 +133,7 @@ module _ (p : List ℕ) (start len : ℕ) (there : start + len ≤ length p) whe
           let e₂ = sym (multiplies-abs a) ∙ ap unsigned (multiplier-is 1 0 (start + w) (omega (arith, width)) (omega (arith, width))) in
           rw (e₁, e₂))
           (λ K. multiplies-own a)
-          (omega arith)
+          (omega (arith, width))
 
       pub round-is : {t : LineNumber} {g : ℤ} {by : ℕ} → len ≡ w + 4 → t .0 ≡ unsigned (take (edition n .lineWidth) (drop start p)) → Multiplies (unsigned (take 2 (drop (start + w) p))) g
           → by ≡ unsigned (take 2 (drop (start + w + 2) p)) → Shaped n roundTag p start len (Entry.Round t g by)
@@ -146,26 +146,26 @@ module _ (p : List ℕ) (start len : ℕ) (there : start + len ≤ length p) whe
           let e₃ = b ∙ ap unsigned (multiplier-is 1 1 (start + w + 2) (omega (arith, width)) (omega (arith, width))) in
           rw (e₁, e₂, e₃))
           (λ K. multiplies-own a)
-          (omega arith)
+          (omega (arith, width))
 
       module _ {t : LineNumber} (h : len ≡ w) (et : t .0 ≡ unsigned (take (edition n .lineWidth) (drop start p))) where
         only-line : t .0 ≡ lineNumber (edition n) 0 (take len (drop start p))
         only-line = line-is 0 start (omega (arith, width)) (omega (arith, width)) et
 
-        some-byte : 1 ≤ len
-        some-byte = omega (arith, width, lineWidth-some n)
+        own-width : edition n .lineWidth ≤ len
+        own-width = omega (arith, width)
 
         pub strengthen-is : Shaped n strengthenTag p start len (Entry.Strengthen t)
         unfolding sizeOf entryFrom
-        strengthen-is = right-size strengthenTag h (λ K. omega (arith, width)) (λ refusal K. rw only-line) (λ K. tt) some-byte
+        strengthen-is = right-size strengthenTag h (λ K. omega (arith, width)) (λ refusal K. rw only-line) (λ K. tt) own-width
 
         pub split-is : Shaped n splitTag p start len (Entry.Split t)
         unfolding sizeOf entryFrom
-        split-is = right-size splitTag h (λ K. omega (arith, width)) (λ refusal K. rw only-line) (λ K. tt) some-byte
+        split-is = right-size splitTag h (λ K. omega (arith, width)) (λ refusal K. rw only-line) (λ K. tt) own-width
 
         pub number-is : Shaped n numberTag p start len (Entry.CloseNumber t)
         unfolding sizeOf entryFrom
-        number-is = right-size numberTag h (λ K. omega (arith, width)) (λ refusal K. rw only-line) (λ K. tt) some-byte
+        number-is = right-size numberTag h (λ K. omega (arith, width)) (λ refusal K. rw only-line) (λ K. tt) own-width
 
 -- ---- the entry of a field, by its tag
 abbrev fieldOf : (at tag : ℕ) → List ℕ → Field
@@ -239,8 +239,8 @@ module _ {p : List ℕ} {tag start len : ℕ} (n K : ℕ) (made : Bool) where
       ranged true q = (refl, omega (arith, eqb-true len (8 * (K + 1)) q))
       ranged false q = tt
 
-      filled : (b : Bool) → eqb len (8 * (K + 1)) ≡ b → Filled len (elim b [ true ↦ Entry.Claim start | false ↦ Entry.Refused 6 ])
-      filled true q = omega (arith, eqb-true len (8 * (K + 1)) q)
+      filled : (b : Bool) → eqb len (8 * (K + 1)) ≡ b → Filled n len (elim b [ true ↦ Entry.Claim start | false ↦ Entry.Refused 6 ])
+      filled true q = omega (arith, lineWidth-most n, eqb-true len (8 * (K + 1)) q)
       filled false q = tt
 
   unclaimed : tag ≡ 0x20 → Entered n K p tag start len false (Entry.Refused 4)

@@ -47,25 +47,25 @@ Ranged K start len (Split t) = Unit {0}
 Ranged K start len (Claim from) = (from ≡ start) × (len ≡ 2 * formWidth (edition1 .termWidth) K)
 Ranged K start len (Refused n) = Unit {0}
 
--- The contents of an entry have a byte at least, so that its field has four.
-abbrev pub Filled : (len : ℕ) → Entry → Type 0
-Filled len (Combine s t α β) = 1 ≤ len
-Filled len (Reduce s t α) = 1 ≤ len
-Filled len (Scale t α) = 1 ≤ len
-Filled len (Strengthen t) = 1 ≤ len
-Filled len (CloseNumber t) = 1 ≤ len
-Filled len (CloseStride t g) = 1 ≤ len
-Filled len (Round t g by) = 1 ≤ len
-Filled len (Split t) = 1 ≤ len
-Filled len (Claim from) = 1 ≤ len
-Filled len (Refused n) = Unit {0}
+-- The contents of an entry of a proof of edition n have as many bytes as a line number at least.
+abbrev pub Filled : (n len : ℕ) → Entry → Type 0
+Filled n len (Combine s t α β) = edition n .lineWidth ≤ len
+Filled n len (Reduce s t α) = edition n .lineWidth ≤ len
+Filled n len (Scale t α) = edition n .lineWidth ≤ len
+Filled n len (Strengthen t) = edition n .lineWidth ≤ len
+Filled n len (CloseNumber t) = edition n .lineWidth ≤ len
+Filled n len (CloseStride t g) = edition n .lineWidth ≤ len
+Filled n len (Round t g by) = edition n .lineWidth ≤ len
+Filled n len (Split t) = edition n .lineWidth ≤ len
+Filled n len (Claim from) = edition n .lineWidth ≤ len
+Filled n len (Refused x) = Unit {0}
 
 -- The answer for a field of a known tag in its place, in a proof of edition n: 6, or the entry.
 pub record Shaped (n : ℕ) (tagged : EntryTag) (p : List ℕ) (start len : ℕ) (r : Entry) : Type 0 where
   pub is : (refusal : ℕ → Answer) (K : ℕ) → entryOf refusal K (take len (drop start p)) r
       ≡ (need (refusal 6) (eqb (length (take len (drop start p))) (sizeOf (edition n) K tagged)) >> accepted (entryFrom (edition n) K tagged (take len (drop start p))))
   pub ranged : (K : ℕ) → Ranged K start len r
-  pub filled : Filled len r
+  pub filled : Filled n len r
 
 -- The answer for a claim: 4 where no line was made directly before, 6, or the claim.
 abbrev pub claimed : (K start len : ℕ) (made : Bool) → Entry
@@ -76,4 +76,4 @@ claimed K start len true = elim (eqb len (2 * edition1 .termWidth * (K + 1))) [ 
 pub record Entered (n K : ℕ) (p : List ℕ) (tag start len : ℕ) (made : Bool) (r : Entry) : Type 0 where
   pub is : (refusal : ℕ → Answer) (at : ℕ) → entry (edition n) K refusal made (record { at = at; tag = tag; contents = take len (drop start p) }) ≡ entryOf refusal K (take len (drop start p)) r
   pub ranged : Ranged K start len r
-  pub filled : Filled len r
+  pub filled : Filled n len r

@@ -22,7 +22,7 @@ use Rattle.proof.specs.Check.{checkBranch, checkProof}
 use Rattle.lines.specs.Buffer.{linesIn, Bounded}
 use Rattle.tally.specs.Tally.{tally}
 use Rattle.tally.specs.declared.Tally.{Tally}
-use Rattle.branches.specs.Spare.{fieldsLeft, Spare}
+use Rattle.branches.specs.Spare.{linesLeft, Spare}
 use Rattle.branches.specs.Branching.{keptBack, Started, Closes, Branches}
 use Rattle.branches.specs.declared.branch.Branched.{Branched}
 use Rattle.branches.proofs.Spare.{spare-less}
@@ -103,7 +103,7 @@ module _ {buffer lengths : List ℕ} {K count : ℕ} {P : List ℕ} {e at : ℕ}
 
     pub cut-started : Started K kinds₁ buf₁ (tally e 0 count 0) P at 0
     cut-started =
-        let spare : Spare e K (count + fieldsLeft P at) kinds₁ buf₁ = spare-less (omega arith) (l .kinds-length) (l .lines-length) (a .spare) in
+        let spare : Spare e K (count + linesLeft e P at) kinds₁ buf₁ = spare-less (omega arith) (l .kinds-length) (l .lines-length) (a .spare) in
         record {
           ready = record {
             branch = record { constants = a .high; room = spare .room count lines-few (omega arith); bounded = bounded };

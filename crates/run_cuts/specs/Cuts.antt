@@ -19,7 +19,7 @@ use Rattle.fields.specs.Places.{fieldsAt}
 use Rattle.formula.specs.Formula.{encode}
 use Rattle.formula_write.specs.Writing.{scratchLimit}
 use Rattle.proof.specs.Check.{checkBranch}
-use Rattle.branches.specs.Spare.{fieldsLeft, Spare}
+use Rattle.branches.specs.Spare.{linesLeft, Spare}
 use Rattle.bundle_load.specs.Load.{lineOf, Loaded}
 use Rattle.chains.specs.Runs.{Run}
 use Rattle.run.specs.Uniform.{withNumber}
@@ -70,7 +70,7 @@ pub record CutAsked (buffer lengths : List ℕ) (K count : ℕ) (P : List ℕ) (
   pub high : K ≤ edition1 .constants
   pub short : length P ≤ edition newestEdition .proofBytes
   pub header-is : header FileKind.Proof fileProof newestEdition (some K) (fields P) ≡ accepted (record { number = e; K = K; rest = fieldsAt P at })
-  pub spare : Spare e K (count + fieldsLeft P at) kinds buf
+  pub spare : Spare e K (count + linesLeft e P at) kinds buf
 
 abbrev pub CutChecked : (buffer lengths : List ℕ) (c K : ℕ) (P scratch scratch′ : List ℕ) → Cut → Type 0
 CutChecked buffer lengths c K P scratch scratch′ r = Checked (checkCut newestEdition K (stages buffer lengths) (fields P) c) scratch scratch′ r

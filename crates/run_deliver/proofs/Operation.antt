@@ -27,14 +27,14 @@ use Rattle.formula.specs.Formula.{formulaFile}
 use Rattle.proof.specs.Check.{checkProof}
 use Rattle.proof.proofs.Agree.{agreed}
 use Rattle.proof.proofs.Says.{Says, says-refused, says-accepted, bind, test}
-use Rattle.branches.specs.Spare.{fieldsLeft, Spare}
+use Rattle.branches.specs.Spare.{linesLeft, Spare}
 use Rattle.check_sizes.specs.Sizes.{LinesWithin}
-use Rattle.check_sizes.proofs.FieldsByBytes.{fields-few}
 use Rattle.chains.specs.Runs.{Run, joined}
 use Rattle.run.specs.Uniform.{Walked, uniform}
 use Rattle.run.specs.Run.{parts, parted, stagesShort, claimRefused, checkCut, both, checkCuts, checkRun, guardFiles, unwritten, fitGuards, writtenGuards, guardsBy, guards}
 use Rattle.run.specs.Promises.{WritesGuards}
 use Rattle.run_branches.specs.Walks.{Countable}
+use Rattle.run_branches.proofs.FieldsByBytes.{fields-few}
 use Rattle.run_cuts.specs.Staged.{staged, stages}
 use Rattle.run_cuts.specs.Cuts.{CutAsked}
 use Rattle.run_check.specs.All.{files, RunChecked}
@@ -193,7 +193,7 @@ module _ {buffer lengths P : List ℕ} {K count : ℕ} (g : Gathered buffer leng
         record { is = d ∙ ap (λ (x : ℕ). accepted (record { number = n; K = x; rest = fieldsAt P next })) z }
 
   module _ {e at : ℕ} (b : Begun P K e at) where
-    pub asked : {kinds : List ℕ} {buf : List ℤ} → Spare e K (count + fieldsLeft P at) kinds buf → CutAsked buffer lengths K count P e at kinds buf
+    pub asked : {kinds : List ℕ} {buf : List ℤ} → Spare e K (count + linesLeft e P at) kinds buf → CutAsked buffer lengths K count P e at kinds buf
     asked s = record { staged = g .staged; high = g .high; short = g .proof-short; header-is = b .is; spare = s }
 
   pub countable : (at : ℕ) → Countable P at 0

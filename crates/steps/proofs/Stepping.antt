@@ -119,15 +119,15 @@ steps-same (ClosesStride u i g) a s = record { kept = s .kept; by = (same-trans 
 steps-same (Rounds u i g by) a s = record { kept = s .kept; by = (same-trans a (s .by .0), s .by .1, s .by .2) }
 steps-same (Splits u i) a s = record { kept = s .kept; by = (same-trans a (s .by .0), s .by .1) }
 
-advances : {len : ℕ} → 1 ≤ len → (r : Stepped) → Advances len r
-advances h (Refused x) = tt
-advances h (Made u) = h
-advances h Stepped.Claimed = h
-advances h (Strengthens u i) = h
-advances h (ClosesNumber u i) = h
-advances h (ClosesStride u i g) = h
-advances h (Rounds u i g by) = h
-advances h (Splits u i) = h
+advances : (e : ℕ) {len : ℕ} → edition e .lineWidth ≤ len → (r : Stepped) → Advances e len r
+advances e h (Refused x) = tt
+advances e h (Made u) = h
+advances e h Stepped.Claimed = h
+advances e h (Strengthens u i) = h
+advances e h (ClosesNumber u i) = h
+advances e h (ClosesStride u i g) = h
+advances e h (Rounds u i g by) = h
+advances e h (Splits u i) = h
 
 pub there-made : (made : Bool) (K : ℕ) (kinds : List ℕ) (buf : List ℤ) (n : ℕ) → there (lastMade made K kinds buf n) ≡ made
 there-made true K kinds buf n = refl
@@ -149,21 +149,21 @@ module _ {K : ℕ} (kinds : List ℕ) (buf : List ℤ) (t : Tally) {p : List ℕ
   field-row row q = record { is = λ deeper next refusal fs. enters (accepted (rules.row row)) refusal (q refusal) deeper next fs }
 
   pub step-row : (row : rules.Row) → ((refusal : ℕ → Answer) → entryOf refusal K (take len (drop start p)) x ≡ accepted (rules.row row)) → {kinds′ : List ℕ} {buf′ : List ℤ} {r : Stepped}
-      → 1 ≤ len → Steps (rowChecked K kinds buf t row) K kinds buf t kinds′ buf′ r
-      → Steps (fieldChecked K kinds buf t made tag (take len (drop start p))) K kinds buf t kinds′ buf′ r × Advances len r
-  step-row row q {r = r} h s = (steps-same r (field-row row q) s, advances h r)
+      → edition (t .edition) .lineWidth ≤ len → Steps (rowChecked K kinds buf t row) K kinds buf t kinds′ buf′ r
+      → Steps (fieldChecked K kinds buf t made tag (take len (drop start p))) K kinds buf t kinds′ buf′ r × Advances (t .edition) len r
+  step-row row q {r = r} h s = (steps-same r (field-row row q) s, advances (t .edition) h r)
 
-  pub step-claim : {from : ℕ} {r : Stepped} → x ≡ entry-of.Claim from → from ≡ start → len ≡ 2 * formWidth (edition1 .termWidth) K → 1 ≤ len → Claims K p from made buf t r
-      → Steps (fieldChecked K kinds buf t made tag (take len (drop start p))) K kinds buf t kinds buf r × Advances len r
+  pub step-claim : {from : ℕ} {r : Stepped} → x ≡ entry-of.Claim from → from ≡ start → len ≡ 2 * formWidth (edition1 .termWidth) K → edition (t .edition) .lineWidth ≤ len → Claims K p from made buf t r
+      → Steps (fieldChecked K kinds buf t made tag (take len (drop start p))) K kinds buf t kinds buf r × Advances (t .edition) len r
   unfolding _>>=_
   step-claim {from} {r} ex ef el h c = (
     steps-same r
         (record { is = λ deeper next refusal fs. enters (entryOf refusal K (take len (drop start p)) (entry-of.Claim from)) refusal (ap (entryOf refusal K (take len (drop start p))) ex) deeper next fs })
         ((rw ef at c) .steps len kinds el),
-    advances h r,
+    advances (t .edition) h r,
   )
 
-  pub step-refused : {n : ℕ} → x ≡ entry-of.Refused n → Steps (fieldChecked K kinds buf t made tag (take len (drop start p))) K kinds buf t kinds buf (Refused n) × Advances len (Refused n)
+  pub step-refused : {n : ℕ} → x ≡ entry-of.Refused n → Steps (fieldChecked K kinds buf t made tag (take len (drop start p))) K kinds buf t kinds buf (Refused n) × Advances (t .edition) len (Refused n)
   unfolding _>>=_
   step-refused {n} ex = (
     record {

@@ -65,16 +65,16 @@ pub record Steps (f : Checked) (K : ℕ) (kinds : List ℕ) (buf : List ℤ) (t 
   pub kept : LinesKept K (t .lines .0) kinds buf kinds′ buf′
   pub by : SteppedBy f K kinds buf t kinds′ buf′ r
 
--- An entry that is not refused has a byte of contents at least.
-abbrev pub Advances : (len : ℕ) → Stepped → Type 0
-Advances len (Refused x) = Unit {0}
-Advances len (Made t) = 1 ≤ len
-Advances len Claimed = 1 ≤ len
-Advances len (Strengthens t i) = 1 ≤ len
-Advances len (ClosesNumber t i) = 1 ≤ len
-Advances len (ClosesStride t i g) = 1 ≤ len
-Advances len (Rounds t i g by) = 1 ≤ len
-Advances len (Splits t i) = 1 ≤ len
+-- An entry of a proof of edition e that is not refused has as many bytes of contents as a line number at least.
+abbrev pub Advances : (e len : ℕ) → Stepped → Type 0
+Advances e len (Refused x) = Unit {0}
+Advances e len (Made t) = edition e .lineWidth ≤ len
+Advances e len Claimed = edition e .lineWidth ≤ len
+Advances e len (Strengthens t i) = edition e .lineWidth ≤ len
+Advances e len (ClosesNumber t i) = edition e .lineWidth ≤ len
+Advances e len (ClosesStride t i g) = edition e .lineWidth ≤ len
+Advances e len (Rounds t i g by) = edition e .lineWidth ≤ len
+Advances e len (Splits t i) = edition e .lineWidth ≤ len
 
 -- The line that a claim may state: the last one, if a row 0x10 to 0x12 made it directly before.
 abbrev pub lastMade : Bool → (K : ℕ) (kinds : List ℕ) (buf : List ℤ) (n : ℕ) → Option Line

@@ -244,7 +244,7 @@ pub fn step(
 ) -> Stepped
     requires { ⌜ Ready (tally .edition) k (now kinds) (now lines) (tally .lines .0) ⌝ }
     requires { ⌜ (start + len ≤ length (now p)) × (made ≡ true → 1 ≤ tally .lines .0) ⌝ }
-    ensures { λ r. ⌜ Steps (fieldChecked k (now (kinds .entry)) (now (lines .entry)) tally made tag (take len (drop start (now (p .entry))))) k (now (kinds .entry)) (now (lines .entry)) tally (now (kinds .exit)) (now (lines .exit)) r × Advances len r ⌝ }
+    ensures { λ r. ⌜ Steps (fieldChecked k (now (kinds .entry)) (now (lines .entry)) tally made tag (take len (drop start (now (p .entry))))) k (now (kinds .entry)) (now (lines .entry)) tally (now (kinds .exit)) (now (lines .exit)) r × Advances (tally .edition) len r ⌝ }
 {
     let entry = entry_at(p, tag, start, len, k, tally.edition, made);
     match entry {

@@ -1,10 +1,11 @@
 -- `check_sizes::check_24` meets its contract: its buffers have the room that is asked. Assumes nothing.
+use mathlib.Core.Logic.{inl}
 use native.Mathlib.Omega.{arith}
 use Prim.Native.Nat.{ℕ, _+_}
 use lib.IntN.{ℤ, pos}
 use lib.ListN.{length-replicate}
-use Rattle.branches.specs.Spare.{fieldsLeft}
-use Rattle.check_sizes.proofs.Sizes.{spare-most}
+use Rattle.branches.specs.Spare.{linesLeft}
+use Rattle.check_sizes.proofs.Sizes.{spare-most, kinds-few}
 use borrow.Author.Needs.{needs}
 use Rattle.check_sizes.proofs.check_24.Statement.{statement}
 use Rattle.check_sizes.proofs.check_24.Tie as tie
@@ -21,13 +22,14 @@ slice-aggregate-check-within-3 c = search needs
 check-within-requires : tie.Need-check-within-requires
 check-within-requires c κs =
     let w = c .before .before .before .before .before .before .before .before .pre in
-    (w .0, (spare-most (c .before .before .before .before .before .before .before .before .args .header .edition) (c .before .before .before .before .before .before .before .before .args .first .count + c .before .before .before .before .before .before .before .before .args .second .count + fieldsLeft (c .before .before .before .before .before .before .before .before .args .proof .now) (c .before .before .before .before .before .before .before .before .args .header .next)) (w .1 .0) (omega (arith, length-replicate {A = ℕ} 129 0)) (w .1 .1 .1) (omega (arith, length-replicate {A = ℤ} 176 (pos 0))), record { enough = λ l h u. omega (arith, w .1 .1 .0, length-replicate {A = ℕ} 936 0) }))
+    let a = c .before .before .before .before .before .before .before .before .args in
+    (w .0, spare-most (a .header .edition) (a .first .count + a .second .count + linesLeft (a .header .edition) (a .proof .now) (a .header .next)) (w .1 .1) (omega (arith, length-replicate {A = ℤ} 144 (pos 0))) (omega (arith, length-replicate {A = ℕ} 36 0, kinds-few (a .header .edition) (a .header .k) (a .first .count + a .second .count + linesLeft (a .header .edition) (a .proof .now) (a .header .next)) {k = 36} (w .1 .1) (w .0 .both .low) (omega arith))))
 
 same-length : tie.Need-same-length
 same-length c = search needs
 
 returns : tie.Need-returns
-returns c = search needs
+returns c = c .before .before .before .before .before .check-within .ensures .is (inl (record { enough = λ l h u. omega (arith, c .before .before .before .before .before .before .before .before .before .before .before .before .before .before .pre .1 .0, length-replicate {A = ℕ} 936 0) }))
 
 pub check-24-spec : {M : Type 1} → statement M
 check-24-spec =

@@ -10,17 +10,13 @@ use Rattle.check_sizes.proofs.check_within.Tie as tie
 prepare-requires : tie.Need-prepare-requires
 prepare-requires c κs =
     let g = c .before .before .before .before .before .before .before .before .pre .0 in
-    (g .both, space-from (g .both) (c .before .before .before .before .before .before .before .before .pre .1 .0) (omega arith))
+    (g .both, space-from (g .both) (c .before .before .before .before .before .before .before .before .pre .1) (omega arith))
 
 add-check-root : tie.Need-add-check-root
 add-check-root c = search needs
 
 check-root-requires : tie.Need-check-root-requires
-check-root-requires c κs =
-    let w = c .before .before .before .before .before .before .before .before .before .before .before .before .before .before .before .before .before .before .pre .1 in
-    let g = c .before .before .before .before .before .before .before .before .before .before .before .before .before .before .before .before .before .before .pre .0 in
-    let q = c .before .before .before .before .before .before .before .before .before .prepare .ensures in
-    (started g q (spare-less (omega arith) (omega arith) (omega arith) (w .0)), w .1)
+check-root-requires c κs = started (c .before .before .before .before .before .before .before .before .before .before .before .before .before .before .before .before .before .before .pre .0) (c .before .before .before .before .before .before .before .before .before .prepare .ensures) (spare-less (omega arith) (omega arith) (omega arith) (c .before .before .before .before .before .before .before .before .before .before .before .before .before .before .before .before .before .before .pre .1))
 
 same-length : tie.Need-same-length
 same-length c = search needs

@@ -3,7 +3,7 @@ use native.Mathlib.Omega.{arith}
 use lib.IntN.{natAbs}
 use mir.ValLaws.{toZ-ofZ}
 use Rattle.lines.specs.Buffer.{LineStart}
-use Rattle.openings.proofs.Starting.{start-below, start-numbered, start-front}
+use Rattle.openings.proofs.Starting.{start-below, below-numbered, start-front}
 use borrow.Author.Needs.{needs}
 use Rattle.openings.proofs.rounding.start_rounded.Statement.{statement}
 use Rattle.openings.proofs.rounding.start_rounded.Tie as tie
@@ -21,10 +21,9 @@ place-a-requires c κs =
 put-front-requires : tie.Need-put-front-requires
 put-front-requires c κs =
     let s = c .before .before .before .before .before .before .before .before .before .before .before in
-    let a = s .args in
+    let p = s .pre .0 in
     let fits = s .fits .g in
-    let own : LineStart (a .k) (a .lines .now) (a .i .0) (a .n .0) (a .by) (a .j) = start-below (s .pre .0 .0) (omega arith) (omega (arith, s .pre .0 .2)) in
-    simp toZ-ofZ ((rw (c .before .before .place-a .ensures) (start-numbered own (c .before .before .before .before .before .before .start-line .ensures .0) (omega (arith, own .copy .first))), s .pre .1 .0), s .pre .1 .1)
+    simp toZ-ofZ ((rw (c .before .before .place-a .ensures) (below-numbered (p .0) _ _ (c .before .before .before .before .before .before .start-line .ensures .0) (omega (arith, p .2)) (omega (arith, p .2)) (omega (arith, p .0 .copy .first))), s .pre .1 .0), s .pre .1 .1)
 
 same-length : tie.Need-same-length
 same-length c = search needs

@@ -3,7 +3,7 @@ use native.Mathlib.Omega.{arith}
 use Prim.Native.Nat.{ℕ, _+_}
 use lib.IntN.{ℤ, pos}
 use lib.ListN.{length-replicate}
-use Rattle.branches.specs.Spare.{fieldsLeft}
+use Rattle.branches.specs.Spare.{linesLeft}
 use Rattle.check_sizes.proofs.Sizes.{spare-all, lines-any}
 use Rattle.run_deliver.proofs.Operation.{asked}
 use borrow.Author.Needs.{needs}
@@ -20,7 +20,7 @@ slice-aggregate-check-run-3 : tie.Need-slice-aggregate-check-run-3
 slice-aggregate-check-run-3 c = search needs
 
 check-run-requires : tie.Need-check-run-requires
-check-run-requires c κs = (c .before .before .before .before .before .before .before .before .before .before .pre .0, asked (c .before .before .before .before .before .before .before .before .before .before .pre .0) (c .before .before .before .before .before .before .before .before .before .before .pre .1) (spare-all (c .before .before .before .before .before .before .before .before .before .before .args .e) (c .before .before .before .before .before .before .before .before .before .before .args .count + fieldsLeft (c .before .before .before .before .before .before .before .before .before .before .args .proof .now) (c .before .before .before .before .before .before .before .before .before .before .args .at)) (lines-any (c .before .before .before .before .before .before .before .before .before .before .args .e) (c .before .before .before .before .before .before .before .before .before .before .args .count + fieldsLeft (c .before .before .before .before .before .before .before .before .before .before .args .proof .now) (c .before .before .before .before .before .before .before .before .before .before .args .at))) (omega (arith, length-replicate {A = ℕ} 1001 0)) (c .before .before .before .before .before .before .before .before .before .before .pre .0 .high) (omega (arith, length-replicate {A = ℤ} 34034 (pos 0)))))
+check-run-requires c κs = (c .before .before .before .before .before .before .before .before .before .before .pre .0, asked (c .before .before .before .before .before .before .before .before .before .before .pre .0) (c .before .before .before .before .before .before .before .before .before .before .pre .1) (spare-all (c .before .before .before .before .before .before .before .before .before .before .args .e) (c .before .before .before .before .before .before .before .before .before .before .args .count + linesLeft (c .before .before .before .before .before .before .before .before .before .before .args .e) (c .before .before .before .before .before .before .before .before .before .before .args .proof .now) (c .before .before .before .before .before .before .before .before .before .before .args .at)) (lines-any (c .before .before .before .before .before .before .before .before .before .before .args .e) (c .before .before .before .before .before .before .before .before .before .before .args .count + linesLeft (c .before .before .before .before .before .before .before .before .before .before .args .e) (c .before .before .before .before .before .before .before .before .before .before .args .proof .now) (c .before .before .before .before .before .before .before .before .before .before .args .at))) (omega (arith, length-replicate {A = ℕ} 1001 0)) (c .before .before .before .before .before .before .before .before .before .before .pre .0 .high) (omega (arith, length-replicate {A = ℤ} 34034 (pos 0)))))
 
 same-length : tie.Need-same-length
 same-length c = c .before .before .before .out .given

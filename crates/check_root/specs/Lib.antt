@@ -1,2 +1,0 @@
--- The root of a proof.
-pub mod Root
