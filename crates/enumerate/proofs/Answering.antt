@@ -37,8 +37,8 @@ use Rattle.bundle_load.specs.Both.{statedIn, Both, Prepared}
 use Rattle.check_output.proofs.Delivering.{unwritten}
 use Rattle.enumeration_rows.proofs.Rowed.{begins-longer}
 use Rattle.enumeration_rows.specs.Applied.{SearchRoom}
-use Rattle.enumeration_search.specs.declared.FoundAt.{FoundAt}
-use Rattle.enumeration_search.specs.Searching.{foundOf, FindsAny}
+use Rattle.enumeration_rows.specs.declared.found.FoundAt.{FoundAt}
+use Rattle.enumeration_rows.specs.Searching.{foundOf, FindsAny}
 use Rattle.enumeration_rows.specs.Delivered.{WritesFound}
 use Rattle.enumerate.specs.Finding.{foundBehind, foundIn, ShortBoth}
 

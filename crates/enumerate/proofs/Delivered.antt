@@ -6,9 +6,9 @@ use Rattle.answers.specs.declared.WriteResult.{WriteResult}
 use Rattle.answers.specs.Answers.{written}
 use Rattle.enumeration.specs.Search.{foundFile}
 use Rattle.check_output.proofs.Delivering.{unwritten}
-use Rattle.enumeration_search.specs.declared.FoundAt.{FoundAt}
-use Rattle.enumeration_search.specs.declared.FoundAt.the-variants.{NotAmong, NoneLeft}
-use Rattle.enumeration_search.specs.Searching.{foundOf, NumbersIn}
+use Rattle.enumeration_rows.specs.declared.found.FoundAt.{FoundAt}
+use Rattle.enumeration_rows.specs.declared.found.FoundAt.the-variants.{NotAmong, NoneLeft}
+use Rattle.enumeration_rows.specs.Searching.{foundOf, NumbersIn}
 use Rattle.enumeration_rows.specs.Delivered.{WritesFound}
 
 module _ {K : ℕ} (n : ℕ) {out : List ℕ} {found : FoundAt} where

@@ -9,97 +9,25 @@ use check_output::refusal;
 use enumeration_rows::deliver::deliver_one;
 use enumeration_rows::deliver::deliver_three;
 use enumeration_rows::deliver::deliver_two;
+use enumeration_rows::found::FoundAt;
 use enumeration_rows::read::stands;
-use enumeration_search::FoundAt;
-use enumeration_search::after;
-use enumeration_search::is_none_left;
-use enumeration_search::seek;
+use enumeration_search::after_table;
+use enumeration_search::first_from;
 use fields::header::put_header;
 use forms::BUNDLE_BYTES;
 use forms::CONSTANTS;
-use forms::LineNumber;
-use forms::RowNumber;
-use tally::Tally;
 ghost use mathlib.Core.Path.{_≡_};
-ghost use Prim.Native.Nat.{suc, _+_, _-_, _*_, _≤_};
-ghost use lib.ListN.{length, drop};
+ghost use Prim.Native.Nat.{_+_, _*_, _≤_};
+ghost use lib.ListN.{length};
 ghost use Rattle.fields.specs.Header.{headerBytes};
-ghost use Rattle.enumeration.specs.Sequence.{proofsOf};
 ghost use Rattle.enumeration.specs.Numbering.{begins};
-ghost use Rattle.enumeration.specs.Search.{ifNoneLeft, nextFound, firstOfDepths, nextOfDepths};
 ghost use Rattle.enumeration.specs.Promises.{WritesNext};
 ghost use Rattle.lines.specs.Buffer.{linesIn};
 ghost use Rattle.bundle_load.specs.Both.{Both};
-ghost use Rattle.enumeration_rows.specs.Applied.{SearchRoom};
+ghost use Rattle.enumeration_rows.specs.Applied.{counted, SearchRoom};
 ghost use Rattle.enumeration_rows.specs.Delivered.{WritesFound};
-ghost use Rattle.enumeration_search.specs.Searching.{foundOf, NumbersIn, isNotAmong, FindsAny};
+ghost use Rattle.enumeration_rows.specs.Searching.{foundOf, NumbersIn, FindsAny};
 ghost use Rattle.enumerate.specs.Finding.{foundIn, ShortBoth};
-
-// The first proof of `depth` inferences and a close, or of more.
-fn first_from(lines: &mut [i32], kinds: &mut [u8], tally: Tally, k: usize, depth: usize) -> FoundAt
-    requires { ⌜ SearchRoom k 2 (now kinds) (now lines) tally ⌝ }
-    requires { ⌜ depth ≤ 3 ⌝ }
-    ensures { λ r. ⌜ FindsAny k (tally .lines .0) (firstOfDepths (3 - depth) depth (linesIn k (now (kinds .entry)) (now (lines .entry)) (tally .lines .0))) (now (kinds .entry)) (now (lines .entry)) (now (kinds .exit)) (now (lines .exit)) r ⌝ }
-{
-    let mut d = depth;
-    while d < 3 {
-        let found = seek(lines, kinds, tally, k, d, 0);
-        if !is_none_left(found) {
-            return found;
-        }
-        d += 1;
-    }
-    FoundAt::NoneLeft
-}
-
-fn is_not_among(found: FoundAt) -> bool
-    ensures { λ r. ⌜ r ≡ isNotAmong found ⌝ }
-{
-    match found {
-        FoundAt::NotAmong => true,
-        FoundAt::NoneLeft => false,
-        FoundAt::One { c: _ } => false,
-        FoundAt::Two { a: _, c: _ } => false,
-        FoundAt::Three { a: _, b: _, c: _ } => false,
-    }
-}
-
-// The proof after the table's, of `depth` inferences and a close.
-fn after_depth(
-    lines: &mut [i32],
-    kinds: &mut [u8],
-    tally: Tally,
-    k: usize,
-    depth: usize,
-    table: &[u8],
-) -> FoundAt
-    requires { ⌜ SearchRoom k 2 (now kinds) (now lines) tally ⌝ }
-    requires { ⌜ (depth ≤ 2) × (8 ≤ length (now table)) ⌝ }
-    ensures { λ r. ⌜ FindsAny k (tally .lines .0) (ifNoneLeft (nextFound (drop 8 (now (table .entry))) (proofsOf depth (linesIn k (now (kinds .entry)) (now (lines .entry)) (tally .lines .0)))) (firstOfDepths (2 - depth) (suc depth) (linesIn k (now (kinds .entry)) (now (lines .entry)) (tally .lines .0)))) (now (kinds .entry)) (now (lines .entry)) (now (kinds .exit)) (now (lines .exit)) r ⌝ }
-{
-    let found = after(lines, kinds, tally, k, depth, table, 8);
-    if is_none_left(found) {
-        return first_from(lines, kinds, tally, k, depth + 1);
-    }
-    found
-}
-
-// The proof after the table's, whose header is in order.
-fn after_table(lines: &mut [i32], kinds: &mut [u8], tally: Tally, k: usize, table: &[u8]) -> FoundAt
-    requires { ⌜ SearchRoom k 2 (now kinds) (now lines) tally ⌝ }
-    requires { ⌜ 8 ≤ length (now table) ⌝ }
-    ensures { λ r. ⌜ FindsAny k (tally .lines .0) (nextOfDepths 3 0 (drop 8 (now (table .entry))) (linesIn k (now (kinds .entry)) (now (lines .entry)) (tally .lines .0))) (now (kinds .entry)) (now (lines .entry)) (now (kinds .exit)) (now (lines .exit)) r ⌝ }
-{
-    let mut d = 0;
-    while d < 3 {
-        let found = after_depth(lines, kinds, tally, k, d, table);
-        if !is_not_among(found) {
-            return found;
-        }
-        d += 1;
-    }
-    FoundAt::NotAmong
-}
 
 // Whether the table begins with the header.
 fn is_headed(table: &[u8], k: u8) -> bool
@@ -110,17 +38,17 @@ fn is_headed(table: &[u8], k: u8) -> bool
     stands(table, 0, &header, 8)
 }
 
-fn find(lines: &mut [i32], kinds: &mut [u8], tally: Tally, k: u8, table: &[u8]) -> FoundAt
-    requires { ⌜ SearchRoom k 2 (now kinds) (now lines) tally ⌝ }
-    ensures { λ r. ⌜ FindsAny k (tally .lines .0) (foundIn k (now (table .entry)) (linesIn k (now (kinds .entry)) (now (lines .entry)) (tally .lines .0))) (now (kinds .entry)) (now (lines .entry)) (now (kinds .exit)) (now (lines .exit)) r ⌝ }
+fn find(lines: &mut [i32], kinds: &mut [u8], n: usize, k: u8, table: &[u8]) -> FoundAt
+    requires { ⌜ SearchRoom k 2 (now kinds) (now lines) (counted n) ⌝ }
+    ensures { λ r. ⌜ FindsAny k n (foundIn k (now (table .entry)) (linesIn k (now (kinds .entry)) (now (lines .entry)) n)) (now (kinds .entry)) (now (lines .entry)) (now (kinds .exit)) (now (lines .exit)) r ⌝ }
 {
     if !is_headed(table, k) {
         return FoundAt::NotAmong;
     }
     if table.len() == 8 {
-        return first_from(lines, kinds, tally, k as usize, 0);
+        return first_from(lines, kinds, n, k as usize, 0);
     }
-    after_table(lines, kinds, tally, k as usize, table)
+    after_table(lines, kinds, n, k as usize, table)
 }
 
 // 32, 33, 21.
@@ -162,15 +90,7 @@ fn next_within(
 {
     prepare(a, b, first, second, k, lines, kinds);
     let n = first.count + second.count;
-    let rows = RowNumber(0);
-    let made = LineNumber(n as u16);
-    let tally = Tally {
-        rows,
-        lines: made,
-        open: 0,
-        edition: 1,
-    };
-    let found = find(lines, kinds, tally, k, table);
+    let found = find(lines, kinds, n, k, table);
     deliver(out, k, n, found)
 }
 

@@ -1,8 +1,8 @@
 -- What making a line and testing a close tell of the definitions. Assumes nothing.
 use mathlib.Core.Path.{_≡_, refl, sym, _∙_, ap, subst}
-use mathlib.Core.Bool.{Bool}
+use mathlib.Core.Bool.{Bool, true, false}
 use mathlib.Core.List.{List}
-use Prim.Native.Nat.{ℕ, suc, _+_, _≤_}
+use Prim.Native.Nat.{ℕ, suc, _+_, _≤_, _<_}
 use native.Mathlib.Nat.{mul-le-mul-right}
 use native.Mathlib.Omega.{arith}
 use lib.IntN.{ℤ}
@@ -17,6 +17,7 @@ use Rattle.fields.specs.Fields.{ends}
 use Rattle.proof.specs.Rows.{derived, fitting}
 use Rattle.proof.specs.Check.{Closing}
 use Rattle.enumeration.specs.Sequence.{anyRefusal, newLine, closeFormula}
+use Rattle.enumeration.specs.Numbering.{inferenceAt, closeAt}
 use Rattle.lines.specs.Buffer.{size, lineIn, linesIn}
 use Rattle.lines.proofs.Parts.{agree-sym}
 use Rattle.lines.proofs.Lines.{lines-same, lines-more, bounded-same}
@@ -30,7 +31,7 @@ use Rattle.closes.specs.Closing.{ByNumber}
 use Rattle.closes.specs.Striding.{ByStride}
 use Rattle.closes.specs.declared.closing.Test.{Test}
 use Rattle.closes.specs.declared.closing.Test.the-variants.{Refused, Passed}
-use Rattle.enumeration_rows.specs.Applied.{SearchRoom, isPassed, CloseHolds}
+use Rattle.enumeration_rows.specs.Applied.{counted, SearchRoom, Infers, isPassed, CloseHolds}
 
 -- ---- the buffers
 pub roomy-ready : {K d : ℕ} {kinds : List ℕ} {buf : List ℤ} {t : Tally} → SearchRoom K d kinds buf t → Ready (t .edition) K kinds buf (t .lines .0)
@@ -161,3 +162,34 @@ module _ {K : ℕ} {kinds : List ℕ} {buf : List ℤ} {t : Tally} {s : Inferenc
     few = omega (arith, h .few);
     first-edition = h .first-edition;
   })
+
+-- ---- by the number of lines
+module _ {n : ℕ} {t : Tally} (e : t ≡ counted n) where
+  pub as-counted : {K d : ℕ} {kinds : List ℕ} {buf : List ℤ} → SearchRoom K d kinds buf (counted n) → SearchRoom K d kinds buf t
+  as-counted {K} {d} {kinds} {buf} r = subst (λ (t : Tally). SearchRoom K d kinds buf t) (sym e) r
+
+  pub below-counted : (count : ℕ → ℕ) {x : ℕ} → x < count n → x < count (t .lines .0)
+  below-counted count {x} h = subst (λ (t : Tally). x < count (t .lines .0)) (sym e) h
+
+  pub counted-holds : {K : ℕ} {kinds : List ℕ} {buf : List ℤ} (c : ℕ) {b : Bool} → CloseHolds K kinds buf (t .lines .0) (closeAt (t .lines .0) c) b → CloseHolds K kinds buf n (closeAt n c) b
+  counted-holds {K} {kinds} {buf} c {b} h = subst (λ (t : Tally). CloseHolds K kinds buf (t .lines .0) (closeAt (t .lines .0) c) b) e h
+
+  module _ {K : ℕ} (j : ℕ) {kinds : List ℕ} {buf : List ℤ} {kinds′ : List ℕ} {buf′ : List ℤ} {r : Derived} (m : Derives K kinds buf t (inferenceAt (t .lines .0) j) kinds′ buf′ r) where
+    counted-derives : Derives K kinds buf (counted n) (inferenceAt n j) kinds′ buf′ r
+    counted-derives = subst (λ (t : Tally). Derives K kinds buf t (inferenceAt (t .lines .0) j) kinds′ buf′ r) e m
+
+    pub infers-made : {u : Tally} → r ≡ derived-of.Made u → Infers K n j kinds buf kinds′ buf′ true
+    infers-made q = record {
+      derived = r;
+      derives = counted-derives;
+      made = λ _. q ∙ ap derived-of.Made (made-tally refl counted-derives q);
+      refused = λ f. absurd (let z : _≡_ {A = ℕ} 0 1 = cc in omega arith);
+    }
+
+    pub infers-refused : {x : ℕ} → r ≡ derived-of.Refused x → Infers K n j kinds buf kinds′ buf′ false
+    infers-refused {x} q = record {
+      derived = r;
+      derives = counted-derives;
+      made = λ f. absurd (let z : _≡_ {A = ℕ} 0 1 = cc in omega arith);
+      refused = λ _. (x, q);
+    }

@@ -1,8 +1,10 @@
--- Laws that the proofs of the functions cite: rows by number and their bytes, rows told by their bytes, rows applied, tables written.
+-- Laws that the proofs of the functions cite: rows by number and their bytes, rows told by their bytes, rows applied, closes in turn, tables written.
 pub mod Counts
 pub mod Stored
 pub mod Guessed
 pub mod Rowed
 pub mod Inferred
 pub mod Numbers
+pub mod FoundRows
+pub mod Closes
 pub mod DeliveredTables

@@ -2,3 +2,4 @@
 pub mod Recognised
 pub mod Applied
 pub mod Delivered
+pub mod Searching

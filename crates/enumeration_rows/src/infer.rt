@@ -3,6 +3,7 @@ use closes::closing::Test;
 use closes::closing::test_number;
 use closes::closing::test_stride;
 use forms::LineNumber;
+use forms::RowNumber;
 use rows::derive::Derived;
 use rows::derive::combine;
 use rows::derive::reduce;
@@ -15,7 +16,7 @@ ghost use Rattle.calculus.specs.Rules.{CloseNumber, CloseStride};
 ghost use Rattle.enumeration.specs.Numbering.{inferenceCount, closeCount, signedFactor, combineAt, reduceAt, scaleAt, inferenceAt, closeAt};
 ghost use Rattle.entries.specs.Entries.{Multiplies};
 ghost use Rattle.rows.specs.Rows.{Derives};
-ghost use Rattle.enumeration_rows.specs.Applied.{SearchRoom, isPassed, CloseHolds};
+ghost use Rattle.enumeration_rows.specs.Applied.{counted, SearchRoom, Infers, isPassed, CloseHolds};
 
 // 1 or 2.
 fn factor(x: usize) -> i64
@@ -100,15 +101,15 @@ fn infer_scale(lines: &mut [i32], kinds: &mut [u8], tally: Tally, x: usize, k: u
 }
 
 // How many lines there are.
-pub fn lines_of(tally: Tally) -> usize
+fn lines_of(tally: Tally) -> usize
     ensures { λ r. ⌜ r ≡ tally .lines .0 ⌝ }
 {
     let count = tally.lines;
     count.0 as usize
 }
 
-// The line of inference j, behind the n lines.
-pub fn infer(lines: &mut [i32], kinds: &mut [u8], tally: Tally, j: usize, k: usize) -> Derived
+// The line of inference j, behind those of the tally.
+fn infer_tallied(lines: &mut [i32], kinds: &mut [u8], tally: Tally, j: usize, k: usize) -> Derived
     requires { ⌜ SearchRoom k 1 (now kinds) (now lines) tally ⌝ }
     requires { ⌜ j < inferenceCount (tally .lines .0) ⌝ }
     ensures { λ r. ⌜ Derives k (now (kinds .entry)) (now (lines .entry)) tally (inferenceAt (tally .lines .0) j) (now (kinds .exit)) (now (lines .exit)) r ⌝ }
@@ -122,6 +123,34 @@ pub fn infer(lines: &mut [i32], kinds: &mut [u8], tally: Tally, j: usize, k: usi
         return infer_reduce(lines, kinds, tally, n, j - block, k);
     }
     infer_scale(lines, kinds, tally, j - 2 * block, k)
+}
+
+// The tally of n lines, in a proof of edition 1.
+fn tally_of(n: usize) -> Tally
+    requires { ⌜ n < 65536 ⌝ }
+    ensures { λ r. ⌜ r ≡ counted n ⌝ }
+{
+    let rows = RowNumber(0);
+    let lines = LineNumber(n as u16);
+    Tally {
+        rows,
+        lines,
+        open: 0,
+        edition: 1,
+    }
+}
+
+// Makes the line of inference j behind the n lines; whether it is not refused.
+pub fn infer(lines: &mut [i32], kinds: &mut [u8], n: usize, j: usize, k: usize) -> bool
+    requires { ⌜ SearchRoom k 1 (now kinds) (now lines) (counted n) ⌝ }
+    requires { ⌜ j < inferenceCount n ⌝ }
+    ensures { λ r. ⌜ Infers k n j (now (kinds .entry)) (now (lines .entry)) (now (kinds .exit)) (now (lines .exit)) r ⌝ }
+{
+    let tally = tally_of(n);
+    match infer_tallied(lines, kinds, tally, j, k) {
+        Derived::Refused { number: _ } => false,
+        Derived::Made { tally: _ } => true,
+    }
 }
 
 fn passed(t: Test) -> bool
@@ -156,8 +185,8 @@ fn holds_stride(lines: &[i32], kinds: &[u8], tally: Tally, i: usize, g: i64, k: 
     passed(t)
 }
 
-// Whether close c holds. (The strides are literals in the calls, so that the compiler divides by known numbers.)
-pub fn holds(lines: &[i32], kinds: &[u8], tally: Tally, c: usize, k: usize) -> bool
+// Whether close c of the tally's lines holds. (The strides are literals in the calls, so that the compiler divides by known numbers.)
+fn holds_tallied(lines: &[i32], kinds: &[u8], tally: Tally, c: usize, k: usize) -> bool
     requires { ⌜ SearchRoom k 0 (now kinds) (now lines) tally ⌝ }
     requires { ⌜ c < closeCount (tally .lines .0) ⌝ }
     ensures { λ r. ⌜ CloseHolds k (now (kinds .entry)) (now (lines .entry)) (tally .lines .0) (closeAt (tally .lines .0) c) r ⌝ }
@@ -176,4 +205,14 @@ pub fn holds(lines: &[i32], kinds: &[u8], tally: Tally, c: usize, k: usize) -> b
         return holds_stride(lines, kinds, tally, i, 3, k);
     }
     holds_stride(lines, kinds, tally, i, 4, k)
+}
+
+// Whether close c of the n lines holds.
+pub fn holds(lines: &[i32], kinds: &[u8], n: usize, c: usize, k: usize) -> bool
+    requires { ⌜ SearchRoom k 0 (now kinds) (now lines) (counted n) ⌝ }
+    requires { ⌜ c < closeCount n ⌝ }
+    ensures { λ r. ⌜ CloseHolds k (now (kinds .entry)) (now (lines .entry)) n (closeAt n c) r ⌝ }
+{
+    let tally = tally_of(n);
+    holds_tallied(lines, kinds, tally, c, k)
 }

@@ -2,130 +2,37 @@
 use mathlib.Core.Path.{_≡_, refl, sym, _∙_, ap, ap₂, subst}
 use mathlib.Core.Bool.{Bool, true, false}
 use mathlib.Core.List.{List, [], _∷_}
-use Prim.Native.Nat.{ℕ, zero, suc, _+_, _≤_, _<_}
+use Prim.Native.Nat.{ℕ, zero, suc, _+_, _-_, _≤_, _<_}
 use native.Mathlib.Omega.{arith}
 use lib.Dec.{T, eqb}
 use lib.IntN.{ℤ}
 use lib.ListN.{length, drop, length-drop}
 use lib.Seq.{drop-drop}
 use mir.Facts.{and-yes}
-use Rattle.forms.specs.Forms.{Line, Formula}
+use Rattle.forms.specs.Forms.{Line}
 use Rattle.calculus.specs.Rules.{_▷_, Derive}
-use Rattle.answers.specs.declared.Answer.{Answer}
-use Rattle.answers.specs.Answers.{refused, accepted}
-use Rattle.number_bytes.specs.Same.{sameBytes}
-use Rattle.enumeration.specs.Sequence.{newLine, closeFormula, proofsOf}
-use Rattle.enumeration.specs.Numbering.{inferenceCount, closeCount, inferenceAt, closeAt, inferenceBytes, closeBytes, begins}
+use Rattle.answers.specs.Answers.{accepted}
+use Rattle.enumeration.specs.Sequence.{newLine, proofsOf}
+use Rattle.enumeration.specs.Numbering.{inferenceCount, inferenceAt, inferenceBytes, begins}
 use Rattle.enumeration.specs.Search as search
 use Rattle.enumeration.specs.Search.{Found, firstFound, nextFound, ifNoneLeft, withRow, rowCount, proofsBeginning, proofsFrom}
-use Rattle.enumeration.proofs.Searched.{rows-numbered, next-more, next-none, close-held, close-refused, inference-made, inference-refused, inference-follows, inference-barred, inference-not-among, close-follows, close-barred, close-not-among}
+use Rattle.enumeration.proofs.Searched.{rows-numbered, next-more, next-none, inference-made, inference-refused, inference-follows, inference-barred, inference-not-among}
 use Rattle.lines.specs.Buffer.{lineIn, linesIn}
-use Rattle.lines.proofs.Lines.{lines-same, length-lines}
+use Rattle.lines.proofs.Lines.{length-lines}
 use Rattle.lines.specs.Ready.{LinesKept}
 use Rattle.lines.proofs.Keeping.{kept-refl, kept-trans}
 use Rattle.tally.specs.declared.Tally.{Tally}
 use Rattle.rows.specs.Rows.{Derives}
 use Rattle.rows.specs.declared.derive.Derived.{Derived}
 use Rattle.rows.specs.declared.derive.Derived.the-variants as derived-of
-use Rattle.enumeration_rows.specs.Recognised.{InferenceFound, CloseFound}
-use Rattle.enumeration_rows.specs.Applied.{SearchRoom, CloseHolds}
+use Rattle.enumeration_rows.specs.Recognised.{InferenceFound}
+use Rattle.enumeration_rows.specs.Applied.{SearchRoom}
 use Rattle.enumeration_rows.proofs.Inferred.{line-refused, line-made, made-tally, lines-made, roomy-kept}
-use Rattle.enumeration_search.specs.declared.FoundAt.{FoundAt}
-use Rattle.enumeration_search.specs.declared.FoundAt.the-variants.{NotAmong, NoneLeft, One, Two, Three}
-use Rattle.enumeration_search.specs.Searching.{foundOf, NumbersIn, Inferences, isNoneLeft, withFirst, Finds}
-
--- ---- rows before those found
-module _ (n d j : ℕ) where
-  prepend-is : (found : FoundAt) → Inferences d found → d ≤ 1 → foundOf n (withFirst j found) ≡ withRow (Derive (inferenceAt n j)) (foundOf (n + 1) found)
-  unfolding withRow
-  prepend-is NotAmong s h = refl
-  prepend-is NoneLeft s h = refl
-  prepend-is (One c) s h = refl
-  prepend-is (Two a c) s h = refl
-  prepend-is (Three a b c) s h = absurd (omega arith)
-
-  prepend-in : (found : FoundAt) → Inferences d found → d ≤ 1 → j < inferenceCount n → NumbersIn (n + 1) found → NumbersIn n (withFirst j found)
-  prepend-in NotAmong s h l i = tt
-  prepend-in NoneLeft s h l i = tt
-  prepend-in (One c) s h l i = (l, i)
-  prepend-in (Two a c) s h l (p, q) = (l, p, q)
-  prepend-in (Three a b c) s h l i = absurd (omega arith)
-
-  prepend-inferences : (found : FoundAt) → Inferences d found → d ≤ 1 → Inferences (suc d) (withFirst j found)
-  prepend-inferences NotAmong s h = tt
-  prepend-inferences NoneLeft s h = tt
-  prepend-inferences (One c) s h = ap suc s
-  prepend-inferences (Two a c) s h = ap suc s
-  prepend-inferences (Three a b c) s h = absurd (omega arith)
-
-pub ended-is : (n : ℕ) (found : FoundAt) → isNoneLeft found ≡ true → foundOf n found ≡ search.noneLeft
-ended-is n NotAmong e = absurd (let z : _≡_ {A = ℕ} 0 1 = cc in omega arith)
-ended-is n NoneLeft e = refl
-ended-is n (One c) e = absurd (let z : _≡_ {A = ℕ} 0 1 = cc in omega arith)
-ended-is n (Two a c) e = absurd (let z : _≡_ {A = ℕ} 0 1 = cc in omega arith)
-ended-is n (Three a b c) e = absurd (let z : _≡_ {A = ℕ} 0 1 = cc in omega arith)
-
--- what does not end goes before what comes next
-pub not-ended : (n : ℕ) (found : FoundAt) (f : Found) → isNoneLeft found ≡ false → ifNoneLeft (foundOf n found) f ≡ foundOf n found
-unfolding ifNoneLeft
-not-ended n NotAmong f e = refl
-not-ended n NoneLeft f e = absurd (let z : _≡_ {A = ℕ} 0 1 = cc in omega arith)
-not-ended n (One c) f e = refl
-not-ended n (Two a c) f e = refl
-not-ended n (Three a b c) f e = refl
-
-prepended-ended : (j : ℕ) (found : FoundAt) {d : ℕ} → Inferences d found → d ≤ 1 → isNoneLeft found ≡ false → isNoneLeft (withFirst j found) ≡ false
-prepended-ended j NotAmong s h e = refl
-prepended-ended j NoneLeft s h e = e
-prepended-ended j (One c) s h e = refl
-prepended-ended j (Two a c) s h e = refl
-prepended-ended j (Three a b c) s h e = absurd (omega arith)
-
-pub or-none-left : (f : Found) → ifNoneLeft search.noneLeft f ≡ f
-unfolding ifNoneLeft
-or-none-left f = refl
-
--- ---- lines that stay
-module _ {K n : ℕ} {kinds : List ℕ} {buf : List ℤ} {kinds′ : List ℕ} {buf′ : List ℤ} (k : LinesKept K n kinds buf kinds′ buf′) where
-  pub kept-lines : linesIn K kinds′ buf′ n ≡ linesIn K kinds buf n
-  kept-lines = lines-same K n (k .lines-same) (k .kinds-same)
-
--- ---- closes
-module _ (ls : List Line) {n : ℕ} (len : length ls ≡ n) where
-  close-none : (c : ℕ) → closeCount n ≤ c → firstFound (proofsFrom 0 ls c) ≡ search.noneLeft
-  unfolding rowCount
-  close-none c h = next-none ls 0 c (rw len h)
-
-  close-yes : (c : ℕ) → c < closeCount n → {I : Formula} → closeFormula ls (closeAt n c) ≡ accepted I → firstFound (proofsFrom 0 ls c) ≡ search.at (closeAt n c ∷ [])
-  unfolding rowCount ifNoneLeft
-  close-yes c h {I} e = next-more ls 0 c (rw len h) ∙ ap (λ (f : Found). ifNoneLeft f (firstFound (proofsFrom 0 ls (suc c)))) (close-held ls c (ap (λ (m : ℕ). closeFormula ls (closeAt m c)) len ∙ e))
-      ∙ ap (λ (m : ℕ). search.at (closeAt m c ∷ [])) len
-
-  close-no : (c : ℕ) → c < closeCount n → {a : Answer} → closeFormula ls (closeAt n c) ≡ refused a → firstFound (proofsFrom 0 ls c) ≡ firstFound (proofsFrom 0 ls (suc c))
-  unfolding rowCount ifNoneLeft
-  close-no c h {a} e = next-more ls 0 c (rw len h) ∙ ap (λ (f : Found). ifNoneLeft f (firstFound (proofsFrom 0 ls (suc c)))) (close-refused ls c (ap (λ (m : ℕ). closeFormula ls (closeAt m c)) len ∙ e))
-
--- What the loop of seek_close knows: what is left is the whole from the start.
-pub record ClosesLeft (K n : ℕ) (kinds : List ℕ) (buf : List ℤ) (start c : ℕ) : Type 0 where
-  pub same : firstFound (proofsFrom 0 (linesIn K kinds buf n) start) ≡ firstFound (proofsFrom 0 (linesIn K kinds buf n) c)
-
-module _ {K n : ℕ} {kinds : List ℕ} {buf : List ℤ} {start : ℕ} where
-  pub closes-start : ClosesLeft K n kinds buf start start
-  closes-start = record { same = refl }
-
-  module _ {c : ℕ} (left : ClosesLeft K n kinds buf start c) where
-    pub closes-ended : {count : ℕ} → count ≡ closeCount n → count ≤ c → Finds K n 0 (firstFound (proofsFrom 0 (linesIn K kinds buf n) start)) kinds buf kinds buf NoneLeft
-    closes-ended e h = record { kept = kept-refl; is = sym (left .same ∙ close-none (linesIn K kinds buf n) (length-lines K kinds buf n) c (rw (sym e) h)); within = tt; inferences = tt }
-
-    pub closes-found : {count : ℕ} {b : Bool} → count ≡ closeCount n → c < count → CloseHolds K kinds buf n (closeAt n c) b → b ≡ true → Finds K n 0 (firstFound (proofsFrom 0 (linesIn K kinds buf n) start)) kinds buf kinds buf (One c)
-    closes-found e h held q = let l : c < closeCount n = rw (sym e) h in
-        record { kept = kept-refl; is = sym (left .same ∙ close-yes (linesIn K kinds buf n) (length-lines K kinds buf n) c l (held .yes q .1)); within = l; inferences = refl }
-
-    pub closes-on : {count : ℕ} {b : Bool} → count ≡ closeCount n → c < count → CloseHolds K kinds buf n (closeAt n c) b → b ≡ false → ClosesLeft K n kinds buf start (c + 1)
-    closes-on e h held q =
-        let l : c < closeCount n = rw (sym e) h in
-        let s : suc c ≡ c + 1 = omega arith in
-        record { same = left .same ∙ close-no (linesIn K kinds buf n) (length-lines K kinds buf n) c l (held .no q .1) ∙ ap (λ (m : ℕ). firstFound (proofsFrom 0 (linesIn K kinds buf n) m)) s }
+use Rattle.enumeration_rows.proofs.FoundRows.{prepend-is, prepend-in, prepend-inferences, ended-is, not-ended, prepended-ended, or-none-left}
+use Rattle.enumeration_rows.proofs.Closes.{kept-lines, true-is}
+use Rattle.enumeration_rows.specs.declared.found.FoundAt.{FoundAt}
+use Rattle.enumeration_rows.specs.declared.found.FoundAt.the-variants.{NotAmong, NoneLeft, One, Two, Three}
+use Rattle.enumeration_rows.specs.Searching.{foundOf, NumbersIn, Inferences, isNoneLeft, withFirst, Finds}
 
 -- ---- an inference, and what follows it
 module _ {K d : ℕ} {kinds : List ℕ} {buf : List ℤ} {t : Tally} (roomy : SearchRoom K (suc d) kinds buf t) (j : ℕ) {kinds₁ : List ℕ} {buf₁ : List ℤ} {r : Derived}
@@ -224,9 +131,6 @@ begins-long [] s t = omega arith
 begins-long (x ∷ xs) [] t = absurd t
 begins-long (x ∷ xs) (y ∷ s) t = let (e, b) = and-yes (eqb x y) (begins xs s) t in omega (arith, begins-long xs s b)
 
-true-is : {b : Bool} → b ≡ true → T b
-true-is e = subst T (sym e) tt
-
 -- the row found ends within the table
 pub inference-ends : {n : ℕ} (table : List ℕ) {at j size : ℕ} → InferenceFound n (drop at table) j → j < inferenceCount n → size ≡ length (inferenceBytes n j) → at ≤ length table → at + size ≤ length table
 inference-ends {n} table {at} {j} {size} f l e h = omega (arith, begins-long (inferenceBytes n j) (drop at table) (true-is (f .stands l)), length-drop at table)
@@ -239,39 +143,6 @@ found-below f e h = let b = f .bound in lt-of b (λ q. h (q ∙ sym e))
       where
         split : {a b : ℕ} → a ≤ b → ¬ (a ≡ b) → a < b
         split h d = omega arith
-
--- the close
-module _ {K n : ℕ} {kinds : List ℕ} {buf : List ℤ} {s : List ℕ} {c : ℕ} (few : n ≤ 6) (f : CloseFound n s c) where
-  pub no-close : {count : ℕ} → count ≡ closeCount n → c ≡ count → Finds K n 0 (nextFound s (proofsOf 0 (linesIn K kinds buf n))) kinds buf kinds buf NotAmong
-  no-close e q = record {
-    kept = kept-refl;
-    is = sym (close-not-among s (linesIn K kinds buf n) (rw (length-lines K kinds buf n) few) (λ i l. ap (λ (m : ℕ). sameBytes (closeBytes m i) s) (length-lines K kinds buf n) ∙ f .none (q ∙ e) i (rw (sym (length-lines K kinds buf n)) l)));
-    within = tt;
-    inferences = tt;
-  }
-
-  module _ {b : Bool} (l : c < closeCount n) (held : CloseHolds K kinds buf n (closeAt n c) b) where
-    stands-there : T (sameBytes (closeBytes (length (linesIn K kinds buf n)) c) s)
-    stands-there = true-is (ap (λ (m : ℕ). sameBytes (closeBytes m c) s) (length-lines K kinds buf n) ∙ f .stands l)
-
-    pub open-close : b ≡ false → Finds K n 0 (nextFound s (proofsOf 0 (linesIn K kinds buf n))) kinds buf kinds buf NotAmong
-    open-close q = record {
-      kept = kept-refl;
-      is = sym (close-barred s (linesIn K kinds buf n) c (rw (length-lines K kinds buf n) few) (rw (length-lines K kinds buf n) l) stands-there (ap (λ (m : ℕ). closeFormula (linesIn K kinds buf n) (closeAt m c)) (length-lines K kinds buf n) ∙ held .no q .1));
-      within = tt;
-      inferences = tt;
-    }
-
-    pub next-close : {found : FoundAt} → b ≡ true → Finds K n 0 (firstFound (proofsFrom 0 (linesIn K kinds buf n) (c + 1))) kinds buf kinds buf found → Finds K n 0 (nextFound s (proofsOf 0 (linesIn K kinds buf n))) kinds buf kinds buf found
-    next-close q r =
-        let i : c + 1 ≡ suc c = omega arith in
-        record {
-          kept = r .kept;
-          is = r .is ∙ ap (λ (m : ℕ). firstFound (proofsFrom 0 (linesIn K kinds buf n) m)) i
-              ∙ sym (close-follows s (linesIn K kinds buf n) c (rw (length-lines K kinds buf n) few) (rw (length-lines K kinds buf n) l) stands-there (ap (λ (m : ℕ). closeFormula (linesIn K kinds buf n) (closeAt m c)) (length-lines K kinds buf n) ∙ held .yes q .1));
-          within = r .within;
-          inferences = r .inferences;
-        }
 
 -- an inference
 module _ {K n d : ℕ} {kinds : List ℕ} {buf : List ℤ} {s : List ℕ} {j : ℕ} (few : n + suc d ≤ 6) (f : InferenceFound n s j) where
@@ -352,31 +223,15 @@ module _ {K d : ℕ} {kinds : List ℕ} {buf : List ℤ} {t : Tally} (roomy : Se
           inferences = r .inferences;
         }
 
--- ---- what was read of the tally
-pub found-as : {n m : ℕ} {s : List ℕ} {j : ℕ} → InferenceFound n s j → n ≡ m → InferenceFound m s j
-found-as {s = s} {j = j} f e = subst (λ (n : ℕ). InferenceFound n s j) e f
-
-pub close-as : {n m : ℕ} {s : List ℕ} {c : ℕ} → CloseFound n s c → n ≡ m → CloseFound m s c
-close-as {s = s} {c = c} f e = subst (λ (n : ℕ). CloseFound n s c) e f
-
-pub close-below : {n : ℕ} {s : List ℕ} {c count : ℕ} → CloseFound n s c → count ≡ closeCount n → ¬ (c ≡ count) → c < closeCount n
-close-below f e h = less (f .bound) (λ q. h (q ∙ sym e))
-  where
-    less : {a b : ℕ} → a ≤ b → ¬ (a ≡ b) → a < b
-    less h d = omega arith
-
-pub rest-cut : (table : List ℕ) (at n m j : ℕ) {size : ℕ} → size ≡ length (inferenceBytes n j) → n ≡ m → drop (at + size) table ≡ drop (length (inferenceBytes m j)) (drop at table)
-rest-cut table at n m j e q = ap (λ (x : ℕ). drop (at + x) table) (e ∙ ap (λ (n : ℕ). length (inferenceBytes n j)) q) ∙ sym (drop-drop (length (inferenceBytes m j)) at table)
-
-pub same-size : (n m j : ℕ) {size : ℕ} → size ≡ length (inferenceBytes n j) → n ≡ m → size ≡ length (inferenceBytes m j)
-same-size n m j e q = e ∙ ap (λ (n : ℕ). length (inferenceBytes n j)) q
+pub rest-cut : (table : List ℕ) (at n j : ℕ) {size : ℕ} → size ≡ length (inferenceBytes n j) → drop (at + size) table ≡ drop (length (inferenceBytes n j)) (drop at table)
+rest-cut table at n j e = ap (λ (x : ℕ). drop (at + x) table) e ∙ sym (drop-drop (length (inferenceBytes n j)) at table)
 
 -- ---- by the number of inferences
+pub one-less : {d : ℕ} → ¬ (d ≡ 0) → suc (d - 1) ≡ d
+one-less h = omega arith
+
 pub as-roomy : {K d e : ℕ} {kinds : List ℕ} {buf : List ℤ} {t : Tally} → d ≡ e → SearchRoom K d kinds buf t → SearchRoom K e kinds buf t
 as-roomy {K} {kinds = kinds} {buf = buf} {t = t} q r = subst (λ (d : ℕ). SearchRoom K d kinds buf t) q r
-
-pub last-depth : {d : ℕ} → d ≤ 2 → ¬ (d ≡ 0) → ¬ (d ≡ 1) → d ≡ 2
-last-depth h a b = omega arith
 
 pub as-deep : {K n d e : ℕ} (start : ℕ) {kinds : List ℕ} {buf : List ℤ} {kinds′ : List ℕ} {buf′ : List ℤ} {r : FoundAt} → d ≡ e
     → Finds K n e (firstFound (proofsFrom e (linesIn K kinds buf n) start)) kinds buf kinds′ buf′ r → Finds K n d (firstFound (proofsFrom d (linesIn K kinds buf n) start)) kinds buf kinds′ buf′ r

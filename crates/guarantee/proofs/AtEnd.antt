@@ -19,7 +19,7 @@ use Rattle.answers.proofs.Results.{passes}
 use Rattle.fields.specs.declared.FileKind.{FileKind}
 use Rattle.fields.specs.Fields.{Fields, ends, cut, _▸_, Item, item, fields, items, Noted, Kept}
 use Rattle.fields.specs.Header.{agrees}
-use Rattle.fields.proofs.Bare.{bare, noted-bare}
+use Rattle.fields.proofs.Moved.{move, erase, noted-erased}
 use Rattle.fields.proofs.HeaderLaid.{edition-read}
 use Rattle.bundle.specs.Bundle.{Bundle, bundles}
 use Rattle.bundle.specs.Layout.{BundleFile, limitSaid, bundleLimit, Says as SaysEdition}
@@ -38,14 +38,14 @@ use Rattle.guarantee.proofs.Long.{edition-amidst}
 use Rattle.guarantee.proofs.RefusedIff.{refused-iff}
 
 -- ---- whatever derives a formula derives it with notes
-items-bare : (fs : Fields) → items (bare fs) ≡ items fs
+items-erased : (fs : Fields) → items (move erase fs) ≡ items fs
 unfolding items
-items-bare (ends at) = refl
-items-bare (cut at) = refl
-items-bare (f ▸ fs) = ap (Option·map (λ (is : List Item). item (f .tag) (f .contents) ∷ is)) (items-bare fs)
+items-erased (ends at) = refl
+items-erased (cut at) = refl
+items-erased (f ▸ fs) = ap (Option·map (λ (is : List Item). item (f .tag) (f .contents) ∷ is)) (items-erased fs)
 
 items-noted : {xs ys : List ℕ} → Noted xs ys → items (fields ys) ≡ items (fields xs)
-items-noted {xs} {ys} r = sym (items-bare (fields ys)) ∙ ap items (sym (noted-bare r)) ∙ items-bare (fields xs)
+items-noted {xs} {ys} r = sym (items-erased (fields ys)) ∙ ap items (sym (noted-erased r)) ∙ items-erased (fields xs)
 
 kept-short : {limit : ℕ} {xs ys : List ℕ} → Kept limit xs ys → length xs ≤ limit → length ys ≤ limit
 kept-short (inl e) h = rw e h

@@ -12,9 +12,6 @@ prepare-requires c κs = (c .before .before .before .before .before .before .bef
 add-n : tie.Need-add-n
 add-n c = omega (arith, c .before .before .before .before .before .before .before .before .before .before .before .before .before .pre .1 .1 .0)
 
-cast-t20 : tie.Need-cast-t20
-cast-t20 c = omega (arith, c .before .before .before .before .before .before .before .before .before .before .before .before .before .pre .1 .1 .0)
-
 find-requires : tie.Need-find-requires
 find-requires c κs = roomy-first (c .before .before .before .before .before .before .before .before .before .before .before .before .before .before .before .pre .1 .0) refl (c .before .before .before .before .before .before .before .before .before .before .before .before .before .before .before .pre .1 .1 .0) (c .before .before .before .before .before .before .before .prepare .ensures) (omega (arith, c .before .before .before .before .before .before .before .before .before .before .before .before .before .before .before .pre .1 .1 .1)) (omega (arith, c .before .before .before .before .before .before .before .before .before .before .before .before .before .before .before .pre .1 .1 .2))
 
@@ -34,4 +31,4 @@ returns : tie.Need-returns
 returns c = nexts-told (c .before .before .before .before .before .before .before .before .before .before .before .before .before .before .before .before .before .before .before .before .before .before .before .pre .0) (c .before .before .before .before .before .before .before .before .before .before .before .before .before .before .before .before .before .before .before .before .before .before .before .pre .1 .0) refl (c .before .before .before .before .before .before .before .before .before .before .before .before .before .before .before .before .before .before .before .before .before .before .before .pre .1 .1 .0) (c .before .before .before .before .before .before .before .before .before .before .before .before .before .before .before .prepare .ensures) (c .before .before .before .before .before .before .before .find .ensures) (c .before .before .deliver .ensures)
 
 pub next-within-spec : {M : Type 1} → statement M
-next-within-spec = tie.close (tie.spec prepare-requires add-n cast-t20 find-requires deliver-requires same-length same-length-2 same-length-3 returns)
+next-within-spec = tie.close (tie.spec prepare-requires add-n find-requires deliver-requires same-length same-length-2 same-length-3 returns)

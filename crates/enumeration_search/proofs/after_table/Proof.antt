@@ -1,19 +1,19 @@
--- `enumerate::after_table` meets its contract. Assumes nothing.
+-- `enumeration_search::after_table` meets its contract. Assumes nothing.
 use Prim.Native.Nat.{_-_}
 use lib.ListN.{drop}
 use native.Mathlib.Omega.{arith}
 use borrow.Author.Tests.{not-true, not-false}
 use Rattle.enumeration_rows.proofs.Inferred.{roomy-kept}
-use Rattle.enumerate.proofs.Finding.{FollowLeft, follow-start, follow-ended, follow-found, follow-on}
+use Rattle.enumeration_search.proofs.Depths.{FollowLeft, follow-start, follow-ended, follow-found, follow-on}
 use borrow.Author.Needs.{needs}
-use Rattle.enumerate.proofs.after_table.Statement.{statement}
-use Rattle.enumerate.proofs.after_table.Tie as tie
+use Rattle.enumeration_search.proofs.after_table.Statement.{statement}
+use Rattle.enumeration_search.proofs.after_table.Tie as tie
 
 abbrev Inv-loop : tie.InvT-loop
-Inv-loop lines₀ kinds₀ tally k table d₀ lines kinds d = FollowLeft k (tally .lines .0) (drop 8 table) kinds₀ lines₀ kinds lines d
+Inv-loop lines₀ kinds₀ n k table d₀ lines kinds d = FollowLeft k n (drop 8 table) kinds₀ lines₀ kinds lines d
 
 abbrev μ-loop : tie.MeasureT-loop
-μ-loop lines₀ kinds₀ tally k table d₀ lines kinds d = 3 - d
+μ-loop lines₀ kinds₀ n k table d₀ lines kinds d = 3 - d
 
 loop-holds : tie.Need-loop-holds Inv-loop μ-loop
 loop-holds c = follow-start

@@ -1,14 +1,14 @@
--- `enumerate::after_depth` meets its contract. Assumes nothing.
+-- `enumeration_search::after_depth` meets its contract. Assumes nothing.
 use lib.ListN.{drop}
 use native.Mathlib.Omega.{arith}
 use Rattle.enumeration_rows.proofs.Inferred.{roomy-less, roomy-kept}
-use Rattle.enumerate.proofs.Finding.{after-found, after-on}
+use Rattle.enumeration_search.proofs.Depths.{after-found, after-on}
 use borrow.Author.Needs.{needs}
-use Rattle.enumerate.proofs.after_depth.Statement.{statement}
-use Rattle.enumerate.proofs.after_depth.Tie as tie
+use Rattle.enumeration_search.proofs.after_depth.Statement.{statement}
+use Rattle.enumeration_search.proofs.after_depth.Tie as tie
 
 after-requires : tie.Need-after-requires
-after-requires c κs = (roomy-less (c .before .before .before .before .pre .1 .0) (c .before .before .before .before .pre .0), (c .before .before .before .before .pre .1 .0, c .before .before .before .before .pre .1 .1, omega arith))
+after-requires c κs = (roomy-less (c .before .before .before .before .pre .1 .0) (c .before .before .before .before .pre .0), (c .before .before .before .before .pre .1 .0, c .before .before .before .before .pre .1 .1, omega (arith, c .before .before .before .before .pre .1 .0)))
 
 is-none-left-requires : tie.Need-is-none-left-requires
 is-none-left-requires c κs = search needs

@@ -1,18 +1,18 @@
--- `enumerate::first_from` meets its contract. Assumes nothing.
+-- `enumeration_search::first_from` meets its contract. Assumes nothing.
 use Prim.Native.Nat.{_-_}
 use native.Mathlib.Omega.{arith}
 use borrow.Author.Tests.{not-true, not-false}
 use Rattle.enumeration_rows.proofs.Inferred.{roomy-less, roomy-kept}
-use Rattle.enumerate.proofs.Finding.{FirstLeft, first-start, first-ended, first-found, first-on}
+use Rattle.enumeration_search.proofs.Depths.{FirstLeft, first-start, first-ended, first-found, first-on}
 use borrow.Author.Needs.{needs}
-use Rattle.enumerate.proofs.first_from.Statement.{statement}
-use Rattle.enumerate.proofs.first_from.Tie as tie
+use Rattle.enumeration_search.proofs.first_from.Statement.{statement}
+use Rattle.enumeration_search.proofs.first_from.Tie as tie
 
 abbrev Inv-loop : tie.InvT-loop
-Inv-loop lines₀ kinds₀ tally k depth d₀ lines kinds d = FirstLeft k (tally .lines .0) kinds₀ lines₀ depth kinds lines d
+Inv-loop lines₀ kinds₀ n k depth d₀ lines kinds d = FirstLeft k n kinds₀ lines₀ depth kinds lines d
 
 abbrev μ-loop : tie.MeasureT-loop
-μ-loop lines₀ kinds₀ tally k depth d₀ lines kinds d = 3 - d
+μ-loop lines₀ kinds₀ n k depth d₀ lines kinds d = 3 - d
 
 loop-holds : tie.Need-loop-holds Inv-loop μ-loop
 loop-holds c = first-start

@@ -7,10 +7,11 @@ use lib.IntN.{ℤ}
 use Rattle.calculus.specs.Rules.{Derive}
 use Rattle.enumeration.specs.Numbering.{inferenceCount, closeCount, inferenceAt, closeAt}
 use Rattle.enumeration.specs.Search as search
-use Rattle.enumeration.specs.Search.{Found}
+use Rattle.enumeration.specs.Search.{Found, firstFound, proofsFrom}
+use Rattle.lines.specs.Buffer.{linesIn}
 use Rattle.lines.specs.Ready.{LinesKept}
-use Rattle.enumeration_search.specs.declared.FoundAt.{FoundAt}
-use Rattle.enumeration_search.specs.declared.FoundAt.the-variants.{NotAmong, NoneLeft, One, Two, Three}
+use Rattle.enumeration_rows.specs.declared.found.FoundAt.{FoundAt}
+use Rattle.enumeration_rows.specs.declared.found.FoundAt.the-variants.{NotAmong, NoneLeft, One, Two, Three}
 
 -- The rows that an answer stands for, behind n lines.
 abbrev pub foundOf : (n : ℕ) → FoundAt → Found
@@ -70,3 +71,7 @@ pub record FindsAny (K n : ℕ) (f : Found) (kinds : List ℕ) (buf : List ℤ) 
   pub kept : LinesKept K n kinds buf kinds′ buf′
   pub is : foundOf n r ≡ f
   pub within : NumbersIn n r
+
+-- b says that no close of the first n lines holds.
+pub record Unclosed (K n : ℕ) (kinds : List ℕ) (buf : List ℤ) (b : Bool) : Type 0 where
+  pub none : b ≡ true → firstFound (proofsFrom 0 (linesIn K kinds buf n) 0) ≡ search.noneLeft

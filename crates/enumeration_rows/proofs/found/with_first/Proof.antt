@@ -1,9 +1,9 @@
--- `enumeration_search::with_first` meets its contract. Assumes nothing.
+-- `enumeration_rows::found::with_first` meets its contract. Assumes nothing.
 use mathlib.Core.Path.{sym, ap}
-use Rattle.enumeration_search.specs.Searching.{withFirst}
+use Rattle.enumeration_rows.specs.Searching.{withFirst}
 use borrow.Author.Needs.{needs}
-use Rattle.enumeration_search.proofs.with_first.Statement.{statement}
-use Rattle.enumeration_search.proofs.with_first.Tie as tie
+use Rattle.enumeration_rows.proofs.found.with_first.Statement.{statement}
+use Rattle.enumeration_rows.proofs.found.with_first.Tie as tie
 
 enum-told : tie.Need-enum-told
 enum-told c = search needs

@@ -1,2 +1,0 @@
--- The search, as the code does it.
-pub mod Searching
