@@ -31,7 +31,7 @@ use Rattle.closes.specs.declared.ends.Ended.{Ended}
 use Rattle.closes.specs.declared.ends.Ended.the-variants as ended
 use Rattle.openings.specs.Opening.{below, Branching, rowOpened, RowOpens}
 use Rattle.branches.specs.Branches.{Comes, Stopped}
-use Rattle.branches.specs.Branching.{closedBy, Started, Branches}
+use Rattle.branches.specs.Branching.{closedBy, Started, ChecksBranch}
 use Rattle.branches.specs.declared.branch.Stop.{Stop}
 use Rattle.branches.specs.declared.branch.Branched.{Branched}
 use Rattle.branches.specs.declared.branch.Branched.the-variants as branched
@@ -48,7 +48,7 @@ branch-entries e K (suc room) here rows ls fs = refl
 
 module _ {K : ℕ} {p : List ℕ} {at : ℕ} {kinds : List ℕ} {buf : List ℤ} {t : Tally} {kinds′ : List ℕ} {buf′ : List ℤ} where
   pub stopped-fault : (here : Position) {r : Stop} {x : ℕ} {rows : RowNumber} {a : ℕ} (scratch : List ℕ) (o : ℕ) → Stopped K p at kinds buf t kinds′ buf′ r → r ≡ Stop.Fault x rows a
-      → Branches K p at here kinds buf t scratch o kinds′ buf′ scratch (branched.Fault x rows here a)
+      → ChecksBranch K p at here kinds buf t scratch o kinds′ buf′ scratch (branched.Fault x rows here a)
   stopped-fault here scratch o s e = record {
     kept = s .kept;
     long = refl;
@@ -88,7 +88,7 @@ module _ {K : ℕ} {p : List ℕ} {at : ℕ} {kinds : List ℕ} {buf : List ℤ}
       (row-is : checkRow (edition (t .edition)) K (below (t .edition) K (32 - t .«open»)) (checkEntries (edition (t .edition)) K here (below (t .edition) K (32 - t .«open»)) (fieldsAt p next)) (refusalAt here (number .0) a) (number .0) (linesIn K kinds′ buf′ (u .lines .0)) (fieldsAt p next) row
       ≡ (f (refusalAt here (number .0) a) >>= λ I. accepted (record { formula = I; rows = suc (number .0); after = fieldsAt p next }))) where
     row-closed : (scratch : List ℕ) (o : ℕ) (scratch′ : List ℕ) (e : Ended) → EndedBy f scratch o scratch′ e
-        → Branches K p at here kinds buf t scratch o kinds′ buf′ scratch′ (closedBy e here number a next (returnedTo u t))
+        → ChecksBranch K p at here kinds buf t scratch o kinds′ buf′ scratch′ (closedBy e here number a next (returnedTo u t))
     unfolding _>>=_
     row-closed scratch o scratch′ (ended.Refused x) w = record { kept = k; long = w .1; by = comes-row m here ∙ row-is ∙ rw (w .0 (refusalAt here (number .0) a)) }
     row-closed scratch o scratch′ (ended.Written o′) w =
@@ -113,7 +113,7 @@ module _ {K : ℕ} {p : List ℕ} {at : ℕ} {kinds : List ℕ} {buf : List ℤ}
     pub number-closed : {i : LineNumber} {row : RowNumber} {a next : ℕ} {u : Tally} {b : Branched} {v : Tally} → r ≡ Stop.ClosesNumber i row a next u
         → EndedBy (λ refusal. byNumber refusal (linesIn K kinds′ buf′ (u .lines .0)) (i .0)) scratch o scratch′ e
         → v ≡ returnedTo u t → b ≡ closedBy e here row a next v
-        → Branches K p at here kinds buf t scratch o kinds′ buf′ scratch′ b
+        → ChecksBranch K p at here kinds buf t scratch o kinds′ buf′ scratch′ b
     unfolding checkRow
     number-closed {i} {row} {a} {next} {u} q w ev eb =
         rw (eb, ev) (row-closed here row (number-comes s q) (s .kept) (λ refusal. byNumber refusal (linesIn K kinds′ buf′ (u .lines .0)) (i .0)) refl scratch o scratch′ e w)
@@ -121,7 +121,7 @@ module _ {K : ℕ} {p : List ℕ} {at : ℕ} {kinds : List ℕ} {buf : List ℤ}
     pub stride-closed : {i : LineNumber} {g : ℤ} {row : RowNumber} {a next : ℕ} {u : Tally} {b : Branched} {v : Tally} → r ≡ Stop.ClosesStride i row a next u g
         → EndedBy (λ refusal. byStride refusal (linesIn K kinds′ buf′ (u .lines .0)) (i .0) (natAbs g)) scratch o scratch′ e
         → v ≡ returnedTo u t → b ≡ closedBy e here row a next v
-        → Branches K p at here kinds buf t scratch o kinds′ buf′ scratch′ b
+        → ChecksBranch K p at here kinds buf t scratch o kinds′ buf′ scratch′ b
     unfolding checkRow
     stride-closed {i} {g} {row} {a} {next} {u} q w ev eb =
         rw (eb, ev) (row-closed here row (stride-comes s q .0) (s .kept) (λ refusal. byStride refusal (linesIn K kinds′ buf′ (u .lines .0)) (i .0) (natAbs g)) refl scratch o scratch′ e w)
@@ -133,7 +133,7 @@ module _ {K : ℕ} {p : List ℕ} {at : ℕ} {kinds : List ℕ} {buf : List ℤ}
     comes-opened = comes-row m here ∙ rw (← m .open-is, ← m .edition-is)
 
     pub opens-refused : {branching : Branching} {i x y : ℕ} {r : Derived} {z : ℕ} {row-number : RowNumber} {kinds″ : List ℕ} {buf″ : List ℤ} (scratch : List ℕ) (o : ℕ) → RowOpens row branching K kinds′ buf′ u i x y kinds″ buf″ r → r ≡ derived.Refused z
-        → row-number .0 ≡ number → Branches K p at here kinds buf t scratch o kinds″ buf″ scratch (branched.Fault z row-number here a)
+        → row-number .0 ≡ number → ChecksBranch K p at here kinds buf t scratch o kinds″ buf″ scratch (branched.Fault z row-number here a)
     opens-refused scratch o s e ey = rw ey (record {
       kept = kept-trans (m .from) k (s .kept);
       long = refl;

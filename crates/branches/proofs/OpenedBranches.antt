@@ -27,12 +27,12 @@ use Rattle.lines.proofs.Keeping.{kept-refl, ready-more, ready-kept, kept-trans}
 use Rattle.tally.specs.declared.Tally.{Tally}
 use Rattle.rows.specs.declared.derive.Derived.{Derived}
 use Rattle.rows.specs.declared.derive.Derived.the-variants as derived
-use Rattle.openings.specs.Opening.{inTurn, startOf, middleOf, thirdOf, Branching, lastTwo, Longer, Stands, RowOpens}
+use Rattle.openings.specs.Opening.{inTurn, startOf, middleOf, thirdOf, Branching, lastTwo, Longer, FirstLineStands, RowOpens}
 use Rattle.openings.proofs.Starting.{starts, start-less, middle-starts, third-starts}
 use Rattle.formula_write.proofs.Storing.{stores-head}
 use Rattle.branches.specs.Spare.{unreadBytes}
 use Rattle.branches.specs.Branches.{Comes}
-use Rattle.branches.specs.Branching.{resumedBy, keptBack, Started, Closes, BranchedBy, BranchChecked, deeper, Branches, Opened, FirstStands, OpenedChecked}
+use Rattle.branches.specs.Branching.{resumedBy, keptBack, Started, Closes, BranchedBy, BranchChecked, deeper, ChecksBranch, Opened, FirstStands, OpenedChecked}
 use Rattle.branches.specs.declared.branch.Branched.{Branched}
 use Rattle.branches.specs.declared.branch.Branched.the-variants as branched
 use Rattle.branches.proofs.Spare.{lines-fewer, spare-less}
@@ -67,7 +67,7 @@ module _ {K n x y : ℕ} {p : List ℕ} {kinds : List ℕ} {buf : List ℤ} {t :
         room = omega (arith, d .room);
       }
 
-      module _ (here : Position) {scratch₁ : List ℕ} {kinds₂ : List ℕ} {buf₂ : List ℤ} {scratch₂ : List ℕ} {r : Branched} (b : Branches K p at here kinds₁ buf₁ t scratch₁ o₁ kinds₂ buf₂ scratch₂ r) where
+      module _ (here : Position) {scratch₁ : List ℕ} {kinds₂ : List ℕ} {buf₂ : List ℤ} {scratch₂ : List ℕ} {r : Branched} (b : ChecksBranch K p at here kinds₁ buf₁ t scratch₁ o₁ kinds₂ buf₂ scratch₂ r) where
         pub own-checked : BranchChecked keptBack (deeper K t here (t .rows .0) (linesIn K kinds buf n ▷ l) (fieldsAt p at)) K n p at kinds buf t scratch₁ o₁ kinds₂ buf₂ scratch₂ r
         own-checked = record {
           kept = kept-trans {n = t .lines .0} (omega (arith, d .lines-is)) (g .kept) (b .kept);
@@ -129,7 +129,7 @@ module _ {K n x y : ℕ} {p : List ℕ} {kinds : List ℕ} {buf : List ℤ} {t :
       pub some-started : Started K kinds₁ buf₁ t p at o₁
       some-started = own-started some-longer short
 
-      module _ (here : Position) {scratch₁ : List ℕ} {kinds₂ : List ℕ} {buf₂ : List ℤ} {scratch₂ : List ℕ} {r : Branched} (b : Branches K p at here kinds₁ buf₁ t scratch₁ o₁ kinds₂ buf₂ scratch₂ r)
+      module _ (here : Position) {scratch₁ : List ℕ} {kinds₂ : List ℕ} {buf₂ : List ℤ} {scratch₂ : List ℕ} {r : Branched} (b : ChecksBranch K p at here kinds₁ buf₁ t scratch₁ o₁ kinds₂ buf₂ scratch₂ r)
           {a o₂ : ℕ} {t₁ : Tally} (e : r ≡ branched.Closed a o₂ t₁) where
         pub some-open : t₁ .«open» ≡ t .«open»
         some-open = next-open some-longer short here b e
@@ -146,7 +146,7 @@ module _ {K n x y : ℕ} {p : List ℕ} {kinds : List ℕ} {buf : List ℤ} {t :
     pub first-started : Started K kinds buf t p at o₁
     first-started = own-started f (head-short h)
 
-    module _ {kinds₁ : List ℕ} {buf₁ : List ℤ} {scratch₂ : List ℕ} {r₁ : Branched} (b : Branches K p at (position step 0) kinds buf t scratch₁ o₁ kinds₁ buf₁ scratch₂ r₁) where
+    module _ {kinds₁ : List ℕ} {buf₁ : List ℤ} {scratch₂ : List ℕ} {r₁ : Branched} (b : ChecksBranch K p at (position step 0) kinds buf t scratch₁ o₁ kinds₁ buf₁ scratch₂ r₁) where
       pub first-fault : {w : ℕ} {rows : RowNumber} {q : Position} {z : ℕ} → r₁ ≡ branched.Fault w rows q z → OpenedChecked keptBack (firstThen x y make rest) K step n p at kinds buf t i scratch o kinds₁ buf₁ scratch₂ r₁
       first-fault e = in-turn-fault (stores-head h) keptBack make bytes (λ rows fs. rest (deeper K t) (linesIn K kinds buf n) (lineIn K kinds buf i) step rows fs) (own-checked f (head-short h) (position step 0) b) keptBack e
 
@@ -178,7 +178,7 @@ module _ {K n : ℕ} {p : List ℕ} {kinds : List ℕ} {buf : List ℤ} {t : Tal
   middle : Longer (t .edition) K kinds buf n (middleOf (lineIn K kinds buf i)) kinds₁ buf₁
   middle = middle-starts (d .ready) (d .line) (d .space) 1 1 (d .small) eb ek
 
-  module _ {kinds₂ : List ℕ} {buf₂ : List ℤ} {scratch₂ : List ℕ} {r₁ : Branched} (b : Branches K p at (position step 1) kinds₁ buf₁ t scratch₁ o₁ kinds₂ buf₂ scratch₂ r₁) where
+  module _ {kinds₂ : List ℕ} {buf₂ : List ℤ} {scratch₂ : List ℕ} {r₁ : Branched} (b : ChecksBranch K p at (position step 1) kinds₁ buf₁ t scratch₁ o₁ kinds₂ buf₂ scratch₂ r₁) where
     pub two-fault : {x : ℕ} {rows : RowNumber} {q : Position} {z : ℕ} → r₁ ≡ branched.Fault x rows q z → OpenedChecked keptBack lastTwo K step n p at kinds buf t i scratch o kinds₂ buf₂ scratch₂ r₁
     two-fault e = in-turn-fault (stores-head h) keptBack _and_ and-bytes (λ rows fs. thirdBranch (deeper K t) (linesIn K kinds buf n) (lineIn K kinds buf i) step rows fs) (own-checked d middle (head-short h) (position step 1) b) keptBack e
 
@@ -189,7 +189,7 @@ module _ {K n : ℕ} {p : List ℕ} {kinds : List ℕ} {buf : List ℤ} {t : Tal
       third : Longer (t₁ .edition) K kinds₂ buf₂ n (thirdOf (lineIn K kinds₂ buf₂ i)) kinds₃ buf₃
       third = third-starts (d₃ .ready) (d₃ .line) (d₃ .space) 1 1 (d₃ .small) (omega arith) eb₃ ek₃
 
-      pub two-checks : {kinds₄ : List ℕ} {buf₄ : List ℤ} {scratch₃ : List ℕ} {r : Branched} → Branches K p a (position step 2) kinds₃ buf₃ t₁ scratch₂ o₂ kinds₄ buf₄ scratch₃ r
+      pub two-checks : {kinds₄ : List ℕ} {buf₄ : List ℤ} {scratch₃ : List ℕ} {r : Branched} → ChecksBranch K p a (position step 2) kinds₃ buf₃ t₁ scratch₂ o₂ kinds₄ buf₄ scratch₃ r
           → OpenedChecked keptBack lastTwo K step n p at kinds buf t i scratch o kinds₄ buf₄ scratch₃ r
       two-checks x =
           in-turn-checks (stores-head h) keptBack _and_ and-bytes (λ rows fs. thirdBranch (deeper K t) (linesIn K kinds buf n) (lineIn K kinds buf i) step rows fs) (own-checked d middle (head-short h) (position step 1) b) keptBack keptBack (omega (arith, field-size 0x32 [])) e
@@ -202,7 +202,7 @@ resumed-fault t e = rw e
 module _ {K : ℕ} {p : List ℕ} {at : ℕ} {kinds : List ℕ} {buf : List ℤ} {t : Tally} {kinds′ : List ℕ} {buf′ : List ℤ} {row : rules.Row} {branching : Branching} {i x y number a next : ℕ} {u : Tally}
     (m : Comes K p at kinds buf t kinds′ buf′ row number a next u) (k : LinesKept K (t .lines .0) kinds buf kinds′ buf′)
     {kinds″ : List ℕ} {buf″ : List ℤ} {s : Derived} {v : Tally} (w : RowOpens row branching K kinds′ buf′ u i x y kinds″ buf″ s) (e : s ≡ derived.Made v) where
-  stands : Stands K kinds′ buf′ u i x y kinds″ buf″ v
+  stands : FirstLineStands K kinds′ buf′ u i x y kinds″ buf″ v
   stands = (rw e at (w .by)) .1
 
   same-line : lineIn K kinds″ buf″ i ≡ lineIn K kinds′ buf′ i
@@ -265,7 +265,7 @@ module _ {K : ℕ} {p : List ℕ} {at : ℕ} {kinds : List ℕ} {buf : List ℤ}
       edition-is = refl;
     }
 
-    pub resumed-checks : {r : Branched} → r ≡ resumedBy b t → Branches K p at here kinds buf t scratch o kinds₁ buf₁ scratch₁ r
+    pub resumed-checks : {r : Branched} → r ≡ resumedBy b t → ChecksBranch K p at here kinds buf t scratch o kinds₁ buf₁ scratch₁ r
     resumed-checks q = rw q (record {
       kept = kept-trans (m .from) k (kept-trans (omega arith) (w .kept) (all .kept));
       long = all .long;

@@ -32,7 +32,7 @@ use Rattle.closes.proofs.Ending.{divisor}
 use Rattle.openings.specs.Opening.{inTurn, startOf, fromBranch, Longer, RoundsBy, strideOf, RoundedStarts}
 use Rattle.openings.proofs.Starting.{starts, start-form, start-numbered}
 use Rattle.branches.specs.Spare.{unreadBytes}
-use Rattle.branches.specs.Branching.{keptBack, Started, deeper, Branches, Opened, OpenedChecked, RoundedChecked}
+use Rattle.branches.specs.Branching.{keptBack, Started, deeper, ChecksBranch, Opened, OpenedChecked, RoundedChecked}
 use Rattle.branches.specs.declared.branch.Branched.{Branched}
 use Rattle.branches.specs.declared.branch.Branched.the-variants as branched
 use Rattle.branches.proofs.JoinedClosings.{checked-as, alone-checks, in-turn-fault, in-turn-checks}
@@ -93,7 +93,7 @@ module _ {K n by : ℕ} {p : List ℕ} {kinds : List ℕ} {buf : List ℤ} {t : 
     rounded-started = own-started d own short
 
     module _ (step : ℕ) where
-      module _ {kinds₂ : List ℕ} {buf₂ : List ℤ} {scratch₂ : List ℕ} {r : Branched} (b : Branches K p at (position step (j + 1)) kinds₁ buf₁ t scratch₁ o₁ kinds₂ buf₂ scratch₂ r) where
+      module _ {kinds₂ : List ℕ} {buf₂ : List ℤ} {scratch₂ : List ℕ} {r : Branched} (b : ChecksBranch K p at (position step (j + 1)) kinds₁ buf₁ t scratch₁ o₁ kinds₂ buf₂ scratch₂ r) where
         -- No others follow.
         last-checks : others ≡ false → by ≤ j + 1 → OpenedChecked 3 (fromBranch g by j) K step n p at kinds buf t i scratch o kinds₂ buf₂ scratch₂ r
         last-checks e q =
@@ -154,7 +154,7 @@ rounding-start step d q = record { opened = d; less = omega (arith, q .least); k
 module _ {K step n : ℕ} {p : List ℕ} {at : ℕ} {kinds₀ : List ℕ} {buf₀ : List ℤ} {t₀ : Tally} {i g by : ℕ} {scratch₀ : List ℕ} {o₀ : ℕ}
     {kinds : List ℕ} {buf : List ℤ} {scratch : List ℕ} {here o : ℕ} {t : Tally} {j : ℕ} (turn : Rounding K step n p at kinds₀ buf₀ t₀ i g by scratch₀ o₀ kinds buf scratch here o t j)
     (others : Bool) {kinds₁ : List ℕ} {buf₁ : List ℤ} {scratch₁ : List ℕ} {o₁ : ℕ} (h : RoundedStarts K i n g by j others kinds buf scratch o kinds₁ buf₁ scratch₁ o₁)
-    {kinds₂ : List ℕ} {buf₂ : List ℤ} {scratch₂ : List ℕ} {r : Branched} (b : Branches K p here (position step (j + 1)) kinds₁ buf₁ t scratch₁ o₁ kinds₂ buf₂ scratch₂ r) where
+    {kinds₂ : List ℕ} {buf₂ : List ℤ} {scratch₂ : List ℕ} {r : Branched} (b : ChecksBranch K p here (position step (j + 1)) kinds₁ buf₁ t scratch₁ o₁ kinds₂ buf₂ scratch₂ r) where
   pub rounding-last : others ≡ false → by ≤ j + 1 → RoundedChecked K step n p at kinds₀ buf₀ t₀ i g by 0 scratch₀ o₀ kinds₂ buf₂ scratch₂ r
   rounding-last e q = turn .rest (last-checks (turn .opened) (turn .less) g others h step b e q)
 

@@ -28,12 +28,12 @@ use Rattle.tally.specs.declared.Tally.{Tally}
 use Rattle.rows.specs.declared.derive.Derived.{Derived}
 use Rattle.rows.specs.declared.derive.Derived.the-variants.{Made}
 use Rattle.openings.specs.Opening.{inTurn, Branching, Longer}
-use Rattle.openings.specs.Splitting.{ownerOf, raisedBy, joinedBy, negatedOf, bothOf, Splits}
+use Rattle.openings.specs.Splitting.{ownerOf, raisedBy, joinedBy, negatedOf, bothOf, SplitOpens}
 use Rattle.openings.proofs.Starting.{negated-starts, negated-less}
-use Rattle.openings.proofs.Splittable.{read-two}
+use Rattle.openings.proofs.SplitTests.{read-two}
 use Rattle.branches.specs.Spare.{unreadBytes}
 use Rattle.branches.specs.Branches.{Comes}
-use Rattle.branches.specs.Branching.{resumedBy, keptBack, Started, Branches, deeper, Opened, FirstStands, OpenedChecked, SplitOpened, SplitChecked}
+use Rattle.branches.specs.Branching.{resumedBy, keptBack, Started, ChecksBranch, deeper, Opened, FirstStands, OpenedChecked, SplitOpened, SplitChecked}
 use Rattle.branches.specs.declared.branch.Branched.{Branched}
 use Rattle.branches.specs.declared.branch.Branched.the-variants as branched
 use Rattle.branches.proofs.JoinedClosings.{checked-as, or-bytes, and-bytes}
@@ -74,7 +74,7 @@ module _ {K n : ℕ} {p : List ℕ} {kinds : List ℕ} {buf : List ℤ} {t : Tal
         → SplitChecked K step n p at kinds buf t i scratch o kinds′ buf′ scratch′ r′
     as-both x = checked-as (both-is (eqb (getD kinds i 0) 2) (deeper K t) (linesIn K kinds buf n) (lineIn K kinds buf i) step (t .rows .0) (fieldsAt p at)) x
 
-    module _ {kinds₁ : List ℕ} {buf₁ : List ℤ} {scratch₂ : List ℕ} {r₁ : Branched} (b : Branches K p at (position step 0) kinds buf t scratch₁ o₁ kinds₁ buf₁ scratch₂ r₁) where
+    module _ {kinds₁ : List ℕ} {buf₁ : List ℤ} {scratch₂ : List ℕ} {r₁ : Branched} (b : ChecksBranch K p at (position step 0) kinds buf t scratch₁ o₁ kinds₁ buf₁ scratch₂ r₁) where
       pub split-fault : {w : ℕ} {rows : RowNumber} {q : Position} {z : ℕ} → r₁ ≡ branched.Fault w rows q z → SplitChecked K step n p at kinds buf t i scratch o kinds₁ buf₁ scratch₂ r₁
       split-fault e = as-both (first-fault (s .opened) (joinOf (eqb (getD kinds i 0) 2)) (join-bytes (eqb (getD kinds i 0) 2)) (negatedBranch (raisedBy (getD kinds i 0))) step (s .stands) head b e)
 
@@ -108,7 +108,7 @@ module _ {K n : ℕ} {p : List ℕ} {kinds : List ℕ} {buf : List ℤ} {t : Tal
             pub negated-started : Started K kinds₂ buf₂ t₁ p a o₂
             negated-started = own-started d₂ negated none-short
 
-            pub split-checks : {kinds₃ : List ℕ} {buf₃ : List ℤ} {scratch₃ : List ℕ} {r₂ : Branched} → Branches K p a (position step 1) kinds₂ buf₂ t₁ scratch₂ o₂ kinds₃ buf₃ scratch₃ r₂
+            pub split-checks : {kinds₃ : List ℕ} {buf₃ : List ℤ} {scratch₃ : List ℕ} {r₂ : Branched} → ChecksBranch K p a (position step 1) kinds₂ buf₂ t₁ scratch₂ o₂ kinds₃ buf₃ scratch₃ r₂
                 → SplitChecked K step n p at kinds buf t i scratch o kinds₃ buf₃ scratch₃ r₂
             split-checks x =
                 as-both
@@ -118,7 +118,7 @@ module _ {K n : ℕ} {p : List ℕ} {kinds : List ℕ} {buf : List ℤ} {t : Tal
 -- ---- the branch with the split, which is opened
 module _ {K : ℕ} {p : List ℕ} {at : ℕ} {kinds : List ℕ} {buf : List ℤ} {t : Tally} {kinds′ : List ℕ} {buf′ : List ℤ} {i number a next : ℕ} {u : Tally}
     (m : Comes K p at kinds buf t kinds′ buf′ (rules.Split i) number a next u) (k : LinesKept K (t .lines .0) kinds buf kinds′ buf′)
-    {kinds″ : List ℕ} {buf″ : List ℤ} {s : Derived} {v : Tally} (w : Splits K kinds′ buf′ u i kinds″ buf″ s) (e : s ≡ Made v) where
+    {kinds″ : List ℕ} {buf″ : List ℤ} {s : Derived} {v : Tally} (w : SplitOpens K kinds′ buf′ u i kinds″ buf″ s) (e : s ≡ Made v) where
   there : i < u .lines .0
   there = (rw e at (w .opens .by)) .1 .start .copy .first
 
@@ -135,6 +135,6 @@ module _ {K : ℕ} {p : List ℕ} {at : ℕ} {kinds : List ℕ} {buf : List ℤ}
   }
 
   pub split-resumed : (here : Position) {scratch : List ℕ} {o : ℕ} {kinds₁ : List ℕ} {buf₁ : List ℤ} {scratch₁ : List ℕ} {b r : Branched}
-      → SplitChecked K number (u .lines .0) p next kinds″ buf″ v i scratch o kinds₁ buf₁ scratch₁ b → r ≡ resumedBy b t → Branches K p at here kinds buf t scratch o kinds₁ buf₁ scratch₁ r
+      → SplitChecked K number (u .lines .0) p next kinds″ buf″ v i scratch o kinds₁ buf₁ scratch₁ b → r ≡ resumedBy b t → ChecksBranch K p at here kinds buf t scratch o kinds₁ buf₁ scratch₁ r
   split-resumed here {scratch} {o} {kinds₁} {buf₁} {scratch₁} {b} x q =
       resumed-checks m k (w .opens) e here (subst (λ (c : ℕ). OpenedChecked keptBack (bothOf (ownerOf c)) K number (u .lines .0) p next kinds″ buf″ v i scratch o kinds₁ buf₁ scratch₁ b) byte x) q

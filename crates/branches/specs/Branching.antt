@@ -80,9 +80,9 @@ pub record BranchChecked (back : ℕ) (R : Result Closing) (K n : ℕ) (p : List
 abbrev pub deeper : (K : ℕ) → Tally → Checker
 deeper K t = checkBranch (edition (t .edition)) K (edition1 .branchings - t .«open»)
 
-abbrev pub Branches : (K : ℕ) (p : List ℕ) (at : ℕ) (here : Position) (kinds : List ℕ) (buf : List ℤ) (t : Tally) (scratch : List ℕ) (o : ℕ)
+abbrev pub ChecksBranch : (K : ℕ) (p : List ℕ) (at : ℕ) (here : Position) (kinds : List ℕ) (buf : List ℤ) (t : Tally) (scratch : List ℕ) (o : ℕ)
     (kinds′ : List ℕ) (buf′ : List ℤ) (scratch′ : List ℕ) (r : branched.Branched) → Type 0
-Branches K p at here kinds buf t scratch o kinds′ buf′ scratch′ r =
+ChecksBranch K p at here kinds buf t scratch o kinds′ buf′ scratch′ r =
     BranchChecked keptBack (deeper K t here (t .rows .0) (linesIn K kinds buf (t .lines .0)) (fieldsAt p at)) K (t .lines .0) p at kinds buf t scratch o kinds′ buf′ scratch′ r
 
 -- ---- the branches that a row opens, behind n lines

@@ -6,7 +6,7 @@ ghost use mathlib.Core.Path.{_≡_};
 ghost use Prim.Native.Nat.{_+_};
 ghost use Rattle.entries.specs.Entries.{Multiplies};
 ghost use Rattle.openings.specs.Opening.{RoundsBy};
-ghost use Rattle.branches.specs.Branching.{closedBy, resumedBy, Started, Branches, Opened, FirstStands, RoundingChecked, RoundedChecked, SplitOpened, SplitChecked};
+ghost use Rattle.branches.specs.Branching.{closedBy, resumedBy, Started, ChecksBranch, Opened, FirstStands, RoundingChecked, RoundedChecked, SplitOpened, SplitChecked};
 ghost use lib.IntN.{natAbs};
 use answers::Position;
 use closes::ends::Ended;
@@ -274,7 +274,7 @@ pub fn check_branch(
     scratch: &mut [u8],
 ) -> Branched
     requires { ⌜ Started (here .k) (now kinds) (now lines) tally (now p) (here .at) (here .o) ⌝ }
-    ensures { λ r. ⌜ Branches (here .k) (now (p .entry)) (here .at) position (now (kinds .entry)) (now (lines .entry)) tally (now (scratch .entry)) (here .o) (now (kinds .exit)) (now (lines .exit)) (now (scratch .exit)) r ⌝ }
+    ensures { λ r. ⌜ ChecksBranch (here .k) (now (p .entry)) (here .at) position (now (kinds .entry)) (now (lines .entry)) tally (now (scratch .entry)) (here .o) (now (kinds .exit)) (now (lines .exit)) (now (scratch .exit)) r ⌝ }
 {
     let k = here.k;
     let o = here.o;

@@ -10,7 +10,7 @@ use Rattle.forms.specs.Forms.{Form, Kind, ≤0, =0, Line, line, lineApart, neg,
 use Rattle.calculus.specs.Rules.{Nth, _▷_, Closed, derive, strengthen, round, splitEq, splitNeq, number, stride, Rounded, last, more}
 use Rattle.calculus.specs.Reached.{Drawn, DrawnBySide, Reached, root, derived, branched, split, splitNegated, Throughout, ThroughoutRounded}
 use Rattle.calculus.proofs.Sides.{Side, A, B, part, all-nth}
-use Rattle.calculus.proofs.Vocabulary.{Words, words-new, words-raised, words-neg, vocabulary}
+use Rattle.calculus.proofs.Vocabulary.{WithinVocabulary, words-new, words-raised, words-neg, vocabulary}
 use Rattle.calculus.proofs.Interpolation.{sides, initial-words, occurs-if}
 
 -- which constants occur in A and in B
@@ -18,14 +18,14 @@ abbrev pub occurring : (As Bs : List Constraint) → Side → ℕ → Bool
 occurring As Bs σ = occurs (sides As Bs σ)
 
 module _ (As Bs : List Constraint) where
-  pub reached-words : {ls : List Line} → Reached As Bs ls → Words (occurring As Bs) ls
+  pub reached-words : {ls : List Line} → Reached As Bs ls → WithinVocabulary (occurring As Bs) ls
   reached-words root = initial-words (sides As Bs)
   reached-words (derived r n) = words-new (occurring As Bs) (reached-words r) n
   reached-words (branched i kind k j r p) = words-raised (occurring As Bs) (reached-words r) i p kind k j
   reached-words (split i j r p) = words-raised (occurring As Bs) (reached-words r) i p ≤0 1 j
   reached-words (splitNegated i j r p) = words-neg (occurring As Bs) (reached-words r) i p 1 j
 
-  module _ {ls : List Line} (w : Words (occurring As Bs) ls) where
+  module _ {ls : List Line} (w : WithinVocabulary (occurring As Bs) ls) where
     at-side : (σ : Side) (i : ℕ) {l : Line} → Nth ls i l → (c : ℕ) → T (nonzero (part σ (coeff (l .t) c) (coeff (l .tA) c))) → T (occurring As Bs σ c)
     unfolding nonzero
     at-side σ i {l} p c = occurs-if (occurring As Bs σ c) (nonzero (part σ (coeff (l .t) c) (coeff (l .tA) c))) (λ o. rw (all-nth i (w σ c o) p))

@@ -20,7 +20,7 @@ use Rattle.calculus.proofs.Sides.{Side, A, B, all-nth, holds-plus}
 use Rattle.calculus.proofs.Leaves.{split}
 use Rattle.calculus.proofs.Splitting.{sign}
 use Rattle.calculus.proofs.Reducing.{positive, unmasked, reduced-alike}
-use Rattle.calculus.proofs.Vocabulary.{Words, words-new, words-raised, words-1, words-E, words-0, words-neg, words-neg-0}
+use Rattle.calculus.proofs.Vocabulary.{WithinVocabulary, words-new, words-raised, words-1, words-E, words-0, words-neg, words-neg-0}
 use Rattle.calculus.proofs.Sound.{value-neg}
 use Rattle.chains.proofs.Trees.{Tree, ByDerive, ByStrengthen, ByNumber, ByStride, ByRound, BySplit, Trees, Final, Further, tree, SameTrees, UniformTree}
 use Rattle.chains.proofs.Grown.{Grown, derived, strengthened, byNumber, byStride, rounded, splitsEq, splitsNeq, Growing, grownFinal, grownFurther, grown}
@@ -231,7 +231,7 @@ module _ (v : Assignment) (inB inB' : ℕ → Bool) (a : Tree) {bs : Trees} {ls 
 -- ---- the chain
 module _ (v : Assignment) (occ occ' : Side → ℕ → Bool) where
   chain : (T : Tree) {ls ls' : List Line} {I I' : Formula} → UniformTree T → Grown (occ B) T ls I → Grown (occ' B) T ls' I'
-      → Words occ ls → Words occ' ls' → Linked v ls ls' → True I v → True I' v
+      → WithinVocabulary occ ls → WithinVocabulary occ' ls' → Linked v ls ls' → True I v → True I' v
   chain (ByDerive s a) u (derived n m p) (derived n' m' p') w w' hs =
       chain a u p p' (words-new occ w n) (words-new occ' w' n') (linked-and hs (linked-made v hs m m'))
   chain (ByStrengthen i a b c) u (strengthened {t = t} {tA = tA} {I1 = I1} {E = E} {I0 = I0} p p1 pE p0) (strengthened {ls = ls'} {t = t'} {tA = tA'} {I1 = I1'} {E = E'} {I0 = I0'} p' p1' pE' p0') w w' hs =
@@ -271,5 +271,5 @@ module _ (v : Assignment) (occ occ' : Side → ℕ → Bool) where
 
   -- two closed branches of one uniform tree, over linked lines
   pub chain-step : {e e' : Edition} {ls ls' : List Line} {I I' : Formula} (p : Closed e (occ B) ls I) (p' : Closed e' (occ' B) ls' I')
-      → tree p ≡ tree p' → UniformTree (tree p) → Words occ ls → Words occ' ls' → Linked v ls ls' → True I v → True I' v
+      → tree p ≡ tree p' → UniformTree (tree p) → WithinVocabulary occ ls → WithinVocabulary occ' ls' → Linked v ls ls' → True I v → True I' v
   chain-step {ls' = ls'} {I' = I'} p p' same u w w' hs = chain (tree p) u (grown p) (subst (λ x. Grown (occ' B) x ls' I') (sym same) (grown p')) w w' hs

@@ -16,7 +16,7 @@ use Rattle.fields.proofs.Headers.{length-headerBytes}
 use Rattle.fields.specs.Ending.{IsEnding}
 use Rattle.fields.specs.declared.ending.Ending.{Ending}
 use Rattle.number_bytes.proofs.Stores.{sets-append}
-use Rattle.check_output.specs.Output.{fileWithin, Holds, Delivers, Finishes}
+use Rattle.check_output.specs.Output.{fileWithin, ScratchHolds, Delivers, Finishes}
 
 abbrev pub unwritten : (number file place : ℕ) → WriteResult
 unwritten number file place = record { answer = answer number file place; count = 0 }
@@ -30,7 +30,7 @@ delivered h f out n e l =
     let w : 0 + length (h ++ f) ≡ length (h ++ f) = omega arith in
     ap (λ (k : ℕ). sets (sets out 0 h) k f) z ∙ sym (sets-append h f out 0) ∙ sets-eq (h ++ f) out 0 (omega (arith, length-append h f, e)) ∙ rw w
 
-holds-size : (K : ℕ) {bytes : List ℕ} {o : ℕ} {S : List ℕ} → Holds bytes o S → length (headerBytes 1 K ++ bytes) ≡ 8 + o
+holds-size : (K : ℕ) {bytes : List ℕ} {o : ℕ} {S : List ℕ} → ScratchHolds bytes o S → length (headerBytes 1 K ++ bytes) ≡ 8 + o
 holds-size K {bytes} h = length-append (headerBytes 1 K) bytes ∙ omega (arith, length-headerBytes 1 K, h .o-is)
 
 -- a file that is too long, and one that is not

@@ -22,16 +22,16 @@ abbrev pub finishing : (K : ℕ) → Fields → List ℕ → Result (List ℕ)
 finishing K fs bytes = finished FileKind.Proof fileProof fs >> fileWithin (headerBytes 1 K ++ bytes)
 
 -- The o bytes of a formula, which stand in the scratch if its file is not too long.
-pub record Holds (bytes : List ℕ) (o : ℕ) (scratch : List ℕ) : Type 0 where
+pub record ScratchHolds (bytes : List ℕ) (o : ℕ) (scratch : List ℕ) : Type 0 where
   pub o-is : o ≡ length bytes
   pub stored : o + 8 ≤ edition1 .formulaBytes → take o scratch ≡ bytes
 
 -- The answer, the count and the output, from each of these places on.
 pub record Delivers (K : ℕ) (scratch : List ℕ) (o : ℕ) (out out′ : List ℕ) (r : WriteResult) : Type 0 where
-  pub is : (bytes : List ℕ) → Holds bytes o scratch → writtenOf r out′ ≡ written (fileWithin (headerBytes 1 K ++ bytes)) out
+  pub is : (bytes : List ℕ) → ScratchHolds bytes o scratch → writtenOf r out′ ≡ written (fileWithin (headerBytes 1 K ++ bytes)) out
 
 pub record Finishes (K : ℕ) (P : List ℕ) (at : ℕ) (scratch : List ℕ) (o : ℕ) (out out′ : List ℕ) (r : WriteResult) : Type 0 where
-  pub is : (bytes : List ℕ) → Holds bytes o scratch → writtenOf r out′ ≡ written (finishing K (fieldsAt P at) bytes) out
+  pub is : (bytes : List ℕ) → ScratchHolds bytes o scratch → writtenOf r out′ ≡ written (finishing K (fieldsAt P at) bytes) out
 
 -- The bytes stand in the scratch, where their file is not too long.
 pub record InScratch (o : ℕ) (scratch : List ℕ) : Type 0 where

@@ -35,7 +35,7 @@ use Rattle.bundle_load.specs.Both.{statedIn, Both, Prepared}
 use Rattle.bundle_load.proofs.Preparing.{few}
 use Rattle.check_output.specs.Output.{fileWithin, finishing}
 use Rattle.check_sizes.specs.Root.{rooted, Roots}
-use Rattle.check_sizes.specs.Sizes.{Short, Begun, CheckedWithin, Tries}
+use Rattle.check_sizes.specs.Sizes.{WithinLimits, Begun, CheckedWithin, Tries}
 
 -- ---- the bundles
 -- A bundle's file as what it states.
@@ -45,7 +45,7 @@ bundleOf s K body = record { edition = body .edition; K = K; constraints = state
 b-is : {B : List ℕ} {second : Body} {K : ℕ} → 1 ≤ K → IsBundle K B K second → bundle 2 fileB (some K) B ≡ accepted (bundleOf B K second)
 b-is {K} h b = rw (← given-some K h) (bodies.states b fileB)
 
-module _ {A B P : List ℕ} (s : Short A B P) where
+module _ {A B P : List ℕ} (s : WithinLimits A B P) where
   short-is : interpolant 2 A B P ≡ (bundles 2 A B >>= λ (a, b). (checkProof 2 a b (fields P) >>= λ I. (formulaAtMost (a .K) I >> accepted (a .K, I))))
   unfolding interpolant atMost need _>>_
   short-is = rw (le-leb (length A) 8192 (s .a), le-leb (length B) 8192 (s .b), le-leb (length P) 65536 (s .p))

@@ -19,7 +19,7 @@ use Rattle.formula.specs.Formula.{encode}
 use Rattle.formula_write.specs.Writing.{scratchLimit}
 use Rattle.proof.specs.Check.{Closing, checkBranch}
 use Rattle.branches.specs.Spare.{unreadBytes}
-use Rattle.check_output.specs.Output.{finishing, Holds, Finishes, InScratch}
+use Rattle.check_output.specs.Output.{finishing, ScratchHolds, Finishes, InScratch}
 use Rattle.check_sizes.specs.Root.{rooted, Told, Roots}
 
 -- ---- the room for the formula
@@ -68,7 +68,7 @@ module _ (e K : ℕ) (ls : List Line) (P : List ℕ) (at : ℕ) where
     pub root-ended : InScratch o S′
     root-ended = record { few = few; room = room }
 
-    holds : Holds (encode edition1 (c .formula)) o S′
+    holds : ScratchHolds (encode edition1 (c .formula)) o S′
     holds = record {
       o-is = o-is;
       stored = λ f.

@@ -16,14 +16,14 @@ use Rattle.proof.specs.Check.{checkBranch}
 use Rattle.lines.specs.Buffer.{linesIn}
 use Rattle.tally.specs.Tally.{tally}
 use Rattle.tally.specs.declared.Tally.{Tally}
-use Rattle.branches.specs.Branching.{keptBack, Started, Closes, Branches}
+use Rattle.branches.specs.Branching.{keptBack, Started, Closes, ChecksBranch}
 use Rattle.branches.specs.declared.branch.Branched.{Branched}
 use Rattle.check_output.specs.Output.{Finishes, InScratch}
 use Rattle.check_sizes.specs.Root.{Roots}
 use Rattle.check_sizes.proofs.Root.{root-fault, root-short, root-ended, root-closed}
 
 module _ {e K : ℕ} {P : List ℕ} {at n rows : ℕ} {kinds kinds′ : List ℕ} {buf buf′ : List ℤ} {S S′ : List ℕ} {x : Branched}
-    {here : Position} (b : Branches K P at here kinds buf (tally e rows n 0) S 0 kinds′ buf′ S′ x) (at-root : here ≡ root) (none : rows ≡ 0) where
+    {here : Position} (b : ChecksBranch K P at here kinds buf (tally e rows n 0) S 0 kinds′ buf′ S′ x) (at-root : here ≡ root) (none : rows ≡ 0) where
   pub by-fault : {number : ℕ} {so-far : RowNumber} {found : Position} {place : ℕ} {y : Answer} {out : List ℕ} → x ≡ Branched.Fault number so-far found place → y ≡ refusalAt found (so-far .0) place number
       → Roots e K (linesIn K kinds buf n) P at S out out (record { answer = y; count = 0 })
   by-fault f q = rw q (root-fault e (rw (f, at-root, none) at (b .by)) refl)

@@ -19,14 +19,14 @@ use Rattle.bundle_load.specs.Both.{Both}
 use Rattle.check_sizes.specs.Root.{Told}
 
 -- No file is too long for every edition.
-pub record Short (A B P : List ℕ) : Type 0 where
+pub record WithinLimits (A B P : List ℕ) : Type 0 where
   pub a : length A ≤ edition newestEdition .bundleBytes
   pub b : length B ≤ edition newestEdition .bundleBytes
   pub p : length P ≤ edition newestEdition .proofBytes
 
 -- The proof's header is read too: its edition is e, and what follows it starts at a place.
 pub record Begun (A B : List ℕ) (first second : Body) (P : List ℕ) (e K at : ℕ) : Type 0 where
-  pub short : Short A B P
+  pub short : WithinLimits A B P
   pub both : Both A B first second K
   pub header-is : header FileKind.Proof fileProof newestEdition (some K) (fields P) ≡ accepted (record { number = e; K = K; rest = fieldsAt P at })
 

@@ -15,7 +15,7 @@ use forms::NEWEST;
 use forms::PROOF_BYTES;
 ghost use Rattle.proof.specs.Promises.{Checks};
 ghost use Rattle.bundle_load.specs.Both.{Both};
-ghost use Rattle.check_sizes.specs.Sizes.{Short};
+ghost use Rattle.check_sizes.specs.Sizes.{WithinLimits};
 
 // The proof's header, where both bundles were gone over. 2, 3, 4, 6, 5, 7, 9.
 fn check_header(
@@ -27,7 +27,7 @@ fn check_header(
     k: u8,
     out: &mut [u8],
 ) -> WriteResult
-    requires { ⌜ Short (now a) (now b) (now proof) ⌝ }
+    requires { ⌜ WithinLimits (now a) (now b) (now proof) ⌝ }
     requires { ⌜ Both (now a) (now b) first second k ⌝ }
     ensures { λ r. ⌜ Checks (now (a .entry)) (now (b .entry)) (now (proof .entry)) (now (out .entry)) (now (out .exit)) r ⌝ }
 {
@@ -46,7 +46,7 @@ fn check_header(
 
 // A, and then B with A's K. No constraint's place is wanted, so any number will do.
 fn check_bundles(a: &[u8], b: &[u8], proof: &[u8], out: &mut [u8]) -> WriteResult
-    requires { ⌜ Short (now a) (now b) (now proof) ⌝ }
+    requires { ⌜ WithinLimits (now a) (now b) (now proof) ⌝ }
     ensures { λ r. ⌜ Checks (now (a .entry)) (now (b .entry)) (now (proof .entry)) (now (out .entry)) (now (out .exit)) r ⌝ }
 {
     match scan(a, 0, 0) {

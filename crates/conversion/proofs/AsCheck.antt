@@ -26,44 +26,44 @@ use Rattle.bundle.proofs.Laid.{short-accepted}
 use Rattle.proof.specs.Entries.{EntryTag, combineTag, reduceTag, scaleTag, strengthenTag, numberTag, strideTag, roundTag, splitTag, claimTag, entryTagged, inPlace, sizeOf, entryFrom, entry}
 use Rattle.proof.specs.Rows.{lineAt, derived, fitting, inequality, roundable, disequality, byNumber, byStride}
 use Rattle.proof.specs.Check.{Closing, Checker, Following, there, checkRounded, checkSplit, checkRow, checkEntry, checkEntries, checkBranch, checkProof, formulaAtMost, interpolant, checkBy, check}
-use Rattle.proof.proofs.Says.{Says, says-refused, says-accepted, bind, seq, says-need, test, finds, weaken}
+use Rattle.proof.proofs.Satisfies.{Satisfies, says-refused, says-accepted, bind, seq, says-need, test, finds, weaken}
 use Rattle.proof.proofs.Entered.{entry-unknown, entry-none, entry-out, entry-in}
 use Rattle.conversion.specs.Turning.{other, otherEdition, makesLine, entriesRead, proofTurned}
 use Rattle.conversion.proofs.Asking.{Asked, down, up, asked-accepted, said-gives}
 
 -- ---- what a row refuses has a number above 7
 module _ {Q : Answer → Type 0} (refusal : ℕ → Answer) (h : (n : ℕ) → T (leb 8 n) → Q (refusal n)) (ls : List Line) where
-  line-late : (i : ℕ) → Says Q (lineAt refusal ls i) (λ _. Unit {0})
+  line-late : (i : ℕ) → Satisfies Q (lineAt refusal ls i) (λ _. Unit {0})
   unfolding lineAt
   line-late i = weaken (finds _ _ (h 10 tt)) (λ a q. q) (λ _ _. tt)
 
-  derived-late : (s : Inference) → Says Q (derived refusal ls s) (λ _. Unit {0})
+  derived-late : (s : Inference) → Satisfies Q (derived refusal ls s) (λ _. Unit {0})
   unfolding derived
   derived-late (Combine i j α β) = bind (line-late i) λ s _. bind (line-late j) λ t _. test _ _ (h 11 tt) λ _. test _ _ (h 12 tt) λ _. says-accepted tt
   derived-late (Reduce i j α) = bind (line-late i) λ s _. bind (line-late j) λ t _. bind (finds _ _ (h 11 tt)) λ k _. test _ _ (h 11 tt) λ _. test _ _ (h 12 tt) λ _. says-accepted tt
   derived-late (Scale i α) = bind (line-late i) λ t _. bind (finds _ _ (h 11 tt)) λ k _. test _ _ (h 12 tt) λ _. says-accepted tt
 
-  fitting-late : (e : Edition) (l : Line) → Says Q (fitting refusal ls e l) (λ _. Unit {0})
+  fitting-late : (e : Edition) (l : Line) → Satisfies Q (fitting refusal ls e l) (λ _. Unit {0})
   unfolding fitting
   fitting-late e l = test _ _ (h 16 tt) λ _. weaken (says-need _ _ (h 13 tt)) (λ a q. q) (λ _ _. tt)
 
-  inequality-late : (i : ℕ) → Says Q (inequality refusal ls i) (λ _. Unit {0})
+  inequality-late : (i : ℕ) → Satisfies Q (inequality refusal ls i) (λ _. Unit {0})
   unfolding inequality
   inequality-late i = bind (line-late i) λ t _. test _ _ (h 11 tt) λ _. says-accepted tt
 
-  roundable-late : (e : Edition) (i g k : ℕ) → Says Q (roundable refusal ls e i g k) (λ _. Unit {0})
+  roundable-late : (e : Edition) (i g k : ℕ) → Satisfies Q (roundable refusal ls e i g k) (λ _. Unit {0})
   unfolding roundable
   roundable-late e i g k = bind (inequality-late i) λ t _. test _ _ (h 12 tt) λ _. test _ _ (h 15 tt) λ _. says-accepted tt
 
-  disequality-late : (i : ℕ) → Says Q (disequality refusal ls i) (λ _. Unit {0})
+  disequality-late : (i : ℕ) → Satisfies Q (disequality refusal ls i) (λ _. Unit {0})
   unfolding disequality
   disequality-late i = bind (line-late i) λ t _. bind (finds _ _ (h 11 tt)) λ σ _. says-accepted tt
 
-  byNumber-late : (i : ℕ) → Says Q (byNumber refusal ls i) (λ _. Unit {0})
+  byNumber-late : (i : ℕ) → Satisfies Q (byNumber refusal ls i) (λ _. Unit {0})
   unfolding byNumber
   byNumber-late i = bind (line-late i) λ t _. bind (finds _ _ (h 11 tt)) λ k _. test _ _ (h 15 tt) λ _. says-accepted tt
 
-  byStride-late : (i g : ℕ) → Says Q (byStride refusal ls i g) (λ _. Unit {0})
+  byStride-late : (i g : ℕ) → Satisfies Q (byStride refusal ls i g) (λ _. Unit {0})
   unfolding byStride
   byStride-late i g = bind (line-late i) λ t _. test _ _ (h 11 tt) λ _. test _ _ (h 12 tt) λ _. test _ _ (h 15 tt) λ _. says-accepted tt
 
@@ -118,7 +118,7 @@ module _ (e : Edition) (K : ℕ) where
   read = entriesRead e K
 
   abbrev Follows : Result (Unit {0}) → Result Closing → Type 0
-  Follows R r = Says (Told R) r (λ c. R ≡ read false (c .after))
+  Follows R r = Satisfies (Told R) r (λ c. R ≡ read false (c .after))
 
   abbrev Reads : Checker → Type 0
   Reads checker = (p : Position) (rows : ℕ) (ls : List Line) (fs : Fields) → Follows (read false fs) (checker p rows ls fs)
@@ -198,12 +198,12 @@ module _ (e : Edition) (K : ℕ) where
   branch-follows (suc room) p rows ls fs = entries-follow p (some (checkBranch e K room)) (branch-follows room) fs rows none ls
 
   -- what follows the root is read on
-  root-known : (R : Result (Unit {0})) (at : ℕ) (b : Bool) → (b ≡ false → R ≡ refused (answer 3 fileProof at)) → Says {X = Unit {0}} (Told R) (need (answer 3 fileProof at) b >> refused (answer 19 fileProof at)) (λ _. Unit {0})
+  root-known : (R : Result (Unit {0})) (at : ℕ) (b : Bool) → (b ≡ false → R ≡ refused (answer 3 fileProof at)) → Satisfies {X = Unit {0}} (Told R) (need (answer 3 fileProof at) b >> refused (answer 19 fileProof at)) (λ _. Unit {0})
   unfolding need _>>_
   root-known R at true k = says-refused (λ h. absurd (omega arith))
   root-known R at false k = says-refused (λ _. k refl)
 
-  finished-follows : (R : Result (Unit {0})) (fs : Fields) → R ≡ read false fs → Says (Told R) (finished FileKind.Proof fileProof fs) (λ _. Unit {0})
+  finished-follows : (R : Result (Unit {0})) (fs : Fields) → R ≡ read false fs → Satisfies (Told R) (finished FileKind.Proof fileProof fs) (λ _. Unit {0})
   unfolding finished entriesRead
   finished-follows R (ends at) q = says-accepted tt
   finished-follows R (cut at) q = says-refused (λ _. q)
@@ -218,7 +218,7 @@ module _ (to : ℕ) (asks : Asked to) (fs : Fields) (h : ¬ (editionSaid fs ≡ 
   others = otherEdition kind fileProof to fs
 
   abbrev EditionTold : Result (ℕ × Fields) → Type 0
-  EditionTold r = Says (λ a. others ≡ refused a) r (λ _. others ≡ accepted tt)
+  EditionTold r = Satisfies (λ a. others ≡ refused a) r (λ _. others ≡ accepted tt)
 
   is-other : {to : ℕ} → Asked to → (n : ℕ) → T (leb 1 n && leb n newestEdition) → ¬ (n ≡ to) → n ≡ other to
   is-other down n t k = let (l, m) = and-yes (leb 1 n) (leb n 2) t in omega (arith, leb→le 1 n l, leb→le n 2 m, k)
@@ -249,7 +249,7 @@ module _ (to : ℕ) (asks : Asked to) (fs : Fields) (h : ¬ (editionSaid fs ≡ 
 -- K is not compared with A's: 9 is above 7.
 module _ (K : ℕ) (fs : Fields) where
   abbrev ConstantsTold : Result (ℕ × Fields) → Type 0
-  ConstantsTold r = Says (λ a. a .number ≤ 7 → constantsField kind fileProof none fs ≡ refused a) r (λ y. constantsField kind fileProof none fs ≡ accepted y)
+  ConstantsTold r = Satisfies (λ a. a .number ≤ 7 → constantsField kind fileProof none fs ≡ refused a) r (λ y. constantsField kind fileProof none fs ≡ accepted y)
 
   constants-by : (at n : ℕ) (rest : Fields) → headerField kind fileProof 0x02 fs ≡ accepted (at, n, rest) → (b : Bool) → (leb 1 n && leb n 16) ≡ b
       → ConstantsTold (need (answer 7 fileProof at) b >> (need (answer 9 fileProof at) (agrees (some K) n) >> accepted (n, rest)))
@@ -265,11 +265,11 @@ module _ (K : ℕ) (fs : Fields) where
       go (refused b) q = subst ConstantsTold (sym (bind-refused _ q)) (says-refused (λ _. bind-refused _ q))
       go (accepted x) q = subst ConstantsTold (sym (binds _ q)) (constants-by (x .0) (x .1) (x .2) q (leb 1 (x .1) && leb (x .1) 16) refl)
 
-with-value : {X : Type 0} {Q : Answer → Type 0} {m : Result X} {P : X → Type 0} → Says Q m P → Says Q m (λ x. P x × (m ≡ accepted x))
+with-value : {X : Type 0} {Q : Answer → Type 0} {m : Result X} {P : X → Type 0} → Satisfies Q m P → Satisfies Q m (λ x. P x × (m ≡ accepted x))
 with-value s = record { refusal = s .refusal; value = λ x e. (s .value x e, e) }
 
 -- a step that is accepted, and then the rest
-then : {Y : Type 0} {Q : Answer → Type 0} {P : Unit {0} → Type 0} {R : Y → Type 0} {m : Result (Unit {0})} {r : Result Y} → Says Q m P → (P tt → Says Q r R) → Says Q (m >> r) R
+then : {Y : Type 0} {Q : Answer → Type 0} {P : Unit {0} → Type 0} {R : Y → Type 0} {m : Result (Unit {0})} {r : Result Y} → Satisfies Q m P → (P tt → Satisfies Q r R) → Satisfies Q (m >> r) R
 unfolding _>>_
 then {m = refused a} h k = says-refused (h .refusal a refl)
 then {m = accepted u} h k = k (h .value tt refl)
@@ -313,14 +313,14 @@ module _ (to : ℕ) (asks : Asked to) (P : List ℕ) (short : length P ≤ 65_53
     from : otherEdition kind fileProof to (fields P) ≡ accepted tt
     constants-are : constantsField kind fileProof none fs ≡ accepted (hd .K, hd .rest)
 
-  header-read : (K : ℕ) → Says (AsCheck to P) (header kind fileProof newestEdition (some K) (fields P)) Read
+  header-read : (K : ℕ) → Satisfies (AsCheck to P) (header kind fileProof newestEdition (some K) (fields P)) Read
   unfolding header
   header-read K =
       bind (weaken (with-value (edition-told to asks (fields P) h)) (λ a o. itself (no-edition o)) (λ x p. p)) λ (n, fs) (o, q).
       bind (weaken (constants-told K fs) (λ a t f l. itself (no-constants n fs q o (t l)) f l) (λ y c. c)) λ (k, rest) c.
       says-accepted (record { fs = fs; edition-is = q; from = o; constants-are = c })
 
-  proof-as-check : (x y : Bundle) → Says (AsCheck to P) (checkProof newestEdition x y (fields P)) (λ _. Unit {0})
+  proof-as-check : (x y : Bundle) → Satisfies (AsCheck to P) (checkProof newestEdition x y (fields P)) (λ _. Unit {0})
   unfolding checkProof
   proof-as-check x y = bind (header-read (x .K)) λ hd r.
       bind (weaken (branch-follows (edition (hd .number)) (hd .K) _ _ _ _ (hd .rest)) (λ a t. told-as (hd .number) (r .fs) (r .edition-is) (r .from) (hd .K) (hd .rest) (r .constants-are) a t) (λ c m. m)) λ closing m.
@@ -329,7 +329,7 @@ module _ (to : ℕ) (asks : Asked to) (P : List ℕ) (short : length P ≤ 65_53
 
 -- ---- A and B: what is refused of them is not of file 3
 abbrev OfFile : (file : ℕ) {X : Type 0} → Result X → Type 0
-OfFile file r = Says (λ a. a .file ≡ file) r (λ _. Unit {0})
+OfFile file r = Satisfies (λ a. a .file ≡ file) r (λ _. Unit {0})
 
 module _ (file : ℕ) where
   field-file : (tag : ℕ) (fs : Fields) → OfFile file (headerField FileKind.Bundle file tag fs)
@@ -370,23 +370,23 @@ module _ (to : ℕ) (asks : Asked to) (P : List ℕ) (h : ¬ Names P to) where
   unfolding proofTurned
   too-long e = passes _ (asked-accepted asks) ∙ then-refused _ (long-refused e)
 
-  not-long : (b : Bool) → leb (length P) 65_536 ≡ b → Says (AsCheck to P) (need (answer 1 fileProof 0) b) (λ _. length P ≤ 65_536)
+  not-long : (b : Bool) → leb (length P) 65_536 ≡ b → Satisfies (AsCheck to P) (need (answer 1 fileProof 0) b) (λ _. length P ≤ 65_536)
   unfolding need
   not-long true e = says-accepted (leb-true (length P) 65_536 e)
   not-long false e = says-refused (λ f n. record { b = answer 1 fileProof 0; turned = too-long e; number = refl; file = refl; place = refl })
 
-  formula-elsewhere : (K : ℕ) (I : Formula) → Says (AsCheck to P) (formulaAtMost K I) (λ _. Unit {0})
+  formula-elsewhere : (K : ℕ) (I : Formula) → Satisfies (AsCheck to P) (formulaAtMost K I) (λ _. Unit {0})
   unfolding formulaAtMost
   formula-elsewhere K I = weaken (says-need _ _ (elsewhere 4 (λ e. omega arith) _ refl)) (λ a q. q) (λ _ _. tt)
 
-  within : (A B : List ℕ) → length P ≤ 65_536 → Says {X = ℕ × Formula} (AsCheck to P) (bundles newestEdition A B >>= λ (a, b). checkProof newestEdition a b (fields P) >>= λ I. formulaAtMost (a .K) I >> accepted (a .K, I)) (λ _. Unit {0})
+  within : (A B : List ℕ) → length P ≤ 65_536 → Satisfies {X = ℕ × Formula} (AsCheck to P) (bundles newestEdition A B >>= λ (a, b). checkProof newestEdition a b (fields P) >>= λ I. formulaAtMost (a .K) I >> accepted (a .K, I)) (λ _. Unit {0})
   unfolding bundles
   within A B short =
       bind
       (bind (weaken (bundle-file fileA none A) (elsewhere 1 (λ e. omega arith)) (λ _ u. u)) λ a _. bind (weaken (bundle-file fileB (some (a .K)) B) (elsewhere 2 (λ e. omega arith)) (λ _ u. u)) λ b _. says-accepted {P = λ _. Unit {0}} tt)
       λ (a, b) _. bind (proof-as-check to asks P short h a b) λ I _. seq (formula-elsewhere (a .K) I) (says-accepted tt)
 
-  interpolant-as-check : (A B : List ℕ) → Says (AsCheck to P) (interpolant newestEdition A B P) (λ _. Unit {0})
+  interpolant-as-check : (A B : List ℕ) → Satisfies (AsCheck to P) (interpolant newestEdition A B P) (λ _. Unit {0})
   unfolding interpolant atMost
   interpolant-as-check A B =
       seq (weaken (most-file fileA _ A) (elsewhere 1 (λ e. omega arith)) (λ _ u. u)) (seq (weaken (most-file fileB _ B) (elsewhere 2 (λ e. omega arith)) (λ _ u. u))
@@ -401,6 +401,6 @@ module _ (to : ℕ) (asks : Asked to) (P : List ℕ) (h : ¬ Names P to) where
       by-fit true bytes f n = absurd (omega arith)
       by-fit false bytes f n = absurd (omega arith)
 
-      go : (r : Result (ℕ × Formula)) → Says (AsCheck to P) r (λ _. Unit {0}) → AsCheck to P (written (r >>= λ (K, I). accepted (formulaFile edition1 K I)) output .answer)
+      go : (r : Result (ℕ × Formula)) → Satisfies (AsCheck to P) r (λ _. Unit {0}) → AsCheck to P (written (r >>= λ (K, I). accepted (formulaFile edition1 K I)) output .answer)
       go (refused a) s = s .refusal a refl
       go (accepted x) s = by-fit (leb (length (formulaFile edition1 (x .0) (x .1))) (length output)) (formulaFile edition1 (x .0) (x .1))

@@ -14,11 +14,11 @@ use Rattle.fields.specs.Header.{headerField, editionField, constantsField, head
 use Rattle.bundle.specs.Bundle.{atMost, constraints, bundleHeader, bundle}
 use Rattle.proof.specs.Entries.{entry}
 use Rattle.proof.specs.Tree.{Outside}
-use Rattle.proof.proofs.Says.{Says, says-refused, says-accepted, bind, seq, says-need, test, finds, weaken}
+use Rattle.proof.proofs.Satisfies.{Satisfies, says-refused, says-accepted, bind, seq, says-need, test, finds, weaken}
 use Rattle.conversion.specs.Turning.{asked, otherEdition, eachField, resultWithin, makesLine, entriesRead, bundleTurned, turnBundle, proofTurned, turnProof}
 
 abbrev Tells : {X : Type 0} → Result X → Type 0
-Tells r = Says Outside r (λ _. Unit {0})
+Tells r = Satisfies Outside r (λ _. Unit {0})
 
 most-tells : (limit file : ℕ) (bytes : List ℕ) → Tells (atMost limit file bytes)
 unfolding atMost

@@ -13,7 +13,7 @@ use Rattle.forms.specs.Edition.{Edition, edition}
 use Rattle.forms.specs.Forms.{Form, ≤0, =0, Line, line, lineApart, neg, Formula, _and_, _or_, _plus_}
 use Rattle.calculus.specs.Rules.{Nth, _▷_, Room, Rounds, Closed, derive, strengthen, round, splitEq, splitNeq, number, stride, Rounded, last, more, Strengthen, Round, Split, Entry, row, entries, entriesRounded, rowCount, rowCountRounded, depth, depthRounded}
 use Rattle.calculus.proofs.Sides.{Side, A, B}
-use Rattle.calculus.proofs.Vocabulary.{Words, words-new, words-raised, words-1, words-E, words-0, words-neg, words-neg-0}
+use Rattle.calculus.proofs.Vocabulary.{WithinVocabulary, words-new, words-raised, words-1, words-E, words-0, words-neg, words-neg-0}
 use Rattle.answers.specs.declared.Answer.{Answer}
 use Rattle.answers.specs.declared.Position.{Position}
 use Rattle.answers.specs.Answers.{refusalAt, fileProof, Result, refused, accepted, _>>=_, _>>_}
@@ -76,7 +76,7 @@ module _ (n m K : ℕ) (occ : Side → ℕ → Bool) where
       go (inr f) = after-steps (passes r (fitting-accepted here rows at ls (edition m) l (room-for n m (occ B) f room))) (k f)
 
   -- A branch without too many lines is checked in the edition m too.
-  narrow-passes : (room : ℕ) (here : Position) (rows : ℕ) (ls : List Line) (I : Formula) (p : Closed (edition n) (occ B) ls I) (es : List Entry) (fs : Fields) → Words occ ls
+  narrow-passes : (room : ℕ) (here : Position) (rows : ℕ) (ls : List Line) (I : Formula) (p : Closed (edition n) (occ B) ls I) (es : List Entry) (fs : Fields) → WithinVocabulary occ ls
       → depth p ≤ room → (c : ℕ) → c ≡ rows + rowCount p → c ≤ 1_024 → Stated fs (entries p es) → widest p ≤ most
       → Passed (edition m) K occ (checkBranch (edition m) K room here rows ls fs) I c es
   narrow-passes room here rows ls I p es fs w d c q b t h =
@@ -85,7 +85,7 @@ module _ (n m K : ℕ) (occ : Side → ℕ → Bool) where
 
   -- A branch with too many is refused by 16.
   abbrev Overflowing : ℕ → Type 0
-  Overflowing room = (here : Position) (rows : ℕ) (ls : List Line) (I : Formula) (p : Closed (edition n) (occ B) ls I) (es : List Entry) (fs : Fields) → Words occ ls
+  Overflowing room = (here : Position) (rows : ℕ) (ls : List Line) (I : Formula) (p : Closed (edition n) (occ B) ls I) (es : List Entry) (fs : Fields) → WithinVocabulary occ ls
       → depth p ≤ room → (c : ℕ) → c ≡ rows + rowCount p → c ≤ 1_024 → Stated fs (entries p es) → length ls ≤ most → most < widest p
       → Overflows (checkBranch (edition m) K room here rows ls fs)
 
@@ -94,7 +94,7 @@ module _ (n m K : ℕ) (occ : Side → ℕ → Bool) where
     opens : {room : ℕ} → Overflowing room → Opens (suc room) (some (checkBranch (edition m) K room))
 
   -- A branch, and then others: it is refused, or one of those behind it.
-  branch-then : (room : ℕ) → Overflowing room → (here : Position) (rows : ℕ) (ls : List Line) (I : Formula) (p : Closed (edition n) (occ B) ls I) (es : List Entry) (fs : Fields) → Words occ ls
+  branch-then : (room : ℕ) → Overflowing room → (here : Position) (rows : ℕ) (ls : List Line) (I : Formula) (p : Closed (edition n) (occ B) ls I) (es : List Entry) (fs : Fields) → WithinVocabulary occ ls
       → depth p ≤ room → (c : ℕ) → c ≡ rows + rowCount p → c ≤ 1_024 → Stated fs (entries p es) → length ls ≤ most → (others : ℕ) → most < max (widest p) others
       → (f : Closing → Result Closing) → ((after : Fields) → Stated after es → most < others → Overflows (f (record { formula = I; rows = c; after = after })))
       → Overflows (checkBranch (edition m) K room here rows ls fs >>= f)
@@ -104,7 +104,7 @@ module _ (n m K : ℕ) (occ : Side → ℕ → Bool) where
       go (inl narrow) = let x = narrow-passes room here rows ls I p es fs w d c q b t narrow in after-steps (binds f (x .is)) (k (x .after) (x .lists) (omega arith))
       go (inr wide) = overflow-bind f (o here rows ls I p es fs w d c q b t l wide)
 
-  module _ (room : ℕ) (o : Overflowing room) {ls : List Line} (w : Words occ ls) {i g k : ℕ} {t tA : Form} (r : Rounds (edition n) ls i g k t tA) (l : length ls < most) where
+  module _ (room : ℕ) (o : Overflowing room) {ls : List Line} (w : WithinVocabulary occ ls) {i g k : ℕ} {t tA : Form} (r : Rounds (edition n) ls i g k t tA) (l : length ls < most) where
     rounded-overflows : {j : ℕ} {J : Formula} (ps : Rounded (edition n) (occ B) ls t tA g k j J) (step left : ℕ) → suc (j + left) ≡ k → (rows : ℕ) (es : List Entry) (fs : Fields) → depthRounded ps ≤ room
         → (c : ℕ) → c ≡ rows + rowCountRounded ps → c ≤ 1_024 → Stated fs (entriesRounded ps es) → most < widestRounded ps → Overflows (checkRounded (checkBranch (edition m) K room) ls (line ≤0 t tA) step g k j left rows fs)
     unfolding checkRounded
@@ -117,7 +117,7 @@ module _ (n m K : ℕ) (occ : Side → ℕ → Bool) where
         (omega (arith, one-more ls (line ≤0 (t plus k) (tA plus j)))) (widestRounded ps) h _ λ after v y.
         overflow-bind _ (rounded-overflows ps step left (omega arith) (rows + rowCount p) es after (omega arith) c (omega arith) x v y)
 
-  module _ (here : Position) (at : ℕ) (fs : Fields) (following : Following) (rows : ℕ) {ls : List Line} (w : Words occ ls) (l : length ls ≤ most) (es : List Entry) {t tA : Form} where
+  module _ (here : Position) (at : ℕ) (fs : Fields) (following : Following) (rows : ℕ) {ls : List Line} (w : WithinVocabulary occ ls) (l : length ls ≤ most) (es : List Entry) {t tA : Form} where
     strengthen-overflows : (i : ℕ) → Nth ls i (line ≤0 t tA) → Room (edition n) ls (line ≤0 (t plus 1) (tA plus 1)) → {I1 E I0 : Formula}
         → (p1 : Closed (edition n) (occ B) (ls ▷ line ≤0 (t plus 1) (tA plus 1)) I1) (pE : Closed (edition n) (occ B) (ls ▷ line =0 t tA) E) (p0 : Closed (edition n) (occ B) (ls ▷ line ≤0 (t plus 1) tA) I0)
         → {room : ℕ} {deeper : Option Checker} → Opens room deeper → suc (max (depth p1) (max (depth pE) (depth p0))) ≤ room
@@ -179,7 +179,7 @@ module _ (n m K : ℕ) (occ : Side → ℕ → Bool) where
         overflow-bind _ (o _ _ _ J p2 es fs1 (words-neg-0 occ w i p 1) (omega arith) c (omega arith) b u1 (omega (arith, one-more ls (line ≤0 (neg t plus 1) (neg tA)))) h1))
 
   module _ (here : Position) (room : ℕ) (deeper : Option Checker) (g : Opens room deeper) where
-    entries-overflow : (made : Option Line) (rows : ℕ) (ls : List Line) (I : Formula) (p : Closed (edition n) (occ B) ls I) (es : List Entry) (fs : Fields) → Words occ ls
+    entries-overflow : (made : Option Line) (rows : ℕ) (ls : List Line) (I : Formula) (p : Closed (edition n) (occ B) ls I) (es : List Entry) (fs : Fields) → WithinVocabulary occ ls
         → depth p ≤ room → (c : ℕ) → c ≡ rows + rowCount p → c ≤ 1_024 → Stated fs (entries p es) → length ls ≤ most → most < widest p
         → Overflows (checkEntries (edition m) K here deeper fs rows made ls)
     unfolding checkEntries checkEntry checkRow

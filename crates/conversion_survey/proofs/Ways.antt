@@ -31,7 +31,7 @@ use Rattle.proof.specs.Entries.{EntryTag, combineTag, reduceTag, scaleTag, stre
 use Rattle.proof.proofs.Entered.{entry-unknown, entry-none, entry-out, entry-in}
 use Rattle.conversion.specs.Turning.{eachField, linesFit, linesTurned, fieldsTurned, makesLine, entriesRead}
 use Rattle.conversion.proofs.Carried.{head-size, turned-is}
-use Rattle.conversion_survey.specs.Going.{surveyOf, sizedBy, sizedAs, Answers, LaidOut, LinesThere, at-field}
+use Rattle.conversion_survey.specs.Going.{surveyOf, sizedBy, sizedAs, AnswersOf, FieldLaid, LinesThere, at-field}
 use Rattle.conversion_survey.specs.declared.Survey.{Survey}
 use Rattle.conversion_survey.specs.declared.Laid.{Laid}
 
@@ -46,14 +46,14 @@ sized-not {len} {size} made h = ap (λ (b : Bool). sizedBy b made) (sym (ne-eqb 
 in-size : (n K tag len : ℕ) (x : EntryTag) {size : ℕ} {m : Bool} (b : Bool) (f : Field) (refusal : ℕ → Answer) → eqb len size ≡ b → sizeOf (edition n) K x ≡ size → length (f .contents) ≡ len
     → ((bs : List ℕ) → makesLine (entryFrom (edition n) K x bs) ≡ m) → lineCount (entryTagged tag) ≡ shape x .lineNumbers → shape x .lineNumbers * edition n .lineWidth ≤ size → {r : Result Entry}
     → r ≡ (need (refusal 6) (eqb (length (f .contents)) (sizeOf (edition n) K x)) >> accepted (entryFrom (edition n) K x (f .contents)))
-    → Answers refusal (edition n .lineWidth) tag len (sizedBy b m) r
+    → AnswersOf refusal (edition n .lineWidth) tag len (sizedBy b m) r
 unfolding need _>>_
 in-size n K tag len x {size} true f refusal q z l k c few e = (entryFrom (edition n) K x (f .contents), e ∙ rw (l, z, q), k (f .contents), rw c (omega (arith, few, eqb-true len size q)))
 in-size n K tag len x false f refusal q z l k c few e = e ∙ rw (l, z, q)
 
 module _ {n K tag len : ℕ} {made : Bool} where
   lays : (x : EntryTag) (t : ℕ) {size : ℕ} {m : Bool} {r : Laid} → tag ≡ t → known FileKind.Proof t ≡ true → entryTagged t ≡ some x → inPlace made x ≡ true → sizeOf (edition n) K x ≡ size
-      → ((bs : List ℕ) → makesLine (entryFrom (edition n) K x bs) ≡ m) → shape x .lineNumbers * edition n .lineWidth ≤ size → r ≡ sizedAs len size m → LaidOut n K tag len made r
+      → ((bs : List ℕ) → makesLine (entryFrom (edition n) K x bs) ≡ m) → shape x .lineNumbers * edition n .lineWidth ≤ size → r ≡ sizedAs len size m → FieldLaid n K tag len made r
   lays x t {size} {m} e k g p z s few q = rw q (record {
     is = λ refusal f tagged l.
         in-size n K tag len x (eqb len size) f refusal refl z l s (ap lineCount (ap entryTagged e ∙ g)) few
@@ -61,55 +61,55 @@ module _ {n K tag len : ℕ} {made : Bool} where
   })
 
   module _ {w : ℕ} (width : w ≡ edition n .lineWidth) {r : Laid} where
-    pub combine-laid : tag ≡ 0x10 → r ≡ sizedAs len (2 * w + 4) true → LaidOut n K tag len made r
+    pub combine-laid : tag ≡ 0x10 → r ≡ sizedAs len (2 * w + 4) true → FieldLaid n K tag len made r
     unfolding known headerTag entryTagged inPlace sizeOf entryFrom makesLine
     combine-laid e q = lays combineTag 0x10 e refl refl refl (omega (arith, width)) (λ bs. refl) (omega (arith, width)) q
 
-    pub reduce-laid : tag ≡ 0x11 → r ≡ sizedAs len (2 * w + 2) true → LaidOut n K tag len made r
+    pub reduce-laid : tag ≡ 0x11 → r ≡ sizedAs len (2 * w + 2) true → FieldLaid n K tag len made r
     unfolding known headerTag entryTagged inPlace sizeOf entryFrom makesLine
     reduce-laid e q = lays reduceTag 0x11 e refl refl refl (omega (arith, width)) (λ bs. refl) (omega (arith, width)) q
 
-    pub scale-laid : tag ≡ 0x12 → r ≡ sizedAs len (w + 2) true → LaidOut n K tag len made r
+    pub scale-laid : tag ≡ 0x12 → r ≡ sizedAs len (w + 2) true → FieldLaid n K tag len made r
     unfolding known headerTag entryTagged inPlace sizeOf entryFrom makesLine
     scale-laid e q = lays scaleTag 0x12 e refl refl refl (omega (arith, width)) (λ bs. refl) (omega (arith, width)) q
 
-    pub strengthen-laid : tag ≡ 0x13 → r ≡ sizedAs len w false → LaidOut n K tag len made r
+    pub strengthen-laid : tag ≡ 0x13 → r ≡ sizedAs len w false → FieldLaid n K tag len made r
     unfolding known headerTag entryTagged inPlace sizeOf entryFrom makesLine
     strengthen-laid e q = lays strengthenTag 0x13 e refl refl refl (omega (arith, width)) (λ bs. refl) (omega (arith, width)) q
 
-    pub number-laid : tag ≡ 0x14 → r ≡ sizedAs len w false → LaidOut n K tag len made r
+    pub number-laid : tag ≡ 0x14 → r ≡ sizedAs len w false → FieldLaid n K tag len made r
     unfolding known headerTag entryTagged inPlace sizeOf entryFrom makesLine
     number-laid e q = lays numberTag 0x14 e refl refl refl (omega (arith, width)) (λ bs. refl) (omega (arith, width)) q
 
-    pub stride-laid : tag ≡ 0x15 → r ≡ sizedAs len (w + 2) false → LaidOut n K tag len made r
+    pub stride-laid : tag ≡ 0x15 → r ≡ sizedAs len (w + 2) false → FieldLaid n K tag len made r
     unfolding known headerTag entryTagged inPlace sizeOf entryFrom makesLine
     stride-laid e q = lays strideTag 0x15 e refl refl refl (omega (arith, width)) (λ bs. refl) (omega (arith, width)) q
 
-    pub round-laid : tag ≡ 0x16 → r ≡ sizedAs len (w + 4) false → LaidOut n K tag len made r
+    pub round-laid : tag ≡ 0x16 → r ≡ sizedAs len (w + 4) false → FieldLaid n K tag len made r
     unfolding known headerTag entryTagged inPlace sizeOf entryFrom makesLine
     round-laid e q = lays roundTag 0x16 e refl refl refl (omega (arith, width)) (λ bs. refl) (omega (arith, width)) q
 
-    pub split-laid : tag ≡ 0x17 → r ≡ sizedAs len w false → LaidOut n K tag len made r
+    pub split-laid : tag ≡ 0x17 → r ≡ sizedAs len w false → FieldLaid n K tag len made r
     unfolding known headerTag entryTagged inPlace sizeOf entryFrom makesLine
     split-laid e q = lays splitTag 0x17 e refl refl refl (omega (arith, width)) (λ bs. refl) (omega (arith, width)) q
 
-  pub claim-laid : {r : Laid} → tag ≡ 0x20 → made ≡ true → r ≡ sizedAs len (8 * (K + 1)) false → LaidOut n K tag len made r
+  pub claim-laid : {r : Laid} → tag ≡ 0x20 → made ≡ true → r ≡ sizedAs len (8 * (K + 1)) false → FieldLaid n K tag len made r
   unfolding known headerTag entryTagged inPlace sizeOf entryFrom makesLine
   claim-laid e h q = lays claimTag 0x20 e refl refl h (omega arith) (λ bs. refl) (omega arith) q
 
-  pub claim-out : tag ≡ 0x20 → made ≡ false → LaidOut n K tag len made (Laid.Refused 4)
+  pub claim-out : tag ≡ 0x20 → made ≡ false → FieldLaid n K tag len made (Laid.Refused 4)
   unfolding known headerTag entryTagged inPlace
   claim-out e h = record { is = λ refusal f tagged l. entry-out (edition n) K refusal made f claimTag (rw (tagged, e)) (rw (tagged, e)) h }
 
-  pub first-out : tag ≡ 0x01 → LaidOut n K tag len made (Laid.Refused 4)
+  pub first-out : tag ≡ 0x01 → FieldLaid n K tag len made (Laid.Refused 4)
   unfolding known headerTag entryTagged
   first-out e = record { is = λ refusal f tagged l. entry-none (edition n) K refusal made f (rw (tagged, e)) (rw (tagged, e)) }
 
-  pub second-out : tag ≡ 0x02 → LaidOut n K tag len made (Laid.Refused 4)
+  pub second-out : tag ≡ 0x02 → FieldLaid n K tag len made (Laid.Refused 4)
   unfolding known headerTag entryTagged
   second-out e = record { is = λ refusal f tagged l. entry-none (edition n) K refusal made f (rw (tagged, e)) (rw (tagged, e)) }
 
-  pub unknown-out : known FileKind.Proof tag ≡ false → LaidOut n K tag len made (Laid.Refused 3)
+  pub unknown-out : known FileKind.Proof tag ≡ false → FieldLaid n K tag len made (Laid.Refused 3)
   unknown-out k = record { is = λ refusal f tagged l. entry-unknown (edition n) K refusal made f (ap (known FileKind.Proof) tagged ∙ k) }
 
 -- ---- the entries
@@ -125,18 +125,18 @@ module _ (n K : ℕ) where
     unfolding entriesRead
     entries-here = rw (k .is)
 
-    laid-here : {x : Laid} → LaidOut n K t len made x → Answers (λ m. answer m fileProof a) (edition n .lineWidth) t len x (entry (edition n) K (λ m. answer m fileProof a) made field)
+    laid-here : {x : Laid} → FieldLaid n K t len made x → AnswersOf (λ m. answer m fileProof a) (edition n .lineWidth) t len x (entry (edition n) K (λ m. answer m fileProof a) made field)
     laid-here e = e .is (λ m. answer m fileProof a) field refl (starts-size k)
 
-    pub entries-on : {x : Laid} {m : Bool} → LaidOut n K t len made x → x ≡ Laid.Fine m → read made (fieldsAt s at) ≡ read m (fieldsAt s next)
+    pub entries-on : {x : Laid} {m : Bool} → FieldLaid n K t len made x → x ≡ Laid.Fine m → read made (fieldsAt s at) ≡ read m (fieldsAt s next)
     entries-on e f =
         let (x, is, makes, few) = laid-here (rw f at e) in
         entries-here ∙ binds _ is ∙ ap (λ (m : Bool). read m (fieldsAt s next)) makes
 
-    pub lines-here : {x : Laid} {m : Bool} → LaidOut n K t len made x → x ≡ Laid.Fine m → lineCount (entryTagged t) * edition n .lineWidth ≤ len
+    pub lines-here : {x : Laid} {m : Bool} → FieldLaid n K t len made x → x ≡ Laid.Fine m → lineCount (entryTagged t) * edition n .lineWidth ≤ len
     lines-here e f = let (x, is, makes, few) = laid-here (rw f at e) in few
 
-    pub entries-stop : {x : Laid} {number : ℕ} → LaidOut n K t len made x → x ≡ Laid.Refused number → read made (fieldsAt s at) ≡ refused (answer number fileProof a)
+    pub entries-stop : {x : Laid} {number : ℕ} → FieldLaid n K t len made x → x ≡ Laid.Refused number → read made (fieldsAt s at) ≡ refused (answer number fileProof a)
     entries-stop e f = entries-here ∙ bind-refused _ (laid-here (rw f at e))
 
   pub entries-cut : (made : Bool) {fs : Fields} {a : ℕ} → fs ≡ cut a → read made fs ≡ refused (answer 2 fileProof a)

@@ -29,19 +29,19 @@ abbrev pub sizedAs : (len size : ℕ) (made : Bool) → Laid
 sizedAs len size made = sizedBy (eqb len size) made
 
 -- What check's own `entry` answers: an entry, which makes a line or not and whose line numbers stand in the contents; or the refusal by this number.
-abbrev pub Answers : (refusal : ℕ → Answer) (w tag len : ℕ) → Laid → Result Entry → Type 0
-Answers refusal w tag len (Laid.Fine made) r = (x : Entry) × (r ≡ accepted x) × (makesLine x ≡ made) × (lineCount (entryTagged tag) * w ≤ len)
-Answers refusal w tag len (Laid.Refused n) r = r ≡ refused (refusal n)
+abbrev pub AnswersOf : (refusal : ℕ → Answer) (w tag len : ℕ) → Laid → Result Entry → Type 0
+AnswersOf refusal w tag len (Laid.Fine made) r = (x : Entry) × (r ≡ accepted x) × (makesLine x ≡ made) × (lineCount (entryTagged tag) * w ≤ len)
+AnswersOf refusal w tag len (Laid.Refused n) r = r ≡ refused (refusal n)
 
 -- The answer for each field of a proof of edition n with this tag and length.
-pub record LaidOut (n K tag len : ℕ) (made : Bool) (r : Laid) : Type 0 where
-  pub is : (refusal : ℕ → Answer) (f : Field) → f .tag ≡ tag → length (f .contents) ≡ len → Answers refusal (edition n .lineWidth) tag len r (entry (edition n) K refusal made f)
+pub record FieldLaid (n K tag len : ℕ) (made : Bool) (r : Laid) : Type 0 where
+  pub is : (refusal : ℕ → Answer) (f : Field) → f .tag ≡ tag → length (f .contents) ≡ len → AnswersOf refusal (edition n .lineWidth) tag len r (entry (edition n) K refusal made f)
 
 -- The fields are read as check reads them, and turned into the edition `to` they have so many bytes; if `fit`, that edition holds each line number.
-abbrev pub ReadAs : (e to K : ℕ) → Fields → Entries → Type 0
-ReadAs e to K fs (Entries.Turned size fit) = (entriesRead (edition e) K false fs ≡ accepted tt) × (size ≡ length (fieldsTurned (linesTurned (edition e) (edition to)) fs)) × (size ≤ 131_072)
+abbrev pub EntriesReadAs : (e to K : ℕ) → Fields → Entries → Type 0
+EntriesReadAs e to K fs (Entries.Turned size fit) = (entriesRead (edition e) K false fs ≡ accepted tt) × (size ≡ length (fieldsTurned (linesTurned (edition e) (edition to)) fs)) × (size ≤ 131_072)
     × (fit ≡ true → eachField 10 fileProof (linesFit (edition e) (edition to)) fs ≡ accepted tt)
-ReadAs e to K fs (Entries.Refused n place) = entriesRead (edition e) K false fs ≡ refused (answer n fileProof place)
+EntriesReadAs e to K fs (Entries.Refused n place) = entriesRead (edition e) K false fs ≡ refused (answer n fileProof place)
 
 -- The line numbers of each field, w bytes each, stand in its contents.
 pub data LinesThere (w : ℕ) : Fields → Type 0 where

@@ -19,7 +19,7 @@ ghost use Rattle.number_bytes.specs.Numbers.{unsigned, unsigneds};
 ghost use Rattle.fields.specs.Places.{fieldsAt};
 ghost use Rattle.proof.specs.Entries.{entryTagged, lineCount};
 ghost use Rattle.conversion.specs.Turning.{eachField, linesFit};
-ghost use Rattle.conversion_survey.specs.Going.{surveyOf, sizedAs, LaidOut, ReadAs, LinesThere};
+ghost use Rattle.conversion_survey.specs.Going.{surveyOf, sizedAs, FieldLaid, EntriesReadAs, LinesThere};
 
 // Nothing is amiss; or the first fault and its place.
 pub enum Survey {
@@ -53,7 +53,7 @@ fn sized(len: usize, size: usize, made: bool) -> Laid
 // What a field of a proof of edition e is, by its tag and length alone: an entry's contents are not looked at. 3, 4, 6.
 fn laid_out(tag: u8, len: usize, k: usize, e: u8, made: bool) -> Laid
     requires { ⌜ k ≤ edition1 .constants ⌝ }
-    ensures { λ r. ⌜ LaidOut e k tag len made r ⌝ }
+    ensures { λ r. ⌜ FieldLaid e k tag len made r ⌝ }
 {
     let width = line_bytes(e);
     match tag {
@@ -180,7 +180,7 @@ fn both(a: bool, b: bool) -> bool
 pub fn read_entries(p: &[u8], at: usize, k: u8, e: u8, to: u8) -> Entries
     requires { ⌜ k ≤ edition1 .constants ⌝ }
     requires { ⌜ length (now p) ≤ 65_536 ⌝ }
-    ensures { λ r. ⌜ ReadAs e to k (fieldsAt (now (p .entry)) at) r ⌝ }
+    ensures { λ r. ⌜ EntriesReadAs e to k (fieldsAt (now (p .entry)) at) r ⌝ }
 {
     let mut here = at;
     let mut made = false;

@@ -35,10 +35,10 @@ use Rattle.bundle_read.proofs.Reading.{read-short, stored-refused}
 use Rattle.conversion.specs.Turning.{bundleTurned, turnBundle}
 use Rattle.conversion.specs.Promises.{TurnsBundle}
 use Rattle.conversion.proofs.Bundles.{stated-size}
-use Rattle.convert.specs.Known.{Readable, ToTurn, ToWrite}
+use Rattle.convert.specs.Known.{ReadsAsBundle, ToTurn, ToWrite}
 
 -- ---- where a constraint stands
-pub no-refusal : (file : List ℕ) (i : ℕ) {r : Scanned} → Scans 0 file i r → Readable file → {n a : ℕ} → r ≡ Scanned.Refused n a → 0 ≡ constraintStart file i
+pub no-refusal : (file : List ℕ) (i : ℕ) {r : Scanned} → Scans 0 file i r → ReadsAsBundle file → {n a : ℕ} → r ≡ Scanned.Refused n a → 0 ≡ constraintStart file i
 no-refusal file i s b f = absurd (never (sym (scanned-refused s f fileA) ∙ b .reads))
 
 -- ---- what was read

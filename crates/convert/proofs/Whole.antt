@@ -32,7 +32,7 @@ use Rattle.conversion.specs.Turning.{asked, resultWithin, entriesRead, bundleTu
 use Rattle.conversion.specs.Promises.{TurnsBundle, TurnsProof}
 use Rattle.conversion.proofs.Carried.{there}
 use Rattle.conversion.proofs.Proofs.{entries-give}
-use Rattle.conversion_survey.specs.Going.{surveyOf, ReadAs, LinesThere, at-end, at-field}
+use Rattle.conversion_survey.specs.Going.{surveyOf, EntriesReadAs, LinesThere, at-end, at-field}
 use Rattle.conversion_survey.specs.declared.Survey.{Survey}
 use Rattle.conversion_survey.specs.declared.Entries.{Entries}
 use Rattle.conversion_survey.proofs.Ways.{fits, turned}
@@ -141,13 +141,13 @@ module _ (to : ℕ) (file out : List ℕ) (at K e : ℕ) (t : ToEnter to file at
   bytes-size = length-append (headerBytes to K) (turned e to body) ∙ ap (λ (n : ℕ). n + length (turned e to body)) (header-length to K)
 
   -- what reading the entries answers
-  pub no-entries : {s : Entries} {n p : ℕ} {r : WriteResult} → ReadAs e to K body s → s ≡ Entries.Refused n p → r ≡ refusedAs n 3 p → TurnsProof to file out out r
+  pub no-entries : {s : Entries} {n p : ℕ} {r : WriteResult} → EntriesReadAs e to K body s → s ≡ Entries.Refused n p → r ≡ refusedAs n 3 p → TurnsProof to file out out r
   no-entries i f r = proof-refused to file out r (prefix ∙ then-refused _ (rw f at i))
 
-  pub to-fit : {s : Entries} {n : ℕ} {fit : Bool} → ReadAs e to K body s → s ≡ Entries.Turned n fit → ToFit to file at K e n
+  pub to-fit : {s : Entries} {n : ℕ} {fit : Bool} → EntriesReadAs e to K body s → s ≡ Entries.Turned n fit → ToFit to file at K e n
   to-fit i f = let (read, size, most, held) = rw f at i in record { enter = t; read = read; size = size; most = most }
 
-  pub to-put : {s : Entries} {n : ℕ} {fit : Bool} → ReadAs e to K body s → s ≡ Entries.Turned n fit → fit ≡ true → ToPut to file at K e n
+  pub to-put : {s : Entries} {n : ℕ} {fit : Bool} → EntriesReadAs e to K body s → s ≡ Entries.Turned n fit → fit ≡ true → ToPut to file at K e n
   to-put i f h = let (read, size, most, held) = rw f at i in record { entered = to-fit i f; fits = held h }
 
 module _ (to : ℕ) (file out : List ℕ) (at K e size : ℕ) (t : ToFit to file at K e size) where

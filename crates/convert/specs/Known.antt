@@ -23,7 +23,7 @@ pub record HasOther (kind : FileKind) (to : ℕ) (s : List ℕ) (r : Survey) : T
 
 -- ---- a bundle on its way
 -- It is a bundle's file.
-pub record Readable (file : List ℕ) : Type 0 where
+pub record ReadsAsBundle (file : List ℕ) : Type 0 where
   pub b : Bundle
   pub reads : bundle newestEdition fileA none file ≡ accepted b
 

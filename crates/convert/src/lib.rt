@@ -32,7 +32,7 @@ ghost use Rattle.bundle_scan.specs.Scan.{constraintStart};
 ghost use Rattle.proof.specs.Tree.{startsAt};
 ghost use Rattle.conversion.specs.Turning.{asked};
 ghost use Rattle.conversion.specs.Promises.{TurnsProof};
-ghost use Rattle.convert.specs.Known.{HasOther, Readable, ToEnter, ToFit, ToPut};
+ghost use Rattle.convert.specs.Known.{HasOther, ReadsAsBundle, ToEnter, ToFit, ToPut};
 
 pub fn refused(number: u8, file: u8, place: usize) -> WriteResult
     ensures { λ r. ⌜ r ≡ record { answer = answer number file place; count = 0 } ⌝ }
@@ -93,7 +93,7 @@ pub fn is_edition(edition: usize) -> bool
 // ---- a bundle
 // Where the constraint starts that has number `index` of a bundle's numbers, K+1 a constraint.
 pub fn number_place(file: &[u8], index: usize, k: u8) -> usize
-    requires { ⌜ Readable (now file) ⌝ }
+    requires { ⌜ ReadsAsBundle (now file) ⌝ }
     ensures { λ r. ⌜ r ≡ constraintStart (now (file .entry)) (index / (k + 1)) ⌝ }
 {
     match scan(file, 0, index / (k as usize + 1)) {

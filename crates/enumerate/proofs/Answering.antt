@@ -40,7 +40,7 @@ use Rattle.enumeration_rows.specs.Applied.{SearchRoom}
 use Rattle.enumeration_rows.specs.declared.found.FoundAt.{FoundAt}
 use Rattle.enumeration_rows.specs.Searching.{foundOf, FindsAny}
 use Rattle.enumeration_rows.specs.Delivered.{WritesFound}
-use Rattle.enumerate.specs.Finding.{foundBehind, foundIn, ShortBoth}
+use Rattle.enumerate.specs.Finding.{foundBehind, foundIn, BothWithinLimits}
 
 -- ---- the bundles
 abbrev bundleOf : List ℕ → ℕ → Body → Bundle
@@ -62,7 +62,7 @@ module _ {A B : List ℕ} where
   unfolding nextProof nextFile written _>>=_
   nexts-refused e q = record { is = rw (e, q) }
 
-  module _ (s : ShortBoth A B) where
+  module _ (s : BothWithinLimits A B) where
     short-reading : bothRead newestEdition A B ≡ bundles 2 A B
     short-reading = both-read-short newestEdition A B (s .a) (s .b)
 
@@ -119,11 +119,11 @@ is-bundle : {given K : ℕ} {A : List ℕ} {first : Body} {start : ℕ} {r : Sca
 is-bundle a e = (rw e at (a .by)) .0
 
 module _ {A : List ℕ} {r : Scanned} (a : Scans 0 A 0 r) where
-  pub list-unscanned-A : {B : List ℕ} {number place : ℕ} → ShortBoth A B → r ≡ Scanned.Refused number place → shortProofs A B ≡ refused (answer number 1 place)
+  pub list-unscanned-A : {B : List ℕ} {number place : ℕ} → BothWithinLimits A B → r ≡ Scanned.Refused number place → shortProofs A B ≡ refused (answer number 1 place)
   list-unscanned-A s e = refused-A s ((rw e at (a .by)) fileA)
 
   module _ {K : ℕ} {first : Body} {start : ℕ} (e : r ≡ Scanned.Bundle K first start) {B : List ℕ} {q : Scanned} (b : Scans K B 0 q) where
-    pub list-unscanned-B : {number place : ℕ} → ShortBoth A B → q ≡ Scanned.Refused number place → shortProofs A B ≡ refused (answer number 2 place)
+    pub list-unscanned-B : {number place : ℕ} → BothWithinLimits A B → q ≡ Scanned.Refused number place → shortProofs A B ≡ refused (answer number 2 place)
     list-unscanned-B s f =
         let is-A = is-bundle a e in
         refused-B s is-A (rw (given-some K (bodies.low is-A)) at ((rw f at (b .by)) fileB))

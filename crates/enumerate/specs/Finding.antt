@@ -21,6 +21,6 @@ abbrev pub foundIn : (K : ℕ) (table : List ℕ) → List Line → Found
 foundIn K table ls = foundBehind (begins (headerBytes 1 K) table) (eqb (length table) 8) table ls
 
 -- Neither bundle is too long for every edition.
-pub record ShortBoth (A B : List ℕ) : Type 0 where
+pub record BothWithinLimits (A B : List ℕ) : Type 0 where
   pub a : length A ≤ edition newestEdition .bundleBytes
   pub b : length B ≤ edition newestEdition .bundleBytes

@@ -27,7 +27,7 @@ ghost use Rattle.bundle_load.specs.Both.{Both};
 ghost use Rattle.enumeration_rows.specs.Applied.{counted, SearchRoom};
 ghost use Rattle.enumeration_rows.specs.Delivered.{WritesFound};
 ghost use Rattle.enumeration_rows.specs.Searching.{foundOf, NumbersIn, FindsAny};
-ghost use Rattle.enumerate.specs.Finding.{foundIn, ShortBoth};
+ghost use Rattle.enumerate.specs.Finding.{foundIn, BothWithinLimits};
 
 // Whether the table begins with the header.
 fn is_headed(table: &[u8], k: u8) -> bool
@@ -83,7 +83,7 @@ fn next_within(
     kinds: &mut [u8],
     out: &mut [u8],
 ) -> WriteResult
-    requires { ⌜ ShortBoth (now a) (now b) ⌝ }
+    requires { ⌜ BothWithinLimits (now a) (now b) ⌝ }
     requires { ⌜ Both (now a) (now b) first second k ⌝ }
     requires { ⌜ (first .count + second .count ≤ 4) × (7 * 34 ≤ length (now lines)) × (7 ≤ length (now kinds)) ⌝ }
     ensures { λ r. ⌜ WritesNext (now (a .entry)) (now (b .entry)) (now (table .entry)) (now (out .entry)) (now (out .exit)) r ⌝ }
@@ -104,7 +104,7 @@ fn next_few(
     k: u8,
     out: &mut [u8],
 ) -> WriteResult
-    requires { ⌜ ShortBoth (now a) (now b) ⌝ }
+    requires { ⌜ BothWithinLimits (now a) (now b) ⌝ }
     requires { ⌜ Both (now a) (now b) first second k ⌝ }
     ensures { λ r. ⌜ WritesNext (now (a .entry)) (now (b .entry)) (now (table .entry)) (now (out .entry)) (now (out .exit)) r ⌝ }
 {
@@ -118,7 +118,7 @@ fn next_few(
 
 // A is read, then B.
 fn next_bundles(a: &[u8], b: &[u8], table: &[u8], out: &mut [u8]) -> WriteResult
-    requires { ⌜ ShortBoth (now a) (now b) ⌝ }
+    requires { ⌜ BothWithinLimits (now a) (now b) ⌝ }
     ensures { λ r. ⌜ WritesNext (now (a .entry)) (now (b .entry)) (now (table .entry)) (now (out .entry)) (now (out .exit)) r ⌝ }
 {
     match scan(a, 0, 0) {

@@ -10,27 +10,27 @@ use Rattle.forms.specs.Edition.{Edition, edition1}
 use Rattle.forms.specs.Forms.{Form, All, nil, cons, Line, Formula}
 use Rattle.calculus.specs.Rules.{Nth, _▷_, Room, New, combine, reduce, scale, Closed, derive, strengthen, round, splitEq, splitNeq, number, stride, Rounded, last, more, Inference, Combine, Reduce, Scale, Row, Derive, Strengthen, Split, CloseNumber, CloseStride, Round, Entry, row, claim, inference, entries, entriesRounded, rowCount, depth}
 use Rattle.calculus.proofs.Sides.{Side, A, B}
-use Rattle.calculus.proofs.Vocabulary.{Words, words-new}
+use Rattle.calculus.proofs.Vocabulary.{WithinVocabulary, words-new}
 use Rattle.answers.specs.Answers.{root, Result, refused, accepted}
 use Rattle.answers.proofs.Results.{Gives, gives-accepted, bind, seq, binds, passes}
 use Rattle.proof.specs.Rows.{byNumber, byStride}
 use Rattle.proof.proofs.RowsAgree.{Makes, derived-gives, derived-accepted, fitting-gives, fitting-accepted, RowCloses, number-gives, number-accepted, stride-gives, stride-accepted}
-use Rattle.enumeration.specs.ShortProofs.{_∈_, here, multipliers, signedMultipliers, strides, Permitted, NoStrengthen}
+use Rattle.enumeration.specs.ShortProofs.{_∈_, here, multipliers, signedMultipliers, strides, PermittedRow, NoStrengthen}
 use Rattle.enumeration.specs.Sequence.{concatMap, upFrom, combines, reduces, scales, inferences, numberCloses, strideCloses, closeRows, anyRefusal, newLine, closeFormula, ifAccepted, proofsOf}
 use Rattle.enumeration.proofs.Members.{in-left, in-right, all-in, all-both, in-map, in-concatMap, all-concatMap, all-mapped, in-from}
 
 -- ---- the candidates
-inferences-permitted : (n : ℕ) → All (λ s. Permitted (Derive s)) (inferences n)
+inferences-permitted : (n : ℕ) → All (λ s. PermittedRow (Derive s)) (inferences n)
 unfolding inferences combines reduces scales
 inferences-permitted n = all-both
-    (all-concatMap _ _ (upFrom 0 n) λ i _. all-concatMap _ _ (upFrom 0 n) λ j _. all-concatMap _ _ multipliers λ α a. all-mapped (λ (s : Inference). Permitted (Derive s)) (λ (β : ℕ). Combine i j α β) multipliers λ β b. (a, b))
-    (all-both (all-concatMap _ _ (upFrom 0 n) λ i _. all-concatMap _ _ (upFrom 0 n) λ j _. all-mapped (λ (s : Inference). Permitted (Derive s)) (λ (α : ℤ). Reduce i j α) signedMultipliers λ α a. a)
-    (all-concatMap _ _ (upFrom 0 n) λ i _. all-mapped (λ (s : Inference). Permitted (Derive s)) (λ (α : ℕ). Scale i α) multipliers λ α a. a))
+    (all-concatMap _ _ (upFrom 0 n) λ i _. all-concatMap _ _ (upFrom 0 n) λ j _. all-concatMap _ _ multipliers λ α a. all-mapped (λ (s : Inference). PermittedRow (Derive s)) (λ (β : ℕ). Combine i j α β) multipliers λ β b. (a, b))
+    (all-both (all-concatMap _ _ (upFrom 0 n) λ i _. all-concatMap _ _ (upFrom 0 n) λ j _. all-mapped (λ (s : Inference). PermittedRow (Derive s)) (λ (α : ℤ). Reduce i j α) signedMultipliers λ α a. a)
+    (all-concatMap _ _ (upFrom 0 n) λ i _. all-mapped (λ (s : Inference). PermittedRow (Derive s)) (λ (α : ℕ). Scale i α) multipliers λ α a. a))
 
-closes-permitted : (n : ℕ) → All Permitted (closeRows n)
+closes-permitted : (n : ℕ) → All PermittedRow (closeRows n)
 unfolding closeRows numberCloses strideCloses
-closes-permitted n = all-both (all-mapped Permitted (λ (i : ℕ). CloseNumber i) (upFrom 0 n) λ i _. tt)
-    (all-concatMap _ _ (upFrom 0 n) λ i _. all-mapped Permitted (λ (g : ℕ). CloseStride i g) strides λ g m. m)
+closes-permitted n = all-both (all-mapped PermittedRow (λ (i : ℕ). CloseNumber i) (upFrom 0 n) λ i _. tt)
+    (all-concatMap _ _ (upFrom 0 n) λ i _. all-mapped PermittedRow (λ (g : ℕ). CloseStride i g) strides λ g m. m)
 
 nth-below : (ls : List Line) (i : ℕ) {l : Line} → Nth ls i l → i < length ls
 nth-below [] i h = absurd (let z : _≡_ {A = ℕ} 0 1 = cc in omega arith)
@@ -55,7 +55,7 @@ scale-in : (n i α : ℕ) → i ∈ upFrom 0 n → α ∈ multipliers → Scale 
 unfolding scales
 scale-in n i α p a = in-concatMap (λ (i : ℕ). map (λ (α : ℕ). Scale i α) multipliers) i _ (upFrom 0 n) p (in-map (λ (α : ℕ). Scale i α) α multipliers a)
 
-inference-in : (ls : List Line) {l : Line} (n : New ls l) → Permitted (Derive (inference n)) → inference n ∈ inferences (length ls)
+inference-in : (ls : List Line) {l : Line} (n : New ls l) → PermittedRow (Derive (inference n)) → inference n ∈ inferences (length ls)
 unfolding inferences
 inference-in ls (combine i j α β p q _ _) (a, b) =
     in-left _ (combines (length ls)) (reduces (length ls) ++ scales (length ls)) (combine-in (length ls) i j α β (numbered ls i p) (numbered ls j q) a b)
@@ -90,7 +90,7 @@ made-accepted ls {l} n r = binds _ (derived-accepted root 0 0 ls n) ∙ passes _
 module _ (occ : Side → ℕ → Bool) where
   -- The rows rs close the branch with k inferences and a close.
   pub record Good (k : ℕ) (ls : List Line) (rs : List Row) : Type 0 where
-    pub permitted : All Permitted rs
+    pub permitted : All PermittedRow rs
     pub straight : All NoStrengthen rs
     pub count : length rs ≡ suc k
     pub formula : Formula
@@ -99,10 +99,10 @@ module _ (occ : Side → ℕ → Bool) where
     pub rows : rowCount proof ≡ suc k
     pub flat : depth proof ≡ 0
 
-  closed-good : (ls : List Line) (r : Row) {I : Formula} → Permitted r → NoStrengthen r → RowCloses edition1 (occ B) ls r I → Good 0 ls (r ∷ [])
+  closed-good : (ls : List Line) (r : Row) {I : Formula} → PermittedRow r → NoStrengthen r → RowCloses edition1 (occ B) ls r I → Good 0 ls (r ∷ [])
   closed-good ls r {I} p s c = record { permitted = cons p nil; straight = cons s nil; count = refl; formula = I; proof = c .proof; are = c .are []; rows = c .one; flat = c .flat }
 
-  close-good : (ls : List Line) → Words occ ls → (r : Row) → Permitted r → All (Good 0 ls) (ifAccepted (closeFormula ls r) (λ I. (r ∷ []) ∷ []))
+  close-good : (ls : List Line) → WithinVocabulary occ ls → (r : Row) → PermittedRow r → All (Good 0 ls) (ifAccepted (closeFormula ls r) (λ I. (r ∷ []) ∷ []))
   unfolding closeFormula ifAccepted
   close-good ls w (CloseNumber i) p = ifAccepted-all (Good 0 ls) (byNumber anyRefusal ls i) (λ I. (CloseNumber i ∷ []) ∷ []) λ I e. cons (closed-good ls (CloseNumber i) p tt (number-gives root 0 0 ls edition1 (occ B) i .gives I e)) nil
   close-good ls w (CloseStride i g) p = ifAccepted-all (Good 0 ls) (byStride anyRefusal ls i g) (λ I. (CloseStride i g ∷ []) ∷ []) λ I e. cons (closed-good ls (CloseStride i g) p tt (stride-gives root 0 0 ls occ w edition1 i g .gives I e)) nil
@@ -111,7 +111,7 @@ module _ (occ : Side → ℕ → Bool) where
   close-good ls w (Split i) p = nil
   close-good ls w (Round i g k) p = nil
 
-  inference-good : (k : ℕ) (ls : List Line) (s : Inference) (l : Line) (rs : List Row) → Permitted (Derive s) → Makes root 0 0 ls s l → Room edition1 ls l → Good k (ls ▷ l) rs → Good (suc k) ls (Derive s ∷ rs)
+  inference-good : (k : ℕ) (ls : List Line) (s : Inference) (l : Line) (rs : List Row) → PermittedRow (Derive s) → Makes root 0 0 ls s l → Room edition1 ls l → Good k (ls ▷ l) rs → Good (suc k) ls (Derive s ∷ rs)
   inference-good k ls s l rs p m r g = record {
     permitted = cons p (g .permitted);
     straight = cons tt (g .straight);
@@ -123,13 +123,13 @@ module _ (occ : Side → ℕ → Bool) where
     flat = g .flat;
   }
 
-  pub rows-good : (k : ℕ) (ls : List Line) → Words occ ls → All (Good k ls) (proofsOf k ls)
+  pub rows-good : (k : ℕ) (ls : List Line) → WithinVocabulary occ ls → All (Good k ls) (proofsOf k ls)
   unfolding proofsOf
-  rows-good zero ls w = all-concatMap (Good 0 ls) _ (closeRows (length ls)) λ r m. close-good ls w r (all-in Permitted (closeRows (length ls)) (closes-permitted (length ls)) r m)
+  rows-good zero ls w = all-concatMap (Good 0 ls) _ (closeRows (length ls)) λ r m. close-good ls w r (all-in PermittedRow (closeRows (length ls)) (closes-permitted (length ls)) r m)
   rows-good (suc k) ls w = all-concatMap (Good (suc k) ls) _ (inferences (length ls)) λ s m. ifAccepted-all (Good (suc k) ls) (newLine ls s) _ λ l e.
       let (t, r) = made-gives ls s .gives l e in
       all-mapped (Good (suc k) ls) (λ (rs : List Row). Derive s ∷ rs) (proofsOf k (ls ▷ l)) λ rs h.
-      inference-good k ls s l rs (all-in (λ (s : Inference). Permitted (Derive s)) (inferences (length ls)) (inferences-permitted (length ls)) s m) t r
+      inference-good k ls s l rs (all-in (λ (s : Inference). PermittedRow (Derive s)) (inferences (length ls)) (inferences-permitted (length ls)) s m) t r
       (all-in (Good k (ls ▷ l)) (proofsOf k (ls ▷ l)) (rows-good k (ls ▷ l) (words-new occ w (t .new))) rs h)
 
 -- ---- none is left out
@@ -169,7 +169,7 @@ same-length rs e = ap length e ∙ length-map rs row
 
 module _ (occ : Side → ℕ → Bool) where
   -- a closed branch of at most three entries, all of them permitted rows, is in the sequence
-  pub rows-found : (ls : List Line) {I : Formula} (p : Closed edition1 (occ B) ls I) → Words occ ls → (rs : List Row) → All Permitted rs → length rs ≤ 3 → entries p [] ≡ map row rs
+  pub rows-found : (ls : List Line) {I : Formula} (p : Closed edition1 (occ B) ls I) → WithinVocabulary occ ls → (rs : List Row) → All PermittedRow rs → length rs ≤ 3 → entries p [] ≡ map row rs
       → (k : ℕ) → length rs ≡ suc k → rs ∈ proofsOf k ls
   unfolding proofsOf ifAccepted closeFormula
   rows-found ls p w [] q h e k c = absurd (omega arith)
@@ -178,14 +178,14 @@ module _ (occ : Side → ℕ → Bool) where
       let d : Derive (inference n) ≡ r = first-row e in
       let m : rs ∈ proofsOf k (ls ▷ l) = rows-found (ls ▷ l) p (words-new occ w n) rs qs (omega arith) (after-first e) k (omega arith) in
       subst (λ (r : Row). (r ∷ rs) ∈ proofsOf (suc k) ls) d
-      (in-concatMap _ (inference n) (Derive (inference n) ∷ rs) (inferences (length ls)) (inference-in ls n (subst Permitted (sym d) q))
+      (in-concatMap _ (inference n) (Derive (inference n) ∷ rs) (inferences (length ls)) (inference-in ls n (subst PermittedRow (sym d) q))
       (subst (λ (x : Result Line). (Derive (inference n) ∷ rs) ∈ ifAccepted x (λ (l : Line). map (λ (rs : List Row). Derive (inference n) ∷ rs) (proofsOf k (ls ▷ l)))) (sym (made-accepted ls n room)) (in-map (λ (rs : List Row). Derive (inference n) ∷ rs) rs (proofsOf k (ls ▷ l)) m)))
   rows-found ls (derive true n room p) w (r ∷ rs) (cons q qs) h e k c = absurd (not-claim rs (after-first e))
   rows-found ls (strengthen i _ _ p1 pE p0) w (r ∷ rs) q h e k c =
       absurd (let m = same-length (r ∷ rs) e in omega (arith, own-row p1 (entries pE (entries p0 [])), own-row pE (entries p0 []), own-row p0 []))
-  rows-found ls (round i g j _ p ps) w (r ∷ rs) (cons q qs) h e k c = absurd (subst Permitted (sym (first-row e)) q)
-  rows-found ls (splitEq i _ _ _ p1 p2) w (r ∷ rs) (cons q qs) h e k c = absurd (subst Permitted (sym (first-row e)) q)
-  rows-found ls (splitNeq i _ _ _ p1 p2) w (r ∷ rs) (cons q qs) h e k c = absurd (subst Permitted (sym (first-row e)) q)
+  rows-found ls (round i g j _ p ps) w (r ∷ rs) (cons q qs) h e k c = absurd (subst PermittedRow (sym (first-row e)) q)
+  rows-found ls (splitEq i _ _ _ p1 p2) w (r ∷ rs) (cons q qs) h e k c = absurd (subst PermittedRow (sym (first-row e)) q)
+  rows-found ls (splitNeq i _ _ _ p1 p2) w (r ∷ rs) (cons q qs) h e k c = absurd (subst PermittedRow (sym (first-row e)) q)
   rows-found ls (number i p z f) w (r ∷ s ∷ rs) (cons q qs) h e k c = absurd (not-nothing (sym (after-first e)))
   rows-found ls (number i p z f) w (r ∷ []) (cons q qs) h e (suc k) c = absurd (omega arith)
   rows-found ls (number i p z f) w (r ∷ []) (cons q qs) h e zero c =
@@ -196,5 +196,5 @@ module _ (occ : Side → ℕ → Bool) where
   rows-found ls (stride i g p low all d is) w (r ∷ []) (cons q qs) h e (suc k) c = absurd (omega arith)
   rows-found ls (stride i g p low all d is) w (r ∷ []) (cons q qs) h e zero c =
       subst (λ (r : Row). (r ∷ []) ∈ proofsOf 0 ls) (first-row e)
-      (in-concatMap _ (CloseStride i g) (CloseStride i g ∷ []) (closeRows (length ls)) (stride-in ls i g p (subst Permitted (sym (first-row e)) q))
+      (in-concatMap _ (CloseStride i g) (CloseStride i g ∷ []) (closeRows (length ls)) (stride-in ls i g p (subst PermittedRow (sym (first-row e)) q))
       (subst (λ (x : Result Formula). (CloseStride i g ∷ []) ∈ ifAccepted x (λ (I : Formula). (CloseStride i g ∷ []) ∷ [])) (sym (stride-accepted root 0 0 ls occ w i g p low all d is)) (here refl)))

@@ -15,7 +15,7 @@ use Rattle.fields.proofs.Framing.{items-fileOf, length-fieldBytes}
 use Rattle.bundle.specs.Layout.{Each, nil, cons}
 use Rattle.proof.specs.Entries.{EntryTag, combineTag, reduceTag, scaleTag, strengthenTag, numberTag, strideTag, entryTagged, lineNumber, multiplier, sizeOf, entryFrom}
 use Rattle.proof.specs.Layout.{Enters}
-use Rattle.enumeration.specs.ShortProofs.{multipliers, signedMultipliers, strides, Permitted, rowItem, proofFile}
+use Rattle.enumeration.specs.ShortProofs.{multipliers, signedMultipliers, strides, PermittedRow, rowItem, proofFile}
 use Rattle.enumeration.proofs.Members.{all-in}
 
 -- ---- one row
@@ -48,7 +48,7 @@ module _ (K : ℕ) where
       cons {x = 2} (record { tagged = strideTag; tag = refl; size = omega arith; entry = ap (λ (i : ℕ). row (CloseStride i 2)) (none i) }) (cons {x = 3} (record { tagged = strideTag; tag = refl; size = omega arith; entry = ap (λ (i : ℕ). row (CloseStride i 3)) (none i) })
       (cons {x = 4} (record { tagged = strideTag; tag = refl; size = omega arith; entry = ap (λ (i : ℕ). row (CloseStride i 4)) (none i) }) nil))
 
-  pub row-enters : (r : Row) → Permitted r → Enters edition1 K (rowItem r) (row r)
+  pub row-enters : (r : Row) → PermittedRow r → Enters edition1 K (rowItem r) (row r)
   unfolding rowItem entryTagged sizeOf entryFrom lineNumber unsigned
   row-enters (Derive (Combine i j α β)) (p, q) = all-in (λ (β : ℕ). Read (Derive (Combine i j α β))) multipliers (all-in (λ (α : ℕ). All (λ (β : ℕ). Read (Derive (Combine i j α β))) multipliers) multipliers (combine-enters i j) α p) β q
   row-enters (Derive (Reduce i j α)) p = all-in (λ (α : ℤ). Read (Derive (Reduce i j α))) signedMultipliers (reduce-enters i j) α p
@@ -66,11 +66,11 @@ module _ (K : ℕ) where
   one-entry : {i : Item} {x y : Entry} → Enters edition1 K i x → Enters edition1 K i y → x ≡ y
   one-entry {i} h g = sym (h .entry) ∙ ap (λ (t : EntryTag). entryFrom edition1 K t (i .contents)) (one-tagged (h .tag) (g .tag)) ∙ g .entry
 
-  pub rows-enter : {rs : List Row} → All Permitted rs → Each (Enters edition1 K) (map rowItem rs) (map row rs)
+  pub rows-enter : {rs : List Row} → All PermittedRow rs → Each (Enters edition1 K) (map rowItem rs) (map row rs)
   rows-enter nil = nil
   rows-enter (cons {x = r} p ps) = cons (row-enters r p) (rows-enter ps)
 
-  pub entered-rows : (rs : List Row) → All Permitted rs → (es : List Entry) → Each (Enters edition1 K) (map rowItem rs) es → es ≡ map row rs
+  pub entered-rows : (rs : List Row) → All PermittedRow rs → (es : List Entry) → Each (Enters edition1 K) (map rowItem rs) es → es ≡ map row rs
   entered-rows [] nil _ nil = refl
   entered-rows (r ∷ rs) (cons p ps) _ (cons {y = x} {ys = es} h hs) = ap₂ (λ (x : Entry) (es : List Entry). x ∷ es) (one-entry h (row-enters r p)) (entered-rows rs ps es hs)
 

@@ -12,7 +12,7 @@ use Rattle.forms.specs.Edition.{edition, edition1, newestEdition}
 use Rattle.forms.specs.Forms.{All, nil, cons, Line, lines, occurs, Formula}
 use Rattle.calculus.specs.Rules.{Closed, Row, Derive, Strengthen, Split, CloseNumber, CloseStride, Round, row, entries, Proves}
 use Rattle.calculus.proofs.Sides.{Side}
-use Rattle.calculus.proofs.Vocabulary.{Words}
+use Rattle.calculus.proofs.Vocabulary.{WithinVocabulary}
 use Rattle.calculus.proofs.Interpolation.{sides, initial-words}
 use Rattle.answers.specs.Answers.{fileA, fileB, accepted}
 use Rattle.answers.proofs.Results.{Gives, one-value, gives-accepted, bind, test}
@@ -25,7 +25,7 @@ use Rattle.formula.specs.Formula.{formulaFile}
 use Rattle.proof.specs.Layout.{Enters, Yields, Certifies}
 use Rattle.proof.proofs.Agree.{agreed, agrees-refl}
 use Rattle.proof.proofs.Sizes.{EntryShort}
-use Rattle.enumeration.specs.ShortProofs.{_∈_, here, there, strides, Permitted, NoStrengthen, rowItem, proofFile, ShortProof}
+use Rattle.enumeration.specs.ShortProofs.{_∈_, here, there, strides, PermittedRow, NoStrengthen, rowItem, proofFile, ShortProof}
 use Rattle.enumeration.specs.Sequence.{proofsOf, shortProofsOf, shortProofs}
 use Rattle.enumeration.proofs.Members.{in-left, in-right, all-in, in-map}
 use Rattle.enumeration.proofs.Bytes.{rows-enter, entered-rows, table-items, table-length}
@@ -49,7 +49,7 @@ shortProofs-gives A B = bind (both-read-gives newestEdition A B) λ (a, b) l. te
     gives-accepted (record { a = a; b = b; shortA = bundle-short (l .laidA .file); shortB = bundle-short (l .laidB .file); laid = l; few = leb→le (length (a .constraints) + length (b .constraints)) 4 f; is = refl })
 
 -- ---- the rows of all lengths
-module _ (occ : Side → ℕ → Bool) (ls : List Line) (w : Words occ ls) where
+module _ (occ : Side → ℕ → Bool) (ls : List Line) (w : WithinVocabulary occ ls) where
   pub record GoodShort (rs : List Row) : Type 0 where
     pub k : ℕ
     pub few : k ≤ 2
@@ -79,7 +79,7 @@ module _ (occ : Side → ℕ → Bool) (ls : List Line) (w : Words occ ls) where
       go (inl m) = good-of 0 (omega arith) rs m
       go (inr m) = more (in-either rs (proofsOf 1 ls) (proofsOf 2 ls) m)
 
-  pub short-found : {I : Formula} (p : Closed edition1 (occ Side.B) ls I) (rs : List Row) → All Permitted rs → 1 ≤ length rs → length rs ≤ 3 → entries p [] ≡ map row rs → rs ∈ shortProofsOf ls
+  pub short-found : {I : Formula} (p : Closed edition1 (occ Side.B) ls I) (rs : List Row) → All PermittedRow rs → 1 ≤ length rs → length rs ≤ 3 → entries p [] ≡ map row rs → rs ∈ shortProofsOf ls
   unfolding shortProofsOf
   short-found p [] q l h e = absurd (omega arith)
   short-found p (r ∷ []) q l h e = in-left _ (proofsOf 0 ls) _ (rows-found occ ls p w (r ∷ []) q h e 0 refl)
@@ -104,7 +104,7 @@ pub record CertifiedRows {A B file : List ℕ} {K : ℕ} {I : Formula} (y : Yiel
   pub first-edition : 1 ≡ y .editionProof
   pub are-rows : y .es ≡ map row rs
 
-certified-rows : {A B file : List ℕ} {K : ℕ} {I : Formula} (y : Yields newestEdition A B file K I) (L : ℕ) (rs : List Row) → file ≡ proofFile L rs → All Permitted rs → CertifiedRows y L rs
+certified-rows : {A B file : List ℕ} {K : ℕ} {I : Formula} (y : Yields newestEdition A B file K I) (L : ℕ) (rs : List Row) → file ≡ proofFile L rs → All PermittedRow rs → CertifiedRows y L rs
 certified-rows {K = K} y L rs e q =
     let (n, k, body) = first-bytes (table-items L rs) (ap (λ (f : List ℕ). items (fields f)) (sym e) ∙ y .fileProof .whole) in
     record {
@@ -119,11 +119,11 @@ proved : {A B file : List ℕ} {K : ℕ} {I : Formula} (y : Yields newestEdition
 proved {I = I} y c = subst (λ (n : ℕ). Proves (edition n) (y .a) (y .b) (y .es) I) (sym (c .first-edition)) (y .proves)
 
 -- the strides have two bytes
-rows-short : {rs : List Row} → All Permitted rs → All EntryShort (map row rs)
+rows-short : {rs : List Row} → All PermittedRow rs → All EntryShort (map row rs)
 rows-short nil = nil
 rows-short (cons {x = r} p ps) = cons (go r p) (rows-short ps)
   where
-    go : (r : Row) → Permitted r → EntryShort (row r)
+    go : (r : Row) → PermittedRow r → EntryShort (row r)
     go (Derive s) p = tt
     go (Strengthen i) p = tt
     go (Split i) p = tt

@@ -18,7 +18,7 @@ use Rattle.bundle.proofs.Laid.{short-accepted}
 use Rattle.formula.specs.Formula.{formulaFile}
 use Rattle.proof.specs.Check.{checkProof, formulaAtMost, interpolant, checkBy, check}
 use Rattle.proof.specs.Tree.{Tree, Stands, here, past, Outside}
-use Rattle.proof.proofs.Says.{Says, says-accepted, says-need, bind, seq, weaken}
+use Rattle.proof.proofs.Satisfies.{Satisfies, says-accepted, says-need, bind, seq, weaken}
 use Rattle.proof.proofs.Outside.{In, short-in, bundle-in}
 use Rattle.proof.proofs.Tree.{proof-stands}
 use Rattle.enumeration.specs.Sequence.{shortProofs}
@@ -30,14 +30,14 @@ use Rattle.enumeration.proofs.Enumerates.{Answered, unread, five, follo
 abbrev pub OfBundle : Answer → Type 0
 OfBundle a = (a .file ≡ fileA) ⊎ (a .file ≡ fileB)
 
-pub both-in : (A B : List ℕ) → Says (λ a. OfBundle a × Outside a) (bothRead newestEdition A B) (λ _. Unit {0})
+pub both-in : (A B : List ℕ) → Satisfies (λ a. OfBundle a × Outside a) (bothRead newestEdition A B) (λ _. Unit {0})
 unfolding bothRead bundles
 both-in A B = seq (of-A (short-in fileA _ A)) (seq (of-B (short-in fileB _ B)) (bind (of-A (bundle-in fileA newestEdition _ A)) λ a _. bind (of-B (bundle-in fileB newestEdition _ B)) λ b _. says-accepted tt))
   where
-    of-A : {X : Type 0} {P : X → Type 0} {r : Result X} → Says (In fileA) r P → Says (λ a. OfBundle a × Outside a) r P
+    of-A : {X : Type 0} {P : X → Type 0} {r : Result X} → Satisfies (In fileA) r P → Satisfies (λ a. OfBundle a × Outside a) r P
     of-A s = weaken s (λ a q. (inl (q .0), q .1)) (λ _ u. u)
 
-    of-B : {X : Type 0} {P : X → Type 0} {r : Result X} → Says (In fileB) r P → Says (λ a. OfBundle a × Outside a) r P
+    of-B : {X : Type 0} {P : X → Type 0} {r : Result X} → Satisfies (In fileB) r P → Satisfies (λ a. OfBundle a × Outside a) r P
     of-B s = weaken s (λ a q. (inr (q .0), q .1)) (λ _ u. u)
 
 -- ---- where in the tree
@@ -97,7 +97,7 @@ module _ (A B proof : List ℕ) (short : length proof ≤ edition newestEdition 
   read-on e = between-on (atMost (edition newestEdition .bundleBytes) fileA A) (atMost (edition newestEdition .bundleBytes) fileB B) (atMost (edition newestEdition .proofBytes) fileProof proof) (bundles newestEdition A B) _ (short-accepted _ fileProof proof short) e
 
   -- what check refuses behind the bundles has file 3 or 4
-  behind-file : (ab : Bundle × Bundle) → Says (λ a. ¬ (OfBundle a)) (behind ab) (λ _. Unit {0})
+  behind-file : (ab : Bundle × Bundle) → Satisfies (λ a. ¬ (OfBundle a)) (behind ab) (λ _. Unit {0})
   unfolding behind formulaAtMost
   behind-file (a, b) = bind {P = λ _. Unit {0}} (record { refusal = λ x e. not-bundle x (stands-file (proof-stands newestEdition a b (fields proof) x e)); value = λ _ _. tt }) λ I _.
       seq {P = λ _. Unit {0}} (fits (length (formulaFile edition1 (a .K) I)) _) (says-accepted tt)
@@ -110,10 +110,10 @@ module _ (A B proof : List ℕ) (short : length proof ≤ edition newestEdition 
       lent n place (inl q) = omega arith
       lent n place (inr q) = omega arith
 
-      fits : (place : ℕ) (b : Bool) → Says (λ x. ¬ (OfBundle x)) (need (answer 1 fileLent place) b) (λ _. Unit {0})
+      fits : (place : ℕ) (b : Bool) → Satisfies (λ x. ¬ (OfBundle x)) (need (answer 1 fileLent place) b) (λ _. Unit {0})
       fits place b = weaken (says-need (answer 1 fileLent place) b (lent 1 place)) (λ _ q. q) (λ _ _. tt)
 
-  check-file : (r : Result (ℕ × Formula)) (output : List ℕ) → Says (λ a. ¬ (OfBundle a)) r (λ _. Unit {0}) → ¬ (OfBundle (written (r >>= λ (K, I). accepted (formulaFile edition1 K I)) output .answer))
+  check-file : (r : Result (ℕ × Formula)) (output : List ℕ) → Satisfies (λ a. ¬ (OfBundle a)) r (λ _. Unit {0}) → ¬ (OfBundle (written (r >>= λ (K, I). accepted (formulaFile edition1 K I)) output .answer))
   unfolding written fit _>>=_
   check-file (refused a) output s = s .refusal a refl
   check-file (accepted (K, I)) output s = by-room (leb (length (formulaFile edition1 K I)) (length output))
@@ -131,7 +131,7 @@ module _ (A B proof : List ℕ) (short : length proof ≤ edition newestEdition 
     where
       go : (r : Result (Bundle × Bundle)) → bothRead newestEdition A B ≡ r → (a : Answer) × (bothRead newestEdition A B ≡ refused a)
       go (refused a) e = (a, e)
-      go (accepted ab) e = absurd (check-file (interpolant newestEdition A B proof) output (subst (λ (r : Result (ℕ × Formula)). Says (λ a. ¬ (OfBundle a)) r (λ _. Unit {0})) (sym (read-on e)) (behind-file ab)) h)
+      go (accepted ab) e = absurd (check-file (interpolant newestEdition A B proof) output (subst (λ (r : Result (ℕ × Formula)). Satisfies (λ a. ¬ (OfBundle a)) r (λ _. Unit {0})) (sym (read-on e)) (behind-file ab)) h)
 
   -- and then check, with any proof that is not too long, answers and leaves the same as the next proof, whatever table is given
   pub as-check : (given output : List ℕ) {a : Answer} → bothRead newestEdition A B ≡ refused a

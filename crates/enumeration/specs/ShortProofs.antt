@@ -28,15 +28,15 @@ abbrev pub strides : List ℕ
 strides = 2 ∷ 3 ∷ 4 ∷ []
 
 -- The rows that a short proof may have: those of document 01, 0x10 to 0x15, with any line numbers.
-abbrev pub Permitted : Row → Type 0
-Permitted (Derive (Combine s t α β)) = (α ∈ multipliers) × (β ∈ multipliers)
-Permitted (Derive (Reduce s t α)) = α ∈ signedMultipliers
-Permitted (Derive (Scale t α)) = α ∈ multipliers
-Permitted (Strengthen t) = Unit {0}
-Permitted (Split t) = ⊥
-Permitted (CloseNumber t) = Unit {0}
-Permitted (CloseStride t g) = g ∈ strides
-Permitted (Round t g k) = ⊥
+abbrev pub PermittedRow : Row → Type 0
+PermittedRow (Derive (Combine s t α β)) = (α ∈ multipliers) × (β ∈ multipliers)
+PermittedRow (Derive (Reduce s t α)) = α ∈ signedMultipliers
+PermittedRow (Derive (Scale t α)) = α ∈ multipliers
+PermittedRow (Strengthen t) = Unit {0}
+PermittedRow (Split t) = ⊥
+PermittedRow (CloseNumber t) = Unit {0}
+PermittedRow (CloseStride t g) = g ∈ strides
+PermittedRow (Round t g k) = ⊥
 
 -- The row is no strengthen.
 abbrev pub NoStrengthen : Row → Type 0
@@ -69,6 +69,6 @@ pub record ShortProof (A B file : List ℕ) : Type 0 where
   pub is : file ≡ proofFile K rows
   pub one : 1 ≤ length rows
   pub three : length rows ≤ 3
-  pub permitted : All Permitted rows
+  pub permitted : All PermittedRow rows
   pub output : List ℕ
   pub accepted : check A B file output .answer ≡ acceptance

@@ -88,26 +88,26 @@ pub record Counts : Type 0 where
   pub three : ℕ
 
 -- A constraint over one constant: its tag, its coefficient and its d.
-abbrev pub over : (tag c1 c2 d1 d2 : ℕ) → List ℕ
-over tag c1 c2 d1 d2 = tag ∷ 0x00 ∷ 0x04 ∷ c1 ∷ c2 ∷ d1 ∷ d2 ∷ []
+abbrev pub oneConstant : (tag c1 c2 d1 d2 : ℕ) → List ℕ
+oneConstant tag c1 c2 d1 d2 = tag ∷ 0x00 ∷ 0x04 ∷ c1 ∷ c2 ∷ d1 ∷ d2 ∷ []
 
 abbrev pub counts : List Counts
 counts =
     -- stage 1
     record { A = K3 ++ A1; B = K3 ++ B1; one = 0; two = 4; three = 340 }
     -- stage 3: x ≤ 0 against -x+1 ≤ 0
-    ∷ record { A = K1 ++ over 0x03 0x00 0x01 0x00 0x00; B = K1 ++ over 0x03 0xFF 0xFF 0x00 0x01; one = 0; two = 4; three = 304 }
+    ∷ record { A = K1 ++ oneConstant 0x03 0x00 0x01 0x00 0x00; B = K1 ++ oneConstant 0x03 0xFF 0xFF 0x00 0x01; one = 0; two = 4; three = 304 }
     -- stage 4: x ≤ 0 against -x ≤ 0
-    ∷ record { A = K1 ++ over 0x03 0x00 0x01 0x00 0x00; B = K1 ++ over 0x03 0xFF 0xFF 0x00 0x00; one = 0; two = 0; three = 0 }
+    ∷ record { A = K1 ++ oneConstant 0x03 0x00 0x01 0x00 0x00; B = K1 ++ oneConstant 0x03 0xFF 0xFF 0x00 0x00; one = 0; two = 0; three = 0 }
     -- stage 5: 2x-1 ≤ 0 against -2x+1 ≤ 0
-    ∷ record { A = K1 ++ over 0x03 0x00 0x02 0xFF 0xFF; B = K1 ++ over 0x03 0xFF 0xFE 0x00 0x01; one = 0; two = 0; three = 0 }
+    ∷ record { A = K1 ++ oneConstant 0x03 0x00 0x02 0xFF 0xFF; B = K1 ++ oneConstant 0x03 0xFF 0xFE 0x00 0x01; one = 0; two = 0; three = 0 }
     -- stage 6: 1 ≤ 0 against nothing, either way round
-    ∷ record { A = K1 ++ over 0x03 0x00 0x00 0x00 0x01; B = K1; one = 1; two = 12; three = 360 }
-    ∷ record { A = K1; B = K1 ++ over 0x03 0x00 0x00 0x00 0x01; one = 1; two = 12; three = 360 }
+    ∷ record { A = K1 ++ oneConstant 0x03 0x00 0x00 0x00 0x01; B = K1; one = 1; two = 12; three = 360 }
+    ∷ record { A = K1; B = K1 ++ oneConstant 0x03 0x00 0x00 0x00 0x01; one = 1; two = 12; three = 360 }
     -- x = 0 against x-1 = 0
-    ∷ record { A = K1 ++ over 0x04 0x00 0x01 0x00 0x00; B = K1 ++ over 0x04 0x00 0x01 0xFF 0xFF; one = 0; two = 12; three = 984 }
+    ∷ record { A = K1 ++ oneConstant 0x04 0x00 0x01 0x00 0x00; B = K1 ++ oneConstant 0x04 0x00 0x01 0xFF 0xFF; one = 0; two = 12; three = 984 }
     -- 0 ≠ 0 against 1 ≤ 0: a line t ≠ 0 is in no row, but it is counted
-    ∷ record { A = K1 ++ over 0x05 0x00 0x00 0x00 0x00; B = K1 ++ over 0x03 0x00 0x00 0x00 0x01; one = 1; two = 12; three = 360 }
+    ∷ record { A = K1 ++ oneConstant 0x05 0x00 0x00 0x00 0x00; B = K1 ++ oneConstant 0x03 0x00 0x00 0x00 0x01; one = 1; two = 12; three = 360 }
     ∷ []
 
 -- How many proofs of k inferences and a close there are for the lines of two files.

@@ -16,7 +16,7 @@ pub record Whole (s : List ℕ) (at K : ℕ) : Type 0 where
   pub upto : at + formWidth (edition1 .termWidth) K ≤ length s
 
 -- A register value is there, and the total so far is small enough for its product with a coefficient to be added.
-pub record Summand (values : List ℤ) (i : ℕ) (total : ℤ) : Type 0 where
+pub record TermAsked (values : List ℤ) (i : ℕ) (total : ℤ) : Type 0 where
   pub register : i < length values
   pub all : AllWithin values
   pub small : Within 40_000_000_000_000_000 total

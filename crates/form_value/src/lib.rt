@@ -19,12 +19,12 @@ ghost use Rattle.number_bytes.specs.Ranges.{Held};
 ghost use Rattle.formula.specs.Test.{registers};
 ghost use Rattle.form_value.specs.Quick.{word, _⊕_, _⊗_, wordValue, power, Power};
 ghost use Rattle.form_value.specs.Registers.{Registers, AllWithin};
-ghost use Rattle.form_value.specs.FormAt.{formAt, Whole, Summand};
+ghost use Rattle.form_value.specs.FormAt.{formAt, Whole, TermAsked};
 
 // The coefficient at a place times register i, and the total so far.
 fn with_term(s: &[u8], at: usize, values: &[i32], i: usize, total: i64) -> i64
     requires { ⌜ at + edition1 .termWidth ≤ length (now s) ⌝ }
-    requires { ⌜ Summand (now values) i total ⌝ }
+    requires { ⌜ TermAsked (now values) i total ⌝ }
     ensures is { λ r. ⌜ r ≡ signed (take (edition1 .termWidth) (drop at (now (s .entry)))) *ℤ getD (now (values .entry)) i (pos 0) +ℤ total ⌝ }
     ensures range { λ r. ⌜ Held (edition1 .termWidth) (signed (take (edition1 .termWidth) (drop at (now (s .entry))))) ⌝ }
 {

@@ -16,7 +16,7 @@ use Rattle.answers.proofs.Results.{binds, bind-refused, pass, passes, fail, the
 use Rattle.fields.specs.Fields.{fields}
 use Rattle.formula.specs.Formula.{readFormula}
 use Rattle.formula.specs.Test.{judge, registers, tested}
-use Rattle.formula.specs.TestList.{vectors, listed, byte, truths, testList}
+use Rattle.formula.specs.TestList.{vectors, readForList, byte, truths, testList}
 
 -- ---- sizes
 pub vectors-length : (K n : ℕ) (values : List ℤ) → length (vectors K n values) ≡ n
@@ -49,47 +49,47 @@ each-refused at p i (z ∷ zs) (suc n) h all out =
 
 -- ---- 7, then 23, then 1 and the formula
 module _ (formula : List ℕ) (K : ℕ) (values : List ℤ) where
-  pub no-constant : K < 1 → listed formula K values ≡ refused (answer 7 fileLent 0)
-  unfolding listed
+  pub no-constant : K < 1 → readForList formula K values ≡ refused (answer 7 fileLent 0)
+  unfolding readForList
   no-constant h = fail _ _ (rw (lt-leb 1 K h))
 
   module _ (low : 1 ≤ K) where
-    pub many-constants : 16 < K → listed formula K values ≡ refused (answer 7 fileLent 0)
-    unfolding listed
+    pub many-constants : 16 < K → readForList formula K values ≡ refused (answer 7 fileLent 0)
+    unfolding readForList
     many-constants h = fail _ _ (rw (le-leb 1 K low, lt-leb K 16 h))
 
     module _ (high : K ≤ 16) where
-      pub not-whole : 0 < length values % K → listed formula K values ≡ refused (answer 7 fileLent 0)
-      unfolding listed
+      pub not-whole : 0 < length values % K → readForList formula K values ≡ refused (answer 7 fileLent 0)
+      unfolding readForList
       not-whole h = fail _ _ (rw (le-leb 1 K low, le-leb K 16 high, ne-eqb (length values % K) 0 (λ z. absurd (omega arith))))
 
       module _ (whole : length values % K ≡ 0) where
-        counted : listed formula K values ≡ (each (λ i. answer 23 fileLent i) (λ z. leb (natAbs z) 1_000_000) 0 values >> (need (answer 1 fileProof 0) (leb (length formula) 65_536) >> readFormula K (fields formula)))
-        unfolding listed
+        counted : readForList formula K values ≡ (each (λ i. answer 23 fileLent i) (λ z. leb (natAbs z) 1_000_000) 0 values >> (need (answer 1 fileProof 0) (leb (length formula) 65_536) >> readFormula K (fields formula)))
+        unfolding readForList
         counted = pass _ _ (rw (le-leb 1 K low, le-leb K 16 high, eq-eqb (length values % K) 0 whole))
 
-        pub outside : {a : Answer} → each (λ i. answer 23 fileLent i) (λ z. leb (natAbs z) 1_000_000) 0 values ≡ refused a → listed formula K values ≡ refused a
+        pub outside : {a : Answer} → each (λ i. answer 23 fileLent i) (λ z. leb (natAbs z) 1_000_000) 0 values ≡ refused a → readForList formula K values ≡ refused a
         outside e = counted ∙ then-refused _ e
 
         pub outside-at : (n : ℕ) → n < length values → ((k : ℕ) → k < n → natAbs (getD values k (pos 0)) ≤ 1_000_000) → 1_000_000 < natAbs (getD values n (pos 0))
-            → listed formula K values ≡ refused (answer 23 fileLent n)
+            → readForList formula K values ≡ refused (answer 23 fileLent n)
         outside-at n h all out =
             let e : 0 + n ≡ n = omega arith in
             outside (each-refused _ _ 0 values n h (λ k l. le-leb _ 1_000_000 (all k l)) (lt-leb _ 1_000_000 out) ∙ ap (λ (m : ℕ). refused (answer 23 fileLent m)) e)
 
         pub inside : each (λ i. answer 23 fileLent i) (λ z. leb (natAbs z) 1_000_000) 0 values ≡ accepted tt
-            → listed formula K values ≡ (need (answer 1 fileProof 0) (leb (length formula) 65_536) >> readFormula K (fields formula))
+            → readForList formula K values ≡ (need (answer 1 fileProof 0) (leb (length formula) 65_536) >> readFormula K (fields formula))
         inside e = counted ∙ passes _ e
 
-        pub too-long : each (λ i. answer 23 fileLent i) (λ z. leb (natAbs z) 1_000_000) 0 values ≡ accepted tt → 65_536 < length formula → listed formula K values ≡ refused (answer 1 fileProof 0)
+        pub too-long : each (λ i. answer 23 fileLent i) (λ z. leb (natAbs z) 1_000_000) 0 values ≡ accepted tt → 65_536 < length formula → readForList formula K values ≡ refused (answer 1 fileProof 0)
         too-long e h = inside e ∙ fail _ _ (lt-leb (length formula) 65_536 h)
 
-        pub to-read : each (λ i. answer 23 fileLent i) (λ z. leb (natAbs z) 1_000_000) 0 values ≡ accepted tt → length formula ≤ 65_536 → listed formula K values ≡ readFormula K (fields formula)
+        pub to-read : each (λ i. answer 23 fileLent i) (λ z. leb (natAbs z) 1_000_000) 0 values ≡ accepted tt → length formula ≤ 65_536 → readForList formula K values ≡ readFormula K (fields formula)
         to-read e h = inside e ∙ pass _ _ (le-leb (length formula) 65_536 h)
 
 -- K values that are permitted are tested as the list is, of which they need not be.
 pub vector-is : (formula : List ℕ) (K : ℕ) (values v : List ℤ) → 1 ≤ K → K ≤ 16 → length values % K ≡ 0 → length v ≡ K
-    → All (λ z. T (leb (natAbs z) 1_000_000)) values → All (λ z. T (leb (natAbs z) 1_000_000)) v → tested formula v ≡ listed formula K values
+    → All (λ z. T (leb (natAbs z) 1_000_000)) values → All (λ z. T (leb (natAbs z) 1_000_000)) v → tested formula v ≡ readForList formula K values
 unfolding tested
 vector-is formula K values v low high whole long all each-v =
     pass _ _ (rw (long, le-leb 1 K low, le-leb K 16 high)) ∙ passes _ (each-accepted _ _ 0 each-v)
@@ -98,11 +98,11 @@ vector-is formula K values v low high whole long all each-v =
 
 -- ---- what is written, last 21
 module _ (formula : List ℕ) (K : ℕ) (values : List ℤ) (output : List ℕ) where
-  pub list-refused : {a : Answer} → listed formula K values ≡ refused a → testList formula K values output ≡ record { answer = a; count = 0; output = output }
+  pub list-refused : {a : Answer} → readForList formula K values ≡ refused a → testList formula K values output ≡ record { answer = a; count = 0; output = output }
   unfolding testList written
   list-refused e = ap (λ w. written w output) (bind-refused _ e)
 
-  module _ {I : Formula} (e : listed formula K values ≡ accepted I) where
+  module _ {I : Formula} (e : readForList formula K values ≡ accepted I) where
     abbrev pub bytes : List ℕ
     bytes = truths I (vectors K (length values / K) values)
 

@@ -19,8 +19,8 @@ vectors K (suc n) values = take K values ∷ vectors K n (drop K values)
 
 -- 7 for K, also where the list is not whole vectors of K; 23 at the index in the list; then 1, and the formula read as testing reads it, once for all
 -- vectors and also where there is none.
-unfoldable pub listed : (formula : List ℕ) (K : ℕ) (values : List ℤ) → Result Formula
-listed formula K values = do
+unfoldable pub readForList : (formula : List ℕ) (K : ℕ) (values : List ℤ) → Result Formula
+readForList formula K values = do
   need (answer 7 fileLent 0) (leb 1 K && leb K (edition1 .constants) && eqb (length values % K) 0)
   each (λ i. answer 23 fileLent i) (λ z. leb (natAbs z) (edition1 .values)) 0 values
   need (answer 1 fileProof 0) (leb (length formula) (edition1 .formulaBytes))
@@ -36,4 +36,4 @@ truths I vs = map (λ v. byte (judge I (registers v))) vs
 
 -- Last 21, the output too short: the bytes needed are the number of vectors.
 unfoldable pub testList : (formula : List ℕ) (K : ℕ) (values : List ℤ) (output : List ℕ) → Written
-testList formula K values output = written (listed formula K values >>= λ I. accepted (truths I (vectors K (length values / K) values))) output
+testList formula K values output = written (readForList formula K values >>= λ I. accepted (truths I (vectors K (length values / K) values))) output

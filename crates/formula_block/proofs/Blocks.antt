@@ -21,7 +21,7 @@ use Rattle.formula.specs.Test.{judge, registers}
 use Rattle.formula.specs.TestList.{vectors, byte, truths}
 use Rattle.formula_leaf.specs.Masks.{bitsOf}
 use Rattle.formula_leaf.specs.Leaves.{Block}
-use Rattle.formula_block.specs.Blocks.{BlockJudged, Listed, Fills}
+use Rattle.formula_block.specs.Blocks.{BlockJudged, VectorList, Fills}
 use Rattle.formula_block.specs.declared.block.Masked.{Masked}
 use Rattle.formula.proofs.TestList.{vectors-length, truths-length}
 use Rattle.formula_leaf.proofs.Masks.{block-bytes}
@@ -98,7 +98,7 @@ filling-start s start values K n out =
     let b : 0 * K ≡ 0 = omega arith in
     record { upto = omega arith; long = refl; is = λ I rest w. rw (a, b) }
 
-module _ {values : List ℤ} {K n : ℕ} (l : Listed values K n) {i z : ℕ} (h : z ≤ n - i) (k : i < n) where
+module _ {values : List ℤ} {K n : ℕ} (l : VectorList values K n) {i z : ℕ} (h : z ≤ n - i) (k : i < n) where
   products : i * K + z * K ≤ n * K
   products =
       let a : (i + z) * K ≤ n * K = mul-le-mul {n₁ = i + z} (let b : i + z ≤ n = omega arith in b) (le-refl K) in

@@ -32,7 +32,7 @@ pub record BothJudged (s : List ℕ) (at : ℕ) (values : List ℤ) (K n levels 
       → Marks (compound (connective either) I J) values K n active (r .mask) × (rest ≡ fieldsAt s (r .next))
 
 -- The list's values: n vectors of K in range.
-pub record Listed (values : List ℤ) (K n : ℕ) : Type 0 where
+pub record VectorList (values : List ℤ) (K n : ℕ) : Type 0 where
   pub all : AllWithin values
   pub count : length values ≡ n * K
   pub some : 1 ≤ K

@@ -6,7 +6,7 @@ ghost use Prim.Native.Nat.{_+_, _-_, _^_, _≤_};
 ghost use lib.ListN.{length};
 ghost use lib.Seq.{sets};
 ghost use Rattle.formula_leaf.specs.Masks.{bitsOf};
-ghost use Rattle.formula_block.specs.Blocks.{Listed, Fills};
+ghost use Rattle.formula_block.specs.Blocks.{VectorList, Fills};
 
 // The most vectors of a block: the bit behind the last one still has 64 bits.
 const BLOCK: usize = 63;
@@ -51,7 +51,7 @@ fn block_size(left: usize) -> usize
 
 // The formula at `start`, which has been read, at n vectors of K values.
 pub fn fill(formula: &[u8], start: usize, values: &[i32], k: usize, n: usize, out: &mut [u8])
-    requires { ⌜ Listed (now values) k n ⌝ }
+    requires { ⌜ VectorList (now values) k n ⌝ }
     requires { ⌜ n ≤ length (now out) ⌝ }
     ensures { λ _. ⌜ Fills (now (formula .entry)) start (now (values .entry)) k n (now (out .entry)) (now (out .exit)) ⌝ }
 {

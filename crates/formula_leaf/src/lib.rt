@@ -20,7 +20,7 @@ ghost use Rattle.forms.specs.Flat.{formIn};
 ghost use Rattle.formula.specs.Test.{judge, registers};
 ghost use Rattle.form_value.specs.Quick.{word, _⊕_, _⊗_, wordValue};
 ghost use Rattle.form_value.specs.Registers.{Registers, AllWithin};
-ghost use Rattle.form_value.specs.FormAt.{formAt, Whole, Summand};
+ghost use Rattle.form_value.specs.FormAt.{formAt, Whole, TermAsked};
 ghost use Rattle.formula_leaf.specs.Masks.{Marks};
 ghost use Rattle.formula.specs.TestList.{byte};
 ghost use Rattle.formula_leaf.specs.Leaves.{leafFormula, Proper, VectorAt, Block};
@@ -46,7 +46,7 @@ fn term(numbers: &[i32], i: usize) -> i64
 // Coefficient i times register i, and the total so far.
 fn with_term(numbers: &[i32], vector: &[i32], i: usize, total: i64) -> i64
     requires { ⌜ i < length (now numbers) ⌝ }
-    requires { ⌜ Summand (now vector) i total ⌝ }
+    requires { ⌜ TermAsked (now vector) i total ⌝ }
     ensures is { λ r. ⌜ r ≡ getD (now (numbers .entry)) i (pos 0) *ℤ getD (now (vector .entry)) i (pos 0) +ℤ total ⌝ }
     ensures range { λ r. ⌜ Within 2147483648 (getD (now (numbers .entry)) i (pos 0)) ⌝ }
 {

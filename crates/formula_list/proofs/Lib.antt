@@ -1,3 +1,3 @@
 -- Laws of the stages of testing a list.
-pub mod Stages
+pub mod Phases
 pub mod Permitted

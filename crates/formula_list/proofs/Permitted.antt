@@ -11,7 +11,7 @@ use Rattle.integers.specs.Magnitude.{Within}
 use Rattle.forms.specs.Forms.{All, nil, cons, every}
 use Rattle.answers.proofs.Results.{each-accepted}
 use Rattle.formula_test.specs.Values.{ranged, FirstOutside}
-use Rattle.formula_list.specs.Stages.{permitted}
+use Rattle.formula_list.specs.Phases.{permitted}
 
 each-permitted : (values : List ℤ) → every permitted values ≡ true → All (λ z. T (permitted z)) values
 unfolding every

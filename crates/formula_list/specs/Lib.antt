@@ -1,3 +1,3 @@
 -- Testing a formula at a list of vectors: the contract.
 pub mod Promises
-pub mod Stages
+pub mod Phases

@@ -20,7 +20,7 @@ ghost use lib.IntN.{pos};
 ghost use lib.ListN.{length, getD};
 ghost use Rattle.forms.specs.Edition.{edition1};
 ghost use Rattle.formula_list.specs.Promises.{TestsList};
-ghost use Rattle.formula_list.specs.Stages.{unwritten, ToRead, ReadTo, Known, ReadOnce};
+ghost use Rattle.formula_list.specs.Phases.{unwritten, ToRead, ReadTo, Known, ReadOnce};
 
 mod range;
 

@@ -8,7 +8,7 @@ ghost use lib.IntN.{pos};
 ghost use lib.ListN.{length, getD};
 ghost use Rattle.forms.specs.Forms.{every};
 ghost use Rattle.formula_test.specs.Values.{FirstOutside};
-ghost use Rattle.formula_list.specs.Stages.{permitted};
+ghost use Rattle.formula_list.specs.Phases.{permitted};
 
 const MOST: i32 = VALUES as i32;
 

@@ -30,11 +30,11 @@ use Rattle.proof.specs.Editions.{limitBehind, lengthsFit, limitA, limitB}
 use Rattle.proof.specs.Layout.{ProofFile, Yields}
 use Rattle.proof.specs.Tree.{Tree, Stands, here, past}
 use Rattle.proof.specs.Promises.{Checks}
-use Rattle.proof.proofs.Says.{Says, says-accepted, bind, seq, test, weaken}
+use Rattle.proof.proofs.Satisfies.{Satisfies, says-accepted, bind, seq, test, weaken}
 use Rattle.proof.proofs.Outside.{In, short-in, bundle-in}
 use Rattle.proof.proofs.Tree.{proof-stands}
-use Rattle.guarantee.specs.RefusedIff.{Derives, ShortOutput, LongFormula}
-use Rattle.guarantee.proofs.Long.{edition-amidst}
+use Rattle.guarantee.specs.RefusedIff.{YieldsSome, ShortOutput, LongFormula}
+use Rattle.guarantee.proofs.TooLongFiles.{edition-amidst}
 use Rattle.guarantee.proofs.RefusedIff.{refused-iff}
 
 -- ---- whatever derives a formula derives it with notes
@@ -123,18 +123,18 @@ stands-file (past f s) = stands-file s
 abbrev Lent : Answer → Type 0
 Lent a = a .file ≡ 4 → a .number ≡ 1
 
-unlent : {X : Type 0} {P : X → Type 0} {r : Result X} (file : ℕ) → ¬ (file ≡ 4) → Says (In file) r P → Says Lent r P
+unlent : {X : Type 0} {P : X → Type 0} {r : Result X} (file : ℕ) → ¬ (file ≡ 4) → Satisfies (In file) r P → Satisfies Lent r P
 unlent file n s = weaken s (λ a q e. absurd (n (sym (q .0) ∙ e))) (λ _ u. u)
 
 module _ (A B proof : List ℕ) where
-  interpolant-lent : Says Lent (interpolant newestEdition A B proof) (λ _. Unit {0})
+  interpolant-lent : Satisfies Lent (interpolant newestEdition A B proof) (λ _. Unit {0})
   unfolding interpolant bundles formulaAtMost
   interpolant-lent =
       seq (unlent fileA (λ e. omega arith) (short-in fileA _ A)) (seq (unlent fileB (λ e. omega arith) (short-in fileB _ B)) (seq (unlent fileProof (λ e. omega arith) (short-in fileProof _ proof))
       (bind (bind (unlent fileA (λ e. omega arith) (bundle-in fileA newestEdition none A)) λ a _. bind (unlent fileB (λ e. omega arith) (bundle-in fileB newestEdition (some (a .K)) B)) λ b _. says-accepted {P = λ _. Unit {0}} tt)
       λ (a, b) _. bind {P = λ _. Unit {0}} (record { refusal = λ x e f. absurd (omega (arith, f, stands-file (proof-stands newestEdition a b (fields proof) x e))); value = λ _ _. tt }) λ I _. test _ _ (λ _. refl) λ _. says-accepted tt)))
 
-  written-lent : (output : List ℕ) (r : Result (ℕ × Formula)) → Says Lent r (λ _. Unit {0}) → (a : Answer) → written (r >>= λ (K, I). accepted (formulaFile edition1 K I)) output .answer ≡ a
+  written-lent : (output : List ℕ) (r : Result (ℕ × Formula)) → Satisfies Lent r (λ _. Unit {0}) → (a : Answer) → written (r >>= λ (K, I). accepted (formulaFile edition1 K I)) output .answer ≡ a
       → a .file ≡ 4 → (a .number ≡ 21) ⊎ (a .number ≡ 1)
   unfolding written fit _>>=_
   written-lent output (refused x) s a e f = inr (ap (λ (a : Answer). a .number) (sym e) ∙ s .refusal x refl (ap (λ (a : Answer). a .file) e ∙ f))
@@ -151,7 +151,7 @@ module _ (A B proof : List ℕ) where
 -- ---- so its place is that of the bytes needed
 module _ {A A′ B B′ proof proof′ output left left′ : List ℕ} {r r′ : WriteResult} (nA : Noted A A′) (nB : Noted B B′) (nP : Noted proof proof′)
     (kA : Kept (limitA A B proof) A A′) (kB : Kept (limitB A B proof) B B′) (kP : Kept (edition1 .proofBytes) proof proof′) (c : Checks A B proof output left r) (c′ : Checks A′ B′ proof′ output left′ r′) where
-  derives-noted : Derives A B proof → Derives A′ B′ proof′
+  derives-noted : YieldsSome A B proof → YieldsSome A′ B′ proof′
   derives-noted d = record { K = d .K; formula = d .formula; yields = yields-noted (d .yields) nA nB nP kA kB kP }
 
   pub lent-kept : r .answer .file ≡ 4 → r′ .answer ≡ r .answer

@@ -31,7 +31,7 @@ use Rattle.bundle.proofs.RoundTrips.{writtenAs, written-fits}
 use Rattle.proof.specs.Check.{check}
 use Rattle.proof.specs.Layout.{Yields}
 use Rattle.proof.specs.Tree.{startsAt, Outside}
-use Rattle.proof.proofs.Says.{Says as Tells, says-refused, says-accepted, bind as tell-bind, says-need, test as tests, weaken as weakens}
+use Rattle.proof.proofs.Satisfies.{Satisfies as Tells, says-refused, says-accepted, bind as tell-bind, says-need, test as tests, weaken as weakens}
 use Rattle.proof.proofs.Tree.{amidst, entry-says}
 use Rattle.proof.proofs.Editions.{Starting, starting, not-read}
 use Rattle.proof.specs.Promises.{Checks}
@@ -46,15 +46,15 @@ use Rattle.conversion.proofs.Proofs.{proof-turned-gives, proof-back}
 use Rattle.conversion.proofs.Checked.{bundle-restated, proof-restated, BundleChosen, as-it-is as as-is, turned as is-turned, yields-same, yields-up, yields-down, overflows-down, same-left, overflow-left, Left16}
 use Rattle.conversion.specs.Turnable.{BundleTurnable, ProofTurnable}
 use Rattle.guarantee.specs.Acceptance.{WrittenAs}
-use Rattle.guarantee.specs.LaidOut.{Listed}
+use Rattle.guarantee.specs.LaidOut.{WholeFields}
 use Rattle.guarantee.specs.Soundness.{Meaning, Faithful}
 use Rattle.guarantee.specs.Conversion.{BundleChoice, as-it-is, turned, Direction, kept, ProofChoice, turned-up, turned-down, ConversionPromised}
 use Rattle.guarantee.proofs.Acceptance.{written-from, short-from}
 use Rattle.guarantee.proofs.Soundness.{lists, meaning-is}
 use Rattle.guarantee.proofs.Turnable.{bundle-turnable, turnable-bundle, proof-turnable, turnable-proof, turnable-read, bundle-narrow, proof-narrow}
-use Rattle.guarantee.proofs.Long.{AllAmidst, edition-field-amidst, header-amidst, One, never1, at-most, bundle-one}
+use Rattle.guarantee.proofs.TooLongFiles.{AllAmidst, edition-field-amidst, header-amidst, One, never1, at-most, bundle-one}
 use Rattle.guarantee.proofs.BundleNumbers.{because}
-use Rattle.guarantee.proofs.Shorter.{down-shorter}
+use Rattle.guarantee.proofs.TurnedDown.{down-shorter}
 
 -- ---- what is left of an output
 number-of : {r : WriteResult} {left : List ℕ} {w : Written} → writtenOf r left ≡ w → r .answer .number ≡ w .answer .number
@@ -133,10 +133,10 @@ module _ {to : ℕ} {file output left : List ℕ} {r : WriteResult} where
       let (bytes, t, short) = short-from output (proofTurned to file) (proof-turned-gives to file) (sym (number-of (proof-is d)) ∙ h) in
       (bytes, proof-turnable t, t .short, short)
 
-  listed-bundle : Bytes file → TurnsBundle to file output left r → r .answer .number ≡ 0 → Listed file
+  listed-bundle : Bytes file → TurnsBundle to file output left r → r .answer .number ≡ 0 → WholeFields file
   listed-bundle k d h = let (bytes, t, fits) = is-turnable-bundle d h in lists k (t .states .whole)
 
-  listed-proof : Bytes file → TurnsProof to file output left r → r .answer .number ≡ 0 → Listed file
+  listed-proof : Bytes file → TurnsProof to file output left r → r .answer .number ≡ 0 → WholeFields file
   listed-proof k d h = let (bytes, t, short, fits) = is-turnable-proof d h in lists k (t .states .whole)
 
   turns-bundle : TurnsBundle to file output left r → {bytes : List ℕ} → BundleTurnable to file bytes → length bytes ≤ length output → WrittenAs bytes output left (r .answer) (r .count)

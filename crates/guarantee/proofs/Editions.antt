@@ -40,9 +40,9 @@ use Rattle.proof.specs.Editions.{InFirst, Accepts, limitBehind, lengthsFit, lim
 use Rattle.proof.proofs.Agree.{agrees-refl}
 use Rattle.proof.proofs.Editions.{Starting, starting, field-said, not-read, other-bundle, late-bundle, offices}
 use Rattle.proof.specs.Promises.{Checks}
-use Rattle.guarantee.specs.Editions.{ShortBundles, ReadA, ReadBoth, SaysAt, Other, HasLowest, HasMore, EditionsPromised}
-use Rattle.guarantee.proofs.Long.{check-1, show-1, read-1}
-use Rattle.guarantee.proofs.Wide.{bundle-lowest, bundle-more, write-kind, write-count, wide-1, wide-2}
+use Rattle.guarantee.specs.Editions.{BundlesWithinLimits, ReadA, ReadBoth, SaysAt, Other, HasLowest, HasMore, EditionsPromised}
+use Rattle.guarantee.proofs.TooLongFiles.{check-1, show-1, read-1}
+use Rattle.guarantee.proofs.BundleRefusals.{bundle-lowest, bundle-more, write-kind, write-count, wide-1, wide-2}
 
 -- ---- what a file says, and where
 module _ {file : List ℕ} {n at : ℕ} (s : SaysAt file n at) where
@@ -84,7 +84,7 @@ module _ (A B : List ℕ) where
   unfolding bundles
   other-B r o s = binds _ (A-accepted r) ∙ bind-refused _ (bundle-other fileB (some (r .K)) B o s)
 
-  lowest-A : ShortBundles A B → {K at : ℕ} → HasLowest A K at → bundles newestEdition A B ≡ refused (answer 13 fileA at)
+  lowest-A : BundlesWithinLimits A B → {K at : ℕ} → HasLowest A K at → bundles newestEdition A B ≡ refused (answer 13 fileA at)
   unfolding bundles agrees
   lowest-A s h = bind-refused _ (bundle-lowest fileA none A tt (s .a) h)
 
@@ -118,11 +118,11 @@ module _ {A B proof output left : List ℕ} {r : WriteResult} (c : Checks A B pr
   unfolding interpolant atMost
   long-B k h = refused-so (needs _ _ _ (le→leb (length A) 8_192 k) ∙ fail _ _ (lt-leb (length B) 8_192 h))
 
-  long-proof : ShortBundles A B → 65_536 < length proof → r .answer ≡ answer 1 fileProof 0
+  long-proof : BundlesWithinLimits A B → 65_536 < length proof → r .answer ≡ answer 1 fileProof 0
   unfolding interpolant atMost
   long-proof s h = refused-so (needs _ _ _ (le→leb (length A) 8_192 (s .a)) ∙ needs _ _ _ (le→leb (length B) 8_192 (s .b)) ∙ fail _ _ (lt-leb (length proof) 65_536 h))
 
-  module _ (s : ShortBundles A B) (p : length proof ≤ 65_536) where
+  module _ (s : BundlesWithinLimits A B) (p : length proof ≤ 65_536) where
     bundles-refused : {a : Answer} → bundles newestEdition A B ≡ refused a → r .answer ≡ a
     unfolding interpolant
     bundles-refused e = refused-so (passes _ (short-accepted 8_192 fileA A (s .a)) ∙ passes _ (short-accepted 8_192 fileB B (s .b)) ∙ passes _ (short-accepted 65_536 fileProof proof p) ∙ bind-refused _ e)
@@ -176,7 +176,7 @@ module _ {A B : List ℕ} {line : ℕ} {r : Answer} (c : AnswersShow A B line r)
   unfolding showAnswer shownPart bothRead answerOf atMost
   show-long-B k h = c .is ∙ ap answerOf (bind-refused _ (needs _ _ _ (le→leb (length A) 8_192 k) ∙ fail _ _ (lt-leb (length B) 8_192 h)))
 
-  show-by : ShortBundles A B → {a : Answer} → bundles newestEdition A B ≡ refused a → r ≡ a
+  show-by : BundlesWithinLimits A B → {a : Answer} → bundles newestEdition A B ≡ refused a → r ≡ a
   unfolding showAnswer shownPart answerOf
   show-by s e = c .is ∙ ap answerOf (bind-refused _ (both-read-short newestEdition A B (s .a) (s .b) ∙ e))
 
@@ -232,19 +232,19 @@ behind-else {r = refused a} file g n = refl
 behind-else {r = accepted x} file g n = plain-else file (n x (g .gives x refl))
 
 module _ (A B proof : List ℕ) where
-  lengths-accepted : ShortBundles A B → length proof ≤ 65_536 → lengthsFit A B proof ≡ accepted tt
+  lengths-accepted : BundlesWithinLimits A B → length proof ≤ 65_536 → lengthsFit A B proof ≡ accepted tt
   unfolding lengthsFit
   lengths-accepted s p = passes _ (short-accepted 8_192 fileA A (s .a)) ∙ passes _ (short-accepted 8_192 fileB B (s .b)) ∙ short-accepted 65_536 fileProof proof p
 
-  lengths-give : Gives (lengthsFit A B proof) (λ _. ShortBundles A B × (length proof ≤ 65_536))
+  lengths-give : Gives (lengthsFit A B proof) (λ _. BundlesWithinLimits A B × (length proof ≤ 65_536))
   unfolding lengthsFit
   lengths-give = seq (short-gives 8_192 fileA A) λ a. seq (short-gives 8_192 fileB B) λ b. weaken (short-gives 65_536 fileProof proof) λ _ p. (record { a = a; b = b }, p)
 
-  length-A : ShortBundles A B → length proof ≤ 65_536 → Says A 1 → limitA A B proof ≡ 4_096
+  length-A : BundlesWithinLimits A B → length proof ≤ 65_536 → Says A 1 → limitA A B proof ≡ 4_096
   unfolding limitA
   length-A s p h = behind A (lengths-accepted s p) h
 
-  length-A-else : ¬ (ShortBundles A B × (length proof ≤ 65_536) × Says A 1) → limitA A B proof ≡ 8_192
+  length-A-else : ¬ (BundlesWithinLimits A B × (length proof ≤ 65_536) × Says A 1) → limitA A B proof ≡ 8_192
   unfolding limitA
   length-A-else n = behind-else A lengths-give λ _ (s, p) h. n (s, p, h)
 

@@ -1,6 +1,6 @@
 -- What is promised holds of the operations.
 pub mod Runs
-pub mod Numbers
+pub mod ProofNumbers
 pub mod RunTree
 pub mod Refusals
 pub mod Tree
@@ -17,12 +17,12 @@ pub mod Meant
 pub mod Reduced
 pub mod Rounding
 pub mod Apart
-pub mod Wide
-pub mod Long
+pub mod BundleRefusals
+pub mod TooLongFiles
 pub mod Editions
 pub mod Reordering
 pub mod Turnable
-pub mod Shorter
+pub mod TurnedDown
 pub mod Conversion
 pub mod Quick
 pub mod TestList

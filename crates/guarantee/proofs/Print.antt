@@ -15,7 +15,7 @@ use Rattle.fields.specs.Fields.{fields}
 use Rattle.formula.specs.Formula.{readFormula}
 use Rattle.printing.specs.Translation.{smt}
 use Rattle.printing.specs.Words.{worded}
-use Rattle.printing.specs.Dialects.{shown, ReadsAs, MeansAs}
+use Rattle.printing.specs.Dialects.{formulaText, ReadsAs, MeansAs}
 use Rattle.printing.specs.Print.{printFormula, printed}
 use Rattle.printing.specs.Promises.{PrintsFile}
 use Rattle.printing.proofs.Named.{names-only, words-names-only}
@@ -42,7 +42,7 @@ module _ (wording : Bool) (file output left : List ℕ) (r : WriteResult) (p : P
       × (length output < length (textOf wording I) → r .answer ≡ answer 21 fileLent (length (textOf wording I)))
   unfolding printFormula
   read-prints K I h e =
-      let w : writtenOf r left ≡ written (accepted (shown wording false I)) output = p .is ∙ ap (λ (w : Result (List ℕ)). written w output) (printed-as wording K file I h e) in
+      let w : writtenOf r left ≡ written (accepted (formulaText wording false I)) output = p .is ∙ ap (λ (w : Result (List ℕ)). written w output) (printed-as wording K file I h e) in
       (written-as w, printer .room wording file output left r p h K I e .1)
 
   states-prints : (x : Printable file)

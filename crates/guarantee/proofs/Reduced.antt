@@ -17,7 +17,7 @@ use Rattle.formula.specs.Formula.{formulaFile, Encodable}
 use Rattle.formula.specs.Test.{tested, testFormula}
 use Rattle.formula.proofs.RoundTrip.{read-other}
 use Rattle.formula_test.specs.Promises.{asTested}
-use Rattle.proof.proofs.Alike.{tested-alike, file-length}
+use Rattle.proof.proofs.ReducedTests.{tested-alike, file-length}
 use Rattle.guarantee.specs.Reduced.{asItStood, roundedAsItStood, InReducedForm}
 use Rattle.guarantee.proofs.Acceptance.{is-checkable, leaves}
 

@@ -31,7 +31,7 @@ use Rattle.bundle.proofs.Writable.{encodeBundle-gives}
 use Rattle.bundle_show.specs.Promises.{partBytes, behind, partPlace}
 use Rattle.formula.specs.Formula.{FormulaTag, pair, atom, stride, formulaOf, formulaField, twoParts, formulaWithin, readFormula, formulaFile}
 use Rattle.formula.specs.Test.{Tested as Outcome, tested, judged, testFormula}
-use Rattle.formula.specs.TestList.{vectors, listed, truths, testList}
+use Rattle.formula.specs.TestList.{vectors, readForList, truths, testList}
 use Rattle.printing.specs.Print.{printFormula}
 use Rattle.printing.proofs.Accepted.{printed-gives}
 use Rattle.proof.specs.Check.{interpolant, checkBy, check}
@@ -233,7 +233,7 @@ unfolding testFormula
 test-told formula values = judged-told values (tested formula values) (tested-numbered formula values)
 
 pub list-told : (formula : List ℕ) (K : ℕ) (values : List ℤ) (output : List ℕ) → Unwritten output (testList formula K values output)
-unfolding testList listed
+unfolding testList readForList
 list-told formula K values output =
     written-told _ (then-numbered _ (λ I. truths I (vectors K (length values / K) values)) (by-number (test _ _ tt λ _. seq (each-gives _ _ (λ i. tt) 0 values) λ _. test _ _ tt λ _. reading-gives K (fields formula)))) output
 

@@ -33,12 +33,12 @@ use Rattle.formula.specs.Formula.{formulaFile}
 use Rattle.proof.specs.Check.{formulaAtMost, interpolant, checkBy, check}
 use Rattle.proof.specs.Layout.{Yields, Certifies}
 use Rattle.proof.specs.Promises.{Checks}
-use Rattle.proof.proofs.Says.{Says, says-accepted, bind, seq, test, weaken, each-says}
+use Rattle.proof.proofs.Satisfies.{Satisfies, says-accepted, bind, seq, test, weaken, each-says}
 use Rattle.proof.proofs.Agree.{proof-gives, yielded, interpolant-iff}
 use Rattle.guarantee.specs.Acceptance.{bundleFile}
-use Rattle.guarantee.specs.RefusedIff.{Derives, bytesNeeded, ShortOutput, LongFormula, ShortRead, WrongK, ManyKinds, ShortWrite, RefusedIff}
+use Rattle.guarantee.specs.RefusedIff.{YieldsSome, bytesNeeded, ShortOutput, LongFormula, ShortRead, WrongK, ManyKinds, ShortWrite, RefusedIff}
 use Rattle.guarantee.proofs.Acceptance.{acceptance-holds, of-editions, edition-first, edition-last, held-two, held-four, all-held}
-use Rattle.guarantee.proofs.Long.{above-1, proof-amidst}
+use Rattle.guarantee.proofs.TooLongFiles.{above-1, proof-amidst}
 use Rattle.guarantee.proofs.BundleNumbers.{up-to-20, because, Plain, short-plain, bundle-plain}
 
 -- ---- check
@@ -47,17 +47,17 @@ module _ (A B proof : List ℕ) where
   abbrev Late : Answer → Type 0
   Late a = (¬ (a .number ≡ 21)) × (a .number ≡ 1 → a .file ≡ 4 → LongFormula A B proof)
 
-  late : {X : Type 0} {P : X → Type 0} {r : Result X} (file : ℕ) → ¬ (file ≡ 4) → Says (Plain file) r P → Says Late r P
+  late : {X : Type 0} {P : X → Type 0} {r : Result X} (file : ℕ) → ¬ (file ≡ 4) → Satisfies (Plain file) r P → Satisfies Late r P
   late file n s = weaken s (λ a q. (λ e. omega (arith, q .0), λ e f. absurd (n (sym (q .1 e) ∙ f)))) (λ _ u. u)
 
-  bundles-late : Says Late (bundles newestEdition A B) (BothLaid newestEdition A B)
+  bundles-late : Satisfies Late (bundles newestEdition A B) (BothLaid newestEdition A B)
   unfolding bundles
   bundles-late = record {
     refusal = (bind (late fileA (λ e. omega arith) (bundle-plain fileA none A)) λ a _. bind (late fileB (λ e. omega arith) (bundle-plain fileB (some (a .K)) B)) λ b _. says-accepted {P = λ _. Unit {0}} tt) .refusal;
     value = bundles-give newestEdition A B .gives;
   }
 
-  interpolant-late : Says Late (interpolant newestEdition A B proof) (λ _. Unit {0})
+  interpolant-late : Satisfies Late (interpolant newestEdition A B proof) (λ _. Unit {0})
   unfolding interpolant formulaAtMost atMost
   interpolant-late =
       test _ _ (λ e. omega arith, λ e f. absurd (omega arith)) λ _. test _ _ (λ e. omega arith, λ e f. absurd (omega arith)) λ _. test _ _ (λ e. omega arith, λ e f. absurd (omega arith)) λ s.
@@ -71,7 +71,7 @@ module _ (A B proof : List ℕ) where
         },
       )) λ _. says-accepted tt
 
-  abbrev derives-by : {K : ℕ} {I : Formula} → Yields newestEdition A B proof K I → Derives A B proof
+  abbrev derives-by : {K : ℕ} {I : Formula} → Yields newestEdition A B proof K I → YieldsSome A B proof
   derives-by {K} {I} y = record { K = K; formula = I; yields = y }
 
   -- what is left, by the bytes or the refusal
@@ -103,7 +103,7 @@ module _ {A B proof output left : List ℕ} {r : WriteResult} (c : Checks A B pr
   by-1 : (l : LongFormula A B proof) → r .answer ≡ answer 1 4 (bytesNeeded (l .derives))
   by-1 l = acceptance-holds .too-long A B proof output left r c (l .derives .K) (l .derives .formula) (l .derives .yields) (l .long)
 
-  by-derives : (d : Derives A B proof) → (r .answer .number ≡ 0) ⊎ (r .answer .number ≡ 21) ⊎ ((r .answer .number ≡ 1) × (r .answer .file ≡ 4))
+  by-derives : (d : YieldsSome A B proof) → (r .answer .number ≡ 0) ⊎ (r .answer .number ≡ 21) ⊎ ((r .answer .number ≡ 1) × (r .answer .file ≡ 4))
   by-derives d = go (leb (bytesNeeded d) 65_536) refl (leb (bytesNeeded d) (length output)) refl
     where
       go : (b : Bool) → leb (bytesNeeded d) 65_536 ≡ b → (t : Bool) → leb (bytesNeeded d) (length output) ≡ t
@@ -114,14 +114,14 @@ module _ {A B proof output left : List ℕ} {r : WriteResult} (c : Checks A B pr
       go true p false q = inr (inl (ap (λ (a : Answer). a .number) (by-21 (record { derives = d; within = leb-true _ _ p; short = leb-false _ _ q }))))
       go true p true q = inl (acceptance-holds .accepted-iff A B proof output left r c .1 (record { K = d .K; formula = d .formula; certified = record { yields = d .yields; short = leb-true _ _ p }; fits = leb-true _ _ q }))
 
-  derives-from : (r .answer .number ≡ 0) ⊎ (r .answer .number ≡ 21) ⊎ ((r .answer .number ≡ 1) × (r .answer .file ≡ 4)) → Derives A B proof
+  derives-from : (r .answer .number ≡ 0) ⊎ (r .answer .number ≡ 21) ⊎ ((r .answer .number ≡ 1) × (r .answer .file ≡ 4)) → YieldsSome A B proof
   derives-from (inl e) = let k = acceptance-holds .accepted-iff A B proof output left r c .0 e in record { K = k .K; formula = k .formula; yields = k .certified .yields }
   derives-from (inr (inl e)) = told .0 e .derives
   derives-from (inr (inr (e, f))) = told .1 e f .derives
 
 -- ---- read
 module _ (file kinds : List ℕ) (numbers : List ℤ) where
-  stored-21 : (r : Result Bundle) → Says (Plain fileA) r (Laid newestEdition none file) → stored kinds numbers r .answer .number ≡ 21 → ShortRead file kinds numbers
+  stored-21 : (r : Result Bundle) → Satisfies (Plain fileA) r (Laid newestEdition none file) → stored kinds numbers r .answer .number ≡ 21 → ShortRead file kinds numbers
   unfolding stored store unread
   stored-21 (refused a) s e = absurd (omega (arith, s .refusal a refl .0))
   stored-21 (accepted b) s e = go (leb (length (kindsOf (b .constraints))) (length kinds)) refl (leb (length (numbersOf (b .constraints))) (length numbers)) refl e
@@ -180,7 +180,7 @@ module _ (n K : ℕ) (kinds : List ℕ) (numbers : List ℤ) where
   no-why : {m : ℕ} → ¬ (m ≡ 7) → ¬ (m ≡ 8) → ¬ (m ≡ 21) → WhyBy m
   no-why p q r = (λ e. absurd (p e), λ e. absurd (q e), r)
 
-  bytes-why : Says Why (encodeBundle newestEdition n K kinds numbers) (λ _. Unit {0})
+  bytes-why : Satisfies Why (encodeBundle newestEdition n K kinds numbers) (λ _. Unit {0})
   unfolding encodeBundle
   bytes-why = because _ _ (λ _. no-why (λ e. omega arith) (λ e. omega arith) (λ e. omega arith)) λ t.
       let (g, k) = and-yes (leb 1 n) (leb n 2) (true-T t) in

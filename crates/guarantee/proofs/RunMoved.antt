@@ -18,7 +18,7 @@ use Rattle.fields.specs.Fields.{Field, Fields, ends, cut, _▸_, Item}
 use Rattle.fields.proofs.Moved.{moveField, move, moveAnswer, Moved, Known, computed, need-moved, known-moved, bind-moved, header-moved}
 use Rattle.proof.proofs.Moved.{entry-moved, checkProof-moved}
 use Rattle.chains.specs.Runs.{Run, upTo, beyond}
-use Rattle.run.specs.Uniform.{withNumber, Walked, Branches, Walker, FollowingWalk, walkBranches, firstAndThird, allAlike, walkOpened, walkClosed, walkRow, walkEntry, walkEntries, walkBranch, uniform}
+use Rattle.run.specs.Uniform.{withNumber, Walked, WalkedBranches, Walker, FollowingWalk, walkBranches, firstAndThird, allAlike, walkOpened, walkClosed, walkRow, walkEntry, walkEntries, walkBranch, uniform}
 use Rattle.run.specs.Run.{side, claimRefused, checkCut, both, checkCuts, checkRun}
 
 module _ (φ : ℕ → ℕ) where
@@ -26,7 +26,7 @@ module _ (φ : ℕ → ℕ) where
   abbrev moveWalked : Walked → Walked
   moveWalked w = record { own = w .own; rows = w .rows; unlike = moveAnswer φ (w .unlike); after = move φ (w .after) }
 
-  abbrev moveBranches : Branches → Branches
+  abbrev moveBranches : WalkedBranches → WalkedBranches
   moveBranches w = record { owns = w .owns; rows = w .rows; unlike = moveAnswer φ (w .unlike); after = move φ (w .after) }
 
   -- A walker that moves with its fields.

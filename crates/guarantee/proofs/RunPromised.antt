@@ -27,10 +27,10 @@ use Rattle.run.specs.Uniform.{withNumber}
 use Rattle.run.specs.Run.{mostConstraints, firstStage, parts, constantsOf, runOf, side, checkCut, checkRun, guardFiles, GuardsWritten, unwritten, fitGuards, writtenGuards, guardsBy, guards}
 use Rattle.run.specs.Layout.{guardAt, StageFile, RunYields}
 use Rattle.run.specs.Refused.{CutRefused, Earliest, RunRefused, every-cut, some-cut, differing, of-run}
-use Rattle.run.specs.Ordered.{Short}
+use Rattle.run.specs.Ordered.{RunWithinLimits}
 use Rattle.run.proofs.OneTable.{run-gives}
 use Rattle.run.proofs.Refused.{refused-as-check}
-use Rattle.guarantee.specs.LaidOut.{Listed}
+use Rattle.guarantee.specs.LaidOut.{WholeFields}
 use Rattle.guarantee.specs.RunTree.{StandsInRun, as-check, claim, unlike}
 use Rattle.guarantee.specs.Runs.{RunPromised}
 use Rattle.guarantee.proofs.AtEnd.{stands-file}
@@ -76,7 +76,7 @@ all-part zero h = (nil, h)
 all-part (suc n) nil = (nil, nil)
 all-part (suc n) (cons x xs) = let (a, b) = all-part n xs in (cons x a, b)
 
-all-listed : {K : ℕ} (lengths buffer : List ℕ) {Ts : Run} → Bytes buffer → Each (StageFile newestEdition K) (parts lengths buffer) Ts → All Listed (parts lengths buffer)
+all-listed : {K : ℕ} (lengths buffer : List ℕ) {Ts : Run} → Bytes buffer → Each (StageFile newestEdition K) (parts lengths buffer) Ts → All WholeFields (parts lengths buffer)
 unfolding parts
 all-listed [] buffer b nil-each = nil
 all-listed (n ∷ ns) buffer b (cons-each s ss) = let (a, r) = all-part n b in cons (lists a (s .states .whole)) (all-listed ns (drop n buffer) r ss)
@@ -88,7 +88,7 @@ stands-in-proof (as-check n m s) = stands-file s
 stands-in-proof (claim n s) = stands-file s
 stands-in-proof (unlike n s) = stands-file s
 
-module _ (buffer lengths proof output sizes : List ℕ) (K : ℕ) (Ts : Run) (short : Short lengths buffer proof) (stages : Each (StageFile newestEdition K) (parts lengths buffer) Ts)
+module _ (buffer lengths proof output sizes : List ℕ) (K : ℕ) (Ts : Run) (short : RunWithinLimits lengths buffer proof) (stages : Each (StageFile newestEdition K) (parts lengths buffer) Ts)
     (few : length (joined Ts) ≤ mostConstraints) where
   abbrev finishing : (Is : List Formula) → Result (List (List ℕ))
   finishing Is = need (answer 1 fileLent (length (joined (map (formulaFile edition1 K) Is)))) (every (λ file. leb (length file) (edition1 .formulaBytes)) (map (formulaFile edition1 K) Is)) >> accepted (map (formulaFile edition1 K) Is)

@@ -18,44 +18,44 @@ use Rattle.fields.specs.Fields.{fields}
 use Rattle.bundle.specs.Bundle.{atMost}
 use Rattle.bundle.specs.Layout.{Each}
 use Rattle.formula.specs.Formula.{formulaFile}
-use Rattle.proof.proofs.Says.{Says, says-refused, says-accepted, bind, weaken}
+use Rattle.proof.proofs.Satisfies.{Satisfies, says-refused, says-accepted, bind, weaken}
 use Rattle.chains.specs.Runs.{Run, joined, upTo, beyond}
 use Rattle.run.specs.Uniform.{withNumber}
 use Rattle.run.specs.Run.{mostStages, mostConstraints, firstStage, total, parts, parted, stagesShort, readStages, constantsOf, runOf, side, checkRun, guardFiles, unwritten, fitGuards, writtenGuards, guardsBy, guards}
 use Rattle.run.specs.Layout.{guardAt, StageFile, RunYields}
 use Rattle.run.specs.Refused.{RunRefused, every-cut, some-cut, differing, of-run}
-use Rattle.run.specs.Ordered.{Parted, Short}
+use Rattle.run.specs.Ordered.{Parted, RunWithinLimits}
 use Rattle.run.proofs.Agree.{all-stages}
 use Rattle.run.proofs.OneTable.{RunAs, run-gives}
 use Rattle.run.proofs.Refused.{refused-as-check}
 use Rattle.guarantee.specs.Runs.{ManyConstraints, LongGuard}
-use Rattle.guarantee.proofs.Long.{above-1, proof-amidst}
+use Rattle.guarantee.proofs.TooLongFiles.{above-1, proof-amidst}
 use Rattle.guarantee.proofs.BundleNumbers.{up-to-20, because, bundle-plain}
 
 -- ---- the stages, the proof: neither 25 nor 26, and 1 not for what is lent
 abbrev Plain : Answer → Type 0
 Plain a = (¬ (a .number ≡ 25)) × (¬ (a .number ≡ 26)) × (a .number ≡ 1 → ¬ (a .file ≡ 4))
 
-short-run : (limit file : ℕ) (bytes : List ℕ) → ¬ (file ≡ 4) → Says Plain (atMost limit file bytes) (λ _. length bytes ≤ limit)
+short-run : (limit file : ℕ) (bytes : List ℕ) → ¬ (file ≡ 4) → Satisfies Plain (atMost limit file bytes) (λ _. length bytes ≤ limit)
 unfolding atMost need
 short-run limit file bytes n = go (leb (length bytes) limit) refl
   where
-    go : (b : Bool) → leb (length bytes) limit ≡ b → Says Plain (need (answer 1 file 0) b) (λ _. length bytes ≤ limit)
+    go : (b : Bool) → leb (length bytes) limit ≡ b → Satisfies Plain (need (answer 1 file 0) b) (λ _. length bytes ≤ limit)
     go true e = says-accepted (leb-true _ _ e)
     go false e = says-refused (λ q. omega arith, λ q. omega arith, λ _. n)
 
 -- a step without a value, and what its acceptance tells
-then-says : {Q : Answer → Type 0} {Y : Type 0} {P : Type 0} {R : Y → Type 0} {m : Result (Unit {0})} {r : Result Y} → Says Q m (λ _. P) → (P → Says Q r R) → Says Q (m >> r) R
+then-says : {Q : Answer → Type 0} {Y : Type 0} {P : Type 0} {R : Y → Type 0} {m : Result (Unit {0})} {r : Result Y} → Satisfies Q m (λ _. P) → (P → Satisfies Q r R) → Satisfies Q (m >> r) R
 unfolding _>>_
 then-says {m = refused a} h k = says-refused (h .refusal a refl)
 then-says {m = accepted x} h k = k (h .value x refl)
 
-stages-short : (file : ℕ) → 5 ≤ file → (Ts : List (List ℕ)) → Says Plain (stagesShort newestEdition file Ts) (λ _. All (λ T. length T ≤ 8_192) Ts)
+stages-short : (file : ℕ) → 5 ≤ file → (Ts : List (List ℕ)) → Satisfies Plain (stagesShort newestEdition file Ts) (λ _. All (λ T. length T ≤ 8_192) Ts)
 unfolding stagesShort
 stages-short file l [] = says-accepted nil
 stages-short file l (T ∷ Ts) = then-says (short-run 8_192 file T (λ q. omega arith)) λ s. weaken (stages-short (suc file) (omega arith) Ts) (λ a q. q) (λ _ h. cons s h)
 
-stages-plain : (file : ℕ) → 5 ≤ file → (given : Option ℕ) (Ts : List (List ℕ)) → Says Plain (readStages newestEdition file given Ts) (λ _. Unit {0})
+stages-plain : (file : ℕ) → 5 ≤ file → (given : Option ℕ) (Ts : List (List ℕ)) → Satisfies Plain (readStages newestEdition file given Ts) (λ _. Unit {0})
 unfolding readStages
 stages-plain file l given [] = says-accepted tt
 stages-plain file l given (T ∷ Ts) = bind (weaken (bundle-plain file given T) (λ a q. (λ e. omega (arith, q .0), λ e. omega (arith, q .0), λ e f. omega (arith, q .1 e))) (λ _ u. u)) λ t _.
@@ -113,22 +113,22 @@ module _ (buffer lengths proof : List ℕ) where
   abbrev pub Why : Answer → Type 0
   Why a = (a .number ≡ 25 → ¬ (Parted lengths buffer)) × (a .number ≡ 26 → ManyConstraints buffer lengths proof) × (a .number ≡ 1 → a .file ≡ 4 → LongGuard buffer lengths proof)
 
-  plain : {X : Type 0} {P : X → Type 0} {r : Result X} → Says Plain r P → Says Why r P
+  plain : {X : Type 0} {P : X → Type 0} {r : Result X} → Satisfies Plain r P → Satisfies Why r P
   plain s = weaken s (λ a (p, q, l). (λ e. absurd (p e), λ e. absurd (q e), λ e f. absurd (l e f))) (λ _ u. u)
 
-  stages-why : Says Why (readStages newestEdition firstStage none (parts lengths buffer)) (λ ts. Each (StageFile newestEdition (constantsOf ts)) (parts lengths buffer) (runOf ts))
+  stages-why : Satisfies Why (readStages newestEdition firstStage none (parts lengths buffer)) (λ ts. Each (StageFile newestEdition (constantsOf ts)) (parts lengths buffer) (runOf ts))
   stages-why = record {
     refusal = plain (stages-plain firstStage (omega arith) none (parts lengths buffer)) .refusal;
     value = all-stages newestEdition firstStage (parts lengths buffer) .gives;
   }
 
-  run-why : (K : ℕ) (Ts : Run) → Says Why (checkRun newestEdition K Ts (fields proof)) (RunAs newestEdition K Ts (fields proof))
+  run-why : (K : ℕ) (Ts : Run) → Satisfies Why (checkRun newestEdition K Ts (fields proof)) (RunAs newestEdition K Ts (fields proof))
   run-why K Ts = record {
     refusal = λ a e. let (p, q, l) = run-plain K Ts proof a (refused-as-check .as-check newestEdition K Ts proof a e .0) in (λ e. absurd (p e), λ e. absurd (q e), λ e f. absurd (l e f));
     value = run-gives newestEdition K Ts (fields proof) .gives;
   }
 
-  pub yields : Short lengths buffer proof → (K : ℕ) (Ts : Run) → Each (StageFile newestEdition K) (parts lengths buffer) Ts → length (joined Ts) ≤ mostConstraints
+  pub yields : RunWithinLimits lengths buffer proof → (K : ℕ) (Ts : Run) → Each (StageFile newestEdition K) (parts lengths buffer) Ts → length (joined Ts) ≤ mostConstraints
       → (Is : List Formula) → RunAs newestEdition K Ts (fields proof) Is → RunYields newestEdition buffer lengths proof K Ts Is
   yields (p, _, s) K Ts h f Is r = record {
     least = p .0;
@@ -143,13 +143,13 @@ module _ (buffer lengths proof : List ℕ) where
     guards = r .guards;
   }
 
-  files-why : Says Why (guardFiles newestEdition buffer lengths proof) (λ _. Unit {0})
+  files-why : Satisfies Why (guardFiles newestEdition buffer lengths proof) (λ _. Unit {0})
   unfolding guardFiles
   files-why =
       because _ _ (λ f. (λ _ h. subst T f (is-parted lengths buffer h), λ e. absurd (omega arith), λ e. absurd (omega arith))) λ p.
       then-says (plain (stages-short firstStage (omega arith) (parts lengths buffer))) λ s.
       then-says (plain (short-run 65_536 fileProof proof (λ q. omega arith))) λ l.
-      let short : Short lengths buffer proof = (parted-is lengths buffer (rw p tt), s, l) in
+      let short : RunWithinLimits lengths buffer proof = (parted-is lengths buffer (rw p tt), s, l) in
       bind stages-why λ ts h.
       because _ _ (λ f. (λ e. absurd (omega arith), λ _. record { K = constantsOf ts; Ts = runOf ts; short = short; stages = h; many = omega (arith, leb-false (length (joined (runOf ts))) mostConstraints f) }, λ e. absurd (omega arith))) λ few.
       bind (run-why (constantsOf ts) (runOf ts)) λ Is r.

@@ -17,12 +17,12 @@ use Rattle.bundle.specs.Bundle.{atMost}
 use Rattle.proof.proofs.Outside.{In, short-in, bundle-in}
 use Rattle.proof.specs.Entries.{entryTagged}
 use Rattle.proof.specs.Tree.{OpenStep, openStep, Tree, tree, afterClose, treeBehind, innermost, startsAt, Stands}
-use Rattle.proof.proofs.Says.{Says, says-refused, says-accepted, bind, seq, says-need, test, weaken}
+use Rattle.proof.proofs.Satisfies.{Satisfies, says-refused, says-accepted, bind, seq, says-need, test, weaken}
 use Rattle.proof.proofs.Tree.{amidst, Leads, stays, on, stands-on, leads-on, at-front, after-last, after-other, entryBehind, field-behind, header-says, entry-says, proof-stands}
 use Rattle.chains.specs.Runs.{Run}
-use Rattle.run.specs.Uniform.{withNumber, Walked, Branches, Walker, FollowingWalk, walkBranches, firstAndThird, allAlike, walkOpened, walkClosed, walkRow, walkEntry, walkEntries, walkBranch, uniform}
+use Rattle.run.specs.Uniform.{withNumber, Walked, WalkedBranches, Walker, FollowingWalk, walkBranches, firstAndThird, allAlike, walkOpened, walkClosed, walkRow, walkEntry, walkEntries, walkBranch, uniform}
 use Rattle.run.specs.Run.{firstStage, parts, stagesShort, readStages, constantsOf, runOf, claimRefused, checkCut, both, checkCuts, checkRun, guardFiles, GuardsWritten, unwritten, fitGuards, writtenGuards, guardsBy, guards}
-use Rattle.guarantee.proofs.Numbers.{Numbered, header-numbered, proof-numbered}
+use Rattle.guarantee.proofs.ProofNumbers.{Numbered, header-numbered, proof-numbered}
 use Rattle.guarantee.specs.RunTree.{StandsInRun, as-check, claim, unlike, RunStands, outside, amid}
 
 ours-on : {t t′ : Tree} {fs fs′ : Fields} {a : Answer} → Leads t fs t′ fs′ → StandsInRun t′ fs′ a → StandsInRun t fs a
@@ -40,7 +40,7 @@ not-28 n t e = subst (λ (m : ℕ). T (amidst m)) e t
 amidst-check : {t : Tree} {fs : Fields} (a : Answer) → T (amidst (a .number)) → Stands t fs a → StandsInRun t fs a
 amidst-check a n s = as-check (not-27 (a .number) n) (not-28 (a .number) n) s
 
-both-say : {t : Tree} {fs : Fields} {X : Type 0} {r : Result X} {P : X → Type 0} → Numbered r → Says (Stands t fs) r P → Says (StandsInRun t fs) r P
+both-say : {t : Tree} {fs : Fields} {X : Type 0} {r : Result X} {P : X → Type 0} → Numbered r → Satisfies (Stands t fs) r P → Satisfies (StandsInRun t fs) r P
 both-say n s = record { refusal = λ a e. amidst-check a (n .refusal a e) (s .refusal a e); value = s .value }
 
 -- 28 at a closing row of fs
@@ -60,15 +60,15 @@ led-on : {t t′ : Tree} {close : List OpenStep} {fs fs′ : Fields} {rows : ℕ
 led-on l s = record { leads = leads-on l (s .leads); last = last-on l (s .last) }
 
 abbrev Through : Tree → (close : List OpenStep) → Fields → Result Walked → Type 0
-Through t close fs r = Says (StandsInRun t fs) r (λ w. Led t close fs (w .rows) (w .after) (w .unlike))
+Through t close fs r = Satisfies (StandsInRun t fs) r (λ w. Led t close fs (w .rows) (w .after) (w .unlike))
 
-abbrev AllThrough : Tree → (close : List OpenStep) → Fields → Result Branches → Type 0
-AllThrough t close fs r = Says (StandsInRun t fs) r (λ ws. Led t close fs (ws .rows) (ws .after) (ws .unlike))
+abbrev AllThrough : Tree → (close : List OpenStep) → Fields → Result WalkedBranches → Type 0
+AllThrough t close fs r = Satisfies (StandsInRun t fs) r (λ ws. Led t close fs (ws .rows) (ws .after) (ws .unlike))
 
 through-on : {t t′ : Tree} {close : List OpenStep} {fs fs′ : Fields} {r : Result Walked} → Leads t fs t′ fs′ → Through t′ close fs′ r → Through t close fs r
 through-on l s = weaken s (λ a o. ours-on l o) (λ w i. led-on l i)
 
-all-on : {t t′ : Tree} {close : List OpenStep} {fs fs′ : Fields} {r : Result Branches} → Leads t fs t′ fs′ → AllThrough t′ close fs′ r → AllThrough t close fs r
+all-on : {t t′ : Tree} {close : List OpenStep} {fs fs′ : Fields} {r : Result WalkedBranches} → Leads t fs t′ fs′ → AllThrough t′ close fs′ r → AllThrough t close fs r
 all-on l s = weaken s (λ a o. ours-on l o) (λ w i. led-on l i)
 
 abbrev Walks : Walker → Type 0
@@ -89,7 +89,7 @@ data Deep : Option Walker → Type 0 where
   shut : Deep none
   opens : {walker : Walker} → Walks walker → Deep (some walker)
 
-found-walks : {Q : Answer → Type 0} (a : Answer) {deeper : Option Walker} → Deep deeper → Q a → Says Q (found a deeper) Walks
+found-walks : {Q : Answer → Type 0} (a : Answer) {deeper : Option Walker} → Deep deeper → Q a → Satisfies Q (found a deeper) Walks
 unfolding found
 found-walks a shut h = says-refused h
 found-walks a (opens d) h = says-accepted d
@@ -141,7 +141,7 @@ unfolding walkBranch
 walk-through e two K zero ps rows fs = entries-through e two K none shut ps fs rows false
 walk-through e two K (suc room) ps rows fs = entries-through e two K (some (walkBranch e K room)) (opens (walk-through e two K room)) ps fs rows false
 
-pub uniform-stands : (newest K : ℕ) (fs : Fields) → Says (StandsInRun (tree 0 []) fs) (uniform newest K fs) (λ _. Unit {0})
+pub uniform-stands : (newest K : ℕ) (fs : Fields) → Satisfies (StandsInRun (tree 0 []) fs) (uniform newest K fs) (λ _. Unit {0})
 unfolding uniform innermost afterClose
 uniform-stands newest K fs = bind (both-say (header-numbered newest (some K) fs) (header-says newest (some K) fs)) λ h l.
     weaken (walk-through (edition (h .number)) refl (h .K) (edition (h .number) .branchings) [] 0 (h .rest)) (λ a o. ours-on l o) (λ _ _. tt)
@@ -159,7 +159,7 @@ claimed : {t : Tree} {fs : Fields} (x : Answer) (c : Bool) → eqb (x .number) 1
 claimed {t} {fs} x true q n s = claim (number-27 x) (subst (Stands t fs) (withNumber-14 x (eqb→eq (x .number) 14 (rw q tt))) s)
 claimed x false q n s = amidst-check x n s
 
-claim-stands : {X : Type 0} {t : Tree} {fs : Fields} (r : Result X) → Numbered r → ((a : Answer) → r ≡ refused a → Stands t fs a) → Says (StandsInRun t fs) (claimRefused r) (λ _. Unit {0})
+claim-stands : {X : Type 0} {t : Tree} {fs : Fields} (r : Result X) → Numbered r → ((a : Answer) → r ≡ refused a → Stands t fs a) → Satisfies (StandsInRun t fs) (claimRefused r) (λ _. Unit {0})
 unfolding claimRefused
 claim-stands (refused x) n s = says-refused (claimed x (eqb (x .number) 14) refl (n .refusal x refl) (s x refl))
 claim-stands (accepted x) n s = says-accepted tt
@@ -168,7 +168,7 @@ either-of : (Q : Answer → Type 0) (c : Bool) (x y : Answer) → Q x → Q y �
 either-of Q true x y p q = p
 either-of Q false x y p q = q
 
-both-says : {Q : Answer → Type 0} {X Y : Type 0} (r : Result X) (s : Result Y) → Says Q r (λ _. Unit {0}) → Says Q s (λ _. Unit {0}) → Says Q (both r s) (λ _. Unit {0})
+both-says : {Q : Answer → Type 0} {X Y : Type 0} (r : Result X) (s : Result Y) → Satisfies Q r (λ _. Unit {0}) → Satisfies Q s (λ _. Unit {0}) → Satisfies Q (both r s) (λ _. Unit {0})
 unfolding both
 both-says {Q} (refused x) (refused y) p q = says-refused (either-of Q (leb (x .place) (y .place)) x y (p .refusal x refl) (q .refusal y refl))
 both-says (refused x) (accepted y) p q = says-refused (p .refusal x refl)
@@ -176,25 +176,25 @@ both-says (accepted x) (refused y) p q = says-refused (q .refusal y refl)
 both-says (accepted x) (accepted y) p q = says-accepted tt
 
 module _ (newest K : ℕ) (Ts : Run) (fs : Fields) where
-  cut-stands : (i : ℕ) → Says (StandsInRun (tree 0 []) fs) (checkCut newest K Ts fs i) (λ _. Unit {0})
+  cut-stands : (i : ℕ) → Satisfies (StandsInRun (tree 0 []) fs) (checkCut newest K Ts fs i) (λ _. Unit {0})
   unfolding checkCut
   cut-stands i = claim-stands _ (proof-numbered newest _ _ fs) (proof-stands newest _ _ fs)
 
-  cuts-stand : (i n : ℕ) → Says (StandsInRun (tree 0 []) fs) (checkCuts newest K Ts fs i n) (λ _. Unit {0})
+  cuts-stand : (i n : ℕ) → Satisfies (StandsInRun (tree 0 []) fs) (checkCuts newest K Ts fs i n) (λ _. Unit {0})
   unfolding checkCuts
   cuts-stand i zero = bind (cut-stands i) λ I _. says-accepted tt
   cuts-stand i (suc n) = bind (both-says _ _ (cut-stands i) (cuts-stand (suc i) n)) λ x _. says-accepted tt
 
-  run-stands : Says (StandsInRun (tree 0 []) fs) (checkRun newest K Ts fs) (λ _. Unit {0})
+  run-stands : Satisfies (StandsInRun (tree 0 []) fs) (checkRun newest K Ts fs) (λ _. Unit {0})
   unfolding checkRun
   run-stands = bind (both-says _ _ (cuts-stand 0 (length Ts)) (uniform-stands newest K fs)) λ x _. says-accepted tt
 
 -- ---- the operation
 module _ (proof : List ℕ) where
   abbrev Told : {X : Type 0} → Result X → Type 0
-  Told r = Says (RunStands proof) r (λ _. Unit {0})
+  Told r = Satisfies (RunStands proof) r (λ _. Unit {0})
 
-  elsewhere : {X : Type 0} {r : Result X} (file : ℕ) → 3 < file → Says (In file) r (λ _. Unit {0}) → Told r
+  elsewhere : {X : Type 0} {r : Result X} (file : ℕ) → 3 < file → Satisfies (In file) r (λ _. Unit {0}) → Told r
   elsewhere file h s = weaken s (λ a q. outside (inl (λ e. omega (arith, q .0))) (q .1)) (λ _ u. u)
 
   short-told : (newest file : ℕ) → 3 < file → (Ts : List (List ℕ)) → Told (stagesShort newest file Ts)

@@ -19,7 +19,7 @@ use Rattle.number_bytes.specs.Numbers.{unsignedBytes}
 use Rattle.bundle.specs.Bundle.{bundles, bothRead}
 use Rattle.bundle.proofs.Laid.{both-read-gives}
 use Rattle.proof.specs.Promises.{Checks}
-use Rattle.proof.proofs.Says.{Says, says-accepted, bind, seq, weaken}
+use Rattle.proof.proofs.Satisfies.{Satisfies, says-accepted, bind, seq, weaken}
 use Rattle.enumeration.specs.ShortProofs.{proofFile}
 use Rattle.enumeration.specs.Sequence.{shortProofsOf}
 use Rattle.enumeration.specs.Next.{NextIs, nextFile, nextProof}
@@ -75,10 +75,10 @@ module _ (A B given output : List ℕ) where
   unfolding bothRead bundles
   read-few a e = reads .refusal a e
     where
-      few : {file : ℕ} {X : Type 0} {P : X → Type 0} {r : Result X} → Says (Plain file) r P → Says (λ a. a .number ≤ 20) r P
+      few : {file : ℕ} {X : Type 0} {P : X → Type 0} {r : Result X} → Satisfies (Plain file) r P → Satisfies (λ a. a .number ≤ 20) r P
       few s = weaken s (λ a q. q .0) (λ _ u. u)
 
-      reads : Says (λ a. a .number ≤ 20) (bothRead newestEdition A B) (λ _. Unit {0})
+      reads : Satisfies (λ a. a .number ≤ 20) (bothRead newestEdition A B) (λ _. Unit {0})
       reads = seq (few (short-plain _ fileA A)) (seq (few (short-plain _ fileB B)) (bind (few (bundle-plain fileA none A)) λ a _. bind (few (bundle-plain fileB (some (a .K)) B)) λ b _. says-accepted tt))
 
   lent-none : (n place : ℕ) → OfBundle (answer n 4 place) → ⊥

@@ -28,7 +28,7 @@ use Rattle.proof.proofs.Agree.{yielded-interpolant}
 use Rattle.proof.proofs.Notes.{check-noted}
 use Rattle.proof.proofs.Sizes.{written-reads-back}
 use Rattle.proof.specs.Promises.{Checks}
-use Rattle.guarantee.specs.LaidOut.{Listed, LaidBundle, Placed, unclaimed, claimed, strengthen as strengthens, round as rounds, split as splits, number as numbers, stride as strides, PlacedTimes, none as nones, more as mores, LaidOut}
+use Rattle.guarantee.specs.LaidOut.{WholeFields, LaidBundle, Placed, unclaimed, claimed, strengthen as strengthens, round as rounds, split as splits, number as numbers, stride as strides, PlacedTimes, none as nones, more as mores, LaidOut}
 use Rattle.guarantee.specs.Acceptance.{Checkable}
 use Rattle.guarantee.specs.Testing.{FormulaFile}
 use Rattle.guarantee.specs.Soundness.{Meaning, Faithful, Delivered, NotesPassedOver, Soundness}
@@ -94,7 +94,7 @@ laid-out {K = K} y = record {
   };
 }
 
-pub lists : {file : List ℕ} {is : List Item} → Bytes file → items (fields file) ≡ some is → Listed file
+pub lists : {file : List ℕ} {is : List Item} → Bytes file → items (fields file) ≡ some is → WholeFields file
 lists {file} {is} k e = let o = whole-file file k is e in record { list = o .list; framed = o .framed; are = o .are }
 
 -- ---- what is delivered

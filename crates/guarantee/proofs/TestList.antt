@@ -18,23 +18,23 @@ use Rattle.answers.specs.Answers.{answer, acceptance, fileLent, Result, refused
 use Rattle.answers.proofs.Results.{Gives, not-0, weaken, each-gives, each-accepted, test, seq}
 use Rattle.number_bytes.proofs.Signed.{all-weaken, all-take, all-drop}
 use Rattle.formula.specs.Test.{judge, registers, tested, judged, testFormula}
-use Rattle.formula.specs.TestList.{listed, byte, testList}
+use Rattle.formula.specs.TestList.{readForList, byte, testList}
 use Rattle.formula.proofs.TestList.{no-constant, many-constants, not-whole, outside-at, to-read, vector-is, list-refused, list-short, list-filled, bytes, bytes-long, byte-at}
 use Rattle.formula_test.specs.declared.Tested.{Tested}
 use Rattle.formula_test.specs.Promises.{Tests}
 use Rattle.formula_list.specs.Promises.{TestsList}
 use Rattle.guarantee.specs.Testing.{FormulaFile}
-use Rattle.guarantee.specs.TestList.{Vectors, Permitted, vectorAt, Acceptable, ListTells}
+use Rattle.guarantee.specs.TestList.{Vectors, ValuesInRange, vectorAt, Acceptable, ListTells}
 use Rattle.guarantee.proofs.FormulaFiles.{read-gives, file-read}
 
 -- ---- shape and range, as tests
 abbrev Allowed : List ℤ → Type 0
 Allowed values = All (λ z. T (leb (natAbs z) 1_000_000)) values
 
-allowed : {values : List ℤ} → Permitted values → Allowed values
+allowed : {values : List ℤ} → ValuesInRange values → Allowed values
 allowed h = all-weaken (λ z k. le→leb (natAbs z) 1_000_000 k) h
 
-permitted : {values : List ℤ} → Allowed values → Permitted values
+permitted : {values : List ℤ} → Allowed values → ValuesInRange values
 permitted h = all-weaken (λ z k. leb→le (natAbs z) 1_000_000 k) h
 
 module _ {K n : ℕ} {values : List ℤ} (v : Vectors K n values) where
@@ -54,8 +54,8 @@ record Passed (formula : List ℕ) (K : ℕ) (values : List ℤ) (I : Formula) :
   upto : length formula ≤ 65_536
   states : FormulaFile K formula I
 
-list-gives : (formula : List ℕ) (K : ℕ) (values : List ℤ) → Gives (listed formula K values) (λ I. Passed formula K values I)
-unfolding listed
+list-gives : (formula : List ℕ) (K : ℕ) (values : List ℤ) → Gives (readForList formula K values) (λ I. Passed formula K values I)
+unfolding readForList
 list-gives formula K values =
     test _ _ tt λ h. seq (each-gives _ _ (λ i. tt) 0 values) λ r. test _ _ tt λ s. weaken (read-gives K formula) λ I f.
     let (a, c) = and-yes (leb 1 K && leb K 16) (eqb (length values % K) 0) h in
@@ -95,19 +95,19 @@ module _ (formula : List ℕ) (K : ℕ) (values : List ℤ) (output left : List 
   record Taken : Type 0 where
     I : Formula
     passed : Passed formula K values I
-    is : listed formula K values ≡ accepted I
+    is : readForList formula K values ≡ accepted I
     room : length values / K ≤ length output
 
   taken : r .answer .number ≡ 0 → Taken
-  taken z = go (listed formula K values) refl
+  taken z = go (readForList formula K values) refl
     where
-      fits : (I : Formula) → listed formula K values ≡ accepted I → (b : Bool) → leb (length values / K) (length output) ≡ b → Taken
+      fits : (I : Formula) → readForList formula K values ≡ accepted I → (b : Bool) → leb (length values / K) (length output) ≡ b → Taken
       fits I e true q = record { I = I; passed = list-gives formula K values .gives I e; is = e; room = leb-true (length values / K) (length output) q }
       fits I e false q =
           let w = answer-by (list-short formula K values output e (leb-false (length values / K) (length output) q)) in
           absurd (omega (arith, sym (ap (λ (a : Answer). a .number) w) ∙ z))
 
-      go : (w : Result Formula) → listed formula K values ≡ w → Taken
+      go : (w : Result Formula) → readForList formula K values ≡ w → Taken
       go (refused a) e = absurd (not-0 (list-gives formula K values .refusal a e) (sym (ap (λ (a : Answer). a .number) (answer-by (list-refused formula K values output e))) ∙ z))
       go (accepted I) e = fits I e (leb (length values / K) (length output)) refl
 
@@ -155,7 +155,7 @@ module _ (formula : List ℕ) (K : ℕ) (values : List ℤ) (output left : List 
   of-shape : ((n : ℕ) → ¬ Vectors K n values) → r .answer ≡ answer 7 fileLent 0
   of-shape none = answer-by (list-refused formula K values output (go (leb 1 K) refl (leb K 16) refl (leb (length values % K) 0) refl))
     where
-      go : (a : Bool) → leb 1 K ≡ a → (b : Bool) → leb K 16 ≡ b → (d : Bool) → leb (length values % K) 0 ≡ d → listed formula K values ≡ refused (answer 7 fileLent 0)
+      go : (a : Bool) → leb 1 K ≡ a → (b : Bool) → leb K 16 ≡ b → (d : Bool) → leb (length values % K) 0 ≡ d → readForList formula K values ≡ refused (answer 7 fileLent 0)
       go false p b q d s = no-constant formula K values (leb-false 1 K p)
       go true p false q d s = many-constants formula K values (leb-true 1 K p) (leb-false K 16 q)
       go true p true q false s = not-whole formula K values (leb-true 1 K p) (leb-true K 16 q) (leb-false (length values % K) 0 s)
@@ -165,17 +165,17 @@ module _ (formula : List ℕ) (K : ℕ) (values : List ℤ) (output left : List 
       → r .answer ≡ answer 23 fileLent i
   of-value v i h before out = answer-by (list-refused formula K values output (outside-at formula K values (v .low) (v .high) (rest-0 v) i h before out))
 
-  module _ {n : ℕ} (vs : Vectors K n values) (range : Permitted values) (v : List ℤ) (long : length v ≡ K) (permits : Permitted v) (t : Tested) (d : Tests formula v t) where
+  module _ {n : ℕ} (vs : Vectors K n values) (range : ValuesInRange values) (v : List ℤ) (long : length v ≡ K) (permits : ValuesInRange v) (t : Tested) (d : Tests formula v t) where
     abbrev Alike : Type 0
     Alike = (¬ (t .answer .number ≡ 0) → r .answer ≡ t .answer) × (t .answer .number ≡ 0 → length output < n → r .answer ≡ answer 21 fileLent n)
 
     alike : Alike
-    alike = go (listed formula K values) refl
+    alike = go (readForList formula K values) refl
       where
-        as-list : tested formula v ≡ listed formula K values
+        as-list : tested formula v ≡ readForList formula K values
         as-list = vector-is formula K values v (vs .low) (vs .high) (rest-0 vs) long (allowed range) (allowed permits)
 
-        go : (w : Result Formula) → listed formula K values ≡ w → Alike
+        go : (w : Result Formula) → readForList formula K values ≡ w → Alike
         go (refused a) e =
             let x : t .answer ≡ a = tested-refused formula v a t d (as-list ∙ e) in
             (λ _. answer-by (list-refused formula K values output e) ∙ sym x, λ z. absurd (not-0 (list-gives formula K values .refusal a e) (sym (ap (λ (v : Answer). v .number) x) ∙ z)))

@@ -25,7 +25,7 @@ use Rattle.fields.specs.Fields.{Field, Fields, ends, cut, _▸_, fields}
 use Rattle.fields.specs.Header.{headerField, editionField, constantsField, header, finished}
 use Rattle.formula.specs.Formula.{FormulaTag, pair, atom, stride, formulaOf, formulaField, twoParts, formulaWithin}
 use Rattle.printing.specs.Print.{textBehind, printed, printFormula}
-use Rattle.proof.proofs.Says.{Says, says-refused, says-accepted, bind, seq, test as needed, finds}
+use Rattle.proof.proofs.Satisfies.{Satisfies, says-refused, says-accepted, bind, seq, test as needed, finds}
 use Rattle.proof.proofs.Outside.{check-located, read-outside, write-outside, show-outside, test-outside, list-outside}
 use Rattle.enumeration.proofs.Refusals.{next-outside}
 use Rattle.conversion.proofs.Outside.{bundle-outside, proof-outside}
@@ -67,7 +67,7 @@ shorten-stands A B proof report table = go (interpolant newestEdition A B proof)
 
 -- ---- printing, which reads a formula whatever K it has
 abbrev Tells : {X : Type 0} → Result X → Type 0
-Tells r = Says Outside r (λ _. Unit {0})
+Tells r = Satisfies Outside r (λ _. Unit {0})
 
 header-field : (tag : ℕ) (fs : Fields) → Tells (headerField FileKind.Formula fileProof tag fs)
 unfolding headerField

@@ -27,7 +27,7 @@ use Rattle.conversion.specs.Widest.{widest}
 use Rattle.conversion.specs.Promises.{TurnsBundle, TurnsProof}
 use Rattle.guarantee.specs.Acceptance.{WrittenAs}
 use Rattle.guarantee.specs.RefusedIff.{JustWhere}
-use Rattle.guarantee.specs.LaidOut.{Listed}
+use Rattle.guarantee.specs.LaidOut.{WholeFields}
 use Rattle.guarantee.specs.Soundness.{Meaning, Faithful}
 
 -- ---- a choice of files
@@ -75,8 +75,8 @@ pub record ConversionPromised : Type 0 where
       → (output₂ left₂ : List ℕ) (r₂ : WriteResult) → length (fileOf (withoutNotes F)) ≤ length output₂ → TurnsProof (other to) (take (r .count) left) output₂ left₂ r₂
       → WrittenAs (fileOf (withoutNotes F)) output₂ left₂ (r₂ .answer) (r₂ .count)
   -- and every file of bytes that is turned is the file of such fields
-  pub bundle-listed : (to : ℕ) (file output left : List ℕ) (r : WriteResult) → Bytes file → TurnsBundle to file output left r → r .answer .number ≡ 0 → Listed file
-  pub proof-listed : (to : ℕ) (file output left : List ℕ) (r : WriteResult) → Bytes file → TurnsProof to file output left r → r .answer .number ≡ 0 → Listed file
+  pub bundle-listed : (to : ℕ) (file output left : List ℕ) (r : WriteResult) → Bytes file → TurnsBundle to file output left r → r .answer .number ≡ 0 → WholeFields file
+  pub proof-listed : (to : ℕ) (file output left : List ℕ) (r : WriteResult) → Bytes file → TurnsProof to file output left r → r .answer .number ≡ 0 → WholeFields file
   -- ---- the turned bundle has the edition asked for and states what the bundle stated: K, and the constraints in order
   pub states-same : (to : ℕ) (A output left : List ℕ) (r : WriteResult) → TurnsBundle to A output left r → r .answer .number ≡ 0
       → (n K : ℕ) (cs : List Constraint) → BundleFile newestEdition A n K cs → BundleFile newestEdition (take (r .count) left) to K cs

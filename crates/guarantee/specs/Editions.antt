@@ -28,13 +28,13 @@ use Rattle.proof.specs.Editions.{InFirst, Accepts, Offices, limitA, limitB}
 use Rattle.proof.specs.Promises.{Checks}
 
 -- A and B have at most 8,192 bytes each, so that A is read (by check, where the proof too is short enough).
-pub record ShortBundles (A B : List ℕ) : Type 0 where
+pub record BundlesWithinLimits (A B : List ℕ) : Type 0 where
   pub a : length A ≤ 8_192
   pub b : length B ≤ 8_192
 
 -- And A is a bundle, so that B is read.
 pub record ReadA (A B : List ℕ) : Type 0 where
-  pub short : ShortBundles A B
+  pub short : BundlesWithinLimits A B
   pub nA : ℕ
   pub K : ℕ
   pub a : List Constraint
@@ -51,7 +51,7 @@ pub record ReadBoth (A B : List ℕ) : Type 0 where
 pub data TooLong (A B : List ℕ) (Rest : Type 0) : ℕ → Type 0 where
   long-A : 8_192 < length A → TooLong A B Rest fileA
   long-B : length A ≤ 8_192 → 8_192 < length B → TooLong A B Rest fileB
-  late-A : ShortBundles A B → Rest → Says A 1 → 4_096 < length A → TooLong A B Rest fileA
+  late-A : BundlesWithinLimits A B → Rest → Says A 1 → 4_096 < length A → TooLong A B Rest fileA
   late-B : ReadA A B → Rest → Says B 1 → 4_096 < length B → TooLong A B Rest fileB
 
 -- The file's first field, notes aside, is a whole 0x01 of length 1, says n and starts at that byte.
@@ -132,8 +132,8 @@ pub record EditionsPromised : Type 0 where
   pub as-accepted : (A B proof output left : List ℕ) (r : WriteResult) → Checks A B proof output left r → Accepts (checkBy 1 A B proof output)
       → writtenOf r left ≡ checkBy 1 A B proof output
   -- ---- the length that demand 3 means: 4,096 for a bundle in which check reads edition 1, 8,192 for any other
-  pub length-A : (A B proof : List ℕ) → ShortBundles A B → length proof ≤ 65_536 → Says A 1 → limitA A B proof ≡ 4_096
-  pub length-A-else : (A B proof : List ℕ) → ¬ (ShortBundles A B × (length proof ≤ 65_536) × Says A 1) → limitA A B proof ≡ 8_192
+  pub length-A : (A B proof : List ℕ) → BundlesWithinLimits A B → length proof ≤ 65_536 → Says A 1 → limitA A B proof ≡ 4_096
+  pub length-A-else : (A B proof : List ℕ) → ¬ (BundlesWithinLimits A B × (length proof ≤ 65_536) × Says A 1) → limitA A B proof ≡ 8_192
   pub length-B : (A B proof : List ℕ) → ReadA A B → length proof ≤ 65_536 → Says B 1 → limitB A B proof ≡ 4_096
   pub length-B-else : (A B proof : List ℕ) → ¬ (ReadA A B × (length proof ≤ 65_536) × Says B 1) → limitB A B proof ≡ 8_192
   -- by the file alone
@@ -142,29 +142,29 @@ pub record EditionsPromised : Type 0 where
   -- ---- check: 1 first above 8,192 bytes, A before B, and then for a proof above 65,536 (so A of edition 1 with 5,000 bytes gives 1 in B where B has 8,193, and 1 in the proof where that has 65,537)
   pub check-long-A : (A B proof output left : List ℕ) (r : WriteResult) → Checks A B proof output left r → 8_192 < length A → r .answer ≡ answer 1 fileA 0
   pub check-long-B : (A B proof output left : List ℕ) (r : WriteResult) → Checks A B proof output left r → length A ≤ 8_192 → 8_192 < length B → r .answer ≡ answer 1 fileB 0
-  pub check-long-proof : (A B proof output left : List ℕ) (r : WriteResult) → Checks A B proof output left r → ShortBundles A B → 65_536 < length proof → r .answer ≡ answer 1 fileProof 0
+  pub check-long-proof : (A B proof output left : List ℕ) (r : WriteResult) → Checks A B proof output left r → BundlesWithinLimits A B → 65_536 < length proof → r .answer ≡ answer 1 fileProof 0
   -- a bundle of edition 1 above 4,096 bytes: 1 at place 0, A's when A is read, B's when B is
-  pub check-late-A : (A B proof output left : List ℕ) (r : WriteResult) → Checks A B proof output left r → ShortBundles A B → length proof ≤ 65_536
+  pub check-late-A : (A B proof output left : List ℕ) (r : WriteResult) → Checks A B proof output left r → BundlesWithinLimits A B → length proof ≤ 65_536
       → Says A 1 → 4_096 < length A → r .answer ≡ answer 1 fileA 0
   pub check-late-B : (A B proof output left : List ℕ) (r : WriteResult) → Checks A B proof output left r → ReadA A B → length proof ≤ 65_536
       → Says B 1 → 4_096 < length B → r .answer ≡ answer 1 fileB 0
   -- 1 in A, B and the proof in these cases only: so a bundle's late 1 comes behind every fault in front of its 0x01 and in it. With file 4 it is a formula's, just where that is too long (`check-1-at-end` in RefusedIff)
   pub check-1 : (A B proof output left : List ℕ) (r : WriteResult) → Checks A B proof output left r → r .answer .number ≡ 1
-      → TooLong A B (length proof ≤ 65_536) (r .answer .file) ⊎ ((r .answer .file ≡ fileProof) × ShortBundles A B × (65_536 < length proof)) ⊎ (r .answer .file ≡ fileLent)
+      → TooLong A B (length proof ≤ 65_536) (r .answer .file) ⊎ ((r .answer .file ≡ fileProof) × BundlesWithinLimits A B × (65_536 < length proof)) ⊎ (r .answer .file ≡ fileLent)
   -- an edition that is neither 1 nor 2: 5 at its field, in A, in B, in the proof
-  pub check-other-A : (A B proof output left : List ℕ) (r : WriteResult) → Checks A B proof output left r → ShortBundles A B → length proof ≤ 65_536
+  pub check-other-A : (A B proof output left : List ℕ) (r : WriteResult) → Checks A B proof output left r → BundlesWithinLimits A B → length proof ≤ 65_536
       → (n at : ℕ) → Other n → SaysAt A n at → r .answer ≡ answer 5 fileA at
   pub check-other-B : (A B proof output left : List ℕ) (r : WriteResult) → Checks A B proof output left r → ReadA A B → length proof ≤ 65_536
       → (n at : ℕ) → Other n → SaysAt B n at → r .answer ≡ answer 5 fileB at
   pub check-other-proof : (A B proof output left : List ℕ) (r : WriteResult) → Checks A B proof output left r → ReadBoth A B → length proof ≤ 65_536
       → (n at : ℕ) → Other n → SaysAt proof n at → r .answer ≡ answer 5 fileProof at
   -- a 33rd constraint: 8 at its field, before 13 for its numbers
-  pub check-more-A : (A B proof output left : List ℕ) (r : WriteResult) → Checks A B proof output left r → ShortBundles A B → length proof ≤ 65_536
+  pub check-more-A : (A B proof output left : List ℕ) (r : WriteResult) → Checks A B proof output left r → BundlesWithinLimits A B → length proof ≤ 65_536
       → (n K at : ℕ) → HasMore A n K at → r .answer ≡ answer 8 fileA at
   pub check-more-B : (A B proof output left : List ℕ) (r : WriteResult) → Checks A B proof output left r → (a : ReadA A B) → length proof ≤ 65_536
       → (n at : ℕ) → HasMore B n (a .K) at → r .answer ≡ answer 8 fileB at
   -- -2,147,483,648 in a bundle: 13 at its field
-  pub check-lowest-A : (A B proof output left : List ℕ) (r : WriteResult) → Checks A B proof output left r → ShortBundles A B → length proof ≤ 65_536
+  pub check-lowest-A : (A B proof output left : List ℕ) (r : WriteResult) → Checks A B proof output left r → BundlesWithinLimits A B → length proof ≤ 65_536
       → (K at : ℕ) → HasLowest A K at → r .answer ≡ answer 13 fileA at
   pub check-lowest-B : (A B proof output left : List ℕ) (r : WriteResult) → Checks A B proof output left r → (a : ReadA A B) → length proof ≤ 65_536
       → (at : ℕ) → HasLowest B (a .K) at → r .answer ≡ answer 13 fileB at
@@ -184,14 +184,14 @@ pub record EditionsPromised : Type 0 where
   -- ---- show: as check does for A and B
   pub show-long-A : (A B : List ℕ) (line : ℕ) (r : Answer) → AnswersShow A B line r → 8_192 < length A → r ≡ answer 1 fileA 0
   pub show-long-B : (A B : List ℕ) (line : ℕ) (r : Answer) → AnswersShow A B line r → length A ≤ 8_192 → 8_192 < length B → r ≡ answer 1 fileB 0
-  pub show-late-A : (A B : List ℕ) (line : ℕ) (r : Answer) → AnswersShow A B line r → ShortBundles A B → Says A 1 → 4_096 < length A → r ≡ answer 1 fileA 0
+  pub show-late-A : (A B : List ℕ) (line : ℕ) (r : Answer) → AnswersShow A B line r → BundlesWithinLimits A B → Says A 1 → 4_096 < length A → r ≡ answer 1 fileA 0
   pub show-late-B : (A B : List ℕ) (line : ℕ) (r : Answer) → AnswersShow A B line r → ReadA A B → Says B 1 → 4_096 < length B → r ≡ answer 1 fileB 0
   pub show-1 : (A B : List ℕ) (line : ℕ) (r : Answer) → AnswersShow A B line r → r .number ≡ 1 → TooLong A B (Unit {0}) (r .file)
-  pub show-other-A : (A B : List ℕ) (line : ℕ) (r : Answer) → AnswersShow A B line r → ShortBundles A B → (n at : ℕ) → Other n → SaysAt A n at → r ≡ answer 5 fileA at
+  pub show-other-A : (A B : List ℕ) (line : ℕ) (r : Answer) → AnswersShow A B line r → BundlesWithinLimits A B → (n at : ℕ) → Other n → SaysAt A n at → r ≡ answer 5 fileA at
   pub show-other-B : (A B : List ℕ) (line : ℕ) (r : Answer) → AnswersShow A B line r → ReadA A B → (n at : ℕ) → Other n → SaysAt B n at → r ≡ answer 5 fileB at
-  pub show-more-A : (A B : List ℕ) (line : ℕ) (r : Answer) → AnswersShow A B line r → ShortBundles A B → (n K at : ℕ) → HasMore A n K at → r ≡ answer 8 fileA at
+  pub show-more-A : (A B : List ℕ) (line : ℕ) (r : Answer) → AnswersShow A B line r → BundlesWithinLimits A B → (n K at : ℕ) → HasMore A n K at → r ≡ answer 8 fileA at
   pub show-more-B : (A B : List ℕ) (line : ℕ) (r : Answer) → AnswersShow A B line r → (a : ReadA A B) → (n at : ℕ) → HasMore B n (a .K) at → r ≡ answer 8 fileB at
-  pub show-lowest-A : (A B : List ℕ) (line : ℕ) (r : Answer) → AnswersShow A B line r → ShortBundles A B → (K at : ℕ) → HasLowest A K at → r ≡ answer 13 fileA at
+  pub show-lowest-A : (A B : List ℕ) (line : ℕ) (r : Answer) → AnswersShow A B line r → BundlesWithinLimits A B → (K at : ℕ) → HasLowest A K at → r ≡ answer 13 fileA at
   pub show-lowest-B : (A B : List ℕ) (line : ℕ) (r : Answer) → AnswersShow A B line r → (a : ReadA A B) → (at : ℕ) → HasLowest B (a .K) at → r ≡ answer 13 fileB at
   -- ---- write: first 5 for an edition that is neither 1 nor 2, whatever the rest is
   pub write-other : (n K : ℕ) (kinds : List ℕ) (numbers : List ℤ) (output left : List ℕ) (r : WriteResult) → Writes n K kinds numbers output left r

@@ -13,7 +13,7 @@ use Rattle.bundle.specs.Layout.{Each, StatesAll}
 use Rattle.proof.specs.Layout.{Enters}
 
 -- A file is some list of fields, whole, end to end, each length within its two bytes.
-pub record Listed (file : List ℕ) : Type 0 where
+pub record WholeFields (file : List ℕ) : Type 0 where
   pub list : List Item
   pub framed : All Framed list
   pub are : file ≡ fileOf list

@@ -21,19 +21,19 @@ use Rattle.printing.specs.Smt.{Prop, PropTrue, PropNames}
 use Rattle.printing.specs.Reading.{parseProp}
 use Rattle.printing.specs.Words.{Wording, WordingTrue, WordingNames}
 use Rattle.printing.specs.WordsReading.{parseWording}
-use Rattle.printing.specs.Dialects.{shown}
+use Rattle.printing.specs.Dialects.{formulaText}
 use Rattle.printing.specs.Promises.{PrintsFile}
-use Rattle.printing.specs.Readable.{OneReading}
+use Rattle.printing.specs.OneReading.{OneReading}
 use Rattle.proof.specs.Layout.{Certifies}
 use Rattle.proof.specs.Promises.{Checks}
 use Rattle.guarantee.specs.Soundness.{Meaning, Faithful}
 use Rattle.guarantee.specs.Acceptance.{WrittenAs}
 use Rattle.guarantee.specs.Testing.{FormulaFile}
-use Rattle.guarantee.specs.TestList.{Permitted}
+use Rattle.guarantee.specs.TestList.{ValuesInRange}
 
 -- The text of a formula: as a term of SMT-LIB, or in words.
 abbrev pub textOf : (wording : Bool) → Formula → List ℕ
-textOf wording I = shown wording false I
+textOf wording I = formulaText wording false I
 
 -- A file of at most 65,536 bytes that states a formula over K constants, 1 to 16, whatever K is.
 pub record Printable (file : List ℕ) : Type 0 where
@@ -76,7 +76,7 @@ pub record PrintingPromised : Type 0 where
       × (length output < length (textOf wording (p .formula)) → r .answer ≡ answer 21 fileLent (length (textOf wording (p .formula))))
   -- whatever testing the file at permitted values refuses, but by 9, which compares K with their number, is refused alike; so every refusal but 21 is testing's
   pub as-test : (wording : Bool) (file output left : List ℕ) (r : WriteResult) → PrintsFile wording file output left r
-      → (values : List ℤ) → 1 ≤ length values → length values ≤ 16 → Permitted values → (t : Tested) → Tests file values t
+      → (values : List ℤ) → 1 ≤ length values → length values ≤ 16 → ValuesInRange values → (t : Tested) → Tests file values t
       → ¬ (t .answer .number ≡ 0) → ¬ (t .answer .number ≡ 9) → r .answer ≡ t .answer
   -- what an accepted check wrote has one text: that of the formula that the rules assign; it separates what the writers of A and B stated, and it is what is printed of those bytes
   pub tells : (FA FB : List Item) → All Framed FA → All Framed FB → (MA MB : Meaning) → Faithful MA → Faithful MB → (proof output left : List ℕ) (r : WriteResult)

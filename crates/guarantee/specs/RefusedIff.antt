@@ -26,23 +26,23 @@ JustWhere Told Reason a is = (Told → Reason) × ((why : Reason) → a ≡ is w
 
 -- ---- check
 -- The rows derive a formula, however long its file.
-pub record Derives (A B proof : List ℕ) : Type 0 where
+pub record YieldsSome (A B proof : List ℕ) : Type 0 where
   pub K : ℕ
   pub formula : Formula
   pub yields : Yields newestEdition A B proof K formula
 
-abbrev pub bytesNeeded : {A B proof : List ℕ} → Derives A B proof → ℕ
+abbrev pub bytesNeeded : {A B proof : List ℕ} → YieldsSome A B proof → ℕ
 bytesNeeded d = length (formulaFile edition1 (d .K) (d .formula))
 
 -- They derive one whose file has at most 65,536 bytes, for which the output is too short.
 pub record ShortOutput (A B proof output : List ℕ) : Type 0 where
-  pub derives : Derives A B proof
+  pub derives : YieldsSome A B proof
   pub within : bytesNeeded derives ≤ 65_536
   pub short : length output < bytesNeeded derives
 
 -- They derive one whose file has more than 65,536 bytes.
 pub record LongFormula (A B proof : List ℕ) : Type 0 where
-  pub derives : Derives A B proof
+  pub derives : YieldsSome A B proof
   pub long : 65_536 < bytesNeeded derives
 
 -- ---- read
@@ -79,7 +79,7 @@ pub record RefusedIff : Type 0 where
   pub check-1-at-end : (A B proof output left : List ℕ) (r : WriteResult) → Checks A B proof output left r
       → JustWhere ((r .answer .number ≡ 1) × (r .answer .file ≡ 4)) (LongFormula A B proof) (r .answer) (λ l. answer 1 4 (bytesNeeded (l .derives)))
   pub check-derives : (A B proof output left : List ℕ) (r : WriteResult) → Checks A B proof output left r
-      → ((r .answer .number ≡ 0) ⊎ (r .answer .number ≡ 21) ⊎ ((r .answer .number ≡ 1) × (r .answer .file ≡ 4))) ↔ Derives A B proof
+      → ((r .answer .number ≡ 0) ⊎ (r .answer .number ≡ 21) ⊎ ((r .answer .number ≡ 1) × (r .answer .file ≡ 4))) ↔ YieldsSome A B proof
   -- read: the place of 21 is the number of constraints
   pub read-21 : (file lentKinds : List ℕ) (lentNumbers : List ℤ) (leftKinds : List ℕ) (leftNumbers : List ℤ) (r : ReadResult) → Reads file lentKinds lentNumbers leftKinds leftNumbers r
       → JustWhere (r .answer .number ≡ 21) (ShortRead file lentKinds lentNumbers) (r .answer) (λ s. answer 21 4 (length (s .constraints)))

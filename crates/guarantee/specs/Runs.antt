@@ -18,9 +18,9 @@ use Rattle.chains.specs.Runs.{Run, joined, upTo, beyond, Chain}
 use Rattle.run.specs.Run.{mostConstraints, parts, side}
 use Rattle.run.specs.Layout.{guardAt, StageFile, RunYields, RunCertifies}
 use Rattle.run.specs.Refused.{Earliest, RunRefused}
-use Rattle.run.specs.Ordered.{Parted, Short}
+use Rattle.run.specs.Ordered.{Parted, RunWithinLimits}
 use Rattle.run.specs.Promises.{WritesGuards}
-use Rattle.guarantee.specs.LaidOut.{Listed}
+use Rattle.guarantee.specs.LaidOut.{WholeFields}
 use Rattle.guarantee.specs.RefusedIff.{JustWhere}
 use Rattle.guarantee.specs.Soundness.{Meaning, Faithful, placeless}
 use Rattle.guarantee.specs.Testing.{FormulaFile}
@@ -91,7 +91,7 @@ pub record RunPromised : Type 0 where
       → r .answer .number ≡ 0 → DeliveredRun ws proof output sizes left sizesLeft r
   -- and every stage that is accepted is the file of some writer's fields
   pub listed : (buffer lengths proof output sizes left sizesLeft : List ℕ) (r : WriteResult) → Bytes buffer → WritesGuards buffer lengths proof output sizes left sizesLeft r
-      → r .answer .number ≡ 0 → All Listed (parts lengths buffer)
+      → r .answer .number ≡ 0 → All WholeFields (parts lengths buffer)
   -- the files certify one K, one run and one list of guards
   pub one-list : (buffer lengths proof : List ℕ) (K K′ : ℕ) (Ts Ts′ : Run) (Is Is′ : List Formula) → RunYields newestEdition buffer lengths proof K Ts Is → RunYields newestEdition buffer lengths proof K′ Ts′ Is′
       → (K ≡ K′) × (Ts ≡ Ts′) × (Is ≡ Is′)
@@ -101,15 +101,15 @@ pub record RunPromised : Type 0 where
       → (lent checked : List ℕ) (q : WriteResult) → Checks A B proof lent checked q → writtenOf q checked ≡ written (accepted (formulaFile edition1 K (guardAt Is i))) lent
   -- where the stages are in order and the answer names the proof: every cut is refused so, or it is a 13 of some cut, 27 or 28; nothing is refused at a lesser place, and 14 never comes
   pub in-proof : (buffer lengths proof output sizes left sizesLeft : List ℕ) (r : WriteResult) → WritesGuards buffer lengths proof output sizes left sizesLeft r
-      → (K : ℕ) (Ts : Run) → Short lengths buffer proof → Each (StageFile newestEdition K) (parts lengths buffer) Ts → length (joined Ts) ≤ mostConstraints → r .answer .file ≡ fileProof
+      → (K : ℕ) (Ts : Run) → RunWithinLimits lengths buffer proof → Each (StageFile newestEdition K) (parts lengths buffer) Ts → length (joined Ts) ≤ mostConstraints → r .answer .file ≡ fileProof
       → RunRefused newestEdition K Ts proof (r .answer) × Earliest newestEdition K Ts proof (r .answer) × (¬ (r .answer .number ≡ 14))
   -- and it does name the proof just where the proof derives no guards (of a proof that is bytes, as a slice is)
   pub names-proof : (buffer lengths proof output sizes left sizesLeft : List ℕ) (r : WriteResult) → Bytes proof → WritesGuards buffer lengths proof output sizes left sizesLeft r
-      → (K : ℕ) (Ts : Run) → Short lengths buffer proof → Each (StageFile newestEdition K) (parts lengths buffer) Ts → length (joined Ts) ≤ mostConstraints
+      → (K : ℕ) (Ts : Run) → RunWithinLimits lengths buffer proof → Each (StageFile newestEdition K) (parts lengths buffer) Ts → length (joined Ts) ≤ mostConstraints
       → r .answer .file ≡ fileProof ↔ ((Is : List Formula) → ¬ (RunYields newestEdition buffer lengths proof K Ts Is))
   -- by 27 or 28 where check accepts every cut, the proof not being uniform
   pub not-uniform : (buffer lengths proof output sizes left sizesLeft : List ℕ) (r : WriteResult) → WritesGuards buffer lengths proof output sizes left sizesLeft r
-      → (K : ℕ) (Ts : Run) → Short lengths buffer proof → Each (StageFile newestEdition K) (parts lengths buffer) Ts → length (joined Ts) ≤ mostConstraints
+      → (K : ℕ) (Ts : Run) → RunWithinLimits lengths buffer proof → Each (StageFile newestEdition K) (parts lengths buffer) Ts → length (joined Ts) ≤ mostConstraints
       → ((i : ℕ) → i ≤ length Ts → (I : Formula) × (checkProof newestEdition (side K (upTo Ts i)) (side K (beyond Ts i)) (fields proof) ≡ accepted I))
       → ((Is : List Formula) → ¬ (RunYields newestEdition buffer lengths proof K Ts Is)) → (r .answer .number ≡ 27) ⊎ (r .answer .number ≡ 28)
 
@@ -125,7 +125,7 @@ pub record ShortGuards (buffer lengths proof output sizes : List ℕ) : Type 0 w
 pub record ManyConstraints (buffer lengths proof : List ℕ) : Type 0 where
   pub K : ℕ
   pub Ts : Run
-  pub short : Short lengths buffer proof
+  pub short : RunWithinLimits lengths buffer proof
   pub stages : Each (StageFile newestEdition K) (parts lengths buffer) Ts
   pub many : mostConstraints < length (joined Ts)
 

@@ -12,7 +12,7 @@ use Rattle.answers.specs.declared.WriteResult.{WriteResult}
 use Rattle.answers.specs.Answers.{answer, refused, accepted}
 use Rattle.proof.specs.Layout.{Enters}
 use Rattle.proof.specs.Promises.{Checks}
-use Rattle.enumeration.specs.ShortProofs.{Permitted, NoStrengthen, rowItem, proofFile, ShortProof}
+use Rattle.enumeration.specs.ShortProofs.{PermittedRow, NoStrengthen, rowItem, proofFile, ShortProof}
 use Rattle.enumeration.specs.Enumerates.{Enumerable, Fifth, Follows, Enumerates}
 use Rattle.enumeration.specs.Promises.{WritesNext}
 use Rattle.guarantee.specs.Acceptance.{WrittenAs}
@@ -51,4 +51,4 @@ pub record ShortProofsEnumerated : Type 0 where
   pub no-strengthen : (A B file : List ℕ) (s : ShortProof A B file) → All NoStrengthen (s .rows)
   -- the header alone is these eight bytes, and a row's field is read as that row
   pub header : (K : ℕ) → proofFile K [] ≡ 0x01 ∷ 0 ∷ 1 ∷ 1 ∷ 0x02 ∷ 0 ∷ 1 ∷ K ∷ []
-  pub rows-read : (K : ℕ) (r : Row) → Permitted r → Enters edition1 K (rowItem r) (row r)
+  pub rows-read : (K : ℕ) (r : Row) → PermittedRow r → Enters edition1 K (rowItem r) (row r)

@@ -20,7 +20,7 @@ use Rattle.formula.specs.Formula.{formulaFile}
 use Rattle.proof.specs.Layout.{Certifies}
 use Rattle.proof.specs.Editions.{limitA, limitB}
 use Rattle.proof.specs.Promises.{Checks}
-use Rattle.guarantee.specs.LaidOut.{Listed, LaidOut}
+use Rattle.guarantee.specs.LaidOut.{WholeFields, LaidOut}
 use Rattle.guarantee.specs.Testing.{FormulaFile}
 
 -- What a writer stated is given by any function of his list of fields. It gives a K and constraints.
@@ -69,9 +69,9 @@ pub record Soundness : Type 0 where
       → Checks (fileOf FA) (fileOf FB) proof output left r → r .answer .number ≡ 0
       → Delivered FA FB MA MB proof output left r
   -- and every A and B that is accepted is the file of some writer's fields
-  pub listed : (A B proof output left : List ℕ) (r : WriteResult) → Bytes A → Bytes B → Checks A B proof output left r → r .answer .number ≡ 0 → Listed A × Listed B
+  pub listed : (A B proof output left : List ℕ) (r : WriteResult) → Bytes A → Bytes B → Checks A B proof output left r → r .answer .number ≡ 0 → WholeFields A × WholeFields B
   -- and so is every bundle that read accepts
-  pub listed-read : (file kinds : List ℕ) (numbers : List ℤ) (kinds′ : List ℕ) (numbers′ : List ℤ) (r : ReadResult) → Bytes file → Reads file kinds numbers kinds′ numbers′ r → r .answer .number ≡ 0 → Listed file
+  pub listed-read : (file kinds : List ℕ) (numbers : List ℤ) (kinds′ : List ℕ) (numbers′ : List ℤ) (r : ReadResult) → Bytes file → Reads file kinds numbers kinds′ numbers′ r → r .answer .number ≡ 0 → WholeFields file
   -- notes are passed over, a bundle's length being 4,096 where check reads edition 1 in it, 8,192 where it does not or never comes to read it (document 02, point 3; in numerals in `EditionsPromised`)
   pub notes : NotesPassedOver limitA limitB
   -- and with the length by the file alone: 4,096 for a bundle whose first field, notes aside, is a whole 0x01 of length 1 that says 1, 8,192 for any other

@@ -22,8 +22,8 @@ pub record Vectors (K n : ℕ) (values : List ℤ) : Type 0 where
   pub whole : length values ≡ n * K
 
 -- Values that testing permits: within ±1,000,000.
-abbrev pub Permitted : List ℤ → Type 0
-Permitted values = All (λ z. natAbs z ≤ 1_000_000) values
+abbrev pub ValuesInRange : List ℤ → Type 0
+ValuesInRange values = All (λ z. natAbs z ≤ 1_000_000) values
 
 -- Vector i of a list.
 abbrev pub vectorAt : (K : ℕ) → List ℤ → (i : ℕ) → List ℤ
@@ -32,7 +32,7 @@ vectorAt K values i = take K (drop (i * K) values)
 -- What an accepted list has: n whole vectors of permitted values, a file of at most 65,536 bytes that states a formula over K constants, and a byte of the output for each.
 pub record Acceptable (formula : List ℕ) (K n : ℕ) (values : List ℤ) (output : List ℕ) : Type 0 where
   pub vectors : Vectors K n values
-  pub range : Permitted values
+  pub range : ValuesInRange values
   pub upto : length formula ≤ 65_536
   pub I : Formula
   pub states : FormulaFile K formula I
@@ -54,6 +54,6 @@ pub record ListTells : Type 0 where
       → (i : ℕ) → i < length values → ((j : ℕ) → j < i → natAbs (getD values j (pos 0)) ≤ 1_000_000) → 1_000_000 < natAbs (getD values i (pos 0))
       → r .answer ≡ answer 23 fileLent i
   -- then, in an empty list too, what testing refuses for any K permitted values, and where it refuses nothing, 21 for an output that is too short, with the number of vectors
-  pub reading : (formula : List ℕ) (K n : ℕ) (values : List ℤ) (output left : List ℕ) (r : WriteResult) → TestsList formula K values output left r → Vectors K n values → Permitted values
-      → (v : List ℤ) → length v ≡ K → Permitted v → (t : Tested) → Tests formula v t
+  pub reading : (formula : List ℕ) (K n : ℕ) (values : List ℤ) (output left : List ℕ) (r : WriteResult) → TestsList formula K values output left r → Vectors K n values → ValuesInRange values
+      → (v : List ℤ) → length v ≡ K → ValuesInRange v → (t : Tested) → Tests formula v t
       → (¬ (t .answer .number ≡ 0) → r .answer ≡ t .answer) × (t .answer .number ≡ 0 → length output < n → r .answer ≡ answer 21 fileLent n)

@@ -5,7 +5,7 @@ use integers::number;
 use lines::place;
 use lines::place_a;
 ghost use Prim.Native.Nat.{_*_};
-ghost use Rattle.lines.specs.Buffer.{size, Terms, LineTerms, Mixes};
+ghost use Rattle.lines.specs.Buffer.{size, SumAsked, LineTerms, Mixes};
 
 // One form of a new line, number by number in the steps of FM-ELIM: α·s, then β·t, then their sum, up to the first that is out of range; whether there is none. The w numbers of s, of t and of the new form start at these places.
 fn mix_numbers(
@@ -17,7 +17,7 @@ fn mix_numbers(
     new: usize,
     w: usize,
 ) -> bool
-    requires { ⌜ Terms (now lines) alpha s beta t new w ⌝ }
+    requires { ⌜ SumAsked (now lines) alpha s beta t new w ⌝ }
     ensures { λ r. ⌜ Mixes (now (lines .entry)) alpha s beta t new w (now (lines .exit)) r ⌝ }
 {
     let mut x = 0;

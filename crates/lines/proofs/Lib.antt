@@ -7,7 +7,7 @@ pub mod Raising
 pub mod Branch
 pub mod Starting
 pub mod Negating
-pub mod Next
+pub mod StartLines
 pub mod Fill
 pub mod Every
 pub mod Narrow

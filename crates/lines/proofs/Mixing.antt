@@ -19,7 +19,7 @@ use Rattle.number_bytes.proofs.Stores.{part-part}
 use Rattle.lines.specs.Parts.{part, Agree}
 use Rattle.lines.proofs.Parts.{length-part, part-paste, paste-paste, getD-part, getD-paste, agree-part, agree-paste, agree-getD, agree-trans, agree-le}
 use Rattle.forms.specs.Flat.{lineKindOf, formIn}
-use Rattle.lines.specs.Buffer.{size, lineIn, times, mixed, Mixes, mixedLine, Terms, LineTerms}
+use Rattle.lines.specs.Buffer.{size, lineIn, times, mixed, Mixes, mixedLine, SumAsked, LineTerms}
 use Rattle.lines.proofs.Lines.{lineAs, form-ext, line-ext, before}
 use Rattle.lines.proofs.Range.{every-append, fits-line}
 
@@ -215,7 +215,7 @@ mix-zero f t = form-ext (sums-zero f (t .coeffs)) (add-zero-mul (f *ℤ t .d) (t
 
 -- The numbers of the branch's lines are terms, whatever stands behind these lines.
 pub terms : {K : ℕ} {buf buf′ : List ℤ} {f : ℤ} {i : ℕ} {g : ℤ} {j n a b d w : ℕ} → LineTerms K buf f i g j n → Agree (n * size K) buf buf′
-    → a + w ≤ n * size K → b + w ≤ n * size K → n * size K ≤ d → d + w ≤ length buf′ → Terms buf′ f a g b d w
+    → a + w ≤ n * size K → b + w ≤ n * size K → n * size K ≤ d → d + w ≤ length buf′ → SumAsked buf′ f a g b d w
 terms {a = a} {b = b} p same ha hb hd room = record {
   first = omega arith;
   second = omega arith;

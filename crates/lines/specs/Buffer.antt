@@ -74,7 +74,7 @@ unfoldable pub negatedLine : (K i n x y : ℕ) → List ℤ → List ℤ
 negatedLine K i n x y buf = raisedLine K n x y (mixedLine K (negsuc 0) i (pos 0) i n buf)
 
 -- What a sum of multiples asks: the w numbers at a and at b lie before the w numbers at d, and they and the factors are small. (Nothing is asked of the other numbers before d: when a line's tA is made its t stands there already.)
-pub record Terms (buf : List ℤ) (f : ℤ) (a : ℕ) (g : ℤ) (b d w : ℕ) : Type 0 where
+pub record SumAsked (buf : List ℤ) (f : ℤ) (a : ℕ) (g : ℤ) (b d w : ℕ) : Type 0 where
   pub first : a + w ≤ d
   pub second : b + w ≤ d
   pub third : d + w ≤ length buf

@@ -1,5 +1,5 @@
 -- Laws of the rows that open branches.
 pub mod Opens
-pub mod Roundable
-pub mod Splittable
+pub mod RoundTests
+pub mod SplitTests
 pub mod Starting

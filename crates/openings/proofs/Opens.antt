@@ -32,7 +32,7 @@ use Rattle.rows.specs.declared.derive.Derived.{Derived}
 use Rattle.rows.specs.declared.derive.Derived.the-variants.{Refused, Made}
 use Rattle.closes.specs.declared.closing.Test as test
 use Rattle.closes.specs.declared.closing.Test.the-variants as test-of
-use Rattle.openings.specs.Opening.{joining, inTurn, startOf, middleOf, thirdOf, Branching, three, allRounded, opening, Opens, rowOpened, RowOpens, Strengthens, RoundsBy, Roundable, Rounds}
+use Rattle.openings.specs.Opening.{joining, inTurn, startOf, middleOf, thirdOf, Branching, three, allRounded, opening, Opens, rowOpened, RowOpens, StrengthenOpens, RoundsBy, Roundable, RoundOpens}
 use Rattle.openings.proofs.Starting.{starts, start-less}
 
 module _ (t : Tally) {r q : Tallied} (e : r ≡ openCounted t) (h : r .made ≡ true) (f : q ≡ lineCounted (r .tally)) where
@@ -146,12 +146,12 @@ three-flat branch ls l step rows fs =
     three-in-turn (branch (position step 0) rows (ls ▷ startOf 1 1 l) fs) (λ n fs. branch (position step 1) n (ls ▷ middleOf l) fs) (λ n fs. branch (position step 2) n (ls ▷ thirdOf l) fs)
 
 module _ (K : ℕ) (kinds : List ℕ) (buf : List ℤ) (t : Tally) (i : ℕ) where
-  pub strengthen-none : t .lines .0 ≤ i → Strengthens K kinds buf t i kinds buf (Refused 10)
+  pub strengthen-none : t .lines .0 ≤ i → StrengthenOpens K kinds buf t i kinds buf (Refused 10)
   unfolding checkRow inequality lineAt _>>=_ found
   strengthen-none h = record { kept = kept-refl; by = λ next refusal rows fs. rw (line-past K kinds buf (t .lines .0) i h) }
 
   module _ (hi : i < t .lines .0) where
-    pub strengthen-kind : is ≤0 (lineIn K kinds buf i .kind) ≡ false → Strengthens K kinds buf t i kinds buf (Refused 11)
+    pub strengthen-kind : is ≤0 (lineIn K kinds buf i .kind) ≡ false → StrengthenOpens K kinds buf t i kinds buf (Refused 11)
     unfolding checkRow inequality lineAt _>>=_ _>>_ found need
     strengthen-kind h = record { kept = kept-refl; by = λ next refusal rows fs. rw (line-at K kinds buf (t .lines .0) i hi, h) }
 
@@ -161,12 +161,12 @@ module _ (K : ℕ) (kinds : List ℕ) (buf : List ℤ) (t : Tally) (i : ℕ) whe
       unfolding checkRow inequality lineAt _>>=_ _>>_ found need
       strengthen-row next refusal rows fs = rw (line-at K kinds buf (t .lines .0) i hi, hk)
 
-      pub strengthen-opens : {kinds′ : List ℕ} {buf′ : List ℤ} {r : Derived} → Opens K kinds buf t i 1 1 kinds′ buf′ r → Strengthens K kinds buf t i kinds′ buf′ r
+      pub strengthen-opens : {kinds′ : List ℕ} {buf′ : List ℤ} {r : Derived} → Opens K kinds buf t i 1 1 kinds′ buf′ r → StrengthenOpens K kinds buf t i kinds′ buf′ r
       strengthen-opens o = row-opens threeFlat three-flat strengthen-row o
 
 -- ---- a rounding
 module _ {K : ℕ} {kinds : List ℕ} {buf : List ℤ} {t : Tally} {i g by : ℕ} {r : test.Test} (p : Roundable K kinds buf t i g by r) where
-  pub round-refused : {x : ℕ} → r ≡ test-of.Refused x → Rounds K kinds buf t i g by kinds buf (Refused x)
+  pub round-refused : {x : ℕ} → r ≡ test-of.Refused x → RoundOpens K kinds buf t i g by kinds buf (Refused x)
   unfolding checkRow _>>=_
   round-refused e =
       let q = rw e at (p .by) in
@@ -187,5 +187,5 @@ module _ {K : ℕ} {kinds : List ℕ} {buf : List ℤ} {t : Tally} {i g by : ℕ
     unfolding checkRow _>>=_
     round-row next refusal rows fs = rw (passed .0 refusal)
 
-    pub round-opens : {kinds′ : List ℕ} {buf′ : List ℤ} {d : Derived} → Opens K kinds buf t i by by kinds′ buf′ d → Rounds K kinds buf t i g by kinds′ buf′ d
+    pub round-opens : {kinds′ : List ℕ} {buf′ : List ℤ} {d : Derived} → Opens K kinds buf t i by by kinds′ buf′ d → RoundOpens K kinds buf t i g by kinds′ buf′ d
     round-opens o = record { opens = row-opens (allRounded g by) (λ branch ls l step rows fs. refl) round-row o; sizes = λ t′ z. passed .2 }

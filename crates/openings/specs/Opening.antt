@@ -81,7 +81,7 @@ opening K kinds buf t first refusal rest =
     found (refusal 17) (below (t .edition) K (edition1 .branchings - t .«open»)) >>= λ checker. (fitting refusal (linesIn K kinds buf (t .lines .0)) (edition (t .edition)) first >> rest checker)
 
 -- The first branch's line, line i with t + x and tA + y, stands behind the others, and the step is counted.
-pub record Stands (K : ℕ) (kinds : List ℕ) (buf : List ℤ) (t : Tally) (i x y : ℕ) (kinds′ : List ℕ) (buf′ : List ℤ) (t′ : Tally) : Type 0 where
+pub record FirstLineStands (K : ℕ) (kinds : List ℕ) (buf : List ℤ) (t : Tally) (i x y : ℕ) (kinds′ : List ℕ) (buf′ : List ℤ) (t′ : Tally) : Type 0 where
   pub longer : Longer (t .edition) K kinds buf (t .lines .0) (startOf x y (lineIn K kinds buf i)) kinds′ buf′
   pub tally-is : t′ ≡ tally (t .edition) (t .rows .0) (t .lines .0 + 1) (t .«open» + 1)
   pub start : LineStart K buf i (t .lines .0) x y
@@ -92,7 +92,7 @@ OpenedBy K kinds buf t i x y kinds′ buf′ (Refused number) =
     (refusal : ℕ → Answer) (rest : Checker → Result Closing) → opening K kinds buf t (startOf x y (lineIn K kinds buf i)) refusal rest ≡ refused (refusal number)
 OpenedBy K kinds buf t i x y kinds′ buf′ (Made t′) =
     ((refusal : ℕ → Answer) (rest : Checker → Result Closing) → opening K kinds buf t (startOf x y (lineIn K kinds buf i)) refusal rest ≡ rest (checkBranch (edition (t .edition)) K (edition1 .branchings - (t .«open» + 1))))
-    × Stands K kinds buf t i x y kinds′ buf′ t′
+    × FirstLineStands K kinds buf t i x y kinds′ buf′ t′
 
 pub record Opens (K : ℕ) (kinds : List ℕ) (buf : List ℤ) (t : Tally) (i x y : ℕ) (kinds′ : List ℕ) (buf′ : List ℤ) (r : Derived) : Type 0 where
   pub kept : LinesKept K (t .lines .0) kinds buf kinds′ buf′
@@ -108,15 +108,15 @@ RowOpenedBy row branching K kinds buf t i x y kinds′ buf′ (Refused number) =
 RowOpenedBy row branching K kinds buf t i x y kinds′ buf′ (Made t′) =
     ((next : Following) (refusal : ℕ → Answer) (rows : ℕ) (fs : Fields) → rowOpened K kinds buf t row next refusal rows fs
     ≡ branching (checkBranch (edition (t .edition)) K (edition1 .branchings - (t .«open» + 1))) (linesIn K kinds buf (t .lines .0)) (lineIn K kinds buf i) rows (suc rows) fs)
-    × Stands K kinds buf t i x y kinds′ buf′ t′
+    × FirstLineStands K kinds buf t i x y kinds′ buf′ t′
 
 -- A row whose first branch starts with line i, t + x with tA + y, is refused, or its branches are what `branching` checks.
 pub record RowOpens (row : rules.Row) (branching : Branching) (K : ℕ) (kinds : List ℕ) (buf : List ℤ) (t : Tally) (i x y : ℕ) (kinds′ : List ℕ) (buf′ : List ℤ) (r : Derived) : Type 0 where
   pub kept : LinesKept K (t .lines .0) kinds buf kinds′ buf′
   pub by : RowOpenedBy row branching K kinds buf t i x y kinds′ buf′ r
 
-abbrev pub Strengthens : (K : ℕ) (kinds : List ℕ) (buf : List ℤ) (t : Tally) (i : ℕ) (kinds′ : List ℕ) (buf′ : List ℤ) (r : Derived) → Type 0
-Strengthens K kinds buf t i kinds′ buf′ r = RowOpens (rules.Strengthen i) three K kinds buf t i 1 1 kinds′ buf′ r
+abbrev pub StrengthenOpens : (K : ℕ) (kinds : List ℕ) (buf : List ℤ) (t : Tally) (i : ℕ) (kinds′ : List ℕ) (buf′ : List ℤ) (r : Derived) → Type 0
+StrengthenOpens K kinds buf t i kinds′ buf′ r = RowOpens (rules.Strengthen i) three K kinds buf t i 1 1 kinds′ buf′ r
 
 -- ---- a rounding
 -- A stride and what is rounded by, within their limits.
@@ -134,7 +134,7 @@ RoundableBy K kinds buf t i g by test-of.Passed =
 pub record Roundable (K : ℕ) (kinds : List ℕ) (buf : List ℤ) (t : Tally) (i g more : ℕ) (r : test.Test) : Type 0 where
   pub by : RoundableBy K kinds buf t i g more r
 
-pub record Rounds (K : ℕ) (kinds : List ℕ) (buf : List ℤ) (t : Tally) (i g by : ℕ) (kinds′ : List ℕ) (buf′ : List ℤ) (r : Derived) : Type 0 where
+pub record RoundOpens (K : ℕ) (kinds : List ℕ) (buf : List ℤ) (t : Tally) (i g by : ℕ) (kinds′ : List ℕ) (buf′ : List ℤ) (r : Derived) : Type 0 where
   pub opens : RowOpens (rules.Round i g by) (allRounded g by) K kinds buf t i by by kinds′ buf′ r
   pub sizes : (t′ : Tally) → r ≡ Made t′ → RoundsBy g by
 

@@ -11,7 +11,7 @@ ghost use Rattle.proof.specs.Rows.{undivided};
 ghost use Rattle.lines.specs.Buffer.{LineStart};
 ghost use Rattle.lines.specs.Ready.{Ready};
 ghost use Rattle.entries.specs.Entries.{Multiplies};
-ghost use Rattle.openings.specs.Opening.{Roundable, Rounds, RoundedStarts};
+ghost use Rattle.openings.specs.Opening.{Roundable, RoundOpens, RoundedStarts};
 use crate::opening::open_step;
 use closes::closing::Test;
 use closes::closing::is_stride;
@@ -94,7 +94,7 @@ pub fn round(
 ) -> Derived
     requires { ⌜ Ready (tally .edition) k (now kinds) (now lines) (tally .lines .0) ⌝ }
     requires { ⌜ Multiplies (natAbs g) g ⌝ }
-    ensures { λ r. ⌜ Rounds k (now (kinds .entry)) (now (lines .entry)) tally (i .0) (natAbs g) by (now (kinds .exit)) (now (lines .exit)) r ⌝ }
+    ensures { λ r. ⌜ RoundOpens k (now (kinds .entry)) (now (lines .entry)) tally (i .0) (natAbs g) by (now (kinds .exit)) (now (lines .exit)) r ⌝ }
 {
     match test_round(lines, kinds, tally, i, g, by, k) {
         Test::Refused { number } => {

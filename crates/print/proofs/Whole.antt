@@ -24,11 +24,11 @@ use Rattle.fields.specs.Header.{header}
 use Rattle.fields.specs.Places.{fieldsAt, IsHeader}
 use Rattle.fields.proofs.HeaderLaid.{header-gives}
 use Rattle.formula.specs.Formula.{formulaWithin}
-use Rattle.printing.specs.Dialects.{shown}
+use Rattle.printing.specs.Dialects.{formulaText}
 use Rattle.printing.specs.Print.{textBehind, printed, printFormula}
 use Rattle.printing_formula.specs.Printing.{Place, PutOr, FormulaAt}
 use Rattle.printing.specs.Promises.{PrintsFile}
-use Rattle.print.specs.Stages.{Sized, WritesText, PrintsBehind, refusedWrite}
+use Rattle.print.specs.Phases.{Sized, WritesText, PrintsBehind, refusedWrite}
 use Rattle.printing_formula.specs.Reaching.{WholeAt}
 use Rattle.printing_formula.specs.declared.once.Reached.{Reached}
 use Rattle.printing_formula.specs.declared.reading.Progress.{Progress}
@@ -43,34 +43,34 @@ one-formula : {w : Result (Formula × Fields)} {I J : Formula} {f g : Fields} �
 one-formula p q = ap (λ (x : Formula × Fields). x .0) (one-value p q)
 
 module _ {wording : Bool} {s : List ℕ} {at K size : ℕ} (z : Sized wording s at K size) where
-  sized-as : (I : Formula) (after : Fields) → formulaWithin edition1 K 600 (fieldsAt s at) ≡ accepted (I, after) → size ≡ length (shown wording false I)
-  sized-as I after e = z .size-is ∙ ap (λ (J : Formula). length (shown wording false J)) (one-formula (z .is) e)
+  sized-as : (I : Formula) (after : Fields) → formulaWithin edition1 K 600 (fieldsAt s at) ≡ accepted (I, after) → size ≡ length (formulaText wording false I)
+  sized-as I after e = z .size-is ∙ ap (λ (J : Formula). length (formulaText wording false J)) (one-formula (z .is) e)
 
   pub text-short : {out : List ℕ} {r : WriteResult} → length out < size → r ≡ refusedWrite 21 fileLent size → WritesText wording s at K out out r
   unfolding written fit
   text-short {out} h f = record {
     is = λ I after e.
-        let l : size ≡ length (shown wording false I) = sized-as I after e in
-        rw (f, l, lt-leb (length (shown wording false I)) (length out) (omega arith));
+        let l : size ≡ length (formulaText wording false I) = sized-as I after e in
+        rw (f, l, lt-leb (length (formulaText wording false I)) (length out) (omega arith));
   }
 
   -- what the second reading puts
   put-as : (out out′ : List ℕ) (p : Progress) → PutOr wording false s at 0 (formulaWithin edition1 K 600 (fieldsAt s at)) out 0 out′ p → (I : Formula) (after : Fields)
-      → formulaWithin edition1 K 600 (fieldsAt s at) ≡ accepted (I, after) → size ≤ length out → out′ ≡ over (shown wording false I) out
+      → formulaWithin edition1 K 600 (fieldsAt s at) ≡ accepted (I, after) → size ≤ length out → out′ ≡ over (formulaText wording false I) out
   put-as out out′ (Progress.Fault number a) q I after e h = absurd (never (sym q ∙ e))
   put-as out out′ (Progress.Text next end) q I after e h =
-      let l : size ≡ length (shown wording false I) = sized-as I after e in
+      let l : size ≡ length (formulaText wording false I) = sized-as I after e in
       let f : q .formula ≡ I = one-formula (q .is) e in
-      let g : length (shown wording false (q .formula)) ≡ length (shown wording false I) = ap (λ (J : Formula). length (shown wording false J)) f in
-      q .puts .stored (omega arith) ∙ ap (λ (J : Formula). sets out 0 (shown wording false J)) f ∙ sets-over (shown wording false I) out (omega arith)
+      let g : length (formulaText wording false (q .formula)) ≡ length (formulaText wording false I) = ap (λ (J : Formula). length (formulaText wording false J)) f in
+      q .puts .stored (omega arith) ∙ ap (λ (J : Formula). sets out 0 (formulaText wording false J)) f ∙ sets-over (formulaText wording false I) out (omega arith)
 
   pub text-put : {out out′ : List ℕ} {p : Progress} {a : Answer} → FormulaAt wording false s at K 600 out 0 out′ p → size ≤ length out → a ≡ acceptance
       → WritesText wording s at K out out′ (record { answer = a; count = size })
   unfolding written fit
   text-put {out} {out′} {p} b h f = record {
     is = λ I after e.
-        let l : size ≡ length (shown wording false I) = sized-as I after e in
-        rw (f, put-as out out′ p (b .put) I after e h, l, le-leb (length (shown wording false I)) (length out) (omega arith));
+        let l : size ≡ length (formulaText wording false I) = sized-as I after e in
+        rw (f, put-as out out′ p (b .put) I after e h, l, le-leb (length (formulaText wording false I)) (length out) (omega arith));
   }
 
 -- ---- what a reading with text finds

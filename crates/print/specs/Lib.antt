@@ -1,2 +1,2 @@
 -- The stages of printing a file.
-pub mod Stages
+pub mod Phases

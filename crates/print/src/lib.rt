@@ -19,7 +19,7 @@ ghost use Prim.Native.Nat.{_*_, _≤_};
 ghost use lib.ListN.{length};
 ghost use Rattle.printing_formula.specs.Printing.{Place};
 ghost use Rattle.printing.specs.Promises.{PrintsFile};
-ghost use Rattle.print.specs.Stages.{Sized, WritesText, PrintsBehind, refusedWrite};
+ghost use Rattle.print.specs.Phases.{Sized, WritesText, PrintsBehind, refusedWrite};
 
 fn refuse(number: u8, file: u8, place: usize) -> WriteResult
     ensures { λ r. ⌜ r ≡ refusedWrite number file place ⌝ }

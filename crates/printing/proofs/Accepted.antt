@@ -21,9 +21,9 @@ use Rattle.fields.proofs.HeaderLaid.{header-gives}
 use Rattle.formula.specs.Formula.{formulaWithin, readFormula}
 use Rattle.printing.specs.Words.{worded}
 use Rattle.printing.specs.Translation.{smt}
-use Rattle.printing.specs.Dialects.{shown, ReadsAs, MeansAs}
+use Rattle.printing.specs.Dialects.{formulaText, ReadsAs, MeansAs}
 use Rattle.printing.specs.Print.{textBehind, printed, printFormula}
-use Rattle.printing.specs.Readable.{Over, OneReading, PrintedAs, Printer}
+use Rattle.printing.specs.OneReading.{OverConstants, OneReading, PrintedAs, Printer}
 use Rattle.printing.proofs.Meaning.{mod-standard, means-same}
 use Rattle.printing.proofs.Named.{names-only, words-names-only}
 use Rattle.printing.proofs.Unique.{unique}
@@ -53,11 +53,11 @@ pub record Stated (wording : Bool) (file bytes : List ℕ) : Type 0 where
   K : ℕ
   formula : Formula
   reads : readFormula K (fields file) ≡ accepted formula
-  over-K : Over K formula
+  over-K : OverConstants K formula
   low : 1 ≤ K
   high : K ≤ 16
   upto : length file ≤ 65_536
-  text-is : bytes ≡ shown wording false formula
+  text-is : bytes ≡ formulaText wording false formula
 
 -- what is given, and that it is
 remember : {X : Type 0} {m : Result X} {P : X → Type 0} → Gives m P → Gives m (λ x. (m ≡ accepted x) × P x)
@@ -91,11 +91,11 @@ front-is : (bytes output : List ℕ) → take (length bytes) (over bytes output)
 unfolding over
 front-is bytes output = take-at bytes _ (length bytes) refl
 
-pub read-as : (wording : Bool) (I : Formula) → ReadsAs wording (shown wording false I) I
+pub read-as : (wording : Bool) (I : Formula) → ReadsAs wording (formulaText wording false I) I
 read-as false I = unique (smt I)
 read-as true I = words-unique (worded I)
 
-means-as : (wording : Bool) (K : ℕ) (I : Formula) → Over K I → (v : Assignment) → MeansAs wording I v
+means-as : (wording : Bool) (K : ℕ) (I : Formula) → OverConstants K I → (v : Assignment) → MeansAs wording I v
 means-as false K I h v = means-same I (over-strides K I h) v
 means-as true K I h v = says-same I v
 
@@ -103,8 +103,8 @@ module _ (wording : Bool) (file output left : List ℕ) (r : WriteResult) where
   fits-yes : (bytes : List ℕ) → Stated wording file bytes → (b : Bool) → leb (length bytes) (length output) ≡ b → writtenOf r left ≡ fit output b bytes → r .answer .number ≡ 0 → PrintedAs wording file output left r
   unfolding fit
   fits-yes bytes x true l e z =
-      let c : r .count ≡ length (shown wording false (x .formula)) = ap (λ (w : Written). w .count) e ∙ ap length (x .text-is) in
-      let o : left ≡ over (shown wording false (x .formula)) output = ap (λ (w : Written). w .output) e ∙ ap (λ (bs : List ℕ). over bs output) (x .text-is) in
+      let c : r .count ≡ length (formulaText wording false (x .formula)) = ap (λ (w : Written). w .count) e ∙ ap length (x .text-is) in
+      let o : left ≡ over (formulaText wording false (x .formula)) output = ap (λ (w : Written). w .output) e ∙ ap (λ (bs : List ℕ). over bs output) (x .text-is) in
       record {
         K = x .K;
         formula = x .formula;
@@ -116,7 +116,7 @@ module _ (wording : Bool) (file output left : List ℕ) (r : WriteResult) where
         count = c;
         fits = subst (λ (bs : List ℕ). length bs ≤ length output) (x .text-is) (leb-true _ _ l);
         bytes = o;
-        reads-back = subst (λ (bs : List ℕ). ReadsAs wording bs (x .formula)) (sym (ap₂ take c o ∙ front-is (shown wording false (x .formula)) output)) (read-as wording (x .formula));
+        reads-back = subst (λ (bs : List ℕ). ReadsAs wording bs (x .formula)) (sym (ap₂ take c o ∙ front-is (formulaText wording false (x .formula)) output)) (read-as wording (x .formula));
         means = means-as wording (x .K) (x .formula) (x .over-K);
       }
   fits-yes bytes x false l e z = absurd (let n : 21 ≡ 0 = sym (ap (λ (w : Written). w .answer .number) e) ∙ z in omega arith)
@@ -143,7 +143,7 @@ record Read (K : ℕ) (file : List ℕ) (I : Formula) : Type 0 where
   after : Fields
   header-is : header FileKind.Formula fileProof 1 (some K) (fields file) ≡ accepted head
   formula-is : formulaWithin edition1 (head .K) 600 (head .rest) ≡ accepted (I, after)
-  over-K : Over (head .K) I
+  over-K : OverConstants (head .K) I
   end-is : finished FileKind.Formula fileProof after ≡ accepted tt
 
 finished-read : (fs : Fields) {Q : Formula → Type 0} {r : Result Formula} → (finished FileKind.Formula fileProof fs ≡ accepted tt → Gives r Q) → Gives (finished FileKind.Formula fileProof fs >> r) Q
@@ -165,7 +165,7 @@ read-gives K file = bind (remember (header-gives FileKind.Formula fileProof 1 (s
 pub means-read : (wording : Bool) (K : ℕ) (file : List ℕ) (I : Formula) → readFormula K (fields file) ≡ accepted I → (v : Assignment) → MeansAs wording I v
 means-read wording K file I e v = let x = read-gives K file .gives I e in means-as wording (x .head .K) I (x .over-K) v
 
-pub printed-as : (wording : Bool) (K : ℕ) (file : List ℕ) (I : Formula) → length file ≤ 65_536 → readFormula K (fields file) ≡ accepted I → printed wording file ≡ accepted (shown wording false I)
+pub printed-as : (wording : Bool) (K : ℕ) (file : List ℕ) (I : Formula) → length file ≤ 65_536 → readFormula K (fields file) ≡ accepted I → printed wording file ≡ accepted (formulaText wording false I)
 unfolding printed textBehind
 printed-as wording K file I h e =
     let x = read-gives K file .gives I e in
@@ -196,5 +196,5 @@ printer = record {
   prints = λ wording file output left r p z. prints-yes wording file output left r (printed wording file) refl (p .is) z;
   one-formula = only-one;
   leaves = λ wording file output left r p n. prints-no wording file output left r (printed wording file) (p .is) n;
-  room = λ wording file output left r p h K I e. room-as r left output (shown wording false I) (p .is ∙ ap (λ (w : Result (List ℕ)). written w output) (printed-as wording K file I h e));
+  room = λ wording file output left r p h K I e. room-as r left output (formulaText wording false I) (p .is ∙ ap (λ (w : Result (List ℕ)). written w output) (printed-as wording K file I h e));
 }

@@ -14,7 +14,7 @@ use Rattle.printing.specs.Smt.{Term, Terms, Prop, numeral, register, min
 use Rattle.printing.specs.Text.{propText}
 use Rattle.printing.specs.Reading.{parseProp}
 use Rattle.printing.specs.Translation.{integer, termsOf, summed, termOf, smt, unlessZero}
-use Rattle.printing.specs.Readable.{Over}
+use Rattle.printing.specs.OneReading.{OverConstants}
 use Rattle.printing.proofs.Meaning.{zero-or}
 use Rattle.printing.proofs.Unique.{unique}
 
@@ -202,7 +202,7 @@ term-no-modulo : (t : Form) → isModulo (termOf t) ≡ false
 unfolding termOf
 term-no-modulo t = summands-sum 0 (t .coeffs) (t .d) .no-modulo
 
-formula-back : (K : ℕ) (I : Formula) → Over K I → toFormula K (smt I) ≡ I
+formula-back : (K : ℕ) (I : Formula) → OverConstants K I → toFormula K (smt I) ≡ I
 unfolding smt
 formula-back K (literal ≤0 t) h = ap (literal ≤0) (form-back K t h)
 formula-back K (literal =0 t) h = rw (term-no-modulo t) (ap (literal =0) (form-back K t h))
@@ -210,7 +210,7 @@ formula-back K (g divides t) h = ap (λ (u : Form). g divides u) (form-back K t 
 formula-back K (I and J) h = ap₂ _and_ (formula-back K I (h .0)) (formula-back K J (h .1))
 formula-back K (I or J) h = ap₂ _or_ (formula-back K I (h .0)) (formula-back K J (h .1))
 
-pub kept : (K : ℕ) (I J : Formula) → Over K I → Over K J → propText (smt I) ≡ propText (smt J) → I ≡ J
+pub kept : (K : ℕ) (I J : Formula) → OverConstants K I → OverConstants K J → propText (smt I) ≡ propText (smt J) → I ≡ J
 kept K I J h k e =
     let p : some (smt I) ≡ some (smt J) = sym (unique (smt I)) ∙ ap parseProp e ∙ unique (smt J) in
     let q : smt I ≡ smt J = cc in

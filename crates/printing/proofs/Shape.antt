@@ -20,14 +20,14 @@ use Rattle.fields.specs.declared.FileKind.{FileKind}
 use Rattle.fields.specs.Fields.{Field, Fields, ends, cut, _▸_}
 use Rattle.fields.specs.Header.{Header, agrees, headerField, editionField, constantsField, header}
 use Rattle.formula.specs.Formula.{Connective, disjunction, conjunction, FormulaTag, pair, atom, stride, compound, formulaOf, formulaField, twoParts, formulaWithin}
-use Rattle.printing.specs.Readable.{Over}
+use Rattle.printing.specs.OneReading.{OverConstants}
 
 pub signeds-long : (w n : ℕ) (bs : List ℕ) → length (signeds w n bs) ≡ n
 unfolding signeds
 signeds-long w zero bs = refl
 signeds-long w (suc n) bs = ap suc (signeds-long w n (drop w bs))
 
-pub over-strides : (K : ℕ) (I : Formula) → Over K I → Strides I
+pub over-strides : (K : ℕ) (I : Formula) → OverConstants K I → Strides I
 over-strides K (literal k t) h = tt
 over-strides K (g divides t) h = h .0
 over-strides K (I and J) h = (over-strides K I (h .0), over-strides K J (h .1))
@@ -35,17 +35,17 @@ over-strides K (I or J) h = (over-strides K I (h .0), over-strides K J (h .1))
 
 -- ---- the formula
 abbrev OverOne : ℕ → Formula × Fields → Type 0
-OverOne K x = Over K (x .0)
+OverOne K x = OverConstants K (x .0)
 
 abbrev OverTwo : ℕ → Formula × Formula × Fields → Type 0
-OverTwo K x = Over K (x .0) × Over K (x .1)
+OverTwo K x = OverConstants K (x .0) × OverConstants K (x .1)
 
 two-least : (g : ℤ) → T (leZ (pos 2) g) → 2 ≤ natAbs g
 two-least (pos n) h = leb→le 2 n h
 two-least (negsuc n) h = absurd h
 
 module _ (K : ℕ) where
-  compound-over : (c : Connective) (I J : Formula) → Over K I → Over K J → Over K (compound c I J)
+  compound-over : (c : Connective) (I J : Formula) → OverConstants K I → OverConstants K J → OverConstants K (compound c I J)
   unfolding compound
   compound-over disjunction I J h k = (h, k)
   compound-over conjunction I J h k = (h, k)

@@ -13,7 +13,7 @@ use Rattle.forms.specs.Forms.{Form, nonzero, ≤0, =0, Formula, literal, _divid
 use Rattle.printing.specs.Words.{Summand, scaled, plain, Sum, Wording, atMost0, equal0, multiple, bothOf, eitherOf, unlessNone, summandsOf, asSum, sumOf, worded}
 use Rattle.printing.specs.WordsText.{wordingText}
 use Rattle.printing.specs.WordsReading.{parseWording}
-use Rattle.printing.specs.Readable.{Over}
+use Rattle.printing.specs.OneReading.{OverConstants}
 use Rattle.printing.proofs.Meaning.{zero-or}
 use Rattle.printing.proofs.WordsUnique.{words-unique}
 
@@ -123,7 +123,7 @@ toFormula K (multiple g l) = g divides toForm K l
 toFormula K (bothOf p q) = toFormula K p and toFormula K q
 toFormula K (eitherOf p q) = toFormula K p or toFormula K q
 
-formula-back : (K : ℕ) (I : Formula) → Over K I → toFormula K (worded I) ≡ I
+formula-back : (K : ℕ) (I : Formula) → OverConstants K I → toFormula K (worded I) ≡ I
 unfolding worded
 formula-back K (literal ≤0 t) h = ap (literal ≤0) (form-back K t h)
 formula-back K (literal =0 t) h = ap (literal =0) (form-back K t h)
@@ -131,7 +131,7 @@ formula-back K (g divides t) h = ap (λ (u : Form). g divides u) (form-back K t 
 formula-back K (I and J) h = ap₂ _and_ (formula-back K I (h .0)) (formula-back K J (h .1))
 formula-back K (I or J) h = ap₂ _or_ (formula-back K I (h .0)) (formula-back K J (h .1))
 
-pub words-kept : (K : ℕ) (I J : Formula) → Over K I → Over K J → wordingText (worded I) ≡ wordingText (worded J) → I ≡ J
+pub words-kept : (K : ℕ) (I J : Formula) → OverConstants K I → OverConstants K J → wordingText (worded I) ≡ wordingText (worded J) → I ≡ J
 words-kept K I J h k e =
     let p : some (worded I) ≡ some (worded J) = sym (words-unique (worded I)) ∙ ap parseWording e ∙ words-unique (worded J) in
     let q : worded I ≡ worded J = cc in

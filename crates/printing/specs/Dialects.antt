@@ -14,10 +14,10 @@ use Rattle.printing.specs.Words.{worded, WordingTrue}
 use Rattle.printing.specs.WordsText.{wordingText, partText}
 use Rattle.printing.specs.WordsReading.{parseWording}
 
-abbrev pub shown : (wording inner : Bool) → Formula → List ℕ
-shown false inner I = propText (smt I)
-shown true false I = wordingText (worded I)
-shown true true I = partText (worded I)
+abbrev pub formulaText : (wording inner : Bool) → Formula → List ℕ
+formulaText false inner I = propText (smt I)
+formulaText true false I = wordingText (worded I)
+formulaText true true I = partText (worded I)
 
 -- Bytes read as a formula's proposition, or its wording; and that means what the formula says.
 abbrev pub ReadsAs : (wording : Bool) → List ℕ → Formula → Type 0

@@ -9,4 +9,4 @@ pub mod WordsReading
 pub mod Dialects
 pub mod Print
 pub mod Promises
-pub mod Readable
+pub mod OneReading

@@ -12,14 +12,14 @@ use Rattle.fields.specs.declared.FileKind.{FileKind}
 use Rattle.fields.specs.Fields.{Fields, fields}
 use Rattle.fields.specs.Header.{header, finished}
 use Rattle.formula.specs.Formula.{formulaWithin}
-use Rattle.printing.specs.Dialects.{shown}
+use Rattle.printing.specs.Dialects.{formulaText}
 
 -- The text of the formula behind the header, over so many constants.
 unfoldable pub textBehind : (wording : Bool) → (K : ℕ) → Fields → Result (List ℕ)
 textBehind wording K fs = do
   (I, after) ← formulaWithin edition1 K (edition1 .levels) fs
   finished FileKind.Formula fileProof after
-  accepted (shown wording false I)
+  accepted (formulaText wording false I)
 
 -- As testing reads a formula, but for K, which is the file's own: 1, 2, 3, 19, 4, 6, 5, 7, 12, 17.
 unfoldable pub printed : (wording : Bool) → (formula : List ℕ) → Result (List ℕ)

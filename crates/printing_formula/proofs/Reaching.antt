@@ -29,13 +29,13 @@ use Rattle.formula_read.specs.declared.node.Node.{Node}
 use Rattle.formula_read.proofs.Parts.{low, high, at-least-two}
 use Rattle.formula_read.proofs.Ways.{formula-ends, formula-cut, further, literal-long, stride-long, formula-node, formula-refused, literal-is, stride-is, no-level}
 use Rattle.printing_formula.specs.Printing.{pairWithin}
-use Rattle.printing_formula.specs.Reaching.{ReadOr, Reads, StrideReached, WholeAt, PartsAt}
+use Rattle.printing_formula.specs.Reaching.{ReadOr, ReadsFormula, StrideReached, WholeAt, PartsAt}
 use Rattle.printing_formula.specs.declared.once.Reached.{Reached}
 use Rattle.printing_formula.proofs.Ways.{two-is}
 
 -- The same, read from an earlier place.
-module _ {s : List ℕ} {from : ℕ} {w : Result (Formula × Fields)} {r : Reached} (p : Reads s from w r) where
-  reads-weaken : (from′ : ℕ) {w′ : Result (Formula × Fields)} → w′ ≡ w → from′ ≤ from → Reads s from′ w′ r
+module _ {s : List ℕ} {from : ℕ} {w : Result (Formula × Fields)} {r : Reached} (p : ReadsFormula s from w r) where
+  reads-weaken : (from′ : ℕ) {w′ : Result (Formula × Fields)} → w′ ≡ w → from′ ≤ from → ReadsFormula s from′ w′ r
   reads-weaken from′ {w′} e h = record { read = go r (p .read) }
     where
       go : (r : Reached) → ReadOr s from w r → ReadOr s from′ w′ r

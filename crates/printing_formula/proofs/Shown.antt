@@ -10,14 +10,14 @@ use Rattle.printing.specs.Text.{ascii, propText}
 use Rattle.printing.specs.Translation.{smt}
 use Rattle.printing.specs.Words.{worded}
 use Rattle.printing.specs.WordsText.{wordingText, partText}
-use Rattle.printing.specs.Dialects.{shown}
+use Rattle.printing.specs.Dialects.{formulaText}
 use Rattle.printing_signs.specs.Relations.{openText, betweenText, closeText}
 
 in-words : (a p b q e : List ℕ) → (((a ++ p) ++ b) ++ q) ++ e ≡ (a ++ ((p ++ b) ++ q)) ++ e
 in-words a p b q e = simp append-assoc
 
 pub pair-text : (wording inner either : Bool) (I J : Formula)
-    → (((openText wording inner either ++ shown wording true I) ++ betweenText wording either) ++ shown wording true J) ++ closeText wording inner ≡ shown wording inner (compound (connective either) I J)
+    → (((openText wording inner either ++ formulaText wording true I) ++ betweenText wording either) ++ formulaText wording true J) ++ closeText wording inner ≡ formulaText wording inner (compound (connective either) I J)
 unfolding propText smt compound wordingText worded
 pair-text false inner true I J = refl
 pair-text false inner false I J = refl
@@ -27,14 +27,14 @@ pair-text true false true I J = append-nil _
 pair-text true false false I J = append-nil _
 
 -- an atom is shown alike wherever it stands
-pub literal-shown : (wording inner : Bool) (k : Kind) (t : Form) → shown wording false (literal k t) ≡ shown wording inner (literal k t)
+pub literal-shown : (wording inner : Bool) (k : Kind) (t : Form) → formulaText wording false (literal k t) ≡ formulaText wording inner (literal k t)
 unfolding wordingText worded
 literal-shown false inner k t = refl
 literal-shown true false k t = refl
 literal-shown true true ≤0 t = refl
 literal-shown true true =0 t = refl
 
-pub stride-shown : (wording inner : Bool) (g : ℕ) (t : Form) → shown wording false (g divides t) ≡ shown wording inner (g divides t)
+pub stride-shown : (wording inner : Bool) (g : ℕ) (t : Form) → formulaText wording false (g divides t) ≡ formulaText wording inner (g divides t)
 unfolding wordingText worded
 stride-shown false inner g t = refl
 stride-shown true false g t = refl

@@ -32,7 +32,7 @@ use Rattle.printing.specs.Text.{propText}
 use Rattle.printing.specs.Translation.{smt}
 use Rattle.printing.specs.Words.{worded}
 use Rattle.printing.specs.WordsText.{wordingText}
-use Rattle.printing.specs.Dialects.{shown}
+use Rattle.printing.specs.Dialects.{formulaText}
 use Rattle.printing_signs.specs.Relations.{openText, betweenText, closeText}
 use Rattle.printing_text.specs.PutsText.{PutsText}
 use Rattle.printing_formula.specs.Printing.{Place, PutOr, Prints, StrideAt, FormulaAt, PairAt}
@@ -60,10 +60,10 @@ pub divisor-back : {g : ℤ} → SFits w64 g → Divisor g → Divisor (toZ w64 
 divisor-back {g} f d = rw (toZ-ofZ w64 g f) d
 
 module _ (t : Form) {wording : Bool} {g : ℤ} (f : SFits w64 g) where
-  pub word-stride-as : wording ≡ true → wordingText (worded (natAbs (toZ w64 (ofZ w64 g)) divides t)) ≡ shown wording false (natAbs g divides t)
+  pub word-stride-as : wording ≡ true → wordingText (worded (natAbs (toZ w64 (ofZ w64 g)) divides t)) ≡ formulaText wording false (natAbs g divides t)
   word-stride-as e = rw (e, toZ-ofZ w64 g f)
 
-  pub term-stride-as : wording ≡ false → propText (smt (natAbs (toZ w64 (ofZ w64 g)) divides t)) ≡ shown wording false (natAbs g divides t)
+  pub term-stride-as : wording ≡ false → propText (smt (natAbs (toZ w64 (ofZ w64 g)) divides t)) ≡ formulaText wording false (natAbs g divides t)
   term-stride-as e = rw (e, toZ-ofZ w64 g f)
 
 -- ---- a stride part
@@ -75,7 +75,7 @@ module _ (wording : Bool) {s : List ℕ} (place start next K : ℕ) {g : ℤ} (f
   stride-refused h = record { at = λ inner. record { put = fail _ _ (low (signed (take 4 (drop start s))) (rw (toZ-ofZ w64 g f, e) at h)) } }
 
   pub stride-put : {out′ : List ℕ} {end : ℕ} → ltZ (toZ w64 (ofZ w64 g)) (pos 2) ≡ false → next ≤ length s
-      → PutsText out o (shown wording false (natAbs (toZ w64 (ofZ w64 g)) divides formAt s (start + 4) K)) (41 + 23 * K) out′ end
+      → PutsText out o (formulaText wording false (natAbs (toZ w64 (ofZ w64 g)) divides formAt s (start + 4) K)) (41 + 23 * K) out′ end
       → StrideAt wording s place start next K out o out′ (Progress.Text next end)
   stride-put h l p = record {
     at = λ inner. record {
@@ -84,7 +84,7 @@ module _ (wording : Bool) {s : List ℕ} (place start next K : ℕ) {g : ℤ} (f
         is = pass _ _ (high (signed (take 4 (drop start s))) (rw (toZ-ofZ w64 g f, e) at h));
         on = omega arith;
         upto = l;
-        puts = puts-is p (ap (λ (x : ℤ). shown wording false (natAbs x divides formAt s (start + 4) K)) (toZ-ofZ w64 g f ∙ e)
+        puts = puts-is p (ap (λ (x : ℤ). formulaText wording false (natAbs x divides formAt s (start + 4) K)) (toZ-ofZ w64 g f ∙ e)
             ∙ stride-shown wording inner (natAbs (signed (take 4 (drop start s)))) (formAt s (start + 4) K)) (omega arith);
       };
     };
@@ -103,7 +103,7 @@ module _ {wording inner : Bool} {s : List ℕ} {at place tag start len next : �
   pub node-refused : {number : ℕ} → node ≡ Node.Refused number → FormulaAt wording inner s at K levels out o out′ (Progress.Fault number place)
   node-refused f = record { put = formula-refused k K e [] levels f .judged }
 
-  pub node-literal : {equality : Bool} {end : ℕ} → node ≡ Node.Literal equality → PutsText out o (shown wording false (literal (literalKind equality) (formAt s start K))) (25 + 23 * K) out′ end
+  pub node-literal : {equality : Bool} {end : ℕ} → node ≡ Node.Literal equality → PutsText out o (formulaText wording false (literal (literalKind equality) (formAt s start K))) (25 + 23 * K) out′ end
       → FormulaAt wording inner s at K levels out o out′ (Progress.Text next end)
   node-literal {equality} f p =
       let l : len ≡ suc K * 4 = literal-long k K e f in

@@ -16,7 +16,7 @@ use Rattle.formula.specs.Formula.{compound, formulaWithin}
 use Rattle.form_value.specs.FormAt.{formAt}
 use Rattle.formula_read.specs.Judging.{twoWithin}
 use Rattle.formula_read.specs.Nodes.{connective}
-use Rattle.printing.specs.Dialects.{shown}
+use Rattle.printing.specs.Dialects.{formulaText}
 use Rattle.printing_text.specs.PutsText.{PutsText}
 use Rattle.printing_formula.specs.declared.reading.Progress.{Progress}
 
@@ -32,7 +32,7 @@ pub record PutFormula (wording inner : Bool) (s : List ℕ) (from more : ℕ) (w
   pub is : w ≡ accepted (formula, fieldsAt s next)
   pub on : from ≤ next
   pub upto : next ≤ length s
-  pub puts : PutsText out o (shown wording inner formula) (more + 6 * (next - from)) out′ end
+  pub puts : PutsText out o (formulaText wording inner formula) (more + 6 * (next - from)) out′ end
 
 abbrev pub PutOr : (wording inner : Bool) (s : List ℕ) (from more : ℕ) → Result (Formula × Fields) → (out : List ℕ) (o : ℕ) (out′ : List ℕ) → Progress → Type 0
 PutOr wording inner s from more w out o out′ (Progress.Fault number at) = w ≡ refused (answer number fileProof at)

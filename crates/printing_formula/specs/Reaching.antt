@@ -22,15 +22,15 @@ abbrev pub ReadOr : (s : List ℕ) (from : ℕ) → Result (Formula × Fields) �
 ReadOr s from w (Reached.Fault number at) = w ≡ refused (answer number fileProof at)
 ReadOr s from w (Reached.Whole next) = ReadTo s from w next
 
-pub record Reads (s : List ℕ) (from : ℕ) (w : Result (Formula × Fields)) (r : Reached) : Type 0 where
+pub record ReadsFormula (s : List ℕ) (from : ℕ) (w : Result (Formula × Fields)) (r : Reached) : Type 0 where
   pub read : ReadOr s from w r
 
 -- What a stride part, the formula reader and the pair reader ensure.
 pub record StrideReached (s : List ℕ) (place start next : ℕ) (r : Reached) : Type 0 where
-  pub at : (K : ℕ) → Reads s next (strideWithin s place start next K) r
+  pub at : (K : ℕ) → ReadsFormula s next (strideWithin s place start next K) r
 
 abbrev pub WholeAt : (s : List ℕ) (at K levels : ℕ) → Reached → Type 0
-WholeAt s at K levels r = Reads s at (formulaWithin edition1 K levels (fieldsAt s at)) r
+WholeAt s at K levels r = ReadsFormula s at (formulaWithin edition1 K levels (fieldsAt s at)) r
 
 pub record PartsAt (s : List ℕ) (place at K levels : ℕ) (r : Reached) : Type 0 where
-  pub of : (either : Bool) → Reads s at (pairWithin K levels either place (fieldsAt s at)) r
+  pub of : (either : Bool) → ReadsFormula s at (pairWithin K levels either place (fieldsAt s at)) r

@@ -22,7 +22,7 @@ ghost use mathlib.Core.Bool.{false};
 ghost use Rattle.forms.specs.Forms.{literal, _divides_};
 ghost use Rattle.formula_write.specs.Writing.{Divisor};
 ghost use Rattle.formula_read.specs.Nodes.{literalKind};
-ghost use Rattle.printing.specs.Dialects.{shown};
+ghost use Rattle.printing.specs.Dialects.{formulaText};
 ghost use Rattle.printing_text.specs.PutsText.{textLimit, PutsText};
 ghost use Rattle.printing_formula.specs.Printing.{Place, StrideAt, FormulaAt, PairAt};
 
@@ -44,7 +44,7 @@ fn put_literal(
     requires { ⌜ Whole (now s) at k ⌝ }
     requires { ⌜ k ≤ edition1 .constants ⌝ }
     requires { ⌜ o + 800 ≤ textLimit ⌝ }
-    ensures { λ r. ⌜ PutsText (now (out .entry)) o (shown wording false (literal (literalKind equality) (formAt (now (s .entry)) at k))) (25 + 23 * k) (now (out .exit)) r ⌝ }
+    ensures { λ r. ⌜ PutsText (now (out .entry)) o (formulaText wording false (literal (literalKind equality) (formAt (now (s .entry)) at k))) (25 + 23 * k) (now (out .exit)) r ⌝ }
 {
     if wording {
         return word_literal(s, at, k, equality, out, o);
@@ -65,7 +65,7 @@ fn put_stride(
     requires { ⌜ k ≤ edition1 .constants ⌝ }
     requires { ⌜ Divisor g ⌝ }
     requires { ⌜ o + 800 ≤ textLimit ⌝ }
-    ensures { λ r. ⌜ PutsText (now (out .entry)) o (shown wording false (natAbs g divides formAt (now (s .entry)) at k)) (41 + 23 * k) (now (out .exit)) r ⌝ }
+    ensures { λ r. ⌜ PutsText (now (out .entry)) o (formulaText wording false (natAbs g divides formAt (now (s .entry)) at k)) (41 + 23 * k) (now (out .exit)) r ⌝ }
 {
     if wording {
         return word_stride(s, at, k, g, out, o);

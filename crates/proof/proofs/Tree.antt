@@ -25,46 +25,46 @@ use Rattle.proof.specs.Rows.{lineAt, derived, fitting, inequality, round
 use Rattle.proof.specs.Check.{Closing, Checker, Following, there, checkRounded, checkSplit, checkRow, checkEntry, checkEntries, checkBranch, checkProof}
 use Rattle.proof.specs.Layout.{Enters}
 use Rattle.proof.specs.Tree.{OpenStep, openStep, Tree, tree, afterClose, roundingOf, treeBehind, innermost, startsAt, Stands, here, past}
-use Rattle.proof.proofs.Says.{Says, says-refused, says-accepted, bind, seq, says-need, test, finds, weaken}
+use Rattle.proof.proofs.Satisfies.{Satisfies, says-refused, says-accepted, bind, seq, says-need, test, finds, weaken}
 
 -- ---- the tests of a row: each refusal is one of this row, by a number from 2 to 20
 abbrev pub amidst : ℕ → Bool
 amidst n = leb 2 n && leb n 20
 
 module _ {Q : Answer → Type 0} (refusal : ℕ → Answer) (h : (n : ℕ) → T (amidst n) → Q (refusal n)) (ls : List Line) where
-  pub line-says : (i : ℕ) → Says Q (lineAt refusal ls i) (λ _. Unit {0})
+  pub line-says : (i : ℕ) → Satisfies Q (lineAt refusal ls i) (λ _. Unit {0})
   unfolding lineAt
   line-says i = weaken (finds (refusal 10) _ (h 10 tt)) (λ a q. q) (λ _ _. tt)
 
-  pub derived-says : (s : Inference) → Says Q (derived refusal ls s) (λ _. Unit {0})
+  pub derived-says : (s : Inference) → Satisfies Q (derived refusal ls s) (λ _. Unit {0})
   unfolding derived
   derived-says (Combine i j α β) = bind (line-says i) λ s _. bind (line-says j) λ t _. test _ _ (h 11 tt) λ _. test _ _ (h 12 tt) λ _. says-accepted tt
   derived-says (Reduce i j α) = bind (line-says i) λ s _. bind (line-says j) λ t _. bind (finds _ _ (h 11 tt)) λ k _. test _ _ (h 11 tt) λ _. test _ _ (h 12 tt) λ _. says-accepted tt
   derived-says (Scale i α) = bind (line-says i) λ t _. bind (finds _ _ (h 11 tt)) λ k _. test _ _ (h 12 tt) λ _. says-accepted tt
 
-  pub fitting-says : (e : Edition) (l : Line) → Says Q (fitting refusal ls e l) (λ _. Unit {0})
+  pub fitting-says : (e : Edition) (l : Line) → Satisfies Q (fitting refusal ls e l) (λ _. Unit {0})
   unfolding fitting
   fitting-says e l = test _ _ (h 16 tt) λ _. weaken (says-need _ _ (h 13 tt)) (λ a q. q) (λ _ _. tt)
 
-  pub inequality-says : (i : ℕ) → Says Q (inequality refusal ls i) (λ _. Unit {0})
+  pub inequality-says : (i : ℕ) → Satisfies Q (inequality refusal ls i) (λ _. Unit {0})
   unfolding inequality
   inequality-says i = bind (line-says i) λ t _. test _ _ (h 11 tt) λ _. says-accepted tt
 
   -- what passes is rounded by 1 at least
-  pub roundable-says : (e : Edition) (i g k : ℕ) → Says Q (roundable refusal ls e i g k) (λ _. 1 ≤ k)
+  pub roundable-says : (e : Edition) (i g k : ℕ) → Satisfies Q (roundable refusal ls e i g k) (λ _. 1 ≤ k)
   unfolding roundable
   roundable-says e i g k = bind (inequality-says i) λ t _. test _ _ (h 12 tt) λ n. test _ _ (h 15 tt) λ _.
       says-accepted (leb→le 1 k (and-yes (leb 2 g) (leb 1 k) (and-yes (leb 2 g && leb 1 k) (leb k (e .rounding)) n .0) .1))
 
-  pub disequality-says : (i : ℕ) → Says Q (disequality refusal ls i) (λ _. Unit {0})
+  pub disequality-says : (i : ℕ) → Satisfies Q (disequality refusal ls i) (λ _. Unit {0})
   unfolding disequality
   disequality-says i = bind (line-says i) λ t _. bind (finds _ _ (h 11 tt)) λ σ _. says-accepted tt
 
-  pub byNumber-says : (i : ℕ) → Says Q (byNumber refusal ls i) (λ _. Unit {0})
+  pub byNumber-says : (i : ℕ) → Satisfies Q (byNumber refusal ls i) (λ _. Unit {0})
   unfolding byNumber
   byNumber-says i = bind (line-says i) λ t _. bind (finds _ _ (h 11 tt)) λ k _. test _ _ (h 15 tt) λ _. says-accepted tt
 
-  pub byStride-says : (i g : ℕ) → Says Q (byStride refusal ls i g) (λ _. Unit {0})
+  pub byStride-says : (i g : ℕ) → Satisfies Q (byStride refusal ls i g) (λ _. Unit {0})
   unfolding byStride
   byStride-says i g = bind (line-says i) λ t _. test _ _ (h 11 tt) λ _. test _ _ (h 12 tt) λ _. test _ _ (h 15 tt) λ _. says-accepted tt
 
@@ -83,7 +83,7 @@ leads-on (on f l) m = on f (leads-on l m)
 
 -- What a branch says whose fields begin with fs, in the tree t: its refusal stands in it, and a closed branch leads to the tree with that branch closed.
 abbrev Through : Tree → Fields → Result Closing → Type 0
-Through t fs r = Says (Stands t fs) r (λ c. Leads t fs (tree (c .rows) (afterClose (t .steps))) (c .after))
+Through t fs r = Satisfies (Stands t fs) r (λ c. Leads t fs (tree (c .rows) (afterClose (t .steps))) (c .after))
 
 through-on : {t t′ : Tree} {fs fs′ : Fields} {r : Result Closing} → t′ .steps ≡ t .steps → Leads t fs t′ fs′ → Through t′ fs′ r → Through t fs r
 through-on {t} {t′} {fs} {fs′} e l s = weaken s (λ a q. stands-on l q) (λ c m. leads-on l (subst (λ (ps : List OpenStep). Leads t′ fs′ (tree (c .rows) (afterClose ps)) (c .after)) e m))
@@ -98,7 +98,7 @@ PlacesIn (some checker) = Places checker
 
 -- The checker of deeper branches, and what is done with it.
 deeper-says : {Q : Answer → Type 0} {X : Type 0} {R : X → Type 0} (deeper : Option Checker) → PlacesIn deeper → (a : Answer) → Q a → {k : Checker → Result X}
-    → ((c : Checker) → Places c → Says Q (k c) R) → Says Q (found a deeper >>= k) R
+    → ((c : Checker) → Places c → Satisfies Q (k c) R) → Satisfies Q (found a deeper >>= k) R
 unfolding found _>>=_
 deeper-says none p a h k = says-refused h
 deeper-says (some c) p a h k = k c p
@@ -109,7 +109,7 @@ at-front ps rows fs n = here {t = tree rows ps} {fs = fs} {a = refusalAt (innerm
 
 -- what a field is that states an entry
 pub entry-says : (e : Edition) (K : ℕ) (refusal : ℕ → Answer) (made : Bool) (f : Field) {Q : Answer → Type 0} → ((n : ℕ) → T (amidst n) → Q (refusal n))
-    → Says Q (entry e K refusal made f) (Enters e K (item (f .tag) (f .contents)))
+    → Satisfies Q (entry e K refusal made f) (Enters e K (item (f .tag) (f .contents)))
 unfolding entry
 entry-says e K refusal made f h = test _ _ (h 3 tt) λ _. bind (finds _ (entryTagged (f .tag)) (h 4 tt)) λ x t. test _ _ (h 4 tt) λ _. test _ _ (h 6 tt) λ n.
     says-accepted (record { tagged = x; tag = t; size = eqb→eq (length (f .contents)) (sizeOf e K x) n; entry = refl })
@@ -131,7 +131,7 @@ module _ (checker : Checker) (d : Places checker) (ls : List Line) (l : Line) (s
   Rest j rows = tree rows (openStep step (suc j) k ∷ ps)
 
   rounded-through : (j left rows : ℕ) → suc (j + left) ≡ k → (fs : Fields)
-      → Says (Stands (Rest j rows) fs) (checkRounded checker ls l step g k j left rows fs) (λ c. Leads (Rest j rows) fs (tree (c .rows) (afterClose ps)) (c .after))
+      → Satisfies (Stands (Rest j rows) fs) (checkRounded checker ls l step g k j left rows fs) (λ c. Leads (Rest j rows) fs (tree (c .rows) (afterClose ps)) (c .after))
   unfolding checkRounded innermost
   rounded-through j zero rows q fs = bind (d (openStep step (suc j) k ∷ ps) rows _ fs) λ own m.
       says-accepted (subst (λ (ss : List OpenStep). Leads (Rest j rows) fs (tree (own .rows) ss) (own .after)) (after-last step ps (omega arith)) m)
@@ -193,8 +193,8 @@ module _ (e : Edition) (two : e .multiplierWidth ≡ 2) (K : ℕ) (deeper : Opti
     unfolding checkRow
     derive-through s b = bind (derived-says _ told ls s) λ l _. seq (fitting-says _ told ls e l) (through-on refl (leads-behind b) (q _ _ _))
 
-    close-through : {X : Type 0} {r : Result X} {k : X → Result Closing} → Says (Stands (tree rows ps) (f ▸ fs)) r (λ _. Unit {0})
-        → ((x : X) → Says (Stands (tree rows ps) (f ▸ fs)) (k x) (λ c. (c .rows ≡ suc rows) × (c .after ≡ fs))) → Behind (tree (suc rows) (afterClose ps)) → Through (tree rows ps) (f ▸ fs) (r >>= k)
+    close-through : {X : Type 0} {r : Result X} {k : X → Result Closing} → Satisfies (Stands (tree rows ps) (f ▸ fs)) r (λ _. Unit {0})
+        → ((x : X) → Satisfies (Stands (tree rows ps) (f ▸ fs)) (k x) (λ c. (c .rows ≡ suc rows) × (c .after ≡ fs))) → Behind (tree (suc rows) (afterClose ps)) → Through (tree rows ps) (f ▸ fs) (r >>= k)
     close-through s h b = bind s λ x _. weaken (h x) (λ a q. q) (λ c (r, m). rw (r, m) (leads-behind b))
 
     strengthen-through : (i : ℕ) → Behind (tree (suc rows) (openStep rows 0 2 ∷ ps)) → Through (tree rows ps) (f ▸ fs) (checkRow e K deeper next (refusalAt (innermost ps) rows (f .at)) rows ls fs (Strengthen i))
@@ -275,7 +275,7 @@ record Passed (fs : Fields) (x : ℕ × ℕ × Fields) : Type 0 where
   leads : Leads (tree 0 []) fs (tree 0 []) (x .2)
   told : (n : ℕ) → rowTold n 0 ≡ nowhere → Stands (tree 0 []) fs (answer n fileProof (x .0))
 
-field-says : (tag : ℕ) → entryTagged tag ≡ none → (fs : Fields) → Says (Stands (tree 0 []) fs) (headerField FileKind.Proof fileProof tag fs) (Passed fs)
+field-says : (tag : ℕ) → entryTagged tag ≡ none → (fs : Fields) → Satisfies (Stands (tree 0 []) fs) (headerField FileKind.Proof fileProof tag fs) (Passed fs)
 unfolding headerField startsAt rowTold treeBehind
 field-says tag h (ends at) = says-refused (outside 0 (ends at) 2 refl)
 field-says tag h (cut at) = says-refused (outside 0 (cut at) 2 refl)
@@ -286,25 +286,25 @@ field-says tag h (f ▸ fs) = test _ _ (outside 0 (f ▸ fs) 3 refl) λ _. test 
       told = λ n q. outside 0 (f ▸ fs) n q;
     })
 
-edition-says : (newest : ℕ) (fs : Fields) → Says (Stands (tree 0 []) fs) (editionField FileKind.Proof fileProof newest fs) (λ x. Leads (tree 0 []) fs (tree 0 []) (x .1))
+edition-says : (newest : ℕ) (fs : Fields) → Satisfies (Stands (tree 0 []) fs) (editionField FileKind.Proof fileProof newest fs) (λ x. Leads (tree 0 []) fs (tree 0 []) (x .1))
 unfolding editionField entryTagged rowTold
 edition-says newest fs = bind (field-says 0x01 refl fs) λ x p. test _ _ (p .told 5 refl) λ _. says-accepted (p .leads)
 
-constants-says : (given : Option ℕ) (fs : Fields) → Says (Stands (tree 0 []) fs) (constantsField FileKind.Proof fileProof given fs) (λ x. Leads (tree 0 []) fs (tree 0 []) (x .1))
+constants-says : (given : Option ℕ) (fs : Fields) → Satisfies (Stands (tree 0 []) fs) (constantsField FileKind.Proof fileProof given fs) (λ x. Leads (tree 0 []) fs (tree 0 []) (x .1))
 unfolding constantsField entryTagged rowTold
 constants-says given fs = bind (field-says 0x02 refl fs) λ x p. test _ _ (p .told 7 refl) λ _. test _ _ (p .told 9 refl) λ _. says-accepted (p .leads)
 
-pub header-says : (newest : ℕ) (given : Option ℕ) (fs : Fields) → Says (Stands (tree 0 []) fs) (header FileKind.Proof fileProof newest given fs) (λ h. Leads (tree 0 []) fs (tree 0 []) (h .rest))
+pub header-says : (newest : ℕ) (given : Option ℕ) (fs : Fields) → Satisfies (Stands (tree 0 []) fs) (header FileKind.Proof fileProof newest given fs) (λ h. Leads (tree 0 []) fs (tree 0 []) (h .rest))
 unfolding header
 header-says newest given fs = bind (edition-says newest fs) λ x l. bind (weaken (constants-says given (x .1)) (λ a s. stands-on l s) (λ y m. leads-on l m)) λ y m. says-accepted m
 
-finished-says : {rows : ℕ} (fs : Fields) → Says (Stands (tree rows []) fs) (finished FileKind.Proof fileProof fs) (λ _. Unit {0})
+finished-says : {rows : ℕ} (fs : Fields) → Satisfies (Stands (tree rows []) fs) (finished FileKind.Proof fileProof fs) (λ _. Unit {0})
 unfolding finished startsAt rowTold
 finished-says {rows} (ends at) = says-accepted tt
 finished-says {rows} (cut at) = says-refused (outside rows (cut at) 2 refl)
 finished-says {rows} (f ▸ fs) = test _ _ (outside rows (f ▸ fs) 3 refl) λ _. says-refused (outside rows (f ▸ fs) 19 refl)
 
-proof-says : (newest : ℕ) (a b : Bundle) (fs : Fields) → Says (Stands (tree 0 []) fs) (checkProof newest a b fs) (λ _. Unit {0})
+proof-says : (newest : ℕ) (a b : Bundle) (fs : Fields) → Satisfies (Stands (tree 0 []) fs) (checkProof newest a b fs) (λ _. Unit {0})
 unfolding checkProof innermost afterClose
 proof-says newest a b fs = bind (header-says newest (some (a .K)) fs) λ h l.
     bind (weaken (branch-through (edition (h .number)) refl (h .K) (edition (h .number) .branchings) [] 0 _ (h .rest)) (λ y s. stands-on l s) (λ c m. leads-on l m)) λ c m.

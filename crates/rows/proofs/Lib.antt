@@ -1,4 +1,4 @@
 -- Laws of the rows that make a line, and of claims.
-pub mod Deriving
-pub mod Testing
+pub mod NewLine
+pub mod InferenceTests
 pub mod Claiming

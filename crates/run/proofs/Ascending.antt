@@ -16,7 +16,7 @@ use Rattle.answers.specs.Answers.{refusalAt, Result, refused, accepted, _>>=_, 
 use Rattle.fields.specs.Fields.{Field, Fields, ends, cut, _▸_, Front, whole, broken, nothing, front, note, unlessNote, fieldsFrom, fields}
 use Rattle.proof.specs.Check.{Closing, Checker, Following, there, checkRounded, checkSplit, checkRow, checkEntry, checkEntries, checkBranch}
 use Rattle.proof.specs.Tree.{startsAt}
-use Rattle.proof.proofs.Says.{Says, says-refused, says-accepted, bind, seq, test, finds, weaken}
+use Rattle.proof.proofs.Satisfies.{Satisfies, says-refused, says-accepted, bind, seq, test, finds, weaken}
 use Rattle.proof.proofs.Tree.{amidst, derived-says, fitting-says, inequality-says, roundable-says, disequality-says, byNumber-says, byStride-says, entry-says}
 
 -- Each field starts before the next.
@@ -68,7 +68,7 @@ abbrev pub From : ℕ → Answer → Type 0
 From n a = n ≤ a .place
 
 abbrev pub StandsFrom : ℕ → Result Closing → Type 0
-StandsFrom n r = Says (From n) r (λ c. Later n (c .after))
+StandsFrom n r = Satisfies (From n) r (λ c. Later n (c .after))
 
 abbrev pub AllFrom : Checker → Type 0
 AllFrom checker = (here : Position) (rows : ℕ) (ls : List Line) (fs : Fields) (n : ℕ) → Later n fs → StandsFrom n (checker here rows ls fs)
@@ -77,7 +77,7 @@ pub data AllFromIn : Option Checker → Type 0 where
   shut : AllFromIn none
   opens : {checker : Checker} → AllFrom checker → AllFromIn (some checker)
 
-deeper-from : {n : ℕ} (deeper : Option Checker) → AllFromIn deeper → (a : Answer) → From n a → Says (From n) (found a deeper) AllFrom
+deeper-from : {n : ℕ} (deeper : Option Checker) → AllFromIn deeper → (a : Answer) → From n a → Satisfies (From n) (found a deeper) AllFrom
 unfolding found
 deeper-from _ shut a h = says-refused h
 deeper-from _ (opens p) a h = says-accepted p

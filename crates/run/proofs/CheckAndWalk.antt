@@ -17,10 +17,10 @@ use Rattle.fields.specs.Fields.{Field, Fields, ends, cut, _▸_, Item, item}
 use Rattle.proof.specs.Entries.{entry}
 use Rattle.proof.specs.Check.{Closing, Checker, Following, there, checkRounded, checkSplit, checkRow, checkEntry, checkEntries, checkBranch}
 use Rattle.proof.specs.Tree.{startsAt}
-use Rattle.proof.proofs.Says.{Says, says-refused, says-accepted, bind, seq, test, finds, weaken}
+use Rattle.proof.proofs.Satisfies.{Satisfies, says-refused, says-accepted, bind, seq, test, finds, weaken}
 use Rattle.proof.proofs.Tree.{amidst, derived-says, fitting-says, inequality-says, roundable-says, disequality-says, byNumber-says, byStride-says, entry-says}
 use Rattle.chains.specs.Runs.{joined}
-use Rattle.run.specs.Uniform.{withNumber, Walked, Branches, Walker, FollowingWalk, walkBranches, firstAndThird, allAlike, walkOpened, walkClosed, walkRow, walkEntry, walkEntries, walkBranch}
+use Rattle.run.specs.Uniform.{withNumber, Walked, WalkedBranches, Walker, FollowingWalk, walkBranches, firstAndThird, allAlike, walkOpened, walkClosed, walkRow, walkEntry, walkEntries, walkBranch}
 use Rattle.run.proofs.Ascending.{Ascending, Later, at-least, behind, From}
 
 -- ---- where a walk ends
@@ -32,7 +32,7 @@ pub record End : Type 0 where
 abbrev pub endOf : Walked → End
 endOf w = record { rows = w .rows; unlike = w .unlike; after = w .after }
 
-abbrev pub lastOf : Branches → End
+abbrev pub lastOf : WalkedBranches → End
 lastOf ws = record { rows = ws .rows; unlike = ws .unlike; after = ws .after }
 
 pub record Behind (n : ℕ) (x : End) : Type 0 where
@@ -41,10 +41,10 @@ pub record Behind (n : ℕ) (x : End) : Type 0 where
 
 -- ---- the walk's refusals stand at n or behind
 abbrev WalkOnward : ℕ → Result Walked → Type 0
-WalkOnward n r = Says (From n) r (λ w. Behind n (endOf w))
+WalkOnward n r = Satisfies (From n) r (λ w. Behind n (endOf w))
 
-abbrev BranchesOnward : ℕ → Result Branches → Type 0
-BranchesOnward n r = Says (From n) r (λ ws. Behind n (lastOf ws))
+abbrev BranchesOnward : ℕ → Result WalkedBranches → Type 0
+BranchesOnward n r = Satisfies (From n) r (λ ws. Behind n (lastOf ws))
 
 abbrev WalksOnward : Walker → Type 0
 WalksOnward walker = (here : Position) (rows : ℕ) (fs : Fields) (n : ℕ) → Later n fs → WalkOnward n (walker here rows fs)
@@ -58,7 +58,7 @@ data WalksIn : Option Walker → Type 0 where
   walks-shut : WalksIn none
   walks-open : {walker : Walker} → WalksOnward walker → WalksIn (some walker)
 
-found-from : {n : ℕ} (a : Answer) {deeper : Option Walker} → WalksIn deeper → From n a → Says (From n) (found a deeper) WalksOnward
+found-from : {n : ℕ} (a : Answer) {deeper : Option Walker} → WalksIn deeper → From n a → Satisfies (From n) (found a deeper) WalksOnward
 unfolding found
 found-from a walks-shut h = says-refused h
 found-from a (walks-open d) h = says-accepted d
@@ -108,12 +108,12 @@ Ours a = (a .number ≡ 27) ⊎ (a .number ≡ 28)
 pub data Beside {W : Type 0} (π : W → End) : Result Closing → Result W → Type 0 where
   closed : {c : Closing} {w : W} → c .rows ≡ π w .rows → c .after ≡ π w .after → Ascending (c .after) → π w .unlike .number ≡ 28 → Beside π (accepted c) (accepted w)
   told : (a : Answer) {r : Result Closing} → Ours a → Beside π r (refused a)
-  first : (a : Answer) {s : Result W} → Says (From (a .place)) s (λ w. Behind (a .place) (π w)) → Beside π (refused a) s
+  first : (a : Answer) {s : Result W} → Satisfies (From (a .place)) s (λ w. Behind (a .place) (π w)) → Beside π (refused a) s
 
 module _ {W Z : Type 0} {π : W → End} {ρ : Z → End} where
   beside-bind : {m : Result Closing} {s : Result W} {f : Closing → Result Closing} {g : W → Result Z} → Beside π m s
       → ((c : Closing) (w : W) → c .rows ≡ π w .rows → c .after ≡ π w .after → Ascending (c .after) → π w .unlike .number ≡ 28 → Beside ρ (f c) (g w))
-      → ((n : ℕ) (w : W) → Behind n (π w) → Says (From n) (g w) (λ v. Behind n (ρ v))) → Beside ρ (m >>= f) (s >>= g)
+      → ((n : ℕ) (w : W) → Behind n (π w) → Satisfies (From n) (g w) (λ v. Behind n (ρ v))) → Beside ρ (m >>= f) (s >>= g)
   unfolding _>>=_
   beside-bind (closed p q a u) h o = h _ _ p q a u
   beside-bind (told a k) h o = told a k
@@ -122,22 +122,22 @@ module _ {W Z : Type 0} {π : W → End} {ρ : Z → End} where
   -- a walk that goes on where the check has closed
   beside-on : {m : Result Closing} {s : Result W} {g : W → Result Z} → Beside π m s
       → ((c : Closing) (w : W) → c .rows ≡ π w .rows → c .after ≡ π w .after → Ascending (c .after) → π w .unlike .number ≡ 28 → Beside ρ (accepted c) (g w))
-      → ((n : ℕ) (w : W) → Behind n (π w) → Says (From n) (g w) (λ v. Behind n (ρ v))) → Beside ρ m (s >>= g)
+      → ((n : ℕ) (w : W) → Behind n (π w) → Satisfies (From n) (g w) (λ v. Behind n (ρ v))) → Beside ρ m (s >>= g)
   unfolding _>>=_
   beside-on (closed p q a u) h o = h _ _ p q a u
   beside-on (told a k) h o = told a k
   beside-on (first a i) h o = first a (bind i λ w j. o _ w j)
 
 -- the check's own tests of a row, which stand at its place
-module _ {W : Type 0} {π : W → End} {at : ℕ} {s : Result W} (o : Says (From at) s (λ w. Behind at (π w))) where
-  before : {X : Type 0} {P : X → Type 0} {m : Result X} {f : X → Result Closing} → Says (λ a. a .place ≡ at) m P → ((x : X) → P x → Beside π (f x) s) → Beside π (m >>= f) s
+module _ {W : Type 0} {π : W → End} {at : ℕ} {s : Result W} (o : Satisfies (From at) s (λ w. Behind at (π w))) where
+  before : {X : Type 0} {P : X → Type 0} {m : Result X} {f : X → Result Closing} → Satisfies (λ a. a .place ≡ at) m P → ((x : X) → P x → Beside π (f x) s) → Beside π (m >>= f) s
   unfolding _>>=_
-  before {m = refused a} h k = first a (subst (λ (n : ℕ). Says (From n) s (λ w. Behind n (π w))) (sym (h .refusal a refl)) o)
+  before {m = refused a} h k = first a (subst (λ (n : ℕ). Satisfies (From n) s (λ w. Behind n (π w))) (sym (h .refusal a refl)) o)
   before {m = accepted x} h k = k x (h .value x refl)
 
-  before-seq : {P : Unit {0} → Type 0} {m : Result (Unit {0})} {r : Result Closing} → Says (λ a. a .place ≡ at) m P → Beside π r s → Beside π (m >> r) s
+  before-seq : {P : Unit {0} → Type 0} {m : Result (Unit {0})} {r : Result Closing} → Satisfies (λ a. a .place ≡ at) m P → Beside π r s → Beside π (m >> r) s
   unfolding _>>_
-  before-seq {m = refused a} h k = first a (subst (λ (n : ℕ). Says (From n) s (λ w. Behind n (π w))) (sym (h .refusal a refl)) o)
+  before-seq {m = refused a} h k = first a (subst (λ (n : ℕ). Satisfies (From n) s (λ w. Behind n (π w))) (sym (h .refusal a refl)) o)
   before-seq {m = accepted x} h k = k
 
 -- the check makes a formula of what it has closed
@@ -190,7 +190,7 @@ module _ {checker : Checker} {walker : Walker} (d : AllBeside checker walker) (o
 pub refused-both : {W : Type 0} {π : W → End} (a : Answer) → Beside π (refused a) (refused a)
 refused-both a = let q : a .place ≤ a .place = omega arith in first a (says-refused q)
 
-needed : {at : ℕ} (a : Answer) (b : Bool) → a .place ≡ at → Says (λ a. a .place ≡ at) (need a b) (λ _. Unit {0})
+needed : {at : ℕ} (a : Answer) (b : Bool) → a .place ≡ at → Satisfies (λ a. a .place ≡ at) (need a b) (λ _. Unit {0})
 unfolding need
 needed a true q = says-accepted tt
 needed a false q = says-refused q
@@ -206,16 +206,16 @@ module _ (e : Edition) (K : ℕ) (here : Position) (deeper : Option Checker) (de
     at-it m _ = refl
 
     -- what a step's branches leave, and the test of them
-    abbrev joinedBy : Branches → Walked
+    abbrev joinedBy : WalkedBranches → Walked
     joinedBy ws = record { own = item (f .tag) (f .contents) ∷ joined (ws .owns); rows = ws .rows; unlike = ws .unlike; after = ws .after }
 
-    tested : (b : Bool) {c : Closing} (ws : Branches) → c .rows ≡ ws .rows → c .after ≡ ws .after → Ascending (c .after) → ws .unlike .number ≡ 28
+    tested : (b : Bool) {c : Closing} (ws : WalkedBranches) → c .rows ≡ ws .rows → c .after ≡ ws .after → Ascending (c .after) → ws .unlike .number ≡ 28
         → Beside endOf (accepted c) (need (ws .unlike) b >> accepted (joinedBy ws))
     unfolding need _>>_
     tested true ws p q a u = closed p q a u
     tested false ws p q a u = told (ws .unlike) (inr u)
 
-    finish : (alike : List (List Item) → Bool) {r : Result Closing} {s : Result Branches} → Beside lastOf r s → Beside endOf r (s >>= λ ws. need (ws .unlike) (alike (ws .owns)) >> accepted (joinedBy ws))
+    finish : (alike : List (List Item) → Bool) {r : Result Closing} {s : Result WalkedBranches} → Beside lastOf r s → Beside endOf r (s >>= λ ws. need (ws .unlike) (alike (ws .owns)) >> accepted (joinedBy ws))
     finish alike h = beside-on h (λ c ws p q a u. tested (alike (ws .owns)) ws p q a u) (λ n ws i. test _ _ (i .place) λ _. says-accepted (record { later = i .later; place = i .place }))
 
     opened-walk : (n : ℕ) (alike : List (List Item) → Bool) → WalkOnward (f .at) (walkOpened deeper′ (refusalAt here rows (f .at)) rows f fs n alike)

@@ -20,7 +20,7 @@ use Rattle.bundle.specs.Bundle.{Bundle, atMost}
 use Rattle.chains.specs.Runs.{joined}
 use Rattle.run.specs.Run.{GuardsWritten, firstStage, mostStages, mostConstraints, total, parts, parted, stagesShort, readStages, constantsOf, runOf, checkRun, guardFiles, unwritten, writtenGuards, guardsBy, guards}
 use Rattle.run.specs.Promises.{guardsOf, WritesGuards}
-use Rattle.run.specs.Ordered.{Parted, Short, RunOrdered, RunInOrder}
+use Rattle.run.specs.Ordered.{Parted, RunWithinLimits, RunOrdered, RunInOrder}
 
 not-true : (b : Bool) → (T b → ⊥) → b ≡ false
 not-true true h = absurd (h tt)
@@ -80,11 +80,11 @@ module _ (buffer lengths proof : List ℕ) where
   unfolding guardFiles
   long-proof p s l = needs _ _ _ (is-parted p) ∙ passes _ (stages-short firstStage s) ∙ then-refused _ (long 65_536 fileProof proof l)
 
-  stage : Short lengths buffer proof → (a : Answer) → readStages newestEdition 11 none (parts lengths buffer) ≡ refused a → Refuses a
+  stage : RunWithinLimits lengths buffer proof → (a : Answer) → readStages newestEdition 11 none (parts lengths buffer) ≡ refused a → Refuses a
   unfolding guardFiles
   stage (p, s, l) a e = needs _ _ _ (is-parted p) ∙ passes _ (stages-short firstStage s) ∙ passes _ (short 65_536 fileProof proof l) ∙ bind-refused _ e
 
-  module _ (h : Short lengths buffer proof) (ts : List Bundle) (e : readStages newestEdition 11 none (parts lengths buffer) ≡ accepted ts) where
+  module _ (h : RunWithinLimits lengths buffer proof) (ts : List Bundle) (e : readStages newestEdition 11 none (parts lengths buffer) ≡ accepted ts) where
     many : 64 < length (joined (runOf ts)) → Refuses (answer 26 4 0)
     unfolding guardFiles
     many l = needs _ _ _ (is-parted (h .0)) ∙ passes _ (stages-short firstStage (h .1)) ∙ passes _ (short 65_536 fileProof proof (h .2)) ∙ binds _ e

@@ -19,7 +19,7 @@ use Rattle.fields.specs.Fields.{Fields, ends, cut, _▸_, fields}
 use Rattle.fields.specs.Header.{Header, headerField, editionField, constantsField, header, finished}
 use Rattle.proof.specs.Check.{Closing, checkBranch, checkProof}
 use Rattle.proof.specs.Tree.{startsAt}
-use Rattle.proof.proofs.Says.{Says, says-refused, says-accepted, bind, seq, test, weaken}
+use Rattle.proof.proofs.Satisfies.{Satisfies, says-refused, says-accepted, bind, seq, test, weaken}
 use Rattle.chains.specs.Runs.{Run, joined, upTo, beyond}
 use Rattle.run.specs.Uniform.{withNumber, Walked, walkBranch, uniform}
 use Rattle.run.specs.Run.{side, claimRefused, checkCut, both, checkCuts, checkRun}
@@ -61,25 +61,25 @@ cut-lines Ts i = subst (λ cs. SameLines (lines (upTo Ts i) (beyond Ts i)) (line
 abbrev Any : Answer → Type 0
 Any a = Unit
 
-field-up : (tag : ℕ) (fs : Fields) → Ascending fs → Says Any (headerField FileKind.Proof fileProof tag fs) (λ x. Ascending (x .2))
+field-up : (tag : ℕ) (fs : Fields) → Ascending fs → Satisfies Any (headerField FileKind.Proof fileProof tag fs) (λ x. Ascending (x .2))
 unfolding headerField
 field-up tag (ends at) up = says-refused tt
 field-up tag (cut at) up = says-refused tt
 field-up tag (f ▸ fs) up = test _ _ tt λ _. test _ _ tt λ _. test _ _ tt λ _. says-accepted (up .1)
 
-edition-up : (newest : ℕ) (fs : Fields) → Ascending fs → Says Any (editionField FileKind.Proof fileProof newest fs) (λ x. Ascending (x .1))
+edition-up : (newest : ℕ) (fs : Fields) → Ascending fs → Satisfies Any (editionField FileKind.Proof fileProof newest fs) (λ x. Ascending (x .1))
 unfolding editionField
 edition-up newest fs up = bind (field-up 0x01 fs up) λ x u. test _ _ tt λ _. says-accepted u
 
-constants-up : (given : Option ℕ) (fs : Fields) → Ascending fs → Says Any (constantsField FileKind.Proof fileProof given fs) (λ x. Ascending (x .1))
+constants-up : (given : Option ℕ) (fs : Fields) → Ascending fs → Satisfies Any (constantsField FileKind.Proof fileProof given fs) (λ x. Ascending (x .1))
 unfolding constantsField
 constants-up given fs up = bind (field-up 0x02 fs up) λ x u. test _ _ tt λ _. test _ _ tt λ _. says-accepted u
 
-header-up : (newest : ℕ) (given : Option ℕ) (fs : Fields) → Ascending fs → Says Any (header FileKind.Proof fileProof newest given fs) (λ h. Ascending (h .rest))
+header-up : (newest : ℕ) (given : Option ℕ) (fs : Fields) → Ascending fs → Satisfies Any (header FileKind.Proof fileProof newest given fs) (λ h. Ascending (h .rest))
 unfolding header
 header-up newest given fs up = bind (edition-up newest fs up) λ x u. bind (constants-up given (x .1) u) λ y v. says-accepted v
 
-finished-from : (fs : Fields) (n : ℕ) → Later n fs → Says (From n) (finished FileKind.Proof fileProof fs) (λ _. Unit {0})
+finished-from : (fs : Fields) (n : ℕ) → Later n fs → Satisfies (From n) (finished FileKind.Proof fileProof fs) (λ _. Unit {0})
 unfolding finished startsAt
 finished-from (ends at) n l = says-accepted tt
 finished-from (cut at) n l = says-refused (l .from)
@@ -101,9 +101,9 @@ unfolding _>>_
 ended-cuts (refused a) I J = same-answer a
 ended-cuts (accepted x) I J = both-close
 
-later-than : {n : ℕ} {r : Result Closing} → Says (From (suc n)) r (λ c. Later (suc n) (c .after)) → (b : Answer) → (r >>= ending) ≡ refused b → n < b .place
+later-than : {n : ℕ} {r : Result Closing} → Satisfies (From (suc n)) r (λ c. Later (suc n) (c .after)) → (b : Answer) → (r >>= ending) ≡ refused b → n < b .place
 later-than {n} {r} s b q =
-    let t : Says (From (suc n)) (r >>= ending) (λ _. Unit {0}) = bind s λ c l. seq (finished-from (c .after) (suc n) l) (says-accepted tt) in
+    let t : Satisfies (From (suc n)) (r >>= ending) (λ _. Unit {0}) = bind s λ c l. seq (finished-from (c .after) (suc n) l) (says-accepted tt) in
     t .refusal b q
 
 closing-cuts : {r s : Result Closing} → TwoCuts r s → NearProof (r >>= ending) (s >>= ending)
@@ -113,7 +113,7 @@ closing-cuts (same a) = same-answer a
 closing-cuts (left a k o) = left-cut a k (later-than o)
 closing-cuts (right a k o) = right-cut a k (later-than o)
 
-header-cuts : {r : Result Header} {f g : Header → Result Formula} → Says Any r (λ h. Ascending (h .rest)) → ((h : Header) → Ascending (h .rest) → NearProof (f h) (g h)) → NearProof (r >>= f) (r >>= g)
+header-cuts : {r : Result Header} {f g : Header → Result Formula} → Satisfies Any r (λ h. Ascending (h .rest)) → ((h : Header) → Ascending (h .rest) → NearProof (f h) (g h)) → NearProof (r >>= f) (r >>= g)
 unfolding _>>=_
 header-cuts {r = refused a} s k = same-answer a
 header-cuts {r = accepted h} s k = k h (s .value h refl)
@@ -133,7 +133,7 @@ module _ (newest K : ℕ) (Ts : Run) (fs : Fields) (up : Ascending fs) where
   walk-closing a (told b k) e = inl (subst Ours (let q : b ≡ a = cc in q) k)
   walk-closing a (first b s) e = inr (b, refl, s .refusal a e)
 
-  walk-header : (r : Result Header) (f : Header → Result Formula) (g : Header → Result Walked) (a : Answer) → Says Any r (λ h. Ascending (h .rest))
+  walk-header : (r : Result Header) (f : Header → Result Formula) (g : Header → Result Walked) (a : Answer) → Satisfies Any r (λ h. Ascending (h .rest))
       → ((h : Header) → Ascending (h .rest) → g h ≡ refused a → Ours a ⊎ ((b : Answer) × (f h ≡ refused b) × (b .place ≤ a .place)))
       → (r >>= g) ≡ refused a → Ours a ⊎ ((b : Answer) × ((r >>= f) ≡ refused b) × (b .place ≤ a .place))
   unfolding _>>=_

@@ -22,7 +22,7 @@ use Rattle.fields.specs.Fields.{Field, Fields, ends, cut, _▸_}
 use Rattle.proof.specs.Entries.{EntryTag, combineTag, reduceTag, scaleTag, strengthenTag, numberTag, strideTag, roundTag, splitTag, claimTag, entryTagged, inPlace, sizeOf, entryFrom, entry}
 use Rattle.proof.specs.Rows.{is, plainKind, owner, fails, undivided, lineAt, derived, fitting, inequality, roundable, disequality, byNumber, byStride, states}
 use Rattle.proof.specs.Check.{Closing, Checker, Following, there, checkRounded, checkSplit, checkRow, checkEntry, checkEntries, checkBranch}
-use Rattle.proof.proofs.Says.{Says, says-accepted, bind}
+use Rattle.proof.proofs.Satisfies.{Satisfies, says-accepted, bind}
 use Rattle.run.proofs.Ascending.{Ascending, Later, just-behind, StandsFrom, AllFrom, AllFromIn, shut, opens, rounded-from, entries-from, branch-from}
 
 -- ---- lines that differ in their partial interpolants, and in whose they are

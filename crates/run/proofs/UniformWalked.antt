@@ -22,7 +22,7 @@ use Rattle.proof.proofs.Entered.{row-accepted}
 use Rattle.chains.specs.Runs.{Alike, Uniform, UniformRounded, joined}
 use Rattle.number_bytes.specs.Same.{sameBytes}
 use Rattle.number_bytes.proofs.Comparing.{same-refl}
-use Rattle.run.specs.Uniform.{withNumber, sameItems, Walked, Branches, Walker, walkBranches, firstAndThird, allAlike, walkOpened, walkClosed, walkRow, walkEntry, walkEntries, walkBranch}
+use Rattle.run.specs.Uniform.{withNumber, sameItems, Walked, WalkedBranches, Walker, walkBranches, firstAndThird, allAlike, walkOpened, walkClosed, walkRow, walkEntry, walkEntries, walkBranch}
 use Rattle.run.proofs.OneField.{IsRow, EntersBytes, one-list}
 
 -- ---- the same fields are told to be the same
@@ -90,8 +90,8 @@ module _ (n K : ℕ) where
     no-own : OwnAll [] []
     and-own : {b : Branch} {bs : List Branch} {o : List Item} {os : List (List Item)} → Own o (b .p) → OwnAll bs os → OwnAll (b ∷ bs) (o ∷ os)
 
-  record BranchesAccepted (bs : List Branch) (es : List Entry) (r : Result Branches) : Type 0 where
-    walked : Branches
+  record BranchesAccepted (bs : List Branch) (es : List Entry) (r : Result WalkedBranches) : Type 0 where
+    walked : WalkedBranches
     is : r ≡ accepted walked
     owns : OwnAll bs (walked .owns)
     after : Lists (EntersBytes n K) (walked .after) es

@@ -15,13 +15,13 @@ use Rattle.fields.specs.declared.FileKind.{FileKind}
 use Rattle.fields.specs.Fields.{Field, Fields, ends, cut, _▸_, Item}
 use Rattle.fields.proofs.HeaderLaid.{header-gives}
 use Rattle.proof.proofs.Entered.{entry-gives}
-use Rattle.run.specs.Uniform.{withNumber, Walked, Branches, Walker, FollowingWalk, walkBranches, firstAndThird, allAlike, walkOpened, walkClosed, walkRow, walkEntry, walkEntries, walkBranch, uniform}
+use Rattle.run.specs.Uniform.{withNumber, Walked, WalkedBranches, Walker, FollowingWalk, walkBranches, firstAndThird, allAlike, walkOpened, walkClosed, walkRow, walkEntry, walkEntries, walkBranch, uniform}
 
 -- what a branch's last row would be refused by
 abbrev Ends : Walked → Type 0
 Ends w = w .unlike .number ≡ 28
 
-abbrev AllEnd : Branches → Type 0
+abbrev AllEnd : WalkedBranches → Type 0
 AllEnd ws = ws .unlike .number ≡ 28
 
 abbrev Ending : Walker → Type 0

@@ -24,7 +24,7 @@ use Rattle.proof.proofs.Entered.{row-accepted, claim-accepted}
 use Rattle.chains.specs.Runs.{Alike, Uniform, UniformRounded, joined}
 use Rattle.number_bytes.specs.Same.{sameBytes}
 use Rattle.number_bytes.proofs.Comparing.{same-is}
-use Rattle.run.specs.Uniform.{withNumber, sameItems, Walked, Branches, Walker, walkBranches, firstAndThird, allAlike, walkOpened, walkClosed, walkRow, walkEntry, walkEntries, walkBranch}
+use Rattle.run.specs.Uniform.{withNumber, sameItems, Walked, WalkedBranches, Walker, walkBranches, firstAndThird, allAlike, walkOpened, walkClosed, walkRow, walkEntry, walkEntries, walkBranch}
 
 -- ---- the comparison tells of equality
 items-same : (is js : List Item) → T (sameItems is js) → is ≡ js
@@ -82,7 +82,7 @@ module _ (e : Edition) (K : ℕ) where
     no-own : OwnAll [] []
     and-own : {b : Branch} {bs : List Branch} {o : List Item} {os : List (List Item)} → Uniform (b .p) → Own o (b .p) → OwnAll bs os → OwnAll (b ∷ bs) (o ∷ os)
 
-  record BranchesAs (bs : List Branch) (es : List Entry) (ws : Branches) : Type 0 where
+  record BranchesAs (bs : List Branch) (es : List Entry) (ws : WalkedBranches) : Type 0 where
     owns : OwnAll bs (ws .owns)
     after : Lists (Enters e K) (ws .after) es
     number : ws .unlike .number ≡ 28

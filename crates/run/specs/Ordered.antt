@@ -20,8 +20,8 @@ abbrev pub Parted : (lengths buffer : List ℕ) → Type 0
 Parted lengths buffer = (1 ≤ length lengths) × (length lengths ≤ 16) × (total lengths ≡ length buffer)
 
 -- The same, and no file is too long for every edition.
-abbrev pub Short : (lengths buffer proof : List ℕ) → Type 0
-Short lengths buffer proof = Parted lengths buffer × All (λ T. length T ≤ 8_192) (parts lengths buffer) × (length proof ≤ 65_536)
+abbrev pub RunWithinLimits : (lengths buffer proof : List ℕ) → Type 0
+RunWithinLimits lengths buffer proof = Parted lengths buffer × All (λ T. length T ≤ 8_192) (parts lengths buffer) × (length proof ≤ 65_536)
 
 pub record RunOrdered (buffer lengths proof : List ℕ) (r : WriteResult) : Type 0 where
   -- 25 before all else
@@ -32,11 +32,11 @@ pub record RunOrdered (buffer lengths proof : List ℕ) (r : WriteResult) : Type
   -- then for the proof
   pub long-proof : Parted lengths buffer → All (λ T. length T ≤ 8_192) (parts lengths buffer) → 65_536 < length proof → r .answer ≡ answer 1 3 0
   -- the stages in turn, the first as file 11
-  pub stage : Short lengths buffer proof → (a : Answer) → readStages newestEdition 11 none (parts lengths buffer) ≡ refused a → r .answer ≡ a
+  pub stage : RunWithinLimits lengths buffer proof → (a : Answer) → readStages newestEdition 11 none (parts lengths buffer) ≡ refused a → r .answer ≡ a
   -- 26 after all of them
-  pub many : Short lengths buffer proof → (ts : List Bundle) → readStages newestEdition 11 none (parts lengths buffer) ≡ accepted ts → 64 < length (joined (runOf ts)) → r .answer ≡ answer 26 4 0
+  pub many : RunWithinLimits lengths buffer proof → (ts : List Bundle) → readStages newestEdition 11 none (parts lengths buffer) ≡ accepted ts → 64 < length (joined (runOf ts)) → r .answer ≡ answer 26 4 0
   -- then the proof
-  pub amid : Short lengths buffer proof → (ts : List Bundle) → readStages newestEdition 11 none (parts lengths buffer) ≡ accepted ts → length (joined (runOf ts)) ≤ 64
+  pub amid : RunWithinLimits lengths buffer proof → (ts : List Bundle) → readStages newestEdition 11 none (parts lengths buffer) ≡ accepted ts → length (joined (runOf ts)) ≤ 64
       → (a : Answer) → checkRun newestEdition (constantsOf ts) (runOf ts) (fields proof) ≡ refused a → r .answer ≡ a
 
 pub record RunInOrder : Type 0 where

@@ -36,7 +36,7 @@ pub record Walked : Type 0 where
   pub after : Fields
 
 -- The branches of one step, in file order, and the same of the last of them.
-pub record Branches : Type 0 where
+pub record WalkedBranches : Type 0 where
   pub owns : List (List Item)
   pub rows : ℕ
   pub unlike : Answer
@@ -46,7 +46,7 @@ abbrev pub Walker : Type 0
 Walker = Position → (rows : ℕ) → Fields → Result Walked
 
 -- Branch b of a step and the `left` ones after it.
-unfoldable pub walkBranches : (walker : Walker) (step b left rows : ℕ) → Fields → Result Branches
+unfoldable pub walkBranches : (walker : Walker) (step b left rows : ℕ) → Fields → Result WalkedBranches
 walkBranches walker step b zero rows fs = do
   w ← walker (position step b) rows fs
   accepted (record { owns = w .own ∷ []; rows = w .rows; unlike = w .unlike; after = w .after })

@@ -14,7 +14,7 @@ use Rattle.answers.specs.Answers.{position, Result, refused, accepted, _>>=_, _
 use Rattle.fields.specs.Fields.{Field, Fields, Item, item}
 use Rattle.chains.specs.Runs.{joined}
 use Rattle.number_bytes.specs.Same.{sameBytes}
-use Rattle.run.specs.Uniform.{sameItems, Walked, Branches, Walker, walkBranches, firstAndThird, allAlike, walkOpened}
+use Rattle.run.specs.Uniform.{sameItems, Walked, WalkedBranches, Walker, walkBranches, firstAndThird, allAlike, walkOpened}
 use Rattle.run_fields.specs.declared.kind.Matching.{Matching}
 use Rattle.run_fields.specs.Kinds.{alikeBy, comparedIn}
 use Rattle.run_branches.specs.Branches.{likeFirst, firstRows, walkFrom, Likens}
@@ -92,17 +92,17 @@ alike-is Matching.All a os = all-from a 0 os
 alike-is Matching.Nothing a os = sym (none-from a 1 os)
 
 -- ---- the branches from one on
-abbrev endOfAll : Branches → End
+abbrev endOfAll : WalkedBranches → End
 endOfAll ws = record { rows = ws .rows; unlike = ws .unlike; after = ws .after }
 
 -- all of them, and then the test
-abbrev judged : (like : Bool) (alike : Matching) (first : List Item) (b : ℕ) → Branches → Result End
+abbrev judged : (like : Bool) (alike : Matching) (first : List Item) (b : ℕ) → WalkedBranches → Result End
 judged like alike first b ws = need (ws .unlike) (like && alikeFrom alike first b (ws .owns)) >> accepted (endOfAll ws)
 
-abbrev lastOf : Walked → Branches
+abbrev lastOf : Walked → WalkedBranches
 lastOf w = record { owns = w .own ∷ []; rows = w .rows; unlike = w .unlike; after = w .after }
 
-abbrev consOf : Walked → Branches → Branches
+abbrev consOf : Walked → WalkedBranches → WalkedBranches
 consOf w ws = record { owns = w .own ∷ ws .owns; rows = ws .rows; unlike = ws .unlike; after = ws .after }
 
 tested : (w : Walked) (x : Bool) → ended (need (w .unlike) x >> accepted w) ≡ (need (w .unlike) x >> accepted (endAt w))
@@ -116,13 +116,13 @@ unfolding ended _>>=_
 last-judged like alike first b (refused a) = refl
 last-judged like alike first b (accepted w) = tested w (like && likeFirst alike b first (w .own)) ∙ rw (and-yes (likeFirst alike b first (w .own)))
 
-cons-judged : (like : Bool) (alike : Matching) (first : List Item) (b : ℕ) (w : Walked) (r : Result Branches)
+cons-judged : (like : Bool) (alike : Matching) (first : List Item) (b : ℕ) (w : Walked) (r : Result WalkedBranches)
     → (r >>= λ ws. judged (like && likeFirst alike b first (w .own)) alike first (suc b) ws) ≡ ((r >>= λ ws. accepted (consOf w ws)) >>= λ ws. judged like alike first b ws)
 unfolding _>>=_
 cons-judged like alike first b w (refused a) = refl
 cons-judged like alike first b w (accepted ws) = rw (and-assoc like (likeFirst alike b first (w .own)) (alikeFrom alike first (suc b) (ws .owns)))
 
-then-judged : (like : Bool) (alike : Matching) (first : List Item) (b : ℕ) (F : Walked → Result Walked) (G : Walked → Result Branches)
+then-judged : (like : Bool) (alike : Matching) (first : List Item) (b : ℕ) (F : Walked → Result Walked) (G : Walked → Result WalkedBranches)
     → ((w : Walked) → ended (F w) ≡ (G w >>= λ ws. judged (like && likeFirst alike b first (w .own)) alike first (suc b) ws))
     → (r : Result Walked) → ended (r >>= F) ≡ ((r >>= λ w. (G w >>= λ ws. accepted (consOf w ws))) >>= λ ws. judged like alike first b ws)
 unfolding ended _>>=_
@@ -145,7 +145,7 @@ first-free Matching.FirstAndThird first own = refl
 first-free Matching.All first own = refl
 first-free Matching.Nothing first own = refl
 
-abbrev judgedBy : Matching → Branches → Result End
+abbrev judgedBy : Matching → WalkedBranches → Result End
 judgedBy alike ws = need (ws .unlike) (alikeBy alike (ws .owns)) >> accepted (endOfAll ws)
 
 first-last : (alike : Matching) (r : Result Walked)
@@ -154,12 +154,12 @@ unfolding ended _>>=_
 first-last alike (refused a) = refl
 first-last alike (accepted w) = rw (first-free alike [] (w .own), alike-is alike (w .own) []) (sym (tested w true))
 
-cons-by : (alike : Matching) (w : Walked) (r : Result Branches) → ((r >>= λ ws. accepted (consOf w ws)) >>= λ ws. judgedBy alike ws) ≡ (r >>= λ ws. judged true alike (w .own) 1 ws)
+cons-by : (alike : Matching) (w : Walked) (r : Result WalkedBranches) → ((r >>= λ ws. accepted (consOf w ws)) >>= λ ws. judgedBy alike ws) ≡ (r >>= λ ws. judged true alike (w .own) 1 ws)
 unfolding _>>=_
 cons-by alike w (refused a) = refl
 cons-by alike w (accepted ws) = rw (alike-is alike (w .own) (ws .owns))
 
-first-then : (alike : Matching) (F : Walked → Result Walked) (G : Walked → Result Branches)
+first-then : (alike : Matching) (F : Walked → Result Walked) (G : Walked → Result WalkedBranches)
     → ((w : Walked) → ended (F w) ≡ (G w >>= λ ws. judged true alike (w .own) 1 ws))
     → (r : Result Walked) → ((r >>= λ w. (G w >>= λ ws. accepted (consOf w ws))) >>= λ ws. judgedBy alike ws) ≡ ended (r >>= F)
 unfolding ended _>>=_
@@ -174,17 +174,17 @@ all-from-first walker step alike (suc left) rows fs =
     first-then alike (λ w. walkFrom walker step alike (w .own) (true && likeFirst alike 0 [] (w .own)) 1 left (w .rows) (w .after)) (λ w. walkBranches walker step 1 left (w .rows) (w .after))
     (λ w. rw (first-free alike [] (w .own)) (from-later walker step alike (w .own) true 0 left (w .rows) (w .after))) (walker (position step 0) rows fs)
 
-tested-all : (ws : Branches) (own : List Item) (x : Bool)
+tested-all : (ws : WalkedBranches) (own : List Item) (x : Bool)
     → ended (need (ws .unlike) x >> accepted (record { own = own; rows = ws .rows; unlike = ws .unlike; after = ws .after })) ≡ (need (ws .unlike) x >> accepted (endOfAll ws))
 unfolding ended _>>=_ _>>_ need
 tested-all ws own true = refl
 tested-all ws own false = refl
 
 module _ (alike : Matching) (f : Field) where
-  abbrev opensWith : Branches → Result Walked
+  abbrev opensWith : WalkedBranches → Result Walked
   opensWith ws = need (ws .unlike) (alikeBy alike (ws .owns)) >> accepted (record { own = item (f .tag) (f .contents) ∷ joined (ws .owns); rows = ws .rows; unlike = ws .unlike; after = ws .after })
 
-  ended-all : (r : Result Branches) → ended (r >>= λ ws. opensWith ws) ≡ (r >>= λ ws. judgedBy alike ws)
+  ended-all : (r : Result WalkedBranches) → ended (r >>= λ ws. opensWith ws) ≡ (r >>= λ ws. judgedBy alike ws)
   unfolding ended _>>=_
   ended-all (refused a) = refl
   ended-all (accepted ws) = tested-all ws (item (f .tag) (f .contents) ∷ joined (ws .owns)) (alikeBy alike (ws .owns))

@@ -25,7 +25,7 @@ use Rattle.run_branches.specs.declared.walk.Outcome.{Outcome}
 use Rattle.run_branches.specs.declared.walk.Outcome.the-variants as outcome
 use Rattle.run_branches.proofs.WalkEnds.{ended-refused, ended-accepted}
 use Rattle.run_cuts.specs.Staged.{staged, stages, Staged}
-use Rattle.run_cuts.specs.Cuts.{Checked, CutAsked, CutChecked}
+use Rattle.run_cuts.specs.Cuts.{CutResult, CutAsked, CutChecked}
 use Rattle.run_check.specs.All.{judgedBy, RunChecked, joinedBy, sizeOf, totalOf, Summable, files, AllBy, CutsChecked}
 use Rattle.run_cuts.specs.declared.cut.Cut.{Cut}
 use Rattle.run_cuts.specs.declared.cut.Cut.the-variants as cut
@@ -54,7 +54,7 @@ pub file-size : (K : ℕ) (I : Formula) → length (formulaFile edition1 K I) �
 unfolding formulaFile
 file-size K I = omega (arith, length-append (headerBytes 1 K) (encode edition1 I), length-headerBytes 1 K)
 
-joins : (K : ℕ) (R : Result Formula) (Rs : Result (List Formula)) {S S′ : List ℕ} (own : Cut) (others : Cuts) → Checked R S S′ own → AllBy Rs K others
+joins : (K : ℕ) (R : Result Formula) (Rs : Result (List Formula)) {S S′ : List ℕ} (own : Cut) (others : Cuts) → CutResult R S S′ own → AllBy Rs K others
     → AllBy (both R Rs >>= λ (I, Is). accepted (I ∷ Is)) K (joinedBy own others)
 unfolding both _>>=_ every
 joins K R Rs (cut.Refused a) (cuts.Refused b) p q = rw (p .by, q)
@@ -76,7 +76,7 @@ total-joins (cut.Refused a) (cuts.Derived total fit) = omega arith
 total-joins (cut.Derived o) (cuts.Refused b) = omega arith
 total-joins (cut.Derived o) (cuts.Derived total fit) = omega arith
 
-own-size : {R : Result Formula} {S S′ : List ℕ} (own : Cut) → Checked R S S′ own → sizeOf own ≤ 5_242_880
+own-size : {R : Result Formula} {S S′ : List ℕ} (own : Cut) → CutResult R S S′ own → sizeOf own ≤ 5_242_880
 own-size (cut.Refused a) p = omega arith
 own-size (cut.Derived o) p = p .by .few
 

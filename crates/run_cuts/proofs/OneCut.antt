@@ -23,7 +23,7 @@ use Rattle.lines.specs.Buffer.{linesIn, Bounded}
 use Rattle.tally.specs.Tally.{tally}
 use Rattle.tally.specs.declared.Tally.{Tally}
 use Rattle.branches.specs.Spare.{linesLeft, Spare}
-use Rattle.branches.specs.Branching.{keptBack, Started, Closes, Branches}
+use Rattle.branches.specs.Branching.{keptBack, Started, Closes, ChecksBranch}
 use Rattle.branches.specs.declared.branch.Branched.{Branched}
 use Rattle.branches.proofs.Spare.{spare-less}
 use Rattle.bundle_load.specs.Load.{lineOf, Space}
@@ -37,7 +37,7 @@ use Rattle.run_cuts.proofs.CutLines.{cut-lines}
 
 -- ---- the root
 module _ {e K : ℕ} {P : List ℕ} {at n rows : ℕ} {kinds kinds′ : List ℕ} {buf buf′ : List ℤ} {S S′ : List ℕ} {x : Branched}
-    {here : Position} (b : Branches K P at here kinds buf (tally e rows n 0) S 0 kinds′ buf′ S′ x) (at-root : here ≡ root) (none : rows ≡ 0) where
+    {here : Position} (b : ChecksBranch K P at here kinds buf (tally e rows n 0) S 0 kinds′ buf′ S′ x) (at-root : here ≡ root) (none : rows ≡ 0) where
   pub root-fault : {number : ℕ} {so-far : RowNumber} {found : Position} {place : ℕ} {y z : Answer} → x ≡ Branched.Fault number so-far found place → y ≡ refusalAt found (so-far .0) place number → z ≡ claimedAs y
       → RootChecked e K (linesIn K kinds buf n) P at S S′ (cut.Refused z)
   unfolding claimRefused _>>=_

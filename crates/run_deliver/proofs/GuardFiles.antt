@@ -18,7 +18,7 @@ use Rattle.formula.specs.Formula.{encode, formulaFile}
 use Rattle.chains.specs.Runs.{Run, joined}
 use Rattle.run.specs.Run.{checkCut, both}
 use Rattle.run_cuts.specs.Staged.{stages}
-use Rattle.run_cuts.specs.Cuts.{Derives, CutAsked, CutChecked}
+use Rattle.run_cuts.specs.Cuts.{CutDerives, CutAsked, CutChecked}
 use Rattle.run_check.specs.All.{files}
 use Rattle.run_cuts.specs.declared.cut.Cut.{Cut}
 use Rattle.run_cuts.specs.declared.cut.Cut.the-variants as cut
@@ -77,7 +77,7 @@ module _ {buffer lengths : List ℕ} {c K : ℕ} {P out : List ℕ} (g : GuardFi
   abbrev put : (x part : List ℕ) → List ℕ
   put x part = take 8 x ++ (part ++ drop (length x - 8) (drop 8 x))
 
-  module _ {part : List ℕ} {o : ℕ} (d : Derives (cutOf buffer lengths c K P) (behind (sets out 0 (headerBytes 1 K))) part o) where
+  module _ {part : List ℕ} {o : ℕ} (d : CutDerives (cutOf buffer lengths c K P) (behind (sets out 0 (headerBytes 1 K))) part o) where
     fits : length (encode edition1 (d .formula)) + 8 ≤ length out
     fits = rw (← one-value (g .is) (d .is)) (omega (arith, g .room, file-size K (g .formula)))
 
@@ -102,7 +102,7 @@ module _ {buffer lengths : List ℕ} {c K : ℕ} {P out : List ℕ} (g : GuardFi
   guard-written {out₁} {part} q {o} h e =
       let d = (rw h at q) .by in
       subst (λ (x : List ℕ). WritesGuard buffer lengths c K P out (put x part) (o + 8)) (sym e)
-      (derived (subst (λ (x : List ℕ). Derives (cutOf buffer lengths c K P) (behind x) part o) e d))
+      (derived (subst (λ (x : List ℕ). CutDerives (cutOf buffer lengths c K P) (behind x) part o) e d))
 
 -- ---- all guards
 -- a cut that is accepted with those after it

@@ -26,7 +26,7 @@ use Rattle.bundle.specs.Bundle.{atMost}
 use Rattle.formula.specs.Formula.{formulaFile}
 use Rattle.proof.specs.Check.{checkProof}
 use Rattle.proof.proofs.Agree.{agreed}
-use Rattle.proof.proofs.Says.{Says, says-refused, says-accepted, bind, test}
+use Rattle.proof.proofs.Satisfies.{Satisfies, says-refused, says-accepted, bind, test}
 use Rattle.branches.specs.Spare.{linesLeft, Spare}
 use Rattle.check_sizes.specs.Sizes.{LinesWithin}
 use Rattle.chains.specs.Runs.{Run, joined}
@@ -41,7 +41,7 @@ use Rattle.run_check.specs.All.{files, RunChecked}
 use Rattle.run_check.specs.declared.all.Cuts.{Cuts}
 use Rattle.run_check.specs.declared.all.Cuts.the-variants as cuts
 use Rattle.run_check.proofs.AllCuts.{cutsFrom, cuts-from, stages-count}
-use Rattle.run_stages.specs.Reading.{FindsLong, Reads}
+use Rattle.run_stages.specs.Reading.{FindsLong, ReadsStages}
 use Rattle.run_deliver.specs.Writing.{cutsOf, GuardsFit, WritesAll}
 use Rattle.run_deliver.specs.Guards.{Gathered, Begun, Totals}
 use Rattle.run_stages.specs.declared.reading.Read.{Read}
@@ -77,13 +77,13 @@ module _ (buffer lengths P : List ℕ) where
       proof-long h = rw (p, s, lt-leb (length P) 65536 h)
 
       module _ (h : length P ≤ 65536) where
-        pub unread : {r : Read} {a : Answer} → Reads buffer lengths r → r ≡ read.Refused a → guardFiles 2 buffer lengths P ≡ refused a
+        pub unread : {r : Read} {a : Answer} → ReadsStages buffer lengths r → r ≡ read.Refused a → guardFiles 2 buffer lengths P ≡ refused a
         unfolding guardFiles atMost need _>>_ _>>=_
         unread q e =
             let d = (rw e at q) .by in
             rw (p, s, le-leb (length P) 65536 h, d)
 
-        module _ {r : Read} (q : Reads buffer lengths r) {K count : ℕ} (e : r ≡ read.Stages K count) where
+        module _ {r : Read} (q : ReadsStages buffer lengths r) {K count : ℕ} (e : r ≡ read.Stages K count) where
           pub too-many : 64 < count → guardFiles 2 buffer lengths P ≡ refused (answer 26 4 0)
           unfolding guardFiles atMost need _>>_ _>>=_
           too-many l =
@@ -122,21 +122,21 @@ from-count K Ts fs i (suc n) e =
 abbrev Not14 : Answer → Type 0
 Not14 a = eqb (a .number) 14 ≡ false
 
-field-not : (tag : ℕ) (fs : Fields) → Says Not14 (headerField FileKind.Proof fileProof tag fs) (λ _. Unit {0})
+field-not : (tag : ℕ) (fs : Fields) → Satisfies Not14 (headerField FileKind.Proof fileProof tag fs) (λ _. Unit {0})
 unfolding headerField
 field-not tag (ends at) = says-refused refl
 field-not tag (cut at) = says-refused refl
 field-not tag (f ▸ fs) = test _ _ refl λ _. test _ _ refl λ _. test _ _ refl λ _. says-accepted tt
 
-edition-not : (fs : Fields) → Says Not14 (editionField FileKind.Proof fileProof 2 fs) (λ _. Unit {0})
+edition-not : (fs : Fields) → Satisfies Not14 (editionField FileKind.Proof fileProof 2 fs) (λ _. Unit {0})
 unfolding editionField
 edition-not fs = bind (field-not 1 fs) λ x _. test _ _ refl λ _. says-accepted tt
 
-constants-not : (given : Option ℕ) (fs : Fields) → Says Not14 (constantsField FileKind.Proof fileProof given fs) (λ _. Unit {0})
+constants-not : (given : Option ℕ) (fs : Fields) → Satisfies Not14 (constantsField FileKind.Proof fileProof given fs) (λ _. Unit {0})
 unfolding constantsField
 constants-not given fs = bind (field-not 2 fs) λ x _. test _ _ refl λ _. test _ _ refl λ _. says-accepted tt
 
-header-not : (given : Option ℕ) (fs : Fields) → Says Not14 (header FileKind.Proof fileProof 2 given fs) (λ _. Unit {0})
+header-not : (given : Option ℕ) (fs : Fields) → Satisfies Not14 (header FileKind.Proof fileProof 2 given fs) (λ _. Unit {0})
 unfolding header
 header-not given fs = bind (edition-not fs) λ x _. bind (constants-not given (x .1)) λ y _. says-accepted tt
 

@@ -23,7 +23,7 @@ use Rattle.proof.proofs.Entered.{entry-unknown, entry-none, entry-out, entry-in
 use Rattle.run.specs.Uniform.{Walker, FollowingWalk, walkRow, walkEntry}
 use Rattle.run_fields.specs.declared.kind.Matching.{Matching}
 use Rattle.run_fields.specs.declared.kind.EntryKind.{EntryKind}
-use Rattle.run_fields.specs.Kinds.{sizedBy, sizedAs, walkKind, Rounds, IsKind}
+use Rattle.run_fields.specs.Kinds.{sizedBy, sizedAs, walkKind, RoundKind, IsKind}
 
 pub sized-fits : {len size : ℕ} (kind : EntryKind) → len ≡ size → kind ≡ sizedAs len size kind
 sized-fits {len} {size} kind h = ap (λ (b : Bool). sizedBy b kind) (sym (eq-eqb len size h))
@@ -88,7 +88,7 @@ module _ {n K tag len : ℕ} {made : Bool} {bs : List ℕ} (size-is : length bs 
     unfolding known headerTag entryTagged inPlace sizeOf entryFrom walkEntry walkRow
     split-kind e q = kind-in splitTag 0x17 (EntryKind.Opens 1 Matching.Nothing) e refl refl refl (omega (arith, width)) (λ deeper next refusal rows f fs c. refl) q
 
-  pub round-kind : {r : EntryKind} → tag ≡ 0x16 → Rounds n bs r → IsKind n K tag bs made r
+  pub round-kind : {r : EntryKind} → tag ≡ 0x16 → RoundKind n bs r → IsKind n K tag bs made r
   unfolding known headerTag entryTagged inPlace sizeOf
   round-kind e q = kind-in roundTag 0x16 (EntryKind.Opens (unsigned (multiplier (edition n) 1 1 bs)) Matching.All) e refl refl refl (omega arith) (round-walk n K bs) (q .is ∙ ap (λ (m : ℕ). sizedAs m (edition n .lineWidth + 4) (EntryKind.Opens (unsigned (multiplier (edition n) 1 1 bs)) Matching.All)) size-is)
 
@@ -122,7 +122,7 @@ pub part-length : (p : List ℕ) (start len : ℕ) → start + len ≤ length p 
 part-length p start len h = length-take-le len (drop start p) (omega (arith, length-drop start p))
 
 module _ (n : ℕ) (p : List ℕ) (start len w : ℕ) (inside : start + len ≤ length p) (width : w ≡ edition n .lineWidth) where
-  pub round-read : len ≡ w + 4 → {by : ℕ} → by ≡ unsigned (take 2 (drop (start + w + 2) p)) → Rounds n (take len (drop start p)) (EntryKind.Opens by Matching.All)
+  pub round-read : len ≡ w + 4 → {by : ℕ} → by ≡ unsigned (take 2 (drop (start + w + 2) p)) → RoundKind n (take len (drop start p)) (EntryKind.Opens by Matching.All)
   unfolding multiplier
   round-read h {by} q =
       let l : length (take len (drop start p)) ≡ edition n .lineWidth + 4 = part-length p start len inside ∙ h ∙ ap (λ (m : ℕ). m + 4) width in
@@ -134,5 +134,5 @@ module _ (n : ℕ) (p : List ℕ) (start len w : ℕ) (inside : start + len ≤ 
       taken : (xs : List ℕ) → take 2 (drop (w + 2) (take len xs)) ≡ take 2 (drop (w + 2) xs)
       taken xs = ap (take 2) (drop-take (w + 2) len xs (omega arith)) ∙ take-take 2 (len - (w + 2)) (drop (w + 2) xs) (omega arith)
 
-  pub round-not : ¬ (len ≡ w + 4) → Rounds n (take len (drop start p)) (EntryKind.Refused 6)
+  pub round-not : ¬ (len ≡ w + 4) → RoundKind n (take len (drop start p)) (EntryKind.Refused 6)
   round-not h = record { is = sized-not (EntryKind.Opens _ Matching.All) (λ l. h (sym (part-length p start len inside) ∙ l ∙ ap (λ (m : ℕ). m + 4) (sym width))) }

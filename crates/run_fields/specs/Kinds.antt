@@ -54,5 +54,5 @@ pub record IsKind (n K : ℕ) (tag : ℕ) (bs : List ℕ) (made : Bool) (r : Ent
       → (entry (edition n) K refusal made f >>= λ x. walkEntry deeper next refusal rows f fs x) ≡ walkKind deeper next refusal rows f fs r
 
 -- The contents of a rounding's field, of a proof of edition n: its k, or 6.
-pub record Rounds (n : ℕ) (bs : List ℕ) (r : EntryKind) : Type 0 where
+pub record RoundKind (n : ℕ) (bs : List ℕ) (r : EntryKind) : Type 0 where
   pub is : r ≡ sizedAs (length bs) (edition n .lineWidth + 4) (EntryKind.Opens (unsigned (multiplier (edition n) 1 1 bs)) Matching.All)

@@ -7,7 +7,7 @@ ghost use mathlib.Core.Path.{_≡_};
 ghost use Prim.Native.Nat.{_+_, _≤_};
 ghost use lib.ListN.{length, take, drop};
 ghost use Rattle.forms.specs.Edition.{edition, edition1};
-ghost use Rattle.run_fields.specs.Kinds.{sizedAs, Rounds, IsKind};
+ghost use Rattle.run_fields.specs.Kinds.{sizedAs, RoundKind, IsKind};
 
 // Which branches of a step must be the same rows.
 pub enum Matching {
@@ -40,7 +40,7 @@ fn sized(len: usize, size: usize, kind: EntryKind) -> EntryKind
 // A rounding: its branches are 0 to k. 6.
 fn rounding(p: &[u8], start: usize, len: usize, e: u8) -> EntryKind
     requires { ⌜ start + len ≤ length (now p) ⌝ }
-    ensures { λ r. ⌜ Rounds e (take len (drop start (now (p .entry)))) r ⌝ }
+    ensures { λ r. ⌜ RoundKind e (take len (drop start (now (p .entry)))) r ⌝ }
 {
     let width = line_bytes(e);
     if len == width + 2 * MULTIPLIER_BYTES {

@@ -23,7 +23,7 @@ use Rattle.chains.specs.Runs.{joined}
 use Rattle.run.specs.Run.{total, parts, parted, stagesShort, readStages, constantsOf, runOf}
 use Rattle.run_cuts.specs.Staged.{staged}
 use Rattle.run_cuts.proofs.StagesInTurn.{PartsLeft, parts-start, between, total-on, part-upto, parts-next, parts-on, parts-none, scan-refused}
-use Rattle.run_stages.specs.Reading.{Parted, FindsLong, Reads}
+use Rattle.run_stages.specs.Reading.{Parted, FindsLong, ReadsStages}
 use Rattle.run_stages.specs.declared.reading.Read.the-variants as read
 
 -- ---- 25: the lengths are taken from the buffer's, one after the other
@@ -172,7 +172,7 @@ reading-start {buffer} {lengths} p = record {
 }
 
 module _ {buffer lengths : List ℕ} {from i k count : ℕ} (g : Reading buffer lengths from i k count) where
-  pub reading-done : 1 ≤ length lengths → length lengths ≤ i → Reads buffer lengths (read.Stages k count)
+  pub reading-done : 1 ≤ length lengths → length lengths ≤ i → ReadsStages buffer lengths (read.Stages k count)
   unfolding staged readStages _>>=_
   reading-done n h =
       let e : readStages 2 11 none (parts lengths buffer) ≡ accepted (g .done) = g .is ∙ rw (parts-none lengths i (drop from buffer) h, append-nil (g .done)) in
@@ -183,7 +183,7 @@ module _ {buffer lengths : List ℕ} {from i k count : ℕ} (g : Reading buffer 
     abbrev partOf : List ℕ
     partOf = between from (from + getD lengths i 0) buffer
 
-    pub reading-refused : {r : Scanned} → Scans k partOf 0 r → {number place : ℕ} → r ≡ Scanned.Refused number place → {a : Answer} → a ≡ answer number (11 + i) place → Reads buffer lengths (read.Refused a)
+    pub reading-refused : {r : Scanned} → Scans k partOf 0 r → {number place : ℕ} → r ≡ Scanned.Refused number place → {a : Answer} → a ≡ answer number (11 + i) place → ReadsStages buffer lengths (read.Refused a)
     unfolding _>>=_
     reading-refused sc e q =
         let z = read-stop (11 + i) (givenK k) partOf (parts (drop (i + 1) lengths) (drop (from + getD lengths i 0) buffer)) (scan-refused sc e (11 + i)) in

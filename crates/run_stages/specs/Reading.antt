@@ -27,7 +27,7 @@ pub record FindsLong (buffer lengths : List ℕ) (file : ℕ) : Type 0 where
   pub is : stagesShort newestEdition firstStage (parts lengths buffer) ≡ longOf file
 
 -- All are read, with this K and so many constraints together.
-pub record ReadAs (buffer lengths : List ℕ) (K count : ℕ) : Type 0 where
+pub record ReadAsStages (buffer lengths : List ℕ) (K count : ℕ) : Type 0 where
   pub is : readStages newestEdition firstStage none (parts lengths buffer) ≡ accepted (staged buffer lengths)
   pub k-is : constantsOf (staged buffer lengths) ≡ K
   pub count-is : length (joined (stages buffer lengths)) ≡ count
@@ -36,7 +36,7 @@ pub record ReadAs (buffer lengths : List ℕ) (K count : ℕ) : Type 0 where
 
 abbrev pub ReadsBy : (buffer lengths : List ℕ) → Read → Type 0
 ReadsBy buffer lengths (read.Refused a) = readStages newestEdition firstStage none (parts lengths buffer) ≡ refused a
-ReadsBy buffer lengths (read.Stages k count) = ReadAs buffer lengths k count
+ReadsBy buffer lengths (read.Stages k count) = ReadAsStages buffer lengths k count
 
-pub record Reads (buffer lengths : List ℕ) (r : Read) : Type 0 where
+pub record ReadsStages (buffer lengths : List ℕ) (r : Read) : Type 0 where
   pub by : ReadsBy buffer lengths r

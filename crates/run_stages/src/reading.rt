@@ -5,7 +5,7 @@ use bundle_scan::scan;
 use forms::BUNDLE_BYTES;
 ghost use mathlib.Core.Path.{_≡_};
 ghost use Rattle.run.specs.Run.{parted};
-ghost use Rattle.run_stages.specs.Reading.{Parted, FindsLong, Reads};
+ghost use Rattle.run_stages.specs.Reading.{Parted, FindsLong, ReadsStages};
 
 // The most stages.
 const STAGES: usize = 16;
@@ -61,7 +61,7 @@ pub enum Read {
 // The stages in turn, each as check reads B, the first as it reads A.
 pub fn read_stages(buffer: &[u8], lengths: &[usize]) -> Read
     requires { ⌜ Parted (now buffer) (now lengths) ⌝ }
-    ensures { λ r. ⌜ Reads (now (buffer .entry)) (now (lengths .entry)) r ⌝ }
+    ensures { λ r. ⌜ ReadsStages (now (buffer .entry)) (now (lengths .entry)) r ⌝ }
 {
     let mut from = 0;
     let mut i = 0;

@@ -23,7 +23,7 @@ use Rattle.scheduler.specs.declared.Next.{Next}
 use Rattle.scheduler.specs.declared.Next.the-variants.{Seat, Nobody}
 use Rattle.scheduler.specs.Scheduler.{vacant, holding, empty, slotAt, isWaiting, withSlot, refusal, submission, cancellation, after, nextSeat, isWithin, partsWithin, checkJob, TurnLeaves, turnAt, turn}
 use Rattle.scheduler.specs.Promises.{changed, Submits, Cancels, turnLeavesOf, Turns}
-use Rattle.scheduler.specs.Fair.{Call, submitted, cancelled, turned, leaves, Ensures, Run, none, next, turns, CancelledAt, ServedAt, Idle, Lies, AllLie, CheckedAlone, WaitsThrough, Served, Cancelled, StillWaits, Fate, lookAfter, slotAfter, Answers, Fair}
+use Rattle.scheduler.specs.Fair.{Call, submitted, cancelled, turned, leaves, Ensures, Trace, none, next, turns, CancelledAt, ServedAt, Idle, Lies, AllLie, CheckedAlone, WaitsThrough, Served, Cancelled, StillWaits, Fate, lookAfter, slotAfter, CallsAnswered, Fair}
 use Rattle.scheduler.proofs.Looking.{Ahead, near, counted, Finds, looks, passes, nobody, next-seated, next-waits, next-nth}
 use Rattle.scheduler.proofs.Changing.{submission-29, submission-30, submission-taken, cancellation-29, cancellation-31, cancellation-taken, all-lie, check-outside, check-inside}
 
@@ -211,7 +211,7 @@ module _ {seat m n : ℕ} (c : Call) (unserved : ServedAt seat c → ⊥) (kept 
   later (becomes-cancelled before after r e t q) = becomes-cancelled (c ∷ before) after r (ap (λ (l : List Call). c ∷ l) e) (longer t) q
   later (goes-on-waiting t q) = goes-on-waiting (longer t) q
 
-fate-of : {s s′ : Scheduler} {calls : List Call} {seat : ℕ} {job : Job} {n : ℕ} → Run s calls s′ → Waits s seat job n → n ≤ 7 → Becomes seat job calls s′ n
+fate-of : {s s′ : Scheduler} {calls : List Call} {seat : ℕ} {job : Job} {n : ℕ} → Trace s calls s′ → Waits s seat job n → n ≤ 7 → Becomes seat job calls s′ n
 unfolding turns
 fate-of none w few = goes-on-waiting at-once (w .is)
 fate-of (next (submitted at other r) c run) w few = later (submitted at other r) (λ x. x) (λ x. x) (λ x. x) (λ b l. l) (fate-of run (by-submission w at other r c) few)
@@ -253,7 +253,7 @@ eight-step s (turned buffer output left r) c h = go (nextSeat s) refl
     go (Seat seat) e = ap length (turns-at c e .slots-are) ∙ length-set (s .slots) seat vacant ∙ h
     go Nobody e = ap (λ (t : TurnLeaves). length (t .scheduler .slots)) (turns-idle c e) ∙ h
 
-eight-run : {s s′ : Scheduler} {calls : List Call} → Run s calls s′ → length (s .slots) ≡ 8 → length (s′ .slots) ≡ 8
+eight-run : {s s′ : Scheduler} {calls : List Call} → Trace s calls s′ → length (s .slots) ≡ 8 → length (s′ .slots) ≡ 8
 eight-run none h = h
 eight-run (next {s} c k run) h = eight-run run (eight-step s c k h)
 
@@ -311,7 +311,7 @@ parted : {r : Changed} (s : Scheduler) (seat : ℕ) (x : Slot) → (r .scheduler
     → (r .answer ≡ acceptance) × (r .scheduler .slots ≡ set (s .slots) seat x) × (r .scheduler .first ≡ s .first)
 parted s seat x (p, q) = (q, ap (λ (t : Scheduler). t .slots) p, ap (λ (t : Scheduler). t .first) p)
 
-pub answers : Answers
+pub answers : CallsAnswered
 answers = record {
   submit-29 = λ s seat job r c h. flipped (scheduler-of (c .is) (submission-29 s seat job h));
   submit-30 = λ s seat job r c h w. flipped (scheduler-of (c .is) (submission-30 s seat job h w));
@@ -350,7 +350,7 @@ look-step s (turned buffer output left r) c = go (nextSeat s) refl
     go (Seat seat) e = let t = turns-at c e in t .first-is ∙ ap (λ (k : ℕ). after k) (sym (t .seat-is)) ∙ so (t .busy)
     go Nobody e = let z = turns-idle c e in ap (λ (t : TurnLeaves). t .scheduler .first) z ∙ so (ap (λ (t : TurnLeaves). t .idle) z)
 
-look-run : {s s′ : Scheduler} {calls : List Call} → Run s calls s′ → s′ .first ≡ lookAfter (s .first) calls
+look-run : {s s′ : Scheduler} {calls : List Call} → Trace s calls s′ → s′ .first ≡ lookAfter (s .first) calls
 unfolding lookAfter
 look-run none = refl
 look-run (next {s} {calls = calls} (submitted at other r) c run) = look-run run ∙ ap (λ (k : ℕ). lookAfter k calls) (look-step s (submitted at other r) c)
@@ -409,7 +409,7 @@ module _ (s : Scheduler) (eight : length (s .slots) ≡ 8) (seat : ℕ) (l : sea
           ∙ so (t .busy)
       go Nobody e = let z = turns-idle c e in ap (λ (t : TurnLeaves). slotAt (t .scheduler) seat) z ∙ so (ap (λ (t : TurnLeaves). t .idle) z)
 
-slots-run : {s s′ : Scheduler} {calls : List Call} (seat : ℕ) → seat < 8 → Run s calls s′ → length (s .slots) ≡ 8 → slotAt s′ seat ≡ slotAfter seat (slotAt s seat) calls
+slots-run : {s s′ : Scheduler} {calls : List Call} (seat : ℕ) → seat < 8 → Trace s calls s′ → length (s .slots) ≡ 8 → slotAt s′ seat ≡ slotAfter seat (slotAt s seat) calls
 unfolding slotAfter
 slots-run seat l none h = refl
 slots-run seat l (next {s} {calls = calls} (submitted at other r) c run) h = slots-run seat l run (eight-step s (submitted at other r) c h) ∙ ap (λ (x : Slot). slotAfter seat x calls) (slot-step s h seat l (submitted at other r) c)

@@ -37,9 +37,9 @@ Ensures s (cancelled seat r) = Cancels s seat r
 Ensures s (turned buffer output left r) = Turns s buffer output left r
 
 -- Calls in any sequence, each given the scheduler that the one before left.
-pub data Run : Scheduler → List Call → Scheduler → Type 0 where
-  none : {s : Scheduler} → Run s [] s
-  next : {s s′ : Scheduler} {calls : List Call} (c : Call) → Ensures s c → Run (leaves c) calls s′ → Run s (c ∷ calls) s′
+pub data Trace : Scheduler → List Call → Scheduler → Type 0 where
+  none : {s : Scheduler} → Trace s [] s
+  next : {s s′ : Scheduler} {calls : List Call} (c : Call) → Ensures s c → Trace (leaves c) calls s′ → Trace s (c ∷ calls) s′
 
 unfoldable pub turns : List Call → ℕ
 turns [] = 0
@@ -135,7 +135,7 @@ slotAfter seat x (cancelled at r ∷ calls) = slotAfter seat (cond (eqb at seat 
 slotAfter seat x (turned buffer output left r ∷ calls) = slotAfter seat (cond (not (r .idle) && eqb (r .seat) seat) vacant x) calls
 
 -- What each call answers and leaves, in numerals; for every scheduler, also one that calls do not reach from the empty one.
-pub record Answers : Type 0 where
+pub record CallsAnswered : Type 0 where
   pub submit-29 : (s : Scheduler) (seat : ℕ) (job : Job) (r : Changed) → Submits s seat job r → 8 ≤ seat → (r .answer ≡ answer 29 4 0) × (r .scheduler ≡ s)
   pub submit-30 : (s : Scheduler) (seat : ℕ) (job : Job) (r : Changed) → Submits s seat job r → seat < 8 → isWaiting s seat ≡ true → (r .answer ≡ answer 30 4 0) × (r .scheduler ≡ s)
   pub submit-taken : (s : Scheduler) (seat : ℕ) (job : Job) (r : Changed) → Submits s seat job r → seat < 8 → isWaiting s seat ≡ false
@@ -157,10 +157,10 @@ pub record Answers : Type 0 where
 
 pub record Fair : Type 0 where
   -- From an empty desk on: whatever calls follow, a job that is taken is served within eight turns, unless it is cancelled before; until then it waits. (One that comes again after that is taken anew.)
-  pub fate : (calls : List Call) (s : Scheduler) → Run empty calls s → (seat : ℕ) (job : Job) (r : Changed) → Submits s seat job r → r .answer .number ≡ 0
-      → (later : List Call) (s′ : Scheduler) → Run (r .scheduler) later s′ → Fate seat job later s′
+  pub fate : (calls : List Call) (s : Scheduler) → Trace empty calls s → (seat : ℕ) (job : Job) (r : Changed) → Submits s seat job r → r .answer .number ≡ 0
+      → (later : List Call) (s′ : Scheduler) → Trace (r .scheduler) later s′ → Fate seat job later s′
   -- From an empty desk on the seat to look at first is the one after the last one served, at the start 0; and at a seat waits the job last taken there, until it is cancelled or served, and no other.
-  pub look : (calls : List Call) (s : Scheduler) → Run empty calls s → s .first ≡ lookAfter 0 calls
-  pub slots : (calls : List Call) (s : Scheduler) → Run empty calls s → (seat : ℕ) → seat < 8 → slotAt s seat ≡ slotAfter seat vacant calls
+  pub look : (calls : List Call) (s : Scheduler) → Trace empty calls s → s .first ≡ lookAfter 0 calls
+  pub slots : (calls : List Call) (s : Scheduler) → Trace empty calls s → (seat : ℕ) → seat < 8 → slotAt s seat ≡ slotAfter seat vacant calls
   -- A turn is idle just where no job waits.
   pub idle-iff : (s : Scheduler) (buffer output left : List ℕ) (r : Turned) → Turns s buffer output left r → r .idle ≡ true ↔ ((seat : ℕ) → seat < 8 → isWaiting s seat ≡ false)

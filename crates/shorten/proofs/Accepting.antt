@@ -41,8 +41,8 @@ use Rattle.shortening.specs.Shorten.{listOf, shorter, shortening, writtenBoth, 
 use Rattle.shortening.proofs.Filed.{file-length, more-bytes}
 use Rattle.shortening.proofs.Reports.{reports-rows}
 use Rattle.bundle_load.specs.Both.{statedIn, Both}
-use Rattle.check_sizes.specs.Sizes.{Short, Begun}
-use Rattle.checking.proofs.Stages.{long-A, long-B, long-P, unscanned-A, unscanned-B, scanned-both, unheaded, begun}
+use Rattle.check_sizes.specs.Sizes.{WithinLimits, Begun}
+use Rattle.checking.proofs.Phases.{long-A, long-B, long-P, unscanned-A, unscanned-B, scanned-both, unheaded, begun}
 use Rattle.shortening_marks.specs.Gathered.{rowsOf, Stating}
 use Rattle.shortening_marks.proofs.Gathering.{report-length}
 use Rattle.shorten.specs.declared.ShortenResult.{ShortenResult}
@@ -95,7 +95,7 @@ module _ {A B P output left : List ℕ} {r : WriteResult} (c : Checks A B P outp
 
 -- ---- what is read again of a proof that is accepted is not refused
 module _ {A B P : List ℕ} (a : Accepted A B P) where
-  short : Short A B P
+  short : WithinLimits A B P
   short =
       let no-A : ¬ (8192 < length A) = λ h. never (sym (long-A A B P h) ∙ a .is) in
       let short-A : length A ≤ 8192 = omega (arith, no-A) in

@@ -19,7 +19,7 @@ use Rattle.shorten.specs.declared.ShortenResult.{ShortenResult}
 use Rattle.shorten.specs.Promises.{shortenedOf}
 
 -- A check with an output of one byte answered so.
-pub record Checked (A B proof : List ℕ) (answer : Answer) : Type 0 where
+pub record CheckAnswered (A B proof : List ℕ) (answer : Answer) : Type 0 where
   pub output : List ℕ
   pub left : List ℕ
   pub r : WriteResult

@@ -18,7 +18,7 @@ use shortening_table::table_bytes;
 ghost use mathlib.Core.Path.{_≡_};
 ghost use Rattle.fields.specs.Places.{fieldsAt};
 ghost use Rattle.shorten.specs.Promises.{Shortens};
-ghost use Rattle.shorten.specs.Known.{Checked, Accepted, Stated, Deliverable, ArraysFit, ShortensFields};
+ghost use Rattle.shorten.specs.Known.{CheckAnswered, Accepted, Stated, Deliverable, ArraysFit, ShortensFields};
 
 // What shortening answers: how many rows it reported and how many bytes the table has, 0 where it is refused.
 #[repr(C)]
@@ -214,7 +214,7 @@ pub fn shorten(
     report: &mut [u8],
     table: &mut [u8],
 ) -> ShortenResult
-    requires { ⌜ Checked (now a) (now b) (now proof) checked ⌝ }
+    requires { ⌜ CheckAnswered (now a) (now b) (now proof) checked ⌝ }
     ensures { λ r. ⌜ Shortens (now (a .entry)) (now (b .entry)) (now (proof .entry)) (now (report .entry)) (now (table .entry)) (now (report .exit)) (now (table .exit)) r ⌝ }
 {
     if checked.number != 21 {

@@ -20,7 +20,7 @@ use Rattle.proof.specs.Layout.{Enters}
 use Rattle.shortening.specs.Needed.{renumber}
 use Rattle.shortening.specs.Passes.{Retention, goes, stays, remaining}
 use Rattle.shortening.proofs.Computed.{renumberRow, renumberEntry}
-use Rattle.shortening.specs.Shorten.{statedBy, statedEntry, renumberItem}
+use Rattle.shortening.specs.Shorten.{entryStated, statedEntry, renumberItem}
 
 -- ---- the line numbers of an entry
 abbrev pub InferenceBelow : ℕ → Inference → Type 0
@@ -180,7 +180,7 @@ module _ (e : Edition) (K : ℕ) where
   left-enters (stays f ∷ ds) (i ∷ is) (x ∷ es) (Each.cons r h) (cons c b) = Each.cons (enters-put e K f i x r c) (left-enters ds is es h b)
 
   entry-by : (i : Item) (x : Entry) → Enters e K i x → statedEntry e K i ≡ x
-  entry-by i x h = ap (λ (o : Option EntryTag). statedBy e K o (i .contents)) (h .tag) ∙ h .entry
+  entry-by i x h = ap (λ (o : Option EntryTag). entryStated e K o (i .contents)) (h .tag) ∙ h .entry
 
   pub entries-of : {is : List Item} {es : List Entry} → Each (Enters e K) is es → map (statedEntry e K) is ≡ es
   entries-of Each.nil = refl

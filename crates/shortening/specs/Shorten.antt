@@ -25,12 +25,12 @@ listOf (cut at) = []
 listOf (f ▸ fs) = item (f .tag) (f .contents) ∷ listOf fs
 
 -- The entry that a field states. Behind the header of a proof that is accepted every field states one, so what is said of others never counts.
-abbrev pub statedBy : (e : Edition) (K : ℕ) → Option EntryTag → List ℕ → Entry
-statedBy e K none bs = row (CloseNumber 0)
-statedBy e K (some tagged) bs = entryFrom e K tagged bs
+abbrev pub entryStated : (e : Edition) (K : ℕ) → Option EntryTag → List ℕ → Entry
+entryStated e K none bs = row (CloseNumber 0)
+entryStated e K (some tagged) bs = entryFrom e K tagged bs
 
 abbrev pub statedEntry : (e : Edition) (K : ℕ) → Item → Entry
-statedEntry e K i = statedBy e K (entryTagged (i .tag)) (i .contents)
+statedEntry e K i = entryStated e K (entryTagged (i .tag)) (i .contents)
 
 -- A field with new line numbers; all its other bytes stay.
 abbrev pub renumberItem : Edition → (ℕ → ℕ) → Item → Item

@@ -30,7 +30,7 @@ use Rattle.rows.specs.Rows.{Derives}
 use Rattle.rows.specs.Claims.{Claimed}
 use Rattle.rows.specs.declared.derive.Derived.{Derived}
 use Rattle.rows.specs.declared.derive.Derived.the-variants as derived-of
-use Rattle.steps.specs.Steps.{steppedOf, Checked, SameChecked, lastMade, fieldChecked, rowChecked, rowLeft, Steps, Advances, Counts, Claims}
+use Rattle.steps.specs.Steps.{steppedOf, EntryChecked, SameChecked, lastMade, fieldChecked, rowChecked, rowLeft, Steps, Advances, Counts, Claims}
 use Rattle.steps.specs.declared.Stepped.{Stepped}
 use Rattle.steps.specs.declared.Stepped.the-variants.{Refused, Made, Strengthens, ClosesNumber, ClosesStride, Rounds, Splits}
 
@@ -105,10 +105,10 @@ module _ {K : ℕ} {p : List ℕ} {start : ℕ} {buf : List ℤ} (made : Bool) (
     claim-right e = record { steps = λ len kinds el. record { kept = kept-refl; by = record { is = λ deeper next refusal fs. rw (h, ← en, c .is len kinds el, e) } } }
 
 -- ---- the field of a branch, by its entry
-same-trans : {f g h : Checked} → SameChecked f g → SameChecked g h → SameChecked f h
+same-trans : {f g h : EntryChecked} → SameChecked f g → SameChecked g h → SameChecked f h
 same-trans a b = record { is = λ deeper next refusal fs. a .is deeper next refusal fs ∙ b .is deeper next refusal fs }
 
-pub steps-same : {f g : Checked} {K : ℕ} {kinds : List ℕ} {buf : List ℤ} {t : Tally} {kinds′ : List ℕ} {buf′ : List ℤ} (r : Stepped)
+pub steps-same : {f g : EntryChecked} {K : ℕ} {kinds : List ℕ} {buf : List ℤ} {t : Tally} {kinds′ : List ℕ} {buf′ : List ℤ} (r : Stepped)
     → SameChecked f g → Steps g K kinds buf t kinds′ buf′ r → Steps f K kinds buf t kinds′ buf′ r
 steps-same (Refused x) a s = record { kept = s .kept; by = same-trans a (s .by) }
 steps-same (Made u) a s = record { kept = s .kept; by = (same-trans a (s .by .0), s .by .1, s .by .2) }

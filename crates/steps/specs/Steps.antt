@@ -31,23 +31,23 @@ steppedOf (derived-of.Refused x) = Refused x
 steppedOf (derived-of.Made t) = Made t
 
 -- What is checked: given what checks deeper branches, what follows in this branch, the refusal by a number at this field, and the fields after it.
-abbrev pub Checked : Type 0
-Checked = (deeper : Option Checker) (next : Following) (refusal : ℕ → Answer) (fs : Fields) → Result Closing
+abbrev pub EntryChecked : Type 0
+EntryChecked = (deeper : Option Checker) (next : Following) (refusal : ℕ → Answer) (fs : Fields) → Result Closing
 
-pub record SameChecked (f g : Checked) : Type 0 where
+pub record SameChecked (f g : EntryChecked) : Type 0 where
   pub is : (deeper : Option Checker) (next : Following) (refusal : ℕ → Answer) (fs : Fields) → f deeper next refusal fs ≡ g deeper next refusal fs
 
 -- A row, counted first, in a branch of the tally's lines.
-abbrev pub rowChecked : (K : ℕ) (kinds : List ℕ) (buf : List ℤ) (t : Tally) → rules.Row → Checked
+abbrev pub rowChecked : (K : ℕ) (kinds : List ℕ) (buf : List ℤ) (t : Tally) → rules.Row → EntryChecked
 rowChecked K kinds buf t row deeper next refusal fs =
     need (refusal 18) (ltb (t .rows .0) (edition1 .rows)) >> checkRow (edition (t .edition)) K deeper next refusal (t .rows .0) (linesIn K kinds buf (t .lines .0)) fs row
 
 -- The same row, counted already.
-abbrev pub rowLeft : (K : ℕ) (kinds : List ℕ) (buf : List ℤ) (t : Tally) → rules.Row → Checked
+abbrev pub rowLeft : (K : ℕ) (kinds : List ℕ) (buf : List ℤ) (t : Tally) → rules.Row → EntryChecked
 rowLeft K kinds buf t row deeper next refusal fs = checkRow (edition (t .edition)) K deeper next refusal (t .rows .0) (linesIn K kinds buf (t .lines .0)) fs row
 
 -- What f is, by the code's answer.
-abbrev pub SteppedBy : (f : Checked) (K : ℕ) (kinds : List ℕ) (buf : List ℤ) (t : Tally) (kinds′ : List ℕ) (buf′ : List ℤ) → Stepped → Type 0
+abbrev pub SteppedBy : (f : EntryChecked) (K : ℕ) (kinds : List ℕ) (buf : List ℤ) (t : Tally) (kinds′ : List ℕ) (buf′ : List ℤ) → Stepped → Type 0
 SteppedBy f K kinds buf t kinds′ buf′ (Refused x) = SameChecked f (λ deeper next refusal fs. refused (refusal x))
 SteppedBy f K kinds buf t kinds′ buf′ (Made t′) =
     SameChecked f (λ deeper next refusal fs. next (t .rows .0 + 1) (some (lineIn K kinds′ buf′ (t .lines .0))) (linesIn K kinds′ buf′ (t .lines .0 + 1)))
@@ -61,7 +61,7 @@ SteppedBy f K kinds buf t kinds′ buf′ (Rounds t′ i g by) =
     SameChecked f (rowLeft K kinds buf t (rules.Round (i .0) (natAbs g) by)) × (t′ ≡ moreRows t) × Multiplies (natAbs g) g
 SteppedBy f K kinds buf t kinds′ buf′ (Splits t′ i) = SameChecked f (rowLeft K kinds buf t (rules.Split (i .0))) × (t′ ≡ moreRows t)
 
-pub record Steps (f : Checked) (K : ℕ) (kinds : List ℕ) (buf : List ℤ) (t : Tally) (kinds′ : List ℕ) (buf′ : List ℤ) (r : Stepped) : Type 0 where
+pub record Steps (f : EntryChecked) (K : ℕ) (kinds : List ℕ) (buf : List ℤ) (t : Tally) (kinds′ : List ℕ) (buf′ : List ℤ) (r : Stepped) : Type 0 where
   pub kept : LinesKept K (t .lines .0) kinds buf kinds′ buf′
   pub by : SteppedBy f K kinds buf t kinds′ buf′ r
 
@@ -82,7 +82,7 @@ lastMade true K kinds buf n = some (lineIn K kinds buf (n - 1))
 lastMade false K kinds buf n = none
 
 -- A field of the branch, read and then checked.
-abbrev pub fieldChecked : (K : ℕ) (kinds : List ℕ) (buf : List ℤ) (t : Tally) (made : Bool) (tag : ℕ) (contents : List ℕ) → Checked
+abbrev pub fieldChecked : (K : ℕ) (kinds : List ℕ) (buf : List ℤ) (t : Tally) (made : Bool) (tag : ℕ) (contents : List ℕ) → EntryChecked
 fieldChecked K kinds buf t made tag contents deeper next refusal fs =
     entry (edition (t .edition)) K refusal made (record { at = 0; tag = tag; contents = contents })
     >>= λ x. checkEntry (edition (t .edition)) K deeper next refusal (t .rows .0) (lastMade made K kinds buf (t .lines .0)) (linesIn K kinds buf (t .lines .0)) fs x
@@ -92,7 +92,7 @@ pub record Counts (row : rules.Row) (t : Tally) (r : Stepped) : Type 0 where
   pub steps : (K : ℕ) (kinds : List ℕ) (buf : List ℤ) → Steps (rowChecked K kinds buf t row) K kinds buf t kinds buf r
 
 -- The claim whose contents start there, checked. 4, 14.
-abbrev pub claimChecked : (K : ℕ) (p : List ℕ) (start : ℕ) (made : Bool) (kinds : List ℕ) (buf : List ℤ) (t : Tally) (len : ℕ) → Checked
+abbrev pub claimChecked : (K : ℕ) (p : List ℕ) (start : ℕ) (made : Bool) (kinds : List ℕ) (buf : List ℤ) (t : Tally) (len : ℕ) → EntryChecked
 claimChecked K p start made kinds buf t len deeper next refusal fs =
     checkEntry (edition (t .edition)) K deeper next refusal (t .rows .0) (lastMade made K kinds buf (t .lines .0)) (linesIn K kinds buf (t .lines .0)) fs
     (rules.claim (formFrom (edition1 .termWidth) K (take len (drop start p))) (formFrom (edition1 .termWidth) K (drop (formWidth (edition1 .termWidth) K) (take len (drop start p)))))

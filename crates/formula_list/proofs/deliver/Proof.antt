@@ -1,6 +1,6 @@
 -- `formula_list::deliver` meets its contract. Assumes nothing.
 use borrow.Author.Needs.{needs}
-use Rattle.formula_list.proofs.Stages.{too-short, filled}
+use Rattle.formula_list.proofs.Phases.{too-short, filled}
 use Rattle.formula_list.proofs.deliver.Statement.{statement}
 use Rattle.formula_list.proofs.deliver.Tie as tie
 

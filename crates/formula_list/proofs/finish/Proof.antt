@@ -1,6 +1,6 @@
 -- `formula_list::finish` meets its contract. Assumes nothing.
 use borrow.Author.Needs.{needs}
-use Rattle.formula_list.proofs.Stages.{ended, end-fault}
+use Rattle.formula_list.proofs.Phases.{ended, end-fault}
 use Rattle.formula_list.proofs.finish.Statement.{statement}
 use Rattle.formula_list.proofs.finish.Tie as tie
 

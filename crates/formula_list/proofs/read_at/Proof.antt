@@ -1,7 +1,7 @@
 -- `formula_list::read_at` meets its contract. Assumes nothing.
 use borrow.Author.Needs.{needs}
 use native.Mathlib.Omega.{arith}
-use Rattle.formula_list.proofs.Stages.{zero-registers}
+use Rattle.formula_list.proofs.Phases.{zero-registers}
 use Rattle.formula_list.proofs.read_at.Statement.{statement}
 use Rattle.formula_list.proofs.read_at.Tie as tie
 

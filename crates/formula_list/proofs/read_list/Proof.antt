@@ -1,7 +1,7 @@
 -- `formula_list::read_list` meets its contract. Assumes nothing.
 use borrow.Author.Needs.{needs}
 use native.Mathlib.Omega.{arith}
-use Rattle.formula_list.proofs.Stages.{header-fault, read-fault, read-value}
+use Rattle.formula_list.proofs.Phases.{header-fault, read-fault, read-value}
 use Rattle.formula_list.proofs.read_list.Statement.{statement}
 use Rattle.formula_list.proofs.read_list.Tie as tie
 

@@ -1,7 +1,7 @@
 -- `formula_list::read_once` meets its contract. Assumes nothing.
 use borrow.Author.Needs.{needs}
 use mathlib.Core.Path.{refl}
-use Rattle.formula_list.proofs.Stages.{zeros-at}
+use Rattle.formula_list.proofs.Phases.{zeros-at}
 use Rattle.formula_list.proofs.read_once.Statement.{statement}
 use Rattle.formula_list.proofs.read_once.Tie as tie
 

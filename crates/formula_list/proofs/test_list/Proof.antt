@@ -2,7 +2,7 @@
 use borrow.Author.Needs.{needs}
 use native.Mathlib.Omega.{arith}
 use Rattle.formula.proofs.TestList.{no-constant, many-constants, not-whole}
-use Rattle.formula_list.proofs.Stages.{refuses, value-outside, formula-long, in-order}
+use Rattle.formula_list.proofs.Phases.{refuses, value-outside, formula-long, in-order}
 use Rattle.formula_list.proofs.test_list.Statement.{statement}
 use Rattle.formula_list.proofs.test_list.Tie as tie
 

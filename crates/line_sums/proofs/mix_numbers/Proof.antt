@@ -17,7 +17,7 @@ use Rattle.forms.specs.Edition.{edition1}
 use Rattle.forms.specs.Forms.{small, every}
 use Rattle.lines.specs.Parts.{Agree}
 use Rattle.lines.proofs.Parts.{agree-paste}
-use Rattle.lines.specs.Buffer.{Terms, Mixes, mixed}
+use Rattle.lines.specs.Buffer.{SumAsked, Mixes, mixed}
 use Rattle.lines.proofs.Mixing.{length-mixed, getD-mixed}
 use Rattle.lines.proofs.Every.{Passed, passed-none, passed-next, passed-fails, passed-all}
 use Rattle.lines.proofs.Fill.{Filled, filled-none, filled-length, filled-before, filled-next}
@@ -66,7 +66,7 @@ module _ {f x g y : ℤ} (q : Factors f x g y) where
       simp toZ-ofZ
 
 -- A turn, in the source's terms.
-module _ {l : List ℤ} {a b d w : ℕ} {f g : ℤ} (t : Terms l f a g b d w) where
+module _ {l : List ℤ} {a b d w : ℕ} {f g : ℤ} (t : SumAsked l f a g b d w) where
   sums-length : length (mixed f a g b w l) ≡ w
   sums-length = length-mixed f a g b w l (omega arith) (omega arith)
 
@@ -136,7 +136,7 @@ module _ {l : List ℤ} {a b d w : ℕ} {f g : ℤ} (t : Terms l f a g b d w) wh
         }
 
 -- What the source asks, of the factors' bits.
-terms : (s : tie.Start Inv-loop μ-loop) → Terms (s .args .lines .now) (toZ w64 (ofZ w64 (s .args .alpha))) (s .args .s) (toZ w64 (ofZ w64 (s .args .beta))) (s .args .t) (s .args .new) (s .args .w)
+terms : (s : tie.Start Inv-loop μ-loop) → SumAsked (s .args .lines .now) (toZ w64 (ofZ w64 (s .args .alpha))) (s .args .s) (toZ w64 (ofZ w64 (s .args .beta))) (s .args .t) (s .args .new) (s .args .w)
 terms s = let ff = s .fits .alpha in let fg = s .fits .beta in simp toZ-ofZ (s .pre)
 
 loop-holds : tie.Need-loop-holds Inv-loop μ-loop

@@ -7,7 +7,7 @@ use lib.IntN.{pos}
 use lib.ListN.{length, drop}
 use Rattle.forms.specs.Forms.{every}
 use Rattle.number_ranges.proofs.Ranging.{all-next, all-done}
-use Rattle.formula_list.specs.Stages.{permitted}
+use Rattle.formula_list.specs.Phases.{permitted}
 use borrow.Author.Needs.{needs}
 use Rattle.formula_list.proofs.range.all_permitted.Statement.{statement}
 use Rattle.formula_list.proofs.range.all_permitted.Tie as tie

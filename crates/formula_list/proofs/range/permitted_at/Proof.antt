@@ -4,7 +4,7 @@ use mathlib.Core.Path.{ap, _∙_}
 use lib.IntN.{pos}
 use lib.ListN.{getD}
 use mir.Facts.{toZ-ofZ}
-use Rattle.formula_list.specs.Stages.{permitted}
+use Rattle.formula_list.specs.Phases.{permitted}
 use Rattle.formula_list.proofs.range.permitted_at.Statement.{statement}
 use Rattle.formula_list.proofs.range.permitted_at.Tie as tie
 

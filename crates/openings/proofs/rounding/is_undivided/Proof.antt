@@ -12,7 +12,7 @@ use Rattle.integers.specs.Divides.{divb}
 use Rattle.integers.proofs.Magnitude.{within-add, within-fits}
 use Rattle.forms.specs.Edition.{edition1}
 use Rattle.proof.specs.Rows.{undivided}
-use Rattle.openings.proofs.Roundable.{undivided-none, undivided-stops, undivided-on}
+use Rattle.openings.proofs.RoundTests.{undivided-none, undivided-stops, undivided-on}
 use Rattle.openings.proofs.rounding.is_undivided.Statement.{statement}
 use Rattle.openings.proofs.rounding.is_undivided.Tie as tie
 

@@ -10,7 +10,7 @@ use Rattle.lines.proofs.KindBytes.{kind-≤, kind-not-≤}
 use Rattle.lines.proofs.Tests.{is-below, past, unnot}
 use Rattle.closes.proofs.NumberTests.{line-end}
 use Rattle.closes.proofs.StrideTests.{at-least-two}
-use Rattle.openings.proofs.Roundable.{round-none, round-kind, round-small, round-least, round-most, round-coeffs, round-d, round-passed}
+use Rattle.openings.proofs.RoundTests.{round-none, round-kind, round-small, round-least, round-most, round-coeffs, round-d, round-passed}
 use borrow.Author.Needs.{needs}
 use Rattle.openings.proofs.rounding.test_round.Statement.{statement}
 use Rattle.openings.proofs.rounding.test_round.Tie as tie

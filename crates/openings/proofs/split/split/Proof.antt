@@ -1,7 +1,7 @@
 -- `openings::split::split` meets its contract. Assumes nothing.
 use native.Mathlib.Omega.{arith}
 use Rattle.lines.proofs.Tests.{is-below, past}
-use Rattle.openings.proofs.Splittable.{split-none, split-kind, split-refused, negated-fit-asked, split-second, split-made}
+use Rattle.openings.proofs.SplitTests.{split-none, split-kind, split-refused, negated-fit-asked, split-second, split-made}
 use borrow.Author.Needs.{needs}
 use Rattle.openings.proofs.split.split.Statement.{statement}
 use Rattle.openings.proofs.split.split.Tie as tie

@@ -3,7 +3,7 @@ use native.Mathlib.Omega.{arith}
 use Rattle.forms.proofs.Editions.{lines-most}
 use mir.ValLaws.{toZ-ofZ}
 use Rattle.tally.proofs.Counted.{counted-line, full-line}
-use Rattle.rows.proofs.Deriving.{append-full, append-range, append-made}
+use Rattle.rows.proofs.NewLine.{append-full, append-range, append-made}
 use borrow.Author.Needs.{needs}
 use Rattle.rows.proofs.derive.append.Statement.{statement}
 use Rattle.rows.proofs.derive.append.Tie as tie

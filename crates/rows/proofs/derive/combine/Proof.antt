@@ -3,7 +3,7 @@ use native.Mathlib.Omega.{arith}
 use mir.ValLaws.{toZ-ofZ}
 use Rattle.lines.proofs.KindBytes.{kind-≤, kind-not-≤}
 use Rattle.lines.proofs.Tests.{is-below, past, zero-abs, some-abs}
-use Rattle.rows.proofs.Testing.{combine-none, combine-none-2, combine-kind, combine-kind-2, combine-zero, combine-zero-2, combine-made}
+use Rattle.rows.proofs.InferenceTests.{combine-none, combine-none-2, combine-kind, combine-kind-2, combine-zero, combine-zero-2, combine-made}
 use borrow.Author.Needs.{needs}
 use Rattle.rows.proofs.derive.combine.Statement.{statement}
 use Rattle.rows.proofs.derive.combine.Tie as tie

@@ -3,7 +3,7 @@ use native.Mathlib.Omega.{arith}
 use mir.ValLaws.{toZ-ofZ}
 use Rattle.lines.proofs.KindBytes.{kind-=, kind-not-=, kind-plain, kind-apart}
 use Rattle.lines.proofs.Tests.{is-below, past}
-use Rattle.rows.proofs.Testing.{reduce-none, reduce-none-2, reduce-apart, reduce-kind, reduce-zero, reduce-made}
+use Rattle.rows.proofs.InferenceTests.{reduce-none, reduce-none-2, reduce-apart, reduce-kind, reduce-zero, reduce-made}
 use borrow.Author.Needs.{needs}
 use Rattle.rows.proofs.derive.reduce.Statement.{statement}
 use Rattle.rows.proofs.derive.reduce.Tie as tie

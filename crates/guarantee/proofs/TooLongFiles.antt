@@ -29,10 +29,10 @@ use Rattle.bundle_show.specs.Promises.{AnswersShow}
 use Rattle.bundle_read.specs.declared.ReadResult.{ReadResult}
 use Rattle.bundle_read.specs.Promises.{Reads}
 use Rattle.proof.specs.Check.{Checker, Following, there, checkRounded, checkSplit, checkRow, checkEntry, checkEntries, checkBranch, checkProof, formulaAtMost, interpolant, checkBy, check}
-use Rattle.proof.proofs.Says.{Says as Tells, says-refused, says-accepted, bind, seq, test, finds, weaken}
+use Rattle.proof.proofs.Satisfies.{Satisfies as Tells, says-refused, says-accepted, bind, seq, test, finds, weaken}
 use Rattle.proof.proofs.Tree.{amidst, derived-says, fitting-says, inequality-says, roundable-says, disequality-says, byNumber-says, byStride-says, entry-says}
 use Rattle.proof.specs.Promises.{Checks}
-use Rattle.guarantee.specs.Editions.{ShortBundles, ReadA, TooLong, long-A, long-B, late-A, late-B}
+use Rattle.guarantee.specs.Editions.{BundlesWithinLimits, ReadA, TooLong, long-A, long-B, late-A, late-B}
 
 -- ---- the proof's fields: each of their refusals is by a number from 2 to 20
 abbrev pub Amidst : Answer → Type 0
@@ -187,20 +187,20 @@ module _ (Why : Answer → Type 0) where
 -- ---- the operations
 -- A and B, where no other file stands in the way
 module _ (Why : Answer → Type 0) (A B : List ℕ) (Rest : Type 0) (why : (file : ℕ) → TooLong A B Rest file → Why (answer 1 file 0)) where
-  bundles-one : ShortBundles A B → Rest → Tells (One Why) (bundles newestEdition A B) (λ _. Unit {0})
+  bundles-one : BundlesWithinLimits A B → Rest → Tells (One Why) (bundles newestEdition A B) (λ _. Unit {0})
   unfolding bundles
   bundles-one s p = bind (bundle-one Why fileA none A (s .a) λ e l. why fileA (late-A s p e l)) λ x f.
       let read : ReadA A B = record { short = s; nA = x .edition; K = x .K; a = x .constraints; statesA = f .file } in
       bind (bundle-one Why fileB (some (x .K)) B (s .b) λ e l. why fileB (late-B read p e l)) λ y _. says-accepted tt
 
   -- their lengths are tested first, and what follows knows them
-  lengths-one : {X : Type 0} {P : X → Type 0} {r : Result X} → (ShortBundles A B → Tells (One Why) r P) → Tells (One Why) (atMost 8_192 fileA A >> (atMost 8_192 fileB B >> r)) P
+  lengths-one : {X : Type 0} {P : X → Type 0} {r : Result X} → (BundlesWithinLimits A B → Tells (One Why) r P) → Tells (One Why) (atMost 8_192 fileA A >> (atMost 8_192 fileB B >> r)) P
   lengths-one k = at-most Why 8_192 fileA A (λ h. why fileA (long-A h)) λ a. at-most Why 8_192 fileB B (λ h. why fileB (long-B a h)) λ b. k (record { a = a; b = b })
 
 module _ (A B proof : List ℕ) where
   -- Why check is refused by 1, by the file.
   abbrev Why1 : Answer → Type 0
-  Why1 a = TooLong A B (length proof ≤ 65_536) (a .file) ⊎ ((a .file ≡ fileProof) × ShortBundles A B × (65_536 < length proof)) ⊎ (a .file ≡ fileLent)
+  Why1 a = TooLong A B (length proof ≤ 65_536) (a .file) ⊎ ((a .file ≡ fileProof) × BundlesWithinLimits A B × (65_536 < length proof)) ⊎ (a .file ≡ fileLent)
 
   interpolant-one : Tells (One Why1) (interpolant newestEdition A B proof) (λ _. Unit {0})
   unfolding interpolant formulaAtMost

@@ -24,15 +24,15 @@ use Rattle.printing.specs.Translation.{smt}
 use Rattle.printing.specs.Words.{Wording, worded, WordingTrue, WordingNames}
 use Rattle.printing.specs.WordsText.{wordingText}
 use Rattle.printing.specs.WordsReading.{parseWording}
-use Rattle.printing.specs.Dialects.{shown, ReadsAs, MeansAs}
+use Rattle.printing.specs.Dialects.{formulaText, ReadsAs, MeansAs}
 use Rattle.printing.specs.Promises.{PrintsFile}
 
 -- Every form has K coefficients, and each g is 2 at least: what every file states.
-abbrev pub Over : ℕ → Formula → Type 0
-Over K (literal k t) = length (t .coeffs) ≡ K
-Over K (g divides t) = (2 ≤ g) × (length (t .coeffs) ≡ K)
-Over K (I and J) = Over K I × Over K J
-Over K (I or J) = Over K I × Over K J
+abbrev pub OverConstants : ℕ → Formula → Type 0
+OverConstants K (literal k t) = length (t .coeffs) ≡ K
+OverConstants K (g divides t) = (2 ≤ g) × (length (t .coeffs) ≡ K)
+OverConstants K (I and J) = OverConstants K I × OverConstants K J
+OverConstants K (I or J) = OverConstants K I × OverConstants K J
 
 -- Of the texts.
 pub record OneReading : Type 0 where
@@ -48,12 +48,12 @@ pub record OneReading : Type 0 where
   -- and no other text reads as that one
   pub exact : (bs : List ℕ) (p : Prop) → parseProp bs ≡ some p → bs ≡ propText p
   -- and is that of one formula only, where K is known (coefficients of 0 are left out, and no text tells how many there are)
-  pub kept : (K : ℕ) (I J : Formula) → Over K I → Over K J → propText (smt I) ≡ propText (smt J) → I ≡ J
+  pub kept : (K : ℕ) (I J : Formula) → OverConstants K I → OverConstants K J → propText (smt I) ≡ propText (smt J) → I ≡ J
   -- the same in words
   pub says-same : (I : Formula) (v : Assignment) → WordingTrue (worded I) v ↔ True I v
   pub words-names-only : (I : Formula) (c : ℕ) → WordingNames (worded I) c ↔ T (names I c)
   pub words-unique : (w : Wording) → parseWording (wordingText w) ≡ some w
-  pub words-kept : (K : ℕ) (I J : Formula) → Over K I → Over K J → wordingText (worded I) ≡ wordingText (worded J) → I ≡ J
+  pub words-kept : (K : ℕ) (I J : Formula) → OverConstants K I → OverConstants K J → wordingText (worded I) ≡ wordingText (worded J) → I ≡ J
 
 -- What one accepted call of print or print_words leaves.
 pub record PrintedAs (wording : Bool) (file output left : List ℕ) (r : WriteResult) : Type 0 where
@@ -61,14 +61,14 @@ pub record PrintedAs (wording : Bool) (file output left : List ℕ) (r : WriteRe
   pub K : ℕ
   pub formula : Formula
   pub stated : readFormula K (fields file) ≡ accepted formula
-  pub over-K : Over K formula
+  pub over-K : OverConstants K formula
   pub low : 1 ≤ K
   pub high : K ≤ edition1 .constants
   pub upto : length file ≤ edition1 .formulaBytes
   -- its text, as many bytes as are counted, stands at the front of the output; the rest stays
-  pub count : r .count ≡ length (shown wording false formula)
-  pub fits : length (shown wording false formula) ≤ length output
-  pub bytes : left ≡ over (shown wording false formula) output
+  pub count : r .count ≡ length (formulaText wording false formula)
+  pub fits : length (formulaText wording false formula) ≤ length output
+  pub bytes : left ≡ over (formulaText wording false formula) output
   -- the bytes written read as its proposition, or its wording, which means what it says
   pub reads-back : ReadsAs wording (take (r .count) left) formula
   pub means : (v : Assignment) → MeansAs wording formula v
@@ -83,5 +83,5 @@ pub record Printer : Type 0 where
   -- whatever is read as a formula is printed where there is room, and needs so many bytes where there is not
   pub room : (wording : Bool) (file output left : List ℕ) (r : WriteResult) → PrintsFile wording file output left r → length file ≤ edition1 .formulaBytes
       → (K : ℕ) (I : Formula) → readFormula K (fields file) ≡ accepted I
-      → (length (shown wording false I) ≤ length output → r .answer ≡ acceptance)
-      × (length output < length (shown wording false I) → r .answer ≡ answer 21 fileLent (length (shown wording false I)))
+      → (length (formulaText wording false I) ≤ length output → r .answer ≡ acceptance)
+      × (length output < length (formulaText wording false I) → r .answer ≡ answer 21 fileLent (length (formulaText wording false I)))

@@ -14,14 +14,14 @@ use Rattle.fields.specs.Fields.{Field, Fields, ends, cut, _▸_}
 use Rattle.fields.specs.Header.{headerField, editionField, constantsField, header, finished}
 use Rattle.bundle.specs.Bundle.{Bundle}
 use Rattle.proof.specs.Check.{Closing, Checker, Following, there, checkRounded, checkSplit, checkRow, checkEntry, checkEntries, checkBranch, checkProof}
-use Rattle.proof.proofs.Says.{Says, says-refused, says-accepted, bind, seq, test, finds}
+use Rattle.proof.proofs.Satisfies.{Satisfies, says-refused, says-accepted, bind, seq, test, finds}
 use Rattle.proof.proofs.Tree.{amidst, derived-says, fitting-says, inequality-says, roundable-says, disequality-says, byNumber-says, byStride-says, entry-says}
 
 abbrev pub Amidst : Answer → Type 0
 Amidst a = T (amidst (a .number))
 
 abbrev pub Numbered : {X : Type 0} → Result X → Type 0
-Numbered r = Says Amidst r (λ _. Unit {0})
+Numbered r = Satisfies Amidst r (λ _. Unit {0})
 
 -- ---- the header, and what follows the root
 field-numbered : (tag : ℕ) (fs : Fields) → Numbered (headerField FileKind.Proof fileProof tag fs)
@@ -56,7 +56,7 @@ data Deep : Option Checker → Type 0 where
   shut : Deep none
   opens : {checker : Checker} → AllNumbered checker → Deep (some checker)
 
-deeper-numbered : {deeper : Option Checker} → Deep deeper → (a : Answer) → Amidst a → Says Amidst (found a deeper) AllNumbered
+deeper-numbered : {deeper : Option Checker} → Deep deeper → (a : Answer) → Amidst a → Satisfies Amidst (found a deeper) AllNumbered
 unfolding found
 deeper-numbered shut a h = says-refused h
 deeper-numbered (opens d) a h = says-accepted d

@@ -18,8 +18,8 @@ use Rattle.fields.specs.Places.{fieldsAt}
 use Rattle.formula.specs.Formula.{formulaWithin, readFormula}
 use Rattle.formula_read.specs.Judging.{FormulaRead}
 use Rattle.formula_read.specs.declared.reading.Judged.{Judged}
-use Rattle.formula.specs.TestList.{listed}
-use Rattle.formula_block.specs.Blocks.{Listed}
+use Rattle.formula.specs.TestList.{readForList}
+use Rattle.formula_block.specs.Blocks.{VectorList}
 
 abbrev pub unwritten : (number file place : ℕ) → WriteResult
 unwritten number file place = record { answer = answer number file place; count = 0 }
@@ -30,9 +30,9 @@ permitted z = leb (natAbs z) (edition1 .values)
 
 -- The values are in order: n vectors, and what comes next is to read the formula.
 pub record ToRead (formula : List ℕ) (values : List ℤ) (K n : ℕ) : Type 0 where
-  pub vectors : Listed values K n
+  pub vectors : VectorList values K n
   pub number : length values / K ≡ n
-  pub next : listed formula K values ≡ readFormula K (fields formula)
+  pub next : readForList formula K values ≡ readFormula K (fields formula)
 
 -- The formula I stands from start to end.
 pub record ReadTo (formula : List ℕ) (start end : ℕ) (values : List ℤ) (K n : ℕ) : Type 0 where
@@ -48,7 +48,7 @@ pub record Known (formula : List ℕ) (start : ℕ) (values : List ℤ) (K n : �
   pub I : Formula
   pub rest : Fields
   pub is : formulaWithin edition1 K (edition1 .levels) (fieldsAt formula start) ≡ accepted (I, rest)
-  pub all : listed formula K values ≡ accepted I
+  pub all : readForList formula K values ≡ accepted I
 
 -- A formula read at some values, whichever they are.
 pub record ReadOnce (s : List ℕ) (at K : ℕ) (r : Judged) : Type 0 where

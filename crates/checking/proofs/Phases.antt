@@ -24,7 +24,7 @@ use Rattle.proof.proofs.Agree.{agreed}
 use Rattle.proof.specs.Promises.{Checks}
 use Rattle.bundle_load.specs.Both.{Both}
 use Rattle.check_output.proofs.Delivering.{unwritten}
-use Rattle.check_sizes.specs.Sizes.{Short, Begun}
+use Rattle.check_sizes.specs.Sizes.{WithinLimits, Begun}
 use Rattle.check_sizes.proofs.Begun.{refused-A, refused-B, refused-P}
 
 pub checks-refused : {A B P out : List ℕ} {number file place : ℕ} {r : WriteResult} → interpolant 2 A B P ≡ refused (answer number file place) → r ≡ unwritten number file place
@@ -53,11 +53,11 @@ is-bundle : {given K : ℕ} {A : List ℕ} {first : Body} {start : ℕ} {r : Sca
 is-bundle a e = (rw e at (a .by)) .0
 
 module _ {A : List ℕ} {r : Scanned} (a : Scans 0 A 0 r) where
-  pub unscanned-A : {B P : List ℕ} {number place : ℕ} → Short A B P → r ≡ Scanned.Refused number place → interpolant 2 A B P ≡ refused (answer number 1 place)
+  pub unscanned-A : {B P : List ℕ} {number place : ℕ} → WithinLimits A B P → r ≡ Scanned.Refused number place → interpolant 2 A B P ≡ refused (answer number 1 place)
   unscanned-A s e = refused-A s ((rw e at (a .by)) fileA)
 
   module _ {K : ℕ} {first : Body} {start : ℕ} (e : r ≡ Scanned.Bundle K first start) {B : List ℕ} {q : Scanned} (b : Scans K B 0 q) where
-    pub unscanned-B : {P : List ℕ} {number place : ℕ} → Short A B P → q ≡ Scanned.Refused number place → interpolant 2 A B P ≡ refused (answer number 2 place)
+    pub unscanned-B : {P : List ℕ} {number place : ℕ} → WithinLimits A B P → q ≡ Scanned.Refused number place → interpolant 2 A B P ≡ refused (answer number 2 place)
     unscanned-B s f =
         let is-A = is-bundle a e in
         refused-B s is-A (rw (given-some K (bodies.low is-A)) at ((rw f at (b .by)) fileB))
@@ -69,7 +69,7 @@ module _ {A : List ℕ} {r : Scanned} (a : Scans 0 A 0 r) where
         let same : L ≡ K = bodies.as-given is-B (bodies.low is-A) in
         record { a = is-A; b = subst (λ (x : ℕ). IsBundle K B x second) same is-B; low = bodies.low is-A; high = bodies.high is-A; a-few = bodies.few is-A; b-few = bodies.few is-B }
 
-module _ {A B : List ℕ} {first second : Body} {P : List ℕ} {K : ℕ} (s : Short A B P) (w : Both A B first second K) {r : Headed} (h : IsHeader FileKind.Proof 2 K P r) where
+module _ {A B : List ℕ} {first second : Body} {P : List ℕ} {K : ℕ} (s : WithinLimits A B P) (w : Both A B first second K) {r : Headed} (h : IsHeader FileKind.Proof 2 K P r) where
   header-as : header FileKind.Proof fileProof 2 (some K) (fields P) ≡ headedOf fileProof P r
   header-as = ap (λ (o : Option ℕ). header FileKind.Proof fileProof 2 o (fields P)) (sym (given-some K (w .low))) ∙ h .is fileProof
 

@@ -24,15 +24,15 @@ use Rattle.form_value.specs.Registers.{Registers}
 use Rattle.formula_read.specs.declared.reading.Judged.{Judged}
 use Rattle.formula_test.specs.Values.{ranged, FirstOutside}
 use Rattle.formula_test.proofs.Whole.{header-is, header-K}
-use Rattle.formula.specs.TestList.{vectors, listed, truths}
+use Rattle.formula.specs.TestList.{vectors, readForList, truths}
 use Rattle.formula.proofs.TestList.{list-refused, list-short, list-filled, bytes, bytes-long, outside, too-long, to-read}
 use Rattle.formula_list.specs.Promises.{TestsList}
 use Rattle.formula_block.specs.Blocks.{Fills}
-use Rattle.formula_list.specs.Stages.{unwritten, ToRead, ReadTo, Known, ReadOnce}
+use Rattle.formula_list.specs.Phases.{unwritten, ToRead, ReadTo, Known, ReadOnce}
 use Rattle.formula_leaf.proofs.Leaves.{part-within}
 
 -- ---- refused
-pub refuses : {formula : List ℕ} {K : ℕ} {values : List ℤ} {number file place : ℕ} {r : WriteResult} (out : List ℕ) → listed formula K values ≡ refused (answer number file place)
+pub refuses : {formula : List ℕ} {K : ℕ} {values : List ℤ} {number file place : ℕ} {r : WriteResult} (out : List ℕ) → readForList formula K values ≡ refused (answer number file place)
     → r ≡ unwritten number file place → TestsList formula K values out out r
 refuses {formula} {K} {values} out e f = record { is = ap (λ x. writtenOf x out) f ∙ sym (list-refused formula K values out e) }
 
@@ -56,7 +56,7 @@ module _ {formula : List ℕ} {start : ℕ} {values : List ℤ} {K n : ℕ} (k :
 
 -- ---- what may stand after the formula
 module _ {formula : List ℕ} {start end : ℕ} {values : List ℤ} {K n : ℕ} (k : ReadTo formula start end values K n) {e : Ending} (d : IsEnding FileKind.Formula formula end e) where
-  to-end : listed formula K values ≡ (finished FileKind.Formula fileProof (fieldsAt formula end) >> accepted (k .I))
+  to-end : readForList formula K values ≡ (finished FileKind.Formula fileProof (fieldsAt formula end) >> accepted (k .I))
   unfolding readFormula
   to-end = k .to-read .next ∙ binds _ (k .headed) ∙ binds _ (k .is)
 
@@ -101,12 +101,12 @@ in-order formula K values some few whole o all short =
     }
 
 pub value-outside : (formula : List ℕ) (K : ℕ) (values : List ℤ) → 1 ≤ K → K ≤ 16 → length values % K ≤ 0 → {i : ℕ} → FirstOutside values i → i < length values
-    → listed formula K values ≡ refused (answer 23 fileLent i)
+    → readForList formula K values ≡ refused (answer 23 fileLent i)
 unfolding ranged
 value-outside formula K values some few whole o h = outside formula K values some few (omega arith) (o .outside h)
 
 pub formula-long : (formula : List ℕ) (K : ℕ) (values : List ℤ) → 1 ≤ K → K ≤ 16 → length values % K ≤ 0 → {i : ℕ} → FirstOutside values i → length values ≤ i → 65_536 < length formula
-    → listed formula K values ≡ refused (answer 1 fileProof 0)
+    → readForList formula K values ≡ refused (answer 1 fileProof 0)
 unfolding ranged
 formula-long formula K values some few whole o all long = too-long formula K values some few (omega arith) (o .within (omega (arith, o .upto)) .0) long
 

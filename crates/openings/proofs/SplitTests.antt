@@ -30,8 +30,8 @@ use Rattle.lines.proofs.KindBytes.{apart-A, apart-B, kind-unowned}
 use Rattle.tally.specs.declared.Tally.{Tally}
 use Rattle.rows.specs.declared.derive.Derived.{Derived}
 use Rattle.rows.specs.declared.derive.Derived.the-variants.{Refused, Made}
-use Rattle.openings.specs.Opening.{startOf, opening, Stands, Opens, rowOpened}
-use Rattle.openings.specs.Splitting.{ownerOf, raisedBy, negatedOf, bothOf, Splits}
+use Rattle.openings.specs.Opening.{startOf, opening, FirstLineStands, Opens, rowOpened}
+use Rattle.openings.specs.Splitting.{ownerOf, raisedBy, negatedOf, bothOf, SplitOpens}
 
 -- ---- whose line it is, by what is read of the byte that is stored
 pub read-two : {b r : ℕ} → KindRead b r → eqb r 2 ≡ eqb b 2
@@ -40,15 +40,15 @@ read-two k = ap (λ (x : ℕ). eqb x 2) (k .is)
 -- ---- the tests
 module _ (K : ℕ) (kinds : List ℕ) (buf : List ℤ) (t : Tally) (i : ℕ) where
   refuses : {x : ℕ} → ((next : Following) (refusal : ℕ → Answer) (rows : ℕ) (fs : Fields) → rowOpened K kinds buf t (rules.Split i) next refusal rows fs ≡ refused (refusal x))
-      → {kinds′ : List ℕ} {buf′ : List ℤ} → LinesKept K (t .lines .0) kinds buf kinds′ buf′ → Splits K kinds buf t i kinds′ buf′ (Refused x)
+      → {kinds′ : List ℕ} {buf′ : List ℤ} → LinesKept K (t .lines .0) kinds buf kinds′ buf′ → SplitOpens K kinds buf t i kinds′ buf′ (Refused x)
   refuses is k = record { opens = record { kept = k; by = is }; second = λ t′ z. absurd (let w : _≡_ {A = ℕ} 0 1 = cc in omega arith) }
 
-  pub split-none : t .lines .0 ≤ i → Splits K kinds buf t i kinds buf (Refused 10)
+  pub split-none : t .lines .0 ≤ i → SplitOpens K kinds buf t i kinds buf (Refused 10)
   unfolding checkRow disequality lineAt _>>=_ found
   split-none h = refuses (λ next refusal rows fs. rw (line-past K kinds buf (t .lines .0) i h)) kept-refl
 
   module _ (hi : i < t .lines .0) {r : ℕ} (k : KindRead (getD kinds i 0) r) where
-    pub split-kind : r < 2 → Splits K kinds buf t i kinds buf (Refused 11)
+    pub split-kind : r < 2 → SplitOpens K kinds buf t i kinds buf (Refused 11)
     unfolding checkRow disequality lineAt _>>=_ found
     split-kind h = refuses (λ next refusal rows fs. rw (line-at K kinds buf (t .lines .0) i hi, kind-unowned K kinds buf i k (omega arith))) kept-refl
 
@@ -86,14 +86,14 @@ module _ (K : ℕ) (kinds : List ℕ) (buf : List ℤ) (t : Tally) (i : ℕ) whe
             fitting refusal (linesIn K kinds buf (t .lines .0)) (edition (t .edition)) (negatedOf 1 (raisedBy (getD kinds i 0)) (lineIn K kinds buf i))
             >> bothOf (ownerOf (getD kinds i 0)) branch (linesIn K kinds buf (t .lines .0)) (lineIn K kinds buf i) rows (suc rows) fs
 
-        pub split-refused : {x : ℕ} → d ≡ Refused x → Splits K kinds buf t i kinds′ buf′ (Refused x)
+        pub split-refused : {x : ℕ} → d ≡ Refused x → SplitOpens K kinds buf t i kinds′ buf′ (Refused x)
         split-refused e = refuses (λ next refusal rows fs. split-row (eqb (getD kinds i 0) 2) (read-two k) next refusal rows fs ∙ (rw e at opens) .by refusal (rest refusal rows fs)) (opens .kept)
 
         still : Ready (t .edition) K kinds′ buf′ (t .lines .0)
         still = ready-kept ready (opens .kept)
 
         module _ {t′ : Tally} (e : d ≡ Made t′) where
-          stands : Stands K kinds buf t i 1 (raisedBy (getD kinds i 0)) kinds′ buf′ t′
+          stands : FirstLineStands K kinds buf t i 1 (raisedBy (getD kinds i 0)) kinds′ buf′ t′
           stands = (rw e at (opens .by)) .1
 
           row-is : (next : Following) (refusal : ℕ → Answer) (rows : ℕ) (fs : Fields) → rowOpened K kinds buf t (rules.Split i) next refusal rows fs ≡ rest refusal rows fs (checkBranch (edition (t .edition)) K (32 - (t .«open» + 1)))
@@ -115,12 +115,12 @@ module _ (K : ℕ) (kinds : List ℕ) (buf : List ℤ) (t : Tally) (i : ℕ) whe
                 (subst (λ (z : ℕ). inRange (edition1 .range) (negatedOf 1 z (lineIn K kinds′ buf′ i)) ≡ f) same-y
                 (tested-neg (omega (arith, still .branch .room)) (still .branch .bounded) hi kinds′ 1 y ≤0 fits))
 
-            pub split-second : not f ≡ true → Splits K kinds buf t i kinds′ buf′ (Refused 13)
+            pub split-second : not f ≡ true → SplitOpens K kinds buf t i kinds′ buf′ (Refused 13)
             unfolding fitting _>>_ need
             split-second h =
                 refuses (λ next refusal rows fs. row-is next refusal rows fs ∙ rw (length-lines K kinds buf (t .lines .0), lt-ltb (t .lines .0) (edition (t .edition) .lines) space, range, unnot f h)) (opens .kept)
 
-            pub split-made : not f ≡ false → Splits K kinds buf t i kinds′ buf′ (Made t′)
+            pub split-made : not f ≡ false → SplitOpens K kinds buf t i kinds′ buf′ (Made t′)
             unfolding fitting _>>_ need
             split-made h = record {
               opens = record {
