@@ -37,11 +37,12 @@ LinesWithin e c N = min c (edition e .lines) ≤ N
 abbrev pub NumbersWithin : (e K c N : ℕ) → Type 0
 NumbersWithin e K c N = (min c (edition e .lines) + 1) * size K ≤ N
 
--- What is left by a check in a scratch that may be too short, and by one that is tried in such a scratch.
+-- A check in a scratch that may be too short: it is check's where that can be told of its answer, and with 1 the output stays.
 pub record CheckedWithin (A B P : List ℕ) (at : ℕ) (scratch out out′ : List ℕ) (r : WriteResult) : Type 0 where
   pub is : Told P at scratch r → Checks A B P out out′ r
   pub same : r .answer .number ≡ 1 → out′ ≡ out
 
+-- The same to a caller who does not know the scratch: every answer but 1 is check's.
 pub record Tries (A B P out out′ : List ℕ) (r : WriteResult) : Type 0 where
   pub is : (r .answer .number ≡ 1 → ⊥) → Checks A B P out out′ r
   pub same : r .answer .number ≡ 1 → out′ ≡ out

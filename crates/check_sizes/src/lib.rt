@@ -9,6 +9,8 @@ use bundle_load::prepare;
 use bundle_scan::Body;
 use check_output::finish;
 use check_output::refusal;
+use fields::Found;
+use fields::field_at;
 use forms::CONSTANTS;
 use forms::FORMULA_BYTES;
 use forms::LINES;
@@ -138,15 +140,15 @@ fn check_within(
 // The sizes of the arrays. An array is cleared before it is used, which takes longer than the check of a short proof, so a
 // short proof is given little: check_N is for proofs of N bytes at most. (A row has six bytes or so.)
 // A row makes one line at most, and has four bytes, in edition 2 five: there is room for the lines of two constraints, of N / 4
-// rows and for one that is being made, each of 16 constants (in check_24 of 7). With fewer constants there is room for more
-// lines; a line has four numbers at least, so a kind for each four numbers is enough.
+// rows and for one that is being made, each of 16 constants (in check_24 and check_41 of 7). With fewer constants there is room
+// for more lines; a line has four numbers at least, so a kind for each four numbers is enough.
 // Up to check_248 the scratch has BYTE_BYTES for each byte: a close has a field of four bytes at least, and adds 156 bytes to the
 // formula at most: its own part over 16 constants has 75, the stride part before it, where it closes a branch of a rounding, 75
 // too, and 6 are for the heads of an and and an or.
-// Where nothing is rounded, 12 bytes hold a strengthen and two closes and add 148 bytes, so TRIED_BYTES for each byte are
-// enough. A longer proof is tried with these, and checked again with room for every formula where they are not. With these the
-// arrays of check_960 have 31 KB and those of check_wide_960 40 KB, about what the first cache holds; what is larger takes longer
-// by the byte (docs/SPEED.md).
+// A longer proof is tried with TRIED_BYTES for each of 960 bytes, and checked again with room for every formula where these are too
+// few. Where nothing is rounded they are not: 12 bytes, or 3 fields, hold a strengthen and two closes and add 148 bytes. (That is
+// by reckoning; nothing rests on it.) The arrays of check_960 then have 31 KB and those of check_wide_960 40 KB, about what the
+// first cache holds; what is larger takes longer by the byte (docs/SPEED.md).
 const BYTE_BYTES: usize = 39;
 
 const TRIED_BYTES: usize = 13;
@@ -155,6 +157,8 @@ const TRIED_BYTES: usize = 13;
 const LINE_NUMBERS: usize = 2 * (CONSTANTS as usize + 1);
 
 const NUMBERS_24: usize = (6 + 3) * (2 * (7 + 1));
+
+const NUMBERS_41: usize = (10 + 3) * (2 * (7 + 1));
 
 const NUMBERS_66: usize = (16 + 3) * LINE_NUMBERS;
 
@@ -187,6 +191,37 @@ fn check_24(
     let mut scratch = [0u8; 24 * BYTE_BYTES];
     let mut kinds = [0u8; NUMBERS_24 / 4];
     let mut lines = [0i32; NUMBERS_24];
+    check_within(
+        a,
+        b,
+        first,
+        second,
+        proof,
+        header,
+        &mut lines,
+        &mut kinds,
+        &mut scratch,
+        out,
+    )
+}
+
+fn check_41(
+    a: &[u8],
+    b: &[u8],
+    first: Body,
+    second: Body,
+    proof: &[u8],
+    header: ProofHeader,
+    out: &mut [u8],
+) -> WriteResult
+    requires { ⌜ Begun (now a) (now b) first second (now proof) (header .edition) (header .k) (header .next) ⌝ }
+    requires { ⌜ unreadBytes (now proof) (header .next) ≤ 41 ⌝ }
+    requires { ⌜ NumbersWithin (header .edition) (header .k) (first .count + second .count + linesLeft (header .edition) (now proof) (header .next)) (13 * size 7) ⌝ }
+    ensures { λ r. ⌜ Checks (now (a .entry)) (now (b .entry)) (now (proof .entry)) (now (out .entry)) (now (out .exit)) r ⌝ }
+{
+    let mut scratch = [0u8; 41 * BYTE_BYTES];
+    let mut kinds = [0u8; NUMBERS_41 / 4];
+    let mut lines = [0i32; NUMBERS_41];
     check_within(
         a,
         b,
@@ -263,7 +298,61 @@ fn check_248(
     )
 }
 
-// Tried: the formula may be longer than the scratch. A proof of more than 960 bytes is not.
+// A proof that is tried has at most so many bytes or, with claims, so many fields. A longer one is not gone over for that.
+const TRIED_PROOF: usize = 960;
+
+const TRIED_FIELDS: usize = 192;
+
+const COUNTED_PROOF: usize = 8192;
+
+// Whether so many fields that end at a place have, beyond 32, fewer than 16 bytes each, as rows alone have. (32 branching rows
+// may stand at the start, one inside the other.)
+fn is_dense(count: usize, end: usize) -> bool
+    requires { ⌜ count ≤ 192 ⌝ }
+{
+    if count <= 32 {
+        return false;
+    }
+    end < 16 * (count - 32)
+}
+
+// Whether a proof is tried. Claims make it long, and its formula not, so its fields are counted as long as they are not dense.
+// Only time rests on it.
+fn is_tried(proof: &[u8], from: usize) -> bool {
+    if proof.len() <= TRIED_PROOF {
+        return true;
+    }
+    if proof.len() > COUNTED_PROOF {
+        return false;
+    }
+    let mut at = from;
+    let mut count: usize = 0;
+    while count < TRIED_FIELDS {
+        match field_at(proof, at) {
+            Found::Whole {
+                tag: _,
+                start: _,
+                len: _,
+                next,
+            } => {
+                count += 1;
+                if is_dense(count, next) {
+                    return false;
+                }
+                at = next;
+            }
+            Found::Broken => {
+                return true;
+            }
+            Found::End => {
+                return true;
+            }
+        }
+    }
+    false
+}
+
+// Tried: where the formula is longer than the scratch the answer is TOO_LONG.
 fn check_960(
     a: &[u8],
     b: &[u8],
@@ -277,7 +366,7 @@ fn check_960(
     requires { ⌜ NumbersWithin (header .edition) (header .k) (first .count + second .count + linesLeft (header .edition) (now proof) (header .next)) (129 * size (edition1 .constants)) ⌝ }
     ensures { λ r. ⌜ Tries (now (a .entry)) (now (b .entry)) (now (proof .entry)) (now (out .entry)) (now (out .exit)) r ⌝ }
 {
-    if proof.len() > 960 {
+    if !is_tried(proof, header.next) {
         return refusal(TOO_LONG, 4, 0);
     }
     let mut scratch = [0u8; 960 * TRIED_BYTES];
@@ -367,7 +456,7 @@ fn check_wide_960(
     requires { ⌜ NumbersWithin (header .edition) (header .k) (first .count + second .count + linesLeft (header .edition) (now proof) (header .next)) numbers ⌝ }
     ensures { λ r. ⌜ Tries (now (a .entry)) (now (b .entry)) (now (proof .entry)) (now (out .entry)) (now (out .exit)) r ⌝ }
 {
-    if proof.len() > 960 {
+    if proof.len() > TRIED_PROOF {
         return refusal(TOO_LONG, 4, 0);
     }
     if numbers > NUMBERS_WIDE_960 {
@@ -488,6 +577,11 @@ pub fn check_lines(
         if bytes <= 24 {
             if numbers <= NUMBERS_24 {
                 return check_24(a, b, first, second, proof, header, out);
+            }
+        }
+        if bytes <= 41 {
+            if numbers <= NUMBERS_41 {
+                return check_41(a, b, first, second, proof, header, out);
             }
         }
         if bytes <= 66 {

@@ -12,6 +12,9 @@ use borrow.Author.Needs.{needs}
 use Rattle.check_sizes.proofs.check_960.Statement.{statement}
 use Rattle.check_sizes.proofs.check_960.Tie as tie
 
+is-tried-requires : tie.Need-is-tried-requires
+is-tried-requires c κs = search needs
+
 refusal-requires : tie.Need-refusal-requires
 refusal-requires c κs = search needs
 
@@ -29,8 +32,8 @@ slice-aggregate-check-within-3 c = search needs
 
 check-within-requires : tie.Need-check-within-requires
 check-within-requires c κs =
-    let w = c .before .before .before .before .before .before .before .before .before .pre in
-    let a = c .before .before .before .before .before .before .before .before .before .args in
+    let w = c .before .before .before .before .before .before .before .before .before .before .pre in
+    let a = c .before .before .before .before .before .before .before .before .before .before .args in
     (w .0, spare-most (a .header .edition) (a .first .count + a .second .count + linesLeft (a .header .edition) (a .proof .now) (a .header .next)) (w .1) (omega (arith, length-replicate {A = ℤ} 4386 (pos 0))) (omega (arith, length-replicate {A = ℕ} 1096 0, kinds-few (a .header .edition) (a .header .k) (a .first .count + a .second .count + linesLeft (a .header .edition) (a .proof .now) (a .header .next)) {k = 1096} (w .1) (w .0 .both .low) (omega arith))))
 
 same-length : tie.Need-same-length
@@ -43,6 +46,7 @@ pub check-960-spec : {M : Type 1} → statement M
 check-960-spec =
     tie.close
     (tie.spec
+    is-tried-requires
     refusal-requires
     returns
     slice-aggregate-check-within

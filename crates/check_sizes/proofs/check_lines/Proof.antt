@@ -49,8 +49,8 @@ same-length c = search needs
 returns : tie.Need-returns
 returns c = search needs
 
-check-66-requires : tie.Need-check-66-requires
-check-66-requires c κs =
+check-41-requires : tie.Need-check-41-requires
+check-41-requires c κs =
     let a = c .before .before .before .before .before .before .before .before .before .before .before .before .before .args in
     (c .before .before .before .before .before .before .before .before .before .before .before .before .before .pre, (omega (arith, c .before .before .if4 .taken), numbers-less (a .first .count + a .second .count) (a .header .edition) (a .header .k) (a .proof .now) (a .header .next) (c .before .before .before .before .before .before .before .before .most-rows .ensures) (c .before .before .before .before .before .most-lines .ensures) (c .before .if5 .taken)))
 
@@ -60,10 +60,10 @@ same-length-2 c = search needs
 returns-2 : tie.Need-returns-2
 returns-2 c = search needs
 
-check-248-requires : tie.Need-check-248-requires
-check-248-requires c κs =
-    let a = c .before .before .before .before .before .before .before .before .before .before .before .before .before .args in
-    (c .before .before .before .before .before .before .before .before .before .before .before .before .before .pre, (omega (arith, c .before .before .before .before .if1 .taken), numbers-less (a .first .count + a .second .count) (a .header .edition) (a .header .k) (a .proof .now) (a .header .next) (c .before .before .before .before .before .before .before .before .most-rows .ensures) (c .before .before .before .before .before .most-lines .ensures) (c .before .if6 .taken)))
+check-66-requires : tie.Need-check-66-requires
+check-66-requires c κs =
+    let a = c .before .before .before .before .before .before .before .before .before .before .before .before .before .before .args in
+    (c .before .before .before .before .before .before .before .before .before .before .before .before .before .before .pre, (omega (arith, c .before .before .if6 .taken), numbers-less (a .first .count + a .second .count) (a .header .edition) (a .header .k) (a .proof .now) (a .header .next) (c .before .before .before .before .before .before .before .before .before .most-rows .ensures) (c .before .before .before .before .before .before .most-lines .ensures) (c .before .if7 .taken)))
 
 same-length-3 : tie.Need-same-length-3
 same-length-3 c = search needs
@@ -71,10 +71,10 @@ same-length-3 c = search needs
 returns-3 : tie.Need-returns-3
 returns-3 c = search needs
 
-check-long-requires : tie.Need-check-long-requires
-check-long-requires c κs =
+check-248-requires : tie.Need-check-248-requires
+check-248-requires c κs =
     let a = c .before .before .before .before .before .before .before .before .before .before .before .before .before .before .args in
-    (c .before .before .before .before .before .before .before .before .before .before .before .before .before .before .pre, numbers-less (a .first .count + a .second .count) (a .header .edition) (a .header .k) (a .proof .now) (a .header .next) (c .before .before .before .before .before .before .before .before .before .most-rows .ensures) (c .before .before .before .before .before .before .most-lines .ensures) (c .before .if7 .taken))
+    (c .before .before .before .before .before .before .before .before .before .before .before .before .before .before .pre, (omega (arith, c .before .before .before .before .before .if1 .taken), numbers-less (a .first .count + a .second .count) (a .header .edition) (a .header .k) (a .proof .now) (a .header .next) (c .before .before .before .before .before .before .before .before .before .most-rows .ensures) (c .before .before .before .before .before .before .most-lines .ensures) (c .before .if8 .taken)))
 
 same-length-4 : tie.Need-same-length-4
 same-length-4 c = search needs
@@ -82,10 +82,10 @@ same-length-4 c = search needs
 returns-4 : tie.Need-returns-4
 returns-4 c = search needs
 
-check-wide-requires : tie.Need-check-wide-requires
-check-wide-requires c κs =
-    let a = c .before .before .before .before .before .before .before .before .before .before .before .before .before .before .args in
-    (c .before .before .before .before .before .before .before .before .before .before .before .before .before .before .pre, numbers-less (a .first .count + a .second .count) (a .header .edition) (a .header .k) (a .proof .now) (a .header .next) {N = (c .before .before .before .before .before .before .most-lines .result + 1) * size (a .header .k)} (c .before .before .before .before .before .before .before .before .before .most-rows .ensures) (c .before .before .before .before .before .before .most-lines .ensures) (omega arith))
+check-long-requires : tie.Need-check-long-requires
+check-long-requires c κs =
+    let a = c .before .before .before .before .before .before .before .before .before .before .before .before .before .before .before .args in
+    (c .before .before .before .before .before .before .before .before .before .before .before .before .before .before .before .pre, numbers-less (a .first .count + a .second .count) (a .header .edition) (a .header .k) (a .proof .now) (a .header .next) (c .before .before .before .before .before .before .before .before .before .before .most-rows .ensures) (c .before .before .before .before .before .before .before .most-lines .ensures) (c .before .if9 .taken))
 
 same-length-5 : tie.Need-same-length-5
 same-length-5 c = search needs
@@ -93,10 +93,10 @@ same-length-5 c = search needs
 returns-5 : tie.Need-returns-5
 returns-5 c = search needs
 
-check-long-requires-2 : tie.Need-check-long-requires-2
-check-long-requires-2 c κs =
-    let a = c .before .before .before .before .before .before .before .before .before .before .before .args in
-    (c .before .before .before .before .before .before .before .before .before .before .before .pre, numbers-less (a .first .count + a .second .count) (a .header .edition) (a .header .k) (a .proof .now) (a .header .next) (c .before .before .before .before .before .before .most-rows .ensures) (c .before .before .before .most-lines .ensures) (c .before .if8 .taken))
+check-wide-requires : tie.Need-check-wide-requires
+check-wide-requires c κs =
+    let a = c .before .before .before .before .before .before .before .before .before .before .before .before .before .before .before .args in
+    (c .before .before .before .before .before .before .before .before .before .before .before .before .before .before .before .pre, numbers-less (a .first .count + a .second .count) (a .header .edition) (a .header .k) (a .proof .now) (a .header .next) {N = (c .before .before .before .before .before .before .before .most-lines .result + 1) * size (a .header .k)} (c .before .before .before .before .before .before .before .before .before .before .most-rows .ensures) (c .before .before .before .before .before .before .before .most-lines .ensures) (omega arith))
 
 same-length-6 : tie.Need-same-length-6
 same-length-6 c = search needs
@@ -104,16 +104,27 @@ same-length-6 c = search needs
 returns-6 : tie.Need-returns-6
 returns-6 c = search needs
 
-check-wide-requires-2 : tie.Need-check-wide-requires-2
-check-wide-requires-2 c κs =
+check-long-requires-2 : tie.Need-check-long-requires-2
+check-long-requires-2 c κs =
     let a = c .before .before .before .before .before .before .before .before .before .before .before .args in
-    (c .before .before .before .before .before .before .before .before .before .before .before .pre, numbers-less (a .first .count + a .second .count) (a .header .edition) (a .header .k) (a .proof .now) (a .header .next) {N = (c .before .before .before .most-lines .result + 1) * size (a .header .k)} (c .before .before .before .before .before .before .most-rows .ensures) (c .before .before .before .most-lines .ensures) (omega arith))
+    (c .before .before .before .before .before .before .before .before .before .before .before .pre, numbers-less (a .first .count + a .second .count) (a .header .edition) (a .header .k) (a .proof .now) (a .header .next) (c .before .before .before .before .before .before .most-rows .ensures) (c .before .before .before .most-lines .ensures) (c .before .if10 .taken))
 
 same-length-7 : tie.Need-same-length-7
 same-length-7 c = search needs
 
 returns-7 : tie.Need-returns-7
 returns-7 c = search needs
+
+check-wide-requires-2 : tie.Need-check-wide-requires-2
+check-wide-requires-2 c κs =
+    let a = c .before .before .before .before .before .before .before .before .before .before .before .args in
+    (c .before .before .before .before .before .before .before .before .before .before .before .pre, numbers-less (a .first .count + a .second .count) (a .header .edition) (a .header .k) (a .proof .now) (a .header .next) {N = (c .before .before .before .most-lines .result + 1) * size (a .header .k)} (c .before .before .before .before .before .before .most-rows .ensures) (c .before .before .before .most-lines .ensures) (omega arith))
+
+same-length-8 : tie.Need-same-length-8
+same-length-8 c = search needs
+
+returns-8 : tie.Need-returns-8
+returns-8 c = search needs
 
 pub check-lines-spec : {M : Type 1} → statement M
 check-lines-spec =
@@ -131,21 +142,24 @@ check-lines-spec =
     check-24-requires
     same-length
     returns
-    check-66-requires
+    check-41-requires
     same-length-2
     returns-2
-    check-248-requires
+    check-66-requires
     same-length-3
     returns-3
-    check-long-requires
+    check-248-requires
     same-length-4
     returns-4
-    check-wide-requires
+    check-long-requires
     same-length-5
     returns-5
-    check-long-requires-2
+    check-wide-requires
     same-length-6
     returns-6
-    check-wide-requires-2
+    check-long-requires-2
     same-length-7
-    returns-7)
+    returns-7
+    check-wide-requires-2
+    same-length-8
+    returns-8)
