@@ -1,4 +1,4 @@
-// The answer that every operation gives. Every answer is made here.
+// The answer that every operation gives, and the functions that make one.
 // specs/Answers.antt has what an answer is, and results: the first refusal that applies, by which every operation is defined.
 use forms::RowNumber;
 use integers::between;

@@ -19,7 +19,7 @@ use Rattle.printing.specs.Dialects.{formulaText, ReadsAs, MeansAs}
 use Rattle.printing.specs.Print.{printFormula, printed}
 use Rattle.printing.specs.Promises.{PrintsFile}
 use Rattle.printing.proofs.Named.{names-only, words-names-only}
-use Rattle.printing.proofs.Accepted.{readable, printer, printed-as, read-as, means-read}
+use Rattle.printing.proofs.Accepted.{one-reading, printer, printed-as, read-as, means-read}
 use Rattle.guarantee.specs.Acceptance.{WrittenAs}
 use Rattle.guarantee.specs.Testing.{FormulaFile}
 use Rattle.guarantee.specs.Print.{textOf, Printable, SeparatesAs, PrintingPromised}
@@ -74,7 +74,7 @@ separates true {I = I} t m = record {
 
 pub printing-promised : PrintingPromised
 printing-promised = record {
-  texts = readable;
+  texts = one-reading;
   print-iff = λ wording file output left r p. (accepts wording file output left r p, λ (x, room). ap (λ (a : Answer). a .number) (states-prints wording file output left r p x .0 room .answer));
   prints = states-prints;
   as-test = as-test;

@@ -1,5 +1,5 @@
 -- Printing: what is accepted, what is then left, and what the text of a filed guard tells whoever reads it. Of what the functions print, print_words and check ensure. Assumes nothing.
--- (What the text of a formula means, that it reads as one proposition only, and over a known K is that of one formula only: `OneReading`, printing/specs/Readable.)
+-- (What the text of a formula means, that it reads as one proposition only, and over a known K is that of one formula only: `OneReading`, printing/specs/OneReading.)
 use mathlib.Core.Path.{_≡_}
 use mathlib.Core.Logic.{_↔_}
 use mathlib.Core.Bool.{Bool, true, false}

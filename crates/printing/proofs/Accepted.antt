@@ -1,4 +1,4 @@
--- What the function print ensures is worth what `Printer` says, and the text what `Readable` says. Assumes nothing.
+-- What the function print ensures is worth what `Printer` says, and the text what `OneReading` says. Assumes nothing.
 use mathlib.Core.Path.{_≡_, refl, sym, ap, ap₂, _∙_, subst}
 use mathlib.Core.Bool.{Bool, true, false}
 use mathlib.Core.List.{List}
@@ -34,8 +34,8 @@ use Rattle.printing.proofs.WordsBack.{words-kept}
 use Rattle.printing.proofs.Back.{kept}
 use Rattle.printing.proofs.Shape.{over-strides, within-gives, header-own, header-any}
 
-pub readable : OneReading
-readable = record {
+pub one-reading : OneReading
+one-reading = record {
   mod-standard = mod-standard;
   means-same = means-same;
   names-only = names-only;

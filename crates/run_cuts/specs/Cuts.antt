@@ -18,7 +18,7 @@ use Rattle.fields.specs.Header.{header, finished}
 use Rattle.fields.specs.Places.{fieldsAt}
 use Rattle.formula.specs.Formula.{encode}
 use Rattle.formula_write.specs.Writing.{scratchLimit}
-use Rattle.proof.specs.Check.{checkBranch}
+use Rattle.proof.specs.Check.{checkRoot}
 use Rattle.branches.specs.Spare.{linesLeft, Spare}
 use Rattle.bundle_load.specs.Load.{lineOf, Loaded}
 use Rattle.chains.specs.Runs.{Run}
@@ -42,10 +42,6 @@ LoadsCut buffer lengths c K kinds buf kinds′ buf′ = Loaded K kinds buf 0 (cu
 abbrev pub claimedAs : Answer → Answer
 claimedAs a = cond (eqb (a .number) 14) (withNumber 27 a) a
 
--- The root of a proof of edition e, and what follows it.
-abbrev pub rooted : (e K : ℕ) → List Line → Fields → Result Formula
-rooted e K ls fs = checkBranch (edition e) K (edition1 .branchings) root 0 ls fs >>= λ c. (finished FileKind.Proof fileProof (c .after) >> accepted (c .formula))
-
 -- R accepts a formula of o bytes, which stand in the scratch if there is room for them.
 pub record CutDerives (R : Result Formula) (scratch scratch′ : List ℕ) (o : ℕ) : Type 0 where
   pub formula : Formula
@@ -62,7 +58,7 @@ pub record CutResult (R : Result Formula) (scratch scratch′ : List ℕ) (r : C
   pub by : ChecksBy R scratch scratch′ r
 
 abbrev pub RootChecked : (e K : ℕ) → List Line → (P : List ℕ) (at : ℕ) (scratch scratch′ : List ℕ) → Cut → Type 0
-RootChecked e K ls P at scratch scratch′ r = CutResult (claimRefused (rooted e K ls (fieldsAt P at))) scratch scratch′ r
+RootChecked e K ls P at scratch scratch′ r = CutResult (claimRefused (checkRoot e K ls (fieldsAt P at))) scratch scratch′ r
 
 -- The stages are read, and so is the proof's header: its edition is e, and its fields go on at a place. There is room for the lines that may come.
 pub record CutAsked (buffer lengths : List ℕ) (K count : ℕ) (P : List ℕ) (e at : ℕ) (kinds : List ℕ) (buf : List ℤ) : Type 0 where
