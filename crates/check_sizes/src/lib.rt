@@ -456,7 +456,7 @@ fn check_wide_960(
     requires { ⌜ NumbersWithin (header .edition) (header .k) (first .count + second .count + linesLeft (header .edition) (now proof) (header .next)) numbers ⌝ }
     ensures { λ r. ⌜ Tries (now (a .entry)) (now (b .entry)) (now (proof .entry)) (now (out .entry)) (now (out .exit)) r ⌝ }
 {
-    if proof.len() > TRIED_PROOF {
+    if !is_tried(proof, header.next) {
         return refusal(TOO_LONG, 4, 0);
     }
     if numbers > NUMBERS_WIDE_960 {

@@ -12,6 +12,9 @@ use borrow.Author.Needs.{needs}
 use Rattle.check_sizes.proofs.check_wide_960.Statement.{statement}
 use Rattle.check_sizes.proofs.check_wide_960.Tie as tie
 
+is-tried-requires : tie.Need-is-tried-requires
+is-tried-requires c κs = search needs
+
 refusal-requires : tie.Need-refusal-requires
 refusal-requires c κs = search needs
 
@@ -35,8 +38,8 @@ slice-aggregate-check-within-3 c = search needs
 
 check-within-requires : tie.Need-check-within-requires
 check-within-requires c κs =
-    let w = c .before .before .before .before .before .before .before .before .before .before .pre in
-    let a = c .before .before .before .before .before .before .before .before .before .before .args in
+    let w = c .before .before .before .before .before .before .before .before .before .before .before .pre in
+    let a = c .before .before .before .before .before .before .before .before .before .before .before .args in
     (w .0, spare-most (a .header .edition) (a .first .count + a .second .count + linesLeft (a .header .edition) (a .proof .now) (a .header .next)) (w .1) (omega (arith, length-replicate {A = ℤ} 6630 (pos 0), c .before .before .before .before .if2 .left)) (omega (arith, length-replicate {A = ℕ} 1001 0, kinds-all (a .header .edition) (a .first .count + a .second .count + linesLeft (a .header .edition) (a .proof .now) (a .header .next)))))
 
 same-length : tie.Need-same-length
@@ -49,6 +52,7 @@ pub check-wide-960-spec : {M : Type 1} → statement M
 check-wide-960-spec =
     tie.close
     (tie.spec
+    is-tried-requires
     refusal-requires
     returns
     refusal-requires-2
