@@ -1,6 +1,6 @@
 //! docs/GUARANTEES.md names every file under specs/, those to be believed with their lines, and only files that are there;
 //! docs/MUST-FAIL.md names every edit, and only edits that are there;
-//! docs/PROOF.md names laws, contracts and functions that stand in the files it gives for them;
+//! docs/PROOF.md and docs/LAWS.md name laws, contracts and functions that stand in the files they give for them;
 //! README.md has every crate in its diagram and in its table, and only crates that are there.
 
 mod common;
@@ -107,11 +107,10 @@ fn declares(text: &str, name: &str) -> bool {
 }
 
 /// In each line a name belongs to the file that follows it, or to one given for it further up; the last name before a file is that file's own.
-#[test]
-fn names_of_the_tour_stand_in_their_files() {
-    let page = fs::read_to_string(root().join("docs/PROOF.md")).expect("a page");
+fn names_stand_in_their_files(page: &str, fewest: usize) {
+    let text = fs::read_to_string(root().join(page)).expect("a page");
     let mut given = BTreeSet::new();
-    for line in page.lines() {
+    for line in text.lines() {
         let mut names = Vec::new();
         for quoted in line.split('`').skip(1).step_by(2) {
             if !quoted.contains('/') {
@@ -119,21 +118,31 @@ fn names_of_the_tour_stand_in_their_files() {
                 continue;
             }
             let path = root().join("crates").join(quoted);
-            let text =
-                fs::read_to_string(&path).unwrap_or_else(|_| panic!("{quoted} is not there"));
+            let text = fs::read_to_string(&path)
+                .unwrap_or_else(|_| panic!("{page}: {quoted} is not there"));
             let own = names.last().copied();
             for name in names.drain(..) {
                 let stands = declares(&text, name);
                 let known = given.contains(name) && own != Some(name);
-                assert!(stands || known, "{name} is not in {quoted}");
+                assert!(stands || known, "{page}: {name} is not in {quoted}");
                 given.insert(name);
             }
         }
         for name in names {
-            assert!(given.contains(name), "{name} has no file");
+            assert!(given.contains(name), "{page}: {name} has no file");
         }
     }
-    assert!(given.len() > 100, "{} names", given.len());
+    assert!(given.len() > fewest, "{page}: {} names", given.len());
+}
+
+#[test]
+fn names_of_the_tour_stand_in_their_files() {
+    names_stand_in_their_files("docs/PROOF.md", 40);
+}
+
+#[test]
+fn names_of_the_laws_stand_in_their_files() {
+    names_stand_in_their_files("docs/LAWS.md", 100);
 }
 
 #[test]
