@@ -30,7 +30,7 @@ use Rattle.bundle_load.specs.Load.{lineOf, Space}
 use Rattle.chains.specs.Runs.{Run, joined, upTo, beyond}
 use Rattle.run.specs.Run.{claimRefused, checkCut}
 use Rattle.run_cuts.specs.Staged.{stages}
-use Rattle.run_cuts.specs.Cuts.{cutLines, LoadsCut, claimedAs, rooted, RootChecked, CutAsked, CutChecked}
+use Rattle.run_cuts.specs.Cuts.{cutLines, LoadsCut, claimedAs, rootFormula, RootChecked, CutAsked, CutChecked}
 use Rattle.run_cuts.specs.declared.cut.Cut.{Cut}
 use Rattle.run_cuts.specs.declared.cut.Cut.the-variants as cut
 use Rattle.run_cuts.proofs.CutLines.{cut-lines}
@@ -114,7 +114,7 @@ module _ {buffer lengths : List ℕ} {K count : ℕ} {P : List ℕ} {e at : ℕ}
           room = omega (arith, a .short);
         }
 
-    cut-is : claimRefused (rooted e K (linesIn K kinds₁ buf₁ count) (fieldsAt P at)) ≡ checkCut 2 K (stages buffer lengths) (fields P) c
+    cut-is : claimRefused (rootFormula e K (linesIn K kinds₁ buf₁ count) (fieldsAt P at)) ≡ checkCut 2 K (stages buffer lengths) (fields P) c
     unfolding checkCut checkProof _>>=_
     cut-is = rw (lines-are, a .header-is)
 

@@ -45,7 +45,7 @@ pub record Pushed (steps : List ℕ) (d lines kept left : ℕ) (steps′ : List 
   pub steps-length : length steps′ ≡ length steps
 
 -- A branch of the step on top is taken away: with how many lines it starts, and how many of them are kept.
-pub record Closed (steps : List ℕ) (d : ℕ) (steps′ : List ℕ) (lines kept d′ : ℕ) : Type 0 where
+pub record Popped (steps : List ℕ) (d : ℕ) (steps′ : List ℕ) (lines kept d′ : ℕ) : Type 0 where
   pub is : Alive steps d → stackOf steps′ d′ ≡ pop (stackOf steps d)
   pub lines-are : lines ≡ topOf steps d .lines
   pub kept-are : kept ≡ topOf steps d .kept

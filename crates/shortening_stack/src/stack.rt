@@ -5,7 +5,7 @@ ghost use Prim.Native.Nat.{_<_, _≤_};
 use crate::BRANCHES;
 use crate::MAKES;
 ghost use lib.ListN.{length};
-ghost use Rattle.shortening_stack.specs.Stack.{Pushed, Closed, MovedOn};
+ghost use Rattle.shortening_stack.specs.Stack.{Pushed, Popped, MovedOn};
 
 // In a step: with how many lines its branches start, in the two low bytes; how many of these are kept, in the next two; and how
 // many branches are to come.
@@ -35,7 +35,7 @@ pub struct Moved {
 // A branch ends, and the next one to come starts; none is to come, and none has lines, where there is no step.
 fn end_branch(steps: &mut [u64], depth: usize) -> Moved
     requires { ⌜ depth ≤ length (now steps) ⌝ }
-    ensures { λ r. ⌜ Closed (now (steps .entry)) depth (now (steps .exit)) (r .lines) (r .kept) (r .depth) ⌝ }
+    ensures { λ r. ⌜ Popped (now (steps .entry)) depth (now (steps .exit)) (r .lines) (r .kept) (r .depth) ⌝ }
 {
     if depth == 0 {
         return Moved {
