@@ -1,7 +1,7 @@
 -- The branches of a step as the code goes through them: each is compared to the first when it is closed. Document 02, point 7. Assumes nothing.
 use mathlib.Core.Path.{_≡_}
 use mathlib.Core.Bool.{Bool, true, cond, _&&_}
-use mathlib.Core.List.{List, []}
+use mathlib.Core.List.{List}
 use Prim.Native.Nat.{ℕ, zero, suc}
 use lib.ListN.{length}
 use Rattle.answers.specs.Answers.{position, Result, accepted, _>>=_, _>>_, need}

@@ -9,22 +9,22 @@ use lib.ListN.{length, getD, set, length-set}
 use lib.Seq.{getD-set-same, getD-set-other}
 use borrow.Author.Tests.{eqb-true, eqb-false}
 use Rattle.shortening.specs.Passes.{top, pop, pushed, Start, noStart, branchStart}
-use Rattle.shortening_stack.specs.Stack.{stepOf, startIn, leftIn, stackOf, Alive, Same, topOf, Bound, Pushed, Popped, linesAfter, keptAfter, openedAfter, MovedOn}
+use Rattle.shortening_stack.specs.Stack.{stepOf, startIn, leftIn, stackOf, Alive, SameBelow, topOf, Bound, Pushed, Popped, linesAfter, keptAfter, openedAfter, MovedOn}
 
-same-less : {d : ℕ} {xs ys : List ℕ} → Same (suc d) xs ys → Same d xs ys
+same-less : {d : ℕ} {xs ys : List ℕ} → SameBelow (suc d) xs ys → SameBelow d xs ys
 same-less s = record { same = λ i h. s .same i (omega (arith, h)) }
 
 -- what the stack is goes by its first d numbers
-same-stack : (steps steps′ : List ℕ) (d : ℕ) → Same d steps′ steps → stackOf steps′ d ≡ stackOf steps d
+same-stack : (steps steps′ : List ℕ) (d : ℕ) → SameBelow d steps′ steps → stackOf steps′ d ≡ stackOf steps d
 same-stack steps steps′ zero s = refl
 same-stack steps steps′ (suc d) s =
     ap₂ (λ (x : ℕ) (ss : List Start). pushed (leftIn x) (startIn x) ss) (s .same d (omega arith)) (same-stack steps steps′ d (same-less s))
 
-pub same-self : (d : ℕ) (xs : List ℕ) → Same d xs xs
+pub same-self : (d : ℕ) (xs : List ℕ) → SameBelow d xs xs
 same-self d xs = record { same = λ i h. refl }
 
 -- a store at d
-pub same-set : (d : ℕ) (xs : List ℕ) (x : ℕ) → Same d (set xs d x) xs
+pub same-set : (d : ℕ) (xs : List ℕ) (x : ℕ) → SameBelow d (set xs d x) xs
 same-set d xs x = record { same = λ i h. getD-set-other xs d i x 0 (λ e. absurd (let z : ⊥ = omega (arith, h, e) in z)) }
 
 stack-set : (steps : List ℕ) (d x : ℕ) → d < length steps → stackOf (set steps d x) (suc d) ≡ pushed (leftIn x) (startIn x) (stackOf steps d)

@@ -25,7 +25,7 @@ pub record Alive (steps : List ℕ) (d : ℕ) : Type 0 where
   pub alive : (i : ℕ) → i < d → 1 ≤ leftIn (getD steps i 0)
 
 -- Below d both lists are the same.
-pub record Same (d : ℕ) (xs ys : List ℕ) : Type 0 where
+pub record SameBelow (d : ℕ) (xs ys : List ℕ) : Type 0 where
   pub same : (i : ℕ) → i < d → getD xs i 0 ≡ getD ys i 0
 
 abbrev pub topOf : List ℕ → ℕ → Start
