@@ -1,1 +1,2 @@
-// Guards for a run of stages, as derivations (document 02, point 7): one proof for all cuts, and the chain of its guards. No code: only specs and proofs.
+// Why the guards of a run form a chain (document 02, point 7): a run and its cuts, a uniform proof, and the law `run-chain`. No code.
+// The definitions are specs/Runs.antt; `run` defines its operation by them, and guarantee proves of its guards what the law says.

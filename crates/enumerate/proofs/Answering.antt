@@ -40,7 +40,7 @@ use Rattle.enumeration_rows.specs.Applied.{SearchRoom}
 use Rattle.enumeration_rows.specs.declared.found.FoundAt.{FoundAt}
 use Rattle.enumeration_rows.specs.Searching.{foundOf, FindsAny}
 use Rattle.enumeration_rows.specs.Delivered.{WritesFound}
-use Rattle.enumerate.specs.Finding.{foundBehind, foundIn, BothWithinLimits}
+use Rattle.enumerate.specs.Finding.{foundBehind, foundFor, BothWithinLimits}
 
 -- ---- the bundles
 abbrev bundleOf : List ℕ → ℕ → Body → Bundle
@@ -91,7 +91,7 @@ module _ {A B : List ℕ} where
       list-is h = binds _ read-both ∙ rw (le-leb (length (statedIn A K first) + length (statedIn B K second)) 4 (omega (arith, counted)))
 
       -- what is told of a table
-      told-found : first .count + second .count ≤ 4 → (given : List ℕ) → nextFile A B given ≡ foundFile K (foundIn K given (lines (statedIn A K first) (statedIn B K second)))
+      told-found : first .count + second .count ≤ 4 → (given : List ℕ) → nextFile A B given ≡ foundFile K (foundFor K given (lines (statedIn A K first) (statedIn B K second)))
       told-found h given = go (begins (headerBytes 1 K) given) refl (eqb (length given) 8) refl
         where
           ls : List Line
@@ -106,11 +106,11 @@ module _ {A B : List ℕ} where
           go true e false q = told-next A B given K (lines (statedIn A K first) (statedIn B K second)) (list-is h) (subst T (sym e) tt) (long e) (eqb-false (length given) 8 q)
 
       pub nexts-told : {n : ℕ} {given out out′ : List ℕ} {kinds : List ℕ} {buf : List ℤ} {kinds′ : List ℕ} {buf′ : List ℤ} {found : FoundAt} {r : WriteResult} → n ≡ first .count + second .count → n ≤ 4
-          → Prepared A B first second K kinds buf → FindsAny K n (foundIn K given (linesIn K kinds buf n)) kinds buf kinds′ buf′ found → WritesFound K (foundOf n found) out out′ r → WritesNext A B given out out′ r
+          → Prepared A B first second K kinds buf → FindsAny K n (foundFor K given (linesIn K kinds buf n)) kinds buf kinds′ buf′ found → WritesFound K (foundOf n found) out out′ r → WritesNext A B given out out′ r
       unfolding nextProof
       nexts-told {n} {given} {out} {kinds = kinds} {buf = buf} e h p s t = record {
         is = t .is
-            ∙ ap (λ (f : Found). written (foundFile K f) out) (s .is ∙ ap (λ (n : ℕ). foundIn K given (linesIn K kinds buf n)) e ∙ ap (foundIn K given) (p .lines-are))
+            ∙ ap (λ (f : Found). written (foundFile K f) out) (s .is ∙ ap (λ (n : ℕ). foundFor K given (linesIn K kinds buf n)) e ∙ ap (foundFor K given) (p .lines-are))
             ∙ ap (λ (x : Result (List ℕ)). written x out) (sym (told-found (omega arith) given));
       }
 

@@ -14,16 +14,16 @@ use Rattle.lines.proofs.Keeping.{kept-refl}
 use Rattle.enumeration_rows.specs.declared.found.FoundAt.{FoundAt}
 use Rattle.enumeration_rows.specs.declared.found.FoundAt.the-variants.{NotAmong}
 use Rattle.enumeration_rows.specs.Searching.{FindsAny}
-use Rattle.enumerate.specs.Finding.{foundIn}
+use Rattle.enumerate.specs.Finding.{foundFor}
 
 -- ---- the table's header
 module _ {K n : ℕ} (table : List ℕ) {kinds : List ℕ} {buf : List ℤ} {b : Bool} (headed : b ≡ begins (headerBytes 1 K) table) where
-  pub unheaded : b ≡ false → FindsAny K n (foundIn K table (linesIn K kinds buf n)) kinds buf kinds buf NotAmong
+  pub unheaded : b ≡ false → FindsAny K n (foundFor K table (linesIn K kinds buf n)) kinds buf kinds buf NotAmong
   unheaded f = record { kept = kept-refl; is = rw (sym headed ∙ f); within = tt }
 
   module _ (t : b ≡ true) {kinds₁ : List ℕ} {buf₁ : List ℤ} {found : FoundAt} where
-    pub header-alone : length table ≡ 8 → FindsAny K n (firstOfDepths 3 0 (linesIn K kinds buf n)) kinds buf kinds₁ buf₁ found → FindsAny K n (foundIn K table (linesIn K kinds buf n)) kinds buf kinds₁ buf₁ found
+    pub header-alone : length table ≡ 8 → FindsAny K n (firstOfDepths 3 0 (linesIn K kinds buf n)) kinds buf kinds₁ buf₁ found → FindsAny K n (foundFor K table (linesIn K kinds buf n)) kinds buf kinds₁ buf₁ found
     header-alone e s = record { kept = s .kept; is = s .is ∙ rw (sym headed ∙ t, eq-eqb (length table) 8 e); within = s .within }
 
-    pub header-more : ¬ (length table ≡ 8) → FindsAny K n (nextOfDepths 3 0 (drop 8 table) (linesIn K kinds buf n)) kinds buf kinds₁ buf₁ found → FindsAny K n (foundIn K table (linesIn K kinds buf n)) kinds buf kinds₁ buf₁ found
+    pub header-more : ¬ (length table ≡ 8) → FindsAny K n (nextOfDepths 3 0 (drop 8 table) (linesIn K kinds buf n)) kinds buf kinds₁ buf₁ found → FindsAny K n (foundFor K table (linesIn K kinds buf n)) kinds buf kinds₁ buf₁ found
     header-more e s = record { kept = s .kept; is = s .is ∙ rw (sym headed ∙ t, ne-eqb (length table) 8 e); within = s .within }

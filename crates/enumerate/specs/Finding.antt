@@ -17,8 +17,8 @@ foundBehind false alone table ls = search.notAmong
 foundBehind true true table ls = search.firstOfDepths 3 0 ls
 foundBehind true false table ls = search.nextOfDepths 3 0 (drop 8 table) ls
 
-abbrev pub foundIn : (K : ℕ) (table : List ℕ) → List Line → Found
-foundIn K table ls = foundBehind (begins (headerBytes 1 K) table) (eqb (length table) 8) table ls
+abbrev pub foundFor : (K : ℕ) (table : List ℕ) → List Line → Found
+foundFor K table ls = foundBehind (begins (headerBytes 1 K) table) (eqb (length table) 8) table ls
 
 -- Neither bundle is too long for every edition.
 pub record BothWithinLimits (A B : List ℕ) : Type 0 where

@@ -24,10 +24,10 @@ ghost use Rattle.enumeration.specs.Numbering.{begins};
 ghost use Rattle.enumeration.specs.Promises.{WritesNext};
 ghost use Rattle.lines.specs.Buffer.{linesIn};
 ghost use Rattle.bundle_load.specs.Both.{Both};
-ghost use Rattle.enumeration_rows.specs.Applied.{counted, SearchRoom};
+ghost use Rattle.enumeration_rows.specs.Applied.{tallyOf, SearchRoom};
 ghost use Rattle.enumeration_rows.specs.Delivered.{WritesFound};
 ghost use Rattle.enumeration_rows.specs.Searching.{foundOf, NumbersIn, FindsAny};
-ghost use Rattle.enumerate.specs.Finding.{foundIn, BothWithinLimits};
+ghost use Rattle.enumerate.specs.Finding.{foundFor, BothWithinLimits};
 
 // Whether the table begins with the header.
 fn is_headed(table: &[u8], k: u8) -> bool
@@ -39,8 +39,8 @@ fn is_headed(table: &[u8], k: u8) -> bool
 }
 
 fn find(lines: &mut [i32], kinds: &mut [u8], n: usize, k: u8, table: &[u8]) -> FoundAt
-    requires { ⌜ SearchRoom k 2 (now kinds) (now lines) (counted n) ⌝ }
-    ensures { λ r. ⌜ FindsAny k n (foundIn k (now (table .entry)) (linesIn k (now (kinds .entry)) (now (lines .entry)) n)) (now (kinds .entry)) (now (lines .entry)) (now (kinds .exit)) (now (lines .exit)) r ⌝ }
+    requires { ⌜ SearchRoom k 2 (now kinds) (now lines) (tallyOf n) ⌝ }
+    ensures { λ r. ⌜ FindsAny k n (foundFor k (now (table .entry)) (linesIn k (now (kinds .entry)) (now (lines .entry)) n)) (now (kinds .entry)) (now (lines .entry)) (now (kinds .exit)) (now (lines .exit)) r ⌝ }
 {
     if !is_headed(table, k) {
         return FoundAt::NotAmong;

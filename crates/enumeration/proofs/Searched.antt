@@ -16,7 +16,7 @@ use Rattle.number_bytes.proofs.Comparing.{same-is}
 use Rattle.fields.specs.Fields.{fileOf}
 use Rattle.enumeration.specs.Sequence.{concatMap, upFrom, newLine, closeFormula, ifAccepted, proofsOf}
 use Rattle.enumeration.specs.Numbering.{inferenceCount, closeCount, inferenceAt, closeAt, rowBytes, inferenceBytes, closeBytes, closeGuess, begins}
-use Rattle.enumeration.specs.Search.{Found, notAmong, noneLeft, at, firstFound, rowsBytes, nextFound, ifNoneLeft, ifNotAmong, withRow, rowCount, proofsBeginning, proofsFrom}
+use Rattle.enumeration.specs.Search.{Found, notAmong, noneLeft, at, firstFound, rowsBytes, nextFound, ifNoneLeft, ifNotAmong, withRow, firstRowCount, proofsBeginning, proofsFrom}
 use Rattle.enumeration.proofs.Members.{all-both}
 use Rattle.enumeration.proofs.Branches.{ifAccepted-all}
 use Rattle.enumeration.proofs.Numbered.{inferences-numbered, closes-numbered, inference-bytes, close-bytes, inference-guessed, close-guessed}
@@ -104,7 +104,7 @@ all-concatMaped P f (cons {x = x} q qs) h = all-both (h x q) (all-concatMaped P 
 -- ---- the sequence from a number on
 module _ (ls : List Line) where
   pub rows-numbered : (k : ℕ) → k + length ls ≤ 6 → proofsOf k ls ≡ proofsFrom k ls 0
-  unfolding proofsOf proofsFrom proofsBeginning rowCount
+  unfolding proofsOf proofsFrom proofsBeginning firstRowCount
   rows-numbered zero h =
       let e : closeCount (length ls) - 0 ≡ closeCount (length ls) = omega arith in
       ap (concatMap (λ r. ifAccepted (closeFormula ls r) (λ (I : Formula). (r ∷ []) ∷ []))) (closes-numbered (length ls) (omega arith))
@@ -117,34 +117,34 @@ module _ (ls : List Line) where
       ∙ ap (λ (c : ℕ). concatMap (proofsBeginning (suc k) ls) (upFrom 0 c)) (sym e)
 
   module _ (k : ℕ) where
-    pub rows-more : (f : ℕ) → f < rowCount k (length ls) → proofsFrom k ls f ≡ proofsBeginning k ls f ++ proofsFrom k ls (suc f)
+    pub rows-more : (f : ℕ) → f < firstRowCount k (length ls) → proofsFrom k ls f ≡ proofsBeginning k ls f ++ proofsFrom k ls (suc f)
     unfolding proofsFrom concatMap upFrom
     rows-more f h =
-        let e : rowCount k (length ls) - f ≡ suc (rowCount k (length ls) - suc f) = omega arith in
+        let e : firstRowCount k (length ls) - f ≡ suc (firstRowCount k (length ls) - suc f) = omega arith in
         rw e
 
-    pub rows-none : (f : ℕ) → rowCount k (length ls) ≤ f → proofsFrom k ls f ≡ []
+    pub rows-none : (f : ℕ) → firstRowCount k (length ls) ≤ f → proofsFrom k ls f ≡ []
     unfolding proofsFrom concatMap upFrom
     rows-none f h =
-        let e : rowCount k (length ls) - f ≡ 0 = omega arith in
+        let e : firstRowCount k (length ls) - f ≡ 0 = omega arith in
         rw e
 
-    pub next-more : (f : ℕ) → f < rowCount k (length ls) → firstFound (proofsFrom k ls f) ≡ ifNoneLeft (firstFound (proofsBeginning k ls f)) (firstFound (proofsFrom k ls (suc f)))
+    pub next-more : (f : ℕ) → f < firstRowCount k (length ls) → firstFound (proofsFrom k ls f) ≡ ifNoneLeft (firstFound (proofsBeginning k ls f)) (firstFound (proofsFrom k ls (suc f)))
     next-more f h = ap firstFound (rows-more f h) ∙ first-append (proofsBeginning k ls f) (proofsFrom k ls (suc f))
 
-    pub next-none : (f : ℕ) → rowCount k (length ls) ≤ f → firstFound (proofsFrom k ls f) ≡ noneLeft
+    pub next-none : (f : ℕ) → firstRowCount k (length ls) ≤ f → firstFound (proofsFrom k ls f) ≡ noneLeft
     unfolding firstFound
     next-none f h = ap firstFound (rows-none f h)
 
     -- before, at and behind a number
-    rows-split : (j : ℕ) → j < rowCount k (length ls) → proofsFrom k ls 0 ≡ concatMap (proofsBeginning k ls) (upFrom 0 j) ++ (proofsBeginning k ls j ++ proofsFrom k ls (suc j))
+    rows-split : (j : ℕ) → j < firstRowCount k (length ls) → proofsFrom k ls 0 ≡ concatMap (proofsBeginning k ls) (upFrom 0 j) ++ (proofsBeginning k ls j ++ proofsFrom k ls (suc j))
     unfolding proofsFrom
     rows-split j h =
-        let c : rowCount k (length ls) - 0 ≡ j + (rowCount k (length ls) - j) = omega arith in
+        let c : firstRowCount k (length ls) - 0 ≡ j + (firstRowCount k (length ls) - j) = omega arith in
         let z : 0 + j ≡ j = omega arith in
         ap (λ (c : ℕ). concatMap (proofsBeginning k ls) (upFrom 0 c)) c
-        ∙ ap (concatMap (proofsBeginning k ls)) (from-split 0 j (rowCount k (length ls) - j) ∙ ap (λ (i : ℕ). upFrom 0 j ++ upFrom i (rowCount k (length ls) - j)) z)
-        ∙ concatMap-append (proofsBeginning k ls) (upFrom 0 j) (upFrom j (rowCount k (length ls) - j))
+        ∙ ap (concatMap (proofsBeginning k ls)) (from-split 0 j (firstRowCount k (length ls) - j) ∙ ap (λ (i : ℕ). upFrom 0 j ++ upFrom i (firstRowCount k (length ls) - j)) z)
+        ∙ concatMap-append (proofsBeginning k ls) (upFrom 0 j) (upFrom j (firstRowCount k (length ls) - j))
         ∙ ap (λ (xs : List (List Row)). concatMap (proofsBeginning k ls) (upFrom 0 j) ++ xs) (rows-more j h)
 
 -- ---- what a block has
@@ -213,15 +213,15 @@ matching (suc k) n g i = begins (inferenceBytes n i) g
 
 module _ (g : List ℕ) (ls : List Line) where
   -- no other row stands there
-  one-match : (k i j : ℕ) → k + length ls ≤ 6 → i < rowCount k (length ls) → j < rowCount k (length ls) → T (matching k (length ls) g j) → ¬ (i ≡ j) → matching k (length ls) g i ≡ false
-  unfolding matching rowCount
+  one-match : (k i j : ℕ) → k + length ls ≤ 6 → i < firstRowCount k (length ls) → j < firstRowCount k (length ls) → T (matching k (length ls) g j) → ¬ (i ≡ j) → matching k (length ls) g i ≡ false
+  unfolding matching firstRowCount
   one-match zero i j h p q t d = false-is (sameBytes (closeBytes (length ls) i) g) (λ u. d (
       sym (close-guessed (length ls) i (omega arith) p) ∙ ap (closeGuess (length ls)) (same-is (closeBytes (length ls) i) g u ∙ sym (same-is (closeBytes (length ls) j) g t)) ∙ close-guessed (length ls) j (omega arith) q))
   one-match (suc k) i j h p q t d = false-is (begins (inferenceBytes (length ls) i) g) (λ u. d (sym (inference-guessed (length ls) i g (omega arith) p u) ∙ inference-guessed (length ls) j g (omega arith) q t))
 
   -- a block whose row does not stand there has none with these bytes
-  block-other : (k i : ℕ) → k + length ls ≤ 6 → i < rowCount k (length ls) → matching k (length ls) g i ≡ false → All (Other g) (proofsBeginning k ls i)
-  unfolding matching rowCount proofsBeginning rowsBytes closeBytes fileOf
+  block-other : (k i : ℕ) → k + length ls ≤ 6 → i < firstRowCount k (length ls) → matching k (length ls) g i ≡ false → All (Other g) (proofsBeginning k ls i)
+  unfolding matching firstRowCount proofsBeginning rowsBytes closeBytes fileOf
   block-other zero i h p e = ifAccepted-all (Other g) (closeFormula ls (closeAt (length ls) i)) (λ (I : Formula). (closeAt (length ls) i ∷ []) ∷ []) λ I _.
       cons {x = closeAt (length ls) i ∷ []} (ap (λ (bs : List ℕ). sameBytes bs g) (rows-one (closeAt (length ls) i) [] ∙ append-nil (rowBytes (closeAt (length ls) i)) ∙ close-bytes (length ls) i (omega arith) p) ∙ e) nil
   block-other (suc k) i h p e = ifAccepted-all (Other g) (newLine ls (inferenceAt (length ls) i)) (λ (l : Line). map (λ (rs : List Row). Derive (inferenceAt (length ls) i) ∷ rs) (proofsOf k (ls ▷ l))) λ l _.
@@ -233,16 +233,16 @@ module _ (g : List ℕ) (ls : List Line) where
           (ap (λ (bs : List ℕ). sameBytes bs g) (rows-one (Derive (inferenceAt (length ls) i)) rs ∙ ap (λ (bs : List ℕ). bs ++ rowsBytes rs) (inference-bytes (length ls) i (omega arith) p)) ∙ same-not (inferenceBytes (length ls) i) (rowsBytes rs) g e)
           (mapped rss)
 
-  range-other : (k i c : ℕ) → k + length ls ≤ 6 → i + c ≤ rowCount k (length ls) → ((j : ℕ) → i ≤ j → j < i + c → matching k (length ls) g j ≡ false) → All (Other g) (concatMap (proofsBeginning k ls) (upFrom i c))
+  range-other : (k i c : ℕ) → k + length ls ≤ 6 → i + c ≤ firstRowCount k (length ls) → ((j : ℕ) → i ≤ j → j < i + c → matching k (length ls) g j ≡ false) → All (Other g) (concatMap (proofsBeginning k ls) (upFrom i c))
   range-other k i c h l m = all-concatMaped (Other g) (proofsBeginning k ls) (from-range i c) λ j (p, q). block-other k j h (omega arith) (m j p q)
 
   -- row j stands there
-  at-match : (k j : ℕ) → k + length ls ≤ 6 → j < rowCount k (length ls) → T (matching k (length ls) g j) → nextFound g (proofsOf k ls) ≡ ifNoneLeft (nextFound g (proofsBeginning k ls j)) (firstFound (proofsFrom k ls (suc j)))
+  at-match : (k j : ℕ) → k + length ls ≤ 6 → j < firstRowCount k (length ls) → T (matching k (length ls) g j) → nextFound g (proofsOf k ls) ≡ ifNoneLeft (nextFound g (proofsBeginning k ls j)) (firstFound (proofsFrom k ls (suc j)))
   unfolding ifNoneLeft ifNotAmong proofsFrom
   at-match k j h l t =
-      let others : (i : ℕ) → i < rowCount k (length ls) → ¬ (i ≡ j) → matching k (length ls) g i ≡ false = λ i p d. one-match k i j h p l t d in
+      let others : (i : ℕ) → i < firstRowCount k (length ls) → ¬ (i ≡ j) → matching k (length ls) g i ≡ false = λ i p d. one-match k i j h p l t d in
       let before : nextFound g (concatMap (proofsBeginning k ls) (upFrom 0 j)) ≡ notAmong = follow-none g (concatMap (proofsBeginning k ls) (upFrom 0 j)) (range-other k 0 j h (omega arith) (λ i p q. others i (omega arith) (λ d. absurd (omega arith)))) in
-      let after : nextFound g (proofsFrom k ls (suc j)) ≡ notAmong = follow-none g (proofsFrom k ls (suc j)) (range-other k (suc j) (rowCount k (length ls) - suc j) h (omega arith) (λ i p q. others i (omega arith) (λ d. absurd (omega arith)))) in
+      let after : nextFound g (proofsFrom k ls (suc j)) ≡ notAmong = follow-none g (proofsFrom k ls (suc j)) (range-other k (suc j) (firstRowCount k (length ls) - suc j) h (omega arith) (λ i p q. others i (omega arith) (λ d. absurd (omega arith)))) in
       ap (nextFound g) (rows-numbered ls k h ∙ rows-split ls k j l)
       ∙ next-append g (concatMap (proofsBeginning k ls) (upFrom 0 j)) (proofsBeginning k ls j ++ proofsFrom k ls (suc j))
       ∙ ap (λ (f : Found). ifNotAmong (ifNoneLeft f (firstFound (proofsBeginning k ls j ++ proofsFrom k ls (suc j)))) (nextFound g (proofsBeginning k ls j ++ proofsFrom k ls (suc j)))) before
@@ -250,9 +250,9 @@ module _ (g : List ℕ) (ls : List Line) where
       ∙ ap (λ (f : Found). ifNotAmong (ifNoneLeft (nextFound g (proofsBeginning k ls j)) (firstFound (proofsFrom k ls (suc j)))) f) after
       ∙ else-not-among (ifNoneLeft (nextFound g (proofsBeginning k ls j)) (firstFound (proofsFrom k ls (suc j))))
 
-  no-match : (k : ℕ) → k + length ls ≤ 6 → ((j : ℕ) → j < rowCount k (length ls) → matching k (length ls) g j ≡ false) → nextFound g (proofsOf k ls) ≡ notAmong
+  no-match : (k : ℕ) → k + length ls ≤ 6 → ((j : ℕ) → j < firstRowCount k (length ls) → matching k (length ls) g j ≡ false) → nextFound g (proofsOf k ls) ≡ notAmong
   unfolding proofsFrom
-  no-match k h m = ap (nextFound g) (rows-numbered ls k h) ∙ follow-none g (proofsFrom k ls 0) (range-other k 0 (rowCount k (length ls) - 0) h (omega arith) (λ j p q. m j (omega arith)))
+  no-match k h m = ap (nextFound g) (rows-numbered ls k h) ∙ follow-none g (proofsFrom k ls 0) (range-other k 0 (firstRowCount k (length ls) - 0) h (omega arith) (λ j p q. m j (omega arith)))
 
   -- ---- an inference
   follow-map : (r : Row) → T (begins (rowBytes r) g) → (xs : List (List Row)) → nextFound g (map (λ rs. r ∷ rs) xs) ≡ withRow r (nextFound (drop (length (rowBytes r)) g) xs)
@@ -280,7 +280,7 @@ module _ (g : List ℕ) (ls : List Line) where
 
   pub inference-follows : (k j : ℕ) → suc k + length ls ≤ 6 → j < inferenceCount (length ls) → T (begins (inferenceBytes (length ls) j) g) → {l : Line} → newLine ls (inferenceAt (length ls) j) ≡ accepted l
       → nextFound g (proofsOf (suc k) ls) ≡ ifNoneLeft (withRow (Derive (inferenceAt (length ls) j)) (nextFound (drop (length (inferenceBytes (length ls) j)) g) (proofsOf k (ls ▷ l)))) (firstFound (proofsFrom (suc k) ls (suc j)))
-  unfolding matching rowCount
+  unfolding matching firstRowCount
   inference-follows k j h p t {l} e = at-match (suc k) j h p t ∙ ap (λ (f : Found). ifNoneLeft f (firstFound (proofsFrom (suc k) ls (suc j)))) own
     where
       same : rowBytes (Derive (inferenceAt (length ls) j)) ≡ inferenceBytes (length ls) j
@@ -292,11 +292,11 @@ module _ (g : List ℕ) (ls : List Line) where
           ∙ ap (λ (bs : List ℕ). withRow (Derive (inferenceAt (length ls) j)) (nextFound (drop (length bs) g) (proofsOf k (ls ▷ l)))) same
 
   pub inference-barred : (k j : ℕ) → suc k + length ls ≤ 6 → j < inferenceCount (length ls) → T (begins (inferenceBytes (length ls) j) g) → {a : Answer} → newLine ls (inferenceAt (length ls) j) ≡ refused a → nextFound g (proofsOf (suc k) ls) ≡ notAmong
-  unfolding matching rowCount
+  unfolding matching firstRowCount
   inference-barred k j h p t e = at-match (suc k) j h p t ∙ ap (λ (f : Found). ifNoneLeft f (firstFound (proofsFrom (suc k) ls (suc j)))) (barred k j e) ∙ first-not-among (firstFound (proofsFrom (suc k) ls (suc j)))
 
   pub inference-not-among : (k : ℕ) → suc k + length ls ≤ 6 → ((j : ℕ) → j < inferenceCount (length ls) → begins (inferenceBytes (length ls) j) g ≡ false) → nextFound g (proofsOf (suc k) ls) ≡ notAmong
-  unfolding matching rowCount
+  unfolding matching firstRowCount
   inference-not-among k h m = no-match (suc k) h m
 
   -- ---- a close
@@ -318,13 +318,13 @@ module _ (g : List ℕ) (ls : List Line) where
 
   pub close-follows : (c : ℕ) → length ls ≤ 6 → c < closeCount (length ls) → T (sameBytes (closeBytes (length ls) c) g) → {I : Formula} → closeFormula ls (closeAt (length ls) c) ≡ accepted I
       → nextFound g (proofsOf 0 ls) ≡ firstFound (proofsFrom 0 ls (suc c))
-  unfolding matching rowCount
+  unfolding matching firstRowCount
   close-follows c h p t e = at-match 0 c (omega arith) p t ∙ ap (λ (f : Found). ifNoneLeft f (firstFound (proofsFrom 0 ls (suc c)))) (held c p t h e) ∙ first-ended (firstFound (proofsFrom 0 ls (suc c)))
 
   pub close-barred : (c : ℕ) → length ls ≤ 6 → c < closeCount (length ls) → T (sameBytes (closeBytes (length ls) c) g) → {a : Answer} → closeFormula ls (closeAt (length ls) c) ≡ refused a → nextFound g (proofsOf 0 ls) ≡ notAmong
-  unfolding matching rowCount
+  unfolding matching firstRowCount
   close-barred c h p t e = at-match 0 c (omega arith) p t ∙ ap (λ (f : Found). ifNoneLeft f (firstFound (proofsFrom 0 ls (suc c)))) (shut c e) ∙ first-not-among (firstFound (proofsFrom 0 ls (suc c)))
 
   pub close-not-among : length ls ≤ 6 → ((c : ℕ) → c < closeCount (length ls) → sameBytes (closeBytes (length ls) c) g ≡ false) → nextFound g (proofsOf 0 ls) ≡ notAmong
-  unfolding matching rowCount
+  unfolding matching firstRowCount
   close-not-among h m = no-match 0 (omega arith) m

@@ -16,7 +16,7 @@ use Rattle.bundle.specs.Bundle.{kindTagged, atMost, formSmall, constraints, bun
 use Rattle.proof.specs.Rows.{is, plainKind, fails, lineAt, derived, fitting, byNumber, byStride}
 use Rattle.proof.specs.Stages.{K3, A1, B1}
 use Rattle.enumeration.specs.Sequence.{concatMap, upFrom, combines, reduces, scales, inferences, numberCloses, strideCloses, closeRows, newLine, closeFormula, ifAccepted, proofsOf}
-use Rattle.enumeration.specs.Tables.{counted, counts}
+use Rattle.enumeration.specs.Tables.{proofCount, proofCounts}
 
 unfoldable pub listed : (k : ℕ) (A B : List ℕ) → Result (List (List Row))
 listed k A B = do
@@ -33,6 +33,6 @@ pub stage-1-two : listed 1 (K3 ++ A1) (K3 ++ B1) ≡ accepted
 unfolding coeff sum value sums _⊞_ _·_ remainder reduced nonzero small every inRange _>>=_ _>>_ need found unsigned complement signed signeds flat formFrom front note unlessNote fieldsFrom fields headerTag known agrees headerField editionField constantsField kindTagged atMost formSmall constraints bundleHeader bundle bundles is plainKind fails lineAt derived fitting byNumber byStride concatMap upFrom combines reduces scales inferences numberCloses strideCloses closeRows newLine closeFormula ifAccepted proofsOf listed
 stage-1-two = refl
 
-pub counted-so : All (λ c. (counted 0 (c .A) (c .B) ≡ accepted (c .one)) × (counted 1 (c .A) (c .B) ≡ accepted (c .two)) × (counted 2 (c .A) (c .B) ≡ accepted (c .three))) counts
-unfolding coeff sum value sums _⊞_ _·_ remainder reduced nonzero small every inRange _>>=_ _>>_ need found unsigned complement signed signeds flat formFrom front note unlessNote fieldsFrom fields headerTag known agrees headerField editionField constantsField kindTagged atMost formSmall constraints bundleHeader bundle bundles is plainKind fails lineAt derived fitting byNumber byStride concatMap upFrom combines reduces scales inferences numberCloses strideCloses closeRows newLine closeFormula ifAccepted proofsOf counted
-counted-so = cons (refl, refl, refl) (cons (refl, refl, refl) (cons (refl, refl, refl) (cons (refl, refl, refl) (cons (refl, refl, refl) (cons (refl, refl, refl) (cons (refl, refl, refl) (cons (refl, refl, refl) nil)))))))
+pub proofs-counted : All (λ c. (proofCount 0 (c .A) (c .B) ≡ accepted (c .one)) × (proofCount 1 (c .A) (c .B) ≡ accepted (c .two)) × (proofCount 2 (c .A) (c .B) ≡ accepted (c .three))) proofCounts
+unfolding coeff sum value sums _⊞_ _·_ remainder reduced nonzero small every inRange _>>=_ _>>_ need found unsigned complement signed signeds flat formFrom front note unlessNote fieldsFrom fields headerTag known agrees headerField editionField constantsField kindTagged atMost formSmall constraints bundleHeader bundle bundles is plainKind fails lineAt derived fitting byNumber byStride concatMap upFrom combines reduces scales inferences numberCloses strideCloses closeRows newLine closeFormula ifAccepted proofsOf proofCount
+proofs-counted = cons (refl, refl, refl) (cons (refl, refl, refl) (cons (refl, refl, refl) (cons (refl, refl, refl) (cons (refl, refl, refl) (cons (refl, refl, refl) (cons (refl, refl, refl) (cons (refl, refl, refl) nil)))))))

@@ -46,17 +46,18 @@ withRow r notAmong = notAmong
 withRow r noneLeft = noneLeft
 withRow r (at rs) = at (r ∷ rs)
 
--- The proofs of k inferences and a close whose first row has a given number, and those whose first row has a number from f on.
-unfoldable pub rowCount : (k n : ℕ) → ℕ
-rowCount zero n = closeCount n
-rowCount (suc k) n = inferenceCount n
+-- How many rows may stand first in a proof of k inferences and a close, behind n lines.
+unfoldable pub firstRowCount : (k n : ℕ) → ℕ
+firstRowCount zero n = closeCount n
+firstRowCount (suc k) n = inferenceCount n
 
+-- The proofs of k inferences and a close whose first row has a given number, and those whose first row has a number from f on.
 unfoldable pub proofsBeginning : (k : ℕ) → List Line → ℕ → List (List Row)
 proofsBeginning zero ls c = ifAccepted (closeFormula ls (closeAt (length ls) c)) (λ I. (closeAt (length ls) c ∷ []) ∷ [])
 proofsBeginning (suc k) ls j = ifAccepted (newLine ls (inferenceAt (length ls) j)) (λ l. map (λ rs. Derive (inferenceAt (length ls) j) ∷ rs) (proofsOf k (ls ▷ l)))
 
 unfoldable pub proofsFrom : (k : ℕ) → List Line → (f : ℕ) → List (List Row)
-proofsFrom k ls f = concatMap (proofsBeginning k ls) (upFrom f (rowCount k (length ls) - f))
+proofsFrom k ls f = concatMap (proofsBeginning k ls) (upFrom f (firstRowCount k (length ls) - f))
 
 -- The first proof of d inferences or more, up to d + m - 1.
 unfoldable pub firstOfDepths : (m d : ℕ) → List Line → Found

@@ -8,7 +8,7 @@ use Rattle.forms.specs.Forms.{Line, lines, Formula}
 use Rattle.calculus.specs.Rules.{_▷_, Inference, Combine, Reduce, Scale, Row, Derive, Strengthen, Split, CloseNumber, CloseStride, Round}
 use Rattle.answers.specs.declared.Answer.{Answer}
 use Rattle.answers.specs.Answers.{answer, root, refusalAt, fileLent, Result, refused, accepted, _>>_, _>>=_, need}
-use Rattle.bundle.specs.Bundle.{Bundle, bothRead}
+use Rattle.bundle.specs.Bundle.{bothRead}
 use Rattle.proof.specs.Rows.{derived, fitting, byNumber, byStride}
 use Rattle.enumeration.specs.ShortProofs.{multipliers, signedMultipliers, strides}
 

@@ -80,7 +80,7 @@ cases =
     ∷ []
 
 -- ---- how many proofs there are, of one, two and three rows
-pub record Counts : Type 0 where
+pub record ProofCounts : Type 0 where
   pub A : List ℕ
   pub B : List ℕ
   pub one : ℕ
@@ -91,8 +91,8 @@ pub record Counts : Type 0 where
 abbrev pub oneConstant : (tag c1 c2 d1 d2 : ℕ) → List ℕ
 oneConstant tag c1 c2 d1 d2 = tag ∷ 0x00 ∷ 0x04 ∷ c1 ∷ c2 ∷ d1 ∷ d2 ∷ []
 
-abbrev pub counts : List Counts
-counts =
+abbrev pub proofCounts : List ProofCounts
+proofCounts =
     -- stage 1
     record { A = K3 ++ A1; B = K3 ++ B1; one = 0; two = 4; three = 340 }
     -- stage 3: x ≤ 0 against -x+1 ≤ 0
@@ -111,7 +111,7 @@ counts =
     ∷ []
 
 -- How many proofs of k inferences and a close there are for the lines of two files.
-unfoldable pub counted : (k : ℕ) (A B : List ℕ) → Result ℕ
-counted k A B = do
+unfoldable pub proofCount : (k : ℕ) (A B : List ℕ) → Result ℕ
+proofCount k A B = do
   (a, b) ← bundles newestEdition A B
   accepted (length (proofsOf k (lines (a .constraints) (b .constraints))))

@@ -14,7 +14,7 @@ use Rattle.enumeration.specs.Sequence.{closeFormula, proofsOf}
 use Rattle.number_bytes.specs.Same.{sameBytes}
 use Rattle.enumeration.specs.Numbering.{closeCount, closeAt, closeBytes}
 use Rattle.enumeration.specs.Search as search
-use Rattle.enumeration.specs.Search.{Found, firstFound, nextFound, ifNoneLeft, rowCount, proofsFrom}
+use Rattle.enumeration.specs.Search.{Found, firstFound, nextFound, ifNoneLeft, firstRowCount, proofsFrom}
 use Rattle.enumeration.proofs.Searched.{next-more, next-none, close-held, close-refused, close-follows, close-barred, close-not-among}
 use Rattle.lines.specs.Buffer.{linesIn}
 use Rattle.lines.proofs.Lines.{lines-same, length-lines}
@@ -34,16 +34,16 @@ module _ {K n : ℕ} {kinds : List ℕ} {buf : List ℤ} {kinds′ : List ℕ} {
 -- ---- closes
 module _ (ls : List Line) {n : ℕ} (len : length ls ≡ n) where
   close-none : (c : ℕ) → closeCount n ≤ c → firstFound (proofsFrom 0 ls c) ≡ search.noneLeft
-  unfolding rowCount
+  unfolding firstRowCount
   close-none c h = next-none ls 0 c (rw len h)
 
   close-yes : (c : ℕ) → c < closeCount n → {I : Formula} → closeFormula ls (closeAt n c) ≡ accepted I → firstFound (proofsFrom 0 ls c) ≡ search.at (closeAt n c ∷ [])
-  unfolding rowCount ifNoneLeft
+  unfolding firstRowCount ifNoneLeft
   close-yes c h {I} e = next-more ls 0 c (rw len h) ∙ ap (λ (f : Found). ifNoneLeft f (firstFound (proofsFrom 0 ls (suc c)))) (close-held ls c (ap (λ (m : ℕ). closeFormula ls (closeAt m c)) len ∙ e))
       ∙ ap (λ (m : ℕ). search.at (closeAt m c ∷ [])) len
 
   close-no : (c : ℕ) → c < closeCount n → {a : Answer} → closeFormula ls (closeAt n c) ≡ refused a → firstFound (proofsFrom 0 ls c) ≡ firstFound (proofsFrom 0 ls (suc c))
-  unfolding rowCount ifNoneLeft
+  unfolding firstRowCount ifNoneLeft
   close-no c h {a} e = next-more ls 0 c (rw len h) ∙ ap (λ (f : Found). ifNoneLeft f (firstFound (proofsFrom 0 ls (suc c)))) (close-refused ls c (ap (λ (m : ℕ). closeFormula ls (closeAt m c)) len ∙ e))
 
 -- What the loop of seek_close knows: what is left is the whole from the start.

@@ -31,7 +31,7 @@ use Rattle.closes.specs.Closing.{ByNumber}
 use Rattle.closes.specs.Striding.{ByStride}
 use Rattle.closes.specs.declared.closing.Test.{Test}
 use Rattle.closes.specs.declared.closing.Test.the-variants.{Refused, Passed}
-use Rattle.enumeration_rows.specs.Applied.{counted, SearchRoom, Infers, isPassed, CloseHolds}
+use Rattle.enumeration_rows.specs.Applied.{tallyOf, SearchRoom, Infers, isPassed, CloseHolds}
 
 -- ---- the buffers
 pub roomy-ready : {K d : ℕ} {kinds : List ℕ} {buf : List ℤ} {t : Tally} → SearchRoom K d kinds buf t → Ready (t .edition) K kinds buf (t .lines .0)
@@ -164,32 +164,32 @@ module _ {K : ℕ} {kinds : List ℕ} {buf : List ℤ} {t : Tally} {s : Inferenc
   })
 
 -- ---- by the number of lines
-module _ {n : ℕ} {t : Tally} (e : t ≡ counted n) where
-  pub as-counted : {K d : ℕ} {kinds : List ℕ} {buf : List ℤ} → SearchRoom K d kinds buf (counted n) → SearchRoom K d kinds buf t
-  as-counted {K} {d} {kinds} {buf} r = subst (λ (t : Tally). SearchRoom K d kinds buf t) (sym e) r
+module _ {n : ℕ} {t : Tally} (e : t ≡ tallyOf n) where
+  pub as-tally : {K d : ℕ} {kinds : List ℕ} {buf : List ℤ} → SearchRoom K d kinds buf (tallyOf n) → SearchRoom K d kinds buf t
+  as-tally {K} {d} {kinds} {buf} r = subst (λ (t : Tally). SearchRoom K d kinds buf t) (sym e) r
 
-  pub below-counted : (count : ℕ → ℕ) {x : ℕ} → x < count n → x < count (t .lines .0)
-  below-counted count {x} h = subst (λ (t : Tally). x < count (t .lines .0)) (sym e) h
+  pub below-tally : (count : ℕ → ℕ) {x : ℕ} → x < count n → x < count (t .lines .0)
+  below-tally count {x} h = subst (λ (t : Tally). x < count (t .lines .0)) (sym e) h
 
-  pub counted-holds : {K : ℕ} {kinds : List ℕ} {buf : List ℤ} (c : ℕ) {b : Bool} → CloseHolds K kinds buf (t .lines .0) (closeAt (t .lines .0) c) b → CloseHolds K kinds buf n (closeAt n c) b
-  counted-holds {K} {kinds} {buf} c {b} h = subst (λ (t : Tally). CloseHolds K kinds buf (t .lines .0) (closeAt (t .lines .0) c) b) e h
+  pub tally-holds : {K : ℕ} {kinds : List ℕ} {buf : List ℤ} (c : ℕ) {b : Bool} → CloseHolds K kinds buf (t .lines .0) (closeAt (t .lines .0) c) b → CloseHolds K kinds buf n (closeAt n c) b
+  tally-holds {K} {kinds} {buf} c {b} h = subst (λ (t : Tally). CloseHolds K kinds buf (t .lines .0) (closeAt (t .lines .0) c) b) e h
 
   module _ {K : ℕ} (j : ℕ) {kinds : List ℕ} {buf : List ℤ} {kinds′ : List ℕ} {buf′ : List ℤ} {r : Derived} (m : Derives K kinds buf t (inferenceAt (t .lines .0) j) kinds′ buf′ r) where
-    counted-derives : Derives K kinds buf (counted n) (inferenceAt n j) kinds′ buf′ r
-    counted-derives = subst (λ (t : Tally). Derives K kinds buf t (inferenceAt (t .lines .0) j) kinds′ buf′ r) e m
+    tally-derives : Derives K kinds buf (tallyOf n) (inferenceAt n j) kinds′ buf′ r
+    tally-derives = subst (λ (t : Tally). Derives K kinds buf t (inferenceAt (t .lines .0) j) kinds′ buf′ r) e m
 
     pub infers-made : {u : Tally} → r ≡ derived-of.Made u → Infers K n j kinds buf kinds′ buf′ true
     infers-made q = record {
       derived = r;
-      derives = counted-derives;
-      made = λ _. q ∙ ap derived-of.Made (made-tally refl counted-derives q);
+      derives = tally-derives;
+      made = λ _. q ∙ ap derived-of.Made (made-tally refl tally-derives q);
       refused = λ f. absurd (let z : _≡_ {A = ℕ} 0 1 = cc in omega arith);
     }
 
     pub infers-refused : {x : ℕ} → r ≡ derived-of.Refused x → Infers K n j kinds buf kinds′ buf′ false
     infers-refused {x} q = record {
       derived = r;
-      derives = counted-derives;
+      derives = tally-derives;
       made = λ f. absurd (let z : _≡_ {A = ℕ} 0 1 = cc in omega arith);
       refused = λ _. (x, q);
     }

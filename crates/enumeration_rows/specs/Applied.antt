@@ -22,8 +22,8 @@ use Rattle.closes.specs.declared.closing.Test.{Test}
 use Rattle.closes.specs.declared.closing.Test.the-variants.{Refused, Passed}
 
 -- The tally of n lines, in a proof of edition 1.
-abbrev pub counted : ℕ → Tally
-counted n = tally 1 0 n 0
+abbrev pub tallyOf : ℕ → Tally
+tallyOf n = tally 1 0 n 0
 
 -- The lines of a proof of edition 1 stand in buffers for seven, and d more may come: six at most.
 pub record SearchRoom (K d : ℕ) (kinds : List ℕ) (buf : List ℤ) (t : Tally) : Type 0 where
@@ -37,8 +37,8 @@ pub record SearchRoom (K d : ℕ) (kinds : List ℕ) (buf : List ℤ) (t : Tally
 -- Whether inference j makes line n.
 pub record Infers (K n j : ℕ) (kinds : List ℕ) (buf : List ℤ) (kinds′ : List ℕ) (buf′ : List ℤ) (b : Bool) : Type 0 where
   pub derived : Derived
-  pub derives : Derives K kinds buf (counted n) (inferenceAt n j) kinds′ buf′ derived
-  pub made : b ≡ true → derived ≡ derived-of.Made (counted (n + 1))
+  pub derives : Derives K kinds buf (tallyOf n) (inferenceAt n j) kinds′ buf′ derived
+  pub made : b ≡ true → derived ≡ derived-of.Made (tallyOf (n + 1))
   pub refused : b ≡ false → (x : ℕ) × (derived ≡ derived-of.Refused x)
 
 abbrev pub isPassed : Test → Bool

@@ -72,6 +72,6 @@ pub record FindsAny (K n : ℕ) (f : Found) (kinds : List ℕ) (buf : List ℤ) 
   pub is : foundOf n r ≡ f
   pub within : NumbersIn n r
 
--- b says that no close of the first n lines holds.
+-- Where b is true, no close of the first n lines holds; where it is false, nothing is said.
 pub record Unclosed (K n : ℕ) (kinds : List ℕ) (buf : List ℤ) (b : Bool) : Type 0 where
   pub none : b ≡ true → firstFound (proofsFrom 0 (linesIn K kinds buf n) 0) ≡ search.noneLeft

@@ -8,12 +8,12 @@ ghost use lib.ListN.{length, drop};
 ghost use Rattle.enumeration.specs.Sequence.{proofsOf};
 ghost use Rattle.enumeration.specs.Search.{firstFound, nextFound, proofsFrom};
 ghost use Rattle.lines.specs.Buffer.{linesIn};
-ghost use Rattle.enumeration_rows.specs.Applied.{counted, SearchRoom};
+ghost use Rattle.enumeration_rows.specs.Applied.{tallyOf, SearchRoom};
 ghost use Rattle.enumeration_rows.specs.Searching.{Finds};
 
 // The first close that holds, from a number on.
 pub fn seek_close(lines: &[i32], kinds: &[u8], n: usize, k: usize, from: usize) -> FoundAt
-    requires { ⌜ SearchRoom k 0 (now kinds) (now lines) (counted n) ⌝ }
+    requires { ⌜ SearchRoom k 0 (now kinds) (now lines) (tallyOf n) ⌝ }
     ensures { λ r. ⌜ Finds k n 0 (firstFound (proofsFrom 0 (linesIn k (now (kinds .entry)) (now (lines .entry)) n) from)) (now (kinds .entry)) (now (lines .entry)) (now (kinds .entry)) (now (lines .entry)) r ⌝ }
 {
     let count = close_count(n);
@@ -36,7 +36,7 @@ pub fn after_close(
     table: &[u8],
     at: usize,
 ) -> FoundAt
-    requires { ⌜ SearchRoom k 0 (now kinds) (now lines) (counted n) ⌝ }
+    requires { ⌜ SearchRoom k 0 (now kinds) (now lines) (tallyOf n) ⌝ }
     requires { ⌜ at ≤ length (now table) ⌝ }
     ensures { λ r. ⌜ Finds k n 0 (nextFound (drop at (now (table .entry))) (proofsOf 0 (linesIn k (now (kinds .entry)) (now (lines .entry)) n))) (now (kinds .entry)) (now (lines .entry)) (now (kinds .entry)) (now (lines .entry)) r ⌝ }
 {

@@ -16,7 +16,7 @@ ghost use Rattle.calculus.specs.Rules.{CloseNumber, CloseStride};
 ghost use Rattle.enumeration.specs.Numbering.{inferenceCount, closeCount, signedFactor, combineAt, reduceAt, scaleAt, inferenceAt, closeAt};
 ghost use Rattle.entries.specs.Entries.{Multiplies};
 ghost use Rattle.rows.specs.Rows.{Derives};
-ghost use Rattle.enumeration_rows.specs.Applied.{counted, SearchRoom, Infers, isPassed, CloseHolds};
+ghost use Rattle.enumeration_rows.specs.Applied.{tallyOf, SearchRoom, Infers, isPassed, CloseHolds};
 
 // 1 or 2.
 fn factor(x: usize) -> i64
@@ -128,7 +128,7 @@ fn infer_tallied(lines: &mut [i32], kinds: &mut [u8], tally: Tally, j: usize, k:
 // The tally of n lines, in a proof of edition 1.
 fn tally_of(n: usize) -> Tally
     requires { ⌜ n < 65536 ⌝ }
-    ensures { λ r. ⌜ r ≡ counted n ⌝ }
+    ensures { λ r. ⌜ r ≡ tallyOf n ⌝ }
 {
     let rows = RowNumber(0);
     let lines = LineNumber(n as u16);
@@ -142,7 +142,7 @@ fn tally_of(n: usize) -> Tally
 
 // Makes the line of inference j behind the n lines; whether it is not refused.
 pub fn infer(lines: &mut [i32], kinds: &mut [u8], n: usize, j: usize, k: usize) -> bool
-    requires { ⌜ SearchRoom k 1 (now kinds) (now lines) (counted n) ⌝ }
+    requires { ⌜ SearchRoom k 1 (now kinds) (now lines) (tallyOf n) ⌝ }
     requires { ⌜ j < inferenceCount n ⌝ }
     ensures { λ r. ⌜ Infers k n j (now (kinds .entry)) (now (lines .entry)) (now (kinds .exit)) (now (lines .exit)) r ⌝ }
 {
@@ -209,7 +209,7 @@ fn holds_tallied(lines: &[i32], kinds: &[u8], tally: Tally, c: usize, k: usize) 
 
 // Whether close c of the n lines holds.
 pub fn holds(lines: &[i32], kinds: &[u8], n: usize, c: usize, k: usize) -> bool
-    requires { ⌜ SearchRoom k 0 (now kinds) (now lines) (counted n) ⌝ }
+    requires { ⌜ SearchRoom k 0 (now kinds) (now lines) (tallyOf n) ⌝ }
     requires { ⌜ c < closeCount n ⌝ }
     ensures { λ r. ⌜ CloseHolds k (now (kinds .entry)) (now (lines .entry)) n (closeAt n c) r ⌝ }
 {

@@ -13,7 +13,7 @@ use Rattle.proof.specs.Rows.{lineAt, byNumber, byStride}
 use Rattle.enumeration.specs.Sequence.{closeFormula, ifAccepted}
 use Rattle.enumeration.specs.Numbering.{closeCount, closeAt}
 use Rattle.enumeration.specs.Search as search
-use Rattle.enumeration.specs.Search.{Found, firstFound, ifNoneLeft, rowCount, proofsBeginning, proofsFrom}
+use Rattle.enumeration.specs.Search.{Found, firstFound, ifNoneLeft, firstRowCount, proofsBeginning, proofsFrom}
 use Rattle.enumeration.proofs.Searched.{next-more}
 use Rattle.lines.specs.Buffer.{linesIn}
 use Rattle.lines.proofs.Lines.{length-lines, line-at}
@@ -34,17 +34,17 @@ none-both (search.at rs) g e = absurd (let z : _≡_ {A = ℕ} 0 1 = cc in omega
 
 module _ (ls : List Line) where
   none-from : firstFound (proofsFrom 0 ls 0) ≡ search.noneLeft → (c : ℕ) → c ≤ closeCount (length ls) → firstFound (proofsFrom 0 ls c) ≡ search.noneLeft
-  unfolding rowCount
+  unfolding firstRowCount
   none-from e zero h = e
   none-from e (suc c) h = none-both (firstFound (proofsBeginning 0 ls c)) (firstFound (proofsFrom 0 ls (suc c))) (sym (next-more ls 0 c (omega arith)) ∙ none-from e c (omega arith)) .1
 
   none-at : firstFound (proofsFrom 0 ls 0) ≡ search.noneLeft → (c : ℕ) → c < closeCount (length ls) → firstFound (proofsBeginning 0 ls c) ≡ search.noneLeft
-  unfolding rowCount
+  unfolding firstRowCount
   none-at e c h = none-both (firstFound (proofsBeginning 0 ls c)) (firstFound (proofsFrom 0 ls (suc c))) (sym (next-more ls 0 c h) ∙ none-from e c (omega arith)) .0
 
   -- m of them are passed over
   passed : (c m : ℕ) → c + m ≤ closeCount (length ls) → ((x : ℕ) → c ≤ x → x < c + m → firstFound (proofsBeginning 0 ls x) ≡ search.noneLeft) → firstFound (proofsFrom 0 ls c) ≡ firstFound (proofsFrom 0 ls (c + m))
-  unfolding rowCount
+  unfolding firstRowCount
   passed c zero h p = let e : c ≡ c + 0 = omega arith in ap (λ (x : ℕ). firstFound (proofsFrom 0 ls x)) e
   passed c (suc m) h p =
       let e : suc c + m ≡ c + suc m = omega arith in

@@ -15,7 +15,7 @@ use Rattle.answers.specs.Answers.{accepted}
 use Rattle.enumeration.specs.Sequence.{newLine, proofsOf}
 use Rattle.enumeration.specs.Numbering.{inferenceCount, inferenceAt, inferenceBytes, begins}
 use Rattle.enumeration.specs.Search as search
-use Rattle.enumeration.specs.Search.{Found, firstFound, nextFound, ifNoneLeft, withRow, rowCount, proofsBeginning, proofsFrom}
+use Rattle.enumeration.specs.Search.{Found, firstFound, nextFound, ifNoneLeft, withRow, firstRowCount, proofsBeginning, proofsFrom}
 use Rattle.enumeration.proofs.Searched.{rows-numbered, next-more, next-none, inference-made, inference-refused, inference-follows, inference-barred, inference-not-among}
 use Rattle.lines.specs.Buffer.{lineIn, linesIn}
 use Rattle.lines.proofs.Lines.{length-lines}
@@ -86,7 +86,7 @@ module _ {K n d : ℕ} {kinds₀ : List ℕ} {buf₀ : List ℤ} {start : ℕ} w
 
   module _ {kinds : List ℕ} {buf : List ℤ} {j : ℕ} (left : InferencesLeft K n d kinds₀ buf₀ start kinds buf j) where
     pub inferences-ended : {count : ℕ} → 1 ≤ d → count ≡ inferenceCount n → count ≤ j → Finds K n d (firstFound (proofsFrom d (linesIn K kinds₀ buf₀ n) start)) kinds₀ buf₀ kinds buf NoneLeft
-    unfolding rowCount
+    unfolding firstRowCount
     inferences-ended {count} p e h = record { kept = left .kept; is = sym (left .same ∙ none d p (linesIn K kinds₀ buf₀ n) (length-lines K kinds₀ buf₀ n)); within = tt; inferences = tt }
       where
         none : (d : ℕ) → 1 ≤ d → (ls : List Line) → length ls ≡ n → firstFound (proofsFrom d ls j) ≡ search.noneLeft
@@ -99,7 +99,7 @@ module _ {K n d : ℕ} {kinds₀ : List ℕ} {buf₀ : List ℤ} {start : ℕ} w
       ls = linesIn K kinds₀ buf₀ n
 
       unrolled : firstFound (proofsFrom d (linesIn K kinds₀ buf₀ n) j) ≡ ifNoneLeft (foundOf n found) (firstFound (proofsFrom d (linesIn K kinds₀ buf₀ n) (suc j)))
-      unfolding rowCount
+      unfolding firstRowCount
       unrolled = subst (λ (d : ℕ). firstFound (proofsFrom d (linesIn K kinds₀ buf₀ n) j) ≡ ifNoneLeft (foundOf n found) (firstFound (proofsFrom d (linesIn K kinds₀ buf₀ n) (suc j)))) p
           (next-more (linesIn K kinds₀ buf₀ n) (suc m) j (rw (length-lines K kinds₀ buf₀ n) (rw (sym e) h))
           ∙ ap (λ (f : Found). ifNoneLeft f (firstFound (proofsFrom (suc m) (linesIn K kinds₀ buf₀ n) (suc j)))) (ap (λ (ls : List Line). firstFound (proofsBeginning (suc m) ls j)) (sym (kept-lines (left .kept))) ∙ sym (s .is)))

@@ -17,13 +17,13 @@ ghost use Rattle.enumeration.specs.Sequence.{proofsOf};
 ghost use Rattle.enumeration.specs.Numbering.{inferenceCount};
 ghost use Rattle.enumeration.specs.Search.{firstFound, nextFound, ifNoneLeft, proofsBeginning, proofsFrom, firstOfDepths, nextOfDepths};
 ghost use Rattle.lines.specs.Buffer.{linesIn};
-ghost use Rattle.enumeration_rows.specs.Applied.{counted, SearchRoom};
+ghost use Rattle.enumeration_rows.specs.Applied.{tallyOf, SearchRoom};
 ghost use Rattle.enumeration_rows.specs.Searching.{Finds, FindsAny, Unclosed};
 
 // The first close that holds behind n lines and a new one. Where no close of the n lines holds (`unclosed`) only those of the new
 // line are tested: number n, and the last three.
 fn seek_close_behind(lines: &[i32], kinds: &[u8], n: usize, k: usize, unclosed: bool) -> FoundAt
-    requires { ⌜ SearchRoom k 0 (now kinds) (now lines) (counted (n + 1)) ⌝ }
+    requires { ⌜ SearchRoom k 0 (now kinds) (now lines) (tallyOf (n + 1)) ⌝ }
     requires { ⌜ Unclosed k n (now kinds) (now lines) unclosed ⌝ }
     ensures { λ r. ⌜ Finds k (n + 1) 0 (firstFound (proofsFrom 0 (linesIn k (now (kinds .entry)) (now (lines .entry)) (n + 1)) 0)) (now (kinds .entry)) (now (lines .entry)) (now (kinds .entry)) (now (lines .entry)) r ⌝ }
 {
@@ -46,7 +46,7 @@ fn beginning(
     j: usize,
     unclosed: bool,
 ) -> FoundAt
-    requires { ⌜ SearchRoom k (suc depth) (now kinds) (now lines) (counted n) ⌝ }
+    requires { ⌜ SearchRoom k (suc depth) (now kinds) (now lines) (tallyOf n) ⌝ }
     requires { ⌜ (depth ≤ 1) × (j < inferenceCount n) ⌝ }
     requires { ⌜ Unclosed k n (now kinds) (now lines) unclosed ⌝ }
     ensures { λ r. ⌜ Finds k n (suc depth) (firstFound (proofsBeginning (suc depth) (linesIn k (now (kinds .entry)) (now (lines .entry)) n) j)) (now (kinds .entry)) (now (lines .entry)) (now (kinds .exit)) (now (lines .exit)) r ⌝ }
@@ -71,7 +71,7 @@ fn seek(
     depth: usize,
     from: usize,
 ) -> FoundAt
-    requires { ⌜ SearchRoom k depth (now kinds) (now lines) (counted n) ⌝ }
+    requires { ⌜ SearchRoom k depth (now kinds) (now lines) (tallyOf n) ⌝ }
     requires { ⌜ depth ≤ 2 ⌝ }
     ensures { λ r. ⌜ Finds k n depth (firstFound (proofsFrom depth (linesIn k (now (kinds .entry)) (now (lines .entry)) n) from)) (now (kinds .entry)) (now (lines .entry)) (now (kinds .exit)) (now (lines .exit)) r ⌝ }
 {
@@ -101,7 +101,7 @@ fn after(
     table: &[u8],
     at: usize,
 ) -> FoundAt
-    requires { ⌜ SearchRoom k depth (now kinds) (now lines) (counted n) ⌝ }
+    requires { ⌜ SearchRoom k depth (now kinds) (now lines) (tallyOf n) ⌝ }
     requires { ⌜ (depth ≤ 2) × (at ≤ length (now table)) × (at + 9 * depth ≤ 26) ⌝ }
     ensures { λ r. ⌜ Finds k n depth (nextFound (drop at (now (table .entry))) (proofsOf depth (linesIn k (now (kinds .entry)) (now (lines .entry)) n))) (now (kinds .entry)) (now (lines .entry)) (now (kinds .exit)) (now (lines .exit)) r ⌝ }
 {
@@ -125,7 +125,7 @@ fn after(
 
 // The first proof of `depth` inferences and a close, or of more.
 pub fn first_from(lines: &mut [i32], kinds: &mut [u8], n: usize, k: usize, depth: usize) -> FoundAt
-    requires { ⌜ SearchRoom k 2 (now kinds) (now lines) (counted n) ⌝ }
+    requires { ⌜ SearchRoom k 2 (now kinds) (now lines) (tallyOf n) ⌝ }
     requires { ⌜ depth ≤ 3 ⌝ }
     ensures { λ r. ⌜ FindsAny k n (firstOfDepths (3 - depth) depth (linesIn k (now (kinds .entry)) (now (lines .entry)) n)) (now (kinds .entry)) (now (lines .entry)) (now (kinds .exit)) (now (lines .exit)) r ⌝ }
 {
@@ -149,7 +149,7 @@ fn after_depth(
     depth: usize,
     table: &[u8],
 ) -> FoundAt
-    requires { ⌜ SearchRoom k 2 (now kinds) (now lines) (counted n) ⌝ }
+    requires { ⌜ SearchRoom k 2 (now kinds) (now lines) (tallyOf n) ⌝ }
     requires { ⌜ (depth ≤ 2) × (8 ≤ length (now table)) ⌝ }
     ensures { λ r. ⌜ FindsAny k n (ifNoneLeft (nextFound (drop 8 (now (table .entry))) (proofsOf depth (linesIn k (now (kinds .entry)) (now (lines .entry)) n))) (firstOfDepths (2 - depth) (suc depth) (linesIn k (now (kinds .entry)) (now (lines .entry)) n))) (now (kinds .entry)) (now (lines .entry)) (now (kinds .exit)) (now (lines .exit)) r ⌝ }
 {
@@ -162,7 +162,7 @@ fn after_depth(
 
 // The proof after the table's, whose header is in order.
 pub fn after_table(lines: &mut [i32], kinds: &mut [u8], n: usize, k: usize, table: &[u8]) -> FoundAt
-    requires { ⌜ SearchRoom k 2 (now kinds) (now lines) (counted n) ⌝ }
+    requires { ⌜ SearchRoom k 2 (now kinds) (now lines) (tallyOf n) ⌝ }
     requires { ⌜ 8 ≤ length (now table) ⌝ }
     ensures { λ r. ⌜ FindsAny k n (nextOfDepths 3 0 (drop 8 (now (table .entry))) (linesIn k (now (kinds .entry)) (now (lines .entry)) n)) (now (kinds .entry)) (now (lines .entry)) (now (kinds .exit)) (now (lines .exit)) r ⌝ }
 {

@@ -28,7 +28,7 @@ use Rattle.formula.specs.TestList.{vectors, readForList, truths}
 use Rattle.formula.proofs.TestList.{list-refused, list-short, list-filled, bytes, bytes-long, outside, too-long, to-read}
 use Rattle.formula_list.specs.Promises.{TestsList}
 use Rattle.formula_block.specs.Blocks.{Fills}
-use Rattle.formula_list.specs.Phases.{unwritten, ToRead, ReadTo, Known, ReadOnce}
+use Rattle.formula_list.specs.Phases.{unwritten, ToRead, FormulaStands, Known, ReadOnce}
 use Rattle.formula_leaf.proofs.Leaves.{part-within}
 
 -- ---- refused
@@ -55,7 +55,7 @@ module _ {formula : List ℕ} {start : ℕ} {values : List ℤ} {K n : ℕ} (k :
           ∙ sets-eq b out 0 (omega (arith, l, k .to-read .number)) ∙ rw z
 
 -- ---- what may stand after the formula
-module _ {formula : List ℕ} {start end : ℕ} {values : List ℤ} {K n : ℕ} (k : ReadTo formula start end values K n) {e : Ending} (d : IsEnding FileKind.Formula formula end e) where
+module _ {formula : List ℕ} {start end : ℕ} {values : List ℤ} {K n : ℕ} (k : FormulaStands formula start end values K n) {e : Ending} (d : IsEnding FileKind.Formula formula end e) where
   to-end : readForList formula K values ≡ (finished FileKind.Formula fileProof (fieldsAt formula end) >> accepted (k .I))
   unfolding readFormula
   to-end = k .to-read .next ∙ binds _ (k .headed) ∙ binds _ (k .is)
@@ -83,7 +83,7 @@ module _ {formula : List ℕ} {values : List ℤ} {K n : ℕ} (k : ToRead formul
     unfolding readFormula
     read-fault out q f = refuses out (k .next ∙ binds _ (header-K (k .vectors .some) d e) ∙ bind-refused _ (rw q at (b .read .judged))) f
 
-    pub read-value : {holds : Bool} {end : ℕ} → j ≡ Judged.Value holds end → ReadTo formula next end values K n
+    pub read-value : {holds : Bool} {end : ℕ} → j ≡ Judged.Value holds end → FormulaStands formula next end values K n
     read-value q =
         let x = rw q at (b .read .judged) in
         record { to-read = k; edition = edition; headed = header-K (k .vectors .some) d e; I = x .formula; is = x .is }

@@ -35,7 +35,7 @@ pub record ToRead (formula : List ℕ) (values : List ℤ) (K n : ℕ) : Type 0 
   pub next : readForList formula K values ≡ readFormula K (fields formula)
 
 -- The formula I stands from start to end.
-pub record ReadTo (formula : List ℕ) (start end : ℕ) (values : List ℤ) (K n : ℕ) : Type 0 where
+pub record FormulaStands (formula : List ℕ) (start end : ℕ) (values : List ℤ) (K n : ℕ) : Type 0 where
   pub to-read : ToRead formula values K n
   pub edition : ℕ
   pub headed : header FileKind.Formula fileProof 1 (some K) (fields formula) ≡ accepted (record { number = edition; K = K; rest = fieldsAt formula start })

@@ -20,7 +20,7 @@ ghost use lib.IntN.{pos};
 ghost use lib.ListN.{length, getD};
 ghost use Rattle.forms.specs.Edition.{edition1};
 ghost use Rattle.formula_list.specs.Promises.{TestsList};
-ghost use Rattle.formula_list.specs.Phases.{unwritten, ToRead, ReadTo, Known, ReadOnce};
+ghost use Rattle.formula_list.specs.Phases.{unwritten, ToRead, FormulaStands, Known, ReadOnce};
 
 mod range;
 
@@ -63,7 +63,7 @@ fn finish(
     n: usize,
     out: &mut [u8],
 ) -> WriteResult
-    requires { ⌜ ReadTo (now formula) start end (now values) k n ⌝ }
+    requires { ⌜ FormulaStands (now formula) start end (now values) k n ⌝ }
     ensures { λ r. ⌜ TestsList (now (formula .entry)) k (now (values .entry)) (now (out .entry)) (now (out .exit)) r ⌝ }
 {
     match ending_at(formula, end, FileKind::Formula) {

@@ -1,4 +1,5 @@
-// A formula's file as text over the integer constants r0, r1, ..: as a term of SMT-LIB 2, or in words.
+// The operation print: a formula's file as text over the integer constants r0, r1, ..: as a term of SMT-LIB 2, or in words.
+// Its definition is printing/specs/Print.antt, its contract printing/specs/Promises.antt; the library calls it.
 use answers::WriteResult;
 use answers::acceptance;
 use answers::refusal;

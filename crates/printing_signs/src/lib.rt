@@ -1,4 +1,5 @@
-// The small texts of a formula: a number with its sign, what is said of a form, and the connectives, in both dialects.
+// The small texts of a formula, in both dialects: a number with its sign, what is said of a form, and the connectives.
+// A number is as printing/specs/Text.antt and WordsText.antt have it, the rest as specs/Relations.antt; printing_formula calls it.
 use printing_text::magnitude;
 use printing_text::put_decimal;
 use printing_text::put_text;

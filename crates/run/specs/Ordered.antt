@@ -1,6 +1,6 @@
 -- In which order a run is refused before its proof's fields. Document 02, point 7: 25 first, 1 for the stages in turn and the proof, the stages, 26 after them. Of what the function ensures. Assumes nothing.
 use mathlib.Core.Path.{_≡_}
-use mathlib.Core.List.{List, [], _∷_, _++_}
+use mathlib.Core.List.{List, _∷_, _++_}
 use mathlib.Core.Option.{none}
 use Prim.Native.Nat.{ℕ, _+_, _≤_, _<_}
 use lib.ListN.{length}

@@ -14,7 +14,7 @@ use Rattle.bundle.specs.Bundle.{Bundle, atMost, bundle}
 use Rattle.formula.specs.Formula.{formulaFile}
 use Rattle.proof.specs.Check.{checkProof}
 use Rattle.chains.specs.Runs.{Run, joined, upTo, beyond}
-use Rattle.run.specs.Uniform.{withNumber, Walked, uniform}
+use Rattle.run.specs.Uniform.{withNumber, uniform}
 
 -- The most stages, and the most constraints of all stages together.
 abbrev pub mostStages : ℕ

@@ -1,7 +1,7 @@
 -- Whether the branches that must be alike are alike, and no claim: the tree of a proof, walked by its fields alone, without lines. Document 02, point 7: 27 and 28. Assumes nothing.
 use mathlib.Core.Option.{Option, none, some}
 use mathlib.Core.Bool.{Bool, true, false, _&&_}
-use mathlib.Core.List.{List, [], _∷_, _++_}
+use mathlib.Core.List.{List, [], _∷_}
 use Prim.Native.Nat.{ℕ, zero, suc}
 use lib.Dec.{eqb}
 use Rattle.forms.specs.Edition.{Edition, edition}

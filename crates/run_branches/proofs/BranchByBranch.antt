@@ -17,12 +17,12 @@ use Rattle.number_bytes.specs.Same.{sameBytes}
 use Rattle.run.specs.Uniform.{sameItems, Walked, WalkedBranches, Walker, walkBranches, firstAndThird, allAlike, walkOpened}
 use Rattle.run_fields.specs.declared.kind.Matching.{Matching}
 use Rattle.run_fields.specs.Kinds.{alikeBy, comparedIn}
-use Rattle.run_branches.specs.Branches.{likeFirst, firstRows, walkFrom, Likens}
+use Rattle.run_branches.specs.Branches.{likeFirst, firstBranchRows, walkFrom, Likens}
 use Rattle.run_fields.specs.Same.{SameFields}
 use Rattle.run_branches.specs.Walks.{End, ended}
 use Rattle.run_branches.proofs.WalkEnds.{endAt}
 
-pub first-later : (b first own : ℕ) → (b ≡ 0 → ⊥) → first ≡ firstRows b first own
+pub first-later : (b first own : ℕ) → (b ≡ 0 → ⊥) → first ≡ firstBranchRows b first own
 first-later zero first own h = absurd (h refl)
 first-later (suc b) first own h = refl
 

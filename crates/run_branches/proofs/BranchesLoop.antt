@@ -22,10 +22,10 @@ use Rattle.run_branches.proofs.OwnFields.{Spanned, walk-spans}
 use Rattle.run_fields.specs.declared.kind.Matching.{Matching}
 use Rattle.run_branches.specs.declared.walk.Outcome.{Outcome}
 use Rattle.run_branches.specs.declared.walk.Outcome.the-variants as outcome
-use Rattle.run_branches.specs.declared.walk.Stop.{Stop}
-use Rattle.run_branches.specs.declared.walk.Stop.the-variants as stop
-use Rattle.run_branches.specs.Branches.{likeFirst, firstOf, firstRows, walkFrom, Likens}
-use Rattle.run_branches.specs.Walks.{Countable, ended, Falls, Walks, Comes, Stops, deeper, WalksBranch, WalksBranches}
+use Rattle.run_branches.specs.declared.walk.WalkStop.{WalkStop}
+use Rattle.run_branches.specs.declared.walk.WalkStop.the-variants as stop
+use Rattle.run_branches.specs.Branches.{likeFirst, firstBranchFields, firstBranchRows, walkFrom, Likens}
+use Rattle.run_branches.specs.Walks.{Countable, ended, Falls, Walks, WalkComes, Stops, deeper, WalksBranch, WalksBranches}
 use Rattle.run_branches.proofs.WalkEnds.{Accepted, ended-refused, ended-accepted}
 use Rattle.run_branches.proofs.BranchByBranch.{opened-from, opened-shut}
 
@@ -46,7 +46,7 @@ module _ (walker : Walker) (step : ℕ) (alike : Matching) (first : List Item) (
     from-unlike left z h = rw (z, e, h)
 
     from-next : (more left : ℕ) → more ≡ suc left → ended (walkFrom walker step alike first like b more rows fs)
-        ≡ ended (walkFrom walker step alike (firstOf b first (w .own)) (like && likeFirst alike b first (w .own)) (suc b) left (w .rows) (w .after))
+        ≡ ended (walkFrom walker step alike (firstBranchFields b first (w .own)) (like && likeFirst alike b first (w .own)) (suc b) left (w .rows) (w .after))
     unfolding walkFrom ended _>>=_
     from-next more left z = rw (z, e)
 
@@ -137,19 +137,19 @@ module _ {e K : ℕ} {p : List ℕ} {at step last : ℕ} {alike : Matching} {ope
           let x = from-unlike (deeper e K opened) step alike (g .items) like b (by .is) (last - b) (omega arith) (sym test ∙ t) in
           record { is = g .is ∙ x ∙ rw (by .unlike-is); falls = tt }
 
-      next-first : (c : ℕ) → b ≡ c → length (firstOf c (g .items) (by .walked .own)) ≡ firstRows c first (upto .0 - rows)
+      next-first : (c : ℕ) → b ≡ c → length (firstBranchFields c (g .items) (by .walked .own)) ≡ firstBranchRows c first (upto .0 - rows)
       next-first zero q = own-count
       next-first (suc c) q = g .count
 
-      next-spans : (c : ℕ) → b ≡ c → FirstSpans (fieldsAt p at) (firstOf c (g .items) (by .walked .own))
+      next-spans : (c : ℕ) → b ≡ c → FirstSpans (fieldsAt p at) (firstBranchFields c (g .items) (by .walked .own))
       next-spans zero q = record { rest = by .walked .after; spans = subst (λ (x : ℕ). Spans (fieldsAt p x) (by .walked .own) (by .walked .after)) (g .first-here q) (own .spans) }
       next-spans (suc c) q = record { rest = g .rest; spans = g .spans }
 
-      pub passing-next : (b ≡ last → ⊥) → {next-rows : ℕ} → next-rows ≡ firstRows b first (upto .0 - rows) → Passing e K p at step last alike opened next (upto .0) next-rows still (b + 1)
+      pub passing-next : (b ≡ last → ⊥) → {next-rows : ℕ} → next-rows ≡ firstBranchRows b first (upto .0 - rows) → Passing e K p at step last alike opened next (upto .0) next-rows still (b + 1)
       passing-next q t =
           let x = from-next (deeper e K opened) step alike (g .items) like b (by .is) (last - b) (last - (b + 1)) (omega (arith, g .upto)) in
           record {
-            items = firstOf b (g .items) (by .walked .own);
+            items = firstBranchFields b (g .items) (by .walked .own);
             rest = next-spans b refl .rest;
             spans = next-spans b refl .spans;
             count = next-first b refl ∙ sym t;
@@ -166,12 +166,12 @@ unfolding walkBranch
 branch-entries e K zero here rows fs = refl
 branch-entries e K (suc room) here rows fs = refl
 
-module _ {e K : ℕ} {p : List ℕ} {at : ℕ} {here : Position} {rows : ℕ} {r : Stop} (s : Stops e K p at here rows r) where
+module _ {e K : ℕ} {p : List ℕ} {at : ℕ} {here : Position} {rows : ℕ} {r : WalkStop} (s : Stops e K p at here rows r) where
   pub stop-over : (opened : ℕ) {o : Outcome} → r ≡ stop.Over o → WalksBranch e K p at here rows opened o
   stop-over opened h = rw (branch-entries e K (32 - opened) here rows (fieldsAt p at)) ((rw h at s) .by (below e K (32 - opened)))
 
   module _ {last : ℕ} {alike : Matching} {row : RowNumber} {a next : ℕ} (h : r ≡ stop.Opens last alike row a next) where
-    comes : Comes e K p at here rows last alike (row .0) a next
+    comes : WalkComes e K p at here rows last alike (row .0) a next
     comes = (rw h at s) .by
 
     pub stop-countable : Countable p next (row .0 + 1)

@@ -22,14 +22,14 @@ use Rattle.run_fields.specs.declared.kind.Matching.{Matching}
 use Rattle.run_fields.specs.declared.kind.EntryKind.{EntryKind}
 use Rattle.run_fields.specs.declared.kind.EntryKind.the-variants as kind
 use Rattle.run_branches.specs.declared.walk.Outcome.the-variants as outcome
-use Rattle.run_branches.specs.declared.walk.Stop.the-variants as stop
+use Rattle.run_branches.specs.declared.walk.WalkStop.the-variants as stop
 use Rattle.run_fields.specs.Kinds.{walkKind, IsKind}
-use Rattle.run_branches.specs.Walks.{Countable, ended, entriesFrom, Stops}
+use Rattle.run_branches.specs.Walks.{Countable, ended, walkedFrom, Stops}
 use Rattle.run_branches.proofs.WalkEnds.{ended-behind}
 
 -- ---- the loop: the walk from the start is that from here
 pub record Going (e K : ℕ) (p : List ℕ) (at : ℕ) (pos : Position) (rows here count : ℕ) (made : Bool) : Type 0 where
-  pub is : (deeper : Option Walker) → ended (entriesFrom e K p at pos rows deeper) ≡ ended (walkEntries (edition e) K pos deeper (fieldsAt p here) count made)
+  pub is : (deeper : Option Walker) → ended (walkedFrom e K p at pos rows deeper) ≡ ended (walkEntries (edition e) K pos deeper (fieldsAt p here) count made)
   pub countable : Countable p here count
   pub unread : unreadBytes p here ≤ unreadBytes p at
 
@@ -54,7 +54,7 @@ module _ {e K : ℕ} {p : List ℕ} {at : ℕ} {pos : Position} {rows here count
     unfolding walkEntries
     turn deeper = rw (k .is) (is-kind .is deeper (walkEntries (edition e) K pos deeper (fieldsAt p next)) (refusalAt pos count a) count fieldOf (fieldsAt p next) refl refl)
 
-    turned : (deeper : Option Walker) {s : EntryKind} → r ≡ s → ended (entriesFrom e K p at pos rows deeper)
+    turned : (deeper : Option Walker) {s : EntryKind} → r ≡ s → ended (walkedFrom e K p at pos rows deeper)
         ≡ ended (walkKind deeper (walkEntries (edition e) K pos deeper (fieldsAt p next)) (refusalAt pos count a) count fieldOf (fieldsAt p next) s)
     turned deeper h = g .is deeper ∙ ap ended (turn deeper) ∙ rw h
 

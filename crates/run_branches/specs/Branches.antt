@@ -1,7 +1,7 @@
 -- The branches of a step as the code goes through them: each is compared to the first when it is closed. Document 02, point 7. Assumes nothing.
 use mathlib.Core.Path.{_≡_}
 use mathlib.Core.Bool.{Bool, true, cond, _&&_}
-use mathlib.Core.List.{List, []}
+use mathlib.Core.List.{List}
 use Prim.Native.Nat.{ℕ, zero, suc}
 use lib.ListN.{length}
 use Rattle.answers.specs.Answers.{position, Result, accepted, _>>=_, _>>_, need}
@@ -17,13 +17,13 @@ abbrev pub likeFirst : Matching → (b : ℕ) (first own : List Item) → Bool
 likeFirst alike b first own = cond (comparedIn alike b) (sameItems first own) true
 
 -- The first branch's own fields once branch b is closed, and how many they are.
-abbrev pub firstOf : (b : ℕ) (first own : List Item) → List Item
-firstOf zero first own = own
-firstOf (suc b) first own = first
+abbrev pub firstBranchFields : (b : ℕ) (first own : List Item) → List Item
+firstBranchFields zero first own = own
+firstBranchFields (suc b) first own = first
 
-abbrev pub firstRows : (b first own : ℕ) → ℕ
-firstRows zero first own = own
-firstRows (suc b) first own = first
+abbrev pub firstBranchRows : (b first own : ℕ) → ℕ
+firstBranchRows zero first own = own
+firstBranchRows (suc b) first own = first
 
 -- Branch b of a step and the `left` ones after it; so far those are alike that must be, or not. 28 at the last one's closing row.
 unfoldable pub walkFrom : (walker : Walker) (step : ℕ) → Matching → (first : List Item) (like : Bool) (b left rows : ℕ) → Fields → Result Walked
@@ -33,7 +33,7 @@ walkFrom walker step alike first like b zero rows fs = do
   accepted w
 walkFrom walker step alike first like b (suc left) rows fs = do
   w ← walker (position step b) rows fs
-  walkFrom walker step alike (firstOf b first (w .own)) (like && likeFirst alike b first (w .own)) (suc b) left (w .rows) (w .after)
+  walkFrom walker step alike (firstBranchFields b first (w .own)) (like && likeFirst alike b first (w .own)) (suc b) left (w .rows) (w .after)
 
 -- r tells whether those are alike that must be, with branch b, of n fields from `here` on, where the first has m from `at` on.
 pub record Likens (p : List ℕ) (like : Bool) (alike : Matching) (b at m here n : ℕ) (r : Bool) : Type 0 where

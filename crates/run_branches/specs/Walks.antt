@@ -15,8 +15,8 @@ use Rattle.run.specs.Uniform.{Walked, Walker, walkOpened, walkEntries, walkBran
 use Rattle.run_fields.specs.declared.kind.Matching.{Matching}
 use Rattle.run_branches.specs.declared.walk.Outcome.{Outcome}
 use Rattle.run_branches.specs.declared.walk.Outcome.the-variants as outcome
-use Rattle.run_branches.specs.declared.walk.Stop.{Stop}
-use Rattle.run_branches.specs.declared.walk.Stop.the-variants as stop
+use Rattle.run_branches.specs.declared.walk.WalkStop.{WalkStop}
+use Rattle.run_branches.specs.declared.walk.WalkStop.the-variants as stop
 use Rattle.run_fields.specs.Kinds.{alikeBy}
 use Rattle.run_branches.specs.Branches.{walkFrom}
 
@@ -48,21 +48,21 @@ pub record Walks (R : Result Walked) (p : List ℕ) (at : ℕ) (r : Outcome) : T
   pub falls : Falls p at r
 
 -- ---- a branch's entries
-abbrev pub entriesFrom : (e K : ℕ) (p : List ℕ) (at : ℕ) (here : Position) (rows : ℕ) (deeper : Option Walker) → Result Walked
-entriesFrom e K p at here rows deeper = walkEntries (edition e) K here deeper (fieldsAt p at) rows false
+abbrev pub walkedFrom : (e K : ℕ) (p : List ℕ) (at : ℕ) (here : Position) (rows : ℕ) (deeper : Option Walker) → Result Walked
+walkedFrom e K p at here rows deeper = walkEntries (edition e) K here deeper (fieldsAt p at) rows false
 
 -- They come to the row of that number at a, which opens branches.
-pub record Comes (e K : ℕ) (p : List ℕ) (at : ℕ) (here : Position) (rows last : ℕ) (alike : Matching) (row a next : ℕ) : Type 0 where
+pub record WalkComes (e K : ℕ) (p : List ℕ) (at : ℕ) (here : Position) (rows last : ℕ) (alike : Matching) (row a next : ℕ) : Type 0 where
   pub field : Field
-  pub is : (deeper : Option Walker) → ended (entriesFrom e K p at here rows deeper) ≡ ended (walkOpened deeper (refusalAt here row a) row field (fieldsAt p next) last (alikeBy alike))
+  pub is : (deeper : Option Walker) → ended (walkedFrom e K p at here rows deeper) ≡ ended (walkOpened deeper (refusalAt here row a) row field (fieldsAt p next) last (alikeBy alike))
   pub falls : unreadBytes p next < unreadBytes p at
   pub countable : Countable p next (row + 1)
 
-abbrev pub StopsBy : (e K : ℕ) (p : List ℕ) (at : ℕ) (here : Position) (rows : ℕ) → Stop → Type 0
-StopsBy e K p at here rows (stop.Over r) = (deeper : Option Walker) → Walks (entriesFrom e K p at here rows deeper) p at r
-StopsBy e K p at here rows (stop.Opens last alike row a next) = Comes e K p at here rows last alike (row .0) a next
+abbrev pub StopsBy : (e K : ℕ) (p : List ℕ) (at : ℕ) (here : Position) (rows : ℕ) → WalkStop → Type 0
+StopsBy e K p at here rows (stop.Over r) = (deeper : Option Walker) → Walks (walkedFrom e K p at here rows deeper) p at r
+StopsBy e K p at here rows (stop.Opens last alike row a next) = WalkComes e K p at here rows last alike (row .0) a next
 
-pub record Stops (e K : ℕ) (p : List ℕ) (at : ℕ) (here : Position) (rows : ℕ) (r : Stop) : Type 0 where
+pub record Stops (e K : ℕ) (p : List ℕ) (at : ℕ) (here : Position) (rows : ℕ) (r : WalkStop) : Type 0 where
   pub by : StopsBy e K p at here rows r
 
 -- ---- a branch, and the branches of a step

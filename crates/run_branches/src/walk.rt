@@ -16,7 +16,7 @@ ghost use Rattle.forms.specs.Edition.{edition1};
 ghost use Rattle.answers.specs.Answers.{refusalAt};
 ghost use Rattle.run.specs.Uniform.{withNumber};
 ghost use Rattle.run_fields.specs.Kinds.{comparedIn};
-ghost use Rattle.run_branches.specs.Branches.{Likens, firstRows};
+ghost use Rattle.run_branches.specs.Branches.{Likens, firstBranchRows};
 ghost use Rattle.run_branches.specs.Walks.{Countable, Stops, WalksBranch, WalksBranches};
 
 // An answer by another number.
@@ -54,7 +54,7 @@ pub enum Outcome {
     },
 }
 
-pub enum Stop {
+pub enum WalkStop {
     Over {
         outcome: Outcome,
     },
@@ -69,7 +69,14 @@ pub enum Stop {
 }
 
 // The entries of a branch up to the row that closes it or opens branches. 2, 3, 4, 6, 20, 27.
-fn walk_entries(p: &[u8], at: usize, position: Position, rows: RowNumber, k: usize, e: u8) -> Stop
+fn walk_entries(
+    p: &[u8],
+    at: usize,
+    position: Position,
+    rows: RowNumber,
+    k: usize,
+    e: u8,
+) -> WalkStop
     requires { ⌜ k ≤ edition1 .constants ⌝ }
     requires { ⌜ Countable (now p) at (rows .0) ⌝ }
     ensures { λ r. ⌜ Stops e k (now (p .entry)) at position (rows .0) r ⌝ }
@@ -94,7 +101,7 @@ fn walk_entries(p: &[u8], at: usize, position: Position, rows: RowNumber, k: usi
                         here = next;
                     }
                     EntryKind::Opens { last, alike } => {
-                        return Stop::Opens {
+                        return WalkStop::Opens {
                             last,
                             alike,
                             row,
@@ -109,29 +116,29 @@ fn walk_entries(p: &[u8], at: usize, position: Position, rows: RowNumber, k: usi
                             rows: RowNumber(count + 1),
                             unlike,
                         };
-                        return Stop::Over { outcome };
+                        return WalkStop::Over { outcome };
                     }
                     EntryKind::Claims => {
                         let answer = standing(27, position, row, 14, a);
                         let outcome = Outcome::Refused { answer };
-                        return Stop::Over { outcome };
+                        return WalkStop::Over { outcome };
                     }
                     EntryKind::Refused { number } => {
                         let answer = proof_refusal(position, row, number, a);
                         let outcome = Outcome::Refused { answer };
-                        return Stop::Over { outcome };
+                        return WalkStop::Over { outcome };
                     }
                 }
             }
             Next::Cut { at: a } => {
                 let answer = proof_refusal(position, RowNumber(count), 2, a);
                 let outcome = Outcome::Refused { answer };
-                return Stop::Over { outcome };
+                return WalkStop::Over { outcome };
             }
             Next::Ends { at: a } => {
                 let answer = proof_refusal(position, RowNumber(count), 20, a);
                 let outcome = Outcome::Refused { answer };
-                return Stop::Over { outcome };
+                return WalkStop::Over { outcome };
             }
         }
     }
@@ -150,7 +157,7 @@ fn compared(alike: Matching, b: u16) -> bool
 
 // How many rows the first branch has, where branch b has so many.
 fn first_rows(b: u16, first: u16, own: u16) -> u16
-    ensures { λ r. ⌜ r ≡ firstRows b first own ⌝ }
+    ensures { λ r. ⌜ r ≡ firstBranchRows b first own ⌝ }
 {
     if b == 0 {
         return own;
@@ -248,8 +255,8 @@ pub fn walk_branch(
     ensures { λ r. ⌜ WalksBranch e k (now (p .entry)) at position (rows .0) opened r ⌝ }
 {
     match walk_entries(p, at, position, rows, k, e) {
-        Stop::Over { outcome } => outcome,
-        Stop::Opens {
+        WalkStop::Over { outcome } => outcome,
+        WalkStop::Opens {
             last,
             alike,
             row,

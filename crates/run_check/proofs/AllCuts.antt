@@ -25,8 +25,8 @@ use Rattle.run_branches.specs.declared.walk.Outcome.{Outcome}
 use Rattle.run_branches.specs.declared.walk.Outcome.the-variants as outcome
 use Rattle.run_branches.proofs.WalkEnds.{ended-refused, ended-accepted}
 use Rattle.run_cuts.specs.Staged.{staged, stages, Staged}
-use Rattle.run_cuts.specs.Cuts.{CutResult, CutAsked, CutChecked}
-use Rattle.run_check.specs.All.{judgedBy, RunChecked, joinedBy, sizeOf, totalOf, Summable, files, AllBy, CutsChecked}
+use Rattle.run_cuts.specs.Cuts.{CutTells, CutAsked, CutChecked}
+use Rattle.run_check.specs.All.{judgedBy, RunChecked, joinedBy, cutSize, cutsTotal, Summable, files, AllBy, CutsChecked}
 use Rattle.run_cuts.specs.declared.cut.Cut.{Cut}
 use Rattle.run_cuts.specs.declared.cut.Cut.the-variants as cut
 use Rattle.run_check.specs.declared.all.Cuts.{Cuts}
@@ -54,7 +54,7 @@ pub file-size : (K : ℕ) (I : Formula) → length (formulaFile edition1 K I) �
 unfolding formulaFile
 file-size K I = omega (arith, length-append (headerBytes 1 K) (encode edition1 I), length-headerBytes 1 K)
 
-joins : (K : ℕ) (R : Result Formula) (Rs : Result (List Formula)) {S S′ : List ℕ} (own : Cut) (others : Cuts) → CutResult R S S′ own → AllBy Rs K others
+joins : (K : ℕ) (R : Result Formula) (Rs : Result (List Formula)) {S S′ : List ℕ} (own : Cut) (others : Cuts) → CutTells R S S′ own → AllBy Rs K others
     → AllBy (both R Rs >>= λ (I, Is). accepted (I ∷ Is)) K (joinedBy own others)
 unfolding both _>>=_ every
 joins K R Rs (cut.Refused a) (cuts.Refused b) p q = rw (p .by, q)
@@ -70,13 +70,13 @@ joins K R Rs (cut.Derived o) (cuts.Derived total fit) p q =
       fit-is = rw (z, q .fit-is);
     }
 
-total-joins : (own : Cut) (others : Cuts) → totalOf (joinedBy own others) ≤ totalOf others + (sizeOf own + 8)
+total-joins : (own : Cut) (others : Cuts) → cutsTotal (joinedBy own others) ≤ cutsTotal others + (cutSize own + 8)
 total-joins (cut.Refused a) (cuts.Refused b) = omega arith
 total-joins (cut.Refused a) (cuts.Derived total fit) = omega arith
 total-joins (cut.Derived o) (cuts.Refused b) = omega arith
 total-joins (cut.Derived o) (cuts.Derived total fit) = omega arith
 
-own-size : {R : Result Formula} {S S′ : List ℕ} (own : Cut) → CutResult R S S′ own → sizeOf own ≤ 5_242_880
+own-size : {R : Result Formula} {S S′ : List ℕ} (own : Cut) → CutTells R S S′ own → cutSize own ≤ 5_242_880
 own-size (cut.Refused a) p = omega arith
 own-size (cut.Derived o) p = p .by .few
 
@@ -103,7 +103,7 @@ pub record CutsLeft (buffer lengths : List ℕ) (K count : ℕ) (P : List ℕ) (
   pub lines-length : length buf ≡ length buf₀
   pub scratch-length : length S ≡ length S₀
   pub is : AllBy (cutsFrom K (stages buffer lengths) (fields P) c (length lengths + 1 - c)) K all
-  pub few : totalOf all ≤ (length lengths + 1 - c) * 5_242_888
+  pub few : cutsTotal all ≤ (length lengths + 1 - c) * 5_242_888
 
 module _ {buffer lengths : List ℕ} {K count : ℕ} {P : List ℕ} {e at : ℕ} {kinds₀ : List ℕ} {buf₀ : List ℤ} (a : CutAsked buffer lengths K count P e at kinds₀ buf₀) {S₀ : List ℕ} where
   pub all-start : CutsLeft buffer lengths K count P e at kinds₀ buf₀ S₀ kinds₀ buf₀ S₀ (cuts.Derived 0 true) (length lengths + 1)
@@ -158,7 +158,7 @@ judges K P R U (cuts.Derived total fit) (outcome.Refused b) p q = rw (p .is, end
 judges K P R U (cuts.Refused a) (outcome.Closed next rows unlike) p q = rw (p, ended-accepted q .is)
 judges K P R U (cuts.Derived total fit) (outcome.Closed next rows unlike) p q = record { formulas = p .formulas; is = rw (p .is, ended-accepted q .is); total-is = p .total-is; fit-is = p .fit-is }
 
-judged-few : (all : Cuts) (w : Outcome) → totalOf (judgedBy all w) ≤ totalOf all
+judged-few : (all : Cuts) (w : Outcome) → cutsTotal (judgedBy all w) ≤ cutsTotal all
 judged-few (cuts.Refused a) (outcome.Refused b) = omega arith
 judged-few (cuts.Derived total fit) (outcome.Refused b) = omega arith
 judged-few (cuts.Refused a) (outcome.Closed next rows unlike) = omega arith

@@ -1,7 +1,7 @@
 -- All cuts of a run, by the answers of the code. Document 02, point 7. Assumes nothing.
 use mathlib.Core.Path.{_≡_}
 use mathlib.Core.Bool.{Bool, cond, _&&_}
-use mathlib.Core.List.{List, [], map}
+use mathlib.Core.List.{List, map}
 use Prim.Native.Nat.{ℕ, _+_, _*_, _≤_}
 use lib.Dec.{leb}
 use lib.ListN.{length}
@@ -22,12 +22,13 @@ use Rattle.run_cuts.specs.declared.cut.Cut.the-variants as cut
 use Rattle.run_check.specs.declared.all.Cuts.{Cuts}
 use Rattle.run_check.specs.declared.all.Cuts.the-variants as cuts
 
-abbrev pub firstOf : Answer → Answer → Answer
-firstOf a b = cond (leb (a .place) (b .place)) a b
+-- Of two refusals the one of the lesser place; at one place the first.
+abbrev pub earlierRefusal : Answer → Answer → Answer
+earlierRefusal a b = cond (leb (a .place) (b .place)) a b
 
 -- A cut and those after it.
 abbrev pub joinedBy : Cut → Cuts → Cuts
-joinedBy (cut.Refused a) (cuts.Refused b) = cuts.Refused (firstOf a b)
+joinedBy (cut.Refused a) (cuts.Refused b) = cuts.Refused (earlierRefusal a b)
 joinedBy (cut.Refused a) (cuts.Derived total fit) = cuts.Refused a
 joinedBy (cut.Derived o) (cuts.Refused b) = cuts.Refused b
 joinedBy (cut.Derived o) (cuts.Derived total fit) = cuts.Derived (total + (o + 8)) (leb (o + 8) (edition1 .formulaBytes) && fit)
@@ -35,24 +36,25 @@ joinedBy (cut.Derived o) (cuts.Derived total fit) = cuts.Derived (total + (o + 8
 -- The cuts, and then the walk.
 abbrev pub judgedBy : Cuts → Outcome → Cuts
 judgedBy all (outcome.Closed next rows unlike) = all
-judgedBy (cuts.Refused a) (outcome.Refused b) = cuts.Refused (firstOf a b)
+judgedBy (cuts.Refused a) (outcome.Refused b) = cuts.Refused (earlierRefusal a b)
 judgedBy (cuts.Derived total fit) (outcome.Refused b) = cuts.Refused b
 
 -- What is to be added fits the machine.
 abbrev pub mostTotal : ℕ
 mostTotal = (mostStages + 1) * (scratchLimit + 8)
 
-abbrev pub sizeOf : Cut → ℕ
-sizeOf (cut.Refused a) = 0
-sizeOf (cut.Derived o) = o
+-- The bytes of one cut's formula, and of all guards' files; 0 where refused.
+abbrev pub cutSize : Cut → ℕ
+cutSize (cut.Refused a) = 0
+cutSize (cut.Derived o) = o
 
-abbrev pub totalOf : Cuts → ℕ
-totalOf (cuts.Refused a) = 0
-totalOf (cuts.Derived total fit) = total
+abbrev pub cutsTotal : Cuts → ℕ
+cutsTotal (cuts.Refused a) = 0
+cutsTotal (cuts.Derived total fit) = total
 
 pub record Summable (c : Cut) (others : Cuts) : Type 0 where
-  pub own : sizeOf c ≤ scratchLimit
-  pub rest : totalOf others ≤ mostTotal
+  pub own : cutSize c ≤ scratchLimit
+  pub rest : cutsTotal others ≤ mostTotal
 
 -- The guards' files.
 abbrev pub files : (K : ℕ) → List Formula → List (List ℕ)
@@ -71,7 +73,7 @@ AllBy R K (cuts.Derived total fit) = DerivesAll R K total fit
 
 pub record AllChecked (R : Result (List Formula)) (K : ℕ) (r : Cuts) : Type 0 where
   pub by : AllBy R K r
-  pub few : totalOf r ≤ mostTotal
+  pub few : cutsTotal r ≤ mostTotal
 
 abbrev pub CutsChecked : (buffer lengths : List ℕ) (K : ℕ) (P : List ℕ) → Cuts → Type 0
 CutsChecked buffer lengths K P r = AllChecked (checkCuts newestEdition K (stages buffer lengths) (fields P) 0 (length (stages buffer lengths))) K r

@@ -10,7 +10,7 @@ ghost use Prim.Native.Nat.{_+_};
 ghost use lib.Dec.{leb};
 ghost use Rattle.forms.specs.Edition.{edition1};
 ghost use Rattle.run_cuts.specs.Cuts.{CutAsked};
-ghost use Rattle.run_check.specs.All.{firstOf, joinedBy, judgedBy, Summable, CutsChecked};
+ghost use Rattle.run_check.specs.All.{earlierRefusal, joinedBy, judgedBy, Summable, CutsChecked};
 
 // The two header fields of a guard's file.
 const HEADER_BYTES: usize = 8;
@@ -22,8 +22,8 @@ pub enum Cuts {
 }
 
 // Of two refusals that of the lesser place, at one place the first.
-pub fn first_of(a: Answer, b: Answer) -> Answer
-    ensures { λ r. ⌜ r ≡ firstOf a b ⌝ }
+pub fn earlier_refusal(a: Answer, b: Answer) -> Answer
+    ensures { λ r. ⌜ r ≡ earlierRefusal a b ⌝ }
 {
     if a.place <= b.place {
         return a;
@@ -49,7 +49,7 @@ fn joined(cut: Cut, others: Cuts) -> Cuts
     match cut {
         Cut::Refused { answer: a } => match others {
             Cuts::Refused { answer: b } => {
-                let answer = first_of(a, b);
+                let answer = earlier_refusal(a, b);
                 Cuts::Refused { answer }
             }
             Cuts::Derived { total: _, fit: _ } => Cuts::Refused { answer: a },
@@ -76,7 +76,7 @@ pub fn judged(all: Cuts, walked: Outcome) -> Cuts
     match walked {
         Outcome::Refused { answer: b } => match all {
             Cuts::Refused { answer: a } => {
-                let answer = first_of(a, b);
+                let answer = earlier_refusal(a, b);
                 Cuts::Refused { answer }
             }
             Cuts::Derived { total: _, fit: _ } => Cuts::Refused { answer: b },

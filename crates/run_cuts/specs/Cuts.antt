@@ -54,11 +54,12 @@ abbrev pub ChecksBy : (R : Result Formula) (scratch scratch′ : List ℕ) → C
 ChecksBy R scratch scratch′ (cut.Refused a) = R ≡ refused a
 ChecksBy R scratch scratch′ (cut.Derived o) = CutDerives R scratch scratch′ o
 
-pub record CutResult (R : Result Formula) (scratch scratch′ : List ℕ) (r : Cut) : Type 0 where
+-- The answer r tells what R is: its refusal, or how many bytes its formula has.
+pub record CutTells (R : Result Formula) (scratch scratch′ : List ℕ) (r : Cut) : Type 0 where
   pub by : ChecksBy R scratch scratch′ r
 
 abbrev pub RootChecked : (e K : ℕ) → List Line → (P : List ℕ) (at : ℕ) (scratch scratch′ : List ℕ) → Cut → Type 0
-RootChecked e K ls P at scratch scratch′ r = CutResult (claimRefused (checkRoot e K ls (fieldsAt P at))) scratch scratch′ r
+RootChecked e K ls P at scratch scratch′ r = CutTells (claimRefused (checkRoot e K ls (fieldsAt P at))) scratch scratch′ r
 
 -- The stages are read, and so is the proof's header: its edition is e, and its fields go on at a place. There is room for the lines that may come.
 pub record CutAsked (buffer lengths : List ℕ) (K count : ℕ) (P : List ℕ) (e at : ℕ) (kinds : List ℕ) (buf : List ℤ) : Type 0 where
@@ -69,4 +70,4 @@ pub record CutAsked (buffer lengths : List ℕ) (K count : ℕ) (P : List ℕ) (
   pub spare : Spare e K (count + linesLeft e P at) kinds buf
 
 abbrev pub CutChecked : (buffer lengths : List ℕ) (c K : ℕ) (P scratch scratch′ : List ℕ) → Cut → Type 0
-CutChecked buffer lengths c K P scratch scratch′ r = CutResult (checkCut newestEdition K (stages buffer lengths) (fields P) c) scratch scratch′ r
+CutChecked buffer lengths c K P scratch scratch′ r = CutTells (checkCut newestEdition K (stages buffer lengths) (fields P) c) scratch scratch′ r

@@ -43,7 +43,7 @@ use Rattle.run_check.specs.declared.all.Cuts.the-variants as cuts
 use Rattle.run_check.proofs.AllCuts.{cutsFrom, cuts-from, stages-count}
 use Rattle.run_stages.specs.Reading.{FindsLong, ReadsStages}
 use Rattle.run_deliver.specs.Writing.{cutsOf, GuardsFit, WritesAll}
-use Rattle.run_deliver.specs.Guards.{Gathered, Begun, Totals}
+use Rattle.run_deliver.specs.Guards.{StagesPassed, ProofBegun, Totals}
 use Rattle.run_stages.specs.declared.reading.Read.{Read}
 use Rattle.run_stages.specs.declared.reading.Read.the-variants as read
 use Rattle.run_stages.proofs.StagesRead.{parted-is}
@@ -90,7 +90,7 @@ module _ (buffer lengths P : List ℕ) where
               let d = (rw e at q) .by in
               rw (p, s, le-leb (length P) 65536 h, d .is, d .count-is, lt-leb count 64 l)
 
-          pub gathered : count ≤ 64 → Gathered buffer lengths P K count
+          pub gathered : count ≤ 64 → StagesPassed buffer lengths P K count
           gathered l =
               let d = (rw e at q) .by in
               let n = parted-is p in
@@ -162,7 +162,7 @@ module _ (K : ℕ) (Ts : Run) (fs : Fields) {a : Answer} (h : header FileKind.Pr
 abbrev fitting : (K : ℕ) → List Formula → Result (List (List ℕ))
 fitting K Is = need (answer 1 4 (length (joined (files K Is)))) (every (λ file. leb (length file) 65536) (files K Is)) >> accepted (files K Is)
 
-module _ {buffer lengths P : List ℕ} {K count : ℕ} (g : Gathered buffer lengths P K count) where
+module _ {buffer lengths P : List ℕ} {K count : ℕ} (g : StagesPassed buffer lengths P K count) where
   files-are : guardFiles 2 buffer lengths P ≡ (checkRun 2 K (stages buffer lengths) (fields P) >>= λ Is. fitting K Is)
   unfolding guardFiles atMost need _>>_ _>>=_
   files-are = rw (g .parted, g .short, le-leb (length P) 65536 (g .proof-short), g .staged .is, g .staged .count-is, le-leb count 64 (g .staged .few), g .staged .k-is)
@@ -186,13 +186,13 @@ module _ {buffer lengths P : List ℕ} {K count : ℕ} (g : Gathered buffer leng
         let d : header FileKind.Proof fileProof 2 (some K) (fields P) ≡ refused (answer x 3 a) = header-as ∙ rw e in
         files-are ∙ rw (run-stops K (stages buffer lengths) (fields P) d)
 
-    pub begun : {n k next : ℕ} → r ≡ Headed.Header n k next → Begun P K n next
+    pub begun : {n k next : ℕ} → r ≡ Headed.Header n k next → ProofBegun P K n next
     begun {n} {k} {next} e =
         let d : header FileKind.Proof fileProof 2 (some K) (fields P) ≡ accepted (record { number = n; K = k; rest = fieldsAt P next }) = header-as ∙ rw e in
         let z : k ≡ K = agreed K k (header-gives FileKind.Proof fileProof 2 (some K) (fields P) .gives _ d .agree) in
         record { is = d ∙ ap (λ (x : ℕ). accepted (record { number = n; K = x; rest = fieldsAt P next })) z }
 
-  module _ {e at : ℕ} (b : Begun P K e at) where
+  module _ {e at : ℕ} (b : ProofBegun P K e at) where
     pub asked : {kinds : List ℕ} {buf : List ℤ} → Spare e K (count + linesLeft e P at) kinds buf → CutAsked buffer lengths K count P e at kinds buf
     asked s = record { staged = g .staged; high = g .high; short = g .proof-short; header-is = b .is; spare = s }
 

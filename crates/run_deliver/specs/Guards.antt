@@ -16,7 +16,7 @@ use Rattle.run_cuts.specs.Staged.{stages, Staged}
 use Rattle.run_check.specs.All.{DerivesAll}
 
 -- All before the proof's header is passed: the stages are read.
-pub record Gathered (buffer lengths P : List ℕ) (K count : ℕ) : Type 0 where
+pub record StagesPassed (buffer lengths P : List ℕ) (K count : ℕ) : Type 0 where
   pub parted : partedBy lengths buffer ≡ true
   pub short : stagesShort newestEdition firstStage (parts lengths buffer) ≡ accepted tt
   pub proof-short : length P ≤ edition newestEdition .proofBytes
@@ -25,7 +25,7 @@ pub record Gathered (buffer lengths P : List ℕ) (K count : ℕ) : Type 0 where
   pub high : K ≤ edition1 .constants
 
 -- The proof's header is read: its edition is e, and its fields go on at a place.
-pub record Begun (P : List ℕ) (K e at : ℕ) : Type 0 where
+pub record ProofBegun (P : List ℕ) (K e at : ℕ) : Type 0 where
   pub is : header FileKind.Proof fileProof newestEdition (some K) (fields P) ≡ accepted (record { number = e; K = K; rest = fieldsAt P at })
 
 -- The run is accepted: the bytes of all guards, and whether none of them is too long.

@@ -10,7 +10,7 @@ ghost use mathlib.Core.Path.{_≡_};
 ghost use Rattle.answers.specs.Answers.{answer};
 ghost use Rattle.run.specs.Promises.{WritesGuards};
 ghost use Rattle.run_cuts.specs.Cuts.{CutAsked};
-ghost use Rattle.run_deliver.specs.Guards.{Gathered, Totals};
+ghost use Rattle.run_deliver.specs.Guards.{StagesPassed, Totals};
 
 pub fn refusal(number: u8, file: u8, place: usize) -> WriteResult
     ensures { λ r. ⌜ r ≡ record { answer = answer number file place; count = 0 } ⌝ }
@@ -35,7 +35,7 @@ fn deliver(
     out: &mut [u8],
     sizes: &mut [usize],
 ) -> WriteResult
-    requires { ⌜ Gathered (now buffer) (now lengths) (now proof) k count ⌝ }
+    requires { ⌜ StagesPassed (now buffer) (now lengths) (now proof) k count ⌝ }
     requires { ⌜ CutAsked (now buffer) (now lengths) k count (now proof) e at (now kinds) (now lines) ⌝ }
     requires { ⌜ Totals (now buffer) (now lengths) (now proof) k total fit ⌝ }
     ensures { λ r. ⌜ WritesGuards (now (buffer .entry)) (now (lengths .entry)) (now (proof .entry)) (now (out .entry)) (now (sizes .entry)) (now (out .exit)) (now (sizes .exit)) r ⌝ }
@@ -84,7 +84,7 @@ pub fn check_run(
     out: &mut [u8],
     sizes: &mut [usize],
 ) -> WriteResult
-    requires { ⌜ Gathered (now buffer) (now lengths) (now proof) k count ⌝ }
+    requires { ⌜ StagesPassed (now buffer) (now lengths) (now proof) k count ⌝ }
     requires { ⌜ CutAsked (now buffer) (now lengths) k count (now proof) e at (now kinds) (now lines) ⌝ }
     ensures { λ r. ⌜ WritesGuards (now (buffer .entry)) (now (lengths .entry)) (now (proof .entry)) (now (out .entry)) (now (sizes .entry)) (now (out .exit)) (now (sizes .exit)) r ⌝ }
 {

@@ -6,7 +6,7 @@ use number_bytes::numbers::unsigned_at;
 ghost use mathlib.Core.Path.{_≡_};
 ghost use Prim.Native.Nat.{_+_, _≤_};
 ghost use lib.ListN.{length, take, drop};
-ghost use Rattle.forms.specs.Edition.{edition, edition1};
+ghost use Rattle.forms.specs.Edition.{edition1};
 ghost use Rattle.run_fields.specs.Kinds.{sizedAs, RoundKind, IsKind};
 
 // Which branches of a step must be the same rows.

@@ -2,7 +2,6 @@
 use fields::Next;
 use fields::next_field;
 use number_bytes::compare::same_bytes;
-ghost use mathlib.Core.Path.{_≡_};
 ghost use Rattle.run_fields.specs.Same.{Compares, SameFields};
 
 pub enum Compared {

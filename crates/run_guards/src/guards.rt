@@ -16,7 +16,7 @@ use run_stages::reading::parted;
 use run_stages::reading::read_stages;
 ghost use mathlib.Core.Path.{_≡_};
 ghost use Rattle.run.specs.Promises.{WritesGuards};
-ghost use Rattle.run_deliver.specs.Guards.{Gathered, Begun};
+ghost use Rattle.run_deliver.specs.Guards.{StagesPassed, ProofBegun};
 
 // The most constraints of all stages together.
 const ALL_CONSTRAINTS: usize = 64;
@@ -36,8 +36,8 @@ fn check_narrow(
     out: &mut [u8],
     sizes: &mut [usize],
 ) -> WriteResult
-    requires { ⌜ Gathered (now buffer) (now lengths) (now proof) k count ⌝ }
-    requires { ⌜ Begun (now proof) k e at ⌝ }
+    requires { ⌜ StagesPassed (now buffer) (now lengths) (now proof) k count ⌝ }
+    requires { ⌜ ProofBegun (now proof) k e at ⌝ }
     requires { ⌜ e ≡ 1 ⌝ }
     ensures { λ r. ⌜ WritesGuards (now (buffer .entry)) (now (lengths .entry)) (now (proof .entry)) (now (out .entry)) (now (sizes .entry)) (now (out .exit)) (now (sizes .exit)) r ⌝ }
 {
@@ -72,8 +72,8 @@ fn check_wide(
     out: &mut [u8],
     sizes: &mut [usize],
 ) -> WriteResult
-    requires { ⌜ Gathered (now buffer) (now lengths) (now proof) k count ⌝ }
-    requires { ⌜ Begun (now proof) k e at ⌝ }
+    requires { ⌜ StagesPassed (now buffer) (now lengths) (now proof) k count ⌝ }
+    requires { ⌜ ProofBegun (now proof) k e at ⌝ }
     ensures { λ r. ⌜ WritesGuards (now (buffer .entry)) (now (lengths .entry)) (now (proof .entry)) (now (out .entry)) (now (sizes .entry)) (now (out .exit)) (now (sizes .exit)) r ⌝ }
 {
     let mut lines = [0i32; (LINES as usize + 1) * LINE_NUMBERS];
@@ -105,7 +105,7 @@ fn check_header(
     out: &mut [u8],
     sizes: &mut [usize],
 ) -> WriteResult
-    requires { ⌜ Gathered (now buffer) (now lengths) (now proof) k count ⌝ }
+    requires { ⌜ StagesPassed (now buffer) (now lengths) (now proof) k count ⌝ }
     ensures { λ r. ⌜ WritesGuards (now (buffer .entry)) (now (lengths .entry)) (now (proof .entry)) (now (out .entry)) (now (sizes .entry)) (now (out .exit)) (now (sizes .exit)) r ⌝ }
 {
     match read_header(proof, FileKind::Proof, NEWEST, k) {

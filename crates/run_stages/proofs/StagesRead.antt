@@ -23,7 +23,7 @@ use Rattle.chains.specs.Runs.{joined}
 use Rattle.run.specs.Run.{total, parts, parted, stagesShort, readStages, constantsOf, runOf}
 use Rattle.run_cuts.specs.Staged.{staged}
 use Rattle.run_cuts.proofs.StagesInTurn.{PartsLeft, parts-start, between, total-on, part-upto, parts-next, parts-on, parts-none, scan-refused}
-use Rattle.run_stages.specs.Reading.{Parted, FindsLong, ReadsStages}
+use Rattle.run_stages.specs.Reading.{LengthsAddUp, FindsLong, ReadsStages}
 use Rattle.run_stages.specs.declared.reading.Read.the-variants as read
 
 -- ---- 25: the lengths are taken from the buffer's, one after the other
@@ -75,7 +75,7 @@ and-right : (a b : Bool) → (a && b) ≡ true → b ≡ true
 and-right true b e = e
 and-right false b e = absurd (let z : _≡_ {A = ℕ} 0 1 = cc in omega arith)
 
-pub parted-is : {buffer lengths : List ℕ} → parted lengths buffer ≡ true → Parted buffer lengths
+pub parted-is : {buffer lengths : List ℕ} → parted lengths buffer ≡ true → LengthsAddUp buffer lengths
 unfolding parted
 parted-is {buffer} {lengths} e =
     let ab = and-left (leb 1 (length lengths) && leb (length lengths) 16) (eqb (total lengths) (length buffer)) e in
@@ -91,7 +91,7 @@ pub record ShortLeft (buffer lengths : List ℕ) (i : ℕ) : Type 0 where
   pub left : PartsLeft buffer lengths i from
   pub is : stagesShort 2 11 (parts lengths buffer) ≡ stagesShort 2 (11 + i) (parts (drop i lengths) (drop from buffer))
 
-pub short-start : {buffer lengths : List ℕ} → Parted buffer lengths → ShortLeft buffer lengths 0
+pub short-start : {buffer lengths : List ℕ} → LengthsAddUp buffer lengths → ShortLeft buffer lengths 0
 short-start p = record { from = 0; left = parts-start (p .adds-up); is = refl }
 
 module _ {buffer lengths : List ℕ} {i : ℕ} (g : ShortLeft buffer lengths i) where
@@ -157,7 +157,7 @@ unfolding runOf
 count-on [] t = omega (arith, length-append (t .constraints) [])
 count-on (d ∷ ds) t = omega (arith, length-append (d .constraints) (joined (runOf (ds ++ (t ∷ [])))), length-append (d .constraints) (joined (runOf ds)), count-on ds t)
 
-pub reading-start : {buffer lengths : List ℕ} → Parted buffer lengths → Reading buffer lengths 0 0 0 0
+pub reading-start : {buffer lengths : List ℕ} → LengthsAddUp buffer lengths → Reading buffer lengths 0 0 0 0
 unfolding constantsOf runOf
 reading-start {buffer} {lengths} p = record {
   left = parts-start (p .adds-up);

@@ -13,7 +13,7 @@ use Rattle.run_stages.specs.declared.reading.Read.{Read}
 use Rattle.run_stages.specs.declared.reading.Read.the-variants as read
 
 -- 1 to 16 lengths, which add up to the buffer's.
-pub record Parted (buffer lengths : List ℕ) : Type 0 where
+pub record LengthsAddUp (buffer lengths : List ℕ) : Type 0 where
   pub least : 1 ≤ length lengths
   pub most : length lengths ≤ mostStages
   pub adds-up : total lengths ≡ length buffer

@@ -5,7 +5,7 @@ use bundle_scan::scan;
 use forms::BUNDLE_BYTES;
 ghost use mathlib.Core.Path.{_≡_};
 ghost use Rattle.run.specs.Run.{parted};
-ghost use Rattle.run_stages.specs.Reading.{Parted, FindsLong, ReadsStages};
+ghost use Rattle.run_stages.specs.Reading.{LengthsAddUp, FindsLong, ReadsStages};
 
 // The most stages.
 const STAGES: usize = 16;
@@ -39,7 +39,7 @@ pub fn parted(buffer: &[u8], lengths: &[usize]) -> bool
 
 // The file of the first stage that is too long, 0 if there is none.
 pub fn long_stage(buffer: &[u8], lengths: &[usize]) -> u8
-    requires { ⌜ Parted (now buffer) (now lengths) ⌝ }
+    requires { ⌜ LengthsAddUp (now buffer) (now lengths) ⌝ }
     ensures { λ r. ⌜ FindsLong (now (buffer .entry)) (now (lengths .entry)) r ⌝ }
 {
     let mut i = 0;
@@ -60,7 +60,7 @@ pub enum Read {
 
 // The stages in turn, each as check reads B, the first as it reads A.
 pub fn read_stages(buffer: &[u8], lengths: &[usize]) -> Read
-    requires { ⌜ Parted (now buffer) (now lengths) ⌝ }
+    requires { ⌜ LengthsAddUp (now buffer) (now lengths) ⌝ }
     ensures { λ r. ⌜ ReadsStages (now (buffer .entry)) (now (lengths .entry)) r ⌝ }
 {
     let mut from = 0;

@@ -5,7 +5,7 @@ use Prim.Native.Nat.{ℕ, zero, suc, _+_, _-_, _%_}
 use lib.Dec.{eqb, leb, ltb}
 use lib.ListN.{length, take, drop, getD, set, replicate}
 use Rattle.answers.specs.declared.Answer.{Answer}
-use Rattle.answers.specs.Answers.{answer, fileLent, Result, refused, accepted, _>>=_, _>>_, need, Written}
+use Rattle.answers.specs.Answers.{answer, fileLent, Result, accepted, _>>=_, _>>_, need, Written}
 use Rattle.proof.specs.Check.{check}
 use Rattle.scheduler.specs.declared.Part.{Part}
 use Rattle.scheduler.specs.declared.Job.{Job}

@@ -3,14 +3,11 @@
 use mathlib.Core.List.{List, [], _∷_, _++_, map}
 use mathlib.Core.Bool.{Bool, true, false}
 use Prim.Native.Nat.{ℕ}
-use lib.ListN.{replicate, take}
+use lib.ListN.{replicate}
 use Rattle.answers.specs.declared.Answer.{Answer}
-use Rattle.answers.specs.Answers.{Result, refused, accepted, acceptance}
-use Rattle.scheduler.specs.declared.Part.{Part}
 use Rattle.scheduler.specs.declared.Job.{Job}
 use Rattle.scheduler.specs.declared.Slot.{Slot}
 use Rattle.scheduler.specs.declared.Scheduler.{Scheduler}
-use Rattle.scheduler.specs.declared.Changed.{Changed}
 use Rattle.scheduler.specs.Scheduler.{TurnLeaves, submission, cancellation, turn as turned}
 use Rattle.scheduler.specs.Promises.{changed}
 

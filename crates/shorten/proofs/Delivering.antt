@@ -27,7 +27,7 @@ use Rattle.shortening_stack.specs.Outline.{outlineOf}
 use Rattle.shortening_marks.specs.Gathered.{rowsOf, Reportable, Reported, entriesIn}
 use Rattle.shortening_marks.proofs.Gathering.{report-length}
 use Rattle.shortening_marks.proofs.Reported.{stated-entries}
-use Rattle.shortening_table.specs.Table.{bytesFrom, Countable}
+use Rattle.shortening_table.specs.Table.{bytesFrom, ReportCovers}
 use Rattle.shortening_table.specs.Written.{tableFrom, Tells, TableWritable}
 use Rattle.shortening_table.proofs.Bytes.{row-field, counts}
 use Rattle.shorten.specs.declared.ShortenResult.{ShortenResult}
@@ -107,7 +107,7 @@ module _ {e K : ℕ} {fs : Fields} {n : ℕ} {reported : List ℕ} {rows : ℕ} 
       ap (λ (es : List Entry). let s : Shorter = record { report = reportOn n es; table = headerBytes e K ++ fileOf (remaining (renumberItem (edition e)) (retentionsOn n es) (listOf fs)) } in s) same-entries
       ∙ ap (λ (bs : List ℕ). let s : Shorter = record { report = reportOn n (d .es); table = headerBytes e K ++ bs } in s) table-is
 
-  pub countable : Countable fs reported
+  pub countable : ReportCovers fs reported
   countable = record { room = omega (arith, row-field (edition e) K fs (d .stating .list) (d .es) (d .stating .are) (d .stating .each), ap length (d .reported-is), length-append (reportOn n (d .es)) (d .behind), reported-length) }
 
   module _ {bytes : ℕ} (b : bytes ≡ bytesFrom fs reported true) where

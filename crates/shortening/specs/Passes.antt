@@ -4,8 +4,8 @@ use mathlib.Core.List.{List, [], _∷_}
 use mathlib.Core.Bool.{Bool, true, false, not, _&&_, _||_}
 use Prim.Native.Nat.{ℕ, zero, suc}
 use lib.Dec.{eqb}
-use Rattle.calculus.specs.Rules.{Inference, Row, Derive, Strengthen, Round, Split, CloseNumber, CloseStride, Entry, row, claim}
-use Rattle.shortening.specs.Needed.{named, markOf, renew, renumber, keptLines}
+use Rattle.calculus.specs.Rules.{Inference, Derive, Strengthen, Round, Split, CloseNumber, CloseStride, Entry, row, claim}
+use Rattle.shortening.specs.Needed.{named, markOf, renew, keptLines}
 
 -- ---- the report
 -- What the rows behind leave: one mark for each line, and their part of the report.

@@ -2,9 +2,9 @@
 use mathlib.Core.Bool.{Bool, true, false, _&&_}
 use mathlib.Core.Option.{Option, none, some}
 use mathlib.Core.List.{List, [], _∷_, _++_, map}
-use Prim.Native.Nat.{ℕ, zero, suc}
+use Prim.Native.Nat.{ℕ}
 use lib.Dec.{leb}
-use lib.ListN.{length, take, drop}
+use lib.ListN.{length}
 use Rattle.forms.specs.Edition.{Edition, edition, newestEdition}
 use Rattle.forms.specs.Forms.{lines}
 use Rattle.calculus.specs.Rules.{CloseNumber, Entry, row}

@@ -23,7 +23,7 @@ use Rattle.shortening.specs.Needed.{markOf}
 use Rattle.shortening.specs.Passes.{Backward, cleared, making, branching, closing, top, pop, pushed, backward, reportOn, Start, noStart, branchStart}
 use Rattle.shortening_stack.specs.declared.Outline.{Outline}
 use Rattle.shortening_stack.specs.Outline.{outlineOf, outlineBy, LaidBy}
-use Rattle.shortening_stack.specs.Stack.{stackOf, Alive, Same, Bound, linesAfter, openedAfter, MovedOn}
+use Rattle.shortening_stack.specs.Stack.{stackOf, Alive, SameBelow, Bound, linesAfter, openedAfter, MovedOn}
 use Rattle.shortening_stack.proofs.Outlines.{outline-is, laid-by}
 use Rattle.shortening_stack.proofs.Stacks.{same-self, same-set}
 use Rattle.shortening_marks.specs.Marks.{Marking, beforeIn, firstIn, secondIn, classIn, RowOf, making2, rowBack, rowIn, backIn, Markable, MarkedFrom}
@@ -160,7 +160,7 @@ pub record Gathering (p : List ℕ) (at e K n : ℕ) (gathered₀ steps₀ gathe
   pub below : (r : ℕ) → r < rows → beforeIn (getD gathered r 0) ≤ n + r
   pub gathered-length : length gathered ≡ length gathered₀
   pub steps-length : length steps ≡ length steps₀
-  pub rest : (ws : List ℕ) (left : ℕ) → Same rows ws gathered → SameBack (backIn ws left rows) (backward es lines (startsOf steps depth)) → SameBack (backIn ws (rows + left) 0) (backward (able .es) n [])
+  pub rest : (ws : List ℕ) (left : ℕ) → SameBelow rows ws gathered → SameBack (backIn ws left rows) (backward es lines (startsOf steps depth)) → SameBack (backIn ws (rows + left) 0) (backward (able .es) n [])
 
 pub gathering-start : {p : List ℕ} {at e K n : ℕ} {gathered steps : List ℕ} → Gatherable e K (fieldsAt p at) n gathered steps → Gathering p at e K n gathered steps gathered steps at n 0 0
 gathering-start {n = n} a = record {
@@ -178,10 +178,10 @@ gathering-start {n = n} a = record {
   rest = λ ws left s h. subst (λ (m : ℕ). SameBack (backIn ws m 0) (backward (a .es) n [])) (let z : left ≡ 0 + left = omega arith in z) h;
 }
 
-same-before : (d : ℕ) (xs ys : List ℕ) (x : ℕ) → Same (d + 1) xs (set ys d x) → Same d xs ys
+same-before : (d : ℕ) (xs ys : List ℕ) (x : ℕ) → SameBelow (d + 1) xs (set ys d x) → SameBelow d xs ys
 same-before d xs ys x s = record { same = λ i h. s .same i (omega (arith, h)) ∙ same-set d ys x .same i h }
 
-at-last : (d : ℕ) (xs ys : List ℕ) (x : ℕ) → d < length ys → Same (d + 1) xs (set ys d x) → getD xs d 0 ≡ x
+at-last : (d : ℕ) (xs ys : List ℕ) (x : ℕ) → d < length ys → SameBelow (d + 1) xs (set ys d x) → getD xs d 0 ≡ x
 at-last d xs ys x h s = s .same d (omega arith) ∙ getD-set-same ys d x 0 h
 
 below-set : (gathered : List ℕ) (rows word n : ℕ) → rows < length gathered → beforeIn word ≤ n + rows → ((r : ℕ) → r < rows → beforeIn (getD gathered r 0) ≤ n + r) → (r : ℕ) → r < rows + 1 → beforeIn (getD (set gathered rows word) r 0) ≤ n + r
@@ -279,7 +279,7 @@ module _ {p : List ℕ} {at e K n : ℕ} {gathered₀ steps₀ gathered steps : 
 
         module _ {word : ℕ} {steps′ : List ℕ} {lines′ kept′ depth′ : ℕ} (u : RowOf x lines word) (w : MovedOn (x .class) (x .come) lines 0 depth steps steps′ lines′ kept′ depth′) where
           -- what follows the row, and then the row
-          row-back : (ws : List ℕ) (left : ℕ) → Same (rows + 1) ws (set gathered rows word)
+          row-back : (ws : List ℕ) (left : ℕ) → SameBelow (rows + 1) ws (set gathered rows word)
               → SameBack (backIn ws left (rows + 1)) (backward (head .others) lines′ (startsOf steps′ depth′)) → SameBack (backIn ws (suc left) rows) (backward (v .es) lines (startsOf steps depth))
           row-back ws left s b =
               let y = head .y in

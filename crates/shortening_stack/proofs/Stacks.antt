@@ -9,22 +9,22 @@ use lib.ListN.{length, getD, set, length-set}
 use lib.Seq.{getD-set-same, getD-set-other}
 use borrow.Author.Tests.{eqb-true, eqb-false}
 use Rattle.shortening.specs.Passes.{top, pop, pushed, Start, noStart, branchStart}
-use Rattle.shortening_stack.specs.Stack.{stepOf, startIn, leftIn, stackOf, Alive, Same, topOf, Bound, Pushed, Closed, linesAfter, keptAfter, openedAfter, MovedOn}
+use Rattle.shortening_stack.specs.Stack.{stepOf, startIn, leftIn, stackOf, Alive, SameBelow, topOf, Bound, Pushed, Popped, linesAfter, keptAfter, openedAfter, MovedOn}
 
-same-less : {d : ℕ} {xs ys : List ℕ} → Same (suc d) xs ys → Same d xs ys
+same-less : {d : ℕ} {xs ys : List ℕ} → SameBelow (suc d) xs ys → SameBelow d xs ys
 same-less s = record { same = λ i h. s .same i (omega (arith, h)) }
 
 -- what the stack is goes by its first d numbers
-same-stack : (steps steps′ : List ℕ) (d : ℕ) → Same d steps′ steps → stackOf steps′ d ≡ stackOf steps d
+same-stack : (steps steps′ : List ℕ) (d : ℕ) → SameBelow d steps′ steps → stackOf steps′ d ≡ stackOf steps d
 same-stack steps steps′ zero s = refl
 same-stack steps steps′ (suc d) s =
     ap₂ (λ (x : ℕ) (ss : List Start). pushed (leftIn x) (startIn x) ss) (s .same d (omega arith)) (same-stack steps steps′ d (same-less s))
 
-pub same-self : (d : ℕ) (xs : List ℕ) → Same d xs xs
+pub same-self : (d : ℕ) (xs : List ℕ) → SameBelow d xs xs
 same-self d xs = record { same = λ i h. refl }
 
 -- a store at d
-pub same-set : (d : ℕ) (xs : List ℕ) (x : ℕ) → Same d (set xs d x) xs
+pub same-set : (d : ℕ) (xs : List ℕ) (x : ℕ) → SameBelow d (set xs d x) xs
 same-set d xs x = record { same = λ i h. getD-set-other xs d i x 0 (λ e. absurd (let z : ⊥ = omega (arith, h, e) in z)) }
 
 stack-set : (steps : List ℕ) (d x : ℕ) → d < length steps → stackOf (set steps d x) (suc d) ≡ pushed (leftIn x) (startIn x) (stackOf steps d)
@@ -84,10 +84,10 @@ pushed-some steps d lines kept left h l k e =
     subst (λ (n : ℕ). Pushed steps d lines kept left (set steps d x) n) one on
 
 -- ---- one less
-pub closed-none : (steps : List ℕ) (d : ℕ) → d ≡ 0 → Closed steps d steps 0 0 d
-closed-none steps d e =
-    let on : Closed steps 0 steps 0 0 0 = record { is = λ a. refl; lines-are = refl; kept-are = refl; alive = λ a. a; most = omega arith; bounded = λ b k. k; steps-length = refl } in
-    subst (λ (n : ℕ). Closed steps n steps 0 0 n) (sym e) on
+pub popped-none : (steps : List ℕ) (d : ℕ) → d ≡ 0 → Popped steps d steps 0 0 d
+popped-none steps d e =
+    let on : Popped steps 0 steps 0 0 0 = record { is = λ a. refl; lines-are = refl; kept-are = refl; alive = λ a. a; most = omega arith; bounded = λ b k. k; steps-length = refl } in
+    subst (λ (n : ℕ). Popped steps n steps 0 0 n) (sym e) on
 
 times-one : (n : ℕ) (x : Start) (xs : List Start) → n ≡ 1 → xs ≡ pop (pushed n x xs)
 times-one n x xs h = sym (ap (λ (m : ℕ). pop (pushed m x xs)) h)
@@ -96,8 +96,8 @@ times-less : (n : ℕ) (x : Start) (xs : List Start) → 1 < n → pushed (n - 1
 times-less zero x xs h = absurd (omega (arith, h))
 times-less (suc n) x xs h = ap (λ (m : ℕ). pushed m x xs) (let z : suc n - 1 ≡ n = omega arith in z)
 
-closed-last : (steps : List ℕ) (d : ℕ) → leftIn (getD steps d 0) ≤ 1 → Closed steps (suc d) steps (getD steps d 0 % 0x1_0000) (getD steps d 0 / 0x1_0000 % 0x1_0000) d
-closed-last steps d h = record {
+popped-last : (steps : List ℕ) (d : ℕ) → leftIn (getD steps d 0) ≤ 1 → Popped steps (suc d) steps (getD steps d 0 % 0x1_0000) (getD steps d 0 / 0x1_0000 % 0x1_0000) d
+popped-last steps d h = record {
   is = λ a. times-one (leftIn (getD steps d 0)) (startIn (getD steps d 0)) (stackOf steps d) (omega (arith, h, a .alive d (omega arith)));
   lines-are = refl;
   kept-are = refl;
@@ -107,9 +107,9 @@ closed-last steps d h = record {
   steps-length = refl;
 }
 
-closed-one : (steps : List ℕ) (d : ℕ) → d < length steps → 1 < leftIn (getD steps d 0)
-    → Closed steps (suc d) (set steps d (getD steps d 0 - 0x1_0000_0000)) (getD steps d 0 % 0x1_0000) (getD steps d 0 / 0x1_0000 % 0x1_0000) (suc d)
-closed-one steps d h k =
+popped-one : (steps : List ℕ) (d : ℕ) → d < length steps → 1 < leftIn (getD steps d 0)
+    → Popped steps (suc d) (set steps d (getD steps d 0 - 0x1_0000_0000)) (getD steps d 0 % 0x1_0000) (getD steps d 0 / 0x1_0000 % 0x1_0000) (suc d)
+popped-one steps d h k =
     let s = getD steps d 0 in
     let left-is : leftIn (s - 0x1_0000_0000) ≡ leftIn s - 1 = omega (arith, k) in
     let lines-are : (s - 0x1_0000_0000) % 0x1_0000 ≡ s % 0x1_0000 = omega (arith, k) in
@@ -130,17 +130,17 @@ closed-one steps d h k =
 
 -- the last index, as the code has it
 pub close-last : (steps : List ℕ) (d : ℕ) → ¬ (d ≡ 0) → leftIn (getD steps (d - 1) 0) ≤ 1
-    → Closed steps d steps (getD steps (d - 1) 0 % 0x1_0000) (getD steps (d - 1) 0 / 0x1_0000 % 0x1_0000) (d - 1)
+    → Popped steps d steps (getD steps (d - 1) 0 % 0x1_0000) (getD steps (d - 1) 0 / 0x1_0000 % 0x1_0000) (d - 1)
 close-last steps d h k =
     let e : suc (d - 1) ≡ d = omega (arith, h) in
-    subst (λ (m : ℕ). Closed steps m steps (getD steps (d - 1) 0 % 0x1_0000) (getD steps (d - 1) 0 / 0x1_0000 % 0x1_0000) (d - 1)) e (closed-last steps (d - 1) k)
+    subst (λ (m : ℕ). Popped steps m steps (getD steps (d - 1) 0 % 0x1_0000) (getD steps (d - 1) 0 / 0x1_0000 % 0x1_0000) (d - 1)) e (popped-last steps (d - 1) k)
 
 pub close-one : (steps : List ℕ) (d : ℕ) → ¬ (d ≡ 0) → d ≤ length steps → 1 < leftIn (getD steps (d - 1) 0)
-    → Closed steps d (set steps (d - 1) (getD steps (d - 1) 0 - 0x1_0000_0000)) (getD steps (d - 1) 0 % 0x1_0000) (getD steps (d - 1) 0 / 0x1_0000 % 0x1_0000) d
+    → Popped steps d (set steps (d - 1) (getD steps (d - 1) 0 - 0x1_0000_0000)) (getD steps (d - 1) 0 % 0x1_0000) (getD steps (d - 1) 0 / 0x1_0000 % 0x1_0000) d
 close-one steps d h l k =
     let e : suc (d - 1) ≡ d = omega (arith, h) in
-    subst (λ (m : ℕ). Closed steps m (set steps (d - 1) (getD steps (d - 1) 0 - 0x1_0000_0000)) (getD steps (d - 1) 0 % 0x1_0000) (getD steps (d - 1) 0 / 0x1_0000 % 0x1_0000) m) e
-    (closed-one steps (d - 1) (omega (arith, h, l)) k)
+    subst (λ (m : ℕ). Popped steps m (set steps (d - 1) (getD steps (d - 1) 0 - 0x1_0000_0000)) (getD steps (d - 1) 0 % 0x1_0000) (getD steps (d - 1) 0 / 0x1_0000 % 0x1_0000) m) e
+    (popped-one steps (d - 1) (omega (arith, h, l)) k)
 
 -- ---- the top
 top-is : (steps : List ℕ) (d : ℕ) → Alive steps d → top noStart (stackOf steps d) ≡ topOf steps d
@@ -199,7 +199,7 @@ closing-opened zero come lines kept opened e f = absurd (e refl)
 closing-opened (suc zero) come lines kept opened e f = absurd (f refl)
 closing-opened (suc (suc c)) come lines kept opened e f = refl
 
-pub advanced-closes : (class come lines kept d : ℕ) (steps : List ℕ) {steps′ : List ℕ} {l m d′ : ℕ} → ¬ (class ≡ 0) → ¬ (class ≡ 1) → Closed steps d steps′ l m d′
+pub advanced-closes : (class come lines kept d : ℕ) (steps : List ℕ) {steps′ : List ℕ} {l m d′ : ℕ} → ¬ (class ≡ 0) → ¬ (class ≡ 1) → Popped steps d steps′ l m d′
     → MovedOn class come lines kept d steps steps′ l m d′
 advanced-closes class come lines kept d steps e f p = record {
   is = λ a. p .is a ∙ sym (closing-opened class come lines kept (stackOf steps d) e f);

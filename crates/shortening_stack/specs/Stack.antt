@@ -25,7 +25,7 @@ pub record Alive (steps : List ℕ) (d : ℕ) : Type 0 where
   pub alive : (i : ℕ) → i < d → 1 ≤ leftIn (getD steps i 0)
 
 -- Below d both lists are the same.
-pub record Same (d : ℕ) (xs ys : List ℕ) : Type 0 where
+pub record SameBelow (d : ℕ) (xs ys : List ℕ) : Type 0 where
   pub same : (i : ℕ) → i < d → getD xs i 0 ≡ getD ys i 0
 
 abbrev pub topOf : List ℕ → ℕ → Start
@@ -45,7 +45,7 @@ pub record Pushed (steps : List ℕ) (d lines kept left : ℕ) (steps′ : List 
   pub steps-length : length steps′ ≡ length steps
 
 -- A branch of the step on top is taken away: with how many lines it starts, and how many of them are kept.
-pub record Closed (steps : List ℕ) (d : ℕ) (steps′ : List ℕ) (lines kept d′ : ℕ) : Type 0 where
+pub record Popped (steps : List ℕ) (d : ℕ) (steps′ : List ℕ) (lines kept d′ : ℕ) : Type 0 where
   pub is : Alive steps d → stackOf steps′ d′ ≡ pop (stackOf steps d)
   pub lines-are : lines ≡ topOf steps d .lines
   pub kept-are : kept ≡ topOf steps d .kept

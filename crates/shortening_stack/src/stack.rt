@@ -1,11 +1,10 @@
 // The branches to come, innermost first: for each branching step that has some, one number.
 // specs/Stack.antt has what stands in it.
-ghost use mathlib.Core.Path.{_≡_};
 ghost use Prim.Native.Nat.{_<_, _≤_};
 use crate::BRANCHES;
 use crate::MAKES;
 ghost use lib.ListN.{length};
-ghost use Rattle.shortening_stack.specs.Stack.{Pushed, Closed, MovedOn};
+ghost use Rattle.shortening_stack.specs.Stack.{Pushed, Popped, MovedOn};
 
 // In a step: with how many lines its branches start, in the two low bytes; how many of these are kept, in the next two; and how
 // many branches are to come.
@@ -26,19 +25,19 @@ fn push(steps: &mut [u64], depth: usize, lines: u16, kept: u16, left: u16) -> us
 }
 
 // How many lines stand on the branch, how many of them are kept, and how many steps have branches to come.
-pub struct Moved {
+pub struct Standing {
     pub lines: u16,
     pub kept: u16,
     pub depth: usize,
 }
 
 // A branch ends, and the next one to come starts; none is to come, and none has lines, where there is no step.
-fn end_branch(steps: &mut [u64], depth: usize) -> Moved
+fn end_branch(steps: &mut [u64], depth: usize) -> Standing
     requires { ⌜ depth ≤ length (now steps) ⌝ }
-    ensures { λ r. ⌜ Closed (now (steps .entry)) depth (now (steps .exit)) (r .lines) (r .kept) (r .depth) ⌝ }
+    ensures { λ r. ⌜ Popped (now (steps .entry)) depth (now (steps .exit)) (r .lines) (r .kept) (r .depth) ⌝ }
 {
     if depth == 0 {
-        return Moved {
+        return Standing {
             lines: 0,
             kept: 0,
             depth,
@@ -49,14 +48,14 @@ fn end_branch(steps: &mut [u64], depth: usize) -> Moved
     let lines = (step % KEPT) as u16;
     let kept = (step / KEPT % KEPT) as u16;
     if step / LEFT <= 1 {
-        return Moved {
+        return Standing {
             lines,
             kept,
             depth: last,
         };
     }
     steps[last] = step - LEFT;
-    Moved { lines, kept, depth }
+    Standing { lines, kept, depth }
 }
 
 // A row that stays goes by: one more line, one more step, or the end of a branch.
@@ -67,12 +66,12 @@ pub fn advance(
     kept: u16,
     depth: usize,
     steps: &mut [u64],
-) -> Moved
+) -> Standing
     requires { ⌜ (lines < 0xFFFF) × (kept < 0xFFFF) × (depth < length (now steps)) ⌝ }
     ensures { λ r. ⌜ MovedOn class come lines kept depth (now (steps .entry)) (now (steps .exit)) (r .lines) (r .kept) (r .depth) ⌝ }
 {
     if class == MAKES {
-        return Moved {
+        return Standing {
             lines: lines + 1,
             kept: kept + 1,
             depth,
@@ -80,7 +79,7 @@ pub fn advance(
     }
     if class == BRANCHES {
         let more = push(steps, depth, lines + 1, kept + 1, come);
-        return Moved {
+        return Standing {
             lines: lines + 1,
             kept: kept + 1,
             depth: more,

@@ -12,7 +12,7 @@ use Rattle.fields.specs.Fields.{Field, Fields}
 use Rattle.fields.specs.Places.{fieldsAt}
 use Rattle.fields.proofs.Places.{Starts, starts-size}
 use Rattle.shortening.specs.Passes.{top, pop, isKept}
-use Rattle.shortening_table.specs.Table.{rowFields, bytesFrom, Countable}
+use Rattle.shortening_table.specs.Table.{rowFields, bytesFrom, ReportCovers}
 
 pub kept-test : (n : ℕ) → isKept n ≡ not (eqb n 0)
 kept-test zero = refl
@@ -25,7 +25,7 @@ pub record CountingBytes (p : List ℕ) (at : ℕ) (report : List ℕ) (here row
   pub few : bytes ≤ here
   pub within : bytes ≤ length p
 
-pub counting-start : {p : List ℕ} {at : ℕ} {report : List ℕ} → Countable (fieldsAt p at) report → CountingBytes p at report at 0 true 0
+pub counting-start : {p : List ℕ} {at : ℕ} {report : List ℕ} → ReportCovers (fieldsAt p at) report → CountingBytes p at report at 0 true 0
 counting-start c = record { is = omega arith; room = omega (arith, c .room); few = omega arith; within = omega arith }
 
 module _ {p : List ℕ} {at : ℕ} {report : List ℕ} {here rows : ℕ} {stays : Bool} {bytes : ℕ} (v : CountingBytes p at report here rows stays bytes) where

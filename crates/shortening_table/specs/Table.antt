@@ -26,7 +26,7 @@ bytesFrom (f ▸ fs) reported b =
     (cond (isKept (top 0 reported)) (3 + length (f .contents)) 0 + bytesFrom fs (pop reported) (isKept (top 0 reported)))
 
 -- The report has a byte for each row.
-pub record Countable (fs : Fields) (report : List ℕ) : Type 0 where
+pub record ReportCovers (fs : Fields) (report : List ℕ) : Type 0 where
   pub room : rowFields fs ≤ length report
 
 -- ---- new line numbers

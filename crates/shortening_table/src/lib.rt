@@ -19,12 +19,12 @@ ghost use Prim.Native.Nat.{_+_, _-_, _≤_, _<_};
 ghost use lib.ListN.{length, getD};
 ghost use lib.Seq.{sets};
 ghost use Rattle.forms.specs.Edition.{edition};
-ghost use Rattle.shortening_table.specs.Table.{Countable, bytesFrom, Fewer, renewed, Puttable, PutField, Keepable, PutKept};
+ghost use Rattle.shortening_table.specs.Table.{ReportCovers, bytesFrom, Fewer, renewed, Puttable, PutField, Keepable, PutKept};
 ghost use Rattle.shortening_table.specs.Written.{TableWritable, tableFrom};
 
 // How many bytes the fields from a place on have that stay.
 pub fn table_bytes(p: &[u8], at: usize, report: &[u8]) -> usize
-    requires { ⌜ Countable (fieldsAt (now p) at) (now report) ⌝ }
+    requires { ⌜ ReportCovers (fieldsAt (now p) at) (now report) ⌝ }
     ensures is { λ r. ⌜ r ≡ bytesFrom (fieldsAt (now (p .entry)) at) (now (report .entry)) true ⌝ }
     ensures within { λ r. ⌜ r ≤ length (now (p .entry)) ⌝ }
 {

@@ -1,6 +1,6 @@
 -- `enumeration_rows::infer::infer` meets its contract. Assumes nothing.
 use Rattle.enumeration.specs.Numbering.{inferenceCount}
-use Rattle.enumeration_rows.proofs.Inferred.{as-counted, below-counted, infers-made, infers-refused}
+use Rattle.enumeration_rows.proofs.Inferred.{as-tally, below-tally, infers-made, infers-refused}
 use borrow.Author.Needs.{needs}
 use Rattle.enumeration_rows.proofs.infer.infer.Statement.{statement}
 use Rattle.enumeration_rows.proofs.infer.infer.Tie as tie
@@ -9,7 +9,7 @@ tally-of-requires : tie.Need-tally-of-requires
 tally-of-requires c κs = search needs
 
 infer-tallied-requires : tie.Need-infer-tallied-requires
-infer-tallied-requires c κs = (as-counted (c .before .before .tally-of .ensures) (c .before .before .before .before .pre .0), below-counted (c .before .before .tally-of .ensures) (λ n. inferenceCount n) (c .before .before .before .before .pre .1))
+infer-tallied-requires c κs = (as-tally (c .before .before .tally-of .ensures) (c .before .before .before .before .pre .0), below-tally (c .before .before .tally-of .ensures) (λ n. inferenceCount n) (c .before .before .before .before .pre .1))
 
 enum-told : tie.Need-enum-told
 enum-told c = search needs

@@ -10,8 +10,8 @@ enum-known-cut c = search needs
 enum-known-others : tie.Need-enum-known-others
 enum-known-others c = search needs
 
-first-of-requires : tie.Need-first-of-requires
-first-of-requires c κs = search needs
+earlier-refusal-requires : tie.Need-earlier-refusal-requires
+earlier-refusal-requires c κs = search needs
 
 enum-told : tie.Need-enum-told
 enum-told c = search needs
@@ -40,7 +40,7 @@ both-fit-requires : tie.Need-both-fit-requires
 both-fit-requires c κs = search needs
 
 returns : tie.Need-returns
-returns c = rw (c .before .before .before .before .before .cut .given .1, c .before .before .others .given .1, c .first-of .ensures)
+returns c = rw (c .before .before .before .before .before .cut .given .1, c .before .before .others .given .1, c .earlier-refusal .ensures)
 
 returns-2 : tie.Need-returns-2
 returns-2 c = rw (c .before .before .before .cut .given .1, c .enum-told .given .1)
@@ -52,4 +52,4 @@ returns-4 : tie.Need-returns-4
 returns-4 c = rw (c .before .before .before .before .before .cut2 .given .1, c .before .before .others3 .given .1, c .both-fit .ensures)
 
 pub joined-spec : {M : Type 1} → statement M
-joined-spec = tie.close (tie.spec enum-known-cut enum-known-others first-of-requires enum-told enum-known-cut-2 enum-known-others-2 enum-known-others-3 add-size add-all both-fit-requires returns returns-2 returns-3 returns-4)
+joined-spec = tie.close (tie.spec enum-known-cut enum-known-others earlier-refusal-requires enum-told enum-known-cut-2 enum-known-others-2 enum-known-others-3 add-size add-all both-fit-requires returns returns-2 returns-3 returns-4)

@@ -9,8 +9,8 @@ enum-known-walked c = search needs
 enum-known-all : tie.Need-enum-known-all
 enum-known-all c = search needs
 
-first-of-requires : tie.Need-first-of-requires
-first-of-requires c κs = search needs
+earlier-refusal-requires : tie.Need-earlier-refusal-requires
+earlier-refusal-requires c κs = search needs
 
 enum-told : tie.Need-enum-told
 enum-told c = search needs
@@ -19,7 +19,7 @@ enum-told-2 : tie.Need-enum-told-2
 enum-told-2 c = search needs
 
 returns : tie.Need-returns
-returns c = rw (c .before .before .before .before .before .walked .given .1, c .before .before .all .given .1, c .first-of .ensures)
+returns c = rw (c .before .before .before .before .before .walked .given .1, c .before .before .all .given .1, c .earlier-refusal .ensures)
 
 returns-2 : tie.Need-returns-2
 returns-2 c = rw (c .before .before .before .walked .given .1, c .enum-told .given .1)
@@ -28,4 +28,4 @@ returns-3 : tie.Need-returns-3
 returns-3 c = rw (c .enum-told2 .given .1)
 
 pub judged-spec : {M : Type 1} → statement M
-judged-spec = tie.close (tie.spec enum-known-walked enum-known-all first-of-requires enum-told enum-told-2 returns returns-2 returns-3)
+judged-spec = tie.close (tie.spec enum-known-walked enum-known-all earlier-refusal-requires enum-told enum-told-2 returns returns-2 returns-3)

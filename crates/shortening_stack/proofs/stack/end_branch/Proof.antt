@@ -1,12 +1,12 @@
 -- `shortening_stack::stack::end_branch` meets its contract. Assumes nothing.
 use native.Mathlib.Omega.{arith}
-use Rattle.shortening_stack.proofs.Stacks.{closed-none, close-last, close-one}
+use Rattle.shortening_stack.proofs.Stacks.{popped-none, close-last, close-one}
 use borrow.Author.Needs.{needs}
 use Rattle.shortening_stack.proofs.stack.end_branch.Statement.{statement}
 use Rattle.shortening_stack.proofs.stack.end_branch.Tie as tie
 
 returns : tie.Need-returns
-returns c = closed-none (c .before .args .steps .now) (c .before .args .depth) (c .if1 .taken)
+returns c = popped-none (c .before .args .steps .now) (c .before .args .depth) (c .if1 .taken)
 
 sub-last : tie.Need-sub-last
 sub-last c = search needs
