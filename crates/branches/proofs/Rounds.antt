@@ -29,7 +29,7 @@ use Rattle.lines.proofs.Keeping.{kept-refl, kept-trans}
 use Rattle.tally.specs.declared.Tally.{Tally}
 use Rattle.entries.specs.Entries.{Multiplies}
 use Rattle.closes.proofs.Ending.{divisor}
-use Rattle.openings.specs.Opening.{inTurn, startOf, fromBranch, Longer, RoundsBy, strideOf, RoundedStarts}
+use Rattle.openings.specs.Opening.{inTurn, startOf, fromBranch, Longer, RoundsBy, stridePart, RoundedStarts}
 use Rattle.openings.proofs.Starting.{starts, start-form, start-numbered}
 use Rattle.branches.specs.Spare.{unreadBytes}
 use Rattle.branches.specs.Branching.{keptBack, Started, deeper, ChecksBranch, Opened, OpenedChecked, RoundedChecked}
@@ -49,7 +49,7 @@ last-bytes E f = refl
 -- ---- the branches from j on, by that of j and the others
 module _ (branch : Checker) (ls : List Line) (l : Line) (step g by j rows : ℕ) (fs : Fields) where
   abbrev moreFrom : Result Closing
-  moreFrom = inTurn (λ f g′. (strideOf g j l and f) or g′) (branch (position step (j + 1)) rows (ls ▷ startOf by j l) fs) (λ rows fs. fromBranch g by (j + 1) branch ls l step rows fs)
+  moreFrom = inTurn (λ f g′. (stridePart g j l and f) or g′) (branch (position step (j + 1)) rows (ls ▷ startOf by j l) fs) (λ rows fs. fromBranch g by (j + 1) branch ls l step rows fs)
 
   more-is : j + 1 < by → fromBranch g by j branch ls l step rows fs ≡ moreFrom
   unfolding checkRounded
@@ -58,7 +58,7 @@ module _ (branch : Checker) (ls : List Line) (l : Line) (step g by j rows : ℕ)
       rw (add-one, z)
 
   abbrev lastFrom : Result Closing
-  lastFrom = branch (position step (j + 1)) rows (ls ▷ startOf by j l) fs >>= λ x. accepted (record { formula = strideOf g j l and x .formula; rows = x .rows; after = x .after })
+  lastFrom = branch (position step (j + 1)) rows (ls ▷ startOf by j l) fs >>= λ x. accepted (record { formula = stridePart g j l and x .formula; rows = x .rows; after = x .after })
 
   last-is : by ≤ j + 1 → fromBranch g by j branch ls l step rows fs ≡ lastFrom
   unfolding checkRounded
@@ -81,13 +81,13 @@ module _ {K n by : ℕ} {p : List ℕ} {kinds : List ℕ} {buf : List ℤ} {t : 
     own : Longer (t .edition) K kinds buf n (startOf by j (lineIn K kinds buf i)) kinds₁ buf₁
     own = starts (d .ready) (d .space) rounded-start 0 (omega arith) inequality-byte (h .line) (h .kind)
 
-    own-short : length (encode edition1 (strideOf g j (lineIn K kinds buf i))) ≤ 75
+    own-short : length (encode edition1 (stridePart g j (lineIn K kinds buf i))) ≤ 75
     own-short =
         let f : Numbered K buf₁ (n * size K + (K + 1)) = start-numbered rounded-start (h .line) (omega arith) in
         subst (λ (f : Form). length (encode edition1 (g divides reduced g f)) ≤ 75) (start-form rounded-start kinds (h .line)) (omega (arith, stride-size f g, f .constants))
 
     short : o₁ ≤ o + keptBack
-    short = omega (arith, h .front .o-is, front-size others (strideOf g j (lineIn K kinds buf i)), or-size others, own-short)
+    short = omega (arith, h .front .o-is, front-size others (stridePart g j (lineIn K kinds buf i)), or-size others, own-short)
 
     pub rounded-started : Started K kinds₁ buf₁ t p at o₁
     rounded-started = own-started d own short
@@ -97,7 +97,7 @@ module _ {K n by : ℕ} {p : List ℕ} {kinds : List ℕ} {buf : List ℤ} {t : 
         -- No others follow.
         last-checks : others ≡ false → by ≤ j + 1 → OpenedChecked 3 (fromBranch g by j) K step n p at kinds buf t i scratch o kinds₂ buf₂ scratch₂ r
         last-checks e q =
-            let E = strideOf g j (lineIn K kinds buf i) in
+            let E = stridePart g j (lineIn K kinds buf i) in
             let h′ = rw e at (h .front) in
             checked-as (last-is (deeper K t) (linesIn K kinds buf n) (lineIn K kinds buf i) step g by j (t .rows .0) (fieldsAt p at) q)
             (alone-checks h′ keptBack (λ f. E and f) (last-bytes E) 3 (omega (arith, front-size false E, own-short)) (own-checked d own short (position step (j + 1)) b))
@@ -107,13 +107,13 @@ module _ {K n by : ℕ} {p : List ℕ} {kinds : List ℕ} {buf : List ℤ} {t : 
 
         -- Others follow.
         module _ (e : others ≡ true) (q : j + 1 < by) where
-          more : Stores scratch o (frontBytes true (strideOf g j (lineIn K kinds buf i))) scratch₁ o₁
+          more : Stores scratch o (frontBytes true (stridePart g j (lineIn K kinds buf i))) scratch₁ o₁
           more = rw e at (h .front)
 
           more-fault : {x : ℕ} {rows : RowNumber} {pl : Position} {z : ℕ} → r ≡ branched.Fault x rows pl z → OpenedChecked 3 (fromBranch g by j) K step n p at kinds buf t i scratch o kinds₂ buf₂ scratch₂ r
           more-fault y =
               checked-as (more-is (deeper K t) (linesIn K kinds buf n) (lineIn K kinds buf i) step g by j (t .rows .0) (fieldsAt p at) q)
-              (in-turn-fault more keptBack (λ f g′. (strideOf g j (lineIn K kinds buf i) and f) or g′) (more-bytes (strideOf g j (lineIn K kinds buf i)))
+              (in-turn-fault more keptBack (λ f g′. (stridePart g j (lineIn K kinds buf i) and f) or g′) (more-bytes (stridePart g j (lineIn K kinds buf i)))
               (λ rows fs. fromBranch g by (j + 1) (deeper K t) (linesIn K kinds buf n) (lineIn K kinds buf i) step rows fs) (own-checked d own short (position step (j + 1)) b) 3 y)
 
           more-kept : LinesKept K n kinds buf kinds₂ buf₂
@@ -129,7 +129,7 @@ module _ {K n by : ℕ} {p : List ℕ} {kinds : List ℕ} {buf : List ℤ} {t : 
             more-checks : {kinds₃ : List ℕ} {buf₃ : List ℤ} {scratch₃ : List ℕ} {r′ : Branched} → OpenedChecked 3 (fromBranch g by (j + 1)) K step n p a kinds₂ buf₂ t₁ i scratch₂ o₂ kinds₃ buf₃ scratch₃ r′
                 → OpenedChecked 3 (fromBranch g by j) K step n p at kinds buf t i scratch o kinds₃ buf₃ scratch₃ r′
             more-checks x =
-                let E = strideOf g j (lineIn K kinds buf i) in
+                let E = stridePart g j (lineIn K kinds buf i) in
                 checked-as (more-is (deeper K t) (linesIn K kinds buf n) (lineIn K kinds buf i) step g by j (t .rows .0) (fieldsAt p at) q)
                 (in-turn-checks more keptBack (λ f g′. (E and f) or g′) (more-bytes E)
                 (λ rows fs. fromBranch g by (j + 1) (deeper K t) (linesIn K kinds buf n) (lineIn K kinds buf i) step rows fs) (own-checked d own short (position step (j + 1)) b) 3 3
