@@ -1,5 +1,5 @@
 -- The branches of a rounding from j on. Assumes nothing.
-use mathlib.Core.Path.{_≡_, refl, subst, _∙_}
+use mathlib.Core.Path.{_≡_, refl, sym, subst, _∙_}
 use mathlib.Core.Bool.{Bool, true, false}
 use mathlib.Core.List.{List, _++_}
 use Prim.Native.Nat.{ℕ, suc, _+_, _*_, _-_, _≤_, _<_}
@@ -7,9 +7,11 @@ use native.Mathlib.Numerals.{add-one}
 use native.Mathlib.Omega.{arith}
 use lib.IntN.{ℤ, natAbs}
 use lib.ListN.{length}
-use Rattle.forms.specs.Edition.{edition1}
+use Rattle.forms.specs.Edition.{edition, edition1, newestEdition}
+use Rattle.forms.proofs.Editions.{lines-most}
 use Rattle.forms.specs.Forms.{Form, Line, Formula, _divides_, _and_, _or_}
 use Rattle.forms.specs.Reduced.{reduced}
+use Rattle.forms.specs.Flat.{formIn}
 use Rattle.forms.specs.declared.RowNumber.{RowNumber}
 use Rattle.calculus.specs.Rules.{_▷_}
 use Rattle.answers.specs.declared.Position.{Position}
@@ -18,17 +20,19 @@ use Rattle.number_bytes.specs.Numbers.{unsignedBytes}
 use Rattle.fields.specs.Fields.{Fields, fieldBytes}
 use Rattle.fields.specs.Places.{fieldsAt}
 use Rattle.formula.specs.Formula.{encode}
-use Rattle.formula_write.specs.Writing.{scratchLimit, Numbered, Divisor, Stores, frontBytes}
+use Rattle.formula_write.specs.Writing.{scratchLimit, Numbered, Divisor, Puts, Stores, frontBytes, StrideTemplate}
 use Rattle.formula_write.proofs.Written.{stride-size}
 use Rattle.formula_write.proofs.Storing.{or-size, front-size}
+use Rattle.formula_write.proofs.Templates.{stride-template}
 use Rattle.proof.specs.Check.{Closing, Checker, checkRounded}
 use Rattle.lines.specs.Buffer.{size, lineIn, linesIn, LineStart}
+use Rattle.lines.proofs.Lines.{line-same}
 use Rattle.lines.proofs.Branch.{inequality-byte}
 use Rattle.lines.specs.Ready.{LinesKept}
 use Rattle.lines.proofs.Keeping.{kept-refl, kept-trans}
 use Rattle.tally.specs.declared.Tally.{Tally}
 use Rattle.entries.specs.Entries.{Multiplies}
-use Rattle.closes.proofs.Ending.{divisor}
+use Rattle.closes.proofs.Ending.{numbered, divisor}
 use Rattle.openings.specs.Opening.{inTurn, startOf, fromBranch, Longer, RoundsBy, stridePart, RoundedStarts}
 use Rattle.openings.proofs.Starting.{starts, start-form, start-numbered}
 use Rattle.branches.specs.Spare.{unreadBytes}
@@ -66,12 +70,31 @@ module _ (branch : Checker) (ls : List Line) (l : Line) (step g by j rows : ℕ)
       let z : by - suc j ≡ 0 = omega arith in
       rw (add-one, z)
 
+-- ---- the template of line i's stride part, in an array of 75 bytes
+module _ {K n by : ℕ} {p : List ℕ} {kinds : List ℕ} {buf : List ℤ} {t : Tally} {i at o : ℕ} (d : Opened K n by by kinds buf t i p at o) where
+  pub template-place : (i ≤ edition newestEdition .lines) × (K ≤ edition1 .constants)
+  template-place = (omega (arith, d .line, d .space, lines-most (t .edition)), d .ready .branch .constants)
+
+  module _ {x : ℕ} (e : x ≡ i * size K + (K + 1)) where
+    pub template-asked : {z : ℤ} {by′ : ℕ} → Multiplies (natAbs z) z → RoundsBy (natAbs z) by′ → (Numbered K buf x × Divisor z) × (0 ≤ scratchLimit)
+    template-asked w q = ((numbered (d .ready) (d .line) e, divisor w (q .stride)), omega arith)
+
+    -- It is that of the same line in each turn.
+    pub template-kept : {g : ℕ} {out template : List ℕ} {r : ℕ} → length out ≡ 75 → Puts out 0 (g divides reduced g (formIn K buf x)) template r
+        → {kinds′ : List ℕ} {buf′ : List ℤ} → LinesKept K n kinds buf kinds′ buf′ → StrideTemplate K g (lineIn K kinds′ buf′ i .tA) template
+    unfolding lineIn
+    template-kept {g} {template = template} l h k =
+        let f = numbered (d .ready) (d .line) e in
+        let own : StrideTemplate K g (lineIn K kinds buf i .tA) template = rw e at (stride-template f (omega (arith, f .constants)) h) in
+        subst (λ (l : Line). StrideTemplate K g (l .tA) template) (sym (line-same K (k .lines-same) (k .kinds-same) i (d .line))) own
+
 -- ---- the branch of j
 module _ {K n by : ℕ} {p : List ℕ} {kinds : List ℕ} {buf : List ℤ} {t : Tally} {i at o : ℕ} (d : Opened K n by by kinds buf t i p at o) {j : ℕ} (hj : j < by) where
-  pub rounded-asked : {z : ℤ} {by′ : ℕ} → Multiplies (natAbs z) z → RoundsBy (natAbs z) by′ → (LineStart K buf i n by by × (n < length kinds) × (j < by)) × (Divisor z × (o + keptBack ≤ scratchLimit))
-  rounded-asked w q =
+  pub rounded-asked : {z : ℤ} {by′ : ℕ} → Multiplies (natAbs z) z → RoundsBy (natAbs z) by′ → {template : List ℕ} → StrideTemplate K (natAbs z) (lineIn K kinds buf i .tA) template
+      → (LineStart K buf i n by by × (n < length kinds) × (j < by)) × ((Divisor z × (o + keptBack ≤ scratchLimit)) × StrideTemplate K (natAbs z) (lineIn K kinds buf i .tA) template)
+  rounded-asked w q e =
       let s : LineStart K buf i n by by × (n < length kinds) = start-asked d (omega arith) (omega arith) in
-      ((s .0, s .1, hj), (divisor w (q .stride), room-left d))
+      ((s .0, s .1, hj), ((divisor w (q .stride), room-left d), e))
 
   rounded-start : LineStart K buf i n by j
   rounded-start = start-asked d {u = by} {w = j} (omega arith) (omega arith) .0
