@@ -1,5 +1,5 @@
 -- The branches of a rounding from j on. Assumes nothing.
-use mathlib.Core.Path.{_≡_, refl, subst, _∙_}
+use mathlib.Core.Path.{_≡_, refl, sym, subst, _∙_}
 use mathlib.Core.Bool.{Bool, true, false}
 use mathlib.Core.List.{List, _++_}
 use Prim.Native.Nat.{ℕ, suc, _+_, _*_, _-_, _≤_, _<_}
@@ -7,9 +7,11 @@ use native.Mathlib.Numerals.{add-one}
 use native.Mathlib.Omega.{arith}
 use lib.IntN.{ℤ, natAbs}
 use lib.ListN.{length}
-use Rattle.forms.specs.Edition.{edition1}
+use Rattle.forms.specs.Edition.{edition, edition1, newestEdition}
+use Rattle.forms.proofs.Editions.{lines-most}
 use Rattle.forms.specs.Forms.{Form, Line, Formula, _divides_, _and_, _or_}
 use Rattle.forms.specs.Reduced.{reduced}
+use Rattle.forms.specs.Flat.{formIn}
 use Rattle.forms.specs.declared.RowNumber.{RowNumber}
 use Rattle.calculus.specs.Rules.{_▷_}
 use Rattle.answers.specs.declared.Position.{Position}
@@ -18,18 +20,20 @@ use Rattle.number_bytes.specs.Numbers.{unsignedBytes}
 use Rattle.fields.specs.Fields.{Fields, fieldBytes}
 use Rattle.fields.specs.Places.{fieldsAt}
 use Rattle.formula.specs.Formula.{encode}
-use Rattle.formula_write.specs.Writing.{scratchLimit, Numbered, Divisor, Stores, frontBytes}
+use Rattle.formula_write.specs.Writing.{scratchLimit, Numbered, Divisor, Puts, Stores, frontBytes, StrideTemplate}
 use Rattle.formula_write.proofs.Written.{stride-size}
 use Rattle.formula_write.proofs.Storing.{or-size, front-size}
+use Rattle.formula_write.proofs.Templates.{stride-template}
 use Rattle.proof.specs.Check.{Closing, Checker, checkRounded}
 use Rattle.lines.specs.Buffer.{size, lineIn, linesIn, LineStart}
+use Rattle.lines.proofs.Lines.{line-same}
 use Rattle.lines.proofs.Branch.{inequality-byte}
 use Rattle.lines.specs.Ready.{LinesKept}
 use Rattle.lines.proofs.Keeping.{kept-refl, kept-trans}
 use Rattle.tally.specs.declared.Tally.{Tally}
 use Rattle.entries.specs.Entries.{Multiplies}
-use Rattle.closes.proofs.Ending.{divisor}
-use Rattle.openings.specs.Opening.{inTurn, startOf, fromBranch, Longer, RoundsBy, strideOf, RoundedStarts}
+use Rattle.closes.proofs.Ending.{numbered, divisor}
+use Rattle.openings.specs.Opening.{inTurn, startOf, fromBranch, Longer, RoundsBy, stridePart, RoundedStarts}
 use Rattle.openings.proofs.Starting.{starts, start-form, start-numbered}
 use Rattle.branches.specs.Spare.{unreadBytes}
 use Rattle.branches.specs.Branching.{keptBack, Started, deeper, ChecksBranch, Opened, OpenedChecked, RoundedChecked}
@@ -49,7 +53,7 @@ last-bytes E f = refl
 -- ---- the branches from j on, by that of j and the others
 module _ (branch : Checker) (ls : List Line) (l : Line) (step g by j rows : ℕ) (fs : Fields) where
   abbrev moreFrom : Result Closing
-  moreFrom = inTurn (λ f g′. (strideOf g j l and f) or g′) (branch (position step (j + 1)) rows (ls ▷ startOf by j l) fs) (λ rows fs. fromBranch g by (j + 1) branch ls l step rows fs)
+  moreFrom = inTurn (λ f g′. (stridePart g j l and f) or g′) (branch (position step (j + 1)) rows (ls ▷ startOf by j l) fs) (λ rows fs. fromBranch g by (j + 1) branch ls l step rows fs)
 
   more-is : j + 1 < by → fromBranch g by j branch ls l step rows fs ≡ moreFrom
   unfolding checkRounded
@@ -58,7 +62,7 @@ module _ (branch : Checker) (ls : List Line) (l : Line) (step g by j rows : ℕ)
       rw (add-one, z)
 
   abbrev lastFrom : Result Closing
-  lastFrom = branch (position step (j + 1)) rows (ls ▷ startOf by j l) fs >>= λ x. accepted (record { formula = strideOf g j l and x .formula; rows = x .rows; after = x .after })
+  lastFrom = branch (position step (j + 1)) rows (ls ▷ startOf by j l) fs >>= λ x. accepted (record { formula = stridePart g j l and x .formula; rows = x .rows; after = x .after })
 
   last-is : by ≤ j + 1 → fromBranch g by j branch ls l step rows fs ≡ lastFrom
   unfolding checkRounded
@@ -66,12 +70,31 @@ module _ (branch : Checker) (ls : List Line) (l : Line) (step g by j rows : ℕ)
       let z : by - suc j ≡ 0 = omega arith in
       rw (add-one, z)
 
+-- ---- the template of line i's stride part, in an array of 75 bytes
+module _ {K n by : ℕ} {p : List ℕ} {kinds : List ℕ} {buf : List ℤ} {t : Tally} {i at o : ℕ} (d : Opened K n by by kinds buf t i p at o) where
+  pub template-place : (i ≤ edition newestEdition .lines) × (K ≤ edition1 .constants)
+  template-place = (omega (arith, d .line, d .space, lines-most (t .edition)), d .ready .branch .constants)
+
+  module _ {x : ℕ} (e : x ≡ i * size K + (K + 1)) where
+    pub template-asked : {z : ℤ} {by′ : ℕ} → Multiplies (natAbs z) z → RoundsBy (natAbs z) by′ → (Numbered K buf x × Divisor z) × (0 ≤ scratchLimit)
+    template-asked w q = ((numbered (d .ready) (d .line) e, divisor w (q .stride)), omega arith)
+
+    -- It is that of the same line in each turn.
+    pub template-kept : {g : ℕ} {out template : List ℕ} {r : ℕ} → length out ≡ 75 → Puts out 0 (g divides reduced g (formIn K buf x)) template r
+        → {kinds′ : List ℕ} {buf′ : List ℤ} → LinesKept K n kinds buf kinds′ buf′ → StrideTemplate K g (lineIn K kinds′ buf′ i .tA) template
+    unfolding lineIn
+    template-kept {g} {template = template} l h k =
+        let f = numbered (d .ready) (d .line) e in
+        let own : StrideTemplate K g (lineIn K kinds buf i .tA) template = rw e at (stride-template f (omega (arith, f .constants)) h) in
+        subst (λ (l : Line). StrideTemplate K g (l .tA) template) (sym (line-same K (k .lines-same) (k .kinds-same) i (d .line))) own
+
 -- ---- the branch of j
 module _ {K n by : ℕ} {p : List ℕ} {kinds : List ℕ} {buf : List ℤ} {t : Tally} {i at o : ℕ} (d : Opened K n by by kinds buf t i p at o) {j : ℕ} (hj : j < by) where
-  pub rounded-asked : {z : ℤ} {by′ : ℕ} → Multiplies (natAbs z) z → RoundsBy (natAbs z) by′ → (LineStart K buf i n by by × (n < length kinds) × (j < by)) × (Divisor z × (o + keptBack ≤ scratchLimit))
-  rounded-asked w q =
+  pub rounded-asked : {z : ℤ} {by′ : ℕ} → Multiplies (natAbs z) z → RoundsBy (natAbs z) by′ → {template : List ℕ} → StrideTemplate K (natAbs z) (lineIn K kinds buf i .tA) template
+      → (LineStart K buf i n by by × (n < length kinds) × (j < by)) × ((Divisor z × (o + keptBack ≤ scratchLimit)) × StrideTemplate K (natAbs z) (lineIn K kinds buf i .tA) template)
+  rounded-asked w q e =
       let s : LineStart K buf i n by by × (n < length kinds) = start-asked d (omega arith) (omega arith) in
-      ((s .0, s .1, hj), (divisor w (q .stride), room-left d))
+      ((s .0, s .1, hj), ((divisor w (q .stride), room-left d), e))
 
   rounded-start : LineStart K buf i n by j
   rounded-start = start-asked d {u = by} {w = j} (omega arith) (omega arith) .0
@@ -81,13 +104,13 @@ module _ {K n by : ℕ} {p : List ℕ} {kinds : List ℕ} {buf : List ℤ} {t : 
     own : Longer (t .edition) K kinds buf n (startOf by j (lineIn K kinds buf i)) kinds₁ buf₁
     own = starts (d .ready) (d .space) rounded-start 0 (omega arith) inequality-byte (h .line) (h .kind)
 
-    own-short : length (encode edition1 (strideOf g j (lineIn K kinds buf i))) ≤ 75
+    own-short : length (encode edition1 (stridePart g j (lineIn K kinds buf i))) ≤ 75
     own-short =
         let f : Numbered K buf₁ (n * size K + (K + 1)) = start-numbered rounded-start (h .line) (omega arith) in
         subst (λ (f : Form). length (encode edition1 (g divides reduced g f)) ≤ 75) (start-form rounded-start kinds (h .line)) (omega (arith, stride-size f g, f .constants))
 
     short : o₁ ≤ o + keptBack
-    short = omega (arith, h .front .o-is, front-size others (strideOf g j (lineIn K kinds buf i)), or-size others, own-short)
+    short = omega (arith, h .front .o-is, front-size others (stridePart g j (lineIn K kinds buf i)), or-size others, own-short)
 
     pub rounded-started : Started K kinds₁ buf₁ t p at o₁
     rounded-started = own-started d own short
@@ -97,7 +120,7 @@ module _ {K n by : ℕ} {p : List ℕ} {kinds : List ℕ} {buf : List ℤ} {t : 
         -- No others follow.
         last-checks : others ≡ false → by ≤ j + 1 → OpenedChecked 3 (fromBranch g by j) K step n p at kinds buf t i scratch o kinds₂ buf₂ scratch₂ r
         last-checks e q =
-            let E = strideOf g j (lineIn K kinds buf i) in
+            let E = stridePart g j (lineIn K kinds buf i) in
             let h′ = rw e at (h .front) in
             checked-as (last-is (deeper K t) (linesIn K kinds buf n) (lineIn K kinds buf i) step g by j (t .rows .0) (fieldsAt p at) q)
             (alone-checks h′ keptBack (λ f. E and f) (last-bytes E) 3 (omega (arith, front-size false E, own-short)) (own-checked d own short (position step (j + 1)) b))
@@ -107,13 +130,13 @@ module _ {K n by : ℕ} {p : List ℕ} {kinds : List ℕ} {buf : List ℤ} {t : 
 
         -- Others follow.
         module _ (e : others ≡ true) (q : j + 1 < by) where
-          more : Stores scratch o (frontBytes true (strideOf g j (lineIn K kinds buf i))) scratch₁ o₁
+          more : Stores scratch o (frontBytes true (stridePart g j (lineIn K kinds buf i))) scratch₁ o₁
           more = rw e at (h .front)
 
           more-fault : {x : ℕ} {rows : RowNumber} {pl : Position} {z : ℕ} → r ≡ branched.Fault x rows pl z → OpenedChecked 3 (fromBranch g by j) K step n p at kinds buf t i scratch o kinds₂ buf₂ scratch₂ r
           more-fault y =
               checked-as (more-is (deeper K t) (linesIn K kinds buf n) (lineIn K kinds buf i) step g by j (t .rows .0) (fieldsAt p at) q)
-              (in-turn-fault more keptBack (λ f g′. (strideOf g j (lineIn K kinds buf i) and f) or g′) (more-bytes (strideOf g j (lineIn K kinds buf i)))
+              (in-turn-fault more keptBack (λ f g′. (stridePart g j (lineIn K kinds buf i) and f) or g′) (more-bytes (stridePart g j (lineIn K kinds buf i)))
               (λ rows fs. fromBranch g by (j + 1) (deeper K t) (linesIn K kinds buf n) (lineIn K kinds buf i) step rows fs) (own-checked d own short (position step (j + 1)) b) 3 y)
 
           more-kept : LinesKept K n kinds buf kinds₂ buf₂
@@ -129,7 +152,7 @@ module _ {K n by : ℕ} {p : List ℕ} {kinds : List ℕ} {buf : List ℤ} {t : 
             more-checks : {kinds₃ : List ℕ} {buf₃ : List ℤ} {scratch₃ : List ℕ} {r′ : Branched} → OpenedChecked 3 (fromBranch g by (j + 1)) K step n p a kinds₂ buf₂ t₁ i scratch₂ o₂ kinds₃ buf₃ scratch₃ r′
                 → OpenedChecked 3 (fromBranch g by j) K step n p at kinds buf t i scratch o kinds₃ buf₃ scratch₃ r′
             more-checks x =
-                let E = strideOf g j (lineIn K kinds buf i) in
+                let E = stridePart g j (lineIn K kinds buf i) in
                 checked-as (more-is (deeper K t) (linesIn K kinds buf n) (lineIn K kinds buf i) step g by j (t .rows .0) (fieldsAt p at) q)
                 (in-turn-checks more keptBack (λ f g′. (E and f) or g′) (more-bytes E)
                 (λ rows fs. fromBranch g by (j + 1) (deeper K t) (linesIn K kinds buf n) (lineIn K kinds buf i) step rows fs) (own-checked d own short (position step (j + 1)) b) 3 3

@@ -17,11 +17,13 @@ use fields::next_field;
 use forms::LineNumber;
 use forms::RowNumber;
 use formula_write::put_pair;
+use formula_write::put_stride;
 use line_starts::start_line;
 use line_starts::start_negated;
 use lines::kinds::EQUALITY;
 use lines::kinds::INEQUALITY;
 use lines::kinds::kind_of;
+use lines::place_a;
 use openings::rounding::round;
 use openings::rounding::start_rounded;
 use openings::split::joined_by;
@@ -545,10 +547,27 @@ fn check_rounded(
     let mut end = here.o;
     let mut count = tally;
     let mut j = 0;
+    // Ej of j = 0; the others differ from it in their last four bytes.
+    let mut template = [0u8; 75];
+    let ta = place_a(t, k);
+    put_stride(lines, ta, k, g, &mut template, 0);
     loop {
         let following = j + 1;
         let others = following < by;
-        let front = start_rounded(lines, kinds, t, n, k, g, by, j, others, scratch, end);
+        let front = start_rounded(
+            lines,
+            kinds,
+            t,
+            n,
+            k,
+            g,
+            by,
+            j,
+            others,
+            &template,
+            scratch,
+            end,
+        );
         let place = Position {
             step: row,
             branch: following,

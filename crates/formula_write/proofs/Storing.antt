@@ -12,7 +12,7 @@ use Rattle.number_bytes.proofs.Stores.{sets-append}
 use Rattle.fields.specs.Fields.{fieldBytes}
 use Rattle.fields.proofs.Framing.{length-fieldBytes as field-size}
 use Rattle.formula.specs.Formula.{encode}
-use Rattle.formula_write.specs.Writing.{Puts, Heads, Stores, orBytes, frontBytes}
+use Rattle.formula_write.specs.Writing.{Heads, Stores, orBytes, frontBytes}
 
 -- What is written behind a run that is written.
 pub both-stored : (scratch₀ : List ℕ) (o₀ : ℕ) (bytes bs : List ℕ) {scratch scratch′ : List ℕ} {o : ℕ} → o ≡ o₀ + length bytes → length scratch ≡ length scratch₀
@@ -33,9 +33,6 @@ pub stores-head : {scratch scratch′ : List ℕ} {o o′ tag : ℕ} → Heads s
 stores-head {tag = tag} h =
     let w : length (fieldBytes tag []) ≡ 3 = field-size tag [] in
     record { long = h .long; o-is = omega (arith, h .o-is); stored = λ r. h .stored (omega arith) }
-
-pub stores-formula : {scratch scratch′ : List ℕ} {o o′ : ℕ} {I : Formula} → Puts scratch o I scratch′ o′ → Stores scratch o (encode edition1 I) scratch′ o′
-stores-formula p = record { long = p .long; o-is = p .o-is; stored = p .stored }
 
 pub stores-none : {scratch : List ℕ} {o : ℕ} → Stores scratch o [] scratch o
 stores-none = record { long = refl; o-is = omega arith; stored = λ r. refl }

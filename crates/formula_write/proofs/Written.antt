@@ -54,13 +54,16 @@ mapped f [] d (suc x) h = absurd (omega arith)
 mapped f (c ∷ l) d zero h = refl
 mapped f (c ∷ l) d (suc x) h = mapped f l d x (omega arith)
 
+pub reduced-size : {K : ℕ} (g : ℕ) (f : Form) → length (f .coeffs) ≡ K → length (reduced g f .coeffs) ≡ K
+unfolding reduced
+reduced-size g f h = length-map (f .coeffs) (λ (c : ℤ). pos (remainder g c)) ∙ h
+
 module _ {K : ℕ} {buf : List ℤ} {at : ℕ} (n : Numbered K buf at) where
   pub coeffs-long : length (formIn K buf at .coeffs) ≡ K
   coeffs-long = length-take-le K (drop at buf) (simp length-drop (omega (arith, n .room)))
 
   pub reduced-long : (g : ℕ) → length (reduced g (formIn K buf at) .coeffs) ≡ K
-  unfolding reduced
-  reduced-long g = length-map (take K (drop at buf)) (λ (c : ℤ). pos (remainder g c)) ∙ coeffs-long
+  reduced-long g = reduced-size g (formIn K buf at) coeffs-long
 
   pub form-long : length (flat (formIn K buf at)) ≡ K + 1
   unfolding flat

@@ -4,12 +4,15 @@ use mathlib.Core.Bool.{Bool, true, false}
 use mathlib.Core.List.{List, [], _++_}
 use Prim.Native.Nat.{ℕ, _+_, _*_, _<_, _≤_}
 use lib.IntN.{ℤ, pos}
-use lib.ListN.{length, getD}
+use lib.ListN.{length, getD, take}
 use lib.Seq.{sets}
 use lib.Signed.{_≤ℤ_}
 use Rattle.integers.specs.Magnitude.{Within}
+use Rattle.integers.specs.Remainder.{remainder}
 use Rattle.forms.specs.Edition.{edition1}
-use Rattle.forms.specs.Forms.{Formula}
+use Rattle.forms.specs.Forms.{Form, Formula, _divides_}
+use Rattle.forms.specs.Reduced.{reduced}
+use Rattle.number_bytes.specs.Numbers.{signedBytes}
 use Rattle.number_bytes.specs.Ranges.{Held}
 use Rattle.fields.specs.Fields.{fieldBytes}
 use Rattle.formula.specs.Formula.{encode}
@@ -54,3 +57,17 @@ orBytes false = []
 
 abbrev pub frontBytes : (others : Bool) (E : Formula) → List ℕ
 frontBytes others E = orBytes others ++ fieldBytes 0x32 [] ++ encode edition1 E
+
+-- ---- the template of a stride part: what does not depend on the form's constant term, whose four bytes stand last
+abbrev pub templateSize : (K : ℕ) → ℕ
+templateSize K = 7 + edition1 .termWidth * K
+
+-- The template begins like "g divides f", reduced.
+pub record StrideTemplate (K g : ℕ) (f : Form) (template : List ℕ) : Type 0 where
+  pub size : length (f .coeffs) ≡ K
+  pub room : templateSize K ≤ length template
+  pub begins : take (templateSize K) template ≡ take (templateSize K) (encode edition1 (g divides reduced g f))
+
+-- The stride part with the constant term d.
+abbrev pub filled : (K g : ℕ) (d : ℤ) (template : List ℕ) → List ℕ
+filled K g d template = take (templateSize K) template ++ signedBytes (edition1 .termWidth) (pos (remainder g d))

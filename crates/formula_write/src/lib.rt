@@ -1,6 +1,7 @@
 // Writing a formula's bytes into a scratch that is lent. Where they do not fit nothing is written.
 // The bytes are those of `encode` (formula/specs/Formula.antt): specs/Writing.antt. closes, openings and branches call it.
 ghost use mathlib.Core.Path.{_≡_};
+ghost use mathlib.Core.List.{[], _++_};
 ghost use Prim.Native.Nat.{_+_, _*_, _≤_};
 ghost use lib.IntN.{natAbs};
 ghost use lib.ListN.{length};
@@ -10,10 +11,12 @@ ghost use Rattle.forms.specs.Forms.{literal, _divides_};
 ghost use Rattle.forms.specs.Reduced.{reduced};
 ghost use Rattle.forms.specs.Flat.{kindOf, formIn};
 ghost use Rattle.number_bytes.specs.Numbers.{formBytes};
-ghost use Rattle.formula_write.specs.Writing.{scratchLimit, Numbered, Divisor, Heads, Puts, Stores, orBytes, frontBytes};
+ghost use Rattle.fields.specs.Fields.{fieldBytes};
+ghost use Rattle.formula_write.specs.Writing.{scratchLimit, Numbered, Divisor, Heads, Puts, Stores, orBytes, templateSize, filled};
 use fields::header::put_head;
 use integers::number;
 use integers::remainder;
+use number_bytes::copy::copy_bytes;
 use number_bytes::words::put_signed;
 
 // The numbers of the form at a place, of four bytes each.
@@ -121,21 +124,38 @@ fn put_or(scratch: &mut [u8], o: usize, others: bool) -> usize
     o
 }
 
-// What stands before Ij in a rounding's formula: an or where others follow, and then "Ej and", where Ej says that g divides the form.
+// A stride part by its template: what does not depend on d is copied, and the remainder of d written behind it.
+fn put_filled(template: &[u8], d: i64, k: usize, g: i64, scratch: &mut [u8], o: usize) -> usize
+    requires { ⌜ (k ≤ edition1 .constants) × (templateSize k ≤ length (now template)) × Divisor g ⌝ }
+    requires { ⌜ o ≤ scratchLimit ⌝ }
+    ensures { λ r. ⌜ Stores (now (scratch .entry)) o (filled k (natAbs g) d (now (template .entry))) (now (scratch .exit)) r ⌝ }
+{
+    let len = 7 + 4 * k;
+    let end = o + len + 4;
+    if scratch.len() < end {
+        return end;
+    }
+    copy_bytes(template, 0, len, scratch, o);
+    let r = remainder(d, g);
+    put_signed(scratch, o + len, 4, r);
+    end
+}
+
+// What stands before Ij in a rounding's formula: an or where others follow, and then "Ej and", where Ej is the template's stride part with the constant term d.
 pub fn put_front(
-    numbers: &[i32],
-    at: usize,
+    template: &[u8],
+    d: i64,
     k: usize,
     g: i64,
     others: bool,
     scratch: &mut [u8],
     o: usize,
 ) -> usize
-    requires { ⌜ Numbered k (now numbers) at × Divisor g ⌝ }
+    requires { ⌜ (k ≤ edition1 .constants) × (templateSize k ≤ length (now template)) × Divisor g ⌝ }
     requires { ⌜ o + 81 ≤ scratchLimit ⌝ }
-    ensures { λ r. ⌜ Stores (now (scratch .entry)) o (frontBytes others (natAbs g divides reduced (natAbs g) (formIn k (now (numbers .entry)) at))) (now (scratch .exit)) r ⌝ }
+    ensures { λ r. ⌜ Stores (now (scratch .entry)) o (orBytes others ++ fieldBytes 0x32 [] ++ filled k (natAbs g) d (now (template .entry))) (now (scratch .exit)) r ⌝ }
 {
     let head = put_or(scratch, o, others);
     let pair = put_pair(scratch, head, 0x32);
-    put_stride(numbers, at, k, g, scratch, pair)
+    put_filled(template, d, k, g, scratch, pair)
 }

@@ -139,11 +139,11 @@ pub record RoundOpens (K : ℕ) (kinds : List ℕ) (buf : List ℤ) (t : Tally) 
   pub sizes : (t′ : Tally) → r ≡ Made t′ → RoundsBy g by
 
 -- Ej of a rounding of line l: g divides tA + j, reduced.
-abbrev pub strideOf : (g j : ℕ) → Line → Formula
-strideOf g j l = g divides reduced g (l .tA plus j)
+abbrev pub stridePart : (g j : ℕ) → Line → Formula
+stridePart g j l = g divides reduced g (l .tA plus j)
 
 -- The branch of j starts: its line stands as line n, and what stands before its formula from o on.
 pub record RoundedStarts (K i n g by j : ℕ) (others : Bool) (kinds : List ℕ) (buf : List ℤ) (scratch : List ℕ) (o : ℕ) (kinds′ : List ℕ) (buf′ : List ℤ) (scratch′ : List ℕ) (o′ : ℕ) : Type 0 where
   pub line : buf′ ≡ startedLine K i n by j buf
   pub kind : kinds′ ≡ set kinds n 0
-  pub front : Stores scratch o (frontBytes others (strideOf g j (lineIn K kinds buf i))) scratch′ o′
+  pub front : Stores scratch o (frontBytes others (stridePart g j (lineIn K kinds buf i))) scratch′ o′

@@ -6,9 +6,9 @@ ghost use lib.Signed.{_≤ℤ_};
 ghost use Rattle.integers.specs.Magnitude.{Within};
 ghost use lib.ListN.{length};
 ghost use Rattle.forms.specs.Edition.{edition1};
-ghost use Rattle.formula_write.specs.Writing.{scratchLimit, Divisor};
+ghost use Rattle.formula_write.specs.Writing.{scratchLimit, Divisor, StrideTemplate};
 ghost use Rattle.proof.specs.Rows.{undivided};
-ghost use Rattle.lines.specs.Buffer.{LineStart};
+ghost use Rattle.lines.specs.Buffer.{lineIn, LineStart};
 ghost use Rattle.lines.specs.Ready.{Ready};
 ghost use Rattle.entries.specs.Entries.{Multiplies};
 ghost use Rattle.openings.specs.Opening.{Roundable, RoundOpens, RoundedStarts};
@@ -106,7 +106,8 @@ pub fn round(
     }
 }
 
-// The branch of j of a rounding by `by` starts: line n becomes line i with t + by and tA + j, and what stands before its formula is written, with Ej of that tA.
+// The branch of j of a rounding by `by` starts: line n becomes line i with t + by and tA + j, and what stands before its formula is written, with Ej of that tA
+// by the template of line i's: they differ in the constant term only.
 pub fn start_rounded(
     lines: &mut [i32],
     kinds: &mut [u8],
@@ -117,14 +118,17 @@ pub fn start_rounded(
     by: u16,
     j: u16,
     others: bool,
+    template: &[u8],
     scratch: &mut [u8],
     o: usize,
 ) -> usize
     requires { ⌜ LineStart k (now lines) (i .0) (n .0) by by × (n .0 < length (now kinds)) × (j < by) ⌝ }
     requires { ⌜ Divisor g × (o + 81 ≤ scratchLimit) ⌝ }
+    requires { ⌜ StrideTemplate k (natAbs g) (lineIn k (now kinds) (now lines) (i .0) .tA) (now template) ⌝ }
     ensures { λ r. ⌜ RoundedStarts k (i .0) (n .0) (natAbs g) by j others (now (kinds .entry)) (now (lines .entry)) (now (scratch .entry)) o (now (kinds .exit)) (now (lines .exit)) (now (scratch .exit)) r ⌝ }
 {
     start_line(lines, kinds, i, n, k, INEQUALITY, by, j);
     let ta = place_a(n, k);
-    put_front(lines, ta, k, g, others, scratch, o)
+    let d = integers::number(lines, ta + k);
+    put_front(template, d, k, g, others, scratch, o)
 }

@@ -3,7 +3,7 @@ use native.Mathlib.Omega.{arith}
 use mathlib.Core.List.{[], _++_}
 use Rattle.fields.specs.Fields.{fieldBytes}
 use Rattle.formula_write.specs.Writing.{orBytes}
-use Rattle.formula_write.proofs.Storing.{stores-both, stores-head, stores-formula, or-size}
+use Rattle.formula_write.proofs.Storing.{stores-both, stores-head, or-size}
 use mir.ValLaws.{toZ-ofZ}
 use borrow.Author.Needs.{needs}
 use Rattle.formula_write.proofs.put_front.Statement.{statement}
@@ -13,11 +13,11 @@ put-or-requires : tie.Need-put-or-requires
 put-or-requires c κs = search needs
 
 put-pair-requires : tie.Need-put-pair-requires
-put-pair-requires c κs = omega (arith, c .before .before .before .put-or .ensures .o-is, or-size (c .before .before .before .before .before .before .args .others), c .before .before .before .before .before .before .pre .1)
+put-pair-requires c κs = omega (arith, c .before .before .before .put-or .ensures .o-is, or-size (c .before .before .before .before .before .before .before .args .others), c .before .before .before .before .before .before .before .pre .1)
 
-put-stride-requires : tie.Need-put-stride-requires
-put-stride-requires c κs =
-    let s = c .before .before .before .before .before .before .before .before .before .before in
+put-filled-requires : tie.Need-put-filled-requires
+put-filled-requires c κs =
+    let s = c .before .before .before .before .before .before .before .before .before .before .before in
     let fits = s .fits .g in
     simp toZ-ofZ (s .pre .0, omega (arith, c .before .before .before .put-pair .ensures .o-is, c .before .before .before .before .before .before .before .put-or .ensures .o-is, or-size (s .args .others), s .pre .1))
 
@@ -26,10 +26,11 @@ same-length c = search needs
 
 returns : tie.Need-returns
 returns c =
-    let s = c .before .before .before .before .before .before .before .before .before .before .before .before .before in
-    let fits = s .fits .g in
+    let s = c .before .before .before .before .before .before .before .before .before .before .before .before .before .before in
+    let fits-g = s .fits .g in
+    let fits-d = s .fits .d in
     let or = orBytes (s .args .others) in
-    stores-both (or ++ fieldBytes 0x32 []) _ (stores-both or (fieldBytes 0x32 []) (c .before .before .before .before .before .before .before .before .before .before .put-or .ensures) (stores-head (c .before .before .before .before .before .before .put-pair .ensures))) (stores-formula (simp toZ-ofZ at (c .before .before .put-stride .ensures)))
+    stores-both (or ++ fieldBytes 0x32 []) _ (stores-both or (fieldBytes 0x32 []) (c .before .before .before .before .before .before .before .before .before .before .put-or .ensures) (stores-head (c .before .before .before .before .before .before .put-pair .ensures))) (simp toZ-ofZ at (c .before .before .put-filled .ensures))
 
 pub put-front-spec : {M : Type 1} → statement M
-put-front-spec = tie.close (tie.spec put-or-requires put-pair-requires put-stride-requires same-length returns)
+put-front-spec = tie.close (tie.spec put-or-requires put-pair-requires put-filled-requires same-length returns)

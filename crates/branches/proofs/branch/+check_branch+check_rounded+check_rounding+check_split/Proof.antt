@@ -1,7 +1,7 @@
 -- The proof of the cycle {check_branch, check_rounded, check_rounding, check_split}: the measure is how many bytes are unread and how many more branching steps may be open, twice, and one more where the branches of a rounding or a split are gone through.
 -- Each answer collects the facts on its way and cites a lemma of `BranchStops`, `OpenedBranches`, `Rounds` or `Splits`; what is checked in a turn of the loop over j gives what is checked from 0 on. Assumes nothing.
 use native.Mathlib.Omega.{arith}
-use mathlib.Core.Path.{refl, _∙_}
+use mathlib.Core.Path.{refl, sym, _∙_}
 use lib.Dec.{ltb}
 use lib.IntN.{natAbs}
 use borrow.Author.Tests.{ltb-true, ltb-false}
@@ -18,11 +18,13 @@ use Rattle.branches.proofs.BranchStops.{started-room, stopped-fault, co
 use Rattle.branches.proofs.OpenedBranches.{room-left, first-started, first-fault, rest-open, rest-unread, rest-opened, first-checks, head-short, none-short, start-asked, some-longer, some-started, some-open, some-unread, some-opened, two-fault, two-checks, opening-falls, opened, first-stands, resumed-fault, resumed-checks}
 use Rattle.branches.proofs.JoinedClosings.{or-bytes}
 use Rattle.branches.proofs.Splits.{split-there, split-started, split-fault, split-open, split-unread, negated-asked, negated-started, split-checks, split-opened, split-resumed}
-use Rattle.branches.proofs.Rounds.{rounded-asked, rounded-started, Rounding, rounding-start, rounding-last, rounding-unread, rounding-fault, rounding-next}
+use Rattle.branches.proofs.Rounds.{template-place, template-asked, template-kept, rounded-asked, rounded-started, Rounding, rounding-start, rounding-last, rounding-unread, rounding-fault, rounding-next}
 use Prim.Native.Nat.{ℕ, _+_, _*_, _-_, _<_}
 use borrow.Fn.Kinds.{In}
 use borrow.Fn.PlainCycle.{Measures, is, falls, and}
 use Rattle.formula_write.proofs.put_pair.Reads as put-pair-reads
+use Rattle.formula_write.proofs.put_stride.Reads as put-stride-reads
+use Rattle.lines.proofs.place_a.Reads as place-a-reads
 use Rattle.lines.proofs.kinds.kind_of.Reads as kind-of-reads
 use Rattle.tally.proofs.returned.Reads as returned-reads
 use Rattle.closes.proofs.ends.close_number.Reads as close-number-reads
@@ -97,7 +99,7 @@ check-branch-claims t =
 
 abbrev check-rounded-claims : ℕ → check-rounded-lts.Claims
 check-rounded-claims t =
-    (start-rounded-reads.Asked, start-rounded-reads.Learnt, check-branch-below t, check-branch.Post)
+    (place-a-reads.Asked, place-a-reads.Learnt, put-stride-reads.Asked, put-stride-reads.Learnt, start-rounded-reads.Asked, start-rounded-reads.Learnt, check-branch-below t, check-branch.Post)
 
 abbrev check-rounding-claims : ℕ → check-rounding-lts.Claims
 check-rounding-claims t =
@@ -109,11 +111,11 @@ check-split-claims t =
 
 -- The loop over j of a rounding's branches.
 abbrev Inv-loop : check-rounded-lts.InvT-loop
-Inv-loop p row lines₀ kinds₀ t n g by scratch₀ k at₀ end₀ count₀ j₀ lines kinds scratch at end count j =
+Inv-loop p row lines₀ kinds₀ t n g by scratch₀ k at₀ end₀ count₀ j₀ template ta lines kinds scratch at end count j =
     Rounding k (row .0) (n .0) p at₀ kinds₀ lines₀ count₀ (t .0) (natAbs (toZ w64 g)) by scratch₀ end₀ kinds lines scratch at end count j
 
 abbrev μ-loop : check-rounded-lts.MeasureT-loop
-μ-loop p row lines₀ kinds₀ t n g by scratch₀ k at₀ end₀ count₀ j₀ lines kinds scratch at end count j = unreadBytes p at
+μ-loop p row lines₀ kinds₀ t n g by scratch₀ k at₀ end₀ count₀ j₀ template ta lines kinds scratch at end count j = unreadBytes p at
 
 module _ (t : ℕ) where
   check-branch-entries-requires : check-branch-lts.Need-entries-requires (check-branch-claims t) (check-branch-at t) check-branch.Post
@@ -515,43 +517,60 @@ module _ (t : ℕ) where
       let stop = c .before .before .before .before .before .before .before .before .before .before .before .before .before .before .before .before .before .before .before .before .before .before .before .before .before .before .entries .ensures in
       split-resumed (split-comes stop (c .before .before .before .before .before .before .before .before .before .before .before .before .before .before .before .before .before .before .before .before .before .t5 .given .1)) (stop .kept) (c .before .before .before .before .before .before .before .before .before .before .before .before .before .before .before .before .before .split .ensures) (c .before .before .before .before .before .before .before .before .before .before .before .before .v3 .given .1) (c .before .before .before .before .before .before .before .before .before .before .before .before .before .before .before .before .before .before .before .before .before .before .before .before .before .before .before .before .before .before .before .before .args .position) (c .before .before .before .before .before .before .check-split .ensures) (c .resumed3 .ensures)
 
+  check-rounded-place-a-requires : check-rounded-lts.Need-place-a-requires (check-rounded-claims t) (check-rounded-at t) check-rounded.Post Inv-loop μ-loop
+  check-rounded-place-a-requires c κs = template-place (c .before .before .before .pre .1 .0)
+
+  check-rounded-slice-aggregate-put-stride : check-rounded-lts.Need-slice-aggregate-put-stride (check-rounded-claims t) (check-rounded-at t) check-rounded.Post Inv-loop μ-loop
+  check-rounded-slice-aggregate-put-stride c = refl
+
+  check-rounded-put-stride-requires : check-rounded-lts.Need-put-stride-requires (check-rounded-claims t) (check-rounded-at t) check-rounded.Post Inv-loop μ-loop
+  check-rounded-put-stride-requires c κs =
+      let s = c .before .before .before .before .before .before in
+      let fits = s .fits .g in
+      simp toZ-ofZ (template-asked (s .pre .1 .0) (c .before .before .place-a .ensures) (s .pre .1 .1 .0) (s .pre .1 .1 .1))
+
   check-rounded-loop-holds : check-rounded-lts.Need-loop-holds (check-rounded-claims t) (check-rounded-at t) check-rounded.Post Inv-loop μ-loop
   check-rounded-loop-holds c =
-      let fits = c .before .before .before .fits .g in
-      simp toZ-ofZ (rounding-start _ (c .before .before .before .pre .1 .0) (c .before .before .before .pre .1 .1 .1))
+      let fits = c .before .before .before .before .before .before .before .before .fits .g in
+      simp toZ-ofZ (rounding-start _ (c .before .before .before .before .before .before .before .before .pre .1 .0) (c .before .before .before .before .before .before .before .before .pre .1 .1 .1))
 
   check-rounded-add-following : check-rounded-lts.Need-add-following (check-rounded-claims t) (check-rounded-at t) check-rounded.Post Inv-loop μ-loop
-  check-rounded-add-following c = omega (arith, c .loop .inv .less, c .before .before .before .before .fits .by)
+  check-rounded-add-following c = omega (arith, c .loop .inv .less, c .before .before .before .before .before .before .before .before .before .fits .by)
+
+  check-rounded-slice-aggregate-start-rounded : check-rounded-lts.Need-slice-aggregate-start-rounded (check-rounded-claims t) (check-rounded-at t) check-rounded.Post Inv-loop μ-loop
+  check-rounded-slice-aggregate-start-rounded c = sym (c .before .before .before .before .before .put-stride .ensures .long)
 
   check-rounded-start-rounded-requires : check-rounded-lts.Need-start-rounded-requires (check-rounded-claims t) (check-rounded-at t) check-rounded.Post Inv-loop μ-loop
   check-rounded-start-rounded-requires c κs =
-      let turn = c .before .before .before .loop .inv in
-      let fits = c .before .before .before .before .before .before .before .fits .g in
-      simp toZ-ofZ (rounded-asked (turn .opened) (turn .less) (c .before .before .before .before .before .before .before .pre .1 .1 .0) (c .before .before .before .before .before .before .before .pre .1 .1 .1))
+      let turn = c .before .before .before .before .loop .inv in
+      let s = c .before .before .before .before .before .before .before .before .before .before .before .before .before in
+      let fits = s .fits .g in
+      let w = template-kept (s .pre .1 .0) (c .before .before .before .before .before .before .before .before .before .place-a .ensures) refl (simp toZ-ofZ at (c .before .before .before .before .before .before .put-stride .ensures)) (turn .kept) in
+      simp toZ-ofZ (rounded-asked (turn .opened) (turn .less) (s .pre .1 .1 .0) (s .pre .1 .1 .1) w)
 
   check-rounded-check-branch-requires : check-rounded-lts.Need-check-branch-requires (check-rounded-claims t) (check-rounded-at t) check-rounded.Post Inv-loop μ-loop
   check-rounded-check-branch-requires c κs =
-      let turn = c .before .before .before .before .before .before .before .before .before .before .before .before .loop .inv in
-      let others = ltb (c .before .before .before .before .before .before .before .before .before .before .before .before .loop .j + 1) (c .before .before .before .before .before .before .before .before .before .before .before .before .before .before .before .before .args .by) in
+      let turn = c .before .before .before .before .before .before .before .before .before .before .before .before .before .loop .inv in
+      let others = ltb (c .before .before .before .before .before .before .before .before .before .before .before .before .before .loop .j + 1) (c .before .before .before .before .before .before .before .before .before .before .before .before .before .before .before .before .before .before .before .before .before .before .args .by) in
       let h = c .before .before .before .before .before .before .before .before .start-rounded .ensures in
-      (turn-falls (turn .open-is) (turn .unread) (c .before .before .before .before .before .before .before .before .before .before .before .before .before .before .before .before .pre .0), rounded-started (turn .opened) (turn .less) _ others h)
+      (turn-falls (turn .open-is) (turn .unread) (c .before .before .before .before .before .before .before .before .before .before .before .before .before .before .before .before .before .before .before .before .before .before .pre .0), rounded-started (turn .opened) (turn .less) _ others h)
 
   check-rounded-same-length : check-rounded-lts.Need-same-length (check-rounded-claims t) (check-rounded-at t) check-rounded.Post Inv-loop μ-loop
-  check-rounded-same-length c = c .before .before .before .before .before .lines2 .given ∙ c .before .before .before .before .before .before .before .before .before .before .before .before .before .before .lines .given ∙ c .before .before .before .before .before .before .before .before .before .before .before .before .before .before .before .before .before .before .before .loop .inv .kept .lines-length
+  check-rounded-same-length c = c .before .before .before .before .before .lines2 .given ∙ c .before .before .before .before .before .before .before .before .before .before .before .before .before .before .lines .given ∙ c .before .before .before .before .before .before .before .before .before .before .before .before .before .before .before .before .before .before .before .before .loop .inv .kept .lines-length
 
   check-rounded-same-length-2 : check-rounded-lts.Need-same-length-2 (check-rounded-claims t) (check-rounded-at t) check-rounded.Post Inv-loop μ-loop
-  check-rounded-same-length-2 c = c .before .before .before .before .kinds2 .given ∙ c .before .before .before .before .before .before .before .before .before .before .before .before .before .kinds .given ∙ c .before .before .before .before .before .before .before .before .before .before .before .before .before .before .before .before .before .before .before .loop .inv .kept .kinds-length
+  check-rounded-same-length-2 c = c .before .before .before .before .kinds2 .given ∙ c .before .before .before .before .before .before .before .before .before .before .before .before .before .kinds .given ∙ c .before .before .before .before .before .before .before .before .before .before .before .before .before .before .before .before .before .before .before .before .loop .inv .kept .kinds-length
 
   check-rounded-same-length-3 : check-rounded-lts.Need-same-length-3 (check-rounded-claims t) (check-rounded-at t) check-rounded.Post Inv-loop μ-loop
-  check-rounded-same-length-3 c = c .before .before .scratch2 .given ∙ c .before .before .before .before .before .before .before .before .before .before .before .scratch .given ∙ c .before .before .before .before .before .before .before .before .before .before .before .before .before .before .before .before .before .before .before .loop .inv .long
+  check-rounded-same-length-3 c = c .before .before .scratch2 .given ∙ c .before .before .before .before .before .before .before .before .before .before .before .scratch .given ∙ c .before .before .before .before .before .before .before .before .before .before .before .before .before .before .before .before .before .before .before .before .loop .inv .long
 
   check-rounded-returns : check-rounded-lts.Need-returns (check-rounded-claims t) (check-rounded-at t) check-rounded.Post Inv-loop μ-loop
   check-rounded-returns c =
-      let turn = c .before .before .before .before .before .before .before .before .before .before .before .before .before .before .before .before .before .before .before .loop .inv in
+      let turn = c .before .before .before .before .before .before .before .before .before .before .before .before .before .before .before .before .before .before .before .before .loop .inv in
       let h = c .before .before .before .before .before .before .before .before .before .before .before .before .before .before .before .start-rounded .ensures in
       let b = c .before .before .before .before .before .before .check-branch .ensures in
-      let others = ltb (c .before .before .before .before .before .before .before .before .before .before .before .before .before .before .before .before .before .before .before .loop .j + 1) (c .before .before .before .before .before .before .before .before .before .before .before .before .before .before .before .before .before .before .before .before .before .before .before .args .by) in
-      let fits = c .before .before .before .before .before .before .before .before .before .before .before .before .before .before .before .before .before .before .before .before .before .before .before .fits .g in
+      let others = ltb (c .before .before .before .before .before .before .before .before .before .before .before .before .before .before .before .before .before .before .before .before .loop .j + 1) (c .before .before .before .before .before .before .before .before .before .before .before .before .before .before .before .before .before .before .before .before .before .before .before .before .before .before .before .before .before .args .by) in
+      let fits = c .before .before .before .before .before .before .before .before .before .before .before .before .before .before .before .before .before .before .before .before .before .before .before .before .before .before .before .before .before .fits .g in
       simp toZ-ofZ at (rounding-last turn others h b (unnot others (c .if1 .taken)) (ltb-false _ _ (unnot others (c .if1 .taken))))
 
   check-rounded-enum-known-own : check-rounded-lts.Need-enum-known-own (check-rounded-claims t) (check-rounded-at t) check-rounded.Post Inv-loop μ-loop
@@ -561,37 +580,37 @@ module _ (t : ℕ) where
   check-rounded-enum-told c = search needs
 
   check-rounded-same-length-4 : check-rounded-lts.Need-same-length-4 (check-rounded-claims t) (check-rounded-at t) check-rounded.Post Inv-loop μ-loop
-  check-rounded-same-length-4 c = c .before .before .before .before .before .before .before .lines2 .given ∙ c .before .before .before .before .before .before .before .before .before .before .before .before .before .before .before .before .lines .given ∙ c .before .before .before .before .before .before .before .before .before .before .before .before .before .before .before .before .before .before .before .before .before .loop .inv .kept .lines-length
+  check-rounded-same-length-4 c = c .before .before .before .before .before .before .before .lines2 .given ∙ c .before .before .before .before .before .before .before .before .before .before .before .before .before .before .before .before .lines .given ∙ c .before .before .before .before .before .before .before .before .before .before .before .before .before .before .before .before .before .before .before .before .before .before .loop .inv .kept .lines-length
 
   check-rounded-same-length-5 : check-rounded-lts.Need-same-length-5 (check-rounded-claims t) (check-rounded-at t) check-rounded.Post Inv-loop μ-loop
-  check-rounded-same-length-5 c = c .before .before .before .before .before .before .kinds2 .given ∙ c .before .before .before .before .before .before .before .before .before .before .before .before .before .before .before .kinds .given ∙ c .before .before .before .before .before .before .before .before .before .before .before .before .before .before .before .before .before .before .before .before .before .loop .inv .kept .kinds-length
+  check-rounded-same-length-5 c = c .before .before .before .before .before .before .kinds2 .given ∙ c .before .before .before .before .before .before .before .before .before .before .before .before .before .before .before .kinds .given ∙ c .before .before .before .before .before .before .before .before .before .before .before .before .before .before .before .before .before .before .before .before .before .before .loop .inv .kept .kinds-length
 
   check-rounded-same-length-6 : check-rounded-lts.Need-same-length-6 (check-rounded-claims t) (check-rounded-at t) check-rounded.Post Inv-loop μ-loop
-  check-rounded-same-length-6 c = c .before .before .before .before .scratch2 .given ∙ c .before .before .before .before .before .before .before .before .before .before .before .before .before .scratch .given ∙ c .before .before .before .before .before .before .before .before .before .before .before .before .before .before .before .before .before .before .before .before .before .loop .inv .long
+  check-rounded-same-length-6 c = c .before .before .before .before .scratch2 .given ∙ c .before .before .before .before .before .before .before .before .before .before .before .before .before .scratch .given ∙ c .before .before .before .before .before .before .before .before .before .before .before .before .before .before .before .before .before .before .before .before .before .before .loop .inv .long
 
   check-rounded-returns-2 : check-rounded-lts.Need-returns-2 (check-rounded-claims t) (check-rounded-at t) check-rounded.Post Inv-loop μ-loop
   check-rounded-returns-2 c =
-      let turn = c .before .before .before .before .before .before .before .before .before .before .before .before .before .before .before .before .before .before .before .before .before .loop .inv in
+      let turn = c .before .before .before .before .before .before .before .before .before .before .before .before .before .before .before .before .before .before .before .before .before .before .loop .inv in
       let h = c .before .before .before .before .before .before .before .before .before .before .before .before .before .before .before .before .before .start-rounded .ensures in
       let b = c .before .before .before .before .before .before .before .before .check-branch .ensures in
-      let others = ltb (c .before .before .before .before .before .before .before .before .before .before .before .before .before .before .before .before .before .before .before .before .before .loop .j + 1) (c .before .before .before .before .before .before .before .before .before .before .before .before .before .before .before .before .before .before .before .before .before .before .before .before .before .args .by) in
-      let fits = c .before .before .before .before .before .before .before .before .before .before .before .before .before .before .before .before .before .before .before .before .before .before .before .before .before .fits .g in
+      let others = ltb (c .before .before .before .before .before .before .before .before .before .before .before .before .before .before .before .before .before .before .before .before .before .before .loop .j + 1) (c .before .before .before .before .before .before .before .before .before .before .before .before .before .before .before .before .before .before .before .before .before .before .before .before .before .before .before .before .before .before .before .args .by) in
+      let fits = c .before .before .before .before .before .before .before .before .before .before .before .before .before .before .before .before .before .before .before .before .before .before .before .before .before .before .before .before .before .before .before .fits .g in
       simp toZ-ofZ at (rounding-fault turn others h b (unnot others (c .before .before .if1 .left)) (ltb-true _ _ (unnot others (c .before .before .if1 .left))) (c .enum-told .given .1))
 
   check-rounded-loop-less : check-rounded-lts.Need-loop-less (check-rounded-claims t) (check-rounded-at t) check-rounded.Post Inv-loop μ-loop
   check-rounded-loop-less c =
-      let turn = c .before .before .before .before .before .before .before .before .before .before .before .before .before .before .before .before .before .before .before .before .before .before .loop .inv in
+      let turn = c .before .before .before .before .before .before .before .before .before .before .before .before .before .before .before .before .before .before .before .before .before .before .before .loop .inv in
       let h = c .before .before .before .before .before .before .before .before .before .before .before .before .before .before .before .before .before .before .start-rounded .ensures in
       let b = c .before .before .before .before .before .before .before .before .before .check-branch .ensures in
-      let others = ltb (c .before .before .before .before .before .before .before .before .before .before .before .before .before .before .before .before .before .before .before .before .before .before .loop .j + 1) (c .before .before .before .before .before .before .before .before .before .before .before .before .before .before .before .before .before .before .before .before .before .before .before .before .before .before .args .by) in
+      let others = ltb (c .before .before .before .before .before .before .before .before .before .before .before .before .before .before .before .before .before .before .before .before .before .before .before .loop .j + 1) (c .before .before .before .before .before .before .before .before .before .before .before .before .before .before .before .before .before .before .before .before .before .before .before .before .before .before .before .before .before .before .before .before .args .by) in
       rounding-unread turn others h b (c .before .own .given .1)
 
   check-rounded-loop-again : check-rounded-lts.Need-loop-again (check-rounded-claims t) (check-rounded-at t) check-rounded.Post Inv-loop μ-loop
   check-rounded-loop-again c =
-      let turn = c .before .before .before .before .before .before .before .before .before .before .before .before .before .before .before .before .before .before .before .before .before .before .loop .inv in
+      let turn = c .before .before .before .before .before .before .before .before .before .before .before .before .before .before .before .before .before .before .before .before .before .before .before .loop .inv in
       let h = c .before .before .before .before .before .before .before .before .before .before .before .before .before .before .before .before .before .before .start-rounded .ensures in
       let b = c .before .before .before .before .before .before .before .before .before .check-branch .ensures in
-      let others = ltb (c .before .before .before .before .before .before .before .before .before .before .before .before .before .before .before .before .before .before .before .before .before .before .loop .j + 1) (c .before .before .before .before .before .before .before .before .before .before .before .before .before .before .before .before .before .before .before .before .before .before .before .before .before .before .args .by) in
+      let others = ltb (c .before .before .before .before .before .before .before .before .before .before .before .before .before .before .before .before .before .before .before .before .before .before .before .loop .j + 1) (c .before .before .before .before .before .before .before .before .before .before .before .before .before .before .before .before .before .before .before .before .before .before .before .before .before .before .before .before .before .before .before .before .args .by) in
       rounding-next turn others h b (unnot others (c .before .before .before .if1 .left)) (ltb-true _ _ (unnot others (c .before .before .before .if1 .left))) (c .before .own .given .1)
 
   check-rounding-put-pair-requires : check-rounding-lts.Need-put-pair-requires (check-rounding-claims t) (check-rounding-at t) check-rounding.Post
@@ -818,8 +837,12 @@ pub +check-branch+check-rounded+check-rounding+check-split-spec : {M : Type 1} �
     check-rounded.Post
     Inv-loop
     μ-loop
+    (check-rounded-place-a-requires t)
+    (check-rounded-slice-aggregate-put-stride t)
+    (check-rounded-put-stride-requires t)
     (check-rounded-loop-holds t)
     (check-rounded-add-following t)
+    (check-rounded-slice-aggregate-start-rounded t)
     (check-rounded-start-rounded-requires t)
     (check-rounded-check-branch-requires t)
     (check-rounded-same-length t)
