@@ -1,42 +1,24 @@
 -- Storing constraints: one turn of each loop, as laws over plain values. Assumes nothing.
 use mathlib.Core.Path.{_≡_, refl, sym, ap, _∙_}
-use mathlib.Core.Bool.{true, false}
-use mathlib.Core.List.{List, [], _∷_, _++_}
-use Prim.Native.Nat.{ℕ, zero, suc, _+_, _*_, _-_, _≤_, _<_}
+use mathlib.Core.List.{List, _++_}
+use Prim.Native.Nat.{ℕ, suc, _+_, _*_, _-_, _≤_, _<_}
 use native.Mathlib.Nat.{suc-mul, zero-mul, mul-le-mul-right}
 use native.Mathlib.Omega.{arith}
-use lib.Dec.{ltb}
 use lib.IntN.{ℤ}
-use lib.ListN.{length, getD, take, drop, set, length-set}
+use lib.ListN.{length, getD, drop, set, length-set}
 use lib.Seq.{sets, length-sets}
-use borrow.Author.Tests.{ltb-true, ltb-false, eqb-true}
-use Rattle.forms.specs.Forms.{Constraint}
-use Rattle.forms.specs.Flat.{kindOf, constraintKindOf}
-use Rattle.number_bytes.specs.Numbers.{signeds, flat, formFrom}
-use Rattle.number_bytes.proofs.Signed.{length-signeds, signeds-take, flat-signeds}
+use Rattle.number_bytes.specs.Numbers.{signeds}
+use Rattle.number_bytes.proofs.Signed.{length-signeds}
 use Rattle.number_bytes.proofs.Stores.{sets-append}
-use Rattle.fields.specs.declared.FileKind.{FileKind}
-use Rattle.fields.specs.Fields.{Fields, ends, cut}
-use Rattle.fields.specs.Header.{known}
+use Rattle.fields.specs.Fields.{Fields}
 use Rattle.fields.specs.Places.{fieldsAt}
-use Rattle.fields.proofs.Places.{lenAt, Took, took-here, Starts, starts-size}
-use Rattle.bundle.specs.Read.{kindNumber, kindsOf, numbersOf}
-use Rattle.bundle_scan.specs.Scan.{faultOf, Counted, counted, stated}
-use Rattle.bundle_scan.proofs.Scanning.{Proper, counted-on, count-is, proper-of, tag-most, passed-both}
+use Rattle.fields.proofs.Places.{lenAt, Took, Starts}
+use Rattle.bundle.specs.Read.{kindsOf, numbersOf}
+use Rattle.bundle_scan.specs.Scan.{stated, ConstraintsLeft}
+use Rattle.bundle_scan.proofs.Left.{kind-number, left-took, left-done, LeftTurn, left-turn}
 use Rattle.bundle_read.specs.Store.{Storable}
 
 -- ---- constraints
--- the kind's number, as the code computes it
-number-kind : (n : ℕ) → n ≤ 2 → kindNumber (constraintKindOf n) ≡ n
-unfolding kindNumber constraintKindOf kindOf
-number-kind zero h = refl
-number-kind (suc zero) h = refl
-number-kind (suc (suc zero)) h = refl
-number-kind (suc (suc (suc n))) h = absurd (omega arith)
-
-pub kind-number : (tag : ℕ) → known FileKind.Bundle tag ≡ true → ltb tag 0x03 ≡ false → kindNumber (constraintKindOf (tag - 3)) ≡ tag - 3
-kind-number tag h l = number-kind (tag - 3) (omega (arith, tag-most tag h l, ltb-false tag 3 l))
-
 -- the invariant: what is left to store gives what the whole gives
 pub record Storing (s : List ℕ) (at w K count : ℕ) (kinds₀ : List ℕ) (numbers₀ : List ℤ) (kinds : List ℕ) (numbers : List ℤ) (here n : ℕ) : Type 0 where
   pub able : Storable w K n count (fieldsAt s here) kinds numbers
@@ -50,12 +32,7 @@ storing-start {K} a = record { able = a; kinds-is = refl; numbers-is = rw (zero-
 
 -- what a turn needs: the field is a constraint, and its kind and numbers have room
 pub record StoreTurn (s : List ℕ) (w K n count tag start len next : ℕ) (kinds : List ℕ) (numbers : List ℤ) : Type 0 where
-  pub proper : Proper w K n tag (take len (drop start s))
-  pub from : 3 ≤ tag
-  pub few : n < 32
-  pub size : len ≡ (K + 1) * w
-  pub goes : next ≡ start + (K + 1) * w
-  pub bytes : start + (K + 1) * w ≤ length s
+  pub turn : LeftTurn w K n count s tag start len next
   pub kinds-room : n < length kinds
   pub numbers-room : n * (K + 1) + (K + 1) ≤ length numbers
   pub able : Storable w K (n + 1) count (fieldsAt s next) kinds numbers
@@ -63,23 +40,14 @@ pub record StoreTurn (s : List ℕ) (w K n count tag start len next : ℕ) (kind
 module _ {s : List ℕ} {here a tag start len next : ℕ} (k : Starts s here a tag start len next) where
   pub room : {w K n count : ℕ} {kinds : List ℕ} {numbers : List ℤ} → Storable w K n count (fieldsAt s here) kinds numbers → StoreTurn s w K n count tag start len next kinds numbers
   room {w} {K} {n} {count} {kinds} {numbers} v =
-      let bs = take len (drop start s) in
-      let p = passed-both (faultOf w K n tag bs) a count (counted w K (suc n) (fieldsAt s next)) (sym (counted-on k w K n) ∙ v .is) in
-      let r = proper-of w K n tag bs (p .0) in
-      let m = count-is w K (suc n) count (fieldsAt s next) (p .1) in
+      let t : LeftTurn w K n count s tag start len next = left-turn k (record { counts = v .is }) in
       let e : suc K ≡ K + 1 = omega arith in
-      let l : len ≡ (K + 1) * w = rw e at (sym (starts-size k) ∙ eqb-true (length bs) (suc K * w) (r .size)) in
-      let g : suc n * suc K ≤ count * suc K = mul-le-mul-right (suc K) (omega arith) in
+      let g : suc n * suc K ≤ count * suc K = mul-le-mul-right (suc K) (omega (arith, t .below)) in
       record {
-        proper = r;
-        from = ltb-false tag 3 (r .from);
-        few = ltb-true n 32 (r .room);
-        size = l;
-        goes = omega (arith, k .next-is, l);
-        bytes = omega (arith, k .upto, k .next-is, l);
-        kinds-room = omega (arith, v .kinds-fit, m);
+        turn = t;
+        kinds-room = omega (arith, v .kinds-fit, t .below);
         numbers-room = rw (← e) (omega (arith, g, suc-mul n (suc K), v .numbers-fit));
-        able = record { is = (let z : n + 1 ≡ suc n = omega arith in rw z (p .1)); kinds-fit = v .kinds-fit; numbers-fit = v .numbers-fit };
+        able = record { is = t .left .counts; kinds-fit = v .kinds-fit; numbers-fit = v .numbers-fit };
       }
 
   -- the next turn's invariant
@@ -95,18 +63,15 @@ module _ {s : List ℕ} {here a tag start len next : ℕ} (k : Starts s here a t
       let b = r .able in
       let lk : length (set kinds n (tag - 3)) ≡ length kinds = length-set kinds n (tag - 3) in
       let ln : length numbers′ ≡ length numbers = ap length q ∙ length-sets numbers (n * (K + 1)) (signeds w (K + 1) (drop start s)) in
-      let z : suc K * w ≡ len = rw (← e) (sym (r .size)) in
-      let form : flat (formFrom w K (take len (drop start s))) ≡ signeds w (suc K) (drop start s)
-      = flat-signeds w K (take len (drop start s)) ∙ signeds-take w (suc K) len (drop start s) (omega (arith, z)) in
       let after = numbersOf (stated w K (fieldsAt s next)) in
       let kq : sets kinds n (kindsOf (stated w K (fieldsAt s here))) ≡ sets (set kinds n (tag - 3)) (suc n) (kindsOf (stated w K (fieldsAt s next)))
-      = rw (k .is, kind-number tag (r .proper .has) (r .proper .from)) in
+      = rw (k .is, kind-number tag (r .turn .proper .has) (r .turn .proper .from)) in
       let nq : sets numbers (n * suc K) (numbersOf (stated w K (fieldsAt s here))) ≡ sets numbers′ (suc n * suc K) (numbersOf (stated w K (fieldsAt s next)))
       = ap (λ (fs : Fields). sets numbers (n * suc K) (numbersOf (stated w K fs))) (k .is)
-      ∙ ap (λ (zs : List ℤ). sets numbers (n * suc K) (zs ++ after)) form
+      ∙ ap (λ (zs : List ℤ). sets numbers (n * suc K) (zs ++ after)) (r .turn .numbers)
       ∙ sets-append (signeds w (suc K) (drop start s)) after numbers (n * suc K)
       ∙ rw (length-signeds w (suc K) (drop start s), q, e, suc-mul n (suc K)) in
-      rw (← r .goes) (record {
+      rw (← r .turn .goes) (record {
         able = record { is = b .is; kinds-fit = omega (arith, b .kinds-fit, lk); numbers-fit = omega (arith, b .numbers-fit, ln) };
         kinds-is = rw f (sym kq ∙ v .kinds-is);
         numbers-is = rw f (sym nq ∙ v .numbers-is);
@@ -116,21 +81,11 @@ module _ {s : List ℕ} {here a tag start len next : ℕ} (k : Starts s here a t
 
 module _ {s : List ℕ} {at w K count : ℕ} {kinds₀ : List ℕ} {numbers₀ : List ℤ} {kinds : List ℕ} {numbers : List ℤ} {here n : ℕ}
     (v : Storing s at w K count kinds₀ numbers₀ kinds numbers here n) where
-  -- where a constraint is left to store, a field stands
-  pub no-cut : {a : ℕ} → fieldsAt s here ≡ cut a → ⊥
-  unfolding counted
-  no-cut {a} e =
-      let q : Counted.fault 2 a ≡ Counted.count count = sym (rw e) ∙ v .able .is in
-      let z : _≡_ {A = ℕ} 0 1 = cc in omega arith
-
-  pub no-end : n < count → {a : ℕ} → fieldsAt s here ≡ ends a → ⊥
-  unfolding counted
-  no-end h {a} e =
-      let q : Counted.count n ≡ Counted.count count = sym (rw e) ∙ v .able .is in
-      let z : n ≡ count = cc in omega arith
+  abbrev left : ConstraintsLeft w K n count s here
+  left = record { counts = v .able .is }
 
   pub here-took : n < count → Took s here (getD s here 0) (here + 3) (lenAt s here) (here + 3 + lenAt s here)
-  here-took h = took-here s here no-cut (no-end h)
+  here-took h = left-took left h
 
   -- past a note the same is left
   pub storing-note : {next : ℕ} → fieldsAt s here ≡ fieldsAt s next → Storing s at w K count kinds₀ numbers₀ kinds numbers next n
@@ -139,10 +94,4 @@ module _ {s : List ℕ} {at w K count : ℕ} {kinds₀ : List ℕ} {numbers₀ :
   pub storing-done : count ≤ n
       → (kinds ≡ sets kinds₀ 0 (kindsOf (stated w K (fieldsAt s at)))) × (numbers ≡ sets numbers₀ 0 (numbersOf (stated w K (fieldsAt s at))))
   unfolding kindsOf numbersOf
-  storing-done h =
-      let e : stated w K (fieldsAt s here) ≡ [] = none-left (stated w K (fieldsAt s here)) (omega (arith, count-is w K n count (fieldsAt s here) (v .able .is))) in
-      (rw e at (v .kinds-is), rw e at (v .numbers-is))
-    where
-      none-left : (cs : List Constraint) → length cs ≡ 0 → cs ≡ []
-      none-left [] e = refl
-      none-left (c ∷ cs) e = absurd (omega arith)
+  storing-done h = let e = left-done left h in (rw e at (v .kinds-is), rw e at (v .numbers-is))

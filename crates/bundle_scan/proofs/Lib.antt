@@ -3,3 +3,4 @@ pub mod Bodies
 pub mod Pairs
 pub mod Contents
 pub mod Scanning
+pub mod Left

@@ -76,6 +76,10 @@ pub record IsBundle (given : ℕ) (s : List ℕ) (K : ℕ) (body : Body) : Type 
   pub header : IsBundleHeader newestEdition given s (Headed.Header (body .edition) K (body .at))
   pub counts : counted (edition (body .edition) .coefficientWidth) K 0 (fieldsAt s (body .at)) ≡ count (body .count)
 
+-- From a place on m constraints are without fault, with the n before it: what a pass knows that tests nothing again.
+pub record ConstraintsLeft (w K n m : ℕ) (s : List ℕ) (at : ℕ) : Type 0 where
+  pub counts : counted w K n (fieldsAt s at) ≡ count m
+
 abbrev pub ScannedBy : (given : ℕ) (s : List ℕ) (wanted : ℕ) → Scanned → Type 0
 ScannedBy given s wanted (Scanned.Bundle K body start) = IsBundle given s K body × (start ≡ constraintStart s wanted)
 ScannedBy given s wanted (Scanned.Refused number place) = (file : ℕ) → bundle newestEdition file (givenK given) s ≡ refused (answer number file place)

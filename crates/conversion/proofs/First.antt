@@ -10,8 +10,9 @@ use Rattle.forms.specs.Forms.{All, nil, cons}
 use Rattle.answers.specs.Answers.{answer, Result, refused, accepted, _>>=_, _>>_, need}
 use Rattle.answers.proofs.Results.{Gives, gives-refused, gives-accepted, weaken, bind, test, needs, fail}
 use Rattle.fields.specs.declared.FileKind.{FileKind}
-use Rattle.fields.specs.Fields.{Field, Fields, ends, cut, _▸_, Item, item, items, nth}
+use Rattle.fields.specs.Fields.{Field, Fields, ends, cut, _▸_, Item, item, items, fields, nth}
 use Rattle.fields.specs.Header.{Header, headerField, editionField, constantsField, header}
+use Rattle.bundle.specs.Bundle.{atMost, bundleHeader}
 use Rattle.bundle.specs.Layout.{Each}
 use Rattle.bundle.proofs.Laid.{Lists, done, next, listed}
 use Rattle.conversion.specs.Turning.{eachField, behindHeader}
@@ -50,6 +51,15 @@ module _ (kind : FileKind) (file : ℕ) where
       bind {P = λ x. (f : Field) × (fs ≡ f ▸ x .1)} (bind (first-gives 0x01 fs) λ x p. test _ _ tt λ _. gives-accepted p) λ x p.
       bind {P = λ y. (g : Field) × (x .1 ≡ g ▸ y .1)} (bind (first-gives 0x02 (x .1)) λ y q. test _ _ tt λ _. test _ _ tt λ _. gives-accepted q) λ y q.
       gives-accepted (sym (ap behindHeader (p .1 ∙ ap (λ (gs : Fields). p .0 ▸ gs) (q .1))))
+
+-- and those of a bundle, whose length is asked between the two
+pub bundle-rest-gives : (newest file : ℕ) (given : Option ℕ) (bytes : List ℕ) → Gives (bundleHeader newest file given bytes) (λ h. h .rest ≡ behindHeader (fields bytes))
+unfolding bundleHeader atMost editionField constantsField behindHeader
+bundle-rest-gives newest file given bytes =
+    bind {P = λ x. (f : Field) × (fields bytes ≡ f ▸ x .1)} (bind (first-gives FileKind.Bundle file 0x01 (fields bytes)) λ x p. test _ _ tt λ _. gives-accepted p) λ x p.
+    test _ _ tt λ _.
+    bind {P = λ y. (g : Field) × (x .1 ≡ g ▸ y .1)} (bind (first-gives FileKind.Bundle file 0x02 (x .1)) λ y q. test _ _ tt λ _. test _ _ tt λ _. gives-accepted q) λ y q.
+    gives-accepted (sym (ap behindHeader (p .1 ∙ ap (λ (gs : Fields). p .0 ▸ gs) (q .1))))
 
 -- and so their numbers
 pub nth-behind : (fs : Fields) (n : ℕ) → nth (suc (suc n)) fs ≡ nth n (behindHeader fs)

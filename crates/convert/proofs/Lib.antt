@@ -1,5 +1,4 @@
 -- Each way through turning.
-pub mod Again
-pub mod Unheld
+pub mod Constraints
 pub mod Other
 pub mod Whole

@@ -1,5 +1,5 @@
 -- Laws for each way through turn_proof and turn_bundle. Assumes nothing.
-use mathlib.Core.Path.{_≡_, refl, sym, _∙_, ap, ap₂}
+use mathlib.Core.Path.{_≡_, sym, _∙_, ap}
 use mathlib.Core.Option.{none}
 use mathlib.Core.Bool.{Bool, true, false, _&&_}
 use mathlib.Core.List.{List, _++_}
@@ -17,11 +17,9 @@ use Rattle.answers.specs.declared.WriteResult.{WriteResult}
 use Rattle.answers.specs.Answers.{answer, acceptance, fileA, fileProof, fileLent, refused, accepted, _>>=_, _>>_, need, over, fit, written}
 use Rattle.answers.proofs.Results.{passes, binds, bind-refused, then-refused, needs, fail}
 use Rattle.answers.proofs.Over.{sets-over}
-use Rattle.number_bytes.specs.Numbers.{unsignedBytes}
-use Rattle.number_bytes.proofs.Stores.{sets-append}
 use Rattle.fields.specs.declared.FileKind.{FileKind}
 use Rattle.fields.specs.declared.header.Headed.{Headed}
-use Rattle.fields.specs.Fields.{Fields, item, fields, fieldBytes}
+use Rattle.fields.specs.Fields.{Fields, item, fields}
 use Rattle.fields.specs.Header.{Header, header, headerBytes}
 use Rattle.fields.specs.Places.{fieldsAt, headedOf, IsHeader}
 use Rattle.fields.proofs.HeaderLaid.{header-gives}
@@ -36,6 +34,7 @@ use Rattle.conversion_survey.specs.Going.{surveyOf, EntriesReadAs, LinesThere, 
 use Rattle.conversion_survey.specs.declared.Survey.{Survey}
 use Rattle.conversion_survey.specs.declared.Entries.{Entries}
 use Rattle.conversion_survey.proofs.Ways.{fits, turned}
+use Rattle.conversion_bundle.proofs.Putting.{header-length, header-put}
 use Rattle.convert.specs.Known.{HasOther, ToTurn, ToEnter, ToFit, ToPut}
 
 -- ---- what a refusal leaves
@@ -119,10 +118,6 @@ lines-of : (e K : ℕ) {fs : Fields} {es : List Entry} → Lists (Enters (editio
 lines-of e K (done at) = at-end
 lines-of e K (next f s l) = at-field (there e e K (item (f .tag) (f .contents)) s) (lines-of e K l)
 
-header-length : (n K : ℕ) → length (headerBytes n K) ≡ 8
-unfolding headerBytes fieldBytes unsignedBytes
-header-length n K = refl
-
 module _ (to : ℕ) (file out : List ℕ) (at K e : ℕ) (t : ToEnter to file at K e) where
   abbrev body : Fields
   body = fieldsAt file at
@@ -205,7 +200,5 @@ module _ (to : ℕ) (file out : List ℕ) (at K e size : ℕ) (t : ToPut to file
       → TurnsProof to file out y (record { answer = a; count = 8 + size })
   unfolding turnProof written fit
   all-put {x} {y} h l hx hy ha =
-      let first : 8 ≡ 0 + length (headerBytes to K) = omega (arith, header-length to K) in
-      let whole : y ≡ over bytesIn out =
-      hy ∙ ap₂ (λ (o : List ℕ) (n : ℕ). sets o n (turned e to bodyIn)) hx first ∙ sym (sets-append (headerBytes to K) (turned e to bodyIn) out 0) ∙ sets-over bytesIn out (omega (arith, size-is)) in
+      let whole : y ≡ over bytesIn out = header-put to K out (turned e to bodyIn) hx hy ∙ sets-over bytesIn out (omega (arith, size-is)) in
       rw (ha, whole) (record { is = rw (done-bytes h, le-leb (length bytesIn) (length out) (omega (arith, size-is)), size-is) })

@@ -4,7 +4,6 @@ use mathlib.Core.Option.{none}
 use mathlib.Core.Bool.{false}
 use mathlib.Core.List.{List}
 use Prim.Native.Nat.{ℕ, _≤_}
-use lib.IntN.{ℤ}
 use lib.ListN.{length}
 use Rattle.forms.specs.Edition.{edition, newestEdition}
 use Rattle.answers.specs.Answers.{fileA, fileProof, accepted}
@@ -12,35 +11,32 @@ use Rattle.fields.specs.declared.FileKind.{FileKind}
 use Rattle.fields.specs.Fields.{fields}
 use Rattle.fields.specs.Header.{header}
 use Rattle.fields.specs.Places.{fieldsAt}
-use Rattle.bundle.specs.Bundle.{Bundle, bundle}
-use Rattle.bundle.specs.Read.{kindsOf, numbersOf}
+use Rattle.bundle_scan.specs.declared.Body.{Body}
+use Rattle.bundle_scan.specs.Scan.{IsBundle}
 use Rattle.conversion.specs.Turning.{asked, otherEdition, eachField, linesFit, linesTurned, fieldsTurned, entriesRead}
 use Rattle.conversion_survey.specs.declared.Survey.{Survey}
 use Rattle.conversion_survey.specs.Going.{surveyOf}
+use Rattle.conversion_bundle.specs.Turned.{numbersHeld}
 
 pub record HasOther (kind : FileKind) (to : ℕ) (s : List ℕ) (r : Survey) : Type 0 where
   pub is : (file : ℕ) → otherEdition kind file to (fields s) ≡ surveyOf file r
 
 -- ---- a bundle on its way
--- It is a bundle's file.
-pub record ReadsAsBundle (file : List ℕ) : Type 0 where
-  pub b : Bundle
-  pub reads : bundle newestEdition fileA none file ≡ accepted b
-
--- It is to be read.
+-- It is to be gone over.
 pub record ToTurn (to : ℕ) (file : List ℕ) : Type 0 where
   pub asks : asked to ≡ accepted tt
   pub short : length file ≤ 8_192
   pub from : otherEdition FileKind.Bundle fileA to (fields file) ≡ accepted tt
 
--- It is read.
-pub record ToWrite (to : ℕ) (file : List ℕ) (K : ℕ) (kinds : List ℕ) (numbers : List ℤ) : Type 0 where
+-- It is a bundle without fault.
+pub record ToHold (to : ℕ) (file : List ℕ) (K : ℕ) (body : Body) : Type 0 where
   pub turn : ToTurn to file
-  pub b : Bundle
-  pub reads : bundle newestEdition fileA none file ≡ accepted b
-  pub constants : b .K ≡ K
-  pub kinds-are : kinds ≡ kindsOf (b .constraints)
-  pub numbers-are : numbers ≡ numbersOf (b .constraints)
+  pub is : IsBundle 0 file K body
+
+-- And the edition asked for holds each number.
+pub record ToWrite (to : ℕ) (file : List ℕ) (K : ℕ) (body : Body) : Type 0 where
+  pub hold : ToHold to file K body
+  pub fits : numbersHeld to K (fieldsAt file (body .at)) ≡ accepted tt
 
 -- ---- a proof on its way: its header is read
 pub record ToEnter (to : ℕ) (file : List ℕ) (at K e : ℕ) : Type 0 where

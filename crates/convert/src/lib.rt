@@ -1,11 +1,13 @@
-// Turning a proof into the other edition: document 02, point 4; and the tests that a bundle passes first. (What reads and writes
-// the bundle itself stands in the library's crate: docs/SPEED.md, Second callers.)
+// Turning a bundle or a proof into the other edition: document 02, point 4.
 // Their definitions are conversion/specs/Turning.antt, their contracts conversion/specs/Promises.antt.
 use answers::WriteResult;
 use answers::acceptance;
 use answers::refusal;
+use bundle_scan::Body;
 use bundle_scan::Scanned;
 use bundle_scan::scan;
+use conversion_bundle::first_unheld;
+use conversion_bundle::put_turned;
 use conversion_survey::Entries;
 use conversion_survey::Survey;
 use conversion_survey::first_wide;
@@ -19,22 +21,22 @@ use fields::header::put_header;
 use fields::header::read_edition;
 use fields::header::read_header;
 use fields::next_field;
+use forms::BUNDLE_BYTES;
 use forms::NEWEST;
 use forms::PROOF_BYTES;
+use forms::coefficient_bytes;
 ghost use mathlib.Core.Path.{_≡_};
 ghost use mathlib.Core.Bool.{_&&_};
-ghost use Prim.Native.Nat.{_+_, _/_};
 ghost use lib.Dec.{leb};
 ghost use Rattle.forms.specs.Edition.{newestEdition};
 ghost use Rattle.answers.specs.Answers.{answer, accepted};
 ghost use Rattle.fields.specs.Fields.{fields};
-ghost use Rattle.bundle_scan.specs.Scan.{constraintStart};
 ghost use Rattle.proof.specs.Tree.{startsAt};
 ghost use Rattle.conversion.specs.Turning.{asked};
-ghost use Rattle.conversion.specs.Promises.{TurnsProof};
-ghost use Rattle.convert.specs.Known.{HasOther, ReadsAsBundle, ToEnter, ToFit, ToPut};
+ghost use Rattle.conversion.specs.Promises.{TurnsBundle, TurnsProof};
+ghost use Rattle.convert.specs.Known.{HasOther, ToHold, ToWrite, ToEnter, ToFit, ToPut};
 
-pub fn refused(number: u8, file: u8, place: usize) -> WriteResult
+fn refused(number: u8, file: u8, place: usize) -> WriteResult
     ensures { λ r. ⌜ r ≡ record { answer = answer number file place; count = 0 } ⌝ }
 {
     WriteResult {
@@ -61,7 +63,7 @@ fn first_place(s: &[u8]) -> usize
 }
 
 // Whether the file has the other edition than the one asked for; or what it is refused for.
-pub fn has_other(s: &[u8], kind: FileKind, to: u8) -> Survey
+fn has_other(s: &[u8], kind: FileKind, to: u8) -> Survey
     requires { ⌜ asked to ≡ accepted tt ⌝ }
     ensures { λ r. ⌜ HasOther kind to (now (s .entry)) r ⌝ }
 {
@@ -80,7 +82,7 @@ pub fn has_other(s: &[u8], kind: FileKind, to: u8) -> Survey
 }
 
 // Whether it is an edition that may be asked for, whatever number it is.
-pub fn is_edition(edition: usize) -> bool
+fn is_edition(edition: usize) -> bool
     ensures { λ r. ⌜ r ≡ (leb 1 edition && leb edition newestEdition) ⌝ }
 {
     if 1 <= edition {
@@ -91,22 +93,55 @@ pub fn is_edition(edition: usize) -> bool
 }
 
 // ---- a bundle
-// Where the constraint starts that has number `index` of a bundle's numbers, K+1 a constraint.
-pub fn number_place(file: &[u8], index: usize, k: u8) -> usize
-    requires { ⌜ ReadsAsBundle (now file) ⌝ }
-    ensures { λ r. ⌜ r ≡ constraintStart (now (file .entry)) (index / (k + 1)) ⌝ }
+// A bundle whose numbers the edition asked for holds: 21, or it is written.
+fn put_bundle(file: &[u8], k: u8, body: Body, to: u8, out: &mut [u8]) -> WriteResult
+    requires { ⌜ ToWrite to (now file) k body ⌝ }
+    ensures { λ r. ⌜ TurnsBundle to (now (file .entry)) (now (out .entry)) (now (out .exit)) r ⌝ }
 {
-    match scan(file, 0, index / (k as usize + 1)) {
-        Scanned::Bundle {
-            k: _,
-            body: _,
-            start,
-        } => start,
-        Scanned::Refused {
-            number: _,
-            place: _,
-        } => 0,
+    let count = body.count;
+    let size = 8 + count * (3 + (k as usize + 1) * coefficient_bytes(to));
+    if out.len() < size {
+        return refused(21, 4, size);
     }
+    put_turned(file, body.at, k, count, to, out);
+    WriteResult {
+        answer: acceptance(),
+        count: size,
+    }
+}
+
+// A bundle that was gone over: 13 at the first field with a number that the edition asked for does not hold.
+fn turn_constraints(file: &[u8], k: u8, body: Body, to: u8, out: &mut [u8]) -> WriteResult
+    requires { ⌜ ToHold to (now file) k body ⌝ }
+    ensures { λ r. ⌜ TurnsBundle to (now (file .entry)) (now (out .entry)) (now (out .exit)) r ⌝ }
+{
+    match first_unheld(file, body.at, k, body.count, to) {
+        Survey::Fine => put_bundle(file, k, body, to, out),
+        Survey::Refused { number, place } => refused(number, 1, place),
+    }
+}
+
+// Turns a bundle into the edition asked for.
+pub fn turn_bundle(file: &[u8], edition: usize, out: &mut [u8]) -> WriteResult
+    ensures { λ r. ⌜ TurnsBundle edition (now (file .entry)) (now (out .entry)) (now (out .exit)) r ⌝ }
+{
+    if is_edition(edition) {
+        if file.len() > BUNDLE_BYTES {
+            return refused(1, 1, 0);
+        }
+        let to = edition as u8;
+        match has_other(file, FileKind::Bundle, to) {
+            Survey::Fine => {}
+            Survey::Refused { number, place } => {
+                return refused(number, 1, place);
+            }
+        }
+        return match scan(file, 0, 0) {
+            Scanned::Bundle { k, body, start: _ } => turn_constraints(file, k, body, to, out),
+            Scanned::Refused { number, place } => refused(number, 1, place),
+        };
+    }
+    refused(5, 4, 0)
 }
 
 // ---- a proof

@@ -1,7 +1,5 @@
 // The operations for other programs: what a static library has for Rust and C. Thin, over the proved operations.
 // A slice is a pointer and a length; what is lent as `&mut` overlaps nothing else that is passed.
-mod turning;
-
 ghost use mathlib.Core.Path.{_≡_};
 ghost use mathlib.Core.Bool.{true, false};
 ghost use Rattle.forms.specs.Edition.{newestEdition};
@@ -42,14 +40,12 @@ use scheduler_turn::proof_of;
 use scheduler_turn::served;
 use shorten::ShortenResult;
 use shorten::shorten;
-use turning::turn_bundle;
 
-// The file is taken anew: turning a bundle calls this too, and it is then handed over in registers (docs/SPEED.md, Slices taken anew).
 #[no_mangle]
 pub extern "C" fn dulgaverk_read(file: &[u8], kinds: &mut [u8], numbers: &mut [i32]) -> ReadResult
     ensures { λ r. ⌜ Reads (now (file .entry)) (now (kinds .entry)) (now (numbers .entry)) (now (kinds .exit)) (now (numbers .exit)) r ⌝ }
 {
-    bundle_read::read(&file[0..file.len()], kinds, numbers)
+    bundle_read::read(file, kinds, numbers)
 }
 
 #[no_mangle]
@@ -131,7 +127,7 @@ pub extern "C" fn dulgaverk_test(formula: &[u8], values: &[i32]) -> Tested
 pub extern "C" fn dulgaverk_turn_bundle(file: &[u8], edition: usize, out: &mut [u8]) -> WriteResult
     ensures { λ r. ⌜ TurnsBundle edition (now (file .entry)) (now (out .entry)) (now (out .exit)) r ⌝ }
 {
-    turn_bundle(file, edition, out)
+    convert::turn_bundle(file, edition, out)
 }
 
 #[no_mangle]

@@ -42,7 +42,7 @@ shared-slice-read-tag c =
 sub-kinds : tie.Need-sub-kinds Inv-loop μ-loop
 sub-kinds c =
     let r = room (took-starts (here-took (c .before .before .before .loop .inv .0) (c .before .before .loop-test .taken)) (c .if1 .taken)) (c .before .before .before .loop .inv .0 .able) in
-    omega (arith, r .from)
+    omega (arith, r .turn .from)
 
 slice-write-kinds : tie.Need-slice-write-kinds Inv-loop μ-loop
 slice-write-kinds c = room (took-starts (here-took (c .before .before .before .loop .inv .0) (c .before .before .loop-test .taken)) (c .if1 .taken)) (c .before .before .before .loop .inv .0 .able) .kinds-room
@@ -55,12 +55,12 @@ add-store-form c =
 store-form-requires : tie.Need-store-form-requires Inv-loop μ-loop
 store-form-requires c κs =
     let r = room (took-starts (here-took (c .before .before .before .before .loop .inv .0) (c .before .before .before .loop-test .taken)) (c .before .if1 .taken)) (c .before .before .before .before .loop .inv .0 .able) in
-    ((c .before .before .before .before .before .before .before .pre .0 .0, omega (arith, c .before .before .before .before .before .before .before .pre .0 .1)), (r .bytes, omega (arith, r .numbers-room, c .before .before .before .before .loop .inv .1)))
+    ((c .before .before .before .before .before .before .before .pre .0 .0, omega (arith, c .before .before .before .before .before .before .before .pre .0 .1)), (r .turn .bytes, omega (arith, r .numbers-room, c .before .before .before .before .loop .inv .1)))
 
 add-here : tie.Need-add-here Inv-loop μ-loop
 add-here c =
     let r = room (took-starts (here-took (c .before .before .before .before .before .before .loop .inv .0) (c .before .before .before .before .before .loop-test .taken)) (c .before .before .before .if1 .taken)) (c .before .before .before .before .before .before .loop .inv .0 .able) in
-    record { fits = omega (arith, r .bytes) }
+    record { fits = omega (arith, r .turn .bytes) }
 
 add-to : tie.Need-add-to Inv-loop μ-loop
 add-to c =
@@ -70,12 +70,12 @@ add-to c =
 add-n : tie.Need-add-n Inv-loop μ-loop
 add-n c =
     let r = room (took-starts (here-took (c .before .before .before .before .before .before .loop .inv .0) (c .before .before .before .before .before .loop-test .taken)) (c .before .before .before .if1 .taken)) (c .before .before .before .before .before .before .loop .inv .0 .able) in
-    record { fits = omega (arith, r .few) }
+    record { fits = omega (arith, r .turn .few) }
 
 loop-less : tie.Need-loop-less Inv-loop μ-loop
 loop-less c =
     let r = room (took-starts (here-took (c .before .before .before .before .before .before .loop .inv .0) (c .before .before .before .before .before .loop-test .taken)) (c .before .before .before .if1 .taken)) (c .before .before .before .before .before .before .loop .inv .0 .able) in
-    omega (arith, r .bytes)
+    omega (arith, r .turn .bytes)
 
 loop-again : tie.Need-loop-again Inv-loop μ-loop
 loop-again c =

@@ -1,0 +1,3 @@
+-- Constraints gone over and written, as laws over plain values.
+pub mod Holding
+pub mod Putting

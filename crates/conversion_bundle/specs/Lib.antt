@@ -1,0 +1,2 @@
+-- Constraints turned.
+pub mod Turned
