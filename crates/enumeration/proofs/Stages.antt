@@ -33,6 +33,8 @@ pub stage-1-two : listed 1 (K3 ++ A1) (K3 ++ B1) ≡ accepted
 unfolding coeff sum value sums _⊞_ _·_ remainder reduced nonzero small every inRange _>>=_ _>>_ need found unsigned complement signed signeds flat formFrom front note unlessNote fieldsFrom fields headerTag known agrees headerField editionField constantsField kindTagged atMost formSmall constraints bundleHeader bundle bundles is plainKind fails lineAt derived fitting byNumber byStride concatMap upFrom combines reduces scales inferences numberCloses strideCloses closeRows newLine closeFormula ifAccepted proofsOf listed
 stage-1-two = refl
 
-pub counted-so : All (λ c. (counted 0 (c .A) (c .B) ≡ accepted (c .one)) × (counted 1 (c .A) (c .B) ≡ accepted (c .two)) × (counted 2 (c .A) (c .B) ≡ accepted (c .three))) counts
+-- the table's numbers of proofs of one row and of two; those of three rows are `counted-three` of enumeration_rows, since every
+-- edit of this crate would pay for their evaluation
+pub counted-so : All (λ c. (counted 0 (c .A) (c .B) ≡ accepted (c .one)) × (counted 1 (c .A) (c .B) ≡ accepted (c .two))) counts
 unfolding coeff sum value sums _⊞_ _·_ remainder reduced nonzero small every inRange _>>=_ _>>_ need found unsigned complement signed signeds flat formFrom front note unlessNote fieldsFrom fields headerTag known agrees headerField editionField constantsField kindTagged atMost formSmall constraints bundleHeader bundle bundles is plainKind fails lineAt derived fitting byNumber byStride concatMap upFrom combines reduces scales inferences numberCloses strideCloses closeRows newLine closeFormula ifAccepted proofsOf counted
-counted-so = cons (refl, refl, refl) (cons (refl, refl, refl) (cons (refl, refl, refl) (cons (refl, refl, refl) (cons (refl, refl, refl) (cons (refl, refl, refl) (cons (refl, refl, refl) (cons (refl, refl, refl) nil)))))))
+counted-so = cons (refl, refl) (cons (refl, refl) (cons (refl, refl) (cons (refl, refl) (cons (refl, refl) (cons (refl, refl) (cons (refl, refl) (cons (refl, refl) nil)))))))

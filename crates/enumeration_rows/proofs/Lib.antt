@@ -1,4 +1,4 @@
--- Laws that the proofs of the functions cite: rows by number and their bytes, rows told by their bytes, rows applied, closes in turn, tables written.
+-- Laws that the proofs of the functions cite: rows by number and their bytes, rows told by their bytes, rows applied, closes in turn, tables written; and how many proofs of three rows there are.
 pub mod Counts
 pub mod Stored
 pub mod Guessed
@@ -8,3 +8,4 @@ pub mod Numbers
 pub mod FoundRows
 pub mod Closes
 pub mod DeliveredTables
+pub mod ThreeRows
