@@ -175,10 +175,10 @@ run-promised = record {
   in-proof = λ buffer lengths proof output sizes left sizesLeft r w K Ts short stages few h.
       let e : r .answer ≡ guards buffer lengths proof output sizes .answer = ap (λ (g : GuardsWritten). g .answer) (w .is) in
       rw e (refused-in-proof buffer lengths proof output sizes K Ts short stages few (rw e at h));
-  names-proof = λ buffer lengths proof output sizes left sizesLeft r bytes w K Ts short stages few.
+  names-proof = λ buffer lengths proof output sizes left sizesLeft r w K Ts short stages few.
       let e : r .answer ≡ guards buffer lengths proof output sizes .answer = ap (λ (g : GuardsWritten). g .answer) (w .is) in (
-        λ h. none-where-named buffer lengths proof output sizes K Ts short stages few bytes (rw e at h),
         λ n. rw e (where-none buffer lengths proof output sizes K Ts short stages few n (λ a. a .file ≡ fileProof) (of-proof buffer lengths proof output sizes K Ts short stages few)),
+        λ bytes h. none-where-named buffer lengths proof output sizes K Ts short stages few bytes (rw e at h),
       );
   not-uniform = λ buffer lengths proof output sizes left sizesLeft r w K Ts short stages few cuts n.
       let e : r .answer ≡ guards buffer lengths proof output sizes .answer = ap (λ (g : GuardsWritten). g .answer) (w .is) in

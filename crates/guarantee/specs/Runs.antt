@@ -103,10 +103,11 @@ pub record RunPromised : Type 0 where
   pub in-proof : (buffer lengths proof output sizes left sizesLeft : List ℕ) (r : WriteResult) → WritesGuards buffer lengths proof output sizes left sizesLeft r
       → (K : ℕ) (Ts : Run) → RunWithinLimits lengths buffer proof → Each (StageFile newestEdition K) (parts lengths buffer) Ts → length (joined Ts) ≤ mostConstraints → r .answer .file ≡ fileProof
       → RunRefused newestEdition K Ts proof (r .answer) × Earliest newestEdition K Ts proof (r .answer) × (¬ (r .answer .number ≡ 14))
-  -- and it does name the proof just where the proof derives no guards (of a proof that is bytes, as a slice is)
-  pub names-proof : (buffer lengths proof output sizes left sizesLeft : List ℕ) (r : WriteResult) → Bytes proof → WritesGuards buffer lengths proof output sizes left sizesLeft r
+  -- and it does name the proof where the proof derives no guards; just there, if the proof is bytes, as a slice is (of other numbers 1, 0 and 0, 256 are one multiplier: unlike fields of like rows, which derive guards and give 28)
+  pub names-proof : (buffer lengths proof output sizes left sizesLeft : List ℕ) (r : WriteResult) → WritesGuards buffer lengths proof output sizes left sizesLeft r
       → (K : ℕ) (Ts : Run) → RunWithinLimits lengths buffer proof → Each (StageFile newestEdition K) (parts lengths buffer) Ts → length (joined Ts) ≤ mostConstraints
-      → r .answer .file ≡ fileProof ↔ ((Is : List Formula) → ¬ (RunYields newestEdition buffer lengths proof K Ts Is))
+      → (((Is : List Formula) → ¬ (RunYields newestEdition buffer lengths proof K Ts Is)) → r .answer .file ≡ fileProof)
+      × (Bytes proof → r .answer .file ≡ fileProof → (Is : List Formula) → ¬ (RunYields newestEdition buffer lengths proof K Ts Is))
   -- by 27 or 28 where check accepts every cut, the proof not being uniform
   pub not-uniform : (buffer lengths proof output sizes left sizesLeft : List ℕ) (r : WriteResult) → WritesGuards buffer lengths proof output sizes left sizesLeft r
       → (K : ℕ) (Ts : Run) → RunWithinLimits lengths buffer proof → Each (StageFile newestEdition K) (parts lengths buffer) Ts → length (joined Ts) ≤ mostConstraints
