@@ -6,7 +6,6 @@ pub mod Refusals
 pub mod Tree
 pub mod Acceptance
 pub mod FormulaFiles
-pub mod AtEnd
 pub mod Soundness
 pub mod Guard
 pub mod Testing
@@ -14,6 +13,8 @@ pub mod Showing
 pub mod BundleNumbers
 pub mod RefusedIff
 pub mod Meant
+pub mod NotedPlaces
+pub mod NotedAnswers
 pub mod Reduced
 pub mod Rounding
 pub mod Apart

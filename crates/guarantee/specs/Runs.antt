@@ -1,8 +1,10 @@
 -- What the guards of a run are worth: sequence interpolants, for whatever the stages' writers made and meant. Document 02, point 7. Of what the function ensures. Assumes nothing.
 use mathlib.Core.Path.{_≡_}
 use mathlib.Core.Logic.{_↔_, _⊎_}
+use mathlib.Core.Bool.{cond}
 use mathlib.Core.List.{List, map}
 use Prim.Native.Nat.{ℕ, suc, _≤_, _<_}
+use lib.Dec.{eqb}
 use lib.ListN.{length, take}
 use Rattle.forms.specs.Edition.{edition1, newestEdition}
 use Rattle.forms.specs.Forms.{All, Constraint, Formula}
@@ -10,19 +12,20 @@ use Rattle.answers.specs.declared.WriteResult.{WriteResult}
 use Rattle.answers.specs.Answers.{answer, acceptance, fileProof, fileLent, accepted, over, writtenOf, written}
 use Rattle.number_bytes.specs.Numbers.{Bytes}
 use Rattle.fields.specs.Fields.{Item, Framed, fileOf, fields, Noted, Kept}
-use Rattle.bundle.specs.Layout.{Each, BundleFile, bundleLimit}
+use Rattle.bundle.specs.Layout.{Each, nil, cons, BundleFile, bundleLimit}
 use Rattle.formula.specs.Formula.{formulaFile}
 use Rattle.proof.specs.Check.{checkProof}
 use Rattle.proof.specs.Promises.{Checks}
 use Rattle.chains.specs.Runs.{Run, joined, upTo, beyond, Chain}
-use Rattle.run.specs.Run.{mostConstraints, parts, side}
+use Rattle.run.specs.Run.{mostConstraints, firstStage, parts, side}
 use Rattle.run.specs.Layout.{guardAt, StageFile, RunYields, RunCertifies}
 use Rattle.run.specs.Refused.{Earliest, RunRefused}
 use Rattle.run.specs.Ordered.{Parted, RunWithinLimits}
 use Rattle.run.specs.Promises.{WritesGuards}
 use Rattle.guarantee.specs.LaidOut.{WholeFields}
 use Rattle.guarantee.specs.RefusedIff.{JustWhere}
-use Rattle.guarantee.specs.Soundness.{Meaning, Faithful, placeless}
+use Rattle.guarantee.specs.NotedPlaces.{movedBy, movedAnswer}
+use Rattle.guarantee.specs.Soundness.{Meaning, Faithful}
 use Rattle.guarantee.specs.Testing.{FormulaFile}
 
 -- A stage's writer: his fields, and what he meant by them.
@@ -164,8 +167,16 @@ pub record NotedStage (F F′ : List ℕ) : Type 0 where
   pub noted : Noted F F′
   pub kept : Kept (bundleLimit F) F F′
 
--- Whole notes between whole fields, in the stages and in the proof, change no number, file, row, step or branch, no count and no byte of the outputs (places move).
+-- The places of the stages, the first of these being this file, and those of a run's files. (With file 4 the place is a number of bytes, and stays.)
+unfoldable pub stagePlaces : (first : ℕ) {Fs Fs′ : List (List ℕ)} → Each NotedStage Fs Fs′ → (file place : ℕ) → ℕ
+stagePlaces first nil file p = p
+stagePlaces first (cons n ns) file p = cond (eqb file first) (movedBy (n .noted) p) (stagePlaces (suc first) ns file p)
+
+unfoldable pub runPlaces : {Fs Fs′ : List (List ℕ)} {proof proof′ : List ℕ} → Each NotedStage Fs Fs′ → Noted proof proof′ → (file place : ℕ) → ℕ
+runPlaces ns nP file p = cond (eqb file fileProof) (movedBy nP p) (stagePlaces firstStage ns file p)
+
+-- Whole notes between whole fields, in the stages and in the proof, change no number, file, row, step or branch, no count and no byte of the outputs, and the place stands where they move it: as of check.
 pub record RunNotes : Type 0 where
-  pub passed-over : (Fs Fs′ : List (List ℕ)) (proof proof′ output sizes left left′ sizesLeft sizesLeft′ : List ℕ) (r r′ : WriteResult) → Each NotedStage Fs Fs′ → Noted proof proof′ → Kept (edition1 .proofBytes) proof proof′
+  pub passed-over : (Fs Fs′ : List (List ℕ)) (proof proof′ output sizes left left′ sizesLeft sizesLeft′ : List ℕ) (r r′ : WriteResult) (ns : Each NotedStage Fs Fs′) (nP : Noted proof proof′) → Kept (edition1 .proofBytes) proof proof′
       → WritesGuards (joined Fs) (map length Fs) proof output sizes left sizesLeft r → WritesGuards (joined Fs′) (map length Fs′) proof′ output sizes left′ sizesLeft′ r′
-      → (placeless (r′ .answer) ≡ placeless (r .answer)) × (r′ .count ≡ r .count) × (left′ ≡ left) × (sizesLeft′ ≡ sizesLeft)
+      → (r′ .answer ≡ movedAnswer (runPlaces ns nP) (r .answer)) × (r′ .count ≡ r .count) × (left′ ≡ left) × (sizesLeft′ ≡ sizesLeft)
