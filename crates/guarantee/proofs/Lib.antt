@@ -37,3 +37,4 @@ pub mod RunPromised
 pub mod RunTells
 pub mod RunMoved
 pub mod RunNotes
+pub mod RunStages

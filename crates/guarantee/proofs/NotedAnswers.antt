@@ -32,7 +32,7 @@ use Rattle.guarantee.proofs.TooLongFiles.{Amidst, above-1, edition-amid
 use Rattle.guarantee.proofs.NotedPlaces.{fields-moved}
 
 -- ---- a block whose refusals are mapped, by one rule for each form of step
-abbrev mapped : (μ : Answer → Answer) {X Y : Type 0} → (X → Y) → Result X → Result Y
+abbrev pub mapped : (μ : Answer → Answer) {X Y : Type 0} → (X → Y) → Result X → Result Y
 mapped μ f (refused a) = refused (μ a)
 mapped μ f (accepted x) = accepted (f x)
 

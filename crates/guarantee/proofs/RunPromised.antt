@@ -31,6 +31,7 @@ use Rattle.guarantee.specs.LaidOut.{WholeFields}
 use Rattle.guarantee.specs.Runs.{RunPromised}
 use Rattle.guarantee.proofs.Soundness.{lists}
 use Rattle.guarantee.proofs.RunReasons.{is-parted, run-amid, yields}
+use Rattle.guarantee.proofs.RunStages.{in-stage}
 use Rattle.guarantee.proofs.Runs.{left-of, delivered, cut-checked}
 use Rattle.guarantee.proofs.RunAcceptance.{bundlesOf, run-of, stages-read, stages-fit, constants-of, parts-count, cut-accepted, guards-yielded}
 
@@ -153,6 +154,8 @@ run-promised = record {
   listed = λ buffer lengths proof output sizes left sizesLeft r bytes w h. all-listed lengths buffer bytes (left-of w h .checkable .certified .yields .stages);
   one-list = λ buffer lengths proof K K′ Ts Ts′ Is Is′ y y′. (same-K y y′, same-run y y′, same-list y y′);
   as-check = λ buffer lengths proof K Ts Is c i h A B nA nB a b lent checked q w. w .is ∙ cut-checked c i h A B nA nB a b lent;
+  in-stage = λ buffer lengths proof output sizes left sizesLeft r w limits before T after are A B file x P lent checked q short c.
+      in-stage w limits before T after are A B file x P lent checked q short c;
   in-proof = λ buffer lengths proof output sizes left sizesLeft r w K Ts short stages few h.
       let e : r .answer ≡ guards buffer lengths proof output sizes .answer = ap (λ (g : GuardsWritten). g .answer) (w .is) in
       rw e (refused-in-proof buffer lengths proof output sizes K Ts short stages few (rw e at h));

@@ -2,8 +2,8 @@
 use mathlib.Core.Path.{_≡_}
 use mathlib.Core.Logic.{_↔_, _⊎_}
 use mathlib.Core.Bool.{cond}
-use mathlib.Core.List.{List, map}
-use Prim.Native.Nat.{ℕ, suc, _≤_, _<_}
+use mathlib.Core.List.{List, [], _∷_, _++_, map}
+use Prim.Native.Nat.{ℕ, suc, _+_, _≤_, _<_}
 use lib.Dec.{eqb}
 use lib.ListN.{length, take}
 use Rattle.forms.specs.Edition.{edition1, newestEdition}
@@ -88,6 +88,17 @@ pub record RunCheckable (buffer lengths proof output sizes : List ℕ) : Type 0 
   pub certified : RunCertifies newestEdition buffer lengths proof K Ts Is
   pub fits : (length (guardsFile K Is) ≤ length output) × (length Is ≤ length sizes)
 
+-- These stages are bundles of one K.
+pub record Bundled (files : List (List ℕ)) : Type 0 where
+  pub K : ℕ
+  pub Ts : Run
+  pub stages : Each (StageFile newestEdition K) files Ts
+
+-- A and B of a check that reads a stage T, behind those before it, as the run reads it, and T's number there: the first stage is read as A (B is not too long), every other as B behind the first one as A.
+pub data ReadByCheck : (before : List (List ℕ)) (T A B : List ℕ) (file : ℕ) → Type 0 where
+  as-A : {T B : List ℕ} → length B ≤ 8_192 → ReadByCheck [] T T B 1
+  as-B : {F T : List ℕ} {before : List (List ℕ)} → ReadByCheck (F ∷ before) T F T 2
+
 pub record RunPromised : Type 0 where
   -- sequence interpolants, whatever the stages' writers made and meant
   pub interpolates : (ws : List Writer) (proof output sizes left sizesLeft : List ℕ) (r : WriteResult) → WritesGuards (bufferBy ws) (lengthsBy ws) proof output sizes left sizesLeft r
@@ -102,6 +113,11 @@ pub record RunPromised : Type 0 where
   pub as-check : (buffer lengths proof : List ℕ) (K : ℕ) (Ts : Run) (Is : List Formula) → RunCertifies newestEdition buffer lengths proof K Ts Is
       → (i : ℕ) → i ≤ length Ts → (A B : List ℕ) (nA nB : ℕ) → BundleFile newestEdition A nA K (upTo Ts i) → BundleFile newestEdition B nB K (beyond Ts i)
       → (lent checked : List ℕ) (q : WriteResult) → Checks A B proof lent checked q → writtenOf q checked ≡ written (accepted (formulaFile edition1 K (guardAt Is i))) lent
+  -- stage i, counted from 1, in its turn is refused with file 10+i just where those before it are bundles of one K and check, which reads it as A or as B with any proof that is not too long, refuses it; with check's number and place
+  pub in-stage : (buffer lengths proof output sizes left sizesLeft : List ℕ) (r : WriteResult) → WritesGuards buffer lengths proof output sizes left sizesLeft r → RunWithinLimits lengths buffer proof
+      → (before : List (List ℕ)) (T : List ℕ) (after : List (List ℕ)) → parts lengths buffer ≡ before ++ (T ∷ after)
+      → (A B : List ℕ) (file : ℕ) → ReadByCheck before T A B file → (P lent checked : List ℕ) (q : WriteResult) → length P ≤ 65_536 → Checks A B P lent checked q
+      → JustWhere (r .answer .file ≡ 11 + length before) (Bundled before × (q .answer .file ≡ file)) (r .answer) (λ _. answer (q .answer .number) (11 + length before) (q .answer .place))
   -- where the stages are in order and the answer names the proof: every cut is refused so, or it is a 13 of some cut, 27 or 28; nothing is refused at a lesser place, and 14 never comes
   pub in-proof : (buffer lengths proof output sizes left sizesLeft : List ℕ) (r : WriteResult) → WritesGuards buffer lengths proof output sizes left sizesLeft r
       → (K : ℕ) (Ts : Run) → RunWithinLimits lengths buffer proof → Each (StageFile newestEdition K) (parts lengths buffer) Ts → length (joined Ts) ≤ mostConstraints → r .answer .file ≡ fileProof
