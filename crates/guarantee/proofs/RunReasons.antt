@@ -14,11 +14,11 @@ use Rattle.forms.specs.Edition.{edition1, newestEdition}
 use Rattle.forms.specs.Forms.{All, nil, cons, Formula, every}
 use Rattle.answers.specs.declared.Answer.{Answer}
 use Rattle.answers.specs.Answers.{answer, fileProof, Result, refused, accepted, _>>_, need}
-use Rattle.fields.specs.Fields.{Fields, fields}
+use Rattle.fields.specs.Fields.{Fields, Item, fields}
 use Rattle.bundle.specs.Bundle.{atMost}
 use Rattle.bundle.specs.Layout.{Each}
 use Rattle.formula.specs.Formula.{formulaFile}
-use Rattle.proof.specs.Tree.{Tree}
+use Rattle.proof.specs.Tree.{OpenStep, Tree}
 use Rattle.proof.proofs.Tree.{proof-stands}
 use Rattle.proof.proofs.Satisfies.{Satisfies, says-refused, says-accepted, bind, weaken}
 use Rattle.chains.specs.Runs.{Run, joined, upTo, beyond}
@@ -30,7 +30,7 @@ use Rattle.run.specs.Ordered.{Parted, RunWithinLimits}
 use Rattle.run.proofs.Agree.{all-stages}
 use Rattle.run.proofs.OneTable.{RunAs, run-gives}
 use Rattle.run.proofs.Refused.{refused-as-check}
-use Rattle.guarantee.specs.RunTree.{StandsInRun, as-check, claim, unlike}
+use Rattle.guarantee.specs.RunTree.{Branch, closes, goes-on, Branches, final, further, Unlike, strengthen, round, past, StandsInRun, as-check, claim, unlike}
 use Rattle.guarantee.specs.Runs.{ManyConstraints, LongGuard}
 use Rattle.guarantee.proofs.NotedAnswers.{stands-file}
 use Rattle.guarantee.proofs.RunTree.{uniform-stands}
@@ -83,11 +83,24 @@ run-plain K Ts proof a (of-run (inl n) e f) = plain-amid a (omega arith) (inr (i
 run-plain K Ts proof a (of-run (inr n) e f) = plain-amid a (omega arith) (inr (inr n))
 
 -- ---- what is refused amid the proof names it, and is not by 1
+branch-file : {closed : List OpenStep} {t : Tree} {fs : Fields} {is : List Item} {rows : ℕ} {after : Fields} {a : Answer} → Branch closed t fs is rows after a → a .file ≡ fileProof
+branch-file (closes f k e q) = ap (λ (x : Answer). x .file) q
+branch-file (goes-on f b) = branch-file b
+
+branches-file : {step last b rows : ℕ} {ps : List OpenStep} {fs : Fields} {iss : List (List Item)} {rows′ : ℕ} {after : Fields} {a : Answer} → Branches step last ps b rows fs iss rows′ after a → a .file ≡ fileProof
+branches-file (final e b) = branch-file b
+branches-file (further h b bs) = branches-file bs
+
+unlike-file : {t : Tree} {fs : Fields} {a : Answer} → Unlike t fs a → a .file ≡ fileProof
+unlike-file (strengthen f e b n) = branches-file b
+unlike-file (round f e b n) = branches-file b
+unlike-file (past f u) = unlike-file u
+
 stands-in-proof : {t : Tree} {fs : Fields} {a : Answer} → StandsInRun t fs a → a .file ≡ fileProof
 unfolding withNumber
 stands-in-proof (as-check n m s) = stands-file s
 stands-in-proof (claim n s) = stands-file s
-stands-in-proof (unlike n s) = stands-file s
+stands-in-proof (unlike u) = unlike-file u
 
 module _ (K : ℕ) (Ts : Run) (proof : List ℕ) where
   cut-file : (a : Answer) (i : ℕ) → CutRefused newestEdition K Ts proof a i → a .file ≡ fileProof
