@@ -15,6 +15,7 @@ pub mod RefusedIff
 pub mod Meant
 pub mod NotedPlaces
 pub mod NotedAnswers
+pub mod TooManyLines
 pub mod Reduced
 pub mod Rounding
 pub mod Apart

@@ -55,7 +55,7 @@ both-say : {t : Tree} {fs : Fields} {X : Type 0} {r : Result X} {P : X → Type 
 both-say n s = record { refusal = λ a e. amidst-check a (n .refusal a e) (s .refusal a e); value = s .value }
 
 -- ---- the tag of a field, by the entry that it states
-abbrev tagOf : Entry → ℕ
+abbrev pub tagOf : Entry → ℕ
 tagOf (row (Derive (Combine i j α β))) = 0x10
 tagOf (row (Derive (Reduce i j α))) = 0x11
 tagOf (row (Derive (Scale i α))) = 0x12
@@ -79,7 +79,7 @@ module _ (e : Edition) (K : ℕ) (bs : List ℕ) where
       (by-tag P tag 0x14 numberTag (ap told) (by-tag P tag 0x15 strideTag (ap told) (by-tag P tag 0x16 roundTag (ap told) (by-tag P tag 0x17 splitTag (ap told)
       (by-tag P tag 0x20 claimTag (ap told) (λ e. absurd (let z : _≡_ {A = ℕ} 0 1 = cc in omega arith)))))))))) h h
 
-field-tag : (e : Edition) (K : ℕ) (f : Field) {x : Entry} → Enters e K (item (f .tag) (f .contents)) x → f .tag ≡ tagOf x
+pub field-tag : (e : Edition) (K : ℕ) (f : Field) {x : Entry} → Enters e K (item (f .tag) (f .contents)) x → f .tag ≡ tagOf x
 field-tag e K f n = tagged-as e K (f .contents) (f .tag) (n .tagged) (n .tag) ∙ ap tagOf (n .entry)
 
 -- ---- the same fields
@@ -106,6 +106,11 @@ some-other o h a = subst T h (all-same o a)
 abbrev lastOf : List OpenStep → ℕ
 lastOf [] = 0
 lastOf (s ∷ ss) = s .last
+
+-- a rounding's k, which its field tells
+pub rounding-told : (f : Field) (t : Tree) (k : ℕ) → f .tag ≡ 0x16 → treeBehind (entryTagged (f .tag)) (f .contents) t ≡ tree (suc (t .rows)) (openStep (t .rows) 0 k ∷ t .steps) → roundingOf (f .contents) ≡ k
+unfolding treeBehind entryTagged
+rounding-told f t k tag q = ap (λ (x : Tree). lastOf (x .steps)) (rw tag at q)
 
 -- ---- branches by their fields
 -- the tree behind a close
@@ -199,11 +204,7 @@ module _ (e : Edition) (two : e .multiplierWidth ≡ 2) (K : ℕ) (deeper : Opti
     third-unlike tag (further l c (further l2 c2 (final e c3))) h = strengthen f tag (further l c (further l2 c2 (final e c3))) (λ z. differ h (sym z))
     third-unlike tag (further l c (further l2 c2 (further l3 c3 cs))) h = absurd (omega arith)
 
-    -- some branch of a rounding, whose k the field tells
-    rounding-told : (k : ℕ) → f .tag ≡ 0x16 → treeBehind (entryTagged (f .tag)) (f .contents) t ≡ tree (suc rows) (openStep rows 0 k ∷ ps) → roundingOf (f .contents) ≡ k
-    unfolding treeBehind entryTagged
-    rounding-told k tag q = ap (λ (x : Tree). lastOf (x .steps)) (rw tag at q)
-
+    -- some branch of a rounding
     some-unlike : {k : ℕ} {owns : List (List Item)} {r : ℕ} {after : Fields} {a : Answer} → f .tag ≡ 0x16 → roundingOf (f .contents) ≡ k → Branches rows k ps 0 (suc rows) fs owns r after a → allAlike owns ≡ false → Unlike t (f ▸ fs) a
     unfolding allAlike
     some-unlike {k} {owns} {r} {after} {a} tag q c h = go owns h (subst (λ (n : ℕ). Branches rows n ps 0 (suc rows) fs owns r after a) (sym q) c)
@@ -219,7 +220,7 @@ module _ (e : Edition) (two : e .multiplierWidth ≡ 2) (K : ℕ) (deeper : Opti
       entry-through (row (Derive s)) g q = bind (weaken (go (suc rows) _) (λ a o. ours-on (leads-behind q) o)
           (λ w c. goes-on f (subst (λ (x : Tree). Branch (afterClose ps) x fs (w .own) (w .rows) (w .after) (w .unlike)) (sym q) c))) λ w i. says-accepted i
       entry-through (row (Strengthen i)) g q = opened-through 2 firstAndThird q (λ ws c h. third-unlike g c h)
-      entry-through (row (Round i s k)) g q = opened-through k allAlike q (λ ws c h. some-unlike g (rounding-told k g q) c h)
+      entry-through (row (Round i s k)) g q = opened-through k allAlike q (λ ws c h. some-unlike g (rounding-told f t k g q) c h)
       entry-through (row (Split i)) g q = opened-through 1 (λ owns. true) q (λ ws c h. absurd (not-none h))
       entry-through (row (CloseNumber i)) g q = closed-through (inl g)
       entry-through (row (CloseStride i s)) g q = closed-through (inr g)

@@ -11,6 +11,7 @@ pub mod Showing
 pub mod RefusedIff
 pub mod Meant
 pub mod NotedPlaces
+pub mod TooManyLines
 pub mod Reduced
 pub mod Rounding
 pub mod Apart
