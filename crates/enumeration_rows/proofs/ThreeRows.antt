@@ -1,4 +1,4 @@
--- How many proofs of three rows there are, of the table's lines (`counts` of enumeration/specs/Tables.antt). By evaluation. Assumes nothing.
+-- How many proofs of three rows there are, of the table's lines (`proofCounts` of enumeration/specs/Tables.antt). By evaluation. Assumes nothing.
 use mathlib.Core.Path.{_≡_, refl}
 use Rattle.integers.specs.Remainder.{remainder}
 use Rattle.forms.specs.Reduced.{reduced}
@@ -13,6 +13,6 @@ use Rattle.proof.specs.Rows.{is, plainKind, fails, lineAt, derived, fitting, by
 use Rattle.enumeration.specs.Sequence.{concatMap, upFrom, combines, reduces, scales, inferences, numberCloses, strideCloses, closeRows, newLine, closeFormula, ifAccepted, proofsOf}
 use Rattle.enumeration.specs.Tables.{proofCount, proofCounts}
 
-pub three-rows-counted : All (λ c. counted 2 (c .A) (c .B) ≡ accepted (c .three)) proofCounts
+pub three-rows-counted : All (λ c. proofCount 2 (c .A) (c .B) ≡ accepted (c .three)) proofCounts
 unfolding coeff sum value sums _⊞_ _·_ remainder reduced nonzero small every inRange _>>=_ _>>_ need found unsigned complement signed signeds flat formFrom front note unlessNote fieldsFrom fields headerTag known agrees headerField editionField constantsField kindTagged atMost formSmall constraints bundleHeader bundle bundles is plainKind fails lineAt derived fitting byNumber byStride concatMap upFrom combines reduces scales inferences numberCloses strideCloses closeRows newLine closeFormula ifAccepted proofsOf proofCount
 three-rows-counted = cons refl (cons refl (cons refl (cons refl (cons refl (cons refl (cons refl (cons refl nil)))))))

@@ -3,8 +3,8 @@ use mathlib.Core.Path.{_≡_, refl, sym, _∙_, ap, subst}
 use mathlib.Core.Logic.{_⊎_, inl, inr}
 use mathlib.Core.Option.{Option, none, some}
 use mathlib.Core.Bool.{Bool, true, false, _&&_}
-use mathlib.Core.List.{List, _++_}
-use Prim.Native.Nat.{ℕ, _≤_, _<_}
+use mathlib.Core.List.{List, [], _++_}
+use Prim.Native.Nat.{ℕ, _+_, _≤_, _<_}
 use native.Mathlib.Omega.{arith}
 use borrow.Author.Tests.{lt-leb, leb-true, leb-false, eqb-false}
 use lib.Dec.{leb, eqb, T}
@@ -13,6 +13,7 @@ use lib.ListN.{length, take, drop}
 use lib.Seq.{take-at}
 use Rattle.forms.specs.Edition.{Edition, edition, newestEdition}
 use Rattle.forms.specs.Forms.{All, Formula}
+use Rattle.calculus.specs.Rules.{Entry}
 use Rattle.answers.specs.declared.Answer.{Answer}
 use Rattle.answers.specs.declared.WriteResult.{WriteResult}
 use Rattle.answers.specs.Answers.{answer, fileA, fileProof, fileLent, Result, refused, accepted, _>>=_, _>>_, need, over, fit, Written, written, writtenOf}
@@ -22,6 +23,7 @@ use Rattle.fields.specs.declared.FileKind.{FileKind}
 use Rattle.fields.specs.Fields.{Fields, ends, cut, _▸_, Item, Framed, fileOf, fields}
 use Rattle.fields.specs.Header.{Header, headerTag, known, headerField, editionField, header, headerBytes}
 use Rattle.bundle.specs.Bundle.{Bundle, atMost, bundleHeader, bundle}
+use Rattle.fields.proofs.HeaderLaid.{edition-read}
 use Rattle.bundle.specs.Layout.{BundleFile, editionSaid, Says}
 use Rattle.bundle.specs.Read.{BundleRead, kindsOf, numbersOf, unread, store, stored, readBundle}
 use Rattle.bundle_read.specs.declared.ReadResult.{ReadResult}
@@ -29,7 +31,7 @@ use Rattle.bundle_read.specs.Promises.{Reads}
 use Rattle.bundle.proofs.Laid.{short-accepted}
 use Rattle.bundle.proofs.RoundTrips.{writtenAs, written-fits}
 use Rattle.proof.specs.Check.{check}
-use Rattle.proof.specs.Layout.{Yields}
+use Rattle.proof.specs.Layout.{ProofFile, Yields}
 use Rattle.proof.specs.Tree.{startsAt, Outside}
 use Rattle.proof.proofs.Satisfies.{Satisfies as Tells, says-refused, says-accepted, bind as tell-bind, says-need, test as tests, weaken as weakens}
 use Rattle.proof.proofs.Tree.{amidst, entry-says}
@@ -43,7 +45,7 @@ use Rattle.conversion.proofs.Outside.{proof-outside}
 use Rattle.conversion.proofs.AsCheck.{as-check as check-refused}
 use Rattle.conversion.proofs.Bundles.{bundle-turned-gives, bundle-back, result-short}
 use Rattle.conversion.proofs.Proofs.{proof-turned-gives, proof-back}
-use Rattle.conversion.proofs.Checked.{bundle-restated, proof-restated, BundleChosen, as-it-is as as-is, turned as is-turned, yields-same, yields-up, yields-down, overflows-down, same-left, overflow-left, Left16}
+use Rattle.conversion.proofs.Checked.{bundle-restated, proof-restated, chosen-bundle, BundleChosen, as-it-is as as-is, turned as is-turned, yields-same, yields-up, yields-down, overflows-down, same-left, overflow-left, Left16}
 use Rattle.conversion.specs.Turnable.{BundleTurnable, ProofTurnable}
 use Rattle.guarantee.specs.Acceptance.{WrittenAs}
 use Rattle.guarantee.specs.LaidOut.{WholeFields}
@@ -52,7 +54,9 @@ use Rattle.guarantee.specs.Conversion.{BundleChoice, as-it-is, turned, D
 use Rattle.guarantee.proofs.Acceptance.{written-from, short-from}
 use Rattle.guarantee.proofs.Soundness.{lists, meaning-is}
 use Rattle.guarantee.proofs.Turnable.{bundle-turnable, turnable-bundle, proof-turnable, turnable-proof, turnable-read, bundle-narrow, proof-narrow}
-use Rattle.guarantee.proofs.TooLongFiles.{AllAmidst, edition-field-amidst, header-amidst, One, never1, at-most, bundle-one}
+use Rattle.guarantee.specs.TooManyLines.{branchLines, TooManyLines}
+use Rattle.guarantee.proofs.TooManyLines.{lines-full}
+use Rattle.guarantee.proofs.TooLongFiles.{AllAmidst, edition-field-amidst, edition-amidst, header-amidst, One, never1, at-most, bundle-one}
 use Rattle.guarantee.proofs.BundleNumbers.{because}
 use Rattle.guarantee.proofs.TurnedDown.{down-shorter}
 
@@ -174,6 +178,17 @@ overflow-chosen y {A₂} {B₂} {P₂} cA cB (turned-down o left r t a) h output
 
 of-16 : {r : WriteResult} {left output : List ℕ} {w : Written} → writtenOf r left ≡ w → Left16 output w → (r .answer .number ≡ 16) × (r .answer .file ≡ 3) × (r .count ≡ 0) × (left ≡ output)
 of-16 e l = (number-of e ∙ l .number, ap (λ (w : Written). w .answer .file) e ∙ l .file, ap (λ (w : Written). w .count) e ∙ l .count, ap (λ (w : Written). w .output) e ∙ l .kept)
+
+says-first : {file : List ℕ} {K : ℕ} {es : List Entry} → ProofFile newestEdition file 1 K es → Says file 1
+says-first {file} f =
+    let r = edition-read FileKind.Proof fileProof newestEdition (fields file) 1 _ (f .whole) (f .first) (f .last) in
+    edition-amidst FileKind.Proof fileProof newestEdition (fields file) .value _ (r .reads)
+
+-- at the row that would make the 129th line
+full-chosen : {A B P : List ℕ} {K : ℕ} {I : Formula} (y : Yields newestEdition A B P K I) {A₂ B₂ P₂ : List ℕ} → BundleChoice A A₂ → BundleChoice B B₂ → ProofChoice P Direction.down P₂
+    → {output left : List ℕ} {r : WriteResult} → Checks A₂ B₂ P₂ output left r → r .answer .number ≡ 16 → TooManyLines 128 (branchLines (length (y .a) + length (y .b)) []) (fields P₂) (r .answer .place)
+full-chosen y cA cB (turned-down o left r t a) d z =
+    lines-full d z (chosen-bundle (y .fileA) (chosen cA) .1) (chosen-bundle (y .fileB) (chosen cB) .1) 1 (says-first (proof-restated 1 (y .fileProof) (proof-accepted t a) .file))
 
 -- ---- refusals
 is-asked : {to : ℕ} → (to ≡ 1) ⊎ (to ≡ 2) → Asked to
@@ -460,7 +475,9 @@ conversion-promised = record {
   enters-same = λ to P output left r d h n K es f. proof-restated to f (proof-accepted d h) .file;
   means-same = λ to F G fF fG M N hM hN output left r d h is. means-alike to F G fF fG M N hM hN (take (r .count) left) (bundle-accepted d h) is;
   checked-same = λ A B P K I y A₂ B₂ P₂ dir cA cB cP h output left left₂ r r₂ d d₂. left-same (d .is) (d₂ .is) (same-left output y (yields-chosen y dir cA cB cP h));
-  checked-16 = λ A B P K I y A₂ B₂ P₂ cA cB cP h output left r d. of-16 (d .is) (overflow-chosen y cA cB cP h output);
+  checked-16 = λ A B P K I y A₂ B₂ P₂ cA cB cP h output left r d.
+      let (number, file, count, same) = of-16 (d .is) (overflow-chosen y cA cB cP h output) in
+      (number, file, full-chosen y cA cB cP d number, count, same);
   asked-bundle = λ to file output left r d h k. refused-as output left r (bundle-is d) (unasked-bundle to file h k);
   asked-proof = λ to file output left r d h k. refused-as output left r (proof-is d) (unasked-proof to file h k);
   long-bundle = λ to file output left r d a h. refused-as output left r (bundle-is d) (bundle-too-long file (is-asked a) h);

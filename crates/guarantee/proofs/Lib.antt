@@ -6,7 +6,6 @@ pub mod Refusals
 pub mod Tree
 pub mod Acceptance
 pub mod FormulaFiles
-pub mod AtEnd
 pub mod Soundness
 pub mod Guard
 pub mod Testing
@@ -14,6 +13,9 @@ pub mod Showing
 pub mod BundleNumbers
 pub mod RefusedIff
 pub mod Meant
+pub mod NotedPlaces
+pub mod NotedAnswers
+pub mod TooManyLines
 pub mod Reduced
 pub mod Rounding
 pub mod Apart
@@ -36,3 +38,4 @@ pub mod RunPromised
 pub mod RunTells
 pub mod RunMoved
 pub mod RunNotes
+pub mod RunStages

@@ -14,16 +14,13 @@ use Rattle.answers.specs.declared.Answer.{Answer}
 use Rattle.answers.specs.Answers.{answer, fileProof, fileLent, Result, refused, accepted, _>>=_, _>>_, need}
 use Rattle.answers.proofs.Results.{never, one-value, binds, passes, needs}
 use Rattle.number_bytes.specs.Numbers.{Bytes}
-use Rattle.fields.specs.Fields.{Fields, fields}
+use Rattle.fields.specs.Fields.{fields}
 use Rattle.fields.specs.Header.{agrees}
 use Rattle.bundle.specs.Layout.{Each, nil as nil-each, cons as cons-each}
 use Rattle.bundle.proofs.Laid.{short-accepted}
 use Rattle.formula.specs.Formula.{formulaFile}
 use Rattle.proof.specs.Check.{checkProof}
-use Rattle.proof.specs.Tree.{Tree}
-use Rattle.proof.proofs.Tree.{proof-stands}
 use Rattle.chains.specs.Runs.{Run, joined, upTo, beyond}
-use Rattle.run.specs.Uniform.{withNumber}
 use Rattle.run.specs.Run.{mostConstraints, firstStage, parts, constantsOf, runOf, side, checkCut, checkRun, guardFiles, GuardsWritten, unwritten, fitGuards, writtenGuards, guardsBy, guards}
 use Rattle.run.specs.Layout.{guardAt, StageFile, RunYields}
 use Rattle.run.specs.Refused.{CutRefused, Earliest, RunRefused, every-cut, some-cut, differing, of-run}
@@ -31,12 +28,10 @@ use Rattle.run.specs.Ordered.{RunWithinLimits}
 use Rattle.run.proofs.OneTable.{run-gives}
 use Rattle.run.proofs.Refused.{refused-as-check}
 use Rattle.guarantee.specs.LaidOut.{WholeFields}
-use Rattle.guarantee.specs.RunTree.{StandsInRun, as-check, claim, unlike}
 use Rattle.guarantee.specs.Runs.{RunPromised}
-use Rattle.guarantee.proofs.AtEnd.{stands-file}
 use Rattle.guarantee.proofs.Soundness.{lists}
-use Rattle.guarantee.proofs.RunTree.{uniform-stands}
-use Rattle.guarantee.proofs.RunReasons.{is-parted, yields}
+use Rattle.guarantee.proofs.RunReasons.{is-parted, run-amid, yields}
+use Rattle.guarantee.proofs.RunStages.{in-stage}
 use Rattle.guarantee.proofs.Runs.{left-of, delivered, cut-checked}
 use Rattle.guarantee.proofs.RunAcceptance.{bundlesOf, run-of, stages-read, stages-fit, constants-of, parts-count, cut-accepted, guards-yielded}
 
@@ -82,12 +77,6 @@ all-listed [] buffer b nil-each = nil
 all-listed (n ∷ ns) buffer b (cons-each s ss) = let (a, r) = all-part n b in cons (lists a (s .states .whole)) (all-listed ns (drop n buffer) r ss)
 
 -- ---- a refusal of the proof
-stands-in-proof : {t : Tree} {fs : Fields} {a : Answer} → StandsInRun t fs a → a .file ≡ fileProof
-unfolding withNumber
-stands-in-proof (as-check n m s) = stands-file s
-stands-in-proof (claim n s) = stands-file s
-stands-in-proof (unlike n s) = stands-file s
-
 module _ (buffer lengths proof output sizes : List ℕ) (K : ℕ) (Ts : Run) (short : RunWithinLimits lengths buffer proof) (stages : Each (StageFile newestEdition K) (parts lengths buffer) Ts)
     (few : length (joined Ts) ≤ mostConstraints) where
   abbrev finishing : (Is : List Formula) → Result (List (List ℕ))
@@ -134,13 +123,6 @@ module _ (buffer lengths proof output sizes : List ℕ) (K : ℕ) (Ts : Run) (sh
       finished-file (every (λ file. leb (length file) (edition1 .formulaBytes)) (map (formulaFile edition1 K) Is)) (length (joined (map (formulaFile edition1 K) Is))) (map (formulaFile edition1 K) Is) (rw (guards-yielded y bytes) at h)
 
   -- where none are, it is
-  of-proof : (a : Answer) → RunRefused newestEdition K Ts proof a → a .file ≡ fileProof
-  unfolding withNumber
-  of-proof a (every-cut h) = stands-file (proof-stands newestEdition (side K (upTo Ts 0)) (side K (beyond Ts 0)) (fields proof) a (h 0 (omega arith)))
-  of-proof a (some-cut i l n e) = stands-file (proof-stands newestEdition (side K (upTo Ts i)) (side K (beyond Ts i)) (fields proof) a e)
-  of-proof a (differing i l b n e q) = ap (λ (x : Answer). x .file) q ∙ stands-file (proof-stands newestEdition (side K (upTo Ts i)) (side K (beyond Ts i)) (fields proof) b e)
-  of-proof a (of-run n e h) = stands-in-proof (uniform-stands newestEdition K (fields proof) .refusal a e)
-
   module _ (none-derived : (Is : List Formula) → ¬ (RunYields newestEdition buffer lengths proof K Ts Is)) (Q : Answer → Type 0) (of-refused : (a : Answer) → RunRefused newestEdition K Ts proof a → Q a) where
     by-refusal : (R : Result (List Formula)) → checkRun newestEdition K Ts (fields proof) ≡ R → Q (writtenGuards output sizes (R >>= λ Js. finishing Js) .answer)
     unfolding _>>=_ writtenGuards unwritten
@@ -172,13 +154,15 @@ run-promised = record {
   listed = λ buffer lengths proof output sizes left sizesLeft r bytes w h. all-listed lengths buffer bytes (left-of w h .checkable .certified .yields .stages);
   one-list = λ buffer lengths proof K K′ Ts Ts′ Is Is′ y y′. (same-K y y′, same-run y y′, same-list y y′);
   as-check = λ buffer lengths proof K Ts Is c i h A B nA nB a b lent checked q w. w .is ∙ cut-checked c i h A B nA nB a b lent;
+  in-stage = λ buffer lengths proof output sizes left sizesLeft r w limits before T after are A B file x P lent checked q short c.
+      in-stage w limits before T after are A B file x P lent checked q short c;
   in-proof = λ buffer lengths proof output sizes left sizesLeft r w K Ts short stages few h.
       let e : r .answer ≡ guards buffer lengths proof output sizes .answer = ap (λ (g : GuardsWritten). g .answer) (w .is) in
       rw e (refused-in-proof buffer lengths proof output sizes K Ts short stages few (rw e at h));
-  names-proof = λ buffer lengths proof output sizes left sizesLeft r bytes w K Ts short stages few.
+  names-proof = λ buffer lengths proof output sizes left sizesLeft r w K Ts short stages few.
       let e : r .answer ≡ guards buffer lengths proof output sizes .answer = ap (λ (g : GuardsWritten). g .answer) (w .is) in (
-        λ h. none-where-named buffer lengths proof output sizes K Ts short stages few bytes (rw e at h),
-        λ n. rw e (where-none buffer lengths proof output sizes K Ts short stages few n (λ a. a .file ≡ fileProof) (of-proof buffer lengths proof output sizes K Ts short stages few)),
+        λ n. rw e (where-none buffer lengths proof output sizes K Ts short stages few n (λ a. a .file ≡ fileProof) (λ a h. run-amid K Ts proof a h .0)),
+        λ bytes h. none-where-named buffer lengths proof output sizes K Ts short stages few bytes (rw e at h),
       );
   not-uniform = λ buffer lengths proof output sizes left sizesLeft r w K Ts short stages few cuts n.
       let e : r .answer ≡ guards buffer lengths proof output sizes .answer = ap (λ (g : GuardsWritten). g .answer) (w .is) in

@@ -1,5 +1,5 @@
 -- A run is refused by 25, by 26, and by 1 at the end, only where there is a reason. Assumes nothing.
-use mathlib.Core.Path.{_≡_, refl, ap, subst}
+use mathlib.Core.Path.{_≡_, refl, _∙_, ap, subst}
 use mathlib.Core.Logic.{_⊎_, inl, inr}
 use mathlib.Core.Option.{Option, none, some}
 use mathlib.Core.Bool.{Bool, true, false, _&&_}
@@ -14,21 +14,26 @@ use Rattle.forms.specs.Edition.{edition1, newestEdition}
 use Rattle.forms.specs.Forms.{All, nil, cons, Formula, every}
 use Rattle.answers.specs.declared.Answer.{Answer}
 use Rattle.answers.specs.Answers.{answer, fileProof, Result, refused, accepted, _>>_, need}
-use Rattle.fields.specs.Fields.{fields}
+use Rattle.fields.specs.Fields.{Fields, Item, fields}
 use Rattle.bundle.specs.Bundle.{atMost}
 use Rattle.bundle.specs.Layout.{Each}
 use Rattle.formula.specs.Formula.{formulaFile}
+use Rattle.proof.specs.Tree.{OpenStep, Tree}
+use Rattle.proof.proofs.Tree.{proof-stands}
 use Rattle.proof.proofs.Satisfies.{Satisfies, says-refused, says-accepted, bind, weaken}
 use Rattle.chains.specs.Runs.{Run, joined, upTo, beyond}
 use Rattle.run.specs.Uniform.{withNumber}
 use Rattle.run.specs.Run.{mostStages, mostConstraints, firstStage, total, parts, parted, stagesShort, readStages, constantsOf, runOf, side, checkRun, guardFiles, unwritten, fitGuards, writtenGuards, guardsBy, guards}
 use Rattle.run.specs.Layout.{guardAt, StageFile, RunYields}
-use Rattle.run.specs.Refused.{RunRefused, every-cut, some-cut, differing, of-run}
+use Rattle.run.specs.Refused.{CutRefused, RunRefused, every-cut, some-cut, differing, of-run}
 use Rattle.run.specs.Ordered.{Parted, RunWithinLimits}
 use Rattle.run.proofs.Agree.{all-stages}
 use Rattle.run.proofs.OneTable.{RunAs, run-gives}
 use Rattle.run.proofs.Refused.{refused-as-check}
+use Rattle.guarantee.specs.RunTree.{Branch, closes, goes-on, Branches, final, further, Unlike, strengthen, round, past, StandsInRun, as-check, claim, unlike}
 use Rattle.guarantee.specs.Runs.{ManyConstraints, LongGuard}
+use Rattle.guarantee.proofs.NotedAnswers.{stands-file}
+use Rattle.guarantee.proofs.RunTree.{uniform-stands}
 use Rattle.guarantee.proofs.TooLongFiles.{above-1, proof-amidst}
 use Rattle.guarantee.proofs.BundleNumbers.{up-to-20, because, bundle-plain}
 
@@ -76,6 +81,38 @@ run-plain K Ts proof a (some-cut i l n q) = plain-amid a (omega arith) (inl (ome
 run-plain K Ts proof a (differing i l b n q e) = let m : a .number ≡ 27 = ap (λ (x : Answer). x .number) e in plain-amid a (omega arith) (inr (inl m))
 run-plain K Ts proof a (of-run (inl n) e f) = plain-amid a (omega arith) (inr (inl n))
 run-plain K Ts proof a (of-run (inr n) e f) = plain-amid a (omega arith) (inr (inr n))
+
+-- ---- what is refused amid the proof names it, and is not by 1
+branch-file : {closed : List OpenStep} {t : Tree} {fs : Fields} {is : List Item} {rows : ℕ} {after : Fields} {a : Answer} → Branch closed t fs is rows after a → a .file ≡ fileProof
+branch-file (closes f k e q) = ap (λ (x : Answer). x .file) q
+branch-file (goes-on f b) = branch-file b
+
+branches-file : {step last b rows : ℕ} {ps : List OpenStep} {fs : Fields} {iss : List (List Item)} {rows′ : ℕ} {after : Fields} {a : Answer} → Branches step last ps b rows fs iss rows′ after a → a .file ≡ fileProof
+branches-file (final e b) = branch-file b
+branches-file (further h b bs) = branches-file bs
+
+unlike-file : {t : Tree} {fs : Fields} {a : Answer} → Unlike t fs a → a .file ≡ fileProof
+unlike-file (strengthen f e b n) = branches-file b
+unlike-file (round f e b n) = branches-file b
+unlike-file (past f u) = unlike-file u
+
+stands-in-proof : {t : Tree} {fs : Fields} {a : Answer} → StandsInRun t fs a → a .file ≡ fileProof
+unfolding withNumber
+stands-in-proof (as-check n m s) = stands-file s
+stands-in-proof (claim n s) = stands-file s
+stands-in-proof (unlike u) = unlike-file u
+
+module _ (K : ℕ) (Ts : Run) (proof : List ℕ) where
+  cut-file : (a : Answer) (i : ℕ) → CutRefused newestEdition K Ts proof a i → a .file ≡ fileProof
+  cut-file a i e = stands-file (proof-stands newestEdition (side K (upTo Ts i)) (side K (beyond Ts i)) (fields proof) a e)
+
+  pub run-amid : (a : Answer) → RunRefused newestEdition K Ts proof a → (a .file ≡ fileProof) × (¬ (a .number ≡ 1))
+  unfolding withNumber
+  run-amid a (every-cut h) = (cut-file a 0 (h 0 (omega arith)), above-1 (proof-amidst newestEdition (side K (upTo Ts 0)) (side K (beyond Ts 0)) (fields proof) .refusal a (h 0 (omega arith))))
+  run-amid a (some-cut i l n e) = (cut-file a i e, λ q. omega arith)
+  run-amid a (differing i l b n e q) = (ap (λ (x : Answer). x .file) q ∙ cut-file b i e, λ z. let m : a .number ≡ 27 = ap (λ (x : Answer). x .number) q in omega arith)
+  run-amid a (of-run (inl n) e h) = (stands-in-proof (uniform-stands newestEdition K (fields proof) .refusal a e), λ q. omega arith)
+  run-amid a (of-run (inr n) e h) = (stands-in-proof (uniform-stands newestEdition K (fields proof) .refusal a e), λ q. omega arith)
 
 -- ---- the lengths, as the operation tests them
 module _ (lengths buffer : List ℕ) where

@@ -1,34 +1,45 @@
 -- Each answer of a run stands where the fields before it lead. Assumes nothing.
-use mathlib.Core.Path.{_≡_, refl, sym, ap, subst}
-use mathlib.Core.Logic.{inl, inr}
+use mathlib.Core.Path.{_≡_, refl, sym, _∙_, ap, subst}
+use mathlib.Core.Logic.{_⊎_, inl, inr}
 use mathlib.Core.Option.{Option, none, some}
-use mathlib.Core.Bool.{Bool, true, false, cond}
-use mathlib.Core.List.{List, [], _∷_}
+use mathlib.Core.Bool.{Bool, true, false, cond, _&&_}
+use mathlib.Core.List.{List, [], _∷_, _++_}
 use Prim.Native.Nat.{ℕ, zero, suc, _+_, _<_}
 use native.Mathlib.Omega.{arith}
-use lib.Dec.{T, leb, eqb, eqb→eq}
+use lib.Dec.{T, leb, eqb, eqb→eq, eqb-refl}
 use lib.ListN.{length}
 use Rattle.forms.specs.Edition.{Edition, edition, newestEdition}
-use Rattle.calculus.specs.Rules.{Derive, Strengthen, CloseNumber, CloseStride, Round, Split, Entry, row, claim as claims}
+use mir.Facts.{yes-and}
+use Rattle.forms.specs.Forms.{All, nil, cons, every}
+use Rattle.calculus.specs.Rules.{Combine, Reduce, Scale, Derive, Strengthen, CloseNumber, CloseStride, Round, Split, Entry, row, claim as claims}
 use Rattle.answers.specs.declared.Answer.{Answer}
-use Rattle.answers.specs.Answers.{refusalAt, answer, fileProof, fileLent, Result, refused, accepted, _>>=_, need, found}
-use Rattle.fields.specs.Fields.{Field, Fields, ends, cut, _▸_, Item, fields}
+use Rattle.answers.specs.Answers.{rowTold, refusalAt, answer, fileProof, fileLent, Result, refused, accepted, need, found}
+use Rattle.fields.specs.Fields.{Field, Fields, ends, cut, _▸_, Item, item, fields}
+use Rattle.fields.proofs.HeaderLaid.{by-tag}
+use Rattle.number_bytes.specs.Same.{sameBytes}
+use Rattle.number_bytes.proofs.Comparing.{same-refl}
 use Rattle.bundle.specs.Bundle.{atMost}
 use Rattle.proof.proofs.Outside.{In, short-in, bundle-in}
-use Rattle.proof.specs.Entries.{entryTagged}
-use Rattle.proof.specs.Tree.{OpenStep, openStep, Tree, tree, afterClose, treeBehind, innermost, startsAt, Stands}
+use Rattle.proof.specs.Entries.{EntryTag, combineTag, reduceTag, scaleTag, strengthenTag, numberTag, strideTag, roundTag, splitTag, claimTag, entryTagged, entryFrom}
+use Rattle.proof.specs.Layout.{Enters}
+use Rattle.proof.specs.Tree.{OpenStep, openStep, Tree, tree, afterClose, roundingOf, treeBehind, innermost, startsAt, Stands}
 use Rattle.proof.proofs.Satisfies.{Satisfies, says-refused, says-accepted, bind, seq, says-need, test, weaken}
-use Rattle.proof.proofs.Tree.{amidst, Leads, stays, on, stands-on, leads-on, at-front, after-last, after-other, entryBehind, field-behind, header-says, entry-says, proof-stands}
-use Rattle.chains.specs.Runs.{Run}
-use Rattle.run.specs.Uniform.{withNumber, Walked, WalkedBranches, Walker, FollowingWalk, walkBranches, firstAndThird, allAlike, walkOpened, walkClosed, walkRow, walkEntry, walkEntries, walkBranch, uniform}
-use Rattle.run.specs.Run.{firstStage, parts, stagesShort, readStages, constantsOf, runOf, claimRefused, checkCut, both, checkCuts, checkRun, guardFiles, GuardsWritten, unwritten, fitGuards, writtenGuards, guardsBy, guards}
+use Rattle.proof.proofs.Tree.{amidst, Leads, stays, on, stands-on, at-front, after-last, after-other, entryBehind, field-behind, header-says, entry-says, proof-stands}
+use Rattle.chains.specs.Runs.{Run, joined}
+use Rattle.run.specs.Uniform.{withNumber, sameItems, Walked, WalkedBranches, Walker, FollowingWalk, walkBranches, firstAndThird, allAlike, walkOpened, walkClosed, walkRow, walkEntry, walkEntries, walkBranch, uniform}
+use Rattle.run.specs.Run.{firstStage, parts, stagesShort, readStages, constantsOf, runOf, claimRefused, checkCut, both, checkCuts, checkRun, guardFiles, unwritten, fitGuards, writtenGuards, guardsBy, guards}
 use Rattle.guarantee.proofs.ProofNumbers.{Numbered, header-numbered, proof-numbered}
-use Rattle.guarantee.specs.RunTree.{StandsInRun, as-check, claim, unlike, RunStands, outside, amid}
+use Rattle.guarantee.proofs.BundleNumbers.{because}
+use Rattle.guarantee.specs.RunTree.{Branch, closes, goes-on, Branches, final, further, Unlike, strengthen, round, past, StandsInRun, as-check, claim, unlike, RunStands, outside, amid}
+
+unlike-on : {t t′ : Tree} {fs fs′ : Fields} {a : Answer} → Leads t fs t′ fs′ → Unlike t′ fs′ a → Unlike t fs a
+unlike-on stays u = u
+unlike-on (on f l) u = past f (unlike-on l u)
 
 ours-on : {t t′ : Tree} {fs fs′ : Fields} {a : Answer} → Leads t fs t′ fs′ → StandsInRun t′ fs′ a → StandsInRun t fs a
 ours-on l (as-check n m s) = as-check n m (stands-on l s)
 ours-on l (claim n s) = claim n (stands-on l s)
-ours-on l (unlike n s) = unlike n (stands-on l s)
+ours-on l (unlike u) = unlike (unlike-on l u)
 
 not-27 : (n : ℕ) → T (amidst n) → ¬ (n ≡ 27)
 not-27 n t e = subst (λ (m : ℕ). T (amidst m)) e t
@@ -43,47 +54,111 @@ amidst-check a n s = as-check (not-27 (a .number) n) (not-28 (a .number) n) s
 both-say : {t : Tree} {fs : Fields} {X : Type 0} {r : Result X} {P : X → Type 0} → Numbered r → Satisfies (Stands t fs) r P → Satisfies (StandsInRun t fs) r P
 both-say n s = record { refusal = λ a e. amidst-check a (n .refusal a e) (s .refusal a e); value = s .value }
 
--- 28 at a closing row of fs
-record Last (t : Tree) (fs : Fields) (a : Answer) : Type 0 where
-  number : a .number ≡ 28
-  stands : Stands t fs (withNumber 15 a)
+-- ---- the tag of a field, by the entry that it states
+abbrev pub tagOf : Entry → ℕ
+tagOf (row (Derive (Combine i j α β))) = 0x10
+tagOf (row (Derive (Reduce i j α))) = 0x11
+tagOf (row (Derive (Scale i α))) = 0x12
+tagOf (row (Strengthen i)) = 0x13
+tagOf (row (CloseNumber i)) = 0x14
+tagOf (row (CloseStride i g)) = 0x15
+tagOf (row (Round i g k)) = 0x16
+tagOf (row (Split i)) = 0x17
+tagOf (claims u v) = 0x20
 
-last-on : {t t′ : Tree} {fs fs′ : Fields} {a : Answer} → Leads t fs t′ fs′ → Last t′ fs′ a → Last t fs a
-last-on l s = record { number = s .number; stands = stands-on l (s .stands) }
+module _ (e : Edition) (K : ℕ) (bs : List ℕ) where
+  abbrev told : Option EntryTag → ℕ
+  told none = 0
+  told (some x) = tagOf (entryFrom e K x bs)
 
--- where a walk from fs on has led: the tree, the fields left, and 28 at its last row
-record Led (t : Tree) (close : List OpenStep) (fs : Fields) (rows : ℕ) (after : Fields) (a : Answer) : Type 0 where
-  leads : Leads t fs (tree rows close) after
-  last : Last t fs a
+  tagged-as : (tag : ℕ) (x : EntryTag) → entryTagged tag ≡ some x → tag ≡ told (some x)
+  unfolding entryTagged entryFrom
+  tagged-as tag x h =
+      let P : ℕ → Type 0 = λ n. entryTagged n ≡ some x → n ≡ told (some x) in
+      by-tag P tag 0x10 combineTag (ap told) (by-tag P tag 0x11 reduceTag (ap told) (by-tag P tag 0x12 scaleTag (ap told) (by-tag P tag 0x13 strengthenTag (ap told)
+      (by-tag P tag 0x14 numberTag (ap told) (by-tag P tag 0x15 strideTag (ap told) (by-tag P tag 0x16 roundTag (ap told) (by-tag P tag 0x17 splitTag (ap told)
+      (by-tag P tag 0x20 claimTag (ap told) (λ e. absurd (let z : _≡_ {A = ℕ} 0 1 = cc in omega arith)))))))))) h h
 
-led-on : {t t′ : Tree} {close : List OpenStep} {fs fs′ : Fields} {rows : ℕ} {after : Fields} {a : Answer} → Leads t fs t′ fs′ → Led t′ close fs′ rows after a → Led t close fs rows after a
-led-on l s = record { leads = leads-on l (s .leads); last = last-on l (s .last) }
+pub field-tag : (e : Edition) (K : ℕ) (f : Field) {x : Entry} → Enters e K (item (f .tag) (f .contents)) x → f .tag ≡ tagOf x
+field-tag e K f n = tagged-as e K (f .contents) (f .tag) (n .tagged) (n .tag) ∙ ap tagOf (n .entry)
 
-abbrev Through : Tree → (close : List OpenStep) → Fields → Result Walked → Type 0
-Through t close fs r = Satisfies (StandsInRun t fs) r (λ w. Led t close fs (w .rows) (w .after) (w .unlike))
+-- ---- the same fields
+items-refl : (is : List Item) → T (sameItems is is)
+unfolding sameItems
+items-refl [] = tt
+items-refl (i ∷ is) = yes-and (eqb (i .tag) (i .tag) && sameBytes (i .contents) (i .contents)) (sameItems is is) (yes-and (eqb (i .tag) (i .tag)) (sameBytes (i .contents) (i .contents)) (eqb-refl (i .tag)) (same-refl (i .contents))) (items-refl is)
 
-abbrev AllThrough : Tree → (close : List OpenStep) → Fields → Result WalkedBranches → Type 0
-AllThrough t close fs r = Satisfies (StandsInRun t fs) r (λ ws. Led t close fs (ws .rows) (ws .after) (ws .unlike))
+not-none : true ≡ false → ⊥
+not-none e = subst T e tt
 
-through-on : {t t′ : Tree} {close : List OpenStep} {fs fs′ : Fields} {r : Result Walked} → Leads t fs t′ fs′ → Through t′ close fs′ r → Through t close fs r
-through-on l s = weaken s (λ a o. ours-on l o) (λ w i. led-on l i)
+differ : {is js : List Item} → sameItems is js ≡ false → ¬ (is ≡ js)
+differ {is} h e = subst T (subst (λ (js : List Item). sameItems is js ≡ false) (sym e) h) (items-refl is)
 
-all-on : {t t′ : Tree} {close : List OpenStep} {fs fs′ : Fields} {r : Result WalkedBranches} → Leads t fs t′ fs′ → AllThrough t′ close fs′ r → AllThrough t close fs r
-all-on l s = weaken s (λ a o. ours-on l o) (λ w i. led-on l i)
+all-same : (o : List Item) {os : List (List Item)} → All (λ is. is ≡ o) os → T (every (sameItems o) os)
+unfolding every
+all-same o nil = tt
+all-same o (cons {x = x} {xs = xs} h hs) = yes-and (sameItems o x) (every (sameItems o) xs) (subst (λ (js : List Item). T (sameItems o js)) (sym h) (items-refl o)) (all-same o hs)
+
+some-other : (o : List Item) {os : List (List Item)} → allAlike (o ∷ os) ≡ false → ¬ (All (λ is. is ≡ o) os)
+unfolding allAlike
+some-other o h a = subst T h (all-same o a)
+
+abbrev lastOf : List OpenStep → ℕ
+lastOf [] = 0
+lastOf (s ∷ ss) = s .last
+
+-- a rounding's k, which its field tells
+pub rounding-told : (f : Field) (t : Tree) (k : ℕ) → f .tag ≡ 0x16 → treeBehind (entryTagged (f .tag)) (f .contents) t ≡ tree (suc (t .rows)) (openStep (t .rows) 0 k ∷ t .steps) → roundingOf (f .contents) ≡ k
+unfolding treeBehind entryTagged
+rounding-told f t k tag q = ap (λ (x : Tree). lastOf (x .steps)) (rw tag at q)
+
+-- ---- branches by their fields
+-- the tree behind a close
+closed-behind : (tag : ℕ) (bs : List ℕ) (t : Tree) → (tag ≡ 0x14) ⊎ (tag ≡ 0x15) → treeBehind (entryTagged tag) bs t ≡ tree (suc (t .rows)) (afterClose (t .steps))
+unfolding treeBehind entryTagged
+closed-behind tag bs t (inl e) = rw e
+closed-behind tag bs t (inr e) = rw e
+
+branch-leads : {closed : List OpenStep} {t : Tree} {fs : Fields} {is : List Item} {rows : ℕ} {after : Fields} {a : Answer} → Branch closed t fs is rows after a → Leads t fs (tree rows closed) after
+branch-leads {closed} {t} (closes f {fs = fs} k e q) =
+    on f (subst (λ (x : Tree). Leads (treeBehind (entryTagged (f .tag)) (f .contents) t) fs x fs) (closed-behind (f .tag) (f .contents) t k ∙ ap (tree (suc (t .rows))) e) stays)
+branch-leads (goes-on f b) = on f (branch-leads b)
+
+-- a branch behind fields that lead on
+behind-branch : {closed closed′ : List OpenStep} {t : Tree} {fs : Fields} {is js : List Item} {rows rows′ : ℕ} {after after′ : Fields} {a a′ : Answer}
+    → Branch closed t fs is rows after a → Branch closed′ (tree rows closed) after js rows′ after′ a′ → Branch closed′ t fs (is ++ js) rows′ after′ a′
+behind-branch {closed} {closed′} {t} {js = js} {rows′ = rows′} {after′ = after′} {a′ = a′} (closes f {fs = fs} k e q) c =
+    goes-on f (subst (λ (x : Tree). Branch closed′ x fs js rows′ after′ a′) (sym (closed-behind (f .tag) (f .contents) t k ∙ ap (tree (suc (t .rows))) e)) c)
+behind-branch (goes-on f b) c = goes-on f (behind-branch b c)
+
+nothing-behind : {X : Type 0} (xs : List X) → xs ++ [] ≡ xs
+nothing-behind [] = refl
+nothing-behind (x ∷ xs) = ap (λ (l : List _). x ∷ l) (nothing-behind xs)
+
+all-branches : {step last b rows : ℕ} {ps : List OpenStep} {fs : Fields} {iss : List (List Item)} {rows′ : ℕ} {after : Fields} {a : Answer} → Branches step last ps b rows fs iss rows′ after a
+    → Branch (afterClose ps) (tree rows (openStep step b last ∷ ps)) fs (joined iss) rows′ after a
+all-branches {step} {last} {b} {rows} {ps} {fs} {rows′ = rows′} {after} {a} (final {is = is} e c) =
+    subst (λ (l : List Item). Branch (afterClose ps) (tree rows (openStep step b last ∷ ps)) fs l rows′ after a) (sym (nothing-behind is)) c
+all-branches (further h c cs) = behind-branch c (all-branches cs)
+
+-- What a walk says from fs on, in the tree t: its refusal stands in the fields, and a closed branch is one.
+abbrev Through : Tree → (closed : List OpenStep) → Fields → Result Walked → Type 0
+Through t closed fs r = Satisfies (StandsInRun t fs) r (λ w. Branch closed t fs (w .own) (w .rows) (w .after) (w .unlike))
 
 abbrev Walks : Walker → Type 0
 Walks walker = (ps : List OpenStep) (rows : ℕ) (fs : Fields) → Through (tree rows ps) (afterClose ps) fs (walker (innermost ps) rows fs)
 
 -- branches b to k of a step
 module _ (walker : Walker) (d : Walks walker) (at k : ℕ) (ps : List OpenStep) where
-  branches-through : (b more rows : ℕ) → b + more ≡ k → (fs : Fields) → AllThrough (tree rows (openStep at b k ∷ ps)) (afterClose ps) fs (walkBranches walker at b more rows fs)
+  branches-through : (b more rows : ℕ) → b + more ≡ k → (fs : Fields)
+      → Satisfies (StandsInRun (tree rows (openStep at b k ∷ ps)) fs) (walkBranches walker at b more rows fs) (λ ws. Branches at k ps b rows fs (ws .owns) (ws .rows) (ws .after) (ws .unlike))
   unfolding walkBranches innermost
   branches-through b zero rows q fs = bind (d (openStep at b k ∷ ps) rows fs) λ w s.
-      says-accepted (subst (λ (ss : List OpenStep). Led (tree rows (openStep at b k ∷ ps)) ss fs (w .rows) (w .after) (w .unlike)) (after-last at ps (omega arith)) s)
+      says-accepted (final (omega arith) (subst (λ (ss : List OpenStep). Branch ss (tree rows (openStep at b k ∷ ps)) fs (w .own) (w .rows) (w .after) (w .unlike)) (after-last at ps (omega arith)) s))
   branches-through b (suc more) rows q fs = bind (d (openStep at b k ∷ ps) rows fs) λ w s.
-      let m : Leads (tree rows (openStep at b k ∷ ps)) fs (tree (w .rows) (openStep at (suc b) k ∷ ps)) (w .after)
-      = subst (λ (ss : List OpenStep). Leads (tree rows (openStep at b k ∷ ps)) fs (tree (w .rows) ss) (w .after)) (after-other at ps (omega arith)) (s .leads) in
-      bind (all-on m (branches-through (suc b) more (w .rows) (omega arith) (w .after))) λ ws i. says-accepted i
+      let c : Branch (openStep at (suc b) k ∷ ps) (tree rows (openStep at b k ∷ ps)) fs (w .own) (w .rows) (w .after) (w .unlike)
+      = subst (λ (ss : List OpenStep). Branch ss (tree rows (openStep at b k ∷ ps)) fs (w .own) (w .rows) (w .after) (w .unlike)) (after-other at ps (omega arith)) s in
+      bind (weaken (branches-through (suc b) more (w .rows) (omega arith) (w .after)) (λ a o. ours-on (branch-leads c) o) (λ ws i. further (omega arith) c i)) λ ws i. says-accepted i
 
 data Deep : Option Walker → Type 0 where
   shut : Deep none
@@ -107,34 +182,56 @@ module _ (e : Edition) (two : e .multiplierWidth ≡ 2) (K : ℕ) (deeper : Opti
     leads-behind q = on f (subst (λ (x : Tree). Leads (treeBehind (entryTagged (f .tag)) (f .contents) t) fs x fs) q stays)
 
     opened-through : (n : ℕ) (alike : List (List Item) → Bool) → treeBehind (entryTagged (f .tag)) (f .contents) t ≡ tree (suc rows) (openStep rows 0 n ∷ ps)
+        → ((ws : WalkedBranches) → Branches rows n ps 0 (suc rows) fs (ws .owns) (ws .rows) (ws .after) (ws .unlike) → alike (ws .owns) ≡ false → Unlike t (f ▸ fs) (ws .unlike))
         → Through t (afterClose ps) (f ▸ fs) (walkOpened deeper (refusalAt (innermost ps) rows (f .at)) rows f fs n alike)
     unfolding walkOpened
-    opened-through n alike q =
+    opened-through n alike q fails =
         let l = leads-behind q in
         bind (found-walks _ deep (as-check (λ e. omega arith) (λ e. omega arith) (here-told 17))) λ walker d.
-        bind (all-on l (branches-through walker d rows n ps 0 n (suc rows) (omega arith) fs)) λ ws i.
-        test _ _ (unlike (i .last .number) (i .last .stands)) λ _. says-accepted i
+        bind (weaken (branches-through walker d rows n ps 0 n (suc rows) (omega arith) fs) (λ a o. ours-on l o) (λ ws i. i)) λ ws i.
+        because _ _ (λ e. unlike (fails ws i e)) λ _.
+        says-accepted (goes-on f (subst (λ (x : Tree). Branch (afterClose ps) x fs (joined (ws .owns)) (ws .rows) (ws .after) (ws .unlike)) (sym q) (all-branches i)))
 
-    closed-through : treeBehind (entryTagged (f .tag)) (f .contents) t ≡ tree (suc rows) (afterClose ps) → Through t (afterClose ps) (f ▸ fs) (walkClosed (refusalAt (innermost ps) rows (f .at)) rows f fs)
-    unfolding walkClosed withNumber
-    closed-through q = says-accepted (record { leads = leads-behind q; last = record { number = refl; stands = here-told 15 } })
+    closed-through : (f .tag ≡ 0x14) ⊎ (f .tag ≡ 0x15) → Through t (afterClose ps) (f ▸ fs) (walkClosed (refusalAt (innermost ps) rows (f .at)) rows f fs)
+    unfolding walkClosed withNumber rowTold
+    closed-through k = says-accepted (closes f k refl refl)
+
+    -- the first and the third
+    third-unlike : {owns : List (List Item)} {r : ℕ} {after : Fields} {a : Answer} → f .tag ≡ 0x13 → Branches rows 2 ps 0 (suc rows) fs owns r after a → firstAndThird owns ≡ false → Unlike t (f ▸ fs) a
+    unfolding firstAndThird
+    third-unlike tag (final e c) h = absurd (omega arith)
+    third-unlike tag (further l c (final e c2)) h = absurd (omega arith)
+    third-unlike tag (further l c (further l2 c2 (final e c3))) h = strengthen f tag (further l c (further l2 c2 (final e c3))) (λ z. differ h (sym z))
+    third-unlike tag (further l c (further l2 c2 (further l3 c3 cs))) h = absurd (omega arith)
+
+    -- some branch of a rounding
+    some-unlike : {k : ℕ} {owns : List (List Item)} {r : ℕ} {after : Fields} {a : Answer} → f .tag ≡ 0x16 → roundingOf (f .contents) ≡ k → Branches rows k ps 0 (suc rows) fs owns r after a → allAlike owns ≡ false → Unlike t (f ▸ fs) a
+    unfolding allAlike
+    some-unlike {k} {owns} {r} {after} {a} tag q c h = go owns h (subst (λ (n : ℕ). Branches rows n ps 0 (suc rows) fs owns r after a) (sym q) c)
+      where
+        go : (os : List (List Item)) → allAlike os ≡ false → Branches rows (roundingOf (f .contents)) ps 0 (suc rows) fs os r after a → Unlike t (f ▸ fs) a
+        go [] h c = absurd (not-none h)
+        go (o ∷ os) h c = round f tag c (λ z. some-other o h z)
 
     module _ (next : FollowingWalk) (go : (rows : ℕ) (made : Bool) → Through (tree rows ps) (afterClose ps) fs (next rows made)) where
-      entry-through : (x : Entry) → treeBehind (entryTagged (f .tag)) (f .contents) t ≡ entryBehind x t → Through t (afterClose ps) (f ▸ fs) (walkEntry deeper next (refusalAt (innermost ps) rows (f .at)) rows f fs x)
+      entry-through : (x : Entry) → f .tag ≡ tagOf x → treeBehind (entryTagged (f .tag)) (f .contents) t ≡ entryBehind x t
+          → Through t (afterClose ps) (f ▸ fs) (walkEntry deeper next (refusalAt (innermost ps) rows (f .at)) rows f fs x)
       unfolding walkEntry walkRow withNumber
-      entry-through (row (Derive s)) q = bind (through-on (leads-behind q) (go (suc rows) _)) λ w i. says-accepted i
-      entry-through (row (Strengthen i)) q = opened-through 2 firstAndThird q
-      entry-through (row (Round i g k)) q = opened-through k allAlike q
-      entry-through (row (Split i)) q = opened-through 1 (λ owns. true) q
-      entry-through (row (CloseNumber i)) q = closed-through q
-      entry-through (row (CloseStride i g)) q = closed-through q
-      entry-through (claims u v) q = says-refused (claim refl (here-told 14))
+      entry-through (row (Derive s)) g q = bind (weaken (go (suc rows) _) (λ a o. ours-on (leads-behind q) o)
+          (λ w c. goes-on f (subst (λ (x : Tree). Branch (afterClose ps) x fs (w .own) (w .rows) (w .after) (w .unlike)) (sym q) c))) λ w i. says-accepted i
+      entry-through (row (Strengthen i)) g q = opened-through 2 firstAndThird q (λ ws c h. third-unlike g c h)
+      entry-through (row (Round i s k)) g q = opened-through k allAlike q (λ ws c h. some-unlike g (rounding-told f t k g q) c h)
+      entry-through (row (Split i)) g q = opened-through 1 (λ owns. true) q (λ ws c h. absurd (not-none h))
+      entry-through (row (CloseNumber i)) g q = closed-through (inl g)
+      entry-through (row (CloseStride i s)) g q = closed-through (inr g)
+      entry-through (claims u v) g q = says-refused (claim refl (here-told 14))
 
   entries-through : (fs : Fields) (rows : ℕ) (made : Bool) → Through (tree rows ps) (afterClose ps) fs (walkEntries e K (innermost ps) deeper fs rows made)
   unfolding walkEntries startsAt
   entries-through (ends at) rows made = says-refused (as-check (λ e. omega arith) (λ e. omega arith) (at-front ps rows (ends at) 20))
   entries-through (cut at) rows made = says-refused (as-check (λ e. omega arith) (λ e. omega arith) (at-front ps rows (cut at) 2))
-  entries-through (f ▸ fs) rows made = bind (entry-says e K _ made f (λ n t. amidst-check _ t (here-told f fs rows n))) λ x n. entry-through f fs rows _ (entries-through fs) x (field-behind e two K f n (tree rows ps))
+  entries-through (f ▸ fs) rows made = bind (entry-says e K _ made f (λ n t. amidst-check _ t (here-told f fs rows n))) λ x n.
+      entry-through f fs rows _ (entries-through fs) x (field-tag e K f n) (field-behind e two K f n (tree rows ps))
 
 walk-through : (e : Edition) → e .multiplierWidth ≡ 2 → (K room : ℕ) → Walks (walkBranch e K room)
 unfolding walkBranch

@@ -5,18 +5,17 @@ use mathlib.Core.List.{List, []}
 use mathlib.Core.Option.{none, some}
 use Prim.Native.Nat.{ℕ, zero, suc, _+_, _≤_}
 use native.Mathlib.Omega.{arith}
-use lib.ListN.{length, take}
+use lib.ListN.{take}
 use lib.Seq.{take-at}
 use Rattle.forms.specs.Edition.{Edition, edition1, newestEdition}
 use Rattle.forms.specs.Forms.{All, Form, Line, Constraint, Formula}
 use Rattle.calculus.specs.Rules.{Entry, Closed, derive, strengthen, round, splitEq, splitNeq, number, stride, Rounded, last, more, inference, entries, entriesRounded}
-use Rattle.answers.specs.Answers.{fileA, Result, refused, accepted, _>>_, over, Written, writtenOf}
+use Rattle.answers.specs.Answers.{fileA, Result, refused, accepted, _>>_, over, Written}
 use Rattle.answers.specs.declared.WriteResult.{WriteResult}
 use Rattle.number_bytes.specs.Numbers.{Bytes}
 use Rattle.fields.specs.Fields.{Item, Framed, fileOf, withoutNotes, fields, items}
 use Rattle.fields.proofs.Framing.{items-fileOf}
 use Rattle.fields.proofs.Whole.{whole-file}
-use Rattle.fields.proofs.Moved.{eraseWritten}
 use Rattle.bundle.specs.Bundle.{bundle}
 use Rattle.bundle.specs.Layout.{StatesAll, BundleFile, bundleLimit}
 use Rattle.bundle.proofs.Notes.{limit-most, kept-higher}
@@ -25,15 +24,16 @@ use Rattle.proof.specs.Check.{check}
 use Rattle.proof.specs.Layout.{Yields}
 use Rattle.proof.specs.Editions.{limitBehind, lengthsFit, limitA, limitB}
 use Rattle.proof.proofs.Agree.{yielded-interpolant}
-use Rattle.proof.proofs.Notes.{check-noted}
 use Rattle.proof.proofs.Sizes.{written-reads-back}
 use Rattle.proof.specs.Promises.{Checks}
 use Rattle.guarantee.specs.LaidOut.{WholeFields, LaidBundle, Placed, unclaimed, claimed, strengthen as strengthens, round as rounds, split as splits, number as numbers, stride as strides, PlacedTimes, none as nones, more as mores, LaidOut}
 use Rattle.guarantee.specs.Acceptance.{Checkable}
+use Rattle.guarantee.specs.NotedPlaces.{movedAnswer, checkPlaces}
 use Rattle.guarantee.specs.Testing.{FormulaFile}
 use Rattle.guarantee.specs.Soundness.{Meaning, Faithful, Delivered, NotesPassedOver, Soundness}
 use Rattle.guarantee.proofs.FormulaFiles.{read-gives}
-use Rattle.guarantee.proofs.AtEnd.{lent-kept}
+use Rattle.guarantee.proofs.NotedPlaces.{start-moved}
+use Rattle.guarantee.proofs.NotedAnswers.{check-moved}
 use Rattle.guarantee.proofs.Acceptance.{of-editions, is-checkable, leaves, acceptance-holds}
 
 -- ---- what a writer stated is what the check read
@@ -124,10 +124,6 @@ module _ (FA FB : List Item) (framedA : All Framed FA) (framedB : All Framed FB)
   }
 
 -- ---- notes
--- What the function leaves, the answer's place apart.
-erased-is : {A B proof output left : List ℕ} {r : WriteResult} → Checks A B proof output left r → eraseWritten (writtenOf r left) ≡ eraseWritten (check A B proof output)
-erased-is c = ap eraseWritten (c .is)
-
 -- the length by the file alone is no more than that behind what was read before
 behind-least : {X : Type 0} (r : Result X) (file : List ℕ) → bundleLimit file ≤ limitBehind r file
 unfolding limitBehind
@@ -144,8 +140,12 @@ limit-B-least A B proof = behind-least (lengthsFit A B proof >> bundle newestEdi
 
 notes : NotesPassedOver limitA limitB
 notes A A′ B B′ proof proof′ output left left′ r r′ nA nB nP kA kB kP c c′ =
-    let same = erased-is c′ ∙ check-noted nA nB nP kA kB kP output ∙ sym (erased-is c) in
-    (ap (λ (w : Written). w .answer) same, ap (λ (w : Written). w .count) same, ap (λ (w : Written). w .output) same, lent-kept nA nB nP kA kB kP c c′)
+    let m = check-moved nA nB nP kA kB kP output in
+    let answered : r′ .answer ≡ movedAnswer (checkPlaces nA nB nP) (check A B proof output .answer) = ap (λ (w : Written). w .answer) (c′ .is) ∙ m .answer in (
+      answered ∙ sym (ap (λ (w : Written). movedAnswer (checkPlaces nA nB nP) (w .answer)) (c .is)),
+      ap (λ (w : Written). w .count) (c′ .is) ∙ m .count ∙ sym (ap (λ (w : Written). w .count) (c .is)),
+      ap (λ (w : Written). w .output) (c′ .is) ∙ m .output ∙ sym (ap (λ (w : Written). w .output) (c .is)),
+    )
 
 notes-plain : NotesPassedOver (λ A B proof. bundleLimit A) (λ A B proof. bundleLimit B)
 notes-plain A A′ B B′ proof proof′ output left left′ r r′ nA nB nP kA kB =
@@ -160,6 +160,7 @@ soundness = record {
   listed-read = λ file kinds numbers kinds′ numbers′ r bytes c h. lists bytes (acceptance-holds .read-iff file kinds numbers kinds′ numbers′ r c .0 h .states .whole);
   notes = notes;
   notes-plain = notes-plain;
+  notes-places = λ F F′ n i p e. start-moved n i p e;
   laid-out = λ A B proof output left r c h. laid-out (is-checkable c h .certified .yields);
   refuses = λ A B proof output left r c none h. none (laid-out (is-checkable c h .certified .yields));
 }

@@ -3,8 +3,8 @@ use mathlib.Core.Path.{_≡_}
 use mathlib.Core.Logic.{_⊎_, _↔_}
 use mathlib.Core.Option.{some}
 use mathlib.Core.Bool.{false}
-use mathlib.Core.List.{List, _∷_, _++_}
-use Prim.Native.Nat.{ℕ, suc, _≤_, _<_}
+use mathlib.Core.List.{List, [], _∷_, _++_}
+use Prim.Native.Nat.{ℕ, suc, _+_, _≤_, _<_}
 use lib.ListN.{length, take}
 use lib.IntN.{ℤ}
 use lib.Signed.{mag}
@@ -29,6 +29,7 @@ use Rattle.guarantee.specs.Acceptance.{WrittenAs}
 use Rattle.guarantee.specs.RefusedIff.{JustWhere}
 use Rattle.guarantee.specs.LaidOut.{WholeFields}
 use Rattle.guarantee.specs.Soundness.{Meaning, Faithful}
+use Rattle.guarantee.specs.TooManyLines.{branchLines, TooManyLines}
 
 -- ---- a choice of files
 -- A bundle as it is, or what turning it left.
@@ -90,10 +91,10 @@ pub record ConversionPromised : Type 0 where
   pub checked-same : (A B P : List ℕ) (K : ℕ) (I : Formula) (y : Yields newestEdition A B P K I) (A₂ B₂ P₂ : List ℕ) (d : Direction) → BundleChoice A A₂ → BundleChoice B B₂ → ProofChoice P d P₂
       → (d ≡ down → widest (y .proves .proof) ≤ 128) → (output left left₂ : List ℕ) (r r₂ : WriteResult) → Checks A B P output left r → Checks A₂ B₂ P₂ output left₂ r₂
       → (r₂ ≡ r) × (left₂ ≡ left)
-  -- unless the proof is turned down and a branch has over 128 lines: 16 in the proof, and the output as it was
+  -- unless the proof is turned down and a branch has over 128 lines: 16 in the proof, at the row that would make the first 129th line of a branch, and the output as it was
   pub checked-16 : (A B P : List ℕ) (K : ℕ) (I : Formula) (y : Yields newestEdition A B P K I) (A₂ B₂ P₂ : List ℕ) → BundleChoice A A₂ → BundleChoice B B₂ → ProofChoice P down P₂
       → 128 < widest (y .proves .proof) → (output left : List ℕ) (r : WriteResult) → Checks A₂ B₂ P₂ output left r
-      → (r .answer .number ≡ 16) × (r .answer .file ≡ 3) × (r .count ≡ 0) × (left ≡ output)
+      → (r .answer .number ≡ 16) × (r .answer .file ≡ 3) × TooManyLines 128 (branchLines (length (y .a) + length (y .b)) []) (fields P₂) (r .answer .place) × (r .count ≡ 0) × (left ≡ output)
   -- ---- refusals (that none writes is in `Refusals`, that none tells a row, step or branch in `InTree`)
   -- 5 first, for an edition asked for that is not 1 or 2, whatever the file is
   pub asked-bundle : (to : ℕ) (file output left : List ℕ) (r : WriteResult) → TurnsBundle to file output left r → ¬ (to ≡ 1) → ¬ (to ≡ 2) → r .answer ≡ answer 5 4 0

@@ -10,6 +10,8 @@ pub mod Guard
 pub mod Showing
 pub mod RefusedIff
 pub mod Meant
+pub mod NotedPlaces
+pub mod TooManyLines
 pub mod Reduced
 pub mod Rounding
 pub mod Apart

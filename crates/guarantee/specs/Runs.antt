@@ -1,8 +1,10 @@
 -- What the guards of a run are worth: sequence interpolants, for whatever the stages' writers made and meant. Document 02, point 7. Of what the function ensures. Assumes nothing.
 use mathlib.Core.Path.{_≡_}
 use mathlib.Core.Logic.{_↔_, _⊎_}
-use mathlib.Core.List.{List, map}
-use Prim.Native.Nat.{ℕ, suc, _≤_, _<_}
+use mathlib.Core.Bool.{cond}
+use mathlib.Core.List.{List, [], _∷_, _++_, map}
+use Prim.Native.Nat.{ℕ, suc, _+_, _≤_, _<_}
+use lib.Dec.{eqb}
 use lib.ListN.{length, take}
 use Rattle.forms.specs.Edition.{edition1, newestEdition}
 use Rattle.forms.specs.Forms.{All, Constraint, Formula}
@@ -10,19 +12,20 @@ use Rattle.answers.specs.declared.WriteResult.{WriteResult}
 use Rattle.answers.specs.Answers.{answer, acceptance, fileProof, fileLent, accepted, over, writtenOf, written}
 use Rattle.number_bytes.specs.Numbers.{Bytes}
 use Rattle.fields.specs.Fields.{Item, Framed, fileOf, fields, Noted, Kept}
-use Rattle.bundle.specs.Layout.{Each, BundleFile, bundleLimit}
+use Rattle.bundle.specs.Layout.{Each, nil, cons, BundleFile, bundleLimit}
 use Rattle.formula.specs.Formula.{formulaFile}
 use Rattle.proof.specs.Check.{checkProof}
 use Rattle.proof.specs.Promises.{Checks}
 use Rattle.chains.specs.Runs.{Run, joined, upTo, beyond, Chain}
-use Rattle.run.specs.Run.{mostConstraints, parts, side}
+use Rattle.run.specs.Run.{mostConstraints, firstStage, parts, side}
 use Rattle.run.specs.Layout.{guardAt, StageFile, RunYields, RunCertifies}
 use Rattle.run.specs.Refused.{Earliest, RunRefused}
 use Rattle.run.specs.Ordered.{Parted, RunWithinLimits}
 use Rattle.run.specs.Promises.{WritesGuards}
 use Rattle.guarantee.specs.LaidOut.{WholeFields}
 use Rattle.guarantee.specs.RefusedIff.{JustWhere}
-use Rattle.guarantee.specs.Soundness.{Meaning, Faithful, placeless}
+use Rattle.guarantee.specs.NotedPlaces.{movedBy, movedAnswer}
+use Rattle.guarantee.specs.Soundness.{Meaning, Faithful}
 use Rattle.guarantee.specs.Testing.{FormulaFile}
 
 -- A stage's writer: his fields, and what he meant by them.
@@ -85,6 +88,17 @@ pub record RunCheckable (buffer lengths proof output sizes : List ℕ) : Type 0 
   pub certified : RunCertifies newestEdition buffer lengths proof K Ts Is
   pub fits : (length (guardsFile K Is) ≤ length output) × (length Is ≤ length sizes)
 
+-- These stages are bundles of one K.
+pub record Bundled (files : List (List ℕ)) : Type 0 where
+  pub K : ℕ
+  pub Ts : Run
+  pub stages : Each (StageFile newestEdition K) files Ts
+
+-- A and B of a check that reads a stage T, behind those before it, as the run reads it, and T's number there: the first stage is read as A (B is not too long), every other as B behind the first one as A.
+pub data ReadByCheck : (before : List (List ℕ)) (T A B : List ℕ) (file : ℕ) → Type 0 where
+  as-A : {T B : List ℕ} → length B ≤ 8_192 → ReadByCheck [] T T B 1
+  as-B : {F T : List ℕ} {before : List (List ℕ)} → ReadByCheck (F ∷ before) T F T 2
+
 pub record RunPromised : Type 0 where
   -- sequence interpolants, whatever the stages' writers made and meant
   pub interpolates : (ws : List Writer) (proof output sizes left sizesLeft : List ℕ) (r : WriteResult) → WritesGuards (bufferBy ws) (lengthsBy ws) proof output sizes left sizesLeft r
@@ -99,14 +113,20 @@ pub record RunPromised : Type 0 where
   pub as-check : (buffer lengths proof : List ℕ) (K : ℕ) (Ts : Run) (Is : List Formula) → RunCertifies newestEdition buffer lengths proof K Ts Is
       → (i : ℕ) → i ≤ length Ts → (A B : List ℕ) (nA nB : ℕ) → BundleFile newestEdition A nA K (upTo Ts i) → BundleFile newestEdition B nB K (beyond Ts i)
       → (lent checked : List ℕ) (q : WriteResult) → Checks A B proof lent checked q → writtenOf q checked ≡ written (accepted (formulaFile edition1 K (guardAt Is i))) lent
+  -- stage i, counted from 1, in its turn is refused with file 10+i just where those before it are bundles of one K and check, which reads it as A or as B with any proof that is not too long, refuses it; with check's number and place
+  pub in-stage : (buffer lengths proof output sizes left sizesLeft : List ℕ) (r : WriteResult) → WritesGuards buffer lengths proof output sizes left sizesLeft r → RunWithinLimits lengths buffer proof
+      → (before : List (List ℕ)) (T : List ℕ) (after : List (List ℕ)) → parts lengths buffer ≡ before ++ (T ∷ after)
+      → (A B : List ℕ) (file : ℕ) → ReadByCheck before T A B file → (P lent checked : List ℕ) (q : WriteResult) → length P ≤ 65_536 → Checks A B P lent checked q
+      → JustWhere (r .answer .file ≡ 11 + length before) (Bundled before × (q .answer .file ≡ file)) (r .answer) (λ _. answer (q .answer .number) (11 + length before) (q .answer .place))
   -- where the stages are in order and the answer names the proof: every cut is refused so, or it is a 13 of some cut, 27 or 28; nothing is refused at a lesser place, and 14 never comes
   pub in-proof : (buffer lengths proof output sizes left sizesLeft : List ℕ) (r : WriteResult) → WritesGuards buffer lengths proof output sizes left sizesLeft r
       → (K : ℕ) (Ts : Run) → RunWithinLimits lengths buffer proof → Each (StageFile newestEdition K) (parts lengths buffer) Ts → length (joined Ts) ≤ mostConstraints → r .answer .file ≡ fileProof
       → RunRefused newestEdition K Ts proof (r .answer) × Earliest newestEdition K Ts proof (r .answer) × (¬ (r .answer .number ≡ 14))
-  -- and it does name the proof just where the proof derives no guards (of a proof that is bytes, as a slice is)
-  pub names-proof : (buffer lengths proof output sizes left sizesLeft : List ℕ) (r : WriteResult) → Bytes proof → WritesGuards buffer lengths proof output sizes left sizesLeft r
+  -- and it does name the proof where the proof derives no guards; just there, if the proof is bytes, as a slice is (of other numbers 1, 0 and 0, 256 are one multiplier: unlike fields of like rows, which derive guards and give 28)
+  pub names-proof : (buffer lengths proof output sizes left sizesLeft : List ℕ) (r : WriteResult) → WritesGuards buffer lengths proof output sizes left sizesLeft r
       → (K : ℕ) (Ts : Run) → RunWithinLimits lengths buffer proof → Each (StageFile newestEdition K) (parts lengths buffer) Ts → length (joined Ts) ≤ mostConstraints
-      → r .answer .file ≡ fileProof ↔ ((Is : List Formula) → ¬ (RunYields newestEdition buffer lengths proof K Ts Is))
+      → (((Is : List Formula) → ¬ (RunYields newestEdition buffer lengths proof K Ts Is)) → r .answer .file ≡ fileProof)
+      × (Bytes proof → r .answer .file ≡ fileProof → (Is : List Formula) → ¬ (RunYields newestEdition buffer lengths proof K Ts Is))
   -- by 27 or 28 where check accepts every cut, the proof not being uniform
   pub not-uniform : (buffer lengths proof output sizes left sizesLeft : List ℕ) (r : WriteResult) → WritesGuards buffer lengths proof output sizes left sizesLeft r
       → (K : ℕ) (Ts : Run) → RunWithinLimits lengths buffer proof → Each (StageFile newestEdition K) (parts lengths buffer) Ts → length (joined Ts) ≤ mostConstraints
@@ -163,8 +183,16 @@ pub record NotedStage (F F′ : List ℕ) : Type 0 where
   pub noted : Noted F F′
   pub kept : Kept (bundleLimit F) F F′
 
--- Whole notes between whole fields, in the stages and in the proof, change no number, file, row, step or branch, no count and no byte of the outputs (places move).
+-- The places of the stages, the first of these being this file, and those of a run's files. (With file 4 the place is a number of bytes, and stays.)
+unfoldable pub stagePlaces : (first : ℕ) {Fs Fs′ : List (List ℕ)} → Each NotedStage Fs Fs′ → (file place : ℕ) → ℕ
+stagePlaces first nil file p = p
+stagePlaces first (cons n ns) file p = cond (eqb file first) (movedBy (n .noted) p) (stagePlaces (suc first) ns file p)
+
+unfoldable pub runPlaces : {Fs Fs′ : List (List ℕ)} {proof proof′ : List ℕ} → Each NotedStage Fs Fs′ → Noted proof proof′ → (file place : ℕ) → ℕ
+runPlaces ns nP file p = cond (eqb file fileProof) (movedBy nP p) (stagePlaces firstStage ns file p)
+
+-- Whole notes between whole fields, in the stages and in the proof, change no number, file, row, step or branch, no count and no byte of the outputs, and the place stands where they move it: as of check.
 pub record RunNotes : Type 0 where
-  pub passed-over : (Fs Fs′ : List (List ℕ)) (proof proof′ output sizes left left′ sizesLeft sizesLeft′ : List ℕ) (r r′ : WriteResult) → Each NotedStage Fs Fs′ → Noted proof proof′ → Kept (edition1 .proofBytes) proof proof′
+  pub passed-over : (Fs Fs′ : List (List ℕ)) (proof proof′ output sizes left left′ sizesLeft sizesLeft′ : List ℕ) (r r′ : WriteResult) (ns : Each NotedStage Fs Fs′) (nP : Noted proof proof′) → Kept (edition1 .proofBytes) proof proof′
       → WritesGuards (joined Fs) (map length Fs) proof output sizes left sizesLeft r → WritesGuards (joined Fs′) (map length Fs′) proof′ output sizes left′ sizesLeft′ r′
-      → (placeless (r′ .answer) ≡ placeless (r .answer)) × (r′ .count ≡ r .count) × (left′ ≡ left) × (sizesLeft′ ≡ sizesLeft)
+      → (r′ .answer ≡ movedAnswer (runPlaces ns nP) (r .answer)) × (r′ .count ≡ r .count) × (left′ ≡ left) × (sizesLeft′ ≡ sizesLeft)

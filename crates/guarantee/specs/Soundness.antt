@@ -2,6 +2,7 @@
 use mathlib.Core.Path.{_≡_}
 use mathlib.Core.Logic.{_⊎_}
 use mathlib.Core.List.{List}
+use mathlib.Core.Option.{some}
 use Prim.Native.Nat.{ℕ, _≤_}
 use lib.ListN.{length, take}
 use lib.IntN.{ℤ}
@@ -9,10 +10,9 @@ use Rattle.forms.specs.Edition.{edition1, newestEdition}
 use Rattle.forms.specs.Forms.{All, Constraint, Formula}
 use Rattle.calculus.specs.Rules.{Interpolant}
 use Rattle.answers.specs.Answers.{over}
-use Rattle.answers.specs.declared.Answer.{Answer}
 use Rattle.answers.specs.declared.WriteResult.{WriteResult}
 use Rattle.number_bytes.specs.Numbers.{Bytes}
-use Rattle.fields.specs.Fields.{Item, Framed, fileOf, withoutNotes, Noted, Kept}
+use Rattle.fields.specs.Fields.{Item, Framed, fileOf, withoutNotes, fields, Noted, Kept}
 use Rattle.bundle.specs.Layout.{StatesAll, bundleLimit}
 use Rattle.bundle_read.specs.declared.ReadResult.{ReadResult}
 use Rattle.bundle_read.specs.Promises.{Reads}
@@ -21,6 +21,7 @@ use Rattle.proof.specs.Layout.{Certifies}
 use Rattle.proof.specs.Editions.{limitA, limitB}
 use Rattle.proof.specs.Promises.{Checks}
 use Rattle.guarantee.specs.LaidOut.{WholeFields, LaidOut}
+use Rattle.guarantee.specs.NotedPlaces.{movedBy, startOf, movedAnswer, checkPlaces}
 use Rattle.guarantee.specs.Testing.{FormulaFile}
 
 -- What a writer stated is given by any function of his list of fields. It gives a K and constraints.
@@ -50,18 +51,14 @@ pub record Delivered (FA FB : List Item) (MA MB : Meaning) (proof output left : 
   -- true wherever all of A is met, false wherever all of B is, naming only constants of both: A and B being what the writers stated
   pub interpolant : Interpolant (MA FA .1) (MB FB .1) formula
 
--- An answer without its place (0 stands for it).
-abbrev pub placeless : Answer → Answer
-placeless a = record { number = a .number; file = a .file; place = 0; row = a .row; step = a .step; branch = a .branch }
-
 -- Whole notes between whole fields change no number, file, row, step or branch, no count and no output byte, where no file gets too long by them: a bundle, by the lengths given.
--- Places in a file move; with file 4 the place is a number of bytes, and the whole answer stays.
+-- The place stands where the notes move it: in a file where the same field, or the end, now stands; with file 4 it is a number of bytes, and the whole answer stays.
 abbrev pub NotesPassedOver : (lengthA lengthB : (A B proof : List ℕ) → ℕ) → Type 0
 NotesPassedOver lengthA lengthB =
-    (A A′ B B′ proof proof′ output left left′ : List ℕ) (r r′ : WriteResult) → Noted A A′ → Noted B B′ → Noted proof proof′
+    (A A′ B B′ proof proof′ output left left′ : List ℕ) (r r′ : WriteResult) (nA : Noted A A′) (nB : Noted B B′) (nP : Noted proof proof′)
     → Kept (lengthA A B proof) A A′ → Kept (lengthB A B proof) B B′ → Kept (edition1 .proofBytes) proof proof′
     → Checks A B proof output left r → Checks A′ B′ proof′ output left′ r′
-    → (placeless (r′ .answer) ≡ placeless (r .answer)) × (r′ .count ≡ r .count) × (left′ ≡ left) × (r .answer .file ≡ 4 → r′ .answer ≡ r .answer)
+    → (r′ .answer ≡ movedAnswer (checkPlaces nA nB nP) (r .answer)) × (r′ .count ≡ r .count) × (left′ ≡ left)
 
 pub record Soundness : Type 0 where
   -- after one accepted check
@@ -76,6 +73,8 @@ pub record Soundness : Type 0 where
   pub notes : NotesPassedOver limitA limitB
   -- and with the length by the file alone: 4,096 for a bundle whose first field, notes aside, is a whole 0x01 of length 1 that says 1, 8,192 for any other
   pub notes-plain : NotesPassedOver (λ A B proof. bundleLimit A) (λ A B proof. bundleLimit B)
+  -- where notes move places: each field, notes aside, and what stands behind the last one, starts where the map puts it
+  pub notes-places : (F F′ : List ℕ) (n : Noted F F′) (i p : ℕ) → startOf i (fields F) ≡ some p → startOf i (fields F′) ≡ some (movedBy n p)
   -- what is accepted is laid out, and a file that carries anything else is refused
   pub laid-out : (A B proof output left : List ℕ) (r : WriteResult) → Checks A B proof output left r → r .answer .number ≡ 0 → LaidOut A B proof
   pub refuses : (A B proof output left : List ℕ) (r : WriteResult) → Checks A B proof output left r → ¬ (LaidOut A B proof) → ¬ (r .answer .number ≡ 0)
