@@ -11,7 +11,7 @@ use borrow.Author.Tests.{lt-ltb, le-ltb, ltb-true, ltb-false, lt-leb, le-leb, eq
 use Rattle.forms.specs.Edition.{Edition, edition}
 use Rattle.forms.specs.Forms.{Constraint}
 use Rattle.answers.specs.declared.Answer.{Answer}
-use Rattle.answers.specs.Answers.{answer, acceptance, fileA, fileB, Result, refused, accepted, _>>=_, _>>_, need, found}
+use Rattle.answers.specs.Answers.{answer, acceptance, fileA, fileB, refused, accepted, _>>=_, _>>_, need, found}
 use Rattle.fields.specs.Fields.{Field, Fields, ends, cut, _▸_, Item, fields, nth}
 use Rattle.fields.specs.Places.{fieldsAt}
 use Rattle.fields.proofs.HeaderLaid.{First, first-of}

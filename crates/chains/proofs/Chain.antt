@@ -1,6 +1,6 @@
 -- For two cuts of the same constraints the formulas of one uniform tree follow one another. Assumes nothing.
-use mathlib.Core.Path.{_≡_, refl, sym, _∙_, ap, subst}
-use mathlib.Core.Logic.{_⊎_, inl, inr, _↔_}
+use mathlib.Core.Path.{_≡_, refl, sym, ap, subst}
+use mathlib.Core.Logic.{_⊎_, inl, inr}
 use mathlib.Core.List.{List}
 use mathlib.Core.Bool.{Bool, false}
 use Prim.Native.Nat.{ℕ, zero, suc, _+_, _≤_, _<_}
@@ -13,8 +13,8 @@ use Rattle.integers.proofs.Differences.{ints, add-pn, neg-pn}
 use Rattle.integers.proofs.Laws.{sub-add}
 use Rattle.integers.specs.Divides.{_∣ℤ_}
 use Rattle.forms.specs.Edition.{Edition}
-use Rattle.forms.specs.Forms.{Form, Kind, ≤0, =0, Holds, LineKind, plain, apart, Line, line, lineApart, neg, value, coeff, Assignment, _plus_, Formula, literal, _and_, _or_, True}
-use Rattle.calculus.specs.Rules.{Nth, _▷_, StrideOf, Closed}
+use Rattle.forms.specs.Forms.{Form, Kind, ≤0, =0, Holds, LineKind, plain, apart, Line, line, lineApart, neg, value, coeff, Assignment, _plus_, Formula, _and_, _or_, True}
+use Rattle.calculus.specs.Rules.{_▷_, StrideOf, Closed}
 use Rattle.calculus.proofs.Readings.{value-plus}
 use Rattle.calculus.proofs.Sides.{Side, A, B, all-nth, holds-plus}
 use Rattle.calculus.proofs.Leaves.{split}
@@ -22,7 +22,7 @@ use Rattle.calculus.proofs.Splitting.{sign}
 use Rattle.calculus.proofs.Reducing.{positive, unmasked, reduced-alike}
 use Rattle.calculus.proofs.Vocabulary.{WithinVocabulary, words-new, words-raised, words-1, words-E, words-0, words-neg, words-neg-0}
 use Rattle.calculus.proofs.Sound.{value-neg}
-use Rattle.chains.proofs.Trees.{Tree, ByDerive, ByStrengthen, ByNumber, ByStride, ByRound, BySplit, Trees, Final, Further, tree, SameTrees, UniformTree}
+use Rattle.chains.proofs.Trees.{Tree, ByDerive, ByStrengthen, ByNumber, ByStride, ByRound, BySplit, Trees, tree, SameTrees, UniformTree}
 use Rattle.chains.proofs.Grown.{Grown, derived, strengthened, byNumber, byStride, rounded, splitsEq, splitsNeq, Growing, grownFinal, grownFurther, grown}
 use Rattle.chains.proofs.Links.{Passed, plains, stays, passes, Link, Linked, same-kind, plain-delta, plain-linked, linked-nth, linked-and, linked-made}
 

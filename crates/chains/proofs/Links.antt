@@ -4,8 +4,8 @@ use mathlib.Core.List.{List, [], _∷_, _++_}
 use Prim.Native.Nat.{ℕ, zero, suc}
 use native.Mathlib.Omega.{arith}
 use lib.IntN.{ℤ, pos, _-ℤ_, _*ℤ_}
-use Rattle.forms.specs.Forms.{Form, Kind, ≤0, =0, Holds, LineKind, plain, apart, Line, line, value, Assignment, _⊞_, _·_, _plus_}
-use Rattle.calculus.specs.Rules.{Inference, Combine, Reduce, Scale, Nth, _▷_}
+use Rattle.forms.specs.Forms.{Form, Kind, ≤0, Holds, LineKind, plain, apart, Line, line, value, Assignment, _⊞_, _·_}
+use Rattle.calculus.specs.Rules.{Inference, Nth, _▷_}
 use Rattle.calculus.proofs.Readings.{value-reading}
 use Rattle.calculus.proofs.Sides.{Side, A, B, holds-cone, sum-literal, times-literal}
 use Rattle.chains.proofs.Grown.{Made, by-combine, by-reduce, by-scale}

@@ -4,11 +4,11 @@ use mathlib.Core.List.{List, [], _∷_, _++_, map, append-assoc, append-nil}
 use mathlib.Core.Option.{some}
 use Prim.Native.Nat.{ℕ, zero, suc, _≤_}
 use native.Mathlib.Omega.{arith}
-use lib.ListN.{getElem?, length, take, drop}
+use lib.ListN.{getElem?, length}
 use lib.IntN.{ℤ, pos, +ℤ-idr}
 use Rattle.integers.proofs.Laws.{sub-self}
 use Rattle.forms.specs.Edition.{Edition}
-use Rattle.forms.specs.Forms.{Kind, ≤0, =0, Holds, ConstraintKind, says, ≠0, ConstraintHolds, kindOn, Constraint, lineA, lineB, lines, occurs, All, nil, cons, Meets, Assignment, value, Formula, True}
+use Rattle.forms.specs.Forms.{ConstraintKind, says, ≠0, ConstraintHolds, kindOn, Constraint, lineA, lineB, lines, occurs, All, nil, cons, Meets, Assignment, value, Formula, True}
 use Rattle.calculus.specs.Rules.{Entry, Interpolant}
 use Rattle.calculus.proofs.Readings.{value-reading}
 use Rattle.calculus.proofs.Sides.{Side, A, B, holds-cone, zero-form}

@@ -1,12 +1,12 @@
 -- The rows of a closed branch as a tree. Two tables of the same entries have the same tree, so a uniform proof has a uniform tree. Assumes nothing.
-use mathlib.Core.Path.{_≡_, refl, sym, _∙_, ap, ap₂, subst}
+use mathlib.Core.Path.{_≡_, refl, sym, ap, ap₂, subst}
 use mathlib.Core.List.{List, [], _∷_}
 use mathlib.Core.Bool.{Bool, true, false}
 use Prim.Native.Nat.{ℕ, suc, _<_}
 use native.Mathlib.Omega.{arith}
 use Rattle.forms.specs.Edition.{Edition}
 use Rattle.forms.specs.Forms.{Form, Line, Formula}
-use Rattle.calculus.specs.Rules.{Inference, Row, Derive, Strengthen, CloseNumber, CloseStride, Round, Split, Entry, row, claim, Closed, derive, strengthen, round, splitEq, splitNeq, number, stride, Rounded, last, more, inference, entries, entriesRounded, claims}
+use Rattle.calculus.specs.Rules.{Inference, Derive, Strengthen, CloseNumber, CloseStride, Round, Split, Entry, row, claim, Closed, derive, strengthen, round, splitEq, splitNeq, number, stride, Rounded, last, more, inference, entries, entriesRounded}
 use Rattle.chains.specs.Runs.{Alike, Uniform}
 
 -- The rows of a closed branch, without its lines: what two cuts of the same constraints share.

@@ -10,7 +10,7 @@ use lib.IntN.{ℤ, pos, negsuc}
 use lib.Signed.{_≤ℤ_}
 use Rattle.integers.proofs.Differences.{ints}
 use Rattle.forms.specs.Edition.{edition1}
-use Rattle.forms.specs.Forms.{Form, Kind, ≤0, =0, says, Constraint, small, every, lines, occurs, All, nil, cons, Meets, Assignment, value, sum, coeff, sums, _⊞_, _·_, _plus_, Formula, _and_, _or_, True}
+use Rattle.forms.specs.Forms.{Kind, ≤0, =0, says, Constraint, small, every, lines, occurs, All, nil, cons, Meets, Assignment, value, sum, coeff, sums, _⊞_, _·_, _plus_, Formula, _or_, True}
 use Rattle.calculus.specs.Rules.{Closed, derive, strengthen, number, combine, reduce, inRange, entries}
 
 abbrev pub stated : Kind → ℤ → ℤ → ℤ → Constraint

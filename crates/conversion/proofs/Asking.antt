@@ -5,18 +5,17 @@ use mathlib.Core.Bool.{Bool, cond, _&&_}
 use mathlib.Core.List.{List, [], _∷_}
 use Prim.Native.Nat.{ℕ, zero, suc, _≤_}
 use native.Mathlib.Omega.{arith}
-use mir.Facts.{and-yes, yes-and}
+use mir.Facts.{and-yes}
 use lib.Dec.{T, leb, eqb, leb→le, le→leb, eqb→eq, eqb-refl}
 use lib.ListN.{length, getD}
 use Rattle.forms.specs.Edition.{newestEdition}
-use Rattle.answers.specs.Answers.{answer, Result, accepted, _>>=_, _>>_, need}
-use Rattle.answers.proofs.Results.{Gives, given, gives-refused, gives-accepted, weaken, bind, seq, gives-need, test, binds, needs, need-yes}
+use Rattle.answers.specs.Answers.{accepted}
+use Rattle.answers.proofs.Results.{Gives, given, gives-refused, gives-accepted, weaken, bind, gives-need, test, binds, needs, need-yes}
 use Rattle.fields.specs.declared.FileKind.{FileKind}
 use Rattle.fields.specs.Fields.{Field, Fields, ends, cut, _▸_, Item, item, items}
-use Rattle.fields.specs.Header.{headerTag, known, headerField}
+use Rattle.fields.specs.Header.{known, headerField}
 use Rattle.fields.proofs.HeaderLaid.{first-of}
 use Rattle.bundle.specs.Layout.{editionSaid}
-use Rattle.bundle.proofs.Laid.{Lists, done, next}
 use Rattle.conversion.specs.Turning.{other, asked, otherEdition, eachField, resultWithin, behindHeader}
 
 -- ---- the edition asked for

@@ -10,7 +10,7 @@ use lib.ListN.{length}
 use Rattle.forms.specs.Edition.{Edition, edition, newestEdition}
 use Rattle.forms.proofs.Editions.{coefficientWidth-is, bundleBytes-grows}
 use Rattle.forms.specs.Forms.{Form, Constraint, All, nil, cons, every, small}
-use Rattle.answers.specs.Answers.{fileA, accepted, _>>=_, _>>_}
+use Rattle.answers.specs.Answers.{fileA, accepted}
 use Rattle.answers.proofs.Results.{Gives, weaken, bind, seq, binds, passes}
 use Rattle.number_bytes.specs.Numbers.{Bytes, flat, formFrom}
 use Rattle.number_bytes.specs.Ranges.{FormInWidth}

@@ -2,37 +2,35 @@
 use mathlib.Core.Path.{_≡_, refl, sym, _∙_, ap, ap₂, subst}
 use mathlib.Core.Option.{Option, none, some}
 use mathlib.Core.Bool.{Bool}
-use mathlib.Core.List.{List, [], _∷_, _++_, map}
-use Prim.Native.Nat.{ℕ, _+_, _≤_, _<_}
+use mathlib.Core.List.{List, [], _∷_, map}
+use Prim.Native.Nat.{ℕ, _≤_, _<_}
 use native.Mathlib.Omega.{arith}
-use lib.Dec.{T}
 use lib.ListN.{length, length-append, length-map}
 use Rattle.forms.specs.Edition.{Edition, edition, edition1, newestEdition}
 use Rattle.forms.proofs.Editions.{bundleBytes-grows, lines-least, lines-most}
-use Rattle.forms.specs.Forms.{Constraint, Formula, Line, lineA, lineB, lines, occurs}
-use Rattle.calculus.specs.Rules.{Entry, entries, rowCount, Proves}
+use Rattle.forms.specs.Forms.{Constraint, Formula, lineA, lineB, lines, occurs}
+use Rattle.calculus.specs.Rules.{Entry, rowCount}
 use Rattle.calculus.proofs.Sides.{Side}
 use Rattle.calculus.proofs.Interpolation.{initial-words, sides}
-use Rattle.answers.specs.declared.Answer.{Answer}
-use Rattle.answers.specs.Answers.{root, fileA, fileB, fileProof, Result, refused, accepted, _>>=_, _>>_, Written, written}
-use Rattle.answers.proofs.Results.{one-value, binds, passes, bind-refused}
+use Rattle.answers.specs.Answers.{root, fileA, fileB, fileProof, Result, accepted, _>>=_, _>>_, Written, written}
+use Rattle.answers.proofs.Results.{one-value, binds, passes}
 use Rattle.fields.specs.declared.FileKind.{FileKind}
-use Rattle.fields.specs.Fields.{Item, item, fields, items}
+use Rattle.fields.specs.Fields.{Item, fields}
 use Rattle.fields.specs.Header.{agrees}
 use Rattle.fields.proofs.HeaderLaid.{header-read}
-use Rattle.bundle.specs.Bundle.{Bundle, bundle, bundles}
+use Rattle.bundle.specs.Bundle.{Bundle, bundles}
 use Rattle.bundle.specs.Layout.{Each, nil, cons, BundleFile}
 use Rattle.bundle.proofs.Laid.{listed, bundle-accepts, bundles-accept, short-accepted}
 use Rattle.formula.specs.Formula.{formulaFile}
-use Rattle.proof.specs.Entries.{EntryTag, entryTagged}
+use Rattle.proof.specs.Entries.{EntryTag}
 use Rattle.proof.specs.Check.{checkProof, interpolant, checkBy, check}
 use Rattle.proof.specs.Layout.{Enters, ProofFile, Yields}
 use Rattle.proof.proofs.Agree.{agrees-refl, interpolant-yields}
 use Rattle.conversion.specs.Turning.{other, bundleTurned, proofTurned}
 use Rattle.conversion.specs.Widest.{widest}
-use Rattle.conversion.proofs.Asking.{Asked, down, up}
-use Rattle.conversion.proofs.Bundles.{BundleTurns, bundle-turned-gives, turned-states}
-use Rattle.conversion.proofs.Proofs.{proofItems, ProofTurns, proof-turned-gives, turned-proof-file}
+use Rattle.conversion.proofs.Asking.{Asked}
+use Rattle.conversion.proofs.Bundles.{bundle-turned-gives, turned-states}
+use Rattle.conversion.proofs.Proofs.{proofItems, proof-turned-gives, turned-proof-file}
 use Rattle.conversion.proofs.Narrow.{widest-fits, narrowed-proves}
 use Rattle.conversion.proofs.Overflow.{Overflows, after-steps, overflow-bind, branch-overflows}
 

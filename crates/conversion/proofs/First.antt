@@ -1,20 +1,20 @@
 -- The first field that does not pass a test is the one that is told. Assumes nothing.
-use mathlib.Core.Path.{_≡_, refl, sym, _∙_, ap, subst}
-use mathlib.Core.Option.{Option, none, some}
+use mathlib.Core.Path.{_≡_, refl, sym, _∙_, ap}
+use mathlib.Core.Option.{Option, some}
 use mathlib.Core.Bool.{Bool, true, false}
 use mathlib.Core.List.{List, [], _∷_, _++_}
 use Prim.Native.Nat.{ℕ, suc}
 use lib.Dec.{T}
 use lib.ListN.{length}
 use Rattle.forms.specs.Forms.{All, nil, cons}
-use Rattle.answers.specs.Answers.{answer, Result, refused, accepted, _>>=_, _>>_, need}
-use Rattle.answers.proofs.Results.{Gives, gives-refused, gives-accepted, weaken, bind, test, needs, fail}
+use Rattle.answers.specs.Answers.{answer, refused}
+use Rattle.answers.proofs.Results.{Gives, gives-refused, gives-accepted, bind, test, needs, fail}
 use Rattle.fields.specs.declared.FileKind.{FileKind}
-use Rattle.fields.specs.Fields.{Field, Fields, ends, cut, _▸_, Item, item, items, fields, nth}
-use Rattle.fields.specs.Header.{Header, headerField, editionField, constantsField, header}
+use Rattle.fields.specs.Fields.{Field, Fields, ends, cut, _▸_, Item, items, fields, nth}
+use Rattle.fields.specs.Header.{headerField, editionField, constantsField, header}
 use Rattle.bundle.specs.Bundle.{atMost, bundleHeader}
 use Rattle.bundle.specs.Layout.{Each}
-use Rattle.bundle.proofs.Laid.{Lists, done, next, listed}
+use Rattle.bundle.proofs.Laid.{Lists, next, listed}
 use Rattle.conversion.specs.Turning.{eachField, behindHeader}
 
 not-true : (b : Bool) → (T b → ⊥) → b ≡ false

@@ -10,13 +10,13 @@ use borrow.Author.Tests.{le-ltb, leb-true, leb-false}
 use lib.Dec.{leb, ltb, lt→ltb}
 use lib.ListN.{length}
 use Rattle.forms.specs.Edition.{Edition, edition}
-use Rattle.forms.specs.Forms.{Form, ≤0, =0, Line, line, lineApart, neg, Formula, _and_, _or_, _plus_}
-use Rattle.calculus.specs.Rules.{Nth, _▷_, Room, Rounds, Closed, derive, strengthen, round, splitEq, splitNeq, number, stride, Rounded, last, more, Strengthen, Round, Split, Entry, row, entries, entriesRounded, rowCount, rowCountRounded, depth, depthRounded}
+use Rattle.forms.specs.Forms.{Form, ≤0, =0, Line, line, lineApart, neg, Formula, _or_, _plus_}
+use Rattle.calculus.specs.Rules.{Nth, _▷_, Room, Rounds, Closed, derive, strengthen, round, splitEq, splitNeq, number, stride, Rounded, last, more, Strengthen, Round, Split, Entry, entries, entriesRounded, rowCount, rowCountRounded, depth, depthRounded}
 use Rattle.calculus.proofs.Sides.{Side, A, B}
 use Rattle.calculus.proofs.Vocabulary.{WithinVocabulary, words-new, words-raised, words-1, words-E, words-0, words-neg, words-neg-0}
 use Rattle.answers.specs.declared.Answer.{Answer}
 use Rattle.answers.specs.declared.Position.{Position}
-use Rattle.answers.specs.Answers.{refusalAt, fileProof, Result, refused, accepted, _>>=_, _>>_}
+use Rattle.answers.specs.Answers.{refusalAt, fileProof, Result, refused, _>>=_, _>>_}
 use Rattle.answers.proofs.Results.{binds, passes, needs, found-some, fail, bind-refused, then-refused}
 use Rattle.fields.specs.Fields.{Fields}
 use Rattle.bundle.proofs.Laid.{Lists, next}

@@ -10,7 +10,7 @@ use lib.ListN.{length, length-append}
 use Rattle.forms.specs.Edition.{Edition, edition, edition1, newestEdition}
 use Rattle.forms.specs.Forms.{Form, All, nil, cons}
 use Rattle.calculus.specs.Rules.{Entry, claim}
-use Rattle.answers.specs.Answers.{answer, fileProof, accepted, _>>=_, _>>_}
+use Rattle.answers.specs.Answers.{answer, fileProof, accepted}
 use Rattle.answers.proofs.Results.{Gives, gives-refused, gives-accepted, weaken, bind, seq, test, finds, binds, passes, needs, found-some}
 use Rattle.number_bytes.specs.Numbers.{Bytes}
 use Rattle.fields.specs.declared.FileKind.{FileKind}

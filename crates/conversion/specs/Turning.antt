@@ -12,7 +12,7 @@ use Rattle.answers.specs.Answers.{answer, fileA, fileProof, fileLent, Result, r
 use Rattle.number_bytes.specs.Numbers.{unsigneds, flat, formFrom}
 use Rattle.fields.specs.declared.FileKind.{FileKind}
 use Rattle.fields.specs.Fields.{Fields, ends, cut, _▸_, fields, fieldBytes, Item, item}
-use Rattle.fields.specs.Header.{Header, headerField, header, headerBytes}
+use Rattle.fields.specs.Header.{headerField, header, headerBytes}
 use Rattle.bundle.specs.Bundle.{Bundle, atMost, bundle}
 use Rattle.bundle.specs.Read.{kindsOf, numbersOf}
 use Rattle.bundle.specs.Write.{constraintsBytes, holdable}

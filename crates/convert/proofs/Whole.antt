@@ -14,13 +14,13 @@ use Rattle.forms.specs.Edition.{edition, newestEdition}
 use Rattle.calculus.specs.Rules.{Entry}
 use Rattle.answers.specs.declared.Answer.{Answer}
 use Rattle.answers.specs.declared.WriteResult.{WriteResult}
-use Rattle.answers.specs.Answers.{answer, acceptance, fileA, fileProof, fileLent, refused, accepted, _>>=_, _>>_, need, over, fit, written}
+use Rattle.answers.specs.Answers.{answer, acceptance, fileA, fileProof, fileLent, refused, accepted, _>>_, need, over, fit, written}
 use Rattle.answers.proofs.Results.{passes, binds, bind-refused, then-refused, needs, fail}
 use Rattle.answers.proofs.Over.{sets-over}
 use Rattle.fields.specs.declared.FileKind.{FileKind}
 use Rattle.fields.specs.declared.header.Headed.{Headed}
 use Rattle.fields.specs.Fields.{Fields, item, fields}
-use Rattle.fields.specs.Header.{Header, header, headerBytes}
+use Rattle.fields.specs.Header.{Header, headerBytes}
 use Rattle.fields.specs.Places.{fieldsAt, headedOf, IsHeader}
 use Rattle.fields.proofs.HeaderLaid.{header-gives}
 use Rattle.bundle.specs.Bundle.{atMost}

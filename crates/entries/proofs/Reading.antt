@@ -17,7 +17,7 @@ use Rattle.forms.proofs.Editions.{lineWidth-most}
 use Rattle.forms.specs.declared.LineNumber.{LineNumber}
 use Rattle.calculus.specs.Rules as rules
 use Rattle.answers.specs.declared.Answer.{Answer}
-use Rattle.answers.specs.Answers.{accepted, _>>=_, _>>_, need}
+use Rattle.answers.specs.Answers.{accepted, _>>_, need}
 use Rattle.number_bytes.specs.Numbers.{unsigned, signed}
 use Rattle.number_bytes.specs.Ranges.{Held}
 use Rattle.fields.specs.declared.FileKind.{FileKind}

@@ -17,7 +17,6 @@ use Rattle.integers.specs.Remainder.{remainder}
 use Rattle.integers.specs.Magnitude.{Within}
 use Rattle.integers.proofs.Differences.{ints, add-pn}
 use Rattle.integers.proofs.Magnitude.{within-add, within-fits}
-use Rattle.forms.specs.Forms.{value}
 use Rattle.number_bytes.specs.Numbers.{signed}
 use Rattle.number_bytes.specs.Ranges.{Held}
 use Rattle.formula.specs.Test.{registers}

@@ -15,7 +15,6 @@ use Rattle.answers.proofs.Results.{binds, passes, bind-refused, then-refused}
 use Rattle.fields.specs.declared.FileKind.{FileKind}
 use Rattle.fields.specs.declared.ending.Ending.{Ending}
 use Rattle.fields.specs.declared.header.Headed.{Headed}
-use Rattle.fields.specs.Fields.{fields}
 use Rattle.fields.specs.Header.{finished}
 use Rattle.fields.specs.Places.{fieldsAt, IsHeader}
 use Rattle.fields.specs.Ending.{IsEnding}

@@ -1,27 +1,26 @@
 -- What printing promises holds of print, print_words and check. Assumes nothing.
-use mathlib.Core.Path.{_≡_, refl, sym, _∙_, ap, subst}
+use mathlib.Core.Path.{_≡_, _∙_, ap}
 use mathlib.Core.Bool.{Bool, true, false}
 use mathlib.Core.List.{List}
 use Prim.Native.Nat.{ℕ, _≤_, _<_}
 use native.Mathlib.Omega.{arith}
 use lib.ListN.{length, take, length-take}
 use borrow.Author.Tests.{le-leb}
-use Rattle.forms.specs.Forms.{Constraint, Formula, True}
+use Rattle.forms.specs.Forms.{Constraint, Formula}
 use Rattle.calculus.specs.Rules.{Interpolant}
 use Rattle.answers.specs.declared.WriteResult.{WriteResult}
 use Rattle.answers.specs.declared.Answer.{Answer}
-use Rattle.answers.specs.Answers.{answer, acceptance, fileLent, Result, accepted, over, Written, writtenOf, fit, written}
+use Rattle.answers.specs.Answers.{answer, fileLent, Result, accepted, Written, writtenOf, fit, written}
 use Rattle.fields.specs.Fields.{fields}
 use Rattle.formula.specs.Formula.{readFormula}
 use Rattle.printing.specs.Translation.{smt}
 use Rattle.printing.specs.Words.{worded}
-use Rattle.printing.specs.Dialects.{formulaText, ReadsAs, MeansAs}
+use Rattle.printing.specs.Dialects.{formulaText, MeansAs}
 use Rattle.printing.specs.Print.{printFormula, printed}
 use Rattle.printing.specs.Promises.{PrintsFile}
 use Rattle.printing.proofs.Named.{names-only, words-names-only}
 use Rattle.printing.proofs.Accepted.{one-reading, printer, printed-as, read-as, means-read}
 use Rattle.guarantee.specs.Acceptance.{WrittenAs}
-use Rattle.guarantee.specs.Testing.{FormulaFile}
 use Rattle.guarantee.specs.Print.{textOf, Printable, SeparatesAs, PrintingPromised}
 use Rattle.guarantee.proofs.Soundness.{soundness}
 use Rattle.guarantee.proofs.FormulaFiles.{read-gives, file-read}

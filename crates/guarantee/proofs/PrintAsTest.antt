@@ -2,9 +2,8 @@
 use mathlib.Core.Path.{_≡_, refl, sym, ap, _∙_}
 use mathlib.Core.Bool.{Bool, true, false, _&&_}
 use mathlib.Core.List.{List}
-use mathlib.Core.Option.{Option, none, some}
+use mathlib.Core.Option.{none, some}
 use Prim.Native.Nat.{ℕ, _≤_}
-use native.Mathlib.Omega.{arith}
 use lib.Dec.{leb, eqb, le→leb}
 use lib.IntN.{ℤ, natAbs}
 use lib.ListN.{length}
@@ -14,13 +13,13 @@ use Rattle.forms.specs.Forms.{All, Formula}
 use Rattle.number_bytes.proofs.Signed.{all-weaken}
 use Rattle.answers.specs.declared.Answer.{Answer}
 use Rattle.answers.specs.declared.WriteResult.{WriteResult}
-use Rattle.answers.specs.Answers.{answer, fileLent, fileProof, Result, refused, accepted, _>>=_, _>>_, need, each, Written, writtenOf, written}
+use Rattle.answers.specs.Answers.{answer, fileProof, Result, refused, accepted, _>>=_, _>>_, need, Written, writtenOf, written}
 use Rattle.answers.proofs.Results.{never, bind-refused, pass, passes, each-accepted}
 use Rattle.fields.specs.declared.FileKind.{FileKind}
 use Rattle.fields.specs.Fields.{Fields, fields}
-use Rattle.fields.specs.Header.{Header, agrees, headerField, editionField, constantsField, header, finished}
+use Rattle.fields.specs.Header.{agrees, headerField, editionField, constantsField, header, finished}
 use Rattle.formula.specs.Formula.{formulaWithin, readFormula}
-use Rattle.formula.specs.Test.{Tested as Outcome, tested, judged, testFormula}
+use Rattle.formula.specs.Test.{tested, judged, testFormula}
 use Rattle.formula_test.specs.declared.Tested.{Tested}
 use Rattle.formula_test.specs.Promises.{Tests, asTested}
 use Rattle.printing.specs.Print.{textBehind, printed, printFormula}

@@ -6,7 +6,7 @@ use native.Mathlib.Omega.{arith}
 use lib.IntN.{ℤ}
 use lib.ListN.{length, getD, set}
 use lib.Seq.{getD-set-same}
-use Rattle.forms.specs.Forms.{≤0, =0, A, plain, Line}
+use Rattle.forms.specs.Forms.{≤0, =0, plain, Line}
 use Rattle.calculus.specs.Rules.{_▷_}
 use Rattle.lines.specs.Parts.{Agree}
 use Rattle.forms.specs.Flat.{kindOf, lineKindOf}

@@ -3,7 +3,7 @@ use mathlib.Core.Path.{_≡_, refl, sym, ap, ap₂, _∙_, subst}
 use mathlib.Core.Bool.{Bool, true, false}
 use mathlib.Core.List.{List}
 use mathlib.Core.Option.{none, some}
-use Prim.Native.Nat.{ℕ, _+_, _≤_, _<_}
+use Prim.Native.Nat.{ℕ, _≤_, _<_}
 use native.Mathlib.Omega.{arith}
 use lib.Dec.{leb, leb→le}
 use lib.ListN.{length, take}
@@ -12,7 +12,7 @@ use borrow.Author.Tests.{leb-true, le-leb, lt-leb}
 use Rattle.forms.specs.Edition.{edition1}
 use Rattle.forms.specs.Forms.{Assignment, Formula}
 use Rattle.answers.specs.declared.WriteResult.{WriteResult}
-use Rattle.answers.specs.Answers.{answer, acceptance, fileProof, fileLent, Result, refused, accepted, _>>=_, _>>_, over, fit, Written, writtenOf, written}
+use Rattle.answers.specs.Answers.{answer, acceptance, fileProof, fileLent, Result, refused, accepted, _>>_, over, fit, Written, writtenOf, written}
 use Rattle.answers.proofs.Results.{one-value, not-0, Gives, gives-refused, gives-accepted, bind, seq, test, weaken, binds, passes, pass}
 use Rattle.fields.specs.declared.FileKind.{FileKind}
 use Rattle.fields.specs.Fields.{Fields, ends, cut, _▸_, fields}

@@ -1,33 +1,30 @@
 -- Each way through reading a formula without its text, over plain values. Assumes nothing.
-use mathlib.Core.Path.{_≡_, refl, ap, _∙_}
+use mathlib.Core.Path.{_≡_, _∙_}
 use mathlib.Core.Bool.{Bool, true, false}
 use mathlib.Core.List.{List, []}
-use Prim.Native.Nat.{ℕ, suc, _+_, _*_, _-_, _≤_, _<_}
+use Prim.Native.Nat.{ℕ, _+_, _-_, _≤_}
 use native.Mathlib.Omega.{arith}
 use lib.IntN.{ℤ, pos, natAbs}
-use lib.ListN.{length, take, drop}
+use lib.ListN.{take, drop}
 use lib.Signed.{ltZ}
 use mir.Syntax.{w64}
 use mir.Val.{SFits, toZ, ofZ}
 use mir.ValLaws.{toZ-ofZ}
 use Rattle.forms.specs.Edition.{edition1}
-use Rattle.forms.specs.Forms.{Form, Formula, literal, _divides_}
-use Rattle.answers.specs.Answers.{Result, _>>=_}
+use Rattle.forms.specs.Forms.{Formula, literal, _divides_}
+use Rattle.answers.specs.Answers.{Result}
 use Rattle.answers.proofs.Results.{binds, bind-refused, pass, fail}
 use Rattle.number_bytes.specs.Numbers.{signed}
-use Rattle.number_bytes.specs.Ranges.{Held}
 use Rattle.fields.specs.Fields.{Fields}
 use Rattle.fields.specs.Places.{fieldsAt, nextOf}
 use Rattle.fields.specs.declared.Next.{Next}
 use Rattle.fields.proofs.Places.{Starts}
 use Rattle.formula.specs.Formula.{compound, formulaOf, formulaWithin, twoParts}
-use Rattle.formula_write.specs.Writing.{Divisor}
 use Rattle.form_value.specs.FormAt.{formAt}
-use Rattle.formula_read.specs.Judging.{twoWithin}
 use Rattle.formula_read.specs.Nodes.{connective, literalKind, nodeOf, nodeRead}
 use Rattle.formula_read.specs.declared.node.Node.{Node}
-use Rattle.formula_read.proofs.Parts.{low, high, at-least-two}
-use Rattle.formula_read.proofs.Ways.{formula-ends, formula-cut, further, literal-long, stride-long, formula-node, formula-refused, literal-is, stride-is, no-level}
+use Rattle.formula_read.proofs.Parts.{low, high}
+use Rattle.formula_read.proofs.Ways.{formula-ends, formula-cut, further, formula-node, formula-refused, literal-is, stride-is, no-level}
 use Rattle.printing_formula.specs.Printing.{pairWithin}
 use Rattle.printing_formula.specs.Reaching.{ReadOr, ReadsFormula, StrideReached, WholeAt, PartsAt}
 use Rattle.printing_formula.specs.declared.once.Reached.{Reached}

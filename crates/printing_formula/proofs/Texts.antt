@@ -7,7 +7,7 @@ use native.Mathlib.Omega.{arith}
 use lib.IntN.{ℤ}
 use Rattle.forms.specs.Forms.{Form, nonzero, literal, _divides_}
 use Rattle.formula_read.specs.Nodes.{literalKind}
-use Rattle.printing.specs.Smt.{Terms, register, times, plus, final, also}
+use Rattle.printing.specs.Smt.{Terms, register, times, plus, final}
 use Rattle.printing.specs.Text.{ascii, decimal, decimalBy, termText, termsText, propText}
 use Rattle.printing.specs.Translation.{integer, unlessZero, termsOf, summed, termOf, smt}
 use Rattle.printing_formula.specs.Pieces.{productText, pieces, zeros}

@@ -2,7 +2,7 @@
 use mathlib.Core.Path.{_≡_, refl, ap, _∙_}
 use mathlib.Core.Bool.{Bool, true, false}
 use mathlib.Core.List.{List, []}
-use Prim.Native.Nat.{ℕ, suc, _+_, _*_, _-_, _≤_, _<_}
+use Prim.Native.Nat.{ℕ, suc, _+_, _*_, _-_, _≤_}
 use native.Mathlib.Omega.{arith}
 use lib.IntN.{ℤ, pos, natAbs}
 use lib.ListN.{length, take, drop}
@@ -12,7 +12,7 @@ use mir.Val.{SFits, toZ, ofZ}
 use mir.ValLaws.{toZ-ofZ}
 use Rattle.forms.specs.Edition.{edition1}
 use Rattle.forms.specs.Forms.{Form, Formula, literal, _divides_}
-use Rattle.answers.specs.Answers.{Result, _>>=_}
+use Rattle.answers.specs.Answers.{Result}
 use Rattle.answers.proofs.Results.{binds, bind-refused, pass, fail}
 use Rattle.number_bytes.specs.Numbers.{signed}
 use Rattle.number_bytes.specs.Ranges.{Held}

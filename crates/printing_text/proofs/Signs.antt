@@ -1,19 +1,13 @@
 -- Numbers with their sign, as the code's tests leave them. Assumes nothing.
-use mathlib.Core.Path.{_≡_, refl, _∙_}
+use mathlib.Core.Path.{_≡_, refl}
 use mathlib.Core.Bool.{true, false}
-use mathlib.Core.List.{_++_}
 use Prim.Native.Nat.{ℕ, suc, _+_, _≤_}
 use native.Mathlib.Omega.{arith}
 use lib.IntN.{ℤ, pos, negsuc, natAbs, _-ℤ_, +ℤ-idl}
 use lib.Signed.{ltZ}
 use borrow.Author.Tests.{ltb-true}
-use mir.Syntax.{w64}
-use mir.Val.{SFits, toZ, ofZ}
-use mir.ValLaws.{toZ-ofZ}
 use Rattle.number_bytes.specs.Ranges.{Held}
 use Rattle.form_value.proofs.Value.{four-within}
-use Rattle.printing.specs.Text.{ascii, decimal, termText}
-use Rattle.printing.specs.Translation.{integer}
 
 pub negated : (z : ℤ) → ltZ z (pos 0) ≡ true → pos 0 -ℤ z ≡ pos (natAbs z)
 negated (pos n) h = absurd (omega (arith, ltb-true n 0 h))

@@ -1,18 +1,17 @@
 -- What the operation accepts the run's files certify. Assumes nothing.
-use mathlib.Core.Path.{_≡_, refl, sym, _∙_, ap, subst}
+use mathlib.Core.Path.{_≡_, refl, subst}
 use mathlib.Core.Option.{Option, none, some}
-use mathlib.Core.Bool.{Bool, true, false, _&&_}
+use mathlib.Core.Bool.{_&&_}
 use mathlib.Core.List.{List, [], _∷_, map}
-use Prim.Native.Nat.{ℕ, zero, suc, _≤_}
-use native.Mathlib.Omega.{arith}
+use Prim.Native.Nat.{ℕ, suc, _≤_}
 use lib.Dec.{T, leb, eqb, leb→le, eqb→eq}
 use lib.ListN.{length}
 use mir.Facts.{and-yes}
 use Rattle.forms.specs.Edition.{edition, edition1}
-use Rattle.forms.specs.Forms.{All, nil, cons, Constraint, Formula, every}
+use Rattle.forms.specs.Forms.{All, nil, cons, Formula, every}
 use Rattle.answers.specs.declared.Answer.{Answer}
-use Rattle.answers.specs.Answers.{answer, fileProof, fileLent, Result, refused, accepted, _>>=_, _>>_, need}
-use Rattle.answers.proofs.Results.{given, Gives, gives-refused, gives-accepted, weaken, bind, seq, test, not-0, not-22}
+use Rattle.answers.specs.Answers.{fileProof, refused}
+use Rattle.answers.proofs.Results.{given, Gives, gives-accepted, weaken, bind, seq, test, not-0, not-22}
 use Rattle.fields.specs.Fields.{fields}
 use Rattle.bundle.specs.Bundle.{Bundle}
 use Rattle.bundle.specs.Layout.{Each, nil as nil-each, cons as cons-each, BundleFile}
@@ -20,7 +19,7 @@ use Rattle.bundle.proofs.Laid.{Laid, bundle-gives, short-gives}
 use Rattle.formula.specs.Formula.{formulaFile}
 use Rattle.proof.proofs.Agree.{agreed}
 use Rattle.chains.specs.Runs.{Run, joined}
-use Rattle.run.specs.Run.{mostStages, mostConstraints, firstStage, total, parts, parted, stagesShort, readStages, constantsOf, runOf, checkRun, guardFiles}
+use Rattle.run.specs.Run.{mostStages, mostConstraints, firstStage, total, parts, parted, stagesShort, readStages, constantsOf, runOf, guardFiles}
 use Rattle.run.specs.Layout.{StageFile, RunYields, RunCertifies}
 use Rattle.run.proofs.OneTable.{RunAs, run-gives}
 

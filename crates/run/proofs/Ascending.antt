@@ -1,5 +1,5 @@
 -- Every refusal at some fields stands at one of them, and these stand one behind the other. Assumes nothing.
-use mathlib.Core.Path.{_≡_, refl, subst}
+use mathlib.Core.Path.{_≡_, refl}
 use mathlib.Core.Option.{Option, none, some}
 use mathlib.Core.Bool.{Bool, true, false}
 use mathlib.Core.List.{List}
@@ -12,11 +12,11 @@ use Rattle.forms.specs.Forms.{Form, Side, A, B, Line}
 use Rattle.calculus.specs.Rules.{Row, Derive, Strengthen, CloseNumber, CloseStride, Round, Split, Entry, row, claim}
 use Rattle.answers.specs.declared.Answer.{Answer}
 use Rattle.answers.specs.declared.Position.{Position}
-use Rattle.answers.specs.Answers.{refusalAt, Result, refused, accepted, _>>=_, found}
+use Rattle.answers.specs.Answers.{refusalAt, Result, found}
 use Rattle.fields.specs.Fields.{Field, Fields, ends, cut, _▸_, Front, whole, broken, nothing, front, note, unlessNote, fieldsFrom, fields}
 use Rattle.proof.specs.Check.{Closing, Checker, Following, there, checkRounded, checkSplit, checkRow, checkEntry, checkEntries, checkBranch}
 use Rattle.proof.specs.Tree.{startsAt}
-use Rattle.proof.proofs.Satisfies.{Satisfies, says-refused, says-accepted, bind, seq, test, finds, weaken}
+use Rattle.proof.proofs.Satisfies.{Satisfies, says-refused, says-accepted, bind, seq, test, finds}
 use Rattle.proof.proofs.Tree.{amidst, derived-says, fitting-says, inequality-says, roundable-says, disequality-says, byNumber-says, byStride-says, entry-says}
 
 -- Each field starts before the next.

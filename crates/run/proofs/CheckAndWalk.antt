@@ -1,9 +1,9 @@
 -- Whatever the walk refuses, but for 27 and 28, the check has refused at that place or before it. Assumes nothing.
-use mathlib.Core.Path.{_≡_, refl, sym, ap, subst}
+use mathlib.Core.Path.{_≡_, refl, sym, subst}
 use mathlib.Core.Logic.{_⊎_, inl, inr}
 use mathlib.Core.Option.{Option, none, some}
 use mathlib.Core.Bool.{Bool, true, false}
-use mathlib.Core.List.{List, [], _∷_}
+use mathlib.Core.List.{List, _∷_}
 use Prim.Native.Nat.{ℕ, zero, suc, _-_, _≤_}
 use native.Mathlib.Omega.{arith}
 use lib.Dec.{T}
@@ -17,7 +17,7 @@ use Rattle.fields.specs.Fields.{Field, Fields, ends, cut, _▸_, Item, item}
 use Rattle.proof.specs.Entries.{entry}
 use Rattle.proof.specs.Check.{Closing, Checker, Following, there, checkRounded, checkSplit, checkRow, checkEntry, checkEntries, checkBranch}
 use Rattle.proof.specs.Tree.{startsAt}
-use Rattle.proof.proofs.Satisfies.{Satisfies, says-refused, says-accepted, bind, seq, test, finds, weaken}
+use Rattle.proof.proofs.Satisfies.{Satisfies, says-refused, says-accepted, bind, test}
 use Rattle.proof.proofs.Tree.{amidst, derived-says, fitting-says, inequality-says, roundable-says, disequality-says, byNumber-says, byStride-says, entry-says}
 use Rattle.chains.specs.Runs.{joined}
 use Rattle.run.specs.Uniform.{withNumber, Walked, WalkedBranches, Walker, FollowingWalk, walkBranches, firstAndThird, allAlike, walkOpened, walkClosed, walkRow, walkEntry, walkEntries, walkBranch}

@@ -1,24 +1,23 @@
 -- What is accepted for every cut, and walked through, is one uniform table that derives every guard. Assumes nothing.
 use mathlib.Core.Path.{_≡_, refl, sym, _∙_, ap, subst}
-use mathlib.Core.Option.{Option, none, some}
+use mathlib.Core.Option.{Option, some}
 use mathlib.Core.Bool.{Bool, true, false, cond}
 use mathlib.Core.List.{List, [], _∷_}
 use Prim.Native.Nat.{ℕ, zero, suc, _+_, _≤_}
 use native.Mathlib.Omega.{arith}
 use lib.Dec.{T, leb, eqb}
-use lib.ListN.{length, getD}
-use Rattle.forms.specs.Edition.{Edition, edition, edition1}
+use lib.ListN.{length}
+use Rattle.forms.specs.Edition.{edition, edition1}
 use Rattle.forms.specs.Forms.{Formula}
 use Rattle.calculus.specs.Rules.{Entry, Proves}
 use Rattle.answers.specs.declared.Answer.{Answer}
-use Rattle.answers.specs.Answers.{root, fileProof, Result, refused, accepted, _>>=_}
-use Rattle.answers.proofs.Results.{given, Gives, gives-refused, gives-accepted, weaken, bind, binds, one-value}
+use Rattle.answers.specs.Answers.{root, fileProof, Result, refused, accepted}
+use Rattle.answers.proofs.Results.{given, Gives, gives-refused, gives-accepted, bind, binds}
 use Rattle.fields.specs.declared.FileKind.{FileKind}
 use Rattle.fields.specs.Fields.{Fields, Item, item, items}
 use Rattle.fields.proofs.HeaderLaid.{header-read}
 use Rattle.bundle.specs.Layout.{Each}
 use Rattle.bundle.proofs.Laid.{listed}
-use Rattle.proof.specs.Check.{checkProof}
 use Rattle.proof.specs.Layout.{Enters}
 use Rattle.proof.proofs.Agree.{Proof, proof-gives, agrees-refl}
 use Rattle.chains.specs.Runs.{Uniform, Run, upTo, beyond, Guards}

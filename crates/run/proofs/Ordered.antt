@@ -1,26 +1,25 @@
 -- The order in which a run is refused before its proof's fields. Assumes nothing.
-use mathlib.Core.Path.{_≡_, refl, sym, _∙_, ap, subst}
-use mathlib.Core.Logic.{_⊎_, inl, inr}
+use mathlib.Core.Path.{_≡_, refl, _∙_, ap}
 use mathlib.Core.Option.{none}
 use mathlib.Core.Bool.{Bool, true, false, _&&_}
 use mathlib.Core.List.{List, [], _∷_, _++_}
-use Prim.Native.Nat.{ℕ, zero, suc, _+_, _≤_, _<_}
+use Prim.Native.Nat.{ℕ, suc, _+_, _≤_, _<_}
 use native.Mathlib.Omega.{arith}
 use lib.Dec.{T, leb, eqb, leb→le, le→leb, eqb→eq, eqb-refl}
 use lib.ListN.{length}
 use mir.Facts.{and-yes, yes-and}
-use Rattle.forms.specs.Edition.{edition, newestEdition}
+use Rattle.forms.specs.Edition.{newestEdition}
 use Rattle.forms.specs.Forms.{All, nil, cons}
 use Rattle.answers.specs.declared.Answer.{Answer}
 use Rattle.answers.specs.declared.WriteResult.{WriteResult}
-use Rattle.answers.specs.Answers.{answer, fileProof, fileLent, Result, refused, accepted, _>>=_, _>>_, need}
+use Rattle.answers.specs.Answers.{answer, fileProof, refused, accepted, need}
 use Rattle.answers.proofs.Results.{binds, passes, needs, fail, bind-refused, then-refused}
 use Rattle.fields.specs.Fields.{fields}
 use Rattle.bundle.specs.Bundle.{Bundle, atMost}
 use Rattle.chains.specs.Runs.{joined}
 use Rattle.run.specs.Run.{GuardsWritten, firstStage, mostStages, mostConstraints, total, parts, parted, stagesShort, readStages, constantsOf, runOf, checkRun, guardFiles, unwritten, writtenGuards, guardsBy, guards}
-use Rattle.run.specs.Promises.{guardsOf, WritesGuards}
-use Rattle.run.specs.Ordered.{Parted, RunWithinLimits, RunOrdered, RunInOrder}
+use Rattle.run.specs.Promises.{WritesGuards}
+use Rattle.run.specs.Ordered.{Parted, RunWithinLimits, RunInOrder}
 
 not-true : (b : Bool) → (T b → ⊥) → b ≡ false
 not-true true h = absurd (h tt)

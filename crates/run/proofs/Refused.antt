@@ -1,7 +1,7 @@
 -- A run is refused as check refuses every cut, but for a 13 of some cut, a claim and unlike branches. Assumes nothing.
 use mathlib.Core.Path.{_≡_, refl, sym, _∙_, ap, subst}
 use mathlib.Core.Logic.{_⊎_, inl, inr}
-use mathlib.Core.Option.{Option, none, some}
+use mathlib.Core.Option.{Option, some}
 use mathlib.Core.Bool.{Bool, true, false, cond, true≢false}
 use mathlib.Core.List.{List, [], _∷_, _++_, map}
 use Prim.Native.Nat.{ℕ, zero, suc, _+_, _≤_, _<_}
@@ -10,23 +10,23 @@ use native.Mathlib.Omega.{arith}
 use lib.Dec.{T, leb, eqb, leb→le, nleb→lt, eqb→eq}
 use lib.ListN.{length}
 use Rattle.forms.specs.Edition.{edition}
-use Rattle.forms.specs.Forms.{ConstraintKind, says, ≠0, kindOn, A, B, Line, lineA, lineB, lines, Constraint, Formula}
+use Rattle.forms.specs.Forms.{ConstraintKind, says, ≠0, kindOn, A, B, lineB, lines, Constraint, Formula}
 use Rattle.answers.specs.declared.Answer.{Answer}
-use Rattle.answers.specs.Answers.{answer, root, fileProof, Result, refused, accepted, _>>=_, _>>_, need}
-use Rattle.answers.proofs.Results.{never, one-value}
+use Rattle.answers.specs.Answers.{root, fileProof, Result, refused, accepted, _>>=_, _>>_}
+use Rattle.answers.proofs.Results.{never}
 use Rattle.fields.specs.declared.FileKind.{FileKind}
 use Rattle.fields.specs.Fields.{Fields, ends, cut, _▸_, fields}
 use Rattle.fields.specs.Header.{Header, headerField, editionField, constantsField, header, finished}
-use Rattle.proof.specs.Check.{Closing, checkBranch, checkProof}
+use Rattle.proof.specs.Check.{Closing, checkProof}
 use Rattle.proof.specs.Tree.{startsAt}
-use Rattle.proof.proofs.Satisfies.{Satisfies, says-refused, says-accepted, bind, seq, test, weaken}
+use Rattle.proof.proofs.Satisfies.{Satisfies, says-refused, says-accepted, bind, seq, test}
 use Rattle.chains.specs.Runs.{Run, joined, upTo, beyond}
-use Rattle.run.specs.Uniform.{withNumber, Walked, walkBranch, uniform}
+use Rattle.run.specs.Uniform.{withNumber, Walked, uniform}
 use Rattle.run.specs.Run.{side, claimRefused, checkCut, both, checkCuts, checkRun}
 use Rattle.run.specs.Refused.{CutRefused, Earliest, RunRefused, every-cut, some-cut, differing, of-run, RefusedAsCheck}
 use Rattle.run.proofs.Ascending.{Ascending, Later, From, fields-ascend}
-use Rattle.run.proofs.TwoCuts.{SameKind, plains, aparts, SameLine, SameLines, nil, cons, OfCut, TwoCuts, alike, same, left, right, all-branch-cuts}
-use Rattle.run.proofs.CheckAndWalk.{End, endOf, Behind, Ours, Beside, closed, told, first, branch-beside}
+use Rattle.run.proofs.TwoCuts.{SameKind, plains, aparts, SameLines, nil, cons, OfCut, TwoCuts, alike, same, left, right, all-branch-cuts}
+use Rattle.run.proofs.CheckAndWalk.{endOf, Ours, Beside, closed, told, first, branch-beside}
 
 -- ---- the lines of every cut are those of cut 0, partial interpolants apart
 same-kinds : (k : ConstraintKind) → SameKind (kindOn A k) (kindOn B k)

@@ -1,29 +1,27 @@
 -- Over lines that differ in their partial interpolants only the check goes the same way, up to a 13 or a 14. Assumes nothing.
-use mathlib.Core.Path.{_≡_, refl, sym, ap, ap₂, subst}
+use mathlib.Core.Path.{_≡_, refl, ap, ap₂, subst}
 use mathlib.Core.Logic.{_⊎_, inl, inr}
 use mathlib.Core.Option.{Option, none, some}
 use mathlib.Core.Bool.{Bool, true, false, not, _&&_}
 use mathlib.Core.List.{List, [], _∷_}
-use Prim.Native.Nat.{ℕ, zero, suc, _-_, _≤_, _<_}
-use lib.Dec.{leb, ltb, eqb}
+use Prim.Native.Nat.{ℕ, zero, suc, _-_, _≤_}
+use lib.Dec.{ltb}
 use lib.ListN.{length, getElem?}
-use lib.IntN.{ℤ, pos}
+use lib.IntN.{pos}
 use Rattle.integers.specs.Linear.{eqZ}
 use Rattle.integers.specs.Divides.{divb}
 use Rattle.forms.specs.Edition.{Edition}
-use Rattle.forms.specs.Forms.{Form, Kind, ≤0, =0, Side, A, B, LineKind, plain, apart, Line, line, neg, Formula, _divides_, _and_, _or_, _⊞_, _·_, _plus_, nonzero, every}
+use Rattle.forms.specs.Forms.{Form, Kind, ≤0, =0, Side, A, B, LineKind, plain, apart, Line, line, neg, Formula, _and_, _or_, _⊞_, _·_, _plus_, every}
 use Rattle.calculus.specs.Rules.{_▷_, inRange, Inference, Combine, Reduce, Scale, Row, Derive, Strengthen, CloseNumber, CloseStride, Round, Split, Entry, row, claim}
 use Rattle.answers.specs.declared.Answer.{Answer}
 use Rattle.answers.specs.declared.Position.{Position}
 use Rattle.answers.specs.Answers.{position, refusalAt, Result, refused, accepted, _>>=_, _>>_, need, found}
-use Rattle.fields.specs.declared.FileKind.{FileKind}
-use Rattle.fields.specs.Header.{known}
 use Rattle.fields.specs.Fields.{Field, Fields, ends, cut, _▸_}
-use Rattle.proof.specs.Entries.{EntryTag, combineTag, reduceTag, scaleTag, strengthenTag, numberTag, strideTag, roundTag, splitTag, claimTag, entryTagged, inPlace, sizeOf, entryFrom, entry}
+use Rattle.proof.specs.Entries.{entry}
 use Rattle.proof.specs.Rows.{is, plainKind, owner, fails, undivided, lineAt, derived, fitting, inequality, roundable, disequality, byNumber, byStride, states}
 use Rattle.proof.specs.Check.{Closing, Checker, Following, there, checkRounded, checkSplit, checkRow, checkEntry, checkEntries, checkBranch}
-use Rattle.proof.proofs.Satisfies.{Satisfies, says-accepted, bind}
-use Rattle.run.proofs.Ascending.{Ascending, Later, just-behind, StandsFrom, AllFrom, AllFromIn, shut, opens, rounded-from, entries-from, branch-from}
+use Rattle.proof.proofs.Satisfies.{says-accepted, bind}
+use Rattle.run.proofs.Ascending.{Ascending, Later, StandsFrom, AllFrom, AllFromIn, shut, opens, rounded-from, entries-from, branch-from}
 
 -- ---- lines that differ in their partial interpolants, and in whose they are
 pub data SameKind : LineKind → LineKind → Type 0 where

@@ -1,21 +1,20 @@
 -- A uniform proof is walked through. Assumes nothing.
-use mathlib.Core.Path.{_≡_, refl, sym, _∙_, ap, ap₂, subst}
+use mathlib.Core.Path.{_≡_, refl, sym, _∙_, ap, subst}
 use mathlib.Core.Option.{Option, none, some}
 use mathlib.Core.Bool.{Bool, true, false, _&&_, true≢false}
 use mathlib.Core.List.{List, [], _∷_, _++_, append-assoc, append-nil}
-use Prim.Native.Nat.{ℕ, zero, suc, max, _+_, _≤_}
+use Prim.Native.Nat.{ℕ, zero, suc, _+_, _≤_}
 use native.Mathlib.Omega.{arith}
 use lib.Dec.{T, eqb, eqb-refl}
 use lib.ListN.{length}
 use mir.Facts.{yes-and}
 use Rattle.forms.specs.Edition.{Edition, edition}
 use Rattle.forms.specs.Forms.{Form, Line, Formula, every, All, nil, cons}
-use Rattle.calculus.specs.Rules.{Closed, derive, strengthen, round, splitEq, splitNeq, number, stride, Rounded, last, more, Row, Derive, Strengthen, CloseNumber, CloseStride, Round, Split, Entry, row, claim, entries, entriesRounded, depth, depthRounded}
-use Rattle.answers.specs.declared.Answer.{Answer}
+use Rattle.calculus.specs.Rules.{Closed, derive, strengthen, round, splitEq, splitNeq, number, stride, Rounded, last, more, Row, Strengthen, Round, Split, Entry, row, entries, entriesRounded, depth, depthRounded}
 use Rattle.answers.specs.declared.Position.{Position}
-use Rattle.answers.specs.Answers.{position, refusalAt, Result, accepted, _>>=_, _>>_, need, found}
+use Rattle.answers.specs.Answers.{position, refusalAt, Result, accepted}
 use Rattle.answers.proofs.Results.{binds, needs, found-some}
-use Rattle.fields.specs.Fields.{Field, Fields, ends, cut, _▸_, Item, item}
+use Rattle.fields.specs.Fields.{Field, Fields, _▸_, Item, item}
 use Rattle.bundle.specs.Layout.{Each, nil as nil-each, cons as cons-each}
 use Rattle.bundle.proofs.Laid.{Lists, next}
 use Rattle.proof.proofs.Entered.{row-accepted}

@@ -9,8 +9,8 @@ use Rattle.forms.specs.Edition.{Edition, edition}
 use Rattle.calculus.specs.Rules.{Row, Derive, Strengthen, CloseNumber, CloseStride, Round, Split, Entry, row, claim}
 use Rattle.answers.specs.declared.Answer.{Answer}
 use Rattle.answers.specs.declared.Position.{Position}
-use Rattle.answers.specs.Answers.{refusalAt, fileProof, Result, accepted, found}
-use Rattle.answers.proofs.Results.{given, Gives, gives-refused, gives-accepted, weaken, bind, test}
+use Rattle.answers.specs.Answers.{refusalAt, fileProof, accepted, found}
+use Rattle.answers.proofs.Results.{given, Gives, gives-refused, gives-accepted, bind, test}
 use Rattle.fields.specs.declared.FileKind.{FileKind}
 use Rattle.fields.specs.Fields.{Field, Fields, ends, cut, _▸_, Item}
 use Rattle.fields.proofs.HeaderLaid.{header-gives}

@@ -2,7 +2,7 @@
 use mathlib.Core.Path.{_≡_, refl, sym, _∙_, ap, ap₂, subst}
 use mathlib.Core.Option.{Option, none, some}
 use mathlib.Core.Bool.{Bool, true, false, _&&_}
-use mathlib.Core.List.{List, [], _∷_, _++_, append-assoc, append-nil}
+use mathlib.Core.List.{List, [], _∷_, _++_, append-assoc}
 use Prim.Native.Nat.{ℕ, zero, suc, _+_}
 use native.Mathlib.Omega.{arith}
 use lib.Dec.{T, eqb, eqb→eq}
@@ -10,12 +10,12 @@ use lib.ListN.{length}
 use mir.Facts.{and-yes}
 use Rattle.forms.specs.Edition.{Edition}
 use Rattle.forms.specs.Forms.{Form, Line, Formula, every}
-use Rattle.calculus.specs.Rules.{Closed, derive, strengthen, round, splitEq, splitNeq, number, stride, Rounded, last, more, Row, Derive, Strengthen, CloseNumber, CloseStride, Round, Split, Entry, row, claim, entries, entriesRounded}
+use Rattle.calculus.specs.Rules.{Closed, derive, strengthen, round, splitEq, splitNeq, number, stride, Rounded, last, more, Row, Strengthen, Round, Split, Entry, row, entries, entriesRounded}
 use Rattle.answers.specs.declared.Answer.{Answer}
 use Rattle.answers.specs.declared.Position.{Position}
-use Rattle.answers.specs.Answers.{position, refusalAt, Result, accepted, _>>=_, found}
+use Rattle.answers.specs.Answers.{position, refusalAt, accepted, found}
 use Rattle.answers.proofs.Results.{given, Gives, gives-refused, gives-accepted, bind, test, binds}
-use Rattle.fields.specs.Fields.{Field, Fields, ends, cut, _▸_, Item, item}
+use Rattle.fields.specs.Fields.{Field, Fields, _▸_, Item, item}
 use Rattle.bundle.specs.Layout.{Each, nil, cons}
 use Rattle.bundle.proofs.Laid.{Lists, next}
 use Rattle.proof.specs.Entries.{entryFrom, entry}

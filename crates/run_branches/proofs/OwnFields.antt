@@ -1,5 +1,5 @@
 -- A branch that is walked through is its own fields, a row each, and those that are left. Assumes nothing.
-use mathlib.Core.Path.{_≡_, refl, _∙_, ap}
+use mathlib.Core.Path.{_≡_}
 use mathlib.Core.Option.{Option, none as none-of, some}
 use mathlib.Core.Bool.{Bool, true, false}
 use mathlib.Core.List.{List, [], _∷_, _++_}
@@ -10,12 +10,12 @@ use Rattle.forms.specs.Edition.{Edition}
 use Rattle.calculus.specs.Rules.{Row, Derive, Strengthen, CloseNumber, CloseStride, Round, Split, Entry, row, claim}
 use Rattle.answers.specs.declared.Answer.{Answer}
 use Rattle.answers.specs.declared.Position.{Position}
-use Rattle.answers.specs.Answers.{refusalAt, Result, accepted, found}
+use Rattle.answers.specs.Answers.{refusalAt, found}
 use Rattle.fields.specs.Fields.{Field, Fields, ends, cut, _▸_, Item, item}
-use Rattle.proof.proofs.Satisfies.{Satisfies, says-refused, says-accepted, bind, test, weaken}
+use Rattle.proof.proofs.Satisfies.{Satisfies, says-refused, says-accepted, bind, test}
 use Rattle.proof.proofs.Tree.{entry-says}
 use Rattle.chains.specs.Runs.{joined}
-use Rattle.run.specs.Uniform.{withNumber, Walked, WalkedBranches, Walker, FollowingWalk, walkBranches, firstAndThird, allAlike, walkOpened, walkClosed, walkRow, walkEntry, walkEntries, walkBranch}
+use Rattle.run.specs.Uniform.{Walked, WalkedBranches, Walker, FollowingWalk, walkBranches, firstAndThird, allAlike, walkOpened, walkClosed, walkRow, walkEntry, walkEntries, walkBranch}
 use Rattle.run_fields.specs.Spans.{Spans, none, one}
 
 abbrev pub Any : Answer → Type 0

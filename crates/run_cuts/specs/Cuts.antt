@@ -11,10 +11,10 @@ use lib.Seq.{sets}
 use Rattle.forms.specs.Edition.{edition, edition1, newestEdition}
 use Rattle.forms.specs.Forms.{Line, Formula}
 use Rattle.answers.specs.declared.Answer.{Answer}
-use Rattle.answers.specs.Answers.{root, fileProof, Result, refused, accepted, _>>=_, _>>_}
+use Rattle.answers.specs.Answers.{fileProof, Result, refused, accepted}
 use Rattle.fields.specs.declared.FileKind.{FileKind}
-use Rattle.fields.specs.Fields.{Fields, fields}
-use Rattle.fields.specs.Header.{header, finished}
+use Rattle.fields.specs.Fields.{fields}
+use Rattle.fields.specs.Header.{header}
 use Rattle.fields.specs.Places.{fieldsAt}
 use Rattle.formula.specs.Formula.{encode}
 use Rattle.formula_write.specs.Writing.{scratchLimit}

@@ -1,13 +1,12 @@
 -- What submitting and cancelling give, case by case, and a turn. Assumes nothing.
-use mathlib.Core.Path.{_≡_, refl, sym, _∙_, ap, subst}
-use mathlib.Core.Bool.{Bool, true, false, not, cond, _&&_}
+use mathlib.Core.Path.{_≡_, refl}
+use mathlib.Core.Bool.{Bool, true, false, _&&_}
 use mathlib.Core.List.{List}
 use Prim.Native.Nat.{ℕ, _≤_, _<_}
 use native.Mathlib.Omega.{arith}
 use borrow.Author.Tests.{lt-ltb, le-ltb, leb-true}
-use lib.Dec.{ltb}
-use lib.ListN.{length, take, drop}
-use Rattle.answers.specs.Answers.{refused, accepted, _>>_, need, Written}
+use lib.ListN.{length}
+use Rattle.answers.specs.Answers.{refused, accepted, _>>_, need}
 use Rattle.proof.specs.Check.{check}
 use Rattle.scheduler.specs.declared.Part.{Part}
 use Rattle.scheduler.specs.declared.Job.{Job}

@@ -1,19 +1,18 @@
 -- The scheduler is fair. How far a waiting seat is ahead of the look falls at each turn that serves another, and no other call changes it. Assumes nothing.
 use mathlib.Core.Path.{_≡_, refl, sym, _∙_, ap, subst}
-use mathlib.Core.Logic.{_↔_, _⊎_, inl, inr}
+use mathlib.Core.Logic.{_⊎_, inl, inr}
 use mathlib.Core.Bool.{Bool, true, false, not, cond, _&&_}
 use mathlib.Core.List.{List, [], _∷_, _++_}
-use Prim.Native.Nat.{ℕ, zero, suc, _%_, _≤_, _<_}
+use Prim.Native.Nat.{ℕ, suc, _%_, _≤_, _<_}
 use native.Mathlib.Omega.{arith}
 use borrow.Author.Tests.{ltb-true, ltb-false, eqb-true, eqb-false, le-leb}
 use lib.Dec.{eqb, ltb}
-use lib.ListN.{length, getD, set, replicate, length-set, getD-replicate}
+use lib.ListN.{length, getD, set, length-set, getD-replicate}
 use lib.Seq.{getD-set-same, getD-set-other}
 use Rattle.forms.specs.Forms.{All, nil, cons}
 use Rattle.answers.specs.declared.Answer.{Answer}
 use Rattle.answers.specs.declared.WriteResult.{WriteResult}
 use Rattle.answers.specs.Answers.{acceptance, Result, refused, accepted, Written, writtenOf}
-use Rattle.scheduler.specs.declared.Part.{Part}
 use Rattle.scheduler.specs.declared.Job.{Job}
 use Rattle.scheduler.specs.declared.Slot.{Slot}
 use Rattle.scheduler.specs.declared.Scheduler.{Scheduler}
@@ -21,10 +20,10 @@ use Rattle.scheduler.specs.declared.Changed.{Changed}
 use Rattle.scheduler.specs.declared.Turned.{Turned}
 use Rattle.scheduler.specs.declared.Next.{Next}
 use Rattle.scheduler.specs.declared.Next.the-variants.{Seat, Nobody}
-use Rattle.scheduler.specs.Scheduler.{vacant, holding, empty, slotAt, isWaiting, withSlot, refusal, submission, cancellation, after, nextSeat, isWithin, partsWithin, checkJob, TurnLeaves, turnAt, turn}
+use Rattle.scheduler.specs.Scheduler.{vacant, holding, empty, slotAt, isWaiting, withSlot, refusal, after, nextSeat, partsWithin, checkJob, TurnLeaves, turnAt, turn}
 use Rattle.scheduler.specs.Promises.{changed, Submits, Cancels, turnLeavesOf, Turns}
-use Rattle.scheduler.specs.Fair.{Call, submitted, cancelled, turned, leaves, Ensures, Trace, none, next, turns, CancelledAt, ServedAt, Idle, Lies, AllLie, CheckedAlone, WaitsThrough, Served, Cancelled, StillWaits, Fate, lookAfter, slotAfter, CallsAnswered, Fair}
-use Rattle.scheduler.proofs.Looking.{Ahead, near, counted, Finds, looks, passes, nobody, next-seated, next-waits, next-nth}
+use Rattle.scheduler.specs.Fair.{Call, submitted, cancelled, turned, leaves, Ensures, Trace, none, next, turns, CancelledAt, ServedAt, Idle, AllLie, CheckedAlone, WaitsThrough, Fate, lookAfter, slotAfter, CallsAnswered, Fair}
+use Rattle.scheduler.proofs.Looking.{Ahead, near, Finds, looks, passes, nobody, next-seated, next-waits, next-nth}
 use Rattle.scheduler.proofs.Changing.{submission-29, submission-30, submission-taken, cancellation-29, cancellation-31, cancellation-taken, all-lie, check-outside, check-inside}
 
 -- ---- a job waits at a seat, n seats ahead of the look

@@ -7,7 +7,6 @@ use native.Mathlib.Omega.{arith}
 use borrow.Author.Tests.{leb-true, leb-false, ne-eqb}
 use lib.Dec.{leb}
 use Rattle.scheduler.specs.declared.Scheduler.{Scheduler}
-use Rattle.scheduler.specs.declared.Next.{Next}
 use Rattle.scheduler.specs.declared.Next.the-variants.{Seat, Nobody}
 use Rattle.scheduler.specs.Scheduler.{slotAt, isWaiting, after, nextFrom, nextSeat}
 

@@ -1,22 +1,21 @@
 -- The shorter table as a file: its fields are whole and no notes, its line numbers fit their bytes, and it is not longer than the proof. Assumes nothing.
-use mathlib.Core.Path.{_≡_, refl, sym, _∙_, ap, ap₂, subst}
+use mathlib.Core.Path.{_≡_, refl, sym, _∙_, ap}
 use mathlib.Core.Option.{Option, none, some, Option·map}
 use mathlib.Core.Bool.{Bool, true, false, cond}
 use mathlib.Core.List.{List, [], _∷_, _++_, append-assoc}
-use Prim.Native.Nat.{ℕ, zero, suc, _+_, _*_, _^_, _≤_, _<_}
+use Prim.Native.Nat.{ℕ, zero, suc, _+_, _^_, _≤_, _<_}
 use native.Mathlib.Omega.{arith}
-use lib.Dec.{T, eqb, leb}
+use lib.Dec.{eqb, leb}
 use lib.Seq.{length-take-le}
 use borrow.Author.Tests.{leb-true}
-use lib.ListN.{length, take, drop, length-append, length-drop, length-take}
-use Rattle.integers.proofs.Differences.{cond-ind}
+use lib.ListN.{length, take, drop, length-append, length-drop}
 use Rattle.forms.specs.Edition.{Edition, edition, edition1}
 use Rattle.forms.specs.Forms.{Form, Line, Formula, All, nil, cons}
-use Rattle.calculus.specs.Rules.{Nth, _▷_, New, combine, reduce, scale, inference, Closed, derive, strengthen, round, splitEq, splitNeq, number, stride, Rounded, last, more, Derive, Strengthen, Round, Split, CloseNumber, CloseStride, Entry, row, claim, claims, entries, entriesRounded}
-use Rattle.number_bytes.specs.Numbers.{unsigned, formWidth}
+use Rattle.calculus.specs.Rules.{_▷_, New, combine, reduce, scale, inference, Closed, derive, strengthen, round, splitEq, splitNeq, number, stride, Rounded, last, more, Derive, Strengthen, Round, Split, CloseNumber, CloseStride, Entry, row, claim, claims, entries, entriesRounded}
+use Rattle.number_bytes.specs.Numbers.{unsigned}
 use Rattle.fields.specs.Fields.{Field, Front, whole, broken, nothing, front, Fields, ends, cut, _▸_, note, unlessNote, fieldsFrom, fields, fieldBytes, Item, item, items, Framed, fileOf, unlessNoteItem, withoutNotes}
 use Rattle.fields.specs.Header.{headerBytes}
-use Rattle.fields.proofs.HeaderLaid.{by-tag, not-empty, first-of}
+use Rattle.fields.proofs.HeaderLaid.{by-tag}
 use Rattle.fields.proofs.Framing.{length-fieldBytes, from-nothing, from-broken, from-whole, items-fileOf}
 use Rattle.bundle.specs.Layout.{Each}
 use Rattle.proof.specs.Entries.{EntryTag, combineTag, reduceTag, scaleTag, strengthenTag, numberTag, strideTag, roundTag, splitTag, claimTag, entryTagged, lineCount, sizeOf}

@@ -1,34 +1,33 @@
 -- Shortening: what it gives where the files certify a formula; the shorter table is checked alike, and is its own shorter table. Assumes nothing.
 use mathlib.Core.Path.{_≡_, refl, sym, _∙_, ap, ap₂, subst}
-use mathlib.Core.Logic.{_↔_}
-use mathlib.Core.Option.{none, some}
+use mathlib.Core.Option.{some}
 use mathlib.Core.Bool.{Bool, true, false, cond}
 use mathlib.Core.List.{List, [], _∷_, _++_, map}
 use Prim.Native.Nat.{ℕ, _+_, _^_, _≤_}
 use native.Mathlib.Omega.{arith}
 use lib.ListN.{length, length-append, length-map}
-use lib.Dec.{T, eqb}
-use Rattle.forms.specs.Edition.{Edition, edition, edition1, newestEdition}
-use Rattle.forms.specs.Forms.{All, nil, Constraint, lineA, lineB, lines, Formula, occurs}
-use Rattle.calculus.specs.Rules.{Entry, entries, rowCount, Proves}
+use lib.Dec.{eqb}
+use Rattle.forms.specs.Edition.{edition, edition1}
+use Rattle.forms.specs.Forms.{All, nil, Constraint, lineA, lineB, lines, Formula}
+use Rattle.calculus.specs.Rules.{Entry, rowCount}
 use Rattle.answers.specs.Answers.{fileProof, Result, refused, accepted, _>>=_, written}
 use Rattle.answers.proofs.Results.{never, one-value, binds, bind-refused}
 use Rattle.number_bytes.proofs.Signed.{all-weaken}
 use Rattle.fields.specs.declared.FileKind.{FileKind}
-use Rattle.fields.specs.Fields.{Item, item, fields, items, fileOf}
+use Rattle.fields.specs.Fields.{Item, item, fields, fileOf}
 use Rattle.fields.specs.Header.{agrees, headerBytes}
 use Rattle.fields.proofs.HeaderLaid.{header-read}
 use Rattle.bundle.specs.Bundle.{Bundle, bundles}
 use Rattle.bundle.specs.Layout.{Each}
 use Rattle.bundle.proofs.Laid.{bundles-accept}
 use Rattle.formula.specs.Formula.{formulaFile}
-use Rattle.proof.specs.Check.{interpolant, checkBy, check}
+use Rattle.proof.specs.Check.{interpolant, checkBy}
 use Rattle.proof.specs.Layout.{Enters, ProofFile, Yields, Certifies}
 use Rattle.proof.proofs.Agree.{agrees-refl, interpolant-yields, interpolant-iff, one-formula}
 use Rattle.shortening.specs.Needed.{Reports, withoutZeros, shortened}
 use Rattle.shortening.specs.Passes.{reportOn, retentionsOn, remaining}
-use Rattle.shortening.proofs.Computed.{renumberEntry, shortenTable}
-use Rattle.shortening.specs.Shorten.{statedEntry, renumberItem, listOf, Shorter, shorter, shortening}
+use Rattle.shortening.proofs.Computed.{shortenTable}
+use Rattle.shortening.specs.Shorten.{renumberItem, Shorter, shorter, shortening}
 use Rattle.shortening.specs.Promised.{TableFiled}
 use Rattle.shortening.proofs.Renumbering.{Below, below-more, left-enters, entries-of}
 use Rattle.shortening.proofs.Filed.{entries-below, lines-fit, table-items, listed-items, file-length, left-length, table-length, table-list}

@@ -10,7 +10,7 @@ use Rattle.forms.specs.Edition.{Edition}
 use Rattle.forms.specs.Forms.{Form, ≤0, =0, Line, line, Formula, _plus_}
 use Rattle.calculus.specs.Rules.{Nth, Room, _▷_, Inference, Combine, Reduce, Scale, inference, New, combine, reduce, scale, Closed, derive, strengthen, round, splitEq, splitNeq, number, stride, Rounded, last, more, Derive, Strengthen, Round, Split, CloseNumber, CloseStride, Entry, row, claim, claims, entries, entriesRounded}
 use Rattle.shortening.specs.Needed.{markOf, dependsOn, renew, renumber, keptRow, keptLines, shortened, shortenedRounded}
-use Rattle.shortening.specs.Passes.{top, pop, pushed, reportOn, isKept, Start, noStart, Retention, retention, goes, stays, retentions, remaining}
+use Rattle.shortening.specs.Passes.{top, pop, pushed, reportOn, isKept, Start, noStart, Retention, retention, retentions, remaining}
 use Rattle.shortening.proofs.Computed.{report, reportRounded, renumberEntry, shortenTable}
 use Rattle.shortening.proofs.Without.{length-▷, nth-below, renew-other}
 use Rattle.shortening.proofs.Needed.{same}

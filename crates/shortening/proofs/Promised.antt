@@ -2,8 +2,8 @@
 use mathlib.Core.Path.{_≡_, refl, sym, _∙_, ap, ap₂, subst}
 use mathlib.Core.Logic.{_⊎_, inl, inr, _↔_}
 use mathlib.Core.Bool.{Bool, true, false, _&&_}
-use mathlib.Core.List.{List, [], _∷_, _++_}
-use Prim.Native.Nat.{ℕ, _+_, _≤_, _<_}
+use mathlib.Core.List.{List, []}
+use Prim.Native.Nat.{ℕ, _≤_, _<_}
 use native.Mathlib.Omega.{arith}
 use lib.Dec.{T, leb, leb→le, le→leb}
 use lib.ListN.{length, take, drop}
@@ -12,7 +12,7 @@ use borrow.Author.Tests.{lt-leb, leb-true, leb-false}
 use Rattle.forms.specs.Edition.{edition1, newestEdition}
 use Rattle.forms.specs.Forms.{Formula}
 use Rattle.answers.specs.declared.Answer.{Answer}
-use Rattle.answers.specs.Answers.{answer, acceptance, fileLent, Result, refused, accepted, _>>=_, over, fit, written}
+use Rattle.answers.specs.Answers.{answer, acceptance, fileLent, Result, refused, accepted, over, fit, written}
 use Rattle.answers.proofs.Results.{never, one-value, bind-refused, binds}
 use Rattle.formula.specs.Formula.{formulaFile}
 use Rattle.proof.specs.Layout.{Certifies}

@@ -1,25 +1,22 @@
 -- A field with new line numbers states the row with these; all else of it stays. Assumes nothing.
 use mathlib.Core.Path.{_≡_, refl, sym, _∙_, ap, ap₂, subst}
 use mathlib.Core.Option.{Option, none, some}
-use mathlib.Core.Bool.{Bool, true, false}
 use mathlib.Core.List.{List, [], _∷_, _++_, map, append-assoc}
 use Prim.Native.Nat.{ℕ, zero, suc, _+_, _*_, _-_, _^_, _≤_, _<_}
 use native.Mathlib.Omega.{arith}
 use lib.ListN.{length, take, drop, length-append, length-drop}
 use lib.Seq.{take-at, drop-at, drop-drop}
-use lib.IntN.{ℤ}
 use Rattle.forms.specs.Edition.{Edition}
 use Rattle.forms.specs.Forms.{All, nil, cons}
 use Rattle.calculus.specs.Rules.{Inference, Combine, Reduce, Scale, Row, Derive, Strengthen, Round, Split, CloseNumber, CloseStride, Entry, row, claim}
 use Rattle.number_bytes.specs.Numbers.{unsigned, unsignedBytes, unsigneds, unsignedsBytes}
 use Rattle.number_bytes.proofs.Signed.{length-unsignedBytes, unsigned-unsignedBytes}
-use Rattle.fields.specs.Fields.{Item, item}
+use Rattle.fields.specs.Fields.{Item}
 use Rattle.bundle.specs.Layout.{Each}
-use Rattle.proof.specs.Entries.{EntryTag, combineTag, reduceTag, scaleTag, strengthenTag, numberTag, strideTag, roundTag, splitTag, claimTag, entryTagged, lineCount, renumbered, lineNumber, multiplier, sizeOf, entryFrom}
+use Rattle.proof.specs.Entries.{EntryTag, combineTag, reduceTag, scaleTag, strengthenTag, numberTag, strideTag, roundTag, splitTag, claimTag, lineCount, renumbered, lineNumber, multiplier, sizeOf, entryFrom}
 use Rattle.proof.specs.Layout.{Enters}
-use Rattle.shortening.specs.Needed.{renumber}
 use Rattle.shortening.specs.Passes.{Retention, goes, stays, remaining}
-use Rattle.shortening.proofs.Computed.{renumberRow, renumberEntry}
+use Rattle.shortening.proofs.Computed.{renumberEntry}
 use Rattle.shortening.specs.Shorten.{entryStated, statedEntry, renumberItem}
 
 -- ---- the line numbers of an entry

@@ -1,17 +1,17 @@
 -- The table without the rows that nothing rests on: it proves the same formula, and shortening it again changes nothing. Assumes nothing.
 use mathlib.Core.Path.{_≡_, refl, sym, _∙_, ap, subst}
-use mathlib.Core.List.{List, [], _∷_}
-use mathlib.Core.Bool.{Bool, true, false}
-use Prim.Native.Nat.{ℕ, zero, suc, _+_}
+use mathlib.Core.List.{List, []}
+use mathlib.Core.Bool.{Bool}
+use Prim.Native.Nat.{ℕ}
 use native.Mathlib.Omega.{arith}
 use lib.ListN.{length}
 use Rattle.forms.specs.Edition.{Edition}
-use Rattle.forms.specs.Forms.{Form, Line, Constraint, lines, Formula}
-use Rattle.calculus.specs.Rules.{_▷_, Inference, inference, Closed, derive, strengthen, round, splitEq, splitNeq, number, stride, Rounded, last, more, Derive, Strengthen, Round, Split, Entry, row, claims, entries, entriesRounded, Proves}
-use Rattle.shortening.specs.Needed.{dependsOn, markOf, withoutZeros, renew, renumber, keptRow, keptLines, shortened, shortenedRounded}
+use Rattle.forms.specs.Forms.{Line, Constraint, lines, Formula}
+use Rattle.calculus.specs.Rules.{Closed, Entry, entries, Proves}
+use Rattle.shortening.specs.Needed.{withoutZeros}
 use Rattle.shortening.specs.Passes.{reportOn}
-use Rattle.shortening.proofs.Computed.{AllNeeded, report, reportRounded, shortenTable}
-use Rattle.shortening.proofs.Without.{length-▷, Without, without}
+use Rattle.shortening.proofs.Computed.{AllNeeded, shortenTable}
+use Rattle.shortening.proofs.Without.{Without, without}
 use Rattle.shortening.proofs.Again.{stays}
 use Rattle.shortening.proofs.Passes.{reported}
 use Rattle.shortening.proofs.OneArray.{shortens}

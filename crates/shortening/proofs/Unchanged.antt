@@ -1,7 +1,6 @@
 -- Fields whose line numbers were written anew stay as they are where these numbers do. Assumes nothing.
 use mathlib.Core.Path.{_≡_, refl, sym, _∙_, ap, ap₂, subst}
-use mathlib.Core.Option.{Option, none, some}
-use mathlib.Core.Bool.{Bool, true, false}
+use mathlib.Core.Option.{Option, some}
 use mathlib.Core.List.{List, [], _∷_, _++_}
 use Prim.Native.Nat.{ℕ, zero, suc, _+_, _*_, _^_, _≤_, _<_}
 use native.Mathlib.Omega.{arith}
@@ -9,12 +8,12 @@ use lib.ListN.{length, take, drop}
 use lib.Seq.{take-at, drop-at}
 use Rattle.forms.specs.Edition.{Edition}
 use Rattle.forms.specs.Forms.{All, nil, cons}
-use Rattle.calculus.specs.Rules.{Inference, Combine, Reduce, Scale, Row, Derive, Strengthen, Round, Split, CloseNumber, CloseStride, Entry, row, claim}
+use Rattle.calculus.specs.Rules.{Combine, Reduce, Scale, Derive, Strengthen, Round, Split, CloseNumber, CloseStride, Entry, row, claim}
 use Rattle.number_bytes.specs.Numbers.{unsigned, unsignedBytes}
 use Rattle.number_bytes.proofs.Signed.{length-unsignedBytes, unsigned-unsignedBytes}
 use Rattle.fields.specs.Fields.{Item, item}
 use Rattle.bundle.specs.Layout.{Each}
-use Rattle.proof.specs.Entries.{EntryTag, combineTag, reduceTag, scaleTag, strengthenTag, numberTag, strideTag, roundTag, splitTag, claimTag, entryTagged, lineCount, lineNumber, entryFrom}
+use Rattle.proof.specs.Entries.{EntryTag, combineTag, reduceTag, scaleTag, strengthenTag, numberTag, strideTag, roundTag, splitTag, claimTag, lineCount, lineNumber, entryFrom}
 use Rattle.proof.specs.Layout.{Enters}
 use Rattle.shortening.specs.Passes.{Retention, goes, stays, remaining}
 use Rattle.shortening.proofs.Computed.{renumberEntry}

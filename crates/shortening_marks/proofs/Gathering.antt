@@ -3,7 +3,7 @@ use mathlib.Core.Path.{_≡_, refl, sym, _∙_, ap, ap₂, subst}
 use mathlib.Core.Option.{Option, none, some}
 use mathlib.Core.Bool.{Bool, true, false, not, _&&_, _||_}
 use mathlib.Core.List.{List, [], _∷_, map}
-use Prim.Native.Nat.{ℕ, zero, suc, _+_, _-_, _%_, _≤_, _<_}
+use Prim.Native.Nat.{ℕ, zero, suc, _+_, _-_, _≤_, _<_}
 use native.Mathlib.Omega.{arith}
 use lib.Dec.{eqb}
 use lib.ListN.{length, getD, set, length-set, take, drop}
@@ -26,7 +26,7 @@ use Rattle.shortening_stack.specs.Outline.{outlineOf, outlineBy, LaidBy}
 use Rattle.shortening_stack.specs.Stack.{stackOf, Alive, SameBelow, Bound, linesAfter, openedAfter, MovedOn}
 use Rattle.shortening_stack.proofs.Outlines.{outline-is, laid-by}
 use Rattle.shortening_stack.proofs.Stacks.{same-self, same-set}
-use Rattle.shortening_marks.specs.Marks.{Marking, beforeIn, firstIn, secondIn, classIn, RowOf, making2, rowBack, rowIn, backIn, Markable, MarkedFrom}
+use Rattle.shortening_marks.specs.Marks.{Marking, beforeIn, firstIn, secondIn, RowOf, making2, rowBack, rowIn, backIn, Markable, MarkedFrom}
 use Rattle.shortening_marks.specs.Gathered.{rowsOf, Stating, SameBack, startsOf, Gathered, Gatherable, GathersAll}
 
 -- ---- one row beside the passes

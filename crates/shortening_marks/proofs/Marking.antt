@@ -2,14 +2,14 @@
 use mathlib.Core.Path.{_≡_, refl, sym, _∙_, ap, ap₂, subst}
 use mathlib.Core.Bool.{Bool, true, false, not, _&&_, _||_}
 use mathlib.Core.List.{List, [], _∷_}
-use Prim.Native.Nat.{ℕ, zero, suc, _+_, _*_, _-_, _/_, _%_, _≤_, _<_}
+use Prim.Native.Nat.{ℕ, zero, suc, _+_, _*_, _-_, _/_, _%_, _<_}
 use native.Mathlib.Omega.{arith}
-use lib.Dec.{T, eqb, eqb→eq}
+use lib.Dec.{eqb}
 use lib.ListN.{length, getD, set, length-set}
 use lib.Seq.{getD-set-same, getD-set-other, set-comm, sets}
 use borrow.Author.Tests.{eqb-true, eqb-false}
 use Rattle.shortening.specs.Needed.{markOf}
-use Rattle.shortening.specs.Passes.{Backward, cleared, branching, closing}
+use Rattle.shortening.specs.Passes.{Backward, cleared}
 use Rattle.shortening_stack.specs.declared.Outline.{Outline}
 use Rattle.shortening_marks.specs.Marks.{Marking, madeMarks, rowMarks, rowSaid, beforeIn, firstIn, secondIn, classIn, RowOf, MarkedRow, making2, rowBack, rowIn, backIn, Markable, MarkedFrom}
 

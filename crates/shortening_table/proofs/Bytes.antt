@@ -7,7 +7,6 @@ use Prim.Native.Nat.{ℕ, suc, _+_}
 use native.Mathlib.Omega.{arith}
 use lib.Dec.{eqb}
 use lib.ListN.{length, length-append}
-use borrow.Author.Tests.{eqb-true}
 use Rattle.forms.specs.Edition.{Edition}
 use Rattle.calculus.specs.Rules.{Row, Derive, Strengthen, Round, Split, CloseNumber, CloseStride, Entry, row, claim}
 use Rattle.fields.specs.Fields.{Field, Fields, ends, cut, _▸_, Item, item, items, fieldBytes, fileOf}
@@ -16,7 +15,7 @@ use Rattle.bundle.specs.Layout.{Each}
 use Rattle.proof.specs.Entries.{EntryTag, combineTag, reduceTag, scaleTag, strengthenTag, numberTag, strideTag, roundTag, splitTag, claimTag, entryTagged, lineCount, renumbered, entryFrom}
 use Rattle.proof.specs.Layout.{Enters}
 use Rattle.shortening.specs.Needed.{markOf, renew, keptLines}
-use Rattle.shortening.specs.Passes.{top, pop, pushed, backward, isKept, Retention, goes, stays, retention, Start, noStart, branchStart, retentions, remaining}
+use Rattle.shortening.specs.Passes.{top, pop, pushed, backward, isKept, Retention, retention, Start, noStart, branchStart, retentions, remaining}
 use Rattle.shortening.specs.Shorten.{renumberItem}
 use Rattle.shortening.proofs.Renumbering.{length-put}
 use Rattle.shortening.proofs.Filed.{onward, ended, never-cut}

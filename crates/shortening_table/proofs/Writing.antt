@@ -5,11 +5,11 @@ use mathlib.Core.Bool.{Bool, true, false, cond}
 use mathlib.Core.List.{List, [], _∷_, _++_}
 use Prim.Native.Nat.{ℕ, zero, suc, _+_, _*_, _-_, _≤_, _<_}
 use native.Mathlib.Omega.{arith}
-use lib.Dec.{eqb, leb}
+use lib.Dec.{eqb}
 use lib.ListN.{length, getD, set, length-set, take, drop}
 use lib.Seq.{sets, getD-set-same, getD-set-other, drop-cons, drop-drop}
-use borrow.Author.Tests.{eqb-true, eqb-false, eq-eqb, ne-eqb, le-leb, lt-leb}
-use Rattle.forms.specs.Edition.{Edition, edition, edition1}
+use borrow.Author.Tests.{eqb-true, eqb-false, eq-eqb, ne-eqb}
+use Rattle.forms.specs.Edition.{Edition, edition}
 use Rattle.forms.specs.Forms.{All, nil, cons}
 use Rattle.calculus.specs.Rules.{Combine, Reduce, Scale, Derive, Strengthen, Round, Split, CloseNumber, CloseStride, Entry, row, claim}
 use Rattle.number_bytes.specs.Numbers.{unsigned, unsignedBytes}

@@ -1,5 +1,4 @@
 -- `check_sizes::is_tried` returns: it counts so far at most. Assumes nothing.
-use native.Mathlib.Omega.{arith}
 use Prim.Native.Nat.{_-_, _≤_}
 use borrow.Author.Needs.{needs}
 use Rattle.check_sizes.proofs.is_tried.Statement.{statement}

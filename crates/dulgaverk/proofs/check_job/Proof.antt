@@ -1,6 +1,6 @@
 -- `dulgaverk::check_job` meets its contract. Assumes nothing.
 use borrow.Author.Needs.{needs}
-use mathlib.Core.Path.{_≡_, refl, sym, _∙_}
+use mathlib.Core.Path.{sym, _∙_}
 use borrow.Author.Tests.{not-true, not-false}
 use Rattle.dulgaverk.proofs.Jobs.{check-34, check-parts}
 use Rattle.dulgaverk.proofs.check_job.Statement.{statement}

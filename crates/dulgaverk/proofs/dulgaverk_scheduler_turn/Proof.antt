@@ -1,7 +1,7 @@
 -- `dulgaverk::dulgaverk_scheduler_turn` meets its contract. Assumes nothing.
 use native.Mathlib.Omega.{arith}
 use borrow.Author.Needs.{needs}
-use mathlib.Core.Path.{_≡_, sym, _∙_}
+use mathlib.Core.Path.{sym, _∙_}
 use Rattle.scheduler.proofs.Looking.{next-seated}
 use Rattle.dulgaverk.proofs.Jobs.{turn-serves, turn-idle}
 use Rattle.dulgaverk.proofs.dulgaverk_scheduler_turn.Statement.{statement}

@@ -1,10 +1,9 @@
 -- `shortening_stack::outline_at` meets its contract, each way. Assumes nothing.
-use mathlib.Core.Path.{_≡_, _∙_, ap, ap₂}
-use Prim.Native.Nat.{ℕ, _+_}
+use mathlib.Core.Path.{_∙_, ap, ap₂}
+use Prim.Native.Nat.{ℕ}
 use native.Mathlib.Omega.{arith}
-use lib.ListN.{length, drop}
+use lib.ListN.{drop}
 use Rattle.forms.specs.Edition.{edition}
-use Rattle.forms.proofs.Editions.{lineWidth-most}
 use Rattle.shortening_stack.specs.Outline.{outline}
 use Rattle.shortening_stack.proofs.Outlines.{by-claim, by-two, by-scale, by-strengthen, by-round, by-split, by-close, at-second, at-come}
 use borrow.Author.Needs.{needs}

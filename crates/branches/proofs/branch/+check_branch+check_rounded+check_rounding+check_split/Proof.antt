@@ -15,7 +15,7 @@ use Rattle.openings.specs.Opening.{lastTwo, fromBranch}
 use Rattle.branches.specs.Spare.{unreadBytes}
 use Rattle.branches.proofs.Spare.{one-less, next-falls, own-falls, others-fall, turn-falls}
 use Rattle.branches.proofs.BranchStops.{started-room, stopped-fault, comes-ready, number-comes, stride-comes, strengthen-comes, round-comes, split-comes, number-closed, stride-closed, opens-refused}
-use Rattle.branches.proofs.OpenedBranches.{room-left, first-started, first-fault, rest-open, rest-unread, rest-opened, first-checks, head-short, none-short, start-asked, some-longer, some-started, some-open, some-unread, some-opened, two-fault, two-checks, opening-falls, opened, first-stands, resumed-fault, resumed-checks}
+use Rattle.branches.proofs.OpenedBranches.{room-left, first-started, first-fault, rest-open, rest-unread, rest-opened, first-checks, head-short, none-short, start-asked, some-started, some-open, some-unread, some-opened, two-fault, two-checks, opening-falls, opened, first-stands, resumed-fault, resumed-checks}
 use Rattle.branches.proofs.JoinedClosings.{or-bytes}
 use Rattle.branches.proofs.Splits.{split-there, split-started, split-fault, split-open, split-unread, negated-asked, negated-started, split-checks, split-opened, split-resumed}
 use Rattle.branches.proofs.Rounds.{template-place, template-asked, template-kept, rounded-asked, rounded-started, Rounding, rounding-start, rounding-last, rounding-unread, rounding-fault, rounding-next}

@@ -2,7 +2,6 @@
 use native.Mathlib.Omega.{arith}
 use borrow.Author.Tests.{not-true, not-false}
 use Rattle.enumeration_rows.proofs.Closes.{no-close, open-close, next-close, close-below}
-use borrow.Author.Needs.{needs}
 use Rattle.enumeration_rows.proofs.close.after_close.Statement.{statement}
 use Rattle.enumeration_rows.proofs.close.after_close.Tie as tie
 

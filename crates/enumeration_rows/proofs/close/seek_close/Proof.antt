@@ -2,7 +2,6 @@
 use Prim.Native.Nat.{_-_}
 use native.Mathlib.Omega.{arith}
 use Rattle.enumeration_rows.proofs.Closes.{ClosesLeft, closes-start, closes-ended, closes-found, closes-on}
-use borrow.Author.Needs.{needs}
 use Rattle.enumeration_rows.proofs.close.seek_close.Statement.{statement}
 use Rattle.enumeration_rows.proofs.close.seek_close.Tie as tie
 

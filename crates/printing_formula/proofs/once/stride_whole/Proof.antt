@@ -2,7 +2,6 @@
 use mathlib.Core.Path.{refl}
 use mathlib.Core.Logic.{inr}
 use Rattle.printing_formula.proofs.Reaching.{stride-refused, stride-read}
-use borrow.Author.Needs.{needs}
 use Rattle.printing_formula.proofs.once.stride_whole.Statement.{statement}
 use Rattle.printing_formula.proofs.once.stride_whole.Tie as tie
 
