@@ -32,16 +32,16 @@ use Rattle.guarantee.proofs.TooLongFiles.{Amidst, above-1, edition-amid
 use Rattle.guarantee.proofs.NotedPlaces.{fields-moved}
 
 -- ---- a block whose refusals are mapped, by one rule for each form of step
-abbrev pub mapped : (μ : Answer → Answer) {X Y : Type 0} → (X → Y) → Result X → Result Y
-mapped μ f (refused a) = refused (μ a)
-mapped μ f (accepted x) = accepted (f x)
+abbrev pub mapResult : (μ : Answer → Answer) {X Y : Type 0} → (X → Y) → Result X → Result Y
+mapResult μ f (refused a) = refused (μ a)
+mapResult μ f (accepted x) = accepted (f x)
 
 -- r′ is r with its refusal mapped by μ, and its value by f.
 pub record Maps (μ : Answer → Answer) {X Y : Type 0} (f : X → Y) (r : Result X) (r′ : Result Y) : Type 0 where
-  pub equal : mapped μ f r ≡ r′
+  pub equal : mapResult μ f r ≡ r′
 
 module _ {μ : Answer → Answer} {X Y : Type 0} {f : X → Y} where
-  pub maps-computed : {r : Result X} → Maps μ f r (mapped μ f r)
+  pub maps-computed : {r : Result X} → Maps μ f r (mapResult μ f r)
   maps-computed = record { equal = refl }
 
   pub bind-maps : {Z W : Type 0} {g : Z → W} {r : Result Z} {r′ : Result W} {k : Z → Result X} (k′ : W → Result Y)

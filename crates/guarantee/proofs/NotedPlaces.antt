@@ -13,7 +13,7 @@ use Rattle.fields.proofs.Notes.{note-tags}
 use Rattle.fields.proofs.Framing.{from-nothing, from-broken, from-whole, fieldsStarting, fieldsAt-field}
 use Rattle.fields.proofs.Moved.{move}
 use Rattle.proof.specs.Tree.{startsAt}
-use Rattle.guarantee.specs.NotedPlaces.{movedBy, startOf}
+use Rattle.guarantee.specs.NotedPlaces.{movedBy, nthStart}
 
 -- ---- maps of places
 move-still : (φ : ℕ → ℕ) → ((p : ℕ) → φ p ≡ p) → (fs : Fields) → move φ fs ≡ fs
@@ -109,8 +109,8 @@ unfolding fields
 fields-moved n = moved-from n
 
 -- each start moves with its field
-starts-moved : (φ : ℕ → ℕ) (i : ℕ) (fs : Fields) → startOf i (move φ fs) ≡ Option·map φ (startOf i fs)
-unfolding startOf startsAt
+starts-moved : (φ : ℕ → ℕ) (i : ℕ) (fs : Fields) → nthStart i (move φ fs) ≡ Option·map φ (nthStart i fs)
+unfolding nthStart startsAt
 starts-moved φ zero (ends at) = refl
 starts-moved φ zero (cut at) = refl
 starts-moved φ zero (f ▸ fs) = refl
@@ -118,5 +118,5 @@ starts-moved φ (suc i) (ends at) = refl
 starts-moved φ (suc i) (cut at) = refl
 starts-moved φ (suc i) (f ▸ fs) = starts-moved φ i fs
 
-pub start-moved : {F F′ : List ℕ} (n : Noted F F′) (i p : ℕ) → startOf i (fields F) ≡ some p → startOf i (fields F′) ≡ some (movedBy n p)
-start-moved n i p e = ap (startOf i) (fields-moved n) ∙ starts-moved (movedBy n) i _ ∙ ap (Option·map (movedBy n)) e
+pub start-moved : {F F′ : List ℕ} (n : Noted F F′) (i p : ℕ) → nthStart i (fields F) ≡ some p → nthStart i (fields F′) ≡ some (movedBy n p)
+start-moved n i p e = ap (nthStart i) (fields-moved n) ∙ starts-moved (movedBy n) i _ ∙ ap (Option·map (movedBy n)) e

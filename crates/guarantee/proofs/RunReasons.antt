@@ -30,7 +30,7 @@ use Rattle.run.specs.Ordered.{Parted, RunWithinLimits}
 use Rattle.run.proofs.Agree.{all-stages}
 use Rattle.run.proofs.OneTable.{RunAs, run-gives}
 use Rattle.run.proofs.Refused.{refused-as-check}
-use Rattle.guarantee.specs.RunTree.{Branch, closes, goes-on, Branches, final, further, Unlike, strengthen, round, past, StandsInRun, as-check, claim, unlike}
+use Rattle.guarantee.specs.RunTree.{BranchFields, closes, goes-on, AllBranchFields, final, further, Unlike, strengthen, round, past, StandsInRun, as-check, claim, unlike}
 use Rattle.guarantee.specs.Runs.{ManyConstraints, LongGuard}
 use Rattle.guarantee.proofs.NotedAnswers.{stands-file}
 use Rattle.guarantee.proofs.RunTree.{uniform-stands}
@@ -83,11 +83,11 @@ run-plain K Ts proof a (of-run (inl n) e f) = plain-amid a (omega arith) (inr (i
 run-plain K Ts proof a (of-run (inr n) e f) = plain-amid a (omega arith) (inr (inr n))
 
 -- ---- what is refused amid the proof names it, and is not by 1
-branch-file : {closed : List OpenStep} {t : Tree} {fs : Fields} {is : List Item} {rows : ℕ} {after : Fields} {a : Answer} → Branch closed t fs is rows after a → a .file ≡ fileProof
+branch-file : {closed : List OpenStep} {t : Tree} {fs : Fields} {is : List Item} {rows : ℕ} {after : Fields} {a : Answer} → BranchFields closed t fs is rows after a → a .file ≡ fileProof
 branch-file (closes f k e q) = ap (λ (x : Answer). x .file) q
 branch-file (goes-on f b) = branch-file b
 
-branches-file : {step last b rows : ℕ} {ps : List OpenStep} {fs : Fields} {iss : List (List Item)} {rows′ : ℕ} {after : Fields} {a : Answer} → Branches step last ps b rows fs iss rows′ after a → a .file ≡ fileProof
+branches-file : {step last b rows : ℕ} {ps : List OpenStep} {fs : Fields} {iss : List (List Item)} {rows′ : ℕ} {after : Fields} {a : Answer} → AllBranchFields step last ps b rows fs iss rows′ after a → a .file ≡ fileProof
 branches-file (final e b) = branch-file b
 branches-file (further h b bs) = branches-file bs
 

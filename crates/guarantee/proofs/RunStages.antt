@@ -33,7 +33,7 @@ use Rattle.run.proofs.Ordered.{run-in-order}
 use Rattle.run.proofs.Refused.{refused-as-check}
 use Rattle.guarantee.specs.RefusedIff.{JustWhere}
 use Rattle.guarantee.specs.Runs.{Bundled, ReadByCheck, as-A, as-B}
-use Rattle.guarantee.proofs.NotedAnswers.{mapped, Maps, maps-computed, bind-maps}
+use Rattle.guarantee.proofs.NotedAnswers.{mapResult, Maps, maps-computed, bind-maps}
 use Rattle.guarantee.proofs.RunReasons.{run-amid}
 
 -- ---- a bundle under another file's number
@@ -84,7 +84,7 @@ module _ (file other : ℕ) where
   bundle-refiled given bytes = bind-maps _ (header-refiled given bytes) λ h _. bind-maps _ (constraints-refiled (edition (h .number)) (h .K) 0 (h .rest)) λ cs _. maps-computed
 
   refiled : (given : Option ℕ) (bytes : List ℕ) {a : Answer} → bundle newestEdition file given bytes ≡ refused a → bundle newestEdition other given bytes ≡ refused (inFile other a)
-  refiled given bytes e = sym (bundle-refiled given bytes .equal) ∙ ap (mapped (inFile other) (λ x. x)) e
+  refiled given bytes e = sym (bundle-refiled given bytes .equal) ∙ ap (mapResult (inFile other) (λ x. x)) e
 
 -- ---- the stages in turn
 stages-above : (file : ℕ) (given : Option ℕ) (Ts : List (List ℕ)) → Satisfies (λ a. file ≤ a .file) (readStages newestEdition file given Ts) (λ _. Unit {0})

@@ -30,7 +30,7 @@ use Rattle.run.specs.Uniform.{withNumber, sameItems, Walked, WalkedBranches, Wa
 use Rattle.run.specs.Run.{firstStage, parts, stagesShort, readStages, constantsOf, runOf, claimRefused, checkCut, both, checkCuts, checkRun, guardFiles, unwritten, fitGuards, writtenGuards, guardsBy, guards}
 use Rattle.guarantee.proofs.ProofNumbers.{Numbered, header-numbered, proof-numbered}
 use Rattle.guarantee.proofs.BundleNumbers.{because}
-use Rattle.guarantee.specs.RunTree.{Branch, closes, goes-on, Branches, final, further, Unlike, strengthen, round, past, StandsInRun, as-check, claim, unlike, RunStands, outside, amid}
+use Rattle.guarantee.specs.RunTree.{BranchFields, closes, goes-on, AllBranchFields, final, further, Unlike, strengthen, round, past, StandsInRun, as-check, claim, unlike, RunStands, outside, amid}
 
 unlike-on : {t t′ : Tree} {fs fs′ : Fields} {a : Answer} → Leads t fs t′ fs′ → Unlike t′ fs′ a → Unlike t fs a
 unlike-on stays u = u
@@ -55,21 +55,21 @@ both-say : {t : Tree} {fs : Fields} {X : Type 0} {r : Result X} {P : X → Type 
 both-say n s = record { refusal = λ a e. amidst-check a (n .refusal a e) (s .refusal a e); value = s .value }
 
 -- ---- the tag of a field, by the entry that it states
-abbrev pub tagOf : Entry → ℕ
-tagOf (row (Derive (Combine i j α β))) = 0x10
-tagOf (row (Derive (Reduce i j α))) = 0x11
-tagOf (row (Derive (Scale i α))) = 0x12
-tagOf (row (Strengthen i)) = 0x13
-tagOf (row (CloseNumber i)) = 0x14
-tagOf (row (CloseStride i g)) = 0x15
-tagOf (row (Round i g k)) = 0x16
-tagOf (row (Split i)) = 0x17
-tagOf (claims u v) = 0x20
+abbrev pub tagNumber : Entry → ℕ
+tagNumber (row (Derive (Combine i j α β))) = 0x10
+tagNumber (row (Derive (Reduce i j α))) = 0x11
+tagNumber (row (Derive (Scale i α))) = 0x12
+tagNumber (row (Strengthen i)) = 0x13
+tagNumber (row (CloseNumber i)) = 0x14
+tagNumber (row (CloseStride i g)) = 0x15
+tagNumber (row (Round i g k)) = 0x16
+tagNumber (row (Split i)) = 0x17
+tagNumber (claims u v) = 0x20
 
 module _ (e : Edition) (K : ℕ) (bs : List ℕ) where
   abbrev told : Option EntryTag → ℕ
   told none = 0
-  told (some x) = tagOf (entryFrom e K x bs)
+  told (some x) = tagNumber (entryFrom e K x bs)
 
   tagged-as : (tag : ℕ) (x : EntryTag) → entryTagged tag ≡ some x → tag ≡ told (some x)
   unfolding entryTagged entryFrom
@@ -79,8 +79,8 @@ module _ (e : Edition) (K : ℕ) (bs : List ℕ) where
       (by-tag P tag 0x14 numberTag (ap told) (by-tag P tag 0x15 strideTag (ap told) (by-tag P tag 0x16 roundTag (ap told) (by-tag P tag 0x17 splitTag (ap told)
       (by-tag P tag 0x20 claimTag (ap told) (λ e. absurd (let z : _≡_ {A = ℕ} 0 1 = cc in omega arith)))))))))) h h
 
-pub field-tag : (e : Edition) (K : ℕ) (f : Field) {x : Entry} → Enters e K (item (f .tag) (f .contents)) x → f .tag ≡ tagOf x
-field-tag e K f n = tagged-as e K (f .contents) (f .tag) (n .tagged) (n .tag) ∙ ap tagOf (n .entry)
+pub field-tag : (e : Edition) (K : ℕ) (f : Field) {x : Entry} → Enters e K (item (f .tag) (f .contents)) x → f .tag ≡ tagNumber x
+field-tag e K f n = tagged-as e K (f .contents) (f .tag) (n .tagged) (n .tag) ∙ ap tagNumber (n .entry)
 
 -- ---- the same fields
 items-refl : (is : List Item) → T (sameItems is is)
@@ -119,31 +119,31 @@ unfolding treeBehind entryTagged
 closed-behind tag bs t (inl e) = rw e
 closed-behind tag bs t (inr e) = rw e
 
-branch-leads : {closed : List OpenStep} {t : Tree} {fs : Fields} {is : List Item} {rows : ℕ} {after : Fields} {a : Answer} → Branch closed t fs is rows after a → Leads t fs (tree rows closed) after
+branch-leads : {closed : List OpenStep} {t : Tree} {fs : Fields} {is : List Item} {rows : ℕ} {after : Fields} {a : Answer} → BranchFields closed t fs is rows after a → Leads t fs (tree rows closed) after
 branch-leads {closed} {t} (closes f {fs = fs} k e q) =
     on f (subst (λ (x : Tree). Leads (treeBehind (entryTagged (f .tag)) (f .contents) t) fs x fs) (closed-behind (f .tag) (f .contents) t k ∙ ap (tree (suc (t .rows))) e) stays)
 branch-leads (goes-on f b) = on f (branch-leads b)
 
 -- a branch behind fields that lead on
 behind-branch : {closed closed′ : List OpenStep} {t : Tree} {fs : Fields} {is js : List Item} {rows rows′ : ℕ} {after after′ : Fields} {a a′ : Answer}
-    → Branch closed t fs is rows after a → Branch closed′ (tree rows closed) after js rows′ after′ a′ → Branch closed′ t fs (is ++ js) rows′ after′ a′
+    → BranchFields closed t fs is rows after a → BranchFields closed′ (tree rows closed) after js rows′ after′ a′ → BranchFields closed′ t fs (is ++ js) rows′ after′ a′
 behind-branch {closed} {closed′} {t} {js = js} {rows′ = rows′} {after′ = after′} {a′ = a′} (closes f {fs = fs} k e q) c =
-    goes-on f (subst (λ (x : Tree). Branch closed′ x fs js rows′ after′ a′) (sym (closed-behind (f .tag) (f .contents) t k ∙ ap (tree (suc (t .rows))) e)) c)
+    goes-on f (subst (λ (x : Tree). BranchFields closed′ x fs js rows′ after′ a′) (sym (closed-behind (f .tag) (f .contents) t k ∙ ap (tree (suc (t .rows))) e)) c)
 behind-branch (goes-on f b) c = goes-on f (behind-branch b c)
 
 nothing-behind : {X : Type 0} (xs : List X) → xs ++ [] ≡ xs
 nothing-behind [] = refl
 nothing-behind (x ∷ xs) = ap (λ (l : List _). x ∷ l) (nothing-behind xs)
 
-all-branches : {step last b rows : ℕ} {ps : List OpenStep} {fs : Fields} {iss : List (List Item)} {rows′ : ℕ} {after : Fields} {a : Answer} → Branches step last ps b rows fs iss rows′ after a
-    → Branch (afterClose ps) (tree rows (openStep step b last ∷ ps)) fs (joined iss) rows′ after a
+all-branches : {step last b rows : ℕ} {ps : List OpenStep} {fs : Fields} {iss : List (List Item)} {rows′ : ℕ} {after : Fields} {a : Answer} → AllBranchFields step last ps b rows fs iss rows′ after a
+    → BranchFields (afterClose ps) (tree rows (openStep step b last ∷ ps)) fs (joined iss) rows′ after a
 all-branches {step} {last} {b} {rows} {ps} {fs} {rows′ = rows′} {after} {a} (final {is = is} e c) =
-    subst (λ (l : List Item). Branch (afterClose ps) (tree rows (openStep step b last ∷ ps)) fs l rows′ after a) (sym (nothing-behind is)) c
+    subst (λ (l : List Item). BranchFields (afterClose ps) (tree rows (openStep step b last ∷ ps)) fs l rows′ after a) (sym (nothing-behind is)) c
 all-branches (further h c cs) = behind-branch c (all-branches cs)
 
 -- What a walk says from fs on, in the tree t: its refusal stands in the fields, and a closed branch is one.
 abbrev Through : Tree → (closed : List OpenStep) → Fields → Result Walked → Type 0
-Through t closed fs r = Satisfies (StandsInRun t fs) r (λ w. Branch closed t fs (w .own) (w .rows) (w .after) (w .unlike))
+Through t closed fs r = Satisfies (StandsInRun t fs) r (λ w. BranchFields closed t fs (w .own) (w .rows) (w .after) (w .unlike))
 
 abbrev Walks : Walker → Type 0
 Walks walker = (ps : List OpenStep) (rows : ℕ) (fs : Fields) → Through (tree rows ps) (afterClose ps) fs (walker (innermost ps) rows fs)
@@ -151,13 +151,13 @@ Walks walker = (ps : List OpenStep) (rows : ℕ) (fs : Fields) → Through (tree
 -- branches b to k of a step
 module _ (walker : Walker) (d : Walks walker) (at k : ℕ) (ps : List OpenStep) where
   branches-through : (b more rows : ℕ) → b + more ≡ k → (fs : Fields)
-      → Satisfies (StandsInRun (tree rows (openStep at b k ∷ ps)) fs) (walkBranches walker at b more rows fs) (λ ws. Branches at k ps b rows fs (ws .owns) (ws .rows) (ws .after) (ws .unlike))
+      → Satisfies (StandsInRun (tree rows (openStep at b k ∷ ps)) fs) (walkBranches walker at b more rows fs) (λ ws. AllBranchFields at k ps b rows fs (ws .owns) (ws .rows) (ws .after) (ws .unlike))
   unfolding walkBranches innermost
   branches-through b zero rows q fs = bind (d (openStep at b k ∷ ps) rows fs) λ w s.
-      says-accepted (final (omega arith) (subst (λ (ss : List OpenStep). Branch ss (tree rows (openStep at b k ∷ ps)) fs (w .own) (w .rows) (w .after) (w .unlike)) (after-last at ps (omega arith)) s))
+      says-accepted (final (omega arith) (subst (λ (ss : List OpenStep). BranchFields ss (tree rows (openStep at b k ∷ ps)) fs (w .own) (w .rows) (w .after) (w .unlike)) (after-last at ps (omega arith)) s))
   branches-through b (suc more) rows q fs = bind (d (openStep at b k ∷ ps) rows fs) λ w s.
-      let c : Branch (openStep at (suc b) k ∷ ps) (tree rows (openStep at b k ∷ ps)) fs (w .own) (w .rows) (w .after) (w .unlike)
-      = subst (λ (ss : List OpenStep). Branch ss (tree rows (openStep at b k ∷ ps)) fs (w .own) (w .rows) (w .after) (w .unlike)) (after-other at ps (omega arith)) s in
+      let c : BranchFields (openStep at (suc b) k ∷ ps) (tree rows (openStep at b k ∷ ps)) fs (w .own) (w .rows) (w .after) (w .unlike)
+      = subst (λ (ss : List OpenStep). BranchFields ss (tree rows (openStep at b k ∷ ps)) fs (w .own) (w .rows) (w .after) (w .unlike)) (after-other at ps (omega arith)) s in
       bind (weaken (branches-through (suc b) more (w .rows) (omega arith) (w .after)) (λ a o. ours-on (branch-leads c) o) (λ ws i. further (omega arith) c i)) λ ws i. says-accepted i
 
 data Deep : Option Walker → Type 0 where
@@ -182,7 +182,7 @@ module _ (e : Edition) (two : e .multiplierWidth ≡ 2) (K : ℕ) (deeper : Opti
     leads-behind q = on f (subst (λ (x : Tree). Leads (treeBehind (entryTagged (f .tag)) (f .contents) t) fs x fs) q stays)
 
     opened-through : (n : ℕ) (alike : List (List Item) → Bool) → treeBehind (entryTagged (f .tag)) (f .contents) t ≡ tree (suc rows) (openStep rows 0 n ∷ ps)
-        → ((ws : WalkedBranches) → Branches rows n ps 0 (suc rows) fs (ws .owns) (ws .rows) (ws .after) (ws .unlike) → alike (ws .owns) ≡ false → Unlike t (f ▸ fs) (ws .unlike))
+        → ((ws : WalkedBranches) → AllBranchFields rows n ps 0 (suc rows) fs (ws .owns) (ws .rows) (ws .after) (ws .unlike) → alike (ws .owns) ≡ false → Unlike t (f ▸ fs) (ws .unlike))
         → Through t (afterClose ps) (f ▸ fs) (walkOpened deeper (refusalAt (innermost ps) rows (f .at)) rows f fs n alike)
     unfolding walkOpened
     opened-through n alike q fails =
@@ -190,14 +190,14 @@ module _ (e : Edition) (two : e .multiplierWidth ≡ 2) (K : ℕ) (deeper : Opti
         bind (found-walks _ deep (as-check (λ e. omega arith) (λ e. omega arith) (here-told 17))) λ walker d.
         bind (weaken (branches-through walker d rows n ps 0 n (suc rows) (omega arith) fs) (λ a o. ours-on l o) (λ ws i. i)) λ ws i.
         because _ _ (λ e. unlike (fails ws i e)) λ _.
-        says-accepted (goes-on f (subst (λ (x : Tree). Branch (afterClose ps) x fs (joined (ws .owns)) (ws .rows) (ws .after) (ws .unlike)) (sym q) (all-branches i)))
+        says-accepted (goes-on f (subst (λ (x : Tree). BranchFields (afterClose ps) x fs (joined (ws .owns)) (ws .rows) (ws .after) (ws .unlike)) (sym q) (all-branches i)))
 
     closed-through : (f .tag ≡ 0x14) ⊎ (f .tag ≡ 0x15) → Through t (afterClose ps) (f ▸ fs) (walkClosed (refusalAt (innermost ps) rows (f .at)) rows f fs)
     unfolding walkClosed withNumber rowTold
     closed-through k = says-accepted (closes f k refl refl)
 
     -- the first and the third
-    third-unlike : {owns : List (List Item)} {r : ℕ} {after : Fields} {a : Answer} → f .tag ≡ 0x13 → Branches rows 2 ps 0 (suc rows) fs owns r after a → firstAndThird owns ≡ false → Unlike t (f ▸ fs) a
+    third-unlike : {owns : List (List Item)} {r : ℕ} {after : Fields} {a : Answer} → f .tag ≡ 0x13 → AllBranchFields rows 2 ps 0 (suc rows) fs owns r after a → firstAndThird owns ≡ false → Unlike t (f ▸ fs) a
     unfolding firstAndThird
     third-unlike tag (final e c) h = absurd (omega arith)
     third-unlike tag (further l c (final e c2)) h = absurd (omega arith)
@@ -205,20 +205,20 @@ module _ (e : Edition) (two : e .multiplierWidth ≡ 2) (K : ℕ) (deeper : Opti
     third-unlike tag (further l c (further l2 c2 (further l3 c3 cs))) h = absurd (omega arith)
 
     -- some branch of a rounding
-    some-unlike : {k : ℕ} {owns : List (List Item)} {r : ℕ} {after : Fields} {a : Answer} → f .tag ≡ 0x16 → roundingOf (f .contents) ≡ k → Branches rows k ps 0 (suc rows) fs owns r after a → allAlike owns ≡ false → Unlike t (f ▸ fs) a
+    some-unlike : {k : ℕ} {owns : List (List Item)} {r : ℕ} {after : Fields} {a : Answer} → f .tag ≡ 0x16 → roundingOf (f .contents) ≡ k → AllBranchFields rows k ps 0 (suc rows) fs owns r after a → allAlike owns ≡ false → Unlike t (f ▸ fs) a
     unfolding allAlike
-    some-unlike {k} {owns} {r} {after} {a} tag q c h = go owns h (subst (λ (n : ℕ). Branches rows n ps 0 (suc rows) fs owns r after a) (sym q) c)
+    some-unlike {k} {owns} {r} {after} {a} tag q c h = go owns h (subst (λ (n : ℕ). AllBranchFields rows n ps 0 (suc rows) fs owns r after a) (sym q) c)
       where
-        go : (os : List (List Item)) → allAlike os ≡ false → Branches rows (roundingOf (f .contents)) ps 0 (suc rows) fs os r after a → Unlike t (f ▸ fs) a
+        go : (os : List (List Item)) → allAlike os ≡ false → AllBranchFields rows (roundingOf (f .contents)) ps 0 (suc rows) fs os r after a → Unlike t (f ▸ fs) a
         go [] h c = absurd (not-none h)
         go (o ∷ os) h c = round f tag c (λ z. some-other o h z)
 
     module _ (next : FollowingWalk) (go : (rows : ℕ) (made : Bool) → Through (tree rows ps) (afterClose ps) fs (next rows made)) where
-      entry-through : (x : Entry) → f .tag ≡ tagOf x → treeBehind (entryTagged (f .tag)) (f .contents) t ≡ entryBehind x t
+      entry-through : (x : Entry) → f .tag ≡ tagNumber x → treeBehind (entryTagged (f .tag)) (f .contents) t ≡ entryBehind x t
           → Through t (afterClose ps) (f ▸ fs) (walkEntry deeper next (refusalAt (innermost ps) rows (f .at)) rows f fs x)
       unfolding walkEntry walkRow withNumber
       entry-through (row (Derive s)) g q = bind (weaken (go (suc rows) _) (λ a o. ours-on (leads-behind q) o)
-          (λ w c. goes-on f (subst (λ (x : Tree). Branch (afterClose ps) x fs (w .own) (w .rows) (w .after) (w .unlike)) (sym q) c))) λ w i. says-accepted i
+          (λ w c. goes-on f (subst (λ (x : Tree). BranchFields (afterClose ps) x fs (w .own) (w .rows) (w .after) (w .unlike)) (sym q) c))) λ w i. says-accepted i
       entry-through (row (Strengthen i)) g q = opened-through 2 firstAndThird q (λ ws c h. third-unlike g c h)
       entry-through (row (Round i s k)) g q = opened-through k allAlike q (λ ws c h. some-unlike g (rounding-told f t k g q) c h)
       entry-through (row (Split i)) g q = opened-through 1 (λ owns. true) q (λ ws c h. absurd (not-none h))

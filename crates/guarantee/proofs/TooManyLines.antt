@@ -36,7 +36,7 @@ use Rattle.proof.proofs.Tree.{field-behind}
 use Rattle.conversion.proofs.Narrow.{one-more}
 use Rattle.guarantee.specs.TooManyLines.{StepLines, stepLines, BranchLines, branchLines, linesAfterClose, linesBehind, needsRoom, TooManyLines, here, past, LinesCounted}
 use Rattle.guarantee.proofs.TooLongFiles.{edition-amidst}
-use Rattle.guarantee.proofs.RunTree.{tagOf, field-tag, rounding-told}
+use Rattle.guarantee.proofs.RunTree.{tagNumber, field-tag, rounding-told}
 
 -- ---- from one count to another, with room for each line that is made
 data Passes (most : ℕ) : BranchLines → Fields → BranchLines → Fields → Type 0 where
@@ -63,10 +63,10 @@ through-on {most} {c} {c′} {fs} {fs′} e l s =
     weaken s (λ a q n. many-on l (q n)) (λ k m. pass-on l (subst (λ (ss : List StepLines). Passes most c′ fs′ (linesAfterClose ss) (k .after)) e m))
 
 -- ---- the tests of a row: 16 comes for a line too many only
-abbrev other : ℕ → Bool
-other n = not (eqb n 16)
+abbrev not16 : ℕ → Bool
+not16 n = not (eqb n 16)
 
-module _ {Q : Answer → Type 0} (refusal : ℕ → Answer) (h : (n : ℕ) → T (other n) → Q (refusal n)) (ls : List Line) where
+module _ {Q : Answer → Type 0} (refusal : ℕ → Answer) (h : (n : ℕ) → T (not16 n) → Q (refusal n)) (ls : List Line) where
   line-says : (i : ℕ) → Satisfies Q (lineAt refusal ls i) (λ _. Unit {0})
   unfolding lineAt
   line-says i = weaken (finds (refusal 10) _ (h 10 tt)) (λ a q. q) (λ _ _. tt)
@@ -98,7 +98,7 @@ module _ {Q : Answer → Type 0} (refusal : ℕ → Answer) (h : (n : ℕ) → T
   unfolding byStride
   byStride-says i g = bind (line-says i) λ t _. test _ _ (h 11 tt) λ _. test _ _ (h 12 tt) λ _. test _ _ (h 15 tt) λ _. says-accepted tt
 
-entry-says : (e : Edition) (K : ℕ) (refusal : ℕ → Answer) (made : Bool) (f : Field) {Q : Answer → Type 0} → ((n : ℕ) → T (other n) → Q (refusal n))
+entry-says : (e : Edition) (K : ℕ) (refusal : ℕ → Answer) (made : Bool) (f : Field) {Q : Answer → Type 0} → ((n : ℕ) → T (not16 n) → Q (refusal n))
     → Satisfies Q (entry e K refusal made f) (Enters e K (item (f .tag) (f .contents)))
 unfolding entry
 entry-says e K refusal made f h = test _ _ (h 3 tt) λ _. bind (finds _ (entryTagged (f .tag)) (h 4 tt)) λ x t. test _ _ (h 4 tt) λ _. test _ _ (h 6 tt) λ n.
@@ -124,7 +124,7 @@ entryMakes (row (Split i)) = true
 entryMakes (claim u uA) = false
 
 module _ (f : Field) where
-  makes-told : (x : Entry) → f .tag ≡ tagOf x → needsRoom (entryTagged (f .tag)) ≡ entryMakes x
+  makes-told : (x : Entry) → f .tag ≡ tagNumber x → needsRoom (entryTagged (f .tag)) ≡ entryMakes x
   unfolding needsRoom entryTagged
   makes-told (row (Derive (Combine i j α β))) t = rw t
   makes-told (row (Derive (Reduce i j α))) t = rw t
@@ -137,7 +137,7 @@ module _ (f : Field) where
   makes-told (claim u uA) t = rw t
 
   module _ (e : Edition) (two : e .multiplierWidth ≡ 2) (K : ℕ) (c : BranchLines) where
-    lines-told : (x : Entry) → Enters e K (item (f .tag) (f .contents)) x → f .tag ≡ tagOf x → linesBehind (entryTagged (f .tag)) (f .contents) c ≡ entryLines x c
+    lines-told : (x : Entry) → Enters e K (item (f .tag) (f .contents)) x → f .tag ≡ tagNumber x → linesBehind (entryTagged (f .tag)) (f .contents) c ≡ entryLines x c
     unfolding linesBehind entryTagged
     lines-told (row (Derive (Combine i j α β))) n t = rw t
     lines-told (row (Derive (Reduce i j α))) n t = rw t
@@ -187,8 +187,8 @@ module _ (e : Edition) (two : e .multiplierWidth ≡ 2) (K : ℕ) where
       abbrev refusal : ℕ → Answer
       refusal = refusalAt here-at rows (f .at)
 
-      told : (n : ℕ) → T (other n) → Full most c (f ▸ fs) (refusal n)
-      told n t z = absurd (subst (λ (m : ℕ). T (other m)) z t)
+      told : (n : ℕ) → T (not16 n) → Full most c (f ▸ fs) (refusal n)
+      told n t z = absurd (subst (λ (m : ℕ). T (not16 m)) z t)
 
       abbrev Behind : BranchLines → Type 0
       Behind c′ = linesBehind (entryTagged (f .tag)) (f .contents) c ≡ c′

@@ -17,11 +17,11 @@ movedBy (noted i h t n) p = 3 + length (i .contents) + movedBy n p
 movedBy (passed i h n) p = cond (leb (3 + length (i .contents)) p) (3 + length (i .contents) + movedBy n (p - (3 + length (i .contents)))) p
 
 -- Where the field starts that has i fields before it, notes aside; behind the last one, where the file ends, or has bytes that are no whole field.
-unfoldable pub startOf : (i : ℕ) → Fields → Option ℕ
-startOf zero fs = some (startsAt fs)
-startOf (suc i) (ends at) = none
-startOf (suc i) (cut at) = none
-startOf (suc i) (f ▸ fs) = startOf i fs
+unfoldable pub nthStart : (i : ℕ) → Fields → Option ℕ
+nthStart zero fs = some (startsAt fs)
+nthStart (suc i) (ends at) = none
+nthStart (suc i) (cut at) = none
+nthStart (suc i) (f ▸ fs) = nthStart i fs
 
 -- An answer with its place moved by the map of its file. 1 is about a file as a whole: its place, 0 or with file 4 a number of bytes, stays.
 abbrev pub movedAnswer : (places : (file place : ℕ) → ℕ) → Answer → Answer

@@ -21,7 +21,7 @@ use Rattle.proof.specs.Layout.{Certifies}
 use Rattle.proof.specs.Editions.{limitA, limitB}
 use Rattle.proof.specs.Promises.{Checks}
 use Rattle.guarantee.specs.LaidOut.{WholeFields, LaidOut}
-use Rattle.guarantee.specs.NotedPlaces.{movedBy, startOf, movedAnswer, checkPlaces}
+use Rattle.guarantee.specs.NotedPlaces.{movedBy, nthStart, movedAnswer, checkPlaces}
 use Rattle.guarantee.specs.Testing.{FormulaFile}
 
 -- What a writer stated is given by any function of his list of fields. It gives a K and constraints.
@@ -74,7 +74,7 @@ pub record Soundness : Type 0 where
   -- and with the length by the file alone: 4,096 for a bundle whose first field, notes aside, is a whole 0x01 of length 1 that says 1, 8,192 for any other
   pub notes-plain : NotesPassedOver (λ A B proof. bundleLimit A) (λ A B proof. bundleLimit B)
   -- where notes move places: each field, notes aside, and what stands behind the last one, starts where the map puts it
-  pub notes-places : (F F′ : List ℕ) (n : Noted F F′) (i p : ℕ) → startOf i (fields F) ≡ some p → startOf i (fields F′) ≡ some (movedBy n p)
+  pub notes-places : (F F′ : List ℕ) (n : Noted F F′) (i p : ℕ) → nthStart i (fields F) ≡ some p → nthStart i (fields F′) ≡ some (movedBy n p)
   -- what is accepted is laid out, and a file that carries anything else is refused
   pub laid-out : (A B proof output left : List ℕ) (r : WriteResult) → Checks A B proof output left r → r .answer .number ≡ 0 → LaidOut A B proof
   pub refuses : (A B proof output left : List ℕ) (r : WriteResult) → Checks A B proof output left r → ¬ (LaidOut A B proof) → ¬ (r .answer .number ≡ 0)
