@@ -10,7 +10,7 @@ use lib.Dec.{T, leb}
 use lib.ListN.{length, length-append}
 use borrow.Author.Tests.{le-leb}
 use Rattle.answers.specs.declared.Answer.{Answer}
-use Rattle.answers.specs.Answers.{Result, refused, accepted, _>>=_, _>>_, need, found, Written, written}
+use Rattle.answers.specs.Answers.{Result, refused, accepted, _>>=_, _>>_, need, found}
 use Rattle.fields.specs.declared.FileKind.{FileKind}
 use Rattle.fields.specs.Fields.{Field, Front, whole, broken, nothing, front, Fields, ends, cut, _▸_, note, unlessNote, fieldsFrom, fields, Noted, same, noted, passed, Kept}
 use Rattle.fields.specs.Header.{Header, headerField, editionField, constantsField, header, finished}
@@ -209,15 +209,3 @@ module _ {X : Type 0} where
   -- What is left of a result, where it takes nothing from the refusal's place.
   pub left-same : {Y : Type 0} (left : Result X → Y) → ((r : Result X) → left r ≡ left (eraseOf r)) → {r s : Result X} → Same r s → left r ≡ left s
   left-same left h {r} {s} e = h r ∙ ap left (e .equal) ∙ sym (h s)
-
--- ---- what is written
-abbrev pub eraseWritten : Written → Written
-eraseWritten w = record { answer = moveAnswer erase (w .answer); count = w .count; output = w .output }
-
-written-of : (out : List ℕ) (r : Result (List ℕ)) → eraseWritten (written r out) ≡ eraseWritten (written (eraseOf r) out)
-unfolding written
-written-of out (refused a) = refl
-written-of out (accepted bytes) = refl
-
-pub written-same : {r s : Result (List ℕ)} (out : List ℕ) → Same r s → eraseWritten (written r out) ≡ eraseWritten (written s out)
-written-same out = left-same (λ (r : Result (List ℕ)). eraseWritten (written r out)) (written-of out)
