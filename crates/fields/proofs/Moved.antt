@@ -189,14 +189,8 @@ eraseOf = moveResult erase (λ x. x)
 pub record Same {X : Type 0} (r s : Result X) : Type 0 where
   pub equal : eraseOf r ≡ eraseOf s
 
--- Of two blocks, part by part.
+-- Of two blocks behind one test.
 module _ {X : Type 0} where
-  pub bind-same : {Z : Type 0} {r s : Result Z} {k l : Z → Result X} → Same r s → ((z : Z) → Same (k z) (l z)) → Same (r >>= k) (s >>= l)
-  bind-same {r} {s} {k} {l} d e =
-      let there : Moved erase (λ x. x) (r >>= k) (eraseOf s >>= λ z. eraseOf (l z)) = bind-moved _ (record { equal = d .equal }) (λ z. record { equal = e z .equal }) in
-      let back : Moved erase (λ x. x) (s >>= l) (eraseOf s >>= λ z. eraseOf (l z)) = bind-moved _ computed (λ z. computed) in
-      record { equal = there .equal ∙ sym (back .equal) }
-
   pub then-same : (r : Result (Unit {0})) {s t : Result X} → Same s t → Same (r >> s) (r >> t)
   unfolding _>>_
   then-same (refused a) e = record { equal = refl }
