@@ -34,7 +34,7 @@ ghost use Rattle.fields.specs.Fields.{fields};
 ghost use Rattle.proof.specs.Tree.{startsAt};
 ghost use Rattle.conversion.specs.Turning.{asked};
 ghost use Rattle.conversion.specs.Promises.{TurnsBundle, TurnsProof};
-ghost use Rattle.convert.specs.Known.{HasOther, ToHold, ToWrite, ToEnter, ToFit, ToPut};
+ghost use Rattle.convert.specs.Known.{HasOther, ToTurn, ToHold, ToWrite, ToEnter, ToFit, ToPut};
 
 fn refused(number: u8, file: u8, place: usize) -> WriteResult
     ensures { λ r. ⌜ r ≡ record { answer = answer number file place; count = 0 } ⌝ }
@@ -121,6 +121,17 @@ fn turn_constraints(file: &[u8], k: u8, body: Body, to: u8, out: &mut [u8]) -> W
     }
 }
 
+// A bundle of the other edition: the first fault in it, or it is turned.
+fn turn_other(file: &[u8], to: u8, out: &mut [u8]) -> WriteResult
+    requires { ⌜ ToTurn to (now file) ⌝ }
+    ensures { λ r. ⌜ TurnsBundle to (now (file .entry)) (now (out .entry)) (now (out .exit)) r ⌝ }
+{
+    match scan(file, 0, 0) {
+        Scanned::Bundle { k, body, start: _ } => turn_constraints(file, k, body, to, out),
+        Scanned::Refused { number, place } => refused(number, 1, place),
+    }
+}
+
 // Turns a bundle into the edition asked for.
 pub fn turn_bundle(file: &[u8], edition: usize, out: &mut [u8]) -> WriteResult
     ensures { λ r. ⌜ TurnsBundle edition (now (file .entry)) (now (out .entry)) (now (out .exit)) r ⌝ }
@@ -130,15 +141,9 @@ pub fn turn_bundle(file: &[u8], edition: usize, out: &mut [u8]) -> WriteResult
             return refused(1, 1, 0);
         }
         let to = edition as u8;
-        match has_other(file, FileKind::Bundle, to) {
-            Survey::Fine => {}
-            Survey::Refused { number, place } => {
-                return refused(number, 1, place);
-            }
-        }
-        return match scan(file, 0, 0) {
-            Scanned::Bundle { k, body, start: _ } => turn_constraints(file, k, body, to, out),
-            Scanned::Refused { number, place } => refused(number, 1, place),
+        return match has_other(file, FileKind::Bundle, to) {
+            Survey::Fine => turn_other(file, to, out),
+            Survey::Refused { number, place } => refused(number, 1, place),
         };
     }
     refused(5, 4, 0)

@@ -1,7 +1,6 @@
 -- `convert::turn_bundle` meets its contract. Assumes nothing.
 use native.Mathlib.Omega.{arith}
 use Rattle.convert.proofs.Whole.{asked-by, one-or-two, bundle-unasked, bundle-long, bundle-not-other, to-turn}
-use Rattle.convert.proofs.Constraints.{bundle-fault, to-hold}
 use borrow.Author.Needs.{needs}
 use Rattle.convert.proofs.turn_bundle.Statement.{statement}
 use Rattle.convert.proofs.turn_bundle.Tie as tie
@@ -15,21 +14,14 @@ cast-to c = omega (arith, one-or-two (c .before .before .before .before .before 
 has-other-requires : tie.Need-has-other-requires
 has-other-requires c κs = asked-by (c .before .before .before .before .before .args .edition) (c .before .before .before .before .before .args .file .now) (c .before .before .before .before .before .args .out .now) (c .before .before .is-edition .ensures) (c .before .if1 .taken)
 
-returns-2 : tie.Need-returns-2
-returns-2 c = bundle-not-other (c .before .before .before .before .before .before .before .before .before .before .args .edition) (c .before .before .before .before .before .before .before .before .before .before .args .file .now) (c .before .before .before .before .before .before .before .before .before .before .args .out .now) (asked-by (c .before .before .before .before .before .before .before .before .before .before .args .edition) (c .before .before .before .before .before .before .before .before .before .before .args .file .now) (c .before .before .before .before .before .before .before .before .before .before .args .out .now) (c .before .before .before .before .before .before .before .is-edition .ensures) (c .before .before .before .before .before .before .if1 .taken)) (omega (arith, c .before .before .before .before .before .if2 .left)) (c .before .before .before .before .has-other .ensures) (c .before .before .number .given .1) (c .refused2 .ensures)
+turn-other-requires : tie.Need-turn-other-requires
+turn-other-requires c κs = to-turn (c .before .before .before .before .before .before .before .before .before .args .edition) (c .before .before .before .before .before .before .before .before .before .args .file .now) (c .before .before .before .before .before .before .before .before .before .args .out .now) (asked-by (c .before .before .before .before .before .before .before .before .before .args .edition) (c .before .before .before .before .before .before .before .before .before .args .file .now) (c .before .before .before .before .before .before .before .before .before .args .out .now) (c .before .before .before .before .before .before .is-edition .ensures) (c .before .before .before .before .before .if1 .taken)) (omega (arith, c .before .before .before .before .if2 .left)) (c .before .before .before .has-other .ensures) (c .before .enum-told .given .1)
 
-turn-constraints-requires : tie.Need-turn-constraints-requires
-turn-constraints-requires c κs =
-    let t = to-turn (c .before .before .before .before .before .before .before .before .before .before .before .before .before .args .edition) (c .before .before .before .before .before .before .before .before .before .before .before .before .before .args .file .now) (c .before .before .before .before .before .before .before .before .before .before .before .before .before .args .out .now) (asked-by (c .before .before .before .before .before .before .before .before .before .before .before .before .before .args .edition) (c .before .before .before .before .before .before .before .before .before .before .before .before .before .args .file .now) (c .before .before .before .before .before .before .before .before .before .before .before .before .before .args .out .now) (c .before .before .before .before .before .before .before .before .before .before .is-edition .ensures) (c .before .before .before .before .before .before .before .before .before .if1 .taken)) (omega (arith, c .before .before .before .before .before .before .before .before .if2 .left)) (c .before .before .before .before .before .before .before .has-other .ensures) (c .before .before .before .before .before .enum-told .given .1) in
-    to-hold (c .before .before .before .before .before .before .before .before .before .before .before .before .before .args .edition) (c .before .before .before .before .before .before .before .before .before .before .before .before .before .args .file .now) (c .before .before .before .before .before .before .before .before .before .before .before .before .before .args .out .now) t (c .before .before .before .before .scan .ensures) (c .before .before .k .given .1)
+returns-3 : tie.Need-returns-3
+returns-3 c = bundle-not-other (c .before .before .before .before .before .before .before .before .before .before .args .edition) (c .before .before .before .before .before .before .before .before .before .before .args .file .now) (c .before .before .before .before .before .before .before .before .before .before .args .out .now) (asked-by (c .before .before .before .before .before .before .before .before .before .before .args .edition) (c .before .before .before .before .before .before .before .before .before .before .args .file .now) (c .before .before .before .before .before .before .before .before .before .before .args .out .now) (c .before .before .before .before .before .before .before .is-edition .ensures) (c .before .before .before .before .before .before .if1 .taken)) (omega (arith, c .before .before .before .before .before .if2 .left)) (c .before .before .before .before .has-other .ensures) (c .before .before .number .given .1) (c .refused2 .ensures)
 
 returns-4 : tie.Need-returns-4
-returns-4 c =
-    let t = to-turn (c .before .before .before .before .before .before .before .before .before .before .before .before .before .args .edition) (c .before .before .before .before .before .before .before .before .before .before .before .before .before .args .file .now) (c .before .before .before .before .before .before .before .before .before .before .before .before .before .args .out .now) (asked-by (c .before .before .before .before .before .before .before .before .before .before .before .before .before .args .edition) (c .before .before .before .before .before .before .before .before .before .before .before .before .before .args .file .now) (c .before .before .before .before .before .before .before .before .before .before .before .before .before .args .out .now) (c .before .before .before .before .before .before .before .before .before .before .is-edition .ensures) (c .before .before .before .before .before .before .before .before .before .if1 .taken)) (omega (arith, c .before .before .before .before .before .before .before .before .if2 .left)) (c .before .before .before .before .before .before .before .has-other .ensures) (c .before .before .before .before .before .enum-told .given .1) in
-    bundle-fault (c .before .before .before .before .before .before .before .before .before .before .before .before .before .args .edition) (c .before .before .before .before .before .before .before .before .before .before .before .before .before .args .file .now) (c .before .before .before .before .before .before .before .before .before .before .before .before .before .args .out .now) t (c .before .before .before .before .scan .ensures) (c .before .before .number2 .given .1) (c .refused3 .ensures)
-
-returns-5 : tie.Need-returns-5
-returns-5 c = bundle-unasked (c .before .before .before .before .before .args .edition) (c .before .before .before .before .before .args .file .now) (c .before .before .before .before .before .args .out .now) (c .before .before .is-edition .ensures) (c .before .if1 .left) (c .refused4 .ensures)
+returns-4 c = bundle-unasked (c .before .before .before .before .before .args .edition) (c .before .before .before .before .before .args .file .now) (c .before .before .before .before .before .args .out .now) (c .before .before .is-edition .ensures) (c .before .if1 .left) (c .refused3 .ensures)
 
 is-edition-requires : tie.Need-is-edition-requires
 is-edition-requires c κs = search needs
@@ -46,26 +38,14 @@ enum-known-number c = search needs
 refused-requires-2 : tie.Need-refused-requires-2
 refused-requires-2 c κs = search needs
 
-scan-requires : tie.Need-scan-requires
-scan-requires c κs = search needs
-
-enum-known-k : tie.Need-enum-known-k
-enum-known-k c = search needs
-
-enum-known-number-2 : tie.Need-enum-known-number-2
-enum-known-number-2 c = search needs
-
-refused-requires-3 : tie.Need-refused-requires-3
-refused-requires-3 c κs = search needs
-
 same-length : tie.Need-same-length
 same-length c = search needs
 
-returns-3 : tie.Need-returns-3
-returns-3 c = search needs
+returns-2 : tie.Need-returns-2
+returns-2 c = search needs
 
-refused-requires-4 : tie.Need-refused-requires-4
-refused-requires-4 c κs = search needs
+refused-requires-3 : tie.Need-refused-requires-3
+refused-requires-3 c κs = search needs
 
 pub turn-bundle-spec : {M : Type 1} → statement M
 turn-bundle-spec =
@@ -77,16 +57,11 @@ turn-bundle-spec =
     cast-to
     has-other-requires
     enum-told
+    turn-other-requires
     enum-known-number
     refused-requires-2
-    returns-2
-    scan-requires
-    enum-known-k
-    turn-constraints-requires
-    enum-known-number-2
-    refused-requires-3
     same-length
+    returns-2
     returns-3
-    returns-4
-    refused-requires-4
-    returns-5)
+    refused-requires-3
+    returns-4)
