@@ -287,7 +287,7 @@ fn checks(list: &mut Vec<Work>) {
         let name = format!("{rows} rows, 16 constants, nested strengthens");
         list.push(check(name, nested(rows, false), Some(point)));
     }
-    for rows in [128, 1_024] {
+    for rows in [32, 128, 1_024] {
         let name = format!("the same with {rows} rows and claims");
         list.push(check(name, nested(rows, true), None));
     }
