@@ -1,8 +1,8 @@
--- `line_sums::mix_line` meets its contract. Assumes nothing.
+-- `lines::sums::mix_line` meets its contract. Assumes nothing.
 use mir.ValLaws.{toZ-ofZ}
 use borrow.Author.Needs.{needs}
-use Rattle.line_sums.proofs.mix_line.Statement.{statement}
-use Rattle.line_sums.proofs.mix_line.Tie as tie
+use Rattle.lines.proofs.sums.mix_line.Statement.{statement}
+use Rattle.lines.proofs.sums.mix_line.Tie as tie
 
 mix-requires : tie.Need-mix-requires
 mix-requires c κs = search needs

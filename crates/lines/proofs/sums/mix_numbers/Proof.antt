@@ -1,4 +1,4 @@
--- `line_sums::mix_numbers` meets its contract: after x turns the first x of the sums are in place, and within the range. Assumes nothing.
+-- `lines::sums::mix_numbers` meets its contract: after x turns the first x of the sums are in place, and within the range. Assumes nothing.
 use mathlib.Core.Path.{_≡_, refl, sym, _∙_, ap, subst}
 use mathlib.Core.List.{List}
 use mathlib.Core.Bool.{Bool, true, false, not}
@@ -15,15 +15,15 @@ use Rattle.integers.specs.Magnitude.{Factors, Within}
 use Rattle.integers.proofs.Magnitude.{within-fits, first-fits, second-fits, sum-fits}
 use Rattle.forms.specs.Edition.{edition1}
 use Rattle.forms.specs.Forms.{small, every}
 use Rattle.lines.specs.Parts.{Agree}
 use Rattle.lines.proofs.Parts.{agree-paste}
 use Rattle.lines.specs.Buffer.{SumAsked, Mixes, mixed}
 use Rattle.lines.proofs.Mixing.{length-mixed, getD-mixed}
 use Rattle.lines.proofs.Every.{Passed, passed-none, passed-next, passed-fails, passed-all}
 use Rattle.lines.proofs.Fill.{Filled, filled-none, filled-length, filled-before, filled-next}
 use Rattle.lines.proofs.Narrow.{tested-within, narrow-fits, narrowed}
-use Rattle.line_sums.proofs.mix_numbers.Statement.{statement}
-use Rattle.line_sums.proofs.mix_numbers.Tie as tie
+use Rattle.lines.proofs.sums.mix_numbers.Statement.{statement}
+use Rattle.lines.proofs.sums.mix_numbers.Tie as tie
 
 -- The first x of the sums s are at d, and within the range.
 record Sums (l : List ℤ) (d : ℕ) (s m : List ℤ) (w x : ℕ) : Type 0 where

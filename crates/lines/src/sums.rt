@@ -1,11 +1,11 @@
 // A new line as a sum of two: α·s + β·t, form and partial interpolant, number by number within the range.
-// The line is `mixedLine` (lines/specs/Buffer.antt); rows and line_starts call it.
+// The line is `mixedLine` (specs/Buffer.antt); rows and line_starts call it.
+use crate::place;
+use crate::place_a;
 use forms::LineNumber;
 use integers::number;
-use lines::place;
-use lines::place_a;
 ghost use Prim.Native.Nat.{_*_};
 ghost use Rattle.lines.specs.Buffer.{size, SumAsked, LineTerms, Mixes};
 
 // One form of a new line, number by number in the steps of FM-ELIM: α·s, then β·t, then their sum, up to the first that is out of range; whether there is none. The w numbers of s, of t and of the new form start at these places.
 fn mix_numbers(

@@ -1,12 +1,12 @@
--- `line_sums::mix_whole` meets its contract. Assumes nothing.
+-- `lines::sums::mix_whole` meets its contract. Assumes nothing.
 use native.Mathlib.Omega.{arith}
 use mir.ValLaws.{toZ-ofZ}
 use Rattle.lines.proofs.Parts.{agree-refl}
 use Rattle.lines.proofs.Lines.{before}
 use Rattle.lines.proofs.Mixing.{terms}
 use borrow.Author.Needs.{needs}
-use Rattle.line_sums.proofs.mix_whole.Statement.{statement}
-use Rattle.line_sums.proofs.mix_whole.Tie as tie
+use Rattle.lines.proofs.sums.mix_whole.Statement.{statement}
+use Rattle.lines.proofs.sums.mix_whole.Tie as tie
 
 place-requires : tie.Need-place-requires
 place-requires c κs = search needs

@@ -1,15 +1,15 @@
--- `line_sums::mix` meets its contract. Assumes nothing.
+-- `lines::sums::mix` meets its contract. Assumes nothing.
 use Prim.Native.Nat.{_*_}
 use native.Mathlib.Omega.{arith}
 use mir.ValLaws.{toZ-ofZ}
 use Rattle.lines.specs.Parts.{Agree}
 use Rattle.lines.proofs.Parts.{agree-refl, agree-le}
 use Rattle.lines.specs.Buffer.{size}
 use Rattle.lines.proofs.Lines.{before}
 use Rattle.lines.proofs.Mixing.{terms, form-fails, mixed-forms}
 use borrow.Author.Needs.{needs}
-use Rattle.line_sums.proofs.mix.Statement.{statement}
-use Rattle.line_sums.proofs.mix.Tie as tie
+use Rattle.lines.proofs.sums.mix.Statement.{statement}
+use Rattle.lines.proofs.sums.mix.Tie as tie
 
 place-requires : tie.Need-place-requires
 place-requires c κs = search needs
