@@ -2,10 +2,10 @@
 // The lines are `startedLine` and `negatedLine` (lines/specs/Buffer.antt); openings and branches call it.
 use forms::LineNumber;
 use integers::number;
-use line_sums::mix_whole;
 use lines::kinds::set_kind;
 use lines::place;
 use lines::place_a;
+use lines::sums::mix_whole;
 ghost use mathlib.Core.Path.{_≡_};
 ghost use mathlib.Core.Bool.{_&&_};
 ghost use Prim.Native.Nat.{_+_, _*_, _<_, _≤_};

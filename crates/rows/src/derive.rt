@@ -42,7 +42,7 @@ fn append(
     let next = counted.tally;
     let n = tally.lines;
     if made {
-        if line_sums::mix_line(lines, form_first, f, i, g, j, n, k) {
+        if lines::sums::mix_line(lines, form_first, f, i, g, j, n, k) {
             set_kind(kinds, n, kind);
             return Derived::Made { tally: next };
         }
@@ -51,7 +51,7 @@ fn append(
     Derived::Refused { number: 16 }
 }
 
-// FM-ELIM of Figure 6 in source 000: α·s, then β·t, then their sum αs + βt; then the partial interpolants in the same steps, αsA + βtA (`line_sums::mix`). 10, 11, 12, then as `append`.
+// FM-ELIM of Figure 6 in source 000: α·s, then β·t, then their sum αs + βt; then the partial interpolants in the same steps, αsA + βtA (`lines::sums::mix`). 10, 11, 12, then as `append`.
 pub fn combine(
     lines: &mut [i32],
     kinds: &mut [u8],

@@ -24,9 +24,9 @@ use Rattle.bundle_load.specs.Load.{lineOf, Space, Loaded, Able}
 use Rattle.bundle_load.proofs.Loading.{space-less, space-kept, loaded-none, loaded-then}
 use Rattle.chains.specs.Runs.{Run, joined, upTo, beyond}
 use Rattle.run.specs.Run.{parts, readStages, constantsOf, runOf}
-use Rattle.run_cuts.specs.Staged.{stages, Staged}
+use Rattle.run_stages.specs.Staged.{stages, Staged}
 use Rattle.run_cuts.specs.Cuts.{cutLines, LoadsCut}
-use Rattle.run_cuts.proofs.StagesInTurn.{PartsLeft, parts-start, between, parts-next, parts-on, parts-none, ReadOn, reads-on, reads-none, scan-refused}
+use Rattle.run_stages.proofs.StagesInTurn.{PartsLeft, parts-start, between, parts-next, parts-on, parts-none, ReadOn, reads-on, reads-none, scan-refused}
 
 -- ---- they are the lines of check's two sides
 map-append : {X Y : Type 0} (f : X → Y) (xs ys : List X) → map f (xs ++ ys) ≡ map f xs ++ map f ys

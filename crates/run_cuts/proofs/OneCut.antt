@@ -29,7 +29,7 @@ use Rattle.branches.proofs.Spare.{spare-less}
 use Rattle.bundle_load.specs.Load.{lineOf, Space}
 use Rattle.chains.specs.Runs.{Run, joined, upTo, beyond}
 use Rattle.run.specs.Run.{claimRefused, checkCut}
-use Rattle.run_cuts.specs.Staged.{stages}
+use Rattle.run_stages.specs.Staged.{stages}
 use Rattle.run_cuts.specs.Cuts.{cutLines, LoadsCut, claimedAs, RootChecked, CutAsked, CutChecked}
 use Rattle.run_cuts.specs.declared.cut.Cut.{Cut}
 use Rattle.run_cuts.specs.declared.cut.Cut.the-variants as cut

@@ -24,7 +24,7 @@ use Rattle.bundle_load.specs.Load.{lineOf, Loaded}
 use Rattle.chains.specs.Runs.{Run}
 use Rattle.run.specs.Uniform.{withNumber}
 use Rattle.run.specs.Run.{claimRefused, checkCut}
-use Rattle.run_cuts.specs.Staged.{stages, Staged}
+use Rattle.run_stages.specs.Staged.{stages, Staged}
 use Rattle.run_cuts.specs.declared.cut.Cut.{Cut}
 use Rattle.run_cuts.specs.declared.cut.Cut.the-variants as cut
 

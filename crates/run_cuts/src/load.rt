@@ -5,7 +5,7 @@ use bundle_scan::scan;
 use forms::LineNumber;
 use forms::coefficient_bytes;
 ghost use Rattle.bundle_load.specs.Load.{Space};
-ghost use Rattle.run_cuts.specs.Staged.{Staged};
+ghost use Rattle.run_stages.specs.Staged.{Staged};
 ghost use Rattle.run_cuts.specs.Cuts.{LoadsCut};
 
 // Cut c. The stages have K constants and so many constraints.

@@ -8,15 +8,15 @@ use forms::LINES;
 use forms::LINES_1;
 use forms::NEWEST;
 use forms::PROOF_BYTES;
-use run_deliver::deliver::check_run;
-use run_deliver::deliver::refusal;
+use run_cuts::deliver::check_run;
+use run_cuts::deliver::refusal;
 use run_stages::reading::Read;
 use run_stages::reading::long_stage;
 use run_stages::reading::parted;
 use run_stages::reading::read_stages;
 ghost use mathlib.Core.Path.{_≡_};
 ghost use Rattle.run.specs.Promises.{WritesGuards};
-ghost use Rattle.run_deliver.specs.Guards.{StagesPassed, ProofBegun};
+ghost use Rattle.run_cuts.specs.Guards.{StagesPassed, ProofBegun};
 
 // The most constraints of all stages together.
 const ALL_CONSTRAINTS: usize = 64;

@@ -1,2 +1,3 @@
--- The stages parted, tested for their lengths, and read.
+-- The stages one after the other; parted, tested for their lengths, and read.
+pub mod StagesInTurn
 pub mod StagesRead

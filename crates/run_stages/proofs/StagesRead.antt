@@ -21,8 +21,8 @@ use Rattle.bundle_scan.specs.declared.Scanned.{Scanned}
 use Rattle.bundle_scan.proofs.Bodies as bodies
 use Rattle.chains.specs.Runs.{joined}
 use Rattle.run.specs.Run.{total, parts, parted, stagesShort, readStages, constantsOf, runOf}
-use Rattle.run_cuts.specs.Staged.{staged}
-use Rattle.run_cuts.proofs.StagesInTurn.{PartsLeft, parts-start, between, total-on, part-upto, parts-next, parts-on, parts-none, scan-refused}
+use Rattle.run_stages.specs.Staged.{staged}
+use Rattle.run_stages.proofs.StagesInTurn.{PartsLeft, parts-start, between, total-on, part-upto, parts-next, parts-on, parts-none, scan-refused}
 use Rattle.run_stages.specs.Reading.{LengthsAddUp, FindsLong, ReadsStages}
 use Rattle.run_stages.specs.declared.reading.Read.the-variants as read
 

@@ -8,7 +8,7 @@ use Rattle.forms.specs.Edition.{edition1, newestEdition}
 use Rattle.answers.specs.Answers.{answer, Result, refused, accepted}
 use Rattle.chains.specs.Runs.{joined}
 use Rattle.run.specs.Run.{mostStages, firstStage, total, parts, stagesShort, readStages, constantsOf}
-use Rattle.run_cuts.specs.Staged.{staged, stages}
+use Rattle.run_stages.specs.Staged.{staged, stages}
 use Rattle.run_stages.specs.declared.reading.Read.{Read}
 use Rattle.run_stages.specs.declared.reading.Read.the-variants as read
 

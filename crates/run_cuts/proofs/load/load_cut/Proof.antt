@@ -2,7 +2,7 @@
 use native.Mathlib.Omega.{arith}
 use Prim.Native.Nat.{_-_}
 use lib.ListN.{length}
-use Rattle.run_cuts.proofs.StagesInTurn.{part-upto, scan-bundle}
+use Rattle.run_stages.proofs.StagesInTurn.{part-upto, scan-bundle}
 use Rattle.run_cuts.proofs.CutLines.{LoadingCut, cut-start, cut-done, cut-refused, cut-few, cut-able, cut-next}
 use borrow.Author.Needs.{needs}
 use Rattle.run_cuts.proofs.load.load_cut.Statement.{statement}

@@ -1,2 +1,0 @@
--- All cuts, from the last down.
-pub mod AllCuts

@@ -1,2 +1,0 @@
--- The contracts of all cuts together.
-pub mod All
