@@ -138,16 +138,16 @@ fn check_within(
 }
 
 // The sizes of the arrays. An array is cleared before it is used, which takes longer than the check of a short proof, so a
-// short proof is given little: check_N is for proofs of N bytes at most. (A row has six bytes or so.)
+// short proof is given little: check_N is for proofs of N bytes at most, or that need no more. (A row has six bytes or so.)
 // A row makes one line at most, and has four bytes, in edition 2 five: there is room for the lines of two constraints, of N / 4
 // rows and for one that is being made, each of 16 constants (in check_24 and check_41 of 7). With fewer constants there is room
 // for more lines; a line has four numbers at least, so a kind for each four numbers is enough.
 // Up to check_248 the scratch has BYTE_BYTES for each byte: a close has a field of four bytes at least, and adds 156 bytes to the
 // formula at most: its own part over 16 constants has 75, the stride part before it, where it closes a branch of a rounding, 75
 // too, and 6 are for the heads of an and and an or.
-// A longer proof is tried with TRIED_BYTES for each of 960 bytes, and checked again with room for every formula where these are too
-// few. Where nothing is rounded they are not: 12 bytes, or 3 fields, hold a strengthen and two closes and add 148 bytes. (That is
-// by reckoning; nothing rests on it.) The arrays of check_960 then have 31 KB and those of check_wide_960 40 KB, about what the
+// Another proof, if `is_tried`, is tried with TRIED_BYTES for each of 960 bytes, and checked again with room for every formula where
+// these are too few. Where nothing is rounded they are not: a strengthen and two closes are 3 fields of 12 bytes and add 148 bytes,
+// or of 16 and add 156. (That is by reckoning; nothing rests on it.) The arrays of check_960 then have 31 KB and those of check_wide_960 40 KB, about what the
 // first cache holds; what is larger takes longer by the byte (docs/SPEED.md).
 const BYTE_BYTES: usize = 39;
 
@@ -298,7 +298,8 @@ fn check_248(
     )
 }
 
-// A proof that is tried has at most so many bytes or, with claims, so many fields. A longer one is not gone over for that.
+// A proof that is tried has at most so many bytes or, with claims, fewer fields than so many, notes among them. One of more bytes
+// than the last of these is not gone over for that.
 const TRIED_PROOF: usize = 960;
 
 const TRIED_FIELDS: usize = 192;
@@ -352,7 +353,7 @@ fn is_tried(proof: &[u8], from: usize) -> bool {
     false
 }
 
-// Tried: where the formula is longer than the scratch the answer is TOO_LONG.
+// Tried: where the formula is longer than the scratch, or the proof is not for it, the answer is TOO_LONG.
 fn check_960(
     a: &[u8],
     b: &[u8],
@@ -554,7 +555,7 @@ fn most_lines(e: u8, count: usize) -> usize
 }
 
 // The lines, and then the root, with arrays for the lines that the proof may make by its bytes.
-// To count its rows would take longer than to clear what is then not used.
+// To count its rows would take longer than to clear what is then not used, but where there are claims (`is_tried`).
 pub fn check_lines(
     a: &[u8],
     b: &[u8],

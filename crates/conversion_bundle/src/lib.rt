@@ -84,7 +84,7 @@ fn first_long(s: &[u8], at: usize, k: u8, count: usize) -> Survey
 }
 
 // The same for the edition asked for: edition 2 holds every number of edition 1, so that nothing is gone over.
-pub fn first_unheld(s: &[u8], at: usize, k: u8, count: usize, to: u8) -> Survey
+pub fn first_field_unheld(s: &[u8], at: usize, k: u8, count: usize, to: u8) -> Survey
     requires { ⌜ ConstraintsLeft (oldWidth to) k 0 count (now s) at ⌝ }
     ensures { λ r. ⌜ numbersHeld to k (fieldsAt (now (s .entry)) at) ≡ surveyOf fileA r ⌝ }
 {
@@ -96,7 +96,7 @@ pub fn first_unheld(s: &[u8], at: usize, k: u8, count: usize, to: u8) -> Survey
 
 // ---- constraints written
 // n numbers of `from` bytes each, written in `width` bytes each.
-fn put_run(s: &[u8], start: usize, from: usize, n: usize, width: usize, out: &mut [u8], o: usize)
+fn turn_run(s: &[u8], start: usize, from: usize, n: usize, width: usize, out: &mut [u8], o: usize)
     requires { ⌜ ((from ≡ 2) ⊎ (from ≡ 4)) × ((width ≡ 2) ⊎ (width ≡ 4)) ⌝ }
     requires { ⌜ start + n * from ≤ length (now s) ⌝ }
     requires { ⌜ every (holdable width) (signeds from n (drop start (now s))) ≡ true ⌝ }
@@ -119,7 +119,7 @@ fn old_bytes(to: u8) -> usize
 }
 
 // One constraint's field in the edition asked for. Two calls, so that the compiler makes a loop for each pair of widths.
-fn put_constraint(s: &[u8], tag: u8, start: usize, k: u8, to: u8, out: &mut [u8], o: usize)
+fn turn_constraint(s: &[u8], tag: u8, start: usize, k: u8, to: u8, out: &mut [u8], o: usize)
     requires { ⌜ start + (k + 1) * oldWidth to ≤ length (now s) ⌝ }
     requires { ⌜ every (holdable (newWidth to)) (signeds (oldWidth to) (k + 1) (drop start (now s))) ≡ true ⌝ }
     requires { ⌜ o + fieldSize (newWidth to) k ≤ length (now out) ⌝ }
@@ -128,14 +128,14 @@ fn put_constraint(s: &[u8], tag: u8, start: usize, k: u8, to: u8, out: &mut [u8]
     let n = k as usize + 1;
     put_head(out, o, tag, n * coefficient_bytes(to));
     if to == 1 {
-        put_run(s, start, 4, n, 2, out, o + 3);
+        turn_run(s, start, 4, n, 2, out, o + 3);
         return;
     }
-    put_run(s, start, 2, n, 4, out, o + 3);
+    turn_run(s, start, 2, n, 4, out, o + 3);
 }
 
 // The count constraints from at on, one after the other, from o on.
-fn put_constraints(s: &[u8], at: usize, k: u8, count: usize, to: u8, out: &mut [u8], o: usize)
+fn turn_constraints(s: &[u8], at: usize, k: u8, count: usize, to: u8, out: &mut [u8], o: usize)
     requires { ⌜ ConstraintsLeft (oldWidth to) k 0 count (now s) at ⌝ }
     requires { ⌜ numbersHeld to k (fieldsAt (now s) at) ≡ accepted tt ⌝ }
     requires { ⌜ o + count * fieldSize (newWidth to) k ≤ length (now out) ⌝ }
@@ -150,7 +150,7 @@ fn put_constraints(s: &[u8], at: usize, k: u8, count: usize, to: u8, out: &mut [
     while n < count {
         let tag = s[here];
         if tag < 0x80 {
-            put_constraint(s, tag, here + 3, k, to, out, end);
+            turn_constraint(s, tag, here + 3, k, to, out, end);
             here += size;
             end += turned;
             n += 1;
@@ -168,5 +168,5 @@ pub fn put_turned(s: &[u8], at: usize, k: u8, count: usize, to: u8, out: &mut [u
     ensures { λ _. ⌜ now (out .exit) ≡ sets (now (out .entry)) 0 (bundleTurnedBytes to k (fieldsAt (now (s .entry)) at)) ⌝ }
 {
     put_header(out, to, k);
-    put_constraints(s, at, k, count, to, out, 8);
+    turn_constraints(s, at, k, count, to, out, 8);
 }

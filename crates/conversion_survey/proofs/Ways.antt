@@ -324,10 +324,6 @@ module _ (a b : ℕ) where
   unfolding eachField
   fits-ends e = rw e
 
-  pub turned-cut : {fs : Fields} {c : ℕ} → fs ≡ cut c → turned fs ≡ []
-  unfolding fieldsTurned
-  turned-cut e = rw e
-
   pub turned-ends : {fs : Fields} {c : ℕ} → fs ≡ ends c → turned fs ≡ []
   unfolding fieldsTurned
   turned-ends e = rw e
@@ -382,9 +378,6 @@ module _ (a b : ℕ) {s : List ℕ} {at c t start len next : ℕ} (k : Starts s 
 
   pub len-most : length s ≤ 65_536 → len ≤ 65_536
   len-most h = omega (arith, k .upto, k .next-is)
-
-pub size-cut : (a b : ℕ) {fs : Fields} {c : ℕ} {n size : ℕ} → n ≡ size + length (turned a b fs) → fs ≡ cut c → size ≡ n
-size-cut a b {fs} e f = omega (arith, e, ap length (turned-cut a b f))
 
 pub size-ends : (a b : ℕ) {fs : Fields} {c : ℕ} {n size : ℕ} → n ≡ size + length (turned a b fs) → fs ≡ ends c → size ≡ n
 size-ends a b {fs} e f = omega (arith, e, ap length (turned-ends a b f))

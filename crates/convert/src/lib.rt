@@ -6,7 +6,7 @@ use answers::refusal;
 use bundle_scan::Body;
 use bundle_scan::Scanned;
 use bundle_scan::scan;
-use conversion_bundle::first_unheld;
+use conversion_bundle::first_field_unheld;
 use conversion_bundle::put_turned;
 use conversion_survey::Entries;
 use conversion_survey::Survey;
@@ -115,7 +115,7 @@ fn turn_constraints(file: &[u8], k: u8, body: Body, to: u8, out: &mut [u8]) -> W
     requires { ⌜ ToHold to (now file) k body ⌝ }
     ensures { λ r. ⌜ TurnsBundle to (now (file .entry)) (now (out .entry)) (now (out .exit)) r ⌝ }
 {
-    match first_unheld(file, body.at, k, body.count, to) {
+    match first_field_unheld(file, body.at, k, body.count, to) {
         Survey::Fine => put_bundle(file, k, body, to, out),
         Survey::Refused { number, place } => refused(number, 1, place),
     }

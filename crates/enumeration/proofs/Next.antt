@@ -10,7 +10,7 @@ use lib.ListN.{length, length-append, length-map}
 use Rattle.forms.specs.Forms.{All, nil, cons, lines, lineA, lineB}
 use Rattle.calculus.specs.Rules.{Row}
 use Rattle.answers.specs.Answers.{answer, fileLent, Result, refused, accepted, _>>=_}
-use Rattle.answers.proofs.Results.{binds, bind-refused}
+use Rattle.answers.proofs.Results.{binds}
 use Rattle.number_bytes.specs.Same.{sameBytes}
 use Rattle.number_bytes.proofs.Comparing.{same-is, same-refl}
 use Rattle.enumeration.specs.ShortProofs.{_∈_, here, there, proofFile, ShortProof}
@@ -127,8 +127,3 @@ module _ (A B given : List ℕ) {K : ℕ} {rss : List (List Row)} (l : Listing A
 pub next-turns : (A B given : List ℕ) (K : ℕ) (rss : List (List Row)) → shortProofs A B ≡ accepted (K, rss) → NextIs A B given K (nextFile A B given)
 unfolding nextFile
 next-turns A B given K rss e = subst (NextIs A B given K) (sym (binds _ e)) (rows-turn A B given (shortProofs-gives A B .gives (K, rss) e))
-
--- Refusals of A and B come first, as check gives them, and then 8.
-pub next-refused : (A B given : List ℕ) {a : _} → shortProofs A B ≡ refused a → nextFile A B given ≡ refused a
-unfolding nextFile
-next-refused A B given e = bind-refused _ e

@@ -1,5 +1,5 @@
 -- Rows by number: how many, and their bytes. Assumes nothing.
-use mathlib.Core.Path.{_≡_, refl, sym, ap}
+use mathlib.Core.Path.{_≡_, refl}
 use mathlib.Core.List.{[], _∷_}
 use Prim.Native.Nat.{ℕ, zero, suc, _+_, _-_, _*_, _/_, _%_, _≤_, _<_}
 use native.Mathlib.Nat.{mul-assoc, mul-le-mul}
@@ -66,9 +66,6 @@ stride-bytes n c h = rw (le-ltb c n h)
 -- ---- small tables
 pub low-last : (m : ℕ) → ¬ (m ≡ 0) → ¬ (m ≡ 1) → ¬ (m ≡ 2) → 0xFF ≡ factorLow m
 low-last m a b d = rw (ne-eqb m 0 a, ne-eqb m 1 b, ne-eqb m 2 d)
-
-pub low-third : (m : ℕ) → m ≡ 2 → 0xFE ≡ factorLow m
-low-third m e = ap factorLow (sym e)
 
 pub high-first : (m : ℕ) → m < 2 → 0 ≡ factorHigh m
 high-first m h = rw (lt-ltb m 2 h)

@@ -71,7 +71,8 @@ pub enum Next {
     },
 }
 
-// Notes are passed over here; only where whole fields are known to stand does bundle_read pass them over by the tag alone.
+// Notes are passed over here; only where whole fields are known to stand do bundle_read and conversion_bundle pass them over by
+// the tag alone.
 fn next_at(s: &[u8], at: usize) -> Next
     ensures { λ r. ⌜ r ≡ nextOf (fieldsAt (now (s .entry)) at) ⌝ }
 {

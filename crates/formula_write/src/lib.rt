@@ -1,4 +1,4 @@
-// Writing a formula's bytes into a scratch that is lent. Where they do not fit nothing is written.
+// Writing a formula's bytes into a scratch that is lent. A part that does not fit is not written.
 // The bytes are those of `encode` (formula/specs/Formula.antt): specs/Writing.antt. closes, openings and branches call it.
 ghost use mathlib.Core.Path.{_≡_};
 ghost use mathlib.Core.List.{[], _++_};

@@ -12,7 +12,7 @@ use Rattle.proof.specs.Tree.{OpenStep, openStep, Tree, tree, afterClose, roundi
 use Rattle.run.specs.Uniform.{withNumber}
 
 -- ---- unlike branches
--- The branch at the front of fs, before which the tree was t: its fields, notes aside, up to a close, 0x14 or 0x15, behind which the steps are `closed`; the rows up to there, the fields behind it, and 28 at that row.
+-- The branch at the front of fs, before which the tree was t: its fields, notes aside, up to a close, 0x14 or 0x15, behind which the steps are `closed`; the rows up to there, the fields behind it, and 28 at that row. (Where no step is then open that does not shut out fields behind the root's close, which come to 19 first.)
 pub data BranchFields (closed : List OpenStep) : Tree → Fields → List Item → (rows : ℕ) → (after : Fields) → Answer → Type 0 where
   closes : {t : Tree} (f : Field) {fs : Fields} {a : Answer} → (f .tag ≡ 0x14) ⊎ (f .tag ≡ 0x15) → afterClose (t .steps) ≡ closed → a ≡ answerAt (t .rows) (innermost (t .steps)) 28 fileProof (f .at)
       → BranchFields closed t (f ▸ fs) (item (f .tag) (f .contents) ∷ []) (suc (t .rows)) fs a

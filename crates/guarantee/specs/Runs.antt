@@ -183,7 +183,7 @@ pub record NotedStage (F F′ : List ℕ) : Type 0 where
   pub noted : Noted F F′
   pub kept : Kept (bundleLimit F) F F′
 
--- The places of the stages, the first of these being this file, and those of a run's files. (With file 4 the place is a number of bytes, and stays.)
+-- The places of the stages, the first of these being this file, and those of a run's files. (With file 4 it is no place in a file, and stays.)
 unfoldable pub stagePlaces : (first : ℕ) {Fs Fs′ : List (List ℕ)} → Each NotedStage Fs Fs′ → (file place : ℕ) → ℕ
 stagePlaces first nil file p = p
 stagePlaces first (cons n ns) file p = cond (eqb file first) (movedBy (n .noted) p) (stagePlaces (suc first) ns file p)
@@ -191,7 +191,7 @@ stagePlaces first (cons n ns) file p = cond (eqb file first) (movedBy (n .noted)
 unfoldable pub runPlaces : {Fs Fs′ : List (List ℕ)} {proof proof′ : List ℕ} → Each NotedStage Fs Fs′ → Noted proof proof′ → (file place : ℕ) → ℕ
 runPlaces ns nP file p = cond (eqb file fileProof) (movedBy nP p) (stagePlaces firstStage ns file p)
 
--- Whole notes between whole fields, in the stages and in the proof, change no number, file, row, step or branch, no count and no byte of the outputs, and the place stands where they move it: as of check.
+-- Whole notes between whole fields, in the stages and in the proof, change no number, file, row, step or branch, no count and no byte of the outputs, where no file gets too long by them, and the place stands where they move it: as of check.
 pub record RunNotes : Type 0 where
   pub passed-over : (Fs Fs′ : List (List ℕ)) (proof proof′ output sizes left left′ sizesLeft sizesLeft′ : List ℕ) (r r′ : WriteResult) (ns : Each NotedStage Fs Fs′) (nP : Noted proof proof′) → Kept (edition1 .proofBytes) proof proof′
       → WritesGuards (joined Fs) (map length Fs) proof output sizes left sizesLeft r → WritesGuards (joined Fs′) (map length Fs′) proof′ output sizes left′ sizesLeft′ r′

@@ -52,7 +52,7 @@ pub record Delivered (FA FB : List Item) (MA MB : Meaning) (proof output left : 
   pub interpolant : Interpolant (MA FA .1) (MB FB .1) formula
 
 -- Whole notes between whole fields change no number, file, row, step or branch, no count and no output byte, where no file gets too long by them: a bundle, by the lengths given.
--- The place stands where the notes move it: in a file where the same field, or the end, now stands; with file 4 it is a number of bytes, and the whole answer stays.
+-- The place stands where the notes move it: in a file where the same field, the end, or bytes that are no whole field, now stand; 1 stays at place 0, whatever note comes first; with file 4 the whole answer stays.
 abbrev pub NotesPassedOver : (lengthA lengthB : (A B proof : List ℕ) → ℕ) → Type 0
 NotesPassedOver lengthA lengthB =
     (A A′ B B′ proof proof′ output left left′ : List ℕ) (r r′ : WriteResult) (nA : Noted A A′) (nB : Noted B B′) (nP : Noted proof proof′)

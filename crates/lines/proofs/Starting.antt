@@ -82,15 +82,7 @@ pub plus-none : (t : Form) → t plus 0 ≡ t
 unfolding _plus_
 plus-none t = form-ext refl (+ℤ-idr (t .d))
 
--- ---- two constant terms that are in range: by a test of both, and where the line that has them is
-pub tested-both : {z w : ℤ} {r : Bool} → r ≡ small (edition1 .range) z && small (edition1 .range) w → r ≡ true → Within (edition1 .range) z × Within (edition1 .range) w
-unfolding small
-tested-both {z} {w} e h =
-    let both = subst T (sym (sym e ∙ h)) tt in (
-      record { abs = leb→le _ _ (and-left (small (edition1 .range) z) (small (edition1 .range) w) both) },
-      record { abs = leb→le _ _ (and-right (small (edition1 .range) z) (small (edition1 .range) w) both) },
-    )
-
+-- ---- two constant terms that are in range where the line that has them is
 pub terms-within : (x y : ℕ) (k : Kind) (t tA : Form) → T (inRange (edition1 .range) (line k (t plus x) (tA plus y))) → Within (edition1 .range) (t .d +ℤ pos x) × Within (edition1 .range) (tA .d +ℤ pos y)
 unfolding inRange small _plus_
 terms-within x y k t tA h =

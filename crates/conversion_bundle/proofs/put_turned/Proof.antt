@@ -10,11 +10,11 @@ use Rattle.conversion_bundle.proofs.put_turned.Tie as tie
 put-header-requires : tie.Need-put-header-requires
 put-header-requires c κs = omega (arith, c .before .before .before .pre .1 .1)
 
-put-constraints-requires : tie.Need-put-constraints-requires
-put-constraints-requires c κs = (c .before .before .before .before .before .before .before .pre .0, (c .before .before .before .before .before .before .before .pre .1 .0, omega (arith, c .before .before .before .before .before .before .before .pre .1 .1, c .before .before .before .put-header .kept .0)))
+turn-constraints-requires : tie.Need-turn-constraints-requires
+turn-constraints-requires c κs = (c .before .before .before .before .before .before .before .pre .0, (c .before .before .before .before .before .before .before .pre .1 .0, omega (arith, c .before .before .before .before .before .before .before .pre .1 .1, c .before .before .before .put-header .kept .0)))
 
 returns : tie.Need-returns
-returns c = header-put (c .before .before .before .before .before .before .before .before .before .before .args .to) (c .before .before .before .before .before .before .before .before .before .before .args .k) (c .before .before .before .before .before .before .before .before .before .before .args .out .now) (constraintsTurned (c .before .before .before .before .before .before .before .before .before .before .args .to) (c .before .before .before .before .before .before .before .before .before .before .args .k) (fieldsAt (c .before .before .before .before .before .before .before .before .before .before .args .s .now) (c .before .before .before .before .before .before .before .before .before .before .args .at))) (c .before .before .before .before .before .before .put-header .ensures) (c .before .before .put-constraints .ensures)
+returns c = header-put (c .before .before .before .before .before .before .before .before .before .before .args .to) (c .before .before .before .before .before .before .before .before .before .before .args .k) (c .before .before .before .before .before .before .before .before .before .before .args .out .now) (constraintsTurned (c .before .before .before .before .before .before .before .before .before .before .args .to) (c .before .before .before .before .before .before .before .before .before .before .args .k) (fieldsAt (c .before .before .before .before .before .before .before .before .before .before .args .s .now) (c .before .before .before .before .before .before .before .before .before .before .args .at))) (c .before .before .before .before .before .before .put-header .ensures) (c .before .before .turn-constraints .ensures)
 
 same-length : tie.Need-same-length
 same-length c = search needs
@@ -24,6 +24,6 @@ put-turned-spec =
     tie.close
     (tie.spec
     put-header-requires
-    put-constraints-requires
+    turn-constraints-requires
     same-length
     returns)

@@ -1,4 +1,4 @@
--- `conversion_bundle::put_constraints` meets its contract. The invariant `Putting`: what is left to write gives what the whole gives. Assumes nothing.
+-- `conversion_bundle::turn_constraints` meets its contract. The invariant `Putting`: what is left to write gives what the whole gives. Assumes nothing.
 use mathlib.Core.Path.{_≡_, _∙_}
 use Prim.Native.Nat.{_+_, _*_, _-_, _≤_}
 use native.Mathlib.Nat.{mul-le-mul}
@@ -11,8 +11,8 @@ use Rattle.conversion.specs.Turning.{other}
 use Rattle.conversion_bundle.specs.Turned.{oldWidth}
 use Rattle.conversion_bundle.proofs.Putting.{Putting, putting-start, putting-room, putting-note, putting-done, putting-turn, putting-held, putting-next}
 use borrow.Author.Needs.{needs}
-use Rattle.conversion_bundle.proofs.put_constraints.Statement.{statement}
-use Rattle.conversion_bundle.proofs.put_constraints.Tie as tie
+use Rattle.conversion_bundle.proofs.turn_constraints.Statement.{statement}
+use Rattle.conversion_bundle.proofs.turn_constraints.Tie as tie
 
 abbrev Inv-loop : tie.InvT-loop
 Inv-loop s at k count to out₀ o many size turned here₀ end₀ n₀ out here end n = Putting to k count s at out₀ o out here end n
@@ -50,11 +50,11 @@ loop-holds c = putting-start (c .before .before .before .before .args .out .now)
 shared-slice-read-tag : tie.Need-shared-slice-read-tag Inv-loop μ-loop
 shared-slice-read-tag c = let k = left-took (c .before .before .loop .inv .left) (c .before .loop-test .taken) in omega (arith, k .upto)
 
-add-put-constraint : tie.Need-add-put-constraint Inv-loop μ-loop
-add-put-constraint c = let k = left-took (c .before .before .before .loop .inv .left) (c .before .before .loop-test .taken) in omega (arith, k .upto)
+add-turn-constraint : tie.Need-add-turn-constraint Inv-loop μ-loop
+add-turn-constraint c = let k = left-took (c .before .before .before .loop .inv .left) (c .before .before .loop-test .taken) in omega (arith, k .upto)
 
-put-constraint-requires : tie.Need-put-constraint-requires Inv-loop μ-loop
-put-constraint-requires c κs =
+turn-constraint-requires : tie.Need-turn-constraint-requires Inv-loop μ-loop
+turn-constraint-requires c κs =
     let k = took-starts (left-took (c .before .before .before .before .loop .inv .left) (c .before .before .before .loop-test .taken)) (c .before .if1 .taken) in
     (putting-turn (c .before .before .before .before .loop .inv) k .bytes, (putting-held (c .before .before .before .before .loop .inv) k, putting-room (c .before .before .before .before .loop .inv) (c .before .before .before .before .before .before .before .before .before .pre .1 .1) (c .before .before .before .loop-test .taken)))
 
@@ -86,7 +86,7 @@ loop-again c =
     let l = c .before .before .before .before .before .before .before .loop in
     let k = took-starts (left-took (c .before .before .before .before .before .before .before .loop .inv .left) (c .before .before .before .before .before .before .loop-test .taken)) (c .before .before .before .before .if1 .taken) in
     let z : l .here + (3 + (a .k + 1) * oldWidth (a .to)) ≡ l .here + 3 + (a .k + 1) * oldWidth (a .to) = omega arith in
-    rw (c .before .before .before .before .before .before .before .before .before .old-bytes .ensures, c .before .before .before .before .before .before .before .before .coefficient-bytes .ensures, z, ← putting-turn (l .inv) k .goes) (putting-next (l .inv) k (c .before .before .put-constraint .ensures))
+    rw (c .before .before .before .before .before .before .before .before .before .old-bytes .ensures, c .before .before .before .before .before .before .before .before .coefficient-bytes .ensures, z, ← putting-turn (l .inv) k .goes) (putting-next (l .inv) k (c .before .before .turn-constraint .ensures))
 
 add-unsigned-at : tie.Need-add-unsigned-at Inv-loop μ-loop
 add-unsigned-at c = let k = left-took (c .before .before .before .loop .inv .left) (c .before .before .loop-test .taken) in omega (arith, k .upto)
@@ -129,8 +129,8 @@ old-bytes-requires c κs = search needs
 coefficient-bytes-requires : tie.Need-coefficient-bytes-requires Inv-loop μ-loop
 coefficient-bytes-requires c κs = search needs
 
-pub put-constraints-spec : {M : Type 1} → statement M
-put-constraints-spec =
+pub turn-constraints-spec : {M : Type 1} → statement M
+turn-constraints-spec =
     tie.close
     (tie.spec
     Inv-loop
@@ -144,8 +144,8 @@ put-constraints-spec =
     add-turned
     loop-holds
     shared-slice-read-tag
-    add-put-constraint
-    put-constraint-requires
+    add-turn-constraint
+    turn-constraint-requires
     add-here
     add-end
     add-n

@@ -1,4 +1,4 @@
--- `conversion_bundle::put_constraint` meets its contract: in edition 1 numbers of four bytes become such of two, else the other way. Assumes nothing.
+-- `conversion_bundle::turn_constraint` meets its contract: in edition 1 numbers of four bytes become such of two, else the other way. Assumes nothing.
 use mathlib.Core.Path.{_≡_, refl, sym, ap, _∙_}
 use mathlib.Core.Logic.{inl, inr}
 use Prim.Native.Nat.{ℕ, _+_, _*_, _≤_}
@@ -8,8 +8,8 @@ use borrow.Author.Tests.{eq-eqb, ne-eqb}
 use Rattle.fields.proofs.Stores.{put-field}
 use Rattle.conversion_bundle.proofs.Putting.{run-size}
 use borrow.Author.Needs.{needs}
-use Rattle.conversion_bundle.proofs.put_constraint.Statement.{statement}
-use Rattle.conversion_bundle.proofs.put_constraint.Tie as tie
+use Rattle.conversion_bundle.proofs.turn_constraint.Statement.{statement}
+use Rattle.conversion_bundle.proofs.turn_constraint.Tie as tie
 
 mul-put-head : tie.Need-mul-put-head
 mul-put-head c =
@@ -19,11 +19,11 @@ mul-put-head c =
 put-head-requires : tie.Need-put-head-requires
 put-head-requires c κs = omega (arith, c .before .before .before .before .pre .1 .1)
 
-add-put-run : tie.Need-add-put-run
-add-put-run c = omega (arith, c .before .before .before .before .before .before .before .before .before .pre .1 .1)
+add-turn-run : tie.Need-add-turn-run
+add-turn-run c = omega (arith, c .before .before .before .before .before .before .before .before .before .pre .1 .1)
 
-put-run-requires : tie.Need-put-run-requires
-put-run-requires c κs =
+turn-run-requires : tie.Need-turn-run-requires
+turn-run-requires c κs =
     let p = rw (eq-eqb (c .before .before .before .before .before .before .before .before .before .args .to) 1 (c .before .if1 .taken)) at (c .before .before .before .before .before .before .before .before .before .pre) in
     ((inr refl, inl refl), (p .0, (p .1 .0, omega (arith, p .1 .1, c .before .before .before .before .put-head .kept .0))))
 
@@ -32,13 +32,13 @@ returns c =
     let a = c .before .before .before .before .before .before .before .before .before .before .before .before .args in
     let q = eq-eqb (a .to) 1 (c .before .before .before .before .if1 .taken) in
     let b : c .before .before .before .before .before .before .before .before .coefficient-bytes .result ≡ 2 = c .before .before .before .before .before .before .before .before .coefficient-bytes .ensures ∙ rw q in
-    rw q (put-field (a .out .now) (a .o) (a .tag) _ _ (c .before .before .before .before .before .before .before .put-head .ensures) (c .before .before .put-run .ensures) (run-size 4 2 (a .k + 1) (drop (a .start) (a .s .now)) ∙ ap (λ (m : ℕ). (a .k + 1) * m) (sym b)))
+    rw q (put-field (a .out .now) (a .o) (a .tag) _ _ (c .before .before .before .before .before .before .before .put-head .ensures) (c .before .before .turn-run .ensures) (run-size 4 2 (a .k + 1) (drop (a .start) (a .s .now)) ∙ ap (λ (m : ℕ). (a .k + 1) * m) (sym b)))
 
-add-put-run-2 : tie.Need-add-put-run-2
-add-put-run-2 c = omega (arith, c .before .before .before .before .before .before .before .before .before .pre .1 .1)
+add-turn-run-2 : tie.Need-add-turn-run-2
+add-turn-run-2 c = omega (arith, c .before .before .before .before .before .before .before .before .before .pre .1 .1)
 
-put-run-requires-2 : tie.Need-put-run-requires-2
-put-run-requires-2 c κs =
+turn-run-requires-2 : tie.Need-turn-run-requires-2
+turn-run-requires-2 c κs =
     let p = rw (ne-eqb (c .before .before .before .before .before .before .before .before .before .args .to) 1 (c .before .if1 .left)) at (c .before .before .before .before .before .before .before .before .before .pre) in
     ((inl refl, inr refl), (p .0, (p .1 .0, omega (arith, p .1 .1, c .before .before .before .before .put-head .kept .0))))
 
@@ -47,7 +47,7 @@ returns-2 c =
     let a = c .before .before .before .before .before .before .before .before .before .before .before .before .args in
     let q = ne-eqb (a .to) 1 (c .before .before .before .before .if1 .left) in
     let b : c .before .before .before .before .before .before .before .before .coefficient-bytes .result ≡ 4 = c .before .before .before .before .before .before .before .before .coefficient-bytes .ensures ∙ rw q in
-    rw q (put-field (a .out .now) (a .o) (a .tag) _ _ (c .before .before .before .before .before .before .before .put-head .ensures) (c .before .before .put-run2 .ensures) (run-size 2 4 (a .k + 1) (drop (a .start) (a .s .now)) ∙ ap (λ (m : ℕ). (a .k + 1) * m) (sym b)))
+    rw q (put-field (a .out .now) (a .o) (a .tag) _ _ (c .before .before .before .before .before .before .before .put-head .ensures) (c .before .before .turn-run2 .ensures) (run-size 2 4 (a .k + 1) (drop (a .start) (a .s .now)) ∙ ap (λ (m : ℕ). (a .k + 1) * m) (sym b)))
 
 add-n : tie.Need-add-n
 add-n c = search needs
@@ -61,19 +61,19 @@ same-length c = search needs
 same-length-2 : tie.Need-same-length-2
 same-length-2 c = search needs
 
-pub put-constraint-spec : {M : Type 1} → statement M
-put-constraint-spec =
+pub turn-constraint-spec : {M : Type 1} → statement M
+turn-constraint-spec =
     tie.close
     (tie.spec
     add-n
     coefficient-bytes-requires
     mul-put-head
     put-head-requires
-    add-put-run
-    put-run-requires
+    add-turn-run
+    turn-run-requires
     same-length
     returns
-    add-put-run-2
-    put-run-requires-2
+    add-turn-run-2
+    turn-run-requires-2
     same-length-2
     returns-2)

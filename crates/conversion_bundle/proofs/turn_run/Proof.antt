@@ -1,4 +1,4 @@
--- `conversion_bundle::put_run` meets its contract: what is left to write gives what the whole gives. Assumes nothing.
+-- `conversion_bundle::turn_run` meets its contract: what is left to write gives what the whole gives. Assumes nothing.
 use mathlib.Core.Path.{_≡_, refl, _∙_}
 use mathlib.Core.Bool.{true}
 use Prim.Native.Nat.{_+_, _*_, _-_, _≤_}
@@ -15,8 +15,8 @@ use Rattle.bundle.specs.Write.{holdable}
 use Rattle.conversion_bundle.proofs.Holding.{run-held}
 use Rattle.conversion_bundle.proofs.Putting.{run-next}
 use borrow.Author.Needs.{needs}
-use Rattle.conversion_bundle.proofs.put_run.Statement.{statement}
-use Rattle.conversion_bundle.proofs.put_run.Tie as tie
+use Rattle.conversion_bundle.proofs.turn_run.Statement.{statement}
+use Rattle.conversion_bundle.proofs.turn_run.Tie as tie
 
 abbrev Inv-loop : tie.InvT-loop
 Inv-loop s start from n width out₀ o i₀ out i =
@@ -82,8 +82,8 @@ add-i c = search needs
 loop-less : tie.Need-loop-less Inv-loop μ-loop
 loop-less c = search needs
 
-pub put-run-spec : {M : Type 1} → statement M
-put-run-spec =
+pub turn-run-spec : {M : Type 1} → statement M
+turn-run-spec =
     tie.close
     (tie.spec
     Inv-loop
