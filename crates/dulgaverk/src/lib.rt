@@ -17,7 +17,7 @@ ghost use Rattle.scheduler.specs.Scheduler.{empty};
 ghost use Rattle.scheduler.specs.Promises.{Submits, Cancels, Turns};
 ghost use Rattle.dulgaverk.specs.Jobs.{ChecksJob};
 ghost use Rattle.bundle_show.specs.Copied.{Copied};
-ghost use Rattle.shorten.specs.Promises.{Shortens};
+ghost use Rattle.shortening.specs.Promises.{Shortens};
 ghost use Rattle.run.specs.Promises.{WritesGuards};
 use answers::Answer;
 use answers::WriteResult;
@@ -38,8 +38,8 @@ use scheduler_turn::next_seat;
 use scheduler_turn::parts_within;
 use scheduler_turn::proof_of;
 use scheduler_turn::served;
-use shorten::ShortenResult;
 use shorten::shorten;
+use shortening::ShortenResult;
 
 #[no_mangle]
 pub extern "C" fn dulgaverk_read(file: &[u8], kinds: &mut [u8], numbers: &mut [i32]) -> ReadResult

@@ -10,8 +10,8 @@ use Rattle.proof.specs.Check.{check}
 use Rattle.proof.specs.Promises.{Checks}
 use Rattle.shortening.proofs.Needed.{depends-iff}
 use Rattle.shortening.proofs.Promised.{shortening-holds}
-use Rattle.shorten.specs.declared.ShortenResult.{ShortenResult}
-use Rattle.shorten.specs.Promises.{shortenedOf, Shortens}
+use Rattle.shortening.specs.declared.ShortenResult.{ShortenResult}
+use Rattle.shortening.specs.Promises.{shortenedOf, Shortens}
 use Rattle.guarantee.specs.RefusedIff.{LongFormula, bytesNeeded}
 use Rattle.guarantee.specs.Shortening.{ShorteningPromised}
 use Rattle.guarantee.proofs.RefusedIff.{refused-iff}

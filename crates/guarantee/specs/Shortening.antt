@@ -16,8 +16,8 @@ use Rattle.proof.specs.Layout.{Certifies}
 use Rattle.proof.specs.Promises.{Checks}
 use Rattle.shortening.specs.Needed.{DependsOn, dependsOn, withoutZeros}
 use Rattle.shortening.specs.Promised.{ReportAndTable, shorterBy, Shortenable, ShortOutputs, BothWritten}
-use Rattle.shorten.specs.declared.ShortenResult.{ShortenResult}
-use Rattle.shorten.specs.Promises.{shortenedOf, Shortens}
+use Rattle.shortening.specs.declared.ShortenResult.{ShortenResult}
+use Rattle.shortening.specs.Promises.{shortenedOf, Shortens}
 use Rattle.guarantee.specs.RefusedIff.{JustWhere, LongFormula, bytesNeeded}
 
 pub record ShorteningPromised : Type 0 where

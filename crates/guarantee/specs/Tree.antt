@@ -19,8 +19,8 @@ use Rattle.proof.specs.Promises.{Checks}
 use Rattle.enumeration.specs.Promises.{WritesNext}
 use Rattle.run.specs.Promises.{WritesGuards}
 use Rattle.conversion.specs.Promises.{TurnsBundle, TurnsProof}
-use Rattle.shorten.specs.declared.ShortenResult.{ShortenResult}
-use Rattle.shorten.specs.Promises.{Shortens}
+use Rattle.shortening.specs.declared.ShortenResult.{ShortenResult}
+use Rattle.shortening.specs.Promises.{Shortens}
 use Rattle.scheduler.specs.declared.Job.{Job}
 use Rattle.scheduler.specs.declared.Scheduler.{Scheduler}
 use Rattle.scheduler.specs.declared.Changed.{Changed}

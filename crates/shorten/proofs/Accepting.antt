@@ -45,8 +45,8 @@ use Rattle.check_sizes.specs.Sizes.{WithinLimits, Begun}
 use Rattle.checking.proofs.Phases.{long-A, long-B, long-P, unscanned-A, unscanned-B, scanned-both, unheaded, begun}
 use Rattle.shortening_marks.specs.Gathered.{rowsOf, Stating}
 use Rattle.shortening_marks.proofs.Gathering.{report-length}
-use Rattle.shorten.specs.declared.ShortenResult.{ShortenResult}
-use Rattle.shorten.specs.Promises.{shortenedOf, Shortens}
+use Rattle.shortening.specs.declared.ShortenResult.{ShortenResult}
+use Rattle.shortening.specs.Promises.{shortenedOf, Shortens}
 use Rattle.shorten.specs.Known.{Accepted, Stated, ShortensFields}
 
 -- ---- what the check tells, with an output of one byte: a formula's file has eight at least

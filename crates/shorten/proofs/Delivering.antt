@@ -30,8 +30,8 @@ use Rattle.shortening_marks.proofs.Reported.{stated-entries}
 use Rattle.shortening_table.specs.Table.{bytesFrom, ReportCovers}
 use Rattle.shortening_table.specs.Written.{tableFrom, Tells, TableWritable}
 use Rattle.shortening_table.proofs.Bytes.{row-field, counts}
-use Rattle.shorten.specs.declared.ShortenResult.{ShortenResult}
-use Rattle.shorten.specs.Promises.{shortenedOf}
+use Rattle.shortening.specs.declared.ShortenResult.{ShortenResult}
+use Rattle.shortening.specs.Promises.{shortenedOf}
 use Rattle.shorten.specs.Known.{Stated, Deliverable, ArraysFit, ShortensFields}
 
 -- ---- what becomes of the entries goes by the report alone, and not by what stands behind it

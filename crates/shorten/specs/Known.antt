@@ -15,8 +15,8 @@ use Rattle.proof.specs.Promises.{Checks}
 use Rattle.shortening.specs.Passes.{reportOn}
 use Rattle.shortening.specs.Shorten.{listOf, shorter, writtenBoth}
 use Rattle.shortening_marks.specs.Gathered.{rowsOf, Stating}
-use Rattle.shorten.specs.declared.ShortenResult.{ShortenResult}
-use Rattle.shorten.specs.Promises.{shortenedOf}
+use Rattle.shortening.specs.declared.ShortenResult.{ShortenResult}
+use Rattle.shortening.specs.Promises.{shortenedOf}
 
 -- A check with an output of one byte answered so.
 pub record CheckAnswered (A B proof : List ℕ) (answer : Answer) : Type 0 where

@@ -1,3 +1,2 @@
--- The operation.
-pub mod Promises
+-- What the operation knows on the way.
 pub mod Known

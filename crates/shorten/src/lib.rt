@@ -1,5 +1,5 @@
 // The operation that leaves out the rows on which nothing rests: document 02, point 12.
-// Its definition is shortening/specs/Shorten.antt, its contract specs/Promises.antt.
+// Its definition is shortening/specs/Shorten.antt, its contract shortening/specs/Promises.antt.
 use answers::Answer;
 use bundle_scan::Scanned;
 use bundle_scan::scan;
@@ -11,22 +11,15 @@ use forms::CONSTRAINTS;
 use forms::NEWEST;
 use forms::ROWS;
 use number_bytes::copy::copy_bytes;
+use shortening::ShortenResult;
 use shortening_marks::ProofBody;
 use shortening_marks::report_rows;
 use shortening_table::put_table;
 use shortening_table::table_bytes;
 ghost use mathlib.Core.Path.{_≡_};
 ghost use Rattle.fields.specs.Places.{fieldsAt};
-ghost use Rattle.shorten.specs.Promises.{Shortens};
+ghost use Rattle.shortening.specs.Promises.{Shortens};
 ghost use Rattle.shorten.specs.Known.{CheckAnswered, Accepted, Stated, Deliverable, ArraysFit, ShortensFields};
-
-// What shortening answers: how many rows it reported and how many bytes the table has, 0 where it is refused.
-#[repr(C)]
-pub struct ShortenResult {
-    pub answer: Answer,
-    pub rows: usize,
-    pub count: usize,
-}
 
 // The most rows, and the lines of two bundles, one for each row, and one more. A proof of 256 bytes has 64 rows at most, since
 // each has four bytes.

@@ -3,4 +3,5 @@ pub mod Needed
 pub mod Passes
 pub mod Shorten
 pub mod Stages
+pub mod Promises
 pub mod Promised

@@ -2,8 +2,8 @@
 use mathlib.Core.Path.{_≡_}
 use mathlib.Core.List.{List}
 use Prim.Native.Nat.{ℕ}
 use Rattle.shortening.specs.Shorten as definition
-use Rattle.shorten.specs.declared.ShortenResult.{ShortenResult}
+use Rattle.shortening.specs.declared.ShortenResult.{ShortenResult}
 
 -- The code's struct, and both outputs as they are left.
 abbrev pub shortenedOf : ShortenResult → (report table : List ℕ) → definition.Shortened
