@@ -324,6 +324,10 @@ module _ (a b : ℕ) where
   unfolding eachField
   fits-ends e = rw e
 
+  pub turned-cut : {fs : Fields} {c : ℕ} → fs ≡ cut c → turned fs ≡ []
+  unfolding fieldsTurned
+  turned-cut e = rw e
+
   pub turned-ends : {fs : Fields} {c : ℕ} → fs ≡ ends c → turned fs ≡ []
   unfolding fieldsTurned
   turned-ends e = rw e
