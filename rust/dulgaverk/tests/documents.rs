@@ -1,6 +1,7 @@
 //! docs/GUARANTEES.md names every file under specs/, those to be believed with their lines, and only files that are there;
 //! docs/MUST-FAIL.md names every edit, and only edits that are there;
 //! docs/PROOF.md and docs/LAWS.md name laws, contracts and functions that stand in the files they give for them;
+//! rust/trial names definitions that stand in the files it gives for them;
 //! README.md has every crate in its diagram and in its table, and only crates that are there.
 
 mod common;
@@ -143,6 +144,32 @@ fn names_of_the_tour_stand_in_their_files() {
 #[test]
 fn names_of_the_laws_stand_in_their_files() {
     names_stand_in_their_files("docs/LAWS.md", 100);
+}
+
+/// What `./trial` states about the definitions is made by rust/trial, which is not proved with the crates.
+#[test]
+fn names_of_the_trial_stand_in_their_files() {
+    let program = fs::read_to_string(root().join("rust/trial/src/main.rs")).expect("a program");
+    let mut found = 0;
+    for line in program.lines() {
+        let Some((path, names)) = line
+            .strip_prefix("use Rattle·")
+            .and_then(|line| line.strip_suffix('}')?.split_once(".{"))
+        else {
+            continue;
+        };
+        let file = root()
+            .join("crates")
+            .join(path.replacen('.', "/", 2))
+            .with_extension("antt");
+        let text = fs::read_to_string(&file).unwrap_or_else(|_| panic!("{path} is not there"));
+        for name in names.split(", ") {
+            let name = name.split(" as ").next().expect("a name");
+            assert!(declares(&text, name), "{name} is not in {path}");
+            found += 1;
+        }
+    }
+    assert!(found > 200, "{found} names");
 }
 
 #[test]

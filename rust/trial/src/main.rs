@@ -26,15 +26,16 @@ use Rattle.forms.specs.Reduced.{reduced}
 use Rattle.calculus.specs.Rules.{inRange}
 use Rattle.answers.specs.Answers.{position, answerAt, rowTold, _>>=_, _>>_, need, found, each, over, fit, written}
 use Rattle.number_bytes.specs.Numbers.{unsigned, complement, signed, unsignedBytes, residue, signedBytes, unsigneds, unsignedsBytes, signeds, signedsBytes, flat, formFrom, formBytes}
+use Rattle.number_bytes.specs.Same.{sameBytes}
 use Rattle.fields.specs.Fields.{front, note, unlessNote, fieldsFrom, fields, fieldBytes, nth, fileOf}
 use Rattle.fields.specs.Header.{headerTag, known, agrees, headerField, editionField, constantsField, header, finished, headerBytes}
-use Rattle.bundle.specs.Bundle.{kindTagged, atMost, formSmall, constraints, bundleHeader, bundle, bundles}
+use Rattle.bundle.specs.Bundle.{kindTagged, atMost, formSmall, constraints, bundleHeader, bundle, bundles, bothRead}
 use Rattle.bundle.specs.Read.{kindNumber, kindsOf, numbersOf, unread, store, stored, readBundle}
 use Rattle.bundle.specs.Write.{constraintsBytes, holdable, encodeBundle, writeBundle}
 use Rattle.bundle.specs.Show.{partOf, constraintPart, shownPart, answerOf, showAnswer, handed, showPart}
 use Rattle.formula.specs.Formula.{encode, formulaFile, formulaTagged, compound, formulaSize, formulaOf, formulaField, twoParts, formulaWithin, readFormula}
 use Rattle.formula.specs.Test.{holds, judge, tested, judged, testFormula}
-use Rattle.formula.specs.TestList.{vectors, listed, truths, testList}
+use Rattle.formula.specs.TestList.{vectors, readForList, truths, testList}
 use Rattle.printing.specs.Text.{decimalBy, decimal, termText, propText}
 use Rattle.printing.specs.Translation.{integer, unlessZero, termsOf, summed, termOf, smt}
 use Rattle.printing.specs.Words.{unlessNone, summandsOf, sumOf, worded}
@@ -46,9 +47,9 @@ use Rattle.conversion.specs.Turning.{asked, otherEdition, eachField, numbersFit
 use Rattle.proof.specs.Check.{checkRounded, checkSplit, checkRow, checkEntry, checkEntries, checkBranch, checkProof, formulaAtMost, interpolant, checkBy, check}
 use Rattle.shortening.specs.Shorten.{shorter, shortening, fitBoth, writtenBoth, shorten}
 use Rattle.enumeration.specs.ShortProofs.{rowItem, proofFile}
-use Rattle.enumeration.specs.Sequence.{concatMap, upFrom, combines, reduces, scales, inferences, numberCloses, strideCloses, closeRows, newLine, closeFormula, ifAccepted, proofsOf, shortProofsOf, bothRead, shortProofs}
-use Rattle.enumeration.specs.Next.{sameBytes as sameTable, firstRows, following, nextRows, nextFile, nextProof}
-use Rattle.run.specs.Uniform.{withNumber, sameBytes, sameItems, walkBranches, firstAndThird, allAlike, walkOpened, walkClosed, walkRow, walkEntry, walkEntries, walkBranch, uniform}
+use Rattle.enumeration.specs.Sequence.{concatMap, upFrom, combines, reduces, scales, inferences, numberCloses, strideCloses, closeRows, newLine, closeFormula, ifAccepted, proofsOf, shortProofsOf, shortProofs}
+use Rattle.enumeration.specs.Next.{firstRows, following, nextRows, nextFile, nextProof}
+use Rattle.run.specs.Uniform.{withNumber, sameItems, walkBranches, firstAndThird, allAlike, walkOpened, walkClosed, walkRow, walkEntry, walkEntries, walkBranch, uniform}
 use Rattle.run.specs.Run.{parted, total, parts, stagesShort, readStages, constantsOf, runOf, claimRefused, checkCut, both, checkCuts, checkRun, guardFiles, unwritten, fitGuards, writtenGuards, guardsBy, guards}
 use Rattle.scheduler.specs.Scheduler.{empty, isWaiting, submission, cancellation, nextFrom, nextSeat, checkJob, turnAt, turn as turned}
 use Rattle.scheduler.specs.Promises.{changed}
@@ -62,15 +63,16 @@ const BUNDLES: &str = "kindTagged atMost formSmall constraints bundleHeader bund
 const WRITING: &str =
     "over fit written unsignedBytes residue signedBytes signedsBytes fieldBytes headerBytes";
 const CHECK: &str = "rowTold remainder coeff sum value sums _⊞_ _·_ _plus_ nonzero reduced inRange formBytes finished encode formulaFile entryTagged inPlace lineNumber multiplier sizeOf entryFrom entry is plainKind owner fails equals sameForm lineAt derived fitting undivided inequality roundable disequality byNumber byStride states checkRounded checkSplit checkRow checkEntry checkEntries checkBranch checkProof formulaAtMost interpolant checkBy check";
-const NEXT: &str = "remainder coeff sum value sums _⊞_ _·_ nonzero reduced inRange is plainKind fails lineAt derived fitting byNumber byStride fileOf rowItem proofFile concatMap upFrom combines reduces scales inferences numberCloses strideCloses closeRows newLine closeFormula ifAccepted proofsOf shortProofsOf bothRead shortProofs sameTable firstRows following nextRows nextFile nextProof";
+const NEXT: &str = "remainder coeff sum value sums _⊞_ _·_ nonzero reduced inRange is plainKind fails lineAt derived fitting byNumber byStride fileOf rowItem proofFile concatMap upFrom combines reduces scales inferences numberCloses strideCloses closeRows newLine closeFormula ifAccepted proofsOf shortProofsOf bothRead shortProofs sameBytes firstRows following nextRows nextFile nextProof";
 const READ: &str = "over kindNumber kindsOf numbersOf unread store stored readBundle";
 const WRITE: &str = "each constraintsBytes holdable encodeBundle writeBundle";
-const SHOW: &str = "nth partOf constraintPart shownPart answerOf showAnswer handed showPart";
+const SHOW: &str =
+    "bothRead nth partOf constraintPart shownPart answerOf showAnswer handed showPart";
 const SEATS: &str =
     "isWaiting submission cancellation nextFrom nextSeat checkJob turnAt turned changed";
 const GUARDS: &str = "withNumber sameBytes sameItems walkBranches firstAndThird allAlike walkOpened walkClosed walkRow walkEntry walkEntries walkBranch uniform parted total parts stagesShort readStages constantsOf runOf claimRefused checkCut both checkCuts checkRun guardFiles unwritten fitGuards writtenGuards guardsBy guards";
 const TEST: &str = "each sum value finished formulaTagged compound formulaSize formulaOf formulaField twoParts formulaWithin readFormula holds judge tested judged testFormula";
-const LIST: &str = "over fit written vectors listed truths testList";
+const LIST: &str = "over fit written vectors readForList truths testList";
 const PRINT: &str = "over fit written nonzero decimal decimalBy textBehind printed printFormula";
 const PRINT_TERMS: &str = "integer unlessZero termsOf summed termOf smt termText propText";
 const PRINT_WORDS: &str =
