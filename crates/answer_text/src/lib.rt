@@ -1,5 +1,7 @@
 // What a program prints of an operation that writes bytes: the lines of an acceptance, or the line of a refusal.
 // specs/Lines.antt has the text; the check program prints it.
+#![tactic(auto)]
+
 ghost use Rattle.std.specs.Prelude.{◌+◌, ◌*◌, ◌≤◌, length, take};
 ghost use Rattle.io.specs.Counts.{IsPrefixLen};
 ghost use Rattle.answer_text.specs.Lines.{PutAccepted, AnswerLines};

@@ -1,5 +1,7 @@
 // The answer that every operation gives, and the functions that make one.
 // specs/Answers.antt has what an answer is, and results: the first refusal that applies, by which every operation is defined.
+#![tactic(auto)]
+
 ghost use Rattle.std.specs.Prelude.{◌≡◌};
 ghost use Rattle.answers.specs.Answers.{root, answer_at, answer, acceptance, row_told, refusal_at};
 
@@ -9,7 +11,7 @@ use integers::between;
 // An answer: a refusal's number, the file and the place at fault, all three 0 for accepted. Amid a proof it tells also the row at
 // fault, the row of the innermost open branching step, and its branch; each is 65,535 where there is none.
 #[repr(C)]
-#[derive(Drop)]
+#[derive(Clone, Copy)]
 pub struct Answer {
     pub number: u8,
     pub file: u8,
@@ -21,7 +23,7 @@ pub struct Answer {
 
 // Where in the tree a field of the proof stands: the innermost open branching step, by its row, and its branch; branches count
 // from 0 in file order. The root is no branch: both are 65,535.
-#[derive(Drop)]
+#[derive(Clone, Copy)]
 pub struct Position {
     pub step: RowNumber,
     pub branch: u16,
@@ -29,7 +31,7 @@ pub struct Position {
 
 // What an operation that writes bytes answers: how many it wrote, 0 where it is refused.
 #[repr(C)]
-#[derive(Drop)]
+#[derive(Clone, Copy)]
 pub struct WriteResult {
     pub answer: Answer,
     pub count: usize,

@@ -22,7 +22,7 @@ use rows::derive::Derived;
 use steps::{Stepped, step};
 use tally::{Tally, returned};
 
-#[derive(Drop)]
+#[derive(Clone, Copy)]
 pub enum Stop {
     // A refusal by a number at a place, before which there were so many rows.
     Fault {
@@ -184,7 +184,7 @@ pub fn entries(
     }
 }
 
-#[derive(Drop)]
+#[derive(Clone, Copy)]
 pub enum Branched {
     // A refusal, as in `Stop`, and the position of the branch that it stands in.
     Fault {
@@ -247,7 +247,7 @@ fn resumed(b: Branched, given: Tally) -> Branched
 
 // Where a branch starts: its first field is at `at` in the proof, its formula's first byte at `o` in the scratch; and K, which
 // goes along. One argument for three (docs/SPEED.md).
-#[derive(Drop)]
+#[derive(Clone, Copy)]
 pub struct Here {
     pub at: usize,
     pub k: usize,

@@ -1,6 +1,8 @@
 // The constraints of a bundle as lines of a branch; and those of A and B (`prepare`), which check starts with.
 // What it asks and leaves: specs/Load.antt for one bundle, specs/Both.antt for two; specs/Begun.antt has what a check knows then,
 // and proofs/Phases.antt each refusal before.
+#![tactic(auto)]
+
 pub mod load;
 
 ghost use Rattle.std.specs.Prelude.{◌+◌};

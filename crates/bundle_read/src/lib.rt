@@ -1,5 +1,7 @@
 // The operation read: a bundle into kinds and numbers.
 // Its definition is bundle/specs/Read.antt, its contract specs/Promises.antt.
+#![tactic(auto)]
+
 mod store;
 
 ghost use Rattle.std.specs.Prelude.{◌≡◌};
@@ -18,7 +20,7 @@ use store::store_constraints;
 
 // What reading a bundle answers: the edition, how many constraints and K, 0 for all where it is refused.
 #[repr(C)]
-#[derive(Drop)]
+#[derive(Clone, Copy)]
 pub struct ReadResult {
     pub answer: Answer,
     pub count: usize,

@@ -11,7 +11,7 @@ use integers::between;
 use number_ranges::read::all_in_range;
 
 // How many constraints and where the one wanted starts, 0 where there is none; or the first fault.
-#[derive(Drop)]
+#[derive(Clone, Copy)]
 pub enum Sought {
     Count { count: usize, start: usize },
     Refused { number: u8, place: usize },

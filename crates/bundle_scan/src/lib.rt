@@ -1,5 +1,7 @@
 // Going over a bundle: its header, its constraints one by one, the first fault or their count and a place.
 // It finds what the definition `bundle` gives (specs/Scan.antt). Every operation that reads bundles starts with it.
+#![tactic(auto)]
+
 mod constraints;
 
 ghost use Rattle.forms.specs.Edition.{newest_edition};
@@ -35,7 +37,7 @@ pub fn open_bundle(s: &[u8], given: u8) -> Headed
 }
 
 // What stands behind a bundle's header: the edition of its numbers, the place where it starts, and how many constraints it has.
-#[derive(Drop)]
+#[derive(Clone, Copy)]
 pub struct Body {
     pub edition: u8,
     pub at: usize,
@@ -43,7 +45,7 @@ pub struct Body {
 }
 
 // What going over a bundle tells: K, its body, and where the constraint wanted starts; or the first fault.
-#[derive(Drop)]
+#[derive(Clone, Copy)]
 pub enum Scanned {
     Bundle { k: u8, body: Body, start: usize },
     Refused { number: u8, place: usize },

@@ -1,5 +1,7 @@
 // The operation show: the part of A's or B's bytes that states a constraint.
 // Its definition is bundle/specs/Show.antt, its contracts specs/Promises.antt.
+#![tactic(auto)]
+
 mod locate;
 
 ghost use Rattle.forms.specs.Edition.{newest_edition};

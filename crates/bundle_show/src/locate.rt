@@ -8,7 +8,7 @@ use bundle_scan::{Scanned, scan};
 use forms::{BUNDLE_BYTES, coefficient_bytes};
 
 // A part of A's or B's buffer, or none where the call is refused.
-#[derive(Drop)]
+#[derive(Clone, Copy)]
 pub enum Located {
     Nowhere,
     Part { file: u8, start: usize, size: usize },

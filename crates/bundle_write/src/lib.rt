@@ -1,5 +1,7 @@
 // The operation write: a bundle from its edition, K, kinds and numbers.
 // Its definition is bundle/specs/Write.antt, its contract specs/Promises.antt.
+#![tactic(auto)]
+
 mod put;
 
 ghost use Rattle.std.specs.Prelude.{◌≡◌, ◌&&◌, leb};

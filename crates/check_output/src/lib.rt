@@ -1,5 +1,7 @@
 // The end of a check: what follows the root, and the formula's file in the lent output; and the result of a refusal.
 // What is left is said in specs/Output.antt; check_root ends with it.
+#![tactic(auto)]
+
 ghost use Rattle.std.specs.Prelude.{◌≡◌};
 ghost use Rattle.answers.specs.Answers.{answer};
 ghost use Rattle.check_output.specs.Output.{InScratch, Delivers, Finishes};

@@ -1,6 +1,8 @@
 // The root of a proof and the lines before it, in arrays of a size that suits the proof: `check_lines` gives what check gives
 // (`Checks`, proof/specs/Promises.antt), where bundles and header are read. specs/Root.antt says what the root gives and the
 // room that it asks, specs/Sizes.antt what arrays are long enough.
+#![tactic(auto)]
+
 ghost use Rattle.std.specs.Prelude.{◌≡◌, ◌&&◌, leb, ltb, ◌+◌, ◌*◌, ◌/◌, ◌≤◌, min};
 ghost use Rattle.forms.specs.Edition.{edition, edition1};
 ghost use Rattle.fields.specs.Places.{unread_bytes};
@@ -23,7 +25,7 @@ use forms::{CONSTANTS, FORMULA_BYTES, LINES, LINES_1, LineNumber, RowNumber, lin
 use tally::Tally;
 
 // What a proof's header tells, and where its root starts.
-#[derive(Drop)]
+#[derive(Clone, Copy)]
 pub struct ProofHeader {
     pub edition: u8,
     pub k: u8,

@@ -1,5 +1,7 @@
 // Reads two bundles from the files a and b and a proof from the file p of the working directory, and prints the bytes of
 // the formula that the check assigns, or the line of a refusal.
+#![tactic(auto)]
+
 ghost use Rattle.std.specs.Prelude.{take, replicate};
 ghost use Rattle.io.specs.Counts.{IsPrefixLen};
 ghost use Rattle.forms.specs.Edition.{edition1};

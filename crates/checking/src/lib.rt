@@ -1,5 +1,7 @@
 // The operation check: its bundles, the proof's header, and then the lines and the root.
 // Its definition is proof/specs/Check.antt, its contract proof/specs/Promises.antt.
+#![tactic(auto)]
+
 ghost use Rattle.proof.specs.Promises.{Checks};
 ghost use Rattle.bundle_load.specs.Both.{Both};
 ghost use Rattle.bundle_load.specs.Begun.{WithinLimits};

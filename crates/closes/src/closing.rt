@@ -11,7 +11,7 @@ use forms::LineNumber;
 use lines::kinds::{EQUALITY, kind_of};
 use tally::{Tally, is_there};
 
-#[derive(Drop)]
+#[derive(Clone, Copy)]
 pub enum Test {
     Refused { number: u8 },
     Passed,

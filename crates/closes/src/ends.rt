@@ -13,7 +13,7 @@ use formula_write::{put_literal, put_stride};
 use lines::kinds::kind_of;
 use tally::Tally;
 
-#[derive(Drop)]
+#[derive(Clone, Copy)]
 pub enum Ended {
     Refused { number: u8 },
     // The formula's bytes end at o.

@@ -1,6 +1,8 @@
 // A bundle's constraints turned into the other edition, field by field: the first with a number that the edition asked for does
 // not hold, and each written with its numbers in the new width.
 // The file was gone over before, so that nothing is tested again. The definition is conversion/specs/Turning.antt; convert calls it.
+#![tactic(auto)]
+
 ghost use Rattle.std.specs.Prelude.{◌≡◌, ◌⊎◌, true, ◌+◌, ◌*◌, ◌≤◌, length, take, drop};
 ghost use Rattle.std.proofs.lemmas.List.Edits.{sets};
 ghost use Rattle.forms.specs.Forms.{every};

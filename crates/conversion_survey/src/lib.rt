@@ -1,5 +1,7 @@
 // A proof gone over before it is turned: its entries read, its line numbers, the bytes of the result.
 // specs/SurveyAnswers.antt has its answers as those of the definition (conversion/specs/Turning.antt).
+#![tactic(auto)]
+
 ghost use Rattle.std.specs.Prelude.{◌≡◌, ◌&&◌, ◌+◌, ◌-◌, ◌*◌, ◌^◌, ◌≤◌, ltb, length, take, drop};
 ghost use Rattle.forms.specs.Edition.{edition, edition1};
 ghost use Rattle.forms.specs.Forms.{every};
@@ -16,7 +18,7 @@ use integers::between;
 use number_bytes::numbers::unsigned_at;
 
 // Nothing is amiss; or the first fault and its place.
-#[derive(Drop)]
+#[derive(Clone, Copy)]
 pub enum Survey {
     Fine,
     Refused { number: u8, place: usize },
@@ -24,14 +26,14 @@ pub enum Survey {
 
 // Each field is an entry in its place, and turned they have so many bytes together; if `fit`, the edition asked for holds each
 // line number. Or the first fault and its place.
-#[derive(Drop)]
+#[derive(Clone, Copy)]
 pub enum Entries {
     Turned { size: usize, fit: bool },
     Refused { number: u8, place: usize },
 }
 
 // An entry is as it should be, and a claim may stand behind it or not; or what it is refused for.
-#[derive(Drop)]
+#[derive(Clone, Copy)]
 enum Laid {
     Fine { made: bool },
     Refused { number: u8 },

@@ -1,5 +1,7 @@
 // The entries of a proof written in the other edition.
 // Each contract is an equation with the definition (conversion/specs/Turning.antt).
+#![tactic(auto)]
+
 ghost use Rattle.std.specs.Prelude.{◌≡◌, ◌+◌, ◌-◌, ◌*◌, ◌≤◌, length, take, drop};
 ghost use Rattle.std.proofs.lemmas.List.Edits.{sets};
 ghost use Rattle.forms.specs.Edition.{edition};

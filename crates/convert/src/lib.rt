@@ -1,5 +1,7 @@
 // Turning a bundle or a proof into the other edition: document 02, point 4.
 // Their definitions are conversion/specs/Turning.antt, their contracts conversion/specs/Promises.antt.
+#![tactic(auto)]
+
 ghost use Rattle.std.specs.Prelude.{◌≡◌, ◌&&◌, leb};
 ghost use Rattle.forms.specs.Edition.{newest_edition};
 ghost use Rattle.answers.specs.Answers.{answer, accepted};

@@ -1,5 +1,7 @@
 // The operations for other programs: what a static library has for Rust and C. Thin, over the proved operations.
 // A slice is a pointer and a length; what is lent as `&mut` overlaps nothing else that is passed.
+#![tactic(auto)]
+
 ghost use Rattle.std.specs.Prelude.{◌≡◌, true, false};
 ghost use Rattle.forms.specs.Edition.{newest_edition};
 ghost use Rattle.bundle.specs.Show.{show_part};

@@ -1,5 +1,7 @@
 // Rows and claims as a proof's field states them: what entry a tag and its contents are.
 // The definition is proof/specs/Entries.antt; specs/Entries.antt has the code's answers as its entries.
+#![tactic(auto)]
+
 ghost use Rattle.std.specs.Prelude.{◌≡◌, ◌+◌, ◌≤◌, length, take, drop};
 ghost use Rattle.forms.specs.Edition.{edition, edition1};
 ghost use Rattle.number_bytes.specs.Numbers.{unsigned};
@@ -8,7 +10,7 @@ ghost use Rattle.entries.specs.Entries.{Multiplies, Shaped, claimed, Entered};
 
 use forms::{LineNumber, MULTIPLIER_BYTES, TERM_BYTES, line_bytes};
 
-#[derive(Drop)]
+#[derive(Clone, Copy)]
 pub enum Entry {
     Combine {
         s: LineNumber,

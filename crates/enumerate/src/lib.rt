@@ -1,5 +1,7 @@
 // The operation that writes the next short proof after a table (document 02, point 14).
 // It ensures WritesNext (enumeration/specs/Promises.antt); guarantee/specs/ShortProofs.antt says what that is worth.
+#![tactic(auto)]
+
 ghost use Rattle.std.specs.Prelude.{◌+◌, ◌*◌, ◌≤◌, length};
 ghost use Rattle.enumeration.specs.Promises.{WritesNext};
 ghost use Rattle.bundle_load.specs.Both.{Both};

@@ -1,5 +1,7 @@
 // What is found for a table that is given, and the file of the proof found, or its refusal. enumerate calls both.
 // specs/Finding.antt has what is found, by the sequence of enumeration/specs/Search.antt.
+#![tactic(auto)]
+
 ghost use Rattle.std.specs.Prelude.{◌≡◌, ◌≤◌};
 ghost use Rattle.fields.specs.Header.{header_bytes};
 ghost use Rattle.enumeration.specs.Numbering.{begins};

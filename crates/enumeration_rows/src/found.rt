@@ -3,7 +3,7 @@ ghost use Rattle.std.specs.Prelude.{◌≡◌};
 ghost use Rattle.enumeration_rows.specs.Searching.{is_none_left, is_not_among, with_first};
 
 // What is found: a proof of one, two or three rows, by their numbers; none any more; or the table is none of them.
-#[derive(Drop)]
+#[derive(Clone, Copy)]
 pub enum FoundAt {
     NotAmong,
     NoneLeft,

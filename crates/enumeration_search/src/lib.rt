@@ -1,5 +1,7 @@
 // The next short proof of one, two or three rows: the table given is found by its rows, and the search goes on from there.
 // enumeration_rows/specs/Searching.antt says what is found, by the sequence of enumeration/specs/Search.antt.
+#![tactic(auto)]
+
 ghost use Rattle.std.specs.Prelude.{suc, ◌+◌, ◌-◌, ◌*◌, ◌≤◌, ◌<◌, length, drop};
 ghost use Rattle.enumeration.specs.Sequence.{proofs_of};
 ghost use Rattle.enumeration.specs.Numbering.{inference_count};

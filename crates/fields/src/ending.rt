@@ -4,7 +4,7 @@ ghost use Rattle.fields.specs.Ending.{IsEnding};
 use super::header::known;
 use super::{FileKind, Next, next_field};
 
-#[derive(Drop)]
+#[derive(Clone, Copy)]
 pub enum Ending {
     // Nothing but notes.
     Ended,

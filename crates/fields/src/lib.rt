@@ -1,5 +1,7 @@
 // The fields of a file of any kind, its header, and what may follow its last field. Notes are passed over here.
 // The definitions are specs/Fields.antt and specs/Header.antt; specs/Places.antt has them by place, as the code reads.
+#![tactic(auto)]
+
 pub mod ending;
 pub mod header;
 
@@ -7,7 +9,7 @@ ghost use Rattle.std.specs.Prelude.{◌≡◌};
 ghost use Rattle.fields.specs.Places.{found_at, fields_at, next_of};
 
 // The kinds of file, each with tags of its own.
-#[derive(Drop)]
+#[derive(Clone, Copy)]
 pub enum FileKind {
     Bundle,
     Proof,
@@ -15,7 +17,7 @@ pub enum FileKind {
 }
 
 // What stands at a place of a file.
-#[derive(Drop)]
+#[derive(Clone, Copy)]
 pub enum Found {
     // A whole field: its contents start at start and have len bytes; next is the place after it.
     Whole {
@@ -56,7 +58,7 @@ pub fn field_at(s: &[u8], at: usize) -> Found
 }
 
 // The next field that is no note, with its place, or how the file ends.
-#[derive(Drop)]
+#[derive(Clone, Copy)]
 pub enum Next {
     Field {
         at: usize,
@@ -110,7 +112,7 @@ fn next_at(s: &[u8], at: usize) -> Next
 }
 
 // The reader: a file and a place in it, carried together.
-#[derive(Drop)]
+#[derive(Clone, Copy)]
 pub struct Fields<'a> {
     pub file: &'a [u8],
     pub at: usize,

@@ -1,5 +1,7 @@
 // Whole files into a buffer that the caller lends, and lines of text out of one: what the programs share.
 // Each count comes with what `&buf[..n]` asks (`Counts` of the kit's io).
+#![tactic(auto)]
+
 ghost use Rattle.std.specs.Prelude.{◌≤◌, ◌<◌, min, ◌≡◌, []};
 ghost use Rattle.files.specs.Text.{Put, PutNumber, PutRefused, glyph, pair_of, hex_of};
 ghost use Rattle.io.specs.Counts.{IsPrefixLen};

@@ -1,5 +1,7 @@
 // The value of a form at register values, and whether a number divides it: in whole numbers, and in words where the number is a power of two.
 // Words and what they tell are specs/Quick.antt; formula_read and the crates of lists judge stride parts by it.
+#![tactic(auto)]
+
 ghost use Rattle.std.specs.Prelude.{◌≡◌, ◌+◌, ◌*◌, ◌<◌, ◌≤◌, length, take, drop, pos, ◌+ℤ◌, ◌*ℤ◌, ◌≤ℤ◌, slice_index_or};
 ghost use Rattle.integers.specs.Divides.{divb};
 ghost use Rattle.integers.specs.Magnitude.{Within};

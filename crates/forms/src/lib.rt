@@ -1,5 +1,7 @@
 // Forms, constraints, lines and formulas, and what they say: specs/. Here are the numbers of lines and rows, and the limits that
 // code tests, as specs/Edition.antt has them. Document 01, "Forms and lines", "Fields" and "Test a formula"; document 02, points 1 and 3.
+#![tactic(auto)]
+
 ghost use Rattle.std.specs.Prelude.{◌≡◌};
 ghost use Rattle.forms.specs.Edition.{edition};
 
@@ -7,12 +9,12 @@ ghost use Rattle.forms.specs.Edition.{edition};
 pub const NEWEST: u8 = 2;
 
 // A line is numbered on its branch, from 0: A's constraints in file order, then B's, then the lines that rows make.
-#[derive(Drop)]
+#[derive(Clone, Copy)]
 pub struct LineNumber(pub u16);
 
 // A row is numbered in the file, from 0. An answer that other programs read tells it.
 #[repr(C)]
-#[derive(Drop)]
+#[derive(Clone, Copy)]
 pub struct RowNumber(pub u16);
 
 // The most constants: K is 1 to this.

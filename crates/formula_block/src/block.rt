@@ -17,7 +17,7 @@ use formula_read::node::{Node, node_of};
 use number_bytes::words::signed_at;
 
 // The vectors of which a formula is true, and the place after it.
-#[derive(Drop)]
+#[derive(Clone, Copy)]
 pub struct Masked {
     pub mask: u64,
     pub next: usize,

@@ -1,5 +1,7 @@
 // A leaf of a formula, a part that is no and/or, judged at the vectors of a block: its form's numbers are read once.
 // specs/Leaves.antt has its answer as the truths of the definition, as the bits of a number (specs/Masks.antt); formula_block calls it.
+#![tactic(auto)]
+
 ghost use Rattle.std.specs.Prelude.{◌≡◌, ◌+◌, ◌*◌, ◌%◌, ◌^◌, ◌<◌, ◌≤◌, ◌&&◌, length, take, drop, pos, ◌+ℤ◌, ◌*ℤ◌, ◌==◌, slice_index_or};
 ghost use Rattle.integers.specs.Magnitude.{Within};
 ghost use Rattle.forms.specs.Forms.{value};
@@ -18,7 +20,7 @@ use integers::{divides, number};
 use number_runs::store::store_numbers;
 use std::num::wrapping_add_u32;
 
-#[derive(Drop)]
+#[derive(Clone, Copy)]
 pub enum Leaf {
     // "t = 0" where equality is true, "t ≤ 0" where it is false.
     Literal { equality: bool },

@@ -1,5 +1,7 @@
 // One formula tested at a list of vectors, each of K register values. Document 02, point 11.
 // Its definition is formula/specs/TestList.antt, its contract specs/Promises.antt.
+#![tactic(auto)]
+
 ghost use Rattle.std.specs.Prelude.{◌≡◌, ℕ, ◌≤◌, pos, length, get_or};
 ghost use Rattle.forms.specs.Edition.{edition1};
 ghost use Rattle.formula_list.specs.Promises.{TestsList};

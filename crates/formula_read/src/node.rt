@@ -5,7 +5,7 @@ ghost use Rattle.formula_read.specs.Nodes.{node_of, sized};
 
 use forms::TERM_BYTES;
 
-#[derive(Drop)]
+#[derive(Clone, Copy)]
 pub enum Node {
     // Or where either is true, and where it is false.
     Pair { either: bool },

@@ -18,14 +18,14 @@ use integers::is_zero;
 use number_bytes::words::signed_at;
 
 // A formula read: its truth and the place after it, or the refusal.
-#[derive(Drop)]
+#[derive(Clone, Copy)]
 pub enum Judged {
     Fault { number: u8, at: usize },
     Value { holds: bool, next: usize },
 }
 
 // The same for the two parts of an and/or.
-#[derive(Drop)]
+#[derive(Clone, Copy)]
 pub enum Pair {
     Fault {
         number: u8,

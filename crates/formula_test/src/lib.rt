@@ -1,5 +1,7 @@
 // The operation test: a formula's file at register values.
 // Its definition is formula/specs/Test.antt, its contract specs/Promises.antt.
+#![tactic(auto)]
+
 pub mod values;
 
 ghost use Rattle.std.specs.Prelude.{◌≡◌};
@@ -20,7 +22,7 @@ use values::first_outside;
 
 // What testing gives: the answer, and whether the formula holds (false where it is refused).
 #[repr(C)]
-#[derive(Drop)]
+#[derive(Clone, Copy)]
 pub struct Tested {
     pub answer: Answer,
     pub holds: bool,

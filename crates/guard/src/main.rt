@@ -1,5 +1,7 @@
 // Reads a formula from the file f and register values, four signed bytes each, from the file v of the working directory,
 // and prints `true`, `false` or the line of a refusal.
+#![tactic(auto)]
+
 ghost use Rattle.std.specs.Prelude.{◌≡◌, ◌≤◌, ◌*◌, ◌/◌, min, length, take};
 ghost use Rattle.std.proofs.lemmas.List.Edits.{sets};
 ghost use Rattle.io.specs.Counts.{IsPrefixLen};

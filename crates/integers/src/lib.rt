@@ -1,5 +1,7 @@
 // The integers: definitions in specs/, laws in proofs/, and the signed arithmetic of the machine.
 // Every function here says what it gives in ℤ, so that nothing above meets a machine word.
+#![tactic(auto)]
+
 ghost use Rattle.std.specs.Prelude.{◌≡◌, ◌&&◌, ◌<◌, leb, pos, nat_abs, length, get_or, ◌≤ℤ◌};
 ghost use Rattle.std.specs.Int.Signed.{le_z, lt_z};
 ghost use Rattle.integers.specs.Linear.{eq_z};

@@ -1,5 +1,7 @@
 // The line that a branch starts with: a line copied or negated, and raised; and whether it stays within the range.
 // The lines are `started_line` and `negated_line` (lines/specs/Buffer.antt); openings and branches call it.
+#![tactic(auto)]
+
 ghost use Rattle.std.specs.Prelude.{◌≡◌, ◌&&◌, ◌+◌, ◌*◌, ◌<◌, ◌≤◌, length, get_or, set, pos, negsuc, ◌+ℤ◌, ◌*ℤ◌};
 ghost use Rattle.std.proofs.Math.Seq.{paste};
 ghost use Rattle.integers.specs.Magnitude.{Within};

@@ -1,5 +1,7 @@
 // The lines of a branch in one flat lent buffer: where they stand, their kinds, tests of their coefficients, and a line as a sum of two.
 // Every number is within the range, so it has 32 bits here; what is computed of it has 64.
+#![tactic(auto)]
+
 pub mod kinds;
 pub mod sums;
 

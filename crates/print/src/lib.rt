@@ -1,5 +1,7 @@
 // The operation print: a formula's file as text over the integer constants r0, r1, ..: as a term of SMT-LIB 2, or in words.
 // Its definition is printing/specs/Print.antt, its contract printing/specs/Promises.antt; the library calls it.
+#![tactic(auto)]
+
 ghost use Rattle.std.specs.Prelude.{◌≡◌, true, false, ◌*◌, ◌≤◌, length};
 ghost use Rattle.printing_formula.specs.Printing.{Place};
 ghost use Rattle.printing.specs.Promises.{PrintsFile};

@@ -1,6 +1,8 @@
 // A formula read from its file and its text put, in either dialect, in one pass; and its forms as text.
 // What the functions leave is specs/Printing.antt; `print` calls it to write, and before that, where the output may be too short,
 // to measure. Where it is surely long enough the formula is only read before (once).
+#![tactic(auto)]
+
 pub mod once;
 pub mod reading;
 mod terms;

@@ -10,7 +10,7 @@ use formula_read::node::{Node, node_of};
 use number_bytes::words::signed_at;
 
 // A formula read: the place after it, or the refusal.
-#[derive(Drop)]
+#[derive(Clone, Copy)]
 pub enum Reached {
     Fault { number: u8, at: usize },
     Whole { next: usize },

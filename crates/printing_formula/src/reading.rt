@@ -18,7 +18,7 @@ use number_bytes::words::signed_at;
 use printing_signs::{put_between, put_close, put_open};
 
 // A formula read and its text put: the place after it in the file and in the output, or the refusal.
-#[derive(Drop)]
+#[derive(Clone, Copy)]
 pub enum Progress {
     Fault { number: u8, at: usize },
     Text { next: usize, end: usize },

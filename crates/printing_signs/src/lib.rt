@@ -1,5 +1,7 @@
 // The small texts of a formula, in both dialects: a number with its sign, what is said of a form, and the connectives.
 // A number is as printing/specs/Text.antt and WordsText.antt have it, the rest as specs/Relations.antt; printing_formula calls it.
+#![tactic(auto)]
+
 ghost use Rattle.std.specs.Prelude.{◌+◌, ◌≤◌};
 ghost use Rattle.number_bytes.specs.Ranges.{Held};
 ghost use Rattle.printing.specs.Text.{term_text};

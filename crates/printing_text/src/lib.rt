@@ -1,5 +1,7 @@
 // Text and decimal numbers into an output that is lent, from a place on. What does not fit is left out; the place after it is
 // answered all the same (specs/PutsText.antt).
+#![tactic(auto)]
+
 ghost use Rattle.std.specs.Prelude.{◌≡◌, ◌+◌, ◌/◌, ◌%◌, ◌≤◌, ◌<◌, length, nat_abs};
 ghost use Rattle.std.proofs.lemmas.List.Edits.{sets};
 ghost use Rattle.number_bytes.specs.Ranges.{Held};

@@ -11,7 +11,7 @@ use forms::LineNumber;
 use lines::kinds::{EQUALITY, INEQUALITY, kind_of, set_kind};
 use tally::{Tally, is_there, line_counted};
 
-#[derive(Drop)]
+#[derive(Clone, Copy)]
 pub enum Derived {
     Refused { number: u8 },
     Made { tally: Tally },

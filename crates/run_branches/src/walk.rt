@@ -36,7 +36,7 @@ fn standing(number: u8, position: Position, rows: RowNumber, other: u8, place: u
     renumber(proof_refusal(position, rows, other, place), number)
 }
 
-#[derive(Drop)]
+#[derive(Clone, Copy)]
 pub enum Outcome {
     Refused {
         answer: Answer,
@@ -49,7 +49,7 @@ pub enum Outcome {
     },
 }
 
-#[derive(Drop)]
+#[derive(Clone, Copy)]
 pub enum WalkStop {
     Over {
         outcome: Outcome,

@@ -12,7 +12,7 @@ use run_branches::walk::Outcome;
 // The two header fields of a guard's file.
 const HEADER_BYTES: usize = 8;
 
-#[derive(Drop)]
+#[derive(Clone, Copy)]
 pub enum Cuts {
     Refused { answer: Answer },
     // The bytes of all guards' files, and whether none of them is too long.

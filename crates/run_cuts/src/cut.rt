@@ -14,7 +14,7 @@ use forms::{LineNumber, RowNumber};
 use run_branches::walk::renumber;
 use tally::Tally;
 
-#[derive(Drop)]
+#[derive(Clone, Copy)]
 pub enum Cut {
     Refused { answer: Answer },
     // The bytes of its formula.

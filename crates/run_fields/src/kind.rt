@@ -7,14 +7,14 @@ use forms::{MULTIPLIER_BYTES, TERM_BYTES, line_bytes};
 use number_bytes::numbers::unsigned_at;
 
 // Which branches of a step must be the same rows.
-#[derive(Drop)]
+#[derive(Clone, Copy)]
 pub enum Matching {
     FirstAndThird,
     All,
     Nothing,
 }
 
-#[derive(Drop)]
+#[derive(Clone, Copy)]
 pub enum EntryKind {
     // Another line of the branch.
     Derives,

@@ -4,7 +4,7 @@ ghost use Rattle.run_fields.specs.Same.{Compares, SameFields};
 use fields::{Next, next_field};
 use number_bytes::compare::same_bytes;
 
-#[derive(Drop)]
+#[derive(Clone, Copy)]
 pub enum Compared {
     // The next fields are the same, and those after them start there.
     Same { first: usize, second: usize },

@@ -52,7 +52,7 @@ pub fn long_stage(buffer: &[u8], lengths: &[usize]) -> u8
     0
 }
 
-#[derive(Drop)]
+#[derive(Clone, Copy)]
 pub enum Read {
     Refused { answer: Answer },
     // The K of all stages, and how many constraints they have together.

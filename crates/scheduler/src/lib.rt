@@ -2,13 +2,15 @@
 // mean, in specs/. No code: only types, specs and proofs.
 //
 // A seat is a number, 0 to 7; a slot is what stands at a seat. All numbers have the width of a place, so a state has no padding.
+#![tactic(auto)]
+
 use answers::{Answer, WriteResult};
 
 pub const SEATS: usize = 8;
 
 // Where a file stands in the buffer; end is the byte after its last.
 #[repr(C)]
-#[derive(Drop)]
+#[derive(Clone, Copy)]
 pub struct Part {
     pub start: usize,
     pub end: usize,
@@ -16,7 +18,7 @@ pub struct Part {
 
 // A job: where its three files stand.
 #[repr(C)]
-#[derive(Drop)]
+#[derive(Clone, Copy)]
 pub struct Job {
     pub a: Part,
     pub b: Part,
@@ -25,7 +27,7 @@ pub struct Job {
 
 // What stands at a seat: a waiting job, or nothing, where `waiting` is 0.
 #[repr(C)]
-#[derive(Drop)]
+#[derive(Clone, Copy)]
 pub struct Slot {
     pub waiting: usize,
     pub job: Job,
@@ -33,7 +35,7 @@ pub struct Slot {
 
 // The state: a slot for each seat, and the seat that the next turn looks at first.
 #[repr(C)]
-#[derive(Drop)]
+#[derive(Clone, Copy)]
 pub struct Scheduler {
     pub slots: [Slot; 8],
     pub first: usize,
@@ -41,7 +43,7 @@ pub struct Scheduler {
 
 // What submitting and cancelling give: the state that they leave, and the answer.
 #[repr(C)]
-#[derive(Drop)]
+#[derive(Clone, Copy)]
 pub struct Changed {
     pub scheduler: Scheduler,
     pub answer: Answer,
@@ -49,7 +51,7 @@ pub struct Changed {
 
 // What a turn gives: the state that it leaves, what the check of the job gave, the seat served, and whether the turn was idle.
 #[repr(C)]
-#[derive(Drop)]
+#[derive(Clone, Copy)]
 pub struct Turned {
     pub scheduler: Scheduler,
     pub result: WriteResult,
@@ -58,7 +60,7 @@ pub struct Turned {
 }
 
 // What a turn finds: the seat to serve, or nobody.
-#[derive(Drop)]
+#[derive(Clone, Copy)]
 pub enum Next {
     Seat(usize),
     Nobody,

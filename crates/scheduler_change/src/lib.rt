@@ -1,5 +1,7 @@
 // Submitting a job and cancelling it. The state goes in by value and comes back by value; any state that a caller hands in is served.
 // Definitions and contracts are scheduler/specs/Scheduler.antt and Promises.antt.
+#![tactic(auto)]
+
 ghost use Rattle.std.specs.Prelude.{◌≡◌};
 ghost use Rattle.scheduler.specs.Scheduler.{vacant, empty};
 ghost use Rattle.scheduler.specs.Promises.{Submits, Cancels};

@@ -1,6 +1,8 @@
 // What a turn of the scheduler does around its check: the first seat that waits, the three parts of its job, and the state
 // afterwards. (The check itself is called in the library's own crate: docs/SPEED.md, Second callers.) The state goes in by value
 // and comes back by value; any state that a caller hands in is served.
+#![tactic(auto)]
+
 ghost use Rattle.std.specs.Prelude.{◌≡◌, ◌≤◌, ◌<◌, true, false, length, set};
 ghost use Rattle.scheduler.specs.Scheduler.{vacant, refusal, after, next_seat, is_within, part, parts_within};
 

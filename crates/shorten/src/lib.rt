@@ -1,5 +1,7 @@
 // The operation that leaves out the rows on which nothing rests: document 02, point 12.
 // Its definition is shortening/specs/Shorten.antt, its contract shortening/specs/Promises.antt.
+#![tactic(auto)]
+
 ghost use Rattle.shortening.specs.Promises.{Shortens};
 ghost use Rattle.shorten.specs.Phases.{CheckAnswered, Accepted};
 

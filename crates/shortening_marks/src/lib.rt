@@ -1,5 +1,7 @@
 // The rows of an accepted proof gathered, and those marked on which a close or branching row depends: the report.
 // The definition is shortening/specs/Passes.antt; specs/Gathered.antt and specs/Marks.antt have the arrays beside it.
+#![tactic(auto)]
+
 ghost use Rattle.std.specs.Prelude.{◌≡◌, ◌%◌, ◌<◌, length, get_or, set};
 ghost use Rattle.fields.specs.Places.{fields_at};
 ghost use Rattle.shortening_marks.specs.Gathered.{Gatherable, GathersAll, Reportable, Reported};
@@ -10,7 +12,7 @@ use shortening_stack::stack::advance;
 use shortening_stack::{BRANCHES, CLAIMS, MAKES, Outline, outline_at};
 
 // Of an accepted proof: where its rows start, its edition, and how many constants and constraints it is over.
-#[derive(Drop)]
+#[derive(Clone, Copy)]
 pub struct ProofBody {
     pub at: usize,
     pub edition: u8,

@@ -1,5 +1,7 @@
 // What shortening takes of an entry, and the branches that are open.
 // specs/Outline.antt has an outline beside the entry, specs/Stack.antt the branches to come; shortening_marks and shortening_table call it.
+#![tactic(auto)]
+
 pub mod stack;
 
 ghost use Rattle.std.specs.Prelude.{◌≡◌, ◌+◌, ◌≤◌, length, take, drop};
@@ -20,7 +22,7 @@ pub const CLOSES: u16 = 2;
 pub const CLAIMS: u16 = 3;
 
 // The lines that it names, the second the first where there is one only; how many branches are to come behind its first.
-#[derive(Drop)]
+#[derive(Clone, Copy)]
 pub struct Outline {
     pub class: u16,
     pub first: u16,

@@ -24,7 +24,7 @@ fn push(steps: &mut [u64], depth: usize, lines: u16, kept: u16, left: u16) -> us
 }
 
 // How many lines stand on the branch, how many of them are kept, and how many steps have branches to come.
-#[derive(Drop)]
+#[derive(Clone, Copy)]
 pub struct Standing {
     pub lines: u16,
     pub kept: u16,

@@ -1,6 +1,8 @@
 // The shorter table: its bytes counted and written, line numbers anew.
 // The definition is shortening/specs/Shorten.antt; specs/Written.antt has the table field by field, specs/Table.antt one field.
 // The arrays that all of it stands in are `arrays`, which shorten calls.
+#![tactic(auto)]
+
 pub mod arrays;
 
 ghost use Rattle.std.specs.Prelude.{◌≡◌, true, ◌+◌, ◌-◌, ◌≤◌, ◌<◌, length, get_or};

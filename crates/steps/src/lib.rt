@@ -1,5 +1,7 @@
 // One entry of a branch: a row or a claim, counted, tested and applied.
 // specs/Steps.antt has the code's answers as those of the definition (`check_entry`, proof/specs/Check.antt); branches calls `step`.
+#![tactic(auto)]
+
 ghost use Rattle.std.specs.Prelude.{◌≡◌, true, ◌+◌, ◌*◌, ◌≤◌, length, take, drop, nat_abs};
 ghost use Rattle.integers.specs.Magnitude.{Within};
 ghost use Rattle.forms.specs.Edition.{edition, edition1, newest_edition, multiplier_range};
@@ -14,7 +16,7 @@ use rows::claims::claim_holds;
 use rows::derive::{Derived, combine, reduce, scale};
 use tally::{Tally, row_counted};
 
-#[derive(Drop)]
+#[derive(Clone, Copy)]
 pub enum Stepped {
     Refused {
         number: u8,

@@ -1,11 +1,13 @@
 // The tally of a check: the numbers of the next row and the next line, and the branching steps open;
 // and the edition of the proof, by which lines are limited.
+#![tactic(auto)]
+
 ghost use Rattle.std.specs.Prelude.{◌≡◌, ltb};
 ghost use Rattle.tally.specs.Tally.{row_counted, line_counted, open_counted, returned_to, Advanced};
 
 use forms::{BRANCHINGS, LineNumber, ROWS, RowNumber, lines_limit};
 
-#[derive(Drop)]
+#[derive(Clone, Copy)]
 pub struct Tally {
     pub rows: RowNumber,
     pub lines: LineNumber,
@@ -14,7 +16,7 @@ pub struct Tally {
 }
 
 // The tally after a step, and whether the step was made. A refused step leaves the tally as it was.
-#[derive(Drop)]
+#[derive(Clone, Copy)]
 pub struct Tallied {
     pub made: bool,
     pub tally: Tally,
