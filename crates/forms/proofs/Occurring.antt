@@ -11,6 +11,7 @@ use Rattle.forms.specs.Forms.{Constraint, coeff, nonzero, occurs}
 
 left : (a b : Bool) → T a → T (a || b)
 left true b h = tt
+left false b h = elim h [ ]
 
 right : (a b : Bool) → T b → T (a || b)
 right true b h = tt

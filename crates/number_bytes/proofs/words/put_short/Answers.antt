@@ -1,0 +1,50 @@
+-- `number_bytes::words::put_short` meets its contract: a 16-bit number is one of two bytes. Assumes nothing.
+use mathlib.Core.Path.{◌≡◌, ◌∙◌}
+use Prim.Native.Nat.{◌<◌}
+use native.Mathlib.Omega.{arith}
+use lib.IntN.{ℤ}
+use mir.Syntax.{w16, w64}
+use mir.Val.{SFits, to_z, of_z}
+use mir.ValLaws.{to_z-of_z}
+use Rattle.number_bytes.specs.Numbers.{residue, signed_bytes}
+use Rattle.number_bytes.specs.Ranges.{Half}
+use Rattle.number_bytes.proofs.Digits.{residue-below}
+use Rattle.number_bytes.proofs.Turned.{pair-bytes}
+use Rattle.number_bytes.proofs.words.put_short.Goals as goal
+use Rattle.number_bytes.proofs.words.put_short.Goals.{After-residue_of-n}
+
+wide : (x : ℤ) → SFits w16 x → SFits w64 (to_z w16 (of_z w16 x))
+wide x h = rw (to_z-of_z w16 x h) (record { sfits = omega (arith, h.sfits) })
+
+back : (x : ℤ) → SFits w16 x → to_z w64 (of_z w64 (to_z w16 (of_z w16 x))) ≡ x
+back x h = to_z-of_z w64 (to_z w16 (of_z w16 x)) (wide x h) ∙ to_z-of_z w16 x h
+
+half : (x : ℤ) → SFits w16 x → Half 0x1_0000 x
+half x h = record { half = omega (arith, h.sfits) }
+
+pub overflow_cast-value : goal.overflow_cast-value
+overflow_cast-value c = wide c.args.value c.ranges.value
+
+pub residue_of-n-requires : goal.residue_of-n-requires
+residue_of-n-requires c =
+    let x = c.args.value in
+    (rw (back x c.ranges.value) (half x c.ranges.value), omega arith)
+
+module _ (c : After-residue_of-n) where
+  is : c.residue_of-n.result ≡ residue 0x1_0000 c.args.value
+  is = c.residue_of-n.ensures ∙ rw (back c.args.value c.ranges.value)
+
+  below : c.residue_of-n.result < 0x1_0000
+  below = rw is (residue-below 0x1_0000 c.args.value (half c.args.value c.ranges.value))
+
+pub overflow_cast-n : goal.overflow_cast-n
+overflow_cast-n c = record { fits = below c.before }
+
+pub returns : goal.returns
+unfolding signed_bytes
+returns c =
+    let r = c.before.before.before.before.before in
+    let a = r.args in
+    c.put-pair.ensures
+    ∙ pair-bytes a.out.now a.at r.residue_of-n.result c.Turned-pair.result (below r) c.Turned-pair.ensures
+    ∙ rw (is r)

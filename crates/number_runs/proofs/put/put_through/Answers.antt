@@ -1,0 +1,15 @@
+-- `number_runs::put::put_through` meets its contract: what is taken over is held, and is all that is put. Assumes nothing.
+use mathlib.Core.Path.{refl}
+use mathlib.Core.Logic.{inl}
+use lib.ListN.{length}
+use lib.Seq.{take-length}
+use Rattle.number_bytes.proofs.Signed.{all_take, all_drop}
+use borrow.Author.Rules.{rules}
+use Rattle.number_runs.proofs.put.put_through.Goals as goal
+
+pub put_run-requires : goal.put_run-requires
+put_run-requires c =
+    ((inl refl, rw c.take-shorts.ensures (record { each = all_take (length c.args.block.now) (all_drop c.args.from c.requires.0.each) })), search rules)
+
+pub returns : goal.returns
+returns c = rw (take-length c.take-shorts.new.1.1.0, c.take-shorts.ensures) at c.put_run.ensures

@@ -1,0 +1,11 @@
+-- `number_runs::put::take_shorts` meets its contract: the first i are taken over. Assumes nothing.
+use mathlib.Core.Path.{◌≡◌}
+use Prim.Native.Nat.{◌-◌, ◌≤◌}
+use lib.ListN.{length, take, drop}
+use Rattle.number_runs.proofs.put.take_shorts.Given as goal
+
+abbrev pub invariant-loop-i : goal.invariant-loop-i
+invariant-loop-i l = (take l.i l.initial.i ≡ take l.i (drop l.from l.numbers)) × (length l.initial.i ≡ length l.initial.block) × (l.i ≤ length l.initial.i)
+
+abbrev pub decreases-loop-i : goal.decreases-loop-i
+decreases-loop-i l = length l.initial.i - l.i

@@ -1,0 +1,15 @@
+-- `number_runs::store::store_fours` meets its contract: what is left to store gives what the whole gives. Assumes nothing.
+use mathlib.Core.Path.{◌≡◌}
+use Prim.Native.Nat.{◌+◌, ◌*◌, ◌-◌, ◌%◌, ◌≤◌}
+use lib.ListN.{length, drop}
+use lib.Seq.{sets}
+use Rattle.number_bytes.specs.Numbers.{signeds}
+use Rattle.number_runs.proofs.store.store_fours.Given as goal
+
+abbrev pub invariant-loop-i : goal.invariant-loop-i
+invariant-loop-i l =
+    (sets l.initial.i (l.numbers + l.i) (signeds 2 (l.at - l.i) (drop (l.start + l.i * 2) l.s)) ≡ sets l.initial.numbers l.numbers (signeds 2 l.at (drop l.start l.s)))
+    × (length l.initial.i ≡ length l.initial.numbers) × (l.i ≤ l.at) × (l.i % 4 ≡ 0)
+
+abbrev pub decreases-loop-i : goal.decreases-loop-i
+decreases-loop-i l = l.at - l.i
