@@ -90,12 +90,20 @@ class Function:
                 said.append(f"a bare place {m[0]}")
                 return m[0]
             here = chain[up:] if up < len(chain) else chain[-1:]
-            return var + "." + ".".join(self.field(here, rest, said))
+            tried = []
+            found = self.field(here, rest, tried)
+            if tried and up:
+                tried = []
+                found = self.field(chain, rest, tried)
+            said.extend(tried)
+            return var + "." + ".".join(found)
 
         return re.sub(rf"(?<![^\s(){{}};,]){re.escape(var)}(?:\.{NAME})+", path, text).replace("\1", "").replace("\2", "").replace("\3", "")
 
     def field(self, chain, rest, said):
         first = rest[0]
+        if first == "requires" and self.n["pre"]:
+            return [first] + self.picked(rest[1:], self.n["pre"]["fields"])
         if first in ("args", "requires", "ranges", "auto", "well_formed", "type_inv", "utf8"):
             return rest
         if first == "fits":
@@ -135,11 +143,104 @@ class Function:
             old, new = self.places[i][2]
             if old and squash(old) == squash(first):
                 return [new] + self.within(i, rest[1:])
+        for i in range(len(self.places)):
+            old, new = self.places[i][2]
+            if new and squash(new) == squash(first):
+                return [new] + self.within(i, rest[1:])
         said.append(f"no step {'.'.join(rest)}")
         return rest
 
     def within(self, i, rest):
+        clauses = self.n["clauses"][i]
+        if rest[:1] == ["ensures"] and clauses:
+            return [rest[0]] + self.picked(rest[1:], clauses["fields"])
+        params = self.n["params"].get(self.places[i][3])
+        if rest[:1] == ["new"] and params:
+            ups = 0
+            while ups + 1 < len(rest) and rest[1 + ups] == "1":
+                ups += 1
+            if rest[1 + ups:2 + ups] == ["0"] and ups < len(params):
+                return ["new", params[ups]] + rest[2 + ups:]
         return rest
+
+    def picked(self, rest, fields):
+        """A pair's path as a clause's name."""
+        ups = 0
+        while ups < len(rest) and rest[ups] == "1" and ups < len(fields) - 1:
+            ups += 1
+        if ups == len(fields) - 1:
+            return [fields[ups]] + rest[ups:]
+        if rest[ups:ups + 1] == ["0"]:
+            return [fields[ups]] + rest[ups + 1:]
+        return rest
+
+
+FN = re.compile(r"(?m)^ *(?:pub )?(?:extern \"C\" )?fn (\w+)")
+CLAUSE = re.compile(r"(?m)^ *(requires|ensures)(\*)? (?:(\w+) )?\{")
+
+
+def contracts(crates="crates"):
+    """The names of each function's clauses, by its path below its crate."""
+    found = {}
+    for path in glob.glob(f"{crates}/*/src/**/*.rt", recursive=True):
+        parts = path[len(crates) + 1:].split("/")
+        inner = [parts[0]] + parts[2:-1] + ([] if parts[-1] in ("lib.rt", "main.rt", "mod.rt") else [parts[-1][:-3]])
+        text = open(path, encoding="utf-8").read()
+        starts = [m for m in FN.finditer(text)]
+        for i, m in enumerate(starts):
+            end = starts[i + 1].start() if i + 1 < len(starts) else len(text)
+            body = text[m.start():end]
+            kinds = {"requires": [], "ensures": []}
+            for c in CLAUSE.finditer(body):
+                kinds[c[1]].append(c[3])
+            for name in ("::".join(inner + [m[1]]),):
+                found[name] = kinds
+            found.setdefault(("any", inner[0], m[1]), kinds)
+    return found
+
+
+CONTRACTS = {}
+
+
+def parts_of(text):
+    """The parts of a text at its own commas."""
+    found, depth, at = [], 0, 0
+    for i, ch in enumerate(text):
+        if ch in "([{":
+            depth += 1
+        elif ch in ")]}":
+            depth -= 1
+        elif ch == "," and depth == 0:
+            found.append(text[at:i].strip())
+            at = i + 1
+    found.append(text[at:].strip())
+    return found
+
+
+def as_record(value, fields):
+    """A value that ends in a tuple as one that ends in a record."""
+    text = value.rstrip()
+    if not text.endswith(")"):
+        return value
+    depth = 0
+    for i in range(len(text) - 1, -1, -1):
+        if text[i] == ")":
+            depth += 1
+        elif text[i] == "(":
+            depth -= 1
+            if depth == 0:
+                break
+    lead, inner = text[:i], text[i + 1:-1]
+    if not re.fullmatch(r"(?s)\s*|.*\bin\s*|.*[=.]\s*", lead) and not re.search(r"(?s)(?:^|\bin|\s)\s*rw (?:\([^()]*(?:\([^()]*\)[^()]*)*\)|[^\s()]+) $", lead):
+        return value
+    parts = parts_of(inner)
+    if len(parts) < len(fields) or len(parts) < 2:
+        return value
+    n = len(fields)
+    parts = parts[:n - 1] + [", ".join(parts[n - 1:]) if len(parts) == n else "(" + ", ".join(parts[n - 1:]) + ")"]
+    record = "record { " + "; ".join(f"{f} = {p}" for f, p in zip(fields, parts)) + " }"
+    whole = not lead.strip() or re.search(r"(\bin|[=.])\s*$", lead)
+    return lead + (record if whole else f"({record})")
 
 
 def module_of(path):
@@ -154,6 +255,7 @@ def convert(path, names, said):
         said.append("no tie")
         return None
     f = Function(names, path)
+    f.own = "::".join([path.split("/")[1]] + path.split("/")[3:-1])
     found = blocks(text)
     head = found[0]
     decls = found[1:]
@@ -191,6 +293,9 @@ def convert(path, names, said):
         else:
             rest.append(a)
     needs = names["needs"]
+    if len(rest) > len(needs):
+        # a text's bytes need no answer any more
+        rest = [a for a in rest if "Need-slice-aggregate" not in "\n".join(by_name.get(a, []))]
     if len(rest) != len(needs):
         said.append(f"{len(rest)} answers, {len(needs)} needs: {[n[0] for n in needs]} {rest}")
     # match by order where they are as many, else by name
@@ -243,9 +348,8 @@ def convert(path, names, said):
         table = {}
         order = []
         for v, ch in zip(variables, changed):
-            if ch:
-                order.append("l.initial." + v)
-            order.append("l." + v)
+            order.append("l.initial." + v if ch else "l." + v)
+        order += ["l." + v for v, ch in zip(variables, changed) if ch]
         flat = re.findall(rf"{NAME}", cm[1]) if any(c in cm[1] for c in "({") else params
         if len(flat) != len(order):
             # without the values at the start
@@ -258,11 +362,17 @@ def convert(path, names, said):
         unf = "".join(line + "\n" for line in d if line.startswith("unfolding"))
         comments = "".join(line + "\n" for line in d if line.startswith("--"))
         inv_text.append(f"{comments}abbrev pub {word}-{new} : goal.{word}-{new}\n{unf}{word}-{new} l ={value.rstrip()}\n")
+    # answers that others cite
+    cited = set()
+    for d in decls[:-1]:
+        words = re.findall(NAME, re.sub(r"(?m)^--.*$", "", "\n".join(d)))
+        own = {w for w in words if words.count(w) <= 2 and w in pairs and re.search(rf"(?m)^(?:pub )?{re.escape(w)} ", "\n".join(d))}
+        cited |= {w for w in words if w in pairs and w not in own}
     for d in decls[:-1]:
         body = "\n".join(d).strip("\n")
         dm = re.search(rf"(?m)^(?:(?:pub|abbrev|unfoldable) )*({NAME}) (?:\{{[^}}]*\}} )*:(?: |$)", body)
         name = dm[1] if dm else None
-        if name in invs or name in measures:
+        if name in invs or name in measures or (name not in pairs and "tie.Need-slice-aggregate" in body):
             continue
         if name not in pairs:
             if "tie." in body:
@@ -287,11 +397,11 @@ def convert(path, names, said):
                 pm = re.search(rf"\((\w+) : tie\.({NAME})", body)
                 if pm and squash(pm[2]) in f.by_squash:
                     body = f.turn_paths(body, pm[1], f.by_squash[squash(pm[2])], said)
-            ans_text.append(body + "\n")
+            ans_text.append(re.sub(r"\.type-inv\b", ".type_inv", body) + "\n")
             continue
         new, place = pairs[name]
         clause = re.search(rf"(?m)^{re.escape(name)}((?: (?!=(?: |$)){NAME})*) =", body)
-        if clause and re.fullmatch(r"\s*search rules\s*", body[clause.end():]) and "unfolding" not in body:
+        if clause and re.fullmatch(r"\s*search rules\s*", body[clause.end():]) and "unfolding" not in body and name not in cited:
             continue
         if not clause:
             said.append(f"clause of {name}")
@@ -308,6 +418,22 @@ def convert(path, names, said):
         lead = re.sub(rf"(?m)^(?:(?:pub) )?{re.escape(name)} :(?: |\n)(?:.|\n)*?(?=^unfolding|\Z)", f"pub {new} : goal.{new}\n", lead)
         if "goal." not in lead:
             said.append(f"type of {name}")
+        value = re.sub(r"\.type-inv\b", ".type_inv", value)
+        value = re.sub(rf"(?<![^\s(){{}};,]){NAME}", lambda m: pairs[m[0]][0] if m[0] in pairs and m[0] in cited else m[0], value)
+        fields = None
+        if re.match(r"returns(-|$)", new):
+            own = f.own
+            fields = CONTRACTS.get(own, CONTRACTS.get(("any", own.split("::")[0], own.split("::")[-1])))
+            fields = fields and fields["ensures"]
+        m = re.match(r"(.*)-requires(-\d+)?", new)
+        if m:
+            callee = [p[3] for p in f.places if p[2] and p[3] and squash(p[2][1]) == squash(m[1])] or [p[3] for p in f.places if p[3] and p[3].split("::")[-1] == m[1].split("-")[0]]
+            if not callee:
+                callee = [k for k in names["params"] if k.split("::")[-1] == m[1].split("-")[0]]
+            fields = callee and CONTRACTS.get(callee[0], CONTRACTS.get(("any", callee[0].split("::")[0], callee[0].split("::")[-1])))
+            fields = fields and fields["requires"]
+        if fields and len(fields) > 1 and all(fields):
+            value = as_record(value, fields)
         ans_text.append(f"{lead}{new} {' '.join(kept)} ={value}\n")
     uses = [line for line in head if line.startswith("use ")]
     top = [line for line in head if line.startswith("--")]
@@ -347,8 +473,12 @@ def convert(path, names, said):
 
 def main():
     names_at = sys.argv[1]
+    CONTRACTS.update(contracts())
     for crate in sys.argv[2:]:
         listed = f"{names_at}/crates/{crate}/names.json"
+        if not os.path.isfile(listed):
+            print(f"{crate}: no names")
+            continue
         names = json.load(open(listed))
         for path in sorted(glob.glob(f"crates/{crate}/proofs/**/Proof.antt", recursive=True)):
             parts = path.split("/")

@@ -2,6 +2,7 @@
 use mathlib.Core.Path.{refl, sym, ap, ◌∙◌}
 use Rattle.fields.specs.Places.{next_of}
 use Rattle.fields.proofs.Places.{took, took-next, took-note, took-less, cut_at, ends_at}
+use borrow.Author.Rules.{rules}
 use Rattle.fields.proofs.next_at.Goals as goal
 
 pub loop-tag-init : goal.loop-tag-init
@@ -15,6 +16,9 @@ loop-tag-smaller c = took-less (took c.field_at.ensures c.in-Whole.is)
 
 pub loop-tag-preserved : goal.loop-tag-preserved
 loop-tag-preserved c = c.loop-tag.invariant ∙ took-note (took c.field_at.ensures c.in-Whole.is) c.if-tag-lt128.false
+
+pub enum_told-1 : goal.enum_told-1
+enum_told-1 c = search rules
 
 pub returns-in-Broken : goal.returns-in-Broken
 returns-in-Broken c = sym (ap next_of (c.loop-tag.invariant ∙ cut_at _ _ c.field_at.ensures c.in-Broken.is))

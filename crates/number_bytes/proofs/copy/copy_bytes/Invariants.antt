@@ -6,7 +6,7 @@ use lib.Seq.{sets}
 use Rattle.number_bytes.proofs.copy.copy_bytes.Given as goal
 
 abbrev pub invariant-loop-i : goal.invariant-loop-i
-invariant-loop-i l = (l.initial.i ≡ sets l.initial.to l.to (take l.i (drop l.start l.from))) × (l.i ≤ l.n)
+invariant-loop-i l = (l.to ≡ sets l.initial.to l.at (take l.i (drop l.start l.from))) × (l.i ≤ l.n)
 
 abbrev pub decreases-loop-i : goal.decreases-loop-i
 decreases-loop-i l = l.n - l.i

@@ -7,7 +7,7 @@ use Rattle.number_bytes.specs.Numbers.{unsigned_bytes}
 use Rattle.number_bytes.proofs.numbers.put_unsigned.Given as goal
 
 abbrev pub invariant-loop-i : goal.invariant-loop-i
-invariant-loop-i l = (sets l.m l.out (unsigned_bytes l.i l.initial.i) ≡ sets l.initial.out l.out (unsigned_bytes l.at l.width)) × (length l.m ≡ length l.initial.out) × (l.i ≤ l.at)
+invariant-loop-i l = (sets l.out l.at (unsigned_bytes l.i l.m) ≡ sets l.initial.out l.at (unsigned_bytes l.width l.n)) × (length l.out ≡ length l.initial.out) × (l.i ≤ l.width)
 
 abbrev pub decreases-loop-i : goal.decreases-loop-i
 decreases-loop-i l = l.i

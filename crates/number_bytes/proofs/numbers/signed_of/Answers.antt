@@ -19,5 +19,5 @@ returns-then-n-full c =
 pub returns-else-n-full : goal.returns-else-n-full
 returns-else-n-full c =
     let s = c.args in
-    to_z-of_z w64 _ (sub-result c)
+    to_z-of_z w64 _ (overflow_sub-result c)
     ∙ rw (to_z_pos w64 s.n (omega arith), to_z_pos w64 s.full (omega arith)) (sym (complement-high s.full s.n (omega arith)))

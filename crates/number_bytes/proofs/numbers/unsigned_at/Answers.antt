@@ -39,4 +39,4 @@ loop-i-preserved c =
 pub returns : goal.returns
 returns c =
     let e : c.args.width ≡ c.loop-i.i = omega arith in
-    rw e (c.loop-i.invariant.0, c.loop-i.invariant.1)
+    rw e (record { is = c.loop-i.invariant.0; below = c.loop-i.invariant.1 })

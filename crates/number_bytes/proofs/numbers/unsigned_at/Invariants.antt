@@ -6,7 +6,7 @@ use Rattle.number_bytes.specs.Numbers.{unsigned}
 use Rattle.number_bytes.proofs.numbers.unsigned_at.Given as goal
 
 abbrev pub invariant-loop-i : goal.invariant-loop-i
-invariant-loop-i l = (l.initial.i ≡ unsigned (take l.i (drop l.at l.s))) × (l.initial.i < 256 ^ l.i) × (l.i ≤ l.width)
+invariant-loop-i l = (l.n ≡ unsigned (take l.i (drop l.at l.s))) × (l.n < 256 ^ l.i) × (l.i ≤ l.width)
 
 abbrev pub decreases-loop-i : goal.decreases-loop-i
 decreases-loop-i l = l.width - l.i

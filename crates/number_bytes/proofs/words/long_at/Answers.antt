@@ -10,15 +10,12 @@ use Rattle.number_bytes.proofs.words.long_at.Goals as goal
 use Rattle.number_bytes.proofs.words.long_at.Goals.{After-signed_of}
 
 half : (c : After-signed_of) → Half 0x1_0000_0000 c.signed_of.result
-half c = rw c.signed_of.ensures (complement_half 0x1_0000_0000 c.turned_four-n.result (omega (arith, c.turned_four-n.type-inv)))
+half c = rw c.signed_of.ensures (complement_half 0x1_0000_0000 c.turned_four-n.result (omega (arith, c.turned_four-n.type_inv)))
 
 pub overflow_cast-result : goal.overflow_cast-result
-overflow_cast-result c = rw (to_z-of_z w64 c.signed_of.result (record { sfits = c.signed_of.type-inv })) (record { sfits = omega (arith, (half c).half) })
+overflow_cast-result c = rw (to_z-of_z w64 c.signed_of.result (record { sfits = c.signed_of.type_inv })) (record { sfits = omega (arith, (half c).half) })
 
 pub returns : goal.returns
 returns c =
     let a = c.args in
-    let back = to_z-of_z w32 _ (cast-result c) ∙ to_z-of_z w64 c.signed_of.result (record { sfits = c.signed_of.type-inv }) in (
-      back ∙ c.signed_of.ensures ∙ signed-four a.s.now a.at c.four_at.result c.turned_four-n.result c.requires c.four_at.ensures.0 c.four_at.ensures.1 c.turned_four-n.ensures,
-      record { held = rw back (half c) },
-    )
+    let back = to_z-of_z w32 _ (overflow_cast-result c) ∙ to_z-of_z w64 c.signed_of.result (record { sfits = c.signed_of.type_inv }) in record { is = back ∙ c.signed_of.ensures ∙ signed-four a.s.now a.at c.four_at.result c.turned_four-n.result c.requires c.four_at.ensures.ends c.four_at.ensures.middle c.turned_four-n.ensures; range = (record { held = rw back (half c) }, ) }

@@ -7,7 +7,7 @@ use Rattle.number_bytes.specs.Numbers.{signed_bytes}
 use Rattle.number_bytes.proofs.words.put_long.Goals as goal
 
 pub residue_of-n-requires : goal.residue_of-n-requires
-residue_of-n-requires c = (rw (to_z-of_z w64 c.args.value c.ranges.value) c.requires.1.held, omega arith)
+residue_of-n-requires c = record { half = rw (to_z-of_z w64 c.args.value c.ranges.value) c.requires.held.held; full_bound = omega arith }
 
 pub returns : goal.returns
 unfolding signed_bytes

@@ -28,7 +28,7 @@ overflow_cast-value c = wide c.args.value c.ranges.value
 pub residue_of-n-requires : goal.residue_of-n-requires
 residue_of-n-requires c =
     let x = c.args.value in
-    (rw (back x c.ranges.value) (half x c.ranges.value), omega arith)
+    record { half = rw (back x c.ranges.value) (half x c.ranges.value); full_bound = omega arith }
 
 module _ (c : After-residue_of-n) where
   is : c.residue_of-n.result ≡ residue 0x1_0000 c.args.value

@@ -9,16 +9,16 @@ use Rattle.number_bytes.proofs.words.put_signed.Goals as goal
 use Rattle.number_bytes.proofs.words.put_signed.Goals.{After-put_short-arg-1, Else-width-eq2}
 
 four : (c : Else-width-eq2) → c.args.width ≡ 4
-four c = ⊎_elim (λ e. absurd (c.if-width-eq2.false e)) (λ e. e) c.requires.0
+four c = ⊎_elim (λ e. absurd (c.if-width-eq2.false e)) (λ e. e) c.requires.fact
 
 fit : (c : After-put_short-arg-1) → SFits w16 c.args.value
-fit c = record { sfits = omega (arith, (rw c.if-width-eq2.true at c.requires.1.1).held.half) }
+fit c = record { sfits = omega (arith, (rw c.if-width-eq2.true at c.requires.held).held.half) }
 
 pub overflow_cast-value : goal.overflow_cast-value
 overflow_cast-value c = rw (to_z-of_z w64 c.args.value c.ranges.value) (fit c)
 
 pub put_short-requires : goal.put_short-requires
-put_short-requires c = rw c.if-width-eq2.true at c.requires.1.0
+put_short-requires c = rw c.if-width-eq2.true at c.requires.width_in_bounds
 
 pub returns-then-width-eq2 : goal.returns-then-width-eq2
 returns-then-width-eq2 c = c.put_short.ensures ∙ rw (to_z-of_z w64 c.args.value c.ranges.value, to_z-of_z w16 c.args.value (fit c.before.before.before), c.if-width-eq2.true)

@@ -10,28 +10,28 @@ use Rattle.number_bytes.proofs.words.signed_at.Goals as goal
 use Rattle.number_bytes.proofs.words.signed_at.Goals.{Else-width-eq2}
 
 four : (c : Else-width-eq2) → c.args.width ≡ 4
-four c = ⊎_elim (λ e. absurd (c.if-width-eq2.false e)) (λ e. e) c.requires.0
+four c = ⊎_elim (λ e. absurd (c.if-width-eq2.false e)) (λ e. e) c.requires.fact
 
 pub short_at-requires : goal.short_at-requires
-short_at-requires c = rw c.if-width-eq2.true at c.requires.1
+short_at-requires c = rw c.if-width-eq2.true at c.requires.width_in_bounds
 
 pub overflow_cast-result : goal.overflow_cast-result
-overflow_cast-result c = subst (SFits w64) (sym (to_z-of_z w16 c.short_at.result (record { sfits = c.short_at.type-inv }))) (sfits_widen {w = w16} tt (record { sfits = c.short_at.type-inv }))
+overflow_cast-result c = subst (SFits w64) (sym (to_z-of_z w16 c.short_at.result (record { sfits = c.short_at.type_inv }))) (sfits_widen {w = w16} tt (record { sfits = c.short_at.type_inv }))
 
 pub returns-then-width-eq2 : goal.returns-then-width-eq2
 returns-then-width-eq2 c =
-    let fit : SFits w16 c.short_at.result = record { sfits = c.short_at.type-inv } in
-    let back : to_z w64 (of_z w64 (to_z w16 (of_z w16 c.short_at.result))) ≡ c.short_at.result = to_z-of_z w64 _ (cast-result c) ∙ to_z-of_z w16 c.short_at.result fit in
-    rw c.if-width-eq2.true (back ∙ c.short_at.ensures, rw back (record { held = record { half = omega (arith, c.short_at.type-inv) } }))
+    let fit : SFits w16 c.short_at.result = record { sfits = c.short_at.type_inv } in
+    let back : to_z w64 (of_z w64 (to_z w16 (of_z w16 c.short_at.result))) ≡ c.short_at.result = to_z-of_z w64 _ (overflow_cast-result c) ∙ to_z-of_z w16 c.short_at.result fit in
+    rw c.if-width-eq2.true (record { is = back ∙ c.short_at.ensures; range = rw back (record { held = record { half = omega (arith, c.short_at.type_inv) } }) })
 
 pub long_at-requires : goal.long_at-requires
-long_at-requires c = rw (four c) at c.requires.1
+long_at-requires c = rw (four c) at c.requires.width_in_bounds
 
 pub overflow_cast-result-2 : goal.overflow_cast-result-2
-overflow_cast-result-2 c = subst (SFits w64) (sym (to_z-of_z w32 c.long_at.result (record { sfits = c.long_at.type-inv }))) (sfits_widen {w = w32} tt (record { sfits = c.long_at.type-inv }))
+overflow_cast-result-2 c = subst (SFits w64) (sym (to_z-of_z w32 c.long_at.result (record { sfits = c.long_at.type_inv }))) (sfits_widen {w = w32} tt (record { sfits = c.long_at.type_inv }))
 
 pub returns : goal.returns
 returns c =
-    let fit : SFits w32 c.long_at.result = record { sfits = c.long_at.type-inv } in
-    let back : to_z w64 (of_z w64 (to_z w32 (of_z w32 c.long_at.result))) ≡ c.long_at.result = to_z-of_z w64 _ (cast-result-2 c) ∙ to_z-of_z w32 c.long_at.result fit in
-    rw (four c.before) (back ∙ c.long_at.ensures.0, rw back c.long_at.ensures.1)
+    let fit : SFits w32 c.long_at.result = record { sfits = c.long_at.type_inv } in
+    let back : to_z w64 (of_z w64 (to_z w32 (of_z w32 c.long_at.result))) ≡ c.long_at.result = to_z-of_z w64 _ (overflow_cast-result-2 c) ∙ to_z-of_z w32 c.long_at.result fit in
+    rw (four c.before) (record { is = back ∙ c.long_at.ensures.is; range = rw back c.long_at.ensures.range })

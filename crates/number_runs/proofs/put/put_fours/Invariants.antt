@@ -8,8 +8,8 @@ use Rattle.number_runs.proofs.put.put_fours.Given as goal
 
 abbrev pub invariant-loop-i : goal.invariant-loop-i
 invariant-loop-i l =
-    (sets l.initial.i (l.out + l.i * 2) (signeds_bytes 2 (take (l.n - l.i) (drop (l.numbers + l.i) l.at))) ≡ sets l.initial.out l.out (signeds_bytes 2 (take l.n (drop l.numbers l.at))))
-    × (length l.initial.i ≡ length l.initial.out) × (l.i ≤ l.n) × (l.i % 4 ≡ 0)
+    (sets l.out (l.at + l.i * 2) (signeds_bytes 2 (take (l.m - l.i) (drop (l.from + l.i) l.numbers))) ≡ sets l.initial.out l.at (signeds_bytes 2 (take l.m (drop l.from l.numbers))))
+    × (length l.out ≡ length l.initial.out) × (l.i ≤ l.m) × (l.i % 4 ≡ 0)
 
 abbrev pub decreases-loop-i : goal.decreases-loop-i
-decreases-loop-i l = l.n - l.i
+decreases-loop-i l = l.m - l.i

@@ -8,15 +8,15 @@ use borrow.Author.Rules.{rules}
 use Rattle.number_runs.proofs.put.put_longs.Goals as goal
 
 pub put_run-requires : goal.put_run-requires
-put_run-requires c = ((inr refl, c.requires.0.0), c.requires.1)
+put_run-requires c = ((inr refl, c.requires.held_all.0), c.requires.1)
 
 pub put_run-requires-2 : goal.put_run-requires-2
-put_run-requires-2 c = ((inr refl, c.requires.0.0), search rules)
+put_run-requires-2 c = ((inr refl, c.requires.held_all.0), search rules)
 
 pub put_run-requires-3 : goal.put_run-requires-3
-put_run-requires-3 c = ((inr refl, c.requires.0.0), search rules)
+put_run-requires-3 c = ((inr refl, c.requires.held_all.0), search rules)
 
 pub returns : goal.returns
 returns c =
     let a = c.args in
-    put-runs 4 a.out.now a.at a.numbers.now a.from 16 (a.n % 4) a.n (omega (arith, c.requires.0.1)) c.requires.1.1 c.put_run-2.ensures c.put_run-3.ensures
+    put-runs 4 a.out.now a.at a.numbers.now a.from 16 (a.n % 4) a.n (omega (arith, c.requires.held_all.1)) c.requires.n_in_bounds_2 c.put_run-2.ensures c.put_run-3.ensures

@@ -9,7 +9,7 @@ put_shorts-requires c =
 
 pub put_longs-requires : goal.put_longs-requires
 put_longs-requires c =
-    let w = width_four c.requires.0.0 c.if-width-eq2.false in
+    let w = width_four c.requires.fact.0 c.if-width-eq2.false in
     let p = rw w at c.requires in
     ((p.0.1, p.0.2), p.1)
 
@@ -18,5 +18,5 @@ returns-then-width-eq2 c = rw c.if-width-eq2.true c.put_shorts.ensures
 
 pub returns-else-width-eq2 : goal.returns-else-width-eq2
 returns-else-width-eq2 c =
-    let w = width_four c.requires.0.0 c.if-width-eq2.false in
+    let w = width_four c.requires.fact.0 c.if-width-eq2.false in
     rw w c.put_longs.ensures

@@ -23,27 +23,27 @@ loop-i-init c =
     (rw (x, y, z), refl, omega arith)
 
 pub number-x-requires : goal.number-x-requires
-number-x-requires c = omega (arith, c.requires.1.1, c.loop-i-test.true)
+number-x-requires c = omega (arith, c.requires.n_in_bounds, c.loop-i-test.true)
 
 pub overflow_mul-i : goal.overflow_mul-i
-overflow_mul-i c = record { fits = omega (arith, part-before c.loop-i.i c.args.n c.args.width c.loop-i-test.true, c.requires.1.0) }
+overflow_mul-i c = record { fits = omega (arith, part-before c.loop-i.i c.args.n c.args.width c.loop-i-test.true, c.requires.width_in_bounds) }
 
 pub overflow_add-at : goal.overflow_add-at
-overflow_add-at c = record { fits = omega (arith, part-before c.loop-i.i c.args.n c.args.width c.loop-i-test.true, c.requires.1.0) }
+overflow_add-at c = record { fits = omega (arith, part-before c.loop-i.i c.args.n c.args.width c.loop-i-test.true, c.requires.width_in_bounds) }
 
 pub put_signed-requires : goal.put_signed-requires
 put_signed-requires c =
     let a = c.args in
-    let e = to_z-of_z w64 c.number-x.result (record { sfits = c.number-x.type-inv }) ∙ c.number-x.ensures in
-    (c.requires.0.0, (omega (arith, part-before c.loop-i.i a.n a.width c.loop-i-test.true, c.requires.1.0, c.loop-i.invariant.1), rw e (all_get_d (a.from + c.loop-i.i) (pos 0) c.requires.0.1.each (omega (arith, c.requires.1.1, c.loop-i-test.true)))))
+    let e = to_z-of_z w64 c.number-x.result (record { sfits = c.number-x.type_inv }) ∙ c.number-x.ensures in
+    (c.requires.fact.0, (omega (arith, part-before c.loop-i.i a.n a.width c.loop-i-test.true, c.requires.width_in_bounds, c.loop-i.invariant.1), rw e (all_get_d (a.from + c.loop-i.i) (pos 0) c.requires.fact.1.each (omega (arith, c.requires.n_in_bounds, c.loop-i-test.true)))))
 
 pub loop-i-preserved : goal.loop-i-preserved
 loop-i-preserved c =
     let a = c.args in
     let x = get_or a.numbers.now (a.from + c.loop-i.i) (pos 0) in
-    let e = to_z-of_z w64 c.number-x.result (record { sfits = c.number-x.type-inv }) ∙ c.number-x.ensures in
-    let o : c.put_signed.new.0 ≡ sets c.loop-i.out (a.at + c.loop-i.i * a.width) (signed_bytes a.width x) = c.put_signed.ensures ∙ rw e in (
-      rw o (put_next a.width c.loop-i.out a.at c.loop-i.i a.n a.numbers.now a.from c.loop-i-test.true c.requires.1.1 ∙ c.loop-i.invariant.0),
+    let e = to_z-of_z w64 c.number-x.result (record { sfits = c.number-x.type_inv }) ∙ c.number-x.ensures in
+    let o : c.put_signed.new.out ≡ sets c.loop-i.out (a.at + c.loop-i.i * a.width) (signed_bytes a.width x) = c.put_signed.ensures ∙ rw e in (
+      rw o (put_next a.width c.loop-i.out a.at c.loop-i.i a.n a.numbers.now a.from c.loop-i-test.true c.requires.n_in_bounds ∙ c.loop-i.invariant.0),
       c.put_signed.auto.0 ∙ c.loop-i.invariant.1,
       omega (arith, c.loop-i-test.true),
     )

@@ -8,8 +8,8 @@ use Rattle.number_runs.proofs.put.put_run.Given as goal
 
 abbrev pub invariant-loop-i : goal.invariant-loop-i
 invariant-loop-i l =
-    (sets l.initial.i (l.out + l.i * l.at) (signeds_bytes l.at (take (l.from - l.i) (drop (l.numbers + l.i) l.width))) ≡ sets l.initial.out l.out (signeds_bytes l.at (take l.from (drop l.numbers l.width))))
-    × (length l.initial.i ≡ length l.initial.out) × (l.i ≤ l.from)
+    (sets l.out (l.at + l.i * l.width) (signeds_bytes l.width (take (l.n - l.i) (drop (l.from + l.i) l.numbers))) ≡ sets l.initial.out l.at (signeds_bytes l.width (take l.n (drop l.from l.numbers))))
+    × (length l.out ≡ length l.initial.out) × (l.i ≤ l.n)
 
 abbrev pub decreases-loop-i : goal.decreases-loop-i
-decreases-loop-i l = l.from - l.i
+decreases-loop-i l = l.n - l.i

@@ -8,15 +8,15 @@ use borrow.Author.Rules.{rules}
 use Rattle.number_runs.proofs.put.put_shorts.Goals as goal
 
 pub put_run-requires : goal.put_run-requires
-put_run-requires c = ((inl refl, c.requires.0.0), search rules)
+put_run-requires c = ((inl refl, c.requires.held_all.0), search rules)
 
 pub returns-then-n-lt16 : goal.returns-then-n-lt16
 returns-then-n-lt16 c =
     let a = c.args in
-    put-runs 2 a.out.now a.at a.numbers.now a.from (a.n / 4 * 4) (a.n % 4) a.n (omega arith) c.requires.1.1 c.put_fours.ensures c.put_run.ensures
+    put-runs 2 a.out.now a.at a.numbers.now a.from (a.n / 4 * 4) (a.n % 4) a.n (omega arith) c.requires.n_in_bounds_2 c.put_fours.ensures c.put_run.ensures
 
 pub put_run-requires-2 : goal.put_run-requires-2
-put_run-requires-2 c = ((inl refl, c.requires.0.0), search rules)
+put_run-requires-2 c = ((inl refl, c.requires.held_all.0), search rules)
 
 pub returns : goal.returns
 returns c =

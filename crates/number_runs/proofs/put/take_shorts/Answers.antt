@@ -24,7 +24,7 @@ pub shortened-requires : goal.shortened-requires
 shortened-requires c =
     let a = c.args in
     let i = a.from + c.loop-i.i in
-    rw (to_z-of_z w32 (get_or a.numbers.now i (pos 0)) (record { sfits = c.shortened-arg-1.given })) (all_get_d i (pos 0) c.requires.0.each (omega arith))
+    rw (to_z-of_z w32 (get_or a.numbers.now i (pos 0)) (record { sfits = c.shortened-arg-1.given })) (all_get_d i (pos 0) c.requires.held_all.each (omega arith))
 
 pub offset_bounds-block-i : goal.offset_bounds-block-i
 offset_bounds-block-i c =
@@ -37,7 +37,7 @@ pub loop-i-preserved : goal.loop-i-preserved
 loop-i-preserved c =
     let a = c.args in
     let i = c.loop-i.i in
-    let e = to_z-of_z w32 c.shortened.result (record { sfits = c.shortened.type-inv }) ∙ c.shortened.ensures ∙ to_z-of_z w32 (get_or a.numbers.now (a.from + i) (pos 0)) (record { sfits = c.shortened-arg-1.given }) in (
+    let e = to_z-of_z w32 c.shortened.result (record { sfits = c.shortened.type_inv }) ∙ c.shortened.ensures ∙ to_z-of_z w32 (get_or a.numbers.now (a.from + i) (pos 0)) (record { sfits = c.shortened-arg-1.given }) in (
       rw e (taken_next c.loop-i.block a.numbers.now a.from i (omega arith) (omega arith) c.loop-i.invariant.0),
       simp length-set c.loop-i.invariant.1,
       simp length-set (omega arith),

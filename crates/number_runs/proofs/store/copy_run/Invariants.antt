@@ -6,7 +6,7 @@ use lib.Seq.{sets}
 use Rattle.number_runs.proofs.store.copy_run.Given as goal
 
 abbrev pub invariant-loop-i : goal.invariant-loop-i
-invariant-loop-i l = (sets l.initial.i (l.numbers + l.i) (drop l.i l.block) ≡ sets l.initial.numbers l.numbers l.block) × (length l.initial.i ≡ length l.initial.numbers) × (l.i ≤ length l.block)
+invariant-loop-i l = (sets l.numbers (l.at + l.i) (drop l.i l.block) ≡ sets l.initial.numbers l.at l.block) × (length l.numbers ≡ length l.initial.numbers) × (l.i ≤ length l.block)
 
 abbrev pub decreases-loop-i : goal.decreases-loop-i
 decreases-loop-i l = length l.block - l.i

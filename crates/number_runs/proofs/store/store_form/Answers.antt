@@ -5,13 +5,13 @@ use Rattle.number_bytes.proofs.Widths.{width_four}
 use Rattle.number_runs.proofs.store.store_form.Goals as goal
 
 pub store_shorts-requires : goal.store_shorts-requires
-store_shorts-requires c = (c.requires.0.1, rw c.if-width-eq2.true at c.requires.1)
+store_shorts-requires c = (c.requires.fact.1, rw c.if-width-eq2.true at c.requires.1)
 
 pub store_run-requires : goal.store_run-requires
-store_run-requires c = (inr refl, rw (width_four c.requires.0.0 c.if-width-eq2.false) at c.requires.1)
+store_run-requires c = (inr refl, rw (width_four c.requires.fact.0 c.if-width-eq2.false) at c.requires.1)
 
 pub returns-then-width-eq2 : goal.returns-then-width-eq2
 returns-then-width-eq2 c = rw c.if-width-eq2.true c.store_shorts.ensures
 
 pub returns-else-width-eq2 : goal.returns-else-width-eq2
-returns-else-width-eq2 c = rw (width_four c.requires.0.0 c.if-width-eq2.false) c.store_run.ensures
+returns-else-width-eq2 c = rw (width_four c.requires.fact.0 c.if-width-eq2.false) c.store_run.ensures

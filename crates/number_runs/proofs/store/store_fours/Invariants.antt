@@ -8,8 +8,8 @@ use Rattle.number_runs.proofs.store.store_fours.Given as goal
 
 abbrev pub invariant-loop-i : goal.invariant-loop-i
 invariant-loop-i l =
-    (sets l.initial.i (l.numbers + l.i) (signeds 2 (l.at - l.i) (drop (l.start + l.i * 2) l.s)) ≡ sets l.initial.numbers l.numbers (signeds 2 l.at (drop l.start l.s)))
-    × (length l.initial.i ≡ length l.initial.numbers) × (l.i ≤ l.at) × (l.i % 4 ≡ 0)
+    (sets l.numbers (l.at + l.i) (signeds 2 (l.m - l.i) (drop (l.start + l.i * 2) l.s)) ≡ sets l.initial.numbers l.at (signeds 2 l.m (drop l.start l.s)))
+    × (length l.numbers ≡ length l.initial.numbers) × (l.i ≤ l.m) × (l.i % 4 ≡ 0)
 
 abbrev pub decreases-loop-i : goal.decreases-loop-i
-decreases-loop-i l = l.at - l.i
+decreases-loop-i l = l.m - l.i

@@ -8,10 +8,10 @@ pub store_run-requires : goal.store_run-requires
 store_run-requires c = (inl refl, rw c.if-width-eq2.true at c.requires.1)
 
 pub store_run-requires-else-width-eq2 : goal.store_run-requires-else-width-eq2
-store_run-requires-else-width-eq2 c = (inr refl, rw (width_four c.requires.0 c.if-width-eq2.false) at c.requires.1)
+store_run-requires-else-width-eq2 c = (inr refl, rw (width_four c.requires.fact c.if-width-eq2.false) at c.requires.1)
 
 pub returns-then-width-eq2 : goal.returns-then-width-eq2
 returns-then-width-eq2 c = rw c.if-width-eq2.true c.store_run.ensures
 
 pub returns-else-width-eq2 : goal.returns-else-width-eq2
-returns-else-width-eq2 c = rw (width_four c.requires.0 c.if-width-eq2.false) c.store_run-else-width-eq2.ensures
+returns-else-width-eq2 c = rw (width_four c.requires.fact c.if-width-eq2.false) c.store_run-else-width-eq2.ensures

@@ -21,16 +21,16 @@ loop-i-init c =
     (rw (x, y, z), refl, omega arith)
 
 pub overflow_mul-i : goal.overflow_mul-i
-overflow_mul-i c = record { fits = omega (arith, part-before c.loop-i.i c.args.n c.args.width c.loop-i-test.true, c.requires.1.0) }
+overflow_mul-i c = record { fits = omega (arith, part-before c.loop-i.i c.args.n c.args.width c.loop-i-test.true, c.requires.width_in_bounds) }
 
 pub overflow_add-start : goal.overflow_add-start
-overflow_add-start c = record { fits = omega (arith, part-before c.loop-i.i c.args.n c.args.width c.loop-i-test.true, c.requires.1.0) }
+overflow_add-start c = record { fits = omega (arith, part-before c.loop-i.i c.args.n c.args.width c.loop-i-test.true, c.requires.width_in_bounds) }
 
 pub signed_at-x-requires : goal.signed_at-x-requires
-signed_at-x-requires c = (c.requires.0, omega (arith, part-before c.loop-i.i c.args.n c.args.width c.loop-i-test.true, c.requires.1.0))
+signed_at-x-requires c = record { fact = c.requires.fact; width_in_bounds = omega (arith, part-before c.loop-i.i c.args.n c.args.width c.loop-i-test.true, c.requires.width_in_bounds) }
 
 pub overflow_cast-numbers : goal.overflow_cast-numbers
-overflow_cast-numbers c = rw (to_z-of_z w64 c.signed_at-x.result (record { sfits = c.signed_at-x.type-inv })) (held_fits c.requires.0 c.signed_at-x.ensures.1)
+overflow_cast-numbers c = rw (to_z-of_z w64 c.signed_at-x.result (record { sfits = c.signed_at-x.type_inv })) (held_fits c.requires.fact c.signed_at-x.ensures.range)
 
 pub offset_bounds-numbers-at : goal.offset_bounds-numbers-at
 offset_bounds-numbers-at c =
@@ -40,7 +40,7 @@ offset_bounds-numbers-at c =
 pub loop-i-preserved : goal.loop-i-preserved
 loop-i-preserved c =
     let a = c.args in
-    let x = to_z-of_z w32 _ (cast-numbers c) ∙ to_z-of_z w64 c.signed_at-x.result (record { sfits = c.signed_at-x.type-inv }) ∙ c.signed_at-x.ensures.0 in (
+    let x = to_z-of_z w32 _ (overflow_cast-numbers c) ∙ to_z-of_z w64 c.signed_at-x.result (record { sfits = c.signed_at-x.type_inv }) ∙ c.signed_at-x.ensures.is in (
       rw x (stored_next a.width c.loop-i.numbers a.at c.loop-i.i a.n a.s.now a.start c.loop-i-test.true ∙ c.loop-i.invariant.0),
       simp length-set c.loop-i.invariant.1,
       omega arith,

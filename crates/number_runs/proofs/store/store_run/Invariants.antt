@@ -8,8 +8,8 @@ use Rattle.number_runs.proofs.store.store_run.Given as goal
 
 abbrev pub invariant-loop-i : goal.invariant-loop-i
 invariant-loop-i l =
-    (sets l.initial.i (l.numbers + l.i) (signeds l.width (l.n - l.i) (drop (l.start + l.i * l.width) l.s)) ≡ sets l.initial.numbers l.numbers (signeds l.width l.n (drop l.start l.s)))
-    × (length l.initial.i ≡ length l.initial.numbers) × (l.i ≤ l.n)
+    (sets l.numbers (l.at + l.i) (signeds l.width (l.n - l.i) (drop (l.start + l.i * l.width) l.s)) ≡ sets l.initial.numbers l.at (signeds l.width l.n (drop l.start l.s)))
+    × (length l.numbers ≡ length l.initial.numbers) × (l.i ≤ l.n)
 
 abbrev pub decreases-loop-i : goal.decreases-loop-i
 decreases-loop-i l = l.n - l.i

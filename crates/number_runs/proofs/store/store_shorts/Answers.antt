@@ -22,4 +22,4 @@ pub returns : goal.returns
 returns c =
     let a = c.args in
     let o = store-runs 2 a.numbers.now a.at a.s.now a.start 8 8 16 refl c.store_eight.ensures c.store_eight-2.ensures in
-    store-runs 2 a.numbers.now a.at a.s.now a.start 16 (a.n % 4) a.n (omega (arith, c.requires.0)) o c.store_run-2.ensures
+    store-runs 2 a.numbers.now a.at a.s.now a.start 16 (a.n % 4) a.n (omega (arith, c.requires.n_bound)) o c.store_run-2.ensures

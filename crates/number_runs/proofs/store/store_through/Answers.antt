@@ -15,4 +15,4 @@ pub returns : goal.returns
 returns c =
     let a = c.args in
     let zs = signeds 2 (length a.block.now) (drop a.start a.s.now) in
-    rw (c.store-run.ensures ∙ stored-whole a.block.now zs (length-signeds 2 (length a.block.now) (drop a.start a.s.now))) at c.copy_run.ensures
+    rw (c.store_run.ensures ∙ stored-whole a.block.now zs (length-signeds 2 (length a.block.now) (drop a.start a.s.now))) at c.copy_run.ensures

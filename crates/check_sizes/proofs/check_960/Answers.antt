@@ -1,0 +1,23 @@
+-- `check_sizes::check_960` meets its contract: its buffers have the room that the lines ask. Assumes nothing.
+use mathlib.Core.Path.{ap}
+use native.Mathlib.Omega.{arith}
+use Prim.Native.Nat.{ℕ, ◌+◌}
+use lib.IntN.{ℤ, pos}
+use lib.ListN.{length-replicate}
+use Rattle.answers.specs.declared.WriteResult.{WriteResult}
+use Rattle.branches.specs.Spare.{lines_left}
+use Rattle.check_sizes.proofs.Sizes.{spare-most, kinds-few}
+use Rattle.check_sizes.proofs.Begun.{not-tried, tried}
+use Rattle.check_sizes.proofs.check_960.Goals as goal
+
+pub returns-then-not-is_tried : goal.returns-then-not-is_tried
+returns-then-not-is_tried c = not-tried (ap (λ (w : WriteResult). w.answer.number) c.refusal.ensures)
+
+pub check_within-requires : goal.check_within-requires
+check_within-requires c =
+    let w = c.requires in
+    let a = c.args in
+    record { begun = w.0; spare = spare-most a.header.edition (a.first.count + a.second.count + lines_left a.header.edition a.proof.now a.header.next) w.1 (omega (arith, length-replicate {A = ℤ} 4386 (pos 0))) (omega (arith, length-replicate {A = ℕ} 1096 0, kinds-few a.header.edition a.header.k (a.first.count + a.second.count + lines_left a.header.edition a.proof.now a.header.next) {k = 1096} w.1 w.0.both.low (omega arith))) }
+
+pub returns : goal.returns
+returns c = tried c.check_within.ensures

@@ -1,0 +1,15 @@
+-- `conversion_bundle::put_turned` meets its contract. Assumes nothing.
+use native.Mathlib.Omega.{arith}
+use Rattle.fields.specs.Places.{fields_at}
+use Rattle.conversion_bundle.specs.Turned.{constraints_turned}
+use Rattle.conversion_bundle.proofs.Putting.{header-put}
+use Rattle.conversion_bundle.proofs.put_turned.Goals as goal
+
+pub put_header-requires : goal.put_header-requires
+put_header-requires c = omega (arith, c.requires.k_in_bounds)
+
+pub turn_constraints-requires : goal.turn_constraints-requires
+turn_constraints-requires c = (c.requires.constraints_left, (c.requires.at_value, omega (arith, c.requires.k_in_bounds, c.put_header.auto.0)))
+
+pub returns : goal.returns
+returns c = header-put c.args.to c.args.k c.args.out.now (constraints_turned c.args.to c.args.k (fields_at c.args.s.now c.args.at)) c.put_header.ensures c.turn_constraints.ensures

@@ -1,0 +1,65 @@
+-- `conversion_bundle::turn_run` meets its contract: what is left to write gives what the whole gives. Assumes nothing.
+use mathlib.Core.Path.{◌≡◌, refl, ◌∙◌}
+use mathlib.Core.Bool.{true}
+use Prim.Native.Nat.{◌+◌, ◌*◌, ◌-◌}
+use native.Mathlib.Nat.{zero-mul}
+use native.Mathlib.Omega.{arith}
+use lib.ListN.{take, drop}
+use lib.Seq.{sets}
+use mir.Syntax.{w64}
+use mir.ValLaws.{to_z-of_z}
+use Rattle.number_bytes.specs.Numbers.{signed, signeds, signed_bytes, signeds_bytes}
+use Rattle.number_bytes.proofs.Widths.{part-before}
+use Rattle.conversion_bundle.proofs.Holding.{run-held}
+use Rattle.conversion_bundle.proofs.Putting.{run-next}
+use Rattle.conversion_bundle.proofs.turn_run.Goals as goal
+
+pub loop-i-init : goal.loop-i-init
+loop-i-init c =
+    let a = c.args in
+    let x : a.o + 0 * a.width ≡ a.o = rw (zero-mul a.width) (omega arith) in
+    let y : a.n - 0 ≡ a.n = omega arith in
+    let z : a.start + 0 * a.from ≡ a.start = rw (zero-mul a.from) (omega arith) in
+    (rw (x, y, z), rw (y, z) c.requires.s_value, refl, omega arith)
+
+pub overflow_mul-i : goal.overflow_mul-i
+overflow_mul-i c = record { fits = omega (arith, part-before c.loop-i.i c.args.n c.args.from c.loop-i-test.true, c.requires.from_in_bounds) }
+
+pub overflow_add-start : goal.overflow_add-start
+overflow_add-start c = record { fits = omega (arith, part-before c.loop-i.i c.args.n c.args.from c.loop-i-test.true, c.requires.from_in_bounds) }
+
+pub signed_at-x-requires : goal.signed_at-x-requires
+signed_at-x-requires c = record { fact = c.requires.fact.0; width_in_bounds = omega (arith, part-before c.loop-i.i c.args.n c.args.from c.loop-i-test.true, c.requires.from_in_bounds) }
+
+pub overflow_mul-i-in-loop-i : goal.overflow_mul-i-in-loop-i
+overflow_mul-i-in-loop-i c = record { fits = omega (arith, part-before c.loop-i.i c.args.n c.args.width c.loop-i-test.true, c.requires.width_in_bounds) }
+
+pub overflow_add-o : goal.overflow_add-o
+overflow_add-o c = record { fits = omega (arith, part-before c.loop-i.i c.args.n c.args.width c.loop-i-test.true, c.requires.width_in_bounds) }
+
+pub put_signed-requires : goal.put_signed-requires
+put_signed-requires c =
+    let a = c.args in
+    let e = to_z-of_z w64 c.signed_at-x.result (record { sfits = c.signed_at-x.type_inv }) ∙ c.signed_at-x.ensures.is in
+    (c.requires.fact.1, (omega (arith, part-before c.loop-i.i a.n a.width c.loop-i-test.true, c.requires.width_in_bounds, c.loop-i.invariant.2), rw e (run-held a.from a.s.now a.start c.loop-i.i a.n c.loop-i-test.true a.width c.loop-i.invariant.1).0))
+
+pub loop-i-preserved : goal.loop-i-preserved
+loop-i-preserved c =
+    let a = c.args in
+    let x = signed (take a.from (drop (a.start + c.loop-i.i * a.from) a.s.now)) in
+    let e = to_z-of_z w64 c.signed_at-x.result (record { sfits = c.signed_at-x.type_inv }) ∙ c.signed_at-x.ensures.is in
+    let p : c.put_signed.new.out ≡ sets c.loop-i.out (a.o + c.loop-i.i * a.width) (signed_bytes a.width x) = c.put_signed.ensures ∙ rw e in (
+      rw p (run-next a.from a.width a.s.now a.start c.loop-i.i a.n c.loop-i.out a.o c.loop-i-test.true ∙ c.loop-i.invariant.0),
+      (run-held a.from a.s.now a.start c.loop-i.i a.n c.loop-i-test.true a.width c.loop-i.invariant.1).1,
+      c.put_signed.auto.0 ∙ c.loop-i.invariant.2,
+      omega (arith, c.loop-i-test.true),
+    )
+
+pub shape_of-out : goal.shape_of-out
+shape_of-out c = c.loop-i.invariant.2
+
+pub returns : goal.returns
+unfolding signeds signeds_bytes
+returns c =
+    let e : c.args.n - c.loop-i.i ≡ 0 = omega arith in
+    rw e at c.loop-i.invariant.0

@@ -1,0 +1,19 @@
+-- `convert::put_proof` meets its contract. Assumes nothing.
+use native.Mathlib.Omega.{arith}
+use Rattle.convert.proofs.Phases.{lines-stand, result-too-long, output-short, put-fits, all-put}
+use Rattle.convert.proofs.put_proof.Goals as goal
+
+pub overflow_add-size : goal.overflow_add-size
+overflow_add-size c = omega (arith, c.requires.entered.most)
+
+pub returns-then-size-gt-PROOF_BYTES : goal.returns-then-size-gt-PROOF_BYTES
+returns-then-size-gt-PROOF_BYTES c = result-too-long c.args.to c.args.file.now c.args.out.now c.args.at c.args.k c.args.e c.args.turned c.requires c.if-size-gt-PROOF_BYTES.true c.refused.ensures
+
+pub returns-then-out-size : goal.returns-then-out-size
+returns-then-out-size c = output-short c.args.to c.args.file.now c.args.out.now c.args.at c.args.k c.args.e c.args.turned c.requires (omega (arith, c.if-size-gt-PROOF_BYTES.false)) c.if-out-size.true c.refused-then-out-size.ensures
+
+pub put_entries-requires : goal.put_entries-requires
+put_entries-requires c = (lines-stand c.args.to c.args.file.now c.args.out.now c.args.at c.args.k c.args.e c.args.turned c.requires.entered, (c.requires.entered.enter.short, put-fits c.args.to c.args.file.now c.args.out.now c.args.at c.args.k c.args.e c.args.turned c.requires (omega (arith, c.if-out-size.false)) c.put_header.ensures))
+
+pub returns : goal.returns
+returns c = all-put c.args.to c.args.file.now c.args.out.now c.args.at c.args.k c.args.e c.args.turned c.requires (omega (arith, c.if-size-gt-PROOF_BYTES.false)) (omega (arith, c.if-out-size.false)) c.put_header.ensures c.put_entries.ensures c.acceptance.ensures

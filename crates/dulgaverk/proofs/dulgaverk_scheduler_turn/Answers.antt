@@ -1,0 +1,25 @@
+-- `dulgaverk::dulgaverk_scheduler_turn` meets its contract. Assumes nothing.
+use native.Mathlib.Omega.{arith}
+use borrow.Author.Rules.{rules}
+use mathlib.Core.Path.{sym, ◌∙◌}
+use Rattle.scheduler.proofs.Looking.{next-seated}
+use Rattle.dulgaverk.proofs.Jobs.{turn_serves, turn_idle}
+use Rattle.dulgaverk.proofs.dulgaverk_scheduler_turn.Goals as goal
+
+pub offset_bounds-s-seat : goal.offset_bounds-s-seat
+offset_bounds-s-seat c = let h = next-seated c.args.t1 (sym c.next_seat.ensures ∙ c.in-Seat.is) in record { fits = omega arith }
+
+pub bounds-s-seat : goal.bounds-s-seat
+bounds-s-seat c = next-seated c.args.t1 (sym c.next_seat.ensures ∙ c.in-Seat.is)
+
+pub served-requires : goal.served-requires
+served-requires c = next-seated c.args.t1 (sym c.next_seat.ensures ∙ c.in-Seat.is)
+
+pub enum_told-1 : goal.enum_told-1
+enum_told-1 c = search rules
+
+pub returns-in-Seat : goal.returns-in-Seat
+returns-in-Seat c = turn_serves _ _ _ (sym c.in-Seat.is ∙ c.next_seat.ensures) c.check_job-result.ensures c.served.ensures
+
+pub returns-in-Nobody : goal.returns-in-Nobody
+returns-in-Nobody c = turn_idle _ _ _ (sym c.in-Nobody.is ∙ c.next_seat.ensures) c.idle.ensures

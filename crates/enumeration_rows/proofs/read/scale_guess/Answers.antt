@@ -1,0 +1,13 @@
+-- `enumeration_rows::read::scale_guess` meets its contract. Assumes nothing.
+use native.Mathlib.Omega.{arith}
+use Rattle.enumeration_rows.proofs.Counts.{eights, square}
+use Rattle.enumeration_rows.proofs.read.scale_guess.Goals as goal
+
+pub overflow_mul-result-2 : goal.overflow_mul-result-2
+overflow_mul-result-2 c = omega (arith, eights c.args.n, square c.args.n c.requires, c.ranges.i, c.ranges.alpha)
+
+pub overflow_add-result : goal.overflow_add-result
+overflow_add-result c = omega (arith, eights c.args.n, square c.args.n c.requires, c.ranges.i, c.ranges.alpha)
+
+pub overflow_add-result-3 : goal.overflow_add-result-3
+overflow_add-result-3 c = omega (arith, eights c.args.n, square c.args.n c.requires, c.ranges.i, c.ranges.alpha)

@@ -1,0 +1,12 @@
+-- `formula_write::put_form` meets its contract. Assumes nothing.
+use Prim.Native.Nat.{◌+◌, ◌-◌}
+use Rattle.forms.specs.Flat.{form_in}
+use Rattle.number_bytes.specs.Numbers.{flat}
+use Rattle.formula_write.proofs.Written.{Putting}
+use Rattle.formula_write.proofs.put_form.Given as goal
+
+abbrev pub invariant-loop-x : goal.invariant-loop-x
+invariant-loop-x l = Putting (flat (form_in l.k l.numbers l.at)) l.initial.scratch l.o l.scratch l.x
+
+abbrev pub decreases-loop-x : goal.decreases-loop-x
+decreases-loop-x l = l.k + 1 - l.x

@@ -1,0 +1,36 @@
+-- `rows::derive::append` meets its contract. Assumes nothing.
+use native.Mathlib.Omega.{arith}
+use Rattle.forms.proofs.Editions.{lines-most}
+use mir.ValLaws.{to_z-of_z}
+use Rattle.tally.proofs.Counted.{counted-line, full-line}
+use Rattle.rows.proofs.NewLine.{append-full, append-range, append-made}
+use Rattle.rows.proofs.derive.append.Goals as goal
+
+pub mix_line-requires : goal.mix_line-requires
+mix_line-requires c =
+    let ff = c.ranges.f in
+    let fg = c.ranges.g in
+    let h = counted-line c.line_counted-counted.ensures c.if-made.true in
+    simp to_z-of_z (record { branch = c.requires.ready.branch; first = c.requires.operands.first; second = c.requires.operands.second; space = omega (arith, h.0, lines-most c.args.tally.edition); f_in = c.requires.operands.f_in; g_in = c.requires.operands.g_in })
+
+pub set_kind-requires : goal.set_kind-requires
+set_kind-requires c = omega (arith, c.requires.ready.room)
+
+pub returns-then-mix_line : goal.returns-then-mix_line
+returns-then-mix_line c =
+    let ff = c.ranges.f in
+    let fg = c.ranges.g in
+    let h = counted-line c.line_counted-counted.ensures c.if-made.true in
+    let m = simp to_z-of_z at c.mix_line.ensures in
+    append-made _ _ _ _ _ _ c.requires.ready c.requires.operands h.0 m c.if-mix_line.true c.set_kind.ensures h.1
+
+pub returns-then-made : goal.returns-then-made
+returns-then-made c =
+    let ff = c.ranges.f in
+    let fg = c.ranges.g in
+    let h = counted-line c.line_counted-counted.ensures c.if-made.true in
+    let m = simp to_z-of_z at c.mix_line.ensures in
+    append-range _ _ _ _ _ _ c.requires.ready c.requires.operands h.0 m c.if-mix_line.false
+
+pub returns : goal.returns
+returns c = append-full _ _ _ _ _ _ c.requires.ready (full-line _ c.line_counted-counted.ensures c.if-made.false)

@@ -1,0 +1,24 @@
+-- `shorten::shorten` meets its contract. Assumes nothing.
+use mathlib.Core.Path.{sym, ap, ◌∙◌}
+use Rattle.answers.specs.declared.Answer.{Answer}
+use Rattle.shorten.proofs.Accepting.{is-accepted, is-refused}
+use Rattle.shorten.proofs.shorten.Goals as goal
+
+pub returns-then-checked-ne21 : goal.returns-then-checked-ne21
+returns-then-checked-ne21 c =
+    let k = c.requires in
+    is-refused k.checks k.one (λ e. c.if-checked-ne21.true (ap (λ (a : Answer). a.number) k.is ∙ e)) k.is c.refused.ensures
+
+pub shorten_accepted-requires : goal.shorten_accepted-requires
+shorten_accepted-requires c =
+    let k = c.requires in
+    is-accepted k.checks k.one (sym (ap (λ (a : Answer). a.number) k.is) ∙ c.if-checked-ne21.false)
+
+pub shape_of-report : goal.shape_of-report
+shape_of-report c = c.report-1.given
+
+pub shape_of-table : goal.shape_of-table
+shape_of-table c = c.table-1.given
+
+pub returns : goal.returns
+returns c = c.shorten_accepted.ensures

@@ -1,0 +1,14 @@
+-- `shortening_marks::gather` meets its contract. The invariant `Gathering`: what is left to gather gives what the whole gives, over any number of constants. Assumes nothing.
+use Prim.Native.Nat.{ℕ, ◌-◌}
+use lib.ListN.{length}
+use Rattle.fields.specs.Places.{fields_at}
+use Rattle.shortening_marks.specs.Gathered.{Gatherable}
+use Rattle.shortening_marks.proofs.Gathering.{Gathering}
+use Rattle.shortening_marks.proofs.gather.Given as goal
+
+abbrev pub invariant-loop-tag : goal.invariant-loop-tag
+invariant-loop-tag l =
+    (K : ℕ) → Gatherable l.e K (fields_at l.p l.initial.here) l.initial.lines l.initial.gathered l.initial.steps → Gathering l.p l.initial.here l.e K l.initial.lines l.initial.gathered l.initial.steps l.gathered l.steps l.here l.lines l.depth l.rows
+
+abbrev pub decreases-loop-tag : goal.decreases-loop-tag
+decreases-loop-tag l = length l.p - l.here

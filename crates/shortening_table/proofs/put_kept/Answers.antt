@@ -1,0 +1,28 @@
+-- `shortening_table::put_kept` meets its contract. Assumes nothing.
+use Rattle.shortening_table.proofs.Writing.{puttable, put-stays, put-goes}
+use borrow.Author.Rules.{rules}
+use Rattle.shortening_table.proofs.put_kept.Goals as goal
+
+pub new_number-one-requires : goal.new_number-one-requires
+new_number-one-requires c = c.requires.fewer
+
+pub new_number-two-requires : goal.new_number-two-requires
+new_number-two-requires c = c.requires.fewer
+
+pub put_field-requires : goal.put_field-requires
+put_field-requires c = puttable c.requires c.if-stays.true c.line_count-count.ensures.is
+
+pub overflow_add-result : goal.overflow_add-result
+overflow_add-result c = let room = (c.requires.able c.if-stays.true).room in search rules
+
+pub overflow_add-result-then-stays : goal.overflow_add-result-then-stays
+overflow_add-result-then-stays c = let room = (c.requires.able c.if-stays.true).room in search rules
+
+pub shape_of-out-then-stays : goal.shape_of-out-then-stays
+shape_of-out-then-stays c = c.put_field.ensures.out_length
+
+pub returns-then-stays : goal.returns-then-stays
+returns-then-stays c = put-stays c.if-stays.true c.line_count-count.ensures.is c.new_number-one.ensures c.new_number-two.ensures c.put_field.ensures
+
+pub returns : goal.returns
+returns c = put-goes c.if-stays.false

@@ -1,0 +1,34 @@
+-- `steps::combine_row` meets its contract. Assumes nothing.
+use mir.ValLaws.{to_z-of_z}
+use Rattle.tally.proofs.Counted.{counted-row, full-row}
+use Rattle.steps.proofs.Stepping.{row-full, row-derived}
+use Rattle.steps.proofs.combine_row.Goals as goal
+
+pub combine-requires : goal.combine-requires
+combine-requires c =
+    let a = c.args in
+    let f0 = c.ranges.alpha in
+    let f1 = c.ranges.beta in
+    let h = counted-row c.row_counted-counted.ensures c.if-made.true in
+    simp to_z-of_z (rw h.1 c.requires.ready, c.requires.multiplies)
+
+pub returns-in-Refused : goal.returns-in-Refused
+returns-in-Refused c =
+    let a = c.args in
+    let f0 = c.ranges.alpha in
+    let f1 = c.ranges.beta in
+    let h = counted-row c.row_counted-counted.ensures c.if-made.true in
+    row-derived a.tally h.0 h.1 (simp to_z-of_z at c.combine.ensures) (rw c.in-Refused.is)
+
+pub returns-in-Made : goal.returns-in-Made
+returns-in-Made c =
+    let a = c.args in
+    let f0 = c.ranges.alpha in
+    let f1 = c.ranges.beta in
+    let h = counted-row c.row_counted-counted.ensures c.if-made.true in
+    row-derived a.tally h.0 h.1 (simp to_z-of_z at c.combine.ensures) (rw c.in-Made.is)
+
+pub returns : goal.returns
+returns c =
+    let a = c.args in
+    row-full _ _ _ a.tally _ (full-row a.tally c.row_counted-counted.ensures c.if-made.false)
