@@ -28,7 +28,7 @@ overflow_add-at-in-loop-i c = omega (arith, c.loop-i.invariant.upto)
 
 pub with_term-total-requires : goal.with_term-total-requires
 with_term-total-requires c =
-    let pre = c.requires in record { term_width_in_bounds = omega (arith, c.loop-i.invariant.upto); term_asked = (record { register = omega (arith, c.loop-i.invariant.upto); all = pre.1.all; small = within-le (omega arith) c.loop-i.invariant.bound }, ) }
+    let pre = c.requires in record { term_width_in_bounds = omega (arith, c.loop-i.invariant.upto); term_asked = record { register = omega (arith, c.loop-i.invariant.upto); all = pre.1.all; small = within-le (omega arith) c.loop-i.invariant.bound } }
 
 pub loop-i-smaller : goal.loop-i-smaller
 loop-i-smaller c = omega arith

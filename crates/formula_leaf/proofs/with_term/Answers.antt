@@ -39,4 +39,4 @@ pub overflow_add-result : goal.overflow_add-result
 overflow_add-result c = rw (coefficient-is c, value-is c, to_z-of_z w64 _ (product-in c), total-is c) (sum-in c)
 
 pub returns : goal.returns
-returns c = record { is = rw (coefficient-is c, value-is c, to_z-of_z w64 _ (product-in c), total-is c, to_z-of_z w64 _ (sum-in c), c.term-c.ensures.is, c.number-x.ensures); range = (rw c.term-c.ensures.is at c.term-c.ensures.range, ) }
+returns c = record { is = rw (coefficient-is c, value-is c, to_z-of_z w64 _ (product-in c), total-is c, to_z-of_z w64 _ (sum-in c), c.term-c.ensures.is, c.number-x.ensures); range = rw c.term-c.ensures.is at c.term-c.ensures.range }

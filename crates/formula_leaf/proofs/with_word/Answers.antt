@@ -17,4 +17,4 @@ pub word-x-requires : goal.word-x-requires
 word-x-requires c = rw (to_z-of_z w64 c.number.result (record { sfits = c.number.type_inv }), c.number.ensures) (within-le (omega arith) (c.requires.i_in_bounds_2.1.at c.args.i))
 
 pub returns : goal.returns
-returns c = record { is = c.wrapping_add_u32.ensures.value ∙ rw (c.wrapping_mul.ensures, c.word-x.ensures, c.word-c.ensures, to_z-of_z w64 c.number.result (record { sfits = c.number.type_inv }), c.number.ensures, to_z-of_z w64 c.term.result (record { sfits = c.term.type_inv }), c.term.ensures.is); range = (rw c.term.ensures.is at c.term.ensures.range, ) }
+returns c = record { is = c.wrapping_add_u32.ensures.value ∙ rw (c.wrapping_mul.ensures, c.word-x.ensures, c.word-c.ensures, to_z-of_z w64 c.number.result (record { sfits = c.number.type_inv }), c.number.ensures, to_z-of_z w64 c.term.result (record { sfits = c.term.type_inv }), c.term.ensures.is); range = rw c.term.ensures.is at c.term.ensures.range }

@@ -18,4 +18,4 @@ overflow_cast-result c = rw (to_z-of_z w64 c.signed_of.result (record { sfits = 
 pub returns : goal.returns
 returns c =
     let a = c.args in
-    let back = to_z-of_z w32 _ (overflow_cast-result c) ∙ to_z-of_z w64 c.signed_of.result (record { sfits = c.signed_of.type_inv }) in record { is = back ∙ c.signed_of.ensures ∙ signed-four a.s.now a.at c.four_at.result c.turned_four-n.result c.requires c.four_at.ensures.ends c.four_at.ensures.middle c.turned_four-n.ensures; range = (record { held = rw back (half c) }, ) }
+    let back = to_z-of_z w32 _ (overflow_cast-result c) ∙ to_z-of_z w64 c.signed_of.result (record { sfits = c.signed_of.type_inv }) in record { is = back ∙ c.signed_of.ensures ∙ signed-four a.s.now a.at c.four_at.result c.turned_four-n.result c.requires c.four_at.ensures.ends c.four_at.ensures.middle c.turned_four-n.ensures; range = record { held = rw back (half c) } }

@@ -1,6 +1,6 @@
 -- `number_bytes::words::put_short` meets its contract: a 16-bit number is one of two bytes. Assumes nothing.
 use mathlib.Core.Path.{◌≡◌, ◌∙◌}
-use Prim.Native.Nat.{◌<◌}
+use Prim.Native.Nat.{ℕ, ◌<◌}
 use native.Mathlib.Omega.{arith}
 use lib.IntN.{ℤ}
 use mir.Syntax.{w16, w64}
@@ -11,7 +11,6 @@ use Rattle.number_bytes.specs.Ranges.{Half}
 use Rattle.number_bytes.proofs.Digits.{residue-below}
 use Rattle.number_bytes.proofs.Turned.{pair-bytes}
 use Rattle.number_bytes.proofs.words.put_short.Goals as goal
-use Rattle.number_bytes.proofs.words.put_short.Goals.{After-residue_of-n}
 
 wide : (x : ℤ) → SFits w16 x → SFits w64 (to_z w16 (of_z w16 x))
 wide x h = rw (to_z-of_z w16 x h) (record { sfits = omega (arith, h.sfits) })
@@ -30,21 +29,20 @@ residue_of-n-requires c =
     let x = c.args.value in
     record { half = rw (back x c.ranges.value) (half x c.ranges.value); full_bound = omega arith }
 
-module _ (c : After-residue_of-n) where
-  is : c.residue_of-n.result ≡ residue 0x1_0000 c.args.value
-  is = c.residue_of-n.ensures ∙ rw (back c.args.value c.ranges.value)
+module _ {x : ℤ} (f : SFits w16 x) {n : ℕ} (e : n ≡ residue 0x1_0000 (to_z w64 (of_z w64 (to_z w16 (of_z w16 x))))) where
+  is : n ≡ residue 0x1_0000 x
+  is = e ∙ rw (back x f)
 
-  below : c.residue_of-n.result < 0x1_0000
-  below = rw is (residue-below 0x1_0000 c.args.value (half c.args.value c.ranges.value))
+  below : n < 0x1_0000
+  below = rw is (residue-below 0x1_0000 x (half x f))
 
 pub overflow_cast-n : goal.overflow_cast-n
-overflow_cast-n c = record { fits = below c.before }
+overflow_cast-n c = record { fits = below c.ranges.value c.residue_of-n.ensures }
 
 pub returns : goal.returns
 unfolding signed_bytes
 returns c =
-    let r = c.before.before.before.before.before in
-    let a = r.args in
-    c.put-pair.ensures
-    ∙ pair-bytes a.out.now a.at r.residue_of-n.result c.Turned-pair.result (below r) c.Turned-pair.ensures
-    ∙ rw (is r)
+    let a = c.args in
+    c.put_pair.ensures
+    ∙ pair-bytes a.out.now a.at c.residue_of-n.result c.turned_pair.result (below c.ranges.value c.residue_of-n.ensures) c.turned_pair.ensures
+    ∙ rw (is c.ranges.value c.residue_of-n.ensures)
