@@ -3,7 +3,7 @@ use mathlib.Core.Path.{◌≡◌, refl, sym, ap, ◌∙◌}
 use mathlib.Core.Bool.{Bool, true, false, true≢false}
 use lib.Dec.{ltb}
 use Rattle.forms.specs.Edition.{edition, edition1}
-use Rattle.tally.specs.Tally.{tallied, row_counted, line_counted, open_counted}
+use Rattle.tally.specs.Tally.{tallied, row_counted, line_counted, open_counted, Advanced}
 use Rattle.tally.specs.declared.Tally.{Tally}
 use Rattle.tally.specs.declared.Tallied.{Tallied}
 
@@ -34,3 +34,11 @@ line-keeps t isnt = refused (ltb t.lines.0 (edition t.edition).lines) _ t isnt
 pub open-keeps : Keeps open_counted
 unfolding open_counted
 open-keeps t isnt = refused (ltb t.«open» edition1.branchings) _ t isnt
+
+-- what a step on a lent tally leaves, by the result r of the step on its value
+pub advanced : (f : Tally → Tallied) → Keeps f → (t : Tally) {r : Tallied} → r ≡ f t → Advanced f t r.tally r.made
+advanced f keeps t e = record {
+  tally_is = ap (λ (x : Tallied). x.tally) e;
+  made_is = ap (λ (x : Tallied). x.made) e;
+  refused = λ isnt. ap (λ (x : Tallied). x.tally) e ∙ keeps t (sym (ap (λ (x : Tallied). x.made) e) ∙ isnt);
+}

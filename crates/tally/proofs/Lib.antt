@@ -1,5 +1,3 @@
--- Laws of the tally, and of a tally that is lent.
+-- Laws of the tally.
 pub mod Counted
 pub mod Counting
-pub mod Lending
-pub mod Lent
