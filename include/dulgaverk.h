@@ -1,6 +1,6 @@
 /* Dulgaverk, the verified office checker: its operations for C and C++.
  *
- * Link target/staticlib/libdulgaverk.a, which `rt staticlib dulgaverk` writes (x86-64 Linux), or what `./install` puts below a
+ * Link target/staticlib/libdulgaverk.a, which `scripts/library` writes (x86-64 Linux), or what `./install` puts below a
  * folder, with the flags of `pkg-config --cflags --libs dulgaverk`. It needs nothing but the C library.
  *
  * In every call

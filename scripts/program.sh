@@ -37,13 +37,19 @@ needs() { # COMMAND WHAT
     command -v "$1" >/dev/null || fail "$1 is not there: ./${self##*/} needs $2"
 }
 
+# The sources that are newer than what was made of them, one of them at most. (What rt keeps, and what it makes, is in out/.)
+newer() { # FILE
+    find "$root/crates.txt" "$root/crates" -name out -prune -o -type f -newer "$1" -print | head -n 1
+}
+
 # Builds a program where there is none, or a source is newer. It is proved first, with all below it, which takes some minutes.
+# (rt runs it too, in its own folder.)
 build() { # NAME
     program=$root/target/bin/$1
-    if [ ! -x "$program" ] || [ -n "$(find "$root/crates.txt" "$root/crates" -type f -newer "$program" -print | head -n 1)" ]; then
+    if [ ! -x "$program" ] || [ -n "$(newer "$program")" ]; then
         needs rt "the Rattle kit to prove and build target/bin/$1"
-        (cd "$root" && rt check "$1") >&2 || exit 2
-        touch "$program"
+        (cd "$root/crates/$1" && rt run) >&2 </dev/null || exit 2
+        mkdir -p "$root/target/bin" && cp "$root/crates/$1/out/$1" "$program" || exit 2
     fi
 }
 
@@ -71,15 +77,20 @@ show() {
     printf '%s\n' "$said" || exit 2
 }
 
-# Builds the library, from the root. On a terminal rt shows how far it is, elsewhere only what went wrong.
+# Proves and builds the library, from the root, and puts it where it is linked.
+archive() {
+    (cd crates/dulgaverk && rt lib) && mkdir -p target/staticlib && cp crates/dulgaverk/out/libdulgaverk.a target/staticlib/
+}
+
+# The same. On a terminal rt shows how far it is, elsewhere only what went wrong.
 library() {
     needs rt 'the Rattle kit to prove and build the library'
     tell 'building target/staticlib/libdulgaverk.a: what is not proved yet is proved first, which can take some minutes'
     if [ -t 2 ]; then
-        rt staticlib dulgaverk >&2 || exit 2
+        archive >&2 || exit 2
     else
         mkdir -p target
-        rt staticlib dulgaverk >target/staticlib.log 2>&1 || fail "$(cat target/staticlib.log)"
+        archive >target/staticlib.log 2>&1 || fail "$(cat target/staticlib.log)"
     fi
 }
 

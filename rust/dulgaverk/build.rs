@@ -1,4 +1,4 @@
-//! Links target/staticlib/libdulgaverk.a, which `rt staticlib dulgaverk` writes.
+//! Links target/staticlib/libdulgaverk.a, which `scripts/library` writes.
 
 fn main() {
     let root = std::env::var("CARGO_MANIFEST_DIR").expect("set by cargo");
@@ -6,7 +6,7 @@ fn main() {
     let library = format!("{folder}/libdulgaverk.a");
     assert!(
         std::path::Path::new(&library).exists(),
-        "{library} is missing: run `rt staticlib dulgaverk` first"
+        "{library} is missing: run `scripts/library` first"
     );
     println!("cargo:rustc-link-search=native={folder}");
     println!("cargo:rustc-link-lib=static=dulgaverk");

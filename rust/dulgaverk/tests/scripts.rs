@@ -69,13 +69,14 @@ struct Bare {
 impl Bare {
     fn new(name: &str) -> Bare {
         let folder = own_folder(name);
-        for inside in ["scripts", "crates", "tools", "target/bin"] {
+        for inside in ["scripts", "crates/dulgaverk/out", "tools", "target/bin"] {
             fs::create_dir_all(folder.join(inside)).expect("a folder");
         }
+        fs::write(folder.join("crates/dulgaverk/out/libdulgaverk.a"), "").expect("a file");
         for file in SCRIPTS.iter().chain(&["scripts/program.sh", "crates.txt"]) {
             fs::copy(root().join(file), folder.join(file)).expect("a file");
         }
-        for tool in ["sh", "readlink", "sed", "find", "head", "mkdir", "cat"] {
+        for tool in ["sh", "readlink", "sed", "find", "head", "mkdir", "cat", "cp"] {
             let found = text(&shell(&format!("command -v {tool}")).stdout);
             symlink(found.trim_end(), folder.join("tools").join(tool)).expect("a link");
         }

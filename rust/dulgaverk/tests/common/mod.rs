@@ -44,7 +44,7 @@ impl Folder {
         let output = Command::new(root().join("target/bin").join(self.program))
             .current_dir(&self.path)
             .output()
-            .expect("the program, which rt check builds");
+            .expect("the program, which ./test builds");
         let _ = fs::remove_dir_all(&self.path);
         String::from_utf8(output.stdout).expect("text")
     }
