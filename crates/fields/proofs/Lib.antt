@@ -9,5 +9,3 @@ pub mod Places
 pub mod Stores
 pub mod Headers
 pub mod Endings
-pub mod Unpacking
-pub mod Together

@@ -9,7 +9,7 @@ use lib.ListN.{length, get_or, take, drop, length-drop, drop_of_length-le}
 use lib.Seq.{drop-cons, drop-drop, length-take-le}
 use borrow.Author.Tests.{le-leb, lt-leb, leb-true, leb-false}
 use Rattle.number_bytes.specs.Numbers.{unsigned}
-use Rattle.fields.specs.Fields.{Field, Front, whole, broken, nothing, front, Fields, ends, cut, ◌▸◌, note, unless_note, fields_from, fields}
+use Rattle.fields.specs.Fields.{Front, whole, broken, nothing, front, Fields, ends, cut, ◌▸◌, note, unless_note, fields_from, fields}
 use Rattle.fields.specs.Places.{found_in, found_at, fields_at, field_count, fields_left, next_of}
 use Rattle.fields.specs.declared.Found.{Found}
 use Rattle.fields.specs.declared.Next.{Next}

@@ -2,7 +2,7 @@
 use Rattle.std.specs.Prelude.{◌≡◌, List, ℕ, zero, suc, ◌+◌, ◌-◌, length, drop}
 use Rattle.std.proofs.Math.Option.{Option, none, some}
 use Rattle.answers.specs.Answers.{answer, Result, refused, accepted}
-use Rattle.fields.specs.Fields.{Field, Front, whole, broken, nothing, front, Fields, ends, cut, ◌▸◌, fields_from, fields}
+use Rattle.fields.specs.Fields.{Front, whole, broken, nothing, front, Fields, ends, cut, ◌▸◌, fields_from, fields}
 use Rattle.fields.specs.Header.{Header, header_field, edition_field, constants_field, header}
 use Rattle.fields.specs.declared.FileKind.{FileKind}
 use Rattle.fields.specs.declared.Found.{Found}

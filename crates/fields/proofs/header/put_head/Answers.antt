@@ -11,7 +11,7 @@ put_unsigned-requires c = simp length-set (omega arith)
 pub shape_of-out : goal.shape_of-out
 shape_of-out c =
     let a = c.args in
-    c.put_unsigned.auto.0 ∙ length-set a.out.now a.at a.tag
+    c.put_unsigned.auto.out ∙ length-set a.out.now a.at a.tag
 
 pub returns : goal.returns
 returns c = c.put_unsigned.ensures ∙ rw add-one
