@@ -20,7 +20,7 @@ loop-i-preserved c =
     let l = c.loop-i in
     let h : l.i + 4 ≤ a.n / 4 * 4 = omega arith in (
       put-more 2 l.out a.at l.i 4 (a.n / 4 * 4) a.numbers.now a.from h (omega arith) c.put_four.ensures ∙ l.invariant.0,
-      c.put_four.auto.0 ∙ l.invariant.1,
+      c.put_four.auto.out ∙ l.invariant.1,
       h,
       omega arith,
     )

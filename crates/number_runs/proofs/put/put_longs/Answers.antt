@@ -8,13 +8,13 @@ use borrow.Author.Rules.{rules}
 use Rattle.number_runs.proofs.put.put_longs.Goals as goal
 
 pub put_run-requires : goal.put_run-requires
-put_run-requires c = ((inr refl, c.requires.held_all.0), c.requires.1)
+put_run-requires c = record { fact = (inr refl, c.requires.held_all.0); width_in_bounds = c.requires.n_in_bounds; n_in_bounds = c.requires.n_in_bounds_2 }
 
 pub put_run-requires-2 : goal.put_run-requires-2
-put_run-requires-2 c = ((inr refl, c.requires.held_all.0), search rules)
+put_run-requires-2 c = record { fact = (inr refl, c.requires.held_all.0); width_in_bounds = search rules; n_in_bounds = search rules }
 
 pub put_run-requires-3 : goal.put_run-requires-3
-put_run-requires-3 c = ((inr refl, c.requires.held_all.0), search rules)
+put_run-requires-3 c = record { fact = (inr refl, c.requires.held_all.0); width_in_bounds = search rules; n_in_bounds = search rules }
 
 pub returns : goal.returns
 returns c =

@@ -4,14 +4,13 @@ use Rattle.number_runs.proofs.put.put_numbers.Goals as goal
 
 pub put_shorts-requires : goal.put_shorts-requires
 put_shorts-requires c =
-    let p = rw c.if-width-eq2.true at c.requires in
-    ((p.0.1, p.0.2), p.1)
+    let e = c.if-width-eq2.true in
+    record { held_all = (rw e at c.requires.fact.1, c.requires.fact.2); n_in_bounds = rw e at c.requires.width_in_bounds; n_in_bounds_2 = c.requires.n_in_bounds }
 
 pub put_longs-requires : goal.put_longs-requires
 put_longs-requires c =
     let w = width_four c.requires.fact.0 c.if-width-eq2.false in
-    let p = rw w at c.requires in
-    ((p.0.1, p.0.2), p.1)
+    record { held_all = (rw w at c.requires.fact.1, c.requires.fact.2); n_in_bounds = rw w at c.requires.width_in_bounds; n_in_bounds_2 = c.requires.n_in_bounds }
 
 pub returns-then-width-eq2 : goal.returns-then-width-eq2
 returns-then-width-eq2 c = rw c.if-width-eq2.true c.put_shorts.ensures

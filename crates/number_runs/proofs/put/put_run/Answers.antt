@@ -35,7 +35,11 @@ pub put_signed-requires : goal.put_signed-requires
 put_signed-requires c =
     let a = c.args in
     let e = to_z-of_z w64 c.number-x.result (record { sfits = c.number-x.type_inv }) ∙ c.number-x.ensures in
-    (c.requires.fact.0, (omega (arith, part-before c.loop-i.i a.n a.width c.loop-i-test.true, c.requires.width_in_bounds, c.loop-i.invariant.1), rw e (all_get_d (a.from + c.loop-i.i) (pos 0) c.requires.fact.1.each (omega (arith, c.requires.n_in_bounds, c.loop-i-test.true)))))
+    record {
+      fact = c.requires.fact.0;
+      width_in_bounds = omega (arith, part-before c.loop-i.i a.n a.width c.loop-i-test.true, c.requires.width_in_bounds, c.loop-i.invariant.1);
+      held = rw e (all_get_d (a.from + c.loop-i.i) (pos 0) c.requires.fact.1.each (omega (arith, c.requires.n_in_bounds, c.loop-i-test.true)));
+    }
 
 pub loop-i-preserved : goal.loop-i-preserved
 loop-i-preserved c =
@@ -44,7 +48,7 @@ loop-i-preserved c =
     let e = to_z-of_z w64 c.number-x.result (record { sfits = c.number-x.type_inv }) ∙ c.number-x.ensures in
     let o : c.put_signed.new.out ≡ sets c.loop-i.out (a.at + c.loop-i.i * a.width) (signed_bytes a.width x) = c.put_signed.ensures ∙ rw e in (
       rw o (put_next a.width c.loop-i.out a.at c.loop-i.i a.n a.numbers.now a.from c.loop-i-test.true c.requires.n_in_bounds ∙ c.loop-i.invariant.0),
-      c.put_signed.auto.0 ∙ c.loop-i.invariant.1,
+      c.put_signed.auto.out ∙ c.loop-i.invariant.1,
       omega (arith, c.loop-i-test.true),
     )
 

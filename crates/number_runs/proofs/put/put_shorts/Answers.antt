@@ -8,7 +8,7 @@ use borrow.Author.Rules.{rules}
 use Rattle.number_runs.proofs.put.put_shorts.Goals as goal
 
 pub put_run-requires : goal.put_run-requires
-put_run-requires c = ((inl refl, c.requires.held_all.0), search rules)
+put_run-requires c = record { fact = (inl refl, c.requires.held_all.0); width_in_bounds = search rules; n_in_bounds = search rules }
 
 pub returns-then-n-lt16 : goal.returns-then-n-lt16
 returns-then-n-lt16 c =
@@ -16,11 +16,11 @@ returns-then-n-lt16 c =
     put-runs 2 a.out.now a.at a.numbers.now a.from (a.n / 4 * 4) (a.n % 4) a.n (omega arith) c.requires.n_in_bounds_2 c.put_fours.ensures c.put_run.ensures
 
 pub put_run-requires-2 : goal.put_run-requires-2
-put_run-requires-2 c = ((inl refl, c.requires.held_all.0), search rules)
+put_run-requires-2 c = record { fact = (inl refl, c.requires.held_all.0); width_in_bounds = search rules; n_in_bounds = search rules }
 
 pub returns : goal.returns
 returns c =
     let a = c.args in
     let p = c.requires in
     let o = put-runs 2 a.out.now a.at a.numbers.now a.from 8 8 16 refl (omega arith) c.put_eight.ensures c.put_eight-2.ensures in
-    put-runs 2 a.out.now a.at a.numbers.now a.from 16 (a.n % 4) a.n (omega (arith, p.0.1)) p.1.1 o c.put_run-2.ensures
+    put-runs 2 a.out.now a.at a.numbers.now a.from 16 (a.n % 4) a.n (omega (arith, p.held_all.1)) p.n_in_bounds_2 o c.put_run-2.ensures

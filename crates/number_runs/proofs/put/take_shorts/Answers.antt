@@ -18,7 +18,7 @@ loop-i-init c = (refl, refl, omega arith)
 pub offset_bounds-numbers-from : goal.offset_bounds-numbers-from
 offset_bounds-numbers-from c =
     let a = c.args in
-    scaled_Fits (a.from + c.loop-i.i) (length a.numbers.now) 4 (omega arith) c.well-formed.0.1
+    scaled_Fits (a.from + c.loop-i.i) (length a.numbers.now) 4 (omega arith) c.well_formed.0.1
 
 pub shortened-requires : goal.shortened-requires
 shortened-requires c =
@@ -28,7 +28,7 @@ shortened-requires c =
 
 pub offset_bounds-block-i : goal.offset_bounds-block-i
 offset_bounds-block-i c =
-    scaled_Fits c.loop-i.i (length c.args.block.now) 4 (omega arith) c.well-formed.1.1.0.1
+    scaled_Fits c.loop-i.i (length c.args.block.now) 4 (omega arith) c.well_formed.1.1.0.1
 
 pub loop-i-smaller : goal.loop-i-smaller
 loop-i-smaller c = simp length-set (omega arith)

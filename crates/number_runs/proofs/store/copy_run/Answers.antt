@@ -16,10 +16,10 @@ loop-i-init c =
     (rw e, refl, omega arith)
 
 pub offset_bounds-block-i : goal.offset_bounds-block-i
-offset_bounds-block-i c = scaled_Fits c.loop-i.i (length c.args.block.now) 4 (omega arith) c.well-formed.0.1
+offset_bounds-block-i c = scaled_Fits c.loop-i.i (length c.args.block.now) 4 (omega arith) c.well_formed.0.1
 
 pub offset_bounds-numbers-at : goal.offset_bounds-numbers-at
-offset_bounds-numbers-at c = scaled_Fits (c.args.at + c.loop-i.i) (length c.args.numbers.now) 4 (omega arith) c.well-formed.1.0.1
+offset_bounds-numbers-at c = scaled_Fits (c.args.at + c.loop-i.i) (length c.args.numbers.now) 4 (omega arith) c.well_formed.1.0.1
 
 pub loop-i-preserved : goal.loop-i-preserved
 loop-i-preserved c =

@@ -20,7 +20,7 @@ loop-i-preserved c =
     let l = c.loop-i in
     let h : l.i + 4 ≤ a.n / 4 * 4 = omega arith in (
       store-more 2 l.numbers a.at l.i 4 (a.n / 4 * 4) a.s.now a.start h c.store_four.ensures ∙ l.invariant.0,
-      c.store_four.auto.1.1.0 ∙ l.invariant.1,
+      c.store_four.auto.numbers ∙ l.invariant.1,
       h,
       omega arith,
     )

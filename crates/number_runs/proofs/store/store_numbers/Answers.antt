@@ -5,10 +5,10 @@ use Rattle.number_bytes.proofs.Widths.{width_four}
 use Rattle.number_runs.proofs.store.store_numbers.Goals as goal
 
 pub store_run-requires : goal.store_run-requires
-store_run-requires c = (inl refl, rw c.if-width-eq2.true at c.requires.1)
+store_run-requires c = record { fact = inl refl; width_in_bounds = rw c.if-width-eq2.true at c.requires.width_in_bounds; n_in_bounds = c.requires.n_in_bounds }
 
 pub store_run-requires-else-width-eq2 : goal.store_run-requires-else-width-eq2
-store_run-requires-else-width-eq2 c = (inr refl, rw (width_four c.requires.fact c.if-width-eq2.false) at c.requires.1)
+store_run-requires-else-width-eq2 c = record { fact = inr refl; width_in_bounds = rw (width_four c.requires.fact c.if-width-eq2.false) at c.requires.width_in_bounds; n_in_bounds = c.requires.n_in_bounds }
 
 pub returns-then-width-eq2 : goal.returns-then-width-eq2
 returns-then-width-eq2 c = rw c.if-width-eq2.true c.store_run.ensures

@@ -35,7 +35,7 @@ overflow_cast-numbers c = rw (to_z-of_z w64 c.signed_at-x.result (record { sfits
 pub offset_bounds-numbers-at : goal.offset_bounds-numbers-at
 offset_bounds-numbers-at c =
     let a = c.args in
-    scaled_Fits (a.at + c.loop-i.i) (length a.numbers.now) 4 (omega arith) c.well-formed.1.1.1.1.0.1
+    scaled_Fits (a.at + c.loop-i.i) (length a.numbers.now) 4 (omega arith) c.well_formed.1.1.1.1.0.1
 
 pub loop-i-preserved : goal.loop-i-preserved
 loop-i-preserved c =

@@ -8,7 +8,7 @@ use borrow.Author.Rules.{rules}
 use Rattle.number_runs.proofs.store.store_shorts.Goals as goal
 
 pub store_run-requires : goal.store_run-requires
-store_run-requires c = (inl refl, search rules)
+store_run-requires c = record { fact = inl refl; width_in_bounds = search rules; n_in_bounds = search rules }
 
 pub returns-then-n-lt16 : goal.returns-then-n-lt16
 returns-then-n-lt16 c =
@@ -16,7 +16,7 @@ returns-then-n-lt16 c =
     store-runs 2 a.numbers.now a.at a.s.now a.start (a.n / 4 * 4) (a.n % 4) a.n (omega arith) c.store_fours.ensures c.store_run.ensures
 
 pub store_run-requires-2 : goal.store_run-requires-2
-store_run-requires-2 c = (inl refl, search rules)
+store_run-requires-2 c = record { fact = inl refl; width_in_bounds = search rules; n_in_bounds = search rules }
 
 pub returns : goal.returns
 returns c =

@@ -9,7 +9,7 @@ use borrow.Author.Rules.{rules}
 use Rattle.number_runs.proofs.store.store_through.Goals as goal
 
 pub store_run-requires : goal.store_run-requires
-store_run-requires c = (inl refl, search rules)
+store_run-requires c = record { fact = inl refl; width_in_bounds = search rules; n_in_bounds = search rules }
 
 pub returns : goal.returns
 returns c =
