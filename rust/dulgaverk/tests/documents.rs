@@ -153,7 +153,7 @@ fn names_of_the_trial_stand_in_their_files() {
     let mut found = 0;
     for line in program.lines() {
         let Some((path, names)) = line
-            .strip_prefix("use Rattle·")
+            .strip_prefix("use Rattle.")
             .and_then(|line| line.strip_suffix('}')?.split_once(".{"))
         else {
             continue;
@@ -179,7 +179,8 @@ fn every_crate_is_in_the_layout() {
         .lines()
         .filter(|line| !line.starts_with('#'))
         .filter_map(|line| line.split_once(':'))
-        .map(|(name, _)| name.to_string())
+        .filter_map(|(name, _)| name.split(' ').next())
+        .map(str::to_string)
         .collect();
     let page = fs::read_to_string(root().join("README.md")).expect("a page");
     let layout = page.split("## Layout").nth(1).expect("the part");

@@ -13,75 +13,75 @@ const CASES_A_FILE: usize = 25;
 /// The number that is no longer given: no case has it.
 const NOT_GIVEN: &str = "22";
 
-const USES: &str = "use mathlib.Core.Path.{_≡_, refl}
-use mathlib.Core.List.{List, [], _∷_, _++_}
+const USES: &str = "use mathlib.Core.Path.{◌≡◌, refl}
+use mathlib.Core.List.{List, [], ◌∷◌, ◌++◌}
 use mathlib.Core.Bool.{true, false}
 use Prim.Native.Nat.{ℕ, zero, suc}
 use lib.ListN.{replicate}
 use lib.IntN.{ℤ, pos, negsuc}
-use Rattle·forms.specs.Edition.{newestEdition}
-use Rattle·integers.specs.Remainder.{remainder}
-use Rattle·forms.specs.Forms.{coeff, sum, value, sums, _⊞_, _·_, _plus_, nonzero, small, every}
-use Rattle·forms.specs.Reduced.{reduced}
-use Rattle·calculus.specs.Rules.{inRange}
-use Rattle·answers.specs.Answers.{position, answerAt, rowTold, _>>=_, _>>_, need, found, each, over, fit, written}
-use Rattle·number_bytes.specs.Numbers.{unsigned, complement, signed, unsignedBytes, residue, signedBytes, unsigneds, unsignedsBytes, signeds, signedsBytes, flat, formFrom, formBytes}
-use Rattle·number_bytes.specs.Same.{sameBytes}
-use Rattle·fields.specs.Fields.{front, note, unlessNote, fieldsFrom, fields, fieldBytes, nth, fileOf}
-use Rattle·fields.specs.Header.{headerTag, known, agrees, headerField, editionField, constantsField, header, finished, headerBytes}
-use Rattle·bundle.specs.Bundle.{kindTagged, atMost, formSmall, constraints, bundleHeader, bundle, bundles, bothRead}
-use Rattle·bundle.specs.Read.{kindNumber, kindsOf, numbersOf, unread, store, stored, readBundle}
-use Rattle·bundle.specs.Write.{constraintsBytes, holdable, encodeBundle, writeBundle}
-use Rattle·bundle.specs.Show.{partOf, constraintPart, shownPart, answerOf, showAnswer, handed, showPart}
-use Rattle·formula.specs.Formula.{encode, formulaFile, formulaTagged, compound, formulaSize, formulaOf, formulaField, twoParts, formulaWithin, readFormula}
-use Rattle·formula.specs.Test.{holds, judge, tested, judged, testFormula}
-use Rattle·formula.specs.TestList.{vectors, readForList, truths, testList}
-use Rattle·printing.specs.Text.{decimalBy, decimal, termText, propText}
-use Rattle·printing.specs.Translation.{integer, unlessZero, termsOf, summed, termOf, smt}
-use Rattle·printing.specs.Words.{unlessNone, summandsOf, sumOf, worded}
-use Rattle·printing.specs.WordsText.{summandText, summandsText, sumText, wordingText}
-use Rattle·printing.specs.Print.{textBehind, printed, printFormula}
-use Rattle·proof.specs.Entries.{entryTagged, renumbered, inPlace, lineNumber, multiplier, sizeOf, entryFrom, entry}
-use Rattle·proof.specs.Rows.{is, plainKind, owner, fails, equals, sameForm, lineAt, derived, fitting, undivided, inequality, roundable, disequality, byNumber, byStride, states}
-use Rattle·conversion.specs.Turning.{asked, otherEdition, eachField, numbersFit, resultWithin, bundleTurned, behindHeader, entriesRead, makesLine, linesFit, linesTurned, fieldsTurned, proofTurned, turnBundle, turnProof}
-use Rattle·proof.specs.Check.{checkRounded, checkSplit, checkRow, checkEntry, checkEntries, checkBranch, checkProof, formulaAtMost, interpolant, checkBy, check}
-use Rattle·shortening.specs.Shorten.{shorter, shortening, fitBoth, writtenBoth, shorten}
-use Rattle·enumeration.specs.ShortProofs.{rowItem, proofFile}
-use Rattle·enumeration.specs.Sequence.{concatMap, upFrom, combines, reduces, scales, inferences, numberCloses, strideCloses, closeRows, newLine, closeFormula, ifAccepted, proofsOf, shortProofsOf, shortProofs}
-use Rattle·enumeration.specs.Next.{firstRows, following, nextRows, nextFile, nextProof}
-use Rattle·run.specs.Uniform.{withNumber, sameItems, walkBranches, firstAndThird, allAlike, walkOpened, walkClosed, walkRow, walkEntry, walkEntries, walkBranch, uniform}
-use Rattle·run.specs.Run.{parted, total, parts, stagesShort, readStages, constantsOf, runOf, claimRefused, checkCut, both, checkCuts, checkRun, guardFiles, unwritten, fitGuards, writtenGuards, guardsBy, guards}
-use Rattle·scheduler.specs.Scheduler.{empty, isWaiting, submission, cancellation, nextFrom, nextSeat, checkJob, turnAt, turn as turned}
-use Rattle·scheduler.specs.Promises.{changed}
-use Rattle·scheduler.specs.Table.{submit, cancel, turn, job, played}
+use Rattle.forms.specs.Edition.{newest_edition}
+use Rattle.integers.specs.Remainder.{remainder}
+use Rattle.forms.specs.Forms.{coeff, sum, value, sums, ◌⊞◌, ◌·◌, ◌plus◌, nonzero, small, every}
+use Rattle.forms.specs.Reduced.{reduced}
+use Rattle.calculus.specs.Rules.{in_range}
+use Rattle.answers.specs.Answers.{position, answer_at, row_told, ◌>>=◌, ◌>>◌, need, found, each, over, fit, written}
+use Rattle.number_bytes.specs.Numbers.{unsigned, complement, signed, unsigned_bytes, residue, signed_bytes, unsigneds, unsigneds_bytes, signeds, signeds_bytes, flat, form_from, form_bytes}
+use Rattle.number_bytes.specs.Same.{same_bytes}
+use Rattle.fields.specs.Fields.{front, note, unless_note, fields_from, fields, field_bytes, nth, file_of}
+use Rattle.fields.specs.Header.{header_tag, known, agrees, header_field, edition_field, constants_field, header, finished, header_bytes}
+use Rattle.bundle.specs.Bundle.{kind_tagged, at_most, form_small, constraints, bundle_header, bundle, bundles, both_read}
+use Rattle.bundle.specs.Read.{kind_number, kinds_of, numbers_of, unread, store, stored, read_bundle}
+use Rattle.bundle.specs.Write.{constraints_bytes, holdable, encode_bundle, write_bundle}
+use Rattle.bundle.specs.Show.{part_of, constraint_part, shown_part, answer_of, show_answer, handed, show_part}
+use Rattle.formula.specs.Formula.{encode, formula_file, formula_tagged, compound, formula_size, formula_of, formula_field, two_parts, formula_within, read_formula}
+use Rattle.formula.specs.Test.{holds, judge, tested, judged, test_formula}
+use Rattle.formula.specs.TestList.{vectors, read_for_list, truths, test_list}
+use Rattle.printing.specs.Text.{decimal_by, decimal, term_text, prop_text}
+use Rattle.printing.specs.Translation.{integer, unless_zero, terms_of, summed, term_of, smt}
+use Rattle.printing.specs.Words.{unless_none, summands_of, sum_of, worded}
+use Rattle.printing.specs.WordsText.{summand_text, summands_text, sum_text, wording_text}
+use Rattle.printing.specs.Print.{text_behind, printed, print_formula}
+use Rattle.proof.specs.Entries.{entry_tagged, renumbered, in_place, line_number, multiplier, size_of, entry_from, entry}
+use Rattle.proof.specs.Rows.{is, plain_kind, owner, fails, equals, same_form, line_at, derived, fitting, undivided, inequality, roundable, disequality, by_number, by_stride, states}
+use Rattle.conversion.specs.Turning.{asked, other_edition, each_field, numbers_fit, result_within, bundle_turned, behind_header, entries_read, makes_line, lines_fit, lines_turned, fields_turned, proof_turned, turn_bundle, turn_proof}
+use Rattle.proof.specs.Check.{check_rounded, check_split, check_row, check_entry, check_entries, check_branch, check_proof, formula_at_most, interpolant, check_by, check}
+use Rattle.shortening.specs.Shorten.{shorter, shortening, fit_both, written_both, shorten}
+use Rattle.enumeration.specs.ShortProofs.{row_item, proof_file}
+use Rattle.enumeration.specs.Sequence.{concat_map, up_from, combines, reduces, scales, inferences, number_closes, stride_closes, close_rows, new_line, close_formula, if_accepted, proofs_of, short_proofs_of, short_proofs}
+use Rattle.enumeration.specs.Next.{first_rows, following, next_rows, next_file, next_proof}
+use Rattle.run.specs.Uniform.{with_number, same_items, walk_branches, first_and_third, all_alike, walk_opened, walk_closed, walk_row, walk_entry, walk_entries, walk_branch, uniform}
+use Rattle.run.specs.Run.{parted, total, parts, stages_short, read_stages, constants_of, run_of, claim_refused, check_cut, both, check_cuts, check_run, guard_files, unwritten, fit_guards, written_guards, guards_by, guards}
+use Rattle.scheduler.specs.Scheduler.{empty, is_waiting, submission, cancellation, next_from, next_seat, check_job, turn_at, turn as turned}
+use Rattle.scheduler.specs.Promises.{changed}
+use Rattle.scheduler.specs.Table.{submit, cancel, turn, job, played}
 
 ";
 
 /// The names that one operation's evaluation opens.
-const SHARED: &str = "small every flat _>>=_ _>>_ need found unsigned complement signed signeds formFrom front note unlessNote fieldsFrom fields headerTag known agrees headerField editionField constantsField header";
-const BUNDLES: &str = "kindTagged atMost formSmall constraints bundleHeader bundle bundles";
+const SHARED: &str = "small every flat ◌>>=◌ ◌>>◌ need found unsigned complement signed signeds form_from front note unless_note fields_from fields header_tag known agrees header_field edition_field constants_field header";
+const BUNDLES: &str = "kind_tagged at_most form_small constraints bundle_header bundle bundles";
 const WRITING: &str =
-    "over fit written unsignedBytes residue signedBytes signedsBytes fieldBytes headerBytes";
-const CHECK: &str = "rowTold remainder coeff sum value sums _⊞_ _·_ _plus_ nonzero reduced inRange formBytes finished encode formulaFile entryTagged inPlace lineNumber multiplier sizeOf entryFrom entry is plainKind owner fails equals sameForm lineAt derived fitting undivided inequality roundable disequality byNumber byStride states checkRounded checkSplit checkRow checkEntry checkEntries checkBranch checkProof formulaAtMost interpolant checkBy check";
-const NEXT: &str = "remainder coeff sum value sums _⊞_ _·_ nonzero reduced inRange is plainKind fails lineAt derived fitting byNumber byStride fileOf rowItem proofFile concatMap upFrom combines reduces scales inferences numberCloses strideCloses closeRows newLine closeFormula ifAccepted proofsOf shortProofsOf bothRead shortProofs sameBytes firstRows following nextRows nextFile nextProof";
-const READ: &str = "over kindNumber kindsOf numbersOf unread store stored readBundle";
-const WRITE: &str = "each constraintsBytes holdable encodeBundle writeBundle";
+    "over fit written unsigned_bytes residue signed_bytes signeds_bytes field_bytes header_bytes";
+const CHECK: &str = "row_told remainder coeff sum value sums ◌⊞◌ ◌·◌ ◌plus◌ nonzero reduced in_range form_bytes finished encode formula_file entry_tagged in_place line_number multiplier size_of entry_from entry is plain_kind owner fails equals same_form line_at derived fitting undivided inequality roundable disequality by_number by_stride states check_rounded check_split check_row check_entry check_entries check_branch check_proof formula_at_most interpolant check_by check";
+const NEXT: &str = "remainder coeff sum value sums ◌⊞◌ ◌·◌ nonzero reduced in_range is plain_kind fails line_at derived fitting by_number by_stride file_of row_item proof_file concat_map up_from combines reduces scales inferences number_closes stride_closes close_rows new_line close_formula if_accepted proofs_of short_proofs_of both_read short_proofs same_bytes first_rows following next_rows next_file next_proof";
+const READ: &str = "over kind_number kinds_of numbers_of unread store stored read_bundle";
+const WRITE: &str = "each constraints_bytes holdable encode_bundle write_bundle";
 const SHOW: &str =
-    "bothRead nth partOf constraintPart shownPart answerOf showAnswer handed showPart";
+    "both_read nth part_of constraint_part shown_part answer_of show_answer handed show_part";
 const SEATS: &str =
-    "isWaiting submission cancellation nextFrom nextSeat checkJob turnAt turned changed";
-const GUARDS: &str = "withNumber sameBytes sameItems walkBranches firstAndThird allAlike walkOpened walkClosed walkRow walkEntry walkEntries walkBranch uniform parted total parts stagesShort readStages constantsOf runOf claimRefused checkCut both checkCuts checkRun guardFiles unwritten fitGuards writtenGuards guardsBy guards";
-const TEST: &str = "each sum value finished formulaTagged compound formulaSize formulaOf formulaField twoParts formulaWithin readFormula holds judge tested judged testFormula";
-const LIST: &str = "over fit written vectors readForList truths testList";
-const PRINT: &str = "over fit written nonzero decimal decimalBy textBehind printed printFormula";
-const PRINT_TERMS: &str = "integer unlessZero termsOf summed termOf smt termText propText";
+    "is_waiting submission cancellation next_from next_seat check_job turn_at turned changed";
+const GUARDS: &str = "with_number same_bytes same_items walk_branches first_and_third all_alike walk_opened walk_closed walk_row walk_entry walk_entries walk_branch uniform parted total parts stages_short read_stages constants_of run_of claim_refused check_cut both check_cuts check_run guard_files unwritten fit_guards written_guards guards_by guards";
+const TEST: &str = "each sum value finished formula_tagged compound formula_size formula_of formula_field two_parts formula_within read_formula holds judge tested judged test_formula";
+const LIST: &str = "over fit written vectors read_for_list truths test_list";
+const PRINT: &str = "over fit written nonzero decimal decimal_by text_behind printed print_formula";
+const PRINT_TERMS: &str = "integer unless_zero terms_of summed term_of smt term_text prop_text";
 const PRINT_WORDS: &str =
-    "unlessNone summandsOf sumOf worded summandText summandsText sumText wordingText";
+    "unless_none summands_of sum_of worded summand_text summands_text sum_text wording_text";
 const TURN_BUNDLE: &str =
-    "asked otherEdition behindHeader eachField each kindNumber kindsOf numbersOf numbersFit constraintsBytes holdable encodeBundle resultWithin bundleTurned turnBundle";
-const TURN_PROOF: &str = "asked otherEdition eachField atMost formBytes finished entryTagged inPlace lineNumber multiplier sizeOf entryFrom entry behindHeader entriesRead makesLine unsigneds linesFit unsignedsBytes renumbered linesTurned fieldsTurned resultWithin proofTurned turnProof";
+    "asked other_edition behind_header each_field each kind_number kinds_of numbers_of numbers_fit constraints_bytes holdable encode_bundle result_within bundle_turned turn_bundle";
+const TURN_PROOF: &str = "asked other_edition each_field at_most form_bytes finished entry_tagged in_place line_number multiplier size_of entry_from entry behind_header entries_read makes_line unsigneds lines_fit unsigneds_bytes renumbered lines_turned fields_turned result_within proof_turned turn_proof";
 const SHORTEN: &str =
-    "unsigneds unsignedsBytes renumbered fileOf shorter shortening fitBoth writtenBoth shorten";
+    "unsigneds unsigneds_bytes renumbered file_of shorter shortening fit_both written_both shorten";
 
 fn list(items: impl Iterator<Item = String>) -> String {
     let mut text = String::new();
@@ -168,7 +168,7 @@ fn answer(words: &[&str]) -> String {
     let [number, file, place, row, step, branch] = words else {
         panic!("an answer has six numbers: {words:?}");
     };
-    format!("answerAt {row} (position {step} {branch}) {number} {file} {place}")
+    format!("answer_at {row} (position {step} {branch}) {number} {file} {place}")
 }
 
 fn written(words: &[&str], lent: &str, output: &str) -> String {
@@ -223,7 +223,7 @@ fn statement(case: &[&str]) -> (String, String) {
         ),
         ["next-proof", a, b, table, lent, words @ .., output] => (
             format!(
-                "nextProof {} {} {} (replicate {lent} 0xAA) ≡ {}",
+                "next_proof {} {} {} (replicate {lent} 0xAA) ≡ {}",
                 bytes(a),
                 bytes(b),
                 bytes(table),
@@ -233,7 +233,7 @@ fn statement(case: &[&str]) -> (String, String) {
         ),
         ["read", file, kinds, nums, words @ .., count, k, edition, out_kinds, out_nums] => (
             format!(
-                "readBundle (replicate {kinds} 0xAA) (replicate {nums} (pos 0x55)) newestEdition {} ≡ record {{ answer = {}; count = {count}; K = {k}; edition = {edition}; kinds = ({}) ++ replicate {} 0xAA; numbers = ({}) ++ replicate {} (pos 0x55) }}",
+                "read_bundle (replicate {kinds} 0xAA) (replicate {nums} (pos 0x55)) newest_edition {} ≡ record {{ answer = {}; count = {count}; K = {k}; edition = {edition}; kinds = ({}) ++ replicate {} 0xAA; numbers = ({}) ++ replicate {} (pos 0x55) }}",
                 bytes(file),
                 answer(words),
                 naturals(out_kinds),
@@ -245,7 +245,7 @@ fn statement(case: &[&str]) -> (String, String) {
         ),
         ["write", edition, k, kinds, nums, lent, words @ .., output] => (
             format!(
-                "writeBundle newestEdition {edition} {k} ({}) ({}) (replicate {lent} 0xAA) ≡ {}",
+                "write_bundle newest_edition {edition} {k} ({}) ({}) (replicate {lent} 0xAA) ≡ {}",
                 naturals(kinds),
                 integers(nums),
                 written(words, lent, output)
@@ -258,7 +258,7 @@ fn statement(case: &[&str]) -> (String, String) {
             let (a, b) = (bytes(a), bytes(b));
             (
                 format!(
-                    "(showAnswer newestEdition {a} {b} {line} ≡ {}) × (showPart newestEdition {a} {b} {line} ≡ record {{ file = {}; start = {}; size = {} }})",
+                    "(show_answer newest_edition {a} {b} {line} ≡ {}) × (show_part newest_edition {a} {b} {line} ≡ record {{ file = {}; start = {}; size = {} }})",
                     answer(words),
                     at[0],
                     at[1],
@@ -269,7 +269,7 @@ fn statement(case: &[&str]) -> (String, String) {
         }
         ["test", file, values, words @ .., result] => (
             format!(
-                "testFormula {} ({}) ≡ record {{ answer = {}; holds = {} }}",
+                "test_formula {} ({}) ≡ record {{ answer = {}; holds = {} }}",
                 bytes(file),
                 integers(values),
                 answer(words),
@@ -295,11 +295,11 @@ fn statement(case: &[&str]) -> (String, String) {
             )
         }
         ["turn-bundle", file, edition, lent, words @ .., output] => (
-            turned("turnBundle", edition, file, words, lent, output),
+            turned("turn_bundle", edition, file, words, lent, output),
             format!("{SHARED} {BUNDLES} {WRITING} {TURN_BUNDLE}"),
         ),
         ["turn-proof", file, edition, lent, words @ .., output] => (
-            turned("turnProof", edition, file, words, lent, output),
+            turned("turn_proof", edition, file, words, lent, output),
             format!("{SHARED} {WRITING} {TURN_PROOF}"),
         ),
         ["shorten", a, b, p, report_lent, table_lent, words @ .., report, table] => (
@@ -320,7 +320,7 @@ fn statement(case: &[&str]) -> (String, String) {
         ),
         ["list", file, k, values, lent, words @ .., output] => (
             format!(
-                "testList {} {k} ({}) (replicate {lent} 0xAA) ≡ {}",
+                "test_list {} {k} ({}) (replicate {lent} 0xAA) ≡ {}",
                 bytes(file),
                 integers(values),
                 written(words, lent, output)
@@ -359,7 +359,7 @@ fn statement(case: &[&str]) -> (String, String) {
 /// A formula printed, in words or not.
 fn printed(wording: &str, file: &str, lent: &str, words: &[&str], output: &str) -> String {
     format!(
-        "printFormula {wording} {} (replicate {lent} 0xAA) ≡ {}",
+        "print_formula {wording} {} (replicate {lent} 0xAA) ≡ {}",
         bytes(file),
         written(words, lent, output)
     )
