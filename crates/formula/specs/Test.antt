@@ -6,7 +6,7 @@ use Rattle.integers.specs.Divides.{divb}
 use Rattle.forms.specs.Edition.{edition1}
 use Rattle.forms.specs.Forms.{Kind, ≤0, =0, value, Assignment, Formula, literal, ◌divides◌, ◌and◌, ◌or◌}
 use Rattle.answers.specs.declared.Answer.{Answer}
-use Rattle.answers.specs.Answers.{answer, acceptance, file_proof, file_lent, Result, refused, accepted, ◌>>=◌, ◌>>◌, need, each}
+use Rattle.answers.specs.Answers.{answer, acceptance, file_proof, file_lent, Result, refused, accepted, ◌>>◌, need, each}
 use Rattle.fields.specs.Fields.{fields}
 use Rattle.formula.specs.Formula.{read_formula}
 
