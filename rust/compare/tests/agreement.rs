@@ -97,7 +97,7 @@ fn testing_formulas() {
     agree(
         Operation::Test,
         6,
-        40_000,
+        100_000,
         &[0, 1, 2, 3, 4, 5, 6, 7, 9, 12, 17, 19, 23],
     );
 }
@@ -189,8 +189,8 @@ fn testing_lists() {
 #[test]
 fn printing_formulas() {
     let numbers = [0, 1, 2, 3, 4, 5, 6, 7, 12, 17, 19, 21];
-    agree(Operation::Print, 14, 8_000, &numbers);
-    agree(Operation::PrintWords, 15, 8_000, &numbers);
+    agree(Operation::Print, 14, 20_000, &numbers);
+    agree(Operation::PrintWords, 15, 20_000, &numbers);
 }
 
 /// Every formula that the streams test, printed both ways.
