@@ -28,7 +28,7 @@ overflow_add-at-in-loop-i c = omega (arith, c.loop-i.invariant.upto)
 
 pub with_term-total-requires : goal.with_term-total-requires
 with_term-total-requires c =
-    let pre = c.requires in record { term_width_in_bounds = omega (arith, c.loop-i.invariant.upto); term_asked = record { register = omega (arith, c.loop-i.invariant.upto); all = pre.1.all; small = within-le (omega arith) c.loop-i.invariant.bound } }
+    let pre = c.requires in record { term_width_in_bounds = omega (arith, c.loop-i.invariant.upto); term_asked = record { register = omega (arith, c.loop-i.invariant.upto); all = pre.registers.all; small = within-le (omega arith) c.loop-i.invariant.bound } }
 
 pub loop-i-smaller : goal.loop-i-smaller
 loop-i-smaller c = omega arith
@@ -37,7 +37,7 @@ pub loop-i-preserved : goal.loop-i-preserved
 loop-i-preserved c =
     let pre = c.requires in
     rw (to_z-of_z w64 c.with_term-total.result (record { sfits = c.with_term-total.type_inv }))
-    (summed-more _ _ _ _ pre.1.all pre.1.count c.loop-i.invariant (omega arith) refl c.with_term-total.ensures.range c.with_term-total.ensures.is)
+    (summed-more _ _ _ _ pre.registers.all pre.registers.count c.loop-i.invariant (omega arith) refl c.with_term-total.ensures.range c.with_term-total.ensures.is)
 
 pub returns : goal.returns
 returns c = summed-all _ _ _ _ c.loop-i.invariant c.loop-i-test.false

@@ -30,13 +30,13 @@ pub overflow_add-at-in-loop-i : goal.overflow_add-at-in-loop-i
 overflow_add-at-in-loop-i c = omega (arith, c.loop-i.invariant.summed.upto)
 
 pub with_word-total-requires : goal.with_word-total-requires
-with_word-total-requires c = let pre = c.requires in record { term_width_in_bounds = omega (arith, c.loop-i.invariant.summed.upto); i_in_bounds = (omega (arith, c.loop-i.invariant.summed.upto), pre.1.all) }
+with_word-total-requires c = let pre = c.requires in record { term_width_in_bounds = omega (arith, c.loop-i.invariant.summed.upto); i_in_bounds = (omega (arith, c.loop-i.invariant.summed.upto), pre.registers.all) }
 
 pub loop-i-smaller : goal.loop-i-smaller
 loop-i-smaller c = omega arith
 
 pub loop-i-preserved : goal.loop-i-preserved
-loop-i-preserved c = let pre = c.requires in worded-more _ _ _ _ pre.1.all pre.1.count c.loop-i.invariant (omega arith) refl c.with_word-total.ensures.range c.with_word-total.ensures.is
+loop-i-preserved c = let pre = c.requires in worded-more _ _ _ _ pre.registers.all pre.registers.count c.loop-i.invariant (omega arith) refl c.with_word-total.ensures.range c.with_word-total.ensures.is
 
 pub returns : goal.returns
 returns c = worded-all _ _ _ _ c.loop-i.invariant c.loop-i-test.false
