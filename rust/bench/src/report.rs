@@ -29,21 +29,21 @@ pub fn line(work: &Work, time: &Time) -> String {
 const REASONS: &str = "
 ## Where Rattle is slower
 
-- Checking a short proof with claims. A claim makes no line, but up to 960 bytes the lines that a proof may make are \
-reckoned by its bytes, and the arrays for them are cleared before use.
-- Turning a proof. It is gone over twice, first for its faults and for the length of the result, then to write it, since a \
-refused call leaves the output as it was; the Rust version goes over it once, puts the result into a vector and copies that. \
-That this makes the difference was not measured.
+- Checking a proof of some hundred rows. Working memory is cleared before it is used: 17,544 bytes for the lines as soon \
+as a branch may have 128 of them with 16 constants, and for the formula 39 for each byte of the proof up to 248, 12,480 \
+up to 960 bytes or 192 fields, and 65,536 beyond.
+- Checking any proof. Each branch is a call that hands on four lent buffers, where the Rust checker keeps a stack of its \
+own.
+- Checking a proof of edition 2 of some hundred rows. As soon as a branch may have more than 128 lines of 16 constants, \
+26,520 bytes are cleared for them, and 136,136 where by its bytes it may have more than 194: with claims 32 rows are \
+enough, and take some three and a half times as long as in Rust.
+- Checking a proof of 249 to 960 bytes whose formula has more than 12,480, as where the branches of roundings are closed by \
+their first row: it is checked twice.
 - Submitting and cancelling a job. The library is handed the scheduler's state as C does it, 456 bytes copied to the \
 stack, and gives it back in the same way; the Rust version's functions take it by value too, but Rust hands on its \
 address. That this makes the difference is a guess. A turn is handed the state in the same way.
-
-Two things cost time in every check. Working memory is cleared before it is used: 17,544 bytes for the lines where the proof \
-has more than 248 bytes or a branch may have more than 64 lines of 16 constants, in edition 2 26,520 where it may have more \
-than 128 and 136,136 where more than 194 (8,840, and 6,240 for the formula, where counted fields allow it); for the formula \
-39 for each byte of the proof up to 248, 12,480 up to 960 bytes or fewer than 192 fields (37,440 up to 960 bytes where the \
-formula may be longer), and 65,536 beyond. And each branch is a call that hands on four lent buffers, where \
-the Rust checker keeps a stack of its own.
+- Testing a formula of many levels where a level has little to test: two levels of a formula are a call, and a processor \
+foretells the returns of some two dozen.
 ";
 
 /// How many times a test of the same formula its printing takes, the least and the most, in either way.
