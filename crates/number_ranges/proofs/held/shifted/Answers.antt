@@ -32,13 +32,13 @@ pub overflow_add-result : goal.overflow_add-result
 overflow_add-result c = rw (summed c.args.x c.ranges.x) (low c).wide
 
 pub overflow_cast-result : goal.overflow_cast-result
-overflow_cast-result c = rw (summed c.args.x c.ranges.x, to_z-of_z w64 (c.args.x +ℤ pos 0x8000 +ℤ pos 0x1_0000_0000) (low c).wide) ((low c).natural, (low c).ranges)
+overflow_cast-result c = rw (summed c.args.x c.ranges.x, to_z-of_z w64 (c.args.x +ℤ pos 0x8000 +ℤ pos 0x1_0000_0000) (low c).wide) ((low c).natural, (low c).fits)
 
 pub returns-then-y-lt0 : goal.returns-then-y-lt0
 returns-then-y-lt0 c = rw (summed c.args.x c.ranges.x, to_z-of_z w64 (c.args.x +ℤ pos 0x8000 +ℤ pos 0x1_0000_0000) (low c).wide) (low c).test
 
 pub overflow_cast-result-2 : goal.overflow_cast-result-2
-overflow_cast-result-2 c = rw (summed c.args.x c.ranges.x) ((high c).natural, (high c).ranges)
+overflow_cast-result-2 c = rw (summed c.args.x c.ranges.x) ((high c).natural, (high c).fits)
 
 pub returns : goal.returns
 returns c = rw (summed c.args.x c.ranges.x) (high c).test
