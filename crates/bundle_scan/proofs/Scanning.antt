@@ -21,7 +21,7 @@ use Rattle.fields.specs.Fields.{Field, Fields, ends, cut, ◌▸◌, fields, nth
 use Rattle.fields.specs.Header.{header_tag, known, header_field, edition_field, constants_field}
 use Rattle.fields.specs.Places.{fields_at, given_k, IsEdition, IsConstants}
 use Rattle.fields.proofs.Places.{Starts, starts-size, starts-less}
-use Rattle.bundle.specs.Bundle.{Bundle, kind_tagged, at_most, form_small, constraints, bundle_header, bundle}
+use Rattle.bundle.specs.Bundle.{kind_tagged, at_most, form_small, constraints, bundle_header, bundle}
 use Rattle.bundle_scan.specs.Scan.{IsBundleHeader, fault_of, Counted, unless_fault, counted, stated, counted_of, start_of, constraint_start, sought_of, IsBundle, Scans}
 use Rattle.bundle_scan.specs.declared.constraints.Sought.{Sought}
 use Rattle.bundle_scan.specs.declared.Scanned.{Scanned}
