@@ -17,7 +17,7 @@ pub put_signed-requires : goal.put_signed-requires
 put_signed-requires c =
     let fits = c.ranges.g in
     let e = to_z-of_z w64 c.remainder-r.result (record { sfits = c.remainder-r.type_inv }) in
-    (inr refl, (omega (arith, c.scratch-1.given), rw (e, c.remainder-r.ensures) (simp to_z-of_z (held-remainder c.requires.k_le_constants.2 _))))
+    record { fact = inr refl; width_in_bounds = omega arith; held = rw (e, c.remainder-r.ensures) (simp to_z-of_z (held-remainder c.requires.k_le_constants.2 _)) }
 
 pub returns : goal.returns
 returns c =
@@ -25,4 +25,4 @@ returns c =
     let fits-g = c.ranges.g in
     let fits-d = c.ranges.d in
     let e = to_z-of_z w64 c.remainder-r.result (record { sfits = c.remainder-r.type_inv }) in
-    filled_in a.k (nat_abs a.g) a.d a.template.now c.requires.k_le_constants.1 refl (e ∙ (simp to_z-of_z at c.remainder-r.ensures)) c.copy_bytes.ensures c.put_signed.ensures (c.scratch-2-1.given ∙ c.scratch-1.given)
+    filled_in a.k (nat_abs a.g) a.d a.template.now c.requires.k_le_constants.1 refl (e ∙ (simp to_z-of_z at c.remainder-r.ensures)) c.copy_bytes.ensures c.put_signed.ensures (c.put_signed.auto.out ∙ c.copy_bytes.auto.to)

@@ -22,7 +22,7 @@ overflow_mul-x c = omega (arith, c.requires.numbered.constants)
 pub put_signed-requires : goal.put_signed-requires
 put_signed-requires c =
     let e = to_z-of_z w64 c.number-n.result (record { sfits = c.number-n.type_inv }) ∙ c.number-n.ensures in
-    (inr refl, (omega (arith, c.loop-x.invariant.long), rw e (held (c.requires.numbered.small c.loop-x.x (omega arith)))))
+    record { fact = inr refl; width_in_bounds = omega (arith, c.loop-x.invariant.long); held = rw e (held (c.requires.numbered.small c.loop-x.x (omega arith))) }
 
 pub overflow_add-x : goal.overflow_add-x
 overflow_add-x c = omega (arith, c.requires.numbered.constants)

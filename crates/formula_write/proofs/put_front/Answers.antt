@@ -13,7 +13,7 @@ put_pair-pair-requires c = omega (arith, c.put_or-head.ensures.o_is, or-size c.a
 pub put_filled-requires : goal.put_filled-requires
 put_filled-requires c =
     let fits = c.ranges.g in
-    simp to_z-of_z (c.requires.k_le_constants, omega (arith, c.put_pair-pair.ensures.o_is, c.put_or-head.ensures.o_is, or-size c.args.others, c.requires.o_bound))
+    simp to_z-of_z (record { k_le_constants = c.requires.k_le_constants; o_le_scratch_limit = omega (arith, c.put_pair-pair.ensures.o_is, c.put_or-head.ensures.o_is, or-size c.args.others, c.requires.o_bound) })
 
 pub returns : goal.returns
 returns c =

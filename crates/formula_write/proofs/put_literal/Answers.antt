@@ -23,13 +23,13 @@ pub overflow_add-o : goal.overflow_add-o
 overflow_add-o c = omega (arith, c.requires.numbered.constants)
 
 pub put_form-requires : goal.put_form-requires
-put_form-requires c = record { numbered = c.requires.numbered; k_in_bounds = omega (arith, c.put_head.auto.0) }
+put_form-requires c = record { numbered = c.requires.numbered; k_in_bounds = omega (arith, c.put_head.auto.out) }
 
 pub shape_of-scratch-then-kind-eq0 : goal.shape_of-scratch-then-kind-eq0
-shape_of-scratch-then-kind-eq0 c = c.put_form.auto.1.1.1.0 ∙ c.put_head.auto.0
+shape_of-scratch-then-kind-eq0 c = c.put_form.auto.scratch ∙ c.put_head.auto.out
 
 pub returns-then-kind-eq0 : goal.returns-then-kind-eq0
-returns-then-kind-eq0 c = literal-≤ c.requires.numbered c.if-kind-eq0.true refl c.put_head.ensures c.put_form.ensures (c.put_form.auto.1.1.1.0 ∙ c.put_head.auto.0)
+returns-then-kind-eq0 c = literal-≤ c.requires.numbered c.if-kind-eq0.true refl c.put_head.ensures c.put_form.ensures (c.put_form.auto.scratch ∙ c.put_head.auto.out)
 
 pub put_head-requires-2 : goal.put_head-requires-2
 put_head-requires-2 c = omega arith
@@ -38,10 +38,10 @@ pub overflow_add-o-2 : goal.overflow_add-o-2
 overflow_add-o-2 c = omega (arith, c.requires.numbered.constants)
 
 pub put_form-requires-2 : goal.put_form-requires-2
-put_form-requires-2 c = record { numbered = c.requires.numbered; k_in_bounds = omega (arith, c.put_head-2.auto.0) }
+put_form-requires-2 c = record { numbered = c.requires.numbered; k_in_bounds = omega (arith, c.put_head-2.auto.out) }
 
 pub shape_of-scratch : goal.shape_of-scratch
-shape_of-scratch c = c.put_form-2.auto.1.1.1.0 ∙ c.put_head-2.auto.0
+shape_of-scratch c = c.put_form-2.auto.scratch ∙ c.put_head-2.auto.out
 
 pub returns : goal.returns
-returns c = literal-= c.requires.numbered c.if-kind-eq0.false refl c.put_head-2.ensures c.put_form-2.ensures (c.put_form-2.auto.1.1.1.0 ∙ c.put_head-2.auto.0)
+returns c = literal-= c.requires.numbered c.if-kind-eq0.false refl c.put_head-2.ensures c.put_form-2.ensures (c.put_form-2.auto.scratch ∙ c.put_head-2.auto.out)

@@ -7,7 +7,7 @@ pub returns-then-scratch-end : goal.returns-then-scratch-end
 returns-then-scratch-end c = pair-out _ refl c.if-scratch-end.true
 
 pub shape_of-scratch : goal.shape_of-scratch
-shape_of-scratch c = c.put_head.auto.0
+shape_of-scratch c = c.put_head.auto.out
 
 pub returns : goal.returns
-returns c = pair-in _ refl c.put_head.ensures c.put_head.auto.0
+returns c = pair-in _ refl c.put_head.ensures c.put_head.auto.out

@@ -28,7 +28,7 @@ pub put_signed-requires : goal.put_signed-requires
 put_signed-requires c =
     let f = c.ranges.g in
     let e = to_z-of_z w64 c.remainder-r.result (record { sfits = c.remainder-r.type_inv }) in
-    (inr refl, (omega (arith, c.loop-x.invariant.long), rw (e, c.remainder-r.ensures) (simp to_z-of_z (held-remainder c.requires.numbered.1 _))))
+    record { fact = inr refl; width_in_bounds = omega (arith, c.loop-x.invariant.long); held = rw (e, c.remainder-r.ensures) (simp to_z-of_z (held-remainder c.requires.numbered.1 _)) }
 
 pub overflow_add-x : goal.overflow_add-x
 overflow_add-x c = omega (arith, c.requires.numbered.0.constants)

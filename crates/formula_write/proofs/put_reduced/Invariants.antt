@@ -1,17 +1,14 @@
 -- `formula_write::put_reduced` meets its contract. Assumes nothing.
 use Prim.Native.Nat.{◌+◌, ◌-◌}
 use lib.IntN.{nat_abs}
-use mir.Syntax.{w64}
-use mir.Val.{to_z}
 use Rattle.forms.specs.Reduced.{reduced}
 use Rattle.forms.specs.Flat.{form_in}
 use Rattle.number_bytes.specs.Numbers.{flat}
 use Rattle.formula_write.proofs.Written.{Putting}
 use Rattle.formula_write.proofs.put_reduced.Given as goal
 
--- A loop's signed scalar is its bits.
 abbrev pub invariant-loop-x : goal.invariant-loop-x
-invariant-loop-x l = Putting (flat (reduced (nat_abs (to_z w64 l.g)) (form_in l.k l.numbers l.at))) l.initial.scratch l.o l.scratch l.x
+invariant-loop-x l = Putting (flat (reduced (nat_abs l.g) (form_in l.k l.numbers l.at))) l.initial.scratch l.o l.scratch l.x
 
 abbrev pub decreases-loop-x : goal.decreases-loop-x
 decreases-loop-x l = l.k + 1 - l.x

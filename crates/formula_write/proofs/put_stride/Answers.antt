@@ -26,16 +26,16 @@ pub overflow_add-o : goal.overflow_add-o
 overflow_add-o c = omega (arith, c.requires.numbered.0.constants)
 
 pub put_signed-requires : goal.put_signed-requires
-put_signed-requires c = let f = c.ranges.g in (inr refl, (omega (arith, c.put_head.auto.0), simp to_z-of_z c.requires.numbered.1.held))
+put_signed-requires c = let f = c.ranges.g in record { fact = inr refl; width_in_bounds = omega (arith, c.put_head.auto.out); held = simp to_z-of_z c.requires.numbered.1.held }
 
 pub overflow_add-o-2 : goal.overflow_add-o-2
 overflow_add-o-2 c = omega (arith, c.requires.numbered.0.constants)
 
 pub put_reduced-requires : goal.put_reduced-requires
-put_reduced-requires c = let f = c.ranges.g in simp to_z-of_z (c.requires.numbered, omega (arith, c.put_head.auto.0, c.put_signed.auto.0))
+put_reduced-requires c = let f = c.ranges.g in simp to_z-of_z (record { numbered = c.requires.numbered; k_in_bounds = omega (arith, c.put_head.auto.out, c.put_signed.auto.out) })
 
 pub shape_of-scratch : goal.shape_of-scratch
-shape_of-scratch c = c.put_reduced.auto.1.1.1.1.0 ∙ c.put_signed.auto.0 ∙ c.put_head.auto.0
+shape_of-scratch c = c.put_reduced.auto.scratch ∙ c.put_signed.auto.out ∙ c.put_head.auto.out
 
 pub returns : goal.returns
-returns c = let f = c.ranges.g in stride-in c.requires.numbered.0 (nat_abs c.args.g) (positive _ c.requires.numbered.1.low) refl c.put_head.ensures (simp to_z-of_z at c.put_signed.ensures) (simp to_z-of_z at c.put_reduced.ensures) (c.put_reduced.auto.1.1.1.1.0 ∙ c.put_signed.auto.0 ∙ c.put_head.auto.0)
+returns c = let f = c.ranges.g in stride-in c.requires.numbered.0 (nat_abs c.args.g) (positive _ c.requires.numbered.1.low) refl c.put_head.ensures (simp to_z-of_z at c.put_signed.ensures) (simp to_z-of_z at c.put_reduced.ensures) (c.put_reduced.auto.scratch ∙ c.put_signed.auto.out ∙ c.put_head.auto.out)
