@@ -14,7 +14,7 @@ use Rattle.forms.specs.Edition.{Edition, edition}
 use Rattle.forms.specs.Forms.{Form, Side, A, B, Line}
 use Rattle.calculus.specs.Rules.{Row, Derive, Strengthen, CloseNumber, CloseStride, Round, Split, Inference, Combine, Reduce, Scale, Entry, row, claim}
 use Rattle.answers.specs.declared.Answer.{Answer}
-use Rattle.answers.specs.Answers.{nowhere, row_told, refusal_at, answer, file_proof, Result, refused, ◌>>=◌, ◌>>◌, found}
+use Rattle.answers.specs.Answers.{nowhere, row_told, refusal_at, answer, file_proof, Result, refused, ◌>>=◌, found}
 use Rattle.number_bytes.specs.Numbers.{unsigned}
 use Rattle.fields.specs.declared.FileKind.{FileKind}
 use Rattle.fields.specs.Fields.{Field, Fields, ends, cut, ◌▸◌, item}
