@@ -78,10 +78,10 @@ put_constraints-requires c =
     let a = c.args in
     let t = granted 2 a.edition a.k a.kinds.now a.numbers.now c.write_fault-answer.ensures c.if-number-ne0.false in
     let l = rw c.coefficient_bytes-width.ensures at c.if-out-needed.false in
-    record { in_order = t.order; k_in_bounds = omega (arith, c.put_header.auto.0, l) }
+    record { in_order = t.order; k_in_bounds = omega (arith, c.put_header.auto.out, l) }
 
 pub shape_of-out : goal.shape_of-out
-shape_of-out c = c.put_constraints.auto.0 ∙ c.put_header.auto.0
+shape_of-out c = c.put_constraints.auto.out ∙ c.put_header.auto.out
 
 pub returns : goal.returns
 returns c =

@@ -33,7 +33,13 @@ put_constraint-requires c =
     let i = c.loop-n.invariant in
     let h = c.loop-n-test.true in
     let p = c.requires.in_order in
-    rw c.coefficient_bytes-width.ensures ((coefficient_width-is c.args.e, record { each = all-weaken (holdable-held (edition c.args.e).coefficient_width) p.held }), ((p.high, leb→le _ 2 (all_get_d _ 0 i.valid h)), (out-left i h, numbers_left i h)))
+    let w = c.coefficient_bytes-width.ensures in
+    record {
+      fact = rw w (coefficient_width-is c.args.e, record { each = all-weaken (holdable-held (edition c.args.e).coefficient_width) p.held });
+      k_bound = (p.high, leb→le _ 2 (all_get_d _ 0 i.valid h));
+      k_in_bounds = rw w (out-left i h);
+      k_in_bounds_2 = numbers_left i h;
+    }
 
 pub overflow_add-here : goal.overflow_add-here
 overflow_add-here c = rw c.coefficient_bytes-width.ensures (record { fits = omega (arith, out-left c.loop-n.invariant c.loop-n-test.true, c.loop-n.invariant.long) })
