@@ -138,6 +138,7 @@ pub record Mapped {X Y : Type 0} (f : X → Y) (xs : List X) (y : Y) : Type 0 wh
   pub is : y ≡ f element
 
 pub in-mapped : {X Y : Type 0} (f : X → Y) (xs : List X) (y : Y) → y ∈ map f xs → Mapped f xs y
+in-mapped {X = X} {Y = Y} f [] y h = elim h [ ]
 in-mapped f (x ∷ xs) y (here q) = record { element = x; among = here refl; is = q }
 in-mapped f (x ∷ xs) y (there m) = let h = in-mapped f xs y m in record { element = h.element; among = there h.among; is = h.is }
 

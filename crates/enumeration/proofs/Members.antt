@@ -10,6 +10,7 @@ use Rattle.enumeration.specs.Sequence.{concat_map, up_from}
 
 module _ {X : Type 0} where
   pub in_left : (x : X) (xs ys : List X) → x ∈ xs → x ∈ xs ++ ys
+  in_left x [] ys h = elim h [ ]
   in_left x (y ∷ xs) ys (here q) = here q
   in_left x (y ∷ xs) ys (there h) = there (in_left x xs ys h)
 
@@ -19,6 +20,7 @@ module _ {X : Type 0} where
 
   -- what holds of all holds of each
   pub all_in : (P : X → Type 0) (xs : List X) → All P xs → (x : X) → x ∈ xs → P x
+  all_in P [] _ x h = elim h [ ]
   all_in P (y ∷ xs) (cons p ps) x (here q) = subst P (sym q) p
   all_in P (y ∷ xs) (cons p ps) x (there h) = all_in P xs ps x h
 
@@ -33,11 +35,13 @@ module _ {X : Type 0} where
 
 module _ {X Y : Type 0} where
   pub in_map : (f : X → Y) (x : X) (xs : List X) → x ∈ xs → f x ∈ map f xs
+  in_map f x [] h = elim h [ ]
   in_map f x (y ∷ xs) (here q) = here (ap f q)
   in_map f x (y ∷ xs) (there h) = there (in_map f x xs h)
 
   pub in-concat_map : (f : X → List Y) (x : X) (y : Y) (xs : List X) → x ∈ xs → y ∈ f x → y ∈ concat_map f xs
   unfolding concat_map
+  in-concat_map f x y [] h m = elim h [ ]
   in-concat_map f x y (z ∷ xs) (here q) m = in_left y (f z) (concat_map f xs) (subst (λ (z : X). y ∈ f z) q m)
   in-concat_map f x y (z ∷ xs) (there h) m = in_right y (f z) (concat_map f xs) (in-concat_map f x y xs h m)
 

@@ -7,25 +7,13 @@ use native.Mathlib.Omega.{arith}
 use Rattle.calculus.specs.Rules.{Row}
 use Rattle.answers.specs.Answers.{Result, accepted}
 use Rattle.enumeration.specs.ShortProofs.{proof_file, ShortProof}
-use Rattle.enumeration.specs.Order.{Lexicographic, less, same, Precedes}
+use Rattle.enumeration.specs.Order.{Lexicographic, Precedes}
 use Rattle.enumeration.specs.Sequence.{short_proofs}
 use Rattle.enumeration.specs.Next.{StandsAt, NextIs, follows, none_left, not_among}
 use Rattle.enumeration.proofs.Listed.{short_proofs-gives, rows-listed}
-use Rattle.enumeration.proofs.Ordered.{same_count}
+use Rattle.enumeration.proofs.Ordered.{not-both, same_count}
 
--- ---- the order is one way only, and goes by the files
-lex-asym : {xs ys : List ℕ} → Lexicographic xs ys → Lexicographic ys xs → ⊥
-lex-asym (less a) (less b) = omega arith
-lex-asym (less a) (same q) = omega arith
-lex-asym (same p) (less b) = omega arith
-lex-asym (same p) (same q) = lex-asym p q
-
-precedes-asym : (K : ℕ) (rs qs : List Row) → Precedes K rs qs → Precedes K qs rs → ⊥
-precedes-asym K rs qs (inl h) (inl g) = omega arith
-precedes-asym K rs qs (inl h) (inr (n, b)) = omega arith
-precedes-asym K rs qs (inr (n, b)) (inl g) = omega arith
-precedes-asym K rs qs (inr (n, b)) (inr (m, c)) = lex-asym b c
-
+-- ---- the order goes by the files
 as_first : (K : ℕ) (rs rs' qs : List Row) → proof_file K rs ≡ proof_file K rs' → Precedes K rs qs → Precedes K rs' qs
 as_first K rs rs' qs p (inl h) = let c = same_count K rs rs' p in inl (omega arith)
 as_first K rs rs' qs p (inr (n, b)) = inr (sym (same_count K rs rs' p) ∙ n, subst (λ (f : List ℕ). Lexicographic f (proof_file K qs)) p b)
@@ -68,7 +56,7 @@ module _ (A B given : List ℕ) (K : ℕ) (rss : List (List Row)) (e : short_pro
       go : (proof_file K qs ≡ proof_file K qs') ⊎ Precedes K qs qs' → (proof_file K qs' ≡ proof_file K qs) ⊎ Precedes K qs' qs → proof_file K qs ≡ proof_file K qs'
       go (inl p) q = p
       go (inr p) (inl q) = sym q
-      go (inr p) (inr q) = absurd (precedes-asym K qs qs' p q)
+      go (inr p) (inr q) = absurd (not-both K qs qs' p q)
   one (follows rs qs k s h l) (none_left rs' k' n') = absurd (none-and-one rs' rs qs (sym k'.is ∙ k.is) n' s h)
   one (follows rs qs k s h l) (not_among n m) = absurd (known_among rs k n m)
   one (none_left rs k n) (follows rs' qs' k' s' h' l') = absurd (none-and-one rs rs' qs' (sym k.is ∙ k'.is) n s' h')

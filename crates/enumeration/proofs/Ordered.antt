@@ -218,7 +218,7 @@ module _ (K : ℕ) (ls : List Line) (few : length ls ≤ 4) where
   fewer-earlier : (k j : ℕ) → k < j → All (λ rs. All (Precedes K rs) (proofs_of j ls)) (proofs_of k ls)
   fewer-earlier k j h = all-weaken (λ (rs : List Row) n. all-weaken (λ (qs : List Row) m. fewer k j h rs qs n m) (rows-count j ls)) (rows-count k ls)
 
-  all_append : {X Y : Type 0} {R : X → Y → Type 0} {xs : List X} {ys zs : List Y} → All (λ x. All (R x) ys) xs → All (λ x. All (R x) zs) xs → All (λ x. All (R x) (ys ++ zs)) xs
+  all_append : {X Y : Type 0} {R : X → Y → Type 0} {ys zs : List Y} {xs : List X} → All (λ x. All (R x) ys) xs → All (λ x. All (R x) zs) xs → All (λ x. All (R x) (ys ++ zs)) xs
   all_append nil nil = nil
   all_append (cons p ps) (cons q qs) = cons (all_both p q) (all_append ps qs)
 

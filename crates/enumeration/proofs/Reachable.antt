@@ -57,6 +57,7 @@ module _ (A B : List ℕ) (K : ℕ) (rss : List (List Row)) (e : short_proofs A 
 
   walk : Increasing (Precedes K) rss → (pre : List (List Row)) (rs : List Row) (rest : List (List Row)) → rss ≡ pre ++ (rs ∷ rest) → All (λ rs. 1 ≤ length rs) (rs ∷ rest) → Reachable A B K (proof_file K rs) → (qs : List Row) → qs ∈ rest → Reachable A B K (proof_file K qs)
   unfolding next_rows
+  walk i pre rs [] d _ r qs m = elim m [ ]
   walk i pre rs (q ∷ rest) d (cons n ns) r qs m = go (λ m. walk i (pre ++ (rs ∷ [])) q rest (d ∙ one_on pre rs (q ∷ rest)) ns reached qs m) m
     where
       other : ¬ (T (same_bytes (proof_file K []) (proof_file K rs)))
@@ -75,6 +76,7 @@ module _ (A B : List ℕ) (K : ℕ) (rss : List (List Row)) (e : short_proofs A 
 
   from_start : (qss : List (List Row)) → rss ≡ qss → Increasing (Precedes K) rss → All (λ rs. 1 ≤ length rs) qss → (qs : List Row) → qs ∈ qss → Reachable A B K (proof_file K qs)
   unfolding next_rows first_rows
+  from_start [] d i n qs m = elim m [ ]
   from_start (q ∷ rest) d i n qs m = go m
     where
       on : next_rows K (proof_file K []) rss ≡ accepted q

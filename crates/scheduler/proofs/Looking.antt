@@ -82,7 +82,7 @@ pub record Finds (s : Scheduler) (from to n count : ℕ) : Type 0 where
 pub looks : (s : Scheduler) {from to n : ℕ} → Ahead from to n → is_waiting s to ≡ true → (count : ℕ) → n < count → Finds s from to n count
 looks s p w zero h = absurd (omega arith)
 looks s (here {seat}) w (suc count) h = record { seat = seat; is = sym (found s seat (suc count) (omega arith) w); waits = w; nearer = inl refl }
-looks s (further {from} {to} {n} p) w (suc count) h = go (looks s p w count (omega arith)) (is_waiting s from) refl
+looks s (further {from} {to} {n} p) w (suc count) h = go (looks s {from = after from} p w count (omega arith)) (is_waiting s from) refl
   where
     go : Finds s (after from) to n count → (b : Bool) → is_waiting s from ≡ b → Finds s from to (suc n) (suc count)
     go f true e = record { seat = from; is = sym (found s from (suc count) (omega arith) e); waits = e; nearer = inr (n, omega arith, p) }

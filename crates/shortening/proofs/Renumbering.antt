@@ -171,6 +171,9 @@ module _ (e : Edition) (K : ℕ) (f : ℕ → ℕ) where
 module _ (e : Edition) (K : ℕ) where
   pub left-enters : (ds : List Retention) (is : List Item) (es : List Entry) → Each (Enters e K) is es → All (Below (256 ^ e.line_width)) (remaining renumber_entry ds es)
       → Each (Enters e K) (remaining (renumber_item e) ds is) (remaining renumber_entry ds es)
+  left-enters (d ∷ ds) [] (x ∷ es) h b = elim h [ ]
+  left-enters (goes ∷ ds) (i ∷ is) [] h b = elim h [ ]
+  left-enters (stays f ∷ ds) (i ∷ is) [] h b = elim h [ ]
   left-enters [] is es h b = Each.nil
   left-enters (d ∷ ds) [] [] h b = Each.nil
   left-enters (goes ∷ ds) (i ∷ is) (x ∷ es) (Each.cons r h) b = left-enters ds is es h b

@@ -118,6 +118,9 @@ module _ (e : Edition) (K : ℕ) (f g : ℕ → ℕ) where
 module _ (e : Edition) (K : ℕ) where
   pub left-unchanged : (ds : List Retention) (is : List Item) (es : List Entry) → Each (Enters e K) is es → All (Below (256 ^ e.line_width)) (remaining renumber_entry ds es)
       → Each (Unchanged e) (remaining (renumber_item e) ds is) (remaining renumber_entry ds es)
+  left-unchanged (d ∷ ds) [] (x ∷ es) h b = elim h [ ]
+  left-unchanged (goes ∷ ds) (i ∷ is) [] h b = elim h [ ]
+  left-unchanged (stays f ∷ ds) (i ∷ is) [] h b = elim h [ ]
   left-unchanged [] is es h b = Each.nil
   left-unchanged (d ∷ ds) [] [] h b = Each.nil
   left-unchanged (goes ∷ ds) (i ∷ is) (x ∷ es) (Each.cons r h) b = left-unchanged ds is es h b
@@ -131,6 +134,11 @@ few-left (stays f ∷ ds) (x ∷ es) = omega (arith, few-left ds es)
 
 -- where all entries are left as they were, so are the fields
 pub same_left : (e : Edition) (ds : List Retention) (is : List Item) (es : List Entry) → Each (Unchanged e) is es → remaining renumber_entry ds es ≡ es → remaining (renumber_item e) ds is ≡ is
+same_left e [] [] (x ∷ es) h k = elim h [ ]
+same_left e [] (i ∷ is) [] h k = elim h [ ]
+same_left e (d ∷ ds) [] (x ∷ es) h k = elim h [ ]
+same_left e (goes ∷ ds) (i ∷ is) [] h k = elim h [ ]
+same_left e (stays f ∷ ds) (i ∷ is) [] h k = elim h [ ]
 same_left e [] [] [] h k = refl
 same_left e [] (i ∷ is) (x ∷ es) h k = absurd (let z : ◌≡◌ {A = ℕ} 0 (suc (length es)) = ap length k in omega (arith, z))
 same_left e (d ∷ ds) [] [] h k = refl
