@@ -1,10 +1,7 @@
 -- `conversion_survey::line_count` meets its contract. Assumes nothing.
 use mathlib.Core.Path.{sym, ◌∙◌}
 use native.Mathlib.Omega.{arith}
-use Rattle.integers.proofs.between.Reads as between-reads
 use Rattle.conversion_survey.proofs.SurveyedFields.{two-lines, one_line, no_line}
-use Rattle.conversion_survey.proofs.line_count.Reads as reads
-use Rattle.conversion_survey.proofs.line_count.Lts as lts
 use Rattle.conversion_survey.proofs.line_count.Goals as goal
 
 pub returns-then-between : goal.returns-then-between
