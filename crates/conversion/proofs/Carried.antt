@@ -18,7 +18,7 @@ use Rattle.number_bytes.specs.Numbers.{Bytes, unsigned, unsigned_bytes, unsigned
 use Rattle.number_bytes.proofs.Signed.{length-unsigned_bytes, unsigned-unsigned_bytes, unsigned-below, unsigned_bytes-unsigned, all_take, all_drop}
 use Rattle.fields.specs.Fields.{Item, item, note, Framed}
 use Rattle.fields.proofs.HeaderLaid.{by-tag}
-use Rattle.proof.specs.Entries.{EntryTag, combineTag, reduceTag, scaleTag, strengthenTag, numberTag, strideTag, roundTag, splitTag, claimTag, entry_tagged, line_count, renumbered, line_number, multiplier, size_of, entry_from}
+use Rattle.proof.specs.Entries.{EntryTag, combine_tag, reduce_tag, scale_tag, strengthen_tag, number_tag, stride_tag, round_tag, split_tag, claim_tag, entry_tagged, line_count, renumbered, line_number, multiplier, size_of, entry_from}
 use Rattle.proof.specs.Layout.{Enters}
 use Rattle.conversion.specs.Turnable.{turned_item}
 use Rattle.conversion.specs.Turning.{lines_named, lines_fit, lines_turned}
@@ -114,27 +114,27 @@ module _ (a b K : ℕ) {bs turned : List ℕ} where
 
   pub entry-same : (x : EntryTag) → Carries a b (line_count (some x)) bs turned → entry_from (edition b) K x turned ≡ entry_from (edition a) K x bs
   unfolding entry_from
-  entry-same combineTag c = rw (c.line 0 (omega arith), c.line 1 (omega arith), multiplier-same c 0, multiplier-same c 1)
-  entry-same reduceTag c = rw (c.line 0 (omega arith), c.line 1 (omega arith), multiplier-same c 0)
-  entry-same scaleTag c = rw (c.line 0 (omega arith), multiplier-same c 0)
-  entry-same strengthenTag c = rw (c.line 0 (omega arith))
-  entry-same numberTag c = rw (c.line 0 (omega arith))
-  entry-same strideTag c = rw (c.line 0 (omega arith), multiplier-same c 0)
-  entry-same roundTag c = rw (c.line 0 (omega arith), multiplier-same c 0, multiplier-same c 1)
-  entry-same splitTag c = rw (c.line 0 (omega arith))
-  entry-same claimTag c = rw (whole_same c)
+  entry-same combine_tag c = rw (c.line 0 (omega arith), c.line 1 (omega arith), multiplier-same c 0, multiplier-same c 1)
+  entry-same reduce_tag c = rw (c.line 0 (omega arith), c.line 1 (omega arith), multiplier-same c 0)
+  entry-same scale_tag c = rw (c.line 0 (omega arith), multiplier-same c 0)
+  entry-same strengthen_tag c = rw (c.line 0 (omega arith))
+  entry-same number_tag c = rw (c.line 0 (omega arith))
+  entry-same stride_tag c = rw (c.line 0 (omega arith), multiplier-same c 0)
+  entry-same round_tag c = rw (c.line 0 (omega arith), multiplier-same c 0, multiplier-same c 1)
+  entry-same split_tag c = rw (c.line 0 (omega arith))
+  entry-same claim_tag c = rw (whole_same c)
 
   pub size_same : (x : EntryTag) → Carries a b (line_count (some x)) bs turned → length bs ≡ size_of (edition a) K x → length turned ≡ size_of (edition b) K x
   unfolding size_of
-  size_same combineTag c h = omega (arith, c.size)
-  size_same reduceTag c h = omega (arith, c.size)
-  size_same scaleTag c h = omega (arith, c.size)
-  size_same strengthenTag c h = omega (arith, c.size)
-  size_same numberTag c h = omega (arith, c.size)
-  size_same strideTag c h = omega (arith, c.size)
-  size_same roundTag c h = omega (arith, c.size)
-  size_same splitTag c h = omega (arith, c.size)
-  size_same claimTag c h = ap length (whole_same c) ∙ omega (arith, h)
+  size_same combine_tag c h = omega (arith, c.size)
+  size_same reduce_tag c h = omega (arith, c.size)
+  size_same scale_tag c h = omega (arith, c.size)
+  size_same strengthen_tag c h = omega (arith, c.size)
+  size_same number_tag c h = omega (arith, c.size)
+  size_same stride_tag c h = omega (arith, c.size)
+  size_same round_tag c h = omega (arith, c.size)
+  size_same split_tag c h = omega (arith, c.size)
+  size_same claim_tag c h = ap length (whole_same c) ∙ omega (arith, h)
 
 -- ---- and back again
 unsigneds-back : (w : ℕ) {ns : List ℕ} (rest : List ℕ) → Below w ns → unsigneds w (length ns) (unsigneds_bytes w ns ++ rest) ≡ ns
@@ -183,34 +183,34 @@ below-every w (cons {x = n} {xs = ns} h hs) = yes_and (ltb n (256 ^ w)) (every (
 -- Its line numbers stand in its contents.
 lines-there : (a K : ℕ) (x : EntryTag) (bs : List ℕ) → length bs ≡ size_of (edition a) K x → line_count (some x) * (edition a).line_width ≤ length bs
 unfolding size_of
-lines-there a K combineTag bs h = omega arith
-lines-there a K reduceTag bs h = omega arith
-lines-there a K scaleTag bs h = omega arith
-lines-there a K strengthenTag bs h = omega arith
-lines-there a K numberTag bs h = omega arith
-lines-there a K strideTag bs h = omega arith
-lines-there a K roundTag bs h = omega arith
-lines-there a K splitTag bs h = omega arith
-lines-there a K claimTag bs h = omega arith
+lines-there a K combine_tag bs h = omega arith
+lines-there a K reduce_tag bs h = omega arith
+lines-there a K scale_tag bs h = omega arith
+lines-there a K strengthen_tag bs h = omega arith
+lines-there a K number_tag bs h = omega arith
+lines-there a K stride_tag bs h = omega arith
+lines-there a K round_tag bs h = omega arith
+lines-there a K split_tag bs h = omega arith
+lines-there a K claim_tag bs h = omega arith
 
 size-most : (b K : ℕ) → K ≤ edition1.constants → (x : EntryTag) → size_of (edition b) K x ≤ 136
 unfolding size_of
-size-most b K h combineTag = omega (arith, line_width-most b)
-size-most b K h reduceTag = omega (arith, line_width-most b)
-size-most b K h scaleTag = omega (arith, line_width-most b)
-size-most b K h strengthenTag = omega (arith, line_width-most b)
-size-most b K h numberTag = omega (arith, line_width-most b)
-size-most b K h strideTag = omega (arith, line_width-most b)
-size-most b K h roundTag = omega (arith, line_width-most b)
-size-most b K h splitTag = omega (arith, line_width-most b)
-size-most b K h claimTag = omega arith
+size-most b K h combine_tag = omega (arith, line_width-most b)
+size-most b K h reduce_tag = omega (arith, line_width-most b)
+size-most b K h scale_tag = omega (arith, line_width-most b)
+size-most b K h strengthen_tag = omega (arith, line_width-most b)
+size-most b K h number_tag = omega (arith, line_width-most b)
+size-most b K h stride_tag = omega (arith, line_width-most b)
+size-most b K h round_tag = omega (arith, line_width-most b)
+size-most b K h split_tag = omega (arith, line_width-most b)
+size-most b K h claim_tag = omega arith
 
 pub entry-no-note : (tag : ℕ) (x : EntryTag) → entry_tagged tag ≡ some x → note tag ≡ false
 unfolding entry_tagged note
 entry-no-note tag x h =
     let P : ℕ → Type 0 = λ n. note n ≡ false in
-    by-tag P tag 0x10 combineTag refl (by-tag P tag 0x11 reduceTag refl (by-tag P tag 0x12 scaleTag refl (by-tag P tag 0x13 strengthenTag refl
-    (by-tag P tag 0x14 numberTag refl (by-tag P tag 0x15 strideTag refl (by-tag P tag 0x16 roundTag refl (by-tag P tag 0x17 splitTag refl (by-tag P tag 0x20 claimTag refl (λ e. absurd (let z : ◌≡◌ {A = ℕ} 0 1 = cc in omega arith)))))))))) h
+    by-tag P tag 0x10 combine_tag refl (by-tag P tag 0x11 reduce_tag refl (by-tag P tag 0x12 scale_tag refl (by-tag P tag 0x13 strengthen_tag refl
+    (by-tag P tag 0x14 number_tag refl (by-tag P tag 0x15 stride_tag refl (by-tag P tag 0x16 round_tag refl (by-tag P tag 0x17 split_tag refl (by-tag P tag 0x20 claim_tag refl (λ e. absurd (let z : ◌≡◌ {A = ℕ} 0 1 = cc in omega arith)))))))))) h
 
 module _ (a b K : ℕ) (i : Item) {x : Entry} (h : Enters (edition a) K i x) where
   abbrev tagged : EntryTag

@@ -22,7 +22,7 @@ use Rattle.fields.proofs.Contents.{ItemBytes, contents-bytes}
 use Rattle.bundle.specs.Layout.{Each}
 use Rattle.bundle.proofs.Writable.{header-file}
 use Rattle.bundle.proofs.Laid.{Lists, done, next, listed, short-gives, short-accepted}
-use Rattle.proof.specs.Entries.{EntryTag, combineTag, reduceTag, scaleTag, strengthenTag, numberTag, strideTag, roundTag, splitTag, claimTag, entry_tagged, in_place, size_of, entry_from, entry}
+use Rattle.proof.specs.Entries.{EntryTag, combine_tag, reduce_tag, scale_tag, strengthen_tag, number_tag, stride_tag, round_tag, split_tag, claim_tag, entry_tagged, in_place, size_of, entry_from, entry}
 use Rattle.proof.specs.Layout.{Enters, ProofFile}
 use Rattle.proof.proofs.Entered.{entry_known}
 use Rattle.conversion.specs.Turning.{other, lines_fit, lines_turned, fields_turned, makes_line, entries_read, result_within, proof_turned}
@@ -42,28 +42,28 @@ then-turn (a_claim h) = h
 module _ (e : Edition) (K : ℕ) where
   in_turn : (made : Bool) (x : EntryTag) (bs : List ℕ) → T (in_place made x) → {es : List Entry} → InTurn (makes_line (entry_from e K x bs)) es → InTurn made (entry_from e K x bs ∷ es)
   unfolding in_place entry_from makes_line
-  in_turn made combineTag bs t h = a_row _ h
-  in_turn made reduceTag bs t h = a_row _ h
-  in_turn made scaleTag bs t h = a_row _ h
-  in_turn made strengthenTag bs t h = a_row _ h
-  in_turn made numberTag bs t h = a_row _ h
-  in_turn made strideTag bs t h = a_row _ h
-  in_turn made roundTag bs t h = a_row _ h
-  in_turn made splitTag bs t h = a_row _ h
-  in_turn false claimTag bs t h = absurd t
-  in_turn true claimTag bs t h = a_claim h
+  in_turn made combine_tag bs t h = a_row _ h
+  in_turn made reduce_tag bs t h = a_row _ h
+  in_turn made scale_tag bs t h = a_row _ h
+  in_turn made strengthen_tag bs t h = a_row _ h
+  in_turn made number_tag bs t h = a_row _ h
+  in_turn made stride_tag bs t h = a_row _ h
+  in_turn made round_tag bs t h = a_row _ h
+  in_turn made split_tag bs t h = a_row _ h
+  in_turn false claim_tag bs t h = absurd t
+  in_turn true claim_tag bs t h = a_claim h
 
   in_place_lem : (made : Bool) (x : EntryTag) (bs : List ℕ) {es : List Entry} → InTurn made (entry_from e K x bs ∷ es) → T (in_place made x)
   unfolding in_place entry_from
-  in_place_lem made combineTag bs h = tt
-  in_place_lem made reduceTag bs h = tt
-  in_place_lem made scaleTag bs h = tt
-  in_place_lem made strengthenTag bs h = tt
-  in_place_lem made numberTag bs h = tt
-  in_place_lem made strideTag bs h = tt
-  in_place_lem made roundTag bs h = tt
-  in_place_lem made splitTag bs h = tt
-  in_place_lem made claimTag bs h = claim-made h
+  in_place_lem made combine_tag bs h = tt
+  in_place_lem made reduce_tag bs h = tt
+  in_place_lem made scale_tag bs h = tt
+  in_place_lem made strengthen_tag bs h = tt
+  in_place_lem made number_tag bs h = tt
+  in_place_lem made stride_tag bs h = tt
+  in_place_lem made round_tag bs h = tt
+  in_place_lem made split_tag bs h = tt
+  in_place_lem made claim_tag bs h = claim-made h
 
   -- One field.
   record Entered (made : Bool) (i : Item) (x : Entry) : Type 0 where

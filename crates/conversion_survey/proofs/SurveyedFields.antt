@@ -27,7 +27,7 @@ use Rattle.fields.specs.Fields.{Field, Fields, ends, cut, ◌▸◌, item, field
 use Rattle.fields.specs.Places.{fields_at}
 use Rattle.fields.proofs.Places.{Starts, starts-size}
 use Rattle.fields.proofs.Framing.{length-field_bytes}
-use Rattle.proof.specs.Entries.{EntryTag, combineTag, reduceTag, scaleTag, strengthenTag, numberTag, strideTag, roundTag, splitTag, claimTag, entry_tagged, shape, line_count, in_place, size_of, entry_from, entry}
+use Rattle.proof.specs.Entries.{EntryTag, combine_tag, reduce_tag, scale_tag, strengthen_tag, number_tag, stride_tag, round_tag, split_tag, claim_tag, entry_tagged, shape, line_count, in_place, size_of, entry_from, entry}
 use Rattle.proof.proofs.Entered.{entry-unknown, entry-none, entry-out, entry_in}
 use Rattle.conversion.specs.Turning.{each_field, lines_fit, lines_turned, fields_turned, makes_line, entries_read}
 use Rattle.conversion.proofs.Carried.{head-size, turned-is}
@@ -63,43 +63,43 @@ module _ {n K tag len : ℕ} {made : Bool} where
   module _ {w : ℕ} (width : w ≡ (edition n).line_width) {r : Laid} where
     pub combine-laid : tag ≡ 0x10 → r ≡ sized_as len (2 * w + 4) true → FieldLaid n K tag len made r
     unfolding known header_tag entry_tagged in_place size_of entry_from makes_line
-    combine-laid e q = lays combineTag 0x10 e refl refl refl (omega (arith, width)) (λ bs. refl) (omega (arith, width)) q
+    combine-laid e q = lays combine_tag 0x10 e refl refl refl (omega (arith, width)) (λ bs. refl) (omega (arith, width)) q
 
     pub reduce-laid : tag ≡ 0x11 → r ≡ sized_as len (2 * w + 2) true → FieldLaid n K tag len made r
     unfolding known header_tag entry_tagged in_place size_of entry_from makes_line
-    reduce-laid e q = lays reduceTag 0x11 e refl refl refl (omega (arith, width)) (λ bs. refl) (omega (arith, width)) q
+    reduce-laid e q = lays reduce_tag 0x11 e refl refl refl (omega (arith, width)) (λ bs. refl) (omega (arith, width)) q
 
     pub scale-laid : tag ≡ 0x12 → r ≡ sized_as len (w + 2) true → FieldLaid n K tag len made r
     unfolding known header_tag entry_tagged in_place size_of entry_from makes_line
-    scale-laid e q = lays scaleTag 0x12 e refl refl refl (omega (arith, width)) (λ bs. refl) (omega (arith, width)) q
+    scale-laid e q = lays scale_tag 0x12 e refl refl refl (omega (arith, width)) (λ bs. refl) (omega (arith, width)) q
 
     pub strengthen-laid : tag ≡ 0x13 → r ≡ sized_as len w false → FieldLaid n K tag len made r
     unfolding known header_tag entry_tagged in_place size_of entry_from makes_line
-    strengthen-laid e q = lays strengthenTag 0x13 e refl refl refl (omega (arith, width)) (λ bs. refl) (omega (arith, width)) q
+    strengthen-laid e q = lays strengthen_tag 0x13 e refl refl refl (omega (arith, width)) (λ bs. refl) (omega (arith, width)) q
 
     pub number-laid : tag ≡ 0x14 → r ≡ sized_as len w false → FieldLaid n K tag len made r
     unfolding known header_tag entry_tagged in_place size_of entry_from makes_line
-    number-laid e q = lays numberTag 0x14 e refl refl refl (omega (arith, width)) (λ bs. refl) (omega (arith, width)) q
+    number-laid e q = lays number_tag 0x14 e refl refl refl (omega (arith, width)) (λ bs. refl) (omega (arith, width)) q
 
     pub stride-laid : tag ≡ 0x15 → r ≡ sized_as len (w + 2) false → FieldLaid n K tag len made r
     unfolding known header_tag entry_tagged in_place size_of entry_from makes_line
-    stride-laid e q = lays strideTag 0x15 e refl refl refl (omega (arith, width)) (λ bs. refl) (omega (arith, width)) q
+    stride-laid e q = lays stride_tag 0x15 e refl refl refl (omega (arith, width)) (λ bs. refl) (omega (arith, width)) q
 
     pub round-laid : tag ≡ 0x16 → r ≡ sized_as len (w + 4) false → FieldLaid n K tag len made r
     unfolding known header_tag entry_tagged in_place size_of entry_from makes_line
-    round-laid e q = lays roundTag 0x16 e refl refl refl (omega (arith, width)) (λ bs. refl) (omega (arith, width)) q
+    round-laid e q = lays round_tag 0x16 e refl refl refl (omega (arith, width)) (λ bs. refl) (omega (arith, width)) q
 
     pub split-laid : tag ≡ 0x17 → r ≡ sized_as len w false → FieldLaid n K tag len made r
     unfolding known header_tag entry_tagged in_place size_of entry_from makes_line
-    split-laid e q = lays splitTag 0x17 e refl refl refl (omega (arith, width)) (λ bs. refl) (omega (arith, width)) q
+    split-laid e q = lays split_tag 0x17 e refl refl refl (omega (arith, width)) (λ bs. refl) (omega (arith, width)) q
 
   pub claim-laid : {r : Laid} → tag ≡ 0x20 → made ≡ true → r ≡ sized_as len (8 * (K + 1)) false → FieldLaid n K tag len made r
   unfolding known header_tag entry_tagged in_place size_of entry_from makes_line
-  claim-laid e h q = lays claimTag 0x20 e refl refl h (omega arith) (λ bs. refl) (omega arith) q
+  claim-laid e h q = lays claim_tag 0x20 e refl refl h (omega arith) (λ bs. refl) (omega arith) q
 
   pub claim-out : tag ≡ 0x20 → made ≡ false → FieldLaid n K tag len made (Laid.Refused 4)
   unfolding known header_tag entry_tagged in_place
-  claim-out e h = record { is = λ refusal f tagged l. entry-out (edition n) K refusal made f claimTag (rw (tagged, e)) (rw (tagged, e)) h }
+  claim-out e h = record { is = λ refusal f tagged l. entry-out (edition n) K refusal made f claim_tag (rw (tagged, e)) (rw (tagged, e)) h }
 
   pub first_out : tag ≡ 0x01 → FieldLaid n K tag len made (Laid.Refused 4)
   unfolding known header_tag entry_tagged
@@ -191,7 +191,7 @@ one_line tag h = go (two-of 0x12 0x17 tag h) (eqb tag 0x12) (eqb tag 0x13) (eqb 
     go r false false false false false p q s t u =
         let z : tag ≡ 0x17 = omega (arith, r.0, r.1, eqb-false tag 0x12 p, eqb-false tag 0x13 q, eqb-false tag 0x14 s, eqb-false tag 0x15 t, eqb-false tag 0x16 u) in rw z
 
-no-tag : (a b c d e f g h i : Bool) → a ≡ false → b ≡ false → c ≡ false → d ≡ false → e ≡ false → f ≡ false → g ≡ false → h ≡ false → 0 ≡ line_count (elim a as (λ _. Option EntryTag) [ true ↦ some combineTag | false ↦ elim b as (λ _. Option EntryTag) [ true ↦ some reduceTag | false ↦ elim c as (λ _. Option EntryTag) [ true ↦ some scaleTag | false ↦ elim d as (λ _. Option EntryTag) [ true ↦ some strengthenTag | false ↦ elim e as (λ _. Option EntryTag) [ true ↦ some numberTag | false ↦ elim f as (λ _. Option EntryTag) [ true ↦ some strideTag | false ↦ elim g as (λ _. Option EntryTag) [ true ↦ some roundTag | false ↦ elim h as (λ _. Option EntryTag) [ true ↦ some splitTag | false ↦ elim i [ true ↦ some claimTag | false ↦ none ] ] ] ] ] ] ] ] ])
+no-tag : (a b c d e f g h i : Bool) → a ≡ false → b ≡ false → c ≡ false → d ≡ false → e ≡ false → f ≡ false → g ≡ false → h ≡ false → 0 ≡ line_count (elim a as (λ _. Option EntryTag) [ true ↦ some combine_tag | false ↦ elim b as (λ _. Option EntryTag) [ true ↦ some reduce_tag | false ↦ elim c as (λ _. Option EntryTag) [ true ↦ some scale_tag | false ↦ elim d as (λ _. Option EntryTag) [ true ↦ some strengthen_tag | false ↦ elim e as (λ _. Option EntryTag) [ true ↦ some number_tag | false ↦ elim f as (λ _. Option EntryTag) [ true ↦ some stride_tag | false ↦ elim g as (λ _. Option EntryTag) [ true ↦ some round_tag | false ↦ elim h as (λ _. Option EntryTag) [ true ↦ some split_tag | false ↦ elim i [ true ↦ some claim_tag | false ↦ none ] ] ] ] ] ] ] ] ])
 no-tag true b c d e f g h i e0 e1 e2 e3 e4 e5 e6 e7 = absurd (let z : ◌≡◌ {A = ℕ} 0 1 = cc in omega arith)
 no-tag false true c d e f g h i e0 e1 e2 e3 e4 e5 e6 e7 = absurd (let z : ◌≡◌ {A = ℕ} 0 1 = cc in omega arith)
 no-tag false false true d e f g h i e0 e1 e2 e3 e4 e5 e6 e7 = absurd (let z : ◌≡◌ {A = ℕ} 0 1 = cc in omega arith)

@@ -23,7 +23,7 @@ use Rattle.number_bytes.specs.Ranges.{Held}
 use Rattle.fields.specs.declared.FileKind.{FileKind}
 use Rattle.fields.specs.Fields.{Field}
 use Rattle.fields.specs.Header.{known, header_tag}
-use Rattle.proof.specs.Entries.{EntryTag, combineTag, reduceTag, scaleTag, strengthenTag, numberTag, strideTag, roundTag, splitTag, claimTag, size_of, entry_from, line_number, multiplier, entry_tagged, in_place, entry}
+use Rattle.proof.specs.Entries.{EntryTag, combine_tag, reduce_tag, scale_tag, strengthen_tag, number_tag, stride_tag, round_tag, split_tag, claim_tag, size_of, entry_from, line_number, multiplier, entry_tagged, in_place, entry}
 use Rattle.proof.proofs.Entered.{unknown, entry-unknown, entry-none, entry-out, entry_in}
 use Rattle.number_bytes.proofs.Stores.{part-part}
 use Rattle.entries.specs.Entries.{Multiplies, entry_for, Ranged, Filled, Shaped, claimed, Entered}
@@ -82,10 +82,10 @@ module _ (p : List ℕ) (start len : ℕ) (there : start + len ≤ length p) whe
       pub combine-is : {s t : LineNumber} {α β : ℤ} → len ≡ 2 * w + 4
           → s.0 ≡ unsigned (take (edition n).line_width (drop start p)) → t.0 ≡ unsigned (take (edition n).line_width (drop (start + w) p))
           → Multiplies (unsigned (take 2 (drop (start + 2 * w) p))) α → Multiplies (unsigned (take 2 (drop (start + 2 * w + 2) p))) β
-          → Shaped n combineTag p start len (Entry.Combine s t α β)
+          → Shaped n combine_tag p start len (Entry.Combine s t α β)
       unfolding size_of entry_from
       combine-is h es et a b =
-          right-size combineTag h (λ K. omega (arith, width))
+          right-size combine_tag h (λ K. omega (arith, width))
           (λ refusal K.
           let e₁ = line-is 0 start (omega (arith, width)) (omega (arith, width)) es in
           let e₂ = line-is 1 (start + w) (omega (arith, width)) (omega (arith, width)) et in
@@ -98,10 +98,10 @@ module _ (p : List ℕ) (start len : ℕ) (there : start + len ≤ length p) whe
       pub reduce-is : {s t : LineNumber} {α : ℤ} → len ≡ 2 * w + 2
           → s.0 ≡ unsigned (take (edition n).line_width (drop start p)) → t.0 ≡ unsigned (take (edition n).line_width (drop (start + w) p))
           → α ≡ signed (take 2 (drop (start + 2 * w) p)) → Held 2 α
-          → Shaped n reduceTag p start len (Entry.Reduce s t α)
+          → Shaped n reduce_tag p start len (Entry.Reduce s t α)
       unfolding size_of entry_from
       reduce-is {s} {t} {α} h es et a held =
-          right-size reduceTag h (λ K. omega (arith, width))
+          right-size reduce_tag h (λ K. omega (arith, width))
           (λ refusal K.
           let e₁ = line-is 0 start (omega (arith, width)) (omega (arith, width)) es in
           let e₂ = line-is 1 (start + w) (omega (arith, width)) (omega (arith, width)) et in
@@ -112,10 +112,10 @@ module _ (p : List ℕ) (start len : ℕ) (there : start + len ≤ length p) whe
           (omega (arith, width))
 
       pub scale-is : {t : LineNumber} {α : ℤ} → len ≡ w + 2 → t.0 ≡ unsigned (take (edition n).line_width (drop start p)) → Multiplies (unsigned (take 2 (drop (start + w) p))) α
-          → Shaped n scaleTag p start len (Entry.Scale t α)
+          → Shaped n scale_tag p start len (Entry.Scale t α)
       unfolding size_of entry_from
       scale-is h et a =
-          right-size scaleTag h (λ K. omega (arith, width))
+          right-size scale_tag h (λ K. omega (arith, width))
           (λ refusal K.
           let e₁ = line-is 0 start (omega (arith, width)) (omega (arith, width)) et in
           let e₂ = sym (multiplies-abs a) ∙ ap unsigned (multiplier-is 1 0 (start + w) (omega (arith, width)) (omega (arith, width))) in
@@ -124,10 +124,10 @@ module _ (p : List ℕ) (start len : ℕ) (there : start + len ≤ length p) whe
           (omega (arith, width))
 
       pub stride-is : {t : LineNumber} {g : ℤ} → len ≡ w + 2 → t.0 ≡ unsigned (take (edition n).line_width (drop start p)) → Multiplies (unsigned (take 2 (drop (start + w) p))) g
-          → Shaped n strideTag p start len (Entry.CloseStride t g)
+          → Shaped n stride_tag p start len (Entry.CloseStride t g)
       unfolding size_of entry_from
       stride-is h et a =
-          right-size strideTag h (λ K. omega (arith, width))
+          right-size stride_tag h (λ K. omega (arith, width))
           (λ refusal K.
           let e₁ = line-is 0 start (omega (arith, width)) (omega (arith, width)) et in
           let e₂ = sym (multiplies-abs a) ∙ ap unsigned (multiplier-is 1 0 (start + w) (omega (arith, width)) (omega (arith, width))) in
@@ -136,10 +136,10 @@ module _ (p : List ℕ) (start len : ℕ) (there : start + len ≤ length p) whe
           (omega (arith, width))
 
       pub round_is : {t : LineNumber} {g : ℤ} {by : ℕ} → len ≡ w + 4 → t.0 ≡ unsigned (take (edition n).line_width (drop start p)) → Multiplies (unsigned (take 2 (drop (start + w) p))) g
-          → by ≡ unsigned (take 2 (drop (start + w + 2) p)) → Shaped n roundTag p start len (Entry.Round t g by)
+          → by ≡ unsigned (take 2 (drop (start + w + 2) p)) → Shaped n round_tag p start len (Entry.Round t g by)
       unfolding size_of entry_from
       round_is h et a b =
-          right-size roundTag h (λ K. omega (arith, width))
+          right-size round_tag h (λ K. omega (arith, width))
           (λ refusal K.
           let e₁ = line-is 0 start (omega (arith, width)) (omega (arith, width)) et in
           let e₂ = sym (multiplies-abs a) ∙ ap unsigned (multiplier-is 1 0 (start + w) (omega (arith, width)) (omega (arith, width))) in
@@ -155,17 +155,17 @@ module _ (p : List ℕ) (start len : ℕ) (there : start + len ≤ length p) whe
         own-width : (edition n).line_width ≤ len
         own-width = omega (arith, width)
 
-        pub strengthen-is : Shaped n strengthenTag p start len (Entry.Strengthen t)
+        pub strengthen-is : Shaped n strengthen_tag p start len (Entry.Strengthen t)
         unfolding size_of entry_from
-        strengthen-is = right-size strengthenTag h (λ K. omega (arith, width)) (λ refusal K. rw only-line) (λ K. tt) own-width
+        strengthen-is = right-size strengthen_tag h (λ K. omega (arith, width)) (λ refusal K. rw only-line) (λ K. tt) own-width
 
-        pub split-is : Shaped n splitTag p start len (Entry.Split t)
+        pub split-is : Shaped n split_tag p start len (Entry.Split t)
         unfolding size_of entry_from
-        split-is = right-size splitTag h (λ K. omega (arith, width)) (λ refusal K. rw only-line) (λ K. tt) own-width
+        split-is = right-size split_tag h (λ K. omega (arith, width)) (λ refusal K. rw only-line) (λ K. tt) own-width
 
-        pub number_is : Shaped n numberTag p start len (Entry.CloseNumber t)
+        pub number_is : Shaped n number_tag p start len (Entry.CloseNumber t)
         unfolding size_of entry_from
-        number_is = right-size numberTag h (λ K. omega (arith, width)) (λ refusal K. rw only-line) (λ K. tt) own-width
+        number_is = right-size number_tag h (λ K. omega (arith, width)) (λ refusal K. rw only-line) (λ K. tt) own-width
 
 -- ---- the entry of a field, by its tag
 abbrev field_of : (at tag : ℕ) → List ℕ → Field
@@ -178,37 +178,37 @@ module _ {p : List ℕ} {tag start len : ℕ} (n K : ℕ) (made : Bool) where
   entered x e f g s = record { is = λ refusal at. entry_in (edition n) K refusal made (field_of at tag _) x e f g ∙ sym (s.is refusal K); ranged = s.ranged K; filled = s.filled }
 
   module _ {r : Entry} where
-    pub combine-in : tag ≡ 0x10 → Shaped n combineTag p start len r → Entered n K p tag start len made r
+    pub combine-in : tag ≡ 0x10 → Shaped n combine_tag p start len r → Entered n K p tag start len made r
     unfolding known header_tag entry_tagged in_place
-    combine-in e s = entered combineTag (rw e) (rw e) refl s
+    combine-in e s = entered combine_tag (rw e) (rw e) refl s
 
-    pub reduce-in : tag ≡ 0x11 → Shaped n reduceTag p start len r → Entered n K p tag start len made r
+    pub reduce-in : tag ≡ 0x11 → Shaped n reduce_tag p start len r → Entered n K p tag start len made r
     unfolding known header_tag entry_tagged in_place
-    reduce-in e s = entered reduceTag (rw e) (rw e) refl s
+    reduce-in e s = entered reduce_tag (rw e) (rw e) refl s
 
-    pub scale_in : tag ≡ 0x12 → Shaped n scaleTag p start len r → Entered n K p tag start len made r
+    pub scale_in : tag ≡ 0x12 → Shaped n scale_tag p start len r → Entered n K p tag start len made r
     unfolding known header_tag entry_tagged in_place
-    scale_in e s = entered scaleTag (rw e) (rw e) refl s
+    scale_in e s = entered scale_tag (rw e) (rw e) refl s
 
-    pub strengthen-in : tag ≡ 0x13 → Shaped n strengthenTag p start len r → Entered n K p tag start len made r
+    pub strengthen-in : tag ≡ 0x13 → Shaped n strengthen_tag p start len r → Entered n K p tag start len made r
     unfolding known header_tag entry_tagged in_place
-    strengthen-in e s = entered strengthenTag (rw e) (rw e) refl s
+    strengthen-in e s = entered strengthen_tag (rw e) (rw e) refl s
 
-    pub number_in : tag ≡ 0x14 → Shaped n numberTag p start len r → Entered n K p tag start len made r
+    pub number_in : tag ≡ 0x14 → Shaped n number_tag p start len r → Entered n K p tag start len made r
     unfolding known header_tag entry_tagged in_place
-    number_in e s = entered numberTag (rw e) (rw e) refl s
+    number_in e s = entered number_tag (rw e) (rw e) refl s
 
-    pub stride-in : tag ≡ 0x15 → Shaped n strideTag p start len r → Entered n K p tag start len made r
+    pub stride-in : tag ≡ 0x15 → Shaped n stride_tag p start len r → Entered n K p tag start len made r
     unfolding known header_tag entry_tagged in_place
-    stride-in e s = entered strideTag (rw e) (rw e) refl s
+    stride-in e s = entered stride_tag (rw e) (rw e) refl s
 
-    pub round-in : tag ≡ 0x16 → Shaped n roundTag p start len r → Entered n K p tag start len made r
+    pub round-in : tag ≡ 0x16 → Shaped n round_tag p start len r → Entered n K p tag start len made r
     unfolding known header_tag entry_tagged in_place
-    round-in e s = entered roundTag (rw e) (rw e) refl s
+    round-in e s = entered round_tag (rw e) (rw e) refl s
 
-    pub split-in : tag ≡ 0x17 → Shaped n splitTag p start len r → Entered n K p tag start len made r
+    pub split-in : tag ≡ 0x17 → Shaped n split_tag p start len r → Entered n K p tag start len made r
     unfolding known header_tag entry_tagged in_place
-    split-in e s = entered splitTag (rw e) (rw e) refl s
+    split-in e s = entered split_tag (rw e) (rw e) refl s
 
   pub header-in : tag ≡ 0x01 → Entered n K p tag start len made (Entry.Refused 4)
   unfolding known header_tag entry_tagged
@@ -222,18 +222,18 @@ module _ {p : List ℕ} {tag start len : ℕ} (n K : ℕ) (made : Bool) where
   unfolding known header_tag entry_tagged in_place size_of entry_from ◌>>◌ need
   claimed-by b e h q = record { is = is; ranged = ranged b q; filled = filled b q }
     where
-      size_is : size_of (edition n) K claimTag ≡ 8 * (K + 1)
+      size_is : size_of (edition n) K claim_tag ≡ 8 * (K + 1)
       size_is = omega arith
 
       by : (b : Bool) (refusal : ℕ → Answer) → eqb len (8 * (K + 1)) ≡ b
-          → (need (refusal 6) (eqb (length (take len (drop start p))) (size_of (edition n) K claimTag)) >> accepted (entry_from (edition n) K claimTag (take len (drop start p))))
+          → (need (refusal 6) (eqb (length (take len (drop start p))) (size_of (edition n) K claim_tag)) >> accepted (entry_from (edition n) K claim_tag (take len (drop start p))))
           ≡ entry_for refusal K (take len (drop start p)) (elim b [ true ↦ Entry.Claim start | false ↦ Entry.Refused 6 ])
       by true refusal q = rw (size p start len h, size_is, q)
       by false refusal q = rw (size p start len h, size_is, q)
 
       is : (refusal : ℕ → Answer) (at : ℕ)
           → entry (edition n) K refusal true (field_of at tag (take len (drop start p))) ≡ entry_for refusal K (take len (drop start p)) (elim b [ true ↦ Entry.Claim start | false ↦ Entry.Refused 6 ])
-      is refusal at = entry_in (edition n) K refusal true (field_of at tag _) claimTag (rw e) (rw e) refl ∙ by b refusal q
+      is refusal at = entry_in (edition n) K refusal true (field_of at tag _) claim_tag (rw e) (rw e) refl ∙ by b refusal q
 
       ranged : (b : Bool) → eqb len (8 * (K + 1)) ≡ b → Ranged K start len (elim b [ true ↦ Entry.Claim start | false ↦ Entry.Refused 6 ])
       ranged true q = (refl, omega (arith, eqb-true len (8 * (K + 1)) q))
@@ -245,7 +245,7 @@ module _ {p : List ℕ} {tag start len : ℕ} (n K : ℕ) (made : Bool) where
 
   unclaimed : tag ≡ 0x20 → Entered n K p tag start len false (Entry.Refused 4)
   unfolding known header_tag entry_tagged in_place
-  unclaimed e = record { is = λ refusal at. entry-out (edition n) K refusal false (field_of at tag _) claimTag (rw e) (rw e) refl; ranged = tt; filled = tt }
+  unclaimed e = record { is = λ refusal at. entry-out (edition n) K refusal false (field_of at tag _) claim_tag (rw e) (rw e) refl; ranged = tt; filled = tt }
 
 pub claim-in : {p : List ℕ} {tag start len n K : ℕ} (made : Bool) {r : Entry} → tag ≡ 0x20 → start + len ≤ length p → r ≡ claimed K start len made → Entered n K p tag start len made r
 claim-in {len = len} {n = n} {K = K} true e h q = rw q (claimed-by n K true (eqb len (8 * (K + 1))) e h refl)

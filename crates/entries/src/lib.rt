@@ -5,7 +5,7 @@
 ghost use Rattle.std.specs.Prelude.{◌≡◌, ◌+◌, ◌≤◌, length, take, drop};
 ghost use Rattle.forms.specs.Edition.{edition, edition1};
 ghost use Rattle.number_bytes.specs.Numbers.{unsigned};
-ghost use Rattle.proof.specs.Entries.{combineTag, reduceTag, scaleTag, strengthenTag, numberTag, strideTag, roundTag, splitTag};
+ghost use Rattle.proof.specs.Entries.{combine_tag, reduce_tag, scale_tag, strengthen_tag, number_tag, stride_tag, round_tag, split_tag};
 ghost use Rattle.entries.specs.Entries.{Multiplies, Shaped, claimed, Entered};
 
 use forms::{LineNumber, MULTIPLIER_BYTES, TERM_BYTES, line_bytes};
@@ -82,7 +82,7 @@ fn multiplier_at(p: &[u8], at: usize) -> i64
 
 fn combine_at(p: &[u8], start: usize, len: usize, e: u8) -> Entry
     requires { start + len ≤ length p.now }
-    ensures { Shaped e combineTag p.now start len result }
+    ensures { Shaped e combine_tag p.now start len result }
 {
     let width = line_bytes(e);
     if len == 2 * width + 2 * MULTIPLIER_BYTES {
@@ -98,7 +98,7 @@ fn combine_at(p: &[u8], start: usize, len: usize, e: u8) -> Entry
 // Only here the multiplier is signed.
 fn reduce_at(p: &[u8], start: usize, len: usize, e: u8) -> Entry
     requires { start + len ≤ length p.now }
-    ensures { Shaped e reduceTag p.now start len result }
+    ensures { Shaped e reduce_tag p.now start len result }
 {
     let width = line_bytes(e);
     if len == 2 * width + MULTIPLIER_BYTES {
@@ -112,7 +112,7 @@ fn reduce_at(p: &[u8], start: usize, len: usize, e: u8) -> Entry
 
 fn scale_at(p: &[u8], start: usize, len: usize, e: u8) -> Entry
     requires { start + len ≤ length p.now }
-    ensures { Shaped e scaleTag p.now start len result }
+    ensures { Shaped e scale_tag p.now start len result }
 {
     let width = line_bytes(e);
     if len == width + MULTIPLIER_BYTES {
@@ -125,7 +125,7 @@ fn scale_at(p: &[u8], start: usize, len: usize, e: u8) -> Entry
 
 fn strengthen_at(p: &[u8], start: usize, len: usize, e: u8) -> Entry
     requires { start + len ≤ length p.now }
-    ensures { Shaped e strengthenTag p.now start len result }
+    ensures { Shaped e strengthen_tag p.now start len result }
 {
     let width = line_bytes(e);
     if len == width {
@@ -137,7 +137,7 @@ fn strengthen_at(p: &[u8], start: usize, len: usize, e: u8) -> Entry
 
 fn number_at(p: &[u8], start: usize, len: usize, e: u8) -> Entry
     requires { start + len ≤ length p.now }
-    ensures { Shaped e numberTag p.now start len result }
+    ensures { Shaped e number_tag p.now start len result }
 {
     let width = line_bytes(e);
     if len == width {
@@ -149,7 +149,7 @@ fn number_at(p: &[u8], start: usize, len: usize, e: u8) -> Entry
 
 fn stride_at(p: &[u8], start: usize, len: usize, e: u8) -> Entry
     requires { start + len ≤ length p.now }
-    ensures { Shaped e strideTag p.now start len result }
+    ensures { Shaped e stride_tag p.now start len result }
 {
     let width = line_bytes(e);
     if len == width + MULTIPLIER_BYTES {
@@ -171,7 +171,7 @@ fn rounding_at(p: &[u8], at: usize) -> u16
 
 fn round_at(p: &[u8], start: usize, len: usize, e: u8) -> Entry
     requires { start + len ≤ length p.now }
-    ensures { Shaped e roundTag p.now start len result }
+    ensures { Shaped e round_tag p.now start len result }
 {
     let width = line_bytes(e);
     if len == width + 2 * MULTIPLIER_BYTES {
@@ -185,7 +185,7 @@ fn round_at(p: &[u8], start: usize, len: usize, e: u8) -> Entry
 
 fn split_at(p: &[u8], start: usize, len: usize, e: u8) -> Entry
     requires { start + len ≤ length p.now }
-    ensures { Shaped e splitTag p.now start len result }
+    ensures { Shaped e split_tag p.now start len result }
 {
     let width = line_bytes(e);
     if len == width {

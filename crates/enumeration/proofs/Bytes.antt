@@ -13,7 +13,7 @@ use Rattle.number_bytes.specs.Numbers.{unsigned, complement, signed, unsigned_by
 use Rattle.fields.specs.Fields.{Item, item, items, fields, note, Framed, file_of, field_bytes, unless_note_item, without_notes}
 use Rattle.fields.proofs.Framing.{items-file_of, length-field_bytes}
 use Rattle.bundle.specs.Layout.{Each, nil, cons}
-use Rattle.proof.specs.Entries.{EntryTag, combineTag, reduceTag, scaleTag, strengthenTag, numberTag, strideTag, entry_tagged, line_number, multiplier, size_of, entry_from}
+use Rattle.proof.specs.Entries.{EntryTag, combine_tag, reduce_tag, scale_tag, strengthen_tag, number_tag, stride_tag, entry_tagged, line_number, multiplier, size_of, entry_from}
 use Rattle.proof.specs.Layout.{Enters}
 use Rattle.enumeration.specs.ShortProofs.{multipliers, signed_multipliers, strides, PermittedRow, row_item, proof_file}
 use Rattle.enumeration.proofs.Members.{all_in}
@@ -29,33 +29,33 @@ module _ (K : ℕ) where
   combine-enters : (i j : ℕ) → All (λ α. All (λ β. Read (Derive (Combine i j α β))) multipliers) multipliers
   unfolding row_item entry_tagged size_of entry_from line_number multiplier unsigned unsigned_bytes
   combine-enters i j =
-      cons {x = 1} (cons {x = 1} (record { tagged = combineTag; tag = refl; size = omega arith; entry = ap₂ (λ (i j : ℕ). row (Derive (Combine i j 1 1))) (none i) (none j) }) (cons {x = 2} (record { tagged = combineTag; tag = refl; size = omega arith; entry = ap₂ (λ (i j : ℕ). row (Derive (Combine i j 1 2))) (none i) (none j) }) nil))
-      (cons {x = 2} (cons {x = 1} (record { tagged = combineTag; tag = refl; size = omega arith; entry = ap₂ (λ (i j : ℕ). row (Derive (Combine i j 2 1))) (none i) (none j) }) (cons {x = 2} (record { tagged = combineTag; tag = refl; size = omega arith; entry = ap₂ (λ (i j : ℕ). row (Derive (Combine i j 2 2))) (none i) (none j) }) nil)) nil)
+      cons {x = 1} (cons {x = 1} (record { tagged = combine_tag; tag = refl; size = omega arith; entry = ap₂ (λ (i j : ℕ). row (Derive (Combine i j 1 1))) (none i) (none j) }) (cons {x = 2} (record { tagged = combine_tag; tag = refl; size = omega arith; entry = ap₂ (λ (i j : ℕ). row (Derive (Combine i j 1 2))) (none i) (none j) }) nil))
+      (cons {x = 2} (cons {x = 1} (record { tagged = combine_tag; tag = refl; size = omega arith; entry = ap₂ (λ (i j : ℕ). row (Derive (Combine i j 2 1))) (none i) (none j) }) (cons {x = 2} (record { tagged = combine_tag; tag = refl; size = omega arith; entry = ap₂ (λ (i j : ℕ). row (Derive (Combine i j 2 2))) (none i) (none j) }) nil)) nil)
 
   reduce-enters : (i j : ℕ) → All (λ α. Read (Derive (Reduce i j α))) signed_multipliers
   unfolding row_item entry_tagged size_of entry_from line_number multiplier unsigned complement signed unsigned_bytes residue signed_bytes
   reduce-enters i j =
-      cons {x = pos 1} (record { tagged = reduceTag; tag = refl; size = omega arith; entry = ap₂ (λ (i j : ℕ). row (Derive (Reduce i j (pos 1)))) (none i) (none j) }) (cons {x = pos 2} (record { tagged = reduceTag; tag = refl; size = omega arith; entry = ap₂ (λ (i j : ℕ). row (Derive (Reduce i j (pos 2)))) (none i) (none j) })
-      (cons {x = negsuc 1} (record { tagged = reduceTag; tag = refl; size = omega arith; entry = ap₂ (λ (i j : ℕ). row (Derive (Reduce i j (negsuc 1)))) (none i) (none j) }) (cons {x = negsuc 0} (record { tagged = reduceTag; tag = refl; size = omega arith; entry = ap₂ (λ (i j : ℕ). row (Derive (Reduce i j (negsuc 0)))) (none i) (none j) }) nil)))
+      cons {x = pos 1} (record { tagged = reduce_tag; tag = refl; size = omega arith; entry = ap₂ (λ (i j : ℕ). row (Derive (Reduce i j (pos 1)))) (none i) (none j) }) (cons {x = pos 2} (record { tagged = reduce_tag; tag = refl; size = omega arith; entry = ap₂ (λ (i j : ℕ). row (Derive (Reduce i j (pos 2)))) (none i) (none j) })
+      (cons {x = negsuc 1} (record { tagged = reduce_tag; tag = refl; size = omega arith; entry = ap₂ (λ (i j : ℕ). row (Derive (Reduce i j (negsuc 1)))) (none i) (none j) }) (cons {x = negsuc 0} (record { tagged = reduce_tag; tag = refl; size = omega arith; entry = ap₂ (λ (i j : ℕ). row (Derive (Reduce i j (negsuc 0)))) (none i) (none j) }) nil)))
 
   scale-enters : (i : ℕ) → All (λ α. Read (Derive (Scale i α))) multipliers
   unfolding row_item entry_tagged size_of entry_from line_number multiplier unsigned unsigned_bytes
-  scale-enters i = cons {x = 1} (record { tagged = scaleTag; tag = refl; size = omega arith; entry = ap (λ (i : ℕ). row (Derive (Scale i 1))) (none i) }) (cons {x = 2} (record { tagged = scaleTag; tag = refl; size = omega arith; entry = ap (λ (i : ℕ). row (Derive (Scale i 2))) (none i) }) nil)
+  scale-enters i = cons {x = 1} (record { tagged = scale_tag; tag = refl; size = omega arith; entry = ap (λ (i : ℕ). row (Derive (Scale i 1))) (none i) }) (cons {x = 2} (record { tagged = scale_tag; tag = refl; size = omega arith; entry = ap (λ (i : ℕ). row (Derive (Scale i 2))) (none i) }) nil)
 
   stride-enters : (i : ℕ) → All (λ g. Read (CloseStride i g)) strides
   unfolding row_item entry_tagged size_of entry_from line_number multiplier unsigned unsigned_bytes
   stride-enters i =
-      cons {x = 2} (record { tagged = strideTag; tag = refl; size = omega arith; entry = ap (λ (i : ℕ). row (CloseStride i 2)) (none i) }) (cons {x = 3} (record { tagged = strideTag; tag = refl; size = omega arith; entry = ap (λ (i : ℕ). row (CloseStride i 3)) (none i) })
-      (cons {x = 4} (record { tagged = strideTag; tag = refl; size = omega arith; entry = ap (λ (i : ℕ). row (CloseStride i 4)) (none i) }) nil))
+      cons {x = 2} (record { tagged = stride_tag; tag = refl; size = omega arith; entry = ap (λ (i : ℕ). row (CloseStride i 2)) (none i) }) (cons {x = 3} (record { tagged = stride_tag; tag = refl; size = omega arith; entry = ap (λ (i : ℕ). row (CloseStride i 3)) (none i) })
+      (cons {x = 4} (record { tagged = stride_tag; tag = refl; size = omega arith; entry = ap (λ (i : ℕ). row (CloseStride i 4)) (none i) }) nil))
 
   pub row-enters : (r : Row) → PermittedRow r → Enters edition1 K (row_item r) (row r)
   unfolding row_item entry_tagged size_of entry_from line_number unsigned
   row-enters (Derive (Combine i j α β)) (p, q) = all_in (λ (β : ℕ). Read (Derive (Combine i j α β))) multipliers (all_in (λ (α : ℕ). All (λ (β : ℕ). Read (Derive (Combine i j α β))) multipliers) multipliers (combine-enters i j) α p) β q
   row-enters (Derive (Reduce i j α)) p = all_in (λ (α : ℤ). Read (Derive (Reduce i j α))) signed_multipliers (reduce-enters i j) α p
   row-enters (Derive (Scale i α)) p = all_in (λ (α : ℕ). Read (Derive (Scale i α))) multipliers (scale-enters i) α p
-  row-enters (Strengthen i) p = record { tagged = strengthenTag; tag = refl; size = omega arith; entry = ap (λ (i : ℕ). row (Strengthen i)) (none i) }
+  row-enters (Strengthen i) p = record { tagged = strengthen_tag; tag = refl; size = omega arith; entry = ap (λ (i : ℕ). row (Strengthen i)) (none i) }
   row-enters (Split i) p = absurd p
-  row-enters (CloseNumber i) p = record { tagged = numberTag; tag = refl; size = omega arith; entry = ap (λ (i : ℕ). row (CloseNumber i)) (none i) }
+  row-enters (CloseNumber i) p = record { tagged = number_tag; tag = refl; size = omega arith; entry = ap (λ (i : ℕ). row (CloseNumber i)) (none i) }
   row-enters (CloseStride i g) p = all_in (λ (g : ℕ). Read (CloseStride i g)) strides (stride-enters i) g p
   row-enters (Round i g k) p = absurd p
 

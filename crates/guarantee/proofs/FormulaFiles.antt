@@ -18,7 +18,7 @@ use Rattle.fields.specs.declared.FileKind.{FileKind}
 use Rattle.fields.specs.Fields.{Field, Fields, ends, cut, ◌▸◌, Item, item, fields, items}
 use Rattle.fields.specs.Header.{known, header_tag}
 use Rattle.fields.proofs.HeaderLaid.{next-items, first_of, header-gives, header_read, finished-gives, finished-ends}
-use Rattle.formula.specs.Formula.{Connective, disjunction, conjunction, FormulaTag, pair, atom, stride as strideTag, formula_tagged, compound, formula_size, formula_of, formula_field, two_parts, formula_within, read_formula}
+use Rattle.formula.specs.Formula.{Connective, disjunction, conjunction, FormulaTag, pair, atom, stride as stride_tag, formula_tagged, compound, formula_size, formula_of, formula_field, two_parts, formula_within, read_formula}
 use Rattle.proof.proofs.Agree.{agreed, agrees-refl}
 use Rattle.guarantee.specs.Testing.{Spells, either, both, at-most, equal, stride, FormulaFile}
 
@@ -28,7 +28,7 @@ tag_of (pair disjunction) = 0x31
 tag_of (pair conjunction) = 0x32
 tag_of (atom ≤0) = 0x33
 tag_of (atom =0) = 0x34
-tag_of strideTag = 0x35
+tag_of stride_tag = 0x35
 
 known-tag : (t : FormulaTag) → T (known FileKind.Formula (tag_of t))
 unfolding known header_tag
@@ -36,7 +36,7 @@ known-tag (pair disjunction) = tt
 known-tag (pair conjunction) = tt
 known-tag (atom ≤0) = tt
 known-tag (atom =0) = tt
-known-tag strideTag = tt
+known-tag stride_tag = tt
 
 tagged-as : (t : FormulaTag) → formula_tagged (tag_of t) ≡ some t
 unfolding formula_tagged
@@ -44,7 +44,7 @@ tagged-as (pair disjunction) = refl
 tagged-as (pair conjunction) = refl
 tagged-as (atom ≤0) = refl
 tagged-as (atom =0) = refl
-tagged-as strideTag = refl
+tagged-as stride_tag = refl
 
 -- one of a list of tags
 one_tag : (tag n : ℕ) (x : FormulaTag) {y : FormulaTag} {o : Option FormulaTag} → n ≡ tag_of x → (o ≡ some y → tag ≡ tag_of y)
@@ -58,7 +58,7 @@ one_tag tag n x {y} {o} p k h = go (eqb tag n) refl h
 tag_is : (tag : ℕ) (y : FormulaTag) → formula_tagged tag ≡ some y → tag ≡ tag_of y
 unfolding formula_tagged
 tag_is tag y h = one_tag tag 0x31 (pair disjunction) refl (one_tag tag 0x32 (pair conjunction) refl (one_tag tag 0x33 (atom ≤0) refl (one_tag tag 0x34 (atom =0) refl
-    (one_tag tag 0x35 strideTag refl (λ e. absurd (let z : ◌≡◌ {A = ℕ} 0 1 = cc in omega arith)))))) h
+    (one_tag tag 0x35 stride_tag refl (λ e. absurd (let z : ◌≡◌ {A = ℕ} 0 1 = cc in omega arith)))))) h
 
 -- ---- what is read is laid out so
 -- The fields fs are those of the formula x .0, of at most so many levels, and then x.1.
@@ -115,7 +115,7 @@ module _ (K levels : ℕ) where
     of-gives f fs (pair conjunction) e n = bind (two-gives f.at fs) λ (I, J, after) h. gives-accepted (pair-spelt f fs 0x32 e n refl (λ is js rest s t. both s t) h)
     of-gives f fs (atom ≤0) e n = gives-accepted (leaf-spelt f fs 0x33 _ e refl (λ is. at-most f.contents _ (omega arith) refl))
     of-gives f fs (atom =0) e n = gives-accepted (leaf-spelt f fs 0x34 _ e refl (λ is. equal f.contents _ (omega arith) refl))
-    of-gives f fs strideTag e n = test _ _ tt λ t.
+    of-gives f fs stride_tag e n = test _ _ tt λ t.
         let (g, low) = stride-number (signed (take 4 f.contents)) t in
         gives-accepted (leaf-spelt f fs 0x35 _ e refl (λ is. stride f.contents _ _ (omega arith) g low refl))
 
@@ -192,7 +192,7 @@ module _ (K : ℕ) where
         after = f.after;
         rest = f.rest;
         reads = ap (formula_within edition1 K levels) f.are
-            ∙ within-read levels (f.first ▸ f.after) (λ two. field-read two f.first f.after strideTag f.tag size ∙ needs _ _ _ (subst (λ (z : ℤ). T (le_z (pos 2) z)) (sym number) (le→leb 2 g low)))
+            ∙ within-read levels (f.first ▸ f.after) (λ two. field-read two f.first f.after stride_tag f.tag size ∙ needs _ _ _ (subst (λ (z : ℤ). T (le_z (pos 2) z)) (sym number) (le→leb 2 g low)))
             ∙ ap₂ (λ (z : ℤ) (u : Form). accepted (nat_abs z divides u, f.after)) number form;
       }
 

@@ -20,7 +20,7 @@ use Rattle.number_bytes.specs.Same.{same_bytes}
 use Rattle.number_bytes.proofs.Comparing.{same_refl}
 use Rattle.bundle.specs.Bundle.{at_most}
 use Rattle.proof.proofs.Outside.{In, short-in, bundle-in}
-use Rattle.proof.specs.Entries.{EntryTag, combineTag, reduceTag, scaleTag, strengthenTag, numberTag, strideTag, roundTag, splitTag, claimTag, entry_tagged, entry_from}
+use Rattle.proof.specs.Entries.{EntryTag, combine_tag, reduce_tag, scale_tag, strengthen_tag, number_tag, stride_tag, round_tag, split_tag, claim_tag, entry_tagged, entry_from}
 use Rattle.proof.specs.Layout.{Enters}
 use Rattle.proof.specs.Tree.{OpenStep, open_step, Tree, tree, after_close, rounding_of, tree_behind, innermost, starts_at, Stands}
 use Rattle.proof.proofs.Satisfies.{Satisfies, says-refused, says-accepted, bind, seq, says-need, test, weaken}
@@ -75,9 +75,9 @@ module _ (e : Edition) (K : ℕ) (bs : List ℕ) where
   unfolding entry_tagged entry_from
   tagged-as tag x h =
       let P : ℕ → Type 0 = λ n. entry_tagged n ≡ some x → n ≡ told (some x) in
-      by-tag P tag 0x10 combineTag (ap told) (by-tag P tag 0x11 reduceTag (ap told) (by-tag P tag 0x12 scaleTag (ap told) (by-tag P tag 0x13 strengthenTag (ap told)
-      (by-tag P tag 0x14 numberTag (ap told) (by-tag P tag 0x15 strideTag (ap told) (by-tag P tag 0x16 roundTag (ap told) (by-tag P tag 0x17 splitTag (ap told)
-      (by-tag P tag 0x20 claimTag (ap told) (λ e. absurd (let z : ◌≡◌ {A = ℕ} 0 1 = cc in omega arith)))))))))) h h
+      by-tag P tag 0x10 combine_tag (ap told) (by-tag P tag 0x11 reduce_tag (ap told) (by-tag P tag 0x12 scale_tag (ap told) (by-tag P tag 0x13 strengthen_tag (ap told)
+      (by-tag P tag 0x14 number_tag (ap told) (by-tag P tag 0x15 stride_tag (ap told) (by-tag P tag 0x16 round_tag (ap told) (by-tag P tag 0x17 split_tag (ap told)
+      (by-tag P tag 0x20 claim_tag (ap told) (λ e. absurd (let z : ◌≡◌ {A = ℕ} 0 1 = cc in omega arith)))))))))) h h
 
 pub field-tag : (e : Edition) (K : ℕ) (f : Field) {x : Entry} → Enters e K (item f.tag f.contents) x → f.tag ≡ tag_number x
 field-tag e K f n = tagged-as e K f.contents f.tag n.tagged n.tag ∙ ap tag_number n.entry

@@ -6,7 +6,7 @@ use Rattle.forms.specs.Forms.{Constraint}
 use Rattle.answers.specs.declared.WriteResult.{WriteResult}
 use Rattle.fields.specs.Fields.{Field, Fields, ◌▸◌, fields}
 use Rattle.bundle.specs.Layout.{BundleFile, Says}
-use Rattle.proof.specs.Entries.{EntryTag, combineTag, reduceTag, scaleTag, strengthenTag, numberTag, strideTag, roundTag, splitTag, claimTag, entry_tagged}
+use Rattle.proof.specs.Entries.{EntryTag, combine_tag, reduce_tag, scale_tag, strengthen_tag, number_tag, stride_tag, round_tag, split_tag, claim_tag, entry_tagged}
 use Rattle.proof.specs.Tree.{rounding_of}
 use Rattle.proof.specs.Promises.{Checks}
 
@@ -34,28 +34,28 @@ lines_after_close (s ∷ ss) = elim s.left [ zero ↦ lines_after_close ss | suc
 -- The lines behind a field of these contents: a row 0x10 to 0x12 makes one, a branching step one on each of its branches, of which a strengthen has two more behind the first, a rounding k, a split one.
 unfoldable pub lines_behind : Option EntryTag → (contents : List ℕ) → BranchLines → BranchLines
 lines_behind none bs c = c
-lines_behind (some combineTag) bs c = branch_lines (suc c.lines) c.steps
-lines_behind (some reduceTag) bs c = branch_lines (suc c.lines) c.steps
-lines_behind (some scaleTag) bs c = branch_lines (suc c.lines) c.steps
-lines_behind (some strengthenTag) bs c = branch_lines (suc c.lines) (step_lines 2 c.lines ∷ c.steps)
-lines_behind (some numberTag) bs c = lines_after_close c.steps
-lines_behind (some strideTag) bs c = lines_after_close c.steps
-lines_behind (some roundTag) bs c = branch_lines (suc c.lines) (step_lines (rounding_of bs) c.lines ∷ c.steps)
-lines_behind (some splitTag) bs c = branch_lines (suc c.lines) (step_lines 1 c.lines ∷ c.steps)
-lines_behind (some claimTag) bs c = c
+lines_behind (some combine_tag) bs c = branch_lines (suc c.lines) c.steps
+lines_behind (some reduce_tag) bs c = branch_lines (suc c.lines) c.steps
+lines_behind (some scale_tag) bs c = branch_lines (suc c.lines) c.steps
+lines_behind (some strengthen_tag) bs c = branch_lines (suc c.lines) (step_lines 2 c.lines ∷ c.steps)
+lines_behind (some number_tag) bs c = lines_after_close c.steps
+lines_behind (some stride_tag) bs c = lines_after_close c.steps
+lines_behind (some round_tag) bs c = branch_lines (suc c.lines) (step_lines (rounding_of bs) c.lines ∷ c.steps)
+lines_behind (some split_tag) bs c = branch_lines (suc c.lines) (step_lines 1 c.lines ∷ c.steps)
+lines_behind (some claim_tag) bs c = c
 
 -- Whether it needs room for a line.
 unfoldable pub needs_room : Option EntryTag → Bool
 needs_room none = false
-needs_room (some combineTag) = true
-needs_room (some reduceTag) = true
-needs_room (some scaleTag) = true
-needs_room (some strengthenTag) = true
-needs_room (some numberTag) = false
-needs_room (some strideTag) = false
-needs_room (some roundTag) = true
-needs_room (some splitTag) = true
-needs_room (some claimTag) = false
+needs_room (some combine_tag) = true
+needs_room (some reduce_tag) = true
+needs_room (some scale_tag) = true
+needs_room (some strengthen_tag) = true
+needs_room (some number_tag) = false
+needs_room (some stride_tag) = false
+needs_room (some round_tag) = true
+needs_room (some split_tag) = true
+needs_room (some claim_tag) = false
 
 -- The place of the first of these fields that would make a line more than the most; before them the branch had the lines c.
 pub data TooManyLines (most : ℕ) : BranchLines → Fields → (place : ℕ) → Type 0 where

@@ -23,7 +23,7 @@ use Rattle.bundle.specs.Bundle.{Bundle, at_most, constraints, bundle_header, bun
 use Rattle.formula.specs.Formula.{formula_file}
 use Rattle.bundle.specs.Layout.{edition_said, Says as Names}
 use Rattle.bundle.proofs.Laid.{short-accepted}
-use Rattle.proof.specs.Entries.{EntryTag, combineTag, reduceTag, scaleTag, strengthenTag, numberTag, strideTag, roundTag, splitTag, claimTag, entry_tagged, in_place, size_of, entry_from, entry}
+use Rattle.proof.specs.Entries.{EntryTag, combine_tag, reduce_tag, scale_tag, strengthen_tag, number_tag, stride_tag, round_tag, split_tag, claim_tag, entry_tagged, in_place, size_of, entry_from, entry}
 use Rattle.proof.specs.Rows.{line_at, derived, fitting, inequality, roundable, disequality, by_number, by_stride}
 use Rattle.proof.specs.Check.{Closing, Checker, Following, there, check_rounded, check_split, check_row, check_entry, check_entries, check_branch, check_proof, formula_at_most, interpolant, check_by, check}
 use Rattle.proof.proofs.Satisfies.{Satisfies, says-refused, says-accepted, bind, seq, says-need, test, finds, weaken}
@@ -74,15 +74,15 @@ data Alike (refusal refusal' : ℕ → Answer) (made : Bool) (r r' : Result Entr
 
 claim-placed : (e : Edition) (K : ℕ) (made : Bool) (x : EntryTag) (bs : List ℕ) → in_place made x ≡ true → (t t_A : Form) → entry_from e K x bs ≡ claim t t_A → T made
 unfolding in_place entry_from
-claim-placed e K made combineTag bs p t t_A h = absurd (let z : ◌≡◌ {A = ℕ} 0 1 = cc in omega arith)
-claim-placed e K made reduceTag bs p t t_A h = absurd (let z : ◌≡◌ {A = ℕ} 0 1 = cc in omega arith)
-claim-placed e K made scaleTag bs p t t_A h = absurd (let z : ◌≡◌ {A = ℕ} 0 1 = cc in omega arith)
-claim-placed e K made strengthenTag bs p t t_A h = absurd (let z : ◌≡◌ {A = ℕ} 0 1 = cc in omega arith)
-claim-placed e K made numberTag bs p t t_A h = absurd (let z : ◌≡◌ {A = ℕ} 0 1 = cc in omega arith)
-claim-placed e K made strideTag bs p t t_A h = absurd (let z : ◌≡◌ {A = ℕ} 0 1 = cc in omega arith)
-claim-placed e K made roundTag bs p t t_A h = absurd (let z : ◌≡◌ {A = ℕ} 0 1 = cc in omega arith)
-claim-placed e K made splitTag bs p t t_A h = absurd (let z : ◌≡◌ {A = ℕ} 0 1 = cc in omega arith)
-claim-placed e K made claimTag bs p t t_A h = rw p tt
+claim-placed e K made combine_tag bs p t t_A h = absurd (let z : ◌≡◌ {A = ℕ} 0 1 = cc in omega arith)
+claim-placed e K made reduce_tag bs p t t_A h = absurd (let z : ◌≡◌ {A = ℕ} 0 1 = cc in omega arith)
+claim-placed e K made scale_tag bs p t t_A h = absurd (let z : ◌≡◌ {A = ℕ} 0 1 = cc in omega arith)
+claim-placed e K made strengthen_tag bs p t t_A h = absurd (let z : ◌≡◌ {A = ℕ} 0 1 = cc in omega arith)
+claim-placed e K made number_tag bs p t t_A h = absurd (let z : ◌≡◌ {A = ℕ} 0 1 = cc in omega arith)
+claim-placed e K made stride_tag bs p t t_A h = absurd (let z : ◌≡◌ {A = ℕ} 0 1 = cc in omega arith)
+claim-placed e K made round_tag bs p t t_A h = absurd (let z : ◌≡◌ {A = ℕ} 0 1 = cc in omega arith)
+claim-placed e K made split_tag bs p t t_A h = absurd (let z : ◌≡◌ {A = ℕ} 0 1 = cc in omega arith)
+claim-placed e K made claim_tag bs p t t_A h = rw p tt
 
 module _ (e : Edition) (K : ℕ) (refusal refusal' : ℕ → Answer) (made : Bool) (f : Field) where
   abbrev Same : Type 0

@@ -22,7 +22,7 @@ use Rattle.fields.specs.declared.FileKind.{FileKind}
 use Rattle.fields.specs.Fields.{Field, item}
 use Rattle.fields.specs.Header.{header_tag, known}
 use Rattle.fields.proofs.HeaderLaid.{by-tag}
-use Rattle.proof.specs.Entries.{EntryTag, combineTag, reduceTag, scaleTag, strengthenTag, numberTag, strideTag, roundTag, splitTag, claimTag, entry_tagged, in_place, size_of, entry_from, entry}
+use Rattle.proof.specs.Entries.{EntryTag, combine_tag, reduce_tag, scale_tag, strengthen_tag, number_tag, stride_tag, round_tag, split_tag, claim_tag, entry_tagged, in_place, size_of, entry_from, entry}
 use Rattle.proof.specs.Rows.{equals, same_form, states}
 use Rattle.proof.specs.Layout.{Enters}
 
@@ -31,8 +31,8 @@ pub entry_known : (tag : ℕ) (x : EntryTag) → entry_tagged tag ≡ some x →
 unfolding entry_tagged known header_tag
 entry_known tag x h =
     let P : ℕ → Type 0 = λ n. T (known FileKind.Proof n) in
-    by-tag P tag 0x10 combineTag tt (by-tag P tag 0x11 reduceTag tt (by-tag P tag 0x12 scaleTag tt (by-tag P tag 0x13 strengthenTag tt
-    (by-tag P tag 0x14 numberTag tt (by-tag P tag 0x15 strideTag tt (by-tag P tag 0x16 roundTag tt (by-tag P tag 0x17 splitTag tt (by-tag P tag 0x20 claimTag tt (λ e. absurd (let z : ◌≡◌ {A = ℕ} 0 1 = cc in omega arith)))))))))) h
+    by-tag P tag 0x10 combine_tag tt (by-tag P tag 0x11 reduce_tag tt (by-tag P tag 0x12 scale_tag tt (by-tag P tag 0x13 strengthen_tag tt
+    (by-tag P tag 0x14 number_tag tt (by-tag P tag 0x15 stride_tag tt (by-tag P tag 0x16 round_tag tt (by-tag P tag 0x17 split_tag tt (by-tag P tag 0x20 claim_tag tt (λ e. absurd (let z : ◌≡◌ {A = ℕ} 0 1 = cc in omega arith)))))))))) h
 
 above : (n : ℕ) {tag : ℕ} → n ≤ tag → (tag ≡ n → ⊥) → suc n ≤ tag
 above n h k = omega arith
@@ -78,27 +78,27 @@ module _ (e : Edition) (K : ℕ) (refusal : ℕ → Answer) (made : Bool) (f : F
 -- a row is in place anywhere, a claim where a line was made
 row-in-place : (e : Edition) (K : ℕ) (made : Bool) (x : EntryTag) (bs : List ℕ) (r : Row) → entry_from e K x bs ≡ row r → T (in_place made x)
 unfolding in_place entry_from
-row-in-place e K made combineTag bs r h = tt
-row-in-place e K made reduceTag bs r h = tt
-row-in-place e K made scaleTag bs r h = tt
-row-in-place e K made strengthenTag bs r h = tt
-row-in-place e K made numberTag bs r h = tt
-row-in-place e K made strideTag bs r h = tt
-row-in-place e K made roundTag bs r h = tt
-row-in-place e K made splitTag bs r h = tt
-row-in-place e K made claimTag bs r h = absurd (let z : ◌≡◌ {A = ℕ} 0 1 = cc in omega arith)
+row-in-place e K made combine_tag bs r h = tt
+row-in-place e K made reduce_tag bs r h = tt
+row-in-place e K made scale_tag bs r h = tt
+row-in-place e K made strengthen_tag bs r h = tt
+row-in-place e K made number_tag bs r h = tt
+row-in-place e K made stride_tag bs r h = tt
+row-in-place e K made round_tag bs r h = tt
+row-in-place e K made split_tag bs r h = tt
+row-in-place e K made claim_tag bs r h = absurd (let z : ◌≡◌ {A = ℕ} 0 1 = cc in omega arith)
 
 made-in-place : (x : EntryTag) → T (in_place true x)
 unfolding in_place
-made-in-place combineTag = tt
-made-in-place reduceTag = tt
-made-in-place scaleTag = tt
-made-in-place strengthenTag = tt
-made-in-place numberTag = tt
-made-in-place strideTag = tt
-made-in-place roundTag = tt
-made-in-place splitTag = tt
-made-in-place claimTag = tt
+made-in-place combine_tag = tt
+made-in-place reduce_tag = tt
+made-in-place scale_tag = tt
+made-in-place strengthen_tag = tt
+made-in-place number_tag = tt
+made-in-place stride_tag = tt
+made-in-place round_tag = tt
+made-in-place split_tag = tt
+made-in-place claim_tag = tt
 
 module _ (e : Edition) (K : ℕ) (here : Position) (rows : ℕ) where
   pub entry_gives : (made : Bool) (f : Field) → Gives (entry e K (refusal_at here rows f.at) made f) (Enters e K (item f.tag f.contents))

@@ -31,7 +31,7 @@ use Rattle.bundle.specs.Bundle.{form_small}
 use Rattle.bundle.specs.Layout.{Each, States, BundleFile}
 use Rattle.formula.specs.Formula.{formula_file, Encodable, read_formula}
 use Rattle.formula.proofs.RoundTrip.{read-written}
-use Rattle.proof.specs.Entries.{EntryTag, combineTag, reduceTag, scaleTag, strengthenTag, numberTag, strideTag, roundTag, splitTag, claimTag, entry_from, multiplier}
+use Rattle.proof.specs.Entries.{EntryTag, combine_tag, reduce_tag, scale_tag, strengthen_tag, number_tag, stride_tag, round_tag, split_tag, claim_tag, entry_from, multiplier}
 use Rattle.proof.specs.Layout.{Enters, ProofFile, Certifies}
 
 -- ---- forms of K coefficients
@@ -301,15 +301,15 @@ two_bytes n bs h = short-unsigned (1 * (edition n).line_width + 0 * 2) bs h
 
 entry-short : (n K : ℕ) (tagged : EntryTag) (bs : List ℕ) → Bytes bs → EntryShort (entry_from (edition n) K tagged bs)
 unfolding entry_from
-entry-short n K combineTag bs h = tt
-entry-short n K reduceTag bs h = tt
-entry-short n K scaleTag bs h = tt
-entry-short n K strengthenTag bs h = tt
-entry-short n K numberTag bs h = tt
-entry-short n K strideTag bs h = two_bytes n bs h
-entry-short n K roundTag bs h = two_bytes n bs h
-entry-short n K splitTag bs h = tt
-entry-short n K claimTag bs h = tt
+entry-short n K combine_tag bs h = tt
+entry-short n K reduce_tag bs h = tt
+entry-short n K scale_tag bs h = tt
+entry-short n K strengthen_tag bs h = tt
+entry-short n K number_tag bs h = tt
+entry-short n K stride_tag bs h = two_bytes n bs h
+entry-short n K round_tag bs h = two_bytes n bs h
+entry-short n K split_tag bs h = tt
+entry-short n K claim_tag bs h = tt
 
 enters-short : (n K : ℕ) {is : List Item} {es : List Entry} → All ItemBytes is → Each (Enters (edition n) K) is es → All EntryShort es
 enters-short n K h Each.nil = nil

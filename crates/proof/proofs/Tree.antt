@@ -20,7 +20,7 @@ use Rattle.fields.specs.declared.FileKind.{FileKind}
 use Rattle.fields.specs.Fields.{Field, Fields, ends, cut, ◌▸◌, item}
 use Rattle.fields.specs.Header.{header_field, edition_field, constants_field, header, finished}
 use Rattle.bundle.specs.Bundle.{Bundle}
-use Rattle.proof.specs.Entries.{EntryTag, combineTag, reduceTag, scaleTag, strengthenTag, numberTag, strideTag, roundTag, splitTag, claimTag, entry_tagged, multiplier, size_of, entry_from, entry}
+use Rattle.proof.specs.Entries.{EntryTag, combine_tag, reduce_tag, scale_tag, strengthen_tag, number_tag, stride_tag, round_tag, split_tag, claim_tag, entry_tagged, multiplier, size_of, entry_from, entry}
 use Rattle.proof.specs.Rows.{line_at, derived, fitting, inequality, roundable, disequality, by_number, by_stride}
 use Rattle.proof.specs.Check.{Closing, Checker, Following, there, check_rounded, check_split, check_row, check_entry, check_entries, check_branch, check_proof}
 use Rattle.proof.specs.Layout.{Enters}
@@ -163,15 +163,15 @@ module _ (e : Edition) (two : e.multiplier_width ≡ 2) where
 
   tagged-behind : (K : ℕ) (x : EntryTag) (bs : List ℕ) → length bs ≡ size_of e K x → (t : Tree) → tree_behind (some x) bs t ≡ entry_behind (entry_from e K x bs) t
   unfolding tree_behind entry_from size_of
-  tagged-behind K combineTag bs size t = refl
-  tagged-behind K reduceTag bs size t = refl
-  tagged-behind K scaleTag bs size t = refl
-  tagged-behind K strengthenTag bs size t = refl
-  tagged-behind K numberTag bs size t = refl
-  tagged-behind K strideTag bs size t = refl
-  tagged-behind K roundTag bs size t = ap (λ (k : ℕ). tree (suc t.rows) (open_step t.rows 0 k ∷ t.steps)) (rounding-read bs (omega (arith, size)))
-  tagged-behind K splitTag bs size t = refl
-  tagged-behind K claimTag bs size t = refl
+  tagged-behind K combine_tag bs size t = refl
+  tagged-behind K reduce_tag bs size t = refl
+  tagged-behind K scale_tag bs size t = refl
+  tagged-behind K strengthen_tag bs size t = refl
+  tagged-behind K number_tag bs size t = refl
+  tagged-behind K stride_tag bs size t = refl
+  tagged-behind K round_tag bs size t = ap (λ (k : ℕ). tree (suc t.rows) (open_step t.rows 0 k ∷ t.steps)) (rounding-read bs (omega (arith, size)))
+  tagged-behind K split_tag bs size t = refl
+  tagged-behind K claim_tag bs size t = refl
 
   pub field-behind : (K : ℕ) (f : Field) {x : Entry} → Enters e K (item f.tag f.contents) x → (t : Tree) → tree_behind (entry_tagged f.tag) f.contents t ≡ entry_behind x t
   field-behind K f n t = ap (λ (o : Option EntryTag). tree_behind o f.contents t) n.tag ∙ tagged-behind K n.tagged f.contents n.size t ∙ ap (λ (x : Entry). entry_behind x t) n.entry

@@ -12,35 +12,35 @@ use Rattle.fields.specs.Header.{known}
 
 -- 0x10 to 0x15 and 0x20; 0x16 and 0x17 are those of document 02, points 1 and 6.
 pub data EntryTag : Type 0 where
-  combineTag reduceTag scaleTag strengthenTag numberTag strideTag roundTag splitTag claimTag : EntryTag
+  combine_tag reduce_tag scale_tag strengthen_tag number_tag stride_tag round_tag split_tag claim_tag : EntryTag
 
 unfoldable pub entry_tagged : ℕ → Option EntryTag
 entry_tagged tag =
     elim (eqb tag 0x10) [
-      | true ↦ some combineTag
+      | true ↦ some combine_tag
       | false ↦
           elim (eqb tag 0x11) [
-            | true ↦ some reduceTag
+            | true ↦ some reduce_tag
             | false ↦
                 elim (eqb tag 0x12) [
-                  | true ↦ some scaleTag
+                  | true ↦ some scale_tag
                   | false ↦
                       elim (eqb tag 0x13) [
-                        | true ↦ some strengthenTag
+                        | true ↦ some strengthen_tag
                         | false ↦
                             elim (eqb tag 0x14) [
-                              | true ↦ some numberTag
+                              | true ↦ some number_tag
                               | false ↦
                                   elim (eqb tag 0x15) [
-                                    | true ↦ some strideTag
+                                    | true ↦ some stride_tag
                                     | false ↦
                                         elim (eqb tag 0x16) [
-                                          | true ↦ some roundTag
+                                          | true ↦ some round_tag
                                           | false ↦
                                               elim (eqb tag 0x17) [
-                                                | true ↦ some splitTag
+                                                | true ↦ some split_tag
                                                 | false ↦
-                                                    elim (eqb tag 0x20) [ true ↦ some claimTag | false ↦ none ]
+                                                    elim (eqb tag 0x20) [ true ↦ some claim_tag | false ↦ none ]
                                               ]
                                         ]
                                   ]
@@ -57,15 +57,15 @@ pub record Shape : Type 0 where
   pub forms : ℕ
 
 abbrev pub shape : EntryTag → Shape
-shape combineTag = record { line_numbers = 2; multipliers = 2; forms = 0 }
-shape reduceTag = record { line_numbers = 2; multipliers = 1; forms = 0 }
-shape scaleTag = record { line_numbers = 1; multipliers = 1; forms = 0 }
-shape strengthenTag = record { line_numbers = 1; multipliers = 0; forms = 0 }
-shape numberTag = record { line_numbers = 1; multipliers = 0; forms = 0 }
-shape strideTag = record { line_numbers = 1; multipliers = 1; forms = 0 }
-shape roundTag = record { line_numbers = 1; multipliers = 2; forms = 0 }
-shape splitTag = record { line_numbers = 1; multipliers = 0; forms = 0 }
-shape claimTag = record { line_numbers = 0; multipliers = 0; forms = 2 }
+shape combine_tag = record { line_numbers = 2; multipliers = 2; forms = 0 }
+shape reduce_tag = record { line_numbers = 2; multipliers = 1; forms = 0 }
+shape scale_tag = record { line_numbers = 1; multipliers = 1; forms = 0 }
+shape strengthen_tag = record { line_numbers = 1; multipliers = 0; forms = 0 }
+shape number_tag = record { line_numbers = 1; multipliers = 0; forms = 0 }
+shape stride_tag = record { line_numbers = 1; multipliers = 1; forms = 0 }
+shape round_tag = record { line_numbers = 1; multipliers = 2; forms = 0 }
+shape split_tag = record { line_numbers = 1; multipliers = 0; forms = 0 }
+shape claim_tag = record { line_numbers = 0; multipliers = 0; forms = 2 }
 
 -- How many line numbers a field of a proof begins with; none where it is no entry.
 abbrev pub line_count : Option EntryTag → ℕ
@@ -78,15 +78,15 @@ renumbered w w' number n bs = unsigneds_bytes w' (map number (unsigneds w n bs))
 
 -- A claim stands directly after a row 0x10 to 0x12 only; `made` says whether what stands directly before it, notes aside, is one of these.
 unfoldable pub in_place : (made : Bool) → EntryTag → Bool
-in_place made combineTag = true
-in_place made reduceTag = true
-in_place made scaleTag = true
-in_place made strengthenTag = true
-in_place made numberTag = true
-in_place made strideTag = true
-in_place made roundTag = true
-in_place made splitTag = true
-in_place made claimTag = made
+in_place made combine_tag = true
+in_place made reduce_tag = true
+in_place made scale_tag = true
+in_place made strengthen_tag = true
+in_place made number_tag = true
+in_place made stride_tag = true
+in_place made round_tag = true
+in_place made split_tag = true
+in_place made claim_tag = made
 
 module _ (e : Edition) where
   -- Line number i of a row, and the bytes of its multiplier i (or g, or k) behind n line numbers. (Line numbers have one byte in edition 1, two in edition 2: document 02, point 3.)
@@ -102,15 +102,15 @@ module _ (e : Edition) where
 
     -- Parameters in the order given; multipliers are signed only in 0x11. A claim is t then tA.
     unfoldable pub entry_from : EntryTag → List ℕ → Entry
-    entry_from combineTag bs = row (Derive (Combine (line_number 0 bs) (line_number 1 bs) (unsigned (multiplier 2 0 bs)) (unsigned (multiplier 2 1 bs))))
-    entry_from reduceTag bs = row (Derive (Reduce (line_number 0 bs) (line_number 1 bs) (signed (multiplier 2 0 bs))))
-    entry_from scaleTag bs = row (Derive (Scale (line_number 0 bs) (unsigned (multiplier 1 0 bs))))
-    entry_from strengthenTag bs = row (Strengthen (line_number 0 bs))
-    entry_from numberTag bs = row (CloseNumber (line_number 0 bs))
-    entry_from strideTag bs = row (CloseStride (line_number 0 bs) (unsigned (multiplier 1 0 bs)))
-    entry_from roundTag bs = row (Round (line_number 0 bs) (unsigned (multiplier 1 0 bs)) (unsigned (multiplier 1 1 bs)))
-    entry_from splitTag bs = row (Split (line_number 0 bs))
-    entry_from claimTag bs = claim (form_from e.term_width K bs) (form_from e.term_width K (drop (form_width e.term_width K) bs))
+    entry_from combine_tag bs = row (Derive (Combine (line_number 0 bs) (line_number 1 bs) (unsigned (multiplier 2 0 bs)) (unsigned (multiplier 2 1 bs))))
+    entry_from reduce_tag bs = row (Derive (Reduce (line_number 0 bs) (line_number 1 bs) (signed (multiplier 2 0 bs))))
+    entry_from scale_tag bs = row (Derive (Scale (line_number 0 bs) (unsigned (multiplier 1 0 bs))))
+    entry_from strengthen_tag bs = row (Strengthen (line_number 0 bs))
+    entry_from number_tag bs = row (CloseNumber (line_number 0 bs))
+    entry_from stride_tag bs = row (CloseStride (line_number 0 bs) (unsigned (multiplier 1 0 bs)))
+    entry_from round_tag bs = row (Round (line_number 0 bs) (unsigned (multiplier 1 0 bs)) (unsigned (multiplier 1 1 bs)))
+    entry_from split_tag bs = row (Split (line_number 0 bs))
+    entry_from claim_tag bs = claim (form_from e.term_width K bs) (form_from e.term_width K (drop (form_width e.term_width K) bs))
 
     -- The entry that a field states; `refusal` gives the refusal by a number at this field. 3, 4, 6.
     unfoldable pub entry : (refusal : ℕ → Answer) (made : Bool) → Field → Result Entry

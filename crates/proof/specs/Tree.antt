@@ -6,7 +6,7 @@ use Rattle.answers.specs.declared.Position.{Position}
 use Rattle.answers.specs.Answers.{position, root, answer, refusal_at, file_proof}
 use Rattle.number_bytes.specs.Numbers.{unsigned}
 use Rattle.fields.specs.Fields.{Field, Fields, ends, cut, ◌▸◌, fields}
-use Rattle.proof.specs.Entries.{EntryTag, combineTag, reduceTag, scaleTag, strengthenTag, numberTag, strideTag, roundTag, splitTag, claimTag, entry_tagged}
+use Rattle.proof.specs.Entries.{EntryTag, combine_tag, reduce_tag, scale_tag, strengthen_tag, number_tag, stride_tag, round_tag, split_tag, claim_tag, entry_tagged}
 
 -- A branching step that is open: its row number with the branch that is open, and the number of its last branch.
 pub record OpenStep : Type 0 where
@@ -36,15 +36,15 @@ rounding_of bs = unsigned (drop (length bs - 2) bs)
 -- The tree behind a field of these contents. A strengthen has the branches 0 to 2, a rounding by k those from 0 to k, a split 0 and 1. A claim is no row.
 unfoldable pub tree_behind : Option EntryTag → (contents : List ℕ) → Tree → Tree
 tree_behind none bs t = t
-tree_behind (some combineTag) bs t = tree (suc t.rows) t.steps
-tree_behind (some reduceTag) bs t = tree (suc t.rows) t.steps
-tree_behind (some scaleTag) bs t = tree (suc t.rows) t.steps
-tree_behind (some strengthenTag) bs t = tree (suc t.rows) (open_step t.rows 0 2 ∷ t.steps)
-tree_behind (some numberTag) bs t = tree (suc t.rows) (after_close t.steps)
-tree_behind (some strideTag) bs t = tree (suc t.rows) (after_close t.steps)
-tree_behind (some roundTag) bs t = tree (suc t.rows) (open_step t.rows 0 (rounding_of bs) ∷ t.steps)
-tree_behind (some splitTag) bs t = tree (suc t.rows) (open_step t.rows 0 1 ∷ t.steps)
-tree_behind (some claimTag) bs t = t
+tree_behind (some combine_tag) bs t = tree (suc t.rows) t.steps
+tree_behind (some reduce_tag) bs t = tree (suc t.rows) t.steps
+tree_behind (some scale_tag) bs t = tree (suc t.rows) t.steps
+tree_behind (some strengthen_tag) bs t = tree (suc t.rows) (open_step t.rows 0 2 ∷ t.steps)
+tree_behind (some number_tag) bs t = tree (suc t.rows) (after_close t.steps)
+tree_behind (some stride_tag) bs t = tree (suc t.rows) (after_close t.steps)
+tree_behind (some round_tag) bs t = tree (suc t.rows) (open_step t.rows 0 (rounding_of bs) ∷ t.steps)
+tree_behind (some split_tag) bs t = tree (suc t.rows) (open_step t.rows 0 1 ∷ t.steps)
+tree_behind (some claim_tag) bs t = t
 
 -- The innermost step that is open, with its branch.
 unfoldable pub innermost : List OpenStep → Position

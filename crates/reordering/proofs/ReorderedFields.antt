@@ -22,7 +22,7 @@ use Rattle.fields.proofs.Framing.{front-whole, front-shorter}
 use Rattle.fields.proofs.HeaderLaid.{by-tag}
 use Rattle.bundle.specs.Bundle.{kind_tagged}
 use Rattle.formula.specs.Formula.{encode, formula_file}
-use Rattle.proof.specs.Entries.{EntryTag, combineTag, reduceTag, scaleTag, strengthenTag, numberTag, strideTag, roundTag, splitTag, claimTag, entry_tagged, size_of, entry_from}
+use Rattle.proof.specs.Entries.{EntryTag, combine_tag, reduce_tag, scale_tag, strengthen_tag, number_tag, stride_tag, round_tag, split_tag, claim_tag, entry_tagged, size_of, entry_from}
 use Rattle.reordering.specs.Reordering.{Reordering, map_contents_from, map_contents, if_right, form_reordered, claim_reordered, stride_reordered, in_bundle, in_proof, in_formula}
 use Rattle.reordering.proofs.MappedContents.{ContentsMap, KeepsLength, map_contents-nothing, map_contents-broken, map_contents-whole}
 use Rattle.reordering.proofs.RelatedChecks.{Laws, EntryLike, a_row, a_claim, FormulaLike, literals, strides, ands, ors}
@@ -226,19 +226,19 @@ module _ {K : ℕ} (π : Reordering K) (n : ℕ) where
       (λ u. wrong-length _ _ _ c λ q. u (same_width e.coefficient_width n K wide (sym h ∙ q)))
 
   -- ---- claims
-  claim-tag : (tag : ℕ) → entry_tagged tag ≡ some claimTag → T (eqb tag 0x20)
+  claim-tag : (tag : ℕ) → entry_tagged tag ≡ some claim_tag → T (eqb tag 0x20)
   unfolding entry_tagged
   claim-tag tag h =
-      let P : ℕ → Type 0 = λ n. entry_tagged n ≡ some claimTag → T (eqb n 0x20) in
-      by-tag P tag 0x10 combineTag (λ e. absurd (let z : ◌≡◌ {A = ℕ} 0 1 = cc in omega arith))
-      (by-tag P tag 0x11 reduceTag (λ e. absurd (let z : ◌≡◌ {A = ℕ} 0 1 = cc in omega arith))
-      (by-tag P tag 0x12 scaleTag (λ e. absurd (let z : ◌≡◌ {A = ℕ} 0 1 = cc in omega arith))
-      (by-tag P tag 0x13 strengthenTag (λ e. absurd (let z : ◌≡◌ {A = ℕ} 0 1 = cc in omega arith))
-      (by-tag P tag 0x14 numberTag (λ e. absurd (let z : ◌≡◌ {A = ℕ} 0 1 = cc in omega arith))
-      (by-tag P tag 0x15 strideTag (λ e. absurd (let z : ◌≡◌ {A = ℕ} 0 1 = cc in omega arith))
-      (by-tag P tag 0x16 roundTag (λ e. absurd (let z : ◌≡◌ {A = ℕ} 0 1 = cc in omega arith))
-      (by-tag P tag 0x17 splitTag (λ e. absurd (let z : ◌≡◌ {A = ℕ} 0 1 = cc in omega arith))
-      (by-tag P tag 0x20 claimTag (λ e. tt) (λ e. absurd (let z : ◌≡◌ {A = ℕ} 0 1 = cc in omega arith)))))))))) h h
+      let P : ℕ → Type 0 = λ n. entry_tagged n ≡ some claim_tag → T (eqb n 0x20) in
+      by-tag P tag 0x10 combine_tag (λ e. absurd (let z : ◌≡◌ {A = ℕ} 0 1 = cc in omega arith))
+      (by-tag P tag 0x11 reduce_tag (λ e. absurd (let z : ◌≡◌ {A = ℕ} 0 1 = cc in omega arith))
+      (by-tag P tag 0x12 scale_tag (λ e. absurd (let z : ◌≡◌ {A = ℕ} 0 1 = cc in omega arith))
+      (by-tag P tag 0x13 strengthen_tag (λ e. absurd (let z : ◌≡◌ {A = ℕ} 0 1 = cc in omega arith))
+      (by-tag P tag 0x14 number_tag (λ e. absurd (let z : ◌≡◌ {A = ℕ} 0 1 = cc in omega arith))
+      (by-tag P tag 0x15 stride_tag (λ e. absurd (let z : ◌≡◌ {A = ℕ} 0 1 = cc in omega arith))
+      (by-tag P tag 0x16 round_tag (λ e. absurd (let z : ◌≡◌ {A = ℕ} 0 1 = cc in omega arith))
+      (by-tag P tag 0x17 split_tag (λ e. absurd (let z : ◌≡◌ {A = ℕ} 0 1 = cc in omega arith))
+      (by-tag P tag 0x20 claim_tag (λ e. tt) (λ e. absurd (let z : ◌≡◌ {A = ℕ} 0 1 = cc in omega arith)))))))))) h h
 
   claim-first : (c : List ℕ) → length c ≡ 2 * form_width 4 n → n ≡ K → form_from 4 n (claim_reordered π c) ≡ form_from 4 n (form_reordered π 4 (take (form_width 4 n) c))
   unfolding claim_reordered
@@ -255,21 +255,21 @@ module _ {K : ℕ} (π : Reordering K) (n : ℕ) where
       (drop_at (form_reordered π 4 (take (form_width 4 n) c)) (form_reordered π 4 (drop (form_width 4 n) c)) (form_width 4 n) (length-right π 4 (take (form_width 4 n) c) (first ∙ ap (form_width 4) e) ∙ first))
 
   -- a field that states anything else
-  other_tag : (tag : ℕ) {x : EntryTag} → entry_tagged tag ≡ some x → ¬ (x ≡ claimTag) → (c : List ℕ) → in_proof π tag c ≡ c
+  other_tag : (tag : ℕ) {x : EntryTag} → entry_tagged tag ≡ some x → ¬ (x ≡ claim_tag) → (c : List ℕ) → in_proof π tag c ≡ c
   unfolding in_proof entry_tagged
   other_tag tag {x} t u c = other-one _ _ _ c (ne_eqb tag 0x20 λ q.
       let there : entry_tagged 0x20 ≡ some x = subst (λ (n : ℕ). entry_tagged n ≡ some x) q t in
-      u (let same : x ≡ claimTag = cc in same))
+      u (let same : x ≡ claim_tag = cc in same))
 
   module _ (number : ℕ) where
-    row_near : (tag : ℕ) (x : EntryTag) → entry_tagged tag ≡ some x → ¬ (x ≡ claimTag) → (c : List ℕ) {r : Row} → entry_from (edition number) n x c ≡ row r
+    row_near : (tag : ℕ) (x : EntryTag) → entry_tagged tag ≡ some x → ¬ (x ≡ claim_tag) → (c : List ℕ) {r : Row} → entry_from (edition number) n x c ≡ row r
         → EntryLike Near (entry_from (edition number) n x c) (entry_from (edition number) n x (in_proof π tag c))
     row_near tag x t u c {r} q =
         subst (λ (b : List ℕ). EntryLike Near (entry_from (edition number) n x c) (entry_from (edition number) n x b)) (sym (other_tag tag t u c))
         (subst (λ (y : Entry). EntryLike Near y y) (sym q) (a_row r))
 
-    claim-near : (tag : ℕ) → entry_tagged tag ≡ some claimTag → (c : List ℕ) → length c ≡ 2 * form_width 4 n
-        → EntryLike Near (entry_from (edition number) n claimTag c) (entry_from (edition number) n claimTag (in_proof π tag c))
+    claim-near : (tag : ℕ) → entry_tagged tag ≡ some claim_tag → (c : List ℕ) → length c ≡ 2 * form_width 4 n
+        → EntryLike Near (entry_from (edition number) n claim_tag c) (entry_from (edition number) n claim_tag (in_proof π tag c))
     unfolding entry_from in_proof
     claim-near tag t c h =
         let l = form_width 4 n in
@@ -286,15 +286,15 @@ module _ {K : ℕ} (π : Reordering K) (n : ℕ) where
     pub entry-near : (tag : ℕ) (x : EntryTag) → entry_tagged tag ≡ some x → (c : List ℕ) → length c ≡ size_of (edition number) n x
         → EntryLike Near (entry_from (edition number) n x c) (entry_from (edition number) n x (in_proof π tag c))
     unfolding entry_from size_of
-    entry-near tag combineTag t c h = row_near tag combineTag t (λ e. absurd (let z : ◌≡◌ {A = ℕ} 0 1 = cc in omega arith)) c refl
-    entry-near tag reduceTag t c h = row_near tag reduceTag t (λ e. absurd (let z : ◌≡◌ {A = ℕ} 0 1 = cc in omega arith)) c refl
-    entry-near tag scaleTag t c h = row_near tag scaleTag t (λ e. absurd (let z : ◌≡◌ {A = ℕ} 0 1 = cc in omega arith)) c refl
-    entry-near tag strengthenTag t c h = row_near tag strengthenTag t (λ e. absurd (let z : ◌≡◌ {A = ℕ} 0 1 = cc in omega arith)) c refl
-    entry-near tag numberTag t c h = row_near tag numberTag t (λ e. absurd (let z : ◌≡◌ {A = ℕ} 0 1 = cc in omega arith)) c refl
-    entry-near tag strideTag t c h = row_near tag strideTag t (λ e. absurd (let z : ◌≡◌ {A = ℕ} 0 1 = cc in omega arith)) c refl
-    entry-near tag roundTag t c h = row_near tag roundTag t (λ e. absurd (let z : ◌≡◌ {A = ℕ} 0 1 = cc in omega arith)) c refl
-    entry-near tag splitTag t c h = row_near tag splitTag t (λ e. absurd (let z : ◌≡◌ {A = ℕ} 0 1 = cc in omega arith)) c refl
-    entry-near tag claimTag t c h = claim-near tag t c (omega (arith, h))
+    entry-near tag combine_tag t c h = row_near tag combine_tag t (λ e. absurd (let z : ◌≡◌ {A = ℕ} 0 1 = cc in omega arith)) c refl
+    entry-near tag reduce_tag t c h = row_near tag reduce_tag t (λ e. absurd (let z : ◌≡◌ {A = ℕ} 0 1 = cc in omega arith)) c refl
+    entry-near tag scale_tag t c h = row_near tag scale_tag t (λ e. absurd (let z : ◌≡◌ {A = ℕ} 0 1 = cc in omega arith)) c refl
+    entry-near tag strengthen_tag t c h = row_near tag strengthen_tag t (λ e. absurd (let z : ◌≡◌ {A = ℕ} 0 1 = cc in omega arith)) c refl
+    entry-near tag number_tag t c h = row_near tag number_tag t (λ e. absurd (let z : ◌≡◌ {A = ℕ} 0 1 = cc in omega arith)) c refl
+    entry-near tag stride_tag t c h = row_near tag stride_tag t (λ e. absurd (let z : ◌≡◌ {A = ℕ} 0 1 = cc in omega arith)) c refl
+    entry-near tag round_tag t c h = row_near tag round_tag t (λ e. absurd (let z : ◌≡◌ {A = ℕ} 0 1 = cc in omega arith)) c refl
+    entry-near tag split_tag t c h = row_near tag split_tag t (λ e. absurd (let z : ◌≡◌ {A = ℕ} 0 1 = cc in omega arith)) c refl
+    entry-near tag claim_tag t c h = claim-near tag t c (omega (arith, h))
 
   -- ---- formulas
   -- how many coefficients

@@ -18,7 +18,7 @@ use Rattle.number_bytes.proofs.Signed.{drop-take}
 use Rattle.fields.specs.declared.FileKind.{FileKind}
 use Rattle.fields.specs.Fields.{Field, Fields}
 use Rattle.fields.specs.Header.{known, header_tag}
-use Rattle.proof.specs.Entries.{EntryTag, combineTag, reduceTag, scaleTag, strengthenTag, numberTag, strideTag, roundTag, splitTag, claimTag, entry_tagged, in_place, multiplier, size_of, entry_from, entry}
+use Rattle.proof.specs.Entries.{EntryTag, combine_tag, reduce_tag, scale_tag, strengthen_tag, number_tag, stride_tag, round_tag, split_tag, claim_tag, entry_tagged, in_place, multiplier, size_of, entry_from, entry}
 use Rattle.proof.proofs.Entered.{entry-unknown, entry-none, entry-out, entry_in}
 use Rattle.run.specs.Uniform.{Walker, FollowingWalk, walk_row, walk_entry}
 use Rattle.run_fields.specs.declared.kind.Matching.{Matching}
@@ -41,7 +41,7 @@ by_size false kind x deeper next refusal rows f fs w = refl
 
 -- the k of a rounding is what its contents say
 round-walk : (n K : ℕ) (bs : List ℕ) (deeper : Option Walker) (next : FollowingWalk) (refusal : ℕ → Answer) (rows : ℕ) (f : Field) (fs : Fields) → f.contents ≡ bs
-    → walk_entry deeper next refusal rows f fs (entry_from (edition n) K roundTag f.contents) ≡ walk_kind deeper next refusal rows f fs (EntryKind.Opens (unsigned (multiplier (edition n) 1 1 bs)) Matching.All)
+    → walk_entry deeper next refusal rows f fs (entry_from (edition n) K round_tag f.contents) ≡ walk_kind deeper next refusal rows f fs (EntryKind.Opens (unsigned (multiplier (edition n) 1 1 bs)) Matching.All)
 unfolding entry_from walk_entry walk_row
 round-walk n K bs deeper next refusal rows f fs c = rw c
 
@@ -62,39 +62,39 @@ module _ {n K tag len : ℕ} {made : Bool} {bs : List ℕ} (size_is : length bs 
   module _ {w : ℕ} (width : w ≡ (edition n).line_width) {r : EntryKind} where
     pub combine-kind : tag ≡ 0x10 → r ≡ sized_as len (2 * w + 4) EntryKind.Derives → IsKind n K tag bs made r
     unfolding known header_tag entry_tagged in_place size_of entry_from walk_entry walk_row
-    combine-kind e q = kind-in combineTag 0x10 EntryKind.Derives e refl refl refl (omega (arith, width)) (λ deeper next refusal rows f fs c. refl) q
+    combine-kind e q = kind-in combine_tag 0x10 EntryKind.Derives e refl refl refl (omega (arith, width)) (λ deeper next refusal rows f fs c. refl) q
 
     pub reduce-kind : tag ≡ 0x11 → r ≡ sized_as len (2 * w + 2) EntryKind.Derives → IsKind n K tag bs made r
     unfolding known header_tag entry_tagged in_place size_of entry_from walk_entry walk_row
-    reduce-kind e q = kind-in reduceTag 0x11 EntryKind.Derives e refl refl refl (omega (arith, width)) (λ deeper next refusal rows f fs c. refl) q
+    reduce-kind e q = kind-in reduce_tag 0x11 EntryKind.Derives e refl refl refl (omega (arith, width)) (λ deeper next refusal rows f fs c. refl) q
 
     pub scale-kind : tag ≡ 0x12 → r ≡ sized_as len (w + 2) EntryKind.Derives → IsKind n K tag bs made r
     unfolding known header_tag entry_tagged in_place size_of entry_from walk_entry walk_row
-    scale-kind e q = kind-in scaleTag 0x12 EntryKind.Derives e refl refl refl (omega (arith, width)) (λ deeper next refusal rows f fs c. refl) q
+    scale-kind e q = kind-in scale_tag 0x12 EntryKind.Derives e refl refl refl (omega (arith, width)) (λ deeper next refusal rows f fs c. refl) q
 
     pub strengthen-kind : tag ≡ 0x13 → r ≡ sized_as len w (EntryKind.Opens 2 Matching.FirstAndThird) → IsKind n K tag bs made r
     unfolding known header_tag entry_tagged in_place size_of entry_from walk_entry walk_row
-    strengthen-kind e q = kind-in strengthenTag 0x13 (EntryKind.Opens 2 Matching.FirstAndThird) e refl refl refl (omega (arith, width)) (λ deeper next refusal rows f fs c. refl) q
+    strengthen-kind e q = kind-in strengthen_tag 0x13 (EntryKind.Opens 2 Matching.FirstAndThird) e refl refl refl (omega (arith, width)) (λ deeper next refusal rows f fs c. refl) q
 
     pub number-kind : tag ≡ 0x14 → r ≡ sized_as len w EntryKind.Closes → IsKind n K tag bs made r
     unfolding known header_tag entry_tagged in_place size_of entry_from walk_entry walk_row
-    number-kind e q = kind-in numberTag 0x14 EntryKind.Closes e refl refl refl (omega (arith, width)) (λ deeper next refusal rows f fs c. refl) q
+    number-kind e q = kind-in number_tag 0x14 EntryKind.Closes e refl refl refl (omega (arith, width)) (λ deeper next refusal rows f fs c. refl) q
 
     pub stride-kind : tag ≡ 0x15 → r ≡ sized_as len (w + 2) EntryKind.Closes → IsKind n K tag bs made r
     unfolding known header_tag entry_tagged in_place size_of entry_from walk_entry walk_row
-    stride-kind e q = kind-in strideTag 0x15 EntryKind.Closes e refl refl refl (omega (arith, width)) (λ deeper next refusal rows f fs c. refl) q
+    stride-kind e q = kind-in stride_tag 0x15 EntryKind.Closes e refl refl refl (omega (arith, width)) (λ deeper next refusal rows f fs c. refl) q
 
     pub split-kind : tag ≡ 0x17 → r ≡ sized_as len w (EntryKind.Opens 1 Matching.Nothing) → IsKind n K tag bs made r
     unfolding known header_tag entry_tagged in_place size_of entry_from walk_entry walk_row
-    split-kind e q = kind-in splitTag 0x17 (EntryKind.Opens 1 Matching.Nothing) e refl refl refl (omega (arith, width)) (λ deeper next refusal rows f fs c. refl) q
+    split-kind e q = kind-in split_tag 0x17 (EntryKind.Opens 1 Matching.Nothing) e refl refl refl (omega (arith, width)) (λ deeper next refusal rows f fs c. refl) q
 
   pub round-kind : {r : EntryKind} → tag ≡ 0x16 → RoundKind n bs r → IsKind n K tag bs made r
   unfolding known header_tag entry_tagged in_place size_of
-  round-kind e q = kind-in roundTag 0x16 (EntryKind.Opens (unsigned (multiplier (edition n) 1 1 bs)) Matching.All) e refl refl refl (omega arith) (round-walk n K bs) (q.is ∙ ap (λ (m : ℕ). sized_as m ((edition n).line_width + 4) (EntryKind.Opens (unsigned (multiplier (edition n) 1 1 bs)) Matching.All)) size_is)
+  round-kind e q = kind-in round_tag 0x16 (EntryKind.Opens (unsigned (multiplier (edition n) 1 1 bs)) Matching.All) e refl refl refl (omega arith) (round-walk n K bs) (q.is ∙ ap (λ (m : ℕ). sized_as m ((edition n).line_width + 4) (EntryKind.Opens (unsigned (multiplier (edition n) 1 1 bs)) Matching.All)) size_is)
 
   pub claim-kind : {r : EntryKind} → tag ≡ 0x20 → made ≡ true → r ≡ sized_as len (8 * (K + 1)) EntryKind.Claims → IsKind n K tag bs made r
   unfolding known header_tag entry_tagged in_place size_of entry_from walk_entry
-  claim-kind e h q = kind-in claimTag 0x20 EntryKind.Claims e refl refl h (omega arith) (λ deeper next refusal rows f fs c. refl) q
+  claim-kind e h q = kind-in claim_tag 0x20 EntryKind.Claims e refl refl h (omega arith) (λ deeper next refusal rows f fs c. refl) q
 
 -- a field that is no entry here
 module _ {n K tag : ℕ} {made : Bool} {bs : List ℕ} where
@@ -104,7 +104,7 @@ module _ {n K tag : ℕ} {made : Bool} {bs : List ℕ} where
 
   pub claim-out : tag ≡ 0x20 → made ≡ false → IsKind n K tag bs made (EntryKind.Refused 4)
   unfolding known header_tag entry_tagged in_place
-  claim-out e h = out λ refusal f tagged. entry-out (edition n) K refusal made f claimTag (rw (tagged, e)) (rw (tagged, e)) h
+  claim-out e h = out λ refusal f tagged. entry-out (edition n) K refusal made f claim_tag (rw (tagged, e)) (rw (tagged, e)) h
 
   pub first_out : tag ≡ 0x01 → IsKind n K tag bs made (EntryKind.Refused 4)
   unfolding known header_tag entry_tagged

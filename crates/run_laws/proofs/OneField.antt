@@ -15,7 +15,7 @@ use Rattle.fields.specs.Fields.{Item, item}
 use Rattle.fields.proofs.Contents.{ItemBytes}
 use Rattle.fields.proofs.HeaderLaid.{by-tag}
 use Rattle.bundle.specs.Layout.{Each, nil as nil-each, cons as cons-each}
-use Rattle.proof.specs.Entries.{EntryTag, combineTag, reduceTag, scaleTag, strengthenTag, numberTag, strideTag, roundTag, splitTag, claimTag, entry_tagged, line_number, multiplier, size_of, entry_from}
+use Rattle.proof.specs.Entries.{EntryTag, combine_tag, reduce_tag, scale_tag, strengthen_tag, number_tag, stride_tag, round_tag, split_tag, claim_tag, entry_tagged, line_number, multiplier, size_of, entry_from}
 use Rattle.proof.specs.Layout.{Enters}
 
 -- ---- a number's bytes
@@ -74,57 +74,57 @@ module _ (n K : ℕ) where
     contents-same : (x : EntryTag) → length bs ≡ size_of (edition n) K x → length cs ≡ size_of (edition n) K x → IsRow (entry_from (edition n) K x bs)
         → entry_from (edition n) K x bs ≡ entry_from (edition n) K x cs → bs ≡ cs
     unfolding size_of entry_from line_number multiplier
-    contents-same combineTag lb lc r e = all-parts bs cs (lb ∙ sym lc) (part (0 * w) w ∷ part (1 * w) w ∷ part (2 * w + 0 * 2) 2 ∷ part (2 * w + 1 * 2) 2 ∷ [])
+    contents-same combine_tag lb lc r e = all-parts bs cs (lb ∙ sym lc) (part (0 * w) w ∷ part (1 * w) w ∷ part (2 * w + 0 * 2) 2 ∷ part (2 * w + 1 * 2) 2 ∷ [])
         (omega arith, (omega arith, (omega arith, (omega arith, omega arith))))
         (cons (by-unsigned bs cs (lb ∙ sym lc) hb hc (0 * w) w cc) (cons (by-unsigned bs cs (lb ∙ sym lc) hb hc (1 * w) w cc) (cons (by-unsigned bs cs (lb ∙ sym lc) hb hc (2 * w + 0 * 2) 2 cc) (cons (by-unsigned bs cs (lb ∙ sym lc) hb hc (2 * w + 1 * 2) 2 cc) nil))))
-    contents-same reduceTag lb lc r e = all-parts bs cs (lb ∙ sym lc) (part (0 * w) w ∷ part (1 * w) w ∷ part (2 * w + 0 * 2) 2 ∷ [])
+    contents-same reduce_tag lb lc r e = all-parts bs cs (lb ∙ sym lc) (part (0 * w) w ∷ part (1 * w) w ∷ part (2 * w + 0 * 2) 2 ∷ [])
         (omega arith, (omega arith, (omega arith, omega arith)))
         (cons (by-unsigned bs cs (lb ∙ sym lc) hb hc (0 * w) w cc) (cons (by-unsigned bs cs (lb ∙ sym lc) hb hc (1 * w) w cc) (cons (by-signed bs cs (lb ∙ sym lc) hb hc (2 * w + 0 * 2) 2 cc) nil)))
-    contents-same scaleTag lb lc r e = all-parts bs cs (lb ∙ sym lc) (part (0 * w) w ∷ part (1 * w + 0 * 2) 2 ∷ []) (omega arith, (omega arith, omega arith))
+    contents-same scale_tag lb lc r e = all-parts bs cs (lb ∙ sym lc) (part (0 * w) w ∷ part (1 * w + 0 * 2) 2 ∷ []) (omega arith, (omega arith, omega arith))
         (cons (by-unsigned bs cs (lb ∙ sym lc) hb hc (0 * w) w cc) (cons (by-unsigned bs cs (lb ∙ sym lc) hb hc (1 * w + 0 * 2) 2 cc) nil))
-    contents-same strengthenTag lb lc r e = all-parts bs cs (lb ∙ sym lc) (part (0 * w) w ∷ []) (omega arith, omega arith) (cons (by-unsigned bs cs (lb ∙ sym lc) hb hc (0 * w) w cc) nil)
-    contents-same numberTag lb lc r e = all-parts bs cs (lb ∙ sym lc) (part (0 * w) w ∷ []) (omega arith, omega arith) (cons (by-unsigned bs cs (lb ∙ sym lc) hb hc (0 * w) w cc) nil)
-    contents-same strideTag lb lc r e = all-parts bs cs (lb ∙ sym lc) (part (0 * w) w ∷ part (1 * w + 0 * 2) 2 ∷ []) (omega arith, (omega arith, omega arith))
+    contents-same strengthen_tag lb lc r e = all-parts bs cs (lb ∙ sym lc) (part (0 * w) w ∷ []) (omega arith, omega arith) (cons (by-unsigned bs cs (lb ∙ sym lc) hb hc (0 * w) w cc) nil)
+    contents-same number_tag lb lc r e = all-parts bs cs (lb ∙ sym lc) (part (0 * w) w ∷ []) (omega arith, omega arith) (cons (by-unsigned bs cs (lb ∙ sym lc) hb hc (0 * w) w cc) nil)
+    contents-same stride_tag lb lc r e = all-parts bs cs (lb ∙ sym lc) (part (0 * w) w ∷ part (1 * w + 0 * 2) 2 ∷ []) (omega arith, (omega arith, omega arith))
         (cons (by-unsigned bs cs (lb ∙ sym lc) hb hc (0 * w) w cc) (cons (by-unsigned bs cs (lb ∙ sym lc) hb hc (1 * w + 0 * 2) 2 cc) nil))
-    contents-same roundTag lb lc r e = all-parts bs cs (lb ∙ sym lc) (part (0 * w) w ∷ part (1 * w + 0 * 2) 2 ∷ part (1 * w + 1 * 2) 2 ∷ []) (omega arith, (omega arith, (omega arith, omega arith)))
+    contents-same round_tag lb lc r e = all-parts bs cs (lb ∙ sym lc) (part (0 * w) w ∷ part (1 * w + 0 * 2) 2 ∷ part (1 * w + 1 * 2) 2 ∷ []) (omega arith, (omega arith, (omega arith, omega arith)))
         (cons (by-unsigned bs cs (lb ∙ sym lc) hb hc (0 * w) w cc) (cons (by-unsigned bs cs (lb ∙ sym lc) hb hc (1 * w + 0 * 2) 2 cc) (cons (by-unsigned bs cs (lb ∙ sym lc) hb hc (1 * w + 1 * 2) 2 cc) nil)))
-    contents-same splitTag lb lc r e = all-parts bs cs (lb ∙ sym lc) (part (0 * w) w ∷ []) (omega arith, omega arith) (cons (by-unsigned bs cs (lb ∙ sym lc) hb hc (0 * w) w cc) nil)
-    contents-same claimTag lb lc r e = absurd r
+    contents-same split_tag lb lc r e = all-parts bs cs (lb ∙ sym lc) (part (0 * w) w ∷ []) (omega arith, omega arith) (cons (by-unsigned bs cs (lb ∙ sym lc) hb hc (0 * w) w cc) nil)
+    contents-same claim_tag lb lc r e = absurd r
 
 -- ---- its tag
 abbrev tag_of : Entry → EntryTag
-tag_of (row (Derive (Combine _ _ _ _))) = combineTag
-tag_of (row (Derive (Reduce _ _ _))) = reduceTag
-tag_of (row (Derive (Scale _ _))) = scaleTag
-tag_of (row (Strengthen _)) = strengthenTag
-tag_of (row (CloseNumber _)) = numberTag
-tag_of (row (CloseStride _ _)) = strideTag
-tag_of (row (Round _ _ _)) = roundTag
-tag_of (row (Split _)) = splitTag
-tag_of (claim _ _) = claimTag
+tag_of (row (Derive (Combine _ _ _ _))) = combine_tag
+tag_of (row (Derive (Reduce _ _ _))) = reduce_tag
+tag_of (row (Derive (Scale _ _))) = scale_tag
+tag_of (row (Strengthen _)) = strengthen_tag
+tag_of (row (CloseNumber _)) = number_tag
+tag_of (row (CloseStride _ _)) = stride_tag
+tag_of (row (Round _ _ _)) = round_tag
+tag_of (row (Split _)) = split_tag
+tag_of (claim _ _) = claim_tag
 
 from-tag : (e : Edition) (K : ℕ) (x : EntryTag) (bs : List ℕ) → tag_of (entry_from e K x bs) ≡ x
 unfolding entry_from
-from-tag e K combineTag bs = refl
-from-tag e K reduceTag bs = refl
-from-tag e K scaleTag bs = refl
-from-tag e K strengthenTag bs = refl
-from-tag e K numberTag bs = refl
-from-tag e K strideTag bs = refl
-from-tag e K roundTag bs = refl
-from-tag e K splitTag bs = refl
-from-tag e K claimTag bs = refl
+from-tag e K combine_tag bs = refl
+from-tag e K reduce_tag bs = refl
+from-tag e K scale_tag bs = refl
+from-tag e K strengthen_tag bs = refl
+from-tag e K number_tag bs = refl
+from-tag e K stride_tag bs = refl
+from-tag e K round_tag bs = refl
+from-tag e K split_tag bs = refl
+from-tag e K claim_tag bs = refl
 
 abbrev number_of : EntryTag → ℕ
-number_of combineTag = 0x10
-number_of reduceTag = 0x11
-number_of scaleTag = 0x12
-number_of strengthenTag = 0x13
-number_of numberTag = 0x14
-number_of strideTag = 0x15
-number_of roundTag = 0x16
-number_of splitTag = 0x17
-number_of claimTag = 0x20
+number_of combine_tag = 0x10
+number_of reduce_tag = 0x11
+number_of scale_tag = 0x12
+number_of strengthen_tag = 0x13
+number_of number_tag = 0x14
+number_of stride_tag = 0x15
+number_of round_tag = 0x16
+number_of split_tag = 0x17
+number_of claim_tag = 0x20
 
 is_number : (x y : EntryTag) → ◌≡◌ {A = Option EntryTag} (some x) (some y) → number_of x ≡ number_of y
 is_number x y e = ap number_of (let q : x ≡ y = cc in q)
@@ -133,9 +133,9 @@ tag-number : (tag : ℕ) (x : EntryTag) → entry_tagged tag ≡ some x → tag 
 unfolding entry_tagged
 tag-number tag x h =
     let P : ℕ → Type 0 = λ n. entry_tagged n ≡ some x → n ≡ number_of x in
-    by-tag P tag 0x10 combineTag (is_number combineTag x) (by-tag P tag 0x11 reduceTag (is_number reduceTag x) (by-tag P tag 0x12 scaleTag (is_number scaleTag x) (by-tag P tag 0x13 strengthenTag (is_number strengthenTag x)
-    (by-tag P tag 0x14 numberTag (is_number numberTag x) (by-tag P tag 0x15 strideTag (is_number strideTag x) (by-tag P tag 0x16 roundTag (is_number roundTag x) (by-tag P tag 0x17 splitTag (is_number splitTag x)
-    (by-tag P tag 0x20 claimTag (is_number claimTag x) (λ e. absurd (let z : ◌≡◌ {A = ℕ} 0 1 = cc in omega arith)))))))))) h h
+    by-tag P tag 0x10 combine_tag (is_number combine_tag x) (by-tag P tag 0x11 reduce_tag (is_number reduce_tag x) (by-tag P tag 0x12 scale_tag (is_number scale_tag x) (by-tag P tag 0x13 strengthen_tag (is_number strengthen_tag x)
+    (by-tag P tag 0x14 number_tag (is_number number_tag x) (by-tag P tag 0x15 stride_tag (is_number stride_tag x) (by-tag P tag 0x16 round_tag (is_number round_tag x) (by-tag P tag 0x17 split_tag (is_number split_tag x)
+    (by-tag P tag 0x20 claim_tag (is_number claim_tag x) (λ e. absurd (let z : ◌≡◌ {A = ℕ} 0 1 = cc in omega arith)))))))))) h h
 
 -- ---- the field
 -- A field of bytes that states an entry.

@@ -30,7 +30,7 @@ use Rattle.bundle_scan.specs.declared.Body.{Body}
 use Rattle.bundle_scan.specs.declared.Scanned.{Scanned}
 use Rattle.bundle_scan.proofs.Bodies as bodies
 use Rattle.formula.specs.Formula.{encode, formula_file}
-use Rattle.proof.specs.Entries.{EntryTag, combineTag, reduceTag, scaleTag, strengthenTag, numberTag, strideTag, roundTag, splitTag, claimTag, size_of}
+use Rattle.proof.specs.Entries.{EntryTag, combine_tag, reduce_tag, scale_tag, strengthen_tag, number_tag, stride_tag, round_tag, split_tag, claim_tag, size_of}
 use Rattle.proof.specs.Layout.{Enters, Yields}
 use Rattle.proof.specs.Check.{interpolant, check_by, check}
 use Rattle.proof.proofs.Agree.{agrees-refl, interpolant-iff, never-21}
@@ -136,15 +136,15 @@ width n = by (eqb n 1)
 
 one_byte : (n K : ℕ) (x : EntryTag) → 1 ≤ size_of (edition n) K x
 unfolding size_of
-one_byte n K combineTag = omega (arith, width n)
-one_byte n K reduceTag = omega (arith, width n)
-one_byte n K scaleTag = omega (arith, width n)
-one_byte n K strengthenTag = omega (arith, width n)
-one_byte n K numberTag = omega (arith, width n)
-one_byte n K strideTag = omega (arith, width n)
-one_byte n K roundTag = omega (arith, width n)
-one_byte n K splitTag = omega (arith, width n)
-one_byte n K claimTag = omega arith
+one_byte n K combine_tag = omega (arith, width n)
+one_byte n K reduce_tag = omega (arith, width n)
+one_byte n K scale_tag = omega (arith, width n)
+one_byte n K strengthen_tag = omega (arith, width n)
+one_byte n K number_tag = omega (arith, width n)
+one_byte n K stride_tag = omega (arith, width n)
+one_byte n K round_tag = omega (arith, width n)
+one_byte n K split_tag = omega (arith, width n)
+one_byte n K claim_tag = omega arith
 
 row-bytes : (n K : ℕ) {is : List Item} {es : List Entry} → Each (Enters (edition n) K) is es → 4 * rows_of es ≤ length (file_of is)
 row-bytes n K Each.nil = omega arith

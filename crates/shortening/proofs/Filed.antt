@@ -18,7 +18,7 @@ use Rattle.fields.specs.Header.{header_bytes}
 use Rattle.fields.proofs.HeaderLaid.{by-tag}
 use Rattle.fields.proofs.Framing.{length-field_bytes, from_nothing, from-broken, from-whole, items-file_of}
 use Rattle.bundle.specs.Layout.{Each}
-use Rattle.proof.specs.Entries.{EntryTag, combineTag, reduceTag, scaleTag, strengthenTag, numberTag, strideTag, roundTag, splitTag, claimTag, entry_tagged, line_count, size_of}
+use Rattle.proof.specs.Entries.{EntryTag, combine_tag, reduce_tag, scale_tag, strengthen_tag, number_tag, stride_tag, round_tag, split_tag, claim_tag, entry_tagged, line_count, size_of}
 use Rattle.proof.specs.Layout.{Enters}
 use Rattle.shortening.specs.Passes.{Retention, goes, stays, remaining}
 use Rattle.shortening.specs.Shorten.{list_of, renumber_item}
@@ -72,9 +72,9 @@ entry-no-note : (tag : ℕ) (x : EntryTag) → entry_tagged tag ≡ some x → n
 unfolding entry_tagged note
 entry-no-note tag x h =
     let P : ℕ → Type 0 = λ n. note n ≡ false in
-    by-tag P tag 0x10 combineTag refl (by-tag P tag 0x11 reduceTag refl (by-tag P tag 0x12 scaleTag refl (by-tag P tag 0x13 strengthenTag refl
-    (by-tag P tag 0x14 numberTag refl (by-tag P tag 0x15 strideTag refl (by-tag P tag 0x16 roundTag refl (by-tag P tag 0x17 splitTag refl
-    (by-tag P tag 0x20 claimTag refl (λ e. absurd (let z : ◌≡◌ {A = ℕ} 0 1 = cc in omega arith)))))))))) h
+    by-tag P tag 0x10 combine_tag refl (by-tag P tag 0x11 reduce_tag refl (by-tag P tag 0x12 scale_tag refl (by-tag P tag 0x13 strengthen_tag refl
+    (by-tag P tag 0x14 number_tag refl (by-tag P tag 0x15 stride_tag refl (by-tag P tag 0x16 round_tag refl (by-tag P tag 0x17 split_tag refl
+    (by-tag P tag 0x20 claim_tag refl (λ e. absurd (let z : ◌≡◌ {A = ℕ} 0 1 = cc in omega arith)))))))))) h
 
 pub line-width : (n : ℕ) → (edition n).line_width ≤ 2
 line-width n = by (eqb n 1)
@@ -86,15 +86,15 @@ line-width n = by (eqb n 1)
 module _ (n K : ℕ) (high : K ≤ edition1.constants) where
   size-framed : (x : EntryTag) → size_of (edition n) K x < 0x10000
   unfolding size_of
-  size-framed combineTag = omega (arith, line-width n)
-  size-framed reduceTag = omega (arith, line-width n)
-  size-framed scaleTag = omega (arith, line-width n)
-  size-framed strengthenTag = omega (arith, line-width n)
-  size-framed numberTag = omega (arith, line-width n)
-  size-framed strideTag = omega (arith, line-width n)
-  size-framed roundTag = omega (arith, line-width n)
-  size-framed splitTag = omega (arith, line-width n)
-  size-framed claimTag = omega (arith, high)
+  size-framed combine_tag = omega (arith, line-width n)
+  size-framed reduce_tag = omega (arith, line-width n)
+  size-framed scale_tag = omega (arith, line-width n)
+  size-framed strengthen_tag = omega (arith, line-width n)
+  size-framed number_tag = omega (arith, line-width n)
+  size-framed stride_tag = omega (arith, line-width n)
+  size-framed round_tag = omega (arith, line-width n)
+  size-framed split_tag = omega (arith, line-width n)
+  size-framed claim_tag = omega (arith, high)
 
   framed : {is : List Item} {es : List Entry} → Each (Enters (edition n) K) is es → All Framed is
   framed Each.nil = nil

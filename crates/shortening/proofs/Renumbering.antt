@@ -13,7 +13,7 @@ use Rattle.number_bytes.specs.Numbers.{unsigned, unsigned_bytes, unsigneds, unsi
 use Rattle.number_bytes.proofs.Signed.{length-unsigned_bytes, unsigned-unsigned_bytes}
 use Rattle.fields.specs.Fields.{Item}
 use Rattle.bundle.specs.Layout.{Each}
-use Rattle.proof.specs.Entries.{EntryTag, combineTag, reduceTag, scaleTag, strengthenTag, numberTag, strideTag, roundTag, splitTag, claimTag, line_count, renumbered, line_number, multiplier, size_of, entry_from}
+use Rattle.proof.specs.Entries.{EntryTag, combine_tag, reduce_tag, scale_tag, strengthen_tag, number_tag, stride_tag, round_tag, split_tag, claim_tag, line_count, renumbered, line_number, multiplier, size_of, entry_from}
 use Rattle.proof.specs.Layout.{Enters}
 use Rattle.shortening.specs.Passes.{Retention, goes, stays, remaining}
 use Rattle.shortening.proofs.Computed.{renumber_entry}
@@ -132,27 +132,27 @@ module _ (e : Edition) (K : ℕ) (f : ℕ → ℕ) where
   entered : (tagged : EntryTag) (bs : List ℕ) → Below (256 ^ e.line_width) (renumber_entry f (entry_from e K tagged bs))
       → entry_from e K tagged (put (line_count (some tagged)) bs) ≡ renumber_entry f (entry_from e K tagged bs)
   unfolding entry_from
-  entered combineTag bs h = rw (number-0 1 bs h.0, number-1 0 bs h.1, same-multiplier 2 0 bs, same-multiplier 2 1 bs)
-  entered reduceTag bs h = rw (number-0 1 bs h.0, number-1 0 bs h.1, same-multiplier 2 0 bs)
-  entered scaleTag bs h = rw (number-0 0 bs h, same-multiplier 1 0 bs)
-  entered strengthenTag bs h = rw (number-0 0 bs h)
-  entered numberTag bs h = rw (number-0 0 bs h)
-  entered strideTag bs h = rw (number-0 0 bs h, same-multiplier 1 0 bs)
-  entered roundTag bs h = rw (number-0 0 bs h, same-multiplier 1 0 bs, same-multiplier 1 1 bs)
-  entered splitTag bs h = rw (number-0 0 bs h)
-  entered claimTag bs h = ap (entry_from e K claimTag) (anew-none e.line_width f bs)
+  entered combine_tag bs h = rw (number-0 1 bs h.0, number-1 0 bs h.1, same-multiplier 2 0 bs, same-multiplier 2 1 bs)
+  entered reduce_tag bs h = rw (number-0 1 bs h.0, number-1 0 bs h.1, same-multiplier 2 0 bs)
+  entered scale_tag bs h = rw (number-0 0 bs h, same-multiplier 1 0 bs)
+  entered strengthen_tag bs h = rw (number-0 0 bs h)
+  entered number_tag bs h = rw (number-0 0 bs h)
+  entered stride_tag bs h = rw (number-0 0 bs h, same-multiplier 1 0 bs)
+  entered round_tag bs h = rw (number-0 0 bs h, same-multiplier 1 0 bs, same-multiplier 1 1 bs)
+  entered split_tag bs h = rw (number-0 0 bs h)
+  entered claim_tag bs h = ap (entry_from e K claim_tag) (anew-none e.line_width f bs)
 
   pub numbers_fit : (tagged : EntryTag) → line_count (some tagged) * e.line_width ≤ size_of e K tagged
   unfolding size_of
-  numbers_fit combineTag = omega arith
-  numbers_fit reduceTag = omega arith
-  numbers_fit scaleTag = omega arith
-  numbers_fit strengthenTag = omega arith
-  numbers_fit numberTag = omega arith
-  numbers_fit strideTag = omega arith
-  numbers_fit roundTag = omega arith
-  numbers_fit splitTag = omega arith
-  numbers_fit claimTag = omega arith
+  numbers_fit combine_tag = omega arith
+  numbers_fit reduce_tag = omega arith
+  numbers_fit scale_tag = omega arith
+  numbers_fit strengthen_tag = omega arith
+  numbers_fit number_tag = omega arith
+  numbers_fit stride_tag = omega arith
+  numbers_fit round_tag = omega arith
+  numbers_fit split_tag = omega arith
+  numbers_fit claim_tag = omega arith
 
   pub length-put : (tagged : EntryTag) (bs : List ℕ) → length bs ≡ size_of e K tagged → length (put (line_count (some tagged)) bs) ≡ size_of e K tagged
   length-put tagged bs h = length-anew e.line_width f (line_count (some tagged)) bs (omega (arith, h, numbers_fit tagged)) ∙ h

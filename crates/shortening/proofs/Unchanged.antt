@@ -13,7 +13,7 @@ use Rattle.number_bytes.specs.Numbers.{unsigned, unsigned_bytes}
 use Rattle.number_bytes.proofs.Signed.{length-unsigned_bytes, unsigned-unsigned_bytes}
 use Rattle.fields.specs.Fields.{Item, item}
 use Rattle.bundle.specs.Layout.{Each}
-use Rattle.proof.specs.Entries.{EntryTag, combineTag, reduceTag, scaleTag, strengthenTag, numberTag, strideTag, roundTag, splitTag, claimTag, line_count, line_number, entry_from}
+use Rattle.proof.specs.Entries.{EntryTag, combine_tag, reduce_tag, scale_tag, strengthen_tag, number_tag, stride_tag, round_tag, split_tag, claim_tag, line_count, line_number, entry_from}
 use Rattle.proof.specs.Layout.{Enters}
 use Rattle.shortening.specs.Passes.{Retention, goes, stays, remaining}
 use Rattle.shortening.proofs.Computed.{renumber_entry}
@@ -96,15 +96,15 @@ module _ (e : Edition) (K : ℕ) (f g : ℕ → ℕ) where
   stable : (tagged : EntryTag) (bs : List ℕ) → Below (256 ^ e.line_width) (renumber_entry f (entry_from e K tagged bs))
       → renumber_entry g (renumber_entry f (entry_from e K tagged bs)) ≡ renumber_entry f (entry_from e K tagged bs) → Stable e.line_width f g (line_count (some tagged)) bs
   unfolding entry_from
-  stable combineTag bs h k = two bs h.0 (ap first_of k) h.1 (ap second_of k)
-  stable reduceTag bs h k = two bs h.0 (ap first_of k) h.1 (ap second_of k)
-  stable scaleTag bs h k = one bs h (ap first_of k)
-  stable strengthenTag bs h k = one bs h (ap first_of k)
-  stable numberTag bs h k = one bs h (ap first_of k)
-  stable strideTag bs h k = one bs h (ap first_of k)
-  stable roundTag bs h k = one bs h (ap first_of k)
-  stable splitTag bs h k = one bs h (ap first_of k)
-  stable claimTag bs h k = tt
+  stable combine_tag bs h k = two bs h.0 (ap first_of k) h.1 (ap second_of k)
+  stable reduce_tag bs h k = two bs h.0 (ap first_of k) h.1 (ap second_of k)
+  stable scale_tag bs h k = one bs h (ap first_of k)
+  stable strengthen_tag bs h k = one bs h (ap first_of k)
+  stable number_tag bs h k = one bs h (ap first_of k)
+  stable stride_tag bs h k = one bs h (ap first_of k)
+  stable round_tag bs h k = one bs h (ap first_of k)
+  stable split_tag bs h k = one bs h (ap first_of k)
+  stable claim_tag bs h k = tt
 
   item-again : (i : Item) (x : Entry) → Enters e K i x → Below (256 ^ e.line_width) (renumber_entry f x) → renumber_entry g (renumber_entry f x) ≡ renumber_entry f x
       → renumber_item e g (renumber_item e f i) ≡ renumber_item e f i

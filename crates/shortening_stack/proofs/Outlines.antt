@@ -14,7 +14,7 @@ use Rattle.calculus.specs.Rules.{Entry}
 use Rattle.number_bytes.specs.Numbers.{unsigned}
 use Rattle.number_bytes.proofs.Signed.{drop-take}
 use Rattle.fields.specs.Fields.{item}
-use Rattle.proof.specs.Entries.{EntryTag, combineTag, reduceTag, scaleTag, strengthenTag, numberTag, strideTag, roundTag, splitTag, claimTag, entry_tagged, line_number, multiplier, size_of, entry_from}
+use Rattle.proof.specs.Entries.{EntryTag, combine_tag, reduce_tag, scale_tag, strengthen_tag, number_tag, stride_tag, round_tag, split_tag, claim_tag, entry_tagged, line_number, multiplier, size_of, entry_from}
 use Rattle.proof.specs.Layout.{Enters}
 use Rattle.shortening_stack.specs.declared.Outline.{Outline}
 use Rattle.shortening_stack.specs.Outline.{outline, outline_of, row_by, outline_by, LaidBy}
@@ -27,25 +27,25 @@ tag-by {X} P tag n x {y} {o} p k h = go (eqb tag n) refl h
     go true t q = subst (λ (z : X). P tag z) (let e : x ≡ y = cc in e) (subst (λ (m : ℕ). P m x) (sym (eqb-true tag n t)) p)
     go false t q = k q
 
-pub each-tag : (P : ℕ → EntryTag → Type 0) (tag : ℕ) (x : EntryTag) → P 0x10 combineTag → P 0x11 reduceTag → P 0x12 scaleTag → P 0x13 strengthenTag → P 0x14 numberTag → P 0x15 strideTag → P 0x16 roundTag → P 0x17 splitTag
-    → P 0x20 claimTag → entry_tagged tag ≡ some x → P tag x
+pub each-tag : (P : ℕ → EntryTag → Type 0) (tag : ℕ) (x : EntryTag) → P 0x10 combine_tag → P 0x11 reduce_tag → P 0x12 scale_tag → P 0x13 strengthen_tag → P 0x14 number_tag → P 0x15 stride_tag → P 0x16 round_tag → P 0x17 split_tag
+    → P 0x20 claim_tag → entry_tagged tag ≡ some x → P tag x
 unfolding entry_tagged
 each-tag P tag x a b c d e f g h i =
-    tag-by P tag 0x10 combineTag a (tag-by P tag 0x11 reduceTag b (tag-by P tag 0x12 scaleTag c (tag-by P tag 0x13 strengthenTag d
-    (tag-by P tag 0x14 numberTag e (tag-by P tag 0x15 strideTag f (tag-by P tag 0x16 roundTag g (tag-by P tag 0x17 splitTag h
-    (tag-by P tag 0x20 claimTag i (λ e. absurd (let z : ◌≡◌ {A = ℕ} 0 1 = cc in omega arith))))))))))
+    tag-by P tag 0x10 combine_tag a (tag-by P tag 0x11 reduce_tag b (tag-by P tag 0x12 scale_tag c (tag-by P tag 0x13 strengthen_tag d
+    (tag-by P tag 0x14 number_tag e (tag-by P tag 0x15 stride_tag f (tag-by P tag 0x16 round_tag g (tag-by P tag 0x17 split_tag h
+    (tag-by P tag 0x20 claim_tag i (λ e. absurd (let z : ◌≡◌ {A = ℕ} 0 1 = cc in omega arith))))))))))
 
 -- ---- by the tag
 abbrev tagged_as : EntryTag → (first second come : ℕ) → Outline
-tagged_as combineTag s t n = outline 0 s t 0
-tagged_as reduceTag s t n = outline 0 s t 0
-tagged_as scaleTag s t n = outline 0 s s 0
-tagged_as strengthenTag s t n = outline 1 s s 2
-tagged_as numberTag s t n = outline 2 s s 0
-tagged_as strideTag s t n = outline 2 s s 0
-tagged_as roundTag s t n = outline 1 s s n
-tagged_as splitTag s t n = outline 1 s s 1
-tagged_as claimTag s t n = outline 3 0 0 0
+tagged_as combine_tag s t n = outline 0 s t 0
+tagged_as reduce_tag s t n = outline 0 s t 0
+tagged_as scale_tag s t n = outline 0 s s 0
+tagged_as strengthen_tag s t n = outline 1 s s 2
+tagged_as number_tag s t n = outline 2 s s 0
+tagged_as stride_tag s t n = outline 2 s s 0
+tagged_as round_tag s t n = outline 1 s s n
+tagged_as split_tag s t n = outline 1 s s 1
+tagged_as claim_tag s t n = outline 3 0 0 0
 
 tagged-as : (tag : ℕ) (x : EntryTag) (s t n : ℕ) → entry_tagged tag ≡ some x → cond (eqb tag 0x20) (outline 3 0 0 0) (row_by tag s t n) ≡ tagged_as x s t n
 tagged-as tag x s t n = each-tag (λ m y. cond (eqb m 0x20) (outline 3 0 0 0) (row_by m s t n) ≡ tagged_as y s t n) tag x refl refl refl refl refl refl refl refl refl
@@ -78,15 +78,15 @@ module _ (e K : ℕ) (len : ℕ) (bs : List ℕ) where
 
   by-entry : (x : EntryTag) → size_of (edition e) K x ≤ len → tagged_as x (unsigned (take w bs)) (unsigned (take w (drop w bs))) (unsigned (take 2 (drop (w + 2) bs))) ≡ outline_of (entry_from (edition e) K x (take len bs))
   unfolding entry_from size_of
-  by-entry combineTag h = sym (ap₂ (λ (s t : ℕ). outline 0 s t 0) (first-is (omega (arith, h))) (second_is (omega (arith, h))))
-  by-entry reduceTag h = sym (ap₂ (λ (s t : ℕ). outline 0 s t 0) (first-is (omega (arith, h))) (second_is (omega (arith, h))))
-  by-entry scaleTag h = sym (ap (λ (s : ℕ). outline 0 s s 0) (first-is (omega (arith, h))))
-  by-entry strengthenTag h = sym (ap (λ (s : ℕ). outline 1 s s 2) (first-is (omega (arith, h))))
-  by-entry numberTag h = sym (ap (λ (s : ℕ). outline 2 s s 0) (first-is (omega (arith, h))))
-  by-entry strideTag h = sym (ap (λ (s : ℕ). outline 2 s s 0) (first-is (omega (arith, h))))
-  by-entry roundTag h = sym (ap₂ (λ (s n : ℕ). outline 1 s s n) (first-is (omega (arith, h))) (come-is (omega (arith, h))))
-  by-entry splitTag h = sym (ap (λ (s : ℕ). outline 1 s s 1) (first-is (omega (arith, h))))
-  by-entry claimTag h = refl
+  by-entry combine_tag h = sym (ap₂ (λ (s t : ℕ). outline 0 s t 0) (first-is (omega (arith, h))) (second_is (omega (arith, h))))
+  by-entry reduce_tag h = sym (ap₂ (λ (s t : ℕ). outline 0 s t 0) (first-is (omega (arith, h))) (second_is (omega (arith, h))))
+  by-entry scale_tag h = sym (ap (λ (s : ℕ). outline 0 s s 0) (first-is (omega (arith, h))))
+  by-entry strengthen_tag h = sym (ap (λ (s : ℕ). outline 1 s s 2) (first-is (omega (arith, h))))
+  by-entry number_tag h = sym (ap (λ (s : ℕ). outline 2 s s 0) (first-is (omega (arith, h))))
+  by-entry stride_tag h = sym (ap (λ (s : ℕ). outline 2 s s 0) (first-is (omega (arith, h))))
+  by-entry round_tag h = sym (ap₂ (λ (s n : ℕ). outline 1 s s n) (first-is (omega (arith, h))) (come-is (omega (arith, h))))
+  by-entry split_tag h = sym (ap (λ (s : ℕ). outline 1 s s 1) (first-is (omega (arith, h))))
+  by-entry claim_tag h = refl
 
 module _ (e K : ℕ) (p : List ℕ) (tag start len : ℕ) (y : Entry) (there : start + len ≤ length p) (h : Enters (edition e) K (item tag (take len (drop start p))) y) where
   long : size_of (edition e) K h.tagged ≤ len

@@ -12,7 +12,7 @@ use Rattle.calculus.specs.Rules.{Row, Derive, Strengthen, Round, Split, CloseNum
 use Rattle.fields.specs.Fields.{Field, Fields, ends, cut, ◌▸◌, Item, item, items, field_bytes, file_of}
 use Rattle.fields.proofs.Framing.{length-field_bytes}
 use Rattle.bundle.specs.Layout.{Each}
-use Rattle.proof.specs.Entries.{EntryTag, combineTag, reduceTag, scaleTag, strengthenTag, numberTag, strideTag, roundTag, splitTag, claimTag, entry_tagged, line_count, renumbered, entry_from}
+use Rattle.proof.specs.Entries.{EntryTag, combine_tag, reduce_tag, scale_tag, strengthen_tag, number_tag, stride_tag, round_tag, split_tag, claim_tag, entry_tagged, line_count, renumbered, entry_from}
 use Rattle.proof.specs.Layout.{Enters}
 use Rattle.shortening.specs.Needed.{mark_of, renew, kept_lines}
 use Rattle.shortening.specs.Passes.{top, pop, pushed, backward, is_kept, Retention, retention, Start, no_start, branch_start, retentions, remaining}
@@ -25,15 +25,15 @@ use Rattle.shortening_table.specs.Table.{row_fields, bytes_from}
 
 -- ---- the tag of a claim
 is_claim : EntryTag → Bool
-is_claim combineTag = false
-is_claim reduceTag = false
-is_claim scaleTag = false
-is_claim strengthenTag = false
-is_claim numberTag = false
-is_claim strideTag = false
-is_claim roundTag = false
-is_claim splitTag = false
-is_claim claimTag = true
+is_claim combine_tag = false
+is_claim reduce_tag = false
+is_claim scale_tag = false
+is_claim strengthen_tag = false
+is_claim number_tag = false
+is_claim stride_tag = false
+is_claim round_tag = false
+is_claim split_tag = false
+is_claim claim_tag = true
 
 claim-tag : (tag : ℕ) (x : EntryTag) → entry_tagged tag ≡ some x → eqb tag 0x20 ≡ is_claim x
 unfolding is_claim
@@ -45,15 +45,15 @@ claims (claim _ _) = true
 
 claim-entry : (e : Edition) (K : ℕ) (x : EntryTag) (bs : List ℕ) → is_claim x ≡ claims (entry_from e K x bs)
 unfolding entry_from is_claim
-claim-entry e K combineTag bs = refl
-claim-entry e K reduceTag bs = refl
-claim-entry e K scaleTag bs = refl
-claim-entry e K strengthenTag bs = refl
-claim-entry e K numberTag bs = refl
-claim-entry e K strideTag bs = refl
-claim-entry e K roundTag bs = refl
-claim-entry e K splitTag bs = refl
-claim-entry e K claimTag bs = refl
+claim-entry e K combine_tag bs = refl
+claim-entry e K reduce_tag bs = refl
+claim-entry e K scale_tag bs = refl
+claim-entry e K strengthen_tag bs = refl
+claim-entry e K number_tag bs = refl
+claim-entry e K stride_tag bs = refl
+claim-entry e K round_tag bs = refl
+claim-entry e K split_tag bs = refl
+claim-entry e K claim_tag bs = refl
 
 pub claim-field : (e : Edition) (K : ℕ) (i : Item) (y : Entry) → Enters e K i y → eqb i.tag 0x20 ≡ claims y
 claim-field e K i y h = claim-tag i.tag h.tagged h.tag ∙ claim-entry e K h.tagged i.contents ∙ ap claims h.entry

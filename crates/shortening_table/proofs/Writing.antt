@@ -18,7 +18,7 @@ use Rattle.fields.specs.Fields.{Fields, ends, cut, Item, item, field_bytes, file
 use Rattle.fields.specs.Places.{fields_at}
 use Rattle.fields.proofs.Places.{Starts, starts-size}
 use Rattle.fields.proofs.Framing.{length-field_bytes}
-use Rattle.proof.specs.Entries.{EntryTag, combineTag, reduceTag, scaleTag, strengthenTag, numberTag, strideTag, roundTag, splitTag, claimTag, entry_tagged, line_count, renumbered, line_number, entry_from}
+use Rattle.proof.specs.Entries.{EntryTag, combine_tag, reduce_tag, scale_tag, strengthen_tag, number_tag, stride_tag, round_tag, split_tag, claim_tag, entry_tagged, line_count, renumbered, line_number, entry_from}
 use Rattle.proof.specs.Layout.{Enters}
 use Rattle.shortening.specs.Needed.{renew, kept_lines}
 use Rattle.shortening.specs.Passes.{top, pop, pushed, is_kept, Retention, stays, retention, Start, no_start, branch_start, retentions, remaining}
@@ -90,15 +90,15 @@ module _ (e : Edition) (K : ℕ) (f : ℕ → ℕ) where
   numbered-by : (x : EntryTag) (bs : List ℕ)
       → numbered (line_count (some x)) e.line_width (f (outline_of (entry_from e K x bs)).first) (f (outline_of (entry_from e K x bs)).second) bs ≡ renumbered e.line_width e.line_width f (line_count (some x)) bs
   unfolding entry_from
-  numbered-by combineTag bs = numbered-two bs
-  numbered-by reduceTag bs = numbered-two bs
-  numbered-by scaleTag bs = numbered-one bs (f (line_number e 0 bs))
-  numbered-by strengthenTag bs = numbered-one bs (f (line_number e 0 bs))
-  numbered-by numberTag bs = numbered-one bs (f (line_number e 0 bs))
-  numbered-by strideTag bs = numbered-one bs (f (line_number e 0 bs))
-  numbered-by roundTag bs = numbered-one bs (f (line_number e 0 bs))
-  numbered-by splitTag bs = numbered-one bs (f (line_number e 0 bs))
-  numbered-by claimTag bs = numbered-none bs (f 0) (f 0)
+  numbered-by combine_tag bs = numbered-two bs
+  numbered-by reduce_tag bs = numbered-two bs
+  numbered-by scale_tag bs = numbered-one bs (f (line_number e 0 bs))
+  numbered-by strengthen_tag bs = numbered-one bs (f (line_number e 0 bs))
+  numbered-by number_tag bs = numbered-one bs (f (line_number e 0 bs))
+  numbered-by stride_tag bs = numbered-one bs (f (line_number e 0 bs))
+  numbered-by round_tag bs = numbered-one bs (f (line_number e 0 bs))
+  numbered-by split_tag bs = numbered-one bs (f (line_number e 0 bs))
+  numbered-by claim_tag bs = numbered-none bs (f 0) (f 0)
 
   -- what the code writes of a field is the field with new line numbers
   numbered_is : (i : Item) (y : Entry) → Enters e K i y → numbered (line_count (entry_tagged i.tag)) e.line_width (f (outline_of y).first) (f (outline_of y).second) i.contents ≡ (renumber_item e f i).contents
@@ -120,15 +120,15 @@ numbers-few tag = by (entry_tagged tag)
   where
     by : (o : Option EntryTag) → line_count o ≤ 2
     by none = omega arith
-    by (some combineTag) = omega arith
-    by (some reduceTag) = omega arith
-    by (some scaleTag) = omega arith
-    by (some strengthenTag) = omega arith
-    by (some numberTag) = omega arith
-    by (some strideTag) = omega arith
-    by (some roundTag) = omega arith
-    by (some splitTag) = omega arith
-    by (some claimTag) = omega arith
+    by (some combine_tag) = omega arith
+    by (some reduce_tag) = omega arith
+    by (some scale_tag) = omega arith
+    by (some strengthen_tag) = omega arith
+    by (some number_tag) = omega arith
+    by (some stride_tag) = omega arith
+    by (some round_tag) = omega arith
+    by (some split_tag) = omega arith
+    by (some claim_tag) = omega arith
 
 -- ---- what becomes of one entry
 -- Whether a row of a class stays: one that makes a line (class 0) if it is reported so.
