@@ -11,13 +11,13 @@ unfolding known header_tag formula_tagged formula_size
 returns-in-53 c = c.sized.ensures ∙ by-tag _ _ 0x35 _ stride c.in-53.is refl refl (omega arith)
 
 pub returns-in-1 : goal.returns-in-1
-returns-in-1 c = header-tag _ _ _ c.if-tag-lt1.false c.in-1.if-tag-lt3-own.true
+returns-in-1 c = header-tag _ _ _ (omega arith) (omega arith)
 
 pub returns-in-49 : goal.returns-in-49
-returns-in-49 c = c.sized-in-49.ensures ∙ pair-tag _ _ _ c.if-tag-lt49.false c.in-49.if-tag-lt51-own.true
+returns-in-49 c = c.sized-in-49.ensures ∙ pair-tag _ _ _ (omega arith) (omega arith)
 
 pub returns-in-51 : goal.returns-in-51
-returns-in-51 c = c.sized-in-51.ensures ∙ literal-tag _ _ _ _ c.if-tag-lt51.false c.in-51.if-tag-lt53-own.true refl
+returns-in-51 c = c.sized-in-51.ensures ∙ literal-tag _ _ _ _ (omega arith) (omega arith) refl
 
 pub returns-in_default : goal.returns-in_default
 returns-in_default c = unknown _ _ _ (not_known c.args.tag (omega arith) (omega arith) (λ l m. omega arith))
