@@ -42,7 +42,7 @@ overflow_add-here c =
 pub store_form-requires : goal.store_form-requires
 store_form-requires c =
     let r = room (took-starts (here-took c.loop-n.invariant.0 c.loop-n-test.true) c.if-tag-lt128.true) c.loop-n.invariant.0.able in
-    ((c.requires.fact.0, omega (arith, c.requires.fact.1)), (r.turn.bytes, omega (arith, r.numbers-room, c.loop-n.invariant.1)))
+    record { fact = (c.requires.fact.0, omega (arith, c.requires.fact.1)); width_in_bounds = r.turn.bytes; n_in_bounds = omega (arith, r.numbers-room, c.loop-n.invariant.1) }
 
 pub overflow_add-here-then-tag-lt128 : goal.overflow_add-here-then-tag-lt128
 overflow_add-here-then-tag-lt128 c =
@@ -111,4 +111,6 @@ pub shape_of-numbers : goal.shape_of-numbers
 shape_of-numbers c = c.loop-n.invariant.0.numbers-long
 
 pub returns : goal.returns
-returns c = storing-done c.loop-n.invariant.0 c.loop-n-test.false
+returns c =
+    let d = storing-done c.loop-n.invariant.0 c.loop-n-test.false in
+    record { kinds = d.0; numbers = d.1 }
