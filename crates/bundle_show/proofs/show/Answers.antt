@@ -8,7 +8,7 @@ use borrow.Author.Rules.{rules}
 use Rattle.bundle_show.proofs.show.Goals as goal
 
 pub overflow_add-end : goal.overflow_add-end
-overflow_add-end c = record { fits = part-below c.locate.ensures c.in-Part.is (2 ^ 64) c.well-formed.0.0 c.well-formed.1.0.0 }
+overflow_add-end c = record { fits = part-below c.locate.ensures c.in-Part.is (2 ^ 64) c.well_formed.0.0 c.well_formed.1.0.0 }
 
 pub slice_bounds-result-end : goal.slice_bounds-result-end
 slice_bounds-result-end c = part-A c.locate.ensures c.in-Part.is c.if-file-eq1.true
