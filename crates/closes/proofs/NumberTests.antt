@@ -60,19 +60,19 @@ module _ (K : ℕ) (kinds : List ℕ) (buf : List ℤ) (t : Tally) (i : ℕ) whe
       unfolding line_in
       zeros = sym (rw ex at zero)
 
-      pub number-coeffs : not b ≡ true → ByNumber K kinds buf t i (Refused 15)
+      pub number-coeffs : b ≡ false → ByNumber K kinds buf t i (Refused 15)
       unfolding by_number line_at ◌>>=◌ ◌>>◌ found need
-      number-coeffs h = record { by = λ refusal. rw (line-at K kinds buf t.lines.0 i hi, plains, zeros, unnot b h) }
+      number-coeffs h = record { by = λ refusal. rw (line-at K kinds buf t.lines.0 i hi, plains, zeros, h) }
 
-      module _ (h : not b ≡ false) {c : Bool} {d : ℤ} (ed : d ≡ get_or buf (x + K) (pos 0)) (false-is : c ≡ fails (kind_of kind) d) where
+      module _ (h : b ≡ true) {c : Bool} {d : ℤ} (ed : d ≡ get_or buf (x + K) (pos 0)) (false-is : c ≡ fails (kind_of kind) d) where
         falses : fails (kind_of (get_or kinds i 0)) (line_in K kinds buf i).t.d ≡ c
         unfolding line_in
         falses = sym (rw (ap kind_of read.is, ed, ex) at false-is)
 
-        pub number-d : not c ≡ true → ByNumber K kinds buf t i (Refused 15)
+        pub number-d : c ≡ false → ByNumber K kinds buf t i (Refused 15)
         unfolding by_number line_at ◌>>=◌ ◌>>◌ found need
-        number-d k = record { by = λ refusal. rw (line-at K kinds buf t.lines.0 i hi, plains, zeros, unnot b h, falses, unnot c k) }
+        number-d k = record { by = λ refusal. rw (line-at K kinds buf t.lines.0 i hi, plains, zeros, h, falses, k) }
 
-        pub number_passed : not c ≡ false → ByNumber K kinds buf t i Passed
+        pub number_passed : c ≡ true → ByNumber K kinds buf t i Passed
         unfolding by_number line_at ◌>>=◌ ◌>>◌ found need
-        number_passed k = record { by = λ refusal. rw (line-at K kinds buf t.lines.0 i hi, plains, zeros, unnot b h, falses, unnot c k) }
+        number_passed k = record { by = λ refusal. rw (line-at K kinds buf t.lines.0 i hi, plains, zeros, h, falses, k) }

@@ -62,28 +62,28 @@ module _ (K : ℕ) (kinds : List ℕ) (buf : List ℤ) (t : Tally) (i g : ℕ) w
     stride-kind h = record { by = λ refusal. rw (line-at K kinds buf t.lines.0 i hi, h) }
 
     module _ (hk : is =0 (line_in K kinds buf i).kind ≡ true) {a : Bool} (two : a ≡ leb 2 g) where
-      pub stride-small : not a ≡ true → ByStride K kinds buf t i g (Refused 12)
+      pub stride-small : a ≡ false → ByStride K kinds buf t i g (Refused 12)
       unfolding by_stride line_at ◌>>=◌ ◌>>◌ found need
-      stride-small h = record { by = λ refusal. rw (line-at K kinds buf t.lines.0 i hi, hk, ← two, unnot a h) }
+      stride-small h = record { by = λ refusal. rw (line-at K kinds buf t.lines.0 i hi, hk, ← two, h) }
 
-      module _ (h : not a ≡ false) {z : ℤ} (ez : z ≡ pos g) {x : ℕ} (ex : x ≡ i * size K) {b : Bool} (all : b ≡ every (divb z) (part x K buf)) where
+      module _ (h : a ≡ true) {z : ℤ} (ez : z ≡ pos g) {x : ℕ} (ex : x ≡ i * size K) {b : Bool} (all : b ≡ every (divb z) (part x K buf)) where
         alls : every (divb (pos g)) (line_in K kinds buf i).t.coeffs ≡ b
         unfolding line_in
         alls = sym (rw (ex, ez) at all)
 
-        pub stride-coeffs : not b ≡ true → ByStride K kinds buf t i g (Refused 15)
+        pub stride-coeffs : b ≡ false → ByStride K kinds buf t i g (Refused 15)
         unfolding by_stride line_at ◌>>=◌ ◌>>◌ found need
-        stride-coeffs l = record { by = λ refusal. rw (line-at K kinds buf t.lines.0 i hi, hk, ← two, unnot a h, alls, unnot b l) }
+        stride-coeffs l = record { by = λ refusal. rw (line-at K kinds buf t.lines.0 i hi, hk, ← two, h, alls, l) }
 
-        module _ (l : not b ≡ false) {c : Bool} {d : ℤ} (ed : d ≡ get_or buf (x + K) (pos 0)) (div : c ≡ divb z d) where
+        module _ (l : b ≡ true) {c : Bool} {d : ℤ} (ed : d ≡ get_or buf (x + K) (pos 0)) (div : c ≡ divb z d) where
           divs : divb (pos g) (line_in K kinds buf i).t.d ≡ c
           unfolding line_in
           divs = sym (rw (ed, ex, ez) at div)
 
           pub stride-d : c ≡ true → ByStride K kinds buf t i g (Refused 15)
           unfolding by_stride line_at ◌>>=◌ ◌>>◌ found need
-          stride-d m = record { by = λ refusal. rw (line-at K kinds buf t.lines.0 i hi, hk, ← two, unnot a h, alls, unnot b l, divs, m) }
+          stride-d m = record { by = λ refusal. rw (line-at K kinds buf t.lines.0 i hi, hk, ← two, h, alls, l, divs, m) }
 
           pub stride-passed : c ≡ false → ByStride K kinds buf t i g Passed
           unfolding by_stride line_at ◌>>=◌ ◌>>◌ found need
-          stride-passed m = record { by = λ refusal. rw (line-at K kinds buf t.lines.0 i hi, hk, ← two, unnot a h, alls, unnot b l, divs, m) }
+          stride-passed m = record { by = λ refusal. rw (line-at K kinds buf t.lines.0 i hi, hk, ← two, h, alls, l, divs, m) }

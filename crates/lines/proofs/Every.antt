@@ -1,11 +1,10 @@
 -- A loop that tests number after number and stops at the first that fails: its invariant, and the laws of a turn. Assumes nothing.
 use mathlib.Core.Path.{◌≡◌, refl, sym, ◌∙◌, ap, ap₂}
 use mathlib.Core.List.{List, [], ◌∷◌, ◌++◌}
-use mathlib.Core.Bool.{Bool, true, false, not, ◌&&◌}
+use mathlib.Core.Bool.{Bool, true, false, ◌&&◌}
 use Prim.Native.Nat.{ℕ, suc, ◌+◌, ◌<◌, ◌≤◌}
 use native.Mathlib.Numerals.{add-one}
 use native.Mathlib.Omega.{arith}
-use borrow.Author.Tests.{not-true, not-false}
 use lib.ListN.{length, get_or, drop, length-drop, drop_of_length-le}
 use lib.IntN.{ℤ, pos}
 use lib.Seq.{take-suc, drop-cons, get_or-drop, length-take-le}
@@ -36,14 +35,14 @@ module _ {p : ℤ → Bool} {buf : List ℤ} {at k : ℕ} where
           ap (every p) (drop-cons (part at k buf) x (pos 0) (omega (arith, len)))
           ∙ ap (λ (c : Bool). c && every p (drop (suc x) (part at k buf))) (ap p (get_d_part at k buf x (pos 0) h ∙ sym f) ∙ sym e)
 
-      pub passed-next : not b ≡ false → Passed p buf at k (x + 1)
+      pub passed-next : b ≡ true → Passed p buf at k (x + 1)
       passed-next t = record {
-        same = v.same ∙ head ∙ ap₂ (λ (c : Bool) (n : ℕ). c && every p (drop n (part at k buf))) (not-false b t) (sym (add-one x));
+        same = v.same ∙ head ∙ ap₂ (λ (c : Bool) (n : ℕ). c && every p (drop n (part at k buf))) t (sym (add-one x));
         upto = omega arith;
       }
 
-      pub passed-fails : not b ≡ true → false ≡ every p (part at k buf)
-      passed-fails t = sym (v.same ∙ head ∙ ap (λ (c : Bool). c && every p (drop (suc x) (part at k buf))) (not-true b t))
+      pub passed-fails : b ≡ false → false ≡ every p (part at k buf)
+      passed-fails t = sym (v.same ∙ head ∙ ap (λ (c : Bool). c && every p (drop (suc x) (part at k buf))) t)
 
     pub passed-all : k ≤ x → true ≡ every p (part at k buf)
     unfolding every

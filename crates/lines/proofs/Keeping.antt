@@ -9,7 +9,7 @@ use lib.ListN.{length}
 use Rattle.lines.specs.Ready.{Ready, LinesKept, Limited}
 use Rattle.lines.specs.Buffer.{size}
 use Rattle.lines.proofs.Parts.{agree-sym, agree_trans, agree-le, agree_refl}
-use Rattle.lines.proofs.Lines.{lines_same, bounded-same}
+use Rattle.lines.proofs.Lines.{bounded-same}
 
 pub ready-kept : {e K n : ℕ} {kinds : List ℕ} {buf : List ℤ} {kinds' : List ℕ} {buf' : List ℤ} → Ready e K kinds buf n → LinesKept K n kinds buf kinds' buf' → Ready e K kinds' buf' n
 ready-kept r k = record {

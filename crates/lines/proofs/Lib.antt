@@ -14,3 +14,4 @@ pub mod Narrow
 pub mod Keeping
 pub mod KindBytes
 pub mod Tests
+pub mod Summing

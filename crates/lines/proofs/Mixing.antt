@@ -1,7 +1,7 @@
 -- A new line as a sum of multiples of two lines: the laws of `mixed` and `mixed_line`. Assumes nothing.
 use mathlib.Core.Path.{◌≡◌, refl, sym, ◌∙◌, ap, ap₂, subst}
 use mathlib.Core.List.{List, [], ◌∷◌, ◌++◌}
-use mathlib.Core.Bool.{Bool, true, false, not, ◌&&◌}
+use mathlib.Core.Bool.{Bool, true, false, ◌&&◌}
 use Prim.Native.Nat.{ℕ, zero, suc, ◌+◌, ◌*◌, ◌<◌, ◌≤◌}
 use native.Mathlib.Nat.{add_assoc, add-zero}
 use native.Mathlib.Omega.{arith}
@@ -9,7 +9,6 @@ use lib.Dec.{T}
 use lib.IntN.{ℤ, pos, ◌+ℤ◌, ◌*ℤ◌}
 use lib.ListN.{length, get_or, take, drop, length-map}
 use lib.Seq.{paste, length-paste, take-add, take_all}
-use borrow.Author.Tests.{not-true, not-false}
 use Rattle.integers.proofs.Ring.{var, ring, poly}
 use Rattle.forms.specs.Edition.{edition1}
 use Rattle.forms.specs.Forms.{Form, Line, sums, ◌⊞◌, ◌·◌, small, every}
@@ -134,16 +133,16 @@ module _ (f : ℤ) (a : ℕ) (g : ℤ) (b : ℕ) (buf : List ℤ) (d w v : ℕ) 
 -- The form's sums first and then the partial interpolant's, each from and to its own place, make the line; where one of the form's is out of range, one of the line's is.
 module _ {K : ℕ} {buf buf' : List ℤ} {f : ℤ} {i : ℕ} {g : ℤ} {j n a b d : ℕ} {r : Bool} (p : LineTerms K buf f i g j n) (x : Mixes buf f a g b d (K + 1) buf' r)
     (ea : a ≡ i * size K) (eb : b ≡ j * size K) (ed : d ≡ n * size K) where
-  pub form-fails : not r ≡ true → Mixes buf f (i * size K) g (j * size K) (n * size K) (size K) buf' false
+  pub form-fails : r ≡ false → Mixes buf f (i * size K) g (j * size K) (n * size K) (size K) buf' false
   form-fails t =
       let both : K + 1 + (K + 1) ≡ size K = omega arith in
-      rw both at (mixes-fails f (i * size K) g (j * size K) buf (n * size K) (K + 1) (K + 1) (omega (arith, before K p.first)) (omega (arith, before K p.second)) (omega (arith, p.branch.room)) (rw (ea, eb, ed, not-true r t) at x))
+      rw both at (mixes-fails f (i * size K) g (j * size K) buf (n * size K) (K + 1) (K + 1) (omega (arith, before K p.first)) (omega (arith, before K p.second)) (omega (arith, p.branch.room)) (rw (ea, eb, ed, t) at x))
 
-  pub mixed-forms : {buf'' : List ℤ} {aA bA dA : ℕ} {q : Bool} → not r ≡ false → Mixes buf' f aA g bA dA (K + 1) buf'' q
+  pub mixed-forms : {buf'' : List ℤ} {aA bA dA : ℕ} {q : Bool} → r ≡ true → Mixes buf' f aA g bA dA (K + 1) buf'' q
       → aA ≡ i * size K + (K + 1) → bA ≡ j * size K + (K + 1) → dA ≡ n * size K + (K + 1) → Mixes buf f (i * size K) g (j * size K) (n * size K) (size K) buf'' q
   mixed-forms t y eaA ebA edA =
       let both : K + 1 + (K + 1) ≡ size K = omega arith in
-      rw both at (mixes-on f (i * size K) g (j * size K) buf (n * size K) (K + 1) (K + 1) (omega (arith, before K p.first)) (omega (arith, before K p.second)) (omega (arith, p.branch.room)) (rw (ea, eb, ed, not-false r t) at x) (rw (eaA, ebA, edA) at y))
+      rw both at (mixes-on f (i * size K) g (j * size K) buf (n * size K) (K + 1) (K + 1) (omega (arith, before K p.first)) (omega (arith, before K p.second)) (omega (arith, p.branch.room)) (rw (ea, eb, ed, t) at x) (rw (eaA, ebA, edA) at y))
 
 module _ (K : ℕ) (f : ℤ) (i : ℕ) (g : ℤ) (j n : ℕ) (buf : List ℤ) (room : n * size K + size K ≤ length buf) (hi : i < n) (hj : j < n) where
   pub mixed-keeps : Agree (n * size K) buf (mixed_line K f i g j n buf)

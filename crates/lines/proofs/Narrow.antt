@@ -1,9 +1,9 @@
 -- A number within the range has 32 bits. Assumes nothing.
 use mathlib.Core.Path.{◌≡◌, sym, ◌∙◌}
-use mathlib.Core.Bool.{Bool, not, false}
+use mathlib.Core.Bool.{Bool, true}
 use Prim.Native.Nat.{◌≤◌}
 use native.Mathlib.Omega.{arith}
-use borrow.Author.Tests.{not-false, leb-true}
+use borrow.Author.Tests.{leb-true}
 use lib.Dec.{leb}
 use lib.IntN.{ℤ, pos, negsuc, nat_abs}
 use lib.Signed.{mag}
@@ -33,5 +33,5 @@ module _ {y z : ℤ} (e : y ≡ z) (h : Within edition1.range z) where
   narrowed = to_z-of_z w32 (to_z w64 (of_z w64 y)) narrow-fits ∙ to_z-of_z w64 y wide_fits ∙ e
 
 -- r is what the test of z gave.
-pub tested-within : {z : ℤ} {r : Bool} → r ≡ leb (nat_abs z) edition1.range → not r ≡ false → Within edition1.range z
-tested-within {z} {r} q k = record { abs = leb-true (nat_abs z) edition1.range (sym q ∙ not-false r k) }
+pub tested-within : {z : ℤ} {r : Bool} → r ≡ leb (nat_abs z) edition1.range → r ≡ true → Within edition1.range z
+tested-within {z} {r} q k = record { abs = leb-true (nat_abs z) edition1.range (sym q ∙ k) }

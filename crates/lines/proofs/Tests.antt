@@ -1,6 +1,6 @@
 -- What a test of the code says of a line number and of a multiplier. Assumes nothing.
-use mathlib.Core.Path.{◌≡◌, refl, sym, ap, ◌∙◌}
-use mathlib.Core.Bool.{Bool, true, false, not}
+use mathlib.Core.Path.{◌≡◌, refl, sym, ◌∙◌}
+use mathlib.Core.Bool.{Bool, true, false}
 use Prim.Native.Nat.{ℕ, zero, suc, ◌≤◌, ◌<◌}
 use native.Mathlib.Omega.{arith}
 use lib.Dec.{ltb}
@@ -9,15 +9,11 @@ use borrow.Author.Tests.{ltb-true, ltb-false, eqb-true, eqb-false}
 use Rattle.integers.specs.Linear.{eq_z}
 
 -- ---- what the code's tests say
-pub unnot : (b : Bool) {c : Bool} → not b ≡ c → b ≡ not c
-unnot true h = ap not h
-unnot false h = ap not h
+pub is_below : (i n : ℕ) {b : Bool} → b ≡ ltb i n → b ≡ true → i < n
+is_below i n {b} e h = ltb-true i n (sym e ∙ h)
 
-pub is_below : (i n : ℕ) {b : Bool} → b ≡ ltb i n → not b ≡ false → i < n
-is_below i n {b} e h = ltb-true i n (sym e ∙ unnot b h)
-
-pub past : (i n : ℕ) {b : Bool} → b ≡ ltb i n → not b ≡ true → n ≤ i
-past i n {b} e h = ltb-false i n (sym e ∙ unnot b h)
+pub past : (i n : ℕ) {b : Bool} → b ≡ ltb i n → b ≡ false → n ≤ i
+past i n {b} e h = ltb-false i n (sym e ∙ h)
 
 pub zero-abs : (z : ℤ) {b : Bool} → b ≡ eq_z z (pos 0) → b ≡ true → nat_abs z ≡ 0
 zero-abs (pos n) e h = eqb-true n 0 (sym e ∙ h)

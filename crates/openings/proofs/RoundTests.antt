@@ -55,44 +55,44 @@ module _ (K : ℕ) (kinds : List ℕ) (buf : List ℤ) (t : Tally) (i g by : ℕ
     round-kind h = record { by = λ refusal. rw (line-at K kinds buf t.lines.0 i hi, h) }
 
     module _ (hk : is ≤0 (line_in K kinds buf i).kind ≡ true) {a : Bool} (two : a ≡ leb 2 g) where
-      pub round-small : not a ≡ true → Roundable K kinds buf t i g by (Refused 12)
+      pub round-small : a ≡ false → Roundable K kinds buf t i g by (Refused 12)
       unfolding roundable inequality line_at ◌>>=◌ ◌>>◌ found need
-      round-small h = record { by = λ refusal. rw (line-at K kinds buf t.lines.0 i hi, hk, ← two, unnot a h) }
+      round-small h = record { by = λ refusal. rw (line-at K kinds buf t.lines.0 i hi, hk, ← two, h) }
 
-      module _ (h : not a ≡ false) where
+      module _ (h : a ≡ true) where
         pub round-least : by ≡ 0 → Roundable K kinds buf t i g by (Refused 12)
         unfolding roundable inequality line_at ◌>>=◌ ◌>>◌ found need
-        round-least z = record { by = λ refusal. rw (line-at K kinds buf t.lines.0 i hi, hk, ← two, unnot a h, lt-leb 1 by (omega arith)) }
+        round-least z = record { by = λ refusal. rw (line-at K kinds buf t.lines.0 i hi, hk, ← two, h, lt-leb 1 by (omega arith)) }
 
         module _ (least : by ≡ 0 → ⊥) where
           pub round-most : 16 < by → Roundable K kinds buf t i g by (Refused 12)
           unfolding roundable inequality line_at ◌>>=◌ ◌>>◌ found need
-          round-most z = record { by = λ refusal. rw (line-at K kinds buf t.lines.0 i hi, hk, ← two, unnot a h, le-leb 1 by (positive by least), lt-leb by 16 z) }
+          round-most z = record { by = λ refusal. rw (line-at K kinds buf t.lines.0 i hi, hk, ← two, h, le-leb 1 by (positive by least), lt-leb by 16 z) }
 
           module _ (most : by ≤ 16) {z : ℤ} (ez : z ≡ pos g) {x : ℕ} (ex : x ≡ i * size K) {b : Bool} (all : b ≡ every (divb z) (part x K buf)) where
             alls : every (divb (pos g)) (line_in K kinds buf i).t.coeffs ≡ b
             unfolding line_in
             alls = sym (rw (ex, ez) at all)
 
-            pub round-coeffs : not b ≡ true → Roundable K kinds buf t i g by (Refused 15)
+            pub round-coeffs : b ≡ false → Roundable K kinds buf t i g by (Refused 15)
             unfolding roundable inequality line_at ◌>>=◌ ◌>>◌ found need
-            round-coeffs l = record { by = λ refusal. rw (line-at K kinds buf t.lines.0 i hi, hk, ← two, unnot a h, le-leb 1 by (positive by least), le-leb by 16 most, alls, unnot b l) }
+            round-coeffs l = record { by = λ refusal. rw (line-at K kinds buf t.lines.0 i hi, hk, ← two, h, le-leb 1 by (positive by least), le-leb by 16 most, alls, l) }
 
-            module _ (l : not b ≡ false) {c : Bool} {d : ℤ} (ed : d ≡ get_or buf (x + K) (pos 0)) (none : c ≡ undivided g d by) where
+            module _ (l : b ≡ true) {c : Bool} {d : ℤ} (ed : d ≡ get_or buf (x + K) (pos 0)) (none : c ≡ undivided g d by) where
               nones : undivided g (line_in K kinds buf i).t.d by ≡ c
               unfolding line_in
               nones = sym (rw (ed, ex) at none)
 
-              pub round-d : not c ≡ true → Roundable K kinds buf t i g by (Refused 15)
+              pub round-d : c ≡ false → Roundable K kinds buf t i g by (Refused 15)
               unfolding roundable inequality line_at ◌>>=◌ ◌>>◌ found need
-              round-d m = record { by = λ refusal. rw (line-at K kinds buf t.lines.0 i hi, hk, ← two, unnot a h, le-leb 1 by (positive by least), le-leb by 16 most, alls, unnot b l, nones, unnot c m) }
+              round-d m = record { by = λ refusal. rw (line-at K kinds buf t.lines.0 i hi, hk, ← two, h, le-leb 1 by (positive by least), le-leb by 16 most, alls, l, nones, m) }
 
-              pub round-passed : not c ≡ false → Roundable K kinds buf t i g by Passed
+              pub round-passed : c ≡ true → Roundable K kinds buf t i g by Passed
               unfolding roundable inequality line_at ◌>>=◌ ◌>>◌ found need
               round-passed m = record {
                 by = (
-                  λ refusal. rw (line-at K kinds buf t.lines.0 i hi, hk, ← two, unnot a h, le-leb 1 by (positive by least), le-leb by 16 most, alls, unnot b l, nones, unnot c m),
+                  λ refusal. rw (line-at K kinds buf t.lines.0 i hi, hk, ← two, h, le-leb 1 by (positive by least), le-leb by 16 most, alls, l, nones, m),
                   hi,
-                  record { stride = leb-true 2 g (sym two ∙ unnot a h); least = positive by least; most = most },
+                  record { stride = leb-true 2 g (sym two ∙ h); least = positive by least; most = most },
                 );
               }

@@ -115,17 +115,17 @@ module _ (K : ℕ) (kinds : List ℕ) (buf : List ℤ) (t : Tally) (i : ℕ) whe
                 (subst (λ (z : ℕ). in_range edition1.range (negated_of 1 z (line_in K kinds' buf' i)) ≡ f) same-y
                 (tested-neg (omega (arith, still.branch.room)) still.branch.bounded hi kinds' 1 y ≤0 fits))
 
-            pub split-second : not f ≡ true → SplitOpens K kinds buf t i kinds' buf' (Refused 13)
+            pub split-second : f ≡ false → SplitOpens K kinds buf t i kinds' buf' (Refused 13)
             unfolding fitting ◌>>◌ need
             split-second h =
-                refuses (λ next refusal rows fs. row_is next refusal rows fs ∙ rw (length-lines K kinds buf t.lines.0, lt-ltb t.lines.0 (edition t.edition).lines space, range, unnot f h)) opens.kept
+                refuses (λ next refusal rows fs. row_is next refusal rows fs ∙ rw (length-lines K kinds buf t.lines.0, lt-ltb t.lines.0 (edition t.edition).lines space, range, h)) opens.kept
 
-            pub split-made : not f ≡ false → SplitOpens K kinds buf t i kinds' buf' (Made t')
+            pub split-made : f ≡ true → SplitOpens K kinds buf t i kinds' buf' (Made t')
             unfolding fitting ◌>>◌ need
             split-made h = record {
               opens = record {
                 kept = opens.kept;
-                by = (λ next refusal rows fs. row_is next refusal rows fs ∙ rw (length-lines K kinds buf t.lines.0, lt-ltb t.lines.0 (edition t.edition).lines space, range, unnot f h), stands);
+                by = (λ next refusal rows fs. row_is next refusal rows fs ∙ rw (length-lines K kinds buf t.lines.0, lt-ltb t.lines.0 (edition t.edition).lines space, range, h), stands);
               };
-              second = λ t'' z. subst T (sym (range ∙ unnot f h)) tt;
+              second = λ t'' z. subst T (sym (range ∙ h)) tt;
             }

@@ -17,7 +17,7 @@ loop-x-preserved c =
     let a = c.args in
     let v = c.loop-x in
     rw (to_z-of_z w64 c.joined-joined.result (record { sfits = c.joined-joined.type_inv }))
-    (joined-next a.lines.now a.at v.x (to_z w64 v.joined) c.joined-joined.result (omega arith) (to_z-of_z w64 c.number.result (record { sfits = c.number.type_inv }) ∙ c.number.ensures) v.invariant.0 c.joined-joined.ensures, omega arith)
+    (joined-next a.lines.now a.at v.x (to_z w64 v.joined-bits) c.joined-joined.result (omega arith) (to_z-of_z w64 c.number.result (record { sfits = c.number.type_inv }) ∙ c.number.ensures) v.invariant.0 c.joined-joined.ensures, omega arith)
 
 pub returns : goal.returns
 returns c =

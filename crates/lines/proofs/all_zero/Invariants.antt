@@ -2,15 +2,13 @@
 use mathlib.Core.Path.{◌≡◌}
 use Prim.Native.Nat.{◌-◌, ◌≤◌}
 use lib.IntN.{pos}
-use mir.Syntax.{w64}
-use mir.Val.{to_z}
 use Rattle.integers.specs.Linear.{eq_z}
 use Rattle.forms.specs.Forms.{every}
 use Rattle.lines.specs.Parts.{part}
 use Rattle.lines.proofs.all_zero.Given as goal
 
 abbrev pub invariant-loop-x : goal.invariant-loop-x
-invariant-loop-x l = (eq_z (to_z w64 l.joined) (pos 0) ≡ every (λ z. eq_z z (pos 0)) (part l.at l.x l.lines)) × (l.x ≤ l.k)
+invariant-loop-x l = (eq_z l.joined (pos 0) ≡ every (λ z. eq_z z (pos 0)) (part l.at l.x l.lines)) × (l.x ≤ l.k)
 
 abbrev pub decreases-loop-x : goal.decreases-loop-x
 decreases-loop-x l = l.k - l.x

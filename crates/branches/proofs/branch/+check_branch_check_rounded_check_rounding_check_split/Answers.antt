@@ -305,7 +305,7 @@ check_rounded-returns-then-not-others t c =
     let b = c.check_branch-own.ensures in
     let others = ltb (c.loop-row.j + 1) c.args.by in
     let fits = c.ranges.g in
-    simp to_z-of_z at (rounding-last turn others h b (unnot others c.if-not-others.true) (ltb-false _ _ (unnot others c.if-not-others.true)))
+    simp to_z-of_z at (rounding-last turn others h b c.if-not-others.true (ltb-false _ _ c.if-not-others.true))
 
 pub check_rounded-returns-in_default : goal.check_rounded-returns-in_default
 check_rounded-returns-in_default t c =
@@ -314,7 +314,7 @@ check_rounded-returns-in_default t c =
     let b = c.check_branch-own.ensures in
     let others = ltb (c.loop-row.j + 1) c.args.by in
     let fits = c.ranges.g in
-    simp to_z-of_z at (rounding-fault turn others h b (unnot others c.if-not-others.false) (ltb-true _ _ (unnot others c.if-not-others.false)) c.in_default.is)
+    simp to_z-of_z at (rounding-fault turn others h b c.if-not-others.false (ltb-true _ _ c.if-not-others.false) c.in_default.is)
 
 pub check_rounded-loop-row-smaller : goal.check_rounded-loop-row-smaller
 check_rounded-loop-row-smaller t c =
@@ -330,7 +330,7 @@ check_rounded-loop-row-preserved t c =
     let h = c.start_rounded-front.ensures in
     let b = c.check_branch-own.ensures in
     let others = ltb (c.loop-row.j + 1) c.args.by in
-    rounding-next turn others h b (unnot others c.if-not-others.false) (ltb-true _ _ (unnot others c.if-not-others.false)) c.in-Closed.is
+    rounding-next turn others h b c.if-not-others.false (ltb-true _ _ c.if-not-others.false) c.in-Closed.is
 
 pub check_rounding-put_pair-head-requires : goal.check_rounding-put_pair-head-requires
 check_rounding-put_pair-head-requires t c = omega (arith, room-left c.requires.opened.0)

@@ -37,7 +37,7 @@ all_divisible-requires c =
     let h = (is_below c.args.i.0 c.args.tally.lines.0 c.is_there.ensures c.if-not-is_there.false) in
     let r = line-end c.requires.ready h in
     let fg = c.ranges.g in
-    record { k_in_bounds = omega (arith, c.place-t.ensures); pos_bound = simp to_z-of_z (at-least-two c.args.g c.requires.multiplies (simp to_z-of_z at c.is_stride.ensures) (unnot _ c.if-not-is_stride.false)) }
+    record { k_in_bounds = omega (arith, c.place-t.ensures); pos_bound = simp to_z-of_z (at-least-two c.args.g c.requires.multiplies (simp to_z-of_z at c.is_stride.ensures) c.if-not-is_stride.false) }
 
 pub returns-then-not-all_divisible : goal.returns-then-not-all_divisible
 returns-then-not-all_divisible c = let fg = c.ranges.g in stride-coeffs c.args.k c.args.kinds.now c.args.lines.now c.args.tally c.args.i.0 (nat_abs c.args.g) (is_below c.args.i.0 c.args.tally.lines.0 c.is_there.ensures c.if-not-is_there.false) (kind-= _ _ _ _ c.kind_of.ensures c.if-kind_of-ne-EQUALITY.false) (simp to_z-of_z at c.is_stride.ensures) c.if-not-is_stride.false c.requires.multiplies.is c.place-t.ensures (simp to_z-of_z at c.all_divisible.ensures) c.if-not-all_divisible.true
@@ -56,7 +56,7 @@ number-d-requires c =
 
 pub divides-requires : goal.divides-requires
 divides-requires c = let fg = c.ranges.g in
-    simp to_z-of_z (at-least-two c.args.g c.requires.multiplies (simp to_z-of_z at c.is_stride.ensures) (unnot _ c.if-not-is_stride.false))
+    simp to_z-of_z (at-least-two c.args.g c.requires.multiplies (simp to_z-of_z at c.is_stride.ensures) c.if-not-is_stride.false)
 
 pub returns-then-divides : goal.returns-then-divides
 returns-then-divides c = let fg = c.ranges.g in stride-d c.args.k c.args.kinds.now c.args.lines.now c.args.tally c.args.i.0 (nat_abs c.args.g) (is_below c.args.i.0 c.args.tally.lines.0 c.is_there.ensures c.if-not-is_there.false) (kind-= _ _ _ _ c.kind_of.ensures c.if-kind_of-ne-EQUALITY.false) (simp to_z-of_z at c.is_stride.ensures) c.if-not-is_stride.false c.requires.multiplies.is c.place-t.ensures (simp to_z-of_z at c.all_divisible.ensures) c.if-not-all_divisible.false (to_z-of_z w64 c.number-d.result (record { sfits = c.number-d.type_inv }) ∙ c.number-d.ensures) (rw (to_z-of_z w64 c.args.g fg) at c.divides.ensures) c.if-divides.true

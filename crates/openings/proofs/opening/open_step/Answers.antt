@@ -8,33 +8,33 @@ use Rattle.openings.proofs.Opens.{counted-both, full-both, open_none, open_full,
 use Rattle.openings.proofs.opening.open_step.Goals as goal
 
 pub returns-then-not-may : goal.returns-then-not-may
-returns-then-not-may c = open_none c.args.tally c.args.i.0 c.args.x c.args.y c.requires.ready (full-open _ c.open_counted-opened.ensures (unnot _ c.if-not-may.true))
+returns-then-not-may c = open_none c.args.tally c.args.i.0 c.args.x c.args.y c.requires.ready (full-open _ c.open_counted-opened.ensures c.if-not-may.true)
 
 pub returns-then-not-made : goal.returns-then-not-made
 returns-then-not-made c =
-    let may = unnot _ c.if-not-may.false in
-    open_full c.args.tally c.args.i.0 c.args.x c.args.y c.requires.ready (counted-open c.open_counted-opened.ensures may).0 (full-both c.args.tally c.open_counted-opened.ensures may c.line_counted-counted.ensures (unnot _ c.if-not-made.true))
+    let may = c.if-not-may.false in
+    open_full c.args.tally c.args.i.0 c.args.x c.args.y c.requires.ready (counted-open c.open_counted-opened.ensures may).0 (full-both c.args.tally c.open_counted-opened.ensures may c.line_counted-counted.ensures c.if-not-made.true)
 
 pub raised_fit-requires : goal.raised_fit-requires
 raised_fit-requires c =
-    let both = counted-both c.args.tally c.open_counted-opened.ensures (unnot _ c.if-not-may.false) c.line_counted-counted.ensures (unnot _ c.if-not-made.false) in
+    let both = counted-both c.args.tally c.open_counted-opened.ensures c.if-not-may.false c.line_counted-counted.ensures c.if-not-made.false in
     let h = before c.args.k c.requires.i_lt_lines in
     record { i_bound = (omega (arith, both.0, c.requires.i_lt_lines, lines-most c.args.tally.edition), c.requires.ready.branch.constants, omega (arith, c.requires.ready.branch.room)); bounded = bounded-less (omega (arith, c.requires.i_lt_lines)) c.requires.ready.branch.bounded }
 
 pub returns-then-not-raised_fit : goal.returns-then-not-raised_fit
 returns-then-not-raised_fit c =
-    let may = unnot _ c.if-not-may.false in
-    let both = counted-both c.args.tally c.open_counted-opened.ensures may c.line_counted-counted.ensures (unnot _ c.if-not-made.false) in
-    open-range c.args.tally c.args.i.0 c.args.x c.args.y c.requires.ready (counted-open c.open_counted-opened.ensures may).0 c.requires.i_lt_lines both.0 c.raised_fit.ensures (unnot _ c.if-not-raised_fit.true)
+    let may = c.if-not-may.false in
+    let both = counted-both c.args.tally c.open_counted-opened.ensures may c.line_counted-counted.ensures c.if-not-made.false in
+    open-range c.args.tally c.args.i.0 c.args.x c.args.y c.requires.ready (counted-open c.open_counted-opened.ensures may).0 c.requires.i_lt_lines both.0 c.raised_fit.ensures c.if-not-raised_fit.true
 
 pub start_line-requires : goal.start_line-requires
 start_line-requires c =
-    let may = unnot _ c.if-not-may.false in
-    let both = counted-both c.args.tally c.open_counted-opened.ensures may c.line_counted-counted.ensures (unnot _ c.if-not-made.false) in
-    (open-start c.args.tally c.args.i.0 c.args.x c.args.y c.requires.ready (counted-open c.open_counted-opened.ensures may).0 c.requires.i_lt_lines both.0 c.raised_fit.ensures (unnot _ c.if-not-raised_fit.false) (omega arith) (omega arith), c.requires.ready.room)
+    let may = c.if-not-may.false in
+    let both = counted-both c.args.tally c.open_counted-opened.ensures may c.line_counted-counted.ensures c.if-not-made.false in
+    (open-start c.args.tally c.args.i.0 c.args.x c.args.y c.requires.ready (counted-open c.open_counted-opened.ensures may).0 c.requires.i_lt_lines both.0 c.raised_fit.ensures c.if-not-raised_fit.false (omega arith) (omega arith), c.requires.ready.room)
 
 pub returns : goal.returns
 returns c =
-    let may = unnot _ c.if-not-may.false in
-    let both = counted-both c.args.tally c.open_counted-opened.ensures may c.line_counted-counted.ensures (unnot _ c.if-not-made.false) in
-    open_made c.args.tally c.args.i.0 c.args.x c.args.y c.requires.ready (counted-open c.open_counted-opened.ensures may).0 c.requires.i_lt_lines both.0 c.raised_fit.ensures (unnot _ c.if-not-raised_fit.false) c.start_line.ensures.lines c.start_line.ensures.kinds both.1
+    let may = c.if-not-may.false in
+    let both = counted-both c.args.tally c.open_counted-opened.ensures may c.line_counted-counted.ensures c.if-not-made.false in
+    open_made c.args.tally c.args.i.0 c.args.x c.args.y c.requires.ready (counted-open c.open_counted-opened.ensures may).0 c.requires.i_lt_lines both.0 c.raised_fit.ensures c.if-not-raised_fit.false c.start_line.ensures.lines c.start_line.ensures.kinds both.1

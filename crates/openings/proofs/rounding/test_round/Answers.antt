@@ -60,7 +60,7 @@ all_divisible-requires c =
     let h = is_below c.args.i.0 c.args.tally.lines.0 c.is_there.ensures c.if-not-is_there.false in
     let r = line-end c.requires.ready h in
     let fg = c.ranges.g in
-    record { k_in_bounds = omega (arith, r, c.place-t.ensures); pos_bound = simp to_z-of_z (at-least-two c.args.g c.requires.multiplies (simp to_z-of_z at c.is_stride.ensures) (unnot _ c.if-not-is_stride.false)) }
+    record { k_in_bounds = omega (arith, r, c.place-t.ensures); pos_bound = simp to_z-of_z (at-least-two c.args.g c.requires.multiplies (simp to_z-of_z at c.is_stride.ensures) c.if-not-is_stride.false) }
 
 pub returns-then-not-all_divisible : goal.returns-then-not-all_divisible
 returns-then-not-all_divisible c =
@@ -86,7 +86,7 @@ is_undivided-requires c =
     let r = before c.args.k h in
     let fg = c.ranges.g in
     let d = to_z-of_z w64 c.number-d.result (record { sfits = c.number-d.type_inv }) ∙ c.number-d.ensures in
-    record { pos_bound = simp to_z-of_z (at-least-two c.args.g c.requires.multiplies (simp to_z-of_z at c.is_stride.ensures) (unnot _ c.if-not-is_stride.false)); within = (rw d (c.requires.ready.branch.bounded.small _ (omega (arith, r, c.place-t.ensures))), c.if-by-gt-ROUNDING.false) }
+    record { pos_bound = simp to_z-of_z (at-least-two c.args.g c.requires.multiplies (simp to_z-of_z at c.is_stride.ensures) c.if-not-is_stride.false); within = (rw d (c.requires.ready.branch.bounded.small _ (omega (arith, r, c.place-t.ensures))), c.if-by-gt-ROUNDING.false) }
 
 pub returns-then-not-is_undivided : goal.returns-then-not-is_undivided
 returns-then-not-is_undivided c =
