@@ -12,7 +12,7 @@ use Rattle.number_bytes.specs.Numbers.{signeds, flat, form_from}
 use Rattle.number_bytes.proofs.Signed.{length-signeds, signeds-take, flat-signeds}
 use Rattle.formula.specs.Test.{holds, judge, registers}
 use Rattle.form_value.specs.FormAt.{form_at}
-use Rattle.form_value.specs.Quick.{word, Power}
+use Rattle.form_value.specs.Quick.{word}
 use Rattle.form_value.specs.Registers.{AllWithin, Registers}
 use Rattle.form_value.proofs.Quick.{word-divides}
 use Rattle.formula_read.specs.Nodes.{literal_kind}

@@ -16,7 +16,7 @@ pub divides-requires : goal.divides-requires
 divides-requires c = let h = subst Proper c.in-Stride.is c.requires.proper in rw (to_z-of_z w64 (pos c.in-Stride.g) (stride-fits h.1)) (stride-low h.0)
 
 pub returns-in-Literal : goal.returns-in-Literal
-returns-in-Literal c = literal-holds _ c.args.vector.now c.in-Literal.is (to_z-of_z w64 c.value_of_lem.result (record { sfits = c.value_of_lem.type_inv }) ∙ c.value_of_lem.ensures) c.says.ensures
+returns-in-Literal c = literal-holds _ c.args.vector.now c.in-Literal.is (to_z-of_z w64 c.value_of.result (record { sfits = c.value_of.type_inv }) ∙ c.value_of.ensures) c.says.ensures
 
 pub returns-in-Power : goal.returns-in-Power
 returns-in-Power c = power-holds _ c.args.vector.now c.in-Power.is c.requires.proper (c.word_of.ensures ∙ value-word _ _) c.divides_word.ensures

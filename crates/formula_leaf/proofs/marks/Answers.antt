@@ -9,10 +9,14 @@ loop-left-init c = marking-start _ _ _ _ _
 
 pub with_vector-mask-requires : goal.with_vector-mask-requires
 with_vector-mask-requires c =
-    let pre = c.requires in
-    let b = pre.1.1 in
+    let b = c.requires.block in
     let g = c.loop-left.invariant in
-    (pre.0, (pre.1.0, (block-vector b (marking-there g b.below c.loop-left-test.true), marking-sum g b.below b.size c.loop-left-test.true)))
+    record {
+      proper = c.requires.proper;
+      k_in_bounds = c.requires.k_in_bounds;
+      vector_at = block-vector b (marking-there g b.below c.loop-left-test.true);
+      p_bound = marking-sum g b.below b.size c.loop-left-test.true;
+    }
 
 pub overflow_mul-p : goal.overflow_mul-p
 overflow_mul-p c = let b = c.requires.block in record { fits = marking-next c.loop-left.invariant b.below b.size c.loop-left-test.true }
@@ -27,4 +31,4 @@ pub loop-left-preserved : goal.loop-left-preserved
 loop-left-preserved c = let b = c.requires.block in marking-on c.loop-left.invariant (marking-there c.loop-left.invariant b.below c.loop-left-test.true) _ refl c.with_vector-mask.ensures
 
 pub returns : goal.returns
-returns c = marking-end c.loop-left.invariant c.loop-left-test.false
+returns c = let m = marking-end c.loop-left.invariant c.loop-left-test.false in record { small = m.0; is = m.1 }

@@ -16,7 +16,7 @@ overflow_sub-i c = c.loop-i-test.true
 
 pub with_term-total-requires : goal.with_term-total-requires
 with_term-total-requires c =
-    let pre = c.requires in record { i_in_bounds = omega (arith, c.loop-i.invariant.upto); term_asked = record { register = omega (arith, c.loop-i.invariant.upto); all = pre.1.all; small = within-le (omega arith) c.loop-i.invariant.bound } }
+    let pre = c.requires in record { i_in_bounds = omega (arith, c.loop-i.invariant.upto); term_asked = record { register = omega (arith, c.loop-i.invariant.upto); all = pre.registers.all; small = within-le (omega arith) c.loop-i.invariant.bound } }
 
 pub loop-i-smaller : goal.loop-i-smaller
 loop-i-smaller c = omega arith
@@ -25,7 +25,7 @@ pub loop-i-preserved : goal.loop-i-preserved
 loop-i-preserved c =
     let pre = c.requires in
     rw (to_z-of_z w64 c.with_term-total.result (record { sfits = c.with_term-total.type_inv }))
-    (summed-more _ _ _ pre.0 pre.1.all pre.1.count c.loop-i.invariant (omega arith) c.with_term-total.ensures.range c.with_term-total.ensures.is)
+    (summed-more _ _ _ pre.k_in_bounds pre.registers.all pre.registers.count c.loop-i.invariant (omega arith) c.with_term-total.ensures.range c.with_term-total.ensures.is)
 
 pub returns : goal.returns
 returns c = summed-all _ _ _ c.requires.k_in_bounds c.loop-i.invariant c.loop-i-test.false

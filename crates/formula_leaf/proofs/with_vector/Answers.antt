@@ -16,7 +16,7 @@ pub slice_bounds-holds_of-count : goal.slice_bounds-holds_of-count
 slice_bounds-holds_of-count c = omega arith
 
 pub holds_of-requires : goal.holds_of-requires
-holds_of-requires c = (c.requires.proper, (c.requires.k_in_bounds, vector-registers c.requires.vector_at))
+holds_of-requires c = record { proper = c.requires.proper; k_in_bounds = c.requires.k_in_bounds; registers = vector-registers c.requires.vector_at }
 
 pub returns-then-holds_of : goal.returns-then-holds_of
 returns-then-holds_of c =

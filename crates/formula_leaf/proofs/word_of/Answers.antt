@@ -17,13 +17,13 @@ pub overflow_sub-i : goal.overflow_sub-i
 overflow_sub-i c = c.loop-i-test.true
 
 pub with_word-total-requires : goal.with_word-total-requires
-with_word-total-requires c = let pre = c.requires in record { i_in_bounds = omega (arith, c.loop-i.invariant.summed.upto); i_in_bounds_2 = (omega (arith, c.loop-i.invariant.summed.upto), pre.1.all) }
+with_word-total-requires c = let pre = c.requires in record { i_in_bounds = omega (arith, c.loop-i.invariant.summed.upto); i_in_bounds_2 = (omega (arith, c.loop-i.invariant.summed.upto), pre.registers.all) }
 
 pub loop-i-smaller : goal.loop-i-smaller
 loop-i-smaller c = omega arith
 
 pub loop-i-preserved : goal.loop-i-preserved
-loop-i-preserved c = let pre = c.requires in worded-more _ _ _ pre.0 pre.1.all pre.1.count c.loop-i.invariant (omega arith) c.with_word-total.ensures.range c.with_word-total.ensures.is
+loop-i-preserved c = let pre = c.requires in worded-more _ _ _ pre.k_in_bounds pre.registers.all pre.registers.count c.loop-i.invariant (omega arith) c.with_word-total.ensures.range c.with_word-total.ensures.is
 
 pub returns : goal.returns
 returns c = worded-all _ _ _ c.requires.k_in_bounds c.loop-i.invariant c.loop-i-test.false
