@@ -2,7 +2,6 @@
 use Rattle.std.specs.Prelude.{Bool, false, List, ℕ, leb, length}
 use Rattle.std.proofs.Math.Option.{none}
 use Rattle.forms.specs.Edition.{edition1}
-use Rattle.forms.specs.Forms.{Formula}
 use Rattle.answers.specs.Answers.{answer, file_proof, Result, accepted, ◌>>=◌, ◌>>◌, need, Written, written}
 use Rattle.fields.specs.declared.FileKind.{FileKind}
 use Rattle.fields.specs.Fields.{Fields, fields}

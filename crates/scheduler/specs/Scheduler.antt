@@ -1,7 +1,7 @@
 -- The scheduler of checks: document 02, point 13, "the office desk". A job waits at a seat; a turn serves one. Assumes nothing.
 use Rattle.std.specs.Prelude.{Bool, true, false, not, ◌&&◌, cond, List, ℕ, zero, suc, ◌+◌, ◌-◌, ◌%◌, eqb, leb, ltb, length, take, drop, get_or, set, replicate}
 use Rattle.answers.specs.declared.Answer.{Answer}
-use Rattle.answers.specs.Answers.{answer, file_lent, Result, accepted, ◌>>=◌, ◌>>◌, need, Written}
+use Rattle.answers.specs.Answers.{answer, file_lent, Result, accepted, ◌>>◌, need, Written}
 use Rattle.proof.specs.Check.{check}
 use Rattle.scheduler.specs.declared.Part.{Part}
 use Rattle.scheduler.specs.declared.Job.{Job}

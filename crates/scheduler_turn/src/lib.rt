@@ -95,7 +95,7 @@ pub fn proof_of<'a>(job: Job, buffer: &'a [u8]) -> &'a [u8]
 // The job at a seat was checked: the seat is cleared, and the next turn looks first at the one after it.
 pub fn served(s: Scheduler, seat: usize, res: WriteResult) -> Turned
     requires { seat < 8 }
-    ensures* { λ r. ⌜ r ≡ record { scheduler = record { slots = set s.slots seat vacant; first = after seat }; result = res; seat = seat; idle = false } ⌝ }
+    ensures { result ≡ record { scheduler = record { slots = set s.slots seat vacant; first = after seat }; result = res; seat = seat; idle = false } }
 {
     let cleared = scheduler_change::vacant();
     let mut scheduler = s;
@@ -111,7 +111,7 @@ pub fn served(s: Scheduler, seat: usize, res: WriteResult) -> Turned
 
 // No job waits, and nothing changes: 35.
 pub fn idle(s: Scheduler) -> Turned
-    ensures* { λ r. ⌜ r ≡ record { scheduler = s; result = record { answer = refusal 35; count = 0 }; seat = 0; idle = true } ⌝ }
+    ensures { result ≡ record { scheduler = s; result = record { answer = refusal 35; count = 0 }; seat = 0; idle = true } }
 {
     let answer = answers::refusal(35, 4, 0);
     let result = WriteResult { answer, count: 0 };

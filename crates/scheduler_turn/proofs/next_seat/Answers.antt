@@ -25,7 +25,7 @@ loop-left-smaller c = omega arith
 pub loop-left-preserved : goal.loop-left-preserved
 loop-left-preserved c =
     let p = c.loop-left in
-    let s = c.args.t1 in (
+    let s = c.args.s in (
       ap (λ (k : ℕ). next_from s k (p.left - 1)) c.after-seat.ensures ∙ sym (passed s p.seat p.left (omega arith) (vacated s p.seat c.if-slot-ne0.false)) ∙ p.invariant.0,
       omega (arith, c.after-seat.ensures),
     )
