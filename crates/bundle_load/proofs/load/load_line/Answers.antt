@@ -6,7 +6,7 @@ use Rattle.bundle_load.proofs.load.load_line.Goals as goal
 pub store_numbers-requires : goal.store_numbers-requires
 store_numbers-requires c =
     let q = copies-t c.requires c.place-at.ensures in
-    (q.width, (q.bytes, q.room))
+    record { fact = q.width; width_in_bounds = q.bytes; n_in_bounds = q.room }
 
 pub overflow_add-at : goal.overflow_add-at
 overflow_add-at c = omega (arith, space-end c.requires.space, c.place-at.ensures)
@@ -24,4 +24,4 @@ returns c =
     let p = c.requires in
     let x = c.place-at.ensures in
     rw (c.set_kind.ensures, c.line_kind.ensures)
-    (form-loaded p c.args.in-a (rw x at (stored-all (copies-t p x) c.store_numbers.ensures)) (rw x at c.load_partial.ensures))
+    (form-loaded p c.args.in_a (rw x at (stored-all (copies-t p x) c.store_numbers.ensures)) (rw x at c.load_partial.ensures))
