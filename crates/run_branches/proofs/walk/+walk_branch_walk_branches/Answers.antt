@@ -1,6 +1,5 @@
 -- The cycle {walk_branch, walk_branches} meets its contracts. Assumes nothing.
 use native.Mathlib.Omega.{arith}
-use borrow.Author.Rules.{rules}
 use Rattle.run_branches.proofs.BranchesLoop.{passing-start, passing-fault, passing-rows, passing-falls, passing-last, passing-unlike, passing-next, stop-over, stop-countable, stop-falls, stop-shut, stop-opens}
 use Rattle.run_branches.proofs.walk.+walk_branch_walk_branches.Goals as goal
 

@@ -1,5 +1,5 @@
 -- The measures of the cycle {walk_branch, walk_branches}: how many bytes are unread, twice, and one more where the branches of a step are gone through; and the loop over a step's branches. Assumes nothing.
-use Rattle.std.proofs.Common.{ℕ, ◌+◌, ◌*◌}
+use Rattle.std.proofs.Common.{◌+◌, ◌*◌}
 use Rattle.fields.specs.Places.{unread_bytes}
 use Rattle.run_branches.proofs.BranchesLoop.{Passing}
 use Rattle.run_branches.proofs.walk.+walk_branch_walk_branches.Given as goal
