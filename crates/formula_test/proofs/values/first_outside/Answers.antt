@@ -6,7 +6,6 @@ use mir.Syntax.{w64}
 use mir.ValLaws.{to_z-of_z}
 use lib.ListN.{get_or}
 use Rattle.formula_test.proofs.Registers.{passed_none, passed-more, first-outside, none-outside}
-use borrow.Author.Tests.{not-true, not-false}
 use Rattle.formula_test.proofs.values.first_outside.Goals as goal
 use Rattle.formula_test.proofs.values.first_outside.Goals.{After-in_range}
 
@@ -20,10 +19,10 @@ test-is c =
     ∙ sym c.in_range.ensures
 
 pub returns-then-not-in_range : goal.returns-then-not-in_range
-returns-then-not-in_range c = first-outside c.loop-i.invariant c.loop-i-test.true (test-is c.before ∙ not-true _ c.if-not-in_range.true)
+returns-then-not-in_range c = first-outside c.loop-i.invariant c.loop-i-test.true (test-is c.before ∙ c.if-not-in_range.true)
 
 pub loop-i-preserved : goal.loop-i-preserved
-loop-i-preserved c = passed-more c.loop-i.invariant c.loop-i-test.true (test-is c.before ∙ not-false _ c.if-not-in_range.false)
+loop-i-preserved c = passed-more c.loop-i.invariant c.loop-i-test.true (test-is c.before ∙ c.if-not-in_range.false)
 
 pub returns : goal.returns
 returns c = none-outside c.loop-i.invariant c.loop-i-test.false
