@@ -11,7 +11,11 @@ use Rattle.lines.specs.Parts.{part}
 use Rattle.lines.proofs.Parts.{get_d_part, length_part}
 use Rattle.lines.proofs.Fill.{Filled, filled_none, filled-length, filled-before, filled_next}
 use Rattle.line_starts.proofs.copy_numbers.Goals as goal
-use Rattle.line_starts.proofs.copy_numbers.Goals.{Start}
+
+-- A turn, in the source's terms.
+record Disjoint (l : List ℤ) (a d w : ℕ) : Type 0 where
+  first : a + w ≤ d
+  second : d + w ≤ length l
 
 module _ {l : List ℤ} {a d w : ℕ} (p : Disjoint l a d w) where
   same : length (part a w l) ≡ w
@@ -30,49 +34,30 @@ module _ {l : List ℤ} {a d w : ℕ} (p : Disjoint l a d w) where
     value : x < w → get_or m (a + x) (pos 0) ≡ get_or (part a w l) x (pos 0)
     value h = filled-before room v (a + x) (pos 0) (omega arith) ∙ sym (get_d_part a w l x (pos 0) h)
 
-disjoint : (s : Start) → Disjoint s.args.lines.now s.args.s s.args.new s.args.w
-disjoint s = record { first = s.requires.0; second = s.requires.1 }
+disjoint : {l : List ℤ} {a d w : ℕ} → (a + w ≤ d) × (d + w ≤ length l) → Disjoint l a d w
+disjoint h = record { first = h.0; second = h.1 }
 
 pub loop-x-init : goal.loop-x-init
 loop-x-init c = filled_none
 
-pub overflow_add-same : goal.overflow_add-same
-overflow_add-same c = omega arith
-
-pub offset_bounds-lines-s : goal.offset_bounds-lines-s
-offset_bounds-lines-s c = omega arith
-
 pub slice_copy_out-same : goal.slice_copy_out-same
-slice_copy_out-same c = omega (arith, len (disjoint c.before.before) c.loop-x.invariant)
-
-pub overflow_add-same-in-loop-x : goal.overflow_add-same-in-loop-x
-overflow_add-same-in-loop-x c = omega arith
-
-pub offset_bounds-lines-new : goal.offset_bounds-lines-new
-offset_bounds-lines-new c = omega arith
+slice_copy_out-same c = omega (arith, len (disjoint c.requires) c.loop-x.invariant)
 
 pub bounds-lines-new : goal.bounds-lines-new
-bounds-lines-new c = omega (arith, len (disjoint c.before.before.before) c.loop-x.invariant)
-
-pub overflow_add-x : goal.overflow_add-x
-overflow_add-x c = omega arith
-
-pub loop-x-smaller : goal.loop-x-smaller
-loop-x-smaller c = omega arith
+bounds-lines-new c = omega (arith, len (disjoint c.requires) c.loop-x.invariant)
 
 pub loop-x-preserved : goal.loop-x-preserved
 loop-x-preserved c =
-    let p = disjoint c.before.before.before in
+    let p = disjoint c.requires in
     let v = c.loop-x.invariant in
     let h = c.loop-x-test.true in
-    filled_next (room p v) v _ (pos 0) (to_z-of_z w32 _ (record { sfits = c.same-1.given }) ∙ value p v h) (omega (arith, same p))
+    filled_next (room p v) v _ (pos 0) (to_z-of_z w32 _ (record { sfits = omega arith }) ∙ value p v h) (omega (arith, same p))
 
 pub shape_of-lines : goal.shape_of-lines
-shape_of-lines c = len (disjoint c.before.before) c.loop-x.invariant
+shape_of-lines c = len (disjoint c.requires) c.loop-x.invariant
 
 pub returns : goal.returns
 returns c =
-    let s = c.before.before in
     let v = c.loop-x.invariant in
-    let e : c.loop-x.x ≡ s.args.w = omega (arith, below (disjoint s) v) in
+    let e : c.loop-x.x ≡ c.args.w = omega (arith, below (disjoint c.requires) v) in
     rw e at v.is

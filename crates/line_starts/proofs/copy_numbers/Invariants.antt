@@ -1,8 +1,5 @@
 -- `line_starts::copy_numbers` meets its contract: after x turns the first x numbers are in place. Assumes nothing.
-use mathlib.Core.List.{List}
-use Prim.Native.Nat.{ℕ, ◌≤◌, ◌-◌, ◌+◌}
-use lib.IntN.{ℤ}
-use lib.ListN.{length}
+use Prim.Native.Nat.{◌-◌}
 use Rattle.lines.specs.Parts.{part}
 use Rattle.lines.proofs.Fill.{Filled}
 use Rattle.line_starts.proofs.copy_numbers.Given as goal
@@ -10,11 +7,5 @@ use Rattle.line_starts.proofs.copy_numbers.Given as goal
 abbrev pub invariant-loop-x : goal.invariant-loop-x
 invariant-loop-x l = Filled l.initial.lines l.new (part l.s l.w l.initial.lines) l.lines l.x
 
--- A turn, in the source's terms.
 abbrev pub decreases-loop-x : goal.decreases-loop-x
 decreases-loop-x l = l.w - l.x
-
--- A turn, in the source's terms.
-record Disjoint (l : List ℤ) (a d l.w : ℕ) : Type 0 where
-  first : a + l.w ≤ d
-  second : d + l.w ≤ length l

@@ -19,7 +19,8 @@ overflow_add-at c =
 
 pub raise-requires : goal.raise-requires
 raise-requires c =
-    t-term c.args.k c.args.n.0 c.args.x c.args.y c.args.lines.now (omega arith) c.requires.raised c.place-at.result c.args.lines.now c.place-at.ensures refl
+    let r = t-term c.args.k c.args.n.0 c.args.x c.args.y c.args.lines.now (omega arith) c.requires.raised c.place-at.result c.args.lines.now c.place-at.ensures refl in
+    record { at_in_bounds = r.0; within = r.1 }
 
 pub overflow_add-at_a : goal.overflow_add-at_a
 overflow_add-at_a c =
@@ -27,7 +28,8 @@ overflow_add-at_a c =
 
 pub raise-requires-2 : goal.raise-requires-2
 raise-requires-2 c =
-    t_A-term c.args.k c.args.n.0 c.args.x c.args.y c.args.lines.now (omega arith) c.requires.raised c.place_a-at_a.result c.raise.new.lines c.place_a-at_a.ensures (raise-is c.args.k c.args.x c.raise.ensures c.place-at.ensures refl)
+    let r = t_A-term c.args.k c.args.n.0 c.args.x c.args.y c.args.lines.now (omega arith) c.requires.raised c.place_a-at_a.result c.raise.new.lines c.place_a-at_a.ensures (raise-is c.args.k c.args.x c.raise.ensures c.place-at.ensures refl) in
+    record { at_in_bounds = r.0; within = r.1 }
 
 pub returns : goal.returns
 unfolding raised_line
