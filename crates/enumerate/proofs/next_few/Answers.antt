@@ -10,4 +10,4 @@ pub returns-then-first-second-gt4 : goal.returns-then-first-second-gt4
 returns-then-first-second-gt4 c = nexts-refused (list-fifth c.requires.both_within_limits c.requires.both c.if-first-second-gt4.true) c.refusal.ensures
 
 pub next_within-requires : goal.next_within-requires
-next_within-requires c = (c.requires.both_within_limits, (c.requires.both, (c.if-first-second-gt4.false, omega arith, omega arith)))
+next_within-requires c = record { both_within_limits = c.requires.both_within_limits; both = c.requires.both; count_bound = (c.if-first-second-gt4.false, omega arith, omega arith) }

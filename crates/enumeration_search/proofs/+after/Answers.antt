@@ -3,7 +3,6 @@ use mathlib.Core.Path.{sym}
 use Prim.Native.Nat.{◌+◌}
 use native.Mathlib.Omega.{arith}
 use lib.ListN.{drop}
-use borrow.Author.Tests.{not-true, not-false}
 use Rattle.enumeration_rows.proofs.Counts.{below-five}
 use Rattle.enumeration_rows.proofs.Stored.{inference-size}
 use Rattle.enumeration_rows.proofs.Inferred.{roomy-less, roomy-more}
@@ -29,7 +28,7 @@ pub after-infer-requires : goal.after-infer-requires
 after-infer-requires t c = record { search_room = roomy-less {e = 1} (omega (arith, c.if-depth-eq0.false)) c.requires.search_room; j_bound = found_below c.inference_at-j.ensures c.inference_count.ensures c.if-j-inference_count.false }
 
 pub after-returns-then-not-infer : goal.after-returns-then-not-infer
-after-returns-then-not-infer t c = as-deep-after (drop c.args.at c.args.table.now) (sym (one_less c.if-depth-eq0.false)) (given-refused (as-roomy (sym (one_less c.if-depth-eq0.false)) c.requires.search_room) (drop c.args.at c.args.table.now) c.inference_at-j.result c.inference_at-j.ensures (found_below c.inference_at-j.ensures c.inference_count.ensures c.if-j-inference_count.false) c.infer.ensures.derives (c.infer.ensures.refused (not-true _ c.if-not-infer.true)).1)
+after-returns-then-not-infer t c = as-deep-after (drop c.args.at c.args.table.now) (sym (one_less c.if-depth-eq0.false)) (given-refused (as-roomy (sym (one_less c.if-depth-eq0.false)) c.requires.search_room) (drop c.args.at c.args.table.now) c.inference_at-j.result c.inference_at-j.ensures (found_below c.inference_at-j.ensures c.inference_count.ensures c.if-j-inference_count.false) c.infer.ensures.derives (c.infer.ensures.refused c.if-not-infer.true).1)
 
 pub after-inference_bytes-size-requires : goal.after-inference_bytes-size-requires
 after-inference_bytes-size-requires t c = omega (arith, c.requires.search_room.few)
@@ -44,16 +43,16 @@ pub after-overflow_add-at : goal.after-overflow_add-at
 after-overflow_add-at t c = omega (arith, c.requires.depth_bound.2, c.inference_bytes-size.ensures, inference-size c.args.n c.inference_at-j.result)
 
 pub after-after-found-requires : goal.after-after-found-requires
-after-after-found-requires t c = (omega (arith, c.decreases, c.if-depth-eq0.false), (roomy-more c.requires.search_room.first_edition c.infer.ensures.derives (as-roomy (sym (one_less c.if-depth-eq0.false)) c.requires.search_room) (c.infer.ensures.made (not-false _ c.if-not-infer.false)), (omega (arith, c.requires.depth_bound.0), inference-ends c.args.table.now c.inference_at-j.ensures (found_below c.inference_at-j.ensures c.inference_count.ensures c.if-j-inference_count.false) c.inference_bytes-size.ensures c.requires.depth_bound.1, omega (arith, c.requires.depth_bound.2, c.if-depth-eq0.false, c.inference_bytes-size.ensures, inference-size c.args.n c.inference_at-j.result))))
+after-after-found-requires t c = (omega (arith, c.decreases, c.if-depth-eq0.false), (roomy-more c.requires.search_room.first_edition c.infer.ensures.derives (as-roomy (sym (one_less c.if-depth-eq0.false)) c.requires.search_room) (c.infer.ensures.made c.if-not-infer.false), (omega (arith, c.requires.depth_bound.0), inference-ends c.args.table.now c.inference_at-j.ensures (found_below c.inference_at-j.ensures c.inference_count.ensures c.if-j-inference_count.false) c.inference_bytes-size.ensures c.requires.depth_bound.1, omega (arith, c.requires.depth_bound.2, c.if-depth-eq0.false, c.inference_bytes-size.ensures, inference-size c.args.n c.inference_at-j.result))))
 
 pub after-overflow_add-j : goal.after-overflow_add-j
 after-overflow_add-j t c = omega (arith, below-five c.args.n c.inference_at-j.result (omega (arith, c.requires.search_room.few, c.if-depth-eq0.false)) (found_below c.inference_at-j.ensures c.inference_count.ensures c.if-j-inference_count.false))
 
 pub after-seek-requires : goal.after-seek-requires
-after-seek-requires t c = record { search_room = as-roomy (one_less c.if-depth-eq0.false) (given-roomy (as-roomy (sym (one_less c.if-depth-eq0.false)) c.requires.search_room) (drop c.args.at c.args.table.now) c.inference_at-j.result c.inference_at-j.ensures (found_below c.inference_at-j.ensures c.inference_count.ensures c.if-j-inference_count.false) c.infer.ensures.derives (c.infer.ensures.made (not-false _ c.if-not-infer.false)) (rest-cut c.args.table.now c.args.at c.args.n c.inference_at-j.result c.inference_bytes-size.ensures) c.after-found.ensures (omega (arith, c.requires.depth_bound.0))); depth_bound = c.requires.depth_bound.0 }
+after-seek-requires t c = record { search_room = as-roomy (one_less c.if-depth-eq0.false) (given-roomy (as-roomy (sym (one_less c.if-depth-eq0.false)) c.requires.search_room) (drop c.args.at c.args.table.now) c.inference_at-j.result c.inference_at-j.ensures (found_below c.inference_at-j.ensures c.inference_count.ensures c.if-j-inference_count.false) c.infer.ensures.derives (c.infer.ensures.made c.if-not-infer.false) (rest-cut c.args.table.now c.args.at c.args.n c.inference_at-j.result c.inference_bytes-size.ensures) c.after-found.ensures (omega (arith, c.requires.depth_bound.0))); depth_bound = c.requires.depth_bound.0 }
 
 pub after-returns-then-is_none_left : goal.after-returns-then-is_none_left
-after-returns-then-is_none_left t c = as-deep-after (drop c.args.at c.args.table.now) (sym (one_less c.if-depth-eq0.false)) (given-on (as-roomy (sym (one_less c.if-depth-eq0.false)) c.requires.search_room) (drop c.args.at c.args.table.now) c.inference_at-j.result c.inference_at-j.ensures (found_below c.inference_at-j.ensures c.inference_count.ensures c.if-j-inference_count.false) c.infer.ensures.derives (c.infer.ensures.made (not-false _ c.if-not-infer.false)) (rest-cut c.args.table.now c.args.at c.args.n c.inference_at-j.result c.inference_bytes-size.ensures) c.after-found.ensures (omega (arith, c.requires.depth_bound.0)) c.is_none_left.ensures c.if-is_none_left.true (as-deep (c.inference_at-j.result + 1) (one_less c.if-depth-eq0.false) c.seek.ensures))
+after-returns-then-is_none_left t c = as-deep-after (drop c.args.at c.args.table.now) (sym (one_less c.if-depth-eq0.false)) (given-on (as-roomy (sym (one_less c.if-depth-eq0.false)) c.requires.search_room) (drop c.args.at c.args.table.now) c.inference_at-j.result c.inference_at-j.ensures (found_below c.inference_at-j.ensures c.inference_count.ensures c.if-j-inference_count.false) c.infer.ensures.derives (c.infer.ensures.made c.if-not-infer.false) (rest-cut c.args.table.now c.args.at c.args.n c.inference_at-j.result c.inference_bytes-size.ensures) c.after-found.ensures (omega (arith, c.requires.depth_bound.0)) c.is_none_left.ensures c.if-is_none_left.true (as-deep (c.inference_at-j.result + 1) (one_less c.if-depth-eq0.false) c.seek.ensures))
 
 pub after-returns : goal.after-returns
-after-returns t c = as-deep-after (drop c.args.at c.args.table.now) (sym (one_less c.if-depth-eq0.false)) (given-found (as-roomy (sym (one_less c.if-depth-eq0.false)) c.requires.search_room) (drop c.args.at c.args.table.now) c.inference_at-j.result c.inference_at-j.ensures (found_below c.inference_at-j.ensures c.inference_count.ensures c.if-j-inference_count.false) c.infer.ensures.derives (c.infer.ensures.made (not-false _ c.if-not-infer.false)) (rest-cut c.args.table.now c.args.at c.args.n c.inference_at-j.result c.inference_bytes-size.ensures) c.after-found.ensures (omega (arith, c.requires.depth_bound.0)) c.is_none_left.ensures c.if-is_none_left.false c.with_first.ensures)
+after-returns t c = as-deep-after (drop c.args.at c.args.table.now) (sym (one_less c.if-depth-eq0.false)) (given-found (as-roomy (sym (one_less c.if-depth-eq0.false)) c.requires.search_room) (drop c.args.at c.args.table.now) c.inference_at-j.result c.inference_at-j.ensures (found_below c.inference_at-j.ensures c.inference_count.ensures c.if-j-inference_count.false) c.infer.ensures.derives (c.infer.ensures.made c.if-not-infer.false) (rest-cut c.args.table.now c.args.at c.args.n c.inference_at-j.result c.inference_bytes-size.ensures) c.after-found.ensures (omega (arith, c.requires.depth_bound.0)) c.is_none_left.ensures c.if-is_none_left.false c.with_first.ensures)

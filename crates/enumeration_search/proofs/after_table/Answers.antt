@@ -1,6 +1,5 @@
 -- `enumeration_search::after_table` meets its contract. Assumes nothing.
 use native.Mathlib.Omega.{arith}
-use borrow.Author.Tests.{not-true, not-false}
 use Rattle.enumeration_rows.proofs.Inferred.{roomy-kept}
 use Rattle.enumeration_search.proofs.Depths.{follow-start, follow-ended, follow-found, follow-on}
 use Rattle.enumeration_search.proofs.after_table.Goals as goal
@@ -18,7 +17,7 @@ pub shape_of-kinds-then-not-is_not_among : goal.shape_of-kinds-then-not-is_not_a
 shape_of-kinds-then-not-is_not_among c = omega (arith, c.loop-d.invariant.kept.kinds_length, c.after_depth-found.ensures.kept.kinds_length)
 
 pub returns-then-not-is_not_among : goal.returns-then-not-is_not_among
-returns-then-not-is_not_among c = follow-found c.loop-d.invariant c.loop-d-test.true c.after_depth-found.ensures c.is_not_among.ensures (not-true _ c.if-not-is_not_among.true)
+returns-then-not-is_not_among c = follow-found c.loop-d.invariant c.loop-d-test.true c.after_depth-found.ensures c.is_not_among.ensures c.if-not-is_not_among.true
 
 pub overflow_add-d : goal.overflow_add-d
 overflow_add-d c = omega (arith, c.loop-d-test.true)
@@ -27,7 +26,7 @@ pub loop-d-smaller : goal.loop-d-smaller
 loop-d-smaller c = omega (arith, c.loop-d-test.true)
 
 pub loop-d-preserved : goal.loop-d-preserved
-loop-d-preserved c = follow-on c.loop-d.invariant c.loop-d-test.true c.after_depth-found.ensures c.is_not_among.ensures (not-false _ c.if-not-is_not_among.false)
+loop-d-preserved c = follow-on c.loop-d.invariant c.loop-d-test.true c.after_depth-found.ensures c.is_not_among.ensures c.if-not-is_not_among.false
 
 pub shape_of-lines : goal.shape_of-lines
 shape_of-lines c = omega (arith, c.loop-d.invariant.kept.lines_length)

@@ -1,6 +1,5 @@
 -- `enumeration_search::first_from` meets its contract. Assumes nothing.
 use native.Mathlib.Omega.{arith}
-use borrow.Author.Tests.{not-true, not-false}
 use Rattle.enumeration_rows.proofs.Inferred.{roomy-less, roomy-kept}
 use Rattle.enumeration_search.proofs.Depths.{first-start, first_ended, first_found_lem, first_on}
 use Rattle.enumeration_search.proofs.first_from.Goals as goal
@@ -18,7 +17,7 @@ pub shape_of-kinds-then-not-is_none_left : goal.shape_of-kinds-then-not-is_none_
 shape_of-kinds-then-not-is_none_left c = omega (arith, c.loop-d.invariant.kept.kinds_length, c.seek-found.ensures.kept.kinds_length)
 
 pub returns-then-not-is_none_left : goal.returns-then-not-is_none_left
-returns-then-not-is_none_left c = first_found_lem c.loop-d.invariant c.requires.search_room.few c.loop-d-test.true c.seek-found.ensures c.is_none_left.ensures (not-true _ c.if-not-is_none_left.true)
+returns-then-not-is_none_left c = first_found_lem c.loop-d.invariant c.requires.search_room.few c.loop-d-test.true c.seek-found.ensures c.is_none_left.ensures c.if-not-is_none_left.true
 
 pub overflow_add-d : goal.overflow_add-d
 overflow_add-d c = omega (arith, c.loop-d-test.true)
@@ -27,7 +26,7 @@ pub loop-d-smaller : goal.loop-d-smaller
 loop-d-smaller c = omega (arith, c.loop-d-test.true)
 
 pub loop-d-preserved : goal.loop-d-preserved
-loop-d-preserved c = first_on c.loop-d.invariant c.requires.search_room.few c.loop-d-test.true c.seek-found.ensures c.is_none_left.ensures (not-false _ c.if-not-is_none_left.false)
+loop-d-preserved c = first_on c.loop-d.invariant c.requires.search_room.few c.loop-d-test.true c.seek-found.ensures c.is_none_left.ensures c.if-not-is_none_left.false
 
 pub shape_of-lines : goal.shape_of-lines
 shape_of-lines c = omega (arith, c.loop-d.invariant.kept.lines_length)

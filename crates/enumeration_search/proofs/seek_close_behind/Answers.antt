@@ -1,6 +1,5 @@
 -- `enumeration_search::seek_close_behind` meets its contract. Assumes nothing.
 use native.Mathlib.Omega.{arith}
-use borrow.Author.Tests.{not-false}
 use Rattle.enumeration_search.proofs.NewCloses.{own-number, own-strides}
 use Rattle.enumeration_search.proofs.seek_close_behind.Goals as goal
 
@@ -20,7 +19,7 @@ pub holds-requires : goal.holds-requires
 holds-requires c = record { search_room = c.requires.search_room; c_bound = omega arith }
 
 pub returns-then-holds : goal.returns-then-holds
-returns-then-holds c = own-number c.requires.unclosed c.holds.ensures (not-false _ c.if-not-unclosed.false) c.if-holds.true
+returns-then-holds c = own-number c.requires.unclosed c.holds.ensures c.if-not-unclosed.false c.if-holds.true
 
 pub overflow_add-n-3 : goal.overflow_add-n-3
 overflow_add-n-3 c = omega (arith, c.requires.search_room.few)
@@ -35,4 +34,4 @@ pub seek_close-requires-2 : goal.seek_close-requires-2
 seek_close-requires-2 c = c.requires.search_room
 
 pub returns : goal.returns
-returns c = own-strides c.requires.unclosed c.holds.ensures (not-false _ c.if-not-unclosed.false) c.if-holds.false c.seek_close-2.ensures
+returns c = own-strides c.requires.unclosed c.holds.ensures c.if-not-unclosed.false c.if-holds.false c.seek_close-2.ensures

@@ -1,6 +1,5 @@
 -- `enumeration_rows::close::after_close` meets its contract. Assumes nothing.
 use native.Mathlib.Omega.{arith}
-use borrow.Author.Tests.{not-true, not-false}
 use Rattle.enumeration_rows.proofs.Closes.{no-close, open-close, next-close, close-below}
 use Rattle.enumeration_rows.proofs.close.after_close.Goals as goal
 
@@ -17,7 +16,7 @@ pub holds-requires : goal.holds-requires
 holds-requires c = record { search_room = c.requires.search_room; c_bound = (close-below c.close_at-c.ensures c.close_count.ensures c.if-c-close_count.false) }
 
 pub returns-then-not-holds : goal.returns-then-not-holds
-returns-then-not-holds c = open-close (omega (arith, c.requires.search_room.few)) c.close_at-c.ensures (close-below c.close_at-c.ensures c.close_count.ensures c.if-c-close_count.false) c.holds.ensures (not-true _ c.if-not-holds.true)
+returns-then-not-holds c = open-close (omega (arith, c.requires.search_room.few)) c.close_at-c.ensures (close-below c.close_at-c.ensures c.close_count.ensures c.if-c-close_count.false) c.holds.ensures c.if-not-holds.true
 
 pub overflow_add-c : goal.overflow_add-c
 overflow_add-c c = omega (arith, (close-below c.close_at-c.ensures c.close_count.ensures c.if-c-close_count.false), c.requires.search_room.few)
@@ -26,4 +25,4 @@ pub seek_close-requires : goal.seek_close-requires
 seek_close-requires c = c.requires.search_room
 
 pub returns : goal.returns
-returns c = next-close (omega (arith, c.requires.search_room.few)) c.close_at-c.ensures (close-below c.close_at-c.ensures c.close_count.ensures c.if-c-close_count.false) c.holds.ensures (not-false _ c.if-not-holds.false) c.seek_close.ensures
+returns c = next-close (omega (arith, c.requires.search_room.few)) c.close_at-c.ensures (close-below c.close_at-c.ensures c.close_count.ensures c.if-c-close_count.false) c.holds.ensures c.if-not-holds.false c.seek_close.ensures

@@ -12,7 +12,7 @@ pub whole_at-stride_whole-requires : goal.whole_at-stride_whole-requires
 whole_at-stride_whole-requires t c = omega (arith, (stride-whole (starts c.next_field.ensures c.in-Field.is) _ c.node_of.ensures c.in-Stride.is).upto)
 
 pub whole_at-parts_whole-requires : goal.whole_at-parts_whole-requires
-whole_at-parts_whole-requires t c = (omega (arith, starts-less {s = c.args.s.now} (starts c.next_field.ensures c.in-Field.is)), c.requires)
+whole_at-parts_whole-requires t c = (omega (arith, c.decreases, starts-less {s = c.args.s.now} (starts c.next_field.ensures c.in-Field.is)), c.requires)
 
 pub whole_at-returns-in-Ends : goal.whole_at-returns-in-Ends
 whole_at-returns-in-Ends t c = at_end _ _ c.next_field.ensures c.in-Ends.is
@@ -36,10 +36,10 @@ pub parts_whole-returns-then-levels-eq0 : goal.parts_whole-returns-then-levels-e
 parts_whole-returns-then-levels-eq0 t c = parts_none _ _ _ c.if-levels-eq0.true
 
 pub parts_whole-whole_at-requires : goal.parts_whole-whole_at-requires
-parts_whole-whole_at-requires t c = (omega arith, c.requires)
+parts_whole-whole_at-requires t c = (omega (arith, c.decreases), c.requires)
 
 pub parts_whole-whole_at-requires-in-Whole : goal.parts_whole-whole_at-requires-in-Whole
-parts_whole-whole_at-requires-in-Whole t c = (omega (arith, whole-on _ _ c.whole_at.ensures c.in-Whole.is), c.requires)
+parts_whole-whole_at-requires-in-Whole t c = (omega (arith, c.decreases, whole-on _ _ c.whole_at.ensures c.in-Whole.is), c.requires)
 
 pub parts_whole-returns-in-Fault : goal.parts_whole-returns-in-Fault
 parts_whole-returns-in-Fault t c = first-fault _ _ _ c.if-levels-eq0.false c.whole_at.ensures c.in-Fault.is

@@ -24,7 +24,7 @@ formula_at-stride_at-requires t c = record {
 }
 
 pub formula_at-pair_at-requires : goal.formula_at-pair_at-requires
-formula_at-pair_at-requires t c = (omega (arith, starts-less {s = c.args.s.now} (starts c.next_field.ensures c.in-Field.is)), (parts-place (starts c.next_field.ensures c.in-Field.is) c.requires, (starts c.next_field.ensures c.in-Field.is).upto))
+formula_at-pair_at-requires t c = (omega (arith, c.decreases, starts-less {s = c.args.s.now} (starts c.next_field.ensures c.in-Field.is)), (parts-place (starts c.next_field.ensures c.in-Field.is) c.requires, (starts c.next_field.ensures c.in-Field.is).upto))
 
 pub formula_at-returns-in-Ends : goal.formula_at-returns-in-Ends
 formula_at-returns-in-Ends t c = at_end _ _ c.next_field.ensures c.in-Ends.is
@@ -51,13 +51,13 @@ pub pair_at-put_open-a-requires : goal.pair_at-put_open-a-requires
 pair_at-put_open-a-requires t c = omega (arith, c.requires.0.file, c.requires.0.paid, c.requires.1)
 
 pub pair_at-formula_at-requires : goal.pair_at-formula_at-requires
-pair_at-formula_at-requires t c = (omega arith, record { file = c.requires.0.file; constants = c.requires.0.constants; paid = omega (arith, c.requires.0.paid, c.put_open-a.ensures.o_is, c.put_open-a.ensures.few) })
+pair_at-formula_at-requires t c = (omega (arith, c.decreases), record { file = c.requires.0.file; constants = c.requires.0.constants; paid = omega (arith, c.requires.0.paid, c.put_open-a.ensures.o_is, c.put_open-a.ensures.few) })
 
 pub pair_at-put_between-c-requires : goal.pair_at-put_between-c-requires
 pair_at-put_between-c-requires t c = omega (arith, c.requires.0.file, c.requires.0.paid, c.requires.1, c.put_open-a.ensures.o_is, c.put_open-a.ensures.few, text-on _ _ c.formula_at.ensures c.in-Text.is, text-upto _ _ c.formula_at.ensures c.in-Text.is, text-few _ _ c.formula_at.ensures c.in-Text.is)
 
 pub pair_at-formula_at-requires-in-Text : goal.pair_at-formula_at-requires-in-Text
-pair_at-formula_at-requires-in-Text t c = (omega (arith, text-on _ _ c.formula_at.ensures c.in-Text.is), record { file = c.requires.0.file; constants = c.requires.0.constants; paid = omega (arith, c.requires.0.file, c.requires.0.paid, c.requires.1, c.put_open-a.ensures.o_is, c.put_open-a.ensures.few, text-on _ _ c.formula_at.ensures c.in-Text.is, text-upto _ _ c.formula_at.ensures c.in-Text.is, text-few _ _ c.formula_at.ensures c.in-Text.is, c.put_between-c.ensures.o_is, c.put_between-c.ensures.few) })
+pair_at-formula_at-requires-in-Text t c = (omega (arith, c.decreases, text-on _ _ c.formula_at.ensures c.in-Text.is), record { file = c.requires.0.file; constants = c.requires.0.constants; paid = omega (arith, c.requires.0.file, c.requires.0.paid, c.requires.1, c.put_open-a.ensures.o_is, c.put_open-a.ensures.few, text-on _ _ c.formula_at.ensures c.in-Text.is, text-upto _ _ c.formula_at.ensures c.in-Text.is, text-few _ _ c.formula_at.ensures c.in-Text.is, c.put_between-c.ensures.o_is, c.put_between-c.ensures.few) })
 
 pub pair_at-put_close-requires : goal.pair_at-put_close-requires
 pair_at-put_close-requires t c = omega (arith, c.requires.0.file, c.requires.0.paid, c.requires.1, c.put_open-a.ensures.o_is, c.put_open-a.ensures.few, text-on _ _ c.formula_at.ensures c.in-Text.is, text-upto _ _ c.formula_at.ensures c.in-Text.is, text-few _ _ c.formula_at.ensures c.in-Text.is, c.put_between-c.ensures.o_is, c.put_between-c.ensures.few, text-on _ _ c.formula_at-in-Text.ensures c.in-Text-formula_at.is, text-upto _ _ c.formula_at-in-Text.ensures c.in-Text-formula_at.is, text-few _ _ c.formula_at-in-Text.ensures c.in-Text-formula_at.is)

@@ -12,7 +12,7 @@ pub returns-then-g-lt2 : goal.returns-then-g-lt2
 returns-then-g-lt2 c = stride-refused _ _ c.args.start _ _ (record { sfits = c.signed_at-g.type_inv }) c.signed_at-g.ensures.is c.if-g-lt2.true
 
 pub put_stride-end-requires : goal.put_stride-end-requires
-put_stride-end-requires c = (c.requires.whole.0, (c.requires.k_le_constants, (stride-divisor (record { sfits = c.signed_at-g.type_inv }) c.signed_at-g.ensures.range c.if-g-lt2.false, c.requires.o_bound)))
+put_stride-end-requires c = record { whole = c.requires.whole.0; k_le_constants = c.requires.k_le_constants; divisor = stride-divisor (record { sfits = c.signed_at-g.type_inv }) c.signed_at-g.ensures.range c.if-g-lt2.false; o_bound = c.requires.o_bound }
 
 pub returns : goal.returns
 returns c = stride-put c.args.wording _ c.args.start _ _ (record { sfits = c.signed_at-g.type_inv }) c.signed_at-g.ensures.is c.if-g-lt2.false c.requires.whole.1 c.put_stride-end.ensures

@@ -2,7 +2,6 @@
 use mathlib.Core.Path.{refl, sym, ◌∙◌}
 use mathlib.Core.Logic.{inr}
 use native.Mathlib.Omega.{arith}
-use borrow.Author.Tests.{not-true, not-false}
 use Rattle.printing_formula.proofs.Forms.{coeffs-long, coefficient, skip-start, skip-on, skip-here, skip-end, read-zero, read-nonzero}
 use Rattle.printing_formula.proofs.terms.first_nonzero.Goals as goal
 
@@ -19,7 +18,7 @@ pub signed_at-c-requires : goal.signed_at-c-requires
 signed_at-c-requires c = record { fact = inr refl; width_in_bounds = omega arith }
 
 pub returns-then-not-is_zero : goal.returns-then-not-is_zero
-returns-then-not-is_zero c = skip-here c.loop-i.invariant (omega (arith, coeffs-long c.args.s.now c.args.at c.args.k)) (read-nonzero (record { sfits = c.signed_at-c.type_inv }) (c.signed_at-c.ensures.is ∙ sym (coefficient _ _ _ c.loop-i.i c.loop-i-test.true)) c.is_zero.ensures (not-true _ c.if-not-is_zero.true))
+returns-then-not-is_zero c = skip-here c.loop-i.invariant (omega (arith, coeffs-long c.args.s.now c.args.at c.args.k)) (read-nonzero (record { sfits = c.signed_at-c.type_inv }) (c.signed_at-c.ensures.is ∙ sym (coefficient _ _ _ c.loop-i.i c.loop-i-test.true)) c.is_zero.ensures c.if-not-is_zero.true)
 
 pub overflow_add-i : goal.overflow_add-i
 overflow_add-i c = omega arith
@@ -28,7 +27,7 @@ pub loop-i-smaller : goal.loop-i-smaller
 loop-i-smaller c = omega arith
 
 pub loop-i-preserved : goal.loop-i-preserved
-loop-i-preserved c = skip-on c.loop-i.invariant (omega (arith, coeffs-long c.args.s.now c.args.at c.args.k)) (read-zero (record { sfits = c.signed_at-c.type_inv }) (c.signed_at-c.ensures.is ∙ sym (coefficient _ _ _ c.loop-i.i c.loop-i-test.true)) c.is_zero.ensures (not-false _ c.if-not-is_zero.false))
+loop-i-preserved c = skip-on c.loop-i.invariant (omega (arith, coeffs-long c.args.s.now c.args.at c.args.k)) (read-zero (record { sfits = c.signed_at-c.type_inv }) (c.signed_at-c.ensures.is ∙ sym (coefficient _ _ _ c.loop-i.i c.loop-i-test.true)) c.is_zero.ensures c.if-not-is_zero.false)
 
 pub returns : goal.returns
 returns c = skip-end c.loop-i.invariant (omega (arith, coeffs-long c.args.s.now c.args.at c.args.k))

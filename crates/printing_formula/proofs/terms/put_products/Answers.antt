@@ -16,7 +16,7 @@ pub overflow_add-at : goal.overflow_add-at
 overflow_add-at c = omega arith
 
 pub put_product-end-requires : goal.put_product-end-requires
-put_product-end-requires c = (omega arith, (omega arith, omega (arith, c.loop-i.invariant.far)))
+put_product-end-requires c = record { term_width_in_bounds = omega arith; i_lt_constants = omega arith; o_bound = omega (arith, c.loop-i.invariant.far) }
 
 pub overflow_add-i : goal.overflow_add-i
 overflow_add-i c = omega arith

@@ -17,7 +17,7 @@ pub signed_at-c-requires : goal.signed_at-c-requires
 signed_at-c-requires c = record { fact = inr refl; width_in_bounds = omega arith }
 
 pub put_scaled-a-requires : goal.put_scaled-a-requires
-put_scaled-a-requires c = (omega arith, (held_back (record { sfits = c.signed_at-c.type_inv }) c.signed_at-c.ensures.range, omega arith))
+put_scaled-a-requires c = record { o_bound = omega arith; held = held_back (record { sfits = c.signed_at-c.type_inv }) c.signed_at-c.ensures.range; i_lt_constants = omega arith }
 
 pub returns : goal.returns
 returns c = puts-is (puts_then (puts_then c.put_scaled-a.ensures c.put_summands-b.ensures) c.put_constant.ensures) (line-sum _ c.first_nonzero-f.ensures (record { sfits = c.signed_at-d.type_inv }) (c.signed_at-d.ensures.is ∙ sym (constant c.args.s.now c.args.at c.args.k)) (omega (arith, coeffs-long c.args.s.now c.args.at c.args.k)) (record { sfits = c.signed_at-c.type_inv }) (c.signed_at-c.ensures.is ∙ sym (coefficient c.args.s.now c.args.at c.args.k _ (omega arith)))) (omega arith)
