@@ -21,7 +21,6 @@ use Rattle.lines.specs.Buffer.{size, line_in}
 use Rattle.lines.proofs.Lines.{line-at, line-past, before}
 use Rattle.lines.specs.Ready.{KindRead, Ready}
 use Rattle.lines.proofs.KindBytes.{kind-plain}
-use Rattle.lines.proofs.Tests.{unnot}
 use Rattle.tally.specs.declared.Tally.{Tally}
 use Rattle.closes.specs.Closing.{ByNumber}
 use Rattle.closes.specs.declared.closing.Test.TheVariants.{Refused, Passed}

@@ -18,7 +18,7 @@ use Rattle.proof.specs.Rows.{is, line_at, by_stride}
 use Rattle.lines.specs.Parts.{part}
 use Rattle.lines.specs.Buffer.{size, line_in}
 use Rattle.lines.proofs.Lines.{line-at, line-past}
-use Rattle.lines.proofs.Tests.{unnot, zero-abs, some-abs}
+use Rattle.lines.proofs.Tests.{zero-abs, some-abs}
 use Rattle.tally.specs.declared.Tally.{Tally}
 use Rattle.entries.specs.Entries.{Multiplies}
 use Rattle.closes.specs.Striding.{ByStride}

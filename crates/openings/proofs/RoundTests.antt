@@ -15,7 +15,6 @@ use Rattle.proof.specs.Rows.{is, line_at, inequality, roundable, undivided}
 use Rattle.lines.specs.Parts.{part}
 use Rattle.lines.specs.Buffer.{size, line_in}
 use Rattle.lines.proofs.Lines.{line-at, line-past}
-use Rattle.lines.proofs.Tests.{unnot}
 use Rattle.tally.specs.declared.Tally.{Tally}
 use Rattle.closes.specs.declared.closing.Test.TheVariants.{Refused, Passed}
 use Rattle.openings.specs.Opening.{Roundable}

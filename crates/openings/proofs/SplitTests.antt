@@ -25,7 +25,6 @@ use Rattle.lines.proofs.Starting.{plus_none}
 use Rattle.lines.proofs.Negating.{tested-neg}
 use Rattle.lines.specs.Ready.{KindRead, Ready, LinesKept}
 use Rattle.lines.proofs.Keeping.{kept_refl, ready-kept}
-use Rattle.lines.proofs.Tests.{unnot}
 use Rattle.lines.proofs.KindBytes.{apart-A, apart-B, kind-unowned}
 use Rattle.tally.specs.declared.Tally.{Tally}
 use Rattle.rows.specs.declared.derive.Derived.{Derived}

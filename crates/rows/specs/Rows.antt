@@ -11,7 +11,7 @@ use Rattle.proof.specs.Rows.{derived, fitting}
 use Rattle.proof.specs.Check.{Closing}
 use Rattle.lines.specs.Buffer.{line_in, lines_in}
 use Rattle.lines.specs.Ready.{Limited, LinesKept}
-use Rattle.tally.specs.Tally.{tally, more_lines}
+use Rattle.tally.specs.Tally.{more_lines}
 use Rattle.tally.specs.declared.Tally.{Tally}
 use Rattle.rows.specs.declared.derive.Derived.{Derived}
 use Rattle.rows.specs.declared.derive.Derived.TheVariants.{Refused, Made}

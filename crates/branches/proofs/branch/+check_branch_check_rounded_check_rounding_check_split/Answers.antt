@@ -8,7 +8,6 @@ use borrow.Author.Tests.{ltb-true, ltb-false}
 use mir.ValLaws.{to_z-of_z}
 use Rattle.integers.proofs.Magnitude.{within-fits}
 use Rattle.forms.specs.Forms.{◌or◌}
-use Rattle.lines.proofs.Tests.{unnot}
 use Rattle.openings.specs.Opening.{last_two, from_branch}
 use Rattle.branches.proofs.Spare.{one_less, next-falls, own-falls, others-fall, turn-falls}
 use Rattle.branches.proofs.BranchStops.{started-room, stopped-fault, comes-ready, number-comes, stride-comes, strengthen-comes, round-comes, split-comes, number-closed, stride-closed, opens-refused}

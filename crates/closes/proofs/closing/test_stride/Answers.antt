@@ -5,7 +5,7 @@ use lib.IntN.{nat_abs}
 use mir.Syntax.{w64}
 use mir.ValLaws.{to_z-of_z}
 use Rattle.lines.proofs.KindBytes.{kind-=, kind-not-=}
-use Rattle.lines.proofs.Tests.{is_below, past, unnot}
+use Rattle.lines.proofs.Tests.{is_below, past}
 use Rattle.closes.proofs.NumberTests.{line-end, line_low}
 use Rattle.closes.proofs.StrideTests.{at-least-two, stride-none, stride-kind, stride-small, stride-coeffs, stride-d, stride-passed}
 use Rattle.closes.proofs.closing.test_stride.Goals as goal

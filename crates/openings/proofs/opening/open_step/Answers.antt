@@ -2,7 +2,6 @@
 use native.Mathlib.Omega.{arith}
 use Rattle.forms.proofs.Editions.{lines-most}
 use Rattle.lines.proofs.Lines.{before, bounded-less}
-use Rattle.lines.proofs.Tests.{unnot}
 use Rattle.tally.proofs.Counted.{counted-open, full-open}
 use Rattle.openings.proofs.Opens.{counted-both, full-both, open_none, open_full, open-range, open-start, open_made}
 use Rattle.openings.proofs.opening.open_step.Goals as goal

@@ -7,7 +7,7 @@ use mir.ValLaws.{to_z-of_z}
 use Rattle.forms.proofs.Editions.{lines-most}
 use Rattle.lines.proofs.Lines.{before}
 use Rattle.lines.proofs.KindBytes.{kind-≤, kind-not-≤}
-use Rattle.lines.proofs.Tests.{is_below, past, unnot}
+use Rattle.lines.proofs.Tests.{is_below, past}
 use Rattle.closes.proofs.NumberTests.{line-end}
 use Rattle.closes.proofs.StrideTests.{at-least-two}
 use Rattle.openings.proofs.RoundTests.{round-none, round-kind, round-small, round-least, round-most, round-coeffs, round-d, round-passed}

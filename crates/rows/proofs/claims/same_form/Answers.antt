@@ -2,7 +2,6 @@
 use mathlib.Core.Path.{refl}
 use mathlib.Core.Logic.{inr}
 use native.Mathlib.Omega.{arith}
-use Rattle.lines.proofs.Tests.{unnot}
 use Rattle.rows.proofs.Claiming.{claim-start, claim-on, claim-off, claim-end}
 use Rattle.rows.proofs.claims.same_form.Goals as goal
 

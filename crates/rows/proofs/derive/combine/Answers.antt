@@ -54,7 +54,7 @@ append-requires c =
     let a = c.args in
     let fa = c.ranges.alpha in
     let fb = c.ranges.beta in
-    simp to_z-of_z (c.requires.ready, record { plain = omega arith; f_in = c.requires.multiplies.0.within; first = (is_below a.s.0 a.tally.lines.0 c.is_there.ensures c.if-not-is_there.false); g_in = c.requires.multiplies.1.within; second = (is_below a.t.0 a.tally.lines.0 c.is_there-2.ensures c.if-not-is_there-2.false) })
+    simp to_z-of_z (record { ready = c.requires.ready; operands = record { plain = omega arith; f_in = c.requires.multiplies.0.within; first = (is_below a.s.0 a.tally.lines.0 c.is_there.ensures c.if-not-is_there.false); g_in = c.requires.multiplies.1.within; second = (is_below a.t.0 a.tally.lines.0 c.is_there-2.ensures c.if-not-is_there-2.false) } })
 
 pub returns : goal.returns
 returns c =

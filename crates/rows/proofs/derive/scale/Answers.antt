@@ -31,7 +31,7 @@ pub append-requires : goal.append-requires
 append-requires c =
     let a = c.args in
     let fa = c.ranges.alpha in
-    simp to_z-of_z (c.requires.ready, record { plain = omega (arith, c.if-kind-gt-EQUALITY.false); f_in = c.requires.multiplies.within; first = (is_below a.t.0 a.tally.lines.0 c.is_there.ensures c.if-not-is_there.false); g_in = record { abs = omega arith }; second = (is_below a.t.0 a.tally.lines.0 c.is_there.ensures c.if-not-is_there.false) })
+    simp to_z-of_z (record { ready = c.requires.ready; operands = record { plain = omega (arith, c.if-kind-gt-EQUALITY.false); f_in = c.requires.multiplies.within; first = (is_below a.t.0 a.tally.lines.0 c.is_there.ensures c.if-not-is_there.false); g_in = record { abs = omega arith }; second = (is_below a.t.0 a.tally.lines.0 c.is_there.ensures c.if-not-is_there.false) } })
 
 pub returns : goal.returns
 returns c =
