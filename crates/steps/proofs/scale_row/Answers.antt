@@ -9,7 +9,7 @@ scale-requires c =
     let a = c.args in
     let f0 = c.ranges.alpha in
     let h = counted-row c.row_counted-counted.ensures c.if-made.true in
-    simp to_z-of_z (rw h.1 c.requires.ready, c.requires.multiplies)
+    simp to_z-of_z (record { ready = rw h.1 c.requires.ready; multiplies = c.requires.multiplies })
 
 pub returns-in-Refused : goal.returns-in-Refused
 returns-in-Refused c =

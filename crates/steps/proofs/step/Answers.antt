@@ -14,7 +14,7 @@ combine_row-requires c =
     let e = rw c.in-Combine.is at c.entry_at-entry.ensures in
     let f0 = within-fits e.ranged.0.within tt in
     let f1 = within-fits e.ranged.1.within tt in
-    simp to_z-of_z (c.requires.ready, e.ranged)
+    simp to_z-of_z (record { ready = c.requires.ready; multiplies = e.ranged })
 
 pub returns-in-Combine : goal.returns-in-Combine
 returns-in-Combine c =
@@ -29,7 +29,7 @@ reduce_row-requires c =
     let a = c.args in
     let e = rw c.in-Reduce.is at c.entry_at-entry.ensures in
     let f0 = within-fits e.ranged tt in
-    simp to_z-of_z (c.requires.ready, e.ranged)
+    simp to_z-of_z (record { ready = c.requires.ready; within = e.ranged })
 
 pub returns-in-Reduce : goal.returns-in-Reduce
 returns-in-Reduce c =
@@ -43,7 +43,7 @@ scale_row-requires c =
     let a = c.args in
     let e = rw c.in-Scale.is at c.entry_at-entry.ensures in
     let f0 = within-fits e.ranged.within tt in
-    simp to_z-of_z (c.requires.ready, e.ranged)
+    simp to_z-of_z (record { ready = c.requires.ready; multiplies = e.ranged })
 
 pub returns-in-Scale : goal.returns-in-Scale
 returns-in-Scale c =

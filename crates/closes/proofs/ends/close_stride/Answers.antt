@@ -6,7 +6,7 @@ use Rattle.closes.proofs.Ending.{stride-there, stride-two, stride-refused, strid
 use Rattle.closes.proofs.ends.close_stride.Goals as goal
 
 pub test_stride-requires : goal.test_stride-requires
-test_stride-requires c = let fg = c.ranges.g in simp to_z-of_z (c.requires.ready, c.requires.multiplies)
+test_stride-requires c = let fg = c.ranges.g in simp to_z-of_z (record { ready = c.requires.ready; multiplies = c.requires.multiplies })
 
 pub returns-in-Refused : goal.returns-in-Refused
 returns-in-Refused c = let fg = c.ranges.g in stride-refused c.args.o c.args.scratch.now (simp to_z-of_z at c.test_stride.ensures) c.in-Refused.is
