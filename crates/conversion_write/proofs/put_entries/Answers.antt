@@ -14,7 +14,7 @@ pub loop-tag-init : goal.loop-tag-init
 loop-tag-init c = (refl, c.requires.lines_there, c.requires.at_in_bounds, refl)
 
 pub put_entry-requires : goal.put_entry-requires
-put_entry-requires c = let k = starts c.next_field.ensures c.in-Field.is in (there-here c.args.e c.args.to k c.loop-tag.invariant.1, ((omega (arith, k.upto, k.next-is), len-most c.args.e c.args.to k c.requires.p_len_bound), room-step c.args.e c.args.to k c.loop-tag.out c.loop-tag.end c.loop-tag.invariant.2))
+put_entry-requires c = let k = starts c.next_field.ensures c.in-Field.is in record { e_bound = there-here c.args.e c.args.to k c.loop-tag.invariant.1; len_in_bounds = (omega (arith, k.upto, k.next-is), len-most c.args.e c.args.to k c.requires.p_len_bound); e_in_bounds = room-step c.args.e c.args.to k c.loop-tag.out c.loop-tag.end c.loop-tag.invariant.2 }
 
 pub turned_len-requires : goal.turned_len-requires
 turned_len-requires c = let k = starts c.next_field.ensures c.in-Field.is in record { e_bound = there-here c.args.e c.args.to k c.loop-tag.invariant.1; len_bound = len-most c.args.e c.args.to k c.requires.p_len_bound }

@@ -18,7 +18,7 @@ pub overflow_mul-wide : goal.overflow_mul-wide
 overflow_mul-wide c = record { fits = omega (arith, small_product c.line_count-n.result c.line_bytes-2.result c.line_count-n.ensures.most (bytes_most c.args.to c.line_bytes-2.result c.line_bytes-2.ensures)) }
 
 pub put_lines-requires : goal.put_lines-requires
-put_lines-requires c = (c.line_count-n.ensures.most, (entry-room c.args.e c.args.to c.args.tag c.args.start c.args.len c.args.o c.args.p.now c.args.out.now c.line_count-n.result c.line_count-n.ensures.is c.requires.e_bound c.requires.len_in_bounds.0, second-room c.args.out.now (c.args.tag ∷ unsigned_bytes 2 c.turned_len.result) c.args.o c.put_head.ensures (rw c.line_count-n.ensures.is (omega (arith, c.requires.e_in_bounds)))))
+put_lines-requires c = record { n_bound = c.line_count-n.ensures.most; e_in_bounds = entry-room c.args.e c.args.to c.args.tag c.args.start c.args.len c.args.o c.args.p.now c.args.out.now c.line_count-n.result c.line_count-n.ensures.is c.requires.e_bound c.requires.len_in_bounds.0; to_in_bounds = second-room c.args.out.now (c.args.tag ∷ unsigned_bytes 2 c.turned_len.result) c.args.o c.put_head.ensures (rw c.line_count-n.ensures.is (omega (arith, c.requires.e_in_bounds))) }
 
 pub overflow_add-start : goal.overflow_add-start
 overflow_add-start c = let h : c.args.start + c.line_count-n.result * c.line_bytes.result ≤ length c.args.p.now = rw c.line_bytes.ensures (entry-room c.args.e c.args.to c.args.tag c.args.start c.args.len c.args.o c.args.p.now c.args.out.now c.line_count-n.result c.line_count-n.ensures.is c.requires.e_bound c.requires.len_in_bounds.0) in search rules
