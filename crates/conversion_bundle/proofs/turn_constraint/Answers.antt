@@ -23,7 +23,7 @@ overflow_add-o c = omega (arith, c.requires.k_in_bounds)
 pub turn_run-requires : goal.turn_run-requires
 turn_run-requires c =
     let p = rw (eq-eqb c.args.to 1 c.if-to-eq1.true) at c.requires in
-    ((inr refl, inl refl), (p.0, (p.1.0, omega (arith, p.1.1, c.put_head.auto.0))))
+    record { fact = (inr refl, inl refl); from_in_bounds = p.to_in_bounds; s_value = p.s_value; width_in_bounds = omega (arith, p.k_in_bounds, c.put_head.auto.out) }
 
 pub returns-then-to-eq1 : goal.returns-then-to-eq1
 returns-then-to-eq1 c =
@@ -38,7 +38,7 @@ overflow_add-o-2 c = omega (arith, c.requires.k_in_bounds)
 pub turn_run-requires-2 : goal.turn_run-requires-2
 turn_run-requires-2 c =
     let p = rw (ne_eqb c.args.to 1 c.if-to-eq1.false) at c.requires in
-    ((inl refl, inr refl), (p.0, (p.1.0, omega (arith, p.1.1, c.put_head.auto.0))))
+    record { fact = (inl refl, inr refl); from_in_bounds = p.to_in_bounds; s_value = p.s_value; width_in_bounds = omega (arith, p.k_in_bounds, c.put_head.auto.out) }
 
 pub returns : goal.returns
 returns c =

@@ -48,7 +48,7 @@ overflow_add-here c = let k = left-took c.loop-n.invariant.left c.loop-n-test.tr
 pub turn_constraint-requires : goal.turn_constraint-requires
 turn_constraint-requires c =
     let k = took-starts (left-took c.loop-n.invariant.left c.loop-n-test.true) c.if-tag-lt128.true in
-    ((putting-turn c.loop-n.invariant k).bytes, (putting-held c.loop-n.invariant k, putting-room c.loop-n.invariant c.requires.k_in_bounds c.loop-n-test.true))
+    record { to_in_bounds = (putting-turn c.loop-n.invariant k).bytes; s_value = putting-held c.loop-n.invariant k; k_in_bounds = putting-room c.loop-n.invariant c.requires.k_in_bounds c.loop-n-test.true }
 
 pub overflow_add-here-then-tag-lt128 : goal.overflow_add-here-then-tag-lt128
 overflow_add-here-then-tag-lt128 c =

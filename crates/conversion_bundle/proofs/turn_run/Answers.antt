@@ -41,7 +41,7 @@ pub put_signed-requires : goal.put_signed-requires
 put_signed-requires c =
     let a = c.args in
     let e = to_z-of_z w64 c.signed_at-x.result (record { sfits = c.signed_at-x.type_inv }) ∙ c.signed_at-x.ensures.is in
-    (c.requires.fact.1, (omega (arith, part-before c.loop-i.i a.n a.width c.loop-i-test.true, c.requires.width_in_bounds, c.loop-i.invariant.2), rw e (run-held a.from a.s.now a.start c.loop-i.i a.n c.loop-i-test.true a.width c.loop-i.invariant.1).0))
+    record { fact = c.requires.fact.1; width_in_bounds = omega (arith, part-before c.loop-i.i a.n a.width c.loop-i-test.true, c.requires.width_in_bounds, c.loop-i.invariant.2); held = rw e (run-held a.from a.s.now a.start c.loop-i.i a.n c.loop-i-test.true a.width c.loop-i.invariant.1).0 }
 
 pub loop-i-preserved : goal.loop-i-preserved
 loop-i-preserved c =
@@ -51,7 +51,7 @@ loop-i-preserved c =
     let p : c.put_signed.new.out ≡ sets c.loop-i.out (a.o + c.loop-i.i * a.width) (signed_bytes a.width x) = c.put_signed.ensures ∙ rw e in (
       rw p (run-next a.from a.width a.s.now a.start c.loop-i.i a.n c.loop-i.out a.o c.loop-i-test.true ∙ c.loop-i.invariant.0),
       (run-held a.from a.s.now a.start c.loop-i.i a.n c.loop-i-test.true a.width c.loop-i.invariant.1).1,
-      c.put_signed.auto.0 ∙ c.loop-i.invariant.2,
+      c.put_signed.auto.out ∙ c.loop-i.invariant.2,
       omega (arith, c.loop-i-test.true),
     )
 

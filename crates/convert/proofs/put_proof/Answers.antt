@@ -13,7 +13,7 @@ pub returns-then-out-size : goal.returns-then-out-size
 returns-then-out-size c = output-short c.args.to c.args.file.now c.args.out.now c.args.at c.args.k c.args.e c.args.turned c.requires (omega (arith, c.if-size-gt-PROOF_BYTES.false)) c.if-out-size.true c.refused-then-out-size.ensures
 
 pub put_entries-requires : goal.put_entries-requires
-put_entries-requires c = (lines-stand c.args.to c.args.file.now c.args.out.now c.args.at c.args.k c.args.e c.args.turned c.requires.entered, (c.requires.entered.enter.short, put-fits c.args.to c.args.file.now c.args.out.now c.args.at c.args.k c.args.e c.args.turned c.requires (omega (arith, c.if-out-size.false)) c.put_header.ensures))
+put_entries-requires c = record { lines_there = lines-stand c.args.to c.args.file.now c.args.out.now c.args.at c.args.k c.args.e c.args.turned c.requires.entered; p_len_bound = c.requires.entered.enter.short; at_in_bounds = put-fits c.args.to c.args.file.now c.args.out.now c.args.at c.args.k c.args.e c.args.turned c.requires (omega (arith, c.if-out-size.false)) c.put_header.ensures }
 
 pub returns : goal.returns
 returns c = all-put c.args.to c.args.file.now c.args.out.now c.args.at c.args.k c.args.e c.args.turned c.requires (omega (arith, c.if-size-gt-PROOF_BYTES.false)) (omega (arith, c.if-out-size.false)) c.put_header.ensures c.put_entries.ensures c.acceptance.ensures

@@ -26,7 +26,7 @@ pub bounds-sizes-c : goal.bounds-sizes-c
 bounds-sizes-c c = files-slot c.requires.cut_asked c.requires.guards_fit c.loop-c.invariant c.loop-c-test.true
 
 pub overflow_add-o : goal.overflow_add-o
-overflow_add-o c = omega (arith, files-size c.requires.cut_asked c.requires.guards_fit c.loop-c.invariant c.loop-c-test.true c.write_guard-size.ensures, c.loop-c.invariant.out_length, c.before.before.before.before.before.before.before.before.before.before.before.before.before.before.before.before.before)
+overflow_add-o c = omega (arith, files-size c.requires.cut_asked c.requires.guards_fit c.loop-c.invariant c.loop-c-test.true c.write_guard-size.ensures, c.loop-c.invariant.out_length)
 
 pub overflow_add-c : goal.overflow_add-c
 overflow_add-c c = omega (arith, c.loop-c-test.true, c.requires.cut_asked.staged.most)

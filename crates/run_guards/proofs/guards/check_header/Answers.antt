@@ -3,7 +3,7 @@ use Rattle.run_cuts.proofs.Phases.{guards-refused, unheaded, begun}
 use Rattle.run_guards.proofs.guards.check_header.Goals as goal
 
 pub check_narrow-requires : goal.check_narrow-requires
-check_narrow-requires c = (c.requires, (begun c.requires c.read_header.ensures c.in-Header.is, c.if-e-eq1.true))
+check_narrow-requires c = record { stages_passed = c.requires; proof_begun = begun c.requires c.read_header.ensures c.in-Header.is; e_value = c.if-e-eq1.true }
 
 pub shape_of-out-then-e-eq1 : goal.shape_of-out-then-e-eq1
 shape_of-out-then-e-eq1 c = c.out-1.given
