@@ -6,7 +6,7 @@ use mathlib.Core.List.{List, [], ◌∷◌, ◌++◌}
 use Prim.Native.Nat.{ℕ, suc}
 use lib.Dec.{T}
 use lib.ListN.{length}
-use Rattle.forms.specs.Forms.{All, nil, cons}
+use Rattle.forms.specs.Forms.{All, cons}
 use Rattle.answers.specs.Answers.{answer, refused}
 use Rattle.answers.proofs.Results.{Gives, gives-refused, gives-accepted, bind, test, needs, fail}
 use Rattle.fields.specs.declared.FileKind.{FileKind}

@@ -9,7 +9,7 @@ use Rattle.number_bytes.specs.Numbers.{unsigneds, flat, form_from}
 use Rattle.fields.specs.declared.FileKind.{FileKind}
 use Rattle.fields.specs.Fields.{Fields, ends, cut, ◌▸◌, fields, field_bytes, Item, item}
 use Rattle.fields.specs.Header.{header_field, header, header_bytes}
-use Rattle.bundle.specs.Bundle.{Bundle, at_most, bundle}
+use Rattle.bundle.specs.Bundle.{at_most, bundle}
 use Rattle.bundle.specs.Read.{kinds_of, numbers_of}
 use Rattle.bundle.specs.Write.{constraints_bytes, holdable}
 use Rattle.proof.specs.Entries.{entry_tagged, line_count, renumbered, entry}

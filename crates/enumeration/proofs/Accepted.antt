@@ -3,12 +3,12 @@ use mathlib.Core.Path.{◌≡◌, refl, ap}
 use mathlib.Core.Bool.{Bool, true, false}
 use mathlib.Core.List.{List}
 use Prim.Native.Nat.{ℕ, ◌≤◌}
-use lib.Dec.{T, leb, le→leb}
+use lib.Dec.{T, le→leb}
 use lib.ListN.{length}
 use Rattle.forms.specs.Edition.{edition1, newest_edition}
 use Rattle.forms.specs.Forms.{Formula}
 use Rattle.answers.specs.declared.Answer.{Answer}
-use Rattle.answers.specs.Answers.{answer, acceptance, Result, refused, accepted, ◌>>=◌, fit, Written, written}
+use Rattle.answers.specs.Answers.{acceptance, Result, refused, accepted, ◌>>=◌, fit, Written, written}
 use Rattle.formula.specs.Formula.{formula_file}
 use Rattle.proof.specs.Check.{interpolant, check_by, check}
 use Rattle.proof.specs.Layout.{Certifies}

@@ -2,14 +2,14 @@
 use mathlib.Core.Path.{◌≡◌, refl, sym, ◌∙◌, ap, ap₂, subst}
 use mathlib.Core.Bool.{Bool, true, false}
 use mathlib.Core.List.{List, [], ◌∷◌, ◌++◌, map}
-use Prim.Native.Nat.{ℕ, zero, suc, ◌+◌, ◌<◌, ◌≤◌}
+use Prim.Native.Nat.{ℕ, zero, suc, ◌<◌, ◌≤◌}
 use native.Mathlib.Omega.{arith}
 use lib.ListN.{length, length-map}
 use lib.IntN.{ℤ}
 use Rattle.forms.specs.Edition.{Edition, edition1}
 use Rattle.forms.specs.Forms.{Form, All, nil, cons, Line, Formula}
 use Rattle.calculus.specs.Rules.{Nth, ◌▷◌, Room, New, combine, reduce, scale, Closed, derive, strengthen, round, split_eq, split_neq, number, stride, Rounded, last, more, Inference, Combine, Reduce, Scale, Row, Derive, Strengthen, Split, CloseNumber, CloseStride, Round, Entry, row, claim, inference, entries, entries_rounded, row_count, depth}
-use Rattle.calculus.proofs.Sides.{Side, A, B}
+use Rattle.calculus.proofs.Sides.{Side, B}
 use Rattle.calculus.proofs.Vocabulary.{WithinVocabulary, words-new}
 use Rattle.answers.specs.Answers.{root, Result, refused, accepted}
 use Rattle.answers.proofs.Results.{Gives, gives-accepted, bind, seq, binds, passes}

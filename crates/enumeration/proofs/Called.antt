@@ -10,7 +10,7 @@ use lib.Dec.{leb}
 use lib.ListN.{length, take, drop}
 use lib.Seq.{take_at}
 use Rattle.calculus.specs.Rules.{Row}
-use Rattle.answers.specs.Answers.{answer, acceptance, Result, accepted, Written, over, fit, written}
+use Rattle.answers.specs.Answers.{acceptance, Result, accepted, Written, over, fit, written}
 use Rattle.enumeration.specs.ShortProofs.{proof_file, ShortProof}
 use Rattle.enumeration.specs.Sequence.{short_proofs}
 use Rattle.enumeration.specs.Next.{next_file, next_proof, NextIs, follows, none_left, not_among}

@@ -6,7 +6,7 @@ use Prim.Native.Nat.{ℕ, ◌+◌}
 use borrow.Author.Tests.{leb-true, leb-false, le-leb, lt-leb}
 use lib.Dec.{leb}
 use lib.ListN.{length}
-use Rattle.forms.specs.Edition.{edition, newest_edition}
+use Rattle.forms.specs.Edition.{newest_edition}
 use Rattle.forms.specs.Forms.{Constraint, lines}
 use Rattle.calculus.specs.Rules.{Row}
 use Rattle.answers.specs.declared.Answer.{Answer}

@@ -14,7 +14,7 @@ use Rattle.calculus.specs.Rules.{Closed, Row, Derive, Strengthen, Split, CloseNu
 use Rattle.calculus.proofs.Sides.{Side}
 use Rattle.calculus.proofs.Vocabulary.{WithinVocabulary}
 use Rattle.calculus.proofs.Interpolation.{sides, initial-words}
-use Rattle.answers.specs.Answers.{file_a, file_b, accepted}
+use Rattle.answers.specs.Answers.{accepted}
 use Rattle.answers.proofs.Results.{Gives, one_value, gives-accepted, bind, test}
 use Rattle.fields.specs.Fields.{Item, item, items, fields}
 use Rattle.fields.specs.Header.{agrees}

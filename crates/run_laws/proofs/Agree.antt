@@ -11,7 +11,7 @@ use Rattle.forms.specs.Edition.{edition, edition1}
 use Rattle.forms.specs.Forms.{All, nil, cons, Formula, every}
 use Rattle.answers.specs.declared.Answer.{Answer}
 use Rattle.answers.specs.Answers.{file_proof, refused}
-use Rattle.answers.proofs.Results.{given, Gives, gives-accepted, weaken, bind, seq, test, not-0, not-22}
+use Rattle.answers.proofs.Results.{Gives, gives-accepted, weaken, bind, seq, test, not-0, not-22}
 use Rattle.fields.specs.Fields.{fields}
 use Rattle.bundle.specs.Bundle.{Bundle}
 use Rattle.bundle.specs.Layout.{Each, nil as nil-each, cons as cons-each, BundleFile}

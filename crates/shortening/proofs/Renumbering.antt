@@ -1,13 +1,13 @@
 -- A field with new line numbers states the row with these; all else of it stays. Assumes nothing.
 use mathlib.Core.Path.{◌≡◌, refl, sym, ◌∙◌, ap, ap₂, subst}
-use mathlib.Core.Option.{Option, none, some}
+use mathlib.Core.Option.{Option, some}
 use mathlib.Core.List.{List, [], ◌∷◌, ◌++◌, map, append_assoc}
 use Prim.Native.Nat.{ℕ, zero, suc, ◌+◌, ◌*◌, ◌-◌, ◌^◌, ◌≤◌, ◌<◌}
 use native.Mathlib.Omega.{arith}
 use lib.ListN.{length, take, drop, length-append, length-drop}
 use lib.Seq.{take_at, drop_at, drop-drop}
 use Rattle.forms.specs.Edition.{Edition}
-use Rattle.forms.specs.Forms.{All, nil, cons}
+use Rattle.forms.specs.Forms.{All, cons}
 use Rattle.calculus.specs.Rules.{Inference, Combine, Reduce, Scale, Row, Derive, Strengthen, Round, Split, CloseNumber, CloseStride, Entry, row, claim}
 use Rattle.number_bytes.specs.Numbers.{unsigned, unsigned_bytes, unsigneds, unsigneds_bytes}
 use Rattle.number_bytes.proofs.Signed.{length-unsigned_bytes, unsigned-unsigned_bytes}
