@@ -8,7 +8,6 @@ use native.Mathlib.Omega.{arith}
 use lib.IntN.{ℤ, pos}
 use lib.ListN.{length, get_or, take, drop, replicate}
 use lib.Seq.{sets, sets-eq, length-take-le}
-use Rattle.forms.specs.Forms.{Formula}
 use Rattle.answers.specs.declared.WriteResult.{WriteResult}
 use Rattle.answers.specs.Answers.{answer, acceptance, file_proof, file_lent, refused, accepted, ◌>>◌, written_of}
 use Rattle.answers.proofs.Results.{binds, passes, bind-refused, then-refused}
