@@ -1,6 +1,6 @@
 -- The rows that close a branch, one way after the other. Assumes nothing.
 use mathlib.Core.Path.{◌≡◌, refl, sym, ap, ◌∙◌}
-use mathlib.Core.Bool.{Bool, true, false, not}
+use mathlib.Core.Bool.{Bool, true, false}
 use mathlib.Core.Logic.{⊎_elim}
 use mathlib.Core.List.{List}
 use Prim.Native.Nat.{ℕ, ◌+◌, ◌*◌, ◌-◌, ◌≤◌, ◌<◌}
@@ -74,7 +74,7 @@ module _ {K : ℕ} {kinds : List ℕ} {buf : List ℤ} {t : Tally} {i : ℕ} whe
     where
       no_test : g < 2 → (a : Bool) → is =0 (line_in K kinds buf i).kind ≡ a → ⊥
       no_test l false e = never (sym ((stride-kind K kinds buf t i g (stride-there b) e).by some-refusal) ∙ b.by some-refusal)
-      no_test l true d = never (sym ((stride-small K kinds buf t i g (stride-there b) d refl (ap not (lt-leb 2 g l))).by some-refusal) ∙ b.by some-refusal)
+      no_test l true d = never (sym ((stride-small K kinds buf t i g (stride-there b) d refl (lt-leb 2 g l)).by some-refusal) ∙ b.by some-refusal)
 
   pub number-refused : {r : Test} {x : ℕ} (o : ℕ) (scratch : List ℕ) → ByNumber K kinds buf t i r → r ≡ test.Refused x
       → EndedBy (λ refusal. by_number refusal (lines_in K kinds buf t.lines.0) i) scratch o scratch (ended.Refused x)

@@ -1,5 +1,4 @@
 -- `closes::ends::close_number` meets its contract. Assumes nothing.
-use borrow.Author.Rules.{rules}
 use native.Mathlib.Omega.{arith}
 use Rattle.closes.proofs.NumberTests.{line_low}
 use Rattle.closes.proofs.Ending.{number-there, number-refused, number-written, numbered}
@@ -10,9 +9,6 @@ test_number-requires c = c.requires.ready
 
 pub returns-in-Refused : goal.returns-in-Refused
 returns-in-Refused c = number-refused c.args.o c.args.scratch.now c.test_number.ensures c.in-Refused.is
-
-pub enum_told-1 : goal.enum_told-1
-enum_told-1 c = search rules
 
 pub place_a-ta-requires : goal.place_a-ta-requires
 place_a-ta-requires c =
@@ -28,9 +24,6 @@ pub put_literal-end-requires : goal.put_literal-end-requires
 put_literal-end-requires c =
     let h = number-there (rw c.in-Passed.is at c.test_number.ensures) in
     record { numbered = numbered c.requires.ready h c.place_a-ta.ensures; o_le_scratch_limit = c.requires.o_le_scratch_limit }
-
-pub shape_of-scratch-in-Passed : goal.shape_of-scratch-in-Passed
-shape_of-scratch-in-Passed c = c.put_literal-end.auto.1.1.1.1.0
 
 pub returns-in-Passed : goal.returns-in-Passed
 returns-in-Passed c = number-written c.requires.ready c.place_a-ta.ensures c.test_number.ensures c.in-Passed.is c.kind_of-kind.ensures c.put_literal-end.ensures

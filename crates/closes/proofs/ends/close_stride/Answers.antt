@@ -1,5 +1,4 @@
 -- `closes::ends::close_stride` meets its contract. Assumes nothing.
-use borrow.Author.Rules.{rules}
 use mir.ValLaws.{to_z-of_z}
 use Rattle.closes.proofs.NumberTests.{line_low}
 use Rattle.closes.proofs.Ending.{stride-there, stride-two, stride-refused, stride-written, numbered, divisor}
@@ -11,9 +10,6 @@ test_stride-requires c = let fg = c.ranges.g in simp to_z-of_z (record { ready =
 pub returns-in-Refused : goal.returns-in-Refused
 returns-in-Refused c = let fg = c.ranges.g in stride-refused c.args.o c.args.scratch.now (simp to_z-of_z at c.test_stride.ensures) c.in-Refused.is
 
-pub enum_told-1 : goal.enum_told-1
-enum_told-1 c = search rules
-
 pub place_a-ta-requires : goal.place_a-ta-requires
 place_a-ta-requires c = let fg = c.ranges.g in
     let h = (stride-there (rw c.in-Passed.is at (simp to_z-of_z at c.test_stride.ensures))) in
@@ -22,10 +18,7 @@ place_a-ta-requires c = let fg = c.ranges.g in
 pub put_stride-end-requires : goal.put_stride-end-requires
 put_stride-end-requires c = let fg = c.ranges.g in
     let b = (rw c.in-Passed.is at (simp to_z-of_z at c.test_stride.ensures)) in
-    simp to_z-of_z ((numbered c.requires.ready (stride-there b) c.place_a-ta.ensures, divisor c.requires.multiplies (stride-two b)), c.requires.o_le_scratch_limit)
-
-pub shape_of-scratch-in-Passed : goal.shape_of-scratch-in-Passed
-shape_of-scratch-in-Passed c = c.put_stride-end.auto.1.1.1.1.0
+    simp to_z-of_z (record { numbered = (numbered c.requires.ready (stride-there b) c.place_a-ta.ensures, divisor c.requires.multiplies (stride-two b)); o_le_scratch_limit = c.requires.o_le_scratch_limit })
 
 pub returns-in-Passed : goal.returns-in-Passed
 returns-in-Passed c = let fg = c.ranges.g in stride-written c.requires.ready c.place_a-ta.ensures (simp to_z-of_z at c.test_stride.ensures) c.in-Passed.is (simp to_z-of_z at c.put_stride-end.ensures)
