@@ -20,7 +20,7 @@ use Rattle.number_bytes.specs.Numbers.{flat}
 use Rattle.fields.specs.declared.FileKind.{FileKind}
 use Rattle.fields.specs.Fields.{Fields, Item, fields}
 use Rattle.fields.specs.Places.{fields_at}
-use Rattle.bundle.specs.Bundle.{Bundle, bundle}
+use Rattle.bundle.specs.Bundle.{bundle}
 use Rattle.bundle.specs.Layout.{Each, States}
 use Rattle.bundle.specs.Read.{kinds_of, numbers_of}
 use Rattle.bundle.specs.Writable.{field_size}

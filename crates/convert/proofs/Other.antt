@@ -12,7 +12,7 @@ use Rattle.answers.proofs.Results.{Gives, gives-refused, gives-accepted, test, n
 use Rattle.fields.specs.declared.FileKind.{FileKind}
 use Rattle.fields.specs.declared.Next.{Next}
 use Rattle.fields.specs.declared.header.Numbered.{Numbered}
-use Rattle.fields.specs.Fields.{Field, Fields, ends, cut, ◌▸◌, fields}
+use Rattle.fields.specs.Fields.{Fields, ends, cut, ◌▸◌, fields}
 use Rattle.fields.specs.Header.{header_field, edition_field}
 use Rattle.fields.specs.Places.{fields_at, next_of, numbered_of, IsEdition}
 use Rattle.fields.proofs.HeaderLaid.{edition-gives}

@@ -20,7 +20,7 @@ use Rattle.answers.proofs.Over.{sets_over}
 use Rattle.fields.specs.declared.FileKind.{FileKind}
 use Rattle.fields.specs.declared.header.Headed.{Headed}
 use Rattle.fields.specs.Fields.{Fields, item, fields}
-use Rattle.fields.specs.Header.{Header, header_bytes}
+use Rattle.fields.specs.Header.{header_bytes}
 use Rattle.fields.specs.Places.{fields_at, headed_of, IsHeader}
 use Rattle.fields.proofs.HeaderLaid.{header-gives}
 use Rattle.bundle.specs.Bundle.{at_most}

@@ -1,8 +1,5 @@
 -- `convert::first_place` meets its contract. Assumes nothing.
-use Rattle.fields.proofs.next_field.Reads as next-field-reads
 use Rattle.convert.proofs.Other.{first_field, first-cut, first_ends}
-use Rattle.convert.proofs.first_place.Reads as reads
-use Rattle.convert.proofs.first_place.Lts as lts
 use Rattle.convert.proofs.first_place.Goals as goal
 
 pub returns-in-Field : goal.returns-in-Field

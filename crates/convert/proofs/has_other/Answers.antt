@@ -1,9 +1,5 @@
 -- `convert::has_other` meets its contract. Assumes nothing.
-use Rattle.fields.proofs.header.read_edition.Reads as read-edition-reads
 use Rattle.convert.proofs.Other.{other-fine, other-there, other-refused, read-within}
-use Rattle.convert.proofs.has_other.Reads as reads
-use Rattle.convert.proofs.has_other.Lts as lts
-use Rattle.convert.proofs.first_place.Reads as first-place-reads
 use Rattle.convert.proofs.has_other.Goals as goal
 
 pub returns-then-value-to : goal.returns-then-value-to
