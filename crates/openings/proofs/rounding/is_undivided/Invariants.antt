@@ -2,13 +2,11 @@
 use mathlib.Core.Path.{◌≡◌}
 use Prim.Native.Nat.{◌≤◌}
 use lib.IntN.{nat_abs}
-use mir.Syntax.{w64}
-use mir.Val.{to_z}
 use Rattle.proof.specs.Rows.{undivided}
 use Rattle.openings.proofs.rounding.is_undivided.Given as goal
 
 abbrev pub invariant-loop-left : goal.invariant-loop-left
-invariant-loop-left l = (l.left ≤ l.by) × (undivided (nat_abs (to_z w64 l.g)) (to_z w64 l.d) l.by ≡ undivided (nat_abs (to_z w64 l.g)) (to_z w64 l.d) l.left)
+invariant-loop-left l = (l.left ≤ l.by) × (undivided (nat_abs l.g) l.d l.by ≡ undivided (nat_abs l.g) l.d l.left)
 
 abbrev pub decreases-loop-left : goal.decreases-loop-left
 decreases-loop-left l = l.left

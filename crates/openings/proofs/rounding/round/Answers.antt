@@ -1,16 +1,12 @@
 -- `openings::rounding::round` meets its contract. Assumes nothing.
 use mir.ValLaws.{to_z-of_z}
 use Rattle.openings.proofs.Opens.{round-refused, round-line, round-opens}
-use borrow.Author.Rules.{rules}
 use Rattle.openings.proofs.rounding.round.Goals as goal
 
 pub returns-in-Refused : goal.returns-in-Refused
 returns-in-Refused c =
     let fg = c.ranges.g in
     round-refused (simp to_z-of_z at c.test_round.ensures) c.in-Refused.is
-
-pub enum_told-1 : goal.enum_told-1
-enum_told-1 c = search rules
 
 pub open_step-requires : goal.open_step-requires
 open_step-requires c = record { ready = c.requires.ready; i_lt_lines = round-line c.test_round.ensures c.in-Passed.is }

@@ -25,13 +25,13 @@ overflow_add-ta c =
 pub number-d-requires : goal.number-d-requires
 number-d-requires c =
     let s = c.requires.line_start.0 in
-    omega (arith, start-room s c.place_a-ta.ensures (omega (arith, s.copy.first)), c.lines-1.given)
+    omega (arith, start-room s c.place_a-ta.ensures (omega (arith, s.copy.first)))
 
 pub put_front-requires : goal.put_front-requires
 put_front-requires c =
     let fits = c.ranges.g in
     let w = c.requires.stride_template in
-    simp to_z-of_z ((c.requires.line_start.0.copy.branch.constants, w.room, c.requires.divisor.0), c.requires.divisor.1)
+    simp to_z-of_z (record { k_le_constants = (c.requires.line_start.0.copy.branch.constants, w.room, c.requires.divisor.0); o_bound = c.requires.divisor.1 })
 
 pub returns : goal.returns
 returns c =
@@ -41,4 +41,4 @@ returns c =
     let l = c.start_line.ensures in
     let d = to_z-of_z w64 c.number-d.result (record { sfits = c.number-d.type_inv }) in
     let front = filled-front c.requires.stride_template c.number-d.result a.others (rw d at (simp to_z-of_z at c.put_front.ensures)) in
-    record { line = l.0; kind = l.1; front = start-front own a.kinds.now l.0 c.place_a-ta.ensures c.number-d.ensures (nat_abs a.g) a.others front }
+    record { line = l.lines; kind = l.kinds; front = start-front own a.kinds.now l.lines c.place_a-ta.ensures c.number-d.ensures (nat_abs a.g) a.others front }

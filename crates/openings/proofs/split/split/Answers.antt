@@ -34,7 +34,8 @@ returns-in-Refused c =
 pub negated_fit-requires : goal.negated_fit-requires
 negated_fit-requires c =
     let h = is_below c.args.i.0 c.args.tally.lines.0 c.is_there.ensures c.if-not-is_there.false in
-    negated-fit-asked _ _ _ c.args.tally c.args.i.0 h c.kind_of-kind.ensures c.if-kind-lt-APART_A.false c.requires c.raised_by-y.ensures c.open_step.ensures c.in-Made.is
+    let r = negated-fit-asked _ _ _ c.args.tally c.args.i.0 h c.kind_of-kind.ensures c.if-kind-lt-APART_A.false c.requires c.raised_by-y.ensures c.open_step.ensures c.in-Made.is in
+    record { i_bound = r.0; bounded = r.1 }
 
 pub shape_of-lines-then-not-negated_fit : goal.shape_of-lines-then-not-negated_fit
 shape_of-lines-then-not-negated_fit c = c.open_step.ensures.kept.lines_length
