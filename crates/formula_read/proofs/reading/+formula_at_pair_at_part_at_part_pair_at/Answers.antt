@@ -1,7 +1,7 @@
 -- The cycle {formula_at, pair_at, part_at, part_pair_at} meets its contracts. Each answer collects the facts on its way and cites a lemma of `FormulaReader`. Assumes nothing.
 use Rattle.std.proofs.Common.{arith}
 use Rattle.fields.proofs.Places.{starts, starts-less}
-use Rattle.formula_read.proofs.FormulaReader.{formula-ends, formula-cut, literal-whole, stride-whole, formula-refused, formula-literal, formula-stride, formula-pair, no-level, first-fault, second-fault, both_read, parts-fault, parts_next}
+use Rattle.formula_read.proofs.FormulaReader.{formula-ends, formula-cut, literal-whole, stride-whole, formula-refused, formula-literal, formula-stride, formula-pair, no-level, first-fault, second-fault, both_read, parts-on, parts-fault, parts_next, parts-both, read-on}
 use Rattle.formula_read.proofs.reading.+formula_at_pair_at_part_at_part_pair_at.Goals as goal
 
 pub formula_at-literal_at-requires-clause-whole : goal.formula_at-literal_at-requires-clause-whole
@@ -78,3 +78,12 @@ part_pair_at-returns-in-Fault-formula_at t c = second-fault _ _ c.if-levels-eq0.
 
 pub part_pair_at-returns-in-Value-formula_at : goal.part_pair_at-returns-in-Value-formula_at
 part_pair_at-returns-in-Value-formula_at t c = both_read _ _ c.if-levels-eq0.false c.formula_at.ensures c.in-Value.is c.formula_at-in-Value.ensures c.in-Value-formula_at.is
+
+pub pair_at-part_at-requires : goal.pair_at-part_at-requires
+pair_at-part_at-requires t c = (omega (arith, c.decreases, parts-on c.loop-i.invariant c.loop-i-test.true), c.requires)
+
+pub pair_at-returns : goal.pair_at-returns
+pair_at-returns t c = parts-both c.loop-i.invariant c.loop-i-test.false
+
+pub part_pair_at-formula_at-requires-in-Value : goal.part_pair_at-formula_at-requires-in-Value
+part_pair_at-formula_at-requires-in-Value t c = (omega (arith, c.decreases, read-on c.formula_at.ensures c.in-Value.is), c.requires)
