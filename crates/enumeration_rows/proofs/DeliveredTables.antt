@@ -21,7 +21,6 @@ use Rattle.enumeration.specs.Search as search
 use Rattle.enumeration.specs.Search.{Found, rows_bytes, found_file}
 use Rattle.enumeration.proofs.Searched.{append_assoc, append-nil, rows-one}
 use Rattle.enumeration.proofs.Numbered.{inference-bytes, close-bytes}
-use Rattle.lines.specs.Buffer.{size}
 use Rattle.check_output.proofs.Delivering.{unwritten}
 use Rattle.enumeration_rows.specs.Delivered.{WritesFound}
 

@@ -20,7 +20,7 @@ use Rattle.enumeration.specs.Sequence.{any_refusal, new_line, close_formula}
 use Rattle.enumeration.specs.Numbering.{inference_at, close_at}
 use Rattle.lines.specs.Buffer.{size, line_in, lines_in}
 use Rattle.lines.proofs.Parts.{agree-sym}
-use Rattle.lines.proofs.Lines.{lines_same, lines_more, bounded-same}
+use Rattle.lines.proofs.Lines.{lines_more, bounded-same}
 use Rattle.lines.specs.Ready.{Ready, Limited, LinesKept}
 use Rattle.tally.specs.Tally.{more_lines}
 use Rattle.tally.specs.declared.Tally.{Tally}
