@@ -87,7 +87,7 @@ branch-file : {closed : List OpenStep} {t : Tree} {fs : Fields} {is : List Item}
 branch-file (closes f k e q) = ap (λ (x : Answer). x.file) q
 branch-file (goes_on f b) = branch-file b
 
-branches-file : {step last b rows : ℕ} {ps : List OpenStep} {fs : Fields} {iss : List (List Item)} {rows' : ℕ} {after : Fields} {a : Answer} → AllBranchFields step last ps b rows fs iss rows' after a → a.file ≡ file_proof
+branches-file : {step last : ℕ} {ps : List OpenStep} {b rows : ℕ} {fs : Fields} {iss : List (List Item)} {rows' : ℕ} {after : Fields} {a : Answer} → AllBranchFields step last ps b rows fs iss rows' after a → a.file ≡ file_proof
 branches-file (final e b) = branch-file b
 branches-file (further h b bs) = branches-file bs
 

@@ -135,9 +135,9 @@ nothing-behind : {X : Type 0} (xs : List X) → xs ++ [] ≡ xs
 nothing-behind [] = refl
 nothing-behind (x ∷ xs) = ap (λ (l : List _). x ∷ l) (nothing-behind xs)
 
-all-branches : {step last b rows : ℕ} {ps : List OpenStep} {fs : Fields} {iss : List (List Item)} {rows' : ℕ} {after : Fields} {a : Answer} → AllBranchFields step last ps b rows fs iss rows' after a
+all-branches : {step last : ℕ} {ps : List OpenStep} {b rows : ℕ} {fs : Fields} {iss : List (List Item)} {rows' : ℕ} {after : Fields} {a : Answer} → AllBranchFields step last ps b rows fs iss rows' after a
     → BranchFields (after_close ps) (tree rows (open_step step b last ∷ ps)) fs (joined iss) rows' after a
-all-branches {step} {last} {b} {rows} {ps} {fs} {rows' = rows'} {after} {a} (final {is = is} e c) =
+all-branches {step} {last} {ps} {b} {rows} {fs} {rows' = rows'} {after} {a} (final {is = is} e c) =
     subst (λ (l : List Item). BranchFields (after_close ps) (tree rows (open_step step b last ∷ ps)) fs l rows' after a) (sym (nothing-behind is)) c
 all-branches (further h c cs) = behind-branch c (all-branches cs)
 

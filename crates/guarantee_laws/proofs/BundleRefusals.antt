@@ -86,6 +86,8 @@ module _ (file : ℕ) (e : Edition) (K : ℕ) (c : Constraint) where
 
   past : (n : ℕ) {fs : Fields} {is : List Item} (before : List Constraint) → Starts fs is → Each (States e K) is (before ++ c ∷ []) → n + length before ≤ e.constraints → AllSmall e.range before → Past n fs before
   unfolding constraints nth
+  past n [] Starts.nil e h _ = elim e [ ]
+  past n (b ∷ before) Starts.nil e h _ = elim e [ ]
   past n [] (Starts.cons {f} {fs} s) (Each.cons t l) h nil = record {
     next = f;
     after = fs;
