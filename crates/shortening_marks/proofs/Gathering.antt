@@ -1,9 +1,9 @@
 -- Laws of gathering the rows. Assumes nothing.
 use mathlib.Core.Path.{◌≡◌, refl, sym, ◌∙◌, ap, ap₂, subst}
-use mathlib.Core.Option.{Option, none, some}
+use mathlib.Core.Option.{Option, some}
 use mathlib.Core.Bool.{Bool, true, false, not, ◌&&◌, ◌||◌}
 use mathlib.Core.List.{List, [], ◌∷◌, map}
-use Prim.Native.Nat.{ℕ, zero, suc, ◌+◌, ◌-◌, ◌≤◌, ◌<◌}
+use Prim.Native.Nat.{ℕ, zero, suc, ◌+◌, ◌≤◌, ◌<◌}
 use native.Mathlib.Omega.{arith}
 use lib.Dec.{eqb}
 use lib.ListN.{length, get_or, set, length-set, take, drop}
@@ -125,6 +125,7 @@ pub record Head (e K : ℕ) (fs : Fields) (i : Item) (es : List Entry) : Type 0 
   pub rest : Stating e K fs others
 
 head-by : (e K : ℕ) (fs : Fields) (i : Item) (is : List Item) (es : List Entry) → Each (Enters (edition e) K) (i ∷ is) es → items fs ≡ some is → K ≤ edition1.constants → Head e K fs i es
+head-by e K fs i is [] h a k = elim h [ ]
 head-by e K fs i is (y ∷ ys) (Each.cons r h) a k = record { y = y; others = ys; are = refl; enters = r; rest = record { list = is; are = a; each = h; few = k } }
 
 pub head_of : (e K : ℕ) (f : Field) (fs : Fields) (es : List Entry) → Stating e K (f ▸ fs) es → Head e K fs (item f.tag f.contents) es
@@ -137,6 +138,8 @@ nothing_left e K at es s = by s.list es (ended at s.list s.are) s.each
   where
     by : (is : List Item) (es : List Entry) → is ≡ [] → Each (Enters (edition e) K) is es → es ≡ []
     by [] [] q h = refl
+    by [] (x ∷ es) q h = elim h [ ]
+    by (i ∷ is) [] q h = elim h [ ]
     by (i ∷ is) (x ∷ es) q h = absurd (let z : suc (length is) ≡ 0 = ap length q in omega (arith, z))
 
 -- fields state one list of entries
