@@ -7,7 +7,7 @@ use native.Mathlib.Omega.{arith}
 use lib.Dec.{T, eqb}
 use lib.IntN.{ℤ}
 use lib.ListN.{length, get_or, set}
-use Rattle.forms.specs.Edition.{edition, edition1}
+use Rattle.forms.specs.Edition.{edition1}
 use Rattle.forms.specs.Forms.{≤0, Side, Line, line, Form, neg, Formula, ◌and◌, ◌or◌, ◌plus◌}
 use Rattle.forms.specs.declared.RowNumber.{RowNumber}
 use Rattle.calculus.specs.Rules as rules

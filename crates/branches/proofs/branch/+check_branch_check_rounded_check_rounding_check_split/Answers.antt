@@ -4,7 +4,7 @@ use native.Mathlib.Omega.{arith}
 use mathlib.Core.Path.{refl, sym}
 use lib.Dec.{ltb}
 use lib.IntN.{nat_abs}
-use borrow.Author.Tests.{ltb-true, ltb-false}
+use borrow.Author.Tests.{lt-ltb, le-ltb}
 use mir.ValLaws.{to_z-of_z}
 use Rattle.integers.proofs.Magnitude.{within-fits}
 use Rattle.forms.specs.Forms.{◌or◌}
@@ -36,7 +36,7 @@ pub check_branch-close_stride-e-requires : goal.check_branch-close_stride-e-requ
 check_branch-close_stride-e-requires t c =
     let y = stride-comes c.entries.ensures c.in-ClosesStride.is in
     let fits = within-fits y.1.within tt in
-    simp to_z-of_z (comes-ready y.0, (y.1, started-room c.requires))
+    simp to_z-of_z (record { ready = comes-ready y.0; multiplies = y.1; o_le_scratch_limit = started-room c.requires })
 
 pub check_branch-returns-in-ClosesStride : goal.check_branch-returns-in-ClosesStride
 check_branch-returns-in-ClosesStride t c =
@@ -212,7 +212,7 @@ check_branch-round-requires t c =
     let stop = c.entries.ensures in
     let y = round-comes stop c.in-Rounds.is in
     let fits = within-fits y.1.within tt in
-    simp to_z-of_z (comes-ready y.0, y.1)
+    simp to_z-of_z (record { ready = comes-ready y.0; multiplies = y.1 })
 
 pub check_branch-returns-in-Refused-round : goal.check_branch-returns-in-Refused-round
 check_branch-returns-in-Refused-round t c =
@@ -270,7 +270,8 @@ check_rounded-slice_bounds-put_stride-end t c = refl
 pub check_rounded-put_stride-requires : goal.check_rounded-put_stride-requires
 check_rounded-put_stride-requires t c =
     let fits = c.ranges.g in
-    simp to_z-of_z (template-asked c.requires.opened c.place_a-ta.ensures c.requires.multiplies.0 c.requires.multiplies.1)
+    let asked = template-asked c.requires.opened c.place_a-ta.ensures c.requires.multiplies.0 c.requires.multiplies.1 in
+    simp to_z-of_z (record { numbered = asked.0; o_le_scratch_limit = asked.1 })
 
 pub check_rounded-loop-row-init : goal.check_rounded-loop-row-init
 check_rounded-loop-row-init t c =
@@ -288,7 +289,8 @@ check_rounded-start_rounded-front-requires t c =
     let turn = c.loop-row.invariant in
     let fits = c.ranges.g in
     let w = template-kept c.requires.opened c.place_a-ta.ensures refl (simp to_z-of_z at c.put_stride.ensures) turn.kept in
-    simp to_z-of_z (rounded-asked turn.opened turn.less c.requires.multiplies.0 c.requires.multiplies.1 w)
+    let asked = rounded-asked turn.opened turn.less c.requires.multiplies.0 c.requires.multiplies.1 w in
+    simp to_z-of_z (record { line_start = asked.0; divisor = asked.1.0; stride_template = asked.1.1 })
 
 pub check_rounded-check_branch-own-requires : goal.check_rounded-check_branch-own-requires
 check_rounded-check_branch-own-requires t c =
@@ -304,7 +306,7 @@ check_rounded-returns-then-not-others t c =
     let b = c.check_branch-own.ensures in
     let others = ltb (c.loop-row.j + 1) c.args.by in
     let fits = c.ranges.g in
-    simp to_z-of_z at (rounding-last turn others h b c.if-not-others.true (ltb-false _ _ c.if-not-others.true))
+    simp to_z-of_z at (rounding-last turn others h b (le-ltb (c.loop-row.j + 1) c.args.by c.if-not-others.true) c.if-not-others.true)
 
 pub check_rounded-returns-in_default : goal.check_rounded-returns-in_default
 check_rounded-returns-in_default t c =
@@ -313,7 +315,7 @@ check_rounded-returns-in_default t c =
     let b = c.check_branch-own.ensures in
     let others = ltb (c.loop-row.j + 1) c.args.by in
     let fits = c.ranges.g in
-    simp to_z-of_z at (rounding-fault turn others h b c.if-not-others.false (ltb-true _ _ c.if-not-others.false) c.in_default.is)
+    simp to_z-of_z at (rounding-fault turn others h b (lt-ltb (c.loop-row.j + 1) c.args.by c.if-not-others.false) c.if-not-others.false c.in_default.is)
 
 pub check_rounded-loop-row-smaller : goal.check_rounded-loop-row-smaller
 check_rounded-loop-row-smaller t c =
@@ -329,7 +331,7 @@ check_rounded-loop-row-preserved t c =
     let h = c.start_rounded-front.ensures in
     let b = c.check_branch-own.ensures in
     let others = ltb (c.loop-row.j + 1) c.args.by in
-    rounding-next turn others h b c.if-not-others.false (ltb-true _ _ c.if-not-others.false) c.in-Closed.is
+    rounding-next turn others h b (lt-ltb (c.loop-row.j + 1) c.args.by c.if-not-others.false) c.if-not-others.false c.in-Closed.is
 
 pub check_rounding-put_pair-head-requires : goal.check_rounding-put_pair-head-requires
 check_rounding-put_pair-head-requires t c = omega (arith, room-left c.requires.opened.0)

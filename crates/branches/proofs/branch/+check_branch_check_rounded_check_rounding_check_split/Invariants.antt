@@ -1,8 +1,6 @@
 -- The proof of the cycle {check_branch, check_rounded, check_rounding, check_split}: the measure is how many bytes are unread and how many more branching steps may be open, twice, and one more where the branches of a rounding or a split are gone through.
 -- Each answer collects the facts on its way and cites a lemma of `BranchStops`, `OpenedBranches`, `Rounds` or `Splits`; what is checked in a turn of the loop over j gives what is checked from 0 on. Assumes nothing.
 use lib.IntN.{nat_abs}
-use mir.Syntax.{w64}
-use mir.Val.{to_z}
 use Rattle.fields.specs.Places.{unread_bytes}
 use Rattle.branches.proofs.Rounds.{Rounding}
 use Prim.Native.Nat.{◌+◌, ◌*◌, ◌-◌}
@@ -23,7 +21,7 @@ decreases-check_split l = 2 * (unread_bytes l.p.now l.here.at + (32 - l.tally.«
 -- The loop over j of a rounding's branches.
 abbrev pub invariant-check_rounded-loop-row : goal.invariant-check_rounded-loop-row
 invariant-check_rounded-loop-row l =
-    Rounding l.k l.row.0 l.n.0 l.p l.initial.at l.initial.kinds l.initial.lines l.initial.count l.t.0 (nat_abs (to_z w64 l.g)) l.by l.initial.scratch l.initial.end l.kinds l.lines l.scratch l.at l.end l.count l.j
+    Rounding l.k l.row.0 l.n.0 l.p l.initial.at l.initial.kinds l.initial.lines l.initial.count l.t.0 (nat_abs l.g) l.by l.initial.scratch l.initial.end l.kinds l.lines l.scratch l.at l.end l.count l.j
 
 abbrev pub decreases-check_rounded-loop-row : goal.decreases-check_rounded-loop-row
 decreases-check_rounded-loop-row l = unread_bytes l.p l.at

@@ -1,5 +1,4 @@
 -- `branches::branch::entries` meets its contract. Assumes nothing.
-use borrow.Author.Rules.{rules}
 use native.Mathlib.Omega.{arith}
 use mathlib.Core.Path.{refl, ◌∙◌}
 use mir.ValLaws.{to_z-of_z}
@@ -9,7 +8,7 @@ use Rattle.branches.proofs.EntriesLoop.{going_start, going-refused, going-made, 
 use Rattle.branches.proofs.branch.entries.Goals as goal
 
 pub loop-a-init : goal.loop-a-init
-loop-a-init c = going_start c.requires
+loop-a-init c = going_start (c.requires.ready, c.requires.spare)
 
 pub step-requires : goal.step-requires
 step-requires c =
@@ -30,9 +29,6 @@ loop-a-smaller-in-Made c = starts-less (starts c.next_field.ensures c.in-Field.i
 
 pub loop-a-preserved-in-Made : goal.loop-a-preserved-in-Made
 loop-a-preserved-in-Made c = going-made c.loop-a.invariant (starts c.next_field.ensures c.in-Field.is) c.step.ensures.0 c.step.ensures.1 c.in-Made.is
-
-pub enum_told-1 : goal.enum_told-1
-enum_told-1 c = search rules
 
 pub loop-a-smaller : goal.loop-a-smaller
 loop-a-smaller c = starts-less (starts c.next_field.ensures c.in-Field.is)
