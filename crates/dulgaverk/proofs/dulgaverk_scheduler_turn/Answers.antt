@@ -7,13 +7,13 @@ use Rattle.dulgaverk.proofs.Jobs.{turn_serves, turn_idle}
 use Rattle.dulgaverk.proofs.dulgaverk_scheduler_turn.Goals as goal
 
 pub offset_bounds-s-seat : goal.offset_bounds-s-seat
-offset_bounds-s-seat c = let h = next-seated c.args.t1 (sym c.next_seat.ensures ∙ c.in-Seat.is) in record { fits = omega arith }
+offset_bounds-s-seat c = let h = next-seated c.args.s (sym c.next_seat.ensures ∙ c.in-Seat.is) in record { fits = omega arith }
 
 pub bounds-s-seat : goal.bounds-s-seat
-bounds-s-seat c = next-seated c.args.t1 (sym c.next_seat.ensures ∙ c.in-Seat.is)
+bounds-s-seat c = next-seated c.args.s (sym c.next_seat.ensures ∙ c.in-Seat.is)
 
 pub served-requires : goal.served-requires
-served-requires c = next-seated c.args.t1 (sym c.next_seat.ensures ∙ c.in-Seat.is)
+served-requires c = next-seated c.args.s (sym c.next_seat.ensures ∙ c.in-Seat.is)
 
 pub enum_told-1 : goal.enum_told-1
 enum_told-1 c = search rules
