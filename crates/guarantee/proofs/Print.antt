@@ -16,7 +16,7 @@ use Rattle.formula.specs.Formula.{read_formula}
 use Rattle.printing.specs.Translation.{smt}
 use Rattle.printing.specs.Words.{worded}
 use Rattle.printing.specs.Dialects.{formula_text, MeansAs}
-use Rattle.printing.specs.Print.{print_formula, printed}
+use Rattle.printing.specs.Print.{print_formula}
 use Rattle.printing.specs.Promises.{PrintsFile}
 use Rattle.printing.proofs.Named.{names_only, words_names_only}
 use Rattle.printing.proofs.Accepted.{one-reading, printer, printed-as, read_as_lem, means-read}

@@ -11,7 +11,7 @@ use mir.Facts.{and_yes, yes_and}
 use lib.Dec.{T, leb, leb→le, le→leb}
 use lib.IntN.{ℤ}
 use lib.ListN.{length}
-use Rattle.forms.specs.Edition.{edition, edition1, newest_edition}
+use Rattle.forms.specs.Edition.{edition1, newest_edition}
 use Rattle.forms.specs.Forms.{Formula}
 use Rattle.answers.specs.declared.Answer.{Answer}
 use Rattle.answers.specs.declared.WriteResult.{WriteResult}

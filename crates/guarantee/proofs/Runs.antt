@@ -14,7 +14,7 @@ use Rattle.forms.specs.Edition.{edition1, newest_edition}
 use Rattle.forms.specs.Forms.{All, nil, cons, Constraint, Formula}
 use Rattle.answers.specs.declared.Answer.{Answer}
 use Rattle.answers.specs.declared.WriteResult.{WriteResult}
-use Rattle.answers.specs.Answers.{answer, acceptance, Result, refused, accepted, ◌>>=◌, over, written}
+use Rattle.answers.specs.Answers.{acceptance, Result, refused, accepted, ◌>>=◌, over, written}
 use Rattle.number_bytes.specs.Numbers.{Bytes}
 use Rattle.fields.specs.Fields.{Item, without_notes, fields}
 use Rattle.fields.proofs.Framing.{items-file_of}

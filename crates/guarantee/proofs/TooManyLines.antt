@@ -15,7 +15,7 @@ use Rattle.calculus.specs.Rules.{◌▷◌, in_range, Row, Inference, Combine, R
 use Rattle.answers.specs.declared.Answer.{Answer}
 use Rattle.answers.specs.declared.WriteResult.{WriteResult}
 use Rattle.answers.specs.declared.Position.{Position}
-use Rattle.answers.specs.Answers.{answer, refusal_at, file_proof, Result, refused, accepted, ◌>>=◌, ◌>>◌, need, found, Written, fit, written}
+use Rattle.answers.specs.Answers.{refusal_at, file_proof, Result, refused, accepted, ◌>>=◌, ◌>>◌, need, found, Written, fit, written}
 use Rattle.answers.proofs.Results.{never, one_value}
 use Rattle.fields.specs.declared.FileKind.{FileKind}
 use Rattle.fields.specs.Fields.{Field, Fields, ends, cut, ◌▸◌, item, fields}

@@ -12,7 +12,7 @@ use Rattle.forms.specs.Forms.{Constraint, Formula, line_a, line_b, lines, occurs
 use Rattle.calculus.specs.Rules.{Entry, row_count}
 use Rattle.calculus.proofs.Sides.{Side}
 use Rattle.calculus.proofs.Interpolation.{initial-words, sides}
-use Rattle.answers.specs.Answers.{root, file_a, file_b, file_proof, Result, accepted, ◌>>=◌, ◌>>◌, Written, written}
+use Rattle.answers.specs.Answers.{root, file_a, file_b, file_proof, Result, accepted, ◌>>=◌, Written, written}
 use Rattle.answers.proofs.Results.{one_value, binds, passes}
 use Rattle.fields.specs.declared.FileKind.{FileKind}
 use Rattle.fields.specs.Fields.{Item, fields}

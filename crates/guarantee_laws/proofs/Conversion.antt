@@ -50,7 +50,7 @@ use Rattle.conversion.specs.Turnable.{BundleTurnable, ProofTurnable}
 use Rattle.guarantee.specs.Acceptance.{WrittenAs}
 use Rattle.guarantee.specs.LaidOut.{WholeFields}
 use Rattle.guarantee.specs.Soundness.{Meaning, Faithful}
-use Rattle.guarantee.specs.Conversion.{BundleChoice, as_it_is, turned, Direction, kept, ProofChoice, turned_up, turned_down, ConversionPromised}
+use Rattle.guarantee.specs.Conversion.{BundleChoice, as_it_is, turned, Direction, ProofChoice, turned_up, turned_down, ConversionPromised}
 use Rattle.guarantee.proofs.Acceptance.{written_from, short-from}
 use Rattle.guarantee.proofs.Soundness.{lists, meaning-is}
 use Rattle.guarantee_laws.proofs.Turnable.{bundle-turnable, turnable-bundle, proof-turnable, turnable-proof, turnable-read, bundle-narrow, proof-narrow}

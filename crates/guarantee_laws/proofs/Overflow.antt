@@ -7,10 +7,10 @@ use mathlib.Core.List.{List}
 use Prim.Native.Nat.{ℕ, zero, suc, max, ◌+◌, ◌-◌, ◌≤◌, ◌<◌}
 use native.Mathlib.Omega.{arith}
 use borrow.Author.Tests.{le-ltb, leb-true, leb-false}
-use lib.Dec.{leb, ltb, lt→ltb}
+use lib.Dec.{leb, lt→ltb}
 use lib.ListN.{length}
 use Rattle.forms.specs.Edition.{Edition, edition}
-use Rattle.forms.specs.Forms.{Form, ≤0, =0, Line, line, line_apart, neg, Formula, ◌or◌, ◌plus◌}
+use Rattle.forms.specs.Forms.{Form, ≤0, =0, Line, line, line_apart, neg, Formula, ◌plus◌}
 use Rattle.calculus.specs.Rules.{Nth, ◌▷◌, Room, Rounds, Closed, derive, strengthen, round, split_eq, split_neq, number, stride, Rounded, last, more, Strengthen, Round, Split, Entry, entries, entries_rounded, row_count, row_count_rounded, depth, depth_rounded}
 use Rattle.calculus.proofs.Sides.{Side, A, B}
 use Rattle.calculus.proofs.Vocabulary.{WithinVocabulary, words-new, words-raised, words-1, words-E, words-0, words-neg, words-neg-0}
