@@ -20,22 +20,22 @@ overflow_mul-numbers c =
 pub check_24-requires : goal.check_24-requires
 check_24-requires c =
     let a = c.args in
-    (c.requires, (omega (arith, c.if-bytes-le24.true), numbers-less (a.first.count + a.second.count) a.header.edition a.header.k a.proof.now a.header.next c.most_rows-rows.ensures c.most_lines-count.ensures c.if-numbers-le-NUMBERS_24.true))
+    record { begun = c.requires; next_bound = omega (arith, c.if-bytes-le24.true); numbers_within = numbers-less (a.first.count + a.second.count) a.header.edition a.header.k a.proof.now a.header.next c.most_rows-rows.ensures c.most_lines-count.ensures c.if-numbers-le-NUMBERS_24.true }
 
 pub check_41-requires : goal.check_41-requires
 check_41-requires c =
     let a = c.args in
-    (c.requires, (omega (arith, c.if-bytes-le41.true), numbers-less (a.first.count + a.second.count) a.header.edition a.header.k a.proof.now a.header.next c.most_rows-rows.ensures c.most_lines-count.ensures c.if-numbers-le-NUMBERS_41.true))
+    record { begun = c.requires; next_bound = omega (arith, c.if-bytes-le41.true); numbers_within = numbers-less (a.first.count + a.second.count) a.header.edition a.header.k a.proof.now a.header.next c.most_rows-rows.ensures c.most_lines-count.ensures c.if-numbers-le-NUMBERS_41.true }
 
 pub check_66-requires : goal.check_66-requires
 check_66-requires c =
     let a = c.args in
-    (c.requires, (omega (arith, c.if-bytes-le66.true), numbers-less (a.first.count + a.second.count) a.header.edition a.header.k a.proof.now a.header.next c.most_rows-rows.ensures c.most_lines-count.ensures c.if-numbers-le-NUMBERS_66.true))
+    record { begun = c.requires; next_bound = omega (arith, c.if-bytes-le66.true); numbers_within = numbers-less (a.first.count + a.second.count) a.header.edition a.header.k a.proof.now a.header.next c.most_rows-rows.ensures c.most_lines-count.ensures c.if-numbers-le-NUMBERS_66.true }
 
 pub check_248-requires : goal.check_248-requires
 check_248-requires c =
     let a = c.args in
-    (c.requires, (omega (arith, c.if-bytes-le248.true), numbers-less (a.first.count + a.second.count) a.header.edition a.header.k a.proof.now a.header.next c.most_rows-rows.ensures c.most_lines-count.ensures c.if-numbers-le-NUMBERS_248.true))
+    record { begun = c.requires; next_bound = omega (arith, c.if-bytes-le248.true); numbers_within = numbers-less (a.first.count + a.second.count) a.header.edition a.header.k a.proof.now a.header.next c.most_rows-rows.ensures c.most_lines-count.ensures c.if-numbers-le-NUMBERS_248.true }
 
 pub check_long-requires : goal.check_long-requires
 check_long-requires c =

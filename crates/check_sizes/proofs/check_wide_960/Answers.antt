@@ -20,7 +20,7 @@ pub check_within-requires : goal.check_within-requires
 check_within-requires c =
     let w = c.requires in
     let a = c.args in
-    record { begun = w.0; spare = spare-most a.header.edition (a.first.count + a.second.count + lines_left a.header.edition a.proof.now a.header.next) w.1 (omega (arith, length-replicate {A = ℤ} 6630 (pos 0), c.if-numbers-gt-NUMBERS_WIDE_960.false)) (omega (arith, length-replicate {A = ℕ} 1001 0, kinds-all a.header.edition (a.first.count + a.second.count + lines_left a.header.edition a.proof.now a.header.next))) }
+    record { begun = w.begun; spare = spare-most a.header.edition (a.first.count + a.second.count + lines_left a.header.edition a.proof.now a.header.next) w.numbers_within (omega (arith, length-replicate {A = ℤ} 6630 (pos 0), c.if-numbers-gt-NUMBERS_WIDE_960.false)) (omega (arith, length-replicate {A = ℕ} 1001 0, kinds-all a.header.edition (a.first.count + a.second.count + lines_left a.header.edition a.proof.now a.header.next))) }
 
 pub returns : goal.returns
 returns c = tried c.check_within.ensures
