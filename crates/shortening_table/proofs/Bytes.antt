@@ -64,6 +64,8 @@ row_field e K (ends at) is es a h = by is es (ended at is a) h
   where
     by : (is : List Item) (es : List Entry) → is ≡ [] → Each (Enters e K) is es → 0 ≡ rows_of es
     by [] [] q h = refl
+    by [] (y ∷ es) q h = elim h [ ]
+    by (i ∷ is) [] q h = elim h [ ]
     by (i ∷ is) (y ∷ es) q h = absurd (let x : suc (length is) ≡ 0 = ap length q in omega (arith, x))
 row_field e K (cut at) is es a h = absurd (never-cut at is a)
 row_field e K (g ▸ fs) is es a h =
@@ -71,6 +73,7 @@ row_field e K (g ▸ fs) is es a h =
     by es (subst (λ (js : List Item). Each (Enters e K) js es) x.are h) (λ ys k. row_field e K fs x.others ys x.rest k)
   where
     by : {js : List Item} (es : List Entry) → Each (Enters e K) (item g.tag g.contents ∷ js) es → ((ys : List Entry) → Each (Enters e K) js ys → row_fields fs ≡ rows_of ys) → row_fields (g ▸ fs) ≡ rows_of es
+    by [] h k = elim h [ ]
     by (row r ∷ es) (Each.cons q h) k = ap (λ (b : Bool). cond b (row_fields fs) (suc (row_fields fs))) (claim-field e K (item g.tag g.contents) (row r) q) ∙ ap suc (k es h)
     by (claim t t_A ∷ es) (Each.cons q h) k = ap (λ (b : Bool). cond b (row_fields fs) (suc (row_fields fs))) (claim-field e K (item g.tag g.contents) (claim t t_A) q) ∙ k es h
 
@@ -147,10 +150,13 @@ module _ (e : Edition) (K : ℕ) (zs : List ℕ) where
 
   head-case : (g : Field) (fs : Fields) (is : List Item) (es : List Entry) → Each (Enters e K) (item g.tag g.contents ∷ is) es → ((es : List Entry) → Each (Enters e K) is es → Counts fs is es)
       → Counts (g ▸ fs) (item g.tag g.contents ∷ is) es
+  head-case g fs is [] h k = elim h [ ]
   head-case g fs is (y ∷ es) (Each.cons r h) k = entry_case g fs is y es r (k es h)
 
   none-case : (fs : Fields) (is : List Item) (es : List Entry) → is ≡ [] → ((reported : List ℕ) (b : Bool) → bytes_from fs reported b ≡ 0) → Each (Enters e K) is es → Counts fs is es
   none-case fs [] [] q z h n opened b f l m starts = z ((backward [] n opened).reported ++ zs) b ∙ sym none-length
+  none-case fs [] (y ∷ es) q z h n opened b f l m starts = elim h [ ]
+  none-case fs (i ∷ is) [] q z h n opened b f l m starts = elim h [ ]
   none-case fs (i ∷ is) (y ∷ es) q z h n opened b f l m starts = absurd (let x : suc (length is) ≡ 0 = ap length q in omega (arith, x))
 
   -- the bytes that are counted are those of the fields that are left

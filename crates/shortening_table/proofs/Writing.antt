@@ -21,7 +21,7 @@ use Rattle.fields.proofs.Framing.{length-field_bytes}
 use Rattle.proof.specs.Entries.{EntryTag, combine_tag, reduce_tag, scale_tag, strengthen_tag, number_tag, stride_tag, round_tag, split_tag, claim_tag, entry_tagged, line_count, renumbered, line_number, entry_from}
 use Rattle.proof.specs.Layout.{Enters}
 use Rattle.shortening.specs.Needed.{renew, kept_lines}
-use Rattle.shortening.specs.Passes.{top, pop, pushed, is_kept, Retention, stays, retention, Start, no_start, branch_start, retentions, remaining}
+use Rattle.shortening.specs.Passes.{top, pop, pushed, is_kept, Retention, retention, Start, no_start, branch_start, retentions, remaining}
 use Rattle.shortening.specs.Shorten.{list_of, renumber_item}
 use Rattle.shortening.proofs.Renumbering.{anew-none, anew-more, numbers_fit, length-put}
 use Rattle.shortening.proofs.Filed.{line-width, never-cut}

@@ -24,7 +24,9 @@ pub put_table-requires : goal.put_table-requires
 put_table-requires c = writable c.requires c.table_bytes-needed.ensures.is c.args.report.now c.args.table.now c.if-report-rows.false c.if-table-needed.false c.table-1.given
 
 pub copy_bytes-requires : goal.copy_bytes-requires
-copy_bytes-requires c = reported-there c.requires c.table_bytes-needed.ensures.is c.args.report.now c.args.table.now c.if-report-rows.false c.if-table-needed.false
+copy_bytes-requires c =
+    let there = reported-there c.requires c.table_bytes-needed.ensures.is c.args.report.now c.args.table.now c.if-report-rows.false c.if-table-needed.false in
+    record { n_in_bounds = there.0; n_in_bounds_2 = there.1 }
 
 pub returns : goal.returns
 returns c = both-written c.requires c.table_bytes-needed.ensures.is c.args.report.now c.args.table.now c.if-report-rows.false c.if-table-needed.false c.put_header.ensures c.put_table.ensures c.copy_bytes.ensures c.acceptance-answer.ensures refl
