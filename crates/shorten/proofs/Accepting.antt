@@ -13,7 +13,7 @@ use Rattle.forms.specs.Forms.{Formula, line_a, line_b, lines}
 use Rattle.calculus.specs.Rules.{Entry, row, claim}
 use Rattle.answers.specs.declared.Answer.{Answer}
 use Rattle.answers.specs.declared.WriteResult.{WriteResult}
-use Rattle.answers.specs.Answers.{answer, file_a, file_b, file_proof, Result, refused, accepted, fit, written, Written}
+use Rattle.answers.specs.Answers.{file_a, file_b, file_proof, Result, refused, accepted, fit, written, Written}
 use Rattle.answers.proofs.Results.{never, one_value, binds, bind-refused}
 use Rattle.fields.specs.declared.FileKind.{FileKind}
 use Rattle.fields.specs.declared.header.Headed.{Headed}
