@@ -35,7 +35,7 @@ use Rattle.run.specs.Run.{parts, parted, stages_short, claim_refused, check_cut,
 use Rattle.run.specs.Promises.{WritesGuards}
 use Rattle.run_branches.specs.Walks.{Countable}
 use Rattle.run_branches.proofs.FieldsByBytes.{fields-few}
-use Rattle.run_stages.specs.Staged.{staged, stages}
+use Rattle.run_stages.specs.Staged.{stages}
 use Rattle.run_cuts.specs.Cuts.{CutAsked}
 use Rattle.run_cuts.specs.All.{files, RunChecked}
 use Rattle.run_cuts.specs.declared.all.Cuts.{Cuts}
