@@ -1,6 +1,5 @@
 -- `run_guards::guards::guards` meets its contract: each refusal cites the law for its way. Assumes nothing.
 use mathlib.Core.Path.{refl, sym, ◌∙◌}
-use borrow.Author.Tests.{not-true, not-false}
 use Rattle.run_stages.proofs.StagesRead.{parted-is}
 use Rattle.run_cuts.proofs.Phases.{guards-refused, not-parted, stage-long, all_short, proof-long, unread, too_many, gathered}
 use Rattle.run_guards.proofs.guards.guards.Goals as goal
