@@ -13,7 +13,6 @@ use Rattle.integers.proofs.Magnitude.{within-add, within-mul, within-fits}
 use Rattle.forms.specs.Edition.{edition1, multiplier_range}
 use Rattle.forms.specs.Forms.{small}
 use Rattle.line_starts.proofs.term_fits.Goals as goal
-use Rattle.line_starts.proofs.term_fits.Goals.{Start}
 
 -- An integer as the machine word that holds it.
 abbrev word : ℤ → ℤ
@@ -41,19 +40,18 @@ module _ {f : ℤ} (ff : Within multiplier_range f) {v z : ℤ} (e : v ≡ z) (w
     unfolding small
     tested t = t ∙ ap (λ (u : ℤ). leb (nat_abs u) edition1.range) (to_z-of_z w64 (word (word f *ℤ word v) +ℤ m) sum_fits ∙ sum_is)
 
-few : (s : Start) → s.args.x < 65536
-few s = omega (arith, s.ranges.x)
-
-amount : (s : Start) → to_z w64 s.args.x ≡ pos s.args.x
-amount s = to_z_pos w64 s.args.x (omega (arith, few s))
+amount : {x : ℕ} → x < 65536 → to_z w64 x ≡ pos x
+amount {x} h = to_z_pos w64 x (omega arith)
 
 pub overflow_mul-product : goal.overflow_mul-product
 overflow_mul-product c = product-fits c.requires.1 c.number.ensures c.requires.2
 
 pub overflow_add-sum : goal.overflow_add-sum
-overflow_add-sum c = sum_fits c.requires.1 c.number.ensures c.requires.2 (few c.before) (amount c.before)
+overflow_add-sum c =
+    let few : c.args.x < 65536 = omega (arith, c.ranges.x) in
+    sum_fits c.requires.1 c.number.ensures c.requires.2 few (amount few)
 
 pub returns : goal.returns
 returns c =
-    let s = c.before.before in
-    tested s.requires.1 c.number.ensures s.requires.2 (few s) (amount s) c.in_range.ensures
+    let few : c.args.x < 65536 = omega (arith, c.ranges.x) in
+    tested c.requires.1 c.number.ensures c.requires.2 few (amount few) c.in_range.ensures
