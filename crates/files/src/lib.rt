@@ -1,45 +1,44 @@
 // Whole files into a buffer that the caller lends, and lines of text out of one: what the programs share.
-// Each count comes with what `&buf[..n]` asks (`Counts` of the kit's io).
+// Each count comes with what `&buf[..n]` asks (`IsPrefixLen` of specs/Counts.antt).
 #![tactic(auto)]
 
 ghost use Rattle.std.specs.Prelude.{◌≤◌, ◌<◌, min, ◌≡◌, []};
+ghost use Rattle.files.specs.Counts.{IsPrefixLen};
 ghost use Rattle.files.specs.Text.{Put, PutNumber, PutRefused, glyph, pair_of, hex_of};
-ghost use Rattle.io.specs.Counts.{IsPrefixLen};
 
-// Reads to the end of what fd has, or until buf is full. A read that fails makes it 0, as if nothing were there.
-fn read_to_end(fd: i32, buf: &mut [u8]) -> usize
+mod number;
+
+use std::fs;
+use std::io::{Read, Write};
+use std::rt::Files;
+
+// Reads to the end of what source has, or until buf is full. A read that fails makes it 0, as if nothing were there.
+fn read_to_end<S: Read>(source: &mut S, buf: &mut [u8]) -> usize
     ensures { IsPrefixLen result buf.new }
 {
     let mut done: usize = 0;
     while done < buf.len() {
-        let got = libc::read(fd, &mut buf[done..]);
-        if got < 0 {
-            return 0;
+        match source.read(&mut buf[done..]) {
+            Ok(0) => return done,
+            Ok(n) => done += n,
+            Err(_) => return 0,
         }
-        let n = io::count(got, &buf[done..]);
-        if n == 0 {
-            return done;
-        }
-        done += n;
     }
     done
 }
 
 // The bytes at the start of buf are those of the file, as many as fit; 0 where it cannot be opened or read.
-pub fn read(path: &[u8], buf: &mut [u8]) -> usize
+pub fn read<R: Files>(rt: &R, path: &str, buf: &mut [u8]) -> usize
     ensures { IsPrefixLen result buf.new }
 {
-    let fd = os::open_read(path);
-    if fd < 0 {
-        return 0;
+    match fs::open(rt, path) {
+        Ok(mut file) => read_to_end(&mut file, buf),
+        Err(_) => 0,
     }
-    let n = read_to_end(fd, buf);
-    libc::close(fd);
-    n
 }
 
 // Text is made in a buffer of the caller's: each `put_` function writes from `at` on, as far as there is room, and
-// answers where the text then ends. One `libc::write` then takes it all.
+// answers where the text then ends. One `write` then takes it all.
 
 fn least(a: usize, b: usize) -> usize
     ensures { (result ≤ a) × (result ≤ b) × (result ≡ min a b) }
@@ -69,7 +68,7 @@ pub fn put_decimal(buf: &mut [u8], at: usize, n: u64) -> usize
     ensures put_number { PutNumber buf.old at [] n buf.new result }
 {
     let mut digits = [0u8; 20];
-    let k = io::decimal(n, &mut digits);
+    let k = number::decimal(n, &mut digits);
     put_text(buf, at, &digits[..k])
 }
 
@@ -123,7 +122,7 @@ pub fn put_refused(buf: &mut [u8], number: u8, file: u8, place: usize) -> usize
     put_text(buf, end, b"\n")
 }
 
-// Writes all of text, whatever pieces write() takes.
-pub fn write(fd: i32, text: &[u8]) -> bool {
-    io::write_all(fd, text)
+// Writes all of text, whatever pieces one write takes; false where a write fails.
+pub fn write<W: Write>(out: &mut W, text: &[u8]) -> bool {
+    out.write_all(text).is_ok()
 }

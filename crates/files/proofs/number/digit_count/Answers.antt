@@ -1,0 +1,15 @@
+-- `files::number::digit_count` counts the digits. Assumes nothing.
+use Rattle.std.proofs.Common.{ℕ, ◌/◌, ap, ◌∙◌, arith}
+use Rattle.files.proofs.Digits.{div-pow-div, pow-le_of_div_pos, lt-pow_of_div-zero}
+use Rattle.files.proofs.number.digit_count.Goals as goal
+
+pub loop-rest-preserved : goal.loop-rest-preserved
+loop-rest-preserved c =
+    let l = c.loop-rest in
+    let n = c.args.n in
+    (omega arith, omega arith, ap (λ (m : ℕ). m / 10) l.invariant.2 ∙ div-pow-div n l.k, λ _. pow-le_of_div_pos n l.k (omega arith))
+
+pub returns : goal.returns
+returns c =
+    let l = c.loop-rest in
+    (omega arith, lt-pow_of_div-zero c.args.n l.k (omega arith), l.invariant.3)
