@@ -3,15 +3,14 @@
 #![tactic(auto)]
 
 ghost use Rattle.std.specs.Prelude.{take, replicate};
-ghost use Rattle.io.specs.Counts.{IsPrefixLen};
+ghost use Rattle.files.specs.Counts.{IsPrefixLen};
 ghost use Rattle.forms.specs.Edition.{edition1};
-ghost use Rattle.proof.specs.Check.{check as Check·check};
+ghost use Rattle.proof.specs.Check.{check as checked};
 ghost use Rattle.checker.specs.Said.{Printed};
 
 use answer_text::put_answer;
 use checking::check;
 use forms::{BUNDLE_BYTES, FORMULA_BYTES, PROOF_BYTES};
-use libc::STDOUT_FILENO;
 
 // Two digits for each byte of the longest formula, and what else the lines of an acceptance may have (`PutAccepted` of
 // answer_text). The line of a refusal is shorter.
@@ -21,7 +20,7 @@ const TEXT: usize = 2 * FORMULA_BYTES + 31;
 // formula.
 fn answer(a: &[u8], b: &[u8], p: &[u8], text: &mut [u8; TEXT]) -> usize
     ensures prefix_len { IsPrefixLen result text.new }
-    ensures printed { Printed (Check·check a.now b.now p.now (replicate edition1.formula_bytes 0)) (take result text.new) }
+    ensures printed { Printed (checked a.now b.now p.now (replicate edition1.formula_bytes 0)) (take result text.new) }
 {
     let mut out = [0u8; FORMULA_BYTES];
     let r = check(a, b, p, &mut out);
@@ -31,14 +30,14 @@ fn answer(a: &[u8], b: &[u8], p: &[u8], text: &mut [u8; TEXT]) -> usize
 }
 
 // Each file has room for one byte more than it may have, so that one that is too long is seen to be so; the rest of it changes nothing (`read-enough` of proofs/Enough.antt).
-fn main() {
+fn main(rt: HostRuntime) {
     let mut a = [0u8; BUNDLE_BYTES + 1];
     let mut b = [0u8; BUNDLE_BYTES + 1];
     let mut p = [0u8; PROOF_BYTES + 1];
     let mut text = [0u8; TEXT];
-    let na = files::read(b"a", &mut a);
-    let nb = files::read(b"b", &mut b);
-    let np = files::read(b"p", &mut p);
+    let na = files::read(&rt, "a", &mut a);
+    let nb = files::read(&rt, "b", &mut b);
+    let np = files::read(&rt, "p", &mut p);
     let n = answer(&a[..na], &b[..nb], &p[..np], &mut text);
-    files::write(STDOUT_FILENO, &text[..n]);
+    files::write(&mut rt.stdout(), &text[..n]);
 }

@@ -4,12 +4,11 @@
 
 ghost use Rattle.std.specs.Prelude.{◌≡◌, ◌≤◌, ◌*◌, ◌/◌, min, length, take};
 ghost use Rattle.std.proofs.lemmas.List.Edits.{sets};
-ghost use Rattle.io.specs.Counts.{IsPrefixLen};
+ghost use Rattle.files.specs.Counts.{IsPrefixLen};
 ghost use Rattle.number_bytes.specs.Numbers.{signeds};
 ghost use Rattle.guard.specs.Said.{test_files, Printed};
 
 use forms::{CONSTANTS, FORMULA_BYTES};
-use libc::STDOUT_FILENO;
 use number_bytes::words::signed_at;
 
 // The first count values of v, in place of as many at the start of values.
@@ -64,12 +63,12 @@ fn answer(f: &[u8], v: &[u8], text: &mut [u8; LINE]) -> usize
 }
 
 // Of a file that is longer than its buffer the rest changes nothing (`read-enough` of proofs/Values.antt).
-fn main() {
+fn main(rt: HostRuntime) {
     let mut f = [0u8; FORMULA_BYTES + 1];
     let mut v = [0u8; MANY * 4];
     let mut text = [0u8; LINE];
-    let nf = files::read(b"f", &mut f);
-    let nv = files::read(b"v", &mut v);
+    let nf = files::read(&rt, "f", &mut f);
+    let nv = files::read(&rt, "v", &mut v);
     let n = answer(&f[..nf], &v[..nv], &mut text);
-    files::write(STDOUT_FILENO, &text[..n]);
+    files::write(&mut rt.stdout(), &text[..n]);
 }
