@@ -35,9 +35,9 @@ fn main(rt: HostRuntime) {
     let mut b = [0u8; BUNDLE_BYTES + 1];
     let mut p = [0u8; PROOF_BYTES + 1];
     let mut text = [0u8; TEXT];
-    let na = files::read(&rt, "a", &mut a);
-    let nb = files::read(&rt, "b", &mut b);
-    let np = files::read(&rt, "p", &mut p);
+    let na = files::read(&rt, b"a", &mut a);
+    let nb = files::read(&rt, b"b", &mut b);
+    let np = files::read(&rt, b"p", &mut p);
     let n = answer(&a[..na], &b[..nb], &p[..np], &mut text);
     files::write(&mut rt.stdout(), &text[..n]);
 }

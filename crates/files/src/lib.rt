@@ -27,8 +27,18 @@ fn read_to_end<S: Read>(source: &mut S, buf: &mut [u8]) -> usize
     done
 }
 
-// The bytes at the start of buf are those of the file, as many as fit; 0 where it cannot be opened or read.
-pub fn read<R: Files>(rt: &R, path: &str, buf: &mut [u8]) -> usize
+// The bytes at the start of buf are those of the file, as many as fit; 0 where it cannot be opened or read. (A path that is no
+// text cannot.)
+pub fn read<R: Files>(rt: &R, path: &[u8], buf: &mut [u8]) -> usize
+    ensures { IsPrefixLen result buf.new }
+{
+    match str::from_utf8(path) {
+        Ok(path) => read_at(rt, path, buf),
+        Err(_) => 0,
+    }
+}
+
+fn read_at<R: Files>(rt: &R, path: &str, buf: &mut [u8]) -> usize
     ensures { IsPrefixLen result buf.new }
 {
     match fs::open(rt, path) {

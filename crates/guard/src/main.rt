@@ -67,8 +67,8 @@ fn main(rt: HostRuntime) {
     let mut f = [0u8; FORMULA_BYTES + 1];
     let mut v = [0u8; MANY * 4];
     let mut text = [0u8; LINE];
-    let nf = files::read(&rt, "f", &mut f);
-    let nv = files::read(&rt, "v", &mut v);
+    let nf = files::read(&rt, b"f", &mut f);
+    let nv = files::read(&rt, b"v", &mut v);
     let n = answer(&f[..nf], &v[..nv], &mut text);
     files::write(&mut rt.stdout(), &text[..n]);
 }
