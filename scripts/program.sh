@@ -48,7 +48,8 @@ build() { # NAME
     program=$root/target/bin/$1
     if [ ! -x "$program" ] || [ -n "$(newer "$program")" ]; then
         needs rt "the Rattle kit to prove and build target/bin/$1"
-        (cd "$root/crates/$1" && rt run) >&2 </dev/null || exit 2
+        tell "building target/bin/$1: what is not proved yet is proved first, which can take some minutes"
+        said=$( (cd "$root/crates/$1" && rt run) 2>&1 </dev/null) || fail "$said"
         mkdir -p "$root/target/bin" && cp "$root/crates/$1/out/$1" "$program" || exit 2
     fi
 }
