@@ -1,6 +1,5 @@
 -- `dulgaverk::dulgaverk_scheduler_turn` meets its contract. Assumes nothing.
 use native.Mathlib.Omega.{arith}
-use borrow.Author.Rules.{rules}
 use mathlib.Core.Path.{sym, ◌∙◌}
 use Rattle.scheduler.proofs.Looking.{next-seated}
 use Rattle.dulgaverk.proofs.Jobs.{turn_serves, turn_idle}
@@ -14,9 +13,6 @@ bounds-s-seat c = next-seated c.args.s (sym c.next_seat.ensures ∙ c.in-Seat.is
 
 pub served-requires : goal.served-requires
 served-requires c = next-seated c.args.s (sym c.next_seat.ensures ∙ c.in-Seat.is)
-
-pub enum_told-1 : goal.enum_told-1
-enum_told-1 c = search rules
 
 pub returns-in-Seat : goal.returns-in-Seat
 returns-in-Seat c = turn_serves _ _ _ (sym c.in-Seat.is ∙ c.next_seat.ensures) c.check_job-result.ensures c.served.ensures
