@@ -3,7 +3,6 @@ use mathlib.Core.Path.{refl, sym, ◌∙◌}
 use Rattle.fields.specs.Places.{fields_at}
 use Rattle.fields.proofs.Places.{starts, starts-less, next-cut, next-ends}
 use Rattle.conversion_survey.proofs.SurveyedFields.{fits_on, fits-stop, fits_cut, fits-ends, fit_is, there-here, there-on, there-room}
-use borrow.Author.Rules.{rules}
 use Rattle.conversion_survey.proofs.first_wide.Goals as goal
 
 pub loop-place-init : goal.loop-place-init
@@ -20,9 +19,6 @@ loop-place-preserved c = let k = starts c.next_field.ensures c.in-Field.is in (c
 
 pub returns-else-lines_held : goal.returns-else-lines_held
 returns-else-lines_held c = let k = starts c.next_field.ensures c.in-Field.is in c.loop-place.invariant.0 ∙ fits-stop c.args.e c.args.to k (fit_is c.args.e c.args.to k c.line_count.result c.line_count.ensures.is (rw c.line_count.ensures.is (there-here c.args.e c.args.to k c.loop-place.invariant.1)) ∙ sym c.lines_held.ensures ∙ c.if-lines_held.false)
-
-pub enum_told-1 : goal.enum_told-1
-enum_told-1 c = search rules
 
 pub returns-in-Cut : goal.returns-in-Cut
 returns-in-Cut c = c.loop-place.invariant.0 ∙ fits_cut c.args.e c.args.to (next-cut (fields_at c.args.p.now c.loop-place.here) c.next_field.ensures c.in-Cut.is)

@@ -4,7 +4,6 @@ use native.Mathlib.Omega.{arith}
 use Rattle.fields.specs.Places.{fields_at}
 use Rattle.fields.proofs.Places.{starts, starts-less, next-cut, next-ends}
 use Rattle.conversion_survey.proofs.SurveyedFields.{entries-on, lines-here, entries-stop, entries-cut, entries-ends, fit-step, line-room, fits-ends, size_step, spare-step, len-most, size-ends}
-use borrow.Author.Rules.{rules}
 use Rattle.conversion_survey.proofs.read_entries.Goals as goal
 
 pub loop-place-init : goal.loop-place-init
@@ -36,9 +35,6 @@ returns-in-Refused c = let k = starts c.next_field.ensures c.in-Field.is in c.lo
 
 pub returns-in-Cut : goal.returns-in-Cut
 returns-in-Cut c = c.loop-place.invariant.0 ∙ entries-cut c.args.e c.args.k c.loop-place.made (next-cut (fields_at c.args.p.now c.loop-place.here) c.next_field.ensures c.in-Cut.is)
-
-pub enum_told-1 : goal.enum_told-1
-enum_told-1 c = search rules
 
 pub returns-in-Ends : goal.returns-in-Ends
 returns-in-Ends c = let e = next-ends (fields_at c.args.p.now c.loop-place.here) c.next_field.ensures c.in-Ends.is in (c.loop-place.invariant.0 ∙ entries-ends c.args.e c.args.k c.loop-place.made e, size-ends c.args.e c.args.to c.loop-place.invariant.1 e, omega (arith, c.loop-place.invariant.2), λ z. c.loop-place.invariant.3 z ∙ fits-ends c.args.e c.args.to e)

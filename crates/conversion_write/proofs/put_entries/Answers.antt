@@ -31,9 +31,6 @@ loop-tag-smaller c = starts-less (starts c.next_field.ensures c.in-Field.is)
 pub loop-tag-preserved : goal.loop-tag-preserved
 loop-tag-preserved c = let k = starts c.next_field.ensures c.in-Field.is in (c.loop-tag.invariant.0 ∙ put_step c.args.e c.args.to k c.loop-tag.out c.loop-tag.end c.put_entry.ensures c.turned_len.result c.turned_len.ensures.is, there-on c.args.e c.args.to k c.loop-tag.invariant.1, put-room c.args.e c.args.to k c.loop-tag.out c.loop-tag.end c.put_entry.ensures c.turned_len.result c.turned_len.ensures.is c.loop-tag.invariant.2, put-length c.args.e c.args.to k c.loop-tag.out c.loop-tag.end c.put_entry.ensures c.turned_len.result c.turned_len.ensures.is ∙ c.loop-tag.invariant.3)
 
-pub enum_told-1 : goal.enum_told-1
-enum_told-1 c = search rules
-
 pub shape_of-out-in-Cut : goal.shape_of-out-in-Cut
 shape_of-out-in-Cut c = c.loop-tag.invariant.3
 

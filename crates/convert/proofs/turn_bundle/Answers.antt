@@ -1,7 +1,6 @@
 -- `convert::turn_bundle` meets its contract. Assumes nothing.
 use native.Mathlib.Omega.{arith}
 use Rattle.convert.proofs.Phases.{asked_by, one_or_two, bundle-unasked, bundle-long, bundle-not-other, to-turn}
-use borrow.Author.Rules.{rules}
 use Rattle.convert.proofs.turn_bundle.Goals as goal
 
 pub returns-then-file-gt-BUNDLE_BYTES : goal.returns-then-file-gt-BUNDLE_BYTES
@@ -21,6 +20,3 @@ returns-in-Refused c = bundle-not-other c.args.edition c.args.file.now c.args.ou
 
 pub returns : goal.returns
 returns c = bundle-unasked c.args.edition c.args.file.now c.args.out.now c.is_edition.ensures c.if-is_edition.false c.refused-2.ensures
-
-pub enum_told-1 : goal.enum_told-1
-enum_told-1 c = search rules

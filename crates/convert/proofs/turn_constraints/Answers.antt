@@ -1,6 +1,5 @@
 -- `convert::turn_constraints` meets its contract. Assumes nothing.
 use Rattle.convert.proofs.Constraints.{left, number-unheld, none-unheld}
-use borrow.Author.Rules.{rules}
 use Rattle.convert.proofs.turn_constraints.Goals as goal
 
 pub first_field_unheld-requires : goal.first_field_unheld-requires
@@ -11,6 +10,3 @@ put_bundle-requires c = none-unheld c.args.to c.args.file.now c.args.out.now c.a
 
 pub returns-in-Refused : goal.returns-in-Refused
 returns-in-Refused c = number-unheld c.args.to c.args.file.now c.args.out.now c.args.k c.args.body c.requires c.first_field_unheld.ensures c.in-Refused.is c.refused.ensures
-
-pub enum_told-1 : goal.enum_told-1
-enum_told-1 c = search rules

@@ -1,7 +1,6 @@
 -- `convert::turn_proof` meets its contract. Assumes nothing.
 use native.Mathlib.Omega.{arith}
 use Rattle.convert.proofs.Phases.{asked_by, one_or_two, proof-unasked, proof-long, proof-not-other, proof-no-header, to-enter}
-use borrow.Author.Rules.{rules}
 use Rattle.convert.proofs.turn_proof.Goals as goal
 
 pub returns-then-file-gt-PROOF_BYTES : goal.returns-then-file-gt-PROOF_BYTES
@@ -12,9 +11,6 @@ overflow_cast-to c = omega (arith, one_or_two c.args.edition c.args.file.now c.a
 
 pub has_other-requires : goal.has_other-requires
 has_other-requires c = asked_by c.args.edition c.args.file.now c.args.out.now c.is_edition.ensures c.if-is_edition.true
-
-pub enum_told-1 : goal.enum_told-1
-enum_told-1 c = search rules
 
 pub returns-in-Refused : goal.returns-in-Refused
 returns-in-Refused c = proof-not-other c.args.edition c.args.file.now c.args.out.now (asked_by c.args.edition c.args.file.now c.args.out.now c.is_edition.ensures c.if-is_edition.true) (omega (arith, c.if-file-gt-PROOF_BYTES.false)) c.has_other.ensures c.in-Refused.is c.refused-in-Refused.ensures

@@ -14,11 +14,5 @@ shorten_accepted-requires c =
     let k = c.requires in
     is-accepted k.checks k.one (sym (ap (λ (a : Answer). a.number) k.is) ∙ c.if-checked-ne21.false)
 
-pub shape_of-report : goal.shape_of-report
-shape_of-report c = c.report-1.given
-
-pub shape_of-table : goal.shape_of-table
-shape_of-table c = c.table-1.given
-
 pub returns : goal.returns
 returns c = c.shorten_accepted.ensures

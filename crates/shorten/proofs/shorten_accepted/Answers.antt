@@ -1,7 +1,6 @@
 -- `shorten::shorten_accepted` meets its contract. Assumes nothing.
 use native.Mathlib.Omega.{arith}
 use Rattle.shorten.proofs.Accepting.{scans-A, scans-B, reads-header, has-begun, counts-fit, fields-shortened, stated-any, stated-few}
-use borrow.Author.Rules.{rules}
 use Rattle.shorten.proofs.shorten_accepted.Goals as goal
 
 pub overflow_add-constraints : goal.overflow_add-constraints
@@ -13,26 +12,11 @@ overflow_cast-constraints c = record { fits = omega (arith, counts-fit c.require
 pub shorten_few-requires : goal.shorten_few-requires
 shorten_few-requires c = stated-few c.requires (has-begun c.requires c.scan.ensures c.in-Bundle.is c.scan-in-Bundle.ensures c.in-Bundle-scan.is c.read_header.ensures c.in-Header.is) c.if-proof-le-BYTES_FEW.true
 
-pub shape_of-report-then-proof-le-BYTES_FEW : goal.shape_of-report-then-proof-le-BYTES_FEW
-shape_of-report-then-proof-le-BYTES_FEW c = c.report-1.given
-
-pub shape_of-table-then-proof-le-BYTES_FEW : goal.shape_of-table-then-proof-le-BYTES_FEW
-shape_of-table-then-proof-le-BYTES_FEW c = c.table-1.given
-
 pub returns-then-proof-le-BYTES_FEW : goal.returns-then-proof-le-BYTES_FEW
 returns-then-proof-le-BYTES_FEW c = fields-shortened c.requires (has-begun c.requires c.scan.ensures c.in-Bundle.is c.scan-in-Bundle.ensures c.in-Bundle-scan.is c.read_header.ensures c.in-Header.is) c.shorten_few.ensures
 
 pub shorten_any-requires : goal.shorten_any-requires
 shorten_any-requires c = stated-any c.requires (has-begun c.requires c.scan.ensures c.in-Bundle.is c.scan-in-Bundle.ensures c.in-Bundle-scan.is c.read_header.ensures c.in-Header.is)
-
-pub enum_told-1 : goal.enum_told-1
-enum_told-1 c = search rules
-
-pub shape_of-report : goal.shape_of-report
-shape_of-report c = c.report-in-Header-1.given
-
-pub shape_of-table : goal.shape_of-table
-shape_of-table c = c.table-in-Header-1.given
 
 pub returns-else-proof-le-BYTES_FEW : goal.returns-else-proof-le-BYTES_FEW
 returns-else-proof-le-BYTES_FEW c = fields-shortened c.requires (has-begun c.requires c.scan.ensures c.in-Bundle.is c.scan-in-Bundle.ensures c.in-Bundle-scan.is c.read_header.ensures c.in-Header.is) c.shorten_any.ensures

@@ -2,7 +2,6 @@
 use native.Mathlib.Omega.{arith}
 use Rattle.fields.proofs.Places.{starts, starts-less, next-cut, next-ends}
 use Rattle.shortening_marks.proofs.Gathering.{gathering-start, gathering-cut, gathering-done, entry-there, rows-room, stack-room, rows_fit, gathering-claim, gathering-row}
-use borrow.Author.Rules.{rules}
 use Rattle.shortening_marks.proofs.gather.Goals as goal
 
 pub loop-tag-init : goal.loop-tag-init
@@ -34,9 +33,6 @@ loop-tag-smaller c = starts-less (starts c.next_field.ensures c.in-Field.is)
 
 pub loop-tag-preserved : goal.loop-tag-preserved
 loop-tag-preserved c = λ K a. gathering-claim (c.loop-tag.invariant K a) (starts c.next_field.ensures c.in-Field.is) c.outline_at-x.ensures c.if-x-ne-CLAIMS.false
-
-pub enum_told-1 : goal.enum_told-1
-enum_told-1 c = search rules
 
 pub shape_of-gathered-in-Cut : goal.shape_of-gathered-in-Cut
 shape_of-gathered-in-Cut c = (c.loop-tag.invariant c.args.body.k c.requires).gathered-length

@@ -2,7 +2,6 @@
 use native.Mathlib.Omega.{arith}
 use Rattle.fields.proofs.Places.{starts, starts-less, next-cut, next-ends}
 use Rattle.shortening_table.proofs.Writing.{writing_start, writing-cut, writing-done, entry-there, claim-keepable, writing-claim, row-reported, rows_fit, lines_fit, gone-renewable, writing-gone, row-keepable, stack-room, row-renewable, writing-row}
-use borrow.Author.Rules.{rules}
 use Rattle.shortening_table.proofs.put_table.Goals as goal
 
 pub loop-tag-init : goal.loop-tag-init
@@ -55,9 +54,6 @@ loop-tag-smaller c = starts-less (starts c.next_field.ensures c.in-Field.is)
 
 pub loop-tag-preserved : goal.loop-tag-preserved
 loop-tag-preserved c = λ K a. writing-row (c.loop-tag.invariant K a) (starts c.next_field.ensures c.in-Field.is) c.if-tag-eq32.false c.if-report-rows-eq0.false c.outline_at-x.ensures c.put_kept-to-else-report-rows-eq0.ensures c.renew-else-report-rows-eq0.ensures c.advance-moved.ensures
-
-pub enum_told-1 : goal.enum_told-1
-enum_told-1 c = search rules
 
 pub shape_of-gones-in-Cut : goal.shape_of-gones-in-Cut
 shape_of-gones-in-Cut c = (c.loop-tag.invariant c.args.body.k c.requires).gones-length

@@ -7,7 +7,6 @@ use lib.ListN.{get_or}
 use borrow.Author.Tests.{eq-eqb, ne_eqb}
 use Rattle.fields.proofs.Places.{starts, starts-less, next-cut, next-ends}
 use Rattle.shortening_table.proofs.Counting.{counting-start, counting-done, kept_lines-fit, claim-stays, claim-goes, row-there, row_stays, row_goes, kept_test}
-use borrow.Author.Rules.{rules}
 use Rattle.shortening_table.proofs.table_bytes.Goals as goal
 
 pub loop-tag-init : goal.loop-tag-init
@@ -54,9 +53,6 @@ loop-tag-smaller c = starts-less (starts c.next_field.ensures c.in-Field.is)
 
 pub loop-tag-preserved : goal.loop-tag-preserved
 loop-tag-preserved c = row_goes c.loop-tag.invariant (starts c.next_field.ensures c.in-Field.is) c.if-tag-eq32.false (not (eqb (get_or c.args.report.now c.loop-tag.rows 0) 0)) (kept_test (get_or c.args.report.now c.loop-tag.rows 0)) (ap not (eq-eqb _ 0 c.if-stays-2.false))
-
-pub enum_told-1 : goal.enum_told-1
-enum_told-1 c = search rules
 
 pub returns-in-Cut : goal.returns-in-Cut
 returns-in-Cut c = let d = counting-done c.loop-tag.invariant _ (next-cut _ c.next_field.ensures c.in-Cut.is) refl in record { is = d.0; within = d.1 }

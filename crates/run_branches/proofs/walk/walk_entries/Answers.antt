@@ -3,7 +3,6 @@ use native.Mathlib.Omega.{arith}
 use mathlib.Core.Path.{refl}
 use Rattle.fields.proofs.Places.{starts, starts-less, next-cut, next-ends}
 use Rattle.run_branches.proofs.EntriesLoop.{going_start, going-ends, going-cut, row-few, going-goes, going-opens, going-closes, going-claims, going-fault}
-use borrow.Author.Rules.{rules}
 use Rattle.run_branches.proofs.walk.walk_entries.Goals as goal
 
 pub loop-a-init : goal.loop-a-init
@@ -13,9 +12,6 @@ pub kind_at-requires : goal.kind_at-requires
 kind_at-requires c =
     let s = starts c.next_field.ensures c.in-Field.is in
     (c.requires.k_le_constants, omega (arith, s.next-is, s.upto))
-
-pub enum_told-1 : goal.enum_told-1
-enum_told-1 c = search rules
 
 pub overflow_add-count : goal.overflow_add-count
 overflow_add-count c = omega (arith, row-few c.loop-a.invariant (starts c.next_field.ensures c.in-Field.is) c.kind_at.ensures)

@@ -1,10 +1,6 @@
 -- `run_cuts::all::joined` meets its contract. Assumes nothing.
 use native.Mathlib.Omega.{arith}
-use borrow.Author.Rules.{rules}
 use Rattle.run_cuts.proofs.all.joined.Goals as goal
-
-pub enum_told-1 : goal.enum_told-1
-enum_told-1 c = search rules
 
 pub overflow_add-size : goal.overflow_add-size
 overflow_add-size c =

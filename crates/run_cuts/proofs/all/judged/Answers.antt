@@ -1,9 +1,5 @@
 -- `run_cuts::all::judged` meets its contract. Assumes nothing.
-use borrow.Author.Rules.{rules}
 use Rattle.run_cuts.proofs.all.judged.Goals as goal
-
-pub enum_told-1 : goal.enum_told-1
-enum_told-1 c = search rules
 
 pub returns-in-Refused-all : goal.returns-in-Refused-all
 returns-in-Refused-all c = rw (c.in-Refused.is, c.in-Refused-all.is, c.earlier_refusal-answer.ensures)

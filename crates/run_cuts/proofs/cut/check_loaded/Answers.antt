@@ -3,47 +3,16 @@ use mathlib.Core.Path.{refl}
 use native.Mathlib.Omega.{arith}
 use Rattle.forms.proofs.Editions.{lines-most}
 use Rattle.run_cuts.proofs.OneCut.{root-fault, root-unended, root-ended}
-use borrow.Author.Rules.{rules}
 use Rattle.run_cuts.proofs.cut.check_loaded.Goals as goal
 
 pub overflow_cast-made : goal.overflow_cast-made
 overflow_cast-made c = omega (arith, lines-most c.args.e, c.requires.ready.most)
 
-pub enum_told-1 : goal.enum_told-1
-enum_told-1 c = search rules
-
-pub shape_of-lines-in-Fault : goal.shape_of-lines-in-Fault
-shape_of-lines-in-Fault c = c.lines-1.given
-
-pub shape_of-kinds-in-Fault : goal.shape_of-kinds-in-Fault
-shape_of-kinds-in-Fault c = c.kinds-1.given
-
-pub shape_of-scratch-in-Fault : goal.shape_of-scratch-in-Fault
-shape_of-scratch-in-Fault c = c.scratch-1.given
-
 pub returns-in-Fault : goal.returns-in-Fault
 returns-in-Fault c = root-fault c.check_branch.ensures c.root-position.ensures refl c.in-Fault.is c.proof_refusal.ensures c.claimed-answer.ensures
 
-pub shape_of-lines-in-Ended : goal.shape_of-lines-in-Ended
-shape_of-lines-in-Ended c = c.lines-1.given
-
-pub shape_of-kinds-in-Ended : goal.shape_of-kinds-in-Ended
-shape_of-kinds-in-Ended c = c.kinds-1.given
-
-pub shape_of-scratch-in-Ended : goal.shape_of-scratch-in-Ended
-shape_of-scratch-in-Ended c = c.scratch-1.given
-
 pub returns-in-Ended : goal.returns-in-Ended
 returns-in-Ended c = root-ended c.check_branch.ensures c.root-position.ensures refl c.in-Closed.is c.ending_at.ensures c.requires c.in-Ended.is
-
-pub shape_of-lines-in-Fault-ending_at : goal.shape_of-lines-in-Fault-ending_at
-shape_of-lines-in-Fault-ending_at c = c.lines-1.given
-
-pub shape_of-kinds-in-Fault-ending_at : goal.shape_of-kinds-in-Fault-ending_at
-shape_of-kinds-in-Fault-ending_at c = c.kinds-1.given
-
-pub shape_of-scratch-in-Fault-ending_at : goal.shape_of-scratch-in-Fault-ending_at
-shape_of-scratch-in-Fault-ending_at c = c.scratch-1.given
 
 pub returns-in-Fault-ending_at : goal.returns-in-Fault-ending_at
 returns-in-Fault-ending_at c = root-unended c.check_branch.ensures c.root-position.ensures refl c.in-Closed.is c.ending_at.ensures c.in-Fault-ending_at.is c.refusal.ensures c.claimed-answer-in-Fault-ending_at.ensures

@@ -19,17 +19,5 @@ returns-then-sizes-lengths c = sizes-short c.requires.stages_passed c.requires.t
 pub write_guards-requires : goal.write_guards-requires
 write_guards-requires c = record { cut_asked = c.requires.cut_asked; guards_fit = all_room c.requires.stages_passed c.requires.totals c.if-not-fit.false c.if-out-total.false c.if-sizes-lengths.false }
 
-pub shape_of-lines : goal.shape_of-lines
-shape_of-lines c = c.lines-1.given
-
-pub shape_of-kinds : goal.shape_of-kinds
-shape_of-kinds c = c.kinds-1.given
-
-pub shape_of-out : goal.shape_of-out
-shape_of-out c = c.out-1.given
-
-pub shape_of-sizes : goal.shape_of-sizes
-shape_of-sizes c = c.sizes-1.given
-
 pub returns : goal.returns
 returns c = all-written c.requires.stages_passed c.requires.totals c.if-not-fit.false c.if-out-total.false c.if-sizes-lengths.false c.write_guards.ensures c.acceptance-answer.ensures refl

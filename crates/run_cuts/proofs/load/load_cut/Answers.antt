@@ -2,7 +2,6 @@
 use native.Mathlib.Omega.{arith}
 use Rattle.run_stages.proofs.StagesInTurn.{part-upto, scan-bundle}
 use Rattle.run_cuts.proofs.CutLines.{cut-start, cut-done, cut-refused, cut-few, cut-able, cut-next}
-use borrow.Author.Rules.{rules}
 use Rattle.run_cuts.proofs.load.load_cut.Goals as goal
 
 pub loop-i-init : goal.loop-i-init
@@ -34,9 +33,6 @@ overflow_add-m c = omega (arith, cut-few c.loop-i.invariant c.loop-i-test.true (
 
 pub loop-i-preserved : goal.loop-i-preserved
 loop-i-preserved c = cut-next c.loop-i.invariant c.loop-i-test.true (scan-bundle c.scan.ensures c.in-Bundle.is) c.coefficient_bytes-width.ensures c.load.ensures
-
-pub enum_told-1 : goal.enum_told-1
-enum_told-1 c = search rules
 
 pub shape_of-lines-in-Refused : goal.shape_of-lines-in-Refused
 shape_of-lines-in-Refused c = c.loop-i.invariant.lines_length

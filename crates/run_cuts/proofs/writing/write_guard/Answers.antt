@@ -2,7 +2,6 @@
 use native.Mathlib.Omega.{arith}
 use mathlib.Core.Path.{◌∙◌}
 use Rattle.run_cuts.proofs.GuardFiles.{guard-room, guard-never, guard-few, guard-written}
-use borrow.Author.Rules.{rules}
 use Rattle.run_cuts.proofs.writing.write_guard.Goals as goal
 
 pub put_header-requires : goal.put_header-requires
@@ -23,26 +22,11 @@ check_cut-requires c = c.requires.cut_asked
 pub overflow_add-result : goal.overflow_add-result
 overflow_add-result c = omega (arith, guard-few c.requires.guard_fits c.check_cut.ensures c.in-Derived.is)
 
-pub enum_told-1 : goal.enum_told-1
-enum_told-1 c = search rules
-
-pub shape_of-lines-in-Derived : goal.shape_of-lines-in-Derived
-shape_of-lines-in-Derived c = c.lines-1.given
-
-pub shape_of-kinds-in-Derived : goal.shape_of-kinds-in-Derived
-shape_of-kinds-in-Derived c = c.kinds-1.given
-
 pub shape_of-out-in-Derived : goal.shape_of-out-in-Derived
 shape_of-out-in-Derived c = c.out-2-1.given.1 ∙ c.out-1.given
 
 pub returns-in-Derived : goal.returns-in-Derived
 returns-in-Derived c = guard-written c.requires.guard_fits c.check_cut.ensures c.in-Derived.is c.put_header.ensures
-
-pub shape_of-lines-in-Refused : goal.shape_of-lines-in-Refused
-shape_of-lines-in-Refused c = c.lines-1.given
-
-pub shape_of-kinds-in-Refused : goal.shape_of-kinds-in-Refused
-shape_of-kinds-in-Refused c = c.kinds-1.given
 
 pub shape_of-out-in-Refused : goal.shape_of-out-in-Refused
 shape_of-out-in-Refused c = c.out-2-1.given.1 ∙ c.out-1.given

@@ -2,7 +2,6 @@
 use native.Mathlib.Omega.{arith}
 use Rattle.fields.proofs.Places.{starts, next-cut, next-ends}
 use Rattle.run_fields.proofs.SameFields.{none_first, none-second, ends-none, cut-none, tags-differ, lengths_differ, contents-differ, fields-same}
-use borrow.Author.Rules.{rules}
 use Rattle.run_fields.proofs.same.same_field.Goals as goal
 
 pub returns-then-tag-t : goal.returns-then-tag-t
@@ -19,9 +18,6 @@ same_bytes-requires c =
 
 pub returns-then-same_bytes : goal.returns-then-same_bytes
 returns-then-same_bytes c = fields-same (starts c.next_field.ensures c.in-Field.is) (starts c.next_field-in-Field.ensures c.in-Field-next_field.is) c.if-tag-t.false c.if-len-l.false c.same_bytes.ensures c.if-same_bytes.true
-
-pub enum_told-1 : goal.enum_told-1
-enum_told-1 c = search rules
 
 pub returns-else-same_bytes : goal.returns-else-same_bytes
 returns-else-same_bytes c = contents-differ (starts c.next_field.ensures c.in-Field.is) (starts c.next_field-in-Field.ensures c.in-Field-next_field.is) c.if-tag-t.false c.if-len-l.false c.same_bytes.ensures c.if-same_bytes.false

@@ -1,6 +1,5 @@
 -- `run_fields::same::same_fields` meets its contract. Assumes nothing.
 use Rattle.run_fields.proofs.SameFields.{fields-start, fields-done, fields-differ, fields-next}
-use borrow.Author.Rules.{rules}
 use Rattle.run_fields.proofs.same.same_fields.Goals as goal
 
 pub loop-i-init : goal.loop-i-init
@@ -8,9 +7,6 @@ loop-i-init c = fields-start _ _ _ _
 
 pub loop-i-preserved : goal.loop-i-preserved
 loop-i-preserved c = fields-next c.loop-i.invariant c.same_field.ensures c.loop-i-test.true c.in-Same.is
-
-pub enum_told-1 : goal.enum_told-1
-enum_told-1 c = search rules
 
 pub returns-in-Differ : goal.returns-in-Differ
 returns-in-Differ c = fields-differ c.loop-i.invariant c.same_field.ensures c.loop-i-test.true c.in-Differ.is

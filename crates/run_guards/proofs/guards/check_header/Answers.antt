@@ -5,23 +5,11 @@ use Rattle.run_guards.proofs.guards.check_header.Goals as goal
 pub check_narrow-requires : goal.check_narrow-requires
 check_narrow-requires c = record { stages_passed = c.requires; proof_begun = begun c.requires c.read_header.ensures c.in-Header.is; e_value = c.if-e-eq1.true }
 
-pub shape_of-out-then-e-eq1 : goal.shape_of-out-then-e-eq1
-shape_of-out-then-e-eq1 c = c.out-1.given
-
-pub shape_of-sizes-then-e-eq1 : goal.shape_of-sizes-then-e-eq1
-shape_of-sizes-then-e-eq1 c = c.sizes-1.given
-
 pub returns-then-e-eq1 : goal.returns-then-e-eq1
 returns-then-e-eq1 c = c.check_narrow.ensures
 
 pub check_wide-requires : goal.check_wide-requires
 check_wide-requires c = record { stages_passed = c.requires; proof_begun = begun c.requires c.read_header.ensures c.in-Header.is }
-
-pub shape_of-out : goal.shape_of-out
-shape_of-out c = c.out-in-Header-1.given
-
-pub shape_of-sizes : goal.shape_of-sizes
-shape_of-sizes c = c.sizes-in-Header-1.given
 
 pub returns-else-e-eq1 : goal.returns-else-e-eq1
 returns-else-e-eq1 c = c.check_wide.ensures

@@ -11,11 +11,5 @@ use Rattle.run_guards.proofs.guards.check_wide.Goals as goal
 pub check_run-requires : goal.check_run-requires
 check_run-requires c = record { stages_passed = c.requires.stages_passed; cut_asked = asked c.requires.stages_passed c.requires.proof_begun (spare-all c.args.e (c.args.count + lines_left c.args.e c.args.proof.now c.args.at) (lines-any c.args.e (c.args.count + lines_left c.args.e c.args.proof.now c.args.at)) (omega (arith, length-replicate {A = ℕ} 1001 0)) c.requires.stages_passed.high (omega (arith, length-replicate {A = ℤ} 34034 (pos 0)))) }
 
-pub shape_of-out : goal.shape_of-out
-shape_of-out c = c.out-1.given
-
-pub shape_of-sizes : goal.shape_of-sizes
-shape_of-sizes c = c.sizes-1.given
-
 pub returns : goal.returns
 returns c = c.check_run.ensures

@@ -28,11 +28,5 @@ check_header-requires c = gathered _ _ _ (sym c.parted.ensures ∙ c.if-not-part
 pub returns-in-Refused : goal.returns-in-Refused
 returns-in-Refused c = guards-refused (unread _ _ _ (sym c.parted.ensures ∙ c.if-not-parted.false) (all_short c.long_stage-long.ensures c.if-long-ne0.false) c.if-proof-gt-PROOF_BYTES.false c.read_stages.ensures c.in-Refused.is) refl
 
-pub shape_of-out : goal.shape_of-out
-shape_of-out c = c.out-1.given
-
-pub shape_of-sizes : goal.shape_of-sizes
-shape_of-sizes c = c.sizes-1.given
-
 pub returns-else-count-gt-ALL_CONSTRAINTS : goal.returns-else-count-gt-ALL_CONSTRAINTS
 returns-else-count-gt-ALL_CONSTRAINTS c = c.check_header.ensures
