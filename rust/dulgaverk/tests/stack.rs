@@ -293,7 +293,10 @@ fn a_formula_on_half_the_stack() {
         &[vec![and(); 600], vec![comparison(false, &[1, -7]); 601]].concat(),
     );
     on_stack(TEST, || ());
-    let truth = on_stack(TEST / 2, move || dulgaverk::test_formula(&formula, &[7]));
+    // The compiler of today leaves a little of half of it unused.
+    let truth = on_stack(TEST / 2 - 8 * 1024, move || {
+        dulgaverk::test_formula(&formula, &[7])
+    });
     assert_eq!(truth, Ok(true));
 }
 
