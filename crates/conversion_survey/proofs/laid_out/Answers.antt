@@ -1,4 +1,5 @@
 -- `conversion_survey::laid_out` meets its contract, tag by tag. Assumes nothing.
+use borrow.Author.Rules.{rules}
 use native.Mathlib.Omega.{arith}
 use Rattle.proof.proofs.Entered.{unknown}
 use Rattle.conversion_survey.proofs.SurveyedFields.{bytes_most, combine-laid, reduce-laid, scale-laid, strengthen-laid, number-laid, stride-laid, round-laid, split-laid, claim-laid, claim-out, first_out, second-out, unknown-out}
@@ -77,4 +78,4 @@ pub returns-in-2 : goal.returns-in-2
 returns-in-2 c = second-out c.in-2.is
 
 pub returns-in_default : goal.returns-in_default
-returns-in_default c = unknown-out (unknown _ c.in_default.in_default-own.rest.0.0.0.0.0.0.0.0.0.0.1 c.in_default.in_default-own.rest.0.0.0.0.0.0.0.0.0.1 c.in_default.in_default-own.rest.0.0.0.0.0.0.0.0.1 c.in_default.in_default-own.rest.0.0.0.0.0.0.0.1 c.in_default.in_default-own.rest.0.0.0.0.0.0.1 c.in_default.in_default-own.rest.0.0.0.0.0.1 c.in_default.in_default-own.rest.0.0.0.0.1 c.in_default.in_default-own.rest.0.0.0.1 c.in_default.in_default-own.rest.0.0.1 c.in_default.in_default-own.rest.0.1 c.in_default.in_default-own.rest.1)
+returns-in_default c = unknown-out (search (rules, unknown))

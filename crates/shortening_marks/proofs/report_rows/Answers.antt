@@ -6,7 +6,7 @@ pub gather-rows-requires : goal.gather-rows-requires
 gather-rows-requires c = c.requires.gatherable
 
 pub mark_rows-requires : goal.mark_rows-requires
-mark_rows-requires c = rows-markable c.requires c.gather-rows.ensures c.gathered-1.given
+mark_rows-requires c = rows-markable c.requires c.gather-rows.ensures c.gather-rows.auto.gathered
 
 pub returns : goal.returns
 returns c = rows-reported c.requires c.gather-rows.ensures c.mark_rows.ensures

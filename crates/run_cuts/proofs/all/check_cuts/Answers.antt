@@ -16,7 +16,7 @@ pub joined-all-requires : goal.joined-all-requires
 joined-all-requires c = all-summable c.requires c.loop-c.invariant c.loop-c-test.true c.check_cut-own.ensures
 
 pub loop-c-preserved : goal.loop-c-preserved
-loop-c-preserved c = all-next c.requires c.loop-c.invariant c.loop-c-test.true c.check_cut-own.ensures c.kinds-1.given c.lines-1.given c.scratch-1.given c.joined-all.ensures
+loop-c-preserved c = all-next c.requires c.loop-c.invariant c.loop-c-test.true c.check_cut-own.ensures c.check_cut-own.auto.kinds c.check_cut-own.auto.lines c.check_cut-own.auto.scratch c.joined-all.ensures
 
 pub shape_of-lines : goal.shape_of-lines
 shape_of-lines c = c.loop-c.invariant.lines_length

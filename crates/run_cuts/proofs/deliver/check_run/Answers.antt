@@ -13,7 +13,7 @@ pub walk_branch-walked-requires : goal.walk_branch-walked-requires
 walk_branch-walked-requires c = record { k_le_constants = (c.requires.stages_passed.high, omega arith); countable = countable c.requires.stages_passed _ }
 
 pub deliver-requires : goal.deliver-requires
-deliver-requires c = record { stages_passed = c.requires.stages_passed; cut_asked = asked-again c.requires.cut_asked c.kinds-1.given c.lines-1.given; totals = run-totals c.requires.stages_passed (run-judged c.requires.cut_asked c.check_cuts-all.ensures c.root.ensures c.walk_branch-walked.ensures c.judged.ensures) c.in-Derived.is }
+deliver-requires c = record { stages_passed = c.requires.stages_passed; cut_asked = asked-again c.requires.cut_asked c.check_cuts-all.auto.kinds c.check_cuts-all.auto.lines; totals = run-totals c.requires.stages_passed (run-judged c.requires.cut_asked c.check_cuts-all.ensures c.root.ensures c.walk_branch-walked.ensures c.judged.ensures) c.in-Derived.is }
 
 pub returns-in-Refused : goal.returns-in-Refused
 returns-in-Refused c = guards-refused (run-refused c.requires.stages_passed (run-judged c.requires.cut_asked c.check_cuts-all.ensures c.root.ensures c.walk_branch-walked.ensures c.judged.ensures) c.in-Refused.is) refl

@@ -1,6 +1,5 @@
 -- `run_cuts::writing::write_guard` meets its contract. Assumes nothing.
 use native.Mathlib.Omega.{arith}
-use mathlib.Core.Path.{◌∙◌}
 use Rattle.run_cuts.proofs.GuardFiles.{guard-room, guard-never, guard-few, guard-written}
 use Rattle.run_cuts.proofs.writing.write_guard.Goals as goal
 
@@ -8,10 +7,10 @@ pub put_header-requires : goal.put_header-requires
 put_header-requires c = guard-room c.requires.guard_fits
 
 pub slice_bounds-check_cut-count : goal.slice_bounds-check_cut-count
-slice_bounds-check_cut-count c = omega (arith, guard-room c.requires.guard_fits, c.out-1.given)
+slice_bounds-check_cut-count c = omega (arith, guard-room c.requires.guard_fits)
 
 pub slice_bounds-check_cut-start : goal.slice_bounds-check_cut-start
-slice_bounds-check_cut-start c = omega (arith, guard-room c.requires.guard_fits, c.out-1.given)
+slice_bounds-check_cut-start c = omega (arith, guard-room c.requires.guard_fits)
 
 pub slice_bounds-check_cut-end : goal.slice_bounds-check_cut-end
 slice_bounds-check_cut-end c = omega arith
@@ -22,14 +21,8 @@ check_cut-requires c = c.requires.cut_asked
 pub overflow_add-result : goal.overflow_add-result
 overflow_add-result c = omega (arith, guard-few c.requires.guard_fits c.check_cut.ensures c.in-Derived.is)
 
-pub shape_of-out-in-Derived : goal.shape_of-out-in-Derived
-shape_of-out-in-Derived c = c.out-2-1.given.1 ∙ c.out-1.given
-
 pub returns-in-Derived : goal.returns-in-Derived
 returns-in-Derived c = guard-written c.requires.guard_fits c.check_cut.ensures c.in-Derived.is c.put_header.ensures
-
-pub shape_of-out-in-Refused : goal.shape_of-out-in-Refused
-shape_of-out-in-Refused c = c.out-2-1.given.1 ∙ c.out-1.given
 
 pub returns-in-Refused : goal.returns-in-Refused
 returns-in-Refused c = absurd (guard-never c.requires.guard_fits c.check_cut.ensures c.in-Refused.is)

@@ -35,7 +35,7 @@ pub loop-c-smaller : goal.loop-c-smaller
 loop-c-smaller c = omega (arith, c.loop-c-test.true)
 
 pub loop-c-preserved : goal.loop-c-preserved
-loop-c-preserved c = files-next c.requires.cut_asked c.requires.guards_fit c.loop-c.invariant c.loop-c-test.true c.write_guard-size.ensures c.kinds-1.given c.lines-1.given c.out-1.given.1 refl
+loop-c-preserved c = files-next c.requires.cut_asked c.requires.guards_fit c.loop-c.invariant c.loop-c-test.true c.write_guard-size.ensures c.write_guard-size.auto.kinds c.write_guard-size.auto.lines c.out-1.given.1 refl
 
 pub shape_of-lines : goal.shape_of-lines
 shape_of-lines c = c.loop-c.invariant.lines_length

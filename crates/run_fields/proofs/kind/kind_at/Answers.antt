@@ -1,4 +1,5 @@
 -- `run_fields::kind::kind_at` meets its contract, tag by tag. Assumes nothing.
+use borrow.Author.Rules.{rules}
 use native.Mathlib.Omega.{arith}
 use Rattle.forms.proofs.Editions.{line_width-most}
 use Rattle.proof.proofs.Entered.{unknown}
@@ -72,4 +73,4 @@ pub returns-in-2 : goal.returns-in-2
 returns-in-2 c = second-out c.in-2.is
 
 pub returns-in_default : goal.returns-in_default
-returns-in_default c = unknown-out (unknown _ c.in_default.in_default-own.rest.0.0.0.0.0.0.0.0.0.0.1 c.in_default.in_default-own.rest.0.0.0.0.0.0.0.0.0.1 c.in_default.in_default-own.rest.0.0.0.0.0.0.0.0.1 c.in_default.in_default-own.rest.0.0.0.0.0.0.0.1 c.in_default.in_default-own.rest.0.0.0.0.0.0.1 c.in_default.in_default-own.rest.0.0.0.0.0.1 c.in_default.in_default-own.rest.0.0.0.0.1 c.in_default.in_default-own.rest.0.0.0.1 c.in_default.in_default-own.rest.0.0.1 c.in_default.in_default-own.rest.0.1 c.in_default.in_default-own.rest.1)
+returns-in_default c = unknown-out (search (rules, unknown))

@@ -21,7 +21,7 @@ pub put_header-requires : goal.put_header-requires
 put_header-requires c = omega (arith, c.if-table-needed.false)
 
 pub put_table-requires : goal.put_table-requires
-put_table-requires c = writable c.requires c.table_bytes-needed.ensures.is c.args.report.now c.args.table.now c.if-report-rows.false c.if-table-needed.false c.table-1.given
+put_table-requires c = writable c.requires c.table_bytes-needed.ensures.is c.args.report.now c.args.table.now c.if-report-rows.false c.if-table-needed.false c.put_header.auto.out
 
 pub copy_bytes-requires : goal.copy_bytes-requires
 copy_bytes-requires c =
