@@ -80,7 +80,7 @@ show() {
 
 # Proves and builds the library, from the root, and puts it where it is linked.
 archive() {
-    (cd crates/dulgaverk && rt lib) && mkdir -p target/staticlib && cp crates/dulgaverk/out/libdulgaverk.a target/staticlib/
+    (cd crates/dulgaverk_c && rt lib) && mkdir -p target/staticlib && cp crates/dulgaverk_c/out/libdulgaverk_c.a target/staticlib/libdulgaverk.a
 }
 
 # The same. On a terminal rt shows how far it is, elsewhere only what went wrong.

@@ -1,4 +1,4 @@
-// The operations for other programs: what a static library has for Rust and C. Thin, over the proved operations.
+// The operations for other programs, thin, over the proved operations; dulgaverk_c exports them.
 // A slice is a pointer and a length; what is lent as `&mut` overlaps nothing else that is passed.
 #![tactic(auto)]
 
@@ -31,15 +31,13 @@ use scheduler_turn::{a_of, b_of, idle, next_seat, parts_within, proof_of, served
 use shorten::shorten;
 use shortening::ShortenResult;
 
-#[unsafe(no_mangle)]
-pub extern "C" fn dulgaverk_read(file: &[u8], kinds: &mut [u8], numbers: &mut [i32]) -> ReadResult
+pub fn dulgaverk_read(file: &[u8], kinds: &mut [u8], numbers: &mut [i32]) -> ReadResult
     ensures { Reads file.now kinds.old numbers.old kinds.new numbers.new result }
 {
     bundle_read::read(file, kinds, numbers)
 }
 
-#[unsafe(no_mangle)]
-pub extern "C" fn dulgaverk_write(
+pub fn dulgaverk_write(
     edition: usize,
     k: usize,
     kinds: &[u8],
@@ -51,16 +49,14 @@ pub extern "C" fn dulgaverk_write(
     bundle_write::write(edition, k, kinds, numbers, out)
 }
 
-#[unsafe(no_mangle)]
-pub extern "C" fn dulgaverk_show_answer(a: &[u8], b: &[u8], line: usize) -> Answer
+pub fn dulgaverk_show_answer(a: &[u8], b: &[u8], line: usize) -> Answer
     ensures { AnswersShow a.now b.now line result }
 {
     show_answer(a, b, line)
 }
 
 // The check of a proof; the formula's file goes into `out`.
-#[unsafe(no_mangle)]
-pub extern "C" fn dulgaverk_check(a: &[u8], b: &[u8], proof: &[u8], out: &mut [u8]) -> WriteResult
+pub fn dulgaverk_check(a: &[u8], b: &[u8], proof: &[u8], out: &mut [u8]) -> WriteResult
     ensures { Checks a.now b.now proof.now out.old out.new result }
 {
     check(a, b, proof, out)
@@ -68,8 +64,7 @@ pub extern "C" fn dulgaverk_check(a: &[u8], b: &[u8], proof: &[u8], out: &mut [u
 
 // The report on the proof's rows goes into `report`, and the table without those that nothing rests on into `out`. An output of
 // one byte is too short for any formula's file, so that 21 says that the proof is accepted.
-#[unsafe(no_mangle)]
-pub extern "C" fn dulgaverk_shorten(
+pub fn dulgaverk_shorten(
     a: &[u8],
     b: &[u8],
     proof: &[u8],
@@ -84,8 +79,7 @@ pub extern "C" fn dulgaverk_shorten(
 }
 
 // The guards of a run of stages: bundles end to end in `buffer`, their lengths, the proof. The guard files go end to end into `out`, their sizes into `sizes`.
-#[unsafe(no_mangle)]
-pub extern "C" fn dulgaverk_guards(
+pub fn dulgaverk_guards(
     buffer: &[u8],
     lengths: &[usize],
     proof: &[u8],
@@ -98,65 +92,52 @@ pub extern "C" fn dulgaverk_guards(
 }
 
 // The constraint's field, copied into `out`, and its length. (An exported function cannot return a reference.) Where it does not fit, nothing is copied.
-#[unsafe(no_mangle)]
-pub extern "C" fn dulgaverk_show<'a>(a: &'a [u8], b: &'a [u8], line: usize, out: &mut [u8]) -> usize
+pub fn dulgaverk_show<'a>(a: &'a [u8], b: &'a [u8], line: usize, out: &mut [u8]) -> usize
     ensures { Copied (part_bytes (show_part newest_edition a.now b.now line) a.now b.now) out.old out.new result }
 {
     copy_shown(a, b, line, out)
 }
 
-#[unsafe(no_mangle)]
-pub extern "C" fn dulgaverk_test(formula: &[u8], values: &[i32]) -> Tested
+pub fn dulgaverk_test(formula: &[u8], values: &[i32]) -> Tested
     ensures { Tests formula.now values.now result }
 {
     formula_test::test(formula, values)
 }
 
 // Into the other edition; `edition` is the one asked for, any number: 5 for every one but 1 and 2.
-#[unsafe(no_mangle)]
-pub extern "C" fn dulgaverk_turn_bundle(file: &[u8], edition: usize, out: &mut [u8]) -> WriteResult
+pub fn dulgaverk_turn_bundle(file: &[u8], edition: usize, out: &mut [u8]) -> WriteResult
     ensures { TurnsBundle edition file.now out.old out.new result }
 {
     convert::turn_bundle(file, edition, out)
 }
 
-#[unsafe(no_mangle)]
-pub extern "C" fn dulgaverk_turn_proof(file: &[u8], edition: usize, out: &mut [u8]) -> WriteResult
+pub fn dulgaverk_turn_proof(file: &[u8], edition: usize, out: &mut [u8]) -> WriteResult
     ensures { TurnsProof edition file.now out.old out.new result }
 {
     convert::turn_proof(file, edition, out)
 }
 
 // The short proof after a table; after the header alone the first.
-#[unsafe(no_mangle)]
-pub extern "C" fn dulgaverk_next_proof(
-    a: &[u8],
-    b: &[u8],
-    table: &[u8],
-    out: &mut [u8],
-) -> WriteResult
+pub fn dulgaverk_next_proof(a: &[u8], b: &[u8], table: &[u8], out: &mut [u8]) -> WriteResult
     ensures { WritesNext a.now b.now table.now out.old out.new result }
 {
     enumerate::next_proof(a, b, table, out)
 }
 
 // Checks that wait at eight seats. The state is a struct by value: it goes in, and comes back with the answer.
-#[unsafe(no_mangle)]
-pub extern "C" fn dulgaverk_scheduler_empty() -> Scheduler
+pub fn dulgaverk_scheduler_empty() -> Scheduler
     ensures { result ≡ empty }
 {
     scheduler_change::empty()
 }
 
-#[unsafe(no_mangle)]
-pub extern "C" fn dulgaverk_scheduler_submit(s: Scheduler, seat: usize, job: Job) -> Changed
+pub fn dulgaverk_scheduler_submit(s: Scheduler, seat: usize, job: Job) -> Changed
     ensures { Submits s seat job result }
 {
     scheduler_change::submit(s, seat, job)
 }
 
-#[unsafe(no_mangle)]
-pub extern "C" fn dulgaverk_scheduler_cancel(s: Scheduler, seat: usize) -> Changed
+pub fn dulgaverk_scheduler_cancel(s: Scheduler, seat: usize) -> Changed
     ensures { Cancels s seat result }
 {
     scheduler_change::cancel(s, seat)
@@ -179,8 +160,7 @@ fn check_job(job: Job, buffer: &[u8], out: &mut [u8]) -> WriteResult
 }
 
 // Serves the first seat that waits.
-#[unsafe(no_mangle)]
-pub extern "C" fn dulgaverk_scheduler_turn(s: Scheduler, buffer: &[u8], out: &mut [u8]) -> Turned
+pub fn dulgaverk_scheduler_turn(s: Scheduler, buffer: &[u8], out: &mut [u8]) -> Turned
     ensures { Turns s buffer.now out.old out.new result }
 {
     match next_seat(s) {
@@ -194,28 +174,20 @@ pub extern "C" fn dulgaverk_scheduler_turn(s: Scheduler, buffer: &[u8], out: &mu
 }
 
 // Tests a formula at a list of vectors, K values each; one byte a vector goes into `out`.
-#[unsafe(no_mangle)]
-pub extern "C" fn dulgaverk_test_list(
-    formula: &[u8],
-    k: usize,
-    values: &[i32],
-    out: &mut [u8],
-) -> WriteResult
+pub fn dulgaverk_test_list(formula: &[u8], k: usize, values: &[i32], out: &mut [u8]) -> WriteResult
     ensures { TestsList formula.now k values.now out.old out.new result }
 {
     formula_list::test_list(formula, k, values, out)
 }
 
 // A formula as a term of SMT-LIB 2, and in words.
-#[unsafe(no_mangle)]
-pub extern "C" fn dulgaverk_print(formula: &[u8], out: &mut [u8]) -> WriteResult
+pub fn dulgaverk_print(formula: &[u8], out: &mut [u8]) -> WriteResult
     ensures { PrintsFile false formula.now out.old out.new result }
 {
     print::print(formula, out)
 }
 
-#[unsafe(no_mangle)]
-pub extern "C" fn dulgaverk_print_words(formula: &[u8], out: &mut [u8]) -> WriteResult
+pub fn dulgaverk_print_words(formula: &[u8], out: &mut [u8]) -> WriteResult
     ensures { PrintsFile true formula.now out.old out.new result }
 {
     print::print_words(formula, out)

@@ -69,10 +69,10 @@ struct Bare {
 impl Bare {
     fn new(name: &str) -> Bare {
         let folder = own_folder(name);
-        for inside in ["scripts", "crates/dulgaverk/out", "tools", "target/bin"] {
+        for inside in ["scripts", "crates/dulgaverk_c/out", "tools", "target/bin"] {
             fs::create_dir_all(folder.join(inside)).expect("a folder");
         }
-        fs::write(folder.join("crates/dulgaverk/out/libdulgaverk.a"), "").expect("a file");
+        fs::write(folder.join("crates/dulgaverk_c/out/libdulgaverk_c.a"), "").expect("a file");
         for file in SCRIPTS.iter().chain(&["scripts/program.sh", "crates.txt"]) {
             fs::copy(root().join(file), folder.join(file)).expect("a file");
         }
