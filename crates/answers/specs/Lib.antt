@@ -1,2 +1,3 @@
 -- Answers, and results that are refused or accepted.
 pub mod Answers
+pub mod Refusals

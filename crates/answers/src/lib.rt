@@ -2,11 +2,14 @@
 // specs/Answers.antt has what an answer is, and results: the first refusal that applies, by which every operation is defined.
 #![tactic(auto)]
 
+pub mod refusals;
+
 ghost use Rattle.std.specs.Prelude.{◌≡◌};
 ghost use Rattle.answers.specs.Answers.{root, answer_at, answer, acceptance, row_told, refusal_at};
+ghost use Rattle.answers.specs.Refusals.{number_of};
 
 use forms::RowNumber;
-use integers::between;
+use refusals::Refusal;
 
 // An answer: a refusal's number, the file and the place at fault, all three 0 for accepted. Amid a proof it tells also the row at
 // fault, the row of the innermost open branching step, and its branch; each is 65,535 where there is none.
@@ -52,51 +55,45 @@ pub fn root() -> Position
 fn answer_at(row: RowNumber, position: Position, number: u8, file: u8, place: usize) -> Answer
     ensures { result ≡ answer_at row.0 position number file place }
 {
-    let step = position.step;
     Answer {
         number,
         file,
         place,
         row,
-        step,
+        step: position.step,
         branch: position.branch,
     }
 }
 
 // Which row is told of a field before which there were so many rows.
+#[tactic(auto, unfolding(crate::specs::Answers::row_told))]
 fn row_told(number: u8, rows: RowNumber) -> RowNumber
     ensures { result.0 ≡ row_told number rows.0 }
 {
-    let n = rows.0;
-    if number == 14 {
-        if n == 0 {
-            return RowNumber(0);
-        }
-        return RowNumber(n - 1);
+    match number {
+        14 => RowNumber(rows.0.saturating_sub(1)),
+        10..=18 => rows,
+        _ => RowNumber(NOWHERE),
     }
-    if between(number, 10, 18) {
-        return RowNumber(n);
-    }
-    RowNumber(NOWHERE)
 }
 
 // Amid the proof, at a field before which there were so many rows.
-pub fn proof_refusal(position: Position, rows: RowNumber, number: u8, place: usize) -> Answer
-    ensures { result ≡ refusal_at position rows.0 place number }
+pub fn proof_refusal(position: Position, rows: RowNumber, refusal: Refusal, place: usize) -> Answer
+    ensures { result ≡ refusal_at position rows.0 place (number_of refusal) }
 {
-    let row = row_told(number, rows);
-    answer_at(row, position, number, 3, place)
+    let number = refusal.number();
+    answer_at(row_told(number, rows), position, number, 3, place)
 }
 
 // Outside the proof's tree.
-pub fn refusal(number: u8, file: u8, place: usize) -> Answer
-    ensures { result ≡ answer number file place }
+pub fn refusal(refusal: Refusal, file: u8, place: usize) -> Answer
+    ensures { result ≡ answer (number_of refusal) file place }
 {
-    answer_at(RowNumber(NOWHERE), root(), number, file, place)
+    answer_at(RowNumber(NOWHERE), root(), refusal.number(), file, place)
 }
 
 pub fn acceptance() -> Answer
     ensures { result ≡ acceptance }
 {
-    refusal(0, 0, 0)
+    answer_at(RowNumber(NOWHERE), root(), 0, 0, 0)
 }
