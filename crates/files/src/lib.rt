@@ -6,8 +6,7 @@ ghost use Rattle.std.specs.Prelude.{◌≤◌, ◌<◌, min, ◌≡◌, []};
 ghost use Rattle.files.specs.Counts.{IsPrefixLen};
 ghost use Rattle.files.specs.Text.{Put, PutNumber, PutRefused, glyph, pair_of, hex_of};
 
-mod number;
-
+use itoa::Buffer;
 use std::fs;
 use std::io::{Read, Write};
 use std::rt::Files;
@@ -50,26 +49,14 @@ fn read_at<R: Files>(rt: &R, path: &str, buf: &mut [u8]) -> usize
 // Text is made in a buffer of the caller's: each `put_` function writes from `at` on, as far as there is room, and
 // answers where the text then ends. One `write` then takes it all.
 
-fn least(a: usize, b: usize) -> usize
-    ensures { (result ≤ a) × (result ≤ b) × (result ≡ min a b) }
-{
-    if a < b { a } else { b }
-}
-
 pub fn put_text(buf: &mut [u8], at: usize, text: &[u8]) -> usize
     ensures prefix_len { IsPrefixLen result buf.new }
     ensures put { Put buf.old at text.now buf.new result }
 {
-    let mut end = least(at, buf.len());
-    let mut i = 0;
-    while i < text.len() {
-        if buf.len() <= end {
-            return end;
-        }
-        buf[end] = text[i];
-        end += 1;
-        i += 1;
-    }
+    let start = at.min(buf.len());
+    let count = text.len().min(buf.len() - start);
+    let end = start + count;
+    buf[start..end].copy_from_slice(&text[..count]);
     end
 }
 
@@ -77,9 +64,8 @@ pub fn put_decimal(buf: &mut [u8], at: usize, n: u64) -> usize
     ensures prefix_len { IsPrefixLen result buf.new }
     ensures put_number { PutNumber buf.old at [] n buf.new result }
 {
-    let mut digits = [0u8; 20];
-    let k = number::decimal(n, &mut digits);
-    put_text(buf, at, &digits[..k])
+    let mut digits = Buffer::new();
+    put_text(buf, at, digits.format(n).as_bytes())
 }
 
 // The capital hexadecimal digit of a number below 16.
@@ -95,11 +81,9 @@ pub fn put_hex(buf: &mut [u8], at: usize, bytes: &[u8]) -> usize
     ensures prefix_len { IsPrefixLen result buf.new }
     ensures put { Put buf.old at (hex_of bytes.now) buf.new result }
 {
-    let mut end = least(at, buf.len());
-    let mut i = 0;
-    while i < bytes.len() {
-        end = put_byte(buf, end, bytes[i]);
-        i += 1;
+    let mut end = at.min(buf.len());
+    for b in bytes {
+        end = put_byte(buf, end, *b);
     }
     end
 }

@@ -5,22 +5,21 @@ use Rattle.files.proofs.Texts.{none, hex-put, hex-all}
 use Rattle.files.proofs.Counts.{prefix_len_of_le}
 use Rattle.files.proofs.put_hex.Goals as goal
 
-pub loop-i-init : goal.loop-i-init
+pub loop-b-init : goal.loop-b-init
 unfolding hex_of
-loop-i-init c = (search rules, search rules, none _ _ _ c.least-end.ensures.2 (search rules))
+loop-b-init c = (omega arith, none _ _ _ c.min-end.ensures (omega arith))
 
-pub loop-i-preserved : goal.loop-i-preserved
-loop-i-preserved c = (
-  omega arith,
+pub loop-b-preserved : goal.loop-b-preserved
+loop-b-preserved c = (
   c.put_byte-end.ensures.prefix_len.0,
-  hex-put c.args.bytes.now c.loop-i.i (omega arith) c.loop-i.invariant.2 c.put_byte-end.ensures.put,
+  hex-put c.args.bytes.now c.loop-b.b-index (omega arith) c.loop-b.invariant.1 c.put_byte-end.ensures.put,
 )
 
 pub shape_of-buf : goal.shape_of-buf
-shape_of-buf c = c.loop-i.invariant.2.same
+shape_of-buf c = c.loop-b.invariant.1.same
 
 pub returns : goal.returns
 returns c = record {
   prefix_len = prefix_len_of_le _ _ (search rules);
-  put = hex-all c.args.bytes.now c.loop-i.i (omega arith) c.loop-i.invariant.2;
+  put = hex-all c.args.bytes.now c.loop-b.b-index (omega arith) c.loop-b.invariant.1;
 }
