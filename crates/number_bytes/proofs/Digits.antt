@@ -1,20 +1,15 @@
--- Laws of big-endian numbers: one byte more, two's complement and back, over any width. Assumes nothing.
-use mathlib.Core.Path.{◌≡◌, refl, sym, ◌∙◌}
-use mathlib.Core.Bool.{true, false}
+-- Laws of big-endian numbers: one byte more, and the upper half of two's complement, over any width. Assumes nothing.
+use mathlib.Core.Path.{◌≡◌, sym, ◌∙◌}
 use mathlib.Core.List.{List, [], ◌∷◌}
 use Prim.Native.Nat.{ℕ, zero, suc, ◌+◌, ◌*◌, ◌-◌, ◌/◌, ◌%◌, ◌^◌, ◌≤◌, ◌<◌}
 use native.Mathlib.Nat.{pow-le-pow_right}
 use native.Mathlib.Numerals.{add-one}
 use native.Mathlib.Omega.{arith}
-use lib.Dec.{ltb, ltb→lt, nltb→le}
-use lib.IntN.{ℤ, pos, negsuc, neg_ℤ, ◌+ℤ◌, ◌-ℤ◌}
-use lib.Signed.{lt_z}
+use lib.IntN.{pos, negsuc, neg_ℤ, ◌-ℤ◌}
 use lib.ListN.{length, get_or, take, drop, set, length-drop}
 use lib.Seq.{sets, take-suc, get_or-drop}
-use borrow.Author.Tests.{ltb-true}
-use Rattle.integers.proofs.Differences.{ints, add-pn, neg-pn, cond_ind}
-use Rattle.number_bytes.specs.Numbers.{unsigned, complement, residue, unsigned_bytes}
-use Rattle.number_bytes.specs.Ranges.{Half}
+use Rattle.integers.proofs.Differences.{ints, add-pn, neg-pn}
+use Rattle.number_bytes.specs.Numbers.{unsigned, unsigned_bytes}
 use Rattle.number_bytes.proofs.Stores.{sets-append, sets-set}
 use Rattle.number_bytes.proofs.Signed.{length-unsigned_bytes, nat_from-append}
 
@@ -33,41 +28,9 @@ pub pow-next : (i : ℕ) → 256 ^ (i + 1) ≡ 256 * 256 ^ i
 pow-next i = rw add-one (omega arith)
 
 -- ---- two's complement
-module _ (full n : ℕ) where
-  pub complement_low : n + n < full → complement full n ≡ pos n
-  unfolding complement
-  complement_low h = cond_ind (ltb (n + n) full) (pos n) (pos n -ℤ pos full) (λ z. z ≡ pos n) (λ t. refl) (λ t. let k = nltb→le (n + n) full t in absurd (omega arith))
-
-  pub complement-high : full ≤ n + n → complement full n ≡ pos n -ℤ pos full
-  unfolding complement
-  complement-high h =
-      cond_ind (ltb (n + n) full) (pos n) (pos n -ℤ pos full) (λ z. z ≡ pos n -ℤ pos full) (λ t. let k = ltb→lt (n + n) full t in absurd (omega arith)) (λ t. refl)
-
-  pub below-full : n < full → pos n -ℤ pos full ≡ negsuc (full - suc n)
-  below-full h = omega (ints, add-pn (pos n) (neg_ℤ (pos full)), neg-pn (pos full))
-
-  pub complement_half : n < full → Half full (complement full n)
-  unfolding complement
-  complement_half h =
-      cond_ind (ltb (n + n) full) (pos n) (pos n -ℤ pos full) (Half full)
-      (λ t. record { half = ltb→lt (n + n) full t })
-      (λ t. let k = nltb→le (n + n) full t in rw (below-full h) (record { half = omega arith }))
-
-module _ (full : ℕ) where
-  pub residue-neg : (z : ℤ) → Half full z → lt_z z (pos 0) ≡ true → z +ℤ pos full ≡ pos (residue full z)
-  unfolding residue
-  residue-neg (pos n) h t = absurd (omega (arith, ltb-true n 0 t))
-  residue-neg (negsuc n) h t = omega (ints, add-pn (negsuc n) (pos full), h.half)
-
-  pub residue-pos : (z : ℤ) → lt_z z (pos 0) ≡ false → z ≡ pos (residue full z)
-  unfolding residue
-  residue-pos (pos n) t = refl
-  residue-pos (negsuc n) t = absurd (let z : ◌≡◌ {A = ℕ} 0 1 = cc in omega arith)
-
-  pub residue-below : (z : ℤ) → Half full z → residue full z < full
-  unfolding residue
-  residue-below (pos n) h = omega (arith, h.half)
-  residue-below (negsuc n) h = omega (arith, h.half)
+-- a number of the upper half
+pub below-full : (full n : ℕ) → n < full → pos n -ℤ pos full ≡ negsuc (full - suc n)
+below-full full n h = omega (ints, add-pn (pos n) (neg_ℤ (pos full)), neg-pn (pos full))
 
 -- ---- writing
 -- the last byte first, and then the others before it

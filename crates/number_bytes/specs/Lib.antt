@@ -2,3 +2,4 @@
 pub mod Numbers
 pub mod Ranges
 pub mod Same
+pub mod Widths

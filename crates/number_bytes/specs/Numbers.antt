@@ -1,4 +1,4 @@
--- Big-endian numbers of any width, unsigned and two's complement. Document 01, "Fields". Assumes nothing.
+-- Big-endian numbers of any width, unsigned and two's complement. Assumes nothing.
 use Rattle.std.specs.Prelude.{cond, List, [], ◌∷◌, ◌++◌, ℕ, zero, suc, ◌+◌, ◌*◌, ◌-◌, ◌/◌, ◌%◌, ◌^◌, ◌<◌, ltb, ℤ, pos, negsuc, ◌-ℤ◌, length, take, drop}
 use Rattle.forms.specs.Forms.{Form, All}
 

@@ -7,12 +7,5 @@ pub fn same_bytes(s: &[u8], at: usize, t: &[u8], from: usize, n: usize) -> bool
     requires { (at + n ≤ length s.now) × (from + n ≤ length t.now) }
     ensures { result ≡ same_bytes (take n (drop at s.now)) (take n (drop from t.now)) }
 {
-    let mut i = 0;
-    while i < n {
-        if s[at + i] != t[from + i] {
-            return false;
-        }
-        i += 1;
-    }
-    true
+    s[at..at + n] == t[from..from + n]
 }

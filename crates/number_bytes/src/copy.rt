@@ -8,9 +8,5 @@ pub fn copy_bytes(from: &[u8], start: usize, n: usize, to: &mut [u8], at: usize)
     requires n_in_bounds_2 { at + n ≤ length to.old }
     ensures { to.new ≡ sets to.old at (take n (drop start from.now)) }
 {
-    let mut i = 0;
-    while i < n {
-        to[at + i] = from[start + i];
-        i += 1;
-    }
+    to[at..at + n].copy_from_slice(&from[start..start + n]);
 }

