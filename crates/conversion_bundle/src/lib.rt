@@ -44,10 +44,8 @@ fn longs_held(s: &[u8], start: usize, n: usize) -> bool
     ensures { result ≡ every (holdable 2) (signeds 4 n (drop start s.now)) }
 {
     let mut ok = true;
-    let mut i = 0;
-    while i < n {
-        ok = ok & long_held(s, start + i * 4);
-        i += 1;
+    for i in 0..n {
+        ok &= long_held(s, start + i * 4);
     }
     ok
 }
@@ -100,11 +98,9 @@ fn turn_run(s: &[u8], start: usize, from: usize, n: usize, width: usize, out: &m
     requires width_in_bounds { o + n * width ≤ length out.old }
     ensures { out.new ≡ sets out.old o (signeds_bytes width (signeds from n (drop start s.now))) }
 {
-    let mut i = 0;
-    while i < n {
+    for i in 0..n {
         let x = signed_at(s, start + i * from, from);
         put_signed(out, o + i * width, width, x);
-        i += 1;
     }
 }
 

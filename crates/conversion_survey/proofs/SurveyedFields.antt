@@ -4,12 +4,11 @@ use mathlib.Core.Logic.{◌⊎◌, inl, inr}
 use mathlib.Core.Option.{Option, none, some}
 use mathlib.Core.Bool.{Bool, true, false, ◌&&◌}
 use mathlib.Core.List.{List, [], ◌∷◌, ◌++◌}
-use Prim.Native.Nat.{ℕ, zero, suc, ◌+◌, ◌-◌, ◌*◌, ◌^◌, ◌≤◌, ◌<◌}
+use Prim.Native.Nat.{ℕ, zero, suc, ◌+◌, ◌-◌, ◌*◌, ◌^◌, ◌≤◌}
 use native.Mathlib.Nat.{suc-mul, mul-le-mul}
 use native.Mathlib.Omega.{arith}
-use borrow.Author.Tests.{leb-true, leb-false, le-leb, eqb-true, eqb-false, eq-eqb, ne_eqb}
-use mir.Facts.{and_yes}
-use lib.Dec.{leb, ltb, eqb, leb→le}
+use borrow.Author.Tests.{eqb-true, eqb-false, eq-eqb, ne_eqb}
+use lib.Dec.{ltb, eqb}
 use lib.ListN.{length, take, drop, length-drop, length-append}
 use lib.Seq.{drop-drop, take-take}
 use Rattle.forms.specs.Edition.{edition}
@@ -148,13 +147,6 @@ module _ (n K : ℕ) where
   entries-ends made e = rw e
 
 -- ---- what a tag tells of line numbers
-either-le : (a b : ℕ) → (a ≤ b) ⊎ (b < a)
-either-le a b = go (leb a b) refl
-  where
-    go : (t : Bool) → leb a b ≡ t → (a ≤ b) ⊎ (b < a)
-    go true e = inl (leb-true a b e)
-    go false e = inr (leb-false a b e)
-
 both_true : (a b : Bool) → (a && b) ≡ true → (a ≡ true) × (b ≡ true)
 both_true true true e = (refl, refl)
 both_true true false e = absurd (let z : ◌≡◌ {A = ℕ} 0 1 = cc in omega arith)
@@ -164,32 +156,26 @@ and-true : (b : Bool) → b ≡ (b && true)
 and-true true = refl
 and-true false = refl
 
-two-of : (low high x : ℕ) → (leb low x && leb x high) ≡ true → (low ≤ x) × (x ≤ high)
-two-of low high x h = let (p, q) = and_yes (leb low x) (leb x high) (rw h tt) in (leb→le low x p, leb→le x high q)
-
-none_of : (low high x : ℕ) → (leb low x && leb x high) ≡ false → low ≤ x → x ≤ high → ⊥
-none_of low high x h p q = let w : ◌≡◌ {A = Bool} true false = sym (ap₂ ◌&&◌ (le-leb low x p) (le-leb x high q)) ∙ h in let v : ◌≡◌ {A = ℕ} 0 1 = cc in omega arith
-
-pub two-lines : (tag : ℕ) → (leb 0x10 tag && leb tag 0x11) ≡ true → 2 ≡ line_count (entry_tagged tag)
+pub two-lines : (tag : ℕ) → 0x10 ≤ tag → tag ≤ 0x11 → 2 ≡ line_count (entry_tagged tag)
 unfolding entry_tagged
-two-lines tag h = go (two-of 0x10 0x11 tag h) (eqb tag 0x10) refl
+two-lines tag low high = go (eqb tag 0x10) refl
   where
-    go : (0x10 ≤ tag) × (tag ≤ 0x11) → (b : Bool) → eqb tag 0x10 ≡ b → 2 ≡ line_count (entry_tagged tag)
-    go r true e = rw (eqb-true tag 0x10 e)
-    go r false e = let z : tag ≡ 0x11 = omega (arith, r.0, r.1, eqb-false tag 0x10 e) in rw z
+    go : (b : Bool) → eqb tag 0x10 ≡ b → 2 ≡ line_count (entry_tagged tag)
+    go true e = rw (eqb-true tag 0x10 e)
+    go false e = let z : tag ≡ 0x11 = omega (arith, low, high, eqb-false tag 0x10 e) in rw z
 
-pub one_line : (tag : ℕ) → (leb 0x12 tag && leb tag 0x17) ≡ true → 1 ≡ line_count (entry_tagged tag)
+pub one_line : (tag : ℕ) → 0x12 ≤ tag → tag ≤ 0x17 → 1 ≡ line_count (entry_tagged tag)
 unfolding entry_tagged
-one_line tag h = go (two-of 0x12 0x17 tag h) (eqb tag 0x12) (eqb tag 0x13) (eqb tag 0x14) (eqb tag 0x15) (eqb tag 0x16) refl refl refl refl refl
+one_line tag low high = go (eqb tag 0x12) (eqb tag 0x13) (eqb tag 0x14) (eqb tag 0x15) (eqb tag 0x16) refl refl refl refl refl
   where
-    go : (0x12 ≤ tag) × (tag ≤ 0x17) → (a b c d e : Bool) → eqb tag 0x12 ≡ a → eqb tag 0x13 ≡ b → eqb tag 0x14 ≡ c → eqb tag 0x15 ≡ d → eqb tag 0x16 ≡ e → 1 ≡ line_count (entry_tagged tag)
-    go r true b c d e p q s t u = rw (eqb-true tag 0x12 p)
-    go r false true c d e p q s t u = rw (eqb-true tag 0x13 q)
-    go r false false true d e p q s t u = rw (eqb-true tag 0x14 s)
-    go r false false false true e p q s t u = rw (eqb-true tag 0x15 t)
-    go r false false false false true p q s t u = rw (eqb-true tag 0x16 u)
-    go r false false false false false p q s t u =
-        let z : tag ≡ 0x17 = omega (arith, r.0, r.1, eqb-false tag 0x12 p, eqb-false tag 0x13 q, eqb-false tag 0x14 s, eqb-false tag 0x15 t, eqb-false tag 0x16 u) in rw z
+    go : (a b c d e : Bool) → eqb tag 0x12 ≡ a → eqb tag 0x13 ≡ b → eqb tag 0x14 ≡ c → eqb tag 0x15 ≡ d → eqb tag 0x16 ≡ e → 1 ≡ line_count (entry_tagged tag)
+    go true b c d e p q s t u = rw (eqb-true tag 0x12 p)
+    go false true c d e p q s t u = rw (eqb-true tag 0x13 q)
+    go false false true d e p q s t u = rw (eqb-true tag 0x14 s)
+    go false false false true e p q s t u = rw (eqb-true tag 0x15 t)
+    go false false false false true p q s t u = rw (eqb-true tag 0x16 u)
+    go false false false false false p q s t u =
+        let z : tag ≡ 0x17 = omega (arith, low, high, eqb-false tag 0x12 p, eqb-false tag 0x13 q, eqb-false tag 0x14 s, eqb-false tag 0x15 t, eqb-false tag 0x16 u) in rw z
 
 no-tag : (a b c d e f g h i : Bool) → a ≡ false → b ≡ false → c ≡ false → d ≡ false → e ≡ false → f ≡ false → g ≡ false → h ≡ false → 0 ≡ line_count (elim a as (λ _. Option EntryTag) [ true ↦ some combine_tag | false ↦ elim b as (λ _. Option EntryTag) [ true ↦ some reduce_tag | false ↦ elim c as (λ _. Option EntryTag) [ true ↦ some scale_tag | false ↦ elim d as (λ _. Option EntryTag) [ true ↦ some strengthen_tag | false ↦ elim e as (λ _. Option EntryTag) [ true ↦ some number_tag | false ↦ elim f as (λ _. Option EntryTag) [ true ↦ some stride_tag | false ↦ elim g as (λ _. Option EntryTag) [ true ↦ some round_tag | false ↦ elim h as (λ _. Option EntryTag) [ true ↦ some split_tag | false ↦ elim i [ true ↦ some claim_tag | false ↦ none ] ] ] ] ] ] ] ] ])
 no-tag true b c d e f g h i e0 e1 e2 e3 e4 e5 e6 e7 = absurd (let z : ◌≡◌ {A = ℕ} 0 1 = cc in omega arith)
@@ -203,18 +189,14 @@ no-tag false false false false false false false true i e0 e1 e2 e3 e4 e5 e6 e7 
 no-tag false false false false false false false false true e0 e1 e2 e3 e4 e5 e6 e7 = refl
 no-tag false false false false false false false false false e0 e1 e2 e3 e4 e5 e6 e7 = refl
 
-pub no_line : (tag : ℕ) → (leb 0x10 tag && leb tag 0x11) ≡ false → (leb 0x12 tag && leb tag 0x17) ≡ false → 0 ≡ line_count (entry_tagged tag)
+pub no_line : (tag : ℕ) → ((n : ℕ) → 0x10 ≤ n → n ≤ 0x17 → ¬ (tag ≡ n)) → 0 ≡ line_count (entry_tagged tag)
 unfolding entry_tagged
-no_line tag h k = no-tag (eqb tag 0x10) (eqb tag 0x11) (eqb tag 0x12) (eqb tag 0x13) (eqb tag 0x14) (eqb tag 0x15) (eqb tag 0x16) (eqb tag 0x17) (eqb tag 0x20)
-    (far 0x10 (omega arith) (omega arith)) (far 0x11 (omega arith) (omega arith)) (far 0x12 (omega arith) (omega arith)) (far 0x13 (omega arith) (omega arith))
-    (far 0x14 (omega arith) (omega arith)) (far 0x15 (omega arith) (omega arith)) (far 0x16 (omega arith) (omega arith)) (far 0x17 (omega arith) (omega arith))
+no_line tag far = no-tag (eqb tag 0x10) (eqb tag 0x11) (eqb tag 0x12) (eqb tag 0x13) (eqb tag 0x14) (eqb tag 0x15) (eqb tag 0x16) (eqb tag 0x17) (eqb tag 0x20)
+    (is-not 0x10 (omega arith) (omega arith)) (is-not 0x11 (omega arith) (omega arith)) (is-not 0x12 (omega arith) (omega arith)) (is-not 0x13 (omega arith) (omega arith))
+    (is-not 0x14 (omega arith) (omega arith)) (is-not 0x15 (omega arith) (omega arith)) (is-not 0x16 (omega arith) (omega arith)) (is-not 0x17 (omega arith) (omega arith))
   where
-    side : (n : ℕ) → tag ≡ n → 0x10 ≤ n → n ≤ 0x17 → (n ≤ 0x11) ⊎ (0x11 < n) → ⊥
-    side n z l m (inl q) = none_of 0x10 0x11 tag h (omega arith) (omega arith)
-    side n z l m (inr q) = none_of 0x12 0x17 tag k (omega arith) (omega arith)
-
-    far : (n : ℕ) → 0x10 ≤ n → n ≤ 0x17 → eqb tag n ≡ false
-    far n l m = ne_eqb tag n λ z. side n z l m (either-le n 0x11)
+    is-not : (n : ℕ) → 0x10 ≤ n → n ≤ 0x17 → eqb tag n ≡ false
+    is-not n low high = ne_eqb tag n (far n low high)
 
 -- ---- line numbers that are held
 module _ (w w' : ℕ) where

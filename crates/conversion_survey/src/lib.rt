@@ -14,7 +14,6 @@ ghost use Rattle.conversion_survey.specs.SurveyAnswers.{survey_of, sized_as, Fie
 
 use fields::{Next, next_field};
 use forms::{MULTIPLIER_BYTES, TERM_BYTES, line_bytes};
-use integers::between;
 use number_bytes::numbers::unsigned_at;
 
 // Nothing is amiss; or the first fault and its place.
@@ -81,13 +80,11 @@ pub fn line_count(tag: u8) -> usize
     ensures is { result ≡ line_count (entry_tagged tag) }
     ensures most { result ≤ 2 }
 {
-    if between(tag, 0x10, 0x11) {
-        return 2;
+    match tag {
+        0x10..=0x11 => 2,
+        0x12..=0x17 => 1,
+        _ => 0,
     }
-    if between(tag, 0x12, 0x17) {
-        return 1;
-    }
-    0
 }
 
 // One more than the greatest line number of an edition.
@@ -97,15 +94,23 @@ fn line_full(number: u8) -> u64
     if number == 1 { 0x100 } else { 0x1_0000 }
 }
 
-// Whether the edition asked for holds the line number at a place. Two calls, so that the compiler makes a load for each width.
+// A line number, as wide as an edition has it. Two calls, so that the compiler makes a load for each width.
+pub fn line_at(p: &[u8], at: usize, e: u8) -> u64
+    requires { at + (edition e).line_width ≤ length p.now }
+    ensures { result ≡ unsigned (take (edition e).line_width (drop at p.now)) }
+{
+    if e == 1 {
+        return unsigned_at(p, at, 1);
+    }
+    unsigned_at(p, at, 2)
+}
+
+// Whether the edition asked for holds the line number at a place.
 fn line_held(p: &[u8], at: usize, e: u8, to: u8) -> bool
     requires { at + (edition e).line_width ≤ length p.now }
     ensures { result ≡ ltb (unsigned (take (edition e).line_width (drop at p.now))) (256 ^ (edition to).line_width) }
 {
-    if e == 1 {
-        return unsigned_at(p, at, 1) < line_full(to);
-    }
-    unsigned_at(p, at, 2) < line_full(to)
+    line_at(p, at, e) < line_full(to)
 }
 
 // The same of the n line numbers, two at most, from start on.
@@ -168,12 +173,6 @@ pub fn turned_len(tag: u8, len: usize, e: u8, to: u8) -> usize
     n * line_bytes(to) + (len - n * line_bytes(e))
 }
 
-fn both(a: bool, b: bool) -> bool
-    ensures { result ≡ (a && b) }
-{
-    if a { b } else { false }
-}
-
 // Whether each field is an entry in its place, whether its line numbers fit, and how many bytes they have together when they are
 // turned: all at once, since a proof that is turned passes all. No line is looked for.
 pub fn read_entries(p: &[u8], at: usize, k: u8, e: u8, to: u8) -> Entries
@@ -196,7 +195,7 @@ pub fn read_entries(p: &[u8], at: usize, k: u8, e: u8, to: u8) -> Entries
             } => {
                 match laid_out(tag, len, k as usize, e, made) {
                     Laid::Fine { made: claimable } => {
-                        fit = both(fit, lines_held(p, start, line_count(tag), e, to));
+                        fit &= lines_held(p, start, line_count(tag), e, to);
                         size += 3 + turned_len(tag, len, e, to);
                         made = claimable;
                         here = next;

@@ -12,14 +12,14 @@ ghost use Rattle.proof.specs.Entries.{entry_tagged, line_count};
 ghost use Rattle.conversion.specs.Turning.{lines_turned, fields_turned};
 ghost use Rattle.conversion_survey.specs.SurveyAnswers.{LinesThere};
 
-use conversion_survey::{line_count, turned_len};
+use conversion_survey::{line_at, line_count, turned_len};
 use fields::header::put_head;
 use fields::{Next, next_field};
 use forms::line_bytes;
 use number_bytes::copy::copy_bytes;
-use number_bytes::numbers::{put_unsigned, unsigned_at};
+use number_bytes::numbers::put_unsigned;
 
-// A line number as wide as an edition has it. Two calls, so that the compiler makes a store for each width, and a load below.
+// A line number as wide as an edition has it. Two calls, so that the compiler makes a store for each width.
 pub fn put_number(n: u64, to: u8, out: &mut [u8], o: usize)
     requires { o + (edition to).line_width ≤ length out.old }
     ensures { out.new ≡ sets out.old o (unsigned_bytes (edition to).line_width n) }
@@ -37,11 +37,7 @@ fn put_line(p: &[u8], at: usize, e: u8, to: u8, out: &mut [u8], o: usize)
     requires to_in_bounds { o + (edition to).line_width ≤ length out.old }
     ensures { out.new ≡ sets out.old o (unsigned_bytes (edition to).line_width (unsigned (take (edition e).line_width (drop at p.now)))) }
 {
-    if e == 1 {
-        put_number(unsigned_at(p, at, 1), to, out, o);
-        return;
-    }
-    put_number(unsigned_at(p, at, 2), to, out, o);
+    put_number(line_at(p, at, e), to, out, o);
 }
 
 // n of them, two at most.

@@ -13,7 +13,7 @@ pub loop-i-init : goal.loop-i-init
 loop-i-init c =
     let y : c.args.n - 0 ≡ c.args.n = omega arith in
     let z : c.args.start + 0 ≡ c.args.start = omega arith in
-    (rw (y, z), omega arith)
+    rw (y, z)
 
 pub long_held-ok-requires : goal.long_held-ok-requires
 long_held-ok-requires c = omega arith
@@ -21,10 +21,10 @@ long_held-ok-requires c = omega arith
 pub loop-i-preserved : goal.loop-i-preserved
 loop-i-preserved c =
     let a = c.args in
-    (every-next (holdable 2) a.s.now a.start c.loop-i.i a.n c.loop-i-test.true c.loop-i.ok c.loop-i.invariant.0 (ap (λ (b : Bool). c.loop-i.ok && b) c.long_held-ok.ensures), omega arith)
+    every-next (holdable 2) a.s.now a.start c.loop-i.i a.n c.loop-i-test.true c.loop-i.ok c.loop-i.invariant (ap (λ (b : Bool). c.loop-i.ok && b) c.long_held-ok.ensures)
 
 pub returns : goal.returns
 unfolding signeds every
 returns c =
     let e : c.args.n - c.loop-i.i ≡ 0 = omega arith in
-    sym (and-true c.loop-i.ok) ∙ (rw e at c.loop-i.invariant.0)
+    sym (and-true c.loop-i.ok) ∙ (rw e at c.loop-i.invariant)

@@ -19,7 +19,7 @@ loop-i-init c =
     let x : a.o + 0 * a.width ≡ a.o = rw (zero-mul a.width) (omega arith) in
     let y : a.n - 0 ≡ a.n = omega arith in
     let z : a.start + 0 * a.from ≡ a.start = rw (zero-mul a.from) (omega arith) in
-    (rw (x, y, z), rw (y, z) c.requires.s_value, refl, omega arith)
+    (rw (x, y, z), rw (y, z) c.requires.s_value, refl)
 
 pub overflow_mul-i : goal.overflow_mul-i
 overflow_mul-i c = record { fits = omega (arith, part-before c.loop-i.i c.args.n c.args.from c.loop-i-test.true, c.requires.from_in_bounds) }
@@ -51,7 +51,6 @@ loop-i-preserved c =
       rw p (run-next a.from a.width a.s.now a.start c.loop-i.i a.n c.loop-i.out a.o c.loop-i-test.true ∙ c.loop-i.invariant.0),
       (run-held a.from a.s.now a.start c.loop-i.i a.n c.loop-i-test.true a.width c.loop-i.invariant.1).1,
       c.put_signed.auto.out ∙ c.loop-i.invariant.2,
-      omega (arith, c.loop-i-test.true),
     )
 
 pub shape_of-out : goal.shape_of-out

@@ -1,7 +1,7 @@
 -- `conversion_bundle::turn_run` meets its contract: what is left to write gives what the whole gives. Assumes nothing.
 use mathlib.Core.Path.{◌≡◌}
 use mathlib.Core.Bool.{true}
-use Prim.Native.Nat.{◌+◌, ◌*◌, ◌-◌, ◌≤◌}
+use Prim.Native.Nat.{◌+◌, ◌*◌, ◌-◌}
 use lib.ListN.{length, drop}
 use lib.Seq.{sets}
 use Rattle.forms.specs.Forms.{every}
@@ -12,7 +12,4 @@ use Rattle.conversion_bundle.proofs.turn_run.Given as goal
 abbrev pub invariant-loop-i : goal.invariant-loop-i
 invariant-loop-i l =
     (sets l.out (l.o + l.i * l.width) (signeds_bytes l.width (signeds l.from (l.n - l.i) (drop (l.start + l.i * l.from) l.s))) ≡ sets l.initial.out l.o (signeds_bytes l.width (signeds l.from l.n (drop l.start l.s))))
-    × (every (holdable l.width) (signeds l.from (l.n - l.i) (drop (l.start + l.i * l.from) l.s)) ≡ true) × (length l.out ≡ length l.initial.out) × (l.i ≤ l.n)
-
-abbrev pub decreases-loop-i : goal.decreases-loop-i
-decreases-loop-i l = l.n - l.i
+    × (every (holdable l.width) (signeds l.from (l.n - l.i) (drop (l.start + l.i * l.from) l.s)) ≡ true) × (length l.out ≡ length l.initial.out)

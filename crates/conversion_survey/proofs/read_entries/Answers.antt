@@ -12,8 +12,8 @@ loop-place-init c = (refl, omega arith, omega (arith, c.requires.p_len_bound), �
 pub laid_out-requires : goal.laid_out-requires
 laid_out-requires c = c.requires.k_le_constants
 
-pub lines_held-requires : goal.lines_held-requires
-lines_held-requires c = let k = starts c.next_field.ensures c.in-Field.is in record { n_bound = c.line_count.ensures.most; e_in_bounds = line-room c.args.e c.args.to k c.line_count.ensures.is (lines-here c.args.e c.args.k k c.loop-place.made c.laid_out.ensures c.in-Fine.is) }
+pub lines_held-fit-requires : goal.lines_held-fit-requires
+lines_held-fit-requires c = let k = starts c.next_field.ensures c.in-Field.is in record { n_bound = c.line_count.ensures.most; e_in_bounds = line-room c.args.e c.args.to k c.line_count.ensures.is (lines-here c.args.e c.args.k k c.loop-place.made c.laid_out.ensures c.in-Fine.is) }
 
 pub turned_len-requires : goal.turned_len-requires
 turned_len-requires c = let k = starts c.next_field.ensures c.in-Field.is in record { e_bound = lines-here c.args.e c.args.k k c.loop-place.made c.laid_out.ensures c.in-Fine.is; len_bound = len-most c.args.e c.args.to k c.requires.p_len_bound }
@@ -28,7 +28,7 @@ pub loop-place-smaller : goal.loop-place-smaller
 loop-place-smaller c = starts-less (starts c.next_field.ensures c.in-Field.is)
 
 pub loop-place-preserved : goal.loop-place-preserved
-loop-place-preserved c = let k = starts c.next_field.ensures c.in-Field.is in (c.loop-place.invariant.0 ∙ entries-on c.args.e c.args.k k c.loop-place.made c.laid_out.ensures c.in-Fine.is, c.loop-place.invariant.1 ∙ size_step c.args.e c.args.to k _ _ c.turned_len.ensures.is, spare-step c.args.e c.args.to k _ _ c.turned_len.ensures.most c.loop-place.invariant.2, λ z. fit-step c.args.e c.args.to k c.line_count.ensures.is (lines-here c.args.e c.args.k k c.loop-place.made c.laid_out.ensures c.in-Fine.is) c.lines_held.ensures c.both-fit.ensures c.loop-place.invariant.3 z)
+loop-place-preserved c = let k = starts c.next_field.ensures c.in-Field.is in (c.loop-place.invariant.0 ∙ entries-on c.args.e c.args.k k c.loop-place.made c.laid_out.ensures c.in-Fine.is, c.loop-place.invariant.1 ∙ size_step c.args.e c.args.to k _ _ c.turned_len.ensures.is, spare-step c.args.e c.args.to k _ _ c.turned_len.ensures.most c.loop-place.invariant.2, λ z. fit-step c.args.e c.args.to k c.line_count.ensures.is (lines-here c.args.e c.args.k k c.loop-place.made c.laid_out.ensures c.in-Fine.is) c.lines_held-fit.ensures refl c.loop-place.invariant.3 z)
 
 pub returns-in-Refused : goal.returns-in-Refused
 returns-in-Refused c = let k = starts c.next_field.ensures c.in-Field.is in c.loop-place.invariant.0 ∙ entries-stop c.args.e c.args.k k c.loop-place.made c.laid_out.ensures c.in-Refused.is
