@@ -20,7 +20,7 @@ use openings::split::{joined_by, raised_by, split};
 use openings::strengthen::strengthen;
 use rows::derive::Derived;
 use steps::{Stepped, step};
-use tally::{Tally, returned};
+use tally::Tally;
 
 #[derive(Clone, Copy)]
 pub enum Stop {
@@ -239,7 +239,7 @@ fn resumed(b: Branched, given: Tally) -> Branched
             at,
         },
         Branched::Closed { at, o, tally } => {
-            let t = returned(tally, given);
+            let t = tally.returned(given);
             Branched::Closed { at, o, tally: t }
         }
     }
@@ -291,7 +291,7 @@ pub fn check_branch(
             tally: u,
         } => {
             let e = close_number(lines, kinds, u, t, k, scratch, o);
-            let v = returned(u, tally);
+            let v = u.returned(tally);
             return closed(e, position, row, a, next, v);
         }
         Stop::ClosesStride {
@@ -303,7 +303,7 @@ pub fn check_branch(
             tally: u,
         } => {
             let e = close_stride(lines, kinds, u, t, g, k, scratch, o);
-            let v = returned(u, tally);
+            let v = u.returned(tally);
             return closed(e, position, row, a, next, v);
         }
         Stop::Strengthens {

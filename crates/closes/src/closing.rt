@@ -9,7 +9,7 @@ ghost use Rattle.closes.specs.Striding.{ByStride};
 
 use forms::LineNumber;
 use lines::kinds::{EQUALITY, kind_of};
-use tally::{Tally, is_there};
+use tally::Tally;
 
 #[derive(Clone, Copy)]
 pub enum Test {
@@ -32,7 +32,7 @@ pub fn test_number(lines: &[i32], kinds: &[u8], tally: Tally, i: LineNumber, k: 
     requires { Ready tally.edition k kinds.now lines.now tally.lines.0 }
     ensures { ByNumber k kinds.now lines.now tally i.0 result }
 {
-    if !is_there(tally, i) {
+    if !tally.is_there(i) {
         return Test::Refused { number: 10 };
     }
     let kind = kind_of(kinds, i);
@@ -74,7 +74,7 @@ pub fn test_stride(
     requires multiplies { Multiplies (nat_abs g) g }
     ensures { ByStride k kinds.now lines.now tally i.0 (nat_abs g) result }
 {
-    if !is_there(tally, i) {
+    if !tally.is_there(i) {
         return Test::Refused { number: 10 };
     }
     if kind_of(kinds, i) != EQUALITY {

@@ -1,5 +1,5 @@
 -- A row that opens branches, one way through its tests after the other. Assumes nothing.
-use mathlib.Core.Path.{◌≡◌, refl, sym, ap, subst, ◌∙◌}
+use mathlib.Core.Path.{◌≡◌, refl, sym, subst, ◌∙◌}
 use mathlib.Core.Bool.{Bool, true, false, ◌&&◌}
 use mathlib.Core.List.{List}
 use Prim.Native.Nat.{ℕ, suc, ◌+◌, ◌*◌, ◌-◌, ◌≤◌, ◌<◌}
@@ -8,6 +8,7 @@ use lib.Dec.{T}
 use lib.ListN.{set}
 use lib.IntN.{ℤ, pos, ◌+ℤ◌}
 use borrow.Author.Tests.{lt-ltb, le-ltb}
+use Rattle.std.specs.Prelude.{Some, None}
 use Rattle.forms.specs.Edition.{edition, edition1}
 use Rattle.forms.specs.Forms.{≤0, Line, ◌and◌, ◌or◌, small}
 use Rattle.forms.specs.Flat.{form_in}
@@ -24,9 +25,8 @@ use Rattle.lines.proofs.Branch.{inequality-byte}
 use Rattle.lines.proofs.Starting.{tested-range}
 use Rattle.lines.specs.Ready.{Ready}
 use Rattle.lines.proofs.Keeping.{kept_refl}
-use Rattle.tally.specs.Tally.{tally, line_counted, open_counted, more_lines}
+use Rattle.tally.specs.Tally.{tally, line_counted, open_counted}
 use Rattle.tally.specs.declared.Tally.{Tally}
-use Rattle.tally.specs.declared.Tallied.{Tallied}
 use Rattle.tally.proofs.Counted.{counted-line, full-line, counted-open}
 use Rattle.rows.specs.declared.derive.Derived.{Derived}
 use Rattle.rows.specs.declared.derive.Derived.TheVariants.{Refused, Made}
@@ -35,18 +35,13 @@ use Rattle.closes.specs.declared.closing.Test.TheVariants as test_of
 use Rattle.openings.specs.Opening.{joining, in_turn, start_of, middle_of, third_of, Branching, three, all_rounded, opening, Opens, row_opened, RowOpens, StrengthenOpens, RoundsBy, Roundable, RoundOpens}
 use Rattle.openings.proofs.Starting.{starts, start-less}
 
-module _ (t : Tally) {r q : Tallied} (e : r ≡ open_counted t) (h : r.made ≡ true) (f : q ≡ line_counted r.tally) where
-  same_lines : r.tally.lines.0 ≡ t.lines.0
-  same_lines = ap (λ (x : Tally). x.lines.0) (counted-open e h).1
+-- both counts, of a branching step and of its first line, are made, or the second is refused
+module _ (t : Tally) {u : Tally} (e : Some u ≡ open_counted t) where
+  pub counted-both : {v : Tally} → Some v ≡ line_counted u → (t.lines.0 < (edition t.edition).lines) × (v ≡ tally t.edition t.rows.0 (t.lines.0 + 1) (t.«open» + 1))
+  counted-both f = let h = counted-line f in rw (counted-open e).1 at h
 
-  same-edition : r.tally.edition ≡ t.edition
-  same-edition = ap (λ (x : Tally). x.edition) (counted-open e h).1
-
-  pub counted-both : q.made ≡ true → (t.lines.0 < (edition t.edition).lines) × (q.tally ≡ tally t.edition t.rows.0 (t.lines.0 + 1) (t.«open» + 1))
-  counted-both k = (rw (same_lines, same-edition) at (counted-line f k).0, (counted-line f k).1 ∙ ap more_lines (counted-open e h).1)
-
-  pub full-both : q.made ≡ false → (edition t.edition).lines ≤ t.lines.0
-  full-both k = rw (same_lines, same-edition) at (full-line r.tally f k)
+  pub full-both : None ≡ line_counted u → (edition t.edition).lines ≤ t.lines.0
+  full-both f = let h = full-line u f in rw (counted-open e).1 at h
 
 -- ---- the tests that every such row has
 module _ {K : ℕ} {kinds : List ℕ} {buf : List ℤ} (t : Tally) (i x y : ℕ) (ready : Ready t.edition K kinds buf t.lines.0) where

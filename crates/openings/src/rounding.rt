@@ -17,7 +17,7 @@ use line_starts::start_line;
 use lines::kinds::{INEQUALITY, kind_of};
 use lines::place_a;
 use rows::derive::Derived;
-use tally::{Tally, is_there};
+use tally::Tally;
 
 // Whether g divides d + j for no j below `by`.
 fn is_undivided(g: i64, d: i64, by: u16) -> bool
@@ -49,7 +49,7 @@ fn test_round(
     requires multiplies { Multiplies (nat_abs g) g }
     ensures { Roundable k kinds.now lines.now tally i.0 (nat_abs g) by result }
 {
-    if !is_there(tally, i) {
+    if !tally.is_there(i) {
         return Test::Refused { number: 10 };
     }
     if kind_of(kinds, i) != INEQUALITY {

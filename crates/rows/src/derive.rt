@@ -9,7 +9,7 @@ ghost use Rattle.rows.specs.Rows.{Operands, Appended, Derives};
 
 use forms::LineNumber;
 use lines::kinds::{EQUALITY, INEQUALITY, kind_of, set_kind};
-use tally::{Tally, is_there, line_counted};
+use tally::Tally;
 
 #[derive(Clone, Copy)]
 pub enum Derived {
@@ -34,18 +34,15 @@ fn append(
     requires operands { Operands tally.lines.0 f i.0 g j.0 kind }
     ensures { Appended k kinds.old lines.old tally f i.0 g j.0 kind kinds.new lines.new result }
 {
-    let counted = line_counted(tally);
-    let made = counted.made;
-    let next = counted.tally;
+    let Some(next) = tally.line_counted() else {
+        return Derived::Refused { number: 16 };
+    };
     let n = tally.lines;
-    if made {
-        if lines::sums::mix_line(lines, form_first, f, i, g, j, n, k) {
-            set_kind(kinds, n, kind);
-            return Derived::Made { tally: next };
-        }
+    if !lines::sums::mix_line(lines, form_first, f, i, g, j, n, k) {
         return Derived::Refused { number: 13 };
     }
-    Derived::Refused { number: 16 }
+    set_kind(kinds, n, kind);
+    Derived::Made { tally: next }
 }
 
 // FM-ELIM of Figure 6 in source 000: α·s, then β·t, then their sum αs + βt; then the partial interpolants in the same steps, αsA + βtA (`lines::sums::mix`). 10, 11, 12, then as `append`.
@@ -63,10 +60,10 @@ pub fn combine(
     requires multiplies { Multiplies (nat_abs alpha) alpha × Multiplies (nat_abs beta) beta }
     ensures { Derives k kinds.old lines.old tally (Combine s.0 t.0 (nat_abs alpha) (nat_abs beta)) kinds.new lines.new result }
 {
-    if !is_there(tally, s) {
+    if !tally.is_there(s) {
         return Derived::Refused { number: 10 };
     }
-    if !is_there(tally, t) {
+    if !tally.is_there(t) {
         return Derived::Refused { number: 10 };
     }
     if kind_of(kinds, s) != INEQUALITY {
@@ -98,10 +95,10 @@ pub fn reduce(
     requires within { Within multiplier_range alpha }
     ensures { Derives k kinds.old lines.old tally (Reduce s.0 t.0 alpha) kinds.new lines.new result }
 {
-    if !is_there(tally, s) {
+    if !tally.is_there(s) {
         return Derived::Refused { number: 10 };
     }
-    if !is_there(tally, t) {
+    if !tally.is_there(t) {
         return Derived::Refused { number: 10 };
     }
     let kind_s = kind_of(kinds, s);
@@ -130,7 +127,7 @@ pub fn scale(
     requires multiplies { Multiplies (nat_abs alpha) alpha }
     ensures { Derives k kinds.old lines.old tally (Scale t.0 (nat_abs alpha)) kinds.new lines.new result }
 {
-    if !is_there(tally, t) {
+    if !tally.is_there(t) {
         return Derived::Refused { number: 10 };
     }
     let kind = kind_of(kinds, t);

@@ -14,7 +14,7 @@ use entries::{Entry, entry_at};
 use forms::LineNumber;
 use rows::claims::claim_holds;
 use rows::derive::{Derived, combine, reduce, scale};
-use tally::{Tally, row_counted};
+use tally::Tally;
 
 #[derive(Clone, Copy)]
 pub enum Stepped {
@@ -68,20 +68,13 @@ pub fn combine_row(
     requires multiplies { Multiplies (nat_abs alpha) alpha × Multiplies (nat_abs beta) beta }
     ensures { Steps (row_checked k kinds.old lines.old tally (Derive (Combine s.0 t.0 (nat_abs alpha) (nat_abs beta)))) k kinds.old lines.old tally kinds.new lines.new result }
 {
-    let counted = row_counted(tally);
-    let made = counted.made;
-    let next = counted.tally;
-    if made {
-        match combine(lines, kinds, next, s, t, alpha, beta, k) {
-            Derived::Refused { number } => {
-                return Stepped::Refused { number };
-            }
-            Derived::Made { tally: u } => {
-                return Stepped::Made { tally: u };
-            }
-        }
+    let Some(next) = tally.row_counted() else {
+        return Stepped::Refused { number: 18 };
+    };
+    match combine(lines, kinds, next, s, t, alpha, beta, k) {
+        Derived::Refused { number } => Stepped::Refused { number },
+        Derived::Made { tally: u } => Stepped::Made { tally: u },
     }
-    Stepped::Refused { number: 18 }
 }
 
 pub fn reduce_row(
@@ -97,20 +90,13 @@ pub fn reduce_row(
     requires within { Within multiplier_range alpha }
     ensures { Steps (row_checked k kinds.old lines.old tally (Derive (Reduce s.0 t.0 alpha))) k kinds.old lines.old tally kinds.new lines.new result }
 {
-    let counted = row_counted(tally);
-    let made = counted.made;
-    let next = counted.tally;
-    if made {
-        match reduce(lines, kinds, next, s, t, alpha, k) {
-            Derived::Refused { number } => {
-                return Stepped::Refused { number };
-            }
-            Derived::Made { tally: u } => {
-                return Stepped::Made { tally: u };
-            }
-        }
+    let Some(next) = tally.row_counted() else {
+        return Stepped::Refused { number: 18 };
+    };
+    match reduce(lines, kinds, next, s, t, alpha, k) {
+        Derived::Refused { number } => Stepped::Refused { number },
+        Derived::Made { tally: u } => Stepped::Made { tally: u },
     }
-    Stepped::Refused { number: 18 }
 }
 
 pub fn scale_row(
@@ -125,87 +111,65 @@ pub fn scale_row(
     requires multiplies { Multiplies (nat_abs alpha) alpha }
     ensures { Steps (row_checked k kinds.old lines.old tally (Derive (Scale t.0 (nat_abs alpha)))) k kinds.old lines.old tally kinds.new lines.new result }
 {
-    let counted = row_counted(tally);
-    let made = counted.made;
-    let next = counted.tally;
-    if made {
-        match scale(lines, kinds, next, t, alpha, k) {
-            Derived::Refused { number } => {
-                return Stepped::Refused { number };
-            }
-            Derived::Made { tally: u } => {
-                return Stepped::Made { tally: u };
-            }
-        }
+    let Some(next) = tally.row_counted() else {
+        return Stepped::Refused { number: 18 };
+    };
+    match scale(lines, kinds, next, t, alpha, k) {
+        Derived::Refused { number } => Stepped::Refused { number },
+        Derived::Made { tally: u } => Stepped::Made { tally: u },
     }
-    Stepped::Refused { number: 18 }
 }
 
 fn strengthen_row(tally: Tally, t: LineNumber) -> Stepped
     ensures { Counts (Strengthen t.0) tally result }
 {
-    let counted = row_counted(tally);
-    let made = counted.made;
-    let next = counted.tally;
-    if made {
-        return Stepped::Strengthens { t, tally: next };
-    }
-    Stepped::Refused { number: 18 }
+    let Some(next) = tally.row_counted() else {
+        return Stepped::Refused { number: 18 };
+    };
+    Stepped::Strengthens { t, tally: next }
 }
 
 fn number_row(tally: Tally, t: LineNumber) -> Stepped
     ensures { Counts (CloseNumber t.0) tally result }
 {
-    let counted = row_counted(tally);
-    let made = counted.made;
-    let next = counted.tally;
-    if made {
-        return Stepped::ClosesNumber { t, tally: next };
-    }
-    Stepped::Refused { number: 18 }
+    let Some(next) = tally.row_counted() else {
+        return Stepped::Refused { number: 18 };
+    };
+    Stepped::ClosesNumber { t, tally: next }
 }
 
 fn stride_row(tally: Tally, t: LineNumber, g: i64) -> Stepped
     requires { Multiplies (nat_abs g) g }
     ensures { Counts (CloseStride t.0 (nat_abs g)) tally result }
 {
-    let counted = row_counted(tally);
-    let made = counted.made;
-    let next = counted.tally;
-    if made {
-        return Stepped::ClosesStride { t, g, tally: next };
-    }
-    Stepped::Refused { number: 18 }
+    let Some(next) = tally.row_counted() else {
+        return Stepped::Refused { number: 18 };
+    };
+    Stepped::ClosesStride { t, g, tally: next }
 }
 
 fn round_row(tally: Tally, t: LineNumber, g: i64, by: u16) -> Stepped
     requires { Multiplies (nat_abs g) g }
     ensures { Counts (Round t.0 (nat_abs g) by) tally result }
 {
-    let counted = row_counted(tally);
-    let made = counted.made;
-    let next = counted.tally;
-    if made {
-        return Stepped::Rounds {
-            t,
-            g,
-            by,
-            tally: next,
-        };
+    let Some(next) = tally.row_counted() else {
+        return Stepped::Refused { number: 18 };
+    };
+    Stepped::Rounds {
+        t,
+        g,
+        by,
+        tally: next,
     }
-    Stepped::Refused { number: 18 }
 }
 
 fn split_row(tally: Tally, t: LineNumber) -> Stepped
     ensures { Counts (Split t.0) tally result }
 {
-    let counted = row_counted(tally);
-    let made = counted.made;
-    let next = counted.tally;
-    if made {
-        return Stepped::Splits { t, tally: next };
-    }
-    Stepped::Refused { number: 18 }
+    let Some(next) = tally.row_counted() else {
+        return Stepped::Refused { number: 18 };
+    };
+    Stepped::Splits { t, tally: next }
 }
 
 // A claim of the line made last. 4, 14.

@@ -1,3 +1,2 @@
 -- Laws of the tally.
 pub mod Counted
-pub mod Counting

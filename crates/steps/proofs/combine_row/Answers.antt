@@ -9,7 +9,7 @@ combine-requires c =
     let a = c.args in
     let f0 = c.ranges.alpha in
     let f1 = c.ranges.beta in
-    let h = counted-row c.row_counted-counted.ensures c.if-made.true in
+    let h = counted-row c.in-Some.ensures in
     simp to_z-of_z (record { ready = rw h.1 c.requires.ready; multiplies = c.requires.multiplies })
 
 pub returns-in-Refused : goal.returns-in-Refused
@@ -17,7 +17,7 @@ returns-in-Refused c =
     let a = c.args in
     let f0 = c.ranges.alpha in
     let f1 = c.ranges.beta in
-    let h = counted-row c.row_counted-counted.ensures c.if-made.true in
+    let h = counted-row c.in-Some.ensures in
     row-derived a.tally h.0 h.1 (simp to_z-of_z at c.combine.ensures) (rw c.in-Refused.is)
 
 pub returns-in-Made : goal.returns-in-Made
@@ -25,10 +25,10 @@ returns-in-Made c =
     let a = c.args in
     let f0 = c.ranges.alpha in
     let f1 = c.ranges.beta in
-    let h = counted-row c.row_counted-counted.ensures c.if-made.true in
+    let h = counted-row c.in-Some.ensures in
     row-derived a.tally h.0 h.1 (simp to_z-of_z at c.combine.ensures) (rw c.in-Made.is)
 
-pub returns : goal.returns
-returns c =
+pub returns-in_default : goal.returns-in_default
+returns-in_default c =
     let a = c.args in
-    row-full _ _ _ a.tally _ (full-row a.tally c.row_counted-counted.ensures c.if-made.false)
+    row-full _ _ _ a.tally _ (full-row a.tally c.in_default.ensures)

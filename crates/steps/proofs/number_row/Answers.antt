@@ -3,13 +3,13 @@ use Rattle.tally.proofs.Counted.{counted-row, full-row}
 use Rattle.steps.proofs.Stepping.{counts-full, counts-number}
 use Rattle.steps.proofs.number_row.Goals as goal
 
-pub returns-then-made : goal.returns-then-made
-returns-then-made c =
-    let a = c.args in
-    let h = counted-row c.row_counted-counted.ensures c.if-made.true in
-    counts-number a.tally h.0 h.1 a.t
-
 pub returns : goal.returns
 returns c =
     let a = c.args in
-    counts-full _ a.tally (full-row a.tally c.row_counted-counted.ensures c.if-made.false)
+    let h = counted-row c.in-Some.ensures in
+    counts-number a.tally h.0 h.1 a.t
+
+pub returns-in_default : goal.returns-in_default
+returns-in_default c =
+    let a = c.args in
+    counts-full _ a.tally (full-row a.tally c.in_default.ensures)

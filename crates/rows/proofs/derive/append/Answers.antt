@@ -10,27 +10,27 @@ pub mix_line-requires : goal.mix_line-requires
 mix_line-requires c =
     let ff = c.ranges.f in
     let fg = c.ranges.g in
-    let h = counted-line c.line_counted-counted.ensures c.if-made.true in
+    let h = counted-line c.in-Some.ensures in
     simp to_z-of_z (record { branch = c.requires.ready.branch; first = c.requires.operands.first; second = c.requires.operands.second; space = omega (arith, h.0, lines-most c.args.tally.edition); f_in = c.requires.operands.f_in; g_in = c.requires.operands.g_in })
 
 pub set_kind-requires : goal.set_kind-requires
 set_kind-requires c = omega (arith, c.requires.ready.room)
 
-pub returns-then-mix_line : goal.returns-then-mix_line
-returns-then-mix_line c =
-    let ff = c.ranges.f in
-    let fg = c.ranges.g in
-    let h = counted-line c.line_counted-counted.ensures c.if-made.true in
-    let m = simp to_z-of_z at c.mix_line.ensures in
-    append-made _ _ _ _ _ _ c.requires.ready c.requires.operands h.0 m c.if-mix_line.true c.set_kind.ensures h.1
-
-pub returns-then-made : goal.returns-then-made
-returns-then-made c =
-    let ff = c.ranges.f in
-    let fg = c.ranges.g in
-    let h = counted-line c.line_counted-counted.ensures c.if-made.true in
-    let m = simp to_z-of_z at c.mix_line.ensures in
-    append-range _ _ _ _ _ _ c.requires.ready c.requires.operands h.0 m c.if-mix_line.false
-
 pub returns : goal.returns
-returns c = append-full _ _ _ _ _ _ c.requires.ready (full-line _ c.line_counted-counted.ensures c.if-made.false)
+returns c =
+    let ff = c.ranges.f in
+    let fg = c.ranges.g in
+    let h = counted-line c.in-Some.ensures in
+    let m = simp to_z-of_z at c.mix_line.ensures in
+    append-made _ _ _ _ _ _ c.requires.ready c.requires.operands h.0 m c.if-not-mix_line.false c.set_kind.ensures h.1
+
+pub returns-then-not-mix_line : goal.returns-then-not-mix_line
+returns-then-not-mix_line c =
+    let ff = c.ranges.f in
+    let fg = c.ranges.g in
+    let h = counted-line c.in-Some.ensures in
+    let m = simp to_z-of_z at c.mix_line.ensures in
+    append-range _ _ _ _ _ _ c.requires.ready c.requires.operands h.0 m c.if-not-mix_line.true
+
+pub returns-in_default : goal.returns-in_default
+returns-in_default c = append-full _ _ _ _ _ _ c.requires.ready (full-line _ c.in_default.ensures)
