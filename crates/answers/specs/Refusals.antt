@@ -1,6 +1,9 @@
--- The number of each refusal, as answers tell it. Assumes nothing.
-use Rattle.std.specs.Prelude.{ℕ}
+-- Refusals by their numbers, as answers tell them, and the code's results as those of the definitions. Assumes nothing.
+use Rattle.std.specs.Prelude.{ℕ, Ok, Err}
+use Rattle.std.specs.declared.result.Result as code
+use Rattle.answers.specs.Answers.{answer, Result, refused, accepted}
 use Rattle.answers.specs.declared.refusals.Refusal.{Refusal}
+use Rattle.answers.specs.declared.refusals.Fault.{Fault}
 
 abbrev pub number_of : Refusal → ℕ
 number_of Refusal.TooLong = 1
@@ -37,3 +40,11 @@ number_of Refusal.NotShortProof = 32
 number_of Refusal.NoFollowingProof = 33
 number_of Refusal.PartOutside = 34
 number_of Refusal.NoJob = 35
+
+abbrev pub fault : Refusal → (place : ℕ) → Fault
+fault r at = record { refusal = r; place = at }
+
+-- A result of the code as that of a definition: f of its value, or what it is refused for in that file.
+abbrev pub told : {T X : Type 0} → (file : ℕ) → (T → X) → code.Result T Fault → Result X
+told file f (Ok x) = accepted (f x)
+told file f (Err e) = refused (answer (number_of e.refusal) file e.place)

@@ -1,5 +1,5 @@
 -- The fields of a file by place: what the code's tests say of `front`, and the fields at a place in terms of the field found there. Assumes nothing.
-use mathlib.Core.Path.{◌≡◌, refl, sym, ap, ◌∙◌}
+use mathlib.Core.Path.{◌≡◌, refl, sym, ap, ◌∙◌, subst}
 use mathlib.Core.Bool.{Bool, true, false}
 use mathlib.Core.List.{List, [], ◌∷◌}
 use Prim.Native.Nat.{ℕ, zero, suc, ◌+◌, ◌*◌, ◌-◌, ◌≤◌, ◌<◌}
@@ -10,17 +10,24 @@ use lib.Seq.{drop-cons, drop-drop, length-take-le}
 use borrow.Author.Tests.{le-leb, lt-leb, leb-true, leb-false}
 use Rattle.number_bytes.specs.Numbers.{unsigned}
 use Rattle.fields.specs.Fields.{Front, whole, broken, nothing, front, Fields, ends, cut, ◌▸◌, note, unless_note, fields_from, fields}
-use Rattle.fields.specs.Places.{found_in, found_at, fields_at, field_count, fields_left, next_of}
-use Rattle.fields.specs.declared.Found.{Found}
-use Rattle.fields.specs.declared.Next.{Next}
+use Rattle.std.specs.Prelude.{Ok, Err, Some, None}
+use Rattle.std.specs.declared.result.Result as code
+use Rattle.std.specs.declared.option.Option as opt
+use Rattle.fields.specs.Places.{whole_field, found_in, found_at, fields_at, field_count, fields_left, next_of, required, next_or_fault}
+use Rattle.answers.specs.Refusals.{fault}
+use Rattle.answers.specs.declared.refusals.Refusal.{Refusal}
+use Rattle.answers.specs.declared.refusals.Fault.{Fault}
+use Rattle.fields.specs.declared.WholeField.{WholeField}
+use Rattle.fields.specs.declared.Broken.{Broken}
+use Rattle.fields.specs.declared.End.{End}
 use Rattle.fields.proofs.Framing.{fuel-irrelevant}
 
 -- ---- what the tests of `field_at` say
-pub found-end : (s : List ℕ) (at : ℕ) → length s ≤ at → found_at s at ≡ Found.End
+pub found-end : (s : List ℕ) (at : ℕ) → length s ≤ at → found_at s at ≡ Ok None
 unfolding found_at front
 found-end s at h = rw (drop_of_length-le s h)
 
-pub found-short : (s : List ℕ) (at : ℕ) → at < length s → length s - at < 3 → found_at s at ≡ Found.Broken
+pub found-short : (s : List ℕ) (at : ℕ) → at < length s → length s - at < 3 → found_at s at ≡ Err (record {})
 unfolding found_at front
 found-short s at h l = ap (found_in at) (go (drop at s) (simp length-drop (omega arith)) (simp length-drop (omega arith)))
   where
@@ -70,16 +77,16 @@ module _ (t h l : ℕ) (bs : List ℕ) where
   front-whole e = front-is ∙ rw (le-leb _ _ e)
 
 module _ (s : List ℕ) (at : ℕ) (h : at < length s) (k : 3 ≤ length s - at) where
-  pub found-cut : length s - at - 3 < len_at s at → found_at s at ≡ Found.Broken
+  pub found-cut : length s - at - 3 < len_at s at → found_at s at ≡ Err (record {})
   unfolding found_at
   found-cut l = ap (found_in at) (ap front (head s at (omega arith)) ∙ front_cut _ _ _ _ (simp length-drop (omega arith)))
 
-  pub found-whole : len_at s at ≤ length s - at - 3 → found_at s at ≡ Found.Whole (get_or s at 0) (at + 3) (len_at s at) (at + 3 + len_at s at)
+  pub found-whole : len_at s at ≤ length s - at - 3 → found_at s at ≡ Ok (Some (whole_field at (get_or s at 0) (len_at s at)))
   unfolding found_at
   found-whole l =
       let e : len_at s at ≤ length (drop (at + 3) s) = simp length-drop (omega arith) in
       ap (found_in at) (ap front (head s at (omega arith)) ∙ front-whole _ _ _ _ e)
-      ∙ ap (λ (n : ℕ). Found.Whole (get_or s at 0) (at + 3) n (at + 3 + n)) (length-take-le (len_at s at) (drop (at + 3) s) e)
+      ∙ ap (λ (n : ℕ). Ok (Some (whole_field at (get_or s at 0) n))) (length-take-le (len_at s at) (drop (at + 3) s) e)
 
 -- ---- a field as a part of its file
 pub record FieldIn (bs contents after : List ℕ) : Type 0 where
@@ -161,16 +168,17 @@ pub record Took (s : List ℕ) (at tag start len next : ℕ) : Type 0 where
   pub next-is : next ≡ start + len
   pub upto : next ≤ length s
 
-took_of : (s : List ℕ) (at tag start len next : ℕ) (x : Front) → Parts (drop at s) x → fields_at s at ≡ fields_in at (λ n after. fields_at s n) x
-    → found_in at x ≡ Found.Whole tag start len next → Took s at tag start len next
-took_of s at tag start len next nothing p e q = absurd (let z : ◌≡◌ {A = ℕ} 0 1 = cc in omega arith)
-took_of s at tag start len next broken p e q = absurd (let z : ◌≡◌ {A = ℕ} 0 1 = cc in omega arith)
-took_of s at tag start len next (whole t contents after) p e q =
-    let q₁ : t ≡ tag = cc in
-    let q₂ : at + 3 ≡ start = cc in
-    let q₃ : length contents ≡ len = cc in
-    let q₄ : at + 3 + length contents ≡ next = cc in
-    let c : contents ≡ take len (drop start s) = p.is ∙ rw (q₃, drop-drop 3 at s, q₂) in
+took_of : (s : List ℕ) (at : ℕ) (f : WholeField) (x : Front) → Parts (drop at s) x → fields_at s at ≡ fields_in at (λ n after. fields_at s n) x
+    → found_in at x ≡ Ok (Some f) → Took s at f.tag f.start f.len f.next
+took_of s at f nothing p e q = absurd (let z : ◌≡◌ {A = ℕ} 0 1 = cc in omega arith)
+took_of s at f broken p e q = absurd (let z : ◌≡◌ {A = ℕ} 0 1 = cc in omega arith)
+took_of s at f (whole t contents after) p e q =
+    let g : whole_field at t (length contents) ≡ f = cc in
+    let q₁ : t ≡ f.tag = ap (λ (f : WholeField). f.tag) g in
+    let q₂ : at + 3 ≡ f.start = ap (λ (f : WholeField). f.start) g in
+    let q₃ : length contents ≡ f.len = ap (λ (f : WholeField). f.len) g in
+    let q₄ : at + 3 + length contents ≡ f.next = ap (λ (f : WholeField). f.next) g in
+    let c : contents ≡ take f.len (drop f.start s) = p.is ∙ rw (q₃, drop-drop 3 at s, q₂) in
     record {
       is = e ∙ rw (q₄, q₁, c);
       start_is = omega arith;
@@ -178,24 +186,35 @@ took_of s at tag start len next (whole t contents after) p e q =
       upto = omega (arith, p.size, length-drop at s);
     }
 
-pub took : {s : List ℕ} {at tag start len next : ℕ} {r : Found} → r ≡ found_at s at → r ≡ Found.Whole tag start len next → Took s at tag start len next
+pub took : {s : List ℕ} {at : ℕ} {f : WholeField} {r : code.Result (opt.Option WholeField) Broken} → r ≡ found_at s at → r ≡ Ok (Some f)
+    → Took s at f.tag f.start f.len f.next
 unfolding found_at
-took {s} {at} {tag} {start} {len} {next} e q = took_of s at tag start len next (front (drop at s)) (parts (drop at s)) (fields-at s at) (sym e ∙ q)
+took {s} {at} {f} e q = took_of s at f (front (drop at s)) (parts (drop at s)) (fields-at s at) (sym e ∙ q)
 
-pub cut_at : (s : List ℕ) (at : ℕ) {r : Found} → r ≡ found_at s at → r ≡ Found.Broken → fields_at s at ≡ cut at
+-- the field found is told with its place
+pub took-at : (s : List ℕ) (at : ℕ) {f : WholeField} {r : code.Result (opt.Option WholeField) Broken} → r ≡ found_at s at → r ≡ Ok (Some f) → f.at ≡ at
 unfolding found_at
-cut_at s at e q = fields-at s at ∙ go (front (drop at s)) (sym e ∙ q)
+took-at s at {f} e q = go (front (drop at s)) (sym e ∙ q)
   where
-    go : (x : Front) → found_in at x ≡ Found.Broken → fields_in at (λ n after. fields_at s n) x ≡ cut at
+    go : (x : Front) → found_in at x ≡ Ok (Some f) → f.at ≡ at
+    go nothing q = absurd (let z : ◌≡◌ {A = ℕ} 0 1 = cc in omega arith)
+    go broken q = absurd (let z : ◌≡◌ {A = ℕ} 0 1 = cc in omega arith)
+    go (whole t c a) q = let g : whole_field at t (length c) ≡ f = cc in sym (ap (λ (f : WholeField). f.at) g)
+
+pub cut_at : (s : List ℕ) (at : ℕ) {b : Broken} {r : code.Result (opt.Option WholeField) Broken} → r ≡ found_at s at → r ≡ Err b → fields_at s at ≡ cut at
+unfolding found_at
+cut_at s at {b} e q = fields-at s at ∙ go (front (drop at s)) (sym e ∙ q)
+  where
+    go : (x : Front) → found_in at x ≡ Err b → fields_in at (λ n after. fields_at s n) x ≡ cut at
     go nothing q = absurd (let z : ◌≡◌ {A = ℕ} 0 1 = cc in omega arith)
     go broken q = refl
     go (whole t c a) q = absurd (let z : ◌≡◌ {A = ℕ} 0 1 = cc in omega arith)
 
-pub ends_at : (s : List ℕ) (at : ℕ) {r : Found} → r ≡ found_at s at → r ≡ Found.End → fields_at s at ≡ ends at
+pub ends_at : (s : List ℕ) (at : ℕ) {r : code.Result (opt.Option WholeField) Broken} → r ≡ found_at s at → r ≡ Ok None → fields_at s at ≡ ends at
 unfolding found_at
 ends_at s at e q = fields-at s at ∙ go (front (drop at s)) (sym e ∙ q)
   where
-    go : (x : Front) → found_in at x ≡ Found.End → fields_in at (λ n after. fields_at s n) x ≡ ends at
+    go : (x : Front) → found_in at x ≡ Ok None → fields_in at (λ n after. fields_at s n) x ≡ ends at
     go nothing q = refl
     go broken q = absurd (let z : ◌≡◌ {A = ℕ} 0 1 = cc in omega arith)
     go (whole t c a) q = absurd (let z : ◌≡◌ {A = ℕ} 0 1 = cc in omega arith)
@@ -215,7 +234,7 @@ module _ {s : List ℕ} {at tag start len next : ℕ} (k : Took s at tag start l
   unfolding note unless_note
   took-field h = k.is ∙ rw (lt-leb 0x80 tag h)
 
-  pub took-next : tag < 0x80 → next_of (fields_at s at) ≡ Next.Field at tag start len next
+  pub took-next : tag < 0x80 → next_of (fields_at s at) ≡ Ok (record { at = at; tag = tag; start = start; len = len; next = next })
   took-next h =
       let e : at + 3 ≡ start = omega arith in
       let f : start + len ≡ next = omega arith in
@@ -258,56 +277,81 @@ pub record Starts (s : List ℕ) (at a tag start len next : ℕ) : Type 0 where
 pub took-starts : {s : List ℕ} {at tag start len next : ℕ} → Took s at tag start len next → tag < 0x80 → Starts s at at tag start len next
 took-starts k h = record { is = took-field k h; start_is = k.start_is; next-is = k.next-is; upto = k.upto; from = omega arith; below = h }
 
-module _ (s : List ℕ) (a tag start len next : ℕ) where
-  starts_by : (at : ℕ) → next_of (fields_at s at) ≡ Next.Field a tag start len next
-      → ((n : ℕ) → at < n → n ≤ length s → next_of (fields_at s n) ≡ Next.Field a tag start len next → Starts s n a tag start len next)
-      → (x : Found) → x ≡ found_at s at → Starts s at a tag start len next
-  starts_by at e go Found.End f = absurd (let q = sym e ∙ ap next_of (ends_at s at f refl) in let z : ◌≡◌ {A = ℕ} 0 1 = cc in omega arith)
-  starts_by at e go Found.Broken f = absurd (let q = sym e ∙ ap next_of (cut_at s at f refl) in let z : ◌≡◌ {A = ℕ} 0 1 = cc in omega arith)
-  starts_by at e go (Found.Whole t st l n) f = by (leb 0x80 t) refl
+module _ (s : List ℕ) (f : WholeField) where
+  starts_by : (at : ℕ) → next_of (fields_at s at) ≡ Ok f
+      → ((n : ℕ) → at < n → n ≤ length s → next_of (fields_at s n) ≡ Ok f → Starts s n f.at f.tag f.start f.len f.next)
+      → (x : code.Result (opt.Option WholeField) Broken) → x ≡ found_at s at → Starts s at f.at f.tag f.start f.len f.next
+  starts_by at e go (Ok None) x = absurd (let q = sym e ∙ ap next_of (ends_at s at x refl) in let z : ◌≡◌ {A = ℕ} 0 1 = cc in omega arith)
+  starts_by at e go (Err b) x = absurd (let q = sym e ∙ ap next_of (cut_at s at x refl) in let z : ◌≡◌ {A = ℕ} 0 1 = cc in omega arith)
+  starts_by at e go (Ok (Some g)) x = by (leb 0x80 g.tag) refl
     where
-      k : Took s at t st l n
-      k = took f refl
+      k : Took s at g.tag g.start g.len g.next
+      k = took x refl
 
-      by : (b : Bool) → leb 0x80 t ≡ b → Starts s at a tag start len next
+      by : (b : Bool) → leb 0x80 g.tag ≡ b → Starts s at f.at f.tag f.start f.len f.next
       by true h =
-          let m = took-note k (leb-true 0x80 t h) in
-          let r = go n (omega (arith, k.start_is, k.next-is)) k.upto (ap next_of (sym m) ∙ e) in
+          let m = took-note k (leb-true 0x80 g.tag h) in
+          let r = go g.next (omega (arith, k.start_is, k.next-is)) k.upto (ap next_of (sym m) ∙ e) in
           record { is = m ∙ r.is; start_is = r.start_is; next-is = r.next-is; upto = r.upto; from = omega (arith, r.from, k.start_is, k.next-is); below = r.below }
       by false h =
-          let q = sym (took-next k (leb-false 0x80 t h)) ∙ e in
-          let q₁ : at ≡ a = cc in
-          let q₂ : t ≡ tag = cc in
-          let q₃ : st ≡ start = cc in
-          let q₄ : l ≡ len = cc in
-          let q₅ : n ≡ next = cc in
+          let q = sym (took-next k (leb-false 0x80 g.tag h)) ∙ e in
+          let q₀ : (record { at = at; tag = g.tag; start = g.start; len = g.len; next = g.next }) ≡ f = cc in
+          let q₁ : at ≡ f.at = ap (λ (f : WholeField). f.at) q₀ in
+          let q₂ : g.tag ≡ f.tag = ap (λ (f : WholeField). f.tag) q₀ in
+          let q₃ : g.start ≡ f.start = ap (λ (f : WholeField). f.start) q₀ in
+          let q₄ : g.len ≡ f.len = ap (λ (f : WholeField). f.len) q₀ in
+          let q₅ : g.next ≡ f.next = ap (λ (f : WholeField). f.next) q₀ in
           record {
-            is = took-field k (leb-false 0x80 t h) ∙ rw (q₁, q₂, q₃, q₄, q₅);
+            is = took-field k (leb-false 0x80 g.tag h) ∙ rw (q₁, q₂, q₃, q₄, q₅);
             start_is = omega (arith, k.start_is);
             next-is = omega (arith, k.next-is);
             upto = omega (arith, k.upto);
             from = omega arith;
-            below = omega (arith, leb-false 0x80 t h);
+            below = omega (arith, leb-false 0x80 g.tag h);
           }
 
-  starts_from : (fuel at : ℕ) → length s - at ≤ fuel → next_of (fields_at s at) ≡ Next.Field a tag start len next → Starts s at a tag start len next
+  starts_from : (fuel at : ℕ) → length s - at ≤ fuel → next_of (fields_at s at) ≡ Ok f → Starts s at f.at f.tag f.start f.len f.next
   starts_from zero at h e = starts_by at e (λ n l m q. absurd (omega arith)) (found_at s at) refl
   starts_from (suc fuel) at h e = starts_by at e (λ n l m q. starts_from fuel n (omega arith) q) (found_at s at) refl
 
 -- what `next_field` answers, and what that says of the fields from the place on
-pub starts : {s : List ℕ} {at a tag start len next : ℕ} {r : Next} → r ≡ next_of (fields_at s at) → r ≡ Next.Field a tag start len next
-    → Starts s at a tag start len next
-starts {s} {at} e q = starts_from s _ _ _ _ _ (length s - at) at (omega arith) (sym e ∙ q)
+pub starts : {s : List ℕ} {at : ℕ} {f : WholeField} {r : code.Result WholeField End} → r ≡ next_of (fields_at s at) → r ≡ Ok f
+    → Starts s at f.at f.tag f.start f.len f.next
+starts {s} {at} {f} e q = starts_from s f (length s - at) at (omega arith) (sym e ∙ q)
 
-pub next-cut : (fs : Fields) {a : ℕ} {r : Next} → r ≡ next_of fs → r ≡ Next.Cut a → fs ≡ cut a
+pub next-cut : (fs : Fields) {a : ℕ} {r : code.Result WholeField End} → r ≡ next_of fs → r ≡ Err (End.Cut a) → fs ≡ cut a
 next-cut (ends at) e q = absurd (let z : ◌≡◌ {A = ℕ} 0 1 = cc in omega arith)
 next-cut (cut at) e q = cc
 next-cut (f ▸ fs) e q = absurd (let z : ◌≡◌ {A = ℕ} 0 1 = cc in omega arith)
 
-pub next-ends : (fs : Fields) {a : ℕ} {r : Next} → r ≡ next_of fs → r ≡ Next.Ends a → fs ≡ ends a
+pub next-ends : (fs : Fields) {a : ℕ} {r : code.Result WholeField End} → r ≡ next_of fs → r ≡ Err (End.Ends a) → fs ≡ ends a
 next-ends (ends at) e q = cc
 next-ends (cut at) e q = absurd (let z : ◌≡◌ {A = ℕ} 0 1 = cc in omega arith)
 next-ends (f ▸ fs) e q = absurd (let z : ◌≡◌ {A = ℕ} 0 1 = cc in omega arith)
+
+-- where a field must follow
+pub starts-required : {s : List ℕ} {at : ℕ} {f : WholeField} {r : code.Result WholeField Fault} → r ≡ next_or_fault (fields_at s at) → r ≡ Ok f
+    → Starts s at f.at f.tag f.start f.len f.next
+starts-required {s} {at} {f} e q = starts refl (go (next_of (fields_at s at)) (sym e ∙ q))
+  where
+    go : (x : code.Result WholeField End) → required x ≡ Ok f → x ≡ Ok f
+    go (Ok g) q = cc
+    go (Err g) q = absurd (let z : ◌≡◌ {A = ℕ} 0 1 = cc in omega arith)
+
+-- there is none: the fields end, whole or cut, at the place at fault
+pub data Ended (fs : Fields) (a : ℕ) : Type 0 where
+  whole-to-end : fs ≡ ends a → Ended fs a
+  cut-before : fs ≡ cut a → Ended fs a
+
+pub ended : (fs : Fields) {e : Fault} {r : code.Result WholeField Fault} → r ≡ next_or_fault fs → r ≡ Err e
+    → (e ≡ fault Refusal.Truncated e.place) × Ended fs e.place
+ended (ends at) {e} p q =
+    let g : fault Refusal.Truncated at ≡ e = cc in
+    subst (λ (e : Fault). (e ≡ fault Refusal.Truncated e.place) × Ended (ends at) e.place) g (refl, whole-to-end refl)
+ended (cut at) {e} p q =
+    let g : fault Refusal.Truncated at ≡ e = cc in
+    subst (λ (e : Fault). (e ≡ fault Refusal.Truncated e.place) × Ended (cut at) e.place) g (refl, cut-before refl)
+ended (f ▸ fs) p q = absurd (let z : ◌≡◌ {A = ℕ} 0 1 = cc in omega arith)
 
 module _ {s : List ℕ} {at a tag start len next : ℕ} (k : Starts s at a tag start len next) where
   pub starts-size : length (take len (drop start s)) ≡ len

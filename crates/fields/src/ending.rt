@@ -2,42 +2,24 @@
 ghost use Rattle.fields.specs.Ending.{IsEnding};
 
 use super::header::known;
-use super::{FileKind, Next, next_field};
+use super::{End, FileKind, next_field};
+use answers::refusals::{Fault, Refusal};
 
-#[derive(Clone, Copy)]
-pub enum Ending {
-    // Nothing but notes.
-    Ended,
-    Fault { number: u8, at: usize },
-}
-
-// 2, 3, 19.
-pub fn ending_at(s: &[u8], at: usize, kind: FileKind) -> Ending
+// Nothing but notes. 2, 3, 19.
+pub fn ending_at(s: &[u8], at: usize, kind: FileKind) -> Result<(), Fault>
     ensures { IsEnding kind s.now at result }
 {
     match next_field(s, at) {
-        Next::Field {
-            at: place,
-            tag,
-            start: _,
-            len: _,
-            next: _,
-        } => {
-            if known(kind, tag) {
-                return Ending::Fault {
-                    number: 19,
-                    at: place,
-                };
+        Ok(field) => {
+            if known(kind, field.tag) {
+                return Err(field.refused(Refusal::FieldAfterEnd));
             }
-            Ending::Fault {
-                number: 3,
-                at: place,
-            }
+            Err(field.refused(Refusal::UnknownTag))
         }
-        Next::Cut { at: place } => Ending::Fault {
-            number: 2,
-            at: place,
-        },
-        Next::Ends { at: _ } => Ending::Ended,
+        Err(End::Cut { at: place }) => Err(Fault {
+            refusal: Refusal::Truncated,
+            place,
+        }),
+        Err(End::Ends { at: _ }) => Ok(()),
     }
 }

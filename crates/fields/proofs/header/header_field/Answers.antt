@@ -1,34 +1,31 @@
 -- `fields::header::header_field` meets its contract: each `return` cites the law for its way. Assumes nothing.
 use mathlib.Core.Path.{sym, ◌∙◌}
 use native.Mathlib.Omega.{arith}
-use Rattle.fields.proofs.Places.{starts, next-cut, next-ends}
-use Rattle.fields.proofs.Headers.{known-header, field-unknown, field-other, field-size, field-value, field_cut, field-ends}
+use Rattle.std.proofs.lemmas.Result.{err_from_is_err_and}
+use Rattle.fields.proofs.Places.{starts-required, ended}
+use Rattle.fields.proofs.Headers.{known-header, field-unknown, field-other, field-size, field-value, field-none}
 use Rattle.fields.proofs.header.header_field.Goals as goal
 
-pub returns-then-len-ne1 : goal.returns-then-len-ne1
-returns-then-len-ne1 c = field-size (starts c.next_field.ensures c.in-Field.is) (rw c.if-found-tag.true (known-header _ _ c.requires)) c.if-found-tag.true c.if-len-ne1.true
+pub returns-in_err-field : goal.returns-in_err-field
+returns-in_err-field c =
+    let p = err_from_is_err_and c.from_residual.result c.from_residual.ensures.1 in
+    let e = ended _ c.next_or_fault.ensures c.in_err-field.was in
+    rw (p.1, p.2, e.0) (field-none _ _ e.1)
 
-pub bounds-s-start : goal.bounds-s-start
-bounds-s-start c =
-    let k = starts c.next_field.ensures c.in-Field.is in
-    omega (arith, k.upto, k.next-is, c.if-len-ne1.false)
+pub returns-then-field-ne1 : goal.returns-then-field-ne1
+returns-then-field-ne1 c =
+    rw c.refused.ensures (field-size (starts-required c.next_or_fault.ensures c.in_ok-field.was) (rw c.if-field-tag.true (known-header _ _ c.requires)) c.if-field-tag.true c.if-field-ne1.true)
 
-pub overflow_add-result : goal.overflow_add-result
-overflow_add-result c =
-    let k = starts c.next_field.ensures c.in-Field.is in
-    omega (arith, k.upto, k.next-is, c.if-len-ne1.false)
+pub bounds-s-field : goal.bounds-s-field
+bounds-s-field c =
+    let k = starts-required c.next_or_fault.ensures c.in_ok-field.was in
+    omega (arith, k.upto, k.next-is, c.if-field-ne1.false)
 
-pub returns-then-found-tag : goal.returns-then-found-tag
-returns-then-found-tag c = field-value (starts c.next_field.ensures c.in-Field.is) (rw c.if-found-tag.true (known-header _ _ c.requires)) c.if-found-tag.true c.if-len-ne1.false
+pub returns-then-field-tag : goal.returns-then-field-tag
+returns-then-field-tag c = field-value (starts-required c.next_or_fault.ensures c.in_ok-field.was) (rw c.if-field-tag.true (known-header _ _ c.requires)) c.if-field-tag.true c.if-field-ne1.false
 
 pub returns-then-known : goal.returns-then-known
-returns-then-known c = field-other (starts c.next_field.ensures c.in-Field.is) (sym c.known.ensures ∙ c.if-known.true) c.if-found-tag.false
+returns-then-known c = rw c.refused-then-known.ensures (field-other (starts-required c.next_or_fault.ensures c.in_ok-field.was) (sym c.known.ensures ∙ c.if-known.true) c.if-field-tag.false)
 
-pub returns-else-known : goal.returns-else-known
-returns-else-known c = field-unknown (starts c.next_field.ensures c.in-Field.is) (sym c.known.ensures ∙ c.if-known.false)
-
-pub returns-in-Cut : goal.returns-in-Cut
-returns-in-Cut c = field_cut _ _ (next-cut _ c.next_field.ensures c.in-Cut.is)
-
-pub returns-in-Ends : goal.returns-in-Ends
-returns-in-Ends c = field-ends _ _ (next-ends _ c.next_field.ensures c.in-Ends.is)
+pub returns : goal.returns
+returns c = rw c.refused-2.ensures (field-unknown (starts-required c.next_or_fault.ensures c.in_ok-field.was) (sym c.known.ensures ∙ c.if-known.false))

@@ -1,5 +1,6 @@
 -- `fields::header::read_edition` meets its contract: each `return` cites the law for its way. Assumes nothing.
 use mathlib.Core.Path.{sym, ◌∙◌}
+use Rattle.std.proofs.lemmas.Result.{err_from_is_err_and}
 use Rattle.fields.proofs.Headers.{edition-refused, edition-other, edition-value}
 use Rattle.fields.specs.Header.{header_tag}
 use borrow.Author.Rules.{rules}
@@ -9,11 +10,11 @@ pub header_field-requires : goal.header_field-requires
 unfolding header_tag
 header_field-requires c = search rules
 
-pub returns-then-between : goal.returns-then-between
-returns-then-between c = edition-value c.header_field.ensures c.in-Value.is (sym c.between.ensures ∙ c.if-between.true)
+pub returns-in_err-field : goal.returns-in_err-field
+returns-in_err-field c = let p = err_from_is_err_and c.from_residual.result c.from_residual.ensures.1 in rw (p.1, p.2) (edition-refused c.header_field.ensures c.in_err-field.was)
 
-pub returns-else-between : goal.returns-else-between
-returns-else-between c = edition-other c.header_field.ensures c.in-Value.is (sym c.between.ensures ∙ c.if-between.false)
+pub returns-then-not-between : goal.returns-then-not-between
+returns-then-not-between c = rw c.refused.ensures (edition-other c.header_field.ensures c.in_ok-field.was (sym c.between.ensures ∙ c.if-not-between.true))
 
-pub returns-in-Refused : goal.returns-in-Refused
-returns-in-Refused c = edition-refused c.header_field.ensures c.in-Refused.is
+pub returns : goal.returns
+returns c = edition-value c.header_field.ensures c.in_ok-field.was (sym c.between.ensures ∙ c.if-not-between.false)
