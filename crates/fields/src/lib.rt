@@ -93,9 +93,9 @@ impl End {
     }
 }
 
-// The next field that is no note, or how the file ends. Notes are passed over here; only where whole fields are known to stand
-// do bundle_read and conversion_bundle pass them over by the tag alone.
-pub fn next_field(s: &[u8], at: usize) -> Result<WholeField, End>
+// Notes are passed over here; only where whole fields are known to stand do bundle_read and conversion_bundle pass them over by
+// the tag alone.
+fn next_at(s: &[u8], at: usize) -> Result<WholeField, End>
     ensures { result ≡ next_of (fields_at s.now at) }
 {
     let mut here = at;
@@ -111,6 +111,29 @@ pub fn next_field(s: &[u8], at: usize) -> Result<WholeField, End>
             Err(Broken) => return Err(End::Cut { at: here }),
         }
     }
+}
+
+// The reader: a file and a place in it, carried together.
+#[derive(Clone, Copy)]
+pub struct Fields<'a> {
+    pub file: &'a [u8],
+    pub at: usize,
+}
+
+impl<'a> Fields<'a> {
+    // The next field that is no note, or how the file ends.
+    pub fn next(self) -> Result<WholeField, End>
+        ensures { result ≡ next_of (fields_at self.entry.file.now self.entry.at) }
+    {
+        next_at(self.file, self.at)
+    }
+}
+
+// What every other function calls: a file and a place as they come.
+pub fn next_field(s: &[u8], at: usize) -> Result<WholeField, End>
+    ensures { result ≡ next_of (fields_at s.now at) }
+{
+    Fields { file: s, at }.next()
 }
 
 // The next field, where there must be one.

@@ -1,9 +1,9 @@
--- `fields::next_field` meets its contract. The invariant: the fields from here on are those from the start on. Assumes nothing.
+-- `fields::next_at` meets its contract. The invariant: the fields from here on are those from the start on. Assumes nothing.
 use mathlib.Core.Path.{sym, ap, ◌∙◌}
 use Rattle.fields.specs.Places.{next_of}
 use Rattle.std.specs.Prelude.{Ok}
 use Rattle.fields.proofs.Places.{took, took-at, took-next, took-note, took-less, cut_at, ends_at}
-use Rattle.fields.proofs.next_field.Goals as goal
+use Rattle.fields.proofs.next_at.Goals as goal
 
 pub returns-then-field-lt128 : goal.returns-then-field-lt128
 returns-then-field-lt128 c =
