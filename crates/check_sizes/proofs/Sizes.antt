@@ -13,7 +13,7 @@ use Rattle.lines.specs.Buffer.{size}
 use Rattle.lines.proofs.Lines.{before}
 use Rattle.branches.specs.Spare.{lines_left, Spare}
 use Rattle.branches.proofs.Spare.{fewer-by}
-use Rattle.check_sizes.specs.Sizes.{LinesWithin, NumbersWithin}
+use Rattle.check_sizes.specs.Sizes.{LinesWithin, NumbersWithin, Arrays}
 
 -- The numbers of some lines, whatever K is.
 pub numbers-small : (n K : ℕ) {N : ℕ} → n ≤ N → K ≤ 16 → n * size K ≤ N * 34
@@ -34,12 +34,13 @@ module _ (e : ℕ) {K : ℕ} (c : ℕ) {kinds : List ℕ} {buf : List ℤ} where
     kinds_room = λ n m o. omega (arith, k);
   }
 
--- A line has four numbers at least, so that a kind for each four numbers is enough.
-pub kinds-few : (e K c : ℕ) {M k : ℕ} → NumbersWithin e K c M → 1 ≤ K → M ≤ 4 * k + 3 → min c (edition e).lines < k
-kinds-few e K c w h l = omega (arith, w, mul-le-mul {n₁ = min c (edition e).lines + 1} {m₁ = 4} {n₂ = min c (edition e).lines + 1} {m₂ = size K} (omega arith) (omega arith))
+-- Kinds that are enough for the numbers of the lines that may come are enough for these lines.
+pub kinds-within : (e K c : ℕ) {s k M : ℕ} → NumbersWithin e K c M → 1 ≤ K → Arrays s k M → min c (edition e).lines < k
+kinds-within e K c w h l = omega (arith, w, l.kinds_enough, lines-most e, mul-le-mul {n₁ = min c (edition e).lines + 1} {m₁ = 4} {n₂ = min c (edition e).lines + 1} {m₂ = size K} (omega arith) (omega arith))
 
-pub kinds-all : (e c : ℕ) → min c (edition e).lines < 1001
-kinds-all e c = omega (arith, lines-most e)
+-- All lines of every edition, of 16 constants.
+pub numbers-any : (e : ℕ) {K : ℕ} (c : ℕ) → K ≤ 16 → NumbersWithin e K c 34034
+numbers-any e {K} c h = numbers-small (min c (edition e).lines + 1) K {N = 1001} (omega (arith, lines-most e)) h
 
 pub lines-any : (e c : ℕ) → LinesWithin e c 1000
 lines-any e c = omega (arith, lines-most e)

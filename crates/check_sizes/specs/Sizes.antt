@@ -1,6 +1,6 @@
 -- What arrays are long enough for a check whose bundles and header are read. Assumes nothing.
-use Rattle.std.specs.Prelude.{◌≡◌, List, ℕ, ◌+◌, ◌*◌, ◌≤◌, min}
-use Rattle.forms.specs.Edition.{edition}
+use Rattle.std.specs.Prelude.{◌≡◌, List, ℕ, ◌+◌, ◌*◌, ◌/◌, ◌≤◌, min}
+use Rattle.forms.specs.Edition.{edition, edition1, newest_edition}
 use Rattle.answers.specs.declared.WriteResult.{WriteResult}
 use Rattle.proof.specs.Promises.{Checks}
 use Rattle.lines.specs.Buffer.{size}
@@ -12,6 +12,14 @@ LinesWithin e c N = min c (edition e).lines ≤ N
 
 abbrev pub NumbersWithin : (e K c N : ℕ) → Type 0
 NumbersWithin e K c N = (min c (edition e).lines + 1) * size K ≤ N
+
+-- Arrays of so many bytes of scratch, kinds and numbers: none is larger than any proof asks, and there are kinds enough for lines of so many
+-- numbers, since a line has four numbers at least, and no edition has more lines than the newest.
+pub record Arrays (scratch kinds numbers : ℕ) : Type 0 where
+  pub scratch_few : scratch ≤ edition1.formula_bytes
+  pub numbers_few : numbers ≤ ((edition newest_edition).lines + 1) * size 16
+  pub kinds_few : kinds ≤ numbers
+  pub kinds_enough : min (numbers / 4) ((edition newest_edition).lines + 1) ≤ kinds
 
 -- A check in a scratch that may be too short: it is check's where that can be told of its answer, and with 1 the output stays.
 pub record CheckedWithin (A B P : List ℕ) (at : ℕ) (scratch out out' : List ℕ) (r : WriteResult) : Type 0 where

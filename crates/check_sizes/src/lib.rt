@@ -10,10 +10,10 @@ ghost use Rattle.proof.specs.Promises.{Checks};
 ghost use Rattle.lines.specs.Buffer.{size, lines_in};
 ghost use Rattle.tally.specs.Tally.{tally};
 ghost use Rattle.branches.specs.Spare.{lines_left, Spare};
-ghost use Rattle.branches.specs.Branching.{Started};
+ghost use Rattle.branches.specs.Branching.{per_byte, Started};
 ghost use Rattle.check_sizes.specs.Root.{Roots};
 ghost use Rattle.bundle_load.specs.Begun.{Begun};
-ghost use Rattle.check_sizes.specs.Sizes.{NumbersWithin, CheckedWithin, Tries};
+ghost use Rattle.check_sizes.specs.Sizes.{NumbersWithin, Arrays, CheckedWithin, Tries};
 
 use answers::WriteResult;
 use branches::branch::{Branched, Here, check_branch};
@@ -131,16 +131,16 @@ fn check_within(
 }
 
 // The sizes of the arrays. An array is cleared before it is used, which takes longer than the check of a short proof, so a
-// short proof is given little: check_N is for proofs of N bytes at most, or that need no more. (A row has six bytes or so.)
+// short proof is given little: the sizes named by N are for proofs of N bytes at most, or that need no more. (A row has six bytes or so.)
 // A row makes one line at most, and has four bytes, in edition 2 five: there is room for the lines of two constraints, of N / 4
-// rows and for one that is being made, each of 16 constants (in check_24 and check_41 of 7). With fewer constants there is room
+// rows and for one that is being made, each of 16 constants (for 24 and 41 of 7). With fewer constants there is room
 // for more lines; a line has four numbers at least, so a kind for each four numbers is enough.
-// Up to check_248 the scratch has BYTE_BYTES for each byte: a close has a field of four bytes at least, and adds 156 bytes to the
+// Up to 248 the scratch has BYTE_BYTES for each byte: a close has a field of four bytes at least, and adds 156 bytes to the
 // formula at most: its own part over 16 constants has 75, the stride part before it, where it closes a branch of a rounding, 75
 // too, and 6 are for the heads of an and and an or.
 // Another proof, if `is_tried`, is tried with TRIED_BYTES for each of 960 bytes, and checked again with room for every formula where
 // these are too few. Where nothing is rounded they are not: a strengthen and two closes are 3 fields of 12 bytes and add 148 bytes,
-// or of 16 and add 156. (That is by reckoning; nothing rests on it.) The arrays of check_960 then have 31 KB and those of check_wide_960 40 KB, about what the
+// or of 16 and add 156. (That is by reckoning; nothing rests on it.) The arrays then have 31 KB in edition 1 and 40 KB in edition 2, about what the
 // first cache holds; what is larger takes longer by the byte (docs/SPEED.md).
 const BYTE_BYTES: usize = 39;
 
@@ -149,16 +149,36 @@ const TRIED_BYTES: usize = 13;
 // The numbers of a line: t and tA, each with its constant term.
 const LINE_NUMBERS: usize = 2 * (CONSTANTS as usize + 1);
 
+const SCRATCH_24: usize = 24 * BYTE_BYTES;
+
 const NUMBERS_24: usize = (6 + 3) * (2 * (7 + 1));
+
+const KINDS_24: usize = NUMBERS_24 / 4;
+
+const SCRATCH_41: usize = 41 * BYTE_BYTES;
 
 const NUMBERS_41: usize = (10 + 3) * (2 * (7 + 1));
 
+const KINDS_41: usize = NUMBERS_41 / 4;
+
+const SCRATCH_66: usize = 66 * BYTE_BYTES;
+
 const NUMBERS_66: usize = (16 + 3) * LINE_NUMBERS;
+
+const KINDS_66: usize = NUMBERS_66 / 4;
+
+const SCRATCH_248: usize = 248 * BYTE_BYTES;
 
 const NUMBERS_248: usize = (62 + 3) * LINE_NUMBERS;
 
+const KINDS_248: usize = NUMBERS_248 / 4;
+
+const SCRATCH_960: usize = 960 * TRIED_BYTES;
+
 // All lines that a branch may have in edition 1, and one more.
 const NUMBERS_1: usize = (LINES_1 as usize + 1) * LINE_NUMBERS;
+
+const KINDS_1: usize = NUMBERS_1 / 4;
 
 // More than these, in edition 2: those of 960 bytes, and all.
 const NUMBERS_WIDE_960: usize = (192 + 3) * LINE_NUMBERS;
@@ -167,7 +187,9 @@ const KINDS_WIDE: usize = LINES as usize + 1;
 
 const NUMBERS_WIDE: usize = KINDS_WIDE * LINE_NUMBERS;
 
-fn check_24(
+// The lines, and then the root, in arrays of these sizes: check's answer where a formula of the proof has room in the scratch. Each
+// choice of sizes is a function of its own.
+fn check_sized<const SCRATCH: usize, const KINDS: usize, const NUMBERS: usize>(
     a: &[u8],
     b: &[u8],
     first: Body,
@@ -177,106 +199,14 @@ fn check_24(
     out: &mut [u8],
 ) -> WriteResult
     requires begun { Begun a.now b.now first second proof.now header.edition header.k header.next }
-    requires next_bound { unread_bytes proof.now header.next ≤ 24 }
-    requires numbers_within { NumbersWithin header.edition header.k (first.count + second.count + lines_left header.edition proof.now header.next) (9 * size 7) }
-    ensures { Checks a.now b.now proof.now out.old out.new result }
+    requires numbers_within { NumbersWithin header.edition header.k (first.count + second.count + lines_left header.edition proof.now header.next) NUMBERS }
+    requires arrays { Arrays SCRATCH KINDS NUMBERS }
+    ensures enough { min (per_byte * unread_bytes proof.now header.next) edition1.formula_bytes ≤ SCRATCH → Checks a.now b.now proof.now out.old out.new result }
+    ensures tries { Tries a.now b.now proof.now out.old out.new result }
 {
-    let mut scratch = [0u8; 24 * BYTE_BYTES];
-    let mut kinds = [0u8; NUMBERS_24 / 4];
-    let mut lines = [0i32; NUMBERS_24];
-    check_within(
-        a,
-        b,
-        first,
-        second,
-        proof,
-        header,
-        &mut lines,
-        &mut kinds,
-        &mut scratch,
-        out,
-    )
-}
-
-fn check_41(
-    a: &[u8],
-    b: &[u8],
-    first: Body,
-    second: Body,
-    proof: &[u8],
-    header: ProofHeader,
-    out: &mut [u8],
-) -> WriteResult
-    requires begun { Begun a.now b.now first second proof.now header.edition header.k header.next }
-    requires next_bound { unread_bytes proof.now header.next ≤ 41 }
-    requires numbers_within { NumbersWithin header.edition header.k (first.count + second.count + lines_left header.edition proof.now header.next) (13 * size 7) }
-    ensures { Checks a.now b.now proof.now out.old out.new result }
-{
-    let mut scratch = [0u8; 41 * BYTE_BYTES];
-    let mut kinds = [0u8; NUMBERS_41 / 4];
-    let mut lines = [0i32; NUMBERS_41];
-    check_within(
-        a,
-        b,
-        first,
-        second,
-        proof,
-        header,
-        &mut lines,
-        &mut kinds,
-        &mut scratch,
-        out,
-    )
-}
-
-fn check_66(
-    a: &[u8],
-    b: &[u8],
-    first: Body,
-    second: Body,
-    proof: &[u8],
-    header: ProofHeader,
-    out: &mut [u8],
-) -> WriteResult
-    requires begun { Begun a.now b.now first second proof.now header.edition header.k header.next }
-    requires next_bound { unread_bytes proof.now header.next ≤ 66 }
-    requires numbers_within { NumbersWithin header.edition header.k (first.count + second.count + lines_left header.edition proof.now header.next) (19 * size edition1.constants) }
-    ensures { Checks a.now b.now proof.now out.old out.new result }
-{
-    let mut scratch = [0u8; 66 * BYTE_BYTES];
-    let mut kinds = [0u8; NUMBERS_66 / 4];
-    let mut lines = [0i32; NUMBERS_66];
-    check_within(
-        a,
-        b,
-        first,
-        second,
-        proof,
-        header,
-        &mut lines,
-        &mut kinds,
-        &mut scratch,
-        out,
-    )
-}
-
-fn check_248(
-    a: &[u8],
-    b: &[u8],
-    first: Body,
-    second: Body,
-    proof: &[u8],
-    header: ProofHeader,
-    out: &mut [u8],
-) -> WriteResult
-    requires begun { Begun a.now b.now first second proof.now header.edition header.k header.next }
-    requires next_bound { unread_bytes proof.now header.next ≤ 248 }
-    requires numbers_within { NumbersWithin header.edition header.k (first.count + second.count + lines_left header.edition proof.now header.next) (65 * size edition1.constants) }
-    ensures { Checks a.now b.now proof.now out.old out.new result }
-{
-    let mut scratch = [0u8; 248 * BYTE_BYTES];
-    let mut kinds = [0u8; NUMBERS_248 / 4];
-    let mut lines = [0i32; NUMBERS_248];
+    let mut scratch = [0u8; SCRATCH];
+    let mut kinds = [0u8; KINDS];
+    let mut lines = [0i32; NUMBERS];
     check_within(
         a,
         b,
@@ -346,97 +276,11 @@ fn is_tried(proof: &[u8], from: usize) -> bool {
     false
 }
 
-// Tried: where the formula is longer than the scratch, or the proof is not for it, the answer is TOO_LONG.
-fn check_960(
-    a: &[u8],
-    b: &[u8],
-    first: Body,
-    second: Body,
-    proof: &[u8],
-    header: ProofHeader,
-    out: &mut [u8],
-) -> WriteResult
-    requires begun { Begun a.now b.now first second proof.now header.edition header.k header.next }
-    requires numbers_within { NumbersWithin header.edition header.k (first.count + second.count + lines_left header.edition proof.now header.next) (129 * size edition1.constants) }
-    ensures { Tries a.now b.now proof.now out.old out.new result }
-{
-    if !is_tried(proof, header.next) {
-        return refusal(TOO_LONG, 4, 0);
-    }
-    let mut scratch = [0u8; 960 * TRIED_BYTES];
-    let mut kinds = [0u8; NUMBERS_1 / 4];
-    let mut lines = [0i32; NUMBERS_1];
-    check_within(
-        a,
-        b,
-        first,
-        second,
-        proof,
-        header,
-        &mut lines,
-        &mut kinds,
-        &mut scratch,
-        out,
-    )
-}
-
-// As many lines, and the longest formula.
-fn check_any(
-    a: &[u8],
-    b: &[u8],
-    first: Body,
-    second: Body,
-    proof: &[u8],
-    header: ProofHeader,
-    out: &mut [u8],
-) -> WriteResult
-    requires begun { Begun a.now b.now first second proof.now header.edition header.k header.next }
-    requires numbers_within { NumbersWithin header.edition header.k (first.count + second.count + lines_left header.edition proof.now header.next) (129 * size edition1.constants) }
-    ensures { Checks a.now b.now proof.now out.old out.new result }
-{
-    let mut scratch = [0u8; FORMULA_BYTES];
-    let mut kinds = [0u8; NUMBERS_1 / 4];
-    let mut lines = [0i32; NUMBERS_1];
-    check_within(
-        a,
-        b,
-        first,
-        second,
-        proof,
-        header,
-        &mut lines,
-        &mut kinds,
-        &mut scratch,
-        out,
-    )
-}
-
-// A proof of more bytes than 248, or of more lines. A function of its own: the frame of a function has room for the largest of
-// its arrays, and each page of that is touched at every call. It stays one since it is called twice
+// A proof of more bytes than 248, or of more lines, whose lines may come to have so many numbers: tried, and checked again with room for
+// every formula where the answer is TOO_LONG. A function of its own: the frame of a function has room for the largest of
+// its arrays, and each page of that is touched at every call. It stays one since it is called twice with the same sizes
 // (docs/SPEED.md).
-fn check_long(
-    a: &[u8],
-    b: &[u8],
-    first: Body,
-    second: Body,
-    proof: &[u8],
-    header: ProofHeader,
-    out: &mut [u8],
-) -> WriteResult
-    requires begun { Begun a.now b.now first second proof.now header.edition header.k header.next }
-    requires numbers_within { NumbersWithin header.edition header.k (first.count + second.count + lines_left header.edition proof.now header.next) (129 * size edition1.constants) }
-    ensures { Checks a.now b.now proof.now out.old out.new result }
-{
-    let tried = check_960(a, b, first, second, proof, header, out);
-    let answer = tried.answer;
-    if answer.number != TOO_LONG {
-        return tried;
-    }
-    check_any(a, b, first, second, proof, header, out)
-}
-
-// Tried, as `check_960`, where the lines that may come have `numbers` at most.
-fn check_wide_960(
+fn check_long<const TRIED_NUMBERS: usize, const NUMBERS: usize, const KINDS: usize>(
     a: &[u8],
     b: &[u8],
     first: Body,
@@ -448,82 +292,20 @@ fn check_wide_960(
 ) -> WriteResult
     requires begun { Begun a.now b.now first second proof.now header.edition header.k header.next }
     requires numbers_within { NumbersWithin header.edition header.k (first.count + second.count + lines_left header.edition proof.now header.next) numbers }
-    ensures { Tries a.now b.now proof.now out.old out.new result }
-{
-    if !is_tried(proof, header.next) {
-        return refusal(TOO_LONG, 4, 0);
-    }
-    if numbers > NUMBERS_WIDE_960 {
-        return refusal(TOO_LONG, 4, 0);
-    }
-    let mut scratch = [0u8; 960 * TRIED_BYTES];
-    let mut kinds = [0u8; KINDS_WIDE];
-    let mut lines = [0i32; NUMBERS_WIDE_960];
-    check_within(
-        a,
-        b,
-        first,
-        second,
-        proof,
-        header,
-        &mut lines,
-        &mut kinds,
-        &mut scratch,
-        out,
-    )
-}
-
-// Any proof of edition 2, and the longest formula.
-fn check_wide_any(
-    a: &[u8],
-    b: &[u8],
-    first: Body,
-    second: Body,
-    proof: &[u8],
-    header: ProofHeader,
-    out: &mut [u8],
-) -> WriteResult
-    requires { Begun a.now b.now first second proof.now header.edition header.k header.next }
+    requires all_within { NumbersWithin header.edition header.k (first.count + second.count + lines_left header.edition proof.now header.next) NUMBERS }
+    requires tried_arrays { Arrays SCRATCH_960 KINDS TRIED_NUMBERS }
+    requires all_arrays { Arrays FORMULA_BYTES KINDS NUMBERS }
     ensures { Checks a.now b.now proof.now out.old out.new result }
 {
-    let mut scratch = [0u8; FORMULA_BYTES];
-    let mut kinds = [0u8; KINDS_WIDE];
-    let mut lines = [0i32; NUMBERS_WIDE];
-    check_within(
-        a,
-        b,
-        first,
-        second,
-        proof,
-        header,
-        &mut lines,
-        &mut kinds,
-        &mut scratch,
-        out,
-    )
-}
-
-// A proof whose lines may have more numbers than those of edition 1, `numbers` at most. A function of its own, as `check_long` is.
-fn check_wide(
-    a: &[u8],
-    b: &[u8],
-    first: Body,
-    second: Body,
-    proof: &[u8],
-    header: ProofHeader,
-    numbers: usize,
-    out: &mut [u8],
-) -> WriteResult
-    requires begun { Begun a.now b.now first second proof.now header.edition header.k header.next }
-    requires numbers_within { NumbersWithin header.edition header.k (first.count + second.count + lines_left header.edition proof.now header.next) numbers }
-    ensures { Checks a.now b.now proof.now out.old out.new result }
-{
-    let tried = check_wide_960(a, b, first, second, proof, header, numbers, out);
-    let answer = tried.answer;
-    if answer.number != TOO_LONG {
-        return tried;
+    if numbers <= TRIED_NUMBERS && is_tried(proof, header.next) {
+        let tried = check_sized::<SCRATCH_960, KINDS, TRIED_NUMBERS>(
+            a, b, first, second, proof, header, out,
+        );
+        if tried.answer.number != TOO_LONG {
+            return tried;
+        }
     }
-    check_wide_any(a, b, first, second, proof, header, out)
+    check_sized::<FORMULA_BYTES, KINDS, NUMBERS>(a, b, first, second, proof, header, out)
 }
 
 // How many rows so many bytes may have: each has a tag, a length and a line number at least. Two divisions, by literals.
@@ -568,31 +350,41 @@ pub fn check_lines(
     let count = most_lines(header.edition, first.count + second.count + rows);
     let numbers = (count + 1) * size;
     if bytes <= 248 {
-        if bytes <= 24 {
-            if numbers <= NUMBERS_24 {
-                return check_24(a, b, first, second, proof, header, out);
-            }
+        if bytes <= 24 && numbers <= NUMBERS_24 {
+            return check_sized::<SCRATCH_24, KINDS_24, NUMBERS_24>(
+                a, b, first, second, proof, header, out,
+            );
         }
-        if bytes <= 41 {
-            if numbers <= NUMBERS_41 {
-                return check_41(a, b, first, second, proof, header, out);
-            }
+        if bytes <= 41 && numbers <= NUMBERS_41 {
+            return check_sized::<SCRATCH_41, KINDS_41, NUMBERS_41>(
+                a, b, first, second, proof, header, out,
+            );
         }
-        if bytes <= 66 {
-            if numbers <= NUMBERS_66 {
-                return check_66(a, b, first, second, proof, header, out);
-            }
+        if bytes <= 66 && numbers <= NUMBERS_66 {
+            return check_sized::<SCRATCH_66, KINDS_66, NUMBERS_66>(
+                a, b, first, second, proof, header, out,
+            );
         }
         if numbers <= NUMBERS_248 {
-            return check_248(a, b, first, second, proof, header, out);
+            return check_sized::<SCRATCH_248, KINDS_248, NUMBERS_248>(
+                a, b, first, second, proof, header, out,
+            );
         }
         if numbers <= NUMBERS_1 {
-            return check_long(a, b, first, second, proof, header, out);
+            return check_long::<NUMBERS_1, NUMBERS_1, KINDS_1>(
+                a, b, first, second, proof, header, numbers, out,
+            );
         }
-        return check_wide(a, b, first, second, proof, header, numbers, out);
+        return check_long::<NUMBERS_WIDE_960, NUMBERS_WIDE, KINDS_WIDE>(
+            a, b, first, second, proof, header, numbers, out,
+        );
     }
     if numbers <= NUMBERS_1 {
-        return check_long(a, b, first, second, proof, header, out);
+        return check_long::<NUMBERS_1, NUMBERS_1, KINDS_1>(
+            a, b, first, second, proof, header, numbers, out,
+        );
     }
-    check_wide(a, b, first, second, proof, header, numbers, out)
+    check_long::<NUMBERS_WIDE_960, NUMBERS_WIDE, KINDS_WIDE>(
+        a, b, first, second, proof, header, numbers, out,
+    )
 }

@@ -25,10 +25,8 @@ fn is_undivided(g: i64, d: i64, by: u16) -> bool
     requires within { Within edition1.range d × (by ≤ edition1.rounding) }
     ensures { result ≡ undivided (nat_abs g) d by }
 {
-    let mut left = by;
-    while left > 0 {
-        left -= 1;
-        if integers::divides(g, d + left as i64) {
+    for j in (0..by).rev() {
+        if integers::divides(g, d + j as i64) {
             return false;
         }
     }
