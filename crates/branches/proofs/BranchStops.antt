@@ -26,9 +26,8 @@ use Rattle.tally.specs.declared.Tally.{Tally}
 use Rattle.entries.specs.Entries.{Multiplies}
 use Rattle.rows.specs.declared.derive.Derived.{Derived}
 use Rattle.rows.specs.declared.derive.Derived.TheVariants as derived
-use Rattle.closes.specs.Ends.{EndedBy}
-use Rattle.closes.specs.declared.ends.Ended.{Ended}
-use Rattle.closes.specs.declared.ends.Ended.TheVariants as ended
+use Rattle.std.specs.Prelude.{Ok, Err}
+use Rattle.closes.specs.Ends.{End, EndedBy}
 use Rattle.openings.specs.Opening.{below, Branching, row_opened, RowOpens}
 use Rattle.branches.specs.Branches.{Comes, Stopped}
 use Rattle.branches.specs.Branching.{closed_by, Started, ChecksBranch}
@@ -87,11 +86,11 @@ module _ {K : ℕ} {p : List ℕ} {at : ℕ} {kinds : List ℕ} {buf : List ℤ}
       (f : (ℕ → Answer) → Result Formula)
       (row_is : check_row (edition t.edition) K (below t.edition K (32 - t.«open»)) (check_entries (edition t.edition) K here (below t.edition K (32 - t.«open»)) (fields_at p next)) (refusal_at here number.0 a) number.0 (lines_in K kinds' buf' u.lines.0) (fields_at p next) row
       ≡ (f (refusal_at here number.0 a) >>= λ I. accepted (record { formula = I; rows = suc number.0; after = fields_at p next }))) where
-    row-closed : (scratch : List ℕ) (o : ℕ) (scratch' : List ℕ) (e : Ended) → EndedBy f scratch o scratch' e
+    row-closed : (scratch : List ℕ) (o : ℕ) (scratch' : List ℕ) (e : End) → EndedBy f scratch o scratch' e
         → ChecksBranch K p at here kinds buf t scratch o kinds' buf' scratch' (closed_by e here number a next (returned_to u t))
     unfolding ◌>>=◌
-    row-closed scratch o scratch' (ended.Refused x) w = record { kept = k; long = w.1; by = comes-row m here ∙ row_is ∙ rw (w.0 (refusal_at here number.0 a)) }
-    row-closed scratch o scratch' (ended.Written o') w =
+    row-closed scratch o scratch' (Err x) w = record { kept = k; long = w.1; by = comes-row m here ∙ row_is ∙ rw (w.0 (refusal_at here number.0 a)) }
+    row-closed scratch o scratch' (Ok o') w =
         let q : suc number.0 ≡ u.rows.0 = omega (arith, m.rows_is) in
         record {
           kept = k;
@@ -109,7 +108,7 @@ module _ {K : ℕ} {p : List ℕ} {at : ℕ} {kinds : List ℕ} {buf : List ℤ}
           };
         }
 
-  module _ (here : Position) {r : Stop} (s : Stopped K p at kinds buf t kinds' buf' r) (scratch : List ℕ) (o : ℕ) (scratch' : List ℕ) (e : Ended) where
+  module _ (here : Position) {r : Stop} (s : Stopped K p at kinds buf t kinds' buf' r) (scratch : List ℕ) (o : ℕ) (scratch' : List ℕ) (e : End) where
     pub number-closed : {i : LineNumber} {row : RowNumber} {a next : ℕ} {u : Tally} {b : Branched} {v : Tally} → r ≡ Stop.ClosesNumber i row a next u
         → EndedBy (λ refusal. by_number refusal (lines_in K kinds' buf' u.lines.0) i.0) scratch o scratch' e
         → v ≡ returned_to u t → b ≡ closed_by e here row a next v

@@ -1,11 +1,12 @@
 -- A branch and the branches it opens, by the answers of the code. Document 01, "The rows" and "Check". Assumes nothing.
-use Rattle.std.specs.Prelude.{◌≡◌, List, ℕ, ◌+◌, ◌-◌, ◌*◌, ◌<◌, ◌≤◌, ℤ, length, get_or, T}
+use Rattle.std.specs.Prelude.{Ok, Err, ◌≡◌, List, ℕ, ◌+◌, ◌-◌, ◌*◌, ◌<◌, ◌≤◌, ℤ, length, get_or, T}
 use Rattle.std.proofs.lemmas.List.Edits.{sets}
 use Rattle.forms.specs.Edition.{edition, edition1}
 use Rattle.forms.specs.Forms.{Formula}
 use Rattle.forms.specs.declared.RowNumber.{RowNumber}
 use Rattle.calculus.specs.Rules.{in_range}
 use Rattle.answers.specs.declared.Position.{Position}
+use Rattle.answers.specs.Refusals.{number_of}
 use Rattle.answers.specs.Answers.{refusal_at, Result, refused, accepted}
 use Rattle.fields.specs.Places.{fields_at, unread_bytes}
 use Rattle.formula.specs.Formula.{encode}
@@ -15,8 +16,7 @@ use Rattle.lines.specs.Buffer.{line_in, lines_in}
 use Rattle.lines.specs.Ready.{Ready, LinesKept}
 use Rattle.tally.specs.Tally.{returned_to}
 use Rattle.tally.specs.declared.Tally.{Tally}
-use Rattle.closes.specs.declared.ends.Ended as ended
-use Rattle.closes.specs.declared.ends.Ended.TheVariants as Ended-of
+use Rattle.closes.specs.Ends.{End}
 use Rattle.openings.specs.Opening.{Branching, start_of, Longer, from_branch, all_rounded}
 use Rattle.openings.specs.Splitting.{owner_of, raised_by, negated_of, both_of}
 use Rattle.branches.specs.Spare.{lines_left, Spare}
@@ -25,9 +25,9 @@ use Rattle.branches.specs.declared.branch.Branched.TheVariants as branched-of
 
 -- ---- the whole branch
 -- The row of that number closes the branch at a position, or is refused.
-abbrev pub closed_by : ended.Ended → (here : Position) (row : RowNumber) (at next : ℕ) → Tally → branched.Branched
-closed_by (Ended-of.Refused x) here row at next t = branched-of.Fault x row here at
-closed_by (Ended-of.Written o) here row at next t = branched-of.Closed next o t
+abbrev pub closed_by : End → (here : Position) (row : RowNumber) (at next : ℕ) → Tally → branched.Branched
+closed_by (Err x) here row at next t = branched-of.Fault (number_of x) row here at
+closed_by (Ok o) here row at next t = branched-of.Closed next o t
 
 -- The branch goes on where the branches that it opened end.
 abbrev pub resumed_by : branched.Branched → (given : Tally) → branched.Branched

@@ -8,7 +8,8 @@ ghost use Rattle.openings.specs.Opening.{RoundsBy};
 ghost use Rattle.branches.specs.Branching.{closed_by, resumed_by, Started, ChecksBranch, Opened, FirstStands, RoundingChecked, RoundedChecked, SplitOpened, SplitChecked};
 
 use answers::Position;
-use closes::ends::{Ended, close_number, close_stride};
+use answers::refusals::Refusal;
+use closes::ends::{close_number, close_stride};
 use fields::{Next, next_field};
 use forms::{LineNumber, RowNumber};
 use formula_write::{put_pair, put_stride};
@@ -203,7 +204,7 @@ pub enum Branched {
 
 // The row that closes the branch at a position, or the refusal at this row.
 fn closed(
-    e: Ended,
+    e: Result<usize, Refusal>,
     position: Position,
     row: RowNumber,
     at: usize,
@@ -213,13 +214,13 @@ fn closed(
     ensures { result ≡ closed_by e position row at next tally }
 {
     match e {
-        Ended::Refused { number } => Branched::Fault {
-            number,
+        Err(refusal) => Branched::Fault {
+            number: refusal.number(),
             rows: row,
             position,
             at,
         },
-        Ended::Written { o } => Branched::Closed { at: next, o, tally },
+        Ok(o) => Branched::Closed { at: next, o, tally },
     }
 }
 

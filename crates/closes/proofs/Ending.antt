@@ -27,9 +27,7 @@ use Rattle.entries.specs.Entries.{Multiplies}
 use Rattle.closes.specs.Closing.{ByNumber}
 use Rattle.closes.specs.Striding.{ByStride}
 use Rattle.closes.specs.Ends.{EndedBy}
-use Rattle.closes.specs.declared.closing.Test.{Test}
-use Rattle.closes.specs.declared.closing.Test.TheVariants as test
-use Rattle.closes.specs.declared.ends.Ended.TheVariants as ended
+use Rattle.std.specs.Prelude.{Ok}
 use Rattle.closes.proofs.NumberTests.{number-none}
 use Rattle.closes.proofs.StrideTests.{stride-none, stride-kind, stride-small}
 
@@ -51,21 +49,21 @@ some-refusal : ℕ → Answer
 some-refusal n = answer n file_proof 0
 
 module _ {K : ℕ} {kinds : List ℕ} {buf : List ℤ} {t : Tally} {i : ℕ} where
-  pub number-there : ByNumber K kinds buf t i test.Passed → i < t.lines.0
+  pub number-there : ByNumber K kinds buf t i (Ok tt) → i < t.lines.0
   number-there b =
       ⊎_elim
       (λ (g : t.lines.0 - i ≡ 0). absurd (never (sym ((number-none K kinds buf t i (omega arith)).by some-refusal) ∙ b.by some-refusal)))
       (λ (l : 0 < t.lines.0 - i). omega arith)
       (eq-zero-or-pos (t.lines.0 - i))
 
-  pub stride-there : {g : ℕ} → ByStride K kinds buf t i g test.Passed → i < t.lines.0
+  pub stride-there : {g : ℕ} → ByStride K kinds buf t i g (Ok tt) → i < t.lines.0
   stride-there {g} b =
       ⊎_elim
       (λ (z : t.lines.0 - i ≡ 0). absurd (never (sym ((stride-none K kinds buf t i g (omega arith)).by some-refusal) ∙ b.by some-refusal)))
       (λ (l : 0 < t.lines.0 - i). omega arith)
       (eq-zero-or-pos (t.lines.0 - i))
 
-  pub stride-two : {g : ℕ} → ByStride K kinds buf t i g test.Passed → 2 ≤ g
+  pub stride-two : {g : ℕ} → ByStride K kinds buf t i g (Ok tt) → 2 ≤ g
   stride-two {g} b =
       ⊎_elim
       (λ (z : 2 - g ≡ 0). omega arith)
@@ -76,39 +74,29 @@ module _ {K : ℕ} {kinds : List ℕ} {buf : List ℤ} {t : Tally} {i : ℕ} whe
       no_test l false e = never (sym ((stride-kind K kinds buf t i g (stride-there b) e).by some-refusal) ∙ b.by some-refusal)
       no_test l true d = never (sym ((stride-small K kinds buf t i g (stride-there b) d refl (lt-leb 2 g l)).by some-refusal) ∙ b.by some-refusal)
 
-  pub number-refused : {r : Test} {x : ℕ} (o : ℕ) (scratch : List ℕ) → ByNumber K kinds buf t i r → r ≡ test.Refused x
-      → EndedBy (λ refusal. by_number refusal (lines_in K kinds buf t.lines.0) i) scratch o scratch (ended.Refused x)
-  number-refused o scratch b e = ((rw e at b).by, refl)
-
-  pub stride-refused : {g : ℕ} {r : Test} {x : ℕ} (o : ℕ) (scratch : List ℕ) → ByStride K kinds buf t i g r → r ≡ test.Refused x
-      → EndedBy (λ refusal. by_stride refusal (lines_in K kinds buf t.lines.0) i g) scratch o scratch (ended.Refused x)
-  stride-refused o scratch b e = ((rw e at b).by, refl)
-
   module _ (r : Ready t.edition K kinds buf t.lines.0) {x : ℕ} (ex : x ≡ i * size K + (K + 1)) {scratch scratch' : List ℕ} {o o' : ℕ} where
-    pub number-written : {q : Test} {kind : ℕ} → ByNumber K kinds buf t i q → q ≡ test.Passed → KindRead (get_or kinds i 0) kind
+    pub number-written : {kind : ℕ} → ByNumber K kinds buf t i (Ok tt) → KindRead (get_or kinds i 0) kind
         → Puts scratch o (literal (kind_of kind) (form_in K buf x)) scratch' o'
-        → EndedBy (λ refusal. by_number refusal (lines_in K kinds buf t.lines.0) i) scratch o scratch' (ended.Written o')
+        → EndedBy (λ refusal. by_number refusal (lines_in K kinds buf t.lines.0) i) scratch o scratch' (Ok o')
     unfolding line_in
-    number-written {kind = kind} b e ek p =
-        let b' = rw e at b in
-        let n = numbered r (number-there b') ex in
+    number-written {kind = kind} b ek p =
+        let n = numbered r (number-there b) ex in
         record {
           formula = literal (kind_of (get_or kinds i 0)) (line_in K kinds buf i).t_A;
-          is = b'.by;
+          is = b.by;
           puts = rw (← ap kind_of ek.is, ← ex) p;
           short = omega (arith, p.o_is, literal-size n (kind_of kind), n.constants);
         }
 
-    pub stride-written : {g : ℕ} {q : Test} → ByStride K kinds buf t i g q → q ≡ test.Passed
+    pub stride-written : {g : ℕ} → ByStride K kinds buf t i g (Ok tt)
         → Puts scratch o (g divides reduced g (form_in K buf x)) scratch' o'
-        → EndedBy (λ refusal. by_stride refusal (lines_in K kinds buf t.lines.0) i g) scratch o scratch' (ended.Written o')
+        → EndedBy (λ refusal. by_stride refusal (lines_in K kinds buf t.lines.0) i g) scratch o scratch' (Ok o')
     unfolding line_in
-    stride-written {g} b e p =
-        let b' = rw e at b in
-        let n = numbered r (stride-there b') ex in
+    stride-written {g} b p =
+        let n = numbered r (stride-there b) ex in
         record {
           formula = g divides reduced g (line_in K kinds buf i).t_A;
-          is = b'.by;
+          is = b.by;
           puts = rw (← ex) p;
           short = omega (arith, p.o_is, stride-size n g, n.constants);
         }

@@ -23,7 +23,8 @@ use Rattle.lines.specs.Ready.{KindRead, Ready}
 use Rattle.lines.proofs.KindBytes.{kind-plain}
 use Rattle.tally.specs.declared.Tally.{Tally}
 use Rattle.closes.specs.Closing.{ByNumber}
-use Rattle.closes.specs.declared.closing.Test.TheVariants.{Refused, Passed}
+use Rattle.std.specs.Prelude.{Ok, Err}
+use Rattle.answers.specs.declared.refusals.Refusal.{Refusal}
 
 pub false-≤ : {b : ℕ} (d : ℤ) {r : Bool} → b ≡ 0 → r ≡ lt_z (pos 0) d → r ≡ fails (kind_of b) d
 unfolding fails
@@ -42,12 +43,12 @@ module _ {e K : ℕ} {kinds : List ℕ} {buf : List ℤ} {n i : ℕ} where
   line_low r h = omega (arith, r.most, lines-most e)
 
 module _ (K : ℕ) (kinds : List ℕ) (buf : List ℤ) (t : Tally) (i : ℕ) where
-  pub number-none : t.lines.0 ≤ i → ByNumber K kinds buf t i (Refused 10)
+  pub number-none : t.lines.0 ≤ i → ByNumber K kinds buf t i (Err Refusal.NoSuchLine)
   unfolding by_number line_at ◌>>=◌ found
   number-none h = record { by = λ refusal. rw (line-past K kinds buf t.lines.0 i h) }
 
   module _ (hi : i < t.lines.0) where
-    pub number-apart : plain_kind (line_in K kinds buf i).kind ≡ none → ByNumber K kinds buf t i (Refused 11)
+    pub number-apart : plain_kind (line_in K kinds buf i).kind ≡ none → ByNumber K kinds buf t i (Err Refusal.WrongLineKind)
     unfolding by_number line_at ◌>>=◌ found
     number-apart h = record { by = λ refusal. rw (line-at K kinds buf t.lines.0 i hi, h) }
 
@@ -59,7 +60,7 @@ module _ (K : ℕ) (kinds : List ℕ) (buf : List ℤ) (t : Tally) (i : ℕ) whe
       unfolding line_in
       zeros = sym (rw ex at zero)
 
-      pub number-coeffs : b ≡ false → ByNumber K kinds buf t i (Refused 15)
+      pub number-coeffs : b ≡ false → ByNumber K kinds buf t i (Err Refusal.ConditionNotMet)
       unfolding by_number line_at ◌>>=◌ ◌>>◌ found need
       number-coeffs h = record { by = λ refusal. rw (line-at K kinds buf t.lines.0 i hi, plains, zeros, h) }
 
@@ -68,10 +69,10 @@ module _ (K : ℕ) (kinds : List ℕ) (buf : List ℤ) (t : Tally) (i : ℕ) whe
         unfolding line_in
         falses = sym (rw (ap kind_of read.is, ed, ex) at false-is)
 
-        pub number-d : c ≡ false → ByNumber K kinds buf t i (Refused 15)
+        pub number-d : c ≡ false → ByNumber K kinds buf t i (Err Refusal.ConditionNotMet)
         unfolding by_number line_at ◌>>=◌ ◌>>◌ found need
         number-d k = record { by = λ refusal. rw (line-at K kinds buf t.lines.0 i hi, plains, zeros, h, falses, k) }
 
-        pub number_passed : c ≡ true → ByNumber K kinds buf t i Passed
+        pub number_passed : c ≡ true → ByNumber K kinds buf t i (Ok tt)
         unfolding by_number line_at ◌>>=◌ ◌>>◌ found need
         number_passed k = record { by = λ refusal. rw (line-at K kinds buf t.lines.0 i hi, plains, zeros, h, falses, k) }

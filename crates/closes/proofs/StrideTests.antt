@@ -22,7 +22,8 @@ use Rattle.lines.proofs.Tests.{zero-abs, some-abs}
 use Rattle.tally.specs.declared.Tally.{Tally}
 use Rattle.entries.specs.Entries.{Multiplies}
 use Rattle.closes.specs.Striding.{ByStride}
-use Rattle.closes.specs.declared.closing.Test.TheVariants.{Refused, Passed}
+use Rattle.std.specs.Prelude.{Ok, Err}
+use Rattle.answers.specs.declared.refusals.Refusal.{Refusal}
 
 -- ---- g is 2 at least
 one-abs : (z : ℤ) {b : Bool} → b ≡ eq_z z (pos 1) → b ≡ true → nat_abs z ≡ 1
@@ -52,17 +53,17 @@ at-least-two z m e h = rw m.is (let l : 2 ≤ nat_abs z = leb-true 2 (nat_abs z)
 
 -- ---- the tests
 module _ (K : ℕ) (kinds : List ℕ) (buf : List ℤ) (t : Tally) (i g : ℕ) where
-  pub stride-none : t.lines.0 ≤ i → ByStride K kinds buf t i g (Refused 10)
+  pub stride-none : t.lines.0 ≤ i → ByStride K kinds buf t i g (Err Refusal.NoSuchLine)
   unfolding by_stride line_at ◌>>=◌ found
   stride-none h = record { by = λ refusal. rw (line-past K kinds buf t.lines.0 i h) }
 
   module _ (hi : i < t.lines.0) where
-    pub stride-kind : is =0 (line_in K kinds buf i).kind ≡ false → ByStride K kinds buf t i g (Refused 11)
+    pub stride-kind : is =0 (line_in K kinds buf i).kind ≡ false → ByStride K kinds buf t i g (Err Refusal.WrongLineKind)
     unfolding by_stride line_at ◌>>=◌ ◌>>◌ found need
     stride-kind h = record { by = λ refusal. rw (line-at K kinds buf t.lines.0 i hi, h) }
 
     module _ (hk : is =0 (line_in K kinds buf i).kind ≡ true) {a : Bool} (two : a ≡ leb 2 g) where
-      pub stride-small : a ≡ false → ByStride K kinds buf t i g (Refused 12)
+      pub stride-small : a ≡ false → ByStride K kinds buf t i g (Err Refusal.WrongMultiplier)
       unfolding by_stride line_at ◌>>=◌ ◌>>◌ found need
       stride-small h = record { by = λ refusal. rw (line-at K kinds buf t.lines.0 i hi, hk, ← two, h) }
 
@@ -71,7 +72,7 @@ module _ (K : ℕ) (kinds : List ℕ) (buf : List ℤ) (t : Tally) (i g : ℕ) w
         unfolding line_in
         alls = sym (rw (ex, ez) at all)
 
-        pub stride-coeffs : b ≡ false → ByStride K kinds buf t i g (Refused 15)
+        pub stride-coeffs : b ≡ false → ByStride K kinds buf t i g (Err Refusal.ConditionNotMet)
         unfolding by_stride line_at ◌>>=◌ ◌>>◌ found need
         stride-coeffs l = record { by = λ refusal. rw (line-at K kinds buf t.lines.0 i hi, hk, ← two, h, alls, l) }
 
@@ -80,10 +81,10 @@ module _ (K : ℕ) (kinds : List ℕ) (buf : List ℤ) (t : Tally) (i g : ℕ) w
           unfolding line_in
           divs = sym (rw (ed, ex, ez) at div)
 
-          pub stride-d : c ≡ true → ByStride K kinds buf t i g (Refused 15)
+          pub stride-d : c ≡ true → ByStride K kinds buf t i g (Err Refusal.ConditionNotMet)
           unfolding by_stride line_at ◌>>=◌ ◌>>◌ found need
           stride-d m = record { by = λ refusal. rw (line-at K kinds buf t.lines.0 i hi, hk, ← two, h, alls, l, divs, m) }
 
-          pub stride-passed : c ≡ false → ByStride K kinds buf t i g Passed
+          pub stride-passed : c ≡ false → ByStride K kinds buf t i g (Ok tt)
           unfolding by_stride line_at ◌>>=◌ ◌>>◌ found need
           stride-passed m = record { by = λ refusal. rw (line-at K kinds buf t.lines.0 i hi, hk, ← two, h, alls, l, divs, m) }

@@ -7,15 +7,10 @@ ghost use Rattle.entries.specs.Entries.{Multiplies};
 ghost use Rattle.closes.specs.Closing.{ByNumber};
 ghost use Rattle.closes.specs.Striding.{ByStride};
 
+use answers::refusals::Refusal;
 use forms::LineNumber;
 use lines::kinds::{EQUALITY, kind_of};
 use tally::Tally;
-
-#[derive(Clone, Copy)]
-pub enum Test {
-    Refused { number: u8 },
-    Passed,
-}
 
 // d > 0 for an inequality, d ≠ 0 for an equality.
 fn is_false(kind: u8, d: i64) -> bool
@@ -28,26 +23,32 @@ fn is_false(kind: u8, d: i64) -> bool
 }
 
 // Close by number. 10, 11, 15.
-pub fn test_number(lines: &[i32], kinds: &[u8], tally: Tally, i: LineNumber, k: usize) -> Test
+pub fn test_number(
+    lines: &[i32],
+    kinds: &[u8],
+    tally: Tally,
+    i: LineNumber,
+    k: usize,
+) -> Result<(), Refusal>
     requires { Ready tally.edition k kinds.now lines.now tally.lines.0 }
     ensures { ByNumber k kinds.now lines.now tally i.0 result }
 {
     if !tally.is_there(i) {
-        return Test::Refused { number: 10 };
+        return Err(Refusal::NoSuchLine);
     }
     let kind = kind_of(kinds, i);
     if kind > EQUALITY {
-        return Test::Refused { number: 11 };
+        return Err(Refusal::WrongLineKind);
     }
     let t = lines::place(i, k);
     if !lines::all_zero(lines, t, k) {
-        return Test::Refused { number: 15 };
+        return Err(Refusal::ConditionNotMet);
     }
     let d = integers::number(lines, t + k);
     if !is_false(kind, d) {
-        return Test::Refused { number: 15 };
+        return Err(Refusal::ConditionNotMet);
     }
-    Test::Passed
+    Ok(())
 }
 
 // A stride is 2 at least.
@@ -69,27 +70,27 @@ pub fn test_stride(
     i: LineNumber,
     g: i64,
     k: usize,
-) -> Test
+) -> Result<(), Refusal>
     requires ready { Ready tally.edition k kinds.now lines.now tally.lines.0 }
     requires multiplies { Multiplies (nat_abs g) g }
     ensures { ByStride k kinds.now lines.now tally i.0 (nat_abs g) result }
 {
     if !tally.is_there(i) {
-        return Test::Refused { number: 10 };
+        return Err(Refusal::NoSuchLine);
     }
     if kind_of(kinds, i) != EQUALITY {
-        return Test::Refused { number: 11 };
+        return Err(Refusal::WrongLineKind);
     }
     if !is_stride(g) {
-        return Test::Refused { number: 12 };
+        return Err(Refusal::WrongMultiplier);
     }
     let t = lines::place(i, k);
     if !lines::all_divisible(lines, t, k, g) {
-        return Test::Refused { number: 15 };
+        return Err(Refusal::ConditionNotMet);
     }
     let d = integers::number(lines, t + k);
     if integers::divides(g, d) {
-        return Test::Refused { number: 15 };
+        return Err(Refusal::ConditionNotMet);
     }
-    Test::Passed
+    Ok(())
 }

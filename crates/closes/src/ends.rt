@@ -7,20 +7,14 @@ ghost use Rattle.lines.specs.Ready.{Ready};
 ghost use Rattle.entries.specs.Entries.{Multiplies};
 ghost use Rattle.closes.specs.Ends.{EndedBy};
 
-use crate::closing::{Test, test_number, test_stride};
+use crate::closing::{test_number, test_stride};
+use answers::refusals::Refusal;
 use forms::LineNumber;
 use formula_write::{put_literal, put_stride};
 use lines::kinds::kind_of;
 use tally::Tally;
 
-#[derive(Clone, Copy)]
-pub enum Ended {
-    Refused { number: u8 },
-    // The formula's bytes end at o.
-    Written { o: usize },
-}
-
-// 10, 11, 15.
+// Where the formula's bytes end, from o on. 10, 11, 15.
 pub fn close_number(
     lines: &[i32],
     kinds: &[u8],
@@ -29,25 +23,18 @@ pub fn close_number(
     k: usize,
     scratch: &mut [u8],
     o: usize,
-) -> Ended
+) -> Result<usize, Refusal>
     requires ready { Ready tally.edition k kinds.now lines.now tally.lines.0 }
     requires o_le_scratch_limit { o ≤ scratch_limit }
     ensures { EndedBy (λ refusal. by_number refusal (lines_in k kinds.now lines.now tally.lines.0) i.0) scratch.old o scratch.new result }
 {
-    match test_number(lines, kinds, tally, i, k) {
-        Test::Refused { number } => {
-            return Ended::Refused { number };
-        }
-        Test::Passed => {
-            let ta = lines::place_a(i, k);
-            let kind = kind_of(kinds, i);
-            let end = put_literal(lines, ta, k, kind, scratch, o);
-            return Ended::Written { o: end };
-        }
-    }
+    test_number(lines, kinds, tally, i, k)?;
+    let ta = lines::place_a(i, k);
+    let kind = kind_of(kinds, i);
+    Ok(put_literal(lines, ta, k, kind, scratch, o))
 }
 
-// 10, 11, 12, 15.
+// The same. 10, 11, 12, 15.
 pub fn close_stride(
     lines: &[i32],
     kinds: &[u8],
@@ -57,20 +44,13 @@ pub fn close_stride(
     k: usize,
     scratch: &mut [u8],
     o: usize,
-) -> Ended
+) -> Result<usize, Refusal>
     requires ready { Ready tally.edition k kinds.now lines.now tally.lines.0 }
     requires multiplies { Multiplies (nat_abs g) g }
     requires o_le_scratch_limit { o ≤ scratch_limit }
     ensures { EndedBy (λ refusal. by_stride refusal (lines_in k kinds.now lines.now tally.lines.0) i.0 (nat_abs g)) scratch.old o scratch.new result }
 {
-    match test_stride(lines, kinds, tally, i, g, k) {
-        Test::Refused { number } => {
-            return Ended::Refused { number };
-        }
-        Test::Passed => {
-            let ta = lines::place_a(i, k);
-            let end = put_stride(lines, ta, k, g, scratch, o);
-            return Ended::Written { o: end };
-        }
-    }
+    test_stride(lines, kinds, tally, i, g, k)?;
+    let ta = lines::place_a(i, k);
+    Ok(put_stride(lines, ta, k, g, scratch, o))
 }

@@ -30,8 +30,10 @@ use Rattle.tally.specs.declared.Tally.{Tally}
 use Rattle.tally.proofs.Counted.{counted-line, full-line, counted-open}
 use Rattle.rows.specs.declared.derive.Derived.{Derived}
 use Rattle.rows.specs.declared.derive.Derived.TheVariants.{Refused, Made}
-use Rattle.closes.specs.declared.closing.Test as test
-use Rattle.closes.specs.declared.closing.Test.TheVariants as test_of
+use Rattle.std.specs.Prelude.{Ok, Err}
+use Rattle.answers.specs.declared.refusals.Refusal.{Refusal}
+use Rattle.answers.specs.Refusals.{number_of}
+use Rattle.closes.specs.Closing.{Test}
 use Rattle.openings.specs.Opening.{joining, in_turn, start_of, middle_of, third_of, Branching, three, all_rounded, opening, Opens, row_opened, RowOpens, StrengthenOpens, RoundsBy, Roundable, RoundOpens}
 use Rattle.openings.proofs.Starting.{starts, start-less}
 
@@ -160,8 +162,8 @@ module _ (K : ℕ) (kinds : List ℕ) (buf : List ℤ) (t : Tally) (i : ℕ) whe
       strengthen-opens o = row_opens three_flat three-flat strengthen-row o
 
 -- ---- a rounding
-module _ {K : ℕ} {kinds : List ℕ} {buf : List ℤ} {t : Tally} {i g by : ℕ} {r : test.Test} (p : Roundable K kinds buf t i g by r) where
-  pub round-refused : {x : ℕ} → r ≡ test_of.Refused x → RoundOpens K kinds buf t i g by kinds buf (Refused x)
+module _ {K : ℕ} {kinds : List ℕ} {buf : List ℤ} {t : Tally} {i g by : ℕ} {r : Test} (p : Roundable K kinds buf t i g by r) where
+  pub round-refused : {x : Refusal} → r ≡ Err x → RoundOpens K kinds buf t i g by kinds buf (Refused (number_of x))
   unfolding check_row ◌>>=◌
   round-refused e =
       let q = rw e at p.by in
@@ -170,7 +172,7 @@ module _ {K : ℕ} {kinds : List ℕ} {buf : List ℤ} {t : Tally} {i g by : ℕ
         sizes = λ t' z. absurd (let w : ◌≡◌ {A = ℕ} 0 1 = cc in omega arith);
       }
 
-  module _ (e : r ≡ test_of.Passed) where
+  module _ (e : r ≡ Ok tt) where
     passed : ((refusal : ℕ → Answer) → roundable refusal (lines_in K kinds buf t.lines.0) (edition t.edition) i g by ≡ accepted (line_in K kinds buf i)) × (i < t.lines.0) × RoundsBy g by
     passed = rw e at p.by
 

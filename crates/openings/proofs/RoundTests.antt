@@ -16,7 +16,8 @@ use Rattle.lines.specs.Parts.{part}
 use Rattle.lines.specs.Buffer.{size, line_in}
 use Rattle.lines.proofs.Lines.{line-at, line-past}
 use Rattle.tally.specs.declared.Tally.{Tally}
-use Rattle.closes.specs.declared.closing.Test.TheVariants.{Refused, Passed}
+use Rattle.std.specs.Prelude.{Ok, Err}
+use Rattle.answers.specs.declared.refusals.Refusal.{Refusal}
 use Rattle.openings.specs.Opening.{Roundable}
 
 -- ---- g divides d + j for no j below by
@@ -44,27 +45,27 @@ positive zero q = absurd (q refl)
 positive (suc n) q = omega arith
 
 module _ (K : ℕ) (kinds : List ℕ) (buf : List ℤ) (t : Tally) (i g by : ℕ) where
-  pub round-none : t.lines.0 ≤ i → Roundable K kinds buf t i g by (Refused 10)
+  pub round-none : t.lines.0 ≤ i → Roundable K kinds buf t i g by (Err Refusal.NoSuchLine)
   unfolding roundable inequality line_at ◌>>=◌ found
   round-none h = record { by = λ refusal. rw (line-past K kinds buf t.lines.0 i h) }
 
   module _ (hi : i < t.lines.0) where
-    pub round-kind : is ≤0 (line_in K kinds buf i).kind ≡ false → Roundable K kinds buf t i g by (Refused 11)
+    pub round-kind : is ≤0 (line_in K kinds buf i).kind ≡ false → Roundable K kinds buf t i g by (Err Refusal.WrongLineKind)
     unfolding roundable inequality line_at ◌>>=◌ ◌>>◌ found need
     round-kind h = record { by = λ refusal. rw (line-at K kinds buf t.lines.0 i hi, h) }
 
     module _ (hk : is ≤0 (line_in K kinds buf i).kind ≡ true) {a : Bool} (two : a ≡ leb 2 g) where
-      pub round-small : a ≡ false → Roundable K kinds buf t i g by (Refused 12)
+      pub round-small : a ≡ false → Roundable K kinds buf t i g by (Err Refusal.WrongMultiplier)
       unfolding roundable inequality line_at ◌>>=◌ ◌>>◌ found need
       round-small h = record { by = λ refusal. rw (line-at K kinds buf t.lines.0 i hi, hk, ← two, h) }
 
       module _ (h : a ≡ true) where
-        pub round-least : by ≡ 0 → Roundable K kinds buf t i g by (Refused 12)
+        pub round-least : by ≡ 0 → Roundable K kinds buf t i g by (Err Refusal.WrongMultiplier)
         unfolding roundable inequality line_at ◌>>=◌ ◌>>◌ found need
         round-least z = record { by = λ refusal. rw (line-at K kinds buf t.lines.0 i hi, hk, ← two, h, lt-leb 1 by (omega arith)) }
 
         module _ (least : by ≡ 0 → ⊥) where
-          pub round-most : 16 < by → Roundable K kinds buf t i g by (Refused 12)
+          pub round-most : 16 < by → Roundable K kinds buf t i g by (Err Refusal.WrongMultiplier)
           unfolding roundable inequality line_at ◌>>=◌ ◌>>◌ found need
           round-most z = record { by = λ refusal. rw (line-at K kinds buf t.lines.0 i hi, hk, ← two, h, le-leb 1 by (positive by least), lt-leb by 16 z) }
 
@@ -73,7 +74,7 @@ module _ (K : ℕ) (kinds : List ℕ) (buf : List ℤ) (t : Tally) (i g by : ℕ
             unfolding line_in
             alls = sym (rw (ex, ez) at all)
 
-            pub round-coeffs : b ≡ false → Roundable K kinds buf t i g by (Refused 15)
+            pub round-coeffs : b ≡ false → Roundable K kinds buf t i g by (Err Refusal.ConditionNotMet)
             unfolding roundable inequality line_at ◌>>=◌ ◌>>◌ found need
             round-coeffs l = record { by = λ refusal. rw (line-at K kinds buf t.lines.0 i hi, hk, ← two, h, le-leb 1 by (positive by least), le-leb by 16 most, alls, l) }
 
@@ -82,11 +83,11 @@ module _ (K : ℕ) (kinds : List ℕ) (buf : List ℤ) (t : Tally) (i g by : ℕ
               unfolding line_in
               nones = sym (rw (ed, ex) at none)
 
-              pub round-d : c ≡ false → Roundable K kinds buf t i g by (Refused 15)
+              pub round-d : c ≡ false → Roundable K kinds buf t i g by (Err Refusal.ConditionNotMet)
               unfolding roundable inequality line_at ◌>>=◌ ◌>>◌ found need
               round-d m = record { by = λ refusal. rw (line-at K kinds buf t.lines.0 i hi, hk, ← two, h, le-leb 1 by (positive by least), le-leb by 16 most, alls, l, nones, m) }
 
-              pub round-passed : c ≡ true → Roundable K kinds buf t i g by Passed
+              pub round-passed : c ≡ true → Roundable K kinds buf t i g by (Ok tt)
               unfolding roundable inequality line_at ◌>>=◌ ◌>>◌ found need
               round-passed m = record {
                 by = (

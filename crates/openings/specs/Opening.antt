@@ -1,5 +1,5 @@
--- The rows that open branches, strengthen and rounding: what their tests tell, and the lines that the branches start with. Document 01, "The rows", and document 02, point 1. Assumes nothing.
-use Rattle.std.specs.Prelude.{◌≡◌, Bool, List, ℕ, zero, suc, ◌+◌, ◌-◌, ◌<◌, ◌≤◌, T, ℤ, set}
+-- The rows that open branches, strengthen and rounding: what their tests tell, and the lines that the branches start with. Assumes nothing.
+use Rattle.std.specs.Prelude.{Ok, Err, ◌≡◌, Bool, List, ℕ, zero, suc, ◌+◌, ◌-◌, ◌<◌, ◌≤◌, T, ℤ, set}
 use Rattle.std.proofs.Math.Option.{Option, none, some}
 use Rattle.forms.specs.Edition.{edition, edition1}
 use Rattle.forms.specs.Forms.{≤0, =0, Line, line, Formula, ◌divides◌, ◌and◌, ◌or◌, ◌plus◌}
@@ -7,6 +7,7 @@ use Rattle.forms.specs.Reduced.{reduced}
 use Rattle.calculus.specs.Rules as rules
 use Rattle.calculus.specs.Rules.{◌▷◌, in_range}
 use Rattle.answers.specs.declared.Answer.{Answer}
+use Rattle.answers.specs.Refusals.{number_of}
 use Rattle.answers.specs.Answers.{position, Result, refused, accepted, ◌>>=◌, ◌>>◌, found}
 use Rattle.fields.specs.Fields.{Fields}
 use Rattle.formula_write.specs.Writing.{Stores, front_bytes}
@@ -18,8 +19,7 @@ use Rattle.tally.specs.Tally.{tally}
 use Rattle.tally.specs.declared.Tally.{Tally}
 use Rattle.rows.specs.declared.derive.Derived.{Derived}
 use Rattle.rows.specs.declared.derive.Derived.TheVariants.{Refused, Made}
-use Rattle.closes.specs.declared.closing.Test as test
-use Rattle.closes.specs.declared.closing.Test.TheVariants as test_of
+use Rattle.closes.specs.Closing.{Test}
 
 -- What checks the branches that a branch opens in a proof of edition e, if so many more may be open.
 abbrev pub below : (e K : ℕ) (room : ℕ) → Option Checker
@@ -119,13 +119,13 @@ pub record RoundsBy (g by : ℕ) : Type 0 where
   pub least : 1 ≤ by
   pub most : by ≤ edition1.rounding
 
--- Its own tests: the refusal by a number at this row, whatever that is, or its line.
-abbrev pub RoundableBy : (K : ℕ) (kinds : List ℕ) (buf : List ℤ) (t : Tally) (i g by : ℕ) → test.Test → Type 0
-RoundableBy K kinds buf t i g by (test_of.Refused x) = (refusal : ℕ → Answer) → roundable refusal (lines_in K kinds buf t.lines.0) (edition t.edition) i g by ≡ refused (refusal x)
-RoundableBy K kinds buf t i g by test_of.Passed =
+-- Its own tests: the refusal at this row, whatever that is by its number, or its line.
+abbrev pub RoundableBy : (K : ℕ) (kinds : List ℕ) (buf : List ℤ) (t : Tally) (i g by : ℕ) → Test → Type 0
+RoundableBy K kinds buf t i g by (Err x) = (refusal : ℕ → Answer) → roundable refusal (lines_in K kinds buf t.lines.0) (edition t.edition) i g by ≡ refused (refusal (number_of x))
+RoundableBy K kinds buf t i g by (Ok _) =
     ((refusal : ℕ → Answer) → roundable refusal (lines_in K kinds buf t.lines.0) (edition t.edition) i g by ≡ accepted (line_in K kinds buf i)) × (i < t.lines.0) × RoundsBy g by
 
-pub record Roundable (K : ℕ) (kinds : List ℕ) (buf : List ℤ) (t : Tally) (i g more : ℕ) (r : test.Test) : Type 0 where
+pub record Roundable (K : ℕ) (kinds : List ℕ) (buf : List ℤ) (t : Tally) (i g more : ℕ) (r : Test) : Type 0 where
   pub by : RoundableBy K kinds buf t i g more r
 
 pub record RoundOpens (K : ℕ) (kinds : List ℕ) (buf : List ℤ) (t : Tally) (i g by : ℕ) (kinds' : List ℕ) (buf' : List ℤ) (r : Derived) : Type 0 where

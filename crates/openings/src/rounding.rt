@@ -10,7 +10,8 @@ ghost use Rattle.entries.specs.Entries.{Multiplies};
 ghost use Rattle.openings.specs.Opening.{Roundable, RoundOpens, RoundedStarts};
 
 use crate::opening::open_step;
-use closes::closing::{Test, is_stride};
+use answers::refusals::Refusal;
+use closes::closing::is_stride;
 use forms::{LineNumber, ROUNDING};
 use formula_write::put_front;
 use line_starts::start_line;
@@ -42,35 +43,35 @@ fn test_round(
     g: i64,
     by: u16,
     k: usize,
-) -> Test
+) -> Result<(), Refusal>
     requires ready { Ready tally.edition k kinds.now lines.now tally.lines.0 }
     requires multiplies { Multiplies (nat_abs g) g }
     ensures { Roundable k kinds.now lines.now tally i.0 (nat_abs g) by result }
 {
     if !tally.is_there(i) {
-        return Test::Refused { number: 10 };
+        return Err(Refusal::NoSuchLine);
     }
     if kind_of(kinds, i) != INEQUALITY {
-        return Test::Refused { number: 11 };
+        return Err(Refusal::WrongLineKind);
     }
     if !is_stride(g) {
-        return Test::Refused { number: 12 };
+        return Err(Refusal::WrongMultiplier);
     }
     if by == 0 {
-        return Test::Refused { number: 12 };
+        return Err(Refusal::WrongMultiplier);
     }
     if by > ROUNDING {
-        return Test::Refused { number: 12 };
+        return Err(Refusal::WrongMultiplier);
     }
     let t = lines::place(i, k);
     if !lines::all_divisible(lines, t, k, g) {
-        return Test::Refused { number: 15 };
+        return Err(Refusal::ConditionNotMet);
     }
     let d = integers::number(lines, t + k);
     if !is_undivided(g, d, by) {
-        return Test::Refused { number: 15 };
+        return Err(Refusal::ConditionNotMet);
     }
-    Test::Passed
+    Ok(())
 }
 
 // 10, 11, 12, 15, then as `open_step`.
@@ -88,12 +89,10 @@ pub fn round(
     ensures { RoundOpens k kinds.old lines.old tally i.0 (nat_abs g) by kinds.new lines.new result }
 {
     match test_round(lines, kinds, tally, i, g, by, k) {
-        Test::Refused { number } => {
-            return Derived::Refused { number };
-        }
-        Test::Passed => {
-            return open_step(lines, kinds, tally, i, by, by, k);
-        }
+        Err(refusal) => Derived::Refused {
+            number: refusal.number(),
+        },
+        Ok(()) => open_step(lines, kinds, tally, i, by, by, k),
     }
 }
 
