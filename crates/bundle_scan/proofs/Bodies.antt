@@ -1,19 +1,24 @@
 -- What is known of a bundle that was gone over. Assumes nothing.
-use mathlib.Core.Path.{◌≡◌, subst}
+use mathlib.Core.Path.{◌≡◌, refl, subst}
 use mathlib.Core.List.{List}
-use Prim.Native.Nat.{ℕ, ◌≤◌}
+use Prim.Native.Nat.{ℕ, zero, suc, ◌≤◌}
 use native.Mathlib.Omega.{arith}
-use lib.Dec.{T, eqb→eq}
+use lib.Dec.{T, eqb, eqb→eq}
 use lib.ListN.{length}
 use Rattle.forms.specs.Edition.{edition, edition1, newest_edition}
 use Rattle.answers.specs.Answers.{accepted, ◌>>=◌}
+use Rattle.fields.specs.Header.{agrees}
 use Rattle.fields.specs.Places.{given_k, fields_at}
-use Rattle.fields.proofs.Headers.{agrees-some}
 use Rattle.bundle.specs.Bundle.{bundle}
 use Rattle.bundle.proofs.Laid.{Laid, bundle-gives}
 use Rattle.bundle_scan.specs.Scan.{stated, IsBundle}
 use Rattle.bundle_scan.specs.declared.Body.{Body}
 use Rattle.bundle_scan.proofs.Scanning as scanning
+
+agrees-some : (given K : ℕ) → 1 ≤ given → agrees (given_k given) K ≡ eqb K given
+unfolding agrees
+agrees-some zero K h = absurd (omega arith)
+agrees-some (suc g) K h = refl
 
 module _ {given K : ℕ} {s : List ℕ} {body : Body} (b : IsBundle given s K body) where
   -- what it states, whatever its file is called
@@ -40,4 +45,4 @@ module _ {given K : ℕ} {s : List ℕ} {body : Body} (b : IsBundle given s K bo
 
   -- K is the given one, if one is given
   pub as-given : 1 ≤ given → K ≡ given
-  as-given h = eqb→eq K given (subst T (agrees-some given K (λ e. omega arith)) laid_out.agree)
+  as-given h = eqb→eq K given (subst T (agrees-some given K h) laid_out.agree)

@@ -3,7 +3,7 @@ use mathlib.Core.Path.{◌≡◌, refl, sym, ap, ◌∙◌}
 use mathlib.Core.Option.{Option, none, some}
 use mathlib.Core.Bool.{Bool, true, false, cond, ◌||◌, ◌&&◌}
 use mathlib.Core.List.{List, ◌∷◌}
-use Prim.Native.Nat.{ℕ, zero, suc, ◌+◌, ◌-◌, ◌*◌, ◌<◌, ◌≤◌}
+use Prim.Native.Nat.{ℕ, suc, ◌+◌, ◌-◌, ◌*◌, ◌<◌, ◌≤◌}
 use native.Mathlib.Omega.{arith}
 use lib.Dec.{leb, ltb, eqb}
 use lib.ListN.{length, take, drop}
@@ -16,16 +16,20 @@ use Rattle.answers.proofs.Results.{Gives, gives-refused, gives-accepted, bind, t
 use Rattle.number_bytes.specs.Numbers.{form_from, form_width}
 use Rattle.fields.specs.declared.FileKind.{FileKind}
 use Rattle.fields.specs.declared.header.Numbered.{Numbered}
+use Rattle.std.specs.Prelude.{Ok, Err}
+use Rattle.std.specs.declared.result.Result as code
+use Rattle.answers.specs.Refusals.{fault, number_of}
+use Rattle.answers.specs.declared.refusals.Refusal.{Refusal}
+use Rattle.answers.specs.declared.refusals.Fault.{Fault}
 use Rattle.fields.specs.declared.header.Headed.{Headed}
 use Rattle.fields.specs.Fields.{Field, Fields, ends, cut, ◌▸◌, fields, nth}
 use Rattle.fields.specs.Header.{header_tag, known, header_field, edition_field, constants_field}
 use Rattle.fields.specs.Places.{fields_at, given_k, IsEdition, IsConstants}
 use Rattle.fields.proofs.Places.{Starts, starts-size, starts-less}
 use Rattle.bundle.specs.Bundle.{kind_tagged, at_most, form_small, constraints, bundle_header, bundle}
-use Rattle.bundle_scan.specs.Scan.{IsBundleHeader, fault_of, Counted, unless_fault, counted, stated, counted_of, start_of, constraint_start, sought_of, IsBundle, Scans}
+use Rattle.bundle_scan.specs.Scan.{IsBundleHeader, fault_of, unless_fault, counted, stated, counted_of, start_of, constraint_start, sought_of, IsBundle, Scans}
 use Rattle.bundle_scan.specs.declared.constraints.Sought.{Sought}
 use Rattle.bundle_scan.specs.declared.Scanned.{Scanned}
-use Rattle.bundle_scan.specs.declared.Body.{Body}
 
 -- ---- one turn
 module _ {s : List ℕ} {at a t start len next : ℕ} (k : Starts s at a t start len next) (w K n : ℕ) where
@@ -33,28 +37,31 @@ module _ {s : List ℕ} {at a t start len next : ℕ} (k : Starts s at a t start
   unfolding counted
   counted-on = rw k.is
 
-  module _ {number : ℕ} (f : number ≡ fault_of w K n t (take len (drop start s))) where
-    pub counted-fault : (number ≡ 0 → ⊥) → counted w K n (fields_at s at) ≡ Counted.fault number a
-    counted-fault h = counted-on ∙ rw (← f) (go number h)
-      where
-        go : (m : ℕ) → (m ≡ 0 → ⊥) → unless_fault m a (counted w K (suc n) (fields_at s next)) ≡ Counted.fault m a
-        go zero h = absurd (h refl)
-        go (suc m) h = refl
+  pub counted-fault : {e : Refusal} → Err e ≡ fault_of w K n t (take len (drop start s)) → counted w K n (fields_at s at) ≡ Err (fault e a)
+  counted-fault f = counted-on ∙ rw (← f)
 
-    pub counted_next : number ≡ 0 → counted w K n (fields_at s at) ≡ counted w K (n + 1) (fields_at s next)
-    counted_next e =
-        let z : suc n ≡ n + 1 = omega arith in
-        counted-on ∙ rw (← f, e, z)
+  pub counted_next : Ok tt ≡ fault_of w K n t (take len (drop start s)) → counted w K n (fields_at s at) ≡ counted w K (n + 1) (fields_at s next)
+  counted_next f =
+      let z : suc n ≡ n + 1 = omega arith in
+      counted-on ∙ rw (← f, z)
 
-pub counted-cut : (w K n : ℕ) {fs : Fields} {a : ℕ} → fs ≡ cut a → counted w K n fs ≡ Counted.fault 2 a
+pub counted-cut : (w K n : ℕ) {fs : Fields} {a : ℕ} → fs ≡ cut a → counted w K n fs ≡ Err (fault Refusal.Truncated a)
 unfolding counted
 counted-cut w K n e = rw e
 
-pub counted-ends : (w K n : ℕ) {fs : Fields} {a : ℕ} → fs ≡ ends a → counted w K n fs ≡ Counted.count n
+pub counted-ends : (w K n : ℕ) {fs : Fields} {a : ℕ} → fs ≡ ends a → counted w K n fs ≡ Ok n
 unfolding counted
 counted-ends w K n e = rw e
 
 -- ---- a field without fault
+-- the fault by its tests
+abbrev pub by_tests : (p q r u v : Bool) → code.Result (Unit {0}) Refusal
+by_tests p q r u v =
+    cond p (cond q (Err Refusal.MisplacedTag) (cond r (cond u (cond v (Ok tt) (Err Refusal.OutOfRange)) (Err Refusal.TooManyConstraints)) (Err Refusal.WrongLength))) (Err Refusal.UnknownTag)
+
+err_ok : {T E : Type 0} {e : E} {x : T} → ◌≡◌ {A = code.Result T E} (Err e) (Ok x) → ⊥
+err_ok q = let z : ◌≡◌ {A = ℕ} 0 1 = cc in omega arith
+
 pub record Proper (w K n tag : ℕ) (contents : List ℕ) : Type 0 where
   pub has : known FileKind.Bundle tag ≡ true
   pub from : ltb tag 0x03 ≡ false
@@ -63,35 +70,35 @@ pub record Proper (w K n tag : ℕ) (contents : List ℕ) : Type 0 where
   pub range : form_small 2_147_483_647 (form_from w K contents) ≡ true
 
 -- the fault by its tests, each with its equation
-pub proper-of : (w K n tag : ℕ) (contents : List ℕ) → fault_of w K n tag contents ≡ 0 → Proper w K n tag contents
+pub proper-of : (w K n tag : ℕ) (contents : List ℕ) → fault_of w K n tag contents ≡ Ok tt → Proper w K n tag contents
 proper-of w K n tag bs e = go (known FileKind.Bundle tag) (ltb tag 0x03) (eqb (length bs) (form_width w K)) (ltb n 32) (form_small 2_147_483_647 (form_from w K bs)) refl refl refl refl refl e
   where
     go : (p q r u v : Bool) → known FileKind.Bundle tag ≡ p → ltb tag 0x03 ≡ q → eqb (length bs) (form_width w K) ≡ r → ltb n 32 ≡ u → form_small 2_147_483_647 (form_from w K bs) ≡ v
-        → ◌≡◌ {A = ℕ} (cond p (cond q 4 (cond r (cond u (cond v 0 13) 8) 6)) 3) 0 → Proper w K n tag bs
+        → by_tests p q r u v ≡ Ok tt → Proper w K n tag bs
     go true false true true true a b c d f e = record { has = a; from = b; size = c; room = d; range = f }
-    go true false true true false a b c d f e = absurd (omega arith)
-    go true false true false v a b c d f e = absurd (omega arith)
-    go true false false u v a b c d f e = absurd (omega arith)
-    go true true r u v a b c d f e = absurd (omega arith)
-    go false q r u v a b c d f e = absurd (omega arith)
+    go true false true true false a b c d f e = absurd (err_ok e)
+    go true false true false v a b c d f e = absurd (err_ok e)
+    go true false false u v a b c d f e = absurd (err_ok e)
+    go true true r u v a b c d f e = absurd (err_ok e)
+    go false q r u v a b c d f e = absurd (err_ok e)
 
 -- such a field has one size, so the next one stands where that ends
-module _ {s : List ℕ} {at a t start len next : ℕ} (k : Starts s at a t start len next) (w K n : ℕ) {number : ℕ} (f : number ≡ fault_of w K n t (take len (drop start s))) (e : number ≡ 0) where
+module _ {s : List ℕ} {at a t start len next : ℕ} (k : Starts s at a t start len next) (w K n : ℕ) (f : Ok tt ≡ fault_of w K n t (take len (drop start s))) where
   pub sized-next : next ≡ start + (K + 1) * w
   sized-next =
       let z : suc K ≡ K + 1 = omega arith in
-      let l : len ≡ suc K * w = sym (starts-size k) ∙ eqb-true (length (take len (drop start s))) (suc K * w) (proper-of w K n t (take len (drop start s)) (sym f ∙ e)).size in
+      let l : len ≡ suc K * w = sym (starts-size k) ∙ eqb-true (length (take len (drop start s))) (suc K * w) (proper-of w K n t (take len (drop start s)) (sym f)).size in
       let m = rw z at l in
       omega (arith, k.next-is, m)
 
   pub counted-sized : counted w K n (fields_at s at) ≡ counted w K (n + 1) (fields_at s (start + (K + 1) * w))
-  counted-sized = counted_next k w K n f e ∙ ap (λ (x : ℕ). counted w K (n + 1) (fields_at s x)) sized-next
+  counted-sized = counted_next k w K n f ∙ ap (λ (x : ℕ). counted w K (n + 1) (fields_at s x)) sized-next
 
   pub sized-less : length s - (start + (K + 1) * w) < length s - at
   sized-less = omega (arith, sized-next, starts-less k)
 
-pub counted-room : (w K n tag : ℕ) (contents : List ℕ) {number : ℕ} → number ≡ fault_of w K n tag contents → number ≡ 0 → n < 32
-counted-room w K n tag contents f e = ltb-true n 32 (proper-of w K n tag contents (sym f ∙ e)).room
+pub counted-room : (w K n tag : ℕ) (contents : List ℕ) → Ok tt ≡ fault_of w K n tag contents → n < 32
+counted-room w K n tag contents f = ltb-true n 32 (proper-of w K n tag contents (sym f)).room
 
 -- ---- the constraint that is wanted
 -- Of all the fields n are gone over and fs are left; the place kept is that of field `wanted`, 0 as long as it is not gone over.
@@ -128,9 +135,9 @@ module _ {s : List ℕ} {at a t start len next : ℕ} (k : Starts s at a t start
           record { ahead = wanted-later; none_yet = λ h. e ∙ g.none_yet (omega arith); behind = λ h. e ∙ g.behind (omega arith) }
 
 pub seeking-end : (w K : ℕ) {all : Fields} {wanted n found : ℕ} {fs : Fields} {a : ℕ} → counted w K 0 all ≡ counted w K n fs → Seeking all wanted n found fs → fs ≡ ends a
-    → Sought.Count n found ≡ sought_of (start_of (nth wanted all)) (counted w K 0 all)
+    → Ok (record { count = n; start = found }) ≡ sought_of (start_of (nth wanted all)) (counted w K 0 all)
 unfolding nth
-seeking-end w K {all} {wanted} {n} {found} c g e = rw (c, counted-ends w K n e) (ap (Sought.Count n) (go (ltb wanted n) refl))
+seeking-end w K {all} {wanted} {n} {found} c g e = rw (c, counted-ends w K n e) (ap (λ (x : ℕ). Ok (record { count = n; start = x })) (go (ltb wanted n) refl))
   where
     go : (p : Bool) → ltb wanted n ≡ p → found ≡ start_of (nth wanted all)
     go true q = g.behind (ltb-true wanted n q)
@@ -138,13 +145,13 @@ seeking-end w K {all} {wanted} {n} {found} c g e = rw (c, counted-ends w K n e) 
 
 -- what is answered with the place is the count or the fault without it
 module _ (start : ℕ) where
-  sought-count : (c : Counted) {q : Sought} {n found : ℕ} → q ≡ sought_of start c → q ≡ Sought.Count n found → (c ≡ Counted.count n) × (found ≡ start)
-  sought-count (Counted.count m) {n = n} {found = found} e f = (ap Counted.count (let z : m ≡ n = cc in z), let z : found ≡ start = cc in z)
-  sought-count (Counted.fault x a) e f = absurd (let z : ◌≡◌ {A = ℕ} 0 1 = cc in omega arith)
+  sought-count : (c : code.Result ℕ Fault) {q : code.Result Sought Fault} {x : Sought} → q ≡ sought_of start c → q ≡ Ok x → (c ≡ Ok x.count) × (x.start ≡ start)
+  sought-count (Ok m) {x = x} e f = let z : (record { count = m; start = start }) ≡ x = cc in (ap (λ (x : Sought). Ok x.count) z, sym (ap (λ (x : Sought). x.start) z))
+  sought-count (Err x) e f = absurd (err_ok (sym e ∙ f))
 
-  sought-refused : (c : Counted) {q : Sought} {n a : ℕ} → q ≡ sought_of start c → q ≡ Sought.Refused n a → c ≡ Counted.fault n a
-  sought-refused (Counted.count m) e f = absurd (let z : ◌≡◌ {A = ℕ} 0 1 = cc in omega arith)
-  sought-refused (Counted.fault x y) {n = n} {a = a} e f = let z : x ≡ n = cc in let w : y ≡ a = cc in rw (z, w)
+  sought-refused : (c : code.Result ℕ Fault) {q : code.Result Sought Fault} {x : Fault} → q ≡ sought_of start c → q ≡ Err x → c ≡ Err x
+  sought-refused (Ok m) e f = absurd (err_ok (sym f ∙ e))
+  sought-refused (Err y) {x = x} e f = let z : y ≡ x = cc in rw z
 
 -- ---- the definitions
 -- a constraint's tag is 0x03, 0x04 or 0x05
@@ -217,20 +224,20 @@ module _ (file number K : ℕ) where
   width = (edition number).coefficient_width
 
   -- the constraint of a field before those after it
-  after : (f : Field) (fs : Fields) (r : Counted)
+  after : (f : Field) (fs : Fields) (r : code.Result ℕ Fault)
       → (counted_of file width K fs r >>= (λ (cs : List Constraint). accepted (record { kind = constraint_kind_of (f.tag - 3); form = form_from width K f.contents } ∷ cs)))
       ≡ counted_of file width K (f ▸ fs) r
   unfolding ◌>>=◌ stated
-  after f fs (Counted.count n) = refl
-  after f fs (Counted.fault n a) = refl
+  after f fs (Ok n) = refl
+  after f fs (Err e) = refl
 
   -- the tests of one field, each way
-  tests : (a : ℕ) (form : Form) (fs : Fields) (κ : ConstraintKind) (o : Option ConstraintKind) (X : Result (List Constraint)) (c : Counted) (p q r u v : Bool)
+  tests : (a : ℕ) (form : Form) (fs : Fields) (κ : ConstraintKind) (o : Option ConstraintKind) (X : Result (List Constraint)) (c : code.Result ℕ Fault) (p q r u v : Bool)
       → (q ≡ true → o ≡ none) → (p ≡ true → q ≡ false → o ≡ some κ)
       → (X >>= (λ (cs : List Constraint). accepted (record { kind = κ; form = form } ∷ cs))) ≡ counted_of file width K fs c
       → (need (answer 3 file a) p >> (found (answer 4 file a) o >>= (λ (kind : ConstraintKind).
       need (answer 6 file a) r >> (need (answer 8 file a) u >> (need (answer 13 file a) v >> (X >>= (λ (cs : List Constraint). accepted (record { kind = kind; form = form } ∷ cs))))))))
-      ≡ counted_of file width K fs (unless_fault (cond p (cond q 4 (cond r (cond u (cond v 0 13) 8) 6)) 3) a c)
+      ≡ counted_of file width K fs (unless_fault (by_tests p q r u v) a c)
   unfolding need ◌>>◌ ◌>>=◌ found
   tests a form fs κ o X c false q r u v none-if some-if e = refl
   tests a form fs κ o X c true true r u v none-if some-if e = rw (none-if refl)
@@ -250,14 +257,14 @@ module _ (file number K : ℕ) where
       (no_kind f.tag) (kind-of f.tag)
       (rw (constraints-counted (suc n) fs) (after f fs (counted width K (suc n) fs)))
 
-pub passed-both : (x a m : ℕ) (c : Counted) → unless_fault x a c ≡ Counted.count m → (x ≡ 0) × (c ≡ Counted.count m)
-passed-both zero a m c e = (refl, e)
-passed-both (suc x) a m c e = absurd (let z : ◌≡◌ {A = ℕ} 0 1 = cc in omega arith)
+pub passed-both : (x : code.Result (Unit {0}) Refusal) (a m : ℕ) (c : code.Result ℕ Fault) → unless_fault x a c ≡ Ok m → (x ≡ Ok tt) × (c ≡ Ok m)
+passed-both (Ok u) a m c e = (refl, e)
+passed-both (Err r) a m c e = absurd (err_ok e)
 
-pub count_is : (w K n m : ℕ) (fs : Fields) → counted w K n fs ≡ Counted.count m → m ≡ n + length (stated w K fs)
+pub count_is : (w K n m : ℕ) (fs : Fields) → counted w K n fs ≡ Ok m → m ≡ n + length (stated w K fs)
 unfolding counted stated
 count_is w K n m (ends at) e = let q : n ≡ m = cc in omega arith
-count_is w K n m (cut at) e = absurd (let z : ◌≡◌ {A = ℕ} 0 1 = cc in omega arith)
+count_is w K n m (cut at) e = absurd (err_ok e)
 count_is w K n m (f ▸ fs) e = omega (arith, count_is w K (suc n) m fs (passed-both (fault_of w K n f.tag f.contents) f.at m (counted w K (suc n) fs) e).1)
 
 -- ---- a whole bundle
@@ -277,56 +284,56 @@ header-rest newest file given bytes =
     gives-accepted (λ i. let z : i + 2 ≡ suc (suc i) = omega arith in rw z (h1 (suc i) ∙ h2 i))
 
 -- ---- each way through `scan`
-module _ {given : ℕ} {s : List ℕ} {r : Headed} (h : IsBundleHeader newest_edition given s r) where
-  pub scan-header : {n a : ℕ} → r ≡ Headed.Refused n a → (file : ℕ) → bundle newest_edition file (given_k given) s ≡ refused (answer n file a)
+module _ {given : ℕ} {s : List ℕ} {r : code.Result Headed Fault} (h : IsBundleHeader newest_edition given s r) where
+  pub scan-header : {e : Fault} → r ≡ Err e → (file : ℕ) → bundle newest_edition file (given_k given) s ≡ refused (answer (number_of e.refusal) file e.place)
   unfolding bundle ◌>>=◌
   scan-header e file = rw (h.is file, e)
 
-  module _ {number k next : ℕ} (e : r ≡ Headed.Header number k next) where
-    header_is : IsBundleHeader newest_edition given s (Headed.Header number k next)
+  module _ {x : Headed} (e : r ≡ Ok x) where
+    header_is : IsBundleHeader newest_edition given s (Ok x)
     header_is = rw e at h
 
-    start_is : (wanted : ℕ) → start_of (nth wanted (fields_at s next)) ≡ constraint_start s wanted
+    start_is : (wanted : ℕ) → start_of (nth wanted (fields_at s x.next)) ≡ constraint_start s wanted
     start_is wanted = sym (ap start_of ((header-rest newest_edition 1 (given_k given) s).gives _ (header_is.is 1) wanted))
 
-    module _ {w : ℕ} (v : w ≡ (edition number).coefficient_width) where
-      scan-fault : {n a : ℕ} → counted w k 0 (fields_at s next) ≡ Counted.fault n a → (file : ℕ) → bundle newest_edition file (given_k given) s ≡ refused (answer n file a)
+    module _ {w : ℕ} (v : w ≡ (edition x.edition).coefficient_width) where
+      scan-fault : {e : Fault} → counted w x.k 0 (fields_at s x.next) ≡ Err e → (file : ℕ) → bundle newest_edition file (given_k given) s ≡ refused (answer (number_of e.refusal) file e.place)
       unfolding bundle ◌>>=◌
-      scan-fault t file = let u = rw v at t in rw (header_is.is file, constraints-counted file number k 0 (fields_at s next), u)
+      scan-fault t file = let u = rw v at t in rw (header_is.is file, constraints-counted file x.edition x.k 0 (fields_at s x.next), u)
 
-      module _ (wanted : ℕ) {q : Sought} (c : q ≡ sought_of (start_of (nth wanted (fields_at s next))) (counted w k 0 (fields_at s next))) where
-        pub seek-fault : {n a : ℕ} → q ≡ Sought.Refused n a → Scans given s wanted (Scanned.Refused n a)
+      module _ (wanted : ℕ) {q : code.Result Sought Fault} (c : q ≡ sought_of (start_of (nth wanted (fields_at s x.next))) (counted w x.k 0 (fields_at s x.next))) where
+        pub seek-fault : {e : Fault} → q ≡ Err e → Scans given s wanted (Err e)
         seek-fault t = record { by = scan-fault (sought-refused _ _ c t) }
 
-        pub seek-count : {n found : ℕ} → q ≡ Sought.Count n found → Scans given s wanted (Scanned.Bundle k (record { edition = number; at = next; count = n }) found)
+        pub seek-count : {y : Sought} → q ≡ Ok y → Scans given s wanted (Ok (record { k = x.k; body = record { edition = x.edition; at = x.next; count = y.count }; start = y.start }))
         seek-count t =
             let u = sought-count _ _ c t in
             record { by = (record { header = header_is; counts = rw (← v) u.0 }, u.1 ∙ start_is wanted) }
 
 -- what `scan` tells, by its answer
-module _ {given : ℕ} {s : List ℕ} {wanted : ℕ} {r : Scanned} (h : Scans given s wanted r) where
-  pub scanned-bundle : {K : ℕ} {body : Body} {start : ℕ} → r ≡ Scanned.Bundle K body start → IsBundle given s K body × (start ≡ constraint_start s wanted)
+module _ {given : ℕ} {s : List ℕ} {wanted : ℕ} {r : code.Result Scanned Fault} (h : Scans given s wanted r) where
+  pub scanned-bundle : {x : Scanned} → r ≡ Ok x → IsBundle given s x.k x.body × (x.start ≡ constraint_start s wanted)
   scanned-bundle e = rw e at h.by
 
-  pub scanned-refused : {n a : ℕ} → r ≡ Scanned.Refused n a → (file : ℕ) → bundle newest_edition file (given_k given) s ≡ refused (answer n file a)
+  pub scanned-refused : {e : Fault} → r ≡ Err e → (file : ℕ) → bundle newest_edition file (given_k given) s ≡ refused (answer (number_of e.refusal) file e.place)
   scanned-refused e = rw e at h.by
 
 -- ---- opening: the two header fields, and the length between them
-module _ {newest given : ℕ} {s : List ℕ} {r : Numbered} (f : IsEdition FileKind.Bundle newest s r) where
-  pub open-refused : {n a : ℕ} → r ≡ Numbered.Refused n a → IsBundleHeader newest given s (Headed.Refused n a)
+module _ {newest given : ℕ} {s : List ℕ} {r : code.Result Numbered Fault} (f : IsEdition FileKind.Bundle newest s r) where
+  pub open-refused : {x : Fault} → r ≡ Err x → IsBundleHeader newest given s (Err x)
   unfolding bundle_header ◌>>=◌
   open-refused e = record { is = λ file. rw (f.is file, e) }
 
-  module _ {v at : ℕ} (e : r ≡ Numbered.Value v at) where
-    pub open-long : (edition v).bundle_bytes < length s → IsBundleHeader newest given s (Headed.Refused 1 0)
+  module _ {v : Numbered} (e : r ≡ Ok v) where
+    pub open-long : (edition v.value).bundle_bytes < length s → IsBundleHeader newest given s (Err (fault Refusal.TooLong 0))
     unfolding bundle_header at_most need ◌>>◌ ◌>>=◌
-    open-long h = record { is = λ file. rw (f.is file, e, lt-leb (length s) (edition v).bundle_bytes h) }
+    open-long h = record { is = λ file. rw (f.is file, e, lt-leb (length s) (edition v.value).bundle_bytes h) }
 
-    module _ (h : length s ≤ (edition v).bundle_bytes) {q : Numbered} (k : IsConstants FileKind.Bundle given s at q) where
-      pub open-k-refused : {n a : ℕ} → q ≡ Numbered.Refused n a → IsBundleHeader newest given s (Headed.Refused n a)
+    module _ (h : length s ≤ (edition v.value).bundle_bytes) {q : code.Result Numbered Fault} (k : IsConstants FileKind.Bundle given s v.next q) where
+      pub open-k-refused : {x : Fault} → q ≡ Err x → IsBundleHeader newest given s (Err x)
       unfolding bundle_header at_most need ◌>>◌ ◌>>=◌
-      open-k-refused d = record { is = λ file. rw (f.is file, e, le-leb (length s) (edition v).bundle_bytes h, k.is file, d) }
+      open-k-refused d = record { is = λ file. rw (f.is file, e, le-leb (length s) (edition v.value).bundle_bytes h, k.is file, d) }
 
-      pub open-value : {K next : ℕ} → q ≡ Numbered.Value K next → IsBundleHeader newest given s (Headed.Header v K next)
+      pub open-value : {c : Numbered} → q ≡ Ok c → IsBundleHeader newest given s (Ok (record { edition = v.value; k = c.value; next = c.next }))
       unfolding bundle_header at_most need ◌>>◌ ◌>>=◌
-      open-value d = record { is = λ file. rw (f.is file, e, le-leb (length s) (edition v).bundle_bytes h, k.is file, d) }
+      open-value d = record { is = λ file. rw (f.is file, e, le-leb (length s) (edition v.value).bundle_bytes h, k.is file, d) }

@@ -15,9 +15,14 @@ use Rattle.fields.specs.declared.FileKind.{FileKind}
 use Rattle.fields.specs.Fields.{ends, cut}
 use Rattle.fields.specs.Header.{known}
 use Rattle.fields.specs.Places.{fields_at}
+use Rattle.std.specs.Prelude.{Ok, Err}
+use Rattle.std.specs.declared.result.Result as code
+use Rattle.answers.specs.Refusals.{fault}
+use Rattle.answers.specs.declared.refusals.Refusal.{Refusal}
+use Rattle.answers.specs.declared.refusals.Fault.{Fault}
 use Rattle.fields.proofs.Places.{len_at, Took, took-here, Starts, starts-size}
 use Rattle.bundle.specs.Read.{kind_number}
-use Rattle.bundle_scan.specs.Scan.{fault_of, Counted, counted, stated, ConstraintsLeft}
+use Rattle.bundle_scan.specs.Scan.{fault_of, counted, stated, ConstraintsLeft}
 use Rattle.bundle_scan.proofs.Scanning.{Proper, counted-on, count_is, proper-of, tag-most, passed-both}
 
 -- the kind's number, as the code computes it
@@ -35,13 +40,13 @@ module _ {w K n m : ℕ} {s : List ℕ} {at : ℕ} (v : ConstraintsLeft w K n m 
   no_cut : {a : ℕ} → fields_at s at ≡ cut a → ⊥
   unfolding counted
   no_cut {a} e =
-      let q : Counted.fault 2 a ≡ Counted.count m = sym (rw e) ∙ v.counts in
+      let q : Err (fault Refusal.Truncated a) ≡ Ok m = sym (rw e) ∙ v.counts in
       let z : ◌≡◌ {A = ℕ} 0 1 = cc in omega arith
 
   no_end : n < m → {a : ℕ} → fields_at s at ≡ ends a → ⊥
   unfolding counted
   no_end h {a} e =
-      let q : Counted.count n ≡ Counted.count m = sym (rw e) ∙ v.counts in
+      let q : ◌≡◌ {A = code.Result ℕ Fault} (Ok n) (Ok m) = sym (rw e) ∙ v.counts in
       let z : n ≡ m = cc in omega arith
 
   -- where a constraint is left, a field stands

@@ -1,27 +1,17 @@
 // Numbers to be written: whether some bytes hold each.
-ghost use Rattle.std.specs.Prelude.{◌≡◌, ◌⊎◌, ◌&&◌, ltb};
+ghost use Rattle.std.specs.Prelude.{◌≡◌, ltb, not, position};
 ghost use Rattle.forms.specs.Forms.{every};
+ghost use Rattle.number_bytes.specs.Widths.{bytes_of};
 ghost use Rattle.bundle.specs.Write.{holdable};
 ghost use Rattle.number_ranges.specs.First.{first_bad};
 
-use crate::LOWEST;
+use number_bytes::words::Width;
 
-// x + 32,768, and 2^32 more where that is negative: below 65,536 where two bytes hold x, and only there.
+// x + 32,768 as a word: below 65,536 where two bytes hold x, and only there.
 fn shifted(x: i32) -> u32
     ensures { ltb result 0x1_0000 ≡ holdable 2 x }
 {
-    let y = x as i64 + 0x8000;
-    if y < 0 {
-        return (y + 0x1_0000_0000) as u32;
-    }
-    y as u32
-}
-
-// A number that is below 65,536 where x and y both are, and only there.
-fn merged(x: u32, y: u32) -> u32
-    ensures { ltb result 0x1_0000 ≡ (ltb x 0x1_0000 && ltb y 0x1_0000) }
-{
-    x | y
+    x.cast_unsigned().wrapping_add(0x8000)
 }
 
 // Whether two bytes hold each number. All are merged and tested once: a sum and an `or` for four numbers.
@@ -29,10 +19,8 @@ fn all_short(numbers: &[i32]) -> bool
     ensures { result ≡ every (holdable 2) numbers.now }
 {
     let mut all: u32 = 0;
-    let mut i = 0;
-    while i < numbers.len() {
-        all = merged(all, shifted(numbers[i]));
-        i += 1;
+    for x in numbers {
+        all |= shifted(*x);
     }
     all < 0x1_0000
 }
@@ -41,7 +29,7 @@ fn all_short(numbers: &[i32]) -> bool
 fn above_lowest(x: i32) -> bool
     ensures { result ≡ holdable 4 x }
 {
-    x > LOWEST
+    x > i32::MIN
 }
 
 // Whether no number is -2,147,483,648. It goes on to the end, so that the compiler tests several at once.
@@ -49,51 +37,45 @@ fn all_above_lowest(numbers: &[i32]) -> bool
     ensures { result ≡ every (holdable 4) numbers.now }
 {
     let mut ok = true;
-    let mut i = 0;
-    while i < numbers.len() {
-        ok = ok & above_lowest(numbers[i]);
-        i += 1;
+    for x in numbers {
+        ok &= above_lowest(*x);
     }
     ok
 }
 
-// Whether `width` bytes hold each number, and none is -2,147,483,648.
-fn all_held(width: usize, numbers: &[i32]) -> bool
-    requires { (width ≡ 2) ⊎ (width ≡ 4) }
-    ensures { result ≡ every (holdable width) numbers.now }
+// Whether a width holds each number, and none is -2,147,483,648.
+fn all_held(width: Width, numbers: &[i32]) -> bool
+    ensures { result ≡ every (holdable (bytes_of width)) numbers.now }
 {
-    if width == 2 {
-        return all_short(numbers);
+    match width {
+        Width::Two => all_short(numbers),
+        Width::Four => all_above_lowest(numbers),
     }
-    all_above_lowest(numbers)
 }
 
 // The same of one number.
-fn held(width: usize, x: i32) -> bool
-    requires { (width ≡ 2) ⊎ (width ≡ 4) }
-    ensures { result ≡ holdable width x }
+fn held(width: Width, x: i32) -> bool
+    ensures { result ≡ holdable (bytes_of width) x }
 {
-    if width == 2 {
-        return shifted(x) < 0x1_0000;
+    match width {
+        Width::Two => shifted(x) < 0x1_0000,
+        Width::Four => above_lowest(x),
     }
-    above_lowest(x)
+}
+
+// Where the first number stands that is not held.
+fn unheld(width: Width, numbers: &[i32]) -> Option<usize>
+    ensures { result ≡ position (λ x. not (holdable (bytes_of width) x)) numbers.now }
+{
+    numbers.iter().position(|x| !held(width, *x))
 }
 
 // The index of the first number that is not held, or how many there are. Most often each is.
-pub fn first_unheld(width: usize, numbers: &[i32]) -> usize
-    requires { (width ≡ 2) ⊎ (width ≡ 4) }
-    ensures { result ≡ first_bad (holdable width) 0 numbers.now }
+pub fn first_unheld(width: Width, numbers: &[i32]) -> usize
+    ensures { result ≡ first_bad (holdable (bytes_of width)) 0 numbers.now }
 {
     if all_held(width, numbers) {
         return numbers.len();
     }
-    let mut i = 0;
-    while i < numbers.len() {
-        if held(width, numbers[i]) {
-            i += 1;
-        } else {
-            return i;
-        }
-    }
-    i
+    unheld(width, numbers).unwrap_or(numbers.len())
 }

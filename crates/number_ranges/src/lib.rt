@@ -4,6 +4,3 @@
 
 pub mod held;
 pub mod read;
-
-// The one number of four bytes that is not within the range.
-pub const LOWEST: i32 = -2147483648;

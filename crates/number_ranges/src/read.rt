@@ -1,19 +1,19 @@
 // Numbers that stand in bytes: whether each is within the range.
-ghost use Rattle.std.specs.Prelude.{◌≡◌, ◌⊎◌, ◌+◌, ◌*◌, ◌≤◌, length, take, drop};
+ghost use Rattle.std.specs.Prelude.{◌≡◌, ◌+◌, ◌*◌, ◌≤◌, length, take, drop};
 ghost use Rattle.forms.specs.Edition.{edition1};
 ghost use Rattle.forms.specs.Forms.{small, every};
 ghost use Rattle.number_bytes.specs.Numbers.{signed, signeds};
+ghost use Rattle.number_bytes.specs.Widths.{bytes_of};
 
-use crate::LOWEST;
-use number_bytes::words::signed_at;
+use number_bytes::words::Width;
 
 // Whether the number of four bytes at a place is within the range.
 fn long_in_range(s: &[u8], at: usize) -> bool
     requires { at + 4 ≤ length s.now }
     ensures { result ≡ small edition1.range (signed (take 4 (drop at s.now))) }
 {
-    let x = signed_at(s, at, 4) as i32;
-    x > LOWEST
+    let x = Width::Four.signed_at(s, at) as i32;
+    x > i32::MIN
 }
 
 // Whether each of n numbers of four bytes from start on is within the range. It goes on to the end, so that the compiler tests several at once.
@@ -22,22 +22,19 @@ fn longs_in_range(s: &[u8], start: usize, n: usize) -> bool
     ensures { result ≡ every (small edition1.range) (signeds 4 n (drop start s.now)) }
 {
     let mut ok = true;
-    let mut i = 0;
-    while i < n {
-        ok = ok & long_in_range(s, start + i * 4);
-        i += 1;
+    for i in 0..n {
+        ok &= long_in_range(s, start + i * 4);
     }
     ok
 }
 
-// The same of numbers of `width` bytes: every number of two bytes is.
-pub fn all_in_range(s: &[u8], start: usize, width: usize, n: usize) -> bool
-    requires fact { (width ≡ 2) ⊎ (width ≡ 4) }
-    requires width_in_bounds { start + n * width ≤ length s.now }
-    ensures { result ≡ every (small edition1.range) (signeds width n (drop start s.now)) }
+// The same of numbers of any width: every number of two bytes is.
+pub fn all_in_range(s: &[u8], start: usize, width: Width, n: usize) -> bool
+    requires { start + n * bytes_of width ≤ length s.now }
+    ensures { result ≡ every (small edition1.range) (signeds (bytes_of width) n (drop start s.now)) }
 {
-    if width == 2 {
-        return true;
+    match width {
+        Width::Two => true,
+        Width::Four => longs_in_range(s, start, n),
     }
-    longs_in_range(s, start, n)
 }

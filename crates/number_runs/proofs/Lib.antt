@@ -1,4 +1,3 @@
 -- Laws of runs that are read and written in parts.
 pub mod Putting
-pub mod Short
 pub mod Storing

@@ -1,67 +1,56 @@
 -- What a run of numbers leaves in the lent bytes, written one by one or in parts. Assumes nothing.
 use mathlib.Core.Path.{◌≡◌, refl, sym, ◌∙◌}
-use mathlib.Core.List.{List}
-use Prim.Native.Nat.{ℕ, suc, ◌+◌, ◌*◌, ◌-◌, ◌≤◌, ◌<◌}
-use native.Mathlib.Nat.{add-mul, suc-mul}
+use mathlib.Core.List.{List, [], append-nil}
+use Prim.Native.Nat.{ℕ, ◌+◌, ◌*◌, ◌≤◌, ◌<◌}
 use native.Mathlib.Numerals.{add-one}
 use native.Mathlib.Omega.{arith}
 use lib.IntN.{ℤ, pos}
-use lib.ListN.{length, get_or, take, drop, set, length-drop}
-use lib.Seq.{sets, take-add, take-suc, take-suc-set, get_or-drop, drop-cons, drop-drop, length-take-le}
+use lib.ListN.{length, get_or, take, drop, set}
+use lib.Seq.{sets, take-add, take-length, take-suc-set, take-suc, drop-cons, length-take-le}
 use Rattle.number_bytes.specs.Numbers.{signed_bytes, signeds_bytes}
-use Rattle.number_bytes.proofs.Signed.{length-signed_bytes, length-signeds_bytes, signeds_bytes-append}
+use Rattle.number_bytes.proofs.Signed.{length-signeds_bytes, signeds_bytes-append, all_take, all_drop}
 use Rattle.number_bytes.proofs.Stores.{sets-append}
+use Rattle.number_runs.specs.Runs.{HeldAll}
 
 -- ---- numbers taken over into a block
 -- one number more
-pub taken_next : (x numbers : List ℤ) (from i : ℕ) → i < length x → from + i < length numbers → take i x ≡ take i (drop from numbers)
-    → take (i + 1) (set x i (get_or numbers (from + i) (pos 0))) ≡ take (i + 1) (drop from numbers)
-taken_next x numbers from i h l e =
-    let z : i + 1 ≡ suc i = omega arith in
-    let d : i < length (drop from numbers) = simp length-drop (omega arith) in
-    rw (z, take-suc-set x i (get_or numbers (from + i) (pos 0)) h, e, take-suc (drop from numbers) i (pos 0) d, get_or-drop from numbers i (pos 0))
+pub taken_next : (x numbers : List ℤ) (i : ℕ) → i < length x → i < length numbers → take i x ≡ take i numbers
+    → take (i + 1) (set x i (get_or numbers i (pos 0))) ≡ take (i + 1) numbers
+taken_next x numbers i h l e = rw (add-one, take-suc-set x i (get_or numbers i (pos 0)) h, e, take-suc numbers i (pos 0) l)
 
 -- ---- numbers of w bytes each
+pub held-part : {w : ℕ} {numbers : List ℤ} (from k : ℕ) → HeldAll w numbers → HeldAll w (take k (drop from numbers))
+held-part from k h = record { each = all_take k (all_drop from h.each) }
+
+pub held_first : {w : ℕ} {numbers : List ℤ} (k : ℕ) → HeldAll w numbers → HeldAll w (take k numbers)
+held_first k h = record { each = all_take k h.each }
+
 module _ (w : ℕ) where
-  put_first : (out : List ℕ) (at : ℕ) (numbers : List ℤ) (from n : ℕ) → from < length numbers
-      → sets (sets out at (signed_bytes w (get_or numbers from (pos 0)))) (at + w) (signeds_bytes w (take n (drop (from + 1) numbers)))
-      ≡ sets out at (signeds_bytes w (take (suc n) (drop from numbers)))
+  pub put-none : (out : List ℕ) (at : ℕ) → out ≡ sets out at (signeds_bytes w [])
   unfolding signeds_bytes
-  put_first out at numbers from n h =
-      let x = get_or numbers from (pos 0) in
-      rw (add-one from, drop-cons numbers from (pos 0) h)
-      (sym (sets-append (signed_bytes w x) (signeds_bytes w (take n (drop (suc from) numbers))) out at ∙ rw (length-signed_bytes w x)))
-
-  pub put_next : (out : List ℕ) (at i n : ℕ) (numbers : List ℤ) (from : ℕ) → i < n → from + n ≤ length numbers
-      → sets (sets out (at + i * w) (signed_bytes w (get_or numbers (from + i) (pos 0)))) (at + (i + 1) * w) (signeds_bytes w (take (n - (i + 1)) (drop (from + (i + 1)) numbers)))
-      ≡ sets out (at + i * w) (signeds_bytes w (take (n - i) (drop (from + i) numbers)))
-  put_next out at i n numbers from h l =
-      let m : n - i ≡ suc (n - (i + 1)) = omega arith in
-      let f : from + (i + 1) ≡ from + i + 1 = omega arith in
-      let e : i + 1 ≡ suc i = omega arith in
-      let a : at + (i + 1) * w ≡ at + i * w + w = rw e (omega (arith, suc-mul i w)) in
-      rw (m, f, a) (put_first out (at + i * w) numbers (from + i) (n - (i + 1)) (omega arith))
-
-  pub numbers-bytes : (numbers : List ℤ) (from n : ℕ) → from + n ≤ length numbers → length (signeds_bytes w (take n (drop from numbers))) ≡ n * w
-  numbers-bytes numbers from n h =
-      let l : length (take n (drop from numbers)) ≡ n = length-take-le n (drop from numbers) (simp length-drop (omega arith)) in
-      length-signeds_bytes w (take n (drop from numbers)) ∙ rw l
+  put-none out at = refl
 
   -- m numbers, and r more behind them
-  pub put-runs : (out : List ℕ) {o₁ o₂ : List ℕ} (at : ℕ) (numbers : List ℤ) (from m r n : ℕ) → m + r ≡ n → from + n ≤ length numbers
-      → o₁ ≡ sets out at (signeds_bytes w (take m (drop from numbers)))
-      → o₂ ≡ sets o₁ (at + m * w) (signeds_bytes w (take r (drop (from + m) numbers)))
-      → o₂ ≡ sets out at (signeds_bytes w (take n (drop from numbers)))
-  put-runs out at numbers from m r n e h e₁ e₂ =
+  pub put-more : (out : List ℕ) {o₁ o₂ : List ℕ} (at : ℕ) (numbers : List ℤ) (m k r : ℕ) → k ≡ r → m + r ≤ length numbers
+      → o₁ ≡ sets out at (signeds_bytes w (take m numbers)) → o₂ ≡ sets o₁ (at + m * w) (signeds_bytes w (take k (drop m numbers)))
+      → o₂ ≡ sets out at (signeds_bytes w (take (m + r) numbers))
+  put-more out at numbers m k r z h e₁ e₂ =
+      let l : length (take m numbers) ≡ m = length-take-le m numbers (omega arith) in
       e₂
-      ∙ rw (e₁, ← e, take-add m r (drop from numbers), drop-drop m from numbers, signeds_bytes-append w (take m (drop from numbers)) (take r (drop (from + m) numbers)))
-      (sym (sets-append (signeds_bytes w (take m (drop from numbers))) (signeds_bytes w (take r (drop (from + m) numbers))) out at ∙ rw (numbers-bytes numbers from m (omega arith))))
+      ∙ rw (e₁, z, take-add m r numbers, signeds_bytes-append w (take m numbers) (take r (drop m numbers)))
+      (sym (sets-append (signeds_bytes w (take m numbers)) (signeds_bytes w (take r (drop m numbers))) out at ∙ rw (length-signeds_bytes w (take m numbers), l)))
 
-  -- s numbers more behind i of m
-  pub put-more : (out : List ℕ) {o : List ℕ} (at i s m : ℕ) (numbers : List ℤ) (from : ℕ) → i + s ≤ m → from + m ≤ length numbers
-      → o ≡ sets out (at + i * w) (signeds_bytes w (take s (drop (from + i) numbers)))
-      → sets o (at + (i + s) * w) (signeds_bytes w (take (m - (i + s)) (drop (from + (i + s)) numbers))) ≡ sets out (at + i * w) (signeds_bytes w (take (m - i) (drop (from + i) numbers)))
-  put-more out at i s m numbers from h l e =
-      let a : at + (i + s) * w ≡ at + i * w + s * w = omega (arith, add-mul i s w) in
-      let f : from + (i + s) ≡ from + i + s = omega arith in
-      rw (a, f) (put-runs out (at + i * w) numbers (from + i) s (m - (i + s)) (m - i) (omega arith) (omega arith) e refl)
+  -- one more
+  pub put-one : (out : List ℕ) {o₁ o₂ : List ℕ} (at : ℕ) (numbers : List ℤ) (i : ℕ) → i < length numbers
+      → o₁ ≡ sets out at (signeds_bytes w (take i numbers)) → o₂ ≡ sets o₁ (at + i * w) (signed_bytes w (get_or numbers i (pos 0)))
+      → o₂ ≡ sets out at (signeds_bytes w (take (i + 1) numbers))
+  unfolding signeds_bytes
+  put-one out at numbers i h e₁ e₂ =
+      let x : signeds_bytes w (take 1 (drop i numbers)) ≡ signed_bytes w (get_or numbers i (pos 0)) = rw (drop-cons numbers i (pos 0) h) (append-nil (signed_bytes w (get_or numbers i (pos 0)))) in
+      put-more out at numbers i 1 1 refl (omega arith) e₁ (rw x e₂)
+
+  -- all
+  pub put-all : (out : List ℕ) {o₁ o₂ : List ℕ} (at : ℕ) (numbers : List ℤ) (m k : ℕ) → m + k ≡ length numbers
+      → o₁ ≡ sets out at (signeds_bytes w (take m numbers)) → o₂ ≡ sets o₁ (at + m * w) (signeds_bytes w (take k (drop m numbers)))
+      → o₂ ≡ sets out at (signeds_bytes w numbers)
+  put-all out at numbers m k z e₁ e₂ = rw (z, take-length numbers) at (put-more out at numbers m k k refl (omega arith) e₁ e₂)

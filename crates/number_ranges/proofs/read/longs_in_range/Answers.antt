@@ -12,18 +12,15 @@ pub loop-i-init : goal.loop-i-init
 loop-i-init c =
     let y : c.args.n - 0 ≡ c.args.n = omega arith in
     let z : c.args.start + 0 ≡ c.args.start = omega arith in
-    (rw (y, z), omega arith)
-
-pub long_in_range-ok-requires : goal.long_in_range-ok-requires
-long_in_range-ok-requires c = omega arith
+    rw (y, z)
 
 pub loop-i-preserved : goal.loop-i-preserved
 loop-i-preserved c =
     let a = c.args in
-    (every-next (small 2_147_483_647) a.s.now a.start c.loop-i.i a.n c.loop-i-test.true c.loop-i.ok c.loop-i.invariant.0 (ap (λ (b : Bool). c.loop-i.ok && b) c.long_in_range-ok.ensures), omega arith)
+    every-next (small 2_147_483_647) a.s.now a.start c.loop-i.i a.n (omega arith) c.loop-i.ok c.loop-i.invariant (ap (λ (b : Bool). c.loop-i.ok && b) c.long_in_range-ok.ensures)
 
 pub returns : goal.returns
 unfolding signeds every
 returns c =
     let e : c.args.n - c.loop-i.i ≡ 0 = omega arith in
-    sym (and-true c.loop-i.ok) ∙ (rw e at c.loop-i.invariant.0)
+    sym (and-true c.loop-i.ok) ∙ (rw e at c.loop-i.invariant)

@@ -1,32 +1,20 @@
--- `number_runs::put::put_fours` meets its contract: what is left to write gives what the whole gives. Assumes nothing.
-use mathlib.Core.Path.{◌≡◌, refl, ◌∙◌}
-use Prim.Native.Nat.{◌+◌, ◌*◌, ◌-◌, ◌/◌, ◌≤◌}
+-- `number_runs::put::put_fours` meets its contract: the first fours are written. Assumes nothing.
+use mathlib.Core.Path.{◌≡◌}
+use Prim.Native.Nat.{◌+◌, ◌*◌, ◌-◌}
 use native.Mathlib.Omega.{arith}
-use Rattle.number_bytes.specs.Numbers.{signeds_bytes}
-use Rattle.number_runs.proofs.Putting.{put-more}
+use Rattle.number_runs.proofs.Putting.{put-none, put-more, held-part}
 use Rattle.number_runs.proofs.put.put_fours.Goals as goal
 
 pub loop-i-init : goal.loop-i-init
-loop-i-init c =
-    let a = c.args in
-    let x : a.at + 0 ≡ a.at = omega arith in
-    let y : a.n / 4 * 4 - 0 ≡ a.n / 4 * 4 = omega arith in
-    let z : a.from + 0 ≡ a.from = omega arith in
-    (rw (x, y, z), refl, omega arith, refl)
+loop-i-init c = put-none _ _ _
+
+pub put_block-requires-clause-held_all : goal.put_block-requires-clause-held_all
+put_block-requires-clause-held_all c = held-part (c.loop-i.i * 4) (c.loop-i.i * 4 + 4 - c.loop-i.i * 4) c.requires.held_all
 
 pub loop-i-preserved : goal.loop-i-preserved
 loop-i-preserved c =
     let a = c.args in
-    let l = c.loop-i in
-    let h : l.i + 4 ≤ a.n / 4 * 4 = omega arith in (
-      put-more 2 l.out a.at l.i 4 (a.n / 4 * 4) a.numbers.now a.from h (omega arith) c.put_four.ensures ∙ l.invariant.0,
-      c.put_four.auto.out ∙ l.invariant.1,
-      h,
-      omega arith,
-    )
-
-pub returns : goal.returns
-unfolding signeds_bytes
-returns c =
-    let e : c.args.n / 4 * 4 - c.loop-i.i ≡ 0 = omega arith in
-    rw e at c.loop-i.invariant.0
+    let i = c.loop-i.i in
+    let x : (i + 1) * 4 ≡ i * 4 + 4 = omega arith in
+    let y : i * 4 * 2 ≡ i * 8 = omega arith in
+    rw x (put-more 2 a.out.now a.at a.numbers.now (i * 4) (i * 4 + 4 - i * 4) 4 (omega arith) (omega arith) c.loop-i.invariant (rw y c.put_block.ensures))

@@ -1,62 +1,34 @@
--- `number_runs::put::put_run` meets its contract: what is left to write gives what the whole gives. Assumes nothing.
-use mathlib.Core.Path.{◌≡◌, refl, ◌∙◌}
-use Prim.Native.Nat.{◌+◌, ◌*◌, ◌-◌}
-use native.Mathlib.Nat.{zero-mul}
+-- `number_runs::put::put_run` meets its contract: the first i are written. Assumes nothing.
+use mathlib.Core.Path.{◌≡◌, ◌∙◌}
 use native.Mathlib.Omega.{arith}
-use lib.IntN.{pos}
+use lib.IntN.{ℤ, pos}
 use lib.ListN.{get_or}
-use lib.Seq.{sets}
-use mir.Syntax.{w64}
+use mir.Syntax.{w32, w64}
+use mir.Val.{SFits, to_z, of_z}
 use mir.ValLaws.{to_z-of_z}
-use Rattle.number_bytes.specs.Numbers.{signed_bytes, signeds_bytes}
+use Rattle.number_bytes.specs.Ranges.{Held}
+use Rattle.number_bytes.specs.declared.words.Width.{Width}
+use Rattle.number_bytes.specs.Widths.{bytes_of}
 use Rattle.number_bytes.proofs.Signed.{all_get_d}
-use Rattle.number_bytes.proofs.Widths.{part-before}
-use Rattle.number_runs.proofs.Putting.{put_next}
+use Rattle.number_bytes.proofs.Widths.{held-bits}
+use Rattle.number_runs.proofs.Putting.{put-none, put-one}
 use Rattle.number_runs.proofs.put.put_run.Goals as goal
 
 pub loop-i-init : goal.loop-i-init
-loop-i-init c =
-    let a = c.args in
-    let x : a.at + 0 * a.width ≡ a.at = rw (zero-mul a.width) (omega arith) in
-    let y : a.n - 0 ≡ a.n = omega arith in
-    let z : a.from + 0 ≡ a.from = omega arith in
-    (rw (x, y, z), refl, omega arith)
+loop-i-init c = put-none _ _ _
 
-pub number-x-requires : goal.number-x-requires
-number-x-requires c = omega (arith, c.requires.n_in_bounds, c.loop-i-test.true)
+-- a number of 32 bits in 64
+number : (w : Width) (x r : ℤ) → Held (bytes_of w) x → r ≡ to_z w32 (of_z w32 x) → SFits w64 r → to_z w64 (of_z w64 r) ≡ x
+number w x r h e f = to_z-of_z w64 r f ∙ e ∙ to_z-of_z w32 x (held-bits w h)
 
-pub overflow_mul-i : goal.overflow_mul-i
-overflow_mul-i c = record { fits = omega (arith, part-before c.loop-i.i c.args.n c.args.width c.loop-i-test.true, c.requires.width_in_bounds) }
-
-pub overflow_add-at : goal.overflow_add-at
-overflow_add-at c = record { fits = omega (arith, part-before c.loop-i.i c.args.n c.args.width c.loop-i-test.true, c.requires.width_in_bounds) }
-
-pub put_signed-requires : goal.put_signed-requires
-put_signed-requires c =
-    let a = c.args in
-    let e = to_z-of_z w64 c.number-x.result (record { sfits = c.number-x.type_inv }) ∙ c.number-x.ensures in
-    record {
-      fact = c.requires.fact.0;
-      width_in_bounds = omega (arith, part-before c.loop-i.i a.n a.width c.loop-i-test.true, c.requires.width_in_bounds, c.loop-i.invariant.1);
-      held = rw e (all_get_d (a.from + c.loop-i.i) (pos 0) c.requires.fact.1.each (omega (arith, c.requires.n_in_bounds, c.loop-i-test.true)));
-    }
+pub put_signed-requires-clause-held : goal.put_signed-requires-clause-held
+put_signed-requires-clause-held c =
+    let h = all_get_d c.loop-i.i (pos 0) c.requires.held_all.each (omega arith) in
+    rw (number c.args.width (get_or c.args.numbers.now c.loop-i.i (pos 0)) c.from.result h c.from.ensures (record { sfits = c.from.type_inv })) h
 
 pub loop-i-preserved : goal.loop-i-preserved
 loop-i-preserved c =
     let a = c.args in
-    let x = get_or a.numbers.now (a.from + c.loop-i.i) (pos 0) in
-    let e = to_z-of_z w64 c.number-x.result (record { sfits = c.number-x.type_inv }) ∙ c.number-x.ensures in
-    let o : c.put_signed.new.out ≡ sets c.loop-i.out (a.at + c.loop-i.i * a.width) (signed_bytes a.width x) = c.put_signed.ensures ∙ rw e in (
-      rw o (put_next a.width c.loop-i.out a.at c.loop-i.i a.n a.numbers.now a.from c.loop-i-test.true c.requires.n_in_bounds ∙ c.loop-i.invariant.0),
-      c.put_signed.auto.out ∙ c.loop-i.invariant.1,
-      omega (arith, c.loop-i-test.true),
-    )
-
-pub shape_of-out : goal.shape_of-out
-shape_of-out c = c.loop-i.invariant.1
-
-pub returns : goal.returns
-unfolding signeds_bytes
-returns c =
-    let e : c.args.n - c.loop-i.i ≡ 0 = omega arith in
-    rw e at c.loop-i.invariant.0
+    let i = c.loop-i.i in
+    let n = number a.width (get_or a.numbers.now i (pos 0)) c.from.result (all_get_d i (pos 0) c.requires.held_all.each (omega arith)) c.from.ensures (record { sfits = c.from.type_inv }) in
+    put-one (bytes_of a.width) a.out.now a.at a.numbers.now i (omega arith) c.loop-i.invariant (c.put_signed.ensures ∙ rw (n, c.bytes.ensures))

@@ -1,15 +1,10 @@
--- `number_runs::put::put_run` meets its contract: what is left to write gives what the whole gives. Assumes nothing.
+-- `number_runs::put::put_run` meets its contract: the first i are written. Assumes nothing.
 use mathlib.Core.Path.{◌≡◌}
-use Prim.Native.Nat.{◌+◌, ◌*◌, ◌-◌, ◌≤◌}
-use lib.ListN.{length, take, drop}
+use lib.ListN.{take}
 use lib.Seq.{sets}
 use Rattle.number_bytes.specs.Numbers.{signeds_bytes}
+use Rattle.number_bytes.specs.Widths.{bytes_of}
 use Rattle.number_runs.proofs.put.put_run.Given as goal
 
 abbrev pub invariant-loop-i : goal.invariant-loop-i
-invariant-loop-i l =
-    (sets l.out (l.at + l.i * l.width) (signeds_bytes l.width (take (l.n - l.i) (drop (l.from + l.i) l.numbers))) ≡ sets l.initial.out l.at (signeds_bytes l.width (take l.n (drop l.from l.numbers))))
-    × (length l.out ≡ length l.initial.out) × (l.i ≤ l.n)
-
-abbrev pub decreases-loop-i : goal.decreases-loop-i
-decreases-loop-i l = l.n - l.i
+invariant-loop-i l = l.out ≡ sets l.initial.out l.at (signeds_bytes (bytes_of l.width) (take l.i l.numbers))

@@ -1,56 +1,27 @@
--- `number_runs::store::store_run` meets its contract: what is left to store gives what the whole gives. Assumes nothing.
-use mathlib.Core.Path.{◌≡◌, refl, ◌∙◌}
-use Prim.Native.Nat.{◌+◌, ◌*◌, ◌-◌}
-use native.Mathlib.Nat.{zero-mul}
+-- `number_runs::store::store_run` meets its contract: the first i are stored. Assumes nothing.
+use mathlib.Core.Path.{◌≡◌, ◌∙◌}
+use Prim.Native.Nat.{◌+◌, ◌*◌}
 use native.Mathlib.Omega.{arith}
-use lib.ListN.{length, length-set}
+use lib.ListN.{take, drop}
 use mir.Syntax.{w32, w64}
+use mir.Val.{to_z, of_z}
 use mir.ValLaws.{to_z-of_z}
-use Rattle.number_bytes.specs.Numbers.{signeds}
-use Rattle.number_bytes.proofs.Widths.{part-before, held_fits}
-use Rattle.number_runs.proofs.Storing.{stored_next}
-use borrow.Author.Rules.{scaled_Fits}
+use Rattle.number_bytes.specs.Numbers.{signed}
+use Rattle.number_bytes.specs.Widths.{bytes_of}
+use Rattle.number_bytes.proofs.Widths.{held-bits}
+use Rattle.number_runs.proofs.Storing.{stored-none, stored_next}
 use Rattle.number_runs.proofs.store.store_run.Goals as goal
+use Rattle.number_runs.proofs.store.store_run.Goals.{After-signed_at}
 
 pub loop-i-init : goal.loop-i-init
-loop-i-init c =
-    let a = c.args in
-    let x : a.at + 0 ≡ a.at = omega arith in
-    let y : a.n - 0 ≡ a.n = omega arith in
-    let z : a.start + 0 * a.width ≡ a.start = rw (zero-mul a.width) (omega arith) in
-    (rw (x, y, z), refl, omega arith)
+loop-i-init c = stored-none _ _
 
-pub overflow_mul-i : goal.overflow_mul-i
-overflow_mul-i c = record { fits = omega (arith, part-before c.loop-i.i c.args.n c.args.width c.loop-i-test.true, c.requires.width_in_bounds) }
-
-pub overflow_add-start : goal.overflow_add-start
-overflow_add-start c = record { fits = omega (arith, part-before c.loop-i.i c.args.n c.args.width c.loop-i-test.true, c.requires.width_in_bounds) }
-
-pub signed_at-x-requires : goal.signed_at-x-requires
-signed_at-x-requires c = record { fact = c.requires.fact; width_in_bounds = omega (arith, part-before c.loop-i.i c.args.n c.args.width c.loop-i-test.true, c.requires.width_in_bounds) }
-
-pub overflow_cast-numbers : goal.overflow_cast-numbers
-overflow_cast-numbers c = rw (to_z-of_z w64 c.signed_at-x.result (record { sfits = c.signed_at-x.type_inv })) (held_fits c.requires.fact c.signed_at-x.ensures.range)
-
-pub offset_bounds-numbers-at : goal.offset_bounds-numbers-at
-offset_bounds-numbers-at c =
-    let a = c.args in
-    scaled_Fits (a.at + c.loop-i.i) (length a.numbers.now) 4 (omega arith) c.well_formed.1.1.1.1.0.1
+number : (c : After-signed_at) → to_z w32 (of_z w32 (to_z w64 (of_z w64 c.signed_at.result))) ≡ signed (take (bytes_of c.args.width) (drop (c.args.start + c.loop-i.i * bytes_of c.args.width) c.args.s.now))
+number c =
+    rw (to_z-of_z w64 c.signed_at.result (record { sfits = c.signed_at.type_inv }))
+    (to_z-of_z w32 c.signed_at.result (held-bits c.args.width c.signed_at.ensures.range) ∙ c.signed_at.ensures.is ∙ rw c.bytes.ensures)
 
 pub loop-i-preserved : goal.loop-i-preserved
 loop-i-preserved c =
     let a = c.args in
-    let x = to_z-of_z w32 _ (overflow_cast-numbers c) ∙ to_z-of_z w64 c.signed_at-x.result (record { sfits = c.signed_at-x.type_inv }) ∙ c.signed_at-x.ensures.is in (
-      rw x (stored_next a.width c.loop-i.numbers a.at c.loop-i.i a.n a.s.now a.start c.loop-i-test.true ∙ c.loop-i.invariant.0),
-      simp length-set c.loop-i.invariant.1,
-      omega arith,
-    )
-
-pub shape_of-numbers : goal.shape_of-numbers
-shape_of-numbers c = c.loop-i.invariant.1
-
-pub returns : goal.returns
-unfolding signeds
-returns c =
-    let e : c.args.n - c.loop-i.i ≡ 0 = omega arith in
-    rw e at c.loop-i.invariant.0
+    rw (number c) (stored_next (bytes_of a.width) c.loop-i.numbers c.loop-i.i a.s.now a.start (omega arith) c.loop-i.invariant)
