@@ -1,5 +1,5 @@
 -- What forms the sum in words: a number as a word, the sum from the last term to the first, and the stride's test. Assumes nothing.
-use Rattle.std.proofs.Common.{◌≡◌, ℕ, suc, ◌+◌, ◌-◌, ◌*◌, ◌%◌, ◌<◌, ◌≤◌, Bool, true, T, List, length, get_or, take, drop, ℤ, pos, negsuc, ◌+ℤ◌, ◌*ℤ◌, nat_abs, ◌≤ℤ◌, sym, refl, ap, ◌∙◌, subst, mod-eq_of_lt, mul-le-mul, arith, w32, w64, Fits, SFits, to_z, of_z}
+use Rattle.std.proofs.Common.{◌≡◌, ℕ, suc, ◌-◌, ◌%◌, ◌<◌, ◌≤◌, Bool, true, T, ℤ, pos, negsuc, ◌+ℤ◌, nat_abs, ◌≤ℤ◌, sym, refl, ap, ◌∙◌, subst, mod-eq_of_lt, arith, w64, Fits, SFits, to_z, of_z}
 use native.Mathlib.Nat.{add-mod_right}
 use lib.Signed.{non_neg}
 use mir.ValLaws.{to_z-of_z}
@@ -8,14 +8,9 @@ use Rattle.integers.specs.Remainder.{remainder}
 use Rattle.integers.specs.Magnitude.{Within}
 use Rattle.integers.proofs.Differences.{ints, add-pn}
 use Rattle.integers.proofs.Magnitude.{within-add, within-fits}
-use Rattle.number_bytes.specs.Numbers.{signed}
 use Rattle.number_bytes.specs.Ranges.{Held}
-use Rattle.formula.specs.Test.{registers}
-use Rattle.form_value.specs.Registers.{AllWithin}
-use Rattle.form_value.specs.FormAt.{form_at}
-use Rattle.form_value.specs.Quick.{word, ◌⊕◌, ◌⊗◌, word_value, power}
-use Rattle.form_value.proofs.Quick.{word-add, word-mul, value-word, word-divides, power-true}
-use Rattle.form_value.proofs.Value.{Summed, summed-none, summed-more, summed-all}
+use Rattle.form_value.specs.Quick.{word, power}
+use Rattle.form_value.proofs.Quick.{word-divides, power-true}
 
 -- ---- a number raised by n: up to 2^32 it fits, by 2^31 at least it is not negative, by 2^32 its remainder is the word
 module _ {x : ℤ} (h : Within 2_147_483_648 x) {n : ℕ} (k : n ≤ 4_294_967_296) where
@@ -50,35 +45,6 @@ word-raised (negsuc n) h =
 
 pub raised-word : {x : ℤ} → Within 2_147_483_648 x → nat_abs (to_z w64 (of_z w64 (x +ℤ pos 4_294_967_296))) % 4_294_967_296 ≡ word x
 raised-word {x} h = let m : 4_294_967_296 ≤ 4_294_967_296 = omega arith in rw (raised-same h m) (word-raised x h)
-
--- ---- the product of two words fits 64 bits
-pub products-fit : {x y : ℕ} → Fits w32 x → Fits w32 y → Fits w64 (x * y)
-products-fit {x} {y} f g =
-    let a : x ≤ 4_294_967_295 = omega (arith, f.fits) in
-    let b : y ≤ 4_294_967_295 = omega (arith, g.fits) in
-    record { fits = omega (arith, mul-le-mul a b) }
-
--- ---- the sum: what is summed of the terms from i on, and d, as a word
-pub record Worded (s : List ℕ) (at : ℕ) (values : List ℤ) (K i : ℕ) (total : ℕ) : Type 0 where
-  pub sum : ℤ
-  pub summed : Summed s at values K i sum
-  pub is : total ≡ word sum
-
-module _ (s : List ℕ) (at : ℕ) (values : List ℤ) (K : ℕ) where
-  pub worded-none : {d : ℤ} {w : ℕ} → d ≡ signed (take 4 (drop (at + K * 4) s)) → Held 4 d → w ≡ word d → Worded s at values K K w
-  worded-none {d} e h q = record { sum = d; summed = summed-none s at values K e h; is = q }
-
-  pub worded-more : (all : AllWithin values) (count : length values ≡ K) {i : ℕ} {total : ℕ} → Worded s at values K i total
-      → {j : ℕ} {c : ℤ} {w : ℕ} → i ≡ suc j → c ≡ signed (take 4 (drop (at + j * 4) s)) → Held 4 c → w ≡ word c ⊗ word (get_or values j (pos 0)) ⊕ total
-      → Worded s at values K j w
-  worded-more all count p {j} {c} e read held is = record {
-    sum = c *ℤ get_or values j (pos 0) +ℤ p.sum;
-    summed = summed-more s at values K all count p.summed e read held refl;
-    is = is ∙ rw p.is (sym (word-add (c *ℤ get_or values j (pos 0)) p.sum ∙ rw (word-mul c (get_or values j (pos 0)))));
-  }
-
-  pub worded-all : {i total : ℕ} → Worded s at values K i total → i ≤ 0 → total ≡ word_value (form_at s at K) (registers values)
-  worded-all p h = p.is ∙ ap (λ (z : ℤ). word z) (summed-all s at values K p.summed h) ∙ sym (value-word (form_at s at K) (registers values))
 
 -- ---- a stride of four signed bytes
 module _ {g : ℤ} (low : pos 2 ≤ℤ g) where

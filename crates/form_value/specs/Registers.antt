@@ -13,3 +13,9 @@ pub record Registers (values : List ℤ) (K : ℕ) : Type 0 where
   pub count : length values ≡ K
   pub some : 1 ≤ K
   pub few : K ≤ edition1.constants
+
+-- The total so far is that of a number small enough for a product of a coefficient and a register to be added.
+pub record TotalSmall {S : Type 0} (of : ℤ → S) (total : S) : Type 0 where
+  pub sum : ℤ
+  pub small : Within 40_000_000_000_000_000 sum
+  pub is : total ≡ of sum

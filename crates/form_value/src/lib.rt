@@ -2,7 +2,8 @@
 // Words and what they tell are specs/Quick.antt; formula_read and the crates of lists judge stride parts by it.
 #![tactic(auto)]
 
-ghost use Rattle.std.specs.Prelude.{◌≡◌, ◌+◌, ◌*◌, ◌<◌, ◌≤◌, length, take, drop, pos, ◌+ℤ◌, ◌*ℤ◌, ◌≤ℤ◌, slice_index_or};
+ghost use Rattle.std.specs.Prelude.{◌≡◌, ℕ, ℤ, List, ◌+◌, ◌*◌, ◌<◌, ◌≤◌, length, take, drop, pos, ◌+ℤ◌, ◌*ℤ◌, ◌≤ℤ◌, slice_index_or};
+ghost use Rattle.forms.specs.Flat.{form_in};
 ghost use Rattle.integers.specs.Divides.{divb};
 ghost use Rattle.integers.specs.Magnitude.{Within};
 ghost use Rattle.forms.specs.Edition.{edition1};
@@ -10,86 +11,131 @@ ghost use Rattle.forms.specs.Forms.{value};
 ghost use Rattle.number_bytes.specs.Numbers.{signed};
 ghost use Rattle.number_bytes.specs.Ranges.{Held};
 ghost use Rattle.formula.specs.Test.{registers};
-ghost use Rattle.form_value.specs.Quick.{word, ◌⊕◌, ◌⊗◌, word_value, power, Power};
-ghost use Rattle.form_value.specs.Registers.{Registers, AllWithin};
-ghost use Rattle.form_value.specs.FormAt.{form_at, Whole, TermAsked};
+ghost use Rattle.form_value.specs.Quick.{word, power, Power};
+ghost use Rattle.form_value.specs.Registers.{Registers, TotalSmall};
+ghost use Rattle.form_value.specs.FormAt.{form_at, numbers_of, Whole};
 
 use forms::TERM_BYTES;
 use integers::{divides, number};
 use number_bytes::words::signed_at;
-use std::num::wrapping_add_u32;
 
-// The coefficient at a place times register i, and the total so far.
-fn with_term(s: &[u8], at: usize, values: &[i32], i: usize, total: i64) -> i64
-    requires term_width_in_bounds { at + edition1.term_width ≤ length s.now }
-    requires term_asked { TermAsked values.now i total }
-    ensures is { result ≡ signed (take edition1.term_width (drop at s.now)) *ℤ slice_index_or values.now i (pos 0) +ℤ total }
-    ensures range { Held edition1.term_width (signed (take edition1.term_width (drop at s.now))) }
-{
-    let c = signed_at(s, at, TERM_BYTES);
-    let x = number(values, i);
-    c * x + total
+// The numbers of a form, wherever they stand: the K coefficients, and the constant term behind them.
+pub trait Numbers: Copy {
+    ghost numbers: { Self → List ℤ };
+
+    fn number(self, i: usize) -> i64
+        requires { i < length (numbers self) }
+        ensures is { result ≡ slice_index_or (numbers self) i (pos 0) }
+        ensures range { Within 2147483648 result };
 }
 
-// From the last term to the first, so that the total is always the value of a form: that of the numbers summed so far.
-pub fn value_at(s: &[u8], at: usize, values: &[i32], k: usize) -> i64
-    requires whole { Whole s.now at k }
-    requires registers { Registers values.now k }
-    ensures { result ≡ value (form_at s.now at k) (registers values.now) }
-{
-    let mut total = signed_at(s, at + k * TERM_BYTES, TERM_BYTES);
-    let mut i = k;
-    while 0 < i {
-        i -= 1;
-        total = with_term(s, at + i * TERM_BYTES, values, i, total);
+// In the bytes of a file, four to each.
+#[derive(Clone, Copy)]
+pub struct InBytes<'a> {
+    pub bytes: &'a [u8],
+}
+
+impl<'a> Numbers for InBytes<'a> {
+    ghost numbers = { λ form. numbers_of form.bytes.now };
+
+    fn number(self, i: usize) -> i64 {
+        signed_at(self.bytes, i * TERM_BYTES, TERM_BYTES)
     }
-    total
 }
 
-// ---- in words
+// Read before.
+#[derive(Clone, Copy)]
+pub struct InNumbers<'a> {
+    pub numbers: &'a [i32],
+}
+
+impl<'a> Numbers for InNumbers<'a> {
+    ghost numbers = { λ form. form.numbers.now };
+
+    fn number(self, i: usize) -> i64 {
+        self.numbers[i] as i64
+    }
+}
+
+// What a form's value is summed in: whole numbers, or words that wrap.
+pub trait Total: Copy {
+    ghost of: { ℤ → Self };
+
+    fn of(n: i64) -> Self
+        requires { Within 2147483648 n }
+        ensures { result ≡ of n };
+
+    // A coefficient times a register, and the total so far.
+    fn with_term(self, c: i64, x: i64) -> Self
+        requires c_small { Within 2147483648 c }
+        requires x_small { Within edition1.values x }
+        requires total { TotalSmall of self }
+        ensures { (z : ℤ) → self ≡ of z → result ≡ of (c *ℤ x +ℤ z) };
+}
+
+impl Total for i64 {
+    ghost of = { λ z. z };
+
+    fn of(n: i64) -> i64 {
+        n
+    }
+
+    fn with_term(self, c: i64, x: i64) -> i64 {
+        c * x + self
+    }
+}
+
+impl Total for u32 {
+    ghost of = { word };
+
+    fn of(n: i64) -> u32 {
+        word(n)
+    }
+
+    fn with_term(self, c: i64, x: i64) -> u32 {
+        word(c).wrapping_mul(word(x)).wrapping_add(self)
+    }
+}
+
 // The word of a number.
-pub fn word(x: i64) -> u32
+fn word(x: i64) -> u32
     requires { Within 2147483648 x }
     ensures { result ≡ word x }
 {
     ((x + 0x1_0000_0000) as u64 % 0x1_0000_0000) as u32
 }
 
-// The product of two words, which wraps. (The sum is std's.)
-pub fn wrapping_mul(x: u32, y: u32) -> u32
-    ensures { result ≡ x ⊗ y }
+// The value of a form, from the last term to the first, so that the total is always that of a form: of the numbers summed so far.
+pub fn total_of<N: Numbers, T: Total>(form: N, values: &[i32], k: usize) -> T
+    requires k_in_bounds { k < length (N.numbers form) }
+    requires registers { Registers values.now k }
+    ensures { result ≡ T.of (value (form_in k (N.numbers form) 0) (registers values.now)) }
 {
-    (x as u64 * y as u64 % 0x1_0000_0000) as u32
+    let mut total = T::of(form.number(k));
+    for i in (0..k).rev() {
+        total = total.with_term(form.number(i), number(values, i));
+    }
+    total
 }
 
-// with_term in words.
-fn with_word(s: &[u8], at: usize, values: &[i32], i: usize, total: u32) -> u32
-    requires term_width_in_bounds { at + edition1.term_width ≤ length s.now }
-    requires i_in_bounds { (i < length values.now) × AllWithin values.now }
-    ensures is { result ≡ word (signed (take edition1.term_width (drop at s.now))) ⊗ word (slice_index_or values.now i (pos 0)) ⊕ total }
-    ensures range { Held edition1.term_width (signed (take edition1.term_width (drop at s.now))) }
+pub fn value_at(s: &[u8], at: usize, values: &[i32], k: usize) -> i64
+    requires whole { Whole s.now at k }
+    requires registers { Registers values.now k }
+    ensures { result ≡ value (form_at s.now at k) (registers values.now) }
 {
-    let c = word(signed_at(s, at, TERM_BYTES));
-    let x = word(number(values, i));
-    wrapping_add_u32(wrapping_mul(c, x), total)
+    total_of(InBytes { bytes: &s[at..] }, values, k)
 }
 
 // value_at in words.
 fn word_at(s: &[u8], at: usize, values: &[i32], k: usize) -> u32
     requires whole { Whole s.now at k }
     requires registers { Registers values.now k }
-    ensures { result ≡ word_value (form_at s.now at k) (registers values.now) }
+    ensures { result ≡ word (value (form_at s.now at k) (registers values.now)) }
 {
-    let mut total = word(signed_at(s, at + k * TERM_BYTES, TERM_BYTES));
-    let mut i = k;
-    while 0 < i {
-        i -= 1;
-        total = with_word(s, at + i * TERM_BYTES, values, i, total);
-    }
-    total
+    total_of(InBytes { bytes: &s[at..] }, values, k)
 }
 
-// Whether g is a power of two: it has no bit in common with the number below it.
+// Whether g is a power of two: it has no bit in common with the number below it. (`is_power_of_two` counts bits, and std has no law that ties the count to 2^e.)
 pub fn is_power(g: u32) -> bool
     requires { (2 ≤ g) × (g < 2147483648) }
     ensures { result ≡ power g }

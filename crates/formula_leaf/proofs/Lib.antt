@@ -1,4 +1,3 @@
--- Laws of masks, of sums over a form's numbers, and of leaves.
+-- Laws of masks and of leaves.
 pub mod Masks
-pub mod Sums
 pub mod Leaves

@@ -3,22 +3,18 @@
 #![tactic(auto)]
 
 ghost use Rattle.std.specs.Prelude.{◌≡◌, ◌+◌, ◌*◌, ◌%◌, ◌^◌, ◌<◌, ◌≤◌, ◌&&◌, length, take, drop, pos, ◌+ℤ◌, ◌*ℤ◌, ◌==◌, slice_index_or};
-ghost use Rattle.integers.specs.Magnitude.{Within};
-ghost use Rattle.forms.specs.Forms.{value};
 ghost use Rattle.forms.specs.Flat.{form_in};
 ghost use Rattle.formula.specs.Test.{judge, registers};
-ghost use Rattle.form_value.specs.Quick.{word, ◌⊕◌, ◌⊗◌, word_value};
-ghost use Rattle.form_value.specs.Registers.{Registers, AllWithin};
-ghost use Rattle.form_value.specs.FormAt.{form_at, Whole, TermAsked};
+ghost use Rattle.form_value.specs.Registers.{Registers};
+ghost use Rattle.form_value.specs.FormAt.{form_at, Whole};
 ghost use Rattle.formula_leaf.specs.Masks.{Marks};
 ghost use Rattle.formula.specs.TestList.{byte};
 ghost use Rattle.formula_leaf.specs.Leaves.{leaf_formula, Proper, VectorAt, Block};
 
-use form_value::{divides_word, word, wrapping_mul};
+use form_value::{InNumbers, divides_word, total_of};
 use formula_read::reading::says;
-use integers::{divides, number};
+use integers::divides;
 use number_runs::store::store_numbers;
-use std::num::wrapping_add_u32;
 
 #[derive(Clone, Copy)]
 pub enum Leaf {
@@ -30,68 +26,6 @@ pub enum Leaf {
     Stride { g: u32 },
 }
 
-// One of a form's numbers.
-fn term(numbers: &[i32], i: usize) -> i64
-    requires { i < length numbers.now }
-    ensures is { result ≡ slice_index_or numbers.now i (pos 0) }
-    ensures range { Within 2147483648 result }
-{
-    numbers[i] as i64
-}
-
-// Coefficient i times register i, and the total so far.
-fn with_term(numbers: &[i32], vector: &[i32], i: usize, total: i64) -> i64
-    requires i_in_bounds { i < length numbers.now }
-    requires term_asked { TermAsked vector.now i total }
-    ensures is { result ≡ slice_index_or numbers.now i (pos 0) *ℤ slice_index_or vector.now i (pos 0) +ℤ total }
-    ensures range { Within 2147483648 (slice_index_or numbers.now i (pos 0)) }
-{
-    let c = term(numbers, i);
-    let x = number(vector, i);
-    c * x + total
-}
-
-// The value of the form whose K + 1 numbers these are, from the last term to the first.
-fn value_of(numbers: &[i32], vector: &[i32], k: usize) -> i64
-    requires k_in_bounds { k < length numbers.now }
-    requires registers { Registers vector.now k }
-    ensures { result ≡ value (form_in k numbers.now 0) (registers vector.now) }
-{
-    let mut total = term(numbers, k);
-    let mut i = k;
-    while 0 < i {
-        i -= 1;
-        total = with_term(numbers, vector, i, total);
-    }
-    total
-}
-
-// Both in words that wrap.
-fn with_word(numbers: &[i32], vector: &[i32], i: usize, total: u32) -> u32
-    requires i_in_bounds { i < length numbers.now }
-    requires i_in_bounds_2 { (i < length vector.now) × AllWithin vector.now }
-    ensures is { result ≡ word (slice_index_or numbers.now i (pos 0)) ⊗ word (slice_index_or vector.now i (pos 0)) ⊕ total }
-    ensures range { Within 2147483648 (slice_index_or numbers.now i (pos 0)) }
-{
-    let c = word(term(numbers, i));
-    let x = word(number(vector, i));
-    wrapping_add_u32(wrapping_mul(c, x), total)
-}
-
-fn word_of(numbers: &[i32], vector: &[i32], k: usize) -> u32
-    requires k_in_bounds { k < length numbers.now }
-    requires registers { Registers vector.now k }
-    ensures { result ≡ word_value (form_in k numbers.now 0) (registers vector.now) }
-{
-    let mut total = word(term(numbers, k));
-    let mut i = k;
-    while 0 < i {
-        i -= 1;
-        total = with_word(numbers, vector, i, total);
-    }
-    total
-}
-
 // Whether a leaf is true of a vector.
 fn holds_of(leaf: Leaf, numbers: &[i32], vector: &[i32], k: usize) -> bool
     requires proper { Proper leaf }
@@ -100,9 +34,9 @@ fn holds_of(leaf: Leaf, numbers: &[i32], vector: &[i32], k: usize) -> bool
     ensures { result ≡ judge (leaf_formula leaf (form_in k numbers.now 0)) (registers vector.now) }
 {
     match leaf {
-        Leaf::Literal { equality } => says(equality, value_of(numbers, vector, k)),
-        Leaf::Power { g } => divides_word(g, word_of(numbers, vector, k)),
-        Leaf::Stride { g } => divides(g as i64, value_of(numbers, vector, k)),
+        Leaf::Literal { equality } => says(equality, total_of(InNumbers { numbers }, vector, k)),
+        Leaf::Power { g } => divides_word(g, total_of(InNumbers { numbers }, vector, k)),
+        Leaf::Stride { g } => divides(g as i64, total_of(InNumbers { numbers }, vector, k)),
     }
 }
 
