@@ -17,7 +17,7 @@ ghost use Rattle.form_value.specs.FormAt.{form_at, numbers_of, Whole};
 
 use forms::TERM_BYTES;
 use integers::{divides, number};
-use number_bytes::words::signed_at;
+use number_bytes::words::Width;
 
 // The numbers of a form, wherever they stand: the K coefficients, and the constant term behind them.
 pub trait Numbers: Copy {
@@ -39,7 +39,7 @@ impl<'a> Numbers for InBytes<'a> {
     ghost numbers = { λ form. numbers_of form.bytes.now };
 
     fn number(self, i: usize) -> i64 {
-        signed_at(self.bytes, i * TERM_BYTES, TERM_BYTES)
+        Width::Four.signed_at(self.bytes, i * TERM_BYTES)
     }
 }
 

@@ -1,12 +1,13 @@
--- Writing the bytes of a formula: one turn of the loops, and each way through the functions. Assumes nothing.
+-- Writing the bytes of a formula: one turn of the loop, and each way through the functions. Assumes nothing.
 use mathlib.Core.Path.{◌≡◌, refl, sym, ap, ◌∙◌}
 use mathlib.Core.List.{List, [], ◌∷◌, ◌++◌, map}
-use Prim.Native.Nat.{ℕ, zero, suc, ◌+◌, ◌*◌, ◌≤◌, ◌<◌}
+use Prim.Native.Nat.{ℕ, suc, ◌+◌, ◌*◌, ◌≤◌, ◌<◌}
 use native.Mathlib.Omega.{arith}
 use lib.IntN.{ℤ, pos, negsuc, nat_abs}
-use lib.ListN.{length, get_or, take, drop, drop_of_length-le, length-drop, length-append, length-map}
+use lib.ListN.{length, get_or, drop, drop_of_length-le, length-drop, length-append, length-map}
 use lib.Seq.{sets, length-sets, drop-cons, length-take-le, get_or-take, get_or-drop}
 use lib.Signed.{mag, ◌≤ℤ◌}
+use Rattle.std.proofs.lemmas.List.{get_or-map, map-id, map-append}
 use Rattle.integers.specs.Magnitude.{Within}
 use Rattle.integers.proofs.Differences.{ints}
 use Rattle.integers.specs.Remainder.{remainder}
@@ -48,12 +49,6 @@ held-remainder {g} s z =
     let two : 2 ≤ nat_abs g = (magnitude g s.low).0 in
     record { held = record { half = omega (arith, remainder-below {g = nat_abs g} (omega (arith, two)) z, (magnitude g s.low).1, s.held.held.half) } }
 
-mapped : (f : ℤ → ℤ) (l : List ℤ) (d : ℤ) (x : ℕ) → x ≤ length l → get_or (map f l ++ (f d ∷ [])) x (pos 0) ≡ f (get_or (l ++ (d ∷ [])) x (pos 0))
-mapped f [] d zero h = refl
-mapped f [] d (suc x) h = absurd (omega arith)
-mapped f (c ∷ l) d zero h = refl
-mapped f (c ∷ l) d (suc x) h = mapped f l d x (omega arith)
-
 pub reduced-size : {K : ℕ} (g : ℕ) (f : Form) → length f.coeffs ≡ K → length (reduced g f).coeffs ≡ K
 unfolding reduced
 reduced-size g f h = length-map f.coeffs (λ (c : ℤ). pos (remainder g c)) ∙ h
@@ -69,21 +64,26 @@ module _ {K : ℕ} {buf : List ℤ} {at : ℕ} (n : Numbered K buf at) where
   unfolding flat
   form-long = length-append (form_in K buf at).coeffs ((form_in K buf at).d ∷ []) ∙ rw coeffs-long
 
-  pub reduced-form-long : (g : ℕ) → length (flat (reduced g (form_in K buf at))) ≡ K + 1
-  unfolding flat
-  reduced-form-long g = length-append (reduced g (form_in K buf at)).coeffs ((reduced g (form_in K buf at)).d ∷ []) ∙ rw (reduced-long g)
-
   pub form-number : (x : ℕ) → x ≤ K → get_or (flat (form_in K buf at)) x (pos 0) ≡ get_or buf (at + x) (pos 0)
   unfolding flat
   form-number x h = ap (λ (l : List ℤ). get_or l x (pos 0)) (sym (part-form at K buf n.room)) ∙ get_or-take (K + 1) (drop at buf) x (pos 0) (omega arith) ∙ get_or-drop at buf x (pos 0)
 
-  pub reduced-number : (g x : ℕ) → x ≤ K → get_or (flat (reduced g (form_in K buf at))) x (pos 0) ≡ pos (remainder g (get_or buf (at + x) (pos 0)))
-  unfolding flat reduced
-  reduced-number g x h =
-      mapped (λ (c : ℤ). pos (remainder g c)) (take K (drop at buf)) (get_or buf (at + K) (pos 0)) x (omega (arith, coeffs-long))
-      ∙ ap (λ (c : ℤ). pos (remainder g c)) (form-number x h)
+  pub written-long : (f : ℤ → ℤ) → length (map f (flat (form_in K buf at))) ≡ K + 1
+  written-long f = length-map (flat (form_in K buf at)) f ∙ form-long
 
--- ---- the loops
+  pub written-number : (f : ℤ → ℤ) (x : ℕ) → x ≤ K → get_or (map f (flat (form_in K buf at))) x (pos 0) ≡ f (get_or buf (at + x) (pos 0))
+  written-number f x h = get_or-map f (flat (form_in K buf at)) x (pos 0) (pos 0) (omega (arith, form-long)) ∙ ap f (form-number x h)
+
+-- each number written as it is, and as its remainder
+pub flat-same : (t : Form) → signeds_bytes 4 (map (λ (z : ℤ). z) (flat t)) ≡ form_bytes 4 t
+unfolding form_bytes
+flat-same t = ap (signeds_bytes 4) (map-id (flat t))
+
+pub flat-reduced : (g : ℕ) (t : Form) → signeds_bytes 4 (map (λ (z : ℤ). pos (remainder g z)) (flat t)) ≡ form_bytes 4 (reduced g t)
+unfolding form_bytes flat reduced
+flat-reduced g t = ap (signeds_bytes 4) (map-append (λ (z : ℤ). pos (remainder g z)) t.coeffs (t.d ∷ []))
+
+-- ---- the loop
 -- What is left to write gives what the whole gives.
 pub record Putting (zs : List ℤ) (out₀ : List ℕ) (o : ℕ) (out : List ℕ) (x : ℕ) : Type 0 where
   pub is : sets out (o + 4 * x) (signeds_bytes 4 (drop x zs)) ≡ sets out₀ o (signeds_bytes 4 zs)
@@ -115,10 +115,6 @@ module _ {zs : List ℤ} {out₀ : List ℕ} {o : ℕ} {out : List ℕ} {x : ℕ
   pub putting-end : length zs ≤ x → out ≡ sets out₀ o (signeds_bytes 4 zs)
   unfolding signeds_bytes
   putting-end h = rw (drop_of_length-le zs h) at v.is
-
-pub form-end : (t : Form) {out₀ : List ℕ} {o : ℕ} {out : List ℕ} {x : ℕ} → Putting (flat t) out₀ o out x → length (flat t) ≤ x → out ≡ sets out₀ o (form_bytes 4 t)
-unfolding form_bytes
-form-end t v h = putting-end v h
 
 -- ---- the fields
 length-literal : (k : Kind) (t : Form) → length (encode edition1 (literal k t)) ≡ 3 + length (form_bytes 4 t)

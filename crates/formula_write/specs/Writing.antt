@@ -26,6 +26,14 @@ pub record Divisor (g : ℤ) : Type 0 where
   pub low : pos 2 ≤ℤ g
   pub held : Held edition1.term_width g
 
+-- How a number of a form is written may be asked of each, and gives one of four bytes; f is what it gives.
+pub record Writes (asked : ℤ → Type 0) (gives : ℤ → ℤ → Type 0) : Type 0 where
+  pub callable : (z : ℤ) → Within edition1.range z → asked z
+  pub held : (z r : ℤ) → Within edition1.range z → gives z r → Held edition1.term_width r
+
+pub record Gives (gives : ℤ → ℤ → Type 0) (f : ℤ → ℤ) : Type 0 where
+  pub is : (z r : ℤ) → Within edition1.range z → gives z r → r ≡ f z
+
 -- The bytes of I stand from o on, if there is room for them; o' is behind them.
 pub record Puts (scratch : List ℕ) (o : ℕ) (I : Formula) (scratch' : List ℕ) (o' : ℕ) : Type 0 where
   pub long : length scratch' ≡ length scratch

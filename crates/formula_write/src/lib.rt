@@ -2,47 +2,39 @@
 // The bytes are those of `encode` (formula/specs/Formula.antt): specs/Writing.antt. closes, openings and branches call it.
 #![tactic(auto)]
 
-ghost use Rattle.std.specs.Prelude.{◌≡◌, [], ◌++◌, ◌+◌, ◌*◌, ◌≤◌, nat_abs, length};
+ghost use Rattle.std.specs.Prelude.{◌≡◌, ℤ, map, [], ◌++◌, ◌+◌, ◌*◌, ◌≤◌, nat_abs, length, pos};
 ghost use Rattle.std.proofs.lemmas.List.Edits.{sets};
+ghost use Rattle.integers.specs.Remainder.{remainder};
 ghost use Rattle.forms.specs.Edition.{edition1};
 ghost use Rattle.forms.specs.Forms.{literal, ◌divides◌};
 ghost use Rattle.forms.specs.Reduced.{reduced};
 ghost use Rattle.forms.specs.Flat.{kind_of, form_in};
-ghost use Rattle.number_bytes.specs.Numbers.{form_bytes};
+ghost use Rattle.number_bytes.specs.Numbers.{flat, signeds_bytes};
 ghost use Rattle.fields.specs.Fields.{field_bytes};
-ghost use Rattle.formula_write.specs.Writing.{scratch_limit, Numbered, Divisor, Heads, Puts, Stores, or_bytes, template_size, filled};
+ghost use Rattle.formula_write.specs.Writing.{scratch_limit, Numbered, Divisor, Heads, Puts, Stores, or_bytes, template_size, filled, Writes, Gives};
 
 use fields::header::put_head;
 use integers::{number, remainder};
 use number_bytes::copy::copy_bytes;
-use number_bytes::words::put_signed;
+use number_bytes::words::Width;
 
-// The numbers of the form at a place, of four bytes each.
-fn put_form(numbers: &[i32], at: usize, k: usize, scratch: &mut [u8], o: usize)
+// The numbers of the form at a place, of four bytes each, as `written` gives them.
+fn put_numbers<F: Fn(i64) -> i64>(
+    numbers: &[i32],
+    at: usize,
+    k: usize,
+    written: F,
+    scratch: &mut [u8],
+    o: usize,
+)
     requires numbered { Numbered k numbers.now at }
     requires k_in_bounds { o + edition1.term_width * (k + 1) ≤ length scratch.old }
-    ensures { scratch.new ≡ sets scratch.old o (form_bytes edition1.term_width (form_in k numbers.now at)) }
+    requires written { Writes (F.pre written) (F.post written) }
+    ensures { (f : ℤ → ℤ) → Gives (F.post written) f → scratch.new ≡ sets scratch.old o (signeds_bytes edition1.term_width (map f (flat (form_in k numbers.now at)))) }
 {
-    let mut x = 0;
-    while x <= k {
+    for x in 0..k + 1 {
         let n = number(numbers, at + x);
-        put_signed(scratch, o + 4 * x, 4, n);
-        x += 1;
-    }
-}
-
-// The same with each number as its remainder from 0 to g-1.
-fn put_reduced(numbers: &[i32], at: usize, k: usize, g: i64, scratch: &mut [u8], o: usize)
-    requires numbered { Numbered k numbers.now at × Divisor g }
-    requires k_in_bounds { o + edition1.term_width * (k + 1) ≤ length scratch.old }
-    ensures { scratch.new ≡ sets scratch.old o (form_bytes edition1.term_width (reduced (nat_abs g) (form_in k numbers.now at))) }
-{
-    let mut x = 0;
-    while x <= k {
-        let n = number(numbers, at + x);
-        let r = remainder(n, g);
-        put_signed(scratch, o + 4 * x, 4, r);
-        x += 1;
+        Width::Four.put_signed(scratch, o + 4 * x, written(n));
     }
 }
 
@@ -77,13 +69,9 @@ pub fn put_literal(
     if scratch.len() < end {
         return end;
     }
-    if kind == 0 {
-        put_head(scratch, o, 0x33, len);
-        put_form(numbers, at, k, scratch, o + 3);
-        return end;
-    }
-    put_head(scratch, o, 0x34, len);
-    put_form(numbers, at, k, scratch, o + 3);
+    let tag = if kind == 0 { 0x33 } else { 0x34 };
+    put_head(scratch, o, tag, len);
+    put_numbers(numbers, at, k, |n| n, scratch, o + 3);
     end
 }
 
@@ -106,8 +94,12 @@ pub fn put_stride(
         return end;
     }
     put_head(scratch, o, 0x35, len);
-    put_signed(scratch, o + 3, 4, g);
-    put_reduced(numbers, at, k, g, scratch, o + 7);
+    Width::Four.put_signed(scratch, o + 3, g);
+    let reduced = move |n: i64| -> i64
+        requires { Divisor g }
+        ensures { result ≡ pos (remainder (nat_abs g) n) }
+    { remainder(n, g) };
+    put_numbers(numbers, at, k, reduced, scratch, o + 7);
     end
 }
 
@@ -135,7 +127,7 @@ fn put_filled(template: &[u8], d: i64, k: usize, g: i64, scratch: &mut [u8], o: 
     }
     copy_bytes(template, 0, len, scratch, o);
     let r = remainder(d, g);
-    put_signed(scratch, o + len, 4, r);
+    Width::Four.put_signed(scratch, o + len, r);
     end
 }
 

@@ -1,6 +1,5 @@
 -- `formula_write::put_filled` meets its contract. Assumes nothing.
 use native.Mathlib.Omega.{arith}
-use mathlib.Core.Logic.{inr}
 use mathlib.Core.Path.{refl, ◌∙◌}
 use lib.IntN.{nat_abs}
 use mir.Syntax.{w64}
@@ -17,7 +16,7 @@ pub put_signed-requires : goal.put_signed-requires
 put_signed-requires c =
     let fits = c.ranges.g in
     let e = to_z-of_z w64 c.remainder-r.result (record { sfits = c.remainder-r.type_inv }) in
-    record { fact = inr refl; width_in_bounds = omega arith; held = rw (e, c.remainder-r.ensures) (simp to_z-of_z (held-remainder c.requires.k_le_constants.2 _)) }
+    record { at_in_bounds = omega arith; held = rw (e, c.remainder-r.ensures) (simp to_z-of_z (held-remainder c.requires.k_le_constants.2 _)) }
 
 pub returns : goal.returns
 returns c =

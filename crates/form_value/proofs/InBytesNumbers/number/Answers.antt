@@ -7,8 +7,8 @@ use Rattle.form_value.proofs.InBytesNumbers.number.Goals as goal
 pub overflow_mul-i : goal.overflow_mul-i
 overflow_mul-i c = let room = numbers-within _ c.requires in record { fits = omega (arith, c.ranges.self.0) }
 
-pub signed_at-requires-clause-width_in_bounds : goal.signed_at-requires-clause-width_in_bounds
-signed_at-requires-clause-width_in_bounds c = numbers-within _ c.requires
+pub signed_at-requires : goal.signed_at-requires
+signed_at-requires c = numbers-within _ c.requires
 
 pub returns : goal.returns
 returns c =
