@@ -1,8 +1,8 @@
 // Forms, constraints, lines and formulas, and what they say: specs/. Here are the numbers of lines and rows, and the limits that
-// code tests, as specs/Edition.antt has them. Document 01, "Forms and lines", "Fields" and "Test a formula"; document 02, points 1 and 3.
+// code tests, as specs/Edition.antt has them.
 #![tactic(auto)]
 
-ghost use Rattle.std.specs.Prelude.{◌≡◌};
+ghost use Rattle.std.specs.Prelude.{◌≡◌, cond, eqb};
 ghost use Rattle.forms.specs.Edition.{edition};
 
 // The newest edition that is read; the others are 1 up to it.
@@ -56,34 +56,37 @@ pub const LEVELS: usize = 600;
 pub const VALUES: i64 = 1000000;
 
 // ---- what differs between editions, by the edition's number
+// That of edition 1, or that of every later one.
+fn by_edition<T: Copy>(number: u8, first: T, later: T) -> T
+    ensures { result ≡ cond (eqb number 1) first later }
+{
+    if number == 1 { first } else { later }
+}
+
 // How many bytes a number of a bundle has.
 pub fn coefficient_bytes(number: u8) -> usize
     ensures { result ≡ (edition number).coefficient_width }
 {
-    if number == 1 { 2 } else { 4 }
+    by_edition(number, 2, 4)
 }
 
 // How many bytes a line number has in a proof.
 pub fn line_bytes(number: u8) -> usize
     ensures { result ≡ (edition number).line_width }
 {
-    if number == 1 { 1 } else { 2 }
+    by_edition(number, 1, 2)
 }
 
 // The most lines on a branch.
 pub fn lines_limit(number: u8) -> u16
     ensures { result ≡ (edition number).lines }
 {
-    if number == 1 { LINES_1 } else { LINES }
+    by_edition(number, LINES_1, LINES)
 }
 
 // The most bytes of a bundle.
 pub fn bundle_limit(number: u8) -> usize
     ensures { result ≡ (edition number).bundle_bytes }
 {
-    if number == 1 {
-        BUNDLE_BYTES_1
-    } else {
-        BUNDLE_BYTES
-    }
+    by_edition(number, BUNDLE_BYTES_1, BUNDLE_BYTES)
 }

@@ -1,6 +1,6 @@
 -- What keeps a result within a machine word. Assumes nothing.
 use Prim.Native.Nat.{ℕ, ◌+◌, ◌*◌, ◌≤◌}
-use native.Mathlib.Nat.{mul-le-mul, le_refl}
+use native.Mathlib.Nat.{mul-le-mul}
 use native.Mathlib.Omega.{arith}
 use mathlib.Core.Path.{◌≡◌}
 use lib.Dec.{T, leb, leb→le}
@@ -60,7 +60,3 @@ module _ {a x b y : ℤ} (f : Factors a x b y) where
 
   pub sum_fits : SFits w64 (a *ℤ x +ℤ b *ℤ y)
   sum_fits = within-fits (within-add (within-mul f.a_in f.x_in) (within-mul f.b_in f.y_in)) tt
-
--- A literal.
-pub literal-fits : {z : ℤ} → T (leb (nat_abs z) 9223372036854775807) → SFits w64 z
-literal-fits {z} t = within-fits {k = nat_abs z} (record { abs = le_refl (nat_abs z) }) t

@@ -16,7 +16,7 @@ pub fn number(numbers: &[i32], at: usize) -> i64
     numbers[at] as i64
 }
 
-// All numbers of t and tA stay within ± this. Document 01, "Forms and lines".
+// All numbers of t and tA stay within ± this.
 const RANGE: i64 = 2147483647;
 
 const LEAST: i64 = -RANGE;
@@ -40,13 +40,11 @@ pub fn divides(g: i64, x: i64) -> bool
 fn is_residue(x: i64, g: i64) -> bool
     ensures { result ≡ le_z (pos 0) x && lt_z x g }
 {
-    if 0 <= x {
-        return x < g;
-    }
-    false
+    0 <= x && x < g
 }
 
-// The remainder of x from 0 to g-1. (That of the machine has the sign of x.) Most numbers are their own, and a division takes long.
+// The remainder of x from 0 to g-1. Most numbers are their own, and a division takes long.
+#[tactic(auto, unfolding(crate::specs::Remainder::remainder))]
 pub fn remainder(x: i64, g: i64) -> i64
     requires { (pos 2) ≤ℤ g }
     ensures { result ≡ pos (remainder (nat_abs g) x) }
@@ -54,13 +52,10 @@ pub fn remainder(x: i64, g: i64) -> i64
     if is_residue(x, g) {
         return x;
     }
-    let r = x % g;
-    if r < 0 {
-        return r + g;
-    }
-    r
+    x.rem_euclid(g)
 }
 
+// Comparisons by name: each tells its answer in ℤ, where the operator's test is told of the machine's words.
 pub fn is_zero(x: i64) -> bool
     ensures { result ≡ eq_z x (pos 0) }
 {
@@ -89,5 +84,5 @@ pub fn same(x: i64, y: i64) -> bool
 pub fn between(x: u8, low: u8, high: u8) -> bool
     ensures { result ≡ (leb low x && leb x high) }
 {
-    if low <= x { x <= high } else { false }
+    low <= x && x <= high
 }
