@@ -8,13 +8,15 @@ use lib.ListN.{length, take, length-append}
 use lib.Seq.{sets, sets-eq, length-take-le}
 use borrow.Author.Tests.{le-leb, lt-leb}
 use Rattle.answers.specs.declared.Answer.{Answer}
+use Rattle.answers.specs.Refusals.{number_of}
 use Rattle.answers.specs.Answers.{answer, acceptance, refused, accepted, ◌>>◌, need, Written, over, fit, written}
 use Rattle.answers.specs.declared.WriteResult.{WriteResult}
 use Rattle.fields.specs.declared.FileKind.{FileKind}
 use Rattle.fields.specs.Header.{header_bytes}
 use Rattle.fields.proofs.Headers.{length-header_bytes}
 use Rattle.fields.specs.Ending.{IsEnding}
-use Rattle.fields.specs.declared.ending.Ending.{Ending}
+use Rattle.std.specs.Prelude.{Ok, Err}
+use Rattle.answers.specs.declared.refusals.Fault.{Fault}
 use Rattle.number_bytes.proofs.Stores.{sets-append}
 use Rattle.check_output.specs.Output.{file_within, ScratchHolds, Delivers, Finishes}
 
@@ -75,11 +77,11 @@ module _ {K : ℕ} {S : List ℕ} {o : ℕ} {out : List ℕ} where
     }
 
 -- ---- what follows the root
-module _ {P : List ℕ} {at : ℕ} {e : Ending} (k : IsEnding FileKind.Proof P at e) {K : ℕ} {S : List ℕ} {o : ℕ} {out : List ℕ} where
-  pub finish-fault : {number place : ℕ} {r : WriteResult} → e ≡ Ending.Fault number place → r ≡ unwritten number 3 place → Finishes K P at S o out out r
+module _ {P : List ℕ} {at K : ℕ} {S : List ℕ} {o : ℕ} {out : List ℕ} where
+  pub finish-fault : {e : Fault} {r : WriteResult} → IsEnding FileKind.Proof P at (Err e) → r ≡ unwritten (number_of e.refusal) 3 e.place → Finishes K P at S o out out r
   unfolding ◌>>◌ written
-  finish-fault q f = record { is = λ bytes x. rw (k.is 3, q, f) }
+  finish-fault k f = record { is = λ bytes x. rw (k.is 3, f) }
 
-  pub finish-ended : {out' : List ℕ} {r : WriteResult} → e ≡ Ending.Ended → Delivers K S o out out' r → Finishes K P at S o out out' r
+  pub finish-ended : {out' : List ℕ} {r : WriteResult} → IsEnding FileKind.Proof P at (Ok tt) → Delivers K S o out out' r → Finishes K P at S o out out' r
   unfolding ◌>>◌
-  finish-ended q l = record { is = λ bytes x. rw (k.is 3, q) (l.is bytes x) }
+  finish-ended k l = record { is = λ bytes x. rw (k.is 3) (l.is bytes x) }

@@ -4,20 +4,23 @@
 
 ghost use Rattle.std.specs.Prelude.{◌≡◌};
 ghost use Rattle.answers.specs.Answers.{answer};
+ghost use Rattle.answers.specs.Refusals.{number_of};
 ghost use Rattle.check_output.specs.Output.{InScratch, Delivers, Finishes};
 
 use answers::WriteResult;
+use answers::refusals::Refusal;
 use fields::FileKind;
-use fields::ending::{Ending, ending_at};
+use fields::ending::ending_at;
 use fields::header::put_header;
 use forms::FORMULA_BYTES;
-use number_bytes::copy::copy_bytes;
 
-pub fn refusal(number: u8, file: u8, place: usize) -> WriteResult
-    ensures { result ≡ record { answer = answer number file place; count = 0 } }
+pub fn refusal(refusal: Refusal, file: u8, place: usize) -> WriteResult
+    ensures { result ≡ record { answer = answer (number_of refusal) file place; count = 0 } }
 {
-    let answer = answers::refusal(number, file, place);
-    WriteResult { answer, count: 0 }
+    WriteResult {
+        answer: answers::refusal(refusal, file, place),
+        count: 0,
+    }
 }
 
 // The two header fields and the o first bytes of the scratch, if a formula's file may be so long, and the output has room for them. 1, 21.
@@ -27,16 +30,15 @@ fn deliver(scratch: &[u8], o: usize, k: u8, out: &mut [u8]) -> WriteResult
 {
     let needed = 8 + o;
     if needed > FORMULA_BYTES {
-        return refusal(1, 4, needed);
+        return refusal(Refusal::TooLong, 4, needed);
     }
     if out.len() < needed {
-        return refusal(21, 4, needed);
+        return refusal(Refusal::OutputTooShort, 4, needed);
     }
     put_header(out, 1, k);
-    copy_bytes(scratch, 0, o, out, 8);
-    let answer = answers::acceptance();
+    out[8..needed].copy_from_slice(&scratch[..o]);
     WriteResult {
-        answer,
+        answer: answers::acceptance(),
         count: needed,
     }
 }
@@ -54,7 +56,7 @@ pub fn finish(
     ensures { Finishes k proof.now at scratch.now o out.old out.new result }
 {
     match ending_at(proof, at, FileKind::Proof) {
-        Ending::Ended => deliver(scratch, o, k, out),
-        Ending::Fault { number, at: place } => refusal(number, 3, place),
+        Ok(()) => deliver(scratch, o, k, out),
+        Err(fault) => refusal(fault.refusal, 3, fault.place),
     }
 }

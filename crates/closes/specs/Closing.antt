@@ -1,5 +1,5 @@
 -- What the tests of a close row tell. Assumes nothing.
-use Rattle.std.specs.Prelude as rust
+use Rattle.std.specs.declared.result.Result as code
 use Rattle.std.specs.Prelude.{◌≡◌, List, ℕ, ℤ, get_or, Ok, Err}
 use Rattle.forms.specs.Flat.{kind_of}
 use Rattle.forms.specs.Forms.{Formula, literal}
@@ -13,7 +13,7 @@ use Rattle.tally.specs.declared.Tally.{Tally}
 
 -- What a test answers.
 abbrev pub Test : Type 0
-Test = rust.Result (Unit {0}) Refusal
+Test = code.Result (Unit {0}) Refusal
 
 -- The result by the code's answer: the refusal at this row, whatever that is (f is handed it as a function of its number), or the formula I.
 abbrev pub TestedBy : (f : (ℕ → Answer) → Result Formula) (I : Formula) → Test → Type 0

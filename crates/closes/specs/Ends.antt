@@ -1,5 +1,5 @@
 -- The rows that close a branch, with the formula's bytes. Assumes nothing.
-use Rattle.std.specs.Prelude as rust
+use Rattle.std.specs.declared.result.Result as code
 use Rattle.std.specs.Prelude.{◌≡◌, List, ℕ, ◌+◌, ◌≤◌, length, Ok, Err}
 use Rattle.forms.specs.Forms.{Formula}
 use Rattle.answers.specs.declared.Answer.{Answer}
@@ -17,7 +17,7 @@ pub record Wrote (f : (ℕ → Answer) → Result Formula) (scratch : List ℕ) 
 
 -- The place behind the formula's bytes, or the refusal.
 abbrev pub End : Type 0
-End = rust.Result ℕ Refusal
+End = code.Result ℕ Refusal
 
 abbrev pub EndedBy : (f : (ℕ → Answer) → Result Formula) (scratch : List ℕ) (o : ℕ) (scratch' : List ℕ) → End → Type 0
 EndedBy f scratch o scratch' (Err x) = ((refusal : ℕ → Answer) → f refusal ≡ refused (refusal (number_of x))) × (length scratch' ≡ length scratch)
