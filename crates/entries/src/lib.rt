@@ -2,13 +2,18 @@
 // The definition is proof/specs/Entries.antt; specs/Entries.antt has the code's answers as its entries.
 #![tactic(auto)]
 
-ghost use Rattle.std.specs.Prelude.{◌≡◌, ◌+◌, ◌≤◌, length, take, drop};
+ghost use Rattle.std.specs.Prelude.{◌≡◌, ◌≢◌, ◌+◌, ◌*◌, ◌<◌, ◌≤◌, length, MatchResult};
 ghost use Rattle.forms.specs.Edition.{edition, edition1};
-ghost use Rattle.number_bytes.specs.Numbers.{unsigned};
-ghost use Rattle.proof.specs.Entries.{combine_tag, reduce_tag, scale_tag, strengthen_tag, number_tag, stride_tag, round_tag, split_tag};
-ghost use Rattle.entries.specs.Entries.{Multiplies, Shaped, claimed, Entered};
+ghost use Rattle.number_bytes.specs.Numbers.{unsigned, signed};
+ghost use Rattle.number_bytes.specs.Ranges.{Held};
+ghost use Rattle.proof.specs.Entries.{line_number, multiplier};
+ghost use Rattle.answers.specs.declared.refusals.Refusal.TheVariants.{WrongLength};
+ghost use Rattle.entries.specs.Entries.{Entered};
 
+use answers::refusals::Refusal;
 use forms::{LineNumber, MULTIPLIER_BYTES, TERM_BYTES, line_bytes};
+use number_bytes::numbers::unsigned_at;
+use number_bytes::words::Width;
 
 #[derive(Clone, Copy)]
 pub enum Entry {
@@ -46,205 +51,141 @@ pub enum Entry {
     Split {
         t: LineNumber,
     },
-    // The contents of a claim start there.
-    Claim {
-        start: usize,
-    },
-    Refused {
-        number: u8,
-    },
+    // The contents are a claim's.
+    Claim,
 }
 
 // A number of t and one of tA, of which a claim has k + 1.
 const PAIR_BYTES: usize = 2 * TERM_BYTES;
 
-// A line number, as wide as the proof's edition has it. Two calls, so that the compiler makes a load for each width.
-fn line_at(p: &[u8], at: usize, e: u8) -> LineNumber
-    requires { at + (edition e).line_width ≤ length p.now }
-    ensures { result.0 ≡ unsigned (take (edition e).line_width (drop at p.now)) }
-{
-    if e == 1 {
-        let n = number_bytes::numbers::unsigned_at(p, at, 1);
-        return LineNumber(n as u16);
-    }
-    let n = number_bytes::numbers::unsigned_at(p, at, 2);
-    LineNumber(n as u16)
+// The contents of a row: so many line numbers, and behind these so many multipliers (or g, or what a rounding rounds by).
+#[derive(Clone, Copy)]
+struct Row<'a> {
+    contents: &'a [u8],
+    e: u8,
+    lines: usize,
+    multipliers: usize,
+    ghost laid_out: { length contents.now ≡ lines * (edition e).line_width + multipliers * edition1.multiplier_width },
 }
 
-// A multiplier or g.
-fn multiplier_at(p: &[u8], at: usize) -> i64
-    requires { at + edition1.multiplier_width ≤ length p.now }
-    ensures { Multiplies (unsigned (take edition1.multiplier_width (drop at p.now))) result }
-{
-    let n = number_bytes::numbers::unsigned_at(p, at, MULTIPLIER_BYTES);
-    n as i64
-}
-
-fn combine_at(p: &[u8], start: usize, len: usize, e: u8) -> Entry
-    requires { start + len ≤ length p.now }
-    ensures { Shaped e combine_tag p.now start len result }
-{
-    let width = line_bytes(e);
-    if len == 2 * width + 2 * MULTIPLIER_BYTES {
-        let s = line_at(p, start, e);
-        let t = line_at(p, start + width, e);
-        let alpha = multiplier_at(p, start + 2 * width);
-        let beta = multiplier_at(p, start + 2 * width + MULTIPLIER_BYTES);
-        return Entry::Combine { s, t, alpha, beta };
-    }
-    Entry::Refused { number: 6 }
-}
-
-// Only here the multiplier is signed.
-fn reduce_at(p: &[u8], start: usize, len: usize, e: u8) -> Entry
-    requires { start + len ≤ length p.now }
-    ensures { Shaped e reduce_tag p.now start len result }
-{
-    let width = line_bytes(e);
-    if len == 2 * width + MULTIPLIER_BYTES {
-        let s = line_at(p, start, e);
-        let t = line_at(p, start + width, e);
-        let alpha = number_bytes::words::signed_at(p, start + 2 * width, MULTIPLIER_BYTES);
-        return Entry::Reduce { s, t, alpha };
-    }
-    Entry::Refused { number: 6 }
-}
-
-fn scale_at(p: &[u8], start: usize, len: usize, e: u8) -> Entry
-    requires { start + len ≤ length p.now }
-    ensures { Shaped e scale_tag p.now start len result }
-{
-    let width = line_bytes(e);
-    if len == width + MULTIPLIER_BYTES {
-        let t = line_at(p, start, e);
-        let alpha = multiplier_at(p, start + width);
-        return Entry::Scale { t, alpha };
-    }
-    Entry::Refused { number: 6 }
-}
-
-fn strengthen_at(p: &[u8], start: usize, len: usize, e: u8) -> Entry
-    requires { start + len ≤ length p.now }
-    ensures { Shaped e strengthen_tag p.now start len result }
-{
-    let width = line_bytes(e);
-    if len == width {
-        let t = line_at(p, start, e);
-        return Entry::Strengthen { t };
-    }
-    Entry::Refused { number: 6 }
-}
-
-fn number_at(p: &[u8], start: usize, len: usize, e: u8) -> Entry
-    requires { start + len ≤ length p.now }
-    ensures { Shaped e number_tag p.now start len result }
-{
-    let width = line_bytes(e);
-    if len == width {
-        let t = line_at(p, start, e);
-        return Entry::CloseNumber { t };
-    }
-    Entry::Refused { number: 6 }
-}
-
-fn stride_at(p: &[u8], start: usize, len: usize, e: u8) -> Entry
-    requires { start + len ≤ length p.now }
-    ensures { Shaped e stride_tag p.now start len result }
-{
-    let width = line_bytes(e);
-    if len == width + MULTIPLIER_BYTES {
-        let t = line_at(p, start, e);
-        let g = multiplier_at(p, start + width);
-        return Entry::CloseStride { t, g };
-    }
-    Entry::Refused { number: 6 }
-}
-
-// What a rounding rounds by.
-fn rounding_at(p: &[u8], at: usize) -> u16
-    requires { at + edition1.multiplier_width ≤ length p.now }
-    ensures { result ≡ unsigned (take edition1.multiplier_width (drop at p.now)) }
-{
-    let n = number_bytes::numbers::unsigned_at(p, at, MULTIPLIER_BYTES);
-    n as u16
-}
-
-fn round_at(p: &[u8], start: usize, len: usize, e: u8) -> Entry
-    requires { start + len ≤ length p.now }
-    ensures { Shaped e round_tag p.now start len result }
-{
-    let width = line_bytes(e);
-    if len == width + 2 * MULTIPLIER_BYTES {
-        let t = line_at(p, start, e);
-        let g = multiplier_at(p, start + width);
-        let by = rounding_at(p, start + width + MULTIPLIER_BYTES);
-        return Entry::Round { t, g, by };
-    }
-    Entry::Refused { number: 6 }
-}
-
-fn split_at(p: &[u8], start: usize, len: usize, e: u8) -> Entry
-    requires { start + len ≤ length p.now }
-    ensures { Shaped e split_tag p.now start len result }
-{
-    let width = line_bytes(e);
-    if len == width {
-        let t = line_at(p, start, e);
-        return Entry::Split { t };
-    }
-    Entry::Refused { number: 6 }
-}
-
-fn claim_at(start: usize, len: usize, k: usize, made: bool) -> Entry
-    requires { k ≤ edition1.constants }
-    ensures { result ≡ claimed k start len made }
-{
-    if made {
-        if len == PAIR_BYTES * (k + 1) {
-            return Entry::Claim { start };
+impl<'a> Row<'a> {
+    // In a proof of edition e. 6.
+    fn of(contents: &'a [u8], e: u8, lines: usize, multipliers: usize) -> Result<Row<'a>, Refusal>
+        requires lines_bound { lines ≤ 2 }
+        requires multipliers_bound { multipliers ≤ 2 }
+        ensures { MatchResult result
+            (λ row. (row.contents.now ≡ contents.now) × (row.e ≡ e) × (row.lines ≡ lines) × (row.multipliers ≡ multipliers))
+            (λ r. (r ≡ WrongLength) × (length contents.now ≢ lines * (edition e).line_width + multipliers * edition1.multiplier_width)) }
+    {
+        if contents.len() != lines * line_bytes(e) + multipliers * MULTIPLIER_BYTES {
+            return Err(Refusal::WrongLength);
         }
-        return Entry::Refused { number: 6 };
+        Ok(Row {
+            contents,
+            e,
+            lines,
+            multipliers,
+        })
     }
-    Entry::Refused { number: 4 }
+
+    // Line number i, as wide as the proof's edition has it. Two calls, so that the compiler makes a load for each width.
+    #[tactic(auto, using(std::proofs::lemmas::Bool::Decides::nat_tests), unfolding(proof::specs::Entries::line_number))]
+    fn line(&self, i: usize) -> LineNumber
+        requires { i < self.now.lines }
+        ensures { result.0 ≡ line_number (edition self.now.e) i self.now.contents.now }
+    {
+        let n = if self.e == 1 {
+            unsigned_at(self.contents, i, 1)
+        } else {
+            unsigned_at(self.contents, i * 2, 2)
+        };
+        LineNumber(n as u16)
+    }
+
+    // Multiplier i.
+    #[tactic(auto, unfolding(proof::specs::Entries::multiplier))]
+    fn multiplier(&self, i: usize) -> u16
+        requires { i < self.now.multipliers }
+        ensures { result ≡ unsigned (multiplier (edition self.now.e) self.now.lines i self.now.contents.now) }
+    {
+        let at = self.lines * line_bytes(self.e) + i * MULTIPLIER_BYTES;
+        unsigned_at(self.contents, at, MULTIPLIER_BYTES) as u16
+    }
+
+    // Multiplier i, signed.
+    #[tactic(auto, unfolding(proof::specs::Entries::multiplier))]
+    fn signed_multiplier(&self, i: usize) -> i64
+        requires { i < self.now.multipliers }
+        ensures is { result ≡ signed (multiplier (edition self.now.e) self.now.lines i self.now.contents.now) }
+        ensures range { Held 2 result }
+    {
+        let at = self.lines * line_bytes(self.e) + i * MULTIPLIER_BYTES;
+        Width::Two.signed_at(self.contents, at)
+    }
 }
 
-// The entry that a field of a proof of edition e states. The tags 0x01 and 0x02 are known, but not in place here.
-pub fn entry_at(p: &[u8], tag: u8, start: usize, len: usize, k: usize, e: u8, made: bool) -> Entry
-    requires { (k ≤ edition1.constants) × (start + len ≤ length p.now) }
-    ensures { Entered e k p.now tag start len made result }
+// The entry that a field of a proof of edition e states, by its tag and contents. The tags 0x01 and 0x02 are known, but not in place here.
+pub fn entry_at(contents: &[u8], tag: u8, k: usize, e: u8, made: bool) -> Result<Entry, Refusal>
+    requires { k ≤ edition1.constants }
+    ensures { Entered e k contents.now tag made result }
 {
-    if tag == 0x10 {
-        return combine_at(p, start, len, e);
+    match tag {
+        0x10 => {
+            let row = Row::of(contents, e, 2, 2)?;
+            Ok(Entry::Combine {
+                s: row.line(0),
+                t: row.line(1),
+                alpha: i64::from(row.multiplier(0)),
+                beta: i64::from(row.multiplier(1)),
+            })
+        }
+        // Only here the multiplier is signed.
+        0x11 => {
+            let row = Row::of(contents, e, 2, 1)?;
+            Ok(Entry::Reduce {
+                s: row.line(0),
+                t: row.line(1),
+                alpha: row.signed_multiplier(0),
+            })
+        }
+        0x12 => {
+            let row = Row::of(contents, e, 1, 1)?;
+            Ok(Entry::Scale {
+                t: row.line(0),
+                alpha: i64::from(row.multiplier(0)),
+            })
+        }
+        0x13 => {
+            let row = Row::of(contents, e, 1, 0)?;
+            Ok(Entry::Strengthen { t: row.line(0) })
+        }
+        0x14 => {
+            let row = Row::of(contents, e, 1, 0)?;
+            Ok(Entry::CloseNumber { t: row.line(0) })
+        }
+        0x15 => {
+            let row = Row::of(contents, e, 1, 1)?;
+            Ok(Entry::CloseStride {
+                t: row.line(0),
+                g: i64::from(row.multiplier(0)),
+            })
+        }
+        0x16 => {
+            let row = Row::of(contents, e, 1, 2)?;
+            Ok(Entry::Round {
+                t: row.line(0),
+                g: i64::from(row.multiplier(0)),
+                by: row.multiplier(1),
+            })
+        }
+        0x17 => {
+            let row = Row::of(contents, e, 1, 0)?;
+            Ok(Entry::Split { t: row.line(0) })
+        }
+        0x20 if !made => Err(Refusal::MisplacedTag),
+        0x20 if contents.len() != PAIR_BYTES * (k + 1) => Err(Refusal::WrongLength),
+        0x20 => Ok(Entry::Claim),
+        0x01 | 0x02 => Err(Refusal::MisplacedTag),
+        _ => Err(Refusal::UnknownTag),
     }
-    if tag == 0x11 {
-        return reduce_at(p, start, len, e);
-    }
-    if tag == 0x12 {
-        return scale_at(p, start, len, e);
-    }
-    if tag == 0x13 {
-        return strengthen_at(p, start, len, e);
-    }
-    if tag == 0x14 {
-        return number_at(p, start, len, e);
-    }
-    if tag == 0x15 {
-        return stride_at(p, start, len, e);
-    }
-    if tag == 0x16 {
-        return round_at(p, start, len, e);
-    }
-    if tag == 0x17 {
-        return split_at(p, start, len, e);
-    }
-    if tag == 0x20 {
-        return claim_at(start, len, k, made);
-    }
-    if tag == 0x01 {
-        return Entry::Refused { number: 4 };
-    }
-    if tag == 0x02 {
-        return Entry::Refused { number: 4 };
-    }
-    Entry::Refused { number: 3 }
 }
