@@ -1,5 +1,6 @@
 -- What each step of the tally leaves. Assumes nothing.
-use Rattle.std.specs.Prelude.{ℕ, ◌+◌, Option, Some, None, Bool, cond, ltb}
+use Rattle.std.specs.Prelude.{◌≡◌, ℕ, ◌+◌, Option, Some, None, Result, Ok, Err, Bool, cond, ltb}
+use Rattle.answers.specs.declared.refusals.Refusal.{Refusal}
 use Rattle.forms.specs.Edition.{edition, edition1}
 use Rattle.tally.specs.declared.Tally.{Tally}
 
@@ -34,3 +35,8 @@ open_counted t = tallied (ltb t.«open» edition1.branchings) (more_open t)
 -- A closed branch gives back its lines and open branching steps: they are again those of the tally given.
 abbrev pub returned_to : Tally → (given : Tally) → Tally
 returned_to t given = tally given.edition t.rows.0 given.lines.0 given.«open»
+
+-- A step on a tally that is lent, by what f says of it: the tally before and after, and what is answered. A refused step leaves the tally as it was.
+abbrev pub Advanced : (f : Tally → Option Tally) (refusal : Refusal) (before after : Tally) → Result Unit Refusal → Type 0
+Advanced f refusal before after (Ok x) = Some after ≡ f before
+Advanced f refusal before after (Err r) = (r ≡ refusal) × (None ≡ f before) × (after ≡ before)

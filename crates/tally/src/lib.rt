@@ -3,8 +3,10 @@
 #![tactic(auto)]
 
 ghost use Rattle.std.specs.Prelude.{◌≡◌, ◌+◌, ltb};
-ghost use Rattle.tally.specs.Tally.{tallied, row_counted, line_counted, open_counted, returned_to};
+ghost use Rattle.answers.specs.declared.refusals.Refusal.TheVariants.{TooManyLines, TooDeep, TooManyRows};
+ghost use Rattle.tally.specs.Tally.{tallied, row_counted, line_counted, open_counted, returned_to, Advanced};
 
+use answers::refusals::Refusal;
 use forms::{BRANCHINGS, LineNumber, ROWS, RowNumber, lines_limit};
 
 #[derive(Clone, Copy)]
@@ -44,6 +46,28 @@ impl Tally {
     {
         let open = one_more(self.open, BRANCHINGS)?;
         Some(Tally { open, ..self })
+    }
+
+    // The same steps on a tally that is lent and advanced there. 18, 16, 17.
+    pub fn count_row(&mut self) -> Result<(), Refusal>
+        ensures { Advanced row_counted TooManyRows self.old self.new result }
+    {
+        *self = self.row_counted().ok_or(Refusal::TooManyRows)?;
+        Ok(())
+    }
+
+    pub fn count_line(&mut self) -> Result<(), Refusal>
+        ensures { Advanced line_counted TooManyLines self.old self.new result }
+    {
+        *self = self.line_counted().ok_or(Refusal::TooManyLines)?;
+        Ok(())
+    }
+
+    pub fn count_open(&mut self) -> Result<(), Refusal>
+        ensures { Advanced open_counted TooDeep self.old self.new result }
+    {
+        *self = self.open_counted().ok_or(Refusal::TooDeep)?;
+        Ok(())
     }
 
     // The step back when a branch is closed: the lines and open branching steps are again those of the tally given, the rows go on.
