@@ -11,6 +11,8 @@ use lib.IntN.{ℤ}
 use borrow.Author.Tests.{lt-ltb, le-ltb}
 use Rattle.forms.specs.Edition.{edition, edition1}
 use Rattle.calculus.specs.Rules.{in_range}
+use Rattle.std.specs.Prelude.{Ok, Err}
+use Rattle.answers.specs.declared.refusals.Refusal.TheVariants.{OutOfRange, TooManyLines}
 use Rattle.answers.specs.Answers.{◌>>◌, need}
 use Rattle.proof.specs.Rows.{fitting}
 use Rattle.lines.proofs.Parts.{agree_refl, agree-set, agree-sym}
@@ -24,10 +26,9 @@ use Rattle.lines.proofs.Keeping.{kept_refl}
 use Rattle.tally.specs.Tally.{more_lines}
 use Rattle.tally.specs.declared.Tally.{Tally}
 use Rattle.rows.specs.Rows.{Operands, sum_of, Appended}
-use Rattle.rows.specs.declared.derive.Derived.TheVariants.{Refused, Made}
 
 module _ {K : ℕ} {kinds : List ℕ} {buf : List ℤ} (t : Tally) (f : ℤ) (i : ℕ) (g : ℤ) (j kind : ℕ) (ready : Ready t.edition K kinds buf t.lines.0) where
-  pub append-full : (edition t.edition).lines ≤ t.lines.0 → Appended K kinds buf t f i g j kind kinds buf (Refused 16)
+  pub append-full : (edition t.edition).lines ≤ t.lines.0 → Appended K kinds buf t f i g j kind kinds buf (Err TooManyLines)
   unfolding fitting ◌>>◌ need
   append-full h = record { kept = kept_refl; by = λ refusal. rw (length-lines K kinds buf t.lines.0, le-ltb t.lines.0 (edition t.edition).lines h) }
 
@@ -45,14 +46,14 @@ module _ {K : ℕ} {kinds : List ℕ} {buf : List ℤ} (t : Tally) (f : ℤ) (i 
         ∙ mixed-range K f i g j t.lines.0 buf ready.branch.room terms.first terms.second edition1.range (set kinds t.lines.0 kind)
         ∙ sym mixes.fits
 
-    pub append-range : b ≡ false → Appended K kinds buf t f i g j kind kinds buf' (Refused 13)
+    pub append-range : b ≡ false → Appended K kinds buf t f i g j kind kinds buf' (Err OutOfRange)
     unfolding fitting ◌>>◌ need
     append-range e = record {
       kept = record { lines_same = agree-sym mixes.keeps; kinds_same = agree_refl; lines_length = mixes.long; kinds_length = refl };
       by = λ refusal. rw (length-lines K kinds buf t.lines.0, lt-ltb t.lines.0 (edition t.edition).lines space, range, e);
     }
 
-    pub append-made : {t' : Tally} {kinds' : List ℕ} → b ≡ true → kinds' ≡ set kinds t.lines.0 kind → t' ≡ more_lines t → Appended K kinds buf t f i g j kind kinds' buf' (Made t')
+    pub append-made : {t' : Tally} {kinds' : List ℕ} → b ≡ true → kinds' ≡ set kinds t.lines.0 kind → t' ≡ more_lines t → Appended K kinds buf t f i g j kind kinds' buf' (Ok t')
     unfolding fitting ◌>>◌ need
     append-made {kinds' = kinds'} e sets u =
         let new : line_in K kinds' buf' t.lines.0 ≡ sum_of K kinds buf f i g j kind = ap (λ (x : List ℤ). line_in K kinds' x t.lines.0) (mixes-line K i j t.lines.0 mixes e) ∙ sum_is sets in

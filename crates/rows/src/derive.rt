@@ -7,15 +7,10 @@ ghost use Rattle.lines.specs.Ready.{Ready};
 ghost use Rattle.entries.specs.Entries.{Multiplies};
 ghost use Rattle.rows.specs.Rows.{Operands, Appended, Derives};
 
+use answers::refusals::Refusal;
 use forms::LineNumber;
 use lines::kinds::{EQUALITY, INEQUALITY, kind_of, set_kind};
 use tally::Tally;
-
-#[derive(Clone, Copy)]
-pub enum Derived {
-    Refused { number: u8 },
-    Made { tally: Tally },
-}
 
 // One line more: f times line i plus g times line j, of the kind given; the form first and then the partial interpolant, where it is said. 16, 13.
 fn append(
@@ -29,20 +24,19 @@ fn append(
     j: LineNumber,
     kind: u8,
     k: usize,
-) -> Derived
+) -> Result<Tally, Refusal>
     requires ready { Ready tally.edition k kinds.old lines.old tally.lines.0 }
     requires operands { Operands tally.lines.0 f i.0 g j.0 kind }
     ensures { Appended k kinds.old lines.old tally f i.0 g j.0 kind kinds.new lines.new result }
 {
-    let Some(next) = tally.line_counted() else {
-        return Derived::Refused { number: 16 };
-    };
+    let mut next = tally;
+    next.count_line()?;
     let n = tally.lines;
     if !lines::sums::mix_line(lines, form_first, f, i, g, j, n, k) {
-        return Derived::Refused { number: 13 };
+        return Err(Refusal::OutOfRange);
     }
     set_kind(kinds, n, kind);
-    Derived::Made { tally: next }
+    Ok(next)
 }
 
 // FM-ELIM of Figure 6 in source 000: α·s, then β·t, then their sum αs + βt; then the partial interpolants in the same steps, αsA + βtA (`lines::sums::mix`). 10, 11, 12, then as `append`.
@@ -55,28 +49,28 @@ pub fn combine(
     alpha: i64,
     beta: i64,
     k: usize,
-) -> Derived
+) -> Result<Tally, Refusal>
     requires ready { Ready tally.edition k kinds.old lines.old tally.lines.0 }
     requires multiplies { Multiplies (nat_abs alpha) alpha × Multiplies (nat_abs beta) beta }
     ensures { Derives k kinds.old lines.old tally (Combine s.0 t.0 (nat_abs alpha) (nat_abs beta)) kinds.new lines.new result }
 {
     if !tally.is_there(s) {
-        return Derived::Refused { number: 10 };
+        return Err(Refusal::NoSuchLine);
     }
     if !tally.is_there(t) {
-        return Derived::Refused { number: 10 };
+        return Err(Refusal::NoSuchLine);
     }
     if kind_of(kinds, s) != INEQUALITY {
-        return Derived::Refused { number: 11 };
+        return Err(Refusal::WrongLineKind);
     }
     if kind_of(kinds, t) != INEQUALITY {
-        return Derived::Refused { number: 11 };
+        return Err(Refusal::WrongLineKind);
     }
     if integers::is_zero(alpha) {
-        return Derived::Refused { number: 12 };
+        return Err(Refusal::WrongMultiplier);
     }
     if integers::is_zero(beta) {
-        return Derived::Refused { number: 12 };
+        return Err(Refusal::WrongMultiplier);
     }
     append(lines, kinds, tally, true, alpha, s, beta, t, INEQUALITY, k)
 }
@@ -90,26 +84,26 @@ pub fn reduce(
     t: LineNumber,
     alpha: i64,
     k: usize,
-) -> Derived
+) -> Result<Tally, Refusal>
     requires ready { Ready tally.edition k kinds.old lines.old tally.lines.0 }
     requires within { Within multiplier_range alpha }
     ensures { Derives k kinds.old lines.old tally (Reduce s.0 t.0 alpha) kinds.new lines.new result }
 {
     if !tally.is_there(s) {
-        return Derived::Refused { number: 10 };
+        return Err(Refusal::NoSuchLine);
     }
     if !tally.is_there(t) {
-        return Derived::Refused { number: 10 };
+        return Err(Refusal::NoSuchLine);
     }
     let kind_s = kind_of(kinds, s);
     if kind_s > EQUALITY {
-        return Derived::Refused { number: 11 };
+        return Err(Refusal::WrongLineKind);
     }
     if kind_of(kinds, t) != EQUALITY {
-        return Derived::Refused { number: 11 };
+        return Err(Refusal::WrongLineKind);
     }
     if integers::is_zero(alpha) {
-        return Derived::Refused { number: 12 };
+        return Err(Refusal::WrongMultiplier);
     }
     append(lines, kinds, tally, false, 1, s, alpha, t, kind_s, k)
 }
@@ -122,20 +116,20 @@ pub fn scale(
     t: LineNumber,
     alpha: i64,
     k: usize,
-) -> Derived
+) -> Result<Tally, Refusal>
     requires ready { Ready tally.edition k kinds.old lines.old tally.lines.0 }
     requires multiplies { Multiplies (nat_abs alpha) alpha }
     ensures { Derives k kinds.old lines.old tally (Scale t.0 (nat_abs alpha)) kinds.new lines.new result }
 {
     if !tally.is_there(t) {
-        return Derived::Refused { number: 10 };
+        return Err(Refusal::NoSuchLine);
     }
     let kind = kind_of(kinds, t);
     if kind > EQUALITY {
-        return Derived::Refused { number: 11 };
+        return Err(Refusal::WrongLineKind);
     }
     if integers::is_zero(alpha) {
-        return Derived::Refused { number: 12 };
+        return Err(Refusal::WrongMultiplier);
     }
     append(lines, kinds, tally, false, alpha, t, 0, t, kind, k)
 }
