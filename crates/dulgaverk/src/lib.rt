@@ -21,13 +21,14 @@ ghost use Rattle.bundle_show.specs.Copied.{Copied};
 ghost use Rattle.shortening.specs.Promises.{Shortens};
 ghost use Rattle.run.specs.Promises.{WritesGuards};
 
+use answers::refusals::Refusal;
 use answers::{Answer, WriteResult};
 use bundle_read::ReadResult;
 use bundle_show::{copy_shown, show_answer};
 use checking::check;
 use formula_test::Tested;
-use scheduler::{Changed, Job, Next, Scheduler, Turned};
-use scheduler_turn::{a_of, b_of, idle, next_seat, parts_within, proof_of, served};
+use scheduler::{Changed, Job, Scheduler, Turned};
+use scheduler_turn::{files_of, idle, next_seat, served};
 use shorten::shorten;
 use shortening::ShortenResult;
 
@@ -147,16 +148,13 @@ pub fn dulgaverk_scheduler_cancel(s: Scheduler, seat: usize) -> Changed
 fn check_job(job: Job, buffer: &[u8], out: &mut [u8]) -> WriteResult
     ensures { ChecksJob job buffer.now out.old out.new result }
 {
-    if !parts_within(job, buffer.len()) {
-        let answer = answers::refusal(34, 4, 0);
-        return WriteResult { answer, count: 0 };
+    match files_of(job, buffer) {
+        Some(files) => dulgaverk_check(files.a, files.b, files.proof, out),
+        None => WriteResult {
+            answer: answers::refusal(Refusal::PartOutside, 4, 0),
+            count: 0,
+        },
     }
-    dulgaverk_check(
-        a_of(job, buffer),
-        b_of(job, buffer),
-        proof_of(job, buffer),
-        out,
-    )
 }
 
 // Serves the first seat that waits.
@@ -164,12 +162,8 @@ pub fn dulgaverk_scheduler_turn(s: Scheduler, buffer: &[u8], out: &mut [u8]) -> 
     ensures { Turns s buffer.now out.old out.new result }
 {
     match next_seat(s) {
-        Next::Seat(seat) => {
-            let slot = s.slots[seat];
-            let result = check_job(slot.job, buffer, out);
-            served(s, seat, result)
-        }
-        Next::Nobody => idle(s),
+        Some(seat) => served(s, seat, check_job(s.slots[seat].job, buffer, out)),
+        None => idle(s),
     }
 }
 

@@ -1,4 +1,3 @@
--- Laws of texts put one after another, of numbers in decimal and of their signs.
+-- Laws of texts put one after another, and of numbers in decimal.
 pub mod PutsText
 pub mod Numerals
-pub mod Magnitudes

@@ -1,11 +1,12 @@
 -- Laws of `Puts`, each for any output and bytes. Assumes nothing.
-use mathlib.Core.Path.{◌≡◌, refl, sym, ◌∙◌}
+use mathlib.Core.Path.{◌≡◌, refl, sym, ap, ◌∙◌}
 use mathlib.Core.List.{List, [], ◌∷◌, ◌++◌}
 use Prim.Native.Nat.{ℕ, suc, ◌+◌, ◌≤◌, ◌<◌}
 use native.Mathlib.Omega.{arith}
-use lib.ListN.{length, get_or, drop, set, length-append, length-set, drop_of_length-le}
-use lib.Seq.{sets, drop-cons, set-set}
-use Rattle.number_bytes.proofs.Stores.{sets-append}
+use lib.ListN.{length, set, length-append}
+use lib.Seq.{sets, length-sets, set-set}
+use borrow.Rule.Slice.PartMut.{put_mid}
+use Rattle.number_bytes.proofs.Stores.{sets-append, sets-mid}
 use Rattle.printing_text.specs.PutsText.{PutsText}
 
 -- nothing, where there is nothing to put or no room
@@ -49,32 +50,8 @@ puts-over {out} {out₁} {out₂} {o} {x = x} {b = b} {bs = bs} p q = record {
       e₂ ∙ rw (e₁, set-set out o x b);
 }
 
--- ---- a copy, byte by byte: what is left to put gives what the whole gives
-pub record Copying (bytes out₀ : List ℕ) (o : ℕ) (out : List ℕ) (i : ℕ) : Type 0 where
-  pub is : sets out (o + i) (drop i bytes) ≡ sets out₀ o bytes
-  pub long : length out ≡ length out₀
-  pub upto : i ≤ length bytes
-  pub room : o + length bytes ≤ length out₀
-
-pub copying-start : {bytes out : List ℕ} {o : ℕ} → o + length bytes ≤ length out → Copying bytes out o out 0
-copying-start {bytes} {out} {o} h = let z : o + 0 ≡ o = omega arith in record { is = rw z; long = refl; upto = omega arith; room = h }
-
-module _ {bytes out₀ : List ℕ} {o : ℕ} {out : List ℕ} {i : ℕ} (v : Copying bytes out₀ o out i) where
-  pub copying-on : i < length bytes → Copying bytes out₀ o (set out (o + i) (get_or bytes i 0)) (i + 1)
-  copying-on h =
-      let f : i + 1 ≡ suc i = omega arith in
-      let g : o + suc i ≡ suc (o + i) = omega arith in
-      record {
-        is = rw (f, g) (rw (drop-cons bytes i 0 h) at v.is);
-        long = length-set out (o + i) (get_or bytes i 0) ∙ v.long;
-        upto = omega arith;
-        room = v.room;
-      }
-
-  pub copied : {o' : ℕ} → o' ≡ o + length bytes → length bytes ≤ i → PutsText out₀ o bytes (length bytes) out o'
-  copied e h = record {
-    long = v.long;
-    o_is = e;
-    few = omega arith;
-    stored = λ _. rw (drop_of_length-le bytes h) at v.is;
-  }
+-- the bytes where there is room
+pub puts-in : (out : List ℕ) {o o' k : ℕ} (bytes : List ℕ) → o' ≡ o + length bytes → o' ≤ length out → k ≡ length bytes → PutsText out o bytes (length bytes) (put_mid o k out bytes) o'
+puts-in out {o} {o'} {k} bytes e h l =
+    let s : put_mid o k out bytes ≡ sets out o bytes = sets-mid o (length bytes) k out bytes bytes refl refl (sym l) (omega arith) in
+    record { long = ap length s ∙ length-sets out o bytes; o_is = e; few = omega arith; stored = λ _. s }

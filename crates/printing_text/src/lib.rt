@@ -18,28 +18,41 @@ pub fn put_text(out: &mut [u8], o: usize, text: &[u8]) -> usize
     if out.len() < end {
         return end;
     }
-    let mut i = 0;
-    while i < text.len() {
-        out[o + i] = text[i];
-        i += 1;
-    }
+    out[o..end].copy_from_slice(text);
     end
 }
 
+// 1 for a number above the limit, else 0.
+#[tactic(auto, unfolding(crate::specs::Digits::above))]
 fn above(limit: u32, n: u32) -> u32
     ensures { (result ≡ above limit n) × (result ≤ 1) }
 {
-    (limit < n) as u32
+    u32::from(limit < n)
 }
+
+// A number has a digit more for each of these that it is above.
+const LIMITS: [u32; 9] = [
+    9,
+    99,
+    999,
+    9_999,
+    99_999,
+    999_999,
+    9_999_999,
+    99_999_999,
+    999_999_999,
+];
 
 // How many digits a number has, without a branch (docs/SPEED.md).
 fn digits(n: u32) -> u32
     requires { n ≤ 0x8000_0000 }
     ensures { (result ≡ length (decimal n)) × (result ≤ 10) }
 {
-    let few = 1 + above(9, n) + above(99, n) + above(999, n) + above(9_999, n);
-    let more = above(99_999, n) + above(999_999, n) + above(9_999_999, n);
-    few + more + above(99_999_999, n) + above(999_999_999, n)
+    let mut count = 1;
+    for limit in LIMITS {
+        count += above(limit, n);
+    }
+    count
 }
 
 // The last digit.
@@ -55,9 +68,7 @@ fn put_digits(out: &mut [u8], o: usize, n: u32, d: usize)
     ensures { out.new ≡ sets out.old o (last_digits d n) }
 {
     let mut m = n;
-    let mut i = d;
-    while 0 < i {
-        i -= 1;
+    for i in (0..d).rev() {
         out[o + i] = digit(m);
         m /= 10;
     }
@@ -87,6 +98,7 @@ fn lead(n: u32) -> u8
     digit(n / 1_000_000_000)
 }
 
+// (A map over the nine units would owe that none of them is 0, and say no more.)
 fn put_nine(out: &mut [u8], o: usize, n: u32) -> usize
     requires { o + 9 ≤ text_limit }
     ensures { PutsText out.old o (last_digits 9 n) 9 out.new result }
@@ -114,8 +126,7 @@ pub fn put_decimal(out: &mut [u8], o: usize, n: u32) -> usize
     if n < 100_000_000 {
         return put_short(out, o, n);
     }
-    let first = [lead(n)];
-    put_text(out, o, &first);
+    put_text(out, o, &[lead(n)]);
     put_nine(out, o + above(999_999_999, n) as usize, n)
 }
 
@@ -127,11 +138,9 @@ pub fn put_register(out: &mut [u8], o: usize, i: usize) -> usize
 {
     let n = i as u32;
     if n < 10 {
-        let short = [114, digit(n)];
-        return put_text(out, o, &short);
+        return put_text(out, o, &[b'r', digit(n)]);
     }
-    let long = [114, digit(n / 10), digit(n)];
-    put_text(out, o, &long)
+    put_text(out, o, &[b'r', digit(n / 10), digit(n)])
 }
 
 // The number without its sign.
@@ -139,8 +148,5 @@ pub fn magnitude(z: i64) -> u32
     requires { Held 4 z }
     ensures { (result ≡ nat_abs z) × (result ≤ 0x8000_0000) }
 {
-    if z < 0 {
-        return (0 - z) as u32;
-    }
-    z as u32
+    z.unsigned_abs() as u32
 }

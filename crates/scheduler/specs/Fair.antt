@@ -1,4 +1,4 @@
--- What holds of a run of calls from an empty desk on: document 02, point 13. Of what the functions ensure. Assumes nothing.
+-- What holds of a run of calls from an empty desk on. Of what the functions ensure. Assumes nothing.
 use Rattle.std.specs.Prelude.{◌≡◌, ◌↔◌, true, false, not, ◌&&◌, cond, List, [], ◌∷◌, ◌++◌, ℕ, suc, ◌+◌, ◌%◌, ◌≤◌, ◌<◌, eqb, length, set}
 use Rattle.forms.specs.Forms.{All}
 use Rattle.answers.specs.declared.WriteResult.{WriteResult}
@@ -41,7 +41,7 @@ turns (submitted seat job r ∷ calls) = turns calls
 turns (cancelled seat r ∷ calls) = turns calls
 turns (turned buffer output left r ∷ calls) = suc (turns calls)
 
--- The call cancels the job of that seat (document 02: withdraws it); the call serves that seat.
+-- The call cancels the job of that seat; the call serves that seat.
 abbrev pub CancelledAt : (seat : ℕ) → Call → Type 0
 CancelledAt seat (submitted at job r) = ⊥
 CancelledAt seat (cancelled at r) = (at ≡ seat) × (r.answer.number ≡ 0)

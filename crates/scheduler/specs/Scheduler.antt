@@ -1,5 +1,5 @@
--- The scheduler of checks: document 02, point 13, "the office desk". A job waits at a seat; a turn serves one. Assumes nothing.
-use Rattle.std.specs.Prelude.{Bool, true, false, not, ◌&&◌, cond, List, ℕ, zero, suc, ◌+◌, ◌-◌, ◌%◌, eqb, leb, ltb, length, take, drop, get_or, set, replicate}
+-- The scheduler of checks, "the office desk". A job waits at a seat; a turn serves one. Assumes nothing.
+use Rattle.std.specs.Prelude.{Bool, true, false, not, ◌&&◌, cond, Option, Some, None, List, ℕ, zero, suc, ◌+◌, ◌-◌, ◌%◌, eqb, leb, ltb, length, take, drop, get_or, set, replicate}
 use Rattle.answers.specs.declared.Answer.{Answer}
 use Rattle.answers.specs.Answers.{answer, file_lent, Result, accepted, ◌>>◌, need, Written}
 use Rattle.proof.specs.Check.{check}
@@ -7,8 +7,6 @@ use Rattle.scheduler.specs.declared.Part.{Part}
 use Rattle.scheduler.specs.declared.Job.{Job}
 use Rattle.scheduler.specs.declared.Slot.{Slot}
 use Rattle.scheduler.specs.declared.Scheduler.{Scheduler}
-use Rattle.scheduler.specs.declared.Next.{Next}
-use Rattle.scheduler.specs.declared.Next.TheVariants.{Seat, Nobody}
 
 -- Seats 0 to 7. A seat is a number; a slot is what stands at a seat.
 abbrev pub seats : ℕ
@@ -42,7 +40,7 @@ is_waiting s seat = not (eqb (slot_at s seat).waiting 0)
 abbrev pub with_slot : Scheduler → (seat : ℕ) → Slot → Scheduler
 with_slot s seat x = record { slots = set s.slots seat x; first = s.first }
 
--- ---- submitting and cancelling (document 02's arrival and withdrawal): 29, a seat above 7; 30, it is occupied; 31, it is empty
+-- ---- submitting and cancelling: 29, a seat above 7; 30, it is occupied; 31, it is empty
 abbrev pub refusal : (number : ℕ) → Answer
 refusal n = answer n file_lent 0
 
@@ -60,12 +58,12 @@ cancellation s seat = do
 
 -- ---- a turn
 -- The first of n seats, from one on, at which a job waits.
-unfoldable pub next_from : Scheduler → (seat n : ℕ) → Next
-next_from s seat zero = Nobody
-next_from s seat (suc n) = cond (is_waiting s seat) (Seat seat) (next_from s (after seat) n)
+unfoldable pub next_from : Scheduler → (seat n : ℕ) → Option ℕ
+next_from s seat zero = None
+next_from s seat (suc n) = cond (is_waiting s seat) (Some seat) (next_from s (after seat) n)
 
 -- All eight are looked at, from the seat after the last one served. (From the empty desk on no call leaves a `first` above 7; such a one counts by its remainder.)
-unfoldable pub next_seat : Scheduler → Next
+unfoldable pub next_seat : Scheduler → Option ℕ
 next_seat s = next_from s (s.first % seats) seats
 
 -- A part lies within a buffer of n bytes; its end is the byte after its last.
@@ -97,9 +95,9 @@ abbrev pub served : Scheduler → (seat : ℕ) → Scheduler
 served s seat = record { slots = set s.slots seat vacant; first = after seat }
 
 -- 35, no job waits: an idle turn is no acceptance.
-unfoldable pub turn_at : Scheduler → (buffer output : List ℕ) → Next → TurnLeaves
-turn_at s buffer output (Seat seat) = record { idle = false; seat = seat; written = check_job (slot_at s seat).job buffer output; scheduler = served s seat }
-turn_at s buffer output Nobody = record { idle = true; seat = 0; written = record { answer = refusal 35; count = 0; output = output }; scheduler = s }
+unfoldable pub turn_at : Scheduler → (buffer output : List ℕ) → Option ℕ → TurnLeaves
+turn_at s buffer output (Some seat) = record { idle = false; seat = seat; written = check_job (slot_at s seat).job buffer output; scheduler = served s seat }
+turn_at s buffer output None = record { idle = true; seat = 0; written = record { answer = refusal 35; count = 0; output = output }; scheduler = s }
 
 unfoldable pub turn : Scheduler → (buffer output : List ℕ) → TurnLeaves
 turn s buffer output = turn_at s buffer output (next_seat s)

@@ -1,4 +1,4 @@
-// Checks that wait at eight seats and are served in turn: document 02's office desk (point 13). What a state is, and what its calls
+// Checks that wait at eight seats and are served in turn. What a state is, and what its calls
 // mean, in specs/. No code: only types, specs and proofs.
 //
 // A seat is a number, 0 to 7; a slot is what stands at a seat. All numbers have the width of a place, so a state has no padding.
@@ -10,7 +10,7 @@ pub const SEATS: usize = 8;
 
 // Where a file stands in the buffer; end is the byte after its last.
 #[repr(C)]
-#[derive(Clone, Copy)]
+#[derive(Clone, Copy, Default)]
 pub struct Part {
     pub start: usize,
     pub end: usize,
@@ -18,7 +18,7 @@ pub struct Part {
 
 // A job: where its three files stand.
 #[repr(C)]
-#[derive(Clone, Copy)]
+#[derive(Clone, Copy, Default)]
 pub struct Job {
     pub a: Part,
     pub b: Part,
@@ -27,7 +27,7 @@ pub struct Job {
 
 // What stands at a seat: a waiting job, or nothing, where `waiting` is 0.
 #[repr(C)]
-#[derive(Clone, Copy)]
+#[derive(Clone, Copy, Default)]
 pub struct Slot {
     pub waiting: usize,
     pub job: Job,
@@ -37,7 +37,7 @@ pub struct Slot {
 #[repr(C)]
 #[derive(Clone, Copy)]
 pub struct Scheduler {
-    pub slots: [Slot; 8],
+    pub slots: [Slot; SEATS],
     pub first: usize,
 }
 
@@ -57,11 +57,4 @@ pub struct Turned {
     pub result: WriteResult,
     pub seat: usize,
     pub idle: bool,
-}
-
-// What a turn finds: the seat to serve, or nobody.
-#[derive(Clone, Copy)]
-pub enum Next {
-    Seat(usize),
-    Nobody,
 }

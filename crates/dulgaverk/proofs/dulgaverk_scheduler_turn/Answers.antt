@@ -6,16 +6,16 @@ use Rattle.dulgaverk.proofs.Jobs.{turn_serves, turn_idle}
 use Rattle.dulgaverk.proofs.dulgaverk_scheduler_turn.Goals as goal
 
 pub offset_bounds-s-seat : goal.offset_bounds-s-seat
-offset_bounds-s-seat c = let h = next-seated c.args.s (sym c.next_seat.ensures ∙ c.in-Seat.is) in record { fits = omega arith }
+offset_bounds-s-seat c = let h = next-seated c.args.s (sym c.next_seat.ensures ∙ c.in-Some.is) in record { fits = omega arith }
 
 pub bounds-s-seat : goal.bounds-s-seat
-bounds-s-seat c = next-seated c.args.s (sym c.next_seat.ensures ∙ c.in-Seat.is)
+bounds-s-seat c = next-seated c.args.s (sym c.next_seat.ensures ∙ c.in-Some.is)
 
 pub served-requires : goal.served-requires
-served-requires c = next-seated c.args.s (sym c.next_seat.ensures ∙ c.in-Seat.is)
+served-requires c = next-seated c.args.s (sym c.next_seat.ensures ∙ c.in-Some.is)
 
-pub returns-in-Seat : goal.returns-in-Seat
-returns-in-Seat c = turn_serves _ _ _ (sym c.in-Seat.is ∙ c.next_seat.ensures) c.check_job-result.ensures c.served.ensures
+pub returns-in-Some : goal.returns-in-Some
+returns-in-Some c = turn_serves _ _ _ (sym c.in-Some.is ∙ c.next_seat.ensures) c.check_job.ensures c.served.ensures
 
-pub returns-in-Nobody : goal.returns-in-Nobody
-returns-in-Nobody c = turn_idle _ _ _ (sym c.in-Nobody.is ∙ c.next_seat.ensures) c.idle.ensures
+pub returns-in-None : goal.returns-in-None
+returns-in-None c = turn_idle _ _ _ (sym c.in-None.is ∙ c.next_seat.ensures) c.idle.ensures

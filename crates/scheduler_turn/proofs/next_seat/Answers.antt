@@ -1,34 +1,23 @@
 -- `scheduler_turn::next_seat` meets its contract. Assumes nothing.
-use mathlib.Core.Path.{refl, sym, ◌∙◌, ap}
-use Prim.Native.Nat.{ℕ, ◌-◌}
-use native.Mathlib.Omega.{arith}
-use Rattle.scheduler.specs.Scheduler.{next_from, next_seat}
+use Rattle.std.proofs.Common.{◌≡◌, ℕ, ◌+◌, ◌-◌, ◌%◌, sym, ◌∙◌, ap, arith}
+use Rattle.scheduler.specs.Scheduler.{after, next_from, next_seat}
 use Rattle.scheduler.proofs.Looking.{waits, vacated, found, passed, over}
 use Rattle.scheduler_turn.proofs.next_seat.Goals as goal
 
-pub loop-left-init : goal.loop-left-init
+pub loop-ahead-init : goal.loop-ahead-init
 unfolding next_seat
-loop-left-init c = (refl, omega arith)
+loop-ahead-init c = let e : (c.args.s.first % 8 + 0) % 8 ≡ c.args.s.first % 8 = omega arith in ap (λ (k : ℕ). next_from c.args.s k 8) e
 
-pub returns-then-slot-ne0 : goal.returns-then-slot-ne0
-returns-then-slot-ne0 c = found _ _ _ (omega arith) (waits _ _ c.if-slot-ne0.true) ∙ c.loop-left.invariant.0
+pub returns-then-s-seat-ne0 : goal.returns-then-s-seat-ne0
+returns-then-s-seat-ne0 c = found _ _ _ (omega arith) (waits _ _ c.if-s-seat-ne0.true) ∙ c.loop-ahead.invariant
 
-pub after-seat-requires : goal.after-seat-requires
-after-seat-requires c = omega arith
-
-pub overflow_sub-left : goal.overflow_sub-left
-overflow_sub-left c = omega arith
-
-pub loop-left-smaller : goal.loop-left-smaller
-loop-left-smaller c = omega arith
-
-pub loop-left-preserved : goal.loop-left-preserved
-loop-left-preserved c =
-    let p = c.loop-left in
-    let s = c.args.s in (
-      ap (λ (k : ℕ). next_from s k (p.left - 1)) c.after-seat.ensures ∙ sym (passed s p.seat p.left (omega arith) (vacated s p.seat c.if-slot-ne0.false)) ∙ p.invariant.0,
-      omega (arith, c.after-seat.ensures),
-    )
+pub loop-ahead-preserved : goal.loop-ahead-preserved
+loop-ahead-preserved c =
+    let s = c.args.s in
+    let seat = (s.first % 8 + c.loop-ahead.ahead) % 8 in
+    let e : (s.first % 8 + (c.loop-ahead.ahead + 1)) % 8 ≡ after seat = omega arith in
+    let n : 8 - (c.loop-ahead.ahead + 1) ≡ 8 - c.loop-ahead.ahead - 1 = omega arith in
+    ap (λ (k : ℕ). next_from s k (8 - (c.loop-ahead.ahead + 1))) e ∙ ap (λ (k : ℕ). next_from s (after seat) k) n ∙ sym (passed s seat _ (omega arith) (vacated s seat c.if-s-seat-ne0.false)) ∙ c.loop-ahead.invariant
 
 pub returns : goal.returns
-returns c = over _ _ _ (omega arith) ∙ c.loop-left.invariant.0
+returns c = over _ _ _ (omega arith) ∙ c.loop-ahead.invariant

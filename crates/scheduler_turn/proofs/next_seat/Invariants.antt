@@ -1,11 +1,7 @@
--- `scheduler_turn::next_seat` meets its contract. Assumes nothing.
-use mathlib.Core.Path.{◌≡◌}
-use Prim.Native.Nat.{◌<◌}
+-- `scheduler_turn::next_seat` meets its contract. The invariant: the seats that are left tell what all eight tell. Assumes nothing.
+use Rattle.std.proofs.Common.{◌≡◌, ◌+◌, ◌-◌, ◌%◌}
 use Rattle.scheduler.specs.Scheduler.{next_from, next_seat}
 use Rattle.scheduler_turn.proofs.next_seat.Given as goal
 
-abbrev pub invariant-loop-left : goal.invariant-loop-left
-invariant-loop-left l = (next_from l.s l.seat l.left ≡ next_seat l.s) × (l.seat < 8)
-
-abbrev pub decreases-loop-left : goal.decreases-loop-left
-decreases-loop-left l = l.left
+abbrev pub invariant-loop-ahead : goal.invariant-loop-ahead
+invariant-loop-ahead l = next_from l.s ((l.first + l.ahead) % 8) (8 - l.ahead) ≡ next_seat l.s

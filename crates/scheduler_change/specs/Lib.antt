@@ -1,0 +1,2 @@
+-- What a change of the state leaves.
+pub mod Changes

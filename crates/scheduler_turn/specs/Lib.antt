@@ -1,0 +1,2 @@
+-- The files of a job.
+pub mod Files
