@@ -1,11 +1,11 @@
--- Answers, and the first refusal that applies. Document 01, "What each operation refuses". Assumes nothing.
+-- Answers, and the first refusal that applies. docs/FORMAT.md, "Answers and refusals". Assumes nothing.
 use Rattle.std.specs.Prelude.{List, [], ◌∷◌, ◌++◌, Bool, true, false, cond, ◌&&◌, ℕ, suc, ◌-◌, length, drop, leb, eqb}
 use Rattle.std.proofs.Math.Option.{Option, none, some}
 use Rattle.answers.specs.declared.Answer.{Answer}
 use Rattle.answers.specs.declared.Position.{Position}
 use Rattle.answers.specs.declared.WriteResult.{WriteResult}
 
--- What a row, a branching step or a branch is where there is none. Document 02, "Where in the tree".
+-- What a row, a branching step or a branch is where there is none. docs/FORMAT.md, "Where in the tree".
 abbrev pub nowhere : ℕ
 nowhere = 65_535
 
@@ -41,7 +41,7 @@ abbrev pub acceptance : Answer
 acceptance = answer 0 0 0
 
 -- The row that a refusal amid the proof tells, at a field before which there were so many rows. What check tests for from 18 on (10 to 18) tells the field's own row,
--- but for a claim's 14, which belongs to the row before it; what it tests for before 18, and at the end, tells none. Document 02, "Where in the tree".
+-- but for a claim's 14, which belongs to the row before it; what it tests for before 18, and at the end, tells none. docs/FORMAT.md, "Where in the tree".
 unfoldable pub row_told : (number rows : ℕ) → ℕ
 row_told n rows = cond (eqb n 14) (rows - 1) (cond (leb 10 n && leb n 18) rows nowhere)
 

@@ -1,4 +1,4 @@
--- A line t ≠ 0 is always a constraint's: its place tells whose it is, and document 02's wording of a split holds, as A's has tA = t and B's has tA = 0. Assumes nothing.
+-- A line t ≠ 0 is always a constraint's: its place tells whose it is, and the rules of a split read as they are worded, as A's has tA = t and B's has tA = 0. Assumes nothing.
 use mathlib.Core.Path.{◌≡◌, refl, ◌∙◌, ap, ap₂, subst}
 use mathlib.Core.List.{List, [], ◌∷◌, map}
 use Prim.Native.Nat.{ℕ, zero, suc, ◌≤◌, ◌<◌}

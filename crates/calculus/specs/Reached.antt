@@ -1,4 +1,4 @@
--- The lists of lines that rows reach, and from which bundle each line draws its constants. Document 02, point 10. Assumes nothing.
+-- The lists of lines that rows reach, and from which bundle each line draws its constants. Assumes nothing.
 use Rattle.std.specs.Prelude.{List, Bool, ℕ, T, ◌-ℤ◌}
 use Rattle.forms.specs.Edition.{Edition}
 use Rattle.forms.specs.Forms.{All, Form, Kind, ≤0, Side, Line, line, line_apart, neg, Constraint, lines, Formula, coeff, nonzero, names, occurs, ◌plus◌}
@@ -18,7 +18,7 @@ pub data Reached (A B : List Constraint) : List Line → Type 0 where
   -- and the line that a branch starts with, of either kind: t+k with tA+j, where t ≤ 0 is line i
   branched : {ls : List Line} {t t_A : Form} (i : ℕ) (kind : Kind) (k j : ℕ) → Reached A B ls → Nth ls i (line ≤0 t t_A)
       → Reached A B (ls ▷ line kind (t plus k) (t_A plus j))
-  -- the same where t ≠ 0 is line i (document 02, point 6): t+1 with tA+j, or -t+1 with -tA+j
+  -- the same where t ≠ 0 is line i: t+1 with tA+j, or -t+1 with -tA+j
   split : {ls : List Line} {σ : Side} {t t_A : Form} (i j : ℕ) → Reached A B ls → Nth ls i (line_apart σ t t_A) → Reached A B (ls ▷ line ≤0 (t plus 1) (t_A plus j))
   split_negated : {ls : List Line} {σ : Side} {t t_A : Form} (i j : ℕ) → Reached A B ls → Nth ls i (line_apart σ t t_A) → Reached A B (ls ▷ line ≤0 (neg t plus 1) (neg t_A plus j))
 

@@ -1,4 +1,4 @@
--- A run of stages, its cuts, a uniform proof, and what the guards of a run promise. Document 02, point 7. Assumes nothing.
+-- A run of stages, its cuts, a uniform proof, and what the guards of a run promise. docs/FORMAT.md, "Guards of a run of stages". Assumes nothing.
 use Rattle.std.specs.Prelude.{◌≡◌, List, [], ◌∷◌, ◌++◌, Bool, false, ℕ, suc, ◌≤◌, length, take, drop}
 use Rattle.std.proofs.Math.Option.{some}
 use Rattle.std.proofs.Math.ListN.{get_elem?}

@@ -1,4 +1,4 @@
--- Files turned, in numerals: what turning answers and leaves of an output of so many bytes 0xAA. The answers are by an independent version. Document 02, point 4. Assumes nothing.
+-- Files turned, in numerals: what turning answers and leaves of an output of so many bytes 0xAA. The answers are by an independent version. docs/FORMAT.md, "Turning into the other edition". Assumes nothing.
 use Rattle.std.specs.Prelude.{List, [], ◌∷◌, ◌++◌, ℕ, replicate}
 use Rattle.answers.specs.Answers.{Written}
 use Rattle.bundle.specs.Tables.{rowless}

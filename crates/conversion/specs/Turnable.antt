@@ -1,4 +1,4 @@
--- What is turned, and into what, apart from turning it. Document 02, point 4. Assumes nothing.
+-- What is turned, and into what, apart from turning it. docs/FORMAT.md, "Turning into the other edition". Assumes nothing.
 use Rattle.std.specs.Prelude.{◌≡◌, ◌⊎◌, Bool, true, false, List, [], ◌∷◌, ◌++◌, map, ℕ, ◌≤◌}
 use Rattle.std.specs.Int.Signed.{mag}
 use Rattle.forms.specs.Edition.{edition, edition2, newest_edition}

@@ -1,4 +1,4 @@
--- Turning a bundle or a proof into the other edition. Document 02, point 4. Assumes nothing.
+-- Turning a bundle or a proof into the other edition. docs/FORMAT.md, "Turning into the other edition". Assumes nothing.
 use Rattle.std.proofs.Math.Option.{none}
 use Rattle.std.specs.Prelude.{Bool, true, false, cond, ◌&&◌, List, [], ◌++◌, ℕ, ◌^◌, leb, ltb, eqb, length}
 use Rattle.forms.specs.Edition.{Edition, edition, newest_edition}

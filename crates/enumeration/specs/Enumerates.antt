@@ -1,4 +1,4 @@
--- What is promised of the short proofs of A and B, and of the next one. Document 02, point 14. Assumes nothing.
+-- What is promised of the short proofs of A and B, and of the next one. docs/FORMAT.md, "Short proofs". Assumes nothing.
 use Rattle.std.specs.Prelude.{◌≡◌, List, map, ℕ, ◌+◌, ◌≤◌, ◌<◌, length}
 use Rattle.forms.specs.Edition.{newest_edition}
 use Rattle.forms.specs.Forms.{Constraint}

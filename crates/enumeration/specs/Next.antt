@@ -1,4 +1,4 @@
--- The short proof after a given one. Document 02, point 14. Assumes nothing.
+-- The short proof after a given one. docs/FORMAT.md, "Short proofs". Assumes nothing.
 use Rattle.std.specs.Prelude.{◌≡◌, ◌⊎◌, true, false, List, [], ◌∷◌, ℕ}
 use Rattle.calculus.specs.Rules.{Row}
 use Rattle.answers.specs.Answers.{answer, file_lent, Result, refused, accepted, ◌>>=◌, Written, written}

@@ -1,5 +1,5 @@
 -- The rows that a short proof may have, by their numbers, as the code counts them: with n lines before them, 4n² combines, 4n² reduces and 2n scales make a line, n closes by number and 3n by stride end
--- the proof. Document 02, point 14. Assumes nothing.
+-- the proof. docs/FORMAT.md, "Short proofs". Assumes nothing.
 use Rattle.std.specs.Prelude.{Bool, true, false, cond, ◌&&◌, List, [], ◌∷◌, ℕ, ◌+◌, ◌-◌, ◌*◌, ◌/◌, ◌%◌, ltb, eqb, get_or, ℤ, pos, negsuc}
 use Rattle.calculus.specs.Rules.{Inference, Combine, Reduce, Scale, Row, CloseNumber, CloseStride}
 use Rattle.fields.specs.Fields.{field_bytes}

@@ -1,4 +1,4 @@
--- The order of the short proofs: by number of rows and then by bytes. Document 02, point 14. Assumes nothing.
+-- The order of the short proofs: by number of rows and then by bytes. docs/FORMAT.md, "Short proofs". Assumes nothing.
 use Rattle.std.specs.Prelude.{◌≡◌, ◌⊎◌, List, [], ◌∷◌, ℕ, ◌<◌, length}
 use Rattle.forms.specs.Forms.{All}
 use Rattle.calculus.specs.Rules.{Row}

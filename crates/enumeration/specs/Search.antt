@@ -1,4 +1,4 @@
--- The search through the sequence, as the code goes. Document 02, point 14. Assumes nothing.
+-- The search through the sequence, as the code goes. docs/FORMAT.md, "Short proofs". Assumes nothing.
 use Rattle.std.specs.Prelude.{true, false, List, [], ◌∷◌, map, ℕ, zero, suc, ◌-◌, length}
 use Rattle.forms.specs.Forms.{Line}
 use Rattle.calculus.specs.Rules.{◌▷◌, Row, Derive}

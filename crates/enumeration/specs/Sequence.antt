@@ -1,4 +1,4 @@
--- The short proofs of two bundles, as a sequence. Document 02, point 14. Assumes nothing.
+-- The short proofs of two bundles, as a sequence. docs/FORMAT.md, "Short proofs". Assumes nothing.
 use Rattle.std.specs.Prelude.{List, [], ◌∷◌, ◌++◌, map, ℕ, zero, suc, ◌+◌, leb, length}
 use Rattle.forms.specs.Edition.{edition1, newest_edition}
 use Rattle.forms.specs.Forms.{Line, lines, Formula}

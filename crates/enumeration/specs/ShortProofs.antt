@@ -1,4 +1,4 @@
--- The short proofs of two bundles, as a set. Document 02, point 14. Assumes nothing.
+-- The short proofs of two bundles, as a set. docs/FORMAT.md, "Short proofs". Assumes nothing.
 use Rattle.std.specs.Prelude.{◌≡◌, List, [], ◌∷◌, ◌++◌, map, ℕ, ◌≤◌, length, ℤ, pos, negsuc}
 use Rattle.forms.specs.Forms.{All}
 use Rattle.calculus.specs.Rules.{Combine, Reduce, Scale, Row, Derive, Strengthen, Split, CloseNumber, CloseStride, Round}
@@ -23,7 +23,7 @@ signed_multipliers = pos 1 ∷ pos 2 ∷ negsuc 1 ∷ negsuc 0 ∷ []
 abbrev pub strides : List ℕ
 strides = 2 ∷ 3 ∷ 4 ∷ []
 
--- The rows that a short proof may have: those of document 01, 0x10 to 0x15, with any line numbers.
+-- The rows that a short proof may have: 0x10 to 0x15, with any line numbers.
 abbrev pub PermittedRow : Row → Type 0
 PermittedRow (Derive (Combine s t α β)) = (α ∈ multipliers) × (β ∈ multipliers)
 PermittedRow (Derive (Reduce s t α)) = α ∈ signed_multipliers

@@ -1,4 +1,4 @@
--- What the call for the next proof answers and leaves in directed cases, in numerals. Document 02, point 14. Assumes nothing.
+-- What the call for the next proof answers and leaves in directed cases, in numerals. docs/FORMAT.md, "Short proofs". Assumes nothing.
 use Rattle.std.specs.Prelude.{List, [], ◌∷◌, ◌++◌, ℕ, length, replicate}
 use Rattle.forms.specs.Edition.{newest_edition}
 use Rattle.forms.specs.Forms.{lines}

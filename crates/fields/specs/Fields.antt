@@ -1,4 +1,4 @@
--- A file as its fields. Notes are dealt with here, and nothing above ever sees one. Document 01, "Fields". Assumes nothing.
+-- A file as its fields. Notes are dealt with here, and nothing above ever sees one. docs/FORMAT.md, "Bytes and fields". Assumes nothing.
 use Rattle.std.specs.Prelude.{◌≡◌, ◌⊎◌, Bool, true, false, List, [], ◌∷◌, ◌++◌, ℕ, zero, suc, ◌+◌, ◌<◌, ◌≤◌, leb, length, take, drop}
 use Rattle.std.proofs.Math.Option.{Option, none, some, map}
 use Rattle.number_bytes.specs.Numbers.{unsigned, unsigned_bytes}

@@ -6,7 +6,7 @@ use Rattle.forms.specs.Forms.{Form, Kind, ≤0, =0, ConstraintKind, says, ≠0, 
 unfoldable pub kind_of : ℕ → Kind
 kind_of b = elim (eqb b 0) [ true ↦ ≤0 | false ↦ =0 ]
 
--- What a constraint says: 2 for t ≠ 0 (document 02, point 6), else as above.
+-- What a constraint says: 2 for t ≠ 0, else as above.
 unfoldable pub constraint_kind_of : ℕ → ConstraintKind
 unfolding kind_of
 constraint_kind_of b = elim (eqb b 2) [ true ↦ ≠0 | false ↦ says (kind_of b) ]

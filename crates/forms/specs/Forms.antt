@@ -1,4 +1,4 @@
--- Forms, constraints, lines and formulas, and what they say at an assignment. Document 01, "Forms and lines". Assumes nothing.
+-- Forms, constraints, lines and formulas, and what they say at an assignment. docs/FORMAT.md, "Bundle" and "Formula". Assumes nothing.
 use Rattle.std.specs.Prelude.{◌≡◌, ◌⊎◌, List, [], ◌∷◌, ◌++◌, map, Bool, true, false, not, cond, ◌&&◌, ◌||◌, ℕ, suc, max, leb, get_or, ℤ, pos, negsuc, nat_abs, ◌+ℤ◌, ◌*ℤ◌, ◌≤ℤ◌}
 use Rattle.integers.specs.Linear.{eq_z}
 use Rattle.integers.specs.Divides.{◌∣ℤ◌}
@@ -48,7 +48,7 @@ unfoldable pub ◌·◌ : ℤ → Form → Form
 unfoldable pub ◌plus◌ : Form → ℕ → Form
 t plus n = record { coeffs = t.coeffs; d = t.d +ℤ pos n }
 
--- -t (document 02, point 6)
+-- -t
 abbrev pub neg : Form → Form
 neg t = negsuc 0 · t
 
@@ -69,7 +69,7 @@ abbrev pub Holds : Kind → ℤ → Type 0
 Holds ≤0 z = z ≤ℤ pos 0
 Holds =0 z = z ≡ pos 0
 
--- What a constraint says of its form: "t ≤ 0", "t = 0", or "t ≠ 0" (document 02, point 6).
+-- What a constraint says of its form: "t ≤ 0", "t = 0", or "t ≠ 0".
 pub data ConstraintKind : Type 0 where
   says : Kind → ConstraintKind
   ≠0 : ConstraintKind
@@ -109,7 +109,7 @@ occurs [] k = false
 occurs (c ∷ cs) k = nonzero (coeff c.form k) || occurs cs k
 
 -- A line is a form t with "t = 0" or "t ≤ 0", together with a second form tA, its partial interpolant; or it is a constraint "t ≠ 0" of A or of B
--- (document 02, point 6), which no row makes.
+-- which no row makes.
 pub data Side : Type 0 where
   A B : Side
 

@@ -1,4 +1,4 @@
--- Stride parts in reduced form: each number is its remainder from 0 to g-1. Document 02, point 5. Assumes nothing.
+-- Stride parts in reduced form: each number is its remainder from 0 to g-1. docs/FORMAT.md, "Formula". Assumes nothing.
 use Rattle.std.specs.Prelude.{map, ℕ, ◌≤◌, ℤ, pos, ◌≤ℤ◌, ◌<ℤ◌}
 use Rattle.integers.specs.Remainder.{remainder}
 use Rattle.forms.specs.Forms.{Form, All, Formula, literal, ◌divides◌, ◌and◌, ◌or◌}

@@ -1,4 +1,4 @@
--- How a file states a formula. Document 01, "Fields" and "Test a formula". Assumes nothing.
+-- How a file states a formula. docs/FORMAT.md, "Bytes and fields", "Register values" and "The order of tests". Assumes nothing.
 use Rattle.std.proofs.Math.Option.{Option, none, some}
 use Rattle.std.specs.Prelude.{true, false, List, [], ◌++◌, ℕ, zero, suc, ◌+◌, ◌≤◌, eqb, length, take, drop, pos, nat_abs}
 use Rattle.std.specs.Int.Signed.{le_z}
@@ -107,7 +107,7 @@ module _ (e : Edition) (K : ℕ) where
   formula_within zero = formula_field (λ at fs. refused (answer 17 file_proof at))
   formula_within (suc levels) = formula_field (λ at fs. two_parts (formula_within levels) fs)
 
--- The formula of a file over the given number of constants. Formulas stay in edition 1 (document 02, point 3). 2, 3, 19, 4, 6, 5, 7, 9, 12, 17.
+-- The formula of a file over the given number of constants. Formulas stay in edition 1. 2, 3, 19, 4, 6, 5, 7, 9, 12, 17.
 unfoldable pub read_formula : (K : ℕ) → Fields → Result Formula
 read_formula given fs = do
   h ← header FileKind.Formula file_proof 1 (some given) fs

@@ -1,4 +1,4 @@
--- Formulas tested at register values, in numerals: what testing answers. Document 01, "Test a formula"; document 02, points 1 and 3. Assumes nothing.
+-- Formulas tested at register values, in numerals: what testing answers. docs/FORMAT.md, "Register values", "The order of tests", "Proof" and "Bytes and fields". Assumes nothing.
 use Rattle.std.specs.Prelude.{Bool, true, false, List, [], ◌∷◌, ◌++◌, ℕ, zero, suc, replicate, ℤ, pos, negsuc}
 use Rattle.formula.specs.Test.{Tested}
 

@@ -1,4 +1,4 @@
--- Testing a formula at register values. Document 01, "Test a formula". Assumes nothing.
+-- Testing a formula at register values. docs/FORMAT.md, "Register values" and "The order of tests". Assumes nothing.
 use Rattle.std.specs.Prelude.{Bool, false, ◌&&◌, ◌||◌, List, ℕ, leb, length, get_or, ℤ, pos, nat_abs}
 use Rattle.std.specs.Int.Signed.{le_z}
 use Rattle.integers.specs.Linear.{eq_z}

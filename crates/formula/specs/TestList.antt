@@ -1,4 +1,4 @@
--- Testing one formula at a list of vectors. Document 02, point 11. Assumes nothing.
+-- Testing one formula at a list of vectors. docs/FORMAT.md, "The order of tests". Assumes nothing.
 use Rattle.std.specs.Prelude.{Bool, true, false, ◌&&◌, List, [], ◌∷◌, map, ℕ, zero, suc, ◌/◌, ◌%◌, leb, eqb, length, take, drop, ℤ, nat_abs}
 use Rattle.forms.specs.Edition.{edition1}
 use Rattle.forms.specs.Forms.{Formula}

@@ -1,4 +1,4 @@
--- On the lines that rows reach the rules of a split read as document 02 words them. Assumes nothing.
+-- On the lines that rows reach the rules of a split read as they are worded. Assumes nothing.
 use mathlib.Core.Path.{◌≡◌, refl, ◌∙◌, ap, ap₂}
 use mathlib.Core.List.{List, [], ◌∷◌, map}
 use mathlib.Core.Option.{some}

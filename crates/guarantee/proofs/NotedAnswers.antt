@@ -1,4 +1,4 @@
--- What check answers moves with the fields of its files, where notes are put in. Document 01, "Fields"; document 02, point 3, for the lengths. Assumes nothing.
+-- What check answers moves with the fields of its files, where notes are put in. docs/FORMAT.md, "Bytes and fields". Assumes nothing.
 use mathlib.Core.Path.{◌≡◌, refl, sym, ◌∙◌, ap, subst}
 use mathlib.Core.Option.{Option, none, some}
 use mathlib.Core.Bool.{Bool, true, false, cond}

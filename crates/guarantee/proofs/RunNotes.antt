@@ -1,4 +1,4 @@
--- What a run answers moves with the fields of its files, where notes are put in, and nothing else changes. Document 01, "Fields"; document 02, point 7. Assumes nothing.
+-- What a run answers moves with the fields of its files, where notes are put in, and nothing else changes. docs/FORMAT.md, "Bytes and fields" and "Guards of a run of stages". Assumes nothing.
 use mathlib.Core.Path.{◌≡◌, refl, sym, ap, ap₂, ◌∙◌}
 use mathlib.Core.Bool.{Bool, true, false, cond, ◌&&◌}
 use mathlib.Core.Option.{Option, none, some}

@@ -147,7 +147,7 @@ module _ (buffer lengths proof output sizes : List ℕ) (K : ℕ) (Ts : Run) (sh
     ours a (differing i l b n e q) = absurd (never-cut b i l e)
     ours a (of_run n e h) = n
 
--- Document 02, point 7.
+-- docs/FORMAT.md, "Guards of a run of stages".
 pub run-promised : RunPromised
 run-promised = record {
   interpolates = delivered;

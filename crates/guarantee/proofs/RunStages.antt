@@ -1,4 +1,4 @@
--- A run's stages are refused as check refuses them, each with its own file. Document 02, point 7. Assumes nothing.
+-- A run's stages are refused as check refuses them, each with its own file. docs/FORMAT.md, "Guards of a run of stages". Assumes nothing.
 use mathlib.Core.Path.{◌≡◌, refl, sym, ◌∙◌, ap, subst}
 use mathlib.Core.Logic.{◌⊎◌, inl, inr}
 use mathlib.Core.Option.{Option, none, some}

@@ -88,7 +88,7 @@ pub record ReadAs (n K : ℕ) (kinds : List ℕ) (numbers : List ℤ) (lent_kind
 pub record Acceptance : Type 0 where
   -- ---- check
   pub accepted_iff : (A B proof output left : List ℕ) (r : WriteResult) → Checks A B proof output left r → r.answer.number ≡ 0 ↔ Checkable A B proof output
-  -- and so is that of a turn, just where it serves a job whose parts lie in the buffer and check accepts them (document 02, point 13)
+  -- and so is that of a turn, just where it serves a job whose parts lie in the buffer and check accepts them
   pub turn_iff : (s : Scheduler) (buffer output left : List ℕ) (r : Turned) → Turns s buffer output left r → r.result.answer.number ≡ 0
       ↔ ((r.idle ≡ false) × AllLie buffer (slot_at s r.seat).job
       × Checkable (part buffer (slot_at s r.seat).job.a) (part buffer (slot_at s r.seat).job.b) (part buffer (slot_at s r.seat).job.proof) output)

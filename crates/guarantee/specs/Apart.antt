@@ -1,4 +1,4 @@
--- Registers that must not equal a limit: document 02, point 6. (That splits are sound, laid out and told by step and branch is in the demands, which speak of every row.) Assumes nothing.
+-- Registers that must not equal a limit. docs/FORMAT.md, "Proof". (That splits are sound, laid out and told by step and branch is in the demands, which speak of every row.) Assumes nothing.
 use Rattle.std.specs.Prelude.{◌≡◌, Bool, List, ℕ, ◌-◌, ◌≤◌, ◌<◌, pos, length}
 use Rattle.std.proofs.Math.Option.{some}
 use Rattle.std.proofs.Math.ListN.{get_elem?}
@@ -7,7 +7,7 @@ use Rattle.forms.specs.Forms.{Form, Side, Line, ≠0, Constraint, Formula, line_
 use Rattle.calculus.specs.Rules.{Nth, Closed}
 use Rattle.calculus.specs.Reached.{Reached, Throughout}
 
--- On the lines that rows reach from A and B the rules of a split read as document 02 words them: a t ≠ 0 is a constraint's, its place tells whose it is,
+-- On the lines that rows reach from A and B the rules of a split read as they are worded: a t ≠ 0 is a constraint's, its place tells whose it is,
 -- A's has t itself for its partial interpolant, so that its branches have t+1 and -t+1; B's has 0, and -0 is 0 too.
 pub record SplitsAsWorded : Type 0 where
   -- each row of a closed proof finds such lines

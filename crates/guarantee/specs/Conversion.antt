@@ -1,4 +1,4 @@
--- Between the editions: document 02, point 4. Of what the functions turn_bundle, turn_proof and check ensure. Assumes nothing.
+-- Between the editions. docs/FORMAT.md, "Turning into the other edition". Of what the functions turn_bundle, turn_proof and check ensure. Assumes nothing.
 use Rattle.std.specs.Prelude.{◌≡◌, ◌⊎◌, ◌↔◌, false, List, [], ◌∷◌, ◌++◌, ℕ, suc, ◌+◌, ◌≤◌, ◌<◌, length, take, ℤ}
 use Rattle.std.proofs.Math.Option.{some}
 use Rattle.std.specs.Int.Signed.{mag}

@@ -1,4 +1,4 @@
--- Edition 2: document 02, point 3. This office beside the one before edition 2, how long a bundle may be, what an edition that is not read gives, a 33rd constraint, a kind or count that is wrong, and a number that its edition does not hold. What differs, `offices` and `length_A` to `length_plain_else` are said of the definitions, all else of what each operation's function ensures. Assumes nothing.
+-- Edition 2. This office beside the one before edition 2, how long a bundle may be, what an edition that is not read gives, a 33rd constraint, a kind or count that is wrong, and a number that its edition does not hold. What differs, `offices` and `length_A` to `length_plain_else` are said of the definitions, all else of what each operation's function ensures. Assumes nothing.
 -- (That files of both editions are sound, laid out, read and written, and may differ in edition, is in the demands, which speak of both.)
 use Rattle.std.specs.Prelude.{◌≡◌, ◌⊎◌, List, [], ◌∷◌, ◌++◌, ℕ, suc, ◌+◌, ◌*◌, ◌≤◌, ◌<◌, ℤ, pos, negsuc, nat_abs, length, get_or}
 use Rattle.std.proofs.Math.Option.{some}

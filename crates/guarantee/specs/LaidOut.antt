@@ -1,4 +1,4 @@
--- What is laid out: whole fields of known tags, in their places, of right lengths, edition and one K, and of a proof one table whose branches are all closed. Document 01, "Fields"; document 02, points 1, 3 and 6. Assumes nothing.
+-- What is laid out: whole fields of known tags, in their places, of right lengths, edition and one K, and of a proof one table whose branches are all closed. docs/FORMAT.md, "Bytes and fields" and "Proof". Assumes nothing.
 -- (How long a file may be, how many constraints and rows it may have, and that no number of a bundle is -2,147,483,648, are limits of `BundleFile`, `ProofFile` and `Proves`.)
 use Rattle.std.specs.Prelude.{◌≡◌, ◌⊎◌, List, [], ◌∷◌, ℕ, suc, ◌≤◌}
 use Rattle.std.proofs.Math.Option.{some}

@@ -1,4 +1,4 @@
--- Where a file's places stand once whole notes are put in, and answers with them. Document 01, "Fields" (notes) and "What each operation refuses" (places). Assumes nothing.
+-- Where a file's places stand once whole notes are put in, and answers with them. Assumes nothing.
 use Rattle.std.proofs.Math.Option.{Option, none, some}
 use Rattle.std.specs.Prelude.{cond, List, ℕ, zero, suc, ◌+◌, ◌-◌, leb, eqb, length}
 use Rattle.answers.specs.declared.Answer.{Answer}

@@ -1,5 +1,5 @@
 -- Strides that are powers of two, quickly: the quick way, in 32-bit words that wrap, and the old one agree for every formula and all permitted values; they
--- agree for every integer assignment. Document 02, point 11. Assumes nothing.
+-- agree for every integer assignment. docs/FORMAT.md, "The order of tests". Assumes nothing.
 use Rattle.std.specs.Prelude.{◌≡◌, ◌↔◌, true, List, ℕ, ◌+◌, ◌*◌, ◌%◌, ◌^◌, ◌≤◌, ◌<◌, length, ℤ, pos, ◌+ℤ◌, ◌-ℤ◌, ◌*ℤ◌}
 use Rattle.integers.specs.Divides.{◌∣ℤ◌}
 use Rattle.forms.specs.Forms.{Form, value, Assignment, Formula}

@@ -1,4 +1,4 @@
--- Stride parts in reduced form: what check writes is reduced, and no register value tells it from document 01's formula. Document 02, point 5. Assumes nothing.
+-- Stride parts in reduced form: what check writes is reduced, and no register value tells it from the formula as it stood. docs/FORMAT.md, "Formula". Assumes nothing.
 use Rattle.std.specs.Prelude.{◌≡◌, ◌↔◌, List, Bool, ℕ, ◌≤◌, ℤ}
 use Rattle.forms.specs.Edition.{Edition, edition1, newest_edition}
 use Rattle.forms.specs.Forms.{Form, Line, Assignment, Formula, literal, ◌divides◌, ◌and◌, ◌or◌, ◌plus◌, within, True, height}
@@ -12,7 +12,7 @@ use Rattle.proof.specs.Layout.{Yields}
 use Rattle.proof.specs.Promises.{Checks}
 use Rattle.guarantee.specs.Acceptance.{Checkable, WrittenAs}
 
--- The formula of a closed branch with the numbers of a stride form as they stand, as document 01 has it.
+-- The formula of a closed branch with the numbers of a stride form as they stand.
 abbrev mutual
   pub as_it_stood : {e : Edition} {in_b : ℕ → Bool} {ls : List Line} {I : Formula} → Closed e in_b ls I → Formula
   as_it_stood (derive _ _ _ p) = as_it_stood p

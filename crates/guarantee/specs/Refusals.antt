@@ -37,7 +37,7 @@ pub record Refusals : Type 0 where
   -- check: the output is as it was, and no byte is counted
   pub check : (A B proof output left : List ℕ) (r : WriteResult) → Checks A B proof output left r
       → ToldByNumber r.answer × (¬ (r.answer.number ≡ 0) → (left ≡ output) × (r.count ≡ 0))
-  -- the guards of a run: both outputs are as they were, and no byte is counted (document 02, point 7)
+  -- the guards of a run: both outputs are as they were, and no byte is counted
   pub guards : (buffer lengths proof output sizes left sizesLeft : List ℕ) (r : WriteResult) → WritesGuards buffer lengths proof output sizes left sizesLeft r
       → ToldByNumber r.answer × (¬ (r.answer.number ≡ 0) → (left ≡ output) × (sizesLeft ≡ sizes) × (r.count ≡ 0))
   -- read: both outputs are as they were, edition, count and K are 0
@@ -69,10 +69,10 @@ pub record Refusals : Type 0 where
   -- a turn: as check (the scheduler is no lent buffer: its seat is cleared); 0 only of a turn that served a job, never of an idle one (just where: `turn_iff` of `Acceptance`)
   pub turn : (s : Scheduler) (buffer output left : List ℕ) (r : Turned) → Turns s buffer output left r
       → (r.result.answer.number ≡ 0 → r.idle ≡ false) × ToldByNumber r.result.answer × (¬ (r.result.answer.number ≡ 0) → (left ≡ output) × (r.result.count ≡ 0))
-  -- test_list: as check (document 02, point 11)
+  -- test_list: as check
   pub test-list : (formula : List ℕ) (K : ℕ) (values : List ℤ) (output left : List ℕ) (r : WriteResult) → TestsList formula K values output left r
       → ToldByNumber r.answer × (¬ (r.answer.number ≡ 0) → (left ≡ output) × (r.count ≡ 0))
-  -- shorten: both outputs are as they were, and both counts 0 (document 02, point 12)
+  -- shorten: both outputs are as they were, and both counts 0
   pub shorten : (A B proof report table reportLeft tableLeft : List ℕ) (r : ShortenResult) → Shortens A B proof report table reportLeft tableLeft r
       → ToldByNumber r.answer × (¬ (r.answer.number ≡ 0) → (reportLeft ≡ report) × (tableLeft ≡ table) × (r.rows ≡ 0) × (r.count ≡ 0))
   -- print and print_words: as check

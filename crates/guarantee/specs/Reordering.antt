@@ -1,4 +1,4 @@
--- Registers listed in another sequence: document 02, point 9. Of the definition of check, and of what the functions ensure. Assumes nothing.
+-- Registers listed in another sequence. Of the definition of check, and of what the functions ensure. Assumes nothing.
 use Rattle.std.specs.Prelude.{◌≡◌, ◌↔◌, List, ℕ, ◌≤◌, ◌<◌, length, ℤ, nat_abs}
 use Rattle.forms.specs.Forms.{All, Assignment, Formula, True}
 use Rattle.answers.specs.declared.WriteResult.{WriteResult}

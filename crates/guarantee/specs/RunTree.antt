@@ -1,4 +1,4 @@
--- Where in the tree an answer of a run stands. Document 02, "Where in the tree" and point 7. Assumes nothing.
+-- Where in the tree an answer of a run stands. docs/FORMAT.md, "Where in the tree" and "Guards of a run of stages". Assumes nothing.
 use Rattle.std.specs.Prelude.{◌≡◌, ◌⊎◌, List, [], ◌∷◌, ℕ, suc, ◌<◌}
 use Rattle.forms.specs.Forms.{All}
 use Rattle.answers.specs.declared.Answer.{Answer}

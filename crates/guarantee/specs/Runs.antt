@@ -1,4 +1,4 @@
--- What the guards of a run are worth: sequence interpolants, for whatever the stages' writers made and meant. Document 02, point 7. Of what the function ensures. Assumes nothing.
+-- What the guards of a run are worth: sequence interpolants, for whatever the stages' writers made and meant. docs/FORMAT.md, "Guards of a run of stages". Of what the function ensures. Assumes nothing.
 use Rattle.std.specs.Prelude.{◌≡◌, ◌↔◌, ◌⊎◌, cond, List, [], ◌∷◌, ◌++◌, map, ℕ, suc, ◌+◌, ◌≤◌, ◌<◌, eqb, length, take}
 use Rattle.forms.specs.Edition.{edition1, newest_edition}
 use Rattle.forms.specs.Forms.{All, Constraint, Formula}

@@ -1,4 +1,4 @@
--- All short proofs: a call gives the next one, and repeated calls give every one. Document 02, point 14. Of what the function ensures. Assumes nothing.
+-- All short proofs: a call gives the next one, and repeated calls give every one. docs/FORMAT.md, "Short proofs". Of what the function ensures. Assumes nothing.
 -- Which files they are is `ShortProof`, by check's acceptance; their order is `Precedes`; what follows a table is `NextIs`.
 use Rattle.std.specs.Prelude.{◌≡◌, ◌↔◌, ◌⊎◌, List, [], ◌∷◌, ℕ, ◌≤◌, ◌<◌, length, take}
 use Rattle.forms.specs.Edition.{edition1}

@@ -1,4 +1,4 @@
--- Rows that nothing rests on: document 02, point 12. Of what `dulgaverk_shorten` ensures, beside what check ensures. Assumes nothing.
+-- Rows that nothing rests on. docs/FORMAT.md, "Rows that nothing rests on". Of what `dulgaverk_shorten` ensures, beside what check ensures. Assumes nothing.
 -- (That a refusal writes nothing is in `Refusals`, where in the tree it stands in `InTree`.)
 use Rattle.std.specs.Prelude.{◌≡◌, ◌↔◌, Bool, List, ℕ, ◌≤◌, T, length, take}
 use Rattle.forms.specs.Edition.{Edition, newest_edition}

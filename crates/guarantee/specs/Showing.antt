@@ -1,4 +1,4 @@
--- Showing a constraint: what is handed back where it is accepted. Document 01, "Show a constraint". Of what the function show ensures. Assumes nothing.
+-- Showing a constraint: what is handed back where it is accepted. docs/FORMAT.md, "The order of tests". Of what the function show ensures. Assumes nothing.
 use Rattle.std.specs.Prelude.{◌≡◌, List, ◌++◌, ℕ, ◌+◌, ◌-◌, ◌≤◌, ◌<◌, length}
 use Rattle.std.proofs.Math.Option.{some}
 use Rattle.std.proofs.Math.ListN.{get_elem?}

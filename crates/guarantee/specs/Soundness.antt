@@ -23,7 +23,7 @@ use Rattle.guarantee.specs.Testing.{FormulaFile}
 abbrev pub Meaning : Type 0
 Meaning = List Item → ℕ × List Constraint
 
--- It is free except where every field is one of document 01's, or 0x05 of document 02, point 6, laid out in edition 1 or in edition 2, each by its own layout (point 3):
+-- It is free except where every field is a known one, laid out in edition 1 or in edition 2, each by its own layout:
 -- there it gives that K and those constraints in file order.
 abbrev pub Faithful : Meaning → Type 0
 Faithful M = (n : ℕ) → (n ≡ 1) ⊎ (n ≡ 2) → (F : List Item) (K : ℕ) (cs : List Constraint) → StatesAll n (without_notes F) K cs → M F ≡ (K, cs)
@@ -64,7 +64,7 @@ pub record Soundness : Type 0 where
   pub listed : (A B proof output left : List ℕ) (r : WriteResult) → Bytes A → Bytes B → Checks A B proof output left r → r.answer.number ≡ 0 → WholeFields A × WholeFields B
   -- and so is every bundle that read accepts
   pub listed_read : (file kinds : List ℕ) (numbers : List ℤ) (kinds' : List ℕ) (numbers' : List ℤ) (r : ReadResult) → Bytes file → Reads file kinds numbers kinds' numbers' r → r.answer.number ≡ 0 → WholeFields file
-  -- notes are passed over, a bundle's length being 4,096 where check reads edition 1 in it, 8,192 where it does not or never comes to read it (document 02, point 3; in numerals in `EditionsPromised`)
+  -- notes are passed over, a bundle's length being 4,096 where check reads edition 1 in it, 8,192 where it does not or never comes to read it (in numerals in `EditionsPromised`)
   pub notes : NotesPassedOver limit_a limit_b
   -- and with the length by the file alone: 4,096 for a bundle whose first field, notes aside, is a whole 0x01 of length 1 that says 1, 8,192 for any other
   pub notes_plain : NotesPassedOver (λ A B proof. bundle_limit A) (λ A B proof. bundle_limit B)

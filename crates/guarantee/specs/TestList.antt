@@ -1,5 +1,5 @@
 -- What testing a formula at a list of vectors tells: when it is accepted, what each byte says, and which refusal comes first. Of what the functions test and
--- test_list ensure. Document 02, point 11. Assumes nothing.
+-- test_list ensure. docs/FORMAT.md, "The order of tests". Assumes nothing.
 use Rattle.std.specs.Prelude.{◌≡◌, ◌↔◌, List, ℕ, ◌*◌, ◌<◌, ◌≤◌, length, get_or, take, drop, ℤ, pos, nat_abs}
 use Rattle.forms.specs.Forms.{All, Formula}
 use Rattle.answers.specs.declared.WriteResult.{WriteResult}

@@ -1,4 +1,4 @@
--- Testing a formula: what is accepted, and what is then told, of every file, whoever wrote it. Document 01, "Fields" and "Test a formula"; document 02, point 1 (600 levels). Of what the function test ensures. Assumes nothing.
+-- Testing a formula: what is accepted, and what is then told, of every file, whoever wrote it, to 600 levels. Of what the function test ensures. Assumes nothing.
 use Rattle.std.specs.Prelude.{◌≡◌, ◌↔◌, true, List, [], ◌∷◌, ℕ, ◌+◌, ◌*◌, ◌≤◌, ℤ, pos, nat_abs, length, take, drop}
 use Rattle.std.proofs.Math.Option.{some}
 use Rattle.forms.specs.Forms.{All, ≤0, =0, Form, Formula, literal, ◌divides◌, ◌and◌, ◌or◌, height, True}

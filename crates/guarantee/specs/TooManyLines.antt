@@ -1,4 +1,4 @@
--- Where 16 stands: at the first row that would make a line too many, told by the tags before it and a rounding's k. Document 01, "Check"; document 02, points 3 and 4. Of what the function check ensures. Assumes nothing.
+-- Where 16 stands: at the first row that would make a line too many, told by the tags before it and a rounding's k. docs/FORMAT.md, "The order of tests", "Bytes and fields" and "Turning into the other edition". Of what the function check ensures. Assumes nothing.
 use Rattle.std.specs.Prelude.{◌≡◌, Bool, true, false, List, [], ◌∷◌, ℕ, zero, suc, ◌+◌, ◌≤◌, ◌<◌, length}
 use Rattle.std.proofs.Math.Option.{Option, none, some}
 use Rattle.forms.specs.Edition.{newest_edition}

@@ -1,4 +1,4 @@
--- Where in the tree a refusal stands: document 02, point 8. Of what each operation's function ensures. Assumes nothing.
+-- Where in the tree a refusal stands. docs/FORMAT.md, "Where in the tree". Of what each operation's function ensures. Assumes nothing.
 use Rattle.std.specs.Prelude.{◌≡◌, Bool, false, List, ℕ, ℤ}
 use Rattle.answers.specs.declared.Answer.{Answer}
 use Rattle.answers.specs.declared.WriteResult.{WriteResult}

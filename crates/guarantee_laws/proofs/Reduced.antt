@@ -21,7 +21,7 @@ use Rattle.proof.proofs.ReducedTests.{tested_alike, file-length}
 use Rattle.guarantee.specs.Reduced.{as_it_stood, rounded_as_it_stood, InReducedForm}
 use Rattle.guarantee.proofs.Acceptance.{is-checkable, leaves}
 
--- ---- document 01's formula
+-- ---- the formula with its numbers as they stand
 -- a stride form as it stands, and reduced
 stride-standing : {in_b : ℕ → Bool} {g : ℕ} {t_A : Form} {E : Formula} → StrideOf in_b g t_A E → reducing (g divides within in_b t_A) ≡ E
 unfolding reducing

@@ -1,4 +1,4 @@
--- What the office before edition 2 accepts, and that this one does so too and answers alike; where its 1 comes later. Document 02, point 3. Assumes nothing.
+-- What the office before edition 2 accepts, and that this one does so too and answers alike; where its 1 comes later. docs/FORMAT.md, "Bytes and fields". Assumes nothing.
 use mathlib.Core.Path.{◌≡◌, refl, sym, ◌∙◌, ap, ap₂, subst}
 use mathlib.Core.Logic.{◌⊎◌, inl, inr}
 use mathlib.Core.Option.{Option, none, some}

@@ -1,4 +1,4 @@
--- Testing answers alike on a formula's file and on that of the formula with its stride parts reduced. Document 02, point 5. Assumes nothing.
+-- Testing answers alike on a formula's file and on that of the formula with its stride parts reduced. docs/FORMAT.md, "Formula". Assumes nothing.
 use mathlib.Core.Path.{◌≡◌, refl, sym, ◌∙◌, ap, ap₂}
 use mathlib.Core.Logic.{◌↔◌}
 use mathlib.Core.Bool.{Bool, true, false, ◌&&◌}

@@ -1,4 +1,4 @@
--- This office, which reads editions 1 and 2, beside the one before edition 2, which reads edition 1 only and has every row and constraint of document 02 all the same; and how long a bundle with notes may be. Document 02, point 3. Assumes nothing.
+-- This office, which reads editions 1 and 2, beside the one before edition 2, which reads edition 1 only and has every row and constraint all the same; and how long a bundle with notes may be. docs/FORMAT.md, "Bytes and fields". Assumes nothing.
 use Rattle.std.specs.Prelude.{◌≡◌, ◌↔◌, ◌⊎◌, List, ℕ, ◌≤◌, length}
 use Rattle.std.proofs.Math.Option.{none}
 use Rattle.forms.specs.Edition.{edition1, edition2, newest_edition}

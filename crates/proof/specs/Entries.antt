@@ -1,4 +1,4 @@
--- How a proof file states its rows and claims. Document 01, "The rows" and "Fields"; document 02, points 1, 3 and 6. Assumes nothing.
+-- How a proof file states its rows and claims. docs/FORMAT.md, "Proof" and "Bytes and fields". Assumes nothing.
 use Rattle.std.proofs.Math.Option.{Option, none, some}
 use Rattle.std.specs.Prelude.{Bool, true, false, List, ◌++◌, map, ℕ, ◌+◌, ◌*◌, eqb, length, take, drop}
 use Rattle.forms.specs.Edition.{Edition}
@@ -10,7 +10,7 @@ use Rattle.fields.specs.declared.FileKind.{FileKind}
 use Rattle.fields.specs.Fields.{Field}
 use Rattle.fields.specs.Header.{known}
 
--- 0x10 to 0x15 and 0x20; 0x16 and 0x17 are those of document 02, points 1 and 6.
+-- 0x10 to 0x17 and 0x20.
 pub data EntryTag : Type 0 where
   combine_tag reduce_tag scale_tag strengthen_tag number_tag stride_tag round_tag split_tag claim_tag : EntryTag
 
@@ -89,7 +89,7 @@ in_place made split_tag = true
 in_place made claim_tag = made
 
 module _ (e : Edition) where
-  -- Line number i of a row, and the bytes of its multiplier i (or g, or k) behind n line numbers. (Line numbers have one byte in edition 1, two in edition 2: document 02, point 3.)
+  -- Line number i of a row, and the bytes of its multiplier i (or g, or k) behind n line numbers. (Line numbers have one byte in edition 1, two in edition 2.)
   unfoldable pub line_number : (i : ℕ) → List ℕ → ℕ
   line_number i bs = unsigned (take e.line_width (drop (i * e.line_width) bs))
 

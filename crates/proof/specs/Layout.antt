@@ -1,4 +1,4 @@
--- What it is for three files to certify a formula, apart from checking them: demand 2's right-hand side. Document 02, point 3, for the editions. Assumes nothing.
+-- What it is for three files to certify a formula, apart from checking them: demand 2's right-hand side. docs/FORMAT.md, "Bytes and fields". Assumes nothing.
 use Rattle.std.specs.Prelude.{◌≡◌, List, [], ◌∷◌, ℕ, ◌≤◌, length}
 use Rattle.std.proofs.Math.Option.{some}
 use Rattle.forms.specs.Edition.{Edition, edition, edition1}

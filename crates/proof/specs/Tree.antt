@@ -1,4 +1,4 @@
--- Where in the tree a refusal stands, told from the fields before it: by their tags, and by a rounding's k. Document 02, "Where in the tree". Assumes nothing.
+-- Where in the tree a refusal stands, told from the fields before it: by their tags, and by a rounding's k. docs/FORMAT.md, "Where in the tree". Assumes nothing.
 use Rattle.std.specs.Prelude.{◌≡◌, ◌⊎◌, true, false, List, [], ◌∷◌, ℕ, suc, ◌-◌, eqb, length, drop}
 use Rattle.std.proofs.Math.Option.{Option, none, some}
 use Rattle.answers.specs.declared.Answer.{Answer}

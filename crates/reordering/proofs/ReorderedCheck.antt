@@ -1,4 +1,4 @@
--- Registers listed in another sequence: the check gives the same answer, and the same formula so reordered. Document 02, point 9. Assumes nothing.
+-- Registers listed in another sequence: the check gives the same answer, and the same formula so reordered. Assumes nothing.
 use mathlib.Core.Path.{◌≡◌, refl, sym, subst, ap, ap₂, ◌∙◌}
 use mathlib.Core.Option
 use mathlib.Core.Option.{Option, none, some}

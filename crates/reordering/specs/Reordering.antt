@@ -1,4 +1,4 @@
--- Registers listed in another sequence. Document 02, point 9. Assumes nothing.
+-- Registers listed in another sequence. Assumes nothing.
 use Rattle.std.specs.Prelude.{◌≡◌, Bool, cond, ◌&&◌, ◌||◌, List, [], ◌∷◌, ◌++◌, ℕ, zero, suc, ◌+◌, ◌*◌, ◌<◌, eqb, length, get_or, take, drop, ℤ, pos}
 use Rattle.std.proofs.Math.Option
 use Rattle.forms.specs.Edition.{Edition, edition}

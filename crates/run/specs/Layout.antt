@@ -1,4 +1,4 @@
--- What it is for a run's files to certify its guards, apart from checking them. Document 02, point 7. Assumes nothing.
+-- What it is for a run's files to certify its guards, apart from checking them. docs/FORMAT.md, "Guards of a run of stages". Assumes nothing.
 use Rattle.std.specs.Prelude.{◌≡◌, List, [], ℕ, suc, ◌≤◌, pos, length, get_or}
 use Rattle.forms.specs.Edition.{edition, edition1}
 use Rattle.forms.specs.Forms.{All, Constraint, ≤0, Formula, literal}

@@ -1,4 +1,4 @@
--- In which order a run is refused before its proof's fields. Document 02, point 7: 25 first, 1 for the stages in turn and the proof, the stages, 26 after them. Of what the function ensures. Assumes nothing.
+-- In which order a run is refused before its proof's fields: 25 first, 1 for the stages in turn and the proof, the stages, 26 after them. Of what the function ensures. Assumes nothing.
 use Rattle.std.specs.Prelude.{◌≡◌, List, ◌∷◌, ◌++◌, ℕ, ◌+◌, ◌≤◌, ◌<◌, length}
 use Rattle.std.proofs.Math.Option.{none}
 use Rattle.forms.specs.Edition.{newest_edition}

@@ -1,4 +1,4 @@
--- How a run's proof is refused: as check refuses it for every cut, but for a 13 of some cut, a claim and unlike branches. Document 02, point 7. Assumes nothing.
+-- How a run's proof is refused: as check refuses it for every cut, but for a 13 of some cut, a claim and unlike branches. docs/FORMAT.md, "Guards of a run of stages". Assumes nothing.
 use Rattle.std.specs.Prelude.{◌≡◌, ◌⊎◌, List, ℕ, ◌≤◌, ◌<◌, length}
 use Rattle.answers.specs.declared.Answer.{Answer}
 use Rattle.answers.specs.Answers.{refused}

@@ -1,4 +1,4 @@
--- Guards for a whole run of stages. Document 02, point 7. Assumes nothing.
+-- Guards for a whole run of stages. docs/FORMAT.md, "Guards of a run of stages". Assumes nothing.
 use Rattle.std.proofs.Math.Option.{Option, none, some}
 use Rattle.std.specs.Prelude.{Bool, true, false, cond, ◌&&◌, List, [], ◌∷◌, map, ℕ, zero, suc, ◌+◌, leb, eqb, length, take, drop}
 use Rattle.forms.specs.Edition.{edition, edition1, newest_edition}

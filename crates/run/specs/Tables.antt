@@ -1,4 +1,4 @@
--- Runs and what the operation answers and leaves, as one table. Document 02, point 7. Assumes nothing.
+-- Runs and what the operation answers and leaves, as one table. docs/FORMAT.md, "Guards of a run of stages". Assumes nothing.
 use Rattle.std.specs.Prelude.{List, [], ◌∷◌, ◌++◌, ℕ, length, replicate}
 use Rattle.answers.specs.declared.Answer.{Answer}
 use Rattle.run.specs.Run.{GuardsWritten}

@@ -1,4 +1,4 @@
--- Whether the branches that must be alike are alike, and no claim: the tree of a proof, walked by its fields alone, without lines. Document 02, point 7: 27 and 28. Assumes nothing.
+-- Whether the branches that must be alike are alike, and no claim: the tree of a proof, walked by its fields alone, without lines: 27 and 28. Assumes nothing.
 use Rattle.std.proofs.Math.Option.{Option, none, some}
 use Rattle.std.specs.Prelude.{Bool, true, false, ◌&&◌, List, [], ◌∷◌, ℕ, zero, suc, eqb}
 use Rattle.forms.specs.Edition.{Edition, edition}

@@ -1,4 +1,4 @@
--- Rows that nothing rests on, and a closed branch without them. Document 02, point 12. Assumes nothing.
+-- Rows that nothing rests on, and a closed branch without them. docs/FORMAT.md, "Rows that nothing rests on". Assumes nothing.
 use Rattle.std.specs.Prelude.{◌≡◌, ◌⊎◌, List, [], ◌∷◌, Bool, true, false, cond, ◌&&◌, ◌||◌, ℕ, zero, suc, length, eqb}
 use Rattle.forms.specs.Edition.{Edition}
 use Rattle.forms.specs.Forms.{Form, Line, Formula}

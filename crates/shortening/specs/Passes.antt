@@ -1,5 +1,5 @@
 -- The report, and what becomes of each entry, computed of the table alone: line counts on the way there, marks on the way back, new numbers on a second way.
--- This is what the function ensures; laws tie it to the derivation (`Promised`). Document 02, point 12. Assumes nothing.
+-- This is what the function ensures; laws tie it to the derivation (`Promised`). docs/FORMAT.md, "Rows that nothing rests on". Assumes nothing.
 use Rattle.std.specs.Prelude.{List, [], ◌∷◌, Bool, true, false, not, ◌&&◌, ◌||◌, ℕ, zero, suc, eqb}
 use Rattle.calculus.specs.Rules.{Inference, Derive, Strengthen, Round, Split, CloseNumber, CloseStride, Entry, row, claim}
 use Rattle.shortening.specs.Needed.{named, mark_of, renew, kept_lines}

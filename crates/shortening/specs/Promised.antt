@@ -1,4 +1,4 @@
--- What statements say of shortening: document 02, point 12. w is what one call leaves. Assumes nothing.
+-- What statements say of shortening. docs/FORMAT.md, "Rows that nothing rests on". w is what one call leaves. Assumes nothing.
 use Rattle.std.specs.Prelude.{◌≡◌, ◌⊎◌, List, [], ◌∷◌, ℕ, ◌≤◌, ◌<◌, length}
 use Rattle.forms.specs.Edition.{newest_edition}
 use Rattle.forms.specs.Forms.{lines, Formula}

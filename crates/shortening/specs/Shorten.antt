@@ -1,4 +1,4 @@
--- Shortening a proof: the report on its rows, and the table without those that nothing rests on. Document 02, point 12. Assumes nothing.
+-- Shortening a proof: the report on its rows, and the table without those that nothing rests on. docs/FORMAT.md, "Rows that nothing rests on". Assumes nothing.
 use Rattle.std.specs.Prelude.{Bool, true, false, ◌&&◌, List, [], ◌∷◌, ◌++◌, map, ℕ, leb, length}
 use Rattle.std.proofs.Math.Option.{Option, none, some}
 use Rattle.forms.specs.Edition.{Edition, edition, newest_edition}

@@ -1,4 +1,4 @@
--- Proofs to shorten, and what shortening leaves of lent outputs of so many bytes 0xAA, as one table in numerals. Document 02, point 12. Assumes nothing.
+-- Proofs to shorten, and what shortening leaves of lent outputs of so many bytes 0xAA, as one table in numerals. docs/FORMAT.md, "Rows that nothing rests on". Assumes nothing.
 use Rattle.std.specs.Prelude.{List, [], ◌∷◌, ◌++◌, ℕ, length, replicate}
 use Rattle.proof.specs.Stages.{told}
 use Rattle.shortening.specs.Shorten.{Shortened}
