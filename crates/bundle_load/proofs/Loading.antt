@@ -10,8 +10,15 @@ use native.Mathlib.Omega.{arith}
 use lib.Dec.{T, leb→le}
 use borrow.Author.Tests.{ltb-false, eqb-true, eq-eqb, ne_eqb}
 use lib.IntN.{ℤ, pos, ◌*ℤ◌, zero-*ℤ}
-use lib.ListN.{length, get_or, take, drop, set, replicate, length-replicate, get_or-replicate, length-append, length-map, length-set}
-use lib.Seq.{paste, sets, sets-eq, length-sets, length-paste, take-take, take_all, take_at, get_or_at, get_or-set_same}
+use lib.ListN.{length, get_or, take, drop, set, replicate, length-replicate, get_or-replicate, length-append, length-drop, length-map, length-set}
+use borrow.Rule.Slice.PartMut.{put_mid, same_len_mid}
+use Rattle.std.specs.Prelude.{Ok, Err}
+use Rattle.std.specs.declared.result.Result as code
+use Rattle.std.proofs.lemmas.Slice.{put_mid-paste}
+use Rattle.answers.specs.Refusals.{fault}
+use Rattle.answers.specs.declared.refusals.Refusal.{Refusal}
+use Rattle.answers.specs.declared.refusals.Fault.{Fault}
+use lib.Seq.{paste, length-paste, length-take-le, take-take, take_all, take_at, get_or_at, get_or-set_same}
 use Rattle.integers.specs.Magnitude.{Within}
 use Rattle.forms.specs.Forms.{Form, LineKind, Line, kind_on, small, every, ◌·◌}
 use Rattle.forms.specs.Flat.{constraint_kind_of, line_kind_of, form_in}
@@ -19,18 +26,18 @@ use Rattle.forms.proofs.Flat.{kind-in-A, kind-in-B, kind-apart-B}
 use Rattle.calculus.specs.Rules.{◌▷◌}
 use Rattle.number_bytes.specs.Numbers.{signed, signeds, flat, form_from}
 use Rattle.number_bytes.proofs.Signed.{length-signeds, signeds-take, signeds-last}
-use Rattle.fields.specs.Fields.{ends, cut}
-use Rattle.fields.specs.Places.{fields_at}
+use Rattle.fields.specs.Fields.{Fields, ends, cut, ◌▸◌}
+use Rattle.fields.specs.Places.{fields_at, whole_field, next_of}
+use Rattle.fields.specs.declared.WholeField.{WholeField}
 use Rattle.fields.proofs.Places.{Starts, starts-size}
 use Rattle.bundle.specs.Bundle.{form_small}
-use Rattle.bundle_scan.specs.Scan.{fault_of, count, fault, counted, stated}
+use Rattle.bundle_scan.specs.Scan.{fault_of, counted, stated}
 use Rattle.bundle_scan.proofs.Scanning.{counted-on, passed-both, count_is, proper-of, tag-most}
 use Rattle.lines.specs.Parts.{part, Agree}
 use Rattle.number_bytes.proofs.Stores.{part-take}
 use Rattle.lines.proofs.Parts.{part-paste, get_d_part, agree-sym, agree_trans, agree-le, agree-get_d, agree-part, agree-set, agree-paste}
 use Rattle.lines.specs.Buffer.{size, times, line_in, lines_in, Bounded}
 use Rattle.lines.proofs.Lines.{form-ext, line-ext, before, lines_more}
-use Rattle.lines.proofs.Fill.{Filled, filled-length, filled_next}
 use Rattle.lines.proofs.Range.{every-at}
 use Rattle.bundle_load.specs.Load.{Copies, NumbersStored, partial_of, partial_form, side_of, line_byte, line_of, Space, Loads, Loaded, form_line, Able}
 
@@ -38,35 +45,30 @@ le-or-lt : (a b : ℕ) → (a ≤ b) ⊎ (b < a)
 le-or-lt a b = ⊎_elim (λ e. inl (omega arith)) (λ h. inr (omega arith)) (eq-zero-or-pos (a - b))
 
 -- ---- numbers of a bundle
--- a run of stores is a copy of all of them
-sets-paste : (buf : List ℤ) (at : ℕ) (zs : List ℤ) (n : ℕ) → length zs ≡ n → at + n ≤ length buf → sets buf at zs ≡ paste buf at zs n
-sets-paste buf at zs n e h = sets-eq zs buf at (omega arith) ∙ rw (e, take_all n zs (omega arith))
-
-pub stored-all : {s : List ℕ} {start w n : ℕ} {buf : List ℤ} {at : ℕ} → Copies s start w n buf at → {buf' : List ℤ} → buf' ≡ sets buf at (signeds w n (drop start s))
-    → NumbersStored buf at (signeds w n (drop start s)) n buf'
-stored-all {s} {start} {w} {n} {buf} {at} q e = record {
-  is = e ∙ sets-paste buf at (signeds w n (drop start s)) n (length-signeds w n (drop start s)) q.room;
+-- numbers read into their part
+pub stored-all : {s : List ℕ} {start w n : ℕ} {buf : List ℤ} {at : ℕ} → Copies s start w n buf at → {k m : ℕ} {ys : List ℤ} → k ≡ n → m ≡ n → ys ≡ signeds w m (drop start s)
+    → NumbersStored buf at (signeds w n (drop start s)) n (put_mid at k buf ys)
+stored-all {s} {start} {w} {n} {buf} {at} q {k} {m} {ys} z f e = record {
+  is = put_mid-paste at k buf ys (signeds w n (drop start s)) n (rw f at e) (sym z) (sym (length-signeds w n (drop start s)));
   small = q.small;
 }
+
+-- how many a part has
+pub part-length : {X : Type 0} (at n : ℕ) (l : List X) → at + n ≤ length l → length (take (at + n - at) (drop at l)) ≡ n
+part-length at n l h = let z : at + n - at ≡ n = omega arith in rw z (length-take-le n (drop at l) (rw length-drop (omega arith)))
+
+pub same-length : {X : Type 0} (at n : ℕ) (l ys : List X) → at + n ≤ length l → length ys ≡ n → length (put_mid at (at + n - at) l ys) ≡ length l
+same-length at n l ys h e = same_len_mid at (at + n - at) l ys (e ∙ sym (part-length at n l h))
 
 -- ---- zeros
 zero-small : Within 2147483647 (pos 0)
 zero-small = record { abs = omega arith }
 
-module _ {buf₀ : List ℤ} {at : ℕ} (n : ℕ) {buf : List ℤ} {i : ℕ} (h : at + n ≤ length buf₀) (v : Filled buf₀ at (replicate n (pos 0)) buf i) where
-  clear_room : at + length (replicate n (pos 0)) ≤ length buf₀
-  clear_room = omega (arith, length-replicate n (pos 0))
-
-  pub clear-length : length buf ≡ length buf₀
-  clear-length = filled-length clear_room v
-
-  pub clear_next : {x : ℤ} → i < n → x ≡ pos 0 → Filled buf₀ at (replicate n (pos 0)) (set buf (at + i) x) (i + 1)
-  clear_next {x} l e = filled_next clear_room v x (pos 0) (e ∙ sym (get_or-replicate n i (pos 0) (pos 0) l)) (omega (arith, length-replicate n (pos 0)))
-
-  pub clear-done : n ≤ i → NumbersStored buf₀ at (replicate n (pos 0)) n buf
-  clear-done l =
-      let z : i ≡ n = omega (arith, v.upto, length-replicate n (pos 0)) in
-      record { is = rw z at v.is; small = λ j m. rw (get_or-replicate n j (pos 0) (pos 0) m) zero-small }
+pub cleared : {buf : List ℤ} {at n k m : ℕ} {ys : List ℤ} → k ≡ n → m ≡ n → ys ≡ replicate m (pos 0) → NumbersStored buf at (replicate n (pos 0)) n (put_mid at k buf ys)
+cleared {buf} {at} {n} {k} {m} {ys} z f e = record {
+  is = put_mid-paste at k buf ys (replicate n (pos 0)) n (rw f at e) (sym z) (sym (length-replicate n (pos 0)));
+  small = λ j l. rw (get_or-replicate n j (pos 0) (pos 0) l) zero-small;
+}
 
 -- ---- tA
 zeros : (zs : List ℤ) → replicate (length zs) (pos 0) ≡ times (pos 0) zs
@@ -231,15 +233,10 @@ numbers-small w K bs t j h =
 module _ {s : List ℕ} {start w K kind : ℕ} {kinds : List ℕ} {buf : List ℤ} {n : ℕ} (g : Loads s start w K kind kinds buf n) where
   -- both have room
   pub copies-t : {at : ℕ} → at ≡ n * size K → Copies s start w (K + 1) buf at
-  copies-t e = record { width = g.width; bytes = g.bytes; room = omega (arith, space-end g.space, e); small = numbers-small w K (drop start s) g.small }
+  copies-t e = record { bytes = g.bytes; room = omega (arith, space-end g.space, e); small = numbers-small w K (drop start s) g.small }
 
-  pub copies-t_a : {at : ℕ} {buf₁ : List ℤ} → at ≡ n * size K → buf₁ ≡ sets buf at (signeds w (K + 1) (drop start s)) → Copies s start w (K + 1) buf₁ (at + (K + 1))
-  copies-t_a {at} e q = record {
-    width = g.width;
-    bytes = g.bytes;
-    room = rw (q, length-sets buf at (signeds w (K + 1) (drop start s))) (omega (arith, space-end g.space, e));
-    small = numbers-small w K (drop start s) g.small;
-  }
+  pub copies-t_a : {at : ℕ} {buf₁ : List ℤ} → at ≡ n * size K → length buf₁ ≡ length buf → Copies s start w (K + 1) buf₁ (at + (K + 1))
+  copies-t_a {at} e q = record { bytes = g.bytes; room = omega (arith, space-end g.space, e); small = numbers-small w K (drop start s) g.small }
 
   pub form-loaded : (in_a : Bool) {buf₁ buf₂ : List ℤ} → NumbersStored buf (n * size K) (signeds w (K + 1) (drop start s)) (K + 1) buf₁
       → NumbersStored buf₁ (n * size K + (K + 1)) (partial_of in_a (signeds w (K + 1) (drop start s))) (K + 1) buf₂
@@ -280,19 +277,18 @@ form-front w K m bs h =
 -- ---- the fields of a bundle
 -- The invariant: what is left to load gives what the whole gives.
 pub record Loading (in_a : Bool) (s : List ℕ) (at w K : ℕ) (kinds₀ : List ℕ) (buf₀ : List ℤ) (n : ℕ) (kinds : List ℕ) (buf : List ℤ) (here m : ℕ) : Type 0 where
-  pub width : (w ≡ 2) ⊎ (w ≡ 4)
   pub done : ℕ
   pub m-is : m ≡ n + done
   pub total : ℕ
   pub space : Space K (n + total) kinds buf
-  pub is : counted w K done (fields_at s here) ≡ count total
+  pub is : counted w K done (fields_at s here) ≡ Ok total
   pub kinds_length : length kinds ≡ length kinds₀
   pub lines_length : length buf ≡ length buf₀
   pub rest : {kinds' : List ℕ} {buf' : List ℤ} → Loaded K kinds buf m (map (line_of in_a) (stated w K (fields_at s here))) kinds' buf'
       → Loaded K kinds₀ buf₀ n (map (line_of in_a) (stated w K (fields_at s at))) kinds' buf'
 
 pub loading-start : {in_a : Bool} {s : List ℕ} {at w K : ℕ} {kinds : List ℕ} {buf : List ℤ} {n : ℕ} → Able w K (fields_at s at) kinds buf n → Loading in_a s at w K kinds buf n kinds buf at n
-loading-start a = record { width = a.width; done = 0; m-is = omega arith; total = a.m; space = a.space; is = a.is; kinds_length = refl; lines_length = refl; rest = λ l. l }
+loading-start a = record { done = 0; m-is = omega arith; total = a.m; space = a.space; is = a.is; kinds_length = refl; lines_length = refl; rest = λ l. l }
 
 -- What a turn needs.
 pub record Fit (s : List ℕ) (w K : ℕ) (kinds : List ℕ) (buf : List ℤ) (m tag start len : ℕ) : Type 0 where
@@ -303,7 +299,7 @@ pub record Fit (s : List ℕ) (w K : ℕ) (kinds : List ℕ) (buf : List ℤ) (m
 module _ {in_a : Bool} {s : List ℕ} {at w K : ℕ} {kinds₀ : List ℕ} {buf₀ : List ℤ} {n : ℕ} {kinds : List ℕ} {buf : List ℤ} {here m : ℕ}
     (v : Loading in_a s at w K kinds₀ buf₀ n kinds buf here m) where
   module _ {a tag start len next : ℕ} (k : Starts s here a tag start len next) where
-    on : (fault_of w K v.done tag (take len (drop start s)) ≡ 0) × (counted w K (suc v.done) (fields_at s next) ≡ count v.total)
+    on : (fault_of w K v.done tag (take len (drop start s)) ≡ Ok tt) × (counted w K (suc v.done) (fields_at s next) ≡ Ok v.total)
     on = passed-both (fault_of w K v.done tag (take len (drop start s))) a v.total (counted w K (suc v.done) (fields_at s next)) (sym (counted-on k w K v.done) ∙ v.is)
 
     pub fit : Fit s w K kinds buf m tag start len
@@ -316,7 +312,6 @@ module _ {in_a : Bool} {s : List ℕ} {at w K : ℕ} {kinds₀ : List ℕ} {buf�
           len_is = l;
           loads = record {
             space = space-less (omega (arith, v.m-is, count_is w K (suc v.done) v.total (fields_at s next) on.1)) v.space;
-            width = v.width;
             bytes = rw one (omega (arith, k.upto, k.next-is, l));
             small = rw (← form-front w K len (drop start s) (omega arith), r.range) tt;
             kind_few = omega (arith, tag-most tag r.has r.from);
@@ -333,7 +328,6 @@ module _ {in_a : Bool} {s : List ℕ} {at w K : ℕ} {kinds₀ : List ℕ} {buf�
         let fs : map (line_of in_a) (stated w K (fields_at s here)) ≡ form_line in_a w K (tag - 3) s start ∷ map (line_of in_a) (stated w K (fields_at s next))
         = rw k.is (ap (λ (l : Line). l ∷ map (line_of in_a) (stated w K (fields_at s next))) (sym line-is)) in
         record {
-          width = v.width;
           done = suc v.done;
           m-is = omega (arith, v.m-is);
           total = v.total;
@@ -344,13 +338,15 @@ module _ {in_a : Bool} {s : List ℕ} {at w K : ℕ} {kinds₀ : List ℕ} {buf�
           rest = λ l. v.rest (rw fs (loaded-then p l));
         }
 
-  -- bytes that are no whole field would be a fault
-  pub loading-cut : {a : ℕ} → fields_at s here ≡ cut a → ⊥
-  unfolding counted
-  loading-cut {a} e =
-      let q : fault 2 a ≡ count v.total = sym (rw e) ∙ v.is in
-      let z : ◌≡◌ {A = ℕ} 0 1 = cc in omega arith
-
-  pub loading-done : {a : ℕ} → fields_at s here ≡ ends a → Loaded K kinds₀ buf₀ n (map (line_of in_a) (stated w K (fields_at s at))) kinds buf
-  unfolding stated
-  loading-done e = v.rest (rw e loaded-none)
+  -- where no field follows, all is loaded: bytes that are no whole field would be a fault
+  pub loading-done : ((f : WholeField) → next_of (fields_at s here) ≡ Ok f → ⊥) → Loaded K kinds₀ buf₀ n (map (line_of in_a) (stated w K (fields_at s at))) kinds buf
+  unfolding stated counted
+  loading-done none = go (fields_at s here) refl
+    where
+      go : (fs : Fields) → fields_at s here ≡ fs → Loaded K kinds₀ buf₀ n (map (line_of in_a) (stated w K (fields_at s at))) kinds buf
+      go (ends a) e = v.rest (rw e loaded-none)
+      go (cut a) e =
+          absurd
+          (let q : ◌≡◌ {A = code.Result ℕ Fault} (Err (fault Refusal.Truncated a)) (Ok v.total) = sym (rw e) ∙ v.is in
+          let z : ◌≡◌ {A = ℕ} 0 1 = cc in omega arith)
+      go (f ▸ fs) e = absurd (none (whole_field f.at f.tag (length f.contents)) (rw e))

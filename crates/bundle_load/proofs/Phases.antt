@@ -11,7 +11,11 @@ use Rattle.fields.specs.declared.FileKind.{FileKind}
 use Rattle.fields.specs.declared.header.Headed.{Headed}
 use Rattle.fields.specs.Fields.{fields}
 use Rattle.fields.specs.Header.{header}
-use Rattle.fields.specs.Places.{fields_at, headed_of, IsHeader}
+use Rattle.fields.specs.Places.{fields_at, header_of, IsHeader}
+use Rattle.std.specs.Prelude.{Ok, Err}
+use Rattle.std.specs.declared.result.Result as code
+use Rattle.answers.specs.Refusals.{number_of, told}
+use Rattle.answers.specs.declared.refusals.Fault.{Fault}
 use Rattle.fields.proofs.HeaderLaid.{header-gives}
 use Rattle.fields.proofs.Headers.{given-some}
 use Rattle.bundle.specs.Bundle.{Bundle, at_most, bundle, bundles}
@@ -71,35 +75,35 @@ module _ {A B P : List ℕ} (s : WithinLimits A B P) where
     refused-P e = both_is ∙ rw e
 
 -- ---- what the scans and the header tell
-is-bundle : {given K : ℕ} {A : List ℕ} {first : Body} {start : ℕ} {r : Scanned} → Scans given A 0 r → r ≡ Scanned.Bundle K first start → IsBundle given A K first
+is-bundle : {given : ℕ} {A : List ℕ} {x : Scanned} {r : code.Result Scanned Fault} → Scans given A 0 r → r ≡ Ok x → IsBundle given A x.k x.body
 is-bundle a e = (rw e at a.by).0
 
-module _ {A : List ℕ} {r : Scanned} (a : Scans 0 A 0 r) where
-  pub unscanned-A : {B P : List ℕ} {number place : ℕ} → WithinLimits A B P → r ≡ Scanned.Refused number place → interpolant 2 A B P ≡ refused (answer number 1 place)
+module _ {A : List ℕ} {r : code.Result Scanned Fault} (a : Scans 0 A 0 r) where
+  pub unscanned-A : {B P : List ℕ} {e : Fault} → WithinLimits A B P → r ≡ Err e → interpolant 2 A B P ≡ refused (answer (number_of e.refusal) 1 e.place)
   unscanned-A s e = refused-A s ((rw e at a.by) file_a)
 
-  module _ {K : ℕ} {first : Body} {start : ℕ} (e : r ≡ Scanned.Bundle K first start) {B : List ℕ} {q : Scanned} (b : Scans K B 0 q) where
-    pub unscanned-B : {P : List ℕ} {number place : ℕ} → WithinLimits A B P → q ≡ Scanned.Refused number place → interpolant 2 A B P ≡ refused (answer number 2 place)
+  module _ {x : Scanned} (e : r ≡ Ok x) {B : List ℕ} {q : code.Result Scanned Fault} (b : Scans x.k B 0 q) where
+    pub unscanned-B : {P : List ℕ} {e : Fault} → WithinLimits A B P → q ≡ Err e → interpolant 2 A B P ≡ refused (answer (number_of e.refusal) 2 e.place)
     unscanned-B s f =
         let is-A = is-bundle a e in
-        refused-B s is-A (rw (given-some K (bodies.low is-A)) at ((rw f at b.by) file_b))
+        refused-B s is-A (rw (given-some x.k (bodies.low is-A)) at ((rw f at b.by) file_b))
 
-    pub scanned-both : {L : ℕ} {second : Body} {place : ℕ} → q ≡ Scanned.Bundle L second place → Both A B first second K
-    scanned-both {L} {second} f =
+    pub scanned-both : {y : Scanned} → q ≡ Ok y → Both A B x.body y.body x.k
+    scanned-both {y} f =
         let is-A = is-bundle a e in
         let is-B = is-bundle b f in
-        let same : L ≡ K = bodies.as-given is-B (bodies.low is-A) in
-        record { a = is-A; b = subst (λ (x : ℕ). IsBundle K B x second) same is-B; low = bodies.low is-A; high = bodies.high is-A; a_few = bodies.few is-A; b_few = bodies.few is-B }
+        let same : y.k ≡ x.k = bodies.as-given is-B (bodies.low is-A) in
+        record { a = is-A; b = subst (λ (k : ℕ). IsBundle x.k B k y.body) same is-B; low = bodies.low is-A; high = bodies.high is-A; a_few = bodies.few is-A; b_few = bodies.few is-B }
 
-module _ {A B : List ℕ} {first second : Body} {P : List ℕ} {K : ℕ} (s : WithinLimits A B P) (w : Both A B first second K) {r : Headed} (h : IsHeader FileKind.Proof 2 K P r) where
-  header-as : header FileKind.Proof file_proof 2 (some K) (fields P) ≡ headed_of file_proof P r
+module _ {A B : List ℕ} {first second : Body} {P : List ℕ} {K : ℕ} (s : WithinLimits A B P) (w : Both A B first second K) {r : code.Result Headed Fault} (h : IsHeader FileKind.Proof 2 K P r) where
+  header-as : header FileKind.Proof file_proof 2 (some K) (fields P) ≡ told file_proof (header_of P) r
   header-as = ap (λ (o : Option ℕ). header FileKind.Proof file_proof 2 o (fields P)) (sym (given-some K w.low)) ∙ h.is file_proof
 
-  pub unheaded : {x a : ℕ} → r ≡ Headed.Refused x a → interpolant 2 A B P ≡ refused (answer x 3 a)
+  pub unheaded : {e : Fault} → r ≡ Err e → interpolant 2 A B P ≡ refused (answer (number_of e.refusal) 3 e.place)
   unheaded e = refused-P s w (header-as ∙ rw e)
 
-  pub begun : {n k next : ℕ} → r ≡ Headed.Header n k next → Begun A B first second P n K next
-  begun {n} {k} {next} e =
-      let d : header FileKind.Proof file_proof 2 (some K) (fields P) ≡ accepted (record { number = n; K = k; rest = fields_at P next }) = header-as ∙ rw e in
-      let z : k ≡ K = agreed K k ((header-gives FileKind.Proof file_proof 2 (some K) (fields P)).gives _ d).agree in
-      record { short = s; both = w; header_is = d ∙ ap (λ (x : ℕ). accepted (record { number = n; K = x; rest = fields_at P next })) z }
+  pub begun : {x : Headed} → r ≡ Ok x → Begun A B first second P x.edition K x.next
+  begun {x} e =
+      let d : header FileKind.Proof file_proof 2 (some K) (fields P) ≡ accepted (header_of P x) = header-as ∙ rw e in
+      let z : x.k ≡ K = agreed K x.k ((header-gives FileKind.Proof file_proof 2 (some K) (fields P)).gives _ d).agree in
+      record { short = s; both = w; header_is = d ∙ ap (λ (k : ℕ). accepted (record { number = x.edition; K = k; rest = fields_at P x.next })) z }

@@ -7,7 +7,7 @@ use native.Mathlib.Omega.{arith}
 use lib.IntN.{ℤ}
 use lib.ListN.{length, length-map, length-append}
 use Rattle.forms.specs.Edition.{edition}
-use Rattle.forms.proofs.Editions.{lines-least, coefficient_width-is}
+use Rattle.forms.proofs.Editions.{lines-least}
 use Rattle.forms.specs.Forms.{line_a, line_b, lines}
 use Rattle.fields.specs.Places.{fields_at}
 use Rattle.bundle_scan.specs.Scan.{stated}
@@ -26,11 +26,11 @@ module _ {A B : List ℕ} {first second : Body} {K : ℕ} (w : Both A B first se
 module _ {A B : List ℕ} {first second : Body} {K : ℕ} (w : Both A B first second K) where
   -- Each bundle's constraints have room, with numbers as wide as its edition has them.
   pub able-A : {x : ℕ} {kinds : List ℕ} {buf : List ℤ} → x ≡ (edition first.edition).coefficient_width → Space K (first.count + second.count) kinds buf → Able x K (fields_at A first.at) kinds buf 0
-  able-A e s = rw e (record { width = coefficient_width-is first.edition; m = first.count; is = w.a.counts; space = space-less (omega arith) s })
+  able-A e s = rw e (record { m = first.count; is = w.a.counts; space = space-less (omega arith) s })
 
   pub able-B : {x : ℕ} {kinds : List ℕ} {buf : List ℤ} → x ≡ (edition second.edition).coefficient_width → Space K (first.count + second.count) kinds buf
       → Able x K (fields_at B second.at) kinds buf first.count
-  able-B e s = rw e (record { width = coefficient_width-is second.edition; m = second.count; is = w.b.counts; space = space-less (omega arith) s })
+  able-B e s = rw e (record { m = second.count; is = w.b.counts; space = space-less (omega arith) s })
 
   module _ {x y : ℕ} {kinds kinds₁ kinds₂ : List ℕ} {buf buf₁ buf₂ : List ℤ} (ex : x ≡ (edition first.edition).coefficient_width) (ey : y ≡ (edition second.edition).coefficient_width)
       (p : Loaded K kinds buf 0 (map (line_of true) (stated x K (fields_at A first.at))) kinds₁ buf₁)

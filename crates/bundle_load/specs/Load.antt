@@ -1,5 +1,5 @@
--- The constraints of a bundle as lines of the buffer: what loading asks and leaves. Document 01, "Forms and lines". Assumes nothing.
-use Rattle.std.specs.Prelude.{◌≡◌, ◌⊎◌, Bool, true, false, cond, T, eqb, List, ◌++◌, ℕ, suc, ◌+◌, ◌*◌, ◌≤◌, ◌<◌, ℤ, pos, length, get_or, drop}
+-- The constraints of a bundle as lines of the buffer: what loading asks and leaves. Assumes nothing.
+use Rattle.std.specs.Prelude.{◌≡◌, Bool, true, false, cond, T, eqb, List, ◌++◌, ℕ, suc, ◌+◌, ◌*◌, ◌≤◌, ◌<◌, ℤ, pos, length, get_or, drop, Ok}
 use Rattle.std.proofs.Math.Seq.{paste}
 use Rattle.integers.specs.Magnitude.{Within}
 use Rattle.forms.specs.Edition.{edition, edition1, newest_edition}
@@ -8,12 +8,11 @@ use Rattle.forms.specs.Flat.{constraint_kind_of}
 use Rattle.number_bytes.specs.Numbers.{form_from, signeds}
 use Rattle.fields.specs.Fields.{Fields}
 use Rattle.bundle.specs.Bundle.{form_small}
-use Rattle.bundle_scan.specs.Scan.{count, counted}
+use Rattle.bundle_scan.specs.Scan.{counted}
 use Rattle.lines.specs.Buffer.{size, times, lines_in, Bounded}
 
 -- n numbers of w bytes from `start` on are within the range, and have room at `at`.
 pub record Copies (s : List ℕ) (start w n : ℕ) (buf : List ℤ) (at : ℕ) : Type 0 where
-  pub width : (w ≡ 2) ⊎ (w ≡ 4)
   pub bytes : start + n * w ≤ length s
   pub room : at + n ≤ length buf
   pub small : (j : ℕ) → j < n → Within edition1.range (get_or (signeds w n (drop start s)) j (pos 0))
@@ -54,7 +53,6 @@ pub record Space (K c : ℕ) (kinds : List ℕ) (buf : List ℤ) : Type 0 where
 -- Line n with the form of numbers of w bytes that starts at a place, of a constraint's kind.
 pub record Loads (s : List ℕ) (start w K kind : ℕ) (kinds : List ℕ) (buf : List ℤ) (n : ℕ) : Type 0 where
   pub space : Space K (suc n) kinds buf
-  pub width : (w ≡ 2) ⊎ (w ≡ 4)
   pub bytes : start + (K + 1) * w ≤ length s
   pub small : T (form_small edition1.range (form_from w K (drop start s)))
   pub kind_few : kind ≤ 2
@@ -72,7 +70,6 @@ form_line in_a w K kind s start = line_of in_a (record { kind = constraint_kind_
 
 -- Fields that are m constraints without fault, of numbers of w bytes, have room behind the first n lines.
 pub record Able (w K : ℕ) (fs : Fields) (kinds : List ℕ) (buf : List ℤ) (n : ℕ) : Type 0 where
-  pub width : (w ≡ 2) ⊎ (w ≡ 4)
   pub m : ℕ
-  pub is : counted w K 0 fs ≡ count m
+  pub is : counted w K 0 fs ≡ Ok m
   pub space : Space K (n + m) kinds buf

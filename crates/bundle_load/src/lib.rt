@@ -10,8 +10,9 @@ ghost use Rattle.bundle_load.specs.Load.{Space};
 ghost use Rattle.bundle_load.specs.Both.{Both, Prepared};
 
 use bundle_scan::Body;
-use forms::{LineNumber, coefficient_bytes};
+use forms::LineNumber;
 use load::load;
+use number_bytes::words::Width;
 
 // The lines of A and B.
 pub fn prepare(
@@ -31,7 +32,7 @@ pub fn prepare(
     load(
         a,
         first.at,
-        coefficient_bytes(first.edition),
+        Width::of_coefficients(first.edition),
         k,
         true,
         lines,
@@ -42,7 +43,7 @@ pub fn prepare(
     load(
         b,
         second.at,
-        coefficient_bytes(second.edition),
+        Width::of_coefficients(second.edition),
         k,
         false,
         lines,
