@@ -3,14 +3,19 @@ use mathlib.Core.Path.{◌≡◌, refl, sym, ◌∙◌, ap, ap₂}
 use mathlib.Core.Bool.{Bool, true, false}
 use mathlib.Core.List.{List}
 use mathlib.Core.Option.{Option, some}
-use Prim.Native.Nat.{ℕ, ◌+◌, ◌-◌, ◌*◌, ◌≤◌}
+use Prim.Native.Nat.{ℕ, zero, suc, ◌+◌, ◌-◌, ◌*◌, ◌≤◌, ◌<◌}
 use native.Mathlib.Omega.{arith}
 use borrow.Author.Tests.{eq-eqb, ne_eqb}
 use lib.Dec.{eqb}
 use lib.ListN.{length, take, drop, length-drop}
 use lib.Seq.{length-take-le, drop-drop, take-take}
 use Rattle.forms.specs.Edition.{edition}
+use Rattle.forms.proofs.Editions.{line_width-most}
 use Rattle.calculus.specs.Rules.{Entry}
+use Rattle.std.specs.Prelude.{Ok, Err}
+use Rattle.std.specs.declared.result.Result as code
+use Rattle.answers.specs.Refusals.{number_of}
+use Rattle.answers.specs.declared.refusals.Refusal.{Refusal}
 use Rattle.answers.specs.declared.Answer.{Answer}
 use Rattle.answers.specs.Answers.{Result, refused, accepted, ◌>>=◌, ◌>>◌, need}
 use Rattle.number_bytes.specs.Numbers.{unsigned}
@@ -25,15 +30,18 @@ use Rattle.run_fields.specs.declared.kind.Matching.{Matching}
 use Rattle.run_fields.specs.declared.kind.EntryKind.{EntryKind}
 use Rattle.run_fields.specs.Kinds.{sized_by, sized_as, walk_kind, RoundKind, IsKind}
 
-pub sized-fits : {len size : ℕ} (kind : EntryKind) → len ≡ size → kind ≡ sized_as len size kind
+-- a line number has few bytes
+pub ruleset widths = (line_width-most)
+
+pub sized-fits : {len size : ℕ} (kind : EntryKind) → len ≡ size → Ok kind ≡ sized_as len size kind
 sized-fits {len} {size} kind h = ap (λ (b : Bool). sized_by b kind) (sym (eq-eqb len size h))
 
-pub sized-not : {len size : ℕ} (kind : EntryKind) → ¬ (len ≡ size) → EntryKind.Refused 6 ≡ sized_as len size kind
+pub sized-not : {len size : ℕ} (kind : EntryKind) → ¬ (len ≡ size) → Err Refusal.WrongLength ≡ sized_as len size kind
 sized-not {len} {size} kind h = ap (λ (b : Bool). sized_by b kind) (sym (ne_eqb len size h))
 
 -- Where the contents have their length it is walked as its kind; else 6.
 by_size : (b : Bool) (kind : EntryKind) (x : Entry) (deeper : Option Walker) (next : FollowingWalk) (refusal : ℕ → Answer) (rows : ℕ) (f : Field) (fs : Fields)
-    → walk_entry deeper next refusal rows f fs x ≡ walk_kind deeper next refusal rows f fs kind
+    → walk_entry deeper next refusal rows f fs x ≡ walk_kind deeper next refusal rows f fs (Ok kind)
     → ((need (refusal 6) b >> accepted x) >>= λ y. walk_entry deeper next refusal rows f fs y) ≡ walk_kind deeper next refusal rows f fs (sized_by b kind)
 unfolding need ◌>>◌ ◌>>=◌
 by_size true kind x deeper next refusal rows f fs w = w
@@ -41,14 +49,14 @@ by_size false kind x deeper next refusal rows f fs w = refl
 
 -- the k of a rounding is what its contents say
 round-walk : (n K : ℕ) (bs : List ℕ) (deeper : Option Walker) (next : FollowingWalk) (refusal : ℕ → Answer) (rows : ℕ) (f : Field) (fs : Fields) → f.contents ≡ bs
-    → walk_entry deeper next refusal rows f fs (entry_from (edition n) K round_tag f.contents) ≡ walk_kind deeper next refusal rows f fs (EntryKind.Opens (unsigned (multiplier (edition n) 1 1 bs)) Matching.All)
+    → walk_entry deeper next refusal rows f fs (entry_from (edition n) K round_tag f.contents) ≡ walk_kind deeper next refusal rows f fs (Ok (EntryKind.Opens (unsigned (multiplier (edition n) 1 1 bs)) Matching.All))
 unfolding entry_from walk_entry walk_row
 round-walk n K bs deeper next refusal rows f fs c = rw c
 
 module _ {n K tag len : ℕ} {made : Bool} {bs : List ℕ} (size_is : length bs ≡ len) where
-  kind-in : (x : EntryTag) (t : ℕ) (kind : EntryKind) {size : ℕ} {r : EntryKind} → tag ≡ t → known FileKind.Proof t ≡ true → entry_tagged t ≡ some x → in_place made x ≡ true → size_of (edition n) K x ≡ size
+  kind-in : (x : EntryTag) (t : ℕ) (kind : EntryKind) {size : ℕ} {r : code.Result EntryKind Refusal} → tag ≡ t → known FileKind.Proof t ≡ true → entry_tagged t ≡ some x → in_place made x ≡ true → size_of (edition n) K x ≡ size
       → ((deeper : Option Walker) (next : FollowingWalk) (refusal : ℕ → Answer) (rows : ℕ) (f : Field) (fs : Fields) → f.contents ≡ bs
-      → walk_entry deeper next refusal rows f fs (entry_from (edition n) K x f.contents) ≡ walk_kind deeper next refusal rows f fs kind)
+      → walk_entry deeper next refusal rows f fs (entry_from (edition n) K x f.contents) ≡ walk_kind deeper next refusal rows f fs (Ok kind))
       → r ≡ sized_as len size kind → IsKind n K tag bs made r
   kind-in x t kind {size} is k g there z w q = rw q (record {
     is = λ deeper next refusal rows f fs tagged contents.
@@ -59,7 +67,7 @@ module _ {n K tag len : ℕ} {made : Bool} {bs : List ℕ} (size_is : length bs 
         ∙ by_size (eqb len size) kind (entry_from (edition n) K x f.contents) deeper next refusal rows f fs (w deeper next refusal rows f fs contents);
   })
 
-  module _ {w : ℕ} (width : w ≡ (edition n).line_width) {r : EntryKind} where
+  module _ {w : ℕ} (width : w ≡ (edition n).line_width) {r : code.Result EntryKind Refusal} where
     pub combine-kind : tag ≡ 0x10 → r ≡ sized_as len (2 * w + 4) EntryKind.Derives → IsKind n K tag bs made r
     unfolding known header_tag entry_tagged in_place size_of entry_from walk_entry walk_row
     combine-kind e q = kind-in combine_tag 0x10 EntryKind.Derives e refl refl refl (omega (arith, width)) (λ deeper next refusal rows f fs c. refl) q
@@ -88,33 +96,42 @@ module _ {n K tag len : ℕ} {made : Bool} {bs : List ℕ} (size_is : length bs 
     unfolding known header_tag entry_tagged in_place size_of entry_from walk_entry walk_row
     split-kind e q = kind-in split_tag 0x17 (EntryKind.Opens 1 Matching.Nothing) e refl refl refl (omega (arith, width)) (λ deeper next refusal rows f fs c. refl) q
 
-  pub round-kind : {r : EntryKind} → tag ≡ 0x16 → RoundKind n bs r → IsKind n K tag bs made r
+  pub round-kind : {r : code.Result EntryKind Refusal} → tag ≡ 0x16 → RoundKind n bs r → IsKind n K tag bs made r
   unfolding known header_tag entry_tagged in_place size_of
   round-kind e q = kind-in round_tag 0x16 (EntryKind.Opens (unsigned (multiplier (edition n) 1 1 bs)) Matching.All) e refl refl refl (omega arith) (round-walk n K bs) (q.is ∙ ap (λ (m : ℕ). sized_as m ((edition n).line_width + 4) (EntryKind.Opens (unsigned (multiplier (edition n) 1 1 bs)) Matching.All)) size_is)
 
-  pub claim-kind : {r : EntryKind} → tag ≡ 0x20 → made ≡ true → r ≡ sized_as len (8 * (K + 1)) EntryKind.Claims → IsKind n K tag bs made r
+  pub claim-kind : {r : code.Result EntryKind Refusal} → tag ≡ 0x20 → made ≡ true → r ≡ sized_as len (8 * (K + 1)) EntryKind.Claims → IsKind n K tag bs made r
   unfolding known header_tag entry_tagged in_place size_of entry_from walk_entry
   claim-kind e h q = kind-in claim_tag 0x20 EntryKind.Claims e refl refl h (omega arith) (λ deeper next refusal rows f fs c. refl) q
 
 -- a field that is no entry here
 module _ {n K tag : ℕ} {made : Bool} {bs : List ℕ} where
-  out : {number : ℕ} → ((refusal : ℕ → Answer) (f : Field) → f.tag ≡ tag → entry (edition n) K refusal made f ≡ refused (refusal number)) → IsKind n K tag bs made (EntryKind.Refused number)
+  out : {x : Refusal} → ((refusal : ℕ → Answer) (f : Field) → f.tag ≡ tag → entry (edition n) K refusal made f ≡ refused (refusal (number_of x))) → IsKind n K tag bs made (Err x)
   unfolding ◌>>=◌
   out h = record { is = λ deeper next refusal rows f fs tagged contents. ap (λ (m : Result Entry). m >>= λ y. walk_entry deeper next refusal rows f fs y) (h refusal f tagged) }
 
-  pub claim-out : tag ≡ 0x20 → made ≡ false → IsKind n K tag bs made (EntryKind.Refused 4)
+  pub claim-out : tag ≡ 0x20 → made ≡ false → IsKind n K tag bs made (Err Refusal.MisplacedTag)
   unfolding known header_tag entry_tagged in_place
   claim-out e h = out λ refusal f tagged. entry-out (edition n) K refusal made f claim_tag (rw (tagged, e)) (rw (tagged, e)) h
 
-  pub first_out : tag ≡ 0x01 → IsKind n K tag bs made (EntryKind.Refused 4)
+  first_out : tag ≡ 0x01 → IsKind n K tag bs made (Err Refusal.MisplacedTag)
   unfolding known header_tag entry_tagged
   first_out e = out λ refusal f tagged. entry-none (edition n) K refusal made f (rw (tagged, e)) (rw (tagged, e))
 
-  pub second-out : tag ≡ 0x02 → IsKind n K tag bs made (EntryKind.Refused 4)
+  second-out : tag ≡ 0x02 → IsKind n K tag bs made (Err Refusal.MisplacedTag)
   unfolding known header_tag entry_tagged
   second-out e = out λ refusal f tagged. entry-none (edition n) K refusal made f (rw (tagged, e)) (rw (tagged, e))
 
-  pub unknown-out : known FileKind.Proof tag ≡ false → IsKind n K tag bs made (EntryKind.Refused 3)
+  pub header-out : 1 ≤ tag → tag < 3 → IsKind n K tag bs made (Err Refusal.MisplacedTag)
+  header-out l h = go tag refl
+    where
+      go : (t : ℕ) → tag ≡ t → IsKind n K tag bs made (Err Refusal.MisplacedTag)
+      go zero e = absurd (omega arith)
+      go (suc zero) e = first_out e
+      go (suc (suc zero)) e = second-out e
+      go (suc (suc (suc t))) e = absurd (omega arith)
+
+  pub unknown-out : known FileKind.Proof tag ≡ false → IsKind n K tag bs made (Err Refusal.UnknownTag)
   unknown-out k = out λ refusal f tagged. entry-unknown (edition n) K refusal made f (ap (known FileKind.Proof) tagged ∙ k)
 
 -- ---- the code's reading of a rounding
@@ -122,7 +139,7 @@ pub part_length : (p : List ℕ) (start len : ℕ) → start + len ≤ length p 
 part_length p start len h = length-take-le len (drop start p) (omega (arith, length-drop start p))
 
 module _ (n : ℕ) (p : List ℕ) (start len w : ℕ) (inside : start + len ≤ length p) (width : w ≡ (edition n).line_width) where
-  pub round-read : len ≡ w + 4 → {by : ℕ} → by ≡ unsigned (take 2 (drop (start + w + 2) p)) → RoundKind n (take len (drop start p)) (EntryKind.Opens by Matching.All)
+  pub round-read : len ≡ w + 4 → {by : ℕ} → by ≡ unsigned (take 2 (drop (start + w + 2) p)) → RoundKind n (take len (drop start p)) (Ok (EntryKind.Opens by Matching.All))
   unfolding multiplier
   round-read h {by} q =
       let l : length (take len (drop start p)) ≡ (edition n).line_width + 4 = part_length p start len inside ∙ h ∙ ap (λ (m : ℕ). m + 4) width in
@@ -134,5 +151,5 @@ module _ (n : ℕ) (p : List ℕ) (start len w : ℕ) (inside : start + len ≤ 
       taken : (xs : List ℕ) → take 2 (drop (w + 2) (take len xs)) ≡ take 2 (drop (w + 2) xs)
       taken xs = ap (take 2) (drop-take (w + 2) len xs (omega arith)) ∙ take-take 2 (len - (w + 2)) (drop (w + 2) xs) (omega arith)
 
-  pub round-not : ¬ (len ≡ w + 4) → RoundKind n (take len (drop start p)) (EntryKind.Refused 6)
+  pub round-not : ¬ (len ≡ w + 4) → RoundKind n (take len (drop start p)) (Err Refusal.WrongLength)
   round-not h = record { is = sized-not (EntryKind.Opens _ Matching.All) (λ l. h (sym (part_length p start len inside) ∙ l ∙ ap (λ (m : ℕ). m + 4) (sym width))) }

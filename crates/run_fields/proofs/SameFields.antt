@@ -9,28 +9,29 @@ use lib.ListN.{length, take, drop}
 use borrow.Author.Tests.{eq-eqb, ne_eqb}
 use Rattle.number_bytes.specs.Same.{same_bytes}
 use Rattle.number_bytes.proofs.Comparing.{same-lengths}
-use Rattle.fields.specs.Fields.{Field, Fields, ends, cut, ◌▸◌, Item, item}
-use Rattle.fields.specs.Places.{fields_at}
+use Rattle.fields.specs.Fields.{Field, Fields, ◌▸◌, Item, item}
+use Rattle.fields.specs.Places.{fields_at, next_of}
 use Rattle.fields.proofs.Places.{Starts, starts-size}
 use Rattle.run.specs.Uniform.{same_items}
 use Rattle.run_fields.specs.Spans.{Spans, none, one}
 use Rattle.run_fields.specs.Same.{SameFields, Compares}
-use Rattle.run_fields.specs.declared.same.Compared.{Compared}
+use Rattle.std.specs.Prelude.{Some, None, Ok}
+use Rattle.std.specs.declared.result.Result as code
+use Rattle.fields.specs.declared.WholeField.{WholeField}
+use Rattle.fields.specs.declared.End.{End}
 
 -- ---- one field
-module _ (p : List ℕ) (a b : ℕ) where
+no-items : {fs gs : Fields} {is : List Item} {r : code.Result WholeField End} → r ≡ next_of fs → ((f : WholeField) → r ≡ Ok f → ⊥) → Spans fs is gs → is ≡ []
+no-items e h none = refl
+no-items e h (one f s) = absurd (h _ e)
+
+module _ (p : List ℕ) (a b : ℕ) {r : code.Result WholeField End} (h : (f : WholeField) → r ≡ Ok f → ⊥) where
   -- no field is left at one of the places
-  pub none_first : {fs : Fields} → fields_at p a ≡ fs → ((is : List Item) (gs : Fields) → Spans fs is gs → is ≡ []) → Compares p a b Compared.Differ
-  none_first e h = record { by = λ n. record { is = λ s t l m. absurd (let s' = rw e at s in let z = ap length (h _ _ s') in omega arith) } }
+  pub none_first : r ≡ next_of (fields_at p a) → Compares p a b None
+  none_first e = record { by = λ n. record { is = λ s t l m. absurd (let z = ap length (no-items e h s) in omega arith) } }
 
-  pub none-second : {fs : Fields} → fields_at p b ≡ fs → ((is : List Item) (gs : Fields) → Spans fs is gs → is ≡ []) → Compares p a b Compared.Differ
-  none-second e h = record { by = λ n. record { is = λ s t l m. absurd (let t' = rw e at t in let z = ap length (h _ _ t') in omega arith) } }
-
-pub ends-none : {x : ℕ} (is : List Item) (gs : Fields) → Spans (ends x) is gs → is ≡ []
-ends-none is gs none = refl
-
-pub cut-none : {x : ℕ} (is : List Item) (gs : Fields) → Spans (cut x) is gs → is ≡ []
-cut-none is gs none = refl
+  pub none-second : r ≡ next_of (fields_at p b) → Compares p a b None
+  none-second e = record { by = λ n. record { is = λ s t l m. absurd (let z = ap length (no-items e h t) in omega arith) } }
 
 -- what fields that start with f span
 pub data SpansOn (f : Field) (fs : Fields) : List Item → Fields → Type 0 where
@@ -59,22 +60,22 @@ module _ {p : List ℕ} {a b a₁ tag start len next b₁ t s l m : ℕ} (x : St
       go (more u) nothing i j = absurd (omega arith)
       go (more u) (more v) i j = h _ _ _ _ u v (omega arith) (omega arith)
 
-  pub tags-differ : (tag ≡ t → ⊥) → Compares p a b Compared.Differ
+  pub tags-differ : (tag ≡ t → ⊥) → Compares p a b None
   tags-differ d = record { by = λ n. by-fields (λ is js fs gs u v i j. rw (ne_eqb tag t d)) }
 
   module _ (e : tag ≡ t) where
-    pub lengths_differ : (len ≡ l → ⊥) → Compares p a b Compared.Differ
+    pub lengths_differ : (len ≡ l → ⊥) → Compares p a b None
     lengths_differ d =
         let z : same_bytes (take len (drop start p)) (take l (drop s p)) ≡ false = same-lengths _ _ (λ q. d (omega (arith, q, starts-size x, starts-size y))) in
         record { by = λ n. by-fields (λ is js fs gs u v i j. rw (eq-eqb tag t e, z)) }
 
     module _ (f : len ≡ l) {c : Bool} (q : c ≡ same_bytes (take len (drop start p)) (take len (drop s p))) where
-      pub contents-differ : c ≡ false → Compares p a b Compared.Differ
+      pub contents-differ : c ≡ false → Compares p a b None
       contents-differ d =
           let z : same_bytes (take len (drop start p)) (take l (drop s p)) ≡ false = rw (← f) (sym q ∙ d) in
           record { by = λ n. by-fields (λ is js fs gs u v i j. rw (eq-eqb tag t e, z)) }
 
-      pub fields-same : c ≡ true → Compares p a b (Compared.Same next m)
+      pub fields-same : c ≡ true → Compares p a b (Some (next, m))
       fields-same d =
           let z : same_bytes (take len (drop start p)) (take l (drop s p)) ≡ true = rw (← f) (sym q ∙ d) in
           record { by = λ n r h. by-fields (λ is js fs gs u v i j. rw (eq-eqb tag t e, z) (h.is u v i j)) }
@@ -97,12 +98,11 @@ module _ {p : List ℕ} {a b n x y i : ℕ} (h : FieldsLeft p a b n x y i) where
       go [] (j ∷ js) k q = absurd (omega arith)
       go (i ∷ is) js k q = absurd (omega arith)
 
-  module _ {r : Compared} (c : Compares p x y r) (l : i < n) where
-    pub fields-differ : r ≡ Compared.Differ → SameFields p a b n false
-    fields-differ e = h.rest false (let z : n - i ≡ suc (n - (i + 1)) = omega arith in rw z ((rw e at c).by _))
+  pub fields-differ : Compares p x y None → i < n → SameFields p a b n false
+  fields-differ c l = h.rest false (let z : n - i ≡ suc (n - (i + 1)) = omega arith in rw z (c.by _))
 
-    pub fields-next : {x' y' : ℕ} → r ≡ Compared.Same x' y' → FieldsLeft p a b n x' y' (i + 1)
-    fields-next e = record {
-      upto = omega arith;
-      rest = λ r s. h.rest r (let z : n - i ≡ suc (n - (i + 1)) = omega arith in rw z ((rw e at c).by _ r s));
-    }
+  pub fields-next : {next : ℕ × ℕ} → Compares p x y (Some next) → i < n → FieldsLeft p a b n next.0 next.1 (i + 1)
+  fields-next c l = record {
+    upto = omega arith;
+    rest = λ r s. h.rest r (let z : n - i ≡ suc (n - (i + 1)) = omega arith in rw z (c.by _ r s));
+  }

@@ -1,9 +1,12 @@
--- What an entry is to the walk, by the code's answer. Document 02, point 7. Assumes nothing.
-use Rattle.std.specs.Prelude.{◌≡◌, Bool, true, false, not, List, ◌∷◌, ℕ, suc, ◌+◌, eqb, length}
+-- What an entry is to the walk, by the code's answer. Assumes nothing.
+use Rattle.std.specs.Prelude.{◌≡◌, Bool, true, false, not, List, ◌∷◌, ℕ, suc, ◌+◌, eqb, length, Ok, Err}
+use Rattle.std.specs.declared.result.Result as code
 use Rattle.std.proofs.Math.Option.{Option}
 use Rattle.forms.specs.Edition.{edition}
 use Rattle.answers.specs.declared.Answer.{Answer}
 use Rattle.answers.specs.Answers.{Result, refused, accepted, ◌>>=◌}
+use Rattle.answers.specs.Refusals.{number_of}
+use Rattle.answers.specs.declared.refusals.Refusal.{Refusal}
 use Rattle.fields.specs.Fields.{Field, Fields, Item, item}
 use Rattle.number_bytes.specs.Numbers.{unsigned}
 use Rattle.proof.specs.Entries.{multiplier, entry}
@@ -24,11 +27,11 @@ compared_in Matching.All b = not (eqb b 0)
 compared_in Matching.Nothing b = false
 
 -- Contents of `len` bytes where `size` are laid out.
-abbrev pub sized_by : (fits : Bool) → EntryKind → EntryKind
-sized_by true kind = kind
-sized_by false kind = EntryKind.Refused 6
+abbrev pub sized_by : (fits : Bool) → EntryKind → code.Result EntryKind Refusal
+sized_by true kind = Ok kind
+sized_by false kind = Err Refusal.WrongLength
 
-abbrev pub sized_as : (len size : ℕ) → EntryKind → EntryKind
+abbrev pub sized_as : (len size : ℕ) → EntryKind → code.Result EntryKind Refusal
 sized_as len size kind = sized_by (eqb len size) kind
 
 -- The walk behind the row f.
@@ -36,18 +39,18 @@ abbrev pub behind : Field → Walked → Walked
 behind f w = record { own = item f.tag f.contents ∷ w.own; rows = w.rows; unlike = w.unlike; after = w.after }
 
 module _ (deeper : Option Walker) (next : FollowingWalk) (refusal : ℕ → Answer) (rows : ℕ) (f : Field) (fs : Fields) where
-  abbrev pub walk_kind : EntryKind → Result Walked
-  walk_kind EntryKind.Derives = next (suc rows) true >>= λ w. accepted (behind f w)
-  walk_kind (EntryKind.Opens last alike) = walk_opened deeper refusal rows f fs last (alike_by alike)
-  walk_kind EntryKind.Closes = walk_closed refusal rows f fs
-  walk_kind EntryKind.Claims = refused (with_number 27 (refusal 14))
-  walk_kind (EntryKind.Refused n) = refused (refusal n)
+  abbrev pub walk_kind : code.Result EntryKind Refusal → Result Walked
+  walk_kind (Ok EntryKind.Derives) = next (suc rows) true >>= λ w. accepted (behind f w)
+  walk_kind (Ok (EntryKind.Opens last alike)) = walk_opened deeper refusal rows f fs last (alike_by alike)
+  walk_kind (Ok EntryKind.Closes) = walk_closed refusal rows f fs
+  walk_kind (Ok EntryKind.Claims) = refused (with_number 27 (refusal 14))
+  walk_kind (Err n) = refused (refusal (number_of n))
 
 -- A field of a proof of edition n with this tag and these contents is walked as its kind.
-pub record IsKind (n K : ℕ) (tag : ℕ) (bs : List ℕ) (made : Bool) (r : EntryKind) : Type 0 where
+pub record IsKind (n K : ℕ) (tag : ℕ) (bs : List ℕ) (made : Bool) (r : code.Result EntryKind Refusal) : Type 0 where
   pub is : (deeper : Option Walker) (next : FollowingWalk) (refusal : ℕ → Answer) (rows : ℕ) (f : Field) (fs : Fields) → f.tag ≡ tag → f.contents ≡ bs
       → (entry (edition n) K refusal made f >>= λ x. walk_entry deeper next refusal rows f fs x) ≡ walk_kind deeper next refusal rows f fs r
 
 -- The contents of a rounding's field, of a proof of edition n: its k, or 6.
-pub record RoundKind (n : ℕ) (bs : List ℕ) (r : EntryKind) : Type 0 where
+pub record RoundKind (n : ℕ) (bs : List ℕ) (r : code.Result EntryKind Refusal) : Type 0 where
   pub is : r ≡ sized_as (length bs) ((edition n).line_width + 4) (EntryKind.Opens (unsigned (multiplier (edition n) 1 1 bs)) Matching.All)

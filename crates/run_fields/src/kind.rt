@@ -1,8 +1,10 @@
 // What an entry is to the walk, by its tag and length: of its contents only the k of a rounding is looked at.
 ghost use Rattle.std.specs.Prelude.{◌≡◌, ◌+◌, ◌≤◌, length, take, drop};
 ghost use Rattle.forms.specs.Edition.{edition1};
-ghost use Rattle.run_fields.specs.Kinds.{sized_as, RoundKind, IsKind};
+ghost use Rattle.run_fields.specs.Kinds.{compared_in, sized_as, RoundKind, IsKind};
 
+use answers::refusals::Refusal;
+use fields::WholeField;
 use forms::{MULTIPLIER_BYTES, TERM_BYTES, line_bytes};
 use number_bytes::numbers::unsigned_at;
 
@@ -14,6 +16,19 @@ pub enum Matching {
     Nothing,
 }
 
+impl Matching {
+    // Whether branch b must be as the first.
+    pub fn compares(self, b: u16) -> bool
+        ensures { result ≡ compared_in self b }
+    {
+        match self {
+            Matching::FirstAndThird => b == 2,
+            Matching::All => b != 0,
+            Matching::Nothing => false,
+        }
+    }
+}
+
 #[derive(Clone, Copy)]
 pub enum EntryKind {
     // Another line of the branch.
@@ -23,50 +38,50 @@ pub enum EntryKind {
     // Closes the branch.
     Closes,
     Claims,
-    Refused { number: u8 },
 }
 
 // Contents of `len` bytes where `size` are laid out. 6.
-fn sized(len: usize, size: usize, kind: EntryKind) -> EntryKind
+fn sized(len: usize, size: usize, kind: EntryKind) -> Result<EntryKind, Refusal>
     ensures { result ≡ sized_as len size kind }
 {
     if len == size {
-        return kind;
+        return Ok(kind);
     }
-    EntryKind::Refused { number: 6 }
+    Err(Refusal::WrongLength)
 }
 
 // A rounding: its branches are 0 to k. 6.
-fn rounding(p: &[u8], start: usize, len: usize, e: u8) -> EntryKind
-    requires { start + len ≤ length p.now }
-    ensures { RoundKind e (take len (drop start p.now)) result }
+#[tactic(auto, using(crate::proofs::ByTag::widths))]
+fn rounding(p: &[u8], field: WholeField, e: u8) -> Result<EntryKind, Refusal>
+    requires { field.start + field.len ≤ length p.now }
+    ensures { RoundKind e (take field.len (drop field.start p.now)) result }
 {
     let width = line_bytes(e);
-    if len == width + 2 * MULTIPLIER_BYTES {
-        let by = unsigned_at(p, start + width + MULTIPLIER_BYTES, MULTIPLIER_BYTES);
-        return EntryKind::Opens {
+    if field.len == width + 2 * MULTIPLIER_BYTES {
+        let by = unsigned_at(p, field.start + width + MULTIPLIER_BYTES, MULTIPLIER_BYTES);
+        return Ok(EntryKind::Opens {
             last: by as u16,
             alike: Matching::All,
-        };
+        });
     }
-    EntryKind::Refused { number: 6 }
+    Err(Refusal::WrongLength)
 }
 
 // What a field of a proof of edition e is. 3, 4, 6.
+#[tactic(auto, using(crate::proofs::ByTag::widths))]
 pub fn kind_at(
     p: &[u8],
-    tag: u8,
-    start: usize,
-    len: usize,
+    field: WholeField,
     k: usize,
     e: u8,
     made: bool,
-) -> EntryKind
-    requires { (k ≤ edition1.constants) × (start + len ≤ length p.now) }
-    ensures { IsKind e k tag (take len (drop start p.now)) made result }
+) -> Result<EntryKind, Refusal>
+    requires { (k ≤ edition1.constants) × (field.start + field.len ≤ length p.now) }
+    ensures { IsKind e k field.tag (take field.len (drop field.start p.now)) made result }
 {
     let width = line_bytes(e);
-    match tag {
+    let len = field.len;
+    match field.tag {
         0x10 => sized(len, 2 * width + 2 * MULTIPLIER_BYTES, EntryKind::Derives),
         0x11 => sized(len, 2 * width + MULTIPLIER_BYTES, EntryKind::Derives),
         0x12 => sized(len, width + MULTIPLIER_BYTES, EntryKind::Derives),
@@ -79,7 +94,7 @@ pub fn kind_at(
         }
         0x14 => sized(len, width, EntryKind::Closes),
         0x15 => sized(len, width + MULTIPLIER_BYTES, EntryKind::Closes),
-        0x16 => rounding(p, start, len, e),
+        0x16 => rounding(p, field, e),
         0x17 => {
             let opens = EntryKind::Opens {
                 last: 1,
@@ -91,10 +106,9 @@ pub fn kind_at(
             if made {
                 return sized(len, 2 * TERM_BYTES * (k + 1), EntryKind::Claims);
             }
-            EntryKind::Refused { number: 4 }
+            Err(Refusal::MisplacedTag)
         }
-        0x01 => EntryKind::Refused { number: 4 },
-        0x02 => EntryKind::Refused { number: 4 },
-        _ => EntryKind::Refused { number: 3 },
+        0x01 | 0x02 => Err(Refusal::MisplacedTag),
+        _ => Err(Refusal::UnknownTag),
     }
 }

@@ -1,40 +1,9 @@
 -- `run_fields::kind::kind_at` meets its contract, tag by tag. Assumes nothing.
 use borrow.Author.Rules.{rules}
 use native.Mathlib.Omega.{arith}
-use Rattle.forms.proofs.Editions.{line_width-most}
 use Rattle.proof.proofs.Entered.{unknown}
-use Rattle.run_fields.proofs.ByTag.{part_length, combine-kind, reduce-kind, scale-kind, strengthen-kind, number-kind, stride-kind, round-kind, split-kind, claim-kind, claim-out, first_out, second-out, unknown-out}
+use Rattle.run_fields.proofs.ByTag.{part_length, combine-kind, reduce-kind, scale-kind, strengthen-kind, number-kind, stride-kind, round-kind, split-kind, claim-kind, claim-out, header-out, unknown-out}
 use Rattle.run_fields.proofs.kind.kind_at.Goals as goal
-
-pub overflow_mul-width : goal.overflow_mul-width
-overflow_mul-width c = record { fits = omega (arith, c.line_bytes-width.ensures, line_width-most c.args.e) }
-
-pub overflow_mul-sized : goal.overflow_mul-sized
-overflow_mul-sized c = record { fits = omega (arith, c.line_bytes-width.ensures, line_width-most c.args.e) }
-
-pub overflow_add-width : goal.overflow_add-width
-overflow_add-width c = record { fits = omega (arith, c.line_bytes-width.ensures, line_width-most c.args.e) }
-
-pub overflow_mul-width-in-17 : goal.overflow_mul-width-in-17
-overflow_mul-width-in-17 c = record { fits = omega (arith, c.line_bytes-width.ensures, line_width-most c.args.e) }
-
-pub overflow_add-width-in-17 : goal.overflow_add-width-in-17
-overflow_add-width-in-17 c = record { fits = omega (arith, c.line_bytes-width.ensures, line_width-most c.args.e) }
-
-pub overflow_add-width-in-18 : goal.overflow_add-width-in-18
-overflow_add-width-in-18 c = record { fits = omega (arith, c.line_bytes-width.ensures, line_width-most c.args.e) }
-
-pub overflow_add-width-in-21 : goal.overflow_add-width-in-21
-overflow_add-width-in-21 c = record { fits = omega (arith, c.line_bytes-width.ensures, line_width-most c.args.e) }
-
-pub overflow_mul-sized-then-made : goal.overflow_mul-sized-then-made
-overflow_mul-sized-then-made c = record { fits = omega (arith, c.requires.0) }
-
-pub overflow_add-k : goal.overflow_add-k
-overflow_add-k c = record { fits = omega (arith, c.requires.0) }
-
-pub overflow_mul-k : goal.overflow_mul-k
-overflow_mul-k c = record { fits = omega (arith, c.requires.0) }
 
 pub returns-then-made : goal.returns-then-made
 returns-then-made c = claim-kind (part_length _ _ _ c.requires.1) c.in-32.is c.if-made.true c.sized-then-made.ensures
@@ -67,10 +36,10 @@ pub returns-else-made : goal.returns-else-made
 returns-else-made c = claim-out c.in-32.is c.if-made.false
 
 pub returns-in-1 : goal.returns-in-1
-returns-in-1 c = first_out c.in-1.is
-
-pub returns-in-2 : goal.returns-in-2
-returns-in-2 c = second-out c.in-2.is
+returns-in-1 c = header-out (omega arith) (omega arith)
 
 pub returns-in_default : goal.returns-in_default
 returns-in_default c = unknown-out (search (rules, unknown))
+
+pub returns-in_default-2 : goal.returns-in_default-2
+returns-in_default-2 c = unknown-out (search (rules, unknown))

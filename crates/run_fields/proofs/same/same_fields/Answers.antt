@@ -2,14 +2,14 @@
 use Rattle.run_fields.proofs.SameFields.{fields-start, fields-done, fields-differ, fields-next}
 use Rattle.run_fields.proofs.same.same_fields.Goals as goal
 
-pub loop-i-init : goal.loop-i-init
-loop-i-init c = fields-start _ _ _ _
+pub loop-init : goal.loop-init
+loop-init c = fields-start _ _ _ _
 
-pub loop-i-preserved : goal.loop-i-preserved
-loop-i-preserved c = fields-next c.loop-i.invariant c.same_field.ensures c.loop-i-test.true c.in-Same.is
+pub loop-preserved : goal.loop-preserved
+loop-preserved c = fields-next c.loop.invariant c.in-Some.ensures c.loop-test.true
 
-pub returns-in-Differ : goal.returns-in-Differ
-returns-in-Differ c = fields-differ c.loop-i.invariant c.same_field.ensures c.loop-i-test.true c.in-Differ.is
+pub returns-in_default : goal.returns-in_default
+returns-in_default c = fields-differ c.loop.invariant c.in_default.ensures c.loop-test.true
 
 pub returns : goal.returns
-returns c = fields-done c.loop-i.invariant c.loop-i-test.false
+returns c = fields-done c.loop.invariant c.loop-test.false
