@@ -17,14 +17,11 @@ use Rattle.number_bytes.specs.Same.{same_bytes}
 use Rattle.run.specs.Uniform.{same_items, Walked, WalkedBranches, Walker, walk_branches, first_and_third, all_alike, walk_opened}
 use Rattle.run_fields.specs.declared.kind.Matching.{Matching}
 use Rattle.run_fields.specs.Kinds.{alike_by, compared_in}
-use Rattle.run_branches.specs.Branches.{like_first, first_branch_rows, walk_from, Likens}
+use Rattle.run_branches.specs.Branches.{like_first, walk_from, Likens}
+use Rattle.run_branches.specs.declared.walk.Own.{Own}
 use Rattle.run_fields.specs.Same.{SameFields}
 use Rattle.run_branches.specs.Walks.{End, ended}
 use Rattle.run_branches.proofs.WalkEnds.{end_at}
-
-pub first-later : (b first own : ℕ) → (b ≡ 0 → ⊥) → first ≡ first_branch_rows b first own
-first-later zero first own h = absurd (h refl)
-first-later (suc b) first own h = refl
 
 -- ---- a branch compared to the first
 and_no : (b : Bool) {c : Bool} → c ≡ false → (b && c) ≡ false
@@ -38,19 +35,19 @@ items-lengths [] (j ∷ js) d = refl
 items-lengths (i ∷ is) [] d = refl
 items-lengths (i ∷ is) (j ∷ js) d = and_no (eqb i.tag j.tag && same_bytes i.contents j.contents) (items-lengths is js (λ e. d (ap suc e)))
 
-module _ {p : List ℕ} {alike : Matching} {b at m here n : ℕ} where
-  pub likened-not : {like : Bool} → like ≡ false → Likens p like alike b at m here n false
+module _ {p : List ℕ} {alike : Matching} {b : ℕ} {first own : Own} where
+  pub likened-not : {like : Bool} → like ≡ false → Likens p like alike b first own like
   likened-not h = record { is = λ s t k l. rw h }
 
   module _ {like : Bool} (h : like ≡ true) {c : Bool} (q : c ≡ compared_in alike b) where
-    pub likened-free : c ≡ false → Likens p like alike b at m here n true
+    pub likened-free : c ≡ false → Likens p like alike b first own like
     likened-free e = record { is = λ s t k l. rw (h, ← q, e) }
 
     module _ (e : c ≡ true) where
-      pub likened-counts : (m ≡ n → ⊥) → Likens p like alike b at m here n false
-      likened-counts d = record { is = λ {first} {own} s t k l. let z = items-lengths first own (λ x. d (omega (arith, x, k, l))) in rw (h, ← q, e, z) }
+      pub likened-counts : (first.rows ≡ own.rows → ⊥) → Likens p like alike b first own false
+      likened-counts d = record { is = λ {firsts} {owns} s t k l. let z = items-lengths firsts owns (λ x. d (omega (arith, x, k, l))) in rw (h, ← q, e, z) }
 
-      pub likened-fields : m ≡ n → {r : Bool} → SameFields p at here n r → Likens p like alike b at m here n r
+      pub likened-fields : first.rows ≡ own.rows → {r : Bool} → SameFields p first.at own.at own.rows r → Likens p like alike b first own r
       likened-fields f x = record { is = λ s t k l. rw (h, ← q, e) (x.is s t (k ∙ f) l) }
 
 -- ---- all that must be alike
@@ -140,7 +137,7 @@ from-later walker step alike first like b (suc left) rows fs =
 
 -- ---- all branches of a step
 -- The first is compared to none.
-first-free : (alike : Matching) (first own : List Item) → like_first alike 0 first own ≡ true
+pub first-free : (alike : Matching) (first own : List Item) → like_first alike 0 first own ≡ true
 first-free Matching.FirstAndThird first own = refl
 first-free Matching.All first own = refl
 first-free Matching.Nothing first own = refl

@@ -1,5 +1,6 @@
--- A walk by the code's answers. A closed branch's own fields are not kept: they are those between its start and its end. Document 02, point 7. Assumes nothing.
-use Rattle.std.specs.Prelude.{◌≡◌, true, false, List, [], ℕ, suc, ◌+◌, ◌-◌, ◌≤◌, ◌<◌}
+-- A walk by the code's answers. A closed branch's own fields are not kept: they are those between its start and its end. Assumes nothing.
+use Rattle.std.specs.Prelude.{◌≡◌, true, false, List, [], ℕ, suc, ◌+◌, ◌-◌, ◌≤◌, ◌<◌, Ok, Err}
+use Rattle.std.specs.declared.result.Result as code
 use Rattle.std.proofs.Math.Option.{Option}
 use Rattle.forms.specs.Edition.{edition, edition1}
 use Rattle.answers.specs.declared.Answer.{Answer}
@@ -9,10 +10,8 @@ use Rattle.fields.specs.Fields.{Field, Fields}
 use Rattle.fields.specs.Places.{fields_at, fields_left, unread_bytes}
 use Rattle.run.specs.Uniform.{Walked, Walker, walk_opened, walk_entries, walk_branch}
 use Rattle.run_fields.specs.declared.kind.Matching.{Matching}
-use Rattle.run_branches.specs.declared.walk.Outcome.{Outcome}
-use Rattle.run_branches.specs.declared.walk.Outcome.TheVariants as outcome
-use Rattle.run_branches.specs.declared.walk.WalkStop.{WalkStop}
-use Rattle.run_branches.specs.declared.walk.WalkStop.TheVariants as stop
+use Rattle.run_branches.specs.declared.walk.Closed.{Closed}
+use Rattle.run_branches.specs.declared.walk.Stop.{Stop}
 use Rattle.run_fields.specs.Kinds.{alike_by}
 use Rattle.run_branches.specs.Branches.{walk_from}
 
@@ -29,17 +28,17 @@ pub record End : Type 0 where
 unfoldable pub ended : Result Walked → Result End
 ended r = r >>= λ w. accepted (record { rows = w.rows; unlike = w.unlike; after = w.after })
 
-abbrev pub end_of : (p : List ℕ) → Outcome → Result End
-end_of p (outcome.Refused a) = refused a
-end_of p (outcome.Closed next rows unlike) = accepted (record { rows = rows.0; unlike = unlike; after = fields_at p next })
+abbrev pub end_of : (p : List ℕ) → code.Result Closed Answer → Result End
+end_of p (Err a) = refused a
+end_of p (Ok c) = accepted (record { rows = c.rows.0; unlike = c.unlike; after = fields_at p c.next })
 
 -- A closed branch has fields.
-abbrev pub Falls : (p : List ℕ) (at : ℕ) → Outcome → Type 0
-Falls p at (outcome.Refused a) = Unit {0}
-Falls p at (outcome.Closed next rows unlike) = unread_bytes p next < unread_bytes p at
+abbrev pub Falls : (p : List ℕ) (at : ℕ) → code.Result Closed Answer → Type 0
+Falls p at (Err a) = Unit {0}
+Falls p at (Ok c) = unread_bytes p c.next < unread_bytes p at
 
 -- R, which starts at a place, ends as r tells.
-pub record Walks (R : Result Walked) (p : List ℕ) (at : ℕ) (r : Outcome) : Type 0 where
+pub record Walks (R : Result Walked) (p : List ℕ) (at : ℕ) (r : code.Result Closed Answer) : Type 0 where
   pub is : ended R ≡ end_of p r
   pub falls : Falls p at r
 
@@ -54,11 +53,12 @@ pub record WalkComes (e K : ℕ) (p : List ℕ) (at : ℕ) (here : Position) (ro
   pub falls : unread_bytes p next < unread_bytes p at
   pub countable : Countable p next (row + 1)
 
-abbrev pub StopsBy : (e K : ℕ) (p : List ℕ) (at : ℕ) (here : Position) (rows : ℕ) → WalkStop → Type 0
-StopsBy e K p at here rows (stop.Over r) = (deeper : Option Walker) → Walks (walked_from e K p at here rows deeper) p at r
-StopsBy e K p at here rows (stop.Opens last alike row a next) = WalkComes e K p at here rows last alike row.0 a next
+abbrev pub StopsBy : (e K : ℕ) (p : List ℕ) (at : ℕ) (here : Position) (rows : ℕ) → code.Result Stop Answer → Type 0
+StopsBy e K p at here rows (Err a) = (deeper : Option Walker) → Walks (walked_from e K p at here rows deeper) p at (Err a)
+StopsBy e K p at here rows (Ok (Stop.Closes c)) = (deeper : Option Walker) → Walks (walked_from e K p at here rows deeper) p at (Ok c)
+StopsBy e K p at here rows (Ok (Stop.Opens last alike row a next)) = WalkComes e K p at here rows last alike row.0 a next
 
-pub record Stops (e K : ℕ) (p : List ℕ) (at : ℕ) (here : Position) (rows : ℕ) (r : WalkStop) : Type 0 where
+pub record Stops (e K : ℕ) (p : List ℕ) (at : ℕ) (here : Position) (rows : ℕ) (r : code.Result Stop Answer) : Type 0 where
   pub by : StopsBy e K p at here rows r
 
 -- ---- a branch, and the branches of a step
@@ -66,8 +66,8 @@ pub record Stops (e K : ℕ) (p : List ℕ) (at : ℕ) (here : Position) (rows :
 abbrev pub deeper : (e K opened : ℕ) → Walker
 deeper e K o = walk_branch (edition e) K (edition1.branchings - o)
 
-abbrev pub WalksBranch : (e K : ℕ) (p : List ℕ) (at : ℕ) (here : Position) (rows opened : ℕ) → Outcome → Type 0
+abbrev pub WalksBranch : (e K : ℕ) (p : List ℕ) (at : ℕ) (here : Position) (rows opened : ℕ) → code.Result Closed Answer → Type 0
 WalksBranch e K p at here rows o r = Walks (deeper e K o here rows (fields_at p at)) p at r
 
-abbrev pub WalksBranches : (e K : ℕ) (p : List ℕ) (at step last : ℕ) → Matching → (opened : ℕ) → Outcome → Type 0
+abbrev pub WalksBranches : (e K : ℕ) (p : List ℕ) (at step last : ℕ) → Matching → (opened : ℕ) → code.Result Closed Answer → Type 0
 WalksBranches e K p at step last alike o r = Walks (walk_from (deeper e K o) step alike [] true 0 last (suc step) (fields_at p at)) p at r

@@ -2,58 +2,54 @@
 ghost use Rattle.std.specs.Prelude.{◌≡◌, ◌+◌, ◌≤◌};
 ghost use Rattle.forms.specs.Edition.{edition1};
 ghost use Rattle.answers.specs.Answers.{refusal_at};
+ghost use Rattle.answers.specs.Refusals.{number_of};
 ghost use Rattle.run.specs.Uniform.{with_number};
-ghost use Rattle.run_fields.specs.Kinds.{compared_in};
-ghost use Rattle.run_branches.specs.Branches.{Likens, first_branch_rows};
+ghost use Rattle.run_branches.specs.Branches.{Likens};
 ghost use Rattle.run_branches.specs.Walks.{Countable, Stops, WalksBranch, WalksBranches};
 
+use answers::refusals::Refusal;
 use answers::{Answer, Position, proof_refusal};
-use fields::{Next, next_field};
+use fields::{End, next_field};
 use forms::{BRANCHINGS, RowNumber};
 use run_fields::kind::{EntryKind, Matching, kind_at};
 use run_fields::same::same_fields;
 
 // An answer by another number.
-pub fn renumber(a: Answer, number: u8) -> Answer
-    ensures { result ≡ with_number number a }
+#[tactic(auto, unfolding(run::specs::Uniform::with_number))]
+pub fn renumber(answer: Answer, refusal: Refusal) -> Answer
+    ensures { result ≡ with_number (number_of refusal) answer }
 {
-    let row = a.row;
-    let step = a.step;
     Answer {
-        number,
-        file: a.file,
-        place: a.place,
-        row,
-        step,
-        branch: a.branch,
+        number: refusal.number(),
+        ..answer
     }
 }
 
-// A refusal by a number that stands where one by another would.
-fn standing(number: u8, position: Position, rows: RowNumber, other: u8, place: usize) -> Answer
-    ensures { result ≡ with_number number (refusal_at position rows.0 place other) }
+// A refusal that stands where another would.
+fn standing(
+    refusal: Refusal,
+    position: Position,
+    rows: RowNumber,
+    other: Refusal,
+    place: usize,
+) -> Answer
+    ensures { result ≡ with_number (number_of refusal) (refusal_at position rows.0 place (number_of other)) }
 {
-    renumber(proof_refusal(position, rows, other, place), number)
+    renumber(proof_refusal(position, rows, other, place), refusal)
 }
 
+// A branch that is closed: the fields go on at next, there are so many rows up to there, and `unlike` is 28 at its closing row.
 #[derive(Clone, Copy)]
-pub enum Outcome {
-    Refused {
-        answer: Answer,
-    },
-    // The branch is closed: the fields go on at next, there are so many rows up to there, and `unlike` is 28 at its closing row.
-    Closed {
-        next: usize,
-        rows: RowNumber,
-        unlike: Answer,
-    },
+pub struct Closed {
+    pub next: usize,
+    pub rows: RowNumber,
+    pub unlike: Answer,
 }
 
+// The row that ends the entries of a branch.
 #[derive(Clone, Copy)]
-pub enum WalkStop {
-    Over {
-        outcome: Outcome,
-    },
+pub enum Stop {
+    Closes(Closed),
     // The row at `at`, of that number, opens branches 0 to last; the fields go on at next.
     Opens {
         last: u16,
@@ -72,7 +68,7 @@ fn walk_entries(
     rows: RowNumber,
     k: usize,
     e: u8,
-) -> WalkStop
+) -> Result<Stop, Answer>
     requires k_le_constants { k ≤ edition1.constants }
     requires countable { Countable p.now at rows.0 }
     ensures { Stops e k p.now at position rows.0 result }
@@ -81,109 +77,64 @@ fn walk_entries(
     let mut count = rows.0;
     let mut made = false;
     loop {
-        match next_field(p, here) {
-            Next::Field {
-                at: a,
-                tag,
-                start,
-                len,
-                next,
-            } => {
-                let row = RowNumber(count);
-                match kind_at(p, tag, start, len, k, e, made) {
-                    EntryKind::Derives => {
-                        count += 1;
-                        made = true;
-                        here = next;
-                    }
-                    EntryKind::Opens { last, alike } => {
-                        return WalkStop::Opens {
-                            last,
-                            alike,
-                            row,
-                            at: a,
-                            next,
-                        };
-                    }
-                    EntryKind::Closes => {
-                        let unlike = standing(28, position, row, 15, a);
-                        let outcome = Outcome::Closed {
-                            next,
-                            rows: RowNumber(count + 1),
-                            unlike,
-                        };
-                        return WalkStop::Over { outcome };
-                    }
-                    EntryKind::Claims => {
-                        let answer = standing(27, position, row, 14, a);
-                        let outcome = Outcome::Refused { answer };
-                        return WalkStop::Over { outcome };
-                    }
-                    EntryKind::Refused { number } => {
-                        let answer = proof_refusal(position, row, number, a);
-                        let outcome = Outcome::Refused { answer };
-                        return WalkStop::Over { outcome };
-                    }
-                }
+        let row = RowNumber(count);
+        let field = match next_field(p, here) {
+            Ok(field) => field,
+            Err(End::Cut { at }) => {
+                return Err(proof_refusal(position, row, Refusal::Truncated, at));
             }
-            Next::Cut { at: a } => {
-                let answer = proof_refusal(position, RowNumber(count), 2, a);
-                let outcome = Outcome::Refused { answer };
-                return WalkStop::Over { outcome };
+            Err(End::Ends { at }) => {
+                return Err(proof_refusal(position, row, Refusal::BranchesOpen, at));
             }
-            Next::Ends { at: a } => {
-                let answer = proof_refusal(position, RowNumber(count), 20, a);
-                let outcome = Outcome::Refused { answer };
-                return WalkStop::Over { outcome };
+        };
+        match kind_at(p, field, k, e, made) {
+            Ok(EntryKind::Derives) => {
+                count += 1;
+                made = true;
+                here = field.next;
             }
+            Ok(EntryKind::Opens { last, alike }) => {
+                return Ok(Stop::Opens {
+                    last,
+                    alike,
+                    row,
+                    at: field.at,
+                    next: field.next,
+                });
+            }
+            Ok(EntryKind::Closes) => {
+                let other = Refusal::ConditionNotMet;
+                let unlike = standing(Refusal::BranchesDiffer, position, row, other, field.at);
+                return Ok(Stop::Closes(Closed {
+                    next: field.next,
+                    rows: RowNumber(count + 1),
+                    unlike,
+                }));
+            }
+            Ok(EntryKind::Claims) => {
+                let other = Refusal::WrongClaim;
+                return Err(standing(Refusal::ClaimInRun, position, row, other, field.at));
+            }
+            Err(refusal) => return Err(proof_refusal(position, row, refusal, field.at)),
         }
     }
 }
 
-// Whether branch b must be as the first.
-fn compared(alike: Matching, b: u16) -> bool
-    ensures { result ≡ compared_in alike b }
-{
-    match alike {
-        Matching::FirstAndThird => b == 2,
-        Matching::All => b != 0,
-        Matching::Nothing => false,
-    }
-}
-
-// How many rows the first branch has, where branch b has so many.
-fn first_rows(b: u16, first: u16, own: u16) -> u16
-    ensures { result ≡ first_branch_rows b first own }
-{
-    if b == 0 {
-        return own;
-    }
-    first
-}
-
-// Whether the branches that must be alike are, up to branch b, which has n rows from `here` on; the first has m from `at` on, and `like` tells of those before b.
-fn likened(
-    p: &[u8],
-    like: bool,
-    alike: Matching,
-    b: u16,
+// A branch's own fields: so many from `at` on, a row each.
+#[derive(Clone, Copy)]
+struct Own {
     at: usize,
-    m: u16,
-    here: usize,
-    n: u16,
-) -> bool
-    ensures { Likens p.now like alike b at m here n result }
+    rows: u16,
+}
+
+// Whether the branches that must be alike are, with branch b; `like` tells of those before it.
+fn likened(p: &[u8], like: bool, alike: Matching, b: u16, first: Own, own: Own) -> bool
+    ensures { Likens p.now like alike b first own result }
 {
-    if like {
-        if compared(alike, b) {
-            if m == n {
-                return same_fields(p, at, here, n);
-            }
-            return false;
-        }
-        return true;
+    if !like || !alike.compares(b) {
+        return like;
     }
-    false
+    first.rows == own.rows && same_fields(p, first.at, own.at, own.rows)
 }
 
 // Branches 0 to last of the row `step`, from `at` on; 28 at the last one's closing row if those are not alike that must be.
@@ -197,44 +148,36 @@ fn walk_branches(
     opened: u16,
     k: usize,
     e: u8,
-) -> Outcome
+) -> Result<Closed, Answer>
     requires k_le_constants { (k ≤ edition1.constants) × (opened ≤ edition1.branchings) }
     requires countable { Countable p.now at (step.0 + 1) }
     ensures { WalksBranches e k p.now at step.0 last alike opened result }
 {
-    let mut here = at;
-    let mut rows = step.0 + 1;
-    let mut first: u16 = 0;
+    let rows = RowNumber(step.0 + 1);
+    let place = Position { step, branch: 0 };
+    let mut closed = walk_branch(p, at, place, rows, opened, k, e)?;
+    let first = Own {
+        at,
+        rows: closed.rows.0 - rows.0,
+    };
     let mut like = true;
-    let mut b: u16 = 0;
-    loop {
+    for b in 0..last {
         let place = Position {
-            step: RowNumber(step.0),
-            branch: b,
+            step,
+            branch: b + 1,
         };
-        let own = walk_branch(p, here, place, RowNumber(rows), opened, k, e);
-        let Outcome::Closed {
-            next,
-            rows: upto,
-            unlike,
-        } = own
-        else {
-            return own;
+        let next = walk_branch(p, closed.next, place, closed.rows, opened, k, e)?;
+        let own = Own {
+            at: closed.next,
+            rows: next.rows.0 - closed.rows.0,
         };
-        let n = upto.0 - rows;
-        let still = likened(p, like, alike, b, at, first, here, n);
-        if b == last {
-            if still {
-                return own;
-            }
-            return Outcome::Refused { answer: unlike };
-        }
-        first = first_rows(b, first, n);
-        like = still;
-        rows = upto.0;
-        here = next;
-        b += 1;
+        like = likened(p, like, alike, b + 1, first, own);
+        closed = next;
     }
+    if !like {
+        return Err(closed.unlike);
+    }
+    Ok(closed)
 }
 
 // The branch at a position, before which there were so many rows; `opened` steps are open. 17, 28, else as `walk_entries`.
@@ -247,23 +190,22 @@ pub fn walk_branch(
     opened: u16,
     k: usize,
     e: u8,
-) -> Outcome
+) -> Result<Closed, Answer>
     requires k_le_constants { (k ≤ edition1.constants) × (opened ≤ edition1.branchings) }
     requires countable { Countable p.now at rows.0 }
     ensures { WalksBranch e k p.now at position rows.0 opened result }
 {
-    match walk_entries(p, at, position, rows, k, e) {
-        WalkStop::Over { outcome } => outcome,
-        WalkStop::Opens {
+    match walk_entries(p, at, position, rows, k, e)? {
+        Stop::Closes(closed) => Ok(closed),
+        Stop::Opens {
             last,
             alike,
             row,
-            at: a,
+            at,
             next,
         } => {
             if opened == BRANCHINGS {
-                let answer = proof_refusal(position, row, 17, a);
-                return Outcome::Refused { answer };
+                return Err(proof_refusal(position, row, Refusal::TooDeep, at));
             }
             walk_branches(p, next, row, last, alike, opened + 1, k, e)
         }

@@ -10,8 +10,5 @@ decreases-walk_branch l = 2 * unread_bytes l.p.now l.at
 abbrev pub decreases-walk_branches : goal.decreases-walk_branches
 decreases-walk_branches l = 2 * unread_bytes l.p.now l.at + 1
 
-abbrev pub invariant-walk_branches-loop-next : goal.invariant-walk_branches-loop-next
-invariant-walk_branches-loop-next l = Passing l.e l.k l.p l.at l.step.0 l.last l.alike l.opened l.here l.rows l.first l.like l.b
-
-abbrev pub decreases-walk_branches-loop-next : goal.decreases-walk_branches-loop-next
-decreases-walk_branches-loop-next l = unread_bytes l.p l.here
+abbrev pub invariant-walk_branches-loop-b : goal.invariant-walk_branches-loop-b
+invariant-walk_branches-loop-b l = Passing l.e l.k l.p l.at l.step.0 l.last l.alike l.opened l.first l.closed l.like l.b
