@@ -2,30 +2,22 @@
 use mathlib.Core.Path.{◌≡◌, refl, sym, ◌∙◌, ap}
 use mathlib.Core.Option.{Option, some}
 use mathlib.Core.List.{List, [], ◌∷◌}
-use Prim.Native.Nat.{ℕ, suc, ◌+◌, ◌-◌, ◌≤◌, ◌<◌}
+use Prim.Native.Nat.{ℕ, suc, ◌+◌, ◌≤◌, ◌<◌}
 use native.Mathlib.Omega.{arith}
-use lib.ListN.{length, get_or, take, drop, drop_of_length-le}
-use lib.Seq.{drop-cons, drop-drop}
-use Rattle.answers.specs.Answers.{answer, Result, refused, accepted, ◌>>=◌}
+use lib.ListN.{length, get_or, take, drop, length-drop, drop_of_length-le}
+use lib.Seq.{drop-cons}
+use Rattle.answers.specs.Answers.{Result, refused, accepted, ◌>>=◌}
 use Rattle.answers.proofs.Results.{never, one_value}
-use Rattle.fields.specs.Places.{given_k}
 use Rattle.bundle.specs.Bundle.{Bundle, bundle}
-use Rattle.bundle_scan.specs.Scan.{IsBundle, Scans}
-use Rattle.bundle_scan.specs.declared.Body.{Body}
-use Rattle.bundle_scan.specs.declared.Scanned.{Scanned}
 use Rattle.run.specs.Run.{total, parts, read_stages}
 
--- ---- the buffer: the stages from i on start at `from`
-pub record PartsLeft (buffer lengths : List ℕ) (i from : ℕ) : Type 0 where
+-- ---- the buffer: the lengths from i on part what is left of it
+pub record PartsLeft (lengths : List ℕ) (i : ℕ) (left : List ℕ) : Type 0 where
   pub upto : i ≤ length lengths
-  pub adds_up : from + total (drop i lengths) ≡ length buffer
+  pub adds_up : total (drop i lengths) ≡ length left
 
-pub parts-start : {buffer lengths : List ℕ} → total lengths ≡ length buffer → PartsLeft buffer lengths 0 0
-parts-start h = record { upto = omega arith; adds_up = omega arith }
-
--- the bytes from one place to another
-abbrev pub between : (from to : ℕ) → List ℕ → List ℕ
-between from to s = take (to - from) (drop from s)
+pub parts-start : {buffer lengths : List ℕ} → total lengths ≡ length buffer → PartsLeft lengths 0 buffer
+parts-start h = record { upto = omega arith; adds_up = h }
 
 lengths-on : (lengths : List ℕ) (i : ℕ) → i < length lengths → drop i lengths ≡ get_or lengths i 0 ∷ drop (i + 1) lengths
 lengths-on lengths i l = let z : suc i ≡ i + 1 = omega arith in drop-cons lengths i 0 l ∙ rw z
@@ -34,19 +26,16 @@ pub total-on : (lengths : List ℕ) (i : ℕ) → i < length lengths → total (
 unfolding total
 total-on lengths i l = rw (lengths-on lengths i l)
 
-module _ {buffer lengths : List ℕ} {i from : ℕ} (p : PartsLeft buffer lengths i from) (l : i < length lengths) where
-  pub part-upto : from + get_or lengths i 0 ≤ length buffer
+module _ {lengths : List ℕ} {i : ℕ} {left : List ℕ} (p : PartsLeft lengths i left) (l : i < length lengths) where
+  pub part-upto : get_or lengths i 0 ≤ length left
   part-upto = omega (arith, p.adds_up, total-on lengths i l)
 
-  pub parts_next : PartsLeft buffer lengths (i + 1) (from + get_or lengths i 0)
-  parts_next = record { upto = omega arith; adds_up = omega (arith, p.adds_up, total-on lengths i l) }
+  pub parts_next : PartsLeft lengths (i + 1) (drop (get_or lengths i 0) left)
+  parts_next = record { upto = omega arith; adds_up = omega (arith, p.adds_up, total-on lengths i l, length-drop (get_or lengths i 0) left) }
 
-  pub parts-on : parts (drop i lengths) (drop from buffer) ≡ between from (from + get_or lengths i 0) buffer ∷ parts (drop (i + 1) lengths) (drop (from + get_or lengths i 0) buffer)
+  pub parts-on : parts (drop i lengths) left ≡ take (get_or lengths i 0) left ∷ parts (drop (i + 1) lengths) (drop (get_or lengths i 0) left)
   unfolding parts
-  parts-on =
-      let z : get_or lengths i 0 ≡ from + get_or lengths i 0 - from = omega arith in
-      ap (λ (ns : List ℕ). parts ns (drop from buffer)) (lengths-on lengths i l)
-      ∙ rw (drop-drop (get_or lengths i 0) from buffer) (ap (λ (n : ℕ). take n (drop from buffer) ∷ parts (drop (i + 1) lengths) (drop (from + get_or lengths i 0) buffer)) z)
+  parts-on = ap (λ (ns : List ℕ). parts ns left) (lengths-on lengths i l)
 
 -- none is left
 pub parts_none : (lengths : List ℕ) (i : ℕ) (s : List ℕ) → length lengths ≤ i → parts (drop i lengths) s ≡ []
@@ -82,11 +71,3 @@ reads_on newest file given T Ts e =
 pub reads_none : (newest file : ℕ) (given : Option ℕ) {ts : List Bundle} → read_stages newest file given [] ≡ accepted ts → ts ≡ []
 unfolding read_stages
 reads_none newest file given e = sym (one_value refl e)
-
--- ---- what going over a stage tells
-module _ {given : ℕ} {s : List ℕ} {r : Scanned} (sc : Scans given s 0 r) where
-  pub scan-refused : {number place : ℕ} → r ≡ Scanned.Refused number place → (file : ℕ) → bundle 2 file (given_k given) s ≡ refused (answer number file place)
-  scan-refused e file = (rw e at sc.by) file
-
-  pub scan-bundle : {K start : ℕ} {body : Body} → r ≡ Scanned.Bundle K body start → IsBundle given s K body
-  scan-bundle e = (rw e at sc.by).0

@@ -2,11 +2,13 @@
 use mathlib.Core.Path.{◌≡◌, refl, sym, ◌∙◌, ap}
 use mathlib.Core.Bool.{Bool, true, false, ◌&&◌}
 use mathlib.Core.Option.{Option, none, some}
+use Rattle.std.specs.Prelude.{Some, None, Ok, Err, MatchResult, IsErrAnd}
+use Rattle.std.specs.declared.result.Result as code
 use mathlib.Core.List.{List, [], ◌∷◌, ◌++◌, append_assoc, append-nil}
-use Prim.Native.Nat.{ℕ, suc, ◌+◌, ◌*◌, ◌-◌, ◌≤◌, ◌<◌}
+use Prim.Native.Nat.{ℕ, zero, suc, ◌+◌, ◌*◌, ◌-◌, ◌≤◌, ◌<◌}
 use native.Mathlib.Omega.{arith}
 use lib.Dec.{T, leb, eqb}
-use lib.ListN.{length, get_or, drop, length-drop, length-append, drop_of_length-le}
+use lib.ListN.{length, get_or, take, drop, length-append, drop_of_length-le}
 use lib.Seq.{length-take-le}
 use borrow.Author.Tests.{le-leb, lt-leb, eq-eqb, ne_eqb, leb-true, eqb-true, eqb-false}
 use Rattle.forms.specs.Edition.{edition}
@@ -16,15 +18,15 @@ use Rattle.fields.specs.Places.{given_k, fields_at}
 use Rattle.fields.proofs.Headers.{given-some}
 use Rattle.bundle.specs.Bundle.{Bundle, at_most, bundle}
 use Rattle.bundle_scan.specs.Scan.{stated, IsBundle, Scans}
-use Rattle.bundle_scan.specs.declared.Body.{Body}
 use Rattle.bundle_scan.specs.declared.Scanned.{Scanned}
+use Rattle.answers.specs.Refusals.{number_of}
+use Rattle.answers.specs.declared.refusals.Fault.{Fault}
 use Rattle.bundle_scan.proofs.Bodies as bodies
 use Rattle.chains.specs.Runs.{joined}
 use Rattle.run.specs.Run.{total, parts, parted, stages_short, read_stages, constants_of, run_of}
 use Rattle.run_stages.specs.Staged.{staged}
-use Rattle.run_stages.proofs.StagesInTurn.{PartsLeft, parts-start, between, total-on, part-upto, parts_next, parts-on, parts_none, scan-refused}
+use Rattle.run_stages.proofs.StagesInTurn.{PartsLeft, parts-start, total-on, part-upto, parts_next, parts-on, parts_none}
 use Rattle.run_stages.specs.Reading.{LengthsAddUp, FindsLong, ReadsStages}
-use Rattle.run_stages.specs.declared.reading.Read.TheVariants as read
 
 -- ---- 25: the lengths are taken from the buffer's, one after the other
 pub record Counting (buffer lengths : List ℕ) (i left : ℕ) : Type 0 where
@@ -35,37 +37,27 @@ pub record Counting (buffer lengths : List ℕ) (i left : ℕ) : Type 0 where
 pub counting-start : (buffer lengths : List ℕ) → Counting buffer lengths 0 (length buffer)
 counting-start buffer lengths = record { upto = omega arith; less = omega arith; is = omega arith }
 
-module _ (buffer lengths : List ℕ) where
-  pub parted-none : length lengths < 1 → false ≡ parted lengths buffer
+pub counting-next : {buffer lengths : List ℕ} {i left rest : ℕ} → Counting buffer lengths i left → i < length lengths → (get_or lengths i 0 ≤ left) × (rest ≡ left - get_or lengths i 0) → Counting buffer lengths (i + 1) rest
+counting-next {lengths = lengths} {i = i} g l h = record { upto = omega arith; less = omega (arith, g.less, h.1); is = omega (arith, g.is, h.0, h.1, total-on lengths i l) }
+
+module _ (buffer lengths : List ℕ) (least : 1 ≤ length lengths) (most : length lengths ≤ 16) where
+  parted-as : (b : Bool) → eqb (total lengths) (length buffer) ≡ b → b ≡ parted lengths buffer
   unfolding parted
-  parted-none h = rw (lt-leb 1 (length lengths) h)
+  parted-as b e = rw (le-leb 1 (length lengths) least, le-leb (length lengths) 16 most, e)
 
-  module _ (least : 1 ≤ length lengths) where
-    pub parted-many : 16 < length lengths → false ≡ parted lengths buffer
-    unfolding parted
-    parted-many h = rw (le-leb 1 (length lengths) least, lt-leb (length lengths) 16 h)
+  module _ {i left : ℕ} (g : Counting buffer lengths i left) where
+    pub parted-over : i < length lengths → ¬ (get_or lengths i 0 ≤ left) → false ≡ parted lengths buffer
+    parted-over l h = parted-as false (ne_eqb (total lengths) (length buffer) (λ e. h (omega (arith, g.is, total-on lengths i l))))
 
-    module _ (most : length lengths ≤ 16) where
-      parted-as : (b : Bool) → eqb (total lengths) (length buffer) ≡ b → b ≡ parted lengths buffer
-      unfolding parted
-      parted-as b e = rw (le-leb 1 (length lengths) least, le-leb (length lengths) 16 most, e)
-
-      module _ {i left : ℕ} (g : Counting buffer lengths i left) where
-        pub parted-over : i < length lengths → left < get_or lengths i 0 → false ≡ parted lengths buffer
-        parted-over l h = parted-as false (ne_eqb (total lengths) (length buffer) (λ e. omega (arith, g.is, total-on lengths i l)))
-
-        pub counting-next : i < length lengths → get_or lengths i 0 ≤ left → Counting buffer lengths (i + 1) (left - get_or lengths i 0)
-        counting-next l h = record { upto = omega arith; less = omega (arith, g.less); is = omega (arith, g.is, total-on lengths i l) }
-
-        pub parted-done : length lengths ≤ i → eqb left 0 ≡ parted lengths buffer
-        unfolding total
-        parted-done h =
-            let z : total (drop i lengths) ≡ 0 = rw (drop_of_length-le lengths {i = i} h) in
-            go z (eqb left 0) refl
-          where
-            go : total (drop i lengths) ≡ 0 → (b : Bool) → eqb left 0 ≡ b → b ≡ parted lengths buffer
-            go z true e = parted-as true (eq-eqb (total lengths) (length buffer) (let q = eqb-true left 0 e in omega (arith, g.is)))
-            go z false e = parted-as false (ne_eqb (total lengths) (length buffer) (λ q. eqb-false left 0 e (omega (arith, g.is))))
+    pub parted-done : length lengths ≤ i → eqb left 0 ≡ parted lengths buffer
+    unfolding total
+    parted-done h =
+        let z : total (drop i lengths) ≡ 0 = rw (drop_of_length-le lengths {i = i} h) in
+        go z (eqb left 0) refl
+      where
+        go : total (drop i lengths) ≡ 0 → (b : Bool) → eqb left 0 ≡ b → b ≡ parted lengths buffer
+        go z true e = parted-as true (eq-eqb (total lengths) (length buffer) (let q = eqb-true left 0 e in omega (arith, g.is)))
+        go z false e = parted-as false (ne_eqb (total lengths) (length buffer) (λ q. eqb-false left 0 e (omega (arith, g.is))))
 
 and_left : (a b : Bool) → (a && b) ≡ true → a ≡ true
 and_left true b e = refl
@@ -86,42 +78,63 @@ parted-is {buffer} {lengths} e =
     }
 
 -- ---- 1 for each stage
-pub record ShortLeft (buffer lengths : List ℕ) (i : ℕ) : Type 0 where
-  pub from : ℕ
-  pub left : PartsLeft buffer lengths i from
-  pub is : stages_short 2 11 (parts lengths buffer) ≡ stages_short 2 (11 + i) (parts (drop i lengths) (drop from buffer))
-
-pub short-start : {buffer lengths : List ℕ} → LengthsAddUp buffer lengths → ShortLeft buffer lengths 0
-short-start p = record { from = 0; left = parts-start p.adds_up; is = refl }
+record ShortLeft (buffer lengths : List ℕ) (i : ℕ) : Type 0 where
+  left : List ℕ
+  stands : PartsLeft lengths i left
+  is : stages_short 2 11 (parts lengths buffer) ≡ stages_short 2 (11 + i) (parts (drop i lengths) left)
 
 module _ {buffer lengths : List ℕ} {i : ℕ} (g : ShortLeft buffer lengths i) where
-  pub short-done : length lengths ≤ i → FindsLong buffer lengths 0
+  short-done : length lengths ≤ i → FindsLong buffer lengths None
   unfolding stages_short
-  short-done h = record { is = g.is ∙ rw (parts_none lengths i (drop g.from buffer) h) }
+  short-done h = record { is = g.is ∙ rw (parts_none lengths i g.left h) }
 
   module _ (l : i < length lengths) where
-    size_is : length (between g.from (g.from + get_or lengths i 0) buffer) ≡ get_or lengths i 0
-    size_is =
-        let z : g.from + get_or lengths i 0 - g.from ≡ get_or lengths i 0 = omega arith in
-        rw z (length-take-le (get_or lengths i 0) (drop g.from buffer) (omega (arith, length-drop g.from buffer, part-upto g.left l)))
+    size_is : length (take (get_or lengths i 0) g.left) ≡ get_or lengths i 0
+    size_is = length-take-le (get_or lengths i 0) g.left (part-upto g.stands l)
 
-    pub short-long : 8192 < get_or lengths i 0 → FindsLong buffer lengths (11 + i)
+    short-long : 8192 < get_or lengths i 0 → FindsLong buffer lengths (Some (11 + i))
     unfolding stages_short at_most need ◌>>◌
-    short-long h =
-        let z : 11 + i ≡ suc (10 + i) = omega arith in
-        record { is = g.is ∙ rw (parts-on g.left l, size_is, lt-leb (get_or lengths i 0) 8192 h, z) }
+    short-long h = record { is = g.is ∙ rw (parts-on g.stands l, size_is, lt-leb (get_or lengths i 0) 8192 h) }
 
-    pub short-next : get_or lengths i 0 ≤ 8192 → ShortLeft buffer lengths (i + 1)
+    short-next : get_or lengths i 0 ≤ 8192 → ShortLeft buffer lengths (suc i)
     unfolding stages_short at_most need ◌>>◌
     short-next h =
-        let z : suc (11 + i) ≡ 11 + (i + 1) = omega arith in
-        record { from = g.from + get_or lengths i 0; left = parts_next g.left l; is = g.is ∙ rw (parts-on g.left l, size_is, le-leb (get_or lengths i 0) 8192 h, z) }
+        let z : suc (11 + i) ≡ 11 + suc i = omega arith in
+        let y : i + 1 ≡ suc i = omega arith in
+        record { left = drop (get_or lengths i 0) g.left; stands = rw y at (parts_next g.stands l); is = g.is ∙ rw (parts-on g.stands l, size_is, le-leb (get_or lengths i 0) 8192 h, z, y) }
+
+module _ {buffer lengths : List ℕ} (p : LengthsAddUp buffer lengths) where
+  -- the stages up to i are not too long
+  short-upto : (i : ℕ) → i ≤ length lengths → ((j : ℕ) → j < i → get_or lengths j 0 ≤ 8192) → ShortLeft buffer lengths i
+  short-upto zero l h = record { left = buffer; stands = parts-start p.adds_up; is = refl }
+  short-upto (suc i) l h = short-next (short-upto i (omega arith) (λ j m. h j (omega arith))) (omega arith) (h i (omega arith))
+
+  pub all-short : ((j : ℕ) → j < length lengths → get_or lengths j 0 ≤ 8192) → FindsLong buffer lengths None
+  all-short h = short-done (short-upto (length lengths) (omega arith) h) (omega arith)
+
+  pub first-long : (i : ℕ) → i < length lengths → 8192 < get_or lengths i 0 → ((j : ℕ) → j < i → get_or lengths j 0 ≤ 8192) → FindsLong buffer lengths (Some (11 + i))
+  first-long i l m h = short-long (short-upto i (omega arith) h) l m
 
 -- ---- the stages read
-pub record Reading (buffer lengths : List ℕ) (from i k count : ℕ) : Type 0 where
-  pub left : PartsLeft buffer lengths i from
+-- what a stage is read as, its refusal told as that of its file
+abbrev pub ReadAs : (file : ℕ) → code.Result Scanned Fault → code.Result Scanned Answer → Type 0
+ReadAs file r m = MatchResult r (λ x. m ≡ Ok x) (λ e. IsErrAnd m (λ a. a ≡ answer (number_of e.refusal) file e.place))
+
+read-ok : (file : ℕ) (r : code.Result Scanned Fault) {m : code.Result Scanned Answer} → ReadAs file r m → {x : Scanned} → m ≡ Ok x → r ≡ Ok x
+read-ok file (Ok y) h {x} e =
+    let z = sym h ∙ e in
+    let q : y ≡ x = cc in
+    ap Ok q
+read-ok file (Err f) h e = absurd (rw e at h)
+
+read-err : (file : ℕ) (r : code.Result Scanned Fault) {m : code.Result Scanned Answer} → ReadAs file r m → {a : Answer} → m ≡ Err a → (f : Fault) × (r ≡ Err f) × (a ≡ answer (number_of f.refusal) file f.place)
+read-err file (Ok y) h e = absurd (let z = sym h ∙ e in cc)
+read-err file (Err f) h e = (f, refl, rw e at h)
+
+pub record Reading (buffer lengths left : List ℕ) (i k count : ℕ) : Type 0 where
+  pub stands : PartsLeft lengths i left
   pub done : List Bundle
-  pub is : read_stages 2 11 none (parts lengths buffer) ≡ (read_stages 2 (11 + i) (given_k k) (parts (drop i lengths) (drop from buffer)) >>= λ us. accepted (done ++ us))
+  pub is : read_stages 2 11 none (parts lengths buffer) ≡ (read_stages 2 (11 + i) (given_k k) (parts (drop i lengths) left) >>= λ us. accepted (done ++ us))
   pub k_is : constants_of done ≡ k
   pub done-i : length done ≡ i
   pub low : 1 ≤ i → 1 ≤ k
@@ -157,10 +170,10 @@ unfolding run_of
 count-on [] t = omega (arith, length-append t.constraints [])
 count-on (d ∷ ds) t = omega (arith, length-append d.constraints (joined (run_of (ds ++ (t ∷ [])))), length-append d.constraints (joined (run_of ds)), count-on ds t)
 
-pub reading-start : {buffer lengths : List ℕ} → LengthsAddUp buffer lengths → Reading buffer lengths 0 0 0 0
+pub reading-start : {buffer lengths : List ℕ} → LengthsAddUp buffer lengths → Reading buffer lengths buffer 0 0 0
 unfolding constants_of run_of
 reading-start {buffer} {lengths} p = record {
-  left = parts-start p.adds_up;
+  stands = parts-start p.adds_up;
   done = [];
   is = whole (read_stages 2 11 none (parts lengths buffer));
   k_is = refl;
@@ -171,43 +184,50 @@ reading-start {buffer} {lengths} p = record {
   few = omega arith;
 }
 
-module _ {buffer lengths : List ℕ} {from i k count : ℕ} (g : Reading buffer lengths from i k count) where
-  pub reading-done : 1 ≤ length lengths → length lengths ≤ i → ReadsStages buffer lengths (read.Stages k count)
+module _ {buffer lengths left : List ℕ} {i k count : ℕ} (g : Reading buffer lengths left i k count) where
+  pub reading-done : 1 ≤ length lengths → length lengths ≤ i → ReadsStages buffer lengths (Ok (record { k = k; count = count }))
   unfolding staged read_stages ◌>>=◌
   reading-done n h =
-      let e : read_stages 2 11 none (parts lengths buffer) ≡ accepted g.done = g.is ∙ rw (parts_none lengths i (drop from buffer) h, append-nil g.done) in
+      let e : read_stages 2 11 none (parts lengths buffer) ≡ accepted g.done = g.is ∙ rw (parts_none lengths i left h, append-nil g.done) in
       let z : staged buffer lengths ≡ g.done = rw e in
       record { by = record { is = e ∙ rw z; k_is = rw z g.k_is; count_is = rw z g.count_is; low = g.low (omega arith); high = g.high } }
 
-  module _ (l : i < length lengths) where
-    abbrev part_of : List ℕ
-    part_of = between from (from + get_or lengths i 0) buffer
+  module _ (l : i < length lengths) {part rest : List ℕ} (front : part ≡ take (get_or lengths i 0) left) (back : rest ≡ drop (get_or lengths i 0) left) where
+    on : parts (drop i lengths) left ≡ part ∷ parts (drop (i + 1) lengths) rest
+    on = parts-on g.stands l ∙ rw (front, back)
 
-    pub reading-refused : {r : Scanned} → Scans k part_of 0 r → {number place : ℕ} → r ≡ Scanned.Refused number place → {a : Answer} → a ≡ answer number (11 + i) place → ReadsStages buffer lengths (read.Refused a)
+    reading-stop : {f : Fault} → Scans k part 0 (Err f) → {a : Answer} → a ≡ answer (number_of f.refusal) (11 + i) f.place → ReadsStages buffer lengths (Err a)
     unfolding ◌>>=◌
-    reading-refused sc e q =
-        let z = read-stop (11 + i) (given_k k) part_of (parts (drop (i + 1) lengths) (drop (from + get_or lengths i 0) buffer)) (scan-refused sc e (11 + i)) in
-        record { by = g.is ∙ rw (parts-on g.left l, z, q) }
+    reading-stop sc q =
+        let z = read-stop (11 + i) (given_k k) part (parts (drop (i + 1) lengths) rest) (sc.by (11 + i)) in
+        record { by = g.is ∙ rw (on, z, q) }
 
-    module _ {found : ℕ} {body : Body} (b : IsBundle k part_of found body) where
-      abbrev bundle_of : Bundle
-      bundle_of = record { edition = body.edition; K = found; constraints = stated (edition body.edition).coefficient_width found (fields_at part_of body.at) }
+    module _ {r : code.Result Scanned Fault} (sc : Scans k part 0 r) {m : code.Result Scanned Answer} (told : ReadAs (11 + i) r m) where
+      pub reading-refused : {a : Answer} → m ≡ Err a → ReadsStages buffer lengths (Err a)
+      reading-refused e = let f = read-err (11 + i) r told e in reading-stop (rw f.1 at sc) f.2
 
-      pub reading-few : count + body.count ≤ 32 * (i + 1)
-      reading-few = omega (arith, g.few, bodies.few b)
+      module _ {x : Scanned} (e : m ≡ Ok x) where
+        stage-is : IsBundle k part x.k x.body
+        stage-is = (rw (read-ok (11 + i) r told e) at sc).by.0
 
-      pub reading-next : Reading buffer lengths (from + get_or lengths i 0) (i + 1) found (count + body.count)
-      reading-next =
-          let z : suc (11 + i) ≡ 11 + (i + 1) = omega arith in
-          let o = read_one (11 + i) (given_k k) part_of (parts (drop (i + 1) lengths) (drop (from + get_or lengths i 0) buffer)) (bodies.states b (11 + i)) in
-          record {
-            left = parts_next g.left l;
-            done = g.done ++ (bundle_of ∷ []);
-            is = g.is ∙ rw (parts-on g.left l, o, given-some found (bodies.low b), ← z) (shift g.done bundle_of (read_stages 2 (suc (11 + i)) (some found) (parts (drop (i + 1) lengths) (drop (from + get_or lengths i 0) buffer))));
-            k_is = constants-on g.done bundle_of (λ n. g.k_is ∙ sym (bodies.as-given b (g.low (omega (arith, g.done-i)))));
-            done-i = omega (arith, g.done-i, length-append g.done (bundle_of ∷ []));
-            low = λ h. bodies.low b;
-            high = bodies.high b;
-            count_is = count-on g.done bundle_of ∙ omega (arith, g.count_is, bodies.count_is b);
-            few = reading-few;
-          }
+        abbrev bundle_of : Bundle
+        bundle_of = record { edition = x.body.edition; K = x.k; constraints = stated (edition x.body.edition).coefficient_width x.k (fields_at part x.body.at) }
+
+        pub reading-few : count + x.body.count ≤ 32 * (i + 1)
+        reading-few = omega (arith, g.few, bodies.few stage-is)
+
+        pub reading-next : Reading buffer lengths rest (i + 1) x.k (count + x.body.count)
+        reading-next =
+            let z : suc (11 + i) ≡ 11 + (i + 1) = omega arith in
+            let o = read_one (11 + i) (given_k k) part (parts (drop (i + 1) lengths) rest) (bodies.states stage-is (11 + i)) in
+            record {
+              stands = rw back (parts_next g.stands l);
+              done = g.done ++ (bundle_of ∷ []);
+              is = g.is ∙ rw (on, o, given-some x.k (bodies.low stage-is), ← z) (shift g.done bundle_of (read_stages 2 (suc (11 + i)) (some x.k) (parts (drop (i + 1) lengths) rest)));
+              k_is = constants-on g.done bundle_of (λ n. g.k_is ∙ sym (bodies.as-given stage-is (g.low (omega (arith, g.done-i)))));
+              done-i = omega (arith, g.done-i, length-append g.done (bundle_of ∷ []));
+              low = λ h. bodies.low stage-is;
+              high = bodies.high stage-is;
+              count_is = count-on g.done bundle_of ∙ omega (arith, g.count_is, bodies.count_is stage-is);
+              few = reading-few;
+            }

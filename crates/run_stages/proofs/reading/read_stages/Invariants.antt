@@ -1,11 +1,6 @@
 -- `run_stages::reading::read_stages` meets its contract. Assumes nothing.
-use Prim.Native.Nat.{◌-◌}
-use lib.ListN.{length}
 use Rattle.run_stages.proofs.StagesRead.{Reading}
 use Rattle.run_stages.proofs.reading.read_stages.Given as goal
 
 abbrev pub invariant-loop-i : goal.invariant-loop-i
-invariant-loop-i l = Reading l.buffer l.lengths l.from l.i l.k l.count
-
-abbrev pub decreases-loop-i : goal.decreases-loop-i
-decreases-loop-i l = length l.lengths - l.i
+invariant-loop-i l = Reading l.buffer l.lengths l.left l.i l.k l.count
