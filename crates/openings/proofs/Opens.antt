@@ -17,7 +17,7 @@ use Rattle.calculus.specs.Rules.{◌▷◌, in_range}
 use Rattle.answers.specs.declared.Answer.{Answer}
 use Rattle.answers.specs.Answers.{position, Result, refused, accepted, ◌>>=◌, ◌>>◌, need, found}
 use Rattle.fields.specs.Fields.{Fields}
-use Rattle.proof.specs.Rows.{is, line_at, inequality, roundable, fitting}
+use Rattle.proof.specs.Rows.{is, line_at, inequality, fitting}
 use Rattle.proof.specs.Check.{Closing, Checker, Following, check_row, check_branch}
 use Rattle.lines.specs.Buffer.{size, line_in, lines_in, LineStart, started_line}
 use Rattle.lines.proofs.Lines.{line-at, line-past, length-lines}
@@ -28,13 +28,9 @@ use Rattle.lines.proofs.Keeping.{kept_refl}
 use Rattle.tally.specs.Tally.{tally, line_counted, open_counted}
 use Rattle.tally.specs.declared.Tally.{Tally}
 use Rattle.tally.proofs.Counted.{counted-line, full-line, counted-open}
-use Rattle.rows.specs.declared.derive.Derived.{Derived}
-use Rattle.rows.specs.declared.derive.Derived.TheVariants.{Refused, Made}
 use Rattle.std.specs.Prelude.{Ok, Err}
 use Rattle.answers.specs.declared.refusals.Refusal.{Refusal}
-use Rattle.answers.specs.Refusals.{number_of}
-use Rattle.closes.specs.Closing.{Test}
-use Rattle.openings.specs.Opening.{joining, in_turn, start_of, middle_of, third_of, Branching, three, all_rounded, opening, Opens, row_opened, RowOpens, StrengthenOpens, RoundsBy, Roundable, RoundOpens}
+use Rattle.openings.specs.Opening.{Opening, joining, in_turn, start_of, middle_of, third_of, Branching, three, all_rounded, opening, Opens, row_opened, RowOpens, StrengthenOpens, Roundable, RoundOpens}
 use Rattle.openings.proofs.Starting.{starts, start-less}
 
 -- both counts, of a branching step and of its first line, are made, or the second is refused
@@ -47,7 +43,7 @@ module _ (t : Tally) {u : Tally} (e : Some u ≡ open_counted t) where
 
 -- ---- the tests that every such row has
 module _ {K : ℕ} {kinds : List ℕ} {buf : List ℤ} (t : Tally) (i x y : ℕ) (ready : Ready t.edition K kinds buf t.lines.0) where
-  pub open_none : 32 ≤ t.«open» → Opens K kinds buf t i x y kinds buf (Refused 17)
+  pub open_none : 32 ≤ t.«open» → Opens K kinds buf t i x y kinds buf (Err Refusal.TooDeep)
   unfolding ◌>>=◌ found
   open_none h =
       let z : 32 - t.«open» ≡ 0 = omega arith in
@@ -61,7 +57,7 @@ module _ {K : ℕ} {kinds : List ℕ} {buf : List ℤ} (t : Tally) (i x y : ℕ)
         let z : 32 - t.«open» ≡ suc (32 - (t.«open» + 1)) = omega arith in
         rw z
 
-    pub open_full : (edition t.edition).lines ≤ t.lines.0 → Opens K kinds buf t i x y kinds buf (Refused 16)
+    pub open_full : (edition t.edition).lines ≤ t.lines.0 → Opens K kinds buf t i x y kinds buf (Err Refusal.TooManyLines)
     unfolding fitting ◌>>◌ need
     open_full h = record { kept = kept_refl; by = λ refusal rest. tests refusal rest ∙ rw (length-lines K kinds buf t.lines.0, le-ltb t.lines.0 (edition t.edition).lines h) }
 
@@ -71,7 +67,7 @@ module _ {K : ℕ} {kinds : List ℕ} {buf : List ℤ} (t : Tally) (i x y : ℕ)
       range : in_range edition1.range (start_of x y (line_in K kinds buf i)) ≡ b
       range = tested-range (omega (arith, ready.branch.room)) ready.branch.bounded hi kinds x y ≤0 fits
 
-      pub open-range : b ≡ false → Opens K kinds buf t i x y kinds buf (Refused 13)
+      pub open-range : b ≡ false → Opens K kinds buf t i x y kinds buf (Err Refusal.OutOfRange)
       unfolding fitting ◌>>◌ need
       open-range e = record {
         kept = kept_refl;
@@ -83,7 +79,7 @@ module _ {K : ℕ} {kinds : List ℕ} {buf : List ℤ} (t : Tally) (i x y : ℕ)
         open-start hu hw = start-less ready hi space x y (subst T (sym (range ∙ e)) tt) hu hw
 
         pub open_made : {kinds' : List ℕ} {buf' : List ℤ} → buf' ≡ started_line K i t.lines.0 x y buf → kinds' ≡ set kinds t.lines.0 0
-            → {t' : Tally} → t' ≡ tally t.edition t.rows.0 (t.lines.0 + 1) (t.«open» + 1) → Opens K kinds buf t i x y kinds' buf' (Made t')
+            → {t' : Tally} → t' ≡ tally t.edition t.rows.0 (t.lines.0 + 1) (t.«open» + 1) → Opens K kinds buf t i x y kinds' buf' (Ok t')
         unfolding fitting ◌>>◌ need
         open_made eb ek u =
             let start : LineStart K buf i t.lines.0 x y = open-start (omega arith) (omega arith) in
@@ -102,9 +98,9 @@ module _ {row : rules.Row} {branching : Branching} (flat : Branching) (same : (b
     {K : ℕ} {kinds : List ℕ} {buf : List ℤ} {t : Tally} {i x y : ℕ}
     (opened : (next : Following) (refusal : ℕ → Answer) (rows : ℕ) (fs : Fields) → row_opened K kinds buf t row next refusal rows fs
     ≡ opening K kinds buf t (start_of x y (line_in K kinds buf i)) refusal (λ branch. flat branch (lines_in K kinds buf t.lines.0) (line_in K kinds buf i) rows (suc rows) fs)) where
-  row_opens : {kinds' : List ℕ} {buf' : List ℤ} {r : Derived} → Opens K kinds buf t i x y kinds' buf' r → RowOpens row branching K kinds buf t i x y kinds' buf' r
-  row_opens {r = Refused number} o = record { kept = o.kept; by = λ next refusal rows fs. opened next refusal rows fs ∙ o.by refusal (λ branch. flat branch (lines_in K kinds buf t.lines.0) (line_in K kinds buf i) rows (suc rows) fs) }
-  row_opens {r = Made t'} o = record {
+  row_opens : {kinds' : List ℕ} {buf' : List ℤ} {r : Opening} → Opens K kinds buf t i x y kinds' buf' r → RowOpens row branching K kinds buf t i x y kinds' buf' r
+  row_opens {r = Err x} o = record { kept = o.kept; by = λ next refusal rows fs. opened next refusal rows fs ∙ o.by refusal (λ branch. flat branch (lines_in K kinds buf t.lines.0) (line_in K kinds buf i) rows (suc rows) fs) }
+  row_opens {r = Ok t'} o = record {
     kept = o.kept;
     by = (
       λ next refusal rows fs. opened next refusal rows fs ∙ o.by.0 refusal (λ branch. flat branch (lines_in K kinds buf t.lines.0) (line_in K kinds buf i) rows (suc rows) fs)
@@ -143,12 +139,12 @@ three-flat branch ls l step rows fs =
     three-in-turn (branch (position step 0) rows (ls ▷ start_of 1 1 l) fs) (λ n fs. branch (position step 1) n (ls ▷ middle_of l) fs) (λ n fs. branch (position step 2) n (ls ▷ third_of l) fs)
 
 module _ (K : ℕ) (kinds : List ℕ) (buf : List ℤ) (t : Tally) (i : ℕ) where
-  pub strengthen-none : t.lines.0 ≤ i → StrengthenOpens K kinds buf t i kinds buf (Refused 10)
+  pub strengthen-none : t.lines.0 ≤ i → StrengthenOpens K kinds buf t i kinds buf (Err Refusal.NoSuchLine)
   unfolding check_row inequality line_at ◌>>=◌ found
   strengthen-none h = record { kept = kept_refl; by = λ next refusal rows fs. rw (line-past K kinds buf t.lines.0 i h) }
 
   module _ (hi : i < t.lines.0) where
-    pub strengthen-kind : is ≤0 (line_in K kinds buf i).kind ≡ false → StrengthenOpens K kinds buf t i kinds buf (Refused 11)
+    pub strengthen-kind : is ≤0 (line_in K kinds buf i).kind ≡ false → StrengthenOpens K kinds buf t i kinds buf (Err Refusal.WrongLineKind)
     unfolding check_row inequality line_at ◌>>=◌ ◌>>◌ found need
     strengthen-kind h = record { kept = kept_refl; by = λ next refusal rows fs. rw (line-at K kinds buf t.lines.0 i hi, h) }
 
@@ -158,31 +154,26 @@ module _ (K : ℕ) (kinds : List ℕ) (buf : List ℤ) (t : Tally) (i : ℕ) whe
       unfolding check_row inequality line_at ◌>>=◌ ◌>>◌ found need
       strengthen-row next refusal rows fs = rw (line-at K kinds buf t.lines.0 i hi, hk)
 
-      pub strengthen-opens : {kinds' : List ℕ} {buf' : List ℤ} {r : Derived} → Opens K kinds buf t i 1 1 kinds' buf' r → StrengthenOpens K kinds buf t i kinds' buf' r
+      pub strengthen-opens : {kinds' : List ℕ} {buf' : List ℤ} {r : Opening} → Opens K kinds buf t i 1 1 kinds' buf' r → StrengthenOpens K kinds buf t i kinds' buf' r
       strengthen-opens o = row_opens three_flat three-flat strengthen-row o
 
 -- ---- a rounding
-module _ {K : ℕ} {kinds : List ℕ} {buf : List ℤ} {t : Tally} {i g by : ℕ} {r : Test} (p : Roundable K kinds buf t i g by r) where
-  pub round-refused : {x : Refusal} → r ≡ Err x → RoundOpens K kinds buf t i g by kinds buf (Refused (number_of x))
+module _ {K : ℕ} {kinds : List ℕ} {buf : List ℤ} {t : Tally} {i g by : ℕ} where
+  pub round-refused : {x : Refusal} → Roundable K kinds buf t i g by (Err x) → RoundOpens K kinds buf t i g by kinds buf (Err x)
   unfolding check_row ◌>>=◌
-  round-refused e =
-      let q = rw e at p.by in
-      record {
-        opens = record { kept = kept_refl; by = λ next refusal rows fs. rw (q refusal) };
-        sizes = λ t' z. absurd (let w : ◌≡◌ {A = ℕ} 0 1 = cc in omega arith);
-      }
+  round-refused p = record {
+    opens = record { kept = kept_refl; by = λ next refusal rows fs. rw (p.by refusal) };
+    sizes = λ t' z. absurd (let w : ◌≡◌ {A = ℕ} 0 1 = cc in omega arith);
+  }
 
-  module _ (e : r ≡ Ok tt) where
-    passed : ((refusal : ℕ → Answer) → roundable refusal (lines_in K kinds buf t.lines.0) (edition t.edition) i g by ≡ accepted (line_in K kinds buf i)) × (i < t.lines.0) × RoundsBy g by
-    passed = rw e at p.by
-
+  module _ (p : Roundable K kinds buf t i g by (Ok tt)) where
     pub round-line : i < t.lines.0
-    round-line = passed.1
+    round-line = p.by.1
 
     round-row : (next : Following) (refusal : ℕ → Answer) (rows : ℕ) (fs : Fields) → row_opened K kinds buf t (rules.Round i g by) next refusal rows fs
         ≡ opening K kinds buf t (start_of by by (line_in K kinds buf i)) refusal (λ branch. all_rounded g by branch (lines_in K kinds buf t.lines.0) (line_in K kinds buf i) rows (suc rows) fs)
     unfolding check_row ◌>>=◌
-    round-row next refusal rows fs = rw (passed.0 refusal)
+    round-row next refusal rows fs = rw (p.by.0 refusal)
 
-    pub round-opens : {kinds' : List ℕ} {buf' : List ℤ} {d : Derived} → Opens K kinds buf t i by by kinds' buf' d → RoundOpens K kinds buf t i g by kinds' buf' d
-    round-opens o = record { opens = row_opens (all_rounded g by) (λ branch ls l step rows fs. refl) round-row o; sizes = λ t' z. passed.2 }
+    pub round-opens : {kinds' : List ℕ} {buf' : List ℤ} {d : Opening} → Opens K kinds buf t i by by kinds' buf' d → RoundOpens K kinds buf t i g by kinds' buf' d
+    round-opens o = record { opens = row_opens (all_rounded g by) (λ branch ls l step rows fs. refl) round-row o; sizes = λ t' z. p.by.2 }

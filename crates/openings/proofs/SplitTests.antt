@@ -27,9 +27,10 @@ use Rattle.lines.specs.Ready.{KindRead, Ready, LinesKept}
 use Rattle.lines.proofs.Keeping.{kept_refl, ready-kept}
 use Rattle.lines.proofs.KindBytes.{apart-A, apart-B, kind-unowned}
 use Rattle.tally.specs.declared.Tally.{Tally}
-use Rattle.rows.specs.declared.derive.Derived.{Derived}
-use Rattle.rows.specs.declared.derive.Derived.TheVariants.{Refused, Made}
-use Rattle.openings.specs.Opening.{start_of, opening, FirstLineStands, Opens, row_opened}
+use Rattle.std.specs.Prelude.{Ok, Err}
+use Rattle.answers.specs.declared.refusals.Refusal.{Refusal}
+use Rattle.answers.specs.Refusals.{number_of}
+use Rattle.openings.specs.Opening.{Opening, start_of, opening, FirstLineStands, Opens, row_opened}
 use Rattle.openings.specs.Splitting.{owner_of, raised_by, negated_of, both_of, SplitOpens}
 
 -- ---- whose line it is, by what is read of the byte that is stored
@@ -38,16 +39,16 @@ read-two k = ap (λ (x : ℕ). eqb x 2) k.is
 
 -- ---- the tests
 module _ (K : ℕ) (kinds : List ℕ) (buf : List ℤ) (t : Tally) (i : ℕ) where
-  refuses : {x : ℕ} → ((next : Following) (refusal : ℕ → Answer) (rows : ℕ) (fs : Fields) → row_opened K kinds buf t (rules.Split i) next refusal rows fs ≡ refused (refusal x))
-      → {kinds' : List ℕ} {buf' : List ℤ} → LinesKept K t.lines.0 kinds buf kinds' buf' → SplitOpens K kinds buf t i kinds' buf' (Refused x)
+  refuses : {x : Refusal} → ((next : Following) (refusal : ℕ → Answer) (rows : ℕ) (fs : Fields) → row_opened K kinds buf t (rules.Split i) next refusal rows fs ≡ refused (refusal (number_of x)))
+      → {kinds' : List ℕ} {buf' : List ℤ} → LinesKept K t.lines.0 kinds buf kinds' buf' → SplitOpens K kinds buf t i kinds' buf' (Err x)
   refuses is k = record { opens = record { kept = k; by = is }; second = λ t' z. absurd (let w : ◌≡◌ {A = ℕ} 0 1 = cc in omega arith) }
 
-  pub split-none : t.lines.0 ≤ i → SplitOpens K kinds buf t i kinds buf (Refused 10)
+  pub split-none : t.lines.0 ≤ i → SplitOpens K kinds buf t i kinds buf (Err Refusal.NoSuchLine)
   unfolding check_row disequality line_at ◌>>=◌ found
   split-none h = refuses (λ next refusal rows fs. rw (line-past K kinds buf t.lines.0 i h)) kept_refl
 
   module _ (hi : i < t.lines.0) {r : ℕ} (k : KindRead (get_or kinds i 0) r) where
-    pub split-kind : r < 2 → SplitOpens K kinds buf t i kinds buf (Refused 11)
+    pub split-kind : r < 2 → SplitOpens K kinds buf t i kinds buf (Err Refusal.WrongLineKind)
     unfolding check_row disequality line_at ◌>>=◌ found
     split-kind h = refuses (λ next refusal rows fs. rw (line-at K kinds buf t.lines.0 i hi, kind-unowned K kinds buf i k (omega arith))) kept_refl
 
@@ -73,7 +74,7 @@ module _ (K : ℕ) (kinds : List ℕ) (buf : List ℤ) (t : Tally) (i : ℕ) whe
           (sym (plus_none l.t_A)) (sym (plus_none (neg l.t_A)))
 
       -- What `open_step` leaves.
-      module _ (ready : Ready t.edition K kinds buf t.lines.0) {y : ℕ} (ey : y ≡ raised_by r) {kinds' : List ℕ} {buf' : List ℤ} {d : Derived} (given : Opens K kinds buf t i 1 y kinds' buf' d) where
+      module _ (ready : Ready t.edition K kinds buf t.lines.0) {y : ℕ} (ey : y ≡ raised_by r) {kinds' : List ℕ} {buf' : List ℤ} {d : Opening} (given : Opens K kinds buf t i 1 y kinds' buf' d) where
         same-y : y ≡ raised_by (get_or kinds i 0)
         same-y = ey ∙ ap (λ (c : Bool). cond {A = ℕ} c 1 0) (read-two k)
 
@@ -85,13 +86,13 @@ module _ (K : ℕ) (kinds : List ℕ) (buf : List ℤ) (t : Tally) (i : ℕ) whe
             fitting refusal (lines_in K kinds buf t.lines.0) (edition t.edition) (negated_of 1 (raised_by (get_or kinds i 0)) (line_in K kinds buf i))
             >> both_of (owner_of (get_or kinds i 0)) branch (lines_in K kinds buf t.lines.0) (line_in K kinds buf i) rows (suc rows) fs
 
-        pub split-refused : {x : ℕ} → d ≡ Refused x → SplitOpens K kinds buf t i kinds' buf' (Refused x)
+        pub split-refused : {x : Refusal} → d ≡ Err x → SplitOpens K kinds buf t i kinds' buf' (Err x)
         split-refused e = refuses (λ next refusal rows fs. split-row (eqb (get_or kinds i 0) 2) (read-two k) next refusal rows fs ∙ (rw e at opens).by refusal (rest refusal rows fs)) opens.kept
 
         still : Ready t.edition K kinds' buf' t.lines.0
         still = ready-kept ready opens.kept
 
-        module _ {t' : Tally} (e : d ≡ Made t') where
+        module _ {t' : Tally} (e : d ≡ Ok t') where
           stands : FirstLineStands K kinds buf t i 1 (raised_by (get_or kinds i 0)) kinds' buf' t'
           stands = (rw e at opens.by).1
 
@@ -114,12 +115,12 @@ module _ (K : ℕ) (kinds : List ℕ) (buf : List ℤ) (t : Tally) (i : ℕ) whe
                 (subst (λ (z : ℕ). in_range edition1.range (negated_of 1 z (line_in K kinds' buf' i)) ≡ f) same-y
                 (tested-neg (omega (arith, still.branch.room)) still.branch.bounded hi kinds' 1 y ≤0 fits))
 
-            pub split-second : f ≡ false → SplitOpens K kinds buf t i kinds' buf' (Refused 13)
+            pub split-second : f ≡ false → SplitOpens K kinds buf t i kinds' buf' (Err Refusal.OutOfRange)
             unfolding fitting ◌>>◌ need
             split-second h =
                 refuses (λ next refusal rows fs. row_is next refusal rows fs ∙ rw (length-lines K kinds buf t.lines.0, lt-ltb t.lines.0 (edition t.edition).lines space, range, h)) opens.kept
 
-            pub split-made : f ≡ true → SplitOpens K kinds buf t i kinds' buf' (Made t')
+            pub split-made : f ≡ true → SplitOpens K kinds buf t i kinds' buf' (Ok t')
             unfolding fitting ◌>>◌ need
             split-made h = record {
               opens = record {

@@ -1,4 +1,5 @@
 -- The rows that open branches, strengthen and rounding: what their tests tell, and the lines that the branches start with. Assumes nothing.
+use Rattle.std.specs.declared.result.Result as code
 use Rattle.std.specs.Prelude.{Ok, Err, ◌≡◌, Bool, List, ℕ, zero, suc, ◌+◌, ◌-◌, ◌<◌, ◌≤◌, T, ℤ, set}
 use Rattle.std.proofs.Math.Option.{Option, none, some}
 use Rattle.forms.specs.Edition.{edition, edition1}
@@ -7,6 +8,7 @@ use Rattle.forms.specs.Reduced.{reduced}
 use Rattle.calculus.specs.Rules as rules
 use Rattle.calculus.specs.Rules.{◌▷◌, in_range}
 use Rattle.answers.specs.declared.Answer.{Answer}
+use Rattle.answers.specs.declared.refusals.Refusal.{Refusal}
 use Rattle.answers.specs.Refusals.{number_of}
 use Rattle.answers.specs.Answers.{position, Result, refused, accepted, ◌>>=◌, ◌>>◌, found}
 use Rattle.fields.specs.Fields.{Fields}
@@ -17,8 +19,6 @@ use Rattle.lines.specs.Buffer.{line_in, lines_in, LineStart, started_line}
 use Rattle.lines.specs.Ready.{Limited, LinesKept}
 use Rattle.tally.specs.Tally.{tally}
 use Rattle.tally.specs.declared.Tally.{Tally}
-use Rattle.rows.specs.declared.derive.Derived.{Derived}
-use Rattle.rows.specs.declared.derive.Derived.TheVariants.{Refused, Made}
 use Rattle.closes.specs.Closing.{Test}
 
 -- What checks the branches that a branch opens in a proof of edition e, if so many more may be open.
@@ -62,6 +62,10 @@ abbrev pub all_rounded : (g by : ℕ) → Branching
 all_rounded g by branch ls l step rows fs = in_turn ◌or◌ (branch (position step 0) rows (ls ▷ start_of by by l) fs) (λ rows fs. from_branch g by 0 branch ls l step rows fs)
 
 -- ---- opening them
+-- The tally behind a row, or the refusal.
+abbrev pub Opening : Type 0
+Opening = code.Result Tally Refusal
+
 -- The branch of n lines, in a proof of edition e, has the line l more.
 pub record Longer (e K : ℕ) (kinds : List ℕ) (buf : List ℤ) (n : ℕ) (l : Line) (kinds' : List ℕ) (buf' : List ℤ) : Type 0 where
   pub kept : LinesKept K n kinds buf kinds' buf'
@@ -81,14 +85,14 @@ pub record FirstLineStands (K : ℕ) (kinds : List ℕ) (buf : List ℤ) (t : Ta
   pub start : LineStart K buf i t.lines.0 x y
   pub open_less : t.«open» < edition1.branchings
 
-abbrev pub OpenedBy : (K : ℕ) (kinds : List ℕ) (buf : List ℤ) (t : Tally) (i x y : ℕ) (kinds' : List ℕ) (buf' : List ℤ) → Derived → Type 0
-OpenedBy K kinds buf t i x y kinds' buf' (Refused number) =
-    (refusal : ℕ → Answer) (rest : Checker → Result Closing) → opening K kinds buf t (start_of x y (line_in K kinds buf i)) refusal rest ≡ refused (refusal number)
-OpenedBy K kinds buf t i x y kinds' buf' (Made t') =
+abbrev pub OpenedBy : (K : ℕ) (kinds : List ℕ) (buf : List ℤ) (t : Tally) (i x y : ℕ) (kinds' : List ℕ) (buf' : List ℤ) → Opening → Type 0
+OpenedBy K kinds buf t i x y kinds' buf' (Err r) =
+    (refusal : ℕ → Answer) (rest : Checker → Result Closing) → opening K kinds buf t (start_of x y (line_in K kinds buf i)) refusal rest ≡ refused (refusal (number_of r))
+OpenedBy K kinds buf t i x y kinds' buf' (Ok t') =
     ((refusal : ℕ → Answer) (rest : Checker → Result Closing) → opening K kinds buf t (start_of x y (line_in K kinds buf i)) refusal rest ≡ rest (check_branch (edition t.edition) K (edition1.branchings - (t.«open» + 1))))
     × FirstLineStands K kinds buf t i x y kinds' buf' t'
 
-pub record Opens (K : ℕ) (kinds : List ℕ) (buf : List ℤ) (t : Tally) (i x y : ℕ) (kinds' : List ℕ) (buf' : List ℤ) (r : Derived) : Type 0 where
+pub record Opens (K : ℕ) (kinds : List ℕ) (buf : List ℤ) (t : Tally) (i x y : ℕ) (kinds' : List ℕ) (buf' : List ℤ) (r : Opening) : Type 0 where
   pub kept : LinesKept K t.lines.0 kinds buf kinds' buf'
   pub by : OpenedBy K kinds buf t i x y kinds' buf' r
 
@@ -96,20 +100,20 @@ pub record Opens (K : ℕ) (kinds : List ℕ) (buf : List ℤ) (t : Tally) (i x 
 abbrev pub row_opened : (K : ℕ) (kinds : List ℕ) (buf : List ℤ) (t : Tally) (row : rules.Row) (next : Following) (refusal : ℕ → Answer) (rows : ℕ) (fs : Fields) → Result Closing
 row_opened K kinds buf t row next refusal rows fs = check_row (edition t.edition) K (below t.edition K (edition1.branchings - t.«open»)) next refusal rows (lines_in K kinds buf t.lines.0) fs row
 
-abbrev pub RowOpenedBy : (row : rules.Row) (branching : Branching) (K : ℕ) (kinds : List ℕ) (buf : List ℤ) (t : Tally) (i x y : ℕ) (kinds' : List ℕ) (buf' : List ℤ) → Derived → Type 0
-RowOpenedBy row branching K kinds buf t i x y kinds' buf' (Refused number) =
-    (next : Following) (refusal : ℕ → Answer) (rows : ℕ) (fs : Fields) → row_opened K kinds buf t row next refusal rows fs ≡ refused (refusal number)
-RowOpenedBy row branching K kinds buf t i x y kinds' buf' (Made t') =
+abbrev pub RowOpenedBy : (row : rules.Row) (branching : Branching) (K : ℕ) (kinds : List ℕ) (buf : List ℤ) (t : Tally) (i x y : ℕ) (kinds' : List ℕ) (buf' : List ℤ) → Opening → Type 0
+RowOpenedBy row branching K kinds buf t i x y kinds' buf' (Err r) =
+    (next : Following) (refusal : ℕ → Answer) (rows : ℕ) (fs : Fields) → row_opened K kinds buf t row next refusal rows fs ≡ refused (refusal (number_of r))
+RowOpenedBy row branching K kinds buf t i x y kinds' buf' (Ok t') =
     ((next : Following) (refusal : ℕ → Answer) (rows : ℕ) (fs : Fields) → row_opened K kinds buf t row next refusal rows fs
     ≡ branching (check_branch (edition t.edition) K (edition1.branchings - (t.«open» + 1))) (lines_in K kinds buf t.lines.0) (line_in K kinds buf i) rows (suc rows) fs)
     × FirstLineStands K kinds buf t i x y kinds' buf' t'
 
 -- A row whose first branch starts with line i, t + x with tA + y, is refused, or its branches are what `branching` checks.
-pub record RowOpens (row : rules.Row) (branching : Branching) (K : ℕ) (kinds : List ℕ) (buf : List ℤ) (t : Tally) (i x y : ℕ) (kinds' : List ℕ) (buf' : List ℤ) (r : Derived) : Type 0 where
+pub record RowOpens (row : rules.Row) (branching : Branching) (K : ℕ) (kinds : List ℕ) (buf : List ℤ) (t : Tally) (i x y : ℕ) (kinds' : List ℕ) (buf' : List ℤ) (r : Opening) : Type 0 where
   pub kept : LinesKept K t.lines.0 kinds buf kinds' buf'
   pub by : RowOpenedBy row branching K kinds buf t i x y kinds' buf' r
 
-abbrev pub StrengthenOpens : (K : ℕ) (kinds : List ℕ) (buf : List ℤ) (t : Tally) (i : ℕ) (kinds' : List ℕ) (buf' : List ℤ) (r : Derived) → Type 0
+abbrev pub StrengthenOpens : (K : ℕ) (kinds : List ℕ) (buf : List ℤ) (t : Tally) (i : ℕ) (kinds' : List ℕ) (buf' : List ℤ) (r : Opening) → Type 0
 StrengthenOpens K kinds buf t i kinds' buf' r = RowOpens (rules.Strengthen i) three K kinds buf t i 1 1 kinds' buf' r
 
 -- ---- a rounding
@@ -128,9 +132,9 @@ RoundableBy K kinds buf t i g by (Ok _) =
 pub record Roundable (K : ℕ) (kinds : List ℕ) (buf : List ℤ) (t : Tally) (i g more : ℕ) (r : Test) : Type 0 where
   pub by : RoundableBy K kinds buf t i g more r
 
-pub record RoundOpens (K : ℕ) (kinds : List ℕ) (buf : List ℤ) (t : Tally) (i g by : ℕ) (kinds' : List ℕ) (buf' : List ℤ) (r : Derived) : Type 0 where
+pub record RoundOpens (K : ℕ) (kinds : List ℕ) (buf : List ℤ) (t : Tally) (i g by : ℕ) (kinds' : List ℕ) (buf' : List ℤ) (r : Opening) : Type 0 where
   pub opens : RowOpens (rules.Round i g by) (all_rounded g by) K kinds buf t i by by kinds' buf' r
-  pub sizes : (t' : Tally) → r ≡ Made t' → RoundsBy g by
+  pub sizes : (t' : Tally) → r ≡ Ok t' → RoundsBy g by
 
 -- Ej of a rounding of line l: g divides tA + j, reduced.
 abbrev pub stride_part : (g j : ℕ) → Line → Formula

@@ -17,7 +17,6 @@ use formula_write::put_front;
 use line_starts::start_line;
 use lines::kinds::{INEQUALITY, kind_of};
 use lines::place_a;
-use rows::derive::Derived;
 use tally::Tally;
 
 // Whether g divides d + j for no j below `by`.
@@ -57,10 +56,7 @@ fn test_round(
     if !is_stride(g) {
         return Err(Refusal::WrongMultiplier);
     }
-    if by == 0 {
-        return Err(Refusal::WrongMultiplier);
-    }
-    if by > ROUNDING {
+    if by == 0 || by > ROUNDING {
         return Err(Refusal::WrongMultiplier);
     }
     let t = lines::place(i, k);
@@ -83,17 +79,13 @@ pub fn round(
     g: i64,
     by: u16,
     k: usize,
-) -> Derived
+) -> Result<Tally, Refusal>
     requires ready { Ready tally.edition k kinds.old lines.old tally.lines.0 }
     requires multiplies { Multiplies (nat_abs g) g }
     ensures { RoundOpens k kinds.old lines.old tally i.0 (nat_abs g) by kinds.new lines.new result }
 {
-    match test_round(lines, kinds, tally, i, g, by, k) {
-        Err(refusal) => Derived::Refused {
-            number: refusal.number(),
-        },
-        Ok(()) => open_step(lines, kinds, tally, i, by, by, k),
-    }
+    test_round(lines, kinds, tally, i, g, by, k)?;
+    open_step(lines, kinds, tally, i, by, by, k)
 }
 
 // The branch of j of a rounding by `by` starts: line n becomes line i with t + by and tA + j, and what stands before its formula is written, with Ej of that tA

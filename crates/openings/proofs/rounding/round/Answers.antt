@@ -1,17 +1,19 @@
 -- `openings::rounding::round` meets its contract. Assumes nothing.
 use mir.ValLaws.{to_z-of_z}
+use Rattle.std.proofs.lemmas.Result.{err_from_is_err_and}
 use Rattle.openings.proofs.Opens.{round-refused, round-line, round-opens}
 use Rattle.openings.proofs.rounding.round.Goals as goal
 
-pub returns-in-Err : goal.returns-in-Err
-returns-in-Err c =
+pub returns-in_err-test_round : goal.returns-in_err-test_round
+returns-in_err-test_round c =
     let fg = c.ranges.g in
-    rw c.number.ensures (round-refused (simp to_z-of_z at c.test_round.ensures) c.in-Err.is)
+    let p = err_from_is_err_and c.from_residual.result c.from_residual.ensures.1 in
+    rw (p.1, p.2) (round-refused (simp to_z-of_z at c.in_err-test_round.ensures))
 
 pub open_step-requires : goal.open_step-requires
-open_step-requires c = record { ready = c.requires.ready; i_lt_lines = round-line c.test_round.ensures c.in-Ok.is }
+open_step-requires c = record { ready = c.requires.ready; i_lt_lines = round-line c.in_ok-test_round.ensures }
 
-pub returns-in-Ok : goal.returns-in-Ok
-returns-in-Ok c =
+pub returns : goal.returns
+returns c =
     let fg = c.ranges.g in
-    round-opens (simp to_z-of_z at c.test_round.ensures) c.in-Ok.is c.open_step.ensures
+    round-opens (simp to_z-of_z at c.in_ok-test_round.ensures) c.open_step.ensures

@@ -1,6 +1,7 @@
 -- `openings::rounding::test_round` meets its contract. Assumes nothing.
 use native.Mathlib.Omega.{arith}
 use mathlib.Core.Path.{◌∙◌}
+use mathlib.Core.Logic.{inl, inr}
 use lib.IntN.{nat_abs}
 use mir.Syntax.{w64}
 use mir.ValLaws.{to_z-of_z}
@@ -42,13 +43,10 @@ pub returns-then-by-eq0 : goal.returns-then-by-eq0
 returns-then-by-eq0 c =
     let h = is_below c.args.i.0 c.args.tally.lines.0 c.is_there.ensures c.if-not-is_there.false in
     let fg = c.ranges.g in
-    round-least c.args.k c.args.kinds.now c.args.lines.now c.args.tally c.args.i.0 (nat_abs c.args.g) c.args.by h (kind-≤ _ _ _ _ c.kind_of.ensures c.if-kind_of-ne-INEQUALITY.false) (simp to_z-of_z at c.is_stride.ensures) c.if-not-is_stride.false c.if-by-eq0.true
-
-pub returns-then-by-gt-ROUNDING : goal.returns-then-by-gt-ROUNDING
-returns-then-by-gt-ROUNDING c =
-    let h = is_below c.args.i.0 c.args.tally.lines.0 c.is_there.ensures c.if-not-is_there.false in
-    let fg = c.ranges.g in
-    round-most c.args.k c.args.kinds.now c.args.lines.now c.args.tally c.args.i.0 (nat_abs c.args.g) c.args.by h (kind-≤ _ _ _ _ c.kind_of.ensures c.if-kind_of-ne-INEQUALITY.false) (simp to_z-of_z at c.is_stride.ensures) c.if-not-is_stride.false c.if-by-eq0.false c.if-by-gt-ROUNDING.true
+    elim c.then-by-eq0.either [
+      | inl z ↦ round-least c.args.k c.args.kinds.now c.args.lines.now c.args.tally c.args.i.0 (nat_abs c.args.g) c.args.by h (kind-≤ _ _ _ _ c.kind_of.ensures c.if-kind_of-ne-INEQUALITY.false) (simp to_z-of_z at c.is_stride.ensures) c.if-not-is_stride.false z
+      | inr z ↦ round-most c.args.k c.args.kinds.now c.args.lines.now c.args.tally c.args.i.0 (nat_abs c.args.g) c.args.by h (kind-≤ _ _ _ _ c.kind_of.ensures c.if-kind_of-ne-INEQUALITY.false) (simp to_z-of_z at c.is_stride.ensures) c.if-not-is_stride.false z.0 z.1
+    ]
 
 pub place-t-requires : goal.place-t-requires
 place-t-requires c =
