@@ -2,9 +2,10 @@
 use mathlib.Core.Path.{◌≡◌, refl, sym, ◌∙◌, ap, subst}
 use mathlib.Core.Bool.{Bool, true, false}
 use mathlib.Core.List.{List, [], ◌∷◌}
-use Prim.Native.Nat.{ℕ, suc, ◌+◌, ◌≤◌, ◌<◌}
+use Prim.Native.Nat.{ℕ, zero, suc, ◌+◌, ◌-◌, ◌≤◌, ◌<◌}
 use native.Mathlib.Omega.{arith}
-use lib.Dec.{T}
+use lib.Dec.{T, leb}
+use borrow.Author.Tests.{leb-true, leb-false}
 use lib.IntN.{ℤ}
 use lib.ListN.{length}
 use Rattle.forms.specs.Forms.{Line, Formula}
@@ -22,8 +23,10 @@ use Rattle.lines.specs.Ready.{LinesKept}
 use Rattle.lines.proofs.Keeping.{kept_refl}
 use Rattle.enumeration_rows.specs.Recognised.{CloseFound}
 use Rattle.enumeration_rows.specs.Applied.{CloseHolds}
-use Rattle.enumeration_rows.specs.declared.found.FoundAt.{FoundAt}
-use Rattle.enumeration_rows.specs.declared.found.FoundAt.TheVariants.{NotAmong, NoneLeft, One}
+use Rattle.std.specs.Prelude.{Option, None, Some, Result, Ok, Err, MatchOption, option_map}
+use Rattle.enumeration_rows.specs.declared.found.Rows.{Rows}
+use Rattle.enumeration_rows.specs.declared.found.Rows.TheVariants.{One}
+use Rattle.enumeration_rows.specs.declared.found.NotAmong.{NotAmong}
 use Rattle.enumeration_rows.specs.Searching.{Finds}
 
 -- ---- lines that stay
@@ -46,7 +49,7 @@ module _ (ls : List Line) {n : ℕ} (len : length ls ≡ n) where
   unfolding first_row_count if_none_left
   close-no c h {a} e = next_more ls 0 c (rw len h) ∙ ap (λ (f : Found). if_none_left f (first_found (proofs_from 0 ls (suc c)))) (close-refused ls c (ap (λ (m : ℕ). close_formula ls (close_at m c)) len ∙ e))
 
--- What the loop of seek_close knows: what is left is the whole from the start.
+-- No close of these numbers holds, so that what is left is the whole from the start.
 pub record ClosesLeft (K n : ℕ) (kinds : List ℕ) (buf : List ℤ) (start c : ℕ) : Type 0 where
   pub same : first_found (proofs_from 0 (lines_in K kinds buf n) start) ≡ first_found (proofs_from 0 (lines_in K kinds buf n) c)
 
@@ -55,58 +58,82 @@ module _ {K n : ℕ} {kinds : List ℕ} {buf : List ℤ} {start : ℕ} where
   closes-start = record { same = refl }
 
   module _ {c : ℕ} (left : ClosesLeft K n kinds buf start c) where
-    pub closes-ended : {count : ℕ} → count ≡ close_count n → count ≤ c → Finds K n 0 (first_found (proofs_from 0 (lines_in K kinds buf n) start)) kinds buf kinds buf NoneLeft
-    closes-ended e h = record { kept = kept_refl; is = sym (left.same ∙ close-none (lines_in K kinds buf n) (length-lines K kinds buf n) c (rw (sym e) h)); within = tt; inferences = tt }
+    pub closes-ended : close_count n ≤ c → Finds K n 0 (first_found (proofs_from 0 (lines_in K kinds buf n) start)) kinds buf kinds buf (Ok None)
+    closes-ended h = record { kept = kept_refl; is = sym (left.same ∙ close-none (lines_in K kinds buf n) (length-lines K kinds buf n) c h); within = tt; inferences = tt }
 
-    pub closes-found : {count : ℕ} {b : Bool} → count ≡ close_count n → c < count → CloseHolds K kinds buf n (close_at n c) b → b ≡ true → Finds K n 0 (first_found (proofs_from 0 (lines_in K kinds buf n) start)) kinds buf kinds buf (One c)
-    closes-found e h held q = let l : c < close_count n = rw (sym e) h in
-        record { kept = kept_refl; is = sym (left.same ∙ close-yes (lines_in K kinds buf n) (length-lines K kinds buf n) c l (held.yes q).1); within = l; inferences = refl }
+    module _ (l : c < close_count n) {b : Bool} (held : CloseHolds K kinds buf n (close_at n c) b) where
+      pub closes-found : b ≡ true → Finds K n 0 (first_found (proofs_from 0 (lines_in K kinds buf n) start)) kinds buf kinds buf (Ok (Some (One c)))
+      closes-found q = record { kept = kept_refl; is = sym (left.same ∙ close-yes (lines_in K kinds buf n) (length-lines K kinds buf n) c l (held.yes q).1); within = l; inferences = refl }
 
-    pub closes-on : {count : ℕ} {b : Bool} → count ≡ close_count n → c < count → CloseHolds K kinds buf n (close_at n c) b → b ≡ false → ClosesLeft K n kinds buf start (c + 1)
-    closes-on e h held q =
-        let l : c < close_count n = rw (sym e) h in
-        let s : suc c ≡ c + 1 = omega arith in
-        record { same = left.same ∙ close-no (lines_in K kinds buf n) (length-lines K kinds buf n) c l (held.no q).1 ∙ ap (λ (m : ℕ). first_found (proofs_from 0 (lines_in K kinds buf n) m)) s }
+      pub closes-on : b ≡ false → ClosesLeft K n kinds buf start (c + 1)
+      closes-on q =
+          let s : suc c ≡ c + 1 = omega arith in
+          record { same = left.same ∙ close-no (lines_in K kinds buf n) (length-lines K kinds buf n) c l (held.no q).1 ∙ ap (λ (m : ℕ). first_found (proofs_from 0 (lines_in K kinds buf n) m)) s }
+
+-- ---- the first of a range
+-- Close c holds, or does not.
+abbrev pub Holding : (K n : ℕ) (kinds : List ℕ) (buf : List ℤ) (b : Bool) (c : ℕ) → Type 0
+Holding K n kinds buf b c = CloseHolds K kinds buf n (close_at n c) b
+
+module _ {K n : ℕ} {kinds : List ℕ} {buf : List ℤ} {start : ℕ} where
+  -- m of them are passed over
+  passed : (m : ℕ) → start + m ≤ close_count n → ((c : ℕ) → start ≤ c → c < start + m → Holding K n kinds buf false c) → ClosesLeft K n kinds buf start (start + m)
+  passed zero h p = let e : start ≡ start + 0 = omega arith in subst (ClosesLeft K n kinds buf start) e closes-start
+  passed (suc m) h p =
+      let e : start + m + 1 ≡ start + suc m = omega arith in
+      subst (ClosesLeft K n kinds buf start) e (closes-on (passed m (omega arith) (λ c a b. p c a (omega arith))) (omega arith) (p (start + m) (omega arith) (omega arith)) refl)
+
+  passed-to : {c : ℕ} → start ≤ c → c ≤ close_count n → ((i : ℕ) → start ≤ i → i < c → Holding K n kinds buf false i) → ClosesLeft K n kinds buf start c
+  passed-to {c} a h p =
+      let e : start + (c - start) ≡ c = omega arith in
+      subst (ClosesLeft K n kinds buf start) e (passed (c - start) (omega arith) (λ i x y. p i x (omega arith)))
+
+-- what the first of a range is
+module _ {K n : ℕ} {kinds : List ℕ} {buf : List ℤ} (start : ℕ) where
+  pub closes-none : {count : ℕ} → count ≡ close_count n → ((c : ℕ) → start ≤ c → c < count → Holding K n kinds buf false c) → Finds K n 0 (first_found (proofs_from 0 (lines_in K kinds buf n) start)) kinds buf kinds buf (Ok None)
+  closes-none {count} e p = go (leb start (close_count n)) refl
+    where
+      go : (b : Bool) → leb start (close_count n) ≡ b → Finds K n 0 (first_found (proofs_from 0 (lines_in K kinds buf n) start)) kinds buf kinds buf (Ok None)
+      go true q = closes-ended (passed-to (leb-true start (close_count n) q) (omega arith) (λ c a b. p c a (omega arith))) (omega arith)
+      go false q = closes-ended closes-start (let f = leb-false start (close_count n) q in omega arith)
+
+  pub closes-sought : {count : ℕ} → count ≡ close_count n → {c : ℕ} → (start ≤ c) × (c < count) × Holding K n kinds buf true c × ((i : ℕ) → start ≤ i → i < c → Holding K n kinds buf false i)
+      → Finds K n 0 (first_found (proofs_from 0 (lines_in K kinds buf n) start)) kinds buf kinds buf (Ok (Some (One c)))
+  closes-sought e (a, h, y, p) = closes-found (passed-to a (omega arith) p) (omega arith) y refl
 
 -- ---- the table given
 pub true-is : {b : Bool} → b ≡ true → T b
 true-is e = subst T (sym e) tt
 
 -- the close
-module _ {K n : ℕ} {kinds : List ℕ} {buf : List ℤ} {s : List ℕ} {c : ℕ} (few : n ≤ 6) (f : CloseFound n s c) where
-  pub no-close : {count : ℕ} → count ≡ close_count n → c ≡ count → Finds K n 0 (next_found s (proofs_of 0 (lines_in K kinds buf n))) kinds buf kinds buf NotAmong
-  no-close e q = record {
+module _ {K n : ℕ} {kinds : List ℕ} {buf : List ℤ} {s : List ℕ} (few : n ≤ 6) where
+  pub no-close : {e : NotAmong} → CloseFound n s None → Finds K n 0 (next_found s (proofs_of 0 (lines_in K kinds buf n))) kinds buf kinds buf (Err e)
+  no-close f = record {
     kept = kept_refl;
-    is = sym (close-not-among s (lines_in K kinds buf n) (rw (length-lines K kinds buf n) few) (λ i l. ap (λ (m : ℕ). same_bytes (close_bytes m i) s) (length-lines K kinds buf n) ∙ f.none (q ∙ e) i (rw (sym (length-lines K kinds buf n)) l)));
+    is = sym (close-not-among s (lines_in K kinds buf n) (rw (length-lines K kinds buf n) few) (λ i l. ap (λ (m : ℕ). same_bytes (close_bytes m i) s) (length-lines K kinds buf n) ∙ f.is i (rw (sym (length-lines K kinds buf n)) l)));
     within = tt;
     inferences = tt;
   }
 
-  module _ {b : Bool} (l : c < close_count n) (held : CloseHolds K kinds buf n (close_at n c) b) where
+  module _ {c : ℕ} (f : CloseFound n s (Some c)) {b : Bool} (held : CloseHolds K kinds buf n (close_at n c) b) where
     stands-there : T (same_bytes (close_bytes (length (lines_in K kinds buf n)) c) s)
-    stands-there = true-is (ap (λ (m : ℕ). same_bytes (close_bytes m c) s) (length-lines K kinds buf n) ∙ f.stands l)
+    stands-there = true-is (ap (λ (m : ℕ). same_bytes (close_bytes m c) s) (length-lines K kinds buf n) ∙ f.is.1)
 
-    pub open-close : b ≡ false → Finds K n 0 (next_found s (proofs_of 0 (lines_in K kinds buf n))) kinds buf kinds buf NotAmong
+    pub open-close : b ≡ false → {e : NotAmong} → Finds K n 0 (next_found s (proofs_of 0 (lines_in K kinds buf n))) kinds buf kinds buf (Err e)
     open-close q = record {
       kept = kept_refl;
-      is = sym (close-barred s (lines_in K kinds buf n) c (rw (length-lines K kinds buf n) few) (rw (length-lines K kinds buf n) l) stands-there (ap (λ (m : ℕ). close_formula (lines_in K kinds buf n) (close_at m c)) (length-lines K kinds buf n) ∙ (held.no q).1));
+      is = sym (close-barred s (lines_in K kinds buf n) c (rw (length-lines K kinds buf n) few) (rw (length-lines K kinds buf n) f.is.0) stands-there (ap (λ (m : ℕ). close_formula (lines_in K kinds buf n) (close_at m c)) (length-lines K kinds buf n) ∙ (held.no q).1));
       within = tt;
       inferences = tt;
     }
 
-    pub next-close : {found : FoundAt} → b ≡ true → Finds K n 0 (first_found (proofs_from 0 (lines_in K kinds buf n) (c + 1))) kinds buf kinds buf found → Finds K n 0 (next_found s (proofs_of 0 (lines_in K kinds buf n))) kinds buf kinds buf found
+    pub next-close : {found : Result (Option Rows) NotAmong} → b ≡ true → Finds K n 0 (first_found (proofs_from 0 (lines_in K kinds buf n) (c + 1))) kinds buf kinds buf found → Finds K n 0 (next_found s (proofs_of 0 (lines_in K kinds buf n))) kinds buf kinds buf found
     next-close q r =
         let i : c + 1 ≡ suc c = omega arith in
         record {
           kept = r.kept;
           is = r.is ∙ ap (λ (m : ℕ). first_found (proofs_from 0 (lines_in K kinds buf n) m)) i
-              ∙ sym (close_follows s (lines_in K kinds buf n) c (rw (length-lines K kinds buf n) few) (rw (length-lines K kinds buf n) l) stands-there (ap (λ (m : ℕ). close_formula (lines_in K kinds buf n) (close_at m c)) (length-lines K kinds buf n) ∙ (held.yes q).1));
+              ∙ sym (close_follows s (lines_in K kinds buf n) c (rw (length-lines K kinds buf n) few) (rw (length-lines K kinds buf n) f.is.0) stands-there (ap (λ (m : ℕ). close_formula (lines_in K kinds buf n) (close_at m c)) (length-lines K kinds buf n) ∙ (held.yes q).1));
           within = r.within;
           inferences = r.inferences;
         }
-
-pub close-below : {n : ℕ} {s : List ℕ} {c count : ℕ} → CloseFound n s c → count ≡ close_count n → ¬ (c ≡ count) → c < close_count n
-close-below f e h = less f.bound (λ q. h (q ∙ sym e))
-  where
-    less : {a b : ℕ} → a ≤ b → ¬ (a ≡ b) → a < b
-    less h d = omega arith

@@ -30,10 +30,10 @@ module _ (n at : ℕ) (s : List ℕ) where
   unfolding inference_guess
   combine-guessed {tag} t i h j a b = rw (sym (first), sym (byte 3), sym (byte 4), sym (byte 6), sym (byte 8), sym t, sym i, sym j, sym a, sym b, eq-eqb tag 0x10 h)
 
-  pub reduce-guessed : {tag i j low : ℕ} → tag ≡ get_or s at 0 → i ≡ get_or s (at + 3) 0 → ¬ (tag ≡ 0x10) → tag ≡ 0x11 → j ≡ get_or s (at + 4) 0 → low ≡ get_or s (at + 6) 0
+  pub reduce-guessed : {tag i j low : ℕ} → tag ≡ get_or s at 0 → i ≡ get_or s (at + 3) 0 → tag ≡ 0x11 → j ≡ get_or s (at + 4) 0 → low ≡ get_or s (at + 6) 0
       → 4 * n * n + 4 * (i * n + j) + factor_number low ≡ inference_guess n (drop at s)
   unfolding inference_guess
-  reduce-guessed {tag} t i d h j a = rw (sym (first), sym (byte 3), sym (byte 4), sym (byte 6), sym t, sym i, sym j, sym a, ne_eqb tag 0x10 d, eq-eqb tag 0x11 h)
+  reduce-guessed {tag} t i h j a = rw (sym (first), sym (byte 3), sym (byte 4), sym (byte 6), sym t, sym i, sym j, sym a, h)
 
   pub scale-guessed : {tag i α : ℕ} → tag ≡ get_or s at 0 → i ≡ get_or s (at + 3) 0 → ¬ (tag ≡ 0x10) → ¬ (tag ≡ 0x11) → α ≡ get_or s (at + 5) 0
       → 8 * n * n + 2 * i + (α + 1) % 2 ≡ inference_guess n (drop at s)

@@ -1,54 +1,21 @@
 -- The bytes of a row put into the output. Assumes nothing.
-use mathlib.Core.Path.{◌≡◌, ◌∙◌, ap}
+use mathlib.Core.Path.{◌≡◌, refl, sym, ◌∙◌, ap}
 use mathlib.Core.Bool.{Bool, true, false, cond}
-use mathlib.Core.List.{List, [], ◌∷◌}
-use Prim.Native.Nat.{ℕ, suc, ◌+◌, ◌-◌, ◌*◌, ◌/◌, ◌%◌, ◌≤◌}
+use mathlib.Core.List.{List, [], ◌∷◌, ◌++◌}
+use Prim.Native.Nat.{ℕ, ◌+◌, ◌-◌, ◌*◌, ◌/◌, ◌%◌, ◌≤◌}
 use native.Mathlib.Omega.{arith}
 use lib.Dec.{ltb}
-use lib.ListN.{length, set}
-use lib.Seq.{sets}
+use lib.ListN.{length, take, drop}
+use lib.Seq.{sets, sets-eq, paste, take_all}
+use borrow.Rule.Slice.PartMut.{put_mid}
+use Rattle.std.proofs.lemmas.Slice.{put_mid-paste}
 use Rattle.enumeration.specs.Numbering.{combine_bytes, reduce_bytes, scale_bytes, inference_bytes, close_bytes}
 
--- ---- stores one after the other
-module _ (out : List ℕ) (at : ℕ) where
-  pub four-stored : (a b c d : ℕ) → set (set (set (set out at a) (at + 1) b) (at + 2) c) (at + 3) d ≡ sets out at (a ∷ b ∷ c ∷ d ∷ [])
-  four-stored a b c d =
-      let e1 : at + 1 ≡ suc at = omega arith in
-      let e2 : at + 2 ≡ suc (suc at) = omega arith in
-      let e3 : at + 3 ≡ suc (suc (suc at)) = omega arith in
-      rw (e1, e2, e3)
-
-  pub six-stored : (a b c d e f : ℕ) → set (set (set (set (set (set out at a) (at + 1) b) (at + 2) c) (at + 3) d) (at + 4) e) (at + 5) f ≡ sets out at (a ∷ b ∷ c ∷ d ∷ e ∷ f ∷ [])
-  six-stored a b c d e f =
-      let e1 : at + 1 ≡ suc at = omega arith in
-      let e2 : at + 2 ≡ suc (suc at) = omega arith in
-      let e3 : at + 3 ≡ suc (suc (suc at)) = omega arith in
-      let e4 : at + 4 ≡ suc (suc (suc (suc at))) = omega arith in
-      let e5 : at + 5 ≡ suc (suc (suc (suc (suc at)))) = omega arith in
-      rw (e1, e2, e3, e4, e5)
-
-  pub seven-stored : (a b c d e f g : ℕ) → set (set (set (set (set (set (set out at a) (at + 1) b) (at + 2) c) (at + 3) d) (at + 4) e) (at + 5) f) (at + 6) g ≡ sets out at (a ∷ b ∷ c ∷ d ∷ e ∷ f ∷ g ∷ [])
-  seven-stored a b c d e f g =
-      let e1 : at + 1 ≡ suc at = omega arith in
-      let e2 : at + 2 ≡ suc (suc at) = omega arith in
-      let e3 : at + 3 ≡ suc (suc (suc at)) = omega arith in
-      let e4 : at + 4 ≡ suc (suc (suc (suc at))) = omega arith in
-      let e5 : at + 5 ≡ suc (suc (suc (suc (suc at)))) = omega arith in
-      let e6 : at + 6 ≡ suc (suc (suc (suc (suc (suc at))))) = omega arith in
-      rw (e1, e2, e3, e4, e5, e6)
-
-  pub nine-stored : (a b c d e f g h i : ℕ) → set (set (set (set (set (set (set (set (set out at a) (at + 1) b) (at + 2) c) (at + 3) d) (at + 4) e) (at + 5) f) (at + 6) g) (at + 7) h) (at + 8) i
-      ≡ sets out at (a ∷ b ∷ c ∷ d ∷ e ∷ f ∷ g ∷ h ∷ i ∷ [])
-  nine-stored a b c d e f g h i =
-      let e1 : at + 1 ≡ suc at = omega arith in
-      let e2 : at + 2 ≡ suc (suc at) = omega arith in
-      let e3 : at + 3 ≡ suc (suc (suc at)) = omega arith in
-      let e4 : at + 4 ≡ suc (suc (suc (suc at))) = omega arith in
-      let e5 : at + 5 ≡ suc (suc (suc (suc (suc at)))) = omega arith in
-      let e6 : at + 6 ≡ suc (suc (suc (suc (suc (suc at))))) = omega arith in
-      let e7 : at + 7 ≡ suc (suc (suc (suc (suc (suc (suc at)))))) = omega arith in
-      let e8 : at + 8 ≡ suc (suc (suc (suc (suc (suc (suc (suc at))))))) = omega arith in
-      rw (e1, e2, e3, e4, e5, e6, e7, e8)
+-- ---- bytes copied into a part
+pub part-stored : {A : Type 0} (at end : ℕ) (out : List A) {new vs : List A} → new ≡ vs → at + length vs ≡ end → end ≤ length out → put_mid at (end - at) out new ≡ sets out at vs
+part-stored at end out {new} {vs} e q h =
+    let n : end - at ≡ length vs = omega arith in
+    put_mid-paste at (end - at) out new vs (length vs) e (sym n) refl ∙ sym (sets-eq vs out at (omega arith) ∙ ap (λ (xs : List _). take at out ++ xs ++ drop (at + length vs) out) (sym (take_all (length vs) vs (omega arith))))
 
 -- ---- the sizes
 pub inference-size : (n j : ℕ) → length (inference_bytes n j) ≤ 9

@@ -1,30 +1,23 @@
 // The closes, one after the other: the first that holds, and the one after that which a table ends with.
-ghost use Rattle.std.specs.Prelude.{◌≤◌, length, drop};
+ghost use Rattle.std.specs.Prelude.{◌≤◌, Ok, length, drop};
 ghost use Rattle.enumeration.specs.Sequence.{proofs_of};
 ghost use Rattle.enumeration.specs.Search.{first_found, next_found, proofs_from};
 ghost use Rattle.lines.specs.Buffer.{lines_in};
 ghost use Rattle.enumeration_rows.specs.Applied.{tally_of, SearchRoom};
 ghost use Rattle.enumeration_rows.specs.Searching.{Finds};
 
-use crate::found::FoundAt;
+use crate::found::{NotAmong, Rows};
 use crate::infer::holds;
 use crate::read::close_at;
 use crate::write::close_count;
 
 // The first close that holds, from a number on.
-pub fn seek_close(lines: &[i32], kinds: &[u8], n: usize, k: usize, from: usize) -> FoundAt
+pub fn seek_close(lines: &[i32], kinds: &[u8], n: usize, k: usize, from: usize) -> Option<Rows>
     requires { SearchRoom k 0 kinds.now lines.now (tally_of n) }
-    ensures { Finds k n 0 (first_found (proofs_from 0 (lines_in k kinds.now lines.now n) from)) kinds.now lines.now kinds.now lines.now result }
+    ensures { Finds k n 0 (first_found (proofs_from 0 (lines_in k kinds.now lines.now n) from)) kinds.now lines.now kinds.now lines.now (Ok result) }
 {
-    let count = close_count(n);
-    let mut c = from;
-    while c < count {
-        if holds(lines, kinds, n, c, k) {
-            return FoundAt::One { c };
-        }
-        c += 1;
-    }
-    FoundAt::NoneLeft
+    let c = (from..close_count(n)).find(|&c| holds(lines, kinds, n, c, k))?;
+    Some(Rows::One { c })
 }
 
 // The close after the one that the table ends with.
@@ -35,17 +28,16 @@ pub fn after_close(
     k: usize,
     table: &[u8],
     at: usize,
-) -> FoundAt
+) -> Result<Option<Rows>, NotAmong>
     requires search_room { SearchRoom k 0 kinds.now lines.now (tally_of n) }
     requires at_in_bounds { at ≤ length table.now }
     ensures { Finds k n 0 (next_found (drop at table.now) (proofs_of 0 (lines_in k kinds.now lines.now n))) kinds.now lines.now kinds.now lines.now result }
 {
-    let c = close_at(table, at, n);
-    if c == close_count(n) {
-        return FoundAt::NotAmong;
-    }
+    let Some(c) = close_at(table, at, n) else {
+        return Err(NotAmong);
+    };
     if !holds(lines, kinds, n, c, k) {
-        return FoundAt::NotAmong;
+        return Err(NotAmong);
     }
-    seek_close(lines, kinds, n, k, c + 1)
+    Ok(seek_close(lines, kinds, n, k, c + 1))
 }

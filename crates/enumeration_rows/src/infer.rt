@@ -15,27 +15,19 @@ use tally::Tally;
 fn factor(x: usize) -> i64
     ensures { result ≡ pos (1 + x % 2) }
 {
-    if x % 2 == 0 {
-        return 1;
-    }
-    2
+    (1 + x % 2) as i64
 }
 
 // 1, 2, -2, -1: the order of their bytes.
 fn signed_factor(x: usize) -> i64
     ensures { result ≡ signed_factor (x % 4) }
 {
-    let m = x % 4;
-    if m == 0 {
-        return 1;
+    match x % 4 {
+        0 => 1,
+        1 => 2,
+        2 => -2,
+        _ => -1,
     }
-    if m == 1 {
-        return 2;
-    }
-    if m == 2 {
-        return -2;
-    }
-    -1
 }
 
 // A line by its number.
@@ -190,14 +182,11 @@ fn holds_tallied(lines: &[i32], kinds: &[u8], tally: Tally, c: usize, k: usize) 
     }
     let x = c - n;
     let i = x / 3;
-    let m = x % 3;
-    if m == 0 {
-        return holds_stride(lines, kinds, tally, i, 2, k);
+    match x % 3 {
+        0 => holds_stride(lines, kinds, tally, i, 2, k),
+        1 => holds_stride(lines, kinds, tally, i, 3, k),
+        _ => holds_stride(lines, kinds, tally, i, 4, k),
     }
-    if m == 1 {
-        return holds_stride(lines, kinds, tally, i, 3, k);
-    }
-    holds_stride(lines, kinds, tally, i, 4, k)
 }
 
 // Whether close c of the n lines holds.

@@ -1,5 +1,5 @@
 // The number of the row that stands at a place of a table.
-ghost use Rattle.std.specs.Prelude.{◌≡◌, ◌+◌, ◌*◌, ◌%◌, ◌≤◌, ◌<◌, length, get_or, drop, take};
+ghost use Rattle.std.specs.Prelude.{◌≡◌, ◌+◌, ◌*◌, ◌%◌, ◌≤◌, ◌<◌, length, get_or, drop};
 ghost use Rattle.enumeration.specs.Numbering.{inference_count, close_count, factor_number, inference_bytes, close_bytes, inference_guess, close_guess, begins};
 ghost use Rattle.number_bytes.specs.Same.{same_bytes};
 ghost use Rattle.enumeration_rows.specs.Recognised.{InferenceFound, CloseFound};
@@ -7,27 +7,12 @@ ghost use Rattle.enumeration_rows.specs.Recognised.{InferenceFound, CloseFound};
 use crate::write::{
     close_bytes, close_count, inference_bytes, inference_count, put_close, put_inference,
 };
-use number_bytes::compare::same_bytes;
 
 // The byte at a place, 0 behind the end.
 fn byte_at(s: &[u8], at: usize) -> u8
     ensures { result ≡ get_or s.now at 0 }
 {
-    if at < s.len() {
-        return s[at];
-    }
-    0
-}
-
-// Whether the n first bytes of `part` stand in s from a place on.
-pub fn stands(s: &[u8], at: usize, part: &[u8], n: usize) -> bool
-    requires { (at ≤ length s.now) × (n ≤ length part.now) }
-    ensures { result ≡ begins (take n part.now) (drop at s.now) }
-{
-    if s.len() - at < n {
-        return false;
-    }
-    same_bytes(part, 0, s, at, n)
+    s.get(at).copied().unwrap_or(0)
 }
 
 // ---- the number of a row, by its bytes
@@ -35,16 +20,12 @@ pub fn stands(s: &[u8], at: usize, part: &[u8], n: usize) -> bool
 fn factor_number(low: usize) -> usize
     ensures { result ≡ factor_number low }
 {
-    if low == 1 {
-        return 0;
+    match low {
+        1 => 0,
+        2 => 1,
+        0xFE => 2,
+        _ => 3,
     }
-    if low == 2 {
-        return 1;
-    }
-    if low == 0xFE {
-        return 2;
-    }
-    3
 }
 
 // The number that a combine, a reduce or a scale would have, by its bytes.
@@ -74,21 +55,24 @@ fn inference_guess(s: &[u8], at: usize, n: usize) -> usize
     requires { (n ≤ 6) × (at ≤ length s.now) }
     ensures { result ≡ inference_guess n (drop at s.now) }
 {
-    let tag = byte_at(s, at);
     let i = byte_at(s, at + 3);
-    if tag == 0x10 {
-        let j = byte_at(s, at + 4);
-        let alpha = byte_at(s, at + 6);
-        let beta = byte_at(s, at + 8);
-        return combine_guess(i, j, alpha, beta, n);
+    match byte_at(s, at) {
+        0x10 => {
+            let j = byte_at(s, at + 4);
+            let alpha = byte_at(s, at + 6);
+            let beta = byte_at(s, at + 8);
+            combine_guess(i, j, alpha, beta, n)
+        }
+        0x11 => {
+            let j = byte_at(s, at + 4);
+            let low = byte_at(s, at + 6);
+            reduce_guess(i, j, low, n)
+        }
+        _ => {
+            let alpha = byte_at(s, at + 5);
+            scale_guess(i, alpha, n)
+        }
     }
-    if tag == 0x11 {
-        let j = byte_at(s, at + 4);
-        let low = byte_at(s, at + 6);
-        return reduce_guess(i, j, low, n);
-    }
-    let alpha = byte_at(s, at + 5);
-    scale_guess(i, alpha, n)
 }
 
 // Whether inference j stands at a place.
@@ -98,22 +82,20 @@ fn is_inference(s: &[u8], at: usize, n: usize, j: usize) -> bool
 {
     let mut row = [0u8; 9];
     put_inference(&mut row, 0, n, j);
-    stands(s, at, &row, inference_bytes(n, j))
+    s[at..].starts_with(&row[..inference_bytes(n, j)])
 }
 
-// The number of the inference that stands at a place; the count where none does.
-pub fn inference_at(s: &[u8], at: usize, n: usize) -> usize
+// The number of the inference that stands at a place, if one does.
+pub fn inference_at(s: &[u8], at: usize, n: usize) -> Option<usize>
     requires { (n ≤ 5) × (at ≤ length s.now) }
     ensures { InferenceFound n (drop at s.now) result }
 {
     let j = inference_guess(s, at, n);
-    let count = inference_count(n);
-    if j < count {
-        if is_inference(s, at, n, j) {
-            return j;
-        }
+    if j < inference_count(n) && is_inference(s, at, n, j) {
+        Some(j)
+    } else {
+        None
     }
-    count
 }
 
 fn close_guess(s: &[u8], at: usize, n: usize) -> usize
@@ -132,26 +114,20 @@ fn is_close(s: &[u8], at: usize, n: usize, c: usize) -> bool
     requires { (n ≤ 6) × (c < close_count n) × (at ≤ length s.now) }
     ensures { result ≡ same_bytes (close_bytes n c) (drop at s.now) }
 {
-    let size = close_bytes(n, c);
-    if s.len() - at != size {
-        return false;
-    }
     let mut row = [0u8; 6];
     put_close(&mut row, 0, n, c);
-    stands(s, at, &row, size)
+    row[..close_bytes(n, c)] == s[at..]
 }
 
-// The number of the close that stands at a place and ends the table; the count where none does.
-pub fn close_at(s: &[u8], at: usize, n: usize) -> usize
+// The number of the close that stands at a place and ends the table, if one does.
+pub fn close_at(s: &[u8], at: usize, n: usize) -> Option<usize>
     requires { (n ≤ 6) × (at ≤ length s.now) }
     ensures { CloseFound n (drop at s.now) result }
 {
     let c = close_guess(s, at, n);
-    let count = close_count(n);
-    if c < count {
-        if is_close(s, at, n, c) {
-            return c;
-        }
+    if c < close_count(n) && is_close(s, at, n, c) {
+        Some(c)
+    } else {
+        None
     }
-    count
 }

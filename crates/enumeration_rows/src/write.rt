@@ -19,69 +19,46 @@ pub fn close_count(n: usize) -> usize
 }
 
 // ---- the rows that make a line
-// The first byte of a reduce's multiplier, and the second.
-fn factor_high(m: usize) -> u8
-    ensures { result ≡ factor_high m }
+// The two bytes of a reduce's multiplier.
+fn factor_bytes(m: usize) -> [u8; 2]
+    ensures { result ≡ factor_high m ∷ factor_low m ∷ [] }
 {
-    if m < 2 {
-        return 0;
+    match m {
+        0 => [0, 1],
+        1 => [0, 2],
+        2 => [0xFF, 0xFE],
+        _ => [0xFF, 0xFF],
     }
-    0xFF
-}
-
-fn factor_low(m: usize) -> u8
-    ensures { result ≡ factor_low m }
-{
-    if m == 0 {
-        return 1;
-    }
-    if m == 1 {
-        return 2;
-    }
-    if m == 2 {
-        return 0xFE;
-    }
-    0xFF
 }
 
 fn put_combine(out: &mut [u8], at: usize, n: usize, x: usize)
     requires { (at + 9 ≤ length out.old) × (1 ≤ n) × (n ≤ 6) × (x < 255) }
     ensures { out.new ≡ sets out.old at (combine_bytes n x) }
 {
-    out[at] = 0x10;
-    out[at + 1] = 0;
-    out[at + 2] = 6;
-    out[at + 3] = (x / (4 * n)) as u8;
-    out[at + 4] = (x / 4 % n) as u8;
-    out[at + 5] = 0;
-    out[at + 6] = (1 + x / 2 % 2) as u8;
-    out[at + 7] = 0;
-    out[at + 8] = (1 + x % 2) as u8;
+    let s = (x / (4 * n)) as u8;
+    let t = (x / 4 % n) as u8;
+    let alpha = (1 + x / 2 % 2) as u8;
+    let beta = (1 + x % 2) as u8;
+    out[at..at + 9].copy_from_slice(&[0x10, 0, 6, s, t, 0, alpha, 0, beta]);
 }
 
 fn put_reduce(out: &mut [u8], at: usize, n: usize, x: usize)
     requires { (at + 7 ≤ length out.old) × (1 ≤ n) × (n ≤ 6) × (x < 255) }
     ensures { out.new ≡ sets out.old at (reduce_bytes n x) }
 {
-    out[at] = 0x11;
-    out[at + 1] = 0;
-    out[at + 2] = 4;
-    out[at + 3] = (x / (4 * n)) as u8;
-    out[at + 4] = (x / 4 % n) as u8;
-    out[at + 5] = factor_high(x % 4);
-    out[at + 6] = factor_low(x % 4);
+    let s = (x / (4 * n)) as u8;
+    let t = (x / 4 % n) as u8;
+    let [high, low] = factor_bytes(x % 4);
+    out[at..at + 7].copy_from_slice(&[0x11, 0, 4, s, t, high, low]);
 }
 
 fn put_scale(out: &mut [u8], at: usize, x: usize)
     requires { (at + 6 ≤ length out.old) × (x < 255) }
     ensures { out.new ≡ sets out.old at (scale_bytes x) }
 {
-    out[at] = 0x12;
-    out[at + 1] = 0;
-    out[at + 2] = 3;
-    out[at + 3] = (x / 2) as u8;
-    out[at + 4] = 0;
-    out[at + 5] = (1 + x % 2) as u8;
+    let t = (x / 2) as u8;
+    let alpha = (1 + x % 2) as u8;
+    out[at..at + 6].copy_from_slice(&[0x12, 0, 3, t, 0, alpha]);
 }
 
 // How many bytes inference j has.
@@ -129,22 +106,16 @@ fn put_number(out: &mut [u8], at: usize, c: usize)
     requires { (at + 4 ≤ length out.old) × (c < 256) }
     ensures { out.new ≡ sets out.old at (0x14 ∷ 0 ∷ 1 ∷ c ∷ []) }
 {
-    out[at] = 0x14;
-    out[at + 1] = 0;
-    out[at + 2] = 1;
-    out[at + 3] = c as u8;
+    out[at..at + 4].copy_from_slice(&[0x14, 0, 1, c as u8]);
 }
 
 fn put_stride(out: &mut [u8], at: usize, x: usize)
     requires { (at + 6 ≤ length out.old) × (x < 256) }
     ensures { out.new ≡ sets out.old at (0x15 ∷ 0 ∷ 3 ∷ (x / 3) ∷ 0 ∷ (2 + x % 3) ∷ []) }
 {
-    out[at] = 0x15;
-    out[at + 1] = 0;
-    out[at + 2] = 3;
-    out[at + 3] = (x / 3) as u8;
-    out[at + 4] = 0;
-    out[at + 5] = (2 + x % 3) as u8;
+    let t = (x / 3) as u8;
+    let g = (2 + x % 3) as u8;
+    out[at..at + 6].copy_from_slice(&[0x15, 0, 3, t, 0, g]);
 }
 
 pub fn put_close(out: &mut [u8], at: usize, n: usize, c: usize)

@@ -1,28 +1,20 @@
 -- `enumeration_rows::close::seek_close` meets its contract. Assumes nothing.
-use native.Mathlib.Omega.{arith}
-use Rattle.enumeration_rows.proofs.Closes.{closes-start, closes-ended, closes-found, closes-on}
+use mathlib.Core.Bool.{true, false}
+use borrow.Author.Tests.{tests}
+use Rattle.std.proofs.Common.{rules}
+use Rattle.std.proofs.lemmas.Iterator.{first_from_Range, serves_from_Range}
+use Rattle.enumeration_rows.proofs.Closes.{Holding, closes-none, closes-sought}
 use Rattle.enumeration_rows.proofs.close.seek_close.Goals as goal
 
-pub close_count-count-requires : goal.close_count-count-requires
-close_count-count-requires c = omega (arith, c.requires.few)
+pub find-requires : goal.find-requires
+find-requires c = record { can = tt; finite = tt; callable = serves_from_Range (λ x q k. search (rules, tests)) (λ x low high. search rules) }
 
-pub loop-c-init : goal.loop-c-init
-loop-c-init c = closes-start
-
-pub holds-requires : goal.holds-requires
-holds-requires c = record { search_room = c.requires; c_bound = omega (arith, c.loop-c-test.true, c.close_count-count.ensures) }
-
-pub returns-then-holds : goal.returns-then-holds
-returns-then-holds c = closes-found c.loop-c.invariant c.close_count-count.ensures c.loop-c-test.true c.holds.ensures c.if-holds.true
-
-pub overflow_add-c : goal.overflow_add-c
-overflow_add-c c = omega (arith, c.loop-c-test.true, c.close_count-count.ensures, c.requires.few)
-
-pub loop-c-smaller : goal.loop-c-smaller
-loop-c-smaller c = omega (arith, c.loop-c-test.true)
-
-pub loop-c-preserved : goal.loop-c-preserved
-loop-c-preserved c = closes-on c.loop-c.invariant c.close_count-count.ensures c.loop-c-test.true c.holds.ensures c.if-holds.false
+pub returns-in_err-c : goal.returns-in_err-c
+returns-in_err-c c =
+    let h = first_from_Range _ _ _ _ (Holding c.args.k c.args.n c.args.kinds.now c.args.lines.now true) (Holding c.args.k c.args.n c.args.kinds.now c.args.lines.now false) c.find.ensures.ran (λ x q k. search rules) (λ x q k. search rules) in
+    rw c.from_residual.ensures (closes-none c.args.from c.close_count.ensures (rw c.in_err-c.was at h))
 
 pub returns : goal.returns
-returns c = closes-ended c.loop-c.invariant c.close_count-count.ensures c.loop-c-test.false
+returns c =
+    let h = first_from_Range _ _ _ _ (Holding c.args.k c.args.n c.args.kinds.now c.args.lines.now true) (Holding c.args.k c.args.n c.args.kinds.now c.args.lines.now false) c.find.ensures.ran (λ x q k. search rules) (λ x q k. search rules) in
+    closes-sought c.args.from c.close_count.ensures (rw c.in_ok-c.was at h)

@@ -2,12 +2,10 @@
 use native.Mathlib.Omega.{arith}
 use Rattle.enumeration_rows.proofs.RecognisedRows.{close-here, close-beyond, close_other}
 use Rattle.enumeration_rows.proofs.read.close_at.Goals as goal
+use Rattle.enumeration_rows.proofs.read.close_at.Goals.{else-c-close_count-via-then-c-close_count+else-is_close, else-c-close_count-via-else-c-close_count}
 
-pub returns-then-is_close : goal.returns-then-is_close
-returns-then-is_close c = close-here c.requires.0 c.close_count-count.ensures c.if-c-count.true c.is_close.ensures c.if-is_close.true
-
-pub returns-else-is_close : goal.returns-else-is_close
-returns-else-is_close c = close_other c.requires.0 c.close_count-count.ensures c.close_guess-c.ensures c.is_close.ensures c.if-is_close.false
-
-pub returns-else-c-count : goal.returns-else-c-count
-returns-else-c-count c = close-beyond c.requires.0 c.close_count-count.ensures c.close_guess-c.ensures (omega (arith, c.if-c-count.false))
+pub returns-else-c-close_count : goal.returns-else-c-close_count
+returns-else-c-close_count c = elim c.else-c-close_count.branch [
+  | else-c-close_count-via-then-c-close_count+else-is_close w ↦ close_other c.requires.0 c.close_guess-c.ensures w.is_close.ensures w.if-is_close.false
+  | else-c-close_count-via-else-c-close_count w ↦ close-beyond c.requires.0 c.close_guess-c.ensures (omega arith)
+]

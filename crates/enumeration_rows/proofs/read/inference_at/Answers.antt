@@ -2,15 +2,10 @@
 use native.Mathlib.Omega.{arith}
 use Rattle.enumeration_rows.proofs.RecognisedRows.{inference-here, inference-beyond, inference-other}
 use Rattle.enumeration_rows.proofs.read.inference_at.Goals as goal
+use Rattle.enumeration_rows.proofs.read.inference_at.Goals.{else-j-inference_count-via-then-j-inference_count+else-is_inference, else-j-inference_count-via-else-j-inference_count}
 
-pub inference_count-count-requires : goal.inference_count-count-requires
-inference_count-count-requires c = omega (arith, c.requires.0)
-
-pub returns-then-is_inference : goal.returns-then-is_inference
-returns-then-is_inference c = inference-here c.requires.0 c.inference_count-count.ensures c.if-j-count.true c.is_inference.ensures c.if-is_inference.true
-
-pub returns-else-is_inference : goal.returns-else-is_inference
-returns-else-is_inference c = inference-other c.requires.0 c.inference_count-count.ensures c.inference_guess-j.ensures c.is_inference.ensures c.if-is_inference.false
-
-pub returns-else-j-count : goal.returns-else-j-count
-returns-else-j-count c = inference-beyond c.requires.0 c.inference_count-count.ensures c.inference_guess-j.ensures (omega (arith, c.if-j-count.false))
+pub returns-else-j-inference_count : goal.returns-else-j-inference_count
+returns-else-j-inference_count c = elim c.else-j-inference_count.branch [
+  | else-j-inference_count-via-then-j-inference_count+else-is_inference w ↦ inference-other c.requires.0 c.inference_guess-j.ensures w.is_inference.ensures w.if-is_inference.false
+  | else-j-inference_count-via-else-j-inference_count w ↦ inference-beyond c.requires.0 c.inference_guess-j.ensures (omega arith)
+]

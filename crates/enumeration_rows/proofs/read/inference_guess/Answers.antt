@@ -1,13 +1,14 @@
 -- `enumeration_rows::read::inference_guess` meets its contract. Assumes nothing.
 use mathlib.Core.Path.{◌∙◌}
+use Rattle.std.proofs.Common.{rules}
 use Rattle.enumeration_rows.proofs.Guessed.{combine-guessed, reduce-guessed, scale-guessed}
 use Rattle.enumeration_rows.proofs.read.inference_guess.Goals as goal
 
-pub returns-then-tag-eq16 : goal.returns-then-tag-eq16
-returns-then-tag-eq16 c = c.combine_guess.ensures ∙ combine-guessed c.args.n c.args.at c.args.s.now c.byte_at-tag.ensures c.byte_at-i.ensures c.if-tag-eq16.true c.byte_at-j.ensures c.byte_at-alpha.ensures c.byte_at-beta.ensures
+pub returns-in-16 : goal.returns-in-16
+returns-in-16 c = c.combine_guess.ensures ∙ combine-guessed c.args.n c.args.at c.args.s.now c.byte_at.ensures c.byte_at-i.ensures c.in-16.is c.byte_at-j.ensures c.byte_at-alpha.ensures c.byte_at-beta.ensures
 
-pub returns-then-tag-eq17 : goal.returns-then-tag-eq17
-returns-then-tag-eq17 c = c.reduce_guess.ensures ∙ reduce-guessed c.args.n c.args.at c.args.s.now c.byte_at-tag.ensures c.byte_at-i.ensures c.if-tag-eq16.false c.if-tag-eq17.true c.byte_at-j-then-tag-eq17.ensures c.byte_at-low.ensures
+pub returns-in-17 : goal.returns-in-17
+returns-in-17 c = c.reduce_guess.ensures ∙ reduce-guessed c.args.n c.args.at c.args.s.now c.byte_at.ensures c.byte_at-i.ensures c.in-17.is c.byte_at-j-in-17.ensures c.byte_at-low.ensures
 
-pub returns : goal.returns
-returns c = c.scale_guess.ensures ∙ scale-guessed c.args.n c.args.at c.args.s.now c.byte_at-tag.ensures c.byte_at-i.ensures c.if-tag-eq16.false c.if-tag-eq17.false c.byte_at-alpha-2.ensures
+pub returns-in_default : goal.returns-in_default
+returns-in_default c = c.scale_guess.ensures ∙ scale-guessed c.args.n c.args.at c.args.s.now c.byte_at.ensures c.byte_at-i.ensures (search rules) (search rules) c.byte_at-alpha-in_default.ensures

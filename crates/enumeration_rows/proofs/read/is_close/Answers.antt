@@ -1,22 +1,28 @@
 -- `enumeration_rows::read::is_close` meets its contract. Assumes nothing.
-use mathlib.Core.Path.{◌∙◌, ap, sym}
+use mathlib.Core.Path.{◌∙◌, ap}
 use mathlib.Core.List.{List}
-use lib.ListN.{drop, length-drop}
+use lib.Dec.{eqb}
+use lib.ListN.{drop, length-take}
 use Prim.Native.Nat.{ℕ}
 use native.Mathlib.Omega.{arith}
-use Rattle.enumeration.specs.Numbering.{begins, close_bytes}
+use Rattle.std.specs.Cmp.Lexicographic.{pointwise}
+use Rattle.enumeration.specs.Numbering.{close_bytes}
 use Rattle.enumeration_rows.proofs.Stored.{close-size}
-use Rattle.enumeration_rows.proofs.RecognisedRows.{row-stored, same_whole, other_length}
+use Rattle.enumeration_rows.proofs.RecognisedRows.{rest-whole, row-stored, equal-same}
 use Rattle.enumeration_rows.proofs.read.is_close.Goals as goal
-
-pub returns-then-s-at : goal.returns-then-s-at
-returns-then-s-at c = sym (other_length (close_bytes c.args.n c.args.c) (drop c.args.at c.args.s.now) (λ e. c.if-s-at.true (omega (arith, e, c.close_bytes-size.ensures, length-drop c.args.at c.args.s.now))))
 
 pub put_close-requires : goal.put_close-requires
 put_close-requires c = (c.requires.0, c.requires.1, omega (arith, close-size c.args.n c.args.c))
 
-pub stands-requires : goal.stands-requires
-stands-requires c = (c.requires.2, omega (arith, c.close_bytes-size.ensures, close-size c.args.n c.args.c))
+pub slice_bounds-row-end : goal.slice_bounds-row-end
+slice_bounds-row-end c = omega (arith, c.close_bytes.ensures, close-size c.args.n c.args.c, c.put_close.auto.out)
+
+pub slice_bounds-eq-end : goal.slice_bounds-eq-end
+slice_bounds-eq-end c = omega (arith, c.close_bytes.ensures, close-size c.args.n c.args.c, c.put_close.auto.out, length-take c.close_bytes.result c.put_close.new.out)
 
 pub returns : goal.returns
-returns c = c.stands.ensures ∙ ap (λ (bs : List ℕ). begins bs (drop c.args.at c.args.s.now)) (row-stored _ (close_bytes c.args.n c.args.c) c.put_close.ensures (close-size c.args.n c.args.c) c.close_bytes-size.ensures) ∙ same_whole (close_bytes c.args.n c.args.c) (drop c.args.at c.args.s.now) (omega (arith, c.if-s-at.false, c.close_bytes-size.ensures, length-drop c.args.at c.args.s.now))
+returns c =
+    let rest = rest-whole c.args.s.now c.args.at in
+    (rw rest at c.eq.ensures)
+    ∙ ap (λ (bs : List ℕ). pointwise eqb bs (drop c.args.at c.args.s.now)) (row-stored _ (close_bytes c.args.n c.args.c) c.put_close.ensures (close-size c.args.n c.args.c) c.close_bytes.ensures)
+    ∙ equal-same (close_bytes c.args.n c.args.c) (drop c.args.at c.args.s.now)

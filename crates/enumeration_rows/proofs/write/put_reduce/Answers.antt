@@ -1,39 +1,13 @@
 -- `enumeration_rows::write::put_reduce` meets its contract. Assumes nothing.
-use mathlib.Core.Path.{ap₂}
-use Prim.Native.Nat.{ℕ, ◌*◌, ◌/◌, ◌%◌}
-use mathlib.Core.List.{◌∷◌, []}
+use mathlib.Core.List.{List, [], ◌∷◌}
+use mathlib.Core.Path.{◌∙◌, ap}
+use Prim.Native.Nat.{ℕ, ◌+◌, ◌*◌, ◌/◌, ◌%◌}
 use native.Mathlib.Omega.{arith}
-use native.Mathlib.Nat.{div-le_self, mod-le}
-use lib.ListN.{length-set}
-use Rattle.enumeration_rows.proofs.Stored.{seven-stored, stored-as}
+use lib.ListN.{get_or}
+use Rattle.enumeration_rows.proofs.Stored.{part-stored}
 use Rattle.enumeration_rows.proofs.write.put_reduce.Goals as goal
 
-pub bounds-out-at-2 : goal.bounds-out-at-2
-bounds-out-at-2 c = simp length-set (omega arith)
-
-pub bounds-out-at-3 : goal.bounds-out-at-3
-bounds-out-at-3 c = simp length-set (omega arith)
-
-pub overflow_cast-out : goal.overflow_cast-out
-overflow_cast-out c = omega (arith, div-le_self c.args.x (4 * c.args.n))
-
-pub bounds-out-at-4 : goal.bounds-out-at-4
-bounds-out-at-4 c = simp length-set (omega arith)
-
-pub overflow_cast-out-2 : goal.overflow_cast-out-2
-overflow_cast-out-2 c = omega (arith, div-le_self c.args.x 4, mod-le (c.args.x / 4) c.args.n)
-
-pub bounds-out-at-5 : goal.bounds-out-at-5
-bounds-out-at-5 c = simp length-set (omega arith)
-
-pub bounds-out-at-6 : goal.bounds-out-at-6
-bounds-out-at-6 c = simp length-set (omega arith)
-
-pub bounds-out-at-7 : goal.bounds-out-at-7
-bounds-out-at-7 c = simp length-set (omega arith)
-
-pub shape_of-out : goal.shape_of-out
-shape_of-out c = simp length-set (omega arith)
-
 pub returns : goal.returns
-returns c = stored-as c.args.out.now c.args.at (seven-stored c.args.out.now c.args.at 0x11 0 4 (c.args.x / (4 * c.args.n)) (c.args.x / 4 % c.args.n) c.factor_high.result c.factor_low.result) (ap₂ (λ (a b : ℕ). 0x11 ∷ 0 ∷ 4 ∷ (c.args.x / (4 * c.args.n)) ∷ (c.args.x / 4 % c.args.n) ∷ a ∷ b ∷ []) c.factor_high.ensures c.factor_low.ensures)
+returns c = part-stored c.args.at (c.args.at + 7) c.args.out.now
+    (c.copy_from_slice.ensures.after ∙ ap (λ (f : List ℕ). 0x11 ∷ 0 ∷ 4 ∷ (c.args.x / (4 * c.args.n)) ∷ (c.args.x / 4 % c.args.n) ∷ get_or f 0 0 ∷ get_or f 1 0 ∷ []) c.factor_bytes.ensures)
+    (omega arith) (omega (arith, c.requires.0))

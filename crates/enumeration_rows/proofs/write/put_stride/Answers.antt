@@ -1,27 +1,8 @@
 -- `enumeration_rows::write::put_stride` meets its contract. Assumes nothing.
-use Prim.Native.Nat.{◌+◌, ◌/◌, ◌%◌}
+use Prim.Native.Nat.{◌+◌}
 use native.Mathlib.Omega.{arith}
-use lib.ListN.{length-set}
-use Rattle.enumeration_rows.proofs.Stored.{six-stored}
+use Rattle.enumeration_rows.proofs.Stored.{part-stored}
 use Rattle.enumeration_rows.proofs.write.put_stride.Goals as goal
 
-pub bounds-out-at-2 : goal.bounds-out-at-2
-bounds-out-at-2 c = simp length-set (omega arith)
-
-pub bounds-out-at-3 : goal.bounds-out-at-3
-bounds-out-at-3 c = simp length-set (omega arith)
-
-pub bounds-out-at-4 : goal.bounds-out-at-4
-bounds-out-at-4 c = simp length-set (omega arith)
-
-pub bounds-out-at-5 : goal.bounds-out-at-5
-bounds-out-at-5 c = simp length-set (omega arith)
-
-pub bounds-out-at-6 : goal.bounds-out-at-6
-bounds-out-at-6 c = simp length-set (omega arith)
-
-pub shape_of-out : goal.shape_of-out
-shape_of-out c = simp length-set (omega arith)
-
 pub returns : goal.returns
-returns c = six-stored c.args.out.now c.args.at 0x15 0 3 (c.args.x / 3) 0 (2 + c.args.x % 3)
+returns c = part-stored c.args.at (c.args.at + 6) c.args.out.now c.copy_from_slice.ensures.after (omega arith) (omega (arith, c.requires.0))
