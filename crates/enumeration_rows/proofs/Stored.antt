@@ -12,8 +12,8 @@ use Rattle.std.proofs.lemmas.Slice.{put_mid-paste}
 use Rattle.enumeration.specs.Numbering.{combine_bytes, reduce_bytes, scale_bytes, inference_bytes, close_bytes}
 
 -- ---- bytes copied into a part
-pub part-stored : {A : Type 0} (at end : ℕ) (out : List A) {new vs : List A} → new ≡ vs → at + length vs ≡ end → end ≤ length out → put_mid at (end - at) out new ≡ sets out at vs
-part-stored at end out {new} {vs} e q h =
+pub part_stored : {A : Type 0} (at end : ℕ) (out : List A) {new vs : List A} → new ≡ vs → at + length vs ≡ end → end ≤ length out → put_mid at (end - at) out new ≡ sets out at vs
+part_stored at end out {new} {vs} e q h =
     let n : end - at ≡ length vs = omega arith in
     put_mid-paste at (end - at) out new vs (length vs) e (sym n) refl ∙ sym (sets-eq vs out at (omega arith) ∙ ap (λ (xs : List _). take at out ++ xs ++ drop (at + length vs) out) (sym (take_all (length vs) vs (omega arith))))
 

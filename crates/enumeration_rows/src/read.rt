@@ -51,6 +51,7 @@ fn scale_guess(i: u8, alpha: u8, n: usize) -> usize
 }
 
 // The number that an inference at a place would have, if it is one.
+#[tactic(auto, unfolding(enumeration::specs::Numbering::inference_guess))]
 fn inference_guess(s: &[u8], at: usize, n: usize) -> usize
     requires { (n ≤ 6) × (at ≤ length s.now) }
     ensures { result ≡ inference_guess n (drop at s.now) }
@@ -98,6 +99,7 @@ pub fn inference_at(s: &[u8], at: usize, n: usize) -> Option<usize>
     }
 }
 
+#[tactic(auto, unfolding(enumeration::specs::Numbering::close_guess))]
 fn close_guess(s: &[u8], at: usize, n: usize) -> usize
     requires { (n ≤ 6) × (at ≤ length s.now) }
     ensures { result ≡ close_guess n (drop at s.now) }

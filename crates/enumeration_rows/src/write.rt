@@ -31,6 +31,7 @@ fn factor_bytes(m: usize) -> [u8; 2]
     }
 }
 
+#[tactic(auto, using(crate::proofs::Stored::part_stored))]
 fn put_combine(out: &mut [u8], at: usize, n: usize, x: usize)
     requires { (at + 9 ≤ length out.old) × (1 ≤ n) × (n ≤ 6) × (x < 255) }
     ensures { out.new ≡ sets out.old at (combine_bytes n x) }
@@ -52,6 +53,7 @@ fn put_reduce(out: &mut [u8], at: usize, n: usize, x: usize)
     out[at..at + 7].copy_from_slice(&[0x11, 0, 4, s, t, high, low]);
 }
 
+#[tactic(auto, using(crate::proofs::Stored::part_stored))]
 fn put_scale(out: &mut [u8], at: usize, x: usize)
     requires { (at + 6 ≤ length out.old) × (x < 255) }
     ensures { out.new ≡ sets out.old at (scale_bytes x) }
@@ -62,6 +64,7 @@ fn put_scale(out: &mut [u8], at: usize, x: usize)
 }
 
 // How many bytes inference j has.
+#[tactic(auto, unfolding(enumeration::specs::Numbering::inference_bytes))]
 pub fn inference_bytes(n: usize, j: usize) -> usize
     requires { n ≤ 6 }
     ensures { result ≡ length (inference_bytes n j) }
@@ -93,6 +96,7 @@ pub fn put_inference(out: &mut [u8], at: usize, n: usize, j: usize)
 }
 
 // ---- the rows that close
+#[tactic(auto, unfolding(enumeration::specs::Numbering::close_bytes))]
 pub fn close_bytes(n: usize, c: usize) -> usize
     ensures { result ≡ length (close_bytes n c) }
 {
@@ -102,6 +106,7 @@ pub fn close_bytes(n: usize, c: usize) -> usize
     6
 }
 
+#[tactic(auto, using(crate::proofs::Stored::part_stored))]
 fn put_number(out: &mut [u8], at: usize, c: usize)
     requires { (at + 4 ≤ length out.old) × (c < 256) }
     ensures { out.new ≡ sets out.old at (0x14 ∷ 0 ∷ 1 ∷ c ∷ []) }
@@ -109,6 +114,7 @@ fn put_number(out: &mut [u8], at: usize, c: usize)
     out[at..at + 4].copy_from_slice(&[0x14, 0, 1, c as u8]);
 }
 
+#[tactic(auto, using(crate::proofs::Stored::part_stored))]
 fn put_stride(out: &mut [u8], at: usize, x: usize)
     requires { (at + 6 ≤ length out.old) × (x < 256) }
     ensures { out.new ≡ sets out.old at (0x15 ∷ 0 ∷ 3 ∷ (x / 3) ∷ 0 ∷ (2 + x % 3) ∷ []) }

@@ -6,9 +6,6 @@ use Rattle.std.proofs.lemmas.Iterator.{first_from_Range, serves_from_Range}
 use Rattle.enumeration_rows.proofs.Closes.{Holding, closes-none, closes-sought}
 use Rattle.enumeration_rows.proofs.close.seek_close.Goals as goal
 
-pub find-requires : goal.find-requires
-find-requires c = record { can = tt; finite = tt; callable = serves_from_Range (λ x q k. search (rules, tests)) (λ x low high. search rules) }
-
 pub returns-in_err-c : goal.returns-in_err-c
 returns-in_err-c c =
     let h = first_from_Range _ _ _ _ (Holding c.args.k c.args.n c.args.kinds.now c.args.lines.now true) (Holding c.args.k c.args.n c.args.kinds.now c.args.lines.now false) c.find.ensures.ran (λ x q k. search rules) (λ x q k. search rules) in

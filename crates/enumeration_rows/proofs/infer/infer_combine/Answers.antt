@@ -8,14 +8,5 @@ use Rattle.enumeration_rows.proofs.Inferred.{roomy-ready}
 use Rattle.enumeration_rows.proofs.Numbers.{multiplied, combined, div-small, rem-small}
 use Rattle.enumeration_rows.proofs.infer.infer_combine.Goals as goal
 
-pub line-s-requires : goal.line-s-requires
-line-s-requires c = div-small c.args.x (4 * c.args.n) c.requires.le_n.2
-
-pub line-t-requires : goal.line-t-requires
-line-t-requires c = rem-small c.args.x 4 c.args.n c.requires.le_n.2
-
-pub combine-requires : goal.combine-requires
-combine-requires c = let a = to_z-of_z w64 c.factor-alpha.result (record { sfits = c.factor-alpha.type_inv }) in let b = to_z-of_z w64 c.factor-beta.result (record { sfits = c.factor-beta.type_inv }) in record { ready = roomy-ready c.requires.search_room; multiplies = (multiplied (c.args.x / 2) (a ∙ c.factor-alpha.ensures), multiplied c.args.x (b ∙ c.factor-beta.ensures)) }
-
 pub returns : goal.returns
 returns c = let a = to_z-of_z w64 c.factor-alpha.result (record { sfits = c.factor-alpha.type_inv }) in let b = to_z-of_z w64 c.factor-beta.result (record { sfits = c.factor-beta.type_inv }) in combined c.line-s.ensures c.line-t.ensures (ap nat_abs (a ∙ c.factor-alpha.ensures)) (ap nat_abs (b ∙ c.factor-beta.ensures)) c.combine.ensures

@@ -7,14 +7,5 @@ use Rattle.enumeration_rows.proofs.Inferred.{roomy-ready}
 use Rattle.enumeration_rows.proofs.Numbers.{signed-within, reduced, div-small, rem-small}
 use Rattle.enumeration_rows.proofs.infer.infer_reduce.Goals as goal
 
-pub line-s-requires : goal.line-s-requires
-line-s-requires c = div-small c.args.x (4 * c.args.n) c.requires.le_n.2
-
-pub line-t-requires : goal.line-t-requires
-line-t-requires c = rem-small c.args.x 4 c.args.n c.requires.le_n.2
-
-pub reduce-requires : goal.reduce-requires
-reduce-requires c = let a = to_z-of_z w64 c.signed_factor-alpha.result (record { sfits = c.signed_factor-alpha.type_inv }) in record { ready = roomy-ready c.requires.search_room; within = signed-within (c.args.x % 4) (a ∙ c.signed_factor-alpha.ensures) }
-
 pub returns : goal.returns
 returns c = let a = to_z-of_z w64 c.signed_factor-alpha.result (record { sfits = c.signed_factor-alpha.type_inv }) in reduced c.line-s.ensures c.line-t.ensures (a ∙ c.signed_factor-alpha.ensures) c.reduce.ensures

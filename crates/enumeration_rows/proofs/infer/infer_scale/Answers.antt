@@ -7,8 +7,5 @@ use Rattle.enumeration_rows.proofs.Inferred.{roomy-ready}
 use Rattle.enumeration_rows.proofs.Numbers.{multiplied, scaled}
 use Rattle.enumeration_rows.proofs.infer.infer_scale.Goals as goal
 
-pub scale-requires : goal.scale-requires
-scale-requires c = let a = to_z-of_z w64 c.factor-alpha.result (record { sfits = c.factor-alpha.type_inv }) in record { ready = roomy-ready c.requires.search_room; multiplies = multiplied c.args.x (a ∙ c.factor-alpha.ensures) }
-
 pub returns : goal.returns
 returns c = let a = to_z-of_z w64 c.factor-alpha.result (record { sfits = c.factor-alpha.type_inv }) in scaled c.line-t.ensures (ap nat_abs (a ∙ c.factor-alpha.ensures)) c.scale.ensures

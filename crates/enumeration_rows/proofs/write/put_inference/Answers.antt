@@ -7,17 +7,11 @@ use Rattle.enumeration_rows.proofs.Counts.{eights, five-square, below-five, coun
 use Rattle.enumeration_rows.proofs.Stored.{stored-as}
 use Rattle.enumeration_rows.proofs.write.put_inference.Goals as goal
 
-pub overflow_mul-block-2 : goal.overflow_mul-block-2
-overflow_mul-block-2 c = omega (arith, eights c.args.n, five-square c.args.n c.requires.0, below-five c.args.n c.args.j c.requires.0 c.requires.1)
-
 pub put_combine-requires : goal.put_combine-requires
 put_combine-requires c = (omega (arith, ap length (combine-bytes c.args.n c.args.j c.if-j-block.true), c.requires.2), count-some c.args.n c.args.j c.if-j-block.true, omega (arith, c.requires.0), omega (arith, eights c.args.n, five-square c.args.n c.requires.0, below-five c.args.n c.args.j c.requires.0 c.requires.1))
 
 pub returns-then-j-block : goal.returns-then-j-block
 returns-then-j-block c = stored-as c.args.out.now c.args.at c.put_combine.ensures (sym (combine-bytes c.args.n c.args.j c.if-j-block.true))
-
-pub overflow_mul-block-3 : goal.overflow_mul-block-3
-overflow_mul-block-3 c = omega (arith, eights c.args.n, five-square c.args.n c.requires.0, below-five c.args.n c.args.j c.requires.0 c.requires.1)
 
 pub put_reduce-requires : goal.put_reduce-requires
 put_reduce-requires c = (omega (arith, ap length (reduce-bytes c.args.n c.args.j (omega (arith, c.if-j-block.false)) c.if-j-block-2.true), c.requires.2), count-some c.args.n (c.args.j - 4 * c.args.n * c.args.n) (omega (arith, c.if-j-block-2.true, c.if-j-block.false, eights c.args.n, five-square c.args.n c.requires.0, below-five c.args.n c.args.j c.requires.0 c.requires.1)), omega (arith, c.requires.0), omega (arith, eights c.args.n, five-square c.args.n c.requires.0, below-five c.args.n c.args.j c.requires.0 c.requires.1))
