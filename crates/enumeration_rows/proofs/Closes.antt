@@ -23,7 +23,7 @@ use Rattle.lines.specs.Ready.{LinesKept}
 use Rattle.lines.proofs.Keeping.{kept_refl}
 use Rattle.enumeration_rows.specs.Recognised.{CloseFound}
 use Rattle.enumeration_rows.specs.Applied.{CloseHolds}
-use Rattle.std.specs.Prelude.{Option, None, Some, Result, Ok, Err, MatchOption, option_map}
+use Rattle.std.specs.Prelude.{Option, None, Some, Result, Ok, Err}
 use Rattle.enumeration_rows.specs.declared.found.Rows.{Rows}
 use Rattle.enumeration_rows.specs.declared.found.Rows.TheVariants.{One}
 use Rattle.enumeration_rows.specs.declared.found.NotAmong.{NotAmong}

@@ -16,7 +16,7 @@ use Rattle.fields.specs.Fields.{file_of, field_bytes}
 use Rattle.fields.specs.Header.{header_bytes}
 use Rattle.fields.proofs.Headers.{length-header_bytes}
 use Rattle.enumeration.specs.ShortProofs.{row_item, proof_file}
-use Rattle.enumeration.specs.Numbering.{inference_count, close_count, inference_at, close_at, row_bytes, inference_bytes, close_bytes}
+use Rattle.enumeration.specs.Numbering.{inference_at, close_at, row_bytes, inference_bytes, close_bytes}
 use Rattle.enumeration.specs.Search as search
 use Rattle.enumeration.specs.Search.{Found, rows_bytes, found_file}
 use Rattle.enumeration.proofs.Searched.{append_assoc, append-nil, rows-one}
@@ -97,9 +97,6 @@ module _ {n : ℕ} {js : List ℕ} {c : ℕ} where
       front : NumbersAt (n + i) (j ∷ drop (suc i) js) c
       front = subst (λ (xs : List ℕ). NumbersAt (n + i) xs c) (drop-cons js i 0 h ∙ ap (λ (j : ℕ). j ∷ drop (suc i) js) (sym e)) left.within
 
-      pub rows-first : j < inference_count (n + i)
-      rows-first = front.0
-
       rest-is : bytes_at (n + i) (drop i js) c ≡ inference_bytes (n + i) j ++ bytes_at (n + (i + 1)) (drop (i + 1) js) c
       rest-is =
           let a : n + i + 1 ≡ n + (i + 1) = omega arith in
@@ -119,9 +116,6 @@ module _ {n : ℕ} {js : List ℕ} {c : ℕ} where
             size = omega (arith, q, rest-size, left.size);
           }
 
-      pub row-fits : at + length (inference_bytes (n + i) j) ≤ 8 + length (bytes_at n js c)
-      row-fits = omega (arith, rest-size, left.size)
-
     module _ (h : length js ≤ i) (k : i ≤ length js) where
       none : drop i js ≡ []
       none = drop_all i js h
@@ -131,9 +125,6 @@ module _ {n : ℕ} {js : List ℕ} {c : ℕ} where
 
       pub close-left : bytes_at (n + i) (drop i js) c ≡ close_bytes (n + length js) c
       close-left = ap (λ (xs : List ℕ). bytes_at (n + i) xs c) none ∙ ap (λ (i : ℕ). close_bytes (n + i) c) at-end
-
-      pub close-within : c < close_count (n + length js)
-      close-within = subst (λ (i : ℕ). c < close_count (n + i)) at-end (subst (λ (xs : List ℕ). NumbersAt (n + i) xs c) none left.within)
 
       pub close-size-left : at + length (close_bytes (n + length js) c) ≡ 8 + length (bytes_at n js c)
       close-size-left = omega (arith, left.size, ap length close-left)

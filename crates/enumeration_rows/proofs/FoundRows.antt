@@ -1,17 +1,16 @@
 -- What is found, as the numbers of rows and as the rows. Assumes nothing.
 use mathlib.Core.Path.{◌≡◌, refl, sym, ◌∙◌, ap}
-use mathlib.Core.List.{List, [], ◌∷◌}
+use mathlib.Core.List.{◌∷◌}
 use Prim.Native.Nat.{ℕ, suc, ◌+◌, ◌≤◌, ◌<◌}
 use native.Mathlib.Omega.{arith}
 use lib.ListN.{length}
-use Rattle.std.specs.Prelude.{Option, None, Some, Ok}
-use Rattle.calculus.specs.Rules.{Row, Derive}
+use Rattle.calculus.specs.Rules.{Derive}
 use Rattle.enumeration.specs.Numbering.{inference_count, inference_at}
 use Rattle.enumeration.specs.Search as search
 use Rattle.enumeration.specs.Search.{Found, if_none_left, if_not_among, with_row}
 use Rattle.enumeration_rows.specs.declared.found.Rows.{Rows}
 use Rattle.enumeration_rows.specs.declared.found.Rows.TheVariants.{One, Two, Three}
-use Rattle.enumeration_rows.specs.Searching.{rows_at, NumbersAt, inferences_of, close_of, found_of, with_first}
+use Rattle.enumeration_rows.specs.Searching.{rows_at, NumbersAt, inferences_of, close_of, with_first}
 
 -- ---- a row before those found
 first-close : (j : ℕ) (rows : Rows) → close_of (with_first j rows) ≡ close_of rows
@@ -42,17 +41,3 @@ or-none-left f = refl
 pub or-not-among : (f : Found) → if_not_among search.not_among f ≡ f
 unfolding if_not_among
 or-not-among f = refl
-
--- what is found goes before what comes next
-pub at-first : (rs : List Row) (f : Found) → if_none_left (search.at rs) f ≡ search.at rs
-unfolding if_none_left
-at-first rs f = refl
-
-pub among-first : (r : Option Rows) (n : ℕ) (f : Found) → if_not_among (found_of n (Ok r)) f ≡ found_of n (Ok r)
-unfolding if_not_among
-among-first None n f = refl
-among-first (Some rows) n f = refl
-
-pub not-among-first : (f : Found) → if_none_left search.not_among f ≡ search.not_among
-unfolding if_none_left
-not-among-first f = refl

@@ -1,12 +1,11 @@
 -- What making a line and testing a close tell of the definitions. Assumes nothing.
 use mathlib.Core.Path.{◌≡◌, refl, sym, ◌∙◌, ap, subst}
-use mathlib.Core.Bool.{Bool, true, false}
+use mathlib.Core.Bool.{Bool}
 use mathlib.Core.List.{List}
-use Prim.Native.Nat.{ℕ, suc, ◌+◌, ◌≤◌, ◌<◌}
-use native.Mathlib.Nat.{mul-le-mul_right}
+use Prim.Native.Nat.{ℕ, suc, ◌+◌, ◌≤◌}
 use native.Mathlib.Omega.{arith}
 use lib.IntN.{ℤ}
-use Rattle.forms.specs.Edition.{edition, edition1}
+use Rattle.forms.specs.Edition.{edition1}
 use Rattle.forms.specs.Flat.{kind_of, line_kind_of}
 use Rattle.forms.specs.Forms.{Form, ≤0, =0, A, B, LineKind, plain, apart, Line, literal}
 use Rattle.calculus.specs.Rules.{◌▷◌, Inference, CloseNumber, CloseStride}
@@ -17,11 +16,10 @@ use Rattle.fields.specs.Fields.{ends}
 use Rattle.proof.specs.Rows.{derived, fitting}
 use Rattle.proof.specs.Check.{Closing}
 use Rattle.enumeration.specs.Sequence.{any_refusal, new_line, close_formula}
-use Rattle.enumeration.specs.Numbering.{inference_at, close_at}
-use Rattle.lines.specs.Buffer.{size, line_in, lines_in}
+use Rattle.lines.specs.Buffer.{line_in, lines_in}
 use Rattle.lines.proofs.Parts.{agree-sym}
 use Rattle.lines.proofs.Lines.{lines_more, bounded-same}
-use Rattle.lines.specs.Ready.{Ready, Limited, LinesKept}
+use Rattle.lines.specs.Ready.{Limited, LinesKept}
 use Rattle.tally.specs.Tally.{more_lines}
 use Rattle.tally.specs.declared.Tally.{Tally}
 use Rattle.rows.specs.Rows.{followed, Derives}
@@ -31,18 +29,9 @@ use Rattle.closes.specs.Closing.{ByNumber}
 use Rattle.closes.specs.Striding.{ByStride}
 use Rattle.closes.specs.declared.closing.Test.{Test}
 use Rattle.closes.specs.declared.closing.Test.TheVariants.{Refused, Passed}
-use Rattle.enumeration_rows.specs.Applied.{tally_of, SearchRoom, Infers, is_passed, CloseHolds}
+use Rattle.enumeration_rows.specs.Applied.{SearchRoom, is_passed, CloseHolds}
 
 -- ---- the buffers
-pub roomy-ready : {K d : ℕ} {kinds : List ℕ} {buf : List ℤ} {t : Tally} → SearchRoom K d kinds buf t → Ready t.edition K kinds buf t.lines.0
-roomy-ready {K} {d} {kinds} {buf} {t} r =
-    let h : t.lines.0 ≤ 6 = omega (arith, r.few) in
-    record {
-      branch = record { constants = r.constants; room = omega (arith, r.room, mul-le-mul_right (size K) h); bounded = r.bounded };
-      room = omega (arith, r.kinds_room);
-      most = subst (λ (e : ℕ). t.lines.0 ≤ (edition e).lines) (sym r.first_edition) (omega arith);
-    }
-
 pub roomy-less : {K d e : ℕ} {kinds : List ℕ} {buf : List ℤ} {t : Tally} → e ≤ d → SearchRoom K d kinds buf t → SearchRoom K e kinds buf t
 roomy-less h r = record { constants = r.constants; room = r.room; kinds_room = r.kinds_room; bounded = r.bounded; few = omega (arith, r.few); first_edition = r.first_edition }
 
@@ -162,34 +151,3 @@ module _ {K : ℕ} {kinds : List ℕ} {buf : List ℤ} {t : Tally} {s : Inferenc
     few = omega (arith, h.few);
     first_edition = h.first_edition;
   })
-
--- ---- by the number of lines
-module _ {n : ℕ} {t : Tally} (e : t ≡ tally_of n) where
-  pub as-tally : {K d : ℕ} {kinds : List ℕ} {buf : List ℤ} → SearchRoom K d kinds buf (tally_of n) → SearchRoom K d kinds buf t
-  as-tally {K} {d} {kinds} {buf} r = subst (λ (t : Tally). SearchRoom K d kinds buf t) (sym e) r
-
-  pub below-tally : (count : ℕ → ℕ) {x : ℕ} → x < count n → x < count t.lines.0
-  below-tally count {x} h = subst (λ (t : Tally). x < count t.lines.0) (sym e) h
-
-  pub tally-holds : {K : ℕ} {kinds : List ℕ} {buf : List ℤ} (c : ℕ) {b : Bool} → CloseHolds K kinds buf t.lines.0 (close_at t.lines.0 c) b → CloseHolds K kinds buf n (close_at n c) b
-  tally-holds {K} {kinds} {buf} c {b} h = subst (λ (t : Tally). CloseHolds K kinds buf t.lines.0 (close_at t.lines.0 c) b) e h
-
-  module _ {K : ℕ} (j : ℕ) {kinds : List ℕ} {buf : List ℤ} {kinds' : List ℕ} {buf' : List ℤ} {r : Derived} (m : Derives K kinds buf t (inference_at t.lines.0 j) kinds' buf' r) where
-    tally-derives : Derives K kinds buf (tally_of n) (inference_at n j) kinds' buf' r
-    tally-derives = subst (λ (t : Tally). Derives K kinds buf t (inference_at t.lines.0 j) kinds' buf' r) e m
-
-    pub infers-made : {u : Tally} → r ≡ derived-of.Made u → Infers K n j kinds buf kinds' buf' true
-    infers-made q = record {
-      derived = r;
-      derives = tally-derives;
-      made = λ _. q ∙ ap derived-of.Made (made-tally refl tally-derives q);
-      refused = λ f. absurd (let z : ◌≡◌ {A = ℕ} 0 1 = cc in omega arith);
-    }
-
-    pub infers-refused : {x : ℕ} → r ≡ derived-of.Refused x → Infers K n j kinds buf kinds' buf' false
-    infers-refused {x} q = record {
-      derived = r;
-      derives = tally-derives;
-      made = λ f. absurd (let z : ◌≡◌ {A = ℕ} 0 1 = cc in omega arith);
-      refused = λ _. (x, q);
-    }

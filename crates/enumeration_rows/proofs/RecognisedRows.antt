@@ -8,7 +8,7 @@ use lib.Dec.{T, eqb}
 use lib.ListN.{length, take, drop, length-drop}
 use lib.Seq.{sets, take_at, take_all}
 use mir.Facts.{and_yes}
-use Rattle.std.specs.Prelude.{None, Some}
+use Rattle.std.specs.Prelude.{None}
 use Rattle.std.specs.List.{starts_with}
 use Rattle.std.specs.Cmp.Lexicographic.{pointwise}
 use Rattle.answers.specs.Answers.{over}
@@ -49,9 +49,6 @@ equal-same (x ∷ xs) (y ∷ s) = ap (λ (b : Bool). eqb x y && b) (equal-same x
 
 -- ---- which inference stands there
 module _ {n : ℕ} {s : List ℕ} (few : n ≤ 5) where
-  pub inference-here : {j : ℕ} {b : Bool} → j < inference_count n → b ≡ begins (inference_bytes n j) s → b ≡ true → InferenceFound n s (Some j)
-  inference-here l p q = record { is = (l, sym p ∙ q) }
-
   pub inference-beyond : {j : ℕ} → j ≡ inference_guess n s → inference_count n ≤ j → InferenceFound n s None
   inference-beyond {j} g h = record { is = λ i l. false-is (begins (inference_bytes n i) s) (λ t. let q = inference-guessed n i s few l t in omega arith) }
 
@@ -67,9 +64,6 @@ guessed : (n : ℕ) (s : List ℕ) → n ≤ 6 → (c : ℕ) → c < close_count
 guessed n s few c l t = ap (close_guess n) (sym (same-is (close_bytes n c) s t)) ∙ close-guessed n c few l
 
 module _ {n : ℕ} {s : List ℕ} (few : n ≤ 6) where
-  pub close-here : {c : ℕ} {b : Bool} → c < close_count n → b ≡ same_bytes (close_bytes n c) s → b ≡ true → CloseFound n s (Some c)
-  close-here l p q = record { is = (l, sym p ∙ q) }
-
   pub close-beyond : {c : ℕ} → c ≡ close_guess n s → close_count n ≤ c → CloseFound n s None
   close-beyond {c} g h = record { is = λ i l. false-is (same_bytes (close_bytes n i) s) (λ t. let q = guessed n s few i l t in omega arith) }
 

@@ -6,7 +6,7 @@ use Prim.Native.Nat.{ℕ, ◌+◌, ◌-◌, ◌*◌, ◌/◌, ◌%◌, ◌≤◌
 use native.Mathlib.Omega.{arith}
 use lib.Dec.{ltb}
 use lib.ListN.{length, take, drop}
-use lib.Seq.{sets, sets-eq, paste, take_all}
+use lib.Seq.{sets, sets-eq, take_all}
 use borrow.Rule.Slice.PartMut.{put_mid}
 use Rattle.std.proofs.lemmas.Slice.{put_mid-paste}
 use Rattle.enumeration.specs.Numbering.{combine_bytes, reduce_bytes, scale_bytes, inference_bytes, close_bytes}
@@ -34,7 +34,3 @@ close-size n c = go (0x14 ∷ 0 ∷ 1 ∷ c ∷ []) (0x15 ∷ 0 ∷ 3 ∷ ((c - 
     go : (xs ys : List ℕ) (b : Bool) → length xs ≤ 6 → length ys ≤ 6 → length (cond b xs ys) ≤ 6
     go xs ys true p q = p
     go xs ys false p q = q
-
--- the bytes under another name
-pub stored-as : (out : List ℕ) (at : ℕ) {out' xs ys : List ℕ} → out' ≡ sets out at xs → xs ≡ ys → out' ≡ sets out at ys
-stored-as out at e q = e ∙ ap (sets out at) q

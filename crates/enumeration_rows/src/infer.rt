@@ -94,6 +94,7 @@ fn lines_of(tally: Tally) -> usize
 }
 
 // The line of inference j, behind those of the tally.
+#[tactic(auto, using(crate::proofs::Counts::eights, crate::proofs::Counts::square), unfolding(enumeration::specs::Numbering::inference_at))]
 fn infer_tallied(lines: &mut [i32], kinds: &mut [u8], tally: Tally, j: usize, k: usize) -> Derived
     requires search_room { SearchRoom k 1 kinds.old lines.old tally }
     requires j_bound { j < inference_count tally.lines.0 }
@@ -171,6 +172,7 @@ fn holds_stride(lines: &[i32], kinds: &[u8], tally: Tally, i: usize, g: i64, k: 
 }
 
 // Whether close c of the tally's lines holds. (The strides are literals in the calls, so that the compiler divides by known numbers.)
+#[tactic(auto, unfolding(enumeration::specs::Numbering::close_at))]
 fn holds_tallied(lines: &[i32], kinds: &[u8], tally: Tally, c: usize, k: usize) -> bool
     requires search_room { SearchRoom k 0 kinds.now lines.now tally }
     requires c_bound { c < close_count tally.lines.0 }

@@ -79,6 +79,7 @@ pub fn inference_bytes(n: usize, j: usize) -> usize
     6
 }
 
+#[tactic(auto, using(crate::proofs::Counts::eights, crate::proofs::Counts::square), unfolding(enumeration::specs::Numbering::inference_bytes))]
 pub fn put_inference(out: &mut [u8], at: usize, n: usize, j: usize)
     requires { (n ≤ 5) × (j < inference_count n) × (at + length (inference_bytes n j) ≤ length out.old) }
     ensures { out.new ≡ sets out.old at (inference_bytes n j) }
@@ -124,6 +125,7 @@ fn put_stride(out: &mut [u8], at: usize, x: usize)
     out[at..at + 6].copy_from_slice(&[0x15, 0, 3, t, 0, g]);
 }
 
+#[tactic(auto, unfolding(enumeration::specs::Numbering::close_bytes))]
 pub fn put_close(out: &mut [u8], at: usize, n: usize, c: usize)
     requires { (n ≤ 6) × (c < close_count n) × (at + length (close_bytes n c) ≤ length out.old) }
     ensures { out.new ≡ sets out.old at (close_bytes n c) }

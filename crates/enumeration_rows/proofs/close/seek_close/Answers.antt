@@ -1,8 +1,7 @@
 -- `enumeration_rows::close::seek_close` meets its contract. Assumes nothing.
 use mathlib.Core.Bool.{true, false}
-use borrow.Author.Tests.{tests}
 use Rattle.std.proofs.Common.{rules}
-use Rattle.std.proofs.lemmas.Iterator.{first_from_Range, serves_from_Range}
+use Rattle.std.proofs.lemmas.Iterator.{first_from_Range}
 use Rattle.enumeration_rows.proofs.Closes.{Holding, closes-none, closes-sought}
 use Rattle.enumeration_rows.proofs.close.seek_close.Goals as goal
 

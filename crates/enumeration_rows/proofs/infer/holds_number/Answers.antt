@@ -1,5 +1,4 @@
 -- `enumeration_rows::infer::holds_number` meets its contract. Assumes nothing.
-use Rattle.enumeration_rows.proofs.Inferred.{roomy-ready}
 use Rattle.enumeration_rows.proofs.Numbers.{number-held}
 use Rattle.enumeration_rows.proofs.infer.holds_number.Goals as goal
 

@@ -1,6 +1,5 @@
 -- `enumeration_rows::infer::holds_stride` meets its contract. Assumes nothing.
 use mir.ValLaws.{to_z-of_z}
-use Rattle.enumeration_rows.proofs.Inferred.{roomy-ready}
 use Rattle.enumeration_rows.proofs.Numbers.{stride-held}
 use Rattle.enumeration_rows.proofs.infer.holds_stride.Goals as goal
 

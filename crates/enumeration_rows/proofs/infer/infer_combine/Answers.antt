@@ -1,11 +1,9 @@
 -- `enumeration_rows::infer::infer_combine` meets its contract. Assumes nothing.
-use Prim.Native.Nat.{◌/◌, ◌*◌}
 use mathlib.Core.Path.{◌∙◌, ap}
 use lib.IntN.{nat_abs}
 use mir.Syntax.{w64}
 use mir.ValLaws.{to_z-of_z}
-use Rattle.enumeration_rows.proofs.Inferred.{roomy-ready}
-use Rattle.enumeration_rows.proofs.Numbers.{multiplied, combined, div-small, rem-small}
+use Rattle.enumeration_rows.proofs.Numbers.{combined}
 use Rattle.enumeration_rows.proofs.infer.infer_combine.Goals as goal
 
 pub returns : goal.returns

@@ -1,10 +1,8 @@
 -- `enumeration_rows::infer::infer_reduce` meets its contract. Assumes nothing.
-use Prim.Native.Nat.{◌%◌, ◌*◌}
 use mathlib.Core.Path.{◌∙◌}
 use mir.Syntax.{w64}
 use mir.ValLaws.{to_z-of_z}
-use Rattle.enumeration_rows.proofs.Inferred.{roomy-ready}
-use Rattle.enumeration_rows.proofs.Numbers.{signed-within, reduced, div-small, rem-small}
+use Rattle.enumeration_rows.proofs.Numbers.{reduced}
 use Rattle.enumeration_rows.proofs.infer.infer_reduce.Goals as goal
 
 pub returns : goal.returns

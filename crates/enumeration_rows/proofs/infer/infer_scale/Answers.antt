@@ -3,8 +3,7 @@ use mathlib.Core.Path.{◌∙◌, ap}
 use lib.IntN.{nat_abs}
 use mir.Syntax.{w64}
 use mir.ValLaws.{to_z-of_z}
-use Rattle.enumeration_rows.proofs.Inferred.{roomy-ready}
-use Rattle.enumeration_rows.proofs.Numbers.{multiplied, scaled}
+use Rattle.enumeration_rows.proofs.Numbers.{scaled}
 use Rattle.enumeration_rows.proofs.infer.infer_scale.Goals as goal
 
 pub returns : goal.returns

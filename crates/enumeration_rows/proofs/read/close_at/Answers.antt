@@ -1,6 +1,6 @@
 -- `enumeration_rows::read::close_at` meets its contract. Assumes nothing.
 use native.Mathlib.Omega.{arith}
-use Rattle.enumeration_rows.proofs.RecognisedRows.{close-here, close-beyond, close_other}
+use Rattle.enumeration_rows.proofs.RecognisedRows.{close-beyond, close_other}
 use Rattle.enumeration_rows.proofs.read.close_at.Goals as goal
 use Rattle.enumeration_rows.proofs.read.close_at.Goals.{else-c-close_count-via-then-c-close_count+else-is_close, else-c-close_count-via-else-c-close_count}
 

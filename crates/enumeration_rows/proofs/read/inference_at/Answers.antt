@@ -1,6 +1,6 @@
 -- `enumeration_rows::read::inference_at` meets its contract. Assumes nothing.
 use native.Mathlib.Omega.{arith}
-use Rattle.enumeration_rows.proofs.RecognisedRows.{inference-here, inference-beyond, inference-other}
+use Rattle.enumeration_rows.proofs.RecognisedRows.{inference-beyond, inference-other}
 use Rattle.enumeration_rows.proofs.read.inference_at.Goals as goal
 use Rattle.enumeration_rows.proofs.read.inference_at.Goals.{else-j-inference_count-via-then-j-inference_count+else-is_inference, else-j-inference_count-via-else-j-inference_count}
 
