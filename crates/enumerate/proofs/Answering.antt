@@ -106,7 +106,7 @@ module _ {A B : List ℕ} where
           go true e true q = told-first A B given K (lines (stated_in A K first) (stated_in B K second)) (list-is h) (subst T (sym e) tt) (eqb-true (length given) 8 q)
           go true e false q = told-next A B given K (lines (stated_in A K first) (stated_in B K second)) (list-is h) (subst T (sym e) tt) (long e) (eqb-false (length given) 8 q)
 
-      pub nexts-told : {n : ℕ} {given out out' : List ℕ} {kinds : List ℕ} {buf : List ℤ} {kinds' : List ℕ} {buf' : List ℤ} {found : FoundAt} {r : WriteResult} → n ≡ first.count + second.count → n ≤ 4
+      pub nexts-told : {n : ℕ} {given out out' : List ℕ} {kinds : List ℕ} {buf : List ℤ} {kinds' : List ℕ} {buf' : List ℤ} {found : Result (Option Rows) NotAmong} {r : WriteResult} → n ≡ first.count + second.count → n ≤ 4
           → Prepared A B first second K kinds buf → FindsAny K n (found_for K given (lines_in K kinds buf n)) kinds buf kinds' buf' found → WritesFound K (found_of n found) out out' r → WritesNext A B given out out' r
       unfolding next_proof
       nexts-told {n} {given} {out} {kinds = kinds} {buf = buf} e h p s t = record {

@@ -1,3 +1,2 @@
--- What is found, and what is delivered of it.
+-- How a table begins.
 pub mod Finding
-pub mod Delivered

@@ -13,9 +13,8 @@ ghost use Rattle.enumeration_find.specs.Finding.{found_for};
 
 use answers::WriteResult;
 use check_output::refusal;
-use enumeration_rows::deliver::{deliver_one, deliver_three, deliver_two};
-use enumeration_rows::found::FoundAt;
-use enumeration_rows::read::stands;
+use enumeration_rows::deliver::deliver_rows;
+use enumeration_rows::found::{NotAmong, Rows};
 use enumeration_search::{after_table, first_from};
 use fields::header::put_header;
 
@@ -25,33 +24,45 @@ fn is_headed(table: &[u8], k: u8) -> bool
 {
     let mut header = [0u8; 8];
     put_header(&mut header, 1, k);
-    stands(table, 0, &header, 8)
+    table.starts_with(&header)
 }
 
-pub fn find(lines: &mut [i32], kinds: &mut [u8], n: usize, k: u8, table: &[u8]) -> FoundAt
+pub fn find(
+    lines: &mut [i32],
+    kinds: &mut [u8],
+    n: usize,
+    k: u8,
+    table: &[u8],
+) -> Result<Option<Rows>, NotAmong>
     requires { SearchRoom k 2 kinds.old lines.old (tally_of n) }
     ensures { FindsAny k n (found_for k table.now (lines_in k kinds.old lines.old n)) kinds.old lines.old kinds.new lines.new result }
 {
     if !is_headed(table, k) {
-        return FoundAt::NotAmong;
+        return Err(NotAmong);
     }
     if table.len() == 8 {
-        return first_from(lines, kinds, n, k as usize, 0);
+        return Ok(first_from(lines, kinds, n, k as usize, 0));
     }
     after_table(lines, kinds, n, k as usize, table)
 }
 
 // 32, 33, 21.
-pub fn deliver(out: &mut [u8], k: u8, n: usize, found: FoundAt) -> WriteResult
+#[tactic(auto, unfolding(enumeration::specs::Search::found_file, answers::specs::Answers::written))]
+pub fn deliver(
+    out: &mut [u8],
+    k: u8,
+    n: usize,
+    found: Result<Option<Rows>, NotAmong>,
+) -> WriteResult
     requires n_bound { n ≤ 4 }
     requires numbers_in { NumbersIn n found }
     ensures { WritesFound k (found_of n found) out.old out.new result }
 {
     match found {
-        FoundAt::NotAmong => refusal(32, 4, 0),
-        FoundAt::NoneLeft => refusal(33, 4, 0),
-        FoundAt::One { c } => deliver_one(out, k, n, c),
-        FoundAt::Two { a, c } => deliver_two(out, k, n, a, c),
-        FoundAt::Three { a, b, c } => deliver_three(out, k, n, a, b, c),
+        Err(NotAmong) => refusal(32, 4, 0),
+        Ok(None) => refusal(33, 4, 0),
+        Ok(Some(Rows::One { c })) => deliver_rows(out, k, n, &[], c),
+        Ok(Some(Rows::Two { a, c })) => deliver_rows(out, k, n, &[a], c),
+        Ok(Some(Rows::Three { a, b, c })) => deliver_rows(out, k, n, &[a, b], c),
     }
 }

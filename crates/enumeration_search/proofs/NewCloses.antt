@@ -19,10 +19,12 @@ use Rattle.lines.specs.Buffer.{lines_in}
 use Rattle.lines.proofs.Lines.{length-lines, line-at}
 use Rattle.lines.specs.Ready.{LinesKept}
 use Rattle.enumeration_rows.specs.Applied.{CloseHolds}
-use Rattle.enumeration_rows.specs.declared.found.FoundAt.{FoundAt}
-use Rattle.enumeration_rows.specs.declared.found.FoundAt.TheVariants.{One}
-use Rattle.enumeration_rows.specs.Searching.{is_none_left, Finds, Unclosed}
-use Rattle.enumeration_rows.proofs.FoundRows.{ended_is, or-none-left}
+use Rattle.std.specs.Prelude.{Option, None, Some, Result, Ok, is_some, not}
+use Rattle.enumeration_rows.specs.declared.found.Rows.{Rows}
+use Rattle.enumeration_rows.specs.declared.found.Rows.TheVariants.{One}
+use Rattle.enumeration_rows.specs.declared.found.NotAmong.{NotAmong}
+use Rattle.enumeration_rows.specs.Searching.{Finds, Unclosed}
+use Rattle.enumeration_rows.proofs.FoundRows.{or-none-left}
 use Rattle.enumeration_rows.proofs.Closes.{kept-lines, ClosesLeft, closes-found, closes-on}
 
 -- ---- closes that do not hold
@@ -116,22 +118,27 @@ module _ {K n : ℕ} {kinds : List ℕ} {buf : List ℤ} {b : Bool} (u : Unclose
   below : n < close_count (n + 1)
   below = omega arith
 
-  pub own-number : h ≡ true → Finds K (n + 1) 0 (first_found (proofs_from 0 (lines_in K kinds buf (n + 1)) 0)) kinds buf kinds buf (One n)
-  own-number y = closes-found to-own refl below held y
+  pub own-number : h ≡ true → Finds K (n + 1) 0 (first_found (proofs_from 0 (lines_in K kinds buf (n + 1)) 0)) kinds buf kinds buf (Ok (Some (One n)))
+  own-number y = closes-found to-own below held y
 
-  pub own-strides : h ≡ false → {r : FoundAt} → Finds K (n + 1) 0 (first_found (proofs_from 0 (lines_in K kinds buf (n + 1)) (4 * n + 1))) kinds buf kinds buf r
+  pub own-strides : h ≡ false → {r : Result (Option Rows) NotAmong} → Finds K (n + 1) 0 (first_found (proofs_from 0 (lines_in K kinds buf (n + 1)) (4 * n + 1))) kinds buf kinds buf r
       → Finds K (n + 1) 0 (first_found (proofs_from 0 (lines_in K kinds buf (n + 1)) 0)) kinds buf kinds buf r
   own-strides y s =
       let e : 4 * n + 1 ≡ n + 1 + 3 * n = omega arith in
       record {
         kept = s.kept;
-        is = s.is ∙ ap (λ (c : ℕ). first_found (proofs_from 0 (lines_in K kinds buf (n + 1)) c)) e ∙ sym ((closes-on to-own refl below held y).same ∙ to-strides K kinds buf n (u.none t));
+        is = s.is ∙ ap (λ (c : ℕ). first_found (proofs_from 0 (lines_in K kinds buf (n + 1)) c)) e ∙ sym ((closes-on to-own below held y).same ∙ to-strides K kinds buf n (u.none t));
         within = s.within;
         inferences = s.inferences;
       }
 
-pub unclosed-found : {K n : ℕ} {kinds : List ℕ} {buf : List ℤ} {r : FoundAt} {b : Bool} → Finds K n 0 (first_found (proofs_from 0 (lines_in K kinds buf n) 0)) kinds buf kinds buf r → b ≡ is_none_left r → Unclosed K n kinds buf b
-unclosed-found {n = n} {r = r} s e = record { none = λ t. sym s.is ∙ ended_is n r (sym e ∙ t) }
+pub unclosed-found : {K n : ℕ} {kinds : List ℕ} {buf : List ℤ} {r : Option Rows} {b : Bool} → Finds K n 0 (first_found (proofs_from 0 (lines_in K kinds buf n) 0)) kinds buf kinds buf (Ok r) → is_some r ≡ not b → Unclosed K n kinds buf b
+unclosed-found {r = None} s e = record { none = λ _. sym s.is }
+unclosed-found {r = Some rows} {b = b} s e = record { none = λ t. absurd (go b e t) }
+  where
+    go : (b : Bool) → true ≡ not b → b ≡ true → ⊥
+    go true e t = cc
+    go false e t = cc
 
 pub unclosed-kept : {K n : ℕ} {kinds : List ℕ} {buf : List ℤ} {kinds' : List ℕ} {buf' : List ℤ} {b : Bool} → LinesKept K n kinds buf kinds' buf' → Unclosed K n kinds buf b → Unclosed K n kinds' buf' b
 unclosed-kept k u = record { none = λ t. ap (λ (ls : List Line). first_found (proofs_from 0 ls 0)) (kept-lines k) ∙ u.none t }

@@ -2,7 +2,7 @@
 // enumeration_rows/specs/Searching.antt says what is found, by the sequence of enumeration/specs/Search.antt.
 #![tactic(auto)]
 
-ghost use Rattle.std.specs.Prelude.{suc, ◌+◌, ◌-◌, ◌*◌, ◌≤◌, ◌<◌, length, drop};
+ghost use Rattle.std.specs.Prelude.{suc, ◌+◌, ◌-◌, ◌*◌, ◌≤◌, ◌<◌, Ok, length, drop};
 ghost use Rattle.enumeration.specs.Sequence.{proofs_of};
 ghost use Rattle.enumeration.specs.Numbering.{inference_count};
 ghost use Rattle.enumeration.specs.Search.{first_found, next_found, if_none_left, proofs_beginning, proofs_from, first_of_depths, next_of_depths};
@@ -11,23 +11,29 @@ ghost use Rattle.enumeration_rows.specs.Applied.{tally_of, SearchRoom};
 ghost use Rattle.enumeration_rows.specs.Searching.{Finds, FindsAny, Unclosed};
 
 use enumeration_rows::close::{after_close, seek_close};
-use enumeration_rows::found::{FoundAt, is_none_left, is_not_among, with_first};
+use enumeration_rows::found::{NotAmong, Rows};
 use enumeration_rows::infer::{holds, infer};
 use enumeration_rows::read::inference_at;
 use enumeration_rows::write::{inference_bytes, inference_count};
 
 // The first close that holds behind n lines and a new one. Where no close of the n lines holds (`unclosed`) only those of the new
 // line are tested: number n, and the last three.
-fn seek_close_behind(lines: &[i32], kinds: &[u8], n: usize, k: usize, unclosed: bool) -> FoundAt
+fn seek_close_behind(
+    lines: &[i32],
+    kinds: &[u8],
+    n: usize,
+    k: usize,
+    unclosed: bool,
+) -> Option<Rows>
     requires search_room { SearchRoom k 0 kinds.now lines.now (tally_of (n + 1)) }
     requires unclosed { Unclosed k n kinds.now lines.now unclosed }
-    ensures { Finds k (n + 1) 0 (first_found (proofs_from 0 (lines_in k kinds.now lines.now (n + 1)) 0)) kinds.now lines.now kinds.now lines.now result }
+    ensures { Finds k (n + 1) 0 (first_found (proofs_from 0 (lines_in k kinds.now lines.now (n + 1)) 0)) kinds.now lines.now kinds.now lines.now (Ok result) }
 {
     if !unclosed {
         return seek_close(lines, kinds, n + 1, k, 0);
     }
     if holds(lines, kinds, n + 1, n, k) {
-        return FoundAt::One { c: n };
+        return Some(Rows::One { c: n });
     }
     seek_close(lines, kinds, n + 1, k, 4 * n + 1)
 }
@@ -42,21 +48,21 @@ fn beginning(
     depth: usize,
     j: usize,
     unclosed: bool,
-) -> FoundAt
+) -> Option<Rows>
     requires search_room { SearchRoom k (suc depth) kinds.old lines.old (tally_of n) }
     requires depth_bound { (depth ≤ 1) × (j < inference_count n) }
     requires unclosed { Unclosed k n kinds.old lines.old unclosed }
-    ensures { Finds k n (suc depth) (first_found (proofs_beginning (suc depth) (lines_in k kinds.old lines.old n) j)) kinds.old lines.old kinds.new lines.new result }
+    ensures { Finds k n (suc depth) (first_found (proofs_beginning (suc depth) (lines_in k kinds.old lines.old n) j)) kinds.old lines.old kinds.new lines.new (Ok result) }
 {
     if !infer(lines, kinds, n, j, k) {
-        return FoundAt::NoneLeft;
+        return None;
     }
     if depth == 0 {
-        let found = seek_close_behind(lines, kinds, n, k, unclosed);
-        return with_first(j, found);
+        let rows = seek_close_behind(lines, kinds, n, k, unclosed)?;
+        return Some(rows.with_first(j));
     }
-    let found = seek(lines, kinds, n + 1, k, depth, 0);
-    with_first(j, found)
+    let rows = seek(lines, kinds, n + 1, k, depth, 0)?;
+    Some(rows.with_first(j))
 }
 
 // The first proof of `depth` inferences and a close, whose first row has a number from `from` on.
@@ -68,25 +74,21 @@ fn seek(
     k: usize,
     depth: usize,
     from: usize,
-) -> FoundAt
+) -> Option<Rows>
     requires search_room { SearchRoom k depth kinds.old lines.old (tally_of n) }
     requires depth_bound { depth ≤ 2 }
-    ensures { Finds k n depth (first_found (proofs_from depth (lines_in k kinds.old lines.old n) from)) kinds.old lines.old kinds.new lines.new result }
+    ensures { Finds k n depth (first_found (proofs_from depth (lines_in k kinds.old lines.old n) from)) kinds.old lines.old kinds.new lines.new (Ok result) }
 {
     if depth == 0 {
         return seek_close(lines, kinds, n, k, from);
     }
-    let unclosed = is_none_left(seek_close(lines, kinds, n, k, 0));
-    let count = inference_count(n);
-    let mut j = from;
-    while j < count {
-        let found = beginning(lines, kinds, n, k, depth - 1, j, unclosed);
-        if !is_none_left(found) {
-            return found;
+    let unclosed = seek_close(lines, kinds, n, k, 0).is_none();
+    for j in from..inference_count(n) {
+        if let Some(rows) = beginning(lines, kinds, n, k, depth - 1, j, unclosed) {
+            return Some(rows);
         }
-        j += 1;
     }
-    FoundAt::NoneLeft
+    None
 }
 
 // The proof of `depth` inferences and a close after the one whose rows stand in the table from a place on.
@@ -98,7 +100,7 @@ fn after(
     depth: usize,
     table: &[u8],
     at: usize,
-) -> FoundAt
+) -> Result<Option<Rows>, NotAmong>
     requires search_room { SearchRoom k depth kinds.old lines.old (tally_of n) }
     requires depth_bound { (depth ≤ 2) × (at ≤ length table.now) × (at + 9 * depth ≤ 26) }
     ensures { Finds k n depth (next_found (drop at table.now) (proofs_of depth (lines_in k kinds.old lines.old n))) kinds.old lines.old kinds.new lines.new result }
@@ -106,36 +108,37 @@ fn after(
     if depth == 0 {
         return after_close(lines, kinds, n, k, table, at);
     }
-    let j = inference_at(table, at, n);
-    if j == inference_count(n) {
-        return FoundAt::NotAmong;
-    }
+    let Some(j) = inference_at(table, at, n) else {
+        return Err(NotAmong);
+    };
     if !infer(lines, kinds, n, j, k) {
-        return FoundAt::NotAmong;
+        return Err(NotAmong);
     }
     let size = inference_bytes(n, j);
-    let found = after(lines, kinds, n + 1, k, depth - 1, table, at + size);
-    if is_none_left(found) {
-        return seek(lines, kinds, n, k, depth, j + 1);
+    match after(lines, kinds, n + 1, k, depth - 1, table, at + size)? {
+        Some(rows) => Ok(Some(rows.with_first(j))),
+        None => Ok(seek(lines, kinds, n, k, depth, j + 1)),
     }
-    with_first(j, found)
 }
 
 // The first proof of `depth` inferences and a close, or of more.
-pub fn first_from(lines: &mut [i32], kinds: &mut [u8], n: usize, k: usize, depth: usize) -> FoundAt
+pub fn first_from(
+    lines: &mut [i32],
+    kinds: &mut [u8],
+    n: usize,
+    k: usize,
+    depth: usize,
+) -> Option<Rows>
     requires search_room { SearchRoom k 2 kinds.old lines.old (tally_of n) }
     requires depth_bound { depth ≤ 3 }
-    ensures { FindsAny k n (first_of_depths (3 - depth) depth (lines_in k kinds.old lines.old n)) kinds.old lines.old kinds.new lines.new result }
+    ensures { FindsAny k n (first_of_depths (3 - depth) depth (lines_in k kinds.old lines.old n)) kinds.old lines.old kinds.new lines.new (Ok result) }
 {
-    let mut d = depth;
-    while d < 3 {
-        let found = seek(lines, kinds, n, k, d, 0);
-        if !is_none_left(found) {
-            return found;
+    for d in depth..3 {
+        if let Some(rows) = seek(lines, kinds, n, k, d, 0) {
+            return Some(rows);
         }
-        d += 1;
     }
-    FoundAt::NoneLeft
+    None
 }
 
 // The proof after the table's, of `depth` inferences and a close.
@@ -146,31 +149,33 @@ fn after_depth(
     k: usize,
     depth: usize,
     table: &[u8],
-) -> FoundAt
+) -> Result<Option<Rows>, NotAmong>
     requires search_room { SearchRoom k 2 kinds.old lines.old (tally_of n) }
     requires depth_bound { (depth ≤ 2) × (8 ≤ length table.now) }
     ensures { FindsAny k n (if_none_left (next_found (drop 8 table.now) (proofs_of depth (lines_in k kinds.old lines.old n))) (first_of_depths (2 - depth) (suc depth) (lines_in k kinds.old lines.old n))) kinds.old lines.old kinds.new lines.new result }
 {
-    let found = after(lines, kinds, n, k, depth, table, 8);
-    if is_none_left(found) {
-        return first_from(lines, kinds, n, k, depth + 1);
+    match after(lines, kinds, n, k, depth, table, 8)? {
+        Some(rows) => Ok(Some(rows)),
+        None => Ok(first_from(lines, kinds, n, k, depth + 1)),
     }
-    found
 }
 
 // The proof after the table's, whose header is in order.
-pub fn after_table(lines: &mut [i32], kinds: &mut [u8], n: usize, k: usize, table: &[u8]) -> FoundAt
+pub fn after_table(
+    lines: &mut [i32],
+    kinds: &mut [u8],
+    n: usize,
+    k: usize,
+    table: &[u8],
+) -> Result<Option<Rows>, NotAmong>
     requires search_room { SearchRoom k 2 kinds.old lines.old (tally_of n) }
     requires in_bounds { 8 ≤ length table.now }
     ensures { FindsAny k n (next_of_depths 3 0 (drop 8 table.now) (lines_in k kinds.old lines.old n)) kinds.old lines.old kinds.new lines.new result }
 {
-    let mut d = 0;
-    while d < 3 {
-        let found = after_depth(lines, kinds, n, k, d, table);
-        if !is_not_among(found) {
-            return found;
+    for d in 0..3 {
+        if let Ok(found) = after_depth(lines, kinds, n, k, d, table) {
+            return Ok(found);
         }
-        d += 1;
     }
-    FoundAt::NotAmong
+    Err(NotAmong)
 }

@@ -11,6 +11,3 @@ decreases-seek l = 2 * l.depth
 
 abbrev pub invariant-seek-loop-j : goal.invariant-seek-loop-j
 invariant-seek-loop-j l = InferencesLeft l.k l.n l.depth l.initial.kinds l.initial.lines l.from l.kinds l.lines l.j
-
-abbrev pub decreases-seek-loop-j : goal.decreases-seek-loop-j
-decreases-seek-loop-j l = l.count - l.j

@@ -1,21 +1,21 @@
 -- `enumeration_search::after_depth` meets its contract. Assumes nothing.
+use mathlib.Core.Path.{◌∙◌, ap}
 use lib.ListN.{drop}
-use native.Mathlib.Omega.{arith}
-use Rattle.enumeration_rows.proofs.Inferred.{roomy-less, roomy-kept}
-use Rattle.enumeration_search.proofs.Depths.{after-found, after_on}
+use Rattle.std.specs.Prelude.{Option, Ok}
+use Rattle.std.proofs.lemmas.Result.{err_from_is_err_and}
+use Rattle.enumeration_rows.specs.declared.found.Rows.{Rows}
+use Rattle.enumeration_rows.proofs.Inferred.{roomy-kept}
+use Rattle.enumeration_search.proofs.Depths.{after-found, after-barred, after_on}
 use Rattle.enumeration_search.proofs.after_depth.Goals as goal
 
-pub after-found-requires : goal.after-found-requires
-after-found-requires c = record { search_room = roomy-less c.requires.depth_bound.0 c.requires.search_room; depth_bound = (c.requires.depth_bound.0, c.requires.depth_bound.1, omega (arith, c.requires.depth_bound.0)) }
+pub returns-in_err-rows : goal.returns-in_err-rows
+returns-in_err-rows c = let p = err_from_is_err_and c.from_residual.result c.from_residual.ensures.1 in rw (p.1, p.2) (after-barred (drop 8 c.args.table.now) c.requires.depth_bound.0 c.after.ensures c.in_err-rows.was)
 
-pub overflow_add-depth : goal.overflow_add-depth
-overflow_add-depth c = omega (arith, c.requires.depth_bound.0)
+pub first_from-requires-clause-search_room : goal.first_from-requires-clause-search_room
+first_from-requires-clause-search_room c = roomy-kept c.requires.search_room c.after.ensures.kept
 
-pub first_from-requires : goal.first_from-requires
-first_from-requires c = record { search_room = roomy-kept c.requires.search_room c.after-found.ensures.kept; depth_bound = omega (arith, c.requires.depth_bound.0) }
+pub returns-in-Some : goal.returns-in-Some
+returns-in-Some c = after-found (drop 8 c.args.table.now) c.requires.depth_bound.0 c.after.ensures (c.in_ok-rows.was ∙ ap (λ (r : Option Rows). Ok r) c.in-Some.is)
 
-pub returns-then-is_none_left : goal.returns-then-is_none_left
-returns-then-is_none_left c = after_on (drop 8 c.args.table.now) c.requires.depth_bound.0 c.after-found.ensures c.is_none_left.ensures c.if-is_none_left.true c.first_from.ensures
-
-pub returns : goal.returns
-returns c = after-found (drop 8 c.args.table.now) c.requires.depth_bound.0 c.after-found.ensures c.is_none_left.ensures c.if-is_none_left.false
+pub returns-in-None : goal.returns-in-None
+returns-in-None c = after_on (drop 8 c.args.table.now) c.requires.depth_bound.0 c.after.ensures (c.in_ok-rows.was ∙ ap (λ (r : Option Rows). Ok r) c.in-None.is) c.first_from.ensures

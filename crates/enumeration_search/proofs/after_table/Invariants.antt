@@ -6,6 +6,3 @@ use Rattle.enumeration_search.proofs.after_table.Given as goal
 
 abbrev pub invariant-loop-d : goal.invariant-loop-d
 invariant-loop-d l = FollowLeft l.k l.n (drop 8 l.table) l.initial.kinds l.initial.lines l.kinds l.lines l.d
-
-abbrev pub decreases-loop-d : goal.decreases-loop-d
-decreases-loop-d l = 3 - l.d

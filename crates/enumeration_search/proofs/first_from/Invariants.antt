@@ -5,6 +5,3 @@ use Rattle.enumeration_search.proofs.first_from.Given as goal
 
 abbrev pub invariant-loop-d : goal.invariant-loop-d
 invariant-loop-d l = FirstLeft l.k l.n l.initial.kinds l.initial.lines l.depth l.kinds l.lines l.d
-
-abbrev pub decreases-loop-d : goal.decreases-loop-d
-decreases-loop-d l = 3 - l.d
