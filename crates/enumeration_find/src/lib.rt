@@ -12,6 +12,7 @@ ghost use Rattle.enumeration_rows.specs.Searching.{found_of, NumbersIn, FindsAny
 ghost use Rattle.enumeration_find.specs.Finding.{found_for};
 
 use answers::WriteResult;
+use answers::refusals::Refusal;
 use check_output::refusal;
 use enumeration_rows::deliver::deliver_rows;
 use enumeration_rows::found::{NotAmong, Rows};
@@ -59,8 +60,8 @@ pub fn deliver(
     ensures { WritesFound k (found_of n found) out.old out.new result }
 {
     match found {
-        Err(NotAmong) => refusal(32, 4, 0),
-        Ok(None) => refusal(33, 4, 0),
+        Err(NotAmong) => refusal(Refusal::NotShortProof, 4, 0),
+        Ok(None) => refusal(Refusal::NoFollowingProof, 4, 0),
         Ok(Some(Rows::One { c })) => deliver_rows(out, k, n, &[], c),
         Ok(Some(Rows::Two { a, c })) => deliver_rows(out, k, n, &[a], c),
         Ok(Some(Rows::Three { a, b, c })) => deliver_rows(out, k, n, &[a, b], c),

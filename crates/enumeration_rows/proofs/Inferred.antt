@@ -23,13 +23,14 @@ use Rattle.lines.specs.Ready.{Limited, LinesKept}
 use Rattle.tally.specs.Tally.{more_lines}
 use Rattle.tally.specs.declared.Tally.{Tally}
 use Rattle.rows.specs.Rows.{followed, Derives}
-use Rattle.rows.specs.declared.derive.Derived.{Derived}
-use Rattle.rows.specs.declared.derive.Derived.TheVariants as derived-of
+use Rattle.std.specs.declared.result.Result as rust
+use Rattle.std.specs.Prelude.{Ok, Err, is_ok}
+use Rattle.answers.specs.declared.refusals.Refusal.{Refusal}
+use Rattle.answers.specs.Refusals.{number_of}
 use Rattle.closes.specs.Closing.{ByNumber}
 use Rattle.closes.specs.Striding.{ByStride}
-use Rattle.closes.specs.declared.closing.Test.{Test}
-use Rattle.closes.specs.declared.closing.Test.TheVariants.{Refused, Passed}
-use Rattle.enumeration_rows.specs.Applied.{SearchRoom, is_passed, CloseHolds}
+use Rattle.closes.specs.Closing.{Test}
+use Rattle.enumeration_rows.specs.Applied.{SearchRoom, CloseHolds}
 
 -- ---- the buffers
 pub roomy-less : {K d e : ℕ} {kinds : List ℕ} {buf : List ℤ} {t : Tally} → e ≤ d → SearchRoom K d kinds buf t → SearchRoom K e kinds buf t
@@ -46,15 +47,15 @@ roomy-kept r k = record {
 }
 
 -- ---- a close
-pub number-holds : {K : ℕ} {kinds : List ℕ} {buf : List ℤ} {t : Tally} {i : ℕ} {r : Test} {b : Bool} → ByNumber K kinds buf t i r → b ≡ is_passed r → CloseHolds K kinds buf t.lines.0 (CloseNumber i) b
+pub number-holds : {K : ℕ} {kinds : List ℕ} {buf : List ℤ} {t : Tally} {i : ℕ} {r : Test} {b : Bool} → ByNumber K kinds buf t i r → b ≡ is_ok r → CloseHolds K kinds buf t.lines.0 (CloseNumber i) b
 unfolding close_formula
-number-holds {r = Refused x} h e = record { yes = λ y. absurd (let z : ◌≡◌ {A = ℕ} 0 1 = cc in omega arith); no = λ _. (any_refusal x, h.by any_refusal) }
-number-holds {r = Passed} h e = record { yes = λ _. (_, h.by any_refusal); no = λ n. absurd (let z : ◌≡◌ {A = ℕ} 0 1 = cc in omega arith) }
+number-holds {r = Err x} h e = record { yes = λ y. absurd (let z : ◌≡◌ {A = ℕ} 0 1 = cc in omega arith); no = λ _. (any_refusal (number_of x), h.by any_refusal) }
+number-holds {r = Ok _} h e = record { yes = λ _. (_, h.by any_refusal); no = λ n. absurd (let z : ◌≡◌ {A = ℕ} 0 1 = cc in omega arith) }
 
-pub stride_holds : {K : ℕ} {kinds : List ℕ} {buf : List ℤ} {t : Tally} {i g : ℕ} {r : Test} {b : Bool} → ByStride K kinds buf t i g r → b ≡ is_passed r → CloseHolds K kinds buf t.lines.0 (CloseStride i g) b
+pub stride_holds : {K : ℕ} {kinds : List ℕ} {buf : List ℤ} {t : Tally} {i g : ℕ} {r : Test} {b : Bool} → ByStride K kinds buf t i g r → b ≡ is_ok r → CloseHolds K kinds buf t.lines.0 (CloseStride i g) b
 unfolding close_formula
-stride_holds {r = Refused x} h e = record { yes = λ y. absurd (let z : ◌≡◌ {A = ℕ} 0 1 = cc in omega arith); no = λ _. (any_refusal x, h.by any_refusal) }
-stride_holds {r = Passed} h e = record { yes = λ _. (_, h.by any_refusal); no = λ n. absurd (let z : ◌≡◌ {A = ℕ} 0 1 = cc in omega arith) }
+stride_holds {r = Err x} h e = record { yes = λ y. absurd (let z : ◌≡◌ {A = ℕ} 0 1 = cc in omega arith); no = λ _. (any_refusal (number_of x), h.by any_refusal) }
+stride_holds {r = Ok _} h e = record { yes = λ _. (_, h.by any_refusal); no = λ n. absurd (let z : ◌≡◌ {A = ℕ} 0 1 = cc in omega arith) }
 
 -- ---- a line
 -- what follows a row may tell the whole line
@@ -117,24 +118,24 @@ module _ (f : Line → Result (Unit {0})) where
       go (refused b) e = ap refused (same-refused e)
       go (accepted _) e = absurd (never (sym e))
 
-module _ {K : ℕ} {kinds : List ℕ} {buf : List ℤ} {t : Tally} {s : Inference} {kinds' : List ℕ} {buf' : List ℤ} {r : Derived} (first : t.edition ≡ 1) (d : Derives K kinds buf t s kinds' buf' r) where
+module _ {K : ℕ} {kinds : List ℕ} {buf : List ℤ} {t : Tally} {s : Inference} {kinds' : List ℕ} {buf' : List ℤ} {r : rust.Result Tally Refusal} (first : t.edition ≡ 1) (d : Derives K kinds buf t s kinds' buf' r) where
   abbrev Followed : ℕ → (Line → Result Closing) → Result Closing
   Followed e next = followed e any_refusal (lines_in K kinds buf t.lines.0) s next
 
-  pub line_refused : {x : ℕ} → r ≡ derived-of.Refused x → new_line (lines_in K kinds buf t.lines.0) s ≡ refused (any_refusal x)
+  pub line_refused : {x : Refusal} → r ≡ Err x → new_line (lines_in K kinds buf t.lines.0) s ≡ refused (any_refusal (number_of x))
   unfolding new_line
-  line_refused {x} e = refused-from (fitting any_refusal (lines_in K kinds buf t.lines.0) edition1) (derived any_refusal (lines_in K kinds buf t.lines.0) s) (any_refusal x)
-      (λ next. subst (λ (n : ℕ). Followed n next ≡ refused (any_refusal x)) first ((rw e at d.by) any_refusal next))
+  line_refused {x} e = refused-from (fitting any_refusal (lines_in K kinds buf t.lines.0) edition1) (derived any_refusal (lines_in K kinds buf t.lines.0) s) (any_refusal (number_of x))
+      (λ next. subst (λ (n : ℕ). Followed n next ≡ refused (any_refusal (number_of x))) first ((rw e at d.by) any_refusal next))
 
-  pub line_made : {u : Tally} → r ≡ derived-of.Made u → new_line (lines_in K kinds buf t.lines.0) s ≡ accepted (line_in K kinds' buf' t.lines.0)
+  pub line_made : {u : Tally} → r ≡ Ok u → new_line (lines_in K kinds buf t.lines.0) s ≡ accepted (line_in K kinds' buf' t.lines.0)
   unfolding new_line
   line_made e = made-from (fitting any_refusal (lines_in K kinds buf t.lines.0) edition1) (derived any_refusal (lines_in K kinds buf t.lines.0) s) (line_in K kinds' buf' t.lines.0)
       (λ next. subst (λ (n : ℕ). Followed n next ≡ next (line_in K kinds' buf' t.lines.0)) first ((rw e at d.by).0 any_refusal next))
 
-  pub made-tally : {u : Tally} → r ≡ derived-of.Made u → u ≡ more_lines t
+  pub made-tally : {u : Tally} → r ≡ Ok u → u ≡ more_lines t
   made-tally e = (rw e at d.by).2
 
-  pub made-limited : {u : Tally} → r ≡ derived-of.Made u → Limited t.edition K buf' (t.lines.0 + 1)
+  pub made-limited : {u : Tally} → r ≡ Ok u → Limited t.edition K buf' (t.lines.0 + 1)
   made-limited e = (rw e at d.by).1
 
   pub lines-made : lines_in K kinds' buf' (t.lines.0 + 1) ≡ lines_in K kinds buf t.lines.0 ▷ line_in K kinds' buf' t.lines.0
@@ -142,7 +143,7 @@ module _ {K : ℕ} {kinds : List ℕ} {buf : List ℤ} {t : Tally} {s : Inferenc
       let e : t.lines.0 + 1 ≡ suc t.lines.0 = omega arith in
       ap (lines_in K kinds' buf') e ∙ lines_more K t.lines.0 (agree-sym d.kept.lines_same) (agree-sym d.kept.kinds_same)
 
-  pub roomy-more : {e : ℕ} {u : Tally} → SearchRoom K (suc e) kinds buf t → r ≡ derived-of.Made u → SearchRoom K e kinds' buf' u
+  pub roomy-more : {e : ℕ} {u : Tally} → SearchRoom K (suc e) kinds buf t → r ≡ Ok u → SearchRoom K e kinds' buf' u
   roomy-more {e} h q = subst (λ (u : Tally). SearchRoom K e kinds' buf' u) (sym (made-tally q)) (record {
     constants = h.constants;
     room = omega (arith, h.room, d.kept.lines_length);

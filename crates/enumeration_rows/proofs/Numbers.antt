@@ -7,14 +7,16 @@ use lib.IntN.{ℤ}
 use Rattle.calculus.specs.Rules.{Inference, Combine, Reduce, Scale, Row, CloseNumber, CloseStride}
 use Rattle.tally.specs.declared.Tally.{Tally}
 use Rattle.rows.specs.Rows.{Derives}
-use Rattle.rows.specs.declared.derive.Derived.{Derived}
+use Rattle.std.specs.declared.result.Result as code
+use Rattle.std.specs.Prelude.{is_ok}
+use Rattle.answers.specs.declared.refusals.Refusal.{Refusal}
 use Rattle.closes.specs.Closing.{ByNumber}
 use Rattle.closes.specs.Striding.{ByStride}
-use Rattle.closes.specs.declared.closing.Test.{Test}
-use Rattle.enumeration_rows.specs.Applied.{is_passed, CloseHolds}
+use Rattle.closes.specs.Closing.{Test}
+use Rattle.enumeration_rows.specs.Applied.{CloseHolds}
 use Rattle.enumeration_rows.proofs.Inferred.{number-holds, stride_holds}
 
-module _ {K : ℕ} {kinds : List ℕ} {buf : List ℤ} {t : Tally} {kinds' : List ℕ} {buf' : List ℤ} {r : Derived} where
+module _ {K : ℕ} {kinds : List ℕ} {buf : List ℤ} {t : Tally} {kinds' : List ℕ} {buf' : List ℤ} {r : code.Result Tally Refusal} where
   other-inference : {s s' : Inference} → s ≡ s' → Derives K kinds buf t s kinds' buf' r → Derives K kinds buf t s' kinds' buf' r
   other-inference e d = subst (λ (s : Inference). Derives K kinds buf t s kinds' buf' r) e d
 
@@ -34,8 +36,8 @@ module _ {K l : ℕ} {kinds : List ℕ} {buf : List ℤ} {b : Bool} where
   other_row e d = subst (λ (s : Row). CloseHolds K kinds buf l s b) e d
 
 module _ {K : ℕ} {kinds : List ℕ} {buf : List ℤ} {t : Tally} {b : Bool} where
-  pub number-held : {r : Test} {i j : ℕ} → ByNumber K kinds buf t j r → j ≡ i → b ≡ is_passed r → CloseHolds K kinds buf t.lines.0 (CloseNumber i) b
+  pub number-held : {r : Test} {i j : ℕ} → ByNumber K kinds buf t j r → j ≡ i → b ≡ is_ok r → CloseHolds K kinds buf t.lines.0 (CloseNumber i) b
   number-held h e q = other_row (ap (λ (i : ℕ). CloseNumber i) e) (number-holds h q)
 
-  pub stride-held : {r : Test} {i j : ℕ} {g : ℕ} → ByStride K kinds buf t j g r → j ≡ i → b ≡ is_passed r → CloseHolds K kinds buf t.lines.0 (CloseStride i g) b
+  pub stride-held : {r : Test} {i j : ℕ} {g : ℕ} → ByStride K kinds buf t j g r → j ≡ i → b ≡ is_ok r → CloseHolds K kinds buf t.lines.0 (CloseStride i g) b
   stride-held {g = g} h e q = other_row (ap (λ (i : ℕ). CloseStride i g) e) (stride_holds h q)

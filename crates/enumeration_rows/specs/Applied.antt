@@ -1,9 +1,11 @@
--- The buffers of the search, and what making a line and testing a close tell. Document 02, point 14. Assumes nothing.
-use Rattle.std.specs.Prelude.{◌≡◌, Bool, true, false, List, ℕ, ◌+◌, ◌*◌, ◌≤◌, length, ℤ}
+-- The buffers of the search, and what making a line and testing a close tell. Assumes nothing.
+use Rattle.std.specs.Prelude.{◌≡◌, Bool, true, false, List, ℕ, ◌+◌, ◌*◌, ◌≤◌, length, ℤ, Ok, Err}
+use Rattle.std.specs.declared.result.Result as code
 use Rattle.forms.specs.Edition.{edition1}
 use Rattle.forms.specs.Forms.{Formula}
 use Rattle.calculus.specs.Rules.{Row}
 use Rattle.answers.specs.declared.Answer.{Answer}
+use Rattle.answers.specs.declared.refusals.Refusal.{Refusal}
 use Rattle.answers.specs.Answers.{refused, accepted}
 use Rattle.enumeration.specs.Sequence.{close_formula}
 use Rattle.enumeration.specs.Numbering.{inference_at}
@@ -11,10 +13,6 @@ use Rattle.lines.specs.Buffer.{size, lines_in, Bounded}
 use Rattle.tally.specs.Tally.{tally}
 use Rattle.tally.specs.declared.Tally.{Tally}
 use Rattle.rows.specs.Rows.{Derives}
-use Rattle.rows.specs.declared.derive.Derived.{Derived}
-use Rattle.rows.specs.declared.derive.Derived.TheVariants as derived-of
-use Rattle.closes.specs.declared.closing.Test.{Test}
-use Rattle.closes.specs.declared.closing.Test.TheVariants.{Refused, Passed}
 
 -- The tally of n lines, in a proof of edition 1.
 abbrev pub tally_of : ℕ → Tally
@@ -31,14 +29,10 @@ pub record SearchRoom (K d : ℕ) (kinds : List ℕ) (buf : List ℤ) (t : Tally
 
 -- Whether inference j makes line n.
 pub record Infers (K n j : ℕ) (kinds : List ℕ) (buf : List ℤ) (kinds' : List ℕ) (buf' : List ℤ) (b : Bool) : Type 0 where
-  pub derived : Derived
+  pub derived : code.Result Tally Refusal
   pub derives : Derives K kinds buf (tally_of n) (inference_at n j) kinds' buf' derived
-  pub made : b ≡ true → derived ≡ derived-of.Made (tally_of (n + 1))
-  pub refused : b ≡ false → (x : ℕ) × (derived ≡ derived-of.Refused x)
-
-abbrev pub is_passed : Test → Bool
-is_passed (Refused x) = false
-is_passed Passed = true
+  pub made : b ≡ true → derived ≡ Ok (tally_of (n + 1))
+  pub refused : b ≡ false → (x : Refusal) × (derived ≡ Err x)
 
 -- Whether the row r closes the branch.
 pub record CloseHolds (K : ℕ) (kinds : List ℕ) (buf : List ℤ) (n : ℕ) (r : Row) (b : Bool) : Type 0 where

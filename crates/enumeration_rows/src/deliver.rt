@@ -7,6 +7,7 @@ ghost use Rattle.enumeration_rows.specs.Searching.{rows_at, NumbersAt};
 
 use crate::write::{close_bytes, inference_bytes, put_close, put_inference};
 use answers::WriteResult;
+use answers::refusals::Refusal;
 use check_output::refusal;
 use fields::header::put_header;
 
@@ -31,7 +32,7 @@ pub fn deliver_rows(out: &mut [u8], k: u8, n: usize, inferences: &[usize], c: us
     }
     needed += close_bytes(n + inferences.len(), c);
     if out.len() < needed {
-        return refusal(21, 4, needed);
+        return refusal(Refusal::OutputTooShort, 4, needed);
     }
     put_header(out, 1, k);
     let mut at = 8;

@@ -4,11 +4,12 @@ ghost use Rattle.calculus.specs.Rules.{CloseNumber, CloseStride};
 ghost use Rattle.enumeration.specs.Numbering.{inference_count, close_count, signed_factor, combine_at, reduce_at, scale_at, inference_at, close_at};
 ghost use Rattle.entries.specs.Entries.{Multiplies};
 ghost use Rattle.rows.specs.Rows.{Derives};
-ghost use Rattle.enumeration_rows.specs.Applied.{tally_of, SearchRoom, Infers, is_passed, CloseHolds};
+ghost use Rattle.enumeration_rows.specs.Applied.{tally_of, SearchRoom, Infers, CloseHolds};
 
-use closes::closing::{Test, test_number, test_stride};
+use answers::refusals::Refusal;
+use closes::closing::{test_number, test_stride};
 use forms::{LineNumber, RowNumber};
-use rows::derive::{Derived, combine, reduce, scale};
+use rows::derive::{combine, reduce, scale};
 use tally::Tally;
 
 // 1 or 2.
@@ -45,7 +46,7 @@ fn infer_combine(
     n: usize,
     x: usize,
     k: usize,
-) -> Derived
+) -> Result<Tally, Refusal>
     requires search_room { SearchRoom k 1 kinds.old lines.old tally }
     requires le_n { (1 ≤ n) × (n ≤ 6) × (x < 65536) }
     ensures { Derives k kinds.old lines.old tally (combine_at n x) kinds.new lines.new result }
@@ -64,7 +65,7 @@ fn infer_reduce(
     n: usize,
     x: usize,
     k: usize,
-) -> Derived
+) -> Result<Tally, Refusal>
     requires search_room { SearchRoom k 1 kinds.old lines.old tally }
     requires le_n { (1 ≤ n) × (n ≤ 6) × (x < 65536) }
     ensures { Derives k kinds.old lines.old tally (reduce_at n x) kinds.new lines.new result }
@@ -75,7 +76,13 @@ fn infer_reduce(
     reduce(lines, kinds, tally, s, t, alpha, k)
 }
 
-fn infer_scale(lines: &mut [i32], kinds: &mut [u8], tally: Tally, x: usize, k: usize) -> Derived
+fn infer_scale(
+    lines: &mut [i32],
+    kinds: &mut [u8],
+    tally: Tally,
+    x: usize,
+    k: usize,
+) -> Result<Tally, Refusal>
     requires search_room { SearchRoom k 1 kinds.old lines.old tally }
     requires x_bound { x < 65536 }
     ensures { Derives k kinds.old lines.old tally (scale_at x) kinds.new lines.new result }
@@ -95,7 +102,13 @@ fn lines_of(tally: Tally) -> usize
 
 // The line of inference j, behind those of the tally.
 #[tactic(auto, using(crate::proofs::Counts::eights, crate::proofs::Counts::square), unfolding(enumeration::specs::Numbering::inference_at))]
-fn infer_tallied(lines: &mut [i32], kinds: &mut [u8], tally: Tally, j: usize, k: usize) -> Derived
+fn infer_tallied(
+    lines: &mut [i32],
+    kinds: &mut [u8],
+    tally: Tally,
+    j: usize,
+    k: usize,
+) -> Result<Tally, Refusal>
     requires search_room { SearchRoom k 1 kinds.old lines.old tally }
     requires j_bound { j < inference_count tally.lines.0 }
     ensures { Derives k kinds.old lines.old tally (inference_at tally.lines.0 j) kinds.new lines.new result }
@@ -132,20 +145,7 @@ pub fn infer(lines: &mut [i32], kinds: &mut [u8], n: usize, j: usize, k: usize) 
     requires j_bound { j < inference_count n }
     ensures { Infers k n j kinds.old lines.old kinds.new lines.new result }
 {
-    let tally = tally_of(n);
-    match infer_tallied(lines, kinds, tally, j, k) {
-        Derived::Refused { number: _ } => false,
-        Derived::Made { tally: _ } => true,
-    }
-}
-
-fn passed(t: Test) -> bool
-    ensures { result ≡ is_passed t }
-{
-    match t {
-        Test::Refused { number: _ } => false,
-        Test::Passed => true,
-    }
+    infer_tallied(lines, kinds, tally_of(n), j, k).is_ok()
 }
 
 // Whether line i closes by number.
@@ -154,9 +154,7 @@ fn holds_number(lines: &[i32], kinds: &[u8], tally: Tally, i: usize, k: usize) -
     requires i_bound { i < 65536 }
     ensures { CloseHolds k kinds.now lines.now tally.lines.0 (CloseNumber i) result }
 {
-    let l = line(i);
-    let t = test_number(lines, kinds, tally, l, k);
-    passed(t)
+    test_number(lines, kinds, tally, line(i), k).is_ok()
 }
 
 // Whether line i closes by stride g.
@@ -166,9 +164,7 @@ fn holds_stride(lines: &[i32], kinds: &[u8], tally: Tally, i: usize, g: i64, k: 
     requires multiplies { Multiplies (nat_abs g) g }
     ensures { CloseHolds k kinds.now lines.now tally.lines.0 (CloseStride i (nat_abs g)) result }
 {
-    let l = line(i);
-    let t = test_stride(lines, kinds, tally, l, g, k);
-    passed(t)
+    test_stride(lines, kinds, tally, line(i), g, k).is_ok()
 }
 
 // Whether close c of the tally's lines holds. (The strides are literals in the calls, so that the compiler divides by known numbers.)
@@ -197,6 +193,5 @@ pub fn holds(lines: &[i32], kinds: &[u8], n: usize, c: usize, k: usize) -> bool
     requires c_bound { c < close_count n }
     ensures { CloseHolds k kinds.now lines.now n (close_at n c) result }
 {
-    let tally = tally_of(n);
-    holds_tallied(lines, kinds, tally, c, k)
+    holds_tallied(lines, kinds, tally_of(n), c, k)
 }

@@ -1,14 +1,12 @@
 -- The search, one way after the other, over plain values. Assumes nothing.
 use mathlib.Core.Path.{◌≡◌, refl, sym, ◌∙◌, ap, ap₂, subst}
-use mathlib.Core.Bool.{Bool, true, false}
-use mathlib.Core.List.{List, [], ◌∷◌}
+use mathlib.Core.List.{List}
 use Prim.Native.Nat.{ℕ, zero, suc, ◌+◌, ◌-◌, ◌≤◌, ◌<◌}
 use native.Mathlib.Omega.{arith}
-use lib.Dec.{T, eqb}
+use lib.Dec.{T}
 use lib.IntN.{ℤ}
 use lib.ListN.{length, drop, length-drop}
 use lib.Seq.{drop-drop}
-use mir.Facts.{and_yes}
 use Rattle.forms.specs.Forms.{Line}
 use Rattle.calculus.specs.Rules.{◌▷◌, Derive}
 use Rattle.answers.specs.Answers.{accepted}
@@ -23,8 +21,8 @@ use Rattle.lines.specs.Ready.{LinesKept}
 use Rattle.lines.proofs.Keeping.{kept_refl, kept_trans}
 use Rattle.tally.specs.declared.Tally.{Tally}
 use Rattle.rows.specs.Rows.{Derives}
-use Rattle.rows.specs.declared.derive.Derived.{Derived}
-use Rattle.rows.specs.declared.derive.Derived.TheVariants as derived-of
+use Rattle.std.specs.declared.result.Result as code
+use Rattle.answers.specs.declared.refusals.Refusal.{Refusal}
 use Rattle.enumeration_rows.specs.Recognised.{InferenceFound}
 use Rattle.enumeration_rows.specs.Applied.{SearchRoom}
 use Rattle.enumeration_rows.proofs.Inferred.{line_refused, line_made, made-tally, lines-made, roomy-kept}
@@ -37,9 +35,9 @@ use Rattle.enumeration_rows.specs.declared.found.NotAmong.{NotAmong}
 use Rattle.enumeration_rows.specs.Searching.{found_of, NumbersIn, Inferences, with_first, Finds}
 
 -- ---- an inference, and what follows it
-module _ {K d : ℕ} {kinds : List ℕ} {buf : List ℤ} {t : Tally} (roomy : SearchRoom K (suc d) kinds buf t) (j : ℕ) {kinds₁ : List ℕ} {buf₁ : List ℤ} {r : Derived}
+module _ {K d : ℕ} {kinds : List ℕ} {buf : List ℤ} {t : Tally} (roomy : SearchRoom K (suc d) kinds buf t) (j : ℕ) {kinds₁ : List ℕ} {buf₁ : List ℤ} {r : code.Result Tally Refusal}
     (m : Derives K kinds buf t (inference_at t.lines.0 j) kinds₁ buf₁ r) where
-  pub behind-refused : {x : ℕ} → r ≡ derived-of.Refused x → Finds K t.lines.0 (suc d) (first_found (proofs_beginning (suc d) (lines_in K kinds buf t.lines.0) j)) kinds buf kinds₁ buf₁ (Ok None)
+  pub behind-refused : {x : Refusal} → r ≡ Err x → Finds K t.lines.0 (suc d) (first_found (proofs_beginning (suc d) (lines_in K kinds buf t.lines.0) j)) kinds buf kinds₁ buf₁ (Ok None)
   behind-refused e = record {
     kept = m.kept;
     is = sym (inference-refused (lines_in K kinds buf t.lines.0) d j (ap (λ (n : ℕ). new_line (lines_in K kinds buf t.lines.0) (inference_at n j)) (length-lines K kinds buf t.lines.0) ∙ line_refused roomy.first_edition m e));
@@ -47,7 +45,7 @@ module _ {K d : ℕ} {kinds : List ℕ} {buf : List ℤ} {t : Tally} (roomy : Se
     inferences = tt;
   }
 
-  module _ {u : Tally} (e : r ≡ derived-of.Made u) where
+  module _ {u : Tally} (e : r ≡ Ok u) where
     next-count : u.lines.0 ≡ t.lines.0 + 1
     next-count = ap (λ (u : Tally). u.lines.0) (made-tally roomy.first_edition m e)
 
@@ -143,7 +141,7 @@ module _ {K n d : ℕ} {kinds : List ℕ} {buf : List ℤ} {s : List ℕ} (few :
       }
 
 module _ {K d : ℕ} {kinds : List ℕ} {buf : List ℤ} {t : Tally} (roomy : SearchRoom K (suc d) kinds buf t) (s : List ℕ) (j : ℕ) (f : InferenceFound t.lines.0 s (Some j))
-    {kinds₁ : List ℕ} {buf₁ : List ℤ} {r : Derived} (m : Derives K kinds buf t (inference_at t.lines.0 j) kinds₁ buf₁ r) where
+    {kinds₁ : List ℕ} {buf₁ : List ℤ} {r : code.Result Tally Refusal} (m : Derives K kinds buf t (inference_at t.lines.0 j) kinds₁ buf₁ r) where
   l : j < inference_count t.lines.0
   l = f.is.0
 
@@ -153,7 +151,7 @@ module _ {K d : ℕ} {kinds : List ℕ} {buf : List ℤ} {t : Tally} (roomy : Se
   few-given : suc d + length (lines_in K kinds buf t.lines.0) ≤ 6
   few-given = omega (arith, (length-lines K kinds buf t.lines.0), roomy.few)
 
-  pub given-refused : {x : ℕ} → r ≡ derived-of.Refused x → {a : NotAmong} → Finds K t.lines.0 (suc d) (next_found s (proofs_of (suc d) (lines_in K kinds buf t.lines.0))) kinds buf kinds₁ buf₁ (Err a)
+  pub given-refused : {x : Refusal} → r ≡ Err x → {a : NotAmong} → Finds K t.lines.0 (suc d) (next_found s (proofs_of (suc d) (lines_in K kinds buf t.lines.0))) kinds buf kinds₁ buf₁ (Err a)
   given-refused e = record {
     kept = m.kept;
     is = sym (inference-barred s (lines_in K kinds buf t.lines.0) d j few-given (rw (length-lines K kinds buf t.lines.0) l) inference-stands (ap (λ (n : ℕ). new_line (lines_in K kinds buf t.lines.0) (inference_at n j)) (length-lines K kinds buf t.lines.0) ∙ line_refused roomy.first_edition m e));
@@ -161,7 +159,7 @@ module _ {K d : ℕ} {kinds : List ℕ} {buf : List ℤ} {t : Tally} (roomy : Se
     inferences = tt;
   }
 
-  module _ {u : Tally} (e : r ≡ derived-of.Made u) {rest : List ℕ} (cut : rest ≡ drop (length (inference_bytes t.lines.0 j)) s) {kinds₂ : List ℕ} {buf₂ : List ℤ} {found : Result (Option Rows) NotAmong}
+  module _ {u : Tally} (e : r ≡ Ok u) {rest : List ℕ} (cut : rest ≡ drop (length (inference_bytes t.lines.0 j)) s) {kinds₂ : List ℕ} {buf₂ : List ℤ} {found : Result (Option Rows) NotAmong}
       (q : Finds K u.lines.0 d (next_found rest (proofs_of d (lines_in K kinds₁ buf₁ u.lines.0))) kinds₁ buf₁ kinds₂ buf₂ found) (h : d ≤ 1) where
     -- what is found behind the inference, as the definition has it
     inner : found_of t.lines.0 (prepended j found)

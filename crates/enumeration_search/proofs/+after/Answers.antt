@@ -7,7 +7,7 @@ use Rattle.std.specs.Prelude.{Option, Ok}
 use Rattle.std.proofs.lemmas.Result.{err_from_is_err_and}
 use Rattle.enumeration_rows.specs.declared.found.Rows.{Rows}
 use Rattle.enumeration_rows.proofs.Stored.{inference-size}
-use Rattle.enumeration_rows.proofs.Inferred.{roomy-less, roomy-more}
+use Rattle.enumeration_rows.proofs.Inferred.{roomy-more}
 use Rattle.enumeration_search.proofs.Searches.{no-inference, rest-cut, inference-ends, given-refused, given-found, given-barred, given-on, given-roomy, one_less, as-roomy, as-deep, as-deep-after}
 use Rattle.enumeration_search.proofs.+after.Goals as goal
 

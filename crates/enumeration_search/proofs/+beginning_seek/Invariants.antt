@@ -1,5 +1,5 @@
 -- The proof of the cycle {beginning, seek}: the measure is the number of inferences that may still come, twice, and one more where one of them is made. Assumes nothing.
-use Prim.Native.Nat.{◌+◌, ◌-◌, ◌*◌}
+use Prim.Native.Nat.{◌+◌, ◌*◌}
 use Rattle.enumeration_search.proofs.Searches.{InferencesLeft}
 use Rattle.enumeration_search.proofs.+beginning_seek.Given as goal
 

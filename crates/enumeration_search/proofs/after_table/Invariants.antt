@@ -1,5 +1,4 @@
 -- `enumeration_search::after_table` meets its contract. Assumes nothing.
-use Prim.Native.Nat.{◌-◌}
 use lib.ListN.{drop}
 use Rattle.enumeration_search.proofs.Depths.{FollowLeft}
 use Rattle.enumeration_search.proofs.after_table.Given as goal

@@ -1,5 +1,4 @@
 -- `enumeration_search::first_from` meets its contract. Assumes nothing.
-use Prim.Native.Nat.{◌-◌}
 use Rattle.enumeration_search.proofs.Depths.{FirstLeft}
 use Rattle.enumeration_search.proofs.first_from.Given as goal
 
