@@ -3,11 +3,12 @@
 // The file was gone over before, so that nothing is tested again. The definition is conversion/specs/Turning.antt; convert calls it.
 #![tactic(auto)]
 
-ghost use Rattle.std.specs.Prelude.{◌≡◌, ◌⊎◌, true, ◌+◌, ◌*◌, ◌≤◌, length, take, drop};
+ghost use Rattle.std.specs.Prelude.{◌≡◌, true, ◌+◌, ◌*◌, ◌≤◌, length, take, drop};
 ghost use Rattle.std.proofs.lemmas.List.Edits.{sets};
 ghost use Rattle.forms.specs.Forms.{every};
 ghost use Rattle.answers.specs.Answers.{file_a, accepted};
 ghost use Rattle.number_bytes.specs.Numbers.{signed, signeds, signeds_bytes};
+ghost use Rattle.number_bytes.specs.Widths.{bytes_of};
 ghost use Rattle.fields.specs.Fields.{field_bytes};
 ghost use Rattle.fields.specs.Places.{fields_at};
 ghost use Rattle.bundle.specs.Write.{holdable};
@@ -20,7 +21,7 @@ use conversion_survey::Survey;
 use fields::header::{put_head, put_header};
 use forms::coefficient_bytes;
 use number_bytes::numbers::unsigned_at;
-use number_bytes::words::{put_signed, signed_at};
+use number_bytes::words::Width;
 
 // ---- numbers that two bytes hold
 // Whether they hold x. By itself, so that the compiler compares 32 bits and not 64.
@@ -35,7 +36,7 @@ fn long_held(s: &[u8], at: usize) -> bool
     requires { at + 4 ≤ length s.now }
     ensures { result ≡ holdable 2 (signed (take 4 (drop at s.now))) }
 {
-    is_short(signed_at(s, at, 4) as i32)
+    is_short(Width::Four.signed_at(s, at) as i32)
 }
 
 // The same of n numbers from start on. It goes on to the end, so that the compiler tests several at once.
@@ -90,17 +91,18 @@ pub fn first_field_unheld(s: &[u8], at: usize, k: u8, count: usize, to: u8) -> S
 }
 
 // ---- constraints written
-// n numbers of `from` bytes each, written in `width` bytes each.
-fn turn_run(s: &[u8], start: usize, from: usize, n: usize, width: usize, out: &mut [u8], o: usize)
-    requires fact { ((from ≡ 2) ⊎ (from ≡ 4)) × ((width ≡ 2) ⊎ (width ≡ 4)) }
-    requires from_in_bounds { start + n * from ≤ length s.now }
-    requires s_value { every (holdable width) (signeds from n (drop start s.now)) ≡ true }
-    requires width_in_bounds { o + n * width ≤ length out.old }
-    ensures { out.new ≡ sets out.old o (signeds_bytes width (signeds from n (drop start s.now))) }
+// n numbers of one width, written in another.
+fn turn_run(s: &[u8], start: usize, from: Width, n: usize, width: Width, out: &mut [u8], o: usize)
+    requires from_in_bounds { start + n * bytes_of from ≤ length s.now }
+    requires s_value { every (holdable (bytes_of width)) (signeds (bytes_of from) n (drop start s.now)) ≡ true }
+    requires width_in_bounds { o + n * bytes_of width ≤ length out.old }
+    ensures { out.new ≡ sets out.old o (signeds_bytes (bytes_of width) (signeds (bytes_of from) n (drop start s.now))) }
 {
+    let old = from.bytes();
+    let new = width.bytes();
     for i in 0..n {
-        let x = signed_at(s, start + i * from, from);
-        put_signed(out, o + i * width, width, x);
+        let x = from.signed_at(s, start + i * old);
+        width.put_signed(out, o + i * new, x);
     }
 }
 
@@ -121,10 +123,10 @@ fn turn_constraint(s: &[u8], tag: u8, start: usize, k: u8, to: u8, out: &mut [u8
     let n = k as usize + 1;
     put_head(out, o, tag, n * coefficient_bytes(to));
     if to == 1 {
-        turn_run(s, start, 4, n, 2, out, o + 3);
+        turn_run(s, start, Width::Four, n, Width::Two, out, o + 3);
         return;
     }
-    turn_run(s, start, 2, n, 4, out, o + 3);
+    turn_run(s, start, Width::Two, n, Width::Four, out, o + 3);
 }
 
 // The count constraints from at on, one after the other, from o on.

@@ -1,6 +1,5 @@
 -- `conversion_bundle::turn_constraint` meets its contract: in edition 1 numbers of four bytes become such of two, else the other way. Assumes nothing.
-use mathlib.Core.Path.{◌≡◌, refl, sym, ap, ◌∙◌}
-use mathlib.Core.Logic.{inl, inr}
+use mathlib.Core.Path.{◌≡◌, sym, ap, ◌∙◌}
 use Prim.Native.Nat.{ℕ, ◌+◌, ◌*◌, ◌≤◌}
 use native.Mathlib.Omega.{arith}
 use lib.ListN.{length, drop}
@@ -23,7 +22,7 @@ overflow_add-o c = omega (arith, c.requires.k_in_bounds)
 pub turn_run-requires : goal.turn_run-requires
 turn_run-requires c =
     let p = rw (eq-eqb c.args.to 1 c.if-to-eq1.true) at c.requires in
-    record { fact = (inr refl, inl refl); from_in_bounds = p.to_in_bounds; s_value = p.s_value; width_in_bounds = omega (arith, p.k_in_bounds, c.put_head.auto.out) }
+    record { from_in_bounds = p.to_in_bounds; s_value = p.s_value; width_in_bounds = omega (arith, p.k_in_bounds, c.put_head.auto.out) }
 
 pub returns-then-to-eq1 : goal.returns-then-to-eq1
 returns-then-to-eq1 c =
@@ -38,7 +37,7 @@ overflow_add-o-2 c = omega (arith, c.requires.k_in_bounds)
 pub turn_run-requires-2 : goal.turn_run-requires-2
 turn_run-requires-2 c =
     let p = rw (ne_eqb c.args.to 1 c.if-to-eq1.false) at c.requires in
-    record { fact = (inl refl, inr refl); from_in_bounds = p.to_in_bounds; s_value = p.s_value; width_in_bounds = omega (arith, p.k_in_bounds, c.put_head.auto.out) }
+    record { from_in_bounds = p.to_in_bounds; s_value = p.s_value; width_in_bounds = omega (arith, p.k_in_bounds, c.put_head.auto.out) }
 
 pub returns : goal.returns
 returns c =

@@ -8,6 +8,7 @@ use lib.Seq.{sets}
 use mir.Syntax.{w64}
 use mir.ValLaws.{to_z-of_z}
 use Rattle.number_bytes.specs.Numbers.{signed, signeds, signed_bytes, signeds_bytes}
+use Rattle.number_bytes.specs.Widths.{bytes_of}
 use Rattle.number_bytes.proofs.Widths.{part-before}
 use Rattle.conversion_bundle.proofs.Holding.{run-held}
 use Rattle.conversion_bundle.proofs.Putting.{run-next}
@@ -16,40 +17,43 @@ use Rattle.conversion_bundle.proofs.turn_run.Goals as goal
 pub loop-i-init : goal.loop-i-init
 loop-i-init c =
     let a = c.args in
-    let x : a.o + 0 * a.width ≡ a.o = rw (zero-mul a.width) (omega arith) in
+    let x : a.o + 0 * bytes_of a.width ≡ a.o = rw (zero-mul (bytes_of a.width)) (omega arith) in
     let y : a.n - 0 ≡ a.n = omega arith in
-    let z : a.start + 0 * a.from ≡ a.start = rw (zero-mul a.from) (omega arith) in
+    let z : a.start + 0 * bytes_of a.from ≡ a.start = rw (zero-mul (bytes_of a.from)) (omega arith) in
     (rw (x, y, z), rw (y, z) c.requires.s_value, refl)
 
 pub overflow_mul-i : goal.overflow_mul-i
-overflow_mul-i c = record { fits = omega (arith, part-before c.loop-i.i c.args.n c.args.from c.loop-i-test.true, c.requires.from_in_bounds) }
+overflow_mul-i c = record { fits = rw c.bytes-old.ensures (omega (arith, part-before c.loop-i.i c.args.n (bytes_of c.args.from) c.loop-i-test.true, c.requires.from_in_bounds)) }
 
 pub overflow_add-start : goal.overflow_add-start
-overflow_add-start c = record { fits = omega (arith, part-before c.loop-i.i c.args.n c.args.from c.loop-i-test.true, c.requires.from_in_bounds) }
+overflow_add-start c = record { fits = rw c.bytes-old.ensures (omega (arith, part-before c.loop-i.i c.args.n (bytes_of c.args.from) c.loop-i-test.true, c.requires.from_in_bounds)) }
 
 pub signed_at-x-requires : goal.signed_at-x-requires
-signed_at-x-requires c = record { fact = c.requires.fact.0; width_in_bounds = omega (arith, part-before c.loop-i.i c.args.n c.args.from c.loop-i-test.true, c.requires.from_in_bounds) }
+signed_at-x-requires c = rw c.bytes-old.ensures (omega (arith, part-before c.loop-i.i c.args.n (bytes_of c.args.from) c.loop-i-test.true, c.requires.from_in_bounds))
 
 pub overflow_mul-i-in-loop-i : goal.overflow_mul-i-in-loop-i
-overflow_mul-i-in-loop-i c = record { fits = omega (arith, part-before c.loop-i.i c.args.n c.args.width c.loop-i-test.true, c.requires.width_in_bounds) }
+overflow_mul-i-in-loop-i c = record { fits = rw c.bytes-new.ensures (omega (arith, part-before c.loop-i.i c.args.n (bytes_of c.args.width) c.loop-i-test.true, c.requires.width_in_bounds)) }
 
 pub overflow_add-o : goal.overflow_add-o
-overflow_add-o c = record { fits = omega (arith, part-before c.loop-i.i c.args.n c.args.width c.loop-i-test.true, c.requires.width_in_bounds) }
+overflow_add-o c = record { fits = rw c.bytes-new.ensures (omega (arith, part-before c.loop-i.i c.args.n (bytes_of c.args.width) c.loop-i-test.true, c.requires.width_in_bounds)) }
 
 pub put_signed-requires : goal.put_signed-requires
 put_signed-requires c =
     let a = c.args in
-    let e = to_z-of_z w64 c.signed_at-x.result (record { sfits = c.signed_at-x.type_inv }) ∙ c.signed_at-x.ensures.is in
-    record { fact = c.requires.fact.1; width_in_bounds = omega (arith, part-before c.loop-i.i a.n a.width c.loop-i-test.true, c.requires.width_in_bounds, c.loop-i.invariant.2); held = rw e (run-held a.from a.s.now a.start c.loop-i.i a.n c.loop-i-test.true a.width c.loop-i.invariant.1).0 }
+    let e = to_z-of_z w64 c.signed_at-x.result (record { sfits = c.signed_at-x.type_inv }) ∙ (rw c.bytes-old.ensures at c.signed_at-x.ensures.is) in
+    record {
+      at_in_bounds = rw c.bytes-new.ensures (omega (arith, part-before c.loop-i.i a.n (bytes_of a.width) c.loop-i-test.true, c.requires.width_in_bounds, c.loop-i.invariant.2));
+      held = rw e (run-held (bytes_of a.from) a.s.now a.start c.loop-i.i a.n c.loop-i-test.true (bytes_of a.width) c.loop-i.invariant.1).0;
+    }
 
 pub loop-i-preserved : goal.loop-i-preserved
 loop-i-preserved c =
     let a = c.args in
-    let x = signed (take a.from (drop (a.start + c.loop-i.i * a.from) a.s.now)) in
-    let e = to_z-of_z w64 c.signed_at-x.result (record { sfits = c.signed_at-x.type_inv }) ∙ c.signed_at-x.ensures.is in
-    let p : c.put_signed.new.out ≡ sets c.loop-i.out (a.o + c.loop-i.i * a.width) (signed_bytes a.width x) = c.put_signed.ensures ∙ rw e in (
-      rw p (run-next a.from a.width a.s.now a.start c.loop-i.i a.n c.loop-i.out a.o c.loop-i-test.true ∙ c.loop-i.invariant.0),
-      (run-held a.from a.s.now a.start c.loop-i.i a.n c.loop-i-test.true a.width c.loop-i.invariant.1).1,
+    let x = signed (take (bytes_of a.from) (drop (a.start + c.loop-i.i * bytes_of a.from) a.s.now)) in
+    let e = to_z-of_z w64 c.signed_at-x.result (record { sfits = c.signed_at-x.type_inv }) ∙ (rw c.bytes-old.ensures at c.signed_at-x.ensures.is) in
+    let p : c.put_signed.new.out ≡ sets c.loop-i.out (a.o + c.loop-i.i * bytes_of a.width) (signed_bytes (bytes_of a.width) x) = (rw c.bytes-new.ensures at c.put_signed.ensures) ∙ rw e in (
+      rw p (run-next (bytes_of a.from) (bytes_of a.width) a.s.now a.start c.loop-i.i a.n c.loop-i.out a.o c.loop-i-test.true ∙ c.loop-i.invariant.0),
+      (run-held (bytes_of a.from) a.s.now a.start c.loop-i.i a.n c.loop-i-test.true (bytes_of a.width) c.loop-i.invariant.1).1,
       c.put_signed.auto.out ∙ c.loop-i.invariant.2,
     )
 
