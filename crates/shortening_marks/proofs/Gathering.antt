@@ -9,7 +9,7 @@ use lib.Dec.{eqb}
 use lib.ListN.{length, get_or, set, length-set, take, drop}
 use lib.Seq.{get_or-set_same, get_or-set_other, sets}
 use Rattle.forms.specs.Edition.{edition, edition1}
-use Rattle.calculus.specs.Rules.{Combine, Reduce, Scale, Derive, Strengthen, Round, Split, CloseNumber, CloseStride, Entry, row, claim}
+use Rattle.calculus.specs.Rules.{Row, Combine, Reduce, Scale, Derive, Strengthen, Round, Split, CloseNumber, CloseStride, Entry, row, claim}
 use Rattle.fields.specs.Fields.{Field, Fields, ends, cut, ◌▸◌, Item, item, items}
 use Rattle.fields.specs.Places.{fields_at}
 use Rattle.fields.proofs.Places.{Starts}
@@ -21,12 +21,15 @@ use Rattle.bundle.specs.Layout.{Each}
 use Rattle.proof.specs.Layout.{Enters}
 use Rattle.shortening.specs.Needed.{mark_of}
 use Rattle.shortening.specs.Passes.{Backward, cleared, making, branching, closing, top, pop, pushed, backward, report_on, Start, no_start, branch_start}
+use Rattle.shortening_stack.specs.declared.Class.TheVariants.{Claims}
 use Rattle.shortening_stack.specs.declared.Outline.{Outline}
+use Rattle.shortening_stack.specs.declared.stack.Step.{Step}
 use Rattle.shortening_stack.specs.Outline.{outline_of, outline_by, LaidBy}
 use Rattle.shortening_stack.specs.Stack.{stack_of, Alive, SameBelow, Bound, lines_after, opened_after, MovedOn}
 use Rattle.shortening_stack.proofs.Outlines.{outline-is, laid_by}
 use Rattle.shortening_stack.proofs.Stacks.{same_self, same_set}
-use Rattle.shortening_marks.specs.Marks.{Marking, before_in, first_in, second_in, RowOf, making2, row_back, row_in, back_in, Markable, MarkedFrom}
+use Rattle.shortening_marks.specs.declared.GatheredRow.{GatheredRow}
+use Rattle.shortening_marks.specs.Marks.{no_row, row_of, Marking, making2, row_back, row_in, back_in, Markable, MarkedFrom}
 use Rattle.shortening_marks.specs.Gathered.{rows_of, Stating, SameBack, starts_of, Gathered, Gatherable, GathersAll}
 
 -- ---- one row beside the passes
@@ -68,7 +71,7 @@ map-pop [] = refl
 map-pop (s ∷ ss) = refl
 
 -- what follows a row of the class, and then the row
-backward-row : (y : Entry) (es : List Entry) (lines : ℕ) (opened : List Start) (b : Backward) → ¬ ((outline_of y).class ≡ 3)
+backward-row : (y : Entry) (es : List Entry) (lines : ℕ) (opened : List Start) (b : Backward) → ¬ ((outline_of y).class ≡ Claims)
     → SameBack b (backward es (lines_after (outline_of y).class lines opened) (map (λ (s : Start). s.lines) (opened_after (outline_of y).class (outline_of y).come lines 0 opened)))
     → SameBack (row_back (outline_of y).class lines (outline_of y).first (outline_of y).second b) (backward (y ∷ es) lines (map (λ (s : Start). s.lines) opened))
 backward-row (row (Derive (Combine s t α β))) es lines opened b d h = same-making s t lines b _ h
@@ -89,29 +92,25 @@ backward-row (row (CloseStride i g)) es lines opened b d h =
     (subst (λ (xs : List ℕ). SameBack b (backward es (top no_start opened).lines xs)) (map-pop opened) h))
 backward-row (claim t t_A) es lines opened b d h = absurd (d refl)
 
-backward-claim : (y : Entry) (es : List Entry) (lines : ℕ) (opened : List ℕ) → (outline_of y).class ≡ 3 → backward (y ∷ es) lines opened ≡ backward es lines opened
+pub no_claim : (r : Row) → ¬ ((outline_of (row r)).class ≡ Claims)
+no_claim (Derive (Combine s t α β)) h = cc
+no_claim (Derive (Reduce s t α)) h = cc
+no_claim (Derive (Scale t α)) h = cc
+no_claim (Strengthen i) h = cc
+no_claim (Round i g k) h = cc
+no_claim (Split i) h = cc
+no_claim (CloseNumber i) h = cc
+no_claim (CloseStride i g) h = cc
+
+backward-claim : (y : Entry) (es : List Entry) (lines : ℕ) (opened : List ℕ) → (outline_of y).class ≡ Claims → backward (y ∷ es) lines opened ≡ backward es lines opened
 backward-claim (claim t t_A) es lines opened h = refl
-backward-claim (row (Derive (Combine s t α β))) es lines opened h = absurd (omega (arith, h))
-backward-claim (row (Derive (Reduce s t α))) es lines opened h = absurd (omega (arith, h))
-backward-claim (row (Derive (Scale t α))) es lines opened h = absurd (omega (arith, h))
-backward-claim (row (Strengthen i)) es lines opened h = absurd (omega (arith, h))
-backward-claim (row (Round i g k)) es lines opened h = absurd (omega (arith, h))
-backward-claim (row (Split i)) es lines opened h = absurd (omega (arith, h))
-backward-claim (row (CloseNumber i)) es lines opened h = absurd (omega (arith, h))
-backward-claim (row (CloseStride i g)) es lines opened h = absurd (omega (arith, h))
+backward-claim (row r) es lines opened h = absurd (no_claim r h)
 
-pub rows-claim : (y : Entry) (es : List Entry) → (outline_of y).class ≡ 3 → rows_of (y ∷ es) ≡ rows_of es
+pub rows-claim : (y : Entry) (es : List Entry) → (outline_of y).class ≡ Claims → rows_of (y ∷ es) ≡ rows_of es
 rows-claim (claim t t_A) es h = refl
-rows-claim (row (Derive (Combine s t α β))) es h = absurd (omega (arith, h))
-rows-claim (row (Derive (Reduce s t α))) es h = absurd (omega (arith, h))
-rows-claim (row (Derive (Scale t α))) es h = absurd (omega (arith, h))
-rows-claim (row (Strengthen i)) es h = absurd (omega (arith, h))
-rows-claim (row (Round i g k)) es h = absurd (omega (arith, h))
-rows-claim (row (Split i)) es h = absurd (omega (arith, h))
-rows-claim (row (CloseNumber i)) es h = absurd (omega (arith, h))
-rows-claim (row (CloseStride i g)) es h = absurd (omega (arith, h))
+rows-claim (row r) es h = absurd (no_claim r h)
 
-pub rows_row : (y : Entry) (es : List Entry) → ¬ ((outline_of y).class ≡ 3) → rows_of (y ∷ es) ≡ suc (rows_of es)
+pub rows_row : (y : Entry) (es : List Entry) → ¬ ((outline_of y).class ≡ Claims) → rows_of (y ∷ es) ≡ suc (rows_of es)
 rows_row (row r) es h = refl
 rows_row (claim t t_A) es h = absurd (h refl)
 
@@ -151,7 +150,7 @@ one-stating e K fs es es' s s' =
     sym (entries-of (edition e) K s.each) ∙ ap (map (definition.stated_entry (edition e) K)) (one_list s.are s'.are) ∙ entries-of (edition e) K s'.each
 
 -- ---- the invariant
-pub record Gathering (p : List ℕ) (at e K n : ℕ) (gathered₀ steps₀ gathered steps : List ℕ) (here lines depth rows : ℕ) : Type 0 where
+pub record Gathering (p : List ℕ) (at e K n : ℕ) (gathered₀ : List GatheredRow) (steps₀ : List Step) (gathered : List GatheredRow) (steps : List Step) (here lines depth rows : ℕ) : Type 0 where
   pub able : Gatherable e K (fields_at p at) n gathered₀ steps₀
   pub es : List Entry
   pub stating : Stating e K (fields_at p here) es
@@ -160,12 +159,12 @@ pub record Gathering (p : List ℕ) (at e K n : ℕ) (gathered₀ steps₀ gathe
   pub depth-most : depth ≤ rows
   pub lines-most : lines ≤ n + rows
   pub bounded : Bound steps depth (n + rows)
-  pub below : (r : ℕ) → r < rows → before_in (get_or gathered r 0) ≤ n + r
+  pub below : (r : ℕ) → r < rows → (get_or gathered r no_row).lines ≤ n + r
   pub gathered-length : length gathered ≡ length gathered₀
   pub steps_length : length steps ≡ length steps₀
-  pub rest : (ws : List ℕ) (left : ℕ) → SameBelow rows ws gathered → SameBack (back_in ws left rows) (backward es lines (starts_of steps depth)) → SameBack (back_in ws (rows + left) 0) (backward able.es n [])
+  pub rest : (ws : List GatheredRow) (left : ℕ) → SameBelow no_row rows ws gathered → SameBack (back_in ws left rows) (backward es lines (starts_of steps depth)) → SameBack (back_in ws (rows + left) 0) (backward able.es n [])
 
-pub gathering-start : {p : List ℕ} {at e K n : ℕ} {gathered steps : List ℕ} → Gatherable e K (fields_at p at) n gathered steps → Gathering p at e K n gathered steps gathered steps at n 0 0
+pub gathering-start : {p : List ℕ} {at e K n : ℕ} {gathered : List GatheredRow} {steps : List Step} → Gatherable e K (fields_at p at) n gathered steps → Gathering p at e K n gathered steps gathered steps at n 0 0
 gathering-start {n = n} a = record {
   able = a;
   es = a.es;
@@ -181,28 +180,28 @@ gathering-start {n = n} a = record {
   rest = λ ws left s h. subst (λ (m : ℕ). SameBack (back_in ws m 0) (backward a.es n [])) (let z : left ≡ 0 + left = omega arith in z) h;
 }
 
-same-before : (d : ℕ) (xs ys : List ℕ) (x : ℕ) → SameBelow (d + 1) xs (set ys d x) → SameBelow d xs ys
-same-before d xs ys x s = record { same = λ i h. s.same i (omega (arith, h)) ∙ (same_set d ys x).same i h }
+same-before : (d : ℕ) (xs ys : List GatheredRow) (x : GatheredRow) → SameBelow no_row (d + 1) xs (set ys d x) → SameBelow no_row d xs ys
+same-before d xs ys x s = record { same = λ i h. s.same i (omega (arith, h)) ∙ (same_set no_row d ys x).same i h }
 
-at_last : (d : ℕ) (xs ys : List ℕ) (x : ℕ) → d < length ys → SameBelow (d + 1) xs (set ys d x) → get_or xs d 0 ≡ x
-at_last d xs ys x h s = s.same d (omega arith) ∙ get_or-set_same ys d x 0 h
+at_last : (d : ℕ) (xs ys : List GatheredRow) (x : GatheredRow) → d < length ys → SameBelow no_row (d + 1) xs (set ys d x) → get_or xs d no_row ≡ x
+at_last d xs ys x h s = s.same d (omega arith) ∙ get_or-set_same ys d x no_row h
 
-below_set : (gathered : List ℕ) (rows word n : ℕ) → rows < length gathered → before_in word ≤ n + rows → ((r : ℕ) → r < rows → before_in (get_or gathered r 0) ≤ n + r) → (r : ℕ) → r < rows + 1 → before_in (get_or (set gathered rows word) r 0) ≤ n + r
+below_set : (gathered : List GatheredRow) (rows : ℕ) (word : GatheredRow) (n : ℕ) → rows < length gathered → word.lines ≤ n + rows → ((r : ℕ) → r < rows → (get_or gathered r no_row).lines ≤ n + r) → (r : ℕ) → r < rows + 1 → (get_or (set gathered rows word) r no_row).lines ≤ n + r
 below_set gathered rows word n h l k r m = by (eqb r rows) refl
   where
-    by : (b : Bool) → eqb r rows ≡ b → before_in (get_or (set gathered rows word) r 0) ≤ n + r
+    by : (b : Bool) → eqb r rows ≡ b → (get_or (set gathered rows word) r no_row).lines ≤ n + r
     by true e =
         let q : r ≡ rows = eqb-true r rows e in
-        subst (λ (i : ℕ). before_in (get_or (set gathered rows word) i 0) ≤ n + i) (sym q) (subst (λ (x : ℕ). before_in x ≤ n + rows) (sym (get_or-set_same gathered rows word 0 h)) l)
+        subst (λ (i : ℕ). (get_or (set gathered rows word) i no_row).lines ≤ n + i) (sym q) (subst (λ (x : GatheredRow). x.lines ≤ n + rows) (sym (get_or-set_same gathered rows word no_row h)) l)
     by false e =
         let other : ¬ (r ≡ rows) = eqb-false r rows e in
         let less : r < rows = omega (arith, m, other) in
-        subst (λ (x : ℕ). before_in x ≤ n + r) (sym (get_or-set_other gathered rows r word 0 other)) (k r less)
+        subst (λ (x : GatheredRow). x.lines ≤ n + r) (sym (get_or-set_other gathered rows r word no_row other)) (k r less)
 
-pub bound-more : (steps : List ℕ) (d b b' : ℕ) → b ≤ b' → Bound steps d b → Bound steps d b'
+pub bound-more : (steps : List Step) (d b b' : ℕ) → b ≤ b' → Bound steps d b → Bound steps d b'
 bound-more steps d b b' h a = record { bound = λ i l. omega (arith, h, a.bound i l) }
 
-module _ {p : List ℕ} {at e K n : ℕ} {gathered₀ steps₀ gathered steps : List ℕ} {here lines depth rows : ℕ} (v : Gathering p at e K n gathered₀ steps₀ gathered steps here lines depth rows) where
+module _ {p : List ℕ} {at e K n : ℕ} {gathered₀ : List GatheredRow} {steps₀ : List Step} {gathered : List GatheredRow} {steps : List Step} {here lines depth rows : ℕ} (v : Gathering p at e K n gathered₀ steps₀ gathered steps here lines depth rows) where
   -- bytes that are no whole field state nothing
   pub gathering-cut : {a : ℕ} → fields_at p here ≡ cut a → ⊥
   gathering-cut {a} q =
@@ -213,7 +212,7 @@ module _ {p : List ℕ} {at e K n : ℕ} {gathered₀ steps₀ gathered steps : 
   gathering-done {a} q =
       let none : v.es ≡ [] = nothing_left e K a v.es (subst (λ (fs : Fields). Stating e K fs v.es) q v.stating) in
       let nil : SameBack (back_in gathered 0 rows) (backward v.es lines (starts_of steps depth)) = subst (λ (es : List Entry). SameBack (back_in gathered 0 rows) (backward es lines (starts_of steps depth))) (sym none) (record { marks = λ j. refl; reported = refl }) in
-      let back : SameBack (back_in gathered (rows + 0) 0) (backward v.able.es n []) = v.rest gathered 0 (same_self rows gathered) nil in
+      let back : SameBack (back_in gathered (rows + 0) 0) (backward v.able.es n []) = v.rest gathered 0 (same_self no_row rows gathered) nil in
       let zero_more : rows + 0 ≡ rows = omega arith in
       let none_left : rows_of v.es ≡ 0 = ap rows_of none in
       record {
@@ -241,9 +240,9 @@ module _ {p : List ℕ} {at e K n : ℕ} {gathered₀ steps₀ gathered steps : 
       is-outline = q ∙ outline-is e K p tag start len head.y inside head.enters
 
       -- a claim is passed over
-      pub gathering-claim : x.class ≡ 3 → Gathering p at e K n gathered₀ steps₀ gathered steps next lines depth rows
+      pub gathering-claim : x.class ≡ Claims → Gathering p at e K n gathered₀ steps₀ gathered steps next lines depth rows
       gathering-claim d =
-          let c : (outline_of head.y).class ≡ 3 = sym (ap (λ (s : Outline). s.class) is-outline) ∙ d in
+          let c : (outline_of head.y).class ≡ Claims = sym (ap (λ (s : Outline). s.class) is-outline) ∙ d in
           record {
             able = v.able;
             es = head.others;
@@ -260,8 +259,8 @@ module _ {p : List ℕ} {at e K n : ℕ} {gathered₀ steps₀ gathered steps : 
                 (subst (λ (m : Backward). SameBack (back_in ws left rows) m) (sym (ap (λ (es : List Entry). backward es lines (starts_of steps depth)) head.are ∙ backward-claim head.y head.others lines (starts_of steps depth) c)) b);
           }
 
-      module _ (d : ¬ (x.class ≡ 3)) where
-        no-claim : ¬ ((outline_of head.y).class ≡ 3)
+      module _ (d : ¬ (x.class ≡ Claims)) where
+        no-claim : ¬ ((outline_of head.y).class ≡ Claims)
         no-claim c = d (ap (λ (s : Outline). s.class) is-outline ∙ c)
 
         one_more : rows + suc (rows_of head.others) ≡ rows_of v.able.es
@@ -280,9 +279,9 @@ module _ {p : List ℕ} {at e K n : ℕ} {gathered₀ steps₀ gathered steps : 
         pub rows_fit : rows + 1 < 0x10000
         rows_fit = omega (arith, one_more, v.able.few)
 
-        module _ {word : ℕ} {steps' : List ℕ} {lines' kept' depth' : ℕ} (u : RowOf x lines word) (w : MovedOn x.class x.come lines 0 depth steps steps' lines' kept' depth') where
+        module _ {steps' : List Step} {lines' kept' depth' : ℕ} (w : MovedOn x.class x.come lines 0 depth steps steps' lines' kept' depth') where
           -- what follows the row, and then the row
-          row_back_lem : (ws : List ℕ) (left : ℕ) → SameBelow (rows + 1) ws (set gathered rows word)
+          row_back_lem : (ws : List GatheredRow) (left : ℕ) → SameBelow no_row (rows + 1) ws (set gathered rows (row_of x lines))
               → SameBack (back_in ws left (rows + 1)) (backward head.others lines' (starts_of steps' depth')) → SameBack (back_in ws (suc left) rows) (backward v.es lines (starts_of steps depth))
           row_back_lem ws left s b =
               let y = head.y in
@@ -298,12 +297,9 @@ module _ {p : List ℕ} {at e K n : ℕ} {gathered₀ steps₀ gathered steps : 
               let b4 : SameBack (row_back x.class lines x.first x.second B) (backward v.es lines (map (λ (s : Start). s.lines) opened)) =
               subst (λ (es : List Entry). SameBack (row_back x.class lines x.first x.second B) (backward es lines (map (λ (s : Start). s.lines) opened))) (sym head.are)
               (subst (λ (z : Outline). SameBack (row_back z.class lines z.first z.second B) (backward (y ∷ head.others) lines (map (λ (s : Start). s.lines) opened))) (sym is-outline) b3) in
-              let b5 : row_back x.class lines x.first x.second B ≡ row_in word B =
-              sym (ap₂ (λ (c n : ℕ). row_back c n (first_in word) (second_in word) B) u.class u.before ∙ ap₂ (λ (i j : ℕ). row_back x.class lines i j B) u.first u.second) in
-              subst (λ (m : ℕ). SameBack (row_in m B) (backward v.es lines (starts_of steps depth))) (sym (at_last rows ws gathered word rows-room s))
-              (subst (λ (c : Backward). SameBack c (backward v.es lines (starts_of steps depth))) b5 b4)
+              subst (λ (m : GatheredRow). SameBack (row_in m B) (backward v.es lines (starts_of steps depth))) (sym (at_last rows ws gathered (row_of x lines) rows-room s)) b4
 
-          pub gathering-row : Gathering p at e K n gathered₀ steps₀ (set gathered rows word) steps' next lines' depth' (rows + 1)
+          pub gathering-row : Gathering p at e K n gathered₀ steps₀ (set gathered rows (row_of x lines)) steps' next lines' depth' (rows + 1)
           gathering-row =
               let grown = w.bounded (n + (rows + 1)) (omega (arith, v.lines-most)) (bound-more steps depth (n + rows) (n + (rows + 1)) (omega arith) v.bounded) in
               record {
@@ -315,17 +311,17 @@ module _ {p : List ℕ} {at e K n : ℕ} {gathered₀ steps₀ gathered steps : 
                 depth-most = omega (arith, w.most, v.depth-most);
                 lines-most = grown.1;
                 bounded = grown.0;
-                below = below_set gathered rows word n rows-room (omega (arith, u.before, v.lines-most)) v.below;
-                gathered-length = length-set gathered rows word ∙ v.gathered-length;
+                below = below_set gathered rows (row_of x lines) n rows-room (omega (arith, v.lines-most)) v.below;
+                gathered-length = length-set gathered rows (row_of x lines) ∙ v.gathered-length;
                 steps_length = w.steps_length ∙ v.steps_length;
                 rest = λ ws left s b.
                     subst (λ (m : ℕ). SameBack (back_in ws m 0) (backward v.able.es n [])) (let z : rows + suc left ≡ rows + 1 + left = omega arith in z)
-                    (v.rest ws (suc left) (same-before rows ws gathered word s) (row_back_lem ws left s b));
+                    (v.rest ws (suc left) (same-before rows ws gathered (row_of x lines) s) (row_back_lem ws left s b));
               }
 
 -- ---- the report
 -- What gathering and marking leave is the report on the entries; behind it the array stays.
-pub report_left : {es : List Entry} {n : ℕ} {gathered : List ℕ} {rows : ℕ} {marks₀ report₀ marks report : List ℕ} → Gathered es n gathered rows
+pub report_left : {es : List Entry} {n : ℕ} {gathered : List GatheredRow} {rows : ℕ} {marks₀ report₀ marks report : List ℕ} → Gathered es n gathered rows
     → MarkedFrom gathered rows 0 marks₀ report₀ marks report → report ≡ sets report₀ 0 (report_on n es)
 report_left {es} {n} {gathered} {rows} {report₀ = report₀} g m =
     m.reported ∙ ap (sets report₀ 0)
@@ -345,10 +341,10 @@ backward-length (row (CloseStride i _) ∷ es) n opened = ap suc (backward-lengt
 pub report-length : (n : ℕ) (es : List Entry) → length (report_on n es) ≡ rows_of es
 report-length n es = backward-length es n []
 
-pub report-rows : {es : List Entry} {n : ℕ} {gathered : List ℕ} {rows : ℕ} → Gathered es n gathered rows → length (report_on n es) ≡ rows
+pub report-rows : {es : List Entry} {n : ℕ} {gathered : List GatheredRow} {rows : ℕ} → Gathered es n gathered rows → length (report_on n es) ≡ rows
 report-rows {es} {n} g = report-length n es ∙ sym g.rows_are
 
 -- Where gathering was able, marking is.
-pub markable : {es : List Entry} {n : ℕ} {gathered : List ℕ} {rows : ℕ} (marks report : List ℕ) → Gathered es n gathered rows → rows ≤ length gathered → rows ≤ length report → n + rows < length marks
+pub markable : {es : List Entry} {n : ℕ} {gathered : List GatheredRow} {rows : ℕ} (marks report : List ℕ) → Gathered es n gathered rows → rows ≤ length gathered → rows ≤ length report → n + rows < length marks
     → Marking marks (λ j. false) → Markable gathered rows marks report
 markable marks report g a e f clear = record { gathered_room = a; report-room = e; below = λ r h. omega (arith, g.below r h, h, f); none = clear }

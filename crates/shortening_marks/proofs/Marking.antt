@@ -2,7 +2,7 @@
 use mathlib.Core.Path.{◌≡◌, refl, sym, ◌∙◌, ap, ap₂, subst}
 use mathlib.Core.Bool.{Bool, true, false, not, ◌&&◌, ◌||◌}
 use mathlib.Core.List.{List, [], ◌∷◌}
-use Prim.Native.Nat.{ℕ, zero, suc, ◌+◌, ◌*◌, ◌-◌, ◌/◌, ◌%◌, ◌<◌}
+use Prim.Native.Nat.{ℕ, zero, suc, ◌+◌, ◌-◌, ◌<◌}
 use native.Mathlib.Omega.{arith}
 use lib.Dec.{eqb}
 use lib.ListN.{length, get_or, set, length-set}
@@ -10,8 +10,10 @@ use lib.Seq.{get_or-set_same, get_or-set_other, set_comm, sets}
 use borrow.Author.Tests.{eqb-true, eqb-false}
 use Rattle.shortening.specs.Needed.{mark_of}
 use Rattle.shortening.specs.Passes.{Backward, cleared}
-use Rattle.shortening_stack.specs.declared.Outline.{Outline}
-use Rattle.shortening_marks.specs.Marks.{Marking, made_marks, row_marks, row_said, before_in, first_in, second_in, class_in, RowOf, MarkedRow, making2, row_back, row_in, back_in, Markable, MarkedFrom}
+use Rattle.shortening_stack.specs.declared.Class.{Class}
+use Rattle.shortening_stack.specs.declared.Class.TheVariants.{Makes, Branches, Closes, Claims}
+use Rattle.shortening_marks.specs.declared.GatheredRow.{GatheredRow}
+use Rattle.shortening_marks.specs.Marks.{no_row, Marking, made_marks, row_marks, row_said, MarkedRow, making2, row_back, row_in, back_in, Markable, MarkedFrom}
 
 -- a mark is set, or cleared
 marking-set : (marks : List ℕ) (m : ℕ → Bool) (i : ℕ) → Marking marks m → Marking (set marks i 1) (λ j. eqb j i || m j)
@@ -54,15 +56,17 @@ marking-made marks m n s t h false =
     marking-as (set marks n 0) (cleared n m) (λ j. ((eqb j s || eqb j t) && false) || cleared n m j) (λ j. made-false (eqb j s || eqb j t) (cleared n m j)) (marking-clear marks m n h)
 
 -- a row of any class
-marking-row : (marks : List ℕ) (b : Backward) (class n s t : ℕ) → n < length marks → Marking marks b.marks → Marking (row_marks class marks n s t) (row_back class n s t b).marks
-marking-row marks b zero n s t l h = subst (λ (own : ℕ). Marking (made_marks own marks n s t) (making2 s t n b).marks) (sym (h.at n l)) (marking-made marks b.marks n s t h (b.marks n))
-marking-row marks b (suc zero) n s t l h = marking-set (set marks n 0) (cleared n b.marks) s (marking-clear marks b.marks n h)
-marking-row marks b (suc (suc c)) n s t l h = marking-set marks b.marks s h
+marking-row : (marks : List ℕ) (b : Backward) (class : Class) (n s t : ℕ) → n < length marks → Marking marks b.marks → Marking (row_marks class marks n s t) (row_back class n s t b).marks
+marking-row marks b Makes n s t l h = subst (λ (own : ℕ). Marking (made_marks own marks n s t) (making2 s t n b).marks) (sym (h.at n l)) (marking-made marks b.marks n s t h (b.marks n))
+marking-row marks b Branches n s t l h = marking-set (set marks n 0) (cleared n b.marks) s (marking-clear marks b.marks n h)
+marking-row marks b Closes n s t l h = marking-set marks b.marks s h
+marking-row marks b Claims n s t l h = marking-set marks b.marks s h
 
-reported-row : (marks : List ℕ) (b : Backward) (class n s t : ℕ) → n < length marks → Marking marks b.marks → (row_back class n s t b).reported ≡ row_said class marks n ∷ b.reported
-reported-row marks b zero n s t l h = ap (λ (x : ℕ). x ∷ b.reported) (sym (h.at n l))
-reported-row marks b (suc zero) n s t l h = refl
-reported-row marks b (suc (suc c)) n s t l h = refl
+reported-row : (marks : List ℕ) (b : Backward) (class : Class) (n s t : ℕ) → n < length marks → Marking marks b.marks → (row_back class n s t b).reported ≡ row_said class marks n ∷ b.reported
+reported-row marks b Makes n s t l h = ap (λ (x : ℕ). x ∷ b.reported) (sym (h.at n l))
+reported-row marks b Branches n s t l h = refl
+reported-row marks b Closes n s t l h = refl
+reported-row marks b Claims n s t l h = refl
 
 -- a store before a run
 sets-before : (vs l : List ℕ) (i j a : ℕ) → j < i → set (sets l i vs) j a ≡ sets (set l j a) i vs
@@ -70,45 +74,46 @@ sets-before [] l i j a h = refl
 sets-before (v ∷ vs) l i j a h =
     sets-before vs (set l i v) (suc i) j a (omega (arith, h)) ∙ ap (λ (m : List ℕ). sets m (suc i) vs) (set_comm l i j v a (λ e. absurd (let z : ⊥ = omega (arith, h, e) in z)))
 
-length-row : (class : ℕ) (marks : List ℕ) (n s t : ℕ) → length (row_marks class marks n s t) ≡ length marks
-length-row zero marks n s t = by (get_or marks n 0)
+length-row : (class : Class) (marks : List ℕ) (n s t : ℕ) → length (row_marks class marks n s t) ≡ length marks
+length-row Makes marks n s t = by (get_or marks n 0)
   where
     by : (own : ℕ) → length (made_marks own marks n s t) ≡ length marks
     by zero = length-set marks n 0
     by (suc own) = length-set (set (set marks n 0) s 1) t 1 ∙ length-set (set marks n 0) s 1 ∙ length-set marks n 0
-length-row (suc zero) marks n s t = length-set (set marks n 0) s 1 ∙ length-set marks n 0
-length-row (suc (suc c)) marks n s t = length-set marks s 1
+length-row Branches marks n s t = length-set (set marks n 0) s 1 ∙ length-set marks n 0
+length-row Closes marks n s t = length-set marks s 1
+length-row Claims marks n s t = length-set marks s 1
 
 -- ---- the loop
-module _ {gathered : List ℕ} {rows : ℕ} {marks₀ report₀ : List ℕ} (able : Markable gathered rows marks₀ report₀) where
+module _ {gathered : List GatheredRow} {rows : ℕ} {marks₀ report₀ : List ℕ} (able : Markable gathered rows marks₀ report₀) where
   pub marked_start : MarkedFrom gathered rows rows marks₀ report₀ marks₀ report₀
   marked_start = record { left = 0; left_is = omega arith; marking = able.none; reported = refl; marks_length = refl }
 
   pub marked-less : {r : ℕ} {marks report : List ℕ} → MarkedFrom gathered rows r marks₀ report₀ marks report → 0 < r → r - 1 < rows
   marked-less v h = omega (arith, h, v.left_is)
 
-  pub marked-below : {r : ℕ} {marks report : List ℕ} → MarkedFrom gathered rows r marks₀ report₀ marks report → 0 < r → before_in (get_or gathered (r - 1) 0) < length marks
-  marked-below {r} v h = subst (λ (n : ℕ). before_in (get_or gathered (r - 1) 0) < n) (sym v.marks_length) (able.below (r - 1) (marked-less v h))
+  pub marked-below : {r : ℕ} {marks report : List ℕ} → MarkedFrom gathered rows r marks₀ report₀ marks report → 0 < r → (get_or gathered (r - 1) no_row).lines < length marks
+  marked-below {r} v h = subst (λ (n : ℕ). (get_or gathered (r - 1) no_row).lines < n) (sym v.marks_length) (able.below (r - 1) (marked-less v h))
 
   marked_by : (r i : ℕ) {marks report marks' : List ℕ} {reported : ℕ} → suc i ≡ r → (v : MarkedFrom gathered rows r marks₀ report₀ marks report)
-      → MarkedRow marks (get_or gathered i 0) marks' reported → MarkedFrom gathered rows i marks₀ report₀ marks' (set report i reported)
+      → MarkedRow marks (get_or gathered i no_row) marks' reported → MarkedFrom gathered rows i marks₀ report₀ marks' (set report i reported)
   marked_by r i {marks} {report} {marks'} {reported} e v k =
-      let w = get_or gathered i 0 in
+      let w = get_or gathered i no_row in
       let b = back_in gathered v.left (suc i) in
       let vm : Marking marks b.marks = subst (λ (x : ℕ). Marking marks (back_in gathered v.left x).marks) (sym e) v.marking in
-      let l : before_in w < length marks = subst (λ (n : ℕ). before_in w < n) (sym v.marks_length) (able.below i (omega (arith, e, v.left_is))) in
+      let l : w.lines < length marks = subst (λ (n : ℕ). w.lines < n) (sym v.marks_length) (able.below i (omega (arith, e, v.left_is))) in
       let rep : report ≡ sets report₀ (suc i) b.reported = subst (λ (x : ℕ). report ≡ sets report₀ x (back_in gathered v.left x).reported) (sym e) v.reported in
       record {
         left = suc v.left;
         left_is = omega (arith, e, v.left_is);
-        marking = subst (λ (xs : List ℕ). Marking xs (row_in w b).marks) (sym k.marks_are) (marking-row marks b (class_in w) (before_in w) (first_in w) (second_in w) l vm);
-        reported = ap₂ (λ (xs : List ℕ) (x : ℕ). set xs i x) rep k.reported_is ∙ sets-before b.reported report₀ (suc i) i (row_said (class_in w) marks (before_in w)) (omega arith)
-            ∙ ap (λ (ns : List ℕ). sets report₀ i ns) (sym (reported-row marks b (class_in w) (before_in w) (first_in w) (second_in w) l vm));
-        marks_length = ap length k.marks_are ∙ length-row (class_in w) marks (before_in w) (first_in w) (second_in w) ∙ v.marks_length;
+        marking = subst (λ (xs : List ℕ). Marking xs (row_in w b).marks) (sym k.marks_are) (marking-row marks b w.class w.lines w.first w.second l vm);
+        reported = ap₂ (λ (xs : List ℕ) (x : ℕ). set xs i x) rep k.reported_is ∙ sets-before b.reported report₀ (suc i) i (row_said w.class marks w.lines) (omega arith)
+            ∙ ap (λ (ns : List ℕ). sets report₀ i ns) (sym (reported-row marks b w.class w.lines w.first w.second l vm));
+        marks_length = ap length k.marks_are ∙ length-row w.class marks w.lines w.first w.second ∙ v.marks_length;
       }
 
   pub marked_next : {r : ℕ} {marks report marks' : List ℕ} {reported : ℕ} → (v : MarkedFrom gathered rows r marks₀ report₀ marks report) → 0 < r
-      → MarkedRow marks (get_or gathered (r - 1) 0) marks' reported → MarkedFrom gathered rows (r - 1) marks₀ report₀ marks' (set report (r - 1) reported)
+      → MarkedRow marks (get_or gathered (r - 1) no_row) marks' reported → MarkedFrom gathered rows (r - 1) marks₀ report₀ marks' (set report (r - 1) reported)
   marked_next {r} v h k = marked_by r (r - 1) (omega (arith, h)) v k
 
 -- ---- one row, by its tests
@@ -119,44 +124,35 @@ pub made_some : (own : ℕ) (marks : List ℕ) (n s t : ℕ) → ¬ (own ≡ 0) 
 made_some zero marks n s t h = absurd (h refl)
 made_some (suc own) marks n s t h = refl
 
-module _ (marks marks' : List ℕ) (row : ℕ) where
-  pub row_makes : {r : ℕ} → class_in row ≡ 0 → r ≡ get_or marks (before_in row) 0 → marks' ≡ made_marks (get_or marks (before_in row) 0) marks (before_in row) (first_in row) (second_in row) → MarkedRow marks row marks' r
+module _ (marks marks' : List ℕ) (row : GatheredRow) where
+  pub row_makes : {r : ℕ} → row.class ≡ Makes → r ≡ get_or marks row.lines 0 → marks' ≡ made_marks (get_or marks row.lines 0) marks row.lines row.first row.second → MarkedRow marks row marks' r
   row_makes e h k = record {
-    marks_are = k ∙ ap (λ (c : ℕ). row_marks c marks (before_in row) (first_in row) (second_in row)) (sym e);
-    reported_is = h ∙ ap (λ (c : ℕ). row_said c marks (before_in row)) (sym e);
+    marks_are = k ∙ ap (λ (c : Class). row_marks c marks row.lines row.first row.second) (sym e);
+    reported_is = h ∙ ap (λ (c : Class). row_said c marks row.lines) (sym e);
   }
 
-  pub row-branches : class_in row ≡ 1 → marks' ≡ set (set marks (before_in row) 0) (first_in row) 1 → MarkedRow marks row marks' 2
+  pub row-branches : row.class ≡ Branches → marks' ≡ set (set marks row.lines 0) row.first 1 → MarkedRow marks row marks' 2
   row-branches e k = record {
-    marks_are = k ∙ ap (λ (c : ℕ). row_marks c marks (before_in row) (first_in row) (second_in row)) (sym e);
-    reported_is = ap (λ (c : ℕ). row_said c marks (before_in row)) (sym e);
+    marks_are = k ∙ ap (λ (c : Class). row_marks c marks row.lines row.first row.second) (sym e);
+    reported_is = ap (λ (c : Class). row_said c marks row.lines) (sym e);
   }
 
-  pub row_closes : ¬ (class_in row ≡ 0) → ¬ (class_in row ≡ 1) → marks' ≡ set marks (first_in row) 1 → MarkedRow marks row marks' 2
-  row_closes e f k = by (class_in row) refl
+  pub row_closes : ¬ (row.class ≡ Makes) → ¬ (row.class ≡ Branches) → marks' ≡ set marks row.first 1 → MarkedRow marks row marks' 2
+  row_closes e f k = by row.class refl
     where
-      by : (c : ℕ) → class_in row ≡ c → MarkedRow marks row marks' 2
-      by zero q = absurd (e q)
-      by (suc zero) q = absurd (f q)
-      by (suc (suc c)) q = record {
-        marks_are = k ∙ ap (λ (c : ℕ). row_marks c marks (before_in row) (first_in row) (second_in row)) (sym q);
-        reported_is = ap (λ (c : ℕ). row_said c marks (before_in row)) (sym q);
+      by : (c : Class) → row.class ≡ c → MarkedRow marks row marks' 2
+      by Makes q = absurd (e q)
+      by Branches q = absurd (f q)
+      by Closes q = record {
+        marks_are = k ∙ ap (λ (c : Class). row_marks c marks row.lines row.first row.second) (sym q);
+        reported_is = ap (λ (c : Class). row_said c marks row.lines) (sym q);
+      }
+      by Claims q = record {
+        marks_are = k ∙ ap (λ (c : Class). row_marks c marks row.lines row.first row.second) (sym q);
+        reported_is = ap (λ (c : Class). row_said c marks row.lines) (sym q);
       }
 
--- ---- a row as one number
-pub row_of : (x : Outline) (lines : ℕ) → lines < 0x1_0000 → x.first < 0x1_0000 → x.second < 0x1_0000
-    → RowOf x lines (lines + x.first * 0x1_0000 + x.second * 0x1_0000_0000 + x.class * 0x1_0000_0000_0000)
-row_of x lines l f s =
-    let w = lines + x.first * 0x1_0000 + x.second * 0x1_0000_0000 + x.class * 0x1_0000_0000_0000 in
-    let above : w / 0x1_0000 ≡ x.first + x.second * 0x1_0000 + x.class * 0x1_0000_0000 = omega (arith, l) in
-    let over : w / 0x1_0000_0000 ≡ x.second + x.class * 0x1_0000 = omega (arith, l, f) in
-    record {
-      before = omega (arith, l);
-      first = ap (λ (n : ℕ). n % 0x1_0000) above ∙ (let z : (x.first + x.second * 0x1_0000 + x.class * 0x1_0000_0000) % 0x1_0000 ≡ x.first = omega (arith, f) in z);
-      second = ap (λ (n : ℕ). n % 0x1_0000) over ∙ (let z : (x.second + x.class * 0x1_0000) % 0x1_0000 ≡ x.second = omega (arith, s) in z);
-      class = omega (arith, l, f, s);
-    }
-
+-- ---- lengths
 pub length_two : (marks : List ℕ) (n s : ℕ) → length (set (set marks n 0) s 1) ≡ length marks
 length_two marks n s = length-set (set marks n 0) s 1 ∙ length-set marks n 0
 

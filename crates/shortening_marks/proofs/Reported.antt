@@ -12,6 +12,8 @@ use Rattle.shortening.specs.Passes.{report_on}
 use Rattle.shortening.specs.Shorten.{list_of, stated_entry}
 use Rattle.shortening.proofs.Renumbering.{entries-of}
 use Rattle.shortening.proofs.Filed.{listed-items}
+use Rattle.shortening_stack.specs.declared.stack.Step.{Step}
+use Rattle.shortening_marks.specs.declared.GatheredRow.{GatheredRow}
 use Rattle.shortening_marks.specs.Gathered.{Gathered, GathersAll, Reportable, Reported, Stating}
 use Rattle.shortening_marks.specs.Marks.{Markable, MarkedFrom}
 use Rattle.shortening_marks.proofs.Gathering.{report_left, report-rows, markable}
@@ -21,7 +23,7 @@ pub stated-entries : (e K : ℕ) (fs : Fields) (es : List Entry) → Stating e K
 stated-entries e K fs es s = ap (map (stated_entry (edition e) K)) (listed-items fs s.list s.are) ∙ entries-of (edition e) K s.each
 
 -- ---- the report
-module _ {e K : ℕ} {fs : Fields} {n : ℕ} {gathered₀ steps₀ marks report : List ℕ} (d : Reportable e K fs n gathered₀ steps₀ marks report) {gathered : List ℕ} {rows : ℕ} (g : GathersAll e K fs n gathered rows) where
+module _ {e K : ℕ} {fs : Fields} {n : ℕ} {gathered₀ : List GatheredRow} {steps₀ : List Step} {marks report : List ℕ} (d : Reportable e K fs n gathered₀ steps₀ marks report) {gathered : List GatheredRow} {rows : ℕ} (g : GathersAll e K fs n gathered rows) where
   all-gathered : Gathered d.gatherable.es n gathered rows
   all-gathered = g.all d.gatherable.es d.gatherable.stating
 

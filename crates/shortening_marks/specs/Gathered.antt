@@ -1,4 +1,4 @@
--- The rows as the code keeps them on the way there, beside the passes over the entries. Document 02, point 12. Assumes nothing.
+-- The rows as the code keeps them on the way there, beside the passes over the entries. Assumes nothing.
 use Rattle.std.specs.Prelude.{◌≡◌, List, [], ◌∷◌, map, ℕ, suc, ◌+◌, ◌≤◌, ◌<◌, length, get_or}
 use Rattle.std.proofs.lemmas.List.Edits.{sets}
 use Rattle.forms.specs.Edition.{edition, edition1}
@@ -10,7 +10,9 @@ use Rattle.proof.specs.Layout.{Enters}
 use Rattle.shortening.specs.Passes.{Backward, backward, report_on}
 use Rattle.shortening.specs.Shorten.{list_of, stated_entry}
 use Rattle.shortening_stack.specs.Stack.{stack_of}
-use Rattle.shortening_marks.specs.Marks.{before_in, back_in}
+use Rattle.shortening_stack.specs.declared.stack.Step.{Step}
+use Rattle.shortening_marks.specs.declared.GatheredRow.{GatheredRow}
+use Rattle.shortening_marks.specs.Marks.{no_row, back_in}
 
 -- How many of the entries are rows.
 abbrev pub rows_of : List Entry → ℕ
@@ -31,17 +33,17 @@ pub record SameBack (b c : Backward) : Type 0 where
   pub reported : b.reported ≡ c.reported
 
 -- The line counts with which the branches to come start.
-abbrev pub starts_of : (steps : List ℕ) (d : ℕ) → List ℕ
+abbrev pub starts_of : (steps : List Step) (d : ℕ) → List ℕ
 starts_of steps d = map (λ s. s.lines) (stack_of steps d)
 
 -- The entries es, over n lines at first, are gathered: `rows` of them; no line count is above n + rows.
-pub record Gathered (es : List Entry) (n : ℕ) (gathered : List ℕ) (rows : ℕ) : Type 0 where
+pub record Gathered (es : List Entry) (n : ℕ) (gathered : List GatheredRow) (rows : ℕ) : Type 0 where
   pub rows_are : rows ≡ rows_of es
   pub back : SameBack (back_in gathered rows 0) (backward es n [])
-  pub below : (r : ℕ) → r < rows → before_in (get_or gathered r 0) ≤ n + r
+  pub below : (r : ℕ) → r < rows → (get_or gathered r no_row).lines ≤ n + r
 
 -- The arrays have room for the rows of what the fields state, and the line counts stay within two bytes.
-pub record Gatherable (e K : ℕ) (fs : Fields) (n : ℕ) (gathered steps : List ℕ) : Type 0 where
+pub record Gatherable (e K : ℕ) (fs : Fields) (n : ℕ) (gathered : List GatheredRow) (steps : List Step) : Type 0 where
   pub es : List Entry
   pub stating : Stating e K fs es
   pub gathered_room : rows_of es ≤ length gathered
@@ -49,7 +51,7 @@ pub record Gatherable (e K : ℕ) (fs : Fields) (n : ℕ) (gathered steps : List
   pub few : n + rows_of es < 0xFFFF
 
 -- Whatever the fields state is gathered.
-pub record GathersAll (e K : ℕ) (fs : Fields) (n : ℕ) (gathered : List ℕ) (rows : ℕ) : Type 0 where
+pub record GathersAll (e K : ℕ) (fs : Fields) (n : ℕ) (gathered : List GatheredRow) (rows : ℕ) : Type 0 where
   pub all : (es : List Entry) → Stating e K fs es → Gathered es n gathered rows
 
 -- ---- the report
@@ -58,7 +60,7 @@ abbrev pub entries_in : (e K : ℕ) → Fields → List Entry
 entries_in e K fs = map (stated_entry (edition e) K) (list_of fs)
 
 -- The rows can be gathered and marked; no line is marked yet.
-pub record Reportable (e K : ℕ) (fs : Fields) (n : ℕ) (gathered steps marks report : List ℕ) : Type 0 where
+pub record Reportable (e K : ℕ) (fs : Fields) (n : ℕ) (gathered : List GatheredRow) (steps : List Step) (marks report : List ℕ) : Type 0 where
   pub gatherable : Gatherable e K fs n gathered steps
   pub marks_room : n + rows_of gatherable.es < length marks
   pub report-room : rows_of gatherable.es ≤ length report

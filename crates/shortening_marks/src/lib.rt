@@ -2,14 +2,14 @@
 // The definition is shortening/specs/Passes.antt; specs/Gathered.antt and specs/Marks.antt have the arrays beside it.
 #![tactic(auto)]
 
-ghost use Rattle.std.specs.Prelude.{◌≡◌, ◌%◌, ◌<◌, length, get_or, set};
+ghost use Rattle.std.specs.Prelude.{◌≡◌, ◌<◌, length, get_or, set};
 ghost use Rattle.fields.specs.Places.{fields_at};
 ghost use Rattle.shortening_marks.specs.Gathered.{Gatherable, GathersAll, Reportable, Reported};
-ghost use Rattle.shortening_marks.specs.Marks.{RowOf, made_marks, MarkedRow, Markable, MarkedFrom};
+ghost use Rattle.shortening_marks.specs.Marks.{made_marks, MarkedRow, Markable, MarkedFrom};
 
 use fields::{Next, next_field};
-use shortening_stack::stack::advance;
-use shortening_stack::{BRANCHES, CLAIMS, MAKES, Outline, outline_at};
+use shortening_stack::stack::{Standing, Step, advance};
+use shortening_stack::{Class, outline_at};
 
 // Of an accepted proof: where its rows start, its edition, and how many constants and constraints it is over.
 #[derive(Clone, Copy)]
@@ -20,22 +20,25 @@ pub struct ProofBody {
     pub constraints: u16,
 }
 
-// In a row: how many lines stand before it, in the two low bytes, the lines that it names, in the next four, and its class.
-const FIRST: u64 = 0x1_0000;
-
-const SECOND: u64 = 0x1_0000_0000;
-
-const CLASS: u64 = 0x1_0000_0000_0000;
-
-// A row as one number.
-fn row_of(x: Outline, lines: u16) -> u64
-    ensures { RowOf x lines result }
-{
-    lines as u64 + x.first as u64 * FIRST + x.second as u64 * SECOND + x.class as u64 * CLASS
+// Of a row that is gathered: what it does, how many lines stand before it, and the lines that it names.
+#[derive(Clone, Copy)]
+pub struct GatheredRow {
+    pub class: Class,
+    pub lines: u16,
+    pub first: u16,
+    pub second: u16,
 }
 
+// What stands where no row is gathered.
+pub const NO_ROW: GatheredRow = GatheredRow {
+    class: Class::Makes,
+    lines: 0,
+    first: 0,
+    second: 0,
+};
+
 // The rows of a proof, and how many there are.
-pub fn gather(p: &[u8], body: ProofBody, gathered: &mut [u64], steps: &mut [u64]) -> usize
+pub fn gather(p: &[u8], body: ProofBody, gathered: &mut [GatheredRow], steps: &mut [Step]) -> usize
     requires { Gatherable body.edition body.k (fields_at p.now body.at) body.constraints gathered.old steps.old }
     ensures { GathersAll body.edition body.k (fields_at p.now body.at) body.constraints gathered.new result }
 {
@@ -54,12 +57,25 @@ pub fn gather(p: &[u8], body: ProofBody, gathered: &mut [u64], steps: &mut [u64]
                 next,
             } => {
                 let x = outline_at(p, tag, start, e);
-                if x.class != CLAIMS {
-                    gathered[rows] = row_of(x, lines);
-                    let moved = advance(x.class, x.come, lines, 0, depth, steps);
-                    lines = moved.lines;
-                    depth = moved.depth;
-                    rows += 1;
+                match x.class {
+                    Class::Claims => {}
+                    class => {
+                        gathered[rows] = GatheredRow {
+                            class,
+                            lines,
+                            first: x.first,
+                            second: x.second,
+                        };
+                        let standing = Standing {
+                            lines,
+                            kept: 0,
+                            depth,
+                        };
+                        let moved = advance(x, standing, steps);
+                        lines = moved.lines;
+                        depth = moved.depth;
+                        rows += 1;
+                    }
                 }
                 here = next;
             }
@@ -73,7 +89,7 @@ pub fn gather(p: &[u8], body: ProofBody, gathered: &mut [u64], steps: &mut [u64]
     }
 }
 
-// The mark of line i; what lies beyond the array is never asked for.
+// The mark of line i; what lies beyond the array is never asked for. (Not by `get_mut`: no proof knows what a write through it leaves.)
 fn mark(marks: &mut [u8], i: u16)
     ensures { marks.new ≡ set marks.old i 1 }
 {
@@ -100,37 +116,31 @@ fn mark_made(marks: &mut [u8], n: u16, s: u16, t: u16) -> u8
     own
 }
 
-fn mark_row(marks: &mut [u8], row: u64) -> u8
-    requires { row % 0x1_0000 < length marks.old }
+fn mark_row(marks: &mut [u8], row: GatheredRow) -> u8
+    requires { row.lines < length marks.old }
     ensures { MarkedRow marks.old row marks.new result }
 {
-    let n = (row % FIRST) as u16;
-    let s = (row / FIRST % FIRST) as u16;
-    let class = (row / CLASS) as u16;
-    if class == MAKES {
-        let t = (row / SECOND % FIRST) as u16;
-        return mark_made(marks, n, s, t);
+    match row.class {
+        Class::Makes => mark_made(marks, row.lines, row.first, row.second),
+        Class::Branches => {
+            marks[row.lines as usize] = 0;
+            mark(marks, row.first);
+            2
+        }
+        _ => {
+            mark(marks, row.first);
+            2
+        }
     }
-    if class == BRANCHES {
-        let j = n as usize;
-        marks[j] = 0;
-        mark(marks, s);
-        return 2;
-    }
-    mark(marks, s);
-    2
 }
 
 // From the last row to the first.
-fn mark_rows(gathered: &[u64], rows: usize, marks: &mut [u8], report: &mut [u8])
+fn mark_rows(gathered: &[GatheredRow], rows: usize, marks: &mut [u8], report: &mut [u8])
     requires { Markable gathered.now rows marks.old report.old }
     ensures { MarkedFrom gathered.now rows 0 marks.old report.old marks.new report.new }
 {
-    let mut r = rows;
-    while 0 < r {
-        r -= 1;
-        let reported = mark_row(marks, gathered[r]);
-        report[r] = reported;
+    for r in (0..rows).rev() {
+        report[r] = mark_row(marks, gathered[r]);
     }
 }
 
@@ -138,8 +148,8 @@ fn mark_rows(gathered: &[u64], rows: usize, marks: &mut [u8], report: &mut [u8])
 pub fn report_rows(
     p: &[u8],
     body: ProofBody,
-    gathered: &mut [u64],
-    steps: &mut [u64],
+    gathered: &mut [GatheredRow],
+    steps: &mut [Step],
     marks: &mut [u8],
     report: &mut [u8],
 ) -> usize

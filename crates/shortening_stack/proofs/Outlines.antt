@@ -16,6 +16,7 @@ use Rattle.number_bytes.proofs.Signed.{drop-take}
 use Rattle.fields.specs.Fields.{item}
 use Rattle.proof.specs.Entries.{EntryTag, combine_tag, reduce_tag, scale_tag, strengthen_tag, number_tag, stride_tag, round_tag, split_tag, claim_tag, entry_tagged, line_number, multiplier, size_of, entry_from}
 use Rattle.proof.specs.Layout.{Enters}
+use Rattle.shortening_stack.specs.declared.Class.TheVariants.{Makes, Branches, Closes, Claims}
 use Rattle.shortening_stack.specs.declared.Outline.{Outline}
 use Rattle.shortening_stack.specs.Outline.{outline, outline_of, row_by, outline_by, LaidBy}
 
@@ -37,18 +38,18 @@ each-tag P tag x a b c d e f g h i =
 
 -- ---- by the tag
 abbrev tagged_as : EntryTag → (first second come : ℕ) → Outline
-tagged_as combine_tag s t n = outline 0 s t 0
-tagged_as reduce_tag s t n = outline 0 s t 0
-tagged_as scale_tag s t n = outline 0 s s 0
-tagged_as strengthen_tag s t n = outline 1 s s 2
-tagged_as number_tag s t n = outline 2 s s 0
-tagged_as stride_tag s t n = outline 2 s s 0
-tagged_as round_tag s t n = outline 1 s s n
-tagged_as split_tag s t n = outline 1 s s 1
-tagged_as claim_tag s t n = outline 3 0 0 0
+tagged_as combine_tag s t n = outline Makes s t 0
+tagged_as reduce_tag s t n = outline Makes s t 0
+tagged_as scale_tag s t n = outline Makes s s 0
+tagged_as strengthen_tag s t n = outline Branches s s 2
+tagged_as number_tag s t n = outline Closes s s 0
+tagged_as stride_tag s t n = outline Closes s s 0
+tagged_as round_tag s t n = outline Branches s s n
+tagged_as split_tag s t n = outline Branches s s 1
+tagged_as claim_tag s t n = outline Claims 0 0 0
 
-tagged-as : (tag : ℕ) (x : EntryTag) (s t n : ℕ) → entry_tagged tag ≡ some x → cond (eqb tag 0x20) (outline 3 0 0 0) (row_by tag s t n) ≡ tagged_as x s t n
-tagged-as tag x s t n = each-tag (λ m y. cond (eqb m 0x20) (outline 3 0 0 0) (row_by m s t n) ≡ tagged_as y s t n) tag x refl refl refl refl refl refl refl refl refl
+tagged-as : (tag : ℕ) (x : EntryTag) (s t n : ℕ) → entry_tagged tag ≡ some x → cond (eqb tag 0x20) (outline Claims 0 0 0) (row_by tag s t n) ≡ tagged_as x s t n
+tagged-as tag x s t n = each-tag (λ m y. cond (eqb m 0x20) (outline Claims 0 0 0) (row_by m s t n) ≡ tagged_as y s t n) tag x refl refl refl refl refl refl refl refl refl
 
 -- ---- a part of the contents
 part : (m n len : ℕ) (bs : List ℕ) → m + n ≤ len → take n (drop m (take len bs)) ≡ take n (drop m bs)
@@ -78,14 +79,14 @@ module _ (e K : ℕ) (len : ℕ) (bs : List ℕ) where
 
   by-entry : (x : EntryTag) → size_of (edition e) K x ≤ len → tagged_as x (unsigned (take w bs)) (unsigned (take w (drop w bs))) (unsigned (take 2 (drop (w + 2) bs))) ≡ outline_of (entry_from (edition e) K x (take len bs))
   unfolding entry_from size_of
-  by-entry combine_tag h = sym (ap₂ (λ (s t : ℕ). outline 0 s t 0) (first-is (omega (arith, h))) (second_is (omega (arith, h))))
-  by-entry reduce_tag h = sym (ap₂ (λ (s t : ℕ). outline 0 s t 0) (first-is (omega (arith, h))) (second_is (omega (arith, h))))
-  by-entry scale_tag h = sym (ap (λ (s : ℕ). outline 0 s s 0) (first-is (omega (arith, h))))
-  by-entry strengthen_tag h = sym (ap (λ (s : ℕ). outline 1 s s 2) (first-is (omega (arith, h))))
-  by-entry number_tag h = sym (ap (λ (s : ℕ). outline 2 s s 0) (first-is (omega (arith, h))))
-  by-entry stride_tag h = sym (ap (λ (s : ℕ). outline 2 s s 0) (first-is (omega (arith, h))))
-  by-entry round_tag h = sym (ap₂ (λ (s n : ℕ). outline 1 s s n) (first-is (omega (arith, h))) (come-is (omega (arith, h))))
-  by-entry split_tag h = sym (ap (λ (s : ℕ). outline 1 s s 1) (first-is (omega (arith, h))))
+  by-entry combine_tag h = sym (ap₂ (λ (s t : ℕ). outline Makes s t 0) (first-is (omega (arith, h))) (second_is (omega (arith, h))))
+  by-entry reduce_tag h = sym (ap₂ (λ (s t : ℕ). outline Makes s t 0) (first-is (omega (arith, h))) (second_is (omega (arith, h))))
+  by-entry scale_tag h = sym (ap (λ (s : ℕ). outline Makes s s 0) (first-is (omega (arith, h))))
+  by-entry strengthen_tag h = sym (ap (λ (s : ℕ). outline Branches s s 2) (first-is (omega (arith, h))))
+  by-entry number_tag h = sym (ap (λ (s : ℕ). outline Closes s s 0) (first-is (omega (arith, h))))
+  by-entry stride_tag h = sym (ap (λ (s : ℕ). outline Closes s s 0) (first-is (omega (arith, h))))
+  by-entry round_tag h = sym (ap₂ (λ (s n : ℕ). outline Branches s s n) (first-is (omega (arith, h))) (come-is (omega (arith, h))))
+  by-entry split_tag h = sym (ap (λ (s : ℕ). outline Branches s s 1) (first-is (omega (arith, h))))
   by-entry claim_tag h = refl
 
 module _ (e K : ℕ) (p : List ℕ) (tag start len : ℕ) (y : Entry) (there : start + len ≤ length p) (h : Enters (edition e) K (item tag (take len (drop start p))) y) where
@@ -113,34 +114,26 @@ module _ (e K : ℕ) (p : List ℕ) (tag start len : ℕ) (y : Entry) (there : s
 
 -- ---- the code's ways
 module _ (w tag : ℕ) (bs : List ℕ) where
-  pub by-claim : tag ≡ 0x20 → outline 3 0 0 0 ≡ outline_by w tag bs
-  by-claim t = sym (ap (λ (b : Bool). cond b (outline 3 0 0 0) (row_by tag (unsigned (take w bs)) (unsigned (take w (drop w bs))) (unsigned (take 2 (drop (w + 2) bs))))) (eq-eqb tag 0x20 t))
+  pub by-claim : tag ≡ 0x20 → outline Claims 0 0 0 ≡ outline_by w tag bs
+  by-claim h = rw h
 
-  module _ (d : ¬ (tag ≡ 0x20)) where
-    by_row : row_by tag (unsigned (take w bs)) (unsigned (take w (drop w bs))) (unsigned (take 2 (drop (w + 2) bs))) ≡ outline_by w tag bs
-    by_row = sym (ap (λ (b : Bool). cond b (outline 3 0 0 0) (row_by tag (unsigned (take w bs)) (unsigned (take w (drop w bs))) (unsigned (take 2 (drop (w + 2) bs))))) (ne_eqb tag 0x20 d))
+  pub by_two : tag ≤ 0x11 → outline Makes (unsigned (take w bs)) (unsigned (take w (drop w bs))) 0 ≡ outline_by w tag bs
+  by_two h = rw (ne_eqb tag 0x20 (λ e. absurd (let z : ⊥ = omega (arith, h, e) in z)), le-leb tag 0x11 h)
 
-    pub by_two : tag ≤ 0x11 → outline 0 (unsigned (take w bs)) (unsigned (take w (drop w bs))) 0 ≡ outline_by w tag bs
-    by_two h = rw (sym by_row, le-leb tag 0x11 h)
+  pub by-scale : tag ≡ 0x12 → outline Makes (unsigned (take w bs)) (unsigned (take w bs)) 0 ≡ outline_by w tag bs
+  by-scale h = rw h
 
-    module _ (k : 0x11 < tag) where
-      pub by-scale : tag ≡ 0x12 → outline 0 (unsigned (take w bs)) (unsigned (take w bs)) 0 ≡ outline_by w tag bs
-      by-scale h = rw (sym by_row, lt-leb tag 0x11 k, eq-eqb tag 0x12 h)
+  pub by-strengthen : tag ≡ 0x13 → outline Branches (unsigned (take w bs)) (unsigned (take w bs)) 2 ≡ outline_by w tag bs
+  by-strengthen h = rw h
 
-      module _ (d2 : ¬ (tag ≡ 0x12)) where
-        pub by-strengthen : tag ≡ 0x13 → outline 1 (unsigned (take w bs)) (unsigned (take w bs)) 2 ≡ outline_by w tag bs
-        by-strengthen h = rw (sym by_row, lt-leb tag 0x11 k, ne_eqb tag 0x12 d2, eq-eqb tag 0x13 h)
+  pub by-round : tag ≡ 0x16 → outline Branches (unsigned (take w bs)) (unsigned (take w bs)) (unsigned (take 2 (drop (w + 2) bs))) ≡ outline_by w tag bs
+  by-round h = rw h
 
-        module _ (d3 : ¬ (tag ≡ 0x13)) where
-          pub by-round : tag ≡ 0x16 → outline 1 (unsigned (take w bs)) (unsigned (take w bs)) (unsigned (take 2 (drop (w + 2) bs))) ≡ outline_by w tag bs
-          by-round h = rw (sym by_row, lt-leb tag 0x11 k, ne_eqb tag 0x12 d2, ne_eqb tag 0x13 d3, eq-eqb tag 0x16 h)
+  pub by-split : tag ≡ 0x17 → outline Branches (unsigned (take w bs)) (unsigned (take w bs)) 1 ≡ outline_by w tag bs
+  by-split h = rw h
 
-          module _ (d6 : ¬ (tag ≡ 0x16)) where
-            pub by-split : tag ≡ 0x17 → outline 1 (unsigned (take w bs)) (unsigned (take w bs)) 1 ≡ outline_by w tag bs
-            by-split h = rw (sym by_row, lt-leb tag 0x11 k, ne_eqb tag 0x12 d2, ne_eqb tag 0x13 d3, ne_eqb tag 0x16 d6, eq-eqb tag 0x17 h)
-
-            pub by-close : ¬ (tag ≡ 0x17) → outline 2 (unsigned (take w bs)) (unsigned (take w bs)) 0 ≡ outline_by w tag bs
-            by-close d7 = rw (sym by_row, lt-leb tag 0x11 k, ne_eqb tag 0x12 d2, ne_eqb tag 0x13 d3, ne_eqb tag 0x16 d6, ne_eqb tag 0x17 d7)
+  pub by-close : ¬ (tag ≡ 0x20) → 0x11 < tag → ¬ (tag ≡ 0x12) → ¬ (tag ≡ 0x13) → ¬ (tag ≡ 0x16) → ¬ (tag ≡ 0x17) → outline Closes (unsigned (take w bs)) (unsigned (take w bs)) 0 ≡ outline_by w tag bs
+  by-close d k d2 d3 d6 d7 = rw (ne_eqb tag 0x20 d, lt-leb tag 0x11 k, ne_eqb tag 0x12 d2, ne_eqb tag 0x13 d3, ne_eqb tag 0x16 d6, ne_eqb tag 0x17 d7)
 
 -- further on in the contents
 module _ (p : List ℕ) (start w : ℕ) where

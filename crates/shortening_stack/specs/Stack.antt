@@ -1,40 +1,41 @@
--- The branches to come as the code keeps them: for each branching step that has some, one number. Assumes nothing.
-use Rattle.std.specs.Prelude.{◌≡◌, List, [], ℕ, zero, suc, ◌+◌, ◌*◌, ◌/◌, ◌%◌, ◌≤◌, ◌<◌, length, get_or}
+-- The branches to come as the code keeps them: for each branching step that has some, one `Step`. Assumes nothing.
+use Rattle.std.specs.Prelude.{◌≡◌, List, [], ℕ, zero, suc, ◌≤◌, ◌<◌, length, get_or}
 use Rattle.shortening.specs.Passes.{top, pop, pushed, Start, no_start, branch_start}
+use Rattle.shortening_stack.specs.declared.Class.{Class}
+use Rattle.shortening_stack.specs.declared.Class.TheVariants.{Makes, Branches}
+use Rattle.shortening_stack.specs.declared.stack.Step.{Step}
 
--- A step with `left` branches to come that start with so many lines, so many of them kept.
-abbrev pub step_of : (lines kept left : ℕ) → ℕ
-step_of lines kept left = lines + kept * 0x1_0000 + left * 0x1_0000_0000
+-- What stands where no step does.
+abbrev pub no_step : Step
+no_step = record { lines = 0; kept = 0; left = 0 }
 
-abbrev pub start_in : (step : ℕ) → Start
-start_in step = branch_start (step % 0x1_0000) (step / 0x1_0000 % 0x1_0000)
-
-abbrev pub left_in : (step : ℕ) → ℕ
-left_in step = step / 0x1_0000_0000
+-- How its branches start.
+abbrev pub start_in : Step → Start
+start_in s = branch_start s.lines s.kept
 
 -- The d steps from the outermost on.
-abbrev pub stack_of : (steps : List ℕ) (d : ℕ) → List Start
+abbrev pub stack_of : (steps : List Step) (d : ℕ) → List Start
 stack_of steps zero = []
-stack_of steps (suc d) = pushed (left_in (get_or steps d 0)) (start_in (get_or steps d 0)) (stack_of steps d)
+stack_of steps (suc d) = pushed (get_or steps d no_step).left (start_in (get_or steps d no_step)) (stack_of steps d)
 
 -- Each has one branch at least.
-pub record Alive (steps : List ℕ) (d : ℕ) : Type 0 where
-  pub alive : (i : ℕ) → i < d → 1 ≤ left_in (get_or steps i 0)
+pub record Alive (steps : List Step) (d : ℕ) : Type 0 where
+  pub alive : (i : ℕ) → i < d → 1 ≤ (get_or steps i no_step).left
 
 -- Below d both lists are the same.
-pub record SameBelow (d : ℕ) (xs ys : List ℕ) : Type 0 where
-  pub same : (i : ℕ) → i < d → get_or xs i 0 ≡ get_or ys i 0
+pub record SameBelow {A : Type 0} (none : A) (d : ℕ) (xs ys : List A) : Type 0 where
+  pub same : (i : ℕ) → i < d → get_or xs i none ≡ get_or ys i none
 
-abbrev pub top_of : List ℕ → ℕ → Start
+abbrev pub top_of : List Step → ℕ → Start
 top_of steps zero = no_start
-top_of steps (suc d) = start_in (get_or steps d 0)
+top_of steps (suc d) = start_in (get_or steps d no_step)
 
 -- The branches of the first d start with at most b lines.
-pub record Bound (steps : List ℕ) (d b : ℕ) : Type 0 where
-  pub bound : (i : ℕ) → i < d → get_or steps i 0 % 0x1_0000 ≤ b
+pub record Bound (steps : List Step) (d b : ℕ) : Type 0 where
+  pub bound : (i : ℕ) → i < d → (get_or steps i no_step).lines ≤ b
 
 -- A step with so many branches to come is put on top.
-pub record Pushed (steps : List ℕ) (d lines kept left : ℕ) (steps' : List ℕ) (d' : ℕ) : Type 0 where
+pub record Pushed (steps : List Step) (d lines kept left : ℕ) (steps' : List Step) (d' : ℕ) : Type 0 where
   pub is : stack_of steps' d' ≡ pushed left (branch_start lines kept) (stack_of steps d)
   pub alive : Alive steps d → Alive steps' d'
   pub most : d' ≤ suc d
@@ -42,7 +43,7 @@ pub record Pushed (steps : List ℕ) (d lines kept left : ℕ) (steps' : List �
   pub steps_length : length steps' ≡ length steps
 
 -- A branch of the step on top is taken away: with how many lines it starts, and how many of them are kept.
-pub record Popped (steps : List ℕ) (d : ℕ) (steps' : List ℕ) (lines kept d' : ℕ) : Type 0 where
+pub record Popped (steps : List Step) (d : ℕ) (steps' : List Step) (lines kept d' : ℕ) : Type 0 where
   pub is : Alive steps d → stack_of steps' d' ≡ pop (stack_of steps d)
   pub lines_are : lines ≡ (top_of steps d).lines
   pub kept_are : kept ≡ (top_of steps d).kept
@@ -51,24 +52,24 @@ pub record Popped (steps : List ℕ) (d : ℕ) (steps' : List ℕ) (lines kept d
   pub bounded : (b : ℕ) → Bound steps d b → Bound steps' d' b
   pub steps_length : length steps' ≡ length steps
 
--- A row of a class (0 makes a line, 1 branches, 2 closes) that stays goes by: how many lines stand on the branch behind it, how many of them are kept, and the branches to come.
+-- A row of a class that stays goes by: how many lines stand on the branch behind it, how many of them are kept, and the branches to come.
 -- `come` are those of the row, `first` the kept lines with which the next branch starts.
-abbrev pub lines_after : (class lines : ℕ) → List Start → ℕ
-lines_after zero lines opened = suc lines
-lines_after (suc zero) lines opened = suc lines
-lines_after (suc (suc _)) lines opened = (top no_start opened).lines
+abbrev pub lines_after : (class : Class) (lines : ℕ) → List Start → ℕ
+lines_after Makes lines opened = suc lines
+lines_after Branches lines opened = suc lines
+lines_after _ lines opened = (top no_start opened).lines
 
-abbrev pub kept_after : (class kept first : ℕ) → ℕ
-kept_after zero kept first = suc kept
-kept_after (suc zero) kept first = suc kept
-kept_after (suc (suc _)) kept first = first
+abbrev pub kept_after : (class : Class) (kept first : ℕ) → ℕ
+kept_after Makes kept first = suc kept
+kept_after Branches kept first = suc kept
+kept_after _ kept first = first
 
-abbrev pub opened_after : (class come lines kept : ℕ) → List Start → List Start
-opened_after zero come lines kept opened = opened
-opened_after (suc zero) come lines kept opened = pushed come (branch_start (suc lines) (suc kept)) opened
-opened_after (suc (suc _)) come lines kept opened = pop opened
+abbrev pub opened_after : (class : Class) (come lines kept : ℕ) → List Start → List Start
+opened_after Makes come lines kept opened = opened
+opened_after Branches come lines kept opened = pushed come (branch_start (suc lines) (suc kept)) opened
+opened_after _ come lines kept opened = pop opened
 
-pub record MovedOn (class come lines kept d : ℕ) (steps steps' : List ℕ) (lines' kept' d' : ℕ) : Type 0 where
+pub record MovedOn (class : Class) (come lines kept d : ℕ) (steps steps' : List Step) (lines' kept' d' : ℕ) : Type 0 where
   pub is : Alive steps d → stack_of steps' d' ≡ opened_after class come lines kept (stack_of steps d)
   pub lines_are : Alive steps d → lines' ≡ lines_after class lines (stack_of steps d)
   pub kept_are : Alive steps d → kept' ≡ kept_after class kept (top no_start (stack_of steps d)).kept

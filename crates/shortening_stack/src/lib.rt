@@ -13,18 +13,18 @@ use forms::{MULTIPLIER_BYTES, line_bytes};
 use number_bytes::numbers::unsigned_at;
 
 // A row 0x10 to 0x12 makes a line, a branching row one for each of its branches, a close ends a branch; a claim is no row.
-pub const MAKES: u16 = 0;
-
-pub const BRANCHES: u16 = 1;
-
-pub const CLOSES: u16 = 2;
-
-pub const CLAIMS: u16 = 3;
+#[derive(Clone, Copy)]
+pub enum Class {
+    Makes,
+    Branches,
+    Closes,
+    Claims,
+}
 
 // The lines that it names, the second the first where there is one only; how many branches are to come behind its first.
 #[derive(Clone, Copy)]
 pub struct Outline {
-    pub class: u16,
+    pub class: Class,
     pub first: u16,
     pub second: u16,
     pub come: u16,
@@ -49,7 +49,7 @@ fn rounding_at(p: &[u8], at: usize) -> u16
     unsigned_at(p, at, MULTIPLIER_BYTES) as u16
 }
 
-fn outlined(class: u16, first: u16, second: u16, come: u16) -> Outline
+fn outlined(class: Class, first: u16, second: u16, come: u16) -> Outline
     ensures { result ≡ record { class = class; first = first; second = second; come = come } }
 {
     Outline {
@@ -67,26 +67,22 @@ pub fn outline_at(p: &[u8], tag: u8, start: usize, e: u8) -> Outline
     ensures { result ≡ outline_by (edition e).line_width tag (drop start p.now) }
 {
     if tag == 0x20 {
-        return outlined(CLAIMS, 0, 0, 0);
+        return outlined(Class::Claims, 0, 0, 0);
     }
     let width = line_bytes(e);
     let first = number_at(p, start, e);
-    if tag <= 0x11 {
-        let second = number_at(p, start + width, e);
-        return outlined(MAKES, first, second, 0);
+    match tag {
+        0..=0x11 => {
+            let second = number_at(p, start + width, e);
+            outlined(Class::Makes, first, second, 0)
+        }
+        0x12 => outlined(Class::Makes, first, first, 0),
+        0x13 => outlined(Class::Branches, first, first, 2),
+        0x16 => {
+            let by = rounding_at(p, start + width + MULTIPLIER_BYTES);
+            outlined(Class::Branches, first, first, by)
+        }
+        0x17 => outlined(Class::Branches, first, first, 1),
+        _ => outlined(Class::Closes, first, first, 0),
     }
-    if tag == 0x12 {
-        return outlined(MAKES, first, first, 0);
-    }
-    if tag == 0x13 {
-        return outlined(BRANCHES, first, first, 2);
-    }
-    if tag == 0x16 {
-        let by = rounding_at(p, start + width + MULTIPLIER_BYTES);
-        return outlined(BRANCHES, first, first, by);
-    }
-    if tag == 0x17 {
-        return outlined(BRANCHES, first, first, 1);
-    }
-    outlined(CLOSES, first, first, 0)
 }

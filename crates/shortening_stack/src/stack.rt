@@ -1,25 +1,34 @@
-// The branches to come, innermost first: for each branching step that has some, one number.
+// The branches to come, innermost first: for each branching step that has some, one `Step`.
 // specs/Stack.antt has what stands in it.
 ghost use Rattle.std.specs.Prelude.{◌<◌, ◌≤◌, length};
 ghost use Rattle.shortening_stack.specs.Stack.{Pushed, Popped, MovedOn};
 
-use crate::{BRANCHES, MAKES};
+use crate::{Class, Outline};
 
-// In a step: with how many lines its branches start, in the two low bytes; how many of these are kept, in the next two; and how
-// many branches are to come.
-const KEPT: u64 = 0x1_0000;
+// With how many lines the branches of a step start, how many of these are kept, and how many branches are to come.
+#[derive(Clone, Copy)]
+pub struct Step {
+    pub lines: u16,
+    pub kept: u16,
+    pub left: u16,
+}
 
-const LEFT: u64 = 0x1_0000_0000;
+// What stands where no step does.
+pub const NO_STEP: Step = Step {
+    lines: 0,
+    kept: 0,
+    left: 0,
+};
 
 // One step more, unless it has no branches to come.
-fn push(steps: &mut [u64], depth: usize, lines: u16, kept: u16, left: u16) -> usize
+fn push(steps: &mut [Step], depth: usize, lines: u16, kept: u16, left: u16) -> usize
     requires { depth < length steps.old }
     ensures { Pushed steps.old depth lines kept left steps.new result }
 {
     if left == 0 {
         return depth;
     }
-    steps[depth] = lines as u64 + kept as u64 * KEPT + left as u64 * LEFT;
+    steps[depth] = Step { lines, kept, left };
     depth + 1
 }
 
@@ -32,7 +41,7 @@ pub struct Standing {
 }
 
 // A branch ends, and the next one to come starts; none is to come, and none has lines, where there is no step.
-fn end_branch(steps: &mut [u64], depth: usize) -> Standing
+fn end_branch(steps: &mut [Step], depth: usize) -> Standing
     requires { depth ≤ length steps.old }
     ensures { Popped steps.old depth steps.new result.lines result.kept result.depth }
 {
@@ -44,46 +53,42 @@ fn end_branch(steps: &mut [u64], depth: usize) -> Standing
         };
     }
     let last = depth - 1;
-    let step = steps[last];
-    let lines = (step % KEPT) as u16;
-    let kept = (step / KEPT % KEPT) as u16;
-    if step / LEFT <= 1 {
+    let Step { lines, kept, left } = steps[last];
+    if left <= 1 {
         return Standing {
             lines,
             kept,
             depth: last,
         };
     }
-    steps[last] = step - LEFT;
+    steps[last] = Step {
+        lines,
+        kept,
+        left: left - 1,
+    };
     Standing { lines, kept, depth }
 }
 
 // A row that stays goes by: one more line, one more step, or the end of a branch.
-pub fn advance(
-    class: u16,
-    come: u16,
-    lines: u16,
-    kept: u16,
-    depth: usize,
-    steps: &mut [u64],
-) -> Standing
-    requires { (lines < 0xFFFF) × (kept < 0xFFFF) × (depth < length steps.old) }
-    ensures { MovedOn class come lines kept depth steps.old steps.new result.lines result.kept result.depth }
+pub fn advance(x: Outline, standing: Standing, steps: &mut [Step]) -> Standing
+    requires { (standing.lines < 0xFFFF) × (standing.kept < 0xFFFF) × (standing.depth < length steps.old) }
+    ensures { MovedOn x.class x.come standing.lines standing.kept standing.depth steps.old steps.new result.lines result.kept result.depth }
 {
-    if class == MAKES {
-        return Standing {
+    let Standing { lines, kept, depth } = standing;
+    match x.class {
+        Class::Makes => Standing {
             lines: lines + 1,
             kept: kept + 1,
             depth,
-        };
+        },
+        Class::Branches => {
+            let more = push(steps, depth, lines + 1, kept + 1, x.come);
+            Standing {
+                lines: lines + 1,
+                kept: kept + 1,
+                depth: more,
+            }
+        }
+        _ => end_branch(steps, depth),
     }
-    if class == BRANCHES {
-        let more = push(steps, depth, lines + 1, kept + 1, come);
-        return Standing {
-            lines: lines + 1,
-            kept: kept + 1,
-            depth: more,
-        };
-    }
-    end_branch(steps, depth)
 }

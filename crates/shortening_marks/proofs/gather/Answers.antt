@@ -11,28 +11,28 @@ pub outline_at-x-requires : goal.outline_at-x-requires
 outline_at-x-requires c = entry-there (c.loop-tag.invariant c.args.body.k c.requires) (starts c.next_field.ensures c.in-Field.is)
 
 pub offset_bounds-gathered-rows : goal.offset_bounds-gathered-rows
-offset_bounds-gathered-rows c = record { fits = omega (arith, rows_fit (c.loop-tag.invariant c.args.body.k c.requires) (starts c.next_field.ensures c.in-Field.is) c.outline_at-x.ensures c.if-x-ne-CLAIMS.true) }
+offset_bounds-gathered-rows c = record { fits = omega (arith, rows_fit (c.loop-tag.invariant c.args.body.k c.requires) (starts c.next_field.ensures c.in-Field.is) c.outline_at-x.ensures c.in_default.not-Claims) }
 
 pub bounds-gathered-rows : goal.bounds-gathered-rows
-bounds-gathered-rows c = rows-room (c.loop-tag.invariant c.args.body.k c.requires) (starts c.next_field.ensures c.in-Field.is) c.outline_at-x.ensures c.if-x-ne-CLAIMS.true
+bounds-gathered-rows c = rows-room (c.loop-tag.invariant c.args.body.k c.requires) (starts c.next_field.ensures c.in-Field.is) c.outline_at-x.ensures c.in_default.not-Claims
 
 pub advance-moved-requires : goal.advance-moved-requires
-advance-moved-requires c = stack-room (c.loop-tag.invariant c.args.body.k c.requires) (starts c.next_field.ensures c.in-Field.is) c.outline_at-x.ensures c.if-x-ne-CLAIMS.true
+advance-moved-requires c = stack-room (c.loop-tag.invariant c.args.body.k c.requires) (starts c.next_field.ensures c.in-Field.is) c.outline_at-x.ensures c.in_default.not-Claims
 
 pub overflow_add-rows : goal.overflow_add-rows
-overflow_add-rows c = record { fits = omega (arith, rows_fit (c.loop-tag.invariant c.args.body.k c.requires) (starts c.next_field.ensures c.in-Field.is) c.outline_at-x.ensures c.if-x-ne-CLAIMS.true) }
-
-pub loop-tag-smaller-then-x-ne-CLAIMS : goal.loop-tag-smaller-then-x-ne-CLAIMS
-loop-tag-smaller-then-x-ne-CLAIMS c = starts-less (starts c.next_field.ensures c.in-Field.is)
-
-pub loop-tag-preserved-then-x-ne-CLAIMS : goal.loop-tag-preserved-then-x-ne-CLAIMS
-loop-tag-preserved-then-x-ne-CLAIMS c = λ K a. gathering-row (c.loop-tag.invariant K a) (starts c.next_field.ensures c.in-Field.is) c.outline_at-x.ensures c.if-x-ne-CLAIMS.true c.row_of.ensures c.advance-moved.ensures
+overflow_add-rows c = record { fits = omega (arith, rows_fit (c.loop-tag.invariant c.args.body.k c.requires) (starts c.next_field.ensures c.in-Field.is) c.outline_at-x.ensures c.in_default.not-Claims) }
 
 pub loop-tag-smaller : goal.loop-tag-smaller
 loop-tag-smaller c = starts-less (starts c.next_field.ensures c.in-Field.is)
 
 pub loop-tag-preserved : goal.loop-tag-preserved
-loop-tag-preserved c = λ K a. gathering-claim (c.loop-tag.invariant K a) (starts c.next_field.ensures c.in-Field.is) c.outline_at-x.ensures c.if-x-ne-CLAIMS.false
+loop-tag-preserved c = λ K a. gathering-row (c.loop-tag.invariant K a) (starts c.next_field.ensures c.in-Field.is) c.outline_at-x.ensures c.in_default.not-Claims c.advance-moved.ensures
+
+pub loop-tag-smaller-in-Claims : goal.loop-tag-smaller-in-Claims
+loop-tag-smaller-in-Claims c = starts-less (starts c.next_field.ensures c.in-Field.is)
+
+pub loop-tag-preserved-in-Claims : goal.loop-tag-preserved-in-Claims
+loop-tag-preserved-in-Claims c = λ K a. gathering-claim (c.loop-tag.invariant K a) (starts c.next_field.ensures c.in-Field.is) c.outline_at-x.ensures c.in-Claims.is
 
 pub shape_of-gathered-in-Cut : goal.shape_of-gathered-in-Cut
 shape_of-gathered-in-Cut c = (c.loop-tag.invariant c.args.body.k c.requires).gathered-length

@@ -6,6 +6,3 @@ use Rattle.shortening_marks.proofs.mark_rows.Given as goal
 
 abbrev pub invariant-loop-r : goal.invariant-loop-r
 invariant-loop-r l = MarkedFrom l.gathered l.rows l.r l.initial.marks l.initial.report l.marks l.report × (length l.report ≡ length l.initial.report)
-
-abbrev pub decreases-loop-r : goal.decreases-loop-r
-decreases-loop-r l = l.r

@@ -2,11 +2,11 @@
 use Rattle.shortening_stack.proofs.Stacks.{advanced-makes, advanced-branches, advanced-closes}
 use Rattle.shortening_stack.proofs.stack.advance.Goals as goal
 
-pub returns-then-class-eq-MAKES : goal.returns-then-class-eq-MAKES
-returns-then-class-eq-MAKES c = advanced-makes c.args.class c.args.come c.args.lines c.args.kept c.args.depth c.args.steps.now c.if-class-eq-MAKES.true
+pub returns-in-Makes : goal.returns-in-Makes
+returns-in-Makes c = let s = c.args.standing in advanced-makes c.args.x.class c.args.x.come s.lines s.kept s.depth c.args.steps.now c.in-Makes.is
 
-pub returns-then-class-eq-BRANCHES : goal.returns-then-class-eq-BRANCHES
-returns-then-class-eq-BRANCHES c = advanced-branches c.args.class c.args.come c.args.lines c.args.kept c.args.depth c.args.steps.now c.if-class-eq-BRANCHES.true c.push-more.ensures
+pub returns-in-Branches : goal.returns-in-Branches
+returns-in-Branches c = let s = c.args.standing in advanced-branches c.args.x.class c.args.x.come s.lines s.kept s.depth c.args.steps.now c.in-Branches.is c.push-more.ensures
 
-pub returns : goal.returns
-returns c = advanced-closes c.args.class c.args.come c.args.lines c.args.kept c.args.depth c.args.steps.now c.if-class-eq-MAKES.false c.if-class-eq-BRANCHES.false c.end_branch.ensures
+pub returns-in_default : goal.returns-in_default
+returns-in_default c = let s = c.args.standing in advanced-closes c.args.x.class c.args.x.come s.lines s.kept s.depth c.args.steps.now c.in_default.not-Makes c.in_default.not-Branches c.end_branch.ensures
