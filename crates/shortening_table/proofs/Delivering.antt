@@ -23,7 +23,12 @@ use Rattle.shortening.specs.Passes.{top, pop, pushed, backward, report_on, is_ke
 use Rattle.shortening.specs.Shorten as definition
 use Rattle.shortening.specs.Shorten.{Shorter, list_of, renumber_item, shorter, fit_both, written_both}
 use Rattle.shortening.proofs.Filed.{listed-items}
+use Rattle.shortening_stack.specs.declared.Class.TheVariants.{Makes}
+use Rattle.shortening_stack.specs.declared.stack.Step.{Step}
+use Rattle.shortening_stack.specs.Stack.{no_step}
 use Rattle.shortening_stack.specs.Outline.{outline_of}
+use Rattle.shortening_marks.specs.declared.GatheredRow.{GatheredRow}
+use Rattle.shortening_marks.specs.Marks.{no_row}
 use Rattle.shortening_marks.specs.Gathered.{rows_of, Reportable, Reported, entries_in}
 use Rattle.shortening_marks.proofs.Gathering.{report-length}
 use Rattle.shortening_marks.proofs.Reported.{stated-entries}
@@ -54,7 +59,7 @@ fates-front (row (CloseStride i g) ∷ es) (q ∷ reported) behind b f n m opene
     ap (λ (ds : List Retention). stays f ∷ ds) (fates-front es reported behind true f (top no_start opened).lines (top no_start opened).kept (pop opened) (omega (arith, h)))
 
 -- the report says 0 only of rows that make a line
-step-class : (s : Inference) → (outline_of (row (Derive s))).class ≡ 0
+step-class : (s : Inference) → (outline_of (row (Derive s))).class ≡ Makes
 step-class (Combine s t α β) = refl
 step-class (Reduce s t α) = refl
 step-class (Scale t α) = refl
@@ -85,7 +90,7 @@ fit_all report table s true true p q = refl
 fit_all report table s false c p q = absurd (let z : ◌≡◌ {A = ℕ} 1 0 = cc in omega arith)
 fit_all report table s true false p q = absurd (let z : ◌≡◌ {A = ℕ} 1 0 = cc in omega arith)
 
-module _ {e K : ℕ} {fs : Fields} {n : ℕ} {reported : List ℕ} {rows : ℕ} {gones steps : List ℕ} (d : Deliverable e K fs n reported rows gones steps) where
+module _ {e K : ℕ} {fs : Fields} {n : ℕ} {reported : List ℕ} {rows : ℕ} {gones : List ℕ} {steps : List Step} (d : Deliverable e K fs n reported rows gones steps) where
   same_entries : entries_in e K fs ≡ d.es
   same_entries = stated-entries e K fs d.es d.stating
 
@@ -191,7 +196,7 @@ module _ {e K : ℕ} {fs : Fields} {n : ℕ} {reported : List ℕ} {rows : ℕ} 
         }
 
 -- ---- the report, and then both
-module _ {e K : ℕ} {fs : Fields} {n : ℕ} {gathered steps marks gones reported : List ℕ} (d : ArraysFit e K fs n gathered steps marks gones reported) where
+module _ {e K : ℕ} {fs : Fields} {n : ℕ} {gathered : List GatheredRow} {steps : List Step} {marks gones reported : List ℕ} (d : ArraysFit e K fs n gathered steps marks gones reported) where
   pub reportable : Reportable e K fs n gathered steps marks reported
   reportable = record {
     gatherable = record {
@@ -206,7 +211,7 @@ module _ {e K : ℕ} {fs : Fields} {n : ℕ} {gathered steps marks gones reporte
     clear = d.marks_clear;
   }
 
-  pub deliverable : {reported' steps' : List ℕ} {rows : ℕ} → Reported e K fs n reported reported' rows → length steps' ≡ length steps → Deliverable e K fs n reported' rows gones steps'
+  pub deliverable : {reported' : List ℕ} {steps' : List Step} {rows : ℕ} → Reported e K fs n reported reported' rows → length steps' ≡ length steps → Deliverable e K fs n reported' rows gones steps'
   unfolding over
   deliverable {reported'} {rows = rows} r a =
       let q = stated-entries e K fs d.es d.stating in
@@ -223,29 +228,24 @@ module _ {e K : ℕ} {fs : Fields} {n : ℕ} {gathered steps marks gones reporte
         clear = d.gones_clear;
       }
 
--- ---- cleared arrays for so many rows; one line more for each constraint, and one
-abbrev zeros : ℕ → List ℕ
-zeros n = replicate n 0
-
-cleared : (n j : ℕ) → ◌≡◌ {A = ℕ} (get_or (zeros n) j 0) 0
+-- ---- cleared arrays for so many rows and lines
+cleared : (n j : ℕ) → ◌≡◌ {A = ℕ} (get_or (replicate n 0) j 0) 0
 cleared zero j = refl
 cleared (suc n) zero = refl
 cleared (suc n) (suc j) = cleared n j
 
-pub shortenable : {e K : ℕ} {fs : Fields} {n : ℕ} (rows : ℕ) → rows ≤ 1_024 → Stated e K fs n rows
-    → ArraysFit e K fs n (zeros rows) (zeros rows) (zeros (65 + rows)) (zeros (65 + rows)) (zeros rows)
-shortenable rows m d =
-    let l : length (zeros rows) ≡ rows = length-replicate rows 0 in
-    let k : length (zeros (65 + rows)) ≡ 65 + rows = length-replicate (65 + rows) 0 in
+pub shortenable : {e K : ℕ} {fs : Fields} {n : ℕ} (rows lines : ℕ) → rows ≤ 1_024 → 64 + rows < lines → Stated e K fs n rows
+    → ArraysFit e K fs n (replicate rows no_row) (replicate rows no_step) (replicate lines 0) (replicate lines 0) (replicate rows 0)
+shortenable rows lines m l d =
     record {
       es = d.es;
       stating = d.stating;
-      gathered_room = omega (arith, d.few, l);
-      steps_room = omega (arith, d.few, l);
-      reported_room = omega (arith, d.few, l);
-      marks_room = omega (arith, d.few, d.constraints, k);
-      gones_room = omega (arith, d.few, d.constraints, k);
+      gathered_room = omega (arith, d.few, length-replicate rows no_row);
+      steps_room = omega (arith, d.few, length-replicate rows no_step);
+      reported_room = omega (arith, d.few, length-replicate {A = ℕ} rows 0);
+      marks_room = omega (arith, d.few, d.constraints, l, length-replicate {A = ℕ} lines 0);
+      gones_room = omega (arith, d.few, d.constraints, l, length-replicate {A = ℕ} lines 0);
       few = omega (arith, d.few, d.constraints, m);
-      marks_clear = λ j. cleared (65 + rows) j;
-      gones_clear = λ j. cleared (65 + rows) j;
+      marks_clear = λ j. cleared lines j;
+      gones_clear = λ j. cleared lines j;
     }

@@ -2,6 +2,5 @@
 pub mod Bytes
 pub mod Counting
 pub mod Putting
-pub mod Renewing
 pub mod Writing
 pub mod Delivering

@@ -25,12 +25,15 @@ use Rattle.shortening.specs.Passes.{top, pop, pushed, is_kept, Retention, retent
 use Rattle.shortening.specs.Shorten.{list_of, renumber_item}
 use Rattle.shortening.proofs.Renumbering.{anew-none, anew-more, numbers_fit, length-put}
 use Rattle.shortening.proofs.Filed.{line-width, never-cut}
+use Rattle.shortening_stack.specs.declared.Class.{Class}
+use Rattle.shortening_stack.specs.declared.Class.TheVariants.{Makes, Branches, Closes, Claims}
 use Rattle.shortening_stack.specs.declared.Outline.{Outline}
+use Rattle.shortening_stack.specs.declared.stack.Step.{Step}
 use Rattle.shortening_stack.specs.Outline.{outline, outline_of, outline_by, LaidBy}
 use Rattle.shortening_stack.specs.Stack.{stack_of, Alive, Bound, lines_after, kept_after, opened_after, MovedOn}
 use Rattle.shortening_stack.proofs.Outlines.{outline-is, laid_by}
 use Rattle.shortening_marks.specs.Gathered.{rows_of, Stating}
-use Rattle.shortening_marks.proofs.Gathering.{Head, head_of, nothing_left, rows-claim, rows_row, bound-more}
+use Rattle.shortening_marks.proofs.Gathering.{no_claim, Head, head_of, nothing_left, rows-claim, rows_row, bound-more}
 use Rattle.shortening_marks.proofs.Reported.{stated-entries}
 use Rattle.shortening_table.specs.Table.{Fewer, renewed, numbered, Puttable, PutField, new_number, Keepable, PutKept}
 use Rattle.shortening_table.specs.Written.{written_from, table_from, Tells, TableWritable}
@@ -131,32 +134,35 @@ numbers-few tag = by (entry_tagged tag)
     by (some claim_tag) = omega arith
 
 -- ---- what becomes of one entry
--- Whether a row of a class stays: one that makes a line (class 0) if it is reported so.
-abbrev row_kept : (class reported : ℕ) → Bool
-row_kept zero reported = is_kept reported
-row_kept (suc _) reported = true
+-- Whether a row of a class stays: one that makes a line if it is reported so.
+abbrev row_kept : (class : Class) (reported : ℕ) → Bool
+row_kept Makes reported = is_kept reported
+row_kept _ reported = true
 
-kept-true : (class reported : ℕ) → ¬ (reported ≡ 0) → row_kept class reported ≡ true
-kept-true zero zero h = absurd (h refl)
-kept-true zero (suc n) h = refl
-kept-true (suc c) n h = refl
+kept-true : (class : Class) (reported : ℕ) → ¬ (reported ≡ 0) → row_kept class reported ≡ true
+kept-true Makes zero h = absurd (h refl)
+kept-true Makes (suc n) h = refl
+kept-true Branches n h = refl
+kept-true Closes n h = refl
+kept-true Claims n h = refl
 
-abbrev renew_by : (class : ℕ) → (ℕ → ℕ) → (lines kept : ℕ) → ℕ → ℕ
-renew_by zero f lines kept = renew f lines kept
-renew_by (suc zero) f lines kept = renew f lines kept
-renew_by (suc (suc _)) f lines kept = f
+abbrev renew_by : Class → (ℕ → ℕ) → (lines kept : ℕ) → ℕ → ℕ
+renew_by Makes f lines kept = renew f lines kept
+renew_by Branches f lines kept = renew f lines kept
+renew_by _ f lines kept = f
 
-abbrev kept_by : (class : ℕ) (stays : Bool) (kept first : ℕ) → ℕ
-kept_by zero b kept first = kept_lines b kept
-kept_by (suc zero) b kept first = suc kept
-kept_by (suc (suc _)) b kept first = first
+abbrev kept_by : Class → (stays : Bool) (kept first : ℕ) → ℕ
+kept_by Makes b kept first = kept_lines b kept
+kept_by Branches b kept first = suc kept
+kept_by _ b kept first = first
 
-kept-stays : (class kept first : ℕ) → kept_by class true kept first ≡ kept_after class kept first
-kept-stays zero kept first = refl
-kept-stays (suc zero) kept first = refl
-kept-stays (suc (suc c)) kept first = refl
+kept-stays : (class : Class) (kept first : ℕ) → kept_by class true kept first ≡ kept_after class kept first
+kept-stays Makes kept first = refl
+kept-stays Branches kept first = refl
+kept-stays Closes kept first = refl
+kept-stays Claims kept first = refl
 
-fates-row : (y : Entry) (es : List Entry) (reported : List ℕ) (b : Bool) (f : ℕ → ℕ) (lines kept : ℕ) (opened : List Start) → ¬ ((outline_of y).class ≡ 3)
+fates-row : (y : Entry) (es : List Entry) (reported : List ℕ) (b : Bool) (f : ℕ → ℕ) (lines kept : ℕ) (opened : List Start) → ¬ ((outline_of y).class ≡ Claims)
     → retentions (y ∷ es) reported b f lines kept opened
     ≡ retention (row_kept (outline_of y).class (top 0 reported)) f
     ∷ retentions es (pop reported) (row_kept (outline_of y).class (top 0 reported)) (renew_by (outline_of y).class f lines kept) (lines_after (outline_of y).class lines opened)
@@ -171,36 +177,22 @@ fates-row (row (CloseNumber i)) es reported b f lines kept opened d = refl
 fates-row (row (CloseStride i g)) es reported b f lines kept opened d = refl
 fates-row (claim t t_A) es reported b f lines kept opened d = absurd (d refl)
 
-fates-claim : (y : Entry) (es : List Entry) (reported : List ℕ) (b : Bool) (f : ℕ → ℕ) (lines kept : ℕ) (opened : List Start) → (outline_of y).class ≡ 3
+fates-claim : (y : Entry) (es : List Entry) (reported : List ℕ) (b : Bool) (f : ℕ → ℕ) (lines kept : ℕ) (opened : List Start) → (outline_of y).class ≡ Claims
     → retentions (y ∷ es) reported b f lines kept opened ≡ retention b f ∷ retentions es reported b f lines kept opened
 fates-claim (claim t t_A) es reported b f lines kept opened h = refl
-fates-claim (row (Derive (Combine s t α β))) es reported b f lines kept opened h = absurd (omega (arith, h))
-fates-claim (row (Derive (Reduce s t α))) es reported b f lines kept opened h = absurd (omega (arith, h))
-fates-claim (row (Derive (Scale t α))) es reported b f lines kept opened h = absurd (omega (arith, h))
-fates-claim (row (Strengthen i)) es reported b f lines kept opened h = absurd (omega (arith, h))
-fates-claim (row (Round i g k)) es reported b f lines kept opened h = absurd (omega (arith, h))
-fates-claim (row (Split i)) es reported b f lines kept opened h = absurd (omega (arith, h))
-fates-claim (row (CloseNumber i)) es reported b f lines kept opened h = absurd (omega (arith, h))
-fates-claim (row (CloseStride i g)) es reported b f lines kept opened h = absurd (omega (arith, h))
+fates-claim (row r) es reported b f lines kept opened h = absurd (no_claim r h)
 
 -- by the tag
-as-claim : (y : Entry) → claims y ≡ true → outline_of y ≡ outline 3 0 0 0
+as-claim : (y : Entry) → claims y ≡ true → outline_of y ≡ outline Claims 0 0 0
 as-claim (claim t t_A) h = refl
 as-claim (row r) h = absurd (let z : ◌≡◌ {A = ℕ} 0 1 = cc in omega arith)
 
-as_row : (y : Entry) → claims y ≡ false → (outline_of y).class ≤ 2
-as_row (row (Derive (Combine s t α β))) h = omega arith
-as_row (row (Derive (Reduce s t α))) h = omega arith
-as_row (row (Derive (Scale t α))) h = omega arith
-as_row (row (Strengthen i)) h = omega arith
-as_row (row (Round i g k)) h = omega arith
-as_row (row (Split i)) h = omega arith
-as_row (row (CloseNumber i)) h = omega arith
-as_row (row (CloseStride i g)) h = omega arith
+as_row : (y : Entry) → claims y ≡ false → ¬ ((outline_of y).class ≡ Claims)
+as_row (row r) h = no_claim r
 as_row (claim t t_A) h = absurd (let z : ◌≡◌ {A = ℕ} 0 1 = cc in omega arith)
 
 -- what the report says
-tells_row : (y : Entry) (es : List Entry) (reported : List ℕ) → claims y ≡ false → Tells (y ∷ es) reported → (top 0 reported ≡ 0 → (outline_of y).class ≡ 0) × Tells es (pop reported)
+tells_row : (y : Entry) (es : List Entry) (reported : List ℕ) → claims y ≡ false → Tells (y ∷ es) reported → (top 0 reported ≡ 0 → (outline_of y).class ≡ Makes) × Tells es (pop reported)
 tells_row (row r) es reported h t = t
 tells_row (claim t t_A) es reported h k = absurd (let z : ◌≡◌ {A = ℕ} 0 1 = cc in omega arith)
 
@@ -221,11 +213,12 @@ new-set gones f lines kept h k q j = by (eqb j lines) refl
     by false e =
         ap (λ (b : Bool). cond b kept (f j)) e ∙ q j ∙ sym (ap (λ (n : ℕ). j - n) (get_or-set_other gones lines j (lines - kept) 0 (eqb-false j lines e)))
 
-new-renewed : (class : ℕ) (gones : List ℕ) (f : ℕ → ℕ) (lines kept : ℕ) → lines < length gones → kept ≤ lines → ((j : ℕ) → f j ≡ new_number gones j)
+new-renewed : (class : Class) (gones : List ℕ) (f : ℕ → ℕ) (lines kept : ℕ) → lines < length gones → kept ≤ lines → ((j : ℕ) → f j ≡ new_number gones j)
     → (j : ℕ) → renew_by class f lines kept j ≡ new_number (renewed class gones lines kept) j
-new-renewed zero gones f lines kept h k q j = new-set gones f lines kept h k q j
-new-renewed (suc zero) gones f lines kept h k q j = new-set gones f lines kept h k q j
-new-renewed (suc (suc c)) gones f lines kept h k q j = q j
+new-renewed Makes gones f lines kept h k q j = new-set gones f lines kept h k q j
+new-renewed Branches gones f lines kept h k q j = new-set gones f lines kept h k q j
+new-renewed Closes gones f lines kept h k q j = q j
+new-renewed Claims gones f lines kept h k q j = q j
 
 fewer-set : (gones : List ℕ) (lines kept : ℕ) → lines < length gones → Fewer gones → Fewer (set gones lines (lines - kept))
 fewer-set gones lines kept h a = record { fewer = λ j l. by j l (eqb j lines) refl }
@@ -238,15 +231,17 @@ fewer-set gones lines kept h a = record { fewer = λ j l. by j l (eqb j lines) r
     by j l false e =
         subst (λ (n : ℕ). n ≤ j) (sym (get_or-set_other gones lines j (lines - kept) 0 (eqb-false j lines e))) (a.fewer j (omega (arith, l, length-set gones lines (lines - kept))))
 
-fewer-renewed : (class : ℕ) (gones : List ℕ) (lines kept : ℕ) → lines < length gones → Fewer gones → Fewer (renewed class gones lines kept)
-fewer-renewed zero gones lines kept h a = fewer-set gones lines kept h a
-fewer-renewed (suc zero) gones lines kept h a = fewer-set gones lines kept h a
-fewer-renewed (suc (suc c)) gones lines kept h a = a
+fewer-renewed : (class : Class) (gones : List ℕ) (lines kept : ℕ) → lines < length gones → Fewer gones → Fewer (renewed class gones lines kept)
+fewer-renewed Makes gones lines kept h a = fewer-set gones lines kept h a
+fewer-renewed Branches gones lines kept h a = fewer-set gones lines kept h a
+fewer-renewed Closes gones lines kept h a = a
+fewer-renewed Claims gones lines kept h a = a
 
-renewed-length : (class : ℕ) (gones : List ℕ) (lines kept : ℕ) → length (renewed class gones lines kept) ≡ length gones
-renewed-length zero gones lines kept = length-set gones lines (lines - kept)
-renewed-length (suc zero) gones lines kept = length-set gones lines (lines - kept)
-renewed-length (suc (suc c)) gones lines kept = refl
+renewed-length : (class : Class) (gones : List ℕ) (lines kept : ℕ) → length (renewed class gones lines kept) ≡ length gones
+renewed-length Makes gones lines kept = length-set gones lines (lines - kept)
+renewed-length Branches gones lines kept = length-set gones lines (lines - kept)
+renewed-length Closes gones lines kept = refl
+renewed-length Claims gones lines kept = refl
 
 -- No more lines are kept than there are.
 pub record Under (s : Start) : Type 0 where
@@ -264,15 +259,17 @@ under_top : (opened : List Start) → All Under opened → (top no_start opened)
 under_top [] a = omega arith
 under_top (s ∷ opened) (cons u a) = u.under
 
-under-after : (class come lines kept : ℕ) (opened : List Start) → kept ≤ lines → All Under opened → All Under (opened_after class come lines kept opened)
-under-after zero come lines kept opened h a = a
-under-after (suc zero) come lines kept opened h a = under-times come (branch_start (suc lines) (suc kept)) opened (record { under = omega (arith, h) }) a
-under-after (suc (suc c)) come lines kept opened h a = under-pop opened a
+under-after : (class : Class) (come lines kept : ℕ) (opened : List Start) → kept ≤ lines → All Under opened → All Under (opened_after class come lines kept opened)
+under-after Makes come lines kept opened h a = a
+under-after Branches come lines kept opened h a = under-times come (branch_start (suc lines) (suc kept)) opened (record { under = omega (arith, h) }) a
+under-after Closes come lines kept opened h a = under-pop opened a
+under-after Claims come lines kept opened h a = under-pop opened a
 
-kept_under : (class lines kept : ℕ) (opened : List Start) → kept ≤ lines → All Under opened → kept_after class kept (top no_start opened).kept ≤ lines_after class lines opened
-kept_under zero lines kept opened h a = omega (arith, h)
-kept_under (suc zero) lines kept opened h a = omega (arith, h)
-kept_under (suc (suc c)) lines kept opened h a = under_top opened a
+kept_under : (class : Class) (lines kept : ℕ) (opened : List Start) → kept ≤ lines → All Under opened → kept_after class kept (top no_start opened).kept ≤ lines_after class lines opened
+kept_under Makes lines kept opened h a = omega (arith, h)
+kept_under Branches lines kept opened h a = omega (arith, h)
+kept_under Closes lines kept opened h a = under_top opened a
+kept_under Claims lines kept opened h a = under_top opened a
 
 -- ---- one field more
 nothing_written : (out : List ℕ) (to : ℕ) → sets out to (file_of []) ≡ out
@@ -291,7 +288,7 @@ one_written e f i true ds is n l out to =
 one_written e f i false ds is n l out to = refl
 
 -- ---- the invariant
-pub record Writing (p : List ℕ) (at e K n : ℕ) (report gones₀ steps₀ out₀ : List ℕ) (o : ℕ) (gones steps out : List ℕ) (here to lines kept depth rows : ℕ) (stays : Bool) : Type 0 where
+pub record Writing (p : List ℕ) (at e K n : ℕ) (report gones₀ : List ℕ) (steps₀ : List Step) (out₀ : List ℕ) (o : ℕ) (gones : List ℕ) (steps : List Step) (out : List ℕ) (here to lines kept depth rows : ℕ) (stays : Bool) : Type 0 where
   pub able : TableWritable e K (fields_at p at) n report gones₀ steps₀ out₀ o
   pub es : List Entry
   pub stating : Stating e K (fields_at p here) es
@@ -313,7 +310,7 @@ pub record Writing (p : List ℕ) (at e K n : ℕ) (report gones₀ steps₀ out
   pub rest : sets out to (written_from e es (drop rows report) stays new lines kept (stack_of steps depth) (list_of (fields_at p here))) ≡ sets out₀ o (table_from e K n (fields_at p at) report)
   pub room : to + length (written_from e es (drop rows report) stays new lines kept (stack_of steps depth) (list_of (fields_at p here))) ≤ length out
 
-pub writing_start : {p : List ℕ} {at e K n : ℕ} {report gones steps out : List ℕ} {o : ℕ} → TableWritable e K (fields_at p at) n report gones steps out o
+pub writing_start : {p : List ℕ} {at e K n : ℕ} {report gones : List ℕ} {steps : List Step} {out : List ℕ} {o : ℕ} → TableWritable e K (fields_at p at) n report gones steps out o
     → Writing p at e K n report gones steps out o gones steps out at o n n 0 0 true
 writing_start {p} {at} {e} {K} {n} {report} {gones} {out = out} {o = o} a =
     let q = stated-entries e K (fields_at p at) a.es a.stating in
@@ -340,7 +337,7 @@ writing_start {p} {at} {e} {K} {n} {report} {gones} {out = out} {o = o} a =
       room = subst (λ (bs : List ℕ). o + length bs ≤ length out) same a.room;
     }
 
-module _ {p : List ℕ} {at e K n : ℕ} {report gones₀ steps₀ out₀ : List ℕ} {o : ℕ} {gones steps out : List ℕ} {here to lines kept depth rows : ℕ} {stays : Bool}
+module _ {p : List ℕ} {at e K n : ℕ} {report gones₀ : List ℕ} {steps₀ : List Step} {out₀ : List ℕ} {o : ℕ} {gones : List ℕ} {steps : List Step} {out : List ℕ} {here to lines kept depth rows : ℕ} {stays : Bool}
     (v : Writing p at e K n report gones₀ steps₀ out₀ o gones steps out here to lines kept depth rows stays) where
   -- bytes that are no whole field state nothing
   pub writing-cut : {a : ℕ} → fields_at p here ≡ cut a → ⊥
@@ -437,17 +434,17 @@ module _ {p : List ℕ} {at e K n : ℕ} {report gones₀ steps₀ out₀ : List
       is-claim : claims head.y ≡ true
       is-claim = sym (claim-field (edition e) K field head.y head.enters) ∙ eq-eqb tag 0x20 c
 
-      claim-outline : outline_of head.y ≡ outline 3 0 0 0
+      claim-outline : outline_of head.y ≡ outline Claims 0 0 0
       claim-outline = as-claim head.y is-claim
 
       claim-fates : retentions v.es (drop rows report) stays v.new lines kept opened ≡ retention stays v.new ∷ retentions head.others (drop rows report) stays v.new lines kept opened
       claim-fates = ap (λ (es : List Entry). retentions es (drop rows report) stays v.new lines kept opened) head.are
           ∙ fates-claim head.y head.others (drop rows report) stays v.new lines kept opened (ap (λ (s : Outline). s.class) claim-outline)
 
-      pub claim-keepable : Keepable p tag start len (edition e).line_width stays gones out to
-      claim-keepable = keepable stays _ claim-fates
+      pub claim-keepable : stays ≡ true → Keepable p tag start len (edition e).line_width true gones out to
+      claim-keepable s = subst (λ (b : Bool). Keepable p tag start len (edition e).line_width b gones out to) s (keepable stays _ claim-fates)
 
-      pub writing-claim : {out' : List ℕ} {to' : ℕ} → PutKept p tag start len (edition e).line_width 0 0 stays gones out to out' to'
+      writing-claim : {out' : List ℕ} {to' : ℕ} → PutKept p tag start len (edition e).line_width 0 0 stays gones out to out' to'
           → Writing p at e K n report gones₀ steps₀ out₀ o gones steps out' next to' lines kept depth rows stays
       writing-claim u =
           let f : 0 ≡ (outline_of head.y).first = sym (ap (λ (s : Outline). s.first) claim-outline) in
@@ -474,16 +471,20 @@ module _ {p : List ℕ} {at e K n : ℕ} {report gones₀ steps₀ out₀ : List
             room = room_next stays _ claim-fates f g u;
           }
 
+      pub claim-stays : stays ≡ true → {out' : List ℕ} {to' : ℕ} → PutKept p tag start len (edition e).line_width 0 0 true gones out to out' to'
+          → Writing p at e K n report gones₀ steps₀ out₀ o gones steps out' next to' lines kept depth rows stays
+      claim-stays s {out'} {to'} u = writing-claim (subst (λ (b : Bool). PutKept p tag start len (edition e).line_width 0 0 b gones out to out' to') (sym s) u)
+
+      pub claim-goes : stays ≡ false → Writing p at e K n report gones₀ steps₀ out₀ o gones steps out next to lines kept depth rows stays
+      claim-goes s = writing-claim (put-goes s)
+
     -- a row
     module _ (c : ¬ (tag ≡ 0x20)) where
       is_row : claims head.y ≡ false
       is_row = sym (claim-field (edition e) K field head.y head.enters) ∙ ne_eqb tag 0x20 c
 
-      few-classes : (outline_of head.y).class ≤ 2
-      few-classes = as_row head.y is_row
-
-      no-claim : ¬ ((outline_of head.y).class ≡ 3)
-      no-claim h = absurd (let z : ⊥ = omega (arith, few-classes, h) in z)
+      no-claim : ¬ ((outline_of head.y).class ≡ Claims)
+      no-claim = as_row head.y is_row
 
       more_rows : rows + suc (rows_of head.others) ≡ rows_of v.able.es
       more_rows = omega (arith, v.rows_are, ap rows_of head.are, rows_row head.y head.others no-claim)
@@ -500,14 +501,17 @@ module _ {p : List ℕ} {at e K n : ℕ} {report gones₀ steps₀ out₀ : List
       line-there : lines < length gones
       line-there = omega (arith, more_rows, v.lines-most, v.able.gones_room, v.gones-length)
 
+      pub row-renewable : (lines < length gones) × (kept ≤ lines)
+      row-renewable = (line-there, v.kept-most)
+
       reported_is : drop rows report ≡ get_or report rows 0 ∷ drop (rows + 1) report
       reported_is = drop-cons report rows 0 row-reported ∙ ap (λ (m : ℕ). get_or report rows 0 ∷ drop m report) (let z : suc rows ≡ rows + 1 = omega arith in z)
 
-      told : (get_or report rows 0 ≡ 0 → (outline_of head.y).class ≡ 0) × Tells head.others (drop (rows + 1) report)
+      told : (get_or report rows 0 ≡ 0 → (outline_of head.y).class ≡ Makes) × Tells head.others (drop (rows + 1) report)
       told = tells_row head.y head.others (get_or report rows 0 ∷ drop (rows + 1) report) is_row (subst (Tells (head.y ∷ head.others)) reported_is tells-here)
 
       -- what follows a row of a class, which stays or not
-      abbrev behind : Bool → (class come : ℕ) → List Retention
+      abbrev behind : Bool → (class : Class) (come : ℕ) → List Retention
       behind b class come = retentions head.others (drop (rows + 1) report) b (renew_by class v.new lines kept) (lines_after class lines opened) (kept_by class b kept (top no_start opened).kept) (opened_after class come lines kept opened)
 
       row-fates : (b : Bool) → row_kept (outline_of head.y).class (get_or report rows 0) ≡ b
@@ -520,19 +524,16 @@ module _ {p : List ℕ} {at e K n : ℕ} {report gones₀ steps₀ out₀ : List
 
       -- one that is reported 0 goes
       module _ (s : get_or report rows 0 ≡ 0) where
-        makes : (outline_of head.y).class ≡ 0
+        makes : (outline_of head.y).class ≡ Makes
         makes = told.0 s
 
         gone-fates : retentions v.es (drop rows report) stays v.new lines kept opened ≡ retention false v.new ∷ retentions head.others (drop (rows + 1) report) false (renew v.new lines kept) (lines + 1) kept opened
         gone-fates =
             row-fates false (ap₂ row_kept makes s)
-            ∙ ap (λ (class : ℕ). retention false v.new ∷ behind false class (outline_of head.y).come) makes
+            ∙ ap (λ (class : Class). retention false v.new ∷ behind false class (outline_of head.y).come) makes
             ∙ ap (λ (m : ℕ). retention false v.new ∷ retentions head.others (drop (rows + 1) report) false (renew v.new lines kept) m kept opened) (let z : suc lines ≡ lines + 1 = omega arith in z)
 
-        pub gone-renewable : (lines < length gones) × (kept ≤ lines) × (0 ≤ 2)
-        gone-renewable = (line-there, v.kept-most, omega arith)
-
-        pub writing-gone : {gones' : List ℕ} → gones' ≡ renewed 0 gones lines kept
+        pub writing-gone : {gones' : List ℕ} → gones' ≡ renewed Makes gones lines kept
             → Writing p at e K n report gones₀ steps₀ out₀ o gones' steps out next to (lines + 1) kept depth (rows + 1) false
         writing-gone {gones'} q =
             let u : PutKept p tag start len (edition e).line_width (outline_of head.y).first (outline_of head.y).second false gones out to out to = put-goes refl in
@@ -577,10 +578,7 @@ module _ {p : List ℕ} {at e K n : ℕ} {report gones₀ steps₀ out₀ : List
           is-outline : x ≡ outline_of head.y
           is-outline = q ∙ outline-is e K p tag start len head.y inside head.enters
 
-          pub row-renewable : (lines < length gones) × (kept ≤ lines) × (x.class ≤ 2)
-          row-renewable = (line-there, v.kept-most, subst (λ (z : Outline). z.class ≤ 2) (sym is-outline) few-classes)
-
-          module _ {out' gones' steps' : List ℕ} {to' lines' kept' depth' : ℕ} (u : PutKept p tag start len (edition e).line_width x.first x.second true gones out to out' to')
+          module _ {out' gones' : List ℕ} {steps' : List Step} {to' lines' kept' depth' : ℕ} (u : PutKept p tag start len (edition e).line_width x.first x.second true gones out to out' to')
               (g : gones' ≡ renewed x.class gones lines kept) (w : MovedOn x.class x.come lines kept depth steps steps' lines' kept' depth') where
             opened-is : stack_of steps' depth' ≡ opened_after x.class x.come lines kept opened
             opened-is = w.is v.alive

@@ -1,10 +1,12 @@
--- The fields that stay as the code counts and writes them. Document 02, point 12. Assumes nothing.
+-- The fields that stay as the code counts and writes them. Assumes nothing.
 use Rattle.std.specs.Prelude.{Bool, true, cond, List, ◌++◌, ℕ, zero, suc, ◌+◌, ◌*◌, ◌-◌, ◌≤◌, ◌<◌, eqb, ◌≡◌, length, get_or, set, take, drop}
 use Rattle.std.proofs.lemmas.List.Edits.{sets}
 use Rattle.number_bytes.specs.Numbers.{unsigned_bytes}
 use Rattle.fields.specs.Fields.{Fields, ends, cut, ◌▸◌, field_bytes}
 use Rattle.proof.specs.Entries.{entry_tagged, line_count}
 use Rattle.shortening.specs.Passes.{top, pop, is_kept}
+use Rattle.shortening_stack.specs.declared.Class.{Class}
+use Rattle.shortening_stack.specs.declared.Class.TheVariants.{Makes, Branches}
 
 -- How many of the fields are no claims.
 abbrev pub row_fields : Fields → ℕ
@@ -29,11 +31,11 @@ pub record ReportCovers (fs : Fields) (report : List ℕ) : Type 0 where
 pub record Fewer (gones : List ℕ) : Type 0 where
   pub fewer : (j : ℕ) → j < length gones → get_or gones j 0 ≤ j
 
--- A row that makes a line, or the lines of branches (class 0 or 1): how many of the lines before it are gone. A close makes none.
-abbrev pub renewed : (class : ℕ) → List ℕ → (lines kept : ℕ) → List ℕ
-renewed zero gones lines kept = set gones lines (lines - kept)
-renewed (suc zero) gones lines kept = set gones lines (lines - kept)
-renewed (suc (suc _)) gones lines kept = gones
+-- A row that makes a line, or the lines of branches: how many of the lines before it are gone. A close makes none.
+abbrev pub renewed : Class → List ℕ → (lines kept : ℕ) → List ℕ
+renewed Makes gones lines kept = set gones lines (lines - kept)
+renewed Branches gones lines kept = set gones lines (lines - kept)
+renewed _ gones lines kept = gones
 
 -- ---- a field with new line numbers
 -- The contents, whose first `count` numbers of w bytes are these.

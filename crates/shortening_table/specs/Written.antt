@@ -1,10 +1,12 @@
--- The shorter table as the code writes it, field by field. Document 02, point 12. Assumes nothing.
+-- The shorter table as the code writes it, field by field. Assumes nothing.
 use Rattle.std.specs.Prelude.{◌≡◌, Bool, true, List, [], ◌∷◌, ℕ, ◌+◌, ◌≤◌, ◌<◌, length, get_or}
 use Rattle.forms.specs.Edition.{edition}
 use Rattle.calculus.specs.Rules.{Entry, row, claim}
 use Rattle.fields.specs.Fields.{Fields, Item, file_of}
 use Rattle.shortening.specs.Passes.{top, pop, Start, retentions, remaining}
 use Rattle.shortening.specs.Shorten.{list_of, renumber_item}
+use Rattle.shortening_stack.specs.declared.Class.TheVariants.{Makes}
+use Rattle.shortening_stack.specs.declared.stack.Step.{Step}
 use Rattle.shortening_stack.specs.Outline.{outline_of}
 use Rattle.shortening_marks.specs.Gathered.{rows_of, Stating, entries_in}
 
@@ -21,10 +23,10 @@ table_from e K n fs report = written_from e (entries_in e K fs) report true (λ 
 abbrev pub Tells : List Entry → (reported : List ℕ) → Type 0
 Tells [] reported = Unit {0}
 Tells (claim _ _ ∷ es) reported = Tells es reported
-Tells (row r ∷ es) reported = (top 0 reported ≡ 0 → (outline_of (row r)).class ≡ 0) × Tells es (pop reported)
+Tells (row r ∷ es) reported = (top 0 reported ≡ 0 → (outline_of (row r)).class ≡ Makes) × Tells es (pop reported)
 
 -- The arrays have room for the rows and lines of what the fields state, no line is gone yet, and the output has room for the table.
-pub record TableWritable (e K : ℕ) (fs : Fields) (n : ℕ) (report gones steps out : List ℕ) (o : ℕ) : Type 0 where
+pub record TableWritable (e K : ℕ) (fs : Fields) (n : ℕ) (report gones : List ℕ) (steps : List Step) (out : List ℕ) (o : ℕ) : Type 0 where
   pub es : List Entry
   pub stating : Stating e K fs es
   pub tells : Tells es report

@@ -1,28 +1,31 @@
 // A proof that is accepted, shortened: its rows reported on, then the table and the report written, in arrays that suit its
 // length. specs/Arrays.antt has what each asks and leaves.
-ghost use Rattle.std.specs.Prelude.{◌≡◌};
+ghost use Rattle.std.specs.Prelude.{◌≡◌, ◌+◌, ◌*◌, ◌≤◌};
+ghost use Rattle.forms.specs.Edition.{edition1};
 ghost use Rattle.fields.specs.Places.{fields_at};
-ghost use Rattle.shortening_table.specs.Arrays.{Stated, Deliverable, ArraysFit, ShortensFields};
+ghost use Rattle.shortening_table.specs.Arrays.{Stated, Deliverable, ShortensFields};
 
 use crate::{put_table, table_bytes};
 use answers::Answer;
+use answers::refusals::Refusal;
 use fields::header::put_header;
 use forms::{CONSTRAINTS, ROWS};
 use number_bytes::copy::copy_bytes;
 use shortening::ShortenResult;
-use shortening_marks::{ProofBody, report_rows};
+use shortening_marks::{NO_ROW, ProofBody, report_rows};
+use shortening_stack::stack::{NO_STEP, Step};
 
 // The most rows, and the lines of two bundles, one for each row, and one more. A proof of 256 bytes has 64 rows at most, since
-// each has four bytes.
-const ROWS_MOST: usize = ROWS as usize;
+// each has four bytes; an array is cleared before it is used, which takes longer than shortening so short a proof.
+pub const ROWS_MOST: usize = ROWS as usize;
 
-const LINES_MOST: usize = 2 * CONSTRAINTS + ROWS_MOST + 1;
+pub const LINES_MOST: usize = 2 * CONSTRAINTS + ROWS_MOST + 1;
 
 pub const BYTES_FEW: usize = 256;
 
-const ROWS_FEW: usize = BYTES_FEW / 4;
+pub const ROWS_FEW: usize = BYTES_FEW / 4;
 
-const LINES_FEW: usize = 2 * CONSTRAINTS + ROWS_FEW + 1;
+pub const LINES_FEW: usize = 2 * CONSTRAINTS + ROWS_FEW + 1;
 
 pub fn refused(answer: Answer) -> ShortenResult
     ensures { result ≡ record { answer = answer; rows = 0; count = 0 } }
@@ -41,7 +44,7 @@ fn write_both(
     reported: &[u8],
     rows: usize,
     gones: &mut [u16],
-    steps: &mut [u64],
+    steps: &mut [Step],
     report: &mut [u8],
     table: &mut [u8],
 ) -> ShortenResult
@@ -49,7 +52,7 @@ fn write_both(
     ensures { ShortensFields body.edition body.k (fields_at proof.now body.at) body.constraints report.old table.old report.new table.new result }
 {
     let needed = 8 + table_bytes(proof, body.at, reported);
-    let short = refused(answers::refusal(21, 4, needed));
+    let short = refused(answers::refusal(Refusal::OutputTooShort, 4, needed));
     if report.len() < rows {
         return short;
     }
@@ -67,76 +70,32 @@ fn write_both(
     }
 }
 
-// A proof that is accepted. The arrays have room for its rows and lines, and hold 0 only.
-fn shorten_within(
-    proof: &[u8],
-    body: ProofBody,
-    gathered: &mut [u64],
-    steps: &mut [u64],
-    marks: &mut [u8],
-    gones: &mut [u16],
-    reported: &mut [u8],
-    report: &mut [u8],
-    table: &mut [u8],
-) -> ShortenResult
-    requires { ArraysFit body.edition body.k (fields_at proof.now body.at) body.constraints gathered.old steps.old marks.old gones.old reported.old }
-    ensures { ShortensFields body.edition body.k (fields_at proof.now body.at) body.constraints report.old table.old report.new table.new result }
-{
-    let rows = report_rows(proof, body, gathered, steps, marks, reported);
-    write_both(proof, body, reported, rows, gones, steps, report, table)
-}
-
-// An array is cleared before it is used, which takes longer than shortening a short proof, so a short one is given little.
-pub fn shorten_few(
+// A proof that is accepted, in arrays for so many rows and lines.
+pub fn shorten_in<const ROWS: usize, const LINES: usize>(
     proof: &[u8],
     body: ProofBody,
     report: &mut [u8],
     table: &mut [u8],
 ) -> ShortenResult
-    requires { Stated body.edition body.k (fields_at proof.now body.at) body.constraints 64 }
+    requires stated { Stated body.edition body.k (fields_at proof.now body.at) body.constraints ROWS }
+    requires rows_bound { ROWS ≤ 1_024 }
+    requires lines_are { LINES ≡ 2 * edition1.constraints + ROWS + 1 }
     ensures { ShortensFields body.edition body.k (fields_at proof.now body.at) body.constraints report.old table.old report.new table.new result }
 {
-    let mut gathered = [0u64; ROWS_FEW];
-    let mut steps = [0u64; ROWS_FEW];
-    let mut marks = [0u8; LINES_FEW];
-    let mut gones = [0u16; LINES_FEW];
-    let mut reported = [0u8; ROWS_FEW];
-    shorten_within(
+    let mut gathered = [NO_ROW; ROWS];
+    let mut steps = [NO_STEP; ROWS];
+    let mut marks = [0u8; LINES];
+    let mut gones = [0u16; LINES];
+    let mut reported = [0u8; ROWS];
+    let rows = report_rows(
         proof,
         body,
         &mut gathered,
         &mut steps,
         &mut marks,
-        &mut gones,
         &mut reported,
-        report,
-        table,
-    )
-}
-
-pub fn shorten_any(
-    proof: &[u8],
-    body: ProofBody,
-    report: &mut [u8],
-    table: &mut [u8],
-) -> ShortenResult
-    requires { Stated body.edition body.k (fields_at proof.now body.at) body.constraints 1_024 }
-    ensures { ShortensFields body.edition body.k (fields_at proof.now body.at) body.constraints report.old table.old report.new table.new result }
-{
-    let mut gathered = [0u64; ROWS_MOST];
-    let mut steps = [0u64; ROWS_MOST];
-    let mut marks = [0u8; LINES_MOST];
-    let mut gones = [0u16; LINES_MOST];
-    let mut reported = [0u8; ROWS_MOST];
-    shorten_within(
-        proof,
-        body,
-        &mut gathered,
-        &mut steps,
-        &mut marks,
-        &mut gones,
-        &mut reported,
-        report,
-        table,
+    );
+    write_both(
+        proof, body, &reported, rows, &mut gones, &mut steps, report, table,
     )
 }

@@ -19,8 +19,8 @@ use fields::{Next, next_field};
 use forms::line_bytes;
 use number_bytes::copy::copy_bytes;
 use shortening_marks::ProofBody;
-use shortening_stack::stack::advance;
-use shortening_stack::{CLOSES, MAKES, outline_at};
+use shortening_stack::stack::{Standing, Step, advance};
+use shortening_stack::{Class, outline_at};
 
 // How many bytes the fields from a place on have that stay.
 pub fn table_bytes(p: &[u8], at: usize, report: &[u8]) -> usize
@@ -69,23 +69,23 @@ fn new_number(gones: &[u16], i: u16) -> u64
     requires { Fewer gones.now }
     ensures { result ≡ i - get_or gones.now i 0 }
 {
-    let j = i as usize;
-    if j < gones.len() {
-        return (i - gones[j]) as u64;
+    match gones.get(i as usize) {
+        Some(gone) => u64::from(i - *gone),
+        None => u64::from(i),
     }
-    i as u64
 }
 
 // A row whose line is made: how many of the lines before it are gone. A close makes none.
-fn renew(gones: &mut [u16], class: u16, lines: u16, kept: u16)
-    requires { (lines < length gones.old) × (kept ≤ lines) × (class ≤ 2) }
-    ensures { gones.new ≡ renewed class gones.old lines kept }
+fn renew(gones: &mut [u16], class: Class, standing: Standing)
+    requires { (standing.lines < length gones.old) × (standing.kept ≤ standing.lines) }
+    ensures { gones.new ≡ renewed class gones.old standing.lines standing.kept }
 {
-    if class == CLOSES {
-        return;
+    match class {
+        Class::Makes | Class::Branches => {
+            gones[standing.lines as usize] = standing.lines - standing.kept;
+        }
+        Class::Closes | Class::Claims => {}
     }
-    let j = lines as usize;
-    gones[j] = lines - kept;
 }
 
 // A field of a proof of edition e whose first `count` line numbers are written anew: none, one or two.
@@ -125,7 +125,7 @@ fn put_field(
     );
 }
 
-// A field with new line numbers, if it stays. Where the next one goes.
+// A field with new line numbers. Where the next one goes.
 fn put_kept(
     p: &[u8],
     tag: u8,
@@ -134,22 +134,18 @@ fn put_kept(
     e: u8,
     first: u16,
     second: u16,
-    stays: bool,
     gones: &[u16],
     out: &mut [u8],
     o: usize,
 ) -> usize
-    requires { Keepable p.now tag start len (edition e).line_width stays gones.now out.old o }
-    ensures { PutKept p.now tag start len (edition e).line_width first second stays gones.now out.old o out.new result }
+    requires { Keepable p.now tag start len (edition e).line_width true gones.now out.old o }
+    ensures { PutKept p.now tag start len (edition e).line_width first second true gones.now out.old o out.new result }
 {
-    if stays {
-        let one = new_number(gones, first);
-        let two = new_number(gones, second);
-        let count = line_count(tag);
-        put_field(p, tag, start, len, e, count, one, two, out, o);
-        return o + 3 + len;
-    }
-    o
+    let one = new_number(gones, first);
+    let two = new_number(gones, second);
+    let count = line_count(tag);
+    put_field(p, tag, start, len, e, count, one, two, out, o);
+    o + 3 + len
 }
 
 // The fields of a proof that stay, behind the o first bytes.
@@ -158,7 +154,7 @@ pub fn put_table(
     body: ProofBody,
     report: &[u8],
     gones: &mut [u16],
-    steps: &mut [u64],
+    steps: &mut [Step],
     out: &mut [u8],
     o: usize,
 )
@@ -167,9 +163,11 @@ pub fn put_table(
 {
     let mut here = body.at;
     let mut to = o;
-    let mut lines = body.constraints;
-    let mut kept = lines;
-    let mut depth = 0;
+    let mut standing = Standing {
+        lines: body.constraints,
+        kept: body.constraints,
+        depth: 0,
+    };
     let mut rows = 0;
     let mut stays = true;
     let e = body.edition;
@@ -183,23 +181,20 @@ pub fn put_table(
                 next,
             } => {
                 if tag == 0x20 {
-                    to = put_kept(p, tag, start, len, e, 0, 0, stays, gones, out, to);
+                    if stays {
+                        to = put_kept(p, tag, start, len, e, 0, 0, gones, out, to);
+                    }
                 } else if report[rows] == 0 {
                     stays = false;
-                    renew(gones, MAKES, lines, kept);
-                    lines += 1;
+                    renew(gones, Class::Makes, standing);
+                    standing.lines += 1;
                     rows += 1;
                 } else {
                     stays = true;
                     let x = outline_at(p, tag, start, e);
-                    to = put_kept(
-                        p, tag, start, len, e, x.first, x.second, stays, gones, out, to,
-                    );
-                    renew(gones, x.class, lines, kept);
-                    let moved = advance(x.class, x.come, lines, kept, depth, steps);
-                    lines = moved.lines;
-                    kept = moved.kept;
-                    depth = moved.depth;
+                    to = put_kept(p, tag, start, len, e, x.first, x.second, gones, out, to);
+                    renew(gones, x.class, standing);
+                    standing = advance(x, standing, steps);
                     rows += 1;
                 }
                 here = next;

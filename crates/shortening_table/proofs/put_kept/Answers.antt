@@ -1,5 +1,6 @@
 -- `shortening_table::put_kept` meets its contract. Assumes nothing.
-use Rattle.shortening_table.proofs.Writing.{puttable, put-stays, put-goes}
+use mathlib.Core.Path.{refl}
+use Rattle.shortening_table.proofs.Writing.{puttable, put-stays}
 use borrow.Author.Rules.{rules}
 use Rattle.shortening_table.proofs.put_kept.Goals as goal
 
@@ -10,19 +11,16 @@ pub new_number-two-requires : goal.new_number-two-requires
 new_number-two-requires c = c.requires.fewer
 
 pub put_field-requires : goal.put_field-requires
-put_field-requires c = puttable c.requires c.if-stays.true c.line_count-count.ensures.is
+put_field-requires c = puttable c.requires refl c.line_count-count.ensures.is
 
 pub overflow_add-result : goal.overflow_add-result
-overflow_add-result c = let room = (c.requires.able c.if-stays.true).room in search rules
+overflow_add-result c = let room = (c.requires.able refl).room in search rules
 
-pub overflow_add-result-then-stays : goal.overflow_add-result-then-stays
-overflow_add-result-then-stays c = let room = (c.requires.able c.if-stays.true).room in search rules
+pub overflow_add-result-2 : goal.overflow_add-result-2
+overflow_add-result-2 c = let room = (c.requires.able refl).room in search rules
 
-pub shape_of-out-then-stays : goal.shape_of-out-then-stays
-shape_of-out-then-stays c = c.put_field.ensures.out_length
-
-pub returns-then-stays : goal.returns-then-stays
-returns-then-stays c = put-stays c.if-stays.true c.line_count-count.ensures.is c.new_number-one.ensures c.new_number-two.ensures c.put_field.ensures
+pub shape_of-out : goal.shape_of-out
+shape_of-out c = c.put_field.ensures.out_length
 
 pub returns : goal.returns
-returns c = put-goes c.if-stays.false
+returns c = put-stays refl c.line_count-count.ensures.is c.new_number-one.ensures c.new_number-two.ensures c.put_field.ensures

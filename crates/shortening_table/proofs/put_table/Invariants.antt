@@ -8,7 +8,7 @@ use Rattle.shortening_table.proofs.put_table.Given as goal
 
 abbrev pub invariant-loop-tag : goal.invariant-loop-tag
 invariant-loop-tag l =
-    (K : ℕ) → TableWritable l.e K (fields_at l.p l.initial.here) l.initial.lines l.report l.initial.gones l.initial.steps l.initial.out l.o → Writing l.p l.initial.here l.e K l.initial.lines l.report l.initial.gones l.initial.steps l.initial.out l.o l.gones l.steps l.out l.here l.to l.lines l.kept l.depth l.rows l.stays
+    (K : ℕ) → TableWritable l.e K (fields_at l.p l.initial.here) l.initial.standing.lines l.report l.initial.gones l.initial.steps l.initial.out l.o → Writing l.p l.initial.here l.e K l.initial.standing.lines l.report l.initial.gones l.initial.steps l.initial.out l.o l.gones l.steps l.out l.here l.to l.standing.lines l.standing.kept l.standing.depth l.rows l.stays
 
 abbrev pub decreases-loop-tag : goal.decreases-loop-tag
 decreases-loop-tag l = length l.p - l.here
