@@ -15,6 +15,10 @@ use Rattle.forms.specs.Edition.{edition}
 use Rattle.forms.proofs.Editions.{line_width-is, line_width-most, line_width-by}
 use Rattle.forms.specs.Forms.{every}
 use Rattle.calculus.specs.Rules.{Entry}
+use Rattle.std.specs.Prelude.{Ok, Err}
+use Rattle.std.specs.declared.result.Result as code
+use Rattle.answers.specs.declared.refusals.Refusal.{Refusal}
+use Rattle.answers.specs.Refusals.{number_of}
 use Rattle.answers.specs.declared.Answer.{Answer}
 use Rattle.answers.specs.Answers.{answer, file_proof, Result, refused, accepted, ◌>>=◌, ◌>>◌, need}
 use Rattle.answers.proofs.Results.{binds, needs, fail, bind-refused}
@@ -23,22 +27,22 @@ use Rattle.number_bytes.proofs.Signed.{drop-take}
 use Rattle.fields.specs.declared.FileKind.{FileKind}
 use Rattle.fields.specs.Header.{known, header_tag}
 use Rattle.fields.specs.Fields.{Field, Fields, ends, cut, ◌▸◌, item, field_bytes}
-use Rattle.fields.specs.Places.{fields_at}
+use Rattle.fields.specs.Places.{fields_at, next_of}
+use Rattle.fields.specs.declared.WholeField.{WholeField}
+use Rattle.fields.specs.declared.End.{End}
 use Rattle.fields.proofs.Places.{Starts, starts-size}
 use Rattle.fields.proofs.Framing.{length-field_bytes}
 use Rattle.proof.specs.Entries.{EntryTag, combine_tag, reduce_tag, scale_tag, strengthen_tag, number_tag, stride_tag, round_tag, split_tag, claim_tag, entry_tagged, shape, line_count, in_place, size_of, entry_from, entry}
 use Rattle.proof.proofs.Entered.{entry-unknown, entry-none, entry-out, entry_in}
 use Rattle.conversion.specs.Turning.{each_field, lines_fit, lines_turned, fields_turned, makes_line, entries_read}
 use Rattle.conversion.proofs.Carried.{head-size, turned-is}
-use Rattle.conversion_survey.specs.SurveyAnswers.{survey_of, sized_by, sized_as, AnswersOf, FieldLaid, LinesThere, at_field}
-use Rattle.conversion_survey.specs.declared.Survey.{Survey}
-use Rattle.conversion_survey.specs.declared.Laid.{Laid}
+use Rattle.conversion_survey.specs.SurveyAnswers.{sized_by, sized_as, AnswersOf, FieldLaid, LinesThere, at_field}
 
 -- ---- what a tag and a length tell
-pub sized-fine : {len size : ℕ} (made : Bool) → len ≡ size → Laid.Fine made ≡ sized_as len size made
+pub sized-fine : {len size : ℕ} (made : Bool) → len ≡ size → Ok made ≡ sized_as len size made
 sized-fine {len} {size} made h = ap (λ (b : Bool). sized_by b made) (sym (eq-eqb len size h))
 
-pub sized-not : {len size : ℕ} (made : Bool) → ¬ (len ≡ size) → Laid.Refused 6 ≡ sized_as len size made
+pub sized-not : {len size : ℕ} (made : Bool) → ¬ (len ≡ size) → Err Refusal.WrongLength ≡ sized_as len size made
 sized-not {len} {size} made h = ap (λ (b : Bool). sized_by b made) (sym (ne_eqb len size h))
 
 -- An entry in its place: 6, or the entry.
@@ -51,7 +55,7 @@ in_size n K tag len x {size} true f refusal q z l k c few e = (entry_from (editi
 in_size n K tag len x false f refusal q z l k c few e = e ∙ rw (l, z, q)
 
 module _ {n K tag len : ℕ} {made : Bool} where
-  lays : (x : EntryTag) (t : ℕ) {size : ℕ} {m : Bool} {r : Laid} → tag ≡ t → known FileKind.Proof t ≡ true → entry_tagged t ≡ some x → in_place made x ≡ true → size_of (edition n) K x ≡ size
+  lays : (x : EntryTag) (t : ℕ) {size : ℕ} {m : Bool} {r : code.Result Bool Refusal} → tag ≡ t → known FileKind.Proof t ≡ true → entry_tagged t ≡ some x → in_place made x ≡ true → size_of (edition n) K x ≡ size
       → ((bs : List ℕ) → makes_line (entry_from (edition n) K x bs) ≡ m) → (shape x).line_numbers * (edition n).line_width ≤ size → r ≡ sized_as len size m → FieldLaid n K tag len made r
   lays x t {size} {m} e k g p z s few q = rw q (record {
     is = λ refusal f tagged l.
@@ -59,7 +63,7 @@ module _ {n K tag len : ℕ} {made : Bool} where
         (entry_in (edition n) K refusal made f x (ap (known FileKind.Proof) (tagged ∙ e) ∙ k) (ap entry_tagged (tagged ∙ e) ∙ g) p);
   })
 
-  module _ {w : ℕ} (width : w ≡ (edition n).line_width) {r : Laid} where
+  module _ {w : ℕ} (width : w ≡ (edition n).line_width) {r : code.Result Bool Refusal} where
     pub combine-laid : tag ≡ 0x10 → r ≡ sized_as len (2 * w + 4) true → FieldLaid n K tag len made r
     unfolding known header_tag entry_tagged in_place size_of entry_from makes_line
     combine-laid e q = lays combine_tag 0x10 e refl refl refl (omega (arith, width)) (λ bs. refl) (omega (arith, width)) q
@@ -92,23 +96,23 @@ module _ {n K tag len : ℕ} {made : Bool} where
     unfolding known header_tag entry_tagged in_place size_of entry_from makes_line
     split-laid e q = lays split_tag 0x17 e refl refl refl (omega (arith, width)) (λ bs. refl) (omega (arith, width)) q
 
-  pub claim-laid : {r : Laid} → tag ≡ 0x20 → made ≡ true → r ≡ sized_as len (8 * (K + 1)) false → FieldLaid n K tag len made r
+  pub claim-laid : {r : code.Result Bool Refusal} → tag ≡ 0x20 → made ≡ true → r ≡ sized_as len (8 * (K + 1)) false → FieldLaid n K tag len made r
   unfolding known header_tag entry_tagged in_place size_of entry_from makes_line
   claim-laid e h q = lays claim_tag 0x20 e refl refl h (omega arith) (λ bs. refl) (omega arith) q
 
-  pub claim-out : tag ≡ 0x20 → made ≡ false → FieldLaid n K tag len made (Laid.Refused 4)
+  pub claim-out : tag ≡ 0x20 → made ≡ false → FieldLaid n K tag len made (Err Refusal.MisplacedTag)
   unfolding known header_tag entry_tagged in_place
   claim-out e h = record { is = λ refusal f tagged l. entry-out (edition n) K refusal made f claim_tag (rw (tagged, e)) (rw (tagged, e)) h }
 
-  pub first_out : tag ≡ 0x01 → FieldLaid n K tag len made (Laid.Refused 4)
+  pub first_out : tag ≡ 0x01 → FieldLaid n K tag len made (Err Refusal.MisplacedTag)
   unfolding known header_tag entry_tagged
   first_out e = record { is = λ refusal f tagged l. entry-none (edition n) K refusal made f (rw (tagged, e)) (rw (tagged, e)) }
 
-  pub second-out : tag ≡ 0x02 → FieldLaid n K tag len made (Laid.Refused 4)
+  pub second-out : tag ≡ 0x02 → FieldLaid n K tag len made (Err Refusal.MisplacedTag)
   unfolding known header_tag entry_tagged
   second-out e = record { is = λ refusal f tagged l. entry-none (edition n) K refusal made f (rw (tagged, e)) (rw (tagged, e)) }
 
-  pub unknown-out : known FileKind.Proof tag ≡ false → FieldLaid n K tag len made (Laid.Refused 3)
+  pub unknown-out : known FileKind.Proof tag ≡ false → FieldLaid n K tag len made (Err Refusal.UnknownTag)
   unknown-out k = record { is = λ refusal f tagged l. entry-unknown (edition n) K refusal made f (ap (known FileKind.Proof) tagged ∙ k) }
 
 -- ---- the entries
@@ -124,18 +128,18 @@ module _ (n K : ℕ) where
     unfolding entries_read
     entries-here = rw k.is
 
-    laid-here : {x : Laid} → FieldLaid n K t len made x → AnswersOf (λ m. answer m file_proof a) (edition n).line_width t len x (entry (edition n) K (λ m. answer m file_proof a) made field)
+    laid-here : {x : code.Result Bool Refusal} → FieldLaid n K t len made x → AnswersOf (λ m. answer m file_proof a) (edition n).line_width t len x (entry (edition n) K (λ m. answer m file_proof a) made field)
     laid-here e = e.is (λ m. answer m file_proof a) field refl (starts-size k)
 
-    pub entries-on : {x : Laid} {m : Bool} → FieldLaid n K t len made x → x ≡ Laid.Fine m → read made (fields_at s at) ≡ read m (fields_at s next)
+    pub entries-on : {x : code.Result Bool Refusal} {m : Bool} → FieldLaid n K t len made x → x ≡ Ok m → read made (fields_at s at) ≡ read m (fields_at s next)
     entries-on e f =
         let (x, is, makes, few) = laid-here (rw f at e) in
         entries-here ∙ binds _ is ∙ ap (λ (m : Bool). read m (fields_at s next)) makes
 
-    pub lines-here : {x : Laid} {m : Bool} → FieldLaid n K t len made x → x ≡ Laid.Fine m → line_count (entry_tagged t) * (edition n).line_width ≤ len
+    pub lines-here : {x : code.Result Bool Refusal} {m : Bool} → FieldLaid n K t len made x → x ≡ Ok m → line_count (entry_tagged t) * (edition n).line_width ≤ len
     lines-here e f = let (x, is, makes, few) = laid-here (rw f at e) in few
 
-    pub entries-stop : {x : Laid} {number : ℕ} → FieldLaid n K t len made x → x ≡ Laid.Refused number → read made (fields_at s at) ≡ refused (answer number file_proof a)
+    pub entries-stop : {x : code.Result Bool Refusal} {e : Refusal} → FieldLaid n K t len made x → x ≡ Err e → read made (fields_at s at) ≡ refused (answer (number_of e) file_proof a)
     entries-stop e f = entries-here ∙ bind-refused _ (laid-here (rw f at e))
 
   pub entries-cut : (made : Bool) {fs : Fields} {a : ℕ} → fs ≡ cut a → read made fs ≡ refused (answer 2 file_proof a)
@@ -253,7 +257,7 @@ module _ (a b : ℕ) where
     unfolding each_field
     fits_on h = ap fits k.is ∙ needs _ _ _ (rw h tt)
 
-    pub fits-stop : lines_fit (edition a) (edition b) (item t contents) ≡ false → fits (fields_at s at) ≡ survey_of file_proof (Survey.Refused 10 c)
+    pub fits-stop : lines_fit (edition a) (edition b) (item t contents) ≡ false → fits (fields_at s at) ≡ refused (answer 10 file_proof c)
     unfolding each_field
     fits-stop h = ap fits k.is ∙ fail _ _ h
 
@@ -298,17 +302,22 @@ module _ (a b : ℕ) where
     size-on = ap length turned_on ∙ length-append (field_bytes t (lines_turned (edition a) (edition b) (item t contents))) (turned (fields_at s next))
         ∙ ap (λ (n : ℕ). n + length (turned (fields_at s next))) (length-field_bytes t (lines_turned (edition a) (edition b) (item t contents)) ∙ ap (λ (n : ℕ). 3 + n) turned-size)
 
-  pub fits_cut : {fs : Fields} {c : ℕ} → fs ≡ cut c → fits fs ≡ survey_of file_proof Survey.Fine
-  unfolding each_field
-  fits_cut e = rw e
-
-  pub fits-ends : {fs : Fields} {c : ℕ} → fs ≡ ends c → fits fs ≡ survey_of file_proof Survey.Fine
+  pub fits-ends : {fs : Fields} {c : ℕ} → fs ≡ ends c → fits fs ≡ accepted tt
   unfolding each_field
   fits-ends e = rw e
 
-  pub turned-cut : {fs : Fields} {c : ℕ} → fs ≡ cut c → turned fs ≡ []
+  -- where no whole field is left
+  pub fits-over : (fs : Fields) {r : code.Result WholeField End} → r ≡ next_of fs → ((f : WholeField) → ¬ (r ≡ Ok f)) → fits fs ≡ accepted tt
+  unfolding each_field
+  fits-over (ends c) q h = refl
+  fits-over (cut c) q h = refl
+  fits-over (f ▸ fs) q h = absurd (h _ q)
+
+  pub turned-over : (fs : Fields) {r : code.Result WholeField End} → r ≡ next_of fs → ((f : WholeField) → ¬ (r ≡ Ok f)) → turned fs ≡ []
   unfolding fields_turned
-  turned-cut e = rw e
+  turned-over (ends c) q h = refl
+  turned-over (cut c) q h = refl
+  turned-over (f ▸ fs) q h = absurd (h _ q)
 
   pub turned-ends : {fs : Fields} {c : ℕ} → fs ≡ ends c → turned fs ≡ []
   unfolding fields_turned

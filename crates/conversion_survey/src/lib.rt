@@ -2,54 +2,42 @@
 // specs/SurveyAnswers.antt has its answers as those of the definition (conversion/specs/Turning.antt).
 #![tactic(auto)]
 
-ghost use Rattle.std.specs.Prelude.{◌≡◌, ◌&&◌, ◌+◌, ◌-◌, ◌*◌, ◌^◌, ◌≤◌, ltb, length, take, drop};
+ghost use Rattle.std.specs.Prelude.{◌≡◌, ◌+◌, ◌-◌, ◌*◌, ◌^◌, ◌≤◌, ltb, length, take, drop};
 ghost use Rattle.forms.specs.Edition.{edition, edition1};
 ghost use Rattle.forms.specs.Forms.{every};
 ghost use Rattle.answers.specs.Answers.{file_proof};
+ghost use Rattle.answers.specs.Refusals.{told};
 ghost use Rattle.number_bytes.specs.Numbers.{unsigned, unsigneds};
 ghost use Rattle.fields.specs.Places.{fields_at};
 ghost use Rattle.proof.specs.Entries.{entry_tagged, line_count};
 ghost use Rattle.conversion.specs.Turning.{each_field, lines_fit};
-ghost use Rattle.conversion_survey.specs.SurveyAnswers.{survey_of, sized_as, FieldLaid, EntriesReadAs, LinesThere};
+ghost use Rattle.conversion_survey.specs.SurveyAnswers.{sized_as, FieldLaid, EntriesReadAs, LinesThere};
 
-use fields::{Next, next_field};
+use answers::refusals::{Fault, Refusal};
+use fields::{End, next_field};
 use forms::{MULTIPLIER_BYTES, TERM_BYTES, line_bytes};
 use number_bytes::numbers::unsigned_at;
 
-// Nothing is amiss; or the first fault and its place.
+// How many bytes the fields have together when they are turned; if `fit`, the edition asked for holds each line number.
 #[derive(Clone, Copy)]
-pub enum Survey {
-    Fine,
-    Refused { number: u8, place: usize },
-}
-
-// Each field is an entry in its place, and turned they have so many bytes together; if `fit`, the edition asked for holds each
-// line number. Or the first fault and its place.
-#[derive(Clone, Copy)]
-pub enum Entries {
-    Turned { size: usize, fit: bool },
-    Refused { number: u8, place: usize },
-}
-
-// An entry is as it should be, and a claim may stand behind it or not; or what it is refused for.
-#[derive(Clone, Copy)]
-enum Laid {
-    Fine { made: bool },
-    Refused { number: u8 },
+pub struct Turned {
+    pub size: usize,
+    pub fit: bool,
 }
 
 // Contents of `len` bytes where `size` are laid out. 6.
-fn sized(len: usize, size: usize, made: bool) -> Laid
+fn sized(len: usize, size: usize, made: bool) -> Result<bool, Refusal>
     ensures { result ≡ sized_as len size made }
 {
     if len == size {
-        return Laid::Fine { made };
+        return Ok(made);
     }
-    Laid::Refused { number: 6 }
+    Err(Refusal::WrongLength)
 }
 
-// What a field of a proof of edition e is, by its tag and length alone: an entry's contents are not looked at. 3, 4, 6.
-fn laid_out(tag: u8, len: usize, k: usize, e: u8, made: bool) -> Laid
+// Whether a claim may stand behind a field of a proof of edition e, by its tag and length alone: an entry's contents are not
+// looked at. 3, 4, 6.
+fn laid_out(tag: u8, len: usize, k: usize, e: u8, made: bool) -> Result<bool, Refusal>
     requires { k ≤ edition1.constants }
     ensures { FieldLaid e k tag len made result }
 {
@@ -67,11 +55,11 @@ fn laid_out(tag: u8, len: usize, k: usize, e: u8, made: bool) -> Laid
             if made {
                 return sized(len, 2 * TERM_BYTES * (k + 1), false);
             }
-            Laid::Refused { number: 4 }
+            Err(Refusal::MisplacedTag)
         }
-        0x01 => Laid::Refused { number: 4 },
-        0x02 => Laid::Refused { number: 4 },
-        _ => Laid::Refused { number: 3 },
+        0x01 => Err(Refusal::MisplacedTag),
+        0x02 => Err(Refusal::MisplacedTag),
+        _ => Err(Refusal::UnknownTag),
     }
 }
 
@@ -132,34 +120,18 @@ fn lines_held(p: &[u8], start: usize, n: usize, e: u8, to: u8) -> bool
 }
 
 // The first field with a line number that the edition asked for cannot hold.
-pub fn first_wide(p: &[u8], at: usize, e: u8, to: u8) -> Survey
+pub fn first_wide(p: &[u8], at: usize, e: u8, to: u8) -> Result<(), Fault>
     requires { LinesThere (edition e).line_width (fields_at p.now at) }
-    ensures { each_field 10 file_proof (lines_fit (edition e) (edition to)) (fields_at p.now at) ≡ survey_of file_proof result }
+    ensures { each_field 10 file_proof (lines_fit (edition e) (edition to)) (fields_at p.now at) ≡ told file_proof (λ x. x) result }
 {
     let mut here = at;
-    loop {
-        match next_field(p, here) {
-            Next::Field {
-                at: place,
-                tag,
-                start,
-                len: _,
-                next,
-            } => {
-                if lines_held(p, start, line_count(tag), e, to) {
-                    here = next;
-                } else {
-                    return Survey::Refused { number: 10, place };
-                }
-            }
-            Next::Cut { at: _ } => {
-                return Survey::Fine;
-            }
-            Next::Ends { at: _ } => {
-                return Survey::Fine;
-            }
+    while let Ok(field) = next_field(p, here) {
+        if !lines_held(p, field.start, line_count(field.tag), e, to) {
+            return Err(field.refused(Refusal::NoSuchLine));
         }
+        here = field.next;
     }
+    Ok(())
 }
 
 // How many bytes the contents of a field have when its line numbers are turned.
@@ -175,7 +147,7 @@ pub fn turned_len(tag: u8, len: usize, e: u8, to: u8) -> usize
 
 // Whether each field is an entry in its place, whether its line numbers fit, and how many bytes they have together when they are
 // turned: all at once, since a proof that is turned passes all. No line is looked for.
-pub fn read_entries(p: &[u8], at: usize, k: u8, e: u8, to: u8) -> Entries
+pub fn read_entries(p: &[u8], at: usize, k: u8, e: u8, to: u8) -> Result<Turned, Fault>
     requires k_le_constants { k ≤ edition1.constants }
     requires p_len_bound { length p.now ≤ 65_536 }
     ensures { EntriesReadAs e to k (fields_at p.now at) result }
@@ -186,31 +158,22 @@ pub fn read_entries(p: &[u8], at: usize, k: u8, e: u8, to: u8) -> Entries
     let mut fit = true;
     loop {
         match next_field(p, here) {
-            Next::Field {
-                at: place,
-                tag,
-                start,
-                len,
-                next,
-            } => {
-                match laid_out(tag, len, k as usize, e, made) {
-                    Laid::Fine { made: claimable } => {
-                        fit &= lines_held(p, start, line_count(tag), e, to);
-                        size += 3 + turned_len(tag, len, e, to);
-                        made = claimable;
-                        here = next;
-                    }
-                    Laid::Refused { number } => {
-                        return Entries::Refused { number, place };
-                    }
+            Ok(field) => {
+                match laid_out(field.tag, field.len, k as usize, e, made) {
+                    Ok(makes) => made = makes,
+                    Err(refusal) => return Err(field.refused(refusal)),
                 }
+                fit &= lines_held(p, field.start, line_count(field.tag), e, to);
+                size += 3 + turned_len(field.tag, field.len, e, to);
+                here = field.next;
             }
-            Next::Cut { at: place } => {
-                return Entries::Refused { number: 2, place };
+            Err(End::Cut { at: place }) => {
+                return Err(Fault {
+                    refusal: Refusal::Truncated,
+                    place,
+                });
             }
-            Next::Ends { at: _ } => {
-                return Entries::Turned { size, fit };
-            }
+            Err(End::Ends { at: _ }) => return Ok(Turned { size, fit }),
         }
     }
 }

@@ -14,7 +14,7 @@ ghost use Rattle.conversion_survey.specs.SurveyAnswers.{LinesThere};
 
 use conversion_survey::{line_at, line_count, turned_len};
 use fields::header::put_head;
-use fields::{Next, next_field};
+use fields::{WholeField, next_field};
 use forms::line_bytes;
 use number_bytes::copy::copy_bytes;
 use number_bytes::numbers::put_unsigned;
@@ -59,12 +59,15 @@ fn put_lines(p: &[u8], start: usize, n: usize, e: u8, to: u8, out: &mut [u8], o:
 }
 
 // One field.
-fn put_entry(p: &[u8], tag: u8, start: usize, len: usize, e: u8, to: u8, out: &mut [u8], o: usize)
-    requires e_bound { line_count (entry_tagged tag) * (edition e).line_width ≤ len }
-    requires len_in_bounds { (start + len ≤ length p.now) × (len ≤ 65_536) }
-    requires e_in_bounds { o + 3 + (line_count (entry_tagged tag) * (edition to).line_width + (len - line_count (entry_tagged tag) * (edition e).line_width)) ≤ length out.old }
-    ensures { out.new ≡ sets out.old o (field_bytes tag (lines_turned (edition e) (edition to) (item tag (take len (drop start p.now))))) }
+fn put_entry(p: &[u8], field: WholeField, e: u8, to: u8, out: &mut [u8], o: usize)
+    requires e_bound { line_count (entry_tagged field.tag) * (edition e).line_width ≤ field.len }
+    requires len_in_bounds { (field.start + field.len ≤ length p.now) × (field.len ≤ 65_536) }
+    requires e_in_bounds { o + 3 + (line_count (entry_tagged field.tag) * (edition to).line_width + (field.len - line_count (entry_tagged field.tag) * (edition e).line_width)) ≤ length out.old }
+    ensures { out.new ≡ sets out.old o (field_bytes field.tag (lines_turned (edition e) (edition to) (item field.tag (take field.len (drop field.start p.now))))) }
 {
+    let WholeField {
+        tag, start, len, ..
+    } = field;
     let n = line_count(tag);
     let head = n * line_bytes(e);
     let wide = n * line_bytes(to);
@@ -82,25 +85,9 @@ pub fn put_entries(p: &[u8], at: usize, e: u8, to: u8, out: &mut [u8], o: usize)
 {
     let mut here = at;
     let mut end = o;
-    loop {
-        match next_field(p, here) {
-            Next::Field {
-                at: _,
-                tag,
-                start,
-                len,
-                next,
-            } => {
-                put_entry(p, tag, start, len, e, to, out, end);
-                end += 3 + turned_len(tag, len, e, to);
-                here = next;
-            }
-            Next::Cut { at: _ } => {
-                return;
-            }
-            Next::Ends { at: _ } => {
-                return;
-            }
-        }
+    while let Ok(field) = next_field(p, here) {
+        put_entry(p, field, e, to, out, end);
+        end += 3 + turned_len(field.tag, field.len, e, to);
+        here = field.next;
     }
 }

@@ -8,8 +8,8 @@ use Rattle.conversion_survey.specs.SurveyAnswers.{LinesThere}
 use Rattle.conversion_survey.proofs.SurveyedFields.{fits}
 use Rattle.conversion_survey.proofs.first_wide.Given as goal
 
-abbrev pub invariant-loop-place : goal.invariant-loop-place
-invariant-loop-place l = (fits l.e l.to (fields_at l.p l.at) ≡ fits l.e l.to (fields_at l.p l.here)) × LinesThere (edition l.e).line_width (fields_at l.p l.here)
+abbrev pub invariant-loop-field : goal.invariant-loop-field
+invariant-loop-field l = (fits l.e l.to (fields_at l.p l.at) ≡ fits l.e l.to (fields_at l.p l.here)) × LinesThere (edition l.e).line_width (fields_at l.p l.here)
 
-abbrev pub decreases-loop-place : goal.decreases-loop-place
-decreases-loop-place l = length l.p - l.here
+abbrev pub decreases-loop-field : goal.decreases-loop-field
+decreases-loop-field l = length l.p - l.here

@@ -7,9 +7,9 @@ use Rattle.fields.specs.Places.{fields_at}
 use Rattle.conversion_survey.proofs.SurveyedFields.{read, turned, fits}
 use Rattle.conversion_survey.proofs.read_entries.Given as goal
 
-abbrev pub invariant-loop-place : goal.invariant-loop-place
-invariant-loop-place l = (read l.e l.k false (fields_at l.p l.at) ≡ read l.e l.k l.made (fields_at l.p l.here)) × (length (turned l.e l.to (fields_at l.p l.at)) ≡ l.size + length (turned l.e l.to (fields_at l.p l.here)))
+abbrev pub invariant-loop-field : goal.invariant-loop-field
+invariant-loop-field l = (read l.e l.k false (fields_at l.p l.at) ≡ read l.e l.k l.made (fields_at l.p l.here)) × (length (turned l.e l.to (fields_at l.p l.at)) ≡ l.size + length (turned l.e l.to (fields_at l.p l.here)))
     × (l.size + (length l.p - l.here) + (length l.p - l.here) ≤ 131_072) × (l.fit ≡ true → fits l.e l.to (fields_at l.p l.at) ≡ fits l.e l.to (fields_at l.p l.here))
 
-abbrev pub decreases-loop-place : goal.decreases-loop-place
-decreases-loop-place l = length l.p - l.here
+abbrev pub decreases-loop-field : goal.decreases-loop-field
+decreases-loop-field l = length l.p - l.here

@@ -4,41 +4,35 @@ use Prim.Native.Nat.{◌+◌, ◌≤◌}
 use lib.ListN.{length}
 use native.Mathlib.Omega.{arith}
 use Rattle.fields.specs.Places.{fields_at}
-use Rattle.fields.proofs.Places.{starts, starts-less, next-cut, next-ends}
-use Rattle.conversion_survey.proofs.SurveyedFields.{turned, turned-cut, turned-ends, there-here, there-on, len-most}
+use Rattle.fields.proofs.Places.{starts, starts-less}
+use Rattle.conversion_survey.proofs.SurveyedFields.{turned, turned-over, there-here, there-on, len-most}
 use Rattle.conversion_write.proofs.Putting.{room-step, put_step, put-length, put-room, put-over}
 use borrow.Author.Rules.{rules}
 use Rattle.conversion_write.proofs.put_entries.Goals as goal
 
-pub loop-tag-init : goal.loop-tag-init
-loop-tag-init c = (refl, c.requires.lines_there, c.requires.at_in_bounds, refl)
+pub loop-field-init : goal.loop-field-init
+loop-field-init c = (refl, c.requires.lines_there, c.requires.at_in_bounds, refl)
 
 pub put_entry-requires : goal.put_entry-requires
-put_entry-requires c = let k = starts c.next_field.ensures c.in-Field.is in record { e_bound = there-here c.args.e c.args.to k c.loop-tag.invariant.1; len_in_bounds = (omega (arith, k.upto, k.next-is), len-most c.args.e c.args.to k c.requires.p_len_bound); e_in_bounds = room-step c.args.e c.args.to k c.loop-tag.out c.loop-tag.end c.loop-tag.invariant.2 }
+put_entry-requires c = let k = starts c.next_field.ensures c.in-Ok.is in record { e_bound = there-here c.args.e c.args.to k c.loop-field.invariant.1; len_in_bounds = (omega (arith, k.upto, k.next-is), len-most c.args.e c.args.to k c.requires.p_len_bound); e_in_bounds = room-step c.args.e c.args.to k c.loop-field.out c.loop-field.end c.loop-field.invariant.2 }
 
 pub turned_len-requires : goal.turned_len-requires
-turned_len-requires c = let k = starts c.next_field.ensures c.in-Field.is in record { e_bound = there-here c.args.e c.args.to k c.loop-tag.invariant.1; len_bound = len-most c.args.e c.args.to k c.requires.p_len_bound }
+turned_len-requires c = let k = starts c.next_field.ensures c.in-Ok.is in record { e_bound = there-here c.args.e c.args.to k c.loop-field.invariant.1; len_bound = len-most c.args.e c.args.to k c.requires.p_len_bound }
 
 pub overflow_add-end : goal.overflow_add-end
-overflow_add-end c = let k = starts c.next_field.ensures c.in-Field.is in omega (arith, c.turned_len.ensures.most, len-most c.args.e c.args.to k c.requires.p_len_bound)
+overflow_add-end c = let k = starts c.next_field.ensures c.in-Ok.is in omega (arith, c.turned_len.ensures.most, len-most c.args.e c.args.to k c.requires.p_len_bound)
 
-pub overflow_add-end-in-Field : goal.overflow_add-end-in-Field
-overflow_add-end-in-Field c = let k = starts c.next_field.ensures c.in-Field.is in let h : c.loop-tag.end + (3 + c.turned_len.result) ≤ length c.loop-tag.out = omega (arith, room-step c.args.e c.args.to k c.loop-tag.out c.loop-tag.end c.loop-tag.invariant.2, c.turned_len.ensures.is) in search rules
+pub overflow_add-end-in-Ok : goal.overflow_add-end-in-Ok
+overflow_add-end-in-Ok c = let k = starts c.next_field.ensures c.in-Ok.is in let h : c.loop-field.end + (3 + c.turned_len.result) ≤ length c.loop-field.out = omega (arith, room-step c.args.e c.args.to k c.loop-field.out c.loop-field.end c.loop-field.invariant.2, c.turned_len.ensures.is) in search rules
 
-pub loop-tag-smaller : goal.loop-tag-smaller
-loop-tag-smaller c = starts-less (starts c.next_field.ensures c.in-Field.is)
+pub loop-field-smaller : goal.loop-field-smaller
+loop-field-smaller c = starts-less (starts c.next_field.ensures c.in-Ok.is)
 
-pub loop-tag-preserved : goal.loop-tag-preserved
-loop-tag-preserved c = let k = starts c.next_field.ensures c.in-Field.is in (c.loop-tag.invariant.0 ∙ put_step c.args.e c.args.to k c.loop-tag.out c.loop-tag.end c.put_entry.ensures c.turned_len.result c.turned_len.ensures.is, there-on c.args.e c.args.to k c.loop-tag.invariant.1, put-room c.args.e c.args.to k c.loop-tag.out c.loop-tag.end c.put_entry.ensures c.turned_len.result c.turned_len.ensures.is c.loop-tag.invariant.2, put-length c.args.e c.args.to k c.loop-tag.out c.loop-tag.end c.put_entry.ensures c.turned_len.result c.turned_len.ensures.is ∙ c.loop-tag.invariant.3)
+pub loop-field-preserved : goal.loop-field-preserved
+loop-field-preserved c = let k = starts c.next_field.ensures c.in-Ok.is in (c.loop-field.invariant.0 ∙ put_step c.args.e c.args.to k c.loop-field.out c.loop-field.end c.put_entry.ensures c.turned_len.result c.turned_len.ensures.is, there-on c.args.e c.args.to k c.loop-field.invariant.1, put-room c.args.e c.args.to k c.loop-field.out c.loop-field.end c.put_entry.ensures c.turned_len.result c.turned_len.ensures.is c.loop-field.invariant.2, put-length c.args.e c.args.to k c.loop-field.out c.loop-field.end c.put_entry.ensures c.turned_len.result c.turned_len.ensures.is ∙ c.loop-field.invariant.3)
 
-pub shape_of-out-in-Cut : goal.shape_of-out-in-Cut
-shape_of-out-in-Cut c = c.loop-tag.invariant.3
+pub shape_of-out : goal.shape_of-out
+shape_of-out c = c.loop-field.invariant.3
 
-pub returns-in-Cut : goal.returns-in-Cut
-returns-in-Cut c = put-over c.args.out.now c.loop-tag.out (turned c.args.e c.args.to (fields_at c.args.p.now c.args.at)) c.args.o c.loop-tag.end c.loop-tag.invariant.0 (turned-cut c.args.e c.args.to (next-cut (fields_at c.args.p.now c.loop-tag.here) c.next_field.ensures c.in-Cut.is))
-
-pub shape_of-out-in-Ends : goal.shape_of-out-in-Ends
-shape_of-out-in-Ends c = c.loop-tag.invariant.3
-
-pub returns-in-Ends : goal.returns-in-Ends
-returns-in-Ends c = put-over c.args.out.now c.loop-tag.out (turned c.args.e c.args.to (fields_at c.args.p.now c.args.at)) c.args.o c.loop-tag.end c.loop-tag.invariant.0 (turned-ends c.args.e c.args.to (next-ends (fields_at c.args.p.now c.loop-tag.here) c.next_field.ensures c.in-Ends.is))
+pub returns : goal.returns
+returns c = put-over c.args.out.now c.loop-field.out (turned c.args.e c.args.to (fields_at c.args.p.now c.args.at)) c.args.o c.loop-field.end c.loop-field.invariant.0 (turned-over c.args.e c.args.to (fields_at c.args.p.now c.loop-field.here) c.next_field.ensures c.in_default.not-Ok)

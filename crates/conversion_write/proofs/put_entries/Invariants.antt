@@ -9,8 +9,8 @@ use Rattle.conversion_survey.specs.SurveyAnswers.{LinesThere}
 use Rattle.conversion_survey.proofs.SurveyedFields.{turned}
 use Rattle.conversion_write.proofs.put_entries.Given as goal
 
-abbrev pub invariant-loop-tag : goal.invariant-loop-tag
-invariant-loop-tag l = (sets l.initial.out l.o (turned l.e l.to (fields_at l.p l.at)) ≡ sets l.out l.end (turned l.e l.to (fields_at l.p l.here))) × LinesThere (edition l.e).line_width (fields_at l.p l.here) × (l.end + length (turned l.e l.to (fields_at l.p l.here)) ≤ length l.out) × (length l.out ≡ length l.initial.out)
+abbrev pub invariant-loop-field : goal.invariant-loop-field
+invariant-loop-field l = (sets l.initial.out l.o (turned l.e l.to (fields_at l.p l.at)) ≡ sets l.out l.end (turned l.e l.to (fields_at l.p l.here))) × LinesThere (edition l.e).line_width (fields_at l.p l.here) × (l.end + length (turned l.e l.to (fields_at l.p l.here)) ≤ length l.out) × (length l.out ≡ length l.initial.out)
 
-abbrev pub decreases-loop-tag : goal.decreases-loop-tag
-decreases-loop-tag l = length l.p - l.here
+abbrev pub decreases-loop-field : goal.decreases-loop-field
+decreases-loop-field l = length l.p - l.here
