@@ -26,7 +26,8 @@ use Rattle.bundle.specs.Write.{holdable}
 use Rattle.bundle.proofs.Every.{every_of, of-every}
 use Rattle.bundle.proofs.Writable.{holdable-both, holdable-held}
 use Rattle.number_ranges.proofs.Ranging.{and-true, two-held}
-use Rattle.bundle_scan.specs.Scan.{fault_of, Counted, counted, stated}
+use Rattle.std.specs.Prelude.{Ok}
+use Rattle.bundle_scan.specs.Scan.{fault_of, counted, stated}
 use Rattle.bundle_scan.proofs.Scanning.{proper-of, passed-both}
 use Rattle.bundle_scan.proofs.SecondPass.{LeftTurn}
 use Rattle.conversion.specs.Turning.{other, each_field, numbers_fit}
@@ -106,7 +107,7 @@ small-wide (pos n) h = holdable-both 4 (pos n) (record { high = omega (arith, le
 small-wide (negsuc n) h = holdable-both 4 (negsuc n) (record { high = omega arith; low = omega (arith, leb→le (suc n) 2_147_483_647 h) }) h
 
 -- so that every number of a constraint without fault is held
-pub up-held : (to K n m : ℕ) (fs : Fields) → new_width to ≡ 4 → counted (old_width to) K n fs ≡ Counted.count m → numbers_held to K fs ≡ accepted tt
+pub up-held : (to K n m : ℕ) (fs : Fields) → new_width to ≡ 4 → counted (old_width to) K n fs ≡ Ok m → numbers_held to K fs ≡ accepted tt
 unfolding counted each_field numbers_fit form_small
 up-held to K n m (ends at) w e = refl
 up-held to K n m (cut at) w e = refl

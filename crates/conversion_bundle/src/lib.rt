@@ -7,6 +7,7 @@ ghost use Rattle.std.specs.Prelude.{◌≡◌, true, ◌+◌, ◌*◌, ◌≤◌
 ghost use Rattle.std.proofs.lemmas.List.Edits.{sets};
 ghost use Rattle.forms.specs.Forms.{every};
 ghost use Rattle.answers.specs.Answers.{file_a, accepted};
+ghost use Rattle.answers.specs.Refusals.{told};
 ghost use Rattle.number_bytes.specs.Numbers.{signed, signeds, signeds_bytes};
 ghost use Rattle.number_bytes.specs.Widths.{bytes_of};
 ghost use Rattle.fields.specs.Fields.{field_bytes};
@@ -14,10 +15,9 @@ ghost use Rattle.fields.specs.Places.{fields_at};
 ghost use Rattle.bundle.specs.Write.{holdable};
 ghost use Rattle.bundle.specs.Writable.{field_size};
 ghost use Rattle.bundle_scan.specs.Scan.{ConstraintsLeft};
-ghost use Rattle.conversion_survey.specs.SurveyAnswers.{survey_of};
 ghost use Rattle.conversion_bundle.specs.Turned.{old_width, new_width, numbers_held, constraints_turned, bundle_turned_bytes};
 
-use conversion_survey::Survey;
+use answers::refusals::{Fault, Refusal};
 use fields::header::{put_head, put_header};
 use forms::coefficient_bytes;
 use number_bytes::numbers::unsigned_at;
@@ -52,9 +52,9 @@ fn longs_held(s: &[u8], start: usize, n: usize) -> bool
 }
 
 // Of the count constraints from at on, of edition 2, the first with a number that edition 1 does not hold.
-fn first_long(s: &[u8], at: usize, k: u8, count: usize) -> Survey
+fn first_long(s: &[u8], at: usize, k: u8, count: usize) -> Result<(), Fault>
     requires { ConstraintsLeft 4 k 0 count s.now at }
-    ensures { numbers_held 1 k (fields_at s.now at) ≡ survey_of file_a result }
+    ensures { numbers_held 1 k (fields_at s.now at) ≡ told file_a (λ x. x) result }
 {
     let many = k as usize + 1;
     let size = 3 + many * 4;
@@ -67,27 +67,27 @@ fn first_long(s: &[u8], at: usize, k: u8, count: usize) -> Survey
                 here += size;
                 n += 1;
             } else {
-                return Survey::Refused {
-                    number: 13,
+                return Err(Fault {
+                    refusal: Refusal::OutOfRange,
                     place: here,
-                };
+                });
             }
         } else {
             here += 3 + unsigned_at(s, here + 1, 2) as usize;
         }
     }
-    Survey::Fine
+    Ok(())
 }
 
 // The same for the edition asked for: edition 2 holds every number of edition 1, so that nothing is gone over.
-pub fn first_field_unheld(s: &[u8], at: usize, k: u8, count: usize, to: u8) -> Survey
+pub fn first_field_unheld(s: &[u8], at: usize, k: u8, count: usize, to: u8) -> Result<(), Fault>
     requires { ConstraintsLeft (old_width to) k 0 count s.now at }
-    ensures { numbers_held to k (fields_at s.now at) ≡ survey_of file_a result }
+    ensures { numbers_held to k (fields_at s.now at) ≡ told file_a (λ x. x) result }
 {
     if to == 1 {
         return first_long(s, at, k, count);
     }
-    Survey::Fine
+    Ok(())
 }
 
 // ---- constraints written

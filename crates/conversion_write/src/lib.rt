@@ -66,7 +66,10 @@ fn put_entry(p: &[u8], field: WholeField, e: u8, to: u8, out: &mut [u8], o: usiz
     ensures { out.new ≡ sets out.old o (field_bytes field.tag (lines_turned (edition e) (edition to) (item field.tag (take field.len (drop field.start p.now))))) }
 {
     let WholeField {
-        tag, start, len, ..
+        tag,
+        start,
+        len,
+        ..
     } = field;
     let n = line_count(tag);
     let head = n * line_bytes(e);
