@@ -8,14 +8,17 @@ ghost use Rattle.std.specs.Prelude.{◌≡◌};
 ghost use Rattle.std.proofs.Math.Option.{none};
 ghost use Rattle.forms.specs.Edition.{newest_edition};
 ghost use Rattle.answers.specs.Answers.{answer, file_a};
+ghost use Rattle.answers.specs.Refusals.{number_of};
 ghost use Rattle.bundle.specs.Bundle.{bundle};
 ghost use Rattle.bundle.specs.Read.{stored};
 ghost use Rattle.bundle_scan.specs.Scan.{IsBundle};
 ghost use Rattle.bundle_read.specs.Promises.{read_of, Reads};
 
+use answers::refusals::Refusal;
 use answers::{Answer, acceptance, refusal};
-use bundle_scan::{Body, Scanned, scan};
-use forms::{BUNDLE_BYTES, coefficient_bytes};
+use bundle_scan::{Body, scan};
+use forms::BUNDLE_BYTES;
+use number_bytes::words::Width;
 use store::store_constraints;
 
 // What reading a bundle answers: the edition, how many constraints and K, 0 for all where it is refused.
@@ -28,11 +31,11 @@ pub struct ReadResult {
     pub edition: u8,
 }
 
-fn refused_read(number: u8, file: u8, place: usize) -> ReadResult
-    ensures { result ≡ record { answer = answer number file place; count = 0; k = 0; edition = 0 } }
+fn refused_read(reason: Refusal, file: u8, place: usize) -> ReadResult
+    ensures { result ≡ record { answer = answer (number_of reason) file place; count = 0; k = 0; edition = 0 } }
 {
     ReadResult {
-        answer: refusal(number, file, place),
+        answer: refusal(reason, file, place),
         count: 0,
         k: 0,
         edition: 0,
@@ -47,12 +50,12 @@ fn store_body(file: &[u8], k: u8, body: Body, kinds: &mut [u8], numbers: &mut [i
     let edition = body.edition;
     let count = body.count;
     if kinds.len() < count {
-        return refused_read(21, 4, count);
+        return refused_read(Refusal::OutputTooShort, 4, count);
     }
     if numbers.len() < count * (k as usize + 1) {
-        return refused_read(21, 4, count);
+        return refused_read(Refusal::OutputTooShort, 4, count);
     }
-    let width = coefficient_bytes(edition);
+    let width = Width::of_coefficients(edition);
     store_constraints(file, body.at, width, k, count, kinds, numbers);
     ReadResult {
         answer: acceptance(),
@@ -67,10 +70,10 @@ pub fn read(file: &[u8], kinds: &mut [u8], numbers: &mut [i32]) -> ReadResult
     ensures { Reads file.now kinds.old numbers.old kinds.new numbers.new result }
 {
     if file.len() > BUNDLE_BYTES {
-        return refused_read(1, 1, 0);
+        return refused_read(Refusal::TooLong, 1, 0);
     }
     match scan(file, 0, 0) {
-        Scanned::Bundle { k, body, start: _ } => store_body(file, k, body, kinds, numbers),
-        Scanned::Refused { number, place } => refused_read(number, 1, place),
+        Ok(bundle) => store_body(file, bundle.k, bundle.body, kinds, numbers),
+        Err(fault) => refused_read(fault.refusal, 1, fault.place),
     }
 }

@@ -7,11 +7,12 @@ use native.Mathlib.Numerals.{add-one}
 use native.Mathlib.Omega.{arith}
 use lib.IntN.{ℤ}
 use lib.ListN.{length, take, drop, set, length-append, length-drop, drop_of_length-le}
-use lib.Seq.{drop-drop, length-take-le, take_at, take-suc-set}
+use lib.Seq.{sets, drop-drop, length-take-le, take_at, take-suc-set}
 use borrow.Rule.Slice.PartMut.{put_mid, same_len_mid}
 use Rattle.std.proofs.lemmas.Slice.{take-put_mid}
 use Rattle.number_bytes.specs.Numbers.{signed, signeds}
 use Rattle.number_bytes.proofs.Signed.{length-signeds}
+use Rattle.number_bytes.proofs.Stores.{sets-mid}
 
 signeds-add : (w m r : ℕ) (bs : List ℕ) → signeds w (m + r) bs ≡ signeds w m bs ++ signeds w r (drop (m * w) bs)
 unfolding signeds
@@ -56,3 +57,9 @@ length-first w l ys m k s z e h = omega (arith, length-append ys (drop m l), len
 pub length-more : (w : ℕ) (l zs : List ℤ) (a k r : ℕ) (s : List ℕ) → r ≡ k → zs ≡ signeds w r s → a + k ≤ length l → length (put_mid a k l zs) ≡ length l
 length-more w l zs a k r s z e h =
     same_len_mid a k l zs (ap length e ∙ length-signeds w r s ∙ z ∙ sym (length-take-le k (drop a l) (rw length-drop (omega arith))))
+
+-- ---- a part of lent numbers, read whole
+pub stored-part : (w at n k : ℕ) (l ys : List ℤ) (s : List ℕ) → k ≡ n → at + n ≤ length l → ys ≡ signeds w (length (take k (drop at l))) s → put_mid at k l ys ≡ sets l at (signeds w n s)
+stored-part w at n k l ys s z h e =
+    let f : length (take k (drop at l)) ≡ n = rw z (length-take-le n (drop at l) (rw length-drop (omega arith))) in
+    sets-mid at n k l (signeds w n s) ys (rw f at e) (length-signeds w n s) (sym z) h

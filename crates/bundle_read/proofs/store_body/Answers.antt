@@ -1,9 +1,8 @@
 -- `bundle_read::store_body` meets its contract: each `return` cites the law for its way. Assumes nothing.
-use mathlib.Core.Path.{◌≡◌, sym, ◌∙◌}
-use Prim.Native.Nat.{suc, ◌+◌, ◌≤◌}
+use mathlib.Core.Path.{sym, ◌∙◌}
+use Prim.Native.Nat.{◌+◌, ◌≤◌}
 use native.Mathlib.Nat.{mul-le-mul}
 use native.Mathlib.Omega.{arith}
-use Rattle.forms.proofs.Editions.{coefficient_width-is}
 use Rattle.bundle_scan.proofs.Bodies.{few, high}
 use Rattle.bundle_read.proofs.Reading.{read-unread, short-kinds, short-numbers, read-stored}
 use Rattle.bundle_read.proofs.store_body.Goals as goal
@@ -19,10 +18,8 @@ overflow_mul-count c =
 pub returns-then-numbers-count : goal.returns-then-numbers-count
 returns-then-numbers-count c = read-unread _ _ c.refused_read-then-numbers-count.ensures ∙ sym (short-numbers _ _ c.requires c.if-kinds-count.false c.if-numbers-count.true)
 
-pub store_constraints-requires : goal.store_constraints-requires
-store_constraints-requires c =
-    let e : suc c.args.k ≡ c.args.k + 1 = omega arith in
-    rw c.coefficient_bytes-width.ensures (record { fact = (coefficient_width-is c.args.body.edition, high c.requires); storable = record { is = c.requires.counts; kinds_fit = c.if-kinds-count.false; numbers_fit = rw e c.if-numbers-count.false } })
+pub store_constraints-requires-clause-few : goal.store_constraints-requires-clause-few
+store_constraints-requires-clause-few c = high c.requires
 
 pub returns : goal.returns
-returns c = rw c.acceptance.ensures (read-stored _ _ c.requires c.if-kinds-count.false c.if-numbers-count.false c.coefficient_bytes-width.ensures c.store_constraints.ensures.kinds c.store_constraints.ensures.numbers)
+returns c = rw c.acceptance.ensures (read-stored _ _ c.requires c.if-kinds-count.false c.if-numbers-count.false c.of_coefficients-width.ensures c.store_constraints.ensures.kinds c.store_constraints.ensures.numbers)
