@@ -6,6 +6,8 @@ use Prim.Native.Nat.{ℕ, zero, suc, ◌+◌, ◌*◌, ◌≤◌, ◌<◌}
 use native.Mathlib.Omega.{arith}
 use lib.Dec.{eqb, leb}
 use borrow.Author.Tests.{eqb-true, eqb-false, leb-true}
+use Rattle.std.specs.Prelude.{Err}
+use Rattle.answers.specs.declared.refusals.Refusal.{Refusal}
 use Rattle.forms.specs.Edition.{edition1}
 use Rattle.forms.specs.Forms.{≤0, =0}
 use Rattle.fields.specs.declared.FileKind.{FileKind}
@@ -31,12 +33,12 @@ not_known tag h₁ h₂ g = go (eqb tag 1) (eqb tag 2) (leb 0x31 tag) (leb tag 0
     go false false true false p q r s = refl
     go false false false d p q r s = refl
 
-pub unknown : (K tag len : ℕ) → known FileKind.Formula tag ≡ false → Node.Refused 3 ≡ node_of K tag len
+pub unknown : (K tag len : ℕ) → known FileKind.Formula tag ≡ false → Err Refusal.UnknownTag ≡ node_of K tag len
 unfolding node_of node_if
 unknown K tag len e = rw e
 
 -- 0x01 or 0x02
-pub header-tag : (K tag len : ℕ) → 1 ≤ tag → tag < 3 → Node.Refused 4 ≡ node_of K tag len
+pub header-tag : (K tag len : ℕ) → 1 ≤ tag → tag < 3 → Err Refusal.MisplacedTag ≡ node_of K tag len
 unfolding node_of node_if known header_tag formula_tagged
 header-tag K zero len h l = absurd (omega arith)
 header-tag K (suc zero) len h l = refl

@@ -1,4 +1,4 @@
--- The leaves of the formula reader: a joined pair and a stride part, as the code's tests leave them. Assumes nothing.
+-- A stride part, as the code's test leaves it. Assumes nothing.
 use mathlib.Core.Path.{◌≡◌, refl, sym, ap, subst, ◌∙◌}
 use mathlib.Core.Bool.{Bool, true, false}
 use Prim.Native.Nat.{ℕ}
@@ -11,16 +11,9 @@ use mir.Syntax.{w64}
 use mir.Val.{SFits, to_z, of_z}
 use mir.ValLaws.{to_z-of_z}
 use Rattle.integers.specs.Divides.{divb}
-use Rattle.formula_read.specs.Judging.{connected, joined_pair, stride_judged}
-use Rattle.formula_read.specs.declared.reading.Judged.{Judged}
-use Rattle.formula_read.specs.declared.reading.Pair.{Pair}
-
-pub joined-fault : {pair : Pair} {number at : ℕ} (either : Bool) → pair ≡ Pair.Fault number at → Judged.Fault number at ≡ joined_pair pair either
-joined-fault either e = rw e
-
-pub joined-both : {pair : Pair} {first second b : Bool} {next : ℕ} (either : Bool) → pair ≡ Pair.Both first second next → b ≡ connected either first second
-    → Judged.Value b next ≡ joined_pair pair either
-joined-both either e f = rw (e, f)
+use Rattle.std.specs.Prelude.{Ok, Err}
+use Rattle.answers.specs.declared.refusals.Refusal.{Refusal}
+use Rattle.formula_read.specs.Judging.{stride_judged}
 
 -- g below 2, or not
 pub low : (g : ℤ) → lt_z g (pos 2) ≡ true → le_z (pos 2) g ≡ false
@@ -34,13 +27,12 @@ high (negsuc n) h = absurd (let z : ◌≡◌ {A = ℕ} 0 1 = cc in omega arith)
 pub at-least-two : (g : ℤ) → lt_z g (pos 2) ≡ false → pos 2 ≤ℤ g
 at-least-two g h = record { le = subst T (sym (high g h)) tt }
 
-module _ {r g : ℤ} (place next : ℕ) (f : SFits w64 r) (e : r ≡ g) where
-  pub stride-refused : (v : ℤ) → lt_z (to_z w64 (of_z w64 r)) (pos 2) ≡ true → Judged.Fault 12 place ≡ stride_judged place next g v
+module _ {r g : ℤ} (f : SFits w64 r) (e : r ≡ g) where
+  pub stride-refused : (v : ℤ) → lt_z (to_z w64 (of_z w64 r)) (pos 2) ≡ true → Err Refusal.WrongMultiplier ≡ stride_judged g v
   unfolding stride_judged
   stride-refused v h = rw (low g (rw (to_z-of_z w64 r f, e) at h))
 
-  pub stride-judged : {b : Bool} (v : ℤ) → lt_z (to_z w64 (of_z w64 r)) (pos 2) ≡ false
-      → b ≡ divb (to_z w64 (of_z w64 r)) v → Judged.Value b next ≡ stride_judged place next g v
+  pub stride-judged : {b : Bool} (v : ℤ) → lt_z (to_z w64 (of_z w64 r)) (pos 2) ≡ false → b ≡ divb (to_z w64 (of_z w64 r)) v → Ok b ≡ stride_judged g v
   unfolding stride_judged
   stride-judged {b} v h m =
       let n : b ≡ divb g v = m ∙ ap (λ (z : ℤ). divb z v) (to_z-of_z w64 r f ∙ e) in

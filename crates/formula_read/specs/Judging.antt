@@ -1,10 +1,14 @@
 -- What reading a formula and judging it at the registers gives, by cases on the code's answers. Assumes nothing.
-use Rattle.std.specs.Prelude.{◌≡◌, Bool, true, false, ◌&&◌, ◌||◌, cond, List, ℕ, zero, suc, ◌≤◌, ℤ, pos}
+use Rattle.std.specs.Prelude.{◌≡◌, Bool, true, false, ◌&&◌, ◌||◌, cond, List, ℕ, zero, suc, ◌≤◌, ℤ, pos, Ok, Err}
+use Rattle.std.specs.declared.result.Result as code
 use Rattle.std.specs.Int.Signed.{le_z}
 use Rattle.integers.specs.Divides.{divb}
 use Rattle.forms.specs.Edition.{edition1}
 use Rattle.forms.specs.Forms.{Formula}
 use Rattle.answers.specs.Answers.{answer, file_proof, Result, refused, accepted}
+use Rattle.answers.specs.Refusals.{number_of}
+use Rattle.answers.specs.declared.refusals.Refusal.{Refusal}
+use Rattle.answers.specs.declared.refusals.Fault.{Fault}
 use Rattle.fields.specs.Fields.{Fields}
 use Rattle.fields.specs.Places.{fields_at}
 use Rattle.formula.specs.Formula.{formula_within, two_parts}
@@ -32,19 +36,19 @@ pub record Two (s : List ℕ) (at : ℕ) (values : List ℤ) (w : Result (Formul
   pub right_truth : second ≡ judge right (registers values)
   pub on : at ≤ next
 
-abbrev pub Judges : List ℕ → ℕ → List ℤ → Result (Formula × Fields) → Judged → Type 0
-Judges s from values w (Judged.Fault number at) = w ≡ refused (answer number file_proof at)
-Judges s from values w (Judged.Value holds next) = One s from values w holds next
+abbrev pub Judges : List ℕ → ℕ → List ℤ → Result (Formula × Fields) → code.Result Judged Fault → Type 0
+Judges s from values w (Err e) = w ≡ refused (answer (number_of e.refusal) file_proof e.place)
+Judges s from values w (Ok r) = One s from values w r.holds r.next
 
-abbrev pub JudgesTwo : List ℕ → ℕ → List ℤ → Result (Formula × Formula × Fields) → Pair → Type 0
-JudgesTwo s from values w (Pair.Fault number at) = w ≡ refused (answer number file_proof at)
-JudgesTwo s from values w (Pair.Both first second next) = Two s from values w first second next
+abbrev pub JudgesTwo : List ℕ → ℕ → List ℤ → Result (Formula × Formula × Fields) → code.Result Pair Fault → Type 0
+JudgesTwo s from values w (Err e) = w ≡ refused (answer (number_of e.refusal) file_proof e.place)
+JudgesTwo s from values w (Ok r) = Two s from values w r.first r.second r.next
 
 -- What the formula reader and the pair reader ensure.
-pub record FormulaRead (s : List ℕ) (at : ℕ) (values : List ℤ) (K levels : ℕ) (r : Judged) : Type 0 where
+pub record FormulaRead (s : List ℕ) (at : ℕ) (values : List ℤ) (K levels : ℕ) (r : code.Result Judged Fault) : Type 0 where
   pub judged : Judges s at values (formula_within edition1 K levels (fields_at s at)) r
 
-pub record PairRead (s : List ℕ) (place at : ℕ) (values : List ℤ) (K levels : ℕ) (r : Pair) : Type 0 where
+pub record PairRead (s : List ℕ) (place at : ℕ) (values : List ℤ) (K levels : ℕ) (r : code.Result Pair Fault) : Type 0 where
   pub judged : JudgesTwo s at values (two_within K levels place (fields_at s at)) r
 
 -- The truth of an and/or.
@@ -52,10 +56,6 @@ abbrev pub connected : (either first second : Bool) → Bool
 connected true first second = first || second
 connected false first second = first && second
 
-abbrev pub joined_pair : Pair → Bool → Judged
-joined_pair (Pair.Fault number at) either = Judged.Fault number at
-joined_pair (Pair.Both first second next) either = Judged.Value (connected either first second) next
-
 -- A stride part of the number g, whose form has a value. 12.
-unfoldable pub stride_judged : (place next : ℕ) (g value : ℤ) → Judged
-stride_judged place next g value = cond (le_z (pos 2) g) (Judged.Value (divb g value) next) (Judged.Fault 12 place)
+unfoldable pub stride_judged : (g value : ℤ) → code.Result Bool Refusal
+stride_judged g value = cond (le_z (pos 2) g) (Ok (divb g value)) (Err Refusal.WrongMultiplier)

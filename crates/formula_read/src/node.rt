@@ -3,6 +3,7 @@ ghost use Rattle.std.specs.Prelude.{◌≡◌, ◌≤◌};
 ghost use Rattle.forms.specs.Edition.{edition1};
 ghost use Rattle.formula_read.specs.Nodes.{node_of, sized};
 
+use answers::refusals::Refusal;
 use forms::TERM_BYTES;
 
 #[derive(Clone, Copy)]
@@ -12,21 +13,19 @@ pub enum Node {
     // "t = 0" where equality is true, "t ≤ 0" where it is false.
     Literal { equality: bool },
     Stride,
-    Refused { number: u8 },
 }
 
-// 6 where the length is wrong.
-fn sized(len: usize, size: usize, node: Node) -> Node
+fn sized(len: usize, size: usize, node: Node) -> Result<Node, Refusal>
     ensures { result ≡ sized len size node }
 {
     if len == size {
-        return node;
+        return Ok(node);
     }
-    Node::Refused { number: 6 }
+    Err(Refusal::WrongLength)
 }
 
 // 3, 4, 6. Few arms: what is small enough is compiled into both of its callers (docs/SPEED.md).
-pub fn node_of(tag: u8, len: usize, k: usize) -> Node
+pub fn node_of(tag: u8, len: usize, k: usize) -> Result<Node, Refusal>
     requires { k ≤ edition1.constants }
     ensures { result ≡ node_of k tag len }
 {
@@ -37,7 +36,7 @@ pub fn node_of(tag: u8, len: usize, k: usize) -> Node
         0x31 | 0x32 => sized(len, 0, Node::Pair { either }),
         0x33 | 0x34 => sized(len, form, Node::Literal { equality }),
         0x35 => sized(len, form + TERM_BYTES, Node::Stride),
-        0x01 | 0x02 => Node::Refused { number: 4 },
-        _ => Node::Refused { number: 3 },
+        0x01 | 0x02 => Err(Refusal::MisplacedTag),
+        _ => Err(Refusal::UnknownTag),
     }
 }

@@ -12,6 +12,6 @@ pub returns-then-equality : goal.returns-then-equality
 unfolding holds
 returns-then-equality c = rw c.if-equality.true (c.is_zero.ensures ∙ ap (λ (z : ℤ). eq_z z (pos 0)) (to_z-of_z w64 _ c.ranges.x))
 
-pub returns : goal.returns
+pub returns-else-equality : goal.returns-else-equality
 unfolding holds
-returns c = rw c.if-equality.false (ap (λ (z : ℤ). le_z z (pos 0)) (to_z-of_z w64 _ c.ranges.x))
+returns-else-equality c = rw c.if-equality.false (ap (λ (z : ℤ). le_z z (pos 0)) (to_z-of_z w64 _ c.ranges.x))
