@@ -125,6 +125,17 @@ module _ (bs : List ℕ) where
   unfolding numbers_of
   numbers-at {i} h = signeds-at (length bs / 4) i bs (omega (arith, many))
 
+-- a form among the numbers that stand there
+pub form-read : (s : List ℕ) (at K n : ℕ) → K < n → form_in K (signeds 4 n (drop at s)) 0 ≡ form_at s at K
+unfolding form_at form_from
+form-read s at K n h =
+    let bs = drop at s in
+    let k : 0 + K ≡ K = omega arith in
+    rw k
+    (ap₂ form_of
+    (signeds-front n K bs (omega arith) ∙ sym (signeds-take 4 K (form_width 4 K) bs (omega arith)))
+    (signeds-at n K bs h ∙ ap signed (sym (part_of 4 (K * 4) (form_width 4 K) bs (omega arith)))))
+
 module _ (s : List ℕ) (at K : ℕ) (h : at + form_width 4 K ≤ length s) where
   rest_of : take (length s - at) (drop at s) ≡ drop at s
   rest_of = between_to_end s at (length s) (omega arith)
@@ -133,13 +144,5 @@ module _ (s : List ℕ) (at K : ℕ) (h : at + form_width 4 K ≤ length s) wher
   numbers-enough = rw rest_of (omega (arith, many (drop at s), length-drop at s))
 
   pub form-there : form_in K (numbers_of (take (length s - at) (drop at s))) 0 ≡ form_at s at K
-  unfolding form_at form_from numbers_of
-  form-there =
-      let bs = drop at s in
-      let n = length bs / 4 in
-      let room : K < n = omega (arith, length-drop at s) in
-      let k : 0 + K ≡ K = omega arith in
-      rw (rest_of, k)
-      (ap₂ form_of
-      (signeds-front n K bs (omega arith) ∙ sym (signeds-take 4 K (form_width 4 K) bs (omega arith)))
-      (signeds-at n K bs room ∙ ap signed (sym (part_of 4 (K * 4) (form_width 4 K) bs (omega arith)))))
+  unfolding numbers_of
+  form-there = rw rest_of (form-read s at K (length (drop at s) / 4) (omega (arith, length-drop at s)))

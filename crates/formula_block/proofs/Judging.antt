@@ -10,20 +10,24 @@ use lib.ListN.{take, drop}
 use lib.Signed.{le_z, ◌≤ℤ◌}
 use Rattle.forms.specs.Edition.{edition1}
 use Rattle.forms.specs.Forms.{Formula, ◌divides◌}
+use Rattle.std.specs.Prelude.{Ok, Err}
+use Rattle.std.specs.declared.result.Result as code
+use Rattle.answers.specs.declared.refusals.Refusal.{Refusal}
+use Rattle.answers.specs.declared.refusals.Fault.{Fault}
 use Rattle.answers.specs.declared.Answer.{Answer}
 use Rattle.answers.specs.Answers.{Result, refused, accepted}
 use Rattle.answers.proofs.Results.{never, one_value, binds, bind-refused, pass, fail}
 use Rattle.number_bytes.specs.Numbers.{signed}
-use Rattle.fields.specs.declared.Next.{Next}
+use Rattle.fields.specs.declared.WholeField.{WholeField}
 use Rattle.fields.specs.Fields.{Fields}
-use Rattle.fields.specs.Places.{fields_at, next_of}
+use Rattle.fields.specs.Places.{fields_at, next_or_fault}
 use Rattle.fields.proofs.Places.{Starts}
 use Rattle.formula.specs.Formula.{Reader, formula_within, compound, two_parts}
 use Rattle.form_value.specs.FormAt.{form_at}
 use Rattle.formula_read.specs.Nodes.{connective, node_of}
 use Rattle.formula_read.specs.Judging.{two_within}
 use Rattle.formula_read.specs.declared.node.Node.{Node}
-use Rattle.formula_read.proofs.FormulaReader.{formula-ends, formula-cut, formula-refused, literal-is, stride-is, pair_is}
+use Rattle.formula_read.proofs.FormulaReader.{formula-missing, formula-refused, literal-is, stride-is, pair_is}
 use Rattle.formula_leaf.specs.Masks.{Marks}
 use Rattle.formula_leaf.specs.Leaves.{leaf_formula, Block}
 use Rattle.formula_block.specs.Blocks.{BlockJudged, BothJudged}
@@ -45,23 +49,19 @@ module _ {s : List ℕ} {at : ℕ} (values : List ℤ) {K : ℕ} (n levels activ
   block_none : {a : Answer} → formula_within edition1 K levels (fields_at s at) ≡ refused a → (r : Masked) → r.mask ≤ active → BlockJudged s at values K n levels active r
   block_none w r h = record { small = h; is = λ I rest q. absurd (never (sym w ∙ q)) }
 
-  module _ {r : Next} (e : r ≡ next_of (fields_at s at)) where
-    pub block-ends : {a : ℕ} → r ≡ Next.Ends a → (next : ℕ) → BlockJudged s at values K n levels active (record { mask = 0; next = next })
-    block-ends q next = block_none (formula-ends s at values K levels e q).judged _ (omega arith)
+  pub block-missing : {r : code.Result WholeField Fault} → r ≡ next_or_fault (fields_at s at) → {e : Fault} → r ≡ Err e → (next : ℕ) → BlockJudged s at values K n levels active (record { mask = 0; next = next })
+  block-missing p q next = block_none (formula-missing s at values K levels p q).judged _ (omega arith)
 
-    pub block-cut : {a : ℕ} → r ≡ Next.Cut a → (next : ℕ) → BlockJudged s at values K n levels active (record { mask = 0; next = next })
-    block-cut q next = block_none (formula-cut s at values K levels e q).judged _ (omega arith)
-
-module _ {s : List ℕ} {at place tag start len next : ℕ} (k : Starts s at place tag start len next) (K : ℕ) {node : Node} (e : node ≡ node_of K tag len)
+module _ {s : List ℕ} {at place tag start len next : ℕ} (k : Starts s at place tag start len next) (K : ℕ) {node : code.Result Node Refusal} (e : node ≡ node_of K tag len)
     (values : List ℤ) (n levels active : ℕ) where
-  pub block_refused : {number : ℕ} → node ≡ Node.Refused number → (after : ℕ) → BlockJudged s at values K n levels active (record { mask = 0; next = after })
-  block_refused f after = block_none values n levels active (formula-refused k K e values levels f).judged _ (omega arith)
+  pub block_refused : {refusal : Refusal} → node ≡ Err refusal → (after : ℕ) → BlockJudged s at values K n levels active (record { mask = 0; next = after })
+  block_refused f after = block_none values n levels active (formula-refused k K e values levels f refl).judged _ (omega arith)
 
-  pub block-literal : {equality : Bool} {m : ℕ} → node ≡ Node.Literal equality → m ≤ active → Marks (leaf_formula (Leaf.Literal equality) (form_at s start K)) values K n active m
+  pub block-literal : {equality : Bool} {m : ℕ} → node ≡ Ok (Node.Literal equality) → m ≤ active → Marks (leaf_formula (Leaf.Literal equality) (form_at s start K)) values K n active m
       → BlockJudged s at values K n levels active (record { mask = m; next = next })
   block-literal f h m = block-by values n levels active (literal-is k K e levels f) h m refl
 
-  module _ (f : node ≡ Node.Stride) {m : ℕ} (h : m ≤ active)
+  module _ (f : node ≡ Ok Node.Stride) {m : ℕ} (h : m ≤ active)
       (p : pos 2 ≤ℤ signed (take 4 (drop start s)) → Marks (nat_abs (signed (take 4 (drop start s))) divides form_at s (start + 4) K) values K n active m) where
     stride-by : (b : Bool) → le_z (pos 2) (signed (take 4 (drop start s))) ≡ b → BlockJudged s at values K n levels active (record { mask = m; next = next })
     stride-by true q = block-by values n levels active (stride-is k K e levels f ∙ pass _ _ q) h (p (record { le = subst T (sym q) tt })) refl
@@ -70,7 +70,7 @@ module _ {s : List ℕ} {at place tag start len next : ℕ} (k : Starts s at pla
     pub block-stride : BlockJudged s at values K n levels active (record { mask = m; next = next })
     block-stride = stride-by (le_z (pos 2) (signed (take 4 (drop start s)))) refl
 
-  pub block-pair : {either : Bool} {r : Masked} → node ≡ Node.Pair either → BothJudged s next values K n levels active either r → BlockJudged s at values K n levels active r
+  pub block-pair : {either : Bool} {r : Masked} → node ≡ Ok (Node.Pair either) → BothJudged s next values K n levels active either r → BlockJudged s at values K n levels active r
   block-pair {either} {r} f b = go (two_within K levels place (fields_at s next)) refl
     where
       go : (w : Result (Formula × Formula × Fields)) → two_within K levels place (fields_at s next) ≡ w → BlockJudged s at values K n levels active r

@@ -9,12 +9,12 @@ ghost use Rattle.formula_leaf.specs.Masks.{Marks};
 ghost use Rattle.formula_leaf.specs.Leaves.{Block};
 ghost use Rattle.formula_block.specs.Blocks.{BlockJudged, BothJudged};
 
-use fields::{Next, next_field};
+use fields::next_or_fault;
 use form_value::is_power;
 use forms::TERM_BYTES;
 use formula_leaf::{Leaf, leaf_marks};
 use formula_read::node::{Node, node_of};
-use number_bytes::words::signed_at;
+use number_bytes::words::Width;
 
 // The vectors of which a formula is true, and the place after it.
 #[derive(Clone, Copy)]
@@ -30,7 +30,7 @@ fn stride_marks(s: &[u8], start: usize, values: &[i32], k: usize, n: usize, acti
     ensures small { result ≤ active }
     ensures is { (pos 2) ≤ℤ signed (take edition1.term_width (drop start s.now)) → Marks (nat_abs (signed (take edition1.term_width (drop start s.now))) divides form_at s.now (start + edition1.term_width) k) values.now k n active result }
 {
-    let g = signed_at(s, start, TERM_BYTES);
+    let g = Width::Four.signed_at(s, start);
     if g < 2 {
         return 0;
     }
@@ -55,32 +55,32 @@ pub fn block_judged(
     requires { Block values.now k n active }
     ensures { BlockJudged s.now at values.now k n levels active result }
 {
-    match next_field(s, at) {
-        Next::Ends { at: place } => Masked {
-            mask: 0,
-            next: place,
+    let Ok(field) = next_or_fault(s, at) else {
+        return Masked { mask: 0, next: at };
+    };
+    match node_of(field.tag, field.len, k) {
+        Ok(Node::Pair { either }) => both_judged(
+            s, field.next, values, k, n, levels, active, either,
+        ),
+        Ok(Node::Literal { equality }) => Masked {
+            mask: leaf_marks(
+                Leaf::Literal { equality },
+                s,
+                field.start,
+                values,
+                k,
+                n,
+                active,
+            ),
+            next: field.next,
         },
-        Next::Cut { at: place } => Masked {
-            mask: 0,
-            next: place,
+        Ok(Node::Stride) => Masked {
+            mask: stride_marks(s, field.start, values, k, n, active),
+            next: field.next,
         },
-        Next::Field {
-            at: _,
-            tag,
-            start,
-            len,
-            next,
-        } => match node_of(tag, len, k) {
-            Node::Refused { number: _ } => Masked { mask: 0, next },
-            Node::Literal { equality } => Masked {
-                mask: leaf_marks(Leaf::Literal { equality }, s, start, values, k, n, active),
-                next,
-            },
-            Node::Stride => Masked {
-                mask: stride_marks(s, start, values, k, n, active),
-                next,
-            },
-            Node::Pair { either } => both_judged(s, next, values, k, n, levels, active, either),
+        Err(_) => Masked {
+            mask: 0,
+            next: field.next,
         },
     }
 }

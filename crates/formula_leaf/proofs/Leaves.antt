@@ -1,20 +1,19 @@
 -- A part at a vector, and its form's numbers in an array. Assumes nothing.
-use Rattle.std.proofs.Common.{◌≡◌, ℕ, suc, ◌+◌, ◌-◌, ◌*◌, ◌%◌, ◌<◌, ◌≤◌, Bool, true, false, ◌&&◌, T, eqb, ltb, List, [], ◌∷◌, ◌++◌, length, get_or, take, drop, ℤ, pos, ◌≤ℤ◌, refl, ap, ◌∙◌, subst, ap₂, le_refl, mul-le-mul, arith, le→leb, length-append, length-drop, length-take, length-take-le, get_or-drop, get_or-take, take_at, w64, SFits, to_z, of_z, ltb-false, ltb-true, eq-eqb, ne_eqb}
+use Rattle.std.proofs.Common.{◌≡◌, ℕ, suc, ◌+◌, ◌-◌, ◌*◌, ◌%◌, ◌<◌, ◌≤◌, Bool, true, false, ◌&&◌, T, eqb, ltb, List, length, get_or, take, drop, ℤ, pos, ◌≤ℤ◌, refl, ap, ◌∙◌, subst, le_refl, mul-le-mul, arith, le→leb, length-drop, length-take, length-take-le, get_or-drop, get_or-take, w64, SFits, to_z, of_z, ltb-false, ltb-true, eq-eqb, ne_eqb}
 use lib.ListN.{get_or-eq_default}
-use lib.Seq.{sets, sets-eq, append_snoc, get_or_at}
 use lib.Signed.{lt_z}
 use mir.ValLaws.{to_z-of_z}
 use Rattle.integers.specs.Divides.{divb}
 use Rattle.integers.specs.Magnitude.{Within}
 use Rattle.forms.specs.Flat.{form_in}
 use Rattle.forms.specs.Forms.{Form, value}
-use Rattle.number_bytes.specs.Numbers.{signeds, flat, form_from}
-use Rattle.number_bytes.proofs.Signed.{length-signeds, signeds-take, flat-signeds}
+use Rattle.number_bytes.specs.Numbers.{signeds}
 use Rattle.formula.specs.Test.{holds, judge, registers}
 use Rattle.form_value.specs.FormAt.{form_at}
 use Rattle.form_value.specs.Quick.{word}
 use Rattle.form_value.specs.Registers.{AllWithin, Registers}
 use Rattle.form_value.proofs.Quick.{word-divides}
+use Rattle.form_value.proofs.Value.{form-read}
 use Rattle.formula_read.specs.Nodes.{literal_kind}
 use Rattle.formula_read.proofs.Parts.{low}
 use Rattle.formula.specs.TestList.{byte}
@@ -84,32 +83,5 @@ module _ (left p mask : ℕ) (b : Bool) where
     asked e f = f ∙ rw (eq-eqb (left % 2) 1 (omega (arith, odd)), e)
 
 -- ---- the numbers of a form in an array
-form-ext : {s t : Form} → s.coeffs ≡ t.coeffs → s.d ≡ t.d → s ≡ t
-form-ext e f = ap₂ (λ (cs : List ℤ) (d : ℤ). record { coeffs = cs; d = d }) e f
-
-at_front : (numbers : List ℤ) (t : Form) → length t.coeffs + 1 ≤ length numbers → sets numbers 0 (flat t) ≡ t.coeffs ++ t.d ∷ drop (length t.coeffs + 1) numbers
-unfolding flat
-at_front numbers t h =
-    let l : length (t.coeffs ++ (t.d ∷ [])) ≡ length t.coeffs + 1 = length-append t.coeffs (t.d ∷ []) in
-    let z : 0 + (length t.coeffs + 1) ≡ length t.coeffs + 1 = omega arith in
-    sets-eq (t.coeffs ++ (t.d ∷ [])) numbers 0 (omega (arith, l)) ∙ rw (l, z) (append_snoc t.coeffs t.d (drop (length t.coeffs + 1) numbers))
-
-front-form : (numbers : List ℤ) (t : Form) (K : ℕ) → length t.coeffs ≡ K → K < length numbers → form_in K (sets numbers 0 (flat t)) 0 ≡ t
-front-form numbers t K h k =
-    let z : 0 + K ≡ K = omega arith in
-    rw (at_front numbers t (omega arith), z) (form-ext (take_at t.coeffs (t.d ∷ drop (length t.coeffs + 1) numbers) K h) (get_or_at t.coeffs t.d (drop (length t.coeffs + 1) numbers) (pos 0) K h))
-
-flat-at : (s : List ℕ) (at K : ℕ) → flat (form_at s at K) ≡ signeds 4 (K + 1) (drop at s)
-unfolding form_at
-flat-at s at K =
-    let e : K + 1 ≡ suc K = omega arith in
-    flat-signeds 4 K (take (suc K * 4) (drop at s)) ∙ rw e (signeds-take 4 (suc K) (suc K * 4) (drop at s) (omega arith))
-
-long-at : (s : List ℕ) (at K : ℕ) → length (form_at s at K).coeffs ≡ K
-unfolding form_at form_from
-long-at s at K = length-signeds 4 K (take (suc K * 4) (drop at s))
-
-pub stored-form : (numbers : List ℤ) {numbers' : List ℤ} (s : List ℕ) (at K : ℕ) → K < length numbers → numbers' ≡ sets numbers 0 (signeds 4 (K + 1) (drop at s))
-    → form_in K numbers' 0 ≡ form_at s at K
-stored-form numbers s at K h e =
-    rw (e, ← flat-at s at K) (front-form numbers (form_at s at K) K (long-at s at K) h)
+pub stored-form : (array : List ℤ) {numbers : List ℤ} (s : List ℕ) (at K : ℕ) → K < length array → numbers ≡ signeds 4 (length (take (K + 1) array)) (drop at s) → form_in K numbers 0 ≡ form_at s at K
+stored-form array s at K h e = rw e (form-read s at K (length (take (K + 1) array)) (omega (arith, length-take (K + 1) array)))

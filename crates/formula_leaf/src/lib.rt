@@ -12,8 +12,10 @@ ghost use Rattle.formula.specs.TestList.{byte};
 ghost use Rattle.formula_leaf.specs.Leaves.{leaf_formula, Proper, VectorAt, Block};
 
 use form_value::{InNumbers, divides_word, total_of};
+use forms::CONSTANTS;
 use formula_read::reading::says;
 use integers::divides;
+use number_bytes::words::Width;
 use number_runs::store::store_numbers;
 
 #[derive(Clone, Copy)]
@@ -89,28 +91,10 @@ fn marks(leaf: Leaf, numbers: &[i32], values: &[i32], k: usize, n: usize, active
     mask
 }
 
-// The same for the form at a place, whose numbers go into an array first.
-fn marks_through(
-    leaf: Leaf,
-    s: &[u8],
-    at: usize,
-    numbers: &mut [i32],
-    values: &[i32],
-    k: usize,
-    n: usize,
-    active: u64,
-) -> u64
-    requires proper { Proper leaf }
-    requires whole { Whole s.now at k }
-    requires numbers_len { length numbers.old ≡ 17 }
-    requires block { Block values.now k n active }
-    ensures small { result ≤ active }
-    ensures is { Marks (leaf_formula leaf (form_at s.now at k)) values.now k n active result }
-{
-    store_numbers(s, at, 4, k + 1, numbers, 0);
-    marks(leaf, numbers, values, k, n, active)
-}
+// The most numbers of a form.
+const NUMBERS: usize = CONSTANTS as usize + 1;
 
+// The same for the form at a place, whose numbers go into an array first.
 pub fn leaf_marks(
     leaf: Leaf,
     s: &[u8],
@@ -129,6 +113,8 @@ pub fn leaf_marks(
     if active == 0 {
         return 0;
     }
-    let mut numbers: [i32; 17] = [0; 17];
-    marks_through(leaf, s, at, &mut numbers, values, k, n, active)
+    let mut array = [0; NUMBERS];
+    let numbers = &mut array[..k + 1];
+    store_numbers(s, at, Width::Four, numbers);
+    marks(leaf, numbers, values, k, n, active)
 }

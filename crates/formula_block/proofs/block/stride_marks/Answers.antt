@@ -1,10 +1,7 @@
 -- `formula_block::block::stride_marks` meets its contract. Assumes nothing.
 use native.Mathlib.Omega.{arith}
-use mathlib.Core.Path.{◌≡◌, refl, sym, ◌∙◌}
-use mathlib.Core.Logic.{inr}
-use Prim.Native.Nat.{◌+◌, ◌≤◌}
+use mathlib.Core.Path.{◌≡◌, sym, ◌∙◌}
 use lib.IntN.{ℤ}
-use lib.ListN.{length}
 use mir.Syntax.{w64}
 use mir.Val.{SFits, to_z, of_z}
 use mir.ValLaws.{to_z-of_z}
@@ -14,11 +11,6 @@ use Rattle.form_value.proofs.Words.{stride-positive, stride-low, stride-high}
 use Rattle.formula_read.proofs.Parts.{at-least-two}
 use Rattle.formula_leaf.proofs.Leaves.{below_two}
 use Rattle.formula_block.proofs.block.stride_marks.Goals as goal
-
-pub signed_at-g-requires : goal.signed_at-g-requires
-signed_at-g-requires c =
-    let h : c.args.start + 4 ≤ length c.args.s.now = omega (arith, c.requires.whole.upto) in
-    record { fact = inr refl; width_in_bounds = h }
 
 pub returns-then-g-lt2 : goal.returns-then-g-lt2
 returns-then-g-lt2 c = record { small = omega arith; is = λ h. absurd (below_two (record { sfits = c.signed_at-g.type_inv }) c.signed_at-g.ensures.is c.if-g-lt2.true h) }
