@@ -14,7 +14,7 @@ use lib.IntN.{ℤ, pos, negsuc, nat_abs}
 use lib.Signed.{mag}
 use borrow.Author.Tests.{eq-eqb, ne_eqb, leb-true, leb-false}
 use Rattle.std.specs.Prelude.{◌≢◌, Ok, Err}
-use Rattle.std.specs.Prelude as std
+use Rattle.std.specs.declared.result.Result as code
 use Rattle.std.specs.Result.{IsErrAnd}
 use Rattle.std.proofs.lemmas.Result.{err_from_is_err_and}
 use Rattle.forms.specs.Edition.{edition}
@@ -125,7 +125,7 @@ module _ (n K : ℕ) (bs : List ℕ) {tag : ℕ} (made : Bool) where
       unfolding ◌>>◌ need
       wrong_size h = record { is = λ refusal at. of_tag refusal at ∙ rw (ne_eqb (length bs) (size_of (edition n) K x) h); ranged = tt; filled = tt }
 
-      right-size : {y : Entry} → length bs ≡ size_of (edition n) K x → stated K bs y ≡ entry_from (edition n) K x bs → Ranged K (length bs) y → (edition n).line_width ≤ length bs → Entered n K bs tag made (Ok y)
+      right-size : {y : Entry} → length bs ≡ size_of (edition n) K x → stated K bs y ≡ entry_from (edition n) K x bs → Ranged K (length bs) made y → (edition n).line_width ≤ length bs → Entered n K bs tag made (Ok y)
       unfolding ◌>>◌ need
       right-size h q g f = record { is = λ refusal at. of_tag refusal at ∙ rw (eq-eqb (length bs) (size_of (edition n) K x) h) (ap accepted (sym q)); ranged = g; filled = f }
 
@@ -133,7 +133,7 @@ module _ (n K : ℕ) (bs : List ℕ) {tag : ℕ} (made : Bool) where
     misplaced p = record { is = λ refusal at. rw e (entry-out (edition n) K refusal made (field_of at (tag_of x) bs) x (is_known x) (is_tagged x) p); ranged = tt; filled = tt }
 
   -- a row of another size
-  pub refused_size : (x : EntryTag) → tag ≡ tag_of x → in_place made x ≡ true → (shape x).forms ≡ 0 → {r : std.Result Entry Refusal} {e : Refusal}
+  pub refused_size : (x : EntryTag) → tag ≡ tag_of x → in_place made x ≡ true → (shape x).forms ≡ 0 → {r : code.Result Entry Refusal} {e : Refusal}
       → (e ≡ Refusal.WrongLength) × (length bs ≡ (shape x).line_numbers * (edition n).line_width + (shape x).multipliers * 2 → ⊥) → IsErrAnd r (λ y. y ≡ e) → Entered n K bs tag made r
   unfolding size_of
   refused_size x e p z {r} h is =
@@ -203,7 +203,7 @@ module _ (n K : ℕ) (bs : List ℕ) {tag : ℕ} (made : Bool) where
   -- a claim, and what is no entry
   pub claim_in : tag ≡ 0x20 → made ≡ true → length bs ≡ 8 * (K + 1) → Entered n K bs tag made (Ok Entry.Claim)
   unfolding in_place size_of entry_from
-  claim_in e m h = right-size claim_tag e m (omega (arith, h)) refl (omega (arith, h)) (omega (arith, line_width-most n, h))
+  claim_in e m h = right-size claim_tag e m (omega (arith, h)) refl (m, omega (arith, h)) (omega (arith, line_width-most n, h))
 
   pub claim-wrong : tag ≡ 0x20 → made ≡ true → (length bs ≡ 8 * (K + 1) → ⊥) → Entered n K bs tag made (Err Refusal.WrongLength)
   unfolding in_place size_of

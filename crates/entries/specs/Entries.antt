@@ -1,6 +1,6 @@
 -- What the code answers of a field, as the entry that the definitions give. Assumes nothing.
-use Rattle.std.specs.Prelude.{◌≡◌, Bool, List, ℕ, ◌*◌, ◌≤◌, length, drop, ℤ, pos, nat_abs, Ok, Err, IfOk}
-use Rattle.std.specs.Prelude as std
+use Rattle.std.specs.Prelude.{◌≡◌, Bool, true, List, ℕ, ◌*◌, ◌≤◌, length, drop, ℤ, pos, nat_abs, Ok, Err, IfOk}
+use Rattle.std.specs.declared.result.Result as code
 use Rattle.integers.specs.Magnitude.{Within}
 use Rattle.forms.specs.Edition.{edition, edition1, multiplier_range}
 use Rattle.calculus.specs.Rules as rules
@@ -31,24 +31,24 @@ stated K bs (Split t) = rules.row (rules.Split t.0)
 stated K bs Claim = rules.claim (form_from edition1.term_width K bs) (form_from edition1.term_width K (drop (form_width edition1.term_width K) bs))
 
 -- The same of a result; `refusal` gives the refusal by a number at this field.
-abbrev pub entry_for : (refusal : ℕ → Answer) (K : ℕ) → List ℕ → std.Result Entry Refusal → Result rules.Entry
+abbrev pub entry_for : (refusal : ℕ → Answer) (K : ℕ) → List ℕ → code.Result Entry Refusal → Result rules.Entry
 entry_for refusal K bs (Ok x) = accepted (stated K bs x)
 entry_for refusal K bs (Err r) = refused (refusal (number_of r))
 
--- Multipliers are as the widths of their fields keep them, and the contents of a claim have their length.
-abbrev pub Ranged : (K len : ℕ) → Entry → Type 0
-Ranged K len (Combine s t α β) = Multiplies (nat_abs α) α × Multiplies (nat_abs β) β
-Ranged K len (Reduce s t α) = Within multiplier_range α
-Ranged K len (Scale t α) = Multiplies (nat_abs α) α
-Ranged K len (Strengthen t) = Unit {0}
-Ranged K len (CloseNumber t) = Unit {0}
-Ranged K len (CloseStride t g) = Multiplies (nat_abs g) g
-Ranged K len (Round t g by) = Multiplies (nat_abs g) g
-Ranged K len (Split t) = Unit {0}
-Ranged K len Claim = len ≡ 2 * form_width edition1.term_width K
+-- Multipliers are as the widths of their fields keep them; a claim stands behind a row that made a line, and its contents have their length.
+abbrev pub Ranged : (K len : ℕ) (made : Bool) → Entry → Type 0
+Ranged K len made (Combine s t α β) = Multiplies (nat_abs α) α × Multiplies (nat_abs β) β
+Ranged K len made (Reduce s t α) = Within multiplier_range α
+Ranged K len made (Scale t α) = Multiplies (nat_abs α) α
+Ranged K len made (Strengthen t) = Unit {0}
+Ranged K len made (CloseNumber t) = Unit {0}
+Ranged K len made (CloseStride t g) = Multiplies (nat_abs g) g
+Ranged K len made (Round t g by) = Multiplies (nat_abs g) g
+Ranged K len made (Split t) = Unit {0}
+Ranged K len made Claim = (made ≡ true) × (len ≡ 2 * form_width edition1.term_width K)
 
 -- The answer for a field of a proof of edition n: 3, 4, 6, or the entry, whose contents have as many bytes as a line number at least.
-pub record Entered (n K : ℕ) (bs : List ℕ) (tag : ℕ) (made : Bool) (r : std.Result Entry Refusal) : Type 0 where
+pub record Entered (n K : ℕ) (bs : List ℕ) (tag : ℕ) (made : Bool) (r : code.Result Entry Refusal) : Type 0 where
   pub is : (refusal : ℕ → Answer) (at : ℕ) → entry (edition n) K refusal made (record { at = at; tag = tag; contents = bs }) ≡ entry_for refusal K bs r
-  pub ranged : IfOk r (λ x. Ranged K (length bs) x)
+  pub ranged : IfOk r (λ x. Ranged K (length bs) made x)
   pub filled : IfOk r (λ x. (edition n).line_width ≤ length bs)

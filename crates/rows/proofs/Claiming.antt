@@ -1,5 +1,5 @@
 -- The numbers of a claim against those of a line: one after the other, and form by form. Assumes nothing.
-use mathlib.Core.Path.{◌≡◌, refl, sym, ap, ap₂, ◌∙◌}
+use mathlib.Core.Path.{◌≡◌, sym, ap, ap₂, ◌∙◌}
 use mathlib.Core.Bool.{Bool, true, false, ◌&&◌, and_assoc, and-true}
 use mathlib.Core.List.{List, [], ◌∷◌, ◌++◌}
 use Prim.Native.Nat.{ℕ, suc, ◌+◌, ◌-◌, ◌*◌, ◌^◌, ◌≤◌, ◌<◌}
@@ -17,35 +17,34 @@ use Rattle.integers.specs.Linear.{eq_z}
 use Rattle.forms.specs.Flat.{form_in}
 use Rattle.forms.proofs.Flat.{part-form}
 use Rattle.number_bytes.specs.Numbers.{signed, signeds, form_from, form_width}
-use Rattle.number_bytes.proofs.Signed.{drop-take, length-signeds, signeds-take, signeds-last}
+use Rattle.number_bytes.proofs.Signed.{length-signeds, signeds-last}
 use Rattle.proof.specs.Rows.{equals, same_form, states}
 use Rattle.lines.specs.Parts.{part}
-use Rattle.number_bytes.proofs.Stores.{part-take}
 use Rattle.lines.specs.Buffer.{size, line_in}
 use Rattle.rows.specs.Claims.{Claimed}
 
 -- ---- number by number
-module _ (p : List ℕ) (start : ℕ) (buf : List ℤ) (at : ℕ) where
+module _ (bs : List ℕ) (buf : List ℤ) (at : ℕ) where
   abbrev pub rest : (x m : ℕ) → Bool
-  rest x m = equals (signeds 4 m (drop (start + 4 * x) p)) (part (at + x) m buf)
+  rest x m = equals (signeds 4 m (drop (4 * x) bs)) (part (at + x) m buf)
 
   rest-next : (x m : ℕ) → at + x < length buf
-      → rest x (suc m) ≡ eq_z (signed (take 4 (drop (start + 4 * x) p))) (get_or buf (at + x) (pos 0)) && rest (x + 1) m
+      → rest x (suc m) ≡ eq_z (signed (take 4 (drop (4 * x) bs))) (get_or buf (at + x) (pos 0)) && rest (x + 1) m
   unfolding equals signeds
   rest-next x m h =
-      let e : start + 4 * x + 4 ≡ start + 4 * (x + 1) = omega arith in
+      let e : 4 * x + 4 ≡ 4 * (x + 1) = omega arith in
       let f : suc (at + x) ≡ at + (x + 1) = omega arith in
-      rw (drop-cons buf (at + x) (pos 0) h, drop-drop 4 (start + 4 * x) p, e, f)
+      rw (drop-cons buf (at + x) (pos 0) h, drop-drop 4 (4 * x) bs, e, f)
 
-  whole : (m : ℕ) → rest 0 m ≡ equals (signeds 4 m (drop start p)) (part at m buf)
-  whole m = rw (add-zero, add-zero)
+  whole : (m : ℕ) → rest 0 m ≡ equals (signeds 4 m bs) (part at m buf)
+  whole m = rw add-zero
 
   -- What is left gives the same result.
   pub record Going (k x : ℕ) : Type 0 where
     pub same : rest 0 (k + 1) ≡ rest x (k + 1 - x)
     pub upto : x ≤ k + 1
 
-  module _ {k x : ℕ} (g : Going k x) (more : x ≤ k) (room : at + k < length buf) {b : Bool} {n m : ℤ} (is : n ≡ signed (take 4 (drop (start + 4 * x) p))) (is_b : m ≡ get_or buf (at + x) (pos 0))
+  module _ {k x : ℕ} (g : Going k x) (more : x < k + 1) (room : at + k < length buf) {b : Bool} {n m : ℤ} (is : n ≡ signed (take 4 (drop (4 * x) bs))) (is_b : m ≡ get_or buf (at + x) (pos 0))
       (fn : mag n < 2 ^ hbits w64) (fm : mag m < 2 ^ hbits w64) (bits : b ≡ eq_z (to_z w64 (of_z w64 n)) (to_z w64 (of_z w64 m))) where
     -- the machine has the bits of both, and they fit
     test : b ≡ eq_z n (get_or buf (at + x) (pos 0))
@@ -60,7 +59,7 @@ module _ (p : List ℕ) (start : ℕ) (buf : List ℤ) (at : ℕ) where
     pub claim-on : b ≡ true → Going k (x + 1)
     claim-on h = record { same = next ∙ rw h; upto = omega arith }
 
-    pub claim-off : b ≡ false → false ≡ equals (signeds 4 (k + 1) (drop start p)) (part at (k + 1) buf)
+    pub claim-off : b ≡ false → false ≡ equals (signeds 4 (k + 1) bs) (part at (k + 1) buf)
     claim-off h =
         let q : rest 0 (k + 1) ≡ false = next ∙ rw h in
         sym q ∙ whole (k + 1)
@@ -68,7 +67,7 @@ module _ (p : List ℕ) (start : ℕ) (buf : List ℤ) (at : ℕ) where
   pub claim-start : (k : ℕ) → Going k 0
   claim-start k = let e : k + 1 - 0 ≡ k + 1 = omega arith in record { same = rw e; upto = omega arith }
 
-  pub claim-end : {k x : ℕ} → Going k x → k < x → true ≡ equals (signeds 4 (k + 1) (drop start p)) (part at (k + 1) buf)
+  pub claim-end : {k x : ℕ} → Going k x → k + 1 ≤ x → true ≡ equals (signeds 4 (k + 1) bs) (part at (k + 1) buf)
   unfolding equals signeds
   claim-end {k} {x} g h =
       let z : k + 1 - x ≡ 0 = omega arith in
@@ -90,36 +89,20 @@ module _ (K : ℕ) (bs : List ℕ) (buf : List ℤ) (at : ℕ) (room : at + K < 
       (equals-snoc (signeds 4 K bs) (part at K buf) (signed (take 4 (drop (K * 4) bs))) (get_or buf (at + K) (pos 0))
       (length-signeds 4 K bs ∙ sym (length-take-le K (drop at buf) (simp length-drop (omega arith)))))
 
-form-take : (K m : ℕ) (bs : List ℕ) → suc K * 4 ≤ m → form_from 4 K (take m bs) ≡ form_from 4 K bs
-unfolding form_from
-form-take K m bs h =
-    ap₂ (λ (l : List ℤ) (z : ℤ). record { coeffs = l; d = z }) (signeds-take 4 K m bs (omega arith)) (ap signed (part-take (K * 4) 4 m bs (omega arith)))
+module _ (K : ℕ) (bs : List ℕ) (buf : List ℤ) (i : ℕ) (long : i * size K + size K ≤ length buf) {x : ℕ} {b : Bool} (ex : x ≡ i * size K)
+    (eb : b ≡ equals (signeds 4 (K + 1) bs) (part x (K + 1) buf)) where
+  first : same_form (form_from 4 K bs) (form_in K buf (i * size K)) ≡ b
+  first = sym (form-same-as K bs buf (i * size K) (omega arith)) ∙ sym (rw ex at eb)
 
-module _ (K : ℕ) (p : List ℕ) (start : ℕ) (buf : List ℤ) (i : ℕ) (long : i * size K + size K ≤ length buf) where
-  claim-is : {x y : ℕ} {b c : Bool} → x ≡ i * size K → y ≡ i * size K + (K + 1)
-      → b ≡ equals (signeds 4 (K + 1) (drop start p)) (part x (K + 1) buf)
-      → c ≡ equals (signeds 4 (K + 1) (drop (start + 4 * (K + 1)) p)) (part y (K + 1) buf)
-      → Claimed K p start buf i (b && c)
+  pub claim-first : b ≡ false → Claimed K bs buf i false
   unfolding states line_in
-  claim-is {x} {y} {b} {c} ex ey eb ec = record { is = λ len kinds el. ap₂ ◌&&◌ (first len el) (second len el) }
+  claim-first h = record { is = λ kinds. rw (first, h) }
+
+  pub claim-second : b ≡ true → {y : ℕ} {c : Bool} → y ≡ i * size K + (K + 1) → c ≡ equals (signeds 4 (K + 1) (drop (4 * (K + 1)) bs)) (part y (K + 1) buf) → Claimed K bs buf i c
+  unfolding states line_in
+  claim-second h {y} {c} ey ec = record { is = λ kinds. rw (first, h) second }
     where
-      first : (len : ℕ) → len ≡ 2 * form_width 4 K → same_form (form_from 4 K (take len (drop start p))) (form_in K buf (i * size K)) ≡ b
-      first len el =
-          rw (form-take K len (drop start p) (omega arith))
-          (sym (form-same-as K (drop start p) buf (i * size K) (omega arith)) ∙ sym (rw ex at eb))
-
-      second : (len : ℕ) → len ≡ 2 * form_width 4 K
-          → same_form (form_from 4 K (drop (form_width 4 K) (take len (drop start p)))) (form_in K buf (i * size K + (K + 1))) ≡ c
-      second len el =
-          let o : start + suc K * 4 ≡ start + 4 * (K + 1) = omega arith in
-          rw (drop-take (suc K * 4) len (drop start p) (omega arith), form-take K (len - suc K * 4) (drop (suc K * 4) (drop start p)) (omega arith), drop-drop (suc K * 4) start p, o)
-          (sym (form-same-as K (drop (start + 4 * (K + 1)) p) buf (i * size K + (K + 1)) (omega arith)) ∙ sym (rw ey at ec))
-
-  pub claim-first : {x : ℕ} {b : Bool} → x ≡ i * size K → b ≡ equals (signeds 4 (K + 1) (drop start p)) (part x (K + 1) buf) → b ≡ false → Claimed K p start buf i false
-  claim-first ex eb h = rw h at (claim-is ex refl eb refl)
-
-  pub claim-second : {x y : ℕ} {b c : Bool} → x ≡ i * size K → y ≡ i * size K + (K + 1)
-      → b ≡ equals (signeds 4 (K + 1) (drop start p)) (part x (K + 1) buf) → b ≡ true
-      → c ≡ equals (signeds 4 (K + 1) (drop (start + 4 * (K + 1)) p)) (part y (K + 1) buf)
-      → Claimed K p start buf i c
-  claim-second ex ey eb h ec = rw h at (claim-is ex ey eb ec)
+      second : same_form (form_from 4 K (drop (form_width 4 K) bs)) (form_in K buf (i * size K + (K + 1))) ≡ c
+      second =
+          let o : suc K * 4 ≡ 4 * (K + 1) = omega arith in
+          rw o (sym (form-same-as K (drop (4 * (K + 1)) bs) buf (i * size K + (K + 1)) (omega arith)) ∙ sym (rw ey at ec))

@@ -1,5 +1,5 @@
 // A claim states the line made last.
-ghost use Rattle.std.specs.Prelude.{◌≡◌, ◌+◌, ◌*◌, ◌≤◌, ◌<◌, length, drop};
+ghost use Rattle.std.specs.Prelude.{◌≡◌, ◌+◌, ◌*◌, ◌≤◌, ◌<◌, length};
 ghost use Rattle.forms.specs.Edition.{edition, edition1, newest_edition};
 ghost use Rattle.number_bytes.specs.Numbers.{signeds};
 ghost use Rattle.proof.specs.Rows.{equals};
@@ -7,32 +7,37 @@ ghost use Rattle.lines.specs.Parts.{part};
 ghost use Rattle.rows.specs.Claims.{Claimed};
 
 use forms::{LineNumber, TERM_BYTES};
+use number_bytes::words::Width;
 
-// Whether the k + 1 numbers at start are those of the form at a place.
-fn same_form(p: &[u8], start: usize, lines: &[i32], at: usize, k: usize) -> bool
-    requires { (k ≤ edition1.constants) × (start + edition1.term_width * (k + 1) ≤ length p.now) × (at + k < length lines.now) }
-    ensures { result ≡ equals (signeds edition1.term_width (k + 1) (drop start p.now)) (part at (k + 1) lines.now) }
+// Whether the k + 1 numbers that these bytes begin with are those of the form at a place.
+fn same_form(bytes: &[u8], lines: &[i32], at: usize, k: usize) -> bool
+    requires k_le_constants { k ≤ edition1.constants }
+    requires bytes_in_bounds { edition1.term_width * (k + 1) ≤ length bytes.now }
+    requires lines_in_bounds { at + k < length lines.now }
+    ensures { result ≡ equals (signeds edition1.term_width (k + 1) bytes.now) (part at (k + 1) lines.now) }
 {
-    let mut x = 0;
-    while x <= k {
-        let n = number_bytes::words::signed_at(p, start + TERM_BYTES * x, TERM_BYTES);
+    for x in 0..k + 1 {
+        let n = Width::Four.signed_at(bytes, TERM_BYTES * x);
         if !integers::same(n, integers::number(lines, at + x)) {
             return false;
         }
-        x += 1;
     }
     true
 }
 
-// Whether t, and then tA, are those of line i.
-pub fn claim_holds(p: &[u8], start: usize, lines: &[i32], i: LineNumber, k: usize) -> bool
-    requires { (k ≤ edition1.constants) × (start + 2 * edition1.term_width * (k + 1) ≤ length p.now) × (i.0 < (edition newest_edition).lines) × (i.0 * (2 * (k + 1)) + 2 * (k + 1) ≤ length lines.now) }
-    ensures { Claimed k p.now start lines.now i.0 result }
+// Whether t, and then tA, of a claim are those of line i.
+pub fn claim_holds(claim: &[u8], lines: &[i32], i: LineNumber, k: usize) -> bool
+    requires k_le_constants { k ≤ edition1.constants }
+    requires claim_in_bounds { 2 * edition1.term_width * (k + 1) ≤ length claim.now }
+    requires i_lt_lines { i.0 < (edition newest_edition).lines }
+    requires lines_in_bounds { i.0 * (2 * (k + 1)) + 2 * (k + 1) ≤ length lines.now }
+    ensures { Claimed k claim.now lines.now i.0 result }
 {
-    let t = lines::place(i, k);
-    let ta = lines::place_a(i, k);
-    if same_form(p, start, lines, t, k) {
-        return same_form(p, start + TERM_BYTES * (k + 1), lines, ta, k);
-    }
-    false
+    same_form(claim, lines, lines::place(i, k), k)
+        && same_form(
+            &claim[TERM_BYTES * (k + 1)..],
+            lines,
+            lines::place_a(i, k),
+            k,
+        )
 }

@@ -1,2 +1,2 @@
--- Each way through an entry of a branch.
+-- Laws of one entry of a branch.
 pub mod Stepping

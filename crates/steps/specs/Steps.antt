@@ -1,12 +1,14 @@
--- One entry of a branch: what the definitions make of it, by the answer of the code. Document 01, "The rows" and "Check". Assumes nothing.
-use Rattle.std.specs.Prelude.{◌≡◌, Bool, true, false, List, ℕ, ◌+◌, ◌-◌, ◌*◌, ◌≤◌, ltb, take, drop, ℤ, nat_abs}
+-- One entry of a branch: what the definitions make of it, by the answer of the code. Assumes nothing.
+use Rattle.std.specs.Prelude.{◌≡◌, Bool, true, false, List, ℕ, ◌+◌, ◌-◌, ◌≤◌, ltb, ℤ, nat_abs, Ok, Err, IfOk}
+use Rattle.std.specs.declared.result.Result as code
 use Rattle.std.proofs.Math.Option.{Option, none, some}
 use Rattle.forms.specs.Edition.{edition, edition1}
 use Rattle.forms.specs.Forms.{Line}
 use Rattle.calculus.specs.Rules as rules
 use Rattle.answers.specs.declared.Answer.{Answer}
+use Rattle.answers.specs.declared.refusals.Refusal.{Refusal}
 use Rattle.answers.specs.Answers.{Result, refused, ◌>>=◌, ◌>>◌, need}
-use Rattle.number_bytes.specs.Numbers.{form_from, form_width}
+use Rattle.answers.specs.Refusals.{number_of}
 use Rattle.fields.specs.Fields.{Fields}
 use Rattle.proof.specs.Entries.{entry}
 use Rattle.proof.specs.Check.{Closing, Checker, Following, check_row, check_entry}
@@ -15,14 +17,8 @@ use Rattle.lines.specs.Ready.{LinesKept, Limited}
 use Rattle.tally.specs.Tally.{more_lines, more_rows}
 use Rattle.tally.specs.declared.Tally.{Tally}
 use Rattle.entries.specs.Entries.{Multiplies}
-use Rattle.rows.specs.declared.derive.Derived as derived
-use Rattle.rows.specs.declared.derive.Derived.TheVariants as derived-of
 use Rattle.steps.specs.declared.Stepped.{Stepped}
-use Rattle.steps.specs.declared.Stepped.TheVariants.{Refused, Made, Claimed, Strengthens, ClosesNumber, ClosesStride, Rounds, Splits}
-
-abbrev pub stepped_of : derived.Derived → Stepped
-stepped_of (derived-of.Refused x) = Refused x
-stepped_of (derived-of.Made t) = Made t
+use Rattle.steps.specs.declared.Stepped.TheVariants.{Made, Claimed, Strengthens, ClosesNumber, ClosesStride, Rounds, Splits}
 
 -- What is checked: given what checks deeper branches, what follows in this branch, the refusal by a number at this field, and the fields after it.
 abbrev pub EntryChecked : Type 0
@@ -40,35 +36,32 @@ row_checked K kinds buf t row deeper next refusal fs =
 abbrev pub row_left : (K : ℕ) (kinds : List ℕ) (buf : List ℤ) (t : Tally) → rules.Row → EntryChecked
 row_left K kinds buf t row deeper next refusal fs = check_row (edition t.edition) K deeper next refusal t.rows.0 (lines_in K kinds buf t.lines.0) fs row
 
--- What f is, by the code's answer.
-abbrev pub SteppedBy : (f : EntryChecked) (K : ℕ) (kinds : List ℕ) (buf : List ℤ) (t : Tally) (kinds' : List ℕ) (buf' : List ℤ) → Stepped → Type 0
-SteppedBy f K kinds buf t kinds' buf' (Refused x) = SameChecked f (λ deeper next refusal fs. refused (refusal x))
-SteppedBy f K kinds buf t kinds' buf' (Made t') =
+-- What f is, by the step that the code made.
+abbrev pub StepBy : (f : EntryChecked) (K : ℕ) (kinds : List ℕ) (buf : List ℤ) (t : Tally) (kinds' : List ℕ) (buf' : List ℤ) → Stepped → Type 0
+StepBy f K kinds buf t kinds' buf' (Made t') =
     SameChecked f (λ deeper next refusal fs. next (t.rows.0 + 1) (some (line_in K kinds' buf' t.lines.0)) (lines_in K kinds' buf' (t.lines.0 + 1)))
     × Limited t.edition K buf' (t.lines.0 + 1) × (t' ≡ more_lines (more_rows t))
-SteppedBy f K kinds buf t kinds' buf' Claimed = SameChecked f (λ deeper next refusal fs. next t.rows.0 none (lines_in K kinds buf t.lines.0))
-SteppedBy f K kinds buf t kinds' buf' (Strengthens t' i) = SameChecked f (row_left K kinds buf t (rules.Strengthen i.0)) × (t' ≡ more_rows t)
-SteppedBy f K kinds buf t kinds' buf' (ClosesNumber t' i) = SameChecked f (row_left K kinds buf t (rules.CloseNumber i.0)) × (t' ≡ more_rows t)
-SteppedBy f K kinds buf t kinds' buf' (ClosesStride t' i g) =
+StepBy f K kinds buf t kinds' buf' Claimed = SameChecked f (λ deeper next refusal fs. next t.rows.0 none (lines_in K kinds buf t.lines.0))
+StepBy f K kinds buf t kinds' buf' (Strengthens t' i) = SameChecked f (row_left K kinds buf t (rules.Strengthen i.0)) × (t' ≡ more_rows t)
+StepBy f K kinds buf t kinds' buf' (ClosesNumber t' i) = SameChecked f (row_left K kinds buf t (rules.CloseNumber i.0)) × (t' ≡ more_rows t)
+StepBy f K kinds buf t kinds' buf' (ClosesStride t' i g) =
     SameChecked f (row_left K kinds buf t (rules.CloseStride i.0 (nat_abs g))) × (t' ≡ more_rows t) × Multiplies (nat_abs g) g
-SteppedBy f K kinds buf t kinds' buf' (Rounds t' i g by) =
+StepBy f K kinds buf t kinds' buf' (Rounds t' i g by) =
     SameChecked f (row_left K kinds buf t (rules.Round i.0 (nat_abs g) by)) × (t' ≡ more_rows t) × Multiplies (nat_abs g) g
-SteppedBy f K kinds buf t kinds' buf' (Splits t' i) = SameChecked f (row_left K kinds buf t (rules.Split i.0)) × (t' ≡ more_rows t)
+StepBy f K kinds buf t kinds' buf' (Splits t' i) = SameChecked f (row_left K kinds buf t (rules.Split i.0)) × (t' ≡ more_rows t)
 
-pub record Steps (f : EntryChecked) (K : ℕ) (kinds : List ℕ) (buf : List ℤ) (t : Tally) (kinds' : List ℕ) (buf' : List ℤ) (r : Stepped) : Type 0 where
+-- The same of the code's answer.
+abbrev pub SteppedBy : (f : EntryChecked) (K : ℕ) (kinds : List ℕ) (buf : List ℤ) (t : Tally) (kinds' : List ℕ) (buf' : List ℤ) → code.Result Stepped Refusal → Type 0
+SteppedBy f K kinds buf t kinds' buf' (Ok s) = StepBy f K kinds buf t kinds' buf' s
+SteppedBy f K kinds buf t kinds' buf' (Err r) = SameChecked f (λ deeper next refusal fs. refused (refusal (number_of r)))
+
+pub record Steps (f : EntryChecked) (K : ℕ) (kinds : List ℕ) (buf : List ℤ) (t : Tally) (kinds' : List ℕ) (buf' : List ℤ) (r : code.Result Stepped Refusal) : Type 0 where
   pub kept : LinesKept K t.lines.0 kinds buf kinds' buf'
   pub by : SteppedBy f K kinds buf t kinds' buf' r
 
 -- An entry of a proof of edition e that is not refused has as many bytes of contents as a line number at least.
-abbrev pub Advances : (e len : ℕ) → Stepped → Type 0
-Advances e len (Refused x) = Unit {0}
-Advances e len (Made t) = (edition e).line_width ≤ len
-Advances e len Claimed = (edition e).line_width ≤ len
-Advances e len (Strengthens t i) = (edition e).line_width ≤ len
-Advances e len (ClosesNumber t i) = (edition e).line_width ≤ len
-Advances e len (ClosesStride t i g) = (edition e).line_width ≤ len
-Advances e len (Rounds t i g by) = (edition e).line_width ≤ len
-Advances e len (Splits t i) = (edition e).line_width ≤ len
+abbrev pub Advances : (e len : ℕ) → code.Result Stepped Refusal → Type 0
+Advances e len r = IfOk r (λ s. (edition e).line_width ≤ len)
 
 -- The line that a claim may state: the last one, if a row 0x10 to 0x12 made it directly before.
 abbrev pub last_made : Bool → (K : ℕ) (kinds : List ℕ) (buf : List ℤ) (n : ℕ) → Option Line
@@ -80,17 +73,3 @@ abbrev pub field_checked : (K : ℕ) (kinds : List ℕ) (buf : List ℤ) (t : Ta
 field_checked K kinds buf t made tag contents deeper next refusal fs =
     entry (edition t.edition) K refusal made (record { at = 0; tag = tag; contents = contents })
     >>= λ x. check_entry (edition t.edition) K deeper next refusal t.rows.0 (last_made made K kinds buf t.lines.0) (lines_in K kinds buf t.lines.0) fs x
-
--- A row that opens branches or ends this one is counted and left as it is, in any buffers.
-pub record Counts (row : rules.Row) (t : Tally) (r : Stepped) : Type 0 where
-  pub steps : (K : ℕ) (kinds : List ℕ) (buf : List ℤ) → Steps (row_checked K kinds buf t row) K kinds buf t kinds buf r
-
--- The claim whose contents start there, checked. 4, 14.
-abbrev pub claim_checked : (K : ℕ) (p : List ℕ) (start : ℕ) (made : Bool) (kinds : List ℕ) (buf : List ℤ) (t : Tally) (len : ℕ) → EntryChecked
-claim_checked K p start made kinds buf t len deeper next refusal fs =
-    check_entry (edition t.edition) K deeper next refusal t.rows.0 (last_made made K kinds buf t.lines.0) (lines_in K kinds buf t.lines.0) fs
-    (rules.claim (form_from edition1.term_width K (take len (drop start p))) (form_from edition1.term_width K (drop (form_width edition1.term_width K) (take len (drop start p)))))
-
-pub record Claims (K : ℕ) (p : List ℕ) (start : ℕ) (made : Bool) (buf : List ℤ) (t : Tally) (r : Stepped) : Type 0 where
-  pub steps : (len : ℕ) (kinds : List ℕ) → len ≡ 2 * form_width edition1.term_width K
-      → Steps (claim_checked K p start made kinds buf t len) K kinds buf t kinds buf r

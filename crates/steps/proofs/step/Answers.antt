@@ -1,116 +1,158 @@
 -- `steps::step` meets its contract. Assumes nothing.
-use native.Mathlib.Omega.{arith}
-use mathlib.Core.Path.{ap}
+use mathlib.Core.Path.{refl}
 use mir.ValLaws.{to_z-of_z}
+use Rattle.std.proofs.lemmas.Result.{err_from_is_err_and}
 use Rattle.integers.proofs.Magnitude.{within-fits}
-use Rattle.forms.proofs.Editions.{lines-most}
-use Rattle.entries.specs.Entries.{entry_for}
-use Rattle.steps.proofs.Stepping.{step_row, step-claim, step-refused}
+use Rattle.lines.proofs.Keeping.{kept_refl}
+use Rattle.tally.proofs.Counted.{counted-row}
+use Rattle.steps.proofs.Stepping.{step-refused, row-full, row-counted, row-refused, row-made, claim-wrong, claim-right}
 use Rattle.steps.proofs.step.Goals as goal
 
-pub combine_row-requires : goal.combine_row-requires
-combine_row-requires c =
-    let a = c.args in
-    let e = rw c.in-Combine.is at c.entry_at-entry.ensures in
+pub returns-in_err-entry-clause-steps : goal.returns-in_err-entry-clause-steps
+returns-in_err-entry-clause-steps c =
+    let p = err_from_is_err_and c.from_residual.result c.from_residual.ensures.1 in
+    rw (p.1, p.2) (step-refused _ _ _ c.in_err-entry.ensures)
+
+pub returns-in_err-count_row-in-Combine-clause-steps : goal.returns-in_err-count_row-in-Combine-clause-steps
+returns-in_err-count_row-in-Combine-clause-steps c =
+    let e = rw c.in-Combine.is at c.in_ok-entry.ensures in
+    let h = c.in_err-count_row-in-Combine.ensures in
+    let p = err_from_is_err_and c.from_residual-in_err-count_row-in-Combine.result c.from_residual-in_err-count_row-in-Combine.ensures.1 in
+    rw (p.1, p.2, h.0) (row-full _ _ _ e _ refl h.1)
+
+pub combine-requires-clause-ready : goal.combine-requires-clause-ready
+combine-requires-clause-ready c = rw (counted-row c.in_ok-count_row-in-Combine.ensures).1 c.requires.ready
+
+pub returns-in_err-tally-in-Combine-clause-steps : goal.returns-in_err-tally-in-Combine-clause-steps
+returns-in_err-tally-in-Combine-clause-steps c =
+    let e = rw c.in-Combine.is at c.in_ok-entry.ensures in
     let f0 = within-fits e.ranged.0.within tt in
     let f1 = within-fits e.ranged.1.within tt in
-    simp to_z-of_z (record { ready = c.requires.ready; multiplies = e.ranged })
+    let p = err_from_is_err_and c.from_residual-in_err-tally-in-Combine.result c.from_residual-in_err-tally-in-Combine.ensures.1 in
+    rw (p.1, p.2) (row-refused _ _ _ e _ refl c.in_ok-count_row-in-Combine.ensures (simp to_z-of_z at c.in_err-tally-in-Combine.ensures))
 
-pub returns-in-Combine : goal.returns-in-Combine
-returns-in-Combine c =
-    let a = c.args in
-    let e = rw c.in-Combine.is at c.entry_at-entry.ensures in
+pub returns-in_ok-tally-in-Combine-clause-steps : goal.returns-in_ok-tally-in-Combine-clause-steps
+returns-in_ok-tally-in-Combine-clause-steps c =
+    let e = rw c.in-Combine.is at c.in_ok-entry.ensures in
     let f0 = within-fits e.ranged.0.within tt in
     let f1 = within-fits e.ranged.1.within tt in
-    step_row _ _ a.tally a.made c.entry_at-entry.ensures _ (λ refusal. ap (entry_for refusal a.k _) c.in-Combine.is) e.filled (simp to_z-of_z at c.combine_row.ensures)
+    row-made _ _ _ e _ refl c.in_ok-count_row-in-Combine.ensures (simp to_z-of_z at c.in_ok-tally-in-Combine.ensures)
 
-pub reduce_row-requires : goal.reduce_row-requires
-reduce_row-requires c =
-    let a = c.args in
-    let e = rw c.in-Reduce.is at c.entry_at-entry.ensures in
+pub returns-in_err-count_row-in-Reduce-clause-steps : goal.returns-in_err-count_row-in-Reduce-clause-steps
+returns-in_err-count_row-in-Reduce-clause-steps c =
+    let e = rw c.in-Reduce.is at c.in_ok-entry.ensures in
+    let h = c.in_err-count_row-in-Reduce.ensures in
+    let p = err_from_is_err_and c.from_residual-in_err-count_row-in-Reduce.result c.from_residual-in_err-count_row-in-Reduce.ensures.1 in
+    rw (p.1, p.2, h.0) (row-full _ _ _ e _ refl h.1)
+
+pub reduce-requires-clause-ready : goal.reduce-requires-clause-ready
+reduce-requires-clause-ready c = rw (counted-row c.in_ok-count_row-in-Reduce.ensures).1 c.requires.ready
+
+pub returns-in_err-tally-in-Reduce-clause-steps : goal.returns-in_err-tally-in-Reduce-clause-steps
+returns-in_err-tally-in-Reduce-clause-steps c =
+    let e = rw c.in-Reduce.is at c.in_ok-entry.ensures in
     let f0 = within-fits e.ranged tt in
-    simp to_z-of_z (record { ready = c.requires.ready; within = e.ranged })
+    let p = err_from_is_err_and c.from_residual-in_err-tally-in-Reduce.result c.from_residual-in_err-tally-in-Reduce.ensures.1 in
+    rw (p.1, p.2) (row-refused _ _ _ e _ refl c.in_ok-count_row-in-Reduce.ensures (simp to_z-of_z at c.in_err-tally-in-Reduce.ensures))
 
-pub returns-in-Reduce : goal.returns-in-Reduce
-returns-in-Reduce c =
-    let a = c.args in
-    let e = rw c.in-Reduce.is at c.entry_at-entry.ensures in
+pub returns-in_ok-tally-in-Reduce-clause-steps : goal.returns-in_ok-tally-in-Reduce-clause-steps
+returns-in_ok-tally-in-Reduce-clause-steps c =
+    let e = rw c.in-Reduce.is at c.in_ok-entry.ensures in
     let f0 = within-fits e.ranged tt in
-    step_row _ _ a.tally a.made c.entry_at-entry.ensures _ (λ refusal. ap (entry_for refusal a.k _) c.in-Reduce.is) e.filled (simp to_z-of_z at c.reduce_row.ensures)
+    row-made _ _ _ e _ refl c.in_ok-count_row-in-Reduce.ensures (simp to_z-of_z at c.in_ok-tally-in-Reduce.ensures)
 
-pub scale_row-requires : goal.scale_row-requires
-scale_row-requires c =
-    let a = c.args in
-    let e = rw c.in-Scale.is at c.entry_at-entry.ensures in
+pub returns-in_err-count_row-in-Scale-clause-steps : goal.returns-in_err-count_row-in-Scale-clause-steps
+returns-in_err-count_row-in-Scale-clause-steps c =
+    let e = rw c.in-Scale.is at c.in_ok-entry.ensures in
+    let h = c.in_err-count_row-in-Scale.ensures in
+    let p = err_from_is_err_and c.from_residual-in_err-count_row-in-Scale.result c.from_residual-in_err-count_row-in-Scale.ensures.1 in
+    rw (p.1, p.2, h.0) (row-full _ _ _ e _ refl h.1)
+
+pub scale-requires-clause-ready : goal.scale-requires-clause-ready
+scale-requires-clause-ready c = rw (counted-row c.in_ok-count_row-in-Scale.ensures).1 c.requires.ready
+
+pub returns-in_err-tally-in-Scale-clause-steps : goal.returns-in_err-tally-in-Scale-clause-steps
+returns-in_err-tally-in-Scale-clause-steps c =
+    let e = rw c.in-Scale.is at c.in_ok-entry.ensures in
     let f0 = within-fits e.ranged.within tt in
-    simp to_z-of_z (record { ready = c.requires.ready; multiplies = e.ranged })
+    let p = err_from_is_err_and c.from_residual-in_err-tally-in-Scale.result c.from_residual-in_err-tally-in-Scale.ensures.1 in
+    rw (p.1, p.2) (row-refused _ _ _ e _ refl c.in_ok-count_row-in-Scale.ensures (simp to_z-of_z at c.in_err-tally-in-Scale.ensures))
 
-pub returns-in-Scale : goal.returns-in-Scale
-returns-in-Scale c =
-    let a = c.args in
-    let e = rw c.in-Scale.is at c.entry_at-entry.ensures in
+pub returns-in_ok-tally-in-Scale-clause-steps : goal.returns-in_ok-tally-in-Scale-clause-steps
+returns-in_ok-tally-in-Scale-clause-steps c =
+    let e = rw c.in-Scale.is at c.in_ok-entry.ensures in
     let f0 = within-fits e.ranged.within tt in
-    step_row _ _ a.tally a.made c.entry_at-entry.ensures _ (λ refusal. ap (entry_for refusal a.k _) c.in-Scale.is) e.filled (simp to_z-of_z at c.scale_row.ensures)
+    row-made _ _ _ e _ refl c.in_ok-count_row-in-Scale.ensures (simp to_z-of_z at c.in_ok-tally-in-Scale.ensures)
 
-pub returns-in-Strengthen : goal.returns-in-Strengthen
-returns-in-Strengthen c =
-    let a = c.args in
-    let e = rw c.in-Strengthen.is at c.entry_at-entry.ensures in
-    step_row _ _ a.tally a.made c.entry_at-entry.ensures _ (λ refusal. ap (entry_for refusal a.k _) c.in-Strengthen.is) e.filled (c.strengthen_row.ensures.steps _ _ _)
+pub returns-in_err-count_row-in-Strengthen-clause-steps : goal.returns-in_err-count_row-in-Strengthen-clause-steps
+returns-in_err-count_row-in-Strengthen-clause-steps c =
+    let e = rw c.in-Strengthen.is at c.in_ok-entry.ensures in
+    let h = c.in_err-count_row-in-Strengthen.ensures in
+    let p = err_from_is_err_and c.from_residual-in_err-count_row-in-Strengthen.result c.from_residual-in_err-count_row-in-Strengthen.ensures.1 in
+    rw (p.1, p.2, h.0) (row-full _ _ _ e _ refl h.1)
 
-pub returns-in-CloseNumber : goal.returns-in-CloseNumber
-returns-in-CloseNumber c =
-    let a = c.args in
-    let e = rw c.in-CloseNumber.is at c.entry_at-entry.ensures in
-    step_row _ _ a.tally a.made c.entry_at-entry.ensures _ (λ refusal. ap (entry_for refusal a.k _) c.in-CloseNumber.is) e.filled (c.number_row.ensures.steps _ _ _)
+pub returns-in_ok-count_row-in-Strengthen-clause-steps : goal.returns-in_ok-count_row-in-Strengthen-clause-steps
+returns-in_ok-count_row-in-Strengthen-clause-steps c =
+    let e = rw c.in-Strengthen.is at c.in_ok-entry.ensures in
+    let h = c.in_ok-count_row-in-Strengthen.ensures in
+    record { kept = kept_refl; by = (row-counted _ _ _ e _ refl h, (counted-row h).1) }
 
-pub stride_row-requires : goal.stride_row-requires
-stride_row-requires c =
-    let a = c.args in
-    let e = rw c.in-CloseStride.is at c.entry_at-entry.ensures in
+pub returns-in_err-count_row-in-CloseNumber-clause-steps : goal.returns-in_err-count_row-in-CloseNumber-clause-steps
+returns-in_err-count_row-in-CloseNumber-clause-steps c =
+    let e = rw c.in-CloseNumber.is at c.in_ok-entry.ensures in
+    let h = c.in_err-count_row-in-CloseNumber.ensures in
+    let p = err_from_is_err_and c.from_residual-in_err-count_row-in-CloseNumber.result c.from_residual-in_err-count_row-in-CloseNumber.ensures.1 in
+    rw (p.1, p.2, h.0) (row-full _ _ _ e _ refl h.1)
+
+pub returns-in_ok-count_row-in-CloseNumber-clause-steps : goal.returns-in_ok-count_row-in-CloseNumber-clause-steps
+returns-in_ok-count_row-in-CloseNumber-clause-steps c =
+    let e = rw c.in-CloseNumber.is at c.in_ok-entry.ensures in
+    let h = c.in_ok-count_row-in-CloseNumber.ensures in
+    record { kept = kept_refl; by = (row-counted _ _ _ e _ refl h, (counted-row h).1) }
+
+pub returns-in_err-count_row-in-CloseStride-clause-steps : goal.returns-in_err-count_row-in-CloseStride-clause-steps
+returns-in_err-count_row-in-CloseStride-clause-steps c =
+    let e = rw c.in-CloseStride.is at c.in_ok-entry.ensures in
+    let h = c.in_err-count_row-in-CloseStride.ensures in
+    let p = err_from_is_err_and c.from_residual-in_err-count_row-in-CloseStride.result c.from_residual-in_err-count_row-in-CloseStride.ensures.1 in
+    rw (p.1, p.2, h.0) (row-full _ _ _ e _ refl h.1)
+
+pub returns-in_ok-count_row-in-CloseStride-clause-steps : goal.returns-in_ok-count_row-in-CloseStride-clause-steps
+returns-in_ok-count_row-in-CloseStride-clause-steps c =
+    let e = rw c.in-CloseStride.is at c.in_ok-entry.ensures in
+    let h = c.in_ok-count_row-in-CloseStride.ensures in
     let f0 = within-fits e.ranged.within tt in
-    simp to_z-of_z e.ranged
+    simp to_z-of_z (record { kept = kept_refl; by = (row-counted _ _ _ e _ refl h, (counted-row h).1, e.ranged) })
 
-pub returns-in-CloseStride : goal.returns-in-CloseStride
-returns-in-CloseStride c =
-    let a = c.args in
-    let e = rw c.in-CloseStride.is at c.entry_at-entry.ensures in
+pub returns-in_err-count_row-in-Round-clause-steps : goal.returns-in_err-count_row-in-Round-clause-steps
+returns-in_err-count_row-in-Round-clause-steps c =
+    let e = rw c.in-Round.is at c.in_ok-entry.ensures in
+    let h = c.in_err-count_row-in-Round.ensures in
+    let p = err_from_is_err_and c.from_residual-in_err-count_row-in-Round.result c.from_residual-in_err-count_row-in-Round.ensures.1 in
+    rw (p.1, p.2, h.0) (row-full _ _ _ e _ refl h.1)
+
+pub returns-in_ok-count_row-in-Round-clause-steps : goal.returns-in_ok-count_row-in-Round-clause-steps
+returns-in_ok-count_row-in-Round-clause-steps c =
+    let e = rw c.in-Round.is at c.in_ok-entry.ensures in
+    let h = c.in_ok-count_row-in-Round.ensures in
     let f0 = within-fits e.ranged.within tt in
-    step_row _ _ a.tally a.made c.entry_at-entry.ensures _ (λ refusal. ap (entry_for refusal a.k _) c.in-CloseStride.is) e.filled ((simp to_z-of_z at c.stride_row.ensures).steps _ _ _)
+    simp to_z-of_z (record { kept = kept_refl; by = (row-counted _ _ _ e _ refl h, (counted-row h).1, e.ranged) })
 
-pub round_row-requires : goal.round_row-requires
-round_row-requires c =
-    let a = c.args in
-    let e = rw c.in-Round.is at c.entry_at-entry.ensures in
-    let f0 = within-fits e.ranged.within tt in
-    simp to_z-of_z e.ranged
+pub returns-in_err-count_row-in-Split-clause-steps : goal.returns-in_err-count_row-in-Split-clause-steps
+returns-in_err-count_row-in-Split-clause-steps c =
+    let e = rw c.in-Split.is at c.in_ok-entry.ensures in
+    let h = c.in_err-count_row-in-Split.ensures in
+    let p = err_from_is_err_and c.from_residual-in_err-count_row-in-Split.result c.from_residual-in_err-count_row-in-Split.ensures.1 in
+    rw (p.1, p.2, h.0) (row-full _ _ _ e _ refl h.1)
 
-pub returns-in-Round : goal.returns-in-Round
-returns-in-Round c =
-    let a = c.args in
-    let e = rw c.in-Round.is at c.entry_at-entry.ensures in
-    let f0 = within-fits e.ranged.within tt in
-    step_row _ _ a.tally a.made c.entry_at-entry.ensures _ (λ refusal. ap (entry_for refusal a.k _) c.in-Round.is) e.filled ((simp to_z-of_z at c.round_row.ensures).steps _ _ _)
+pub returns-in_ok-count_row-in-Split-clause-steps : goal.returns-in_ok-count_row-in-Split-clause-steps
+returns-in_ok-count_row-in-Split-clause-steps c =
+    let e = rw c.in-Split.is at c.in_ok-entry.ensures in
+    let h = c.in_ok-count_row-in-Split.ensures in
+    record { kept = kept_refl; by = (row-counted _ _ _ e _ refl h, (counted-row h).1) }
 
-pub returns-in-Split : goal.returns-in-Split
-returns-in-Split c =
-    let a = c.args in
-    let e = rw c.in-Split.is at c.entry_at-entry.ensures in
-    step_row _ _ a.tally a.made c.entry_at-entry.ensures _ (λ refusal. ap (entry_for refusal a.k _) c.in-Split.is) e.filled (c.split_row.ensures.steps _ _ _)
+pub returns-then-not-claim_holds-clause-steps : goal.returns-then-not-claim_holds-clause-steps
+returns-then-not-claim_holds-clause-steps c = claim-wrong _ _ _ (rw c.in-Claim.is at c.in_ok-entry.ensures) refl c.claim_holds.ensures c.if-not-claim_holds.true
 
-pub claim_step-requires : goal.claim_step-requires
-claim_step-requires c =
-    let a = c.args in
-    let e = rw c.in-Claim.is at c.entry_at-entry.ensures in
-    record { k_le_constants = (c.requires.ready.branch.constants, omega (arith, e.ranged.0, e.ranged.1, c.requires.len_in_bounds.0), omega (arith, c.requires.ready.most, lines-most a.tally.edition), omega (arith, c.requires.ready.branch.room)); le_lines = c.requires.len_in_bounds.1 }
-
-pub returns-in-Claim : goal.returns-in-Claim
-returns-in-Claim c =
-    let a = c.args in
-    let e = rw c.in-Claim.is at c.entry_at-entry.ensures in
-    step-claim _ _ a.tally a.made c.entry_at-entry.ensures c.in-Claim.is e.ranged.0 e.ranged.1 e.filled c.claim_step.ensures
-
-pub returns-in-Refused : goal.returns-in-Refused
-returns-in-Refused c =
-    let a = c.args in
-    step-refused _ _ a.tally a.made c.entry_at-entry.ensures c.in-Refused.is
+pub returns-else-not-claim_holds-clause-steps : goal.returns-else-not-claim_holds-clause-steps
+returns-else-not-claim_holds-clause-steps c = claim-right _ _ _ (rw c.in-Claim.is at c.in_ok-entry.ensures) refl c.claim_holds.ensures c.if-not-claim_holds.false

@@ -1,21 +1,16 @@
 -- `rows::claims::same_form` meets its contract. Assumes nothing.
-use mathlib.Core.Path.{refl}
-use mathlib.Core.Logic.{inr}
 use native.Mathlib.Omega.{arith}
 use Rattle.rows.proofs.Claiming.{claim-start, claim-on, claim-off, claim-end}
 use Rattle.rows.proofs.claims.same_form.Goals as goal
 
 pub loop-x-init : goal.loop-x-init
-loop-x-init c = claim-start _ _ _ _ _
-
-pub signed_at-n-requires : goal.signed_at-n-requires
-signed_at-n-requires c = record { fact = inr refl; width_in_bounds = omega (arith, c.loop-x.invariant.upto) }
+loop-x-init c = claim-start _ _ _ _
 
 pub returns-then-not-same : goal.returns-then-not-same
-returns-then-not-same c = claim-off _ _ _ _ c.loop-x.invariant (omega arith) c.requires.2 c.signed_at-n.ensures.is c.number.ensures c.signed_at-n.type_inv c.number.type_inv c.same.ensures c.if-not-same.true
+returns-then-not-same c = claim-off _ _ _ c.loop-x.invariant (omega arith) c.requires.lines_in_bounds c.signed_at-n.ensures.is c.number.ensures c.signed_at-n.type_inv c.number.type_inv c.same.ensures c.if-not-same.true
 
 pub loop-x-preserved : goal.loop-x-preserved
-loop-x-preserved c = claim-on _ _ _ _ c.loop-x.invariant (omega arith) c.requires.2 c.signed_at-n.ensures.is c.number.ensures c.signed_at-n.type_inv c.number.type_inv c.same.ensures c.if-not-same.false
+loop-x-preserved c = claim-on _ _ _ c.loop-x.invariant (omega arith) c.requires.lines_in_bounds c.signed_at-n.ensures.is c.number.ensures c.signed_at-n.type_inv c.number.type_inv c.same.ensures c.if-not-same.false
 
 pub returns : goal.returns
-returns c = claim-end _ _ _ _ c.loop-x.invariant (omega arith)
+returns c = claim-end _ _ _ c.loop-x.invariant (omega arith)
