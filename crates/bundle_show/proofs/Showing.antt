@@ -10,6 +10,9 @@ use lib.ListN.{length}
 use borrow.Author.Tests.{lt-ltb, le-ltb, ltb-true, ltb-false, lt-leb, le-leb, eq-eqb, ne_eqb}
 use Rattle.forms.specs.Edition.{Edition, edition}
 use Rattle.forms.specs.Forms.{Constraint}
+use Rattle.std.specs.Prelude.{Ok, Err}
+use Rattle.std.specs.declared.result.Result as code
+use Rattle.answers.specs.declared.refusals.Fault.{Fault}
 use Rattle.answers.specs.declared.Answer.{Answer}
 use Rattle.answers.specs.Answers.{answer, acceptance, file_a, file_b, refused, accepted, ◌>>=◌, ◌>>◌, need, found}
 use Rattle.fields.specs.Fields.{Field, Fields, ends, cut, ◌▸◌, Item, fields, nth}
@@ -186,12 +189,12 @@ module _ {A B : List ℕ} {K K' : ℕ} {first second : Body} (p : Pair A B K K' 
     shown-none g = in_B ∙ rw (gone (laid_out p.b) (i - first.count) (omega (arith, count_is p.b)))
 
   -- ---- what `locate` finds
-  pub located-A : i < first.count → {start size : ℕ} → start ≡ constraint_start A i → size ≡ field_size (edition first.edition).coefficient_width K → IsLocated A B i (Located.Part 1 start size)
+  pub located-A : i < first.count → {start size : ℕ} → start ≡ constraint_start A i → size ≡ field_size (edition first.edition).coefficient_width K → IsLocated A B i (Ok (record { file = 1; start = start; size = size }))
   unfolding show_part handed
   located-A h s q = rw (s, q) (record { is = rw (shown-A h); inside = lies A i (stands-A h) })
 
   pub located-B : first.count ≤ i → i - first.count < second.count → {start size : ℕ} → start ≡ constraint_start B (i - first.count)
-      → size ≡ field_size (edition second.edition).coefficient_width K → IsLocated A B i (Located.Part 2 start size)
+      → size ≡ field_size (edition second.edition).coefficient_width K → IsLocated A B i (Ok (record { file = 2; start = start; size = size }))
   unfolding show_part handed
   located-B h g s q = rw (s, q) (record { is = rw (shown-B h g); inside = lies B (i - first.count) (stands-B h g) })
 
@@ -209,7 +212,7 @@ module _ {A B : List ℕ} {K K' : ℕ} {first second : Body} (p : Pair A B K K' 
   answer-none h = rw (shown-none (omega arith) (omega arith))
 
 module _ (A B : List ℕ) (i : ℕ) {x : Answer} (e : shown_part 2 A B i ≡ refused x) where
-  pub located-nowhere : IsLocated A B i Located.Nowhere
+  pub located-nowhere : {f : Fault} → IsLocated A B i (Err f)
   unfolding show_part handed
   located-nowhere = record { is = rw e; inside = tt }
 
@@ -218,27 +221,27 @@ module _ (A B : List ℕ) (i : ℕ) {x : Answer} (e : shown_part 2 A B i ≡ ref
   answer-refused = rw e
 
 -- ---- what is handed back
-module _ {A B : List ℕ} {i : ℕ} {r : Located} (k : IsLocated A B i r) where
-  pub shown-part : {file start size : ℕ} → r ≡ Located.Part file start size → show_part 2 A B i ≡ record { file = file; start = start; size = size }
+module _ {A B : List ℕ} {i : ℕ} {r : code.Result Located Fault} (k : IsLocated A B i r) where
+  pub shown-part : {p : Located} → r ≡ Ok p → show_part 2 A B i ≡ record { file = p.file; start = p.start; size = p.size }
   shown-part e = rw (k.is, e)
 
-  pub shown-nothing : r ≡ Located.Nowhere → show_part 2 A B i ≡ record { file = file_a; start = 0; size = 0 }
+  pub shown-nothing : {f : Fault} → r ≡ Err f → show_part 2 A B i ≡ record { file = file_a; start = 0; size = 0 }
   shown-nothing e = rw (k.is, e)
 
   -- the part lies in its file
-  module _ {file start size : ℕ} (e : r ≡ Located.Part file start size) where
-    lies_in : start + size ≤ length (of_file file A B)
+  module _ {p : Located} (e : r ≡ Ok p) where
+    lies_in : p.start + p.size ≤ length (of_file p.file A B)
     lies_in = rw e at k.inside
 
-    pub part-below : (n : ℕ) → length A < n → length B < n → start + size < n
-    part-below n a b = go (eqb file file_a) lies_in
+    pub part-below : (n : ℕ) → length A < n → length B < n → p.start + p.size < n
+    part-below n a b = go (eqb p.file file_a) lies_in
       where
-        go : (p : Bool) → start + size ≤ length (cond p A B) → start + size < n
+        go : (b : Bool) → p.start + p.size ≤ length (cond b A B) → p.start + p.size < n
         go true h = omega arith
         go false h = omega arith
 
-    pub part-A : file ≡ 1 → start + size ≤ length A
-    part-A f = rw (eq-eqb file file_a f) at lies_in
+    pub part-A : p.file ≡ 1 → p.start + p.size ≤ length A
+    part-A f = rw (eq-eqb p.file file_a f) at lies_in
 
-    pub part-B : (file ≡ 1 → ⊥) → start + size ≤ length B
-    part-B f = rw (ne_eqb file file_a f) at lies_in
+    pub part-B : (p.file ≡ 1 → ⊥) → p.start + p.size ≤ length B
+    part-B f = rw (ne_eqb p.file file_a f) at lies_in

@@ -9,25 +9,25 @@ ghost use Rattle.bundle.specs.Show.{show_part};
 ghost use Rattle.bundle_show.specs.Promises.{Shows, AnswersShow, part_bytes};
 ghost use Rattle.bundle_show.specs.Copied.{Copied};
 
+use answers::refusals::Refusal;
 use answers::{Answer, acceptance, refusal};
-use bundle_scan::{Scanned, scan};
+use bundle_scan::scan;
 use forms::BUNDLE_BYTES;
-use locate::{Located, locate};
-use number_bytes::copy::copy_bytes;
+use locate::locate;
 
 // The field of the constraint that a line number names, out of A's or B's buffer; the empty part at A's start where it is refused.
 pub fn show<'a>(a: &'a [u8], b: &'a [u8], line: usize) -> &'a [u8]
     ensures { Shows a.entry b.entry line result }
 {
     match locate(a, b, line) {
-        Located::Part { file, start, size } => {
-            let end = start + size;
-            if file == 1 {
-                return &a[start..end];
+        Ok(part) => {
+            let end = part.start + part.size;
+            if part.file == 1 {
+                return &a[part.start..end];
             }
-            &b[start..end]
+            &b[part.start..end]
         }
-        Located::Nowhere => &a[0..0],
+        Err(_) => &a[0..0],
     }
 }
 
@@ -36,31 +36,23 @@ pub fn show_answer(a: &[u8], b: &[u8], line: usize) -> Answer
     ensures { AnswersShow a.now b.now line result }
 {
     if a.len() > BUNDLE_BYTES {
-        return refusal(1, 1, 0);
+        return refusal(Refusal::TooLong, 1, 0);
     }
     if b.len() > BUNDLE_BYTES {
-        return refusal(1, 2, 0);
+        return refusal(Refusal::TooLong, 2, 0);
     }
-    match scan(a, 0, 0) {
-        Scanned::Bundle {
-            k,
-            body: first,
-            start: _,
-        } => match scan(b, k, 0) {
-            Scanned::Bundle {
-                k: _,
-                body: second,
-                start: _,
-            } => {
-                if line < first.count + second.count {
-                    return acceptance();
-                }
-                refusal(10, 1, 0)
-            }
-            Scanned::Refused { number, place } => refusal(number, 2, place),
-        },
-        Scanned::Refused { number, place } => refusal(number, 1, place),
+    let first = match scan(a, 0, 0) {
+        Ok(first) => first,
+        Err(fault) => return refusal(fault.refusal, 1, fault.place),
+    };
+    let second = match scan(b, first.k, 0) {
+        Ok(second) => second,
+        Err(fault) => return refusal(fault.refusal, 2, fault.place),
+    };
+    if line < first.body.count + second.body.count {
+        return acceptance();
     }
+    refusal(Refusal::NoSuchLine, 1, 0)
 }
 
 // The constraint's field, copied into `out`, and its length. Where it does not fit, nothing is copied.
@@ -72,6 +64,6 @@ pub fn copy_shown<'a>(a: &'a [u8], b: &'a [u8], line: usize, out: &mut [u8]) -> 
     if out.len() < n {
         return n;
     }
-    copy_bytes(part, 0, n, out, 0);
+    out[..n].copy_from_slice(part);
     n
 }

@@ -1,17 +1,19 @@
 // A constraint's field, found by its line number.
-ghost use Rattle.std.specs.Prelude.{◌≡◌, ◌-◌};
+ghost use Rattle.std.specs.Prelude.{◌≡◌};
 ghost use Rattle.forms.specs.Edition.{edition};
 ghost use Rattle.bundle.specs.Writable.{field_size};
 ghost use Rattle.bundle_show.specs.Locate.{IsLocated};
 
-use bundle_scan::{Scanned, scan};
+use answers::refusals::{Fault, Refusal};
+use bundle_scan::scan;
 use forms::{BUNDLE_BYTES, coefficient_bytes};
 
-// A part of A's or B's buffer, or none where the call is refused.
+// A part of A's or B's buffer, by the number with which answers name the file.
 #[derive(Clone, Copy)]
-pub enum Located {
-    Nowhere,
-    Part { file: u8, start: usize, size: usize },
+pub struct Located {
+    pub file: u8,
+    pub start: usize,
+    pub size: usize,
 }
 
 // A constraint without fault has one size.
@@ -21,64 +23,35 @@ fn field_size(e: u8, k: u8) -> usize
     3 + (k as usize + 1) * coefficient_bytes(e)
 }
 
-// How far i lies beyond m, 0 where it does not.
-fn beyond(i: usize, m: usize) -> usize
-    ensures { result ≡ i - m }
-{
-    if i < m {
-        return 0;
-    }
-    i - m
-}
-
-// A's lines come first: wanted is constraint i of A, or the one of B that lies as far beyond A's.
-pub fn locate(a: &[u8], b: &[u8], i: usize) -> Located
+// A's lines come first: wanted is constraint i of A, or the one of B that lies as far beyond A's. Where the call is refused, the fault tells no file.
+pub fn locate(a: &[u8], b: &[u8], i: usize) -> Result<Located, Fault>
     ensures { IsLocated a.now b.now i result }
 {
-    if a.len() > BUNDLE_BYTES {
-        return Located::Nowhere;
+    if a.len() > BUNDLE_BYTES || b.len() > BUNDLE_BYTES {
+        return Err(Fault {
+            refusal: Refusal::TooLong,
+            place: 0,
+        });
     }
-    if b.len() > BUNDLE_BYTES {
-        return Located::Nowhere;
+    let first = scan(a, 0, i)?;
+    let m = first.body.count;
+    let second = scan(b, first.k, i.saturating_sub(m))?;
+    if i < m {
+        return Ok(Located {
+            file: 1,
+            start: first.start,
+            size: field_size(first.body.edition, first.k),
+        });
     }
-    match scan(a, 0, i) {
-        Scanned::Bundle {
-            k,
-            body: first,
-            start,
-        } => {
-            let m = first.count;
-            match scan(b, k, beyond(i, m)) {
-                Scanned::Bundle {
-                    k: _,
-                    body: second,
-                    start: start_b,
-                } => {
-                    if i < m {
-                        return Located::Part {
-                            file: 1,
-                            start,
-                            size: field_size(first.edition, k),
-                        };
-                    }
-                    if i - m < second.count {
-                        return Located::Part {
-                            file: 2,
-                            start: start_b,
-                            size: field_size(second.edition, k),
-                        };
-                    }
-                    Located::Nowhere
-                }
-                Scanned::Refused {
-                    number: _,
-                    place: _,
-                } => Located::Nowhere,
-            }
-        }
-        Scanned::Refused {
-            number: _,
-            place: _,
-        } => Located::Nowhere,
+    if i - m < second.body.count {
+        return Ok(Located {
+            file: 2,
+            start: second.start,
+            size: field_size(second.body.edition, first.k),
+        });
     }
+    Err(Fault {
+        refusal: Refusal::NoSuchLine,
+        place: 0,
+    })
 }
