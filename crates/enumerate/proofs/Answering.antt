@@ -3,8 +3,7 @@ use mathlib.Core.Path.{◌≡◌, refl, sym, ◌∙◌, ap, subst}
 use mathlib.Core.Bool.{Bool, true, false}
 use mathlib.Core.List.{List}
 use mathlib.Core.Option.{none, some}
-use Prim.Native.Nat.{ℕ, ◌+◌, ◌*◌, ◌≤◌, ◌<◌}
-use native.Mathlib.Nat.{mul-le-mul}
+use Prim.Native.Nat.{ℕ, ◌+◌, ◌≤◌, ◌<◌}
 use native.Mathlib.Omega.{arith}
 use borrow.Author.Tests.{le-leb, lt-leb, eqb-true, eqb-false}
 use lib.Dec.{T, eqb}
@@ -23,21 +22,24 @@ use Rattle.bundle.proofs.Laid.{both-read-short}
 use Rattle.bundle_scan.specs.Scan.{IsBundle, Scans}
 use Rattle.bundle_scan.specs.declared.Body.{Body}
 use Rattle.bundle_scan.specs.declared.Scanned.{Scanned}
+use Rattle.std.specs.declared.result.Result as rust
+use Rattle.std.specs.Prelude.{Option, Ok, Err}
+use Rattle.answers.specs.declared.refusals.Fault.{Fault}
+use Rattle.answers.specs.Refusals.{number_of}
 use Rattle.bundle_scan.proofs.Bodies as bodies
+use Rattle.bundle_scan.proofs.Scanning.{scanned-bundle}
 use Rattle.enumeration.specs.Sequence.{short_proofs, short_proofs_of}
 use Rattle.enumeration.specs.Next.{next_file, next_proof}
 use Rattle.enumeration.specs.Numbering.{begins}
 use Rattle.enumeration.specs.Search.{Found, found_file}
 use Rattle.enumeration.proofs.FoundFile.{told-not-among, told-first, told-next}
 use Rattle.enumeration.specs.Promises.{WritesNext}
-use Rattle.lines.specs.Buffer.{size, lines_in}
-use Rattle.tally.specs.Tally.{tally}
-use Rattle.bundle_load.specs.Load.{Space}
+use Rattle.lines.specs.Buffer.{lines_in}
 use Rattle.bundle_load.specs.Both.{stated_in, Both, Prepared}
 use Rattle.check_output.proofs.Delivering.{unwritten}
 use Rattle.enumeration_rows.proofs.RecognisedRows.{begins-longer}
-use Rattle.enumeration_rows.specs.Applied.{SearchRoom}
-use Rattle.enumeration_rows.specs.declared.found.FoundAt.{FoundAt}
+use Rattle.enumeration_rows.specs.declared.found.Rows.{Rows}
+use Rattle.enumeration_rows.specs.declared.found.NotAmong.{NotAmong}
 use Rattle.enumeration_rows.specs.Searching.{found_of, FindsAny}
 use Rattle.enumeration_rows.specs.Delivered.{WritesFound}
 use Rattle.enumeration_find.specs.Finding.{found_behind, found_for}
@@ -106,7 +108,7 @@ module _ {A B : List ℕ} where
           go true e true q = told-first A B given K (lines (stated_in A K first) (stated_in B K second)) (list-is h) (subst T (sym e) tt) (eqb-true (length given) 8 q)
           go true e false q = told-next A B given K (lines (stated_in A K first) (stated_in B K second)) (list-is h) (subst T (sym e) tt) (long e) (eqb-false (length given) 8 q)
 
-      pub nexts-told : {n : ℕ} {given out out' : List ℕ} {kinds : List ℕ} {buf : List ℤ} {kinds' : List ℕ} {buf' : List ℤ} {found : Result (Option Rows) NotAmong} {r : WriteResult} → n ≡ first.count + second.count → n ≤ 4
+      pub nexts-told : {n : ℕ} {given out out' : List ℕ} {kinds : List ℕ} {buf : List ℤ} {kinds' : List ℕ} {buf' : List ℤ} {found : rust.Result (Option Rows) NotAmong} {r : WriteResult} → n ≡ first.count + second.count → n ≤ 4
           → Prepared A B first second K kinds buf → FindsAny K n (found_for K given (lines_in K kinds buf n)) kinds buf kinds' buf' found → WritesFound K (found_of n found) out out' r → WritesNext A B given out out' r
       unfolding next_proof
       nexts-told {n} {given} {out} {kinds = kinds} {buf = buf} e h p s t = record {
@@ -116,33 +118,12 @@ module _ {A B : List ℕ} where
       }
 
 -- ---- what the scans tell
-is-bundle : {given K : ℕ} {A : List ℕ} {first : Body} {start : ℕ} {r : Scanned} → Scans given A 0 r → r ≡ Scanned.Bundle K first start → IsBundle given A K first
-is-bundle a e = (rw e at a.by).0
-
-module _ {A : List ℕ} {r : Scanned} (a : Scans 0 A 0 r) where
-  pub list-unscanned-A : {B : List ℕ} {number place : ℕ} → BothWithinLimits A B → r ≡ Scanned.Refused number place → short_proofs A B ≡ refused (answer number 1 place)
+module _ {A : List ℕ} {r : rust.Result Scanned Fault} (a : Scans 0 A 0 r) where
+  pub list-unscanned-A : {B : List ℕ} {e : Fault} → BothWithinLimits A B → r ≡ Err e → short_proofs A B ≡ refused (answer (number_of e.refusal) 1 e.place)
   list-unscanned-A s e = refused-A s ((rw e at a.by) file_a)
 
-  module _ {K : ℕ} {first : Body} {start : ℕ} (e : r ≡ Scanned.Bundle K first start) {B : List ℕ} {q : Scanned} (b : Scans K B 0 q) where
-    pub list-unscanned-B : {number place : ℕ} → BothWithinLimits A B → q ≡ Scanned.Refused number place → short_proofs A B ≡ refused (answer number 2 place)
+  module _ {x : Scanned} (e : r ≡ Ok x) {B : List ℕ} {q : rust.Result Scanned Fault} (b : Scans x.k B 0 q) where
+    pub list-unscanned-B : {e : Fault} → BothWithinLimits A B → q ≡ Err e → short_proofs A B ≡ refused (answer (number_of e.refusal) 2 e.place)
     list-unscanned-B s f =
-        let is-A = is-bundle a e in
-        refused-B s is-A (rw (given-some K (bodies.low is-A)) at ((rw f at b.by) file_b))
-
--- ---- the buffers
-pub space-few : {A B : List ℕ} {first second : Body} {K : ℕ} {kinds : List ℕ} {buf : List ℤ} → Both A B first second K → first.count + second.count ≤ 4 → 7 * 34 ≤ length buf → 7 ≤ length kinds
-    → Space K (first.count + second.count) kinds buf
-space-few {K = K} w h l k =
-    let s : size K ≤ 34 = omega (arith, w.high) in
-    record { constants = w.high; room = omega (arith, mul-le-mul h s); most = omega arith; kinds_room = omega arith }
-
-pub roomy-first : {A B : List ℕ} {first second : Body} {K n : ℕ} {kinds : List ℕ} {buf : List ℤ} → Both A B first second K → n ≡ first.count + second.count → first.count + second.count ≤ 4
-    → Prepared A B first second K kinds buf → 7 * 34 ≤ length buf → 7 ≤ length kinds → SearchRoom K 2 kinds buf (tally 1 0 n 0)
-roomy-first {K = K} {kinds = kinds} {buf = buf} w e h p l k = subst (λ (n : ℕ). SearchRoom K 2 kinds buf (tally 1 0 n 0)) (sym e) (record {
-  constants = w.high;
-  room = omega (arith, w.high);
-  kinds_room = k;
-  bounded = p.bounded;
-  few = omega arith;
-  first_edition = refl;
-})
+        let is-A = (scanned-bundle a e).0 in
+        refused-B s is-A (rw (given-some x.k (bodies.low is-A)) at ((rw f at b.by) file_b))

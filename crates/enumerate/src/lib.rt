@@ -1,4 +1,4 @@
-// The operation that writes the next short proof after a table (document 02, point 14).
+// The operation that writes the next short proof after a table.
 // It ensures WritesNext (enumeration/specs/Promises.antt); guarantee/specs/ShortProofs.antt says what that is worth.
 #![tactic(auto)]
 
@@ -8,8 +8,9 @@ ghost use Rattle.bundle_load.specs.Both.{Both};
 ghost use Rattle.enumerate.specs.Limits.{BothWithinLimits};
 
 use answers::WriteResult;
+use answers::refusals::Refusal;
 use bundle_load::prepare;
-use bundle_scan::{Body, Scanned, scan};
+use bundle_scan::{Body, scan};
 use check_output::refusal;
 use enumeration_find::{deliver, find};
 use forms::{BUNDLE_BYTES, CONSTANTS};
@@ -57,7 +58,7 @@ fn next_few(
     ensures { WritesNext a.now b.now table.now out.old out.new result }
 {
     if first.count + second.count > 4 {
-        return refusal(8, 4, 0);
+        return refusal(Refusal::TooManyConstraints, 4, 0);
     }
     let mut lines = [0i32; NUMBERS];
     let mut kinds = [0u8; 7];
@@ -69,20 +70,13 @@ fn next_bundles(a: &[u8], b: &[u8], table: &[u8], out: &mut [u8]) -> WriteResult
     requires { BothWithinLimits a.now b.now }
     ensures { WritesNext a.now b.now table.now out.old out.new result }
 {
-    match scan(a, 0, 0) {
-        Scanned::Bundle {
-            k,
-            body: first,
-            start: _,
-        } => match scan(b, k, 0) {
-            Scanned::Bundle {
-                k: _,
-                body: second,
-                start: _,
-            } => next_few(a, b, first, second, table, k, out),
-            Scanned::Refused { number, place } => refusal(number, 2, place),
-        },
-        Scanned::Refused { number, place } => refusal(number, 1, place),
+    let first = match scan(a, 0, 0) {
+        Ok(scanned) => scanned,
+        Err(fault) => return refusal(fault.refusal, 1, fault.place),
+    };
+    match scan(b, first.k, 0) {
+        Ok(second) => next_few(a, b, first.body, second.body, table, first.k, out),
+        Err(fault) => refusal(fault.refusal, 2, fault.place),
     }
 }
 
@@ -91,10 +85,10 @@ pub fn next_proof(a: &[u8], b: &[u8], table: &[u8], out: &mut [u8]) -> WriteResu
     ensures { WritesNext a.now b.now table.now out.old out.new result }
 {
     if a.len() > BUNDLE_BYTES {
-        return refusal(1, 1, 0);
+        return refusal(Refusal::TooLong, 1, 0);
     }
     if b.len() > BUNDLE_BYTES {
-        return refusal(1, 2, 0);
+        return refusal(Refusal::TooLong, 2, 0);
     }
     next_bundles(a, b, table, out)
 }

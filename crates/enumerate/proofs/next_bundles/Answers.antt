@@ -3,11 +3,11 @@ use Rattle.bundle_load.proofs.Phases.{scanned-both}
 use Rattle.enumerate.proofs.Answering.{nexts-refused, list-unscanned-A, list-unscanned-B}
 use Rattle.enumerate.proofs.next_bundles.Goals as goal
 
-pub next_few-requires : goal.next_few-requires
-next_few-requires c = record { both_within_limits = c.requires; both = scanned-both c.scan.ensures c.in-Bundle.is c.scan-in-Bundle.ensures c.in-Bundle-scan.is }
+pub next_few-requires-clause-both : goal.next_few-requires-clause-both
+next_few-requires-clause-both c = scanned-both c.scan.ensures c.in-Ok.is c.scan-2.ensures c.in-Ok-scan.is
 
-pub returns-in-Refused-scan : goal.returns-in-Refused-scan
-returns-in-Refused-scan c = nexts-refused (list-unscanned-B c.scan.ensures c.in-Bundle.is c.scan-in-Bundle.ensures c.requires c.in-Refused-scan.is) c.refusal.ensures
+pub returns-in-Err-scan : goal.returns-in-Err-scan
+returns-in-Err-scan c = nexts-refused (list-unscanned-B c.scan.ensures c.in-Ok.is c.scan-2.ensures c.requires c.in-Err-scan.is) c.refusal-in-Err-scan.ensures
 
-pub returns-in-Refused : goal.returns-in-Refused
-returns-in-Refused c = nexts-refused (list-unscanned-A c.scan.ensures c.requires c.in-Refused.is) c.refusal-in-Refused.ensures
+pub returns-in-Err : goal.returns-in-Err
+returns-in-Err c = nexts-refused (list-unscanned-A c.scan.ensures c.requires c.in-Err.is) c.refusal.ensures

@@ -7,6 +7,3 @@ returns-then-a-gt-BUNDLE_BYTES c = nexts-refused (list-long-A c.args.a.now c.arg
 
 pub returns-then-b-gt-BUNDLE_BYTES : goal.returns-then-b-gt-BUNDLE_BYTES
 returns-then-b-gt-BUNDLE_BYTES c = nexts-refused (list-long-B c.args.a.now c.args.b.now c.if-a-gt-BUNDLE_BYTES.false c.if-b-gt-BUNDLE_BYTES.true) c.refusal-then-b-gt-BUNDLE_BYTES.ensures
-
-pub next_bundles-requires : goal.next_bundles-requires
-next_bundles-requires c = record { a = c.if-a-gt-BUNDLE_BYTES.false; b = c.if-b-gt-BUNDLE_BYTES.false }
