@@ -11,6 +11,10 @@ use lib.Seq.{sets}
 use Rattle.forms.specs.Edition.{Edition, edition, newest_edition}
 use Rattle.forms.specs.Forms.{Constraint}
 use Rattle.forms.proofs.Editions.{bundle_bytes-most}
+use Rattle.std.specs.Prelude.{Ok, Err}
+use Rattle.std.specs.declared.result.Result as code
+use Rattle.answers.specs.declared.refusals.Fault.{Fault}
+use Rattle.answers.specs.Refusals.{told}
 use Rattle.answers.specs.declared.Answer.{Answer}
 use Rattle.answers.specs.declared.WriteResult.{WriteResult}
 use Rattle.answers.specs.Answers.{acceptance, file_a, accepted, ◌>>◌, over, fit, written}
@@ -38,19 +42,17 @@ use Rattle.conversion.specs.Promises.{TurnsBundle}
 use Rattle.conversion.proofs.Asking.{other-gives, same-edition, within-accepted}
 use Rattle.conversion.proofs.Bundles.{stated-size, result-short}
 use Rattle.conversion.proofs.First.{bundle-rest-gives}
-use Rattle.conversion_survey.specs.SurveyAnswers.{survey_of}
-use Rattle.conversion_survey.specs.declared.Survey.{Survey}
 use Rattle.conversion_bundle.specs.Turned.{old_width, new_width, numbers_held, bundle_turned_bytes}
-use Rattle.convert.specs.Phases.{ToTurn, ToHold, ToWrite}
-use Rattle.convert.proofs.Phases.{refused_as, bundle-refused}
+use Rattle.convert.specs.Phases.{BundleTurnable, ToTurn, ToHold, ToWrite}
+use Rattle.convert.proofs.Phases.{refused_as}
 
 -- ---- gone over
-module _ (to : ℕ) (file out : List ℕ) (t : ToTurn to file) {s : Scanned} (i : Scans 0 file 0 s) where
-  pub bundle-fault : {n p : ℕ} {r : WriteResult} → s ≡ Scanned.Refused n p → r ≡ refused_as n 1 p → TurnsBundle to file out out r
+module _ (to : ℕ) (file : List ℕ) (t : ToTurn to file) {s : code.Result Scanned Fault} (i : Scans 0 file 0 s) where
+  pub bundle-fault : {f : Fault} → s ≡ Err f → BundleTurnable to file (Err f)
   unfolding bundle_turned
-  bundle-fault e r = bundle-refused to file out r (passes _ t.asks ∙ passes _ (short-accepted _ file_a file t.short) ∙ passes _ t.from ∙ bind-refused _ (scanned-refused i e file_a))
+  bundle-fault e = passes _ t.asks ∙ passes _ (short-accepted _ file_a file t.short) ∙ passes _ t.from ∙ bind-refused _ (scanned-refused i e file_a)
 
-  pub to-hold : {K start : ℕ} {body : Body} → s ≡ Scanned.Bundle K body start → ToHold to file K body
+  pub to-hold : {x : Scanned} → s ≡ Ok x → ToHold to file x.k x.body
   to-hold e = record { turn = t; is = (scanned-bundle i e).0 }
 
 -- Constraints have K+1 numbers each.
@@ -63,7 +65,7 @@ numbers-size {K = K} (Each.cons {y = c} {ys = cs} s ss) =
     length-append (flat c.form) (numbers_of cs) ∙ omega (arith, length-flat c.form, stated-size s, suc-mul (length cs) (K + 1))
 
 -- ---- a bundle without fault
-module _ (to : ℕ) (file out : List ℕ) (K : ℕ) (body : Body) (t : ToHold to file K body) where
+module _ (to : ℕ) (file : List ℕ) (K : ℕ) (body : Body) (t : ToHold to file K body) where
   abbrev body-fields : Fields
   body-fields = fields_at file body.at
 
@@ -90,17 +92,17 @@ module _ (to : ℕ) (file out : List ℕ) (K : ℕ) (body : Body) (t : ToHold to
   by_field = passes _ t.turn.asks ∙ passes _ (short-accepted _ file_a file t.turn.short) ∙ passes _ t.turn.from ∙ binds _ reads
       ∙ ap (λ (fs : Fields). numbers_held to K fs >> result_within (edition to).bundle_bytes (bundle_turned_bytes to K body-fields)) (sym rest-is)
 
-  module _ {u : Survey} (j : numbers_held to K body-fields ≡ survey_of file_a u) where
-    pub number-unheld : {n p : ℕ} {r : WriteResult} → u ≡ Survey.Refused n p → r ≡ refused_as n 1 p → TurnsBundle to file out out r
-    number-unheld g r = bundle-refused to file out r (by_field ∙ then-refused _ (j ∙ ap (survey_of file_a) g))
+  module _ {u : code.Result (Unit {0}) Fault} (j : numbers_held to K body-fields ≡ told file_a (λ x. x) u) where
+    pub number-unheld : {f : Fault} → u ≡ Err f → BundleTurnable to file (Err f)
+    number-unheld g = by_field ∙ then-refused _ (j ∙ ap (told file_a (λ x. x)) g)
 
-    pub none-unheld : u ≡ Survey.Fine → ToWrite to file K body
-    none-unheld g = record { hold = t; fits = j ∙ ap (survey_of file_a) g }
+    pub none-unheld : u ≡ Ok tt → ToWrite to file K body
+    none-unheld g = record { hold = t; fits = j ∙ ap (told file_a (λ x. x)) g }
 
 -- ---- and each number held
 module _ (to : ℕ) (file out : List ℕ) (K : ℕ) (body : Body) (t : ToWrite to file K body) where
   abbrev cs : List Constraint
-  cs = own to file out K body t.hold
+  cs = own to file K body t.hold
 
   abbrev bytes : List ℕ
   bytes = bundle_turned_bytes to K (fields_at file body.at)
@@ -109,11 +111,11 @@ module _ (to : ℕ) (file out : List ℕ) (K : ℕ) (body : Body) (t : ToWrite t
   size = 8 + body.count * field_size (new_width to) K
 
   count_is : length (kinds_of cs) ≡ body.count
-  count_is = length-kinds_of cs ∙ omega (arith, scanning.count_is (old_width to) K 0 body.count (fields_at file body.at) (left to file out K body t.hold).counts)
+  count_is = length-kinds_of cs ∙ omega (arith, scanning.count_is (old_width to) K 0 body.count (fields_at file body.at) (left to file K body t.hold).counts)
 
   numbers-are : length (numbers_of cs) ≡ length (kinds_of cs) * (K + 1)
   numbers-are =
-      let n = rw (edition_is to file out K body t.hold) at (numbers-size (bodies.laid_out t.hold.is).file.laid.states) in
+      let n = rw (edition_is to file K body t.hold) at (numbers-size (bodies.laid_out t.hold.is).file.laid.states) in
       n ∙ ap (λ (m : ℕ). m * (K + 1)) (sym (length-kinds_of cs))
 
   size_is : size ≡ length bytes
@@ -121,14 +123,14 @@ module _ (to : ℕ) (file out : List ℕ) (K : ℕ) (body : Body) (t : ToWrite t
 
   -- never too long for its edition
   short : length bytes ≤ (edition to).bundle_bytes
-  short = result-short to file (record { edition = other to; K = K; constraints = cs }) t.hold.turn.asks t.hold.turn.from (reads to file out K body t.hold)
-      (ap (numbers_held to K) (sym (rest-is to file out K body t.hold)) ∙ t.fits)
+  short = result-short to file (record { edition = other to; K = K; constraints = cs }) t.hold.turn.asks t.hold.turn.from (reads to file K body t.hold)
+      (ap (numbers_held to K) (sym (rest-is to file K body t.hold)) ∙ t.fits)
 
   pub size-most : size ≤ 8_192
   size-most = omega (arith, size_is, short, bundle_bytes-most to)
 
   done-bytes : bundle_turned to file ≡ accepted bytes
-  done-bytes = by_field to file out K body t.hold ∙ passes _ t.fits ∙ within-accepted (edition to).bundle_bytes bytes short
+  done-bytes = by_field to file K body t.hold ∙ passes _ t.fits ∙ within-accepted (edition to).bundle_bytes bytes short
 
   pub bundle-output-short : {r : WriteResult} → length out < size → r ≡ refused_as 21 4 size → TurnsBundle to file out out r
   unfolding turn_bundle written fit

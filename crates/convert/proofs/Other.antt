@@ -6,37 +6,42 @@ use Prim.Native.Nat.{ℕ, ◌≤◌}
 use native.Mathlib.Omega.{arith}
 use borrow.Author.Tests.{ne_eqb}
 use lib.Dec.{leb, eqb}
+use Rattle.std.specs.Prelude.{Ok, Err}
+use Rattle.std.specs.declared.result.Result as code
+use Rattle.answers.specs.declared.refusals.Refusal.{Refusal}
+use Rattle.answers.specs.declared.refusals.Fault.{Fault}
+use Rattle.answers.specs.Refusals.{fault, told}
 use Rattle.answers.specs.declared.Answer.{Answer}
 use Rattle.answers.specs.Answers.{answer, Result, refused, accepted, ◌>>◌, need}
 use Rattle.answers.proofs.Results.{Gives, gives-refused, gives-accepted, test, never, binds, bind-refused}
 use Rattle.fields.specs.declared.FileKind.{FileKind}
-use Rattle.fields.specs.declared.Next.{Next}
+use Rattle.fields.specs.declared.WholeField.{WholeField}
+use Rattle.fields.specs.declared.End.{End}
 use Rattle.fields.specs.declared.header.Numbered.{Numbered}
 use Rattle.fields.specs.Fields.{Fields, ends, cut, ◌▸◌, fields}
 use Rattle.fields.specs.Header.{header_field, edition_field}
-use Rattle.fields.specs.Places.{fields_at, next_of, numbered_of, IsEdition}
+use Rattle.fields.specs.Places.{fields_at, next_of, IsEdition}
 use Rattle.fields.proofs.HeaderLaid.{edition-gives}
 use Rattle.fields.proofs.Places.{starts, next-cut, next-ends, fields-whole-file}
 use Rattle.proof.specs.Tree.{starts_at}
 use Rattle.conversion.specs.Turning.{other, asked, other_edition}
 use Rattle.conversion.proofs.Asking.{Asked, down, up, asked-gives}
-use Rattle.conversion_survey.specs.declared.Survey.{Survey}
 use Rattle.convert.specs.Phases.{HasOther}
 
 -- ---- where the first field starts
-module _ (s : List ℕ) {r : Next} (e : r ≡ next_of (fields_at s 0)) where
+module _ (s : List ℕ) {r : code.Result WholeField End} (e : r ≡ next_of (fields_at s 0)) where
   first-at : starts_at (fields s) ≡ starts_at (fields_at s 0)
   first-at = ap starts_at (fields-whole-file s)
 
-  pub first_field : {a t start len next : ℕ} → r ≡ Next.Field a t start len next → a ≡ starts_at (fields s)
+  pub first_field : {f : WholeField} → r ≡ Ok f → f.at ≡ starts_at (fields s)
   unfolding starts_at
   first_field f = sym (first-at ∙ ap starts_at (starts e f).is)
 
-  pub first-cut : {a : ℕ} → r ≡ Next.Cut a → a ≡ starts_at (fields s)
+  pub first-cut : {a : ℕ} → r ≡ Err (End.Cut a) → a ≡ starts_at (fields s)
   unfolding starts_at
   first-cut f = sym (first-at ∙ ap starts_at (next-cut (fields_at s 0) e f))
 
-  pub first_ends : {a : ℕ} → r ≡ Next.Ends a → a ≡ starts_at (fields s)
+  pub first_ends : {a : ℕ} → r ≡ Err (End.Ends a) → a ≡ starts_at (fields s)
   unfolding starts_at
   first_ends f = sym (first-at ∙ ap starts_at (next-ends (fields_at s 0) e f))
 
@@ -103,29 +108,29 @@ module _ (kind : FileKind) (file to : ℕ) (fs : Fields) where
 is-asked : (to : ℕ) → asked to ≡ accepted tt → Asked to
 is-asked to a = (asked-gives to).gives tt a
 
-module _ (kind : FileKind) (to : ℕ) (s : List ℕ) {r : Numbered} (e : IsEdition kind 2 s r) (a : asked to ≡ accepted tt) where
-  by_value : {v next : ℕ} → r ≡ Numbered.Value v next → (file : ℕ) → other_edition kind file to (fields s) ≡ need (answer 5 file (starts_at (fields s))) (eqb v (other to))
-  by_value f file = other-value kind file to (fields s) (e.is file ∙ ap (numbered_of file s) f)
+module _ (kind : FileKind) (to : ℕ) (s : List ℕ) {r : code.Result Numbered Fault} (e : IsEdition kind 2 s r) (a : asked to ≡ accepted tt) where
+  by_value : {n : Numbered} → r ≡ Ok n → (file : ℕ) → other_edition kind file to (fields s) ≡ need (answer 5 file (starts_at (fields s))) (eqb n.value (other to))
+  by_value f file = other-value kind file to (fields s) (e.is file ∙ ap (told file (λ n. (n.value, fields_at s n.next))) f)
 
-  pub other-fine : {v next : ℕ} → r ≡ Numbered.Value v next → 1 ≤ v → v ≤ 2 → ¬ (v ≡ to) → HasOther kind to s Survey.Fine
-  other-fine {v} f l m h = record { is = λ file. by_value f file ∙ need-ok _ (go (is-asked to a) v l m h) }
+  pub other-fine : {n : Numbered} → r ≡ Ok n → 1 ≤ n.value → n.value ≤ 2 → ¬ (n.value ≡ to) → HasOther kind to s (Ok tt)
+  other-fine {n} f l m h = record { is = λ file. by_value f file ∙ need-ok _ (go (is-asked to a) n.value l m h) }
     where
       go : {to : ℕ} → Asked to → (v : ℕ) → 1 ≤ v → v ≤ 2 → ¬ (v ≡ to) → eqb v (other to) ≡ true
       go down v l m h = let z : v ≡ 2 = omega arith in rw z
       go up v l m h = let z : v ≡ 1 = omega arith in rw z
 
-  pub other-there : {v next place : ℕ} → r ≡ Numbered.Value v next → v ≡ to → place ≡ starts_at (fields s) → HasOther kind to s (Survey.Refused 5 place)
-  other-there {v} f h p = record { is = λ file. by_value f file ∙ need-no _ (rw h (go (is-asked to a))) ∙ ap (λ (at : ℕ). refused (answer 5 file at)) (sym p) }
+  pub other-there : {n : Numbered} {place : ℕ} → r ≡ Ok n → n.value ≡ to → place ≡ starts_at (fields s) → HasOther kind to s (Err (fault Refusal.WrongEdition place))
+  other-there {n} f h p = record { is = λ file. by_value f file ∙ need-no _ (rw h (go (is-asked to a))) ∙ ap (λ (at : ℕ). refused (answer 5 file at)) (sym p) }
     where
       go : {to : ℕ} → Asked to → eqb to (other to) ≡ false
       go down = refl
       go up = refl
 
-  pub other-refused : {number place : ℕ} → r ≡ Numbered.Refused number place → HasOther kind to s (Survey.Refused number place)
-  other-refused f = record { is = λ file. other-no kind file to (fields s) (is-asked to a) (e.is file ∙ ap (numbered_of file s) f) }
+  pub other-refused : {f : Fault} → r ≡ Err f → HasOther kind to s (Err f)
+  other-refused f = record { is = λ file. other-no kind file to (fields s) (is-asked to a) (e.is file ∙ ap (told file (λ n. (n.value, fields_at s n.next))) f) }
 
 -- the edition that is read is 1 or 2
-pub read-within : (kind : FileKind) (s : List ℕ) {r : Numbered} → IsEdition kind 2 s r → {v next : ℕ} → r ≡ Numbered.Value v next → (1 ≤ v) × (v ≤ 2)
+pub read-within : (kind : FileKind) (s : List ℕ) {r : code.Result Numbered Fault} → IsEdition kind 2 s r → {n : Numbered} → r ≡ Ok n → (1 ≤ n.value) × (n.value ≤ 2)
 read-within kind s e f =
-    let h = (edition-gives kind 0 2 (fields s)).gives _ (e.is 0 ∙ ap (numbered_of 0 s) f) in
+    let h = (edition-gives kind 0 2 (fields s)).gives _ (e.is 0 ∙ ap (told 0 (λ n. (n.value, fields_at s n.next))) f) in
     (h.first, h.last)

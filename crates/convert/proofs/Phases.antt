@@ -12,6 +12,11 @@ use lib.ListN.{length, length-append}
 use lib.Seq.{sets, length-sets}
 use Rattle.forms.specs.Edition.{edition, newest_edition}
 use Rattle.calculus.specs.Rules.{Entry}
+use Rattle.std.specs.Prelude.{Ok, Err}
+use Rattle.std.specs.declared.result.Result as code
+use Rattle.answers.specs.declared.refusals.Refusal.{Refusal}
+use Rattle.answers.specs.declared.refusals.Fault.{Fault}
+use Rattle.answers.specs.Refusals.{number_of, fault, told}
 use Rattle.answers.specs.declared.Answer.{Answer}
 use Rattle.answers.specs.declared.WriteResult.{WriteResult}
 use Rattle.answers.specs.Answers.{answer, acceptance, file_a, file_proof, file_lent, refused, accepted, ◌>>◌, need, over, fit, written}
@@ -21,21 +26,20 @@ use Rattle.fields.specs.declared.FileKind.{FileKind}
 use Rattle.fields.specs.declared.header.Headed.{Headed}
 use Rattle.fields.specs.Fields.{Fields, item, fields}
 use Rattle.fields.specs.Header.{header_bytes}
-use Rattle.fields.specs.Places.{fields_at, headed_of, IsHeader}
+use Rattle.fields.specs.Places.{fields_at, header_of, IsHeader}
 use Rattle.fields.proofs.HeaderLaid.{header-gives}
 use Rattle.bundle.specs.Bundle.{at_most}
 use Rattle.bundle.proofs.Laid.{Lists, done, next, short-accepted}
 use Rattle.proof.specs.Layout.{Enters}
-use Rattle.conversion.specs.Turning.{asked, result_within, entries_read, bundle_turned, turn_bundle, proof_turned, turn_proof}
+use Rattle.conversion.specs.Turning.{asked, other_edition, result_within, entries_read, bundle_turned, turn_bundle, proof_turned, turn_proof}
 use Rattle.conversion.specs.Promises.{TurnsBundle, TurnsProof}
 use Rattle.conversion.proofs.Carried.{there}
 use Rattle.conversion.proofs.Proofs.{entries-give}
-use Rattle.conversion_survey.specs.SurveyAnswers.{survey_of, EntriesReadAs, LinesThere, at_end, at_field}
-use Rattle.conversion_survey.specs.declared.Survey.{Survey}
-use Rattle.conversion_survey.specs.declared.Entries.{Entries}
+use Rattle.conversion_survey.specs.SurveyAnswers.{EntriesReadAs, LinesThere, at_end, at_field}
+use Rattle.conversion_survey.specs.declared.Turned.{Turned}
 use Rattle.conversion_survey.proofs.SurveyedFields.{fits, turned}
 use Rattle.conversion_bundle.proofs.Putting.{header-length, header-put}
-use Rattle.convert.specs.Phases.{HasOther, ToTurn, ToEnter, ToFit, ToPut}
+use Rattle.convert.specs.Phases.{HasOther, BundleTurnable, ProofTurnable, ToTurn, ToEnter, ToFit, ToPut}
 
 -- ---- what a refusal leaves
 abbrev pub refused_as : (number file place : ℕ) → WriteResult
@@ -51,12 +55,6 @@ module _ (to : ℕ) (file out : List ℕ) where
   bundle-refused e h = rw e (record { is = rw h })
 
 -- ---- before a file is read
-pub edition-low : (n : ℕ) → 1 ≤ n → leb n 2 ≡ (leb 1 n && leb n 2)
-edition-low n h = ap (λ (b : Bool). b && leb n 2) (sym (le-leb 1 n h))
-
-pub edition-zero : (n : ℕ) → n < 1 → false ≡ (leb 1 n && leb n 2)
-edition-zero n h = ap (λ (b : Bool). b && leb n 2) (sym (lt-leb 1 n h))
-
 module _ (to : ℕ) (file out : List ℕ) where
   -- the edition asked for
   pub asked_by : {b : Bool} → b ≡ (leb 1 to && leb to 2) → b ≡ true → asked to ≡ accepted tt
@@ -79,46 +77,50 @@ module _ (to : ℕ) (file out : List ℕ) where
   unfolding bundle_turned
   bundle-unasked e f r = bundle-refused to file out r (then-refused _ (asked-not e f))
 
-  too_long : (limit f : ℕ) → limit < length file → at_most limit f file ≡ refused (answer 1 f 0)
-  unfolding at_most need
-  too_long limit f h = rw (lt-leb (length file) limit h)
+too_long : (file : List ℕ) (limit f : ℕ) → limit < length file → at_most limit f file ≡ refused (answer 1 f 0)
+unfolding at_most need
+too_long file limit f h = rw (lt-leb (length file) limit h)
 
-  pub proof-long : {r : WriteResult} → asked to ≡ accepted tt → 65_536 < length file → r ≡ refused_as 1 3 0 → TurnsProof to file out out r
+module _ (to : ℕ) (file : List ℕ) (a : asked to ≡ accepted tt) where
+  pub proof-long : 65_536 < length file → ProofTurnable to file (Err (fault Refusal.TooLong 0))
   unfolding proof_turned
-  proof-long a h r = proof-refused to file out r (passes _ a ∙ then-refused _ (too_long 65_536 file_proof h))
+  proof-long h = passes _ a ∙ then-refused _ (too_long file 65_536 file_proof h)
 
-  pub bundle-long : {r : WriteResult} → asked to ≡ accepted tt → 8_192 < length file → r ≡ refused_as 1 1 0 → TurnsBundle to file out out r
+  pub bundle-long : 8_192 < length file → BundleTurnable to file (Err (fault Refusal.TooLong 0))
   unfolding bundle_turned
-  bundle-long a h r = bundle-refused to file out r (passes _ a ∙ then-refused _ (too_long 8_192 file_a h))
+  bundle-long h = passes _ a ∙ then-refused _ (too_long file 8_192 file_a h)
 
-  pub proof-not-other : {s : Survey} {n at : ℕ} {r : WriteResult} → asked to ≡ accepted tt → length file ≤ 65_536 → HasOther FileKind.Proof to file s → s ≡ Survey.Refused n at → r ≡ refused_as n 3 at → TurnsProof to file out out r
-  unfolding proof_turned
-  proof-not-other a l o f r = proof-refused to file out r (passes _ a ∙ passes _ (short-accepted _ file_proof file l) ∙ then-refused _ (o.is file_proof ∙ ap (survey_of file_proof) f))
+  module _ (l : length file ≤ 8_192) {s : code.Result (Unit {0}) Fault} (o : HasOther FileKind.Bundle to file s) where
+    pub bundle-not-other : {f : Fault} → s ≡ Err f → BundleTurnable to file (Err f)
+    unfolding bundle_turned
+    bundle-not-other f = passes _ a ∙ passes _ (short-accepted _ file_a file l) ∙ then-refused _ (o.is file_a ∙ ap (told file_a (λ x. x)) f)
 
-  pub bundle-not-other : {s : Survey} {n at : ℕ} {r : WriteResult} → asked to ≡ accepted tt → length file ≤ 8_192 → HasOther FileKind.Bundle to file s → s ≡ Survey.Refused n at → r ≡ refused_as n 1 at → TurnsBundle to file out out r
-  unfolding bundle_turned
-  bundle-not-other a l o f r = bundle-refused to file out r (passes _ a ∙ passes _ (short-accepted _ file_a file l) ∙ then-refused _ (o.is file_a ∙ ap (survey_of file_a) f))
+    pub to-turn : s ≡ Ok tt → ToTurn to file
+    to-turn f = record { asks = a; short = l; from = o.is file_a ∙ ap (told file_a (λ x. x)) f }
 
-  pub to-turn : {s : Survey} → asked to ≡ accepted tt → length file ≤ 8_192 → HasOther FileKind.Bundle to file s → s ≡ Survey.Fine → ToTurn to file
-  to-turn a l o f = record { asks = a; short = l; from = o.is file_a ∙ ap (survey_of file_a) f }
+  module _ (l : length file ≤ 65_536) {s : code.Result (Unit {0}) Fault} (o : HasOther FileKind.Proof to file s) where
+    pub proof-not-other : {f : Fault} → s ≡ Err f → ProofTurnable to file (Err f)
+    unfolding proof_turned
+    proof-not-other f = passes _ a ∙ passes _ (short-accepted _ file_proof file l) ∙ then-refused _ (o.is file_proof ∙ ap (told file_proof (λ x. x)) f)
 
-  -- the header
-  pub proof-no-header : {s : Survey} {h : Headed} {n at : ℕ} {r : WriteResult} → asked to ≡ accepted tt → length file ≤ 65_536 → HasOther FileKind.Proof to file s → s ≡ Survey.Fine
-      → IsHeader FileKind.Proof 2 0 file h → h ≡ Headed.Refused n at → r ≡ refused_as n 3 at → TurnsProof to file out out r
-  unfolding proof_turned
-  proof-no-header a l o f i g r = proof-refused to file out r
-      (passes _ a ∙ passes _ (short-accepted _ file_proof file l) ∙ passes _ (o.is file_proof ∙ ap (survey_of file_proof) f) ∙ bind-refused _ (i.is file_proof ∙ ap (headed_of file_proof file) g))
+    -- the header
+    module _ (f : s ≡ Ok tt) {r : code.Result Headed Fault} (i : IsHeader FileKind.Proof 2 0 file r) where
+      other-is : other_edition FileKind.Proof file_proof to (fields file) ≡ accepted tt
+      other-is = o.is file_proof ∙ ap (told file_proof (λ x. x)) f
 
-  pub to-enter : {s : Survey} {h : Headed} {e K at : ℕ} → asked to ≡ accepted tt → length file ≤ 65_536 → HasOther FileKind.Proof to file s → s ≡ Survey.Fine
-      → IsHeader FileKind.Proof 2 0 file h → h ≡ Headed.Header e K at → ToEnter to file at K e
-  to-enter a l o f i g = record { asks = a; short = l; from = o.is file_proof ∙ ap (survey_of file_proof) f; heads = i.is file_proof ∙ ap (headed_of file_proof file) g }
+      pub proof-no-header : {d : Fault} → r ≡ Err d → ProofTurnable to file (Err d)
+      unfolding proof_turned
+      proof-no-header g = passes _ a ∙ passes _ (short-accepted _ file_proof file l) ∙ passes _ other-is ∙ bind-refused _ (i.is file_proof ∙ ap (told file_proof (header_of file)) g)
+
+      pub to-enter : {h : Headed} → r ≡ Ok h → ToEnter to file h.next h.k h.edition
+      to-enter g = record { asks = a; short = l; from = other-is; heads = i.is file_proof ∙ ap (told file_proof (header_of file)) g }
 
 -- ---- behind the header of a proof
 lines_of : (e K : ℕ) {fs : Fields} {es : List Entry} → Lists (Enters (edition e) K) fs es → LinesThere (edition e).line_width fs
 lines_of e K (done at) = at_end
 lines_of e K (next f s l) = at_field (there e e K (item f.tag f.contents) s) (lines_of e K l)
 
-module _ (to : ℕ) (file out : List ℕ) (at K e : ℕ) (t : ToEnter to file at K e) where
+module _ (to : ℕ) (file : List ℕ) (at K e : ℕ) (t : ToEnter to file at K e) where
   abbrev body : Fields
   body = fields_at file at
 
@@ -136,16 +138,18 @@ module _ (to : ℕ) (file out : List ℕ) (at K e : ℕ) (t : ToEnter to file at
   bytes-size = length-append (header_bytes to K) (turned e to body) ∙ ap (λ (n : ℕ). n + length (turned e to body)) (header-length to K)
 
   -- what reading the entries answers
-  pub no-entries : {s : Entries} {n p : ℕ} {r : WriteResult} → EntriesReadAs e to K body s → s ≡ Entries.Refused n p → r ≡ refused_as n 3 p → TurnsProof to file out out r
-  no-entries i f r = proof-refused to file out r (prefix ∙ then-refused _ (rw f at i))
+  module _ {r : code.Result Turned Fault} (i : EntriesReadAs e to K body r) where
+    pub no-entries : {f : Fault} → r ≡ Err f → ProofTurnable to file (Err f)
+    no-entries f = prefix ∙ then-refused _ (rw f at i)
 
-  pub to-fit : {s : Entries} {n : ℕ} {fit : Bool} → EntriesReadAs e to K body s → s ≡ Entries.Turned n fit → ToFit to file at K e n
-  to-fit i f = let (read, size, most, held) = rw f at i in record { enter = t; read = read; size = size; most = most }
+    module _ {x : Turned} (f : r ≡ Ok x) where
+      pub to-fit : ToFit to file at K e x.size
+      to-fit = let (read, size, most, held) = rw f at i in record { enter = t; read = read; size = size; most = most }
 
-  pub to-put : {s : Entries} {n : ℕ} {fit : Bool} → EntriesReadAs e to K body s → s ≡ Entries.Turned n fit → fit ≡ true → ToPut to file at K e n
-  to-put i f h = let (read, size, most, held) = rw f at i in record { entered = to-fit i f; fits = held h }
+      pub to-put : x.fit ≡ true → ToPut to file at K e x.size
+      to-put h = let (read, size, most, held) = rw f at i in record { entered = to-fit; fits = held h }
 
-module _ (to : ℕ) (file out : List ℕ) (at K e size : ℕ) (t : ToFit to file at K e size) where
+module _ (to : ℕ) (file : List ℕ) (at K e size : ℕ) (t : ToFit to file at K e size) where
   abbrev body_of : Fields
   body_of = fields_at file at
 
@@ -156,14 +160,14 @@ module _ (to : ℕ) (file out : List ℕ) (at K e size : ℕ) (t : ToFit to file
   lines-stand = lines_of e K ((entries-give (edition e) K false body_of).gives tt t.read).lists
 
   entered : proof_turned to file ≡ (fits e to body_of >> result_within 65_536 bytes_of)
-  entered = prefix to file out at K e t.enter ∙ passes _ t.read
+  entered = prefix to file at K e t.enter ∙ passes _ t.read
 
-  module _ {u : Survey} (j : fits e to body_of ≡ survey_of file_proof u) where
-    pub too_wide : {n p : ℕ} {r : WriteResult} → u ≡ Survey.Refused n p → r ≡ refused_as n 3 p → TurnsProof to file out out r
-    too_wide g r = proof-refused to file out r (entered ∙ then-refused _ (j ∙ ap (survey_of file_proof) g))
+  module _ {u : code.Result (Unit {0}) Fault} (j : fits e to body_of ≡ told file_proof (λ x. x) u) where
+    pub too_wide : {f : Fault} → u ≡ Err f → ProofTurnable to file (Err f)
+    too_wide g = entered ∙ then-refused _ (j ∙ ap (told file_proof (λ x. x)) g)
 
-    pub none-wide : u ≡ Survey.Fine → ToPut to file at K e size
-    none-wide g = record { entered = t; fits = j ∙ ap (survey_of file_proof) g }
+    pub none-wide : u ≡ Ok tt → ToPut to file at K e size
+    none-wide g = record { entered = t; fits = j ∙ ap (told file_proof (λ x. x)) g }
 
 module _ (to : ℕ) (file out : List ℕ) (at K e size : ℕ) (t : ToPut to file at K e size) where
   abbrev body_in : Fields
@@ -173,10 +177,10 @@ module _ (to : ℕ) (file out : List ℕ) (at K e size : ℕ) (t : ToPut to file
   bytes_in = header_bytes to K ++ turned e to body_in
 
   held : proof_turned to file ≡ result_within 65_536 bytes_in
-  held = entered to file out at K e size t.entered ∙ passes _ t.fits
+  held = entered to file at K e size t.entered ∙ passes _ t.fits
 
   size_is : 8 + size ≡ length bytes_in
-  size_is = ap (λ (n : ℕ). 8 + n) t.entered.size ∙ sym (bytes-size to file out at K e t.entered.enter)
+  size_is = ap (λ (n : ℕ). 8 + n) t.entered.size ∙ sym (bytes-size to file at K e t.entered.enter)
 
   result-long : 65_536 < 8 + size → result_within 65_536 bytes_in ≡ refused (answer 1 file_lent (8 + size))
   unfolding result_within

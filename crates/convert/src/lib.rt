@@ -1,30 +1,32 @@
-// Turning a bundle or a proof into the other edition: document 02, point 4.
+// Turning a bundle or a proof into the other edition.
 // Their definitions are conversion/specs/Turning.antt, their contracts conversion/specs/Promises.antt.
 #![tactic(auto)]
 
 ghost use Rattle.std.specs.Prelude.{◌≡◌, ◌&&◌, leb};
 ghost use Rattle.forms.specs.Edition.{newest_edition};
 ghost use Rattle.answers.specs.Answers.{answer, accepted};
+ghost use Rattle.answers.specs.Refusals.{number_of};
 ghost use Rattle.fields.specs.Fields.{fields};
 ghost use Rattle.proof.specs.Tree.{starts_at};
 ghost use Rattle.conversion.specs.Turning.{asked};
 ghost use Rattle.conversion.specs.Promises.{TurnsBundle, TurnsProof};
-ghost use Rattle.convert.specs.Phases.{HasOther, ToTurn, ToHold, ToWrite, ToEnter, ToFit, ToPut};
+ghost use Rattle.convert.specs.Phases.{HasOther, BundleTurnable, ProofTurnable, ToWrite, ToPut};
 
+use answers::refusals::{Fault, Refusal};
 use answers::{WriteResult, acceptance, refusal};
 use bundle_scan::{Body, Scanned, scan};
 use conversion_bundle::{first_field_unheld, put_turned};
-use conversion_survey::{Entries, Survey, first_wide, read_entries};
+use conversion_survey::{first_wide, read_entries};
 use conversion_write::put_entries;
-use fields::header::{Headed, Numbered, put_header, read_edition, read_header};
-use fields::{FileKind, Next, next_field};
+use fields::header::{Headed, put_header, read_edition, read_header};
+use fields::{End, FileKind, next_field};
 use forms::{BUNDLE_BYTES, NEWEST, PROOF_BYTES, coefficient_bytes};
 
-fn refused(number: u8, file: u8, place: usize) -> WriteResult
-    ensures { result ≡ record { answer = answer number file place; count = 0 } }
+fn refused(reason: Refusal, file: u8, place: usize) -> WriteResult
+    ensures { result ≡ record { answer = answer (number_of reason) file place; count = 0 } }
 {
     WriteResult {
-        answer: refusal(number, file, place),
+        answer: refusal(reason, file, place),
         count: 0,
     }
 }
@@ -34,50 +36,53 @@ fn first_place(s: &[u8]) -> usize
     ensures { result ≡ starts_at (fields s.now) }
 {
     match next_field(s, 0) {
-        Next::Field {
-            at: place,
-            tag: _,
-            start: _,
-            len: _,
-            next: _,
-        } => place,
-        Next::Cut { at: place } => place,
-        Next::Ends { at: place } => place,
+        Ok(field) => field.at,
+        Err(End::Cut { at } | End::Ends { at }) => at,
     }
 }
 
 // Whether the file has the other edition than the one asked for; or what it is refused for.
-fn has_other(s: &[u8], kind: FileKind, to: u8) -> Survey
+fn has_other(s: &[u8], kind: FileKind, to: u8) -> Result<(), Fault>
     requires { asked to ≡ accepted tt }
     ensures { HasOther kind to s.now result }
 {
-    match read_edition(s, kind, NEWEST) {
-        Numbered::Value { value, next: _ } => {
-            if value == to {
-                return Survey::Refused {
-                    number: 5,
-                    place: first_place(s),
-                };
-            }
-            Survey::Fine
-        }
-        Numbered::Refused { number, place } => Survey::Refused { number, place },
+    let edition = read_edition(s, kind, NEWEST)?;
+    if edition.value == to {
+        return Err(Fault {
+            refusal: Refusal::WrongEdition,
+            place: first_place(s),
+        });
     }
+    Ok(())
 }
 
 // Whether it is an edition that may be asked for, whatever number it is.
 fn is_edition(edition: usize) -> bool
     ensures { result ≡ (leb 1 edition && leb edition newest_edition) }
 {
-    if 1 <= edition {
-        edition <= NEWEST as usize
-    } else {
-        false
-    }
+    (1..=NEWEST as usize).contains(&edition)
 }
 
 // ---- a bundle
-// A bundle whose numbers the edition asked for holds: 21, or it is written.
+// A bundle of the other edition, without fault, whose numbers the edition asked for holds; or the first fault in it.
+fn turnable_bundle(file: &[u8], to: u8) -> Result<Scanned, Fault>
+    requires { asked to ≡ accepted tt }
+    ensures { BundleTurnable to file.now result }
+{
+    if file.len() > BUNDLE_BYTES {
+        return Err(Fault {
+            refusal: Refusal::TooLong,
+            place: 0,
+        });
+    }
+    has_other(file, FileKind::Bundle, to)?;
+    let scanned = scan(file, 0, 0)?;
+    let body = scanned.body;
+    first_field_unheld(file, body.at, scanned.k, body.count, to)?;
+    Ok(scanned)
+}
+
+// Such a bundle: 21, or it is written.
 fn put_bundle(file: &[u8], k: u8, body: Body, to: u8, out: &mut [u8]) -> WriteResult
     requires { ToWrite to file.now k body }
     ensures { TurnsBundle to file.now out.old out.new result }
@@ -85,7 +90,7 @@ fn put_bundle(file: &[u8], k: u8, body: Body, to: u8, out: &mut [u8]) -> WriteRe
     let count = body.count;
     let size = 8 + count * (3 + (k as usize + 1) * coefficient_bytes(to));
     if out.len() < size {
-        return refused(21, 4, size);
+        return refused(Refusal::OutputTooShort, 4, size);
     }
     put_turned(file, body.at, k, count, to, out);
     WriteResult {
@@ -94,106 +99,70 @@ fn put_bundle(file: &[u8], k: u8, body: Body, to: u8, out: &mut [u8]) -> WriteRe
     }
 }
 
-// A bundle that was gone over: 13 at the first field with a number that the edition asked for does not hold.
-fn turn_constraints(file: &[u8], k: u8, body: Body, to: u8, out: &mut [u8]) -> WriteResult
-    requires { ToHold to file.now k body }
-    ensures { TurnsBundle to file.now out.old out.new result }
-{
-    match first_field_unheld(file, body.at, k, body.count, to) {
-        Survey::Fine => put_bundle(file, k, body, to, out),
-        Survey::Refused { number, place } => refused(number, 1, place),
-    }
-}
-
-// A bundle of the other edition: the first fault in it, or it is turned.
-fn turn_other(file: &[u8], to: u8, out: &mut [u8]) -> WriteResult
-    requires { ToTurn to file.now }
-    ensures { TurnsBundle to file.now out.old out.new result }
-{
-    match scan(file, 0, 0) {
-        Scanned::Bundle { k, body, start: _ } => turn_constraints(file, k, body, to, out),
-        Scanned::Refused { number, place } => refused(number, 1, place),
-    }
-}
-
 // Turns a bundle into the edition asked for.
 pub fn turn_bundle(file: &[u8], edition: usize, out: &mut [u8]) -> WriteResult
     ensures { TurnsBundle edition file.now out.old out.new result }
 {
-    if is_edition(edition) {
-        if file.len() > BUNDLE_BYTES {
-            return refused(1, 1, 0);
-        }
-        let to = edition as u8;
-        return match has_other(file, FileKind::Bundle, to) {
-            Survey::Fine => turn_other(file, to, out),
-            Survey::Refused { number, place } => refused(number, 1, place),
-        };
+    if !is_edition(edition) {
+        return refused(Refusal::WrongEdition, 4, 0);
     }
-    refused(5, 4, 0)
+    let to = edition as u8;
+    match turnable_bundle(file, to) {
+        Ok(scanned) => put_bundle(file, scanned.k, scanned.body, to, out),
+        Err(fault) => refused(fault.refusal, 1, fault.place),
+    }
 }
 
 // ---- a proof
-// The fields are entries that fit and have so many bytes together when they are turned: 1, 21, or they are written.
-fn put_proof(
-    file: &[u8],
-    at: usize,
-    k: u8,
-    e: u8,
-    to: u8,
-    turned: usize,
-    out: &mut [u8],
-) -> WriteResult
-    requires { ToPut to file.now at k e turned }
+// The header of a proof that is turned, and how many bytes its fields have then.
+#[derive(Clone, Copy)]
+struct Turnable {
+    head: Headed,
+    size: usize,
+}
+
+// A proof of the other edition whose fields are entries with line numbers that the edition asked for holds; or the first fault
+// in it.
+fn turnable_proof(file: &[u8], to: u8) -> Result<Turnable, Fault>
+    requires { asked to ≡ accepted tt }
+    ensures { ProofTurnable to file.now result }
+{
+    if file.len() > PROOF_BYTES {
+        return Err(Fault {
+            refusal: Refusal::TooLong,
+            place: 0,
+        });
+    }
+    has_other(file, FileKind::Proof, to)?;
+    let head = read_header(file, FileKind::Proof, NEWEST, 0)?;
+    let turned = read_entries(file, head.next, head.k, head.edition, to)?;
+    if !turned.fit {
+        first_wide(file, head.next, head.edition, to)?;
+    }
+    Ok(Turnable {
+        head,
+        size: turned.size,
+    })
+}
+
+// Such a proof: 1, 21, or it is written.
+fn put_proof(file: &[u8], proof: Turnable, to: u8, out: &mut [u8]) -> WriteResult
+    requires { ToPut to file.now proof.head.next proof.head.k proof.head.edition proof.size }
     ensures { TurnsProof to file.now out.old out.new result }
 {
-    let size = 8 + turned;
+    let Headed { edition, k, next } = proof.head;
+    let size = 8 + proof.size;
     if size > PROOF_BYTES {
-        return refused(1, 4, size);
+        return refused(Refusal::TooLong, 4, size);
     }
     if out.len() < size {
-        return refused(21, 4, size);
+        return refused(Refusal::OutputTooShort, 4, size);
     }
     put_header(out, to, k);
-    put_entries(file, at, e, to, out, 8);
+    put_entries(file, next, edition, to, out, 8);
     WriteResult {
         answer: acceptance(),
         count: size,
-    }
-}
-
-// A proof with a line number that the edition asked for does not hold: 10 at the first field with one.
-fn turn_wide(
-    file: &[u8],
-    at: usize,
-    k: u8,
-    e: u8,
-    to: u8,
-    turned: usize,
-    out: &mut [u8],
-) -> WriteResult
-    requires { ToFit to file.now at k e turned }
-    ensures { TurnsProof to file.now out.old out.new result }
-{
-    match first_wide(file, at, e, to) {
-        Survey::Fine => put_proof(file, at, k, e, to, turned, out),
-        Survey::Refused { number, place } => refused(number, 3, place),
-    }
-}
-
-// Turns what stands behind the header, a proof of edition e.
-fn turn_entries(file: &[u8], at: usize, k: u8, e: u8, to: u8, out: &mut [u8]) -> WriteResult
-    requires { ToEnter to file.now at k e }
-    ensures { TurnsProof to file.now out.old out.new result }
-{
-    match read_entries(file, at, k, e, to) {
-        Entries::Turned { size, fit } => {
-            if fit {
-                return put_proof(file, at, k, e, to, size, out);
-            }
-            turn_wide(file, at, k, e, to, size, out)
-        }
-        Entries::Refused { number, place } => refused(number, 3, place),
     }
 }
 
@@ -201,25 +170,12 @@ fn turn_entries(file: &[u8], at: usize, k: u8, e: u8, to: u8, out: &mut [u8]) ->
 pub fn turn_proof(file: &[u8], edition: usize, out: &mut [u8]) -> WriteResult
     ensures { TurnsProof edition file.now out.old out.new result }
 {
-    if is_edition(edition) {
-        if file.len() > PROOF_BYTES {
-            return refused(1, 3, 0);
-        }
-        let to = edition as u8;
-        match has_other(file, FileKind::Proof, to) {
-            Survey::Fine => {}
-            Survey::Refused { number, place } => {
-                return refused(number, 3, place);
-            }
-        }
-        return match read_header(file, FileKind::Proof, NEWEST, 0) {
-            Headed::Header {
-                edition: e,
-                k,
-                next,
-            } => turn_entries(file, next, k, e, to, out),
-            Headed::Refused { number, place } => refused(number, 3, place),
-        };
+    if !is_edition(edition) {
+        return refused(Refusal::WrongEdition, 4, 0);
     }
-    refused(5, 4, 0)
+    let to = edition as u8;
+    match turnable_proof(file, to) {
+        Ok(proof) => put_proof(file, proof, to, out),
+        Err(fault) => refused(fault.refusal, 3, fault.place),
+    }
 }

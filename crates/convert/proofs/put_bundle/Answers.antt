@@ -32,7 +32,7 @@ pub returns-then-out-size : goal.returns-then-out-size
 returns-then-out-size c = bundle-output-short c.args.to c.args.file.now c.args.out.now c.args.k c.args.body c.requires (rw c.coefficient_bytes.ensures at c.if-out-size.true) (rw c.coefficient_bytes.ensures at c.refused.ensures)
 
 pub put_turned-requires : goal.put_turned-requires
-put_turned-requires c = record { constraints_left = left c.args.to c.args.file.now c.args.out.now c.args.k c.args.body c.requires.hold; at_value = c.requires.fits; k_in_bounds = rw c.coefficient_bytes.ensures at c.if-out-size.false }
+put_turned-requires c = record { constraints_left = left c.args.to c.args.file.now c.args.k c.args.body c.requires.hold; at_value = c.requires.fits; k_in_bounds = rw c.coefficient_bytes.ensures at c.if-out-size.false }
 
 pub returns : goal.returns
 returns c = rw c.coefficient_bytes.ensures (bundle-put c.args.to c.args.file.now c.args.out.now c.args.k c.args.body c.requires (rw c.coefficient_bytes.ensures at c.if-out-size.false) c.put_turned.ensures c.acceptance.ensures)

@@ -7,13 +7,13 @@ pub overflow_add-size : goal.overflow_add-size
 overflow_add-size c = omega (arith, c.requires.entered.most)
 
 pub returns-then-size-gt-PROOF_BYTES : goal.returns-then-size-gt-PROOF_BYTES
-returns-then-size-gt-PROOF_BYTES c = result-too-long c.args.to c.args.file.now c.args.out.now c.args.at c.args.k c.args.e c.args.turned c.requires c.if-size-gt-PROOF_BYTES.true c.refused.ensures
+returns-then-size-gt-PROOF_BYTES c = result-too-long c.args.to c.args.file.now c.args.out.now c.args.proof.head.next c.args.proof.head.k c.args.proof.head.edition c.args.proof.size c.requires c.if-size-gt-PROOF_BYTES.true c.refused.ensures
 
 pub returns-then-out-size : goal.returns-then-out-size
-returns-then-out-size c = output-short c.args.to c.args.file.now c.args.out.now c.args.at c.args.k c.args.e c.args.turned c.requires (omega (arith, c.if-size-gt-PROOF_BYTES.false)) c.if-out-size.true c.refused-then-out-size.ensures
+returns-then-out-size c = output-short c.args.to c.args.file.now c.args.out.now c.args.proof.head.next c.args.proof.head.k c.args.proof.head.edition c.args.proof.size c.requires (omega (arith, c.if-size-gt-PROOF_BYTES.false)) c.if-out-size.true c.refused-then-out-size.ensures
 
 pub put_entries-requires : goal.put_entries-requires
-put_entries-requires c = record { lines_there = lines-stand c.args.to c.args.file.now c.args.out.now c.args.at c.args.k c.args.e c.args.turned c.requires.entered; p_len_bound = c.requires.entered.enter.short; at_in_bounds = put-fits c.args.to c.args.file.now c.args.out.now c.args.at c.args.k c.args.e c.args.turned c.requires (omega (arith, c.if-out-size.false)) c.put_header.ensures }
+put_entries-requires c = record { lines_there = lines-stand c.args.to c.args.file.now c.args.proof.head.next c.args.proof.head.k c.args.proof.head.edition c.args.proof.size c.requires.entered; p_len_bound = c.requires.entered.enter.short; at_in_bounds = put-fits c.args.to c.args.file.now c.args.out.now c.args.proof.head.next c.args.proof.head.k c.args.proof.head.edition c.args.proof.size c.requires (omega (arith, c.if-out-size.false)) c.put_header.ensures }
 
 pub returns : goal.returns
-returns c = all-put c.args.to c.args.file.now c.args.out.now c.args.at c.args.k c.args.e c.args.turned c.requires (omega (arith, c.if-size-gt-PROOF_BYTES.false)) (omega (arith, c.if-out-size.false)) c.put_header.ensures c.put_entries.ensures c.acceptance.ensures
+returns c = all-put c.args.to c.args.file.now c.args.out.now c.args.proof.head.next c.args.proof.head.k c.args.proof.head.edition c.args.proof.size c.requires (omega (arith, c.if-size-gt-PROOF_BYTES.false)) (omega (arith, c.if-out-size.false)) c.put_header.ensures c.put_entries.ensures c.acceptance.ensures
