@@ -11,7 +11,11 @@ use lib.Seq.{get_or-set_same, get_or-set_other, sets}
 use Rattle.forms.specs.Edition.{edition, edition1}
 use Rattle.calculus.specs.Rules.{Row, Combine, Reduce, Scale, Derive, Strengthen, Round, Split, CloseNumber, CloseStride, Entry, row, claim}
 use Rattle.fields.specs.Fields.{Field, Fields, ends, cut, ◌▸◌, Item, item, items}
-use Rattle.fields.specs.Places.{fields_at}
+use Rattle.std.specs.Prelude.{Ok}
+use Rattle.std.specs.declared.result.Result as code
+use Rattle.fields.specs.declared.WholeField.{WholeField}
+use Rattle.fields.specs.declared.End.{End}
+use Rattle.fields.specs.Places.{fields_at, next_of}
 use Rattle.fields.proofs.Places.{Starts}
 use Rattle.shortening.specs.Shorten as definition
 use Rattle.shortening.proofs.Renumbering.{entries-of}
@@ -203,12 +207,12 @@ bound-more steps d b b' h a = record { bound = λ i l. omega (arith, h, a.bound 
 
 module _ {p : List ℕ} {at e K n : ℕ} {gathered₀ : List GatheredRow} {steps₀ : List Step} {gathered : List GatheredRow} {steps : List Step} {here lines depth rows : ℕ} (v : Gathering p at e K n gathered₀ steps₀ gathered steps here lines depth rows) where
   -- bytes that are no whole field state nothing
-  pub gathering-cut : {a : ℕ} → fields_at p here ≡ cut a → ⊥
+  gathering-cut : {a : ℕ} → fields_at p here ≡ cut a → ⊥
   gathering-cut {a} q =
       let s = subst (λ (fs : Fields). Stating e K fs v.es) q v.stating in
       never-cut a s.list s.are
 
-  pub gathering-done : {a : ℕ} → fields_at p here ≡ ends a → GathersAll e K (fields_at p at) n gathered rows
+  gathering-done : {a : ℕ} → fields_at p here ≡ ends a → GathersAll e K (fields_at p at) n gathered rows
   gathering-done {a} q =
       let none : v.es ≡ [] = nothing_left e K a v.es (subst (λ (fs : Fields). Stating e K fs v.es) q v.stating) in
       let nil : SameBack (back_in gathered 0 rows) (backward v.es lines (starts_of steps depth)) = subst (λ (es : List Entry). SameBack (back_in gathered 0 rows) (backward es lines (starts_of steps depth))) (sym none) (record { marks = λ j. refl; reported = refl }) in
@@ -224,6 +228,15 @@ module _ {p : List ℕ} {at e K n : ℕ} {gathered₀ : List GatheredRow} {steps
               below = v.below;
             };
       }
+
+  -- where no whole field is left
+  pub gathering-over : {r : code.Result WholeField End} → r ≡ next_of (fields_at p here) → ((f : WholeField) → ¬ (r ≡ Ok f)) → GathersAll e K (fields_at p at) n gathered rows
+  gathering-over {r} q h = go (fields_at p here) refl q
+    where
+      go : (fs : Fields) → fields_at p here ≡ fs → r ≡ next_of fs → GathersAll e K (fields_at p at) n gathered rows
+      go (ends a) e q = gathering-done e
+      go (cut a) e q = absurd (gathering-cut e)
+      go (f ▸ fs) e q = absurd (h _ q)
 
   module _ {a tag start len next : ℕ} (k : Starts p here a tag start len next) where
     head : Head e K (fields_at p next) (item tag (take len (drop start p))) v.es

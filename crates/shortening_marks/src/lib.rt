@@ -7,7 +7,7 @@ ghost use Rattle.fields.specs.Places.{fields_at};
 ghost use Rattle.shortening_marks.specs.Gathered.{Gatherable, GathersAll, Reportable, Reported};
 ghost use Rattle.shortening_marks.specs.Marks.{made_marks, MarkedRow, Markable, MarkedFrom};
 
-use fields::{Next, next_field};
+use fields::next_field;
 use shortening_stack::stack::{Standing, Step, advance};
 use shortening_stack::{Class, outline_at};
 
@@ -47,46 +47,31 @@ pub fn gather(p: &[u8], body: ProofBody, gathered: &mut [GatheredRow], steps: &m
     let mut depth = 0;
     let mut rows = 0;
     let e = body.edition;
-    loop {
-        match next_field(p, here) {
-            Next::Field {
-                at: _,
-                tag,
-                start,
-                len,
-                next,
-            } => {
-                let x = outline_at(p, tag, start, e);
-                match x.class {
-                    Class::Claims => {}
-                    class => {
-                        gathered[rows] = GatheredRow {
-                            class,
-                            lines,
-                            first: x.first,
-                            second: x.second,
-                        };
-                        let standing = Standing {
-                            lines,
-                            kept: 0,
-                            depth,
-                        };
-                        let moved = advance(x, standing, steps);
-                        lines = moved.lines;
-                        depth = moved.depth;
-                        rows += 1;
-                    }
-                }
-                here = next;
-            }
-            Next::Cut { at: _ } => {
-                return rows;
-            }
-            Next::Ends { at: _ } => {
-                return rows;
+    while let Ok(field) = next_field(p, here) {
+        let x = outline_at(p, field.tag, field.start, e);
+        match x.class {
+            Class::Claims => {}
+            class => {
+                gathered[rows] = GatheredRow {
+                    class,
+                    lines,
+                    first: x.first,
+                    second: x.second,
+                };
+                let standing = Standing {
+                    lines,
+                    kept: 0,
+                    depth,
+                };
+                let moved = advance(x, standing, steps);
+                lines = moved.lines;
+                depth = moved.depth;
+                rows += 1;
             }
         }
+        here = field.next;
     }
+    rows
 }
 
 // The mark of line i; what lies beyond the array is never asked for. (Not by `get_mut`: no proof knows what a write through it leaves.)

@@ -14,8 +14,12 @@ use Rattle.forms.specs.Forms.{All, nil, cons}
 use Rattle.calculus.specs.Rules.{Combine, Reduce, Scale, Derive, Strengthen, Round, Split, CloseNumber, CloseStride, Entry, row, claim}
 use Rattle.number_bytes.specs.Numbers.{unsigned, unsigned_bytes}
 use Rattle.number_bytes.proofs.Stores.{sets-append}
-use Rattle.fields.specs.Fields.{Fields, ends, cut, Item, item, field_bytes, file_of}
-use Rattle.fields.specs.Places.{fields_at}
+use Rattle.fields.specs.Fields.{Fields, ends, cut, ◌▸◌, Item, item, field_bytes, file_of}
+use Rattle.std.specs.Prelude.{Ok}
+use Rattle.std.specs.declared.result.Result as code
+use Rattle.fields.specs.declared.WholeField.{WholeField}
+use Rattle.fields.specs.declared.End.{End}
+use Rattle.fields.specs.Places.{fields_at, next_of}
 use Rattle.fields.proofs.Places.{Starts, starts-size}
 use Rattle.fields.proofs.Framing.{length-field_bytes}
 use Rattle.proof.specs.Entries.{EntryTag, combine_tag, reduce_tag, scale_tag, strengthen_tag, number_tag, stride_tag, round_tag, split_tag, claim_tag, entry_tagged, line_count, renumbered, line_number, entry_from}
@@ -340,17 +344,26 @@ writing_start {p} {at} {e} {K} {n} {report} {gones} {out = out} {o = o} a =
 module _ {p : List ℕ} {at e K n : ℕ} {report gones₀ : List ℕ} {steps₀ : List Step} {out₀ : List ℕ} {o : ℕ} {gones : List ℕ} {steps : List Step} {out : List ℕ} {here to lines kept depth rows : ℕ} {stays : Bool}
     (v : Writing p at e K n report gones₀ steps₀ out₀ o gones steps out here to lines kept depth rows stays) where
   -- bytes that are no whole field state nothing
-  pub writing-cut : {a : ℕ} → fields_at p here ≡ cut a → ⊥
+  writing-cut : {a : ℕ} → fields_at p here ≡ cut a → ⊥
   writing-cut {a} q =
       let s = subst (λ (fs : Fields). Stating e K fs v.es) q v.stating in
       never-cut a s.list s.are
 
-  pub writing-done : {a : ℕ} → fields_at p here ≡ ends a → out ≡ sets out₀ o (table_from e K n (fields_at p at) report)
+  writing-done : {a : ℕ} → fields_at p here ≡ ends a → out ≡ sets out₀ o (table_from e K n (fields_at p at) report)
   writing-done {a} q =
       let none : v.es ≡ [] = nothing_left e K a v.es (subst (λ (fs : Fields). Stating e K fs v.es) q v.stating) in
       sym (nothing_written out to)
       ∙ sym (ap (λ (es : List Entry). sets out to (written_from e es (drop rows report) stays v.new lines kept (stack_of steps depth) (list_of (fields_at p here)))) none)
       ∙ v.rest
+
+  -- where no whole field is left
+  pub writing-over : {r : code.Result WholeField End} → r ≡ next_of (fields_at p here) → ((f : WholeField) → ¬ (r ≡ Ok f)) → out ≡ sets out₀ o (table_from e K n (fields_at p at) report)
+  writing-over {r} q h = go (fields_at p here) refl q
+    where
+      go : (fs : Fields) → fields_at p here ≡ fs → r ≡ next_of fs → out ≡ sets out₀ o (table_from e K n (fields_at p at) report)
+      go (ends a) e q = writing-done e
+      go (cut a) e q = absurd (writing-cut e)
+      go (f ▸ fs) e q = absurd (h _ q)
 
   module _ {a tag start len next : ℕ} (k : Starts p here a tag start len next) where
     inside : start + len ≤ length p

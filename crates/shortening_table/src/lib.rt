@@ -15,7 +15,7 @@ ghost use Rattle.shortening_table.specs.Written.{TableWritable, table_from};
 use conversion_survey::line_count;
 use conversion_write::put_number;
 use fields::header::put_head;
-use fields::{Next, next_field};
+use fields::{WholeField, next_field};
 use forms::line_bytes;
 use number_bytes::copy::copy_bytes;
 use shortening_marks::ProofBody;
@@ -32,36 +32,17 @@ pub fn table_bytes(p: &[u8], at: usize, report: &[u8]) -> usize
     let mut rows = 0;
     let mut stays = true;
     let mut bytes = 0;
-    loop {
-        match next_field(p, here) {
-            Next::Field {
-                at: _,
-                tag,
-                start: _,
-                len,
-                next,
-            } => {
-                if tag == 0x20 {
-                    if stays {
-                        bytes += 3 + len;
-                    }
-                } else {
-                    stays = report[rows] != 0;
-                    rows += 1;
-                    if stays {
-                        bytes += 3 + len;
-                    }
-                }
-                here = next;
-            }
-            Next::Cut { at: _ } => {
-                return bytes;
-            }
-            Next::Ends { at: _ } => {
-                return bytes;
-            }
+    while let Ok(field) = next_field(p, here) {
+        if field.tag != 0x20 {
+            stays = report[rows] != 0;
+            rows += 1;
         }
+        if stays {
+            bytes += 3 + field.len;
+        }
+        here = field.next;
     }
+    bytes
 }
 
 // The new number of a line: as many fewer as lines before it are gone; what lies beyond the array keeps its own.
@@ -91,9 +72,7 @@ fn renew(gones: &mut [u16], class: Class, standing: Standing)
 // A field of a proof of edition e whose first `count` line numbers are written anew: none, one or two.
 fn put_field(
     p: &[u8],
-    tag: u8,
-    start: usize,
-    len: usize,
+    field: WholeField,
     e: u8,
     count: usize,
     first: u64,
@@ -101,9 +80,12 @@ fn put_field(
     out: &mut [u8],
     o: usize,
 )
-    requires { Puttable p.now start len (edition e).line_width count out.old o }
-    ensures { PutField p.now tag start len (edition e).line_width count first second out.old o out.new }
+    requires { Puttable p.now field.start field.len (edition e).line_width count out.old o }
+    ensures { PutField p.now field.tag field.start field.len (edition e).line_width count first second out.old o out.new }
 {
+    let WholeField {
+        tag, start, len, ..
+    } = field;
     put_head(out, o, tag, len);
     if count == 0 {
         copy_bytes(p, start, len, out, o + 3);
@@ -128,9 +110,7 @@ fn put_field(
 // A field with new line numbers. Where the next one goes.
 fn put_kept(
     p: &[u8],
-    tag: u8,
-    start: usize,
-    len: usize,
+    field: WholeField,
     e: u8,
     first: u16,
     second: u16,
@@ -138,14 +118,14 @@ fn put_kept(
     out: &mut [u8],
     o: usize,
 ) -> usize
-    requires { Keepable p.now tag start len (edition e).line_width true gones.now out.old o }
-    ensures { PutKept p.now tag start len (edition e).line_width first second true gones.now out.old o out.new result }
+    requires { Keepable p.now field.tag field.start field.len (edition e).line_width true gones.now out.old o }
+    ensures { PutKept p.now field.tag field.start field.len (edition e).line_width first second true gones.now out.old o out.new result }
 {
     let one = new_number(gones, first);
     let two = new_number(gones, second);
-    let count = line_count(tag);
-    put_field(p, tag, start, len, e, count, one, two, out, o);
-    o + 3 + len
+    let count = line_count(field.tag);
+    put_field(p, field, e, count, one, two, out, o);
+    o + 3 + field.len
 }
 
 // The fields of a proof that stay, behind the o first bytes.
@@ -171,40 +151,24 @@ pub fn put_table(
     let mut rows = 0;
     let mut stays = true;
     let e = body.edition;
-    loop {
-        match next_field(p, here) {
-            Next::Field {
-                at: _,
-                tag,
-                start,
-                len,
-                next,
-            } => {
-                if tag == 0x20 {
-                    if stays {
-                        to = put_kept(p, tag, start, len, e, 0, 0, gones, out, to);
-                    }
-                } else if report[rows] == 0 {
-                    stays = false;
-                    renew(gones, Class::Makes, standing);
-                    standing.lines += 1;
-                    rows += 1;
-                } else {
-                    stays = true;
-                    let x = outline_at(p, tag, start, e);
-                    to = put_kept(p, tag, start, len, e, x.first, x.second, gones, out, to);
-                    renew(gones, x.class, standing);
-                    standing = advance(x, standing, steps);
-                    rows += 1;
-                }
-                here = next;
+    while let Ok(field) = next_field(p, here) {
+        if field.tag == 0x20 {
+            if stays {
+                to = put_kept(p, field, e, 0, 0, gones, out, to);
             }
-            Next::Cut { at: _ } => {
-                return;
-            }
-            Next::Ends { at: _ } => {
-                return;
-            }
+        } else if report[rows] == 0 {
+            stays = false;
+            renew(gones, Class::Makes, standing);
+            standing.lines += 1;
+            rows += 1;
+        } else {
+            stays = true;
+            let x = outline_at(p, field.tag, field.start, e);
+            to = put_kept(p, field, e, x.first, x.second, gones, out, to);
+            renew(gones, x.class, standing);
+            standing = advance(x, standing, steps);
+            rows += 1;
         }
+        here = field.next;
     }
 }

@@ -1,86 +1,74 @@
 -- `shortening_table::put_table` meets its contract. The invariant `Writing`: what is left to write from here is the whole from the start, over any number of constants. Assumes nothing.
 use native.Mathlib.Omega.{arith}
-use Rattle.fields.proofs.Places.{starts, starts-less, next-cut, next-ends}
-use Rattle.shortening_table.proofs.Writing.{writing_start, writing-cut, writing-done, entry-there, claim-keepable, claim-stays, claim-goes, row-reported, rows_fit, lines_fit, writing-gone, row-keepable, stack-room, row-renewable, writing-row}
+use Rattle.fields.proofs.Places.{starts, starts-less}
+use Rattle.shortening_table.proofs.Writing.{writing_start, writing-over, entry-there, claim-keepable, claim-stays, claim-goes, row-reported, rows_fit, lines_fit, writing-gone, row-keepable, stack-room, row-renewable, writing-row}
 use Rattle.shortening_table.proofs.put_table.Goals as goal
 
-pub loop-tag-init : goal.loop-tag-init
-loop-tag-init c = λ K a. writing_start a
+pub loop-field-init : goal.loop-field-init
+loop-field-init c = λ K a. writing_start a
 
 pub put_kept-to-requires : goal.put_kept-to-requires
-put_kept-to-requires c = claim-keepable (c.loop-tag.invariant c.args.body.k c.requires) (starts c.next_field.ensures c.in-Field.is) c.if-tag-eq32.true c.if-stays.true
+put_kept-to-requires c = claim-keepable (c.loop-field.invariant c.args.body.k c.requires) (starts c.next_field.ensures c.in-Ok.is) c.if-field-eq32.true c.if-stays.true
 
 pub bounds-report-rows : goal.bounds-report-rows
-bounds-report-rows c = row-reported (c.loop-tag.invariant c.args.body.k c.requires) (starts c.next_field.ensures c.in-Field.is) c.if-tag-eq32.false
+bounds-report-rows c = row-reported (c.loop-field.invariant c.args.body.k c.requires) (starts c.next_field.ensures c.in-Ok.is) c.if-field-eq32.false
 
 pub renew-requires : goal.renew-requires
-renew-requires c = row-renewable (c.loop-tag.invariant c.args.body.k c.requires) (starts c.next_field.ensures c.in-Field.is) c.if-tag-eq32.false
+renew-requires c = row-renewable (c.loop-field.invariant c.args.body.k c.requires) (starts c.next_field.ensures c.in-Ok.is) c.if-field-eq32.false
 
 pub overflow_add-standing : goal.overflow_add-standing
-overflow_add-standing c = record { fits = omega (arith, lines_fit (c.loop-tag.invariant c.args.body.k c.requires) (starts c.next_field.ensures c.in-Field.is) c.if-tag-eq32.false) }
+overflow_add-standing c = record { fits = omega (arith, lines_fit (c.loop-field.invariant c.args.body.k c.requires) (starts c.next_field.ensures c.in-Ok.is) c.if-field-eq32.false) }
 
 pub overflow_add-rows : goal.overflow_add-rows
-overflow_add-rows c = record { fits = omega (arith, rows_fit (c.loop-tag.invariant c.args.body.k c.requires) (starts c.next_field.ensures c.in-Field.is) c.if-tag-eq32.false) }
+overflow_add-rows c = record { fits = omega (arith, rows_fit (c.loop-field.invariant c.args.body.k c.requires) (starts c.next_field.ensures c.in-Ok.is) c.if-field-eq32.false) }
 
 pub outline_at-x-requires : goal.outline_at-x-requires
-outline_at-x-requires c = entry-there (c.loop-tag.invariant c.args.body.k c.requires) (starts c.next_field.ensures c.in-Field.is)
+outline_at-x-requires c = entry-there (c.loop-field.invariant c.args.body.k c.requires) (starts c.next_field.ensures c.in-Ok.is)
 
 pub put_kept-to-requires-else-report-rows-eq0 : goal.put_kept-to-requires-else-report-rows-eq0
-put_kept-to-requires-else-report-rows-eq0 c = row-keepable (c.loop-tag.invariant c.args.body.k c.requires) (starts c.next_field.ensures c.in-Field.is) c.if-tag-eq32.false c.if-report-rows-eq0.false
+put_kept-to-requires-else-report-rows-eq0 c = row-keepable (c.loop-field.invariant c.args.body.k c.requires) (starts c.next_field.ensures c.in-Ok.is) c.if-field-eq32.false c.if-report-rows-eq0.false
 
 pub renew-requires-else-report-rows-eq0 : goal.renew-requires-else-report-rows-eq0
-renew-requires-else-report-rows-eq0 c = row-renewable (c.loop-tag.invariant c.args.body.k c.requires) (starts c.next_field.ensures c.in-Field.is) c.if-tag-eq32.false
+renew-requires-else-report-rows-eq0 c = row-renewable (c.loop-field.invariant c.args.body.k c.requires) (starts c.next_field.ensures c.in-Ok.is) c.if-field-eq32.false
 
 pub advance-standing-requires : goal.advance-standing-requires
-advance-standing-requires c = stack-room (c.loop-tag.invariant c.args.body.k c.requires) (starts c.next_field.ensures c.in-Field.is) c.if-tag-eq32.false c.if-report-rows-eq0.false
+advance-standing-requires c = stack-room (c.loop-field.invariant c.args.body.k c.requires) (starts c.next_field.ensures c.in-Ok.is) c.if-field-eq32.false c.if-report-rows-eq0.false
 
 pub overflow_add-rows-else-report-rows-eq0 : goal.overflow_add-rows-else-report-rows-eq0
-overflow_add-rows-else-report-rows-eq0 c = record { fits = omega (arith, rows_fit (c.loop-tag.invariant c.args.body.k c.requires) (starts c.next_field.ensures c.in-Field.is) c.if-tag-eq32.false) }
+overflow_add-rows-else-report-rows-eq0 c = record { fits = omega (arith, rows_fit (c.loop-field.invariant c.args.body.k c.requires) (starts c.next_field.ensures c.in-Ok.is) c.if-field-eq32.false) }
 
-pub loop-tag-smaller-then-stays : goal.loop-tag-smaller-then-stays
-loop-tag-smaller-then-stays c = starts-less (starts c.next_field.ensures c.in-Field.is)
+pub loop-field-smaller-then-stays : goal.loop-field-smaller-then-stays
+loop-field-smaller-then-stays c = starts-less (starts c.next_field.ensures c.in-Ok.is)
 
-pub loop-tag-preserved-then-stays : goal.loop-tag-preserved-then-stays
-loop-tag-preserved-then-stays c = λ K a. claim-stays (c.loop-tag.invariant K a) (starts c.next_field.ensures c.in-Field.is) c.if-tag-eq32.true c.if-stays.true c.put_kept-to.ensures
+pub loop-field-preserved-then-stays : goal.loop-field-preserved-then-stays
+loop-field-preserved-then-stays c = λ K a. claim-stays (c.loop-field.invariant K a) (starts c.next_field.ensures c.in-Ok.is) c.if-field-eq32.true c.if-stays.true c.put_kept-to.ensures
 
-pub loop-tag-smaller-else-stays : goal.loop-tag-smaller-else-stays
-loop-tag-smaller-else-stays c = starts-less (starts c.next_field.ensures c.in-Field.is)
+pub loop-field-smaller-else-stays : goal.loop-field-smaller-else-stays
+loop-field-smaller-else-stays c = starts-less (starts c.next_field.ensures c.in-Ok.is)
 
-pub loop-tag-preserved-else-stays : goal.loop-tag-preserved-else-stays
-loop-tag-preserved-else-stays c = λ K a. claim-goes (c.loop-tag.invariant K a) (starts c.next_field.ensures c.in-Field.is) c.if-tag-eq32.true c.if-stays.false
+pub loop-field-preserved-else-stays : goal.loop-field-preserved-else-stays
+loop-field-preserved-else-stays c = λ K a. claim-goes (c.loop-field.invariant K a) (starts c.next_field.ensures c.in-Ok.is) c.if-field-eq32.true c.if-stays.false
 
-pub loop-tag-smaller-then-report-rows-eq0 : goal.loop-tag-smaller-then-report-rows-eq0
-loop-tag-smaller-then-report-rows-eq0 c = starts-less (starts c.next_field.ensures c.in-Field.is)
+pub loop-field-smaller-then-report-rows-eq0 : goal.loop-field-smaller-then-report-rows-eq0
+loop-field-smaller-then-report-rows-eq0 c = starts-less (starts c.next_field.ensures c.in-Ok.is)
 
-pub loop-tag-preserved-then-report-rows-eq0 : goal.loop-tag-preserved-then-report-rows-eq0
-loop-tag-preserved-then-report-rows-eq0 c = λ K a. writing-gone (c.loop-tag.invariant K a) (starts c.next_field.ensures c.in-Field.is) c.if-tag-eq32.false c.if-report-rows-eq0.true c.renew.ensures
+pub loop-field-preserved-then-report-rows-eq0 : goal.loop-field-preserved-then-report-rows-eq0
+loop-field-preserved-then-report-rows-eq0 c = λ K a. writing-gone (c.loop-field.invariant K a) (starts c.next_field.ensures c.in-Ok.is) c.if-field-eq32.false c.if-report-rows-eq0.true c.renew.ensures
 
-pub loop-tag-smaller : goal.loop-tag-smaller
-loop-tag-smaller c = starts-less (starts c.next_field.ensures c.in-Field.is)
+pub loop-field-smaller : goal.loop-field-smaller
+loop-field-smaller c = starts-less (starts c.next_field.ensures c.in-Ok.is)
 
-pub loop-tag-preserved : goal.loop-tag-preserved
-loop-tag-preserved c = λ K a. writing-row (c.loop-tag.invariant K a) (starts c.next_field.ensures c.in-Field.is) c.if-tag-eq32.false c.if-report-rows-eq0.false c.outline_at-x.ensures c.put_kept-to-else-report-rows-eq0.ensures c.renew-else-report-rows-eq0.ensures c.advance-standing.ensures
+pub loop-field-preserved : goal.loop-field-preserved
+loop-field-preserved c = λ K a. writing-row (c.loop-field.invariant K a) (starts c.next_field.ensures c.in-Ok.is) c.if-field-eq32.false c.if-report-rows-eq0.false c.outline_at-x.ensures c.put_kept-to-else-report-rows-eq0.ensures c.renew-else-report-rows-eq0.ensures c.advance-standing.ensures
 
-pub shape_of-gones-in-Cut : goal.shape_of-gones-in-Cut
-shape_of-gones-in-Cut c = (c.loop-tag.invariant c.args.body.k c.requires).gones-length
+pub shape_of-gones : goal.shape_of-gones
+shape_of-gones c = (c.loop-field.invariant c.args.body.k c.requires).gones-length
 
-pub shape_of-steps-in-Cut : goal.shape_of-steps-in-Cut
-shape_of-steps-in-Cut c = (c.loop-tag.invariant c.args.body.k c.requires).steps_length
+pub shape_of-steps : goal.shape_of-steps
+shape_of-steps c = (c.loop-field.invariant c.args.body.k c.requires).steps_length
 
-pub shape_of-out-in-Cut : goal.shape_of-out-in-Cut
-shape_of-out-in-Cut c = (c.loop-tag.invariant c.args.body.k c.requires).out_length
+pub shape_of-out : goal.shape_of-out
+shape_of-out c = (c.loop-field.invariant c.args.body.k c.requires).out_length
 
-pub returns-in-Cut : goal.returns-in-Cut
-returns-in-Cut c = absurd (writing-cut (c.loop-tag.invariant c.args.body.k c.requires) (next-cut _ c.next_field.ensures c.in-Cut.is))
-
-pub shape_of-gones-in-Ends : goal.shape_of-gones-in-Ends
-shape_of-gones-in-Ends c = (c.loop-tag.invariant c.args.body.k c.requires).gones-length
-
-pub shape_of-steps-in-Ends : goal.shape_of-steps-in-Ends
-shape_of-steps-in-Ends c = (c.loop-tag.invariant c.args.body.k c.requires).steps_length
-
-pub shape_of-out-in-Ends : goal.shape_of-out-in-Ends
-shape_of-out-in-Ends c = (c.loop-tag.invariant c.args.body.k c.requires).out_length
-
-pub returns-in-Ends : goal.returns-in-Ends
-returns-in-Ends c = writing-done (c.loop-tag.invariant c.args.body.k c.requires) (next-ends _ c.next_field.ensures c.in-Ends.is)
+pub returns : goal.returns
+returns c = writing-over (c.loop-field.invariant c.args.body.k c.requires) c.next_field.ensures c.in_default.not-Ok

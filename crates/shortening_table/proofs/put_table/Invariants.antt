@@ -6,9 +6,9 @@ use Rattle.shortening_table.specs.Written.{TableWritable}
 use Rattle.shortening_table.proofs.Writing.{Writing}
 use Rattle.shortening_table.proofs.put_table.Given as goal
 
-abbrev pub invariant-loop-tag : goal.invariant-loop-tag
-invariant-loop-tag l =
+abbrev pub invariant-loop-field : goal.invariant-loop-field
+invariant-loop-field l =
     (K : ℕ) → TableWritable l.e K (fields_at l.p l.initial.here) l.initial.standing.lines l.report l.initial.gones l.initial.steps l.initial.out l.o → Writing l.p l.initial.here l.e K l.initial.standing.lines l.report l.initial.gones l.initial.steps l.initial.out l.o l.gones l.steps l.out l.here l.to l.standing.lines l.standing.kept l.standing.depth l.rows l.stays
 
-abbrev pub decreases-loop-tag : goal.decreases-loop-tag
-decreases-loop-tag l = length l.p - l.here
+abbrev pub decreases-loop-field : goal.decreases-loop-field
+decreases-loop-field l = length l.p - l.here

@@ -4,8 +4,8 @@ use lib.ListN.{length}
 use Rattle.shortening_table.proofs.Counting.{CountingBytes}
 use Rattle.shortening_table.proofs.table_bytes.Given as goal
 
-abbrev pub invariant-loop-tag : goal.invariant-loop-tag
-invariant-loop-tag l = CountingBytes l.p l.at l.report l.here l.rows l.stays l.bytes
+abbrev pub invariant-loop-field : goal.invariant-loop-field
+invariant-loop-field l = CountingBytes l.p l.at l.report l.here l.rows l.stays l.bytes
 
-abbrev pub decreases-loop-tag : goal.decreases-loop-tag
-decreases-loop-tag l = length l.p - l.here
+abbrev pub decreases-loop-field : goal.decreases-loop-field
+decreases-loop-field l = length l.p - l.here
