@@ -8,8 +8,12 @@ use lib.Dec.{eqb}
 use lib.ListN.{length, get_or, take, drop}
 use lib.Seq.{drop-cons}
 use borrow.Author.Tests.{eq-eqb, ne_eqb}
-use Rattle.fields.specs.Fields.{Field, Fields}
-use Rattle.fields.specs.Places.{fields_at}
+use Rattle.std.specs.Prelude.{Ok}
+use Rattle.std.specs.declared.result.Result as code
+use Rattle.fields.specs.declared.WholeField.{WholeField}
+use Rattle.fields.specs.declared.End.{End}
+use Rattle.fields.specs.Fields.{Field, Fields, ends, cut, ◌▸◌}
+use Rattle.fields.specs.Places.{fields_at, next_of}
 use Rattle.fields.proofs.Places.{Starts, starts-size}
 use Rattle.shortening.specs.Passes.{top, pop, is_kept}
 use Rattle.shortening_table.specs.Table.{row_fields, bytes_from, ReportCovers}
@@ -29,10 +33,14 @@ pub counting-start : {p : List ℕ} {at : ℕ} {report : List ℕ} → ReportCov
 counting-start c = record { is = omega arith; room = omega (arith, c.room); few = omega arith; within = omega arith }
 
 module _ {p : List ℕ} {at : ℕ} {report : List ℕ} {here rows : ℕ} {stays : Bool} {bytes : ℕ} (v : CountingBytes p at report here rows stays bytes) where
-  pub counting-done : (fs : Fields) → fields_at p here ≡ fs → bytes_from fs (drop rows report) stays ≡ 0 → (bytes ≡ bytes_from (fields_at p at) report true) × (bytes ≤ length p)
-  counting-done fs e z =
-      let q : bytes_from (fields_at p here) (drop rows report) stays ≡ 0 = ap (λ (x : Fields). bytes_from x (drop rows report) stays) e ∙ z in
-      (omega (arith, v.is, q), v.within)
+  -- where no whole field is left
+  pub counting-done : {r : code.Result WholeField End} → r ≡ next_of (fields_at p here) → ((f : WholeField) → ¬ (r ≡ Ok f)) → (bytes ≡ bytes_from (fields_at p at) report true) × (bytes ≤ length p)
+  counting-done {r} q h = (omega (arith, v.is, go (fields_at p here) q), v.within)
+    where
+      go : (fs : Fields) → r ≡ next_of fs → bytes_from fs (drop rows report) stays ≡ 0
+      go (ends a) q = refl
+      go (cut a) q = refl
+      go (f ▸ fs) q = absurd (h _ q)
 
   module _ {a tag start len next : ℕ} (k : Starts p here a tag start len next) where
     abbrev field : Field
@@ -44,48 +52,46 @@ module _ {p : List ℕ} {at : ℕ} {report : List ℕ} {here rows : ℕ} {stays 
     pub kept_lines-fit : bytes + (3 + len) ≤ length p
     kept_lines-fit = omega (arith, v.few, ahead, k.upto)
 
-    -- a claim
-    module _ (c : tag ≡ 0x20) where
-      claim-bytes : bytes_from (fields_at p here) (drop rows report) stays ≡ cond stays (3 + len) 0 + bytes_from (fields_at p next) (drop rows report) stays
-      claim-bytes = ap (λ (fs : Fields). bytes_from fs (drop rows report) stays) k.is
-          ∙ ap (λ (b : Bool). cond b (cond stays (3 + length field.contents) 0 + bytes_from (fields_at p next) (drop rows report) stays) (cond (is_kept (top 0 (drop rows report))) (3 + length field.contents) 0 + bytes_from (fields_at p next) (pop (drop rows report)) (is_kept (top 0 (drop rows report))))) (eq-eqb tag 0x20 c)
-          ∙ ap (λ (n : ℕ). cond stays (3 + n) 0 + bytes_from (fields_at p next) (drop rows report) stays) (starts-size k)
+    -- the field is gone by, which stays or goes: so many rows before the next one
+    pub record Passed (rows' : ℕ) (stays' : Bool) : Type 0 where
+      pub is : bytes_from (fields_at p here) (drop rows report) stays ≡ cond stays' (3 + len) 0 + bytes_from (fields_at p next) (drop rows' report) stays'
+      pub room : rows' + row_fields (fields_at p next) ≡ rows + row_fields (fields_at p here)
 
-      claim-rows : row_fields (fields_at p here) ≡ row_fields (fields_at p next)
-      claim-rows = ap row_fields k.is ∙ ap (λ (b : Bool). cond b (row_fields (fields_at p next)) (suc (row_fields (fields_at p next)))) (eq-eqb tag 0x20 c)
+    -- a claim does as the row before it
+    pub passed-claim : {rows' : ℕ} {stays' : Bool} → tag ≡ 0x20 → rows' ≡ rows → stays' ≡ stays → Passed rows' stays'
+    passed-claim c r s =
+        let own : Passed rows stays = record {
+          is = ap (λ (fs : Fields). bytes_from fs (drop rows report) stays) k.is ∙ rw (eq-eqb tag 0x20 c, starts-size k);
+          room = ap (λ (m : ℕ). rows + m) (sym (ap row_fields k.is ∙ rw (eq-eqb tag 0x20 c)));
+        } in
+        rw (r, s) own
 
-      pub claim-stays : stays ≡ true → CountingBytes p at report next rows stays (bytes + (3 + len))
-      claim-stays s =
-          let q : cond stays (3 + len) 0 ≡ 3 + len = ap (λ (b : Bool). cond b (3 + len) 0) s in
-          record { is = omega (arith, v.is, claim-bytes, q); room = omega (arith, v.room, claim-rows); few = omega (arith, v.few, ahead); within = omega (arith, v.within, kept_lines-fit) }
-
-      pub claim-goes : stays ≡ false → CountingBytes p at report next rows stays bytes
-      claim-goes s =
-          let q : cond stays (3 + len) 0 ≡ 0 = ap (λ (b : Bool). cond b (3 + len) 0) s in
-          record { is = omega (arith, v.is, claim-bytes, q); room = omega (arith, v.room, claim-rows); few = omega (arith, v.few, ahead); within = omega (arith, v.within, kept_lines-fit) }
-
-    -- a row
     module _ (c : ¬ (tag ≡ 0x20)) where
       row-rows : row_fields (fields_at p here) ≡ suc (row_fields (fields_at p next))
-      row-rows = ap row_fields k.is ∙ ap (λ (b : Bool). cond b (row_fields (fields_at p next)) (suc (row_fields (fields_at p next)))) (ne_eqb tag 0x20 c)
+      row-rows = ap row_fields k.is ∙ rw (ne_eqb tag 0x20 c)
 
       pub row-there : rows < length report
       row-there = omega (arith, v.room, row-rows)
 
-      row-bytes : (b : Bool) → is_kept (get_or report rows 0) ≡ b → bytes_from (fields_at p here) (drop rows report) stays ≡ cond b (3 + len) 0 + bytes_from (fields_at p next) (drop (rows + 1) report) b
-      row-bytes b q =
-          let d : drop rows report ≡ get_or report rows 0 ∷ drop (rows + 1) report = drop-cons report rows 0 row-there ∙ ap (λ (n : ℕ). get_or report rows 0 ∷ drop n report) (let z : suc rows ≡ rows + 1 = omega arith in z) in
-          ap (λ (fs : Fields). bytes_from fs (drop rows report) stays) k.is
-          ∙ ap (λ (b : Bool). cond b (cond stays (3 + length field.contents) 0 + bytes_from (fields_at p next) (drop rows report) stays) (cond (is_kept (top 0 (drop rows report))) (3 + length field.contents) 0 + bytes_from (fields_at p next) (pop (drop rows report)) (is_kept (top 0 (drop rows report))))) (ne_eqb tag 0x20 c)
-          ∙ ap (λ (reported : List ℕ). cond (is_kept (top 0 reported)) (3 + length field.contents) 0 + bytes_from (fields_at p next) (pop reported) (is_kept (top 0 reported))) d
-          ∙ ap₂ (λ (b : Bool) (n : ℕ). cond b (3 + n) 0 + bytes_from (fields_at p next) (drop (rows + 1) report) b) q (starts-size k)
+      -- a row by its report
+      pub passed-row : {rows' : ℕ} {stays' : Bool} → rows' ≡ rows + 1 → stays' ≡ not (eqb (get_or report rows 0) 0) → Passed rows' stays'
+      passed-row r s =
+          let one : suc rows ≡ rows + 1 = omega arith in
+          let d : drop rows report ≡ get_or report rows 0 ∷ drop (rows + 1) report = drop-cons report rows 0 row-there ∙ ap (λ (n : ℕ). get_or report rows 0 ∷ drop n report) one in
+          let own : Passed (rows + 1) (not (eqb (get_or report rows 0) 0)) = record {
+            is = ap (λ (fs : Fields). bytes_from fs (drop rows report) stays) k.is ∙ rw (ne_eqb tag 0x20 c, starts-size k, d, kept_test (get_or report rows 0));
+            room = omega (arith, row-rows);
+          } in
+          rw (r, s) own
 
-      pub row_stays : (b : Bool) → is_kept (get_or report rows 0) ≡ b → b ≡ true → CountingBytes p at report next (rows + 1) b (bytes + (3 + len))
-      row_stays b q s =
-          let z : cond b (3 + len) 0 ≡ 3 + len = ap (λ (b : Bool). cond b (3 + len) 0) s in
-          record { is = omega (arith, v.is, row-bytes b q, z); room = omega (arith, v.room, row-rows); few = omega (arith, v.few, ahead); within = omega (arith, v.within, kept_lines-fit) }
+    -- the bytes with it and without it
+    module _ {rows' : ℕ} {stays' : Bool} (q : Passed rows' stays') where
+      pub field-stays : stays' ≡ true → CountingBytes p at report next rows' stays' (bytes + (3 + len))
+      field-stays s =
+          let z : cond stays' (3 + len) 0 ≡ 3 + len = ap (λ (b : Bool). cond b (3 + len) 0) s in
+          record { is = omega (arith, v.is, q.is, z); room = omega (arith, v.room, q.room); few = omega (arith, v.few, ahead); within = omega (arith, v.within, kept_lines-fit) }
 
-      pub row_goes : (b : Bool) → is_kept (get_or report rows 0) ≡ b → b ≡ false → CountingBytes p at report next (rows + 1) b bytes
-      row_goes b q s =
-          let z : cond b (3 + len) 0 ≡ 0 = ap (λ (b : Bool). cond b (3 + len) 0) s in
-          record { is = omega (arith, v.is, row-bytes b q, z); room = omega (arith, v.room, row-rows); few = omega (arith, v.few, ahead); within = omega (arith, v.within, kept_lines-fit) }
+      pub field-goes : stays' ≡ false → CountingBytes p at report next rows' stays' bytes
+      field-goes s =
+          let z : cond stays' (3 + len) 0 ≡ 0 = ap (λ (b : Bool). cond b (3 + len) 0) s in
+          record { is = omega (arith, v.is, q.is, z); room = omega (arith, v.room, q.room); few = omega (arith, v.few, ahead); within = omega (arith, v.within) }

@@ -84,7 +84,10 @@ fn put_field(
     ensures { PutField p.now field.tag field.start field.len (edition e).line_width count first second out.old o out.new }
 {
     let WholeField {
-        tag, start, len, ..
+        tag,
+        start,
+        len,
+        ..
     } = field;
     put_head(out, o, tag, len);
     if count == 0 {
