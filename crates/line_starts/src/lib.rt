@@ -27,19 +27,6 @@ fn raise(lines: &mut [i32], at: usize, x: u16)
     lines[at] = sum as i32;
 }
 
-// The w numbers at s, in place of those at new.
-fn copy_numbers(lines: &mut [i32], s: usize, new: usize, w: usize)
-    requires { (s + w ≤ new) × (new + w ≤ length lines.old) }
-    ensures { lines.new ≡ paste lines.old new (part s w lines.old) w }
-{
-    let mut x = 0;
-    while x < w {
-        let same = lines[s + x];
-        lines[new + x] = same;
-        x += 1;
-    }
-}
-
 // Line n becomes line i.
 fn copy_line(lines: &mut [i32], i: LineNumber, n: LineNumber, k: usize)
     requires { LineCopy k lines.old i.0 n.0 }
@@ -47,7 +34,7 @@ fn copy_line(lines: &mut [i32], i: LineNumber, n: LineNumber, k: usize)
 {
     let from = place(i, k);
     let to = place(n, k);
-    copy_numbers(lines, from, to, 2 * (k + 1));
+    lines.copy_within(from..from + 2 * (k + 1), to);
 }
 
 // t + x and tA + y in place of t and tA of line n.

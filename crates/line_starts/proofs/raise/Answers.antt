@@ -7,7 +7,7 @@ use mir.Syntax.{w64}
 use mir.Val.{to_z, of_z}
 use mir.ValLaws.{to_z-of_z, to_z_pos}
 use Rattle.lines.specs.Buffer.{raised}
-use Rattle.lines.proofs.Narrow.{wide_fits, narrow-fits, narrowed}
+use Rattle.lines.proofs.Narrow.{narrowed}
 use Rattle.line_starts.proofs.raise.Goals as goal
 use Rattle.line_starts.proofs.raise.Goals.{After-number}
 
@@ -16,12 +16,6 @@ sum_is c =
     ap₂ ◌+ℤ◌
     (to_z-of_z w64 c.number.result (record { sfits = c.number.type_inv }) ∙ c.number.ensures)
     (to_z_pos w64 c.args.x (omega (arith, c.ranges.x)))
-
-pub overflow_add-sum : goal.overflow_add-sum
-overflow_add-sum c = wide_fits (sum_is c) c.requires.within
-
-pub overflow_cast-lines : goal.overflow_cast-lines
-overflow_cast-lines c = narrow-fits (sum_is c) c.requires.within
 
 pub returns : goal.returns
 unfolding raised

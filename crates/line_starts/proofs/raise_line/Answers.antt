@@ -5,31 +5,16 @@ use Prim.Native.Nat.{ℕ, ◌+◌}
 use native.Mathlib.Omega.{arith}
 use lib.IntN.{ℤ}
 use Rattle.lines.specs.Buffer.{raised, raised_line}
-use Rattle.lines.proofs.Lines.{place-small}
-use Rattle.lines.proofs.Raising.{t-term, t_A-term}
+use Rattle.lines.proofs.Raising.{t_A-term}
 use Rattle.line_starts.proofs.raise_line.Goals as goal
 
 -- What `raise` leaves, by where it raised and in what.
 raise-is : (k x : ℕ) {at at' : ℕ} {buf buf' buf'' : List ℤ} → buf'' ≡ raised (at + k) x buf → at ≡ at' → buf ≡ buf' → buf'' ≡ raised (at' + k) x buf'
 raise-is k x r e b = r ∙ ap₂ (λ (n : ℕ) (l : List ℤ). raised (n + k) x l) e b
 
-pub overflow_add-at : goal.overflow_add-at
-overflow_add-at c =
-    omega (arith, c.place-at.ensures, place-small {K = c.args.k} {i = c.args.n.0} (omega arith) (omega arith))
-
-pub raise-requires : goal.raise-requires
-raise-requires c =
-    let r = t-term c.args.k c.args.n.0 c.args.x c.args.y c.args.lines.now (omega arith) c.requires.raised c.place-at.result c.args.lines.now c.place-at.ensures refl in
-    record { at_in_bounds = r.0; within = r.1 }
-
-pub overflow_add-at_a : goal.overflow_add-at_a
-overflow_add-at_a c =
-    omega (arith, c.place_a-at_a.ensures, place-small {K = c.args.k} {i = c.args.n.0} (omega arith) (omega arith))
-
-pub raise-requires-2 : goal.raise-requires-2
-raise-requires-2 c =
-    let r = t_A-term c.args.k c.args.n.0 c.args.x c.args.y c.args.lines.now (omega arith) c.requires.raised c.place_a-at_a.result c.raise.new.lines c.place_a-at_a.ensures (raise-is c.args.k c.args.x c.raise.ensures c.place-at.ensures refl) in
-    record { at_in_bounds = r.0; within = r.1 }
+pub raise-requires-2-clause-within : goal.raise-requires-2-clause-within
+raise-requires-2-clause-within c =
+    (t_A-term c.args.k c.args.n.0 c.args.x c.args.y c.args.lines.now (omega arith) c.requires.raised c.place_a-at_a.result c.raise.new.lines c.place_a-at_a.ensures (raise-is c.args.k c.args.x c.raise.ensures c.place-at.ensures refl)).1
 
 pub returns : goal.returns
 unfolding raised_line

@@ -43,14 +43,6 @@ module _ {f : ℤ} (ff : Within multiplier_range f) {v z : ℤ} (e : v ≡ z) (w
 amount : {x : ℕ} → x < 65536 → to_z w64 x ≡ pos x
 amount {x} h = to_z_pos w64 x (omega arith)
 
-pub overflow_mul-product : goal.overflow_mul-product
-overflow_mul-product c = product-fits c.requires.1 c.number.ensures c.requires.2
-
-pub overflow_add-sum : goal.overflow_add-sum
-overflow_add-sum c =
-    let few : c.args.x < 65536 = omega (arith, c.ranges.x) in
-    sum_fits c.requires.1 c.number.ensures c.requires.2 few (amount few)
-
 pub returns : goal.returns
 returns c =
     let few : c.args.x < 65536 = omega (arith, c.ranges.x) in
