@@ -1,5 +1,5 @@
 -- The texts of the parts of a form as they are written, and where its first coefficient stands that is not 0. Assumes nothing.
-use Rattle.std.specs.Prelude.{◌≡◌, Bool, true, false, cond, not, ◌&&◌, List, [], ◌∷◌, ◌++◌, ℕ, suc, ◌≤◌, ◌<◌, ℤ, pos, length, get_or, drop}
+use Rattle.std.specs.Prelude.{◌≡◌, Bool, true, false, cond, not, ◌&&◌, Option, Some, None, List, [], ◌∷◌, ◌++◌, ℕ, suc, ◌≤◌, ◌<◌, ℤ, pos, length, get_or, drop}
 use Rattle.forms.specs.Forms.{nonzero}
 use Rattle.printing.specs.Smt.{times, register}
 use Rattle.printing.specs.Text.{ascii, term_text}
@@ -30,6 +30,11 @@ pub record Skipped (cs : List ℤ) (i : ℕ) : Type 0 where
 pub record FirstNonzero (cs : List ℤ) (i : ℕ) : Type 0 where
   pub skipped : Skipped cs i
   pub here : i < length cs → nonzero (get_or cs i (pos 0)) ≡ true
+
+-- The first coefficient that is not 0, if there is one.
+abbrev pub FirstOf : List ℤ → Option ℕ → Type 0
+FirstOf cs None = FirstNonzero cs (length cs)
+FirstOf cs (Some i) = (i < length cs) × FirstNonzero cs i
 
 -- In words: a coefficient with its register, and the constant term, both behind others, and nothing for 0.
 unfoldable pub word_text : (i : ℕ) → ℤ → List ℕ

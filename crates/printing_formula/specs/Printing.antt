@@ -1,9 +1,12 @@
 -- What reading a formula and putting its text leaves, by cases on the code's answers. Assumes nothing.
-use Rattle.std.specs.Prelude.{◌≡◌, Bool, List, ℕ, ◌+◌, ◌*◌, ◌-◌, ◌≤◌, pos, nat_abs, length, take, drop}
+use Rattle.std.specs.Prelude.{◌≡◌, Bool, List, ℕ, ◌+◌, ◌*◌, ◌-◌, ◌≤◌, pos, nat_abs, length, take, drop, Ok, Err}
+use Rattle.std.specs.declared.result.Result as code
 use Rattle.std.specs.Int.Signed.{le_z}
 use Rattle.forms.specs.Edition.{edition1}
 use Rattle.forms.specs.Forms.{Formula, ◌divides◌}
 use Rattle.answers.specs.Answers.{answer, file_proof, Result, refused, accepted, ◌>>=◌, ◌>>◌, need}
+use Rattle.answers.specs.Refusals.{number_of}
+use Rattle.answers.specs.declared.refusals.Fault.{Fault}
 use Rattle.number_bytes.specs.Numbers.{signed}
 use Rattle.fields.specs.Fields.{Fields}
 use Rattle.fields.specs.Places.{fields_at}
@@ -29,11 +32,11 @@ pub record PutFormula (wording inner : Bool) (s : List ℕ) (from more : ℕ) (w
   pub upto : next ≤ length s
   pub puts : PutsText out o (formula_text wording inner formula) (more + 6 * (next - from)) out' end
 
-abbrev pub PutOr : (wording inner : Bool) (s : List ℕ) (from more : ℕ) → Result (Formula × Fields) → (out : List ℕ) (o : ℕ) (out' : List ℕ) → Progress → Type 0
-PutOr wording inner s from more w out o out' (Progress.Fault number at) = w ≡ refused (answer number file_proof at)
-PutOr wording inner s from more w out o out' (Progress.Text next end) = PutFormula wording inner s from more w out o out' next end
+abbrev pub PutOr : (wording inner : Bool) (s : List ℕ) (from more : ℕ) → Result (Formula × Fields) → (out : List ℕ) (o : ℕ) (out' : List ℕ) → code.Result Progress Fault → Type 0
+PutOr wording inner s from more w out o out' (Err e) = w ≡ refused (answer (number_of e.refusal) file_proof e.place)
+PutOr wording inner s from more w out o out' (Ok r) = PutFormula wording inner s from more w out o out' r.next r.end
 
-pub record Prints (wording inner : Bool) (s : List ℕ) (from more : ℕ) (w : Result (Formula × Fields)) (out : List ℕ) (o : ℕ) (out' : List ℕ) (r : Progress) : Type 0 where
+pub record Prints (wording inner : Bool) (s : List ℕ) (from more : ℕ) (w : Result (Formula × Fields)) (out : List ℕ) (o : ℕ) (out' : List ℕ) (r : code.Result Progress Fault) : Type 0 where
   pub put : PutOr wording inner s from more w out o out' r
 
 -- The stride part whose field starts at a place. 12.
@@ -49,11 +52,11 @@ pair_within K levels either place fs = do
   accepted (compound (connective either) I J, after)
 
 -- What a stride part, the formula reader and the pair reader ensure.
-pub record StrideAt (wording : Bool) (s : List ℕ) (place start next K : ℕ) (out : List ℕ) (o : ℕ) (out' : List ℕ) (r : Progress) : Type 0 where
+pub record StrideAt (wording : Bool) (s : List ℕ) (place start next K : ℕ) (out : List ℕ) (o : ℕ) (out' : List ℕ) (r : code.Result Progress Fault) : Type 0 where
   pub at : (inner : Bool) → Prints wording inner s next (41 + 23 * K) (stride_within s place start next K) out o out' r
 
-abbrev pub FormulaAt : (wording inner : Bool) (s : List ℕ) (at K levels : ℕ) (out : List ℕ) (o : ℕ) (out' : List ℕ) → Progress → Type 0
+abbrev pub FormulaAt : (wording inner : Bool) (s : List ℕ) (at K levels : ℕ) (out : List ℕ) (o : ℕ) (out' : List ℕ) → code.Result Progress Fault → Type 0
 FormulaAt wording inner s at K levels out o out' r = Prints wording inner s at 0 (formula_within edition1 K levels (fields_at s at)) out o out' r
 
-abbrev pub PairAt : (wording inner : Bool) (s : List ℕ) (place at K levels : ℕ) → (either : Bool) → (out : List ℕ) (o : ℕ) (out' : List ℕ) → Progress → Type 0
+abbrev pub PairAt : (wording inner : Bool) (s : List ℕ) (place at K levels : ℕ) → (either : Bool) → (out : List ℕ) (o : ℕ) (out' : List ℕ) → code.Result Progress Fault → Type 0
 PairAt wording inner s place at K levels either out o out' r = Prints wording inner s at 11 (pair_within K levels either place (fields_at s at)) out o out' r

@@ -3,7 +3,8 @@
 // to measure. Where it is surely long enough the formula is only read before (once).
 #![tactic(auto)]
 
+pub mod language;
 pub mod once;
 pub mod reading;
-mod terms;
-mod words;
+pub mod terms;
+pub mod words;

@@ -1,4 +1,4 @@
-// The small texts of a formula, in both dialects: a number with its sign, what is said of a form, and the connectives.
+// The small texts of a formula, in both dialects: a number with its sign, and what is said of a form.
 // A number is as printing/specs/Text.antt and WordsText.antt have it, the rest as specs/Relations.antt; printing_formula calls it.
 #![tactic(auto)]
 
@@ -8,7 +8,7 @@ ghost use Rattle.printing.specs.Text.{term_text};
 ghost use Rattle.printing.specs.Translation.{integer};
 ghost use Rattle.printing.specs.WordsText.{sign_text};
 ghost use Rattle.printing_text.specs.PutsText.{text_limit, PutsText};
-ghost use Rattle.printing_signs.specs.Relations.{relation_text, said_text, open_text, between_text, close_text};
+ghost use Rattle.printing_signs.specs.Relations.{relation_text, said_text};
 
 use printing_text::{magnitude, put_decimal, put_text};
 
@@ -32,16 +32,12 @@ pub fn put_sign(out: &mut [u8], o: usize, z: i64, front: bool) -> usize
     requires { o + 3 ≤ text_limit }
     ensures { PutsText out.old o (sign_text front z) 3 out.new result }
 {
-    if front {
-        if z < 0 {
-            return put_text(out, o, b"-");
-        }
-        return o;
+    match (front, z < 0) {
+        (true, true) => put_text(out, o, b"-"),
+        (true, false) => o,
+        (false, true) => put_text(out, o, b" - "),
+        (false, false) => put_text(out, o, b" + "),
     }
-    if z < 0 {
-        return put_text(out, o, b" - ");
-    }
-    put_text(out, o, b" + ")
 }
 
 pub fn put_relation(out: &mut [u8], o: usize, equality: bool) -> usize
@@ -62,46 +58,4 @@ pub fn put_said(out: &mut [u8], o: usize, equality: bool) -> usize
         return put_text(out, o, b" = 0");
     }
     put_text(out, o, b" <= 0")
-}
-
-pub fn put_open(out: &mut [u8], o: usize, wording: bool, inner: bool, either: bool) -> usize
-    requires { o + 5 ≤ text_limit }
-    ensures { PutsText out.old o (open_text wording inner either) 5 out.new result }
-{
-    if wording {
-        if inner {
-            return put_text(out, o, b"(");
-        }
-        return o;
-    }
-    if either {
-        return put_text(out, o, b"(or ");
-    }
-    put_text(out, o, b"(and ")
-}
-
-pub fn put_between(out: &mut [u8], o: usize, wording: bool, either: bool) -> usize
-    requires { o + 5 ≤ text_limit }
-    ensures { PutsText out.old o (between_text wording either) 5 out.new result }
-{
-    if wording {
-        if either {
-            return put_text(out, o, b" or ");
-        }
-        return put_text(out, o, b" and ");
-    }
-    put_text(out, o, b" ")
-}
-
-pub fn put_close(out: &mut [u8], o: usize, wording: bool, inner: bool) -> usize
-    requires { o + 1 ≤ text_limit }
-    ensures { PutsText out.old o (close_text wording inner) 1 out.new result }
-{
-    if wording {
-        if inner {
-            return put_text(out, o, b")");
-        }
-        return o;
-    }
-    put_text(out, o, b")")
 }

@@ -1,72 +1,68 @@
--- The proof of the cycle {formula_at, pair_at}: the measure of both is the number of unread bytes and of levels. Assumes nothing.
--- The bytes fall where the formula reader calls the pair reader, and the levels where that calls the formula reader. Each answer collects the facts on its way and cites a lemma of `PrintingReader`.
-use native.Mathlib.Omega.{arith}
-use Rattle.fields.proofs.Places.{starts, starts-less}
+-- The proof of the cycle {formula_at, pair_at}: the bytes fall where the formula reader calls the pair reader, and the levels where that calls the formula reader. Assumes nothing.
+use Rattle.std.proofs.Common.{ap, ◌∙◌, arith, rules, Ok}
+use Rattle.std.proofs.lemmas.Result.{err_from_is_err_and}
+use Rattle.fields.proofs.Places.{starts-required, starts-less}
 use Rattle.formula_read.proofs.FormulaReader.{literal-whole, stride-whole}
-use Rattle.printing_formula.proofs.PrintingReader.{at_end, at_cut, node-refused, node-literal, node-stride, node-pair, pair-none, first-fault, second-fault, both-put, text-on, text-upto, text-few, node-room, parts-place}
+use Rattle.printing_formula.proofs.PrintingReader.{at_fault, node-refused, node-literal, node-stride, node-pair, pair-none, first-fault, second-fault, both-put, text-on, text-upto, text-few, node-room, parts-place}
 use Rattle.printing_formula.proofs.reading.+formula_at_pair_at.Goals as goal
 
-pub formula_at-node_of-requires : goal.formula_at-node_of-requires
-formula_at-node_of-requires t c = c.requires.constants
+pub formula_at-returns-in_err-field : goal.formula_at-returns-in_err-field
+formula_at-returns-in_err-field g t c =
+    let p = err_from_is_err_and c.from_residual.result c.from_residual.ensures.1 in
+    rw (p.1, p.2) (at_fault _ _ c.next_or_fault.ensures c.in_err-field.was)
 
 pub formula_at-put_literal-requires : goal.formula_at-put_literal-requires
-formula_at-put_literal-requires t c = record {
-  whole = literal-whole (starts c.next_field.ensures c.in-Field.is) _ c.node_of.ensures c.in-Literal.is;
+formula_at-put_literal-requires g t c = record {
+  whole = literal-whole (starts-required c.next_or_fault.ensures c.in_ok-field.was) _ c.node_of.ensures (c.in-Ok-Literal.is ∙ ap Ok c.in-Ok-Literal.field-0-is);
   k_le_constants = c.requires.constants;
-  o_bound = node-room (starts c.next_field.ensures c.in-Field.is) c.requires;
+  o_bound = node-room (starts-required c.next_or_fault.ensures c.in_ok-field.was) c.requires;
 }
 
 pub formula_at-stride_at-requires : goal.formula_at-stride_at-requires
-formula_at-stride_at-requires t c = record {
-  whole = (stride-whole (starts c.next_field.ensures c.in-Field.is) _ c.node_of.ensures c.in-Stride.is, (starts c.next_field.ensures c.in-Field.is).upto);
+formula_at-stride_at-requires g t c = record {
+  whole = (stride-whole (starts-required c.next_or_fault.ensures c.in_ok-field.was) _ c.node_of.ensures (c.in-Ok-Stride.is ∙ ap Ok c.in-Ok-Stride.field-0-is), (starts-required c.next_or_fault.ensures c.in_ok-field.was).upto);
   k_le_constants = c.requires.constants;
-  o_bound = node-room (starts c.next_field.ensures c.in-Field.is) c.requires;
+  o_bound = node-room (starts-required c.next_or_fault.ensures c.in_ok-field.was) c.requires;
 }
 
 pub formula_at-pair_at-requires : goal.formula_at-pair_at-requires
-formula_at-pair_at-requires t c = (omega (arith, c.decreases, starts-less {s = c.args.s.now} (starts c.next_field.ensures c.in-Field.is)), (parts-place (starts c.next_field.ensures c.in-Field.is) c.requires, (starts c.next_field.ensures c.in-Field.is).upto))
+formula_at-pair_at-requires g t c κs within =
+    let k = starts-required {s = c.args.s.now} c.next_or_fault.ensures c.in_ok-field.was in
+    (omega (arith, c.decreases, starts-less {s = c.args.s.now} k), (search rules, (parts-place k c.requires, k.upto)))
 
-pub formula_at-returns-in-Ends : goal.formula_at-returns-in-Ends
-formula_at-returns-in-Ends t c = at_end _ _ c.next_field.ensures c.in-Ends.is
+pub formula_at-returns-in-Err : goal.formula_at-returns-in-Err
+formula_at-returns-in-Err g t c = node-refused (starts-required c.next_or_fault.ensures c.in_ok-field.was) _ c.node_of.ensures _ c.in-Err.is c.refused.ensures
 
-pub formula_at-returns-in-Cut : goal.formula_at-returns-in-Cut
-formula_at-returns-in-Cut t c = at_cut _ _ c.next_field.ensures c.in-Cut.is
+pub formula_at-returns-in-Ok-Literal : goal.formula_at-returns-in-Ok-Literal
+formula_at-returns-in-Ok-Literal g t c = node-literal (starts-required c.next_or_fault.ensures c.in_ok-field.was) _ c.node_of.ensures _ (c.in-Ok-Literal.is ∙ ap Ok c.in-Ok-Literal.field-0-is) c.put_literal.ensures
 
-pub formula_at-returns-in-Refused : goal.formula_at-returns-in-Refused
-formula_at-returns-in-Refused t c = node-refused (starts c.next_field.ensures c.in-Field.is) _ c.node_of.ensures _ c.in-Refused.is
+pub formula_at-returns-in-Ok-Stride : goal.formula_at-returns-in-Ok-Stride
+formula_at-returns-in-Ok-Stride g t c = node-stride (starts-required c.next_or_fault.ensures c.in_ok-field.was) _ c.node_of.ensures _ (c.in-Ok-Stride.is ∙ ap Ok c.in-Ok-Stride.field-0-is) c.stride_at.ensures
 
-pub formula_at-returns-in-Literal : goal.formula_at-returns-in-Literal
-formula_at-returns-in-Literal t c = node-literal (starts c.next_field.ensures c.in-Field.is) _ c.node_of.ensures _ c.in-Literal.is c.put_literal.ensures
-
-pub formula_at-returns-in-Stride : goal.formula_at-returns-in-Stride
-formula_at-returns-in-Stride t c = node-stride (starts c.next_field.ensures c.in-Field.is) _ c.node_of.ensures _ c.in-Stride.is c.stride_at.ensures
-
-pub formula_at-returns-in-Pair : goal.formula_at-returns-in-Pair
-formula_at-returns-in-Pair t c = node-pair (starts c.next_field.ensures c.in-Field.is) _ c.node_of.ensures _ c.in-Pair.is c.pair_at.ensures
+pub formula_at-returns-in-Ok-Pair : goal.formula_at-returns-in-Ok-Pair
+formula_at-returns-in-Ok-Pair g t c = node-pair (starts-required c.next_or_fault.ensures c.in_ok-field.was) _ c.node_of.ensures _ (c.in-Ok-Pair.is ∙ ap Ok c.in-Ok-Pair.field-0-is) c.pair_at.ensures
 
 pub pair_at-returns-then-levels-eq0 : goal.pair_at-returns-then-levels-eq0
-pair_at-returns-then-levels-eq0 t c = pair-none _ _ _ c.args.either c.if-levels-eq0.true
+pair_at-returns-then-levels-eq0 g t c = pair-none _ _ _ c.args.either c.if-levels-eq0.true
 
 pub pair_at-put_open-a-requires : goal.pair_at-put_open-a-requires
-pair_at-put_open-a-requires t c = omega (arith, c.requires.0.file, c.requires.0.paid, c.requires.1)
-
-pub pair_at-formula_at-requires : goal.pair_at-formula_at-requires
-pair_at-formula_at-requires t c = (omega (arith, c.decreases), record { file = c.requires.0.file; constants = c.requires.0.constants; paid = omega (arith, c.requires.0.paid, c.put_open-a.ensures.o_is, c.put_open-a.ensures.few) })
+pair_at-put_open-a-requires g t c = omega (arith, c.requires.0.file, c.requires.0.paid, c.requires.1)
 
 pub pair_at-put_between-c-requires : goal.pair_at-put_between-c-requires
-pair_at-put_between-c-requires t c = omega (arith, c.requires.0.file, c.requires.0.paid, c.requires.1, c.put_open-a.ensures.o_is, c.put_open-a.ensures.few, text-on _ _ c.formula_at.ensures c.in-Text.is, text-upto _ _ c.formula_at.ensures c.in-Text.is, text-few _ _ c.formula_at.ensures c.in-Text.is)
-
-pub pair_at-formula_at-requires-in-Text : goal.pair_at-formula_at-requires-in-Text
-pair_at-formula_at-requires-in-Text t c = (omega (arith, c.decreases, text-on _ _ c.formula_at.ensures c.in-Text.is), record { file = c.requires.0.file; constants = c.requires.0.constants; paid = omega (arith, c.requires.0.file, c.requires.0.paid, c.requires.1, c.put_open-a.ensures.o_is, c.put_open-a.ensures.few, text-on _ _ c.formula_at.ensures c.in-Text.is, text-upto _ _ c.formula_at.ensures c.in-Text.is, text-few _ _ c.formula_at.ensures c.in-Text.is, c.put_between-c.ensures.o_is, c.put_between-c.ensures.few) })
+pair_at-put_between-c-requires g t c = omega (arith, c.requires.0.file, c.requires.0.paid, c.requires.1, c.put_open-a.ensures.o_is, c.put_open-a.ensures.few, text-on _ _ c.formula_at.ensures c.in_ok-left.was, text-upto _ _ c.formula_at.ensures c.in_ok-left.was, text-few _ _ c.formula_at.ensures c.in_ok-left.was)
 
 pub pair_at-put_close-requires : goal.pair_at-put_close-requires
-pair_at-put_close-requires t c = omega (arith, c.requires.0.file, c.requires.0.paid, c.requires.1, c.put_open-a.ensures.o_is, c.put_open-a.ensures.few, text-on _ _ c.formula_at.ensures c.in-Text.is, text-upto _ _ c.formula_at.ensures c.in-Text.is, text-few _ _ c.formula_at.ensures c.in-Text.is, c.put_between-c.ensures.o_is, c.put_between-c.ensures.few, text-on _ _ c.formula_at-in-Text.ensures c.in-Text-formula_at.is, text-upto _ _ c.formula_at-in-Text.ensures c.in-Text-formula_at.is, text-few _ _ c.formula_at-in-Text.ensures c.in-Text-formula_at.is)
+pair_at-put_close-requires g t c = omega (arith, c.requires.0.file, c.requires.0.paid, c.requires.1, c.put_open-a.ensures.o_is, c.put_open-a.ensures.few, text-on _ _ c.formula_at.ensures c.in_ok-left.was, text-upto _ _ c.formula_at.ensures c.in_ok-left.was, text-few _ _ c.formula_at.ensures c.in_ok-left.was, c.put_between-c.ensures.o_is, c.put_between-c.ensures.few, text-on _ _ c.formula_at-2.ensures c.in_ok-right.was, text-upto _ _ c.formula_at-2.ensures c.in_ok-right.was, text-few _ _ c.formula_at-2.ensures c.in_ok-right.was)
 
-pub pair_at-returns-in-Fault : goal.pair_at-returns-in-Fault
-pair_at-returns-in-Fault t c = first-fault c.args.inner _ _ _ c.args.either c.if-levels-eq0.false c.formula_at.ensures c.in-Fault.is
+pub pair_at-returns-in_err-left : goal.pair_at-returns-in_err-left
+pair_at-returns-in_err-left g t c =
+    let p = err_from_is_err_and c.from_residual.result c.from_residual.ensures.1 in
+    rw (p.1, p.2) (first-fault c.args.inner _ _ _ c.args.either c.if-levels-eq0.false c.formula_at.ensures c.in_err-left.was)
 
-pub pair_at-returns-in-Fault-formula_at : goal.pair_at-returns-in-Fault-formula_at
-pair_at-returns-in-Fault-formula_at t c = second-fault c.args.inner _ _ _ c.args.either c.if-levels-eq0.false c.formula_at.ensures c.in-Text.is c.formula_at-in-Text.ensures c.in-Fault-formula_at.is
+pub pair_at-returns-in_err-right : goal.pair_at-returns-in_err-right
+pair_at-returns-in_err-right g t c =
+    let p = err_from_is_err_and c.from_residual-in_err-right.result c.from_residual-in_err-right.ensures.1 in
+    rw (p.1, p.2) (second-fault c.args.inner _ _ _ c.args.either c.if-levels-eq0.false c.formula_at.ensures c.in_ok-left.was c.formula_at-2.ensures c.in_err-right.was)
 
-pub pair_at-returns-in-Text-formula_at : goal.pair_at-returns-in-Text-formula_at
-pair_at-returns-in-Text-formula_at t c = both-put c.args.inner _ _ _ c.args.either c.if-levels-eq0.false c.formula_at.ensures c.in-Text.is c.formula_at-in-Text.ensures c.in-Text-formula_at.is c.put_open-a.ensures c.put_between-c.ensures c.put_close.ensures
+pub pair_at-returns : goal.pair_at-returns
+pair_at-returns g t c = both-put c.args.inner _ _ _ c.args.either c.if-levels-eq0.false c.formula_at.ensures c.in_ok-left.was c.formula_at-2.ensures c.in_ok-right.was c.put_open-a.ensures c.put_between-c.ensures c.put_close.ensures

@@ -5,7 +5,7 @@ use Prim.Native.Nat.{◌+◌, ◌-◌}
 use Rattle.printing_formula.proofs.reading.+formula_at_pair_at.Given as goal
 
 abbrev pub decreases-formula_at : goal.decreases-formula_at
-decreases-formula_at l = (length l.s.now - l.at) + l.levels
+decreases-formula_at g l = (length l.s.now - l.at) + l.levels
 
 abbrev pub decreases-pair_at : goal.decreases-pair_at
-decreases-pair_at l = (length l.s.now - l.at) + l.levels
+decreases-pair_at g l = (length l.s.now - l.at) + l.levels

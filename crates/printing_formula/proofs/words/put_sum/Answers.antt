@@ -1,23 +1,32 @@
 -- `printing_formula::words::put_sum` meets its contract. Assumes nothing.
-use mathlib.Core.Path.{refl, sym, ◌∙◌}
-use mathlib.Core.Logic.{inr}
-use native.Mathlib.Omega.{arith}
+use Rattle.std.proofs.Common.{◌<◌, sym, ◌∙◌, arith}
 use Rattle.printing_text.proofs.PutsText.{puts_then, puts-is}
 use Rattle.printing_formula.proofs.Forms.{coeffs-long, coefficient, constant}
 use Rattle.printing_formula.proofs.Phrases.{held_back, line-alone, line-sum}
 use Rattle.printing_formula.proofs.words.put_sum.Goals as goal
 
-pub signed_at-d-requires : goal.signed_at-d-requires
-signed_at-d-requires c = record { fact = inr refl; width_in_bounds = omega arith }
+pub returns-in-None : goal.returns-in-None
+returns-in-None c = puts-is c.put_plain.ensures (line-alone _ c.in-None.ensures (record { sfits = c.signed_at-d.type_inv }) (c.signed_at-d.ensures.is ∙ sym (constant c.args.s.now c.args.at c.args.k)) (omega arith)) (omega arith)
 
-pub returns-then-k-f : goal.returns-then-k-f
-returns-then-k-f c = puts-is c.put_plain.ensures (line-alone _ c.first_nonzero-f.ensures (record { sfits = c.signed_at-d.type_inv }) (c.signed_at-d.ensures.is ∙ sym (constant c.args.s.now c.args.at c.args.k)) (omega (arith, coeffs-long c.args.s.now c.args.at c.args.k))) (omega arith)
+pub overflow_mul-first : goal.overflow_mul-first
+overflow_mul-first c = omega (arith, c.in-Some.ensures.0, coeffs-long c.args.s.now c.args.at c.args.k)
+
+pub overflow_add-at-in-Some : goal.overflow_add-at-in-Some
+overflow_add-at-in-Some c = omega (arith, c.in-Some.ensures.0, coeffs-long c.args.s.now c.args.at c.args.k)
 
 pub signed_at-c-requires : goal.signed_at-c-requires
-signed_at-c-requires c = record { fact = inr refl; width_in_bounds = omega arith }
+signed_at-c-requires c = omega (arith, c.in-Some.ensures.0, coeffs-long c.args.s.now c.args.at c.args.k)
 
 pub put_scaled-a-requires : goal.put_scaled-a-requires
-put_scaled-a-requires c = record { o_bound = omega arith; held = held_back (record { sfits = c.signed_at-c.type_inv }) c.signed_at-c.ensures.range; i_lt_constants = omega arith }
+put_scaled-a-requires c = record { o_bound = omega arith; held = held_back (record { sfits = c.signed_at-c.type_inv }) c.signed_at-c.ensures.range; i_lt_constants = omega (arith, c.in-Some.ensures.0, coeffs-long c.args.s.now c.args.at c.args.k) }
 
-pub returns : goal.returns
-returns c = puts-is (puts_then (puts_then c.put_scaled-a.ensures c.put_summands-b.ensures) c.put_constant.ensures) (line-sum _ c.first_nonzero-f.ensures (record { sfits = c.signed_at-d.type_inv }) (c.signed_at-d.ensures.is ∙ sym (constant c.args.s.now c.args.at c.args.k)) (omega (arith, coeffs-long c.args.s.now c.args.at c.args.k)) (record { sfits = c.signed_at-c.type_inv }) (c.signed_at-c.ensures.is ∙ sym (coefficient c.args.s.now c.args.at c.args.k _ (omega arith)))) (omega arith)
+pub overflow_add-first : goal.overflow_add-first
+overflow_add-first c = omega (arith, c.in-Some.ensures.0, coeffs-long c.args.s.now c.args.at c.args.k)
+
+pub put_pieces-b-requires-clause-from_le_k : goal.put_pieces-b-requires-clause-from_le_k
+put_pieces-b-requires-clause-from_le_k c = omega (arith, c.in-Some.ensures.0, coeffs-long c.args.s.now c.args.at c.args.k)
+
+pub returns-in-Some : goal.returns-in-Some
+returns-in-Some c =
+    let l : c.in-Some.first < c.args.k = omega (arith, c.in-Some.ensures.0, coeffs-long c.args.s.now c.args.at c.args.k) in
+    puts-is (puts_then (puts_then c.put_scaled-a.ensures c.put_pieces-b.ensures) c.put_constant.ensures) (line-sum _ c.in-Some.ensures.1 (record { sfits = c.signed_at-d.type_inv }) (c.signed_at-d.ensures.is ∙ sym (constant c.args.s.now c.args.at c.args.k)) c.in-Some.ensures.0 (record { sfits = c.signed_at-c.type_inv }) (c.signed_at-c.ensures.is ∙ sym (coefficient c.args.s.now c.args.at c.args.k _ l))) (omega arith)

@@ -1,8 +1,0 @@
--- `printing_formula::words::word_literal` meets its contract. Assumes nothing.
-use native.Mathlib.Omega.{arith}
-use Rattle.printing_text.proofs.PutsText.{puts_then, puts-is}
-use Rattle.printing_formula.proofs.Phrases.{said_put}
-use Rattle.printing_formula.proofs.words.word_literal.Goals as goal
-
-pub returns : goal.returns
-returns c = puts-is (puts_then c.put_sum-a.ensures c.put_said.ensures) (said_put c.args.equality _) (omega arith)

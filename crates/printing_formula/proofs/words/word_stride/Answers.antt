@@ -1,8 +1,0 @@
--- `printing_formula::words::word_stride` meets its contract. Assumes nothing.
-use native.Mathlib.Omega.{arith}
-use Rattle.printing_text.proofs.PutsText.{puts_then, puts-is}
-use Rattle.printing_formula.proofs.Phrases.{divides-put}
-use Rattle.printing_formula.proofs.words.word_stride.Goals as goal
-
-pub returns : goal.returns
-returns c = puts-is (puts_then (puts_then c.put_decimal-a.ensures c.put_text-b.ensures) c.put_sum.ensures) (divides-put _ c.ranges.g c.magnitude.ensures.0) (omega arith)
