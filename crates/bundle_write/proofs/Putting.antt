@@ -16,7 +16,6 @@ use Rattle.number_bytes.proofs.Stores.{sets-append}
 use Rattle.fields.specs.Fields.{field_bytes}
 use Rattle.fields.specs.Header.{header_bytes}
 use Rattle.fields.proofs.Framing.{length-field_bytes}
-use Rattle.number_runs.proofs.Putting.{numbers-bytes}
 use Rattle.bundle.specs.Write.{constraints_bytes}
 use Rattle.bundle.specs.Writable.{field_size}
 
@@ -71,7 +70,7 @@ module _ {e : Edition} {K : ℕ} {kinds : List ℕ} {numbers : List ℤ} {out₀
         let rest = constraints_bytes e K (drop (suc n) kinds) (drop (suc n * (K + 1)) numbers) in
         let o : suc K ≡ K + 1 = omega arith in
         let z : n + 1 ≡ suc n = omega arith in
-        let l : length f ≡ size = length-field_bytes _ _ ∙ rw (numbers-bytes e.coefficient_width numbers from (K + 1) numbers_left) in
+        let l : length f ≡ size = length-field_bytes _ _ ∙ rw (length-signeds_bytes e.coefficient_width (take (K + 1) (drop from numbers)), length-take-le (K + 1) (drop from numbers) (rw length-drop (omega (arith, numbers_left)))) in
         let d : drop (K + 1) (drop (n * (K + 1)) numbers) ≡ drop (suc n * (K + 1)) numbers = drop-drop (K + 1) (n * (K + 1)) numbers ∙ rw (suc-mul n (K + 1)) in
         let q : sets out here (constraints_bytes e K (drop n kinds) (drop (n * (K + 1)) numbers)) ≡ sets out' (here + size) rest
         = rw (drop-cons kinds n 0 h, o, d, ← v.from_is) (sets-append f rest out here ∙ rw (l, w)) in

@@ -1,2 +1,3 @@
--- Writing a bundle: the contract.
+-- Writing a bundle: the contracts.
+pub mod Ordered
 pub mod Promises

@@ -1,6 +1,6 @@
 -- Whether each number is within a range, tested one by one. Assumes nothing.
 use mathlib.Core.Path.{◌≡◌, refl, sym, ◌∙◌}
-use mathlib.Core.Bool.{Bool, true, false, cond, ◌&&◌}
+use mathlib.Core.Bool.{Bool, true, false, ◌&&◌}
 use mathlib.Core.List.{List, [], ◌∷◌}
 use Prim.Native.Nat.{ℕ, suc, ◌+◌, ◌*◌, ◌-◌, ◌^◌, ◌≤◌, ◌<◌}
 use native.Mathlib.Omega.{arith}
@@ -18,7 +18,6 @@ use Rattle.number_bytes.specs.Ranges.{InWidth}
 use Rattle.number_bytes.proofs.Signed.{all_drop, all-weaken, signeds-in}
 use Rattle.bundle.specs.Write.{holdable}
 use Rattle.bundle.proofs.Every.{every_of}
-use Rattle.number_ranges.specs.First.{first_bad}
 
 is_true : (b : Bool) → T b → true ≡ b
 is_true true t = refl
@@ -57,16 +56,6 @@ module _ {X : Type 0} (p : X → Bool) (xs : List X) (i : ℕ) (ok : Bool) {e : 
   pub all_done : length xs ≤ i → ok ≡ e
   unfolding every
   all_done h = sym (and-true ok) ∙ (rw (drop_of_length-le xs h) at v)
-
--- where each passes, there is no first that does not
-pub all-good : {X : Type 0} (p : X → Bool) (i : ℕ) (xs : List X) → every p xs ≡ true → i + length xs ≡ first_bad p i xs
-unfolding every
-all-good p i [] e = omega arith
-all-good p i (x ∷ xs) e = go (p x) e (all-good p (suc i) xs)
-  where
-    go : (b : Bool) → (b && every p xs) ≡ true → (every p xs ≡ true → suc i + length xs ≡ first_bad p (suc i) xs) → i + suc (length xs) ≡ cond b (first_bad p (suc i) xs) i
-    go true e k = omega (arith, k e)
-    go false e k = absurd (let q : ◌≡◌ {A = ℕ} 0 1 = cc in omega arith)
 
 -- ---- two bytes
 pub bytes_of : (s : List ℕ) → ((i : ℕ) → get_or s i 0 < 256) → Bytes s

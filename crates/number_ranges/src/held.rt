@@ -3,7 +3,6 @@ ghost use Rattle.std.specs.Prelude.{◌≡◌, ltb, not, position};
 ghost use Rattle.forms.specs.Forms.{every};
 ghost use Rattle.number_bytes.specs.Widths.{bytes_of};
 ghost use Rattle.bundle.specs.Write.{holdable};
-ghost use Rattle.number_ranges.specs.First.{first_bad};
 
 use number_bytes::words::Width;
 
@@ -63,19 +62,12 @@ fn held(width: Width, x: i32) -> bool
     }
 }
 
-// Where the first number stands that is not held.
-fn unheld(width: Width, numbers: &[i32]) -> Option<usize>
+// Where the first number stands that is not held. Most often each is.
+pub fn first_unheld(width: Width, numbers: &[i32]) -> Option<usize>
     ensures { result ≡ position (λ x. not (holdable (bytes_of width) x)) numbers.now }
 {
-    numbers.iter().position(|x| !held(width, *x))
-}
-
-// The index of the first number that is not held, or how many there are. Most often each is.
-pub fn first_unheld(width: Width, numbers: &[i32]) -> usize
-    ensures { result ≡ first_bad (holdable (bytes_of width)) 0 numbers.now }
-{
     if all_held(width, numbers) {
-        return numbers.len();
+        return None;
     }
-    unheld(width, numbers).unwrap_or(numbers.len())
+    numbers.iter().position(|x| !held(width, *x))
 }

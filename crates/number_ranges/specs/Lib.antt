@@ -1,2 +1,0 @@
--- Which numbers are within a range.
-pub mod First
