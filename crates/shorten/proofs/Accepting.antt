@@ -11,6 +11,9 @@ use borrow.Author.Tests.{lt-leb}
 use Rattle.forms.specs.Edition.{edition, edition1, newest_edition}
 use Rattle.forms.specs.Forms.{Formula, line_a, line_b, lines}
 use Rattle.calculus.specs.Rules.{Entry, row, claim}
+use Rattle.std.specs.Prelude.{Ok, Err}
+use Rattle.std.specs.declared.result.Result as code
+use Rattle.answers.specs.declared.refusals.Fault.{Fault}
 use Rattle.answers.specs.declared.Answer.{Answer}
 use Rattle.answers.specs.declared.WriteResult.{WriteResult}
 use Rattle.answers.specs.Answers.{file_a, file_b, file_proof, Result, refused, accepted, fit, written, Written}
@@ -105,25 +108,25 @@ module _ {A B P : List ℕ} (a : Accepted A B P) where
       let no-P : ¬ (65536 < length P) = λ h. never (sym (long-P A B P short-A short-B h) ∙ a.is) in
       record { a = short-A; b = short-B; p = omega (arith, no-P) }
 
-  module _ {r : Scanned} (s : Scans 0 A 0 r) where
-    pub scans-A : {number place : ℕ} → r ≡ Scanned.Refused number place → ⊥
+  module _ {r : code.Result Scanned Fault} (s : Scans 0 A 0 r) where
+    pub scans-A : {f : Fault} → r ≡ Err f → ⊥
     scans-A e = never (sym (unscanned-A s short e) ∙ a.is)
 
-    module _ {K : ℕ} {first : Body} {start : ℕ} (e : r ≡ Scanned.Bundle K first start) {q : Scanned} (t : Scans K B 0 q) where
-      pub scans-B : {number place : ℕ} → q ≡ Scanned.Refused number place → ⊥
+    module _ {x : Scanned} (e : r ≡ Ok x) {q : code.Result Scanned Fault} (t : Scans x.k B 0 q) where
+      pub scans-B : {f : Fault} → q ≡ Err f → ⊥
       scans-B f = never (sym (unscanned-B s e t short f) ∙ a.is)
 
-      module _ {L : ℕ} {second : Body} {place : ℕ} (f : q ≡ Scanned.Bundle L second place) {x : Headed} (h : IsHeader FileKind.Proof 2 K P x) where
-        both : Both A B first second K
+      module _ {y : Scanned} (f : q ≡ Ok y) {h : code.Result Headed Fault} (i : IsHeader FileKind.Proof 2 x.k P h) where
+        both : Both A B x.body y.body x.k
         both = scanned-both s e t f
 
-        pub reads-header : {number at : ℕ} → x ≡ Headed.Refused number at → ⊥
-        reads-header g = never (sym (unheaded short both h g) ∙ a.is)
+        pub reads-header : {d : Fault} → h ≡ Err d → ⊥
+        reads-header g = never (sym (unheaded short both i g) ∙ a.is)
 
-        pub has-begun : {n k next : ℕ} → x ≡ Headed.Header n k next → Begun A B first second P n K next
-        has-begun g = begun short both h g
+        pub has-begun : {z : Headed} → h ≡ Ok z → Begun A B x.body y.body P z.edition x.k z.next
+        has-begun g = begun short both i g
 
-        pub counts-fit : first.count + second.count ≤ 64
+        pub counts-fit : x.body.count + y.body.count ≤ 64
         counts-fit = omega (arith, both.a_few, both.b_few)
 
 -- ---- a row has four bytes at least

@@ -1,4 +1,4 @@
--- What shortening asks of the check before it. Document 02, point 12. Assumes nothing.
+-- What shortening asks of the check before it. Assumes nothing.
 use Rattle.std.specs.Prelude.{◌≡◌, List, ℕ, length}
 use Rattle.forms.specs.Edition.{newest_edition}
 use Rattle.forms.specs.Forms.{Formula}

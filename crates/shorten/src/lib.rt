@@ -1,4 +1,4 @@
-// The operation that leaves out the rows on which nothing rests: document 02, point 12.
+// The operation that leaves out the rows on which nothing rests.
 // Its definition is shortening/specs/Shorten.antt, its contract shortening/specs/Promises.antt.
 #![tactic(auto)]
 
@@ -6,13 +6,15 @@ ghost use Rattle.shortening.specs.Promises.{Shortens};
 ghost use Rattle.shorten.specs.Phases.{CheckAnswered, Accepted};
 
 use answers::Answer;
-use bundle_scan::{Scanned, scan};
+use bundle_scan::scan;
 use fields::FileKind;
-use fields::header::{Headed, read_header};
+use fields::header::read_header;
 use forms::NEWEST;
 use shortening::ShortenResult;
 use shortening_marks::ProofBody;
-use shortening_table::arrays::{BYTES_FEW, refused, shorten_any, shorten_few};
+use shortening_table::arrays::{
+    BYTES_FEW, LINES_FEW, LINES_MOST, ROWS_FEW, ROWS_MOST, refused, shorten_in,
+};
 
 // What check read once is read again: the numbers of constraints, and the proof's header.
 fn shorten_accepted(
@@ -26,49 +28,25 @@ fn shorten_accepted(
     requires { Accepted a.now b.now proof.now }
     ensures { Shortens a.now b.now proof.now report.old table.old report.new table.new result }
 {
-    match scan(a, 0, 0) {
-        Scanned::Bundle {
-            k,
-            body: first,
-            start: _,
-        } => match scan(b, k, 0) {
-            Scanned::Bundle {
-                k: _,
-                body: second,
-                start: _,
-            } => match read_header(proof, FileKind::Proof, NEWEST, k) {
-                Headed::Header {
-                    edition,
-                    k: _,
-                    next,
-                } => {
-                    let constraints = (first.count + second.count) as u16;
-                    let body = ProofBody {
-                        at: next,
-                        edition,
-                        k,
-                        constraints,
-                    };
-                    if proof.len() <= BYTES_FEW {
-                        return shorten_few(proof, body, report, table);
-                    }
-                    shorten_any(proof, body, report, table)
-                }
-                Headed::Refused {
-                    number: _,
-                    place: _,
-                } => refused(answer),
-            },
-            Scanned::Refused {
-                number: _,
-                place: _,
-            } => refused(answer),
-        },
-        Scanned::Refused {
-            number: _,
-            place: _,
-        } => refused(answer),
+    let Ok(first) = scan(a, 0, 0) else {
+        return refused(answer);
+    };
+    let Ok(second) = scan(b, first.k, 0) else {
+        return refused(answer);
+    };
+    let Ok(head) = read_header(proof, FileKind::Proof, NEWEST, first.k) else {
+        return refused(answer);
+    };
+    let body = ProofBody {
+        at: head.next,
+        edition: head.edition,
+        k: first.k,
+        constraints: (first.body.count + second.body.count) as u16,
+    };
+    if proof.len() <= BYTES_FEW {
+        return shorten_in::<ROWS_FEW, LINES_FEW>(proof, body, report, table);
     }
+    shorten_in::<ROWS_MOST, LINES_MOST>(proof, body, report, table)
 }
 
 // The report on the rows of a proof, and the table without those that nothing rests on. `checked` is what a check with an output
