@@ -3,119 +3,128 @@
 #![tactic(auto)]
 
 ghost use Rattle.std.specs.Prelude.{◌≡◌, true, false, ◌*◌, ◌≤◌, length};
+ghost use Rattle.forms.specs.Edition.{edition1};
+ghost use Rattle.answers.specs.Refusals.{number_of};
 ghost use Rattle.printing_formula.specs.Printing.{Place};
 ghost use Rattle.printing.specs.Promises.{PrintsFile};
-ghost use Rattle.print.specs.Phases.{Sized, WritesText, PrintsBehind, refused_write};
+ghost use Rattle.print.specs.Phases.{Sized, ReadsWhole, Measures, WritesText, PrintsBehind, Prints, refused_write};
 
+use answers::refusals::{Fault, Refusal};
 use answers::{WriteResult, acceptance, refusal};
 use fields::FileKind;
-use fields::ending::{Ending, ending_at};
-use fields::header::{Headed, read_header};
+use fields::ending::ending_at;
+use fields::header::read_header;
 use forms::{FORMULA_BYTES, LEVELS};
-use printing_formula::once::{Reached, whole_at};
-use printing_formula::reading::{Progress, formula_at};
+use printing_formula::language::Language;
+use printing_formula::once::whole_at;
+use printing_formula::reading::formula_at;
+use printing_formula::terms::SmtLib;
+use printing_formula::words::PlainWords;
 
-fn refuse(number: u8, file: u8, place: usize) -> WriteResult
-    ensures { result ≡ refused_write number file place }
+fn refuse(refused: Refusal, file: u8, place: usize) -> WriteResult
+    ensures { result ≡ refused_write (number_of refused) file place }
 {
     WriteResult {
-        answer: refusal(number, file, place),
+        answer: refusal(refused, file, place),
         count: 0,
     }
 }
 
+// The formula behind the header is read up to the end of its file.
+fn read_whole(formula: &[u8], at: usize, k: usize) -> Result<(), Fault>
+    requires { k ≤ edition1.constants }
+    ensures { ReadsWhole formula.now at k result }
+{
+    let next = whole_at(formula, at, k, LEVELS)?;
+    ending_at(formula, next, FileKind::Formula)
+}
+
+// The same, and how many bytes its text has: what a byte does not hold is left out.
+fn measure<L: Language>(formula: &[u8], at: usize, k: usize) -> Result<usize, Fault>
+    requires { Place formula.now at k 0 }
+    ensures { Measures L.wording formula.now at k result }
+{
+    let mut scratch = [0u8; 1];
+    let text = formula_at::<L>(formula, at, k, LEVELS, false, &mut scratch, 0)?;
+    ending_at(formula, text.next, FileKind::Formula)?;
+    Ok(text.end)
+}
+
 // The text, of so many bytes, of a formula that is read whole.
-fn put_whole(
+fn put_whole<L: Language>(
     formula: &[u8],
     at: usize,
     k: usize,
     size: usize,
-    wording: bool,
     out: &mut [u8],
 ) -> WriteResult
     requires place { Place formula.now at k 0 }
-    requires sized { Sized wording formula.now at k size }
-    ensures { WritesText wording formula.now at k out.old out.new result }
+    requires sized { Sized L.wording formula.now at k size }
+    ensures { WritesText L.wording formula.now at k out.old out.new result }
 {
     if out.len() < size {
-        return refuse(21, 4, size);
+        return refuse(Refusal::OutputTooShort, 4, size);
     }
-    formula_at(formula, at, k, LEVELS, wording, false, out, 0);
+    let _text = formula_at::<L>(formula, at, k, LEVELS, false, out, 0);
     WriteResult {
         answer: acceptance(),
         count: size,
     }
 }
 
-// The formula behind the header is read whole, and its text measured, before anything is put: what a byte does not hold is left out.
-fn print_measured(formula: &[u8], at: usize, k: usize, wording: bool, out: &mut [u8]) -> WriteResult
-    requires { Place formula.now at k 0 }
-    ensures { PrintsBehind wording formula.now at k out.old out.new result }
-{
-    let mut scratch = [0u8; 1];
-    match formula_at(formula, at, k, LEVELS, wording, false, &mut scratch, 0) {
-        Progress::Fault { number, at: place } => refuse(number, 3, place),
-        Progress::Text { next, end } => match ending_at(formula, next, FileKind::Formula) {
-            Ending::Fault { number, at: place } => refuse(number, 3, place),
-            Ending::Ended => put_whole(formula, at, k, end, wording, out),
-        },
-    }
-}
-
 // The text of a formula that is read whole, into an output that holds the text of any file so long.
-fn put_surely(formula: &[u8], at: usize, k: usize, wording: bool, out: &mut [u8]) -> WriteResult
+fn put_surely<L: Language>(formula: &[u8], at: usize, k: usize, out: &mut [u8]) -> WriteResult
     requires place { Place formula.now at k 0 }
     requires formula_in_bounds { 6 * length formula.now ≤ length out.old }
-    ensures { WritesText wording formula.now at k out.old out.new result }
+    ensures { WritesText L.wording formula.now at k out.old out.new result }
 {
-    match formula_at(formula, at, k, LEVELS, wording, false, out, 0) {
-        Progress::Fault { number, at: place } => refuse(number, 3, place),
-        Progress::Text { next: _, end } => WriteResult {
+    match formula_at::<L>(formula, at, k, LEVELS, false, out, 0) {
+        Ok(text) => WriteResult {
             answer: acceptance(),
-            count: end,
+            count: text.end,
         },
+        Err(fault) => refuse(fault.refusal, 3, fault.place),
     }
 }
 
-// The formula behind the header is read whole before anything is put; its text needs no measuring.
-fn print_surely(formula: &[u8], at: usize, k: usize, wording: bool, out: &mut [u8]) -> WriteResult
-    requires place { Place formula.now at k 0 }
-    requires formula_in_bounds { 6 * length formula.now ≤ length out.old }
-    ensures { PrintsBehind wording formula.now at k out.old out.new result }
-{
-    match whole_at(formula, at, k, LEVELS) {
-        Reached::Fault { number, at: place } => refuse(number, 3, place),
-        Reached::Whole { next } => match ending_at(formula, next, FileKind::Formula) {
-            Ending::Fault { number, at: place } => refuse(number, 3, place),
-            Ending::Ended => put_surely(formula, at, k, wording, out),
-        },
-    }
-}
-
-// A formula's text has at most 6 bytes for each byte of its file.
-fn print_from(formula: &[u8], at: usize, k: usize, wording: bool, out: &mut [u8]) -> WriteResult
+// The formula behind the header is read whole before anything is put. A formula's text has at most 6 bytes for each byte of its
+// file: an output so long needs no measuring.
+fn print_from<L: Language>(
+    formula: &[u8],
+    at: usize,
+    k: usize,
+    out: &mut [u8],
+) -> Result<WriteResult, Fault>
     requires { Place formula.now at k 0 }
-    ensures { PrintsBehind wording formula.now at k out.old out.new result }
+    ensures { PrintsBehind L.wording formula.now at k out.old out.new result }
 {
     if 6 * formula.len() <= out.len() {
-        return print_surely(formula, at, k, wording, out);
+        read_whole(formula, at, k)?;
+        return Ok(put_surely::<L>(formula, at, k, out));
     }
-    print_measured(formula, at, k, wording, out)
+    let size = measure::<L>(formula, at, k)?;
+    Ok(put_whole::<L>(formula, at, k, size, out))
 }
 
-fn print_as(formula: &[u8], wording: bool, out: &mut [u8]) -> WriteResult
-    ensures { PrintsFile wording formula.now out.old out.new result }
+fn print_file<L: Language>(formula: &[u8], out: &mut [u8]) -> Result<WriteResult, Fault>
+    ensures { Prints L.wording formula.now out.old out.new result }
 {
     if FORMULA_BYTES < formula.len() {
-        return refuse(1, 3, 0);
+        return Err(Fault {
+            refusal: Refusal::TooLong,
+            place: 0,
+        });
     }
-    match read_header(formula, FileKind::Formula, 1, 0) {
-        Headed::Refused { number, place } => refuse(number, 3, place),
-        Headed::Header {
-            edition: _,
-            k,
-            next,
-        } => print_from(formula, next, k as usize, wording, out),
+    let head = read_header(formula, FileKind::Formula, 1, 0)?;
+    print_from::<L>(formula, head.next, head.k as usize, out)
+}
+
+fn print_as<L: Language>(formula: &[u8], out: &mut [u8]) -> WriteResult
+    ensures { PrintsFile L.wording formula.now out.old out.new result }
+{
+    match print_file::<L>(formula, out) {
+        Ok(written) => written,
+        Err(fault) => refuse(fault.refusal, 3, fault.place),
     }
 }
 
@@ -123,12 +132,12 @@ fn print_as(formula: &[u8], wording: bool, out: &mut [u8]) -> WriteResult
 pub fn print(formula: &[u8], out: &mut [u8]) -> WriteResult
     ensures { PrintsFile false formula.now out.old out.new result }
 {
-    print_as(formula, false, out)
+    print_as::<SmtLib>(formula, out)
 }
 
 // The same in words.
 pub fn print_words(formula: &[u8], out: &mut [u8]) -> WriteResult
     ensures { PrintsFile true formula.now out.old out.new result }
 {
-    print_as(formula, true, out)
+    print_as::<PlainWords>(formula, out)
 }
