@@ -8,7 +8,7 @@ use native.Mathlib.Nat.{suc-mul, mul-le-mul_right, eq-zero-or-pos}
 use native.Mathlib.Numerals.{add-one}
 use native.Mathlib.Omega.{arith}
 use lib.Dec.{T, leb→le}
-use borrow.Author.Tests.{ltb-false, eqb-true, eq-eqb, ne_eqb}
+use borrow.Author.Tests.{ltb-false, eqb-true}
 use lib.IntN.{ℤ, pos, ◌*ℤ◌, zero-*ℤ}
 use lib.ListN.{length, get_or, take, drop, set, replicate, length-replicate, get_or-replicate, length-append, length-drop, length-map, length-set}
 use borrow.Rule.Slice.PartMut.{put_mid, same_len_mid}
@@ -188,7 +188,7 @@ module _ (K : ℕ) (kinds : List ℕ) (buf : List ℤ) (n : ℕ) (kind : ℕ) (z
       (λ (l : x < n * size K). rw (agree-get_d kept x (pos 0) l) (b.small x l))
       (le-or-lt (n * size K) x)
 
-  pub line-loaded : {κ : LineKind} → line_kind_of kind ≡ κ → (t t_A : Form) → length t.coeffs ≡ K → length t_A.coeffs ≡ K → flat t ≡ zs → flat t_A ≡ za
+  line-loaded : {κ : LineKind} → line_kind_of kind ≡ κ → (t t_A : Form) → length t.coeffs ≡ K → length t_A.coeffs ≡ K → flat t ≡ zs → flat t_A ≡ za
       → Loaded K kinds buf n (record { kind = κ; t = t; t_A = t_A } ∷ []) (set kinds n kind) buf₂
   unfolding line_in
   line-loaded {κ} named t t_A ct cA ft fA =
@@ -203,17 +203,6 @@ module _ (K : ℕ) (kinds : List ℕ) (buf : List ℤ) (n : ℕ) (kind : ℕ) (z
         kinds_length = length-set kinds n kind;
         lines_length = len₂;
       }
-
--- The byte of a line's kind, by its constraint's.
-module _ {in_a : Bool} {kind : ℕ} where
-  pub byte-A : in_a ≡ true → kind ≡ line_byte in_a kind
-  byte-A e = rw e
-
-  pub byte-apart-B : in_a ≡ false → kind ≡ 2 → 3 ≡ line_byte in_a kind
-  byte-apart-B e h = rw (e, eq-eqb kind 2 h)
-
-  pub byte-B : in_a ≡ false → (kind ≡ 2 → ⊥) → kind ≡ line_byte in_a kind
-  byte-B e h = rw (e, ne_eqb kind 2 h)
 
 line-named : (in_a : Bool) (kind : ℕ) → kind ≤ 2 → line_kind_of (line_byte in_a kind) ≡ kind_on (side_of in_a) (constraint_kind_of kind)
 line-named true kind h = kind-in-A kind h

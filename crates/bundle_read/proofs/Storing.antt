@@ -1,8 +1,8 @@
 -- Storing constraints: one turn of each loop, as laws over plain values. Assumes nothing.
-use mathlib.Core.Path.{◌≡◌, refl, sym, ap, ◌∙◌}
+use mathlib.Core.Path.{◌≡◌, sym, ap, ◌∙◌}
 use mathlib.Core.List.{List, ◌++◌}
 use Prim.Native.Nat.{ℕ, suc, ◌+◌, ◌*◌, ◌-◌, ◌≤◌, ◌<◌}
-use native.Mathlib.Nat.{suc-mul, zero-mul, mul-le-mul_right}
+use native.Mathlib.Nat.{suc-mul, mul-le-mul_right}
 use native.Mathlib.Omega.{arith}
 use lib.IntN.{ℤ}
 use lib.ListN.{length, get_or, drop, set, length-set}
@@ -26,9 +26,6 @@ pub record Storing (s : List ℕ) (at w K count : ℕ) (kinds₀ : List ℕ) (nu
   pub numbers-is : sets numbers (n * suc K) (numbers_of (stated w K (fields_at s here))) ≡ sets numbers₀ 0 (numbers_of (stated w K (fields_at s at)))
   pub kinds-long : length kinds ≡ length kinds₀
   pub numbers-long : length numbers ≡ length numbers₀
-
-pub storing-start : {s : List ℕ} {at w K count : ℕ} {kinds : List ℕ} {numbers : List ℤ} → Storable w K 0 count (fields_at s at) kinds numbers → Storing s at w K count kinds numbers kinds numbers at 0
-storing-start {K} a = record { able = a; kinds-is = refl; numbers-is = rw (zero-mul (suc K)); kinds-long = refl; numbers-long = refl }
 
 -- what a turn needs: the field is a constraint, and its kind and numbers have room
 pub record StoreTurn (s : List ℕ) (w K n count tag start len next : ℕ) (kinds : List ℕ) (numbers : List ℤ) : Type 0 where

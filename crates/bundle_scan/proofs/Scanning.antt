@@ -97,9 +97,6 @@ module _ {s : List ℕ} {at a t start len next : ℕ} (k : Starts s at a t start
   pub sized-less : length s - (start + (K + 1) * w) < length s - at
   sized-less = omega (arith, sized-next, starts-less k)
 
-pub counted-room : (w K n tag : ℕ) (contents : List ℕ) → Ok tt ≡ fault_of w K n tag contents → n < 32
-counted-room w K n tag contents f = ltb-true n 32 (proper-of w K n tag contents (sym f)).room
-
 -- ---- the constraint that is wanted
 -- Of all the fields n are gone over and fs are left; the place kept is that of field `wanted`, 0 as long as it is not gone over.
 pub record Seeking (all : Fields) (wanted n found : ℕ) (fs : Fields) : Type 0 where

@@ -50,15 +50,10 @@ module _ {e : Edition} {K : ℕ} {kinds : List ℕ} {numbers : List ℤ} {out₀
   putting-done h = rw (drop_of_length-le kinds h) at v.is
 
   module _ (h : n < length kinds) where
-    pub numbers_left : from + (K + 1) ≤ length numbers
+    numbers_left : from + (K + 1) ≤ length numbers
     numbers_left =
         let e : suc K ≡ K + 1 = omega arith in
         omega (arith, mul-le-mul_right {m = suc n} {n = length kinds} (K + 1) h, suc-mul n (K + 1), rw e at v.size, v.from_is)
-
-    pub out-left : here + field_size e.coefficient_width K ≤ length out
-    out-left =
-        let s = field_size e.coefficient_width K in
-        omega (arith, mul-le-mul_right {m = suc n} {n = length kinds} s h, suc-mul n s, v.fits, v.long, v.here-is)
 
     pub putting-next : {out' : List ℕ}
         → out' ≡ sets out here (field_bytes (3 + get_or kinds n 0) (signeds_bytes e.coefficient_width (take (K + 1) (drop from numbers))))

@@ -5,11 +5,10 @@ use mathlib.Core.List.{List, [], ◌∷◌, ◌++◌}
 use Prim.Native.Nat.{ℕ, suc, ◌+◌, ◌*◌, ◌≤◌, ◌<◌}
 use native.Mathlib.Numerals.{add-one}
 use native.Mathlib.Omega.{arith}
-use lib.Dec.{leb, leb→le}
+use lib.Dec.{leb}
 use lib.IntN.{ℤ}
 use lib.ListN.{length}
 use lib.Seq.{sets}
-use mir.Facts.{and_yes}
 use borrow.Author.Tests.{le-leb, lt-leb, eq-eqb, ne_eqb}
 use Rattle.forms.specs.Edition.{edition}
 use Rattle.std.specs.List.{position, position_from}
@@ -76,9 +75,6 @@ beyond {b} n e f = go b (sym e ∙ f)
     go : (b : Bool) → cond b (Some n) None ≡ None → b ≡ false
     go true q = absurd (let z : ◌≡◌ {A = ℕ} 0 1 = cc in omega arith)
     go false q = refl
-
-pub up-to-most : (n most : ℕ) → (leb 1 n && leb n most) ≡ true → n ≤ most
-up-to-most n most f = leb→le n most (and_yes (leb 1 n) (leb n most) (rw f tt)).1
 
 module _ (newest n K : ℕ) (kinds : List ℕ) (numbers : List ℤ) where
   abbrev encoded : Result (List ℕ)

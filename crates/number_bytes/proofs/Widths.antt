@@ -12,18 +12,6 @@ use Rattle.number_bytes.specs.declared.words.Width.TheVariants.{Two, Four}
 use Rattle.number_bytes.specs.Ranges.{Held}
 use Rattle.number_bytes.specs.Widths.{bytes_of}
 
-pub width-most : {w : ℕ} → (w ≡ 2) ⊎ (w ≡ 4) → w ≤ 4
-width-most (inl e) = omega arith
-width-most (inr e) = omega arith
-
-pub width_four : {w : ℕ} → (w ≡ 2) ⊎ (w ≡ 4) → (w ≡ 2 → ⊥) → w ≡ 4
-width_four (inl e) h = absurd (h e)
-width_four (inr e) h = e
-
-pub bytes-most : (w : Width) → bytes_of w ≤ 4
-bytes-most Two = omega arith
-bytes-most Four = omega arith
-
 pub one_more : (k w : ℕ) → (k + 1) * w ≡ suc k * w
 one_more k w = let e : k + 1 ≡ suc k = omega arith in ap (λ (x : ℕ). x * w) e
 
