@@ -5,19 +5,21 @@
 pub mod values;
 
 ghost use Rattle.std.specs.Prelude.{◌≡◌};
+ghost use Rattle.answers.specs.Refusals.{number_of};
 ghost use Rattle.fields.specs.Fields.{fields};
 ghost use Rattle.formula.specs.Formula.{read_formula};
 ghost use Rattle.formula.specs.Test.{judged};
 ghost use Rattle.form_value.specs.Registers.{Registers};
 ghost use Rattle.formula_test.specs.Promises.{as_tested, Tests};
-ghost use Rattle.formula_test.specs.Outcomes.{test_refused, Finish};
+ghost use Rattle.formula_test.specs.Outcomes.{test_refused, given};
 
-use answers::{Answer, acceptance, refusal};
+use answers::refusals::{Fault, Refusal};
+use answers::{Answer, acceptance};
 use fields::FileKind;
-use fields::ending::{Ending, ending_at};
-use fields::header::{Headed, read_header};
+use fields::ending::ending_at;
+use fields::header::read_header;
 use forms::{CONSTANTS, FORMULA_BYTES, LEVELS};
-use formula_read::reading::{Judged, formula_at};
+use formula_read::reading::formula_at;
 use values::first_outside;
 
 // What testing gives: the answer, and whether the formula holds (false where it is refused).
@@ -28,44 +30,24 @@ pub struct Tested {
     pub holds: bool,
 }
 
-fn refuse(number: u8, file: u8, place: usize) -> Tested
-    ensures { result ≡ test_refused number file place }
+fn refuse(refusal: Refusal, file: u8, place: usize) -> Tested
+    ensures { result ≡ test_refused (number_of refusal) file place }
 {
     Tested {
-        answer: refusal(number, file, place),
+        answer: answers::refusal(refusal, file, place),
         holds: false,
     }
 }
 
-// The formula ends at a place; nothing may follow.
-fn finish(formula: &[u8], at: usize, holds: bool) -> Tested
-    ensures { Finish formula.now at holds result }
-{
-    match ending_at(formula, at, FileKind::Formula) {
-        Ending::Ended => Tested {
-            answer: acceptance(),
-            holds,
-        },
-        Ending::Fault { number, at: place } => refuse(number, 3, place),
-    }
-}
-
-// The formula is read whole before its truth is given.
-fn read_whole(formula: &[u8], values: &[i32], k: usize) -> Tested
+// The formula is read whole, with nothing but notes behind it, before its truth is given.
+fn read_whole(formula: &[u8], values: &[i32], k: usize) -> Result<bool, Fault>
     requires { Registers values.now k }
-    ensures { result ≡ as_tested (judged values.now (read_formula k (fields formula.now))) }
+    ensures { given result ≡ as_tested (judged values.now (read_formula k (fields formula.now))) }
 {
-    match read_header(formula, FileKind::Formula, 1, k as u8) {
-        Headed::Refused { number, place } => refuse(number, 3, place),
-        Headed::Header {
-            edition: _,
-            k: _,
-            next,
-        } => match formula_at(formula, next, values, k, LEVELS) {
-            Judged::Fault { number, at } => refuse(number, 3, at),
-            Judged::Value { holds, next: end } => finish(formula, end, holds),
-        },
-    }
+    let header = read_header(formula, FileKind::Formula, 1, k as u8)?;
+    let read = formula_at(formula, header.next, values, k, LEVELS)?;
+    ending_at(formula, read.next, FileKind::Formula)?;
+    Ok(read.holds)
 }
 
 // The most values, one for each constant.
@@ -76,18 +58,20 @@ pub fn test(formula: &[u8], values: &[i32]) -> Tested
     ensures { Tests formula.now values.now result }
 {
     let k = values.len();
-    if k < 1 {
-        return refuse(7, 4, 0);
+    if k < 1 || MOST < k {
+        return refuse(Refusal::WrongConstants, 4, 0);
     }
-    if MOST < k {
-        return refuse(7, 4, 0);
-    }
-    let i = first_outside(values);
-    if i < k {
-        return refuse(23, 4, i);
+    if let Some(i) = first_outside(values) {
+        return refuse(Refusal::ValueOutOfRange, 4, i);
     }
     if FORMULA_BYTES < formula.len() {
-        return refuse(1, 3, 0);
+        return refuse(Refusal::TooLong, 3, 0);
     }
-    read_whole(formula, values, k)
+    match read_whole(formula, values, k) {
+        Ok(holds) => Tested {
+            answer: acceptance(),
+            holds,
+        },
+        Err(fault) => refuse(fault.refusal, 3, fault.place),
+    }
 }

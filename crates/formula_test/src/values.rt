@@ -1,29 +1,22 @@
 // Register values: the first that is out of range.
-ghost use Rattle.std.specs.Prelude.{◌≡◌, leb, nat_abs};
-ghost use Rattle.forms.specs.Edition.{edition1};
-ghost use Rattle.formula_test.specs.Values.{FirstOutside};
+ghost use Rattle.std.specs.Prelude.{◌≡◌};
+ghost use Rattle.formula_test.specs.Values.{permitted, FirstOutside};
 
 use forms::VALUES;
-use integers::number;
 
-const LEAST: i64 = -VALUES;
+const MOST: i32 = VALUES as i32;
+
+const LEAST: i32 = -MOST;
 
 // Whether x is in the range of register values.
-fn in_range(x: i64) -> bool
-    ensures { result ≡ leb (nat_abs x) edition1.values }
+pub fn is_permitted(x: i32) -> bool
+    ensures { result ≡ permitted x }
 {
-    x <= VALUES && LEAST <= x
+    x <= MOST && LEAST <= x
 }
 
-pub fn first_outside(values: &[i32]) -> usize
+pub fn first_outside(values: &[i32]) -> Option<usize>
     ensures { FirstOutside values.now result }
 {
-    let mut i = 0;
-    while i < values.len() {
-        if !in_range(number(values, i)) {
-            return i;
-        }
-        i += 1;
-    }
-    i
+    values.iter().position(|x| !is_permitted(*x))
 }
