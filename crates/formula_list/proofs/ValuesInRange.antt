@@ -6,12 +6,12 @@ use Prim.Native.Nat.{ℕ, zero, suc}
 use native.Mathlib.Omega.{arith}
 use lib.Dec.{T, leb→le}
 use lib.IntN.{ℤ, pos, nat_abs}
-use lib.ListN.{length, get_or}
+use lib.ListN.{get_or}
 use Rattle.integers.specs.Magnitude.{Within}
 use Rattle.forms.specs.Forms.{All, nil, cons, every}
 use Rattle.answers.proofs.Results.{each-accepted}
-use Rattle.formula_test.specs.Values.{ranged, FirstOutside}
-use Rattle.formula_list.specs.Phases.{permitted}
+use Rattle.std.specs.Prelude.{None}
+use Rattle.formula_test.specs.Values.{permitted, ranged, FirstOutside}
 
 each-permitted : (values : List ℤ) → every permitted values ≡ true → All (λ z. T (permitted z)) values
 unfolding every
@@ -27,12 +27,8 @@ within-at nil i = record { abs = omega arith }
 within-at (cons {x = z} h hs) zero = record { abs = leb→le (nat_abs z) 1_000_000 h }
 within-at (cons h hs) (suc i) = within-at hs i
 
-pub none-outside : {values : List ℤ} {r : Bool} → r ≡ every permitted values → r ≡ true → FirstOutside values (length values)
+pub none-outside : {values : List ℤ} {r : Bool} → r ≡ every permitted values → r ≡ true → FirstOutside values None
 unfolding ranged
 none-outside {values} e t =
     let a = each-permitted values (sym e ∙ t) in
-    record {
-      upto = omega arith;
-      outside = λ h. absurd (omega arith);
-      within = λ _. (each-accepted _ _ 0 a, record { at = within-at a });
-    }
+    record { is = (each-accepted _ _ 0 a, record { at = within-at a }) }

@@ -1,47 +1,27 @@
 // The first value of a list that is out of range. Whether there is one is told first, by a loop that tests every value, in the width of a value: the
 // compiler then tests several at once.
-ghost use Rattle.std.specs.Prelude.{◌≡◌, ◌<◌, pos, length, get_or};
+ghost use Rattle.std.specs.Prelude.{◌≡◌};
 ghost use Rattle.forms.specs.Forms.{every};
-ghost use Rattle.formula_test.specs.Values.{FirstOutside};
-ghost use Rattle.formula_list.specs.Phases.{permitted};
+ghost use Rattle.formula_test.specs.Values.{permitted, FirstOutside};
 
-use forms::VALUES;
-use formula_test::values::first_outside;
+use formula_test::values::{first_outside, is_permitted};
 
-const MOST: i32 = VALUES as i32;
-
-const LEAST: i32 = -MOST;
-
-fn is_permitted(x: i32) -> bool
-    ensures { result ≡ permitted x }
-{
-    x <= MOST && LEAST <= x
-}
-
-fn permitted_at(values: &[i32], i: usize) -> bool
-    requires { i < length values.now }
-    ensures { result ≡ permitted (get_or values.now i (pos 0)) }
-{
-    is_permitted(values[i])
-}
-
+// (`all` stops at the first that is out of range, and `fold` with `&` says no more than this loop.)
 fn all_permitted(values: &[i32]) -> bool
     ensures { result ≡ every permitted values.now }
 {
     let mut ok = true;
-    let mut i = 0;
-    while i < values.len() {
-        ok = ok & permitted_at(values, i);
-        i += 1;
+    for x in values {
+        ok &= is_permitted(*x);
     }
     ok
 }
 
-pub fn outside_at(values: &[i32]) -> usize
+pub fn outside_at(values: &[i32]) -> Option<usize>
     ensures { FirstOutside values.now result }
 {
     if all_permitted(values) {
-        return values.len();
+        return None;
     }
     first_outside(values)
 }
