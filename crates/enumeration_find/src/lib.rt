@@ -44,7 +44,7 @@ pub fn find(
     if table.len() == 8 {
         return Ok(first_from(lines, kinds, n, k as usize, 0));
     }
-    after_table(lines, kinds, n, k as usize, table)
+    after_table(lines, kinds, n, k as usize, &table[8..])
 }
 
 // 32, 33, 21.

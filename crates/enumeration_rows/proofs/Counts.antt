@@ -1,21 +1,11 @@
 -- Rows by number: how many, and their bytes. Assumes nothing.
 use mathlib.Core.Path.{◌≡◌}
-use Prim.Native.Nat.{ℕ, ◌*◌, ◌≤◌, ◌<◌}
+use Prim.Native.Nat.{ℕ, ◌*◌, ◌≤◌}
 use native.Mathlib.Nat.{mul_assoc, mul-le-mul}
 use native.Mathlib.Omega.{arith}
-use Rattle.enumeration.specs.Numbering.{inference_count}
 
 pub eights : (n : ℕ) → 8 * n * n ≡ 2 * (4 * n * n)
 eights n = omega (arith, mul_assoc 8 n n, mul_assoc 4 n n)
 
 pub square : (n : ℕ) → n ≤ 6 → 4 * n * n ≤ 144
 square n h = let p : 4 * n ≤ 24 = omega arith in mul-le-mul p h
-
-pub below-scales : (n j : ℕ) → n ≤ 6 → j < inference_count n → j < 301
-below-scales n j h l = omega (arith, eights n, square n h)
-
-pub five-square : (n : ℕ) → n ≤ 5 → 4 * n * n ≤ 100
-five-square n h = let p : 4 * n ≤ 20 = omega arith in mul-le-mul p h
-
-pub below-five : (n j : ℕ) → n ≤ 5 → j < inference_count n → j < 211
-below-five n j h l = omega (arith, eights n, five-square n h)

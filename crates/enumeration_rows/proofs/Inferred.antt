@@ -2,7 +2,7 @@
 use mathlib.Core.Path.{◌≡◌, refl, sym, ◌∙◌, ap, subst}
 use mathlib.Core.Bool.{Bool}
 use mathlib.Core.List.{List}
-use Prim.Native.Nat.{ℕ, suc, ◌+◌, ◌≤◌}
+use Prim.Native.Nat.{ℕ, suc, ◌+◌}
 use native.Mathlib.Omega.{arith}
 use lib.IntN.{ℤ}
 use Rattle.forms.specs.Edition.{edition1}
@@ -33,9 +33,6 @@ use Rattle.closes.specs.Closing.{Test}
 use Rattle.enumeration_rows.specs.Applied.{SearchRoom, CloseHolds}
 
 -- ---- the buffers
-pub roomy-less : {K d e : ℕ} {kinds : List ℕ} {buf : List ℤ} {t : Tally} → e ≤ d → SearchRoom K d kinds buf t → SearchRoom K e kinds buf t
-roomy-less h r = record { constants = r.constants; room = r.room; kinds_room = r.kinds_room; bounded = r.bounded; few = omega (arith, r.few); first_edition = r.first_edition }
-
 pub roomy-kept : {K d : ℕ} {kinds : List ℕ} {buf : List ℤ} {kinds' : List ℕ} {buf' : List ℤ} {t : Tally} → SearchRoom K d kinds buf t → LinesKept K t.lines.0 kinds buf kinds' buf' → SearchRoom K d kinds' buf' t
 roomy-kept r k = record {
   constants = r.constants;

@@ -2,11 +2,11 @@
 use mathlib.Core.Path.{◌≡◌, refl, sym, ◌∙◌, ap, subst}
 use mathlib.Core.Bool.{Bool, true, false, ◌&&◌}
 use mathlib.Core.List.{List, [], ◌∷◌}
-use Prim.Native.Nat.{ℕ, ◌-◌, ◌≤◌, ◌<◌}
+use Prim.Native.Nat.{ℕ, ◌≤◌, ◌<◌}
 use native.Mathlib.Omega.{arith}
 use lib.Dec.{T, eqb}
-use lib.ListN.{length, take, drop, length-drop}
-use lib.Seq.{sets, take_at, take_all}
+use lib.ListN.{length, take}
+use lib.Seq.{sets, take_at}
 use mir.Facts.{and_yes}
 use Rattle.std.specs.Prelude.{None}
 use Rattle.std.specs.List.{starts_with}
@@ -75,10 +75,6 @@ module _ {n : ℕ} {s : List ℕ} (few : n ≤ 6) where
   }
 
 -- ---- a row in an array
--- `&s[at..]`
-pub rest-whole : (s : List ℕ) (at : ℕ) → take (length s - at) (drop at s) ≡ drop at s
-rest-whole s at = take_all (length s - at) (drop at s) (omega (arith, length-drop at s))
-
 pub row-stored : (row : List ℕ) {row' : List ℕ} (bytes : List ℕ) {size : ℕ} → row' ≡ sets row 0 bytes → length bytes ≤ length row → size ≡ length bytes → take size row' ≡ bytes
 unfolding over
 row-stored row bytes e h q = rw (e, sets_over bytes row h) (take_at bytes _ _ (sym q))

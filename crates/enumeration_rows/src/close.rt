@@ -1,5 +1,5 @@
 // The closes, one after the other: the first that holds, and the one after that which a table ends with.
-ghost use Rattle.std.specs.Prelude.{◌≤◌, Ok, length, drop};
+ghost use Rattle.std.specs.Prelude.{Ok};
 ghost use Rattle.enumeration.specs.Sequence.{proofs_of};
 ghost use Rattle.enumeration.specs.Search.{first_found, next_found, proofs_from};
 ghost use Rattle.lines.specs.Buffer.{lines_in};
@@ -20,20 +20,18 @@ pub fn seek_close(lines: &[i32], kinds: &[u8], n: usize, k: usize, from: usize) 
     Some(Rows::One { c })
 }
 
-// The close after the one that the table ends with.
+// The close after the one that the rest of the table is.
 pub fn after_close(
     lines: &[i32],
     kinds: &[u8],
     n: usize,
     k: usize,
-    table: &[u8],
-    at: usize,
+    rest: &[u8],
 ) -> Result<Option<Rows>, NotAmong>
-    requires search_room { SearchRoom k 0 kinds.now lines.now (tally_of n) }
-    requires at_in_bounds { at ≤ length table.now }
-    ensures { Finds k n 0 (next_found (drop at table.now) (proofs_of 0 (lines_in k kinds.now lines.now n))) kinds.now lines.now kinds.now lines.now result }
+    requires { SearchRoom k 0 kinds.now lines.now (tally_of n) }
+    ensures { Finds k n 0 (next_found rest.now (proofs_of 0 (lines_in k kinds.now lines.now n))) kinds.now lines.now kinds.now lines.now result }
 {
-    let Some(c) = close_at(table, at, n) else {
+    let Some(c) = close_at(rest, n) else {
         return Err(NotAmong);
     };
     if !holds(lines, kinds, n, c, k) {

@@ -1,5 +1,5 @@
-// The number of the row that stands at a place of a table.
-ghost use Rattle.std.specs.Prelude.{◌≡◌, ◌+◌, ◌*◌, ◌%◌, ◌≤◌, ◌<◌, length, get_or, drop};
+// The number of the row that the rest of a table begins with.
+ghost use Rattle.std.specs.Prelude.{◌≡◌, ◌+◌, ◌*◌, ◌%◌, ◌≤◌, ◌<◌, length, get_or};
 ghost use Rattle.enumeration.specs.Numbering.{inference_count, close_count, factor_number, inference_bytes, close_bytes, inference_guess, close_guess, begins};
 ghost use Rattle.number_bytes.specs.Same.{same_bytes};
 ghost use Rattle.enumeration_rows.specs.Recognised.{InferenceFound, CloseFound};
@@ -9,10 +9,10 @@ use crate::write::{
 };
 
 // The byte at a place, 0 behind the end.
-fn byte_at(s: &[u8], at: usize) -> u8
-    ensures { result ≡ get_or s.now at 0 }
+fn byte_at(rest: &[u8], at: usize) -> u8
+    ensures { result ≡ get_or rest.now at 0 }
 {
-    s.get(at).copied().unwrap_or(0)
+    rest.get(at).copied().unwrap_or(0)
 }
 
 // ---- the number of a row, by its bytes
@@ -50,49 +50,49 @@ fn scale_guess(i: u8, alpha: u8, n: usize) -> usize
     8 * n * n + 2 * i as usize + (alpha as usize + 1) % 2
 }
 
-// The number that an inference at a place would have, if it is one.
+// The number that the inference would have, if it is one.
 #[tactic(auto, unfolding(enumeration::specs::Numbering::inference_guess))]
-fn inference_guess(s: &[u8], at: usize, n: usize) -> usize
-    requires { (n ≤ 6) × (at ≤ length s.now) }
-    ensures { result ≡ inference_guess n (drop at s.now) }
+fn inference_guess(rest: &[u8], n: usize) -> usize
+    requires { n ≤ 6 }
+    ensures { result ≡ inference_guess n rest.now }
 {
-    let i = byte_at(s, at + 3);
-    match byte_at(s, at) {
+    let i = byte_at(rest, 3);
+    match byte_at(rest, 0) {
         0x10 => {
-            let j = byte_at(s, at + 4);
-            let alpha = byte_at(s, at + 6);
-            let beta = byte_at(s, at + 8);
+            let j = byte_at(rest, 4);
+            let alpha = byte_at(rest, 6);
+            let beta = byte_at(rest, 8);
             combine_guess(i, j, alpha, beta, n)
         }
         0x11 => {
-            let j = byte_at(s, at + 4);
-            let low = byte_at(s, at + 6);
+            let j = byte_at(rest, 4);
+            let low = byte_at(rest, 6);
             reduce_guess(i, j, low, n)
         }
         _ => {
-            let alpha = byte_at(s, at + 5);
+            let alpha = byte_at(rest, 5);
             scale_guess(i, alpha, n)
         }
     }
 }
 
-// Whether inference j stands at a place.
-fn is_inference(s: &[u8], at: usize, n: usize, j: usize) -> bool
-    requires { (n ≤ 5) × (j < inference_count n) × (at ≤ length s.now) }
-    ensures { result ≡ begins (inference_bytes n j) (drop at s.now) }
+// Whether inference j stands there.
+fn is_inference(rest: &[u8], n: usize, j: usize) -> bool
+    requires { (n ≤ 5) × (j < inference_count n) }
+    ensures { result ≡ begins (inference_bytes n j) rest.now }
 {
     let mut row = [0u8; 9];
     put_inference(&mut row, 0, n, j);
-    s[at..].starts_with(&row[..inference_bytes(n, j)])
+    rest.starts_with(&row[..inference_bytes(n, j)])
 }
 
-// The number of the inference that stands at a place, if one does.
-pub fn inference_at(s: &[u8], at: usize, n: usize) -> Option<usize>
-    requires { (n ≤ 5) × (at ≤ length s.now) }
-    ensures { InferenceFound n (drop at s.now) result }
+// The number of the inference that stands there, if one does.
+pub fn inference_at(rest: &[u8], n: usize) -> Option<usize>
+    requires { n ≤ 5 }
+    ensures { InferenceFound n rest.now result }
 {
-    let j = inference_guess(s, at, n);
-    if j < inference_count(n) && is_inference(s, at, n, j) {
+    let j = inference_guess(rest, n);
+    if j < inference_count(n) && is_inference(rest, n, j) {
         Some(j)
     } else {
         None
@@ -100,34 +100,34 @@ pub fn inference_at(s: &[u8], at: usize, n: usize) -> Option<usize>
 }
 
 #[tactic(auto, unfolding(enumeration::specs::Numbering::close_guess))]
-fn close_guess(s: &[u8], at: usize, n: usize) -> usize
-    requires { (n ≤ 6) × (at ≤ length s.now) }
-    ensures { result ≡ close_guess n (drop at s.now) }
+fn close_guess(rest: &[u8], n: usize) -> usize
+    requires { n ≤ 6 }
+    ensures { result ≡ close_guess n rest.now }
 {
-    let i = byte_at(s, at + 3) as usize;
-    if byte_at(s, at) == 0x14 {
+    let i = byte_at(rest, 3) as usize;
+    if byte_at(rest, 0) == 0x14 {
         return i;
     }
-    n + 3 * i + (byte_at(s, at + 5) as usize + 1) % 3
+    n + 3 * i + (byte_at(rest, 5) as usize + 1) % 3
 }
 
-// Whether close c stands at a place and ends the table.
-fn is_close(s: &[u8], at: usize, n: usize, c: usize) -> bool
-    requires { (n ≤ 6) × (c < close_count n) × (at ≤ length s.now) }
-    ensures { result ≡ same_bytes (close_bytes n c) (drop at s.now) }
+// Whether close c stands there and ends the table.
+fn is_close(rest: &[u8], n: usize, c: usize) -> bool
+    requires { (n ≤ 6) × (c < close_count n) }
+    ensures { result ≡ same_bytes (close_bytes n c) rest.now }
 {
     let mut row = [0u8; 6];
     put_close(&mut row, 0, n, c);
-    row[..close_bytes(n, c)] == s[at..]
+    &row[..close_bytes(n, c)] == rest
 }
 
-// The number of the close that stands at a place and ends the table, if one does.
-pub fn close_at(s: &[u8], at: usize, n: usize) -> Option<usize>
-    requires { (n ≤ 6) × (at ≤ length s.now) }
-    ensures { CloseFound n (drop at s.now) result }
+// The number of the close that stands there and ends the table, if one does.
+pub fn close_at(rest: &[u8], n: usize) -> Option<usize>
+    requires { n ≤ 6 }
+    ensures { CloseFound n rest.now result }
 {
-    let c = close_guess(s, at, n);
-    if c < close_count(n) && is_close(s, at, n, c) {
+    let c = close_guess(rest, n);
+    if c < close_count(n) && is_close(rest, n, c) {
         Some(c)
     } else {
         None

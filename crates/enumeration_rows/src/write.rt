@@ -1,6 +1,6 @@
 // The rows of short proofs, by number: how many there are over n lines, and their bytes.
 ghost use Rattle.std.specs.Prelude.{◌≡◌, ◌≤◌, ◌+◌, ◌/◌, ◌%◌, ◌<◌, [], ◌∷◌, length};
-ghost use Rattle.enumeration.specs.Numbering.{inference_count, close_count, factor_low, factor_high, combine_bytes, reduce_bytes, scale_bytes, inference_bytes, close_bytes};
+ghost use Rattle.enumeration.specs.Numbering.{inference_count, close_count, factor_low, factor_high, combine_bytes, reduce_bytes, inference_bytes, close_bytes};
 ghost use Rattle.std.proofs.lemmas.List.Edits.{sets};
 
 // How many rows make a line, and how many close one.
@@ -53,14 +53,13 @@ fn put_reduce(out: &mut [u8], at: usize, n: usize, x: usize)
     out[at..at + 7].copy_from_slice(&[0x11, 0, 4, s, t, high, low]);
 }
 
+// A row with a line and a number: a scale, or a close by stride.
 #[tactic(auto, using(crate::proofs::Stored::part_stored))]
-fn put_scale(out: &mut [u8], at: usize, x: usize)
-    requires { (at + 6 ≤ length out.old) × (x < 255) }
-    ensures { out.new ≡ sets out.old at (scale_bytes x) }
+fn put_line_and_number(out: &mut [u8], at: usize, tag: u8, line: u8, number: u8)
+    requires { at + 6 ≤ length out.old }
+    ensures { out.new ≡ sets out.old at (tag ∷ 0 ∷ 3 ∷ line ∷ 0 ∷ number ∷ []) }
 {
-    let t = (x / 2) as u8;
-    let alpha = (1 + x % 2) as u8;
-    out[at..at + 6].copy_from_slice(&[0x12, 0, 3, t, 0, alpha]);
+    out[at..at + 6].copy_from_slice(&[tag, 0, 3, line, 0, number]);
 }
 
 // How many bytes inference j has.
@@ -93,7 +92,8 @@ pub fn put_inference(out: &mut [u8], at: usize, n: usize, j: usize)
         put_reduce(out, at, n, j - block);
         return;
     }
-    put_scale(out, at, j - 2 * block);
+    let x = j - 2 * block;
+    put_line_and_number(out, at, 0x12, (x / 2) as u8, (1 + x % 2) as u8);
 }
 
 // ---- the rows that close
@@ -115,16 +115,6 @@ fn put_number(out: &mut [u8], at: usize, c: usize)
     out[at..at + 4].copy_from_slice(&[0x14, 0, 1, c as u8]);
 }
 
-#[tactic(auto, using(crate::proofs::Stored::part_stored))]
-fn put_stride(out: &mut [u8], at: usize, x: usize)
-    requires { (at + 6 ≤ length out.old) × (x < 256) }
-    ensures { out.new ≡ sets out.old at (0x15 ∷ 0 ∷ 3 ∷ (x / 3) ∷ 0 ∷ (2 + x % 3) ∷ []) }
-{
-    let t = (x / 3) as u8;
-    let g = (2 + x % 3) as u8;
-    out[at..at + 6].copy_from_slice(&[0x15, 0, 3, t, 0, g]);
-}
-
 #[tactic(auto, unfolding(enumeration::specs::Numbering::close_bytes))]
 pub fn put_close(out: &mut [u8], at: usize, n: usize, c: usize)
     requires { (n ≤ 6) × (c < close_count n) × (at + length (close_bytes n c) ≤ length out.old) }
@@ -134,5 +124,6 @@ pub fn put_close(out: &mut [u8], at: usize, n: usize, c: usize)
         put_number(out, at, c);
         return;
     }
-    put_stride(out, at, c - n);
+    let x = c - n;
+    put_line_and_number(out, at, 0x15, (x / 3) as u8, (2 + x % 3) as u8);
 }

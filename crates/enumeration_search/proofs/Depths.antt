@@ -1,5 +1,5 @@
 -- The proofs of one, two and three rows, one after the other. Assumes nothing.
-use mathlib.Core.Path.{◌≡◌, refl, sym, ◌∙◌, ap, ap₂, subst}
+use mathlib.Core.Path.{◌≡◌, sym, ◌∙◌, ap, ap₂, subst}
 use mathlib.Core.List.{List}
 use Prim.Native.Nat.{ℕ, suc, ◌+◌, ◌-◌, ◌≤◌, ◌<◌}
 use native.Mathlib.Omega.{arith}
@@ -12,7 +12,7 @@ use Rattle.enumeration.proofs.Searched.{rows-numbered}
 use Rattle.lines.specs.Buffer.{lines_in}
 use Rattle.lines.proofs.Lines.{length-lines}
 use Rattle.lines.specs.Ready.{LinesKept}
-use Rattle.lines.proofs.Keeping.{kept_refl, kept_trans}
+use Rattle.lines.proofs.Keeping.{kept_trans}
 use Rattle.std.specs.Prelude.{Option, None, Some, Result, Ok, Err}
 use Rattle.enumeration_rows.specs.declared.found.Rows.{Rows}
 use Rattle.enumeration_rows.specs.declared.found.NotAmong.{NotAmong}
@@ -34,9 +34,6 @@ unfolding first_of_depths
 first-none d ls h = let e : 3 - d ≡ 0 = omega arith in rw e
 
 module _ {K n : ℕ} {kinds₀ : List ℕ} {buf₀ : List ℤ} {start : ℕ} where
-  pub first-start : FirstLeft K n kinds₀ buf₀ start kinds₀ buf₀ start
-  first-start = record { kept = kept_refl; same = refl }
-
   module _ {kinds : List ℕ} {buf : List ℤ} {d : ℕ} (left : FirstLeft K n kinds₀ buf₀ start kinds buf d) where
     pub first_ended : 3 ≤ d → FindsAny K n (first_of_depths (3 - start) start (lines_in K kinds₀ buf₀ n)) kinds₀ buf₀ kinds buf (Ok None)
     first_ended h = record { kept = left.kept; is = sym (left.same ∙ first-none d (lines_in K kinds₀ buf₀ n) h); within = tt }
@@ -105,9 +102,6 @@ unfolding next_of_depths
 follow-none d g ls h = let e : 3 - d ≡ 0 = omega arith in rw e
 
 module _ {K n : ℕ} {g : List ℕ} {kinds₀ : List ℕ} {buf₀ : List ℤ} where
-  pub follow-start : FollowLeft K n g kinds₀ buf₀ kinds₀ buf₀ 0
-  follow-start = record { kept = kept_refl; same = refl }
-
   module _ {kinds : List ℕ} {buf : List ℤ} {d : ℕ} (left : FollowLeft K n g kinds₀ buf₀ kinds buf d) where
     pub follow-ended : 3 ≤ d → {e : NotAmong} → FindsAny K n (next_of_depths 3 0 g (lines_in K kinds₀ buf₀ n)) kinds₀ buf₀ kinds buf (Err e)
     follow-ended h = record { kept = left.kept; is = sym (left.same ∙ follow-none d g (lines_in K kinds₀ buf₀ n) h); within = tt }

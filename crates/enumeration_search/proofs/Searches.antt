@@ -1,12 +1,12 @@
 -- The search, one way after the other, over plain values. Assumes nothing.
-use mathlib.Core.Path.{◌≡◌, refl, sym, ◌∙◌, ap, ap₂, subst}
+use mathlib.Core.Path.{◌≡◌, sym, ◌∙◌, ap, ap₂, subst}
 use mathlib.Core.List.{List}
 use Prim.Native.Nat.{ℕ, zero, suc, ◌+◌, ◌-◌, ◌≤◌, ◌<◌}
 use native.Mathlib.Omega.{arith}
 use lib.Dec.{T}
 use lib.IntN.{ℤ}
-use lib.ListN.{length, drop, length-drop}
-use lib.Seq.{drop-drop}
+use lib.ListN.{length, take, drop, length-drop}
+use lib.Seq.{take_all}
 use Rattle.forms.specs.Forms.{Line}
 use Rattle.calculus.specs.Rules.{◌▷◌, Derive}
 use Rattle.answers.specs.Answers.{accepted}
@@ -81,9 +81,6 @@ pub record InferencesLeft (K n d : ℕ) (kinds₀ : List ℕ) (buf₀ : List ℤ
   pub same : first_found (proofs_from d (lines_in K kinds₀ buf₀ n) start) ≡ first_found (proofs_from d (lines_in K kinds₀ buf₀ n) j)
 
 module _ {K n d : ℕ} {kinds₀ : List ℕ} {buf₀ : List ℤ} {start : ℕ} where
-  pub inferences-start : InferencesLeft K n d kinds₀ buf₀ start kinds₀ buf₀ start
-  inferences-start = record { kept = kept_refl; same = refl }
-
   module _ {kinds : List ℕ} {buf : List ℤ} {j : ℕ} (left : InferencesLeft K n d kinds₀ buf₀ start kinds buf j) where
     pub inferences-ended : {count : ℕ} → 1 ≤ d → count ≡ inference_count n → count ≤ j → Finds K n d (first_found (proofs_from d (lines_in K kinds₀ buf₀ n) start)) kinds₀ buf₀ kinds buf (Ok None)
     unfolding first_row_count
@@ -125,8 +122,8 @@ module _ {K n d : ℕ} {kinds₀ : List ℕ} {buf₀ : List ℤ} {start : ℕ} w
 
 -- ---- the table given
 -- the row found ends within the table
-pub inference-ends : {n : ℕ} (table : List ℕ) {at j size : ℕ} → InferenceFound n (drop at table) (Some j) → size ≡ length (inference_bytes n j) → at ≤ length table → at + size ≤ length table
-inference-ends {n} table {at} {j} {size} f e h = omega (arith, begins-longer (inference_bytes n j) (drop at table) (true-is f.is.1), length-drop at table)
+pub inference-ends : {n j size : ℕ} {s : List ℕ} → InferenceFound n s (Some j) → size ≡ length (inference_bytes n j) → size ≤ length s
+inference-ends {n} {j} {s = s} f e = omega (arith, e, begins-longer (inference_bytes n j) s (true-is f.is.1))
 
 -- an inference
 module _ {K n d : ℕ} {kinds : List ℕ} {buf : List ℤ} {s : List ℕ} (few : n + suc d ≤ 6) where
@@ -211,8 +208,9 @@ module _ {K d : ℕ} {kinds : List ℕ} {buf : List ℤ} {t : Tally} (roomy : Se
           inferences = r.inferences;
         }
 
-pub rest-cut : (table : List ℕ) (at n j : ℕ) {size : ℕ} → size ≡ length (inference_bytes n j) → drop (at + size) table ≡ drop (length (inference_bytes n j)) (drop at table)
-rest-cut table at n j e = ap (λ (x : ℕ). drop (at + x) table) e ∙ sym (drop-drop (length (inference_bytes n j)) at table)
+-- what is behind the row
+pub rest-cut : (s : List ℕ) (n j : ℕ) {size : ℕ} → size ≡ length (inference_bytes n j) → take (length s - size) (drop size s) ≡ drop (length (inference_bytes n j)) s
+rest-cut s n j {size} e = take_all (length s - size) (drop size s) (omega (arith, length-drop size s)) ∙ ap (λ (x : ℕ). drop x s) e
 
 -- ---- by the number of inferences
 pub one_less : {d : ℕ} → ¬ (d ≡ 0) → suc (d - 1) ≡ d

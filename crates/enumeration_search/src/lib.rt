@@ -91,31 +91,30 @@ fn seek(
     None
 }
 
-// The proof of `depth` inferences and a close after the one whose rows stand in the table from a place on.
+// The proof of `depth` inferences and a close after the one that the rest of the table is.
 fn after(
     lines: &mut [i32],
     kinds: &mut [u8],
     n: usize,
     k: usize,
     depth: usize,
-    table: &[u8],
-    at: usize,
+    rest: &[u8],
 ) -> Result<Option<Rows>, NotAmong>
     requires search_room { SearchRoom k depth kinds.old lines.old (tally_of n) }
-    requires depth_bound { (depth ≤ 2) × (at ≤ length table.now) × (at + 9 * depth ≤ 26) }
-    ensures { Finds k n depth (next_found (drop at table.now) (proofs_of depth (lines_in k kinds.old lines.old n))) kinds.old lines.old kinds.new lines.new result }
+    requires depth_bound { depth ≤ 2 }
+    ensures { Finds k n depth (next_found rest.now (proofs_of depth (lines_in k kinds.old lines.old n))) kinds.old lines.old kinds.new lines.new result }
 {
     if depth == 0 {
-        return after_close(lines, kinds, n, k, table, at);
+        return after_close(lines, kinds, n, k, rest);
     }
-    let Some(j) = inference_at(table, at, n) else {
+    let Some(j) = inference_at(rest, n) else {
         return Err(NotAmong);
     };
     if !infer(lines, kinds, n, j, k) {
         return Err(NotAmong);
     }
-    let size = inference_bytes(n, j);
-    match after(lines, kinds, n + 1, k, depth - 1, table, at + size)? {
+    let behind = &rest[inference_bytes(n, j)..];
+    match after(lines, kinds, n + 1, k, depth - 1, behind)? {
         Some(rows) => Ok(Some(rows.with_first(j))),
         None => Ok(seek(lines, kinds, n, k, depth, j + 1)),
     }
@@ -141,39 +140,38 @@ pub fn first_from(
     None
 }
 
-// The proof after the table's, of `depth` inferences and a close.
+// The proof after these rows, of `depth` inferences and a close.
 fn after_depth(
     lines: &mut [i32],
     kinds: &mut [u8],
     n: usize,
     k: usize,
     depth: usize,
-    table: &[u8],
+    rest: &[u8],
 ) -> Result<Option<Rows>, NotAmong>
     requires search_room { SearchRoom k 2 kinds.old lines.old (tally_of n) }
-    requires depth_bound { (depth ≤ 2) × (8 ≤ length table.now) }
-    ensures { FindsAny k n (if_none_left (next_found (drop 8 table.now) (proofs_of depth (lines_in k kinds.old lines.old n))) (first_of_depths (2 - depth) (suc depth) (lines_in k kinds.old lines.old n))) kinds.old lines.old kinds.new lines.new result }
+    requires depth_bound { depth ≤ 2 }
+    ensures { FindsAny k n (if_none_left (next_found rest.now (proofs_of depth (lines_in k kinds.old lines.old n))) (first_of_depths (2 - depth) (suc depth) (lines_in k kinds.old lines.old n))) kinds.old lines.old kinds.new lines.new result }
 {
-    match after(lines, kinds, n, k, depth, table, 8)? {
+    match after(lines, kinds, n, k, depth, rest)? {
         Some(rows) => Ok(Some(rows)),
         None => Ok(first_from(lines, kinds, n, k, depth + 1)),
     }
 }
 
-// The proof after the table's, whose header is in order.
+// The proof after the one whose rows these are.
 pub fn after_table(
     lines: &mut [i32],
     kinds: &mut [u8],
     n: usize,
     k: usize,
-    table: &[u8],
+    rest: &[u8],
 ) -> Result<Option<Rows>, NotAmong>
-    requires search_room { SearchRoom k 2 kinds.old lines.old (tally_of n) }
-    requires in_bounds { 8 ≤ length table.now }
-    ensures { FindsAny k n (next_of_depths 3 0 (drop 8 table.now) (lines_in k kinds.old lines.old n)) kinds.old lines.old kinds.new lines.new result }
+    requires { SearchRoom k 2 kinds.old lines.old (tally_of n) }
+    ensures { FindsAny k n (next_of_depths 3 0 rest.now (lines_in k kinds.old lines.old n)) kinds.old lines.old kinds.new lines.new result }
 {
     for d in 0..3 {
-        if let Ok(found) = after_depth(lines, kinds, n, k, d, table) {
+        if let Ok(found) = after_depth(lines, kinds, n, k, d, rest) {
             return Ok(found);
         }
     }

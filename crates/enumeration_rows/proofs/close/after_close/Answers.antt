@@ -4,10 +4,10 @@ use Rattle.enumeration_rows.proofs.Closes.{no-close, open-close, next-close}
 use Rattle.enumeration_rows.proofs.close.after_close.Goals as goal
 
 pub returns-in_default : goal.returns-in_default
-returns-in_default c = no-close (omega (arith, c.requires.search_room.few)) c.in_default.ensures
+returns-in_default c = no-close (omega (arith, c.requires.few)) c.in_default.ensures
 
 pub returns-then-not-holds : goal.returns-then-not-holds
-returns-then-not-holds c = open-close (omega (arith, c.requires.search_room.few)) c.in-Some.ensures c.holds.ensures c.if-not-holds.true
+returns-then-not-holds c = open-close (omega (arith, c.requires.few)) c.in-Some.ensures c.holds.ensures c.if-not-holds.true
 
 pub returns : goal.returns
-returns c = next-close (omega (arith, c.requires.search_room.few)) c.in-Some.ensures c.holds.ensures c.if-not-holds.false c.seek_close.ensures
+returns c = next-close (omega (arith, c.requires.few)) c.in-Some.ensures c.holds.ensures c.if-not-holds.false c.seek_close.ensures

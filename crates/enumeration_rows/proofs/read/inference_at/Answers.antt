@@ -6,6 +6,6 @@ use Rattle.enumeration_rows.proofs.read.inference_at.Goals.{else-j-inference_cou
 
 pub returns-else-j-inference_count : goal.returns-else-j-inference_count
 returns-else-j-inference_count c = elim c.else-j-inference_count.branch [
-  | else-j-inference_count-via-then-j-inference_count+else-is_inference w ↦ inference-other c.requires.0 c.inference_guess-j.ensures w.is_inference.ensures w.if-is_inference.false
-  | else-j-inference_count-via-else-j-inference_count w ↦ inference-beyond c.requires.0 c.inference_guess-j.ensures (omega arith)
+  | else-j-inference_count-via-then-j-inference_count+else-is_inference w ↦ inference-other c.requires c.inference_guess-j.ensures w.is_inference.ensures w.if-is_inference.false
+  | else-j-inference_count-via-else-j-inference_count w ↦ inference-beyond c.requires c.inference_guess-j.ensures (omega arith)
 ]

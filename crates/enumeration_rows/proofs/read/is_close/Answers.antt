@@ -2,13 +2,13 @@
 use mathlib.Core.Path.{◌∙◌, ap}
 use mathlib.Core.List.{List}
 use lib.Dec.{eqb}
-use lib.ListN.{drop, length-take}
+use lib.ListN.{length-take}
 use Prim.Native.Nat.{ℕ}
 use native.Mathlib.Omega.{arith}
 use Rattle.std.specs.Cmp.Lexicographic.{pointwise}
 use Rattle.enumeration.specs.Numbering.{close_bytes}
 use Rattle.enumeration_rows.proofs.Stored.{close-size}
-use Rattle.enumeration_rows.proofs.RecognisedRows.{rest-whole, row-stored, equal-same}
+use Rattle.enumeration_rows.proofs.RecognisedRows.{row-stored, equal-same}
 use Rattle.enumeration_rows.proofs.read.is_close.Goals as goal
 
 pub put_close-requires : goal.put_close-requires
@@ -21,8 +21,6 @@ pub slice_bounds-eq-end : goal.slice_bounds-eq-end
 slice_bounds-eq-end c = omega (arith, c.close_bytes.ensures, close-size c.args.n c.args.c, c.put_close.auto.out, length-take c.close_bytes.result c.put_close.new.out)
 
 pub returns : goal.returns
-returns c =
-    let rest = rest-whole c.args.s.now c.args.at in
-    (rw rest at c.eq.ensures)
-    ∙ ap (λ (bs : List ℕ). pointwise eqb bs (drop c.args.at c.args.s.now)) (row-stored _ (close_bytes c.args.n c.args.c) c.put_close.ensures (close-size c.args.n c.args.c) c.close_bytes.ensures)
-    ∙ equal-same (close_bytes c.args.n c.args.c) (drop c.args.at c.args.s.now)
+returns c = c.eq.ensures
+    ∙ ap (λ (bs : List ℕ). pointwise eqb bs c.args.rest.now) (row-stored _ (close_bytes c.args.n c.args.c) c.put_close.ensures (close-size c.args.n c.args.c) c.close_bytes.ensures)
+    ∙ equal-same (close_bytes c.args.n c.args.c) c.args.rest.now
