@@ -1,5 +1,5 @@
 -- What `check_branch` makes of where its entries stop: each way as a lemma over plain values. Assumes nothing.
-use mathlib.Core.Path.{◌≡◌, refl, ◌∙◌}
+use mathlib.Core.Path.{◌≡◌, refl, sym, ap, ◌∙◌}
 use mathlib.Core.List.{List}
 use mathlib.Core.Option.{none}
 use Prim.Native.Nat.{ℕ, zero, suc, ◌-◌, ◌≤◌}
@@ -24,16 +24,34 @@ use Rattle.lines.proofs.Keeping.{kept_trans}
 use Rattle.tally.specs.Tally.{returned_to}
 use Rattle.tally.specs.declared.Tally.{Tally}
 use Rattle.entries.specs.Entries.{Multiplies}
-use Rattle.rows.specs.declared.derive.Derived.{Derived}
-use Rattle.rows.specs.declared.derive.Derived.TheVariants as derived
 use Rattle.std.specs.Prelude.{Ok, Err}
+use Rattle.std.specs.declared.result.Result as code
+use Rattle.std.specs.Result.{MatchResult, IsErrAnd}
+use Rattle.answers.specs.declared.refusals.Refusal.{Refusal}
+use Rattle.answers.specs.Refusals.{fault, number_of}
 use Rattle.closes.specs.Ends.{End, EndedBy}
-use Rattle.openings.specs.Opening.{below, Branching, row_opened, RowOpens}
-use Rattle.branches.specs.Branches.{Comes, Stopped}
-use Rattle.branches.specs.Branching.{closed_by, Started, ChecksBranch}
+use Rattle.openings.specs.Opening.{Opening, below, Branching, row_opened, RowOpens}
+use Rattle.branches.specs.Branches.{Comes, MultiplierOf, row_of, Stopped}
+use Rattle.branches.specs.Branching.{refused_row, closed_by, Started, ChecksBranch}
+use Rattle.branches.specs.declared.branch.BranchFault.{BranchFault}
+use Rattle.branches.specs.declared.branch.Closed.{Closed}
+use Rattle.branches.specs.declared.branch.Ending.{Ending}
 use Rattle.branches.specs.declared.branch.Stop.{Stop}
-use Rattle.branches.specs.declared.branch.Branched.{Branched}
-use Rattle.branches.specs.declared.branch.Branched.TheVariants as branched
+
+-- What another function refuses, as the branch tells it.
+abbrev pub Told : {T E : Type 0} → (of : E → BranchFault) → code.Result T E → code.Result T BranchFault → Type 0
+Told of r s = MatchResult r (λ x. s ≡ Ok x) (λ e. IsErrAnd s (λ f. f ≡ of e))
+
+pub told-ok : {T E : Type 0} (of : E → BranchFault) (r : code.Result T E) {s : code.Result T BranchFault} → Told of r s → {x : T} → s ≡ Ok x → r ≡ Ok x
+told-ok of (Ok y) h {x} e =
+    let z = sym h ∙ e in
+    let q : y ≡ x = cc in
+    ap Ok q
+told-ok of (Err w) h e = absurd (rw e at h)
+
+pub told-err : {T E : Type 0} (of : E → BranchFault) (r : code.Result T E) {s : code.Result T BranchFault} → Told of r s → {f : BranchFault} → s ≡ Err f → (w : E) × (r ≡ Err w) × (f ≡ of w)
+told-err of (Ok y) h e = absurd (let z = sym h ∙ e in cc)
+told-err of (Err w) h e = (w, refl, rw e at h)
 
 pub started-room : {K : ℕ} {kinds : List ℕ} {buf : List ℤ} {t : Tally} {p : List ℕ} {at o : ℕ} → Started K kinds buf t p at o → o ≤ scratch_limit
 started-room s = omega (arith, s.room)
@@ -46,30 +64,21 @@ branch-entries e K zero here rows ls fs = refl
 branch-entries e K (suc room) here rows ls fs = refl
 
 module _ {K : ℕ} {p : List ℕ} {at : ℕ} {kinds : List ℕ} {buf : List ℤ} {t : Tally} {kinds' : List ℕ} {buf' : List ℤ} where
-  pub stopped-fault : (here : Position) {r : Stop} {x : ℕ} {rows : RowNumber} {a : ℕ} (scratch : List ℕ) (o : ℕ) → Stopped K p at kinds buf t kinds' buf' r → r ≡ Stop.Fault x rows a
-      → ChecksBranch K p at here kinds buf t scratch o kinds' buf' scratch (branched.Fault x rows here a)
-  stopped-fault here scratch o s e = record {
-    kept = s.kept;
-    long = refl;
-    by = branch-entries t.edition K (32 - t.«open») here _ _ _ ∙ (rw e at s).by here (below t.edition K (32 - t.«open»));
-  }
+  module _ {here : Position} where
+    pub stopped-fault : {f : BranchFault} (scratch : List ℕ) (o : ℕ) → Stopped K p at here kinds buf t kinds' buf' (Err f) → ChecksBranch K p at here kinds buf t scratch o kinds' buf' scratch (Err f)
+    stopped-fault scratch o s = record {
+      kept = s.kept;
+      long = refl;
+      by = branch-entries t.edition K (32 - t.«open») here _ _ _ ∙ s.by (below t.edition K (32 - t.«open»));
+    }
 
-  -- The row that the entries come to, by the code's answer.
-  module _ {r : Stop} (s : Stopped K p at kinds buf t kinds' buf' r) {row : RowNumber} {a next : ℕ} {u : Tally} where
-    pub number-comes : {i : LineNumber} → r ≡ Stop.ClosesNumber i row a next u → Comes K p at kinds buf t kinds' buf' (rules.CloseNumber i.0) row.0 a next u
-    number-comes e = rw e at s.by
+    -- The row that the entries come to.
+    module _ {s : Stop} (stop : Stopped K p at here kinds buf t kinds' buf' (Ok s)) {d : Ending} (e : s.ending ≡ d) where
+      pub stop-comes : Comes K p at kinds buf t kinds' buf' (row_of d s.t.0) s.row.0 s.at s.next s.tally
+      stop-comes = rw e at stop.by.0
 
-    pub stride-comes : {i : LineNumber} {g : ℤ} → r ≡ Stop.ClosesStride i row a next u g → Comes K p at kinds buf t kinds' buf' (rules.CloseStride i.0 (nat_abs g)) row.0 a next u × Multiplies (nat_abs g) g
-    stride-comes e = rw e at s.by
-
-    pub strengthen-comes : {i : LineNumber} → r ≡ Stop.Strengthens i row a next u → Comes K p at kinds buf t kinds' buf' (rules.Strengthen i.0) row.0 a next u
-    strengthen-comes e = rw e at s.by
-
-    pub round-comes : {i : LineNumber} {g : ℤ} {by : ℕ} → r ≡ Stop.Rounds i row a next u g by → Comes K p at kinds buf t kinds' buf' (rules.Round i.0 (nat_abs g) by) row.0 a next u × Multiplies (nat_abs g) g
-    round-comes e = rw e at s.by
-
-    pub split-comes : {i : LineNumber} → r ≡ Stop.Splits i row a next u → Comes K p at kinds buf t kinds' buf' (rules.Split i.0) row.0 a next u
-    split-comes e = rw e at s.by
+      pub stop-multiplier : MultiplierOf d
+      stop-multiplier = rw e at stop.by.1
 
   module _ {row : rules.Row} {number a next : ℕ} {u : Tally} (m : Comes K p at kinds buf t kinds' buf' row number a next u) where
     -- The row that the entries come to.
@@ -86,11 +95,15 @@ module _ {K : ℕ} {p : List ℕ} {at : ℕ} {kinds : List ℕ} {buf : List ℤ}
       (f : (ℕ → Answer) → Result Formula)
       (row_is : check_row (edition t.edition) K (below t.edition K (32 - t.«open»)) (check_entries (edition t.edition) K here (below t.edition K (32 - t.«open»)) (fields_at p next)) (refusal_at here number.0 a) number.0 (lines_in K kinds' buf' u.lines.0) (fields_at p next) row
       ≡ (f (refusal_at here number.0 a) >>= λ I. accepted (record { formula = I; rows = suc number.0; after = fields_at p next }))) where
-    row-closed : (scratch : List ℕ) (o : ℕ) (scratch' : List ℕ) (e : End) → EndedBy f scratch o scratch' e
-        → ChecksBranch K p at here kinds buf t scratch o kinds' buf' scratch' (closed_by e here number a next (returned_to u t))
+    row-refused : (scratch : List ℕ) (o : ℕ) (scratch' : List ℕ) {w : Refusal} → EndedBy f scratch o scratch' (Err w)
+        → ChecksBranch K p at here kinds buf t scratch o kinds' buf' scratch' (Err (record { fault = fault w a; rows = number; position = here }))
     unfolding ◌>>=◌
-    row-closed scratch o scratch' (Err x) w = record { kept = k; long = w.1; by = comes-row m here ∙ row_is ∙ rw (w.0 (refusal_at here number.0 a)) }
-    row-closed scratch o scratch' (Ok o') w =
+    row-refused scratch o scratch' w = record { kept = k; long = w.1; by = comes-row m here ∙ row_is ∙ rw (w.0 (refusal_at here number.0 a)) }
+
+    row-closed : (scratch : List ℕ) (o : ℕ) (scratch' : List ℕ) {o' : ℕ} → EndedBy f scratch o scratch' (Ok o')
+        → ChecksBranch K p at here kinds buf t scratch o kinds' buf' scratch' (Ok (record { at = next; o = o'; tally = returned_to u t }))
+    unfolding ◌>>=◌
+    row-closed scratch o scratch' w =
         let q : suc number.0 ≡ u.rows.0 = omega (arith, m.rows_is) in
         record {
           kept = k;
@@ -108,22 +121,24 @@ module _ {K : ℕ} {p : List ℕ} {at : ℕ} {kinds : List ℕ} {buf : List ℤ}
           };
         }
 
-  module _ (here : Position) {r : Stop} (s : Stopped K p at kinds buf t kinds' buf' r) (scratch : List ℕ) (o : ℕ) (scratch' : List ℕ) (e : End) where
-    pub number-closed : {i : LineNumber} {row : RowNumber} {a next : ℕ} {u : Tally} {b : Branched} {v : Tally} → r ≡ Stop.ClosesNumber i row a next u
-        → EndedBy (λ refusal. by_number refusal (lines_in K kinds' buf' u.lines.0) i.0) scratch o scratch' e
-        → v ≡ returned_to u t → b ≡ closed_by e here row a next v
-        → ChecksBranch K p at here kinds buf t scratch o kinds' buf' scratch' b
-    unfolding check_row
-    number-closed {i} {row} {a} {next} {u} q w ev eb =
-        rw (eb, ev) (row-closed here row (number-comes s q) s.kept (λ refusal. by_number refusal (lines_in K kinds' buf' u.lines.0) i.0) refl scratch o scratch' e w)
+  module _ {here : Position} {s : Stop} (stop : Stopped K p at here kinds buf t kinds' buf' (Ok s)) {scratch : List ℕ} {o : ℕ} {scratch' : List ℕ} {e : End} where
+    module _ (q : s.ending ≡ Ending.ClosesNumber) (w : EndedBy (λ refusal. by_number refusal (lines_in K kinds' buf' s.tally.lines.0) s.t.0) scratch o scratch' e) where
+      pub number-refused : {f : BranchFault} → (x : Refusal) × (e ≡ Err x) × (f ≡ refused_row s here x) → ChecksBranch K p at here kinds buf t scratch o kinds' buf' scratch' (Err f)
+      unfolding check_row
+      number-refused (x, y, z) = rw z (row-refused here s.row (stop-comes stop q) stop.kept (λ refusal. by_number refusal (lines_in K kinds' buf' s.tally.lines.0) s.t.0) refl scratch o scratch' (rw y at w))
 
-    pub stride-closed : {i : LineNumber} {g : ℤ} {row : RowNumber} {a next : ℕ} {u : Tally} {b : Branched} {v : Tally} → r ≡ Stop.ClosesStride i row a next u g
-        → EndedBy (λ refusal. by_stride refusal (lines_in K kinds' buf' u.lines.0) i.0 (nat_abs g)) scratch o scratch' e
-        → v ≡ returned_to u t → b ≡ closed_by e here row a next v
-        → ChecksBranch K p at here kinds buf t scratch o kinds' buf' scratch' b
-    unfolding check_row
-    stride-closed {i} {g} {row} {a} {next} {u} q w ev eb =
-        rw (eb, ev) (row-closed here row (stride-comes s q).0 s.kept (λ refusal. by_stride refusal (lines_in K kinds' buf' u.lines.0) i.0 (nat_abs g)) refl scratch o scratch' e w)
+      pub number-closed : {o' : ℕ} → e ≡ Ok o' → ChecksBranch K p at here kinds buf t scratch o kinds' buf' scratch' (Ok (closed_by s o' t))
+      unfolding check_row
+      number-closed y = row-closed here s.row (stop-comes stop q) stop.kept (λ refusal. by_number refusal (lines_in K kinds' buf' s.tally.lines.0) s.t.0) refl scratch o scratch' (rw y at w)
+
+    module _ {g : ℤ} (q : s.ending ≡ Ending.ClosesStride g) (w : EndedBy (λ refusal. by_stride refusal (lines_in K kinds' buf' s.tally.lines.0) s.t.0 (nat_abs g)) scratch o scratch' e) where
+      pub stride-refused : {f : BranchFault} → (x : Refusal) × (e ≡ Err x) × (f ≡ refused_row s here x) → ChecksBranch K p at here kinds buf t scratch o kinds' buf' scratch' (Err f)
+      unfolding check_row
+      stride-refused (x, y, z) = rw z (row-refused here s.row (stop-comes stop q) stop.kept (λ refusal. by_stride refusal (lines_in K kinds' buf' s.tally.lines.0) s.t.0 (nat_abs g)) refl scratch o scratch' (rw y at w))
+
+      pub stride-closed : {o' : ℕ} → e ≡ Ok o' → ChecksBranch K p at here kinds buf t scratch o kinds' buf' scratch' (Ok (closed_by s o' t))
+      unfolding check_row
+      stride-closed y = row-closed here s.row (stop-comes stop q) stop.kept (λ refusal. by_stride refusal (lines_in K kinds' buf' s.tally.lines.0) s.t.0 (nat_abs g)) refl scratch o scratch' (rw y at w)
 
   -- ---- a row that opens branches
   module _ (here : Position) {row : rules.Row} {number a next : ℕ} {u : Tally} (m : Comes K p at kinds buf t kinds' buf' row number a next u) (k : LinesKept K t.lines.0 kinds buf kinds' buf') where
@@ -131,10 +146,10 @@ module _ {K : ℕ} {p : List ℕ} {at : ℕ} {kinds : List ℕ} {buf : List ℤ}
         ≡ row_opened K kinds' buf' u row (check_entries (edition t.edition) K here (below t.edition K (32 - t.«open»)) (fields_at p next)) (refusal_at here number a) number (fields_at p next)
     comes-opened = comes-row m here ∙ rw (← m.open_is, ← m.edition_is)
 
-    pub opens-refused : {branching : Branching} {i x y : ℕ} {r : Derived} {z : ℕ} {row_number : RowNumber} {kinds'' : List ℕ} {buf'' : List ℤ} (scratch : List ℕ) (o : ℕ) → RowOpens row branching K kinds' buf' u i x y kinds'' buf'' r → r ≡ derived.Refused z
-        → row_number.0 ≡ number → ChecksBranch K p at here kinds buf t scratch o kinds'' buf'' scratch (branched.Fault z row_number here a)
-    opens-refused scratch o s e ey = rw ey (record {
+    pub opens-refused : {branching : Branching} {i x y : ℕ} {r : Opening} {f : BranchFault} {row_number : RowNumber} {kinds'' : List ℕ} {buf'' : List ℤ} (scratch : List ℕ) (o : ℕ) → RowOpens row branching K kinds' buf' u i x y kinds'' buf'' r
+        → (w : Refusal) × (r ≡ Err w) × (f ≡ record { fault = fault w a; rows = row_number; position = here }) → row_number.0 ≡ number → ChecksBranch K p at here kinds buf t scratch o kinds'' buf'' scratch (Err f)
+    opens-refused scratch o s (w, e, ef) ey = rw ef (record {
       kept = kept_trans m.from k s.kept;
       long = refl;
-      by = comes-opened ∙ (rw e at s).by _ (refusal_at here number a) number (fields_at p next);
+      by = rw ey (comes-opened ∙ (rw e at s).by _ (refusal_at here number a) number (fields_at p next));
     })

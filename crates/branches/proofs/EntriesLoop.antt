@@ -5,18 +5,19 @@ use mathlib.Core.List.{List}
 use mathlib.Core.Option.{Option}
 use Prim.Native.Nat.{ℕ, suc, ◌+◌, ◌-◌, ◌≤◌}
 use native.Mathlib.Omega.{arith}
-use lib.ListN.{take, drop}
+use lib.ListN.{length, take, drop, length-drop}
+use lib.Seq.{length-take-le}
 use lib.IntN.{ℤ}
 use Rattle.forms.specs.Edition.{edition}
 use Rattle.forms.proofs.Editions.{line_width-some}
 use Rattle.forms.specs.declared.LineNumber.{LineNumber}
-use Rattle.forms.specs.declared.RowNumber.{RowNumber}
 use Rattle.calculus.specs.Rules as rules
 use Rattle.answers.specs.declared.Position.{Position}
 use Rattle.answers.specs.Answers.{refusal_at, Result}
-use Rattle.fields.specs.Fields.{ends, cut}
-use Rattle.fields.specs.Places.{fields_at, unread_bytes}
-use Rattle.fields.proofs.Places.{Starts, starts-less}
+use Rattle.fields.specs.declared.End.{End}
+use Rattle.fields.specs.declared.WholeField.{WholeField}
+use Rattle.fields.specs.Places.{fields_at, unread_bytes, next_of}
+use Rattle.fields.proofs.Places.{Starts, starts-less, next-cut, next-ends}
 use Rattle.proof.specs.Entries.{entry}
 use Rattle.proof.specs.Check.{Closing, Checker, check_entries}
 use Rattle.lines.proofs.Parts.{agree-sym}
@@ -28,11 +29,16 @@ use Rattle.tally.specs.Tally.{more_rows}
 use Rattle.tally.specs.declared.Tally.{Tally}
 use Rattle.steps.specs.Steps.{SameChecked, row_left, last_made, field_checked, Steps, Advances}
 use Rattle.steps.proofs.Stepping.{there-made}
+use Rattle.std.specs.declared.result.Result as code
+use Rattle.std.specs.Prelude.{Ok, Err}
+use Rattle.answers.specs.declared.refusals.Refusal.{Refusal}
+use Rattle.answers.specs.Refusals.{fault}
 use Rattle.steps.specs.declared.Stepped.{Stepped}
-use Rattle.steps.specs.declared.Stepped.TheVariants.{Refused, Made, Strengthens, ClosesNumber, ClosesStride, Rounds, Splits}
+use Rattle.steps.specs.declared.Stepped.TheVariants.{Made, Claimed, Strengthens, ClosesNumber, ClosesStride, Rounds, Splits}
 use Rattle.branches.specs.Spare.{lines_left, Spare}
-use Rattle.branches.specs.Branches.{entries_from, Comes, Stopped}
-use Rattle.branches.specs.declared.branch.Stop.{Stop}
+use Rattle.branches.specs.Branches.{entries_from, Comes, MultiplierOf, row_of, unclosed, Stopped}
+use Rattle.branches.specs.declared.branch.BranchFault.{BranchFault}
+use Rattle.branches.specs.declared.branch.Ending.{Ending}
 use Rattle.branches.proofs.Spare.{lines-fewer, lines-starts, spare-less}
 
 -- The entries from a place on, in the middle of a branch.
@@ -54,16 +60,26 @@ pub record Going (K : ℕ) (p : List ℕ) (at : ℕ) (kinds₀ : List ℕ) (buf�
 
 module _ {K : ℕ} {p : List ℕ} {at : ℕ} {kinds₀ : List ℕ} {buf₀ : List ℤ} {t₀ : Tally} {kinds : List ℕ} {buf : List ℤ} {place : ℕ} {t : Tally} {made : Bool}
     (g : Going K p at kinds₀ buf₀ t₀ kinds buf place t made) where
-  pub going-cut : {a : ℕ} {rows : RowNumber} → rows ≡ t.rows → fields_at p place ≡ cut a → Stopped K p at kinds₀ buf₀ t₀ kinds buf (Stop.Fault 2 rows a)
+  going_end : (here : Position) {r : code.Result WholeField End} → r ≡ next_of (fields_at p place) → (e : End) → r ≡ Err e → Stopped K p at here kinds₀ buf₀ t₀ kinds buf (Err (unclosed e t.rows here))
   unfolding check_entries
-  going-cut er e = rw er (record { kept = g.kept; by = λ here deeper. g.same here deeper ∙ rw e })
+  going_end here n (End.Cut a) e = record { kept = g.kept; by = λ deeper. g.same here deeper ∙ rw (next-cut (fields_at p place) n e) }
+  going_end here n (End.Ends a) e = record { kept = g.kept; by = λ deeper. g.same here deeper ∙ rw (next-ends (fields_at p place) n e) }
 
-  pub going-ends : {a : ℕ} {rows : RowNumber} → rows ≡ t.rows → fields_at p place ≡ ends a → Stopped K p at kinds₀ buf₀ t₀ kinds buf (Stop.Fault 20 rows a)
-  unfolding check_entries
-  going-ends er e = rw er (record { kept = g.kept; by = λ here deeper. g.same here deeper ∙ rw e })
+  pub going-end : (here : Position) {r : code.Result WholeField End} → r ≡ next_of (fields_at p place) → {f : BranchFault} → (e : End) × (r ≡ Err e) × (f ≡ unclosed e t.rows here) → Stopped K p at here kinds₀ buf₀ t₀ kinds buf (Err f)
+  going-end here n (e, y, z) = rw z (going_end here n e y)
 
-  module _ {a tag start len next : ℕ} (s : Starts p place a tag start len next) {kinds' : List ℕ} {buf' : List ℤ} {r : Stepped}
-      (x : Steps (field_checked K kinds buf t made tag (take len (drop start p))) K kinds buf t kinds' buf' r) (long : Advances t.edition len r) where
+  module _ {a tag start len next : ℕ} (s : Starts p place a tag start len next) {kinds' : List ℕ} {buf' : List ℤ} {r : code.Result Stepped Refusal}
+      (given : Steps (field_checked K kinds buf t made tag (take (start + len - start) (drop start p))) K kinds buf t kinds' buf' r) (far : Advances t.edition (length (take (start + len - start) (drop start p))) r) where
+    x : Steps (field_checked K kinds buf t made tag (take len (drop start p))) K kinds buf t kinds' buf' r
+    x =
+        let size : start + len - start ≡ len = omega arith in
+        subst (λ (m : ℕ). Steps (field_checked K kinds buf t made tag (take m (drop start p))) K kinds buf t kinds' buf' r) size given
+
+    long : Advances t.edition len r
+    long =
+        let size : start + len - start ≡ len = omega arith in
+        subst (λ (m : ℕ). Advances t.edition m r) (length-take-le (start + len - start) (drop start p) (rw length-drop (omega (arith, s.next-is, s.upto))) ∙ size) far
+
     -- the field that stands next, and what follows it
     field_is : (here : Position) (deeper : Option Checker) → entries_from K p at kinds₀ buf₀ t₀ here deeper
         ≡ field_checked K kinds buf t made tag (take len (drop start p)) deeper (check_entries (edition t.edition) K here deeper (fields_at p next)) (refusal_at here t.rows.0 a) (fields_at p next)
@@ -77,8 +93,8 @@ module _ {K : ℕ} {p : List ℕ} {at : ℕ} {kinds₀ : List ℕ} {buf₀ : Lis
         → entries_from K p at kinds₀ buf₀ t₀ here deeper ≡ f deeper (check_entries (edition t.edition) K here deeper (fields_at p next)) (refusal_at here t.rows.0 a) (fields_at p next)
     by-same q here deeper = field_is here deeper ∙ q.is deeper (check_entries (edition t.edition) K here deeper (fields_at p next)) (refusal_at here t.rows.0 a) (fields_at p next)
 
-    pub going-refused : {n : ℕ} {rows : RowNumber} → rows ≡ t.rows → r ≡ Refused n → Stopped K p at kinds₀ buf₀ t₀ kinds' buf' (Stop.Fault n rows a)
-    going-refused er e = let y = rw e at x in rw er (record { kept = all-kept; by = by-same y.by })
+    pub going-refused : (here : Position) {w : Refusal} → r ≡ Err w → Stopped K p at here kinds₀ buf₀ t₀ kinds' buf' (Err (record { fault = fault w a; rows = t.rows; position = here }))
+    going-refused here e = let y = rw e at x in record { kept = all-kept; by = by-same y.by here }
 
     spare-kept : Spare t.edition K (t₀.lines.0 + lines_left t₀.edition p at) kinds' buf'
     spare-kept = spare-less (omega arith) x.kept.kinds_length x.kept.lines_length g.spare
@@ -86,7 +102,7 @@ module _ {K : ℕ} {p : List ℕ} {at : ℕ} {kinds₀ : List ℕ} {buf₀ : Lis
     one_less : (edition t.edition).line_width ≤ len → suc (lines_left t₀.edition p next) ≤ lines_left t₀.edition p place
     one_less l = lines-starts t₀.edition s (rw g.edition_is at l)
 
-    pub going-made : {u : Tally} → r ≡ Made u → Going K p at kinds₀ buf₀ t₀ kinds' buf' next u true
+    pub going-made : {u : Tally} → r ≡ Ok (Made u) → Going K p at kinds₀ buf₀ t₀ kinds' buf' next u true
     going-made e =
         let y = rw e at x in
         let l = one_less (rw e at long) in
@@ -108,7 +124,7 @@ module _ {K : ℕ} {p : List ℕ} {at : ℕ} {kinds₀ : List ℕ} {buf₀ : Lis
     lines_are : lines_in K kinds buf t.lines.0 ≡ lines_in K kinds' buf' t.lines.0
     lines_are = lines_same K t.lines.0 (agree-sym x.kept.lines_same) (agree-sym x.kept.kinds_same)
 
-    pub going-claimed : r ≡ Stepped.Claimed → Going K p at kinds₀ buf₀ t₀ kinds' buf' next t false
+    pub going-claimed : r ≡ Ok Claimed → Going K p at kinds₀ buf₀ t₀ kinds' buf' next t false
     going-claimed e =
         let y = rw e at x in
         record {
@@ -139,21 +155,26 @@ module _ {K : ℕ} {p : List ℕ} {at : ℕ} {kinds₀ : List ℕ} {buf₀ : Lis
           unread = omega (arith, g.unread, s.from, s.start_is, s.next-is, s.upto, l, line_width-some t.edition);
         })
 
-    module _ {row : RowNumber} (er : row ≡ t.rows) {u : Tally} where
-      pub going-strengthens : {i : LineNumber} → r ≡ Strengthens u i → Stopped K p at kinds₀ buf₀ t₀ kinds' buf' (Stop.Strengthens i row a next u)
-      going-strengthens e = let y = rw e at x in let l = rw e at long in rw er (record { kept = all-kept; by = comes y.by.0 y.by.1 l })
+    -- The row ends the branch or opens others.
+    module _ (here : Position) {u : Tally} {i : LineNumber} where
+      stops : (d : Ending) → SameChecked (field_checked K kinds buf t made tag (take len (drop start p))) (row_left K kinds buf t (row_of d i.0)) → u ≡ more_rows t → (edition t.edition).line_width ≤ len → MultiplierOf d
+          → Stopped K p at here kinds₀ buf₀ t₀ kinds' buf' (Ok (record { ending = d; t = i; row = t.rows; at = a; next = next; tally = u }))
+      stops d q eu l w = record { kept = all-kept; by = (comes q eu l, w) }
 
-      pub going-number : {i : LineNumber} → r ≡ ClosesNumber u i → Stopped K p at kinds₀ buf₀ t₀ kinds' buf' (Stop.ClosesNumber i row a next u)
-      going-number e = let y = rw e at x in let l = rw e at long in rw er (record { kept = all-kept; by = comes y.by.0 y.by.1 l })
+      pub going-strengthens : r ≡ Ok (Strengthens u i) → Stopped K p at here kinds₀ buf₀ t₀ kinds' buf' (Ok (record { ending = Ending.Strengthens; t = i; row = t.rows; at = a; next = next; tally = u }))
+      going-strengthens e = let y = rw e at x in stops Ending.Strengthens y.by.0 y.by.1 (rw e at long) tt
 
-      pub going-stride : {i : LineNumber} {h : ℤ} → r ≡ ClosesStride u i h → Stopped K p at kinds₀ buf₀ t₀ kinds' buf' (Stop.ClosesStride i row a next u h)
-      going-stride e = let y = rw e at x in let l = rw e at long in rw er (record { kept = all-kept; by = (comes y.by.0 y.by.1 l, y.by.2) })
+      pub going-number : r ≡ Ok (ClosesNumber u i) → Stopped K p at here kinds₀ buf₀ t₀ kinds' buf' (Ok (record { ending = Ending.ClosesNumber; t = i; row = t.rows; at = a; next = next; tally = u }))
+      going-number e = let y = rw e at x in stops Ending.ClosesNumber y.by.0 y.by.1 (rw e at long) tt
 
-      pub going-rounds : {i : LineNumber} {h : ℤ} {by : ℕ} → r ≡ Rounds u i h by → Stopped K p at kinds₀ buf₀ t₀ kinds' buf' (Stop.Rounds i row a next u h by)
-      going-rounds e = let y = rw e at x in let l = rw e at long in rw er (record { kept = all-kept; by = (comes y.by.0 y.by.1 l, y.by.2) })
+      pub going-stride : {h : ℤ} → r ≡ Ok (ClosesStride u i h) → Stopped K p at here kinds₀ buf₀ t₀ kinds' buf' (Ok (record { ending = Ending.ClosesStride h; t = i; row = t.rows; at = a; next = next; tally = u }))
+      going-stride {h} e = let y = rw e at x in stops (Ending.ClosesStride h) y.by.0 y.by.1 (rw e at long) y.by.2
 
-      pub going-splits : {i : LineNumber} → r ≡ Splits u i → Stopped K p at kinds₀ buf₀ t₀ kinds' buf' (Stop.Splits i row a next u)
-      going-splits e = let y = rw e at x in let l = rw e at long in rw er (record { kept = all-kept; by = comes y.by.0 y.by.1 l })
+      pub going-rounds : {h : ℤ} {by : ℕ} → r ≡ Ok (Rounds u i h by) → Stopped K p at here kinds₀ buf₀ t₀ kinds' buf' (Ok (record { ending = Ending.Rounds h by; t = i; row = t.rows; at = a; next = next; tally = u }))
+      going-rounds {h} {by} e = let y = rw e at x in stops (Ending.Rounds h by) y.by.0 y.by.1 (rw e at long) y.by.2
+
+      pub going-splits : r ≡ Ok (Splits u i) → Stopped K p at here kinds₀ buf₀ t₀ kinds' buf' (Ok (record { ending = Ending.Splits; t = i; row = t.rows; at = a; next = next; tally = u }))
+      going-splits e = let y = rw e at x in stops Ending.Splits y.by.0 y.by.1 (rw e at long) tt
 
 pub going_start : {K : ℕ} {p : List ℕ} {at : ℕ} {kinds : List ℕ} {buf : List ℤ} {t : Tally}
     → Ready t.edition K kinds buf t.lines.0 × Spare t.edition K (t.lines.0 + lines_left t.edition p at) kinds buf → Going K p at kinds buf t kinds buf at t false

@@ -7,9 +7,7 @@ use lib.IntN.{ℤ}
 use lib.ListN.{length, length-append}
 use Rattle.forms.specs.Edition.{edition1}
 use Rattle.forms.specs.Forms.{Formula, ◌and◌, ◌or◌}
-use Rattle.forms.specs.declared.RowNumber.{RowNumber}
 use Rattle.answers.specs.declared.Answer.{Answer}
-use Rattle.answers.specs.declared.Position.{Position}
 use Rattle.answers.specs.Answers.{Result, refused, accepted, ◌>>=◌}
 use Rattle.fields.specs.Fields.{Fields, field_bytes}
 use Rattle.fields.specs.Places.{fields_at}
@@ -19,9 +17,10 @@ use Rattle.proof.specs.Check.{Closing}
 use Rattle.tally.specs.declared.Tally.{Tally}
 use Rattle.openings.specs.Opening.{in_turn}
 use Rattle.formula_write.proofs.Storing.{both_stored, stores_both}
-use Rattle.branches.specs.Branching.{Closes, BranchedBy, BranchChecked}
-use Rattle.branches.specs.declared.branch.Branched.{Branched}
-use Rattle.branches.specs.declared.branch.Branched.TheVariants as branched
+use Rattle.std.specs.Prelude.{Ok, Err}
+use Rattle.branches.specs.Branching.{Branched, Closes, BranchedBy, BranchChecked}
+use Rattle.branches.specs.declared.branch.BranchFault.{BranchFault}
+use Rattle.branches.specs.declared.branch.Closed.{Closed}
 
 -- ---- the bytes of a formula of one or of two
 pub or_bytes : (f g : Formula) → encode edition1 (f or g) ≡ field_bytes 0x31 [] ++ encode edition1 f ++ encode edition1 g
@@ -48,8 +47,8 @@ module _ {p : List ℕ} {at : ℕ} {t : Tally} {scratch : List ℕ} {o : ℕ} {p
     pub alone-checks : {K n : ℕ} {kinds : List ℕ} {buf : List ℤ} {kinds₁ : List ℕ} {buf₁ : List ℤ} {scratch₂ : List ℕ} {r : Branched}
         → BranchChecked back₁ R K n p at kinds buf t scratch₁ o₁ kinds₁ buf₁ scratch₂ r → BranchChecked back (alone make R) K n p at kinds buf t scratch o kinds₁ buf₁ scratch₂ r
     unfolding ◌>>=◌
-    alone-checks {r = branched.Fault x rows q b} w = record { kept = w.kept; long = w.long ∙ h.long; by = rw w.by }
-    alone-checks {r = branched.Closed a o₂ t₁} w =
+    alone-checks {r = Err f} w = record { kept = w.kept; long = w.long ∙ h.long; by = rw w.by }
+    alone-checks {r = Ok end} w =
         let c = w.by in
         let e = bytes c.formula in
         let s = stores_both pre (encode edition1 c.formula) h (record { long = w.long; o_is = c.o_is; stored = c.stored }) in
@@ -98,16 +97,16 @@ module _ {p : List ℕ} {at : ℕ} {t : Tally} {scratch : List ℕ} {o : ℕ} {p
             }
 
         in-turn-by : (scratch₃ : List ℕ) (r : Branched) → BranchedBy back₂ (second t₁.rows.0 (fields_at p a)) p a t₁ scratch₂ o₂ scratch₃ r → BranchedBy back (in_turn make R second) p at t scratch o scratch₃ r
-        in-turn-by scratch₃ (branched.Fault x rows q b) e = in-turn-refused e
-        in-turn-by scratch₃ (branched.Closed b o₃ t₂) d = in-turn-closes d
+        in-turn-by scratch₃ (Err f) e = in-turn-refused e
+        in-turn-by scratch₃ (Ok end) d = in-turn-closes d
 
     module _ {K n : ℕ} {kinds : List ℕ} {buf : List ℤ} {kinds₁ : List ℕ} {buf₁ : List ℤ} {scratch₂ : List ℕ} {r₁ : Branched} (c : BranchChecked back₁ R K n p at kinds buf t scratch₁ o₁ kinds₁ buf₁ scratch₂ r₁) (back : ℕ) where
-      pub in-turn-fault : {x : ℕ} {rows : RowNumber} {q : Position} {b : ℕ} → r₁ ≡ branched.Fault x rows q b → BranchChecked back (in_turn make R second) K n p at kinds buf t scratch o kinds₁ buf₁ scratch₂ r₁
+      pub in-turn-fault : {w : BranchFault} → r₁ ≡ Err w → BranchChecked back (in_turn make R second) K n p at kinds buf t scratch o kinds₁ buf₁ scratch₂ r₁
       unfolding ◌>>=◌
       in-turn-fault e = let refuses = rw e at c.by in record { kept = c.kept; long = c.long ∙ h.long; by = rw e (rw refuses) }
 
-      pub in-turn-checks : (back₂ : ℕ) → length pre + back ≤ back₁ + back₂ → {a o₂ : ℕ} {t₁ : Tally} → r₁ ≡ branched.Closed a o₂ t₁
-          → {kinds₂ : List ℕ} {buf₂ : List ℤ} {scratch₃ : List ℕ} {r : Branched} → BranchChecked back₂ (second t₁.rows.0 (fields_at p a)) K n p a kinds buf t₁ scratch₂ o₂ kinds₂ buf₂ scratch₃ r
+      pub in-turn-checks : (back₂ : ℕ) → length pre + back ≤ back₁ + back₂ → {end : Closed} → r₁ ≡ Ok end
+          → {kinds₂ : List ℕ} {buf₂ : List ℤ} {scratch₃ : List ℕ} {r : Branched} → BranchChecked back₂ (second end.tally.rows.0 (fields_at p end.at)) K n p end.at kinds buf end.tally scratch₂ end.o kinds₂ buf₂ scratch₃ r
           → BranchChecked back (in_turn make R second) K n p at kinds buf t scratch o kinds₂ buf₂ scratch₃ r
       in-turn-checks back₂ room e {scratch₃ = scratch₃} {r = r} d = record {
         kept = d.kept;

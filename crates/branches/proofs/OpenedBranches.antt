@@ -25,15 +25,15 @@ use Rattle.lines.proofs.Lines.{line_same, lines_same}
 use Rattle.lines.specs.Ready.{Ready, LinesKept}
 use Rattle.lines.proofs.Keeping.{kept_refl, ready-more, ready-kept, kept_trans}
 use Rattle.tally.specs.declared.Tally.{Tally}
-use Rattle.rows.specs.declared.derive.Derived.{Derived}
-use Rattle.rows.specs.declared.derive.Derived.TheVariants as derived
+use Rattle.openings.specs.Opening.{Opening}
 use Rattle.openings.specs.Opening.{in_turn, start_of, middle_of, third_of, Branching, last_two, Longer, FirstLineStands, RowOpens}
 use Rattle.openings.proofs.Starting.{starts, start-less, middle-starts, third-starts}
 use Rattle.formula_write.proofs.Storing.{stores-head}
 use Rattle.branches.specs.Branches.{Comes}
-use Rattle.branches.specs.Branching.{resumed_by, kept_back, Started, Closes, BranchedBy, BranchChecked, deeper, ChecksBranch, Opened, FirstStands, OpenedChecked}
-use Rattle.branches.specs.declared.branch.Branched.{Branched}
-use Rattle.branches.specs.declared.branch.Branched.TheVariants as branched
+use Rattle.branches.specs.Branching.{Branched, resumed_by, kept_back, Started, Closes, BranchedBy, BranchChecked, deeper, ChecksBranch, Opened, FirstStands, OpenedChecked}
+use Rattle.std.specs.Prelude.{Ok, Err}
+use Rattle.branches.specs.declared.branch.BranchFault.{BranchFault}
+use Rattle.branches.specs.declared.branch.Closed.{Closed}
 use Rattle.branches.proofs.Spare.{lines-fewer, spare-less}
 use Rattle.branches.proofs.BranchStops.{comes-opened}
 use Rattle.branches.proofs.JoinedClosings.{and_bytes, in-turn-fault, in-turn-checks}
@@ -75,7 +75,7 @@ module _ {K n x y : ℕ} {p : List ℕ} {kinds : List ℕ} {buf : List ℤ} {t :
         }
 
         -- It is closed.
-        module _ {a o₂ : ℕ} {t₁ : Tally} (e : r ≡ branched.Closed a o₂ t₁) where
+        module _ {a o₂ : ℕ} {t₁ : Tally} (e : r ≡ Ok (record { at = a; o = o₂; tally = t₁ })) where
           closes : Closes kept_back (deeper K t here t.rows.0 (lines_in K kinds₁ buf₁ t.lines.0) (fields_at p at)) p at t a scratch₁ o₁ o₂ scratch₂ t₁
           closes = rw e at b.by
 
@@ -129,7 +129,7 @@ module _ {K n x y : ℕ} {p : List ℕ} {kinds : List ℕ} {buf : List ℤ} {t :
       some-started = own-started some-longer short
 
       module _ (here : Position) {scratch₁ : List ℕ} {kinds₂ : List ℕ} {buf₂ : List ℤ} {scratch₂ : List ℕ} {r : Branched} (b : ChecksBranch K p at here kinds₁ buf₁ t scratch₁ o₁ kinds₂ buf₂ scratch₂ r)
-          {a o₂ : ℕ} {t₁ : Tally} (e : r ≡ branched.Closed a o₂ t₁) where
+          {a o₂ : ℕ} {t₁ : Tally} (e : r ≡ Ok (record { at = a; o = o₂; tally = t₁ })) where
         pub some-open : t₁.«open» ≡ t.«open»
         some-open = next-open some-longer short here b e
 
@@ -146,13 +146,13 @@ module _ {K n x y : ℕ} {p : List ℕ} {kinds : List ℕ} {buf : List ℤ} {t :
     first-started = own-started f (head-short h)
 
     module _ {kinds₁ : List ℕ} {buf₁ : List ℤ} {scratch₂ : List ℕ} {r₁ : Branched} (b : ChecksBranch K p at (position step 0) kinds buf t scratch₁ o₁ kinds₁ buf₁ scratch₂ r₁) where
-      pub first-fault : {w : ℕ} {rows : RowNumber} {q : Position} {z : ℕ} → r₁ ≡ branched.Fault w rows q z → OpenedChecked kept_back (first_then x y make rest) K step n p at kinds buf t i scratch o kinds₁ buf₁ scratch₂ r₁
+      pub first-fault : {f : BranchFault} → r₁ ≡ Err f → OpenedChecked kept_back (first_then x y make rest) K step n p at kinds buf t i scratch o kinds₁ buf₁ scratch₂ r₁
       first-fault e = in-turn-fault (stores-head h) kept_back make bytes (λ rows fs. rest (deeper K t) (lines_in K kinds buf n) (line_in K kinds buf i) step rows fs) (own-checked f (head-short h) (position step 0) b) kept_back e
 
       pub first-kept : LinesKept K n kinds buf kinds₁ buf₁
       first-kept = (own-checked f (head-short h) (position step 0) b).kept
 
-      module _ {a o₂ : ℕ} {t₁ : Tally} (e : r₁ ≡ branched.Closed a o₂ t₁) where
+      module _ {a o₂ : ℕ} {t₁ : Tally} (e : r₁ ≡ Ok (record { at = a; o = o₂; tally = t₁ })) where
         pub rest-open : t₁.«open» ≡ t.«open»
         rest-open = next-open f (head-short h) (position step 0) b e
 
@@ -178,10 +178,10 @@ module _ {K n : ℕ} {p : List ℕ} {kinds : List ℕ} {buf : List ℤ} {t : Tal
   middle = middle-starts d.ready d.line d.space 1 1 d.small eb ek
 
   module _ {kinds₂ : List ℕ} {buf₂ : List ℤ} {scratch₂ : List ℕ} {r₁ : Branched} (b : ChecksBranch K p at (position step 1) kinds₁ buf₁ t scratch₁ o₁ kinds₂ buf₂ scratch₂ r₁) where
-    pub two-fault : {x : ℕ} {rows : RowNumber} {q : Position} {z : ℕ} → r₁ ≡ branched.Fault x rows q z → OpenedChecked kept_back last_two K step n p at kinds buf t i scratch o kinds₂ buf₂ scratch₂ r₁
+    pub two-fault : {f : BranchFault} → r₁ ≡ Err f → OpenedChecked kept_back last_two K step n p at kinds buf t i scratch o kinds₂ buf₂ scratch₂ r₁
     two-fault e = in-turn-fault (stores-head h) kept_back ◌and◌ and_bytes (λ rows fs. third_branch (deeper K t) (lines_in K kinds buf n) (line_in K kinds buf i) step rows fs) (own-checked d middle (head-short h) (position step 1) b) kept_back e
 
-    module _ {a o₂ : ℕ} {t₁ : Tally} (e : r₁ ≡ branched.Closed a o₂ t₁) {kinds₃ : List ℕ} {buf₃ : List ℤ} (eb₃ : buf₃ ≡ started_line K i n 1 0 buf₂) (ek₃ : kinds₃ ≡ set kinds₂ n 0) where
+    module _ {a o₂ : ℕ} {t₁ : Tally} (e : r₁ ≡ Ok (record { at = a; o = o₂; tally = t₁ })) {kinds₃ : List ℕ} {buf₃ : List ℤ} (eb₃ : buf₃ ≡ started_line K i n 1 0 buf₂) (ek₃ : kinds₃ ≡ set kinds₂ n 0) where
       d₃ : Opened K n 1 1 kinds₂ buf₂ t₁ i p a o₂
       d₃ = next-opened d middle (head-short h) (position step 1) b e
 
@@ -195,12 +195,9 @@ module _ {K n : ℕ} {p : List ℕ} {kinds : List ℕ} {buf : List ℤ} {t : Tal
           (next-same d middle (head-short h) (position step 1) b e third_branch step (own-checked d₃ third none-short (position step 2) x))
 
 -- ---- the branch with the row that opens branches
-pub resumed-fault : {r : Branched} {x : ℕ} {rows : RowNumber} {q : Position} {z : ℕ} (t : Tally) → r ≡ branched.Fault x rows q z → r ≡ resumed_by r t
-resumed-fault t e = rw e
-
 module _ {K : ℕ} {p : List ℕ} {at : ℕ} {kinds : List ℕ} {buf : List ℤ} {t : Tally} {kinds' : List ℕ} {buf' : List ℤ} {row : rules.Row} {branching : Branching} {i x y number a next : ℕ} {u : Tally}
     (m : Comes K p at kinds buf t kinds' buf' row number a next u) (k : LinesKept K t.lines.0 kinds buf kinds' buf')
-    {kinds'' : List ℕ} {buf'' : List ℤ} {s : Derived} {v : Tally} (w : RowOpens row branching K kinds' buf' u i x y kinds'' buf'' s) (e : s ≡ derived.Made v) where
+    {kinds'' : List ℕ} {buf'' : List ℤ} {s : Opening} {v : Tally} (w : RowOpens row branching K kinds' buf' u i x y kinds'' buf'' s) (e : s ≡ Ok v) where
   stands : FirstLineStands K kinds' buf' u i x y kinds'' buf'' v
   stands = (rw e at w.by).1
 
@@ -249,24 +246,30 @@ module _ {K : ℕ} {p : List ℕ} {at : ℕ} {kinds : List ℕ} {buf : List ℤ}
         let n : 32 - v.«open» ≡ 32 - (u.«open» + 1) = omega (arith, opens-less, m.open_is) in
         comes-opened here m k ∙ (rw e at w.by).0 _ (refusal_at here number a) number (fields_at p next) ∙ rw (same_line, same_lines, same-edition, r, n)
 
-    resumed-by : (b : Branched) → BranchedBy kept_back (deeper K t here t.rows.0 (lines_in K kinds buf t.lines.0) (fields_at p at)) p next v scratch o scratch₁ b
-        → BranchedBy kept_back (deeper K t here t.rows.0 (lines_in K kinds buf t.lines.0) (fields_at p at)) p at t scratch o scratch₁ (resumed_by b t)
-    resumed-by (branched.Fault z rows q a) g = g
-    resumed-by (branched.Closed a o' v') g = record {
-      formula = g.formula;
-      is = g.is;
-      o_is = g.o_is;
-      stored = g.stored;
-      within = omega (arith, g.within, m.unread);
-      unread = omega (arith, g.unread, m.unread);
-      lines_is = refl;
-      open_is = refl;
-      edition_is = refl;
-    }
+    here-all : BranchedBy kept_back (deeper K t here t.rows.0 (lines_in K kinds buf t.lines.0) (fields_at p at)) p next v scratch o scratch₁ b
+    here-all = subst (λ (R : Result Closing). BranchedBy kept_back R p next v scratch o scratch₁ b) (sym branches) all.by
 
-    pub resumed-checks : {r : Branched} → r ≡ resumed_by b t → ChecksBranch K p at here kinds buf t scratch o kinds₁ buf₁ scratch₁ r
-    resumed-checks q = rw q (record {
-      kept = kept_trans m.from k (kept_trans (omega arith) w.kept all.kept);
-      long = all.long;
-      by = resumed-by b (subst (λ (R : Result Closing). BranchedBy kept_back R p next v scratch o scratch₁ b) (sym branches) all.by);
-    })
+    here-kept : LinesKept K t.lines.0 kinds buf kinds₁ buf₁
+    here-kept = kept_trans m.from k (kept_trans (omega arith) w.kept all.kept)
+
+    pub resumed-fault : {f : BranchFault} → b ≡ Err f → ChecksBranch K p at here kinds buf t scratch o kinds₁ buf₁ scratch₁ (Err f)
+    resumed-fault q = record { kept = here-kept; long = all.long; by = rw q at here-all }
+
+    pub resumed-checks : {end : Closed} → b ≡ Ok end → {r : Closed} → r ≡ resumed_by end t → ChecksBranch K p at here kinds buf t scratch o kinds₁ buf₁ scratch₁ (Ok r)
+    resumed-checks q er =
+        let g = rw q at here-all in
+        rw er (record {
+          kept = here-kept;
+          long = all.long;
+          by = record {
+            formula = g.formula;
+            is = g.is;
+            o_is = g.o_is;
+            stored = g.stored;
+            within = omega (arith, g.within, m.unread);
+            unread = omega (arith, g.unread, m.unread);
+            lines_is = refl;
+            open_is = refl;
+            edition_is = refl;
+          };
+        })

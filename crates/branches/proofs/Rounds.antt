@@ -1,10 +1,14 @@
 -- The branches of a rounding from j on. Assumes nothing.
 use mathlib.Core.Path.{◌≡◌, refl, sym, subst, ◌∙◌}
 use mathlib.Core.Bool.{Bool, true, false}
+use mathlib.Core.Logic.{⊎_elim}
 use mathlib.Core.List.{List, ◌++◌}
 use Prim.Native.Nat.{ℕ, suc, ◌+◌, ◌*◌, ◌-◌, ◌≤◌, ◌<◌}
 use native.Mathlib.Numerals.{add-one}
+use native.Mathlib.Nat.{eq-zero-or-pos}
 use native.Mathlib.Omega.{arith}
+use lib.Dec.{ltb}
+use borrow.Author.Tests.{lt-ltb, le-ltb}
 use lib.IntN.{ℤ, nat_abs}
 use lib.ListN.{length}
 use Rattle.forms.specs.Edition.{edition, edition1, newest_edition}
@@ -12,9 +16,7 @@ use Rattle.forms.proofs.Editions.{lines-most}
 use Rattle.forms.specs.Forms.{Form, Line, Formula, ◌divides◌, ◌and◌, ◌or◌}
 use Rattle.forms.specs.Reduced.{reduced}
 use Rattle.forms.specs.Flat.{form_in}
-use Rattle.forms.specs.declared.RowNumber.{RowNumber}
 use Rattle.calculus.specs.Rules.{◌▷◌}
-use Rattle.answers.specs.declared.Position.{Position}
 use Rattle.answers.specs.Answers.{position, Result, accepted, ◌>>=◌}
 use Rattle.number_bytes.specs.Numbers.{unsigned_bytes}
 use Rattle.fields.specs.Fields.{Fields, field_bytes}
@@ -35,9 +37,10 @@ use Rattle.entries.specs.Entries.{Multiplies}
 use Rattle.closes.proofs.Ending.{numbered, divisor}
 use Rattle.openings.specs.Opening.{in_turn, start_of, from_branch, Longer, RoundsBy, stride_part, RoundedStarts}
 use Rattle.openings.proofs.Starting.{starts, start-form, start-numbered}
-use Rattle.branches.specs.Branching.{kept_back, Started, deeper, ChecksBranch, Opened, OpenedChecked, RoundedChecked}
-use Rattle.branches.specs.declared.branch.Branched.{Branched}
-use Rattle.branches.specs.declared.branch.Branched.TheVariants as branched
+use Rattle.branches.specs.Branching.{Branched, kept_back, Started, deeper, ChecksBranch, Opened, OpenedChecked, RoundedChecked}
+use Rattle.std.specs.Prelude.{Ok, Err}
+use Rattle.branches.specs.declared.branch.BranchFault.{BranchFault}
+use Rattle.branches.specs.declared.branch.Closed.{Closed}
 use Rattle.branches.proofs.JoinedClosings.{checked-as, alone-checks, in-turn-fault, in-turn-checks}
 use Rattle.branches.proofs.OpenedBranches.{room-left, own-started, own-checked, start-asked, next-open, next-unread, next-opened, next-same}
 
@@ -124,7 +127,10 @@ module _ {K n by : ℕ} {p : List ℕ} {kinds : List ℕ} {buf : List ℤ} {t : 
             checked-as (last-is (deeper K t) (lines_in K kinds buf n) (line_in K kinds buf i) step g by j t.rows.0 (fields_at p at) q)
             (alone-checks h' kept_back (λ f. E and f) (last-bytes E) 3 (omega (arith, front-size false E, own-short)) (own-checked d own short (position step (j + 1)) b))
 
-        closed-unread : {a o₂ : ℕ} {t₁ : Tally} → r ≡ branched.Closed a o₂ t₁ → unread_bytes p a < unread_bytes p at
+        more-kept : LinesKept K n kinds buf kinds₂ buf₂
+        more-kept = (own-checked d own short (position step (j + 1)) b).kept
+
+        closed-unread : {a o₂ : ℕ} {t₁ : Tally} → r ≡ Ok (record { at = a; o = o₂; tally = t₁ }) → unread_bytes p a < unread_bytes p at
         closed-unread c = next-unread d own short (position step (j + 1)) b c
 
         -- Others follow.
@@ -132,16 +138,13 @@ module _ {K n by : ℕ} {p : List ℕ} {kinds : List ℕ} {buf : List ℤ} {t : 
           more : Stores scratch o (front_bytes true (stride_part g j (line_in K kinds buf i))) scratch₁ o₁
           more = rw e at h.front
 
-          more-fault : {x : ℕ} {rows : RowNumber} {pl : Position} {z : ℕ} → r ≡ branched.Fault x rows pl z → OpenedChecked 3 (from_branch g by j) K step n p at kinds buf t i scratch o kinds₂ buf₂ scratch₂ r
+          more-fault : {f : BranchFault} → r ≡ Err f → OpenedChecked 3 (from_branch g by j) K step n p at kinds buf t i scratch o kinds₂ buf₂ scratch₂ r
           more-fault y =
               checked-as (more-is (deeper K t) (lines_in K kinds buf n) (line_in K kinds buf i) step g by j t.rows.0 (fields_at p at) q)
               (in-turn-fault more kept_back (λ f g'. (stride_part g j (line_in K kinds buf i) and f) or g') (more_bytes (stride_part g j (line_in K kinds buf i)))
               (λ rows fs. from_branch g by (j + 1) (deeper K t) (lines_in K kinds buf n) (line_in K kinds buf i) step rows fs) (own-checked d own short (position step (j + 1)) b) 3 y)
 
-          more-kept : LinesKept K n kinds buf kinds₂ buf₂
-          more-kept = (own-checked d own short (position step (j + 1)) b).kept
-
-          module _ {a o₂ : ℕ} {t₁ : Tally} (c : r ≡ branched.Closed a o₂ t₁) where
+          module _ {a o₂ : ℕ} {t₁ : Tally} (c : r ≡ Ok (record { at = a; o = o₂; tally = t₁ })) where
             more-open : t₁.«open» ≡ t.«open»
             more-open = next-open d own short (position step (j + 1)) b c
 
@@ -169,32 +172,63 @@ pub record Rounding (K step n : ℕ) (p : List ℕ) (at : ℕ) (kinds₀ : List 
   pub rest : {kinds' : List ℕ} {buf' : List ℤ} {scratch' : List ℕ} {r : Branched} → RoundedChecked K step n p here kinds buf t i g by j scratch o kinds' buf' scratch' r
       → RoundedChecked K step n p at kinds₀ buf₀ t₀ i g by 0 scratch₀ o₀ kinds' buf' scratch' r
 
+-- At the end of the loop the last branch closes all of them.
+pub record Rounded (K step n : ℕ) (p : List ℕ) (at : ℕ) (kinds₀ : List ℕ) (buf₀ : List ℤ) (t₀ : Tally) (i g by : ℕ) (scratch₀ : List ℕ) (o₀ : ℕ)
+    (kinds : List ℕ) (buf : List ℤ) (scratch : List ℕ) (end : Closed) (j : ℕ) : Type 0 where
+  pub turn : j < by → Rounding K step n p at kinds₀ buf₀ t₀ i g by scratch₀ o₀ kinds buf scratch end.at end.o end.tally j
+  pub last : by ≤ j → RoundedChecked K step n p at kinds₀ buf₀ t₀ i g by 0 scratch₀ o₀ kinds buf scratch (Ok end)
+  pub lines_long : length buf ≡ length buf₀
+  pub kinds_long : length kinds ≡ length kinds₀
+  pub long : length scratch ≡ length scratch₀
+
 pub rounding-start : {K n : ℕ} {p : List ℕ} {at : ℕ} {kinds : List ℕ} {buf : List ℤ} {t : Tally} {i g by : ℕ} {scratch : List ℕ} {o : ℕ} (step : ℕ)
-    → Opened K n by by kinds buf t i p at o → RoundsBy g by → Rounding K step n p at kinds buf t i g by scratch o kinds buf scratch at o t 0
-rounding-start step d q = record { opened = d; less = omega (arith, q.least); kept = kept_refl; long = refl; open_is = refl; unread = omega arith; rest = λ x. x }
+    → Opened K n by by kinds buf t i p at o → RoundsBy g by → Rounded K step n p at kinds buf t i g by scratch o kinds buf scratch (record { at = at; o = o; tally = t }) 0
+rounding-start step d q = record {
+  turn = λ h. record { opened = d; less = h; kept = kept_refl; long = refl; open_is = refl; unread = omega arith; rest = λ x. x };
+  last = λ h. absurd (omega (arith, q.least));
+  lines_long = refl;
+  kinds_long = refl;
+  long = refl;
+}
 
 module _ {K step n : ℕ} {p : List ℕ} {at : ℕ} {kinds₀ : List ℕ} {buf₀ : List ℤ} {t₀ : Tally} {i g by : ℕ} {scratch₀ : List ℕ} {o₀ : ℕ}
     {kinds : List ℕ} {buf : List ℤ} {scratch : List ℕ} {here o : ℕ} {t : Tally} {j : ℕ} (turn : Rounding K step n p at kinds₀ buf₀ t₀ i g by scratch₀ o₀ kinds buf scratch here o t j)
-    (others : Bool) {kinds₁ : List ℕ} {buf₁ : List ℤ} {scratch₁ : List ℕ} {o₁ : ℕ} (h : RoundedStarts K i n g by j others kinds buf scratch o kinds₁ buf₁ scratch₁ o₁)
+    {kinds₁ : List ℕ} {buf₁ : List ℤ} {scratch₁ : List ℕ} {o₁ : ℕ} (h : RoundedStarts K i n g by j (ltb (j + 1) by) kinds buf scratch o kinds₁ buf₁ scratch₁ o₁)
     {kinds₂ : List ℕ} {buf₂ : List ℤ} {scratch₂ : List ℕ} {r : Branched} (b : ChecksBranch K p here (position step (j + 1)) kinds₁ buf₁ t scratch₁ o₁ kinds₂ buf₂ scratch₂ r) where
-  pub rounding-last : others ≡ false → by ≤ j + 1 → RoundedChecked K step n p at kinds₀ buf₀ t₀ i g by 0 scratch₀ o₀ kinds₂ buf₂ scratch₂ r
-  rounding-last e q = turn.rest (last-checks turn.opened turn.less g others h step b e q)
+  rounding-last : by ≤ j + 1 → RoundedChecked K step n p at kinds₀ buf₀ t₀ i g by 0 scratch₀ o₀ kinds₂ buf₂ scratch₂ r
+  rounding-last q = turn.rest (last-checks turn.opened turn.less g (ltb (j + 1) by) h step b (le-ltb (j + 1) by q) q)
 
-  pub rounding-unread : {a o₂ : ℕ} {t₁ : Tally} → r ≡ branched.Closed a o₂ t₁ → unread_bytes p a < unread_bytes p here
-  rounding-unread c = closed-unread turn.opened turn.less g others h step b c
+  pub rounding-fault : {f : BranchFault} → r ≡ Err f → RoundedChecked K step n p at kinds₀ buf₀ t₀ i g by 0 scratch₀ o₀ kinds₂ buf₂ scratch₂ (Err f)
+  rounding-fault y = rw (← y) (
+      ⊎_elim
+      (λ (z : by - (j + 1) ≡ 0). rounding-last (omega arith))
+      (λ (l : 0 < by - (j + 1)).
+          let q : j + 1 < by = omega arith in
+          turn.rest (more-fault turn.opened turn.less g (ltb (j + 1) by) h step b (lt-ltb (j + 1) by q) q y))
+      (eq-zero-or-pos (by - (j + 1))))
 
-  module _ (e : others ≡ true) (q : j + 1 < by) where
-    pub rounding-fault : {x : ℕ} {rows : RowNumber} {pl : Position} {z : ℕ} → r ≡ branched.Fault x rows pl z → RoundedChecked K step n p at kinds₀ buf₀ t₀ i g by 0 scratch₀ o₀ kinds₂ buf₂ scratch₂ r
-    rounding-fault y = turn.rest (more-fault turn.opened turn.less g others h step b e q y)
+  pub rounding-kept : LinesKept K n kinds buf kinds₂ buf₂
+  rounding-kept = more-kept turn.opened turn.less g (ltb (j + 1) by) h step b
 
-    module _ {a o₂ : ℕ} {t₁ : Tally} (c : r ≡ branched.Closed a o₂ t₁) where
-      pub rounding-next : Rounding K step n p at kinds₀ buf₀ t₀ i g by scratch₀ o₀ kinds₂ buf₂ scratch₂ a o₂ t₁ (j + 1)
-      rounding-next = record {
-        opened = more-opened turn.opened turn.less g others h step b e q c;
-        less = q;
-        kept = kept_trans (omega arith) turn.kept (more-kept turn.opened turn.less g others h step b e q);
-        long = b.long ∙ h.front.long ∙ turn.long;
-        open_is = more-open turn.opened turn.less g others h step b e q c ∙ turn.open_is;
-        unread = omega (arith, turn.unread, rounding-unread c);
-        rest = λ x. turn.rest (more-checks turn.opened turn.less g others h step b e q c x);
-      }
+  module _ {end : Closed} (c : r ≡ Ok end) where
+    rounding-next : j + 1 < by → Rounding K step n p at kinds₀ buf₀ t₀ i g by scratch₀ o₀ kinds₂ buf₂ scratch₂ end.at end.o end.tally (j + 1)
+    rounding-next q =
+        let e = lt-ltb (j + 1) by q in
+        record {
+          opened = more-opened turn.opened turn.less g (ltb (j + 1) by) h step b e q c;
+          less = q;
+          kept = kept_trans (omega arith) turn.kept rounding-kept;
+          long = b.long ∙ h.front.long ∙ turn.long;
+          open_is = more-open turn.opened turn.less g (ltb (j + 1) by) h step b e q c ∙ turn.open_is;
+          unread = omega (arith, turn.unread, closed-unread turn.opened turn.less g (ltb (j + 1) by) h step b c);
+          rest = λ x. turn.rest (more-checks turn.opened turn.less g (ltb (j + 1) by) h step b e q c x);
+        }
+
+    pub rounding-turn : Rounded K step n p at kinds₀ buf₀ t₀ i g by scratch₀ o₀ kinds₂ buf₂ scratch₂ end (j + 1)
+    rounding-turn = record {
+      turn = rounding-next;
+      last = λ q. rw c at (rounding-last q);
+      lines_long = rounding-kept.lines_length ∙ turn.kept.lines_length;
+      kinds_long = rounding-kept.kinds_length ∙ turn.kept.kinds_length;
+      long = b.long ∙ h.front.long ∙ turn.long;
+    }

@@ -25,18 +25,18 @@ use Rattle.lines.proofs.Lines.{line_same}
 use Rattle.lines.proofs.Starting.{plus_none}
 use Rattle.lines.specs.Ready.{KindRead, LinesKept}
 use Rattle.tally.specs.declared.Tally.{Tally}
-use Rattle.rows.specs.declared.derive.Derived.{Derived}
-use Rattle.rows.specs.declared.derive.Derived.TheVariants.{Made}
+use Rattle.openings.specs.Opening.{Opening}
 use Rattle.openings.specs.Opening.{in_turn, Branching, Longer}
 use Rattle.openings.specs.Splitting.{owner_of, raised_by, joined_by, negated_of, both_of, SplitOpens}
 use Rattle.openings.proofs.Starting.{negated-starts, negated-less}
 use Rattle.openings.proofs.SplitTests.{read-two}
 use Rattle.branches.specs.Branches.{Comes}
-use Rattle.branches.specs.Branching.{resumed_by, kept_back, Started, ChecksBranch, deeper, Opened, FirstStands, OpenedChecked, SplitOpened, SplitChecked}
-use Rattle.branches.specs.declared.branch.Branched.{Branched}
-use Rattle.branches.specs.declared.branch.Branched.TheVariants as branched
+use Rattle.branches.specs.Branching.{Branched, resumed_by, kept_back, Started, ChecksBranch, deeper, Opened, FirstStands, OpenedChecked, SplitOpened, SplitChecked}
+use Rattle.std.specs.Prelude.{Ok, Err}
+use Rattle.branches.specs.declared.branch.BranchFault.{BranchFault}
+use Rattle.branches.specs.declared.branch.Closed.{Closed}
 use Rattle.branches.proofs.JoinedClosings.{checked-as, or_bytes, and_bytes}
-use Rattle.branches.proofs.OpenedBranches.{none-short, first_then, own-started, own-checked, first-started, first-kept, first-fault, rest-open, rest-unread, rest-opened, first-checks, opened, first-stands, resumed-checks}
+use Rattle.branches.proofs.OpenedBranches.{none-short, first_then, own-started, own-checked, first-started, first-kept, first-fault, rest-open, rest-unread, rest-opened, first-checks, opened, first-stands, resumed-fault, resumed-checks}
 
 -- ---- both branches, by whose line it is
 abbrev join_of : Bool → Formula → Formula → Formula
@@ -74,10 +74,10 @@ module _ {K n : ℕ} {p : List ℕ} {kinds : List ℕ} {buf : List ℤ} {t : Tal
     as-both x = checked-as (both_is (eqb (get_or kinds i 0) 2) (deeper K t) (lines_in K kinds buf n) (line_in K kinds buf i) step t.rows.0 (fields_at p at)) x
 
     module _ {kinds₁ : List ℕ} {buf₁ : List ℤ} {scratch₂ : List ℕ} {r₁ : Branched} (b : ChecksBranch K p at (position step 0) kinds buf t scratch₁ o₁ kinds₁ buf₁ scratch₂ r₁) where
-      pub split-fault : {w : ℕ} {rows : RowNumber} {q : Position} {z : ℕ} → r₁ ≡ branched.Fault w rows q z → SplitChecked K step n p at kinds buf t i scratch o kinds₁ buf₁ scratch₂ r₁
+      pub split-fault : {f : BranchFault} → r₁ ≡ Err f → SplitChecked K step n p at kinds buf t i scratch o kinds₁ buf₁ scratch₂ r₁
       split-fault e = as-both (first-fault s.opened (join_of (eqb (get_or kinds i 0) 2)) (join-bytes (eqb (get_or kinds i 0) 2)) (negated_branch (raised_by (get_or kinds i 0))) step s.stands head b e)
 
-      module _ {a o₂ : ℕ} {t₁ : Tally} (e : r₁ ≡ branched.Closed a o₂ t₁) where
+      module _ {a o₂ : ℕ} {t₁ : Tally} (e : r₁ ≡ Ok (record { at = a; o = o₂; tally = t₁ })) where
         pub split-open : t₁.«open» ≡ t.«open»
         split-open = rest-open s.opened (join_of (eqb (get_or kinds i 0) 2)) (join-bytes (eqb (get_or kinds i 0) 2)) (negated_branch (raised_by (get_or kinds i 0))) step s.stands head b e
 
@@ -117,7 +117,7 @@ module _ {K n : ℕ} {p : List ℕ} {kinds : List ℕ} {buf : List ℤ} {t : Tal
 -- ---- the branch with the split, which is opened
 module _ {K : ℕ} {p : List ℕ} {at : ℕ} {kinds : List ℕ} {buf : List ℤ} {t : Tally} {kinds' : List ℕ} {buf' : List ℤ} {i number a next : ℕ} {u : Tally}
     (m : Comes K p at kinds buf t kinds' buf' (rules.Split i) number a next u) (k : LinesKept K t.lines.0 kinds buf kinds' buf')
-    {kinds'' : List ℕ} {buf'' : List ℤ} {s : Derived} {v : Tally} (w : SplitOpens K kinds' buf' u i kinds'' buf'' s) (e : s ≡ Made v) where
+    {kinds'' : List ℕ} {buf'' : List ℤ} {s : Opening} {v : Tally} (w : SplitOpens K kinds' buf' u i kinds'' buf'' s) (e : s ≡ Ok v) where
   there : i < u.lines.0
   there = (rw e at w.opens.by).1.start.copy.first
 
@@ -133,7 +133,12 @@ module _ {K : ℕ} {p : List ℕ} {at : ℕ} {kinds : List ℕ} {buf : List ℤ}
         (subst (λ (l : Line). T (in_range edition1.range (negated_of 1 (raised_by (get_or kinds' i 0)) l))) (sym (line_same K w.opens.kept.lines_same w.opens.kept.kinds_same i there)) (w.second v e));
   }
 
-  pub split-resumed : (here : Position) {scratch : List ℕ} {o : ℕ} {kinds₁ : List ℕ} {buf₁ : List ℤ} {scratch₁ : List ℕ} {b r : Branched}
-      → SplitChecked K number u.lines.0 p next kinds'' buf'' v i scratch o kinds₁ buf₁ scratch₁ b → r ≡ resumed_by b t → ChecksBranch K p at here kinds buf t scratch o kinds₁ buf₁ scratch₁ r
-  split-resumed here {scratch} {o} {kinds₁} {buf₁} {scratch₁} {b} x q =
-      resumed-checks m k w.opens e here (subst (λ (c : ℕ). OpenedChecked kept_back (both_of (owner_of c)) K number u.lines.0 p next kinds'' buf'' v i scratch o kinds₁ buf₁ scratch₁ b) byte x) q
+  module _ (here : Position) {scratch : List ℕ} {o : ℕ} {kinds₁ : List ℕ} {buf₁ : List ℤ} {scratch₁ : List ℕ} {b : Branched} (x : SplitChecked K number u.lines.0 p next kinds'' buf'' v i scratch o kinds₁ buf₁ scratch₁ b) where
+    both : OpenedChecked kept_back (both_of (owner_of (get_or kinds' i 0))) K number u.lines.0 p next kinds'' buf'' v i scratch o kinds₁ buf₁ scratch₁ b
+    both = subst (λ (c : ℕ). OpenedChecked kept_back (both_of (owner_of c)) K number u.lines.0 p next kinds'' buf'' v i scratch o kinds₁ buf₁ scratch₁ b) byte x
+
+    pub split-refused : {f : BranchFault} → b ≡ Err f → ChecksBranch K p at here kinds buf t scratch o kinds₁ buf₁ scratch₁ (Err f)
+    split-refused q = resumed-fault m k w.opens e here both q
+
+    pub split-resumed : {end : Closed} → b ≡ Ok end → {r : Closed} → r ≡ resumed_by end t → ChecksBranch K p at here kinds buf t scratch o kinds₁ buf₁ scratch₁ (Ok r)
+    split-resumed q er = resumed-checks m k w.opens e here both q er

@@ -1,9 +1,14 @@
 -- The entries of a branch, by how the code finds that they end. Document 01, "Check". Assumes nothing.
-use Rattle.std.specs.Prelude.{◌≡◌, List, ℕ, suc, ◌+◌, ◌≤◌, ℤ, nat_abs}
+use Rattle.std.specs.declared.result.Result as code
+use Rattle.std.specs.Prelude.{◌≡◌, Ok, Err, List, ℕ, suc, ◌+◌, ◌≤◌, ℤ, nat_abs}
 use Rattle.std.proofs.Math.Option.{Option, none}
 use Rattle.forms.specs.Edition.{edition}
 use Rattle.calculus.specs.Rules as rules
 use Rattle.answers.specs.declared.Position.{Position}
+use Rattle.answers.specs.declared.refusals.Refusal.{Refusal}
+use Rattle.answers.specs.Refusals.{fault, number_of}
+use Rattle.forms.specs.declared.RowNumber.{RowNumber}
+use Rattle.fields.specs.declared.End.{End}
 use Rattle.answers.specs.Answers.{refusal_at, Result, refused}
 use Rattle.fields.specs.Places.{fields_at, unread_bytes}
 use Rattle.proof.specs.Check.{Closing, Checker, check_row, check_entries}
@@ -12,6 +17,8 @@ use Rattle.lines.specs.Ready.{Ready, LinesKept}
 use Rattle.tally.specs.declared.Tally.{Tally}
 use Rattle.entries.specs.Entries.{Multiplies}
 use Rattle.branches.specs.Spare.{lines_left}
+use Rattle.branches.specs.declared.branch.BranchFault.{BranchFault}
+use Rattle.branches.specs.declared.branch.Ending.{Ending}
 use Rattle.branches.specs.declared.branch.Stop.{Stop}
 
 -- The entries from a place on, in a branch of the tally's lines at a position, where no claim may stand first.
@@ -31,17 +38,30 @@ pub record Comes (K : ℕ) (p : List ℕ) (at : ℕ) (kinds : List ℕ) (buf : L
   pub few : t'.lines.0 + suc (lines_left t.edition p next) ≤ t.lines.0 + lines_left t.edition p at
   pub unread : unread_bytes p next + 4 ≤ unread_bytes p at
 
-abbrev pub StoppedBy : (K : ℕ) (p : List ℕ) (at : ℕ) (kinds : List ℕ) (buf : List ℤ) (t : Tally) (kinds' : List ℕ) (buf' : List ℤ) → Stop → Type 0
-StoppedBy K p at kinds buf t kinds' buf' (Stop.Fault x rows a) =
-    (here : Position) (deeper : Option Checker) → entries_from K p at kinds buf t here deeper ≡ refused (refusal_at here rows.0 a x)
-StoppedBy K p at kinds buf t kinds' buf' (Stop.Strengthens i row a next t') = Comes K p at kinds buf t kinds' buf' (rules.Strengthen i.0) row.0 a next t'
-StoppedBy K p at kinds buf t kinds' buf' (Stop.ClosesNumber i row a next t') = Comes K p at kinds buf t kinds' buf' (rules.CloseNumber i.0) row.0 a next t'
-StoppedBy K p at kinds buf t kinds' buf' (Stop.ClosesStride i row a next t' g) =
-    Comes K p at kinds buf t kinds' buf' (rules.CloseStride i.0 (nat_abs g)) row.0 a next t' × Multiplies (nat_abs g) g
-StoppedBy K p at kinds buf t kinds' buf' (Stop.Rounds i row a next t' g by) =
-    Comes K p at kinds buf t kinds' buf' (rules.Round i.0 (nat_abs g) by) row.0 a next t' × Multiplies (nat_abs g) g
-StoppedBy K p at kinds buf t kinds' buf' (Stop.Splits i row a next t') = Comes K p at kinds buf t kinds' buf' (rules.Split i.0) row.0 a next t'
+-- The row of line i, and what is known of its multiplier.
+abbrev pub row_of : Ending → (i : ℕ) → rules.Row
+row_of Ending.Strengthens i = rules.Strengthen i
+row_of Ending.ClosesNumber i = rules.CloseNumber i
+row_of (Ending.ClosesStride g) i = rules.CloseStride i (nat_abs g)
+row_of (Ending.Rounds g by) i = rules.Round i (nat_abs g) by
+row_of Ending.Splits i = rules.Split i
 
-pub record Stopped (K : ℕ) (p : List ℕ) (at : ℕ) (kinds : List ℕ) (buf : List ℤ) (t : Tally) (kinds' : List ℕ) (buf' : List ℤ) (r : Stop) : Type 0 where
+abbrev pub MultiplierOf : Ending → Type 0
+MultiplierOf (Ending.ClosesStride g) = Multiplies (nat_abs g) g
+MultiplierOf (Ending.Rounds g by) = Multiplies (nat_abs g) g
+MultiplierOf _ = Unit {0}
+
+-- The branch is not closed where its fields end.
+abbrev pub unclosed : End → RowNumber → Position → BranchFault
+unclosed (End.Cut at) rows here = record { fault = fault Refusal.Truncated at; rows = rows; position = here }
+unclosed (End.Ends at) rows here = record { fault = fault Refusal.BranchesOpen at; rows = rows; position = here }
+
+-- The entries of a branch at a position are refused, or they come to a row.
+abbrev pub StoppedBy : (K : ℕ) (p : List ℕ) (at : ℕ) (here : Position) (kinds : List ℕ) (buf : List ℤ) (t : Tally) (kinds' : List ℕ) (buf' : List ℤ) → code.Result Stop BranchFault → Type 0
+StoppedBy K p at here kinds buf t kinds' buf' (Err f) =
+    (deeper : Option Checker) → entries_from K p at kinds buf t here deeper ≡ refused (refusal_at f.position f.rows.0 f.fault.place (number_of f.fault.refusal))
+StoppedBy K p at here kinds buf t kinds' buf' (Ok s) = Comes K p at kinds buf t kinds' buf' (row_of s.ending s.t.0) s.row.0 s.at s.next s.tally × MultiplierOf s.ending
+
+pub record Stopped (K : ℕ) (p : List ℕ) (at : ℕ) (here : Position) (kinds : List ℕ) (buf : List ℤ) (t : Tally) (kinds' : List ℕ) (buf' : List ℤ) (r : code.Result Stop BranchFault) : Type 0 where
   pub kept : LinesKept K t.lines.0 kinds buf kinds' buf'
-  pub by : StoppedBy K p at kinds buf t kinds' buf' r
+  pub by : StoppedBy K p at here kinds buf t kinds' buf' r

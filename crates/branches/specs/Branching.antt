@@ -1,12 +1,14 @@
 -- A branch and the branches it opens, by the answers of the code. Document 01, "The rows" and "Check". Assumes nothing.
+use Rattle.std.specs.declared.result.Result as code
 use Rattle.std.specs.Prelude.{Ok, Err, ◌≡◌, List, ℕ, ◌+◌, ◌-◌, ◌*◌, ◌<◌, ◌≤◌, ℤ, length, get_or, T}
 use Rattle.std.proofs.lemmas.List.Edits.{sets}
 use Rattle.forms.specs.Edition.{edition, edition1}
 use Rattle.forms.specs.Forms.{Formula}
-use Rattle.forms.specs.declared.RowNumber.{RowNumber}
 use Rattle.calculus.specs.Rules.{in_range}
+use Rattle.answers.specs.declared.Answer.{Answer}
 use Rattle.answers.specs.declared.Position.{Position}
-use Rattle.answers.specs.Refusals.{number_of}
+use Rattle.answers.specs.declared.refusals.Refusal.{Refusal}
+use Rattle.answers.specs.Refusals.{fault, number_of}
 use Rattle.answers.specs.Answers.{refusal_at, Result, refused, accepted}
 use Rattle.fields.specs.Places.{fields_at, unread_bytes}
 use Rattle.formula.specs.Formula.{encode}
@@ -16,23 +18,33 @@ use Rattle.lines.specs.Buffer.{line_in, lines_in}
 use Rattle.lines.specs.Ready.{Ready, LinesKept}
 use Rattle.tally.specs.Tally.{returned_to}
 use Rattle.tally.specs.declared.Tally.{Tally}
-use Rattle.closes.specs.Ends.{End}
 use Rattle.openings.specs.Opening.{Branching, start_of, Longer, from_branch, all_rounded}
 use Rattle.openings.specs.Splitting.{owner_of, raised_by, negated_of, both_of}
 use Rattle.branches.specs.Spare.{lines_left, Spare}
-use Rattle.branches.specs.declared.branch.Branched as branched
-use Rattle.branches.specs.declared.branch.Branched.TheVariants as branched-of
+use Rattle.branches.specs.declared.branch.BranchFault.{BranchFault}
+use Rattle.branches.specs.declared.branch.Closed.{Closed}
+use Rattle.branches.specs.declared.branch.Stop.{Stop}
 
 -- ---- the whole branch
--- The row of that number closes the branch at a position, or is refused.
-abbrev pub closed_by : End → (here : Position) (row : RowNumber) (at next : ℕ) → Tally → branched.Branched
-closed_by (Err x) here row at next t = branched-of.Fault (number_of x) row here at
-closed_by (Ok o) here row at next t = branched-of.Closed next o t
+-- The branch that is closed, or why it is not.
+abbrev pub Branched : Type 0
+Branched = code.Result Closed BranchFault
+
+-- What a refusal is told as.
+abbrev pub answer_of : BranchFault → Answer
+answer_of f = refusal_at f.position f.rows.0 f.fault.place (number_of f.fault.refusal)
+
+-- The row that the entries come to is refused at a position.
+abbrev pub refused_row : Stop → Position → Refusal → BranchFault
+refused_row s here w = record { fault = fault w s.at; rows = s.row; position = here }
+
+-- It closes the branch, whose formula ends at o.
+abbrev pub closed_by : Stop → (o : ℕ) (given : Tally) → Closed
+closed_by s o given = record { at = s.next; o = o; tally = returned_to s.tally given }
 
 -- The branch goes on where the branches that it opened end.
-abbrev pub resumed_by : branched.Branched → (given : Tally) → branched.Branched
-resumed_by (branched-of.Fault x rows here at) given = branched-of.Fault x rows here at
-resumed_by (branched-of.Closed at o t) given = branched-of.Closed at o (returned_to t given)
+abbrev pub resumed_by : Closed → (given : Tally) → Closed
+resumed_by c given = record { at = c.at; o = c.o; tally = returned_to c.tally given }
 
 -- What a byte of the proof adds to the formula at most. A close by number has four bytes in its field, one by stride has six, and their formulas 71 and 75; where such a branch is one of a
 -- rounding, 81 more stand before its formula: the stride part Ej and the heads of an or and an and. Every closed branch keeps these 81 back, and a rounding gives them to its branches.
@@ -60,13 +72,13 @@ pub record Closes (back : ℕ) (R : Result Closing) (p : List ℕ) (at : ℕ) (t
   pub open_is : t'.«open» ≡ t.«open»
   pub edition_is : t'.edition ≡ t.edition
 
-abbrev pub BranchedBy : (back : ℕ) (R : Result Closing) (p : List ℕ) (at : ℕ) (t : Tally) (scratch : List ℕ) (o : ℕ) (scratch' : List ℕ) → branched.Branched → Type 0
-BranchedBy back R p at t scratch o scratch' (branched-of.Fault x rows here a) = R ≡ refused (refusal_at here rows.0 a x)
-BranchedBy back R p at t scratch o scratch' (branched-of.Closed a o' t') = Closes back R p at t a scratch o o' scratch' t'
+abbrev pub BranchedBy : (back : ℕ) (R : Result Closing) (p : List ℕ) (at : ℕ) (t : Tally) (scratch : List ℕ) (o : ℕ) (scratch' : List ℕ) → Branched → Type 0
+BranchedBy back R p at t scratch o scratch' (Err f) = R ≡ refused (answer_of f)
+BranchedBy back R p at t scratch o scratch' (Ok c) = Closes back R p at t c.at scratch o c.o scratch' c.tally
 
 -- R is checked from the n first lines on, which are kept.
 pub record BranchChecked (back : ℕ) (R : Result Closing) (K n : ℕ) (p : List ℕ) (at : ℕ) (kinds : List ℕ) (buf : List ℤ) (t : Tally) (scratch : List ℕ) (o : ℕ)
-    (kinds' : List ℕ) (buf' : List ℤ) (scratch' : List ℕ) (r : branched.Branched) : Type 0 where
+    (kinds' : List ℕ) (buf' : List ℤ) (scratch' : List ℕ) (r : Branched) : Type 0 where
   pub kept : LinesKept K n kinds buf kinds' buf'
   pub long : length scratch' ≡ length scratch
   pub by : BranchedBy back R p at t scratch o scratch' r
@@ -76,7 +88,7 @@ abbrev pub deeper : (K : ℕ) → Tally → Checker
 deeper K t = check_branch (edition t.edition) K (edition1.branchings - t.«open»)
 
 abbrev pub ChecksBranch : (K : ℕ) (p : List ℕ) (at : ℕ) (here : Position) (kinds : List ℕ) (buf : List ℤ) (t : Tally) (scratch : List ℕ) (o : ℕ)
-    (kinds' : List ℕ) (buf' : List ℤ) (scratch' : List ℕ) (r : branched.Branched) → Type 0
+    (kinds' : List ℕ) (buf' : List ℤ) (scratch' : List ℕ) (r : Branched) → Type 0
 ChecksBranch K p at here kinds buf t scratch o kinds' buf' scratch' r =
     BranchChecked kept_back (deeper K t here t.rows.0 (lines_in K kinds buf t.lines.0) (fields_at p at)) K t.lines.0 p at kinds buf t scratch o kinds' buf' scratch' r
 
@@ -97,18 +109,18 @@ FirstStands e K n x y kinds buf i = Longer e K kinds buf n (start_of x y (line_i
 
 -- What `branching` checks of them.
 abbrev pub OpenedChecked : (back : ℕ) (branching : Branching) (K step n : ℕ) (p : List ℕ) (at : ℕ) (kinds : List ℕ) (buf : List ℤ) (t : Tally) (i : ℕ) (scratch : List ℕ) (o : ℕ)
-    (kinds' : List ℕ) (buf' : List ℤ) (scratch' : List ℕ) (r : branched.Branched) → Type 0
+    (kinds' : List ℕ) (buf' : List ℤ) (scratch' : List ℕ) (r : Branched) → Type 0
 OpenedChecked back branching K step n p at kinds buf t i scratch o kinds' buf' scratch' r =
     BranchChecked back (branching (deeper K t) (lines_in K kinds buf n) (line_in K kinds buf i) step t.rows.0 (fields_at p at)) K n p at kinds buf t scratch o kinds' buf' scratch' r
 
 -- All branches of a rounding; and those from j on, which keep back the head of an or only.
 abbrev pub RoundingChecked : (K step n : ℕ) (p : List ℕ) (at : ℕ) (kinds : List ℕ) (buf : List ℤ) (t : Tally) (i g by : ℕ) (scratch : List ℕ) (o : ℕ)
-    (kinds' : List ℕ) (buf' : List ℤ) (scratch' : List ℕ) (r : branched.Branched) → Type 0
+    (kinds' : List ℕ) (buf' : List ℤ) (scratch' : List ℕ) (r : Branched) → Type 0
 RoundingChecked K step n p at kinds buf t i g by scratch o kinds' buf' scratch' r =
     OpenedChecked kept_back (all_rounded g by) K step n p at kinds buf t i scratch o kinds' buf' scratch' r
 
 abbrev pub RoundedChecked : (K step n : ℕ) (p : List ℕ) (at : ℕ) (kinds : List ℕ) (buf : List ℤ) (t : Tally) (i g by j : ℕ) (scratch : List ℕ) (o : ℕ)
-    (kinds' : List ℕ) (buf' : List ℤ) (scratch' : List ℕ) (r : branched.Branched) → Type 0
+    (kinds' : List ℕ) (buf' : List ℤ) (scratch' : List ℕ) (r : Branched) → Type 0
 RoundedChecked K step n p at kinds buf t i g by j scratch o kinds' buf' scratch' r =
     OpenedChecked 3 (from_branch g by j) K step n p at kinds buf t i scratch o kinds' buf' scratch' r
 
@@ -120,6 +132,6 @@ pub record SplitOpened (K n : ℕ) (kinds : List ℕ) (buf : List ℤ) (t : Tall
   pub second : T (in_range edition1.range (negated_of 1 (raised_by (get_or kinds i 0)) (line_in K kinds buf i)))
 
 abbrev pub SplitChecked : (K step n : ℕ) (p : List ℕ) (at : ℕ) (kinds : List ℕ) (buf : List ℤ) (t : Tally) (i : ℕ) (scratch : List ℕ) (o : ℕ)
-    (kinds' : List ℕ) (buf' : List ℤ) (scratch' : List ℕ) (r : branched.Branched) → Type 0
+    (kinds' : List ℕ) (buf' : List ℤ) (scratch' : List ℕ) (r : Branched) → Type 0
 SplitChecked K step n p at kinds buf t i scratch o kinds' buf' scratch' r =
     OpenedChecked kept_back (both_of (owner_of (get_or kinds i 0))) K step n p at kinds buf t i scratch o kinds' buf' scratch' r

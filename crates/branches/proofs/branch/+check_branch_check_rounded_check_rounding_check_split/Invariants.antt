@@ -2,7 +2,7 @@
 -- Each answer collects the facts on its way and cites a lemma of `BranchStops`, `OpenedBranches`, `Rounds` or `Splits`; what is checked in a turn of the loop over j gives what is checked from 0 on. Assumes nothing.
 use lib.IntN.{nat_abs}
 use Rattle.fields.specs.Places.{unread_bytes}
-use Rattle.branches.proofs.Rounds.{Rounding}
+use Rattle.branches.proofs.Rounds.{Rounded}
 use Prim.Native.Nat.{◌+◌, ◌*◌, ◌-◌}
 use Rattle.branches.proofs.branch.+check_branch_check_rounded_check_rounding_check_split.Given as goal
 
@@ -19,9 +19,6 @@ abbrev pub decreases-check_split : goal.decreases-check_split
 decreases-check_split l = 2 * (unread_bytes l.p.now l.here.at + (32 - l.tally.«open»)) + 1
 
 -- The loop over j of a rounding's branches.
-abbrev pub invariant-check_rounded-loop-row : goal.invariant-check_rounded-loop-row
-invariant-check_rounded-loop-row l =
-    Rounding l.k l.row.0 l.n.0 l.p l.initial.at l.initial.kinds l.initial.lines l.initial.count l.t.0 (nat_abs l.g) l.by l.initial.scratch l.initial.end l.kinds l.lines l.scratch l.at l.end l.count l.j
-
-abbrev pub decreases-check_rounded-loop-row : goal.decreases-check_rounded-loop-row
-decreases-check_rounded-loop-row l = unread_bytes l.p l.at
+abbrev pub invariant-check_rounded-loop-j : goal.invariant-check_rounded-loop-j
+invariant-check_rounded-loop-j l =
+    Rounded l.k l.row.0 l.n.0 l.p l.initial.end.at l.initial.kinds l.initial.lines l.initial.end.tally l.t.0 (nat_abs l.g) l.by l.initial.scratch l.initial.end.o l.kinds l.lines l.scratch l.end l.j

@@ -1,106 +1,105 @@
 -- `branches::branch::entries` meets its contract. Assumes nothing.
 use native.Mathlib.Omega.{arith}
-use mathlib.Core.Path.{refl, ◌∙◌}
+use mathlib.Core.Path.{ap, ◌∙◌}
 use mir.ValLaws.{to_z-of_z}
+use borrow.Author.Rules.{rules}
+use Rattle.std.specs.Prelude.{Ok}
+use Rattle.std.proofs.lemmas.Result.{err_from_is_err_and}
 use Rattle.integers.proofs.Magnitude.{within-fits}
-use Rattle.fields.proofs.Places.{starts, starts-less, next-cut, next-ends}
-use Rattle.branches.proofs.EntriesLoop.{going_start, going-refused, going-made, going-claimed, going-strengthens, going-number, going-stride, going-rounds, going-splits, going-cut, going-ends}
+use Rattle.fields.proofs.Places.{starts, starts-less}
+use Rattle.fields.specs.declared.End.{End}
+use Rattle.branches.specs.Branches.{unclosed}
+use Rattle.branches.proofs.BranchStops.{Told, told-ok, told-err}
+use Rattle.branches.proofs.EntriesLoop.{going-end, going-refused, going-made, going-claimed, going-strengthens, going-number, going-stride, going-rounds, going-splits}
 use Rattle.branches.proofs.branch.entries.Goals as goal
 
-pub loop-a-init : goal.loop-a-init
-loop-a-init c = going_start (c.requires.ready, c.requires.spare)
+pub returns-in_err-field : goal.returns-in_err-field
+returns-in_err-field c =
+    let of = λ (e : End). unclosed e c.loop-field.count.rows c.args.position in
+    let told : Told of c.next_field.result c.map_err.result = search rules in
+    let w = told-err of c.next_field.result told c.in_err-field.was in
+    let p = err_from_is_err_and c.from_residual.result c.from_residual.ensures.1 in
+    rw (p.1, p.2) (going-end c.loop-field.invariant c.args.position c.next_field.ensures w)
 
-pub step-requires : goal.step-requires
-step-requires c =
-    let s = starts c.next_field.ensures c.in-Field.is in
-    record { ready = c.loop-a.invariant.ready; len_in_bounds = (omega (arith, s.next-is, s.upto), c.loop-a.invariant.made_one) }
+pub slice_bounds-contents-end : goal.slice_bounds-contents-end
+slice_bounds-contents-end c =
+    let of = λ (e : End). unclosed e c.loop-field.count.rows c.args.position in
+    let told : Told of c.next_field.result c.map_err.result = search rules in
+    let s = starts c.next_field.ensures (told-ok of c.next_field.result told c.in_ok-field.was) in
+    omega (arith, s.next-is, s.upto)
 
-pub shape_of-lines-in-Refused : goal.shape_of-lines-in-Refused
-shape_of-lines-in-Refused c = c.step.ensures.0.kept.lines_length ∙ c.loop-a.invariant.kept.lines_length
+pub returns-in-Err : goal.returns-in-Err
+returns-in-Err c =
+    let of = λ (e : End). unclosed e c.loop-field.count.rows c.args.position in
+    let told : Told of c.next_field.result c.map_err.result = search rules in
+    let s = starts c.next_field.ensures (told-ok of c.next_field.result told c.in_ok-field.was) in
+    rw c.refused.ensures (going-refused c.loop-field.invariant s c.step.ensures.steps c.step.ensures.advances c.args.position c.in-Err.is)
 
-pub shape_of-kinds-in-Refused : goal.shape_of-kinds-in-Refused
-shape_of-kinds-in-Refused c = c.step.ensures.0.kept.kinds_length ∙ c.loop-a.invariant.kept.kinds_length
+pub returns-in-Ok-Strengthens : goal.returns-in-Ok-Strengthens
+returns-in-Ok-Strengthens c =
+    let of = λ (e : End). unclosed e c.loop-field.count.rows c.args.position in
+    let told : Told of c.next_field.result c.map_err.result = search rules in
+    let s = starts c.next_field.ensures (told-ok of c.next_field.result told c.in_ok-field.was) in
+    rw c.stopped.ensures (going-strengthens c.loop-field.invariant s c.step.ensures.steps c.step.ensures.advances c.args.position (c.in-Ok-Strengthens.is ∙ ap Ok c.in-Ok-Strengthens.field-0-is))
 
-pub returns-in-Refused : goal.returns-in-Refused
-returns-in-Refused c = going-refused c.loop-a.invariant (starts c.next_field.ensures c.in-Field.is) c.step.ensures.0 c.step.ensures.1 refl c.in-Refused.is
+pub returns-in-Ok-ClosesNumber : goal.returns-in-Ok-ClosesNumber
+returns-in-Ok-ClosesNumber c =
+    let of = λ (e : End). unclosed e c.loop-field.count.rows c.args.position in
+    let told : Told of c.next_field.result c.map_err.result = search rules in
+    let s = starts c.next_field.ensures (told-ok of c.next_field.result told c.in_ok-field.was) in
+    rw c.stopped-in-Ok-ClosesNumber.ensures (going-number c.loop-field.invariant s c.step.ensures.steps c.step.ensures.advances c.args.position (c.in-Ok-ClosesNumber.is ∙ ap Ok c.in-Ok-ClosesNumber.field-0-is))
 
-pub loop-a-smaller-in-Made : goal.loop-a-smaller-in-Made
-loop-a-smaller-in-Made c = starts-less (starts c.next_field.ensures c.in-Field.is)
+pub returns-in-Ok-Splits : goal.returns-in-Ok-Splits
+returns-in-Ok-Splits c =
+    let of = λ (e : End). unclosed e c.loop-field.count.rows c.args.position in
+    let told : Told of c.next_field.result c.map_err.result = search rules in
+    let s = starts c.next_field.ensures (told-ok of c.next_field.result told c.in_ok-field.was) in
+    rw c.stopped-in-Ok-Splits.ensures (going-splits c.loop-field.invariant s c.step.ensures.steps c.step.ensures.advances c.args.position (c.in-Ok-Splits.is ∙ ap Ok c.in-Ok-Splits.field-0-is))
 
-pub loop-a-preserved-in-Made : goal.loop-a-preserved-in-Made
-loop-a-preserved-in-Made c = going-made c.loop-a.invariant (starts c.next_field.ensures c.in-Field.is) c.step.ensures.0 c.step.ensures.1 c.in-Made.is
-
-pub loop-a-smaller : goal.loop-a-smaller
-loop-a-smaller c = starts-less (starts c.next_field.ensures c.in-Field.is)
-
-pub loop-a-preserved : goal.loop-a-preserved
-loop-a-preserved c = going-claimed c.loop-a.invariant (starts c.next_field.ensures c.in-Field.is) c.step.ensures.0 c.step.ensures.1 c.in-Claimed.is
-
-pub shape_of-lines-in-Strengthens : goal.shape_of-lines-in-Strengthens
-shape_of-lines-in-Strengthens c = c.step.ensures.0.kept.lines_length ∙ c.loop-a.invariant.kept.lines_length
-
-pub shape_of-kinds-in-Strengthens : goal.shape_of-kinds-in-Strengthens
-shape_of-kinds-in-Strengthens c = c.step.ensures.0.kept.kinds_length ∙ c.loop-a.invariant.kept.kinds_length
-
-pub returns-in-Strengthens : goal.returns-in-Strengthens
-returns-in-Strengthens c = going-strengthens c.loop-a.invariant (starts c.next_field.ensures c.in-Field.is) c.step.ensures.0 c.step.ensures.1 refl c.in-Strengthens.is
-
-pub shape_of-lines-in-ClosesNumber : goal.shape_of-lines-in-ClosesNumber
-shape_of-lines-in-ClosesNumber c = c.step.ensures.0.kept.lines_length ∙ c.loop-a.invariant.kept.lines_length
-
-pub shape_of-kinds-in-ClosesNumber : goal.shape_of-kinds-in-ClosesNumber
-shape_of-kinds-in-ClosesNumber c = c.step.ensures.0.kept.kinds_length ∙ c.loop-a.invariant.kept.kinds_length
-
-pub returns-in-ClosesNumber : goal.returns-in-ClosesNumber
-returns-in-ClosesNumber c = going-number c.loop-a.invariant (starts c.next_field.ensures c.in-Field.is) c.step.ensures.0 c.step.ensures.1 refl c.in-ClosesNumber.is
-
-pub shape_of-lines-in-ClosesStride : goal.shape_of-lines-in-ClosesStride
-shape_of-lines-in-ClosesStride c = c.step.ensures.0.kept.lines_length ∙ c.loop-a.invariant.kept.lines_length
-
-pub shape_of-kinds-in-ClosesStride : goal.shape_of-kinds-in-ClosesStride
-shape_of-kinds-in-ClosesStride c = c.step.ensures.0.kept.kinds_length ∙ c.loop-a.invariant.kept.kinds_length
-
-pub returns-in-ClosesStride : goal.returns-in-ClosesStride
-returns-in-ClosesStride c =
-    let y = rw c.in-ClosesStride.is at c.step.ensures.0 in
+pub returns-in-Ok-ClosesStride : goal.returns-in-Ok-ClosesStride
+returns-in-Ok-ClosesStride c =
+    let of = λ (e : End). unclosed e c.loop-field.count.rows c.args.position in
+    let told : Told of c.next_field.result c.map_err.result = search rules in
+    let s = starts c.next_field.ensures (told-ok of c.next_field.result told c.in_ok-field.was) in
+    let e = c.in-Ok-ClosesStride.is ∙ ap Ok c.in-Ok-ClosesStride.field-0-is in
+    let y = rw e at c.step.ensures.steps in
     let f = within-fits y.by.2.within tt in
-    simp to_z-of_z (going-stride c.loop-a.invariant (starts c.next_field.ensures c.in-Field.is) c.step.ensures.0 c.step.ensures.1 refl c.in-ClosesStride.is)
+    rw c.stopped-in-Ok-ClosesStride.ensures (simp to_z-of_z (going-stride c.loop-field.invariant s c.step.ensures.steps c.step.ensures.advances c.args.position e))
 
-pub shape_of-lines-in-Rounds : goal.shape_of-lines-in-Rounds
-shape_of-lines-in-Rounds c = c.step.ensures.0.kept.lines_length ∙ c.loop-a.invariant.kept.lines_length
-
-pub shape_of-kinds-in-Rounds : goal.shape_of-kinds-in-Rounds
-shape_of-kinds-in-Rounds c = c.step.ensures.0.kept.kinds_length ∙ c.loop-a.invariant.kept.kinds_length
-
-pub returns-in-Rounds : goal.returns-in-Rounds
-returns-in-Rounds c =
-    let y = rw c.in-Rounds.is at c.step.ensures.0 in
+pub returns-in-Ok-Rounds : goal.returns-in-Ok-Rounds
+returns-in-Ok-Rounds c =
+    let of = λ (e : End). unclosed e c.loop-field.count.rows c.args.position in
+    let told : Told of c.next_field.result c.map_err.result = search rules in
+    let s = starts c.next_field.ensures (told-ok of c.next_field.result told c.in_ok-field.was) in
+    let e = c.in-Ok-Rounds.is ∙ ap Ok c.in-Ok-Rounds.field-0-is in
+    let y = rw e at c.step.ensures.steps in
     let f = within-fits y.by.2.within tt in
-    simp to_z-of_z (going-rounds c.loop-a.invariant (starts c.next_field.ensures c.in-Field.is) c.step.ensures.0 c.step.ensures.1 refl c.in-Rounds.is)
+    rw c.stopped-in-Ok-Rounds.ensures (simp to_z-of_z (going-rounds c.loop-field.invariant s c.step.ensures.steps c.step.ensures.advances c.args.position e))
 
-pub shape_of-lines-in-Splits : goal.shape_of-lines-in-Splits
-shape_of-lines-in-Splits c = c.step.ensures.0.kept.lines_length ∙ c.loop-a.invariant.kept.lines_length
+pub loop-field-smaller-in-Ok-Made : goal.loop-field-smaller-in-Ok-Made
+loop-field-smaller-in-Ok-Made c =
+    let of = λ (e : End). unclosed e c.loop-field.count.rows c.args.position in
+    let told : Told of c.next_field.result c.map_err.result = search rules in
+    let s = starts c.next_field.ensures (told-ok of c.next_field.result told c.in_ok-field.was) in
+    starts-less s
 
-pub shape_of-kinds-in-Splits : goal.shape_of-kinds-in-Splits
-shape_of-kinds-in-Splits c = c.step.ensures.0.kept.kinds_length ∙ c.loop-a.invariant.kept.kinds_length
+pub loop-field-smaller : goal.loop-field-smaller
+loop-field-smaller c =
+    let of = λ (e : End). unclosed e c.loop-field.count.rows c.args.position in
+    let told : Told of c.next_field.result c.map_err.result = search rules in
+    let s = starts c.next_field.ensures (told-ok of c.next_field.result told c.in_ok-field.was) in
+    starts-less s
 
-pub returns-in-Splits : goal.returns-in-Splits
-returns-in-Splits c = going-splits c.loop-a.invariant (starts c.next_field.ensures c.in-Field.is) c.step.ensures.0 c.step.ensures.1 refl c.in-Splits.is
+pub loop-field-preserved-in-Ok-Made : goal.loop-field-preserved-in-Ok-Made
+loop-field-preserved-in-Ok-Made c =
+    let of = λ (e : End). unclosed e c.loop-field.count.rows c.args.position in
+    let told : Told of c.next_field.result c.map_err.result = search rules in
+    let s = starts c.next_field.ensures (told-ok of c.next_field.result told c.in_ok-field.was) in
+    going-made c.loop-field.invariant s c.step.ensures.steps c.step.ensures.advances (c.in-Ok-Made.is ∙ ap Ok c.in-Ok-Made.field-0-is)
 
-pub shape_of-lines-in-Cut : goal.shape_of-lines-in-Cut
-shape_of-lines-in-Cut c = c.loop-a.invariant.kept.lines_length
-
-pub shape_of-kinds-in-Cut : goal.shape_of-kinds-in-Cut
-shape_of-kinds-in-Cut c = c.loop-a.invariant.kept.kinds_length
-
-pub returns-in-Cut : goal.returns-in-Cut
-returns-in-Cut c = going-cut c.loop-a.invariant refl (next-cut _ c.next_field.ensures c.in-Cut.is)
-
-pub shape_of-lines-in-Ends : goal.shape_of-lines-in-Ends
-shape_of-lines-in-Ends c = c.loop-a.invariant.kept.lines_length
-
-pub shape_of-kinds-in-Ends : goal.shape_of-kinds-in-Ends
-shape_of-kinds-in-Ends c = c.loop-a.invariant.kept.kinds_length
-
-pub returns-in-Ends : goal.returns-in-Ends
-returns-in-Ends c = going-ends c.loop-a.invariant refl (next-ends _ c.next_field.ensures c.in-Ends.is)
+pub loop-field-preserved : goal.loop-field-preserved
+loop-field-preserved c =
+    let of = λ (e : End). unclosed e c.loop-field.count.rows c.args.position in
+    let told : Told of c.next_field.result c.map_err.result = search rules in
+    let s = starts c.next_field.ensures (told-ok of c.next_field.result told c.in_ok-field.was) in
+    going-claimed c.loop-field.invariant s c.step.ensures.steps c.step.ensures.advances (c.in-Ok-Claimed.is ∙ ap Ok c.in-Ok-Claimed.field-0-is)
