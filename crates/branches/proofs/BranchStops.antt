@@ -7,7 +7,6 @@ use native.Mathlib.Omega.{arith}
 use lib.IntN.{ℤ, nat_abs}
 use Rattle.forms.specs.Edition.{edition}
 use Rattle.forms.specs.Forms.{Line, Formula}
-use Rattle.forms.specs.declared.LineNumber.{LineNumber}
 use Rattle.forms.specs.declared.RowNumber.{RowNumber}
 use Rattle.calculus.specs.Rules as rules
 use Rattle.answers.specs.declared.Answer.{Answer}
@@ -23,18 +22,16 @@ use Rattle.lines.specs.Ready.{Ready, LinesKept}
 use Rattle.lines.proofs.Keeping.{kept_trans}
 use Rattle.tally.specs.Tally.{returned_to}
 use Rattle.tally.specs.declared.Tally.{Tally}
-use Rattle.entries.specs.Entries.{Multiplies}
 use Rattle.std.specs.Prelude.{Ok, Err}
 use Rattle.std.specs.declared.result.Result as code
 use Rattle.std.specs.Result.{MatchResult, IsErrAnd}
 use Rattle.answers.specs.declared.refusals.Refusal.{Refusal}
-use Rattle.answers.specs.Refusals.{fault, number_of}
+use Rattle.answers.specs.Refusals.{fault}
 use Rattle.closes.specs.Ends.{End, EndedBy}
 use Rattle.openings.specs.Opening.{Opening, below, Branching, row_opened, RowOpens}
 use Rattle.branches.specs.Branches.{Comes, MultiplierOf, row_of, Stopped}
 use Rattle.branches.specs.Branching.{refused_row, closed_by, Started, ChecksBranch}
 use Rattle.branches.specs.declared.branch.BranchFault.{BranchFault}
-use Rattle.branches.specs.declared.branch.Closed.{Closed}
 use Rattle.branches.specs.declared.branch.Ending.{Ending}
 use Rattle.branches.specs.declared.branch.Stop.{Stop}
 

@@ -9,7 +9,6 @@ use lib.ListN.{length, set}
 use Rattle.forms.specs.Edition.{edition1}
 use Rattle.forms.specs.Forms.{Line, line, Formula, ◌and◌, ◌plus◌}
 use Rattle.forms.specs.Flat.{kind_of}
-use Rattle.forms.specs.declared.RowNumber.{RowNumber}
 use Rattle.calculus.specs.Rules as rules
 use Rattle.calculus.specs.Rules.{◌▷◌, in_range}
 use Rattle.answers.specs.declared.Position.{Position}

@@ -203,8 +203,8 @@ module _ {K step n : ℕ} {p : List ℕ} {at : ℕ} {kinds₀ : List ℕ} {buf�
       ⊎_elim
       (λ (z : by - (j + 1) ≡ 0). rounding-last (omega arith))
       (λ (l : 0 < by - (j + 1)).
-          let q : j + 1 < by = omega arith in
-          turn.rest (more-fault turn.opened turn.less g (ltb (j + 1) by) h step b (lt-ltb (j + 1) by q) q y))
+      let q : j + 1 < by = omega arith in
+      turn.rest (more-fault turn.opened turn.less g (ltb (j + 1) by) h step b (lt-ltb (j + 1) by q) q y))
       (eq-zero-or-pos (by - (j + 1))))
 
   pub rounding-kept : LinesKept K n kinds buf kinds₂ buf₂

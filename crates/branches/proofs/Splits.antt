@@ -9,7 +9,6 @@ use lib.IntN.{ℤ}
 use lib.ListN.{length, get_or, set}
 use Rattle.forms.specs.Edition.{edition1}
 use Rattle.forms.specs.Forms.{≤0, Side, Line, line, Form, neg, Formula, ◌and◌, ◌or◌, ◌plus◌}
-use Rattle.forms.specs.declared.RowNumber.{RowNumber}
 use Rattle.calculus.specs.Rules as rules
 use Rattle.calculus.specs.Rules.{◌▷◌, in_range}
 use Rattle.answers.specs.declared.Position.{Position}

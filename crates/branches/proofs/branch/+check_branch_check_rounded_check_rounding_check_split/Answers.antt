@@ -12,11 +12,11 @@ use Rattle.forms.specs.Forms.{◌or◌}
 use Rattle.openings.specs.Opening.{last_two, from_branch}
 use Rattle.branches.specs.Branching.{refused_row}
 use Rattle.branches.proofs.Spare.{one_less, next-falls, own-falls, others-fall, turn-falls}
-use Rattle.branches.proofs.BranchStops.{Told, told-ok, told-err, started-room, stopped-fault, comes-ready, stop-comes, stop-multiplier, number-refused, number-closed, stride-refused, stride-closed, opens-refused}
-use Rattle.branches.proofs.OpenedBranches.{room-left, first-started, first-fault, rest-open, rest-unread, rest-opened, first-checks, head-short, none-short, start-asked, some-started, some-open, some-unread, some-opened, two-fault, two-checks, opening-falls, opened, first-stands, resumed-fault, resumed-checks}
+use Rattle.branches.proofs.BranchStops.{Told, told-ok, told-err, stopped-fault, comes-ready, stop-comes, stop-multiplier, number-refused, number-closed, stride-refused, stride-closed, opens-refused}
+use Rattle.branches.proofs.OpenedBranches.{first-started, first-fault, rest-open, rest-unread, rest-opened, first-checks, head-short, none-short, start-asked, some-started, some-open, some-unread, some-opened, two-fault, two-checks, opening-falls, opened, first-stands, resumed-fault, resumed-checks}
 use Rattle.branches.proofs.JoinedClosings.{or_bytes}
-use Rattle.branches.proofs.Splits.{split-there, split_started, split-fault, split-open, split-unread, negated-asked, negated-started, split-checks, split-opened, split-refused, split-resumed}
-use Rattle.branches.proofs.Rounds.{template-place, template-asked, template-kept, rounded-asked, rounded-started, rounding-start, rounding-kept, rounding-fault, rounding-turn}
+use Rattle.branches.proofs.Splits.{split_started, split-fault, split-open, split-unread, negated-asked, negated-started, split-checks, split-opened, split-refused, split-resumed}
+use Rattle.branches.proofs.Rounds.{template-asked, template-kept, rounded-asked, rounded-started, rounding-fault, rounding-turn}
 use Prim.Native.Nat.{◌+◌}
 use Rattle.branches.proofs.branch.+check_branch_check_rounded_check_rounding_check_split.Goals as goal
 
