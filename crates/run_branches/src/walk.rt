@@ -13,6 +13,7 @@ use fields::{End, next_field};
 use forms::{BRANCHINGS, RowNumber};
 use run_fields::kind::{EntryKind, Matching, kind_at};
 use run_fields::same::same_fields;
+use run_fields::walked::WalkedProof;
 
 // An answer by another number.
 #[tactic(auto, unfolding(run::specs::Uniform::with_number))]
@@ -62,23 +63,20 @@ pub enum Stop {
 
 // The entries of a branch up to the row that closes it or opens branches. 2, 3, 4, 6, 20, 27.
 fn walk_entries(
-    p: &[u8],
+    proof: &WalkedProof,
     at: usize,
     position: Position,
     rows: RowNumber,
-    k: usize,
-    e: u8,
 ) -> Result<Stop, Answer>
-    requires k_le_constants { k ≤ edition1.constants }
-    requires countable { Countable p.now at rows.0 }
-    ensures { Stops e k p.now at position rows.0 result }
+    requires { Countable proof.now.bytes.now at rows.0 }
+    ensures { Stops proof.now.edition proof.now.k proof.now.bytes.now at position rows.0 result }
 {
     let mut here = at;
     let mut count = rows.0;
     let mut made = false;
     loop {
         let row = RowNumber(count);
-        let field = match next_field(p, here) {
+        let field = match next_field(proof.bytes, here) {
             Ok(field) => field,
             Err(End::Cut { at }) => {
                 return Err(proof_refusal(position, row, Refusal::Truncated, at));
@@ -87,7 +85,7 @@ fn walk_entries(
                 return Err(proof_refusal(position, row, Refusal::BranchesOpen, at));
             }
         };
-        match kind_at(p, field, k, e, made) {
+        match kind_at(proof, field, made) {
             Ok(EntryKind::Derives) => {
                 count += 1;
                 made = true;
@@ -140,22 +138,20 @@ fn likened(p: &[u8], like: bool, alike: Matching, b: u16, first: Own, own: Own) 
 // Branches 0 to last of the row `step`, from `at` on; 28 at the last one's closing row if those are not alike that must be.
 #[cycle(walk_branch_walk_branches)]
 fn walk_branches(
-    p: &[u8],
+    proof: &WalkedProof,
     at: usize,
     step: RowNumber,
     last: u16,
     alike: Matching,
     opened: u16,
-    k: usize,
-    e: u8,
 ) -> Result<Closed, Answer>
-    requires k_le_constants { (k ≤ edition1.constants) × (opened ≤ edition1.branchings) }
-    requires countable { Countable p.now at (step.0 + 1) }
-    ensures { WalksBranches e k p.now at step.0 last alike opened result }
+    requires opened_few { opened ≤ edition1.branchings }
+    requires countable { Countable proof.now.bytes.now at (step.0 + 1) }
+    ensures { WalksBranches proof.now.edition proof.now.k proof.now.bytes.now at step.0 last alike opened result }
 {
     let rows = RowNumber(step.0 + 1);
     let place = Position { step, branch: 0 };
-    let mut closed = walk_branch(p, at, place, rows, opened, k, e)?;
+    let mut closed = walk_branch(proof, at, place, rows, opened)?;
     let first = Own {
         at,
         rows: closed.rows.0 - rows.0,
@@ -166,12 +162,12 @@ fn walk_branches(
             step,
             branch: b + 1,
         };
-        let next = walk_branch(p, closed.next, place, closed.rows, opened, k, e)?;
+        let next = walk_branch(proof, closed.next, place, closed.rows, opened)?;
         let own = Own {
             at: closed.next,
             rows: next.rows.0 - closed.rows.0,
         };
-        like = likened(p, like, alike, b + 1, first, own);
+        like = likened(proof.bytes, like, alike, b + 1, first, own);
         closed = next;
     }
     if !like {
@@ -183,19 +179,17 @@ fn walk_branches(
 // The branch at a position, before which there were so many rows; `opened` steps are open. 17, 28, else as `walk_entries`.
 #[cycle(walk_branch_walk_branches)]
 pub fn walk_branch(
-    p: &[u8],
+    proof: &WalkedProof,
     at: usize,
     position: Position,
     rows: RowNumber,
     opened: u16,
-    k: usize,
-    e: u8,
 ) -> Result<Closed, Answer>
-    requires k_le_constants { (k ≤ edition1.constants) × (opened ≤ edition1.branchings) }
-    requires countable { Countable p.now at rows.0 }
-    ensures { WalksBranch e k p.now at position rows.0 opened result }
+    requires opened_few { opened ≤ edition1.branchings }
+    requires countable { Countable proof.now.bytes.now at rows.0 }
+    ensures { WalksBranch proof.now.edition proof.now.k proof.now.bytes.now at position rows.0 opened result }
 {
-    match walk_entries(p, at, position, rows, k, e)? {
+    match walk_entries(proof, at, position, rows)? {
         Stop::Closes(closed) => Ok(closed),
         Stop::Opens {
             last,
@@ -207,7 +201,7 @@ pub fn walk_branch(
             if opened == BRANCHINGS {
                 return Err(proof_refusal(position, row, Refusal::TooDeep, at));
             }
-            walk_branches(p, next, row, last, alike, opened + 1, k, e)
+            walk_branches(proof, next, row, last, alike, opened + 1)
         }
     }
 }

@@ -1,8 +1,8 @@
 // What an entry is to the walk, by its tag and length: of its contents only the k of a rounding is looked at.
 ghost use Rattle.std.specs.Prelude.{◌≡◌, ◌+◌, ◌≤◌, length, take, drop};
-ghost use Rattle.forms.specs.Edition.{edition1};
 ghost use Rattle.run_fields.specs.Kinds.{compared_in, sized_as, RoundKind, IsKind};
 
+use crate::walked::WalkedProof;
 use answers::refusals::Refusal;
 use fields::WholeField;
 use forms::{MULTIPLIER_BYTES, TERM_BYTES, line_bytes};
@@ -52,13 +52,14 @@ fn sized(len: usize, size: usize, kind: EntryKind) -> Result<EntryKind, Refusal>
 
 // A rounding: its branches are 0 to k. 6.
 #[tactic(auto, using(crate::proofs::ByTag::widths))]
-fn rounding(p: &[u8], field: WholeField, e: u8) -> Result<EntryKind, Refusal>
-    requires { field.start + field.len ≤ length p.now }
-    ensures { RoundKind e (take field.len (drop field.start p.now)) result }
+fn rounding(proof: &WalkedProof, field: WholeField) -> Result<EntryKind, Refusal>
+    requires { field.start + field.len ≤ length proof.now.bytes.now }
+    ensures { RoundKind proof.now.edition (take field.len (drop field.start proof.now.bytes.now)) result }
 {
-    let width = line_bytes(e);
+    let width = line_bytes(proof.edition);
     if field.len == width + 2 * MULTIPLIER_BYTES {
-        let by = unsigned_at(p, field.start + width + MULTIPLIER_BYTES, MULTIPLIER_BYTES);
+        let at = field.start + width + MULTIPLIER_BYTES;
+        let by = unsigned_at(proof.bytes, at, MULTIPLIER_BYTES);
         return Ok(EntryKind::Opens {
             last: by as u16,
             alike: Matching::All,
@@ -67,19 +68,13 @@ fn rounding(p: &[u8], field: WholeField, e: u8) -> Result<EntryKind, Refusal>
     Err(Refusal::WrongLength)
 }
 
-// What a field of a proof of edition e is. 3, 4, 6.
+// What a field of a proof is. 3, 4, 6.
 #[tactic(auto, using(crate::proofs::ByTag::widths))]
-pub fn kind_at(
-    p: &[u8],
-    field: WholeField,
-    k: usize,
-    e: u8,
-    made: bool,
-) -> Result<EntryKind, Refusal>
-    requires { (k ≤ edition1.constants) × (field.start + field.len ≤ length p.now) }
-    ensures { IsKind e k field.tag (take field.len (drop field.start p.now)) made result }
+pub fn kind_at(proof: &WalkedProof, field: WholeField, made: bool) -> Result<EntryKind, Refusal>
+    requires { field.start + field.len ≤ length proof.now.bytes.now }
+    ensures { IsKind proof.now.edition proof.now.k field.tag (take field.len (drop field.start proof.now.bytes.now)) made result }
 {
-    let width = line_bytes(e);
+    let width = line_bytes(proof.edition);
     let len = field.len;
     match field.tag {
         0x10 => sized(len, 2 * width + 2 * MULTIPLIER_BYTES, EntryKind::Derives),
@@ -94,7 +89,7 @@ pub fn kind_at(
         }
         0x14 => sized(len, width, EntryKind::Closes),
         0x15 => sized(len, width + MULTIPLIER_BYTES, EntryKind::Closes),
-        0x16 => rounding(p, field, e),
+        0x16 => rounding(proof, field),
         0x17 => {
             let opens = EntryKind::Opens {
                 last: 1,
@@ -104,7 +99,7 @@ pub fn kind_at(
         }
         0x20 => {
             if made {
-                return sized(len, 2 * TERM_BYTES * (k + 1), EntryKind::Claims);
+                return sized(len, 2 * TERM_BYTES * (proof.k + 1), EntryKind::Claims);
             }
             Err(Refusal::MisplacedTag)
         }

@@ -4,3 +4,4 @@
 
 pub mod kind;
 pub mod same;
+pub mod walked;

@@ -25,6 +25,7 @@ use Rattle.bundle_scan.proofs.Bodies as bodies
 use Rattle.chains.specs.Runs.{joined}
 use Rattle.run.specs.Run.{total, parts, parted, stages_short, read_stages, constants_of, run_of}
 use Rattle.run_stages.specs.Staged.{staged}
+use Rattle.run_stages.proofs.MappedErrors.{mapped-ok, mapped-err}
 use Rattle.run_stages.proofs.StagesInTurn.{PartsLeft, parts-start, total-on, part-upto, parts_next, parts-on, parts_none}
 use Rattle.run_stages.specs.Reading.{LengthsAddUp, FindsLong, ReadsStages}
 
@@ -120,16 +121,8 @@ module _ {buffer lengths : List ℕ} (p : LengthsAddUp buffer lengths) where
 abbrev pub ReadAs : (file : ℕ) → code.Result Scanned Fault → code.Result Scanned Answer → Type 0
 ReadAs file r m = MatchResult r (λ x. m ≡ Ok x) (λ e. IsErrAnd m (λ a. a ≡ answer (number_of e.refusal) file e.place))
 
-read-ok : (file : ℕ) (r : code.Result Scanned Fault) {m : code.Result Scanned Answer} → ReadAs file r m → {x : Scanned} → m ≡ Ok x → r ≡ Ok x
-read-ok file (Ok y) h {x} e =
-    let z = sym h ∙ e in
-    let q : y ≡ x = cc in
-    ap Ok q
-read-ok file (Err f) h e = absurd (rw e at h)
-
-read-err : (file : ℕ) (r : code.Result Scanned Fault) {m : code.Result Scanned Answer} → ReadAs file r m → {a : Answer} → m ≡ Err a → (f : Fault) × (r ≡ Err f) × (a ≡ answer (number_of f.refusal) file f.place)
-read-err file (Ok y) h e = absurd (let z = sym h ∙ e in cc)
-read-err file (Err f) h e = (f, refl, rw e at h)
+abbrev named : (file : ℕ) → Fault → Answer → Type 0
+named file f a = a ≡ answer (number_of f.refusal) file f.place
 
 pub record Reading (buffer lengths left : List ℕ) (i k count : ℕ) : Type 0 where
   pub stands : PartsLeft lengths i left
@@ -204,11 +197,11 @@ module _ {buffer lengths left : List ℕ} {i k count : ℕ} (g : Reading buffer 
 
     module _ {r : code.Result Scanned Fault} (sc : Scans k part 0 r) {m : code.Result Scanned Answer} (told : ReadAs (11 + i) r m) where
       pub reading-refused : {a : Answer} → m ≡ Err a → ReadsStages buffer lengths (Err a)
-      reading-refused e = let f = read-err (11 + i) r told e in reading-stop (rw f.1 at sc) f.2
+      reading-refused e = let f = mapped-err (named (11 + i)) r told e in reading-stop (rw f.1 at sc) f.2
 
       module _ {x : Scanned} (e : m ≡ Ok x) where
         stage-is : IsBundle k part x.k x.body
-        stage-is = (rw (read-ok (11 + i) r told e) at sc).by.0
+        stage-is = (rw (mapped-ok (named (11 + i)) r told e) at sc).by.0
 
         abbrev bundle_of : Bundle
         bundle_of = record { edition = x.body.edition; K = x.k; constraints = stated (edition x.body.edition).coefficient_width x.k (fields_at part x.body.at) }

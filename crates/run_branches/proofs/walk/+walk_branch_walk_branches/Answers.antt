@@ -19,10 +19,10 @@ walk_branch-returns-then-opened-eq-BRANCHINGS t c = stop-shut (rw c.in-Opens.is 
 pub walk_branch-walk_branches-requires : goal.walk_branch-walk_branches-requires
 walk_branch-walk_branches-requires t c =
     let s = rw c.in-Opens.is at c.in_ok-closed.ensures in
-    (omega (arith, stop-falls s, c.decreases), ((c.requires.k_le_constants.0, omega (arith, c.requires.k_le_constants.1, c.if-opened-eq-BRANCHINGS.false)), stop-countable s))
+    (omega (arith, stop-falls s, c.decreases), (omega (arith, c.requires.opened_few, c.if-opened-eq-BRANCHINGS.false), stop-countable s))
 
 pub walk_branch-returns-else-opened-eq-BRANCHINGS : goal.walk_branch-returns-else-opened-eq-BRANCHINGS
-walk_branch-returns-else-opened-eq-BRANCHINGS t c = stop-opens (rw c.in-Opens.is at c.in_ok-closed.ensures) c.args.opened c.requires.k_le_constants.1 c.if-opened-eq-BRANCHINGS.false c.walk_branches.ensures
+walk_branch-returns-else-opened-eq-BRANCHINGS t c = stop-opens (rw c.in-Opens.is at c.in_ok-closed.ensures) c.args.opened c.requires.opened_few c.if-opened-eq-BRANCHINGS.false c.walk_branches.ensures
 
 pub walk_branches-overflow_add-rows : goal.walk_branches-overflow_add-rows
 walk_branches-overflow_add-rows t c = omega (arith, c.requires.countable.few)
@@ -30,16 +30,16 @@ walk_branches-overflow_add-rows t c = omega (arith, c.requires.countable.few)
 pub walk_branches-returns-in_err-closed : goal.walk_branches-returns-in_err-closed
 walk_branches-returns-in_err-closed t c =
     let p = err_from_is_err_and c.from_residual.result c.from_residual.ensures.1 in
-    rw (p.1, p.2) (first-fault c.args.e c.args.k c.args.step.0 c.args.last c.args.alike c.args.opened c.in_err-closed.ensures)
+    rw (p.1, p.2) (first-fault c.args.proof.now.edition c.args.proof.now.k c.args.step.0 c.args.last c.args.alike c.args.opened c.in_err-closed.ensures)
 
 pub walk_branches-overflow_sub-first : goal.walk_branches-overflow_sub-first
-walk_branches-overflow_sub-first t c = closed-rows c.args.e c.args.k c.args.opened _ _ c.in_ok-closed.ensures
+walk_branches-overflow_sub-first t c = closed-rows c.args.proof.now.edition c.args.proof.now.k c.args.opened _ _ c.in_ok-closed.ensures
 
 pub walk_branches-loop-b-init : goal.walk_branches-loop-b-init
-walk_branches-loop-b-init t c = first-closed c.args.e c.args.k c.args.step.0 c.args.last c.args.alike c.args.opened c.requires.countable c.in_ok-closed.ensures refl refl
+walk_branches-loop-b-init t c = first-closed c.args.proof.now.edition c.args.proof.now.k c.args.step.0 c.args.last c.args.alike c.args.opened c.requires.countable c.in_ok-closed.ensures refl refl
 
 pub walk_branches-walk_branch-requires-in-loop-b : goal.walk_branches-walk_branch-requires-in-loop-b
-walk_branches-walk_branch-requires-in-loop-b t c = (omega (arith, c.loop-b.invariant.unread, c.decreases), (c.requires.k_le_constants, c.loop-b.invariant.countable))
+walk_branches-walk_branch-requires-in-loop-b t c = (omega (arith, c.loop-b.invariant.unread, c.decreases), (c.requires.opened_few, c.loop-b.invariant.countable))
 
 pub walk_branches-returns-in_err-next : goal.walk_branches-returns-in_err-next
 walk_branches-returns-in_err-next t c =
@@ -47,7 +47,7 @@ walk_branches-returns-in_err-next t c =
     rw (p.1, p.2) (passing-fault c.loop-b.invariant c.loop-b-test.true c.in_err-next.ensures)
 
 pub walk_branches-overflow_sub-own : goal.walk_branches-overflow_sub-own
-walk_branches-overflow_sub-own t c = closed-rows c.args.e c.args.k c.args.opened _ c.loop-b.closed.rows.0 c.in_ok-next.ensures
+walk_branches-overflow_sub-own t c = closed-rows c.args.proof.now.edition c.args.proof.now.k c.args.opened _ c.loop-b.closed.rows.0 c.in_ok-next.ensures
 
 pub walk_branches-loop-b-preserved : goal.walk_branches-loop-b-preserved
 walk_branches-loop-b-preserved t c = passing-next c.loop-b.invariant c.loop-b-test.true c.in_ok-next.ensures refl refl c.likened-like.ensures

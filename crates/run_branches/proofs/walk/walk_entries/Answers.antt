@@ -7,12 +7,12 @@ use Rattle.run_branches.proofs.EntriesLoop.{going_start, going-ends, going-cut, 
 use Rattle.run_branches.proofs.walk.walk_entries.Goals as goal
 
 pub loop-field-init : goal.loop-field-init
-loop-field-init c = going_start c.requires.countable
+loop-field-init c = going_start c.requires
 
 pub kind_at-requires : goal.kind_at-requires
 kind_at-requires c =
     let s = starts c.next_field.ensures c.in-Ok.is in
-    (c.requires.k_le_constants, omega (arith, s.next-is, s.upto))
+    omega (arith, s.next-is, s.upto)
 
 pub overflow_add-count : goal.overflow_add-count
 overflow_add-count c = omega (arith, row-few c.loop-field.invariant (starts c.next_field.ensures c.in-Ok.is) c.kind_at.ensures)

@@ -6,31 +6,31 @@ use Rattle.run_fields.proofs.ByTag.{part_length, combine-kind, reduce-kind, scal
 use Rattle.run_fields.proofs.kind.kind_at.Goals as goal
 
 pub returns-then-made : goal.returns-then-made
-returns-then-made c = claim-kind (part_length _ _ _ c.requires.1) c.in-32.is c.if-made.true c.sized-then-made.ensures
+returns-then-made c = claim-kind (part_length _ _ _ c.requires) c.in-32.is c.if-made.true c.sized-then-made.ensures
 
 pub returns-in-16 : goal.returns-in-16
-returns-in-16 c = combine-kind (part_length _ _ _ c.requires.1) c.line_bytes-width.ensures c.in-16.is c.sized.ensures
+returns-in-16 c = combine-kind (part_length _ _ _ c.requires) c.line_bytes-width.ensures c.in-16.is c.sized.ensures
 
 pub returns-in-17 : goal.returns-in-17
-returns-in-17 c = reduce-kind (part_length _ _ _ c.requires.1) c.line_bytes-width.ensures c.in-17.is c.sized-in-17.ensures
+returns-in-17 c = reduce-kind (part_length _ _ _ c.requires) c.line_bytes-width.ensures c.in-17.is c.sized-in-17.ensures
 
 pub returns-in-18 : goal.returns-in-18
-returns-in-18 c = scale-kind (part_length _ _ _ c.requires.1) c.line_bytes-width.ensures c.in-18.is c.sized-in-18.ensures
+returns-in-18 c = scale-kind (part_length _ _ _ c.requires) c.line_bytes-width.ensures c.in-18.is c.sized-in-18.ensures
 
 pub returns-in-19 : goal.returns-in-19
-returns-in-19 c = strengthen-kind (part_length _ _ _ c.requires.1) c.line_bytes-width.ensures c.in-19.is c.sized-in-19.ensures
+returns-in-19 c = strengthen-kind (part_length _ _ _ c.requires) c.line_bytes-width.ensures c.in-19.is c.sized-in-19.ensures
 
 pub returns-in-20 : goal.returns-in-20
-returns-in-20 c = number-kind (part_length _ _ _ c.requires.1) c.line_bytes-width.ensures c.in-20.is c.sized-in-20.ensures
+returns-in-20 c = number-kind (part_length _ _ _ c.requires) c.line_bytes-width.ensures c.in-20.is c.sized-in-20.ensures
 
 pub returns-in-21 : goal.returns-in-21
-returns-in-21 c = stride-kind (part_length _ _ _ c.requires.1) c.line_bytes-width.ensures c.in-21.is c.sized-in-21.ensures
+returns-in-21 c = stride-kind (part_length _ _ _ c.requires) c.line_bytes-width.ensures c.in-21.is c.sized-in-21.ensures
 
 pub returns-in-22 : goal.returns-in-22
-returns-in-22 c = round-kind (part_length _ _ _ c.requires.1) c.in-22.is c.rounding.ensures
+returns-in-22 c = round-kind (part_length _ _ _ c.requires) c.in-22.is c.rounding.ensures
 
 pub returns-in-23 : goal.returns-in-23
-returns-in-23 c = split-kind (part_length _ _ _ c.requires.1) c.line_bytes-width.ensures c.in-23.is c.sized-in-23.ensures
+returns-in-23 c = split-kind (part_length _ _ _ c.requires) c.line_bytes-width.ensures c.in-23.is c.sized-in-23.ensures
 
 pub returns-else-made : goal.returns-else-made
 returns-else-made c = claim-out c.in-32.is c.if-made.false
