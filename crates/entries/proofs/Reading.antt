@@ -5,9 +5,6 @@ use mathlib.Core.List.{List}
 use mathlib.Core.Option.{none, some}
 use Prim.Native.Nat.{ℕ, ◌+◌, ◌*◌, ◌≤◌, ◌<◌}
 use native.Mathlib.Omega.{arith}
-use mir.Syntax.{w64}
-use mir.Val.{to_z, of_z}
-use mir.ValLaws.{to_z_pos}
 use lib.Dec.{eqb, leb}
 use lib.ListN.{length}
 use lib.IntN.{ℤ, pos, negsuc, nat_abs}
@@ -31,16 +28,9 @@ use Rattle.fields.specs.Fields.{Field}
 use Rattle.fields.specs.Header.{known, header_tag}
 use Rattle.proof.specs.Entries.{EntryTag, combine_tag, reduce_tag, scale_tag, strengthen_tag, number_tag, stride_tag, round_tag, split_tag, claim_tag, shape, size_of, entry_from, line_number, multiplier, entry_tagged, in_place, entry}
 use Rattle.proof.proofs.Entered.{unknown, entry-unknown, entry-none, entry-out, entry_in}
-use Rattle.entries.specs.Entries.{Multiplies, stated, Ranged, Entered}
+use Rattle.entries.specs.Entries.{stated, Ranged, Entered}
 use Rattle.entries.specs.declared.Entry.{Entry}
 use Rattle.entries.specs.declared.Row.{Row}
-
--- A multiplier as a factor of the machine.
-pub factor : {x : ℕ} {z : ℤ} → x < 65536 → z ≡ pos x → to_z w64 (of_z w64 z) ≡ pos x
-factor h e = rw e (to_z_pos w64 _ (omega arith))
-
-multiplies : {x : ℕ} → x < 65536 → Multiplies x (pos x)
-multiplies h = record { is = refl; within = record { abs = omega arith } }
 
 held-abs : (z : ℤ) → mag z + mag z < 65536 → nat_abs z ≤ 65535
 held-abs (pos n) h = omega arith
@@ -145,13 +135,13 @@ module _ (n K : ℕ) (bs : List ℕ) {tag : ℕ} (made : Bool) where
   module _ (r : Row) where
     pub combine-in : tag ≡ 0x10 → (r.contents.now ≡ bs) × (r.e ≡ n) × (r.lines ≡ 2) × (r.multipliers ≡ 2)
         → {s t : LineNumber} → s.0 ≡ line_number (edition r.e) 0 r.contents.now → t.0 ≡ line_number (edition r.e) 1 r.contents.now
-        → {x y : ℕ} → x ≡ unsigned (multiplier (edition r.e) r.lines 0 r.contents.now) → x < 65536 → y ≡ unsigned (multiplier (edition r.e) r.lines 1 r.contents.now) → y < 65536
-        → Entered n K bs tag made (Ok (Entry.Combine s t (pos x) (pos y)))
+        → {x y : ℕ} → x ≡ unsigned (multiplier (edition r.e) r.lines 0 r.contents.now) → y ≡ unsigned (multiplier (edition r.e) r.lines 1 r.contents.now)
+        → Entered n K bs tag made (Ok (Entry.Combine s t x y))
     unfolding in_place size_of entry_from
-    combine-in e b es et ex hx ey hy =
+    combine-in e b es et ex ey =
         right-size combine_tag e refl (omega (arith, size n bs r b))
         (rw (line-read n bs r b 0 es, line-read n bs r b 1 et, number-read n bs r b 0 ex, number-read n bs r b 1 ey))
-        (multiplies hx, multiplies hy)
+        tt
         (omega (arith, size n bs r b))
 
     pub reduce-in : tag ≡ 0x11 → (r.contents.now ≡ bs) × (r.e ≡ n) × (r.lines ≡ 2) × (r.multipliers ≡ 1)
@@ -167,24 +157,24 @@ module _ (n K : ℕ) (bs : List ℕ) {tag : ℕ} (made : Bool) where
         (omega (arith, size n bs r b))
 
     module _ (b : (r.contents.now ≡ bs) × (r.e ≡ n) × (r.lines ≡ 1) × (r.multipliers ≡ 1)) {t : LineNumber} (et : t.0 ≡ line_number (edition r.e) 0 r.contents.now)
-        {x : ℕ} (ex : x ≡ unsigned (multiplier (edition r.e) r.lines 0 r.contents.now)) (hx : x < 65536) where
-      pub scale_in : tag ≡ 0x12 → Entered n K bs tag made (Ok (Entry.Scale t (pos x)))
+        {x : ℕ} (ex : x ≡ unsigned (multiplier (edition r.e) r.lines 0 r.contents.now)) where
+      pub scale_in : tag ≡ 0x12 → Entered n K bs tag made (Ok (Entry.Scale t x))
       unfolding in_place size_of entry_from
-      scale_in e = right-size scale_tag e refl (omega (arith, size n bs r b)) (rw (line-read n bs r b 0 et, number-read n bs r b 0 ex)) (multiplies hx) (omega (arith, size n bs r b))
+      scale_in e = right-size scale_tag e refl (omega (arith, size n bs r b)) (rw (line-read n bs r b 0 et, number-read n bs r b 0 ex)) tt (omega (arith, size n bs r b))
 
-      pub stride-in : tag ≡ 0x15 → Entered n K bs tag made (Ok (Entry.CloseStride t (pos x)))
+      pub stride-in : tag ≡ 0x15 → Entered n K bs tag made (Ok (Entry.CloseStride t x))
       unfolding in_place size_of entry_from
-      stride-in e = right-size stride_tag e refl (omega (arith, size n bs r b)) (rw (line-read n bs r b 0 et, number-read n bs r b 0 ex)) (multiplies hx) (omega (arith, size n bs r b))
+      stride-in e = right-size stride_tag e refl (omega (arith, size n bs r b)) (rw (line-read n bs r b 0 et, number-read n bs r b 0 ex)) tt (omega (arith, size n bs r b))
 
     pub round-in : tag ≡ 0x16 → (r.contents.now ≡ bs) × (r.e ≡ n) × (r.lines ≡ 1) × (r.multipliers ≡ 2)
         → {t : LineNumber} → t.0 ≡ line_number (edition r.e) 0 r.contents.now
-        → {x y : ℕ} → x ≡ unsigned (multiplier (edition r.e) r.lines 0 r.contents.now) → x < 65536 → y ≡ unsigned (multiplier (edition r.e) r.lines 1 r.contents.now)
-        → Entered n K bs tag made (Ok (Entry.Round t (pos x) y))
+        → {x y : ℕ} → x ≡ unsigned (multiplier (edition r.e) r.lines 0 r.contents.now) → y ≡ unsigned (multiplier (edition r.e) r.lines 1 r.contents.now)
+        → Entered n K bs tag made (Ok (Entry.Round t x y))
     unfolding in_place size_of entry_from
-    round-in e b et ex hx ey =
+    round-in e b et ex ey =
         right-size round_tag e refl (omega (arith, size n bs r b))
         (rw (line-read n bs r b 0 et, number-read n bs r b 0 ex, number-read n bs r b 1 ey))
-        (multiplies hx)
+        tt
         (omega (arith, size n bs r b))
 
     module _ (b : (r.contents.now ≡ bs) × (r.e ≡ n) × (r.lines ≡ 1) × (r.multipliers ≡ 0)) {t : LineNumber} (et : t.0 ≡ line_number (edition r.e) 0 r.contents.now) where

@@ -1,5 +1,5 @@
 -- What the code answers of a field, as the entry that the definitions give. Assumes nothing.
-use Rattle.std.specs.Prelude.{◌≡◌, Bool, true, List, ℕ, ◌*◌, ◌≤◌, length, drop, ℤ, pos, nat_abs, Ok, Err, IfOk}
+use Rattle.std.specs.Prelude.{◌≡◌, Bool, true, List, ℕ, ◌*◌, ◌≤◌, length, drop, ℤ, pos, Ok, Err, IfOk}
 use Rattle.std.specs.declared.result.Result as code
 use Rattle.integers.specs.Magnitude.{Within}
 use Rattle.forms.specs.Edition.{edition, edition1, multiplier_range}
@@ -20,13 +20,13 @@ pub record Multiplies (n : ℕ) (z : ℤ) : Type 0 where
 
 -- The entry that an answer stands for, of a field with these contents.
 abbrev pub stated : (K : ℕ) → List ℕ → Entry → rules.Entry
-stated K bs (Combine s t α β) = rules.row (rules.Derive (rules.Combine s.0 t.0 (nat_abs α) (nat_abs β)))
+stated K bs (Combine s t α β) = rules.row (rules.Derive (rules.Combine s.0 t.0 α β))
 stated K bs (Reduce s t α) = rules.row (rules.Derive (rules.Reduce s.0 t.0 α))
-stated K bs (Scale t α) = rules.row (rules.Derive (rules.Scale t.0 (nat_abs α)))
+stated K bs (Scale t α) = rules.row (rules.Derive (rules.Scale t.0 α))
 stated K bs (Strengthen t) = rules.row (rules.Strengthen t.0)
 stated K bs (CloseNumber t) = rules.row (rules.CloseNumber t.0)
-stated K bs (CloseStride t g) = rules.row (rules.CloseStride t.0 (nat_abs g))
-stated K bs (Round t g by) = rules.row (rules.Round t.0 (nat_abs g) by)
+stated K bs (CloseStride t g) = rules.row (rules.CloseStride t.0 g)
+stated K bs (Round t g by) = rules.row (rules.Round t.0 g by)
 stated K bs (Split t) = rules.row (rules.Split t.0)
 stated K bs Claim = rules.claim (form_from edition1.term_width K bs) (form_from edition1.term_width K (drop (form_width edition1.term_width K) bs))
 
@@ -35,15 +35,15 @@ abbrev pub entry_for : (refusal : ℕ → Answer) (K : ℕ) → List ℕ → cod
 entry_for refusal K bs (Ok x) = accepted (stated K bs x)
 entry_for refusal K bs (Err r) = refused (refusal (number_of r))
 
--- Multipliers are as the widths of their fields keep them; a claim stands behind a row that made a line, and its contents have their length.
+-- A signed multiplier is as the width of its field keeps it; a claim stands behind a row that made a line, and its contents have their length.
 abbrev pub Ranged : (K len : ℕ) (made : Bool) → Entry → Type 0
-Ranged K len made (Combine s t α β) = Multiplies (nat_abs α) α × Multiplies (nat_abs β) β
+Ranged K len made (Combine s t α β) = Unit {0}
 Ranged K len made (Reduce s t α) = Within multiplier_range α
-Ranged K len made (Scale t α) = Multiplies (nat_abs α) α
+Ranged K len made (Scale t α) = Unit {0}
 Ranged K len made (Strengthen t) = Unit {0}
 Ranged K len made (CloseNumber t) = Unit {0}
-Ranged K len made (CloseStride t g) = Multiplies (nat_abs g) g
-Ranged K len made (Round t g by) = Multiplies (nat_abs g) g
+Ranged K len made (CloseStride t g) = Unit {0}
+Ranged K len made (Round t g by) = Unit {0}
 Ranged K len made (Split t) = Unit {0}
 Ranged K len made Claim = (made ≡ true) × (len ≡ 2 * form_width edition1.term_width K)
 

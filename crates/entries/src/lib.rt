@@ -20,8 +20,8 @@ pub enum Entry {
     Combine {
         s: LineNumber,
         t: LineNumber,
-        alpha: i64,
-        beta: i64,
+        alpha: u16,
+        beta: u16,
     },
     Reduce {
         s: LineNumber,
@@ -30,7 +30,7 @@ pub enum Entry {
     },
     Scale {
         t: LineNumber,
-        alpha: i64,
+        alpha: u16,
     },
     Strengthen {
         t: LineNumber,
@@ -40,12 +40,12 @@ pub enum Entry {
     },
     CloseStride {
         t: LineNumber,
-        g: i64,
+        g: u16,
     },
     // Line t, rounded by `by`.
     Round {
         t: LineNumber,
-        g: i64,
+        g: u16,
         by: u16,
     },
     Split {
@@ -135,8 +135,8 @@ pub fn entry_at(contents: &[u8], tag: u8, k: usize, e: u8, made: bool) -> Result
             Ok(Entry::Combine {
                 s: row.line(0),
                 t: row.line(1),
-                alpha: i64::from(row.multiplier(0)),
-                beta: i64::from(row.multiplier(1)),
+                alpha: row.multiplier(0),
+                beta: row.multiplier(1),
             })
         }
         // Only here the multiplier is signed.
@@ -152,7 +152,7 @@ pub fn entry_at(contents: &[u8], tag: u8, k: usize, e: u8, made: bool) -> Result
             let row = Row::of(contents, e, 1, 1)?;
             Ok(Entry::Scale {
                 t: row.line(0),
-                alpha: i64::from(row.multiplier(0)),
+                alpha: row.multiplier(0),
             })
         }
         0x13 => {
@@ -167,14 +167,14 @@ pub fn entry_at(contents: &[u8], tag: u8, k: usize, e: u8, made: bool) -> Result
             let row = Row::of(contents, e, 1, 1)?;
             Ok(Entry::CloseStride {
                 t: row.line(0),
-                g: i64::from(row.multiplier(0)),
+                g: row.multiplier(0),
             })
         }
         0x16 => {
             let row = Row::of(contents, e, 1, 2)?;
             Ok(Entry::Round {
                 t: row.line(0),
-                g: i64::from(row.multiplier(0)),
+                g: row.multiplier(0),
                 by: row.multiplier(1),
             })
         }

@@ -1,5 +1,5 @@
 // The rows of short proofs, by number, applied: the line that an inference makes, and whether a close holds.
-ghost use Rattle.std.specs.Prelude.{◌≡◌, ◌+◌, ◌%◌, ◌≤◌, ◌<◌, pos, nat_abs};
+ghost use Rattle.std.specs.Prelude.{◌≡◌, ◌+◌, ◌%◌, ◌≤◌, ◌<◌, nat_abs};
 ghost use Rattle.calculus.specs.Rules.{CloseNumber, CloseStride};
 ghost use Rattle.enumeration.specs.Numbering.{inference_count, close_count, signed_factor, combine_at, reduce_at, scale_at, inference_at, close_at};
 ghost use Rattle.entries.specs.Entries.{Multiplies};
@@ -13,10 +13,10 @@ use rows::derive::{combine, reduce, scale};
 use tally::Tally;
 
 // 1 or 2.
-fn factor(x: usize) -> i64
-    ensures { result ≡ pos (1 + x % 2) }
+fn factor(x: usize) -> u16
+    ensures { result ≡ 1 + x % 2 }
 {
-    (1 + x % 2) as i64
+    (1 + x % 2) as u16
 }
 
 // 1, 2, -2, -1: the order of their bytes.

@@ -1,10 +1,8 @@
 // The rows that make a line: their tests, and the new line behind the branch's lines.
-ghost use Rattle.std.specs.Prelude.{nat_abs};
 ghost use Rattle.integers.specs.Magnitude.{Within};
 ghost use Rattle.forms.specs.Edition.{multiplier_range};
 ghost use Rattle.calculus.specs.Rules.{Combine, Reduce, Scale};
 ghost use Rattle.lines.specs.Ready.{Ready};
-ghost use Rattle.entries.specs.Entries.{Multiplies};
 ghost use Rattle.rows.specs.Rows.{Operands, Appended, Derives};
 
 use answers::refusals::Refusal;
@@ -46,13 +44,12 @@ pub fn combine(
     tally: Tally,
     s: LineNumber,
     t: LineNumber,
-    alpha: i64,
-    beta: i64,
+    alpha: u16,
+    beta: u16,
     k: usize,
 ) -> Result<Tally, Refusal>
-    requires ready { Ready tally.edition k kinds.old lines.old tally.lines.0 }
-    requires multiplies { Multiplies (nat_abs alpha) alpha × Multiplies (nat_abs beta) beta }
-    ensures { Derives k kinds.old lines.old tally (Combine s.0 t.0 (nat_abs alpha) (nat_abs beta)) kinds.new lines.new result }
+    requires { Ready tally.edition k kinds.old lines.old tally.lines.0 }
+    ensures { Derives k kinds.old lines.old tally (Combine s.0 t.0 alpha beta) kinds.new lines.new result }
 {
     if !tally.is_there(s) {
         return Err(Refusal::NoSuchLine);
@@ -66,13 +63,24 @@ pub fn combine(
     if kind_of(kinds, t) != INEQUALITY {
         return Err(Refusal::WrongLineKind);
     }
-    if integers::is_zero(alpha) {
+    if alpha == 0 {
         return Err(Refusal::WrongMultiplier);
     }
-    if integers::is_zero(beta) {
+    if beta == 0 {
         return Err(Refusal::WrongMultiplier);
     }
-    append(lines, kinds, tally, true, alpha, s, beta, t, INEQUALITY, k)
+    append(
+        lines,
+        kinds,
+        tally,
+        true,
+        i64::from(alpha),
+        s,
+        i64::from(beta),
+        t,
+        INEQUALITY,
+        k,
+    )
 }
 
 // RED-LEFT: s as 1·s, then α·t, then their sum s + αt, of s's kind; likewise sA + αtA, in the same run.
@@ -114,12 +122,11 @@ pub fn scale(
     kinds: &mut [u8],
     tally: Tally,
     t: LineNumber,
-    alpha: i64,
+    alpha: u16,
     k: usize,
 ) -> Result<Tally, Refusal>
-    requires ready { Ready tally.edition k kinds.old lines.old tally.lines.0 }
-    requires multiplies { Multiplies (nat_abs alpha) alpha }
-    ensures { Derives k kinds.old lines.old tally (Scale t.0 (nat_abs alpha)) kinds.new lines.new result }
+    requires { Ready tally.edition k kinds.old lines.old tally.lines.0 }
+    ensures { Derives k kinds.old lines.old tally (Scale t.0 alpha) kinds.new lines.new result }
 {
     if !tally.is_there(t) {
         return Err(Refusal::NoSuchLine);
@@ -128,8 +135,19 @@ pub fn scale(
     if kind > EQUALITY {
         return Err(Refusal::WrongLineKind);
     }
-    if integers::is_zero(alpha) {
+    if alpha == 0 {
         return Err(Refusal::WrongMultiplier);
     }
-    append(lines, kinds, tally, false, alpha, t, 0, t, kind, k)
+    append(
+        lines,
+        kinds,
+        tally,
+        false,
+        i64::from(alpha),
+        t,
+        0,
+        t,
+        kind,
+        k,
+    )
 }

@@ -90,11 +90,20 @@ pub fn step(
         }
         Entry::CloseStride { t, g } => {
             tally.count_row()?;
-            Ok(Stepped::ClosesStride { tally, t, g })
+            Ok(Stepped::ClosesStride {
+                tally,
+                t,
+                g: i64::from(g),
+            })
         }
         Entry::Round { t, g, by } => {
             tally.count_row()?;
-            Ok(Stepped::Rounds { tally, t, g, by })
+            Ok(Stepped::Rounds {
+                tally,
+                t,
+                g: i64::from(g),
+                by,
+            })
         }
         Entry::Split { t } => {
             tally.count_row()?;

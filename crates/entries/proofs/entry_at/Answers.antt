@@ -4,7 +4,7 @@ use mir.Syntax.{w64}
 use mir.ValLaws.{to_z-of_z}
 use native.Mathlib.Omega.{arith}
 use Rattle.proof.specs.Entries.{combine_tag, reduce_tag, scale_tag, strengthen_tag, number_tag, stride_tag, round_tag, split_tag, in_place}
-use Rattle.entries.proofs.Reading.{factor, refused_size, combine-in, reduce-in, scale_in, strengthen-in, number_in, stride-in, round-in, split-in, claim_in, claim-wrong, claim-misplaced, header_in, unknown_in}
+use Rattle.entries.proofs.Reading.{refused_size, combine-in, reduce-in, scale_in, strengthen-in, number_in, stride-in, round-in, split-in, claim_in, claim-wrong, claim-misplaced, header_in, unknown_in}
 use Rattle.entries.proofs.entry_at.Goals as goal
 
 pub returns-in_err-row-in-16 : goal.returns-in_err-row-in-16
@@ -42,8 +42,7 @@ returns-in_err-row-in-23 c = refused_size _ _ _ _ split_tag c.in-23.is refl refl
 pub returns-in_ok-row-in-16 : goal.returns-in_ok-row-in-16
 returns-in_ok-row-in-16 c =
     let r = c.in_ok-row-in-16 in
-    rw (factor c.multiplier.type_inv c.from.ensures, factor c.multiplier-in-16.type_inv c.from-in-16.ensures)
-    (combine-in _ _ _ _ r.row c.in-16.is r.ensures c.line.ensures c.line-in-16.ensures c.multiplier.ensures c.multiplier.type_inv c.multiplier-in-16.ensures c.multiplier-in-16.type_inv)
+    combine-in _ _ _ _ r.row c.in-16.is r.ensures c.line.ensures c.line-in-16.ensures c.multiplier.ensures c.multiplier-in-16.ensures
 
 pub returns-in_ok-row-in-17 : goal.returns-in_ok-row-in-17
 returns-in_ok-row-in-17 c =
@@ -54,7 +53,7 @@ returns-in_ok-row-in-17 c =
 pub returns-in_ok-row-in-18 : goal.returns-in_ok-row-in-18
 returns-in_ok-row-in-18 c =
     let r = c.in_ok-row-in-18 in
-    rw (factor c.multiplier-in-18.type_inv c.from-in-18.ensures) (scale_in _ _ _ _ r.row r.ensures c.line-in-18.ensures c.multiplier-in-18.ensures c.multiplier-in-18.type_inv c.in-18.is)
+    scale_in _ _ _ _ r.row r.ensures c.line-in-18.ensures c.multiplier-in-18.ensures c.in-18.is
 
 pub returns-in_ok-row-in-19 : goal.returns-in_ok-row-in-19
 returns-in_ok-row-in-19 c =
@@ -69,12 +68,12 @@ returns-in_ok-row-in-20 c =
 pub returns-in_ok-row-in-21 : goal.returns-in_ok-row-in-21
 returns-in_ok-row-in-21 c =
     let r = c.in_ok-row-in-21 in
-    rw (factor c.multiplier-in-21.type_inv c.from-in-21.ensures) (stride-in _ _ _ _ r.row r.ensures c.line-in-21.ensures c.multiplier-in-21.ensures c.multiplier-in-21.type_inv c.in-21.is)
+    stride-in _ _ _ _ r.row r.ensures c.line-in-21.ensures c.multiplier-in-21.ensures c.in-21.is
 
 pub returns-in_ok-row-in-22 : goal.returns-in_ok-row-in-22
 returns-in_ok-row-in-22 c =
     let r = c.in_ok-row-in-22 in
-    rw (factor c.multiplier-in-22.type_inv c.from-in-22.ensures) (round-in _ _ _ _ r.row c.in-22.is r.ensures c.line-in-22.ensures c.multiplier-in-22.ensures c.multiplier-in-22.type_inv c.multiplier-in-22-2.ensures)
+    round-in _ _ _ _ r.row c.in-22.is r.ensures c.line-in-22.ensures c.multiplier-in-22.ensures c.multiplier-in-22-2.ensures
 
 pub returns-in_ok-row-in-23 : goal.returns-in_ok-row-in-23
 returns-in_ok-row-in-23 c =

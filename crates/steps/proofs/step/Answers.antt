@@ -1,49 +1,48 @@
 -- `steps::step` meets its contract. Assumes nothing.
-use mathlib.Core.Path.{refl}
+use mathlib.Core.Path.{refl, ◌∙◌}
+use native.Mathlib.Omega.{arith}
+use mir.Syntax.{w64}
 use mir.ValLaws.{to_z-of_z}
 use Rattle.std.proofs.lemmas.Result.{err_from_is_err_and}
 use Rattle.integers.proofs.Magnitude.{within-fits}
 use Rattle.lines.proofs.Keeping.{kept_refl}
 use Rattle.tally.proofs.Counted.{counted-row}
-use Rattle.steps.proofs.Stepping.{step-refused, row-full, row-counted, row-refused, row-made, claim-wrong, claim-right}
+use Rattle.steps.proofs.Stepping.{step-refused, step_row, step-claim, row-full, row-counted, row-refused, row-made, multiplies}
+use Rattle.std.specs.Prelude.{Ok}
+use lib.IntN.{pos}
+use Rattle.steps.specs.declared.Stepped.{Stepped}
 use Rattle.steps.proofs.step.Goals as goal
 
 pub returns-in_err-entry-clause-steps : goal.returns-in_err-entry-clause-steps
 returns-in_err-entry-clause-steps c =
     let p = err_from_is_err_and c.from_residual.result c.from_residual.ensures.1 in
-    rw (p.1, p.2) (step-refused _ _ _ c.in_err-entry.ensures)
+    rw (p.1, p.2) (step-refused _ c.in_err-entry.ensures)
 
 pub returns-in_err-count_row-in-Combine-clause-steps : goal.returns-in_err-count_row-in-Combine-clause-steps
 returns-in_err-count_row-in-Combine-clause-steps c =
-    let e = rw c.in-Combine.is at c.in_ok-entry.ensures in
     let h = c.in_err-count_row-in-Combine.ensures in
     let p = err_from_is_err_and c.from_residual-in_err-count_row-in-Combine.result c.from_residual-in_err-count_row-in-Combine.ensures.1 in
-    rw (p.1, p.2, h.0) (row-full _ _ _ e _ refl h.1)
+    rw (p.1, p.2, h.0) (step_row _ (rw c.in-Combine.is at c.in_ok-entry.ensures) refl (row-full _ _ _ _ _ h.1)).0
 
-pub combine-requires-clause-ready : goal.combine-requires-clause-ready
-combine-requires-clause-ready c = rw (counted-row c.in_ok-count_row-in-Combine.ensures).1 c.requires.ready
+pub combine-requires : goal.combine-requires
+combine-requires c = rw (counted-row c.in_ok-count_row-in-Combine.ensures).1 c.requires.ready
 
 pub returns-in_err-tally-in-Combine-clause-steps : goal.returns-in_err-tally-in-Combine-clause-steps
 returns-in_err-tally-in-Combine-clause-steps c =
     let e = rw c.in-Combine.is at c.in_ok-entry.ensures in
-    let f0 = within-fits e.ranged.0.within tt in
-    let f1 = within-fits e.ranged.1.within tt in
     let p = err_from_is_err_and c.from_residual-in_err-tally-in-Combine.result c.from_residual-in_err-tally-in-Combine.ensures.1 in
-    rw (p.1, p.2) (row-refused _ _ _ e _ refl c.in_ok-count_row-in-Combine.ensures (simp to_z-of_z at c.in_err-tally-in-Combine.ensures))
+    rw (p.1, p.2) (step_row _ e refl (row-refused _ c.in_ok-count_row-in-Combine.ensures c.in_err-tally-in-Combine.ensures)).0
 
 pub returns-in_ok-tally-in-Combine-clause-steps : goal.returns-in_ok-tally-in-Combine-clause-steps
 returns-in_ok-tally-in-Combine-clause-steps c =
     let e = rw c.in-Combine.is at c.in_ok-entry.ensures in
-    let f0 = within-fits e.ranged.0.within tt in
-    let f1 = within-fits e.ranged.1.within tt in
-    row-made _ _ _ e _ refl c.in_ok-count_row-in-Combine.ensures (simp to_z-of_z at c.in_ok-tally-in-Combine.ensures)
+    (step_row _ e refl (row-made _ c.in_ok-count_row-in-Combine.ensures c.in_ok-tally-in-Combine.ensures)).0
 
 pub returns-in_err-count_row-in-Reduce-clause-steps : goal.returns-in_err-count_row-in-Reduce-clause-steps
 returns-in_err-count_row-in-Reduce-clause-steps c =
-    let e = rw c.in-Reduce.is at c.in_ok-entry.ensures in
     let h = c.in_err-count_row-in-Reduce.ensures in
     let p = err_from_is_err_and c.from_residual-in_err-count_row-in-Reduce.result c.from_residual-in_err-count_row-in-Reduce.ensures.1 in
-    rw (p.1, p.2, h.0) (row-full _ _ _ e _ refl h.1)
+    rw (p.1, p.2, h.0) (step_row _ (rw c.in-Reduce.is at c.in_ok-entry.ensures) refl (row-full _ _ _ _ _ h.1)).0
 
 pub reduce-requires-clause-ready : goal.reduce-requires-clause-ready
 reduce-requires-clause-ready c = rw (counted-row c.in_ok-count_row-in-Reduce.ensures).1 c.requires.ready
@@ -53,106 +52,93 @@ returns-in_err-tally-in-Reduce-clause-steps c =
     let e = rw c.in-Reduce.is at c.in_ok-entry.ensures in
     let f0 = within-fits e.ranged tt in
     let p = err_from_is_err_and c.from_residual-in_err-tally-in-Reduce.result c.from_residual-in_err-tally-in-Reduce.ensures.1 in
-    rw (p.1, p.2) (row-refused _ _ _ e _ refl c.in_ok-count_row-in-Reduce.ensures (simp to_z-of_z at c.in_err-tally-in-Reduce.ensures))
+    rw (p.1, p.2) (step_row _ e refl (row-refused _ c.in_ok-count_row-in-Reduce.ensures (simp to_z-of_z at c.in_err-tally-in-Reduce.ensures))).0
 
 pub returns-in_ok-tally-in-Reduce-clause-steps : goal.returns-in_ok-tally-in-Reduce-clause-steps
 returns-in_ok-tally-in-Reduce-clause-steps c =
     let e = rw c.in-Reduce.is at c.in_ok-entry.ensures in
     let f0 = within-fits e.ranged tt in
-    row-made _ _ _ e _ refl c.in_ok-count_row-in-Reduce.ensures (simp to_z-of_z at c.in_ok-tally-in-Reduce.ensures)
+    (step_row _ e refl (row-made _ c.in_ok-count_row-in-Reduce.ensures (simp to_z-of_z at c.in_ok-tally-in-Reduce.ensures))).0
 
 pub returns-in_err-count_row-in-Scale-clause-steps : goal.returns-in_err-count_row-in-Scale-clause-steps
 returns-in_err-count_row-in-Scale-clause-steps c =
-    let e = rw c.in-Scale.is at c.in_ok-entry.ensures in
     let h = c.in_err-count_row-in-Scale.ensures in
     let p = err_from_is_err_and c.from_residual-in_err-count_row-in-Scale.result c.from_residual-in_err-count_row-in-Scale.ensures.1 in
-    rw (p.1, p.2, h.0) (row-full _ _ _ e _ refl h.1)
+    rw (p.1, p.2, h.0) (step_row _ (rw c.in-Scale.is at c.in_ok-entry.ensures) refl (row-full _ _ _ _ _ h.1)).0
 
-pub scale-requires-clause-ready : goal.scale-requires-clause-ready
-scale-requires-clause-ready c = rw (counted-row c.in_ok-count_row-in-Scale.ensures).1 c.requires.ready
+pub scale-requires : goal.scale-requires
+scale-requires c = rw (counted-row c.in_ok-count_row-in-Scale.ensures).1 c.requires.ready
 
 pub returns-in_err-tally-in-Scale-clause-steps : goal.returns-in_err-tally-in-Scale-clause-steps
 returns-in_err-tally-in-Scale-clause-steps c =
     let e = rw c.in-Scale.is at c.in_ok-entry.ensures in
-    let f0 = within-fits e.ranged.within tt in
     let p = err_from_is_err_and c.from_residual-in_err-tally-in-Scale.result c.from_residual-in_err-tally-in-Scale.ensures.1 in
-    rw (p.1, p.2) (row-refused _ _ _ e _ refl c.in_ok-count_row-in-Scale.ensures (simp to_z-of_z at c.in_err-tally-in-Scale.ensures))
+    rw (p.1, p.2) (step_row _ e refl (row-refused _ c.in_ok-count_row-in-Scale.ensures c.in_err-tally-in-Scale.ensures)).0
 
 pub returns-in_ok-tally-in-Scale-clause-steps : goal.returns-in_ok-tally-in-Scale-clause-steps
 returns-in_ok-tally-in-Scale-clause-steps c =
     let e = rw c.in-Scale.is at c.in_ok-entry.ensures in
-    let f0 = within-fits e.ranged.within tt in
-    row-made _ _ _ e _ refl c.in_ok-count_row-in-Scale.ensures (simp to_z-of_z at c.in_ok-tally-in-Scale.ensures)
+    (step_row _ e refl (row-made _ c.in_ok-count_row-in-Scale.ensures c.in_ok-tally-in-Scale.ensures)).0
 
 pub returns-in_err-count_row-in-Strengthen-clause-steps : goal.returns-in_err-count_row-in-Strengthen-clause-steps
 returns-in_err-count_row-in-Strengthen-clause-steps c =
-    let e = rw c.in-Strengthen.is at c.in_ok-entry.ensures in
     let h = c.in_err-count_row-in-Strengthen.ensures in
     let p = err_from_is_err_and c.from_residual-in_err-count_row-in-Strengthen.result c.from_residual-in_err-count_row-in-Strengthen.ensures.1 in
-    rw (p.1, p.2, h.0) (row-full _ _ _ e _ refl h.1)
+    rw (p.1, p.2, h.0) (step_row _ (rw c.in-Strengthen.is at c.in_ok-entry.ensures) refl (row-full _ _ _ _ _ h.1)).0
 
 pub returns-in_ok-count_row-in-Strengthen-clause-steps : goal.returns-in_ok-count_row-in-Strengthen-clause-steps
 returns-in_ok-count_row-in-Strengthen-clause-steps c =
-    let e = rw c.in-Strengthen.is at c.in_ok-entry.ensures in
     let h = c.in_ok-count_row-in-Strengthen.ensures in
-    record { kept = kept_refl; by = (row-counted _ _ _ e _ refl h, (counted-row h).1) }
+    (step_row _ (rw c.in-Strengthen.is at c.in_ok-entry.ensures) refl (record { kept = kept_refl; by = (row-counted _ _ _ _ _ h, (counted-row h).1) })).0
 
 pub returns-in_err-count_row-in-CloseNumber-clause-steps : goal.returns-in_err-count_row-in-CloseNumber-clause-steps
 returns-in_err-count_row-in-CloseNumber-clause-steps c =
-    let e = rw c.in-CloseNumber.is at c.in_ok-entry.ensures in
     let h = c.in_err-count_row-in-CloseNumber.ensures in
     let p = err_from_is_err_and c.from_residual-in_err-count_row-in-CloseNumber.result c.from_residual-in_err-count_row-in-CloseNumber.ensures.1 in
-    rw (p.1, p.2, h.0) (row-full _ _ _ e _ refl h.1)
+    rw (p.1, p.2, h.0) (step_row _ (rw c.in-CloseNumber.is at c.in_ok-entry.ensures) refl (row-full _ _ _ _ _ h.1)).0
 
 pub returns-in_ok-count_row-in-CloseNumber-clause-steps : goal.returns-in_ok-count_row-in-CloseNumber-clause-steps
 returns-in_ok-count_row-in-CloseNumber-clause-steps c =
-    let e = rw c.in-CloseNumber.is at c.in_ok-entry.ensures in
     let h = c.in_ok-count_row-in-CloseNumber.ensures in
-    record { kept = kept_refl; by = (row-counted _ _ _ e _ refl h, (counted-row h).1) }
+    (step_row _ (rw c.in-CloseNumber.is at c.in_ok-entry.ensures) refl (record { kept = kept_refl; by = (row-counted _ _ _ _ _ h, (counted-row h).1) })).0
 
 pub returns-in_err-count_row-in-CloseStride-clause-steps : goal.returns-in_err-count_row-in-CloseStride-clause-steps
 returns-in_err-count_row-in-CloseStride-clause-steps c =
-    let e = rw c.in-CloseStride.is at c.in_ok-entry.ensures in
     let h = c.in_err-count_row-in-CloseStride.ensures in
     let p = err_from_is_err_and c.from_residual-in_err-count_row-in-CloseStride.result c.from_residual-in_err-count_row-in-CloseStride.ensures.1 in
-    rw (p.1, p.2, h.0) (row-full _ _ _ e _ refl h.1)
+    rw (p.1, p.2, h.0) (step_row _ (rw c.in-CloseStride.is at c.in_ok-entry.ensures) refl (row-full _ _ _ _ _ h.1)).0
 
 pub returns-in_ok-count_row-in-CloseStride-clause-steps : goal.returns-in_ok-count_row-in-CloseStride-clause-steps
 returns-in_ok-count_row-in-CloseStride-clause-steps c =
-    let e = rw c.in-CloseStride.is at c.in_ok-entry.ensures in
     let h = c.in_ok-count_row-in-CloseStride.ensures in
-    let f0 = within-fits e.ranged.within tt in
-    simp to_z-of_z (record { kept = kept_refl; by = (row-counted _ _ _ e _ refl h, (counted-row h).1, e.ranged) })
+    let m = multiplies {n = c.in-CloseStride.g} (omega arith) in
+    rw (to_z-of_z w64 c.from.result (record { sfits = c.from.type_inv }) ∙ c.from.ensures) (step_row _ (rw c.in-CloseStride.is at c.in_ok-entry.ensures) refl {r = Ok (Stepped.ClosesStride c.count_row-in-CloseStride.new.self c.in-CloseStride.t (pos c.in-CloseStride.g))} (record { kept = kept_refl; by = (row-counted _ _ _ _ _ h, (counted-row h).1, m) })).0
 
 pub returns-in_err-count_row-in-Round-clause-steps : goal.returns-in_err-count_row-in-Round-clause-steps
 returns-in_err-count_row-in-Round-clause-steps c =
-    let e = rw c.in-Round.is at c.in_ok-entry.ensures in
     let h = c.in_err-count_row-in-Round.ensures in
     let p = err_from_is_err_and c.from_residual-in_err-count_row-in-Round.result c.from_residual-in_err-count_row-in-Round.ensures.1 in
-    rw (p.1, p.2, h.0) (row-full _ _ _ e _ refl h.1)
+    rw (p.1, p.2, h.0) (step_row _ (rw c.in-Round.is at c.in_ok-entry.ensures) refl (row-full _ _ _ _ _ h.1)).0
 
 pub returns-in_ok-count_row-in-Round-clause-steps : goal.returns-in_ok-count_row-in-Round-clause-steps
 returns-in_ok-count_row-in-Round-clause-steps c =
-    let e = rw c.in-Round.is at c.in_ok-entry.ensures in
     let h = c.in_ok-count_row-in-Round.ensures in
-    let f0 = within-fits e.ranged.within tt in
-    simp to_z-of_z (record { kept = kept_refl; by = (row-counted _ _ _ e _ refl h, (counted-row h).1, e.ranged) })
+    let m = multiplies {n = c.in-Round.g} (omega arith) in
+    rw (to_z-of_z w64 c.from-in-Round.result (record { sfits = c.from-in-Round.type_inv }) ∙ c.from-in-Round.ensures) (step_row _ (rw c.in-Round.is at c.in_ok-entry.ensures) refl {r = Ok (Stepped.Rounds c.count_row-in-Round.new.self c.in-Round.t (pos c.in-Round.g) c.in-Round.by)} (record { kept = kept_refl; by = (row-counted _ _ _ _ _ h, (counted-row h).1, m) })).0
 
 pub returns-in_err-count_row-in-Split-clause-steps : goal.returns-in_err-count_row-in-Split-clause-steps
 returns-in_err-count_row-in-Split-clause-steps c =
-    let e = rw c.in-Split.is at c.in_ok-entry.ensures in
     let h = c.in_err-count_row-in-Split.ensures in
     let p = err_from_is_err_and c.from_residual-in_err-count_row-in-Split.result c.from_residual-in_err-count_row-in-Split.ensures.1 in
-    rw (p.1, p.2, h.0) (row-full _ _ _ e _ refl h.1)
+    rw (p.1, p.2, h.0) (step_row _ (rw c.in-Split.is at c.in_ok-entry.ensures) refl (row-full _ _ _ _ _ h.1)).0
 
 pub returns-in_ok-count_row-in-Split-clause-steps : goal.returns-in_ok-count_row-in-Split-clause-steps
 returns-in_ok-count_row-in-Split-clause-steps c =
-    let e = rw c.in-Split.is at c.in_ok-entry.ensures in
     let h = c.in_ok-count_row-in-Split.ensures in
-    record { kept = kept_refl; by = (row-counted _ _ _ e _ refl h, (counted-row h).1) }
+    (step_row _ (rw c.in-Split.is at c.in_ok-entry.ensures) refl (record { kept = kept_refl; by = (row-counted _ _ _ _ _ h, (counted-row h).1) })).0
 
 pub returns-then-not-claim_holds-clause-steps : goal.returns-then-not-claim_holds-clause-steps
-returns-then-not-claim_holds-clause-steps c = claim-wrong _ _ _ (rw c.in-Claim.is at c.in_ok-entry.ensures) refl c.claim_holds.ensures c.if-not-claim_holds.true
+returns-then-not-claim_holds-clause-steps c = (step-claim _ (rw c.in-Claim.is at c.in_ok-entry.ensures) refl c.claim_holds.ensures (rw c.if-not-claim_holds.true)).0
 
 pub returns-else-not-claim_holds-clause-steps : goal.returns-else-not-claim_holds-clause-steps
-returns-else-not-claim_holds-clause-steps c = claim-right _ _ _ (rw c.in-Claim.is at c.in_ok-entry.ensures) refl c.claim_holds.ensures c.if-not-claim_holds.false
+returns-else-not-claim_holds-clause-steps c = (step-claim _ (rw c.in-Claim.is at c.in_ok-entry.ensures) refl c.claim_holds.ensures (rw c.if-not-claim_holds.false)).0

@@ -1,10 +1,6 @@
 -- `enumeration_rows::infer::infer_combine` meets its contract. Assumes nothing.
-use mathlib.Core.Path.{◌∙◌, ap}
-use lib.IntN.{nat_abs}
-use mir.Syntax.{w64}
-use mir.ValLaws.{to_z-of_z}
 use Rattle.enumeration_rows.proofs.Numbers.{combined}
 use Rattle.enumeration_rows.proofs.infer.infer_combine.Goals as goal
 
 pub returns : goal.returns
-returns c = let a = to_z-of_z w64 c.factor-alpha.result (record { sfits = c.factor-alpha.type_inv }) in let b = to_z-of_z w64 c.factor-beta.result (record { sfits = c.factor-beta.type_inv }) in combined c.line-s.ensures c.line-t.ensures (ap nat_abs (a ∙ c.factor-alpha.ensures)) (ap nat_abs (b ∙ c.factor-beta.ensures)) c.combine.ensures
+returns c = combined c.line-s.ensures c.line-t.ensures c.factor-alpha.ensures c.factor-beta.ensures c.combine.ensures

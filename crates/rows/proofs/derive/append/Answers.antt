@@ -14,9 +14,6 @@ mix_line-requires c =
     let h = counted-line c.in_ok-count_line.ensures in
     simp to_z-of_z (record { branch = c.requires.ready.branch; first = c.requires.operands.first; second = c.requires.operands.second; space = omega (arith, h.0, lines-most c.args.tally.edition); f_in = c.requires.operands.f_in; g_in = c.requires.operands.g_in })
 
-pub set_kind-requires : goal.set_kind-requires
-set_kind-requires c = omega (arith, c.requires.ready.room)
-
 pub returns : goal.returns
 returns c =
     let ff = c.ranges.f in

@@ -16,20 +16,10 @@ returns-then-not-is_there-2 c =
     let a = c.args in
     reduce-none-2 _ _ _ a.tally _ _ _ (is_below a.s.0 a.tally.lines.0 c.is_there.ensures c.if-not-is_there.false) (past a.t.0 a.tally.lines.0 c.is_there-2.ensures c.if-not-is_there-2.true)
 
-pub kind_of-kind_s-requires : goal.kind_of-kind_s-requires
-kind_of-kind_s-requires c =
-    let a = c.args in
-    omega (arith, (is_below a.s.0 a.tally.lines.0 c.is_there.ensures c.if-not-is_there.false), c.requires.ready.room)
-
 pub returns-then-kind_s-gt-EQUALITY : goal.returns-then-kind_s-gt-EQUALITY
 returns-then-kind_s-gt-EQUALITY c =
     let a = c.args in
     reduce-apart _ _ _ a.tally _ _ _ (is_below a.s.0 a.tally.lines.0 c.is_there.ensures c.if-not-is_there.false) (is_below a.t.0 a.tally.lines.0 c.is_there-2.ensures c.if-not-is_there-2.false) (kind-apart _ _ _ _ c.kind_of-kind_s.ensures (omega (arith, c.if-kind_s-gt-EQUALITY.true)))
-
-pub kind_of-requires : goal.kind_of-requires
-kind_of-requires c =
-    let a = c.args in
-    omega (arith, (is_below a.t.0 a.tally.lines.0 c.is_there-2.ensures c.if-not-is_there-2.false), c.requires.ready.room)
 
 pub returns-then-kind_of-ne-EQUALITY : goal.returns-then-kind_of-ne-EQUALITY
 returns-then-kind_of-ne-EQUALITY c =
@@ -41,12 +31,6 @@ returns-then-is_zero c =
     let a = c.args in
     let fa = c.ranges.alpha in
     reduce-zero _ _ _ a.tally _ _ _ (is_below a.s.0 a.tally.lines.0 c.is_there.ensures c.if-not-is_there.false) (is_below a.t.0 a.tally.lines.0 c.is_there-2.ensures c.if-not-is_there-2.false) c.kind_of-kind_s.result (kind-plain _ _ _ _ c.kind_of-kind_s.ensures (omega (arith, c.if-kind_s-gt-EQUALITY.false))) (kind-= _ _ _ _ c.kind_of.ensures c.if-kind_of-ne-EQUALITY.false) (simp to_z-of_z at c.is_zero.ensures) c.if-is_zero.true
-
-pub append-requires : goal.append-requires
-append-requires c =
-    let a = c.args in
-    let fa = c.ranges.alpha in
-    simp to_z-of_z (record { ready = c.requires.ready; operands = record { plain = omega (arith, c.if-kind_s-gt-EQUALITY.false); f_in = record { abs = omega arith }; first = (is_below a.s.0 a.tally.lines.0 c.is_there.ensures c.if-not-is_there.false); g_in = c.requires.within; second = (is_below a.t.0 a.tally.lines.0 c.is_there-2.ensures c.if-not-is_there-2.false) } })
 
 pub returns : goal.returns
 returns c =
