@@ -1,19 +1,19 @@
 -- The blocks of a list: masks of all vectors, their bits as bytes, and one block more. Assumes nothing.
 use mathlib.Core.Path.{◌≡◌, refl, sym, ap, ap₂, ◌∙◌}
-use mathlib.Core.List.{List, [], ◌∷◌, ◌++◌}
-use Prim.Native.Nat.{ℕ, zero, suc, ◌+◌, ◌*◌, ◌-◌, ◌/◌, ◌%◌, ◌^◌, ◌≤◌, ◌<◌}
-use native.Mathlib.Nat.{pow-suc, mul-le-mul, le_refl, suc-mul, add-mul}
+use mathlib.Core.List.{List, [], ◌∷◌, ◌++◌, append_assoc, append-nil}
+use Prim.Native.Nat.{ℕ, zero, suc, min, ◌+◌, ◌*◌, ◌-◌, ◌/◌, ◌%◌, ◌^◌, ◌≤◌, ◌<◌}
+use native.Mathlib.Nat.{mul-le-mul, le_refl, suc-mul, add-mul}
 use native.Mathlib.Numerals.{add-one}
 use native.Mathlib.Omega.{arith}
-use lib.Pow.{pow_mono}
 use lib.IntN.{ℤ}
 use lib.ListN.{length, set, length-set, take, drop, length-drop}
-use lib.Seq.{sets, length-sets, drop-drop, take-take, length-take-le}
+use lib.Seq.{sets, length-sets, drop-drop, take-take, take-suc-set, take_all, length-take-le}
+use borrow.Rule.Slice.PartMut.{put_mid}
 use Rattle.forms.specs.Edition.{edition1}
 use Rattle.forms.specs.Forms.{Formula}
 use Rattle.answers.specs.Answers.{accepted}
 use Rattle.number_bytes.proofs.Signed.{drop-take}
-use Rattle.number_bytes.proofs.Stores.{sets-append}
+use Rattle.number_bytes.proofs.Stores.{sets-append, sets-mid}
 use Rattle.fields.specs.Fields.{Fields}
 use Rattle.fields.specs.Places.{fields_at}
 use Rattle.formula.specs.Formula.{formula_within}
@@ -27,40 +27,51 @@ use Rattle.formula.proofs.TestList.{vectors-length, truths-length}
 use Rattle.formula_leaf.proofs.Masks.{block-bytes}
 use Rattle.formula_leaf.proofs.Leaves.{part-within}
 
--- ---- a mask of all vectors
-pub doubled-small : (m i : ℕ) → m + 1 ≡ 2 ^ i → i < 63 → m * 2 + 1 < 2 ^ 64
-doubled-small m i e h = omega (arith, pow_mono {i = i} {j = 62} (omega arith))
-
-pub doubled : (m i : ℕ) → m + 1 ≡ 2 ^ i → m * 2 + 1 + 1 ≡ 2 ^ (i + 1)
-doubled m i e = omega (arith, pow-suc 2 i, ap (λ (x : ℕ). 2 ^ x) (add-one i))
-
 -- ---- the bits, one byte each: what is left to write gives what the whole gives
-pub record BitsPut (mask n : ℕ) (out₀ : List ℕ) (at : ℕ) (out : List ℕ) (left i : ℕ) : Type 0 where
-  pub upto : i ≤ n
-  pub long : length out ≡ length out₀
-  pub is : sets out (at + i) (bits_of (n - i) left) ≡ sets out₀ at (bits_of n mask)
+pub length-bits_of : (n m : ℕ) → length (bits_of n m) ≡ n
+unfolding bits_of
+length-bits_of zero m = refl
+length-bits_of (suc n) m = ap suc (length-bits_of n (m / 2))
 
-pub bits-start : (mask n : ℕ) (out : List ℕ) (at : ℕ) → BitsPut mask n out at out mask 0
-bits-start mask n out at =
-    let a : at + 0 ≡ at = omega arith in
-    let b : n - 0 ≡ n = omega arith in
-    record { upto = omega arith; long = refl; is = rw (a, b) }
+pub record BitsPut (mask n : ℕ) (out : List ℕ) (left i : ℕ) : Type 0 where
+  pub long : length out ≡ n
+  pub is : take i out ++ bits_of (n - i) left ≡ bits_of n mask
 
-module _ {mask n : ℕ} {out₀ : List ℕ} {at : ℕ} {out : List ℕ} {left i : ℕ} (p : BitsPut mask n out₀ at out left i) where
-  pub bits-on : i < n → BitsPut mask n out₀ at (set out (at + i) (left % 2)) (left / 2) (i + 1)
+pub bits-start : (mask : ℕ) (out : List ℕ) → BitsPut mask (length out) out mask 0
+bits-start mask out =
+    let b : length out - 0 ≡ length out = omega arith in
+    record { long = refl; is = rw b }
+
+module _ {mask n : ℕ} {out : List ℕ} {left i : ℕ} (p : BitsPut mask n out left i) where
+  pub bits-on : i < n → BitsPut mask n (set out i (left % 2)) (left / 2) (i + 1)
   unfolding bits_of
   bits-on h =
       let a : n - i ≡ suc (n - (i + 1)) = omega arith in
-      let b : at + (i + 1) ≡ suc (at + i) = omega arith in
-      record { upto = omega arith; long = length-set out (at + i) (left % 2) ∙ p.long; is = rw b (rw a at p.is) }
+      let b : i < length out = omega (arith, p.long) in
+      let c : take (i + 1) (set out i (left % 2)) ≡ take i out ++ (left % 2 ∷ []) = ap (λ (m : ℕ). take m (set out i (left % 2))) (add-one i) ∙ take-suc-set out i (left % 2) b in
+      record { long = length-set out i (left % 2) ∙ p.long; is = rw (c, append_assoc (take i out) (left % 2 ∷ []) (bits_of (n - (i + 1)) (left / 2))) (rw a at p.is) }
 
-  pub bits-end : n ≤ i → out ≡ sets out₀ at (bits_of n mask)
+  pub bits-end : n ≤ i → out ≡ bits_of n mask
   unfolding bits_of
   bits-end h =
-      let a : n - i ≡ 0 = omega (arith, p.upto) in
-      rw a at p.is
+      let a : n - i ≡ 0 = omega arith in
+      sym (append-nil out) ∙ rw (a, take_all i out (let b : length out ≤ i = omega (arith, p.long) in b)) at p.is
+
+-- the bits put in a part of the output
+pub bits-part : (out : List ℕ) {part : List ℕ} (i z mask : ℕ) → i + z ≤ length out → part ≡ bits_of (length (take (i + z - i) (drop i out))) mask → put_mid i (i + z - i) out part ≡ sets out i (bits_of z mask)
+bits-part out {part} i z mask h e =
+    let a : i + z - i ≡ z = omega arith in
+    let b : length (take z (drop i out)) ≡ z = length-take-le z (drop i out) (simp length-drop (omega arith)) in
+    sets-mid i z (i + z - i) out (bits_of z mask) part (e ∙ rw (a, b)) (length-bits_of z mask) (sym a) h
 
 -- ---- the vectors of a list, block by block
+-- the size of a block
+pub size-left : (z a b : ℕ) → z ≡ min a b → z ≤ b
+size-left z a b e = omega arith
+
+pub size-most : (z a b : ℕ) → z ≡ min a b → z ≤ a
+size-most z a b e = omega arith
+
 vectors-split : (K a b : ℕ) (l : List ℤ) → vectors K (a + b) l ≡ vectors K a l ++ vectors K b (drop (a * K) l)
 unfolding vectors
 vectors-split K zero b l =

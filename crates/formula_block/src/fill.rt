@@ -1,6 +1,5 @@
 // The truths of all vectors, block by block.
-ghost use Rattle.std.specs.Prelude.{◌≡◌, ◌+◌, ◌-◌, ◌^◌, ◌≤◌, length};
-ghost use Rattle.std.proofs.lemmas.List.Edits.{sets};
+ghost use Rattle.std.specs.Prelude.{◌≡◌, ◌+◌, ◌^◌, ◌≤◌, length};
 ghost use Rattle.formula_leaf.specs.Masks.{bits_of};
 ghost use Rattle.formula_block.specs.Blocks.{VectorList, Fills};
 
@@ -15,37 +14,18 @@ fn all_of(n: usize) -> u64
     requires { n ≤ 63 }
     ensures { result + 1 ≡ 2 ^ n }
 {
-    let mut mask: u64 = 0;
-    let mut i = 0;
-    while i < n {
-        mask = mask * 2 + 1;
-        i += 1;
-    }
-    mask
+    (1 << n) - 1
 }
 
-// n bits of a mask, one byte each.
-fn put_bits(mask: u64, n: usize, out: &mut [u8], at: usize)
-    requires { at + n ≤ length out.old }
-    ensures { out.new ≡ sets out.old at (bits_of n mask) }
+// As many bits of a mask as there is room for, one byte each.
+fn put_bits(mask: u64, out: &mut [u8])
+    ensures { out.new ≡ bits_of (length out.old) mask }
 {
     let mut left = mask;
-    let mut i = 0;
-    while i < n {
-        out[at + i] = (left % 2) as u8;
+    for bit in out.iter_mut() {
+        *bit = (left % 2) as u8;
         left /= 2;
-        i += 1;
     }
-}
-
-fn block_size(left: usize) -> usize
-    requires { 1 ≤ left }
-    ensures { (1 ≤ result) × (result ≤ left) × (result ≤ 63) }
-{
-    if left < BLOCK {
-        return left;
-    }
-    BLOCK
 }
 
 // The formula at `start`, which has been read, at n vectors of K values.
@@ -54,9 +34,10 @@ pub fn fill(formula: &[u8], start: usize, values: &[i32], k: usize, n: usize, ou
     requires n_in_bounds { n ≤ length out.old }
     ensures { Fills formula.now start values.now k n out.old out.new }
 {
+    // (The last step is shorter; `step_by` would want a measure too.)
     let mut i = 0;
     while i < n {
-        let size = block_size(n - i);
+        let size = BLOCK.min(n - i);
         let from = i * k;
         let end = from + size * k;
         let judged = block_judged(
@@ -68,7 +49,7 @@ pub fn fill(formula: &[u8], start: usize, values: &[i32], k: usize, n: usize, ou
             LEVELS,
             all_of(size),
         );
-        put_bits(judged.mask, size, out, i);
+        put_bits(judged.mask, &mut out[i..i + size]);
         i += size;
     }
 }
