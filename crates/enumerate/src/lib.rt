@@ -2,7 +2,6 @@
 // It ensures WritesNext (enumeration/specs/Promises.antt); guarantee/specs/ShortProofs.antt says what that is worth.
 #![tactic(auto)]
 
-ghost use Rattle.std.specs.Prelude.{◌+◌, ◌*◌, ◌≤◌, length};
 ghost use Rattle.enumeration.specs.Promises.{WritesNext};
 ghost use Rattle.bundle_load.specs.Both.{Both};
 ghost use Rattle.enumerate.specs.Limits.{BothWithinLimits};
@@ -20,30 +19,7 @@ const LINE_NUMBERS: usize = 2 * (CONSTANTS as usize + 1);
 
 const NUMBERS: usize = 7 * LINE_NUMBERS;
 
-// The lines, and then the search, in buffers for seven lines.
-fn next_within(
-    a: &[u8],
-    b: &[u8],
-    first: Body,
-    second: Body,
-    table: &[u8],
-    k: u8,
-    lines: &mut [i32],
-    kinds: &mut [u8],
-    out: &mut [u8],
-) -> WriteResult
-    requires both_within_limits { BothWithinLimits a.now b.now }
-    requires both { Both a.now b.now first second k }
-    requires count_bound { (first.count + second.count ≤ 4) × (7 * 34 ≤ length lines.old) × (7 ≤ length kinds.old) }
-    ensures { WritesNext a.now b.now table.now out.old out.new result }
-{
-    prepare(a, b, first, second, k, lines, kinds);
-    let n = first.count + second.count;
-    let found = find(lines, kinds, n, k, table);
-    deliver(out, k, n, found)
-}
-
-// 8, and then the search.
+// 8, and then the search, in buffers for seven lines.
 fn next_few(
     a: &[u8],
     b: &[u8],
@@ -62,25 +38,13 @@ fn next_few(
     }
     let mut lines = [0i32; NUMBERS];
     let mut kinds = [0u8; 7];
-    next_within(a, b, first, second, table, k, &mut lines, &mut kinds, out)
+    prepare(a, b, first, second, k, &mut lines, &mut kinds);
+    let n = first.count + second.count;
+    let found = find(&mut lines, &mut kinds, n, k, table);
+    deliver(out, k, n, found)
 }
 
-// A is read, then B.
-fn next_bundles(a: &[u8], b: &[u8], table: &[u8], out: &mut [u8]) -> WriteResult
-    requires { BothWithinLimits a.now b.now }
-    ensures { WritesNext a.now b.now table.now out.old out.new result }
-{
-    let first = match scan(a, 0, 0) {
-        Ok(scanned) => scanned,
-        Err(fault) => return refusal(fault.refusal, 1, fault.place),
-    };
-    match scan(b, first.k, 0) {
-        Ok(second) => next_few(a, b, first.body, second.body, table, first.k, out),
-        Err(fault) => refusal(fault.refusal, 2, fault.place),
-    }
-}
-
-// Writes the short proof of A and B that follows the one given; the first, where the header alone is given.
+// Writes the short proof of A and B that follows the one given; the first, where the header alone is given. A is read, then B.
 pub fn next_proof(a: &[u8], b: &[u8], table: &[u8], out: &mut [u8]) -> WriteResult
     ensures { WritesNext a.now b.now table.now out.old out.new result }
 {
@@ -90,5 +54,12 @@ pub fn next_proof(a: &[u8], b: &[u8], table: &[u8], out: &mut [u8]) -> WriteResu
     if b.len() > BUNDLE_BYTES {
         return refusal(Refusal::TooLong, 2, 0);
     }
-    next_bundles(a, b, table, out)
+    let first = match scan(a, 0, 0) {
+        Ok(scanned) => scanned,
+        Err(fault) => return refusal(fault.refusal, 1, fault.place),
+    };
+    match scan(b, first.k, 0) {
+        Ok(second) => next_few(a, b, first.body, second.body, table, first.k, out),
+        Err(fault) => refusal(fault.refusal, 2, fault.place),
+    }
 }
