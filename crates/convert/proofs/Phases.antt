@@ -16,7 +16,7 @@ use Rattle.std.specs.Prelude.{Ok, Err}
 use Rattle.std.specs.declared.result.Result as code
 use Rattle.answers.specs.declared.refusals.Refusal.{Refusal}
 use Rattle.answers.specs.declared.refusals.Fault.{Fault}
-use Rattle.answers.specs.Refusals.{number_of, fault, told}
+use Rattle.answers.specs.Refusals.{fault, told}
 use Rattle.answers.specs.declared.Answer.{Answer}
 use Rattle.answers.specs.declared.WriteResult.{WriteResult}
 use Rattle.answers.specs.Answers.{answer, acceptance, file_a, file_proof, file_lent, refused, accepted, ◌>>◌, need, over, fit, written}

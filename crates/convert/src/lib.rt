@@ -37,7 +37,8 @@ fn first_place(s: &[u8]) -> usize
 {
     match next_field(s, 0) {
         Ok(field) => field.at,
-        Err(End::Cut { at } | End::Ends { at }) => at,
+        Err(End::Cut { at }) => at,
+        Err(End::Ends { at }) => at,
     }
 }
 

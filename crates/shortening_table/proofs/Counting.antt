@@ -1,5 +1,5 @@
 -- Laws of counting the bytes that stay. Assumes nothing.
-use mathlib.Core.Path.{◌≡◌, refl, sym, ◌∙◌, ap, ap₂}
+use mathlib.Core.Path.{◌≡◌, refl, sym, ◌∙◌, ap}
 use mathlib.Core.Bool.{Bool, true, false, not, cond}
 use mathlib.Core.List.{List, ◌∷◌}
 use Prim.Native.Nat.{ℕ, zero, suc, ◌+◌, ◌≤◌, ◌<◌}
@@ -15,7 +15,7 @@ use Rattle.fields.specs.declared.End.{End}
 use Rattle.fields.specs.Fields.{Field, Fields, ends, cut, ◌▸◌}
 use Rattle.fields.specs.Places.{fields_at, next_of}
 use Rattle.fields.proofs.Places.{Starts, starts-size}
-use Rattle.shortening.specs.Passes.{top, pop, is_kept}
+use Rattle.shortening.specs.Passes.{is_kept}
 use Rattle.shortening_table.specs.Table.{row_fields, bytes_from, ReportCovers}
 
 pub kept_test : (n : ℕ) → is_kept n ≡ not (eqb n 0)

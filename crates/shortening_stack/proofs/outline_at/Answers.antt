@@ -4,7 +4,7 @@ use Prim.Native.Nat.{ℕ}
 use native.Mathlib.Omega.{arith}
 use lib.ListN.{drop}
 use Rattle.forms.specs.Edition.{edition}
-use Rattle.shortening_stack.specs.declared.Class.TheVariants.{Makes, Branches, Closes, Claims}
+use Rattle.shortening_stack.specs.declared.Class.TheVariants.{Makes, Branches, Closes}
 use Rattle.shortening_stack.specs.Outline.{outline}
 use Rattle.shortening_stack.proofs.Outlines.{by-claim, by_two, by-scale, by-strengthen, by-round, by-split, by-close, at_second, at-come}
 use borrow.Author.Rules.{rules}
