@@ -1,4 +1,4 @@
--- The lines that a branch starts with. Document 01, "The rows". Assumes nothing.
+-- The lines that a branch starts with. Assumes nothing.
 use mathlib.Core.Path.{◌≡◌}
 use mathlib.Core.List.{List}
 use Prim.Native.Nat.{ℕ, suc}

@@ -4,7 +4,8 @@ ghost use Rattle.lines.specs.Ready.{KindRead};
 
 use forms::LineNumber;
 
-// The kind of a line as its byte: an inequality, an equality, and behind these a constraint t ≠ 0, of A and of B.
+// The kind of a line as its byte: an inequality, an equality, and behind these a constraint t ≠ 0, of A and of B. (A byte and no enum: the
+// definitions read every byte, those above 3 too, and what is read here is that byte.)
 pub const INEQUALITY: u8 = 0;
 
 pub const EQUALITY: u8 = 1;

@@ -78,7 +78,7 @@ pub fn mix_whole(
     mix_numbers(lines, alpha, s_at, beta, t_at, new_at, 2 * (k + 1))
 }
 
-// Line n of lines s and t: the form and then the partial interpolant, or both in one run.
+// Line n of lines s and t: the form and then the partial interpolant, or both in one run. (A flag, not a closure: each call has it as a literal, and the two runs have one contract.)
 pub fn mix_line(
     lines: &mut [i32],
     form_first: bool,

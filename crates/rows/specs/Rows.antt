@@ -1,4 +1,4 @@
--- What the rows that make a line leave: the answer, and the branch with the new line. Document 01, "The rows" and "Check". Assumes nothing.
+-- What the rows that make a line leave: the answer, and the branch with the new line. Assumes nothing.
 use Rattle.std.specs.declared.result.Result as code
 use Rattle.std.specs.Prelude.{◌≡◌, Ok, Err, List, ℕ, ◌+◌, ◌≤◌, ◌<◌, ℤ}
 use Rattle.integers.specs.Magnitude.{Within}

@@ -1,5 +1,5 @@
 // The tally of a check: the numbers of the next row and the next line, and the branching steps open;
-// and the edition of the proof, by which lines are limited.
+// and the edition of the proof, by which lines are limited, as the number that the file says: `edition n` is of every n.
 #![tactic(auto)]
 
 ghost use Rattle.std.specs.Prelude.{◌≡◌, ◌+◌, ltb};
@@ -48,7 +48,7 @@ impl Tally {
         Some(Tally { open, ..self })
     }
 
-    // The same steps on a tally that is lent and advanced there. 18, 16, 17.
+    // The same steps on a tally that is lent and advanced there, a line each. 18, 16, 17.
     pub fn count_row(&mut self) -> Result<(), Refusal>
         ensures { Advanced row_counted TooManyRows self.old self.new result }
     {
