@@ -17,14 +17,14 @@ use Rattle.fields.proofs.Headers.{length-header_bytes}
 use Rattle.formula.specs.Formula.{encode, formula_file}
 use Rattle.chains.specs.Runs.{Run, joined}
 use Rattle.run.specs.Run.{check_cut, both}
-use Rattle.run_stages.specs.Staged.{stages}
-use Rattle.run_cuts.specs.Cuts.{CutDerives, CutAsked, CutChecked}
-use Rattle.run_cuts.specs.All.{files}
-use Rattle.run_cuts.specs.declared.cut.Cut.{Cut}
-use Rattle.run_cuts.specs.declared.cut.Cut.TheVariants as cut
+use Rattle.std.specs.Prelude.{Ok, Err, IsOk}
+use Rattle.std.specs.declared.result.Result as code
+use Rattle.run_cuts.specs.Cuts.{stages_of, CutDerives, Asked, cut_of, CutChecked}
+use Rattle.run_cuts.specs.All.{files, cuts_of}
+use Rattle.run_cuts.specs.declared.begun.Run as begun
 use Rattle.run_cuts.proofs.OneCut.{asked-again}
 use Rattle.run_cuts.proofs.AllCuts.{cuts_from, cuts-from, file-size, stages-count}
-use Rattle.run_cuts.specs.Writing.{cut_of, cuts_of, GuardFits, WritesGuard, GuardsFit, WritesAll}
+use Rattle.run_cuts.specs.Writing.{GuardFits, WritesGuard, GuardsFit, WritesAll}
 
 -- ---- bytes over the front of others
 over-on : {X : Type 0} (f g d : List X) → over (f ++ g) d ≡ f ++ over g (drop (length f) d)
@@ -41,6 +41,9 @@ part-is n out = record {
   is = take_all (length out - n) (drop n out) (omega (arith, length-drop n out));
   none = drop_of_length-le (drop n out) {i = length out - n} (omega (arith, length-drop n out));
 }
+
+put-length : {X : Type 0} (n : ℕ) (out part : List X) → n ≤ length out → length part ≡ length (take (length out - n) (drop n out)) → length (take n out ++ (part ++ drop (length out - n) (drop n out))) ≡ length out
+put-length n out part h q = rw ((part-is n out).none, append-nil part) (omega (arith, length-append (take n out) part, length-take-le n out h, q, ap length (part-is n out).is, length-drop n out))
 
 -- ---- one guard
 -- the header at the front, and then the formula behind it
@@ -66,9 +69,9 @@ module _ (h f out : List ℕ) (eight : length h ≡ 8) (fits : length f + 8 ≤ 
       let q : sets (drop 8 out) 0 f ≡ f ++ drop (length f) (drop 8 out) = sets-eq f (drop 8 out) 0 (omega (arith, length-drop 8 out)) ∙ rw z in
       rw (e, p, q, head-is, (part-is 8 (sets out 0 h)).none, append-nil (f ++ drop (length f) (drop 8 out)), over-on h f out, eight)
 
-module _ {buffer lengths : List ℕ} {c K : ℕ} {P out : List ℕ} (g : GuardFits buffer lengths c K P out) where
+module _ {r : begun.Run} {c : ℕ} {out : List ℕ} (g : GuardFits r c out) where
   pub guard-room : 8 ≤ length out
-  guard-room = omega (arith, g.room, file-size K g.formula)
+  guard-room = omega (arith, g.room, file-size r.k g.formula)
 
   -- what is lent to the check behind the header, and the output when that is back
   abbrev behind : List ℕ → List ℕ
@@ -77,32 +80,36 @@ module _ {buffer lengths : List ℕ} {c K : ℕ} {P out : List ℕ} (g : GuardFi
   abbrev put : (x part : List ℕ) → List ℕ
   put x part = take 8 x ++ (part ++ drop (length x - 8) (drop 8 x))
 
-  module _ {part : List ℕ} {o : ℕ} (d : CutDerives (cut_of buffer lengths c K P) (behind (sets out 0 (header_bytes 1 K))) part o) where
+  module _ {part : List ℕ} {o : ℕ} (d : CutDerives (cut_of r c) (behind (sets out 0 (header_bytes 1 r.k))) part o) where
     fits : length (encode edition1 d.formula) + 8 ≤ length out
-    fits = rw (← one_value g.is d.is) (omega (arith, g.room, file-size K g.formula))
+    fits = rw (← one_value g.is d.is) (omega (arith, g.room, file-size r.k g.formula))
 
-    stored : part ≡ sets (behind (sets out 0 (header_bytes 1 K))) 0 (encode edition1 d.formula)
-    stored = d.stored (omega (arith, d.o_is, fits, part-size (header_bytes 1 K) (encode edition1 d.formula) out (length-header_bytes 1 K) fits))
+    stored : part ≡ sets (behind (sets out 0 (header_bytes 1 r.k))) 0 (encode edition1 d.formula)
+    stored = d.stored (omega (arith, d.o_is, fits, part-size (header_bytes 1 r.k) (encode edition1 d.formula) out (length-header_bytes 1 r.k) fits))
 
-    derived : WritesGuard buffer lengths c K P out (put (sets out 0 (header_bytes 1 K)) part) (o + 8)
+    derived : WritesGuard r c out (put (sets out 0 (header_bytes 1 r.k)) part) (o + 8)
     unfolding formula_file
     derived = record {
-      size = λ I i. rw (← one_value d.is i) (omega (arith, d.o_is, file-size K d.formula));
-      output = λ I i. rw (← one_value d.is i) (filed (header_bytes 1 K) (encode edition1 d.formula) out (length-header_bytes 1 K) fits stored);
+      size = λ I i. rw (← one_value d.is i) (omega (arith, d.o_is, file-size r.k d.formula));
+      output = λ I i. rw (← one_value d.is i) (filed (header_bytes 1 r.k) (encode edition1 d.formula) out (length-header_bytes 1 r.k) fits stored);
     }
 
-  module _ {S part : List ℕ} {r : Cut} (q : CutChecked buffer lengths c K P S part r) where
-    pub guard-never : {a : Answer} → r ≡ cut.Refused a → ⊥
-    guard-never h = never (sym (rw h at q).by ∙ g.is)
+  guard-read : (x : code.Result ℕ Answer) {S part : List ℕ} → CutChecked r c S part x → IsOk x
+  guard-read (Ok o) q = refl
+  guard-read (Err a) q = absurd (never (sym q.by ∙ g.is))
 
-    pub guard-few : {o : ℕ} → r ≡ cut.Derived o → o ≤ 5_242_880
+  module _ {S part : List ℕ} {x : code.Result ℕ Answer} (q : CutChecked r c S part x) where
+    pub guard-derives : IsOk x
+    guard-derives = guard-read x q
+
+    pub guard-few : {o : ℕ} → x ≡ Ok o → o ≤ 5_242_880
     guard-few h = (rw h at q).by.few
 
-  pub guard-written : {out₁ part : List ℕ} {r : Cut} → CutChecked buffer lengths c K P (behind out₁) part r → {o : ℕ} → r ≡ cut.Derived o → out₁ ≡ sets out 0 (header_bytes 1 K) → WritesGuard buffer lengths c K P out (put out₁ part) (o + 8)
+  pub guard-written : {out₁ part : List ℕ} {x : code.Result ℕ Answer} → CutChecked r c (behind out₁) part x → {o : ℕ} → x ≡ Ok o → out₁ ≡ sets out 0 (header_bytes 1 r.k) → WritesGuard r c out (put out₁ part) (o + 8)
   guard-written {out₁} {part} q {o} h e =
       let d = (rw h at q).by in
-      subst (λ (x : List ℕ). WritesGuard buffer lengths c K P out (put x part) (o + 8)) (sym e)
-      (derived (subst (λ (x : List ℕ). CutDerives (cut_of buffer lengths c K P) (behind x) part o) e d))
+      subst (λ (x : List ℕ). WritesGuard r c out (put x part) (o + 8)) (sym e)
+      (derived (subst (λ (x : List ℕ). CutDerives (cut_of r c) (behind x) part o) e d))
 
 -- ---- all guards
 -- a cut that is accepted with those after it
@@ -155,22 +162,22 @@ size-on c v vs sizes h =
     (append_assoc (take c sizes) (v ∷ []) (over vs (drop 1 (drop c sizes))) ∙ ap (λ (l : List ℕ). take c sizes ++ l) (sym (over-on (v ∷ []) vs (drop c sizes))))
 
 -- the guards from c on are left, and the output from o on
-pub record FilesLeft (buffer lengths : List ℕ) (K : ℕ) (P kinds₀ : List ℕ) (buf₀ : List ℤ) (out₀ sizes₀ kinds : List ℕ) (buf : List ℤ) (out sizes : List ℕ) (o c : ℕ) : Type 0 where
+pub record FilesLeft (r : begun.Run) (kinds₀ : List ℕ) (buf₀ : List ℤ) (out₀ sizes₀ kinds : List ℕ) (buf : List ℤ) (out sizes : List ℕ) (o c : ℕ) : Type 0 where
   pub kinds_length : length kinds ≡ length kinds₀
   pub lines_length : length buf ≡ length buf₀
   pub out_length : length out ≡ length out₀
   pub sizes-length : length sizes ≡ length sizes₀
-  pub upto : c ≤ length lengths + 1
+  pub upto : c ≤ length r.lengths.now + 1
   pub left : List Formula
-  pub are : cuts_from K (stages buffer lengths) (fields P) c (length lengths + 1 - c) ≡ accepted left
-  pub room : o + length (joined (files K left)) ≤ length out
-  pub output : (Is : List Formula) → cuts_of buffer lengths K P ≡ accepted Is → take o out ++ over (joined (files K left)) (drop o out) ≡ over (joined (files K Is)) out₀
-  pub told : (Is : List Formula) → cuts_of buffer lengths K P ≡ accepted Is → take c sizes ++ over (map length (files K left)) (drop c sizes) ≡ over (map length (files K Is)) sizes₀
+  pub are : cuts_from r.k (stages_of r) (fields r.proof.now) c (length r.lengths.now + 1 - c) ≡ accepted left
+  pub room : o + length (joined (files r.k left)) ≤ length out
+  pub output : (Is : List Formula) → cuts_of r ≡ accepted Is → take o out ++ over (joined (files r.k left)) (drop o out) ≡ over (joined (files r.k Is)) out₀
+  pub told : (Is : List Formula) → cuts_of r ≡ accepted Is → take c sizes ++ over (map length (files r.k left)) (drop c sizes) ≡ over (map length (files r.k Is)) sizes₀
 
-module _ {buffer lengths : List ℕ} {K count : ℕ} {P : List ℕ} {e at : ℕ} {kinds₀ : List ℕ} {buf₀ : List ℤ} (a : CutAsked buffer lengths K count P e at kinds₀ buf₀) {out₀ sizes₀ : List ℕ} (f : GuardsFit buffer lengths K P out₀ sizes₀) where
-  pub files-start : FilesLeft buffer lengths K P kinds₀ buf₀ out₀ sizes₀ kinds₀ buf₀ out₀ sizes₀ 0 0
+module _ {r : begun.Run} {kinds₀ : List ℕ} {buf₀ : List ℤ} (a : Asked r kinds₀ buf₀) {out₀ sizes₀ : List ℕ} (f : GuardsFit r out₀ sizes₀) where
+  pub files-start : FilesLeft r kinds₀ buf₀ out₀ sizes₀ kinds₀ buf₀ out₀ sizes₀ 0 0
   files-start =
-      let z : length lengths + 1 - 0 ≡ suc (length (stages buffer lengths)) = omega (arith, stages-count a.staged) in
+      let z : length r.lengths.now + 1 - 0 ≡ suc (length (stages_of r)) = omega (arith, stages-count a.staged) in
       record {
         kinds_length = refl;
         lines_length = refl;
@@ -178,34 +185,34 @@ module _ {buffer lengths : List ℕ} {K count : ℕ} {P : List ℕ} {e at : ℕ}
         sizes-length = refl;
         upto = omega arith;
         left = f.formulas;
-        are = rw z (cuts-from K (stages buffer lengths) (fields P) 0 (length (stages buffer lengths)) ∙ f.are);
+        are = rw z (cuts-from r.k (stages_of r) (fields r.proof.now) 0 (length (stages_of r)) ∙ f.are);
         room = omega (arith, f.room);
         output = λ Is i. rw (one_value f.are i);
         told = λ Is i. rw (one_value f.are i);
       }
 
-  module _ {kinds : List ℕ} {buf : List ℤ} {out sizes : List ℕ} {o c : ℕ} (g : FilesLeft buffer lengths K P kinds₀ buf₀ out₀ sizes₀ kinds buf out sizes o c) where
-    pub files-asked : CutAsked buffer lengths K count P e at kinds buf
+  module _ {kinds : List ℕ} {buf : List ℤ} {out sizes : List ℕ} {o c : ℕ} (g : FilesLeft r kinds₀ buf₀ out₀ sizes₀ kinds buf out sizes o c) where
+    pub files-asked : Asked r kinds buf
     files-asked = asked-again a g.kinds_length g.lines_length
 
-    pub files-done : length lengths < c → WritesAll buffer lengths K P out₀ out sizes₀ sizes
+    pub files-done : length r.lengths.now < c → WritesAll r out₀ out sizes₀ sizes
     unfolding over
     files-done h =
-        let z : length lengths + 1 - c ≡ 0 = omega arith in
+        let z : length r.lengths.now + 1 - c ≡ 0 = omega arith in
         let e : g.left ≡ [] = sym (one_value refl (rw z at g.are)) in
         let x = rw e at g.output in
         let y = rw e at g.told in
         record { output = λ Is i. sym (take-append-drop o out) ∙ x Is i; told = λ Is i. sym (take-append-drop c sizes) ∙ y Is i }
 
-    module _ (l : c ≤ length lengths) where
-      on : CutsOn K (stages buffer lengths) (fields P) c (length lengths - c) g.left
-      on = let z : length lengths + 1 - c ≡ suc (length lengths - c) = omega arith in cuts-on K (stages buffer lengths) (fields P) c (length lengths - c) (rw z at g.are)
+    module _ (l : c ≤ length r.lengths.now) where
+      on : CutsOn r.k (stages_of r) (fields r.proof.now) c (length r.lengths.now - c) g.left
+      on = let z : length r.lengths.now + 1 - c ≡ suc (length r.lengths.now - c) = omega arith in cuts-on r.k (stages_of r) (fields r.proof.now) c (length r.lengths.now - c) (rw z at g.are)
 
       abbrev file_of : List ℕ
-      file_of = formula_file edition1 K on.first
+      file_of = formula_file edition1 r.k on.first
 
-      left-size : length (joined (files K g.left)) ≡ length file_of + length (joined (files K on.others))
-      left-size = ap (λ (Js : List Formula). length (joined (files K Js))) on.is ∙ length-append file_of (joined (files K on.others))
+      left-size : length (joined (files r.k g.left)) ≡ length file_of + length (joined (files r.k on.others))
+      left-size = ap (λ (Js : List Formula). length (joined (files r.k Js))) on.is ∙ length-append file_of (joined (files r.k on.others))
 
       file-fits : o + length file_of ≤ length out
       file-fits = omega (arith, g.room, left-size)
@@ -216,21 +223,22 @@ module _ {buffer lengths : List ℕ} {K count : ℕ} {P : List ℕ} {e at : ℕ}
       pub files-slot : c < length sizes
       files-slot = omega (arith, g.sizes-length, f.slots)
 
-      pub files-fit : GuardFits buffer lengths c K P (take (length out - o) (drop o out))
+      pub files-fit : GuardFits r c (take (length out - o) (drop o out))
       files-fit = record { formula = on.first; is = on.first-is; room = rw (part-is o out).is (omega (arith, length-drop o out, file-fits)) }
 
-      module _ {part : List ℕ} {size : ℕ} (w : WritesGuard buffer lengths c K P (take (length out - o) (drop o out)) part size) where
+      module _ {part : List ℕ} {size : ℕ} (w : WritesGuard r c (take (length out - o) (drop o out)) part size) where
         size_is : size ≡ length file_of
         size_is = w.size on.first on.first-is
 
         pub files-size : o + size ≤ length out
         files-size = omega (arith, size_is, file-fits)
 
-        pub files-next : {kinds₁ : List ℕ} {buf₁ : List ℤ} {out₁ : List ℕ} → length kinds₁ ≡ length kinds → length buf₁ ≡ length buf → length out₁ ≡ length out
-            → out₁ ≡ take o out ++ (part ++ drop (length out - o) (drop o out)) → FilesLeft buffer lengths K P kinds₀ buf₀ out₀ sizes₀ kinds₁ buf₁ out₁ (set sizes c size) (o + size) (c + 1)
-        files-next hk hl ho e =
+        pub files-next : {kinds₁ : List ℕ} {buf₁ : List ℤ} {out₁ : List ℕ} → length kinds₁ ≡ length kinds → length buf₁ ≡ length buf → length part ≡ length (take (length out - o) (drop o out))
+            → out₁ ≡ take o out ++ (part ++ drop (length out - o) (drop o out)) → FilesLeft r kinds₀ buf₀ out₀ sizes₀ kinds₁ buf₁ out₁ (set sizes c size) (o + size) (c + 1)
+        files-next hk hl hp e =
+            let ho = ap length e ∙ put-length o out part files-place hp in
             let y : suc c ≡ c + 1 = omega arith in
-            let z : length lengths - c ≡ length lengths + 1 - (c + 1) = omega arith in
+            let z : length r.lengths.now - c ≡ length r.lengths.now + 1 - (c + 1) = omega arith in
             record {
               kinds_length = hk ∙ g.kinds_length;
               lines_length = hl ∙ g.lines_length;
@@ -240,8 +248,8 @@ module _ {buffer lengths : List ℕ} {K count : ℕ} {P : List ℕ} {e at : ℕ}
               left = on.others;
               are = rw (y, z) at on.others-are;
               room = omega (arith, ho, g.room, left-size, size_is);
-              output = λ Is i. rw size_is (file-on o file_of (joined (files K on.others)) out file-fits (w.output on.first on.first-is) e)
-                  ∙ ap (λ (Js : List Formula). take o out ++ over (joined (files K Js)) (drop o out)) (sym on.is) ∙ g.output Is i;
-              told = λ Is i. size-on c size (map length (files K on.others)) sizes files-slot ∙ rw size_is (ap (λ (Js : List Formula). take c sizes ++ over (map length (files K Js)) (drop c sizes)) (sym on.is))
+              output = λ Is i. rw size_is (file-on o file_of (joined (files r.k on.others)) out file-fits (w.output on.first on.first-is) e)
+                  ∙ ap (λ (Js : List Formula). take o out ++ over (joined (files r.k Js)) (drop o out)) (sym on.is) ∙ g.output Is i;
+              told = λ Is i. size-on c size (map length (files r.k on.others)) sizes files-slot ∙ rw size_is (ap (λ (Js : List Formula). take c sizes ++ over (map length (files r.k Js)) (drop c sizes)) (sym on.is))
                   ∙ g.told Is i;
             }

@@ -12,14 +12,17 @@ use borrow.Author.Tests.{le-leb, lt-leb}
 use Rattle.forms.specs.Edition.{edition1}
 use Rattle.forms.specs.Forms.{Formula, every}
 use Rattle.answers.specs.declared.Answer.{Answer}
-use Rattle.answers.specs.declared.WriteResult.{WriteResult}
-use Rattle.answers.specs.Answers.{answer, acceptance, file_proof, Result, refused, accepted, ◌>>=◌, ◌>>◌, need}
+use Rattle.answers.specs.Answers.{answer, file_proof, Result, refused, accepted, ◌>>=◌, ◌>>◌, need}
 use Rattle.answers.proofs.Results.{never, one_value}
 use Rattle.fields.specs.declared.FileKind.{FileKind}
 use Rattle.fields.specs.declared.header.Headed.{Headed}
+use Rattle.std.specs.Prelude.{Some, None, Ok, Err, MatchResult, IsErrAnd}
+use Rattle.std.specs.declared.result.Result as code
+use Rattle.answers.specs.Refusals.{number_of, told}
+use Rattle.answers.specs.declared.refusals.Fault.{Fault}
 use Rattle.fields.specs.Fields.{Fields, ends, cut, ◌▸◌, fields}
 use Rattle.fields.specs.Header.{header_field, edition_field, constants_field, header}
-use Rattle.fields.specs.Places.{fields_at, headed_of, IsHeader}
+use Rattle.fields.specs.Places.{fields_at, header_of, IsHeader}
 use Rattle.fields.proofs.HeaderLaid.{header-gives}
 use Rattle.fields.proofs.Headers.{given-some}
 use Rattle.bundle.specs.Bundle.{at_most}
@@ -28,34 +31,32 @@ use Rattle.proof.specs.Check.{check_proof}
 use Rattle.proof.proofs.Agree.{agreed}
 use Rattle.proof.proofs.Satisfies.{Satisfies, says-refused, says-accepted, bind, test}
 use Rattle.branches.specs.Spare.{lines_left, Spare}
-use Rattle.check_sizes.specs.Sizes.{LinesWithin}
 use Rattle.chains.specs.Runs.{Run, joined}
 use Rattle.run.specs.Uniform.{Walked, uniform}
 use Rattle.run.specs.Run.{parts, parted, stages_short, claim_refused, check_cut, both, check_cuts, check_run, guard_files, unwritten, fit_guards, written_guards, guards_by, guards}
-use Rattle.run.specs.Promises.{WritesGuards}
 use Rattle.run_branches.specs.Walks.{Countable}
 use Rattle.run_branches.proofs.FieldsByBytes.{fields-few}
 use Rattle.run_stages.specs.Staged.{stages}
-use Rattle.run_cuts.specs.Cuts.{CutAsked}
-use Rattle.run_cuts.specs.All.{files, RunChecked}
-use Rattle.run_cuts.specs.declared.all.Cuts.{Cuts}
-use Rattle.run_cuts.specs.declared.all.Cuts.TheVariants as cuts
+use Rattle.run_cuts.specs.Cuts.{stages_of, Asked}
+use Rattle.run_cuts.specs.All.{files, cuts_of, RunChecked}
+use Rattle.run_cuts.specs.declared.begun.Run as begun
+use Rattle.run_cuts.specs.declared.all.Derived.{Derived}
 use Rattle.run_cuts.proofs.AllCuts.{cuts_from, cuts-from, stages-count}
 use Rattle.run_stages.specs.Reading.{FindsLong, ReadsStages}
-use Rattle.run_cuts.specs.Writing.{cuts_of, GuardsFit, WritesAll}
-use Rattle.run_cuts.specs.Phases.{StagesPassed, ProofBegun, Totals}
-use Rattle.run_stages.specs.declared.reading.Read.{Read}
-use Rattle.run_stages.specs.declared.reading.Read.TheVariants as read
+use Rattle.run_cuts.specs.Writing.{GuardsFit, WritesAll}
+use Rattle.run_cuts.specs.Phases.{StagesPassed, ProofBegun, Passed, Begun, Totals, Guarded}
+use Rattle.run_stages.specs.declared.reading.Stages.{Stages}
+use Rattle.run_stages.proofs.MappedErrors.{mapped-ok, mapped-err}
 use Rattle.run_stages.proofs.StagesRead.{parted-is}
 use Rattle.run_cuts.proofs.GuardFiles.{cuts-on}
 
-pub guards-refused : {buffer lengths P out sizes : List ℕ} {a : Answer} {r : WriteResult} → guard_files 2 buffer lengths P ≡ refused a → r ≡ record { answer = a; count = 0 } → WritesGuards buffer lengths P out sizes out sizes r
+pub guards-refused : {buffer lengths P out sizes : List ℕ} {a : Answer} → guard_files 2 buffer lengths P ≡ refused a → Guarded buffer lengths P out sizes out sizes (Err a)
 unfolding guards guards_by written_guards unwritten
-guards-refused e q = record { is = rw (e, q) }
+guards-refused e = record { is = rw e }
 
 -- ---- before the proof's header
-pub all_short : {buffer lengths : List ℕ} {file : ℕ} → FindsLong buffer lengths file → file ≡ 0 → stages_short 2 11 (parts lengths buffer) ≡ accepted tt
-all_short f n = (rw n at f).is
+pub all_short : {buffer lengths : List ℕ} → FindsLong buffer lengths None → stages_short 2 11 (parts lengths buffer) ≡ accepted tt
+all_short f = f.is
 
 module _ (buffer lengths P : List ℕ) where
   pub not-parted : parted lengths buffer ≡ false → guard_files 2 buffer lengths P ≡ refused (answer 25 4 0)
@@ -67,9 +68,8 @@ module _ (buffer lengths P : List ℕ) where
     unfolding guard_files need ◌>>◌
     short-stops e = rw (p, e)
 
-    pub stage-long : {file : ℕ} → FindsLong buffer lengths file → (file ≡ 0 → ⊥) → guard_files 2 buffer lengths P ≡ refused (answer 1 file 0)
-    stage-long {file = zero} f n = absurd (n refl)
-    stage-long {file = suc file} f n = short-stops f.is
+    pub stage-long : {file : ℕ} → FindsLong buffer lengths (Some file) → guard_files 2 buffer lengths P ≡ refused (answer 1 file 0)
+    stage-long f = short-stops f.is
 
     module _ (s : stages_short 2 11 (parts lengths buffer) ≡ accepted tt) where
       pub proof-long : 65536 < length P → guard_files 2 buffer lengths P ≡ refused (answer 1 3 0)
@@ -77,22 +77,20 @@ module _ (buffer lengths P : List ℕ) where
       proof-long h = rw (p, s, lt-leb (length P) 65536 h)
 
       module _ (h : length P ≤ 65536) where
-        pub unread : {r : Read} {a : Answer} → ReadsStages buffer lengths r → r ≡ read.Refused a → guard_files 2 buffer lengths P ≡ refused a
+        pub unread : {a : Answer} → ReadsStages buffer lengths (Err a) → guard_files 2 buffer lengths P ≡ refused a
         unfolding guard_files at_most need ◌>>◌ ◌>>=◌
-        unread q e =
-            let d = (rw e at q).by in
-            rw (p, s, le-leb (length P) 65536 h, d)
+        unread q = rw (p, s, le-leb (length P) 65536 h, q.by)
 
-        module _ {r : Read} (q : ReadsStages buffer lengths r) {K count : ℕ} (e : r ≡ read.Stages K count) where
-          pub too_many : 64 < count → guard_files 2 buffer lengths P ≡ refused (answer 26 4 0)
+        module _ {stages : Stages} (q : ReadsStages buffer lengths (Ok stages)) where
+          pub too_many : 64 < stages.count → guard_files 2 buffer lengths P ≡ refused (answer 26 4 0)
           unfolding guard_files at_most need ◌>>◌ ◌>>=◌
           too_many l =
-              let d = (rw e at q).by in
-              rw (p, s, le-leb (length P) 65536 h, d.is, d.count_is, lt-leb count 64 l)
+              let d = q.by in
+              rw (p, s, le-leb (length P) 65536 h, d.is, d.count_is, lt-leb stages.count 64 l)
 
-          pub gathered : count ≤ 64 → StagesPassed buffer lengths P K count
+          pub gathered : stages.count ≤ 64 → StagesPassed buffer lengths P stages.k stages.count
           gathered l =
-              let d = (rw e at q).by in
+              let d = q.by in
               let n = parted-is p in
               record {
                 parted = p;
@@ -159,6 +157,10 @@ module _ (K : ℕ) (Ts : Run) (fs : Fields) {a : Answer} (h : header FileKind.Pr
   run-stops = rw (cuts-stop 0 (length Ts), h, cond_same (leb a.place a.place) a)
 
 -- ---- the proof
+-- the header's result, its error told as an answer
+abbrev pub HeaderTold : code.Result Headed Fault → code.Result Headed Answer → Type 0
+HeaderTold x m = MatchResult x (λ y. m ≡ Ok y) (λ f. IsErrAnd m (λ a. a ≡ answer (number_of f.refusal) 3 f.place))
+
 abbrev fitting : (K : ℕ) → List Formula → Result (List (List ℕ))
 fitting K Is = need (answer 1 4 (length (joined (files K Is)))) (every (λ file. leb (length file) 65536) (files K Is)) >> accepted (files K Is)
 
@@ -167,93 +169,95 @@ module _ {buffer lengths P : List ℕ} {K count : ℕ} (g : StagesPassed buffer 
   unfolding guard_files at_most need ◌>>◌ ◌>>=◌
   files-are = rw (g.parted, g.short, le-leb (length P) 65536 g.proof_short, g.staged.is, g.staged.count_is, le-leb count 64 g.staged.few, g.staged.k_is)
 
-  pub run-refused : {r : Cuts} {a : Answer} → RunChecked buffer lengths K P r → r ≡ cuts.Refused a → guard_files 2 buffer lengths P ≡ refused a
+  header-as : {x : code.Result Headed Fault} → IsHeader FileKind.Proof 2 K P x → header FileKind.Proof file_proof 2 (some K) (fields P) ≡ told file_proof (header_of P) x
+  header-as h = ap (λ (o : Option ℕ). header FileKind.Proof file_proof 2 o (fields P)) (sym (given-some K g.low)) ∙ h.is file_proof
+
+  header-stops : {f : Fault} → IsHeader FileKind.Proof 2 K P (Err f) → guard_files 2 buffer lengths P ≡ refused (answer (number_of f.refusal) 3 f.place)
   unfolding ◌>>=◌
-  run-refused q e =
-      let d = (rw e at q).by in
-      files-are ∙ rw d
+  header-stops h = files-are ∙ rw (run-stops K (stages buffer lengths) (fields P) (header-as h))
 
-  pub run-totals : {r : Cuts} {total : ℕ} {fit : Bool} → RunChecked buffer lengths K P r → r ≡ cuts.Derived total fit → Totals buffer lengths P K total fit
-  run-totals q e = record { derives = (rw e at q).by }
+  header-begins : {y : Headed} → IsHeader FileKind.Proof 2 K P (Ok y) → ProofBegun P K y.edition y.next
+  header-begins {y} h =
+      let d : header FileKind.Proof file_proof 2 (some K) (fields P) ≡ accepted (record { number = y.edition; K = y.k; rest = fields_at P y.next }) = header-as h in
+      let z : y.k ≡ K = agreed K y.k ((header-gives FileKind.Proof file_proof 2 (some K) (fields P)).gives _ d).agree in
+      record { is = d ∙ ap (λ (x : ℕ). accepted (record { number = y.edition; K = x; rest = fields_at P y.next })) z }
 
-  module _ {r : Headed} (h : IsHeader FileKind.Proof 2 K P r) where
-    header-as : header FileKind.Proof file_proof 2 (some K) (fields P) ≡ headed_of file_proof P r
-    header-as = ap (λ (o : Option ℕ). header FileKind.Proof file_proof 2 o (fields P)) (sym (given-some K g.low)) ∙ h.is file_proof
+  module _ {x : code.Result Headed Fault} (h : IsHeader FileKind.Proof 2 K P x) {m : code.Result Headed Answer} (told-as : HeaderTold x m) where
+    pub unheaded : {a : Answer} → m ≡ Err a → guard_files 2 buffer lengths P ≡ refused a
+    unheaded e =
+        let f = mapped-err (λ f a. a ≡ answer (number_of f.refusal) 3 f.place) x told-as e in
+        rw f.2 (header-stops (rw f.1 at h))
 
-    pub unheaded : {x a : ℕ} → r ≡ Headed.Refused x a → guard_files 2 buffer lengths P ≡ refused (answer x 3 a)
-    unfolding ◌>>=◌
-    unheaded {x} {a} e =
-        let d : header FileKind.Proof file_proof 2 (some K) (fields P) ≡ refused (answer x 3 a) = header-as ∙ rw e in
-        files-are ∙ rw (run-stops K (stages buffer lengths) (fields P) d)
-
-    pub begun : {n k next : ℕ} → r ≡ Headed.Header n k next → ProofBegun P K n next
-    begun {n} {k} {next} e =
-        let d : header FileKind.Proof file_proof 2 (some K) (fields P) ≡ accepted (record { number = n; K = k; rest = fields_at P next }) = header-as ∙ rw e in
-        let z : k ≡ K = agreed K k ((header-gives FileKind.Proof file_proof 2 (some K) (fields P)).gives _ d).agree in
-        record { is = d ∙ ap (λ (x : ℕ). accepted (record { number = n; K = x; rest = fields_at P next })) z }
-
-  module _ {e at : ℕ} (b : ProofBegun P K e at) where
-    pub asked : {kinds : List ℕ} {buf : List ℤ} → Spare e K (count + lines_left e P at) kinds buf → CutAsked buffer lengths K count P e at kinds buf
-    asked s = record { staged = g.staged; high = g.high; short = g.proof_short; header_is = b.is; spare = s }
+    pub begun-header : {y : Headed} → m ≡ Ok y → ProofBegun P K y.edition y.next
+    begun-header e = header-begins (rw (mapped-ok (λ f a. a ≡ answer (number_of f.refusal) 3 f.place) x told-as e) at h)
 
   pub countable : (at : ℕ) → Countable P at 0
   countable at = record { few = omega (arith, fields-few P at, g.proof_short) }
 
-  -- ---- what is accepted
-  module _ {total : ℕ} {fit : Bool} (t : Totals buffer lengths P K total fit) where
-    pub guard-long : fit ≡ false → guard_files 2 buffer lengths P ≡ refused (answer 1 4 total)
-    unfolding ◌>>=◌ ◌>>◌ need
-    guard-long h =
-        let d = t.derives in
-        let z = sym d.fit_is ∙ h in
-        files-are ∙ rw (d.is, z, d.total_is)
+module _ (r : begun.Run) (g : Passed r) where
+  pub asked : Begun r → {kinds : List ℕ} {buf : List ℤ} → Spare r.edition r.k (r.count + lines_left r.edition r.proof.now r.at) kinds buf → Asked r kinds buf
+  asked b s = record { staged = g.staged; high = g.high; short = g.proof_short; header_is = b.is; spare = s }
 
-    all_fit : fit ≡ true → guard_files 2 buffer lengths P ≡ accepted (files K t.derives.formulas)
-    unfolding ◌>>=◌ ◌>>◌ need
-    all_fit h =
-        let d = t.derives in
-        let z = sym d.fit_is ∙ h in
-        files-are ∙ rw (d.is, z)
+  pub run-refused : {a : Answer} → RunChecked r (Err a) → guard_files 2 r.buffer.now r.lengths.now r.proof.now ≡ refused a
+  unfolding ◌>>=◌
+  run-refused q =
+      let d = q.by in
+      files-are g ∙ rw d
 
-    cuts_are : cuts_of buffer lengths K P ≡ accepted t.derives.formulas
-    unfolding check_run
-    cuts_are = both_first (cuts_of buffer lengths K P) (uniform 2 K (fields P)) t.derives.is
+  pub run-totals : {d : Derived} → RunChecked r (Ok d) → Totals r d
+  run-totals q = record { derives = q.by }
 
-    files-count : length (files K t.derives.formulas) ≡ length lengths + 1
-    files-count =
-        length-map t.derives.formulas (formula_file edition1 K)
-        ∙ from-count K (stages buffer lengths) (fields P) 0 (suc (length (stages buffer lengths))) (cuts-from K (stages buffer lengths) (fields P) 0 (length (stages buffer lengths)) ∙ cuts_are)
-        ∙ omega (arith, stages-count g.staged)
+-- ---- what is accepted
+module _ {r : begun.Run} (g : Passed r) {d : Derived} (t : Totals r d) where
+  pub guard-long : d.fit ≡ false → guard_files 2 r.buffer.now r.lengths.now r.proof.now ≡ refused (answer 1 4 d.total)
+  unfolding ◌>>=◌ ◌>>◌ need
+  guard-long h =
+      let x = t.derives in
+      let z = sym x.fit_is ∙ h in
+      files-are g ∙ rw (x.is, z, x.total_is)
 
-    module _ {out sizes : List ℕ} (h : fit ≡ true) where
-      module _ {r : WriteResult} (q : r ≡ record { answer = answer 21 4 total; count = 0 }) where
-        pub out-short : length out < total → WritesGuards buffer lengths P out sizes out sizes r
-        unfolding guards guards_by written_guards fit_guards unwritten
-        out-short l =
-            let d = t.derives in
-            let z : leb (length (joined (files K d.formulas))) (length out) ≡ false = lt-leb (length (joined (files K d.formulas))) (length out) (omega (arith, d.total_is)) in
-            record { is = rw (all_fit h, z, q, d.total_is) }
+  all_fit : d.fit ≡ true → guard_files 2 r.buffer.now r.lengths.now r.proof.now ≡ accepted (files r.k t.derives.formulas)
+  unfolding ◌>>=◌ ◌>>◌ need
+  all_fit h =
+      let x = t.derives in
+      let z = sym x.fit_is ∙ h in
+      files-are g ∙ rw (x.is, z)
 
-        pub sizes-short : total ≤ length out → length sizes < length lengths + 1 → WritesGuards buffer lengths P out sizes out sizes r
-        unfolding guards guards_by written_guards fit_guards unwritten
-        sizes-short m l =
-            let d = t.derives in
-            let y : leb (length (joined (files K d.formulas))) (length out) ≡ true = le-leb (length (joined (files K d.formulas))) (length out) (omega (arith, d.total_is)) in
-            let z : leb (length (files K d.formulas)) (length sizes) ≡ false = lt-leb (length (files K d.formulas)) (length sizes) (omega (arith, files-count)) in
-            record { is = rw (all_fit h, y, z, q, d.total_is) }
+  cuts_are : cuts_of r ≡ accepted t.derives.formulas
+  unfolding check_run
+  cuts_are = both_first (cuts_of r) (uniform 2 r.k (fields r.proof.now)) t.derives.is
 
-      module _ (m : total ≤ length out) (l : length lengths + 1 ≤ length sizes) where
-        pub all_room : GuardsFit buffer lengths K P out sizes
-        all_room = record { formulas = t.derives.formulas; are = cuts_are; room = omega (arith, t.derives.total_is); slots = l }
+  files-count : length (files r.k t.derives.formulas) ≡ length r.lengths.now + 1
+  files-count =
+      length-map t.derives.formulas (formula_file edition1 r.k)
+      ∙ from-count r.k (stages_of r) (fields r.proof.now) 0 (suc (length (stages_of r))) (cuts-from r.k (stages_of r) (fields r.proof.now) 0 (length (stages_of r)) ∙ cuts_are)
+      ∙ omega (arith, stages-count g.staged)
 
-        pub all-written : {out' sizes' : List ℕ} → WritesAll buffer lengths K P out out' sizes sizes' → {r : WriteResult} {a : Answer} → a ≡ acceptance → r ≡ record { answer = a; count = total } → WritesGuards buffer lengths P out sizes out' sizes' r
-        unfolding guards guards_by written_guards fit_guards
-        all-written w p q =
-            let d = t.derives in
-            let y : leb (length (joined (files K d.formulas))) (length out) ≡ true = le-leb (length (joined (files K d.formulas))) (length out) (omega (arith, d.total_is)) in
-            let z : leb (length (files K d.formulas)) (length sizes) ≡ true = le-leb (length (files K d.formulas)) (length sizes) (omega (arith, files-count)) in
-            record { is = rw (all_fit h, y, z, q, p, d.total_is, w.output d.formulas cuts_are, w.told d.formulas cuts_are) }
+  module _ {out sizes : List ℕ} (h : d.fit ≡ true) where
+    module _ {a : Answer} (q : a ≡ answer 21 4 d.total) where
+      pub out-short : length out < d.total → Guarded r.buffer.now r.lengths.now r.proof.now out sizes out sizes (Err a)
+      unfolding guards guards_by written_guards fit_guards unwritten
+      out-short l =
+          let x = t.derives in
+          let z : leb (length (joined (files r.k x.formulas))) (length out) ≡ false = lt-leb (length (joined (files r.k x.formulas))) (length out) (omega (arith, x.total_is)) in
+          record { is = rw (all_fit h, z, q, x.total_is) }
 
--- In edition 1 a branch has at most 128 lines.
-pub narrow-lines : {e : ℕ} (c : ℕ) → e ≡ 1 → LinesWithin e c 128
-narrow-lines c h = rw h (omega arith)
+      pub sizes-short : d.total ≤ length out → length sizes < length r.lengths.now + 1 → Guarded r.buffer.now r.lengths.now r.proof.now out sizes out sizes (Err a)
+      unfolding guards guards_by written_guards fit_guards unwritten
+      sizes-short m l =
+          let x = t.derives in
+          let y : leb (length (joined (files r.k x.formulas))) (length out) ≡ true = le-leb (length (joined (files r.k x.formulas))) (length out) (omega (arith, x.total_is)) in
+          let z : leb (length (files r.k x.formulas)) (length sizes) ≡ false = lt-leb (length (files r.k x.formulas)) (length sizes) (omega (arith, files-count)) in
+          record { is = rw (all_fit h, y, z, q, x.total_is) }
+
+    module _ (m : d.total ≤ length out) (l : length r.lengths.now + 1 ≤ length sizes) where
+      pub all_room : GuardsFit r out sizes
+      all_room = record { formulas = t.derives.formulas; are = cuts_are; room = omega (arith, t.derives.total_is); slots = l }
+
+      pub all-written : {out' sizes' : List ℕ} → WritesAll r out out' sizes sizes' → Guarded r.buffer.now r.lengths.now r.proof.now out sizes out' sizes' (Ok d.total)
+      unfolding guards guards_by written_guards fit_guards
+      all-written w =
+          let x = t.derives in
+          let y : leb (length (joined (files r.k x.formulas))) (length out) ≡ true = le-leb (length (joined (files r.k x.formulas))) (length out) (omega (arith, x.total_is)) in
+          let z : leb (length (files r.k x.formulas)) (length sizes) ≡ true = le-leb (length (files r.k x.formulas)) (length sizes) (omega (arith, files-count)) in
+          record { is = rw (all_fit h, y, z, x.total_is, w.output x.formulas cuts_are, w.told x.formulas cuts_are) }

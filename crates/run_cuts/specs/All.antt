@@ -1,5 +1,6 @@
--- All cuts of a run, by the answers of the code. Document 02, point 7. Assumes nothing.
-use Rattle.std.specs.Prelude.{◌≡◌, Bool, cond, ◌&&◌, List, map, ℕ, ◌+◌, ◌*◌, ◌≤◌, leb, length}
+-- All cuts of a run, by the answers of the code. Assumes nothing.
+use Rattle.std.specs.Prelude.{◌≡◌, Bool, cond, ◌&&◌, List, map, ℕ, ◌+◌, ◌*◌, ◌≤◌, leb, length, Ok, Err}
+use Rattle.std.specs.declared.result.Result as code
 use Rattle.forms.specs.Edition.{edition1, newest_edition}
 use Rattle.forms.specs.Forms.{Formula, every}
 use Rattle.answers.specs.declared.Answer.{Answer}
@@ -9,46 +10,53 @@ use Rattle.formula.specs.Formula.{formula_file}
 use Rattle.formula_write.specs.Writing.{scratch_limit}
 use Rattle.chains.specs.Runs.{joined}
 use Rattle.run.specs.Run.{most_stages, check_cuts, check_run}
-use Rattle.run_branches.specs.declared.walk.Outcome.{Outcome}
-use Rattle.run_branches.specs.declared.walk.Outcome.TheVariants as outcome
-use Rattle.run_stages.specs.Staged.{stages}
-use Rattle.run_cuts.specs.declared.cut.Cut.{Cut}
-use Rattle.run_cuts.specs.declared.cut.Cut.TheVariants as cut
-use Rattle.run_cuts.specs.declared.all.Cuts.{Cuts}
-use Rattle.run_cuts.specs.declared.all.Cuts.TheVariants as cuts
+use Rattle.run_branches.specs.declared.walk.Closed.{Closed}
+use Rattle.run_cuts.specs.Cuts.{stages_of}
+use Rattle.run_cuts.specs.declared.begun.Run as begun
+use Rattle.run_cuts.specs.declared.all.Derived.{Derived}
 
 -- Of two refusals the one of the lesser place; at one place the first.
 abbrev pub earlier_refusal : Answer → Answer → Answer
 earlier_refusal a b = cond (leb a.place b.place) a b
 
+-- Of two results the refusal that comes first.
+abbrev pub both_of : {X Y : Type 0} → code.Result X Answer → code.Result Y Answer → code.Result (X × Y) Answer
+both_of (Err a) (Err b) = Err (earlier_refusal a b)
+both_of (Err a) (Ok y) = Err a
+both_of (Ok x) (Err b) = Err b
+both_of (Ok x) (Ok y) = Ok (x, y)
+
 -- A cut and those after it.
-abbrev pub joined_by : Cut → Cuts → Cuts
-joined_by (cut.Refused a) (cuts.Refused b) = cuts.Refused (earlier_refusal a b)
-joined_by (cut.Refused a) (cuts.Derived total fit) = cuts.Refused a
-joined_by (cut.Derived o) (cuts.Refused b) = cuts.Refused b
-joined_by (cut.Derived o) (cuts.Derived total fit) = cuts.Derived (total + (o + 8)) (leb (o + 8) edition1.formula_bytes && fit)
+abbrev pub added : code.Result (ℕ × Derived) Answer → code.Result Derived Answer
+added (Err a) = Err a
+added (Ok x) = Ok (record { total = x.1.total + (x.0 + 8); fit = leb (x.0 + 8) edition1.formula_bytes && x.1.fit })
+
+abbrev pub joined_by : code.Result ℕ Answer → code.Result Derived Answer → code.Result Derived Answer
+joined_by cut others = added (both_of cut others)
 
 -- The cuts, and then the walk.
-abbrev pub judged_by : Cuts → Outcome → Cuts
-judged_by all (outcome.Closed next rows unlike) = all
-judged_by (cuts.Refused a) (outcome.Refused b) = cuts.Refused (earlier_refusal a b)
-judged_by (cuts.Derived total fit) (outcome.Refused b) = cuts.Refused b
+abbrev pub first_of : code.Result (Derived × Closed) Answer → code.Result Derived Answer
+first_of (Err a) = Err a
+first_of (Ok x) = Ok x.0
+
+abbrev pub judged_by : code.Result Derived Answer → code.Result Closed Answer → code.Result Derived Answer
+judged_by all walked = first_of (both_of all walked)
 
 -- What is to be added fits the machine.
 abbrev pub most_total : ℕ
 most_total = (most_stages + 1) * (scratch_limit + 8)
 
 -- The bytes of one cut's formula, and of all guards' files; 0 where refused.
-abbrev pub cut_size : Cut → ℕ
-cut_size (cut.Refused a) = 0
-cut_size (cut.Derived o) = o
+abbrev pub cut_size : code.Result ℕ Answer → ℕ
+cut_size (Err a) = 0
+cut_size (Ok o) = o
 
-abbrev pub cuts_total : Cuts → ℕ
-cuts_total (cuts.Refused a) = 0
-cuts_total (cuts.Derived total fit) = total
+abbrev pub cuts_total : code.Result Derived Answer → ℕ
+cuts_total (Err a) = 0
+cuts_total (Ok d) = d.total
 
-pub record Summable (c : Cut) (others : Cuts) : Type 0 where
-  pub own : cut_size c ≤ scratch_limit
+pub record Summable (cut : code.Result ℕ Answer) (others : code.Result Derived Answer) : Type 0 where
+  pub own : cut_size cut ≤ scratch_limit
   pub rest : cuts_total others ≤ most_total
 
 -- The guards' files.
@@ -62,17 +70,20 @@ pub record DerivesAll (R : Result (List Formula)) (K total : ℕ) (fit : Bool) :
   pub total_is : total ≡ length (joined (files K formulas))
   pub fit_is : fit ≡ every (λ file. leb (length file) edition1.formula_bytes) (files K formulas)
 
-abbrev pub AllBy : (R : Result (List Formula)) (K : ℕ) → Cuts → Type 0
-AllBy R K (cuts.Refused a) = R ≡ refused a
-AllBy R K (cuts.Derived total fit) = DerivesAll R K total fit
+abbrev pub AllBy : (R : Result (List Formula)) (K : ℕ) → code.Result Derived Answer → Type 0
+AllBy R K (Err a) = R ≡ refused a
+AllBy R K (Ok d) = DerivesAll R K d.total d.fit
 
-pub record AllChecked (R : Result (List Formula)) (K : ℕ) (r : Cuts) : Type 0 where
+pub record AllChecked (R : Result (List Formula)) (K : ℕ) (r : code.Result Derived Answer) : Type 0 where
   pub by : AllBy R K r
   pub few : cuts_total r ≤ most_total
 
-abbrev pub CutsChecked : (buffer lengths : List ℕ) (K : ℕ) (P : List ℕ) → Cuts → Type 0
-CutsChecked buffer lengths K P r = AllChecked (check_cuts newest_edition K (stages buffer lengths) (fields P) 0 (length (stages buffer lengths))) K r
+abbrev pub cuts_of : begun.Run → Result (List Formula)
+cuts_of r = check_cuts newest_edition r.k (stages_of r) (fields r.proof.now) 0 (length (stages_of r))
+
+abbrev pub CutsChecked : begun.Run → code.Result Derived Answer → Type 0
+CutsChecked r x = AllChecked (cuts_of r) r.k x
 
 -- The cuts and the walk.
-abbrev pub RunChecked : (buffer lengths : List ℕ) (K : ℕ) (P : List ℕ) → Cuts → Type 0
-RunChecked buffer lengths K P r = AllChecked (check_run newest_edition K (stages buffer lengths) (fields P)) K r
+abbrev pub RunChecked : begun.Run → code.Result Derived Answer → Type 0
+RunChecked r x = AllChecked (check_run newest_edition r.k (stages_of r) (fields r.proof.now)) r.k x

@@ -1,39 +1,32 @@
--- The guards' files in the output. Document 02, point 7. Assumes nothing.
+-- The guards' files in the output. Assumes nothing.
 use Rattle.std.specs.Prelude.{◌≡◌, List, map, ℕ, ◌+◌, ◌≤◌, length}
-use Rattle.forms.specs.Edition.{edition1, newest_edition}
+use Rattle.forms.specs.Edition.{edition1}
 use Rattle.forms.specs.Forms.{Formula}
-use Rattle.answers.specs.Answers.{Result, accepted, over}
-use Rattle.fields.specs.Fields.{fields}
+use Rattle.answers.specs.Answers.{accepted, over}
 use Rattle.formula.specs.Formula.{formula_file}
 use Rattle.chains.specs.Runs.{joined}
-use Rattle.run.specs.Run.{check_cut, check_cuts}
-use Rattle.run_stages.specs.Staged.{stages}
-use Rattle.run_cuts.specs.All.{files}
-
-abbrev pub cut_of : (buffer lengths : List ℕ) (c K : ℕ) (P : List ℕ) → Result Formula
-cut_of buffer lengths c K P = check_cut newest_edition K (stages buffer lengths) (fields P) c
-
-abbrev pub cuts_of : (buffer lengths : List ℕ) (K : ℕ) (P : List ℕ) → Result (List Formula)
-cuts_of buffer lengths K P = check_cuts newest_edition K (stages buffer lengths) (fields P) 0 (length (stages buffer lengths))
+use Rattle.run_cuts.specs.Cuts.{cut_of}
+use Rattle.run_cuts.specs.All.{files, cuts_of}
+use Rattle.run_cuts.specs.declared.begun.Run as begun
 
 -- Cut c is accepted, and its guard's file has room in the output.
-pub record GuardFits (buffer lengths : List ℕ) (c K : ℕ) (P out : List ℕ) : Type 0 where
+pub record GuardFits (r : begun.Run) (c : ℕ) (out : List ℕ) : Type 0 where
   pub formula : Formula
-  pub is : cut_of buffer lengths c K P ≡ accepted formula
-  pub room : length (formula_file edition1 K formula) ≤ length out
+  pub is : cut_of r c ≡ accepted formula
+  pub room : length (formula_file edition1 r.k formula) ≤ length out
 
--- Its file stands at the front of the output, and r is its size.
-pub record WritesGuard (buffer lengths : List ℕ) (c K : ℕ) (P out out' : List ℕ) (r : ℕ) : Type 0 where
-  pub size : (I : Formula) → cut_of buffer lengths c K P ≡ accepted I → r ≡ length (formula_file edition1 K I)
-  pub output : (I : Formula) → cut_of buffer lengths c K P ≡ accepted I → out' ≡ over (formula_file edition1 K I) out
+-- Its file stands at the front of the output, and n is its size.
+pub record WritesGuard (r : begun.Run) (c : ℕ) (out out' : List ℕ) (n : ℕ) : Type 0 where
+  pub size : (I : Formula) → cut_of r c ≡ accepted I → n ≡ length (formula_file edition1 r.k I)
+  pub output : (I : Formula) → cut_of r c ≡ accepted I → out' ≡ over (formula_file edition1 r.k I) out
 
 -- Every cut is accepted, and the guards' files and their sizes have room in the outputs.
-pub record GuardsFit (buffer lengths : List ℕ) (K : ℕ) (P out sizes : List ℕ) : Type 0 where
+pub record GuardsFit (r : begun.Run) (out sizes : List ℕ) : Type 0 where
   pub formulas : List Formula
-  pub are : cuts_of buffer lengths K P ≡ accepted formulas
-  pub room : length (joined (files K formulas)) ≤ length out
-  pub slots : length lengths + 1 ≤ length sizes
+  pub are : cuts_of r ≡ accepted formulas
+  pub room : length (joined (files r.k formulas)) ≤ length out
+  pub slots : length r.lengths.now + 1 ≤ length sizes
 
-pub record WritesAll (buffer lengths : List ℕ) (K : ℕ) (P out out' sizes sizes' : List ℕ) : Type 0 where
-  pub output : (Is : List Formula) → cuts_of buffer lengths K P ≡ accepted Is → out' ≡ over (joined (files K Is)) out
-  pub told : (Is : List Formula) → cuts_of buffer lengths K P ≡ accepted Is → sizes' ≡ over (map length (files K Is)) sizes
+pub record WritesAll (r : begun.Run) (out out' sizes sizes' : List ℕ) : Type 0 where
+  pub output : (Is : List Formula) → cuts_of r ≡ accepted Is → out' ≡ over (joined (files r.k Is)) out
+  pub told : (Is : List Formula) → cuts_of r ≡ accepted Is → sizes' ≡ over (map length (files r.k Is)) sizes

@@ -1,118 +1,86 @@
 // The cuts together: of all refusals the one of least place, or the bytes of all guards.
-ghost use Rattle.std.specs.Prelude.{◌≡◌, ◌&&◌, ◌+◌, leb};
-ghost use Rattle.forms.specs.Edition.{edition1};
-ghost use Rattle.run_cuts.specs.Cuts.{CutAsked};
-ghost use Rattle.run_cuts.specs.All.{earlier_refusal, joined_by, judged_by, Summable, CutsChecked};
+ghost use Rattle.std.specs.Prelude.{◌≡◌};
+ghost use Rattle.run_cuts.specs.Cuts.{Asked};
+ghost use Rattle.run_cuts.specs.All.{earlier_refusal, both_of, joined_by, judged_by, Summable, CutsChecked};
 
-use crate::cut::{Cut, check_cut};
+use crate::begun::Run;
+use crate::cut::check_cut;
 use answers::Answer;
 use forms::FORMULA_BYTES;
-use run_branches::walk::Outcome;
+use run_branches::walk::Closed;
 
 // The two header fields of a guard's file.
-const HEADER_BYTES: usize = 8;
+pub const HEADER_BYTES: usize = 8;
 
+// What the cuts derive: the bytes of all guards' files, and whether none of them is too long.
 #[derive(Clone, Copy)]
-pub enum Cuts {
-    Refused { answer: Answer },
-    // The bytes of all guards' files, and whether none of them is too long.
-    Derived { total: usize, fit: bool },
+pub struct Derived {
+    pub total: usize,
+    pub fit: bool,
 }
 
 // Of two refusals that of the lesser place, at one place the first.
 pub fn earlier_refusal(a: Answer, b: Answer) -> Answer
     ensures { result ≡ earlier_refusal a b }
 {
-    if a.place <= b.place {
-        return a;
-    }
-    b
+    if a.place <= b.place { a } else { b }
 }
 
-// Whether a guard's file, of so many bytes, is not too long, and the others are not.
-fn both_fit(size: usize, others: bool) -> bool
-    ensures { result ≡ (leb size edition1.formula_bytes && others) }
+// Both, or the refusal that comes first.
+fn both<X: Copy, Y: Copy>(
+    first: Result<X, Answer>,
+    second: Result<Y, Answer>,
+) -> Result<(X, Y), Answer>
+    ensures { result ≡ both_of first second }
 {
-    if size <= FORMULA_BYTES {
-        return others;
+    match (first, second) {
+        (Ok(x), Ok(y)) => Ok((x, y)),
+        (Err(a), Err(b)) => Err(earlier_refusal(a, b)),
+        (Err(a), Ok(_)) => Err(a),
+        (Ok(_), Err(b)) => Err(b),
     }
-    false
 }
 
-// A cut, and those after it.
-fn joined(cut: Cut, others: Cuts) -> Cuts
+// A cut, whose formula has so many bytes, and those after it.
+fn joined(cut: Result<usize, Answer>, others: Result<Derived, Answer>) -> Result<Derived, Answer>
     requires { Summable cut others }
     ensures { result ≡ joined_by cut others }
 {
-    match cut {
-        Cut::Refused { answer: a } => match others {
-            Cuts::Refused { answer: b } => {
-                let answer = earlier_refusal(a, b);
-                Cuts::Refused { answer }
-            }
-            Cuts::Derived { total: _, fit: _ } => Cuts::Refused { answer: a },
-        },
-        Cut::Derived { o } => match others {
-            Cuts::Refused { answer: b } => Cuts::Refused { answer: b },
-            Cuts::Derived { total, fit } => {
-                let size = o + HEADER_BYTES;
-                let all = total + size;
-                let every = both_fit(size, fit);
-                Cuts::Derived {
-                    total: all,
-                    fit: every,
-                }
-            }
-        },
-    }
+    let (o, derived) = both(cut, others)?;
+    let size = o + HEADER_BYTES;
+    Ok(Derived {
+        total: derived.total + size,
+        fit: size <= FORMULA_BYTES && derived.fit,
+    })
 }
 
 // The cuts, and then the walk, which comes after them at one place.
-pub fn judged(all: Cuts, walked: Outcome) -> Cuts
+pub fn judged(
+    all: Result<Derived, Answer>,
+    walked: Result<Closed, Answer>,
+) -> Result<Derived, Answer>
     ensures { result ≡ judged_by all walked }
 {
-    match walked {
-        Outcome::Refused { answer: b } => match all {
-            Cuts::Refused { answer: a } => {
-                let answer = earlier_refusal(a, b);
-                Cuts::Refused { answer }
-            }
-            Cuts::Derived { total: _, fit: _ } => Cuts::Refused { answer: b },
-        },
-        Outcome::Closed {
-            next: _,
-            rows: _,
-            unlike: _,
-        } => all,
-    }
+    let (derived, _) = both(all, walked)?;
+    Ok(derived)
 }
 
 // All cuts, from the last down: what is found so far is that of the cuts after this one. No formula is kept, so any scratch does.
 pub fn check_cuts(
-    buffer: &[u8],
-    lengths: &[usize],
-    k: u8,
-    count: usize,
-    proof: &[u8],
-    at: usize,
-    e: u8,
+    run: &Run,
     lines: &mut [i32],
     kinds: &mut [u8],
     scratch: &mut [u8],
-) -> Cuts
-    requires { CutAsked buffer.now lengths.now k count proof.now e at kinds.old lines.old }
-    ensures { CutsChecked buffer.now lengths.now k proof.now result }
+) -> Result<Derived, Answer>
+    requires { Asked run.now kinds.old lines.old }
+    ensures { CutsChecked run.now result }
 {
-    let mut all = Cuts::Derived {
+    let mut all = Ok(Derived {
         total: 0,
         fit: true,
-    };
-    let mut c = lengths.len() + 1;
-    while c > 0 {
-        c -= 1;
-        let own = check_cut(
-            buffer, lengths, c, k, count, proof, at, e, lines, kinds, scratch,
-        );
+    });
+    for c in (0..=run.lengths.len()).rev() {
+        let own = check_cut(run, c, lines, kinds, scratch);
         all = joined(own, all);
     }
     all

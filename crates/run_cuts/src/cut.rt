@@ -3,103 +3,72 @@ ghost use Rattle.std.specs.Prelude.{◌≡◌};
 ghost use Rattle.lines.specs.Buffer.{lines_in};
 ghost use Rattle.tally.specs.Tally.{tally};
 ghost use Rattle.branches.specs.Branching.{Started};
-ghost use Rattle.run_cuts.specs.Cuts.{claimed_as, RootChecked, CutAsked, CutChecked};
+ghost use Rattle.run_cuts.specs.Cuts.{claimed_as, RootChecked, Asked, CutChecked};
 
+use crate::begun::Run;
 use crate::load::load_cut;
-use answers::Answer;
-use branches::branch::{Branched, Here, check_branch};
+use answers::refusals::Refusal;
+use answers::{Answer, refusal, root};
+use branches::branch::{Here, check_branch};
 use fields::FileKind;
-use fields::ending::{Ending, ending_at};
+use fields::ending::ending_at;
 use forms::{LineNumber, RowNumber};
 use run_branches::walk::renumber;
 use tally::Tally;
 
-#[derive(Clone, Copy)]
-pub enum Cut {
-    Refused { answer: Answer },
-    // The bytes of its formula.
-    Derived { o: usize },
-}
-
 // 27 in place of 14.
-fn claimed(a: Answer) -> Answer
-    ensures { result ≡ claimed_as a }
+fn claimed(answer: Answer) -> Answer
+    ensures { result ≡ claimed_as answer }
 {
-    if a.number == 14 {
-        return renumber(a, 27);
+    if answer.number == Refusal::WrongClaim.number() {
+        return renumber(answer, Refusal::ClaimInRun);
     }
-    a
+    answer
 }
 
-// The root, from a place of the proof on, and what follows it. The formula goes into the scratch, if there is room for it.
+// The root, and what follows it: the bytes of its formula, which goes into the scratch, if there is room for it.
 fn check_loaded(
-    proof: &[u8],
-    at: usize,
-    e: u8,
-    k: u8,
-    count: usize,
+    run: &Run,
     lines: &mut [i32],
     kinds: &mut [u8],
     scratch: &mut [u8],
-) -> Cut
-    requires { Started k kinds.old lines.old (tally e 0 count 0) proof.now at 0 }
-    ensures { RootChecked e k (lines_in k kinds.old lines.old count) proof.now at scratch.old scratch.new result }
+) -> Result<usize, Answer>
+    requires { Started run.now.k kinds.old lines.old (tally run.now.edition 0 run.now.count 0) run.now.proof.now run.now.at 0 }
+    ensures { RootChecked run.now (lines_in run.now.k kinds.old lines.old run.now.count) scratch.old scratch.new result }
 {
-    let rows = RowNumber(0);
-    let made = LineNumber(count as u16);
     let tally = Tally {
-        rows,
-        lines: made,
+        rows: RowNumber(0),
+        lines: LineNumber(run.count as u16),
         open: 0,
-        edition: e,
+        edition: run.edition,
     };
-    let position = answers::root();
     let here = Here {
-        at,
-        k: k as usize,
+        at: run.at,
+        k: run.k as usize,
         o: 0,
     };
-    match check_branch(proof, here, position, lines, kinds, tally, scratch) {
-        Branched::Fault {
-            number,
-            rows: so_far,
-            position: found,
-            at: place,
-        } => {
-            let answer = claimed(answers::proof_refusal(found, so_far, number, place));
-            Cut::Refused { answer }
-        }
-        Branched::Closed {
-            at: end,
-            o,
-            tally: _,
-        } => match ending_at(proof, end, FileKind::Proof) {
-            Ending::Ended => Cut::Derived { o },
-            Ending::Fault { number, at: place } => {
-                let answer = claimed(answers::refusal(number, 3, place));
-                Cut::Refused { answer }
-            }
-        },
-    }
+    let closed = check_branch(run.proof, here, root(), lines, kinds, tally, scratch).map_err(
+        |fault| fault.answer(),
+    )?;
+    ending_at(run.proof, closed.at, FileKind::Proof).map_err(|fault| refusal(
+        fault.refusal,
+        3,
+        fault.place,
+    ))?;
+    Ok(closed.o)
 }
 
-// Cut c of the stages, which have K constants and so many constraints.
+// Cut c of the stages: the bytes of its formula.
 pub fn check_cut(
-    buffer: &[u8],
-    lengths: &[usize],
+    run: &Run,
     c: usize,
-    k: u8,
-    count: usize,
-    proof: &[u8],
-    at: usize,
-    e: u8,
     lines: &mut [i32],
     kinds: &mut [u8],
     scratch: &mut [u8],
-) -> Cut
-    requires { CutAsked buffer.now lengths.now k count proof.now e at kinds.old lines.old }
-    ensures { CutChecked buffer.now lengths.now c k proof.now scratch.old scratch.new result }
+) -> Result<usize, Answer>
+    requires { Asked run.now kinds.old lines.old }
+    ensures { CutChecked run.now c scratch.old scratch.new result }
 {
-    load_cut(buffer, lengths, c, k, count, lines, kinds);
-    check_loaded(proof, at, e, k, count, lines, kinds, scratch)
+    load_cut(run, c, lines, kinds);
+    check_loaded(run, lines, kinds, scratch).map_err(claimed)
 }

@@ -3,6 +3,7 @@
 #![tactic(auto)]
 
 pub mod all;
+pub mod begun;
 pub mod cut;
 pub mod deliver;
 pub mod load;

@@ -1,53 +1,39 @@
 // The lines of a cut: the stages up to it are A's, the others B's.
 ghost use Rattle.bundle_load.specs.Load.{Space};
-ghost use Rattle.run_stages.specs.Staged.{Staged};
-ghost use Rattle.run_cuts.specs.Cuts.{LoadsCut};
+ghost use Rattle.run_cuts.specs.Cuts.{Read, LoadsCut};
 
+use crate::begun::Run;
 use bundle_load::load::load;
-use bundle_scan::{Scanned, scan};
-use forms::{LineNumber, coefficient_bytes};
+use bundle_scan::scan;
+use forms::LineNumber;
+use number_bytes::words::Width;
 
-// Cut c. The stages have K constants and so many constraints.
-pub fn load_cut(
-    buffer: &[u8],
-    lengths: &[usize],
-    c: usize,
-    k: u8,
-    count: usize,
-    lines: &mut [i32],
-    kinds: &mut [u8],
-)
-    requires staged { Staged buffer.now lengths.now k count }
-    requires space { Space k count kinds.old lines.old }
-    ensures { LoadsCut buffer.now lengths.now c k kinds.old lines.old kinds.new lines.new }
+// Cut c.
+pub fn load_cut(run: &Run, c: usize, lines: &mut [i32], kinds: &mut [u8])
+    requires staged { Read run.now }
+    requires space { Space run.now.k run.now.count kinds.old lines.old }
+    ensures { LoadsCut run.now c kinds.old lines.old kinds.new lines.new }
 {
-    let mut from = 0;
-    let mut i = 0;
+    let mut left = run.buffer;
     let mut m: u16 = 0;
     let mut given: u8 = 0;
-    while i < lengths.len() {
-        let to = from + lengths[i];
-        let part = &buffer[from..to];
-        match scan(part, given, 0) {
-            Scanned::Bundle {
-                k: found,
-                body,
-                start: _,
-            } => {
-                let at = body.at;
-                let width = coefficient_bytes(body.edition);
-                load(part, at, width, found, i < c, lines, kinds, LineNumber(m));
-                m += body.count as u16;
-                given = found;
-                from = to;
-                i += 1;
-            }
-            Scanned::Refused {
-                number: _,
-                place: _,
-            } => {
-                return;
-            }
-        }
+    for (i, own) in run.lengths.iter().enumerate() {
+        let (part, rest) = left.split_at(*own);
+        let stage = scan(part, given, 0).unwrap();
+        let body = stage.body;
+        let width = Width::of_coefficients(body.edition);
+        load(
+            part,
+            body.at,
+            width,
+            stage.k,
+            i < c,
+            lines,
+            kinds,
+            LineNumber(m),
+        );
+        m += body.count as u16;
+        given = stage.k;
+        left = rest;
     }
 }

@@ -1,83 +1,39 @@
 // The guards' files, end to end, and their sizes.
-ghost use Rattle.run_cuts.specs.Cuts.{CutAsked};
+ghost use Rattle.run_cuts.specs.Cuts.{Asked};
 ghost use Rattle.run_cuts.specs.Writing.{GuardFits, WritesGuard, GuardsFit, WritesAll};
 
-use crate::cut::{Cut, check_cut};
+use crate::all::HEADER_BYTES;
+use crate::begun::Run;
+use crate::cut::check_cut;
 use fields::header::put_header;
 
 // The file of guard c, at the front of the output; its size.
-fn write_guard(
-    buffer: &[u8],
-    lengths: &[usize],
-    c: usize,
-    k: u8,
-    count: usize,
-    proof: &[u8],
-    at: usize,
-    e: u8,
-    lines: &mut [i32],
-    kinds: &mut [u8],
-    out: &mut [u8],
-) -> usize
-    requires cut_asked { CutAsked buffer.now lengths.now k count proof.now e at kinds.old lines.old }
-    requires guard_fits { GuardFits buffer.now lengths.now c k proof.now out.old }
-    ensures { WritesGuard buffer.now lengths.now c k proof.now out.old out.new result }
+fn write_guard(run: &Run, c: usize, lines: &mut [i32], kinds: &mut [u8], out: &mut [u8]) -> usize
+    requires asked { Asked run.now kinds.old lines.old }
+    requires guard_fits { GuardFits run.now c out.old }
+    ensures { WritesGuard run.now c out.old out.new result }
 {
-    put_header(out, 1, k);
-    match check_cut(
-        buffer,
-        lengths,
-        c,
-        k,
-        count,
-        proof,
-        at,
-        e,
-        lines,
-        kinds,
-        &mut out[8..],
-    ) {
-        Cut::Derived { o } => o + 8,
-        Cut::Refused { answer: _ } => 0,
-    }
+    put_header(out, 1, run.k);
+    let o = check_cut(run, c, lines, kinds, &mut out[HEADER_BYTES..]).unwrap();
+    o + HEADER_BYTES
 }
 
 // All guards' files, end to end, and their sizes.
 pub fn write_guards(
-    buffer: &[u8],
-    lengths: &[usize],
-    k: u8,
-    count: usize,
-    proof: &[u8],
-    at: usize,
-    e: u8,
+    run: &Run,
     lines: &mut [i32],
     kinds: &mut [u8],
     out: &mut [u8],
     sizes: &mut [usize],
 )
-    requires cut_asked { CutAsked buffer.now lengths.now k count proof.now e at kinds.old lines.old }
-    requires guards_fit { GuardsFit buffer.now lengths.now k proof.now out.old sizes.old }
-    ensures { WritesAll buffer.now lengths.now k proof.now out.old out.new sizes.old sizes.new }
+    requires asked { Asked run.now kinds.old lines.old }
+    requires guards_fit { GuardsFit run.now out.old sizes.old }
+    ensures { WritesAll run.now out.old out.new sizes.old sizes.new }
 {
     let mut o = 0;
-    let mut c = 0;
-    while c <= lengths.len() {
-        let size = write_guard(
-            buffer,
-            lengths,
-            c,
-            k,
-            count,
-            proof,
-            at,
-            e,
-            lines,
-            kinds,
-            &mut out[o..],
-        );
+    for c in 0..=run.lengths.len() {
+        let size = write_guard(run, c, lines, kinds, &mut out[o..]);
         sizes[c] = size;
         o += size;
-        c += 1;
     }
 }

@@ -1,9 +1,0 @@
--- `run_cuts::all::earlier_refusal` meets its contract. Assumes nothing.
-use borrow.Author.Tests.{le-leb, lt-leb}
-use Rattle.run_cuts.proofs.all.earlier_refusal.Goals as goal
-
-pub returns-then-a-b : goal.returns-then-a-b
-returns-then-a-b c = rw (le-leb _ _ c.if-a-b.true)
-
-pub returns : goal.returns
-returns c = rw (lt-leb _ _ c.if-a-b.false)
