@@ -6,29 +6,30 @@ use native.Mathlib.Omega.{arith}
 use lib.IntN.{ℤ}
 use lib.ListN.{length}
 use Rattle.forms.specs.Edition.{edition}
-use Rattle.forms.specs.declared.RowNumber.{RowNumber}
 use Rattle.answers.specs.declared.Answer.{Answer}
 use Rattle.answers.specs.declared.Position.{Position}
-use Rattle.answers.specs.Answers.{root, refusal_at}
+use Rattle.answers.specs.Answers.{root}
 use Rattle.answers.specs.declared.WriteResult.{WriteResult}
 use Rattle.fields.specs.Places.{fields_at}
 use Rattle.proof.specs.Check.{check_branch}
 use Rattle.lines.specs.Buffer.{lines_in}
 use Rattle.tally.specs.Tally.{tally}
 use Rattle.tally.specs.declared.Tally.{Tally}
-use Rattle.branches.specs.Branching.{kept_back, Started, Closes, ChecksBranch}
-use Rattle.branches.specs.declared.branch.Branched.{Branched}
+use Rattle.branches.specs.Branching.{Branched, answer_of, kept_back, Started, Closes, ChecksBranch}
+use Rattle.std.specs.Prelude.{Ok, Err}
+use Rattle.branches.specs.declared.branch.BranchFault.{BranchFault}
+use Rattle.branches.specs.declared.branch.Closed.{Closed}
 use Rattle.check_output.specs.Output.{Finishes, InScratch}
 use Rattle.check_sizes.specs.Root.{Roots}
 use Rattle.check_sizes.proofs.Root.{root-fault, root-short, root-ended, root-closed}
 
 module _ {e K : ℕ} {P : List ℕ} {at n rows : ℕ} {kinds kinds' : List ℕ} {buf buf' : List ℤ} {S S' : List ℕ} {x : Branched}
     {here : Position} (b : ChecksBranch K P at here kinds buf (tally e rows n 0) S 0 kinds' buf' S' x) (at-root : here ≡ root) (none : rows ≡ 0) where
-  pub by-fault : {number : ℕ} {so_far : RowNumber} {found : Position} {place : ℕ} {y : Answer} {out : List ℕ} → x ≡ Branched.Fault number so_far found place → y ≡ refusal_at found so_far.0 place number
+  pub by-fault : {f : BranchFault} {y : Answer} {out : List ℕ} → x ≡ Err f → y ≡ answer_of f
       → Roots e K (lines_in K kinds buf n) P at S out out (record { answer = y; count = 0 })
   by-fault f q = rw q (root-fault e (rw (f, at-root, none) at b.by) refl)
 
-  module _ {end o : ℕ} {t' : Tally} (f : x ≡ Branched.Closed end o t') where
+  module _ {end o : ℕ} {t' : Tally} (f : x ≡ Ok (record { at = end; o = o; tally = t' })) where
     c : Closes kept_back (check_branch (edition e) K 32 root 0 (lines_in K kinds buf n) (fields_at P at)) P at (tally e 0 n 0) end S 0 o S' t'
     c = rw (f, at-root, none) at b.by
 

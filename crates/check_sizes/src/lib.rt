@@ -16,24 +16,15 @@ ghost use Rattle.bundle_load.specs.Begun.{Begun};
 ghost use Rattle.check_sizes.specs.Sizes.{NumbersWithin, Arrays, CheckedWithin, Tries};
 
 use answers::WriteResult;
-use branches::branch::{Branched, Here, check_branch};
+use answers::refusals::Refusal;
+use branches::branch::{Here, check_branch};
 use bundle_load::prepare;
 use bundle_scan::Body;
 use check_output::{finish, refusal};
-use fields::{Found, field_at};
+use fields::field_at;
+use fields::header::Headed;
 use forms::{CONSTANTS, FORMULA_BYTES, LINES, LINES_1, LineNumber, RowNumber, lines_limit};
 use tally::Tally;
-
-// What a proof's header tells, and where its root starts.
-#[derive(Clone, Copy)]
-pub struct ProofHeader {
-    pub edition: u8,
-    pub k: u8,
-    pub next: usize,
-}
-
-// The refusal of a formula that is too long.
-const TOO_LONG: u8 = 1;
 
 // The most bytes of a formula whose file is not too long: its header has 8.
 const LONGEST: usize = FORMULA_BYTES - 8;
@@ -42,11 +33,11 @@ const LONGEST: usize = FORMULA_BYTES - 8;
 fn lacks_room(length: usize, o: usize) -> bool
     ensures { result ≡ (leb o 65528 && ltb length o) }
 {
-    if o <= LONGEST { length < o } else { false }
+    o <= LONGEST && length < o
 }
 
 // The root, from a place of the proof on, and all that follows. The buffers hold the lines, and the scratch takes the formula;
-// where it is too short for it, the answer is TOO_LONG.
+// where it is too short for it, that is too long.
 fn check_root(
     proof: &[u8],
     at: usize,
@@ -69,32 +60,22 @@ fn check_root(
         open: 0,
         edition: e,
     };
-    let position = answers::root();
     let here = Here {
         at,
         k: k as usize,
         o: 0,
     };
-    match check_branch(proof, here, position, lines, kinds, tally, scratch) {
-        Branched::Fault {
-            number,
-            rows: so_far,
-            position: found,
-            at: place,
-        } => {
-            let answer = answers::proof_refusal(found, so_far, number, place);
-            WriteResult { answer, count: 0 }
-        }
-        Branched::Closed {
-            at: end,
-            o,
-            tally: _,
-        } => {
-            if lacks_room(scratch.len(), o) {
-                return refusal(TOO_LONG, 4, o);
+    match check_branch(proof, here, answers::root(), lines, kinds, tally, scratch) {
+        Ok(root) => {
+            if lacks_room(scratch.len(), root.o) {
+                return refusal(Refusal::TooLong, 4, root.o);
             }
-            finish(proof, end, scratch, o, k, out)
+            finish(proof, root.at, scratch, root.o, k, out)
         }
+        Err(fault) => WriteResult {
+            answer: fault.answer(),
+            count: 0,
+        },
     }
 }
 
@@ -105,7 +86,7 @@ fn check_within(
     first: Body,
     second: Body,
     proof: &[u8],
-    header: ProofHeader,
+    header: Headed,
     lines: &mut [i32],
     kinds: &mut [u8],
     scratch: &mut [u8],
@@ -195,7 +176,7 @@ fn check_sized<const SCRATCH: usize, const KINDS: usize, const NUMBERS: usize>(
     first: Body,
     second: Body,
     proof: &[u8],
-    header: ProofHeader,
+    header: Headed,
     out: &mut [u8],
 ) -> WriteResult
     requires begun { Begun a.now b.now first second proof.now header.edition header.k header.next }
@@ -234,10 +215,7 @@ const COUNTED_PROOF: usize = 8192;
 fn is_dense(count: usize, end: usize) -> bool
     requires { count ≤ 192 }
 {
-    if count <= 32 {
-        return false;
-    }
-    end < 16 * (count - 32)
+    count > 32 && end < 16 * (count - 32)
 }
 
 // Whether a proof is tried. Claims make it long, and its formula not, so its fields are counted as long as they are not dense.
@@ -250,34 +228,20 @@ fn is_tried(proof: &[u8], from: usize) -> bool {
         return false;
     }
     let mut at = from;
-    let mut count: usize = 0;
-    while count < TRIED_FIELDS {
-        match field_at(proof, at) {
-            Found::Whole {
-                tag: _,
-                start: _,
-                len: _,
-                next,
-            } => {
-                count += 1;
-                if is_dense(count, next) {
-                    return false;
-                }
-                at = next;
-            }
-            Found::Broken => {
-                return true;
-            }
-            Found::End => {
-                return true;
-            }
+    for count in 1..=TRIED_FIELDS {
+        let Ok(Some(field)) = field_at(proof, at) else {
+            return true;
+        };
+        if is_dense(count, field.next) {
+            return false;
         }
+        at = field.next;
     }
     false
 }
 
 // A proof of more bytes than 248, or of more lines, whose lines may come to have so many numbers: tried, and checked again with room for
-// every formula where the answer is TOO_LONG. A function of its own: the frame of a function has room for the largest of
+// every formula where one is too long. A function of its own: the frame of a function has room for the largest of
 // its arrays, and each page of that is touched at every call. It stays one since it is called twice with the same sizes
 // (docs/SPEED.md).
 fn check_long<const TRIED_NUMBERS: usize, const NUMBERS: usize, const KINDS: usize>(
@@ -286,7 +250,7 @@ fn check_long<const TRIED_NUMBERS: usize, const NUMBERS: usize, const KINDS: usi
     first: Body,
     second: Body,
     proof: &[u8],
-    header: ProofHeader,
+    header: Headed,
     numbers: usize,
     out: &mut [u8],
 ) -> WriteResult
@@ -301,7 +265,7 @@ fn check_long<const TRIED_NUMBERS: usize, const NUMBERS: usize, const KINDS: usi
         let tried = check_sized::<SCRATCH_960, KINDS, TRIED_NUMBERS>(
             a, b, first, second, proof, header, out,
         );
-        if tried.answer.number != TOO_LONG {
+        if tried.answer.number != Refusal::TooLong.number() {
             return tried;
         }
     }
@@ -322,11 +286,7 @@ fn most_rows(e: u8, bytes: usize) -> usize
 fn most_lines(e: u8, count: usize) -> usize
     ensures { result ≡ min count (edition e).lines }
 {
-    let most = lines_limit(e) as usize;
-    if count < most {
-        return count;
-    }
-    most
+    count.min(lines_limit(e) as usize)
 }
 
 // The lines, and then the root, with arrays for the lines that the proof may make by its bytes.
@@ -337,7 +297,7 @@ pub fn check_lines(
     first: Body,
     second: Body,
     proof: &[u8],
-    header: ProofHeader,
+    header: Headed,
     out: &mut [u8],
 ) -> WriteResult
     requires { Begun a.now b.now first second proof.now header.edition header.k header.next }

@@ -7,11 +7,12 @@ ghost use Rattle.bundle_load.specs.Both.{Both};
 ghost use Rattle.bundle_load.specs.Begun.{WithinLimits};
 
 use answers::WriteResult;
-use bundle_scan::{Body, Scanned, scan};
+use answers::refusals::Refusal;
+use bundle_scan::{Body, scan};
 use check_output::refusal;
-use check_sizes::{ProofHeader, check_lines};
+use check_sizes::check_lines;
 use fields::FileKind;
-use fields::header::{Headed, read_header};
+use fields::header::read_header;
 use forms::{BUNDLE_BYTES, NEWEST, PROOF_BYTES};
 
 // The proof's header, where both bundles were gone over. 2, 3, 4, 6, 5, 7, 9.
@@ -29,15 +30,8 @@ fn check_header(
     ensures { Checks a.now b.now proof.now out.old out.new result }
 {
     match read_header(proof, FileKind::Proof, NEWEST, k) {
-        Headed::Header {
-            edition,
-            k: _,
-            next,
-        } => {
-            let header = ProofHeader { edition, k, next };
-            check_lines(a, b, first, second, proof, header, out)
-        }
-        Headed::Refused { number, place } => refusal(number, 3, place),
+        Ok(header) => check_lines(a, b, first, second, proof, header, out),
+        Err(fault) => refusal(fault.refusal, 3, fault.place),
     }
 }
 
@@ -47,19 +41,11 @@ fn check_bundles(a: &[u8], b: &[u8], proof: &[u8], out: &mut [u8]) -> WriteResul
     ensures { Checks a.now b.now proof.now out.old out.new result }
 {
     match scan(a, 0, 0) {
-        Scanned::Bundle {
-            k,
-            body: first,
-            start: _,
-        } => match scan(b, k, 0) {
-            Scanned::Bundle {
-                k: _,
-                body: second,
-                start: _,
-            } => check_header(a, b, first, second, proof, k, out),
-            Scanned::Refused { number, place } => refusal(number, 2, place),
+        Ok(first) => match scan(b, first.k, 0) {
+            Ok(second) => check_header(a, b, first.body, second.body, proof, first.k, out),
+            Err(fault) => refusal(fault.refusal, 2, fault.place),
         },
-        Scanned::Refused { number, place } => refusal(number, 1, place),
+        Err(fault) => refusal(fault.refusal, 1, fault.place),
     }
 }
 
@@ -68,13 +54,13 @@ pub fn check(a: &[u8], b: &[u8], proof: &[u8], out: &mut [u8]) -> WriteResult
     ensures { Checks a.now b.now proof.now out.old out.new result }
 {
     if a.len() > BUNDLE_BYTES {
-        return refusal(1, 1, 0);
+        return refusal(Refusal::TooLong, 1, 0);
     }
     if b.len() > BUNDLE_BYTES {
-        return refusal(1, 2, 0);
+        return refusal(Refusal::TooLong, 2, 0);
     }
     if proof.len() > PROOF_BYTES {
-        return refusal(1, 3, 0);
+        return refusal(Refusal::TooLong, 3, 0);
     }
     check_bundles(a, b, proof, out)
 }

@@ -13,13 +13,13 @@ overflow_cast-made c = omega (arith, lines-most c.args.e, c.requires.ready.most)
 pub returns-then-lacks_room : goal.returns-then-lacks_room
 returns-then-lacks_room c =
     let q = lacks-room c.lacks_room.ensures c.if-lacks_room.true in
-    by-short c.check_branch.ensures c.root-position.ensures refl c.in-Closed.is q.0 q.1 (ap (λ (w : WriteResult). w.answer.number) c.refusal.ensures)
+    by-short c.check_branch.ensures c.root.ensures refl c.in-Ok.is q.0 q.1 (ap (λ (w : WriteResult). w.answer.number) c.refusal.ensures)
 
 pub finish-requires : goal.finish-requires
-finish-requires c = by-closed-ended c.check_branch.ensures c.root-position.ensures refl c.in-Closed.is c.requires (has_room c.lacks_room.ensures c.if-lacks_room.false)
+finish-requires c = by-closed-ended c.check_branch.ensures c.root.ensures refl c.in-Ok.is c.requires (has_room c.lacks_room.ensures c.if-lacks_room.false)
 
-pub returns-in-Fault : goal.returns-in-Fault
-returns-in-Fault c = by-fault c.check_branch.ensures c.root-position.ensures refl c.in-Fault.is c.proof_refusal-answer.ensures
+pub returns-in-Err : goal.returns-in-Err
+returns-in-Err c = by-fault c.check_branch.ensures c.root.ensures refl c.in-Err.is c.answer.ensures
 
 pub returns-else-lacks_room : goal.returns-else-lacks_room
-returns-else-lacks_room c = by-closed c.check_branch.ensures c.root-position.ensures refl c.in-Closed.is c.requires (has_room c.lacks_room.ensures c.if-lacks_room.false) c.finish.ensures
+returns-else-lacks_room c = by-closed c.check_branch.ensures c.root.ensures refl c.in-Ok.is c.requires (has_room c.lacks_room.ensures c.if-lacks_room.false) c.finish.ensures
