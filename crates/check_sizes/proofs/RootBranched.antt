@@ -18,7 +18,6 @@ use Rattle.tally.specs.declared.Tally.{Tally}
 use Rattle.branches.specs.Branching.{Branched, answer_of, kept_back, Started, Closes, ChecksBranch}
 use Rattle.std.specs.Prelude.{Ok, Err}
 use Rattle.branches.specs.declared.branch.BranchFault.{BranchFault}
-use Rattle.branches.specs.declared.branch.Closed.{Closed}
 use Rattle.check_output.specs.Output.{Finishes, InScratch}
 use Rattle.check_sizes.specs.Root.{Roots}
 use Rattle.check_sizes.proofs.Root.{root-fault, root-short, root-ended, root-closed}

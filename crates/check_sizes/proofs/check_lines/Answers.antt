@@ -6,7 +6,7 @@ use Rattle.forms.proofs.Editions.{lines-most}
 use Rattle.lines.specs.Buffer.{size}
 use Rattle.branches.specs.Spare.{lines_left}
 use Rattle.check_sizes.specs.Sizes.{NumbersWithin}
-use Rattle.check_sizes.proofs.Sizes.{rows-small, numbers-less, numbers-small, numbers-any}
+use Rattle.check_sizes.proofs.Sizes.{rows-small, numbers-less, numbers-small}
 use Rattle.check_sizes.proofs.check_lines.Goals as goal
 use Rattle.check_sizes.proofs.check_lines.Goals.{After-most_lines-count}
 
