@@ -1,5 +1,5 @@
--- The values of a file, loaded into a lent buffer: laws over plain values. Assumes nothing.
-use Prim.Native.Nat.{ℕ, suc, ◌+◌, ◌*◌, ◌-◌, ◌/◌, ◌%◌, ◌≤◌, ◌<◌, min}
+-- What testing the files tells: laws over plain values. Assumes nothing.
+use Prim.Native.Nat.{ℕ, ◌-◌, ◌/◌, ◌%◌, ◌≤◌, ◌<◌, min}
 use mathlib.Core.Path.{◌≡◌, sym, ap, ◌∙◌}
 use mathlib.Core.Logic.{⊎_elim}
 use mathlib.Core.Bool.{false, ◌&&◌}
@@ -8,16 +8,14 @@ use native.Mathlib.Nat.{min-eq_left, min-eq_right, eq-zero-or-pos}
 use native.Mathlib.Omega.{arith}
 use lib.Dec.{leb}
 use lib.IntN.{ℤ, nat_abs}
-use lib.ListN.{length, take, drop, set}
-use lib.Seq.{sets, sets-eq, take_at, drop-drop, length-take-le, take_all}
-use mir.Syntax.{w32}
-use mir.Val.{SFits}
+use lib.ListN.{length, take}
+use lib.Seq.{length-take-le, take_all}
 use borrow.Author.Tests.{le-leb, lt-leb, eq-eqb, ne_eqb}
+use Rattle.std.proofs.Math.Nat.{min_comm}
 use Rattle.forms.specs.Forms.{Formula}
 use Rattle.answers.specs.Answers.{answer, file_lent, Result, ◌>>◌, need, each}
 use Rattle.answers.proofs.Results.{fail}
-use Rattle.number_bytes.specs.Numbers.{signed, signeds}
-use Rattle.number_bytes.specs.Ranges.{Held}
+use Rattle.number_bytes.specs.Numbers.{signeds}
 use Rattle.number_bytes.proofs.Signed.{length-signeds}
 use Rattle.formula.specs.Test.{Tested, tested, judged, test_formula}
 use Rattle.formula_test.specs.declared.Tested.{Tested as Answered}
@@ -27,29 +25,6 @@ use Rattle.guard.specs.Said.{values_of, test_files}
 -- 7, file 4, place 0
 abbrev pub refused-7 : Tested
 refused-7 = record { answer = answer 7 file_lent 0; holds = false }
-
--- ---- loading
--- a number that four bytes hold fits 32 bits
-pub long-fits : {z : ℤ} → Held 4 z → SFits w32 z
-long-fits h = record { sfits = omega (arith, h.held.half) }
-
--- one value more
-pub loaded-next : (l : List ℤ) (i n : ℕ) (v : List ℕ) → i < n
-    → sets (set l i (signed (take 4 (drop (i * 4) v)))) (i + 1) (signeds 4 (n - (i + 1)) (drop ((i + 1) * 4) v))
-    ≡ sets l i (signeds 4 (n - i) (drop (i * 4) v))
-unfolding signeds
-loaded-next l i n v h =
-    let m : n - i ≡ suc (n - (i + 1)) = omega arith in
-    let a : i + 1 ≡ suc i = omega arith in
-    let d : (i + 1) * 4 ≡ i * 4 + 4 = omega arith in
-    rw (m, d, a, drop-drop 4 (i * 4) v)
-
--- all of them
-pub loaded : (l : List ℤ) (n : ℕ) (v : List ℕ) → n ≤ length l → take n (sets l 0 (signeds 4 n v)) ≡ signeds 4 n v
-loaded l n v h =
-    let z = signeds 4 n v in
-    ap (λ (x : List ℤ). take n x) (sets-eq z l 0 (omega (arith, length-signeds 4 n v)))
-    ∙ take_at z (drop (0 + length z) l) n (length-signeds 4 n v)
 
 -- ---- what testing the files gives
 -- more than 16 values are refused alike, however many
@@ -74,11 +49,14 @@ module _ (f v : List ℕ) where
   unfolding test_files
   files-whole h = rw (eq-eqb (length v % 4) 0 h)
 
-  -- the first 17 values, loaded, tell as much as all
-  pub files-loaded : {c : Answered} (l : List ℤ) (n : ℕ) → length v % 4 ≡ 0 → n ≡ min (length v / 4) 17 → n ≤ length l
-      → c ≡ as_tested (test_formula f (take n (sets l 0 (signeds 4 n v)))) → c ≡ as_tested (test_files f v)
+  -- the first 17 values, in the front of an array, tell as much as all
+  pub files-loaded : {c : Answered} (array : List ℤ) {values : List ℤ} (n : ℕ) → length v % 4 ≡ 0 → n ≡ min 17 (length v / 4) → n ≤ length array
+      → values ≡ signeds 4 (length (take n array)) v → c ≡ as_tested (test_formula f values) → c ≡ as_tested (test_files f v)
   unfolding values_of
-  files-loaded l n h e k q = q ∙ ap as_tested (ap (test_formula f) (loaded l n v k) ∙ first-values f v n (length v / 4) e ∙ sym (files-whole h))
+  files-loaded array n h e k s q =
+      q ∙ ap as_tested
+      (ap (test_formula f) s ∙ ap (λ (m : ℕ). test_formula f (signeds 4 m v)) (length-take-le n array k)
+      ∙ first-values f v n (length v / 4) (e ∙ min_comm 17 (length v / 4)) ∙ sym (files-whole h))
 
 -- ---- 65,537 bytes of the formula and 68 of the values tell as much as whole files
 -- the values are judged first, then w, which comes of the formula

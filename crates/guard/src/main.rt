@@ -2,40 +2,17 @@
 // and prints `true`, `false` or the line of a refusal.
 #![tactic(auto)]
 
-ghost use Rattle.std.specs.Prelude.{◌≡◌, ◌≤◌, ◌*◌, ◌/◌, min, length, take};
-ghost use Rattle.std.proofs.lemmas.List.Edits.{sets};
+ghost use Rattle.std.specs.Prelude.{take};
 ghost use Rattle.files.specs.Counts.{IsPrefixLen};
-ghost use Rattle.number_bytes.specs.Numbers.{signeds};
 ghost use Rattle.guard.specs.Said.{test_files, Printed};
 
+use answers::refusals::Refusal;
 use forms::{CONSTANTS, FORMULA_BYTES};
-use number_bytes::words::signed_at;
-
-// The first count values of v, in place of as many at the start of values.
-fn load(v: &[u8], count: usize, values: &mut [i32])
-    requires { (count * 4 ≤ length v.now) × (count ≤ length values.old) }
-    ensures { values.new ≡ sets values.old 0 (signeds 4 count v.now) }
-{
-    let mut i = 0;
-    while i < count {
-        values[i] = signed_at(v, i * 4, 4) as i32;
-        i += 1;
-    }
-}
+use number_bytes::words::Width;
+use number_runs::store::store_numbers;
 
 // One value more than may be: that many are as wrong as any more.
 const MANY: usize = CONSTANTS as usize + 1;
-
-// How many values v has, 17 at most.
-fn count(v: &[u8]) -> usize
-    ensures { result ≡ min (length v.now / 4) 17 }
-{
-    let n = v.len() / 4;
-    if n < MANY {
-        return n;
-    }
-    MANY
-}
 
 // The bytes that the longest line of a refusal may have.
 const LINE: usize = 79;
@@ -46,12 +23,12 @@ fn answer(f: &[u8], v: &[u8], text: &mut [u8; LINE]) -> usize
     ensures printed { Printed (test_files f.now v.now) (take result text.new) }
 {
     if v.len() % 4 != 0 {
-        return files::put_refused(text, 7, 4, 0);
+        return files::put_refused(text, Refusal::WrongConstants.number(), 4, 0);
     }
-    let mut values = [0i32; MANY];
-    let n = count(v);
-    load(v, n, &mut values);
-    let r = formula_test::test(f, &values[..n]);
+    let mut array = [0; MANY];
+    let values = &mut array[..MANY.min(v.len() / 4)];
+    store_numbers(v, 0, Width::Four, values);
+    let r = formula_test::test(f, values);
     let a = r.answer;
     if a.number != 0 {
         return files::put_refused(text, a.number, a.file, a.place);

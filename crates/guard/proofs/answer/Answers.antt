@@ -2,8 +2,6 @@
 use Prim.Native.Nat.{ℕ}
 use mathlib.Core.Path.{◌≡◌}
 use mathlib.Core.List.{List}
-use lib.ListN.{replicate}
-use lib.IntN.{pos}
 use native.Mathlib.Omega.{arith}
 use Rattle.formula_test.specs.Promises.{as_tested}
 use Rattle.guard.specs.Said.{test_files}
@@ -21,14 +19,12 @@ module _ (c : After-test-r) where
   v = c.args.v.now
 
   is-test : c.test-r.result ≡ as_tested (test_files f v)
-  is-test =
-      let n = c.count-n in
-      files-loaded f v (replicate 17 (pos 0)) n.result (omega arith) n.ensures (omega arith) (rw c.load.ensures at c.test-r.ensures.is)
+  is-test = files-loaded f v _ c.min.result (omega arith) c.min.ensures (omega arith) c.store_numbers.ensures c.test-r.ensures.is
 
 pub returns-then-v-ne0 : goal.returns-then-v-ne0
 returns-then-v-ne0 c = record {
   prefix_len = c.put_refused.ensures.prefix_len;
-  printed = prints-odd (omega arith) c.args.f.now c.args.v.now (omega arith) c.put_refused.ensures.put_refused;
+  printed = prints-odd (omega arith) c.args.f.now c.args.v.now (omega arith) (rw c.number.ensures at c.put_refused.ensures.put_refused);
 }
 
 pub returns-then-a-ne0 : goal.returns-then-a-ne0
