@@ -1,4 +1,4 @@
--- The entries of a branch, by how the code finds that they end. Document 01, "Check". Assumes nothing.
+-- The entries of a branch, by how the code finds that they end. docs/FORMAT.md, "The order of tests". Assumes nothing.
 use Rattle.std.specs.declared.result.Result as code
 use Rattle.std.specs.Prelude.{◌≡◌, Ok, Err, List, ℕ, suc, ◌+◌, ◌≤◌, ℤ, nat_abs}
 use Rattle.std.proofs.Math.Option.{Option, none}

@@ -1,4 +1,4 @@
--- A branch and the branches it opens, by the answers of the code. Document 01, "The rows" and "Check". Assumes nothing.
+-- A branch and the branches it opens, by the answers of the code. docs/FORMAT.md, "Proof" and "The order of tests". Assumes nothing.
 use Rattle.std.specs.declared.result.Result as code
 use Rattle.std.specs.Prelude.{Ok, Err, ◌≡◌, List, ℕ, ◌+◌, ◌-◌, ◌*◌, ◌<◌, ◌≤◌, ℤ, length, get_or, T}
 use Rattle.std.proofs.lemmas.List.Edits.{sets}
