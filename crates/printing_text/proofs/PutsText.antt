@@ -1,10 +1,10 @@
 -- Laws of `Puts`, each for any output and bytes. Assumes nothing.
 use mathlib.Core.Path.{◌≡◌, refl, sym, ap, ◌∙◌}
-use mathlib.Core.List.{List, [], ◌∷◌, ◌++◌}
-use Prim.Native.Nat.{ℕ, suc, ◌+◌, ◌≤◌, ◌<◌}
+use mathlib.Core.List.{List, [], ◌++◌}
+use Prim.Native.Nat.{ℕ, ◌+◌, ◌≤◌, ◌<◌}
 use native.Mathlib.Omega.{arith}
-use lib.ListN.{length, set, length-append}
-use lib.Seq.{sets, length-sets, set-set}
+use lib.ListN.{length, length-append}
+use lib.Seq.{sets, length-sets}
 use borrow.Rule.Slice.PartMut.{put_mid}
 use Rattle.number_bytes.proofs.Stores.{sets-append, sets-mid}
 use Rattle.printing_text.specs.PutsText.{PutsText}
@@ -33,22 +33,6 @@ puts_then {out} {out₁} {out₂} {o} {o₁} {o₂} {a} {b} p q =
 -- the same bytes by another name, and a larger bound
 pub puts-is : {out out' : List ℕ} {o o' : ℕ} {a b : List ℕ} {m n : ℕ} → PutsText out o a m out' o' → a ≡ b → m ≤ n → PutsText out o b n out' o'
 puts-is p e l = rw (sym e) (record { long = p.long; o_is = p.o_is; few = omega (arith, p.few); stored = p.stored })
-
--- a better bound
-pub puts-few : {out out' : List ℕ} {o o' : ℕ} {a : List ℕ} {m n : ℕ} → PutsText out o a m out' o' → length a ≤ n → PutsText out o a n out' o'
-puts-few p l = record { long = p.long; o_is = p.o_is; few = l; stored = p.stored }
-
--- a byte, and bytes from the same place on
-pub puts-over : {out out₁ out₂ : List ℕ} {o o₁ o₂ x b : ℕ} {bs : List ℕ} {m : ℕ} → PutsText out o (x ∷ []) 1 out₁ o₁ → PutsText out₁ o (b ∷ bs) m out₂ o₂ → PutsText out o (b ∷ bs) m out₂ o₂
-puts-over {out} {out₁} {out₂} {o} {x = x} {b = b} {bs = bs} p q = record {
-  long = q.long ∙ p.long;
-  o_is = q.o_is;
-  few = q.few;
-  stored = λ h.
-      let e₁ : out₁ ≡ set out o x = p.stored (omega arith) in
-      let e₂ : out₂ ≡ sets (set out₁ o b) (suc o) bs = q.stored (omega (arith, p.long)) in
-      e₂ ∙ rw (e₁, set-set out o x b);
-}
 
 -- the bytes where there is room
 pub puts-in : (out : List ℕ) {o o' k : ℕ} (bytes : List ℕ) → o' ≡ o + length bytes → o' ≤ length out → k ≡ length bytes → PutsText out o bytes (length bytes) (put_mid o k out bytes) o'

@@ -1,3 +1,2 @@
--- What a function that writes text leaves, and digits as they are put.
+-- What a function that writes text leaves.
 pub mod PutsText
-pub mod Digits

@@ -1,5 +1,5 @@
 -- `printing_text::put_register` meets its contract. Assumes nothing.
-use native.Mathlib.Omega.{arith}
+use Rattle.std.proofs.Common.{arith}
 use Rattle.printing_text.proofs.PutsText.{puts-is}
 use Rattle.printing_text.proofs.Numerals.{register-short, register-long}
 use Rattle.printing_text.proofs.put_register.Goals as goal
