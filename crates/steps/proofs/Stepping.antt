@@ -11,6 +11,8 @@ use lib.IntN.{ℤ, pos}
 use borrow.Author.Tests.{lt-ltb, le-ltb}
 use Rattle.std.specs.Prelude.{Some, None, Ok, Err}
 use Rattle.std.specs.declared.result.Result as code
+use Rattle.std.specs.Result.{IsErrAnd}
+use Rattle.std.proofs.lemmas.Result.{err_from_is_err_and}
 use Rattle.calculus.specs.Rules as rules
 use Rattle.calculus.specs.Rules.{◌▷◌}
 use Rattle.answers.specs.declared.refusals.Refusal.{Refusal}
@@ -109,6 +111,20 @@ module _ {K : ℕ} {kinds : List ℕ} {buf : List ℤ} (t : Tally) {bs : List �
       → Steps (row_checked K kinds buf t row) K kinds buf t kinds' buf' r → Steps (field_checked K kinds buf t made tag bs) K kinds buf t kinds' buf' r × Advances t.edition (length bs) r
   unfolding ◌>>=◌ check_entry
   step_row e q {r = r} s = (steps-same r (record { is = λ deeper next refusal fs. rw (e.is refusal 0, q) }) s, advances t.edition e.filled r)
+
+  -- a row that is not counted, and one that makes no line, by what `?` returns
+  pub uncounted : {x : Entry} → Entered t.edition K bs tag made (Ok x) → {row : rules.Row} → stated K bs x ≡ rules.row row → {u : Tally} {y : Refusal} → (y ≡ TooManyRows) × (None ≡ row_counted t) × (u ≡ t)
+      → {r : code.Result Stepped Refusal} → IsErrAnd r (λ z. z ≡ y) → Steps (field_checked K kinds buf t made tag bs) K kinds buf t kinds buf r
+  uncounted e {row} q h {r} is =
+      let p = err_from_is_err_and r is in
+      rw (p.1, p.2, h.0) (step_row e q (row-full K kinds buf t row h.1)).0
+
+  pub underived : {x : Entry} → Entered t.edition K bs tag made (Ok x) → {s : rules.Inference} → stated K bs x ≡ rules.row (rules.Derive s) → {u : Tally} → Some u ≡ row_counted t
+      → {kinds' : List ℕ} {buf' : List ℤ} {y : Refusal} → Derives K kinds buf u s kinds' buf' (Err y) → {r : code.Result Stepped Refusal} → IsErrAnd r (λ z. z ≡ y)
+      → Steps (field_checked K kinds buf t made tag bs) K kinds buf t kinds' buf' r
+  underived e q h d {r} is =
+      let p = err_from_is_err_and r is in
+      rw (p.1, p.2) (step_row e q (row-refused t h d)).0
 
   -- a claim, of the line made last, stands or is refused by whether it states that line
   pub step-claim : Entered t.edition K bs tag made (Ok Entry.Claim) → {n : ℕ} → n ≡ t.lines.0 - 1 → {b : Bool} → Claimed K bs buf n b → {r : code.Result Stepped Refusal} → r ≡ cond b (Ok Stepped.Claimed) (Err WrongClaim)

@@ -7,7 +7,7 @@ use Rattle.std.proofs.lemmas.Result.{err_from_is_err_and}
 use Rattle.integers.proofs.Magnitude.{within-fits}
 use Rattle.lines.proofs.Keeping.{kept_refl}
 use Rattle.tally.proofs.Counted.{counted-row}
-use Rattle.steps.proofs.Stepping.{step-refused, step_row, step-claim, row-full, row-counted, row-refused, row-made, multiplies}
+use Rattle.steps.proofs.Stepping.{step-refused, step_row, step-claim, row-counted, row-made, uncounted, underived, multiplies}
 use Rattle.std.specs.Prelude.{Ok}
 use lib.IntN.{pos}
 use Rattle.steps.specs.declared.Stepped.{Stepped}
@@ -19,19 +19,14 @@ returns-in_err-entry-clause-steps c =
     rw (p.1, p.2) (step-refused _ c.in_err-entry.ensures)
 
 pub returns-in_err-count_row-in-Combine-clause-steps : goal.returns-in_err-count_row-in-Combine-clause-steps
-returns-in_err-count_row-in-Combine-clause-steps c =
-    let h = c.in_err-count_row-in-Combine.ensures in
-    let p = err_from_is_err_and c.from_residual-in_err-count_row-in-Combine.result c.from_residual-in_err-count_row-in-Combine.ensures.1 in
-    rw (p.1, p.2, h.0) (step_row _ (rw c.in-Combine.is at c.in_ok-entry.ensures) refl (row-full _ _ _ _ _ h.1)).0
+returns-in_err-count_row-in-Combine-clause-steps c = uncounted _ (rw c.in-Combine.is at c.in_ok-entry.ensures) refl c.in_err-count_row-in-Combine.ensures c.from_residual-in_err-count_row-in-Combine.ensures.1
 
 pub combine-requires : goal.combine-requires
 combine-requires c = rw (counted-row c.in_ok-count_row-in-Combine.ensures).1 c.requires.ready
 
 pub returns-in_err-tally-in-Combine-clause-steps : goal.returns-in_err-tally-in-Combine-clause-steps
 returns-in_err-tally-in-Combine-clause-steps c =
-    let e = rw c.in-Combine.is at c.in_ok-entry.ensures in
-    let p = err_from_is_err_and c.from_residual-in_err-tally-in-Combine.result c.from_residual-in_err-tally-in-Combine.ensures.1 in
-    rw (p.1, p.2) (step_row _ e refl (row-refused _ c.in_ok-count_row-in-Combine.ensures c.in_err-tally-in-Combine.ensures)).0
+    underived _ (rw c.in-Combine.is at c.in_ok-entry.ensures) refl c.in_ok-count_row-in-Combine.ensures c.in_err-tally-in-Combine.ensures c.from_residual-in_err-tally-in-Combine.ensures.1
 
 pub returns-in_ok-tally-in-Combine-clause-steps : goal.returns-in_ok-tally-in-Combine-clause-steps
 returns-in_ok-tally-in-Combine-clause-steps c =
@@ -39,10 +34,7 @@ returns-in_ok-tally-in-Combine-clause-steps c =
     (step_row _ e refl (row-made _ c.in_ok-count_row-in-Combine.ensures c.in_ok-tally-in-Combine.ensures)).0
 
 pub returns-in_err-count_row-in-Reduce-clause-steps : goal.returns-in_err-count_row-in-Reduce-clause-steps
-returns-in_err-count_row-in-Reduce-clause-steps c =
-    let h = c.in_err-count_row-in-Reduce.ensures in
-    let p = err_from_is_err_and c.from_residual-in_err-count_row-in-Reduce.result c.from_residual-in_err-count_row-in-Reduce.ensures.1 in
-    rw (p.1, p.2, h.0) (step_row _ (rw c.in-Reduce.is at c.in_ok-entry.ensures) refl (row-full _ _ _ _ _ h.1)).0
+returns-in_err-count_row-in-Reduce-clause-steps c = uncounted _ (rw c.in-Reduce.is at c.in_ok-entry.ensures) refl c.in_err-count_row-in-Reduce.ensures c.from_residual-in_err-count_row-in-Reduce.ensures.1
 
 pub reduce-requires-clause-ready : goal.reduce-requires-clause-ready
 reduce-requires-clause-ready c = rw (counted-row c.in_ok-count_row-in-Reduce.ensures).1 c.requires.ready
@@ -51,8 +43,7 @@ pub returns-in_err-tally-in-Reduce-clause-steps : goal.returns-in_err-tally-in-R
 returns-in_err-tally-in-Reduce-clause-steps c =
     let e = rw c.in-Reduce.is at c.in_ok-entry.ensures in
     let f0 = within-fits e.ranged tt in
-    let p = err_from_is_err_and c.from_residual-in_err-tally-in-Reduce.result c.from_residual-in_err-tally-in-Reduce.ensures.1 in
-    rw (p.1, p.2) (step_row _ e refl (row-refused _ c.in_ok-count_row-in-Reduce.ensures (simp to_z-of_z at c.in_err-tally-in-Reduce.ensures))).0
+    underived _ e refl c.in_ok-count_row-in-Reduce.ensures (simp to_z-of_z at c.in_err-tally-in-Reduce.ensures) c.from_residual-in_err-tally-in-Reduce.ensures.1
 
 pub returns-in_ok-tally-in-Reduce-clause-steps : goal.returns-in_ok-tally-in-Reduce-clause-steps
 returns-in_ok-tally-in-Reduce-clause-steps c =
@@ -61,19 +52,14 @@ returns-in_ok-tally-in-Reduce-clause-steps c =
     (step_row _ e refl (row-made _ c.in_ok-count_row-in-Reduce.ensures (simp to_z-of_z at c.in_ok-tally-in-Reduce.ensures))).0
 
 pub returns-in_err-count_row-in-Scale-clause-steps : goal.returns-in_err-count_row-in-Scale-clause-steps
-returns-in_err-count_row-in-Scale-clause-steps c =
-    let h = c.in_err-count_row-in-Scale.ensures in
-    let p = err_from_is_err_and c.from_residual-in_err-count_row-in-Scale.result c.from_residual-in_err-count_row-in-Scale.ensures.1 in
-    rw (p.1, p.2, h.0) (step_row _ (rw c.in-Scale.is at c.in_ok-entry.ensures) refl (row-full _ _ _ _ _ h.1)).0
+returns-in_err-count_row-in-Scale-clause-steps c = uncounted _ (rw c.in-Scale.is at c.in_ok-entry.ensures) refl c.in_err-count_row-in-Scale.ensures c.from_residual-in_err-count_row-in-Scale.ensures.1
 
 pub scale-requires : goal.scale-requires
 scale-requires c = rw (counted-row c.in_ok-count_row-in-Scale.ensures).1 c.requires.ready
 
 pub returns-in_err-tally-in-Scale-clause-steps : goal.returns-in_err-tally-in-Scale-clause-steps
 returns-in_err-tally-in-Scale-clause-steps c =
-    let e = rw c.in-Scale.is at c.in_ok-entry.ensures in
-    let p = err_from_is_err_and c.from_residual-in_err-tally-in-Scale.result c.from_residual-in_err-tally-in-Scale.ensures.1 in
-    rw (p.1, p.2) (step_row _ e refl (row-refused _ c.in_ok-count_row-in-Scale.ensures c.in_err-tally-in-Scale.ensures)).0
+    underived _ (rw c.in-Scale.is at c.in_ok-entry.ensures) refl c.in_ok-count_row-in-Scale.ensures c.in_err-tally-in-Scale.ensures c.from_residual-in_err-tally-in-Scale.ensures.1
 
 pub returns-in_ok-tally-in-Scale-clause-steps : goal.returns-in_ok-tally-in-Scale-clause-steps
 returns-in_ok-tally-in-Scale-clause-steps c =
@@ -81,10 +67,7 @@ returns-in_ok-tally-in-Scale-clause-steps c =
     (step_row _ e refl (row-made _ c.in_ok-count_row-in-Scale.ensures c.in_ok-tally-in-Scale.ensures)).0
 
 pub returns-in_err-count_row-in-Strengthen-clause-steps : goal.returns-in_err-count_row-in-Strengthen-clause-steps
-returns-in_err-count_row-in-Strengthen-clause-steps c =
-    let h = c.in_err-count_row-in-Strengthen.ensures in
-    let p = err_from_is_err_and c.from_residual-in_err-count_row-in-Strengthen.result c.from_residual-in_err-count_row-in-Strengthen.ensures.1 in
-    rw (p.1, p.2, h.0) (step_row _ (rw c.in-Strengthen.is at c.in_ok-entry.ensures) refl (row-full _ _ _ _ _ h.1)).0
+returns-in_err-count_row-in-Strengthen-clause-steps c = uncounted _ (rw c.in-Strengthen.is at c.in_ok-entry.ensures) refl c.in_err-count_row-in-Strengthen.ensures c.from_residual-in_err-count_row-in-Strengthen.ensures.1
 
 pub returns-in_ok-count_row-in-Strengthen-clause-steps : goal.returns-in_ok-count_row-in-Strengthen-clause-steps
 returns-in_ok-count_row-in-Strengthen-clause-steps c =
@@ -92,10 +75,7 @@ returns-in_ok-count_row-in-Strengthen-clause-steps c =
     (step_row _ (rw c.in-Strengthen.is at c.in_ok-entry.ensures) refl (record { kept = kept_refl; by = (row-counted _ _ _ _ _ h, (counted-row h).1) })).0
 
 pub returns-in_err-count_row-in-CloseNumber-clause-steps : goal.returns-in_err-count_row-in-CloseNumber-clause-steps
-returns-in_err-count_row-in-CloseNumber-clause-steps c =
-    let h = c.in_err-count_row-in-CloseNumber.ensures in
-    let p = err_from_is_err_and c.from_residual-in_err-count_row-in-CloseNumber.result c.from_residual-in_err-count_row-in-CloseNumber.ensures.1 in
-    rw (p.1, p.2, h.0) (step_row _ (rw c.in-CloseNumber.is at c.in_ok-entry.ensures) refl (row-full _ _ _ _ _ h.1)).0
+returns-in_err-count_row-in-CloseNumber-clause-steps c = uncounted _ (rw c.in-CloseNumber.is at c.in_ok-entry.ensures) refl c.in_err-count_row-in-CloseNumber.ensures c.from_residual-in_err-count_row-in-CloseNumber.ensures.1
 
 pub returns-in_ok-count_row-in-CloseNumber-clause-steps : goal.returns-in_ok-count_row-in-CloseNumber-clause-steps
 returns-in_ok-count_row-in-CloseNumber-clause-steps c =
@@ -103,10 +83,7 @@ returns-in_ok-count_row-in-CloseNumber-clause-steps c =
     (step_row _ (rw c.in-CloseNumber.is at c.in_ok-entry.ensures) refl (record { kept = kept_refl; by = (row-counted _ _ _ _ _ h, (counted-row h).1) })).0
 
 pub returns-in_err-count_row-in-CloseStride-clause-steps : goal.returns-in_err-count_row-in-CloseStride-clause-steps
-returns-in_err-count_row-in-CloseStride-clause-steps c =
-    let h = c.in_err-count_row-in-CloseStride.ensures in
-    let p = err_from_is_err_and c.from_residual-in_err-count_row-in-CloseStride.result c.from_residual-in_err-count_row-in-CloseStride.ensures.1 in
-    rw (p.1, p.2, h.0) (step_row _ (rw c.in-CloseStride.is at c.in_ok-entry.ensures) refl (row-full _ _ _ _ _ h.1)).0
+returns-in_err-count_row-in-CloseStride-clause-steps c = uncounted _ (rw c.in-CloseStride.is at c.in_ok-entry.ensures) refl c.in_err-count_row-in-CloseStride.ensures c.from_residual-in_err-count_row-in-CloseStride.ensures.1
 
 pub returns-in_ok-count_row-in-CloseStride-clause-steps : goal.returns-in_ok-count_row-in-CloseStride-clause-steps
 returns-in_ok-count_row-in-CloseStride-clause-steps c =
@@ -115,10 +92,7 @@ returns-in_ok-count_row-in-CloseStride-clause-steps c =
     rw (to_z-of_z w64 c.from.result (record { sfits = c.from.type_inv }) ∙ c.from.ensures) (step_row _ (rw c.in-CloseStride.is at c.in_ok-entry.ensures) refl {r = Ok (Stepped.ClosesStride c.count_row-in-CloseStride.new.self c.in-CloseStride.t (pos c.in-CloseStride.g))} (record { kept = kept_refl; by = (row-counted _ _ _ _ _ h, (counted-row h).1, m) })).0
 
 pub returns-in_err-count_row-in-Round-clause-steps : goal.returns-in_err-count_row-in-Round-clause-steps
-returns-in_err-count_row-in-Round-clause-steps c =
-    let h = c.in_err-count_row-in-Round.ensures in
-    let p = err_from_is_err_and c.from_residual-in_err-count_row-in-Round.result c.from_residual-in_err-count_row-in-Round.ensures.1 in
-    rw (p.1, p.2, h.0) (step_row _ (rw c.in-Round.is at c.in_ok-entry.ensures) refl (row-full _ _ _ _ _ h.1)).0
+returns-in_err-count_row-in-Round-clause-steps c = uncounted _ (rw c.in-Round.is at c.in_ok-entry.ensures) refl c.in_err-count_row-in-Round.ensures c.from_residual-in_err-count_row-in-Round.ensures.1
 
 pub returns-in_ok-count_row-in-Round-clause-steps : goal.returns-in_ok-count_row-in-Round-clause-steps
 returns-in_ok-count_row-in-Round-clause-steps c =
@@ -127,10 +101,7 @@ returns-in_ok-count_row-in-Round-clause-steps c =
     rw (to_z-of_z w64 c.from-in-Round.result (record { sfits = c.from-in-Round.type_inv }) ∙ c.from-in-Round.ensures) (step_row _ (rw c.in-Round.is at c.in_ok-entry.ensures) refl {r = Ok (Stepped.Rounds c.count_row-in-Round.new.self c.in-Round.t (pos c.in-Round.g) c.in-Round.by)} (record { kept = kept_refl; by = (row-counted _ _ _ _ _ h, (counted-row h).1, m) })).0
 
 pub returns-in_err-count_row-in-Split-clause-steps : goal.returns-in_err-count_row-in-Split-clause-steps
-returns-in_err-count_row-in-Split-clause-steps c =
-    let h = c.in_err-count_row-in-Split.ensures in
-    let p = err_from_is_err_and c.from_residual-in_err-count_row-in-Split.result c.from_residual-in_err-count_row-in-Split.ensures.1 in
-    rw (p.1, p.2, h.0) (step_row _ (rw c.in-Split.is at c.in_ok-entry.ensures) refl (row-full _ _ _ _ _ h.1)).0
+returns-in_err-count_row-in-Split-clause-steps c = uncounted _ (rw c.in-Split.is at c.in_ok-entry.ensures) refl c.in_err-count_row-in-Split.ensures c.from_residual-in_err-count_row-in-Split.ensures.1
 
 pub returns-in_ok-count_row-in-Split-clause-steps : goal.returns-in_ok-count_row-in-Split-clause-steps
 returns-in_ok-count_row-in-Split-clause-steps c =
