@@ -2,7 +2,7 @@
 ghost use Rattle.std.specs.Prelude.{◌≡◌};
 ghost use Rattle.enumeration_rows.specs.Searching.{with_first};
 
-// A proof of one, two or three rows, by their numbers.
+// A proof of one, two or three rows, by their numbers. (No Option or Result: each has a number more than the one before.)
 #[derive(Clone, Copy)]
 pub enum Rows {
     One { c: usize },

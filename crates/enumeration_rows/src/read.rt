@@ -86,7 +86,7 @@ fn is_inference(rest: &[u8], n: usize, j: usize) -> bool
     rest.starts_with(&row[..inference_bytes(n, j)])
 }
 
-// The number of the inference that stands there, if one does.
+// The number of the inference that stands there, if one does. (close_at is as short, with other functions in each place.)
 pub fn inference_at(rest: &[u8], n: usize) -> Option<usize>
     requires { n ≤ 5 }
     ensures { InferenceFound n rest.now result }
