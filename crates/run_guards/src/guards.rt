@@ -1,14 +1,17 @@
 // The operation, stage by stage.
-ghost use Rattle.std.specs.Prelude.{◌≡◌};
+ghost use Rattle.std.specs.Prelude.{◌*◌, ◌<◌, ◌≤◌};
+ghost use Rattle.forms.specs.Edition.{edition};
 ghost use Rattle.run.specs.Promises.{WritesGuards};
-ghost use Rattle.run_cuts.specs.Phases.{StagesPassed, ProofBegun};
+ghost use Rattle.run_cuts.specs.Phases.{StagesPassed, Passed, Begun, Guarded};
 
-use answers::WriteResult;
+use answers::refusals::Refusal;
+use answers::{Answer, WriteResult, acceptance, refusal};
 use fields::FileKind;
-use fields::header::{Headed, read_header};
+use fields::header::read_header;
 use forms::{CONSTANTS, LINES, LINES_1, NEWEST, PROOF_BYTES};
-use run_cuts::deliver::{check_run, refusal};
-use run_stages::reading::{Read, long_stage, parted, read_stages};
+use run_cuts::begun::Run;
+use run_cuts::deliver::check_run;
+use run_stages::reading::{Stages, long_stage, parted, read_stages};
 
 // The most constraints of all stages together.
 const ALL_CONSTRAINTS: usize = 64;
@@ -16,81 +19,89 @@ const ALL_CONSTRAINTS: usize = 64;
 // The numbers of a line: t and tA, each with its constant term.
 const LINE_NUMBERS: usize = 2 * (CONSTANTS as usize + 1);
 
-// A proof of edition 1: at most 128 lines on a branch.
-fn check_narrow(
-    buffer: &[u8],
-    lengths: &[usize],
-    k: u8,
-    count: usize,
-    proof: &[u8],
-    at: usize,
-    e: u8,
-    out: &mut [u8],
-    sizes: &mut [usize],
-) -> WriteResult
-    requires stages_passed { StagesPassed buffer.now lengths.now proof.now k count }
-    requires proof_begun { ProofBegun proof.now k e at }
-    requires e_value { e ≡ 1 }
-    ensures { WritesGuards buffer.now lengths.now proof.now out.old sizes.old out.new sizes.new result }
-{
-    let mut lines = [0i32; (LINES_1 as usize + 1) * LINE_NUMBERS];
-    let mut kinds = [0u8; LINES_1 as usize + 1];
-    let mut none = [0u8; 1];
-    check_run(
-        buffer, lengths, k, count, proof, at, e, &mut lines, &mut kinds, &mut none, out, sizes,
-    )
-}
+// The kinds and the numbers of the lines on a branch, and of the one that is being made: of a proof of edition 1, and of any edition.
+const KINDS_1: usize = LINES_1 as usize + 1;
 
-// A proof of any edition.
-fn check_wide(
-    buffer: &[u8],
-    lengths: &[usize],
-    k: u8,
-    count: usize,
-    proof: &[u8],
-    at: usize,
-    e: u8,
+const NUMBERS_1: usize = KINDS_1 * LINE_NUMBERS;
+
+const KINDS_ANY: usize = LINES as usize + 1;
+
+const NUMBERS_ANY: usize = KINDS_ANY * LINE_NUMBERS;
+
+// The cuts, and the guards, in arrays of these sizes.
+fn check_sized<const KINDS: usize, const NUMBERS: usize>(
+    run: &Run,
     out: &mut [u8],
     sizes: &mut [usize],
-) -> WriteResult
-    requires stages_passed { StagesPassed buffer.now lengths.now proof.now k count }
-    requires proof_begun { ProofBegun proof.now k e at }
-    ensures { WritesGuards buffer.now lengths.now proof.now out.old sizes.old out.new sizes.new result }
+) -> Result<usize, Answer>
+    requires passed { Passed run.now }
+    requires begun { Begun run.now }
+    requires kinds_enough { (edition run.now.edition).lines < KINDS }
+    requires numbers_enough { (KINDS * 34 ≤ NUMBERS) × (NUMBERS ≤ 34_034) }
+    ensures { Guarded run.now.buffer.now run.now.lengths.now run.now.proof.now out.old sizes.old out.new sizes.new result }
 {
-    let mut lines = [0i32; (LINES as usize + 1) * LINE_NUMBERS];
-    let mut kinds = [0u8; LINES as usize + 1];
+    let mut lines = [0i32; NUMBERS];
+    let mut kinds = [0u8; KINDS];
     let mut none = [0u8; 1];
-    check_run(
-        buffer, lengths, k, count, proof, at, e, &mut lines, &mut kinds, &mut none, out, sizes,
-    )
+    check_run(run, &mut lines, &mut kinds, &mut none, out, sizes)
 }
 
 // The proof's header, where all stages were read. 2, 3, 4, 6, 5, 7, 9.
 fn check_header(
     buffer: &[u8],
     lengths: &[usize],
-    k: u8,
-    count: usize,
+    stages: Stages,
     proof: &[u8],
     out: &mut [u8],
     sizes: &mut [usize],
-) -> WriteResult
-    requires { StagesPassed buffer.now lengths.now proof.now k count }
-    ensures { WritesGuards buffer.now lengths.now proof.now out.old sizes.old out.new sizes.new result }
+) -> Result<usize, Answer>
+    requires { StagesPassed buffer.now lengths.now proof.now stages.k stages.count }
+    ensures { Guarded buffer.now lengths.now proof.now out.old sizes.old out.new sizes.new result }
 {
-    match read_header(proof, FileKind::Proof, NEWEST, k) {
-        Headed::Header {
-            edition: e,
-            k: _,
-            next,
-        } => {
-            if e == 1 {
-                return check_narrow(buffer, lengths, k, count, proof, next, e, out, sizes);
-            }
-            check_wide(buffer, lengths, k, count, proof, next, e, out, sizes)
-        }
-        Headed::Refused { number, place } => refusal(number, 3, place),
+    let header = read_header(proof, FileKind::Proof, NEWEST, stages.k).map_err(|fault| refusal(
+        fault.refusal,
+        3,
+        fault.place,
+    ))?;
+    let run = Run {
+        buffer,
+        lengths,
+        k: stages.k,
+        count: stages.count,
+        proof,
+        at: header.next,
+        edition: header.edition,
+    };
+    if header.edition == 1 {
+        return check_sized::<KINDS_1, NUMBERS_1>(&run, out, sizes);
     }
+    check_sized::<KINDS_ANY, NUMBERS_ANY>(&run, out, sizes)
+}
+
+// The guards, or the first refusal: how many bytes they have together. 25, 1, 26.
+fn guard_stages(
+    buffer: &[u8],
+    lengths: &[usize],
+    proof: &[u8],
+    out: &mut [u8],
+    sizes: &mut [usize],
+) -> Result<usize, Answer>
+    ensures { Guarded buffer.now lengths.now proof.now out.old sizes.old out.new sizes.new result }
+{
+    if !parted(buffer, lengths) {
+        return Err(refusal(Refusal::WrongStages, 4, 0));
+    }
+    if let Some(file) = long_stage(buffer, lengths) {
+        return Err(refusal(Refusal::TooLong, file, 0));
+    }
+    if proof.len() > PROOF_BYTES {
+        return Err(refusal(Refusal::TooLong, 3, 0));
+    }
+    let stages = read_stages(buffer, lengths)?;
+    if stages.count > ALL_CONSTRAINTS {
+        return Err(refusal(Refusal::TooManyInRun, 4, 0));
+    }
+    check_header(buffer, lengths, stages, proof, out, sizes)
 }
 
 // The guards of a run of stages: bundles end to end, their lengths, the proof; the guard files end to end, and their sizes.
@@ -103,23 +114,11 @@ pub fn guards(
 ) -> WriteResult
     ensures { WritesGuards buffer.now lengths.now proof.now out.old sizes.old out.new sizes.new result }
 {
-    if !parted(buffer, lengths) {
-        return refusal(25, 4, 0);
-    }
-    let long = long_stage(buffer, lengths);
-    if long != 0 {
-        return refusal(1, long, 0);
-    }
-    if proof.len() > PROOF_BYTES {
-        return refusal(1, 3, 0);
-    }
-    match read_stages(buffer, lengths) {
-        Read::Refused { answer } => WriteResult { answer, count: 0 },
-        Read::Stages { k, count } => {
-            if count > ALL_CONSTRAINTS {
-                return refusal(26, 4, 0);
-            }
-            check_header(buffer, lengths, k, count, proof, out, sizes)
-        }
+    match guard_stages(buffer, lengths, proof, out, sizes) {
+        Ok(count) => WriteResult {
+            answer: acceptance(),
+            count,
+        },
+        Err(answer) => WriteResult { answer, count: 0 },
     }
 }

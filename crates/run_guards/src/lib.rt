@@ -1,4 +1,4 @@
-// The operation: guards for a whole run of stages (document 02, point 7). It tests the lengths, reads the stages and the proof's
+// The operation: guards for a whole run of stages. It tests the lengths, reads the stages and the proof's
 // header, and lends the arrays in which run_cuts checks the cuts. `guards` ensures `WritesGuards` (run/specs/Promises.antt).
 #![tactic(auto)]
 

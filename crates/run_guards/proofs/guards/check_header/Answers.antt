@@ -1,18 +1,21 @@
 -- `run_guards::guards::check_header` meets its contract. Assumes nothing.
-use Rattle.run_cuts.proofs.Phases.{guards-refused, unheaded, begun}
+use borrow.Author.Rules.{rules}
+use Rattle.std.proofs.lemmas.Result.{err_from_is_err_and}
+use Rattle.run_cuts.proofs.Phases.{HeaderTold, guards-refused, unheaded, begun-header}
 use Rattle.run_guards.proofs.guards.check_header.Goals as goal
 
-pub check_narrow-requires : goal.check_narrow-requires
-check_narrow-requires c = record { stages_passed = c.requires; proof_begun = begun c.requires c.read_header.ensures c.in-Header.is; e_value = c.if-e-eq1.true }
+pub returns-in_err-header : goal.returns-in_err-header
+returns-in_err-header c =
+    let told : HeaderTold c.read_header.result c.map_err.result = search rules in
+    let p = err_from_is_err_and c.from_residual.result c.from_residual.ensures.1 in
+    rw (p.1, p.2) (guards-refused (unheaded c.requires c.read_header.ensures told c.in_err-header.was))
 
-pub returns-then-e-eq1 : goal.returns-then-e-eq1
-returns-then-e-eq1 c = c.check_narrow.ensures
+pub check_sized-requires-clause-begun : goal.check_sized-requires-clause-begun
+check_sized-requires-clause-begun c =
+    let told : HeaderTold c.read_header.result c.map_err.result = search rules in
+    begun-header c.requires c.read_header.ensures told c.in_ok-header.was
 
-pub check_wide-requires : goal.check_wide-requires
-check_wide-requires c = record { stages_passed = c.requires; proof_begun = begun c.requires c.read_header.ensures c.in-Header.is }
-
-pub returns-else-e-eq1 : goal.returns-else-e-eq1
-returns-else-e-eq1 c = c.check_wide.ensures
-
-pub returns-in-Refused : goal.returns-in-Refused
-returns-in-Refused c = guards-refused (unheaded c.requires c.read_header.ensures c.in-Refused.is) c.refusal.ensures
+pub check_sized-requires-2-clause-begun : goal.check_sized-requires-2-clause-begun
+check_sized-requires-2-clause-begun c =
+    let told : HeaderTold c.read_header.result c.map_err.result = search rules in
+    begun-header c.requires c.read_header.ensures told c.in_ok-header.was

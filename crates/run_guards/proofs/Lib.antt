@@ -1,0 +1,2 @@
+-- Arrays that have the room asked for.
+pub mod Room
