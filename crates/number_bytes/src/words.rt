@@ -4,7 +4,7 @@ ghost use Rattle.std.proofs.lemmas.List.Edits.{sets};
 ghost use Rattle.forms.specs.Edition.{edition};
 ghost use Rattle.number_bytes.specs.Numbers.{signed, signed_bytes};
 ghost use Rattle.number_bytes.specs.Ranges.{Held};
-ghost use Rattle.number_bytes.specs.Widths.{bytes_of};
+ghost use Rattle.number_bytes.specs.Widths.{bytes_of, width_of};
 
 // How many bytes a signed number has.
 #[derive(Clone, Copy)]
@@ -53,6 +53,13 @@ impl Width {
             Width::Four => put_long(out, at, value as i32),
         }
     }
+}
+
+// The width of so many bytes, of 4 and else of 2: what a const parameter says, so that each width has a function of its own.
+pub fn width_by(bytes: usize) -> Width
+    ensures { result ≡ width_of bytes }
+{
+    if bytes == 4 { Width::Four } else { Width::Two }
 }
 
 // The two's complement number of two bytes at `at`. The bytes are taken with the low one first, of which the compiler makes one load,
