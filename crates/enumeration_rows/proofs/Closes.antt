@@ -2,10 +2,9 @@
 use mathlib.Core.Path.{◌≡◌, refl, sym, ◌∙◌, ap, subst}
 use mathlib.Core.Bool.{Bool, true, false}
 use mathlib.Core.List.{List, [], ◌∷◌}
-use Prim.Native.Nat.{ℕ, zero, suc, ◌+◌, ◌-◌, ◌≤◌, ◌<◌}
+use Prim.Native.Nat.{ℕ, suc, ◌+◌, ◌≤◌, ◌<◌}
 use native.Mathlib.Omega.{arith}
-use lib.Dec.{T, leb}
-use borrow.Author.Tests.{leb-true, leb-false}
+use lib.Dec.{T}
 use lib.IntN.{ℤ}
 use lib.ListN.{length}
 use Rattle.forms.specs.Forms.{Line, Formula}
@@ -69,37 +68,6 @@ module _ {K n : ℕ} {kinds : List ℕ} {buf : List ℤ} {start : ℕ} where
       closes-on q =
           let s : suc c ≡ c + 1 = omega arith in
           record { same = left.same ∙ close-no (lines_in K kinds buf n) (length-lines K kinds buf n) c l (held.no q).1 ∙ ap (λ (m : ℕ). first_found (proofs_from 0 (lines_in K kinds buf n) m)) s }
-
--- ---- the first of a range
--- Close c holds, or does not.
-abbrev pub Holding : (K n : ℕ) (kinds : List ℕ) (buf : List ℤ) (b : Bool) (c : ℕ) → Type 0
-Holding K n kinds buf b c = CloseHolds K kinds buf n (close_at n c) b
-
-module _ {K n : ℕ} {kinds : List ℕ} {buf : List ℤ} {start : ℕ} where
-  -- m of them are passed over
-  passed : (m : ℕ) → start + m ≤ close_count n → ((c : ℕ) → start ≤ c → c < start + m → Holding K n kinds buf false c) → ClosesLeft K n kinds buf start (start + m)
-  passed zero h p = let e : start ≡ start + 0 = omega arith in subst (ClosesLeft K n kinds buf start) e closes-start
-  passed (suc m) h p =
-      let e : start + m + 1 ≡ start + suc m = omega arith in
-      subst (ClosesLeft K n kinds buf start) e (closes-on (passed m (omega arith) (λ c a b. p c a (omega arith))) (omega arith) (p (start + m) (omega arith) (omega arith)) refl)
-
-  passed-to : {c : ℕ} → start ≤ c → c ≤ close_count n → ((i : ℕ) → start ≤ i → i < c → Holding K n kinds buf false i) → ClosesLeft K n kinds buf start c
-  passed-to {c} a h p =
-      let e : start + (c - start) ≡ c = omega arith in
-      subst (ClosesLeft K n kinds buf start) e (passed (c - start) (omega arith) (λ i x y. p i x (omega arith)))
-
--- what the first of a range is
-module _ {K n : ℕ} {kinds : List ℕ} {buf : List ℤ} (start : ℕ) where
-  pub closes-none : {count : ℕ} → count ≡ close_count n → ((c : ℕ) → start ≤ c → c < count → Holding K n kinds buf false c) → Finds K n 0 (first_found (proofs_from 0 (lines_in K kinds buf n) start)) kinds buf kinds buf (Ok None)
-  closes-none {count} e p = go (leb start (close_count n)) refl
-    where
-      go : (b : Bool) → leb start (close_count n) ≡ b → Finds K n 0 (first_found (proofs_from 0 (lines_in K kinds buf n) start)) kinds buf kinds buf (Ok None)
-      go true q = closes-ended (passed-to (leb-true start (close_count n) q) (omega arith) (λ c a b. p c a (omega arith))) (omega arith)
-      go false q = closes-ended closes-start (let f = leb-false start (close_count n) q in omega arith)
-
-  pub closes-sought : {count : ℕ} → count ≡ close_count n → {c : ℕ} → (start ≤ c) × (c < count) × Holding K n kinds buf true c × ((i : ℕ) → start ≤ i → i < c → Holding K n kinds buf false i)
-      → Finds K n 0 (first_found (proofs_from 0 (lines_in K kinds buf n) start)) kinds buf kinds buf (Ok (Some (One c)))
-  closes-sought e (a, h, y, p) = closes-found (passed-to a (omega arith) p) (omega arith) y refl
 
 -- ---- the table given
 pub true-is : {b : Bool} → b ≡ true → T b

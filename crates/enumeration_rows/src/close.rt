@@ -11,13 +11,18 @@ use crate::infer::holds;
 use crate::read::close_at;
 use crate::write::close_count;
 
-// The first close that holds, from a number on.
+// The first close that holds, from a number on. (By `find` the three closes of a new line by stride are no longer unrolled:
+// docs/SPEED.md, `seek_close`.)
 pub fn seek_close(lines: &[i32], kinds: &[u8], n: usize, k: usize, from: usize) -> Option<Rows>
     requires { SearchRoom k 0 kinds.now lines.now (tally_of n) }
     ensures { Finds k n 0 (first_found (proofs_from 0 (lines_in k kinds.now lines.now n) from)) kinds.now lines.now kinds.now lines.now (Ok result) }
 {
-    let c = (from..close_count(n)).find(|&c| holds(lines, kinds, n, c, k))?;
-    Some(Rows::One { c })
+    for c in from..close_count(n) {
+        if holds(lines, kinds, n, c, k) {
+            return Some(Rows::One { c });
+        }
+    }
+    None
 }
 
 // The close after the one that the rest of the table is.
