@@ -106,9 +106,6 @@ module _ {A B : List ℕ} {first second : Body} {P : List ℕ} {e K at : ℕ} (g
 
 -- ---- a check that is tried
 module _ {A B P : List ℕ} where
-  pub not-tried : {out : List ℕ} {r : WriteResult} → r.answer.number ≡ 1 → Tries A B P out out r
-  not-tried one = record { is = λ other. absurd (other one); same = λ one. refl }
-
   pub tried : {at : ℕ} {S out out' : List ℕ} {r : WriteResult} → CheckedWithin A B P at S out out' r → Tries A B P out out' r
   tried w = record { is = λ other. w.is (inr other); same = w.same }
 

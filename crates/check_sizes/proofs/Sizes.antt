@@ -38,10 +38,6 @@ module _ (e : ℕ) {K : ℕ} (c : ℕ) {kinds : List ℕ} {buf : List ℤ} where
 pub kinds-within : (e K c : ℕ) {s k M : ℕ} → NumbersWithin e K c M → 1 ≤ K → Arrays s k M → min c (edition e).lines < k
 kinds-within e K c w h l = omega (arith, w, l.kinds_enough, lines-most e, mul-le-mul {n₁ = min c (edition e).lines + 1} {m₁ = 4} {n₂ = min c (edition e).lines + 1} {m₂ = size K} (omega arith) (omega arith))
 
--- All lines of every edition, of 16 constants.
-pub numbers-any : (e : ℕ) {K : ℕ} (c : ℕ) → K ≤ 16 → NumbersWithin e K c 34034
-numbers-any e {K} c h = numbers-small (min c (edition e).lines + 1) K {N = 1001} (omega (arith, lines-most e)) h
-
 pub lines-any : (e c : ℕ) → LinesWithin e c 1000
 lines-any e c = omega (arith, lines-most e)
 

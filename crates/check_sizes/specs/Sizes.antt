@@ -4,7 +4,18 @@ use Rattle.forms.specs.Edition.{edition, edition1, newest_edition}
 use Rattle.answers.specs.declared.WriteResult.{WriteResult}
 use Rattle.proof.specs.Promises.{Checks}
 use Rattle.lines.specs.Buffer.{size}
+use Rattle.bundle_load.specs.Begun.{Begun}
+use Rattle.branches.specs.Spare.{lines_left}
 use Rattle.check_sizes.specs.Root.{Told}
+use Rattle.check_sizes.specs.declared.inputs.Inputs.{Inputs}
+
+-- The bundles and the header are read.
+abbrev pub IsBegun : Inputs → Type 0
+IsBegun x = Begun x.a.now x.b.now x.first x.second x.proof.now x.header.edition x.header.k x.header.next
+
+-- The most lines that a branch may come to have: those of both bundles, and those that the bytes of the proof may make.
+abbrev pub lines_to_come : Inputs → ℕ
+lines_to_come x = x.first.count + x.second.count + lines_left x.header.edition x.proof.now x.header.next
 
 -- Where c lines may come in a proof of edition e, a branch has N lines at most; and they, and one more, have N numbers at most.
 abbrev pub LinesWithin : (e c N : ℕ) → Type 0

@@ -3,6 +3,8 @@
 // room that it asks, specs/Sizes.antt what arrays are long enough.
 #![tactic(auto)]
 
+pub mod inputs;
+
 ghost use Rattle.std.specs.Prelude.{◌≡◌, ◌&&◌, leb, ltb, ◌+◌, ◌*◌, ◌/◌, ◌≤◌, min};
 ghost use Rattle.forms.specs.Edition.{edition, edition1};
 ghost use Rattle.fields.specs.Places.{unread_bytes};
@@ -12,18 +14,16 @@ ghost use Rattle.tally.specs.Tally.{tally};
 ghost use Rattle.branches.specs.Spare.{lines_left, Spare};
 ghost use Rattle.branches.specs.Branching.{per_byte, Started};
 ghost use Rattle.check_sizes.specs.Root.{Roots};
-ghost use Rattle.bundle_load.specs.Begun.{Begun};
-ghost use Rattle.check_sizes.specs.Sizes.{NumbersWithin, Arrays, CheckedWithin, Tries};
+ghost use Rattle.check_sizes.specs.Sizes.{IsBegun, lines_to_come, NumbersWithin, Arrays, CheckedWithin, Tries};
 
 use answers::WriteResult;
 use answers::refusals::Refusal;
 use branches::branch::{Here, check_branch};
 use bundle_load::prepare;
-use bundle_scan::Body;
 use check_output::{finish, refusal};
 use fields::field_at;
-use fields::header::Headed;
 use forms::{CONSTANTS, FORMULA_BYTES, LINES, LINES_1, LineNumber, RowNumber, lines_limit};
+use inputs::Inputs;
 use tally::Tally;
 
 // The most bytes of a formula whose file is not too long: its header has 8.
@@ -81,29 +81,33 @@ fn check_root(
 
 // The lines, and then the root, with room for the lines that may come.
 fn check_within(
-    a: &[u8],
-    b: &[u8],
-    first: Body,
-    second: Body,
-    proof: &[u8],
-    header: Headed,
+    inputs: &Inputs,
     lines: &mut [i32],
     kinds: &mut [u8],
     scratch: &mut [u8],
     out: &mut [u8],
 ) -> WriteResult
-    requires begun { Begun a.now b.now first second proof.now header.edition header.k header.next }
-    requires spare { Spare header.edition header.k (first.count + second.count + lines_left header.edition proof.now header.next) kinds.old lines.old }
-    ensures { CheckedWithin a.now b.now proof.now header.next scratch.old out.old out.new result }
+    requires begun { IsBegun inputs.now }
+    requires spare { Spare inputs.now.header.edition inputs.now.header.k (lines_to_come inputs.now) kinds.old lines.old }
+    ensures { CheckedWithin inputs.now.a.now inputs.now.b.now inputs.now.proof.now inputs.now.header.next scratch.old out.old out.new result }
 {
+    let header = inputs.header;
     let k = header.k;
-    prepare(a, b, first, second, k, lines, kinds);
+    prepare(
+        inputs.a,
+        inputs.b,
+        inputs.first,
+        inputs.second,
+        k,
+        lines,
+        kinds,
+    );
     check_root(
-        proof,
+        inputs.proof,
         header.next,
         header.edition,
         k,
-        first.count + second.count,
+        inputs.first.count + inputs.second.count,
         lines,
         kinds,
         scratch,
@@ -171,35 +175,19 @@ const NUMBERS_WIDE: usize = KINDS_WIDE * LINE_NUMBERS;
 // The lines, and then the root, in arrays of these sizes: check's answer where a formula of the proof has room in the scratch. Each
 // choice of sizes is a function of its own.
 fn check_sized<const SCRATCH: usize, const KINDS: usize, const NUMBERS: usize>(
-    a: &[u8],
-    b: &[u8],
-    first: Body,
-    second: Body,
-    proof: &[u8],
-    header: Headed,
+    inputs: &Inputs,
     out: &mut [u8],
 ) -> WriteResult
-    requires begun { Begun a.now b.now first second proof.now header.edition header.k header.next }
-    requires numbers_within { NumbersWithin header.edition header.k (first.count + second.count + lines_left header.edition proof.now header.next) NUMBERS }
+    requires begun { IsBegun inputs.now }
+    requires numbers_within { NumbersWithin inputs.now.header.edition inputs.now.header.k (lines_to_come inputs.now) NUMBERS }
     requires arrays { Arrays SCRATCH KINDS NUMBERS }
-    ensures enough { min (per_byte * unread_bytes proof.now header.next) edition1.formula_bytes ≤ SCRATCH → Checks a.now b.now proof.now out.old out.new result }
-    ensures tries { Tries a.now b.now proof.now out.old out.new result }
+    ensures enough { min (per_byte * unread_bytes inputs.now.proof.now inputs.now.header.next) edition1.formula_bytes ≤ SCRATCH → Checks inputs.now.a.now inputs.now.b.now inputs.now.proof.now out.old out.new result }
+    ensures tries { Tries inputs.now.a.now inputs.now.b.now inputs.now.proof.now out.old out.new result }
 {
     let mut scratch = [0u8; SCRATCH];
     let mut kinds = [0u8; KINDS];
     let mut lines = [0i32; NUMBERS];
-    check_within(
-        a,
-        b,
-        first,
-        second,
-        proof,
-        header,
-        &mut lines,
-        &mut kinds,
-        &mut scratch,
-        out,
-    )
+    check_within(inputs, &mut lines, &mut kinds, &mut scratch, out)
 }
 
 // A proof that is tried has at most so many bytes or, with claims, fewer fields than so many, notes among them. One of more bytes
@@ -245,31 +233,24 @@ fn is_tried(proof: &[u8], from: usize) -> bool {
 // its arrays, and each page of that is touched at every call. It stays one since it is called twice with the same sizes
 // (docs/SPEED.md).
 fn check_long<const TRIED_NUMBERS: usize, const NUMBERS: usize, const KINDS: usize>(
-    a: &[u8],
-    b: &[u8],
-    first: Body,
-    second: Body,
-    proof: &[u8],
-    header: Headed,
+    inputs: &Inputs,
     numbers: usize,
     out: &mut [u8],
 ) -> WriteResult
-    requires begun { Begun a.now b.now first second proof.now header.edition header.k header.next }
-    requires numbers_within { NumbersWithin header.edition header.k (first.count + second.count + lines_left header.edition proof.now header.next) numbers }
-    requires all_within { NumbersWithin header.edition header.k (first.count + second.count + lines_left header.edition proof.now header.next) NUMBERS }
+    requires begun { IsBegun inputs.now }
+    requires numbers_within { NumbersWithin inputs.now.header.edition inputs.now.header.k (lines_to_come inputs.now) numbers }
+    requires all_within { NumbersWithin inputs.now.header.edition inputs.now.header.k (lines_to_come inputs.now) NUMBERS }
     requires tried_arrays { Arrays SCRATCH_960 KINDS TRIED_NUMBERS }
     requires all_arrays { Arrays FORMULA_BYTES KINDS NUMBERS }
-    ensures { Checks a.now b.now proof.now out.old out.new result }
+    ensures { Checks inputs.now.a.now inputs.now.b.now inputs.now.proof.now out.old out.new result }
 {
-    if numbers <= TRIED_NUMBERS && is_tried(proof, header.next) {
-        let tried = check_sized::<SCRATCH_960, KINDS, TRIED_NUMBERS>(
-            a, b, first, second, proof, header, out,
-        );
+    if numbers <= TRIED_NUMBERS && is_tried(inputs.proof, inputs.header.next) {
+        let tried = check_sized::<SCRATCH_960, KINDS, TRIED_NUMBERS>(inputs, out);
         if tried.answer.number != Refusal::TooLong.number() {
             return tried;
         }
     }
-    check_sized::<FORMULA_BYTES, KINDS, NUMBERS>(a, b, first, second, proof, header, out)
+    check_sized::<FORMULA_BYTES, KINDS, NUMBERS>(inputs, out)
 }
 
 // How many rows so many bytes may have: each has a tag, a length and a line number at least. Two divisions, by literals.
@@ -291,60 +272,40 @@ fn most_lines(e: u8, count: usize) -> usize
 
 // The lines, and then the root, with arrays for the lines that the proof may make by its bytes.
 // To count its rows would take longer than to clear what is then not used, but where there are claims (`is_tried`).
-pub fn check_lines(
-    a: &[u8],
-    b: &[u8],
-    first: Body,
-    second: Body,
-    proof: &[u8],
-    header: Headed,
-    out: &mut [u8],
-) -> WriteResult
-    requires { Begun a.now b.now first second proof.now header.edition header.k header.next }
-    ensures { Checks a.now b.now proof.now out.old out.new result }
+pub fn check_lines(inputs: &Inputs, out: &mut [u8]) -> WriteResult
+    requires { IsBegun inputs.now }
+    ensures { Checks inputs.now.a.now inputs.now.b.now inputs.now.proof.now out.old out.new result }
 {
-    let bytes = proof.len();
+    let header = inputs.header;
+    let bytes = inputs.proof.len();
     let rows = most_rows(header.edition, bytes);
     let k = header.k;
     let size = 2 * (k as usize + 1);
-    let count = most_lines(header.edition, first.count + second.count + rows);
+    let count = most_lines(
+        header.edition,
+        inputs.first.count + inputs.second.count + rows,
+    );
     let numbers = (count + 1) * size;
     if bytes <= 248 {
         if bytes <= 24 && numbers <= NUMBERS_24 {
-            return check_sized::<SCRATCH_24, KINDS_24, NUMBERS_24>(
-                a, b, first, second, proof, header, out,
-            );
+            return check_sized::<SCRATCH_24, KINDS_24, NUMBERS_24>(inputs, out);
         }
         if bytes <= 41 && numbers <= NUMBERS_41 {
-            return check_sized::<SCRATCH_41, KINDS_41, NUMBERS_41>(
-                a, b, first, second, proof, header, out,
-            );
+            return check_sized::<SCRATCH_41, KINDS_41, NUMBERS_41>(inputs, out);
         }
         if bytes <= 66 && numbers <= NUMBERS_66 {
-            return check_sized::<SCRATCH_66, KINDS_66, NUMBERS_66>(
-                a, b, first, second, proof, header, out,
-            );
+            return check_sized::<SCRATCH_66, KINDS_66, NUMBERS_66>(inputs, out);
         }
         if numbers <= NUMBERS_248 {
-            return check_sized::<SCRATCH_248, KINDS_248, NUMBERS_248>(
-                a, b, first, second, proof, header, out,
-            );
+            return check_sized::<SCRATCH_248, KINDS_248, NUMBERS_248>(inputs, out);
         }
         if numbers <= NUMBERS_1 {
-            return check_long::<NUMBERS_1, NUMBERS_1, KINDS_1>(
-                a, b, first, second, proof, header, numbers, out,
-            );
+            return check_long::<NUMBERS_1, NUMBERS_1, KINDS_1>(inputs, numbers, out);
         }
-        return check_long::<NUMBERS_WIDE_960, NUMBERS_WIDE, KINDS_WIDE>(
-            a, b, first, second, proof, header, numbers, out,
-        );
+        return check_long::<NUMBERS_WIDE_960, NUMBERS_WIDE, KINDS_WIDE>(inputs, numbers, out);
     }
     if numbers <= NUMBERS_1 {
-        return check_long::<NUMBERS_1, NUMBERS_1, KINDS_1>(
-            a, b, first, second, proof, header, numbers, out,
-        );
+        return check_long::<NUMBERS_1, NUMBERS_1, KINDS_1>(inputs, numbers, out);
     }
-    check_long::<NUMBERS_WIDE_960, NUMBERS_WIDE, KINDS_WIDE>(
-        a, b, first, second, proof, header, numbers, out,
-    )
+    check_long::<NUMBERS_WIDE_960, NUMBERS_WIDE, KINDS_WIDE>(inputs, numbers, out)
 }

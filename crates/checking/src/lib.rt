@@ -11,6 +11,7 @@ use answers::refusals::Refusal;
 use bundle_scan::{Body, scan};
 use check_output::refusal;
 use check_sizes::check_lines;
+use check_sizes::inputs::Inputs;
 use fields::FileKind;
 use fields::header::read_header;
 use forms::{BUNDLE_BYTES, NEWEST, PROOF_BYTES};
@@ -30,7 +31,17 @@ fn check_header(
     ensures { Checks a.now b.now proof.now out.old out.new result }
 {
     match read_header(proof, FileKind::Proof, NEWEST, k) {
-        Ok(header) => check_lines(a, b, first, second, proof, header, out),
+        Ok(header) => {
+            let inputs = Inputs {
+                a,
+                b,
+                first,
+                second,
+                proof,
+                header,
+            };
+            check_lines(&inputs, out)
+        }
         Err(fault) => refusal(fault.refusal, 3, fault.place),
     }
 }

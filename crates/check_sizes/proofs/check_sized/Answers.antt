@@ -1,10 +1,10 @@
 -- `check_sizes::check_sized` meets its contract: its arrays have the room that is asked. Assumes nothing.
 use mathlib.Core.Logic.{inl}
 use native.Mathlib.Omega.{arith}
-use Prim.Native.Nat.{ℕ, ◌+◌}
+use Prim.Native.Nat.{ℕ}
 use lib.IntN.{ℤ, pos}
 use lib.ListN.{length-replicate}
-use Rattle.branches.specs.Spare.{lines_left}
+use Rattle.check_sizes.specs.Sizes.{lines_to_come}
 use Rattle.check_sizes.proofs.Sizes.{spare-most, kinds-within}
 use Rattle.check_sizes.proofs.Begun.{tried}
 use Rattle.check_sizes.proofs.check_sized.Goals as goal
@@ -21,9 +21,12 @@ whole_as_slice-check_within-3 g c = omega (arith, c.requires.arrays)
 pub check_within-requires : goal.check_within-requires
 check_within-requires g c =
     let w = c.requires in
-    let a = c.args in
-    let may_come : ℕ = a.first.count + a.second.count + lines_left a.header.edition a.proof.now a.header.next in
-    record { begun = w.begun; spare = spare-most a.header.edition may_come w.numbers_within (omega (arith, length-replicate {A = ℤ} g.row.NUMBERS (pos 0))) (omega (arith, length-replicate {A = ℕ} g.row.KINDS 0, kinds-within a.header.edition a.header.k may_come w.numbers_within w.begun.both.low w.arrays)) }
+    let x = c.args.inputs.now in
+    record {
+      begun = w.begun;
+      spare = spare-most x.header.edition (lines_to_come x) w.numbers_within (omega (arith, length-replicate {A = ℤ} g.row.NUMBERS (pos 0)))
+          (omega (arith, length-replicate {A = ℕ} g.row.KINDS 0, kinds-within x.header.edition x.header.k (lines_to_come x) w.numbers_within w.begun.both.low w.arrays));
+    }
 
 pub returns : goal.returns
 returns g c = record {

@@ -7,8 +7,8 @@ use Rattle.check_sizes.proofs.check_within.Goals as goal
 
 pub prepare-requires : goal.prepare-requires
 prepare-requires c =
-    let g = c.requires.begun in
-    record { both = g.both; space = space-from g.both c.requires.spare (omega arith) }
+    let both = c.requires.begun.both in
+    record { both = both; space = space-from both c.requires.spare (omega arith) }
 
 pub check_root-requires : goal.check_root-requires
 check_root-requires c = started c.requires.begun c.prepare.ensures (spare-less (omega arith) (omega arith) (omega arith) c.requires.spare)
