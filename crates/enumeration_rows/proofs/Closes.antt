@@ -53,9 +53,6 @@ pub record ClosesLeft (K n : ℕ) (kinds : List ℕ) (buf : List ℤ) (start c :
   pub same : first_found (proofs_from 0 (lines_in K kinds buf n) start) ≡ first_found (proofs_from 0 (lines_in K kinds buf n) c)
 
 module _ {K n : ℕ} {kinds : List ℕ} {buf : List ℤ} {start : ℕ} where
-  pub closes-start : ClosesLeft K n kinds buf start start
-  closes-start = record { same = refl }
-
   module _ {c : ℕ} (left : ClosesLeft K n kinds buf start c) where
     pub closes-ended : close_count n ≤ c → Finds K n 0 (first_found (proofs_from 0 (lines_in K kinds buf n) start)) kinds buf kinds buf (Ok None)
     closes-ended h = record { kept = kept_refl; is = sym (left.same ∙ close-none (lines_in K kinds buf n) (length-lines K kinds buf n) c h); within = tt; inferences = tt }
