@@ -24,9 +24,6 @@ walk_branch-walk_branches-requires t c =
 pub walk_branch-returns-else-opened-eq-BRANCHINGS : goal.walk_branch-returns-else-opened-eq-BRANCHINGS
 walk_branch-returns-else-opened-eq-BRANCHINGS t c = stop-opens (rw c.in-Opens.is at c.in_ok-closed.ensures) c.args.opened c.requires.opened_few c.if-opened-eq-BRANCHINGS.false c.walk_branches.ensures
 
-pub walk_branches-overflow_add-rows : goal.walk_branches-overflow_add-rows
-walk_branches-overflow_add-rows t c = omega (arith, c.requires.countable.few)
-
 pub walk_branches-returns-in_err-closed : goal.walk_branches-returns-in_err-closed
 walk_branches-returns-in_err-closed t c =
     let p = err_from_is_err_and c.from_residual.result c.from_residual.ensures.1 in

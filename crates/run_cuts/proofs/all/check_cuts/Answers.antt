@@ -19,15 +19,6 @@ loop-c-preserved c =
     let z : c.loop-c.c - 1 + 1 ≡ c.loop-c.c = omega arith in
     rw z (all-next c.requires c.loop-c.c c.loop-c.invariant c.check_cut-own.ensures c.check_cut-own.auto.kinds c.check_cut-own.auto.lines c.check_cut-own.auto.scratch c.joined-all.ensures)
 
-pub shape_of-lines : goal.shape_of-lines
-shape_of-lines c = c.loop-c.invariant.lines_length
-
-pub shape_of-kinds : goal.shape_of-kinds
-shape_of-kinds c = c.loop-c.invariant.kinds_length
-
-pub shape_of-scratch : goal.shape_of-scratch
-shape_of-scratch c = c.loop-c.invariant.scratch-length
-
 pub returns : goal.returns
 returns c = absurd (omega arith)
 

@@ -22,12 +22,6 @@ overflow_add-m c = omega (arith, cut-few c.loop-i.invariant c.loop-i-test.true c
 pub loop-i-preserved : goal.loop-i-preserved
 loop-i-preserved c = cut-next c.loop-i.invariant c.loop-i-test.true c.split_at.ensures.front c.split_at.ensures.back c.scan.ensures c.unwrap-stage.ensures c.of_coefficients-width.ensures c.load.ensures
 
-pub shape_of-lines : goal.shape_of-lines
-shape_of-lines c = c.loop-i.invariant.lines_length
-
-pub shape_of-kinds : goal.shape_of-kinds
-shape_of-kinds c = c.loop-i.invariant.kinds_length
-
 pub returns : goal.returns
 returns c = cut-done c.loop-i.invariant c.loop-i-test.false
 

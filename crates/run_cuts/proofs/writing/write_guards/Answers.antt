@@ -25,18 +25,6 @@ overflow_add-o c = record { fits = omega (arith, files-size c.requires.asked c.r
 pub loop-c-preserved : goal.loop-c-preserved
 loop-c-preserved c = files-next c.requires.asked c.requires.guards_fit c.loop-c.invariant c.loop-c-test.true c.write_guard-size.ensures c.write_guard-size.auto.kinds c.write_guard-size.auto.lines c.write_guard-size.auto.out refl
 
-pub shape_of-lines : goal.shape_of-lines
-shape_of-lines c = c.loop-c.invariant.lines_length
-
-pub shape_of-kinds : goal.shape_of-kinds
-shape_of-kinds c = c.loop-c.invariant.kinds_length
-
-pub shape_of-out : goal.shape_of-out
-shape_of-out c = c.loop-c.invariant.out_length
-
-pub shape_of-sizes : goal.shape_of-sizes
-shape_of-sizes c = c.loop-c.invariant.sizes-length
-
 pub returns : goal.returns
 returns c = files-done c.requires.asked c.requires.guards_fit c.loop-c.invariant (omega arith)
 
