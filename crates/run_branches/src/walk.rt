@@ -74,6 +74,7 @@ fn walk_entries(
     let mut here = at;
     let mut count = rows.0;
     let mut made = false;
+    // No `for`: a field tells where the next one starts, and each way out is a return.
     loop {
         let row = RowNumber(count);
         let field = match next_field(proof.bytes, here) {

@@ -28,7 +28,7 @@ use Rattle.proof.proofs.Entered.{entry-unknown, entry-none, entry-out, entry_in}
 use Rattle.run.specs.Uniform.{Walker, FollowingWalk, walk_row, walk_entry}
 use Rattle.run_fields.specs.declared.kind.Matching.{Matching}
 use Rattle.run_fields.specs.declared.kind.EntryKind.{EntryKind}
-use Rattle.run_fields.specs.Kinds.{sized_by, sized_as, walk_kind, RoundKind, IsKind}
+use Rattle.run_fields.specs.Kinds.{sized_by, sized_as, walk_kind, LaidOut, RoundKind, IsKind}
 
 -- a line number has few bytes
 pub ruleset widths = (line_width-most)
@@ -53,91 +53,103 @@ round-walk : (n K : ℕ) (bs : List ℕ) (deeper : Option Walker) (next : Follow
 unfolding entry_from walk_entry walk_row
 round-walk n K bs deeper next refusal rows f fs c = rw c
 
-module _ {n K tag len : ℕ} {made : Bool} {bs : List ℕ} (size_is : length bs ≡ len) where
-  kind-in : (x : EntryTag) (t : ℕ) (kind : EntryKind) {size : ℕ} {r : code.Result EntryKind Refusal} → tag ≡ t → known FileKind.Proof t ≡ true → entry_tagged t ≡ some x → in_place made x ≡ true → size_of (edition n) K x ≡ size
+module _ {n K tag : ℕ} {made : Bool} where
+  kind-in : (bs : List ℕ) (x : EntryTag) (t : ℕ) (kind : EntryKind) {size : ℕ} → tag ≡ t → known FileKind.Proof t ≡ true → entry_tagged t ≡ some x → in_place made x ≡ true → size_of (edition n) K x ≡ size
       → ((deeper : Option Walker) (next : FollowingWalk) (refusal : ℕ → Answer) (rows : ℕ) (f : Field) (fs : Fields) → f.contents ≡ bs
       → walk_entry deeper next refusal rows f fs (entry_from (edition n) K x f.contents) ≡ walk_kind deeper next refusal rows f fs (Ok kind))
-      → r ≡ sized_as len size kind → IsKind n K tag bs made r
-  kind-in x t kind {size} is k g there z w q = rw q (record {
+      → IsKind n K tag bs made (sized_as (length bs) size kind)
+  kind-in bs x t kind {size} is k g there z w = record {
     is = λ deeper next refusal rows f fs tagged contents.
         ap (λ (m : Result Entry). m >>= λ y. walk_entry deeper next refusal rows f fs y)
         (entry_in (edition n) K refusal made f x (ap (known FileKind.Proof) (tagged ∙ is) ∙ k) (ap entry_tagged (tagged ∙ is) ∙ g) there)
         ∙ ap (λ (b : Bool). (need (refusal 6) b >> accepted (entry_from (edition n) K x f.contents)) >>= λ y. walk_entry deeper next refusal rows f fs y)
-        (ap₂ eqb (ap length contents ∙ size_is) z)
-        ∙ by_size (eqb len size) kind (entry_from (edition n) K x f.contents) deeper next refusal rows f fs (w deeper next refusal rows f fs contents);
-  })
+        (ap₂ eqb (ap length contents) z)
+        ∙ by_size (eqb (length bs) size) kind (entry_from (edition n) K x f.contents) deeper next refusal rows f fs (w deeper next refusal rows f fs contents);
+  }
 
-  module _ {w : ℕ} (width : w ≡ (edition n).line_width) {r : code.Result EntryKind Refusal} where
-    pub combine-kind : tag ≡ 0x10 → r ≡ sized_as len (2 * w + 4) EntryKind.Derives → IsKind n K tag bs made r
+  module _ {w : ℕ} (width : w ≡ (edition n).line_width) where
+    pub combine-kind : tag ≡ 0x10 → LaidOut n K tag made (Ok (2 * w + 4, EntryKind.Derives))
     unfolding known header_tag entry_tagged in_place size_of entry_from walk_entry walk_row
-    combine-kind e q = kind-in combine_tag 0x10 EntryKind.Derives e refl refl refl (omega (arith, width)) (λ deeper next refusal rows f fs c. refl) q
+    combine-kind e = record { is = λ bs. kind-in bs combine_tag 0x10 EntryKind.Derives e refl refl refl (omega (arith, width)) (λ deeper next refusal rows f fs c. refl) }
 
-    pub reduce-kind : tag ≡ 0x11 → r ≡ sized_as len (2 * w + 2) EntryKind.Derives → IsKind n K tag bs made r
+    pub reduce-kind : tag ≡ 0x11 → LaidOut n K tag made (Ok (2 * w + 2, EntryKind.Derives))
     unfolding known header_tag entry_tagged in_place size_of entry_from walk_entry walk_row
-    reduce-kind e q = kind-in reduce_tag 0x11 EntryKind.Derives e refl refl refl (omega (arith, width)) (λ deeper next refusal rows f fs c. refl) q
+    reduce-kind e = record { is = λ bs. kind-in bs reduce_tag 0x11 EntryKind.Derives e refl refl refl (omega (arith, width)) (λ deeper next refusal rows f fs c. refl) }
 
-    pub scale-kind : tag ≡ 0x12 → r ≡ sized_as len (w + 2) EntryKind.Derives → IsKind n K tag bs made r
+    pub scale-kind : tag ≡ 0x12 → LaidOut n K tag made (Ok (w + 2, EntryKind.Derives))
     unfolding known header_tag entry_tagged in_place size_of entry_from walk_entry walk_row
-    scale-kind e q = kind-in scale_tag 0x12 EntryKind.Derives e refl refl refl (omega (arith, width)) (λ deeper next refusal rows f fs c. refl) q
+    scale-kind e = record { is = λ bs. kind-in bs scale_tag 0x12 EntryKind.Derives e refl refl refl (omega (arith, width)) (λ deeper next refusal rows f fs c. refl) }
 
-    pub strengthen-kind : tag ≡ 0x13 → r ≡ sized_as len w (EntryKind.Opens 2 Matching.FirstAndThird) → IsKind n K tag bs made r
+    pub strengthen-kind : tag ≡ 0x13 → LaidOut n K tag made (Ok (w, (EntryKind.Opens 2 Matching.FirstAndThird)))
     unfolding known header_tag entry_tagged in_place size_of entry_from walk_entry walk_row
-    strengthen-kind e q = kind-in strengthen_tag 0x13 (EntryKind.Opens 2 Matching.FirstAndThird) e refl refl refl (omega (arith, width)) (λ deeper next refusal rows f fs c. refl) q
+    strengthen-kind e = record { is = λ bs. kind-in bs strengthen_tag 0x13 (EntryKind.Opens 2 Matching.FirstAndThird) e refl refl refl (omega (arith, width)) (λ deeper next refusal rows f fs c. refl) }
 
-    pub number-kind : tag ≡ 0x14 → r ≡ sized_as len w EntryKind.Closes → IsKind n K tag bs made r
+    pub number-kind : tag ≡ 0x14 → LaidOut n K tag made (Ok (w, EntryKind.Closes))
     unfolding known header_tag entry_tagged in_place size_of entry_from walk_entry walk_row
-    number-kind e q = kind-in number_tag 0x14 EntryKind.Closes e refl refl refl (omega (arith, width)) (λ deeper next refusal rows f fs c. refl) q
+    number-kind e = record { is = λ bs. kind-in bs number_tag 0x14 EntryKind.Closes e refl refl refl (omega (arith, width)) (λ deeper next refusal rows f fs c. refl) }
 
-    pub stride-kind : tag ≡ 0x15 → r ≡ sized_as len (w + 2) EntryKind.Closes → IsKind n K tag bs made r
+    pub stride-kind : tag ≡ 0x15 → LaidOut n K tag made (Ok (w + 2, EntryKind.Closes))
     unfolding known header_tag entry_tagged in_place size_of entry_from walk_entry walk_row
-    stride-kind e q = kind-in stride_tag 0x15 EntryKind.Closes e refl refl refl (omega (arith, width)) (λ deeper next refusal rows f fs c. refl) q
+    stride-kind e = record { is = λ bs. kind-in bs stride_tag 0x15 EntryKind.Closes e refl refl refl (omega (arith, width)) (λ deeper next refusal rows f fs c. refl) }
 
-    pub split-kind : tag ≡ 0x17 → r ≡ sized_as len w (EntryKind.Opens 1 Matching.Nothing) → IsKind n K tag bs made r
+    pub split-kind : tag ≡ 0x17 → LaidOut n K tag made (Ok (w, (EntryKind.Opens 1 Matching.Nothing)))
     unfolding known header_tag entry_tagged in_place size_of entry_from walk_entry walk_row
-    split-kind e q = kind-in split_tag 0x17 (EntryKind.Opens 1 Matching.Nothing) e refl refl refl (omega (arith, width)) (λ deeper next refusal rows f fs c. refl) q
+    split-kind e = record { is = λ bs. kind-in bs split_tag 0x17 (EntryKind.Opens 1 Matching.Nothing) e refl refl refl (omega (arith, width)) (λ deeper next refusal rows f fs c. refl) }
 
-  pub round-kind : {r : code.Result EntryKind Refusal} → tag ≡ 0x16 → RoundKind n bs r → IsKind n K tag bs made r
+  pub round-kind : {bs : List ℕ} {r : code.Result EntryKind Refusal} → tag ≡ 0x16 → RoundKind n bs r → IsKind n K tag bs made r
   unfolding known header_tag entry_tagged in_place size_of
-  round-kind e q = kind-in round_tag 0x16 (EntryKind.Opens (unsigned (multiplier (edition n) 1 1 bs)) Matching.All) e refl refl refl (omega arith) (round-walk n K bs) (q.is ∙ ap (λ (m : ℕ). sized_as m ((edition n).line_width + 4) (EntryKind.Opens (unsigned (multiplier (edition n) 1 1 bs)) Matching.All)) size_is)
+  round-kind {bs} e q = rw q.is (kind-in bs round_tag 0x16 (EntryKind.Opens (unsigned (multiplier (edition n) 1 1 bs)) Matching.All) e refl refl refl (omega arith) (round-walk n K bs))
 
-  pub claim-kind : {r : code.Result EntryKind Refusal} → tag ≡ 0x20 → made ≡ true → r ≡ sized_as len (8 * (K + 1)) EntryKind.Claims → IsKind n K tag bs made r
+  pub claim-kind : tag ≡ 0x20 → made ≡ true → LaidOut n K tag made (Ok (8 * (K + 1), EntryKind.Claims))
   unfolding known header_tag entry_tagged in_place size_of entry_from walk_entry
-  claim-kind e h q = kind-in claim_tag 0x20 EntryKind.Claims e refl refl h (omega arith) (λ deeper next refusal rows f fs c. refl) q
+  claim-kind e h = record { is = λ bs. kind-in bs claim_tag 0x20 EntryKind.Claims e refl refl h (omega arith) (λ deeper next refusal rows f fs c. refl) }
 
 -- a field that is no entry here
-module _ {n K tag : ℕ} {made : Bool} {bs : List ℕ} where
-  out : {x : Refusal} → ((refusal : ℕ → Answer) (f : Field) → f.tag ≡ tag → entry (edition n) K refusal made f ≡ refused (refusal (number_of x))) → IsKind n K tag bs made (Err x)
+module _ {n K tag : ℕ} {made : Bool} where
+  out : {x : Refusal} → ((refusal : ℕ → Answer) (f : Field) → f.tag ≡ tag → entry (edition n) K refusal made f ≡ refused (refusal (number_of x))) → LaidOut n K tag made (Err x)
   unfolding ◌>>=◌
-  out h = record { is = λ deeper next refusal rows f fs tagged contents. ap (λ (m : Result Entry). m >>= λ y. walk_entry deeper next refusal rows f fs y) (h refusal f tagged) }
+  out h = record { is = λ bs. record { is = λ deeper next refusal rows f fs tagged contents. ap (λ (m : Result Entry). m >>= λ y. walk_entry deeper next refusal rows f fs y) (h refusal f tagged) } }
 
-  pub claim-out : tag ≡ 0x20 → made ≡ false → IsKind n K tag bs made (Err Refusal.MisplacedTag)
+  pub claim-out : tag ≡ 0x20 → made ≡ false → LaidOut n K tag made (Err Refusal.MisplacedTag)
   unfolding known header_tag entry_tagged in_place
   claim-out e h = out λ refusal f tagged. entry-out (edition n) K refusal made f claim_tag (rw (tagged, e)) (rw (tagged, e)) h
 
-  first_out : tag ≡ 0x01 → IsKind n K tag bs made (Err Refusal.MisplacedTag)
+  first_out : tag ≡ 0x01 → LaidOut n K tag made (Err Refusal.MisplacedTag)
   unfolding known header_tag entry_tagged
   first_out e = out λ refusal f tagged. entry-none (edition n) K refusal made f (rw (tagged, e)) (rw (tagged, e))
 
-  second-out : tag ≡ 0x02 → IsKind n K tag bs made (Err Refusal.MisplacedTag)
+  second-out : tag ≡ 0x02 → LaidOut n K tag made (Err Refusal.MisplacedTag)
   unfolding known header_tag entry_tagged
   second-out e = out λ refusal f tagged. entry-none (edition n) K refusal made f (rw (tagged, e)) (rw (tagged, e))
 
-  pub header-out : 1 ≤ tag → tag < 3 → IsKind n K tag bs made (Err Refusal.MisplacedTag)
+  pub header-out : 1 ≤ tag → tag < 3 → LaidOut n K tag made (Err Refusal.MisplacedTag)
   header-out l h = go tag refl
     where
-      go : (t : ℕ) → tag ≡ t → IsKind n K tag bs made (Err Refusal.MisplacedTag)
+      go : (t : ℕ) → tag ≡ t → LaidOut n K tag made (Err Refusal.MisplacedTag)
       go zero e = absurd (omega arith)
       go (suc zero) e = first_out e
       go (suc (suc zero)) e = second-out e
       go (suc (suc (suc t))) e = absurd (omega arith)
 
-  pub unknown-out : known FileKind.Proof tag ≡ false → IsKind n K tag bs made (Err Refusal.UnknownTag)
+  pub unknown-out : known FileKind.Proof tag ≡ false → LaidOut n K tag made (Err Refusal.UnknownTag)
   unknown-out k = out λ refusal f tagged. entry-unknown (edition n) K refusal made f (ap (known FileKind.Proof) tagged ∙ k)
 
--- ---- the code's reading of a rounding
+-- ---- what is laid out, and the contents' length
 pub part_length : (p : List ℕ) (start len : ℕ) → start + len ≤ length p → length (take len (drop start p)) ≡ len
 part_length p start len h = length-take-le len (drop start p) (omega (arith, length-drop start p))
 
+module _ {n K tag : ℕ} {made : Bool} (p : List ℕ) (start len : ℕ) where
+  pub kind-refused : {x : Refusal} → LaidOut n K tag made (Err x) → IsKind n K tag (take len (drop start p)) made (Err x)
+  kind-refused l = l.is (take len (drop start p))
+
+  module _ (inside : start + len ≤ length p) {x : ℕ × EntryKind} (l : LaidOut n K tag made (Ok x)) where
+    pub kind-sized : len ≡ x.0 → IsKind n K tag (take len (drop start p)) made (Ok x.1)
+    kind-sized h = rw (sized-fits x.1 (part_length p start len inside ∙ h)) (l.is (take len (drop start p)))
+
+    pub kind-other : ¬ (len ≡ x.0) → IsKind n K tag (take len (drop start p)) made (Err Refusal.WrongLength)
+    kind-other h = rw (sized-not x.1 (λ e. h (sym (part_length p start len inside) ∙ e))) (l.is (take len (drop start p)))
+
+-- ---- the code's reading of a rounding
 module _ (n : ℕ) (p : List ℕ) (start len w : ℕ) (inside : start + len ≤ length p) (width : w ≡ (edition n).line_width) where
   pub round-read : len ≡ w + 4 → {by : ℕ} → by ≡ unsigned (take 2 (drop (start + w + 2) p)) → RoundKind n (take len (drop start p)) (Ok (EntryKind.Opens by Matching.All))
   unfolding multiplier

@@ -51,6 +51,14 @@ pub record IsKind (n K : ℕ) (tag : ℕ) (bs : List ℕ) (made : Bool) (r : cod
   pub is : (deeper : Option Walker) (next : FollowingWalk) (refusal : ℕ → Answer) (rows : ℕ) (f : Field) (fs : Fields) → f.tag ≡ tag → f.contents ≡ bs
       → (entry (edition n) K refusal made f >>= λ x. walk_entry deeper next refusal rows f fs x) ≡ walk_kind deeper next refusal rows f fs r
 
+-- How many bytes such a field's contents have, and what it then is; or its refusal, whatever its contents.
+abbrev pub sized_of : (len : ℕ) → code.Result (ℕ × EntryKind) Refusal → code.Result EntryKind Refusal
+sized_of len (Ok x) = sized_as len x.0 x.1
+sized_of len (Err r) = Err r
+
+pub record LaidOut (n K : ℕ) (tag : ℕ) (made : Bool) (r : code.Result (ℕ × EntryKind) Refusal) : Type 0 where
+  pub is : (bs : List ℕ) → IsKind n K tag bs made (sized_of (length bs) r)
+
 -- The contents of a rounding's field, of a proof of edition n: its k, or 6.
 pub record RoundKind (n : ℕ) (bs : List ℕ) (r : code.Result EntryKind Refusal) : Type 0 where
   pub is : r ≡ sized_as (length bs) ((edition n).line_width + 4) (EntryKind.Opens (unsigned (multiplier (edition n) 1 1 bs)) Matching.All)

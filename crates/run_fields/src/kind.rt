@@ -1,6 +1,6 @@
 // What an entry is to the walk, by its tag and length: of its contents only the k of a rounding is looked at.
-ghost use Rattle.std.specs.Prelude.{◌≡◌, ◌+◌, ◌≤◌, length, take, drop};
-ghost use Rattle.run_fields.specs.Kinds.{compared_in, sized_as, RoundKind, IsKind};
+ghost use Rattle.std.specs.Prelude.{◌≡◌, ◌≢◌, ◌+◌, ◌≤◌, length, take, drop};
+ghost use Rattle.run_fields.specs.Kinds.{compared_in, LaidOut, RoundKind, IsKind};
 
 use crate::walked::WalkedProof;
 use answers::refusals::Refusal;
@@ -40,14 +40,42 @@ pub enum EntryKind {
     Claims,
 }
 
-// Contents of `len` bytes where `size` are laid out. 6.
-fn sized(len: usize, size: usize, kind: EntryKind) -> Result<EntryKind, Refusal>
-    ensures { result ≡ sized_as len size kind }
+// How many bytes a field's contents have by its tag, and what it then is; a rounding is read apart. 3, 4.
+#[tactic(auto, using(crate::proofs::ByTag::widths))]
+fn laid_out(proof: &WalkedProof, tag: u8, made: bool) -> Result<(usize, EntryKind), Refusal>
+    requires { tag ≢ 0x16 }
+    ensures { LaidOut proof.now.edition proof.now.k tag made result }
 {
-    if len == size {
-        return Ok(kind);
+    let width = line_bytes(proof.edition);
+    match tag {
+        0x10 => Ok((2 * width + 2 * MULTIPLIER_BYTES, EntryKind::Derives)),
+        0x11 => Ok((2 * width + MULTIPLIER_BYTES, EntryKind::Derives)),
+        0x12 => Ok((width + MULTIPLIER_BYTES, EntryKind::Derives)),
+        0x13 => {
+            let opens = EntryKind::Opens {
+                last: 2,
+                alike: Matching::FirstAndThird,
+            };
+            Ok((width, opens))
+        }
+        0x14 => Ok((width, EntryKind::Closes)),
+        0x15 => Ok((width + MULTIPLIER_BYTES, EntryKind::Closes)),
+        0x17 => {
+            let opens = EntryKind::Opens {
+                last: 1,
+                alike: Matching::Nothing,
+            };
+            Ok((width, opens))
+        }
+        0x20 => {
+            if made {
+                return Ok((2 * TERM_BYTES * (proof.k + 1), EntryKind::Claims));
+            }
+            Err(Refusal::MisplacedTag)
+        }
+        0x01 | 0x02 => Err(Refusal::MisplacedTag),
+        _ => Err(Refusal::UnknownTag),
     }
-    Err(Refusal::WrongLength)
 }
 
 // A rounding: its branches are 0 to k. 6.
@@ -69,41 +97,16 @@ fn rounding(proof: &WalkedProof, field: WholeField) -> Result<EntryKind, Refusal
 }
 
 // What a field of a proof is. 3, 4, 6.
-#[tactic(auto, using(crate::proofs::ByTag::widths))]
 pub fn kind_at(proof: &WalkedProof, field: WholeField, made: bool) -> Result<EntryKind, Refusal>
     requires { field.start + field.len ≤ length proof.now.bytes.now }
     ensures { IsKind proof.now.edition proof.now.k field.tag (take field.len (drop field.start proof.now.bytes.now)) made result }
 {
-    let width = line_bytes(proof.edition);
-    let len = field.len;
-    match field.tag {
-        0x10 => sized(len, 2 * width + 2 * MULTIPLIER_BYTES, EntryKind::Derives),
-        0x11 => sized(len, 2 * width + MULTIPLIER_BYTES, EntryKind::Derives),
-        0x12 => sized(len, width + MULTIPLIER_BYTES, EntryKind::Derives),
-        0x13 => {
-            let opens = EntryKind::Opens {
-                last: 2,
-                alike: Matching::FirstAndThird,
-            };
-            sized(len, width, opens)
-        }
-        0x14 => sized(len, width, EntryKind::Closes),
-        0x15 => sized(len, width + MULTIPLIER_BYTES, EntryKind::Closes),
-        0x16 => rounding(proof, field),
-        0x17 => {
-            let opens = EntryKind::Opens {
-                last: 1,
-                alike: Matching::Nothing,
-            };
-            sized(len, width, opens)
-        }
-        0x20 => {
-            if made {
-                return sized(len, 2 * TERM_BYTES * (proof.k + 1), EntryKind::Claims);
-            }
-            Err(Refusal::MisplacedTag)
-        }
-        0x01 | 0x02 => Err(Refusal::MisplacedTag),
-        _ => Err(Refusal::UnknownTag),
+    if field.tag == 0x16 {
+        return rounding(proof, field);
     }
+    let (size, kind) = laid_out(proof, field.tag, made)?;
+    if field.len != size {
+        return Err(Refusal::WrongLength);
+    }
+    Ok(kind)
 }

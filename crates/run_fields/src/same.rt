@@ -4,7 +4,8 @@ ghost use Rattle.run_fields.specs.Same.{Compares, SameFields};
 use fields::next_field;
 use number_bytes::compare::same_bytes;
 
-// The places after the next field from a on and the next from b on, where the two are the same.
+// The places after the next field from a on and the next from b on, where the two are the same: a field is a place in the file, so
+// tags and bytes are compared, not values of a type.
 fn same_field(p: &[u8], a: usize, b: usize) -> Option<(usize, usize)>
     ensures { Compares p.now a b result }
 {

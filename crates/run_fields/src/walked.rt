@@ -2,7 +2,7 @@
 ghost use Rattle.std.specs.Prelude.{◌≤◌};
 ghost use Rattle.forms.specs.Edition.{edition1};
 
-// Its bytes, K and its edition.
+// Its bytes, K and its edition, as the number that the file says.
 #[derive(Clone, Copy)]
 pub struct WalkedProof<'a> {
     pub bytes: &'a [u8],
