@@ -30,7 +30,7 @@ fn constraint_fault(contents: &[u8], width: Width, k: u8, n: usize, tag: u8) -> 
             return Err(Refusal::WrongLength);
         }
         if n < CONSTRAINTS {
-            if all_in_range(contents, 0, width, many) {
+            if all_in_range(contents, width, many) {
                 return Ok(());
             }
             return Err(Refusal::OutOfRange);
@@ -51,6 +51,7 @@ fn kept(n: usize, wanted: usize, place: usize, found: usize) -> usize
 }
 
 // Count and place in one pass. A constraint without fault has one size: to go on by that does not wait for the length to be read from the file.
+// How the fields end is told behind the last one, so that the loop has no head.
 pub fn seek_constraint(
     s: &[u8],
     at: usize,

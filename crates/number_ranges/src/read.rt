@@ -16,25 +16,25 @@ fn long_in_range(s: &[u8], at: usize) -> bool
     x > i32::MIN
 }
 
-// Whether each of n numbers of four bytes from start on is within the range. It goes on to the end, so that the compiler tests several at once.
-fn longs_in_range(s: &[u8], start: usize, n: usize) -> bool
-    requires { start + n * 4 ≤ length s.now }
-    ensures { result ≡ every (small edition1.range) (signeds 4 n (drop start s.now)) }
+// Whether each of n numbers of four bytes is within the range. It goes on to the end, so that the compiler tests several at once.
+fn longs_in_range(s: &[u8], n: usize) -> bool
+    requires { n * 4 ≤ length s.now }
+    ensures { result ≡ every (small edition1.range) (signeds 4 n s.now) }
 {
     let mut ok = true;
     for i in 0..n {
-        ok &= long_in_range(s, start + i * 4);
+        ok &= long_in_range(s, i * 4);
     }
     ok
 }
 
 // The same of numbers of any width: every number of two bytes is.
-pub fn all_in_range(s: &[u8], start: usize, width: Width, n: usize) -> bool
-    requires { start + n * bytes_of width ≤ length s.now }
-    ensures { result ≡ every (small edition1.range) (signeds (bytes_of width) n (drop start s.now)) }
+pub fn all_in_range(s: &[u8], width: Width, n: usize) -> bool
+    requires { n * bytes_of width ≤ length s.now }
+    ensures { result ≡ every (small edition1.range) (signeds (bytes_of width) n s.now) }
 {
     match width {
         Width::Two => true,
-        Width::Four => longs_in_range(s, start, n),
+        Width::Four => longs_in_range(s, n),
     }
 }

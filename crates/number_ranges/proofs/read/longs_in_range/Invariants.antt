@@ -8,4 +8,4 @@ use Rattle.number_bytes.specs.Numbers.{signeds}
 use Rattle.number_ranges.proofs.read.longs_in_range.Given as goal
 
 abbrev pub invariant-loop-i : goal.invariant-loop-i
-invariant-loop-i l = (l.ok && every (small 2_147_483_647) (signeds 4 (l.n - l.i) (drop (l.start + l.i * 4) l.s))) ≡ every (small 2_147_483_647) (signeds 4 l.n (drop l.start l.s))
+invariant-loop-i l = (l.ok && every (small 2_147_483_647) (signeds 4 (l.n - l.i) (drop (0 + l.i * 4) l.s))) ≡ every (small 2_147_483_647) (signeds 4 l.n l.s)
