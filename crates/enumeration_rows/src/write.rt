@@ -78,6 +78,7 @@ pub fn inference_bytes(n: usize, j: usize) -> usize
     6
 }
 
+// Inference j from a place on. (The place is in the lent output: the next row goes on behind it.)
 #[tactic(auto, using(crate::proofs::Counts::eights, crate::proofs::Counts::square), unfolding(enumeration::specs::Numbering::inference_bytes))]
 pub fn put_inference(out: &mut [u8], at: usize, n: usize, j: usize)
     requires { (n ≤ 5) × (j < inference_count n) × (at + length (inference_bytes n j) ≤ length out.old) }

@@ -82,6 +82,7 @@ fn seek(
     if depth == 0 {
         return seek_close(lines, kinds, n, k, from);
     }
+    // Asked once for all j: docs/SPEED.md, `seek`.
     let unclosed = seek_close(lines, kinds, n, k, 0).is_none();
     for j in from..inference_count(n) {
         if let Some(rows) = beginning(lines, kinds, n, k, depth - 1, j, unclosed) {
