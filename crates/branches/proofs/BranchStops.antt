@@ -4,7 +4,7 @@ use mathlib.Core.List.{List}
 use mathlib.Core.Option.{none}
 use Prim.Native.Nat.{ℕ, zero, suc, ◌-◌, ◌≤◌}
 use native.Mathlib.Omega.{arith}
-use lib.IntN.{ℤ, nat_abs}
+use lib.IntN.{ℤ}
 use Rattle.forms.specs.Edition.{edition}
 use Rattle.forms.specs.Forms.{Line, Formula}
 use Rattle.forms.specs.declared.RowNumber.{RowNumber}
@@ -29,7 +29,7 @@ use Rattle.answers.specs.declared.refusals.Refusal.{Refusal}
 use Rattle.answers.specs.Refusals.{fault}
 use Rattle.closes.specs.Ends.{End, EndedBy}
 use Rattle.openings.specs.Opening.{Opening, below, Branching, row_opened, RowOpens}
-use Rattle.branches.specs.Branches.{Comes, MultiplierOf, row_of, Stopped}
+use Rattle.branches.specs.Branches.{Comes, row_of, Stopped}
 use Rattle.branches.specs.Branching.{refused_row, closed_by, Started, ChecksBranch}
 use Rattle.branches.specs.declared.branch.BranchFault.{BranchFault}
 use Rattle.branches.specs.declared.branch.Ending.{Ending}
@@ -72,10 +72,7 @@ module _ {K : ℕ} {p : List ℕ} {at : ℕ} {kinds : List ℕ} {buf : List ℤ}
     -- The row that the entries come to.
     module _ {s : Stop} (stop : Stopped K p at here kinds buf t kinds' buf' (Ok s)) {d : Ending} (e : s.ending ≡ d) where
       pub stop-comes : Comes K p at kinds buf t kinds' buf' (row_of d s.t.0) s.row.0 s.at s.next s.tally
-      stop-comes = rw e at stop.by.0
-
-      pub stop-multiplier : MultiplierOf d
-      stop-multiplier = rw e at stop.by.1
+      stop-comes = rw e at stop.by
 
   module _ {row : rules.Row} {number a next : ℕ} {u : Tally} (m : Comes K p at kinds buf t kinds' buf' row number a next u) where
     -- The row that the entries come to.
@@ -128,14 +125,14 @@ module _ {K : ℕ} {p : List ℕ} {at : ℕ} {kinds : List ℕ} {buf : List ℤ}
       unfolding check_row
       number-closed y = row-closed here s.row (stop-comes stop q) stop.kept (λ refusal. by_number refusal (lines_in K kinds' buf' s.tally.lines.0) s.t.0) refl scratch o scratch' (rw y at w)
 
-    module _ {g : ℤ} (q : s.ending ≡ Ending.ClosesStride g) (w : EndedBy (λ refusal. by_stride refusal (lines_in K kinds' buf' s.tally.lines.0) s.t.0 (nat_abs g)) scratch o scratch' e) where
+    module _ {g : ℕ} (q : s.ending ≡ Ending.ClosesStride g) (w : EndedBy (λ refusal. by_stride refusal (lines_in K kinds' buf' s.tally.lines.0) s.t.0 g) scratch o scratch' e) where
       pub stride-refused : {f : BranchFault} → (x : Refusal) × (e ≡ Err x) × (f ≡ refused_row s here x) → ChecksBranch K p at here kinds buf t scratch o kinds' buf' scratch' (Err f)
       unfolding check_row
-      stride-refused (x, y, z) = rw z (row-refused here s.row (stop-comes stop q) stop.kept (λ refusal. by_stride refusal (lines_in K kinds' buf' s.tally.lines.0) s.t.0 (nat_abs g)) refl scratch o scratch' (rw y at w))
+      stride-refused (x, y, z) = rw z (row-refused here s.row (stop-comes stop q) stop.kept (λ refusal. by_stride refusal (lines_in K kinds' buf' s.tally.lines.0) s.t.0 g) refl scratch o scratch' (rw y at w))
 
       pub stride-closed : {o' : ℕ} → e ≡ Ok o' → ChecksBranch K p at here kinds buf t scratch o kinds' buf' scratch' (Ok (closed_by s o' t))
       unfolding check_row
-      stride-closed y = row-closed here s.row (stop-comes stop q) stop.kept (λ refusal. by_stride refusal (lines_in K kinds' buf' s.tally.lines.0) s.t.0 (nat_abs g)) refl scratch o scratch' (rw y at w)
+      stride-closed y = row-closed here s.row (stop-comes stop q) stop.kept (λ refusal. by_stride refusal (lines_in K kinds' buf' s.tally.lines.0) s.t.0 g) refl scratch o scratch' (rw y at w)
 
   -- ---- a row that opens branches
   module _ (here : Position) {row : rules.Row} {number a next : ℕ} {u : Tally} (m : Comes K p at kinds buf t kinds' buf' row number a next u) (k : LinesKept K t.lines.0 kinds buf kinds' buf') where

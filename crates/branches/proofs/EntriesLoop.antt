@@ -36,7 +36,7 @@ use Rattle.answers.specs.Refusals.{fault}
 use Rattle.steps.specs.declared.Stepped.{Stepped}
 use Rattle.steps.specs.declared.Stepped.TheVariants.{Made, Claimed, Strengthens, ClosesNumber, ClosesStride, Rounds, Splits}
 use Rattle.branches.specs.Spare.{lines_left, Spare}
-use Rattle.branches.specs.Branches.{entries_from, Comes, MultiplierOf, row_of, unclosed, Stopped}
+use Rattle.branches.specs.Branches.{entries_from, Comes, row_of, unclosed, Stopped}
 use Rattle.branches.specs.declared.branch.BranchFault.{BranchFault}
 use Rattle.branches.specs.declared.branch.Ending.{Ending}
 use Rattle.branches.proofs.Spare.{lines-fewer, lines-starts, spare-less}
@@ -157,24 +157,24 @@ module _ {K : ℕ} {p : List ℕ} {at : ℕ} {kinds₀ : List ℕ} {buf₀ : Lis
 
     -- The row ends the branch or opens others.
     module _ (here : Position) {u : Tally} {i : LineNumber} where
-      stops : (d : Ending) → SameChecked (field_checked K kinds buf t made tag (take len (drop start p))) (row_left K kinds buf t (row_of d i.0)) → u ≡ more_rows t → (edition t.edition).line_width ≤ len → MultiplierOf d
+      stops : (d : Ending) → SameChecked (field_checked K kinds buf t made tag (take len (drop start p))) (row_left K kinds buf t (row_of d i.0)) → u ≡ more_rows t → (edition t.edition).line_width ≤ len
           → Stopped K p at here kinds₀ buf₀ t₀ kinds' buf' (Ok (record { ending = d; t = i; row = t.rows; at = a; next = next; tally = u }))
-      stops d q eu l w = record { kept = all-kept; by = (comes q eu l, w) }
+      stops d q eu l = record { kept = all-kept; by = comes q eu l }
 
       pub going-strengthens : r ≡ Ok (Strengthens u i) → Stopped K p at here kinds₀ buf₀ t₀ kinds' buf' (Ok (record { ending = Ending.Strengthens; t = i; row = t.rows; at = a; next = next; tally = u }))
-      going-strengthens e = let y = rw e at x in stops Ending.Strengthens y.by.0 y.by.1 (rw e at long) tt
+      going-strengthens e = let y = rw e at x in stops Ending.Strengthens y.by.0 y.by.1 (rw e at long)
 
       pub going-number : r ≡ Ok (ClosesNumber u i) → Stopped K p at here kinds₀ buf₀ t₀ kinds' buf' (Ok (record { ending = Ending.ClosesNumber; t = i; row = t.rows; at = a; next = next; tally = u }))
-      going-number e = let y = rw e at x in stops Ending.ClosesNumber y.by.0 y.by.1 (rw e at long) tt
+      going-number e = let y = rw e at x in stops Ending.ClosesNumber y.by.0 y.by.1 (rw e at long)
 
-      pub going-stride : {h : ℤ} → r ≡ Ok (ClosesStride u i h) → Stopped K p at here kinds₀ buf₀ t₀ kinds' buf' (Ok (record { ending = Ending.ClosesStride h; t = i; row = t.rows; at = a; next = next; tally = u }))
-      going-stride {h} e = let y = rw e at x in stops (Ending.ClosesStride h) y.by.0 y.by.1 (rw e at long) y.by.2
+      pub going-stride : {h : ℕ} → r ≡ Ok (ClosesStride u i h) → Stopped K p at here kinds₀ buf₀ t₀ kinds' buf' (Ok (record { ending = Ending.ClosesStride h; t = i; row = t.rows; at = a; next = next; tally = u }))
+      going-stride {h} e = let y = rw e at x in stops (Ending.ClosesStride h) y.by.0 y.by.1 (rw e at long)
 
-      pub going-rounds : {h : ℤ} {by : ℕ} → r ≡ Ok (Rounds u i h by) → Stopped K p at here kinds₀ buf₀ t₀ kinds' buf' (Ok (record { ending = Ending.Rounds h by; t = i; row = t.rows; at = a; next = next; tally = u }))
-      going-rounds {h} {by} e = let y = rw e at x in stops (Ending.Rounds h by) y.by.0 y.by.1 (rw e at long) y.by.2
+      pub going-rounds : {h : ℕ} {by : ℕ} → r ≡ Ok (Rounds u i h by) → Stopped K p at here kinds₀ buf₀ t₀ kinds' buf' (Ok (record { ending = Ending.Rounds h by; t = i; row = t.rows; at = a; next = next; tally = u }))
+      going-rounds {h} {by} e = let y = rw e at x in stops (Ending.Rounds h by) y.by.0 y.by.1 (rw e at long)
 
       pub going-splits : r ≡ Ok (Splits u i) → Stopped K p at here kinds₀ buf₀ t₀ kinds' buf' (Ok (record { ending = Ending.Splits; t = i; row = t.rows; at = a; next = next; tally = u }))
-      going-splits e = let y = rw e at x in stops Ending.Splits y.by.0 y.by.1 (rw e at long) tt
+      going-splits e = let y = rw e at x in stops Ending.Splits y.by.0 y.by.1 (rw e at long)
 
 pub going_start : {K : ℕ} {p : List ℕ} {at : ℕ} {kinds : List ℕ} {buf : List ℤ} {t : Tally}
     → Ready t.edition K kinds buf t.lines.0 × Spare t.edition K (t.lines.0 + lines_left t.edition p at) kinds buf → Going K p at kinds buf t kinds buf at t false

@@ -9,7 +9,7 @@ use native.Mathlib.Nat.{eq-zero-or-pos}
 use native.Mathlib.Omega.{arith}
 use lib.Dec.{ltb}
 use borrow.Author.Tests.{lt-ltb, le-ltb}
-use lib.IntN.{ℤ, nat_abs}
+use lib.IntN.{ℤ, pos}
 use lib.ListN.{length}
 use Rattle.forms.specs.Edition.{edition, edition1, newest_edition}
 use Rattle.forms.proofs.Editions.{lines-most}
@@ -33,7 +33,6 @@ use Rattle.lines.proofs.Branch.{inequality-byte}
 use Rattle.lines.specs.Ready.{LinesKept}
 use Rattle.lines.proofs.Keeping.{kept_refl, kept_trans}
 use Rattle.tally.specs.declared.Tally.{Tally}
-use Rattle.entries.specs.Entries.{Multiplies}
 use Rattle.closes.proofs.Ending.{numbered, divisor}
 use Rattle.openings.specs.Opening.{in_turn, start_of, from_branch, Longer, RoundsBy, stride_part, RoundedStarts}
 use Rattle.openings.proofs.Starting.{starts, start-form, start-numbered}
@@ -78,8 +77,8 @@ module _ {K n by : ℕ} {p : List ℕ} {kinds : List ℕ} {buf : List ℤ} {t : 
   template-place = (omega (arith, d.line, d.space, lines-most t.edition), d.ready.branch.constants)
 
   module _ {x : ℕ} (e : x ≡ i * size K + (K + 1)) where
-    pub template-asked : {z : ℤ} {by' : ℕ} → Multiplies (nat_abs z) z → RoundsBy (nat_abs z) by' → (Numbered K buf x × Divisor z) × (0 ≤ scratch_limit)
-    template-asked w q = ((numbered d.ready d.line e, divisor w q.stride), omega arith)
+    pub template-asked : {g by' : ℕ} {z : ℤ} → z ≡ pos g → g < 65536 → RoundsBy g by' → Numbered K buf x × Divisor z
+    template-asked w few q = (numbered d.ready d.line e, divisor w few q.stride)
 
     -- It is that of the same line in each turn.
     pub template-kept : {g : ℕ} {out template : List ℕ} {r : ℕ} → length out ≡ 75 → Puts out 0 (g divides reduced g (form_in K buf x)) template r
@@ -92,11 +91,11 @@ module _ {K n by : ℕ} {p : List ℕ} {kinds : List ℕ} {buf : List ℤ} {t : 
 
 -- ---- the branch of j
 module _ {K n by : ℕ} {p : List ℕ} {kinds : List ℕ} {buf : List ℤ} {t : Tally} {i at o : ℕ} (d : Opened K n by by kinds buf t i p at o) {j : ℕ} (hj : j < by) where
-  pub rounded-asked : {z : ℤ} {by' : ℕ} → Multiplies (nat_abs z) z → RoundsBy (nat_abs z) by' → {template : List ℕ} → StrideTemplate K (nat_abs z) (line_in K kinds buf i).t_A template
-      → (LineStart K buf i n by by × (n < length kinds) × (j < by)) × ((Divisor z × (o + kept_back ≤ scratch_limit)) × StrideTemplate K (nat_abs z) (line_in K kinds buf i).t_A template)
-  rounded-asked w q e =
+  pub rounded-asked : {g by' : ℕ} → RoundsBy g by' → {template : List ℕ} → StrideTemplate K g (line_in K kinds buf i).t_A template
+      → (LineStart K buf i n by by × (n < length kinds) × (j < by)) × (((2 ≤ g) × (o + kept_back ≤ scratch_limit)) × StrideTemplate K g (line_in K kinds buf i).t_A template)
+  rounded-asked q e =
       let s : LineStart K buf i n by by × (n < length kinds) = start-asked d (omega arith) (omega arith) in
-      ((s.0, s.1, hj), ((divisor w q.stride, room-left d), e))
+      ((s.0, s.1, hj), ((q.stride, room-left d), e))
 
   rounded-start : LineStart K buf i n by j
   rounded-start = (start-asked d {u = by} {w = j} (omega arith) (omega arith)).0

@@ -1,6 +1,6 @@
 -- The entries of a branch, by how the code finds that they end. docs/FORMAT.md, "The order of tests". Assumes nothing.
 use Rattle.std.specs.declared.result.Result as code
-use Rattle.std.specs.Prelude.{◌≡◌, Ok, Err, List, ℕ, suc, ◌+◌, ◌≤◌, ℤ, nat_abs}
+use Rattle.std.specs.Prelude.{◌≡◌, Ok, Err, List, ℕ, suc, ◌+◌, ◌≤◌, ℤ}
 use Rattle.std.proofs.Math.Option.{Option, none}
 use Rattle.forms.specs.Edition.{edition}
 use Rattle.calculus.specs.Rules as rules
@@ -15,7 +15,6 @@ use Rattle.proof.specs.Check.{Closing, Checker, check_row, check_entries}
 use Rattle.lines.specs.Buffer.{lines_in}
 use Rattle.lines.specs.Ready.{Ready, LinesKept}
 use Rattle.tally.specs.declared.Tally.{Tally}
-use Rattle.entries.specs.Entries.{Multiplies}
 use Rattle.branches.specs.Spare.{lines_left}
 use Rattle.branches.specs.declared.branch.BranchFault.{BranchFault}
 use Rattle.branches.specs.declared.branch.Ending.{Ending}
@@ -38,18 +37,13 @@ pub record Comes (K : ℕ) (p : List ℕ) (at : ℕ) (kinds : List ℕ) (buf : L
   pub few : t'.lines.0 + suc (lines_left t.edition p next) ≤ t.lines.0 + lines_left t.edition p at
   pub unread : unread_bytes p next + 4 ≤ unread_bytes p at
 
--- The row of line i, and what is known of its multiplier.
+-- The row of line i.
 abbrev pub row_of : Ending → (i : ℕ) → rules.Row
 row_of Ending.Strengthens i = rules.Strengthen i
 row_of Ending.ClosesNumber i = rules.CloseNumber i
-row_of (Ending.ClosesStride g) i = rules.CloseStride i (nat_abs g)
-row_of (Ending.Rounds g by) i = rules.Round i (nat_abs g) by
+row_of (Ending.ClosesStride g) i = rules.CloseStride i g
+row_of (Ending.Rounds g by) i = rules.Round i g by
 row_of Ending.Splits i = rules.Split i
-
-abbrev pub MultiplierOf : Ending → Type 0
-MultiplierOf (Ending.ClosesStride g) = Multiplies (nat_abs g) g
-MultiplierOf (Ending.Rounds g by) = Multiplies (nat_abs g) g
-MultiplierOf _ = Unit {0}
 
 -- The branch is not closed where its fields end.
 abbrev pub unclosed : End → RowNumber → Position → BranchFault
@@ -60,7 +54,7 @@ unclosed (End.Ends at) rows here = record { fault = fault Refusal.BranchesOpen a
 abbrev pub StoppedBy : (K : ℕ) (p : List ℕ) (at : ℕ) (here : Position) (kinds : List ℕ) (buf : List ℤ) (t : Tally) (kinds' : List ℕ) (buf' : List ℤ) → code.Result Stop BranchFault → Type 0
 StoppedBy K p at here kinds buf t kinds' buf' (Err f) =
     (deeper : Option Checker) → entries_from K p at kinds buf t here deeper ≡ refused (refusal_at f.position f.rows.0 f.fault.place (number_of f.fault.refusal))
-StoppedBy K p at here kinds buf t kinds' buf' (Ok s) = Comes K p at kinds buf t kinds' buf' (row_of s.ending s.t.0) s.row.0 s.at s.next s.tally × MultiplierOf s.ending
+StoppedBy K p at here kinds buf t kinds' buf' (Ok s) = Comes K p at kinds buf t kinds' buf' (row_of s.ending s.t.0) s.row.0 s.at s.next s.tally
 
 pub record Stopped (K : ℕ) (p : List ℕ) (at : ℕ) (here : Position) (kinds : List ℕ) (buf : List ℤ) (t : Tally) (kinds' : List ℕ) (buf' : List ℤ) (r : code.Result Stop BranchFault) : Type 0 where
   pub kept : LinesKept K t.lines.0 kinds buf kinds' buf'

@@ -2,9 +2,8 @@
 ghost use Rattle.lines.specs.Ready.{Ready};
 ghost use Rattle.branches.specs.Spare.{lines_left, Spare};
 ghost use Rattle.branches.specs.Branches.{unclosed, Stopped};
-ghost use Rattle.std.specs.Prelude.{◌≡◌, ◌+◌, nat_abs, Ok};
+ghost use Rattle.std.specs.Prelude.{◌≡◌, ◌+◌, Ok};
 ghost use Rattle.answers.specs.Answers.{position};
-ghost use Rattle.entries.specs.Entries.{Multiplies};
 ghost use Rattle.openings.specs.Opening.{RoundsBy};
 ghost use Rattle.branches.specs.Branching.{resumed_by, refused_row, closed_by, answer_of, Started, ChecksBranch, Opened, FirstStands, RoundingChecked, RoundedChecked, SplitOpened, SplitChecked};
 
@@ -49,8 +48,8 @@ impl BranchFault {
 pub enum Ending {
     Strengthens,
     ClosesNumber,
-    ClosesStride { g: i64 },
-    Rounds { g: i64, by: u16 },
+    ClosesStride { g: u16 },
+    Rounds { g: u16, by: u16 },
     Splits,
 }
 
@@ -336,13 +335,13 @@ fn check_rounding(
     tally: Tally,
     t: LineNumber,
     n: LineNumber,
-    g: i64,
+    g: u16,
     by: u16,
     scratch: &mut [u8],
 ) -> Result<Closed, BranchFault>
     requires opened { Opened here.k n.0 by by kinds.old lines.old tally t.0 p.now here.at here.o × FirstStands tally.edition here.k n.0 by by kinds.old lines.old t.0 }
-    requires multiplies { Multiplies (nat_abs g) g × RoundsBy (nat_abs g) by }
-    ensures { RoundingChecked here.k row.0 n.0 p.now here.at kinds.old lines.old tally t.0 (nat_abs g) by scratch.old here.o kinds.new lines.new scratch.new result }
+    requires rounds { RoundsBy g by }
+    ensures { RoundingChecked here.k row.0 n.0 p.now here.at kinds.old lines.old tally t.0 g by scratch.old here.o kinds.new lines.new scratch.new result }
 {
     let head = put_pair(scratch, here.o, 0x31);
     let from = here.on(here.at, head);
@@ -375,19 +374,19 @@ fn check_rounded(
     tally: Tally,
     t: LineNumber,
     n: LineNumber,
-    g: i64,
+    g: u16,
     by: u16,
     scratch: &mut [u8],
 ) -> Result<Closed, BranchFault>
     requires opened { Opened here.k n.0 by by kinds.old lines.old tally t.0 p.now here.at here.o }
-    requires multiplies { Multiplies (nat_abs g) g × RoundsBy (nat_abs g) by }
-    ensures { RoundedChecked here.k row.0 n.0 p.now here.at kinds.old lines.old tally t.0 (nat_abs g) by 0 scratch.old here.o kinds.new lines.new scratch.new result }
+    requires rounds { RoundsBy g by }
+    ensures { RoundedChecked here.k row.0 n.0 p.now here.at kinds.old lines.old tally t.0 g by 0 scratch.old here.o kinds.new lines.new scratch.new result }
 {
     let k = here.k;
     // Ej of j = 0; the others differ from it in their last four bytes.
     let mut template = [0u8; 75];
     let ta = place_a(t, k);
-    put_stride(lines, ta, k, g, &mut template, 0);
+    put_stride(lines, ta, k, i64::from(g), &mut template, 0);
     let mut end = Closed {
         at: here.at,
         o: here.o,

@@ -7,7 +7,7 @@ use Prim.Native.Nat.{ℕ, ◌+◌, ◌*◌, ◌-◌, ◌≤◌, ◌<◌}
 use native.Mathlib.Nat.{eq-zero-or-pos}
 use native.Mathlib.Omega.{arith}
 use lib.ListN.{get_or}
-use lib.IntN.{ℤ, nat_abs}
+use lib.IntN.{ℤ, pos}
 use borrow.Author.Tests.{lt-leb}
 use Rattle.integers.proofs.Differences.{ints}
 use Rattle.forms.specs.Forms.{=0, literal, ◌divides◌}
@@ -23,7 +23,6 @@ use Rattle.lines.specs.Buffer.{size, line_in, lines_in}
 use Rattle.lines.proofs.Lines.{before}
 use Rattle.lines.specs.Ready.{KindRead, Ready}
 use Rattle.tally.specs.declared.Tally.{Tally}
-use Rattle.entries.specs.Entries.{Multiplies}
 use Rattle.closes.specs.Closing.{ByNumber}
 use Rattle.closes.specs.Striding.{ByStride}
 use Rattle.closes.specs.Ends.{EndedBy}
@@ -41,8 +40,8 @@ numbered {K = K} {buf = buf} {n = n} {i = i} r h e =
     }
 
 -- A stride that the tests let pass can be written.
-pub divisor : {g : ℤ} → Multiplies (nat_abs g) g → 2 ≤ nat_abs g → Divisor g
-divisor m l = record { low = rw m.is (omega (ints, l)); held = held (record { abs = omega (arith, m.within.abs) }) }
+pub divisor : {g : ℕ} {z : ℤ} → z ≡ pos g → g < 65536 → 2 ≤ g → Divisor z
+divisor e few l = rw e (record { low = omega (ints, l); held = held (record { abs = omega arith }) })
 
 -- the refusals at any row, to compare two results
 some-refusal : ℕ → Answer

@@ -1,15 +1,12 @@
 -- The tests of a close by stride, one way after the other. Assumes nothing.
-use mathlib.Core.Path.{◌≡◌, refl, sym, ◌∙◌}
-use mathlib.Core.Bool.{Bool, true, false, not}
+use mathlib.Core.Path.{◌≡◌, sym}
+use mathlib.Core.Bool.{Bool, true, false}
 use mathlib.Core.List.{List}
-use Prim.Native.Nat.{ℕ, zero, suc, ◌+◌, ◌*◌, ◌≤◌, ◌<◌}
-use native.Mathlib.Omega.{arith}
+use Prim.Native.Nat.{ℕ, ◌+◌, ◌*◌, ◌≤◌, ◌<◌}
 use lib.Dec.{leb}
 use lib.ListN.{get_or}
-use lib.IntN.{ℤ, pos, negsuc, nat_abs}
+use lib.IntN.{ℤ, pos}
 use lib.Signed.{◌≤ℤ◌}
-use borrow.Author.Tests.{le-leb, lt-leb, eqb-true, eqb-false, leb-true}
-use Rattle.integers.specs.Linear.{eq_z}
 use Rattle.integers.proofs.Differences.{ints}
 use Rattle.integers.specs.Divides.{divb}
 use Rattle.forms.specs.Forms.{=0, every}
@@ -18,38 +15,14 @@ use Rattle.proof.specs.Rows.{is, line_at, by_stride}
 use Rattle.lines.specs.Parts.{part}
 use Rattle.lines.specs.Buffer.{size, line_in}
 use Rattle.lines.proofs.Lines.{line-at, line-past}
-use Rattle.lines.proofs.Tests.{zero-abs, some-abs}
 use Rattle.tally.specs.declared.Tally.{Tally}
-use Rattle.entries.specs.Entries.{Multiplies}
 use Rattle.closes.specs.Striding.{ByStride}
 use Rattle.std.specs.Prelude.{Ok, Err}
 use Rattle.answers.specs.declared.refusals.Refusal.{Refusal}
 
 -- ---- g is 2 at least
-one-abs : (z : ℤ) {b : Bool} → b ≡ eq_z z (pos 1) → b ≡ true → nat_abs z ≡ 1
-one-abs (pos n) e h = eqb-true n 1 (sym e ∙ h)
-one-abs (negsuc n) e h = absurd (let z : ◌≡◌ {A = ℕ} 0 1 = cc in omega arith)
-
-not-one : (n : ℕ) {z : ℤ} {b : Bool} → z ≡ pos n → b ≡ eq_z z (pos 1) → b ≡ false → n ≡ 1 → ⊥
-not-one n q e h o = eqb-false n 1 (sym (rw q at e) ∙ h) o
-
-pub stride-zero : (z : ℤ) {b : Bool} → b ≡ eq_z z (pos 0) → b ≡ true → false ≡ leb 2 (nat_abs z)
-stride-zero z e h = sym (lt-leb 2 (nat_abs z) (omega (arith, zero-abs z e h)))
-
-pub stride-one : (z : ℤ) {b c : Bool} → Multiplies (nat_abs z) z → b ≡ eq_z z (pos 0) → b ≡ false → c ≡ eq_z z (pos 1) → not c ≡ leb 2 (nat_abs z)
-stride-one z {c = true} m e h q = sym (lt-leb 2 (nat_abs z) (omega (arith, one-abs z q refl)))
-stride-one z {c = false} m e h q =
-    let n = not-one (nat_abs z) m.is q refl in
-    let s = some-abs z e h in
-    sym (le-leb 2 (nat_abs z) (two (nat_abs z) s n))
-  where
-    two : (n : ℕ) → 1 ≤ n → (n ≡ 1 → ⊥) → 2 ≤ n
-    two zero s k = omega arith
-    two (suc zero) s k = absurd (k refl)
-    two (suc (suc n)) s k = omega arith
-
-pub at-least-two : (z : ℤ) {b : Bool} → Multiplies (nat_abs z) z → b ≡ leb 2 (nat_abs z) → b ≡ true → pos 2 ≤ℤ z
-at-least-two z m e h = rw m.is (let l : 2 ≤ nat_abs z = leb-true 2 (nat_abs z) (sym e ∙ h) in omega (ints, l))
+pub at-least-two : {g : ℕ} {z : ℤ} → z ≡ pos g → 2 ≤ g → pos 2 ≤ℤ z
+at-least-two e l = rw e (omega (ints, l))
 
 -- ---- the tests
 module _ (K : ℕ) (kinds : List ℕ) (buf : List ℤ) (t : Tally) (i g : ℕ) where

@@ -3,7 +3,6 @@ ghost use Rattle.std.specs.Prelude.{◌≡◌, leb, nat_abs};
 ghost use Rattle.forms.specs.Flat.{kind_of};
 ghost use Rattle.proof.specs.Rows.{fails};
 ghost use Rattle.lines.specs.Ready.{Ready};
-ghost use Rattle.entries.specs.Entries.{Multiplies};
 ghost use Rattle.closes.specs.Closing.{ByNumber};
 ghost use Rattle.closes.specs.Striding.{ByStride};
 
@@ -51,29 +50,17 @@ pub fn test_number(
     Ok(())
 }
 
-// A stride is 2 at least.
-pub fn is_stride(g: i64) -> bool
-    requires { Multiplies (nat_abs g) g }
-    ensures { result ≡ leb 2 (nat_abs g) }
-{
-    if integers::is_zero(g) {
-        return false;
-    }
-    !integers::same(g, 1)
-}
-
 // Close by stride. 10, 11, 12, 15.
 pub fn test_stride(
     lines: &[i32],
     kinds: &[u8],
     tally: Tally,
     i: LineNumber,
-    g: i64,
+    g: u16,
     k: usize,
 ) -> Result<(), Refusal>
-    requires ready { Ready tally.edition k kinds.now lines.now tally.lines.0 }
-    requires multiplies { Multiplies (nat_abs g) g }
-    ensures { ByStride k kinds.now lines.now tally i.0 (nat_abs g) result }
+    requires { Ready tally.edition k kinds.now lines.now tally.lines.0 }
+    ensures { ByStride k kinds.now lines.now tally i.0 g result }
 {
     if !tally.is_there(i) {
         return Err(Refusal::NoSuchLine);
@@ -81,15 +68,16 @@ pub fn test_stride(
     if kind_of(kinds, i) != EQUALITY {
         return Err(Refusal::WrongLineKind);
     }
-    if !is_stride(g) {
+    if g < 2 {
         return Err(Refusal::WrongMultiplier);
     }
+    let stride = i64::from(g);
     let t = lines::place(i, k);
-    if !lines::all_divisible(lines, t, k, g) {
+    if !lines::all_divisible(lines, t, k, stride) {
         return Err(Refusal::ConditionNotMet);
     }
     let d = integers::number(lines, t + k);
-    if integers::divides(g, d) {
+    if integers::divides(stride, d) {
         return Err(Refusal::ConditionNotMet);
     }
     Ok(())

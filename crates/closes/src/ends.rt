@@ -4,7 +4,6 @@ ghost use Rattle.formula_write.specs.Writing.{scratch_limit};
 ghost use Rattle.proof.specs.Rows.{by_number, by_stride};
 ghost use Rattle.lines.specs.Buffer.{lines_in};
 ghost use Rattle.lines.specs.Ready.{Ready};
-ghost use Rattle.entries.specs.Entries.{Multiplies};
 ghost use Rattle.closes.specs.Ends.{EndedBy};
 
 use crate::closing::{test_number, test_stride};
@@ -40,17 +39,16 @@ pub fn close_stride(
     kinds: &[u8],
     tally: Tally,
     i: LineNumber,
-    g: i64,
+    g: u16,
     k: usize,
     scratch: &mut [u8],
     o: usize,
 ) -> Result<usize, Refusal>
     requires ready { Ready tally.edition k kinds.now lines.now tally.lines.0 }
-    requires multiplies { Multiplies (nat_abs g) g }
     requires o_le_scratch_limit { o ≤ scratch_limit }
-    ensures { EndedBy (λ refusal. by_stride refusal (lines_in k kinds.now lines.now tally.lines.0) i.0 (nat_abs g)) scratch.old o scratch.new result }
+    ensures { EndedBy (λ refusal. by_stride refusal (lines_in k kinds.now lines.now tally.lines.0) i.0 g) scratch.old o scratch.new result }
 {
     test_stride(lines, kinds, tally, i, g, k)?;
     let ta = lines::place_a(i, k);
-    Ok(put_stride(lines, ta, k, g, scratch, o))
+    Ok(put_stride(lines, ta, k, i64::from(g), scratch, o))
 }

@@ -1,5 +1,5 @@
 -- What the code answers of a field, as the entry that the definitions give. Assumes nothing.
-use Rattle.std.specs.Prelude.{◌≡◌, Bool, true, List, ℕ, ◌*◌, ◌≤◌, length, drop, ℤ, pos, Ok, Err, IfOk}
+use Rattle.std.specs.Prelude.{◌≡◌, Bool, true, List, ℕ, ◌*◌, ◌≤◌, length, drop, Ok, Err, IfOk}
 use Rattle.std.specs.declared.result.Result as code
 use Rattle.integers.specs.Magnitude.{Within}
 use Rattle.forms.specs.Edition.{edition, edition1, multiplier_range}
@@ -12,11 +12,6 @@ use Rattle.number_bytes.specs.Numbers.{form_from, form_width}
 use Rattle.proof.specs.Entries.{entry}
 use Rattle.entries.specs.declared.Entry.{Entry}
 use Rattle.entries.specs.declared.Entry.TheVariants.{Combine, Reduce, Scale, Strengthen, CloseNumber, CloseStride, Round, Split, Claim}
-
--- The number n as a factor of the machine.
-pub record Multiplies (n : ℕ) (z : ℤ) : Type 0 where
-  pub is : z ≡ pos n
-  pub within : Within multiplier_range z
 
 -- The entry that an answer stands for, of a field with these contents.
 abbrev pub stated : (K : ℕ) → List ℕ → Entry → rules.Entry

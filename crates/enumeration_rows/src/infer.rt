@@ -1,8 +1,7 @@
 // The rows of short proofs, by number, applied: the line that an inference makes, and whether a close holds.
-ghost use Rattle.std.specs.Prelude.{◌≡◌, ◌+◌, ◌%◌, ◌≤◌, ◌<◌, nat_abs};
+ghost use Rattle.std.specs.Prelude.{◌≡◌, ◌+◌, ◌%◌, ◌≤◌, ◌<◌};
 ghost use Rattle.calculus.specs.Rules.{CloseStride};
 ghost use Rattle.enumeration.specs.Numbering.{inference_count, close_count, signed_factor, close_at};
-ghost use Rattle.entries.specs.Entries.{Multiplies};
 ghost use Rattle.enumeration_rows.specs.Applied.{tally_of, SearchRoom, Infers, CloseHolds};
 
 use closes::closing::{test_number, test_stride};
@@ -81,11 +80,10 @@ pub fn infer(lines: &mut [i32], kinds: &mut [u8], n: usize, j: usize, k: usize) 
 }
 
 // Whether line i closes by stride g. (Called with literals, so that the compiler divides by known numbers.)
-fn holds_stride(lines: &[i32], kinds: &[u8], tally: Tally, i: usize, g: i64, k: usize) -> bool
+fn holds_stride(lines: &[i32], kinds: &[u8], tally: Tally, i: usize, g: u16, k: usize) -> bool
     requires search_room { SearchRoom k 0 kinds.now lines.now tally }
     requires i_bound { i < 65536 }
-    requires multiplies { Multiplies (nat_abs g) g }
-    ensures { CloseHolds k kinds.now lines.now tally.lines.0 (CloseStride i (nat_abs g)) result }
+    ensures { CloseHolds k kinds.now lines.now tally.lines.0 (CloseStride i g) result }
 {
     test_stride(lines, kinds, tally, line(i), g, k).is_ok()
 }

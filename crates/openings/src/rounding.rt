@@ -2,16 +2,14 @@
 ghost use Rattle.std.specs.Prelude.{◌≡◌, ◌+◌, ◌≤◌, ◌<◌, pos, nat_abs, ◌≤ℤ◌, length};
 ghost use Rattle.integers.specs.Magnitude.{Within};
 ghost use Rattle.forms.specs.Edition.{edition1};
-ghost use Rattle.formula_write.specs.Writing.{scratch_limit, Divisor, StrideTemplate};
+ghost use Rattle.formula_write.specs.Writing.{scratch_limit, StrideTemplate};
 ghost use Rattle.proof.specs.Rows.{undivided};
 ghost use Rattle.lines.specs.Buffer.{line_in, LineStart};
 ghost use Rattle.lines.specs.Ready.{Ready};
-ghost use Rattle.entries.specs.Entries.{Multiplies};
 ghost use Rattle.openings.specs.Opening.{Roundable, RoundOpens, RoundedStarts};
 
 use crate::opening::open_step;
 use answers::refusals::Refusal;
-use closes::closing::is_stride;
 use forms::{LineNumber, ROUNDING};
 use formula_write::put_front;
 use line_starts::start_line;
@@ -39,13 +37,12 @@ fn test_round(
     kinds: &[u8],
     tally: Tally,
     i: LineNumber,
-    g: i64,
+    g: u16,
     by: u16,
     k: usize,
 ) -> Result<(), Refusal>
-    requires ready { Ready tally.edition k kinds.now lines.now tally.lines.0 }
-    requires multiplies { Multiplies (nat_abs g) g }
-    ensures { Roundable k kinds.now lines.now tally i.0 (nat_abs g) by result }
+    requires { Ready tally.edition k kinds.now lines.now tally.lines.0 }
+    ensures { Roundable k kinds.now lines.now tally i.0 g by result }
 {
     if !tally.is_there(i) {
         return Err(Refusal::NoSuchLine);
@@ -53,18 +50,19 @@ fn test_round(
     if kind_of(kinds, i) != INEQUALITY {
         return Err(Refusal::WrongLineKind);
     }
-    if !is_stride(g) {
+    if g < 2 {
         return Err(Refusal::WrongMultiplier);
     }
     if by == 0 || by > ROUNDING {
         return Err(Refusal::WrongMultiplier);
     }
+    let stride = i64::from(g);
     let t = lines::place(i, k);
-    if !lines::all_divisible(lines, t, k, g) {
+    if !lines::all_divisible(lines, t, k, stride) {
         return Err(Refusal::ConditionNotMet);
     }
     let d = integers::number(lines, t + k);
-    if !is_undivided(g, d, by) {
+    if !is_undivided(stride, d, by) {
         return Err(Refusal::ConditionNotMet);
     }
     Ok(())
@@ -76,13 +74,12 @@ pub fn round(
     kinds: &mut [u8],
     tally: Tally,
     i: LineNumber,
-    g: i64,
+    g: u16,
     by: u16,
     k: usize,
 ) -> Result<Tally, Refusal>
-    requires ready { Ready tally.edition k kinds.old lines.old tally.lines.0 }
-    requires multiplies { Multiplies (nat_abs g) g }
-    ensures { RoundOpens k kinds.old lines.old tally i.0 (nat_abs g) by kinds.new lines.new result }
+    requires { Ready tally.edition k kinds.old lines.old tally.lines.0 }
+    ensures { RoundOpens k kinds.old lines.old tally i.0 g by kinds.new lines.new result }
 {
     test_round(lines, kinds, tally, i, g, by, k)?;
     open_step(lines, kinds, tally, i, by, by, k)
@@ -96,7 +93,7 @@ pub fn start_rounded(
     i: LineNumber,
     n: LineNumber,
     k: usize,
-    g: i64,
+    g: u16,
     by: u16,
     j: u16,
     others: bool,
@@ -105,12 +102,12 @@ pub fn start_rounded(
     o: usize,
 ) -> usize
     requires line_start { LineStart k lines.old i.0 n.0 by by × (n.0 < length kinds.old) × (j < by) }
-    requires divisor { Divisor g × (o + 81 ≤ scratch_limit) }
-    requires stride_template { StrideTemplate k (nat_abs g) (line_in k kinds.old lines.old i.0).t_A template.now }
-    ensures { RoundedStarts k i.0 n.0 (nat_abs g) by j others kinds.old lines.old scratch.old o kinds.new lines.new scratch.new result }
+    requires divisor { (2 ≤ g) × (o + 81 ≤ scratch_limit) }
+    requires stride_template { StrideTemplate k g (line_in k kinds.old lines.old i.0).t_A template.now }
+    ensures { RoundedStarts k i.0 n.0 g by j others kinds.old lines.old scratch.old o kinds.new lines.new scratch.new result }
 {
     start_line(lines, kinds, i, n, k, INEQUALITY, by, j);
     let ta = place_a(n, k);
     let d = integers::number(lines, ta + k);
-    put_front(template, d, k, g, others, scratch, o)
+    put_front(template, d, k, i64::from(g), others, scratch, o)
 }

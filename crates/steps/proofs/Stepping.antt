@@ -3,11 +3,10 @@ use mathlib.Core.Path.{◌≡◌, refl, ◌∙◌}
 use mathlib.Core.Bool.{Bool, true, false, cond}
 use mathlib.Core.List.{List}
 use mathlib.Core.Option.{some}
-use Prim.Native.Nat.{ℕ, suc, ◌-◌, ◌≤◌, ◌<◌}
+use Prim.Native.Nat.{ℕ, suc, ◌-◌, ◌≤◌}
 use native.Mathlib.Numerals.{add-one}
-use native.Mathlib.Omega.{arith}
 use lib.ListN.{length}
-use lib.IntN.{ℤ, pos}
+use lib.IntN.{ℤ}
 use borrow.Author.Tests.{lt-ltb, le-ltb}
 use Rattle.std.specs.Prelude.{Some, None, Ok, Err}
 use Rattle.std.specs.declared.result.Result as code
@@ -26,7 +25,7 @@ use Rattle.lines.proofs.Keeping.{kept_refl}
 use Rattle.tally.specs.Tally.{row_counted}
 use Rattle.tally.specs.declared.Tally.{Tally}
 use Rattle.tally.proofs.Counted.{counted-row, full-row}
-use Rattle.entries.specs.Entries.{Multiplies, stated, Entered}
+use Rattle.entries.specs.Entries.{stated, Entered}
 use Rattle.entries.specs.declared.Entry.{Entry}
 use Rattle.rows.specs.Rows.{Derives}
 use Rattle.rows.specs.Claims.{Claimed}
@@ -34,10 +33,6 @@ use Rattle.steps.specs.Steps.{EntryChecked, SameChecked, last_made, field_checke
 use Rattle.steps.specs.declared.Stepped.{Stepped}
 use Rattle.steps.specs.declared.Stepped.TheVariants.{Made, Strengthens, ClosesNumber, ClosesStride, Rounds, Splits}
 use Rattle.forms.specs.Edition.{edition}
-
--- a multiplier is a factor of the machine
-pub multiplies : {n : ℕ} → n < 65536 → Multiplies n (pos n)
-multiplies h = record { is = refl; within = record { abs = omega arith } }
 
 pub there-made : (made : Bool) (K : ℕ) (kinds : List ℕ) (buf : List ℤ) (n : ℕ) → there (last_made made K kinds buf n) ≡ made
 there-made true K kinds buf n = refl
@@ -93,8 +88,8 @@ steps-same (Ok (Made u)) a s = record { kept = s.kept; by = (same-trans a s.by.0
 steps-same (Ok Stepped.Claimed) a s = record { kept = s.kept; by = same-trans a s.by }
 steps-same (Ok (Strengthens u i)) a s = record { kept = s.kept; by = (same-trans a s.by.0, s.by.1) }
 steps-same (Ok (ClosesNumber u i)) a s = record { kept = s.kept; by = (same-trans a s.by.0, s.by.1) }
-steps-same (Ok (ClosesStride u i g)) a s = record { kept = s.kept; by = (same-trans a s.by.0, s.by.1, s.by.2) }
-steps-same (Ok (Rounds u i g by)) a s = record { kept = s.kept; by = (same-trans a s.by.0, s.by.1, s.by.2) }
+steps-same (Ok (ClosesStride u i g)) a s = record { kept = s.kept; by = (same-trans a s.by.0, s.by.1) }
+steps-same (Ok (Rounds u i g by)) a s = record { kept = s.kept; by = (same-trans a s.by.0, s.by.1) }
 steps-same (Ok (Splits u i)) a s = record { kept = s.kept; by = (same-trans a s.by.0, s.by.1) }
 
 advances : (e : ℕ) {len : ℕ} → (edition e).line_width ≤ len → (r : code.Result Stepped Refusal) → Advances e len r

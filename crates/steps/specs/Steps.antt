@@ -1,5 +1,5 @@
 -- One entry of a branch: what the definitions make of it, by the answer of the code. Assumes nothing.
-use Rattle.std.specs.Prelude.{◌≡◌, Bool, true, false, List, ℕ, ◌+◌, ◌-◌, ◌≤◌, ltb, ℤ, nat_abs, Ok, Err, IfOk}
+use Rattle.std.specs.Prelude.{◌≡◌, Bool, true, false, List, ℕ, ◌+◌, ◌-◌, ◌≤◌, ltb, ℤ, Ok, Err, IfOk}
 use Rattle.std.specs.declared.result.Result as code
 use Rattle.std.proofs.Math.Option.{Option, none, some}
 use Rattle.forms.specs.Edition.{edition, edition1}
@@ -16,7 +16,6 @@ use Rattle.lines.specs.Buffer.{line_in, lines_in}
 use Rattle.lines.specs.Ready.{LinesKept, Limited}
 use Rattle.tally.specs.Tally.{more_lines, more_rows}
 use Rattle.tally.specs.declared.Tally.{Tally}
-use Rattle.entries.specs.Entries.{Multiplies}
 use Rattle.steps.specs.declared.Stepped.{Stepped}
 use Rattle.steps.specs.declared.Stepped.TheVariants.{Made, Claimed, Strengthens, ClosesNumber, ClosesStride, Rounds, Splits}
 
@@ -45,9 +44,9 @@ StepBy f K kinds buf t kinds' buf' Claimed = SameChecked f (λ deeper next refus
 StepBy f K kinds buf t kinds' buf' (Strengthens t' i) = SameChecked f (row_left K kinds buf t (rules.Strengthen i.0)) × (t' ≡ more_rows t)
 StepBy f K kinds buf t kinds' buf' (ClosesNumber t' i) = SameChecked f (row_left K kinds buf t (rules.CloseNumber i.0)) × (t' ≡ more_rows t)
 StepBy f K kinds buf t kinds' buf' (ClosesStride t' i g) =
-    SameChecked f (row_left K kinds buf t (rules.CloseStride i.0 (nat_abs g))) × (t' ≡ more_rows t) × Multiplies (nat_abs g) g
+    SameChecked f (row_left K kinds buf t (rules.CloseStride i.0 g)) × (t' ≡ more_rows t)
 StepBy f K kinds buf t kinds' buf' (Rounds t' i g by) =
-    SameChecked f (row_left K kinds buf t (rules.Round i.0 (nat_abs g) by)) × (t' ≡ more_rows t) × Multiplies (nat_abs g) g
+    SameChecked f (row_left K kinds buf t (rules.Round i.0 g by)) × (t' ≡ more_rows t)
 StepBy f K kinds buf t kinds' buf' (Splits t' i) = SameChecked f (row_left K kinds buf t (rules.Split i.0)) × (t' ≡ more_rows t)
 
 -- The same of the code's answer.

@@ -33,12 +33,12 @@ pub enum Stepped {
     ClosesStride {
         tally: Tally,
         t: LineNumber,
-        g: i64,
+        g: u16,
     },
     Rounds {
         tally: Tally,
         t: LineNumber,
-        g: i64,
+        g: u16,
         by: u16,
     },
     Splits {
@@ -90,20 +90,11 @@ pub fn step(
         }
         Entry::CloseStride { t, g } => {
             tally.count_row()?;
-            Ok(Stepped::ClosesStride {
-                tally,
-                t,
-                g: i64::from(g),
-            })
+            Ok(Stepped::ClosesStride { tally, t, g })
         }
         Entry::Round { t, g, by } => {
             tally.count_row()?;
-            Ok(Stepped::Rounds {
-                tally,
-                t,
-                g: i64::from(g),
-                by,
-            })
+            Ok(Stepped::Rounds { tally, t, g, by })
         }
         Entry::Split { t } => {
             tally.count_row()?;

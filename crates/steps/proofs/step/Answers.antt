@@ -1,16 +1,11 @@
 -- `steps::step` meets its contract. Assumes nothing.
-use mathlib.Core.Path.{refl, ◌∙◌}
-use native.Mathlib.Omega.{arith}
-use mir.Syntax.{w64}
+use mathlib.Core.Path.{refl}
 use mir.ValLaws.{to_z-of_z}
 use Rattle.std.proofs.lemmas.Result.{err_from_is_err_and}
 use Rattle.integers.proofs.Magnitude.{within-fits}
 use Rattle.lines.proofs.Keeping.{kept_refl}
 use Rattle.tally.proofs.Counted.{counted-row}
-use Rattle.steps.proofs.Stepping.{step-refused, step_row, step-claim, row-counted, row-made, uncounted, underived, multiplies}
-use Rattle.std.specs.Prelude.{Ok}
-use lib.IntN.{pos}
-use Rattle.steps.specs.declared.Stepped.{Stepped}
+use Rattle.steps.proofs.Stepping.{step-refused, step_row, step-claim, row-counted, row-made, uncounted, underived}
 use Rattle.steps.proofs.step.Goals as goal
 
 pub returns-in_err-entry-clause-steps : goal.returns-in_err-entry-clause-steps
@@ -88,8 +83,7 @@ returns-in_err-count_row-in-CloseStride-clause-steps c = uncounted _ (rw c.in-Cl
 pub returns-in_ok-count_row-in-CloseStride-clause-steps : goal.returns-in_ok-count_row-in-CloseStride-clause-steps
 returns-in_ok-count_row-in-CloseStride-clause-steps c =
     let h = c.in_ok-count_row-in-CloseStride.ensures in
-    let m = multiplies {n = c.in-CloseStride.g} (omega arith) in
-    rw (to_z-of_z w64 c.from.result (record { sfits = c.from.type_inv }) ∙ c.from.ensures) (step_row _ (rw c.in-CloseStride.is at c.in_ok-entry.ensures) refl {r = Ok (Stepped.ClosesStride c.count_row-in-CloseStride.new.self c.in-CloseStride.t (pos c.in-CloseStride.g))} (record { kept = kept_refl; by = (row-counted _ _ _ _ _ h, (counted-row h).1, m) })).0
+    (step_row _ (rw c.in-CloseStride.is at c.in_ok-entry.ensures) refl (record { kept = kept_refl; by = (row-counted _ _ _ _ _ h, (counted-row h).1) })).0
 
 pub returns-in_err-count_row-in-Round-clause-steps : goal.returns-in_err-count_row-in-Round-clause-steps
 returns-in_err-count_row-in-Round-clause-steps c = uncounted _ (rw c.in-Round.is at c.in_ok-entry.ensures) refl c.in_err-count_row-in-Round.ensures c.from_residual-in_err-count_row-in-Round.ensures.1
@@ -97,8 +91,7 @@ returns-in_err-count_row-in-Round-clause-steps c = uncounted _ (rw c.in-Round.is
 pub returns-in_ok-count_row-in-Round-clause-steps : goal.returns-in_ok-count_row-in-Round-clause-steps
 returns-in_ok-count_row-in-Round-clause-steps c =
     let h = c.in_ok-count_row-in-Round.ensures in
-    let m = multiplies {n = c.in-Round.g} (omega arith) in
-    rw (to_z-of_z w64 c.from-in-Round.result (record { sfits = c.from-in-Round.type_inv }) ∙ c.from-in-Round.ensures) (step_row _ (rw c.in-Round.is at c.in_ok-entry.ensures) refl {r = Ok (Stepped.Rounds c.count_row-in-Round.new.self c.in-Round.t (pos c.in-Round.g) c.in-Round.by)} (record { kept = kept_refl; by = (row-counted _ _ _ _ _ h, (counted-row h).1, m) })).0
+    (step_row _ (rw c.in-Round.is at c.in_ok-entry.ensures) refl (record { kept = kept_refl; by = (row-counted _ _ _ _ _ h, (counted-row h).1) })).0
 
 pub returns-in_err-count_row-in-Split-clause-steps : goal.returns-in_err-count_row-in-Split-clause-steps
 returns-in_err-count_row-in-Split-clause-steps c = uncounted _ (rw c.in-Split.is at c.in_ok-entry.ensures) refl c.in_err-count_row-in-Split.ensures c.from_residual-in_err-count_row-in-Split.ensures.1

@@ -1,18 +1,17 @@
 -- The proof of the cycle {check_branch, check_rounded, check_rounding, check_split}: the measure is how many bytes are unread and how many more branching steps may be open, twice, and one more where the branches of a rounding or a split are gone through.
 -- Each answer collects the facts on its way and cites a lemma of `BranchStops`, `OpenedBranches`, `Rounds` or `Splits`; what is checked in a turn of the loop over j gives what is checked from 0 on. Assumes nothing.
 use native.Mathlib.Omega.{arith}
-use mathlib.Core.Path.{refl}
+use mathlib.Core.Path.{refl, ◌∙◌}
 use lib.Dec.{ltb}
-use lib.IntN.{nat_abs}
 use borrow.Author.Rules.{rules}
+use mir.Syntax.{w64}
 use mir.ValLaws.{to_z-of_z}
 use Rattle.std.proofs.lemmas.Result.{err_from_is_err_and}
-use Rattle.integers.proofs.Magnitude.{within-fits}
 use Rattle.forms.specs.Forms.{◌or◌}
 use Rattle.openings.specs.Opening.{last_two, from_branch}
 use Rattle.branches.specs.Branching.{refused_row}
 use Rattle.branches.proofs.Spare.{one_less, next-falls, own-falls, others-fall, turn-falls}
-use Rattle.branches.proofs.BranchStops.{Told, told-ok, told-err, stopped-fault, comes-ready, stop-comes, stop-multiplier, number-refused, number-closed, stride-refused, stride-closed, opens-refused}
+use Rattle.branches.proofs.BranchStops.{Told, told-ok, told-err, stopped-fault, comes-ready, stop-comes, number-refused, number-closed, stride-refused, stride-closed, opens-refused}
 use Rattle.branches.proofs.OpenedBranches.{first-started, first-fault, rest-open, rest-unread, rest-opened, first-checks, head-short, none-short, start-asked, some-started, some-open, some-unread, some-opened, two-fault, two-checks, opening-falls, opened, first-stands, resumed-fault, resumed-checks}
 use Rattle.branches.proofs.JoinedClosings.{or_bytes}
 use Rattle.branches.proofs.Splits.{split_started, split-fault, split-open, split-unread, negated-asked, negated-started, split-checks, split-opened, split-refused, split-resumed}
@@ -41,19 +40,17 @@ check_branch-returns-in_ok-o-in-ClosesNumber t c =
 
 pub check_branch-returns-in_err-o-in-ClosesStride : goal.check_branch-returns-in_err-o-in-ClosesStride
 check_branch-returns-in_err-o-in-ClosesStride t c =
-    let fits = within-fits (stop-multiplier c.in_ok-stop.ensures c.in-ClosesStride.is).within tt in
     let of = refused_row c.in_ok-stop.stop c.args.position in
     let told : Told of c.close_stride.result c.map_err-in-ClosesStride.result = search rules in
     let w = told-err of c.close_stride.result told c.in_err-o-in-ClosesStride.was in
     let p = err_from_is_err_and c.from_residual-in_err-o-in-ClosesStride.result c.from_residual-in_err-o-in-ClosesStride.ensures.1 in
-    rw (p.1, p.2) (stride-refused c.in_ok-stop.ensures c.in-ClosesStride.is (simp to_z-of_z at c.close_stride.ensures) w)
+    rw (p.1, p.2) (stride-refused c.in_ok-stop.ensures c.in-ClosesStride.is c.close_stride.ensures w)
 
 pub check_branch-returns-in_ok-o-in-ClosesStride : goal.check_branch-returns-in_ok-o-in-ClosesStride
 check_branch-returns-in_ok-o-in-ClosesStride t c =
-    let fits = within-fits (stop-multiplier c.in_ok-stop.ensures c.in-ClosesStride.is).within tt in
     let of = refused_row c.in_ok-stop.stop c.args.position in
     let told : Told of c.close_stride.result c.map_err-in-ClosesStride.result = search rules in
-    rw c.closed-in-ClosesStride.ensures (stride-closed c.in_ok-stop.ensures c.in-ClosesStride.is (simp to_z-of_z at c.close_stride.ensures) (told-ok of c.close_stride.result told c.in_ok-o-in-ClosesStride.was))
+    rw c.closed-in-ClosesStride.ensures (stride-closed c.in_ok-stop.ensures c.in-ClosesStride.is c.close_stride.ensures (told-ok of c.close_stride.result told c.in_ok-o-in-ClosesStride.was))
 
 pub check_branch-returns-in_err-v-in-Strengthens : goal.check_branch-returns-in_err-v-in-Strengthens
 check_branch-returns-in_err-v-in-Strengthens t c =
@@ -245,17 +242,13 @@ pub check_branch-round-requires : goal.check_branch-round-requires
 check_branch-round-requires t c =
     let stop = c.in_ok-stop.ensures in
     let m = stop-comes stop c.in-Rounds.is in
-    let y = stop-multiplier stop c.in-Rounds.is in
-    let fits = within-fits y.within tt in
-    simp to_z-of_z (record { ready = comes-ready m; multiplies = y })
+    comes-ready m
 
 pub check_branch-returns-in_err-v-in-Rounds : goal.check_branch-returns-in_err-v-in-Rounds
 check_branch-returns-in_err-v-in-Rounds t c =
     let stop = c.in_ok-stop.ensures in
     let m = stop-comes stop c.in-Rounds.is in
-    let y = stop-multiplier stop c.in-Rounds.is in
-    let fits = within-fits y.within tt in
-    let s = simp to_z-of_z at c.round.ensures in
+    let s = c.round.ensures in
     let of = refused_row c.in_ok-stop.stop c.args.position in
     let told : Told of c.round.result c.map_err-in-Rounds.result = search rules in
     let w = told-err of c.round.result told c.in_err-v-in-Rounds.was in
@@ -266,25 +259,21 @@ pub check_branch-check_rounding-requires : goal.check_branch-check_rounding-requ
 check_branch-check_rounding-requires t c =
     let stop = c.in_ok-stop.ensures in
     let m = stop-comes stop c.in-Rounds.is in
-    let y = stop-multiplier stop c.in-Rounds.is in
-    let fits = within-fits y.within tt in
-    let s = simp to_z-of_z at c.round.ensures in
+    let s = c.round.ensures in
     let of = refused_row c.in_ok-stop.stop c.args.position in
     let told : Told of c.round.result c.map_err-in-Rounds.result = search rules in
     let made = told-ok of c.round.result told c.in_ok-v-in-Rounds.was in
-    rw c.on-from-in-Rounds.ensures (opening-falls m stop.kept s.opens made c.decreases, simp to_z-of_z ((opened m stop.kept s.opens made c.requires, first-stands m stop.kept s.opens made), (y, s.sizes _ made)))
+    rw c.on-from-in-Rounds.ensures (opening-falls m stop.kept s.opens made c.decreases, ((opened m stop.kept s.opens made c.requires, first-stands m stop.kept s.opens made), s.sizes _ made))
 
 pub check_branch-returns-in_err-all-in-Rounds : goal.check_branch-returns-in_err-all-in-Rounds
 check_branch-returns-in_err-all-in-Rounds t c =
     let stop = c.in_ok-stop.ensures in
     let m = stop-comes stop c.in-Rounds.is in
-    let y = stop-multiplier stop c.in-Rounds.is in
-    let fits = within-fits y.within tt in
-    let s = simp to_z-of_z at c.round.ensures in
+    let s = c.round.ensures in
     let of = refused_row c.in_ok-stop.stop c.args.position in
     let told : Told of c.round.result c.map_err-in-Rounds.result = search rules in
     let made = told-ok of c.round.result told c.in_ok-v-in-Rounds.was in
-    let all = simp to_z-of_z at (rw c.on-from-in-Rounds.ensures at c.check_rounding.ensures) in
+    let all = rw c.on-from-in-Rounds.ensures at c.check_rounding.ensures in
     let p = err_from_is_err_and c.from_residual-in_err-all-in-Rounds.result c.from_residual-in_err-all-in-Rounds.ensures.1 in
     rw (p.1, p.2) (resumed-fault m stop.kept s.opens made c.args.position all c.in_err-all-in-Rounds.was)
 
@@ -292,13 +281,11 @@ pub check_branch-returns-in_ok-all-in-Rounds : goal.check_branch-returns-in_ok-a
 check_branch-returns-in_ok-all-in-Rounds t c =
     let stop = c.in_ok-stop.ensures in
     let m = stop-comes stop c.in-Rounds.is in
-    let y = stop-multiplier stop c.in-Rounds.is in
-    let fits = within-fits y.within tt in
-    let s = simp to_z-of_z at c.round.ensures in
+    let s = c.round.ensures in
     let of = refused_row c.in_ok-stop.stop c.args.position in
     let told : Told of c.round.result c.map_err-in-Rounds.result = search rules in
     let made = told-ok of c.round.result told c.in_ok-v-in-Rounds.was in
-    let all = simp to_z-of_z at (rw c.on-from-in-Rounds.ensures at c.check_rounding.ensures) in
+    let all = rw c.on-from-in-Rounds.ensures at c.check_rounding.ensures in
     resumed-checks m stop.kept s.opens made c.args.position all c.in_ok-all-in-Rounds.was c.resumed-in-Rounds.ensures
 
 pub check_branch-returns-in_err-v-in-Splits : goal.check_branch-returns-in_err-v-in-Splits
@@ -347,16 +334,14 @@ check_branch-returns-in_ok-both-in-Splits t c =
 
 pub check_rounded-put_stride-requires-clause-numbered : goal.check_rounded-put_stride-requires-clause-numbered
 check_rounded-put_stride-requires-clause-numbered t c =
-    let fits = c.ranges.g in
-    simp to_z-of_z (template-asked c.requires.opened c.place_a-ta.ensures c.requires.multiplies.0 c.requires.multiplies.1).0
+    template-asked c.requires.opened c.place_a-ta.ensures (to_z-of_z w64 c.from.result (record { sfits = c.from.type_inv }) ∙ c.from.ensures) (omega arith) c.requires.rounds
 
 pub check_rounded-start_rounded-front-requires : goal.check_rounded-start_rounded-front-requires
 check_rounded-start_rounded-front-requires t c =
     let turn = c.loop-j.invariant.turn c.loop-j-test.true in
-    let fits = c.ranges.g in
-    let w = template-kept c.requires.opened c.place_a-ta.ensures refl (simp to_z-of_z at c.put_stride.ensures) turn.kept in
-    let asked = rounded-asked turn.opened turn.less c.requires.multiplies.0 c.requires.multiplies.1 w in
-    simp to_z-of_z (record { line_start = asked.0; divisor = asked.1.0; stride_template = asked.1.1 })
+    let w = template-kept c.requires.opened c.place_a-ta.ensures refl (rw (to_z-of_z w64 c.from.result (record { sfits = c.from.type_inv }) ∙ c.from.ensures) at c.put_stride.ensures) turn.kept in
+    let asked = rounded-asked turn.opened turn.less c.requires.rounds w in
+    record { line_start = asked.0; divisor = asked.1.0; stride_template = asked.1.1 }
 
 pub check_rounded-check_branch-requires : goal.check_rounded-check_branch-requires
 check_rounded-check_branch-requires t c =
@@ -369,23 +354,21 @@ check_rounded-returns-in_err-end t c =
     let turn = c.loop-j.invariant.turn c.loop-j-test.true in
     let h = c.start_rounded-front.ensures in
     let b = rw (c.on-from.ensures, c.branch_of-place.ensures) at c.check_branch.ensures in
-    let fits = c.ranges.g in
     let p = err_from_is_err_and c.from_residual.result c.from_residual.ensures.1 in
-    rw (p.1, p.2) (simp to_z-of_z at (rounding-fault turn h b c.in_err-end.was))
+    rw (p.1, p.2) (rounding-fault turn h b c.in_err-end.was)
 
 pub check_rounded-loop-j-preserved : goal.check_rounded-loop-j-preserved
 check_rounded-loop-j-preserved t c =
     let turn = c.loop-j.invariant.turn c.loop-j-test.true in
     let h = c.start_rounded-front.ensures in
     let b = rw (c.on-from.ensures, c.branch_of-place.ensures) at c.check_branch.ensures in
-    let fits = c.ranges.g in
     rounding-turn turn h b c.in_ok-end.was
 
 pub check_rounding-check_branch-requires : goal.check_rounding-check_branch-requires
 check_rounding-check_branch-requires t c =
     let d = c.requires.opened.0 in
     let f = c.requires.opened.1 in
-    let rest = from_branch (nat_abs c.args.g) c.args.by 0 in
+    let rest = from_branch c.args.g c.args.by 0 in
     let h = c.put_pair-head.ensures in
     rw c.on-from.ensures (own-falls c.decreases, first-started d ◌or◌ or_bytes rest 0 f h)
 
@@ -393,7 +376,7 @@ pub check_rounding-returns-in_err-first : goal.check_rounding-returns-in_err-fir
 check_rounding-returns-in_err-first t c =
     let d = c.requires.opened.0 in
     let f = c.requires.opened.1 in
-    let rest = from_branch (nat_abs c.args.g) c.args.by 0 in
+    let rest = from_branch c.args.g c.args.by 0 in
     let h = c.put_pair-head.ensures in
     let b = rw (c.on-from.ensures, c.branch_of-place.ensures) at c.check_branch.ensures in
     let p = err_from_is_err_and c.from_residual.result c.from_residual.ensures.1 in
@@ -404,23 +387,21 @@ pub check_rounding-check_rounded-requires : goal.check_rounding-check_rounded-re
 check_rounding-check_rounded-requires t c =
     let d = c.requires.opened.0 in
     let f = c.requires.opened.1 in
-    let rest = from_branch (nat_abs c.args.g) c.args.by 0 in
+    let rest = from_branch c.args.g c.args.by 0 in
     let h = c.put_pair-head.ensures in
     let b = rw (c.on-from.ensures, c.branch_of-place.ensures) at c.check_branch.ensures in
     let e = c.in_ok-first.was in
-    let fits = c.ranges.g in
-    rw c.on-from2.ensures (others-fall (rest-open d ◌or◌ or_bytes rest _ f h b e) (rest-unread d ◌or◌ or_bytes rest _ f h b e) c.decreases, simp to_z-of_z (rest-opened d ◌or◌ or_bytes rest _ f h b e, c.requires.multiplies))
+    rw c.on-from2.ensures (others-fall (rest-open d ◌or◌ or_bytes rest _ f h b e) (rest-unread d ◌or◌ or_bytes rest _ f h b e) c.decreases, (rest-opened d ◌or◌ or_bytes rest _ f h b e, c.requires.rounds))
 
 pub check_rounding-returns : goal.check_rounding-returns
 check_rounding-returns t c =
     let d = c.requires.opened.0 in
     let f = c.requires.opened.1 in
-    let rest = from_branch (nat_abs c.args.g) c.args.by 0 in
+    let rest = from_branch c.args.g c.args.by 0 in
     let h = c.put_pair-head.ensures in
     let b = rw (c.on-from.ensures, c.branch_of-place.ensures) at c.check_branch.ensures in
     let e = c.in_ok-first.was in
-    let fits = c.ranges.g in
-    first-checks d ◌or◌ or_bytes rest _ f h b e (omega arith) (simp to_z-of_z at (rw c.on-from2.ensures at c.check_rounded.ensures))
+    first-checks d ◌or◌ or_bytes rest _ f h b e (omega arith) (rw c.on-from2.ensures at c.check_rounded.ensures)
 
 pub check_split-check_branch-requires : goal.check_split-check_branch-requires
 check_split-check_branch-requires t c =

@@ -1,6 +1,5 @@
 -- The proof of the cycle {check_branch, check_rounded, check_rounding, check_split}: the measure is how many bytes are unread and how many more branching steps may be open, twice, and one more where the branches of a rounding or a split are gone through.
 -- Each answer collects the facts on its way and cites a lemma of `BranchStops`, `OpenedBranches`, `Rounds` or `Splits`; what is checked in a turn of the loop over j gives what is checked from 0 on. Assumes nothing.
-use lib.IntN.{nat_abs}
 use Rattle.fields.specs.Places.{unread_bytes}
 use Rattle.branches.proofs.Rounds.{Rounded}
 use Prim.Native.Nat.{◌+◌, ◌*◌, ◌-◌}
@@ -21,4 +20,4 @@ decreases-check_split l = 2 * (unread_bytes l.p.now l.here.at + (32 - l.tally.«
 -- The loop over j of a rounding's branches.
 abbrev pub invariant-check_rounded-loop-j : goal.invariant-check_rounded-loop-j
 invariant-check_rounded-loop-j l =
-    Rounded l.k l.row.0 l.n.0 l.p l.initial.end.at l.initial.kinds l.initial.lines l.initial.end.tally l.t.0 (nat_abs l.g) l.by l.initial.scratch l.initial.end.o l.kinds l.lines l.scratch l.end l.j
+    Rounded l.k l.row.0 l.n.0 l.p l.initial.end.at l.initial.kinds l.initial.lines l.initial.end.tally l.t.0 l.g l.by l.initial.scratch l.initial.end.o l.kinds l.lines l.scratch l.end l.j

@@ -1,11 +1,9 @@
 -- `branches::branch::entries` meets its contract. Assumes nothing.
 use native.Mathlib.Omega.{arith}
 use mathlib.Core.Path.{ap, ◌∙◌}
-use mir.ValLaws.{to_z-of_z}
 use borrow.Author.Rules.{rules}
 use Rattle.std.specs.Prelude.{Ok}
 use Rattle.std.proofs.lemmas.Result.{err_from_is_err_and}
-use Rattle.integers.proofs.Magnitude.{within-fits}
 use Rattle.fields.proofs.Places.{starts, starts-less}
 use Rattle.fields.specs.declared.End.{End}
 use Rattle.branches.specs.Branches.{unclosed}
@@ -62,9 +60,7 @@ returns-in-Ok-ClosesStride c =
     let told : Told of c.next_field.result c.map_err.result = search rules in
     let s = starts c.next_field.ensures (told-ok of c.next_field.result told c.in_ok-field.was) in
     let e = c.in-Ok-ClosesStride.is ∙ ap Ok c.in-Ok-ClosesStride.field-0-is in
-    let y = rw e at c.step.ensures.steps in
-    let f = within-fits y.by.2.within tt in
-    rw c.stopped-in-Ok-ClosesStride.ensures (simp to_z-of_z (going-stride c.loop-field.invariant s c.step.ensures.steps c.step.ensures.advances c.args.position e))
+    rw c.stopped-in-Ok-ClosesStride.ensures (going-stride c.loop-field.invariant s c.step.ensures.steps c.step.ensures.advances c.args.position e)
 
 pub returns-in-Ok-Rounds : goal.returns-in-Ok-Rounds
 returns-in-Ok-Rounds c =
@@ -72,9 +68,7 @@ returns-in-Ok-Rounds c =
     let told : Told of c.next_field.result c.map_err.result = search rules in
     let s = starts c.next_field.ensures (told-ok of c.next_field.result told c.in_ok-field.was) in
     let e = c.in-Ok-Rounds.is ∙ ap Ok c.in-Ok-Rounds.field-0-is in
-    let y = rw e at c.step.ensures.steps in
-    let f = within-fits y.by.2.within tt in
-    rw c.stopped-in-Ok-Rounds.ensures (simp to_z-of_z (going-rounds c.loop-field.invariant s c.step.ensures.steps c.step.ensures.advances c.args.position e))
+    rw c.stopped-in-Ok-Rounds.ensures (going-rounds c.loop-field.invariant s c.step.ensures.steps c.step.ensures.advances c.args.position e)
 
 pub loop-field-smaller-in-Ok-Made : goal.loop-field-smaller-in-Ok-Made
 loop-field-smaller-in-Ok-Made c =
