@@ -5,13 +5,7 @@ use lib.ListN.{take}
 use lib.Seq.{length-take-le}
 use Rattle.number_bytes.proofs.Stores.{sets-mid}
 use Rattle.check_output.proofs.Delivering.{deliver-long, deliver-short, deliver-done}
-use borrow.Author.Rules.{rules}
 use Rattle.check_output.proofs.deliver.Goals as goal
-
-pub overflow_add-needed : goal.overflow_add-needed
-overflow_add-needed c =
-    let few = c.requires.few in
-    search rules
 
 pub returns-then-needed-gt-FORMULA_BYTES : goal.returns-then-needed-gt-FORMULA_BYTES
 returns-then-needed-gt-FORMULA_BYTES c = deliver-long c.if-needed-gt-FORMULA_BYTES.true c.refusal.ensures
