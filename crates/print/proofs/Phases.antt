@@ -34,7 +34,7 @@ use Rattle.printing_formula.specs.Printing.{Place, PutOr, FormulaAt}
 use Rattle.printing.specs.Promises.{PrintsFile}
 use Rattle.print.specs.Phases.{Stated, Faulty, ReadsWhole, Puts, Sized, WritesText, PrintsBehind, Prints, refused_write}
 use Rattle.printing_formula.specs.Reaching.{WholeAt}
-use Rattle.printing_formula.specs.declared.reading.Progress.{Progress}
+use Rattle.printing_text.specs.declared.Text.{Text}
 
 -- ---- a refusal
 refusing : {w : Result (List ℕ)} {a : Answer} (out : List ℕ) {r : WriteResult} → w ≡ refused a → r ≡ record { answer = a; count = 0 } → written_of r out ≡ written w out
@@ -58,51 +58,51 @@ module _ {wording : Bool} {s : List ℕ} {at K size : ℕ} (z : Sized wording s 
   }
 
   -- what the second reading puts
-  put_as : (out out' : List ℕ) (p : code.Result Progress Fault) → PutOr wording false s at 0 (formula_within edition1 K 600 (fields_at s at)) out 0 out' p → (I : Formula) (after : Fields)
-      → formula_within edition1 K 600 (fields_at s at) ≡ accepted (I, after) → size ≤ length out → out' ≡ over (formula_text wording false I) out
-  put_as out out' (Err x) q I after e h = absurd (never (sym q ∙ e))
-  put_as out out' (Ok text) q I after e h =
+  put_as : (t u : Text) → t.end ≡ 0 → (p : code.Result ℕ Fault) → PutOr wording false s at 0 (formula_within edition1 K 600 (fields_at s at)) t u p → (I : Formula) (after : Fields)
+      → formula_within edition1 K 600 (fields_at s at) ≡ accepted (I, after) → size ≤ length t.out.now → u.out.now ≡ over (formula_text wording false I) t.out.now
+  put_as t u n (Err x) q I after e h = absurd (never (sym q ∙ e))
+  put_as t u n (Ok next) q I after e h =
       let l : size ≡ length (formula_text wording false I) = sized-as I after e in
       let f : q.formula ≡ I = one_formula q.is e in
       let g : length (formula_text wording false q.formula) ≡ length (formula_text wording false I) = ap (λ (J : Formula). length (formula_text wording false J)) f in
-      q.puts.stored (omega arith) ∙ ap (λ (J : Formula). sets out 0 (formula_text wording false J)) f ∙ sets_over (formula_text wording false I) out (omega arith)
+      q.puts.stored (omega arith) ∙ ap (λ (o : ℕ). sets t.out.now o (formula_text wording false q.formula)) n ∙ ap (λ (J : Formula). sets t.out.now 0 (formula_text wording false J)) f ∙ sets_over (formula_text wording false I) t.out.now (omega arith)
 
-  pub text-put : {out out' : List ℕ} {p : code.Result Progress Fault} {a : Answer} → FormulaAt wording false s at K 600 out 0 out' p → size ≤ length out → a ≡ acceptance
-      → WritesText wording s at K out out' (record { answer = a; count = size })
+  pub text-put : {t u : Text} {p : code.Result ℕ Fault} {a : Answer} → FormulaAt wording false s at K 600 t u p → t.end ≡ 0 → size ≤ length t.out.now → a ≡ acceptance
+      → WritesText wording s at K t.out.now u.out.now (record { answer = a; count = size })
   unfolding written fit
-  text-put {out} {out'} {p} b h f = record {
+  text-put {t} {u} {p} b n h f = record {
     is = λ I after e.
         let l : size ≡ length (formula_text wording false I) = sized-as I after e in
-        rw (f, put_as out out' p b.put I after e h, l, le-leb (length (formula_text wording false I)) (length out) (omega arith));
+        rw (f, put_as t u n p b.put I after e h, l, le-leb (length (formula_text wording false I)) (length t.out.now) (omega arith));
   }
 
 -- ---- what a reading with text finds
-module _ {wording : Bool} {s : List ℕ} {at : ℕ} (K : ℕ) {out₁ : List ℕ} {out₂ : List ℕ} {p : code.Result Progress Fault} (b : FormulaAt wording false s at K 600 out₁ 0 out₂ p) where
+module _ {wording : Bool} {s : List ℕ} {at : ℕ} (K : ℕ) {t u : Text} {p : code.Result ℕ Fault} (b : FormulaAt wording false s at K 600 t u p) (n : t.end ≡ 0) where
   pub text-refused : {e : Fault} → p ≡ Err e → formula_within edition1 K 600 (fields_at s at) ≡ refused (answer (number_of e.refusal) file_proof e.place)
   text-refused q = rw q at b.put
 
-  module _ {text : Progress} (e : p ≡ Ok text) where
-    pub text-read : (I : Formula) × (formula_within edition1 K 600 (fields_at s at) ≡ accepted (I, fields_at s text.next))
+  module _ {next : ℕ} (e : p ≡ Ok next) where
+    pub text-read : (I : Formula) × (formula_within edition1 K 600 (fields_at s at) ≡ accepted (I, fields_at s next))
     text-read =
         let x = rw e at b.put in
         (x.formula, x.is)
 
-    pub text-sized : Sized wording s at K text.end
+    pub text-sized : Sized wording s at K u.end
     text-sized =
         let x = rw e at b.put in
-        record { formula = x.formula; after = fields_at s text.next; is = x.is; size_is = omega (arith, x.puts.o_is) }
+        record { formula = x.formula; after = fields_at s next; is = x.is; size_is = omega (arith, x.puts.o_is) }
 
-    text-within : text.end ≤ 6 * length s
+    text-within : u.end ≤ 6 * length s
     text-within =
         let x = rw e at b.put in
         omega (arith, x.puts.o_is, x.puts.few, x.upto)
 
     -- where there is room for every text
-    pub surely-put : {a : Answer} → 6 * length s ≤ length out₁ → a ≡ acceptance → WritesText wording s at K out₁ out₂ (record { answer = a; count = text.end })
-    surely-put h f = text-put text-sized b (omega (arith, text-within)) f
+    pub surely-put : {a : Answer} → 6 * length s ≤ length t.out.now → a ≡ acceptance → WritesText wording s at K t.out.now u.out.now (record { answer = a; count = u.end })
+    surely-put h f = text-put text-sized b n (omega (arith, text-within)) f
 
   -- a formula that was read is not refused
-  pub surely-read : {e : Fault} {r : WriteResult} → p ≡ Err e → WritesText wording s at K out₁ out₂ r
+  pub surely-read : {e : Fault} {r : WriteResult} → p ≡ Err e → WritesText wording s at K t.out.now u.out.now r
   surely-read q = record { is = λ I after f. absurd (never (sym (text-refused q) ∙ f)) }
 
 -- ---- what a reading without text finds

@@ -20,6 +20,7 @@ use printing_formula::once::whole_at;
 use printing_formula::reading::formula_at;
 use printing_formula::terms::SmtLib;
 use printing_formula::words::PlainWords;
+use printing_text::Text;
 
 fn refuse(refused: Refusal, file: u8, place: usize) -> WriteResult
     ensures { result ≡ refused_write (number_of refused) file place }
@@ -45,8 +46,12 @@ fn measure<L: Language>(formula: &[u8], at: usize, k: usize) -> Result<usize, Fa
     ensures { Measures L.wording formula.now at k result }
 {
     let mut scratch = [0u8; 1];
-    let text = formula_at::<L>(formula, at, k, LEVELS, false, &mut scratch, 0)?;
-    ending_at(formula, text.next, FileKind::Formula)?;
+    let mut text = Text {
+        out: &mut scratch,
+        end: 0,
+    };
+    let next = formula_at::<L>(formula, at, k, LEVELS, false, &mut text)?;
+    ending_at(formula, next, FileKind::Formula)?;
     Ok(text.end)
 }
 
@@ -65,7 +70,8 @@ fn put_whole<L: Language>(
     if out.len() < size {
         return refuse(Refusal::OutputTooShort, 4, size);
     }
-    let _text = formula_at::<L>(formula, at, k, LEVELS, false, out, 0);
+    let mut text = Text { out, end: 0 };
+    let _next = formula_at::<L>(formula, at, k, LEVELS, false, &mut text);
     WriteResult {
         answer: acceptance(),
         count: size,
@@ -78,8 +84,9 @@ fn put_surely<L: Language>(formula: &[u8], at: usize, k: usize, out: &mut [u8]) 
     requires formula_in_bounds { 6 * length formula.now ≤ length out.old }
     ensures { WritesText L.wording formula.now at k out.old out.new result }
 {
-    match formula_at::<L>(formula, at, k, LEVELS, false, out, 0) {
-        Ok(text) => WriteResult {
+    let mut text = Text { out, end: 0 };
+    match formula_at::<L>(formula, at, k, LEVELS, false, &mut text) {
+        Ok(_) => WriteResult {
             answer: acceptance(),
             count: text.end,
         },

@@ -1,5 +1,5 @@
-// Reading a formula and putting its text, in one pass.
-ghost use Rattle.std.specs.Prelude.{◌+◌, ◌≤◌, length};
+// Reading a formula and putting its text, in one pass. What is given is the place after it in the file.
+ghost use Rattle.std.specs.Prelude.{◌≡◌, ◌+◌, ◌≤◌, length};
 ghost use Rattle.forms.specs.Edition.{edition1};
 ghost use Rattle.form_value.specs.FormAt.{Whole};
 ghost use Rattle.printing_text.specs.PutsText.{text_limit};
@@ -11,13 +11,7 @@ use fields::next_or_fault;
 use forms::TERM_BYTES;
 use formula_read::node::{Node, node_of};
 use number_bytes::words::Width;
-
-// A formula read and its text put: the place after it in the file and in the output.
-#[derive(Clone, Copy)]
-pub struct Progress {
-    pub next: usize,
-    pub end: usize,
-}
+use printing_text::Text;
 
 // The stride part whose field starts at place.
 fn stride_at<L: Language>(
@@ -26,13 +20,13 @@ fn stride_at<L: Language>(
     start: usize,
     next: usize,
     k: usize,
-    out: &mut [u8],
-    o: usize,
-) -> Result<Progress, Fault>
+    text: &mut Text<'_>,
+) -> Result<usize, Fault>
     requires whole { Whole s.now (start + edition1.term_width) k × (next ≤ length s.now) }
     requires k_le_constants { k ≤ edition1.constants }
-    requires o_bound { o + 800 ≤ text_limit }
-    ensures { StrideAt L.wording s.now place start next k out.old o out.new result }
+    requires end_bound { text.old.end + 800 ≤ text_limit }
+    ensures same_output { text.new.out.ghost_name ≡ text.old.out.ghost_name }
+    ensures read { StrideAt L.wording s.now place start next k text.old text.new result }
 {
     let g = Width::Four.signed_at(s, start);
     if g < 2 {
@@ -41,8 +35,8 @@ fn stride_at<L: Language>(
             place,
         });
     }
-    let end = L::put_stride(s, start + TERM_BYTES, k, g, out, o);
-    Ok(Progress { next, end })
+    L::put_stride(s, start + TERM_BYTES, k, g, text);
+    Ok(next)
 }
 
 // Formula reader and pair reader call each other in a cycle; the levels still allowed and the unread bytes fall.
@@ -53,21 +47,21 @@ pub fn formula_at<L: Language>(
     k: usize,
     levels: usize,
     inner: bool,
-    out: &mut [u8],
-    o: usize,
-) -> Result<Progress, Fault>
-    requires { Place s.now at k o }
-    ensures { FormulaAt L.wording inner s.now at k levels out.old o out.new result }
+    text: &mut Text<'_>,
+) -> Result<usize, Fault>
+    requires { Place s.now at k text.old.end }
+    ensures same_output { text.new.out.ghost_name ≡ text.old.out.ghost_name }
+    ensures read { FormulaAt L.wording inner s.now at k levels text.old text.new result }
 {
     let field = next_or_fault(s, at)?;
     match node_of(field.tag, field.len, k) {
-        Ok(Node::Literal { equality }) => Ok(Progress {
-            next: field.next,
-            end: L::put_literal(s, field.start, k, equality, out, o),
-        }),
-        Ok(Node::Stride) => stride_at::<L>(s, field.at, field.start, field.next, k, out, o),
+        Ok(Node::Literal { equality }) => {
+            L::put_literal(s, field.start, k, equality, text);
+            Ok(field.next)
+        }
+        Ok(Node::Stride) => stride_at::<L>(s, field.at, field.start, field.next, k, text),
         Ok(Node::Pair { either }) => {
-            pair_at::<L>(s, field.at, field.next, k, levels, inner, either, out, o)
+            pair_at::<L>(s, field.at, field.next, k, levels, inner, either, text)
         }
         Err(refusal) => Err(field.refused(refusal)),
     }
@@ -83,11 +77,11 @@ fn pair_at<L: Language>(
     levels: usize,
     inner: bool,
     either: bool,
-    out: &mut [u8],
-    o: usize,
-) -> Result<Progress, Fault>
-    requires { Place s.now at k (o + 16) × (at ≤ length s.now) }
-    ensures { PairAt L.wording inner s.now place at k levels either out.old o out.new result }
+    text: &mut Text<'_>,
+) -> Result<usize, Fault>
+    requires { Place s.now at k (text.old.end + 16) × (at ≤ length s.now) }
+    ensures same_output { text.new.out.ghost_name ≡ text.old.out.ghost_name }
+    ensures read { PairAt L.wording inner s.now place at k levels either text.old text.new result }
 {
     if levels == 0 {
         return Err(Fault {
@@ -95,12 +89,10 @@ fn pair_at<L: Language>(
             place,
         });
     }
-    let a = L::put_open(out, o, inner, either);
-    let left = formula_at::<L>(s, at, k, levels - 1, true, out, a)?;
-    let c = L::put_between(out, left.end, either);
-    let right = formula_at::<L>(s, left.next, k, levels - 1, true, out, c)?;
-    Ok(Progress {
-        next: right.next,
-        end: L::put_close(out, right.end, inner),
-    })
+    L::put_open(text, inner, either);
+    let middle = formula_at::<L>(s, at, k, levels - 1, true, text)?;
+    L::put_between(text, either);
+    let next = formula_at::<L>(s, middle, k, levels - 1, true, text)?;
+    L::put_close(text, inner);
+    Ok(next)
 }

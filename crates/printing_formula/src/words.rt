@@ -1,5 +1,5 @@
 // Forms, and the formulas without parts, in words: 2*r0 - 3*r1 - 1 <= 0, 5 divides 4*r1 + 3.
-ghost use Rattle.std.specs.Prelude.{true, ◌+◌, ◌*◌, ◌-◌, ◌≤◌, ◌<◌, length, take, drop, nat_abs};
+ghost use Rattle.std.specs.Prelude.{◌≡◌, true, ◌+◌, ◌*◌, ◌-◌, ◌≤◌, ◌<◌, length, take, drop, nat_abs};
 ghost use Rattle.forms.specs.Edition.{edition1};
 ghost use Rattle.forms.specs.Forms.{literal, ◌divides◌};
 ghost use Rattle.number_bytes.specs.Numbers.{signed};
@@ -7,7 +7,7 @@ ghost use Rattle.number_bytes.specs.Ranges.{Held};
 ghost use Rattle.form_value.specs.FormAt.{form_at, Whole};
 ghost use Rattle.printing.specs.Words.{scaled, plain, sum_of};
 ghost use Rattle.printing.specs.WordsText.{summand_text, sum_text};
-ghost use Rattle.printing_text.specs.PutsText.{text_limit, PutsText};
+ghost use Rattle.printing_text.specs.PutsText.{text_limit, Puts};
 ghost use Rattle.printing_formula.specs.Pieces.{word_text, constant_text};
 
 use crate::language::{Coefficients, Language, first_nonzero, put_pieces};
@@ -15,74 +15,78 @@ use forms::TERM_BYTES;
 use integers::is_zero;
 use number_bytes::words::Width;
 use printing_signs::{put_said, put_sign};
-use printing_text::{magnitude, put_decimal, put_register, put_text};
+use printing_text::{Text, magnitude};
 
 pub struct PlainWords;
 
 // A number with its sign.
-fn put_plain(out: &mut [u8], o: usize, z: i64, front: bool) -> usize
-    requires o_bound { o + 14 ≤ text_limit }
+fn put_plain(text: &mut Text<'_>, z: i64, front: bool)
+    requires end_bound { text.old.end + 14 ≤ text_limit }
     requires held { Held 4 z }
-    ensures { PutsText out.old o (summand_text front (plain z)) 13 out.new result }
+    ensures same_output { text.new.out.ghost_name ≡ text.old.out.ghost_name }
+    ensures puts { Puts text.old text.new (summand_text front (plain z)) 13 }
 {
     let n = magnitude(z);
-    let a = put_sign(out, o, z, front);
-    put_decimal(out, a, n)
+    put_sign(text, z, front);
+    text.put_decimal(n);
 }
 
 // A coefficient with its sign, and its register.
-fn put_scaled(out: &mut [u8], o: usize, z: i64, i: usize, front: bool) -> usize
-    requires o_bound { o + 26 ≤ text_limit }
+fn put_scaled(text: &mut Text<'_>, z: i64, i: usize, front: bool)
+    requires end_bound { text.old.end + 26 ≤ text_limit }
     requires held { Held 4 z }
     requires i_lt_constants { i < edition1.constants }
-    ensures { PutsText out.old o (summand_text front (scaled z i)) 17 out.new result }
+    ensures same_output { text.new.out.ghost_name ≡ text.old.out.ghost_name }
+    ensures puts { Puts text.old text.new (summand_text front (scaled z i)) 17 }
 {
     let n = magnitude(z);
-    let a = put_sign(out, o, z, front);
-    let b = put_decimal(out, a, n);
-    let c = put_text(out, b, b"*");
-    put_register(out, c, i)
+    put_sign(text, z, front);
+    text.put_decimal(n);
+    text.put(b"*");
+    text.put_register(i);
 }
 
 impl Coefficients for PlainWords {
     ghost piece = { word_text };
 
     // With its sign and its register; nothing for 0.
-    fn put_piece(s: &[u8], at: usize, i: usize, out: &mut [u8], o: usize) -> usize {
+    fn put_piece(s: &[u8], at: usize, i: usize, text: &mut Text<'_>) {
         let c = Width::Four.signed_at(s, at);
         if is_zero(c) {
-            return o;
+            return;
         }
-        put_scaled(out, o, c, i, false)
+        put_scaled(text, c, i, false);
     }
 }
 
 // The constant term behind others, where it is not 0.
-fn put_constant(out: &mut [u8], o: usize, d: i64) -> usize
-    requires o_bound { o + 14 ≤ text_limit }
+fn put_constant(text: &mut Text<'_>, d: i64)
+    requires end_bound { text.old.end + 14 ≤ text_limit }
     requires held { Held 4 d }
-    ensures { PutsText out.old o (constant_text d) 13 out.new result }
+    ensures same_output { text.new.out.ghost_name ≡ text.old.out.ghost_name }
+    ensures puts { Puts text.old text.new (constant_text d) 13 }
 {
     if is_zero(d) {
-        return o;
+        return;
     }
-    put_plain(out, o, d, false)
+    put_plain(text, d, false);
 }
 
-fn put_sum(s: &[u8], at: usize, k: usize, out: &mut [u8], o: usize) -> usize
+fn put_sum(s: &[u8], at: usize, k: usize, text: &mut Text<'_>)
     requires whole { Whole s.now at k }
     requires k_le_constants { k ≤ edition1.constants }
-    requires o_bound { o + 700 ≤ text_limit }
-    ensures { PutsText out.old o (sum_text (sum_of (form_at s.now at k))) (18 + 23 * k) out.new result }
+    requires end_bound { text.old.end + 700 ≤ text_limit }
+    ensures same_output { text.new.out.ghost_name ≡ text.old.out.ghost_name }
+    ensures puts { Puts text.old text.new (sum_text (sum_of (form_at s.now at k))) (18 + 23 * k) }
 {
     let d = Width::Four.signed_at(s, at + k * TERM_BYTES);
     match first_nonzero(s, at, k) {
-        None => put_plain(out, o, d, true),
+        None => put_plain(text, d, true),
         Some(first) => {
             let c = Width::Four.signed_at(s, at + first * TERM_BYTES);
-            let a = put_scaled(out, o, c, first, true);
-            let b = put_pieces::<PlainWords>(s, at, first + 1, k, out, a);
-            put_constant(out, b, d)
+            put_scaled(text, c, first, true);
+            put_pieces::<PlainWords>(s, at, first + 1, k, text);
+            put_constant(text, d);
         }
     }
 }
@@ -91,44 +95,36 @@ impl Language for PlainWords {
     ghost wording = { true };
 
     // t <= 0, t = 0
-    fn put_literal(
-        s: &[u8],
-        at: usize,
-        k: usize,
-        equality: bool,
-        out: &mut [u8],
-        o: usize,
-    ) -> usize {
-        let a = put_sum(s, at, k, out, o);
-        put_said(out, a, equality)
+    fn put_literal(s: &[u8], at: usize, k: usize, equality: bool, text: &mut Text<'_>) {
+        put_sum(s, at, k, text);
+        put_said(text, equality);
     }
 
     // g divides t
-    fn put_stride(s: &[u8], at: usize, k: usize, g: i64, out: &mut [u8], o: usize) -> usize {
-        let a = put_decimal(out, o, magnitude(g));
-        let b = put_text(out, a, b" divides ");
-        put_sum(s, at, k, out, b)
+    fn put_stride(s: &[u8], at: usize, k: usize, g: i64, text: &mut Text<'_>) {
+        text.put_decimal(magnitude(g));
+        text.put(b" divides ");
+        put_sum(s, at, k, text);
     }
 
     // An and/or that is a part stands in parentheses.
-    fn put_open(out: &mut [u8], o: usize, inner: bool, _either: bool) -> usize {
+    fn put_open(text: &mut Text<'_>, inner: bool, _either: bool) {
         if inner {
-            return put_text(out, o, b"(");
+            text.put(b"(");
         }
-        o
     }
 
-    fn put_between(out: &mut [u8], o: usize, either: bool) -> usize {
+    fn put_between(text: &mut Text<'_>, either: bool) {
         if either {
-            return put_text(out, o, b" or ");
+            text.put(b" or ");
+            return;
         }
-        put_text(out, o, b" and ")
+        text.put(b" and ");
     }
 
-    fn put_close(out: &mut [u8], o: usize, inner: bool) -> usize {
+    fn put_close(text: &mut Text<'_>, inner: bool) {
         if inner {
-            return put_text(out, o, b")");
+            text.put(b")");
         }
-        o
     }
 }

@@ -2,60 +2,67 @@
 // A number is as printing/specs/Text.antt and WordsText.antt have it, the rest as specs/Relations.antt; printing_formula calls it.
 #![tactic(auto)]
 
-ghost use Rattle.std.specs.Prelude.{◌+◌, ◌≤◌};
+ghost use Rattle.std.specs.Prelude.{◌≡◌, ◌+◌, ◌≤◌};
 ghost use Rattle.number_bytes.specs.Ranges.{Held};
 ghost use Rattle.printing.specs.Text.{term_text};
 ghost use Rattle.printing.specs.Translation.{integer};
 ghost use Rattle.printing.specs.WordsText.{sign_text};
-ghost use Rattle.printing_text.specs.PutsText.{text_limit, PutsText};
+ghost use Rattle.printing_text.specs.PutsText.{text_limit, Puts};
 ghost use Rattle.printing_signs.specs.Relations.{relation_text, said_text};
 
-use printing_text::{magnitude, put_decimal, put_text};
+use printing_text::{Text, magnitude};
 
 // 5, (- 5)
-pub fn put_number(out: &mut [u8], o: usize, z: i64) -> usize
-    requires o_bound { o + 15 ≤ text_limit }
+pub fn put_number(text: &mut Text<'_>, z: i64)
+    requires end_bound { text.old.end + 15 ≤ text_limit }
     requires held { Held 4 z }
-    ensures { PutsText out.old o (term_text (integer z)) 14 out.new result }
+    ensures same_output { text.new.out.ghost_name ≡ text.old.out.ghost_name }
+    ensures puts { Puts text.old text.new (term_text (integer z)) 14 }
 {
     let n = magnitude(z);
     if z < 0 {
-        let a = put_text(out, o, b"(- ");
-        let b = put_decimal(out, a, n);
-        return put_text(out, b, b")");
+        text.put(b"(- ");
+        text.put_decimal(n);
+        text.put(b")");
+        return;
     }
-    put_decimal(out, o, n)
+    text.put_decimal(n);
 }
 
 // In words, at the front of a sum, and between summands.
-pub fn put_sign(out: &mut [u8], o: usize, z: i64, front: bool) -> usize
-    requires { o + 3 ≤ text_limit }
-    ensures { PutsText out.old o (sign_text front z) 3 out.new result }
+pub fn put_sign(text: &mut Text<'_>, z: i64, front: bool)
+    requires { text.old.end + 3 ≤ text_limit }
+    ensures same_output { text.new.out.ghost_name ≡ text.old.out.ghost_name }
+    ensures puts { Puts text.old text.new (sign_text front z) 3 }
 {
     match (front, z < 0) {
-        (true, true) => put_text(out, o, b"-"),
-        (true, false) => o,
-        (false, true) => put_text(out, o, b" - "),
-        (false, false) => put_text(out, o, b" + "),
+        (true, true) => text.put(b"-"),
+        (true, false) => {}
+        (false, true) => text.put(b" - "),
+        (false, false) => text.put(b" + "),
     }
 }
 
-pub fn put_relation(out: &mut [u8], o: usize, equality: bool) -> usize
-    requires { o + 4 ≤ text_limit }
-    ensures { PutsText out.old o (relation_text equality) 4 out.new result }
+pub fn put_relation(text: &mut Text<'_>, equality: bool)
+    requires { text.old.end + 4 ≤ text_limit }
+    ensures same_output { text.new.out.ghost_name ≡ text.old.out.ghost_name }
+    ensures puts { Puts text.old text.new (relation_text equality) 4 }
 {
     if equality {
-        return put_text(out, o, b"(= ");
+        text.put(b"(= ");
+        return;
     }
-    put_text(out, o, b"(<= ")
+    text.put(b"(<= ");
 }
 
-pub fn put_said(out: &mut [u8], o: usize, equality: bool) -> usize
-    requires { o + 5 ≤ text_limit }
-    ensures { PutsText out.old o (said_text equality) 5 out.new result }
+pub fn put_said(text: &mut Text<'_>, equality: bool)
+    requires { text.old.end + 5 ≤ text_limit }
+    ensures same_output { text.new.out.ghost_name ≡ text.old.out.ghost_name }
+    ensures puts { Puts text.old text.new (said_text equality) 5 }
 {
     if equality {
-        return put_text(out, o, b" = 0");
+        text.put(b" = 0");
+        return;
     }
-    put_text(out, o, b" <= 0")
+    text.put(b" <= 0");
 }

@@ -4,5 +4,5 @@ use Rattle.printing_text.proofs.PutsText.{puts_then, puts-is}
 use Rattle.printing_formula.proofs.Phrases.{scaled-put}
 use Rattle.printing_formula.proofs.words.put_scaled.Goals as goal
 
-pub returns : goal.returns
-returns c = puts-is (puts_then (puts_then (puts_then c.put_sign-a.ensures c.put_decimal-b.ensures) c.put_text-c.ensures) c.put_register.ensures) (scaled-put c.args.front c.ranges.z c.magnitude-n.ensures.0 c.args.i) (omega arith)
+pub returns-clause-puts : goal.returns-clause-puts
+returns-clause-puts c = puts-is (puts_then (puts_then (puts_then c.put_sign.ensures.puts c.put_decimal.ensures.puts) c.put.ensures.puts) c.put_register.ensures.puts) (scaled-put c.args.front c.ranges.z c.magnitude-n.ensures.0 c.args.i) (omega arith)

@@ -4,5 +4,5 @@ use Rattle.printing_text.proofs.PutsText.{puts_then, puts-is}
 use Rattle.printing_formula.proofs.Forms.{stride-put}
 use Rattle.printing_formula.proofs.terms.SmtLibLanguage.put_stride.Goals as goal
 
-pub returns : goal.returns
-returns c = puts-is (puts_then (puts_then (puts_then (puts_then c.put_text-a.ensures c.put_form-b.ensures) c.put_text-c.ensures) c.put_decimal-d.ensures) c.put_text.ensures) (stride-put _ c.ranges.g c.magnitude.ensures.0) (omega arith)
+pub returns-clause-puts : goal.returns-clause-puts
+returns-clause-puts c = puts-is (puts_then (puts_then (puts_then (puts_then c.put.ensures.puts c.put_form.ensures.puts) c.put-2.ensures.puts) c.put_decimal.ensures.puts) c.put-3.ensures.puts) (stride-put _ c.ranges.g c.magnitude.ensures.0) (omega arith)

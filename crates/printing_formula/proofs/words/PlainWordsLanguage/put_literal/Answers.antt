@@ -4,5 +4,5 @@ use Rattle.printing_text.proofs.PutsText.{puts_then, puts-is}
 use Rattle.printing_formula.proofs.Phrases.{said_put}
 use Rattle.printing_formula.proofs.words.PlainWordsLanguage.put_literal.Goals as goal
 
-pub returns : goal.returns
-returns c = puts-is (puts_then c.put_sum-a.ensures c.put_said.ensures) (said_put c.args.equality _) (omega arith)
+pub returns-clause-puts : goal.returns-clause-puts
+returns-clause-puts c = puts-is (puts_then c.put_sum.ensures.puts c.put_said.ensures.puts) (said_put c.args.equality _) (omega arith)
