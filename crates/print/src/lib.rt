@@ -22,6 +22,7 @@ use printing_formula::terms::SmtLib;
 use printing_formula::words::PlainWords;
 use printing_text::Text;
 
+// (`check_output::refusal` does the like; printing stands on nothing of a check.)
 fn refuse(refused: Refusal, file: u8, place: usize) -> WriteResult
     ensures { result ≡ refused_write (number_of refused) file place }
 {

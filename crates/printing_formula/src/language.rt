@@ -30,6 +30,7 @@ pub trait Coefficients {
         ensures puts { Puts text.old text.new (piece i (signed (take edition1.term_width (drop at s.now)))) 23 };
 }
 
+// (`equality`, `either` and `inner` say what is put, as a formula's node has it: data, no choice of a step.)
 pub trait Language {
     // In words, and not as a term of SMT-LIB.
     ghost wording: { Bool };

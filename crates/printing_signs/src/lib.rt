@@ -29,7 +29,7 @@ pub fn put_number(text: &mut Text<'_>, z: i64)
     text.put_decimal(n);
 }
 
-// In words, at the front of a sum, and between summands.
+// In words, at the front of a sum, and between summands: `front` says where the number stands.
 pub fn put_sign(text: &mut Text<'_>, z: i64, front: bool)
     requires { text.old.end + 3 ≤ text_limit }
     ensures same_output { text.new.out.ghost_name ≡ text.old.out.ghost_name }
