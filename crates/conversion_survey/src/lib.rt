@@ -25,6 +25,13 @@ pub struct Turned {
     pub fit: bool,
 }
 
+// The edition that a proof has, and the one that it is turned into.
+#[derive(Clone, Copy)]
+pub struct Editions {
+    pub from: u8,
+    pub to: u8,
+}
+
 // Contents of `len` bytes where `size` are laid out. 6.
 fn sized(len: usize, size: usize, made: bool) -> Result<bool, Refusal>
     ensures { result ≡ sized_as len size made }
@@ -83,50 +90,50 @@ fn line_full(number: u8) -> u64
 }
 
 // A line number, as wide as an edition has it. Two calls, so that the compiler makes a load for each width.
-pub fn line_at(p: &[u8], at: usize, e: u8) -> u64
+pub fn line_at(p: &[u8], at: usize, e: u8) -> u16
     requires { at + (edition e).line_width ≤ length p.now }
     ensures { result ≡ unsigned (take (edition e).line_width (drop at p.now)) }
 {
     if e == 1 {
-        return unsigned_at(p, at, 1);
+        return unsigned_at(p, at, 1) as u16;
     }
-    unsigned_at(p, at, 2)
+    unsigned_at(p, at, 2) as u16
 }
 
 // Whether the edition asked for holds the line number at a place.
-fn line_held(p: &[u8], at: usize, e: u8, to: u8) -> bool
-    requires { at + (edition e).line_width ≤ length p.now }
-    ensures { result ≡ ltb (unsigned (take (edition e).line_width (drop at p.now))) (256 ^ (edition to).line_width) }
+fn line_held(p: &[u8], at: usize, editions: Editions) -> bool
+    requires { at + (edition editions.from).line_width ≤ length p.now }
+    ensures { result ≡ ltb (unsigned (take (edition editions.from).line_width (drop at p.now))) (256 ^ (edition editions.to).line_width) }
 {
-    line_at(p, at, e) < line_full(to)
+    u64::from(line_at(p, at, editions.from)) < line_full(editions.to)
 }
 
 // The same of the n line numbers, two at most, from start on.
-fn lines_held(p: &[u8], start: usize, n: usize, e: u8, to: u8) -> bool
+fn lines_held(p: &[u8], start: usize, n: usize, editions: Editions) -> bool
     requires n_bound { n ≤ 2 }
-    requires e_in_bounds { start + n * (edition e).line_width ≤ length p.now }
-    ensures { result ≡ every (λ m. ltb m (256 ^ (edition to).line_width)) (unsigneds (edition e).line_width n (drop start p.now)) }
+    requires e_in_bounds { start + n * (edition editions.from).line_width ≤ length p.now }
+    ensures { result ≡ every (λ m. ltb m (256 ^ (edition editions.to).line_width)) (unsigneds (edition editions.from).line_width n (drop start p.now)) }
 {
     if n == 0 {
         return true;
     }
-    if line_held(p, start, e, to) {
+    if line_held(p, start, editions) {
         if n == 1 {
             return true;
         }
-        return line_held(p, start + line_bytes(e), e, to);
+        return line_held(p, start + line_bytes(editions.from), editions);
     }
     false
 }
 
 // The first field with a line number that the edition asked for cannot hold.
-pub fn first_wide(p: &[u8], at: usize, e: u8, to: u8) -> Result<(), Fault>
-    requires { LinesThere (edition e).line_width (fields_at p.now at) }
-    ensures { each_field 10 file_proof (lines_fit (edition e) (edition to)) (fields_at p.now at) ≡ told file_proof (λ x. x) result }
+pub fn first_wide(p: &[u8], at: usize, editions: Editions) -> Result<(), Fault>
+    requires { LinesThere (edition editions.from).line_width (fields_at p.now at) }
+    ensures { each_field 10 file_proof (lines_fit (edition editions.from) (edition editions.to)) (fields_at p.now at) ≡ told file_proof (λ x. x) result }
 {
     let mut here = at;
     while let Ok(field) = next_field(p, here) {
-        if !lines_held(p, field.start, line_count(field.tag), e, to) {
+        if !lines_held(p, field.start, line_count(field.tag), editions) {
             return Err(field.refused(Refusal::NoSuchLine));
         }
         here = field.next;
@@ -135,22 +142,22 @@ pub fn first_wide(p: &[u8], at: usize, e: u8, to: u8) -> Result<(), Fault>
 }
 
 // How many bytes the contents of a field have when its line numbers are turned.
-pub fn turned_len(tag: u8, len: usize, e: u8, to: u8) -> usize
-    requires e_bound { line_count (entry_tagged tag) * (edition e).line_width ≤ len }
+pub fn turned_len(tag: u8, len: usize, editions: Editions) -> usize
+    requires e_bound { line_count (entry_tagged tag) * (edition editions.from).line_width ≤ len }
     requires len_bound { len ≤ 65_536 }
-    ensures is { result ≡ line_count (entry_tagged tag) * (edition to).line_width + (len - line_count (entry_tagged tag) * (edition e).line_width) }
+    ensures is { result ≡ line_count (entry_tagged tag) * (edition editions.to).line_width + (len - line_count (entry_tagged tag) * (edition editions.from).line_width) }
     ensures most { result ≤ len + 2 }
 {
     let n = line_count(tag);
-    n * line_bytes(to) + (len - n * line_bytes(e))
+    n * line_bytes(editions.to) + (len - n * line_bytes(editions.from))
 }
 
 // Whether each field is an entry in its place, whether its line numbers fit, and how many bytes they have together when they are
 // turned: all at once, since a proof that is turned passes all. No line is looked for.
-pub fn read_entries(p: &[u8], at: usize, k: u8, e: u8, to: u8) -> Result<Turned, Fault>
+pub fn read_entries(p: &[u8], at: usize, k: u8, editions: Editions) -> Result<Turned, Fault>
     requires k_le_constants { k ≤ edition1.constants }
     requires p_len_bound { length p.now ≤ 65_536 }
-    ensures { EntriesReadAs e to k (fields_at p.now at) result }
+    ensures { EntriesReadAs editions.from editions.to k (fields_at p.now at) result }
 {
     let mut here = at;
     let mut made = false;
@@ -159,12 +166,12 @@ pub fn read_entries(p: &[u8], at: usize, k: u8, e: u8, to: u8) -> Result<Turned,
     loop {
         match next_field(p, here) {
             Ok(field) => {
-                match laid_out(field.tag, field.len, k as usize, e, made) {
+                match laid_out(field.tag, field.len, k as usize, editions.from, made) {
                     Ok(makes) => made = makes,
                     Err(refusal) => return Err(field.refused(refusal)),
                 }
-                fit &= lines_held(p, field.start, line_count(field.tag), e, to);
-                size += 3 + turned_len(field.tag, field.len, e, to);
+                fit &= lines_held(p, field.start, line_count(field.tag), editions);
+                size += 3 + turned_len(field.tag, field.len, editions);
                 here = field.next;
             }
             Err(End::Cut { at: place }) => {

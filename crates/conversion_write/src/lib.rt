@@ -12,7 +12,7 @@ ghost use Rattle.proof.specs.Entries.{entry_tagged, line_count};
 ghost use Rattle.conversion.specs.Turning.{lines_turned, fields_turned};
 ghost use Rattle.conversion_survey.specs.SurveyAnswers.{LinesThere};
 
-use conversion_survey::{line_at, line_count, turned_len};
+use conversion_survey::{Editions, line_at, line_count, turned_len};
 use fields::header::put_head;
 use fields::{WholeField, next_field};
 use forms::line_bytes;
@@ -32,38 +32,39 @@ pub fn put_number(n: u64, to: u8, out: &mut [u8], o: usize)
 }
 
 // A line number in the other width.
-fn put_line(p: &[u8], at: usize, e: u8, to: u8, out: &mut [u8], o: usize)
-    requires e_in_bounds { at + (edition e).line_width ≤ length p.now }
-    requires to_in_bounds { o + (edition to).line_width ≤ length out.old }
-    ensures { out.new ≡ sets out.old o (unsigned_bytes (edition to).line_width (unsigned (take (edition e).line_width (drop at p.now)))) }
+fn put_line(p: &[u8], at: usize, editions: Editions, out: &mut [u8], o: usize)
+    requires e_in_bounds { at + (edition editions.from).line_width ≤ length p.now }
+    requires to_in_bounds { o + (edition editions.to).line_width ≤ length out.old }
+    ensures { out.new ≡ sets out.old o (unsigned_bytes (edition editions.to).line_width (unsigned (take (edition editions.from).line_width (drop at p.now)))) }
 {
-    put_number(line_at(p, at, e), to, out, o);
+    let n = line_at(p, at, editions.from);
+    put_number(u64::from(n), editions.to, out, o);
 }
 
 // n of them, two at most.
-fn put_lines(p: &[u8], start: usize, n: usize, e: u8, to: u8, out: &mut [u8], o: usize)
+fn put_lines(p: &[u8], start: usize, n: usize, editions: Editions, out: &mut [u8], o: usize)
     requires n_bound { n ≤ 2 }
-    requires e_in_bounds { start + n * (edition e).line_width ≤ length p.now }
-    requires to_in_bounds { o + n * (edition to).line_width ≤ length out.old }
-    ensures { out.new ≡ sets out.old o (unsigneds_bytes (edition to).line_width (unsigneds (edition e).line_width n (drop start p.now))) }
+    requires e_in_bounds { start + n * (edition editions.from).line_width ≤ length p.now }
+    requires to_in_bounds { o + n * (edition editions.to).line_width ≤ length out.old }
+    ensures { out.new ≡ sets out.old o (unsigneds_bytes (edition editions.to).line_width (unsigneds (edition editions.from).line_width n (drop start p.now))) }
 {
     if n == 0 {
         return;
     }
-    put_line(p, start, e, to, out, o);
+    put_line(p, start, editions, out, o);
     if n == 1 {
         return;
     }
-    let second = start + line_bytes(e);
-    put_line(p, second, e, to, out, o + line_bytes(to));
+    let second = start + line_bytes(editions.from);
+    put_line(p, second, editions, out, o + line_bytes(editions.to));
 }
 
 // One field.
-fn put_entry(p: &[u8], field: WholeField, e: u8, to: u8, out: &mut [u8], o: usize)
-    requires e_bound { line_count (entry_tagged field.tag) * (edition e).line_width ≤ field.len }
+fn put_entry(p: &[u8], field: WholeField, editions: Editions, out: &mut [u8], o: usize)
+    requires e_bound { line_count (entry_tagged field.tag) * (edition editions.from).line_width ≤ field.len }
     requires len_in_bounds { (field.start + field.len ≤ length p.now) × (field.len ≤ 65_536) }
-    requires e_in_bounds { o + 3 + (line_count (entry_tagged field.tag) * (edition to).line_width + (field.len - line_count (entry_tagged field.tag) * (edition e).line_width)) ≤ length out.old }
-    ensures { out.new ≡ sets out.old o (field_bytes field.tag (lines_turned (edition e) (edition to) (item field.tag (take field.len (drop field.start p.now))))) }
+    requires e_in_bounds { o + 3 + (line_count (entry_tagged field.tag) * (edition editions.to).line_width + (field.len - line_count (entry_tagged field.tag) * (edition editions.from).line_width)) ≤ length out.old }
+    ensures { out.new ≡ sets out.old o (field_bytes field.tag (lines_turned (edition editions.from) (edition editions.to) (item field.tag (take field.len (drop field.start p.now))))) }
 {
     let WholeField {
         tag,
@@ -72,25 +73,25 @@ fn put_entry(p: &[u8], field: WholeField, e: u8, to: u8, out: &mut [u8], o: usiz
         ..
     } = field;
     let n = line_count(tag);
-    let head = n * line_bytes(e);
-    let wide = n * line_bytes(to);
-    put_head(out, o, tag, turned_len(tag, len, e, to));
-    put_lines(p, start, n, e, to, out, o + 3);
+    let head = n * line_bytes(editions.from);
+    let wide = n * line_bytes(editions.to);
+    put_head(out, o, tag, turned_len(tag, len, editions));
+    put_lines(p, start, n, editions, out, o + 3);
     copy_bytes(p, start + head, len - head, out, o + 3 + wide);
 }
 
 // The fields from a place on, one after the other, from o on.
-pub fn put_entries(p: &[u8], at: usize, e: u8, to: u8, out: &mut [u8], o: usize)
-    requires lines_there { LinesThere (edition e).line_width (fields_at p.now at) }
+pub fn put_entries(p: &[u8], at: usize, editions: Editions, out: &mut [u8], o: usize)
+    requires lines_there { LinesThere (edition editions.from).line_width (fields_at p.now at) }
     requires p_len_bound { length p.now ≤ 65_536 }
-    requires at_in_bounds { o + length (fields_turned (lines_turned (edition e) (edition to)) (fields_at p.now at)) ≤ length out.old }
-    ensures { out.new ≡ sets out.old o (fields_turned (lines_turned (edition e) (edition to)) (fields_at p.now at)) }
+    requires at_in_bounds { o + length (fields_turned (lines_turned (edition editions.from) (edition editions.to)) (fields_at p.now at)) ≤ length out.old }
+    ensures { out.new ≡ sets out.old o (fields_turned (lines_turned (edition editions.from) (edition editions.to)) (fields_at p.now at)) }
 {
     let mut here = at;
     let mut end = o;
     while let Ok(field) = next_field(p, here) {
-        put_entry(p, field, e, to, out, end);
-        end += 3 + turned_len(field.tag, field.len, e, to);
+        put_entry(p, field, editions, out, end);
+        end += 3 + turned_len(field.tag, field.len, editions);
         here = field.next;
     }
 }

@@ -16,7 +16,7 @@ use answers::refusals::{Fault, Refusal};
 use answers::{WriteResult, acceptance, refusal};
 use bundle_scan::{Body, Scanned, scan};
 use conversion_bundle::{first_field_unheld, put_turned};
-use conversion_survey::{first_wide, read_entries};
+use conversion_survey::{Editions, first_wide, read_entries};
 use conversion_write::put_entries;
 use fields::header::{Headed, put_header, read_edition, read_header};
 use fields::{End, FileKind, next_field};
@@ -136,9 +136,13 @@ fn turnable_proof(file: &[u8], to: u8) -> Result<Turnable, Fault>
     }
     has_other(file, FileKind::Proof, to)?;
     let head = read_header(file, FileKind::Proof, NEWEST, 0)?;
-    let turned = read_entries(file, head.next, head.k, head.edition, to)?;
+    let editions = Editions {
+        from: head.edition,
+        to,
+    };
+    let turned = read_entries(file, head.next, head.k, editions)?;
     if !turned.fit {
-        first_wide(file, head.next, head.edition, to)?;
+        first_wide(file, head.next, editions)?;
     }
     Ok(Turnable {
         head,
@@ -160,7 +164,8 @@ fn put_proof(file: &[u8], proof: Turnable, to: u8, out: &mut [u8]) -> WriteResul
         return refused(Refusal::OutputTooShort, 4, size);
     }
     put_header(out, to, k);
-    put_entries(file, next, edition, to, out, 8);
+    let editions = Editions { from: edition, to };
+    put_entries(file, next, editions, out, 8);
     WriteResult {
         answer: acceptance(),
         count: size,

@@ -9,6 +9,7 @@ ghost use Rattle.forms.specs.Edition.{edition, edition1};
 ghost use Rattle.number_bytes.specs.Numbers.{unsigned};
 ghost use Rattle.shortening_stack.specs.Outline.{outline_by, LaidBy};
 
+use conversion_survey::line_at;
 use forms::{MULTIPLIER_BYTES, line_bytes};
 use number_bytes::numbers::unsigned_at;
 
@@ -28,17 +29,6 @@ pub struct Outline {
     pub first: u16,
     pub second: u16,
     pub come: u16,
-}
-
-// A line number, as wide as the proof's edition has it. Two calls, so that the compiler makes a load for each width.
-fn number_at(p: &[u8], at: usize, e: u8) -> u16
-    requires { at + (edition e).line_width ≤ length p.now }
-    ensures { result ≡ unsigned (take (edition e).line_width (drop at p.now)) }
-{
-    if e == 1 {
-        return unsigned_at(p, at, 1) as u16;
-    }
-    unsigned_at(p, at, 2) as u16
 }
 
 // What a rounding rounds by.
@@ -70,10 +60,10 @@ pub fn outline_at(p: &[u8], tag: u8, start: usize, e: u8) -> Outline
         return outlined(Class::Claims, 0, 0, 0);
     }
     let width = line_bytes(e);
-    let first = number_at(p, start, e);
+    let first = line_at(p, start, e);
     match tag {
         0..=0x11 => {
-            let second = number_at(p, start + width, e);
+            let second = line_at(p, start + width, e);
             outlined(Class::Makes, first, second, 0)
         }
         0x12 => outlined(Class::Makes, first, first, 0),

@@ -5,42 +5,6 @@ use Rattle.proof.proofs.Entered.{unknown}
 use Rattle.conversion_survey.proofs.SurveyedFields.{bytes_most, combine-laid, reduce-laid, scale-laid, strengthen-laid, number-laid, stride-laid, round-laid, split-laid, claim-laid, claim-out, first_out, second-out, unknown-out}
 use Rattle.conversion_survey.proofs.laid_out.Goals as goal
 
-pub overflow_mul-width : goal.overflow_mul-width
-overflow_mul-width c = record { fits = omega (arith, bytes_most c.args.e c.line_bytes-width.result c.line_bytes-width.ensures) }
-
-pub overflow_mul-sized : goal.overflow_mul-sized
-overflow_mul-sized c = record { fits = omega (arith, bytes_most c.args.e c.line_bytes-width.result c.line_bytes-width.ensures) }
-
-pub overflow_add-width : goal.overflow_add-width
-overflow_add-width c = record { fits = omega (arith, bytes_most c.args.e c.line_bytes-width.result c.line_bytes-width.ensures) }
-
-pub overflow_mul-width-in-17 : goal.overflow_mul-width-in-17
-overflow_mul-width-in-17 c = record { fits = omega (arith, bytes_most c.args.e c.line_bytes-width.result c.line_bytes-width.ensures) }
-
-pub overflow_add-width-in-17 : goal.overflow_add-width-in-17
-overflow_add-width-in-17 c = record { fits = omega (arith, bytes_most c.args.e c.line_bytes-width.result c.line_bytes-width.ensures) }
-
-pub overflow_add-width-in-18 : goal.overflow_add-width-in-18
-overflow_add-width-in-18 c = record { fits = omega (arith, bytes_most c.args.e c.line_bytes-width.result c.line_bytes-width.ensures) }
-
-pub overflow_add-width-in-21 : goal.overflow_add-width-in-21
-overflow_add-width-in-21 c = record { fits = omega (arith, bytes_most c.args.e c.line_bytes-width.result c.line_bytes-width.ensures) }
-
-pub overflow_mul-sized-in-22 : goal.overflow_mul-sized-in-22
-overflow_mul-sized-in-22 c = record { fits = omega (arith, bytes_most c.args.e c.line_bytes-width.result c.line_bytes-width.ensures) }
-
-pub overflow_add-width-in-22 : goal.overflow_add-width-in-22
-overflow_add-width-in-22 c = record { fits = omega (arith, bytes_most c.args.e c.line_bytes-width.result c.line_bytes-width.ensures) }
-
-pub overflow_mul-sized-then-made : goal.overflow_mul-sized-then-made
-overflow_mul-sized-then-made c = record { fits = omega (arith, c.requires) }
-
-pub overflow_add-k : goal.overflow_add-k
-overflow_add-k c = record { fits = omega (arith, c.requires) }
-
-pub overflow_mul-k : goal.overflow_mul-k
-overflow_mul-k c = record { fits = omega (arith, c.requires) }
-
 pub returns-then-made : goal.returns-then-made
 returns-then-made c = claim-laid c.in-32.is c.if-made.true c.sized-then-made.ensures
 

@@ -8,22 +8,13 @@ use borrow.Author.Rules.{rules}
 use Rattle.conversion_survey.proofs.lines_held.Goals as goal
 
 pub returns-then-n-eq0 : goal.returns-then-n-eq0
-returns-then-n-eq0 c = held_none (edition c.args.e).line_width (edition c.args.to).line_width c.args.n c.args.p.now c.args.start c.if-n-eq0.true
-
-pub line_held-requires : goal.line_held-requires
-line_held-requires c = first_fits _ _ _ _ c.if-n-eq0.false c.requires.e_in_bounds
+returns-then-n-eq0 c = held_none (edition c.args.editions.from).line_width (edition c.args.editions.to).line_width c.args.n c.args.p.now c.args.start c.if-n-eq0.true
 
 pub returns-then-n-eq1 : goal.returns-then-n-eq1
-returns-then-n-eq1 c = held_one (edition c.args.e).line_width (edition c.args.to).line_width c.args.n c.args.p.now c.args.start c.if-n-eq1.true (sym c.line_held.ensures ∙ c.if-line_held.true)
-
-pub overflow_add-start : goal.overflow_add-start
-overflow_add-start c = let h : c.args.start + c.line_bytes.result ≤ length c.args.p.now = rw c.line_bytes.ensures (first_fits _ _ _ _ c.if-n-eq0.false c.requires.e_in_bounds) in search rules
-
-pub line_held-requires-then-line_held : goal.line_held-requires-then-line_held
-line_held-requires-then-line_held c = rw c.line_bytes.ensures (second_fits _ _ _ _ c.if-n-eq0.false c.if-n-eq1.false c.requires.e_in_bounds)
+returns-then-n-eq1 c = held_one (edition c.args.editions.from).line_width (edition c.args.editions.to).line_width c.args.n c.args.p.now c.args.start c.if-n-eq1.true (sym c.line_held.ensures ∙ c.if-line_held.true)
 
 pub returns-then-line_held : goal.returns-then-line_held
-returns-then-line_held c = (rw c.line_bytes.ensures at c.line_held-then-line_held.ensures) ∙ held_two (edition c.args.e).line_width (edition c.args.to).line_width c.args.n c.args.p.now c.args.start c.if-n-eq0.false c.if-n-eq1.false c.requires.n_bound (sym c.line_held.ensures ∙ c.if-line_held.true)
+returns-then-line_held c = (rw c.line_bytes.ensures at c.line_held-then-line_held.ensures) ∙ held_two (edition c.args.editions.from).line_width (edition c.args.editions.to).line_width c.args.n c.args.p.now c.args.start c.if-n-eq0.false c.if-n-eq1.false c.requires.n_bound (sym c.line_held.ensures ∙ c.if-line_held.true)
 
 pub returns : goal.returns
-returns c = held-not (edition c.args.e).line_width (edition c.args.to).line_width c.args.n c.args.p.now c.args.start c.if-n-eq0.false c.requires.n_bound (sym c.line_held.ensures ∙ c.if-line_held.false)
+returns c = held-not (edition c.args.editions.from).line_width (edition c.args.editions.to).line_width c.args.n c.args.p.now c.args.start c.if-n-eq0.false c.requires.n_bound (sym c.line_held.ensures ∙ c.if-line_held.false)

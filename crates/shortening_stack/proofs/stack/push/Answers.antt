@@ -2,8 +2,5 @@
 use Rattle.shortening_stack.proofs.Stacks.{pushed_none, pushed-some}
 use Rattle.shortening_stack.proofs.stack.push.Goals as goal
 
-pub returns-then-left-eq0 : goal.returns-then-left-eq0
-returns-then-left-eq0 c = pushed_none c.args.steps.now c.args.depth c.args.lines c.args.kept c.args.left c.if-left-eq0.true
-
 pub returns : goal.returns
 returns c = pushed-some c.args.steps.now c.args.depth c.args.lines c.args.kept c.args.left c.requires c.if-left-eq0.false
