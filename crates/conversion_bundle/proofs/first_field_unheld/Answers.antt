@@ -4,11 +4,5 @@ use Rattle.fields.specs.Places.{fields_at}
 use Rattle.conversion_bundle.proofs.Holding.{up-held}
 use Rattle.conversion_bundle.proofs.first_field_unheld.Goals as goal
 
-pub first_long-requires : goal.first_long-requires
-first_long-requires c = rw (eq-eqb c.args.to 1 c.if-to-eq1.true) at c.requires
-
-pub returns-then-to-eq1 : goal.returns-then-to-eq1
-returns-then-to-eq1 c = rw c.if-to-eq1.true c.first_long.ensures
-
 pub returns : goal.returns
 returns c = up-held c.args.to c.args.k 0 c.args.count (fields_at c.args.s.now c.args.at) (rw (ne_eqb c.args.to 1 c.if-to-eq1.false)) c.requires.counts

@@ -9,9 +9,6 @@ use Rattle.conversion_bundle.specs.Turned.{numbers_held}
 use Rattle.conversion_bundle.proofs.Holding.{held_on, held-stop, held_none}
 use Rattle.conversion_bundle.proofs.first_long.Goals as goal
 
-pub loop-n-init : goal.loop-n-init
-loop-n-init c = (refl, c.requires)
-
 pub bounds-s-here : goal.bounds-s-here
 bounds-s-here c = let k = left-took c.loop-n.invariant.1 c.loop-n-test.true in omega (arith, k.upto)
 
@@ -23,9 +20,6 @@ longs_held-requires c = (left-turn (took-starts (left-took c.loop-n.invariant.1 
 
 pub overflow_add-here-then-longs_held : goal.overflow_add-here-then-longs_held
 overflow_add-here-then-longs_held c = let t = left-turn (took-starts (left-took c.loop-n.invariant.1 c.loop-n-test.true) c.if-tag-lt128.true) c.loop-n.invariant.1 in omega (arith, t.bytes)
-
-pub overflow_add-n : goal.overflow_add-n
-overflow_add-n c = let t = left-turn (took-starts (left-took c.loop-n.invariant.1 c.loop-n-test.true) c.if-tag-lt128.true) c.loop-n.invariant.1 in omega (arith, t.few)
 
 pub loop-n-smaller-then-longs_held : goal.loop-n-smaller-then-longs_held
 loop-n-smaller-then-longs_held c = let t = left-turn (took-starts (left-took c.loop-n.invariant.1 c.loop-n-test.true) c.if-tag-lt128.true) c.loop-n.invariant.1 in omega (arith, t.bytes)
@@ -42,24 +36,8 @@ returns-else-longs_held c =
     let k = took-starts (left-took c.loop-n.invariant.1 c.loop-n-test.true) c.if-tag-lt128.true in
     c.loop-n.invariant.0 ∙ held-stop 1 k (left-turn k c.loop-n.invariant.1) (sym c.longs_held.ensures ∙ c.if-longs_held.false)
 
-pub overflow_add-here-else-tag-lt128 : goal.overflow_add-here-else-tag-lt128
-overflow_add-here-else-tag-lt128 c = let k = left-took c.loop-n.invariant.1 c.loop-n-test.true in omega (arith, k.upto)
-
 pub unsigned_at-requires : goal.unsigned_at-requires
 unsigned_at-requires c = let k = left-took c.loop-n.invariant.1 c.loop-n-test.true in record { width_bound = omega arith; width_in_bounds = omega (arith, k.upto) }
-
-pub overflow_add-here-else-tag-lt128-2 : goal.overflow_add-here-else-tag-lt128-2
-overflow_add-here-else-tag-lt128-2 c = omega (arith, c.unsigned_at.ensures.below)
-
-pub overflow_add-here-else-tag-lt128-3 : goal.overflow_add-here-else-tag-lt128-3
-overflow_add-here-else-tag-lt128-3 c =
-    let k = left-took c.loop-n.invariant.1 c.loop-n-test.true in
-    omega (arith, k.upto, c.unsigned_at.ensures.is ∙ len_is c.args.s.now c.loop-n.here (omega (arith, k.upto)))
-
-pub loop-n-smaller : goal.loop-n-smaller
-loop-n-smaller c =
-    let k = left-took c.loop-n.invariant.1 c.loop-n-test.true in
-    omega (arith, k.upto, c.unsigned_at.ensures.is ∙ len_is c.args.s.now c.loop-n.here (omega (arith, k.upto)))
 
 pub loop-n-preserved : goal.loop-n-preserved
 loop-n-preserved c =

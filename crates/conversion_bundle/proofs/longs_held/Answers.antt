@@ -9,15 +9,6 @@ use Rattle.bundle.specs.Write.{holdable}
 use Rattle.number_ranges.proofs.Ranging.{every-next, and-true}
 use Rattle.conversion_bundle.proofs.longs_held.Goals as goal
 
-pub loop-i-init : goal.loop-i-init
-loop-i-init c =
-    let y : c.args.n - 0 ≡ c.args.n = omega arith in
-    let z : c.args.start + 0 ≡ c.args.start = omega arith in
-    rw (y, z)
-
-pub long_held-ok-requires : goal.long_held-ok-requires
-long_held-ok-requires c = omega arith
-
 pub loop-i-preserved : goal.loop-i-preserved
 loop-i-preserved c =
     let a = c.args in

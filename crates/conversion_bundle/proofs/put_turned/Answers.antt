@@ -5,11 +5,5 @@ use Rattle.conversion_bundle.specs.Turned.{constraints_turned}
 use Rattle.conversion_bundle.proofs.Putting.{header-put}
 use Rattle.conversion_bundle.proofs.put_turned.Goals as goal
 
-pub put_header-requires : goal.put_header-requires
-put_header-requires c = omega (arith, c.requires.k_in_bounds)
-
-pub turn_constraints-requires : goal.turn_constraints-requires
-turn_constraints-requires c = record { constraints_left = c.requires.constraints_left; at_value = c.requires.at_value; k_in_bounds = omega (arith, c.requires.k_in_bounds, c.put_header.auto.out) }
-
 pub returns : goal.returns
 returns c = header-put c.args.to c.args.k c.args.out.now (constraints_turned c.args.to c.args.k (fields_at c.args.s.now c.args.at)) c.put_header.ensures c.turn_constraints.ensures

@@ -8,36 +8,12 @@ use Rattle.fields.proofs.Stores.{put-field}
 use Rattle.conversion_bundle.proofs.Putting.{run-size}
 use Rattle.conversion_bundle.proofs.turn_constraint.Goals as goal
 
-pub overflow_mul-n : goal.overflow_mul-n
-overflow_mul-n c =
-    let h : (c.args.k + 1) * c.coefficient_bytes.result ≤ length c.args.out.now = rw c.coefficient_bytes.ensures (omega (arith, c.requires.k_in_bounds)) in
-    record { fits = omega (arith, h) }
-
-pub put_head-requires : goal.put_head-requires
-put_head-requires c = omega (arith, c.requires.k_in_bounds)
-
-pub overflow_add-o : goal.overflow_add-o
-overflow_add-o c = omega (arith, c.requires.k_in_bounds)
-
-pub turn_run-requires : goal.turn_run-requires
-turn_run-requires c =
-    let p = rw (eq-eqb c.args.to 1 c.if-to-eq1.true) at c.requires in
-    record { from_in_bounds = p.to_in_bounds; s_value = p.s_value; width_in_bounds = omega (arith, p.k_in_bounds, c.put_head.auto.out) }
-
 pub returns-then-to-eq1 : goal.returns-then-to-eq1
 returns-then-to-eq1 c =
     let a = c.args in
     let q = eq-eqb a.to 1 c.if-to-eq1.true in
     let b : c.coefficient_bytes.result ≡ 2 = c.coefficient_bytes.ensures ∙ rw q in
     rw q (put-field a.out.now a.o a.tag _ _ c.put_head.ensures c.turn_run.ensures (run-size 4 2 (a.k + 1) (drop a.start a.s.now) ∙ ap (λ (m : ℕ). (a.k + 1) * m) (sym b)))
-
-pub overflow_add-o-2 : goal.overflow_add-o-2
-overflow_add-o-2 c = omega (arith, c.requires.k_in_bounds)
-
-pub turn_run-requires-2 : goal.turn_run-requires-2
-turn_run-requires-2 c =
-    let p = rw (ne_eqb c.args.to 1 c.if-to-eq1.false) at c.requires in
-    record { from_in_bounds = p.to_in_bounds; s_value = p.s_value; width_in_bounds = omega (arith, p.k_in_bounds, c.put_head.auto.out) }
 
 pub returns : goal.returns
 returns c =

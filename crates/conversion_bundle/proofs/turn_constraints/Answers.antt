@@ -12,33 +12,6 @@ use Rattle.conversion_bundle.specs.Turned.{old_width}
 use Rattle.conversion_bundle.proofs.Putting.{putting-start, putting-room, putting-note, putting-done, putting-turn, putting-held, putting-next}
 use Rattle.conversion_bundle.proofs.turn_constraints.Goals as goal
 
-pub overflow_mul-size : goal.overflow_mul-size
-overflow_mul-size c =
-    let k : c.args.k + 1 ≤ 256 = omega (arith, c.ranges.k.fits) in
-    let w : c.old_bytes.result ≤ 4 = rw c.old_bytes.ensures (coefficient_width-most (other c.args.to)) in
-    record { fits = omega (arith, mul-le-mul k w) }
-
-pub overflow_add-size : goal.overflow_add-size
-overflow_add-size c =
-    let k : c.args.k + 1 ≤ 256 = omega (arith, c.ranges.k.fits) in
-    let w : c.old_bytes.result ≤ 4 = rw c.old_bytes.ensures (coefficient_width-most (other c.args.to)) in
-    record { fits = omega (arith, mul-le-mul k w) }
-
-pub overflow_mul-turned : goal.overflow_mul-turned
-overflow_mul-turned c =
-    let k : c.args.k + 1 ≤ 256 = omega (arith, c.ranges.k.fits) in
-    let w : c.coefficient_bytes.result ≤ 4 = rw c.coefficient_bytes.ensures (coefficient_width-most c.args.to) in
-    record { fits = omega (arith, mul-le-mul k w) }
-
-pub overflow_add-turned : goal.overflow_add-turned
-overflow_add-turned c =
-    let k : c.args.k + 1 ≤ 256 = omega (arith, c.ranges.k.fits) in
-    let w : c.coefficient_bytes.result ≤ 4 = rw c.coefficient_bytes.ensures (coefficient_width-most c.args.to) in
-    record { fits = omega (arith, mul-le-mul k w) }
-
-pub loop-n-init : goal.loop-n-init
-loop-n-init c = putting-start c.args.out.now c.args.o c.requires.constraints_left c.requires.at_value
-
 pub bounds-s-here : goal.bounds-s-here
 bounds-s-here c = let k = left-took c.loop-n.invariant.left c.loop-n-test.true in omega (arith, k.upto)
 
@@ -56,16 +29,6 @@ overflow_add-here-then-tag-lt128 c =
     let h : c.loop-n.here + (3 + (c.args.k + 1) * c.old_bytes.result) ≤ length c.args.s.now = rw c.old_bytes.ensures (omega (arith, (putting-turn c.loop-n.invariant k).bytes)) in
     record { fits = omega (arith, h) }
 
-pub overflow_add-end : goal.overflow_add-end
-overflow_add-end c =
-    let h : c.loop-n.end + (3 + (c.args.k + 1) * c.coefficient_bytes.result) ≤ length c.loop-n.out = rw c.coefficient_bytes.ensures (putting-room c.loop-n.invariant c.requires.k_in_bounds c.loop-n-test.true) in
-    record { fits = omega (arith, h, c.loop-n.invariant.long) }
-
-pub overflow_add-n : goal.overflow_add-n
-overflow_add-n c =
-    let k = took-starts (left-took c.loop-n.invariant.left c.loop-n-test.true) c.if-tag-lt128.true in
-    record { fits = omega (arith, (putting-turn c.loop-n.invariant k).few) }
-
 pub loop-n-smaller-then-tag-lt128 : goal.loop-n-smaller-then-tag-lt128
 loop-n-smaller-then-tag-lt128 c =
     let k = took-starts (left-took c.loop-n.invariant.left c.loop-n-test.true) c.if-tag-lt128.true in
@@ -80,24 +43,8 @@ loop-n-preserved-then-tag-lt128 c =
     let z : l.here + (3 + (a.k + 1) * old_width a.to) ≡ l.here + 3 + (a.k + 1) * old_width a.to = omega arith in
     rw (c.old_bytes.ensures, c.coefficient_bytes.ensures, z, ← (putting-turn l.invariant k).goes) (putting-next l.invariant k c.turn_constraint.ensures)
 
-pub overflow_add-here-else-tag-lt128 : goal.overflow_add-here-else-tag-lt128
-overflow_add-here-else-tag-lt128 c = let k = left-took c.loop-n.invariant.left c.loop-n-test.true in omega (arith, k.upto)
-
 pub unsigned_at-requires : goal.unsigned_at-requires
 unsigned_at-requires c = let k = left-took c.loop-n.invariant.left c.loop-n-test.true in record { width_bound = omega arith; width_in_bounds = omega (arith, k.upto) }
-
-pub overflow_add-here-else-tag-lt128-2 : goal.overflow_add-here-else-tag-lt128-2
-overflow_add-here-else-tag-lt128-2 c = omega (arith, c.unsigned_at.ensures.below)
-
-pub overflow_add-here-else-tag-lt128-3 : goal.overflow_add-here-else-tag-lt128-3
-overflow_add-here-else-tag-lt128-3 c =
-    let k = left-took c.loop-n.invariant.left c.loop-n-test.true in
-    omega (arith, k.upto, c.unsigned_at.ensures.is ∙ len_is c.args.s.now c.loop-n.here (omega (arith, k.upto)))
-
-pub loop-n-smaller : goal.loop-n-smaller
-loop-n-smaller c =
-    let k = left-took c.loop-n.invariant.left c.loop-n-test.true in
-    omega (arith, k.upto, c.unsigned_at.ensures.is ∙ len_is c.args.s.now c.loop-n.here (omega (arith, k.upto)))
 
 pub loop-n-preserved : goal.loop-n-preserved
 loop-n-preserved c =
@@ -105,9 +52,6 @@ loop-n-preserved c =
     let e = c.unsigned_at.ensures.is ∙ len_is c.args.s.now c.loop-n.here (omega (arith, k.upto)) in
     let z : c.loop-n.here + (3 + c.unsigned_at.result) ≡ c.loop-n.here + 3 + c.unsigned_at.result = omega arith in
     rw (z, e) (putting-note c.loop-n.invariant (took-note k c.if-tag-lt128.false))
-
-pub shape_of-out : goal.shape_of-out
-shape_of-out c = c.loop-n.invariant.long
 
 pub returns : goal.returns
 returns c = putting-done c.loop-n.invariant c.loop-n-test.false

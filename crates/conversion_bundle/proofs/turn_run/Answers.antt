@@ -14,29 +14,6 @@ use Rattle.conversion_bundle.proofs.Holding.{run-held}
 use Rattle.conversion_bundle.proofs.Putting.{run-next}
 use Rattle.conversion_bundle.proofs.turn_run.Goals as goal
 
-pub loop-i-init : goal.loop-i-init
-loop-i-init c =
-    let a = c.args in
-    let x : a.o + 0 * bytes_of a.width ≡ a.o = rw (zero-mul (bytes_of a.width)) (omega arith) in
-    let y : a.n - 0 ≡ a.n = omega arith in
-    let z : a.start + 0 * bytes_of a.from ≡ a.start = rw (zero-mul (bytes_of a.from)) (omega arith) in
-    (rw (x, y, z), rw (y, z) c.requires.s_value, refl)
-
-pub overflow_mul-i : goal.overflow_mul-i
-overflow_mul-i c = record { fits = rw c.bytes-old.ensures (omega (arith, part-before c.loop-i.i c.args.n (bytes_of c.args.from) c.loop-i-test.true, c.requires.from_in_bounds)) }
-
-pub overflow_add-start : goal.overflow_add-start
-overflow_add-start c = record { fits = rw c.bytes-old.ensures (omega (arith, part-before c.loop-i.i c.args.n (bytes_of c.args.from) c.loop-i-test.true, c.requires.from_in_bounds)) }
-
-pub signed_at-x-requires : goal.signed_at-x-requires
-signed_at-x-requires c = rw c.bytes-old.ensures (omega (arith, part-before c.loop-i.i c.args.n (bytes_of c.args.from) c.loop-i-test.true, c.requires.from_in_bounds))
-
-pub overflow_mul-i-in-loop-i : goal.overflow_mul-i-in-loop-i
-overflow_mul-i-in-loop-i c = record { fits = rw c.bytes-new.ensures (omega (arith, part-before c.loop-i.i c.args.n (bytes_of c.args.width) c.loop-i-test.true, c.requires.width_in_bounds)) }
-
-pub overflow_add-o : goal.overflow_add-o
-overflow_add-o c = record { fits = rw c.bytes-new.ensures (omega (arith, part-before c.loop-i.i c.args.n (bytes_of c.args.width) c.loop-i-test.true, c.requires.width_in_bounds)) }
-
 pub put_signed-requires : goal.put_signed-requires
 put_signed-requires c =
     let a = c.args in
@@ -56,9 +33,6 @@ loop-i-preserved c =
       (run-held (bytes_of a.from) a.s.now a.start c.loop-i.i a.n c.loop-i-test.true (bytes_of a.width) c.loop-i.invariant.1).1,
       c.put_signed.auto.out ∙ c.loop-i.invariant.2,
     )
-
-pub shape_of-out : goal.shape_of-out
-shape_of-out c = c.loop-i.invariant.2
 
 pub returns : goal.returns
 unfolding signeds signeds_bytes

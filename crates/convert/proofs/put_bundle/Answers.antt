@@ -6,18 +6,6 @@ use Rattle.forms.proofs.Editions.{coefficient_width-most}
 use Rattle.convert.proofs.Constraints.{left, size-most, bundle-output-short, bundle-put}
 use Rattle.convert.proofs.put_bundle.Goals as goal
 
-pub overflow_mul-size : goal.overflow_mul-size
-overflow_mul-size c =
-    let k : c.args.k + 1 ≤ 256 = omega (arith, c.ranges.k.fits) in
-    let w : c.coefficient_bytes.result ≤ 4 = rw c.coefficient_bytes.ensures (coefficient_width-most c.args.to) in
-    record { fits = omega (arith, mul-le-mul k w) }
-
-pub overflow_add-size-2 : goal.overflow_add-size-2
-overflow_add-size-2 c =
-    let k : c.args.k + 1 ≤ 256 = omega (arith, c.ranges.k.fits) in
-    let w : c.coefficient_bytes.result ≤ 4 = rw c.coefficient_bytes.ensures (coefficient_width-most c.args.to) in
-    record { fits = omega (arith, mul-le-mul k w) }
-
 pub overflow_mul-size-2 : goal.overflow_mul-size-2
 overflow_mul-size-2 c =
     let h : 8 + c.args.body.count * (3 + (c.args.k + 1) * c.coefficient_bytes.result) ≤ 8_192 = rw c.coefficient_bytes.ensures (size-most c.args.to c.args.file.now c.args.out.now c.args.k c.args.body c.requires) in

@@ -3,9 +3,6 @@ use native.Mathlib.Omega.{arith}
 use Rattle.convert.proofs.Phases.{lines-stand, result-too-long, output-short, put-fits, all-put}
 use Rattle.convert.proofs.put_proof.Goals as goal
 
-pub overflow_add-size : goal.overflow_add-size
-overflow_add-size c = omega (arith, c.requires.entered.most)
-
 pub returns-then-size-gt-PROOF_BYTES : goal.returns-then-size-gt-PROOF_BYTES
 returns-then-size-gt-PROOF_BYTES c = result-too-long c.args.to c.args.file.now c.args.out.now c.args.proof.head.next c.args.proof.head.k c.args.proof.head.edition c.args.proof.size c.requires c.if-size-gt-PROOF_BYTES.true c.refused.ensures
 

@@ -6,9 +6,6 @@ use Rattle.convert.proofs.turn_proof.Goals as goal
 pub returns-then-not-is_edition : goal.returns-then-not-is_edition
 returns-then-not-is_edition c = proof-unasked c.args.edition c.args.file.now c.args.out.now c.is_edition.ensures c.if-not-is_edition.true c.refused.ensures
 
-pub overflow_cast-to : goal.overflow_cast-to
-overflow_cast-to c = omega (arith, one_or_two c.args.edition c.args.file.now c.args.out.now c.is_edition.ensures c.if-not-is_edition.false)
-
 pub turnable_proof-requires : goal.turnable_proof-requires
 turnable_proof-requires c = asked_by c.args.edition c.args.file.now c.args.out.now c.is_edition.ensures c.if-not-is_edition.false
 

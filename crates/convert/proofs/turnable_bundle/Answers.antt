@@ -29,8 +29,3 @@ returns-in_err-first_field_unheld c =
     let p = err_from_is_err_and c.from_residual-in_err-first_field_unheld.result c.from_residual-in_err-first_field_unheld.ensures.1 in
     let t = to-turn c.args.to c.args.file.now c.requires (omega (arith, c.if-file-gt-BUNDLE_BYTES.false)) c.has_other.ensures c.in_ok-has_other.was in
     rw (p.1, p.2) (number-unheld c.args.to c.args.file.now _ _ (to-hold c.args.to c.args.file.now t c.scan.ensures c.in_ok-scanned.was) c.first_field_unheld.ensures c.in_err-first_field_unheld.was)
-
-pub returns : goal.returns
-returns c =
-    let t = to-turn c.args.to c.args.file.now c.requires (omega (arith, c.if-file-gt-BUNDLE_BYTES.false)) c.has_other.ensures c.in_ok-has_other.was in
-    none-unheld c.args.to c.args.file.now _ _ (to-hold c.args.to c.args.file.now t c.scan.ensures c.in_ok-scanned.was) c.first_field_unheld.ensures c.in_ok-first_field_unheld.was

@@ -39,13 +39,3 @@ returns-in_err-first_wide c =
     let p = err_from_is_err_and c.from_residual-in_err-first_wide.result c.from_residual-in_err-first_wide.ensures.1 in
     let t = to-enter c.args.to c.args.file.now c.requires (omega (arith, c.if-file-gt-PROOF_BYTES.false)) c.has_other.ensures c.in_ok-has_other.was c.read_header.ensures c.in_ok-head.was in
     rw (p.1, p.2) (too_wide c.args.to c.args.file.now _ _ _ _ (to-fit c.args.to c.args.file.now _ _ _ t c.read_entries.ensures c.in_ok-turned.was) c.first_wide.ensures c.in_err-first_wide.was)
-
-pub returns-in_ok-first_wide : goal.returns-in_ok-first_wide
-returns-in_ok-first_wide c =
-    let t = to-enter c.args.to c.args.file.now c.requires (omega (arith, c.if-file-gt-PROOF_BYTES.false)) c.has_other.ensures c.in_ok-has_other.was c.read_header.ensures c.in_ok-head.was in
-    none-wide c.args.to c.args.file.now _ _ _ _ (to-fit c.args.to c.args.file.now _ _ _ t c.read_entries.ensures c.in_ok-turned.was) c.first_wide.ensures c.in_ok-first_wide.was
-
-pub returns-else-not-turned : goal.returns-else-not-turned
-returns-else-not-turned c =
-    let t = to-enter c.args.to c.args.file.now c.requires (omega (arith, c.if-file-gt-PROOF_BYTES.false)) c.has_other.ensures c.in_ok-has_other.was c.read_header.ensures c.in_ok-head.was in
-    to-put c.args.to c.args.file.now _ _ _ t c.read_entries.ensures c.in_ok-turned.was (not-false _ c.if-not-turned.false)

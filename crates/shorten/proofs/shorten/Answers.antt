@@ -13,6 +13,3 @@ pub shorten_accepted-requires : goal.shorten_accepted-requires
 shorten_accepted-requires c =
     let k = c.requires in
     is-accepted k.checks k.one (sym (ap (λ (a : Answer). a.number) k.is) ∙ c.if-checked-ne21.false)
-
-pub returns : goal.returns
-returns c = c.shorten_accepted.ensures

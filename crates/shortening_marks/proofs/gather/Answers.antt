@@ -34,11 +34,5 @@ loop-field-smaller-in-Claims c = starts-less (starts c.next_field.ensures c.in-O
 pub loop-field-preserved-in-Claims : goal.loop-field-preserved-in-Claims
 loop-field-preserved-in-Claims c = λ K a. gathering-claim (c.loop-field.invariant K a) (starts c.next_field.ensures c.in-Ok.is) c.outline_at-x.ensures c.in-Claims.is
 
-pub shape_of-gathered : goal.shape_of-gathered
-shape_of-gathered c = (c.loop-field.invariant c.args.body.k c.requires).gathered-length
-
-pub shape_of-steps : goal.shape_of-steps
-shape_of-steps c = (c.loop-field.invariant c.args.body.k c.requires).steps_length
-
 pub returns : goal.returns
 returns c = gathering-over (c.loop-field.invariant c.args.body.k c.requires) c.next_field.ensures c.in_default.not-Ok

@@ -4,8 +4,5 @@ use lib.ListN.{length-set}
 use Rattle.shortening_marks.proofs.Marking.{marked_start, marked_next}
 use Rattle.shortening_marks.proofs.mark_rows.Goals as goal
 
-pub loop-r-init : goal.loop-r-init
-loop-r-init c = (marked_start c.requires, refl)
-
 pub loop-r-preserved : goal.loop-r-preserved
 loop-r-preserved c = (marked_next c.requires c.loop-r.invariant.0 c.loop-r-test.true c.mark_row.ensures, simp length-set c.loop-r.invariant.1)

@@ -34,9 +34,6 @@ renew-requires-else-report-rows-eq0 c = row-renewable (c.loop-field.invariant c.
 pub advance-standing-requires : goal.advance-standing-requires
 advance-standing-requires c = stack-room (c.loop-field.invariant c.args.body.k c.requires) (starts c.next_field.ensures c.in-Ok.is) c.if-field-eq32.false c.if-report-rows-eq0.false
 
-pub overflow_add-rows-else-report-rows-eq0 : goal.overflow_add-rows-else-report-rows-eq0
-overflow_add-rows-else-report-rows-eq0 c = record { fits = omega (arith, rows_fit (c.loop-field.invariant c.args.body.k c.requires) (starts c.next_field.ensures c.in-Ok.is) c.if-field-eq32.false) }
-
 pub loop-field-smaller-then-stays : goal.loop-field-smaller-then-stays
 loop-field-smaller-then-stays c = starts-less (starts c.next_field.ensures c.in-Ok.is)
 
@@ -60,15 +57,6 @@ loop-field-smaller c = starts-less (starts c.next_field.ensures c.in-Ok.is)
 
 pub loop-field-preserved : goal.loop-field-preserved
 loop-field-preserved c = λ K a. writing-row (c.loop-field.invariant K a) (starts c.next_field.ensures c.in-Ok.is) c.if-field-eq32.false c.if-report-rows-eq0.false c.outline_at-x.ensures c.put_kept-to-else-report-rows-eq0.ensures c.renew-else-report-rows-eq0.ensures c.advance-standing.ensures
-
-pub shape_of-gones : goal.shape_of-gones
-shape_of-gones c = (c.loop-field.invariant c.args.body.k c.requires).gones-length
-
-pub shape_of-steps : goal.shape_of-steps
-shape_of-steps c = (c.loop-field.invariant c.args.body.k c.requires).steps_length
-
-pub shape_of-out : goal.shape_of-out
-shape_of-out c = (c.loop-field.invariant c.args.body.k c.requires).out_length
 
 pub returns : goal.returns
 returns c = writing-over (c.loop-field.invariant c.args.body.k c.requires) c.next_field.ensures c.in_default.not-Ok

@@ -5,18 +5,6 @@ use Rattle.shortening_table.proofs.Counting.{Passed, counting-start, counting-do
 use Rattle.shortening_table.proofs.table_bytes.Goals as goal
 use Rattle.shortening_table.proofs.table_bytes.Goals.{then-field-ne32, else-field-ne32}
 
-pub loop-field-init : goal.loop-field-init
-loop-field-init c = counting-start c.requires
-
-pub bounds-report-rows : goal.bounds-report-rows
-bounds-report-rows c = row-there c.loop-field.invariant (starts c.next_field.ensures c.in-Ok.is) c.if-field-ne32.true
-
-pub overflow_add-rows : goal.overflow_add-rows
-overflow_add-rows c = record { fits = omega (arith, row-there c.loop-field.invariant (starts c.next_field.ensures c.in-Ok.is) c.if-field-ne32.true) }
-
-pub overflow_add-bytes : goal.overflow_add-bytes
-overflow_add-bytes c = record { fits = omega (arith, kept_lines-fit c.loop-field.invariant (starts c.next_field.ensures c.in-Ok.is)) }
-
 pub overflow_add-bytes-then-stays : goal.overflow_add-bytes-then-stays
 overflow_add-bytes-then-stays c = record { fits = omega (arith, kept_lines-fit c.loop-field.invariant (starts c.next_field.ensures c.in-Ok.is)) }
 
@@ -39,6 +27,3 @@ loop-field-preserved c =
     let q : Passed c.loop-field.invariant k c.if-field-ne32.rows c.if-field-ne32.stays =
     elim c.if-field-ne32.branch [ then-field-ne32 w ↦ passed-row c.loop-field.invariant k w.if-field-ne32.true w.rows-is w.stays-is | else-field-ne32 w ↦ passed-claim c.loop-field.invariant k w.if-field-ne32.false w.rows-is w.stays-is ] in
     field-goes c.loop-field.invariant k q c.if-stays.false
-
-pub returns : goal.returns
-returns c = let (is, within) = counting-done c.loop-field.invariant c.next_field.ensures c.in_default.not-Ok in record { is = is; within = within }

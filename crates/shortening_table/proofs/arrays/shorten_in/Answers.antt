@@ -8,6 +8,3 @@ report_rows-rows-requires g c = reportable (shortenable g.row.ROWS g.row.LINES c
 
 pub write_both-requires : goal.write_both-requires
 write_both-requires g c = deliverable (shortenable g.row.ROWS g.row.LINES c.requires.rows_bound (omega (arith, c.requires.lines_are)) c.requires.stated) c.report_rows-rows.ensures c.report_rows-rows.auto.steps
-
-pub returns : goal.returns
-returns g c = c.write_both.ensures

@@ -8,17 +8,11 @@ use Rattle.shortening_table.proofs.arrays.write_both.Goals as goal
 pub table_bytes-needed-requires : goal.table_bytes-needed-requires
 table_bytes-needed-requires c = countable c.requires
 
-pub overflow_add-needed : goal.overflow_add-needed
-overflow_add-needed c = let within = c.table_bytes-needed.ensures.within in search rules
-
 pub returns-then-report-rows : goal.returns-then-report-rows
 returns-then-report-rows c = report-short c.requires c.table_bytes-needed.ensures.is c.args.report.now c.args.table.now c.if-report-rows.true c.refusal.ensures c.refused-short.ensures
 
 pub returns-then-table-needed : goal.returns-then-table-needed
 returns-then-table-needed c = table-short c.requires c.table_bytes-needed.ensures.is c.args.report.now c.args.table.now c.if-table-needed.true c.refusal.ensures c.refused-short.ensures
-
-pub put_header-requires : goal.put_header-requires
-put_header-requires c = omega (arith, c.if-table-needed.false)
 
 pub put_table-requires : goal.put_table-requires
 put_table-requires c = writable c.requires c.table_bytes-needed.ensures.is c.args.report.now c.args.table.now c.if-report-rows.false c.if-table-needed.false c.put_header.auto.out
