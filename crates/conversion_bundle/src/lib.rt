@@ -51,7 +51,8 @@ fn longs_held(s: &[u8], start: usize, n: usize) -> bool
     ok
 }
 
-// Of the count constraints from at on, of edition 2, the first with a number that edition 1 does not hold.
+// Of the count constraints from at on, of edition 2, the first with a number that edition 1 does not hold. (Counted by hand, here
+// and below: a note between them is no constraint.)
 fn first_long(s: &[u8], at: usize, k: u8, count: usize) -> Result<(), Fault>
     requires { ConstraintsLeft 4 k 0 count s.now at }
     ensures { numbers_held 1 k (fields_at s.now at) ≡ told file_a (λ x. x) result }

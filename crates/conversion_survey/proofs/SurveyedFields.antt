@@ -1,18 +1,16 @@
 -- Laws for each way through the code: the fields of a proof gone over one by one. Assumes nothing.
 use mathlib.Core.Path.{◌≡◌, refl, sym, ◌∙◌, ap, ap₂, subst}
-use mathlib.Core.Logic.{◌⊎◌, inl, inr}
 use mathlib.Core.Option.{Option, none, some}
 use mathlib.Core.Bool.{Bool, true, false, ◌&&◌}
 use mathlib.Core.List.{List, [], ◌∷◌, ◌++◌}
 use Prim.Native.Nat.{ℕ, zero, suc, ◌+◌, ◌-◌, ◌*◌, ◌^◌, ◌≤◌}
-use native.Mathlib.Nat.{suc-mul, mul-le-mul}
+use native.Mathlib.Nat.{suc-mul}
 use native.Mathlib.Omega.{arith}
-use borrow.Author.Tests.{eqb-true, eqb-false, eq-eqb, ne_eqb}
+use borrow.Author.Tests.{eqb-true, eqb-false, ne_eqb}
 use lib.Dec.{ltb, eqb}
 use lib.ListN.{length, take, drop, length-drop, length-append}
 use lib.Seq.{drop-drop, take-take}
 use Rattle.forms.specs.Edition.{edition}
-use Rattle.forms.proofs.Editions.{line_width-is, line_width-most, line_width-by}
 use Rattle.forms.specs.Forms.{every}
 use Rattle.calculus.specs.Rules.{Entry}
 use Rattle.std.specs.Prelude.{Ok, Err}
@@ -39,12 +37,6 @@ use Rattle.conversion.proofs.Carried.{head-size, turned-is}
 use Rattle.conversion_survey.specs.SurveyAnswers.{sized_by, sized_as, AnswersOf, FieldLaid, LinesThere, at_field}
 
 -- ---- what a tag and a length tell
-pub sized-fine : {len size : ℕ} (made : Bool) → len ≡ size → Ok made ≡ sized_as len size made
-sized-fine {len} {size} made h = ap (λ (b : Bool). sized_by b made) (sym (eq-eqb len size h))
-
-pub sized-not : {len size : ℕ} (made : Bool) → ¬ (len ≡ size) → Err Refusal.WrongLength ≡ sized_as len size made
-sized-not {len} {size} made h = ap (λ (b : Bool). sized_by b made) (sym (ne_eqb len size h))
-
 -- An entry in its place: 6, or the entry.
 in_size : (n K tag len : ℕ) (x : EntryTag) {size : ℕ} {m : Bool} (b : Bool) (f : Field) (refusal : ℕ → Answer) → eqb len size ≡ b → size_of (edition n) K x ≡ size → length f.contents ≡ len
     → ((bs : List ℕ) → makes_line (entry_from (edition n) K x bs) ≡ m) → line_count (entry_tagged tag) ≡ (shape x).line_numbers → (shape x).line_numbers * (edition n).line_width ≤ size → {r : Result Entry}
@@ -323,26 +315,7 @@ module _ (a b : ℕ) where
   unfolding fields_turned
   turned-ends e = rw e
 
-pub small_product : (x y : ℕ) → x ≤ 2 → y ≤ 2 → x * y ≤ 4
-small_product x y h k = mul-le-mul h k
-
 -- ---- widths
-pub bytes_most : (n r : ℕ) → r ≡ (edition n).line_width → r ≤ 2
-bytes_most n r e = omega (arith, line_width-most n)
-
-pub bytes-least : (n r : ℕ) → r ≡ (edition n).line_width → 1 ≤ r
-bytes-least n r e = go (line_width-is n) e
-  where
-    go : {w : ℕ} → (w ≡ 1) ⊎ (w ≡ 2) → r ≡ w → 1 ≤ r
-    go (inl p) q = omega arith
-    go (inr p) q = omega arith
-
-pub narrow-width : (n : ℕ) → n ≡ 1 → (edition n).line_width ≡ 1
-narrow-width n h = line_width-by n (eq-eqb n 1 h)
-
-pub wide-width : (n : ℕ) → ¬ (n ≡ 1) → (edition n).line_width ≡ 2
-wide-width n h = line_width-by n (ne_eqb n 1 h)
-
 pub first_fits : (n w start limit : ℕ) → ¬ (n ≡ 0) → start + n * w ≤ limit → start + w ≤ limit
 first_fits zero w start limit h k = absurd (h refl)
 first_fits (suc n) w start limit h k = omega (arith, suc-mul n w)
@@ -351,13 +324,6 @@ pub second_fits : (n w start limit : ℕ) → ¬ (n ≡ 0) → ¬ (n ≡ 1) → 
 second_fits zero w start limit h l k = absurd (h refl)
 second_fits (suc zero) w start limit h l k = absurd (l refl)
 second_fits (suc (suc n)) w start limit h l k = omega (arith, suc-mul (suc n) w, suc-mul n w)
-
-pub grows-by-two : (n w w' len : ℕ) → n ≤ 2 → 1 ≤ w → w' ≤ 2 → n * w ≤ len → n * w' + (len - n * w) ≤ len + 2
-grows-by-two n w w' len h l m k =
-    let n-n : n ≤ n = omega arith in
-    let x : n * w' ≤ n * 2 = mul-le-mul n-n m in
-    let y : n * 1 ≤ n * w = mul-le-mul n-n l in
-    omega arith
 
 -- ---- the sizes of fields
 module _ (a b : ℕ) {s : List ℕ} {at c t start len next : ℕ} (k : Starts s at c t start len next) where

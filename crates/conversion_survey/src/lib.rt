@@ -25,7 +25,7 @@ pub struct Turned {
     pub fit: bool,
 }
 
-// The edition that a proof has, and the one that it is turned into.
+// The edition that a proof has, and the one that it is turned into: as numbers, as headers say them.
 #[derive(Clone, Copy)]
 pub struct Editions {
     pub from: u8,
@@ -153,7 +153,8 @@ pub fn turned_len(tag: u8, len: usize, editions: Editions) -> usize
 }
 
 // Whether each field is an entry in its place, whether its line numbers fit, and how many bytes they have together when they are
-// turned: all at once, since a proof that is turned passes all. No line is looked for.
+// turned: all at once, since a proof that is turned passes all. No line is looked for. (A loop without a head: how the file ends
+// is told apart.)
 pub fn read_entries(p: &[u8], at: usize, k: u8, editions: Editions) -> Result<Turned, Fault>
     requires k_le_constants { k ≤ edition1.constants }
     requires p_len_bound { length p.now ≤ 65_536 }

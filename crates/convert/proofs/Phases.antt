@@ -6,8 +6,7 @@ use mathlib.Core.List.{List, ◌++◌}
 use Prim.Native.Nat.{ℕ, ◌+◌, ◌≤◌, ◌<◌}
 use native.Mathlib.Omega.{arith}
 use borrow.Author.Tests.{le-leb, lt-leb}
-use mir.Facts.{and_yes}
-use lib.Dec.{leb, le→leb, leb→le}
+use lib.Dec.{leb, le→leb}
 use lib.ListN.{length, length-append}
 use lib.Seq.{sets, length-sets}
 use Rattle.forms.specs.Edition.{edition, newest_edition}
@@ -60,10 +59,6 @@ module _ (to : ℕ) (file out : List ℕ) where
   pub asked_by : {b : Bool} → b ≡ (leb 1 to && leb to 2) → b ≡ true → asked to ≡ accepted tt
   unfolding asked need
   asked_by e f = rw (sym e ∙ f)
-
-  -- so it is one byte
-  pub one_or_two : {b : Bool} → b ≡ (leb 1 to && leb to 2) → b ≡ true → to ≤ 2
-  one_or_two e f = leb→le to 2 (and_yes (leb 1 to) (leb to 2) (rw (sym e ∙ f) tt)).1
 
   asked-not : {b : Bool} → b ≡ (leb 1 to && leb to 2) → b ≡ false → asked to ≡ refused (answer 5 file_lent 0)
   unfolding asked need

@@ -37,9 +37,6 @@ use Rattle.shortening_marks.specs.Marks.{no_row, row_of, Marking, making2, row_b
 use Rattle.shortening_marks.specs.Gathered.{rows_of, Stating, SameBack, starts_of, Gathered, Gatherable, GathersAll}
 
 -- ---- one row beside the passes
-lines_of : List Start → List ℕ
-lines_of ss = map (λ (s : Start). s.lines) ss
-
 same-making : (s t n : ℕ) (b c : Backward) → SameBack b c → SameBack (making2 s t n b) (making2 s t n c)
 same-making s t n b c h = record {
   marks = λ j. ap₂ (λ (x y : Bool). ((eqb j s || eqb j t) && x) || (not (eqb j n) && y)) (h.marks n) (h.marks j);

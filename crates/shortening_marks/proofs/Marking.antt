@@ -86,9 +86,6 @@ length-row Claims marks n s t = length-set marks s 1
 
 -- ---- the loop
 module _ {gathered : List GatheredRow} {rows : ℕ} {marks₀ report₀ : List ℕ} (able : Markable gathered rows marks₀ report₀) where
-  pub marked_start : MarkedFrom gathered rows rows marks₀ report₀ marks₀ report₀
-  marked_start = record { left = 0; left_is = omega arith; marking = able.none; reported = refl; marks_length = refl }
-
   pub marked-less : {r : ℕ} {marks report : List ℕ} → MarkedFrom gathered rows r marks₀ report₀ marks report → 0 < r → r - 1 < rows
   marked-less v h = omega (arith, h, v.left_is)
 
@@ -115,46 +112,3 @@ module _ {gathered : List GatheredRow} {rows : ℕ} {marks₀ report₀ : List �
   pub marked_next : {r : ℕ} {marks report marks' : List ℕ} {reported : ℕ} → (v : MarkedFrom gathered rows r marks₀ report₀ marks report) → 0 < r
       → MarkedRow marks (get_or gathered (r - 1) no_row) marks' reported → MarkedFrom gathered rows (r - 1) marks₀ report₀ marks' (set report (r - 1) reported)
   marked_next {r} v h k = marked_by r (r - 1) (omega (arith, h)) v k
-
--- ---- one row, by its tests
-pub made_none : (own : ℕ) (marks : List ℕ) (n s t : ℕ) → own ≡ 0 → set marks n 0 ≡ made_marks own marks n s t
-made_none own marks n s t h = sym (ap (λ (o : ℕ). made_marks o marks n s t) h)
-
-pub made_some : (own : ℕ) (marks : List ℕ) (n s t : ℕ) → ¬ (own ≡ 0) → set (set (set marks n 0) s 1) t 1 ≡ made_marks own marks n s t
-made_some zero marks n s t h = absurd (h refl)
-made_some (suc own) marks n s t h = refl
-
-module _ (marks marks' : List ℕ) (row : GatheredRow) where
-  pub row_makes : {r : ℕ} → row.class ≡ Makes → r ≡ get_or marks row.lines 0 → marks' ≡ made_marks (get_or marks row.lines 0) marks row.lines row.first row.second → MarkedRow marks row marks' r
-  row_makes e h k = record {
-    marks_are = k ∙ ap (λ (c : Class). row_marks c marks row.lines row.first row.second) (sym e);
-    reported_is = h ∙ ap (λ (c : Class). row_said c marks row.lines) (sym e);
-  }
-
-  pub row-branches : row.class ≡ Branches → marks' ≡ set (set marks row.lines 0) row.first 1 → MarkedRow marks row marks' 2
-  row-branches e k = record {
-    marks_are = k ∙ ap (λ (c : Class). row_marks c marks row.lines row.first row.second) (sym e);
-    reported_is = ap (λ (c : Class). row_said c marks row.lines) (sym e);
-  }
-
-  pub row_closes : ¬ (row.class ≡ Makes) → ¬ (row.class ≡ Branches) → marks' ≡ set marks row.first 1 → MarkedRow marks row marks' 2
-  row_closes e f k = by row.class refl
-    where
-      by : (c : Class) → row.class ≡ c → MarkedRow marks row marks' 2
-      by Makes q = absurd (e q)
-      by Branches q = absurd (f q)
-      by Closes q = record {
-        marks_are = k ∙ ap (λ (c : Class). row_marks c marks row.lines row.first row.second) (sym q);
-        reported_is = ap (λ (c : Class). row_said c marks row.lines) (sym q);
-      }
-      by Claims q = record {
-        marks_are = k ∙ ap (λ (c : Class). row_marks c marks row.lines row.first row.second) (sym q);
-        reported_is = ap (λ (c : Class). row_said c marks row.lines) (sym q);
-      }
-
--- ---- lengths
-pub length_two : (marks : List ℕ) (n s : ℕ) → length (set (set marks n 0) s 1) ≡ length marks
-length_two marks n s = length-set (set marks n 0) s 1 ∙ length-set marks n 0
-
-pub length_three : (marks : List ℕ) (n s t : ℕ) → length (set (set (set marks n 0) s 1) t 1) ≡ length marks
-length_three marks n s t = length-set (set (set marks n 0) s 1) t 1 ∙ length_two marks n s

@@ -37,7 +37,7 @@ pub const NO_ROW: GatheredRow = GatheredRow {
     second: 0,
 };
 
-// The rows of a proof, and how many there are.
+// The rows of a proof, and how many there are. (Counted by hand, here and in the table: a claim is no row.)
 pub fn gather(p: &[u8], body: ProofBody, gathered: &mut [GatheredRow], steps: &mut [Step]) -> usize
     requires { Gatherable body.edition body.k (fields_at p.now body.at) body.constraints gathered.old steps.old }
     ensures { GathersAll body.edition body.k (fields_at p.now body.at) body.constraints gathered.new result }

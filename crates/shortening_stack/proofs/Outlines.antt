@@ -3,12 +3,12 @@ use mathlib.Core.Path.{◌≡◌, refl, sym, ◌∙◌, ap, ap₂, subst}
 use mathlib.Core.Option.{Option, some}
 use mathlib.Core.Bool.{Bool, true, false, cond}
 use mathlib.Core.List.{List}
-use Prim.Native.Nat.{ℕ, ◌+◌, ◌*◌, ◌-◌, ◌≤◌, ◌<◌}
+use Prim.Native.Nat.{ℕ, ◌+◌, ◌*◌, ◌-◌, ◌≤◌}
 use native.Mathlib.Omega.{arith}
 use lib.Dec.{eqb}
 use lib.ListN.{length, take, drop, length-drop}
-use lib.Seq.{take-take, length-take-le, drop-drop}
-use borrow.Author.Tests.{eqb-true, ne_eqb, le-leb, lt-leb}
+use lib.Seq.{take-take, length-take-le}
+use borrow.Author.Tests.{eqb-true}
 use Rattle.forms.specs.Edition.{edition}
 use Rattle.calculus.specs.Rules.{Entry}
 use Rattle.number_bytes.specs.Numbers.{unsigned}
@@ -111,36 +111,3 @@ module _ (e K : ℕ) (p : List ℕ) (tag start len : ℕ) (y : Entry) (there : s
       (λ z. record { one = λ _. omega (arith, there, z); two = λ k. absurd (omega (arith, k)); rounding = λ k. absurd (omega (arith, k)) })
       (λ z. record { one = λ d. absurd (d refl); two = λ k. absurd (omega (arith, k)); rounding = λ k. absurd (omega (arith, k)) })
       h.tag long
-
--- ---- the code's ways
-module _ (w tag : ℕ) (bs : List ℕ) where
-  pub by-claim : tag ≡ 0x20 → outline Claims 0 0 0 ≡ outline_by w tag bs
-  by-claim h = rw h
-
-  pub by_two : tag ≤ 0x11 → outline Makes (unsigned (take w bs)) (unsigned (take w (drop w bs))) 0 ≡ outline_by w tag bs
-  by_two h = rw (ne_eqb tag 0x20 (λ e. absurd (let z : ⊥ = omega (arith, h, e) in z)), le-leb tag 0x11 h)
-
-  pub by-scale : tag ≡ 0x12 → outline Makes (unsigned (take w bs)) (unsigned (take w bs)) 0 ≡ outline_by w tag bs
-  by-scale h = rw h
-
-  pub by-strengthen : tag ≡ 0x13 → outline Branches (unsigned (take w bs)) (unsigned (take w bs)) 2 ≡ outline_by w tag bs
-  by-strengthen h = rw h
-
-  pub by-round : tag ≡ 0x16 → outline Branches (unsigned (take w bs)) (unsigned (take w bs)) (unsigned (take 2 (drop (w + 2) bs))) ≡ outline_by w tag bs
-  by-round h = rw h
-
-  pub by-split : tag ≡ 0x17 → outline Branches (unsigned (take w bs)) (unsigned (take w bs)) 1 ≡ outline_by w tag bs
-  by-split h = rw h
-
-  pub by-close : ¬ (tag ≡ 0x20) → 0x11 < tag → ¬ (tag ≡ 0x12) → ¬ (tag ≡ 0x13) → ¬ (tag ≡ 0x16) → ¬ (tag ≡ 0x17) → outline Closes (unsigned (take w bs)) (unsigned (take w bs)) 0 ≡ outline_by w tag bs
-  by-close d k d2 d3 d6 d7 = rw (ne_eqb tag 0x20 d, lt-leb tag 0x11 k, ne_eqb tag 0x12 d2, ne_eqb tag 0x13 d3, ne_eqb tag 0x16 d6, ne_eqb tag 0x17 d7)
-
--- further on in the contents
-module _ (p : List ℕ) (start w : ℕ) where
-  pub at_second : {x width : ℕ} → width ≡ w → x ≡ unsigned (take w (drop (start + width) p)) → x ≡ unsigned (take w (drop w (drop start p)))
-  at_second q h = h ∙ ap (λ (n : ℕ). unsigned (take w (drop (start + n) p))) q ∙ ap (λ (xs : List ℕ). unsigned (take w xs)) (sym (drop-drop w start p))
-
-  pub at-come : {x width : ℕ} → width ≡ w → x ≡ unsigned (take 2 (drop (start + width + 2) p)) → x ≡ unsigned (take 2 (drop (w + 2) (drop start p)))
-  at-come {width = width} q h =
-      let z : start + width + 2 ≡ start + (w + 2) = omega (arith, q) in
-      h ∙ ap (λ (n : ℕ). unsigned (take 2 (drop n p))) z ∙ ap (λ (xs : List ℕ). unsigned (take 2 xs)) (sym (drop-drop (w + 2) start p))

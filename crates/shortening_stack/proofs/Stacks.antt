@@ -8,7 +8,7 @@ use lib.Dec.{eqb}
 use lib.ListN.{length, get_or, set, length-set}
 use lib.Seq.{get_or-set_same, get_or-set_other}
 use borrow.Author.Tests.{eqb-true, eqb-false}
-use Rattle.shortening.specs.Passes.{top, pop, pushed, Start, no_start, branch_start}
+use Rattle.shortening.specs.Passes.{top, pop, pushed, Start, no_start}
 use Rattle.shortening_stack.specs.declared.Class.{Class}
 use Rattle.shortening_stack.specs.declared.Class.TheVariants.{Makes, Branches, Closes, Claims}
 use Rattle.shortening_stack.specs.declared.stack.Step.{Step}
@@ -58,15 +58,6 @@ bound-less : (steps : List Step) (d b : ℕ) → Bound steps (suc d) b → Bound
 bound-less steps d b a = record { bound = λ i l. a.bound i (omega (arith, l)) }
 
 -- ---- one more
-pub pushed_none : (steps : List Step) (d lines kept left : ℕ) → left ≡ 0 → Pushed steps d lines kept left steps d
-pushed_none steps d lines kept left e = record {
-  is = sym (ap (λ (n : ℕ). pushed n (branch_start lines kept) (stack_of steps d)) e);
-  alive = λ a. a;
-  most = omega arith;
-  bounded = λ b h k. k;
-  steps_length = refl;
-}
-
 pub pushed-some : (steps : List Step) (d lines kept left : ℕ) → d < length steps → ¬ (left ≡ 0) → Pushed steps d lines kept left (set steps d (record { lines = lines; kept = kept; left = left })) (d + 1)
 pushed-some steps d lines kept left h e =
     let x : Step = record { lines = lines; kept = kept; left = left } in
@@ -81,31 +72,12 @@ pushed-some steps d lines kept left h e =
     subst (λ (n : ℕ). Pushed steps d lines kept left (set steps d x) n) one on
 
 -- ---- one less
-pub popped-none : (steps : List Step) (d : ℕ) → d ≡ 0 → Popped steps d steps 0 0 d
-popped-none steps d e =
-    let on : Popped steps 0 steps 0 0 0 = record { is = λ a. refl; lines_are = refl; kept_are = refl; alive = λ a. a; most = omega arith; bounded = λ b k. k; steps_length = refl } in
-    subst (λ (n : ℕ). Popped steps n steps 0 0 n) (sym e) on
-
-times-one : (n : ℕ) (x : Start) (xs : List Start) → n ≡ 1 → xs ≡ pop (pushed n x xs)
-times-one n x xs h = sym (ap (λ (m : ℕ). pop (pushed m x xs)) h)
-
 times-less : (n : ℕ) (x : Start) (xs : List Start) → 1 < n → pushed (n - 1) x xs ≡ pop (pushed n x xs)
 times-less zero x xs h = absurd (omega (arith, h))
 times-less (suc n) x xs h = ap (λ (m : ℕ). pushed m x xs) (let z : suc n - 1 ≡ n = omega arith in z)
 
 abbrev step_at : List Step → ℕ → Step
 step_at steps d = get_or steps d no_step
-
-popped-last : (steps : List Step) (d : ℕ) → (step_at steps d).left ≤ 1 → Popped steps (suc d) steps (step_at steps d).lines (step_at steps d).kept d
-popped-last steps d h = record {
-  is = λ a. times-one (step_at steps d).left (start_in (step_at steps d)) (stack_of steps d) (omega (arith, h, a.alive d (omega arith)));
-  lines_are = refl;
-  kept_are = refl;
-  alive = λ a. alive-less steps d a;
-  most = omega arith;
-  bounded = λ b a. bound-less steps d b a;
-  steps_length = refl;
-}
 
 -- the same with one branch fewer to come
 abbrev one_fewer : Step → Step
@@ -123,12 +95,6 @@ popped-one steps d h k =
       bounded = λ b a. bound-set steps d b (one_fewer s) h (a.bound d (omega arith)) (bound-less steps d b a);
       steps_length = length-set steps d (one_fewer s);
     }
-
--- the last index, as the code has it
-pub close-last : (steps : List Step) (d : ℕ) → ¬ (d ≡ 0) → (step_at steps (d - 1)).left ≤ 1 → Popped steps d steps (step_at steps (d - 1)).lines (step_at steps (d - 1)).kept (d - 1)
-close-last steps d h k =
-    let e : suc (d - 1) ≡ d = omega (arith, h) in
-    subst (λ (m : ℕ). Popped steps m steps (step_at steps (d - 1)).lines (step_at steps (d - 1)).kept (d - 1)) e (popped-last steps (d - 1) k)
 
 pub close-one : (steps : List Step) (d : ℕ) → ¬ (d ≡ 0) → d ≤ length steps → 1 < (step_at steps (d - 1)).left
     → Popped steps d (set steps (d - 1) (one_fewer (step_at steps (d - 1)))) (step_at steps (d - 1)).lines (step_at steps (d - 1)).kept d
@@ -150,34 +116,6 @@ top-is steps (suc d) a = by (step_at steps d).left (a.alive d (omega arith))
 bound-top : (steps : List Step) (d b : ℕ) → Bound steps d b → (top_of steps d).lines ≤ b
 bound-top steps zero b a = omega arith
 bound-top steps (suc d) b a = a.bound d (omega arith)
-
-module _ (class : Class) (come lines kept d : ℕ) (steps : List Step) where
-  pub advanced-makes : class ≡ Makes → MovedOn class come lines kept d steps steps (lines + 1) (kept + 1) d
-  advanced-makes e = record {
-    is = λ a. sym (ap (λ (c : Class). opened_after c come lines kept (stack_of steps d)) e);
-    lines_are = λ a. (let z : lines + 1 ≡ suc lines = omega arith in z) ∙ sym (ap (λ (c : Class). lines_after c lines (stack_of steps d)) e);
-    kept_are = λ a. (let z : kept + 1 ≡ suc kept = omega arith in z) ∙ sym (ap (λ (c : Class). kept_after c kept (top no_start (stack_of steps d)).kept) e);
-    alive = λ a. a;
-    most = omega arith;
-    bounded = λ b h k. (k, omega (arith, h));
-    steps_length = refl;
-  }
-
-  pub advanced-branches : {steps' : List Step} {d' : ℕ} → class ≡ Branches → Pushed steps d (lines + 1) (kept + 1) come steps' d' → MovedOn class come lines kept d steps steps' (lines + 1) (kept + 1) d'
-  advanced-branches e p =
-      let one : lines + 1 ≡ suc lines = omega arith in
-      let one_kept : kept + 1 ≡ suc kept = omega arith in
-      record {
-        is = λ a. p.is
-            ∙ ap₂ (λ (n m : ℕ). pushed come (branch_start n m) (stack_of steps d)) one one_kept
-            ∙ sym (ap (λ (c : Class). opened_after c come lines kept (stack_of steps d)) e);
-        lines_are = λ a. one ∙ sym (ap (λ (c : Class). lines_after c lines (stack_of steps d)) e);
-        kept_are = λ a. one_kept ∙ sym (ap (λ (c : Class). kept_after c kept (top no_start (stack_of steps d)).kept) e);
-        alive = p.alive;
-        most = p.most;
-        bounded = λ b h k. (p.bounded b (omega (arith, h)) k, omega (arith, h));
-        steps_length = p.steps_length;
-      }
 
 -- as a close does
 closed : (class : Class) (come lines kept d : ℕ) (steps : List Step) {steps' : List Step} {l m d' : ℕ} → Popped steps d steps' l m d'

@@ -8,12 +8,8 @@ use lib.Dec.{eqb}
 use lib.ListN.{length, get_or, take, drop}
 use lib.Seq.{drop-cons}
 use borrow.Author.Tests.{eq-eqb, ne_eqb}
-use Rattle.std.specs.Prelude.{Ok}
-use Rattle.std.specs.declared.result.Result as code
-use Rattle.fields.specs.declared.WholeField.{WholeField}
-use Rattle.fields.specs.declared.End.{End}
-use Rattle.fields.specs.Fields.{Field, Fields, ends, cut, ◌▸◌}
-use Rattle.fields.specs.Places.{fields_at, next_of}
+use Rattle.fields.specs.Fields.{Field, Fields}
+use Rattle.fields.specs.Places.{fields_at}
 use Rattle.fields.proofs.Places.{Starts, starts-size}
 use Rattle.shortening.specs.Passes.{is_kept}
 use Rattle.shortening_table.specs.Table.{row_fields, bytes_from, ReportCovers}
@@ -33,15 +29,6 @@ pub counting-start : {p : List ℕ} {at : ℕ} {report : List ℕ} → ReportCov
 counting-start c = record { is = omega arith; room = omega (arith, c.room); few = omega arith; within = omega arith }
 
 module _ {p : List ℕ} {at : ℕ} {report : List ℕ} {here rows : ℕ} {stays : Bool} {bytes : ℕ} (v : CountingBytes p at report here rows stays bytes) where
-  -- where no whole field is left
-  pub counting-done : {r : code.Result WholeField End} → r ≡ next_of (fields_at p here) → ((f : WholeField) → ¬ (r ≡ Ok f)) → (bytes ≡ bytes_from (fields_at p at) report true) × (bytes ≤ length p)
-  counting-done {r} q h = (omega (arith, v.is, go (fields_at p here) q), v.within)
-    where
-      go : (fs : Fields) → r ≡ next_of fs → bytes_from fs (drop rows report) stays ≡ 0
-      go (ends a) q = refl
-      go (cut a) q = refl
-      go (f ▸ fs) q = absurd (h _ q)
-
   module _ {a tag start len next : ℕ} (k : Starts p here a tag start len next) where
     abbrev field : Field
     field = record { at = a; tag = tag; contents = take len (drop start p) }

@@ -1,5 +1,5 @@
 -- `conversion_bundle::first_field_unheld` meets its contract. Assumes nothing.
-use borrow.Author.Tests.{eq-eqb, ne_eqb}
+use borrow.Author.Tests.{ne_eqb}
 use Rattle.fields.specs.Places.{fields_at}
 use Rattle.conversion_bundle.proofs.Holding.{up-held}
 use Rattle.conversion_bundle.proofs.first_field_unheld.Goals as goal

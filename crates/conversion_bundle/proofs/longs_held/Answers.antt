@@ -1,7 +1,7 @@
 -- `conversion_bundle::longs_held` meets its contract: what is tested so far, and what is left, give the whole. Assumes nothing.
 use mathlib.Core.Path.{◌≡◌, ap, sym, ◌∙◌}
 use mathlib.Core.Bool.{Bool, ◌&&◌}
-use Prim.Native.Nat.{◌+◌, ◌-◌}
+use Prim.Native.Nat.{◌-◌}
 use native.Mathlib.Omega.{arith}
 use Rattle.forms.specs.Forms.{every}
 use Rattle.number_bytes.specs.Numbers.{signeds}

@@ -1,5 +1,4 @@
 -- `conversion_bundle::put_turned` meets its contract. Assumes nothing.
-use native.Mathlib.Omega.{arith}
 use Rattle.fields.specs.Places.{fields_at}
 use Rattle.conversion_bundle.specs.Turned.{constraints_turned}
 use Rattle.conversion_bundle.proofs.Putting.{header-put}

@@ -1,8 +1,7 @@
 -- `conversion_bundle::turn_constraint` meets its contract: in edition 1 numbers of four bytes become such of two, else the other way. Assumes nothing.
 use mathlib.Core.Path.{◌≡◌, sym, ap, ◌∙◌}
-use Prim.Native.Nat.{ℕ, ◌+◌, ◌*◌, ◌≤◌}
-use native.Mathlib.Omega.{arith}
-use lib.ListN.{length, drop}
+use Prim.Native.Nat.{ℕ, ◌+◌, ◌*◌}
+use lib.ListN.{drop}
 use borrow.Author.Tests.{eq-eqb, ne_eqb}
 use Rattle.fields.proofs.Stores.{put-field}
 use Rattle.conversion_bundle.proofs.Putting.{run-size}

@@ -1,15 +1,12 @@
 -- `conversion_bundle::turn_constraints` meets its contract. The invariant `Putting`: what is left to write gives what the whole gives. Assumes nothing.
 use mathlib.Core.Path.{◌≡◌, ◌∙◌}
 use Prim.Native.Nat.{◌+◌, ◌*◌, ◌≤◌}
-use native.Mathlib.Nat.{mul-le-mul}
 use native.Mathlib.Omega.{arith}
 use lib.ListN.{length}
-use Rattle.forms.proofs.Editions.{coefficient_width-most}
 use Rattle.fields.proofs.Places.{took-note, took-starts, len_is}
 use Rattle.bundle_scan.proofs.SecondPass.{left-took}
-use Rattle.conversion.specs.Turning.{other}
 use Rattle.conversion_bundle.specs.Turned.{old_width}
-use Rattle.conversion_bundle.proofs.Putting.{putting-start, putting-room, putting-note, putting-done, putting-turn, putting-held, putting-next}
+use Rattle.conversion_bundle.proofs.Putting.{putting-room, putting-note, putting-done, putting-turn, putting-held, putting-next}
 use Rattle.conversion_bundle.proofs.turn_constraints.Goals as goal
 
 pub bounds-s-here : goal.bounds-s-here

@@ -1,5 +1,5 @@
 -- `conversion_survey::first_wide` meets its contract. Assumes nothing.
-use mathlib.Core.Path.{refl, sym, ◌∙◌}
+use mathlib.Core.Path.{sym, ◌∙◌}
 use Rattle.fields.specs.Places.{fields_at}
 use Rattle.fields.proofs.Places.{starts, starts-less}
 use Rattle.conversion_survey.proofs.SurveyedFields.{fits_on, fits-stop, fits-over, fit_is, there-here, there-on, there-room}

@@ -1,8 +1,7 @@
 -- `conversion_survey::laid_out` meets its contract, tag by tag. Assumes nothing.
 use borrow.Author.Rules.{rules}
-use native.Mathlib.Omega.{arith}
 use Rattle.proof.proofs.Entered.{unknown}
-use Rattle.conversion_survey.proofs.SurveyedFields.{bytes_most, combine-laid, reduce-laid, scale-laid, strengthen-laid, number-laid, stride-laid, round-laid, split-laid, claim-laid, claim-out, first_out, second-out, unknown-out}
+use Rattle.conversion_survey.proofs.SurveyedFields.{combine-laid, reduce-laid, scale-laid, strengthen-laid, number-laid, stride-laid, round-laid, split-laid, claim-laid, claim-out, first_out, second-out, unknown-out}
 use Rattle.conversion_survey.proofs.laid_out.Goals as goal
 
 pub returns-then-made : goal.returns-then-made

@@ -1,10 +1,7 @@
 -- `conversion_survey::lines_held` meets its contract. Assumes nothing.
 use mathlib.Core.Path.{sym, ◌∙◌}
-use Prim.Native.Nat.{◌+◌, ◌≤◌}
-use lib.ListN.{length}
 use Rattle.forms.specs.Edition.{edition}
-use Rattle.conversion_survey.proofs.SurveyedFields.{held_none, held_one, held_two, held-not, first_fits, second_fits}
-use borrow.Author.Rules.{rules}
+use Rattle.conversion_survey.proofs.SurveyedFields.{held_none, held_one, held_two, held-not}
 use Rattle.conversion_survey.proofs.lines_held.Goals as goal
 
 pub returns-then-n-eq0 : goal.returns-then-n-eq0

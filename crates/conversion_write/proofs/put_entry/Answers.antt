@@ -1,14 +1,5 @@
 -- `conversion_write::put_entry` meets its contract. Assumes nothing.
-use mathlib.Core.List.{◌∷◌}
-use Prim.Native.Nat.{◌+◌, ◌*◌, ◌≤◌}
-use lib.ListN.{length, drop}
-use Rattle.number_bytes.specs.Numbers.{unsigned_bytes}
-use Rattle.number_bytes.specs.Numbers.{unsigneds, unsigneds_bytes}
-use native.Mathlib.Omega.{arith}
-use Rattle.forms.specs.Edition.{edition}
-use Rattle.conversion_survey.proofs.SurveyedFields.{small_product, bytes_most}
-use Rattle.conversion_write.proofs.Putting.{entry-room, entry-put, second-room}
-use borrow.Author.Rules.{rules}
+use Rattle.conversion_write.proofs.Putting.{entry-put}
 use Rattle.conversion_write.proofs.put_entry.Goals as goal
 
 pub returns : goal.returns

@@ -1,11 +1,6 @@
 -- `conversion_write::put_lines` meets its contract. Assumes nothing.
-use Prim.Native.Nat.{◌+◌, ◌≤◌}
-use lib.ListN.{length, take, drop}
 use Rattle.forms.specs.Edition.{edition}
-use Rattle.number_bytes.specs.Numbers.{unsigned, unsigned_bytes}
-use Rattle.conversion_survey.proofs.SurveyedFields.{first_fits, second_fits}
-use Rattle.conversion_write.proofs.Putting.{second-room, put-none, put_one, put_two}
-use borrow.Author.Rules.{rules}
+use Rattle.conversion_write.proofs.Putting.{put-none, put_one, put_two}
 use Rattle.conversion_write.proofs.put_lines.Goals as goal
 
 pub returns-then-n-eq0 : goal.returns-then-n-eq0

@@ -1,8 +1,6 @@
 -- `convert::put_bundle` meets its contract. Assumes nothing.
 use Prim.Native.Nat.{◌+◌, ◌*◌, ◌≤◌}
-use native.Mathlib.Nat.{mul-le-mul}
 use native.Mathlib.Omega.{arith}
-use Rattle.forms.proofs.Editions.{coefficient_width-most}
 use Rattle.convert.proofs.Constraints.{left, size-most, bundle-output-short, bundle-put}
 use Rattle.convert.proofs.put_bundle.Goals as goal
 

@@ -1,6 +1,5 @@
 -- `convert::turn_bundle` meets its contract. Assumes nothing.
-use native.Mathlib.Omega.{arith}
-use Rattle.convert.proofs.Phases.{asked_by, one_or_two, bundle-unasked, bundle-refused}
+use Rattle.convert.proofs.Phases.{asked_by, bundle-unasked, bundle-refused}
 use Rattle.convert.proofs.turn_bundle.Goals as goal
 
 pub returns-then-not-is_edition : goal.returns-then-not-is_edition

@@ -1,6 +1,5 @@
 -- `convert::turn_proof` meets its contract. Assumes nothing.
-use native.Mathlib.Omega.{arith}
-use Rattle.convert.proofs.Phases.{asked_by, one_or_two, proof-unasked, proof-refused}
+use Rattle.convert.proofs.Phases.{asked_by, proof-unasked, proof-refused}
 use Rattle.convert.proofs.turn_proof.Goals as goal
 
 pub returns-then-not-is_edition : goal.returns-then-not-is_edition

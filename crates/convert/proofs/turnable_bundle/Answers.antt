@@ -2,7 +2,7 @@
 use native.Mathlib.Omega.{arith}
 use Rattle.std.proofs.lemmas.Result.{err_from_is_err_and}
 use Rattle.convert.proofs.Phases.{bundle-long, bundle-not-other, to-turn}
-use Rattle.convert.proofs.Constraints.{bundle-fault, to-hold, left, number-unheld, none-unheld}
+use Rattle.convert.proofs.Constraints.{bundle-fault, to-hold, left, number-unheld}
 use Rattle.convert.proofs.turnable_bundle.Goals as goal
 
 pub returns-then-file-gt-BUNDLE_BYTES : goal.returns-then-file-gt-BUNDLE_BYTES

@@ -1,8 +1,7 @@
 -- `convert::turnable_proof` meets its contract. Assumes nothing.
 use native.Mathlib.Omega.{arith}
-use borrow.Author.Tests.{not-false}
 use Rattle.std.proofs.lemmas.Result.{err_from_is_err_and}
-use Rattle.convert.proofs.Phases.{proof-long, proof-not-other, proof-no-header, to-enter, constants-most, no-entries, to-fit, to-put, lines-stand, too_wide, none-wide}
+use Rattle.convert.proofs.Phases.{proof-long, proof-not-other, proof-no-header, to-enter, constants-most, no-entries, to-fit, lines-stand, too_wide}
 use Rattle.convert.proofs.turnable_proof.Goals as goal
 
 pub returns-then-file-gt-PROOF_BYTES : goal.returns-then-file-gt-PROOF_BYTES

@@ -1,7 +1,6 @@
 -- `shortening_marks::mark_rows` meets its contract. The invariant: the rows from r on are gone over. Assumes nothing.
-use mathlib.Core.Path.{refl}
 use lib.ListN.{length-set}
-use Rattle.shortening_marks.proofs.Marking.{marked_start, marked_next}
+use Rattle.shortening_marks.proofs.Marking.{marked_next}
 use Rattle.shortening_marks.proofs.mark_rows.Goals as goal
 
 pub loop-r-preserved : goal.loop-r-preserved

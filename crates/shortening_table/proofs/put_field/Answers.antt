@@ -1,7 +1,6 @@
 -- `shortening_table::put_field` meets its contract, each way. Assumes nothing.
 use Rattle.forms.specs.Edition.{edition}
-use Rattle.shortening_table.proofs.Putting.{one-fits, two-fit, put-none, put_one, put_two}
-use borrow.Author.Rules.{rules}
+use Rattle.shortening_table.proofs.Putting.{put-none, put_one, put_two}
 use Rattle.shortening_table.proofs.put_field.Goals as goal
 
 pub returns-then-count-eq0 : goal.returns-then-count-eq0

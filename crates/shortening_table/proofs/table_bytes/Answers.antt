@@ -1,7 +1,7 @@
 -- `shortening_table::table_bytes` meets its contract. The invariant `CountingBytes`: what is left to count, with what is counted, gives the whole. Assumes nothing.
 use native.Mathlib.Omega.{arith}
 use Rattle.fields.proofs.Places.{starts, starts-less}
-use Rattle.shortening_table.proofs.Counting.{Passed, counting-start, counting-done, kept_lines-fit, passed-claim, passed-row, row-there, field-stays, field-goes}
+use Rattle.shortening_table.proofs.Counting.{Passed, kept_lines-fit, passed-claim, passed-row, field-stays, field-goes}
 use Rattle.shortening_table.proofs.table_bytes.Goals as goal
 use Rattle.shortening_table.proofs.table_bytes.Goals.{then-field-ne32, else-field-ne32}
 

@@ -1,5 +1,5 @@
 -- `shortening_stack::stack::advance` meets its contract, each way. Assumes nothing.
-use Rattle.shortening_stack.proofs.Stacks.{advanced-makes, advanced-branches, advanced-closes}
+use Rattle.shortening_stack.proofs.Stacks.{advanced-closes}
 use Rattle.shortening_stack.proofs.stack.advance.Goals as goal
 
 pub returns-in_default : goal.returns-in_default

@@ -1,6 +1,6 @@
 -- `shortening_stack::stack::end_branch` meets its contract. Assumes nothing.
 use native.Mathlib.Omega.{arith}
-use Rattle.shortening_stack.proofs.Stacks.{popped-none, close-last, close-one}
+use Rattle.shortening_stack.proofs.Stacks.{close-one}
 use Rattle.shortening_stack.proofs.stack.end_branch.Goals as goal
 
 pub returns : goal.returns

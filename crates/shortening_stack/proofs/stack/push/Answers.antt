@@ -1,5 +1,5 @@
 -- `shortening_stack::stack::push` meets its contract. Assumes nothing.
-use Rattle.shortening_stack.proofs.Stacks.{pushed_none, pushed-some}
+use Rattle.shortening_stack.proofs.Stacks.{pushed-some}
 use Rattle.shortening_stack.proofs.stack.push.Goals as goal
 
 pub returns : goal.returns

@@ -1,8 +1,6 @@
 -- `shortening_table::arrays::write_both` meets its contract. Assumes nothing.
 use mathlib.Core.Path.{refl}
-use native.Mathlib.Omega.{arith}
 use Rattle.shortening_table.proofs.Delivering.{countable, report-short, table-short, writable, reported-there, both-written}
-use borrow.Author.Rules.{rules}
 use Rattle.shortening_table.proofs.arrays.write_both.Goals as goal
 
 pub table_bytes-needed-requires : goal.table_bytes-needed-requires
