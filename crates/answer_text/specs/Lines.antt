@@ -1,4 +1,4 @@
--- The lines that the check program prints. Document 01, after "Worked stages". Assumes nothing.
+-- The lines that the check program prints. docs/FORMAT.md, "One stage, byte by byte". Assumes nothing.
 use Rattle.std.specs.Prelude.{ℕ, ◌+◌, ◌*◌, ◌≤◌, ◌≡◌, List, ◌++◌, length}
 use Rattle.files.specs.Text.{Put, Decimal, RefusedLine, ascii, hex_of}
 

@@ -1,4 +1,4 @@
--- One byte more than A, B and the proof may have tells as much as the whole files: the program reads no more of each. Document 02, point 3, for the lengths. Assumes nothing.
+-- One byte more than A, B and the proof may have tells as much as the whole files: the program reads no more of each. docs/FORMAT.md, "Bytes and fields". Assumes nothing.
 use Prim.Native.Nat.{ℕ, ◌+◌, ◌-◌, ◌<◌}
 use mathlib.Core.Path.{◌≡◌, sym, ap, ◌∙◌}
 use mathlib.Core.Logic.{⊎_elim}

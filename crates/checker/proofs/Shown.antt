@@ -1,4 +1,4 @@
--- What is printed of a check is one text, and for stages 1 and 2 the one that document 01 shows. Assumes nothing.
+-- What is printed of a check is one text, and for stages 1 and 2 the one that is shown there. Assumes nothing.
 use Prim.Native.Nat.{ℕ, ◌≤◌, ◌<◌}
 use mathlib.Core.Path.{◌≡◌, refl, sym, ◌∙◌, subst}
 use mathlib.Core.Logic.{⊎_elim}

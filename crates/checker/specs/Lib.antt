@@ -1,3 +1,3 @@
--- What the check program prints, and what document 01 shows of it.
+-- What the check program prints, and what is shown of it.
 pub mod Said
 pub mod Shown

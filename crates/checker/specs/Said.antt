@@ -1,4 +1,4 @@
--- What the check program prints. Document 01, after "Worked stages". Assumes nothing.
+-- What the check program prints. docs/FORMAT.md, "One stage, byte by byte". Assumes nothing.
 use Rattle.std.specs.Prelude.{ℕ, ◌≤◌, ◌≡◌, List, take}
 use Rattle.answers.specs.Answers.{Written}
 use Rattle.files.specs.Text.{RefusedLine}

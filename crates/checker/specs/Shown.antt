@@ -1,4 +1,4 @@
--- What document 01 shows of stages 1 and 2, after "Worked stages". Assumes nothing.
+-- What is printed of stages 1 and 2. Assumes nothing.
 use Rattle.std.specs.Prelude.{ℕ, List, [], ◌∷◌, ◌++◌}
 use Prim.Native.String.{String}
 use Rattle.proof.specs.Stages.{K3, A1, B1, P1}

@@ -1,4 +1,4 @@
--- The quick way for strides that are powers of two: the sum in 32-bit words that wrap. Document 02, point 11. Assumes nothing.
+-- The quick way for strides that are powers of two: the sum in 32-bit words that wrap. docs/FORMAT.md, "The order of tests". Assumes nothing.
 use Rattle.std.specs.Prelude.{◌≡◌, ℕ, zero, suc, ◌+◌, ◌*◌, ◌%◌, ◌^◌, ◌≤◌, Bool, false, cond, ◌&&◌, ◌||◌, List, [], ◌∷◌, ℤ, pos, ◌==◌}
 use Rattle.integers.specs.Divides.{divb}
 use Rattle.integers.specs.Remainder.{remainder}

@@ -1,4 +1,4 @@
--- What the functions that write a formula's bytes ask and leave. Document 01, "Fields". Assumes nothing.
+-- What the functions that write a formula's bytes ask and leave. docs/FORMAT.md, "Bytes and fields". Assumes nothing.
 use Rattle.std.specs.Prelude.{◌≡◌, Bool, true, false, List, [], ◌++◌, ℕ, ◌+◌, ◌*◌, ◌<◌, ◌≤◌, ℤ, pos, length, get_or, take, ◌≤ℤ◌}
 use Rattle.std.proofs.lemmas.List.Edits.{sets}
 use Rattle.integers.specs.Magnitude.{Within}

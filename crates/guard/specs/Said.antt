@@ -1,4 +1,4 @@
--- What the guard program prints. Document 01, "Test a formula" and after "Worked stages". Assumes nothing.
+-- What the guard program prints. docs/FORMAT.md, "Register values", "The order of tests" and "One stage, byte by byte". Assumes nothing.
 use Rattle.std.specs.Prelude.{ℕ, ◌/◌, ◌%◌, ◌≤◌, ◌≡◌, Bool, true, false, cond, List, eqb, ℤ, length}
 use Rattle.answers.specs.Answers.{answer, file_lent}
 use Rattle.number_bytes.specs.Numbers.{signeds}

@@ -1,4 +1,4 @@
--- Runs of the guard program: the formula of document 01's stage 1, values, and what is printed. Assumes nothing.
+-- Runs of the guard program: the formula of stage 1, values, and what is printed. Assumes nothing.
 use Rattle.std.specs.Prelude.{ℕ, List, [], ◌∷◌}
 use Prim.Native.String.{String}
 

@@ -1,5 +1,5 @@
 // Signed numbers of two or four bytes, read and written: each way as a word of the machine.
-ghost use Rattle.std.specs.Prelude.{◌≡◌, ◌⊎◌, ◌+◌, ◌≤◌, length, take, drop};
+ghost use Rattle.std.specs.Prelude.{◌≡◌, ◌+◌, ◌≤◌, length, take, drop};
 ghost use Rattle.std.proofs.lemmas.List.Edits.{sets};
 ghost use Rattle.forms.specs.Edition.{edition};
 ghost use Rattle.number_bytes.specs.Numbers.{signed, signed_bytes};
@@ -95,31 +95,4 @@ fn put_long(out: &mut [u8], at: usize, value: i32)
     ensures { out.new ≡ sets out.old at (signed_bytes 4 value) }
 {
     out[at..at + 4].copy_from_slice(&value.to_be_bytes());
-}
-
-// The two's complement number of `width` bytes at `at`.
-pub fn signed_at(s: &[u8], at: usize, width: usize) -> i64
-    requires fact { (width ≡ 2) ⊎ (width ≡ 4) }
-    requires width_in_bounds { at + width ≤ length s.now }
-    ensures is { result ≡ signed (take width (drop at s.now)) }
-    ensures range { Held width result }
-{
-    if width == 2 {
-        return Width::Two.signed_at(s, at);
-    }
-    Width::Four.signed_at(s, at)
-}
-
-// A number as `width` bytes at `at`.
-pub fn put_signed(out: &mut [u8], at: usize, width: usize, value: i64)
-    requires fact { (width ≡ 2) ⊎ (width ≡ 4) }
-    requires width_in_bounds { at + width ≤ length out.old }
-    requires held { Held width value }
-    ensures { out.new ≡ sets out.old at (signed_bytes width value) }
-{
-    if width == 2 {
-        Width::Two.put_signed(out, at, value);
-        return;
-    }
-    Width::Four.put_signed(out, at, value);
 }

@@ -1,4 +1,4 @@
--- The stages that a buffer holds, once they are read. Document 02, point 7. Assumes nothing.
+-- The stages that a buffer holds, once they are read. docs/FORMAT.md, "Guards of a run of stages". Assumes nothing.
 use Rattle.std.specs.Prelude.{◌≡◌, List, [], ℕ, ◌≤◌, length}
 use Rattle.std.proofs.Math.Option.{none}
 use Rattle.forms.specs.Edition.{newest_edition}
