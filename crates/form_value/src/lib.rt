@@ -105,39 +105,34 @@ fn word(x: i64) -> u32
     ((x + 0x1_0000_0000) as u64 % 0x1_0000_0000) as u32
 }
 
-// The values of K registers, all in range.
-#[derive(Clone, Copy)]
-pub struct Vector<'a> {
-    pub values: &'a [i32],
-    pub ghost registers: { Registers values.now (length values.now) },
-}
-
 // The value of a form, from the last term to the first, so that the total is always that of a form: of the numbers summed so far.
-pub fn total_of<N: Numbers, T: Total>(form: N, vector: Vector) -> T
-    requires { length vector.values.now < length (N.numbers form) }
-    ensures { result ≡ T.of (value (form_in (length vector.entry.values.now) (N.numbers form) 0) (registers vector.entry.values.now)) }
+pub fn total_of<N: Numbers, T: Total>(form: N, values: &[i32], k: usize) -> T
+    requires k_in_bounds { k < length (N.numbers form) }
+    requires registers { Registers values.now k }
+    ensures { result ≡ T.of (value (form_in k (N.numbers form) 0) (registers values.now)) }
 {
-    let k = vector.values.len();
     let mut total = T::of(form.number(k));
     for i in (0..k).rev() {
-        total = total.with_term(form.number(i), number(vector.values, i));
+        total = total.with_term(form.number(i), number(values, i));
     }
     total
 }
 
-pub fn value_at(s: &[u8], at: usize, vector: Vector) -> i64
-    requires { Whole s.now at (length vector.values.now) }
-    ensures { result ≡ value (form_at s.now at (length vector.entry.values.now)) (registers vector.entry.values.now) }
+pub fn value_at(s: &[u8], at: usize, values: &[i32], k: usize) -> i64
+    requires whole { Whole s.now at k }
+    requires registers { Registers values.now k }
+    ensures { result ≡ value (form_at s.now at k) (registers values.now) }
 {
-    total_of(InBytes { bytes: &s[at..] }, vector)
+    total_of(InBytes { bytes: &s[at..] }, values, k)
 }
 
 // value_at in words.
-fn word_at(s: &[u8], at: usize, vector: Vector) -> u32
-    requires { Whole s.now at (length vector.values.now) }
-    ensures { result ≡ word (value (form_at s.now at (length vector.entry.values.now)) (registers vector.entry.values.now)) }
+fn word_at(s: &[u8], at: usize, values: &[i32], k: usize) -> u32
+    requires whole { Whole s.now at k }
+    requires registers { Registers values.now k }
+    ensures { result ≡ word (value (form_at s.now at k) (registers values.now)) }
 {
-    total_of(InBytes { bytes: &s[at..] }, vector)
+    total_of(InBytes { bytes: &s[at..] }, values, k)
 }
 
 // Whether g is a power of two: it has no bit in common with the number below it. (`is_power_of_two` counts bits, and std has no law that ties the count to 2^e.)
@@ -158,14 +153,15 @@ pub fn divides_word(g: u32, w: u32) -> bool
 
 // Whether g divides the value of a form. Where g is a power of two, 2 to 2^30, the sum is formed in words: g divides the word just where it
 // divides the sum.
-pub fn divides_at(s: &[u8], at: usize, vector: Vector, g: i64) -> bool
-    requires whole { Whole s.now at (length vector.values.now) }
+pub fn divides_at(s: &[u8], at: usize, values: &[i32], k: usize, g: i64) -> bool
+    requires whole { Whole s.now at k }
+    requires registers { Registers values.now k }
     requires pos_bound { ((pos 2) ≤ℤ g) × Held edition1.term_width g }
-    ensures { result ≡ divb g (value (form_at s.now at (length vector.entry.values.now)) (registers vector.entry.values.now)) }
+    ensures { result ≡ divb g (value (form_at s.now at k) (registers values.now)) }
 {
     let n = g as u32;
     if is_power(n) {
-        return divides_word(n, word_at(s, at, vector));
+        return divides_word(n, word_at(s, at, values, k));
     }
-    divides(g, value_at(s, at, vector))
+    divides(g, value_at(s, at, values, k))
 }

@@ -20,7 +20,7 @@ use Rattle.formula.specs.Formula.{formula_within}
 use Rattle.formula.specs.Test.{judge, registers}
 use Rattle.formula.specs.TestList.{vectors, byte, truths}
 use Rattle.formula_leaf.specs.Masks.{bits_of}
-use Rattle.formula_leaf.specs.Leaves.{Vectors}
+use Rattle.formula_leaf.specs.Leaves.{Block}
 use Rattle.formula_block.specs.Blocks.{BlockJudged, VectorList, Fills}
 use Rattle.formula_block.specs.declared.block.Masked.{Masked}
 use Rattle.formula.proofs.TestList.{vectors-length, truths-length}
@@ -118,8 +118,8 @@ module _ {values : List ℤ} {K n : ℕ} (l : VectorList values K n) {i z : ℕ}
   pub block_room : i * K + z * K ≤ length values
   block_room = omega (arith, products, l.count)
 
-  pub block-part : z ≤ 63 → Vectors (take (i * K + z * K - i * K) (drop (i * K) values)) K z
-  block-part few =
+  pub block-part : {a : ℕ} → z ≤ 63 → a + 1 ≡ 2 ^ z → Block (take (i * K + z * K - i * K) (drop (i * K) values)) K z a
+  block-part {a} few e =
       let f : i * K + z * K - i * K ≡ z * K = omega arith in
       rw f (record {
         all = part-within l.all (z * K) (i * K);
@@ -127,6 +127,7 @@ module _ {values : List ℤ} {K n : ℕ} (l : VectorList values K n) {i z : ℕ}
         some = l.some;
         few = l.few;
         size = few;
+        below = omega arith;
       })
 
   module _ {s : List ℕ} {start : ℕ} {out₀ out : List ℕ} (p : Filling s start values K n out₀ out i) where

@@ -29,7 +29,7 @@ use Rattle.formula_read.specs.Judging.{two_within}
 use Rattle.formula_read.specs.declared.node.Node.{Node}
 use Rattle.formula_read.proofs.FormulaReader.{formula-missing, formula-refused, literal-is, stride-is, pair_is}
 use Rattle.formula_leaf.specs.Masks.{Marks}
-use Rattle.formula_leaf.specs.Leaves.{leaf_formula}
+use Rattle.formula_leaf.specs.Leaves.{leaf_formula, Block}
 use Rattle.formula_block.specs.Blocks.{BlockJudged, BothJudged}
 use Rattle.formula_leaf.specs.declared.Leaf.{Leaf}
 use Rattle.formula_block.specs.declared.block.Masked.{Masked}
@@ -139,3 +139,7 @@ module _ {s : List ℕ} {at : ℕ} {values : List ℤ} {K n levels active : ℕ}
           let x = b.is I t.middle t.first in
           let y = d.is J rest (ap (formula_within edition1 K (levels - 1)) (sym x.1) ∙ t.second) in
           (rw f (marks-or x.0 y.0), y.1)
+
+-- a mask of fewer vectors
+pub block-fewer : {values : List ℤ} {K n active m : ℕ} → Block values K n active → m ≤ active → Block values K n m
+block-fewer b h = record { all = b.all; count = b.count; some = b.some; few = b.few; size = b.size; below = omega (arith, b.below) }

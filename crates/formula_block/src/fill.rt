@@ -5,7 +5,6 @@ ghost use Rattle.formula_block.specs.Blocks.{VectorList, Fills};
 
 use crate::block::block_judged;
 use forms::LEVELS;
-use formula_leaf::Block;
 
 // The most vectors of a block: the bit behind the last one still has 64 bits.
 const BLOCK: usize = 63;
@@ -41,12 +40,15 @@ pub fn fill(formula: &[u8], start: usize, values: &[i32], k: usize, n: usize, ou
         let size = BLOCK.min(n - i);
         let from = i * k;
         let end = from + size * k;
-        let block = Block {
-            values: &values[from..end],
+        let judged = block_judged(
+            formula,
+            start,
+            &values[from..end],
             k,
-            n: size,
-        };
-        let judged = block_judged(formula, start, block, LEVELS, all_of(size));
+            size,
+            LEVELS,
+            all_of(size),
+        );
         put_bits(judged.mask, &mut out[i..i + size]);
         i += size;
     }

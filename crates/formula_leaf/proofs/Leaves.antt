@@ -17,7 +17,7 @@ use Rattle.form_value.proofs.Value.{form-read}
 use Rattle.formula_read.specs.Nodes.{literal_kind}
 use Rattle.formula_read.proofs.Parts.{low}
 use Rattle.formula.specs.TestList.{byte}
-use Rattle.formula_leaf.specs.Leaves.{leaf_formula, Proper, Vectors}
+use Rattle.formula_leaf.specs.Leaves.{leaf_formula, Proper, VectorAt, Block}
 use Rattle.formula_leaf.specs.declared.Leaf.{Leaf}
 
 -- ---- a part at a vector
@@ -57,28 +57,21 @@ part-within {values} a m n = record { at = λ i. go i (ltb i m) refl }
     go i true e = rw (get_or-take m (drop n values) i (pos 0) (ltb-true i m e), get_or-drop n values i (pos 0)) (a.at (n + i))
     go i false e = rw (get_or-eq_default (take m (drop n values)) (pos 0) {n = i} (short i e)) (record { abs = omega arith })
 
-module _ {values : List ℤ} {K n i : ℕ} (b : Vectors values K n) (h : i < n) where
-  pub vector-room : i * K + K ≤ length values
-  vector-room =
-      let l : suc i * K ≤ n * K = mul-le-mul {n₁ = suc i} h (le_refl K) in
-      omega (arith, b.count, l)
+module _ {values : List ℤ} {K i : ℕ} (v : VectorAt values K i) where
+  pub vector-registers : Registers (take (i * K + K - i * K) (drop (i * K) values)) K
+  vector-registers =
+      let e : i * K + K - i * K ≡ K = omega arith in
+      rw e (record {
+        all = part-within v.all K (i * K);
+        count = length-take-le K (drop (i * K) values) (simp length-drop (omega (arith, v.room)));
+        some = v.some;
+        few = v.few;
+      })
 
-  vector-part : i * K + K - i * K ≡ K
-  vector-part = omega arith
-
-  pub vector-long : length (take (i * K + K - i * K) (drop (i * K) values)) ≡ K
-  vector-long = rw vector-part (length-take-le K (drop (i * K) values) (simp length-drop (omega (arith, vector-room))))
-
-  pub vector-is : take (i * K + K - i * K) (drop (i * K) values) ≡ take K (drop (i * K) values)
-  vector-is = rw vector-part
-
-  pub vector-registers : Registers (take (i * K + K - i * K) (drop (i * K) values)) (length (take (i * K + K - i * K) (drop (i * K) values)))
-  vector-registers = rw vector-long (record {
-    all = part-within b.all (i * K + K - i * K) (i * K);
-    count = vector-long;
-    some = b.some;
-    few = b.few;
-  })
+pub block-vector : {values : List ℤ} {K n active i : ℕ} → Block values K n active → i < n → VectorAt values K i
+block-vector {K = K} {n = n} {i = i} b h =
+    let l : suc i * K ≤ n * K = mul-le-mul {n₁ = suc i} h (le_refl K) in
+    record { all = b.all; room = omega (arith, b.count, l); some = b.some; few = b.few }
 
 -- ---- one vector more
 module _ (left p mask : ℕ) (b : Bool) where

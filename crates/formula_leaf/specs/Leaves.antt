@@ -1,5 +1,5 @@
 -- The leaves of a formula, its parts that are no and/or, as the code tells them apart. Assumes nothing.
-use Rattle.std.specs.Prelude.{◌≡◌, ℕ, ◌*◌, ◌<◌, ◌≤◌, List, length, ℤ}
+use Rattle.std.specs.Prelude.{◌≡◌, ℕ, ◌+◌, ◌*◌, ◌^◌, ◌<◌, ◌≤◌, List, length, ℤ}
 use Rattle.forms.specs.Edition.{edition1}
 use Rattle.forms.specs.Forms.{Form, Formula, literal, ◌divides◌}
 use Rattle.form_value.specs.Quick.{Power}
@@ -19,10 +19,18 @@ Proper (Leaf.Literal equality) = Unit {0}
 Proper (Leaf.Power g) = Power g
 Proper (Leaf.Stride g) = (2 ≤ g) × (g < 2_147_483_648)
 
--- n vectors of K values in range, at most as many as a mask has bits before the last.
-pub record Vectors (values : List ℤ) (K n : ℕ) : Type 0 where
+-- The values of vector i are there, all in range.
+pub record VectorAt (values : List ℤ) (K i : ℕ) : Type 0 where
+  pub all : AllWithin values
+  pub room : i * K + K ≤ length values
+  pub some : 1 ≤ K
+  pub few : K ≤ edition1.constants
+
+-- n vectors of K values in range, at most as many as a mask has bits, and a mask of some of them.
+pub record Block (values : List ℤ) (K n active : ℕ) : Type 0 where
   pub all : AllWithin values
   pub count : length values ≡ n * K
   pub some : 1 ≤ K
   pub few : K ≤ edition1.constants
   pub size : n ≤ 63
+  pub below : active < 2 ^ n

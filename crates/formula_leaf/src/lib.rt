@@ -5,12 +5,13 @@
 ghost use Rattle.std.specs.Prelude.{◌≡◌, ◌+◌, ◌*◌, ◌%◌, ◌^◌, ◌<◌, ◌≤◌, ◌&&◌, length, take, drop, pos, ◌+ℤ◌, ◌*ℤ◌, ◌==◌, slice_index_or};
 ghost use Rattle.forms.specs.Flat.{form_in};
 ghost use Rattle.formula.specs.Test.{judge, registers};
+ghost use Rattle.form_value.specs.Registers.{Registers};
 ghost use Rattle.form_value.specs.FormAt.{form_at, Whole};
 ghost use Rattle.formula_leaf.specs.Masks.{Marks};
 ghost use Rattle.formula.specs.TestList.{byte};
-ghost use Rattle.formula_leaf.specs.Leaves.{leaf_formula, Proper, Vectors};
+ghost use Rattle.formula_leaf.specs.Leaves.{leaf_formula, Proper, VectorAt, Block};
 
-use form_value::{InNumbers, Vector, divides_word, total_of};
+use form_value::{InNumbers, divides_word, total_of};
 use forms::CONSTANTS;
 use formula_read::reading::says;
 use integers::divides;
@@ -27,38 +28,17 @@ pub enum Leaf {
     Stride { g: u32 },
 }
 
-// Vectors of K values each, all in range: at most as many as a mask has bits before the last.
-#[derive(Clone, Copy)]
-pub struct Block<'a> {
-    pub values: &'a [i32],
-    pub k: usize,
-    pub n: usize,
-    pub ghost vectors: { Vectors values.now k n },
-}
-
-impl<'a> Block<'a> {
-    fn vector(self, i: usize) -> Vector<'a>
-        requires { i < self.n }
-        ensures is { result.values.now ≡ take self.entry.k (drop (i * self.entry.k) self.entry.values.now) }
-        ensures long { length result.values.now ≡ self.entry.k }
-    {
-        let from = i * self.k;
-        Vector {
-            values: &self.values[from..from + self.k],
-        }
-    }
-}
-
 // Whether a leaf is true of a vector.
-fn holds_of(leaf: Leaf, numbers: &[i32], vector: Vector) -> bool
+fn holds_of(leaf: Leaf, numbers: &[i32], vector: &[i32], k: usize) -> bool
     requires proper { Proper leaf }
-    requires k_in_bounds { length vector.values.now < length numbers.now }
-    ensures { result ≡ judge (leaf_formula leaf (form_in (length vector.entry.values.now) numbers.now 0)) (registers vector.entry.values.now) }
+    requires k_in_bounds { k < length numbers.now }
+    requires registers { Registers vector.now k }
+    ensures { result ≡ judge (leaf_formula leaf (form_in k numbers.now 0)) (registers vector.now) }
 {
     match leaf {
-        Leaf::Literal { equality } => says(equality, total_of(InNumbers { numbers }, vector)),
-        Leaf::Power { g } => divides_word(g, total_of(InNumbers { numbers }, vector)),
-        Leaf::Stride { g } => divides(g as i64, total_of(InNumbers { numbers }, vector)),
+        Leaf::Literal { equality } => says(equality, total_of(InNumbers { numbers }, vector, k)),
+        Leaf::Power { g } => divides_word(g, total_of(InNumbers { numbers }, vector, k)),
+        Leaf::Stride { g } => divides(g as i64, total_of(InNumbers { numbers }, vector, k)),
     }
 }
 
@@ -66,41 +46,44 @@ fn holds_of(leaf: Leaf, numbers: &[i32], vector: Vector) -> bool
 fn with_vector(
     leaf: Leaf,
     numbers: &[i32],
-    block: Block,
+    values: &[i32],
+    k: usize,
     i: usize,
     left: u64,
     p: u64,
     mask: u64,
 ) -> u64
     requires proper { Proper leaf }
-    requires k_in_bounds { block.k < length numbers.now }
-    requires i_in_bounds { i < block.n }
+    requires k_in_bounds { k < length numbers.now }
+    requires vector_at { VectorAt values.now k i }
     requires p_bound { mask + p < 2 ^ 64 }
-    ensures { result ≡ mask + p * byte (left % 2 == 1 && judge (leaf_formula leaf (form_in block.entry.k numbers.now 0)) (registers (take block.entry.k (drop (i * block.entry.k) block.entry.values.now)))) }
+    ensures { result ≡ mask + p * byte (left % 2 == 1 && judge (leaf_formula leaf (form_in k numbers.now 0)) (registers (take k (drop (i * k) values.now)))) }
 {
     if left % 2 == 0 {
         return mask;
     }
-    if holds_of(leaf, numbers, block.vector(i)) {
+    let from = i * k;
+    let end = from + k;
+    if holds_of(leaf, numbers, &values[from..end], k) {
         return mask + p;
     }
     mask
 }
 
-// The vectors of `active` of which a leaf is true. No vector behind the last active one is looked at: so the loop goes by what is left of the mask.
-fn marks(leaf: Leaf, numbers: &[i32], block: Block, active: u64) -> u64
+// The vectors of `active` of which a leaf is true. No vector behind the last active one is looked at.
+fn marks(leaf: Leaf, numbers: &[i32], values: &[i32], k: usize, n: usize, active: u64) -> u64
     requires proper { Proper leaf }
-    requires k_in_bounds { block.k < length numbers.now }
-    requires below { active < 2 ^ block.n }
+    requires k_in_bounds { k < length numbers.now }
+    requires block { Block values.now k n active }
     ensures small { result ≤ active }
-    ensures is { Marks (leaf_formula leaf (form_in block.entry.k numbers.now 0)) block.entry.values.now block.entry.k block.entry.n active result }
+    ensures is { Marks (leaf_formula leaf (form_in k numbers.now 0)) values.now k n active result }
 {
     let mut left = active;
     let mut mask: u64 = 0;
     let mut p: u64 = 1;
     let mut i = 0;
     while 0 < left {
-        mask = with_vector(leaf, numbers, block, i, left, p, mask);
+        mask = with_vector(leaf, numbers, values, k, i, left, p, mask);
         left /= 2;
         p *= 2;
         i += 1;
@@ -112,18 +95,26 @@ fn marks(leaf: Leaf, numbers: &[i32], block: Block, active: u64) -> u64
 const NUMBERS: usize = CONSTANTS as usize + 1;
 
 // The same for the form at a place, whose numbers go into an array first.
-pub fn leaf_marks(leaf: Leaf, s: &[u8], at: usize, block: Block, active: u64) -> u64
+pub fn leaf_marks(
+    leaf: Leaf,
+    s: &[u8],
+    at: usize,
+    values: &[i32],
+    k: usize,
+    n: usize,
+    active: u64,
+) -> u64
     requires proper { Proper leaf }
-    requires whole { Whole s.now at block.k }
-    requires below { active < 2 ^ block.n }
+    requires whole { Whole s.now at k }
+    requires block { Block values.now k n active }
     ensures small { result ≤ active }
-    ensures is { Marks (leaf_formula leaf (form_at s.now at block.entry.k)) block.entry.values.now block.entry.k block.entry.n active result }
+    ensures is { Marks (leaf_formula leaf (form_at s.now at k)) values.now k n active result }
 {
     if active == 0 {
         return 0;
     }
     let mut array = [0; NUMBERS];
-    let numbers = &mut array[..block.k + 1];
+    let numbers = &mut array[..k + 1];
     store_numbers(s, at, Width::Four, numbers);
-    marks(leaf, numbers, block, active)
+    marks(leaf, numbers, values, k, n, active)
 }

@@ -1,5 +1,5 @@
 -- Each way through testing a list, over plain values. Assumes nothing.
-use mathlib.Core.Path.{◌≡◌, refl, sym, ap, ap₂, subst, ◌∙◌}
+use mathlib.Core.Path.{◌≡◌, refl, sym, ap, ap₂, ◌∙◌}
 use mathlib.Core.List.{List, ◌++◌}
 use Prim.Native.Nat.{ℕ, zero, suc, ◌+◌, ◌/◌, ◌%◌, ◌≤◌, ◌<◌}
 use native.Mathlib.Nat.{div-add-mod'}
@@ -64,25 +64,22 @@ module _ {formula : List ℕ} {K : ℕ} (positive : 1 ≤ K) {h : code.Result He
   unfolding read_formula
   header-fault q = record { read = bind-refused _ (header_is positive d ∙ rw q) }
 
-  module _ {x : Headed} (e : h ≡ Ok x) (values : List ℤ) (count : length values ≡ K) {j : code.Result Judged Fault} (b : FormulaRead formula x.next values (length values) 600 j) where
-    at-K : FormulaRead formula x.next values K 600 j
-    at-K = subst (λ (n : ℕ). FormulaRead formula x.next values n 600 j) count b
-
+  module _ {x : Headed} (e : h ≡ Ok x) {values : List ℤ} {j : code.Result Judged Fault} (b : FormulaRead formula x.next values K 600 j) where
     pub read-fault : {e : Fault} → j ≡ Err e → ReadOnce formula K (Err e)
     unfolding read_formula
-    read-fault q = record { read = binds _ (header-K positive d e) ∙ bind-refused _ (rw q at at-K.judged) }
+    read-fault q = record { read = binds _ (header-K positive d e) ∙ bind-refused _ (rw q at b.judged) }
 
     module _ {r : Judged} (q : j ≡ Ok r) {a : code.Result (Unit {0}) Fault} (l : IsEnding FileKind.Formula formula r.next a) where
       pub end-fault : {e : Fault} → a ≡ Err e → ReadOnce formula K (Err e)
       unfolding read_formula
       end-fault f =
-          let y = rw q at at-K.judged in
+          let y = rw q at b.judged in
           record { read = binds _ (header-K positive d e) ∙ binds _ y.is ∙ then-refused _ (l.is file_proof ∙ rw f) }
 
       pub read-whole : {u : Unit {0}} → a ≡ Ok u → ReadOnce formula K (Ok x.next)
       unfolding read_formula
       read-whole f =
-          let y = rw q at at-K.judged in
+          let y = rw q at b.judged in
           record { read = record { I = y.formula; rest = fields_at formula r.next; is = y.is; all = binds _ (header-K positive d e) ∙ binds _ y.is ∙ passes _ (l.is file_proof ∙ rw f) } }
 
 -- ---- the values are in order
@@ -118,15 +115,10 @@ zeros-at zero i = refl
 zeros-at (suc n) zero = refl
 zeros-at (suc n) (suc i) = zeros-at n i
 
-pub zeros-count : (zeros : List ℤ) {K : ℕ} → K ≤ 16 → length zeros ≡ 16 → length (take K zeros) ≡ K
-zeros-count zeros {K} few long = length-take-le K zeros (omega arith)
-
-pub zero-registers : (zeros : List ℤ) {K : ℕ} → 1 ≤ K → K ≤ 16 → length zeros ≡ 16 → ((i : ℕ) → get_or zeros i (pos 0) ≡ pos 0) → Registers (take K zeros) (length (take K zeros))
-zero-registers zeros {K} some few long z =
-    let e = zeros-count zeros few long in
-    rw e (record {
-      all = part-within (record { at = λ i. rw (z i) (record { abs = omega arith }) }) K 0;
-      count = e;
-      some = some;
-      few = few;
-    })
+pub zero-registers : (zeros : List ℤ) {K : ℕ} → 1 ≤ K → K ≤ 16 → length zeros ≡ 16 → ((i : ℕ) → get_or zeros i (pos 0) ≡ pos 0) → Registers (take K zeros) K
+zero-registers zeros {K} some few long z = record {
+  all = part-within (record { at = λ i. rw (z i) (record { abs = omega arith }) }) K 0;
+  count = length-take-le K zeros (omega arith);
+  some = some;
+  few = few;
+}

@@ -13,7 +13,6 @@ use answers::{WriteResult, acceptance};
 use fields::FileKind;
 use fields::ending::ending_at;
 use fields::header::read_header;
-use form_value::Vector;
 use forms::{CONSTANTS, FORMULA_BYTES, LEVELS};
 use formula_block::fill::fill;
 use formula_read::reading::formula_at;
@@ -59,11 +58,8 @@ fn read_once(formula: &[u8], k: usize) -> Result<usize, Fault>
     ensures { ReadOnce formula.now k result }
 {
     let zeros = [0; MOST];
-    let vector = Vector {
-        values: &zeros[..k],
-    };
     let header = read_header(formula, FileKind::Formula, 1, k as u8)?;
-    let read = formula_at(formula, header.next, vector, LEVELS)?;
+    let read = formula_at(formula, header.next, &zeros[..k], k, LEVELS)?;
     ending_at(formula, read.next, FileKind::Formula)?;
     Ok(header.next)
 }

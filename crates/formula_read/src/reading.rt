@@ -1,9 +1,10 @@
 // Reading a formula and judging it at the register values, in one pass.
-ghost use Rattle.std.specs.Prelude.{◌≡◌, ◌+◌, length, take, drop};
+ghost use Rattle.std.specs.Prelude.{◌≡◌, ◌+◌, take, drop};
 ghost use Rattle.forms.specs.Edition.{edition1};
 ghost use Rattle.forms.specs.Forms.{value};
 ghost use Rattle.number_bytes.specs.Numbers.{signed};
 ghost use Rattle.formula.specs.Test.{holds, registers};
+ghost use Rattle.form_value.specs.Registers.{Registers};
 ghost use Rattle.form_value.specs.FormAt.{form_at, Whole};
 ghost use Rattle.formula_read.specs.Nodes.{literal_kind};
 ghost use Rattle.formula_read.specs.Judging.{FormulaRead, PairRead, connected, stride_judged};
@@ -11,7 +12,7 @@ ghost use Rattle.formula_read.specs.Judging.{FormulaRead, PairRead, connected, s
 use crate::node::{Node, node_of};
 use answers::refusals::{Fault, Refusal};
 use fields::next_or_fault;
-use form_value::{Vector, divides_at, value_at};
+use form_value::{divides_at, value_at};
 use forms::TERM_BYTES;
 use integers::is_zero;
 use number_bytes::words::Width;
@@ -37,23 +38,25 @@ pub fn says(equality: bool, x: i64) -> bool
     if equality { is_zero(x) } else { x <= 0 }
 }
 
-fn literal_at(s: &[u8], start: usize, vector: Vector, equality: bool) -> bool
-    requires { Whole s.now start (length vector.values.now) }
-    ensures { result ≡ holds (literal_kind equality) (value (form_at s.now start (length vector.entry.values.now)) (registers vector.entry.values.now)) }
+fn literal_at(s: &[u8], start: usize, values: &[i32], k: usize, equality: bool) -> bool
+    requires whole { Whole s.now start k }
+    requires registers { Registers values.now k }
+    ensures { result ≡ holds (literal_kind equality) (value (form_at s.now start k) (registers values.now)) }
 {
-    let x = value_at(s, start, vector);
+    let x = value_at(s, start, values, k);
     says(equality, x)
 }
 
-fn stride_at(s: &[u8], start: usize, vector: Vector) -> Result<bool, Refusal>
-    requires { Whole s.now (start + edition1.term_width) (length vector.values.now) }
-    ensures { result ≡ stride_judged (signed (take edition1.term_width (drop start s.now))) (value (form_at s.now (start + edition1.term_width) (length vector.entry.values.now)) (registers vector.entry.values.now)) }
+fn stride_at(s: &[u8], start: usize, values: &[i32], k: usize) -> Result<bool, Refusal>
+    requires whole { Whole s.now (start + edition1.term_width) k }
+    requires registers { Registers values.now k }
+    ensures { result ≡ stride_judged (signed (take edition1.term_width (drop start s.now))) (value (form_at s.now (start + edition1.term_width) k) (registers values.now)) }
 {
     let g = Width::Four.signed_at(s, start);
     if g < 2 {
         return Err(Refusal::WrongMultiplier);
     }
-    Ok(divides_at(s, start + TERM_BYTES, vector, g))
+    Ok(divides_at(s, start + TERM_BYTES, values, k, g))
 }
 
 fn connect(either: bool, first: bool, second: bool) -> bool
@@ -70,23 +73,30 @@ fn connect(either: bool, first: bool, second: bool) -> bool
 // cycle, and the levels still allowed and the unread bytes fall. The cycle has both twice, and the compiler makes one function
 // of them: two levels are then one call, and a processor foretells the returns of some two dozen calls only (docs/SPEED.md).
 #[cycle(formula_at_pair_at_part_at_part_pair_at)]
-pub fn formula_at(s: &[u8], at: usize, vector: Vector, levels: usize) -> Result<Judged, Fault>
-    ensures { FormulaRead s.now at vector.entry.values.now (length vector.entry.values.now) levels result }
+pub fn formula_at(
+    s: &[u8],
+    at: usize,
+    values: &[i32],
+    k: usize,
+    levels: usize,
+) -> Result<Judged, Fault>
+    requires { Registers values.now k }
+    ensures { FormulaRead s.now at values.now k levels result }
 {
     let field = next_or_fault(s, at)?;
-    match node_of(field.tag, field.len, vector.values.len()) {
+    match node_of(field.tag, field.len, k) {
         Ok(Node::Pair { either }) => {
-            let both = pair_at(s, field.at, field.next, vector, levels)?;
+            let both = pair_at(s, field.at, field.next, values, k, levels)?;
             Ok(Judged {
                 holds: connect(either, both.first, both.second),
                 next: both.next,
             })
         }
         Ok(Node::Literal { equality }) => Ok(Judged {
-            holds: literal_at(s, field.start, vector, equality),
+            holds: literal_at(s, field.start, values, k, equality),
             next: field.next,
         }),
-        Ok(Node::Stride) => match stride_at(s, field.start, vector) {
+        Ok(Node::Stride) => match stride_at(s, field.start, values, k) {
             Ok(holds) => Ok(Judged {
                 holds,
                 next: field.next,
@@ -100,8 +110,16 @@ pub fn formula_at(s: &[u8], at: usize, vector: Vector, levels: usize) -> Result<
 // The two parts of an and/or whose field starts at place; they start at `at`. Both are read by one call in a loop, since what is
 // called at one place is compiled in.
 #[cycle(formula_at_pair_at_part_at_part_pair_at)]
-fn pair_at(s: &[u8], place: usize, at: usize, vector: Vector, levels: usize) -> Result<Pair, Fault>
-    ensures { PairRead s.now place at vector.entry.values.now (length vector.entry.values.now) levels result }
+fn pair_at(
+    s: &[u8],
+    place: usize,
+    at: usize,
+    values: &[i32],
+    k: usize,
+    levels: usize,
+) -> Result<Pair, Fault>
+    requires { Registers values.now k }
+    ensures { PairRead s.now place at values.now k levels result }
 {
     if levels == 0 {
         return Err(Fault {
@@ -113,7 +131,7 @@ fn pair_at(s: &[u8], place: usize, at: usize, vector: Vector, levels: usize) -> 
     let mut first = false;
     let mut second = false;
     for _i in 0..2usize {
-        let part = part_at(s, here, vector, levels - 1)?;
+        let part = part_at(s, here, values, k, levels - 1)?;
         first = second;
         second = part.holds;
         here = part.next;
@@ -127,23 +145,24 @@ fn pair_at(s: &[u8], place: usize, at: usize, vector: Vector, levels: usize) -> 
 
 // The formula reader again, for a part.
 #[cycle(formula_at_pair_at_part_at_part_pair_at)]
-fn part_at(s: &[u8], at: usize, vector: Vector, levels: usize) -> Result<Judged, Fault>
-    ensures { FormulaRead s.now at vector.entry.values.now (length vector.entry.values.now) levels result }
+fn part_at(s: &[u8], at: usize, values: &[i32], k: usize, levels: usize) -> Result<Judged, Fault>
+    requires { Registers values.now k }
+    ensures { FormulaRead s.now at values.now k levels result }
 {
     let field = next_or_fault(s, at)?;
-    match node_of(field.tag, field.len, vector.values.len()) {
+    match node_of(field.tag, field.len, k) {
         Ok(Node::Pair { either }) => {
-            let both = part_pair_at(s, field.at, field.next, vector, levels)?;
+            let both = part_pair_at(s, field.at, field.next, values, k, levels)?;
             Ok(Judged {
                 holds: connect(either, both.first, both.second),
                 next: both.next,
             })
         }
         Ok(Node::Literal { equality }) => Ok(Judged {
-            holds: literal_at(s, field.start, vector, equality),
+            holds: literal_at(s, field.start, values, k, equality),
             next: field.next,
         }),
-        Ok(Node::Stride) => match stride_at(s, field.start, vector) {
+        Ok(Node::Stride) => match stride_at(s, field.start, values, k) {
             Ok(holds) => Ok(Judged {
                 holds,
                 next: field.next,
@@ -160,10 +179,12 @@ fn part_pair_at(
     s: &[u8],
     place: usize,
     at: usize,
-    vector: Vector,
+    values: &[i32],
+    k: usize,
     levels: usize,
 ) -> Result<Pair, Fault>
-    ensures { PairRead s.now place at vector.entry.values.now (length vector.entry.values.now) levels result }
+    requires { Registers values.now k }
+    ensures { PairRead s.now place at values.now k levels result }
 {
     if levels == 0 {
         return Err(Fault {
@@ -171,8 +192,8 @@ fn part_pair_at(
             place,
         });
     }
-    let left = formula_at(s, at, vector, levels - 1)?;
-    let right = formula_at(s, left.next, vector, levels - 1)?;
+    let left = formula_at(s, at, values, k, levels - 1)?;
+    let right = formula_at(s, left.next, values, k, levels - 1)?;
     Ok(Pair {
         first: left.holds,
         second: right.holds,

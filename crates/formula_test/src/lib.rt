@@ -4,11 +4,12 @@
 
 pub mod values;
 
-ghost use Rattle.std.specs.Prelude.{◌≡◌, length};
+ghost use Rattle.std.specs.Prelude.{◌≡◌};
 ghost use Rattle.answers.specs.Refusals.{number_of};
 ghost use Rattle.fields.specs.Fields.{fields};
 ghost use Rattle.formula.specs.Formula.{read_formula};
 ghost use Rattle.formula.specs.Test.{judged};
+ghost use Rattle.form_value.specs.Registers.{Registers};
 ghost use Rattle.formula_test.specs.Promises.{as_tested, Tests};
 ghost use Rattle.formula_test.specs.Outcomes.{test_refused, given};
 
@@ -17,7 +18,6 @@ use answers::{Answer, acceptance};
 use fields::FileKind;
 use fields::ending::ending_at;
 use fields::header::read_header;
-use form_value::Vector;
 use forms::{CONSTANTS, FORMULA_BYTES, LEVELS};
 use formula_read::reading::formula_at;
 use values::first_outside;
@@ -40,12 +40,12 @@ fn refuse(refusal: Refusal, file: u8, place: usize) -> Tested
 }
 
 // The formula is read whole, with nothing but notes behind it, before its truth is given.
-fn read_whole(formula: &[u8], vector: Vector) -> Result<bool, Fault>
-    ensures { given result ≡ as_tested (judged vector.entry.values.now (read_formula (length vector.entry.values.now) (fields formula.now))) }
+fn read_whole(formula: &[u8], values: &[i32], k: usize) -> Result<bool, Fault>
+    requires { Registers values.now k }
+    ensures { given result ≡ as_tested (judged values.now (read_formula k (fields formula.now))) }
 {
-    let k = vector.values.len() as u8;
-    let header = read_header(formula, FileKind::Formula, 1, k)?;
-    let read = formula_at(formula, header.next, vector, LEVELS)?;
+    let header = read_header(formula, FileKind::Formula, 1, k as u8)?;
+    let read = formula_at(formula, header.next, values, k, LEVELS)?;
     ending_at(formula, read.next, FileKind::Formula)?;
     Ok(read.holds)
 }
@@ -67,8 +67,7 @@ pub fn test(formula: &[u8], values: &[i32]) -> Tested
     if FORMULA_BYTES < formula.len() {
         return refuse(Refusal::TooLong, 3, 0);
     }
-    let vector = Vector { values };
-    match read_whole(formula, vector) {
+    match read_whole(formula, values, k) {
         Ok(holds) => Tested {
             answer: acceptance(),
             holds,

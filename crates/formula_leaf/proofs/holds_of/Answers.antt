@@ -15,14 +15,14 @@ pub divides-requires : goal.divides-requires
 divides-requires c = let h = subst Proper c.in-Stride.is c.requires.proper in rw (to_z-of_z w64 (pos c.in-Stride.g) (stride-fits h.1)) (stride-low h.0)
 
 pub returns-in-Literal : goal.returns-in-Literal
-returns-in-Literal c = literal-holds _ c.args.vector.values.now c.in-Literal.is (to_z-of_z w64 c.total_of.result (record { sfits = c.total_of.type_inv }) ∙ c.total_of.ensures) c.says.ensures
+returns-in-Literal c = literal-holds _ c.args.vector.now c.in-Literal.is (to_z-of_z w64 c.total_of.result (record { sfits = c.total_of.type_inv }) ∙ c.total_of.ensures) c.says.ensures
 
 pub returns-in-Power : goal.returns-in-Power
-returns-in-Power c = power-holds _ c.args.vector.values.now c.in-Power.is c.requires.proper c.total_of-in-Power.ensures c.divides_word.ensures
+returns-in-Power c = power-holds _ c.args.vector.now c.in-Power.is c.requires.proper c.total_of-in-Power.ensures c.divides_word.ensures
 
 pub returns-in-Stride : goal.returns-in-Stride
 returns-in-Stride c =
     let h = subst Proper c.in-Stride.is c.requires.proper in
-    stride_holds _ c.args.vector.values.now c.in-Stride.is
+    stride_holds _ c.args.vector.now c.in-Stride.is
     (to_z-of_z w64 c.total_of-in-Stride.result (record { sfits = c.total_of-in-Stride.type_inv }) ∙ c.total_of-in-Stride.ensures)
     (rw (to_z-of_z w64 (pos c.in-Stride.g) (stride-fits h.1)) at c.divides.ensures)

@@ -10,4 +10,4 @@ returns-then-active-eq0 c = record { small = omega arith; is = marks-none c.if-a
 pub returns : goal.returns
 returns c =
     let a = c.args in
-    record { small = c.marks.ensures.small; is = rw (stored-form _ a.s.now a.at a.block.k (omega (arith, c.args.block.vectors.few)) c.store_numbers.ensures) at c.marks.ensures.is }
+    record { small = c.marks.ensures.small; is = rw (stored-form _ a.s.now a.at a.k (omega (arith, c.requires.block.few)) c.store_numbers.ensures) at c.marks.ensures.is }

@@ -5,7 +5,7 @@ use Rattle.formula_leaf.proofs.Masks.{Marking}
 use Rattle.formula_leaf.proofs.marks.Given as goal
 
 abbrev pub invariant-loop-left : goal.invariant-loop-left
-invariant-loop-left l = Marking (leaf_formula l.leaf (form_in l.block.k l.numbers 0)) l.block.values.now l.block.k l.block.n l.active l.left l.mask l.p l.i
+invariant-loop-left l = Marking (leaf_formula l.leaf (form_in l.k l.numbers 0)) l.values l.k l.n l.active l.left l.mask l.p l.i
 
 abbrev pub decreases-loop-left : goal.decreases-loop-left
 decreases-loop-left l = l.left

@@ -17,8 +17,8 @@ returns-in-Some c = value-outside _ _ c.if-k-lt1.false c.if-k-gt-MOST.false c.fi
 pub returns-then-formula-gt-FORMULA_BYTES : goal.returns-then-formula-gt-FORMULA_BYTES
 returns-then-formula-gt-FORMULA_BYTES c = too_long _ _ c.if-k-lt1.false c.if-k-gt-MOST.false c.first_outside.ensures c.in_default.is c.if-formula-gt-FORMULA_BYTES.true c.refuse-then-formula-gt-FORMULA_BYTES.ensures
 
-pub invariant_of-vector : goal.invariant_of-vector
-invariant_of-vector c = record { registers = in_registers c.args.formula.now _ c.if-k-lt1.false c.if-k-gt-MOST.false c.first_outside.ensures c.in_default.is }
+pub read_whole-requires : goal.read_whole-requires
+read_whole-requires c = in_registers c.args.formula.now _ c.if-k-lt1.false c.if-k-gt-MOST.false c.first_outside.ensures c.in_default.is
 
 pub returns-in-Ok : goal.returns-in-Ok
 returns-in-Ok c = whole-read _ _ c.if-k-lt1.false c.if-k-gt-MOST.false c.first_outside.ensures c.in_default.is c.if-formula-gt-FORMULA_BYTES.false c.read_whole.result c.read_whole.ensures (rw (c.acceptance.ensures, c.in-Ok.is))

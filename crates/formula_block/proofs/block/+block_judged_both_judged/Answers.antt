@@ -2,7 +2,7 @@
 use Rattle.std.proofs.Common.{ap, ◌∙◌, arith, Ok}
 use Rattle.fields.proofs.Places.{starts-required}
 use Rattle.formula_read.proofs.FormulaReader.{literal-whole, stride-whole}
-use Rattle.formula_block.proofs.Judging.{block-missing, block_refused, block-literal, block-stride, block-pair, both-none, both-and, both-or}
+use Rattle.formula_block.proofs.Judging.{block-missing, block_refused, block-literal, block-stride, block-pair, both-none, both-and, both-or, block-fewer}
 use Rattle.formula_block.proofs.block.+block_judged_both_judged.Goals as goal
 
 pub block_judged-leaf_marks-requires-clause-whole : goal.block_judged-leaf_marks-requires-clause-whole
@@ -33,10 +33,10 @@ pub both_judged-returns : goal.both_judged-returns
 both_judged-returns t c = both-and c.if-levels-eq0.false c.block_judged-first.ensures c.if-either.false c.block_judged.ensures
 
 pub both_judged-block_judged-requires : goal.both_judged-block_judged-requires
-both_judged-block_judged-requires t c = (omega arith, omega (arith, c.requires, c.block_judged-first.ensures.small))
+both_judged-block_judged-requires t c = (omega arith, block-fewer c.requires (omega (arith, c.block_judged-first.ensures.small)))
 
 pub both_judged-block_judged-second-requires : goal.both_judged-block_judged-second-requires
-both_judged-block_judged-second-requires t c = (omega arith, omega (arith, c.requires))
+both_judged-block_judged-second-requires t c = (omega arith, block-fewer c.requires (omega arith))
 
 pub block_judged-returns-in_default : goal.block_judged-returns-in_default
 block_judged-returns-in_default t c = block-missing _ _ _ _ c.next_or_fault.ensures c.in_default.is _

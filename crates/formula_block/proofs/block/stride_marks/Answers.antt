@@ -34,7 +34,7 @@ is_power-requires c =
     (stride-low l, stride-high l (held (record { sfits = c.signed_at-g.type_inv }) c.signed_at-g.ensures.range))
 
 pub leaf_marks-requires : goal.leaf_marks-requires
-leaf_marks-requires c = record { proper = power-true 30 _ (sym c.is_power.ensures ∙ c.if-is_power.true); whole = c.requires.whole; below = c.requires.below }
+leaf_marks-requires c = record { proper = power-true 30 _ (sym c.is_power.ensures ∙ c.if-is_power.true); whole = c.requires.whole; block = c.requires.block }
 
 pub returns-then-is_power : goal.returns-then-is_power
 returns-then-is_power c = record { small = c.leaf_marks.ensures.small; is = λ h. rw (same (record { sfits = c.signed_at-g.type_inv }) c.signed_at-g.ensures.is) at c.leaf_marks.ensures.is }
@@ -42,7 +42,7 @@ returns-then-is_power c = record { small = c.leaf_marks.ensures.small; is = λ h
 pub leaf_marks-requires-2 : goal.leaf_marks-requires-2
 leaf_marks-requires-2 c =
     let l = at-least-two (to_z w64 (of_z w64 c.signed_at-g.result)) c.if-g-lt2.false in
-    record { proper = (stride-low l, stride-high l (held (record { sfits = c.signed_at-g.type_inv }) c.signed_at-g.ensures.range)); whole = c.requires.whole; below = c.requires.below }
+    record { proper = (stride-low l, stride-high l (held (record { sfits = c.signed_at-g.type_inv }) c.signed_at-g.ensures.range)); whole = c.requires.whole; block = c.requires.block }
 
 pub returns : goal.returns
 returns c = record { small = c.leaf_marks-2.ensures.small; is = λ h. rw (same (record { sfits = c.signed_at-g.type_inv }) c.signed_at-g.ensures.is) at c.leaf_marks-2.ensures.is }

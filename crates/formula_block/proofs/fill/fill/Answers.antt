@@ -22,14 +22,14 @@ overflow_add-end c = omega (arith, block_room c.requires.vector_list (size-left 
 pub offset_bounds-values-from : goal.offset_bounds-values-from
 offset_bounds-values-from c = let h = block_room c.requires.vector_list (size-left _ _ _ c.min-size.ensures) c.loop-i-test.true in search rules
 
-pub slice_bounds-block-count : goal.slice_bounds-block-count
-slice_bounds-block-count c = omega arith
+pub slice_bounds-block_judged-count : goal.slice_bounds-block_judged-count
+slice_bounds-block_judged-count c = omega arith
 
-pub slice_bounds-block-end : goal.slice_bounds-block-end
-slice_bounds-block-end c = let h = block_room c.requires.vector_list (size-left _ _ _ c.min-size.ensures) c.loop-i-test.true in search rules
+pub slice_bounds-block_judged-end : goal.slice_bounds-block_judged-end
+slice_bounds-block_judged-end c = let h = block_room c.requires.vector_list (size-left _ _ _ c.min-size.ensures) c.loop-i-test.true in search rules
 
-pub invariant_of-block : goal.invariant_of-block
-invariant_of-block c = record { vectors = block-part c.requires.vector_list (size-left _ _ _ c.min-size.ensures) c.loop-i-test.true (size-most _ _ _ c.min-size.ensures) }
+pub block_judged-judged-requires : goal.block_judged-judged-requires
+block_judged-judged-requires c = block-part c.requires.vector_list (size-left _ _ _ c.min-size.ensures) c.loop-i-test.true (size-most _ _ _ c.min-size.ensures) c.all_of.ensures
 
 pub overflow_add-i : goal.overflow_add-i
 overflow_add-i c = omega (arith, c.requires.n_in_bounds, (size-left _ _ _ c.min-size.ensures))

@@ -10,14 +10,14 @@ formula_at-returns-in_err-field t c =
     let p = err_from_is_err_and c.from_residual.result c.from_residual.ensures.1 in
     rw (p.1, p.2) (formula-missing _ _ _ _ _ c.next_or_fault.ensures c.in_err-field.was)
 
-pub formula_at-literal_at-requires : goal.formula_at-literal_at-requires
-formula_at-literal_at-requires t c = literal-whole (starts-required c.next_or_fault.ensures c.in_ok-field.was) _ c.node_of.ensures (c.in-Ok-Literal.is ∙ ap Ok c.in-Ok-Literal.field-0-is)
+pub formula_at-literal_at-requires-clause-whole : goal.formula_at-literal_at-requires-clause-whole
+formula_at-literal_at-requires-clause-whole t c = literal-whole (starts-required c.next_or_fault.ensures c.in_ok-field.was) _ c.node_of.ensures (c.in-Ok-Literal.is ∙ ap Ok c.in-Ok-Literal.field-0-is)
 
-pub formula_at-stride_at-requires : goal.formula_at-stride_at-requires
-formula_at-stride_at-requires t c = stride-whole (starts-required c.next_or_fault.ensures c.in_ok-field.was) _ c.node_of.ensures (c.in-Ok-Stride.is ∙ ap Ok c.in-Ok-Stride.field-0-is)
+pub formula_at-stride_at-requires-clause-whole : goal.formula_at-stride_at-requires-clause-whole
+formula_at-stride_at-requires-clause-whole t c = stride-whole (starts-required c.next_or_fault.ensures c.in_ok-field.was) _ c.node_of.ensures (c.in-Ok-Stride.is ∙ ap Ok c.in-Ok-Stride.field-0-is)
 
 pub formula_at-pair_at-requires : goal.formula_at-pair_at-requires
-formula_at-pair_at-requires t c = (omega (arith, c.decreases, starts-less (starts-required {s = c.args.s.now} c.next_or_fault.ensures c.in_ok-field.was)), tt)
+formula_at-pair_at-requires t c = (omega (arith, c.decreases, starts-less (starts-required {s = c.args.s.now} c.next_or_fault.ensures c.in_ok-field.was)), c.requires)
 
 pub formula_at-returns-in_err-both-in-Ok-Pair : goal.formula_at-returns-in_err-both-in-Ok-Pair
 formula_at-returns-in_err-both-in-Ok-Pair t c =
@@ -43,7 +43,7 @@ pub pair_at-returns-then-levels-eq0 : goal.pair_at-returns-then-levels-eq0
 pair_at-returns-then-levels-eq0 t c = no-level _ _ _ _ _ c.if-levels-eq0.true
 
 pub pair_at-part_at-requires : goal.pair_at-part_at-requires
-pair_at-part_at-requires t c = (omega (arith, c.decreases, parts-on c.loop-i.invariant c.loop-i-test.true), tt)
+pair_at-part_at-requires t c = (omega (arith, c.decreases, parts-on c.loop-i.invariant c.loop-i-test.true), c.requires)
 
 pub pair_at-returns-in_err-part : goal.pair_at-returns-in_err-part
 pair_at-returns-in_err-part t c =
@@ -61,14 +61,14 @@ part_at-returns-in_err-field t c =
     let p = err_from_is_err_and c.from_residual.result c.from_residual.ensures.1 in
     rw (p.1, p.2) (formula-missing _ _ _ _ _ c.next_or_fault.ensures c.in_err-field.was)
 
-pub part_at-literal_at-requires : goal.part_at-literal_at-requires
-part_at-literal_at-requires t c = literal-whole (starts-required c.next_or_fault.ensures c.in_ok-field.was) _ c.node_of.ensures (c.in-Ok-Literal.is ∙ ap Ok c.in-Ok-Literal.field-0-is)
+pub part_at-literal_at-requires-clause-whole : goal.part_at-literal_at-requires-clause-whole
+part_at-literal_at-requires-clause-whole t c = literal-whole (starts-required c.next_or_fault.ensures c.in_ok-field.was) _ c.node_of.ensures (c.in-Ok-Literal.is ∙ ap Ok c.in-Ok-Literal.field-0-is)
 
-pub part_at-stride_at-requires : goal.part_at-stride_at-requires
-part_at-stride_at-requires t c = stride-whole (starts-required c.next_or_fault.ensures c.in_ok-field.was) _ c.node_of.ensures (c.in-Ok-Stride.is ∙ ap Ok c.in-Ok-Stride.field-0-is)
+pub part_at-stride_at-requires-clause-whole : goal.part_at-stride_at-requires-clause-whole
+part_at-stride_at-requires-clause-whole t c = stride-whole (starts-required c.next_or_fault.ensures c.in_ok-field.was) _ c.node_of.ensures (c.in-Ok-Stride.is ∙ ap Ok c.in-Ok-Stride.field-0-is)
 
 pub part_at-part_pair_at-requires : goal.part_at-part_pair_at-requires
-part_at-part_pair_at-requires t c = (omega (arith, c.decreases, starts-less (starts-required {s = c.args.s.now} c.next_or_fault.ensures c.in_ok-field.was)), tt)
+part_at-part_pair_at-requires t c = (omega (arith, c.decreases, starts-less (starts-required {s = c.args.s.now} c.next_or_fault.ensures c.in_ok-field.was)), c.requires)
 
 pub part_at-returns-in_err-both-in-Ok-Pair : goal.part_at-returns-in_err-both-in-Ok-Pair
 part_at-returns-in_err-both-in-Ok-Pair t c =

@@ -18,4 +18,4 @@ decreases-part_pair_at l = (length l.s.now - l.at) + l.levels
 
 -- The parts read so far.
 abbrev pub invariant-pair_at-loop-i : goal.invariant-pair_at-loop-i
-invariant-pair_at-loop-i l = PartsRead l.s l.place l.at l.vector.values.now (length l.vector.values.now) l.levels l.first l.second l.here l._i
+invariant-pair_at-loop-i l = PartsRead l.s l.place l.at l.values l.k l.levels l.first l.second l.here l._i
