@@ -2,14 +2,13 @@
 // specs/Answers.antt has what an answer is, and results: the first refusal that applies, by which every operation is defined.
 #![tactic(auto)]
 
+pub mod by_name;
 pub mod refusals;
 
 ghost use Rattle.std.specs.Prelude.{◌≡◌};
 ghost use Rattle.answers.specs.Answers.{root, answer_at, answer, acceptance, row_told, refusal_at};
-ghost use Rattle.answers.specs.Refusals.{number_of};
 
 use forms::RowNumber;
-use refusals::Refusal;
 
 // An answer: a refusal's number, the file and the place at fault, all three 0 for accepted. Amid a proof it tells also the row at
 // fault, the row of the innermost open branching step, and its branch; each is 65,535 where there is none.
@@ -77,19 +76,18 @@ fn row_told(number: u8, rows: RowNumber) -> RowNumber
     }
 }
 
-// Amid the proof, at a field before which there were so many rows.
-pub fn proof_refusal(position: Position, rows: RowNumber, refusal: Refusal, place: usize) -> Answer
-    ensures { result ≡ refusal_at position rows.0 place (number_of refusal) }
+// Amid the proof, at a field before which there were so many rows. Any number will do; by_name has those of refusals.
+pub fn proof_refusal(position: Position, rows: RowNumber, number: u8, place: usize) -> Answer
+    ensures { result ≡ refusal_at position rows.0 place number }
 {
-    let number = refusal.number();
     answer_at(row_told(number, rows), position, number, 3, place)
 }
 
 // Outside the proof's tree.
-pub fn refusal(refusal: Refusal, file: u8, place: usize) -> Answer
-    ensures { result ≡ answer (number_of refusal) file place }
+pub fn refusal(number: u8, file: u8, place: usize) -> Answer
+    ensures { result ≡ answer number file place }
 {
-    answer_at(RowNumber(NOWHERE), root(), refusal.number(), file, place)
+    answer_at(RowNumber(NOWHERE), root(), number, file, place)
 }
 
 pub fn acceptance() -> Answer

@@ -7,8 +7,9 @@ ghost use Rattle.answers.specs.Answers.{position};
 ghost use Rattle.openings.specs.Opening.{RoundsBy};
 ghost use Rattle.branches.specs.Branching.{resumed_by, refused_row, closed_by, answer_of, Started, ChecksBranch, Opened, FirstStands, RoundingChecked, RoundedChecked, SplitOpened, SplitChecked};
 
+use answers::by_name::proof_refusal;
 use answers::refusals::{Fault, Refusal};
-use answers::{Answer, Position, proof_refusal};
+use answers::{Answer, Position};
 use closes::ends::{close_number, close_stride};
 use fields::{End, WholeField, next_field};
 use forms::{LineNumber, RowNumber};

@@ -14,8 +14,9 @@ ghost use Rattle.bundle.specs.Read.{stored};
 ghost use Rattle.bundle_scan.specs.Scan.{IsBundle};
 ghost use Rattle.bundle_read.specs.Promises.{read_of, Reads};
 
+use answers::by_name::refusal;
 use answers::refusals::Refusal;
-use answers::{Answer, acceptance, refusal};
+use answers::{Answer, acceptance};
 use bundle_scan::{Body, scan};
 use forms::BUNDLE_BYTES;
 use number_bytes::words::Width;

@@ -9,8 +9,9 @@ ghost use Rattle.bundle.specs.Show.{show_part};
 ghost use Rattle.bundle_show.specs.Promises.{Shows, AnswersShow, part_bytes};
 ghost use Rattle.bundle_show.specs.Copied.{Copied};
 
+use answers::by_name::refusal;
 use answers::refusals::Refusal;
-use answers::{Answer, acceptance, refusal};
+use answers::{Answer, acceptance};
 use bundle_scan::scan;
 use forms::BUNDLE_BYTES;
 use locate::locate;

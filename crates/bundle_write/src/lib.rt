@@ -9,8 +9,9 @@ ghost use Rattle.forms.specs.Edition.{newest_edition};
 ghost use Rattle.bundle_write.specs.Ordered.{Orders};
 ghost use Rattle.bundle_write.specs.Promises.{Writes};
 
+use answers::by_name::refusal;
 use answers::refusals::{Fault, Refusal};
-use answers::{WriteResult, acceptance, refusal};
+use answers::{WriteResult, acceptance};
 use fields::header::put_header;
 use forms::{CONSTANTS, CONSTRAINTS, NEWEST};
 use number_bytes::words::Width;

@@ -2,9 +2,10 @@
 // What is left is said in specs/Output.antt; check_root ends with it.
 #![tactic(auto)]
 
+pub mod by_name;
+
 ghost use Rattle.std.specs.Prelude.{◌≡◌};
 ghost use Rattle.answers.specs.Answers.{answer};
-ghost use Rattle.answers.specs.Refusals.{number_of};
 ghost use Rattle.check_output.specs.Output.{InScratch, Delivers, Finishes};
 
 use answers::WriteResult;
@@ -14,11 +15,12 @@ use fields::ending::ending_at;
 use fields::header::put_header;
 use forms::FORMULA_BYTES;
 
-pub fn refusal(refusal: Refusal, file: u8, place: usize) -> WriteResult
-    ensures { result ≡ record { answer = answer (number_of refusal) file place; count = 0 } }
+// By any number; by_name has those of refusals.
+pub fn refusal(number: u8, file: u8, place: usize) -> WriteResult
+    ensures { result ≡ record { answer = answer number file place; count = 0 } }
 {
     WriteResult {
-        answer: answers::refusal(refusal, file, place),
+        answer: answers::refusal(number, file, place),
         count: 0,
     }
 }
@@ -30,10 +32,10 @@ fn deliver(scratch: &[u8], o: usize, k: u8, out: &mut [u8]) -> WriteResult
 {
     let needed = 8 + o;
     if needed > FORMULA_BYTES {
-        return refusal(Refusal::TooLong, 4, needed);
+        return by_name::refusal(Refusal::TooLong, 4, needed);
     }
     if out.len() < needed {
-        return refusal(Refusal::OutputTooShort, 4, needed);
+        return by_name::refusal(Refusal::OutputTooShort, 4, needed);
     }
     put_header(out, 1, k);
     out[8..needed].copy_from_slice(&scratch[..o]);
@@ -57,6 +59,6 @@ pub fn finish(
 {
     match ending_at(proof, at, FileKind::Proof) {
         Ok(()) => deliver(scratch, o, k, out),
-        Err(fault) => refusal(fault.refusal, 3, fault.place),
+        Err(fault) => by_name::refusal(fault.refusal, 3, fault.place),
     }
 }

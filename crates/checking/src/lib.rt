@@ -9,7 +9,7 @@ ghost use Rattle.bundle_load.specs.Begun.{WithinLimits};
 use answers::WriteResult;
 use answers::refusals::Refusal;
 use bundle_scan::{Body, scan};
-use check_output::refusal;
+use check_output::by_name::refusal;
 use check_sizes::check_lines;
 use check_sizes::inputs::Inputs;
 use fields::FileKind;

@@ -12,8 +12,9 @@ ghost use Rattle.conversion.specs.Turning.{asked};
 ghost use Rattle.conversion.specs.Promises.{TurnsBundle, TurnsProof};
 ghost use Rattle.convert.specs.Phases.{HasOther, BundleTurnable, ProofTurnable, ToWrite, ToPut};
 
+use answers::by_name::refusal;
 use answers::refusals::{Fault, Refusal};
-use answers::{WriteResult, acceptance, refusal};
+use answers::{WriteResult, acceptance};
 use bundle_scan::{Body, Scanned, scan};
 use conversion_bundle::{first_field_unheld, put_turned};
 use conversion_survey::{Editions, first_wide, read_entries};

@@ -151,7 +151,7 @@ fn check_job(job: Job, buffer: &[u8], out: &mut [u8]) -> WriteResult
     match files_of(job, buffer) {
         Some(files) => dulgaverk_check(files.a, files.b, files.proof, out),
         None => WriteResult {
-            answer: answers::refusal(Refusal::PartOutside, 4, 0),
+            answer: answers::by_name::refusal(Refusal::PartOutside, 4, 0),
             count: 0,
         },
     }

@@ -10,7 +10,7 @@ use answers::WriteResult;
 use answers::refusals::Refusal;
 use bundle_load::prepare;
 use bundle_scan::{Body, scan};
-use check_output::refusal;
+use check_output::by_name::refusal;
 use enumeration_find::{deliver, find};
 use forms::{BUNDLE_BYTES, CONSTANTS};
 

@@ -13,7 +13,7 @@ ghost use Rattle.enumeration_find.specs.Finding.{found_for};
 
 use answers::WriteResult;
 use answers::refusals::Refusal;
-use check_output::refusal;
+use check_output::by_name::refusal;
 use enumeration_rows::deliver::deliver_rows;
 use enumeration_rows::found::{NotAmong, Rows};
 use enumeration_search::{after_table, first_from};

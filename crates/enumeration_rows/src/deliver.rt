@@ -8,7 +8,7 @@ ghost use Rattle.enumeration_rows.specs.Searching.{rows_at, NumbersAt};
 use crate::write::{close_bytes, inference_bytes, put_close, put_inference};
 use answers::WriteResult;
 use answers::refusals::Refusal;
-use check_output::refusal;
+use check_output::by_name::refusal;
 use fields::header::put_header;
 
 fn written(needed: usize) -> WriteResult

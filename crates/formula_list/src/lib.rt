@@ -24,7 +24,7 @@ use range::outside_at;
 fn refuse(refusal: Refusal, file: u8, place: usize) -> WriteResult
     ensures { result ≡ unwritten (number_of refusal) file place }
 {
-    let answer = answers::refusal(refusal, file, place);
+    let answer = answers::by_name::refusal(refusal, file, place);
     WriteResult { answer, count: 0 }
 }
 

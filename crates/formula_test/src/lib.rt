@@ -34,7 +34,7 @@ fn refuse(refusal: Refusal, file: u8, place: usize) -> Tested
     ensures { result ≡ test_refused (number_of refusal) file place }
 {
     Tested {
-        answer: answers::refusal(refusal, file, place),
+        answer: answers::by_name::refusal(refusal, file, place),
         holds: false,
     }
 }

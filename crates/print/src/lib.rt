@@ -9,8 +9,9 @@ ghost use Rattle.printing_formula.specs.Printing.{Place};
 ghost use Rattle.printing.specs.Promises.{PrintsFile};
 ghost use Rattle.print.specs.Phases.{Sized, ReadsWhole, Measures, WritesText, PrintsBehind, Prints, refused_write};
 
+use answers::by_name::refusal;
 use answers::refusals::{Fault, Refusal};
-use answers::{WriteResult, acceptance, refusal};
+use answers::{WriteResult, acceptance};
 use fields::FileKind;
 use fields::ending::ending_at;
 use fields::header::read_header;

@@ -7,8 +7,9 @@ ghost use Rattle.run.specs.Uniform.{with_number};
 ghost use Rattle.run_branches.specs.Branches.{Likens};
 ghost use Rattle.run_branches.specs.Walks.{Countable, Stops, WalksBranch, WalksBranches};
 
+use answers::by_name::proof_refusal;
 use answers::refusals::Refusal;
-use answers::{Answer, Position, proof_refusal};
+use answers::{Answer, Position};
 use fields::{End, next_field};
 use forms::{BRANCHINGS, RowNumber};
 use run_fields::kind::{EntryKind, Matching, kind_at};

@@ -7,8 +7,9 @@ ghost use Rattle.run_cuts.specs.Cuts.{claimed_as, RootChecked, Asked, CutChecked
 
 use crate::begun::Run;
 use crate::load::load_cut;
+use answers::by_name::refusal;
 use answers::refusals::Refusal;
-use answers::{Answer, refusal, root};
+use answers::{Answer, root};
 use branches::branch::{Here, check_branch};
 use fields::FileKind;
 use fields::ending::ending_at;

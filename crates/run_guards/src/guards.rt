@@ -4,8 +4,9 @@ ghost use Rattle.forms.specs.Edition.{edition};
 ghost use Rattle.run.specs.Promises.{WritesGuards};
 ghost use Rattle.run_cuts.specs.Phases.{StagesPassed, Passed, Begun, Guarded};
 
+use answers::by_name::refusal;
 use answers::refusals::Refusal;
-use answers::{Answer, WriteResult, acceptance, refusal};
+use answers::{Answer, WriteResult, acceptance};
 use fields::FileKind;
 use fields::header::read_header;
 use forms::{CONSTANTS, LINES, LINES_1, NEWEST, PROOF_BYTES};

@@ -66,7 +66,7 @@ fn answer(change: Result<(), Refusal>) -> Answer
 {
     match change {
         Ok(()) => answers::acceptance(),
-        Err(refusal) => answers::refusal(refusal, 4, 0),
+        Err(refusal) => answers::by_name::refusal(refusal, 4, 0),
     }
 }
 

@@ -82,7 +82,7 @@ pub fn idle(s: Scheduler) -> Turned
     Turned {
         scheduler: s,
         result: WriteResult {
-            answer: answers::refusal(Refusal::NoJob, 4, 0),
+            answer: answers::by_name::refusal(Refusal::NoJob, 4, 0),
             count: 0,
         },
         seat: 0,

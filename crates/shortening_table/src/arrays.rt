@@ -52,7 +52,7 @@ fn write_both(
     ensures { ShortensFields body.edition body.k (fields_at proof.now body.at) body.constraints report.old table.old report.new table.new result }
 {
     let needed = 8 + table_bytes(proof, body.at, reported);
-    let short = refused(answers::refusal(Refusal::OutputTooShort, 4, needed));
+    let short = refused(answers::by_name::refusal(Refusal::OutputTooShort, 4, needed));
     if report.len() < rows {
         return short;
     }
