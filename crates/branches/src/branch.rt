@@ -387,7 +387,8 @@ fn check_rounded(
     // Ej of j = 0; the others differ from it in their last four bytes.
     let mut template = [0u8; 75];
     let ta = place_a(t, k);
-    put_stride(lines, ta, k, i64::from(g), &mut template, 0);
+    let stride = i64::from(g);
+    put_stride(lines, ta, k, stride, &mut template, 0);
     let mut end = Closed {
         at: here.at,
         o: here.o,
@@ -396,7 +397,7 @@ fn check_rounded(
     for j in 0..by {
         let others = j + 1 < by;
         let front = start_rounded(
-            lines, kinds, t, n, k, g, by, j, others, &template, scratch, end.o,
+            lines, kinds, t, n, k, stride, by, j, others, &template, scratch, end.o,
         );
         let from = here.on(end.at, front);
         let place = branch_of(row, j + 1);

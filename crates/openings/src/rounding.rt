@@ -2,7 +2,7 @@
 ghost use Rattle.std.specs.Prelude.{◌≡◌, ◌+◌, ◌≤◌, ◌<◌, pos, nat_abs, ◌≤ℤ◌, length};
 ghost use Rattle.integers.specs.Magnitude.{Within};
 ghost use Rattle.forms.specs.Edition.{edition1};
-ghost use Rattle.formula_write.specs.Writing.{scratch_limit, StrideTemplate};
+ghost use Rattle.formula_write.specs.Writing.{scratch_limit, Divisor, StrideTemplate};
 ghost use Rattle.proof.specs.Rows.{undivided};
 ghost use Rattle.lines.specs.Buffer.{line_in, LineStart};
 ghost use Rattle.lines.specs.Ready.{Ready};
@@ -93,7 +93,7 @@ pub fn start_rounded(
     i: LineNumber,
     n: LineNumber,
     k: usize,
-    g: u16,
+    g: i64,
     by: u16,
     j: u16,
     others: bool,
@@ -102,12 +102,12 @@ pub fn start_rounded(
     o: usize,
 ) -> usize
     requires line_start { LineStart k lines.old i.0 n.0 by by × (n.0 < length kinds.old) × (j < by) }
-    requires divisor { (2 ≤ g) × (o + 81 ≤ scratch_limit) }
-    requires stride_template { StrideTemplate k g (line_in k kinds.old lines.old i.0).t_A template.now }
-    ensures { RoundedStarts k i.0 n.0 g by j others kinds.old lines.old scratch.old o kinds.new lines.new scratch.new result }
+    requires divisor { Divisor g × (o + 81 ≤ scratch_limit) }
+    requires stride_template { StrideTemplate k (nat_abs g) (line_in k kinds.old lines.old i.0).t_A template.now }
+    ensures { RoundedStarts k i.0 n.0 (nat_abs g) by j others kinds.old lines.old scratch.old o kinds.new lines.new scratch.new result }
 {
     start_line(lines, kinds, i, n, k, INEQUALITY, by, j);
     let ta = place_a(n, k);
     let d = integers::number(lines, ta + k);
-    put_front(template, d, k, i64::from(g), others, scratch, o)
+    put_front(template, d, k, g, others, scratch, o)
 }

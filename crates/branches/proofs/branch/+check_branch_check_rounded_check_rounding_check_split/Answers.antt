@@ -334,25 +334,28 @@ check_branch-returns-in_ok-both-in-Splits t c =
 
 pub check_rounded-put_stride-requires-clause-numbered : goal.check_rounded-put_stride-requires-clause-numbered
 check_rounded-put_stride-requires-clause-numbered t c =
-    template-asked c.requires.opened c.place_a-ta.ensures (to_z-of_z w64 c.from.result (record { sfits = c.from.type_inv }) ∙ c.from.ensures) (omega arith) c.requires.rounds
+    template-asked c.requires.opened c.place_a-ta.ensures (to_z-of_z w64 c.from-stride.result (record { sfits = c.from-stride.type_inv }) ∙ c.from-stride.ensures) (omega arith) c.requires.rounds
 
 pub check_rounded-start_rounded-front-requires : goal.check_rounded-start_rounded-front-requires
 check_rounded-start_rounded-front-requires t c =
     let turn = c.loop-j.invariant.turn c.loop-j-test.true in
-    let w = template-kept c.requires.opened c.place_a-ta.ensures refl (rw (to_z-of_z w64 c.from.result (record { sfits = c.from.type_inv }) ∙ c.from.ensures) at c.put_stride.ensures) turn.kept in
-    let asked = rounded-asked turn.opened turn.less c.requires.rounds w in
-    record { line_start = asked.0; divisor = asked.1.0; stride_template = asked.1.1 }
+    let z = to_z-of_z w64 c.from-stride.result (record { sfits = c.from-stride.type_inv }) ∙ c.from-stride.ensures in
+    let w = template-kept c.requires.opened c.place_a-ta.ensures refl (rw z at c.put_stride.ensures) turn.kept in
+    let asked = rounded-asked turn.opened turn.less (omega arith) c.requires.rounds w in
+    rw z (record { line_start = asked.0; divisor = asked.1.0; stride_template = asked.1.1 })
 
 pub check_rounded-check_branch-requires : goal.check_rounded-check_branch-requires
 check_rounded-check_branch-requires t c =
     let turn = c.loop-j.invariant.turn c.loop-j-test.true in
-    let h = c.start_rounded-front.ensures in
+    let z = to_z-of_z w64 c.from-stride.result (record { sfits = c.from-stride.type_inv }) ∙ c.from-stride.ensures in
+    let h = rw z at c.start_rounded-front.ensures in
     rw c.on-from.ensures (turn-falls turn.open_is turn.unread c.decreases, rounded-started turn.opened turn.less _ (ltb (c.loop-j.j + 1) c.args.by) h)
 
 pub check_rounded-returns-in_err-end : goal.check_rounded-returns-in_err-end
 check_rounded-returns-in_err-end t c =
     let turn = c.loop-j.invariant.turn c.loop-j-test.true in
-    let h = c.start_rounded-front.ensures in
+    let z = to_z-of_z w64 c.from-stride.result (record { sfits = c.from-stride.type_inv }) ∙ c.from-stride.ensures in
+    let h = rw z at c.start_rounded-front.ensures in
     let b = rw (c.on-from.ensures, c.branch_of-place.ensures) at c.check_branch.ensures in
     let p = err_from_is_err_and c.from_residual.result c.from_residual.ensures.1 in
     rw (p.1, p.2) (rounding-fault turn h b c.in_err-end.was)
@@ -360,7 +363,8 @@ check_rounded-returns-in_err-end t c =
 pub check_rounded-loop-j-preserved : goal.check_rounded-loop-j-preserved
 check_rounded-loop-j-preserved t c =
     let turn = c.loop-j.invariant.turn c.loop-j-test.true in
-    let h = c.start_rounded-front.ensures in
+    let z = to_z-of_z w64 c.from-stride.result (record { sfits = c.from-stride.type_inv }) ∙ c.from-stride.ensures in
+    let h = rw z at c.start_rounded-front.ensures in
     let b = rw (c.on-from.ensures, c.branch_of-place.ensures) at c.check_branch.ensures in
     rounding-turn turn h b c.in_ok-end.was
 
