@@ -66,7 +66,7 @@ module _ {K : ℕ} {p : List ℕ} {at : ℕ} {kinds : List ℕ} {buf : List ℤ}
     stopped-fault scratch o s = record {
       kept = s.kept;
       long = refl;
-      by = branch-entries t.edition K (32 - t.«open») here _ _ _ ∙ s.by (below t.edition K (32 - t.«open»));
+      by = rw s.by.0 (branch-entries t.edition K (32 - t.«open») here _ _ _ ∙ s.by.1 here (below t.edition K (32 - t.«open»)));
     }
 
     -- The row that the entries come to.

@@ -62,8 +62,8 @@ module _ {K : ℕ} {p : List ℕ} {at : ℕ} {kinds₀ : List ℕ} {buf₀ : Lis
     (g : Going K p at kinds₀ buf₀ t₀ kinds buf place t made) where
   going_end : (here : Position) {r : code.Result WholeField End} → r ≡ next_of (fields_at p place) → (e : End) → r ≡ Err e → Stopped K p at here kinds₀ buf₀ t₀ kinds buf (Err (unclosed e t.rows here))
   unfolding check_entries
-  going_end here n (End.Cut a) e = record { kept = g.kept; by = λ deeper. g.same here deeper ∙ rw (next-cut (fields_at p place) n e) }
-  going_end here n (End.Ends a) e = record { kept = g.kept; by = λ deeper. g.same here deeper ∙ rw (next-ends (fields_at p place) n e) }
+  going_end here n (End.Cut a) e = record { kept = g.kept; by = (refl, λ other deeper. g.same other deeper ∙ rw (next-cut (fields_at p place) n e)) }
+  going_end here n (End.Ends a) e = record { kept = g.kept; by = (refl, λ other deeper. g.same other deeper ∙ rw (next-ends (fields_at p place) n e)) }
 
   pub going-end : (here : Position) {r : code.Result WholeField End} → r ≡ next_of (fields_at p place) → {f : BranchFault} → (e : End) × (r ≡ Err e) × (f ≡ unclosed e t.rows here) → Stopped K p at here kinds₀ buf₀ t₀ kinds buf (Err f)
   going-end here n (e, y, z) = rw z (going_end here n e y)
@@ -94,7 +94,7 @@ module _ {K : ℕ} {p : List ℕ} {at : ℕ} {kinds₀ : List ℕ} {buf₀ : Lis
     by-same q here deeper = field_is here deeper ∙ q.is deeper (check_entries (edition t.edition) K here deeper (fields_at p next)) (refusal_at here t.rows.0 a) (fields_at p next)
 
     pub going-refused : (here : Position) {w : Refusal} → r ≡ Err w → Stopped K p at here kinds₀ buf₀ t₀ kinds' buf' (Err (record { fault = fault w a; rows = t.rows; position = here }))
-    going-refused here e = let y = rw e at x in record { kept = all-kept; by = by-same y.by here }
+    going-refused here e = let y = rw e at x in record { kept = all-kept; by = (refl, by-same y.by) }
 
     spare-kept : Spare t.edition K (t₀.lines.0 + lines_left t₀.edition p at) kinds' buf'
     spare-kept = spare-less (omega arith) x.kept.kinds_length x.kept.lines_length g.spare

@@ -50,10 +50,11 @@ abbrev pub unclosed : End → RowNumber → Position → BranchFault
 unclosed (End.Cut at) rows here = record { fault = fault Refusal.Truncated at; rows = rows; position = here }
 unclosed (End.Ends at) rows here = record { fault = fault Refusal.BranchesOpen at; rows = rows; position = here }
 
--- The entries of a branch at a position are refused, or they come to a row.
+-- The entries of a branch at a position are refused, as they are at any other, or they come to a row.
 abbrev pub StoppedBy : (K : ℕ) (p : List ℕ) (at : ℕ) (here : Position) (kinds : List ℕ) (buf : List ℤ) (t : Tally) (kinds' : List ℕ) (buf' : List ℤ) → code.Result Stop BranchFault → Type 0
 StoppedBy K p at here kinds buf t kinds' buf' (Err f) =
-    (deeper : Option Checker) → entries_from K p at kinds buf t here deeper ≡ refused (refusal_at f.position f.rows.0 f.fault.place (number_of f.fault.refusal))
+    (f.position ≡ here)
+    × ((other : Position) (deeper : Option Checker) → entries_from K p at kinds buf t other deeper ≡ refused (refusal_at other f.rows.0 f.fault.place (number_of f.fault.refusal)))
 StoppedBy K p at here kinds buf t kinds' buf' (Ok s) = Comes K p at kinds buf t kinds' buf' (row_of s.ending s.t.0) s.row.0 s.at s.next s.tally
 
 pub record Stopped (K : ℕ) (p : List ℕ) (at : ℕ) (here : Position) (kinds : List ℕ) (buf : List ℤ) (t : Tally) (kinds' : List ℕ) (buf' : List ℤ) (r : code.Result Stop BranchFault) : Type 0 where

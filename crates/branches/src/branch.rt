@@ -154,7 +154,7 @@ fn unclosed(end: End, rows: RowNumber, position: Position) -> BranchFault
 }
 
 // 2, 20, else as `step`.
-fn entries(
+pub fn entries(
     p: &[u8],
     at: usize,
     position: Position,
