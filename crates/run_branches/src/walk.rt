@@ -18,13 +18,10 @@ use run_fields::walked::WalkedProof;
 
 // An answer by another number.
 #[tactic(auto, unfolding(run::specs::Uniform::with_number))]
-pub fn renumber(answer: Answer, refusal: Refusal) -> Answer
-    ensures { result ≡ with_number (number_of refusal) answer }
+pub fn renumber(answer: Answer, number: u8) -> Answer
+    ensures { result ≡ with_number number answer }
 {
-    Answer {
-        number: refusal.number(),
-        ..answer
-    }
+    Answer { number, ..answer }
 }
 
 // A refusal that stands where another would.
@@ -37,7 +34,10 @@ fn standing(
 ) -> Answer
     ensures { result ≡ with_number (number_of refusal) (refusal_at position rows.0 place (number_of other)) }
 {
-    renumber(proof_refusal(position, rows, other, place), refusal)
+    renumber(
+        proof_refusal(position, rows, other, place),
+        refusal.number(),
+    )
 }
 
 // A branch that is closed: the fields go on at next, there are so many rows up to there, and `unlike` is 28 at its closing row.

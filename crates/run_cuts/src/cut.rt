@@ -22,7 +22,7 @@ fn claimed(answer: Answer) -> Answer
     ensures { result ≡ claimed_as answer }
 {
     if answer.number == Refusal::WrongClaim.number() {
-        return renumber(answer, Refusal::ClaimInRun);
+        return renumber(answer, Refusal::ClaimInRun.number());
     }
     answer
 }
