@@ -1,6 +1,5 @@
 -- What is found, as the numbers of rows and as the rows. Assumes nothing.
-use mathlib.Core.Path.{◌≡◌, refl, sym, ◌∙◌, ap}
-use mathlib.Core.List.{◌∷◌}
+use mathlib.Core.Path.{◌≡◌, refl, ap}
 use Prim.Native.Nat.{ℕ, suc, ◌+◌, ◌≤◌, ◌<◌}
 use native.Mathlib.Omega.{arith}
 use lib.ListN.{length}
@@ -12,41 +11,44 @@ use Rattle.enumeration.specs.Search.{Found, if_none_left, if_not_among, with_row
 use Rattle.enumeration_rows.specs.declared.found.Rows.{Rows}
 use Rattle.enumeration_rows.specs.declared.found.Rows.TheVariants.{One, Two, Three}
 use Rattle.enumeration_rows.specs.declared.found.NotAmong.{NotAmong}
-use Rattle.enumeration_rows.specs.Searching.{inferences_of, close_of, found_of, NumbersIn, Inferences, with_first}
+use Rattle.enumeration_rows.specs.Searching.{inferences_of, found_of, NumbersIn, Inferences, with_first}
 
 -- ---- a row before those found
-first-close : (j : ℕ) (rows : Rows) → close_of (with_first j rows) ≡ close_of rows
-first-close j (One c) = refl
-first-close j (Two a c) = refl
-first-close j (Three a b c) = refl
-
-pub first-inferences : (j : ℕ) (rows : Rows) → length (inferences_of rows) ≤ 1 → inferences_of (with_first j rows) ≡ j ∷ inferences_of rows
-first-inferences j (One c) h = refl
-first-inferences j (Two a c) h = refl
-first-inferences j (Three a b c) h = absurd (omega arith)
-
 -- The answer with inference j before the rows found.
 abbrev pub prepended : (j : ℕ) → Result (Option Rows) NotAmong → Result (Option Rows) NotAmong
 prepended j (Err e) = Err e
 prepended j (Ok None) = Ok None
-prepended j (Ok (Some rows)) = Ok (Some (with_first j rows))
+prepended j (Ok (Some rows)) = Ok (with_first j rows)
 
 module _ (n d j : ℕ) where
   pub prepend-is : (found : Result (Option Rows) NotAmong) → Inferences d found → d ≤ 1 → found_of n (prepended j found) ≡ with_row (Derive (inference_at n j)) (found_of (n + 1) found)
   unfolding with_row
   prepend-is (Err e) s h = refl
   prepend-is (Ok None) s h = refl
-  prepend-is (Ok (Some rows)) s h = let l : length (inferences_of rows) ≤ 1 = omega arith in rw (first-inferences j rows l, first-close j rows)
+  prepend-is (Ok (Some (One c))) s h = refl
+  prepend-is (Ok (Some (Two a c))) s h = refl
+  prepend-is (Ok (Some (Three a b c))) s h = absurd (omega arith)
 
   pub prepend-in : (found : Result (Option Rows) NotAmong) → Inferences d found → d ≤ 1 → j < inference_count n → NumbersIn (n + 1) found → NumbersIn n (prepended j found)
   prepend-in (Err e) s h l i = tt
   prepend-in (Ok None) s h l i = tt
-  prepend-in (Ok (Some rows)) s h l i = let k : length (inferences_of rows) ≤ 1 = omega arith in rw (first-inferences j rows k, first-close j rows) (l, i)
+  prepend-in (Ok (Some (One c))) s h l i = (l, i)
+  prepend-in (Ok (Some (Two a c))) s h l i = (l, i)
+  prepend-in (Ok (Some (Three a b c))) s h l i = absurd (omega arith)
 
   pub prepend-inferences : (found : Result (Option Rows) NotAmong) → Inferences d found → d ≤ 1 → Inferences (suc d) (prepended j found)
   prepend-inferences (Err e) s h = tt
   prepend-inferences (Ok None) s h = tt
-  prepend-inferences (Ok (Some rows)) s h = let l : length (inferences_of rows) ≤ 1 = omega arith in ap suc s ∙ ap length (sym (first-inferences j rows l))
+  prepend-inferences (Ok (Some (One c))) s h = ap suc s
+  prepend-inferences (Ok (Some (Two a c))) s h = ap suc s
+  prepend-inferences (Ok (Some (Three a b c))) s h = absurd (omega arith)
+
+  -- rows before which there is a place are found with it
+  pub first-found : (rows : Rows) → d ≡ length (inferences_of rows) → d ≤ 1 → (f : Found) → if_none_left (found_of n (Ok (with_first j rows))) f ≡ found_of n (Ok (with_first j rows))
+  unfolding if_none_left
+  first-found (One c) s h f = refl
+  first-found (Two a c) s h f = refl
+  first-found (Three a b c) s h f = absurd (omega arith)
 
 -- ---- what comes next
 pub or-none-left : (f : Found) → if_none_left search.none_left f ≡ f

@@ -47,11 +47,11 @@ Inferences d (Err e) = Unit {0}
 Inferences d (Ok None) = Unit {0}
 Inferences d (Ok (Some rows)) = d ≡ length (inferences_of rows)
 
--- An inference before the rows found.
-abbrev pub with_first : (j : ℕ) → Rows → Rows
-with_first j (One c) = Two j c
-with_first j (Two a c) = Three j a c
-with_first j (Three a b c) = Three a b c
+-- An inference before the rows found: there are two of them at most.
+abbrev pub with_first : (j : ℕ) → Rows → Option Rows
+with_first j (One c) = Some (Two j c)
+with_first j (Two a c) = Some (Three j a c)
+with_first j (Three a b c) = None
 
 -- The answer r to the search, of d inferences and a close, is what f is of the lines; these stay.
 pub record Finds (K n d : ℕ) (f : Found) (kinds : List ℕ) (buf : List ℤ) (kinds' : List ℕ) (buf' : List ℤ) (r : Result (Option Rows) NotAmong) : Type 0 where

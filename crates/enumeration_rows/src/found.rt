@@ -15,14 +15,14 @@ pub enum Rows {
 pub struct NotAmong;
 
 impl Rows {
-    // Inference j before these rows. (There are two of them at most.)
-    pub fn with_first(self, j: usize) -> Rows
+    // Inference j before these rows; none where they are three. (There are two of them at most.)
+    pub fn with_first(self, j: usize) -> Option<Rows>
         ensures { result ≡ with_first j self }
     {
         match self {
-            Rows::One { c } => Rows::Two { a: j, c },
-            Rows::Two { a, c } => Rows::Three { a: j, b: a, c },
-            Rows::Three { .. } => self,
+            Rows::One { c } => Some(Rows::Two { a: j, c }),
+            Rows::Two { a, c } => Some(Rows::Three { a: j, b: a, c }),
+            Rows::Three { .. } => None,
         }
     }
 }

@@ -26,7 +26,7 @@ use Rattle.answers.specs.declared.refusals.Refusal.{Refusal}
 use Rattle.enumeration_rows.specs.Recognised.{InferenceFound}
 use Rattle.enumeration_rows.specs.Applied.{SearchRoom}
 use Rattle.enumeration_rows.proofs.Inferred.{line_refused, line_made, made-tally, lines-made, roomy-kept}
-use Rattle.enumeration_rows.proofs.FoundRows.{prepended, prepend-is, prepend-in, prepend-inferences, found-first, barred-first, or-none-left}
+use Rattle.enumeration_rows.proofs.FoundRows.{prepended, prepend-is, prepend-in, prepend-inferences, first-found, found-first, barred-first, or-none-left}
 use Rattle.enumeration_rows.proofs.Closes.{kept-lines, true-is}
 use Rattle.enumeration_rows.proofs.RecognisedRows.{begins-longer}
 use Rattle.std.specs.Prelude.{Option, None, Some, Result, Ok, Err}
@@ -182,8 +182,8 @@ module _ {K d : ℕ} {kinds : List ℕ} {buf : List ℤ} {t : Tally} (roomy : Se
         → Finds K t.lines.0 (suc d) (next_found s (proofs_of (suc d) (lines_in K kinds buf t.lines.0))) kinds buf kinds₂ buf₂ (prepended j p)
     as-found x y = subst (λ (p : Result (Option Rows) NotAmong). Finds K t.lines.0 (suc d) (next_found s (proofs_of (suc d) (lines_in K kinds buf t.lines.0))) kinds buf kinds₂ buf₂ (prepended j p)) x y
 
-    pub given-found : {rows : Rows} → found ≡ Ok (Some rows) → Finds K t.lines.0 (suc d) (next_found s (proofs_of (suc d) (lines_in K kinds buf t.lines.0))) kinds buf kinds₂ buf₂ (Ok (Some (with_first j rows)))
-    given-found {rows} x = as-found x (ended (λ f. rw x (found-first t.lines.0 f (with_first j rows))))
+    pub given-found : {rows : Rows} → found ≡ Ok (Some rows) → Finds K t.lines.0 (suc d) (next_found s (proofs_of (suc d) (lines_in K kinds buf t.lines.0))) kinds buf kinds₂ buf₂ (Ok (with_first j rows))
+    given-found {rows} x = as-found x (ended (λ f. rw x (first-found t.lines.0 d j rows (subst (λ (p : Result (Option Rows) NotAmong). Inferences d p) x q.inferences) h f)))
 
     pub given-barred : {a : NotAmong} → found ≡ Err a → Finds K t.lines.0 (suc d) (next_found s (proofs_of (suc d) (lines_in K kinds buf t.lines.0))) kinds buf kinds₂ buf₂ (Err a)
     given-barred {a} x = as-found x (ended (λ f. rw x (barred-first t.lines.0 f a)))

@@ -59,10 +59,10 @@ fn beginning(
     }
     if depth == 0 {
         let rows = seek_close_behind(lines, kinds, n, k, unclosed)?;
-        return Some(rows.with_first(j));
+        return rows.with_first(j);
     }
     let rows = seek(lines, kinds, n + 1, k, depth, 0)?;
-    Some(rows.with_first(j))
+    rows.with_first(j)
 }
 
 // The first proof of `depth` inferences and a close, whose first row has a number from `from` on.
@@ -116,7 +116,7 @@ fn after(
     }
     let behind = &rest[inference_bytes(n, j)..];
     match after(lines, kinds, n + 1, k, depth - 1, behind)? {
-        Some(rows) => Ok(Some(rows.with_first(j))),
+        Some(rows) => Ok(rows.with_first(j)),
         None => Ok(seek(lines, kinds, n, k, depth, j + 1)),
     }
 }
