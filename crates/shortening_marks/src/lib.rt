@@ -8,7 +8,7 @@ ghost use Rattle.shortening_marks.specs.Gathered.{Gatherable, GathersAll, Report
 ghost use Rattle.shortening_marks.specs.Marks.{made_marks, MarkedRow, Markable, MarkedFrom};
 
 use fields::next_field;
-use shortening_stack::stack::{Standing, Step, advance};
+use shortening_stack::stack::{Standing, Step};
 use shortening_stack::{Class, outline_at};
 
 // Of an accepted proof: where its rows start, its edition, and how many constants and constraints it is over.
@@ -63,7 +63,7 @@ pub fn gather(p: &[u8], body: ProofBody, gathered: &mut [GatheredRow], steps: &m
                     kept: 0,
                     depth,
                 };
-                let moved = advance(x, standing, steps);
+                let moved = x.advance(standing, steps);
                 lines = moved.lines;
                 depth = moved.depth;
                 rows += 1;

@@ -1,8 +1,8 @@
 -- The branches to come as the code keeps them: for each branching step that has some, one `Step`. Assumes nothing.
-use Rattle.std.specs.Prelude.{◌≡◌, List, [], ℕ, zero, suc, ◌≤◌, ◌<◌, length, get_or}
+use Rattle.std.specs.Prelude.{◌≡◌, cond, eqb, List, [], ℕ, zero, suc, ◌≤◌, ◌<◌, length, get_or}
 use Rattle.shortening.specs.Passes.{top, pop, pushed, Start, no_start, branch_start}
 use Rattle.shortening_stack.specs.declared.Class.{Class}
-use Rattle.shortening_stack.specs.declared.Class.TheVariants.{Makes, Branches}
+use Rattle.shortening_stack.specs.declared.Class.TheVariants.{Makes, Branches, Closes, Claims}
 use Rattle.shortening_stack.specs.declared.stack.Step.{Step}
 
 -- What stands where no step does.
@@ -51,6 +51,10 @@ pub record Popped (steps : List Step) (d : ℕ) (steps' : List Step) (lines kept
   pub most : d' ≤ d
   pub bounded : (b : ℕ) → Bound steps d b → Bound steps' d' b
   pub steps_length : length steps' ≡ length steps
+
+-- The class that a number stands for: 0 makes a line, 1 branches, 3 claims; 2 and every number above 3 ends a branch, as a close does.
+abbrev pub class_of : ℕ → Class
+class_of number = cond (eqb number 0) Makes (cond (eqb number 1) Branches (cond (eqb number 3) Claims Closes))
 
 -- A row of a class that stays goes by: how many lines stand on the branch behind it, how many of them are kept, and the branches to come.
 -- `come` are those of the row, `first` the kept lines with which the next branch starts.

@@ -1,7 +1,7 @@
 // The branches to come, innermost first: for each branching step that has some, one `Step`.
 // specs/Stack.antt has what stands in it.
-ghost use Rattle.std.specs.Prelude.{◌<◌, ◌≤◌, length};
-ghost use Rattle.shortening_stack.specs.Stack.{Pushed, Popped, MovedOn};
+ghost use Rattle.std.specs.Prelude.{◌≡◌, ◌<◌, ◌≤◌, length};
+ghost use Rattle.shortening_stack.specs.Stack.{Pushed, Popped, class_of, MovedOn};
 
 use crate::{Class, Outline};
 
@@ -69,26 +69,65 @@ fn end_branch(steps: &mut [Step], depth: usize) -> Standing
     Standing { lines, kept, depth }
 }
 
-// A row that stays goes by: one more line, one more step, or the end of a branch.
-pub fn advance(x: Outline, standing: Standing, steps: &mut [Step]) -> Standing
-    requires { (standing.lines < 0xFFFF) × (standing.kept < 0xFFFF) × (standing.depth < length steps.old) }
-    ensures { MovedOn x.class x.come standing.lines standing.kept standing.depth steps.old steps.new result.lines result.kept result.depth }
-{
-    let Standing { lines, kept, depth } = standing;
-    match x.class {
-        Class::Makes => Standing {
-            lines: lines + 1,
-            kept: kept + 1,
-            depth,
-        },
-        Class::Branches => {
-            let more = push(steps, depth, lines + 1, kept + 1, x.come);
-            Standing {
+impl Outline {
+    // A row that stays goes by: one more line, one more step, or the end of a branch.
+    pub fn advance(self, standing: Standing, steps: &mut [Step]) -> Standing
+        requires { (standing.lines < 0xFFFF) × (standing.kept < 0xFFFF) × (standing.depth < length steps.old) }
+        ensures { MovedOn self.class self.come standing.lines standing.kept standing.depth steps.old steps.new result.lines result.kept result.depth }
+    {
+        let Standing { lines, kept, depth } = standing;
+        match self.class {
+            Class::Makes => Standing {
                 lines: lines + 1,
                 kept: kept + 1,
-                depth: more,
+                depth,
+            },
+            Class::Branches => {
+                let more = push(steps, depth, lines + 1, kept + 1, self.come);
+                Standing {
+                    lines: lines + 1,
+                    kept: kept + 1,
+                    depth: more,
+                }
             }
+            _ => end_branch(steps, depth),
         }
-        _ => end_branch(steps, depth),
     }
+}
+
+// ---- the same by numbers
+impl Class {
+    // 0 to 3; a number above these ends a branch, as 2 does.
+    fn of(number: u16) -> Class
+        ensures { result ≡ class_of number }
+    {
+        match number {
+            0 => Class::Makes,
+            1 => Class::Branches,
+            3 => Class::Claims,
+            _ => Class::Closes,
+        }
+    }
+}
+
+// A row goes by whose class is given as a number. (The lines that it names are not asked for.)
+pub fn advance(
+    class: u16,
+    come: u16,
+    lines: u16,
+    kept: u16,
+    depth: usize,
+    steps: &mut [Step],
+) -> Standing
+    requires { (lines < 0xFFFF) × (kept < 0xFFFF) × (depth < length steps.old) }
+    ensures { MovedOn (class_of class) come lines kept depth steps.old steps.new result.lines result.kept result.depth }
+{
+    let x = Outline {
+        class: Class::of(class),
+        first: 0,
+        second: 0,
+        come,
+    };
+    let standing = Standing { lines, kept, depth };
+    x.advance(standing, steps)
 }

@@ -19,7 +19,7 @@ use fields::{WholeField, next_field};
 use forms::line_bytes;
 use number_bytes::copy::copy_bytes;
 use shortening_marks::ProofBody;
-use shortening_stack::stack::{Standing, Step, advance};
+use shortening_stack::stack::{Standing, Step};
 use shortening_stack::{Class, outline_at};
 
 // How many bytes the fields from a place on have that stay.
@@ -169,7 +169,7 @@ pub fn put_table(
             let x = outline_at(p, field.tag, field.start, e);
             to = put_kept(p, field, e, x.first, x.second, gones, out, to);
             renew(gones, x.class, standing);
-            standing = advance(x, standing, steps);
+            standing = x.advance(standing, steps);
             rows += 1;
         }
         here = field.next;
