@@ -15,6 +15,7 @@ use answers::{Answer, acceptance};
 use bundle_scan::scan;
 use forms::BUNDLE_BYTES;
 use locate::locate;
+use number_bytes::copy::copy_bytes;
 
 // The field of the constraint that a line number names, out of A's or B's buffer; the empty part at A's start where it is refused.
 pub fn show<'a>(a: &'a [u8], b: &'a [u8], line: usize) -> &'a [u8]
@@ -65,6 +66,6 @@ pub fn copy_shown<'a>(a: &'a [u8], b: &'a [u8], line: usize, out: &mut [u8]) -> 
     if out.len() < n {
         return n;
     }
-    out[..n].copy_from_slice(part);
+    copy_bytes(part, 0, n, out, 0);
     n
 }

@@ -14,6 +14,7 @@ use fields::FileKind;
 use fields::ending::ending_at;
 use fields::header::put_header;
 use forms::FORMULA_BYTES;
+use number_bytes::copy::copy_bytes;
 
 // By any number; by_name has those of refusals.
 pub fn refusal(number: u8, file: u8, place: usize) -> WriteResult
@@ -38,7 +39,7 @@ fn deliver(scratch: &[u8], o: usize, k: u8, out: &mut [u8]) -> WriteResult
         return by_name::refusal(Refusal::OutputTooShort, 4, needed);
     }
     put_header(out, 1, k);
-    out[8..needed].copy_from_slice(&scratch[..o]);
+    copy_bytes(scratch, 0, o, out, 8);
     WriteResult {
         answer: answers::acceptance(),
         count: needed,

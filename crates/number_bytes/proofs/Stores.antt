@@ -1,11 +1,11 @@
 -- Parts of a list, and runs of stores: one after the other, one beside another, and a copy. Assumes nothing.
 use mathlib.Core.Path.{◌≡◌, refl, sym, ap, ◌∙◌}
 use mathlib.Core.List.{List, [], ◌∷◌, ◌++◌, append_assoc}
-use Prim.Native.Nat.{ℕ, zero, suc, ◌+◌, ◌≤◌}
+use Prim.Native.Nat.{ℕ, zero, suc, ◌+◌, ◌≤◌, ◌<◌}
 use native.Mathlib.Nat.{add-zero}
 use native.Mathlib.Omega.{arith}
-use lib.ListN.{length, take, drop, set}
-use lib.Seq.{sets, sets-eq, set_comm, take-take, drop-drop}
+use lib.ListN.{length, get_or, take, drop, set, length-drop}
+use lib.Seq.{sets, sets-eq, set_comm, length-sets, take-take, take-suc, drop-drop, get_or-drop, length-take-le}
 use borrow.Rule.Slice.PartMut.{put_mid}
 
 module _ {A : Type 0} where
@@ -37,3 +37,15 @@ module _ {A : Type 0} where
   sets-mid at n k l vs ws e z i h =
       let x : at + length vs ≡ at + k = omega arith in
       rw (e, drop-drop k at l) (sym (sets-eq vs l at (omega arith) ∙ append_assoc (take at l) vs (drop (at + length vs) l) ∙ rw x))
+
+-- ---- a copy: after i turns the first i elements are in place
+module _ (out₀ out p : List ℕ) (start o i : ℕ) (e : out ≡ sets out₀ o (take i (drop start p))) where
+  pub copy_step : (n : ℕ) → start + n ≤ length p → i < n → set out (o + i) (get_or p (start + i) 0) ≡ sets out₀ o (take (i + 1) (drop start p))
+  copy_step n h l =
+      let inside : i < length (drop start p) = rw (length-drop start p) (omega arith) in
+      let own : length (take i (drop start p)) ≡ i = length-take-le i (drop start p) (omega arith) in
+      let z : i + 1 ≡ suc i = omega arith in
+      rw (e, z, take-suc (drop start p) i 0 inside, sets-append (take i (drop start p)) (get_or (drop start p) i 0 ∷ []) out₀ o, own, get_or-drop start p i 0)
+
+  pub copy-length : length out ≡ length out₀
+  copy-length = ap length e ∙ length-sets out₀ o (take i (drop start p))
