@@ -16,6 +16,7 @@ use answers::refusals::Refusal;
 use check_output::by_name::refusal;
 use enumeration_rows::deliver::deliver_rows;
 use enumeration_rows::found::{NotAmong, Rows};
+use enumeration_rows::read::stands;
 use enumeration_search::{after_table, first_from};
 use fields::header::put_header;
 
@@ -25,7 +26,7 @@ fn is_headed(table: &[u8], k: u8) -> bool
 {
     let mut header = [0u8; 8];
     put_header(&mut header, 1, k);
-    table.starts_with(&header)
+    stands(table, 0, &header, 8)
 }
 
 pub fn find(

@@ -2,15 +2,13 @@
 use mathlib.Core.Path.{◌≡◌, refl, sym, ◌∙◌, ap, subst}
 use mathlib.Core.Bool.{Bool, true, false, ◌&&◌}
 use mathlib.Core.List.{List, [], ◌∷◌}
-use Prim.Native.Nat.{ℕ, ◌≤◌, ◌<◌}
+use Prim.Native.Nat.{ℕ, ◌-◌, ◌≤◌, ◌<◌}
 use native.Mathlib.Omega.{arith}
 use lib.Dec.{T, eqb}
-use lib.ListN.{length, take}
+use lib.ListN.{length, take, drop, length-drop, length-take}
 use lib.Seq.{sets, take_at}
 use mir.Facts.{and_yes}
 use Rattle.std.specs.Prelude.{None}
-use Rattle.std.specs.List.{starts_with}
-use Rattle.std.specs.Cmp.Lexicographic.{pointwise}
 use Rattle.answers.specs.Answers.{over}
 use Rattle.answers.proofs.Over.{sets_over}
 use Rattle.number_bytes.specs.Same.{same_bytes}
@@ -33,19 +31,21 @@ begins-longer [] s t = omega arith
 begins-longer (x ∷ xs) [] t = absurd t
 begins-longer (x ∷ xs) (y ∷ s) t = let (e, b) = and_yes (eqb x y) (begins xs s) t in omega (arith, begins-longer xs s b)
 
--- The library's tests of bytes are those of the definitions.
-pub starts-begins : (xs s : List ℕ) → starts_with eqb s xs ≡ begins xs s
-unfolding begins
-starts-begins [] s = refl
-starts-begins (x ∷ xs) [] = refl
-starts-begins (x ∷ xs) (y ∷ s) = ap (λ (b : Bool). eqb x y && b) (starts-begins xs s)
+-- Bytes begin others where they are the same as the front of these.
+begins-front : (xs s : List ℕ) → length xs ≤ length s → same_bytes xs (take (length xs) s) ≡ begins xs s
+unfolding begins same_bytes
+begins-front [] s h = refl
+begins-front (x ∷ xs) [] h = absurd (omega arith)
+begins-front (x ∷ xs) (y ∷ s) h = ap (λ (b : Bool). eqb x y && b) (begins-front xs s (omega arith))
 
-pub equal-same : (xs s : List ℕ) → pointwise eqb xs s ≡ same_bytes xs s
-unfolding same_bytes
-equal-same [] [] = refl
-equal-same [] (y ∷ s) = refl
-equal-same (x ∷ xs) [] = refl
-equal-same (x ∷ xs) (y ∷ s) = ap (λ (b : Bool). eqb x y && b) (equal-same xs s)
+module _ (s part : List ℕ) (at n : ℕ) where
+  pub stands_same : n ≤ length s - at → n ≤ length part → {r : Bool} → r ≡ same_bytes (take n part) (take n (drop at s)) → r ≡ begins (take n part) (drop at s)
+  stands_same room long e =
+      let l : length (take n part) ≡ n = omega (arith, length-take n part) in
+      e ∙ ap (λ (m : ℕ). same_bytes (take n part) (take m (drop at s))) (sym l) ∙ begins-front (take n part) (drop at s) (omega (arith, l, length-drop at s))
+
+  pub stands-short : n ≤ length part → length s - at < n → false ≡ begins (take n part) (drop at s)
+  stands-short long h = sym (false-is (begins (take n part) (drop at s)) (λ t. let q = begins-longer (take n part) (drop at s) t in absurd (omega (arith, length-take n part, length-drop at s))))
 
 -- ---- which inference stands there
 module _ {n : ℕ} {s : List ℕ} (few : n ≤ 5) where
@@ -78,3 +78,13 @@ module _ {n : ℕ} {s : List ℕ} (few : n ≤ 6) where
 pub row-stored : (row : List ℕ) {row' : List ℕ} (bytes : List ℕ) {size : ℕ} → row' ≡ sets row 0 bytes → length bytes ≤ length row → size ≡ length bytes → take size row' ≡ bytes
 unfolding over
 row-stored row bytes e h q = rw (e, sets_over bytes row h) (take_at bytes _ _ (sym q))
+
+pub same_whole : (xs s : List ℕ) → length s ≡ length xs → begins xs s ≡ same_bytes xs s
+unfolding begins same_bytes
+same_whole [] [] h = refl
+same_whole [] (y ∷ s) h = absurd (omega arith)
+same_whole (x ∷ xs) [] h = refl
+same_whole (x ∷ xs) (y ∷ s) h = ap (λ (b : Bool). eqb x y && b) (same_whole xs s (omega arith))
+
+pub other_length : (xs s : List ℕ) → ¬ (length s ≡ length xs) → same_bytes xs s ≡ false
+other_length xs s h = false-is (same_bytes xs s) (λ t. h (ap length (sym (same-is xs s t))))

@@ -1,5 +1,5 @@
 // The number of the row that the rest of a table begins with.
-ghost use Rattle.std.specs.Prelude.{◌≡◌, ◌+◌, ◌*◌, ◌%◌, ◌≤◌, ◌<◌, length, get_or};
+ghost use Rattle.std.specs.Prelude.{◌≡◌, ◌+◌, ◌*◌, ◌%◌, ◌≤◌, ◌<◌, length, get_or, drop, take};
 ghost use Rattle.enumeration.specs.Numbering.{inference_count, close_count, factor_number, inference_bytes, close_bytes, inference_guess, close_guess, begins};
 ghost use Rattle.number_bytes.specs.Same.{same_bytes};
 ghost use Rattle.enumeration_rows.specs.Recognised.{InferenceFound, CloseFound};
@@ -7,12 +7,24 @@ ghost use Rattle.enumeration_rows.specs.Recognised.{InferenceFound, CloseFound};
 use crate::write::{
     close_bytes, close_count, inference_bytes, inference_count, put_close, put_inference,
 };
+use number_bytes::compare::same_bytes;
 
 // The byte at a place, 0 behind the end.
 fn byte_at(rest: &[u8], at: usize) -> u8
     ensures { result ≡ get_or rest.now at 0 }
 {
     rest.get(at).copied().unwrap_or(0)
+}
+
+// Whether the n first bytes of `part` stand in s from a place on.
+pub fn stands(s: &[u8], at: usize, part: &[u8], n: usize) -> bool
+    requires { (at ≤ length s.now) × (n ≤ length part.now) }
+    ensures { result ≡ begins (take n part.now) (drop at s.now) }
+{
+    if s.len() - at < n {
+        return false;
+    }
+    same_bytes(part, 0, s, at, n)
 }
 
 // ---- the number of a row, by its bytes
@@ -83,7 +95,7 @@ fn is_inference(rest: &[u8], n: usize, j: usize) -> bool
 {
     let mut row = [0u8; 9];
     put_inference(&mut row, 0, n, j);
-    rest.starts_with(&row[..inference_bytes(n, j)])
+    stands(rest, 0, &row, inference_bytes(n, j))
 }
 
 // The number of the inference that stands there, if one does. (close_at is as short, with other functions in each place.)
@@ -116,9 +128,13 @@ fn is_close(rest: &[u8], n: usize, c: usize) -> bool
     requires { (n ≤ 6) × (c < close_count n) }
     ensures { result ≡ same_bytes (close_bytes n c) rest.now }
 {
+    let size = close_bytes(n, c);
+    if rest.len() != size {
+        return false;
+    }
     let mut row = [0u8; 6];
     put_close(&mut row, 0, n, c);
-    &row[..close_bytes(n, c)] == rest
+    stands(rest, 0, &row, size)
 }
 
 // The number of the close that stands there and ends the table, if one does.
