@@ -3,7 +3,8 @@ use mathlib.Core.Path.{◌≡◌, refl, sym, ◌∙◌, ap, subst}
 use mathlib.Core.Logic.{◌⊎◌, inl, inr}
 use mathlib.Core.Bool.{Bool, true, false, not, cond, ◌&&◌}
 use mathlib.Core.List.{List, [], ◌∷◌, ◌++◌}
-use Rattle.std.specs.Prelude.{Option, Some, None}
+use mathlib.Core.Option.{Option, some}
+use mathlib.Core.Option as maybe
 use Prim.Native.Nat.{ℕ, suc, ◌%◌, ◌≤◌, ◌<◌}
 use native.Mathlib.Omega.{arith}
 use borrow.Author.Tests.{ltb-true, ltb-false, eqb-true, eqb-false, le-leb}
@@ -99,10 +100,10 @@ record Turns-at (s : Scheduler) (buffer output left : List ℕ) (r : Turned) (se
   slots-are : r.scheduler.slots ≡ set s.slots seat vacant
   first-is : r.scheduler.first ≡ after seat
 
-turns_at : {s : Scheduler} {buffer output left : List ℕ} {r : Turned} {seat : ℕ} → Turns s buffer output left r → next_seat s ≡ Some seat → Turns-at s buffer output left r seat
+turns_at : {s : Scheduler} {buffer output left : List ℕ} {r : Turned} {seat : ℕ} → Turns s buffer output left r → next_seat s ≡ some seat → Turns-at s buffer output left r seat
 unfolding turn turn_at
 turns_at {s} {buffer} {output} {left} {r} {seat} c e =
-    let z : turn_leaves_of r left ≡ turn_at s buffer output (Some seat) = c.is ∙ ap (λ (x : Option ℕ). turn_at s buffer output x) e in
+    let z : turn_leaves_of r left ≡ turn_at s buffer output (some seat) = c.is ∙ ap (λ (x : Option ℕ). turn_at s buffer output x) e in
     record {
       busy = ap (λ (t : TurnLeaves). t.idle) z;
       seat_is = ap (λ (t : TurnLeaves). t.seat) z;
@@ -111,7 +112,7 @@ turns_at {s} {buffer} {output} {left} {r} {seat} c e =
       first-is = ap (λ (t : TurnLeaves). t.scheduler.first) z;
     }
 
-turns-idle : {s : Scheduler} {buffer output left : List ℕ} {r : Turned} → Turns s buffer output left r → next_seat s ≡ None
+turns-idle : {s : Scheduler} {buffer output left : List ℕ} {r : Turned} → Turns s buffer output left r → next_seat s ≡ maybe.none
     → turn_leaves_of r left ≡ record { idle = true; seat = 0; written = record { answer = refusal 35; count = 0; output = output }; scheduler = s }
 unfolding turn turn_at
 turns-idle {s} {buffer} {output} c e = c.is ∙ ap (λ (x : Option ℕ). turn_at s buffer output x) e
@@ -152,7 +153,7 @@ module _ {s : Scheduler} {seat : ℕ} {job : Job} {n : ℕ} (w : Waits s seat jo
   finds : Finds s (s.first % 8) seat n 8
   finds = looks s w.ahead (waiting w) 8 (omega arith)
 
-  finds-next : next_seat s ≡ Some finds.seat
+  finds-next : next_seat s ≡ some finds.seat
   unfolding next_seat
   finds-next = finds.is
 
@@ -248,8 +249,8 @@ eight-step s (cancelled at r) c h = go (case s at)
 eight-step s (turned buffer output left r) c h = go (next_seat s) refl
   where
     go : (x : Option ℕ) → next_seat s ≡ x → length r.scheduler.slots ≡ 8
-    go (Some seat) e = ap length (turns_at c e).slots-are ∙ length-set s.slots seat vacant ∙ h
-    go None e = ap (λ (t : TurnLeaves). length t.scheduler.slots) (turns-idle c e) ∙ h
+    go (some seat) e = ap length (turns_at c e).slots-are ∙ length-set s.slots seat vacant ∙ h
+    go maybe.none e = ap (λ (t : TurnLeaves). length t.scheduler.slots) (turns-idle c e) ∙ h
 
 eight-run : {s s' : Scheduler} {calls : List Call} → Trace s calls s' → length s.slots ≡ 8 → length s'.slots ≡ 8
 eight-run none h = h
@@ -271,31 +272,31 @@ taken s seat job r eight c h = go (case s seat)
         (n, few, subst (λ (t : Scheduler). Waits t seat job n) (sym q) (record { eight = length-set s.slots seat (holding job) ∙ eight; below = l; is = get_or-set_same s.slots seat (holding job) vacant (omega arith); ahead = a }))
 
 -- ---- idle turns
-idle-none : (s : Scheduler) → next_seat s ≡ None → (seat : ℕ) → seat < 8 → is_waiting s seat ≡ false
+idle-none : (s : Scheduler) → next_seat s ≡ maybe.none → (seat : ℕ) → seat < 8 → is_waiting s seat ≡ false
 unfolding next_seat
 idle-none s e seat l = let (n, few, a) = near (s.first % 8) seat (omega arith) l in passes s a 8 (omega arith) e
 
-none_idle : (s : Scheduler) → ((seat : ℕ) → seat < 8 → is_waiting s seat ≡ false) → next_seat s ≡ None
+none_idle : (s : Scheduler) → ((seat : ℕ) → seat < 8 → is_waiting s seat ≡ false) → next_seat s ≡ maybe.none
 unfolding next_seat
 none_idle s h = nobody s h (s.first % 8) 8 (omega arith)
 
-is-idle : {s : Scheduler} {buffer output left : List ℕ} {r : Turned} → Turns s buffer output left r → r.idle ≡ true → next_seat s ≡ None
+is-idle : {s : Scheduler} {buffer output left : List ℕ} {r : Turned} → Turns s buffer output left r → r.idle ≡ true → next_seat s ≡ maybe.none
 is-idle {s} {r = r} c h = go (next_seat s) refl
   where
-    go : (x : Option ℕ) → next_seat s ≡ x → x ≡ None
-    go (Some seat) e = absurd (true-false h (turns_at c e).busy)
-    go None e = refl
+    go : (x : Option ℕ) → next_seat s ≡ x → x ≡ maybe.none
+    go (some seat) e = absurd (true-false h (turns_at c e).busy)
+    go maybe.none e = refl
 
 -- ---- what each call answers
 -- a turn that is not idle found a seat
-is-busy : {s : Scheduler} {buffer output left : List ℕ} {r : Turned} → Turns s buffer output left r → r.idle ≡ false → (seat : ℕ) × (next_seat s ≡ Some seat)
+is-busy : {s : Scheduler} {buffer output left : List ℕ} {r : Turned} → Turns s buffer output left r → r.idle ≡ false → (seat : ℕ) × (next_seat s ≡ some seat)
 is-busy {s} {r = r} c h = go (next_seat s) refl
   where
-    go : (x : Option ℕ) → next_seat s ≡ x → (seat : ℕ) × (next_seat s ≡ Some seat)
-    go (Some seat) e = (seat, e)
-    go None e = absurd (true-false (ap (λ (t : TurnLeaves). t.idle) (turns-idle c e)) h)
+    go : (x : Option ℕ) → next_seat s ≡ x → (seat : ℕ) × (next_seat s ≡ some seat)
+    go (some seat) e = (seat, e)
+    go maybe.none e = absurd (true-false (ap (λ (t : TurnLeaves). t.idle) (turns-idle c e)) h)
 
-busy-turn : (s : Scheduler) (buffer output left : List ℕ) (r : Turned) → Turns s buffer output left r → (seat : ℕ) → next_seat s ≡ Some seat
+busy-turn : (s : Scheduler) (buffer output left : List ℕ) (r : Turned) → Turns s buffer output left r → (seat : ℕ) → next_seat s ≡ some seat
     → (r.seat < 8) × (is_waiting s r.seat ≡ true) × (r.scheduler.slots ≡ set s.slots r.seat vacant) × (r.scheduler.first ≡ after r.seat)
     × CheckedAlone (slot_at s r.seat).job buffer output left r.result
 busy-turn s buffer output left r c seat e =
@@ -345,8 +346,8 @@ look-step s (turned buffer output left r) c = go (next_seat s) refl
     so e = ap (λ (b : Bool). cond b s.first (after r.seat)) (sym e)
 
     go : (x : Option ℕ) → next_seat s ≡ x → r.scheduler.first ≡ cond r.idle s.first (after r.seat)
-    go (Some seat) e = let t = turns_at c e in t.first-is ∙ ap (λ (k : ℕ). after k) (sym t.seat_is) ∙ so t.busy
-    go None e = let z = turns-idle c e in ap (λ (t : TurnLeaves). t.scheduler.first) z ∙ so (ap (λ (t : TurnLeaves). t.idle) z)
+    go (some seat) e = let t = turns_at c e in t.first-is ∙ ap (λ (k : ℕ). after k) (sym t.seat_is) ∙ so t.busy
+    go maybe.none e = let z = turns-idle c e in ap (λ (t : TurnLeaves). t.scheduler.first) z ∙ so (ap (λ (t : TurnLeaves). t.idle) z)
 
 look-run : {s s' : Scheduler} {calls : List Call} → Trace s calls s' → s'.first ≡ look_after s.first calls
 unfolding look_after
@@ -399,13 +400,13 @@ module _ (s : Scheduler) (eight : length s.slots ≡ 8) (seat : ℕ) (l : seat <
       so e = ap (λ (b : Bool). cond (not b && eqb r.seat seat) vacant (slot_at s seat)) (sym e)
 
       go : (x : Option ℕ) → next_seat s ≡ x → slot_at r.scheduler seat ≡ cond (not r.idle && eqb r.seat seat) vacant (slot_at s seat)
-      go (Some served) e =
+      go (some served) e =
           let t = turns_at c e in
           ap (λ (xs : List Slot). get_or xs seat vacant) t.slots-are
           ∙ is_set s.slots served seat vacant eight l
           ∙ ap (λ (k : ℕ). cond (eqb k seat) vacant (slot_at s seat)) (sym t.seat_is)
           ∙ so t.busy
-      go None e = let z = turns-idle c e in ap (λ (t : TurnLeaves). slot_at t.scheduler seat) z ∙ so (ap (λ (t : TurnLeaves). t.idle) z)
+      go maybe.none e = let z = turns-idle c e in ap (λ (t : TurnLeaves). slot_at t.scheduler seat) z ∙ so (ap (λ (t : TurnLeaves). t.idle) z)
 
 slots-run : {s s' : Scheduler} {calls : List Call} (seat : ℕ) → seat < 8 → Trace s calls s' → length s.slots ≡ 8 → slot_at s' seat ≡ slot_after seat (slot_at s seat) calls
 unfolding slot_after

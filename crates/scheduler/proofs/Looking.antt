@@ -2,7 +2,7 @@
 use mathlib.Core.Path.{◌≡◌, refl, sym, ◌∙◌, ap, subst}
 use mathlib.Core.Logic.{◌⊎◌, inl, inr}
 use mathlib.Core.Bool.{Bool, true, false, cond}
-use Rattle.std.specs.Prelude.{Some, None}
+use mathlib.Core.Option.{none, some}
 use Prim.Native.Nat.{ℕ, zero, suc, ◌+◌, ◌-◌, ◌%◌, ◌≤◌, ◌<◌}
 use native.Mathlib.Omega.{arith}
 use borrow.Author.Tests.{leb-true, leb-false, ne_eqb}
@@ -20,7 +20,7 @@ unfolding is_waiting
 vacated s seat h = rw h refl
 
 -- ---- one step of the look
-pub found : (s : Scheduler) (seat n : ℕ) → 0 < n → is_waiting s seat ≡ true → Some seat ≡ next_from s seat n
+pub found : (s : Scheduler) (seat n : ℕ) → 0 < n → is_waiting s seat ≡ true → some seat ≡ next_from s seat n
 unfolding next_from
 found s seat zero h w = absurd (omega arith)
 found s seat (suc n) h w = rw w refl
@@ -34,7 +34,7 @@ skipped : (s : Scheduler) (seat n : ℕ) → is_waiting s seat ≡ false → nex
 unfolding next_from
 skipped s seat n w = rw w refl
 
-pub over : (s : Scheduler) (seat n : ℕ) → n ≤ 0 → None ≡ next_from s seat n
+pub over : (s : Scheduler) (seat n : ℕ) → n ≤ 0 → none ≡ next_from s seat n
 unfolding next_from
 over s seat zero h = refl
 over s seat (suc n) h = absurd (omega arith)
@@ -75,7 +75,7 @@ near from to h k = go (leb from to) refl
 -- A look that comes as far as a seat that waits finds that seat, or another that waits, from the seat after which it is nearer.
 pub record Finds (s : Scheduler) (from to n count : ℕ) : Type 0 where
   pub seat : ℕ
-  pub is : next_from s from count ≡ Some seat
+  pub is : next_from s from count ≡ some seat
   pub waits : is_waiting s seat ≡ true
   pub nearer : (seat ≡ to) ⊎ ((m : ℕ) × (m < n) × Ahead (after seat) to m)
 
@@ -93,7 +93,7 @@ looks s (further {from} {to} {n} p) w (suc count) h = go (looks s {from = after 
         closer (inr (m, l, a)) = inr (m, omega arith, a)
 
 -- A look that finds nobody has passed seats that do not wait.
-pub passes : (s : Scheduler) {from to n : ℕ} → Ahead from to n → (count : ℕ) → n < count → next_from s from count ≡ None → is_waiting s to ≡ false
+pub passes : (s : Scheduler) {from to n : ℕ} → Ahead from to n → (count : ℕ) → n < count → next_from s from count ≡ none → is_waiting s to ≡ false
 passes s {to = to} p count h e = go (is_waiting s to) refl
   where
     go : (b : Bool) → is_waiting s to ≡ b → b ≡ false
@@ -101,42 +101,42 @@ passes s {to = to} p count h e = go (is_waiting s to) refl
     go false w = refl
 
 -- A look at seats that do not wait finds nobody.
-pub nobody : (s : Scheduler) → ((seat : ℕ) → seat < 8 → is_waiting s seat ≡ false) → (from n : ℕ) → from < 8 → next_from s from n ≡ None
+pub nobody : (s : Scheduler) → ((seat : ℕ) → seat < 8 → is_waiting s seat ≡ false) → (from n : ℕ) → from < 8 → next_from s from n ≡ none
 unfolding next_from
 nobody s h from zero l = refl
 nobody s h from (suc n) l = rw (h from l) (nobody s h (after from) n (omega arith))
 
 -- What is found is a seat.
-pub seated : (s : Scheduler) (from n : ℕ) {seat : ℕ} → from < 8 → next_from s from n ≡ Some seat → seat < 8
+pub seated : (s : Scheduler) (from n : ℕ) {seat : ℕ} → from < 8 → next_from s from n ≡ some seat → seat < 8
 unfolding next_from
 seated s from zero h e = absurd (let z : ◌≡◌ {A = ℕ} 0 1 = cc in omega arith)
 seated s from (suc n) {seat} h e = go (λ q. seated s (after from) n (omega arith) q) (is_waiting s from) e
   where
-    go : (next_from s (after from) n ≡ Some seat → seat < 8) → (b : Bool) → cond b (Some from) (next_from s (after from) n) ≡ Some seat → seat < 8
+    go : (next_from s (after from) n ≡ some seat → seat < 8) → (b : Bool) → cond b (some from) (next_from s (after from) n) ≡ some seat → seat < 8
     go later true q = let z : from ≡ seat = cc in omega arith
     go later false q = later q
 
-pub next-seated : (s : Scheduler) {seat : ℕ} → next_seat s ≡ Some seat → seat < 8
+pub next-seated : (s : Scheduler) {seat : ℕ} → next_seat s ≡ some seat → seat < 8
 unfolding next_seat
 next-seated s e = seated s (s.first % 8) 8 (omega arith) e
 
 -- What is found waits.
-found-waits : (s : Scheduler) (from n : ℕ) {seat : ℕ} → next_from s from n ≡ Some seat → is_waiting s seat ≡ true
+found-waits : (s : Scheduler) (from n : ℕ) {seat : ℕ} → next_from s from n ≡ some seat → is_waiting s seat ≡ true
 unfolding next_from
 found-waits s from zero e = absurd (let z : ◌≡◌ {A = ℕ} 0 1 = cc in omega arith)
 found-waits s from (suc n) {seat} e = go (λ q. found-waits s (after from) n q) (is_waiting s from) refl e
   where
-    go : (next_from s (after from) n ≡ Some seat → is_waiting s seat ≡ true) → (b : Bool) → is_waiting s from ≡ b → cond b (Some from) (next_from s (after from) n) ≡ Some seat → is_waiting s seat ≡ true
+    go : (next_from s (after from) n ≡ some seat → is_waiting s seat ≡ true) → (b : Bool) → is_waiting s from ≡ b → cond b (some from) (next_from s (after from) n) ≡ some seat → is_waiting s seat ≡ true
     go later true w q = let z : from ≡ seat = cc in subst (λ (k : ℕ). is_waiting s k ≡ true) z w
     go later false w q = later q
 
-pub next-waits : (s : Scheduler) {seat : ℕ} → next_seat s ≡ Some seat → is_waiting s seat ≡ true
+pub next-waits : (s : Scheduler) {seat : ℕ} → next_seat s ≡ some seat → is_waiting s seat ≡ true
 unfolding next_seat
 next-waits s e = found-waits s (s.first % 8) 8 e
 
 -- The n-th seat from one on is found where it waits and none before it does.
-nth-found : (s : Scheduler) (n from count : ℕ) → n < count → is_waiting s ((from + n) % 8) ≡ true → ((m : ℕ) → m < n → is_waiting s ((from + m) % 8) ≡ false) → next_from s (from % 8) count ≡ Some ((from + n) % 8)
-nth-found s zero from count h w k = let e : (from + 0) % 8 ≡ from % 8 = omega arith in sym (found s (from % 8) count (omega arith) (subst (λ (x : ℕ). is_waiting s x ≡ true) e w)) ∙ ap (λ (x : ℕ). Some x) (sym e)
+nth-found : (s : Scheduler) (n from count : ℕ) → n < count → is_waiting s ((from + n) % 8) ≡ true → ((m : ℕ) → m < n → is_waiting s ((from + m) % 8) ≡ false) → next_from s (from % 8) count ≡ some ((from + n) % 8)
+nth-found s zero from count h w k = let e : (from + 0) % 8 ≡ from % 8 = omega arith in sym (found s (from % 8) count (omega arith) (subst (λ (x : ℕ). is_waiting s x ≡ true) e w)) ∙ ap (λ (x : ℕ). some x) (sym e)
 nth-found s (suc n) from zero h w k = absurd (omega arith)
 nth-found s (suc n) from (suc count) h w k =
     let e : (from + 0) % 8 ≡ from % 8 = omega arith in
@@ -146,8 +146,8 @@ nth-found s (suc n) from (suc count) h w k =
     ∙ ap (λ (x : ℕ). next_from s x count) b
     ∙ nth-found s n (from + 1) count (omega arith) (subst (λ (x : ℕ). is_waiting s x ≡ true) q w)
     (λ m l. subst (λ (x : ℕ). is_waiting s x ≡ false) (let z : (from + suc m) % 8 ≡ (from + 1 + m) % 8 = omega arith in z) (k (suc m) (omega arith)))
-    ∙ ap (λ (x : ℕ). Some x) (sym q)
+    ∙ ap (λ (x : ℕ). some x) (sym q)
 
-pub next-nth : (s : Scheduler) (n : ℕ) → n < 8 → is_waiting s ((s.first + n) % 8) ≡ true → ((m : ℕ) → m < n → is_waiting s ((s.first + m) % 8) ≡ false) → next_seat s ≡ Some ((s.first + n) % 8)
+pub next-nth : (s : Scheduler) (n : ℕ) → n < 8 → is_waiting s ((s.first + n) % 8) ≡ true → ((m : ℕ) → m < n → is_waiting s ((s.first + m) % 8) ≡ false) → next_seat s ≡ some ((s.first + n) % 8)
 unfolding next_seat
 next-nth s n h w k = nth-found s n s.first 8 h w k

@@ -1,5 +1,6 @@
 -- The scheduler of checks, "the office desk". A job waits at a seat; a turn serves one. Assumes nothing.
-use Rattle.std.specs.Prelude.{Bool, true, false, not, ◌&&◌, cond, Option, Some, None, List, ℕ, zero, suc, ◌+◌, ◌-◌, ◌%◌, eqb, leb, ltb, length, take, drop, get_or, set, replicate}
+use Rattle.std.specs.Prelude.{Bool, true, false, not, ◌&&◌, cond, List, ℕ, zero, suc, ◌+◌, ◌-◌, ◌%◌, eqb, leb, ltb, length, take, drop, get_or, set, replicate}
+use Rattle.std.proofs.Math.Option.{Option, none, some}
 use Rattle.answers.specs.declared.Answer.{Answer}
 use Rattle.answers.specs.Answers.{answer, file_lent, Result, accepted, ◌>>◌, need, Written}
 use Rattle.proof.specs.Check.{check}
@@ -59,8 +60,8 @@ cancellation s seat = do
 -- ---- a turn
 -- The first of n seats, from one on, at which a job waits.
 unfoldable pub next_from : Scheduler → (seat n : ℕ) → Option ℕ
-next_from s seat zero = None
-next_from s seat (suc n) = cond (is_waiting s seat) (Some seat) (next_from s (after seat) n)
+next_from s seat zero = none
+next_from s seat (suc n) = cond (is_waiting s seat) (some seat) (next_from s (after seat) n)
 
 -- All eight are looked at, from the seat after the last one served. (From the empty desk on no call leaves a `first` above 7; such a one counts by its remainder.)
 unfoldable pub next_seat : Scheduler → Option ℕ
@@ -96,8 +97,8 @@ served s seat = record { slots = set s.slots seat vacant; first = after seat }
 
 -- 35, no job waits: an idle turn is no acceptance.
 unfoldable pub turn_at : Scheduler → (buffer output : List ℕ) → Option ℕ → TurnLeaves
-turn_at s buffer output (Some seat) = record { idle = false; seat = seat; written = check_job (slot_at s seat).job buffer output; scheduler = served s seat }
-turn_at s buffer output None = record { idle = true; seat = 0; written = record { answer = refusal 35; count = 0; output = output }; scheduler = s }
+turn_at s buffer output (some seat) = record { idle = false; seat = seat; written = check_job (slot_at s seat).job buffer output; scheduler = served s seat }
+turn_at s buffer output none = record { idle = true; seat = 0; written = record { answer = refusal 35; count = 0; output = output }; scheduler = s }
 
 unfoldable pub turn : Scheduler → (buffer output : List ℕ) → TurnLeaves
 turn s buffer output = turn_at s buffer output (next_seat s)

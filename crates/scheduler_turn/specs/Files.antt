@@ -1,10 +1,16 @@
--- The files of a job in a buffer, where its parts lie within. Assumes nothing.
-use Rattle.std.specs.Prelude.{◌≡◌, true, false, Option, List, ℕ, length, MatchOption}
+-- What a turn finds, as the code has it: the seat, and the files of its job in the buffer, where its parts lie within. Assumes nothing.
+use Rattle.std.specs.Prelude.{◌≡◌, true, false, Option, Some, None, List, ℕ, length, MatchOption}
+use Rattle.std.proofs.Math.Option as maybe
 use Rattle.std.specs.Borrow.{Bor}
 use Rattle.scheduler.specs.declared.Part.{Part}
 use Rattle.scheduler.specs.declared.Job.{Job}
 use Rattle.scheduler.specs.Scheduler.{is_within, part, parts_within}
 use Rattle.scheduler_turn.specs.declared.Files.{Files}
+
+-- The seat that a look finds, as the code's option; where it finds none, none.
+abbrev pub seat_found : maybe.Option ℕ → Option ℕ
+seat_found maybe.none = None
+seat_found (maybe.some seat) = Some seat
 
 -- A part, just where it lies within.
 abbrev pub PartOf : (buffer : List ℕ) → Part → Option (Bor (List ℕ)) → Type 0

@@ -1,2 +1,2 @@
--- The files of a job.
+-- The seat that is served, and the files of its job.
 pub mod Files

@@ -5,7 +5,7 @@
 
 ghost use Rattle.std.specs.Prelude.{◌≡◌, ◌<◌, true, false, set};
 ghost use Rattle.scheduler.specs.Scheduler.{vacant, refusal, after, next_seat};
-ghost use Rattle.scheduler_turn.specs.Files.{PartOf, FilesOf};
+ghost use Rattle.scheduler_turn.specs.Files.{seat_found, PartOf, FilesOf};
 
 use answers::WriteResult;
 use answers::refusals::Refusal;
@@ -29,7 +29,7 @@ fn after(seat: usize) -> usize
 
 // The first seat that waits, from the one to look at first upwards, 0 after 7.
 pub fn next_seat(s: Scheduler) -> Option<usize>
-    ensures { result ≡ next_seat s }
+    ensures { result ≡ seat_found (next_seat s) }
 {
     let first = s.first % SEATS;
     for ahead in 0..SEATS {
