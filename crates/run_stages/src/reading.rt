@@ -3,8 +3,8 @@ ghost use Rattle.std.specs.Prelude.{◌≡◌};
 ghost use Rattle.run.specs.Run.{parted};
 ghost use Rattle.run_stages.specs.Reading.{LengthsAddUp, FindsLong, ReadsStages};
 
-use answers::by_name::refusal;
 use answers::Answer;
+use answers::by_name::refusal;
 use bundle_scan::scan;
 use forms::BUNDLE_BYTES;
 
