@@ -56,7 +56,10 @@ pub fn put_text(buf: &mut [u8], at: usize, text: &[u8]) -> usize
     let start = at.min(buf.len());
     let count = text.len().min(buf.len() - start);
     let end = start + count;
-    buf[start..end].copy_from_slice(&text[..count]);
+    // A loop: the library's copy, of a length that is not known, would call memmove, which the C library would have to bring.
+    for (i, x) in buf[start..end].iter_mut().enumerate() {
+        *x = text[i];
+    }
     end
 }
 
