@@ -10,7 +10,7 @@ use crate::{Class, Outline};
 pub struct Step {
     pub lines: u16,
     pub kept: u16,
-    pub left: u16,
+    pub left: u32,
 }
 
 // What stands where no step does.
@@ -28,7 +28,11 @@ fn push(steps: &mut [Step], depth: usize, lines: u16, kept: u16, left: u16) -> u
     if left == 0 {
         return depth;
     }
-    steps[depth] = Step { lines, kept, left };
+    steps[depth] = Step {
+        lines,
+        kept,
+        left: u32::from(left),
+    };
     depth + 1
 }
 
