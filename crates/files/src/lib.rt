@@ -54,12 +54,14 @@ pub fn put_text(buf: &mut [u8], at: usize, text: &[u8]) -> usize
     ensures put { Put buf.old at text.now buf.new result }
 {
     let start = at.min(buf.len());
-    let count = text.len().min(buf.len() - start);
-    let end = start + count;
-    // A loop: the library's copy, of a length that is not known, would call memmove, which the C library would have to bring.
-    for (i, x) in buf[start..end].iter_mut().enumerate() {
-        *x = text[i];
+    let room = buf.len() - start;
+    if room < text.len() {
+        buf[start..start + room].copy_from_slice(&text[..room]);
+        return start + room;
     }
+    // The whole text: where its length is known the compiler makes a store of this.
+    let end = start + text.len();
+    buf[start..end].copy_from_slice(text);
     end
 }
 
