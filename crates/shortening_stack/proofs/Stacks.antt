@@ -12,7 +12,7 @@ use Rattle.shortening.specs.Passes.{top, pop, pushed, Start, no_start}
 use Rattle.shortening_stack.specs.declared.Class.{Class}
 use Rattle.shortening_stack.specs.declared.Class.TheVariants.{Makes, Branches, Closes, Claims}
 use Rattle.shortening_stack.specs.declared.stack.Step.{Step}
-use Rattle.shortening_stack.specs.Stack.{no_step, start_in, stack_of, Alive, SameBelow, top_of, Bound, Pushed, Popped, lines_after, kept_after, opened_after, MovedOn}
+use Rattle.shortening_stack.specs.Stack.{no_step, start_in, stack_of, Alive, SameBelow, top_of, Bound, Pushed, Popped, lines_after, kept_after, opened_after, MovedOn, Few, StaysFew}
 
 same-less : {d : ℕ} {xs ys : List Step} → SameBelow no_step (suc d) xs ys → SameBelow no_step d xs ys
 same-less s = record { same = λ i h. s.same i (omega (arith, h)) }
@@ -137,3 +137,20 @@ advanced-closes Makes come lines kept d steps e f p = absurd (e refl)
 advanced-closes Branches come lines kept d steps e f p = absurd (f refl)
 advanced-closes Closes come lines kept d steps e f p = closed Closes come lines kept d steps p (λ o. refl) (λ o. refl) (λ o. refl)
 advanced-closes Claims come lines kept d steps e f p = closed Claims come lines kept d steps p (λ o. refl) (λ o. refl) (λ o. refl)
+
+-- ---- how many branches are to come
+few-set : (steps : List Step) (d b : ℕ) (x : Step) → d < length steps → x.left ≤ b → Few steps b → Few (set steps d x) b
+few-set steps d b x h k a = record { few = λ i. by i (eqb i d) refl }
+  where
+    by : (i : ℕ) (e : Bool) → eqb i d ≡ e → (get_or (set steps d x) i no_step).left ≤ b
+    by i true e = subst (λ (y : Step). y.left ≤ b) (sym (ap (λ (j : ℕ). get_or (set steps d x) j no_step) (eqb-true i d e) ∙ get_or-set_same steps d x no_step h)) k
+    by i false e = subst (λ (y : Step). y.left ≤ b) (sym (get_or-set_other steps d i x no_step (eqb-false i d e))) (a.few i)
+
+pub pushed-few : (steps : List Step) (d lines kept left : ℕ) → d < length steps → StaysFew left steps (set steps d (record { lines = lines; kept = kept; left = left }))
+pushed-few steps d lines kept left h = record { stays = λ b q a. few-set steps d b (record { lines = lines; kept = kept; left = left }) h q a }
+
+pub close-few : (steps : List Step) (d : ℕ) → ¬ (d ≡ 0) → d ≤ length steps → StaysFew 0 steps (set steps (d - 1) (one_fewer (step_at steps (d - 1))))
+close-few steps d h l = record { stays = λ b q a. few-set steps (d - 1) b (one_fewer (step_at steps (d - 1))) (omega (arith, h, l)) (omega (arith, a.few (d - 1))) a }
+
+pub closed-few : (come : ℕ) {steps steps' : List Step} → StaysFew 0 steps steps' → StaysFew come steps steps'
+closed-few come s = record { stays = λ b q a. s.stays b (omega arith) a }

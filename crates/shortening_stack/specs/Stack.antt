@@ -81,3 +81,11 @@ pub record MovedOn (class : Class) (come lines kept d : ℕ) (steps steps' : Lis
   pub most : d' ≤ suc d
   pub bounded : (b : ℕ) → suc lines ≤ b → Bound steps d b → Bound steps' d' b × (lines' ≤ b)
   pub steps_length : length steps' ≡ length steps
+
+-- No step has more than b branches to come, not even one that is over.
+pub record Few (steps : List Step) (b : ℕ) : Type 0 where
+  pub few : (i : ℕ) → (get_or steps i no_step).left ≤ b
+
+-- No step comes to have more of them than some step had, or than the row has.
+pub record StaysFew (come : ℕ) (steps steps' : List Step) : Type 0 where
+  pub stays : (b : ℕ) → come ≤ b → Few steps b → Few steps' b

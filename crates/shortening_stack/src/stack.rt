@@ -1,7 +1,7 @@
 // The branches to come, innermost first: for each branching step that has some, one `Step`.
 // specs/Stack.antt has what stands in it.
 ghost use Rattle.std.specs.Prelude.{◌≡◌, ◌<◌, ◌≤◌, length};
-ghost use Rattle.shortening_stack.specs.Stack.{Pushed, Popped, class_of, MovedOn};
+ghost use Rattle.shortening_stack.specs.Stack.{Pushed, Popped, class_of, MovedOn, StaysFew};
 
 use crate::{Class, Outline};
 
@@ -23,7 +23,8 @@ pub const NO_STEP: Step = Step {
 // One step more, unless it has no branches to come.
 fn push(steps: &mut [Step], depth: usize, lines: u16, kept: u16, left: u16) -> usize
     requires { depth < length steps.old }
-    ensures { Pushed steps.old depth lines kept left steps.new result }
+    ensures pushed { Pushed steps.old depth lines kept left steps.new result }
+    ensures few { StaysFew left steps.old steps.new }
 {
     if left == 0 {
         return depth;
@@ -47,7 +48,8 @@ pub struct Standing {
 // A branch ends, and the next one to come starts; none is to come, and none has lines, where there is no step.
 fn end_branch(steps: &mut [Step], depth: usize) -> Standing
     requires { depth ≤ length steps.old }
-    ensures { Popped steps.old depth steps.new result.lines result.kept result.depth }
+    ensures popped { Popped steps.old depth steps.new result.lines result.kept result.depth }
+    ensures few { StaysFew 0 steps.old steps.new }
 {
     if depth == 0 {
         return Standing {
@@ -77,7 +79,8 @@ impl Outline {
     // A row that stays goes by: one more line, one more step, or the end of a branch.
     pub fn advance(self, standing: Standing, steps: &mut [Step]) -> Standing
         requires { (standing.lines < 0xFFFF) × (standing.kept < 0xFFFF) × (standing.depth < length steps.old) }
-        ensures { MovedOn self.class self.come standing.lines standing.kept standing.depth steps.old steps.new result.lines result.kept result.depth }
+        ensures moved { MovedOn self.class self.come standing.lines standing.kept standing.depth steps.old steps.new result.lines result.kept result.depth }
+        ensures few { StaysFew self.come steps.old steps.new }
     {
         let Standing { lines, kept, depth } = standing;
         match self.class {
@@ -134,4 +137,40 @@ pub fn advance(
     };
     let standing = Standing { lines, kept, depth };
     x.advance(standing, steps)
+}
+
+#[cfg(test)]
+mod tests {
+    use super::*;
+
+    // A rounding by three behind four lines, three of them kept; then its branches end.
+    #[test]
+    fn a_rounding_and_its_branches(rt: HostRuntime) {
+        let mut steps = [NO_STEP; 2];
+        let rounds = Outline {
+            class: Class::Branches,
+            first: 2,
+            second: 2,
+            come: 3,
+        };
+        let closes = Outline {
+            class: Class::Closes,
+            first: 4,
+            second: 4,
+            come: 0,
+        };
+        let root = Standing {
+            lines: 4,
+            kept: 3,
+            depth: 0,
+        };
+        let mut standing = rounds.advance(root, &mut steps);
+        assert_eq!(rt; steps[0].left, 3);
+        for (left, depth) in [(2, 1), (1, 1), (1, 0)] {
+            assert_eq!(rt; (standing.lines, standing.kept, standing.depth), (5, 4, 1));
+            assert!(rt; standing.lines < 0xFFFF && standing.kept < 0xFFFF && standing.depth < 2);
+            standing = closes.advance(standing, &mut steps);
+            assert_eq!(rt; (steps[0].left, standing.depth), (left, depth));
+        }
+    }
 }

@@ -26,7 +26,7 @@ pub loop-field-smaller : goal.loop-field-smaller
 loop-field-smaller c = starts-less (starts c.next_field.ensures c.in-Ok.is)
 
 pub loop-field-preserved : goal.loop-field-preserved
-loop-field-preserved c = λ K a. gathering-row (c.loop-field.invariant K a) (starts c.next_field.ensures c.in-Ok.is) c.outline_at-x.ensures c.in_default-class.not-Claims c.advance-moved.ensures
+loop-field-preserved c = λ K a. gathering-row (c.loop-field.invariant K a) (starts c.next_field.ensures c.in-Ok.is) c.outline_at-x.ensures c.in_default-class.not-Claims c.advance-moved.ensures.moved
 
 pub loop-field-smaller-in-Claims : goal.loop-field-smaller-in-Claims
 loop-field-smaller-in-Claims c = starts-less (starts c.next_field.ensures c.in-Ok.is)

@@ -56,7 +56,7 @@ pub loop-field-smaller : goal.loop-field-smaller
 loop-field-smaller c = starts-less (starts c.next_field.ensures c.in-Ok.is)
 
 pub loop-field-preserved : goal.loop-field-preserved
-loop-field-preserved c = λ K a. writing-row (c.loop-field.invariant K a) (starts c.next_field.ensures c.in-Ok.is) c.if-field-eq32.false c.if-report-rows-eq0.false c.outline_at-x.ensures c.put_kept-to-else-report-rows-eq0.ensures c.renew-else-report-rows-eq0.ensures c.advance-standing.ensures
+loop-field-preserved c = λ K a. writing-row (c.loop-field.invariant K a) (starts c.next_field.ensures c.in-Ok.is) c.if-field-eq32.false c.if-report-rows-eq0.false c.outline_at-x.ensures c.put_kept-to-else-report-rows-eq0.ensures c.renew-else-report-rows-eq0.ensures c.advance-standing.ensures.moved
 
 pub returns : goal.returns
 returns c = writing-over (c.loop-field.invariant c.args.body.k c.requires) c.next_field.ensures c.in_default.not-Ok
