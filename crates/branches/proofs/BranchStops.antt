@@ -1,7 +1,7 @@
 -- What `check_branch` makes of where its entries stop: each way as a lemma over plain values. Assumes nothing.
 use mathlib.Core.Path.{◌≡◌, refl, sym, ap, ◌∙◌}
 use mathlib.Core.List.{List}
-use mathlib.Core.Option.{none}
+use mathlib.Core.Option.{Option, none}
 use Prim.Native.Nat.{ℕ, zero, suc, ◌-◌, ◌≤◌}
 use native.Mathlib.Omega.{arith}
 use lib.IntN.{ℤ}
@@ -11,12 +11,12 @@ use Rattle.forms.specs.declared.RowNumber.{RowNumber}
 use Rattle.calculus.specs.Rules as rules
 use Rattle.answers.specs.declared.Answer.{Answer}
 use Rattle.answers.specs.declared.Position.{Position}
-use Rattle.answers.specs.Answers.{refusal_at, Result, accepted, ◌>>=◌}
+use Rattle.answers.specs.Answers.{refusal_at, Result, accepted, refused, ◌>>=◌}
 use Rattle.fields.specs.Fields.{Fields}
 use Rattle.fields.specs.Places.{fields_at}
 use Rattle.formula_write.specs.Writing.{scratch_limit}
 use Rattle.proof.specs.Rows.{by_number, by_stride}
-use Rattle.proof.specs.Check.{check_row, check_entries, check_branch}
+use Rattle.proof.specs.Check.{Checker, check_row, check_entries, check_branch}
 use Rattle.lines.specs.Buffer.{lines_in}
 use Rattle.lines.specs.Ready.{Ready, LinesKept}
 use Rattle.lines.proofs.Keeping.{kept_trans}
@@ -26,10 +26,10 @@ use Rattle.std.specs.Prelude.{Ok, Err}
 use Rattle.std.specs.declared.result.Result as code
 use Rattle.std.specs.Result.{MatchResult, IsErrAnd}
 use Rattle.answers.specs.declared.refusals.Refusal.{Refusal}
-use Rattle.answers.specs.Refusals.{fault}
+use Rattle.answers.specs.Refusals.{fault, number_of}
 use Rattle.closes.specs.Ends.{End, EndedBy}
 use Rattle.openings.specs.Opening.{Opening, below, Branching, row_opened, RowOpens}
-use Rattle.branches.specs.Branches.{Comes, row_of, Stopped}
+use Rattle.branches.specs.Branches.{entries_from, Comes, row_of, Stopped}
 use Rattle.branches.specs.Branching.{refused_row, closed_by, Started, ChecksBranch}
 use Rattle.branches.specs.declared.branch.BranchFault.{BranchFault}
 use Rattle.branches.specs.declared.branch.Ending.{Ending}
@@ -61,13 +61,19 @@ branch-entries e K zero here rows ls fs = refl
 branch-entries e K (suc room) here rows ls fs = refl
 
 module _ {K : ℕ} {p : List ℕ} {at : ℕ} {kinds : List ℕ} {buf : List ℤ} {t : Tally} {kinds' : List ℕ} {buf' : List ℤ} where
+  -- Entries that are refused at the branch's own position, whatever they are at another.
+  pub refused-here : (here : Position) {f : BranchFault} (scratch : List ℕ) (o : ℕ) → LinesKept K t.lines.0 kinds buf kinds' buf'
+      → ((deeper : Option Checker) → entries_from K p at kinds buf t here deeper ≡ refused (refusal_at f.position f.rows.0 f.fault.place (number_of f.fault.refusal)))
+      → ChecksBranch K p at here kinds buf t scratch o kinds' buf' scratch (Err f)
+  refused-here here scratch o kept by = record {
+    kept = kept;
+    long = refl;
+    by = branch-entries t.edition K (32 - t.«open») here _ _ _ ∙ by (below t.edition K (32 - t.«open»));
+  }
+
   module _ {here : Position} where
     pub stopped-fault : {f : BranchFault} (scratch : List ℕ) (o : ℕ) → Stopped K p at here kinds buf t kinds' buf' (Err f) → ChecksBranch K p at here kinds buf t scratch o kinds' buf' scratch (Err f)
-    stopped-fault scratch o s = record {
-      kept = s.kept;
-      long = refl;
-      by = rw s.by.0 (branch-entries t.edition K (32 - t.«open») here _ _ _ ∙ s.by.1 here (below t.edition K (32 - t.«open»)));
-    }
+    stopped-fault scratch o s = refused-here here scratch o s.kept (λ deeper. rw s.by.0 (s.by.1 here deeper))
 
     -- The row that the entries come to.
     module _ {s : Stop} (stop : Stopped K p at here kinds buf t kinds' buf' (Ok s)) {d : Ending} (e : s.ending ≡ d) where

@@ -91,11 +91,16 @@ module _ {K n by : ℕ} {p : List ℕ} {kinds : List ℕ} {buf : List ℤ} {t : 
 
 -- ---- the branch of j
 module _ {K n by : ℕ} {p : List ℕ} {kinds : List ℕ} {buf : List ℤ} {t : Tally} {i at o : ℕ} (d : Opened K n by by kinds buf t i p at o) {j : ℕ} (hj : j < by) where
-  pub rounded-asked : {g by' : ℕ} → g < 65536 → RoundsBy g by' → {template : List ℕ} → StrideTemplate K g (line_in K kinds buf i).t_A template
-      → (LineStart K buf i n by by × (n < length kinds) × (j < by)) × ((Divisor (pos g) × (o + kept_back ≤ scratch_limit)) × StrideTemplate K g (line_in K kinds buf i).t_A template)
-  rounded-asked few q e =
+  pub rounded-asked : {g by' : ℕ} → RoundsBy g by' → {template : List ℕ} → StrideTemplate K g (line_in K kinds buf i).t_A template
+      → (LineStart K buf i n by by × (n < length kinds) × (j < by)) × (((2 ≤ g) × (o + kept_back ≤ scratch_limit)) × StrideTemplate K g (line_in K kinds buf i).t_A template)
+  rounded-asked q e =
       let s : LineStart K buf i n by by × (n < length kinds) = start-asked d (omega arith) (omega arith) in
-      ((s.0, s.1, hj), ((divisor refl few q.stride, room-left d), e))
+      ((s.0, s.1, hj), ((q.stride, room-left d), e))
+
+  -- A divisor of two bytes is one that can be written.
+  pub start-rounded-asked : {g by' : ℕ} → g < 65536 → RoundsBy g by' → {template : List ℕ} → StrideTemplate K g (line_in K kinds buf i).t_A template
+      → (LineStart K buf i n by by × (n < length kinds) × (j < by)) × ((Divisor (pos g) × (o + kept_back ≤ scratch_limit)) × StrideTemplate K g (line_in K kinds buf i).t_A template)
+  start-rounded-asked few q e = let x = rounded-asked q e in (x.0, ((divisor refl few x.1.0.0, x.1.0.1), x.1.1))
 
   rounded-start : LineStart K buf i n by j
   rounded-start = (start-asked d {u = by} {w = j} (omega arith) (omega arith)).0

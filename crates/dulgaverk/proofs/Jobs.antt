@@ -2,7 +2,6 @@
 use mathlib.Core.Path.{◌≡◌, refl, sym, ◌∙◌, ap}
 use mathlib.Core.Bool.{true, false}
 use mathlib.Core.List.{List}
-use mathlib.Core.Option.{Option, none, some}
 use Prim.Native.Nat.{ℕ}
 use lib.ListN.{length, set}
 use Rattle.answers.specs.declared.Answer.{Answer}
@@ -15,6 +14,7 @@ use Rattle.scheduler.specs.declared.Turned.{Turned}
 use Rattle.std.specs.Prelude.{Some, None}
 use Rattle.scheduler_turn.specs.declared.Files.{Files}
 use Rattle.scheduler_turn.specs.Files.{seat_found, Within}
+use Rattle.scheduler_turn.proofs.SeatFound.{one-found, none_found}
 use Rattle.scheduler.specs.Scheduler.{vacant, slot_at, refusal, after, next_seat, parts_within, turn_at, turn}
 use Rattle.scheduler.specs.Promises.{Turns}
 use Rattle.scheduler.proofs.Changing.{check-outside, check-inside}
@@ -29,15 +29,6 @@ module _ (job : Job) (buffer output : List ℕ) where
   check-parts w c = record { is = c.is ∙ (rw (w.a, w.b, w.proof) refl) ∙ sym (check-inside job buffer output w.all) }
 
 -- ---- a turn
--- What the code's option tells of what a look finds.
-pub one-found : (x : Option ℕ) {seat : ℕ} → seat_found x ≡ Some seat → x ≡ some seat
-one-found none e = cc
-one-found (some found) e = cc
-
-none_found : (x : Option ℕ) → seat_found x ≡ None → x ≡ none
-none_found none e = refl
-none_found (some found) e = cc
-
 module _ (s : Scheduler) (buffer output : List ℕ) where
   pub turn_serves : {seat : ℕ} {left : List ℕ} {result : WriteResult} {r : Turned} → seat_found (next_seat s) ≡ Some seat → ChecksJob (slot_at s seat).job buffer output left result
       → r ≡ record { scheduler = record { slots = set s.slots seat vacant; first = after seat }; result = result; seat = seat; idle = false } → Turns s buffer output left r

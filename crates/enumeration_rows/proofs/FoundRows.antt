@@ -1,5 +1,6 @@
 -- What is found, as the numbers of rows and as the rows. Assumes nothing.
-use mathlib.Core.Path.{◌≡◌, refl, ap}
+use mathlib.Core.Path.{◌≡◌, refl, sym, ◌∙◌, ap}
+use mathlib.Core.List.{◌∷◌}
 use Prim.Native.Nat.{ℕ, suc, ◌+◌, ◌≤◌, ◌<◌}
 use native.Mathlib.Omega.{arith}
 use lib.ListN.{length}
@@ -11,9 +12,16 @@ use Rattle.enumeration.specs.Search.{Found, if_none_left, if_not_among, with_row
 use Rattle.enumeration_rows.specs.declared.found.Rows.{Rows}
 use Rattle.enumeration_rows.specs.declared.found.Rows.TheVariants.{One, Two, Three}
 use Rattle.enumeration_rows.specs.declared.found.NotAmong.{NotAmong}
-use Rattle.enumeration_rows.specs.Searching.{inferences_of, found_of, NumbersIn, Inferences, with_first}
+use Rattle.enumeration_rows.specs.Searching.{inferences_of, close_of, found_of, NumbersIn, Inferences, with_first}
 
 -- ---- a row before those found
+-- There are two of them at most: with j they are one more, of the same close.
+pub first-inferences : (j : ℕ) (rows : Rows) → length (inferences_of rows) ≤ 1
+    → (more : Rows) × (with_first j rows ≡ Some more) × (inferences_of more ≡ j ∷ inferences_of rows) × (close_of more ≡ close_of rows)
+first-inferences j (One c) h = (Two j c, refl, refl, refl)
+first-inferences j (Two a c) h = (Three j a c, refl, refl, refl)
+first-inferences j (Three a b c) h = absurd (omega arith)
+
 -- The answer with inference j before the rows found.
 abbrev pub prepended : (j : ℕ) → Result (Option Rows) NotAmong → Result (Option Rows) NotAmong
 prepended j (Err e) = Err e
@@ -25,30 +33,22 @@ module _ (n d j : ℕ) where
   unfolding with_row
   prepend-is (Err e) s h = refl
   prepend-is (Ok None) s h = refl
-  prepend-is (Ok (Some (One c))) s h = refl
-  prepend-is (Ok (Some (Two a c))) s h = refl
-  prepend-is (Ok (Some (Three a b c))) s h = absurd (omega arith)
+  prepend-is (Ok (Some rows)) s h = let l : length (inferences_of rows) ≤ 1 = omega arith in let (more, e, i, c) = first-inferences j rows l in rw (e, i, c)
 
   pub prepend-in : (found : Result (Option Rows) NotAmong) → Inferences d found → d ≤ 1 → j < inference_count n → NumbersIn (n + 1) found → NumbersIn n (prepended j found)
   prepend-in (Err e) s h l i = tt
   prepend-in (Ok None) s h l i = tt
-  prepend-in (Ok (Some (One c))) s h l i = (l, i)
-  prepend-in (Ok (Some (Two a c))) s h l i = (l, i)
-  prepend-in (Ok (Some (Three a b c))) s h l i = absurd (omega arith)
+  prepend-in (Ok (Some rows)) s h l q = let k : length (inferences_of rows) ≤ 1 = omega arith in let (more, e, i, c) = first-inferences j rows k in rw (e, i, c) (l, q)
 
   pub prepend-inferences : (found : Result (Option Rows) NotAmong) → Inferences d found → d ≤ 1 → Inferences (suc d) (prepended j found)
   prepend-inferences (Err e) s h = tt
   prepend-inferences (Ok None) s h = tt
-  prepend-inferences (Ok (Some (One c))) s h = ap suc s
-  prepend-inferences (Ok (Some (Two a c))) s h = ap suc s
-  prepend-inferences (Ok (Some (Three a b c))) s h = absurd (omega arith)
+  prepend-inferences (Ok (Some rows)) s h = let l : length (inferences_of rows) ≤ 1 = omega arith in let (more, e, i, c) = first-inferences j rows l in rw e (ap suc s ∙ ap length (sym i))
 
   -- rows before which there is a place are found with it
   pub first-found : (rows : Rows) → d ≡ length (inferences_of rows) → d ≤ 1 → (f : Found) → if_none_left (found_of n (Ok (with_first j rows))) f ≡ found_of n (Ok (with_first j rows))
   unfolding if_none_left
-  first-found (One c) s h f = refl
-  first-found (Two a c) s h f = refl
-  first-found (Three a b c) s h f = absurd (omega arith)
+  first-found rows s h f = let l : length (inferences_of rows) ≤ 1 = omega arith in let (more, e, i, c) = first-inferences j rows l in rw e refl
 
 -- ---- what comes next
 pub or-none-left : (f : Found) → if_none_left search.none_left f ≡ f

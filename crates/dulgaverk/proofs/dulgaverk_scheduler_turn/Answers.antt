@@ -3,7 +3,8 @@ use native.Mathlib.Omega.{arith}
 use mathlib.Core.Path.{sym, ◌∙◌}
 use Rattle.scheduler.specs.Scheduler.{next_seat}
 use Rattle.scheduler.proofs.Looking.{next-seated}
-use Rattle.dulgaverk.proofs.Jobs.{one-found, turn_serves, turn_idle}
+use Rattle.scheduler_turn.proofs.SeatFound.{one-found}
+use Rattle.dulgaverk.proofs.Jobs.{turn_serves, turn_idle}
 use Rattle.dulgaverk.proofs.dulgaverk_scheduler_turn.Goals as goal
 
 pub offset_bounds-s-seat : goal.offset_bounds-s-seat

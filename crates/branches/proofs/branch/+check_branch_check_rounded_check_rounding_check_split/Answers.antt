@@ -15,7 +15,7 @@ use Rattle.branches.proofs.BranchStops.{Told, told-ok, told-err, stopped-fault, 
 use Rattle.branches.proofs.OpenedBranches.{first-started, first-fault, rest-open, rest-unread, rest-opened, first-checks, head-short, none-short, start-asked, some-started, some-open, some-unread, some-opened, two-fault, two-checks, opening-falls, opened, first-stands, resumed-fault, resumed-checks}
 use Rattle.branches.proofs.JoinedClosings.{or_bytes}
 use Rattle.branches.proofs.Splits.{split_started, split-fault, split-open, split-unread, negated-asked, negated-started, split-checks, split-opened, split-refused, split-resumed}
-use Rattle.branches.proofs.Rounds.{template-asked, template-kept, rounded-asked, rounded-started, rounding-fault, rounding-turn}
+use Rattle.branches.proofs.Rounds.{template-asked, template-kept, start-rounded-asked, rounded-started, rounding-fault, rounding-turn}
 use Prim.Native.Nat.{◌+◌}
 use Rattle.branches.proofs.branch.+check_branch_check_rounded_check_rounding_check_split.Goals as goal
 
@@ -341,7 +341,7 @@ check_rounded-start_rounded-front-requires t c =
     let turn = c.loop-j.invariant.turn c.loop-j-test.true in
     let z = to_z-of_z w64 c.from-stride.result (record { sfits = c.from-stride.type_inv }) ∙ c.from-stride.ensures in
     let w = template-kept c.requires.opened c.place_a-ta.ensures refl (rw z at c.put_stride.ensures) turn.kept in
-    let asked = rounded-asked turn.opened turn.less (omega arith) c.requires.rounds w in
+    let asked = start-rounded-asked turn.opened turn.less (omega arith) c.requires.rounds w in
     rw z (record { line_start = asked.0; divisor = asked.1.0; stride_template = asked.1.1 })
 
 pub check_rounded-check_branch-requires : goal.check_rounded-check_branch-requires

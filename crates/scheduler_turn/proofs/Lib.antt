@@ -1,0 +1,2 @@
+-- Laws of what a turn finds.
+pub mod SeatFound
