@@ -34,16 +34,17 @@ stack_set : (steps : List Step) (d : ℕ) (x : Step) → d < length steps → st
 stack_set steps d x h =
     ap₂ (λ (y : Step) (ss : List Start). pushed y.left (start_in y) ss) (get_or-set_same steps d x no_step h) (same-stack steps (set steps d x) d (same_set no_step d steps x))
 
--- what holds of the steps below d and of x holds of all
-set-each : (P : Step → Type 0) (steps : List Step) (d : ℕ) (x : Step) → d < length steps → P x → ((i : ℕ) → i < d → P (get_or steps i no_step)) → (i : ℕ) → i < suc d → P (get_or (set steps d x) i no_step)
-set-each P steps d x h k a i l = by (eqb i d) refl
+-- what holds of x, and at i of a step that is not d, holds at i behind the store
+set-at : (P : Step → Type 0) (steps : List Step) (d : ℕ) (x : Step) (i : ℕ) → d < length steps → P x → (¬ (i ≡ d) → P (get_or steps i no_step)) → P (get_or (set steps d x) i no_step)
+set-at P steps d x i h k a = by (eqb i d) refl
   where
     by : (b : Bool) → eqb i d ≡ b → P (get_or (set steps d x) i no_step)
     by true e = subst P (sym (ap (λ (j : ℕ). get_or (set steps d x) j no_step) (eqb-true i d e) ∙ get_or-set_same steps d x no_step h)) k
-    by false e =
-        let other : ¬ (i ≡ d) = eqb-false i d e in
-        let below : i < d = omega (arith, l, other) in
-        subst P (sym (get_or-set_other steps d i x no_step other)) (a i below)
+    by false e = let other : ¬ (i ≡ d) = eqb-false i d e in subst P (sym (get_or-set_other steps d i x no_step other)) (a other)
+
+-- what holds of the steps below d and of x holds of all
+set-each : (P : Step → Type 0) (steps : List Step) (d : ℕ) (x : Step) → d < length steps → P x → ((i : ℕ) → i < d → P (get_or steps i no_step)) → (i : ℕ) → i < suc d → P (get_or (set steps d x) i no_step)
+set-each P steps d x h k a i l = set-at P steps d x i h k (λ other. a i (omega (arith, l, other)))
 
 alive-set : (steps : List Step) (d : ℕ) (x : Step) → d < length steps → 1 ≤ x.left → Alive steps d → Alive (set steps d x) (suc d)
 alive-set steps d x h k a = record { alive = set-each (λ y. 1 ≤ y.left) steps d x h k a.alive }
@@ -140,11 +141,7 @@ advanced-closes Claims come lines kept d steps e f p = closed Claims come lines 
 
 -- ---- how many branches are to come
 few-set : (steps : List Step) (d b : ℕ) (x : Step) → d < length steps → x.left ≤ b → Few steps b → Few (set steps d x) b
-few-set steps d b x h k a = record { few = λ i. by i (eqb i d) refl }
-  where
-    by : (i : ℕ) (e : Bool) → eqb i d ≡ e → (get_or (set steps d x) i no_step).left ≤ b
-    by i true e = subst (λ (y : Step). y.left ≤ b) (sym (ap (λ (j : ℕ). get_or (set steps d x) j no_step) (eqb-true i d e) ∙ get_or-set_same steps d x no_step h)) k
-    by i false e = subst (λ (y : Step). y.left ≤ b) (sym (get_or-set_other steps d i x no_step (eqb-false i d e))) (a.few i)
+few-set steps d b x h k a = record { few = λ i. set-at (λ y. y.left ≤ b) steps d x i h k (λ _. a.few i) }
 
 pub pushed-few : (steps : List Step) (d lines kept left : ℕ) → d < length steps → StaysFew left steps (set steps d (record { lines = lines; kept = kept; left = left }))
 pushed-few steps d lines kept left h = record { stays = λ b q a. few-set steps d b (record { lines = lines; kept = kept; left = left }) h q a }
